@@ -1,0 +1,4 @@
+pub mod formers
+pub mod Bytes
+pub mod Text
+pub mod Told
