@@ -10,6 +10,7 @@ mod line;
 mod list;
 mod lock;
 mod memory;
+mod numbers;
 mod tale;
 mod tune;
 
@@ -21,6 +22,7 @@ pub use line::{Line, LineFault};
 pub use list::{ByteList, LineList, Row};
 pub use lock::Lock;
 pub use memory::NoMemory;
+pub use numbers::decimal;
 pub use tale::{Named, Tale};
 pub use tune::Tune;
 
