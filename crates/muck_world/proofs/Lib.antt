@@ -1,2 +1,4 @@
 pub mod Positions
 pub mod Trims
+pub mod Reached
+pub mod Runs
