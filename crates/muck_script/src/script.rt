@@ -69,7 +69,7 @@ fn long_fault(alloc: Global, bytes: &[u8]) -> ScriptFault
 {
     match read_acts(alloc, read_part(bytes)) {
         Ok(script) => ScriptFault::BadScript {
-            line: script.acts.len() as u64,
+            line: script.as_slice().len() as u64,
         },
         Err(fault) => fault,
     }
