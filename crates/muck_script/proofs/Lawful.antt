@@ -1,5 +1,5 @@
 -- A story is lawful.
-use Rattle.std.proofs.Common.{◌≡◌, ℕ, ◌+◌, ◌<◌, Bool, true, false, cond, List, [], ◌∷◌, ◌++◌, length, refl, sym, ◌∙◌, ap, subst, arith, Option, Some, None, suc, zero, ltb, ◌≢◌}
+use Rattle.std.proofs.Common.{◌≡◌, ℕ, ◌+◌, Bool, true, false, cond, List, [], ◌∷◌, length, refl, sym, ap, subst, Option, Some, None, suc, zero, ltb, ◌≢◌}
 use Rattle.std.proofs.lemmas.Bool.{ltb-true}
 use Rattle.muck_model.specs.declared.event.Entry.{Entry}
 use Rattle.muck_model.specs.declared.event.Event.{Event}
@@ -12,7 +12,7 @@ use Rattle.muck_world.proofs.Reached.{sound-effect, exec_lawful, take_lawful, cl
 use Rattle.muck_world.proofs.Runs.{after-append, lawful-append}
 use Rattle.muck_script.specs.declared.act.Act.{Act}
 use Rattle.muck_script.specs.declared.act.Act.TheVariants.{Nothing, Open, Send}
-use Rattle.muck_script.specs.Story.{both, if_lawful, acted, turn, turns, turns_most, taken, parted, served, line_story, story}
+use Rattle.muck_script.specs.Story.{both, acted, turn, turns, turns_most, taken, parted, served, line_story, story}
 
 -- what f says is lawful in this world, and leads to a sound world
 pub record IsLawfulPart (f : World → List Entry) (w : World) : Type 0 where

@@ -1,5 +1,5 @@
 -- Lemmas on turns.
-use Rattle.std.proofs.Common.{◌≡◌, ℕ, ◌+◌, ◌<◌, ◌≤◌, List, [], ◌∷◌, ◌++◌, length, length-append, append-nil, refl, sym, ◌∙◌, ap, arith, suc, zero, append_assoc, Option, Some, None}
+use Rattle.std.proofs.Common.{◌≡◌, ℕ, ◌+◌, ◌<◌, ◌≤◌, List, [], ◌∷◌, ◌++◌, length, length-append, append-nil, refl, sym, ◌∙◌, ap, arith, suc, zero, append_assoc, Some, None}
 use Rattle.muck_model.specs.declared.event.Entry.{Entry}
 use Rattle.muck_model.specs.declared.event.Event.TheVariants.{Exec, Died}
 use Rattle.muck_world.specs.World.{World}
@@ -67,11 +67,12 @@ pub way_ends : (most done : ℕ) (old new : History) → IsOnTheWay most done ol
 way_ends most done old new way e = way_done most done old new way (turns-none way.left (now new) e)
 
 -- all turns were done
-pub way_over : (most done : ℕ) (old new : History) → IsOnTheWay most done old new → done ≡ most → (most ≡ length (turns most (now old))) × (new ≡ extended old (turns most (now old)))
+pub way_over : (most done : ℕ) (old new : History) → IsOnTheWay most done old new → most ≤ done → (most ≡ length (turns most (now old))) × (new ≡ extended old (turns most (now old)))
 way_over most done old new way h =
     let z : way.left ≡ 0 = omega (arith, way.all) in
+    let same : most ≡ done = omega (arith, way.all) in
     let end = way_done most done old new way (ap (λ k. turns k (now new)) z ∙ turns-zero (now new)) in
-    (sym h ∙ end.0, end.1)
+    (same ∙ end.0, end.1)
 
 -- memory is wanted
 pub way_dies : (most done : ℕ) (old new next : History) → IsOnTheWay most done old new → next ≡ entered new (by_porter Died) → DiedDuring (turns most (now old)) old next

@@ -5,4 +5,4 @@ use Rattle.muck_script.proofs.script.long_fault.Goals as goal
 pub returns-in-Ok : goal.returns-in-Ok
 returns-in-Ok c =
     long_last c.args.bytes.now c.read_part.result.now _ c.requires c.read_part.ensures c.in-Ok.ensures
-    ∙ ap (λ acts. Err (length acts)) (sym c.as_slice.ensures) ∙ ap Err (sym c.len.ensures)
+    ∙ ap (λ acts. Err (length acts)) (sym c.as_slice.ensures)
