@@ -1,9 +1,6 @@
 -- Lemmas on the connection of a number.
-use Rattle.std.proofs.Common.{◌≡◌, ℕ, ◌+◌, ◌<◌, ◌≤◌, Bool, true, false, List, [], ◌∷◌, ◌++◌, length, take, drop, get_or, set, refl, sym, ◌∙◌, ap, arith, cond, ltb, Option, Some, None, add-one, not, suc, subst}
-use Rattle.std.specs.Prelude.{unwrap_or}
-use Rattle.std.proofs.lemmas.Grind.{common_steps}
-use Rattle.std.proofs.lemmas.Bool.{cond_both, ltb-false}
-use Rattle.std.specs.List.{position, position_or_len, prefix_len}
+use Rattle.std.proofs.Common.{◌≡◌, ℕ, ◌+◌, ◌<◌, ◌≤◌, true, false, List, [], ◌∷◌, length, get_or, set, refl, sym, ◌∙◌, ap, arith, cond, Option, Some, None, not, suc, subst}
+use Rattle.std.specs.List.{position_or_len}
 use Rattle.std.specs.List.{remove, insert}
 use Rattle.std.specs.Option.{option_map_or}
 use Rattle.std.specs.Prelude.{nat_lt, find}
@@ -17,9 +14,9 @@ changed_at : (d : ℕ) (f : Connection → Connection) (cs : List Connection) (o
 changed_at d f [] old = λ h e. absurd (omega arith)
 changed_at d f (c ∷ cs) old =
     elim (has_number d c) as (λ b.
-      cond (not b) (1 + position_or_len (has_number d) cs) 0 < length (c ∷ cs) →
-      old ≡ get_or (c ∷ cs) (cond (not b) (1 + position_or_len (has_number d) cs) 0) old →
-      set (c ∷ cs) (cond (not b) (1 + position_or_len (has_number d) cs) 0) (f old) ≡ cond b (f c ∷ cs) (c ∷ changed_in d f cs)) [
+    cond (not b) (1 + position_or_len (has_number d) cs) 0 < length (c ∷ cs) →
+    old ≡ get_or (c ∷ cs) (cond (not b) (1 + position_or_len (has_number d) cs) 0) old →
+    set (c ∷ cs) (cond (not b) (1 + position_or_len (has_number d) cs) 0) (f old) ≡ cond b (f c ∷ cs) (c ∷ changed_in d f cs)) [
       | true ↦ λ h e. ap (λ x. f x ∷ cs) e
       | false ↦ λ h e.
           let one : 1 + position_or_len (has_number d) cs ≡ suc (position_or_len (has_number d) cs) = omega arith in
@@ -40,7 +37,7 @@ changed_beyond : (d : ℕ) (f : Connection → Connection) (cs : List Connection
 changed_beyond d f [] = λ h. refl
 changed_beyond d f (c ∷ cs) =
     elim (has_number d c) as (λ b.
-      length (c ∷ cs) ≤ cond (not b) (1 + position_or_len (has_number d) cs) 0 → cond b (f c ∷ cs) (c ∷ changed_in d f cs) ≡ c ∷ cs) [
+    length (c ∷ cs) ≤ cond (not b) (1 + position_or_len (has_number d) cs) 0 → cond b (f c ∷ cs) (c ∷ changed_in d f cs) ≡ c ∷ cs) [
       | true ↦ λ h. absurd (omega arith)
       | false ↦ λ h. ap (λ x. c ∷ x) (changed_beyond d f cs (omega arith))
     ]
@@ -55,8 +52,8 @@ without_at : (d : ℕ) (cs : List Connection) → position_or_len (has_number d)
 without_at d [] = λ h. absurd (omega arith)
 without_at d (c ∷ cs) =
     elim (has_number d c) as (λ b.
-      cond (not b) (1 + position_or_len (has_number d) cs) 0 < length (c ∷ cs) →
-      remove (c ∷ cs) (cond (not b) (1 + position_or_len (has_number d) cs) 0) ≡ cond b cs (c ∷ without d cs)) [
+    cond (not b) (1 + position_or_len (has_number d) cs) 0 < length (c ∷ cs) →
+    remove (c ∷ cs) (cond (not b) (1 + position_or_len (has_number d) cs) 0) ≡ cond b cs (c ∷ without d cs)) [
       | true ↦ λ h. refl
       | false ↦ λ h.
           let one : 1 + position_or_len (has_number d) cs ≡ suc (position_or_len (has_number d) cs) = omega arith in
@@ -74,7 +71,7 @@ without_beyond : (d : ℕ) (cs : List Connection) → length cs ≤ position_or_
 without_beyond d [] = λ h. refl
 without_beyond d (c ∷ cs) =
     elim (has_number d c) as (λ b.
-      length (c ∷ cs) ≤ cond (not b) (1 + position_or_len (has_number d) cs) 0 → c ∷ cs ≡ cond b cs (c ∷ without d cs)) [
+    length (c ∷ cs) ≤ cond (not b) (1 + position_or_len (has_number d) cs) 0 → c ∷ cs ≡ cond b cs (c ∷ without d cs)) [
       | true ↦ λ h. absurd (omega arith)
       | false ↦ λ h. ap (λ x. c ∷ x) (without_beyond d cs (omega arith))
     ]
@@ -87,7 +84,7 @@ placed_at : (new : Connection) (cs : List Connection) →
 placed_at new [] = refl
 placed_at new (c ∷ cs) =
     elim (nat_lt new.number c.number) as (λ b.
-      insert (c ∷ cs) (cond (not b) (1 + position_or_len (λ x. nat_lt new.number x.number) cs) 0) new ≡ cond b (new ∷ c ∷ cs) (c ∷ placed new cs)) [
+    insert (c ∷ cs) (cond (not b) (1 + position_or_len (λ x. nat_lt new.number x.number) cs) 0) new ≡ cond b (new ∷ c ∷ cs) (c ∷ placed new cs)) [
       | true ↦ refl
       | false ↦
           let one : 1 + position_or_len (λ x. nat_lt new.number x.number) cs ≡ suc (position_or_len (λ x. nat_lt new.number x.number) cs) = omega arith in
@@ -105,9 +102,9 @@ found_at : (d : ℕ) (cs : List Connection) (old : Connection) → position_or_l
 found_at d [] old = λ h e. absurd (omega arith)
 found_at d (c ∷ cs) old =
     elim (has_number d c) as (λ b.
-      cond (not b) (1 + position_or_len (has_number d) cs) 0 < length (c ∷ cs) →
-      old ≡ get_or (c ∷ cs) (cond (not b) (1 + position_or_len (has_number d) cs) 0) old →
-      cond b (Some c) (find (has_number d) cs) ≡ Some old) [
+    cond (not b) (1 + position_or_len (has_number d) cs) 0 < length (c ∷ cs) →
+    old ≡ get_or (c ∷ cs) (cond (not b) (1 + position_or_len (has_number d) cs) 0) old →
+    cond b (Some c) (find (has_number d) cs) ≡ Some old) [
       | true ↦ λ h e. ap Some (sym e)
       | false ↦ λ h e.
           let one : 1 + position_or_len (has_number d) cs ≡ suc (position_or_len (has_number d) cs) = omega arith in
@@ -124,7 +121,7 @@ found_beyond : (d : ℕ) (cs : List Connection) → length cs ≤ position_or_le
 found_beyond d [] = λ h. refl
 found_beyond d (c ∷ cs) =
     elim (has_number d c) as (λ b.
-      length (c ∷ cs) ≤ cond (not b) (1 + position_or_len (has_number d) cs) 0 → cond b (Some c) (find (has_number d) cs) ≡ None) [
+    length (c ∷ cs) ≤ cond (not b) (1 + position_or_len (has_number d) cs) 0 → cond b (Some c) (find (has_number d) cs) ≡ None) [
       | true ↦ λ h. absurd (omega arith)
       | false ↦ λ h. found_beyond d cs (omega arith)
     ]

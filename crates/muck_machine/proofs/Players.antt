@@ -1,5 +1,5 @@
 -- One is the only player.
-use Rattle.std.proofs.Common.{◌≡◌, ℕ, Bool, true, false, List, ap, Option, None, Some, codes}
+use Rattle.std.proofs.Common.{◌≡◌, ℕ, true, false, List, ap, None, Some, codes}
 use Rattle.std.specs.Prelude.{if◌then◌else◌}
 use Rattle.muck_world.specs.Texts.{is_alike}
 use Rattle.muck_world.specs.Objects.{first_objects, player_named}

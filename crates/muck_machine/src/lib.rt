@@ -6,8 +6,6 @@ mod connections;
 mod password;
 mod queue;
 mod state;
-
-
 mod world;
 
 pub use world::World;

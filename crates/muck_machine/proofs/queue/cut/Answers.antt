@@ -1,4 +1,4 @@
-use Rattle.std.proofs.Common.{◌≡◌, sym, arith}
+use Rattle.std.proofs.Common.{sym}
 use Rattle.std.proofs.lemmas.List.{take_all}
 use Rattle.muck_model.specs.Bytes.{text_most}
 use Rattle.muck_machine.proofs.queue.cut.Goals as goal
