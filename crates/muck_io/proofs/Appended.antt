@@ -4,7 +4,7 @@ use Rattle.std.proofs.lemmas.List.{take-append-drop, append-nil}
 use Rattle.std.proofs.lemmas.Grind.{common_steps}
 use Rattle.std.proofs.Math.Seq.{take-append_seam}
 use Rattle.muck_io.specs.Faults.{Rose}
-use Rattle.muck_io.specs.Sink.{Appends, AppendsFront, BrokeOff}
+use Rattle.muck_io.specs.Sink.{Appends, AppendsFront, BrokeWriting}
 
 -- what was written so far, with what is still to come, is all
 pub record IsPart (all rest : List ℕ) (before now : Option (List ℕ)) : Type 0 where
@@ -15,7 +15,8 @@ pub record IsPart (all rest : List ℕ) (before now : Option (List ℕ)) : Type 
 regroup : (part rest all : List ℕ) (n : ℕ) → part ++ rest ≡ all → (part ++ take n rest) ++ drop n rest ≡ all
 regroup part rest all n e = append_assoc part (take n rest) (drop n rest) ∙ ap (λ r. part ++ r) (take-append-drop n rest) ∙ e
 
-appends_twice : (a b c : Option (List ℕ)) (x y : List ℕ) → Appends a b x → Appends b c y → Appends a c (x ++ y)
+-- one piece behind another
+pub appends_twice : (a b c : Option (List ℕ)) (x y : List ℕ) → Appends a b x → Appends b c y → Appends a c (x ++ y)
 appends_twice None b c x y p q = tt
 appends_twice (Some w) b c x y p q =
     let P : Option (List ℕ) → Type 0 = λ b'. Appends b' c y in
@@ -54,12 +55,12 @@ short_of : (part rest all : List ℕ) → part ++ rest ≡ all → 0 < length re
 short_of part rest all e h = grind (arith, common_steps)
 
 -- a fault came where a part was written, and bytes were still to come
-pub broke_off :
+pub broke_writing :
     (K : Type 0) (written : K → Option (List ℕ)) (faults : K → ℕ) (before last now : K) (all rest : List ℕ)
     → IsPart all rest (written before) (written last) → 0 < length rest → faults last ≡ faults before
     → Rose (faults last) (faults now) → Appends (written last) (written now) []
-    → BrokeOff K written faults before now all
-broke_off K written faults before last now all rest p more fine rose still = record {
+    → BrokeWriting K written faults before now all
+broke_writing K written faults before last now all rest p more fine rose still = record {
   last = last;
   count = length p.part;
   short = short_of p.part rest all p.whole more;

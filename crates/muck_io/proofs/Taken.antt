@@ -3,7 +3,7 @@ use Rattle.std.proofs.Common.{◌≡◌, ℕ, ◌+◌, ◌-◌, ◌<◌, ◌≤�
 use Rattle.std.proofs.lemmas.List.{drop-drop, drop_at, length-take}
 use Rattle.std.proofs.lemmas.Grind.{common_steps}
 use Rattle.muck_io.specs.Faults.{Rose}
-use Rattle.muck_io.specs.Source.{Gives, TookFront, BrokeOff}
+use Rattle.muck_io.specs.Source.{Gives, TookFront, BrokeReading}
 
 -- what was read so far, with what is left, was left before
 abbrev pub IsPartRead : Option (List ℕ) → Option (List ℕ) → List ℕ → Type 0
@@ -35,12 +35,12 @@ took_part (Some left) b xs most p h =
     (length xs, h, omega (arith, whole), p.1 ∙ ap Some rest)
 
 -- a read failed where a part was read
-pub broke_off :
+pub broke_reading :
     (S : Type 0) (left : S → Option (List ℕ)) (faults : S → ℕ) (before last now : S) (xs : List ℕ) (most : ℕ)
     → IsPartRead (left before) (left last) xs → length xs < most → faults last ≡ faults before
     → Rose (faults last) (faults now) → left now ≡ left last
-    → BrokeOff S left faults before now most
-broke_off S left faults before last now xs most p below fine rose still = record {
+    → BrokeReading S left faults before now most
+broke_reading S left faults before last now xs most p below fine rose still = record {
   last = last;
   bound = length xs;
   below = below;

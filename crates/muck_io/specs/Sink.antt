@@ -25,7 +25,7 @@ PutCause before now bytes (Bytes n) = (before ≤ now) × (n ≡ 0 → 0 < lengt
 PutCause before now bytes Failed = (before ≤ now) × Rose before now
 
 -- a front that is not all was written without a fault; then a fault came, and nothing more was written
-pub record BrokeOff (K : Type 0) (written : K → Option (List ℕ)) (faults : K → ℕ) (before now : K) (bytes : List ℕ) : Type 0 where
+pub record BrokeWriting (K : Type 0) (written : K → Option (List ℕ)) (faults : K → ℕ) (before now : K) (bytes : List ℕ) : Type 0 where
   -- the sink as it stood before the fault
   pub last : K
   -- how many bytes were written

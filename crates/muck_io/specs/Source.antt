@@ -37,7 +37,7 @@ TookFront None now most = Unit {0}
 TookFront (Some left) now most = (n : ℕ) × (n ≤ most) × (n ≤ length left) × (now ≡ Some (drop n left))
 
 -- fewer than `most` bytes were taken without a fault; then a read failed, and nothing more was read
-pub record BrokeOff (S : Type 0) (left : S → Option (List ℕ)) (faults : S → ℕ) (before now : S) (most : ℕ) : Type 0 where
+pub record BrokeReading (S : Type 0) (left : S → Option (List ℕ)) (faults : S → ℕ) (before now : S) (most : ℕ) : Type 0 where
   -- the source as it stood before the read that failed
   pub last : S
   -- a bound below `most` on what was taken

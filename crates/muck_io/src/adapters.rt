@@ -1,5 +1,6 @@
 // A source, a sink and a clock over those of std. They tell no bytes and no answers.
 ghost use Rattle.std.specs.Prelude.{◌≡◌, None};
+ghost use Rattle.muck_io.specs.Clock.{Answers};
 
 use crate::{Clock, Got, Put, Sink, Source};
 use std::io::{Read, Write};
@@ -95,16 +96,27 @@ impl<W: Write + Drop> Sink for WriterSink<W> {
 }
 
 /// A clock over the system's: seconds since the beginning of 1970. Where the system doesn't tell the
-/// time, or tells one before 1970, it repeats its last answer, or 0 where it has none yet.
+/// time, or tells one before 1970, it repeats its last answer, or 0 where it has none yet. Contracts
+/// see it as its last answer.
 #[derive(Drop)]
 pub struct SystemClock<C: std::rt::Clock + Drop> {
     clock: C,
     last: u64,
 }
 
+impl<C: std::rt::Clock + Drop> Model for SystemClock<C> {
+    ghost use Rattle.std.specs.Prelude.{ℕ};
+
+    ghost Value = { ℕ };
+
+    ghost view = { λ c. c.last };
+}
+
 impl<C: std::rt::Clock + Drop> SystemClock<C> {
-    /// A clock over this handle of the system's clock.
-    pub fn new(clock: C) -> Self {
+    /// A clock over this handle of the system's clock, without an answer so far.
+    pub fn new(clock: C) -> Self
+        ensures { result ≡ 0 }
+    {
         SystemClock { clock, last: 0 }
     }
 }
@@ -112,7 +124,10 @@ impl<C: std::rt::Clock + Drop> SystemClock<C> {
 impl<C: std::rt::Clock + Drop> Clock for SystemClock<C> {
     ghost answers = { λ _. None };
 
-    fn now(&mut self) -> u64 {
+    fn now(&mut self) -> u64
+        ensures answers { Answers None None result }
+        ensures last { self.new ≡ result }
+    {
         if let Ok(time) = SystemTime::now(&self.clock) {
             if let Ok(since) = time.duration_since(UNIX_EPOCH) {
                 self.last = since.as_secs();

@@ -1,7 +1,7 @@
 // Where bytes go.
 ghost use Rattle.std.specs.Prelude.{◌≡◌, ◌≤◌, List, ℕ, OnOk, OnErr, Option};
 ghost use Rattle.muck_io.specs.Faults.{Rose};
-ghost use Rattle.muck_io.specs.Sink.{HasPut, PutCause, Appends, AppendsFront, BrokeOff};
+ghost use Rattle.muck_io.specs.Sink.{HasPut, PutCause, Appends, AppendsFront, BrokeWriting};
 
 /// What a write answers.
 #[derive(Clone, Copy, Debug, PartialEq, Eq)]
@@ -39,7 +39,7 @@ pub fn write_all<K: Sink>(out: &mut K, bytes: &[u8]) -> Result<(), WriteFailed>
 
     // A front was written, then the one fault came.
     ensures front { OnErr result (AppendsFront (K.written out.old) (K.written out.new) bytes.now) }
-    ensures broke { OnErr result (BrokeOff K K.written K.faults out.old out.new bytes.now) }
+    ensures broke { OnErr result (BrokeWriting K K.written K.faults out.old out.new bytes.now) }
 
     // The count of faults rose at an error, and falls never.
     ensures failed { OnErr result (Rose (K.faults out.old) (K.faults out.new)) }

@@ -1,7 +1,7 @@
 // Where bytes come from.
 ghost use Rattle.std.specs.Prelude.{◌≡◌, ◌≤◌, List, ℕ, IfOk, OnOk, OnErr, IsErrOf, Option};
 ghost use Rattle.muck_io.specs.Faults.{Rose};
-ghost use Rattle.muck_io.specs.Source.{HasRead, GotCause, HasReadAll, TookFront, BrokeOff};
+ghost use Rattle.muck_io.specs.Source.{HasRead, GotCause, HasReadAll, TookFront, BrokeReading};
 
 use std::alloc::{AllocError, Global};
 
@@ -64,7 +64,7 @@ pub fn read_all<S: Source>(alloc: Global, source: &mut S, most: usize) -> Result
     ensures later { S.faults source.old ≤ S.faults source.new }
 
     // After the fault nothing more was read.
-    ensures broke { IsErrOf result ReadFault.Failed → BrokeOff S S.left S.faults source.old source.new most }
+    ensures broke { IsErrOf result ReadFault.Failed → BrokeReading S S.left S.faults source.old source.new most }
 {
     let mut bytes = Vec::new(alloc);
     let mut buf = [0u8; 4096];

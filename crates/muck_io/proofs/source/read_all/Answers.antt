@@ -1,5 +1,5 @@
 use Rattle.std.proofs.Common.{◌+◌, ◌-◌, ◌<◌, ◌≤◌, length, arith}
-use Rattle.muck_io.proofs.Taken.{took_more, broke_off, on_err, keeps_within}
+use Rattle.muck_io.proofs.Taken.{took_more, broke_reading, on_err, keeps_within}
 use Rattle.muck_io.proofs.source.read_all.Goals as goal
 
 pub returns-in_err-extend_from_slice-in-Bytes-clause-front : goal.returns-in_err-extend_from_slice-in-Bytes-clause-front
@@ -12,4 +12,4 @@ returns-in_err-extend_from_slice-in-Bytes-clause-front g c =
 pub returns-in-Failed-clause-broke : goal.returns-in-Failed-clause-broke
 returns-in-Failed-clause-broke g c _ =
     let below : length c.loop-buf.bytes.items < c.args.most = grind arith in
-    broke_off _ g.S.Source.left g.S.Source.faults _ c.loop-buf.source _ _ _ c.loop-buf.invariant.0 below c.loop-buf.invariant.2 c.in-Failed.ensures.cause.1 c.in-Failed.ensures.bytes
+    broke_reading _ g.S.Source.left g.S.Source.faults _ c.loop-buf.source _ _ _ c.loop-buf.invariant.0 below c.loop-buf.invariant.2 c.in-Failed.ensures.cause.1 c.in-Failed.ensures.bytes
