@@ -1,5 +1,5 @@
 -- Laws of counts of faults, and of a source that was read whole, for the layers above.
-use Rattle.std.proofs.Common.{◌≡◌, ℕ, ◌+◌, ◌-◌, ◌^◌, ◌<◌, ◌≤◌, min, List, [], length, take, drop, Option, Some, sym, ◌∙◌, ap, arith}
+use Rattle.std.proofs.Common.{◌≡◌, ℕ, ◌-◌, ◌^◌, ◌<◌, ◌≤◌, min, List, [], length, Option, Some, ◌∙◌, ap, arith}
 use Rattle.std.proofs.lemmas.List.{length-take, drop_all, take_all}
 use Rattle.muck_io.specs.Faults.{Rose}
 use Rattle.muck_io.specs.Source.{HasReadAll}

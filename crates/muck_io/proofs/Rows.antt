@@ -1,5 +1,5 @@
 -- Literal rows: what the definitions compute to.
-use Rattle.std.proofs.Common.{◌≡◌, [], ◌∷◌, true, false, Some, None, refl}
+use Rattle.std.proofs.Common.{◌≡◌, [], ◌∷◌, true, false, refl}
 use Rattle.muck_io.specs.Faults.{one_more}
 use Rattle.muck_io.specs.Clock.{next_answer, later_answers}
 use Rattle.muck_io.specs.Memory.{no_calls, fails_next, after_call, after_fault, to_give, to_take, after_taking}
