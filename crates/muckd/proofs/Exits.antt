@@ -1,5 +1,5 @@
 -- A part of a run whose answer is that of its last part.
-use Rattle.std.proofs.Common.{◌≡◌, ℕ, List, Option, Result, Ok, Err}
+use Rattle.std.proofs.Common.{ℕ, List, Option, Result, Ok, Err}
 use Rattle.muck_model.specs.declared.event.Entry.{Entry}
 use Rattle.muck_world.specs.World.{World}
 use Rattle.muck_world.specs.Histories.{History}

@@ -1,5 +1,5 @@
 -- Lemmas on parts of a run.
-use Rattle.std.proofs.Common.{◌≡◌, ℕ, ◌+◌, ◌<◌, ◌≤◌, Bool, true, false, cond, List, [], ◌∷◌, ◌++◌, length, take, drop, refl, sym, ◌∙◌, ap, subst, arith, append_assoc, append-nil, Option, Some, None, Ok, Err, min}
+use Rattle.std.proofs.Common.{◌≡◌, ℕ, ◌<◌, ◌≤◌, Bool, true, false, cond, List, [], ◌∷◌, ◌++◌, length, take, drop, refl, sym, ◌∙◌, ap, subst, arith, append_assoc, append-nil, Option, Some, None, min}
 use Rattle.std.proofs.lemmas.Bool.{lt-ltb, cond-true, cond-false}
 use Rattle.std.proofs.lemmas.List.{take-append-drop}
 use Rattle.std.specs.List.{flat_map}
@@ -11,19 +11,19 @@ use Rattle.muck_model.specs.declared.event.Event.{Event}
 use Rattle.muck_model.specs.declared.event.Event.TheVariants.{Opened, Input, Closed, Take, Died}
 use Rattle.muck_world.specs.Connections.{Connection}
 use Rattle.muck_world.specs.World.{World, connection, queue_of, is_leaving}
-use Rattle.muck_world.specs.Steps.{happened, effect, is_lawful, is_died}
+use Rattle.muck_world.specs.Steps.{effect, is_lawful, is_died}
 use Rattle.muck_world.specs.Histories.{History, after, now, extended, entered, by_porter}
 use Rattle.muck_world.proofs.Living.{dead-happened}
-use Rattle.muck_world.proofs.Runs.{after-append, now-extended, extended-append}
+use Rattle.muck_world.proofs.Runs.{now-extended, extended-append}
 use Rattle.muck_script.specs.Lines.{lines_of}
-use Rattle.muck_script.specs.Story.{both, if_lawful, taken, parted, told, text_of, shown, farewell}
+use Rattle.muck_script.specs.Story.{both, if_lawful, taken, told, text_of, shown, farewell}
 use Rattle.muckd.specs.Plays.{Plays, Breaks}
 
 pub appends_nothing : (o : Option (List ℕ)) → Appends o o []
 appends_nothing None = tt
 appends_nothing (Some w) = ap Some (sym (append-nil w))
 
-appends_as : (a b : Option (List ℕ)) (x y : List ℕ) → x ≡ y → Appends a b x → Appends a b y
+pub appends_as : (a b : Option (List ℕ)) (x y : List ℕ) → x ≡ y → Appends a b x → Appends a b y
 appends_as a b x y e p = let P : List ℕ → Type 0 = Appends a b in subst P e p
 
 pub appends_twice : (a b c : Option (List ℕ)) (x y : List ℕ) → Appends a b x → Appends b c y → Appends a c (x ++ y)
@@ -45,7 +45,7 @@ plays_nothing f h k o e same alive = record {
   alive = ap (λ (x : History). (now x).dead) same ∙ alive;
 }
 
-lives_on : (h k : History) (event : Event) → k ≡ entered h (by_porter event) → is_died event ≡ false → (now h).dead ≡ false → (now k).dead ≡ false
+pub lives_on : (h k : History) (event : Event) → k ≡ entered h (by_porter event) → is_died event ≡ false → (now h).dead ≡ false → (now k).dead ≡ false
 unfolding effect
 lives_on h k event is other alive =
     ap (λ (x : History). (now x).dead) is ∙ ap (λ (w : World). w.dead) (now-extended h (by_porter event ∷ [])) ∙ dead-happened event (now h) other ∙ alive
@@ -59,21 +59,36 @@ plays_one f h k a b event text e is other alive written app = record {
   alive = lives_on h k event is other alive;
 }
 
--- nothing happened yet but the ending, and nothing was written
-pub breaks_at_once : (f : World → List Entry) (ending : List Entry) (h k : History) (o : Option (List ℕ)) → k ≡ extended h ending → Breaks f ending h k o o
-breaks_at_once f ending h k o is = record {
-  front = []; rest = f (now h); whole = refl; history = is;
-  told = []; untold = []; text = refl; appended = appends_nothing o;
+pub no_ending : {X : Type 0} {x : X} {xs : List X} {P : Type 0} → x ∷ xs ≡ [] → P
+no_ending e = cc
+
+-- memory was wanted at once, and nothing was written
+pub breaks_at_once : (f : World → List Entry) (h k : History) (o : Option (List ℕ)) → k ≡ entered h (by_porter Died) → Breaks f (by_porter Died ∷ []) h k o o
+breaks_at_once f h k o is = record {
+  front = [];
+  rest = f (now h);
+  whole = refl;
+  history = is;
+  told = [];
+  untold = [];
+  text = refl;
+  appended = appends_nothing o;
+  alive = λ e. no_ending e;
 }
 
 -- one event happened, all of the part, and then the ending; a front of its text was written
 pub breaks_after : (f : World → List Entry) (ending : List Entry) (h k : History) (a b : Option (List ℕ)) (event : Event) (text : List ℕ) → f (now h) ≡ by_porter event ∷ [] →
-    k ≡ extended h (by_porter event ∷ ending) → text ≡ told (now h) event → AppendsFront a b text → Breaks f ending h k a b
-breaks_after f ending h k a b event text e is written app = record {
-  front = by_porter event ∷ []; rest = []; whole = sym e; history = is;
-  told = take app.0 text; untold = drop app.0 text;
+    k ≡ extended h (by_porter event ∷ ending) → text ≡ told (now h) event → AppendsFront a b text → (ending ≡ [] → (now k).dead ≡ false) → Breaks f ending h k a b
+breaks_after f ending h k a b event text e is written app alive = record {
+  front = by_porter event ∷ [];
+  rest = [];
+  whole = sym e;
+  history = is;
+  told = take app.0 text;
+  untold = drop app.0 text;
   text = take-append-drop app.0 text ∙ written ∙ sym (append-nil (told (now h) event));
   appended = app.1;
+  alive = alive;
 }
 
 -- nothing of its text was written
@@ -101,7 +116,7 @@ pub input_breaks : (d : ℕ) (line : List ℕ) (h k : History) (o : Option (List
     k ≡ entered (entered h (by_porter (Input d line))) (by_porter Died) → Breaks (if_lawful (Input d line)) (by_porter Died ∷ []) h k o o
 input_breaks d line h k o may is =
     breaks_after (if_lawful (Input d line)) (by_porter Died ∷ []) h k o o (Input d line) [] (cond-true _ _ _ may)
-      (is ∙ extended-append h (by_porter (Input d line) ∷ []) (by_porter Died ∷ [])) (sym (input_silent d line (now h))) (front_nothing o [])
+    (is ∙ extended-append h (by_porter (Input d line) ∷ []) (by_porter Died ∷ [])) (sym (input_silent d line (now h))) (front_nothing o []) (λ x. no_ending x)
 
 -- what is taken of a queue that isn't empty
 pub taken_some : (d n : ℕ) (w : World) → n ≡ length (queue_of d w) → 0 < n → taken d w ≡ by_porter (Take d n) ∷ []
@@ -142,8 +157,8 @@ plays_both f g h k m a b c p q =
     record {
       history = q.history ∙ ap (λ w. extended k (g w)) next ∙ ap (λ x. extended x (g (after (now h) (f (now h))))) p.history ∙ extended-append h (f (now h)) (g (after (now h) (f (now h))));
       text = appends_as a c _ _
-        (ap (λ w. text_of (now h) (f (now h)) ++ text_of w (g w)) next ∙ sym (text_of-append (f (now h)) (g (after (now h) (f (now h)))) (now h)))
-        (appends_twice a b c _ _ p.text q.text);
+          (ap (λ w. text_of (now h) (f (now h)) ++ text_of w (g w)) next ∙ sym (text_of-append (f (now h)) (g (after (now h) (f (now h)))) (now h)))
+          (appends_twice a b c _ _ p.text q.text);
       alive = q.alive;
     }
 
@@ -152,7 +167,12 @@ breaks_first f g ending h k a b p = record {
   front = p.front;
   rest = p.rest ++ g (after (now h) (f (now h)));
   whole = sym (append_assoc p.front p.rest _) ∙ ap (λ es. es ++ g (after (now h) (f (now h)))) p.whole;
-  history = p.history; told = p.told; untold = p.untold; text = p.text; appended = p.appended;
+  history = p.history;
+  told = p.told;
+  untold = p.untold;
+  text = p.text;
+  appended = p.appended;
+  alive = p.alive;
 }
 
 pub breaks_second : (f g : World → List Entry) (ending : List Entry) (h k m : History) (a b c : Option (List ℕ)) → Plays f h k a b → Breaks g ending k m b c → Breaks (both f g) ending h m a c
@@ -163,13 +183,14 @@ breaks_second f g ending h k m a b c p q =
       rest = q.rest;
       whole = append_assoc (f (now h)) q.front q.rest ∙ ap (λ es. f (now h) ++ es) (q.whole ∙ ap g next);
       history = q.history ∙ ap (λ x. extended x (q.front ++ ending)) p.history ∙ extended-append h (f (now h)) (q.front ++ ending)
-        ∙ ap (extended h) (sym (append_assoc (f (now h)) q.front ending));
+          ∙ ap (extended h) (sym (append_assoc (f (now h)) q.front ending));
       told = text_of (now h) (f (now h)) ++ q.told;
       untold = q.untold;
       text = append_assoc (text_of (now h) (f (now h))) q.told q.untold
-        ∙ ap (λ t. text_of (now h) (f (now h)) ++ t) (q.text ∙ ap (λ w. text_of w q.front) next)
-        ∙ sym (text_of-append (f (now h)) q.front (now h));
+          ∙ ap (λ t. text_of (now h) (f (now h)) ++ t) (q.text ∙ ap (λ w. text_of w q.front) next)
+          ∙ sym (text_of-append (f (now h)) q.front (now h));
       appended = appends_twice a b c _ _ p.text q.appended;
+      alive = q.alive;
     }
 
 -- one entry, and another behind it

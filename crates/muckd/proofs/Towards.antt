@@ -1,5 +1,5 @@
 -- A run that is on its way.
-use Rattle.std.proofs.Common.{◌≡◌, ℕ, ◌+◌, ◌<◌, ◌≤◌, Bool, true, false, cond, List, [], ◌∷◌, ◌++◌, length, drop, get_or, refl, sym, ◌∙◌, ap, subst, arith, Option, suc, zero, add-one}
+use Rattle.std.proofs.Common.{◌≡◌, ℕ, ◌+◌, ◌<◌, ◌≤◌, true, false, List, [], ◌∷◌, length, drop, get_or, refl, sym, ◌∙◌, ap, subst, arith, Option, suc, zero, add-one}
 use Rattle.std.proofs.lemmas.Bool.{cond-true, cond-false}
 use Rattle.std.proofs.Math.Seq.{drop-cons}
 use Rattle.std.proofs.lemmas.List.{drop_all}
@@ -9,7 +9,7 @@ use Rattle.muck_world.specs.World.{World}
 use Rattle.muck_world.specs.Steps.{connections_most}
 use Rattle.muck_world.specs.Histories.{History, now, entered, by_porter}
 use Rattle.muck_script.specs.declared.act.Act.{Act}
-use Rattle.muck_script.specs.Story.{both, taken, parted, served, line_story, story, told, text_of}
+use Rattle.muck_script.specs.Story.{both, taken, parted, served, line_story, story, told}
 use Rattle.muckd.specs.Plays.{Plays, Breaks}
 use Rattle.muckd.proofs.Parts.{plays_both, plays_nothing, plays_one, appends_nothing, breaks_first, breaks_second}
 
@@ -32,7 +32,15 @@ plays_as f g h k a b e p =
 
 breaks_as : (f g : World → List Entry) (ending : List Entry) (h k : History) (a b : Option (List ℕ)) → f (now h) ≡ g (now h) → Breaks f ending h k a b → Breaks g ending h k a b
 breaks_as f g ending h k a b e p = record {
-  front = p.front; rest = p.rest; whole = p.whole ∙ e; history = p.history; told = p.told; untold = p.untold; text = p.text; appended = p.appended;
+  front = p.front;
+  rest = p.rest;
+  whole = p.whole ∙ e;
+  history = p.history;
+  told = p.told;
+  untold = p.untold;
+  text = p.text;
+  appended = p.appended;
+  alive = p.alive;
 }
 
 -- a part was done, and the others are left

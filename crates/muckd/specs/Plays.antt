@@ -17,6 +17,7 @@ pub record Plays (f : World → List Entry) (h k : History) (before written : Op
   pub alive : (now k).dead ≡ false
 
 -- Only the first of those entries happened, and then the ending. Of the text of those that happened a front was written.
+-- Where there is no ending the world still lives.
 pub record Breaks (f : World → List Entry) (ending : List Entry) (h k : History) (before written : Option (List ℕ)) : Type 0 where
   pub front : List Entry
   pub rest : List Entry
@@ -26,6 +27,7 @@ pub record Breaks (f : World → List Entry) (ending : List Entry) (h k : Histor
   pub untold : List ℕ
   pub text : told ++ untold ≡ text_of (now h) front
   pub appended : Appends before written told
+  pub alive : ending ≡ [] → (now k).dead ≡ false
 
 -- how a part ends that broke off
 abbrev pub ending_of : RunFault → List Entry

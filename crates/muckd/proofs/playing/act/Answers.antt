@@ -1,4 +1,4 @@
-use Rattle.std.proofs.Common.{refl, sym, ◌∙◌}
+use Rattle.std.proofs.Common.{refl}
 use Rattle.muckd.proofs.Parts.{plays_if_lawful, opened_silent, input_silent, input_breaks}
 use Rattle.muckd.proofs.playing.act.Goals as goal
 

@@ -1,4 +1,4 @@
-use Rattle.std.proofs.Common.{◌≡◌, true, false, refl, sym, ◌∙◌}
+use Rattle.std.proofs.Common.{refl, sym, ◌∙◌}
 use Rattle.muck_script.specs.Story.{story}
 use Rattle.muckd.proofs.Towards.{towards_begins, playing_stopped, playing_goes_on, playing_halted, playing_breaks}
 use Rattle.muckd.proofs.playing.play.Goals as goal

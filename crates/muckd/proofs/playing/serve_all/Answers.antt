@@ -1,4 +1,4 @@
-use Rattle.std.proofs.Common.{◌≡◌, refl, sym, ◌∙◌}
+use Rattle.std.proofs.Common.{refl, ◌∙◌}
 use Rattle.muckd.proofs.Towards.{serving_begins, serving_goes_on, serving_ends, serving_breaks}
 use Rattle.muckd.proofs.playing.serve_all.Goals as goal
 
