@@ -1,0 +1,4 @@
+pub mod Words
+pub mod Scenery
+pub mod Exits
+pub mod Naming

@@ -1,0 +1,13 @@
+//! What a text or a typed line names: objects by name or number, exits by their aliases, players by name. Nothing
+//! here takes memory.
+#![tactic(auto)]
+
+mod exits;
+mod naming;
+mod scene;
+mod sights;
+mod words;
+
+pub use exits::{ExitHit, exit_for};
+pub use naming::{Found, find, player};
+pub use scene::{HOME, NOTHING, Scene};
