@@ -2,3 +2,4 @@ pub mod Texts
 pub mod Lists
 pub mod Aliases
 pub mod Order
+pub mod Candidates

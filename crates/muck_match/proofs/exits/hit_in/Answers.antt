@@ -1,6 +1,6 @@
-use Rattle.std.proofs.Common.{sym, ◌∙◌, ap, Some, arith, length-drop}
+use Rattle.std.proofs.Common.{sym, ◌∙◌, ap, Some, arith}
 use Rattle.muck_match.specs.Exits.{first}
-use Rattle.muck_match.proofs.Aliases.{hits_all, part_some, part_taken, part_passed, last_yes, last_no}
+use Rattle.muck_match.proofs.Aliases.{hits_all, part_taken, part_passed, last_yes, last_no}
 use Rattle.muck_match.proofs.exits.hit_in.Goals as goal
 
 pub loop-end-init : goal.loop-end-init
