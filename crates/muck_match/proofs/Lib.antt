@@ -3,3 +3,4 @@ pub mod Lists
 pub mod Aliases
 pub mod Order
 pub mod Candidates
+pub mod Walks

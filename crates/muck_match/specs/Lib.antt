@@ -2,3 +2,4 @@ pub mod Words
 pub mod Scenery
 pub mod Exits
 pub mod Naming
+pub mod Memory

@@ -3,11 +3,13 @@
 #![tactic(auto)]
 
 mod exits;
+mod memory;
 mod naming;
 mod scene;
 mod sights;
 mod words;
 
 pub use exits::{ExitHit, exit_for};
+pub use memory::{MemObject, MemScene};
 pub use naming::{Found, find, player};
 pub use scene::{HOME, NOTHING, Scene};
