@@ -3,3 +3,4 @@ pub mod Scenery
 pub mod Exits
 pub mod Naming
 pub mod Memory
+pub mod Rows

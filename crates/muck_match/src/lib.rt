@@ -13,3 +13,6 @@ pub use exits::{ExitHit, exit_for};
 pub use memory::{MemObject, MemScene};
 pub use naming::{Found, find, player};
 pub use scene::{HOME, NOTHING, Scene};
+
+#[cfg(test)]
+mod tests;
