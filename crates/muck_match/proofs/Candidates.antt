@@ -34,16 +34,16 @@ joined_none (Some d) = refl
 abbrev pub together : Option Dbref → (Dbref → Bool) → List Dbref → Found
 together found p ds = joined (one_of found) (chosen (filter p ds))
 
-pub count_skip : (p : Dbref → Bool) (after : Dbref → List Dbref) (d e : Dbref) (found : Option Dbref) (whole : Found) → is_nothing d ≡ false → p d ≡ false → after d ≡ chain after e
-    → together found p (chain after d) ≡ whole → together found p (chain after e) ≡ whole
-count_skip p after d e found whole there fails to left =
-    ap (together found p) (sym to) ∙ ap (λ t. joined (one_of found) (chosen t)) (sym (filter_no p d (after d) fails)) ∙ ap (together found p) (sym (chain_step after d there)) ∙ left
+pub count_skip : (p : Dbref → Bool) (after : Dbref → List Dbref) (d e : Dbref) (found now : Option Dbref) (whole : Found) → is_nothing d ≡ false → p d ≡ false → after d ≡ chain after e → now ≡ found
+    → together found p (chain after d) ≡ whole → together now p (chain after e) ≡ whole
+count_skip p after d e found now whole there fails to same left =
+    ap (λ o. together o p (chain after e)) same ∙ ap (together found p) (sym to) ∙ ap (λ t. joined (one_of found) (chosen t)) (sym (filter_no p d (after d) fails)) ∙ ap (together found p) (sym (chain_step after d there)) ∙ left
 
-pub count_first : (p : Dbref → Bool) (after : Dbref → List Dbref) (d e : Dbref) (found : Option Dbref) (whole : Found) → is_nothing d ≡ false → p d ≡ true → is_some found ≡ false → after d ≡ chain after e
-    → together found p (chain after d) ≡ whole → together (Some d) p (chain after e) ≡ whole
-count_first p after d e (Some c) whole there fits none to left = absurd (cc)
-count_first p after d e None whole there fits none to left =
-    ap (together (Some d) p) (sym to) ∙ sym (chosen_first d (filter p (after d))) ∙ ap chosen (sym (filter_yes p d (after d) fits)) ∙ ap (together None p) (sym (chain_step after d there)) ∙ left
+pub count_first : (p : Dbref → Bool) (after : Dbref → List Dbref) (d e : Dbref) (found now : Option Dbref) (whole : Found) → is_nothing d ≡ false → p d ≡ true → is_some found ≡ false → after d ≡ chain after e → now ≡ Some d
+    → together found p (chain after d) ≡ whole → together now p (chain after e) ≡ whole
+count_first p after d e (Some c) now whole there fits none to it left = absurd (cc)
+count_first p after d e None now whole there fits none to it left =
+    ap (λ o. together o p (chain after e)) it ∙ ap (together (Some d) p) (sym to) ∙ sym (chosen_first d (filter p (after d))) ∙ ap chosen (sym (filter_yes p d (after d) fits)) ∙ ap (together None p) (sym (chain_step after d there)) ∙ left
 
 pub count_second : (p : Dbref → Bool) (after : Dbref → List Dbref) (d : Dbref) (found : Option Dbref) (whole : Found) → is_nothing d ≡ false → p d ≡ true → is_some found ≡ true
     → together found p (chain after d) ≡ whole → Many ≡ whole

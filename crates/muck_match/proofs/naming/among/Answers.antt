@@ -1,9 +1,6 @@
-use Rattle.std.proofs.Common.{sym, ◌∙◌, ap, Option}
-use Rattle.muck_model.specs.declared.dbref.Dbref.{Dbref}
-use Rattle.muck_match.specs.Scenery.{chain}
-use Rattle.muck_match.specs.Naming.{answers}
+use Rattle.std.proofs.Common.{sym, ◌∙◌}
 use Rattle.muck_match.proofs.Lists.{chain_shorter}
-use Rattle.muck_match.proofs.Candidates.{together, count_skip, count_first, count_second, count_end}
+use Rattle.muck_match.proofs.Candidates.{count_skip, count_first, count_second, count_end}
 use Rattle.muck_match.proofs.naming.among.Goals as goal
 use Rattle.muck_match.proofs.naming.among.Goals.{then-answers+else-is_some, else-answers}
 
@@ -15,14 +12,11 @@ pub loop-fit-smaller : goal.loop-fit-smaller
 loop-fit-smaller g c = chain_shorter _ _ _ (sym c.is_nothing.ensures ∙ c.loop-fit-test.true) c.next-at.ensures
 
 pub loop-fit-preserved : goal.loop-fit-preserved
-loop-fit-preserved g c =
-    let rest = λ (found : Option Dbref). together found (answers c.args.fit c.args.text.now (g.S.Scene.shown c.args.scene.now)) (chain (g.S.Scene.after c.args.scene.now) c.next-at.result) in
-    elim c.if-answers.branch [
-      | then-answers+else-is_some w ↦
-          ap rest w.found-is ∙ count_first _ _ _ _ _ _ (sym c.is_nothing.ensures ∙ c.loop-fit-test.true) (sym c.answers.ensures ∙ w.if-answers.true) (sym w.is_some.ensures ∙ w.if-is_some.false) c.next-at.ensures c.loop-fit.invariant
-      | else-answers w ↦
-          ap rest w.found-is ∙ count_skip _ _ _ _ _ _ (sym c.is_nothing.ensures ∙ c.loop-fit-test.true) (sym c.answers.ensures ∙ w.if-answers.false) c.next-at.ensures c.loop-fit.invariant
-    ]
+loop-fit-preserved g c = elim c.if-answers.branch [
+  | then-answers+else-is_some w ↦
+      count_first _ _ _ _ _ _ _ (sym c.is_nothing.ensures ∙ c.loop-fit-test.true) (sym c.answers.ensures ∙ w.if-answers.true) (sym w.is_some.ensures ∙ w.if-is_some.false) c.next-at.ensures w.found-is c.loop-fit.invariant
+  | else-answers w ↦ count_skip _ _ _ _ _ _ _ (sym c.is_nothing.ensures ∙ c.loop-fit-test.true) (sym c.answers.ensures ∙ w.if-answers.false) c.next-at.ensures w.found-is c.loop-fit.invariant
+]
 
 pub returns : goal.returns
 returns g c = c.one_of.ensures ∙ count_end _ _ _ _ _ (sym c.is_nothing.ensures ∙ c.loop-fit-test.false) c.loop-fit.invariant
