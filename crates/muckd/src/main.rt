@@ -3,6 +3,8 @@
 
 mod command;
 mod playing;
+#[cfg(test)]
+mod tests;
 mod top;
 mod why;
 
