@@ -144,6 +144,7 @@ impl World {
         ensures lawful { IfOk result (λ yes. yes ≡ is_lawful (now self.old) (by_porter (Event.Input d line))) }
         ensures step { IfOk result (λ yes. self.new ≡ (if yes then entered self.old (by_porter (Event.Input d line)) else self.old)) }
         ensures died { OnErr result (self.new ≡ entered (entered self.old (by_porter (Event.Input d line))) (by_porter Event.Died)) }
+        ensures may { OnErr result (is_lawful (now self.old) (by_porter (Event.Input d line)) ≡ true) }
     {
         if !self.may_take_line(d) {
             return Ok(false);

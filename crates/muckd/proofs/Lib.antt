@@ -1,0 +1,4 @@
+pub mod Parts
+pub mod Exits
+pub mod Turns
+pub mod Towards
