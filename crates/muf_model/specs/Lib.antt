@@ -1,0 +1,4 @@
+pub mod Prims
+pub mod Faults
+pub mod Tree
+pub mod Stands
