@@ -2,3 +2,4 @@ pub mod Prims
 pub mod Faults
 pub mod Tree
 pub mod Stands
+pub mod Decode
