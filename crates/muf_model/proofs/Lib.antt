@@ -1,2 +1,4 @@
 pub mod Standing
+pub mod Truth
 pub mod Unique
+pub mod Views

@@ -4,12 +4,16 @@
 mod code;
 mod fault;
 mod prims;
+mod shared;
 mod text;
+mod value;
 
 pub use code::{Closer, Code, CodeWord, Instr, Literal, Offer, Placed, VarId, Word};
 pub use fault::MufFault;
 pub use prims::{Family, Primitive};
+pub use shared::Shared;
 pub use text::Text;
+pub use value::{MapKey, Pair, Value, ValueList, ValueMap};
 
 /// A primitive, by its name.
 pub type Prim = Primitive;
