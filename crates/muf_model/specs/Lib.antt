@@ -6,3 +6,11 @@ pub mod Decode
 pub mod Datum
 pub mod View
 pub mod Measures
+pub mod Answer
+pub mod StackRows
+pub mod NumberRows
+pub mod TextRows
+pub mod ArrayRows
+pub mod Rows
+pub mod Source
+pub mod Unit
