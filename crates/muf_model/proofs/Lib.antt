@@ -1,4 +1,6 @@
+pub mod Settling
 pub mod Standing
 pub mod Truth
 pub mod Unique
 pub mod Views
+mod Worked

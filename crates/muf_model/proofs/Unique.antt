@@ -1,6 +1,6 @@
 -- What stands at a place is what is read there.
-use Rattle.std.proofs.Common.{◌≡◌, ℕ, zero, suc, ◌+◌, ◌-◌, ◌<◌, ◌≤◌, List, [], ◌∷◌, map, length, Some, refl, ap, ◌∙◌, arith, true, false, ne_eqb, eq-eqb}
-use Rattle.std.specs.Prelude.{slice_get, ◌==◌}
+use Rattle.std.proofs.Common.{◌≡◌, ℕ, zero, suc, ◌+◌, ◌-◌, ◌<◌, ◌≤◌, List, [], ◌∷◌, map, length, refl, ap, ◌∙◌, arith, true, false, ne_eqb, eq-eqb}
+use Rattle.std.specs.Prelude.{◌==◌}
 use Rattle.std.proofs.lemmas.Option.{slice_get_within}
 use Rattle.muf_model.specs.declared.code.Closer.{Closer}
 use Rattle.muf_model.specs.declared.code.Closer.TheVariants.{Semicolon}
@@ -11,7 +11,7 @@ use Rattle.muf_model.specs.declared.code.CodeWord.{CodeWord}
 use Rattle.muf_model.specs.declared.code.Code.{Code}
 use Rattle.muf_model.specs.Tree.{Fork, if_word, try_word, Ring, begin_word, for_word, each_word, Block, stop, word, when, fork, ring, End, closes, hops, Definition, Tree}
 use Rattle.muf_model.specs.Stands.{Stands, EndStands, Remains, IsAt, fork_instr, hop_instr, ring_instr, WordStands, WordsStand, TreeStands}
-use Rattle.muf_model.specs.Decode.{block, item, rest, rest_at, before, ending, target_of, closer_of, placed_at, fork_at, ring_at, Rest, remains_at, definition_at, tree_of}
+use Rattle.muf_model.specs.Decode.{block, item, rest, rest_at, before, ending, target_of, placed_at, Rest, remains_at, definition_at, tree_of}
 
 module _ (code : List Placed) where
   -- a block stops somewhere

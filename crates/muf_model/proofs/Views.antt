@@ -1,5 +1,5 @@
 -- What each value is seen as.
-use Rattle.std.proofs.Common.{◌≡◌, ℕ, List, map, ap, sym, ◌∙◌}
+use Rattle.std.proofs.Common.{◌≡◌, ℕ, List, ap, sym, ◌∙◌}
 use Rattle.std.specs.Prelude.{ℤ}
 use Rattle.std.specs.Arc.{arc_value}
 use Rattle.std.specs.declared.sync.Arc.{Arc}
@@ -8,7 +8,6 @@ use Rattle.muck_model.specs.declared.dbref.Dbref.{Dbref}
 use Rattle.muck_model.specs.declared.lock.Lock.{Lock}
 use Rattle.muf_model.specs.declared.code.VarId.{VarId}
 use Rattle.muf_model.specs.declared.value.MapKey.{MapKey}
-use Rattle.muf_model.specs.declared.value.Value.{Value}
 use Rattle.muf_model.specs.declared.value.Value.TheVariants.{Int, Str, Ref, Var, Addr, Key, Items, Dict, Mark, rolls-Int, rolls-Str, rolls-Ref, rolls-Var, rolls-Addr, rolls-Key, rolls-Items, rolls-Dict, rolls-Mark}
 use Rattle.muf_model.specs.declared.value.ValueList.{ValueList}
 use Rattle.muf_model.specs.declared.value.ValueMap.{ValueMap}

@@ -1,5 +1,5 @@
 -- What a primitive answers, and the tests that its row begins with.
-use Rattle.std.specs.Prelude.{ℕ, ◌+◌, ◌-◌, List, [], ◌∷◌, length, nat_lt, if◌then◌else◌, ℤ, pos, negsuc, Option, slice_get, slice_set}
+use Rattle.std.specs.Prelude.{ℕ, ◌+◌, ◌-◌, List, ◌∷◌, length, nat_lt, if◌then◌else◌, ℤ, pos, negsuc, Option, slice_get}
 use Rattle.muf_model.specs.declared.fault.MufFault.{MufFault}
 use Rattle.muf_model.specs.declared.fault.MufFault.TheVariants.{StackEmpty, StackFull, StackLocked, BadType, BadArgument}
 use Rattle.muf_model.specs.Datum.{Datum, int}

@@ -1,6 +1,5 @@
 -- What a value is.
-use Rattle.std.specs.Prelude.{ℕ, zero, suc, ◌+◌, max, List, [], ◌∷◌, Bool, true, false, ℤ, pos, negsuc, int_lt}
-use Rattle.muck_model.specs.declared.dbref.Dbref.{Dbref}
+use Rattle.std.specs.Prelude.{ℕ, List, [], ◌∷◌, ℤ}
 use Rattle.muck_model.specs.declared.lock.Lock.{Lock}
 use Rattle.muf_model.specs.declared.value.MapKey.{MapKey}
 

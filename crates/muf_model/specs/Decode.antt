@@ -1,5 +1,5 @@
 -- The tree that code stands for, read off the code.
-use Rattle.std.specs.Prelude.{ℕ, zero, suc, ◌+◌, ◌-◌, List, [], ◌∷◌, Option, Some, None, slice_get, ◌==◌, if◌then◌else◌, length, map}
+use Rattle.std.specs.Prelude.{ℕ, zero, suc, ◌+◌, ◌-◌, List, Option, Some, None, slice_get, ◌==◌, if◌then◌else◌, length, map}
 use Rattle.muf_model.specs.declared.code.Closer.{Closer}
 use Rattle.muf_model.specs.declared.code.Closer.TheVariants.{Semicolon}
 use Rattle.muf_model.specs.declared.code.Instr.{Instr}

@@ -1,5 +1,5 @@
 -- Truth, weight and nesting of values, and the order of keys.
-use Rattle.std.specs.Prelude.{ℕ, zero, suc, ◌+◌, max, List, [], ◌∷◌, Bool, true, false, not, nat_lt, int_lt, if◌then◌else◌, ℤ, pos, negsuc}
+use Rattle.std.specs.Prelude.{ℕ, zero, suc, ◌+◌, max, List, [], ◌∷◌, Bool, true, false, not, nat_lt, int_lt, if◌then◌else◌, pos, negsuc}
 use Rattle.muck_model.specs.declared.lock.Lock.{Lock}
 use Rattle.muck_model.specs.declared.lock.Lock.TheVariants.{Free}
 use Rattle.muf_model.specs.declared.value.MapKey.{MapKey}

@@ -1,10 +1,10 @@
 -- The state of a running program, read by its source.
-use Rattle.std.specs.Prelude.{ℕ, suc, ◌+◌, ◌-◌, List, [], ◌∷◌, ◌++◌, length, take, drop, replicate, nat_lt, if◌then◌else◌, ℤ, pos, Option, Some, None, slice_get, slice_set}
+use Rattle.std.specs.Prelude.{ℕ, suc, ◌-◌, List, [], ◌∷◌, ◌++◌, length, take, replicate, nat_lt, if◌then◌else◌, ℤ, pos, Option, Some, None, slice_set}
 use Rattle.std.specs.Ordering.{int_eq}
 use Rattle.muf_model.specs.declared.code.Closer.{Closer}
 use Rattle.muf_model.specs.declared.code.Closer.TheVariants.{Semicolon}
 use Rattle.muf_model.specs.Datum.{Datum, int, text}
-use Rattle.muf_model.specs.Tree.{Block, stop, word, End, closes, Definition, Tree}
+use Rattle.muf_model.specs.Tree.{Block, word, End, closes, Definition, Tree}
 use Rattle.muf_model.specs.Answer.{Scope, owned_first, call_first}
 
 -- What a loop counts. FOR has its next index, which is none where it left 32 bits, its end and its step. FOREACH has

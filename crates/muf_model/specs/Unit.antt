@@ -1,5 +1,5 @@
 -- One unit of a running program.
-use Rattle.std.specs.Prelude.{ℕ, zero, suc, ◌+◌, ◌-◌, List, [], ◌∷◌, ◌++◌, length, take, drop, reverse, Bool, true, false, not, nat_lt, int_lt, int_le, if◌then◌else◌, ℤ, pos, negsuc, ◌+ℤ◌, Option, Some, None, slice_get}
+use Rattle.std.specs.Prelude.{ℕ, zero, suc, ◌+◌, ◌-◌, List, [], ◌∷◌, ◌++◌, length, take, drop, reverse, Bool, nat_lt, int_lt, int_le, if◌then◌else◌, ℤ, pos, negsuc, ◌+ℤ◌, Option, Some, None, slice_get}
 use Rattle.muf_model.specs.declared.code.Word.{Word}
 use Rattle.muf_model.specs.declared.code.Word.TheVariants.{Literal, Variable, Address, Primitive, Call, Bind, Store, Exit, Break, Continue, While, NextIndex, NextPair}
 use Rattle.muf_model.specs.declared.code.Literal.{Literal as Constant}

@@ -1,8 +1,6 @@
 -- The data that a `Value` stands for.
-use Rattle.std.specs.Prelude.{ℕ, List, [], ◌∷◌, map}
+use Rattle.std.specs.Prelude.{List}
 use Rattle.std.specs.Arc.{arc_value}
-use Rattle.muck_model.specs.declared.dbref.Dbref.{Dbref}
-use Rattle.muf_model.specs.declared.code.VarId.{VarId}
 use Rattle.muf_model.specs.declared.value.MapKey.{MapKey}
 use Rattle.muf_model.specs.declared.value.Value.{Value, fold-Value}
 use Rattle.muf_model.specs.declared.value.Pair.{Pair, fold-Pair}

@@ -1,4 +1,4 @@
-use Rattle.std.proofs.Common.{◌≡◌, ap, ◌∙◌}
+use Rattle.std.proofs.Common.{ap, ◌∙◌}
 use Rattle.std.specs.Arc.{arc_value}
 use Rattle.muf_model.specs.View.{list_view, map_view}
 use Rattle.muf_model.proofs.Truth.{list_true, dict_true}
