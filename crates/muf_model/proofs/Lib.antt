@@ -1,3 +1,4 @@
+pub mod Decoded
 pub mod Settling
 pub mod Standing
 pub mod Truth

@@ -14,3 +14,5 @@ pub mod ArrayRows
 pub mod Rows
 pub mod Source
 pub mod Unit
+pub mod Flat
+pub mod Fits
