@@ -1,4 +1,5 @@
 pub mod Decoded
+pub mod FaultTexts
 pub mod Settling
 pub mod Standing
 pub mod Truth

@@ -1,5 +1,6 @@
 -- The numbers and texts of faults.
-use Rattle.std.specs.Prelude.{ℕ, Bool, true, false, List, ◌++◌, codes, decimal}
+use Rattle.muck_model.specs.Bytes.{text_fault}
+use Rattle.std.specs.Prelude.{◌≡◌, None, ℕ, Bool, true, false, List, ◌++◌, codes, decimal}
 use Rattle.muf_model.specs.declared.fault.MufFault.{MufFault}
 use Rattle.muf_model.specs.declared.fault.MufFault.TheVariants.{StackEmpty, StackFull, StackLocked, CallsFull, BadType, BadArgument, NoSuchObject, Denied, TooManyUnits, PreemptTooLong, NotCompiled, NotPublic, BadAddress, BadSleep, CannotRead, ProcessLimit, TextTooLong, TooHeavy, Aborted, WorldFull}
 
@@ -53,3 +54,9 @@ abbrev pub is_final : MufFault → Bool
 is_final TooManyUnits = true
 is_final PreemptTooLong = true
 is_final _ = false
+
+-- a fault's text, and that it is a text, where neither a rule nor the program has a say in it
+abbrev pub IsFixedText : MufFault → List ℕ → Type 0
+IsFixedText (Denied rule) bytes = Unit {0}
+IsFixedText (Aborted text) bytes = Unit {0}
+IsFixedText f bytes = (bytes ≡ text_of f) × (text_fault bytes ≡ None)

@@ -1,9 +1,11 @@
 // The faults of a running program.
-ghost use Rattle.std.specs.Prelude.{◌≡◌, IfOk};
-ghost use Rattle.muf_model.specs.Faults.{number_of, text_of, is_final};
+ghost use Rattle.std.specs.Prelude.{◌≡◌, None, IfOk};
+ghost use Rattle.muck_model.specs.Bytes.{text_fault};
+ghost use Rattle.muf_model.specs.declared.fault.MufFault.TheVariants.{Denied};
+ghost use Rattle.muf_model.specs.Faults.{number_of, text_of, is_final, IsFixedText};
 
 use crate::Text;
-use muck_model::{Line, NoMemory};
+use muck_model::{Line, LineFault, NoMemory};
 use std::alloc::Global;
 
 /// Why a unit of a program is refused.
@@ -86,4 +88,64 @@ impl MufFault {
     {
         matches!(self, MufFault::TooManyUnits | MufFault::PreemptTooLong)
     }
+
+    // Its text, where that is the same for each fault of its number.
+    #[tactic(auto, unfolding(muck_model::specs::Bytes::text_most))]
+    fn fixed_text(&self) -> &'static [u8]
+        ensures { IsFixedText self.now result.now }
+    {
+        match self {
+            MufFault::StackEmpty => b"Stack underflow.",
+            MufFault::StackFull => b"Stack overflow.",
+            MufFault::StackLocked => b"Stack protection fault.",
+            MufFault::CallsFull => b"Call stack overflow.",
+            MufFault::BadType => b"Wrong type of argument.",
+            MufFault::BadArgument => b"Invalid argument.",
+            MufFault::NoSuchObject => b"Invalid object.",
+            MufFault::TooManyUnits => b"Too many instructions.",
+            MufFault::PreemptTooLong => b"Preempt section too long.",
+            MufFault::NotCompiled => b"Program not compiled.",
+            MufFault::NotPublic => b"Word not public.",
+            MufFault::BadAddress => b"Invalid address.",
+            MufFault::BadSleep => b"Sleep of negative time.",
+            MufFault::CannotRead => b"Read in background.",
+            MufFault::ProcessLimit => b"Too many processes.",
+            MufFault::TextTooLong => b"Text too long.",
+            MufFault::TooHeavy => b"Value too large.",
+            MufFault::WorldFull => b"World full.",
+            MufFault::Denied(_) | MufFault::Aborted(_) => b"",
+        }
+    }
+
+    /// Its text, which a TRY that catches it gets to see.
+    pub fn text(&self, alloc: Global) -> Result<Text, NoMemory>
+        ensures { IfOk result (λ text. text ≡ text_of self.now) }
+    {
+        match self {
+            MufFault::Aborted(text) => text.share(),
+            MufFault::Denied(rule) => denial_text(alloc, *rule),
+            other => known_text(alloc, other.fixed_text()),
+        }
+    }
+}
+
+// The text of these bytes, which are one.
+fn known_text(alloc: Global, bytes: &[u8]) -> Result<Text, NoMemory>
+    requires { text_fault bytes.now ≡ None }
+    ensures { IfOk result (λ text. text ≡ bytes.now) }
+{
+    match Line::new(alloc, bytes) {
+        Ok(line) => Text::new(alloc, line),
+        Err(LineFault::NoMemory) => Err(NoMemory),
+        Err(LineFault::NotLine { .. }) => unreachable!(),
+    }
+}
+
+// What a denial by a rule says.
+#[tactic(auto, using(crate::proofs::FaultTexts::denied_is_text))]
+fn denial_text(alloc: Global, rule: u8) -> Result<Text, NoMemory>
+    ensures { IfOk result (λ text. text ≡ text_of (Denied rule)) }
+{
+    let bytes = format!(in alloc; "Permission denied (P{rule}).")?;
+    known_text(alloc, bytes.as_bytes())
 }
