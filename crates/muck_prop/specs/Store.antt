@@ -1,0 +1,53 @@
+-- The properties of one object, as a map from paths to values.
+use Rattle.std.specs.Prelude.{◌≡◌, ℕ, zero, suc, Bool, true, false, ◌&&◌, ◌==◌, ◌⊎◌, ℤ, pos, negsuc, nat_eq, if◌then◌else◌, List, [], ◌∷◌, ◌++◌, Option, None, Some, IsSome, is_some, length}
+use Rattle.std.specs.List.{list_any}
+use Rattle.std.specs.Ordering.{is_lt, is_gt}
+use Rattle.std.specs.FinMap.{FinMap, get, insert, remove, keys}
+use Rattle.muck_prop.specs.declared.value.PropValue.{PropValue}
+use Rattle.muck_prop.specs.declared.value.PropValue.TheVariants.{Text, Number}
+use Rattle.muck_prop.specs.Order.{path_cmp, is_below, child}
+
+abbrev pub PropMap : Type 0
+PropMap = FinMap path_cmp PropValue
+
+-- an empty text, or 0: what stands for no property
+abbrev pub is_nothing : PropValue → Bool
+is_nothing (Text []) = true
+is_nothing (Text (b ∷ bs)) = false
+is_nothing (Number (pos zero)) = true
+is_nothing (Number (pos (suc n))) = false
+is_nothing (Number (negsuc n)) = false
+
+-- the map after a value is stored at a path: what stands for no property removes it
+abbrev pub stored : List (List ℕ) → PropValue → PropMap → PropMap
+stored path value m = if is_nothing value then remove m path else insert m path value
+
+-- some stored path continues this one
+abbrev pub is_dir : List (List ℕ) → PropMap → Bool
+is_dir path m = list_any (is_below path) (keys m)
+
+-- the path stands after the one given, if one is
+abbrev pub is_after : Option (List (List ℕ)) → List (List ℕ) → Bool
+is_after None path = true
+is_after (Some after) path = is_lt (path_cmp after path)
+
+-- the first child of `dir` after `after` that leads to one of some paths, which rise
+abbrev pub next_among : List (List ℕ) → Option (List (List ℕ)) → List (List (List ℕ)) → Option (List (List ℕ))
+next_among dir after [] = None
+next_among dir after (q ∷ paths) = if is_below dir q && is_after after (child dir q) then Some (child dir q) else next_among dir after paths
+
+-- the next child of `dir` after `after`; the top has no segments
+abbrev pub next_child : List (List ℕ) → Option (List (List ℕ)) → PropMap → Option (List (List ℕ))
+next_child dir after m = next_among dir after (keys m)
+
+-- a path one segment longer than `dir` that has a value or is a directory
+pub record IsChild (m : PropMap) (dir c : List (List ℕ)) : Type 0 where
+  pub name : List ℕ
+  pub path : c ≡ dir ++ name ∷ []
+  pub stands : (is_some (get m c) ≡ true) ⊎ (is_dir c m ≡ true)
+
+-- c is the least child of `dir` after `after`; None says that there is none
+abbrev pub IsLeastChild : PropMap → List (List ℕ) → Option (List (List ℕ)) → Option (List (List ℕ)) → Type 0
+IsLeastChild m dir after None = (c : List (List ℕ)) → IsChild m dir c → is_after after c ≡ false
+IsLeastChild m dir after (Some c) = IsChild m dir c × (is_after after c ≡ true)
+    × ((d : List (List ℕ)) → IsChild m dir d → is_after after d ≡ true → is_gt (path_cmp c d) ≡ false)
