@@ -2,3 +2,5 @@ pub mod Below
 pub mod Texts
 pub mod Reading
 pub mod Writing
+pub mod Maps
+pub mod Sequence

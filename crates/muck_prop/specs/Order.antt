@@ -1,6 +1,6 @@
 -- The order of paths: by their segments, from the first on, and segments by their bytes.
 -- A path stands before the paths that continue it.
-use Rattle.std.specs.Prelude.{◌≡◌, ℕ, Bool, true, false, ◌&&◌, List, [], ◌∷◌, bytes_eq, take, length, suc}
+use Rattle.std.specs.Prelude.{◌≡◌, ℕ, Bool, true, false, ◌&&◌, List, [], ◌∷◌, ◌++◌, bytes_eq, take, length, suc}
 use Rattle.std.specs.Ordering.{nat_cmp}
 use Rattle.std.specs.declared.cmp.Ordering.{Ordering}
 use Rattle.std.specs.Cmp.{IsTotalOrder, IsEquivalence, IsPartialOrder, po}
@@ -40,3 +40,9 @@ path_ties = lists_ties segment_cmp texts_ties
 
 pub path_po : IsPartialOrder path_eq (λ p q. Some (path_cmp p q))
 path_po = po path_cmp_total path_ties
+
+-- the least list of segments above all that continue p: its last segment is followed by the least byte
+abbrev pub past : List (List ℕ) → List (List ℕ)
+past [] = []
+past (s ∷ []) = (s ++ 0 ∷ []) ∷ []
+past (s ∷ t ∷ p) = s ∷ past (t ∷ p)

@@ -1,10 +1,11 @@
 -- The properties of one object, as a map from paths to values.
-use Rattle.std.specs.Prelude.{◌≡◌, ℕ, zero, suc, Bool, true, false, ◌&&◌, ◌==◌, ◌⊎◌, ℤ, pos, negsuc, nat_eq, if◌then◌else◌, List, [], ◌∷◌, ◌++◌, Option, None, Some, IsSome, is_some, length}
+use Rattle.std.specs.Prelude.{◌≡◌, ℕ, Bool, true, false, ◌&&◌, ◌==◌, ◌⊎◌, pos, if◌then◌else◌, List, [], ◌∷◌, ◌++◌, Option, None, Some, IsSome, is_some, length}
 use Rattle.std.specs.List.{list_any}
-use Rattle.std.specs.Ordering.{is_lt, is_gt}
+use Rattle.std.specs.Ordering.{is_lt, is_gt, int_eq}
 use Rattle.std.specs.FinMap.{FinMap, get, insert, remove, keys}
 use Rattle.muck_prop.specs.declared.value.PropValue.{PropValue}
 use Rattle.muck_prop.specs.declared.value.PropValue.TheVariants.{Text, Number}
+use Rattle.muck_prop.specs.Paths.{IsPath}
 use Rattle.muck_prop.specs.Order.{path_cmp, is_below, child}
 
 abbrev pub PropMap : Type 0
@@ -12,11 +13,8 @@ PropMap = FinMap path_cmp PropValue
 
 -- an empty text, or 0: what stands for no property
 abbrev pub is_nothing : PropValue → Bool
-is_nothing (Text []) = true
-is_nothing (Text (b ∷ bs)) = false
-is_nothing (Number (pos zero)) = true
-is_nothing (Number (pos (suc n))) = false
-is_nothing (Number (negsuc n)) = false
+is_nothing (Text text) = length text == 0
+is_nothing (Number n) = int_eq n (pos 0)
 
 -- the map after a value is stored at a path: what stands for no property removes it
 abbrev pub stored : List (List ℕ) → PropValue → PropMap → PropMap
@@ -36,7 +34,12 @@ abbrev pub next_among : List (List ℕ) → Option (List (List ℕ)) → List (L
 next_among dir after [] = None
 next_among dir after (q ∷ paths) = if is_below dir q && is_after after (child dir q) then Some (child dir q) else next_among dir after paths
 
--- the next child of `dir` after `after`; the top has no segments
+-- the top, which has no segments, where no path is given
+abbrev pub path_or_top : Option (List (List ℕ)) → List (List ℕ)
+path_or_top None = []
+path_or_top (Some path) = path
+
+-- the next child of `dir` after `after`
 abbrev pub next_child : List (List ℕ) → Option (List (List ℕ)) → PropMap → Option (List (List ℕ))
 next_child dir after m = next_among dir after (keys m)
 
@@ -51,3 +54,8 @@ abbrev pub IsLeastChild : PropMap → List (List ℕ) → Option (List (List ℕ
 IsLeastChild m dir after None = (c : List (List ℕ)) → IsChild m dir c → is_after after c ≡ false
 IsLeastChild m dir after (Some c) = IsChild m dir c × (is_after after c ≡ true)
     × ((d : List (List ℕ)) → IsChild m dir d → is_after after d ≡ true → is_gt (path_cmp c d) ≡ false)
+
+-- what every kept property is: its path is one, and its value isn't nothing
+pub record IsKept (e : List (List ℕ) × PropValue) : Type 0 where
+  pub path : IsPath e.0
+  pub value : is_nothing e.1 ≡ false

@@ -1,7 +1,13 @@
 // The properties of one object.
-ghost use Rattle.std.specs.Prelude.{◌≡◌, [], Some, None, IfOk, IfSome, OnOk, OnErr, is_some, is_none, Ok, Err};
+ghost use Rattle.std.specs.Prelude.{◌≡◌, [], Some, None, IfOk, IfSome, OnOk, OnErr, is_some, is_ok, slice_get, true, Ok, Err};
 ghost use Rattle.std.specs.Option.{option_copied, unwrap_or};
 ghost use Rattle.std.specs.FinMap as map;
+ghost use Rattle.std.specs.Range.Bound.{bound_map};
+ghost use Rattle.std.specs.declared.ops.Bound.TheVariants.{Unbounded};
+ghost use Rattle.std.specs.Map.{keys_of};
+ghost use Rattle.std.specs.BTreeMap.{IsOrdered};
+ghost use Rattle.std.specs.BTreeMap.Range.{entries_between};
+ghost use Rattle.muck_prop.specs.Order.{path_cmp};
 ghost use Rattle.muck_prop.specs.Store.{stored, is_dir, next_child, is_nothing};
 
 use crate::path::Path;
@@ -31,7 +37,24 @@ impl Model for Props {
 
     ghost coded = { map.code (coded_list (coded_list coded_ℕ)) value.the_row.coded };
 
+    ghost use Rattle.std.specs.List.{AllByRecursion};
+    ghost use Rattle.muck_prop.specs.Store.{IsKept};
+
     ghost view = { λ p. map.from_entries p.values.entries };
+
+    ghost invariant = { λ p. AllByRecursion IsKept p.values.entries };
+}
+
+// The first path within a start.
+fn first_from<'a>(values: &'a BTreeMap<Segments, PropValue>, start: Bound<&Segments>) -> Option<&'a Segments>
+    ensures first { option_copied result ≡ slice_get (keys_of (entries_between path_cmp (bound_map (λ x. x.now) start.entry) Unbounded values.now.entries)) 0 }
+    ensures ordered { IsOrdered path_cmp values.now }
+{
+    let mut range = values.range((start, Bound::Unbounded));
+    match range.next() {
+        Some((path, _)) => Some(path),
+        None => None,
+    }
 }
 
 impl Props {
@@ -49,5 +72,40 @@ impl Props {
         ensures { option_copied result ≡ map.get self.now path.now }
     {
         self.values.get(&path.segments)
+    }
+
+    /// Whether some stored path continues this one.
+    pub fn is_dir(&self, path: &Path) -> bool
+        ensures { result ≡ is_dir path.now self.now }
+    {
+        match first_from(&self.values, Bound::Excluded(&path.segments)) {
+            Some(first) => first.is_below(&path.segments),
+            None => false,
+        }
+    }
+
+    /// Removes the property of a path. It is true exactly where the path had a value.
+    pub fn remove(&mut self, path: &Path) -> bool
+        ensures had { result ≡ is_some (map.get self.old path.now) }
+        ensures removed { self.new ≡ map.remove self.old path.now }
+    {
+        self.values.remove(&path.segments).is_some()
+    }
+
+    /// Stores a value at a path; an empty text or 0 removes the property. After `NoMemory`, which comes only for a path
+    /// without a value, nothing has changed.
+    pub fn put(&mut self, path: Path, value: PropValue) -> Result<(), NoMemory>
+        ensures ok { OnOk result (self.new ≡ stored path value self.old) }
+        ensures err { OnErr result (self.new ≡ self.old) }
+        ensures only_new { OnErr result (map.get self.old path ≡ None) }
+        ensures removes { is_nothing value ≡ true → is_ok result ≡ true }
+    {
+        if value.is_nothing() {
+            self.remove(&path);
+            return Ok(());
+        }
+        let Path { segments } = path;
+        self.values.insert(segments, value)?;
+        Ok(())
     }
 }
