@@ -4,3 +4,4 @@ pub mod Reading
 pub mod Writing
 pub mod Maps
 pub mod Sequence
+pub mod First

@@ -1,9 +1,13 @@
 -- The entries of an ordered map, in the words of a finite map.
 use Rattle.std.proofs.Common.{◌≡◌, ℕ, Bool, true, false, cond, List, [], ◌∷◌, map, length, arith, refl, ap, sym, subst, ◌∙◌}
-use Rattle.std.specs.Prelude.{Option, None, Some, Result, Ok, Err, OnErr}
+use Rattle.std.specs.Prelude.{Option, None, Some, Result, Ok, Err, OnErr, slice_get, ◌&&◌}
 use Rattle.std.specs.Cmp.{IsTotalOrder, eq_by_cmp_equiv}
 use Rattle.std.specs.Ordering.{is_eq, eq_by_cmp, match_ordering}
 use Rattle.std.specs.List.{AllByRecursion}
+use Rattle.std.specs.List.{find as find_path}
+use Rattle.std.specs.BTreeMap.Range.{entries_between, is_from_start}
+use Rattle.std.specs.declared.ops.Bound.{Bound}
+use Rattle.std.specs.declared.ops.Bound.TheVariants.{Unbounded}
 use Rattle.std.specs.List.Sorted.{IsStrictlySortedBy}
 use Rattle.std.specs.Map.{keys_of, lookup, remove_entry}
 use Rattle.std.specs.BTreeMap.{is_at, insert_entry}
@@ -82,3 +86,12 @@ kept_removed test (e ∷ es) old = elim (test e.0) as (λ b. AllByRecursion IsKe
 pub on_err : {X E : Type 0} (r : Result X E) (P : Type 0) → P → OnErr r P
 on_err (Ok x) P h = tt
 on_err (Err e) P h = h
+
+-- the first path within a start
+pub first_start : (lo : Bound (List (List ℕ))) (es : List (List (List ℕ) × PropValue)) → slice_get (keys_of (entries_between path_cmp lo Unbounded es)) 0 ≡ find_path (is_from_start path_cmp lo) (keys_of es)
+first_start lo [] = refl
+first_start lo (e ∷ es) =
+    elim (is_from_start path_cmp lo e.0) as (λ b. slice_get (keys_of (cond (b && true) (e ∷ entries_between path_cmp lo Unbounded es) (entries_between path_cmp lo Unbounded es))) 0 ≡ cond b (Some e.0) (find_path (is_from_start path_cmp lo) (keys_of es))) [
+      | true ↦ refl
+      | false ↦ first_start lo es
+    ]

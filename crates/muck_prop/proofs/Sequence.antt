@@ -2,8 +2,8 @@
 use Rattle.std.proofs.Common.{◌≡◌, ℕ, zero, suc, ◌<◌, ◌≤◌, Bool, true, false, cond, ◌&&◌, ◌||◌, ◌⊎◌, List, [], ◌∷◌, ◌++◌, length, take, bytes_eq, refl, ap, sym, subst, ◌∙◌, arith}
 use mathlib.Core.Logic.{inl, inr}
 use Rattle.std.specs.Prelude.{Option, None, Some, if◌then◌else◌}
-use Rattle.std.specs.Ordering.{nat_cmp, ordering_then, is_eq, is_lt, is_le, is_gt}
-use Rattle.std.specs.Cmp.{IsTotalOrder, alike_right, tied_itself, tied_back, le_lt_trans}
+use Rattle.std.specs.Ordering.{nat_cmp, ordering_then, ordering_reverse, is_eq, is_lt, is_le, is_gt}
+use Rattle.std.specs.Cmp.{IsTotalOrder, alike_right, tied_itself, tied_back}
 use Rattle.std.specs.Cmp.Lexicographic.{slice_cmp, texts_ties, nat_list_cmp_total}
 use Rattle.std.specs.declared.cmp.Ordering.{Ordering}
 use Rattle.std.specs.declared.cmp.Ordering.TheVariants.{Less, Equal, Greater}
@@ -113,6 +113,49 @@ module _ (p : List (List ℕ)) (start : List (List ℕ) → Bool) (later : (q : 
   next_by_first after reach [] sorted = refl
   next_by_first after reach (k ∷ ks) sorted =
       elim (is_below p k) as (λ b. is_below p k ≡ b → (if b && is_after after (child p k) then Some (child p k) else next_among p after ks) ≡ found_child p (cond (start k) (Some k) (find start ks))) [
-        | true ↦ λ is. ?
-        | false ↦ λ is. ?
+        | true ↦ λ is. elim (start k) as (λ s. start k ≡ s → (if true && is_after after (child p k) then Some (child p k) else next_among p after ks) ≡ found_child p (cond s (Some k) (find start ks))) [
+          | true ↦ λ e. ap (λ b. if b then Some (child p k) else next_among p after ks) (reach k is ∙ e) ∙ sym (ap (λ b. if b then Some (child p k) else None) is)
+          | false ↦ λ e. ap (λ b. if b then Some (child p k) else next_among p after ks) (reach k is ∙ e) ∙ next_by_first after reach ks sorted.1
+        ] refl
+        | false ↦ λ is. elim (start k) as (λ s. start k ≡ s → next_among p after ks ≡ found_child p (cond s (Some k) (find start ks))) [
+          | true ↦ λ e. next_none p after ks (none_below p k ks (later k e) is sorted.0) ∙ sym (ap (λ b. if b then Some (child p k) else None) is)
+          | false ↦ λ e. next_by_first after reach ks sorted.1
+        ] refl
       ] refl
+
+-- ---- starts of a search
+
+is_less : (r : Ordering) → is_lt r ≡ true → r ≡ Less
+is_less Less h = refl
+is_less Equal h = cc
+is_less Greater h = cc
+
+-- right after p
+pub after_start_later : (p q : List (List ℕ)) → is_lt (path_cmp p q) ≡ true → path_cmp p q ≡ Less
+after_start_later p q h = is_less (path_cmp p q) h
+
+pub after_start_reaches : (p q : List (List ℕ)) → is_below p q ≡ true → is_lt (path_cmp p q) ≡ true
+after_start_reaches p q h = ap is_lt (below_is_after p q h)
+
+child_is_below : (p q : List (List ℕ)) → is_below p q ≡ true → is_below p (child p q) ≡ true
+child_is_below [] [] h = cc
+child_is_below [] (t ∷ q) h = refl
+child_is_below (s ∷ p) [] h = cc
+child_is_below (s ∷ p) (t ∷ q) h =
+    let parts = and_true (bytes_eq s t) (is_below p q) h in
+    ap (λ b. b && is_below p (child p q)) parts.0 ∙ child_is_below p q parts.1
+
+-- what isn't after another and is before a third
+up_to_less : (p q r : List (List ℕ)) → is_lt (path_cmp p q) ≡ false → path_cmp p r ≡ Less → path_cmp q r ≡ Less
+up_to_less p q r h g = by (path_cmp p q) refl h
+  where
+    by : (o : Ordering) → path_cmp p q ≡ o → is_lt o ≡ false → path_cmp q r ≡ Less
+    by Less e later = cc
+    by Equal e later = sym (path_cmp_total.congr p q r e) ∙ g
+    by Greater e later = path_cmp_total.trans q p r (path_cmp_total.antisymm q p ∙ ap ordering_reverse e) g
+
+-- where the path to pass isn't after p, each child of p is
+pub after_start_passes : (p after q : List (List ℕ)) → is_lt (path_cmp p after) ≡ false → is_below p q ≡ true → is_after (Some after) (child p q) ≡ is_lt (path_cmp p q)
+after_start_passes p after q h is =
+    ap is_lt (up_to_less p after (child p q) h (below_is_after p (child p q) (child_is_below p q is)))
+    ∙ sym (ap is_lt (below_is_after p q is))

@@ -1,12 +1,12 @@
 // The properties of one object.
-ghost use Rattle.std.specs.Prelude.{◌≡◌, [], Some, None, IfOk, IfSome, OnOk, OnErr, is_some, is_ok, slice_get, true, Ok, Err};
+ghost use Rattle.std.specs.Prelude.{◌≡◌, [], Some, None, IfOk, IfSome, OnOk, OnErr, is_some, is_ok, true, Ok, Err};
 ghost use Rattle.std.specs.Option.{option_copied, unwrap_or};
 ghost use Rattle.std.specs.FinMap as map;
 ghost use Rattle.std.specs.Range.Bound.{bound_map};
-ghost use Rattle.std.specs.declared.ops.Bound.TheVariants.{Unbounded};
+ghost use Rattle.std.specs.List.{find};
 ghost use Rattle.std.specs.Map.{keys_of};
 ghost use Rattle.std.specs.BTreeMap.{IsOrdered};
-ghost use Rattle.std.specs.BTreeMap.Range.{entries_between};
+ghost use Rattle.std.specs.BTreeMap.Range.{is_from_start};
 ghost use Rattle.muck_prop.specs.Order.{path_cmp};
 ghost use Rattle.muck_prop.specs.Store.{stored, is_dir, next_child, is_nothing};
 
@@ -47,7 +47,7 @@ impl Model for Props {
 
 // The first path within a start.
 fn first_from<'a>(values: &'a BTreeMap<Segments, PropValue>, start: Bound<&Segments>) -> Option<&'a Segments>
-    ensures first { option_copied result ≡ slice_get (keys_of (entries_between path_cmp (bound_map (λ x. x.now) start.entry) Unbounded values.now.entries)) 0 }
+    ensures first { option_copied result ≡ find (is_from_start path_cmp (bound_map (λ x. x.now) start.entry)) (keys_of values.now.entries) }
     ensures ordered { IsOrdered path_cmp values.now }
 {
     let mut range = values.range((start, Bound::Unbounded));

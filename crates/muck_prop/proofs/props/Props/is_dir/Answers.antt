@@ -1,19 +1,19 @@
-use Rattle.std.proofs.Common.{rules, ◌≡◌, [], Some, None, IfOk, IfSome, OnOk, OnErr, is_some, is_ok, slice_get, true, Ok, Err, ℕ, ◌+◌, ◌-◌, ◌*◌, ◌<◌, ◌≤◌, length, ◌/◌, ◌%◌, Bool, false, nat_eq, nat_lt, List, ◌∷◌, ◌++◌, slice_index_or, slice_set, bit_and, bit_or, Fits, w8, w32, w64, Bor, MutBor}
-use Rattle.std.specs.Option.{option_copied, unwrap_or}
-use Rattle.std.specs.FinMap as map
-use Rattle.std.specs.Range.Bound.{bound_map}
-use Rattle.std.specs.declared.ops.Bound.TheVariants.{Unbounded}
-use Rattle.std.specs.Map.{keys_of}
-use Rattle.std.specs.BTreeMap.{IsOrdered}
-use Rattle.std.specs.BTreeMap.Range.{entries_between}
-use Rattle.muck_prop.specs.Order.{path_cmp}
-use Rattle.muck_prop.specs.Store.{stored, is_dir, next_child, is_nothing}
+use Rattle.std.proofs.Common.{◌≡◌, ap, sym, ◌∙◌}
+use Rattle.muck_prop.specs.Order.{path_cmp, is_below}
+use Rattle.muck_prop.specs.Store.{is_dir}
+use Rattle.muck_prop.proofs.First.{dir_by_first}
+use Rattle.muck_prop.proofs.Sequence.{found_below}
 use Rattle.muck_prop.proofs.props.Props.is_dir.Goals as goal
 
--- src/props.rt:78:5
 pub returns-in-Some : goal.returns-in-Some
-returns-in-Some c = ?
+returns-in-Some c =
+    c.is_below.ensures
+    ∙ ap (found_below c.path.inside.segments) c.in-Some.ensures.first
+    ∙ sym (dir_by_first c.path.inside.segments c.self.inside.values.entries c.first_from.ensures.ordered)
+    ∙ (λ i. is_dir (c.path.view_is i) (c.self.view_is i))
 
--- src/props.rt:78:5
 pub returns-in-None : goal.returns-in-None
-returns-in-None c = ?
+returns-in-None c =
+    ap (found_below c.path.inside.segments) c.in-None.ensures.first
+    ∙ sym (dir_by_first c.path.inside.segments c.self.inside.values.entries c.first_from.ensures.ordered)
+    ∙ (λ i. is_dir (c.path.view_is i) (c.self.view_is i))
