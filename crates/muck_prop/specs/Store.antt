@@ -43,6 +43,11 @@ path_or_top (Some path) = path
 abbrev pub next_child : List (List ℕ) → Option (List (List ℕ)) → PropMap → Option (List (List ℕ))
 next_child dir after m = next_among dir after (keys m)
 
+-- the child of `dir` on the way to a path that was found
+abbrev pub found_child : List (List ℕ) → Option (List (List ℕ)) → Option (List (List ℕ))
+found_child dir None = None
+found_child dir (Some q) = if is_below dir q then Some (child dir q) else None
+
 -- a path one segment longer than `dir` that has a value or is a directory
 pub record IsChild (m : PropMap) (dir c : List (List ℕ)) : Type 0 where
   pub name : List ℕ
