@@ -1,6 +1,5 @@
 -- What a path that continues another is by its length and its first segments.
-use Rattle.std.proofs.Common.{◌≡◌, ℕ, zero, suc, ◌<◌, ◌≤◌, Bool, true, false, ◌&&◌, List, [], ◌∷◌, length, take, bytes_eq, refl, ap, ◌∙◌, arith}
-use Rattle.std.specs.Cmp.Lexicographic.{pointwise}
+use Rattle.std.proofs.Common.{◌≡◌, ℕ, ◌<◌, ◌≤◌, Bool, true, false, ◌&&◌, List, [], ◌∷◌, length, take, bytes_eq, refl, ap, ◌∙◌, arith}
 use Rattle.muck_prop.specs.Order.{is_below, path_eq}
 
 pub below_by_start : (p q : List (List ℕ)) → length p < length q → path_eq p (take (length p) q) ≡ is_below p q

@@ -1,6 +1,6 @@
 -- What the first path within a start says of a directory and of its next child.
 use Rattle.std.proofs.Common.{◌≡◌, ◌≤◌, ℕ, zero, suc, Bool, true, false, cond, List, [], ◌∷◌, length, take, ap, sym, ◌∙◌, arith, length-append}
-use Rattle.std.specs.Prelude.{Option, None, Some, IfSome}
+use Rattle.std.specs.Prelude.{None, Some, IfSome}
 use Rattle.std.specs.List.{AllByRecursion, list_any, find}
 use Rattle.std.specs.List.Sorted.{IsStrictlySortedBy}
 use Rattle.std.specs.Map.{keys_of}
@@ -13,7 +13,7 @@ use Rattle.std.specs.Ordering.{is_lt}
 use Rattle.std.proofs.lemmas.List.{length-take}
 use Rattle.std.specs.declared.cmp.Ordering.TheVariants.{Less}
 use Rattle.muck_prop.specs.Paths.{IsPath, IsSegment, path_text}
-use Rattle.muck_prop.specs.Store.{is_dir, is_after, next_among, next_child, found_child, IsKept}
+use Rattle.muck_prop.specs.Store.{is_dir, next_among, next_child, found_child, IsKept}
 use Rattle.muck_prop.proofs.Maps.{keys_are}
 use Rattle.muck_prop.proofs.Sequence.{found_below, any_by_first, next_by_first, after_start_later, after_start_reaches, after_start_passes, past_passes, past_later}
 

@@ -1,7 +1,7 @@
 -- The entries of an ordered map, in the words of a finite map.
-use Rattle.std.proofs.Common.{◌≡◌, ℕ, Bool, true, false, cond, List, [], ◌∷◌, map, length, arith, refl, ap, sym, subst, ◌∙◌}
-use Rattle.std.specs.Prelude.{Option, None, Some, Result, Ok, Err, OnErr, slice_get, ◌&&◌}
-use Rattle.std.specs.Cmp.{IsTotalOrder, eq_by_cmp_equiv}
+use Rattle.std.proofs.Common.{◌≡◌, ℕ, Bool, true, false, cond, List, [], ◌∷◌, length, arith, refl, ap, sym, ◌∙◌}
+use Rattle.std.specs.Prelude.{None, Some, Result, Ok, Err, OnErr, slice_get, ◌&&◌}
+use Rattle.std.specs.Cmp.{eq_by_cmp_equiv}
 use Rattle.std.specs.Ordering.{is_eq, eq_by_cmp, match_ordering}
 use Rattle.std.specs.List.{AllByRecursion}
 use Rattle.std.specs.List.{find as find_path}
@@ -11,13 +11,12 @@ use Rattle.std.specs.declared.ops.Bound.TheVariants.{Unbounded}
 use Rattle.std.specs.List.Sorted.{IsStrictlySortedBy}
 use Rattle.std.specs.Map.{keys_of, lookup, remove_entry}
 use Rattle.std.specs.BTreeMap.{is_at, insert_entry}
-use Rattle.std.specs.FinMap.{FinMap, get, insert, remove, empty, entries, keys, from_entries, find, put, get-from_entries, get-insert, get-remove, entries-insert, len-entries, len-empty, same_map, IsAntisymmetric, slice_cmp-IsAntisymmetric, nat_cmp-IsAntisymmetric}
+use Rattle.std.specs.FinMap.{get, insert, remove, entries, keys, from_entries, find, put, get-from_entries, get-insert, get-remove, entries-insert, len-entries, len-empty, same_map, IsAntisymmetric, slice_cmp-IsAntisymmetric, nat_cmp-IsAntisymmetric}
 use Rattle.std.specs.FinMap.Entries.{by_order}
 use Rattle.std.specs.declared.cmp.Ordering.TheVariants.{Less, Equal, Greater}
 use Rattle.muck_prop.specs.declared.value.PropValue.{PropValue}
 use Rattle.muck_prop.specs.Order.{path_cmp, path_cmp_total}
-use Rattle.muck_prop.specs.Store.{PropMap, IsKept, is_nothing}
-
+use Rattle.muck_prop.specs.Store.{IsKept}
 
 pub path_cmp_same : IsAntisymmetric path_cmp
 path_cmp_same = slice_cmp-IsAntisymmetric (slice_cmp-IsAntisymmetric nat_cmp-IsAntisymmetric)
@@ -39,18 +38,18 @@ pub inserted : (k : List (List ℕ)) (v : PropValue) (es fs : List (List (List �
     → from_entries {R = path_cmp} fs ≡ insert (from_entries es) k v
 inserted k v es fs told =
     same_map path_cmp_total path_cmp_same _ _ (λ q.
-      get_is q fs ∙ told q
-      ∙ (λ i. cond (turned k q i) (Some v) (sym (get_is q es) i))
-      ∙ sym (get-insert path_cmp_total (from_entries es) k v q))
+    get_is q fs ∙ told q
+    ∙ (λ i. cond (turned k q i) (Some v) (sym (get_is q es) i))
+    ∙ sym (get-insert path_cmp_total (from_entries es) k v q))
 
 pub removed : (k : List (List ℕ)) (es fs : List (List (List ℕ) × PropValue))
     → ((q : List (List ℕ)) → lookup (is_at (path_cmp q)) fs ≡ cond (is_at (path_cmp k) q) None (lookup (is_at (path_cmp q)) es))
     → from_entries {R = path_cmp} fs ≡ remove (from_entries es) k
 removed k es fs told =
     same_map path_cmp_total path_cmp_same _ _ (λ q.
-      get_is q fs ∙ told q
-      ∙ (λ i. cond (turned k q i) None (sym (get_is q es) i))
-      ∙ sym (get-remove path_cmp_total (from_entries es) k q))
+    get_is q fs ∙ told q
+    ∙ (λ i. cond (turned k q i) None (sym (get_is q es) i))
+    ∙ sym (get-remove path_cmp_total (from_entries es) k q))
 
 -- the paths, in their order
 put_first : (k : List (List ℕ)) (v : PropValue) (es : List (List (List ℕ) × PropValue)) → AllByRecursion (λ q. path_cmp k q ≡ Less) (keys_of es) → put path_cmp k v es ≡ (k, v) ∷ es

@@ -1,14 +1,12 @@
 -- What is read from a text that has no fault is a path.
-use Rattle.std.proofs.Common.{◌≡◌, ◌≢◌, ℕ, zero, suc, ◌+◌, ◌<◌, ◌≤◌, Bool, true, false, cond, not, ◌||◌, ◌⊎◌, List, [], ◌∷◌, map, length, nat_lt, refl, ap, sym, subst, ◌∙◌, arith}
+use Rattle.std.proofs.Common.{◌≡◌, ℕ, suc, ◌+◌, ◌≤◌, Bool, true, false, cond, not, ◌||◌, List, [], ◌∷◌, map, length, nat_lt, refl, sym, subst, arith}
 use Rattle.std.proofs.lemmas.Bool.{ltb-false, eqb-false}
 use Rattle.std.specs.Prelude.{Option, None, Some, if◌then◌else◌, ◌==◌}
 use Rattle.std.specs.Char.{to_ascii_lowercase}
 use Rattle.std.specs.List.{AllByRecursion, filter, list_any, slice_split, onto_first, position, position_or_len}
-use Rattle.std.specs.Option.{option_map}
 use Rattle.muck_model.specs.Bytes.{is_outside, text_fault, text_most}
 use Rattle.muck_model.specs.Bytes as model
-use Rattle.muck_prop.specs.Paths.{is_slash, is_filled, is_barred, segments_of, path_text, is_bad_path, path_fault, fault_of, IsSegmentByte, IsSegment, IsPath}
-use Rattle.muck_prop.specs.declared.path.PropFault.{PropFault}
+use Rattle.muck_prop.specs.Paths.{is_slash, is_filled, is_barred, segments_of, path_text, is_bad_path, fault_of, IsSegmentByte, IsSegment, IsPath}
 use Rattle.muck_prop.specs.declared.path.PropFault.TheVariants.{BadPath, TooDeep}
 
 pub lowered_byte : (b : ℕ) → is_outside b ≡ false → is_barred b ≡ false → is_slash b ≡ false → IsSegmentByte (to_ascii_lowercase b)

@@ -1,10 +1,10 @@
 -- What continues a path stands together in the order of paths, right after it.
-use Rattle.std.proofs.Common.{◌≡◌, ℕ, zero, suc, ◌<◌, ◌≤◌, Bool, true, false, cond, ◌&&◌, ◌||◌, ◌⊎◌, List, [], ◌∷◌, ◌++◌, length, take, bytes_eq, refl, ap, sym, subst, ◌∙◌, arith}
+use Rattle.std.proofs.Common.{◌≡◌, ℕ, Bool, true, false, cond, ◌&&◌, ◌||◌, ◌⊎◌, List, [], ◌∷◌, ◌++◌, bytes_eq, refl, ap, sym, ◌∙◌, arith}
 use mathlib.Core.Logic.{inl, inr}
 use Rattle.std.specs.Prelude.{Option, None, Some, if◌then◌else◌}
-use Rattle.std.specs.Ordering.{nat_cmp, ordering_then, ordering_reverse, is_eq, is_lt, is_le, is_gt}
-use Rattle.std.specs.Cmp.{IsTotalOrder, alike_right, tied_itself, tied_back}
-use Rattle.std.specs.Cmp.Lexicographic.{slice_cmp, texts_ties, nat_list_cmp_total}
+use Rattle.std.specs.Ordering.{nat_cmp, ordering_then, ordering_reverse, is_eq, is_lt, is_le}
+use Rattle.std.specs.Cmp.{alike_right, tied_itself}
+use Rattle.std.specs.Cmp.Lexicographic.{texts_ties, nat_list_cmp_total}
 use Rattle.std.specs.Cmp.{nat_cmp_total}
 use Rattle.std.specs.declared.cmp.Ordering.{Ordering}
 use Rattle.std.specs.declared.cmp.Ordering.TheVariants.{Less, Equal, Greater}
@@ -67,6 +67,7 @@ convex (s ∷ p) (t ∷ q) (u ∷ r) h g b =
     and_false : (x : Bool) → (x && false) ≡ false
     and_false true = refl
     and_false false = refl
+
     apart : segment_cmp s u ≡ Less → (bytes_eq s u && is_below p r) ≡ false
     apart less = ap (λ x. x && is_below p r) (other_segment s u less)
 
@@ -122,7 +123,7 @@ module _ (p : List (List ℕ)) (start : List (List ℕ) → Bool) (later : (q : 
 
 -- ---- starts of a search
 
-is_less : (r : Ordering) → is_lt r ≡ true → r ≡ Less
+pub is_less : (r : Ordering) → is_lt r ≡ true → r ≡ Less
 is_less Less h = refl
 is_less Equal h = cc
 is_less Greater h = cc

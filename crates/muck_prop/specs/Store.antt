@@ -1,5 +1,5 @@
 -- The properties of one object, as a map from paths to values.
-use Rattle.std.specs.Prelude.{◌≡◌, ℕ, Bool, true, false, ◌&&◌, ◌==◌, ◌⊎◌, pos, if◌then◌else◌, List, [], ◌∷◌, ◌++◌, Option, None, Some, IsSome, is_some, length}
+use Rattle.std.specs.Prelude.{◌≡◌, ℕ, Bool, true, false, ◌&&◌, ◌==◌, ◌⊎◌, pos, if◌then◌else◌, List, [], ◌∷◌, ◌++◌, Option, None, Some, is_some, length}
 use Rattle.std.specs.List.{list_any}
 use Rattle.std.specs.Ordering.{is_lt, is_gt, int_eq}
 use Rattle.std.specs.FinMap.{FinMap, get, insert, remove, keys}

@@ -11,6 +11,7 @@ use std::marker::Model;
 
 // The most bytes of a path's text, and the most segments.
 const BYTES_MOST: usize = 128;
+
 const SEGMENTS_MOST: usize = 16;
 
 /// Why a text is no path.

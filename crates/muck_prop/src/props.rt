@@ -1,14 +1,15 @@
 // The properties of one object.
-ghost use Rattle.std.specs.Prelude.{◌≡◌, [], Some, None, IfOk, IfSome, OnOk, OnErr, is_some, is_ok, true, Ok, Err};
+ghost use Rattle.std.specs.Prelude.{◌≡◌, [], Some, None, IfOk, IfSome, OnOk, OnErr, is_some, is_ok, true, length, ◌≤◌, Ok, Err};
 ghost use Rattle.std.specs.Option.{option_copied, unwrap_or};
 ghost use Rattle.std.specs.FinMap as map;
 ghost use Rattle.std.specs.Range.Bound.{bound_map};
-ghost use Rattle.std.specs.List.{find};
+ghost use Rattle.std.specs.List.{AllByRecursion, find};
+ghost use Rattle.muck_prop.specs.Paths.{IsPath};
 ghost use Rattle.std.specs.Map.{keys_of};
 ghost use Rattle.std.specs.BTreeMap.{IsOrdered};
 ghost use Rattle.std.specs.BTreeMap.Range.{is_from_start};
 ghost use Rattle.muck_prop.specs.Order.{path_cmp};
-ghost use Rattle.muck_prop.specs.Store.{stored, is_dir, next_child, is_nothing};
+ghost use Rattle.muck_prop.specs.Store.{stored, is_dir, next_child, found_child, path_or_top, is_nothing, IsKept};
 
 use crate::path::Path;
 use crate::segments::Segments;
@@ -29,7 +30,6 @@ pub struct Props {
 impl Model for Props {
     ghost use Rattle.std.specs.FinMap as map;
     ghost use Rattle.muck_prop.specs.Store.{PropMap};
-
     ghost use Rattle.std.specs.Coded.{coded_list, coded_ℕ};
     ghost use Rattle.muck_prop.specs.contracts.value.PropValue as value;
 
@@ -46,14 +46,39 @@ impl Model for Props {
 }
 
 // The first path within a start.
-fn first_from<'a>(values: &'a BTreeMap<Segments, PropValue>, start: Bound<&Segments>) -> Option<&'a Segments>
+fn first_from<'a>(
+    values: &'a BTreeMap<Segments, PropValue>,
+    start: Bound<&Segments>,
+) -> Option<&'a Segments>
     ensures first { option_copied result ≡ find (is_from_start path_cmp (bound_map (λ x. x.now) start.entry)) (keys_of values.now.entries) }
+    ensures kept { AllByRecursion IsKept values.now.entries → IfSome result (λ path. IsPath path.now) }
     ensures ordered { IsOrdered path_cmp values.now }
 {
     let mut range = values.range((start, Bound::Unbounded));
     match range.next() {
         Some((path, _)) => Some(path),
         None => None,
+    }
+}
+
+// The first stored path that may lead to the next child of `dir`: the first past all that continues the child of `dir`
+// on the way to `after`, or the first right after `dir` where no child of it is up to `after`.
+fn first_past<'a>(
+    alloc: Global,
+    values: &'a BTreeMap<Segments, PropValue>,
+    dir: &Segments,
+    after: Option<&Path>,
+) -> Result<Option<&'a Segments>, NoMemory>
+    requires { length dir.now ≤ 16 }
+    ensures leads { IfOk result (λ first. found_child dir.now (option_copied first) ≡ next_child dir.now (option_copied after.entry) (map.from_entries values.now.entries)) }
+    ensures kept { AllByRecursion IsKept values.now.entries → IfOk result (λ first. IfSome first (λ path. IsPath path.now)) }
+{
+    match after {
+        Some(after) if dir.cmp(&after.segments).is_lt() => {
+            let past = after.segments.past(alloc, dir.len() + 1)?;
+            Ok(first_from(values, Bound::Included(&past)))
+        }
+        _ => Ok(first_from(values, Bound::Excluded(dir))),
     }
 }
 
@@ -107,5 +132,29 @@ impl Props {
         let Path { segments } = path;
         self.values.insert(segments, value)?;
         Ok(())
+    }
+
+    /// The least child path of `dir` after `after`, or the least of all where none is given. A child is one segment
+    /// longer than `dir`, and has a value or is a directory. Where `dir` isn't given, the top is meant.
+    pub fn next(
+        &self,
+        alloc: Global,
+        dir: Option<&Path>,
+        after: Option<&Path>,
+    ) -> Result<Option<Path>, NoMemory>
+        ensures next { IfOk result (λ child. child ≡ next_child (path_or_top (option_copied dir.entry)) (option_copied after.entry) self.now) }
+    {
+        let top = Segments::new(alloc);
+        let dir = match dir {
+            Some(path) => &path.segments,
+            None => &top,
+        };
+        match first_past(alloc, &self.values, dir, after)? {
+            Some(first) if first.is_below(dir) => {
+                let segments = first.first(alloc, dir.len() + 1)?;
+                Ok(Some(Path { segments }))
+            }
+            _ => Ok(None),
+        }
     }
 }

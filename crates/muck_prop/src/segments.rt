@@ -2,7 +2,7 @@
 ghost use Rattle.std.specs.Prelude.{◌≡◌, ◌++◌, ◌∷◌, [], Some, None, IfOk, OnOk, length, take, refl, Ok, Err};
 ghost use Rattle.std.specs.List.{list_any};
 ghost use Rattle.std.specs.Cmp.{on_equiv, on_total, on_po, on_per, partial_equiv_from_equiv};
-ghost use Rattle.muck_prop.specs.Order.{path_cmp, path_eq, path_cmp_total, path_eq_equiv, path_ties, path_po, is_below};
+ghost use Rattle.muck_prop.specs.Order.{path_cmp, path_eq, path_cmp_total, path_eq_equiv, path_ties, path_po, is_below, past};
 ghost use Rattle.muck_prop.specs.Paths.{segments_of, path_text, is_slash, begins_with};
 
 use crate::segment::Segment;
@@ -93,6 +93,19 @@ impl Segments {
         ensures { IfOk result (λ s. s ≡ self.now) }
     {
         self.first(alloc, self.items.len())
+    }
+
+    // The least list of segments above all that continue the first `count` of these.
+    #[tactic(auto, using(crate::proofs::Sequence::past_push))]
+    pub(crate) fn past(&self, alloc: Global, count: usize) -> Result<Segments, NoMemory>
+        ensures { IfOk result (λ s. s ≡ past (take count self.now)) }
+    {
+        let Segments { mut items } = self.first(alloc, count)?;
+        let Some(last) = items.pop() else {
+            return Ok(Segments { items });
+        };
+        items.push(last.successor()?)?;
+        Ok(Segments { items })
     }
 
     // Whether any of them begins with a byte.

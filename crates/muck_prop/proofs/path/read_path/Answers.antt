@@ -1,7 +1,4 @@
-use Rattle.std.proofs.Common.{◌≡◌, sym, ◌∙◌, subst}
-use Rattle.std.specs.Prelude.{None}
-use Rattle.muck_model.specs.Bytes.{text_fault}
-use Rattle.muck_prop.specs.Paths.{fault_of}
+use Rattle.std.proofs.Common.{sym, ◌∙◌}
 use Rattle.muck_prop.proofs.Reading.{read_is_path}
 use Rattle.muck_prop.proofs.path.read_path.Goals as goal
 

@@ -1,5 +1,5 @@
-use Rattle.std.proofs.Common.{◌≡◌, ap, sym, ◌∙◌}
-use Rattle.std.specs.FinMap.{get, from_entries}
+use Rattle.std.proofs.Common.{sym, ◌∙◌}
+use Rattle.std.specs.FinMap.{get}
 use Rattle.muck_prop.proofs.Maps.{get_is}
 use Rattle.muck_prop.proofs.props.Props.get.Goals as goal
 

@@ -1,5 +1,4 @@
-use Rattle.std.proofs.Common.{◌≡◌, ap, sym, ◌∙◌}
-use Rattle.muck_prop.specs.Order.{path_cmp, is_below}
+use Rattle.std.proofs.Common.{ap, sym, ◌∙◌}
 use Rattle.muck_prop.specs.Store.{is_dir}
 use Rattle.muck_prop.proofs.First.{dir_by_first}
 use Rattle.muck_prop.proofs.Sequence.{found_below}

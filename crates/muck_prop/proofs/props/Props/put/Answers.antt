@@ -1,8 +1,8 @@
-use Rattle.std.proofs.Common.{◌≡◌, false, ap, sym, subst, ◌∙◌}
-use Rattle.std.specs.Prelude.{if◌then◌else◌, OnErr, None}
+use Rattle.std.proofs.Common.{ap, sym, subst, ◌∙◌}
+use Rattle.std.specs.Prelude.{if◌then◌else◌}
 use Rattle.std.specs.List.{AllByRecursion}
-use Rattle.std.specs.FinMap.{get, insert, remove, from_entries}
-use Rattle.muck_prop.specs.Store.{IsKept, is_nothing}
+use Rattle.std.specs.FinMap.{get, insert, remove}
+use Rattle.muck_prop.specs.Store.{IsKept}
 use Rattle.muck_prop.proofs.Maps.{get_is, inserted, kept_inserted, on_err}
 use Rattle.muck_prop.proofs.props.Props.put.Goals as goal
 

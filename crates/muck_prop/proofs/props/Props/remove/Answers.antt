@@ -1,6 +1,6 @@
-use Rattle.std.proofs.Common.{◌≡◌, is_some, ap, sym, subst, ◌∙◌}
+use Rattle.std.proofs.Common.{is_some, ap, sym, subst, ◌∙◌}
 use Rattle.std.specs.List.{AllByRecursion}
-use Rattle.std.specs.FinMap.{get, remove, from_entries}
+use Rattle.std.specs.FinMap.{get, remove}
 use Rattle.muck_prop.specs.Store.{IsKept}
 use Rattle.muck_prop.proofs.Maps.{get_is, removed, kept_removed}
 use Rattle.muck_prop.proofs.props.Props.remove.Goals as goal

@@ -1,4 +1,4 @@
-use Rattle.std.proofs.Common.{◌≡◌, ◌<◌, ◌≤◌, length, nat_lt, false, sym, ◌∙◌, arith, rules}
+use Rattle.std.proofs.Common.{◌<◌, ◌≤◌, length, arith}
 use Rattle.muck_prop.proofs.Below.{below_by_start, below_is_longer}
 use Rattle.muck_prop.proofs.segments.Segments.is_below.Goals as goal
 

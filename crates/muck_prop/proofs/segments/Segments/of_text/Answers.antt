@@ -1,4 +1,4 @@
-use Rattle.std.proofs.Common.{◌≡◌, ◌∙◌, ap, map, rules, tests}
+use Rattle.std.proofs.Common.{◌∙◌, ap, map, rules, tests}
 use Rattle.std.specs.Char.{to_ascii_lowercase}
 use Rattle.std.specs.List.{filter}
 use Rattle.std.proofs.lemmas.Iterator.Consumers.{YieldsList-end}

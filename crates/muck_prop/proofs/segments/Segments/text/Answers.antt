@@ -1,4 +1,4 @@
-use Rattle.std.proofs.Common.{◌≡◌, ◌<◌, ◌≤◌, ◌++◌, ◌∷◌, [], length, sym, ◌∙◌, ap, append_assoc, arith, rules}
+use Rattle.std.proofs.Common.{◌++◌, ◌∷◌, [], sym, ◌∙◌, ap, append_assoc, arith}
 use Rattle.muck_prop.proofs.Texts.{join_more, join_first}
 use Rattle.muck_prop.proofs.segments.Segments.text.Goals as goal
 use Rattle.muck_prop.proofs.segments.Segments.text.Goals.{then-i-gt0+in_ok-push, else-i-gt0}
