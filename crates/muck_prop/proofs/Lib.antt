@@ -5,3 +5,4 @@ pub mod Writing
 pub mod Maps
 pub mod Sequence
 pub mod First
+pub mod Least

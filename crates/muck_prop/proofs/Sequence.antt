@@ -15,12 +15,12 @@ use Rattle.muck_prop.specs.Store.{is_after, next_among, found_child}
 
 -- ---- answers of comparisons
 
-then_less : (r x : Ordering) → ordering_then r x ≡ Less → (r ≡ Less) ⊎ ((r ≡ Equal) × (x ≡ Less))
+pub then_less : (r x : Ordering) → ordering_then r x ≡ Less → (r ≡ Less) ⊎ ((r ≡ Equal) × (x ≡ Less))
 then_less Less x h = inl refl
 then_less Equal x h = inr (refl, h)
 then_less Greater x h = cc
 
-and_true : (a b : Bool) → (a && b) ≡ true → (a ≡ true) × (b ≡ true)
+pub and_true : (a b : Bool) → (a && b) ≡ true → (a ≡ true) × (b ≡ true)
 and_true true true h = (refl, refl)
 and_true true false h = cc
 and_true false b h = cc
@@ -30,7 +30,7 @@ equal_then Less h = cc
 equal_then Equal h = refl
 equal_then Greater h = cc
 
-same_segment : (s t : List ℕ) → bytes_eq s t ≡ true → segment_cmp s t ≡ Equal
+pub same_segment : (s t : List ℕ) → bytes_eq s t ≡ true → segment_cmp s t ≡ Equal
 same_segment s t h = equal_then (segment_cmp s t) (sym (texts_ties s t) ∙ h)
 
 other_segment : (s t : List ℕ) → segment_cmp s t ≡ Less → bytes_eq s t ≡ false

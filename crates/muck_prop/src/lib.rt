@@ -7,6 +7,9 @@ mod segment;
 mod segments;
 mod value;
 
+#[cfg(test)]
+mod tests;
+
 pub use path::{Class, Path, PropFault, read_path};
 pub use props::Props;
 pub use value::PropValue;

@@ -9,7 +9,7 @@ ghost use Rattle.std.specs.Map.{keys_of};
 ghost use Rattle.std.specs.BTreeMap.{IsOrdered};
 ghost use Rattle.std.specs.BTreeMap.Range.{is_from_start};
 ghost use Rattle.muck_prop.specs.Order.{path_cmp};
-ghost use Rattle.muck_prop.specs.Store.{stored, is_dir, next_child, found_child, path_or_top, is_nothing, IsKept};
+ghost use Rattle.muck_prop.specs.Store.{stored, is_dir, next_child, found_child, path_or_top, is_nothing, IsKept, IsLeastChild};
 
 use crate::path::Path;
 use crate::segments::Segments;
@@ -136,13 +136,16 @@ impl Props {
 
     /// The least child path of `dir` after `after`, or the least of all where none is given. A child is one segment
     /// longer than `dir`, and has a value or is a directory. Where `dir` isn't given, the top is meant.
-    pub fn next(
-        &self,
-        alloc: Global,
-        dir: Option<&Path>,
-        after: Option<&Path>,
-    ) -> Result<Option<Path>, NoMemory>
+    pub fn next(&self, alloc: Global, dir: Option<&Path>, after: Option<&Path>) -> Result<Option<Path>, NoMemory>
         ensures next { IfOk result (λ child. child ≡ next_child (path_or_top (option_copied dir.entry)) (option_copied after.entry) self.now) }
+        ensures least { IfOk result (λ child. IsLeastChild self.now (path_or_top (option_copied dir.entry)) (option_copied after.entry) child) }
+    {
+        let child = self.search(alloc, dir, after)?;
+        Ok(child)
+    }
+
+    fn search(&self, alloc: Global, dir: Option<&Path>, after: Option<&Path>) -> Result<Option<Path>, NoMemory>
+        ensures { IfOk result (λ child. child ≡ next_child (path_or_top (option_copied dir.entry)) (option_copied after.entry) self.now) }
     {
         let top = Segments::new(alloc);
         let dir = match dir {
