@@ -5,10 +5,9 @@ mod path;
 mod props;
 mod segment;
 mod segments;
-mod value;
-
 #[cfg(test)]
 mod tests;
+mod value;
 
 pub use path::{Class, Path, PropFault, read_path};
 pub use props::Props;

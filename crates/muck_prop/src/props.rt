@@ -1,5 +1,5 @@
 // The properties of one object.
-ghost use Rattle.std.specs.Prelude.{◌≡◌, [], Some, None, IfOk, IfSome, OnOk, OnErr, is_some, is_ok, true, length, ◌≤◌, Ok, Err};
+ghost use Rattle.std.specs.Prelude.{◌≡◌, [], Some, None, IfOk, IfSome, OnOk, OnErr, is_some, is_ok, true, false, length, ◌≤◌, Ok, Err};
 ghost use Rattle.std.specs.Option.{option_copied, unwrap_or};
 ghost use Rattle.std.specs.FinMap as map;
 ghost use Rattle.std.specs.Range.Bound.{bound_map};
@@ -92,9 +92,10 @@ impl Props {
         })
     }
 
-    /// The value at a path.
+    /// The value at a path, which is no empty text and not 0.
     pub fn get(&self, path: &Path) -> Option<&PropValue>
-        ensures { option_copied result ≡ map.get self.now path.now }
+        ensures value { option_copied result ≡ map.get self.now path.now }
+        ensures something { IfSome result (λ value. is_nothing value.now ≡ false) }
     {
         self.values.get(&path.segments)
     }
@@ -136,7 +137,12 @@ impl Props {
 
     /// The least child path of `dir` after `after`, or the least of all where none is given. A child is one segment
     /// longer than `dir`, and has a value or is a directory. Where `dir` isn't given, the top is meant.
-    pub fn next(&self, alloc: Global, dir: Option<&Path>, after: Option<&Path>) -> Result<Option<Path>, NoMemory>
+    pub fn next(
+        &self,
+        alloc: Global,
+        dir: Option<&Path>,
+        after: Option<&Path>,
+    ) -> Result<Option<Path>, NoMemory>
         ensures next { IfOk result (λ child. child ≡ next_child (path_or_top (option_copied dir.entry)) (option_copied after.entry) self.now) }
         ensures least { IfOk result (λ child. IsLeastChild self.now (path_or_top (option_copied dir.entry)) (option_copied after.entry) child) }
     {
@@ -144,7 +150,12 @@ impl Props {
         Ok(child)
     }
 
-    fn search(&self, alloc: Global, dir: Option<&Path>, after: Option<&Path>) -> Result<Option<Path>, NoMemory>
+    fn search(
+        &self,
+        alloc: Global,
+        dir: Option<&Path>,
+        after: Option<&Path>,
+    ) -> Result<Option<Path>, NoMemory>
         ensures { IfOk result (λ child. child ≡ next_child (path_or_top (option_copied dir.entry)) (option_copied after.entry) self.now) }
     {
         let top = Segments::new(alloc);

@@ -51,9 +51,15 @@ fn reads_paths(rt: HostRuntime) -> Result<(), Fail> {
         ("a:b", "!"),
         ("a/:", "!"),
         ("a\rb", "!"),
-        ("a/b/c/d/e/f/g/h/i/j/k/l/m/n/o/p", "a/b/c/d/e/f/g/h/i/j/k/l/m/n/o/p"),
+        (
+            "a/b/c/d/e/f/g/h/i/j/k/l/m/n/o/p",
+            "a/b/c/d/e/f/g/h/i/j/k/l/m/n/o/p",
+        ),
         ("a/b/c/d/e/f/g/h/i/j/k/l/m/n/o/p/q", "!!"),
-        ("/a/b/c/d/e/f/g/h/i/j/k/l/m/n/o/p//", "a/b/c/d/e/f/g/h/i/j/k/l/m/n/o/p"),
+        (
+            "/a/b/c/d/e/f/g/h/i/j/k/l/m/n/o/p//",
+            "a/b/c/d/e/f/g/h/i/j/k/l/m/n/o/p",
+        ),
         ("a/b/c/d/e/f/g/h/i/j/k/l/m/n/o/p/q:", "!"),
     ];
     for (text, want) in rows {
@@ -67,12 +73,21 @@ fn bounds_paths(rt: HostRuntime) -> Result<(), Fail> {
     let alloc = rt.alloc();
     // 128 bytes are let through, and 129 are not, however many segments they are.
     let longest = repeated(alloc, "abcdefgh", 16)?;
-    assert_eq!(rt; reading(alloc, longest.as_str())?.as_slice(), longest.as_bytes());
+    assert_eq!(rt;
+        reading(alloc, longest.as_str())?.as_slice(),
+        longest.as_bytes()
+    );
     let slashes = repeated(alloc, "/", 100)?;
     let padded = format!(in alloc; "{slashes}{longest}/")?;
-    assert_eq!(rt; reading(alloc, padded.as_str())?.as_slice(), longest.as_bytes());
+    assert_eq!(rt;
+        reading(alloc, padded.as_str())?.as_slice(),
+        longest.as_bytes()
+    );
     let longer = format!(in alloc; "{longest}i")?;
-    assert_eq!(rt; reading(alloc, longer.as_str())?.as_slice(), b"!".as_slice());
+    assert_eq!(rt;
+        reading(alloc, longer.as_str())?.as_slice(),
+        b"!".as_slice()
+    );
     let deep = repeated(alloc, "abc/", 33)?;
     assert_eq!(rt; reading(alloc, deep.as_str())?.as_slice(), b"!".as_slice());
     Ok(())
@@ -137,9 +152,18 @@ fn children(alloc: Global, props: &Props, dir: Option<&Path>) -> Result<String, 
 #[test]
 fn walks_directories(rt: HostRuntime) -> Result<(), Fail> {
     let alloc = rt.alloc();
-    let props = filled(alloc, &["b", "a b", "a/x/y", "a/x", "ab", "a/z/1/2", "c/d/e"])?;
+    let props = filled(
+        alloc,
+        &["b", "a b", "a/x/y", "a/x", "ab", "a/z/1/2", "c/d/e"],
+    )?;
     assert_eq!(rt; children(alloc, &props, None)?.as_str(), "a;a b;ab;b;c;");
-    let rows = [("a", "a/x;a/z;"), ("a/z", "a/z/1;"), ("c", "c/d;"), ("b", ""), ("q", "")];
+    let rows = [
+        ("a", "a/x;a/z;"),
+        ("a/z", "a/z/1;"),
+        ("c", "c/d;"),
+        ("b", ""),
+        ("q", ""),
+    ];
     for (dir, want) in rows {
         let dir = path(alloc, dir)?;
         assert_eq!(rt; children(alloc, &props, Some(&dir))?.as_str(), want);
@@ -147,7 +171,13 @@ fn walks_directories(rt: HostRuntime) -> Result<(), Fail> {
     }
     // A path elsewhere may be given too: what counts is the order.
     let dir = path(alloc, "a")?;
-    let rows = [("Z", ""), ("0", "a/x"), ("a/x/y/z", "a/z"), ("a/y", "a/z"), ("a/z", "")];
+    let rows = [
+        ("Z", ""),
+        ("0", "a/x"),
+        ("a/x/y/z", "a/z"),
+        ("a/y", "a/z"),
+        ("a/z", ""),
+    ];
     for (after, want) in rows {
         let text = match props.next(alloc, Some(&dir), Some(&path(alloc, after)?))? {
             Some(child) => child.text(alloc)?,
