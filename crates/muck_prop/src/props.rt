@@ -163,9 +163,10 @@ impl Props {
             Some(path) => &path.segments,
             None => &top,
         };
+        let depth = dir.len();
         match first_past(alloc, &self.values, dir, after)? {
             Some(first) if first.is_below(dir) => {
-                let segments = first.first(alloc, dir.len() + 1)?;
+                let segments = first.first(alloc, depth + 1)?;
                 Ok(Some(Path { segments }))
             }
             _ => Ok(None),

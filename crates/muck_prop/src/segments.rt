@@ -45,6 +45,7 @@ impl Segments {
                 items.push(Segment::lowered(alloc, part)?)?;
             }
         }
+        items.shrink_to_fit();
         Ok(Segments { items })
     }
 
@@ -81,7 +82,7 @@ impl Segments {
         ensures { IfOk result (λ s. s ≡ take count self.now) }
     {
         let count = count.min(self.items.len());
-        let mut items = Vec::new(alloc);
+        let mut items = Vec::with_capacity(alloc, count)?;
         for segment in &self.items[..count] {
             items.push(segment.copy(alloc)?)?;
         }
