@@ -1,2 +1,4 @@
 mod Rows
+pub mod Places
+pub mod Depth
 pub mod Walks

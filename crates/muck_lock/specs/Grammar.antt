@@ -1,6 +1,6 @@
 -- The texts of locks: what they are read as, and where reading fails.
-use Rattle.std.specs.Prelude.{ℕ, ◌-◌, zero, suc, Bool, true, false, not, ◌&&◌, ◌||◌, ◌==◌, if◌then◌else◌, List, [], ◌∷◌, length, drop, Option, Some, None, Result, Ok, Err}
-use Rattle.std.specs.List.{list_any, before_first, after_first, position_or_len}
+use Rattle.std.specs.Prelude.{ℕ, ◌+◌, ◌-◌, zero, suc, Bool, ◌||◌, ◌==◌, if◌then◌else◌, List, [], ◌∷◌, length, take, drop, Option, Some, None, Result, Ok, Err}
+use Rattle.std.specs.List.{before_first, position, position_or_len}
 use Rattle.muck_model.specs.Numbers.{dbref_of}
 use Rattle.muck_model.specs.declared.dbref.Dbref.{Dbref}
 use Rattle.muck_model.specs.declared.lock.Lock.{Lock}
@@ -25,14 +25,18 @@ object_key names (Some d) = if names.is_program d then None else Some (Object d)
 abbrev pub property_key : List ℕ → List ℕ → Option Lock
 property_key path value = if is_path path then Some (Prop path value) else None
 
+-- behind a `:` stands a value; where there is none, the key is a name
+abbrev pub named_key : Naming → List ℕ → Option ℕ → Option Lock
+named_key names key None = object_key names (names.find key)
+named_key names key (Some colon) = property_key (take colon key) (drop (colon + 1) key)
+
 -- the key that is written so: a number of an object, a player, a property with its value, or a name
 abbrev pub key_of : Naming → List ℕ → Option Lock
 key_of names [] = None
 key_of names (b ∷ more) =
     if b == 35 then object_key names (dbref_of (b ∷ more))
     else if b == 42 then object_key names (names.find (b ∷ more))
-    else if list_any is_colon (b ∷ more) then property_key (before_first is_colon (b ∷ more)) (after_first is_colon (b ∷ more))
-    else object_key names (names.find (b ∷ more))
+    else named_key names (b ∷ more) (position is_colon (b ∷ more))
 
 -- What was read, with the bytes behind it; or the bytes from the place on where reading fails.
 abbrev pub Reading : Type 0
@@ -100,6 +104,10 @@ unfoldable pub part_of : Naming → ℕ → Part → List ℕ → Reading
 part_of names zero part text = Err text
 part_of names (suc depth) part text = part_in names (part_of names depth) part text
 
+-- a part, nested as deeply as its text allows
+abbrev pub reading : Naming → Part → List ℕ → Reading
+reading names part text = part_of names (suc (length text)) part text
+
 -- nothing may be left behind it
 abbrev pub whole_of : ℕ → Lock → List ℕ → Result Lock ℕ
 whole_of size lock [] = Ok lock
@@ -112,4 +120,4 @@ whole size (Ok read) = whole_of size read.0 read.1
 -- The lock that a text is read as, or the place where reading fails first; the empty text is the free lock.
 abbrev pub lock_of : Naming → List ℕ → Result Lock ℕ
 lock_of names [] = Ok Free
-lock_of names (b ∷ more) = whole (length (b ∷ more)) (part_of names (suc (length (b ∷ more))) OneOf (b ∷ more))
+lock_of names (b ∷ more) = whole (length (b ∷ more)) (reading names OneOf (b ∷ more))

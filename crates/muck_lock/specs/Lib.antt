@@ -3,3 +3,5 @@ pub mod Paths
 pub mod Grammar
 pub mod Chain
 pub mod Opens
+pub mod Printed
+pub mod Waiting

@@ -1,7 +1,14 @@
 //! Locks: what a text of a lock means, how a lock is written, and for whom it opens.
 #![tactic(auto)]
 
+mod fault;
+mod key;
 mod keys;
 mod part;
+mod path;
+mod print;
+mod read;
 
+pub use fault::LockFault;
+pub use key::Finder;
 pub use keys::{opens, Keys};

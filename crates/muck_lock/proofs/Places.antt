@@ -1,0 +1,80 @@
+-- The first place that passes a test, and texts inside texts.
+use Rattle.std.proofs.Common.{◌≡◌, ℕ, ◌<◌, ◌≤◌, zero, suc, Bool, true, false, cond, ltb, List, [], ◌∷◌, length, take, drop, Some, None, Option, refl, sym, ◌∙◌, ap, ◌+◌, inl, inr, arith}
+use Rattle.std.specs.Prelude.{not, nat_lt}
+use Rattle.std.specs.Option.{unwrap_or}
+use Rattle.std.specs.List.{position, position_or_len, prefix_len}
+use Rattle.std.proofs.lemmas.Bool.{cases_lt, lt-ltb, le-ltb}
+use Rattle.std.proofs.lemmas.List.{length-take, length-drop}
+use Rattle.std.proofs.lemmas.List.Sums.{prefix_len-le-length}
+use Rattle.muck_model.specs.Bytes.{is_outside, text_most, fault_of, text_fault}
+
+pub position_or_end : (p : ℕ → Bool) (xs : List ℕ) → unwrap_or (position p xs) (length xs) ≡ position_or_len p xs
+position_or_end p xs =
+    elim (cases_lt (position_or_len p xs) (length xs)) [
+      | inl inside ↦ rw (lt-ltb (position_or_len p xs) (length xs) inside) refl
+      | inr past ↦ rw (le-ltb (position_or_len p xs) (length xs) past) (omega (arith, past, prefix_len-le-length (λ x. not (p x)) xs))
+    ]
+
+abbrev is_inside : ℕ → Bool
+is_inside b = not (is_outside b)
+
+-- all bytes are those of texts, and not too many
+IsClean : List ℕ → Type 0
+IsClean xs = (prefix_len is_inside xs ≡ length xs) × (length xs ≤ text_most)
+
+short_from : (n : ℕ) → fault_of None n ≡ None → n ≤ text_most
+short_from n h =
+    elim (cases_lt text_most n) [
+      | inl over ↦ absurd (let e : Some text_most ≡ None = rw (lt-ltb text_most n over) at h in cc)
+      | inr le ↦ le
+    ]
+
+no_fault : (n : ℕ) → n ≤ text_most → fault_of None n ≡ None
+no_fault n le = rw (le-ltb text_most n le) refl
+
+clean_from : (xs : List ℕ) → text_fault xs ≡ None → IsClean xs
+unfolding IsClean
+clean_from xs h =
+    elim (cases_lt (position_or_len is_outside xs) (length xs)) [
+      | inl inside ↦ absurd (let e : fault_of (cond true (Some (position_or_len is_outside xs)) None) (length xs) ≡ None = rw (lt-ltb (position_or_len is_outside xs) (length xs) inside) at h in cc)
+      | inr past ↦ (omega (arith, past, prefix_len-le-length is_inside xs), short_from (length xs) (rw (le-ltb (position_or_len is_outside xs) (length xs) past) at h))
+    ]
+
+text_from : (xs : List ℕ) → IsClean xs → text_fault xs ≡ None
+unfolding IsClean
+text_from xs h =
+    let past : length xs ≤ position_or_len is_outside xs = omega (arith, h.0) in
+    rw (le-ltb (position_or_len is_outside xs) (length xs) past) (no_fault (length xs) h.1)
+
+inside-first : (b : ℕ) (xs : List ℕ) → prefix_len is_inside (b ∷ xs) ≡ suc (length xs) → (is_inside b ≡ true) × (prefix_len is_inside xs ≡ length xs)
+inside-first b xs = elim (is_inside b) as (λ t. cond t (1 + prefix_len is_inside xs) 0 ≡ suc (length xs) → (t ≡ true) × (prefix_len is_inside xs ≡ length xs)) [
+  | true ↦ λ h. (refl, omega (arith, h))
+  | false ↦ λ h. absurd (omega (arith, h))
+]
+
+inside-take : (n : ℕ) (xs : List ℕ) → prefix_len is_inside xs ≡ length xs → prefix_len is_inside (take n xs) ≡ length (take n xs)
+inside-take zero xs h = refl
+inside-take (suc n) [] h = refl
+inside-take (suc n) (b ∷ xs) h =
+    let f = inside-first b xs h in
+    rw f.0 (omega (arith, inside-take n xs f.1))
+
+inside-drop : (n : ℕ) (xs : List ℕ) → prefix_len is_inside xs ≡ length xs → prefix_len is_inside (drop n xs) ≡ length (drop n xs)
+inside-drop zero xs h = h
+inside-drop (suc n) [] h = refl
+inside-drop (suc n) (b ∷ xs) h = inside-drop n xs (inside-first b xs h).1
+
+-- a part of a text is a text
+pub text_fault-take : (n : ℕ) (xs : List ℕ) → text_fault xs ≡ None → text_fault (take n xs) ≡ None
+unfolding IsClean
+text_fault-take n xs h =
+    let c : IsClean xs = clean_from xs h in
+    text_from (take n xs) (inside-take n xs c.0, omega (arith, c.1, length-take n xs))
+
+pub text_fault-drop : (n : ℕ) (xs : List ℕ) → text_fault xs ≡ None → text_fault (drop n xs) ≡ None
+unfolding IsClean
+text_fault-drop n xs h =
+    let c : IsClean xs = clean_from xs h in
+    text_from (drop n xs) (inside-drop n xs c.0, omega (arith, c.1, length-drop n xs))
+
+pub ruleset parts_of_texts = (text_fault-take, text_fault-drop)
