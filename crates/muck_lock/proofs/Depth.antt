@@ -11,7 +11,7 @@ use Rattle.muck_lock.specs.declared.part.Part.{Part}
 use Rattle.muck_lock.specs.declared.part.Part.TheVariants.{OneOf, AllOf, Term}
 
 -- what is left is shorter than n
-abbrev IsBelow : ℕ → Reading → Type 0
+abbrev pub IsBelow : ℕ → Reading → Type 0
 IsBelow n (Err rest) = Unit {0}
 IsBelow n (Ok read) = length read.1 < n
 

@@ -1,4 +1,6 @@
 mod Rows
 pub mod Places
 pub mod Depth
+pub mod Passing
+pub mod Lasts
 pub mod Walks

@@ -1,9 +1,9 @@
 -- The first place that passes a test, and texts inside texts.
 use Rattle.std.proofs.Common.{◌≡◌, ℕ, ◌<◌, ◌≤◌, zero, suc, Bool, true, false, cond, ltb, List, [], ◌∷◌, length, take, drop, Some, None, Option, refl, sym, ◌∙◌, ap, ◌+◌, inl, inr, arith}
-use Rattle.std.specs.Prelude.{not, nat_lt}
+use Rattle.std.specs.Prelude.{not, nat_lt, ◌==◌}
 use Rattle.std.specs.Option.{unwrap_or}
 use Rattle.std.specs.List.{position, position_or_len, prefix_len}
-use Rattle.std.proofs.lemmas.Bool.{cases_lt, lt-ltb, le-ltb}
+use Rattle.std.proofs.lemmas.Bool.{cases_lt, lt-ltb, le-ltb, cases_eq, false≢true}
 use Rattle.std.proofs.lemmas.List.{length-take, length-drop}
 use Rattle.std.proofs.lemmas.List.Sums.{prefix_len-le-length}
 use Rattle.muck_model.specs.Bytes.{is_outside, text_most, fault_of, text_fault}
@@ -14,6 +14,11 @@ position_or_end p xs =
       | inl inside ↦ rw (lt-ltb (position_or_len p xs) (length xs) inside) refl
       | inr past ↦ rw (le-ltb (position_or_len p xs) (length xs) past) (omega (arith, past, prefix_len-le-length (λ x. not (p x)) xs))
     ]
+
+pub position_or_len-within : (p : ℕ → Bool) (xs : List ℕ) → position_or_len p xs ≤ length xs
+position_or_len-within p xs = prefix_len-le-length (λ x. not (p x)) xs
+
+pub ruleset ends = (position_or_end, position_or_len-within)
 
 abbrev is_inside : ℕ → Bool
 is_inside b = not (is_outside b)
@@ -78,3 +83,6 @@ text_fault-drop n xs h =
     text_from (drop n xs) (inside-drop n xs c.0, omega (arith, c.1, length-drop n xs))
 
 pub ruleset parts_of_texts = (text_fault-take, text_fault-drop)
+
+pub some_bytes : (n : ℕ) → false ≡ (n == 0) → 0 < n
+some_bytes n h = elim (cases_eq n 0) [ inl e ↦ absurd (false≢true (h ∙ ap (λ m. m == 0) e)) | inr ne ↦ omega (arith, ne) ]

@@ -1,5 +1,5 @@
 -- Reading in one pass: what waits for the part that is being read, and what becomes of it.
-use Rattle.std.specs.Prelude.{◌≡◌, ℕ, ◌<◌, ◌≤◌, Bool, true, false, not, ◌&&◌, ◌==◌, List, [], ◌∷◌, length, drop, reverse, Option, Some, None, Result, Ok, Err}
+use Rattle.std.specs.Prelude.{◌≡◌, ℕ, ◌+◌, ◌<◌, ◌≤◌, Bool, true, false, not, ◌&&◌, ◌==◌, List, [], ◌∷◌, length, drop, reverse, Option, Some, None, Result, Ok, Err}
 use Rattle.muck_model.specs.declared.lock.Lock.{Lock}
 use Rattle.muck_model.specs.declared.lock.Lock.TheVariants as locks
 use Rattle.muck_lock.specs.Naming.{Naming}
@@ -8,10 +8,10 @@ use Rattle.muck_lock.specs.declared.part.Part.{Part}
 use Rattle.muck_lock.specs.declared.part.Part.TheVariants.{OneOf, AllOf, Term}
 use Rattle.muck_lock.specs.declared.fault.LockFault.{LockFault}
 use Rattle.muck_lock.specs.declared.fault.LockFault.TheVariants.{BadLock, NoMemory}
-use Rattle.muck_lock.specs.declared.read.Waiting.{Waiting}
-use Rattle.muck_lock.specs.declared.read.Waiting.TheVariants.{Not, Group, Both, Either}
-use Rattle.muck_lock.specs.declared.read.Next.{Next}
-use Rattle.muck_lock.specs.declared.read.Next.TheVariants.{More, Done}
+use Rattle.muck_lock.specs.declared.reader.Waiting.{Waiting}
+use Rattle.muck_lock.specs.declared.reader.Waiting.TheVariants.{Not, Group, Both, Either}
+use Rattle.muck_lock.specs.declared.reader.Next.{Next}
+use Rattle.muck_lock.specs.declared.reader.Next.TheVariants.{More, Done}
 
 -- whether nothing more comes before what waits goes on
 abbrev pub ends : Waiting → Option ℕ → Bool
@@ -29,6 +29,13 @@ filled Not lock = locks.Not lock
 filled Group lock = lock
 filled (Both first) lock = locks.Both first lock
 filled (Either first) lock = locks.Either first lock
+
+-- where it ends then: a `(` takes the `)` ahead
+abbrev pub place_behind : Waiting → ℕ → ℕ
+place_behind Not at = at
+place_behind Group at = at + 1
+place_behind (Both first) at = at
+place_behind (Either first) at = at
 
 -- which part it waits for
 abbrev pub wanted : Waiting → Part
@@ -88,3 +95,8 @@ abbrev pub IsRead : Result Lock ℕ → Result Lock LockFault → Type 0
 IsRead outcome (Ok lock) = outcome ≡ Ok lock
 IsRead outcome (Err (BadLock at)) = outcome ≡ Err at
 IsRead outcome (Err NoMemory) = Unit {0}
+
+-- the last that waits doesn't go on yet
+abbrev pub LastStays : Option ℕ → List Waiting → Type 0
+LastStays ahead [] = Unit {0}
+LastStays ahead (w ∷ more) = ends w ahead ≡ false

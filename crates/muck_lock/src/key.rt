@@ -1,5 +1,5 @@
 // The keys in texts of locks.
-ghost use Rattle.std.specs.Prelude.{◌≡◌, ℕ, Bool, List, Option, None, IfOk, take, drop};
+ghost use Rattle.std.specs.Prelude.{◌≡◌, ◌≤◌, ℕ, length, Bool, List, Option, None, IfOk, take, drop};
 ghost use Rattle.std.specs.List.{position, position_or_len};
 ghost use Rattle.muck_model.specs.Bytes.{text_fault};
 ghost use Rattle.muck_model.specs.declared.dbref.Dbref.{Dbref};
@@ -33,9 +33,10 @@ fn first_end(text: &[u8]) -> Option<usize>
 }
 
 // Where the key that begins the text ends.
-#[tactic(auto, using(crate::proofs::Places::position_or_end))]
+#[tactic(auto, using(crate::proofs::Places::ends))]
 pub fn key_end(text: &[u8]) -> usize
-    ensures { result ≡ position_or_len ends_key text.now }
+    ensures place { result ≡ position_or_len ends_key text.now }
+    ensures within { result ≤ length text.now }
 {
     first_end(text).unwrap_or(text.len())
 }

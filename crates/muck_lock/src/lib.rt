@@ -6,9 +6,10 @@ mod key;
 mod keys;
 mod part;
 mod path;
-mod print;
-mod read;
+mod printer;
+mod reader;
 
 pub use fault::LockFault;
 pub use key::Finder;
 pub use keys::{opens, Keys};
+pub use reader::read;
