@@ -3,4 +3,5 @@ pub mod Places
 pub mod Depth
 pub mod Passing
 pub mod Lasts
+pub mod Locks
 pub mod Walks

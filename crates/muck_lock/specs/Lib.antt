@@ -5,3 +5,5 @@ pub mod Chain
 pub mod Opens
 pub mod Printed
 pub mod Waiting
+pub mod Made
+pub mod Law

@@ -12,4 +12,5 @@ mod reader;
 pub use fault::LockFault;
 pub use key::Finder;
 pub use keys::{opens, Keys};
+pub use printer::print;
 pub use reader::read;
