@@ -4,4 +4,5 @@ pub mod Depth
 pub mod Passing
 pub mod Lasts
 pub mod Locks
+pub mod Digits
 pub mod Walks

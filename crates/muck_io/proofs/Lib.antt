@@ -1,0 +1,4 @@
+pub mod Appended
+pub mod Counts
+mod Rows
+pub mod Taken

@@ -1,0 +1,192 @@
+// The connections, by rising number. Each function changes the one of that number, where it is there.
+ghost use Rattle.std.specs.Prelude.{◌≡◌, ◌<◌, ◌≤◌, OnOk, IfOk, MatchOption, length, drop, take, min, map, false, true, [], ◌∷◌, ◌++◌, Some, slice_index_or, is_some, find, nat_lt};
+ghost use Rattle.std.specs.List.{position, position_or_len};
+ghost use Rattle.std.specs.Option.{option_map, option_map_or, option_copied};
+ghost use Rattle.muck_machine.specs.Lines.{TakesLine};
+ghost use Rattle.muck_world.specs.Connections.{has_number, changed_in, placed, without, is_ready};
+ghost use Rattle.muck_world.specs.Steps.{takes_line};
+ghost use Rattle.muck_world.specs.Texts.{queued};
+
+use crate::connection::Connection;
+use muck_model::{Dbref, Line, NoMemory};
+
+// The place of a connection.
+fn found_at(connections: &[Connection], d: u32) -> Option<usize>
+    ensures { result ≡ position (has_number d) connections.now }
+{
+    connections.iter().position(|c| c.number() == d)
+}
+
+/// The place of a connection, or the length where it isn't there.
+#[tactic(auto, using(muck_world::proofs::Positions::positions))]
+pub fn place_of(connections: &Vec<Connection>, d: u32) -> usize
+    ensures at { result ≡ position_or_len (has_number d) connections.now.items }
+    ensures within { result ≤ length connections.now.items }
+{
+    found_at(connections, d).unwrap_or(connections.len())
+}
+
+pub fn tell(connections: &mut Vec<Connection>, d: u32, text: &[u8]) -> Result<(), NoMemory>
+    ensures { OnOk result (connections.new.items ≡ changed_in d (λ c. record c { queue = queued text.now c.queue }) connections.old.items) }
+{
+    let at = place_of(connections, d);
+    if at < connections.len() {
+        let c = &mut connections[at];
+        c.tell(text)?;
+    }
+    Ok(())
+}
+
+pub fn leave(connections: &mut Vec<Connection>, d: u32)
+    ensures { connections.new.items ≡ changed_in d (λ c. record c { leaving = true }) connections.old.items }
+{
+    let at = place_of(connections, d);
+    if at < connections.len() {
+        let c = &mut connections[at];
+        c.leave();
+    }
+}
+
+pub fn add_line(connections: &mut Vec<Connection>, d: u32, line: Line) -> Result<(), NoMemory>
+    ensures { OnOk result (connections.new.items ≡ changed_in d (λ c. record c { waiting = c.waiting ++ line ∷ [] }) connections.old.items) }
+{
+    let at = place_of(connections, d);
+    if at < connections.len() {
+        let c = &mut connections[at];
+        c.add_line(line)?;
+    }
+    Ok(())
+}
+
+pub fn set_player(connections: &mut Vec<Connection>, d: u32, player: Dbref)
+    ensures { connections.new.items ≡ changed_in d (λ c. record c { player = Some player }) connections.old.items }
+{
+    let at = place_of(connections, d);
+    if at < connections.len() {
+        let c = &mut connections[at];
+        c.set_player(player);
+    }
+}
+
+/// Takes a connection away.
+pub fn remove(connections: &mut Vec<Connection>, d: u32)
+    ensures { connections.new.items ≡ without d connections.old.items }
+{
+    let at = place_of(connections, d);
+    if at < connections.len() {
+        let _ = connections.remove(at);
+    }
+}
+
+/// Puts a connection before the first of a greater number.
+pub fn insert(connections: &mut Vec<Connection>, new: Connection) -> Result<(), NoMemory>
+    ensures { OnOk result (connections.new.items ≡ placed new connections.old.items) }
+{
+    let at = greater_at(connections, new.number());
+    connections.insert(at, new)?;
+    Ok(())
+}
+
+#[tactic(auto, using(muck_world::proofs::Positions::positions))]
+fn greater_at(connections: &[Connection], d: u32) -> usize
+    ensures at { result ≡ position_or_len (λ c. nat_lt d c.number) connections.now }
+    ensures within { result ≤ length connections.now }
+{
+    found_greater(connections, d).unwrap_or(connections.len())
+}
+
+fn found_greater(connections: &[Connection], d: u32) -> Option<usize>
+    ensures { result ≡ position (λ c. nat_lt d c.number) connections.now }
+{
+    connections.iter().position(|c| d < c.number())
+}
+
+/// The number of the lowest connection that is ready.
+pub fn first_ready(connections: &[Connection]) -> Option<u32>
+    ensures { result ≡ option_map (λ c. c.number) (find is_ready connections.now) }
+{
+    connections
+        .iter()
+        .find(|c| c.is_ready())
+        .map(|c| c.number())
+}
+
+/// The connection of a number.
+pub fn find_by(connections: &[Connection], d: u32) -> Option<&Connection>
+    ensures { option_copied result ≡ find (has_number d) connections.now }
+{
+    connections.iter().find(|c| c.number() == d)
+}
+
+pub fn is_there(connections: &[Connection], d: u32) -> bool
+    ensures { result ≡ is_some (find (has_number d) connections.now) }
+{
+    find_by(connections, d).is_some()
+}
+
+pub fn takes_line_at(connections: &[Connection], d: u32) -> bool
+    ensures { result ≡ option_map_or takes_line (find (has_number d) connections.now) false }
+{
+    match find_by(connections, d) {
+        Some(c) => c.takes_line(),
+        None => false,
+    }
+}
+
+pub fn queued_at(connections: &[Connection], d: u32) -> usize
+    ensures count { result ≡ length (option_map_or (λ c. c.queue) (find (has_number d) connections.now) []) }
+    ensures most { result ≤ 131072 }
+{
+    match find_by(connections, d) {
+        Some(c) => c.queued(),
+        None => 0,
+    }
+}
+
+pub fn waiting_at(connections: &[Connection], d: u32) -> usize
+    ensures { result ≡ option_map_or (λ c. length c.waiting) (find (has_number d) connections.now) 0 }
+{
+    match find_by(connections, d) {
+        Some(c) => c.waiting(),
+        None => 0,
+    }
+}
+
+pub fn is_leaving_at(connections: &[Connection], d: u32) -> bool
+    ensures { result ≡ option_map_or (λ c. c.leaving) (find (has_number d) connections.now) false }
+{
+    match find_by(connections, d) {
+        Some(c) => c.is_leaving(),
+        None => false,
+    }
+}
+
+/// Takes the first waiting line of a connection, with its player.
+pub fn take_line(connections: &mut Vec<Connection>, d: u32) -> Option<(Option<Dbref>, Line)>
+    ensures { TakesLine d connections.old.items connections.new.items result }
+{
+    let at = place_of(connections, d);
+    if at < connections.len() {
+        let c = &mut connections[at];
+        let player = c.player();
+        return match c.next_line() {
+            Some(line) => Some((player, line)),
+            None => None,
+        };
+    }
+    None
+}
+
+/// Takes the first bytes of a connection's queue, as many as are there and fit.
+pub fn take_front(connections: &mut Vec<Connection>, d: u32, buf: &mut [u8]) -> usize
+    ensures count { result ≡ min (length (option_map_or (λ c. c.queue) (find (has_number d) connections.old.items) [])) (length buf.old) }
+    ensures bytes { take result buf.new ≡ take result (option_map_or (λ c. c.queue) (find (has_number d) connections.old.items) []) }
+    ensures rest { connections.new.items ≡ changed_in d (λ c. record c { queue = drop result c.queue }) connections.old.items }
+{
+    let at = place_of(connections, d);
+    if at < connections.len() {
+        let c = &mut connections[at];
+        return c.take_front(buf);
+    }
+    0
+}

@@ -1,0 +1,282 @@
+// The world with its history.
+ghost use Rattle.std.specs.Prelude.{◌≡◌, ◌≤◌, IfOk, OnOk, OnErr, MatchOption, length, take, min, true, false, if◌then◌else◌, nat_lt, is_some, [], List, ℕ};
+ghost use Rattle.std.specs.Option.{option_map_or};
+ghost use Rattle.muck_model.specs.declared.event.Event.{Event};
+ghost use Rattle.muck_world.specs.World.{starting, connection, queue_of, is_leaving};
+ghost use Rattle.muck_world.specs.Steps.{is_lawful, next_ready};
+ghost use Rattle.muck_world.specs.Histories.{now, entered, by_porter};
+
+use crate::state::State;
+use muck_model::{Entry, Event, Line, NoMemory, Tale};
+use std::alloc::Global;
+use std::marker::Model;
+
+// Memory was wanted by the party that does everything in a run of a script.
+const DIED: Entry = Entry {
+    party: 0,
+    event: Event::Died,
+};
+
+/// The world. Contracts see it as its history: how it began, and each entry since. The world as it is now is the one
+/// after these entries. A dead world has lost memory in the midst of something: it takes no entry any more but `Died`.
+#[derive(Drop)]
+pub struct World {
+    state: State,
+    dead: bool,
+    tale: Tale,
+}
+
+impl Model for World {
+    ghost use Rattle.std.specs.Prelude.{◌≡◌, true, false};
+    ghost use Rattle.muck_world.specs.World.{starting};
+    ghost use Rattle.muck_world.specs.Histories.{History, after};
+    ghost use Rattle.muck_machine.specs.Keeping.{Keeps};
+
+    ghost Value = { History };
+
+    ghost view = { λ w. record { start = starting; entries = w.tale.entries } };
+
+    ghost invariant = { λ w. Keeps w.tale w.dead w.state };
+}
+
+impl World {
+    /// Room Zero and One, and nobody connected: nothing has happened yet.
+    pub fn starting(alloc: Global) -> Result<Self, NoMemory>
+        ensures { IfOk result (λ w. w ≡ record { start = starting; entries = [] }) }
+    {
+        let state = State::starting(alloc)?;
+        let tale = Tale::new(alloc)?;
+        Ok(World {
+            state,
+            dead: false,
+            tale,
+        })
+    }
+
+    /// The history, for contracts alone. It takes no memory.
+    pub fn into_tale(self) -> Tale
+        ensures { result.entries ≡ self.entries }
+    {
+        let World { tale, .. } = self;
+        tale
+    }
+
+    /// Whether memory was wanted, after which no entry but `Died` is lawful.
+    #[tactic(auto, unfolding(muck_world::specs::Histories::now))]
+    pub fn is_dead(&self) -> bool
+        ensures { result ≡ (now self.now).dead }
+    {
+        self.dead
+    }
+
+    /// Memory was wanted, here or by the party outside of the world. It takes none.
+    pub fn died(&mut self, party: u8)
+        ensures { self.new ≡ entered self.old (record { party = party; event = Event.Died }) }
+    {
+        self.tale.tell(&Entry {
+            party,
+            event: Event::Died,
+        });
+        self.dead = true;
+    }
+
+    /// The run stops. It takes no memory.
+    pub fn halt(&mut self)
+        requires { (now self.old).dead ≡ false }
+        ensures { self.new ≡ entered self.old (by_porter Event.Halt) }
+    {
+        self.tale.tell(&Entry {
+            party: 0,
+            event: Event::Halt,
+        });
+        self.state.halt();
+    }
+
+    // Whether a connection of this number may come.
+    fn may_open(&self, d: u32) -> bool
+        ensures { result ≡ is_lawful (now self.now) (by_porter (Event.Opened d)) }
+    {
+        if self.dead {
+            return false;
+        }
+        self.state.may_open(d)
+    }
+
+    // Whether a line may come on this connection.
+    fn may_take_line(&self, d: u32) -> bool
+        ensures { (line : List ℕ) → result ≡ is_lawful (now self.now) (by_porter (Event.Input d line)) }
+    {
+        if self.dead {
+            return false;
+        }
+        self.state.may_take_line(d)
+    }
+
+    /// A connection comes; `false` exactly where it may not, and then nothing happened. After `NoMemory` the world is
+    /// dead.
+    pub fn opened(&mut self, d: u32) -> Result<bool, NoMemory>
+        ensures lawful { IfOk result (λ yes. yes ≡ is_lawful (now self.old) (by_porter (Event.Opened d))) }
+        ensures step { IfOk result (λ yes. self.new ≡ (if yes then entered self.old (by_porter (Event.Opened d)) else self.old)) }
+        ensures died { OnErr result (self.new ≡ entered self.old (by_porter Event.Died)) }
+    {
+        if !self.may_open(d) {
+            return Ok(false);
+        }
+        match self.state.open(d) {
+            Ok(()) => {
+                self.tale.tell(&Entry {
+                    party: 0,
+                    event: Event::Opened { d },
+                });
+                Ok(true)
+            }
+            Err(NoMemory) => {
+                self.dead = true;
+                self.tale.tell(&DIED);
+                Err(NoMemory)
+            }
+        }
+    }
+
+    /// A line comes, and waits; `false` exactly where it may not, and then nothing happened. After `NoMemory` the world
+    /// is dead.
+    pub fn input(&mut self, d: u32, line: Line) -> Result<bool, NoMemory>
+        ensures lawful { IfOk result (λ yes. yes ≡ is_lawful (now self.old) (by_porter (Event.Input d line))) }
+        ensures step { IfOk result (λ yes. self.new ≡ (if yes then entered self.old (by_porter (Event.Input d line)) else self.old)) }
+        ensures died { OnErr result (self.new ≡ entered (entered self.old (by_porter (Event.Input d line))) (by_porter Event.Died)) }
+        ensures may { OnErr result (is_lawful (now self.old) (by_porter (Event.Input d line)) ≡ true) }
+    {
+        if !self.may_take_line(d) {
+            return Ok(false);
+        }
+        self.tale.tell_input(0, d, &line);
+        match self.state.add_line(d, line) {
+            Ok(()) => Ok(true),
+            Err(NoMemory) => {
+                self.dead = true;
+                self.tale.tell(&DIED);
+                Err(NoMemory)
+            }
+        }
+    }
+
+    /// A connection goes. It takes no memory as yet.
+    pub fn closed(&mut self, d: u32) -> Result<(), NoMemory>
+        requires { is_lawful (now self.old) (by_porter (Event.Closed d)) ≡ true }
+        ensures ok { OnOk result (self.new ≡ entered self.old (by_porter (Event.Closed d))) }
+        ensures died { OnErr result (self.new ≡ entered self.old (by_porter Event.Died)) }
+    {
+        self.state.close(d);
+        self.tale.tell(&Entry {
+            party: 0,
+            event: Event::Closed { d },
+        });
+        Ok(())
+    }
+
+    // The lowest connection with a line that may be done.
+    fn next_ready(&self) -> Option<u32>
+        ensures { result ≡ next_ready (now self.now) }
+    {
+        if self.dead {
+            return None;
+        }
+        self.state.first_ready()
+    }
+
+    /// The first line of the lowest connection with a line that may be done is done; answers that connection, and
+    /// `None` exactly where there is none, and then nothing happened. After `NoMemory` the world is dead.
+    pub fn exec(&mut self, party: u8) -> Result<Option<u32>, NoMemory>
+        ensures found { IfOk result (λ found. found ≡ next_ready (now self.old)) }
+        ensures step { IfOk result (λ found. MatchOption found (self.new ≡ self.old) (λ d. self.new ≡ entered self.old (record { party = party; event = Event.Exec d }))) }
+        ensures died { OnErr result (self.new ≡ entered self.old (record { party = party; event = Event.Died })) }
+    {
+        let Some(d) = self.next_ready() else {
+            return Ok(None);
+        };
+        match self.state.do_line(d) {
+            Ok(()) => {
+                self.tale.tell(&Entry {
+                    party,
+                    event: Event::Exec { d },
+                });
+                Ok(Some(d))
+            }
+            Err(NoMemory) => {
+                self.dead = true;
+                self.tale.tell(&Entry {
+                    party,
+                    event: Event::Died,
+                });
+                Err(NoMemory)
+            }
+        }
+    }
+
+    // The count of bytes that may be taken from a connection's queue.
+    fn ready_bytes(&self, d: u32) -> usize
+        ensures { result ≡ (if (now self.now).dead then 0 else length (queue_of d (now self.now))) }
+    {
+        if self.dead {
+            return 0;
+        }
+        self.state.queued(d)
+    }
+
+    /// The first bytes of a connection's queue leave it, as many as are there and fit; answers how many, and 0 exactly
+    /// where nothing waits there, the connection isn't there, the buffer is empty or the world is dead. Where it
+    /// answers 0 nothing happened. It takes no memory.
+    pub fn take(&mut self, d: u32, buf: &mut [u8]) -> usize
+        ensures count { result ≡ (if (now self.old).dead then 0 else min (length (queue_of d (now self.old))) (length buf.old)) }
+        ensures bytes { take result buf.new ≡ take result (queue_of d (now self.old)) }
+        ensures step { self.new ≡ (if nat_lt 0 result then entered self.old (by_porter (Event.Take d result)) else self.old) }
+    {
+        if self.ready_bytes(d) == 0 || buf.is_empty() {
+            return 0;
+        }
+        let n = self.state.take(d, buf);
+        self.tale.tell(&Entry {
+            party: 0,
+            event: Event::Take { d, n },
+        });
+        n
+    }
+
+    /// Whether the run stops. On a dead world nothing is said of the answer.
+    pub fn is_stopping(&self) -> bool
+        ensures { (now self.now).dead ≡ false → result ≡ (now self.now).stopping }
+    {
+        self.state.is_stopping()
+    }
+
+    /// Whether the connection is there. On a dead world nothing is said of the answer.
+    pub fn connected(&self, d: u32) -> bool
+        ensures { (now self.now).dead ≡ false → result ≡ is_some (connection d (now self.now)) }
+    {
+        self.state.is_connected(d)
+    }
+
+    /// Whether the connection is there and is leaving. On a dead world nothing is said of the answer.
+    pub fn leaving(&self, d: u32) -> bool
+        ensures { (now self.now).dead ≡ false → result ≡ is_leaving d (now self.now) }
+    {
+        self.state.is_leaving(d)
+    }
+
+    /// The count of lines that wait on the connection, and 0 where it isn't there. On a dead world nothing is said of
+    /// the answer.
+    pub fn waiting(&self, d: u32) -> usize
+        ensures { (now self.now).dead ≡ false → result ≡ option_map_or (λ c. length c.waiting) (connection d (now self.now)) 0 }
+    {
+        self.state.waiting(d)
+    }
+
+    /// The count of bytes that wait to be sent to the connection, and 0 where it isn't there. On a dead world only the
+    /// bound is said of the answer.
+    pub fn queued(&self, d: u32) -> usize
+        ensures count { (now self.now).dead ≡ false → result ≡ length (queue_of d (now self.now)) }
+        ensures most { result ≤ 131072 }
+    {
+        self.state.queued(d)
+    }
+}

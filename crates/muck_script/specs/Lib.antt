@@ -1,0 +1,6 @@
+pub mod Lines
+pub mod Script
+pub mod Reading
+pub mod Story
+pub mod Settling
+pub mod Rows

@@ -1,0 +1,81 @@
+-- The grammar of a script.
+use Rattle.std.specs.Prelude.{ℕ, ◌+◌, Bool, ◌&&◌, ◌==◌, nat_lt, nat_le, if◌then◌else◌, List, [], ◌∷◌, length, take, Option, Some, None, Result, Ok, Err, codes}
+use Rattle.std.specs.Option.{option_map}
+use Rattle.std.specs.Str.{bytes_eq}
+use Rattle.std.specs.List.{list_any, list_all}
+use Rattle.muck_model.specs.Decimal.{decimal_of}
+use Rattle.muck_world.specs.Texts.{is_space, first_word, other_words}
+use Rattle.muck_script.specs.declared.act.Act.{Act}
+use Rattle.muck_script.specs.declared.act.Act.TheVariants.{Nothing, Open, Send}
+use Rattle.muck_script.specs.Lines.{lines_of}
+
+abbrev pub if_positive : Option ℕ → Option ℕ
+if_positive None = None
+if_positive (Some n) = if nat_lt 0 n then Some n else None
+
+-- the number of a connection, from 1 to 256
+abbrev pub number_of : List ℕ → Option ℕ
+number_of text = if_positive (decimal_of 256 text)
+
+abbrev pub is_printable : ℕ → Bool
+is_printable b = nat_le 32 b && nat_le b 126
+
+-- the most bytes of a line that comes on a connection
+abbrev pub input_most : ℕ
+input_most = 2048
+
+abbrev pub is_input : List ℕ → Bool
+is_input text = list_all is_printable text && nat_le (length text) input_most
+
+abbrev pub send_to : List ℕ → Option ℕ → Option Act
+send_to text None = None
+send_to text (Some d) = if is_input text then Some (Send d text) else None
+
+-- a number, one space, and the text
+abbrev pub sending : List ℕ → Option Act
+sending rest = if list_any is_space rest then send_to (other_words rest) (number_of (first_word rest)) else None
+
+abbrev pub asked : List ℕ → Option Act
+asked line =
+    if bytes_eq (first_word line) (codes "open") then option_map Open (number_of (other_words line))
+    else if bytes_eq (first_word line) (codes "send") then sending (other_words line)
+    else None
+
+-- what a line asks for, or none where it is outside the grammar; the empty line and one that begins with # ask for nothing
+unfoldable pub act_of : List ℕ → Option Act
+act_of [] = Some Nothing
+act_of (b ∷ line) = if b == 35 then Some Nothing else asked (b ∷ line)
+
+abbrev pub with_first : Option Act → ℕ → Result (List Act) ℕ → Result (List Act) ℕ
+with_first None n rest = Err n
+with_first (Some act) n (Ok acts) = Ok (act ∷ acts)
+with_first (Some act) n (Err m) = Err m
+
+-- what the lines ask for, or the number of the first that is outside, where the first line has the number n
+abbrev pub acts_from : ℕ → List (List ℕ) → Result (List Act) ℕ
+acts_from n [] = Ok []
+acts_from n (line ∷ lines) = with_first (act_of line) n (acts_from (n + 1) lines)
+
+abbrev pub acts_of : List ℕ → Result (List Act) ℕ
+acts_of bytes = acts_from 1 (lines_of bytes)
+
+-- the line n is outside too
+abbrev pub refused_at : ℕ → Result (List Act) ℕ → Result (List Act) ℕ
+refused_at n (Ok acts) = Err n
+refused_at n (Err m) = Err m
+
+-- the most bytes of a script
+unfoldable pub script_most : ℕ
+script_most = 16777216
+
+-- the bytes up to the first that is too many, and with it
+abbrev pub read_part : List ℕ → List ℕ
+read_part bytes = take (script_most + 1) bytes
+
+-- A whole script. Where it is too long it is read up to the first byte that is too many, and the line of that byte, the
+-- last that is read, is outside.
+abbrev pub script_of : List ℕ → Result (List Act) ℕ
+script_of bytes =
+    if nat_lt script_most (length bytes)
+    then refused_at (length (lines_of (read_part bytes))) (acts_of (read_part bytes))
+    else acts_of bytes

@@ -1,0 +1,85 @@
+-- What a script makes happen, and the text that it writes.
+use Rattle.std.specs.Prelude.{ℕ, zero, suc, ◌+◌, ◌-◌, nat_lt, if◌then◌else◌, List, [], ◌∷◌, ◌++◌, length, take, Option, Some, None, codes}
+use Rattle.std.specs.List.{flat_map}
+use Rattle.std.specs.Fmt.{decimal}
+use Rattle.muck_model.specs.declared.event.Entry.{Entry}
+use Rattle.muck_model.specs.declared.event.Event.{Event}
+use Rattle.muck_model.specs.declared.event.Event.TheVariants.{Opened, Input, Closed, Exec, Take, Halt}
+use Rattle.muck_world.specs.World.{World, queue_of, is_leaving}
+use Rattle.muck_world.specs.Steps.{is_lawful, effect, next_ready, connections_most}
+use Rattle.muck_world.specs.Histories.{after, by_porter}
+use Rattle.muck_script.specs.declared.act.Act.{Act}
+use Rattle.muck_script.specs.declared.act.Act.TheVariants.{Nothing, Open, Send}
+use Rattle.muck_script.specs.Lines.{lines_of}
+
+-- what f says happens, and then what g says happens in the world that it leaves
+abbrev pub both : (World → List Entry) → (World → List Entry) → World → List Entry
+both f g w = f w ++ g (after w (f w))
+
+-- an event, where it is lawful
+abbrev pub if_lawful : Event → World → List Entry
+if_lawful event w = if is_lawful w (by_porter event) then by_porter event ∷ [] else []
+
+-- what a line of the script asks for
+abbrev pub acted : Act → World → List Entry
+acted Nothing w = []
+acted (Open d) w = if_lawful (Opened d) w
+acted (Send d text) w = if_lawful (Input d text) w
+
+-- a turn does the line of that connection, and others follow; without one nothing follows
+abbrev pub turn : Option ℕ → (ℕ → List Entry) → List Entry
+turn None others = []
+turn (Some d) others = by_porter (Exec d) ∷ others d
+
+-- at most n turns, each of the lowest connection that is ready
+unfoldable pub turns : ℕ → World → List Entry
+turns zero w = []
+turns (suc n) w = turn (next_ready w) (λ d. turns n (effect w (by_porter (Exec d))))
+
+-- the most turns after a line
+abbrev pub turns_most : ℕ
+turns_most = 4096
+
+-- all of a queue is taken, where it isn't empty
+abbrev pub taken : ℕ → World → List Entry
+taken d w = if nat_lt 0 (length (queue_of d w)) then by_porter (Take d (length (queue_of d w))) ∷ [] else []
+
+-- a connection that is leaving is closed
+abbrev pub parted : ℕ → World → List Entry
+parted d w = if is_leaving d w then by_porter (Closed d) ∷ [] else []
+
+-- n connections from d on, in rising order
+unfoldable pub served : ℕ → ℕ → World → List Entry
+served zero d w = []
+served (suc n) d w = both (both (taken d) (parted d)) (served n (d + 1)) w
+
+-- a line of the script, with what follows it
+unfoldable pub line_story : Act → World → List Entry
+line_story act = both (both (acted act) (turns turns_most)) (served connections_most 1)
+
+-- the whole script; lines after the stop do nothing
+abbrev pub story : List Act → World → List Entry
+story [] w = if w.stopping then [] else by_porter Halt ∷ []
+story (act ∷ acts) w = if w.stopping then [] else both (line_story act) (story acts) w
+
+-- a line that a connection is sent, without the byte 13 at its end
+abbrev pub shown : ℕ → List ℕ → List ℕ
+shown d line = decimal d ++ codes "< " ++ take (length line - 1) line ++ 10 ∷ []
+
+abbrev pub farewell : ℕ → List ℕ
+farewell d = decimal d ++ codes " closed" ++ 10 ∷ []
+
+-- what is written for an event
+unfoldable pub told : World → Event → List ℕ
+told w (Take d n) = flat_map (shown d) (lines_of (take n (queue_of d w)))
+told w (Closed d) = if is_leaving d w then farewell d else []
+told w event = []
+
+-- what is written for a history
+abbrev pub text_of : World → List Entry → List ℕ
+text_of w [] = []
+text_of w (entry ∷ entries) = told w entry.event ++ text_of (effect w entry) entries
+
+-- what a script writes
+abbrev pub transcript : List Act → World → List ℕ
+transcript acts w = text_of w (story acts w)

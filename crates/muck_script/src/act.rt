@@ -1,0 +1,13 @@
+// What a line of a script asks for.
+use muck_model::Line;
+
+/// What a line of a script asks for.
+#[derive(Drop)]
+pub enum Act {
+    /// Nothing; the world settles all the same.
+    Nothing,
+    /// That the connection of this number comes.
+    Open(u32),
+    /// That this line comes on the connection of this number.
+    Send(u32, Line),
+}

@@ -1,0 +1,21 @@
+//! Scripts: their grammar, the story that one prescribes and its text, and the turns after a line.
+#![tactic(auto)]
+
+mod act;
+mod lines;
+mod parsing;
+mod script;
+mod shown;
+
+pub use act::Act;
+pub use script::{Script, ScriptFault, read};
+pub use shown::{farewell_text, lines_text};
+
+/// The most bytes of a script.
+pub const SCRIPT_MOST: usize = 16_777_216;
+
+/// The most bytes of a line that comes on a connection.
+pub const INPUT_MOST: usize = 2048;
+
+/// The most turns after a line.
+pub const TURNS_MOST: u32 = 4096;

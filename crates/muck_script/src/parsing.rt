@@ -1,0 +1,91 @@
+// What one line of a script asks for.
+ghost use Rattle.std.specs.Prelude.{◌≡◌, ◌==◌, IfOk, Some};
+ghost use Rattle.std.specs.List.{list_any, list_all};
+ghost use Rattle.muck_world.specs.Texts.{is_space};
+ghost use Rattle.muck_script.specs.Script.{act_of, asked, sending, send_to, number_of, is_printable, is_input};
+
+use crate::{Act, INPUT_MOST};
+use muck_model::{Line, LineFault, NoMemory, decimal};
+use muck_world::cut_word;
+use std::alloc::Global;
+
+/// What a line asks for, or none where it is outside the grammar.
+#[tactic(auto, unfolding(crate::specs::Script::act_of))]
+pub fn act_of(alloc: Global, line: &[u8]) -> Result<Option<Act>, NoMemory>
+    ensures { IfOk result (λ act. act ≡ act_of line.now) }
+{
+    let Some((first, _)) = line.split_first() else {
+        return Ok(Some(Act::Nothing));
+    };
+    if *first == b'#' {
+        return Ok(Some(Act::Nothing));
+    }
+    asked(alloc, line)
+}
+
+fn asked(alloc: Global, line: &[u8]) -> Result<Option<Act>, NoMemory>
+    ensures { IfOk result (λ act. act ≡ asked line.now) }
+{
+    let (word, rest) = cut_word(line);
+    if word == b"open".as_slice() {
+        return Ok(number_of(rest).map(Act::Open));
+    }
+    if word == b"send".as_slice() {
+        return sending(alloc, rest);
+    }
+    Ok(None)
+}
+
+// A number, one space, and the text.
+fn sending(alloc: Global, rest: &[u8]) -> Result<Option<Act>, NoMemory>
+    ensures { IfOk result (λ act. act ≡ sending rest.now) }
+{
+    if !has_space(rest) {
+        return Ok(None);
+    }
+    let (number, text) = cut_word(rest);
+    match number_of(number) {
+        None => Ok(None),
+        Some(d) => send_to(alloc, text, d),
+    }
+}
+
+fn send_to(alloc: Global, text: &[u8], d: u32) -> Result<Option<Act>, NoMemory>
+    ensures { IfOk result (λ act. act ≡ send_to text.now (Some d)) }
+{
+    if !is_input(text) {
+        return Ok(None);
+    }
+    match Line::new(alloc, text) {
+        Ok(line) => Ok(Some(Act::Send(d, line))),
+        Err(LineFault::NotLine { at: _ }) => Ok(None),
+        Err(LineFault::NoMemory) => Err(NoMemory),
+    }
+}
+
+fn has_space(text: &[u8]) -> bool
+    ensures { result ≡ list_any is_space text.now }
+{
+    text.iter().any(|b| *b == b' ')
+}
+
+fn are_printable(text: &[u8]) -> bool
+    ensures { result ≡ list_all is_printable text.now }
+{
+    text.iter().all(|b| *b >= 32 && *b <= 126)
+}
+
+// Whether a text may come on a connection.
+fn is_input(text: &[u8]) -> bool
+    ensures { result ≡ is_input text.now }
+{
+    are_printable(text) && text.len() <= INPUT_MOST
+}
+
+// The number of a connection, from 1 to 256.
+fn number_of(text: &[u8]) -> Option<u32>
+    ensures { result ≡ number_of text.now }
+{
+    let n = decimal(text, 256)?;
+    if n > 0 { Some(n as u32) } else { None }
+}

@@ -1,0 +1,5 @@
+pub mod Positions
+pub mod Trims
+pub mod Living
+pub mod Reached
+pub mod Runs

@@ -1,0 +1,243 @@
+-- Lawful entries lead from sound worlds to sound worlds.
+use Rattle.std.proofs.Common.{◌≡◌, ℕ, ◌<◌, ◌≤◌, Bool, true, false, not, ◌&&◌, ◌||◌, cond, List, [], ◌∷◌, ◌++◌, length, drop, refl, sym, ◌∙◌, ap, subst, arith, Option, Some, None, ltb, ◌==◌, ◌≢◌}
+use Rattle.std.proofs.lemmas.Bool.Decides.{nat_tests}
+use Rattle.std.proofs.lemmas.Bool.{cond-true, cond-false, ltb-true, ltb-false}
+use Rattle.std.specs.Prelude.{find, is_none, is_some, nat_lt}
+use Rattle.std.specs.Option.{option_map, option_map_or}
+use Rattle.muck_model.specs.declared.dbref.Dbref.{Dbref}
+use Rattle.muck_model.specs.declared.event.Entry.{Entry}
+use Rattle.muck_model.specs.declared.event.Event.{Event}
+use Rattle.muck_model.specs.declared.event.Event.TheVariants.{Opened, Input, Closed, Exec, Take, Halt, Died}
+use Rattle.muck_world.specs.Texts.{first_word, other_words, trimmed}
+use Rattle.muck_world.specs.Connections.{Connection, has_number, is_ready, changed_in, placed, without}
+use Rattle.muck_world.specs.World.{World, connection, changed, queue_of, is_leaving, starting}
+use Rattle.muck_world.specs.Talk.{tell, enter, quit, welcome, refused, room_seen, goodbye, huh, you_say, let_in, logged_in, connecting, at_login, in_world, command, line_done, done}
+use Rattle.muck_world.specs.Steps.{newcomer, connections_most, holds, is_allowed, is_lawful, happened, effect, next_ready}
+use Rattle.muck_world.specs.Histories.{by_porter}
+use Rattle.muck_world.specs.Sound.{IsAbove, IsRising, IsSound}
+
+cases_lt : (m n : ℕ) (P : Bool → Type 0) → (m < n → P true) → (n ≤ m → P false) → P (ltb m n)
+cases_lt m n P p q =
+    (elim (ltb m n) as (λ b. ltb m n ≡ b → P b) [ true ↦ λ e. p (ltb-true m n e) | false ↦ λ e. q (ltb-false m n e) ]) refl
+
+differs : (m n : ℕ) → m ≤ n → (m == n) ≡ false → m < n
+differs m n le e = grind (arith, nat_tests)
+
+some_none : {X : Type 0} (x : X) → ◌≡◌ {A = Option X} (Some x) None → ⊥
+some_none x e = cc
+
+and_left : (a b : Bool) → (a && b) ≡ true → a ≡ true
+and_left true b e = refl
+and_left false b e = e
+
+none_of : {X : Type 0} (o : Option X) → is_none o ≡ true → o ≡ None
+none_of None e = refl
+none_of (Some x) e = cc
+
+-- Changes that keep the numbers of the connections.
+
+above-changed_in : (n d : ℕ) (f : Connection → Connection) → ((c : Connection) → (f c).number ≡ c.number) → (cs : List Connection) → IsAbove n cs → IsAbove n (changed_in d f cs)
+above-changed_in n d f keeps [] h = tt
+above-changed_in n d f keeps (c ∷ cs) h =
+    elim (has_number d c) as (λ b. IsAbove n (cond b (f c ∷ cs) (c ∷ changed_in d f cs))) [
+      | true ↦ (omega (arith, keeps c, h.0), h.1)
+      | false ↦ (h.0, above-changed_in n d f keeps cs h.1)
+    ]
+
+rising-changed_in : (d : ℕ) (f : Connection → Connection) → ((c : Connection) → (f c).number ≡ c.number) → (cs : List Connection) → IsRising cs → IsRising (changed_in d f cs)
+rising-changed_in d f keeps [] h = tt
+rising-changed_in d f keeps (c ∷ cs) h =
+    elim (has_number d c) as (λ b. IsRising (cond b (f c ∷ cs) (c ∷ changed_in d f cs))) [
+      | true ↦ (let P : ℕ → Type 0 = λ k. IsAbove k cs in subst P (sym (keeps c)) h.0, h.1)
+      | false ↦ (above-changed_in c.number d f keeps cs h.0, rising-changed_in d f keeps cs h.1)
+    ]
+
+sound-changed : (d : ℕ) (f : Connection → Connection) → ((c : Connection) → (f c).number ≡ c.number) → (w : World) → IsSound w → IsSound (changed d f w)
+sound-changed d f keeps w h = record { alive = h.alive; rising = rising-changed_in d f keeps w.board.connections h.rising }
+
+-- What a line does.
+
+either_sound : (b : Bool) (v w : World) → IsSound v → IsSound w → IsSound (cond b v w)
+either_sound true v w p q = p
+either_sound false v w p q = q
+
+sound-tell : (d : ℕ) (text : List ℕ) (w : World) → IsSound w → IsSound (tell d text w)
+sound-tell d text w h = sound-changed d _ (λ c. refl) w h
+
+sound-quit : (d : ℕ) (w : World) → IsSound w → IsSound (quit d w)
+sound-quit d w h = sound-changed d (λ c. record c { leaving = true }) (λ c. refl) (tell d goodbye w) (sound-tell d goodbye w h)
+
+sound-let_in : (d : ℕ) (player : Option Dbref) (w : World) → IsSound w → IsSound (let_in d player w)
+sound-let_in d None w h = sound-tell d refused w h
+sound-let_in d (Some player) w h = sound-tell d room_seen (enter d player w) (sound-changed d (λ c. record c { player = Some player }) (λ c. refl) w h)
+
+sound-logged_in : (d : ℕ) (name word : List ℕ) (w : World) → IsSound w → IsSound (logged_in d name word w)
+unfolding logged_in
+sound-logged_in d name word w h = sound-let_in d _ w h
+
+sound-connecting : (d : ℕ) (name word : List ℕ) (w : World) → IsSound w → IsSound (connecting d name word w)
+sound-connecting d name [] w h = sound-tell d welcome w h
+sound-connecting d name (b ∷ word) w h = sound-logged_in d name (b ∷ word) w h
+
+sound-at_login : (d : ℕ) (line : List ℕ) (w : World) → IsSound w → IsSound (at_login d line w)
+unfolding at_login
+sound-at_login d line w h =
+    let rest = trimmed (other_words (trimmed line)) in
+    either_sound _ _ _ (sound-quit d w h) (either_sound _ _ _ (sound-connecting d (first_word rest) (trimmed (other_words rest)) w h) (sound-tell d welcome w h))
+
+sound-in_world : (d : ℕ) (line : List ℕ) (w : World) → IsSound w → IsSound (in_world d line w)
+unfolding in_world
+sound-in_world d [] w h = sound-tell d huh w h
+sound-in_world d (b ∷ line) w h = either_sound _ _ _ (sound-tell d (you_say (trimmed line)) w h) (either_sound _ _ _ (sound-quit d w h) (sound-tell d huh w h))
+
+sound-command : (player : Option Dbref) (d : ℕ) (line : List ℕ) (w : World) → IsSound w → IsSound (command player d line w)
+sound-command None d line w h = sound-at_login d line w h
+sound-command (Some player) d line w h = sound-in_world d line w h
+
+sound-line_done : (d : ℕ) (player : Option Dbref) (lines : List (List ℕ)) (w : World) → IsSound w → IsSound (line_done d player lines w)
+sound-line_done d player [] w h = h
+sound-line_done d player (line ∷ lines) w h = sound-command player d line _ (sound-changed d (λ c. record c { waiting = lines }) (λ c. refl) w h)
+
+sound-done : (d : ℕ) (o : Option Connection) (w : World) → IsSound w → IsSound (done d o w)
+sound-done d None w h = h
+sound-done d (Some c) w h = sound-line_done d c.player c.waiting w h
+
+-- Connections that come and go.
+
+above-without : (n d : ℕ) (cs : List Connection) → IsAbove n cs → IsAbove n (without d cs)
+above-without n d [] h = tt
+above-without n d (c ∷ cs) h =
+    elim (has_number d c) as (λ b. IsAbove n (cond b cs (c ∷ without d cs))) [
+      | true ↦ h.1
+      | false ↦ (h.0, above-without n d cs h.1)
+    ]
+
+rising-without : (d : ℕ) (cs : List Connection) → IsRising cs → IsRising (without d cs)
+rising-without d [] h = tt
+rising-without d (c ∷ cs) h =
+    elim (has_number d c) as (λ b. IsRising (cond b cs (c ∷ without d cs))) [
+      | true ↦ h.1
+      | false ↦ (above-without c.number d cs h.0, rising-without d cs h.1)
+    ]
+
+above_more : (m n : ℕ) (cs : List Connection) → m < n → IsAbove n cs → IsAbove m cs
+above_more m n [] less h = tt
+above_more m n (c ∷ cs) less h = (omega (arith, h.0), above_more m n cs less h.1)
+
+above-placed : (n : ℕ) (new : Connection) (cs : List Connection) → n < new.number → IsAbove n cs → IsAbove n (placed new cs)
+above-placed n new [] less h = (less, tt)
+above-placed n new (c ∷ cs) less h =
+    elim (ltb new.number c.number) as (λ b. IsAbove n (cond b (new ∷ c ∷ cs) (c ∷ placed new cs))) [
+      | true ↦ (less, h)
+      | false ↦ (h.0, above-placed n new cs less h.1)
+    ]
+
+-- a new number goes to its place
+rising-placed : (new : Connection) (cs : List Connection) → find (has_number new.number) cs ≡ None → IsRising cs → IsRising (placed new cs)
+rising-placed new [] = λ none h. (tt, tt)
+rising-placed new (c ∷ cs) = λ none h.
+    let other : has_number new.number c ≡ false =
+    (elim (has_number new.number c) as (λ b. cond b (Some c) (find (has_number new.number) cs) ≡ None → b ≡ false) [
+      | true ↦ λ e. absurd (some_none c e)
+      | false ↦ λ e. refl
+    ]) none in
+    let rest : find (has_number new.number) cs ≡ None = sym (cond-false _ _ _ other) ∙ none in
+    cases_lt new.number c.number
+    (λ b. IsRising (cond b (new ∷ c ∷ cs) (c ∷ placed new cs)))
+    (λ less. ((less, above_more new.number c.number cs less h.0), h))
+    (λ le. (above-placed c.number new cs (differs c.number new.number le other) h.0, rising-placed new cs rest h.1))
+
+no_connection : (d : ℕ) (w : World) (stop few : Bool) → (is_none (connection d w) && few && not stop) ≡ true → connection d w ≡ None
+no_connection d w stop few e = none_of (connection d w) (and_left _ _ (and_left _ _ e))
+
+-- an event that is allowed and isn't Died
+sound-happened : (event : Event) (party : ℕ) (w : World) → event ≢ Died → is_allowed w party event ≡ true → IsSound w → IsSound (happened w event)
+sound-happened (Opened d) party w other l h = record { alive = h.alive; rising = rising-placed (newcomer d) w.board.connections (no_connection d w w.stopping (nat_lt (length w.board.connections) connections_most) l) h.rising }
+sound-happened (Input d line) party w other l h = sound-changed d (λ c. record c { waiting = c.waiting ++ line ∷ [] }) (λ c. refl) w h
+sound-happened (Closed d) party w other l h = record { alive = h.alive; rising = rising-without d w.board.connections h.rising }
+sound-happened (Exec d) party w other l h = sound-done d (connection d w) w h
+sound-happened (Take d n) party w other l h = sound-changed d (λ c. record c { queue = drop n c.queue }) (λ c. refl) w h
+sound-happened Halt party w other l h = record { alive = h.alive; rising = h.rising }
+sound-happened Died party w other l h = absurd (other refl)
+sound-happened event party w other l h = h
+
+-- a lawful entry that isn't Died leads from a sound world to a sound world
+pub sound-effect : (w : World) (entry : Entry) → entry.event ≢ Died → is_lawful w entry ≡ true → IsSound w → IsSound (effect w entry)
+unfolding effect is_lawful
+sound-effect w entry other l h = sound-happened entry.event entry.party w other (sym (cond-false _ _ _ h.alive) ∙ l) h
+
+-- Choices that are lawful.
+
+found_above : (p : Connection → Bool) (n : ℕ) (cs : List Connection) (c : Connection) → IsAbove n cs → find p cs ≡ Some c → n < c.number
+found_above p n [] c = λ h e. absurd (some_none c (sym e))
+found_above p n (x ∷ xs) c = λ h.
+    elim (p x) as (λ b. cond b (Some x) (find p xs) ≡ Some c → n < c.number) [
+      | true ↦ λ e. let one : x ≡ c = cc in omega (arith, h.0, ap (λ (k : Connection). k.number) one)
+      | false ↦ λ e. found_above p n xs c h.1 e
+    ]
+
+itself : (n : ℕ) → (n == n) ≡ true
+itself n = grind (arith, nat_tests)
+
+apart : (m n : ℕ) → m < n → (m == n) ≡ false
+apart m n h = grind (arith, nat_tests)
+
+-- where a connection is found to be ready, it is the one of its number
+pub ready_found : (cs : List Connection) (c : Connection) → IsRising cs → find is_ready cs ≡ Some c → (find (has_number c.number) cs ≡ Some c) × (is_ready c ≡ true)
+ready_found [] c = λ h e. absurd (some_none c (sym e))
+ready_found (x ∷ xs) c = λ h.
+    (elim (is_ready x) as (λ b. is_ready x ≡ b → cond b (Some x) (find is_ready xs) ≡ Some c → (find (has_number c.number) (x ∷ xs) ≡ Some c) × (is_ready c ≡ true)) [
+      | true ↦ λ r e.
+          let one : x ≡ c = cc in
+          let same : has_number c.number x ≡ true = ap (λ (k : Connection). k.number == c.number) one ∙ itself c.number in
+          (cond-true _ _ _ same ∙ ap Some one, ap is_ready (sym one) ∙ r)
+      | false ↦ λ r e.
+          let above : x.number < c.number = found_above is_ready x.number xs c h.0 e in
+          let rest = ready_found xs c h.1 e in
+          (cond-false _ _ _ (apart x.number c.number above) ∙ rest.0, rest.1)
+    ]) refl
+
+exec_ok : (cs : List Connection) (d : ℕ) (o : Option Connection) → find is_ready cs ≡ o → IsRising cs → option_map (λ c. c.number) o ≡ Some d → option_map_or is_ready (find (has_number d) cs) false ≡ true
+exec_ok cs d None f h e = absurd (some_none d (sym e))
+exec_ok cs d (Some c) f h e =
+    let number : c.number ≡ d = cc in
+    let found = ready_found cs c h f in
+    ap (λ k. option_map_or is_ready (find (has_number k) cs) false) (sym number) ∙ ap (λ o. option_map_or is_ready o false) found.0 ∙ found.1
+
+exec_may : (dead stop : Bool) (cs : List Connection) (d : ℕ) → dead ≡ false → IsRising cs → cond (dead || stop) None (option_map (λ (c : Connection). c.number) (find is_ready cs)) ≡ Some d →
+    cond dead false (option_map_or is_ready (find (has_number d) cs) false && not stop) ≡ true
+exec_may true stop cs d a h e = cc
+exec_may false true cs d a h e = absurd (some_none d (sym e))
+exec_may false false cs d a h e = ap (λ b. b && true) (exec_ok cs d (find is_ready cs) refl h e)
+
+-- a turn is lawful, of any party
+pub exec_lawful : (w : World) (party d : ℕ) → IsSound w → next_ready w ≡ Some d → is_lawful w (record { party = party; event = Exec d }) ≡ true
+unfolding is_lawful next_ready
+exec_lawful w party d h e = exec_may w.dead w.stopping w.board.connections d h.alive h.rising e
+
+holds_all : (o : Option Connection) → 0 < length (option_map_or (λ c. c.queue) o []) → (nat_lt 0 (length (option_map_or (λ c. c.queue) o [])) && option_map_or (holds (length (option_map_or (λ c. c.queue) o []))) o false) ≡ true
+holds_all None h = absurd (omega arith)
+holds_all (Some c) h = grind (arith, nat_tests)
+
+-- taking a whole queue that isn't empty is lawful
+pub take_lawful : (w : World) (d : ℕ) → IsSound w → 0 < length (queue_of d w) → is_lawful w (by_porter (Take d (length (queue_of d w)))) ≡ true
+unfolding is_lawful
+take_lawful w d h some = cond-false _ _ _ h.alive ∙ holds_all (connection d w) some
+
+leaving_some : (o : Option Connection) → option_map_or (λ c. c.leaving) o false ≡ true → is_some o ≡ true
+leaving_some None e = e
+leaving_some (Some c) e = refl
+
+-- closing a connection that is leaving is lawful
+pub close_lawful : (w : World) (d : ℕ) → IsSound w → is_leaving d w ≡ true → is_lawful w (by_porter (Closed d)) ≡ true
+unfolding is_lawful
+close_lawful w d h e = cond-false _ _ _ h.alive ∙ leaving_some (connection d w) e
+
+-- the porter may halt the world
+pub halt_lawful : (w : World) → IsSound w → is_lawful w (by_porter Halt) ≡ true
+unfolding is_lawful
+halt_lawful w h = cond-false _ _ _ h.alive
+
+pub sound-starting : IsSound starting
+unfolding starting
+sound-starting = record { alive = refl; rising = tt }

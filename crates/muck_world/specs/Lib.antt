@@ -1,0 +1,10 @@
+pub mod Texts
+pub mod Password
+pub mod Objects
+pub mod Connections
+pub mod World
+pub mod Talk
+pub mod Steps
+pub mod Histories
+pub mod Sound
+pub mod Rows

@@ -1,0 +1,8 @@
+//! What the world is and what happens in it, as definitions: `specs/` holds the record of the world, which events are
+//! lawful and what each does, what a line does, and whole histories; `proofs/` holds the laws about them. The code here
+//! is what those definitions need of a line of text: its words.
+#![tactic(auto)]
+
+mod words;
+
+pub use words::{alike, cut_word, trim};
