@@ -69,9 +69,9 @@ below-term names inside shorter (b ∷ more) =
     elim (b == 33) as (λ t. IsBelow (length (b ∷ more)) (if t then negated (inside Term more) else if b == 40 then closed (inside OneOf more) else key_in names (b ∷ more))) [
       | true ↦ below-more (length more) (length (b ∷ more)) (negated (inside Term more)) (omega arith) (below-negated (length more) (inside Term more) (shorter Term more))
       | false ↦ elim (b == 40) as (λ t. IsBelow (length (b ∷ more)) (if t then closed (inside OneOf more) else key_in names (b ∷ more))) [
-          | true ↦ below-more (length more) (length (b ∷ more)) (closed (inside OneOf more)) (omega arith) (below-closed (length more) (inside OneOf more) (shorter OneOf more))
-          | false ↦ below-key names b more
-        ]
+        | true ↦ below-more (length more) (length (b ∷ more)) (closed (inside OneOf more)) (omega arith) (below-closed (length more) (inside OneOf more) (shorter OneOf more))
+        | false ↦ below-key names b more
+      ]
     ]
 
 below-all_of : (names : Naming) (inside : Part → List ℕ → Reading) → ((p : Part) (t : List ℕ) → IsBelow (length t) (inside p t)) → (text : List ℕ) → IsBelow (length text) (all_of_in names inside text)
@@ -109,9 +109,9 @@ same-term names f g (b ∷ more) agree =
     elim (b == 33) as (λ t. (if t then negated (f Term more) else if b == 40 then closed (f OneOf more) else key_in names (b ∷ more)) ≡ (if t then negated (g Term more) else if b == 40 then closed (g OneOf more) else key_in names (b ∷ more))) [
       | true ↦ ap negated (agree Term more (omega arith))
       | false ↦ elim (b == 40) as (λ t. (if t then closed (f OneOf more) else key_in names (b ∷ more)) ≡ (if t then closed (g OneOf more) else key_in names (b ∷ more))) [
-          | true ↦ ap closed (agree OneOf more (omega arith))
-          | false ↦ refl
-        ]
+        | true ↦ ap closed (agree OneOf more (omega arith))
+        | false ↦ refl
+      ]
     ]
 
 same-all_of : (names : Naming) (f g : Part → List ℕ → Reading) (text : List ℕ) → ((p : Part) (t : List ℕ) → IsBelow (length t) (f p t))

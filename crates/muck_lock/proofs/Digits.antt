@@ -11,32 +11,25 @@ use Rattle.muck_model.specs.Decimal.{is_digit, is_first_digit, is_decimal, value
 use Rattle.muck_model.specs.Numbers.{below, numbered, signed_of, dbref_of}
 use Rattle.muck_model.proofs.Decimals.{decimal_within}
 use Rattle.muck_lock.specs.Made.{is_short}
+use Rattle.muck_lock.proofs.Passes.{and_first, and_rest}
 
 own : IsNumeralModel (λ ds. list_all is_digit ds ≡ true) (value_from 0)
 own = numerals_by_fold _ (search rules) value_from (search rules)
 
-digits_of : (n : ℕ) → n < 2 ^ 64 → list_all is_digit (decimal n) ≡ true
+pub digits_of : (n : ℕ) → n < 2 ^ 64 → list_all is_digit (decimal n) ≡ true
 digits_of n h = digits_decimal own n h
 
 value_of : (n : ℕ) → n < 2 ^ 64 → value_from 0 (decimal n) ≡ n
 value_of n h = digits_value-decimal own n h
 
-and_left : (a b : Bool) → a && b ≡ true → a ≡ true
-and_left true b h = refl
-and_left false b h = absurd (false≢true h)
-
-and_right : (a b : Bool) → a && b ≡ true → b ≡ true
-and_right true b h = h
-and_right false b h = absurd (false≢true h)
-
 -- bytes that are digits, of which the first is no 0
 decimal_from : (ds : List ℕ) → list_all is_digit ds ≡ true → 0 < length ds → 48 < get_or ds 0 0 → is_decimal ds ≡ true
 decimal_from [] h some first = absurd (omega (arith, some))
-decimal_from (b ∷ []) h some first = and_left (is_digit b) true h
+decimal_from (b ∷ []) h some first = and_first (is_digit b) true h
 decimal_from (b ∷ c ∷ more) h some first =
-    let d : is_digit b ≡ true = and_left (is_digit b) (list_all is_digit (c ∷ more)) h in
+    let d : is_digit b ≡ true = and_first (is_digit b) (list_all is_digit (c ∷ more)) h in
     let low : nat_le 49 b ≡ true = le-leb 49 b (omega (arith, first)) in
-    rw (low, and_right (nat_le 48 b) (nat_le b 57) d, and_right (is_digit b) (list_all is_digit (c ∷ more)) h) refl
+    rw (low, and_rest (nat_le 48 b) (nat_le b 57) d, and_rest (is_digit b) (list_all is_digit (c ∷ more)) h) refl
 
 is_decimal-decimal : (n : ℕ) → n < 2 ^ 64 → is_decimal (decimal n) ≡ true
 is_decimal-decimal n h =
@@ -53,8 +46,8 @@ decimal_of-decimal most n h le =
 no_sign : (ds : List ℕ) → list_all is_digit ds ≡ true → 0 < length ds → signed_of ds ≡ option_map (λ n. numbered (pos n)) (decimal_of 2147483647 ds)
 no_sign [] h some = absurd (omega (arith, some))
 no_sign (b ∷ more) h some =
-    let d : is_digit b ≡ true = and_left (is_digit b) (list_all is_digit more) h in
-    let low : 48 ≤ b = leb-true 48 b (and_left (nat_le 48 b) (nat_le b 57) d) in
+    let d : is_digit b ≡ true = and_first (is_digit b) (list_all is_digit more) h in
+    let low : 48 ≤ b = leb-true 48 b (and_first (nat_le 48 b) (nat_le b 57) d) in
     let other : (b == 45) ≡ false = ne_eqb b 45 (λ e. omega (arith, low, e)) in
     rw other refl
 

@@ -5,4 +5,8 @@ pub mod Passing
 pub mod Lasts
 pub mod Locks
 pub mod Digits
+pub mod Passes
+pub mod Inside
+pub mod Kept
+pub mod Back
 pub mod Walks

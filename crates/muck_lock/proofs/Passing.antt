@@ -326,10 +326,10 @@ pub step_key : (names : Naming) (text : List ℕ) (old : List Waiting) (at b siz
     → size ≡ position_or_len ends_key (drop at text) → key_of names (take size (drop at text)) ≡ Some key → outcome_behind names text old key (at + size) ≡ outcome_at names text old at
 step_key names text old at b size key here n g end some =
     sym (ap (λ r. whole (length text) (resumed names (reverse old) Term r))
-        (key_here names text at b here n g
-        ∙ ap (λ z. key_or_fault (key_of names (take z (drop at text))) (drop at text) (drop z (drop at text))) (sym end)
-        ∙ ap (λ k. key_or_fault k (drop at text) (drop size (drop at text))) some
-        ∙ ap (λ z. Ok (key, z)) (drop-drop size at text)))
+    (key_here names text at b here n g
+    ∙ ap (λ z. key_or_fault (key_of names (take z (drop at text))) (drop at text) (drop z (drop at text))) (sym end)
+    ∙ ap (λ k. key_or_fault k (drop at text) (drop size (drop at text))) some
+    ∙ ap (λ z. Ok (key, z)) (drop-drop size at text)))
 
 -- the text ends where a term is wanted
 pub step_end : (names : Naming) (text : List ℕ) (old : List Waiting) (at : ℕ) → length text ≤ at → at ≤ length text → outcome_at names text old at ≡ Err at

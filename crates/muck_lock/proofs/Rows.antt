@@ -13,7 +13,8 @@ use Rattle.muck_lock.specs.Grammar.{lock_of, part_of}
 abbrev names : Naming
 names = record {
   find = λ name. if bytes_eq name (codes "*Two") then Some (numbered (pos 2)) else if bytes_eq name (codes "song") then Some (numbered (pos 5)) else None;
-  is_program = λ d. true }
+  is_program = λ d. true;
+}
 
 abbrev no_programs : Naming
 no_programs = record names { is_program = λ d. false }

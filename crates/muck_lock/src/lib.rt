@@ -11,6 +11,6 @@ mod reader;
 
 pub use fault::LockFault;
 pub use key::Finder;
-pub use keys::{opens, Keys};
+pub use keys::{Keys, opens};
 pub use printer::print;
 pub use reader::read;

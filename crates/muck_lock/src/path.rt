@@ -4,6 +4,7 @@ ghost use Rattle.std.specs.List.{list_any};
 ghost use Rattle.muck_lock.specs.Paths.{segments_in, is_in_segment, is_barred, is_path};
 
 const SEGMENTS_MOST: usize = 16;
+
 const PATH_MOST: usize = 128;
 
 // How many segments stand between the `/`, without the empty ones.

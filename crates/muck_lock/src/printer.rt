@@ -5,9 +5,9 @@ ghost use Rattle.muck_lock.specs.Law.{IsPrinted, ReadsBack};
 ghost use Rattle.muck_lock.specs.Made.{is_made, is_short, is_text};
 ghost use Rattle.muck_lock.specs.Printed.{groups_both, groups_either, opening, closing, written};
 
+use crate::fault::LockFault;
 use crate::part::Part;
 use itoa::Buffer;
-use crate::fault::LockFault;
 use muck_model::{Dbref, Line, Lock, NoMemory, TEXT_MOST};
 use std::alloc::Global;
 

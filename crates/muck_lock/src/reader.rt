@@ -6,7 +6,7 @@ ghost use Rattle.muck_lock.specs.Grammar.{lock_of};
 ghost use Rattle.muck_lock.specs.Waiting.{ends, filled, place_behind, outcome_at, outcome_behind, LastStays, GoesOn, IsRead};
 
 use crate::fault::LockFault;
-use crate::key::{key_end, read_key, Finder};
+use crate::key::{Finder, key_end, read_key};
 use muck_model::{Boxed, Line, Lock, NoMemory};
 use std::alloc::Global;
 
@@ -101,7 +101,12 @@ fn take_last(waiting: &mut Vec<Waiting>, ahead: Option<u8>) -> Option<Waiting>
 }
 
 // Puts the lock into all that waits for no more than it.
-fn put_together(alloc: Global, text: &[u8], piece: Piece, waiting: &mut Vec<Waiting>) -> Result<Piece, NoMemory>
+fn put_together(
+    alloc: Global,
+    text: &[u8],
+    piece: Piece,
+    waiting: &mut Vec<Waiting>,
+) -> Result<Piece, NoMemory>
     requires { piece.end ≤ length text.now }
     ensures outcome { IfOk result (λ r. (names : Naming) → outcome_behind names text.now waiting.new.items r.lock r.end ≡ outcome_behind names text.now waiting.old.items piece.lock piece.end) }
     ensures end { IfOk result (λ r. (piece.end ≤ r.end) × (r.end ≤ length text.now)) }
@@ -143,7 +148,13 @@ fn next_behind(text: &[u8], piece: Piece, waiting: &mut Vec<Waiting>) -> Result<
 }
 
 // Reads the key at a place, and goes on behind it.
-fn read_behind_key<F: Finder>(alloc: Global, finder: &F, text: &[u8], at: usize, waiting: &mut Vec<Waiting>) -> Result<Next, LockFault>
+fn read_behind_key<F: Finder>(
+    alloc: Global,
+    finder: &F,
+    text: &[u8],
+    at: usize,
+    waiting: &mut Vec<Waiting>,
+) -> Result<Next, LockFault>
     requires inside { at < length text.now }
     requires text { text_fault text.now ≡ None }
     requires key { (slice_index text.now at ≢ 33) × (slice_index text.now at ≢ 40) }
@@ -154,7 +165,10 @@ fn read_behind_key<F: Finder>(alloc: Global, finder: &F, text: &[u8], at: usize,
     match read_key(alloc, finder, rest.split_at(size).0)? {
         None => Err(LockFault::BadLock { at }),
         Some(lock) => {
-            let piece = Piece { lock, end: at + size };
+            let piece = Piece {
+                lock,
+                end: at + size,
+            };
             let piece = put_together(alloc, text, piece, waiting)?;
             next_behind(text, piece, waiting)
         }
@@ -162,7 +176,13 @@ fn read_behind_key<F: Finder>(alloc: Global, finder: &F, text: &[u8], at: usize,
 }
 
 // Reads a term, or what stands before it.
-fn read_term<F: Finder>(alloc: Global, finder: &F, text: &[u8], at: usize, waiting: &mut Vec<Waiting>) -> Result<Next, LockFault>
+fn read_term<F: Finder>(
+    alloc: Global,
+    finder: &F,
+    text: &[u8],
+    at: usize,
+    waiting: &mut Vec<Waiting>,
+) -> Result<Next, LockFault>
     requires inside { at < length text.now }
     requires text { text_fault text.now ≡ None }
     ensures { GoesOn (naming (F.found finder.now) (F.programs finder.now)) text.now (outcome_at (naming (F.found finder.now) (F.programs finder.now)) text.now waiting.old.items at) at waiting.new.items result }

@@ -16,7 +16,7 @@ returns-then-eq g c = sym (found (g.K.Keys.nexts c.args.keys.now) (λ d. same d 
 pub loop-n-smaller : goal.loop-n-smaller
 loop-n-smaller g c =
     let P : Dbref → Type 0 = λ d. length (walk (g.K.Keys.nexts c.args.keys.now) (length (g.K.Keys.contents c.args.keys.now c.args.x)) d)
-        < length (walk (g.K.Keys.nexts c.args.keys.now) (length (g.K.Keys.contents c.args.keys.now c.args.x)) c.loop-n.d) in
+    < length (walk (g.K.Keys.nexts c.args.keys.now) (length (g.K.Keys.contents c.args.keys.now c.args.x)) c.loop-n.d) in
     subst P (sym c.next-d.ensures) (walk-smaller (g.K.Keys.nexts c.args.keys.now) (λ d. same d c.args.n) (g.K.Keys.contents c.args.keys.now c.args.x) c.loop-n.d c.loop-n.invariant
     (goes_from (same c.loop-n.d nothing) c.loop-n-test.ensures))
 

@@ -16,7 +16,7 @@ returns-then-prop_is g c = sym (found (g.K.Keys.nexts c.args.keys.now) (λ d. g.
 pub loop-d-smaller : goal.loop-d-smaller
 loop-d-smaller g c =
     let P : Dbref → Type 0 = λ d. length (walk (g.K.Keys.nexts c.args.keys.now) (length (g.K.Keys.contents c.args.keys.now c.args.x)) d)
-        < length (walk (g.K.Keys.nexts c.args.keys.now) (length (g.K.Keys.contents c.args.keys.now c.args.x)) c.loop-d.d) in
+    < length (walk (g.K.Keys.nexts c.args.keys.now) (length (g.K.Keys.contents c.args.keys.now c.args.x)) c.loop-d.d) in
     subst P (sym c.next-d.ensures) (walk-smaller (g.K.Keys.nexts c.args.keys.now) (λ d. g.K.Keys.has c.args.keys.now d c.args.path.now c.args.value.now) (g.K.Keys.contents c.args.keys.now c.args.x) c.loop-d.d c.loop-d.invariant
     (goes_from (same c.loop-d.d nothing) c.loop-d-test.ensures))
 

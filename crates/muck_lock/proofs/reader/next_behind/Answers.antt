@@ -15,15 +15,19 @@ returns-else-is_empty c = λ names. step_open names c.args.text.now c.args.waiti
 
 pub returns-in_ok-push-in-Some-eq38 : goal.returns-in_ok-push-in-Some-eq38
 returns-in_ok-push-in-Some-eq38 c = λ names.
-    let within : c.args.piece.end < length c.args.text.now = slice_get_within c.args.text.now c.args.piece.end c.in-Some-eq38.field-0 (sym c.in-Some-eq38.ensures) in
-    (step_and names c.args.text.now c.args.waiting.now.items c.push.new.self.items c.args.piece.lock c.args.piece.end c.requires.stays (sym c.in-Some-eq38.ensures ∙ ap Some c.in-Some-eq38.field-0-test) c.in_ok-push-in-Some-eq38.ensures.items,
-      omega arith, omega (arith, within))
+    let within : c.args.piece.end < length c.args.text.now = slice_get_within c.args.text.now c.args.piece.end c.in-Some-eq38.field-0 (sym c.in-Some-eq38.ensures) in (
+      step_and names c.args.text.now c.args.waiting.now.items c.push.new.self.items c.args.piece.lock c.args.piece.end c.requires.stays (sym c.in-Some-eq38.ensures ∙ ap Some c.in-Some-eq38.field-0-test) c.in_ok-push-in-Some-eq38.ensures.items,
+      omega arith,
+      omega (arith, within),
+    )
 
 pub returns-in_ok-push-in-Some-eq124 : goal.returns-in_ok-push-in-Some-eq124
 returns-in_ok-push-in-Some-eq124 c = λ names.
-    let within : c.args.piece.end < length c.args.text.now = slice_get_within c.args.text.now c.args.piece.end c.in-Some-eq124.field-0 (sym c.in-Some-eq124.ensures) in
-    (step_or names c.args.text.now c.args.waiting.now.items c.push-in-Some-eq124.new.self.items c.args.piece.lock c.args.piece.end c.requires.stays (sym c.in-Some-eq124.ensures ∙ ap Some c.in-Some-eq124.field-0-test) c.in_ok-push-in-Some-eq124.ensures.items,
-      omega arith, omega (arith, within))
+    let within : c.args.piece.end < length c.args.text.now = slice_get_within c.args.text.now c.args.piece.end c.in-Some-eq124.field-0 (sym c.in-Some-eq124.ensures) in (
+      step_or names c.args.text.now c.args.waiting.now.items c.push-in-Some-eq124.new.self.items c.args.piece.lock c.args.piece.end c.requires.stays (sym c.in-Some-eq124.ensures ∙ ap Some c.in-Some-eq124.field-0-test) c.in_ok-push-in-Some-eq124.ensures.items,
+      omega arith,
+      omega (arith, within),
+    )
 
 pub returns-in-Some : goal.returns-in-Some
 returns-in-Some c = λ names. step_fault names c.args.text.now c.args.waiting.now.items c.args.piece.lock c.args.piece.end c.in-Some.field-0 c.requires.stays (sym c.in-Some.ensures)

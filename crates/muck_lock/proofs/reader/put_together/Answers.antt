@@ -13,10 +13,10 @@ loop-last-preserved c =
     let place : c.place_behind-end.result ≡ place_behind c.in-Some.last c.loop-last.end = c.place_behind-end.ensures in
     record {
       outcome = λ names.
-        ap (λ l. outcome_behind names c.args.text.now c.take_last.new.waiting.items l c.place_behind-end.result) c.in_ok-lock.ensures
-        ∙ ap (λ e. outcome_behind names c.args.text.now c.take_last.new.waiting.items (filled c.in-Some.last c.loop-last.lock) e) place
-        ∙ sym (step_fills names c.args.text.now c.loop-last.waiting.items c.take_last.new.waiting.items c.in-Some.last c.loop-last.lock c.loop-last.end t.0 goes)
-        ∙ c.loop-last.invariant.outcome names;
+          ap (λ l. outcome_behind names c.args.text.now c.take_last.new.waiting.items l c.place_behind-end.result) c.in_ok-lock.ensures
+          ∙ ap (λ e. outcome_behind names c.args.text.now c.take_last.new.waiting.items (filled c.in-Some.last c.loop-last.lock) e) place
+          ∙ sym (step_fills names c.args.text.now c.loop-last.waiting.items c.take_last.new.waiting.items c.in-Some.last c.loop-last.lock c.loop-last.end t.0 goes)
+          ∙ c.loop-last.invariant.outcome names;
       from = omega (arith, place, within.0, c.loop-last.invariant.from);
       to = omega (arith, place, within.1);
     }
