@@ -1,19 +1,19 @@
 -- What is written of a lock is read as that lock.
-use Rattle.std.proofs.Common.{◌≡◌, ℕ, ◌+◌, ◌<◌, ◌≤◌, ◌^◌, zero, suc, Bool, true, false, cond, List, [], ◌∷◌, ◌++◌, append_assoc, length, take, drop, Some, None, Option, Result, Ok, Err, refl, sym, ◌∙◌, ap, subst, inl, inr, arith}
-use Rattle.std.specs.Prelude.{◌-◌, ℤ, pos, negsuc, not, ◌&&◌, ◌||◌, ◌==◌, nat_le, nat_lt, if◌then◌else◌}
-use Rattle.std.specs.List.{before_first, position, position_or_len, prefix_len}
+use Rattle.std.proofs.Common.{◌≡◌, ℕ, ◌+◌, ◌<◌, ◌≤◌, ◌^◌, suc, Bool, true, false, cond, List, [], ◌∷◌, ◌++◌, append_assoc, length, take, drop, Some, None, Ok, Err, refl, sym, ◌∙◌, ap, subst, arith}
+use Rattle.std.specs.Prelude.{◌-◌, ℤ, pos, negsuc, not, ◌&&◌, ◌==◌, nat_le, nat_lt, if◌then◌else◌}
+use Rattle.std.specs.List.{position, position_or_len}
 use Rattle.std.specs.Fmt.{decimal, signed_decimal}
 use Rattle.std.proofs.lemmas.Bool.{lt-ltb, ltb-true, leb-true, eqb-true, ne_eqb, false≢true}
 use Rattle.std.proofs.lemmas.List.{length-append, append-nil, take_at, drop_at}
 use Rattle.muck_model.specs.Decimal.{is_digit}
-use Rattle.muck_model.specs.Numbers.{dbref_of, numbered}
+use Rattle.muck_model.specs.Numbers.{dbref_of}
 use Rattle.muck_model.specs.declared.dbref.Dbref.{Dbref}
 use Rattle.muck_model.specs.declared.lock.Lock.{Lock}
 use Rattle.muck_model.specs.declared.lock.Lock.TheVariants.{Free, Object, Prop, Not, Both, Either}
 use Rattle.muck_lock.specs.Naming.{Naming}
 use Rattle.muck_lock.specs.Paths.{is_path}
-use Rattle.muck_lock.specs.Grammar.{Reading, ends_key, is_colon, object_key, property_key, named_key, key_of, key_or_fault, key_in, negated, closed, with_first, followed, joined, term_in, part_of, reading, whole, whole_of, lock_of}
-use Rattle.muck_lock.specs.Made.{is_short, is_text, is_made, is_made_step}
+use Rattle.muck_lock.specs.Grammar.{Reading, ends_key, is_colon, object_key, property_key, named_key, key_of, key_or_fault, key_in, negated, closed, with_first, followed, joined, part_of, reading, whole, whole_of, lock_of}
+use Rattle.muck_lock.specs.Made.{is_short, is_made, is_made_step}
 use Rattle.muck_lock.specs.Printed.{groups_both, groups_either, grouped, written, written_step, printed}
 use Rattle.muck_lock.specs.Law.{has_no_program, has_no_program_step, ReadsBack}
 use Rattle.muck_lock.specs.declared.part.Part.{Part}
@@ -22,7 +22,7 @@ use Rattle.muck_lock.proofs.Locks.{each_lock, at_free, at_object, at_prop, at_no
 use Rattle.muck_lock.proofs.Passes.{Passes, passes-more, passes-append, passes-all, prefix-stops, and_first, and_rest}
 use Rattle.muck_lock.proofs.Digits.{digits_of, dbref_of-written}
 use Rattle.muck_lock.proofs.Depth.{reading_is}
-use Rattle.muck_lock.proofs.Kept.{lacks, begins_path, is_path_start, is_kept_property, is_kept, is_kept_step, IsKeptReading, kept-part_of}
+use Rattle.muck_lock.proofs.Kept.{lacks, begins_path, is_kept_property, is_kept, is_kept_step, IsKeptReading, kept-part_of}
 
 not_end : ℕ → Bool
 not_end b = not (ends_key b)

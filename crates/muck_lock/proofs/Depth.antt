@@ -1,12 +1,12 @@
 -- The grammar without its depth: a part is read by the parts inside, which are shorter.
-use Rattle.std.proofs.Common.{◌≡◌, ℕ, ◌+◌, ◌<◌, ◌≤◌, zero, suc, Bool, true, false, cond, List, [], ◌∷◌, length, take, drop, Some, None, Option, Result, Ok, Err, refl, sym, ◌∙◌, ap, inl, inr, arith}
+use Rattle.std.proofs.Common.{◌≡◌, ℕ, ◌+◌, ◌<◌, ◌≤◌, zero, suc, true, false, cond, List, [], ◌∷◌, length, take, drop, Some, None, Option, Ok, Err, refl, ◌∙◌, ap, arith}
 use Rattle.std.specs.Prelude.{not, ◌-◌, ◌==◌, if◌then◌else◌}
-use Rattle.std.specs.List.{before_first, position, position_or_len}
+use Rattle.std.specs.List.{position_or_len}
 use Rattle.std.proofs.lemmas.List.{length-drop}
 use Rattle.muck_model.specs.declared.lock.Lock.{Lock}
-use Rattle.muck_model.specs.declared.lock.Lock.TheVariants.{Not, Both, Either}
+use Rattle.muck_model.specs.declared.lock.Lock.TheVariants.{Both, Either}
 use Rattle.muck_lock.specs.Naming.{Naming}
-use Rattle.muck_lock.specs.Grammar.{Reading, ends_key, key_of, key_or_fault, key_in, negated, closed_by, closed, with_first, followed, joined, term_in, all_of_in, one_of_in, part_in, part_of, reading}
+use Rattle.muck_lock.specs.Grammar.{Reading, ends_key, key_of, key_or_fault, key_in, negated, closed_by, closed, with_first, followed, joined, term_in, all_of_in, part_in, part_of, reading}
 use Rattle.muck_lock.specs.declared.part.Part.{Part}
 use Rattle.muck_lock.specs.declared.part.Part.TheVariants.{OneOf, AllOf, Term}
 

@@ -1,13 +1,13 @@
 -- Numbers of objects as they are written: what bytes they have, and that they are read again.
-use Rattle.std.proofs.Common.{◌≡◌, ℕ, ◌+◌, ◌-◌, ◌*◌, ◌^◌, ◌<◌, ◌≤◌, zero, suc, Bool, true, false, cond, List, [], ◌∷◌, length, get_or, Some, None, Option, refl, sym, ◌∙◌, ap, subst, inl, inr, arith, rules}
-use Rattle.std.specs.Prelude.{ℤ, pos, negsuc, not, ◌&&◌, ◌==◌, nat_le, nat_lt, if◌then◌else◌}
+use Rattle.std.proofs.Common.{◌≡◌, ℕ, ◌+◌, ◌^◌, ◌<◌, ◌≤◌, suc, true, false, List, [], ◌∷◌, length, get_or, Some, refl, ◌∙◌, ap, inl, inr, arith, rules}
+use Rattle.std.specs.Prelude.{ℤ, pos, negsuc, ◌==◌, nat_le}
 use Rattle.std.specs.Option.{option_map}
-use Rattle.std.specs.List.{list_all, position_or_len, prefix_len}
+use Rattle.std.specs.List.{list_all}
 use Rattle.std.specs.Fmt.{decimal, signed_decimal}
-use Rattle.std.proofs.lemmas.Bool.{cases_lt, lt-ltb, le-leb, false≢true, ltb-true, leb-true, ne_eqb}
+use Rattle.std.proofs.lemmas.Bool.{cases_lt, le-leb, ltb-true, leb-true, ne_eqb}
 use Rattle.std.proofs.lemmas.Fmt.{digits_decimal, digits_value-decimal, decimal_digit, decimal_nonempty, first_decimal}
 use Rattle.std.proofs.lemmas.Str.Parse.{IsNumeralModel, numerals_by_fold}
-use Rattle.muck_model.specs.Decimal.{is_digit, is_first_digit, is_decimal, value_from, decimal_of}
+use Rattle.muck_model.specs.Decimal.{is_digit, is_decimal, value_from, decimal_of}
 use Rattle.muck_model.specs.Numbers.{below, numbered, signed_of, dbref_of}
 use Rattle.muck_model.proofs.Decimals.{decimal_within}
 use Rattle.muck_lock.specs.Made.{is_short}

@@ -1,16 +1,15 @@
 -- The bytes of a written lock are those of texts.
-use Rattle.std.proofs.Common.{◌≡◌, ℕ, ◌+◌, ◌<◌, ◌≤◌, ◌^◌, suc, Bool, true, false, List, [], ◌∷◌, ◌++◌, None, Some, Option, refl, sym, ◌∙◌, ap, subst, arith}
+use Rattle.std.proofs.Common.{◌≡◌, ℕ, ◌<◌, ◌≤◌, ◌^◌, suc, Bool, true, false, List, [], ◌∷◌, ◌++◌, None, Some, Option, refl, sym, ◌∙◌, ap, subst, arith}
 use Rattle.std.specs.Prelude.{ℤ, pos, negsuc, ◌&&◌, nat_le, nat_lt}
 use Rattle.std.specs.Option.{is_none}
 use Rattle.std.specs.Fmt.{decimal, signed_decimal}
 use Rattle.std.proofs.lemmas.Bool.{false≢true, ltb-true, leb-true, le-ltb}
-use Rattle.muck_model.specs.Bytes.{is_outside, text_fault}
+use Rattle.muck_model.specs.Bytes.{text_fault}
 use Rattle.muck_model.specs.Decimal.{is_digit}
-use Rattle.muck_model.specs.declared.dbref.Dbref.{Dbref}
 use Rattle.muck_model.specs.declared.lock.Lock.{Lock}
 use Rattle.muck_model.specs.declared.lock.Lock.TheVariants.{Free, Object, Prop, Not, Both, Either}
 use Rattle.muck_lock.specs.Made.{is_short, is_text, is_made, is_made_step}
-use Rattle.muck_lock.specs.Printed.{groups_both, groups_either, opening, closing, grouped, written, written_step}
+use Rattle.muck_lock.specs.Printed.{groups_both, groups_either, grouped, written, written_step}
 use Rattle.muck_lock.specs.declared.part.Part.{Part}
 use Rattle.muck_lock.specs.declared.part.Part.TheVariants.{OneOf, AllOf, Term}
 use Rattle.muck_lock.proofs.Locks.{each_lock, at_free, at_object, at_prop, at_not, at_both, at_either}

@@ -1,12 +1,12 @@
 -- What a text is read as has keys that can be written.
-use Rattle.std.proofs.Common.{◌≡◌, ℕ, ◌+◌, ◌<◌, ◌≤◌, zero, suc, Bool, true, false, cond, List, [], ◌∷◌, length, take, drop, Some, None, Option, Result, Ok, Err, refl, sym, ◌∙◌, ap, subst, inl, inr, arith}
-use Rattle.std.specs.Prelude.{not, ◌&&◌, ◌||◌, ◌==◌, if◌then◌else◌}
-use Rattle.std.specs.List.{before_first, position, position_or_len, prefix_len}
+use Rattle.std.proofs.Common.{◌≡◌, ℕ, ◌+◌, zero, suc, Bool, true, false, cond, List, [], ◌∷◌, length, take, drop, Some, None, Option, Ok, Err, refl, sym, ◌∙◌, ap, inl, inr}
+use Rattle.std.specs.Prelude.{not, ◌&&◌, ◌==◌, if◌then◌else◌}
+use Rattle.std.specs.List.{before_first, position, position_or_len}
 use Rattle.std.proofs.lemmas.Bool.{cases_lt, lt-ltb, le-ltb, eq-eqb, false≢true}
 use Rattle.muck_model.specs.declared.dbref.Dbref.{Dbref}
 use Rattle.muck_model.specs.Numbers.{dbref_of}
 use Rattle.muck_model.specs.declared.lock.Lock.{Lock, Lock-F, fold-Lock}
-use Rattle.muck_model.specs.declared.lock.Lock.TheVariants.{Free, Object, Prop, Not, Both, Either}
+use Rattle.muck_model.specs.declared.lock.Lock.TheVariants.{Object, Prop, Both, Either}
 use Rattle.muck_lock.specs.Naming.{Naming}
 use Rattle.muck_lock.specs.Paths.{is_path}
 use Rattle.muck_lock.specs.Grammar.{Reading, ends_key, is_colon, object_key, property_key, named_key, key_of, key_or_fault, key_in, negated, closed_by, closed, with_first, followed, joined, term_in, all_of_in, part_in, part_of}

@@ -1,5 +1,5 @@
 -- One step of reading in one pass leaves the outcome.
-use Rattle.std.proofs.Common.{◌≡◌, ℕ, ◌+◌, ◌-◌, ◌<◌, ◌≤◌, zero, suc, Bool, true, false, cond, List, [], ◌∷◌, ◌++◌, length, take, drop, reverse, Some, None, Option, Result, Ok, Err, add-one, refl, sym, ◌∙◌, ap, subst, inl, inr, arith}
+use Rattle.std.proofs.Common.{◌≡◌, ℕ, ◌+◌, ◌-◌, ◌<◌, ◌≤◌, zero, suc, Bool, true, false, List, [], ◌∷◌, ◌++◌, length, take, drop, reverse, Some, None, Option, Result, Ok, Err, add-one, refl, sym, ◌∙◌, ap, subst, arith}
 use Rattle.std.specs.Prelude.{not, ◌&&◌, ◌==◌, if◌then◌else◌, slice_get}
 use Rattle.std.specs.List.{before_first, position_or_len}
 use Rattle.std.proofs.lemmas.List.{length-drop, reverse-append, length-reverse, drop-drop, drop_all}
@@ -8,8 +8,8 @@ use Rattle.std.proofs.lemmas.Option.{slice_get_within}
 use Rattle.muck_model.specs.declared.lock.Lock.{Lock}
 use Rattle.muck_model.specs.declared.lock.Lock.TheVariants as locks
 use Rattle.muck_lock.specs.Naming.{Naming}
-use Rattle.muck_lock.specs.Grammar.{Reading, ends_key, key_of, key_or_fault, key_in, negated, closed_by, closed, with_first, followed, joined, term_in, part_in, reading, whole, whole_of, lock_of}
-use Rattle.muck_lock.specs.Waiting.{ends, filled, wanted, given, filling, widened, resumed, place_behind, outcome_at, outcome_behind, LastStays, GoesOn}
+use Rattle.muck_lock.specs.Grammar.{Reading, ends_key, key_of, key_or_fault, key_in, negated, closed, with_first, followed, joined, term_in, reading, whole, lock_of}
+use Rattle.muck_lock.specs.Waiting.{ends, filled, widened, resumed, place_behind, outcome_at, outcome_behind, LastStays, GoesOn}
 use Rattle.muck_lock.specs.declared.part.Part.{Part}
 use Rattle.muck_lock.specs.declared.part.Part.TheVariants.{OneOf, AllOf, Term}
 use Rattle.muck_lock.specs.declared.reader.Waiting.{Waiting}

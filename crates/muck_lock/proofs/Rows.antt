@@ -1,8 +1,7 @@
 -- Texts of locks with what they are read as, and where reading fails.
-use Rattle.std.specs.Prelude.{◌≡◌, ℕ, ℤ, pos, negsuc, Bool, true, false, ◌==◌, List, [], ◌∷◌, ◌++◌, Option, Some, None, Result, Ok, Err, codes, refl, bytes_eq, if◌then◌else◌}
+use Rattle.std.specs.Prelude.{◌≡◌, ℕ, pos, true, false, [], Some, None, Ok, Err, codes, refl, bytes_eq, if◌then◌else◌}
 use Rattle.muck_model.specs.Decimal.{decimal_of}
 use Rattle.muck_model.specs.Numbers.{dbref_of, numbered}
-use Rattle.muck_model.specs.declared.dbref.Dbref.{Dbref}
 use Rattle.muck_model.specs.declared.lock.Lock.{Lock}
 use Rattle.muck_model.specs.declared.lock.Lock.TheVariants.{Free, Object, Prop, Not, Both, Either}
 use Rattle.muck_lock.specs.Naming.{Naming}

@@ -7,3 +7,5 @@ pub mod Printed
 pub mod Waiting
 pub mod Made
 pub mod Law
+pub mod Memory
+pub mod Standing

@@ -1,5 +1,5 @@
 -- Each step of the walk is one of the laws of walks.
-use Rattle.std.proofs.Common.{◌≡◌, ℕ, ◌<◌, sym, length, subst}
+use Rattle.std.proofs.Common.{◌<◌, sym, length, subst}
 use Rattle.muck_model.specs.declared.dbref.Dbref.{Dbref}
 use Rattle.muck_lock.specs.Chain.{same, nothing}
 use Rattle.muck_lock.proofs.Walks.{Walking, walk, begins, at_end, found, goes_on, walk-smaller, goes_from, ends_from}

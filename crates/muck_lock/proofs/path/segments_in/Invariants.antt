@@ -1,4 +1,4 @@
-use Rattle.std.proofs.Common.{◌≡◌, ◌+◌, ◌≤◌, false, drop}
+use Rattle.std.proofs.Common.{◌≡◌, ◌+◌, ◌≤◌, drop}
 use Rattle.muck_lock.specs.Paths.{segments_from, segments_in}
 use Rattle.muck_lock.proofs.path.segments_in.Given as goal
 

@@ -1,5 +1,5 @@
 -- What is taken from the end goes on with the lock.
-use Rattle.std.proofs.Common.{◌≡◌, ◌≤◌, ℕ, true, length, sym, ◌∙◌, ap, arith}
+use Rattle.std.proofs.Common.{◌≡◌, true, sym, ◌∙◌, ap, arith}
 use Rattle.std.specs.Prelude.{slice_get}
 use Rattle.muck_lock.specs.Waiting.{ends, filled, place_behind, outcome_behind}
 use Rattle.muck_lock.proofs.Passing.{step_fills, place_behind-within}

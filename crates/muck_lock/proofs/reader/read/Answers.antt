@@ -1,5 +1,5 @@
 -- The first step, and a text that ends where a term is wanted.
-use Rattle.std.proofs.Common.{◌≡◌, ◌<◌, length, sym, ◌∙◌, ap, arith}
+use Rattle.std.proofs.Common.{length, sym, ◌∙◌, ap, arith}
 use Rattle.muck_lock.specs.Naming.{Naming, naming}
 use Rattle.muck_lock.specs.Grammar.{lock_of}
 use Rattle.muck_lock.specs.Waiting.{outcome_at}

@@ -1,11 +1,8 @@
 -- A key is read whole, or is a fault where it begins.
-use Rattle.std.proofs.Common.{◌≡◌, ◌≤◌, ℕ, ◌+◌, List, Some, None, Option, get_or, take, drop, length, sym, ◌∙◌, ap, arith}
-use Rattle.std.specs.Prelude.{slice_get}
+use Rattle.std.proofs.Common.{◌≡◌, Some, None, get_or, take, drop, sym, ◌∙◌, ap, arith}
 use Rattle.std.specs.List.{before_first, position_or_len}
 use Rattle.std.proofs.lemmas.Bool.{ne_eqb}
 use Rattle.std.proofs.lemmas.Option.{slice_get-get_or}
-use Rattle.muck_model.specs.Bytes.{text_fault}
-use Rattle.muck_model.specs.declared.lock.Lock.{Lock}
 use Rattle.muck_lock.specs.Naming.{Naming, naming}
 use Rattle.muck_lock.specs.Grammar.{ends_key, key_of}
 use Rattle.muck_lock.specs.Waiting.{outcome_at, outcome_behind}

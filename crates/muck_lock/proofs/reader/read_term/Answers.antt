@@ -1,5 +1,5 @@
 -- What stands before a key waits for it.
-use Rattle.std.proofs.Common.{◌≡◌, Some, get_or, ◌∙◌, ap, arith}
+use Rattle.std.proofs.Common.{◌≡◌, Some, ◌∙◌, ap, arith}
 use Rattle.std.specs.Prelude.{slice_get}
 use Rattle.std.proofs.lemmas.Option.{slice_get-get_or}
 use Rattle.muck_lock.specs.Naming.{naming}
