@@ -1,5 +1,5 @@
 -- Objects in memory, which keys are tried on, and names in memory.
-use Rattle.std.specs.Prelude.{ℕ, ℤ, pos, negsuc, zero, suc, Bool, true, false, ◌&&◌, ◌+◌, if◌then◌else◌, List, [], ◌∷◌, drop, bytes_eq, slice_get, Option, Some, None}
+use Rattle.std.specs.Prelude.{ℕ, ℤ, pos, negsuc, suc, Bool, false, ◌&&◌, ◌+◌, if◌then◌else◌, List, [], ◌∷◌, drop, bytes_eq, slice_get, Option, Some, None}
 use Rattle.std.specs.Option.{option_and_then, option_map, option_map_or}
 use Rattle.std.specs.List.{find, list_any}
 use Rattle.muck_model.specs.declared.dbref.Dbref.{Dbref}
