@@ -1,0 +1,11 @@
+//! The reader of MUF: from the lines of a source to its words, with comments left out, directives done and defined
+//! words replaced by the words that they stand for.
+#![tactic(auto)]
+
+mod fault;
+mod piece;
+mod place;
+mod token;
+
+pub use fault::{FaultKind, Refusal, TokenFault};
+pub use token::{Token, TokenKind, TokenList};
