@@ -71,3 +71,6 @@ pub inside_take : (n : ℕ) (xs : List ℕ) → are_inside xs ≡ true → are_i
 inside_take zero xs h = refl
 inside_take (suc n) [] h = refl
 inside_take (suc n) (b ∷ xs) h = inside_cons b (take n xs) (inside_head b xs h) (inside_take n xs (inside_tail b xs h))
+
+-- what stands behind the first byte of a text
+pub ruleset line_parts = (inside_text, inside_tail)

@@ -3,6 +3,7 @@
 #![tactic(auto)]
 
 mod fault;
+mod number;
 mod piece;
 mod place;
 mod token;

@@ -56,9 +56,9 @@ fn word_len(bytes: &[u8]) -> usize
     blank_at(bytes).unwrap_or(bytes.len())
 }
 
-// The text of bytes that are one.
+/// The text of bytes that are one.
 #[tactic(auto, using(crate::proofs::Texts::text_inside))]
-fn text_of(bytes: Vec<u8>) -> Line
+pub(crate) fn text_of(bytes: Vec<u8>) -> Line
     requires inside { are_inside bytes.items ≡ true }
     requires short { length bytes.items ≤ 4096 }
     ensures { result ≡ bytes.items }
