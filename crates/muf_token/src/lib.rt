@@ -4,6 +4,7 @@
 
 mod fault;
 mod number;
+mod output;
 mod piece;
 mod place;
 mod token;
