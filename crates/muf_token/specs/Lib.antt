@@ -1,4 +1,5 @@
 pub mod Bytes
+pub mod Expansion
 pub mod Faults
 pub mod Numbers
 pub mod Output
