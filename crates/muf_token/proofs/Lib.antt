@@ -2,3 +2,4 @@ pub mod Texts
 pub mod Words
 pub mod Quotes
 pub mod Expansions
+pub mod Fronts

@@ -84,17 +84,17 @@ front (Some began) line (b ∷ bytes) =
     else front (Some began) line bytes
 
 -- one piece, and what follows it
-abbrev pub then_pieces : Front → (List ℕ → List Piece) → List Piece
+abbrev pub then_pieces : Front → (ℕ → List ℕ → List Piece) → List Piece
 then_pieces ended rest = []
 then_pieces (broken line kind) rest = Broken kind ∷ []
-then_pieces (found line piece there text) rest = piece ∷ rest text
+then_pieces (found line piece there text) rest = piece ∷ rest there text
 
--- the first pieces of a text that is one line, up to a fault; each piece takes a byte at least, so that as many as it
--- has bytes are all
-abbrev pub first_pieces : ℕ → List ℕ → List Piece
-first_pieces zero text = []
-first_pieces (suc most) text = then_pieces (front None 0 text) (first_pieces most)
+-- the first pieces of a text, up to a fault. Each takes a byte at least, so that with `most` above the count of its
+-- bytes these are all
+abbrev pub first_pieces : ℕ → ℕ → List ℕ → List Piece
+first_pieces zero line text = []
+first_pieces (suc most) line text = then_pieces (front None line text) (first_pieces most)
 
 -- all pieces of a text that is one line, up to a fault
 unfoldable pub pieces : List ℕ → List Piece
-pieces text = first_pieces (length text + 1) text
+pieces text = first_pieces (suc (length text)) 0 text

@@ -2,6 +2,7 @@
 //! words replaced by the words that they stand for.
 #![tactic(auto)]
 
+mod definition;
 mod expansion;
 mod fault;
 mod number;

@@ -90,6 +90,17 @@ pub(crate) fn lower_text(alloc: Global, word: &[u8]) -> Result<Line, NoMemory>
 impl<'a> Place<'a> {
     ghost use Rattle.muf_token.specs.Places.{text_at, IsFirst, IsLead, IsWord, IsQuoted, IsFront};
 
+    /// The first place of a text that is one line.
+    #[tactic(auto, using(crate::proofs::Texts::append_none))]
+    pub fn in_text(text: &'a [u8]) -> Place<'a>
+        requires inside { are_inside text.now ≡ true }
+        requires short { length text.now ≤ 4096 }
+        ensures line { result.line ≡ 0 }
+        ensures text { text_at result ≡ text.now }
+    {
+        Place { line: 0, here: text, below: &[] }
+    }
+
     // The byte at this place and the place behind it. Byte 10 is the end of a line that has one below it.
     #[tactic(auto, using(crate::proofs::Texts::inside_text))]
     fn first(self) -> Option<(u8, Place<'a>)>
