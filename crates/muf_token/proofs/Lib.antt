@@ -3,3 +3,5 @@ pub mod Words
 pub mod Quotes
 pub mod Expansions
 pub mod Fronts
+pub mod BranchLemmas
+pub mod Bodies

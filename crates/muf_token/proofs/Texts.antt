@@ -75,6 +75,6 @@ inside_take (suc n) (b ∷ xs) h = inside_cons b (take n xs) (inside_head b xs h
 -- what stands behind the first byte of a text
 pub ruleset line_parts = (inside_text, inside_tail)
 
-pub append_none : (xs : List ℕ) → xs ++ [] ≡ xs
+pub append_none : {A : Type 0} (xs : List A) → xs ++ [] ≡ xs
 append_none [] = refl
 append_none (x ∷ xs) = ap (λ rest. x ∷ rest) (append_none xs)

@@ -1,7 +1,10 @@
+pub mod Branches
 pub mod Bytes
+pub mod Directives
 pub mod Expansion
 pub mod Faults
 pub mod Numbers
 pub mod Output
 pub mod Pieces
 pub mod Places
+pub mod Spots

@@ -2,7 +2,9 @@
 //! words replaced by the words that they stand for.
 #![tactic(auto)]
 
+mod branch;
 mod definition;
+mod directive;
 mod expansion;
 mod fault;
 mod number;
