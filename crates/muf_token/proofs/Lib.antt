@@ -5,3 +5,4 @@ pub mod Expansions
 pub mod Fronts
 pub mod BranchLemmas
 pub mod Bodies
+pub mod Lines

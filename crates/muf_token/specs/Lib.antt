@@ -7,4 +7,6 @@ pub mod Numbers
 pub mod Output
 pub mod Pieces
 pub mod Places
+pub mod Readers
+pub mod Source
 pub mod Spots

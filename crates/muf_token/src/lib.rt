@@ -7,11 +7,14 @@ mod definition;
 mod directive;
 mod expansion;
 mod fault;
+mod includes;
 mod number;
 mod output;
 mod piece;
 mod place;
+mod reader;
 mod token;
 
 pub use fault::{FaultKind, Refusal, TokenFault};
+pub use includes::{DefList, Definition, Includes};
 pub use token::{Token, TokenKind, TokenList};

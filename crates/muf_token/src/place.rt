@@ -1,5 +1,5 @@
 // A place in a text, and the pieces from there on.
-ghost use Rattle.std.specs.Prelude.{◌≡◌, ℕ, List, ◌+◌, ◌++◌, ◌∷◌, [], ◌≤◌, ◌<◌, Some, None, length, IfOk, IsTrue, ◌↔◌, MatchOption, if◌then◌else◌, ◌==◌, true};
+ghost use Rattle.std.specs.Prelude.{drop, ◌≡◌, ℕ, List, ◌+◌, ◌++◌, ◌∷◌, [], ◌≤◌, ◌<◌, Some, None, length, IfOk, IsTrue, ◌↔◌, MatchOption, if◌then◌else◌, ◌==◌, true};
 ghost use Rattle.muf_token.specs.Bytes.{are_inside};
 ghost use Rattle.std.specs.List.{position, position_or_len};
 ghost use Rattle.muf_token.specs.Pieces.{is_blank, escaped_byte, lowered, below, next_line, front, piece_here};
@@ -88,6 +88,7 @@ pub(crate) fn lower_text(alloc: Global, word: &[u8]) -> Result<Line, NoMemory>
 }
 
 impl<'a> Place<'a> {
+    ghost use Rattle.muf_token.specs.Directives.{is_line_end, rest_of_line};
     ghost use Rattle.muf_token.specs.Places.{text_at, IsFirst, IsLead, IsWord, IsQuoted, IsFront};
 
     /// The first place of a text that is one line.
@@ -99,6 +100,16 @@ impl<'a> Place<'a> {
         ensures text { text_at result ≡ text.now }
     {
         Place { line: 0, here: text, below: &[] }
+    }
+
+    /// The end of this place's line.
+    #[tactic(auto, using(crate::proofs::Lines::line_ends))]
+    pub fn end_of_line(self) -> Place<'a>
+        ensures line { result.line ≡ self.entry.line }
+        ensures rest { rest_of_line (text_at self.entry) ≡ self.entry.here.now }
+        ensures end { text_at result ≡ drop (position_or_len is_line_end (text_at self.entry)) (text_at self.entry) }
+    {
+        Place { line: self.line, here: &[], below: self.below }
     }
 
     // The byte at this place and the place behind it. Byte 10 is the end of a line that has one below it.
