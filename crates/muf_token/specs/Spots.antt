@@ -19,8 +19,11 @@ IsAnswer view step (Ok answer) = step ≡ Ok (view answer)
 IsAnswer view step (Err (Refused refusal)) = step ≡ Err refusal
 IsAnswer view step (Err NoMemory) = Unit {0}
 
+abbrev pub name_of : RustName → Name
+name_of n = record { line = n.line; name = n.name; behind = spot_of n.behind }
+
 abbrev pub IsName : Result Name Refusal → Result RustName TokenFault → Type 0
-IsName step result = IsAnswer (λ (n : RustName). record { line = n.line; name = n.name; behind = spot_of n.behind }) step result
+IsName step result = IsAnswer name_of step result
 
 abbrev pub IsBody : Result Body Refusal → Result (List Piece × Place) TokenFault → Type 0
 IsBody step result = IsAnswer (λ (b : List Piece × Place). (b.0, spot_of b.1)) step result

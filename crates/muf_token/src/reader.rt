@@ -1,8 +1,11 @@
 // What is known at a place of a source, and how one piece changes it.
 ghost use Rattle.std.specs.Prelude.{◌≡◌, ◌++◌, ◌∷◌, [], OnOk, OnErr, IfOk, not, if◌then◌else◌, true, false};
 ghost use Rattle.muf_token.specs.Output.{Leads};
-ghost use Rattle.muf_token.specs.Directives.{name_at, body_at};
-ghost use Rattle.muf_token.specs.Spots.{spot_of};
+ghost use Rattle.muf_token.specs.Directives.{name_at, body_at, directive_of};
+ghost use Rattle.muck_model.specs.declared.dbref.Dbref.{Dbref};
+ghost use Rattle.muf_token.specs.Numbers.{kind_of};
+ghost use Rattle.muf_token.specs.Pieces.{lowered, pieces};
+ghost use Rattle.muf_token.specs.Spots.{spot_of, name_of, IsAnswer};
 ghost use Rattle.muf_token.specs.Source.{with_definition, def_at, define_at, undef_at, is_defined, with_branch, conditional_at, else_at, endif_at, object_of, with_all, include_at, directed, passed, put_out, taken, skipped, stepped, nothing_known};
 ghost use Rattle.muf_token.specs.Readers.{state_of, LeadsTo};
 
@@ -29,6 +32,35 @@ pub(crate) struct Reader {
     pub definitions: Definitions,
     pub branches: Branches,
     pub out: Output,
+}
+
+// A word in lower case.
+#[tactic(auto, using(crate::proofs::Texts::line_parts))]
+fn lower_line(alloc: Global, word: &Line) -> Result<Line, NoMemory>
+    ensures { IfOk result (λ line. line ≡ lowered word.now) }
+{
+    let line = lower_text(alloc, word.as_slice())?;
+    Ok(line)
+}
+
+// The pieces of a text.
+#[tactic(auto, using(crate::proofs::Texts::line_parts))]
+fn line_pieces(alloc: Global, text: &Line) -> Result<Row<Piece>, NoMemory>
+    ensures { IfOk result (λ list. list ≡ pieces text.now) }
+{
+    let list = pieces_of(alloc, text.as_slice())?;
+    Ok(list)
+}
+
+// The object that `$include` names.
+fn object_of(alloc: Global, line: u32, name: &Name<'_>) -> Result<Dbref, TokenFault>
+    ensures { IsAnswer (λ (d : Dbref). d) (object_of line (name_of name.now) (kind_of name.now.name)) result }
+{
+    match kind_of(alloc, &name.name)? {
+        Some(TokenKind::Ref(object)) => Ok(object),
+        Some(_) => Err(TokenFault::Refused(Refusal { line, kind: FaultKind::BadDirective })),
+        None => Err(TokenFault::Refused(Refusal { line: name.line, kind: FaultKind::BadNumber })),
+    }
 }
 
 impl Reader {
@@ -105,6 +137,78 @@ impl Reader {
         ensures { Leads (endif_at line (state_of self.old)) result (state_of self.new) }
     {
         self.branches.close(line)?;
+        Ok(())
+    }
+
+    // These definitions in turn.
+    fn define_all(&mut self, alloc: Global, list: &[Definition]) -> Result<(), NoMemory>
+        ensures { OnOk result (state_of self.new ≡ record (state_of self.old) { definitions = with_all list.now self.old.definitions.entries }) }
+    {
+        for definition in list {
+            let name = lower_line(alloc, &definition.name)?;
+            let body = line_pieces(alloc, &definition.text)?;
+            self.define(name, body)?;
+        }
+        Ok(())
+    }
+
+    // `$include #N`.
+    fn take_include<'a, I: Includes>(&mut self, alloc: Global, include: &I, line: u32, place: Place<'a>) -> Result<Place<'a>, TokenFault>
+        ensures { LeadsTo (include_at (I.lent include.now) line (state_of self.old) (spot_of place.entry)) result (state_of self.new) }
+    {
+        let name = name_at(alloc, line, place)?;
+        let object = object_of(alloc, line, &name)?;
+        let Some(list) = include.defs(alloc, object)? else {
+            return Err(TokenFault::Refused(Refusal { line, kind: FaultKind::UnknownInclude }));
+        };
+        self.define_all(alloc, list.as_slice())?;
+        Ok(name.behind)
+    }
+
+    // A directive, where words are read.
+    fn take_directive<'a, I: Includes>(&mut self, alloc: Global, include: &I, line: u32, directive: Option<Directive>, place: Place<'a>) -> Result<Place<'a>, TokenFault>
+        ensures { LeadsTo (directed (I.lent include.now) line directive (state_of self.old) (spot_of place.entry)) result (state_of self.new) }
+    {
+        match directive {
+            Some(Directive::Def) => self.take_def(alloc, line, place),
+            Some(Directive::Define) => self.take_define(alloc, line, place),
+            Some(Directive::Undef) => self.take_undef(alloc, line, place),
+            Some(Directive::Ifdef) => self.take_ifdef(alloc, true, line, place),
+            Some(Directive::Ifndef) => self.take_ifdef(alloc, false, line, place),
+            Some(Directive::Else) => {
+                self.take_else(line)?;
+                Ok(place)
+            }
+            Some(Directive::Endif) => {
+                self.take_endif(line)?;
+                Ok(place)
+            }
+            Some(Directive::Include) => self.take_include(alloc, include, line, place),
+            None => Err(TokenFault::Refused(Refusal { line, kind: FaultKind::BadDirective })),
+        }
+    }
+
+    // A word where words aren't read.
+    fn pass_word(&mut self, line: u32, word: &Line) -> Result<(), TokenFault>
+        ensures { Leads (passed line (directive_of word.now) (state_of self.old)) result (state_of self.new) }
+    {
+        match directive_of(word) {
+            Some(Directive::Ifdef | Directive::Ifndef) => {
+                self.branches.open(Branch { line, taken: false, other: Some(false) })?;
+                Ok(())
+            }
+            Some(Directive::Else) => self.take_else(line),
+            Some(Directive::Endif) => self.take_endif(line),
+            _ => Ok(()),
+        }
+    }
+
+    // Puts out what a piece stands for.
+    #[tactic(auto, unfolding(crate::specs::Source::depth_most))]
+    fn put_out(&mut self, alloc: Global, line: u32, piece: &Piece) -> Result<(), TokenFault>
+        ensures { Leads (put_out line piece.now (state_of self.old)) result (state_of self.new) }
+    {
+        expand(alloc, &self.definitions, line, piece, DEPTH_MOST, &mut self.out)?;
         Ok(())
     }
 }
