@@ -1,12 +1,14 @@
 // What is known at a place of a source, and how one piece changes it.
-ghost use Rattle.std.specs.Prelude.{◌≡◌, ◌++◌, ◌∷◌, [], OnOk, OnErr, IfOk, not, if◌then◌else◌, true, false};
+ghost use Rattle.muf_token.specs.declared.token.Token.{Token};
+ghost use Rattle.muf_token.specs.Branches.{outermost};
+ghost use Rattle.std.specs.Prelude.{List, ◌≡◌, ◌++◌, ◌∷◌, [], OnOk, OnErr, IfOk, not, if◌then◌else◌, true, false};
 ghost use Rattle.muf_token.specs.Output.{Leads};
 ghost use Rattle.muf_token.specs.Directives.{name_at, body_at, directive_of};
 ghost use Rattle.muck_model.specs.declared.dbref.Dbref.{Dbref};
 ghost use Rattle.muf_token.specs.Numbers.{kind_of};
 ghost use Rattle.muf_token.specs.Pieces.{lowered, pieces};
 ghost use Rattle.muf_token.specs.Spots.{spot_of, name_of, IsAnswer};
-ghost use Rattle.muf_token.specs.Source.{with_definition, def_at, define_at, undef_at, is_defined, with_branch, conditional_at, else_at, endif_at, object_of, with_all, include_at, directed, passed, put_out, taken, skipped, stepped, nothing_known};
+ghost use Rattle.muf_token.specs.Source.{with_definition, def_at, define_at, undef_at, is_defined, with_branch, conditional_at, else_at, endif_at, object_of, with_all, include_at, directed, passed, put_out, taken, skipped, stepped, words_unless, nothing_known};
 ghost use Rattle.muf_token.specs.Readers.{state_of, LeadsTo};
 
 use crate::branch::{Branch, Branches};
@@ -18,7 +20,7 @@ use crate::number::kind_of;
 use crate::output::Output;
 use crate::piece::Piece;
 use crate::place::{lower_text, Found, Place};
-use crate::{FaultKind, Refusal, TokenFault, TokenKind};
+use crate::{FaultKind, Refusal, TokenFault, TokenKind, TokenList};
 use indexmap::IndexMap;
 use muck_model::{Dbref, Line, NoMemory, Row};
 use std::alloc::Global;
@@ -210,5 +212,50 @@ impl Reader {
     {
         expand(alloc, &self.definitions, line, piece, DEPTH_MOST, &mut self.out)?;
         Ok(())
+    }
+
+    // A piece where words are read.
+    fn take_here<'a, I: Includes>(&mut self, alloc: Global, include: &I, line: u32, piece: &Piece, place: Place<'a>) -> Result<Place<'a>, TokenFault>
+        ensures { LeadsTo (taken (I.lent include.now) line piece.now (state_of self.old) (spot_of place.entry)) result (state_of self.new) }
+    {
+        if let Piece::Word(word) = piece {
+            if is_directive(word) {
+                return self.take_directive(alloc, include, line, directive_of(word), place);
+            }
+        }
+        self.put_out(alloc, line, piece)?;
+        Ok(place)
+    }
+
+    // A piece where words aren't read.
+    fn pass(&mut self, line: u32, piece: &Piece) -> Result<(), TokenFault>
+        ensures { Leads (skipped line piece.now (state_of self.old)) result (state_of self.new) }
+    {
+        match piece {
+            Piece::Word(word) => self.pass_word(line, word),
+            _ => Ok(()),
+        }
+    }
+
+    /// One piece of the source at this line, with what it brings; then it goes on at the place that comes back.
+    #[tactic(auto, unfolding(crate::specs::Source::stepped))]
+    pub fn take<'a, I: Includes>(&mut self, alloc: Global, include: &I, line: u32, piece: &Piece, place: Place<'a>) -> Result<Place<'a>, TokenFault>
+        ensures { LeadsTo (stepped (I.lent include.now) line piece.now (state_of self.old) (spot_of place.entry)) result (state_of self.new) }
+    {
+        if self.branches.is_taking() {
+            return self.take_here(alloc, include, line, piece, place);
+        }
+        self.pass(line, piece)?;
+        Ok(place)
+    }
+
+    /// The words, where no conditional is open.
+    pub fn finish(self) -> Result<TokenList, TokenFault>
+        ensures { IsAnswer (λ (words : List Token). words) (words_unless self.out.words (outermost self.branches)) result }
+    {
+        match self.branches.outermost() {
+            None => Ok(self.out.words),
+            Some(line) => Err(TokenFault::Refused(Refusal { line, kind: FaultKind::BadDirective })),
+        }
     }
 }
