@@ -13,8 +13,10 @@ mod output;
 mod piece;
 mod place;
 mod reader;
+mod source;
 mod token;
 
 pub use fault::{FaultKind, Refusal, TokenFault};
 pub use includes::{DefList, Definition, Includes};
+pub use source::tokens;
 pub use token::{Token, TokenKind, TokenList};

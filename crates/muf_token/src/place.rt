@@ -2,7 +2,7 @@
 ghost use Rattle.std.specs.Prelude.{drop, ◌≡◌, ℕ, List, ◌+◌, ◌++◌, ◌∷◌, [], ◌≤◌, ◌<◌, Some, None, length, IfOk, IsTrue, ◌↔◌, MatchOption, if◌then◌else◌, ◌==◌, true};
 ghost use Rattle.muf_token.specs.Bytes.{are_inside};
 ghost use Rattle.std.specs.List.{position, position_or_len};
-ghost use Rattle.muf_token.specs.Pieces.{is_blank, escaped_byte, lowered, below, next_line, front, piece_here};
+ghost use Rattle.muf_token.specs.Pieces.{is_blank, escaped_byte, lowered, below, joined, next_line, front, piece_here};
 
 use crate::piece::Piece;
 use crate::{FaultKind, Refusal, TokenFault};
@@ -100,6 +100,18 @@ impl<'a> Place<'a> {
         ensures text { text_at result ≡ text.now }
     {
         Place { line: 0, here: text, below: &[] }
+    }
+
+    /// The first place of a source.
+    #[tactic(auto, using(crate::proofs::Texts::inside_text))]
+    pub fn in_source(source: &'a [Line]) -> Place<'a>
+        ensures line { result.line ≡ 1 }
+        ensures text { text_at result ≡ joined source.now }
+    {
+        match source.split_first() {
+            Some((line, below)) => Place { line: 1, here: line.as_slice(), below },
+            None => Place { line: 1, here: &[], below: &[] },
+        }
     }
 
     /// The end of this place's line.

@@ -9,7 +9,7 @@ ghost use Rattle.muf_token.specs.Numbers.{kind_of};
 ghost use Rattle.muf_token.specs.Pieces.{lowered, pieces};
 ghost use Rattle.muf_token.specs.Spots.{spot_of, name_of, IsAnswer};
 ghost use Rattle.muf_token.specs.Source.{with_definition, def_at, define_at, undef_at, is_defined, with_branch, conditional_at, else_at, endif_at, object_of, with_all, include_at, directed, passed, put_out, taken, skipped, stepped, words_unless, nothing_known};
-ghost use Rattle.muf_token.specs.Readers.{state_of, LeadsTo};
+ghost use Rattle.muf_token.specs.Readers.{state_of, LeadsTo, IsRead};
 
 use crate::branch::{Branch, Branches};
 use crate::definition::pieces_of;
@@ -237,9 +237,9 @@ impl Reader {
         }
     }
 
-    /// One piece of the source at this line, with what it brings; then it goes on at the place that comes back.
+    // One piece of the source at this line, with what it brings; then it goes on at the place that comes back.
     #[tactic(auto, unfolding(crate::specs::Source::stepped))]
-    pub fn take<'a, I: Includes>(&mut self, alloc: Global, include: &I, line: u32, piece: &Piece, place: Place<'a>) -> Result<Place<'a>, TokenFault>
+    fn take<'a, I: Includes>(&mut self, alloc: Global, include: &I, line: u32, piece: &Piece, place: Place<'a>) -> Result<Place<'a>, TokenFault>
         ensures { LeadsTo (stepped (I.lent include.now) line piece.now (state_of self.old) (spot_of place.entry)) result (state_of self.new) }
     {
         if self.branches.is_taking() {
@@ -247,6 +247,18 @@ impl Reader {
         }
         self.pass(line, piece)?;
         Ok(place)
+    }
+
+    /// Reads one piece from a place on, and says where it goes on; none where the source ends.
+    #[tactic(auto, using(crate::proofs::Sources::sources))]
+    pub fn read<'a, I: Includes>(&mut self, alloc: Global, include: &I, place: Place<'a>) -> Result<Option<Place<'a>>, TokenFault>
+        ensures { IsRead (I.lent include.now) (state_of self.old) (spot_of place.entry) result (state_of self.new) }
+    {
+        let Some(Found { line, piece, behind }) = place.next(alloc)? else {
+            return Ok(None);
+        };
+        let next = self.take(alloc, include, line, &piece, behind)?;
+        Ok(Some(next))
     }
 
     /// The words, where no conditional is open.
