@@ -3,6 +3,7 @@ pub mod Bytes
 pub mod Directives
 pub mod Expansion
 pub mod Faults
+pub mod Lenders
 pub mod Numbers
 pub mod Output
 pub mod Pieces

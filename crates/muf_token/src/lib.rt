@@ -8,6 +8,7 @@ mod directive;
 mod expansion;
 mod fault;
 mod includes;
+mod memory;
 mod number;
 mod output;
 mod piece;
@@ -18,5 +19,6 @@ mod token;
 
 pub use fault::{FaultKind, Refusal, TokenFault};
 pub use includes::{DefList, Definition, Includes};
+pub use memory::{Lender, MemIncludes};
 pub use source::tokens;
 pub use token::{Token, TokenKind, TokenList};
