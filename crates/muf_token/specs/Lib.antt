@@ -9,5 +9,6 @@ pub mod Output
 pub mod Pieces
 pub mod Places
 pub mod Readers
+pub mod Rows
 pub mod Source
 pub mod Spots
