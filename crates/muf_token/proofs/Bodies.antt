@@ -42,7 +42,7 @@ unfolding body_at
 body_found line at place there piece text rest e =
     ap (λ f. body_in (body_within (length text) line) line f) e
     ∙ ap (λ more. cond (is_enddef piece) (Ok ([], record { line = there; text = rest })) (after_piece piece more))
-      (body_enough (length text) (suc (length rest)) line there rest (found_shorter None at place there piece text rest e) (omega arith))
+    (body_enough (length text) (suc (length rest)) line there rest (found_shorter None at place there piece text rest e) (omega arith))
 
 pub body_ended : (line at : ℕ) (text : List ℕ) → front None at text ≡ ended → body_at line (record { line = at; text = text }) ≡ refuse line BadDirective
 unfolding body_at
@@ -57,7 +57,7 @@ pub body_more : (list : List Piece) (line at place there : ℕ) (piece : Piece) 
     → after_pieces list (body_at line (record { line = at; text = text })) ≡ whole → after_pieces (list ++ piece ∷ []) (body_at line (record { line = there; text = rest })) ≡ whole
 body_more list line at place there piece text rest whole e plain h =
     let found_here : body_at line (record { line = at; text = text }) ≡ after_piece piece (body_at line (record { line = there; text = rest })) =
-        body_found line at place there piece text rest e ∙ ap (λ b. cond b (Ok ([], record { line = there; text = rest })) (after_piece piece (body_at line (record { line = there; text = rest })))) plain in
+    body_found line at place there piece text rest e ∙ ap (λ b. cond b (Ok ([], record { line = there; text = rest })) (after_piece piece (body_at line (record { line = there; text = rest })))) plain in
     after_more list piece (body_at line (record { line = there; text = rest })) ∙ ap (after_pieces list) (sym found_here) ∙ h
 
 -- the piece that was found ends them
@@ -65,7 +65,7 @@ pub body_done : (list : List Piece) (line at place there : ℕ) (piece : Piece) 
     → after_pieces list (body_at line (record { line = at; text = text })) ≡ whole → whole ≡ Ok (list, record { line = there; text = rest })
 body_done list line at place there piece text rest whole e ends h =
     let found_here : body_at line (record { line = at; text = text }) ≡ Ok ([], record { line = there; text = rest }) =
-        body_found line at place there piece text rest e ∙ ap (λ b. cond b (Ok ([], record { line = there; text = rest })) (after_piece piece (body_at line (record { line = there; text = rest })))) ends in
+    body_found line at place there piece text rest e ∙ ap (λ b. cond b (Ok ([], record { line = there; text = rest })) (after_piece piece (body_at line (record { line = there; text = rest })))) ends in
     sym h ∙ ap (after_pieces list) found_here ∙ ap (λ pieces. Ok (pieces, record { line = there; text = rest })) (append_none list)
 
 -- the text ended, or has a fault

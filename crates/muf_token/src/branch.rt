@@ -37,7 +37,9 @@ impl Branches {
     pub fn new(alloc: Global) -> Branches
         ensures { result ≡ [] }
     {
-        Branches { items: Vec::new(alloc) }
+        Branches {
+            items: Vec::new(alloc),
+        }
     }
 
     /// Whether words are read where these are open.
@@ -76,14 +78,21 @@ impl Branches {
     pub fn turn(&mut self, line: u32) -> Result<(), TokenFault>
         ensures { Leads (other_part line self.old) result self.new }
     {
-        let refused = TokenFault::Refused(Refusal { line, kind: FaultKind::BadDirective });
+        let refused = TokenFault::Refused(Refusal {
+            line,
+            kind: FaultKind::BadDirective,
+        });
         let Some(innermost) = self.items.pop() else {
             return Err(refused);
         };
         let Some(taken) = innermost.other else {
             return Err(refused);
         };
-        self.items.push(Branch { line: innermost.line, taken, other: None })?;
+        self.items.push(Branch {
+            line: innermost.line,
+            taken,
+            other: None,
+        })?;
         Ok(())
     }
 
@@ -94,7 +103,10 @@ impl Branches {
     {
         match self.items.pop() {
             Some(_) => Ok(()),
-            None => Err(TokenFault::Refused(Refusal { line, kind: FaultKind::BadDirective })),
+            None => Err(TokenFault::Refused(Refusal {
+                line,
+                kind: FaultKind::BadDirective,
+            })),
         }
     }
 }

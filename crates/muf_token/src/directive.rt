@@ -63,8 +63,18 @@ pub(crate) struct Name<'a> {
 pub(crate) fn name_at(alloc: Global, line: u32, place: Place<'_>) -> Result<Name<'_>, TokenFault>
     ensures { IsName (name_at line (spot_of place.entry)) result }
 {
-    let refused = TokenFault::Refused(Refusal { line, kind: FaultKind::BadDirective });
-    let Some(Found { line: at, piece, behind }) = place.next(alloc)? else {
+    let refused = TokenFault::Refused(Refusal {
+        line,
+        kind: FaultKind::BadDirective,
+    });
+    let Some(
+        Found {
+            line: at,
+            piece,
+            behind,
+        },
+    ) = place.next(alloc)?
+    else {
         return Err(refused);
     };
     let Piece::Word(name) = piece else {
@@ -73,7 +83,11 @@ pub(crate) fn name_at(alloc: Global, line: u32, place: Place<'_>) -> Result<Name
     if is_directive(&name) {
         return Err(refused);
     }
-    Ok(Name { line: at, name, behind })
+    Ok(Name {
+        line: at,
+        name,
+        behind,
+    })
 }
 
 // Whether a piece ends the words of a `$define`.
@@ -88,7 +102,11 @@ fn is_enddef(piece: &Piece) -> bool
 
 /// The pieces up to the first `$enddef`, for the `$define` at this line, and the place behind it.
 #[tactic(auto, using(crate::proofs::Bodies::bodies))]
-pub(crate) fn body_at(alloc: Global, line: u32, place: Place<'_>) -> Result<(Row<Piece>, Place<'_>), TokenFault>
+pub(crate) fn body_at(
+    alloc: Global,
+    line: u32,
+    place: Place<'_>,
+) -> Result<(Row<Piece>, Place<'_>), TokenFault>
     ensures { IsBody (body_at line (spot_of place.entry)) result }
 {
     let mut body = Row::new(alloc)?;
@@ -100,5 +118,8 @@ pub(crate) fn body_at(alloc: Global, line: u32, place: Place<'_>) -> Result<(Row
         }
         body.push(found.piece)?;
     }
-    Err(TokenFault::Refused(Refusal { line, kind: FaultKind::BadDirective }))
+    Err(TokenFault::Refused(Refusal {
+        line,
+        kind: FaultKind::BadDirective,
+    }))
 }

@@ -39,13 +39,19 @@ pub(crate) fn expand(
         Piece::Word(word) => word,
     };
     if is_directive(word) {
-        return Err(TokenFault::Refused(Refusal { line, kind: FaultKind::BadDirective }));
+        return Err(TokenFault::Refused(Refusal {
+            line,
+            kind: FaultKind::BadDirective,
+        }));
     }
     let Some(body) = definitions.get(word) else {
         return out.put(line, kind_of(alloc, word)?);
     };
     if deeper == 0 {
-        return Err(TokenFault::Refused(Refusal { line, kind: FaultKind::EndlessDefs }));
+        return Err(TokenFault::Refused(Refusal {
+            line,
+            kind: FaultKind::EndlessDefs,
+        }));
     }
     out.count_use(line)?;
     for inner in body.as_slice() {

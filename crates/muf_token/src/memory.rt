@@ -35,7 +35,9 @@ impl MemIncludes {
     pub fn new(alloc: Global) -> Result<MemIncludes, NoMemory>
         ensures { IfOk result (λ m. m ≡ []) }
     {
-        Ok(MemIncludes { lenders: Row::new(alloc)? })
+        Ok(MemIncludes {
+            lenders: Row::new(alloc)?,
+        })
     }
 
     /// One object more; after `NoMemory` none is added.

@@ -28,10 +28,16 @@ impl Output {
         ensures { Leads (put line kind self.old) result self.new }
     {
         if self.words.len() >= WORDS_MOST {
-            return Err(TokenFault::Refused(Refusal { line, kind: FaultKind::TooManyWords }));
+            return Err(TokenFault::Refused(Refusal {
+                line,
+                kind: FaultKind::TooManyWords,
+            }));
         }
         let Some(kind) = kind else {
-            return Err(TokenFault::Refused(Refusal { line, kind: FaultKind::BadNumber }));
+            return Err(TokenFault::Refused(Refusal {
+                line,
+                kind: FaultKind::BadNumber,
+            }));
         };
         self.words.push(Token { line, kind })?;
         Ok(())
@@ -43,7 +49,10 @@ impl Output {
         ensures { Leads (used line self.old) result self.new }
     {
         if self.uses >= USES_MOST {
-            return Err(TokenFault::Refused(Refusal { line, kind: FaultKind::TooManyWords }));
+            return Err(TokenFault::Refused(Refusal {
+                line,
+                kind: FaultKind::TooManyWords,
+            }));
         }
         self.uses += 1;
         Ok(())

@@ -14,7 +14,11 @@ use std::alloc::Global;
 /// The words of a source with their lines, where objects lend the definitions that `include` finds; or the first
 /// refusal. `NoMemory` says nothing of the source.
 #[tactic(auto, unfolding(crate::specs::Source::words))]
-pub fn tokens<I: Includes>(alloc: Global, source: &[Line], include: &I) -> Result<TokenList, TokenFault>
+pub fn tokens<I: Includes>(
+    alloc: Global,
+    source: &[Line],
+    include: &I,
+) -> Result<TokenList, TokenFault>
     ensures { IsAnswer (λ (list : List Token). list) (words (I.lent include.now) source.now) result }
 {
     let mut reader = Reader::new(alloc)?;

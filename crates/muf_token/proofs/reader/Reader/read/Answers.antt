@@ -17,6 +17,7 @@ returns g c =
     let new = state_of c.take.new.self in
     let here = spot_of c.args.place in
     let next = spot_of c.in_ok-next.next in
-    let found = c.in-Some.field-0 in
-    (words_stepped lent old new here next found.line found.behind.line found.piece (text_at found.behind) at c.in_ok-next.ensures,
-     step_shorter lent old new here next found.line found.behind.line found.piece (text_at found.behind) at c.in_ok-next.ensures)
+    let found = c.in-Some.field-0 in (
+      words_stepped lent old new here next found.line found.behind.line found.piece (text_at found.behind) at c.in_ok-next.ensures,
+      step_shorter lent old new here next found.line found.behind.line found.piece (text_at found.behind) at c.in_ok-next.ensures,
+    )
