@@ -5,9 +5,10 @@ ghost use Rattle.muf_token.specs.Directives.{directive_of, name_at, body_at, is_
 ghost use Rattle.muf_token.specs.Spots.{spot_of, IsName, IsBody};
 
 use crate::expansion::is_directive;
+use crate::fault::refused;
 use crate::piece::Piece;
 use crate::place::{Found, Place};
-use crate::{FaultKind, Refusal, TokenFault};
+use crate::{FaultKind, TokenFault};
 use muck_model::{Line, Row};
 use std::alloc::Global;
 
@@ -63,10 +64,7 @@ pub(crate) struct Name<'a> {
 pub(crate) fn name_at(alloc: Global, line: u32, place: Place<'_>) -> Result<Name<'_>, TokenFault>
     ensures { IsName (name_at line (spot_of place.entry)) result }
 {
-    let refused = TokenFault::Refused(Refusal {
-        line,
-        kind: FaultKind::BadDirective,
-    });
+    let fault = refused(line, FaultKind::BadDirective);
     let Some(
         Found {
             line: at,
@@ -75,13 +73,13 @@ pub(crate) fn name_at(alloc: Global, line: u32, place: Place<'_>) -> Result<Name
         },
     ) = place.next(alloc)?
     else {
-        return Err(refused);
+        return Err(fault);
     };
     let Piece::Word(name) = piece else {
-        return Err(refused);
+        return Err(fault);
     };
     if is_directive(&name) {
-        return Err(refused);
+        return Err(fault);
     }
     Ok(Name {
         line: at,
@@ -118,8 +116,5 @@ pub(crate) fn body_at(
         }
         body.push(found.piece)?;
     }
-    Err(TokenFault::Refused(Refusal {
-        line,
-        kind: FaultKind::BadDirective,
-    }))
+    Err(refused(line, FaultKind::BadDirective))
 }

@@ -4,6 +4,7 @@ ghost use Rattle.muf_token.specs.Bytes.{are_inside};
 ghost use Rattle.std.specs.List.{position, position_or_len};
 ghost use Rattle.muf_token.specs.Pieces.{is_blank, escaped_byte, lowered, below, joined, next_line, front, piece_here};
 
+use crate::fault::refused;
 use crate::piece::Piece;
 use crate::{FaultKind, Refusal, TokenFault};
 use muck_model::{Line, NoMemory};
@@ -261,10 +262,7 @@ impl<'a> Place<'a> {
                 piece: Piece::Text(text),
                 behind,
             })),
-            None => Err(TokenFault::Refused(Refusal {
-                line: place.line,
-                kind: FaultKind::OpenString,
-            })),
+            None => Err(refused(place.line, FaultKind::OpenString)),
         }
     }
 }

@@ -15,12 +15,13 @@ use crate::branch::{Branch, Branches};
 use crate::definition::pieces_of;
 use crate::directive::{Directive, Name, body_at, directive_of, name_at};
 use crate::expansion::{Definitions, expand, is_directive};
+use crate::fault::refused;
 use crate::includes::{Definition, Includes};
 use crate::number::kind_of;
 use crate::output::Output;
 use crate::piece::Piece;
 use crate::place::{Found, Place, lower_text};
-use crate::{FaultKind, Refusal, TokenFault, TokenKind, TokenList};
+use crate::{FaultKind, TokenFault, TokenKind, TokenList};
 use indexmap::IndexMap;
 use muck_model::{Dbref, Line, NoMemory, Row};
 use std::alloc::Global;
@@ -60,14 +61,8 @@ fn object_of(alloc: Global, line: u32, name: &Name<'_>) -> Result<Dbref, TokenFa
 {
     match kind_of(alloc, &name.name)? {
         Some(TokenKind::Ref(object)) => Ok(object),
-        Some(_) => Err(TokenFault::Refused(Refusal {
-            line,
-            kind: FaultKind::BadDirective,
-        })),
-        None => Err(TokenFault::Refused(Refusal {
-            line: name.line,
-            kind: FaultKind::BadNumber,
-        })),
+        Some(_) => Err(refused(line, FaultKind::BadDirective)),
+        None => Err(refused(name.line, FaultKind::BadNumber)),
     }
 }
 
@@ -201,10 +196,7 @@ impl Reader {
         let name = name_at(alloc, line, place)?;
         let object = object_of(alloc, line, &name)?;
         let Some(list) = include.defs(alloc, object)? else {
-            return Err(TokenFault::Refused(Refusal {
-                line,
-                kind: FaultKind::UnknownInclude,
-            }));
+            return Err(refused(line, FaultKind::UnknownInclude));
         };
         self.define_all(alloc, list.as_slice())?;
         Ok(name.behind)
@@ -236,10 +228,7 @@ impl Reader {
                 Ok(place)
             }
             Some(Directive::Include) => self.take_include(alloc, include, line, place),
-            None => Err(TokenFault::Refused(Refusal {
-                line,
-                kind: FaultKind::BadDirective,
-            })),
+            None => Err(refused(line, FaultKind::BadDirective)),
         }
     }
 
@@ -357,10 +346,7 @@ impl Reader {
     {
         match self.branches.outermost() {
             None => Ok(self.out.words),
-            Some(line) => Err(TokenFault::Refused(Refusal {
-                line,
-                kind: FaultKind::BadDirective,
-            })),
+            Some(line) => Err(refused(line, FaultKind::BadDirective)),
         }
     }
 }
