@@ -1,5 +1,5 @@
 -- What a fault that is handed on says.
-use Rattle.std.proofs.Common.{◌≡◌, ℕ, true, false, List, Option, Some, None, Result, Ok, Err, refl, sym, subst, IsErr}
+use Rattle.std.proofs.Common.{◌≡◌, true, false, List, Option, None, Result, Ok, Err, sym, subst, IsErr}
 use Rattle.std.specs.Result.{IsErrAnd}
 use Rattle.muck_model.specs.declared.dbref.Dbref.{Dbref}
 use Rattle.muf_token.specs.declared.fault.TokenFault.{TokenFault}

@@ -1,6 +1,5 @@
 -- Each piece of a source goes on at a place with less text.
-use Rattle.std.proofs.Common.{◌≡◌, ℕ, ◌≤◌, ◌<◌, ◌+◌, Bool, true, false, not, cond, List, [], ◌∷◌, length, drop, Option, Some, None, Result, Ok, Err, refl, ap, sym, ◌∙◌, subst, arith, zero, suc}
-use Rattle.std.proofs.lemmas.Bool.{cond_both}
+use Rattle.std.proofs.Common.{◌≡◌, ℕ, ◌≤◌, ◌<◌, Bool, true, false, cond, List, [], length, Option, Some, None, Result, Ok, Err, refl, ap, ◌∙◌, subst, arith, zero, suc}
 use Rattle.std.specs.List.{position_or_len}
 use Rattle.muck_model.specs.declared.dbref.Dbref.{Dbref}
 use Rattle.muf_token.specs.declared.fault.FaultKind.{FaultKind}
@@ -11,13 +10,13 @@ use Rattle.muf_token.specs.declared.piece.Piece.TheVariants.{Word, Text, Broken}
 use Rattle.muf_token.specs.declared.directive.Directive.{Directive}
 use Rattle.muf_token.specs.declared.directive.Directive.TheVariants.{Def, Define, Undef, Ifdef, Ifndef, Else, Endif, Include}
 use Rattle.muf_token.specs.declared.includes.Definition.{Definition}
-use Rattle.muf_token.specs.Pieces.{Front, ended, broken, found, front, pieces}
+use Rattle.muf_token.specs.Pieces.{Front, ended, broken, found, front}
 use Rattle.muf_token.specs.Numbers.{kind_of}
 use Rattle.muf_token.specs.Output.{refuse, and_then}
 use Rattle.muf_token.specs.Expansion.{is_directive}
 use Rattle.muf_token.specs.Branches.{is_taking, outermost}
-use Rattle.muf_token.specs.Directives.{directive_of, Spot, Name, name_in, name_at, rest_of_line, end_of_line, is_line_end, is_enddef, Body, after_piece, body_in, body_within, body_at}
-use Rattle.muf_token.specs.Source.{State, Step, with_definition, def_at, define_at, undef_at, conditional_at, else_at, endif_at, object_of, included, include_at, directed, put_out, taken, skipped, stepped, words_unless, at_front, words_within, words_from}
+use Rattle.muf_token.specs.Directives.{directive_of, Spot, Name, name_in, name_at, is_line_end, is_enddef, Body, after_piece, body_in, body_within, body_at}
+use Rattle.muf_token.specs.Source.{State, Step, def_at, define_at, undef_at, conditional_at, else_at, endif_at, object_of, included, include_at, directed, put_out, taken, skipped, stepped, words_unless, at_front, words_within, words_from}
 use Rattle.muf_token.proofs.Words.{length_drop}
 use Rattle.muf_token.proofs.Fronts.{IsShorter, front_shorter, found_shorter}
 

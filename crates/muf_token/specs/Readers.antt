@@ -1,6 +1,5 @@
 -- What the program knows at a place of a source.
-use Rattle.std.specs.Prelude.{◌≡◌, ◌<◌, length, ℕ, List, Option, Some, None, Result, Ok, Err}
-use Rattle.muf_token.specs.declared.fault.Refusal.{Refusal}
+use Rattle.std.specs.Prelude.{◌≡◌, ◌<◌, length, List, Option, Some, None, Result, Ok, Err}
 use Rattle.muf_token.specs.declared.fault.TokenFault.{TokenFault}
 use Rattle.muf_token.specs.declared.fault.TokenFault.TheVariants.{Refused, NoMemory}
 use Rattle.muf_token.specs.declared.place.Place.{Place}

@@ -3,7 +3,7 @@ use Rattle.std.specs.Prelude.{◌≡◌, ℕ, pos, negsuc, List, [], ◌∷◌, 
 use Rattle.std.specs.Ordering.{int_eq}
 use Rattle.muck_model.specs.declared.dbref.Dbref.{Dbref}
 use Rattle.muf_token.specs.declared.fault.FaultKind.{FaultKind}
-use Rattle.muf_token.specs.declared.fault.FaultKind.TheVariants.{OpenString, OpenComment, BadDirective, EndlessDefs, TooManyWords, BadNumber, UnknownInclude}
+use Rattle.muf_token.specs.declared.fault.FaultKind.TheVariants.{OpenString, OpenComment, BadDirective, EndlessDefs, BadNumber, UnknownInclude}
 use Rattle.muf_token.specs.declared.fault.Refusal.{Refusal}
 use Rattle.muf_token.specs.declared.token.Token.{Token}
 use Rattle.muf_token.specs.declared.token.TokenKind.{TokenKind}
