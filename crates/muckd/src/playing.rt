@@ -101,12 +101,12 @@ fn part<K: Sink>(alloc: Global, world: &mut World, d: u32, out: &mut K) -> Resul
         return Ok(());
     }
     match farewell_text(alloc, d) {
-        Ok(text) => {
+        Ok(farewell) => {
             match world.closed(d) {
                 Ok(()) => {}
                 Err(NoMemory) => return Err(RunFault::NoMemory),
             }
-            match write_all(out, text.as_slice()) {
+            match write_all(out, farewell.as_slice()) {
                 Ok(()) => Ok(()),
                 Err(WriteFailed) => Err(RunFault::WriteFault),
             }
