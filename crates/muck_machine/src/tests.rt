@@ -35,7 +35,7 @@ fn halt(world: &mut World) -> bool {
 }
 
 // Lets it happen; answers whether it did, and for a line that was done whose it was.
-fn act(alloc: Global, world: &mut World, act: Act) -> Result<u32, Fail> {
+fn happens(alloc: Global, world: &mut World, act: Act) -> Result<u32, Fail> {
     let yes = match act {
         Act::Opened(d) => world.opened(d)?,
         Act::Input(d, text) => {
@@ -125,12 +125,16 @@ fn walks(rt: HostRuntime) -> Result<(), Fail> {
         (Act::Halt, 0, 3, ""),
     ];
     let mut world = World::starting(rt.alloc())?;
-    let mut at = 0;
+    let mut at = 0u8;
     for (event, answer, d, bytes) in steps {
-        assert_eq!(rt; act(rt.alloc(), &mut world, event)?, answer, "at step {at}");
+        assert_eq!(rt;
+            happens(rt.alloc(), &mut world, event)?,
+            answer,
+            "at step {at}"
+        );
         let got = taken(rt.alloc(), &mut world, d)?;
         assert_eq!(rt; got.as_slice(), bytes.as_bytes(), "at step {at}");
-        at = (at + 1) % 1000;
+        at = at.saturating_add(1);
     }
     let _ = world.into_tale();
     Ok(())
