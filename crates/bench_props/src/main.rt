@@ -2,16 +2,26 @@
 // Its arguments: how many properties, how many objects in turn, and how many walks over each.
 #![tactic(auto)]
 
+ghost use Rattle.std.specs.Prelude.{◌<◌};
+
 use muck_model::Line;
 use muck_prop::{PropValue, Props, read_path};
 use std::alloc::Global;
 use std::{env, io};
 
+// Where the i-th property of so many stands in a scattered order.
+fn scattered(i: u32, count: u32) -> u64
+    requires { 0 < count }
+    ensures { result < count }
+{
+    u64::from(i) * 7919 % u64::from(count)
+}
+
 // An object with so many properties, which were put in a scattered order.
 fn filled(alloc: Global, count: u32) -> Option<Props> {
     let mut props = Props::new(alloc).ok()?;
     for i in 0..count {
-        let number = u64::from(i) * 7919 % u64::from(count);
+        let number = scattered(i, count);
         let text = format!(in alloc; "_p{number}").ok()?;
         let text = Line::new(alloc, text.as_bytes()).ok()?;
         let path = read_path(alloc, &text).ok()?;
