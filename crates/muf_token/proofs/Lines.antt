@@ -1,0 +1,31 @@
+-- Where a line ends.
+use Rattle.std.proofs.Common.{◌≡◌, ℕ, ◌+◌, Bool, true, false, not, cond, eqb, List, [], ◌∷◌, ◌++◌, length, take, drop, refl, ap, sym, ◌∙◌, subst, arith, zero, suc}
+use Rattle.std.specs.List.{before_first, position_or_len}
+use Rattle.muf_token.specs.Bytes.{are_inside}
+use Rattle.muf_token.specs.Pieces.{below}
+use Rattle.muf_token.specs.Directives.{is_line_end, rest_of_line}
+use Rattle.muf_token.proofs.Texts.{inside_head, inside_tail}
+use Rattle.muf_token.proofs.Quotes.{no_line_end}
+
+end_after : (here : List ℕ) (lines : List (List ℕ)) → are_inside here ≡ true → position_or_len is_line_end (here ++ below lines) ≡ length here
+end_after [] [] h = refl
+end_after [] (line ∷ lines) h = refl
+end_after (b ∷ here) lines h =
+    ap (λ v. cond (not v) (1 + position_or_len is_line_end (here ++ below lines)) 0) (no_line_end b (inside_head b here h))
+    ∙ ap (λ n. 1 + n) (end_after here lines (inside_tail b here h)) ∙ omega arith
+
+take_all : (xs ys : List ℕ) → take (length xs) (xs ++ ys) ≡ xs
+take_all [] ys = refl
+take_all (x ∷ xs) ys = ap (λ rest. x ∷ rest) (take_all xs ys)
+
+drop_all : (xs ys : List ℕ) → drop (length xs) (xs ++ ys) ≡ ys
+drop_all [] ys = refl
+drop_all (x ∷ xs) ys = drop_all xs ys
+
+pub rest_here : (here : List ℕ) (lines : List (List ℕ)) → are_inside here ≡ true → rest_of_line (here ++ below lines) ≡ here
+rest_here here lines h = ap (λ n. take n (here ++ below lines)) (end_after here lines h) ∙ take_all here (below lines)
+
+pub end_here : (here : List ℕ) (lines : List (List ℕ)) → are_inside here ≡ true → drop (position_or_len is_line_end (here ++ below lines)) (here ++ below lines) ≡ below lines
+end_here here lines h = ap (λ n. drop n (here ++ below lines)) (end_after here lines h) ∙ drop_all here (below lines)
+
+pub ruleset line_ends = (rest_here, end_here)

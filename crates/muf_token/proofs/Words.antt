@@ -1,0 +1,77 @@
+-- Words and the white space behind them.
+use Rattle.std.proofs.Common.{◌≡◌, ℕ, ◌≤◌, ◌<◌, ◌+◌, Bool, true, false, not, ◌&&◌, cond, ltb, List, [], ◌∷◌, ◌++◌, length, take, drop, map, Option, Some, None, unwrap_or, refl, ap, sym, ◌∙◌, subst, arith, zero, suc}
+use Rattle.std.proofs.lemmas.List.{length-map, take-append-le}
+use Rattle.std.proofs.lemmas.Bool.{cond_both, ltb-false}
+use Rattle.std.proofs.lemmas.Grind.{common_steps}
+use Rattle.std.proofs.lemmas.Bool.Decides.{nat_tests}
+use Rattle.std.specs.List.{position, position_or_len}
+use Rattle.std.specs.Char.{to_ascii_lowercase}
+use Rattle.muck_model.specs.Bytes.{is_outside}
+use Rattle.muf_token.specs.Bytes.{are_inside}
+use Rattle.muf_token.specs.declared.piece.Piece.TheVariants.{Word}
+use Rattle.muf_token.specs.Pieces.{is_blank, lowered, below, found, word_found}
+use Rattle.muf_token.proofs.Texts.{inside_head, inside_tail, inside_cons, inside_take, inside_drop}
+
+pub position_within : {X : Type 0} (p : X → Bool) (xs : List X) → position_or_len p xs ≤ length xs
+position_within p [] = omega arith
+position_within p (x ∷ xs) =
+    elim (p x) as (λ b. cond (not b) (1 + position_or_len p xs) 0 ≤ length (x ∷ xs)) [
+      | true ↦ omega arith
+      | false ↦ omega (arith, position_within p xs)
+    ]
+
+or_all : (n m : ℕ) → n ≤ m → unwrap_or (cond (ltb n m) (Some n) None) m ≡ n
+or_all n m h = cond_both (ltb n m) (Some n) None (λ o. unwrap_or o m ≡ n) (λ e. refl) (λ e. omega (arith, ltb-false n m e))
+
+pub position_found : {X : Type 0} (p : X → Bool) (xs : List X) → unwrap_or (position p xs) (length xs) ≡ position_or_len p xs
+position_found p xs = or_all (position_or_len p xs) (length xs) (position_within p xs)
+
+pub ruleset positions = (position_found, position_within)
+
+lower_inside : (b : ℕ) → not (is_outside b) ≡ true → not (is_outside (to_ascii_lowercase b)) ≡ true
+lower_inside b h = grind (arith, nat_tests)
+
+pub inside_lowered : (word : List ℕ) → are_inside word ≡ true → are_inside (lowered word) ≡ true
+inside_lowered [] h = refl
+inside_lowered (b ∷ word) h = inside_cons (to_ascii_lowercase b) (lowered word) (lower_inside b (inside_head b word h)) (inside_lowered word (inside_tail b word h))
+
+pub length_lowered : (word : List ℕ) → length (lowered word) ≡ length word
+length_lowered word = length-map word to_ascii_lowercase
+
+pub ruleset lower_texts = (inside_lowered, length_lowered)
+
+-- a word ends where its line ends
+pub word_in_line : (here : List ℕ) (lines : List (List ℕ)) → position_or_len is_blank (here ++ below lines) ≡ position_or_len is_blank here
+word_in_line [] [] = refl
+word_in_line [] (line ∷ lines) = refl
+word_in_line (b ∷ here) lines = ap (λ n. cond (not (is_blank b)) (1 + n) 0) (word_in_line here lines)
+
+drop_within : (n : ℕ) (xs ys : List ℕ) → n ≤ length xs → drop n (xs ++ ys) ≡ drop n xs ++ ys
+drop_within zero xs ys h = refl
+drop_within (suc n) [] ys h = absurd (omega (arith, h))
+drop_within (suc n) (x ∷ xs) ys h = drop_within n xs ys (omega (arith, h))
+
+take_within : (n : ℕ) (xs ys : List ℕ) → n ≤ length xs → take n (xs ++ ys) ≡ take n xs
+take_within zero xs ys h = refl
+take_within (suc n) [] ys h = absurd (omega (arith, h))
+take_within (suc n) (x ∷ xs) ys h = ap (λ rest. x ∷ rest) (take_within n xs ys (omega (arith, h)))
+
+-- the word at a place, in the words of its line
+pub word_split : (line : ℕ) (here : List ℕ) (lines : List (List ℕ)) (n : ℕ) → n ≡ position_or_len is_blank here
+    → word_found line (here ++ below lines) ≡ found line (Word (lowered (take n here))) line (drop n here ++ below lines)
+word_split line here lines n e =
+    let within : n ≤ length here = omega (arith, position_within is_blank here, e) in
+    let same : position_or_len is_blank (here ++ below lines) ≡ n = word_in_line here lines ∙ sym e in
+    rw (same, take_within n here (below lines) within, drop_within n here (below lines) within) refl
+
+pub length_take : (n : ℕ) (xs : List ℕ) → length (take n xs) ≤ length xs
+length_take zero xs = omega arith
+length_take (suc n) [] = omega arith
+length_take (suc n) (x ∷ xs) = omega (arith, length_take n xs)
+
+pub length_drop : (n : ℕ) (xs : List ℕ) → length (drop n xs) ≤ length xs
+length_drop zero xs = omega arith
+length_drop (suc n) [] = omega arith
+length_drop (suc n) (x ∷ xs) = omega (arith, length_drop n xs)
+
+pub ruleset words = (word_split, inside_take, inside_drop, length_take, length_drop)

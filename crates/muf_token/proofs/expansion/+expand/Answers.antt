@@ -1,0 +1,16 @@
+use Rattle.std.proofs.Common.{◌≡◌, Some, sym, ◌∙◌}
+use Rattle.muf_token.specs.declared.piece.Piece.TheVariants.{Word, Text}
+use Rattle.muf_token.specs.declared.token.TokenKind.TheVariants.{Text as text_kind}
+use Rattle.muf_token.specs.Numbers.{kind_of}
+use Rattle.muf_token.specs.Expansion.{expanded}
+use Rattle.muf_token.specs.Output.{put}
+use Rattle.muf_token.proofs.Expansions.{leads_by, expanded_text, expanded_plain}
+use Rattle.muf_token.proofs.expansion.+expand.Goals as goal
+
+pub returns-in-Text : goal.returns-in-Text
+returns-in-Text t c = leads_by _ _ c.put.result c.put.new.self (rw (c.in-Text.is, c.in_ok-copy-in-Text.ensures) (expanded_text _ _ _ _ _)) c.put.ensures
+
+pub returns-in_default : goal.returns-in_default
+returns-in_default t c =
+    leads_by _ _ c.put-in_default.result c.put-in_default.new.self
+    (rw (c.in-Word.is, c.in_ok-kind_of.ensures) (expanded_plain _ _ _ _ _ (sym c.is_directive.ensures ∙ c.if-is_directive.false) (sym c.in_default.ensures.value))) c.put-in_default.ensures

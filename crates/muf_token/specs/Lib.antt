@@ -1,0 +1,12 @@
+pub mod Branches
+pub mod Bytes
+pub mod Directives
+pub mod Expansion
+pub mod Faults
+pub mod Numbers
+pub mod Output
+pub mod Pieces
+pub mod Places
+pub mod Readers
+pub mod Source
+pub mod Spots

@@ -1,0 +1,55 @@
+// What the pieces of a text stand for.
+ghost use Rattle.std.specs.Prelude.{◌≡◌, ◌∷◌};
+ghost use Rattle.muf_token.specs.Expansion.{is_directive, expanded};
+ghost use Rattle.muf_token.specs.Output.{Leads};
+
+use crate::number::kind_of;
+use crate::output::Output;
+use crate::piece::Piece;
+use crate::{FaultKind, Refusal, TokenFault, TokenKind};
+use indexmap::IndexMap;
+use muck_model::{Line, Row};
+use std::alloc::Global;
+
+/// Names in lower case, each with the pieces of its definition.
+pub(crate) type Definitions = IndexMap<Line, Row<Piece>>;
+
+/// Whether a word asks for a directive.
+pub(crate) fn is_directive(word: &Line) -> bool
+    ensures { result ≡ is_directive word.now }
+{
+    matches!(word.as_slice().first(), Some(b'$'))
+}
+
+/// Puts out what a piece at this line stands for, where this many more definitions may be open at once.
+#[tactic(auto, unfolding(crate::specs::Expansion::expanded))]
+pub(crate) fn expand(
+    alloc: Global,
+    definitions: &Definitions,
+    line: u32,
+    piece: &Piece,
+    deeper: usize,
+    out: &mut Output,
+) -> Result<(), TokenFault>
+    ensures { Leads (expanded deeper definitions.now.entries line piece.now out.old) result out.new }
+{
+    let word = match piece {
+        Piece::Broken(kind) => return Err(TokenFault::Refused(Refusal { line, kind: *kind })),
+        Piece::Text(text) => return out.put(line, Some(TokenKind::Text(text.copy(alloc)?))),
+        Piece::Word(word) => word,
+    };
+    if is_directive(word) {
+        return Err(TokenFault::Refused(Refusal { line, kind: FaultKind::BadDirective }));
+    }
+    let Some(body) = definitions.get(word) else {
+        return out.put(line, kind_of(alloc, word)?);
+    };
+    if deeper == 0 {
+        return Err(TokenFault::Refused(Refusal { line, kind: FaultKind::EndlessDefs }));
+    }
+    out.count_use(line)?;
+    for inner in body.as_slice() {
+        expand(alloc, definitions, line, inner, deeper - 1, out)?;
+    }
+    Ok(())
+}
