@@ -1,0 +1,5 @@
+pub mod Acts
+pub mod Faults
+pub mod Knowing
+pub mod Names
+pub mod Reading

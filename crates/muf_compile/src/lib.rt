@@ -1,0 +1,11 @@
+//! The compiler of MUF: from the words of a source to code that stands for its tree.
+#![tactic(auto)]
+
+mod act;
+mod control;
+mod fault;
+mod known;
+mod names;
+mod primitive;
+
+pub use fault::{CompileFault, CompileKind, Refusal};
