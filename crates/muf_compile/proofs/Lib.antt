@@ -1,1 +1,4 @@
+pub mod Growing
+pub mod Offers
+pub mod Pendings
 pub mod Titles

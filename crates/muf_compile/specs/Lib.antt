@@ -1,5 +1,9 @@
 pub mod Acts
+pub mod Build
+pub mod Built
 pub mod Faults
+pub mod Fits
+pub mod Growth
 pub mod Knowing
 pub mod Names
 pub mod Reading

@@ -2,8 +2,10 @@
 #![tactic(auto)]
 
 mod act;
+mod builder;
 mod control;
 mod fault;
+mod hole;
 mod known;
 mod names;
 mod primitive;
