@@ -1,3 +1,4 @@
+pub mod Compiling
 pub mod Growing
 pub mod Offers
 pub mod Pendings

@@ -33,3 +33,9 @@ abbrev pub Leads : {A B : Type 0} → Result A Refusal → Result B CompileFault
 Leads step (Ok done) now = step ≡ Ok now
 Leads step (Err (Refused refusal)) now = step ≡ Err refusal
 Leads step (Err NoMemory) now = Unit {0}
+
+-- the answer of a call; want of memory says nothing
+abbrev pub Answers : {A : Type 0} → Result A Refusal → Result A CompileFault → Type 0
+Answers step (Ok answer) = step ≡ Ok answer
+Answers step (Err (Refused refusal)) = step ≡ Err refusal
+Answers step (Err NoMemory) = Unit {0}

@@ -1,6 +1,7 @@
 pub mod Acts
 pub mod Build
 pub mod Built
+pub mod Compiled
 pub mod Faults
 pub mod Fits
 pub mod Growth

@@ -1,5 +1,5 @@
 // What a word of a source asks for, once its name is understood.
-ghost use Rattle.std.specs.Prelude.{◌≡◌};
+ghost use Rattle.std.specs.Prelude.{◌≡◌, ◌≤◌};
 ghost use Rattle.muf_compile.specs.Acts.{cost_of};
 
 use muf_model::{Offer, Text, Word};
@@ -48,7 +48,8 @@ pub(crate) struct Reading {
 
 /// How many instructions an act makes that take a unit.
 pub(crate) fn cost_of(act: &Act) -> usize
-    ensures { result ≡ cost_of act.now }
+    ensures value { result ≡ cost_of act.now }
+    ensures few { result ≤ 2 }
 {
     match act {
         Act::Wait | Act::Title(_) | Act::Then | Act::EndCatch | Act::Offer(_, _) => 0,

@@ -1,16 +1,17 @@
 // The instructions that are made so far, and what is open.
 ghost use Rattle.std.specs.Prelude.{◌≡◌, ◌+◌, ◌<◌, ◌≤◌, [], ◌∷◌, ◌++◌, length, OnOk, OnErr, IfOk, IfNone, option_to_list, slice_set};
-ghost use Rattle.muf_compile.specs.Faults.{Leads};
+ghost use Rattle.muf_compile.specs.Faults.{Leads, Answers};
 ghost use Rattle.muf_compile.specs.Built.{Built};
 ghost use Rattle.muf_compile.specs.Build as building;
 ghost use Rattle.muf_compile.specs.Build.{build};
+ghost use Rattle.muf_compile.specs.Compiled.{whole_code};
 ghost use Rattle.muf_compile.specs.Growth.{widened};
 
 use crate::act::{Act, Opening};
 use crate::hole::{Hole, Pending};
 use crate::{CompileFault, CompileKind};
-use muck_model::NoMemory;
-use muf_model::{Closer, CodeWord, Instr, Offer, Placed, Text, Word};
+use muck_model::{NoMemory, Row};
+use muf_model::{Closer, Code, CodeWord, Instr, Offer, Placed, Text, Word};
 use std::alloc::Global;
 use std::marker::Model;
 
@@ -297,5 +298,33 @@ impl Builder {
             Act::Offer(number, offer) => self.offer(number, offer),
         }
         Ok(())
+    }
+
+    /// How many words there are.
+    pub fn word_count(&self) -> usize
+        ensures { result ≡ length self.now.words }
+    {
+        self.words.len()
+    }
+
+    /// Why the present word can't end here.
+    #[tactic(auto, using(crate::proofs::Pendings::last_misfit))]
+    pub fn open_kind(&self) -> CompileKind
+        ensures { result ≡ building.misfit CompileKind.NoWord self.now.pending }
+    {
+        match self.pending.as_slice().split_last() {
+            Some((innermost, _)) => innermost.unclosed(),
+            None => CompileKind::NoWord,
+        }
+    }
+
+    /// The code of the whole program, with so many variables; its last word stands at this line.
+    pub fn finish(self, last: u32, variables: usize) -> Result<Code, CompileFault>
+        ensures { Answers (whole_code last variables self.code self.words) result }
+    {
+        if self.words.is_empty() {
+            return Err(CompileFault::at(last, CompileKind::NoWord));
+        }
+        Ok(Code { placed: Row::of(self.code), words: Row::of(self.words), variables })
     }
 }

@@ -1,5 +1,5 @@
 // What is known at a place of a source, and what each word asks for there.
-ghost use Rattle.std.specs.Prelude.{◌≡◌, ◌≤◌, IfOk, None, option_map, length, is_some};
+ghost use Rattle.std.specs.Prelude.{◌≡◌, ◌≤◌, IfOk, None, [], option_map, length, is_some};
 ghost use Rattle.std.specs.Str.{bytes_eq};
 ghost use Rattle.std.specs.Map.{lookup};
 ghost use Rattle.muck_model.specs.Bytes.{text_fault};
@@ -58,6 +58,15 @@ fn text_of(alloc: Global, line: &Line) -> Result<Text, NoMemory>
     ensures { IfOk result (λ text. text ≡ line.now) }
 {
     let line = line.copy(alloc)?;
+    let text = Text::new(alloc, line)?;
+    Ok(text)
+}
+
+/// The empty text.
+pub(crate) fn empty_text(alloc: Global) -> Result<Text, NoMemory>
+    ensures { IfOk result (λ text. text ≡ []) }
+{
+    let line = part_of(alloc, &[])?;
     let text = Text::new(alloc, line)?;
     Ok(text)
 }

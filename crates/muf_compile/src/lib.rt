@@ -8,6 +8,8 @@ mod fault;
 mod hole;
 mod known;
 mod names;
+mod pass;
 mod primitive;
 
 pub use fault::{CompileFault, CompileKind, Refusal};
+pub use pass::compile;
