@@ -2,7 +2,6 @@
 use Rattle.std.proofs.Common.{◌≡◌, ℕ, zero, suc, ◌+◌, ◌<◌, ◌≤◌, List, [], ◌∷◌, length, Bool, true, false, cond, refl, sym, ap, subst, ◌∙◌, arith, length-append, drop, get_or, add-one, leb-true}
 use Rattle.std.specs.Prelude.{Result, Ok, Err, nat_le}
 use Rattle.std.proofs.Math.Seq.{drop-cons}
-use Rattle.std.proofs.lemmas.Bool.Decides.{nat_tests}
 use Rattle.muf_model.specs.declared.code.Placed.{Placed}
 use Rattle.muf_model.specs.declared.code.CodeWord.{CodeWord}
 use Rattle.muf_model.specs.declared.code.Code.{Code}
@@ -16,8 +15,7 @@ use Rattle.muf_compile.specs.declared.act.Act.TheVariants.{Wait, Title, Item, Ju
 use Rattle.muf_compile.specs.declared.names.Mode.{Mode}
 use Rattle.muf_compile.specs.declared.names.Mode.TheVariants as mode
 use Rattle.muf_compile.specs.declared.hole.Pending.{Pending}
-use Rattle.muf_compile.specs.declared.fault.CompileKind.{CompileKind}
-use Rattle.muf_compile.specs.declared.fault.CompileKind.TheVariants.{NoWord, BadHeader, TooLong}
+use Rattle.muf_compile.specs.declared.fault.CompileKind.TheVariants.{NoWord, TooLong}
 use Rattle.muf_compile.specs.declared.fault.Refusal.{Refusal}
 use Rattle.muf_compile.specs.declared.fault.CompileFault.{CompileFault}
 use Rattle.muf_compile.specs.declared.fault.CompileFault.TheVariants.{Refused, NoMemory}
@@ -68,8 +66,8 @@ after_build k n (Err r) (Ok g) h = absurd h
 
 after_read : (b : Built) (g : Growth) (units : ℕ) → BuiltFits b g → (r : Read)
     → StepAlike
-      (and_then r (λ p. and_then (build p.1.line p.1.act b) (λ b. and_then (counted p.1.line (cost_of p.1.act) units) (λ n. Ok (record { known = p.0; built = b; units = n })))))
-      (and_then r (λ p. and_then (grow p.1.line p.1.act g) (λ g. and_then (counted p.1.line (cost_of p.1.act) units) (λ n. Ok (record { known = p.0; growth = g; units = n })))))
+    (and_then r (λ p. and_then (build p.1.line p.1.act b) (λ b. and_then (counted p.1.line (cost_of p.1.act) units) (λ n. Ok (record { known = p.0; built = b; units = n })))))
+    (and_then r (λ p. and_then (grow p.1.line p.1.act g) (λ g. and_then (counted p.1.line (cost_of p.1.act) units) (λ n. Ok (record { known = p.0; growth = g; units = n })))))
 after_read b g units f (Ok p) = after_build p.0 (counted p.1.line (cost_of p.1.act) units) (build p.1.line p.1.act b) (grow p.1.line p.1.act g) (growing p.1.line p.1.act b g f)
 after_read b g units f (Err r) = refl
 
@@ -205,9 +203,10 @@ small_step t d s = small_read d.growth d.units s.words (read (length d.growth.wo
 
 -- nothing is compiled
 pub starts : CompiledFits nothing_compiled empty_draft × IsSmall empty_draft
-starts =
-    (record { known = refl; built = record { start = 0; items = refl; within = omega arith; opens = outermost; words = tt; title = refl }; units = refl },
-     record { words = omega arith; units = omega arith })
+starts = (
+  record { known = refl; built = record { start = 0; items = refl; within = omega arith; opens = outermost; words = tt; title = refl }; units = refl },
+  record { words = omega arith; units = omega arith },
+)
 
 -- one word more
 pub takes : (t : Token) (ts : List Token) (last : ℕ) (c new : Compiled) (d : Draft) → CompiledFits c d → IsSmall d → compiled_step t c ≡ Ok new → (e : Draft) × CompiledFits new e × IsSmall e × (tree_from last (t ∷ ts) d ≡ tree_from t.line ts e)

@@ -1,6 +1,6 @@
 -- What each act adds to the instructions stands for what it adds to the tree.
-use Rattle.std.proofs.Common.{◌≡◌, ℕ, zero, suc, ◌+◌, ◌<◌, ◌≤◌, List, [], ◌∷◌, ◌++◌, length, Some, Bool, true, false, cond, refl, sym, ap, subst, ◌∙◌, arith, length-append}
-use Rattle.std.specs.Prelude.{slice_get, slice_set, Result, Ok, Err}
+use Rattle.std.proofs.Common.{◌≡◌, ℕ, zero, suc, ◌+◌, ◌<◌, ◌≤◌, List, [], ◌∷◌, ◌++◌, length, Some, Bool, true, false, cond, refl, sym, ap, ◌∙◌, arith, length-append}
+use Rattle.std.specs.Prelude.{slice_get, slice_set}
 use Rattle.std.proofs.Math.ListN.{length-set}
 use Rattle.muf_model.specs.declared.code.Offer.{Offer}
 use Rattle.muf_model.specs.declared.code.Word.{Word}
@@ -11,8 +11,8 @@ use Rattle.muf_model.specs.declared.code.Instr.{Instr}
 use Rattle.muf_model.specs.declared.code.Instr.TheVariants.{Plain, Unset, Close, When}
 use Rattle.muf_model.specs.declared.code.Placed.{Placed}
 use Rattle.muf_model.specs.declared.code.CodeWord.{CodeWord}
-use Rattle.muf_model.specs.Tree.{Fork, if_word, try_word, Ring, begin_word, for_word, each_word, Block, stop, word, when, fork, ring, then_block, closes, Definition}
-use Rattle.muf_model.specs.Stands.{Stands, EndStands, IsAt, fork_instr, ring_instr, hop_instr, WordsStand, WordStands}
+use Rattle.muf_model.specs.Tree.{Fork, if_word, try_word, Ring, begin_word, for_word, each_word, Block, stop, word, when, fork, ring, Definition}
+use Rattle.muf_model.specs.Stands.{Stands, IsAt, fork_instr, ring_instr, hop_instr, WordsStand, WordStands}
 use Rattle.muf_model.proofs.Standing.{joins, Extends, stands_kept, fork_kept, words_kept}
 use Rattle.muf_compile.specs.declared.act.Opening.{Opening}
 use Rattle.muf_compile.specs.declared.act.Opening.TheVariants as opening

@@ -1,5 +1,5 @@
 -- What is open innermost.
-use Rattle.std.proofs.Common.{◌≡◌, List, [], ◌∷◌, ◌++◌, reverse, length, refl, arith}
+use Rattle.std.proofs.Common.{◌≡◌, List, [], ◌∷◌, ◌++◌, reverse, refl}
 use Rattle.muf_compile.specs.declared.hole.Pending.{Pending}
 use Rattle.muf_compile.specs.declared.fault.CompileKind.{CompileKind}
 use Rattle.muf_compile.specs.Build.{in_loop, is_looping, misfit, unclosed}

@@ -1,5 +1,5 @@
 -- What each act adds to the instructions.
-use Rattle.std.specs.Prelude.{◌≡◌, ℕ, zero, suc, ◌+◌, Bool, true, false, if◌then◌else◌, List, [], ◌∷◌, ◌++◌, length, slice_set, Result, Ok, Err}
+use Rattle.std.specs.Prelude.{ℕ, zero, suc, ◌+◌, Bool, true, false, if◌then◌else◌, List, [], ◌∷◌, ◌++◌, length, slice_set, Result, Ok}
 use Rattle.muf_model.specs.declared.code.Offer.{Offer}
 use Rattle.muf_model.specs.declared.code.Offer.TheVariants.{Nobody}
 use Rattle.muf_model.specs.declared.code.Word.TheVariants.{NextIndex, NextPair}
@@ -128,12 +128,12 @@ until_code line b os = refuse line (misfit StrayBreak os)
 abbrev pub end_code : ℕ → ℕ → Built → List Pending → Made
 end_code line n b [] =
     Ok (record {
-        code = emitted b.code line (instr.Close closer.Semicolon);
-        words = b.words ++ record { name = b.title; offer = Nobody; variables = n; start = b.start } ∷ [];
-        title = b.title;
-        start = length b.code + 1;
-        pending = [];
-      })
+      code = emitted b.code line (instr.Close closer.Semicolon);
+      words = b.words ++ record { name = b.title; offer = Nobody; variables = n; start = b.start } ∷ [];
+      title = b.title;
+      start = length b.code + 1;
+      pending = [];
+    })
 end_code line n b (o ∷ os) = refuse line (unclosed o)
 
 -- the word of this number is offered

@@ -1,5 +1,5 @@
 -- The tree of a program, as it grows word by word.
-use Rattle.std.specs.Prelude.{◌≡◌, ℕ, zero, suc, ◌+◌, Bool, true, false, nat_le, if◌then◌else◌, List, [], ◌∷◌, ◌++◌, length, Result, Ok, Err}
+use Rattle.std.specs.Prelude.{ℕ, zero, suc, ◌+◌, Bool, true, false, nat_le, if◌then◌else◌, List, [], ◌∷◌, ◌++◌, length, Result, Ok}
 use Rattle.muf_model.specs.declared.code.Offer.{Offer}
 use Rattle.muf_model.specs.declared.code.Offer.TheVariants.{Nobody, Wizards, All}
 use Rattle.muf_model.specs.declared.code.Word.TheVariants.{NextIndex, NextPair}
@@ -112,11 +112,11 @@ until_part at g us = refuse at (misfit StrayBreak us)
 abbrev pub end_part : ℕ → ℕ → Growth → List Unfinished → Grown
 end_part at n g [] =
     Ok (record {
-        words = g.words ++ record { name = g.title; offer = Nobody; variables = n; body = g.now; last = at } ∷ [];
-        title = g.title;
-        now = stop;
-        around = [];
-      })
+      words = g.words ++ record { name = g.title; offer = Nobody; variables = n; body = g.now; last = at } ∷ [];
+      title = g.title;
+      now = stop;
+      around = [];
+    })
 end_part at n g (u ∷ us) = refuse at (unclosed u)
 
 -- what is offered to all stays so

@@ -107,16 +107,16 @@ abbrev pub shared_variable : ℕ → List ℕ → Known → Read
 shared_variable line name k =
     unless line (name_fault name k)
     (if nat_lt k.variables variables_most
-     then acts line act.Wait (record k { names = insert_entry bytes_eq k.names name (meaning.Variable (record { 0 = 4 + k.variables })); variables = k.variables + 1; mode = mode.Outside })
-     else refuse line TooLong)
+    then acts line act.Wait (record k { names = insert_entry bytes_eq k.names name (meaning.Variable (record { 0 = 4 + k.variables })); variables = k.variables + 1; mode = mode.Outside })
+    else refuse line TooLong)
 
 -- one variable more of the present word, and its number
 abbrev pub own_variable : ℕ → List ℕ → Mode → Known → Result (Known × VarId) Refusal
 own_variable line name m k =
     unless line (name_fault name k)
     (if nat_lt (length k.locals) variables_most
-     then Ok (record k { locals = insert_entry bytes_eq k.locals name (record { 0 = 68 + length k.locals }); mode = m }, record { 0 = 68 + length k.locals })
-     else refuse line TooLong)
+    then Ok (record k { locals = insert_entry bytes_eq k.locals name (record { 0 = 68 + length k.locals }); mode = m }, record { 0 = 68 + length k.locals })
+    else refuse line TooLong)
 
 -- a declaration of a variable makes nothing
 abbrev pub waiting : ℕ → Known × VarId → Read

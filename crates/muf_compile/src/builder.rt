@@ -106,7 +106,10 @@ impl Builder {
         ensures { self.new ≡ record self.old { code = building.patched self.old.code hole instr } }
     {
         if hole.at < self.code.len() {
-            self.code[hole.at] = Placed { line: hole.line, instr };
+            self.code[hole.at] = Placed {
+                line: hole.line,
+                instr,
+            };
         }
     }
 
@@ -143,7 +146,11 @@ impl Builder {
     fn open(&mut self, line: u32, opening: Opening) -> Result<(), NoMemory>
         ensures { OnOk result (self.new ≡ building.open_code line opening self.old) }
     {
-        let hole = Hole { at: self.here(), line, looping: self.in_loop() };
+        let hole = Hole {
+            at: self.here(),
+            line,
+            looping: self.in_loop(),
+        };
         self.emit(line, Instr::Unset)?;
         self.push(pending_of(opening, hole))?;
         match opening {
@@ -177,7 +184,11 @@ impl Builder {
         let here = self.here();
         self.emit(line, Instr::Unset)?;
         self.patch(hole, Instr::IfElse(here + 1));
-        self.push(Pending::Else(Hole { at: here, line, looping: hole.looping }))?;
+        self.push(Pending::Else(Hole {
+            at: here,
+            line,
+            looping: hole.looping,
+        }))?;
         Ok(())
     }
 
@@ -192,7 +203,11 @@ impl Builder {
         let here = self.here();
         self.emit(line, Instr::Unset)?;
         self.patch(hole, Instr::Try(here + 1));
-        self.push(Pending::Catch(Hole { at: here, line, looping: hole.looping }))?;
+        self.push(Pending::Catch(Hole {
+            at: here,
+            line,
+            looping: hole.looping,
+        }))?;
         Ok(())
     }
 
@@ -261,7 +276,12 @@ impl Builder {
         let behind = self.here() + 1;
         self.emit(line, Instr::Close(Closer::Semicolon))?;
         let name = self.title.share()?;
-        self.words.push(CodeWord { name, offer: Offer::Nobody, variables, start: self.start })?;
+        self.words.push(CodeWord {
+            name,
+            offer: Offer::Nobody,
+            variables,
+            start: self.start,
+        })?;
         self.start = behind;
         Ok(())
     }
@@ -325,6 +345,10 @@ impl Builder {
         if self.words.is_empty() {
             return Err(CompileFault::at(last, CompileKind::NoWord));
         }
-        Ok(Code { placed: Row::of(self.code), words: Row::of(self.words), variables })
+        Ok(Code {
+            placed: Row::of(self.code),
+            words: Row::of(self.words),
+            variables,
+        })
     }
 }

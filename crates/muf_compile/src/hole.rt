@@ -30,7 +30,8 @@ impl Pending {
         ensures { result ≡ is_looping self }
     {
         match self {
-            Pending::If(hole) | Pending::Else(hole) | Pending::Try(hole) | Pending::Catch(hole) => hole.looping,
+            Pending::If(hole) | Pending::Else(hole) | Pending::Try(hole) | Pending::Catch(hole) =>
+                hole.looping,
             Pending::Begin(_) | Pending::For(_) | Pending::Each(_) => true,
         }
     }

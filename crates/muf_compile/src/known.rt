@@ -8,7 +8,7 @@ ghost use Rattle.muf_compile.specs.Reading.{item_of, word_of, number_of, is_unfi
 ghost use Rattle.muf_compile.specs.Knowing.{known_of};
 
 use crate::act::{Act, Opening, Reading};
-use crate::control::{control_of, standing_of, Control};
+use crate::control::{Control, control_of, standing_of};
 use crate::names::{Known, Meaning, Mode, Wanted};
 use crate::primitive::primitive_of;
 use crate::{CompileFault, CompileKind};
@@ -76,7 +76,11 @@ fn binding(count: usize) -> Act
     requires few { count ≤ 64 }
     ensures { result ≡ binding count }
 {
-    if count == 0 { Act::Wait } else { Act::Item(Word::Bind(count as u32)) }
+    if count == 0 {
+        Act::Wait
+    } else {
+        Act::Item(Word::Bind(count as u32))
+    }
 }
 
 // The name before a last `[`, where there is one.
@@ -177,15 +181,25 @@ impl Known {
             return Err(CompileFault::at(line, CompileKind::TooLong));
         }
         let variable = VarId(4 + self.variables as u32);
-        self.names.insert(name.copy(alloc)?, Meaning::Variable(variable))?;
+        self.names
+            .insert(name.copy(alloc)?, Meaning::Variable(variable))?;
         self.variables += 1;
         self.mode = Mode::Outside;
-        Ok(Reading { line, act: Act::Wait })
+        Ok(Reading {
+            line,
+            act: Act::Wait,
+        })
     }
 
     // One variable more of the present word.
     #[tactic(auto, unfolding(crate::specs::Reading::variables_most))]
-    fn add_own(&mut self, alloc: Global, line: u32, name: &Line, mode: Mode) -> Result<VarId, CompileFault>
+    fn add_own(
+        &mut self,
+        alloc: Global,
+        line: u32,
+        name: &Line,
+        mode: Mode,
+    ) -> Result<VarId, CompileFault>
         ensures { Reads (own_variable line name.now mode (known_of self.old)) result (known_of self.new) }
     {
         if let Some(kind) = self.name_fault(name) {
@@ -202,7 +216,14 @@ impl Known {
     }
 
     // A word of this number and name begins.
-    fn add_word(&mut self, alloc: Global, number: u32, line: u32, name: &Line, mode: Mode) -> Result<Reading, CompileFault>
+    fn add_word(
+        &mut self,
+        alloc: Global,
+        number: u32,
+        line: u32,
+        name: &Line,
+        mode: Mode,
+    ) -> Result<Reading, CompileFault>
         ensures { Reads (titled_as number line name.now mode (known_of self.old)) result (known_of self.new) }
     {
         if let Some(kind) = self.name_fault(name) {
@@ -211,11 +232,21 @@ impl Known {
         let title = text_of(alloc, name)?;
         self.names.insert(name.copy(alloc)?, Meaning::Word(number))?;
         self.mode = mode;
-        Ok(Reading { line, act: Act::Title(title) })
+        Ok(Reading {
+            line,
+            act: Act::Title(title),
+        })
     }
 
     // A word whose `:` stands at `at` begins, with a header where a `[` ends its name.
-    fn title(&mut self, alloc: Global, number: u32, at: u32, line: u32, word: &Line) -> Result<Reading, CompileFault>
+    fn title(
+        &mut self,
+        alloc: Global,
+        number: u32,
+        at: u32,
+        line: u32,
+        word: &Line,
+    ) -> Result<Reading, CompileFault>
         ensures { Reads (titled number at line word.now (known_of self.old)) result (known_of self.new) }
     {
         match before_bracket(alloc, word)? {
@@ -235,11 +266,21 @@ impl Known {
             return Err(CompileFault::at(line, CompileKind::UnknownWord));
         };
         self.mode = Mode::Outside;
-        Ok(Reading { line, act: Act::Offer(number, offer) })
+        Ok(Reading {
+            line,
+            act: Act::Offer(number, offer),
+        })
     }
 
     // The name that a declaration wants.
-    fn name(&mut self, alloc: Global, number: u32, line: u32, wanted: Wanted, name: &Line) -> Result<Reading, CompileFault>
+    fn name(
+        &mut self,
+        alloc: Global,
+        number: u32,
+        line: u32,
+        wanted: Wanted,
+        name: &Line,
+    ) -> Result<Reading, CompileFault>
         ensures { Reads (named number line wanted name.now (known_of self.old)) result (known_of self.new) }
     {
         match wanted {
@@ -248,17 +289,29 @@ impl Known {
             Wanted::Offered(offer) => self.offer(line, offer, name),
             Wanted::Own => {
                 self.add_own(alloc, line, name, Mode::Inside)?;
-                Ok(Reading { line, act: Act::Wait })
+                Ok(Reading {
+                    line,
+                    act: Act::Wait,
+                })
             }
             Wanted::Stored(at) => {
                 let variable = self.add_own(alloc, line, name, Mode::Inside)?;
-                Ok(Reading { line: at, act: Act::Item(Word::Store(variable)) })
+                Ok(Reading {
+                    line: at,
+                    act: Act::Item(Word::Store(variable)),
+                })
             }
         }
     }
 
     // A word behind a declaration.
-    fn read_name(&mut self, alloc: Global, number: u32, wanted: Wanted, token: &Token) -> Result<Reading, CompileFault>
+    fn read_name(
+        &mut self,
+        alloc: Global,
+        number: u32,
+        wanted: Wanted,
+        token: &Token,
+    ) -> Result<Reading, CompileFault>
         ensures { Reads (read_name number token.now.line wanted token.now.kind (known_of self.old)) result (known_of self.new) }
     {
         match &token.kind {
@@ -273,11 +326,20 @@ impl Known {
     {
         self.mode = Mode::Inside;
         let count = self.locals.len();
-        Reading { line: at, act: binding(count) }
+        Reading {
+            line: at,
+            act: binding(count),
+        }
     }
 
     // A word of a header: the names of arguments.
-    fn argument(&mut self, alloc: Global, at: u32, line: u32, name: &Line) -> Result<Reading, CompileFault>
+    fn argument(
+        &mut self,
+        alloc: Global,
+        at: u32,
+        line: u32,
+        name: &Line,
+    ) -> Result<Reading, CompileFault>
         ensures { Reads (argument at line name.now (known_of self.old)) result (known_of self.new) }
     {
         if name.as_slice() == b"]".as_slice() {
@@ -285,14 +347,25 @@ impl Known {
         }
         if name.as_slice() == b"--".as_slice() {
             self.mode = Mode::Results(at);
-            return Ok(Reading { line, act: Act::Wait });
+            return Ok(Reading {
+                line,
+                act: Act::Wait,
+            });
         }
         self.add_own(alloc, line, name, Mode::Heading(at))?;
-        Ok(Reading { line, act: Act::Wait })
+        Ok(Reading {
+            line,
+            act: Act::Wait,
+        })
     }
 
     // A word of a header before `--`.
-    fn read_argument(&mut self, alloc: Global, at: u32, token: &Token) -> Result<Reading, CompileFault>
+    fn read_argument(
+        &mut self,
+        alloc: Global,
+        at: u32,
+        token: &Token,
+    ) -> Result<Reading, CompileFault>
         ensures { Reads (read_argument at token.now.line token.now.kind (known_of self.old)) result (known_of self.new) }
     {
         match &token.kind {
@@ -310,7 +383,10 @@ impl Known {
                 return self.end_header(at);
             }
         }
-        Reading { line: token.line, act: Act::Wait }
+        Reading {
+            line: token.line,
+            act: Act::Wait,
+        }
     }
 
     // First a name has to follow.
@@ -318,7 +394,10 @@ impl Known {
         ensures { wants line wanted (known_of self.old) ≡ Ok (known_of self.new, result) }
     {
         self.mode = Mode::Naming(wanted);
-        Reading { line, act: Act::Wait }
+        Reading {
+            line,
+            act: Act::Wait,
+        }
     }
 
     // A word of the structure where no word is open.
@@ -352,7 +431,10 @@ impl Known {
         let count = self.locals.len();
         self.locals.clear();
         self.mode = Mode::Outside;
-        Reading { line, act: Act::End(count) }
+        Reading {
+            line,
+            act: Act::End(count),
+        }
     }
 
     // A word of the structure in a word.
@@ -393,7 +475,10 @@ impl Known {
             return self.control(line, control);
         }
         match self.word_of(name) {
-            Some(word) => Ok(Reading { line, act: Act::Item(word) }),
+            Some(word) => Ok(Reading {
+                line,
+                act: Act::Item(word),
+            }),
             None => Err(CompileFault::at(line, CompileKind::UnknownWord)),
         }
     }
@@ -403,7 +488,10 @@ impl Known {
         ensures { Reads (meant line (option_map Word.Address (number_of name.now (known_of self.now))) (known_of self.now)) result (known_of self.now) }
     {
         match self.number_of(name) {
-            Some(number) => Ok(Reading { line, act: Act::Item(Word::Address(number)) }),
+            Some(number) => Ok(Reading {
+                line,
+                act: Act::Item(Word::Address(number)),
+            }),
             None => Err(CompileFault::at(line, CompileKind::UnknownWord)),
         }
     }
@@ -420,12 +508,20 @@ impl Known {
             TokenKind::Number(number) => Literal::Int(*number),
             TokenKind::Ref(object) => Literal::Object(*object),
         };
-        Ok(Reading { line, act: Act::Item(Word::Literal(literal)) })
+        Ok(Reading {
+            line,
+            act: Act::Item(Word::Literal(literal)),
+        })
     }
 
     /// What a word asks for, where the next word of the program has this number.
     #[tactic(auto, unfolding(crate::specs::Reading::read))]
-    pub fn read(&mut self, alloc: Global, number: u32, token: &Token) -> Result<Reading, CompileFault>
+    pub fn read(
+        &mut self,
+        alloc: Global,
+        number: u32,
+        token: &Token,
+    ) -> Result<Reading, CompileFault>
         ensures { Reads (read number token.now (known_of self.old)) result (known_of self.new) }
     {
         match self.mode {

@@ -56,4 +56,3 @@ pub(crate) struct Known {
     pub mode: Mode,
     ghost few: { index_map_len locals ≤ 64 },
 }
-

@@ -6,7 +6,7 @@ ghost use Rattle.muf_compile.specs.Growth.{counted, tree_of};
 ghost use Rattle.muf_compile.specs.Compiled.{compiled_of, compiled_step, compiled_end, nothing_compiled};
 ghost use Rattle.muf_compile.specs.Fits.{IsCode};
 
-use crate::act::{cost_of, Reading};
+use crate::act::{Reading, cost_of};
 use crate::builder::Builder;
 use crate::known::empty_text;
 use crate::names::{Known, Mode};
@@ -34,7 +34,11 @@ impl Compiler {
         ensures { IfOk result (λ c. compiled_of c ≡ nothing_compiled) }
     {
         let title = empty_text(alloc)?;
-        Ok(Compiler { known: Known::new(alloc), builder: Builder::new(alloc, title), units: 0 })
+        Ok(Compiler {
+            known: Known::new(alloc),
+            builder: Builder::new(alloc, title),
+            units: 0,
+        })
     }
 
     // So many instructions more that take a unit.
@@ -72,7 +76,10 @@ impl Compiler {
         match self.known.mode {
             Mode::Outside => self.builder.finish(last, self.known.variables),
             Mode::Inside => Err(CompileFault::at(last, self.builder.open_kind())),
-            Mode::Naming(_) | Mode::Heading(_) | Mode::Results(_) => Err(CompileFault::at(last, CompileKind::BadHeader)),
+            Mode::Naming(_) | Mode::Heading(_) | Mode::Results(_) => Err(CompileFault::at(
+                last,
+                CompileKind::BadHeader,
+            )),
         }
     }
 }
