@@ -1,13 +1,12 @@
 -- The pieces between a `$define`'s name and its `$enddef`.
-use Rattle.std.proofs.Common.{◌≡◌, ℕ, ◌≤◌, ◌<◌, ◌+◌, Bool, true, false, cond, List, [], ◌∷◌, ◌++◌, length, Option, Some, None, Result, Ok, Err, refl, ap, sym, ◌∙◌, subst, arith, zero, suc, append_assoc}
-use Rattle.std.proofs.lemmas.Bool.{cond_both}
+use Rattle.std.proofs.Common.{◌≡◌, ℕ, ◌<◌, true, false, cond, List, [], ◌∷◌, ◌++◌, length, None, Result, Ok, Err, refl, ap, sym, ◌∙◌, arith, zero, suc, append_assoc}
 use Rattle.muf_token.specs.declared.fault.FaultKind.{FaultKind}
 use Rattle.muf_token.specs.declared.fault.FaultKind.TheVariants.{BadDirective}
 use Rattle.muf_token.specs.declared.fault.Refusal.{Refusal}
 use Rattle.muf_token.specs.declared.piece.Piece.{Piece}
 use Rattle.muf_token.specs.Pieces.{Front, ended, broken, found, front}
 use Rattle.muf_token.specs.Output.{refuse, and_then}
-use Rattle.muf_token.specs.Directives.{Spot, Body, is_enddef, after_piece, body_in, body_within, body_at}
+use Rattle.muf_token.specs.Directives.{Body, is_enddef, after_piece, body_in, body_within, body_at}
 use Rattle.muf_token.proofs.Texts.{append_none}
 use Rattle.muf_token.proofs.Fronts.{IsShorter, front_shorter, found_shorter}
 
@@ -42,7 +41,7 @@ unfolding body_at
 body_found line at place there piece text rest e =
     ap (λ f. body_in (body_within (length text) line) line f) e
     ∙ ap (λ more. cond (is_enddef piece) (Ok ([], record { line = there; text = rest })) (after_piece piece more))
-      (body_enough (length text) (suc (length rest)) line there rest (found_shorter None at place there piece text rest e) (omega arith))
+    (body_enough (length text) (suc (length rest)) line there rest (found_shorter None at place there piece text rest e) (omega arith))
 
 pub body_ended : (line at : ℕ) (text : List ℕ) → front None at text ≡ ended → body_at line (record { line = at; text = text }) ≡ refuse line BadDirective
 unfolding body_at
@@ -57,7 +56,7 @@ pub body_more : (list : List Piece) (line at place there : ℕ) (piece : Piece) 
     → after_pieces list (body_at line (record { line = at; text = text })) ≡ whole → after_pieces (list ++ piece ∷ []) (body_at line (record { line = there; text = rest })) ≡ whole
 body_more list line at place there piece text rest whole e plain h =
     let found_here : body_at line (record { line = at; text = text }) ≡ after_piece piece (body_at line (record { line = there; text = rest })) =
-        body_found line at place there piece text rest e ∙ ap (λ b. cond b (Ok ([], record { line = there; text = rest })) (after_piece piece (body_at line (record { line = there; text = rest })))) plain in
+    body_found line at place there piece text rest e ∙ ap (λ b. cond b (Ok ([], record { line = there; text = rest })) (after_piece piece (body_at line (record { line = there; text = rest })))) plain in
     after_more list piece (body_at line (record { line = there; text = rest })) ∙ ap (after_pieces list) (sym found_here) ∙ h
 
 -- the piece that was found ends them
@@ -65,7 +64,7 @@ pub body_done : (list : List Piece) (line at place there : ℕ) (piece : Piece) 
     → after_pieces list (body_at line (record { line = at; text = text })) ≡ whole → whole ≡ Ok (list, record { line = there; text = rest })
 body_done list line at place there piece text rest whole e ends h =
     let found_here : body_at line (record { line = at; text = text }) ≡ Ok ([], record { line = there; text = rest }) =
-        body_found line at place there piece text rest e ∙ ap (λ b. cond b (Ok ([], record { line = there; text = rest })) (after_piece piece (body_at line (record { line = there; text = rest })))) ends in
+    body_found line at place there piece text rest e ∙ ap (λ b. cond b (Ok ([], record { line = there; text = rest })) (after_piece piece (body_at line (record { line = there; text = rest })))) ends in
     sym h ∙ ap (after_pieces list) found_here ∙ ap (λ pieces. Ok (pieces, record { line = there; text = rest })) (append_none list)
 
 -- the text ended, or has a fault

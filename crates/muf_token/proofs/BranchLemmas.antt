@@ -1,9 +1,8 @@
 -- The list of conditionals, from its other end.
-use Rattle.std.proofs.Common.{◌≡◌, ℕ, Bool, true, List, [], ◌∷◌, ◌++◌, reverse, Option, Some, None, refl, ap, sym, ◌∙◌, rules}
+use Rattle.std.proofs.Common.{◌≡◌, List, [], ◌∷◌, ◌++◌, reverse, Some, refl, ap, ◌∙◌}
 use Rattle.std.proofs.lemmas.List.{reverse-append}
-use Rattle.std.specs.Option.{option_to_list}
 use Rattle.muf_token.specs.declared.branch.Branch.{Branch}
-use Rattle.muf_token.specs.Branches.{is_taking, outermost}
+use Rattle.muf_token.specs.Branches.{outermost}
 
 pub reverse_more : (xs : List Branch) (x : Branch) → reverse (xs ++ x ∷ []) ≡ x ∷ reverse xs
 reverse_more xs x = reverse-append xs (x ∷ [])

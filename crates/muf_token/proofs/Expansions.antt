@@ -1,12 +1,11 @@
 -- What a piece stands for where no definition is opened.
-use Rattle.std.proofs.Common.{◌≡◌, ℕ, Bool, false, List, Option, Some, None, Result, refl, sym, ap, ◌∙◌, subst, zero, suc}
+use Rattle.std.proofs.Common.{◌≡◌, ℕ, false, List, Some, None, Result, refl, sym, subst, zero, suc}
 use Rattle.std.specs.Str.{bytes_eq}
 use Rattle.std.specs.Map.{lookup}
 use Rattle.muf_token.specs.declared.fault.Refusal.{Refusal}
 use Rattle.muf_token.specs.declared.fault.TokenFault.{TokenFault}
 use Rattle.muf_token.specs.declared.token.TokenKind.TheVariants.{Text as text_kind}
-use Rattle.muf_token.specs.declared.piece.Piece.{Piece}
-use Rattle.muf_token.specs.declared.piece.Piece.TheVariants.{Word, Text, Broken}
+use Rattle.muf_token.specs.declared.piece.Piece.TheVariants.{Word, Text}
 use Rattle.muf_token.specs.declared.output.Output.{Output}
 use Rattle.muf_token.specs.Numbers.{kind_of}
 use Rattle.muf_token.specs.Output.{put, Leads}

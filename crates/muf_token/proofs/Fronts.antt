@@ -2,11 +2,10 @@
 use Rattle.std.proofs.Common.{◌≡◌, ℕ, ◌≤◌, ◌<◌, ◌+◌, Bool, true, false, not, cond, eqb, List, [], ◌∷◌, ◌++◌, length, drop, Option, Some, None, refl, ap, sym, ◌∙◌, subst, arith, zero, suc, append_assoc}
 use Rattle.std.proofs.lemmas.Bool.{cond_both}
 use Rattle.std.specs.List.{position_or_len}
-use Rattle.std.specs.Option.{option_map}
 use Rattle.muf_token.specs.declared.fault.FaultKind.{FaultKind}
 use Rattle.muf_token.specs.declared.piece.Piece.{Piece}
 use Rattle.muf_token.specs.declared.piece.Piece.TheVariants.{Broken}
-use Rattle.muf_token.specs.Pieces.{is_blank, next_line, Front, ended, broken, found, after_byte, escaped_byte, quoted, text_found, word_found, piece_here, front, then_pieces, first_pieces, pieces}
+use Rattle.muf_token.specs.Pieces.{is_blank, next_line, Front, ended, broken, found, after_byte, quoted, text_found, word_found, piece_here, front, then_pieces, first_pieces}
 use Rattle.muf_token.proofs.Words.{length_drop}
 
 -- what stands behind the piece has fewer than so many bytes

@@ -6,3 +6,5 @@ pub mod Fronts
 pub mod BranchLemmas
 pub mod Bodies
 pub mod Lines
+pub mod Sources
+pub mod Exits

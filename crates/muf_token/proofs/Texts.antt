@@ -1,9 +1,7 @@
 -- Parts of texts are texts.
-use Rattle.std.proofs.Common.{◌≡◌, ℕ, ◌≤◌, ◌<◌, ◌+◌, Bool, true, false, not, ◌&&◌, cond, ltb, List, [], ◌∷◌, ◌++◌, length, take, drop, map, Option, Some, None, refl, ap, sym, ◌∙◌, subst, arith, zero, suc}
-use Rattle.std.proofs.lemmas.Grind.{common_steps}
+use Rattle.std.proofs.Common.{◌≡◌, ℕ, ◌≤◌, ◌+◌, Bool, true, false, not, ◌&&◌, cond, ltb, List, [], ◌∷◌, ◌++◌, length, take, drop, Some, None, refl, ap, arith, zero, suc}
 use Rattle.std.proofs.lemmas.Bool.Decides.{nat_tests}
-use Rattle.std.specs.List.{position, position_or_len}
-use Rattle.std.specs.Char.{to_ascii_lowercase}
+use Rattle.std.specs.List.{position_or_len}
 use Rattle.muck_model.specs.Bytes.{is_outside, text_fault, fault_of, text_most}
 use Rattle.muf_token.specs.Bytes.{are_inside}
 

@@ -1,5 +1,5 @@
 -- Conditionals that are open, the innermost first.
-use Rattle.std.specs.Prelude.{ℕ, Bool, true, false, List, [], ◌∷◌, Option, Some, None, Result, Ok, Err}
+use Rattle.std.specs.Prelude.{ℕ, Bool, true, List, [], ◌∷◌, Option, Some, None, Result, Ok}
 use Rattle.muf_token.specs.declared.fault.FaultKind.TheVariants.{BadDirective}
 use Rattle.muf_token.specs.declared.fault.Refusal.{Refusal}
 use Rattle.muf_token.specs.declared.branch.Branch.{Branch}

@@ -1,5 +1,5 @@
 -- What a piece stands for: a defined word for the words of its definition, which are read for definitions in turn.
-use Rattle.std.specs.Prelude.{◌≡◌, ℕ, Bool, false, ◌==◌, if◌then◌else◌, List, [], ◌∷◌, Option, Some, None, Result, Ok, Err, zero, suc}
+use Rattle.std.specs.Prelude.{ℕ, Bool, false, ◌==◌, if◌then◌else◌, List, [], ◌∷◌, Option, Some, None, Result, Ok, zero, suc}
 use Rattle.std.specs.Str.{bytes_eq}
 use Rattle.std.specs.Map.{lookup}
 use Rattle.muf_token.specs.declared.fault.FaultKind.TheVariants.{BadDirective, EndlessDefs}

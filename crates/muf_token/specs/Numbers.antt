@@ -1,7 +1,6 @@
 -- What a word says by itself: an integer, a dbref, an address, or nothing but its name.
-use Rattle.std.specs.Prelude.{ℕ, ◌+◌, ◌-◌, ◌*◌, ◌^◌, ℤ, pos, neg_ℤ, Bool, true, false, ◌||◌, ◌&&◌, ◌==◌, nat_le, nat_lt, if◌then◌else◌, List, [], ◌∷◌, length, fold, Option, Some, None}
+use Rattle.std.specs.Prelude.{ℕ, ◌+◌, ◌-◌, ◌*◌, ◌^◌, pos, neg_ℤ, Bool, true, false, ◌&&◌, ◌==◌, nat_le, nat_lt, if◌then◌else◌, List, [], ◌∷◌, fold, Option, Some, None}
 use Rattle.std.specs.List.{list_all}
-use Rattle.muck_model.specs.declared.dbref.Dbref.{Dbref}
 use Rattle.muf_token.specs.declared.token.TokenKind.{TokenKind}
 use Rattle.muf_token.specs.declared.token.TokenKind.TheVariants.{Word, Number, Ref, Address}
 use Rattle.muf_token.specs.declared.number.Numeral.{Numeral}

@@ -1,11 +1,10 @@
 -- The words that come out of a source, one after the other, up to the first refusal.
-use Rattle.std.specs.Prelude.{◌≡◌, ℕ, ◌+◌, Bool, nat_lt, if◌then◌else◌, List, [], ◌∷◌, ◌++◌, length, Option, Some, None, Result, Ok, Err, ⊤}
+use Rattle.std.specs.Prelude.{◌≡◌, ℕ, ◌+◌, nat_lt, if◌then◌else◌, [], ◌∷◌, ◌++◌, length, Option, Some, None, Result, Ok, Err}
 use Rattle.muf_token.specs.declared.fault.FaultKind.{FaultKind}
 use Rattle.muf_token.specs.declared.fault.FaultKind.TheVariants.{TooManyWords, BadNumber}
 use Rattle.muf_token.specs.declared.fault.Refusal.{Refusal}
 use Rattle.muf_token.specs.declared.fault.TokenFault.{TokenFault}
 use Rattle.muf_token.specs.declared.fault.TokenFault.TheVariants.{Refused, NoMemory}
-use Rattle.muf_token.specs.declared.token.Token.{Token}
 use Rattle.muf_token.specs.declared.token.TokenKind.{TokenKind}
 use Rattle.muf_token.specs.declared.output.Output.{Output}
 

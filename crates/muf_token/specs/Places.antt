@@ -1,7 +1,7 @@
 -- Places in a text.
 use Rattle.std.specs.Prelude.{◌≡◌, false, ℕ, List, [], ◌∷◌, ◌++◌, ◌==◌, if◌then◌else◌, Option, Some, None, Result, Ok, Err}
 use Rattle.muf_token.specs.declared.place.Place.{Place}
-use Rattle.muf_token.specs.declared.piece.Piece.TheVariants.{Word, Text}
+use Rattle.muf_token.specs.declared.piece.Piece.TheVariants.{Word}
 use Rattle.muf_token.specs.declared.place.Found.{Found}
 use Rattle.muf_token.specs.declared.fault.TokenFault.{TokenFault}
 use Rattle.muf_token.specs.declared.fault.TokenFault.TheVariants.{Refused, NoMemory}

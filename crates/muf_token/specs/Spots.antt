@@ -1,5 +1,5 @@
 -- Places of the program as places of a source, and what is read there.
-use Rattle.std.specs.Prelude.{◌≡◌, ℕ, List, Option, Some, None, Result, Ok, Err}
+use Rattle.std.specs.Prelude.{◌≡◌, List, Result, Ok, Err}
 use Rattle.muf_token.specs.declared.fault.Refusal.{Refusal}
 use Rattle.muf_token.specs.declared.fault.TokenFault.{TokenFault}
 use Rattle.muf_token.specs.declared.fault.TokenFault.TheVariants.{Refused, NoMemory}

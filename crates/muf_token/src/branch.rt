@@ -3,7 +3,8 @@ ghost use Rattle.std.specs.Prelude.{◌≡◌, ◌∷◌, [], Some, None, OnOk, 
 ghost use Rattle.muf_token.specs.Branches.{is_taking, outermost, other_part, without_innermost};
 ghost use Rattle.muf_token.specs.Output.{Leads};
 
-use crate::{FaultKind, Refusal, TokenFault};
+use crate::fault::refused;
+use crate::{FaultKind, TokenFault};
 use muck_model::NoMemory;
 use std::alloc::Global;
 use std::marker::Model;
@@ -37,7 +38,9 @@ impl Branches {
     pub fn new(alloc: Global) -> Branches
         ensures { result ≡ [] }
     {
-        Branches { items: Vec::new(alloc) }
+        Branches {
+            items: Vec::new(alloc),
+        }
     }
 
     /// Whether words are read where these are open.
@@ -76,14 +79,18 @@ impl Branches {
     pub fn turn(&mut self, line: u32) -> Result<(), TokenFault>
         ensures { Leads (other_part line self.old) result self.new }
     {
-        let refused = TokenFault::Refused(Refusal { line, kind: FaultKind::BadDirective });
+        let fault = refused(line, FaultKind::BadDirective);
         let Some(innermost) = self.items.pop() else {
-            return Err(refused);
+            return Err(fault);
         };
         let Some(taken) = innermost.other else {
-            return Err(refused);
+            return Err(fault);
         };
-        self.items.push(Branch { line: innermost.line, taken, other: None })?;
+        self.items.push(Branch {
+            line: innermost.line,
+            taken,
+            other: None,
+        })?;
         Ok(())
     }
 
@@ -94,7 +101,7 @@ impl Branches {
     {
         match self.items.pop() {
             Some(_) => Ok(()),
-            None => Err(TokenFault::Refused(Refusal { line, kind: FaultKind::BadDirective })),
+            None => Err(refused(line, FaultKind::BadDirective)),
         }
     }
 }

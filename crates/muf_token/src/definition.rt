@@ -3,9 +3,9 @@ ghost use Rattle.std.specs.Prelude.{◌≡◌, IfOk, ◌≤◌, length, true};
 ghost use Rattle.muf_token.specs.Bytes.{are_inside};
 ghost use Rattle.muf_token.specs.Pieces.{pieces};
 
+use crate::TokenFault;
 use crate::piece::Piece;
 use crate::place::Place;
-use crate::TokenFault;
 use muck_model::{NoMemory, Row};
 use std::alloc::Global;
 

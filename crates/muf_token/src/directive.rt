@@ -5,9 +5,10 @@ ghost use Rattle.muf_token.specs.Directives.{directive_of, name_at, body_at, is_
 ghost use Rattle.muf_token.specs.Spots.{spot_of, IsName, IsBody};
 
 use crate::expansion::is_directive;
+use crate::fault::refused;
 use crate::piece::Piece;
 use crate::place::{Found, Place};
-use crate::{FaultKind, Refusal, TokenFault};
+use crate::{FaultKind, TokenFault};
 use muck_model::{Line, Row};
 use std::alloc::Global;
 
@@ -63,17 +64,28 @@ pub(crate) struct Name<'a> {
 pub(crate) fn name_at(alloc: Global, line: u32, place: Place<'_>) -> Result<Name<'_>, TokenFault>
     ensures { IsName (name_at line (spot_of place.entry)) result }
 {
-    let refused = TokenFault::Refused(Refusal { line, kind: FaultKind::BadDirective });
-    let Some(Found { line: at, piece, behind }) = place.next(alloc)? else {
-        return Err(refused);
+    let fault = refused(line, FaultKind::BadDirective);
+    let Some(
+        Found {
+            line: at,
+            piece,
+            behind,
+        },
+    ) = place.next(alloc)?
+    else {
+        return Err(fault);
     };
     let Piece::Word(name) = piece else {
-        return Err(refused);
+        return Err(fault);
     };
     if is_directive(&name) {
-        return Err(refused);
+        return Err(fault);
     }
-    Ok(Name { line: at, name, behind })
+    Ok(Name {
+        line: at,
+        name,
+        behind,
+    })
 }
 
 // Whether a piece ends the words of a `$define`.
@@ -88,7 +100,11 @@ fn is_enddef(piece: &Piece) -> bool
 
 /// The pieces up to the first `$enddef`, for the `$define` at this line, and the place behind it.
 #[tactic(auto, using(crate::proofs::Bodies::bodies))]
-pub(crate) fn body_at(alloc: Global, line: u32, place: Place<'_>) -> Result<(Row<Piece>, Place<'_>), TokenFault>
+pub(crate) fn body_at(
+    alloc: Global,
+    line: u32,
+    place: Place<'_>,
+) -> Result<(Row<Piece>, Place<'_>), TokenFault>
     ensures { IsBody (body_at line (spot_of place.entry)) result }
 {
     let mut body = Row::new(alloc)?;
@@ -100,5 +116,5 @@ pub(crate) fn body_at(alloc: Global, line: u32, place: Place<'_>) -> Result<(Row
         }
         body.push(found.piece)?;
     }
-    Err(TokenFault::Refused(Refusal { line, kind: FaultKind::BadDirective }))
+    Err(refused(line, FaultKind::BadDirective))
 }

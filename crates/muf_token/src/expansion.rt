@@ -3,10 +3,11 @@ ghost use Rattle.std.specs.Prelude.{◌≡◌, ◌∷◌};
 ghost use Rattle.muf_token.specs.Expansion.{is_directive, expanded};
 ghost use Rattle.muf_token.specs.Output.{Leads};
 
+use crate::fault::refused;
 use crate::number::kind_of;
 use crate::output::Output;
 use crate::piece::Piece;
-use crate::{FaultKind, Refusal, TokenFault, TokenKind};
+use crate::{FaultKind, TokenFault, TokenKind};
 use indexmap::IndexMap;
 use muck_model::{Line, Row};
 use std::alloc::Global;
@@ -34,18 +35,18 @@ pub(crate) fn expand(
     ensures { Leads (expanded deeper definitions.now.entries line piece.now out.old) result out.new }
 {
     let word = match piece {
-        Piece::Broken(kind) => return Err(TokenFault::Refused(Refusal { line, kind: *kind })),
+        Piece::Broken(kind) => return Err(refused(line, *kind)),
         Piece::Text(text) => return out.put(line, Some(TokenKind::Text(text.copy(alloc)?))),
         Piece::Word(word) => word,
     };
     if is_directive(word) {
-        return Err(TokenFault::Refused(Refusal { line, kind: FaultKind::BadDirective }));
+        return Err(refused(line, FaultKind::BadDirective));
     }
     let Some(body) = definitions.get(word) else {
         return out.put(line, kind_of(alloc, word)?);
     };
     if deeper == 0 {
-        return Err(TokenFault::Refused(Refusal { line, kind: FaultKind::EndlessDefs }));
+        return Err(refused(line, FaultKind::EndlessDefs));
     }
     out.count_use(line)?;
     for inner in body.as_slice() {

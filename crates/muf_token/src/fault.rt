@@ -1,5 +1,6 @@
 // Why a source can't be read.
 ghost use Rattle.std.specs.Prelude.{◌≡◌};
+ghost use Rattle.muf_token.specs.declared.fault.TokenFault.TheVariants.{Refused};
 ghost use Rattle.muf_token.specs.Faults.{number_of_kind};
 
 use muck_model::NoMemory;
@@ -53,6 +54,13 @@ pub struct Refusal {
 pub enum TokenFault {
     Refused(Refusal),
     NoMemory,
+}
+
+// Refused for this, at this line.
+pub(crate) fn refused(line: u32, kind: FaultKind) -> TokenFault
+    ensures { result ≡ Refused (record { line = line; kind = kind }) }
+{
+    TokenFault::Refused(Refusal { line, kind })
 }
 
 impl From<NoMemory> for TokenFault {

@@ -1,7 +1,4 @@
 // The definitions that objects lend.
-ghost use Rattle.std.specs.Prelude.{◌≡◌, IfOk, OnOk, ◌++◌, ◌∷◌, []};
-ghost use Rattle.std.specs.Option.{option_map};
-
 use muck_model::{Dbref, Line, NoMemory, Row};
 use std::alloc::Global;
 

@@ -8,13 +8,19 @@ mod directive;
 mod expansion;
 mod fault;
 mod includes;
+mod memory;
 mod number;
 mod output;
 mod piece;
 mod place;
 mod reader;
+mod source;
+#[cfg(test)]
+mod tests;
 mod token;
 
 pub use fault::{FaultKind, Refusal, TokenFault};
 pub use includes::{DefList, Definition, Includes};
+pub use memory::{Lender, MemIncludes};
+pub use source::tokens;
 pub use token::{Token, TokenKind, TokenList};

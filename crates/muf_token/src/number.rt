@@ -47,7 +47,11 @@ fn signed(negative: bool, amount: u64) -> Numeral
     ensures { result ≡ signed negative amount }
 {
     if negative {
-        if amount <= 1 << 31 { Numeral::Is((0 - amount as i64) as i32) } else { Numeral::Beyond }
+        if amount <= 1 << 31 {
+            Numeral::Is((0 - amount as i64) as i32)
+        } else {
+            Numeral::Beyond
+        }
     } else if amount < 1 << 31 {
         Numeral::Is(amount as i32)
     } else {
@@ -96,7 +100,9 @@ pub(crate) fn kind_of(alloc: Global, word: &Line) -> Result<Option<TokenKind>, N
             Numeral::Is(n) => return Ok(Some(TokenKind::Ref(Dbref(n)))),
             other => other,
         },
-        Some((b'\'', name)) if !name.is_empty() => return Ok(Some(TokenKind::Address(name_of(alloc, name)?))),
+        Some((b'\'', name)) if !name.is_empty() => return Ok(Some(TokenKind::Address(name_of(
+            alloc, name,
+        )?))),
         _ => integer_of(word.as_slice()),
     };
     match numeral {

@@ -3,8 +3,9 @@ ghost use Rattle.std.specs.Prelude.{◌≡◌, IfOk, ◌≤◌, length, [], None
 ghost use Rattle.muf_token.specs.Numbers.{kind_of};
 ghost use Rattle.muf_token.specs.Output.{Leads, put, used};
 
+use crate::fault::refused;
 use crate::number::kind_of;
-use crate::{FaultKind, Refusal, Token, TokenFault, TokenKind, TokenList};
+use crate::{FaultKind, Token, TokenFault, TokenKind, TokenList};
 use muck_model::{Line, NoMemory};
 use std::alloc::Global;
 
@@ -28,10 +29,10 @@ impl Output {
         ensures { Leads (put line kind self.old) result self.new }
     {
         if self.words.len() >= WORDS_MOST {
-            return Err(TokenFault::Refused(Refusal { line, kind: FaultKind::TooManyWords }));
+            return Err(refused(line, FaultKind::TooManyWords));
         }
         let Some(kind) = kind else {
-            return Err(TokenFault::Refused(Refusal { line, kind: FaultKind::BadNumber }));
+            return Err(refused(line, FaultKind::BadNumber));
         };
         self.words.push(Token { line, kind })?;
         Ok(())
@@ -43,7 +44,7 @@ impl Output {
         ensures { Leads (used line self.old) result self.new }
     {
         if self.uses >= USES_MOST {
-            return Err(TokenFault::Refused(Refusal { line, kind: FaultKind::TooManyWords }));
+            return Err(refused(line, FaultKind::TooManyWords));
         }
         self.uses += 1;
         Ok(())

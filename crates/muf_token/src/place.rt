@@ -2,8 +2,9 @@
 ghost use Rattle.std.specs.Prelude.{drop, ◌≡◌, ℕ, List, ◌+◌, ◌++◌, ◌∷◌, [], ◌≤◌, ◌<◌, Some, None, length, IfOk, IsTrue, ◌↔◌, MatchOption, if◌then◌else◌, ◌==◌, true};
 ghost use Rattle.muf_token.specs.Bytes.{are_inside};
 ghost use Rattle.std.specs.List.{position, position_or_len};
-ghost use Rattle.muf_token.specs.Pieces.{is_blank, escaped_byte, lowered, below, next_line, front, piece_here};
+ghost use Rattle.muf_token.specs.Pieces.{is_blank, escaped_byte, lowered, below, joined, next_line, front, piece_here};
 
+use crate::fault::refused;
 use crate::piece::Piece;
 use crate::{FaultKind, Refusal, TokenFault};
 use muck_model::{Line, NoMemory};
@@ -45,7 +46,9 @@ fn escaped_byte(byte: u8) -> u8
 fn blank_at(bytes: &[u8]) -> Option<usize>
     ensures { result ≡ position is_blank bytes.now }
 {
-    bytes.iter().position(|byte| *byte == b'\n' || *byte == 13 || *byte == b' ')
+    bytes
+        .iter()
+        .position(|byte| *byte == b'\n' || *byte == 13 || *byte == b' ')
 }
 
 #[tactic(auto, using(crate::proofs::Words::positions))]
@@ -73,7 +76,9 @@ pub(crate) fn text_of(bytes: Vec<u8>) -> Line
 fn lower(alloc: Global, word: &[u8]) -> Result<Vec<u8>, AllocError>
     ensures { IfOk result (λ v. v.items ≡ lowered word.now) }
 {
-    word.iter().map(|byte| byte.to_ascii_lowercase()).collect(alloc)
+    word.iter()
+        .map(|byte| byte.to_ascii_lowercase())
+        .collect(alloc)
 }
 
 /// A word in lower case.
@@ -99,7 +104,31 @@ impl<'a> Place<'a> {
         ensures line { result.line ≡ 0 }
         ensures text { text_at result ≡ text.now }
     {
-        Place { line: 0, here: text, below: &[] }
+        Place {
+            line: 0,
+            here: text,
+            below: &[],
+        }
+    }
+
+    /// The first place of a source.
+    #[tactic(auto, using(crate::proofs::Texts::inside_text))]
+    pub fn in_source(source: &'a [Line]) -> Place<'a>
+        ensures line { result.line ≡ 1 }
+        ensures text { text_at result ≡ joined source.now }
+    {
+        match source.split_first() {
+            Some((line, below)) => Place {
+                line: 1,
+                here: line.as_slice(),
+                below,
+            },
+            None => Place {
+                line: 1,
+                here: &[],
+                below: &[],
+            },
+        }
     }
 
     /// The end of this place's line.
@@ -109,7 +138,11 @@ impl<'a> Place<'a> {
         ensures rest { rest_of_line (text_at self.entry) ≡ self.entry.here.now }
         ensures end { text_at result ≡ drop (position_or_len is_line_end (text_at self.entry)) (text_at self.entry) }
     {
-        Place { line: self.line, here: &[], below: self.below }
+        Place {
+            line: self.line,
+            here: &[],
+            below: self.below,
+        }
     }
 
     // The byte at this place and the place behind it. Byte 10 is the end of a line that has one below it.
@@ -118,7 +151,11 @@ impl<'a> Place<'a> {
         ensures { IsFirst self.entry result }
     {
         if let Some((byte, rest)) = self.here.split_first() {
-            let behind = Place { line: self.line, here: rest, below: self.below };
+            let behind = Place {
+                line: self.line,
+                here: rest,
+                below: self.below,
+            };
             return Some((*byte, behind));
         }
         let (line, rest) = self.below.split_first()?;
@@ -151,7 +188,10 @@ impl<'a> Place<'a> {
         }
         match comment {
             None => Ok(place),
-            Some(line) => Err(Refusal { line, kind: FaultKind::OpenComment }),
+            Some(line) => Err(Refusal {
+                line,
+                kind: FaultKind::OpenComment,
+            }),
         }
     }
 
@@ -161,7 +201,11 @@ impl<'a> Place<'a> {
         ensures { IfOk result (λ p. IsWord self.entry p.0 p.1) }
     {
         let (word, rest) = self.here.split_at(word_len(self.here));
-        let behind = Place { line: self.line, here: rest, below: self.below };
+        let behind = Place {
+            line: self.line,
+            here: rest,
+            below: self.below,
+        };
         Ok((lower_text(alloc, word)?, behind))
     }
 
@@ -179,7 +223,11 @@ impl<'a> Place<'a> {
                 value.push(escaped_byte(*byte))?;
                 escaped = false;
             } else if *byte == b'"' {
-                let behind = Place { line: self.line, here: rest, below: self.below };
+                let behind = Place {
+                    line: self.line,
+                    here: rest,
+                    below: self.below,
+                };
                 return Ok(Some((text_of(value), behind)));
             } else if *byte == b'\\' {
                 escaped = true;
@@ -202,11 +250,19 @@ impl<'a> Place<'a> {
         };
         if byte != b'"' {
             let (word, behind) = place.word(alloc)?;
-            return Ok(Some(Found { line: place.line, piece: Piece::Word(word), behind }));
+            return Ok(Some(Found {
+                line: place.line,
+                piece: Piece::Word(word),
+                behind,
+            }));
         }
         match behind.quoted(alloc)? {
-            Some((text, behind)) => Ok(Some(Found { line: place.line, piece: Piece::Text(text), behind })),
-            None => Err(TokenFault::Refused(Refusal { line: place.line, kind: FaultKind::OpenString })),
+            Some((text, behind)) => Ok(Some(Found {
+                line: place.line,
+                piece: Piece::Text(text),
+                behind,
+            })),
+            None => Err(refused(place.line, FaultKind::OpenString)),
         }
     }
 }

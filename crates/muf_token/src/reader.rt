@@ -9,18 +9,19 @@ ghost use Rattle.muf_token.specs.Numbers.{kind_of};
 ghost use Rattle.muf_token.specs.Pieces.{lowered, pieces};
 ghost use Rattle.muf_token.specs.Spots.{spot_of, name_of, IsAnswer};
 ghost use Rattle.muf_token.specs.Source.{with_definition, def_at, define_at, undef_at, is_defined, with_branch, conditional_at, else_at, endif_at, object_of, with_all, include_at, directed, passed, put_out, taken, skipped, stepped, words_unless, nothing_known};
-ghost use Rattle.muf_token.specs.Readers.{state_of, LeadsTo};
+ghost use Rattle.muf_token.specs.Readers.{state_of, LeadsTo, IsRead};
 
 use crate::branch::{Branch, Branches};
 use crate::definition::pieces_of;
-use crate::directive::{body_at, directive_of, name_at, Directive, Name};
-use crate::expansion::{expand, is_directive, Definitions};
+use crate::directive::{Directive, Name, body_at, directive_of, name_at};
+use crate::expansion::{Definitions, expand, is_directive};
+use crate::fault::refused;
 use crate::includes::{Definition, Includes};
 use crate::number::kind_of;
 use crate::output::Output;
 use crate::piece::Piece;
-use crate::place::{lower_text, Found, Place};
-use crate::{FaultKind, Refusal, TokenFault, TokenKind, TokenList};
+use crate::place::{Found, Place, lower_text};
+use crate::{FaultKind, TokenFault, TokenKind, TokenList};
 use indexmap::IndexMap;
 use muck_model::{Dbref, Line, NoMemory, Row};
 use std::alloc::Global;
@@ -60,8 +61,8 @@ fn object_of(alloc: Global, line: u32, name: &Name<'_>) -> Result<Dbref, TokenFa
 {
     match kind_of(alloc, &name.name)? {
         Some(TokenKind::Ref(object)) => Ok(object),
-        Some(_) => Err(TokenFault::Refused(Refusal { line, kind: FaultKind::BadDirective })),
-        None => Err(TokenFault::Refused(Refusal { line: name.line, kind: FaultKind::BadNumber })),
+        Some(_) => Err(refused(line, FaultKind::BadDirective)),
+        None => Err(refused(name.line, FaultKind::BadNumber)),
     }
 }
 
@@ -73,7 +74,10 @@ impl Reader {
         Ok(Reader {
             definitions: IndexMap::new(alloc),
             branches: Branches::new(alloc),
-            out: Output { words: Row::new(alloc)?, uses: 0 },
+            out: Output {
+                words: Row::new(alloc)?,
+                uses: 0,
+            },
         })
     }
 
@@ -86,7 +90,12 @@ impl Reader {
     }
 
     // `$def name text`, up to the end of the line.
-    fn take_def<'a>(&mut self, alloc: Global, line: u32, place: Place<'a>) -> Result<Place<'a>, TokenFault>
+    fn take_def<'a>(
+        &mut self,
+        alloc: Global,
+        line: u32,
+        place: Place<'a>,
+    ) -> Result<Place<'a>, TokenFault>
         ensures { LeadsTo (def_at line (state_of self.old) (spot_of place.entry)) result (state_of self.new) }
     {
         let name = name_at(alloc, line, place)?;
@@ -97,7 +106,12 @@ impl Reader {
     }
 
     // `$define name words $enddef`.
-    fn take_define<'a>(&mut self, alloc: Global, line: u32, place: Place<'a>) -> Result<Place<'a>, TokenFault>
+    fn take_define<'a>(
+        &mut self,
+        alloc: Global,
+        line: u32,
+        place: Place<'a>,
+    ) -> Result<Place<'a>, TokenFault>
         ensures { LeadsTo (define_at line (state_of self.old) (spot_of place.entry)) result (state_of self.new) }
     {
         let name = name_at(alloc, line, place)?;
@@ -107,7 +121,12 @@ impl Reader {
     }
 
     // `$undef name`.
-    fn take_undef<'a>(&mut self, alloc: Global, line: u32, place: Place<'a>) -> Result<Place<'a>, TokenFault>
+    fn take_undef<'a>(
+        &mut self,
+        alloc: Global,
+        line: u32,
+        place: Place<'a>,
+    ) -> Result<Place<'a>, TokenFault>
         ensures { LeadsTo (undef_at line (state_of self.old) (spot_of place.entry)) result (state_of self.new) }
     {
         let name = name_at(alloc, line, place)?;
@@ -116,13 +135,23 @@ impl Reader {
     }
 
     // `$ifdef name`, where the name is to be defined, and `$ifndef name`, where it is not to be.
-    fn take_ifdef<'a>(&mut self, alloc: Global, wanted: bool, line: u32, place: Place<'a>) -> Result<Place<'a>, TokenFault>
+    fn take_ifdef<'a>(
+        &mut self,
+        alloc: Global,
+        wanted: bool,
+        line: u32,
+        place: Place<'a>,
+    ) -> Result<Place<'a>, TokenFault>
         ensures { LeadsTo (conditional_at wanted line (state_of self.old) (spot_of place.entry)) result (state_of self.new) }
     {
         let name = name_at(alloc, line, place)?;
         let defined = self.definitions.contains_key(&name.name);
         let taken = if wanted { defined } else { !defined };
-        self.branches.open(Branch { line, taken, other: Some(!taken) })?;
+        self.branches.open(Branch {
+            line,
+            taken,
+            other: Some(!taken),
+        })?;
         Ok(name.behind)
     }
 
@@ -155,20 +184,33 @@ impl Reader {
     }
 
     // `$include #N`.
-    fn take_include<'a, I: Includes>(&mut self, alloc: Global, include: &I, line: u32, place: Place<'a>) -> Result<Place<'a>, TokenFault>
+    fn take_include<'a, I: Includes>(
+        &mut self,
+        alloc: Global,
+        include: &I,
+        line: u32,
+        place: Place<'a>,
+    ) -> Result<Place<'a>, TokenFault>
         ensures { LeadsTo (include_at (I.lent include.now) line (state_of self.old) (spot_of place.entry)) result (state_of self.new) }
     {
         let name = name_at(alloc, line, place)?;
         let object = object_of(alloc, line, &name)?;
         let Some(list) = include.defs(alloc, object)? else {
-            return Err(TokenFault::Refused(Refusal { line, kind: FaultKind::UnknownInclude }));
+            return Err(refused(line, FaultKind::UnknownInclude));
         };
         self.define_all(alloc, list.as_slice())?;
         Ok(name.behind)
     }
 
     // A directive, where words are read.
-    fn take_directive<'a, I: Includes>(&mut self, alloc: Global, include: &I, line: u32, directive: Option<Directive>, place: Place<'a>) -> Result<Place<'a>, TokenFault>
+    fn take_directive<'a, I: Includes>(
+        &mut self,
+        alloc: Global,
+        include: &I,
+        line: u32,
+        directive: Option<Directive>,
+        place: Place<'a>,
+    ) -> Result<Place<'a>, TokenFault>
         ensures { LeadsTo (directed (I.lent include.now) line directive (state_of self.old) (spot_of place.entry)) result (state_of self.new) }
     {
         match directive {
@@ -186,7 +228,7 @@ impl Reader {
                 Ok(place)
             }
             Some(Directive::Include) => self.take_include(alloc, include, line, place),
-            None => Err(TokenFault::Refused(Refusal { line, kind: FaultKind::BadDirective })),
+            None => Err(refused(line, FaultKind::BadDirective)),
         }
     }
 
@@ -196,7 +238,11 @@ impl Reader {
     {
         match directive_of(word) {
             Some(Directive::Ifdef | Directive::Ifndef) => {
-                self.branches.open(Branch { line, taken: false, other: Some(false) })?;
+                self.branches.open(Branch {
+                    line,
+                    taken: false,
+                    other: Some(false),
+                })?;
                 Ok(())
             }
             Some(Directive::Else) => self.take_else(line),
@@ -210,12 +256,26 @@ impl Reader {
     fn put_out(&mut self, alloc: Global, line: u32, piece: &Piece) -> Result<(), TokenFault>
         ensures { Leads (put_out line piece.now (state_of self.old)) result (state_of self.new) }
     {
-        expand(alloc, &self.definitions, line, piece, DEPTH_MOST, &mut self.out)?;
+        expand(
+            alloc,
+            &self.definitions,
+            line,
+            piece,
+            DEPTH_MOST,
+            &mut self.out,
+        )?;
         Ok(())
     }
 
     // A piece where words are read.
-    fn take_here<'a, I: Includes>(&mut self, alloc: Global, include: &I, line: u32, piece: &Piece, place: Place<'a>) -> Result<Place<'a>, TokenFault>
+    fn take_here<'a, I: Includes>(
+        &mut self,
+        alloc: Global,
+        include: &I,
+        line: u32,
+        piece: &Piece,
+        place: Place<'a>,
+    ) -> Result<Place<'a>, TokenFault>
         ensures { LeadsTo (taken (I.lent include.now) line piece.now (state_of self.old) (spot_of place.entry)) result (state_of self.new) }
     {
         if let Piece::Word(word) = piece {
@@ -237,9 +297,16 @@ impl Reader {
         }
     }
 
-    /// One piece of the source at this line, with what it brings; then it goes on at the place that comes back.
+    // One piece of the source at this line, with what it brings; then it goes on at the place that comes back.
     #[tactic(auto, unfolding(crate::specs::Source::stepped))]
-    pub fn take<'a, I: Includes>(&mut self, alloc: Global, include: &I, line: u32, piece: &Piece, place: Place<'a>) -> Result<Place<'a>, TokenFault>
+    fn take<'a, I: Includes>(
+        &mut self,
+        alloc: Global,
+        include: &I,
+        line: u32,
+        piece: &Piece,
+        place: Place<'a>,
+    ) -> Result<Place<'a>, TokenFault>
         ensures { LeadsTo (stepped (I.lent include.now) line piece.now (state_of self.old) (spot_of place.entry)) result (state_of self.new) }
     {
         if self.branches.is_taking() {
@@ -249,13 +316,37 @@ impl Reader {
         Ok(place)
     }
 
+    /// Reads one piece from a place on, and says where it goes on; none where the source ends.
+    #[tactic(auto, using(crate::proofs::Sources::sources))]
+    pub fn read<'a, I: Includes>(
+        &mut self,
+        alloc: Global,
+        include: &I,
+        place: Place<'a>,
+    ) -> Result<Option<Place<'a>>, TokenFault>
+        ensures { IsRead (I.lent include.now) (state_of self.old) (spot_of place.entry) result (state_of self.new) }
+    {
+        let Some(
+            Found {
+                line,
+                piece,
+                behind,
+            },
+        ) = place.next(alloc)?
+        else {
+            return Ok(None);
+        };
+        let next = self.take(alloc, include, line, &piece, behind)?;
+        Ok(Some(next))
+    }
+
     /// The words, where no conditional is open.
     pub fn finish(self) -> Result<TokenList, TokenFault>
         ensures { IsAnswer (λ (words : List Token). words) (words_unless self.out.words (outermost self.branches)) result }
     {
         match self.branches.outermost() {
             None => Ok(self.out.words),
-            Some(line) => Err(TokenFault::Refused(Refusal { line, kind: FaultKind::BadDirective })),
+            Some(line) => Err(refused(line, FaultKind::BadDirective)),
         }
     }
 }

@@ -1,5 +1,3 @@
-use Rattle.std.proofs.Common.{◌≡◌, None}
-use Rattle.muf_token.specs.Pieces.{front, found}
 use Rattle.muf_token.specs.Places.{text_at}
 use Rattle.muf_token.proofs.Fronts.{pieces_more}
 use Rattle.muf_token.proofs.definition.pieces_of.Goals as goal

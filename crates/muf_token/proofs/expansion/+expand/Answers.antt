@@ -1,9 +1,4 @@
-use Rattle.std.proofs.Common.{◌≡◌, Some, sym, ◌∙◌}
-use Rattle.muf_token.specs.declared.piece.Piece.TheVariants.{Word, Text}
-use Rattle.muf_token.specs.declared.token.TokenKind.TheVariants.{Text as text_kind}
-use Rattle.muf_token.specs.Numbers.{kind_of}
-use Rattle.muf_token.specs.Expansion.{expanded}
-use Rattle.muf_token.specs.Output.{put}
+use Rattle.std.proofs.Common.{sym, ◌∙◌}
 use Rattle.muf_token.proofs.Expansions.{leads_by, expanded_text, expanded_plain}
 use Rattle.muf_token.proofs.expansion.+expand.Goals as goal
 

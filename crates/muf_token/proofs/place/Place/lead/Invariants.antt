@@ -1,4 +1,4 @@
-use Rattle.std.proofs.Common.{◌≡◌, ℕ, None, length}
+use Rattle.std.proofs.Common.{◌≡◌, None, length}
 use Rattle.muf_token.specs.Pieces.{front}
 use Rattle.muf_token.specs.Places.{text_at}
 use Rattle.muf_token.proofs.place.Place.lead.Given as goal

@@ -8,11 +8,11 @@ use Rattle.muf_token.proofs.place.Place.quoted.Given as goal
 -- what was read, and then what is read of the rest, is what is read of the whole
 abbrev pub invariant-loop-byte : goal.invariant-loop-byte
 invariant-loop-byte l = record {
-    whole : after_bytes l.value.items (quoted l.escaped (l.here ++ below l.fn.self.below.now)) ≡ quoted false (text_at l.fn.self);
-    here : are_inside l.here ≡ true;
-    value : are_inside l.value.items ≡ true;
-    short : length l.value.items + length l.here ≤ 4096
-  }
+  whole : after_bytes l.value.items (quoted l.escaped (l.here ++ below l.fn.self.below.now)) ≡ quoted false (text_at l.fn.self);
+  here : are_inside l.here ≡ true;
+  value : are_inside l.value.items ≡ true;
+  short : length l.value.items + length l.here ≤ 4096;
+}
 
 abbrev pub decreases-loop-byte : goal.decreases-loop-byte
 decreases-loop-byte l = length l.here

@@ -1,0 +1,23 @@
+use Rattle.muf_token.specs.Places.{text_at}
+use Rattle.muf_token.specs.Spots.{spot_of}
+use Rattle.muf_token.specs.Readers.{state_of}
+use Rattle.muf_token.proofs.Sources.{words_stepped, step_shorter}
+use Rattle.muf_token.proofs.Exits.{err_read}
+use Rattle.muf_token.proofs.reader.Reader.read.Goals as goal
+
+pub returns-in_err-line : goal.returns-in_err-line
+returns-in_err-line g c =
+    err_read (g.I.Includes.lent c.args.include.now) (state_of c.args.self.now) (state_of c.args.self.now) (spot_of c.args.place) c.in_err-line.field-0.0 c.from_residual.result c.in_err-line.ensures c.from_residual.ensures
+
+pub returns : goal.returns
+returns g c =
+    let at = rw c.in-Some.is at c.in_ok-line.ensures in
+    let lent = g.I.Includes.lent c.args.include.now in
+    let old = state_of c.args.self.now in
+    let new = state_of c.take.new.self in
+    let here = spot_of c.args.place in
+    let next = spot_of c.in_ok-next.next in
+    let found = c.in-Some.field-0 in (
+      words_stepped lent old new here next found.line found.behind.line found.piece (text_at found.behind) at c.in_ok-next.ensures,
+      step_shorter lent old new here next found.line found.behind.line found.piece (text_at found.behind) at c.in_ok-next.ensures,
+    )

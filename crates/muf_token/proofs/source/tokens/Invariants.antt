@@ -1,0 +1,13 @@
+use Rattle.std.proofs.Common.{◌≡◌, length}
+use Rattle.muf_token.specs.Places.{text_at}
+use Rattle.muf_token.specs.Spots.{spot_of}
+use Rattle.muf_token.specs.Readers.{state_of}
+use Rattle.muf_token.specs.Source.{words_from, words}
+use Rattle.muf_token.proofs.source.tokens.Given as goal
+
+-- the words from here on, with those so far, are the words of the source
+abbrev pub invariant-loop-reader : goal.invariant-loop-reader
+invariant-loop-reader g l = words_from (g.I.Includes.lent l.include) (state_of l.reader) (spot_of l.place) ≡ words (g.I.Includes.lent l.include) l.source
+
+abbrev pub decreases-loop-reader : goal.decreases-loop-reader
+decreases-loop-reader g l = length (text_at l.place)
