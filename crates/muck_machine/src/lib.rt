@@ -6,6 +6,8 @@ mod connections;
 mod password;
 mod queue;
 mod state;
+#[cfg(test)]
+mod tests;
 mod world;
 
 pub use world::World;

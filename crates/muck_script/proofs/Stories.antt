@@ -1,13 +1,12 @@
 -- Lemmas on turns.
 use Rattle.std.proofs.Common.{◌≡◌, ℕ, ◌+◌, ◌<◌, ◌≤◌, List, [], ◌∷◌, ◌++◌, length, length-append, append-nil, refl, sym, ◌∙◌, ap, arith, suc, zero, append_assoc, Some, None}
 use Rattle.muck_model.specs.declared.event.Entry.{Entry}
-use Rattle.muck_model.specs.declared.event.Event.TheVariants.{Exec, Died}
+use Rattle.muck_model.specs.declared.event.Event.TheVariants.{Exec}
 use Rattle.muck_world.specs.World.{World}
 use Rattle.muck_world.specs.Steps.{effect, next_ready}
 use Rattle.muck_world.specs.Histories.{History, now, extended, entered, by_porter}
 use Rattle.muck_world.proofs.Runs.{now-extended, extended-append}
 use Rattle.muck_script.specs.Story.{turn, turns}
-use Rattle.muck_script.specs.Settling.{DiedDuring}
 
 turns-some : (n : ℕ) (w : World) (d : ℕ) → next_ready w ≡ Some d → turns (suc n) w ≡ by_porter (Exec d) ∷ turns n (effect w (by_porter (Exec d)))
 unfolding turns
@@ -73,12 +72,3 @@ way_over most done old new way h =
     let same : most ≡ done = omega (arith, way.all) in
     let end = way_done most done old new way (ap (λ k. turns k (now new)) z ∙ turns-zero (now new)) in
     (same ∙ end.0, end.1)
-
--- memory is wanted
-pub way_dies : (most done : ℕ) (old new next : History) → IsOnTheWay most done old new → next ≡ entered new (by_porter Died) → DiedDuring (turns most (now old)) old next
-way_dies most done old new next way is = record {
-  front = way.front;
-  rest = turns way.left (now new);
-  whole = way.whole;
-  died = is ∙ ap (λ (h : History). entered h (by_porter Died)) way.history ∙ extended-append old way.front (by_porter Died ∷ []);
-}

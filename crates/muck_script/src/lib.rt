@@ -6,10 +6,14 @@ mod lines;
 mod parsing;
 mod script;
 mod shown;
+#[cfg(test)]
+mod tests;
+mod turns;
 
 pub use act::Act;
 pub use script::{Script, ScriptFault, read};
 pub use shown::{farewell_text, lines_text};
+pub use turns::settle;
 
 /// The most bytes of a script.
 pub const SCRIPT_MOST: usize = 16_777_216;

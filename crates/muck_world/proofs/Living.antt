@@ -37,10 +37,10 @@ unfolding at_login
 dead-at_login d line w =
     let rest = trimmed (other_words (trimmed line)) in
     dead-cond w (is_alike (trimmed line) (codes "QUIT")) (quit d w)
-      (cond (is_alike (first_word (trimmed line)) (codes "connect")) (connecting d (first_word rest) (trimmed (other_words rest)) w) (tell d welcome w))
-      (agrees w (quit d w) refl)
-      (dead-cond w (is_alike (first_word (trimmed line)) (codes "connect")) (connecting d (first_word rest) (trimmed (other_words rest)) w) (tell d welcome w)
-        (dead-connecting d (first_word rest) (trimmed (other_words rest)) w) (agrees w (tell d welcome w) refl))
+    (cond (is_alike (first_word (trimmed line)) (codes "connect")) (connecting d (first_word rest) (trimmed (other_words rest)) w) (tell d welcome w))
+    (agrees w (quit d w) refl)
+    (dead-cond w (is_alike (first_word (trimmed line)) (codes "connect")) (connecting d (first_word rest) (trimmed (other_words rest)) w) (tell d welcome w)
+    (dead-connecting d (first_word rest) (trimmed (other_words rest)) w) (agrees w (tell d welcome w) refl))
 
 dead-in_world : (d : ℕ) (line : List ℕ) (w : World) → Agrees w (in_world d line w)
 unfolding in_world
@@ -48,7 +48,7 @@ dead-in_world d [] w = agrees w _ refl
 dead-in_world d (b ∷ line) w =
     let is_quit = is_alike (first_word (trimmed (b ∷ line))) (codes "QUIT") in
     dead-cond w (b == 34) (tell d (you_say (trimmed line)) w) (cond is_quit (quit d w) (tell d huh w)) (agrees w (tell d (you_say (trimmed line)) w) refl)
-      (dead-cond w is_quit (quit d w) (tell d huh w) (agrees w (quit d w) refl) (agrees w (tell d huh w) refl))
+    (dead-cond w is_quit (quit d w) (tell d huh w) (agrees w (quit d w) refl) (agrees w (tell d huh w) refl))
 
 dead-command : (player : Option Dbref) (d : ℕ) (line : List ℕ) (w : World) → Agrees w (command player d line w)
 dead-command None d line w = dead-at_login d line w

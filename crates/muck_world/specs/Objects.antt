@@ -1,6 +1,5 @@
 -- The objects of the world.
 use Rattle.std.specs.Prelude.{ℕ, pos, negsuc, ◌+◌, Bool, true, false, ◌&&◌, if◌then◌else◌, List, [], ◌∷◌, Option, Some, None, codes}
-
 use Rattle.muck_model.specs.declared.dbref.Dbref.{Dbref}
 use Rattle.muck_model.specs.declared.dbref.Flags.{Flags}
 use Rattle.muck_model.specs.declared.dbref.Kind.{Kind}
@@ -43,10 +42,34 @@ wizard = record { 0 = 2048 }
 -- Room Zero and One, whose digest this is; they are the objects that have the numbers 0 and 1
 abbrev pub first_objects : List ℕ → List Object
 first_objects digest =
-    record { kind = Room; name = codes "Room Zero"; owner = the_player; place = nothing; link = nothing; home = nothing; flags = record { 0 = 0 };
-             level = 0; lines = []; digest = []; contents = the_player ∷ []; exits = [] } ∷
-    record { kind = Player; name = codes "One"; owner = the_player; place = the_room; link = nothing; home = the_room; flags = wizard;
-             level = 0; lines = []; digest = digest; contents = []; exits = [] } ∷ []
+    record {
+      kind = Room;
+      name = codes "Room Zero";
+      owner = the_player;
+      place = nothing;
+      link = nothing;
+      home = nothing;
+      flags = record { 0 = 0 };
+      level = 0;
+      lines = [];
+      digest = [];
+      contents = the_player ∷ [];
+      exits = [];
+    } ∷
+    record {
+      kind = Player;
+      name = codes "One";
+      owner = the_player;
+      place = the_room;
+      link = nothing;
+      home = the_room;
+      flags = wizard;
+      level = 0;
+      lines = [];
+      digest = digest;
+      contents = [];
+      exits = [];
+    } ∷ []
 
 unfoldable pub first_digest : List ℕ
 first_digest = digest_of first_salt first_password

@@ -3,6 +3,8 @@
 //! is what those definitions need of a line of text: its words.
 #![tactic(auto)]
 
+#[cfg(test)]
+mod tests;
 mod words;
 
 pub use words::{alike, cut_word, trim};

@@ -1,0 +1,11 @@
+pub mod Naming
+pub mod Paths
+pub mod Grammar
+pub mod Chain
+pub mod Opens
+pub mod Printed
+pub mod Waiting
+pub mod Made
+pub mod Law
+pub mod Memory
+pub mod Standing

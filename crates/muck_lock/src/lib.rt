@@ -1,0 +1,20 @@
+//! Locks: what a text of a lock means, how a lock is written, and for whom it opens.
+#![tactic(auto)]
+
+mod fault;
+mod key;
+mod keys;
+mod memory;
+mod part;
+mod path;
+mod printer;
+mod reader;
+#[cfg(test)]
+mod tests;
+
+pub use fault::LockFault;
+pub use key::Finder;
+pub use keys::{Keys, opens};
+pub use memory::{MemKeys, MemName, MemNames, MemObject, MemProp, NoNames};
+pub use printer::print;
+pub use reader::read;

@@ -1,0 +1,6 @@
+pub mod Texts
+pub mod Lists
+pub mod Aliases
+pub mod Order
+pub mod Candidates
+pub mod Walks

@@ -1,0 +1,39 @@
+-- Exit order, list by list.
+use Rattle.std.proofs.Common.{◌≡◌, ℕ, Bool, List, ◌++◌, Option, sym, ◌∙◌, ap}
+use Rattle.std.specs.List.{flat_map}
+use Rattle.std.specs.Option.{option_or}
+use Rattle.muck_model.specs.declared.dbref.Dbref.{Dbref}
+use Rattle.muck_match.specs.Scenery.{Scenery, place_in, things_in, exit_order}
+use Rattle.muck_match.specs.Exits.{first, hits_at, hits_on, hits}
+use Rattle.muck_match.specs.declared.exits.ExitHit.{ExitHit}
+use Rattle.muck_match.proofs.Lists.{first_append, flat_map_append, flat_map_twice}
+
+first_of_both : (f : Dbref → List ExitHit) (ds es : List Dbref) → first (flat_map f (ds ++ es)) ≡ option_or (first (flat_map f ds)) (first (flat_map f es))
+first_of_both f ds es = ap first (flat_map_append f ds es) ∙ first_append (flat_map f ds) (flat_map f es)
+
+-- the exits on the objects of a list
+on_each : (w : Scenery) (typed : Bool) (line : List ℕ) (ds : List Dbref) → flat_map (hits_at w typed line) (flat_map w.exits ds) ≡ flat_map (hits_on w typed line) ds
+unfolding hits_on
+on_each w typed line ds = flat_map_twice (hits_at w typed line) w.exits ds
+
+-- what the five lists give first
+abbrev pub five : Scenery → Bool → List ℕ → Dbref → Dbref → Option ExitHit
+five w typed line player place =
+    let each = λ (ds : List Dbref). first (flat_map (hits_on w typed line) ds) in
+    option_or (first (hits_on w typed line place)) (option_or (each (things_in w player)) (option_or (each (things_in w place)) (option_or (first (hits_on w typed line player)) (each (w.places place)))))
+
+five_here : (w : Scenery) (typed : Bool) (line : List ℕ) (player : Dbref) → first (hits w typed line player) ≡ five w typed line player (place_in w player)
+unfolding hits exit_order hits_on
+five_here w typed line player =
+    let place = place_in w player in
+    let f = hits_at w typed line in
+    first_of_both f (w.exits place) _ ∙ ap (option_or (first (flat_map f (w.exits place))))
+    (first_of_both f (flat_map w.exits (things_in w player)) _ ∙ joined (ap first (on_each w typed line (things_in w player)))
+    (first_of_both f (flat_map w.exits (things_in w place)) _ ∙ joined (ap first (on_each w typed line (things_in w place)))
+    (first_of_both f (w.exits player) _ ∙ ap (option_or (first (flat_map f (w.exits player)))) (ap first (on_each w typed line (w.places place))))))
+  where
+    joined : {a b c d : Option ExitHit} → a ≡ c → b ≡ d → option_or a b ≡ option_or c d
+    joined e h = λ i. option_or (e i) (h i)
+
+pub first_of_five : (w : Scenery) (typed : Bool) (line : List ℕ) (player place : Dbref) → place ≡ place_in w player → first (hits w typed line player) ≡ five w typed line player place
+first_of_five w typed line player place e = five_here w typed line player ∙ ap (five w typed line player) (sym e)

@@ -1,0 +1,6 @@
+pub mod Words
+pub mod Scenery
+pub mod Exits
+pub mod Naming
+pub mod Memory
+pub mod Rows

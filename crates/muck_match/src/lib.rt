@@ -1,0 +1,18 @@
+//! What a text or a typed line names: objects by name or number, exits by their aliases, players by name. Nothing
+//! here takes memory.
+#![tactic(auto)]
+
+mod exits;
+mod memory;
+mod naming;
+mod scene;
+mod sights;
+mod words;
+
+pub use exits::{ExitHit, exit_for};
+pub use memory::{MemObject, MemScene};
+pub use naming::{Found, find, player};
+pub use scene::{HOME, NOTHING, Scene};
+
+#[cfg(test)]
+mod tests;

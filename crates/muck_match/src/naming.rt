@@ -1,0 +1,208 @@
+// What a text names.
+ghost use Rattle.std.specs.Prelude.{◌≡◌, ◌<◌, ◌^◌, pos};
+ghost use Rattle.std.specs.List.{filter};
+ghost use Rattle.muck_model.specs.Numbers.{numbered};
+ghost use Rattle.muck_match.specs.Naming.{chosen, joined, one_of, is_nobody, answers, near, named, fits, is_player_named, player_named, if_there, found_by_sign, found};
+
+use crate::exits::first_hit;
+use crate::sights::{is_nothing, is_player, is_there, place_in};
+use crate::words::{has_word, is_same};
+use crate::{HOME, Scene};
+use muck_model::{Dbref, Line};
+
+/// How a name answers to a text: as a whole, or in part.
+#[derive(Clone, Copy, Debug, PartialEq, Eq, Drop)]
+pub enum Fit {
+    Whole,
+    Part,
+}
+
+/// What a text names.
+#[derive(Clone, Copy, Debug, PartialEq, Eq, Drop)]
+pub enum Found {
+    /// This object, or `#-3` for home.
+    One(Dbref),
+    /// Nothing.
+    None,
+    /// Several objects, none before the others.
+    Many,
+}
+
+// Whether a name answers to the text.
+#[tactic(auto, unfolding(crate::specs::Naming::fits))]
+fn fits(fit: Fit, text: &[u8], name: &[u8]) -> bool
+    ensures { result ≡ fits fit text.now name.now }
+{
+    match fit {
+        Fit::Whole => is_same(text, name),
+        Fit::Part => has_word(text, name),
+    }
+}
+
+// Whether the object answers to the text.
+#[tactic(auto, unfolding(crate::specs::Naming::answers))]
+fn answers<S: Scene>(scene: &S, fit: Fit, text: &[u8], d: Dbref) -> bool
+    ensures { result ≡ answers fit text.now (S.shown scene.now) d }
+{
+    match scene.name(d) {
+        Some(name) => fits(fit, text, name.as_slice()),
+        None => false,
+    }
+}
+
+// The object, or none.
+fn one_of(d: Option<Dbref>) -> Found
+    ensures { result ≡ one_of d }
+{
+    match d {
+        Some(d) => Found::One(d),
+        None => Found::None,
+    }
+}
+
+// What two lists of candidates make together.
+fn joined(before: Found, behind: Found) -> Found
+    ensures { result ≡ joined before behind }
+{
+    match (before, behind) {
+        (Found::None, found) => found,
+        (found, Found::None) => found,
+        _ => Found::Many,
+    }
+}
+
+// Those in an object that answer to the text.
+fn among<S: Scene>(scene: &S, fit: Fit, text: &[u8], owner: Dbref) -> Found
+    ensures { result ≡ chosen (filter (answers fit text.now (S.shown scene.now)) ((S.shown scene.now).contents owner)) }
+{
+    let mut found = None;
+    let mut at = scene.first_content(owner);
+    while !is_nothing(at) {
+        if answers(scene, fit, text, at) {
+            if found.is_some() {
+                return Found::Many;
+            }
+            found = Some(at);
+        }
+        at = scene.next(at);
+    }
+    one_of(found)
+}
+
+// Those that the player carries or that are in its place, and that answer to the text.
+fn near<S: Scene>(scene: &S, fit: Fit, text: &[u8], player: Dbref) -> Found
+    ensures { result ≡ near (S.shown scene.now) fit text.now player }
+{
+    let carried = among(scene, fit, text, player);
+    let beside = among(scene, fit, text, place_in(scene, player));
+    joined(carried, beside)
+}
+
+// Whether nothing was found.
+fn is_nobody(found: Found) -> bool
+    ensures { result ≡ is_nobody found }
+{
+    matches!(found, Found::None)
+}
+
+// What the text names by a name: equal names of objects come first, then exits, then parts of names of objects.
+#[tactic(auto, unfolding(crate::specs::Naming::named))]
+fn named<S: Scene>(scene: &S, text: &[u8], player: Dbref) -> Found
+    ensures { result ≡ named (S.shown scene.now) player text.now }
+{
+    let whole = near(scene, Fit::Whole, text, player);
+    if !is_nobody(whole) {
+        return whole;
+    }
+    if let Some(hit) = first_hit(scene, false, text, player) {
+        return Found::One(hit.exit);
+    }
+    near(scene, Fit::Part, text, player)
+}
+
+// Whether it is a player of that name.
+fn is_player_named<S: Scene>(scene: &S, name: &[u8], d: Dbref) -> bool
+    ensures { result ≡ is_player_named name.now (S.shown scene.now) d }
+{
+    match scene.name(d) {
+        Some(called) => is_player(scene, d) && is_same(name, called.as_slice()),
+        None => false,
+    }
+}
+
+// The number as that of an object.
+fn numbered(n: u32) -> Dbref
+    requires { n < 2 ^ 31 }
+    ensures { result ≡ numbered (pos n) }
+{
+    Dbref(n as i32)
+}
+
+// The player of that name.
+fn player_named<S: Scene>(scene: &S, name: &[u8]) -> Option<Dbref>
+    ensures { result ≡ player_named (S.shown scene.now) name.now }
+{
+    let count = scene.objects();
+    for n in 0..count {
+        let d = numbered(n);
+        if is_player_named(scene, name, d) {
+            return Some(d);
+        }
+    }
+    None
+}
+
+/// The player of that name, compared without regard to case; of several, the one with the lowest number. A scene shows
+/// no list of its players, so this goes over all numbers of objects. It takes no memory.
+pub fn player<S: Scene>(scene: &S, name: &Line) -> Option<Dbref>
+    ensures { result ≡ player_named (S.shown scene.now) name.now }
+{
+    player_named(scene, name.as_slice())
+}
+
+// The object, where it is there.
+#[tactic(auto, unfolding(crate::specs::Naming::if_there))]
+fn if_there<S: Scene>(scene: &S, d: Dbref) -> Found
+    ensures { result ≡ if_there (S.shown scene.now) d }
+{
+    if is_there(scene, d) {
+        return Found::One(d);
+    }
+    Found::None
+}
+
+// What `#N`, `*player` or a name stands for.
+#[tactic(auto, unfolding(crate::specs::Naming::found_by_sign))]
+fn found_by_sign<S: Scene>(scene: &S, player: Dbref, text: &[u8]) -> Found
+    ensures { result ≡ found_by_sign (S.shown scene.now) player text.now }
+{
+    if let Some(d) = Dbref::read(text) {
+        return if_there(scene, d);
+    }
+    match text {
+        [b'*', name @ ..] => one_of(player_named(scene, name)),
+        _ => named(scene, text, player),
+    }
+}
+
+/// What the text names for the player: `me`, `here` and `home`, then `#N` and `*player`, and else a name. Names are
+/// compared without regard to case. Candidates are what the player carries, the contents of its place, and the exits in
+/// exit order. Equal names of objects come first, where several are `Many`; then an exit with an equal alias, of which
+/// the first in exit order stands; then objects other than exits of which some word of the name begins with the text.
+/// Only home is found without being there. It takes no memory.
+#[tactic(auto, unfolding(crate::specs::Naming::found))]
+pub fn find<S: Scene>(scene: &S, player: Dbref, text: &Line) -> Found
+    ensures { result ≡ found (S.shown scene.now) player text.now }
+{
+    let bytes = text.as_slice();
+    if is_same(bytes, b"me") {
+        return if_there(scene, player);
+    }
+    if is_same(bytes, b"here") {
+        return if_there(scene, place_in(scene, player));
+    }
+    if is_same(bytes, b"home") {
+        return Found::One(HOME);
+    }
+    found_by_sign(scene, player, bytes)
+}

@@ -1,0 +1,39 @@
+// Names, and the words and aliases in them.
+ghost use Rattle.std.specs.Prelude.{◌≡◌, ◌==◌};
+ghost use Rattle.std.specs.List.{position};
+ghost use Rattle.muck_match.specs.Words.{is_same, begins_with, has_word};
+
+/// Whether the texts are equal, without regard to case.
+#[tactic(auto, unfolding(crate::specs::Words::is_same))]
+pub fn is_same(a: &[u8], b: &[u8]) -> bool
+    ensures { result ≡ is_same a.now b.now }
+{
+    a.eq_ignore_ascii_case(b)
+}
+
+/// Whether the text begins with this, without regard to case.
+#[tactic(auto, unfolding(crate::specs::Words::begins_with))]
+pub fn begins_with(front: &[u8], text: &[u8]) -> bool
+    ensures { result ≡ begins_with front.now text.now }
+{
+    if text.len() < front.len() {
+        return false;
+    }
+    is_same(front, text.split_at(front.len()).0)
+}
+
+/// Whether a word of the name, between spaces, begins with the text.
+#[tactic(auto, unfolding(crate::specs::Words::has_word))]
+pub fn has_word(text: &[u8], name: &[u8]) -> bool
+    ensures { result ≡ has_word text.now name.now }
+{
+    name.split(|b| *b == b' ')
+        .any(|word| begins_with(text, word))
+}
+
+/// Where the first such byte stands.
+pub fn place_of(byte: u8, text: &[u8]) -> Option<usize>
+    ensures { result ≡ position (λ b. b == byte) text.now }
+{
+    text.iter().position(|b| *b == byte)
+}

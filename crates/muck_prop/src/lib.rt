@@ -1,0 +1,14 @@
+//! The properties of one object: paths, values, and the map from paths to values.
+#![tactic(auto)]
+
+mod path;
+mod props;
+mod segment;
+mod segments;
+#[cfg(test)]
+mod tests;
+mod value;
+
+pub use path::{Class, Path, PropFault, read_path};
+pub use props::Props;
+pub use value::PropValue;

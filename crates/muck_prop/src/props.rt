@@ -1,0 +1,175 @@
+// The properties of one object.
+ghost use Rattle.std.specs.Prelude.{◌≡◌, [], Some, None, IfOk, IfSome, OnOk, OnErr, is_some, is_ok, true, false, length, ◌≤◌, Ok, Err};
+ghost use Rattle.std.specs.Option.{option_copied, unwrap_or};
+ghost use Rattle.std.specs.FinMap as map;
+ghost use Rattle.std.specs.Range.Bound.{bound_map};
+ghost use Rattle.std.specs.List.{AllByRecursion, find};
+ghost use Rattle.muck_prop.specs.Paths.{IsPath};
+ghost use Rattle.std.specs.Map.{keys_of};
+ghost use Rattle.std.specs.BTreeMap.{IsOrdered};
+ghost use Rattle.std.specs.BTreeMap.Range.{is_from_start};
+ghost use Rattle.muck_prop.specs.Order.{path_cmp};
+ghost use Rattle.muck_prop.specs.Store.{stored, is_dir, next_child, found_child, path_or_top, is_nothing, IsKept, IsLeastChild};
+
+use crate::path::Path;
+use crate::segments::Segments;
+use crate::value::PropValue;
+use muck_model::NoMemory;
+use std::alloc::Global;
+use std::collections::BTreeMap;
+use std::marker::Model;
+use std::ops::Bound;
+
+/// The properties of one object, which contracts see as the map from paths to values. No kept value is an empty text
+/// or 0.
+#[derive(Drop)]
+pub struct Props {
+    values: BTreeMap<Segments, PropValue>,
+}
+
+impl Model for Props {
+    ghost use Rattle.std.specs.FinMap as map;
+    ghost use Rattle.muck_prop.specs.Store.{PropMap};
+    ghost use Rattle.std.specs.Coded.{coded_list, coded_ℕ};
+    ghost use Rattle.muck_prop.specs.contracts.value.PropValue as value;
+
+    ghost Value = { PropMap };
+
+    ghost coded = { map.code (coded_list (coded_list coded_ℕ)) value.the_row.coded };
+
+    ghost use Rattle.std.specs.List.{AllByRecursion};
+    ghost use Rattle.muck_prop.specs.Store.{IsKept};
+
+    ghost view = { λ p. map.from_entries p.values.entries };
+
+    ghost invariant = { λ p. AllByRecursion IsKept p.values.entries };
+}
+
+// The first path within a start.
+fn first_from<'a>(
+    values: &'a BTreeMap<Segments, PropValue>,
+    start: Bound<&Segments>,
+) -> Option<&'a Segments>
+    ensures first { option_copied result ≡ find (is_from_start path_cmp (bound_map (λ x. x.now) start.entry)) (keys_of values.now.entries) }
+    ensures kept { AllByRecursion IsKept values.now.entries → IfSome result (λ path. IsPath path.now) }
+    ensures ordered { IsOrdered path_cmp values.now }
+{
+    let mut range = values.range((start, Bound::Unbounded));
+    match range.next() {
+        Some((path, _)) => Some(path),
+        None => None,
+    }
+}
+
+// The first stored path that may lead to the next child of `dir`: the first past all that continues the child of `dir`
+// on the way to `after`, or the first right after `dir` where no child of it is up to `after`.
+fn first_past<'a>(
+    alloc: Global,
+    values: &'a BTreeMap<Segments, PropValue>,
+    dir: &Segments,
+    after: Option<&Path>,
+) -> Result<Option<&'a Segments>, NoMemory>
+    requires { length dir.now ≤ 16 }
+    ensures leads { IfOk result (λ first. found_child dir.now (option_copied first) ≡ next_child dir.now (option_copied after.entry) (map.from_entries values.now.entries)) }
+    ensures kept { AllByRecursion IsKept values.now.entries → IfOk result (λ first. IfSome first (λ path. IsPath path.now)) }
+{
+    match after {
+        Some(after) if dir.cmp(&after.segments).is_lt() => {
+            let past = after.segments.past(alloc, dir.len() + 1)?;
+            Ok(first_from(values, Bound::Included(&past)))
+        }
+        _ => Ok(first_from(values, Bound::Excluded(dir))),
+    }
+}
+
+impl Props {
+    /// No properties.
+    pub fn new(alloc: Global) -> Result<Props, NoMemory>
+        ensures { IfOk result (λ p. p ≡ map.empty) }
+    {
+        Ok(Props {
+            values: BTreeMap::new(alloc),
+        })
+    }
+
+    /// The value at a path, which is no empty text and not 0.
+    pub fn get(&self, path: &Path) -> Option<&PropValue>
+        ensures value { option_copied result ≡ map.get self.now path.now }
+        ensures something { IfSome result (λ value. is_nothing value.now ≡ false) }
+    {
+        self.values.get(&path.segments)
+    }
+
+    /// Whether some stored path continues this one.
+    pub fn is_dir(&self, path: &Path) -> bool
+        ensures { result ≡ is_dir path.now self.now }
+    {
+        match first_from(&self.values, Bound::Excluded(&path.segments)) {
+            Some(first) => first.is_below(&path.segments),
+            None => false,
+        }
+    }
+
+    /// Removes the property of a path. It is true exactly where the path had a value.
+    pub fn remove(&mut self, path: &Path) -> bool
+        ensures had { result ≡ is_some (map.get self.old path.now) }
+        ensures removed { self.new ≡ map.remove self.old path.now }
+    {
+        self.values.remove(&path.segments).is_some()
+    }
+
+    /// Stores a value at a path; an empty text or 0 removes the property. After `NoMemory`, which comes only for a path
+    /// without a value, nothing has changed.
+    pub fn put(&mut self, path: Path, value: PropValue) -> Result<(), NoMemory>
+        ensures ok { OnOk result (self.new ≡ stored path value self.old) }
+        ensures err { OnErr result (self.new ≡ self.old) }
+        ensures only_new { OnErr result (map.get self.old path ≡ None) }
+        ensures removes { is_nothing value ≡ true → is_ok result ≡ true }
+    {
+        if value.is_nothing() {
+            self.remove(&path);
+            return Ok(());
+        }
+        let Path { segments } = path;
+        self.values.insert(segments, value)?;
+        Ok(())
+    }
+
+    /// The least child path of `dir` after `after`, or the least of all where none is given. A child is one segment
+    /// longer than `dir`, and has a value or is a directory. Where `dir` isn't given, the top is meant.
+    pub fn next(
+        &self,
+        alloc: Global,
+        dir: Option<&Path>,
+        after: Option<&Path>,
+    ) -> Result<Option<Path>, NoMemory>
+        ensures next { IfOk result (λ child. child ≡ next_child (path_or_top (option_copied dir.entry)) (option_copied after.entry) self.now) }
+        ensures least { IfOk result (λ child. IsLeastChild self.now (path_or_top (option_copied dir.entry)) (option_copied after.entry) child) }
+    {
+        let child = self.search(alloc, dir, after)?;
+        Ok(child)
+    }
+
+    fn search(
+        &self,
+        alloc: Global,
+        dir: Option<&Path>,
+        after: Option<&Path>,
+    ) -> Result<Option<Path>, NoMemory>
+        ensures { IfOk result (λ child. child ≡ next_child (path_or_top (option_copied dir.entry)) (option_copied after.entry) self.now) }
+    {
+        let top = Segments::new(alloc);
+        let dir = match dir {
+            Some(path) => &path.segments,
+            None => &top,
+        };
+        let depth = dir.len();
+        match first_past(alloc, &self.values, dir, after)? {
+            Some(first) if first.is_below(dir) => {
+                let segments = first.first(alloc, depth + 1)?;
+                Ok(Some(Path { segments }))
+            }
+            _ => Ok(None),
+        }
+    }
+}

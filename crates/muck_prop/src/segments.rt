@@ -1,0 +1,163 @@
+// Lists of segments, in the order of paths.
+ghost use Rattle.std.specs.Prelude.{◌≡◌, ◌++◌, ◌∷◌, [], Some, None, IfOk, OnOk, length, take, refl, Ok, Err};
+ghost use Rattle.std.specs.List.{list_any};
+ghost use Rattle.std.specs.Cmp.{on_equiv, on_total, on_po, on_per, partial_equiv_from_equiv};
+ghost use Rattle.muck_prop.specs.Order.{path_cmp, path_eq, path_cmp_total, path_eq_equiv, path_ties, path_po, is_below, past};
+ghost use Rattle.muck_prop.specs.Paths.{segments_of, path_text, is_slash, begins_with};
+
+use crate::segment::Segment;
+use muck_model::NoMemory;
+use std::alloc::Global;
+use std::cmp::Ordering;
+use std::marker::Model;
+
+// Some segments, which contracts see as their list. A path keeps more than this type does.
+#[derive(Drop)]
+pub(crate) struct Segments {
+    items: Vec<Segment>,
+}
+
+impl Model for Segments {
+    ghost use Rattle.std.specs.Prelude.{List, ℕ};
+
+    ghost Value = { List (List ℕ) };
+
+    ghost view = { λ s. s.items.items };
+}
+
+impl Segments {
+    // No segment.
+    pub(crate) fn new(alloc: Global) -> Segments
+        ensures { result ≡ [] }
+    {
+        Segments {
+            items: Vec::new(alloc),
+        }
+    }
+
+    // What stands between the slashes of a text, without empty parts, in lower case.
+    pub(crate) fn of_text(alloc: Global, text: &[u8]) -> Result<Segments, NoMemory>
+        ensures { IfOk result (λ s. s ≡ segments_of text.now) }
+    {
+        let mut items = Vec::new(alloc);
+        for part in text.split(|b| *b == b'/') {
+            if !part.is_empty() {
+                items.push(Segment::lowered(alloc, part)?)?;
+            }
+        }
+        items.shrink_to_fit();
+        Ok(Segments { items })
+    }
+
+    // All segments.
+    pub(crate) fn as_slice(&self) -> &[Segment]
+        ensures { result.now ≡ self.now }
+    {
+        &self.items
+    }
+
+    // How many there are.
+    pub(crate) fn len(&self) -> usize
+        ensures { result ≡ length self.now }
+    {
+        self.items.len()
+    }
+
+    // The segments, joined by single slashes.
+    pub(crate) fn text(&self, alloc: Global) -> Result<Vec<u8>, NoMemory>
+        ensures { IfOk result (λ text. text.items ≡ path_text self.now) }
+    {
+        let mut text = Vec::new(alloc);
+        for (i, segment) in self.items.iter().enumerate() {
+            if i > 0 {
+                text.push(b'/')?;
+            }
+            text.extend_from_slice(segment.as_slice())?;
+        }
+        Ok(text)
+    }
+
+    // A copy of the first segments, at most so many.
+    pub(crate) fn first(&self, alloc: Global, count: usize) -> Result<Segments, NoMemory>
+        ensures { IfOk result (λ s. s ≡ take count self.now) }
+    {
+        let count = count.min(self.items.len());
+        let mut items = Vec::with_capacity(alloc, count)?;
+        for segment in &self.items[..count] {
+            items.push(segment.copy(alloc)?)?;
+        }
+        Ok(Segments { items })
+    }
+
+    // All of them, as a copy.
+    pub(crate) fn copy(&self, alloc: Global) -> Result<Segments, NoMemory>
+        ensures { IfOk result (λ s. s ≡ self.now) }
+    {
+        self.first(alloc, self.items.len())
+    }
+
+    // The least list of segments above all that continue the first `count` of these.
+    #[tactic(auto, using(crate::proofs::Sequence::past_push))]
+    pub(crate) fn past(&self, alloc: Global, count: usize) -> Result<Segments, NoMemory>
+        ensures { IfOk result (λ s. s ≡ past (take count self.now)) }
+    {
+        let Segments { mut items } = self.first(alloc, count)?;
+        let Some(last) = items.pop() else {
+            return Ok(Segments { items });
+        };
+        items.push(last.successor()?)?;
+        Ok(Segments { items })
+    }
+
+    // Whether any of them begins with a byte.
+    pub(crate) fn any_begins_with(&self, first: u8) -> bool
+        ensures { result ≡ list_any (begins_with first) self.now }
+    {
+        self.items.iter().any(|segment| segment.begins_with(first))
+    }
+
+    // Whether these segments continue those by at least one.
+    pub(crate) fn is_below(&self, above: &Segments) -> bool
+        ensures { result ≡ is_below above.now self.now }
+    {
+        above.len() < self.len() && self.items.starts_with(&above.items)
+    }
+}
+
+impl PartialEq for Segments {
+    ghost eq = { λ a b. path_eq a b };
+
+    ghost laws = { on_per (λ s. s) (partial_equiv_from_equiv path_eq_equiv) };
+
+    fn eq(&self, other: &Segments) -> bool {
+        self.as_slice() == other.as_slice()
+    }
+}
+
+impl Eq for Segments {
+    ghost laws = { on_equiv (λ s. s) path_eq_equiv };
+}
+
+impl PartialOrd for Segments {
+    ghost partial_cmp = { λ a b. Some (path_cmp a b) };
+
+    ghost laws = { on_po (λ s. s) path_po };
+
+    fn partial_cmp(&self, other: &Segments) -> Option<Ordering> {
+        Some(self.cmp(other))
+    }
+}
+
+impl Ord for Segments {
+    ghost cmp = { λ a b. path_cmp a b };
+
+    ghost total = { on_total (λ s. s) path_cmp_total };
+
+    ghost matches_partial_cmp = { λ a b. refl };
+
+    ghost matches_eq = { λ a b. path_ties a b };
+
+    fn cmp(&self, other: &Segments) -> Ordering {
+        self.as_slice().cmp(other.as_slice())
+    }
+}

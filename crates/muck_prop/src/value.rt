@@ -1,0 +1,35 @@
+// What a property holds.
+ghost use Rattle.std.specs.Prelude.{◌≡◌, IfOk};
+ghost use Rattle.muck_prop.specs.Store.{is_nothing};
+
+use muck_model::{Line, NoMemory};
+use std::alloc::Global;
+
+/// What a property holds.
+#[derive(Drop)]
+pub enum PropValue {
+    Text(Line),
+    Number(i32),
+}
+
+impl PropValue {
+    // Whether it is an empty text or 0, which no property holds.
+    pub(crate) fn is_nothing(&self) -> bool
+        ensures { result ≡ is_nothing self.now }
+    {
+        match self {
+            PropValue::Text(text) => text.as_slice().is_empty(),
+            PropValue::Number(number) => *number == 0,
+        }
+    }
+
+    /// An equal value.
+    pub fn copy(&self, alloc: Global) -> Result<PropValue, NoMemory>
+        ensures { IfOk result (λ value. value ≡ self.now) }
+    {
+        match self {
+            PropValue::Text(text) => Ok(PropValue::Text(text.copy(alloc)?)),
+            PropValue::Number(number) => Ok(PropValue::Number(*number)),
+        }
+    }
+}

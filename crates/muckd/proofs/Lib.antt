@@ -1,0 +1,6 @@
+pub mod Parts
+pub mod Exits
+pub mod Turns
+pub mod Towards
+pub mod Whole
+pub mod Answered

@@ -1,0 +1,134 @@
+-- Whole runs on the starting world, and runs that broke off.
+use Rattle.std.proofs.Common.{◌≡◌, ℕ, ◌+◌, ◌<◌, ◌≤◌, Bool, true, false, List, [], ◌∷◌, ◌++◌, length, take, refl, sym, ◌∙◌, ap, subst, arith, append-nil, Option, Some, None, Result, Ok, Err}
+use Rattle.std.proofs.lemmas.Bool.{lt-ltb, ltb-true, ltb-false, cond-true}
+use Rattle.std.proofs.lemmas.List.{take_all, drop_all, length-take}
+use Rattle.std.specs.Prelude.{nat_lt}
+use Rattle.muck_io.specs.Source.{HasReadAll}
+use Rattle.muck_model.specs.declared.event.Entry.{Entry}
+use Rattle.muck_model.specs.declared.event.Event.TheVariants.{Died}
+use Rattle.muck_world.specs.World.{World, starting}
+use Rattle.muck_world.specs.Histories.{History, after, now, extended, by_porter, AllLawful}
+use Rattle.muck_world.proofs.Runs.{run_of_lawful}
+use Rattle.muck_script.specs.declared.act.Act.{Act}
+use Rattle.muck_script.specs.Script.{script_of, script_most, read_part, refused_at, acts_of}
+use Rattle.muck_script.specs.Lines.{lines_of}
+use Rattle.muck_script.specs.Story.{story}
+use Rattle.muck_script.proofs.Lawful.{story_lawful}
+use Rattle.muckd.specs.declared.why.Why.TheVariants.{NoMemory, WriteFault}
+use Rattle.muckd.specs.declared.playing.RunFault.{RunFault}
+use Rattle.muckd.specs.Plays.{Plays, Breaks, ending_of}
+use Rattle.muckd.specs.Outcome.{PlayedWhole, BrokeOff, IsScriptIn, IsReadOut, IsFirstOutside, halted}
+
+-- the history in which nothing has happened yet
+abbrev begun : History
+begun = record { start = starting; entries = [] }
+
+pub begun_lives : (h : History) → h ≡ begun → (now h).dead ≡ false
+unfolding now starting
+begun_lives h e = ap (λ (x : History). (now x).dead) e
+
+pub played_whole : (acts : List Act) (h k : History) (a b : Option (List ℕ)) (tale : List Entry) → h ≡ begun → Plays (story acts) h k a b → tale ≡ k.entries → PlayedWhole acts a b tale
+unfolding now
+played_whole acts h k a b tale e p is =
+    let P : History → Type 0 = λ x. Plays (story acts) x k a b in
+    let q : Plays (story acts) begun k a b = subst P e p in
+    let story_is : tale ≡ story acts starting = is ∙ ap (λ (x : History). x.entries) q.history in
+    let lawful : AllLawful starting tale = subst (AllLawful starting) (sym story_is) (story_lawful acts) in
+    record { history = story_is; lawful = lawful; run = run_of_lawful starting tale lawful; text = q.text }
+
+-- the ending of a run by its fault
+pub broke_by : (f : World → List Entry) (h k : History) (a b : Option (List ℕ)) (fault is : RunFault) → fault ≡ is → Breaks f (ending_of fault) h k a b → Breaks f (ending_of is) h k a b
+broke_by f h k a b fault is e p = let P : RunFault → Type 0 = λ x. Breaks f (ending_of x) h k a b in subst P e p
+
+pub died_off : (acts : List Act) (h k : History) (a b : Option (List ℕ)) (tale : List Entry) → h ≡ begun → Breaks (story acts) (by_porter Died ∷ []) h k a b → tale ≡ k.entries → BrokeOff NoMemory acts a b tale
+unfolding now
+died_off acts h k a b tale e p is =
+    let P : History → Type 0 = λ x. Breaks (story acts) (by_porter Died ∷ []) x k a b in
+    let q : Breaks (story acts) (by_porter Died ∷ []) begun k a b = subst P e p in
+    record {
+      front = q.front;
+      rest = q.rest;
+      whole = q.whole;
+      lawful = story_lawful acts;
+      ending = by_porter Died ∷ [];
+      ends = refl;
+      history = is ∙ ap (λ (x : History). x.entries) q.history;
+      told = q.told;
+      untold = q.untold;
+      text = q.text;
+      appended = q.appended;
+    }
+
+pub halted_off : (acts : List Act) (h k m : History) (a b : Option (List ℕ)) (tale : List Entry) → h ≡ begun → Breaks (story acts) [] h k a b → m ≡ extended k (halted (now k)) → tale ≡ m.entries → BrokeOff WriteFault acts a b tale
+unfolding now
+halted_off acts h k m a b tale e p stops is =
+    let P : History → Type 0 = λ x. Breaks (story acts) [] x k a b in
+    let q : Breaks (story acts) [] begun k a b = subst P e p in
+    let same : k ≡ extended begun q.front = q.history ∙ ap (extended begun) (append-nil q.front) in
+    record {
+      front = q.front;
+      rest = q.rest;
+      whole = q.whole;
+      lawful = story_lawful acts;
+      ending = halted (after starting q.front);
+      ends = refl;
+      history = is ∙ ap (λ (x : History). x.entries) stops ∙ ap (λ (x : History). x.entries ++ halted (now x)) same;
+      told = q.told;
+      untold = q.untold;
+      text = q.text;
+      appended = q.appended;
+    }
+
+-- What is read of the source decides what its script is.
+
+short : (left : List ℕ) → length left ≤ script_most → script_of (read_part left) ≡ script_of left
+short left h = let all : length left ≤ script_most + 1 = omega (arith, h) in ap script_of (take_all (script_most + 1) left all)
+
+read_twice : (left : List ℕ) → script_most < length left → read_part (read_part left) ≡ read_part left
+read_twice left h =
+    let n : length (read_part left) ≤ script_most + 1 = omega (arith, length-take (script_most + 1) left) in
+    take_all (script_most + 1) (read_part left) n
+
+too_long : (bytes : List ℕ) → script_most < length bytes → script_of bytes ≡ refused_at (length (lines_of (read_part bytes))) (acts_of (read_part bytes))
+too_long bytes h = cond-true _ _ _ (lt-ltb script_most (length bytes) h)
+
+long : (left : List ℕ) → script_most < length left → script_of (read_part left) ≡ script_of left
+long left h =
+    let some : script_most < length (read_part left) = omega (arith, length-take (script_most + 1) left, h) in
+    too_long (read_part left) some ∙ ap (λ bytes. refused_at (length (lines_of bytes)) (acts_of bytes)) (read_twice left h) ∙ sym (too_long left h)
+
+same_script : (left : List ℕ) → script_of (read_part left) ≡ script_of left
+same_script left = decide (nat_lt script_most (length left)) refl where
+  decide : (b : Bool) → nat_lt script_most (length left) ≡ b → script_of (read_part left) ≡ script_of left
+  decide true e = long left (ltb-true _ _ e)
+  decide false e = short left (ltb-false _ _ e)
+
+not_ok : (n : ℕ) (r : Result (List Act) ℕ) (acts : List Act) → refused_at n r ≡ Ok acts → ⊥
+not_ok n (Ok x) acts e = cc
+not_ok n (Err m) acts e = cc
+
+-- a script isn't too long
+within : (bytes : List ℕ) (acts : List Act) → script_of bytes ≡ Ok acts → length bytes ≤ script_most
+within bytes acts e = decide (nat_lt script_most (length bytes)) refl where
+  decide : (b : Bool) → nat_lt script_most (length bytes) ≡ b → length bytes ≤ script_most
+  decide true h = absurd (not_ok (length (lines_of (read_part bytes))) (acts_of (read_part bytes)) acts (sym (too_long bytes (ltb-true _ _ h)) ∙ e))
+  decide false h = ltb-false _ _ h
+
+pub script_in : (left now : Option (List ℕ)) (most : ℕ) (bytes : List ℕ) (acts : List Act) → most ≡ script_most + 1 → HasReadAll left now most bytes → script_of bytes ≡ Ok acts → IsScriptIn left acts
+script_in None now most bytes acts m h e = tt
+script_in (Some left) now most bytes acts m h e = sym (same_script left) ∙ ap (λ n. script_of (take n left)) (sym m) ∙ ap script_of (sym h.0) ∙ e
+
+pub first_outside : (left now : Option (List ℕ)) (most : ℕ) (bytes : List ℕ) (line : ℕ) → most ≡ script_most + 1 → HasReadAll left now most bytes → script_of bytes ≡ Err line → IsFirstOutside left line
+first_outside None now most bytes line m h e = tt
+first_outside (Some left) now most bytes line m h e = sym (same_script left) ∙ ap (λ n. script_of (take n left)) (sym m) ∙ ap script_of (sym h.0) ∙ e
+
+pub read_out : (left now : Option (List ℕ)) (most : ℕ) (bytes : List ℕ) (acts : List Act) → most ≡ script_most + 1 → HasReadAll left now most bytes → script_of bytes ≡ Ok acts → IsReadOut left now
+read_out None now most bytes acts m h e = tt
+read_out (Some left) now most bytes acts m h e =
+    let few : length left ≤ most = omega (arith, m, within left acts (script_in (Some left) now most bytes acts m h e)) in
+    h.1 ∙ ap Some (drop_all most left few)
+
+-- what the code reads at the most
+pub read_part_most : 16777217 ≡ script_most + 1
+unfolding script_most
+read_part_most = refl

@@ -1,0 +1,11 @@
+use Rattle.std.proofs.Common.{◌≡◌}
+use Rattle.muck_world.specs.Steps.{connections_most}
+use Rattle.muck_script.specs.Story.{served}
+use Rattle.muckd.proofs.Towards.{IsServing}
+use Rattle.muckd.proofs.playing.serve_all.Given as goal
+
+abbrev pub invariant-loop-d : goal.invariant-loop-d
+invariant-loop-d g l = record {
+  serving : IsServing (served connections_most 1) l.d l.fn.world l.world (g.K.Sink.written l.fn.out) (g.K.Sink.written l.out);
+  fine : g.K.Sink.faults l.out ≡ g.K.Sink.faults l.fn.out;
+}

@@ -1,0 +1,8 @@
+use Rattle.muckd.proofs.Turns.{plays_turns, breaks_turns}
+use Rattle.muckd.proofs.playing.turn.Goals as goal
+
+pub returns-in-Ok-clause-plays : goal.returns-in-Ok-clause-plays
+returns-in-Ok-clause-plays c = λ o. plays_turns _ _ _ _ c.in-Ok.ensures.world c.requires
+
+pub returns-in-Err-clause-plays : goal.returns-in-Err-clause-plays
+returns-in-Err-clause-plays c = λ o. breaks_turns _ _ _ _ c.in-Err.ensures.died

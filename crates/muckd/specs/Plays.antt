@@ -1,0 +1,40 @@
+-- A part of a run: the entries that it makes happen, and what is written of them.
+use Rattle.std.specs.Prelude.{◌≡◌, ℕ, false, List, [], ◌∷◌, ◌++◌, Option, Result, Ok, Err}
+use Rattle.muck_io.specs.Sink.{Appends}
+use Rattle.muck_model.specs.declared.event.Entry.{Entry}
+use Rattle.muck_model.specs.declared.event.Event.TheVariants.{Died}
+use Rattle.muck_world.specs.World.{World}
+use Rattle.muck_world.specs.Histories.{History, now, extended, by_porter}
+use Rattle.muck_script.specs.Story.{text_of}
+use Rattle.muckd.specs.declared.playing.RunFault.{RunFault}
+use Rattle.muckd.specs.declared.playing.RunFault.TheVariants.{NoMemory, WriteFault}
+
+-- The entries that f says of the world as it was happened behind the history h, which is k now, and their text was
+-- written. The world still lives.
+pub record Plays (f : World → List Entry) (h k : History) (before written : Option (List ℕ)) : Type 0 where
+  pub history : k ≡ extended h (f (now h))
+  pub text : Appends before written (text_of (now h) (f (now h)))
+  pub alive : (now k).dead ≡ false
+
+-- Only the first of those entries happened, and then the ending. Of the text of those that happened a front was written.
+-- Where there is no ending the world still lives.
+pub record Breaks (f : World → List Entry) (ending : List Entry) (h k : History) (before written : Option (List ℕ)) : Type 0 where
+  pub front : List Entry
+  pub rest : List Entry
+  pub whole : front ++ rest ≡ f (now h)
+  pub history : k ≡ extended h (front ++ ending)
+  pub told : List ℕ
+  pub untold : List ℕ
+  pub text : told ++ untold ≡ text_of (now h) front
+  pub appended : Appends before written told
+  pub alive : ending ≡ [] → (now k).dead ≡ false
+
+-- how a part ends that broke off
+abbrev pub ending_of : RunFault → List Entry
+ending_of NoMemory = by_porter Died ∷ []
+ending_of WriteFault = []
+
+-- a part of a run, by its answer
+abbrev pub PlaysOrBreaks : {T : Type 0} → (World → List Entry) → History → History → Option (List ℕ) → Option (List ℕ) → Result T RunFault → Type 0
+PlaysOrBreaks f h k before written (Ok _) = Plays f h k before written
+PlaysOrBreaks f h k before written (Err fault) = Breaks f (ending_of fault) h k before written

@@ -1,0 +1,43 @@
+//! A text-world server: `muckd run STORE` reads a script and writes its transcript.
+#![tactic(auto)]
+
+mod command;
+mod playing;
+#[cfg(test)]
+mod tests;
+mod top;
+mod why;
+
+use muck_io::{ReaderSource, WriterSink};
+use std::process::ExitCode;
+use std::{env, io};
+use top::muckd;
+use why::Why;
+
+// The words behind the program's name.
+fn words(rt: HostRuntime) -> io::Result<Vec<String>> {
+    let mut words = Vec::new(rt.alloc());
+    for word in env::args(&rt)?.skip(1) {
+        words.push(word)?;
+    }
+    Ok(words)
+}
+
+// Writes why a call ended, where it didn't end well.
+fn tell(rt: HostRuntime, why: Why) -> io::Result<ExitCode> {
+    let status = why.status();
+    if status != 0 {
+        eprintln!(rt; "{why}")?;
+    }
+    Ok(ExitCode::from(status))
+}
+
+fn main(rt: HostRuntime) -> io::Result<ExitCode> {
+    let Ok(words) = words(rt) else {
+        return tell(rt, Why::NoMemory);
+    };
+    let mut script = ReaderSource::new(rt.reader());
+    let mut out = WriterSink::new(io::writer(&rt));
+    let done = muckd(rt.alloc(), &words, &mut script, &mut out);
+    tell(rt, done.why)
+}

@@ -1,0 +1,234 @@
+// A run of a script: what it makes happen in the world, and what is written of it.
+ghost use Rattle.std.specs.Prelude.{◌≡◌, ◌≤◌, OnOk, IsErrOf, OnErr, length, false, Option, List, ℕ};
+ghost use Rattle.muck_io.specs.Faults.{Rose};
+ghost use Rattle.muck_world.specs.Histories.{now};
+ghost use Rattle.muck_world.specs.Steps.{connections_most};
+ghost use Rattle.muck_script.specs.Story.{acted, turns, turns_most, taken, parted, both, served, line_story, story};
+ghost use Rattle.muckd.specs.Plays.{PlaysOrBreaks};
+
+use muck_io::{Sink, WriteFailed, write_all};
+use muck_machine::World;
+use muck_model::NoMemory;
+use muck_script::{Act, farewell_text, lines_text, settle};
+use std::alloc::Global;
+
+/// Why a run broke off.
+#[derive(Clone, Copy, Debug, PartialEq, Eq)]
+pub enum RunFault {
+    NoMemory,
+    WriteFault,
+}
+
+// What a line of the script asks for; nothing is written of it.
+fn act(alloc: Global, world: &mut World, act: &Act) -> Result<(), RunFault>
+    requires { (now world.old).dead ≡ false }
+    ensures plays { (o : Option (List ℕ)) → PlaysOrBreaks (acted act.now) world.old world.new o o result }
+    ensures memory { OnErr result (result ≡ Err RunFault.NoMemory) }
+{
+    match act {
+        Act::Nothing => Ok(()),
+        Act::Open(d) => match world.opened(*d) {
+            Ok(_) => Ok(()),
+            Err(NoMemory) => Err(RunFault::NoMemory),
+        },
+        Act::Send(d, text) => match text.copy(alloc) {
+            Ok(text) => match world.input(*d, text) {
+                Ok(_) => Ok(()),
+                Err(NoMemory) => Err(RunFault::NoMemory),
+            },
+            Err(NoMemory) => {
+                world.died(0);
+                Err(RunFault::NoMemory)
+            }
+        },
+    }
+}
+
+// Does the lines that wait; nothing is written of it.
+fn turn(world: &mut World) -> Result<(), RunFault>
+    requires { (now world.old).dead ≡ false }
+    ensures plays { (o : Option (List ℕ)) → PlaysOrBreaks (turns turns_most) world.old world.new o o result }
+    ensures memory { OnErr result (result ≡ Err RunFault.NoMemory) }
+{
+    match settle(world) {
+        Ok(_) => Ok(()),
+        Err(NoMemory) => Err(RunFault::NoMemory),
+    }
+}
+
+// Takes a connection's queue and writes its lines.
+fn take_queue<K: Sink>(
+    alloc: Global,
+    world: &mut World,
+    d: u32,
+    buf: &mut [u8],
+    out: &mut K,
+) -> Result<(), RunFault>
+    requires room { 131072 ≤ length buf.old }
+    requires alive { (now world.old).dead ≡ false }
+    ensures plays { PlaysOrBreaks (taken d) world.old world.new (K.written out.old) (K.written out.new) result }
+    ensures fine { OnOk result (K.faults out.new ≡ K.faults out.old) }
+    ensures later { K.faults out.old ≤ K.faults out.new }
+    ensures write { IsErrOf result RunFault.WriteFault → Rose (K.faults out.old) (K.faults out.new) }
+    ensures memory { IsErrOf result RunFault.NoMemory → K.faults out.new ≡ K.faults out.old }
+{
+    if world.queued(d) == 0 {
+        return Ok(());
+    }
+    let count = world.take(d, buf);
+    match lines_text(alloc, d, &buf[..count]) {
+        Ok(text) => match write_all(out, text.as_slice()) {
+            Ok(()) => Ok(()),
+            Err(WriteFailed) => Err(RunFault::WriteFault),
+        },
+        Err(NoMemory) => {
+            world.died(0);
+            Err(RunFault::NoMemory)
+        }
+    }
+}
+
+// Closes a connection that is leaving, and writes so.
+fn part<K: Sink>(alloc: Global, world: &mut World, d: u32, out: &mut K) -> Result<(), RunFault>
+    requires { (now world.old).dead ≡ false }
+    ensures plays { PlaysOrBreaks (parted d) world.old world.new (K.written out.old) (K.written out.new) result }
+    ensures fine { OnOk result (K.faults out.new ≡ K.faults out.old) }
+    ensures later { K.faults out.old ≤ K.faults out.new }
+    ensures write { IsErrOf result RunFault.WriteFault → Rose (K.faults out.old) (K.faults out.new) }
+    ensures memory { IsErrOf result RunFault.NoMemory → K.faults out.new ≡ K.faults out.old }
+{
+    if !world.leaving(d) {
+        return Ok(());
+    }
+    match farewell_text(alloc, d) {
+        Ok(farewell) => {
+            match world.closed(d) {
+                Ok(()) => {}
+                Err(NoMemory) => return Err(RunFault::NoMemory),
+            }
+            match write_all(out, farewell.as_slice()) {
+                Ok(()) => Ok(()),
+                Err(WriteFailed) => Err(RunFault::WriteFault),
+            }
+        }
+        Err(NoMemory) => {
+            world.died(0);
+            Err(RunFault::NoMemory)
+        }
+    }
+}
+
+// Takes and writes a connection's queue, and closes it where it is leaving.
+fn serve_one<K: Sink>(
+    alloc: Global,
+    world: &mut World,
+    d: u32,
+    buf: &mut [u8],
+    out: &mut K,
+) -> Result<(), RunFault>
+    requires room { 131072 ≤ length buf.old }
+    requires alive { (now world.old).dead ≡ false }
+    ensures plays { PlaysOrBreaks (both (taken d) (parted d)) world.old world.new (K.written out.old) (K.written out.new) result }
+    ensures fine { OnOk result (K.faults out.new ≡ K.faults out.old) }
+    ensures later { K.faults out.old ≤ K.faults out.new }
+    ensures write { IsErrOf result RunFault.WriteFault → Rose (K.faults out.old) (K.faults out.new) }
+    ensures memory { IsErrOf result RunFault.NoMemory → K.faults out.new ≡ K.faults out.old }
+{
+    match take_queue(alloc, world, d, buf, out) {
+        Ok(()) => part(alloc, world, d, out),
+        Err(fault) => Err(fault),
+    }
+}
+
+// Serves each connection in rising order.
+fn serve_all<K: Sink>(
+    alloc: Global,
+    world: &mut World,
+    buf: &mut [u8],
+    out: &mut K,
+) -> Result<(), RunFault>
+    requires room { 131072 ≤ length buf.old }
+    requires alive { (now world.old).dead ≡ false }
+    ensures plays { PlaysOrBreaks (served connections_most 1) world.old world.new (K.written out.old) (K.written out.new) result }
+    ensures fine { OnOk result (K.faults out.new ≡ K.faults out.old) }
+    ensures later { K.faults out.old ≤ K.faults out.new }
+    ensures write { IsErrOf result RunFault.WriteFault → Rose (K.faults out.old) (K.faults out.new) }
+    ensures memory { IsErrOf result RunFault.NoMemory → K.faults out.new ≡ K.faults out.old }
+{
+    for d in 1..257u32 {
+        match serve_one(alloc, world, d, buf, out) {
+            Ok(()) => {}
+            Err(fault) => return Err(fault),
+        }
+    }
+    Ok(())
+}
+
+// Does what a line of the script asks for, and the turns that follow; nothing is written of it.
+fn act_and_turn(alloc: Global, world: &mut World, asked: &Act) -> Result<(), RunFault>
+    requires { (now world.old).dead ≡ false }
+    ensures plays { (o : Option (List ℕ)) → PlaysOrBreaks (both (acted asked.now) (turns turns_most)) world.old world.new o o result }
+    ensures memory { OnErr result (result ≡ Err RunFault.NoMemory) }
+{
+    match act(alloc, world, asked) {
+        Ok(()) => turn(world),
+        Err(fault) => Err(fault),
+    }
+}
+
+// Does a line of the script, and what follows it.
+fn play_line<K: Sink>(
+    alloc: Global,
+    world: &mut World,
+    asked: &Act,
+    buf: &mut [u8],
+    out: &mut K,
+) -> Result<(), RunFault>
+    requires room { 131072 ≤ length buf.old }
+    requires alive { (now world.old).dead ≡ false }
+    ensures plays { PlaysOrBreaks (line_story asked.now) world.old world.new (K.written out.old) (K.written out.new) result }
+    ensures fine { OnOk result (K.faults out.new ≡ K.faults out.old) }
+    ensures later { K.faults out.old ≤ K.faults out.new }
+    ensures write { IsErrOf result RunFault.WriteFault → Rose (K.faults out.old) (K.faults out.new) }
+    ensures memory { IsErrOf result RunFault.NoMemory → K.faults out.new ≡ K.faults out.old }
+{
+    match act_and_turn(alloc, world, asked) {
+        Ok(()) => serve_all(alloc, world, buf, out),
+        Err(fault) => Err(fault),
+    }
+}
+
+/// Plays a whole script into the world: what each of its lines asks for happens, the lines that wait are done, each
+/// queue is taken and written, and behind the last line the world is halted. `buf` has room for a whole queue.
+///
+/// After `NoMemory` the world is dead, and after `WriteFault` it is as the fault left it; in both cases the world's
+/// history is a front of the script's story, with `Died` behind it after `NoMemory`.
+pub fn play<K: Sink>(
+    alloc: Global,
+    world: &mut World,
+    acts: &[Act],
+    buf: &mut [u8],
+    out: &mut K,
+) -> Result<(), RunFault>
+    requires room { 131072 ≤ length buf.old }
+    requires alive { (now world.old).dead ≡ false }
+    ensures plays { PlaysOrBreaks (story acts.now) world.old world.new (K.written out.old) (K.written out.new) result }
+    ensures fine { OnOk result (K.faults out.new ≡ K.faults out.old) }
+    ensures later { K.faults out.old ≤ K.faults out.new }
+    ensures write { IsErrOf result RunFault.WriteFault → Rose (K.faults out.old) (K.faults out.new) }
+    ensures memory { IsErrOf result RunFault.NoMemory → K.faults out.new ≡ K.faults out.old }
+{
+    for act in acts {
+        if world.is_stopping() {
+            return Ok(());
+        }
+        match play_line(alloc, world, act, buf, out) {
+            Ok(()) => {}
+            Err(fault) => return Err(fault),
+        }
+    }
+    if !world.is_stopping() {
+        world.halt();
+    }
+    Ok(())
+}

@@ -1,0 +1,147 @@
+// What no clause says: the worked rows byte for byte, and what stands where each read or write fails in turn.
+use crate::top::muckd;
+use crate::why::Why;
+use muck_io::{MemSink, MemSource};
+use std::alloc::{AllocError, Global};
+use std::test::Fail;
+
+const WELCOME: &str = "1< Use: connect NAME PASSWORD, WHO or QUIT.\n";
+
+// The row of `hi`, and the bytes that each of its five writes writes.
+const HELLO: &str = "open 1\nsend 1 connect One potrzebie\nsend 1 \"hi\nsend 1 QUIT\n";
+
+const SAID: [&str; 5] = [
+    WELCOME,
+    "1< Room Zero(#0R)\n",
+    "1< You say, \"hi\"\n",
+    "1< Come back later!\n",
+    "1 closed\n",
+];
+
+// The words of the command line.
+fn words_of(alloc: Global, words: &[&str]) -> Result<Vec<String>, AllocError> {
+    let mut all = Vec::new(alloc);
+    for word in words {
+        all.push(String::from_str(alloc, word)?)?;
+    }
+    Ok(all)
+}
+
+// A list of one number, or of none for 0.
+fn failing(alloc: Global, at: u64) -> Result<Vec<u64>, AllocError> {
+    let mut calls = Vec::new(alloc);
+    if at > 0 {
+        calls.push(at)?;
+    }
+    Ok(calls)
+}
+
+// What a run of the script answers, and what it writes; the read and the write of these numbers fail, and each read
+// and write moves at most so many bytes.
+fn run(
+    alloc: Global,
+    script: &str,
+    read: u64,
+    write: u64,
+    at_once: usize,
+) -> Result<(Why, Vec<u8>), Fail> {
+    let words = words_of(alloc, &["run", "w"])?;
+    let bytes = script.as_bytes().to_vec(alloc)?;
+    let mut source = MemSource::new(bytes, failing(alloc, read)?).at_most(at_once.max(1));
+    let mut sink = MemSink::new(alloc, failing(alloc, write)?).at_most(at_once.max(1));
+    let done = muckd(alloc, words.as_slice(), &mut source, &mut sink);
+    Ok((done.why, sink.bytes().to_vec(alloc)?))
+}
+
+#[test]
+fn worked_rows(rt: HostRuntime) -> Result<(), Fail> {
+    let cases = [
+        ("", ""),
+        (
+            "open 1\nsend 1 connect One potrzebie\nsend 1 \"hi\nsend 1 QUIT\n",
+            "1< Use: connect NAME PASSWORD, WHO or QUIT.\n1< Room Zero(#0R)\n1< You say, \"hi\"\n1< Come back later!\n1 closed\n",
+        ),
+        (
+            "open 1\nsend 1 connect One x\nsend 1 connect one potrzebie\n",
+            "1< Use: connect NAME PASSWORD, WHO or QUIT.\n1< Either that player does not exist, or has a different password.\n1< Room Zero(#0R)\n",
+        ),
+        (
+            "open 1\nsend 1 connect One potrzebie\nsend 1 look\nsend 1 \"  a \"b  \n",
+            "1< Use: connect NAME PASSWORD, WHO or QUIT.\n1< Room Zero(#0R)\n1< Huh?  (Type \"help\" for help.)\n1< You say, \"a \"b\"\n",
+        ),
+    ];
+    for (script, want) in cases {
+        for at_once in [1usize, 4096] {
+            let (why, written) = run(rt.alloc(), script, 0, 0, at_once)?;
+            assert_eq!(rt; why, Why::Fine);
+            assert_eq!(rt; written.as_slice(), want.as_bytes());
+        }
+    }
+    Ok(())
+}
+
+#[test]
+fn other_causes(rt: HostRuntime) -> Result<(), Fail> {
+    let (why, written) = run(rt.alloc(), "open 1\nsend x\nopen 2\n", 0, 0, 4096)?;
+    assert_eq!(rt; why, Why::BadScript { line: 2 });
+    assert!(rt; written.is_empty());
+    let (why, written) = run(rt.alloc(), HELLO, 1, 0, 4096)?;
+    assert_eq!(rt; why, Why::ReadFault);
+    assert!(rt; written.is_empty());
+    let words = words_of(rt.alloc(), &["run"])?;
+    let mut source = MemSource::new(Vec::new(rt.alloc()), Vec::new(rt.alloc()));
+    let mut sink = MemSink::new(rt.alloc(), Vec::new(rt.alloc()));
+    let done = muckd(rt.alloc(), words.as_slice(), &mut source, &mut sink);
+    assert_eq!(rt; done.status, 1);
+    assert_eq!(rt; done.why, Why::Usage);
+    Ok(())
+}
+
+#[test]
+fn each_read_fails(rt: HostRuntime) -> Result<(), Fail> {
+    // Ten bytes a read: the script's 57 bytes want six reads, and a seventh finds the end.
+    for at in 1..9u64 {
+        let (why, written) = run(rt.alloc(), HELLO, at, 0, 10)?;
+        if at <= 7 {
+            assert_eq!(rt; why, Why::ReadFault);
+            assert!(rt; written.is_empty());
+        } else {
+            assert_eq!(rt; why, Why::Fine);
+        }
+    }
+    Ok(())
+}
+
+#[test]
+fn each_write_fails(rt: HostRuntime) -> Result<(), Fail> {
+    // The writes before the one that fails stand, and nothing is written after it.
+    let mut stands = Vec::new(rt.alloc());
+    for (at, piece) in (1u64..).zip(SAID) {
+        let (why, written) = run(rt.alloc(), HELLO, 0, at, 4096)?;
+        assert_eq!(rt; why, Why::WriteFault);
+        assert_eq!(rt; written.as_slice(), stands.as_slice());
+        stands.extend_from_slice(piece.as_bytes())?;
+    }
+    let (why, written) = run(rt.alloc(), HELLO, 0, 6, 4096)?;
+    assert_eq!(rt; why, Why::Fine);
+    assert_eq!(rt; written.as_slice(), stands.as_slice());
+    Ok(())
+}
+
+#[test]
+fn causes_are_shown(rt: HostRuntime) -> Result<(), Fail> {
+    let cases = [
+        (Why::Fine, "Fine", 0u8),
+        (Why::Usage, "Usage", 1),
+        (Why::BadScript { line: 12 }, "BadScript 12", 2),
+        (Why::NoMemory, "NoMemory", 3),
+        (Why::ReadFault, "ReadFault", 4),
+        (Why::WriteFault, "WriteFault", 5),
+    ];
+    for (why, text, status) in cases {
+        let shown = format!(in rt.alloc(); "{why}")?;
+        assert_eq!(rt; shown.as_str(), text);
+        assert_eq!(rt; why.status(), status);
+    }
+    Ok(())
+}

@@ -1,0 +1,51 @@
+// How a call ends.
+ghost use Rattle.std.specs.Prelude.{◌≡◌};
+ghost use Rattle.muckd.specs.Outcome.{status_of};
+
+use std::fmt;
+
+/// Why a call of [`crate::top::muckd`] ends as it does.
+#[derive(Clone, Copy, Debug, PartialEq, Eq)]
+pub enum Why {
+    /// The work was done.
+    Fine,
+    /// The words are no command.
+    Usage,
+    /// The first line of the script that is outside its grammar has this number, from 1.
+    BadScript { line: u64 },
+    /// Memory was wanted.
+    NoMemory,
+    /// The source of the script failed.
+    ReadFault,
+    /// The sink of the transcript failed.
+    WriteFault,
+}
+
+impl Why {
+    /// The exit status.
+    pub fn status(self) -> u8
+        ensures { result ≡ status_of self }
+    {
+        match self {
+            Why::Fine => 0,
+            Why::Usage => 1,
+            Why::BadScript { line: _ } => 2,
+            Why::NoMemory => 3,
+            Why::ReadFault => 4,
+            Why::WriteFault => 5,
+        }
+    }
+}
+
+impl fmt::Display for Why {
+    fn fmt<W: fmt::Write>(&self, f: &mut fmt::Formatter<W>) -> fmt::Result {
+        match self {
+            Why::Fine => f.write_str("Fine"),
+            Why::Usage => f.write_str("Usage"),
+            Why::BadScript { line } => write!(f, "BadScript {line}"),
+            Why::NoMemory => f.write_str("NoMemory"),
+            Why::ReadFault => f.write_str("ReadFault"),
+            Why::WriteFault => f.write_str("WriteFault"),
+        }
+    }
+}
