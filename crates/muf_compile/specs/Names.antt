@@ -1,25 +1,20 @@
 -- The words that mean something in every program.
-use Rattle.std.specs.Prelude.{ℕ, if◌then◌else◌, List, [], ◌∷◌, Option, Some, None, map, find, codes}
+use Rattle.std.specs.Prelude.{ℕ, Bool, if◌then◌else◌, List, Option, Some, None, map, find, codes}
 use Rattle.std.specs.Str.{bytes_eq}
 use Rattle.std.specs.Char.{to_ascii_lowercase}
 use Rattle.muf_model.specs.declared.prims.Primitive.{Primitive}
-use Rattle.muf_model.specs.declared.prims.Primitive.TheVariants.{Pop, Dup, DupTrue, Swap, Over, Rot, Rotate, Pick, Put, Nip, Tuck, DupN, LDup, PopN, Reverse, Depth, OpenMark, CloseMark, Fetch, Store, IsInt, IsString, IsDbref, IsArray, IsDictionary, IsAddress, IsLock, Execute, Abort, Add, Subtract, Multiply, Divide, Modulo, Increment, Decrement, Abs, Sign, BitOr, BitAnd, BitXor, BitShift, Equal, Unequal, Less, Greater, LessEqual, GreaterEqual, Not, And, Or, Xor, ToInt, ToDbref, DbCmp, StrCat, StrCmp, StringCmp, StrNCmp, StrLen, StrCut, MidStr, InStr, RInStr, InString, RInString, Explode, Split, RSplit, Subst, ToUpper, ToLower, StripLead, StripTail, AToI, IntToStr, CharToInt, IntToChar, ArrayMake, ArrayMakeDict, ArrayCount, ArrayGetItem, ArraySetItem, ArrayInsertItem, ArrayAppendItem, ArrayDelItem, ArrayFirst, ArrayNext, ArrayKeys, ArrayVals, ArrayExplode, ArrayJoin, Name, Owner, Location, Contents, Exits, Next, IsOk, IsPlayer, IsThing, IsRoom, IsExit, IsProgram, Match, PMatch, MoveTo, SetName, Set, HasFlag, MLevel, GetLink, SetLink, NewRoom, NewObject, NewExit, Recycle, SetOwn, Controls, GetLockStr, SetLockStr, ParseLock, UnparseLock, TestLock, UnparseObj, DbTop, GetProp, GetPropStr, GetPropVal, SetProp, AddProp, RemoveProp, NextProp, IsPropDir, EnvProp, EnvPropStr, ParseMpi, Notify, NotifyExclude, IsAwake, Online, ConCount, ConDbref, Descriptors, Descr, ConBoot, Call, Fork, Sleep, Read, Kill, Pid, IsPid, Queue, Mode, SetMode, Preempt, Foreground, Background, SysTime, Random, EventSend, EventWait, EventCount, Prog, Trig, Caller, Cmd}
-use Rattle.muf_model.specs.Prims.{name_of}
+use Rattle.muf_model.specs.Prims.{name_of, primitives}
 use Rattle.muf_model.specs.declared.code.VarId.{VarId}
 use Rattle.muf_compile.specs.declared.control.Control.{Control}
 use Rattle.muf_compile.specs.declared.control.Control.TheVariants as control
 
--- every primitive
-unfoldable pub all : List Primitive
-all = Pop ∷ Dup ∷ DupTrue ∷ Swap ∷ Over ∷ Rot ∷ Rotate ∷ Pick ∷ Put ∷ Nip ∷ Tuck ∷ DupN ∷ LDup ∷ PopN ∷ Reverse ∷ Depth ∷ OpenMark ∷ CloseMark ∷ Fetch ∷ Store ∷ IsInt ∷ IsString ∷ IsDbref ∷ IsArray ∷ IsDictionary ∷ IsAddress ∷ IsLock ∷ Execute ∷ Abort ∷ Add ∷ Subtract ∷ Multiply ∷ Divide ∷ Modulo ∷ Increment ∷ Decrement ∷ Abs ∷ Sign ∷ BitOr ∷ BitAnd ∷ BitXor ∷ BitShift ∷ Equal ∷ Unequal ∷ Less ∷ Greater ∷ LessEqual ∷ GreaterEqual ∷ Not ∷ And ∷ Or ∷ Xor ∷ ToInt ∷ ToDbref ∷ DbCmp ∷ StrCat ∷ StrCmp ∷ StringCmp ∷ StrNCmp ∷ StrLen ∷ StrCut ∷ MidStr ∷ InStr ∷ RInStr ∷ InString ∷ RInString ∷ Explode ∷ Split ∷ RSplit ∷ Subst ∷ ToUpper ∷ ToLower ∷ StripLead ∷ StripTail ∷ AToI ∷ IntToStr ∷ CharToInt ∷ IntToChar ∷ ArrayMake ∷ ArrayMakeDict ∷ ArrayCount ∷ ArrayGetItem ∷ ArraySetItem ∷ ArrayInsertItem ∷ ArrayAppendItem ∷ ArrayDelItem ∷ ArrayFirst ∷ ArrayNext ∷ ArrayKeys ∷ ArrayVals ∷ ArrayExplode ∷ ArrayJoin ∷ Name ∷ Owner ∷ Location ∷ Contents ∷ Exits ∷ Next ∷ IsOk ∷ IsPlayer ∷ IsThing ∷ IsRoom ∷ IsExit ∷ IsProgram ∷ Match ∷ PMatch ∷ MoveTo ∷ SetName ∷ Set ∷ HasFlag ∷ MLevel ∷ GetLink ∷ SetLink ∷ NewRoom ∷ NewObject ∷ NewExit ∷ Recycle ∷ SetOwn ∷ Controls ∷ GetLockStr ∷ SetLockStr ∷ ParseLock ∷ UnparseLock ∷ TestLock ∷ UnparseObj ∷ DbTop ∷ GetProp ∷ GetPropStr ∷ GetPropVal ∷ SetProp ∷ AddProp ∷ RemoveProp ∷ NextProp ∷ IsPropDir ∷ EnvProp ∷ EnvPropStr ∷ ParseMpi ∷ Notify ∷ NotifyExclude ∷ IsAwake ∷ Online ∷ ConCount ∷ ConDbref ∷ Descriptors ∷ Descr ∷ ConBoot ∷ Call ∷ Fork ∷ Sleep ∷ Read ∷ Kill ∷ Pid ∷ IsPid ∷ Queue ∷ Mode ∷ SetMode ∷ Preempt ∷ Foreground ∷ Background ∷ SysTime ∷ Random ∷ EventSend ∷ EventWait ∷ EventCount ∷ Prog ∷ Trig ∷ Caller ∷ Cmd ∷ []
+-- whether a word is the name of a primitive, in any case
+abbrev pub is_named : List ℕ → Primitive → Bool
+is_named word p = bytes_eq (map to_ascii_lowercase (name_of p)) (map to_ascii_lowercase word)
 
--- the name of a primitive, in lower case
-abbrev pub lower_name : Primitive → List ℕ
-lower_name p = map to_ascii_lowercase (name_of p)
-
--- the primitive that a word in lower case names
+-- the primitive that a word names
 unfoldable pub primitive_of : List ℕ → Option Primitive
-primitive_of word = find (λ p. bytes_eq (lower_name p) word) all
+primitive_of word = find (is_named word) primitives
 
 -- the first of two answers
 abbrev pub or_else : {A : Type 0} → Option A → Option A → Option A

@@ -1,7 +1,7 @@
 // The primitives, by their names.
 ghost use Rattle.std.specs.Prelude.{◌≡◌, find};
-ghost use Rattle.std.specs.Str.{bytes_eq};
-ghost use Rattle.muf_compile.specs.Names.{all, lower_name, primitive_of};
+ghost use Rattle.muf_model.specs.Prims.{primitives};
+ghost use Rattle.muf_compile.specs.Names.{is_named, primitive_of};
 
 use muf_model::Primitive;
 
@@ -176,203 +176,34 @@ static ALL: [Primitive; 168] = [
     Primitive::Cmd,
 ];
 
-// The name of a primitive, in lower case.
-fn name_of(primitive: Primitive) -> &'static [u8]
-    ensures { result.now ≡ lower_name primitive }
-{
-    match primitive {
-        Primitive::Pop => b"pop",
-        Primitive::Dup => b"dup",
-        Primitive::DupTrue => b"?dup",
-        Primitive::Swap => b"swap",
-        Primitive::Over => b"over",
-        Primitive::Rot => b"rot",
-        Primitive::Rotate => b"rotate",
-        Primitive::Pick => b"pick",
-        Primitive::Put => b"put",
-        Primitive::Nip => b"nip",
-        Primitive::Tuck => b"tuck",
-        Primitive::DupN => b"dupn",
-        Primitive::LDup => b"ldup",
-        Primitive::PopN => b"popn",
-        Primitive::Reverse => b"reverse",
-        Primitive::Depth => b"depth",
-        Primitive::OpenMark => b"{",
-        Primitive::CloseMark => b"}",
-        Primitive::Fetch => b"@",
-        Primitive::Store => b"!",
-        Primitive::IsInt => b"int?",
-        Primitive::IsString => b"string?",
-        Primitive::IsDbref => b"dbref?",
-        Primitive::IsArray => b"array?",
-        Primitive::IsDictionary => b"dictionary?",
-        Primitive::IsAddress => b"address?",
-        Primitive::IsLock => b"lock?",
-        Primitive::Execute => b"execute",
-        Primitive::Abort => b"abort",
-        Primitive::Add => b"+",
-        Primitive::Subtract => b"-",
-        Primitive::Multiply => b"*",
-        Primitive::Divide => b"/",
-        Primitive::Modulo => b"%",
-        Primitive::Increment => b"++",
-        Primitive::Decrement => b"--",
-        Primitive::Abs => b"abs",
-        Primitive::Sign => b"sign",
-        Primitive::BitOr => b"bitor",
-        Primitive::BitAnd => b"bitand",
-        Primitive::BitXor => b"bitxor",
-        Primitive::BitShift => b"bitshift",
-        Primitive::Equal => b"=",
-        Primitive::Unequal => b"!=",
-        Primitive::Less => b"<",
-        Primitive::Greater => b">",
-        Primitive::LessEqual => b"<=",
-        Primitive::GreaterEqual => b">=",
-        Primitive::Not => b"not",
-        Primitive::And => b"and",
-        Primitive::Or => b"or",
-        Primitive::Xor => b"xor",
-        Primitive::ToInt => b"int",
-        Primitive::ToDbref => b"dbref",
-        Primitive::DbCmp => b"dbcmp",
-        Primitive::StrCat => b"strcat",
-        Primitive::StrCmp => b"strcmp",
-        Primitive::StringCmp => b"stringcmp",
-        Primitive::StrNCmp => b"strncmp",
-        Primitive::StrLen => b"strlen",
-        Primitive::StrCut => b"strcut",
-        Primitive::MidStr => b"midstr",
-        Primitive::InStr => b"instr",
-        Primitive::RInStr => b"rinstr",
-        Primitive::InString => b"instring",
-        Primitive::RInString => b"rinstring",
-        Primitive::Explode => b"explode",
-        Primitive::Split => b"split",
-        Primitive::RSplit => b"rsplit",
-        Primitive::Subst => b"subst",
-        Primitive::ToUpper => b"toupper",
-        Primitive::ToLower => b"tolower",
-        Primitive::StripLead => b"striplead",
-        Primitive::StripTail => b"striptail",
-        Primitive::AToI => b"atoi",
-        Primitive::IntToStr => b"intostr",
-        Primitive::CharToInt => b"ctoi",
-        Primitive::IntToChar => b"itoc",
-        Primitive::ArrayMake => b"array_make",
-        Primitive::ArrayMakeDict => b"array_make_dict",
-        Primitive::ArrayCount => b"array_count",
-        Primitive::ArrayGetItem => b"array_getitem",
-        Primitive::ArraySetItem => b"array_setitem",
-        Primitive::ArrayInsertItem => b"array_insertitem",
-        Primitive::ArrayAppendItem => b"array_appenditem",
-        Primitive::ArrayDelItem => b"array_delitem",
-        Primitive::ArrayFirst => b"array_first",
-        Primitive::ArrayNext => b"array_next",
-        Primitive::ArrayKeys => b"array_keys",
-        Primitive::ArrayVals => b"array_vals",
-        Primitive::ArrayExplode => b"array_explode",
-        Primitive::ArrayJoin => b"array_join",
-        Primitive::Name => b"name",
-        Primitive::Owner => b"owner",
-        Primitive::Location => b"location",
-        Primitive::Contents => b"contents",
-        Primitive::Exits => b"exits",
-        Primitive::Next => b"next",
-        Primitive::IsOk => b"ok?",
-        Primitive::IsPlayer => b"player?",
-        Primitive::IsThing => b"thing?",
-        Primitive::IsRoom => b"room?",
-        Primitive::IsExit => b"exit?",
-        Primitive::IsProgram => b"program?",
-        Primitive::Match => b"match",
-        Primitive::PMatch => b"pmatch",
-        Primitive::MoveTo => b"moveto",
-        Primitive::SetName => b"setname",
-        Primitive::Set => b"set",
-        Primitive::HasFlag => b"flag?",
-        Primitive::MLevel => b"mlevel",
-        Primitive::GetLink => b"getlink",
-        Primitive::SetLink => b"setlink",
-        Primitive::NewRoom => b"newroom",
-        Primitive::NewObject => b"newobject",
-        Primitive::NewExit => b"newexit",
-        Primitive::Recycle => b"recycle",
-        Primitive::SetOwn => b"setown",
-        Primitive::Controls => b"controls",
-        Primitive::GetLockStr => b"getlockstr",
-        Primitive::SetLockStr => b"setlockstr",
-        Primitive::ParseLock => b"parselock",
-        Primitive::UnparseLock => b"unparselock",
-        Primitive::TestLock => b"testlock",
-        Primitive::UnparseObj => b"unparseobj",
-        Primitive::DbTop => b"dbtop",
-        Primitive::GetProp => b"getprop",
-        Primitive::GetPropStr => b"getpropstr",
-        Primitive::GetPropVal => b"getpropval",
-        Primitive::SetProp => b"setprop",
-        Primitive::AddProp => b"addprop",
-        Primitive::RemoveProp => b"remove_prop",
-        Primitive::NextProp => b"nextprop",
-        Primitive::IsPropDir => b"propdir?",
-        Primitive::EnvProp => b"envprop",
-        Primitive::EnvPropStr => b"envpropstr",
-        Primitive::ParseMpi => b"parsempi",
-        Primitive::Notify => b"notify",
-        Primitive::NotifyExclude => b"notify_exclude",
-        Primitive::IsAwake => b"awake?",
-        Primitive::Online => b"online",
-        Primitive::ConCount => b"concount",
-        Primitive::ConDbref => b"condbref",
-        Primitive::Descriptors => b"descriptors",
-        Primitive::Descr => b"descr",
-        Primitive::ConBoot => b"conboot",
-        Primitive::Call => b"call",
-        Primitive::Fork => b"fork",
-        Primitive::Sleep => b"sleep",
-        Primitive::Read => b"read",
-        Primitive::Kill => b"kill",
-        Primitive::Pid => b"pid",
-        Primitive::IsPid => b"ispid?",
-        Primitive::Queue => b"queue",
-        Primitive::Mode => b"mode",
-        Primitive::SetMode => b"setmode",
-        Primitive::Preempt => b"preempt",
-        Primitive::Foreground => b"foreground",
-        Primitive::Background => b"background",
-        Primitive::SysTime => b"systime",
-        Primitive::Random => b"random",
-        Primitive::EventSend => b"event_send",
-        Primitive::EventWait => b"event_wait",
-        Primitive::EventCount => b"event_count",
-        Primitive::Prog => b"prog",
-        Primitive::Trig => b"trig",
-        Primitive::Caller => b"caller",
-        Primitive::Cmd => b"cmd",
-    }
-}
-
 // Every primitive.
-#[tactic(auto, unfolding(crate::specs::Names::all))]
+#[tactic(auto, unfolding(muf_model::specs::Prims::primitives))]
 fn all() -> &'static [Primitive]
-    ensures { result.now ≡ all }
+    ensures { result.now ≡ primitives }
 {
     &ALL
 }
 
+// Whether a word is the name of a primitive, in any case.
+fn is_named(primitive: Primitive, word: &[u8]) -> bool
+    ensures { result ≡ is_named word.now primitive }
+{
+    primitive.name().eq_ignore_ascii_case(word)
+}
+
 // The first of these that has the name.
 fn named_in(primitives: &[Primitive], name: &[u8]) -> Option<Primitive>
-    ensures { result ≡ find (λ p. bytes_eq (lower_name p) name.now) primitives.now }
+    ensures { result ≡ find (is_named name.now) primitives.now }
 {
     for primitive in primitives {
-        if name_of(*primitive) == name {
+        if is_named(*primitive, name) {
             return Some(*primitive);
         }
     }
     None
 }
 
-/// The primitive that a word in lower case names.
+/// The primitive that a word names, in any case.
 #[tactic(auto, unfolding(crate::specs::Names::primitive_of))]
 pub(crate) fn primitive_of(word: &[u8]) -> Option<Primitive>
     ensures { result ≡ primitive_of word.now }
