@@ -1,0 +1,313 @@
+-- The pass over the words of a source goes as its tree grows.
+use Rattle.std.proofs.Common.{◌≡◌, ℕ, zero, suc, ◌+◌, ◌<◌, ◌≤◌, List, [], ◌∷◌, length, Bool, true, false, cond, refl, sym, ap, subst, ◌∙◌, arith, length-append, drop, get_or, add-one, leb-true}
+use Rattle.std.specs.Prelude.{Result, Ok, Err, nat_le}
+use Rattle.std.proofs.Math.Seq.{drop-cons}
+use Rattle.muf_model.specs.declared.code.Placed.{Placed}
+use Rattle.muf_model.specs.declared.code.CodeWord.{CodeWord}
+use Rattle.muf_model.specs.declared.code.Code.{Code}
+use Rattle.muf_model.specs.declared.code.Offer.{Offer}
+use Rattle.muf_model.specs.Tree.{if_word, try_word, begin_word, for_word, each_word, Definition, Tree}
+use Rattle.muf_model.specs.Stands.{WordsStand, TreeStands}
+use Rattle.muf_token.specs.declared.token.Token.{Token}
+use Rattle.muf_compile.specs.declared.act.Opening.TheVariants as opening
+use Rattle.muf_compile.specs.declared.act.Act.{Act}
+use Rattle.muf_compile.specs.declared.act.Act.TheVariants.{Wait, Title, Item, Jump, Open, Else, Then, Catch, EndCatch, Repeat, Until, End, Offer as offer_act}
+use Rattle.muf_compile.specs.declared.names.Mode.{Mode}
+use Rattle.muf_compile.specs.declared.names.Mode.TheVariants as mode
+use Rattle.muf_compile.specs.declared.hole.Pending.{Pending}
+use Rattle.muf_compile.specs.declared.fault.CompileKind.TheVariants.{NoWord, TooLong}
+use Rattle.muf_compile.specs.declared.fault.Refusal.{Refusal}
+use Rattle.muf_compile.specs.declared.fault.CompileFault.{CompileFault}
+use Rattle.muf_compile.specs.declared.fault.CompileFault.TheVariants.{Refused, NoMemory}
+use Rattle.muf_compile.specs.Acts.{cost_of}
+use Rattle.muf_compile.specs.Faults.{refuse, and_then, Leads, Answers}
+use Rattle.muf_compile.specs.Reading.{Known, Read, read}
+use Rattle.muf_compile.specs.Growth as growth
+use Rattle.muf_compile.specs.Growth.{Unfinished, first, second, turning, Growth, Grown, grow, counted, units_most, Draft, step, tree_from, finished, finished_in, empty_draft}
+use Rattle.muf_compile.specs.Built.{Built}
+use Rattle.muf_compile.specs.Build as building
+use Rattle.muf_compile.specs.Build.{Made, build}
+use Rattle.muf_compile.specs.Fits.{OpensFit, outermost, in_first, in_second, in_turn, BuiltFits, MadeAlike, IsCode}
+use Rattle.muf_compile.specs.Compiled.{Compiled, compiled_step, compiled_end, whole_code, nothing_compiled}
+use Rattle.muf_compile.proofs.Growing.{growing}
+
+-- what is compiled so far stands for a draft
+pub record CompiledFits (c : Compiled) (d : Draft) : Type 0 where
+  pub known : c.known ≡ d.known
+  pub built : BuiltFits c.built d.growth
+  pub units : c.units ≡ d.units
+
+-- a draft has no more words than instructions, and of these no more than a program may have
+pub record IsSmall (d : Draft) : Type 0 where
+  pub words : length d.growth.words ≤ d.units
+  pub units : d.units ≤ units_most
+
+abbrev StepAlike : Result Compiled Refusal → Result Draft Refusal → Type 0
+StepAlike (Ok c) (Ok d) = CompiledFits c d
+StepAlike (Err r) (Err s) = r ≡ s
+StepAlike (Ok c) (Err s) = ⊥
+StepAlike (Err r) (Ok d) = ⊥
+
+as_many : (code : List Placed) (ws : List CodeWord) (ds : List Definition) → WordsStand code ws ds → length ws ≡ length ds
+as_many code [] [] h = refl
+as_many code (w ∷ ws) (d ∷ ds) h = ap suc (as_many code ws ds h.1)
+as_many code [] (d ∷ ds) h = absurd h
+as_many code (w ∷ ws) [] h = absurd h
+
+after_count : (k : Known) (b : Built) (g : Growth) → BuiltFits b g → (n : Result ℕ Refusal) → StepAlike (and_then n (λ m. Ok (record { known = k; built = b; units = m }))) (and_then n (λ m. Ok (record { known = k; growth = g; units = m })))
+after_count k b g f (Ok n) = record { known = refl; built = f; units = refl }
+after_count k b g f (Err r) = refl
+
+after_build : (k : Known) (n : Result ℕ Refusal) (m : Made) (g : Grown) → MadeAlike m g → StepAlike (and_then m (λ b. and_then n (λ m. Ok (record { known = k; built = b; units = m })))) (and_then g (λ h. and_then n (λ m. Ok (record { known = k; growth = h; units = m }))))
+after_build k n (Ok b) (Ok g) h = after_count k b g h n
+after_build k n (Err r) (Err s) h = h
+after_build k n (Ok b) (Err s) h = absurd h
+after_build k n (Err r) (Ok g) h = absurd h
+
+after_read : (b : Built) (g : Growth) (units : ℕ) → BuiltFits b g → (r : Read)
+    → StepAlike
+    (and_then r (λ p. and_then (build p.1.line p.1.act b) (λ b. and_then (counted p.1.line (cost_of p.1.act) units) (λ n. Ok (record { known = p.0; built = b; units = n })))))
+    (and_then r (λ p. and_then (grow p.1.line p.1.act g) (λ g. and_then (counted p.1.line (cost_of p.1.act) units) (λ n. Ok (record { known = p.0; growth = g; units = n })))))
+after_read b g units f (Ok p) = after_build p.0 (counted p.1.line (cost_of p.1.act) units) (build p.1.line p.1.act b) (grow p.1.line p.1.act g) (growing p.1.line p.1.act b g f)
+after_read b g units f (Err r) = refl
+
+-- a word more
+step_alike : (t : Token) (c : Compiled) (d : Draft) → CompiledFits c d → StepAlike (compiled_step t c) (step t d)
+step_alike t c d f =
+    let same : length c.built.words ≡ length d.growth.words = as_many c.built.code c.built.words d.growth.words f.built.words in
+    rw (same, f.known, f.units) (after_read c.built d.growth d.units f.built (read (length d.growth.words) t d.known))
+
+is_refused : (t : Result Tree Refusal) (r : Refusal) → t ≡ Err r → IsCode t (Err (Refused r))
+is_refused (Ok tree) r h = h
+is_refused (Err s) r h = h
+
+is_wanting : (t : Result Tree Refusal) → IsCode t (Err NoMemory)
+is_wanting (Ok tree) = tt
+is_wanting (Err r) = tt
+
+-- how many words there are after an act
+abbrev FewAfter : ℕ → Grown → Type 0
+FewAfter n (Ok g) = length g.words ≤ n
+FewAfter n (Err r) = Unit {0}
+
+few_else : (line : ℕ) (g : Growth) (us : List Unfinished) → FewAfter (length g.words + 1) (growth.else_part line g us)
+few_else line g [] = tt
+few_else line g (first if_word l h ∷ us) = omega arith
+few_else line g (first try_word l h ∷ us) = tt
+few_else line g (second if_word l x m h ∷ us) = tt
+few_else line g (second try_word l x m h ∷ us) = tt
+few_else line g (turning begin_word l h ∷ us) = tt
+few_else line g (turning for_word l h ∷ us) = tt
+few_else line g (turning each_word l h ∷ us) = tt
+
+few_catch : (line : ℕ) (g : Growth) (us : List Unfinished) → FewAfter (length g.words + 1) (growth.catch_part line g us)
+few_catch line g [] = tt
+few_catch line g (first if_word l h ∷ us) = tt
+few_catch line g (first try_word l h ∷ us) = omega arith
+few_catch line g (second if_word l x m h ∷ us) = tt
+few_catch line g (second try_word l x m h ∷ us) = tt
+few_catch line g (turning begin_word l h ∷ us) = tt
+few_catch line g (turning for_word l h ∷ us) = tt
+few_catch line g (turning each_word l h ∷ us) = tt
+
+few_then : (line : ℕ) (g : Growth) (us : List Unfinished) → FewAfter (length g.words + 0) (growth.then_part line g us)
+few_then line g [] = tt
+few_then line g (first if_word l h ∷ us) = omega arith
+few_then line g (first try_word l h ∷ us) = tt
+few_then line g (second if_word l x m h ∷ us) = omega arith
+few_then line g (second try_word l x m h ∷ us) = tt
+few_then line g (turning begin_word l h ∷ us) = tt
+few_then line g (turning for_word l h ∷ us) = tt
+few_then line g (turning each_word l h ∷ us) = tt
+
+few_end_catch : (line : ℕ) (g : Growth) (us : List Unfinished) → FewAfter (length g.words + 0) (growth.end_catch_part line g us)
+few_end_catch line g [] = tt
+few_end_catch line g (first if_word l h ∷ us) = tt
+few_end_catch line g (first try_word l h ∷ us) = tt
+few_end_catch line g (second if_word l x m h ∷ us) = tt
+few_end_catch line g (second try_word l x m h ∷ us) = omega arith
+few_end_catch line g (turning begin_word l h ∷ us) = tt
+few_end_catch line g (turning for_word l h ∷ us) = tt
+few_end_catch line g (turning each_word l h ∷ us) = tt
+
+few_repeat : (line : ℕ) (g : Growth) (us : List Unfinished) → FewAfter (length g.words + 1) (growth.repeat_part line g us)
+few_repeat line g [] = tt
+few_repeat line g (first if_word l h ∷ us) = tt
+few_repeat line g (first try_word l h ∷ us) = tt
+few_repeat line g (second if_word l x m h ∷ us) = tt
+few_repeat line g (second try_word l x m h ∷ us) = tt
+few_repeat line g (turning begin_word l h ∷ us) = omega arith
+few_repeat line g (turning for_word l h ∷ us) = omega arith
+few_repeat line g (turning each_word l h ∷ us) = omega arith
+
+few_until : (line : ℕ) (g : Growth) (us : List Unfinished) → FewAfter (length g.words + 1) (growth.until_part line g us)
+few_until line g [] = tt
+few_until line g (first if_word l h ∷ us) = tt
+few_until line g (first try_word l h ∷ us) = tt
+few_until line g (second if_word l x m h ∷ us) = tt
+few_until line g (second try_word l x m h ∷ us) = tt
+few_until line g (turning begin_word l h ∷ us) = omega arith
+few_until line g (turning for_word l h ∷ us) = tt
+few_until line g (turning each_word l h ∷ us) = tt
+
+few_end : (line n : ℕ) (g : Growth) (us : List Unfinished) → FewAfter (length g.words + 1) (growth.end_part line n g us)
+few_end line n g [] = omega (arith, length-append {A = Definition})
+few_end line n g (u ∷ us) = tt
+
+as_many_offered : (n : ℕ) (o : Offer) (ds : List Definition) → length (growth.offered_in n o ds) ≡ length ds
+as_many_offered n o [] = refl
+as_many_offered zero o (d ∷ ds) = refl
+as_many_offered (suc n) o (d ∷ ds) = ap suc (as_many_offered n o ds)
+
+few_cond : (b : Bool) (n : ℕ) (x y : Grown) → FewAfter n x → FewAfter n y → FewAfter n (cond b x y)
+few_cond true n x y h k = h
+few_cond false n x y h k = k
+
+few : (line : ℕ) (a : Act) (g : Growth) → FewAfter (length g.words + cost_of a) (grow line a g)
+few line Wait g = omega arith
+few line (Title name) g = omega arith
+few line (Item w) g = omega arith
+few line (Jump w) g = few_cond (growth.in_loop g.around) _ _ _ (omega arith) tt
+few line (Open opening.If) g = omega arith
+few line (Open opening.Try) g = omega arith
+few line (Open opening.Begin) g = omega arith
+few line (Open opening.For) g = omega arith
+few line (Open opening.Each) g = omega arith
+few line Else g = few_else line g g.around
+few line Then g = few_then line g g.around
+few line Catch g = few_catch line g g.around
+few line EndCatch g = few_end_catch line g g.around
+few line Repeat g = few_repeat line g g.around
+few line Until g = few_until line g g.around
+few line (End n) g = few_end line n g g.around
+few line (offer_act n o) g = let e = as_many_offered n o g.words in omega arith
+
+abbrev SmallAfter : Result Draft Refusal → Type 0
+SmallAfter (Ok d) = IsSmall d
+SmallAfter (Err r) = Unit {0}
+
+small_counted : (k : Known) (g : Growth) (line units more : ℕ) → length g.words ≤ units + more → (b : Bool) → (b ≡ true → units + more ≤ units_most) → SmallAfter (and_then (cond b (Ok (units + more)) (refuse line TooLong)) (λ n. Ok (record { known = k; growth = g; units = n })))
+small_counted k g line units more h true l = record { words = h; units = l refl }
+small_counted k g line units more h false l = tt
+
+small_grown : (k : Known) (line units more words : ℕ) → words ≤ units → (g : Grown) → FewAfter (words + more) g → SmallAfter (and_then g (λ h. and_then (counted line more units) (λ n. Ok (record { known = k; growth = h; units = n }))))
+small_grown k line units more words h (Ok g) f = small_counted k g line units more (omega arith) (nat_le (units + more) units_most) (λ e. leb-true _ _ e)
+small_grown k line units more words h (Err r) f = tt
+
+small_read : (g : Growth) (units : ℕ) → length g.words ≤ units → (r : Read) → SmallAfter (and_then r (λ p. and_then (grow p.1.line p.1.act g) (λ h. and_then (counted p.1.line (cost_of p.1.act) units) (λ n. Ok (record { known = p.0; growth = h; units = n })))))
+small_read g units h (Ok p) = small_grown p.0 p.1.line units (cost_of p.1.act) (length g.words) h (grow p.1.line p.1.act g) (few p.1.line p.1.act g)
+small_read g units h (Err r) = tt
+
+small_step : (t : Token) (d : Draft) → IsSmall d → SmallAfter (step t d)
+small_step t d s = small_read d.growth d.units s.words (read (length d.growth.words) t d.known)
+
+-- nothing is compiled
+pub starts : CompiledFits nothing_compiled empty_draft × IsSmall empty_draft
+starts = (
+  record { known = refl; built = record { start = 0; items = refl; within = omega arith; opens = outermost; words = tt; title = refl }; units = refl },
+  record { words = omega arith; units = omega arith },
+)
+
+-- one word more
+pub takes : (t : Token) (ts : List Token) (last : ℕ) (c new : Compiled) (d : Draft) → CompiledFits c d → IsSmall d → compiled_step t c ≡ Ok new → (e : Draft) × CompiledFits new e × IsSmall e × (tree_from last (t ∷ ts) d ≡ tree_from t.line ts e)
+takes t ts last c new d f s e = from_alike (step t d) (subst (λ r. StepAlike r (step t d)) e (step_alike t c d f)) (small_step t d s)
+  where
+    from_alike : (r : Result Draft Refusal) → StepAlike (Ok new) r → SmallAfter r → (e : Draft) × CompiledFits new e × IsSmall e × (and_then r (tree_from t.line ts) ≡ tree_from t.line ts e)
+    from_alike (Ok q) h k = (q, h, k, refl)
+    from_alike (Err r) h k = absurd h
+
+-- a word that is refused
+refuses : (t : Token) (ts : List Token) (last : ℕ) (c : Compiled) (r : Refusal) (d : Draft) → CompiledFits c d → compiled_step t c ≡ Err r → tree_from last (t ∷ ts) d ≡ Err r
+refuses t ts last c r d f e = from_alike (step t d) (subst (λ m. StepAlike m (step t d)) e (step_alike t c d f))
+  where
+    from_alike : (m : Result Draft Refusal) → StepAlike (Err r) m → and_then m (tree_from t.line ts) ≡ Err r
+    from_alike (Ok q) h = absurd h
+    from_alike (Err s) h = ap (λ x. Err x) (sym h)
+
+pub take_refused : (t : Token) (ts : List Token) (last : ℕ) (c new : Compiled) (fault : CompileFault) (d : Draft) → CompiledFits c d → Leads {B = Unit {0}} (compiled_step t c) (Err fault) new → IsCode (tree_from last (t ∷ ts) d) (Err fault)
+take_refused t ts last c new (Refused r) d f h = is_refused (tree_from last (t ∷ ts) d) r (refuses t ts last c r d f h)
+take_refused t ts last c new NoMemory d f h = is_wanting (tree_from last (t ∷ ts) d)
+
+kinds_alike : {code : List Placed} {begin : ℕ} {us : List Unfinished} {os : List Pending} {start : ℕ} → OpensFit code begin us os start → building.misfit NoWord os ≡ growth.misfit NoWord us
+kinds_alike outermost = refl
+kinds_alike (in_first {k = if_word} at h le u o) = refl
+kinds_alike (in_first {k = try_word} at h le u o) = refl
+kinds_alike (in_second {k = if_word} at h le lt f c u o) = refl
+kinds_alike (in_second {k = try_word} at h le lt f c u o) = refl
+kinds_alike (in_turn {k = begin_word} at h le u o) = refl
+kinds_alike (in_turn {k = for_word} at h le u o) = refl
+kinds_alike (in_turn {k = each_word} at h le u o) = refl
+
+-- the code at the end stands for the tree, or is refused as it is
+abbrev EndAlike : Result Code Refusal → Result Tree Refusal → Type 0
+EndAlike (Ok code) (Ok tree) = TreeStands code tree
+EndAlike (Err r) (Err s) = r ≡ s
+EndAlike (Ok code) (Err s) = ⊥
+EndAlike (Err r) (Ok tree) = ⊥
+
+whole_alike : (last n : ℕ) (code : List Placed) (ws : List CodeWord) (ds : List Definition) → WordsStand code ws ds → EndAlike (whole_code last n code ws) (growth.whole_tree last n ds)
+whole_alike last n code [] [] h = refl
+whole_alike last n code (w ∷ ws) (d ∷ ds) h = record { variables = refl; words = h }
+whole_alike last n code [] (d ∷ ds) h = absurd h
+whole_alike last n code (w ∷ ws) [] h = absurd h
+
+end_alike : (m : Mode) (last : ℕ) (c : Compiled) (d : Draft) → CompiledFits c d → EndAlike (compiled_end m last c) (finished_in m last d)
+end_alike mode.Outside last c d f = rw f.known (whole_alike last d.known.variables c.built.code c.built.words d.growth.words f.built.words)
+end_alike mode.Inside last c d f = ap (λ k. record { line = last; kind = k }) (kinds_alike f.built.opens)
+end_alike (mode.Naming w) last c d f = refl
+end_alike (mode.Heading at) last c d f = refl
+end_alike (mode.Results at) last c d f = refl
+
+-- the end of the words
+pub ends : (last : ℕ) (c : Compiled) (d : Draft) (result : Result Code CompileFault) → CompiledFits c d → Answers (compiled_end c.known.mode last c) result → IsCode (finished last d) result
+ends last c d result f a = answered (compiled_end c.known.mode last c) (finished last d) result (subst (λ (k : Known). EndAlike (compiled_end c.known.mode last c) (finished_in k.mode last d)) f.known (end_alike c.known.mode last c d f)) a
+  where
+    answered : (s : Result Code Refusal) (t : Result Tree Refusal) (r : Result Code CompileFault) → EndAlike s t → Answers s r → IsCode t r
+    answered s t (Err NoMemory) h a = is_wanting t
+    answered (Ok code) (Ok tree) (Ok x) h a = let e : code ≡ x = cc in subst (λ y. TreeStands y tree) e h
+    answered (Ok code) (Ok tree) (Err (Refused r)) h a = cc
+    answered (Err s) (Err t) (Ok x) h a = cc
+    answered (Err s) (Err t) (Err (Refused r)) h a = let e : s ≡ r = cc in ap (λ x. Err x) (sym h ∙ e)
+    answered (Ok code) (Err t) r h a = absurd h
+    answered (Err s) (Ok tree) r h a = absurd h
+
+-- The same at a place of the words.
+module _ (items ts : List Token) (same : items ≡ ts) (n last : ℕ) (t : Token) (within : n < length items) (here : t ≡ get_or items n t) (d : Draft) (whole : Result Tree Refusal) (rest : whole ≡ tree_from last (drop n ts) d) where
+  at_place : whole ≡ tree_from last (t ∷ drop (n + 1) ts) d
+  at_place =
+      let inside : n < length ts = subst (λ l. n < length l) same within in
+      let first : get_or ts n t ≡ t = sym (here ∙ ap (λ l. get_or l n t) same) in
+      rest ∙ ap (λ r. tree_from last r d) (drop-cons ts n t inside ∙ ap (λ k. get_or ts n t ∷ drop k ts) (sym (add-one n)) ∙ ap (λ x. x ∷ drop (n + 1) ts) first)
+
+  pub takes_at : (c new : Compiled) → CompiledFits c d → IsSmall d → compiled_step t c ≡ Ok new → (e : Draft) × CompiledFits new e × IsSmall e × (whole ≡ tree_from t.line (drop (n + 1) ts) e)
+  takes_at c new f s b =
+      let g = takes t (drop (n + 1) ts) last c new d f s b in
+      (g.0, g.1, g.2, at_place ∙ g.3)
+
+  pub refused_at : (c new : Compiled) (fault : CompileFault) → CompiledFits c d → Leads {B = Unit {0}} (compiled_step t c) (Err fault) new → IsCode whole (Err fault)
+  refused_at c new fault f b = subst (λ w. IsCode w (Err fault)) (sym at_place) (take_refused t (drop (n + 1) ts) last c new fault d f b)
+
+drop-all : (ts : List Token) (n : ℕ) → length ts ≤ n → drop n ts ≡ []
+drop-all [] zero h = refl
+drop-all [] (suc n) h = refl
+drop-all (t ∷ ts) zero h = absurd (omega arith)
+drop-all (t ∷ ts) (suc n) h = drop-all ts n (omega arith)
+
+-- at the end of the words
+pub ends_at : (items ts : List Token) → items ≡ ts → (n last : ℕ) (c : Compiled) (d : Draft) (whole : Result Tree Refusal) (result : Result Code CompileFault) → length items ≤ n → CompiledFits c d → whole ≡ tree_from last (drop n ts) d → Answers (compiled_end c.known.mode last c) result → IsCode whole result
+ends_at items ts same n last c d whole result h f e a =
+    let past : length ts ≤ n = subst (λ l. length l ≤ n) same h in
+    subst (λ w. IsCode w result) (sym (e ∙ ap (λ r. tree_from last r d) (drop-all ts n past))) (ends last c d result f a)
+
+-- there are few words and instructions
+pub few_words : (c : Compiled) (d : Draft) → CompiledFits c d → IsSmall d → length c.built.words ≤ 65536
+unfolding units_most
+few_words c d f s =
+    let same : length c.built.words ≡ length d.growth.words = as_many c.built.code c.built.words d.growth.words f.built.words in
+    let w = s.words in
+    let u = s.units in
+    omega arith
+
+pub few_units : (c : Compiled) (d : Draft) → CompiledFits c d → IsSmall d → c.units ≤ 65536
+unfolding units_most
+few_units c d f s = let e = f.units in let u = s.units in omega arith

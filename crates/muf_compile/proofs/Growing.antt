@@ -1,0 +1,352 @@
+-- What each act adds to the instructions stands for what it adds to the tree.
+use Rattle.std.proofs.Common.{◌≡◌, ℕ, zero, suc, ◌+◌, ◌<◌, ◌≤◌, List, [], ◌∷◌, ◌++◌, length, Some, Bool, true, false, cond, refl, sym, ap, ◌∙◌, arith, length-append}
+use Rattle.std.specs.Prelude.{slice_get, slice_set}
+use Rattle.std.proofs.Math.ListN.{length-set}
+use Rattle.muf_model.specs.declared.code.Offer.{Offer}
+use Rattle.muf_model.specs.declared.code.Word.{Word}
+use Rattle.muf_model.specs.declared.code.Word.TheVariants.{NextIndex, NextPair}
+use Rattle.muf_model.specs.declared.code.Closer.{Closer}
+use Rattle.muf_model.specs.declared.code.Closer.TheVariants as closer
+use Rattle.muf_model.specs.declared.code.Instr.{Instr}
+use Rattle.muf_model.specs.declared.code.Instr.TheVariants.{Plain, Unset, Close, When}
+use Rattle.muf_model.specs.declared.code.Placed.{Placed}
+use Rattle.muf_model.specs.declared.code.CodeWord.{CodeWord}
+use Rattle.muf_model.specs.Tree.{Fork, if_word, try_word, Ring, begin_word, for_word, each_word, Block, stop, word, when, fork, ring, Definition}
+use Rattle.muf_model.specs.Stands.{Stands, IsAt, fork_instr, ring_instr, hop_instr, WordsStand, WordStands}
+use Rattle.muf_model.proofs.Standing.{joins, Extends, stands_kept, fork_kept, words_kept}
+use Rattle.muf_compile.specs.declared.act.Opening.{Opening}
+use Rattle.muf_compile.specs.declared.act.Opening.TheVariants as opening
+use Rattle.muf_compile.specs.declared.act.Act.{Act}
+use Rattle.muf_compile.specs.declared.act.Act.TheVariants.{Wait, Title, Item, Jump, Open, Else, Then, Catch, EndCatch, Repeat, Until, End, Offer as offer_act}
+use Rattle.muf_compile.specs.declared.hole.Pending.{Pending}
+use Rattle.muf_compile.specs.Growth as growth
+use Rattle.muf_compile.specs.Growth.{Unfinished, first, second, turning, Growth, Grown, grow, with_item, with_part}
+use Rattle.muf_compile.specs.Built.{Built}
+use Rattle.muf_compile.specs.Build as building
+use Rattle.muf_compile.specs.Build.{Made, build, emitted, with_code}
+use Rattle.muf_compile.specs.Fits.{From, OpensFit, outermost, in_first, in_second, in_turn, BuiltFits, MadeAlike, first_open, second_open, ring_open, hole}
+
+-- lists
+get_append : (xs ys : List Placed) (i : ℕ) (x : Placed) → slice_get xs i ≡ Some x → slice_get (xs ++ ys) i ≡ Some x
+get_append [] ys i x e = cc
+get_append (a ∷ xs) ys zero x e = e
+get_append (a ∷ xs) ys (suc i) x e = get_append xs ys i x e
+
+get_end : (xs : List Placed) (y : Placed) → slice_get (xs ++ y ∷ []) (length xs) ≡ Some y
+get_end [] y = refl
+get_end (a ∷ xs) y = get_end xs y
+
+get_set_same : (xs : List Placed) (i : ℕ) (x y : Placed) → slice_get xs i ≡ Some x → slice_get (slice_set xs i y) i ≡ Some y
+get_set_same [] i x y e = cc
+get_set_same (a ∷ xs) zero x y e = refl
+get_set_same (a ∷ xs) (suc i) x y e = get_set_same xs i x y e
+
+get_set_other : (xs : List Placed) (i j : ℕ) (x y : Placed) → (i ≡ j → ⊥) → slice_get xs j ≡ Some x → slice_get (slice_set xs i y) j ≡ Some x
+get_set_other [] i j x y n e = cc
+get_set_other (a ∷ xs) zero zero x y n e = absurd (n refl)
+get_set_other (a ∷ xs) (suc i) zero x y n e = e
+get_set_other (a ∷ xs) zero (suc j) x y n e = e
+get_set_other (a ∷ xs) (suc i) (suc j) x y n e = get_set_other xs i j x y (λ h. n (ap suc h)) e
+
+extends_append : (code more : List Placed) → Extends code (code ++ more)
+extends_append code more = record { kept = λ place line i n e. get_append code more place _ e }
+
+-- a write over an instruction whose target was not known
+extends_set : (code : List Placed) (at line : ℕ) (y : Placed) → IsAt code at line Unset → Extends code (slice_set code at y)
+extends_set code at line y u = record { kept = λ place row i n e. get_set_other code at place _ y (λ h. n (unset place row i h e)) e }
+  where
+    unset : (place row : ℕ) (i : Instr) → at ≡ place → IsAt code place row i → i ≡ Unset
+    unset place row i h e =
+        let p : Placed = record { line = row; instr = i } in
+        let q : Placed = record { line = line; instr = Unset } in
+        let g : Some p ≡ Some q = sym e ∙ ap (λ p. slice_get code p) (sym h) ∙ u in
+        let same : p ≡ q = cc in
+        ap (λ (x : Placed). x.instr) same
+
+extends_two : (a b c : List Placed) → Extends a b → Extends b c → Extends a c
+extends_two a b c x y = record { kept = λ place line i n e. y.kept place line i n (x.kept place line i n e) }
+
+module _ (code other : List Placed) (x : Extends code other) (begin : ℕ) where
+  -- what is open stays open in other code that keeps the open places below a bound
+  opens_kept : (bound : ℕ) → ((p line : ℕ) → p < bound → IsAt code p line Unset → IsAt other p line Unset) → {us : List Unfinished} {os : List Pending} {start : ℕ} → start ≤ bound → OpensFit code begin us os start → OpensFit other begin us os start
+  opens_kept bound holes le outermost = outermost
+  opens_kept bound holes le (in_first {k} {line} {before} {us} {os} at {start} b within u o) =
+      in_first at (stands_kept code other x before start _ _ (λ p e. e) b) within (holes at line (omega arith) u) (opens_kept bound holes (omega arith) o)
+  opens_kept bound holes le (in_second {k} {line} {a} {mid} {before} {us} {os} at {to} {start} b within lt f c u o) =
+      in_second at (stands_kept code other x before start _ _ (λ p e. e) b) within lt (fork_kept code other x k at line _ f) (stands_kept code other x a (at + 1) _ _ (λ p e. e) c) (holes to mid (omega arith) u) (opens_kept bound holes (omega arith) o)
+  opens_kept bound holes le (in_turn {k} {line} {before} {us} {os} at {start} b within u o) =
+      in_turn at (stands_kept code other x before start _ _ (λ p e. e) b) within (holes at line (omega arith) u) (opens_kept bound holes (omega arith) o)
+
+-- one more word
+word_stands_last : (code : List Placed) (ws : List CodeWord) (ds : List Definition) (w : CodeWord) (d : Definition) → WordsStand code ws ds → WordStands code w d → WordsStand code (ws ++ w ∷ []) (ds ++ d ∷ [])
+word_stands_last code [] [] w d h k = (k, tt)
+word_stands_last code (v ∷ ws) (e ∷ ds) w d h k = (h.0, word_stands_last code ws ds w d h.1 k)
+word_stands_last code [] (e ∷ ds) w d h k = absurd h
+word_stands_last code (v ∷ ws) [] w d h k = absurd h
+
+-- the offer of a word
+words_offered : (code : List Placed) (n : ℕ) (o : Offer) (ws : List CodeWord) (ds : List Definition) → WordsStand code ws ds → WordsStand code (building.offered_in n o ws) (growth.offered_in n o ds)
+words_offered code n o [] [] h = tt
+words_offered code zero o (w ∷ ws) (d ∷ ds) h =
+    (record { name = h.0.name; offer = ap (λ p. growth.widened p o) h.0.offer; variables = h.0.variables; body = h.0.body }, h.1)
+words_offered code (suc n) o (w ∷ ws) (d ∷ ds) h = (h.0, words_offered code n o ws ds h.1)
+words_offered code n o [] (d ∷ ds) h = absurd h
+words_offered code n o (w ∷ ws) [] h = absurd h
+
+-- A builder and a growth that fit, by their parts.
+module _ (b : Built) (g : Growth) (fit : WordsStand b.code b.words g.words) (named : b.title ≡ g.title) where
+  -- one more item in other code, after those before it
+  item_joins : (other : List Placed) → Extends b.code other → (before item : Block) (us : List Unfinished) (os : List Pending) (start at bound : ℕ) → From b.code start before at → start ≤ at → at ≤ length other → OpensFit b.code b.start us os start → start ≤ bound → ((p line : ℕ) → p < bound → IsAt b.code p line Unset → IsAt other p line Unset) → Stands other at item (λ p. p ≡ length other) → BuiltFits (with_code b other os) (with_item g before us item)
+  item_joins other x before item us os start at bound h le end o small holes s =
+      record {
+        start = start;
+        items = joins other before item start at _ (stands_kept b.code other x before start _ _ (λ p e. e) h) s;
+        within = omega arith;
+        opens = opens_kept b.code other x b.start bound holes small o;
+        words = words_kept b.code other x b.words g.words fit;
+        title = named;
+      }
+
+  module _ (us : List Unfinished) (os : List Pending) (start : ℕ) (items : From b.code start g.now (length b.code)) (within : start ≤ length b.code) (o : OpensFit b.code b.start us os start) where
+    -- one more instruction
+    word_grows : (line : ℕ) (w : Word) → BuiltFits (with_code b (emitted b.code line (Plain w)) os) (with_item g g.now us (word line w stop))
+    word_grows line w =
+        let code = b.code in
+        let y : Placed = record { line = line; instr = Plain w } in
+        let len : length (code ++ y ∷ []) ≡ length code + 1 = length-append code (y ∷ []) in
+        item_joins (code ++ y ∷ []) (extends_append code _) g.now (word line w stop) us os start (length code) start items within (omega arith) o (omega arith) (λ p row l e. get_append code _ p _ e) (get_end code y, sym len)
+
+    -- a choice or a TRY is opened
+    first_opens : (k : Fork) (line : ℕ) → BuiltFits (with_code b (emitted b.code line Unset) (first_open k (hole (length b.code) line us) ∷ os)) (with_part g stop (first k line g.now ∷ us))
+    first_opens k line =
+        let code = b.code in
+        let v : Placed = record { line = line; instr = Unset } in
+        let len : length (code ++ v ∷ []) ≡ length code + 1 = length-append code (v ∷ []) in
+        let y : Extends code (code ++ v ∷ []) = extends_append code _ in
+        record {
+          start = length code + 1;
+          items = sym len;
+          within = omega arith;
+          opens = in_first (length code) (stands_kept code _ y g.now start _ _ (λ p e. e) items) within (get_end code v) (opens_kept code _ y b.start start (λ p row l e. get_append code _ p _ e) (omega arith) o);
+          words = words_kept code _ y b.words g.words fit;
+          title = named;
+        }
+
+    -- BEGIN
+    begin_opens : (line : ℕ) → BuiltFits (with_code b (emitted b.code line Unset) (ring_open begin_word (hole (length b.code) line us) ∷ os)) (with_part g stop (turning begin_word line g.now ∷ us))
+    begin_opens line =
+        let code = b.code in
+        let v : Placed = record { line = line; instr = Unset } in
+        let len : length (code ++ v ∷ []) ≡ length code + 1 = length-append code (v ∷ []) in
+        let y : Extends code (code ++ v ∷ []) = extends_append code _ in
+        record {
+          start = length code + 1;
+          items = sym len;
+          within = omega arith;
+          opens = in_turn {k = begin_word} (length code) (stands_kept code _ y g.now start _ _ (λ p e. e) items) within (get_end code v) (opens_kept code _ y b.start start (λ p row l e. get_append code _ p _ e) (omega arith) o);
+          words = words_kept code _ y b.words g.words fit;
+          title = named;
+        }
+
+    -- FOR and FOREACH, with their test
+    test_opens : (k : Ring) (line : ℕ) (w : Word) → BuiltFits (with_code b (emitted (emitted b.code line Unset) line (Plain w)) (ring_open k (hole (length b.code) line us) ∷ os)) (with_part g (word line w stop) (turning k line g.now ∷ us))
+    test_opens k line w =
+        let code = b.code in
+        let v : Placed = record { line = line; instr = Unset } in
+        let t : Placed = record { line = line; instr = Plain w } in
+        let len : length (code ++ v ∷ []) ≡ length code + 1 = length-append code (v ∷ []) in
+        let whole : length ((code ++ v ∷ []) ++ t ∷ []) ≡ length code + 1 + 1 = length-append (code ++ v ∷ []) (t ∷ []) ∙ ap (λ n. n + 1) len in
+        let y : Extends code ((code ++ v ∷ []) ++ t ∷ []) = extends_two _ _ _ (extends_append code _) (extends_append _ _) in
+        record {
+          start = length code + 1;
+          items = (rw (← len) (get_end (code ++ v ∷ []) t), sym whole);
+          within = omega arith;
+          opens = in_turn {k = k} (length code) (stands_kept code _ y g.now start _ _ (λ p e. e) items) within (get_append (code ++ v ∷ []) _ _ _ (get_end code v)) (opens_kept code _ y b.start start (λ p row l e. get_append _ _ p _ (get_append code _ p _ e)) (omega arith) o);
+          words = words_kept code _ y b.words g.words fit;
+          title = named;
+        }
+
+  module _ (us : List Unfinished) (os : List Pending) (before : Block) (at line start : ℕ) (items : From b.code (at + 1) g.now (length b.code)) (within : at + 1 ≤ length b.code) (h : From b.code start before at) (le : start ≤ at) (u : IsAt b.code at line Unset) (o : OpensFit b.code b.start us os start) where
+    -- THEN with no ELSE
+    then_closes : BuiltFits (with_code b (slice_set b.code at (record { line = line; instr = When (length b.code) })) os) (with_item g before us (when line g.now stop))
+    then_closes =
+        let code = b.code in
+        let i : Placed = record { line = line; instr = When (length code) } in
+        let other = slice_set code at i in
+        let len : length other ≡ length code = length-set code at i in
+        let y : Extends code other = extends_set code at line i u in
+        item_joins other y before (when line g.now stop) us os start at at h le (omega arith) o le (λ p row l e. get_set_other code at p _ i (λ h. omega arith) e)
+        (length code, get_set_same code at _ i u, omega arith, stands_kept code other y g.now (at + 1) _ _ (λ p e. e) items, sym len)
+
+    -- ELSE and CATCH
+    second_opens : (k : Fork) (mid : ℕ) → BuiltFits (with_code b (slice_set (emitted b.code mid Unset) at (record { line = line; instr = fork_instr k (length b.code + 1) })) (second_open k (hole (length b.code) mid us) ∷ os)) (with_part g stop (second k line g.now mid before ∷ us))
+    second_opens k mid =
+        let code = b.code in
+        let v : Placed = record { line = mid; instr = Unset } in
+        let i : Placed = record { line = line; instr = fork_instr k (length code + 1) } in
+        let longer = code ++ v ∷ [] in
+        let other = slice_set longer at i in
+        let len : length other ≡ length code + 1 = length-set longer at i ∙ length-append code (v ∷ []) in
+        let w : IsAt longer at line Unset = get_append code _ at _ u in
+        let y : Extends code other = extends_two code longer other (extends_append code _) (extends_set longer at line i w) in
+        record {
+          start = length code + 1;
+          items = sym len;
+          within = omega arith;
+          opens = in_second at (stands_kept code other y before start _ _ (λ p e. e) h) le (omega arith) (get_set_same longer at _ i w) (stands_kept code other y g.now (at + 1) _ _ (λ p e. e) items) (get_set_other longer at (length code) v i (λ h. omega arith) (get_end code v)) (opens_kept code other y b.start at (λ p row l e. get_set_other longer at p _ i (λ h. omega arith) (get_append code _ p _ e)) le o);
+          words = words_kept code other y b.words g.words fit;
+          title = named;
+        }
+
+    -- REPEAT and UNTIL
+    loop_closes : (k : Ring) (last : ℕ) (c : Closer) → BuiltFits (with_code b (slice_set (emitted b.code last (Close c)) at (record { line = line; instr = ring_instr k (length b.code + 1) })) os) (with_item g before us (ring k line g.now c last stop))
+    loop_closes k last c =
+        let code = b.code in
+        let i : Placed = record { line = line; instr = ring_instr k (length code + 1) } in
+        let v : Placed = record { line = last; instr = Close c } in
+        let longer = code ++ v ∷ [] in
+        let other = slice_set longer at i in
+        let len : length other ≡ length code + 1 = length-set longer at i ∙ length-append code (v ∷ []) in
+        let w : IsAt longer at line Unset = get_append code _ at _ u in
+        let y : Extends code other = extends_two code longer other (extends_append code _) (extends_set longer at line i w) in
+        let end : IsAt other (length code) last (Close c) = get_set_other longer at (length code) v i (λ h. omega arith) (get_end code v) in
+        item_joins other y before (ring k line g.now c last stop) us os start at at h le (omega arith) o le (λ p row l e. get_set_other longer at p _ i (λ h. omega arith) (get_append code _ p _ e))
+        (length code + 1, get_set_same longer at _ i w, omega arith, stands_kept code other y g.now (at + 1) _ _ (λ p e. (ap (λ n. n + 1) e, rw e end)) items, sym len)
+
+  -- THEN after ELSE, and ENDCATCH
+  second_closes : (us : List Unfinished) (os : List Pending) (a before : Block) (k : Fork) (at line mid to start : ℕ) → From b.code (to + 1) g.now (length b.code) → to + 1 ≤ length b.code → From b.code start before at → start ≤ at → at < to → IsAt b.code at line (fork_instr k (to + 1)) → From b.code (at + 1) a to → IsAt b.code to mid Unset → OpensFit b.code b.start us os start → BuiltFits (with_code b (slice_set b.code to (record { line = mid; instr = hop_instr k (length b.code) })) os) (with_item g before us (fork k line a mid g.now stop))
+  second_closes us os a before k at line mid to start items within h le lt f c u o =
+      let code = b.code in
+      let i : Placed = record { line = mid; instr = hop_instr k (length code) } in
+      let other = slice_set code to i in
+      let len : length other ≡ length code = length-set code to i in
+      let y : Extends code other = extends_set code to mid i u in
+      let last : IsAt other to mid (hop_instr k (length code)) = get_set_same code to _ i u in
+      item_joins other y before (fork k line a mid g.now stop) us os start at at h le (omega arith) o le (λ p row l e. get_set_other code to p _ i (λ h. omega arith) e)
+      (to + 1, length code, fork_kept code other y k at line _ f, omega arith, within, stands_kept code other y a (at + 1) _ _ (λ p e. (ap (λ n. n + 1) e, rw e last)) c, stands_kept code other y g.now (to + 1) _ _ (λ p e. e) items, sym len)
+
+  cond_alike : (c : Bool) (x y : Made) (x' y' : Grown) → MadeAlike x x' → MadeAlike y y' → MadeAlike (cond c x y) (cond c x' y')
+  cond_alike true x y x' y' h k = h
+  cond_alike false x y x' y' h k = k
+
+  loops_alike : {us : List Unfinished} {os : List Pending} {start : ℕ} → OpensFit b.code b.start us os start → building.in_loop os ≡ growth.in_loop us
+  loops_alike outermost = refl
+  loops_alike (in_first {k = if_word} at h le u o) = refl
+  loops_alike (in_first {k = try_word} at h le u o) = refl
+  loops_alike (in_second {k = if_word} at h le lt f c u o) = refl
+  loops_alike (in_second {k = try_word} at h le lt f c u o) = refl
+  loops_alike (in_turn {k = begin_word} at h le u o) = refl
+  loops_alike (in_turn {k = for_word} at h le u o) = refl
+  loops_alike (in_turn {k = each_word} at h le u o) = refl
+
+  else_alike : (line : ℕ) {us : List Unfinished} {os : List Pending} {start : ℕ} → From b.code start g.now (length b.code) → start ≤ length b.code → OpensFit b.code b.start us os start → MadeAlike (building.else_code line b os) (growth.else_part line g us)
+  else_alike line items within outermost = refl
+  else_alike line items within (in_first {k = if_word} at h le u o) = second_opens _ _ _ at _ _ items within h le u o if_word line
+  else_alike line items within (in_first {k = try_word} at h le u o) = refl
+  else_alike line items within (in_second {k = if_word} at h le lt f c u o) = refl
+  else_alike line items within (in_second {k = try_word} at h le lt f c u o) = refl
+  else_alike line items within (in_turn {k = begin_word} at h le u o) = refl
+  else_alike line items within (in_turn {k = for_word} at h le u o) = refl
+  else_alike line items within (in_turn {k = each_word} at h le u o) = refl
+
+  catch_alike : (line : ℕ) {us : List Unfinished} {os : List Pending} {start : ℕ} → From b.code start g.now (length b.code) → start ≤ length b.code → OpensFit b.code b.start us os start → MadeAlike (building.catch_code line b os) (growth.catch_part line g us)
+  catch_alike line items within outermost = refl
+  catch_alike line items within (in_first {k = if_word} at h le u o) = refl
+  catch_alike line items within (in_first {k = try_word} at h le u o) = second_opens _ _ _ at _ _ items within h le u o try_word line
+  catch_alike line items within (in_second {k = if_word} at h le lt f c u o) = refl
+  catch_alike line items within (in_second {k = try_word} at h le lt f c u o) = refl
+  catch_alike line items within (in_turn {k = begin_word} at h le u o) = refl
+  catch_alike line items within (in_turn {k = for_word} at h le u o) = refl
+  catch_alike line items within (in_turn {k = each_word} at h le u o) = refl
+
+  then_alike : (line : ℕ) {us : List Unfinished} {os : List Pending} {start : ℕ} → From b.code start g.now (length b.code) → start ≤ length b.code → OpensFit b.code b.start us os start → MadeAlike (building.then_code line b os) (growth.then_part line g us)
+  then_alike line items within outermost = refl
+  then_alike line items within (in_first {k = if_word} at h le u o) = then_closes _ _ _ at _ _ items within h le u o
+  then_alike line items within (in_first {k = try_word} at h le u o) = refl
+  then_alike line items within (in_second {k = if_word} at h le lt f c u o) = second_closes _ _ _ _ if_word at _ _ _ _ items within h le lt f c u o
+  then_alike line items within (in_second {k = try_word} at h le lt f c u o) = refl
+  then_alike line items within (in_turn {k = begin_word} at h le u o) = refl
+  then_alike line items within (in_turn {k = for_word} at h le u o) = refl
+  then_alike line items within (in_turn {k = each_word} at h le u o) = refl
+
+  end_catch_alike : (line : ℕ) {us : List Unfinished} {os : List Pending} {start : ℕ} → From b.code start g.now (length b.code) → start ≤ length b.code → OpensFit b.code b.start us os start → MadeAlike (building.end_catch_code line b os) (growth.end_catch_part line g us)
+  end_catch_alike line items within outermost = refl
+  end_catch_alike line items within (in_first {k = if_word} at h le u o) = refl
+  end_catch_alike line items within (in_first {k = try_word} at h le u o) = refl
+  end_catch_alike line items within (in_second {k = if_word} at h le lt f c u o) = refl
+  end_catch_alike line items within (in_second {k = try_word} at h le lt f c u o) = second_closes _ _ _ _ try_word at _ _ _ _ items within h le lt f c u o
+  end_catch_alike line items within (in_turn {k = begin_word} at h le u o) = refl
+  end_catch_alike line items within (in_turn {k = for_word} at h le u o) = refl
+  end_catch_alike line items within (in_turn {k = each_word} at h le u o) = refl
+
+  repeat_alike : (line : ℕ) {us : List Unfinished} {os : List Pending} {start : ℕ} → From b.code start g.now (length b.code) → start ≤ length b.code → OpensFit b.code b.start us os start → MadeAlike (building.repeat_code line b os) (growth.repeat_part line g us)
+  repeat_alike line items within outermost = refl
+  repeat_alike line items within (in_first {k = if_word} at h le u o) = refl
+  repeat_alike line items within (in_first {k = try_word} at h le u o) = refl
+  repeat_alike line items within (in_second {k = if_word} at h le lt f c u o) = refl
+  repeat_alike line items within (in_second {k = try_word} at h le lt f c u o) = refl
+  repeat_alike line items within (in_turn {k = begin_word} at h le u o) = loop_closes _ _ _ at _ _ items within h le u o begin_word line closer.Repeat
+  repeat_alike line items within (in_turn {k = for_word} at h le u o) = loop_closes _ _ _ at _ _ items within h le u o for_word line closer.Repeat
+  repeat_alike line items within (in_turn {k = each_word} at h le u o) = loop_closes _ _ _ at _ _ items within h le u o each_word line closer.Repeat
+
+  until_alike : (line : ℕ) {us : List Unfinished} {os : List Pending} {start : ℕ} → From b.code start g.now (length b.code) → start ≤ length b.code → OpensFit b.code b.start us os start → MadeAlike (building.until_code line b os) (growth.until_part line g us)
+  until_alike line items within outermost = refl
+  until_alike line items within (in_first {k = if_word} at h le u o) = refl
+  until_alike line items within (in_first {k = try_word} at h le u o) = refl
+  until_alike line items within (in_second {k = if_word} at h le lt f c u o) = refl
+  until_alike line items within (in_second {k = try_word} at h le lt f c u o) = refl
+  until_alike line items within (in_turn {k = begin_word} at h le u o) = loop_closes _ _ _ at _ _ items within h le u o begin_word line closer.Until
+  until_alike line items within (in_turn {k = for_word} at h le u o) = refl
+  until_alike line items within (in_turn {k = each_word} at h le u o) = refl
+
+  -- `;`
+  word_ends : (line n : ℕ) → From b.code b.start g.now (length b.code) → MadeAlike (building.end_code line n b []) (growth.end_part line n g [])
+  word_ends line n items =
+      let y : Placed = record { line = line; instr = Close closer.Semicolon } in
+      let len : length (b.code ++ y ∷ []) ≡ length b.code + 1 = length-append b.code (y ∷ []) in
+      let x : Extends b.code (b.code ++ y ∷ []) = extends_append b.code _ in
+      record {
+        start = length b.code + 1;
+        items = sym len;
+        within = omega arith;
+        opens = outermost;
+        words =
+            word_stands_last _ b.words g.words _ _ (words_kept b.code _ x b.words g.words fit)
+            (record { name = named; offer = refl; variables = refl; body = stands_kept b.code _ x g.now b.start _ _ (λ p e. rw e (get_end b.code y)) items });
+        title = named;
+      }
+
+  end_alike : (line n : ℕ) {us : List Unfinished} {os : List Pending} {start : ℕ} → From b.code start g.now (length b.code) → start ≤ length b.code → OpensFit b.code b.start us os start → MadeAlike (building.end_code line n b os) (growth.end_part line n g us)
+  end_alike line n items within outermost = word_ends line n items
+  end_alike line n items within (in_first {k = if_word} at h le u o) = refl
+  end_alike line n items within (in_first {k = try_word} at h le u o) = refl
+  end_alike line n items within (in_second {k = if_word} at h le lt f c u o) = refl
+  end_alike line n items within (in_second {k = try_word} at h le lt f c u o) = refl
+  end_alike line n items within (in_turn {k = begin_word} at h le u o) = refl
+  end_alike line n items within (in_turn {k = for_word} at h le u o) = refl
+  end_alike line n items within (in_turn {k = each_word} at h le u o) = refl
+
+  opening_alike : (line : ℕ) (w : Opening) {us : List Unfinished} {os : List Pending} {start : ℕ} → From b.code start g.now (length b.code) → start ≤ length b.code → OpensFit b.code b.start us os start
+      → BuiltFits (with_code b (building.beginning w (emitted b.code line Unset) line) (building.opened w (hole (length b.code) line us) ∷ os)) (with_part g (growth.beginning w line) (growth.opened w line g.now ∷ us))
+  opening_alike line opening.If items within o = first_opens _ _ _ items within o if_word line
+  opening_alike line opening.Try items within o = first_opens _ _ _ items within o try_word line
+  opening_alike line opening.Begin items within o = begin_opens _ _ _ items within o line
+  opening_alike line opening.For items within o = test_opens _ _ _ items within o for_word line NextIndex
+  opening_alike line opening.Each items within o = test_opens _ _ _ items within o each_word line NextPair
+
+-- the tree after an act
+pub growing : (line : ℕ) (t : Act) (b : Built) (g : Growth) → BuiltFits b g → MadeAlike (build line t b) (grow line t g)
+growing line Wait b g f = f
+growing line (Title name) b g f = record { start = f.start; items = f.items; within = f.within; opens = f.opens; words = f.words; title = refl }
+growing line (Item w) b g f = word_grows b g f.words f.title g.around b.pending f.start f.items f.within f.opens line w
+growing line (Jump w) b g f =
+    rw (loops_alike b g f.words f.title f.opens) (cond_alike b g f.words f.title (growth.in_loop g.around) _ _ _ _ (word_grows b g f.words f.title g.around b.pending f.start f.items f.within f.opens line w) refl)
+growing line (Open o) b g f = rw (loops_alike b g f.words f.title f.opens) (opening_alike b g f.words f.title line o f.items f.within f.opens)
+growing line Else b g f = else_alike b g f.words f.title line f.items f.within f.opens
+growing line Then b g f = then_alike b g f.words f.title line f.items f.within f.opens
+growing line Catch b g f = catch_alike b g f.words f.title line f.items f.within f.opens
+growing line EndCatch b g f = end_catch_alike b g f.words f.title line f.items f.within f.opens
+growing line Repeat b g f = repeat_alike b g f.words f.title line f.items f.within f.opens
+growing line Until b g f = until_alike b g f.words f.title line f.items f.within f.opens
+growing line (End n) b g f = end_alike b g f.words f.title line n f.items f.within f.opens
+growing line (offer_act n o) b g f = record { start = f.start; items = f.items; within = f.within; opens = f.opens; words = words_offered b.code n o b.words g.words f.words; title = f.title }

@@ -1,0 +1,6 @@
+pub mod Compiling
+pub mod Growing
+pub mod Naming
+pub mod Offers
+pub mod Pendings
+pub mod Titles

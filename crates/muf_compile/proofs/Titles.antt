@@ -1,0 +1,40 @@
+-- Names of words that have a header.
+use Rattle.std.proofs.Common.{◌≡◌, ℕ, ◌+◌, ◌≤◌, Bool, true, false, cond, List, [], ◌∷◌, ◌++◌, length, Some, None, refl, ap, arith, length-append, subst, ◌∙◌}
+use Rattle.std.specs.Prelude.{option_map, ◌==◌}
+use Rattle.muck_model.specs.Bytes.{text_fault}
+use Rattle.muf_token.specs.Bytes.{are_inside}
+use Rattle.muf_token.proofs.Texts.{inside_text, text_inside, inside_head, inside_tail, inside_cons}
+use Rattle.muf_compile.specs.Reading.{before_bracket}
+
+mapped : (b : ℕ) (t : Bool) (name : List ℕ) → option_map (λ rest. b ∷ rest) (cond t (Some name) None) ≡ cond t (Some (b ∷ name)) None
+mapped b true name = refl
+mapped b false name = refl
+
+bracket_end : (name : List ℕ) (b : ℕ) → before_bracket (name ++ b ∷ []) ≡ cond (b == 91) (Some name) None
+bracket_end [] b = refl
+bracket_end (a ∷ []) b = mapped a (b == 91) []
+bracket_end (a ∷ c ∷ name) b = rw (bracket_end (c ∷ name) b) (mapped a (b == 91) (c ∷ name))
+
+pub bracket_yes : (word name : List ℕ) → word ≡ name ++ 91 ∷ [] → before_bracket word ≡ Some name
+bracket_yes word name e = rw (e, bracket_end name 91) refl
+
+pub bracket_no : (word name : List ℕ) (b : ℕ) → word ≡ name ++ b ∷ [] → (b == 91) ≡ false → before_bracket word ≡ None
+bracket_no word name b e n = rw (e, bracket_end name b, n) refl
+
+pub bracket_none : (word : List ℕ) → length word ≡ 0 → before_bracket word ≡ None
+bracket_none [] e = refl
+bracket_none (b ∷ word) e = absurd (omega arith)
+
+inside_front : (xs ys : List ℕ) → are_inside (xs ++ ys) ≡ true → are_inside xs ≡ true
+inside_front [] ys h = refl
+inside_front (b ∷ xs) ys h = inside_cons b xs (inside_head b (xs ++ ys) h) (inside_front xs ys (inside_tail b (xs ++ ys) h))
+
+-- the front of a text is a text
+pub text_front : (word name : List ℕ) (b : ℕ) → word ≡ name ++ b ∷ [] → text_fault word ≡ None → length word ≤ 4096 → text_fault name ≡ None
+text_front word name b e h l =
+    let i : are_inside word ≡ true = inside_text word h in
+    let j : are_inside (name ++ b ∷ []) ≡ true = subst (λ w. are_inside w ≡ true) e i in
+    let n : length word ≡ length name + 1 = ap length e ∙ length-append name (b ∷ []) in
+    text_inside name (inside_front name (b ∷ []) j) (omega arith)
+
+pub ruleset titles = (bracket_yes, bracket_no, bracket_none, text_front)

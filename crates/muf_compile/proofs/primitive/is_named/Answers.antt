@@ -1,0 +1,11 @@
+use Rattle.std.proofs.Common.{ap, ◌∙◌}
+use Rattle.std.specs.Prelude.{map}
+use Rattle.std.specs.Char.{to_ascii_lowercase}
+use Rattle.std.specs.Str.{bytes_eq}
+use Rattle.muf_compile.proofs.Naming.{tests_equal}
+use Rattle.muf_compile.proofs.primitive.is_named.Goals as goal
+
+pub returns : goal.returns
+returns c =
+    tests_equal c.eq_ignore_ascii_case.result (map to_ascii_lowercase c.name.result.now) (map to_ascii_lowercase c.args.word.now) c.eq_ignore_ascii_case.ensures.test
+    ∙ ap (λ n. bytes_eq (map to_ascii_lowercase n) (map to_ascii_lowercase c.args.word.now)) c.name.ensures

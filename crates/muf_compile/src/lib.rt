@@ -1,0 +1,17 @@
+//! The compiler of MUF: from the words of a source to code that stands for its tree.
+#![tactic(auto)]
+
+mod act;
+mod builder;
+mod control;
+mod fault;
+mod hole;
+mod known;
+mod names;
+mod pass;
+mod primitive;
+#[cfg(test)]
+mod tests;
+
+pub use fault::{CompileFault, CompileKind, Refusal};
+pub use pass::compile;
