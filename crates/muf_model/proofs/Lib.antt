@@ -1,0 +1,8 @@
+pub mod Decoded
+pub mod FaultTexts
+pub mod Settling
+pub mod Standing
+pub mod Truth
+pub mod Unique
+pub mod Views
+mod Worked

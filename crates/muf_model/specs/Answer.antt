@@ -1,0 +1,63 @@
+-- What a primitive answers, and the tests that its row begins with.
+use Rattle.std.specs.Prelude.{ℕ, ◌+◌, ◌-◌, List, ◌∷◌, length, nat_lt, if◌then◌else◌, ℤ, pos, negsuc, Option, slice_get}
+use Rattle.muf_model.specs.declared.fault.MufFault.{MufFault}
+use Rattle.muf_model.specs.declared.fault.MufFault.TheVariants.{StackEmpty, StackFull, StackLocked, BadType, BadArgument}
+use Rattle.muf_model.specs.Datum.{Datum, int}
+
+-- The stack after a primitive, its top first. A primitive may also set a variable, by its number, or call a word of
+-- the running program, by its number. Or it is refused; or no row says yet what it does.
+pub data Answer : Type 0 where
+  gives : List Datum → Answer
+  stores : ℕ → Datum → List Datum → Answer
+  calls : ℕ → List Datum → Answer
+  refuses : MufFault → Answer
+  unknown : Answer
+
+-- What a primitive may look at beside the stack: the variables of the process, of the running program and of the
+-- running call, the number of that program and how many words it has, and how many items, at the bottom of the
+-- stack, are locked.
+pub record Scope : Type 0 where
+  pub common : List Datum
+  pub owned : List Datum
+  pub variables : List Datum
+  pub program : ℤ
+  pub words : ℕ
+  pub locked : ℕ
+
+-- the number of the first variable of the program, and of the call
+abbrev pub owned_first : ℕ
+owned_first = 4
+
+abbrev pub call_first : ℕ
+call_first = 68
+
+-- the variable of a number
+abbrev pub variable_at : ℕ → Scope → Option Datum
+variable_at v s =
+    if nat_lt v owned_first then slice_get s.common v
+    else (if nat_lt v call_first then slice_get s.owned (v - owned_first) else slice_get s.variables (v - call_first))
+
+-- the most items on a stack
+abbrev pub stack_most : ℕ
+stack_most = 1024
+
+-- the fault of too few items: locked where the whole stack has enough
+abbrev pub too_few : ℕ → List Datum → MufFault
+too_few n stack = if nat_lt (length stack) n then StackEmpty else StackLocked
+
+-- n items above the locked part, or the fault of too few
+abbrev pub needing : ℕ → ℕ → List Datum → Answer → Answer
+needing n locked stack answer = if nat_lt (length stack) (locked + n) then refuses (too_few n stack) else answer
+
+-- a stack, or the fault of one that is too long
+abbrev pub fitting : List Datum → Answer
+fitting stack = if nat_lt stack_most (length stack) then refuses StackFull else gives stack
+
+-- a count on the top that says how many items are needed beside the fixed ones
+abbrev pub by_count : ℕ → ℕ → List Datum → (ℕ → Answer) → Answer
+by_count fixed locked (int (pos n) ∷ rest) answer = needing (n + fixed) locked (int (pos n) ∷ rest) (answer n)
+by_count fixed locked (int (negsuc n) ∷ rest) answer = refuses BadArgument
+by_count fixed locked stack answer = refuses BadType
+
+abbrev pub counted : ℕ → ℕ → List Datum → (ℕ → Answer) → Answer
+counted fixed locked stack answer = needing fixed locked stack (by_count fixed locked stack answer)

@@ -1,0 +1,86 @@
+-- Truth, weight and nesting of values, and the order of keys.
+use Rattle.std.specs.Prelude.{ℕ, zero, suc, ◌+◌, max, List, [], ◌∷◌, Bool, true, false, not, nat_lt, int_lt, if◌then◌else◌, pos, negsuc}
+use Rattle.muck_model.specs.declared.lock.Lock.{Lock}
+use Rattle.muck_model.specs.declared.lock.Lock.TheVariants.{Free}
+use Rattle.muf_model.specs.declared.value.MapKey.{MapKey}
+use Rattle.muf_model.specs.declared.value.MapKey.TheVariants.{Number, Name}
+use Rattle.muf_model.specs.Datum.{Datum, int, text, object, variable, address, lock, items, dict, mark, Data, no_data, datum, Pairs, no_pairs, pair}
+
+abbrev pub is_free : Lock → Bool
+is_free Free = true
+is_free _ = false
+
+-- 0, the empty text, `#-1`, the free lock, the empty list and dictionary and a mark are false, and all else is true
+abbrev pub is_true : Datum → Bool
+is_true (int (pos zero)) = false
+is_true (int (pos (suc n))) = true
+is_true (int (negsuc n)) = true
+is_true (text []) = false
+is_true (text (b ∷ bytes)) = true
+is_true (object (negsuc zero)) = false
+is_true (object (negsuc (suc n))) = true
+is_true (object (pos n)) = true
+is_true (variable v) = true
+is_true (address program word) = true
+is_true (lock l) = not (is_free l)
+is_true (items no_data) = false
+is_true (items (datum d ds)) = true
+is_true (dict no_pairs) = false
+is_true (dict (pair k d ps)) = true
+is_true mark = false
+
+abbrev mutual
+  -- 1, and for a list or dictionary also the weights of its values
+  pub weight : Datum → ℕ
+  weight (int n) = 1
+  weight (text t) = 1
+  weight (object d) = 1
+  weight (variable v) = 1
+  weight (address program word) = 1
+  weight (lock l) = 1
+  weight (items ds) = 1 + data_weight ds
+  weight (dict ps) = 1 + pairs_weight ps
+  weight mark = 1
+
+  pub data_weight : Data → ℕ
+  data_weight no_data = 0
+  data_weight (datum d ds) = weight d + data_weight ds
+
+  pub pairs_weight : Pairs → ℕ
+  pairs_weight no_pairs = 0
+  pairs_weight (pair k d ps) = weight d + pairs_weight ps
+
+abbrev mutual
+  -- 0, and for a list or dictionary 1 more than the deepest of its values, or 1
+  pub nesting : Datum → ℕ
+  nesting (int n) = 0
+  nesting (text t) = 0
+  nesting (object d) = 0
+  nesting (variable v) = 0
+  nesting (address program word) = 0
+  nesting (lock l) = 0
+  nesting (items ds) = 1 + data_nesting ds
+  nesting (dict ps) = 1 + pairs_nesting ps
+  nesting mark = 0
+
+  pub data_nesting : Data → ℕ
+  data_nesting no_data = 0
+  data_nesting (datum d ds) = max (nesting d) (data_nesting ds)
+
+  pub pairs_nesting : Pairs → ℕ
+  pairs_nesting no_pairs = 0
+  pairs_nesting (pair k d ps) = max (nesting d) (pairs_nesting ps)
+
+-- texts by their bytes, a text before those that it begins
+abbrev pub text_below : List ℕ → List ℕ → Bool
+text_below [] [] = false
+text_below [] (y ∷ ys) = true
+text_below (x ∷ xs) [] = false
+text_below (x ∷ xs) (y ∷ ys) = if nat_lt x y then true else (if nat_lt y x then false else text_below xs ys)
+
+-- numbers by number, and before names; names by their bytes
+abbrev pub key_below : MapKey → MapKey → Bool
+key_below (Number m) (Number n) = int_lt m n
+key_below (Number m) (Name t) = true
+key_below (Name s) (Number n) = false
+key_below (Name s) (Name t) = text_below s t

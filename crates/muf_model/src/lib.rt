@@ -1,0 +1,28 @@
+//! MUF: its values, primitives, faults and instructions, and what a program means.
+#![tactic(auto)]
+
+mod code;
+mod fault;
+mod prims;
+mod shared;
+mod text;
+mod value;
+
+pub use code::{Closer, Code, CodeWord, Instr, Literal, Offer, Placed, VarId, Word};
+pub use fault::MufFault;
+pub use prims::{Family, Primitive};
+pub use shared::Shared;
+pub use text::Text;
+pub use value::{MapKey, Pair, Value, ValueList, ValueMap};
+
+/// A primitive, by its name.
+pub type Prim = Primitive;
+
+/// The most items on a stack of values.
+pub const STACK_MOST: usize = 1024;
+
+/// The most calls of words that run at once in a process, its first word among them.
+pub const CALLS_MOST: usize = 512;
+
+/// The most loops and TRYs that are open at once in a process.
+pub const OPEN_MOST: usize = 512;
