@@ -1,1 +1,3 @@
 pub mod Tops
+pub mod Unguarded
+pub mod Data

@@ -1,5 +1,5 @@
 -- What contracts see of a frame, and the data that this stands for.
-use Rattle.std.specs.Prelude.{◌≡◌, ◌<◌, ℕ, suc, List, [], ◌∷◌, map, drop}
+use Rattle.std.specs.Prelude.{◌≡◌, ◌<◌, ℕ, suc, List, [], ◌∷◌, map, take, drop}
 use Rattle.std.specs.Arc.{arc_value}
 use Rattle.muck_model.specs.declared.dbref.Dbref.{Dbref}
 use Rattle.muf_model.specs.declared.value.Value.{Value}
@@ -87,3 +87,25 @@ GuardsFit (Loop t again after ∷ ms) = GuardsFit ms
 GuardsFit (Guard locked outer handler ∷ ms) = (locked < 1024) × (outer < 1024) × (outer ≡ locked_by (map flat_mark ms)) × GuardsFit ms
 GuardsFit (Back base place ∷ ms) = GuardsFit ms
 GuardsFit (Leave caller base place ∷ ms) = GuardsFit ms
+
+-- a TRY's mark locks less than a whole stack
+abbrev pub HeightFits : Mark → Type 0
+HeightFits (Loop t again after) = Unit {0}
+HeightFits (Guard locked outer handler) = locked < 1024
+HeightFits (Back base place) = Unit {0}
+HeightFits (Leave caller base place) = Unit {0}
+
+-- where a loop or a TRY was left, another one has room
+abbrev pub RoomAfter : Mark → List FlatMark → Type 0
+RoomAfter (Loop t again after) ms = opened_by ms < 512
+RoomAfter (Guard locked outer handler) ms = opened_by ms < 512
+RoomAfter (Back base place) ms = calls_by ms < 511
+RoomAfter (Leave caller base place) ms = calls_by ms < 511
+
+-- The frame once its innermost mark is left, before the others: behind a call the variables of the one before are back,
+-- and behind the call of a program that one runs again.
+abbrev pub left : Mark → List Mark → Shown → Shown
+left (Loop t again after) ms f = record f { marks = ms }
+left (Guard locked outer handler) ms f = record f { marks = ms }
+left (Back base place) ms f = record f { variables = take f.base f.variables; base = base; marks = ms }
+left (Leave caller base place) ms f = record f { variables = take f.base f.variables; base = base; program = caller; marks = ms }

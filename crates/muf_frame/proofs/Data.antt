@@ -1,0 +1,33 @@
+-- How the data of a frame follows its values.
+use Rattle.std.proofs.Common.{◌≡◌, ℕ, ◌-◌, List, [], ◌∷◌, length, map, take, drop, zero, suc, refl, ap, sym, ◌∙◌}
+use Rattle.std.proofs.lemmas.List.{length-map}
+use Rattle.muf_model.specs.View.{view}
+use Rattle.muf_model.specs.Unit.{lowest}
+use Rattle.muf_model.specs.Flat.{Flat}
+use Rattle.muf_model.proofs.Views.{view_text, view_int}
+use Rattle.muf_frame.specs.declared.mark.Mark.{Mark}
+use Rattle.muf_frame.specs.declared.mark.Mark.TheVariants.{Loop, Guard, Back, Leave}
+use Rattle.muf_frame.specs.Shown.{Shown, flat, flat_mark, left}
+use Rattle.muf_frame.specs.Moves.{behind}
+
+pub map_take : {A B : Type 0} → (f : A → B) (n : ℕ) (xs : List A) → map f (take n xs) ≡ take n (map f xs)
+map_take f zero xs = refl
+map_take f (suc n) [] = refl
+map_take f (suc n) (x ∷ xs) = ap (λ r. f x ∷ r) (map_take f n xs)
+
+pub map_drop : {A B : Type 0} → (f : A → B) (n : ℕ) (xs : List A) → map f (drop n xs) ≡ drop n (map f xs)
+map_drop f zero xs = refl
+map_drop f (suc n) [] = refl
+map_drop f (suc n) (x ∷ xs) = map_drop f n xs
+
+pub lowest_data : (n : ℕ) (s : Shown) → map view (drop (length s.stack - n) s.stack) ≡ lowest n (flat s).stack
+lowest_data n s =
+    map_drop view (length s.stack - n) s.stack ∙ ap (λ k. drop (k - n) (map view s.stack)) (sym (length-map s.stack view))
+
+pub left_data : (m : Mark) (ms : List Mark) (s : Shown) → flat (left m ms s) ≡ behind (flat_mark m) (map flat_mark ms) (flat s)
+left_data (Loop t again after) ms s = refl
+left_data (Guard locked outer handler) ms s = refl
+left_data (Back base place) ms s = ap (λ vs. record (flat s) { variables = vs; base = base; marks = map flat_mark ms }) (map_take view s.base s.variables)
+left_data (Leave caller base place) ms s = ap (λ vs. record (flat s) { variables = vs; base = base; program = caller.0; marks = map flat_mark ms }) (map_take view s.base s.variables)
+
+pub ruleset data_steps = (lowest_data, left_data, view_text, view_int)
