@@ -1,6 +1,7 @@
 -- How the data of a frame follows its values.
 use Rattle.std.proofs.Common.{◌≡◌, ℕ, ◌-◌, List, [], ◌∷◌, length, map, take, drop, zero, suc, refl, ap, sym, ◌∙◌}
-use Rattle.std.proofs.lemmas.List.{length-map}
+use Rattle.std.proofs.lemmas.List.{length-map, map-set, set_past}
+use Rattle.std.proofs.lemmas.Option.{slice_get-map}
 use Rattle.muf_model.specs.View.{view}
 use Rattle.muf_model.specs.Unit.{lowest}
 use Rattle.muf_model.specs.Flat.{Flat}
@@ -29,5 +30,7 @@ left_data (Loop t again after) ms s = refl
 left_data (Guard locked outer handler) ms s = refl
 left_data (Back base place) ms s = ap (λ vs. record (flat s) { variables = vs; base = base; marks = map flat_mark ms }) (map_take view s.base s.variables)
 left_data (Leave caller base place) ms s = ap (λ vs. record (flat s) { variables = vs; base = base; program = caller.0; marks = map flat_mark ms }) (map_take view s.base s.variables)
+
+pub ruleset list_steps = (slice_get-map, map-set, set_past)
 
 pub ruleset data_steps = (lowest_data, left_data, view_text, view_int)

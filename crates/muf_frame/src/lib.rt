@@ -6,6 +6,7 @@ mod fault;
 mod frame;
 mod mark;
 mod stack;
+mod variables;
 mod words;
 
 pub use fault::PrimFault;

@@ -1,0 +1,75 @@
+// Variables: of the process, of its programs, and of calls.
+ghost use Rattle.std.specs.Prelude.{◌≡◌, ◌+◌, ◌≤◌, [], length, map, drop, IsTrue, IsFalse, is_some, option_copied, slice_get, slice_set};
+ghost use Rattle.std.specs.Option.{option_map};
+ghost use Rattle.muf_model.specs.Answer.{variable_at};
+ghost use Rattle.muf_model.specs.Source.{owned_by};
+ghost use Rattle.muf_model.specs.View.{view};
+ghost use Rattle.muf_frame.specs.Shown.{Shown, flat, flat_owned};
+ghost use Rattle.muf_frame.specs.Moves.{scope_of, with_variable};
+ghost use Rattle.muf_frame.specs.Owners.{owner_place, owned_values};
+
+use crate::{Frame, Owned};
+use muck_model::Dbref;
+use muf_model::{Value, VarId};
+
+// Where a program's variables stand, or the length.
+pub(crate) fn owner_place(owned: &[Owned], program: Dbref) -> usize
+    ensures value { result ≡ owner_place program.0 (map flat_owned owned.now) }
+    ensures most { result ≤ length owned.now }
+{
+    let mut at = 0;
+    while at < owned.len() {
+        if owned[at].program == program {
+            return at;
+        }
+        at += 1;
+    }
+    at
+}
+
+#[tactic(auto, using(crate::proofs::Data::list_steps))]
+// Another value at a place; false where that is behind the last one.
+fn set_at(values: &mut Vec<Value>, at: usize, value: Value) -> bool
+    ensures found { result ≡ is_some (slice_get (map view values.old.items) at) }
+    ensures yes { map view values.new.items ≡ slice_set (map view values.old.items) at (view value) }
+    ensures no { IsFalse result → values.new ≡ values.old }
+{
+    if at < values.len() {
+        values[at] = value;
+        true
+    } else {
+        false
+    }
+}
+
+// The variables at a place among those of all programs, or none.
+fn values_from(owned: &[Owned], at: usize) -> &[Value]
+    ensures { map view result.now ≡ owned_values (slice_get owned.now at) }
+{
+    match owned.get(at) {
+        Some(own) => &own.values,
+        None => &[],
+    }
+}
+
+impl Frame {
+    // The variables of the running program.
+    #[tactic(auto, using(crate::proofs::Owners::owned_read))]
+    fn owned_values(&self) -> &[Value]
+        ensures { map view result.now ≡ owned_by (flat self.now).program (flat self.now).owned }
+    {
+        let at = owner_place(&self.owned, self.program);
+        values_from(&self.owned, at)
+    }
+
+    // The variables of the innermost call.
+    fn call_values(&self) -> &[Value]
+        ensures { map view result.now ≡ drop (flat self.now).base (flat self.now).variables }
+    {
+        if self.base <= self.variables.len() {
+            self.variables.split_at(self.base).1
+        } else {
+            &[]
+        }
+    }
+}
