@@ -1,7 +1,8 @@
 -- How the data of a frame follows its values.
-use Rattle.std.proofs.Common.{◌≡◌, ℕ, ◌-◌, List, [], ◌∷◌, length, map, take, drop, zero, suc, refl, ap, sym, ◌∙◌}
+use Rattle.std.proofs.Common.{◌≡◌, ◌≤◌, ℕ, ◌+◌, ◌-◌, None, arith, List, [], ◌∷◌, length, map, take, drop, zero, suc, refl, ap, sym, ◌∙◌}
 use Rattle.std.proofs.lemmas.List.{length-map, map-set, set_past}
-use Rattle.std.proofs.lemmas.Option.{slice_get-map}
+use Rattle.std.proofs.lemmas.Option.{slice_get-map, slice_get_past}
+use Rattle.std.specs.Prelude.{slice_get}
 use Rattle.muf_model.specs.View.{view}
 use Rattle.muf_model.specs.Unit.{lowest}
 use Rattle.muf_model.specs.Flat.{Flat}
@@ -33,4 +34,12 @@ left_data (Leave caller base place) ms s = ap (λ vs. record (flat s) { variable
 
 pub ruleset list_steps = (slice_get-map, map-set, set_past)
 
-pub ruleset data_steps = (lowest_data, left_data, view_text, view_int)
+pub ruleset data_steps = (lowest_data, left_data, view_text, view_int, length-map)
+
+pub get_drop : {A : Type 0} → (n k : ℕ) (xs : List A) → slice_get (drop n xs) k ≡ slice_get xs (n + k)
+get_drop zero k xs = let e : 0 + k ≡ k = omega arith in rw e refl
+get_drop (suc n) k [] = refl
+get_drop (suc n) k (x ∷ xs) = let e : suc n + k ≡ suc (n + k) = omega arith in rw e (get_drop n k xs)
+
+pub get_past : {A : Type 0} → (n k : ℕ) (xs : List A) → length xs ≤ n + k → slice_get (drop n xs) k ≡ None
+get_past n k xs h = get_drop n k xs ∙ slice_get_past xs (n + k) h

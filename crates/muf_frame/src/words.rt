@@ -70,4 +70,26 @@ impl Frame {
             opened: 0,
         })
     }
+
+    /// Calls a word of the running program that begins at a place and has so many variables; `place` is the one to go
+    /// back to. After `NoMemory` nothing is said of the frame.
+    #[tactic(auto, using(crate::proofs::Data::data_steps))]
+    pub fn call(&mut self, start: usize, variables: usize) -> Result<(), NoMemory>
+        requires { calls_by (flat self.old).marks < 511 }
+        ensures { OnOk result (flat self.new ≡ called start variables (flat self.old)) }
+    {
+        let base = self.variables.len();
+        push_zeros(&mut self.variables, variables)?;
+        push_mark(
+            &mut self.marks,
+            Mark::Back {
+                base: self.base,
+                place: self.place,
+            },
+        );
+        self.calls += 1;
+        self.base = base;
+        self.place = start;
+        Ok(())
+    }
 }
