@@ -2,6 +2,7 @@
 #![tactic(auto)]
 
 mod calls;
+mod copies;
 mod fault;
 mod frame;
 mod mark;
