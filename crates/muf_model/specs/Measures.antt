@@ -1,5 +1,7 @@
 -- Truth, weight and nesting of values, and the order of keys.
 use Rattle.std.specs.Prelude.{ℕ, zero, suc, ◌+◌, max, List, [], ◌∷◌, Bool, true, false, not, nat_lt, int_lt, if◌then◌else◌, pos, negsuc}
+use Rattle.std.specs.Ordering.{nat_cmp, is_lt}
+use Rattle.std.specs.Cmp.Lexicographic.{slice_cmp}
 use Rattle.muck_model.specs.declared.lock.Lock.{Lock}
 use Rattle.muck_model.specs.declared.lock.Lock.TheVariants.{Free}
 use Rattle.muf_model.specs.declared.value.MapKey.{MapKey}
@@ -73,10 +75,7 @@ abbrev mutual
 
 -- texts by their bytes, a text before those that it begins
 abbrev pub text_below : List ℕ → List ℕ → Bool
-text_below [] [] = false
-text_below [] (y ∷ ys) = true
-text_below (x ∷ xs) [] = false
-text_below (x ∷ xs) (y ∷ ys) = if nat_lt x y then true else (if nat_lt y x then false else text_below xs ys)
+text_below s t = is_lt (slice_cmp nat_cmp s t)
 
 -- numbers by number, and before names; names by their bytes
 abbrev pub key_below : MapKey → MapKey → Bool

@@ -5,6 +5,8 @@ mod code;
 mod fault;
 mod prims;
 mod shared;
+#[cfg(test)]
+mod tests;
 mod text;
 mod value;
 

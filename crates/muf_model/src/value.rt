@@ -1,7 +1,7 @@
 // The values of a program.
 ghost use Rattle.std.specs.Prelude.{◌≡◌, ◌++◌, ◌∷◌, [], IfOk, OnErr, map, option_map, slice_get, length};
 ghost use Rattle.muf_model.specs.View.{view, pair_view, list_view, map_view};
-ghost use Rattle.muf_model.specs.Measures.{is_true};
+ghost use Rattle.muf_model.specs.Measures.{is_true, key_below};
 
 use crate::{Shared, Text, VarId};
 use muck_model::{Dbref, Lock, NoMemory};
@@ -87,6 +87,30 @@ impl Value {
             Value::Dict(pairs) => !pairs.as_slice().is_empty(),
             Value::Mark => false,
             Value::Var(_) | Value::Addr { .. } => true,
+        }
+    }
+}
+
+impl MapKey {
+    /// Whether it stands before another key: numbers by number and before names, names by their bytes.
+    pub fn is_below(&self, other: &MapKey) -> bool
+        ensures { result ≡ key_below self.now other.now }
+    {
+        match (self, other) {
+            (MapKey::Number(a), MapKey::Number(b)) => *a < *b,
+            (MapKey::Number(_), MapKey::Name(_)) => true,
+            (MapKey::Name(_), MapKey::Number(_)) => false,
+            (MapKey::Name(a), MapKey::Name(b)) => a.as_line().cmp(b.as_line()).is_lt(),
+        }
+    }
+
+    /// An equal key, which shares its text with this one.
+    pub fn copy(&self) -> Result<MapKey, NoMemory>
+        ensures { IfOk result (λ key. key ≡ self.now) }
+    {
+        match self {
+            MapKey::Number(n) => Ok(MapKey::Number(*n)),
+            MapKey::Name(t) => Ok(MapKey::Name(t.share()?)),
         }
     }
 }
