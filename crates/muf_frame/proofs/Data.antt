@@ -10,7 +10,7 @@ use Rattle.muf_model.specs.Source.{zeros, fitted}
 use Rattle.muf_model.specs.View.{view}
 use Rattle.muf_model.specs.Unit.{lowest}
 use Rattle.muf_model.specs.Flat.{Flat}
-use Rattle.muf_model.proofs.Views.{view_text, view_int}
+use Rattle.muf_model.proofs.Views.{view_text, view_int, view_object, view_variable, view_address, view_lock, view_items, view_dict, view_mark}
 use Rattle.muf_frame.specs.declared.mark.Mark.{Mark}
 use Rattle.muf_frame.specs.declared.mark.Mark.TheVariants.{Loop, Guard, Back, Leave}
 use Rattle.muf_frame.specs.Shown.{Shown, flat, flat_mark, left}
@@ -68,3 +68,5 @@ pub fitted_none : (n : ℕ) → fitted n [] ≡ zeros n
 fitted_none n = take-replicate n n (int (pos 0)) (omega arith)
 
 pub ruleset fit_steps = (fitted_parts)
+
+pub ruleset item_steps = (view_int, view_text, view_object, view_variable, view_address, view_lock, view_items, view_dict, view_mark)

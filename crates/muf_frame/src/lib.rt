@@ -5,6 +5,7 @@ mod calls;
 mod copies;
 mod fault;
 mod frame;
+mod items;
 mod mark;
 mod stack;
 mod variables;
