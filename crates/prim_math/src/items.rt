@@ -1,5 +1,5 @@
 // The items that a primitive of numbers takes.
-ghost use Rattle.std.specs.Prelude.{◌≡◌, ◌<◌, ◌∷◌, ℤ, Bool, length, IfOk, OnOk, IfErr, OnErr};
+ghost use Rattle.std.specs.Prelude.{◌≡◌, ◌<◌, ◌∷◌, ℤ, Bool, not, length, slice_get, option_map, IfOk, OnOk, IfErr, OnErr};
 ghost use Rattle.muf_model.specs.Datum.{int};
 ghost use Rattle.muf_model.specs.Measures.{is_true};
 ghost use Rattle.muf_model.specs.Answer.{gives, refuses};
@@ -7,7 +7,9 @@ ghost use Rattle.muf_model.specs.NumberRows.{one_int, two_ints, compared, two_tr
 ghost use Rattle.muf_model.specs.StackRows.{truth, judged};
 ghost use Rattle.muf_frame.specs.Shown.{Shown, flat};
 ghost use Rattle.prim_math.specs.Answered.{having};
-ghost use Rattle.prim_math.specs.Alike.{alike};
+ghost use Rattle.prim_math.specs.Alike.{alike, as_number};
+ghost use Rattle.std.specs.Option.{option_and_then};
+ghost use Rattle.muf_model.specs.View.{view};
 
 use muf_frame::Frame;
 use muf_model::{MufFault, Value};
@@ -92,13 +94,13 @@ pub(crate) fn two_alike(frame: &mut Frame) -> Result<(i32, i32), MufFault>
     }
 }
 
-// Takes an item as a truth.
+// Takes an item as a truth, which NOT turns.
 #[tactic(auto, using(crate::proofs::Taking::truth_steps))]
 pub(crate) fn one_truth(frame: &mut Frame) -> Result<bool, MufFault>
-    ensures ok { IfOk result (λ b. (f : Bool → Bool) → having 1 frame.old (judged (λ x. f (is_true x)) (flat frame.old).stack) ≡ gives (truth (f b) ∷ (flat frame.new).stack)) }
+    ensures ok { IfOk result (λ b. having 1 frame.old (judged (λ x. not (is_true x)) (flat frame.old).stack) ≡ gives (truth (not b) ∷ (flat frame.new).stack)) }
     ensures rest { OnOk result (frame.new ≡ record frame.old { stack = frame.new.stack }) }
     ensures room { OnOk result (length frame.new.stack < 1024) }
-    ensures err { IfErr result (λ e. (f : Bool → Bool) → having 1 frame.old (judged (λ x. f (is_true x)) (flat frame.old).stack) ≡ refuses e) }
+    ensures err { IfErr result (λ e. having 1 frame.old (judged (λ x. not (is_true x)) (flat frame.old).stack) ≡ refuses e) }
     ensures same { OnErr result (frame.new ≡ frame.old) }
 {
     frame.need(1)?;
@@ -124,5 +126,34 @@ pub(crate) fn two_truths(frame: &mut Frame) -> Result<(bool, bool), MufFault>
             None => Err(MufFault::StackEmpty),
         },
         None => Err(MufFault::StackEmpty),
+    }
+}
+
+// The number that a value is or has.
+#[tactic(auto, using(muf_frame::proofs::Data::item_steps))]
+fn as_number(value: &Value) -> Option<i32>
+    ensures { result ≡ as_number (view value.now) }
+{
+    match value {
+        Value::Int(i) => Some(*i),
+        Value::Ref(d) => Some(d.0),
+        Value::Var(v) => Some(v.0.cast_signed()),
+        Value::Str(_)
+        | Value::Addr { .. }
+        | Value::Key(_)
+        | Value::Items(_)
+        | Value::Dict(_)
+        | Value::Mark => None,
+    }
+}
+
+// The number that the top item is or has.
+#[tactic(auto, using(muf_frame::proofs::Data::list_steps))]
+pub(crate) fn number_at_top(frame: &Frame) -> Option<i32>
+    ensures { result ≡ option_and_then as_number (slice_get (flat frame.now).stack 0) }
+{
+    match frame.peek(0) {
+        Some(value) => as_number(value),
+        None => None,
     }
 }

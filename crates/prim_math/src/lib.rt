@@ -3,3 +3,6 @@
 
 mod items;
 mod rows;
+mod table;
+
+pub use table::apply;

@@ -9,7 +9,7 @@ ghost use Rattle.muf_frame.specs.Shown.{Shown, flat, locked_by};
 ghost use Rattle.prim_math.specs.Answered.{Answered};
 ghost use Rattle.prim_math.specs.Alike.{as_number};
 
-use crate::items::{one_int, one_truth, two_alike, two_ints, two_truths};
+use crate::items::{number_at_top, one_int, one_truth, two_alike, two_ints, two_truths};
 use muck_model::Dbref;
 use muf_frame::Frame;
 use muf_model::{MufFault, Value};
@@ -285,4 +285,55 @@ pub(crate) fn one_of(frame: &mut Frame) -> Result<(), MufFault>
     let (a, b) = two_truths(frame)?;
     frame.push_item(truth(a != b));
     Ok(())
+}
+
+/// INT.
+#[tactic(auto, using(crate::proofs::Taking::kind_steps))]
+pub(crate) fn to_int(frame: &mut Frame) -> Result<(), MufFault>
+    ensures { Answered (number_row ToInt (locked_by (flat frame.old).marks) (flat frame.old).stack) frame.old frame.new result }
+{
+    frame.need(1)?;
+    match number_at_top(frame) {
+        Some(i) => {
+            frame.drop_items(1);
+            frame.push_item(Value::Int(i));
+            Ok(())
+        }
+        None => Err(MufFault::BadType),
+    }
+}
+
+/// DBREF.
+#[tactic(auto, using(crate::proofs::Taking::kind_steps))]
+pub(crate) fn to_dbref(frame: &mut Frame) -> Result<(), MufFault>
+    ensures { Answered (number_row ToDbref (locked_by (flat frame.old).marks) (flat frame.old).stack) frame.old frame.new result }
+{
+    frame.need(1)?;
+    match frame.int_at(0) {
+        Some(i) => {
+            frame.drop_items(1);
+            frame.push_item(Value::Ref(Dbref(i)));
+            Ok(())
+        }
+        None => Err(MufFault::BadType),
+    }
+}
+
+/// DBCMP.
+#[tactic(auto, using(crate::proofs::Taking::kind_steps))]
+pub(crate) fn same_object(frame: &mut Frame) -> Result<(), MufFault>
+    ensures { Answered (number_row DbCmp (locked_by (flat frame.old).marks) (flat frame.old).stack) frame.old frame.new result }
+{
+    frame.need(2)?;
+    match frame.object_at(0) {
+        Some(j) => match frame.object_at(1) {
+            Some(i) => {
+                frame.drop_items(2);
+                frame.push_item(truth(i.0 == j.0));
+                Ok(())
+            }
+            None => Err(MufFault::BadType),
+        },
+        None => Err(MufFault::BadType),
+    }
 }
