@@ -6,7 +6,7 @@ ghost use Rattle.muf_model.specs.Answer.{gives, refuses};
 ghost use Rattle.muf_model.specs.NumberRows.{one_int, two_ints, compared, two_truths};
 ghost use Rattle.muf_model.specs.StackRows.{truth, judged};
 ghost use Rattle.muf_frame.specs.Shown.{Shown, flat};
-ghost use Rattle.prim_math.specs.Answered.{having};
+ghost use Rattle.muf_frame.specs.Answers.{having};
 ghost use Rattle.prim_math.specs.Alike.{alike, as_number};
 ghost use Rattle.std.specs.Option.{option_and_then};
 ghost use Rattle.muf_model.specs.View.{view};

@@ -6,7 +6,7 @@ ghost use Rattle.muf_model.specs.NumberRows.{number_row, quotient, remainder, ma
 ghost use Rattle.muf_model.specs.StackRows.{truth};
 ghost use Rattle.muf_model.specs.View.{view};
 ghost use Rattle.muf_frame.specs.Shown.{Shown, flat, locked_by};
-ghost use Rattle.prim_math.specs.Answered.{Answered};
+ghost use Rattle.muf_frame.specs.Answers.{Answered};
 ghost use Rattle.prim_math.specs.Alike.{as_number};
 
 use crate::items::{number_at_top, one_int, one_truth, two_alike, two_ints, two_truths};

@@ -4,7 +4,7 @@ ghost use Rattle.muf_model.specs.declared.prims.Family.TheVariants.{Number};
 ghost use Rattle.muf_model.specs.NumberRows.{number_row};
 ghost use Rattle.muf_model.specs.Prims.{family_of};
 ghost use Rattle.muf_frame.specs.Shown.{Shown, flat, locked_by};
-ghost use Rattle.prim_math.specs.Answered.{Answered, Applied};
+ghost use Rattle.muf_frame.specs.Answers.{Answered, Applied};
 
 use crate::rows;
 use muf_frame::{Frame, PrimFault};
