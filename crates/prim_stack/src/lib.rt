@@ -1,0 +1,7 @@
+//! The primitives of the stack.
+#![tactic(auto)]
+
+mod moves;
+mod table;
+
+pub use table::Done;
