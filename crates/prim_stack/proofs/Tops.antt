@@ -1,16 +1,18 @@
 -- The rows of the stack, by the items at the top.
-use Rattle.std.proofs.Common.{◌≡◌, ℕ, zero, suc, ◌+◌, ◌-◌, ◌<◌, List, [], ◌∷◌, ◌++◌, length, map, take, drop, reverse, refl, ap, sym, ◌∙◌, arith, rules}
+use Rattle.std.proofs.Common.{length-take, true, false, ◌≡◌, ℕ, zero, suc, ◌+◌, ◌-◌, ◌<◌, List, [], ◌∷◌, ◌++◌, length, map, take, drop, reverse, refl, ap, sym, ◌∙◌, arith, rules}
 use Rattle.std.specs.Prelude.{ℤ, pos, negsuc, Option, Some, None, slice_get, slice_set, option_map, option_to_list}
 use Rattle.std.proofs.lemmas.List.{length-map, map-append, map-set}
+use Rattle.std.specs.List.{position, position_or_len}
 use Rattle.std.proofs.lemmas.Option.{slice_get-map}
 use Rattle.muf_model.specs.declared.value.Value.{Value}
 use Rattle.muf_model.specs.View.{view}
-use Rattle.muf_model.specs.StackRows.{rotated, rotated_up, rotated_down, put_at}
+use Rattle.muf_model.specs.StackRows.{is_mark, above, rotated, rotated_up, rotated_down, put_at}
 use Rattle.muf_model.specs.declared.fault.MufFault.TheVariants.{BadType, BadArgument}
 use Rattle.muf_model.specs.Datum.{Datum, int, text, object, variable, address, lock, items, dict, mark}
 use Rattle.muf_model.specs.Answer.{Answer, gives, refuses, needing, by_count}
 use Rattle.muf_model.proofs.Views.{view_int, view_mark}
 use Rattle.muf_frame.specs.Answers.{int_at}
+use Rattle.prim_stack.specs.Does.{mark_in}
 use Rattle.muf_frame.proofs.Data.{map_take, map_drop}
 use Rattle.muf_frame.proofs.Alike.{map_reverse}
 
@@ -71,3 +73,48 @@ turned_data n xs = rw (map-append, map_drop, map_reverse, map_take) refl
 pub ruleset move_steps = (lifted, sunk, put_read, turned_data, map_take, map_drop, map-set, length-map)
 
 pub ruleset rotate_steps = (rotated_read, map_drop, length-map)
+
+get_taken : {A : Type 0} → (n m : ℕ) (xs : List A) → n < m → slice_get (take m xs) n ≡ slice_get xs n
+get_taken n zero xs h = absurd (omega (arith, h))
+get_taken n (suc m) [] h = refl
+get_taken zero (suc m) (x ∷ xs) h = refl
+get_taken (suc n) (suc m) (x ∷ xs) h = get_taken n m xs (omega (arith, h))
+
+-- one item further, where it is no mark
+pub mark_passed : (n : ℕ) (xs : List Datum) → n < length xs → mark_in (slice_get xs n) ≡ false → position_or_len is_mark (drop n xs) ≡ suc (position_or_len is_mark (drop (n + 1) xs))
+mark_passed n [] h e = absurd (omega (arith, h))
+mark_passed zero (x ∷ xs) h e =
+    let g : is_mark x ≡ false = e in
+    rw (g) (omega arith)
+mark_passed (suc n) (x ∷ xs) h e = let k : suc n + 1 ≡ suc (n + 1) = omega arith in rw (k) (mark_passed n xs (omega (arith, h)) e)
+
+-- and there, where it is one
+pub mark_found : (n : ℕ) (xs : List Datum) → mark_in (slice_get xs n) ≡ true → position_or_len is_mark (drop n xs) ≡ 0
+mark_found n [] e = absurd (search (rules, e))
+mark_found zero (x ∷ xs) e =
+    let g : is_mark x ≡ true = e in
+    rw (g) refl
+mark_found (suc n) (x ∷ xs) e = mark_found n xs e
+
+length_above : (l : ℕ) (s : List Datum) → length (above l s) ≡ length s - l
+length_above l s = omega (arith, length-take (length s - l) s)
+
+position_here : (n : ℕ) (xs : List Datum) → position_or_len is_mark xs ≡ n → n < length xs → position is_mark xs ≡ Some n
+position_here n xs e h = rw (e) (search (rules, h))
+
+pub nearest_here : (l n : ℕ) (s : List Datum) → n < length s - l → position_or_len is_mark (above l s) ≡ n + position_or_len is_mark (drop n (above l s)) → mark_in (slice_get s n) ≡ true → Some n ≡ position is_mark (above l s)
+nearest_here l n s h e m =
+    let f : position_or_len is_mark (drop n (above l s)) ≡ 0 = mark_found n (above l s) (ap mark_in (get_taken n (length s - l) s h) ∙ m) in
+    sym (position_here n (above l s) (omega (arith, e, f)) (omega (arith, h, length_above l s)))
+
+pub nearest_further : (l n : ℕ) (s : List Datum) → n < length s - l → position_or_len is_mark (above l s) ≡ n + position_or_len is_mark (drop n (above l s)) → mark_in (slice_get s n) ≡ false → position_or_len is_mark (above l s) ≡ n + 1 + position_or_len is_mark (drop (n + 1) (above l s))
+nearest_further l n s h e m =
+    let f : position_or_len is_mark (drop n (above l s)) ≡ suc (position_or_len is_mark (drop (n + 1) (above l s))) = mark_passed n (above l s) (omega (arith, h, length_above l s)) (ap mark_in (get_taken n (length s - l) s h) ∙ m) in
+    omega (arith, e, f)
+
+pub closed_data : (n : ℕ) (xs : List Value) → map view (take n xs ++ drop (n + 1) xs) ≡ take n (map view xs) ++ drop (n + 1) (map view xs)
+closed_data n xs = map-append view (take n xs) (drop (n + 1) xs) ∙ ap (λ a. a ++ map view (drop (n + 1) xs)) (map_take view n xs) ∙ ap (λ b. take n (map view xs) ++ b) (map_drop view (n + 1) xs)
+
+pub ruleset mark_steps = (slice_get-map, length-map)
+
+pub ruleset close_steps = (closed_data, view_int)

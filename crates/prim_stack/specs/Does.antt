@@ -1,8 +1,9 @@
 -- What a primitive of the stack does, and what it looks at.
-use Rattle.std.specs.Prelude.{◌≡◌, ℕ, List, ◌∷◌, ℤ, pos, negsuc, Option, Some, None, Result, Ok, Err, slice_get}
+use Rattle.std.specs.Prelude.{◌≡◌, ℕ, List, ◌∷◌, ℤ, pos, negsuc, Bool, true, false, Option, Some, None, Result, Ok, Err, slice_get}
 use Rattle.std.specs.Option.{option_and_then}
 use Rattle.muf_model.specs.Datum.{Datum, int, text, variable, address}
 use Rattle.muf_model.specs.Answer.{Answer, calls, refuses, counted}
+use Rattle.muf_model.specs.StackRows.{is_mark}
 use Rattle.muf_frame.specs.declared.fault.PrimFault.{PrimFault}
 use Rattle.muf_frame.specs.declared.fault.PrimFault.TheVariants.{Fault, NoMemory}
 use Rattle.muf_frame.specs.Shown.{Shown, flat, locked_by}
@@ -20,3 +21,8 @@ Does a old new (Err NoMemory) = Unit {0}
 -- an answer by the count on the top of a frame that has so many items beside the fixed ones
 abbrev pub counting : ℕ → Shown → (ℕ → Answer) → Answer
 counting fixed f answer = counted fixed (locked_by (flat f).marks) (flat f).stack answer
+
+-- whether a mark is there
+abbrev pub mark_in : Option Datum → Bool
+mark_in (Some x) = is_mark x
+mark_in None = false

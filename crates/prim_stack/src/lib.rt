@@ -1,6 +1,8 @@
 //! The primitives of the stack.
 #![tactic(auto)]
 
+mod kinds;
+mod marks;
 mod moves;
 mod table;
 
