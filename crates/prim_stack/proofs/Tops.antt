@@ -30,7 +30,7 @@ pub ruleset give_steps = (view_int, view_mark, length-map)
 
 pub ruleset count_steps = (by_count_read, length-map)
 
-first_one : {A : Type 0} → (n : ℕ) (xs : List A) (x : A) → slice_get xs n ≡ Some x → take 1 (drop n xs) ≡ x ∷ []
+pub first_one : {A : Type 0} → (n : ℕ) (xs : List A) (x : A) → slice_get xs n ≡ Some x → take 1 (drop n xs) ≡ x ∷ []
 first_one zero [] x s = absurd (search (rules, s))
 first_one zero (y ∷ ys) x s = ap (λ o. option_to_list o) s
 first_one (suc n) [] x s = absurd (search (rules, s))

@@ -3,6 +3,7 @@ use Rattle.std.specs.Prelude.{◌≡◌, ℕ, List, ◌∷◌, ℤ, pos, negsuc,
 use Rattle.std.specs.Option.{option_and_then}
 use Rattle.muf_model.specs.Datum.{Datum, int, text, variable, address}
 use Rattle.muf_model.specs.Answer.{Answer, calls, refuses, counted}
+use Rattle.muf_model.specs.Measures.{is_true}
 use Rattle.muf_model.specs.StackRows.{is_mark}
 use Rattle.muf_frame.specs.declared.fault.PrimFault.{PrimFault}
 use Rattle.muf_frame.specs.declared.fault.PrimFault.TheVariants.{Fault, NoMemory}
@@ -26,3 +27,8 @@ counting fixed f answer = counted fixed (locked_by (flat f).marks) (flat f).stac
 abbrev pub mark_in : Option Datum → Bool
 mark_in (Some x) = is_mark x
 mark_in None = false
+
+-- whether a true item is there
+abbrev pub true_in : Option Datum → Bool
+true_in (Some x) = is_true x
+true_in None = false

@@ -1,6 +1,7 @@
 //! The primitives of the stack.
 #![tactic(auto)]
 
+mod copies;
 mod kinds;
 mod marks;
 mod moves;
