@@ -100,3 +100,46 @@ pub(crate) fn pick(frame: &mut Frame) -> Result<(), PrimFault>
     frame.push_item(item);
     Ok(())
 }
+
+// The n items at the top once more, where there is room.
+#[tactic(auto, using(crate::proofs::Copying::many_steps))]
+fn copy_items(frame: &mut Frame, n: usize) -> Result<(), NoMemory>
+    requires there { n ≤ length frame.old.stack }
+    requires room { length frame.old.stack + n ≤ 1024 }
+    ensures { OnOk result (flat frame.new ≡ record (flat frame.old) { stack = take n (flat frame.old).stack ++ (flat frame.old).stack }) }
+{
+    let mut at = 0;
+    while at < n {
+        let item = copy_at(frame, n - 1)?;
+        frame.push_item(item);
+        at += 1;
+    }
+    Ok(())
+}
+
+/// DUPN.
+#[tactic(auto, using(crate::proofs::Copying::dupn_steps))]
+pub(crate) fn dupn(frame: &mut Frame) -> Result<(), PrimFault>
+    ensures { (words : ℕ) → AppliedOr (stack_row DupN (scope_of words (flat frame.old)) (flat frame.old).stack) frame.old frame.new result }
+{
+    let n = count(frame, 1)?;
+    if frame.len() - 1 + n > STACK_MOST {
+        return Err(PrimFault::Fault(MufFault::StackFull));
+    }
+    frame.drop_items(1);
+    copy_items(frame, n)?;
+    Ok(())
+}
+
+/// LDUP.
+#[tactic(auto, using(crate::proofs::Copying::ldup_steps))]
+pub(crate) fn ldup(frame: &mut Frame) -> Result<(), PrimFault>
+    ensures { (words : ℕ) → AppliedOr (stack_row LDup (scope_of words (flat frame.old)) (flat frame.old).stack) frame.old frame.new result }
+{
+    let n = count(frame, 1)?;
+    if frame.len() + n + 1 > STACK_MOST {
+        return Err(PrimFault::Fault(MufFault::StackFull));
+    }
+    copy_items(frame, n + 1)?;
+    Ok(())
+}

@@ -1,11 +1,11 @@
 // The primitives that only move items, and take no memory.
-ghost use Rattle.std.specs.Prelude.{◌≡◌, ◌+◌, ◌<◌, ◌≤◌, ◌∷◌, [], ℕ, ℤ, length, drop, IfOk, IfErr};
+ghost use Rattle.std.specs.Prelude.{◌≡◌, ◌+◌, ◌<◌, ◌≤◌, ◌∷◌, [], ℕ, ℤ, Some, pos, length, drop, IfOk, IfErr};
 ghost use Rattle.muf_model.specs.declared.prims.Primitive.TheVariants.{Pop, Swap, Rot, Rotate, Put, Nip, PopN, Reverse, Depth, OpenMark, CloseMark};
 ghost use Rattle.muf_model.specs.Answer.{Answer, refuses};
 ghost use Rattle.muf_model.specs.StackRows.{stack_row, rotated_up, rotated_down};
 ghost use Rattle.muf_frame.specs.Shown.{Shown, flat, locked_by};
 ghost use Rattle.muf_frame.specs.Moves.{scope_of};
-ghost use Rattle.muf_frame.specs.Answers.{Answered};
+ghost use Rattle.muf_frame.specs.Answers.{Answered, int_at};
 ghost use Rattle.prim_stack.specs.Does.{counting};
 
 use muf_frame::Frame;
@@ -101,6 +101,7 @@ pub(crate) fn count(frame: &Frame, fixed: usize) -> Result<usize, MufFault>
     requires { fixed ≤ 2 }
     ensures ok { IfOk result (λ n. (answer : ℕ → Answer) → counting fixed frame.now answer ≡ answer n) }
     ensures there { IfOk result (λ n. n + fixed ≤ length frame.now.stack) }
+    ensures top { IfOk result (λ n. int_at 0 (flat frame.now).stack ≡ Some (pos n)) }
     ensures err { IfErr result (λ e. (answer : ℕ → Answer) → counting fixed frame.now answer ≡ refuses e) }
 {
     frame.need(fixed)?;
