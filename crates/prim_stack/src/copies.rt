@@ -39,7 +39,7 @@ fn is_true_at_top(frame: &Frame) -> bool
 /// DUP.
 #[tactic(auto, using(crate::proofs::Copying::copy_steps))]
 pub(crate) fn dup(frame: &mut Frame) -> Result<(), PrimFault>
-    ensures { (words : ℕ) → AppliedOr (stack_row Dup (scope_of words (flat frame.old)) (flat frame.old).stack) frame.old frame.new result }
+    ensures { AppliedOr (stack_row Dup (scope_of 0 (flat frame.old)) (flat frame.old).stack) frame.old frame.new result }
 {
     frame.need(1)?;
     let item = copy_at(frame, 0)?;
@@ -50,7 +50,7 @@ pub(crate) fn dup(frame: &mut Frame) -> Result<(), PrimFault>
 /// ?DUP.
 #[tactic(auto, using(crate::proofs::Copying::copy_steps))]
 pub(crate) fn dup_true(frame: &mut Frame) -> Result<(), PrimFault>
-    ensures { (words : ℕ) → AppliedOr (stack_row DupTrue (scope_of words (flat frame.old)) (flat frame.old).stack) frame.old frame.new result }
+    ensures { AppliedOr (stack_row DupTrue (scope_of 0 (flat frame.old)) (flat frame.old).stack) frame.old frame.new result }
 {
     frame.need(1)?;
     if !is_true_at_top(frame) {
@@ -64,7 +64,7 @@ pub(crate) fn dup_true(frame: &mut Frame) -> Result<(), PrimFault>
 /// OVER.
 #[tactic(auto, using(crate::proofs::Copying::copy_steps))]
 pub(crate) fn over(frame: &mut Frame) -> Result<(), PrimFault>
-    ensures { (words : ℕ) → AppliedOr (stack_row Over (scope_of words (flat frame.old)) (flat frame.old).stack) frame.old frame.new result }
+    ensures { AppliedOr (stack_row Over (scope_of 0 (flat frame.old)) (flat frame.old).stack) frame.old frame.new result }
 {
     frame.need(2)?;
     let item = copy_at(frame, 1)?;
@@ -75,7 +75,7 @@ pub(crate) fn over(frame: &mut Frame) -> Result<(), PrimFault>
 /// TUCK.
 #[tactic(auto, using(crate::proofs::Copying::tuck_steps))]
 pub(crate) fn tuck(frame: &mut Frame) -> Result<(), PrimFault>
-    ensures { (words : ℕ) → AppliedOr (stack_row Tuck (scope_of words (flat frame.old)) (flat frame.old).stack) frame.old frame.new result }
+    ensures { AppliedOr (stack_row Tuck (scope_of 0 (flat frame.old)) (flat frame.old).stack) frame.old frame.new result }
 {
     frame.need(2)?;
     let item = copy_at(frame, 0)?;
@@ -89,7 +89,7 @@ pub(crate) fn tuck(frame: &mut Frame) -> Result<(), PrimFault>
 /// PICK.
 #[tactic(auto, using(crate::proofs::Copying::pick_steps))]
 pub(crate) fn pick(frame: &mut Frame) -> Result<(), PrimFault>
-    ensures { (words : ℕ) → AppliedOr (stack_row Pick (scope_of words (flat frame.old)) (flat frame.old).stack) frame.old frame.new result }
+    ensures { AppliedOr (stack_row Pick (scope_of 0 (flat frame.old)) (flat frame.old).stack) frame.old frame.new result }
 {
     let n = count(frame, 1)?;
     if n == 0 {
@@ -120,7 +120,7 @@ fn copy_items(frame: &mut Frame, n: usize) -> Result<(), NoMemory>
 /// DUPN.
 #[tactic(auto, using(crate::proofs::Copying::dupn_steps))]
 pub(crate) fn dupn(frame: &mut Frame) -> Result<(), PrimFault>
-    ensures { (words : ℕ) → AppliedOr (stack_row DupN (scope_of words (flat frame.old)) (flat frame.old).stack) frame.old frame.new result }
+    ensures { AppliedOr (stack_row DupN (scope_of 0 (flat frame.old)) (flat frame.old).stack) frame.old frame.new result }
 {
     let n = count(frame, 1)?;
     if frame.len() - 1 + n > STACK_MOST {
@@ -134,7 +134,7 @@ pub(crate) fn dupn(frame: &mut Frame) -> Result<(), PrimFault>
 /// LDUP.
 #[tactic(auto, using(crate::proofs::Copying::ldup_steps))]
 pub(crate) fn ldup(frame: &mut Frame) -> Result<(), PrimFault>
-    ensures { (words : ℕ) → AppliedOr (stack_row LDup (scope_of words (flat frame.old)) (flat frame.old).stack) frame.old frame.new result }
+    ensures { AppliedOr (stack_row LDup (scope_of 0 (flat frame.old)) (flat frame.old).stack) frame.old frame.new result }
 {
     let n = count(frame, 1)?;
     if frame.len() + n + 1 > STACK_MOST {

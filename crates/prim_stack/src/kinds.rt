@@ -55,7 +55,7 @@ fn is_int(value: &Value) -> bool
 /// INT?.
 #[tactic(auto, using(crate::proofs::Tops::give_steps))]
 pub(crate) fn judge_int(frame: &mut Frame) -> Result<(), MufFault>
-    ensures { (words : ℕ) → Answered (stack_row IsInt (scope_of words (flat frame.old)) (flat frame.old).stack) frame.old frame.new result }
+    ensures { Answered (stack_row IsInt (scope_of 0 (flat frame.old)) (flat frame.old).stack) frame.old frame.new result }
 {
     frame.need(1)?;
     match frame.pop_item() {
@@ -87,7 +87,7 @@ fn is_text(value: &Value) -> bool
 /// STRING?.
 #[tactic(auto, using(crate::proofs::Tops::give_steps))]
 pub(crate) fn judge_text(frame: &mut Frame) -> Result<(), MufFault>
-    ensures { (words : ℕ) → Answered (stack_row IsString (scope_of words (flat frame.old)) (flat frame.old).stack) frame.old frame.new result }
+    ensures { Answered (stack_row IsString (scope_of 0 (flat frame.old)) (flat frame.old).stack) frame.old frame.new result }
 {
     frame.need(1)?;
     match frame.pop_item() {
@@ -119,7 +119,7 @@ fn is_object(value: &Value) -> bool
 /// DBREF?.
 #[tactic(auto, using(crate::proofs::Tops::give_steps))]
 pub(crate) fn judge_object(frame: &mut Frame) -> Result<(), MufFault>
-    ensures { (words : ℕ) → Answered (stack_row IsDbref (scope_of words (flat frame.old)) (flat frame.old).stack) frame.old frame.new result }
+    ensures { Answered (stack_row IsDbref (scope_of 0 (flat frame.old)) (flat frame.old).stack) frame.old frame.new result }
 {
     frame.need(1)?;
     match frame.pop_item() {
@@ -150,7 +150,7 @@ fn is_array(value: &Value) -> bool
 /// ARRAY?, true of lists and dictionaries.
 #[tactic(auto, using(crate::proofs::Tops::give_steps))]
 pub(crate) fn judge_array(frame: &mut Frame) -> Result<(), MufFault>
-    ensures { (words : ℕ) → Answered (stack_row IsArray (scope_of words (flat frame.old)) (flat frame.old).stack) frame.old frame.new result }
+    ensures { Answered (stack_row IsArray (scope_of 0 (flat frame.old)) (flat frame.old).stack) frame.old frame.new result }
 {
     frame.need(1)?;
     match frame.pop_item() {
@@ -182,7 +182,7 @@ fn is_dict(value: &Value) -> bool
 /// DICTIONARY?.
 #[tactic(auto, using(crate::proofs::Tops::give_steps))]
 pub(crate) fn judge_dict(frame: &mut Frame) -> Result<(), MufFault>
-    ensures { (words : ℕ) → Answered (stack_row IsDictionary (scope_of words (flat frame.old)) (flat frame.old).stack) frame.old frame.new result }
+    ensures { Answered (stack_row IsDictionary (scope_of 0 (flat frame.old)) (flat frame.old).stack) frame.old frame.new result }
 {
     frame.need(1)?;
     match frame.pop_item() {
@@ -214,7 +214,7 @@ fn is_address(value: &Value) -> bool
 /// ADDRESS?.
 #[tactic(auto, using(crate::proofs::Tops::give_steps))]
 pub(crate) fn judge_address(frame: &mut Frame) -> Result<(), MufFault>
-    ensures { (words : ℕ) → Answered (stack_row IsAddress (scope_of words (flat frame.old)) (flat frame.old).stack) frame.old frame.new result }
+    ensures { Answered (stack_row IsAddress (scope_of 0 (flat frame.old)) (flat frame.old).stack) frame.old frame.new result }
 {
     frame.need(1)?;
     match frame.pop_item() {
@@ -246,7 +246,7 @@ fn is_lock(value: &Value) -> bool
 /// LOCK?.
 #[tactic(auto, using(crate::proofs::Tops::give_steps))]
 pub(crate) fn judge_lock(frame: &mut Frame) -> Result<(), MufFault>
-    ensures { (words : ℕ) → Answered (stack_row IsLock (scope_of words (flat frame.old)) (flat frame.old).stack) frame.old frame.new result }
+    ensures { Answered (stack_row IsLock (scope_of 0 (flat frame.old)) (flat frame.old).stack) frame.old frame.new result }
 {
     frame.need(1)?;
     match frame.pop_item() {

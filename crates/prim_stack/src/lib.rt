@@ -5,6 +5,7 @@ mod copies;
 mod kinds;
 mod marks;
 mod moves;
+mod names;
 mod table;
 
-pub use table::Done;
+pub use table::{Done, apply};

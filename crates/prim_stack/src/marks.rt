@@ -56,7 +56,7 @@ fn count_down_to(frame: &mut Frame, n: usize)
 
 /// `}`.
 pub(crate) fn close_mark(frame: &mut Frame) -> Result<(), MufFault>
-    ensures { (words : ℕ) → Answered (stack_row CloseMark (scope_of words (flat frame.old)) (flat frame.old).stack) frame.old frame.new result }
+    ensures { Answered (stack_row CloseMark (scope_of 0 (flat frame.old)) (flat frame.old).stack) frame.old frame.new result }
 {
     match nearest_mark(frame) {
         Some(n) => {

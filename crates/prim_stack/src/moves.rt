@@ -13,7 +13,7 @@ use muf_model::{MufFault, STACK_MOST, Value};
 
 /// POP.
 pub(crate) fn pop(frame: &mut Frame) -> Result<(), MufFault>
-    ensures { (words : ℕ) → Answered (stack_row Pop (scope_of words (flat frame.old)) (flat frame.old).stack) frame.old frame.new result }
+    ensures { Answered (stack_row Pop (scope_of 0 (flat frame.old)) (flat frame.old).stack) frame.old frame.new result }
 {
     let _dropped = frame.pop()?;
     Ok(())
@@ -21,7 +21,7 @@ pub(crate) fn pop(frame: &mut Frame) -> Result<(), MufFault>
 
 /// SWAP.
 pub(crate) fn swap(frame: &mut Frame) -> Result<(), MufFault>
-    ensures { (words : ℕ) → Answered (stack_row Swap (scope_of words (flat frame.old)) (flat frame.old).stack) frame.old frame.new result }
+    ensures { Answered (stack_row Swap (scope_of 0 (flat frame.old)) (flat frame.old).stack) frame.old frame.new result }
 {
     frame.need(2)?;
     match frame.pop_item() {
@@ -39,7 +39,7 @@ pub(crate) fn swap(frame: &mut Frame) -> Result<(), MufFault>
 
 /// ROT.
 pub(crate) fn rot(frame: &mut Frame) -> Result<(), MufFault>
-    ensures { (words : ℕ) → Answered (stack_row Rot (scope_of words (flat frame.old)) (flat frame.old).stack) frame.old frame.new result }
+    ensures { Answered (stack_row Rot (scope_of 0 (flat frame.old)) (flat frame.old).stack) frame.old frame.new result }
 {
     frame.need(3)?;
     match frame.pop_item() {
@@ -61,7 +61,7 @@ pub(crate) fn rot(frame: &mut Frame) -> Result<(), MufFault>
 
 /// NIP.
 pub(crate) fn nip(frame: &mut Frame) -> Result<(), MufFault>
-    ensures { (words : ℕ) → Answered (stack_row Nip (scope_of words (flat frame.old)) (flat frame.old).stack) frame.old frame.new result }
+    ensures { Answered (stack_row Nip (scope_of 0 (flat frame.old)) (flat frame.old).stack) frame.old frame.new result }
 {
     frame.need(2)?;
     match frame.pop_item() {
@@ -79,7 +79,7 @@ pub(crate) fn nip(frame: &mut Frame) -> Result<(), MufFault>
 /// DEPTH.
 #[tactic(auto, using(crate::proofs::Tops::give_steps))]
 pub(crate) fn depth(frame: &mut Frame) -> Result<(), MufFault>
-    ensures { (words : ℕ) → Answered (stack_row Depth (scope_of words (flat frame.old)) (flat frame.old).stack) frame.old frame.new result }
+    ensures { Answered (stack_row Depth (scope_of 0 (flat frame.old)) (flat frame.old).stack) frame.old frame.new result }
 {
     let depth = frame.depth() as i32;
     frame.push(Value::Int(depth))?;
@@ -89,7 +89,7 @@ pub(crate) fn depth(frame: &mut Frame) -> Result<(), MufFault>
 /// `{`.
 #[tactic(auto, using(crate::proofs::Tops::give_steps))]
 pub(crate) fn open_mark(frame: &mut Frame) -> Result<(), MufFault>
-    ensures { (words : ℕ) → Answered (stack_row OpenMark (scope_of words (flat frame.old)) (flat frame.old).stack) frame.old frame.new result }
+    ensures { Answered (stack_row OpenMark (scope_of 0 (flat frame.old)) (flat frame.old).stack) frame.old frame.new result }
 {
     frame.push(Value::Mark)?;
     Ok(())
@@ -147,7 +147,7 @@ fn sink(frame: &mut Frame, n: usize)
 /// ROTATE.
 #[tactic(auto, using(crate::proofs::Tops::rotate_steps))]
 pub(crate) fn rotate(frame: &mut Frame) -> Result<(), MufFault>
-    ensures { (words : ℕ) → Answered (stack_row Rotate (scope_of words (flat frame.old)) (flat frame.old).stack) frame.old frame.new result }
+    ensures { Answered (stack_row Rotate (scope_of 0 (flat frame.old)) (flat frame.old).stack) frame.old frame.new result }
 {
     frame.need(1)?;
     match frame.int_at(0) {
@@ -169,7 +169,7 @@ pub(crate) fn rotate(frame: &mut Frame) -> Result<(), MufFault>
 /// PUT.
 #[tactic(auto, using(crate::proofs::Tops::move_steps))]
 pub(crate) fn put(frame: &mut Frame) -> Result<(), MufFault>
-    ensures { (words : ℕ) → Answered (stack_row Put (scope_of words (flat frame.old)) (flat frame.old).stack) frame.old frame.new result }
+    ensures { Answered (stack_row Put (scope_of 0 (flat frame.old)) (flat frame.old).stack) frame.old frame.new result }
 {
     let n = count(frame, 2)?;
     if n == 0 {
@@ -188,7 +188,7 @@ pub(crate) fn put(frame: &mut Frame) -> Result<(), MufFault>
 /// POPN.
 #[tactic(auto, using(crate::proofs::Tops::move_steps))]
 pub(crate) fn popn(frame: &mut Frame) -> Result<(), MufFault>
-    ensures { (words : ℕ) → Answered (stack_row PopN (scope_of words (flat frame.old)) (flat frame.old).stack) frame.old frame.new result }
+    ensures { Answered (stack_row PopN (scope_of 0 (flat frame.old)) (flat frame.old).stack) frame.old frame.new result }
 {
     let n = count(frame, 1)?;
     frame.drop_items(1);
@@ -199,7 +199,7 @@ pub(crate) fn popn(frame: &mut Frame) -> Result<(), MufFault>
 /// REVERSE.
 #[tactic(auto, using(crate::proofs::Tops::move_steps))]
 pub(crate) fn reverse(frame: &mut Frame) -> Result<(), MufFault>
-    ensures { (words : ℕ) → Answered (stack_row Reverse (scope_of words (flat frame.old)) (flat frame.old).stack) frame.old frame.new result }
+    ensures { Answered (stack_row Reverse (scope_of 0 (flat frame.old)) (flat frame.old).stack) frame.old frame.new result }
 {
     let n = count(frame, 1)?;
     frame.drop_items(1);
