@@ -1,0 +1,4 @@
+pub mod Tops
+pub mod Owners
+pub mod Unguarded
+pub mod Data

@@ -1,0 +1,14 @@
+//! The frame of a running program: its stacks, its variables, and what encloses the place where it stands.
+#![tactic(auto)]
+
+mod calls;
+mod fault;
+mod frame;
+mod mark;
+mod stack;
+mod variables;
+mod words;
+
+pub use fault::PrimFault;
+pub use frame::{Frame, Owned};
+pub use mark::{Mark, Turns};
