@@ -1,0 +1,2 @@
+//! The machine that runs the code of a program.
+#![tactic(auto)]
