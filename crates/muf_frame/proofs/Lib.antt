@@ -1,4 +1,5 @@
 pub mod Tops
+pub mod Alike
 pub mod Owners
 pub mod Unguarded
 pub mod Data

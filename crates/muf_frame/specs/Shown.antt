@@ -80,13 +80,23 @@ opened_by (guard locked place ∷ ms) = suc (opened_by ms)
 opened_by (back base place ∷ ms) = opened_by ms
 opened_by (leave caller base place ∷ ms) = opened_by ms
 
+-- what a TRY's mark knows of what is locked outside it
+abbrev pub outer_of : Mark → ℕ
+outer_of (Loop t again after) = 0
+outer_of (Guard locked outer handler) = outer
+outer_of (Back base place) = 0
+outer_of (Leave caller base place) = 0
+
+abbrev pub GuardFits : FlatMark → ℕ → ℕ → Type 0
+GuardFits (loop t again after) outer below = Unit {0}
+GuardFits (guard locked place) outer below = (locked < 1024) × (outer < 1024) × (outer ≡ below)
+GuardFits (back base place) outer below = Unit {0}
+GuardFits (leave caller base place) outer below = Unit {0}
+
 -- each TRY locks less than a whole stack, and knows what is locked outside it
 abbrev pub GuardsFit : List Mark → Type 0
 GuardsFit [] = Unit {0}
-GuardsFit (Loop t again after ∷ ms) = GuardsFit ms
-GuardsFit (Guard locked outer handler ∷ ms) = (locked < 1024) × (outer < 1024) × (outer ≡ locked_by (map flat_mark ms)) × GuardsFit ms
-GuardsFit (Back base place ∷ ms) = GuardsFit ms
-GuardsFit (Leave caller base place ∷ ms) = GuardsFit ms
+GuardsFit (m ∷ ms) = GuardFits (flat_mark m) (outer_of m) (locked_by (map flat_mark ms)) × GuardsFit ms
 
 -- a TRY's mark locks less than a whole stack
 abbrev pub HeightFits : Mark → Type 0

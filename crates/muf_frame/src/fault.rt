@@ -64,7 +64,9 @@ impl Frame {
         while let Some(mark) = self.pop_mark() {
             match mark {
                 Mark::Guard {
-                    locked, handler, ..
+                    locked,
+                    handler,
+                    ..
                 } => {
                     self.cut(locked);
                     self.push_item(Value::Str(text));

@@ -2,8 +2,10 @@
 #![tactic(auto)]
 
 mod calls;
+mod copies;
 mod fault;
 mod frame;
+mod items;
 mod mark;
 mod stack;
 mod variables;
