@@ -33,6 +33,7 @@ use Rattle.muf_model.specs.Fits.{MarksFit, none, loops, tries, calls, enters, Fi
 use Rattle.muf_model.proofs.Standing.{stands_map, joins}
 use Rattle.muf_frame.specs.Shown.{locked_by, calls_by, opened_by}
 use Rattle.muf_frame.specs.Moves.{unwound, caught, scope_of}
+use Rattle.muf_frame.specs.Answers.{int_at}
 use Rattle.muf_run.specs.Machine as machine
 use Rattle.muf_run.specs.Machine.{Next, going, at_end, broken, asking, after_fault}
 use Rattle.muf_run.specs.Alike.{EndsAlike}
@@ -118,6 +119,10 @@ set_back : (xs ys : List Datum) (i : ℕ) (x : Datum) → slice_set (xs ++ ys) (
 set_back [] ys i x = let e : 0 + i ≡ i = omega arith in rw e refl
 set_back (y ∷ xs) ys i x = let e : suc (length xs) + i ≡ suc (length xs + i) = omega arith in rw e (ap (λ l. y ∷ l) (set_back xs ys i x))
 
+drop_behind : (xs ys : List Datum) (n : ℕ) → drop (length xs + n) (xs ++ ys) ≡ drop n ys
+drop_behind [] ys n = let e : 0 + n ≡ n = omega arith in rw e refl
+drop_behind (x ∷ xs) ys n = let e : suc (length xs) + n ≡ suc (length xs + n) = omega arith in rw e (drop_behind xs ys n)
+
 words_length : (code : List Placed) (ws : List CodeWord) (ds : List Definition) → WordsStand code ws ds → length ws ≡ length ds
 words_length code [] [] h = refl
 words_length code (w ∷ ws) (d ∷ ds) h = ap suc (words_length code ws ds h.1)
@@ -166,7 +171,7 @@ module _ (code : Code) (codes : List Code) (common vars below : List Datum) (own
 
   bound_alike : (n : ℕ) (stack : List Datum) (place : ℕ) (next : Block) (end : End) → Remains code.placed place next end → EndsAlike (code ∷ codes) (machine.bound n (flat_at stack common owned below vars program place ns)) (source_unit.bound n (state_at stack common owned vars program next end ms))
   bound_alike n stack place next end a =
-      rw (locked_alike m, drop-append_seam below vars, take-append_seam below vars) (cond_alike (code ∷ codes) (nat_lt (length stack) (locked_of ms + n)) _ _ _ _ (refused (too_few n stack) stack place next end) (refl, fit p a m))
+      rw (locked_alike m, drop_behind below vars n, take-append_seam below vars) (cond_alike (code ∷ codes) (nat_lt (length stack) (locked_of ms + n)) _ _ _ _ (refused (too_few n stack) stack place next end) (refl, fit p a m))
 
   kept_same : (v : ℕ) (stack : List Datum) (next : Block) (end : End) → machine.kept v stack (source.scope_of (state_at stack common owned vars program next end ms)) ≡ source_unit.kept v stack (state_at stack common owned vars program next end ms)
   kept_same v [] next end = refl
@@ -179,7 +184,7 @@ module _ (code : Code) (codes : List Code) (common vars below : List Datum) (own
   keeping_alike v stack place next end a =
       rw (kept_alike v stack place next end, locked_alike m) (answered_alike (needing 1 (locked_of ms) stack (source_unit.kept v stack (state_at stack common owned vars program next end ms))) stack place next end a)
 
-  for_alike : (stack : List Datum) (place : ℕ) (next : Block) (end : End) (body : Block) (c : Closer) (last after : ℕ) → Remains code.placed place body (closes c last) → Remains code.placed after next end → EndsAlike (code ∷ codes) (machine.for_count (machine.int_at 0 stack) (machine.int_at 1 stack) (machine.int_at 2 stack) after (flat_at stack common owned below vars program place ns)) (source_unit.for_count stack (state_at stack common owned vars program next end ms) body c last)
+  for_alike : (stack : List Datum) (place : ℕ) (next : Block) (end : End) (body : Block) (c : Closer) (last after : ℕ) → Remains code.placed place body (closes c last) → Remains code.placed after next end → EndsAlike (code ∷ codes) (machine.for_count (int_at 0 stack) (int_at 1 stack) (int_at 2 stack) after (flat_at stack common owned below vars program place ns)) (source_unit.for_count stack (state_at stack common owned vars program next end ms) body c last)
   for_alike [] place next end body c last after a b = refused BadType [] place next end
   for_alike (text t ∷ rest) place next end body c last after a b = refused BadType (text t ∷ rest) place next end
   for_alike (object o ∷ rest) place next end body c last after a b = refused BadType (object o ∷ rest) place next end
@@ -224,7 +229,7 @@ module _ (code : Code) (codes : List Code) (common vars below : List Datum) (own
   each_alike (dict ps ∷ rest) place next end body c last after a b =
       opening_alike (dict ps ∷ rest) place next end _ _ (fit p a (loops a b m))
 
-  try_alike : (stack : List Datum) (place : ℕ) (next : Block) (end : End) (block : Block) (at : End) (handler : Block) (to : ℕ) → Remains code.placed place block at → Remains code.placed to handler end → EndsAlike (code ∷ codes) (machine.try_count (machine.int_at 0 stack) to (flat_at stack common owned below vars program place ns)) (source_unit.try_count stack (state_at stack common owned vars program next end ms) block at handler)
+  try_alike : (stack : List Datum) (place : ℕ) (next : Block) (end : End) (block : Block) (at : End) (handler : Block) (to : ℕ) → Remains code.placed place block at → Remains code.placed to handler end → EndsAlike (code ∷ codes) (machine.try_count (int_at 0 stack) to (flat_at stack common owned below vars program place ns)) (source_unit.try_count stack (state_at stack common owned vars program next end ms) block at handler)
   try_alike [] place next end block at handler to a b = refused BadType [] place next end
   try_alike (text t ∷ rest) place next end block at handler to a b = refused BadType (text t ∷ rest) place next end
   try_alike (object o ∷ rest) place next end block at handler to a b = refused BadType (object o ∷ rest) place next end
@@ -329,6 +334,10 @@ module _ (code : Code) (codes : List Code) (common vars below : List Datum) (own
   guarding stack place next end block at handler to a b =
       rw (locked_alike m) (cond_alike (code ∷ codes) (nat_lt (length stack) (locked_of ms + 1)) _ _ _ _ (refused code codes common vars below owned program ms ns p m (too_few 1 stack) stack place next end) (try_alike code codes common vars below owned program ms ns p m stack place next end block at handler to a b))
 
+abbrev begin_target : Instr → ℕ
+begin_target (Begin to) = to
+begin_target _ = 0
+
 -- the instruction that stands at a place, and the end where there is none
 abbrev fetched : Code → Option Placed → ℕ → Flat → Next
 fetched code (Some q) next s = machine.instr code q.instr next s
@@ -370,7 +379,7 @@ module _ (code : Code) (codes : List Code) (common vars below : List Datum) (own
   begin_room (ring each_word w body c last next) end stack place line to a b room = other _ _ line _ place to (λ e. cc) a.1 b
   begin_room (ring begin_word w body c last next) end stack place line to a b room =
       let e : Some (record { line = w; instr = Begin a.0 }) ≡ Some (record { line = line; instr = Begin to }) = sym a.1 ∙ b in
-      let same : a.0 ≡ to = cc in
+      let same : a.0 ≡ to = ap (λ o. begin_target (placed_or o).instr) e in
       let after : Remains code.placed to next end = subst (λ q. Remains code.placed q next end) same a.4 in
       let turn : Remains code.placed (place + 1) body (closes c last) = round_of code codes common vars below owned program ms ns p m body c last place a.0 a.3 in
       (state_at stack common owned vars program body (closes c last) (looping plain body c last next end ∷ ms), fit p turn (loops turn after m), rw (← open_alike m, room) refl)

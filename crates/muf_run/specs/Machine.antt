@@ -22,6 +22,7 @@ use Rattle.muf_model.specs.Source.{Turns, plain, indices, pairs}
 use Rattle.muf_model.specs.Unit.{calls_most, open_most, constant, has_turn, next_index, numbered, keyed}
 use Rattle.muf_model.specs.Flat.{FlatMark, loop, guard, back, leave, Flat}
 use Rattle.muf_frame.specs.Shown.{locked_by, calls_by, opened_by}
+use Rattle.muf_frame.specs.Answers.{int_at}
 use Rattle.muf_frame.specs.Moves.{called, scope_of, with_variable, behind, caught}
 
 -- How an instruction ends: with a frame, after so many programs were left; with the end of the process, with or
@@ -98,7 +99,7 @@ pushed code x s = answered code (fitting (x ∷ s.stack)) s
 abbrev pub bind : ℕ → Flat → Flat
 bind n s = record s {
   stack = drop n s.stack;
-  variables = take s.base s.variables ++ (reverse (take n s.stack) ++ drop n (drop s.base s.variables));
+  variables = take s.base s.variables ++ (reverse (take n s.stack) ++ drop (s.base + n) s.variables);
 }
 
 abbrev pub bound : ℕ → Flat → Next
@@ -163,14 +164,6 @@ branch to s = test s (λ t. going 0 t) (λ t. going 0 (record t { place = to }))
 abbrev pub end_try : ℕ → Flat → List FlatMark → Next
 end_try to s (guard locked place ∷ ms) = going 0 (record s { place = to; marks = ms })
 end_try to s _ = at_end
-
--- the number that an item is
-abbrev pub int_of : Datum → Option ℤ
-int_of (int n) = Some n
-int_of _ = None
-
-abbrev pub int_at : ℕ → List Datum → Option ℤ
-int_at depth stack = option_and_then int_of (slice_get stack depth)
 
 -- TRY, with the place behind its CATCH
 abbrev pub try_count : Option ℤ → ℕ → Flat → Next
