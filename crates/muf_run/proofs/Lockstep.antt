@@ -13,13 +13,14 @@ use Rattle.muf_model.specs.declared.code.CodeWord.{CodeWord}
 use Rattle.muf_model.specs.declared.code.Placed.{Placed}
 use Rattle.muf_model.specs.declared.code.Code.{Code}
 use Rattle.muf_model.specs.declared.fault.MufFault.{MufFault}
-use Rattle.muf_model.specs.declared.fault.MufFault.TheVariants.{StackEmpty, CallsFull, BadType, BadArgument, BadAddress}
+use Rattle.muf_model.specs.declared.fault.MufFault.TheVariants.{StackEmpty, StackFull, CallsFull, BadType, BadArgument, BadAddress}
 use Rattle.muf_model.specs.declared.prims.Primitive.{Primitive as Name}
 use Rattle.muf_model.specs.Prims.{is_local}
 use Rattle.muf_model.specs.Faults.{text_of, is_final}
 use Rattle.muf_model.specs.Datum.{Datum, int, text, object, variable, address, lock, items, dict, mark}
 use Rattle.muf_model.specs.Measures.{is_true}
-use Rattle.muf_model.specs.Answer.{Answer, gives, stores, calls as calling_answer, refuses, unknown, needing, fitting, too_few, owned_first, call_first}
+use Rattle.muf_model.specs.Answer.{Answer, gives, stores, calls as calling_answer, refuses, unknown, fitting, too_few, stack_most, variable_at, owned_first, call_first}
+use Rattle.muf_model.specs.StackRows.{stored}
 use Rattle.muf_model.specs.Rows.{primitive}
 use Rattle.muf_model.specs.Tree.{Fork, if_word, try_word, Ring, begin_word, for_word, each_word, Block, stop, word, when, fork, ring, End, closes, hops, then_block, Definition}
 use Rattle.muf_model.specs.Stands.{Stands, EndStands, Remains, IsAt, hop_instr, fork_instr, ring_instr, WordsStand, TreeStands}
@@ -173,16 +174,30 @@ module _ (code : Code) (codes : List Code) (common vars below : List Datum) (own
   bound_alike n stack place next end a =
       rw (locked_alike m, drop_behind below vars n, take-append_seam below vars) (cond_alike (code ∷ codes) (nat_lt (length stack) (locked_of ms + n)) _ _ _ _ (refused (too_few n stack) stack place next end) (refl, fit p a m))
 
-  kept_same : (v : ℕ) (stack : List Datum) (next : Block) (end : End) → machine.kept v stack (source.scope_of (state_at stack common owned vars program next end ms)) ≡ source_unit.kept v stack (state_at stack common owned vars program next end ms)
-  kept_same v [] next end = refl
-  kept_same v (x ∷ rest) next end = refl
+  placed_alike : (full : Bool) (new stack : List Datum) (place : ℕ) (next : Block) (end : End) → Remains code.placed place next end → EndsAlike (code ∷ codes) (cond full (machine.fault StackFull (flat_at stack common owned below vars program place ns)) (going 0 (flat_at new common owned below vars program place ns))) (source_unit.answered (cond full (refuses StackFull) (gives new)) (state_at stack common owned vars program next end ms))
+  placed_alike true new stack place next end a = refused StackFull stack place next end
+  placed_alike false new stack place next end a = (refl, fit p a m)
 
-  kept_alike : (v : ℕ) (stack : List Datum) (place : ℕ) (next : Block) (end : End) → machine.kept v stack (scope_of (length code.words) (flat_at stack common owned below vars program place ns)) ≡ source_unit.kept v stack (state_at stack common owned vars program next end ms)
-  kept_alike v stack place next end = ap (machine.kept v stack) (scope_alike stack place next end) ∙ kept_same v stack next end
+  -- a stack, where it isn't too long
+  placing : (new stack : List Datum) (place : ℕ) (next : Block) (end : End) → Remains code.placed place next end → EndsAlike (code ∷ codes) (machine.placed new (flat_at stack common owned below vars program place ns)) (source_unit.answered (fitting new) (state_at stack common owned vars program next end ms))
+  placing new stack place next end a = placed_alike (nat_lt stack_most (length new)) new stack place next end a
 
-  keeping_alike : (v : ℕ) (stack : List Datum) (place : ℕ) (next : Block) (end : End) → Remains code.placed place next end → EndsAlike (code ∷ codes) (machine.keeping code v (flat_at stack common owned below vars program place ns)) (source_unit.keeping v (state_at stack common owned vars program next end ms))
+  kept_in_alike : (o : Option Datum) (v : ℕ) (x : Datum) (rest stack : List Datum) (place : ℕ) (next : Block) (end : End) → Remains code.placed place next end → EndsAlike (code ∷ codes) (machine.kept_in o v x rest (flat_at stack common owned below vars program place ns)) (source_unit.answered (stored o v x rest) (state_at stack common owned vars program next end ms))
+  kept_in_alike (Some old) v x rest stack place next end a = answered_alike (stores v x rest) stack place next end a
+  kept_in_alike None v x rest stack place next end a = refused BadArgument stack place next end
+
+  kept_alike : (v : ℕ) (stack : List Datum) (place : ℕ) (next : Block) (end : End) → Remains code.placed place next end → EndsAlike (code ∷ codes) (machine.kept v stack (flat_at stack common owned below vars program place ns)) (source_unit.answered (source_unit.kept v stack (state_at stack common owned vars program next end ms)) (state_at stack common owned vars program next end ms))
+  kept_alike v [] place next end a = refused StackEmpty [] place next end
+  kept_alike v (x ∷ rest) place next end a =
+      rw (drop-append_seam below vars) (kept_in_alike (variable_at v (source.scope_of (state_at (x ∷ rest) common owned vars program next end ms))) v x rest (x ∷ rest) place next end a)
+
+  needing_alike : (few : Bool) (f : MufFault) (w : Answer) (x : Next) (stack : List Datum) (place : ℕ) (next : Block) (end : End) → EndsAlike (code ∷ codes) x (source_unit.answered w (state_at stack common owned vars program next end ms)) → EndsAlike (code ∷ codes) (cond few (machine.fault f (flat_at stack common owned below vars program place ns)) x) (source_unit.answered (cond few (refuses f) w) (state_at stack common owned vars program next end ms))
+  needing_alike true f w x stack place next end h = refused f stack place next end
+  needing_alike false f w x stack place next end h = h
+
+  keeping_alike : (v : ℕ) (stack : List Datum) (place : ℕ) (next : Block) (end : End) → Remains code.placed place next end → EndsAlike (code ∷ codes) (machine.keeping v (flat_at stack common owned below vars program place ns)) (source_unit.keeping v (state_at stack common owned vars program next end ms))
   keeping_alike v stack place next end a =
-      rw (kept_alike v stack place next end, locked_alike m) (answered_alike (needing 1 (locked_of ms) stack (source_unit.kept v stack (state_at stack common owned vars program next end ms))) stack place next end a)
+      rw (locked_alike m) (needing_alike (nat_lt (length stack) (locked_of ms + 1)) (too_few 1 stack) _ _ stack place next end (kept_alike v stack place next end a))
 
   for_alike : (stack : List Datum) (place : ℕ) (next : Block) (end : End) (body : Block) (c : Closer) (last after : ℕ) → Remains code.placed place body (closes c last) → Remains code.placed after next end → EndsAlike (code ∷ codes) (machine.for_count (int_at 0 stack) (int_at 1 stack) (int_at 2 stack) after (flat_at stack common owned below vars program place ns)) (source_unit.for_count stack (state_at stack common owned vars program next end ms) body c last)
   for_alike [] place next end body c last after a b = refused BadType [] place next end
@@ -250,14 +265,14 @@ module _ (code : Code) (codes : List Code) (common vars below : List Datum) (own
       test_alike stack place now end _ _ _ _ (λ rest. leave_loop_alike rest common vars owned program place now end ms ns p m) (λ rest. next_turn_alike rest common vars owned program place now end ms ns p m)
 
 -- the tests at the head of a turn
-turn_alike : (t : Turns) (stack common vars : List Datum) (owned : List Owned) (program : Program) (place again after : ℕ) (now round next : Block) (c : Closer) (last : ℕ) (end e : End) {code : Code} {codes : List Code} {ms : List Mark} {ns : List FlatMark} {below : List Datum} → TreeStands code program.tree → Remains code.placed place now end → Remains code.placed again round (closes c last) → Remains code.placed after next e → MarksFit (code ∷ codes) ms ns below → EndsAlike (code ∷ codes) (machine.index_test code (flat_at stack common owned below vars program place (loop t again after ∷ ns)) (loop t again after ∷ ns)) (source_unit.index_test (state_at stack common owned vars program now end (looping t round c last next e ∷ ms)) (looping t round c last next e ∷ ms))
+turn_alike : (t : Turns) (stack common vars : List Datum) (owned : List Owned) (program : Program) (place again after : ℕ) (now round next : Block) (c : Closer) (last : ℕ) (end e : End) {code : Code} {codes : List Code} {ms : List Mark} {ns : List FlatMark} {below : List Datum} → TreeStands code program.tree → Remains code.placed place now end → Remains code.placed again round (closes c last) → Remains code.placed after next e → MarksFit (code ∷ codes) ms ns below → EndsAlike (code ∷ codes) (machine.index_test (flat_at stack common owned below vars program place (loop t again after ∷ ns)) (loop t again after ∷ ns)) (source_unit.index_test (state_at stack common owned vars program now end (looping t round c last next e ∷ ms)) (looping t round c last next e ∷ ms))
 turn_alike plain stack common vars owned program place again after now round next c last end e p a x y m = tt
 turn_alike (pairs left) stack common vars owned program place again after now round next c last end e p a x y m = tt
 turn_alike (indices None most step) stack common vars owned program place again after now round next c last end e p a x y m = (refl, fit p y m)
 turn_alike (indices (Some i) most step) stack common vars owned program place again after now round next c last end e {code} {codes} {ms} {ns} {below} p a x y m =
-    cond_alike (code ∷ codes) (has_turn i most step) _ _ _ _ (answered_alike code codes common vars below owned program _ _ p (loops x y m) (fitting (int i ∷ stack)) stack place now end a) (refl, fit p y m)
+    cond_alike (code ∷ codes) (has_turn i most step) _ _ _ _ (placing code codes common vars below owned program _ _ p (loops x y m) (int i ∷ stack) stack place now end a) (refl, fit p y m)
 
-index_alike : (stack common vars : List Datum) (owned : List Owned) (program : Program) (place : ℕ) (now : Block) (end : End) {code : Code} {codes : List Code} {ms : List Mark} {ns : List FlatMark} {below : List Datum} → TreeStands code program.tree → Remains code.placed place now end → MarksFit (code ∷ codes) ms ns below → EndsAlike (code ∷ codes) (machine.index_test code (flat_at stack common owned below vars program place ns) ns) (source_unit.index_test (state_at stack common owned vars program now end ms) ms)
+index_alike : (stack common vars : List Datum) (owned : List Owned) (program : Program) (place : ℕ) (now : Block) (end : End) {code : Code} {codes : List Code} {ms : List Mark} {ns : List FlatMark} {below : List Datum} → TreeStands code program.tree → Remains code.placed place now end → MarksFit (code ∷ codes) ms ns below → EndsAlike (code ∷ codes) (machine.index_test (flat_at stack common owned below vars program place ns) ns) (source_unit.index_test (state_at stack common owned vars program now end ms) ms)
 index_alike stack common vars owned program place now end p a none = tt
 index_alike stack common vars owned program place now end p a (loops {t} {round} {next} {c} {last} {end = e} {again} {after} x y m) =
     turn_alike t stack common vars owned program place again after now round next c last end e p a x y m
@@ -265,14 +280,14 @@ index_alike stack common vars owned program place now end p a (tries x m) = tt
 index_alike stack common vars owned program place now end p a (calls x m) = tt
 index_alike stack common vars owned program place now end p a (enters q x m) = tt
 
-keys_alike : (t : Turns) (stack common vars : List Datum) (owned : List Owned) (program : Program) (place again after : ℕ) (now round next : Block) (c : Closer) (last : ℕ) (end e : End) {code : Code} {codes : List Code} {ms : List Mark} {ns : List FlatMark} {below : List Datum} → TreeStands code program.tree → Remains code.placed place now end → Remains code.placed again round (closes c last) → Remains code.placed after next e → MarksFit (code ∷ codes) ms ns below → EndsAlike (code ∷ codes) (machine.pair_test code (flat_at stack common owned below vars program place (loop t again after ∷ ns)) (loop t again after ∷ ns)) (source_unit.pair_test (state_at stack common owned vars program now end (looping t round c last next e ∷ ms)) (looping t round c last next e ∷ ms))
+keys_alike : (t : Turns) (stack common vars : List Datum) (owned : List Owned) (program : Program) (place again after : ℕ) (now round next : Block) (c : Closer) (last : ℕ) (end e : End) {code : Code} {codes : List Code} {ms : List Mark} {ns : List FlatMark} {below : List Datum} → TreeStands code program.tree → Remains code.placed place now end → Remains code.placed again round (closes c last) → Remains code.placed after next e → MarksFit (code ∷ codes) ms ns below → EndsAlike (code ∷ codes) (machine.pair_test (flat_at stack common owned below vars program place (loop t again after ∷ ns)) (loop t again after ∷ ns)) (source_unit.pair_test (state_at stack common owned vars program now end (looping t round c last next e ∷ ms)) (looping t round c last next e ∷ ms))
 keys_alike plain stack common vars owned program place again after now round next c last end e p a x y m = tt
 keys_alike (indices i most step) stack common vars owned program place again after now round next c last end e p a x y m = tt
 keys_alike (pairs []) stack common vars owned program place again after now round next c last end e p a x y m = (refl, fit p y m)
 keys_alike (pairs ((k, v) ∷ left)) stack common vars owned program place again after now round next c last end e {code} {codes} {below} p a x y m =
-    answered_alike code codes common vars below owned program _ _ p (loops x y m) (fitting (v ∷ k ∷ stack)) stack place now end a
+    placing code codes common vars below owned program _ _ p (loops x y m) (v ∷ k ∷ stack) stack place now end a
 
-pair_alike : (stack common vars : List Datum) (owned : List Owned) (program : Program) (place : ℕ) (now : Block) (end : End) {code : Code} {codes : List Code} {ms : List Mark} {ns : List FlatMark} {below : List Datum} → TreeStands code program.tree → Remains code.placed place now end → MarksFit (code ∷ codes) ms ns below → EndsAlike (code ∷ codes) (machine.pair_test code (flat_at stack common owned below vars program place ns) ns) (source_unit.pair_test (state_at stack common owned vars program now end ms) ms)
+pair_alike : (stack common vars : List Datum) (owned : List Owned) (program : Program) (place : ℕ) (now : Block) (end : End) {code : Code} {codes : List Code} {ms : List Mark} {ns : List FlatMark} {below : List Datum} → TreeStands code program.tree → Remains code.placed place now end → MarksFit (code ∷ codes) ms ns below → EndsAlike (code ∷ codes) (machine.pair_test (flat_at stack common owned below vars program place ns) ns) (source_unit.pair_test (state_at stack common owned vars program now end ms) ms)
 pair_alike stack common vars owned program place now end p a none = tt
 pair_alike stack common vars owned program place now end p a (loops {t} {round} {next} {c} {last} {end = e} {again} {after} x y m) =
     keys_alike t stack common vars owned program place again after now round next c last end e p a x y m
@@ -295,11 +310,11 @@ module _ (code : Code) (codes : List Code) (common vars below : List Datum) (own
 
   word_alike : (w : Word) (stack : List Datum) (place line : ℕ) (next : Block) (end : End) → IsAt code.placed place line (Plain w) → Remains code.placed (place + 1) next end → EndsAlike (code ∷ codes) (machine.word code w (place + 1) (flat_at stack common owned below vars program place ns)) (source_unit.word_unit w (state_at stack common owned vars program (word line w next) end ms) (state_at stack common owned vars program next end ms))
   word_alike (Literal l) stack place line next end i a =
-      answered_alike code codes common vars below owned program ms ns p m (fitting (constant l ∷ stack)) stack (place + 1) next end a
+      placing code codes common vars below owned program ms ns p m (constant l ∷ stack) stack (place + 1) next end a
   word_alike (Variable v) stack place line next end i a =
-      answered_alike code codes common vars below owned program ms ns p m (fitting (variable v.0 ∷ stack)) stack (place + 1) next end a
+      placing code codes common vars below owned program ms ns p m (variable v.0 ∷ stack) stack (place + 1) next end a
   word_alike (Address w) stack place line next end i a =
-      answered_alike code codes common vars below owned program ms ns p m (fitting (address program.number w ∷ stack)) stack (place + 1) next end a
+      placing code codes common vars below owned program ms ns p m (address program.number w ∷ stack) stack (place + 1) next end a
   word_alike (Primitive q) stack place line next end i a = local_alike q (is_local q) stack place line next end i a
   word_alike (Call w) stack place line next end i a =
       call_alike code codes common vars below owned program ms ns p m w program.tree.words code.words p.words stack (place + 1) next end a

@@ -1,5 +1,5 @@
 -- What each instruction does to the data of a frame.
-use Rattle.std.specs.Prelude.{ℕ, suc, ◌+◌, ◌-◌, List, [], ◌∷◌, ◌++◌, length, take, drop, reverse, nat_lt, if◌then◌else◌, ℤ, pos, negsuc, Option, Some, None, slice_get}
+use Rattle.std.specs.Prelude.{ℕ, suc, ◌+◌, ◌-◌, List, [], ◌∷◌, ◌++◌, length, take, drop, reverse, nat_lt, if◌then◌else◌, ℤ, pos, negsuc, Option, Some, None, slice_get, Bool, true, false, Result, Ok, Err}
 use Rattle.std.specs.Option.{option_and_then}
 use Rattle.muf_model.specs.declared.code.Word.{Word}
 use Rattle.muf_model.specs.declared.code.Word.TheVariants.{Literal, Variable, Address, Primitive, Call, Bind, Store, Exit, Break, Continue, While, NextIndex, NextPair}
@@ -10,19 +10,20 @@ use Rattle.muf_model.specs.declared.code.Instr.TheVariants.{Plain, Close, When, 
 use Rattle.muf_model.specs.declared.code.CodeWord.{CodeWord}
 use Rattle.muf_model.specs.declared.code.Code.{Code}
 use Rattle.muf_model.specs.declared.fault.MufFault.{MufFault}
-use Rattle.muf_model.specs.declared.fault.MufFault.TheVariants.{StackEmpty, CallsFull, BadType, BadArgument, BadAddress}
+use Rattle.muf_model.specs.declared.fault.MufFault.TheVariants.{StackEmpty, StackFull, CallsFull, BadType, BadArgument, BadAddress}
 use Rattle.muf_model.specs.declared.prims.Primitive.{Primitive as Name}
 use Rattle.muf_model.specs.Prims.{is_local}
 use Rattle.muf_model.specs.Datum.{Datum, int, variable, address, items, dict}
 use Rattle.muf_model.specs.Measures.{is_true}
-use Rattle.muf_model.specs.Answer.{Answer, gives, stores, calls, refuses, unknown, Scope, variable_at, needing, fitting, too_few}
-use Rattle.muf_model.specs.StackRows.{stored}
+use Rattle.muf_model.specs.Answer.{Answer, gives, stores, calls, refuses, unknown, variable_at, stack_most, too_few}
 use Rattle.muf_model.specs.Rows.{primitive}
 use Rattle.muf_model.specs.Source.{Turns, plain, indices, pairs}
 use Rattle.muf_model.specs.Unit.{calls_most, open_most, constant, has_turn, next_index, numbered, keyed}
 use Rattle.muf_model.specs.Flat.{FlatMark, loop, guard, back, leave, Flat}
 use Rattle.muf_frame.specs.Shown.{locked_by, calls_by, opened_by}
 use Rattle.muf_frame.specs.Answers.{int_at}
+use Rattle.muf_run.specs.declared.ran.Ran.{Ran}
+use Rattle.muf_run.specs.declared.ran.Ran.TheVariants.{Going, Ended, Faulted, Shared}
 use Rattle.muf_frame.specs.Moves.{called, scope_of, with_variable, behind, caught}
 
 -- How an instruction ends: with a frame, after so many programs were left; with the end of the process, with or
@@ -92,8 +93,12 @@ answered code unknown s = at_end
 abbrev pub opening : Flat → Flat → Next
 opening before after = if nat_lt (opened_by before.marks) open_most then going 0 after else fault CallsFull before
 
-abbrev pub pushed : Code → Datum → Flat → Next
-pushed code x s = answered code (fitting (x ∷ s.stack)) s
+-- a stack, where it isn't too long
+abbrev pub placed : List Datum → Flat → Next
+placed stack s = if nat_lt stack_most (length stack) then fault StackFull s else going 0 (record s { stack = stack })
+
+abbrev pub pushed : Datum → Flat → Next
+pushed x s = placed (x ∷ s.stack) s
 
 -- the arguments of a header become the first variables of the call
 abbrev pub bind : ℕ → Flat → Flat
@@ -105,47 +110,50 @@ bind n s = record s {
 abbrev pub bound : ℕ → Flat → Next
 bound n s = if nat_lt (length s.stack) (locked_by s.marks + n) then fault (too_few n s.stack) s else going 0 (bind n s)
 
--- the top item goes into a variable
-abbrev pub kept : ℕ → List Datum → Scope → Answer
-kept v [] s = refuses StackEmpty
-kept v (x ∷ rest) s = stored (variable_at v s) v x rest
+-- the top item goes into a variable that is there
+abbrev pub kept_in : Option Datum → ℕ → Datum → List Datum → Flat → Next
+kept_in (Some old) v x rest s = going 0 (with_variable v x (record s { stack = rest }))
+kept_in None v x rest s = fault BadArgument s
 
-abbrev pub keeping : Code → ℕ → Flat → Next
-keeping code v s =
-    answered code (needing 1 (locked_by s.marks) s.stack (kept v s.stack (scope_of (length code.words) s))) s
+abbrev pub kept : ℕ → List Datum → Flat → Next
+kept v [] s = fault StackEmpty s
+kept v (x ∷ rest) s = kept_in (variable_at v (scope_of 0 s)) v x rest s
+
+abbrev pub keeping : ℕ → Flat → Next
+keeping v s = if nat_lt (length s.stack) (locked_by s.marks + 1) then fault (too_few 1 s.stack) s else kept v s.stack s
 
 -- the test of a FOR's index
-abbrev pub index_test : Code → Flat → List FlatMark → Next
-index_test code s (loop (indices (Some i) last step) again after ∷ ms) =
+abbrev pub index_test : Flat → List FlatMark → Next
+index_test s (loop (indices (Some i) last step) again after ∷ ms) =
     if has_turn i last step
-    then pushed code (int i) (record s { marks = loop (indices (next_index i step) last step) again after ∷ ms })
+    then pushed (int i) (record s { marks = loop (indices (next_index i step) last step) again after ∷ ms })
     else going 0 (record s { place = after; marks = ms })
-index_test code s (loop (indices None last step) again after ∷ ms) = going 0 (record s { place = after; marks = ms })
-index_test code s _ = at_end
+index_test s (loop (indices None last step) again after ∷ ms) = going 0 (record s { place = after; marks = ms })
+index_test s _ = at_end
 
 -- the test of a FOREACH's keys
-abbrev pub pair_test : Code → Flat → List FlatMark → Next
-pair_test code s (loop (pairs ((k, x) ∷ left)) again after ∷ ms) =
-    answered code (fitting (x ∷ k ∷ s.stack)) (record s { marks = loop (pairs left) again after ∷ ms })
-pair_test code s (loop (pairs []) again after ∷ ms) = going 0 (record s { place = after; marks = ms })
-pair_test code s _ = at_end
+abbrev pub pair_test : Flat → List FlatMark → Next
+pair_test s (loop (pairs ((k, x) ∷ left)) again after ∷ ms) =
+    placed (x ∷ k ∷ s.stack) (record s { marks = loop (pairs left) again after ∷ ms })
+pair_test s (loop (pairs []) again after ∷ ms) = going 0 (record s { place = after; marks = ms })
+pair_test s _ = at_end
 
 -- a word, with the place after it
 abbrev pub word_after : Code → Word → Flat → Flat → Next
-word_after code (Literal l) at s = pushed code (constant l) s
-word_after code (Variable v) at s = pushed code (variable v.0) s
-word_after code (Address w) at s = pushed code (address s.program w) s
+word_after code (Literal l) at s = pushed (constant l) s
+word_after code (Variable v) at s = pushed (variable v.0) s
+word_after code (Address w) at s = pushed (address s.program w) s
 word_after code (Primitive p) at s =
     if is_local p then answered code (primitive p (scope_of (length code.words) s) s.stack) s else asking p at
 word_after code (Call w) at s = call (slice_get code.words w) s
 word_after code (Bind n) at s = bound n s
-word_after code (Store v) at s = keeping code v.0 s
+word_after code (Store v) at s = keeping v.0 s
 word_after code Exit at s = leave_word s s.marks
 word_after code Break at s = leave_loop s s.marks
 word_after code Continue at s = next_turn s s.marks
 word_after code While at s = test s (λ t. going 0 t) (λ t. leave_loop t t.marks)
-word_after code NextIndex at s = index_test code s s.marks
-word_after code NextPair at s = pair_test code s s.marks
+word_after code NextIndex at s = index_test s s.marks
+word_after code NextPair at s = pair_test s s.marks
 
 abbrev pub word : Code → Word → ℕ → Flat → Next
 word code w next at = word_after code w at (record at { place = next })
@@ -223,3 +231,16 @@ instr code (Begin to) next s = at_end
 instr code (For to) next s = open_for to (record s { place = next })
 instr code (Each to) next s = open_each to (record s { place = next })
 instr code Unset next s = at_end
+
+-- how a call that gave this answer and left this frame ended
+abbrev pub next_of : Ran → Flat → Next
+next_of (Going k) s = going k s
+next_of Ended s = at_end
+next_of (Faulted f) s = broken f
+next_of (Shared p) s = asking p s
+
+-- how a test that gave this answer and left this frame goes on
+abbrev pub tested_as : Result Bool MufFault → Flat → (Flat → Next) → (Flat → Next) → Next
+tested_as (Ok true) s then_go else_go = then_go s
+tested_as (Ok false) s then_go else_go = else_go s
+tested_as (Err f) s then_go else_go = fault f s

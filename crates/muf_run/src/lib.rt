@@ -1,2 +1,4 @@
 //! The machine that runs the code of a program.
 #![tactic(auto)]
+
+mod ran;
