@@ -1,4 +1,7 @@
 //! The machine that runs the code of a program.
 #![tactic(auto)]
 
+mod items;
+mod loops;
+mod marks;
 mod ran;
