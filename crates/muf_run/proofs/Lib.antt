@@ -1,1 +1,3 @@
 pub mod Lockstep
+pub mod Tests
+pub mod Turning

@@ -34,7 +34,12 @@ pub(crate) fn push(alloc: Global, frame: &mut Frame, item: Value) -> Result<Ran,
 }
 
 // Calls a word of the running program.
-pub(crate) fn call(alloc: Global, code: &Code, frame: &mut Frame, word: u32) -> Result<Ran, NoMemory>
+pub(crate) fn call(
+    alloc: Global,
+    code: &Code,
+    frame: &mut Frame,
+    word: u32,
+) -> Result<Ran, NoMemory>
     ensures { IfOk result (λ ran. next_of ran (flat frame.new) ≡ machine.call (slice_get code.now.words word) (flat frame.old)) }
 {
     match code.words.get(word as usize) {

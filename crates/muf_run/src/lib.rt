@@ -2,6 +2,7 @@
 #![tactic(auto)]
 
 mod items;
+mod keys;
 mod loops;
 mod marks;
 mod ran;

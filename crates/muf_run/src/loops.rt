@@ -39,15 +39,17 @@ pub(crate) fn index_test(alloc: Global, frame: &mut Frame) -> Result<Ran, NoMemo
     ensures { IfOk result (λ ran. next_of ran (flat frame.new) ≡ machine.index_test (flat frame.old) (flat frame.old).marks) }
 {
     match frame.pop_mark() {
-        Some(Mark::Loop {
-            turns: Turns::Indices {
-                next: Some(index),
-                last,
-                step,
+        Some(
+            Mark::Loop {
+                turns: Turns::Indices {
+                    next: Some(index),
+                    last,
+                    step,
+                },
+                again,
+                after,
             },
-            again,
-            after,
-        }) => {
+        ) => {
             if has_turn(index, last, step) {
                 let next = next_index(index, step);
                 frame.push_loop(Turns::Indices { next, last, step }, again, after);
@@ -57,11 +59,13 @@ pub(crate) fn index_test(alloc: Global, frame: &mut Frame) -> Result<Ran, NoMemo
                 Ok(Ran::Going(0))
             }
         }
-        Some(Mark::Loop {
-            turns: Turns::Indices { next: None, .. },
-            after,
-            ..
-        }) => {
+        Some(
+            Mark::Loop {
+                turns: Turns::Indices { next: None, .. },
+                after,
+                ..
+            },
+        ) => {
             frame.go_to(after);
             Ok(Ran::Going(0))
         }
@@ -110,7 +114,7 @@ pub(crate) fn open_try(alloc: Global, frame: &mut Frame, handler: usize) -> Resu
 }
 
 // TRY, with its count.
-#[tactic(auto, using(muf_frame::proofs::Data::data_steps))]
+#[tactic(auto, using(muf_frame::proofs::Data::data_steps, crate::proofs::Tests::count_steps))]
 fn guard(alloc: Global, frame: &mut Frame, count: usize, handler: usize) -> Result<Ran, NoMemory>
     requires { count < 2147483648 }
     ensures { IfOk result (λ ran. next_of ran (flat frame.new) ≡ machine.try_count (Some (pos count)) handler (flat frame.old)) }
@@ -121,8 +125,8 @@ fn guard(alloc: Global, frame: &mut Frame, count: usize, handler: usize) -> Resu
     if frame.opened() >= OPEN_MOST {
         return fault(alloc, frame, MufFault::CallsFull);
     }
+    let height = frame.len() - 1;
     frame.drop_items(1);
-    let locked = frame.len() - count;
-    frame.push_guard(locked, handler);
+    frame.push_guard(height - count, handler);
     Ok(Ran::Going(0))
 }
