@@ -1,7 +1,11 @@
 -- How the machine's tests of a stack come out.
-use Rattle.std.proofs.Common.{◌≡◌, ℕ, ◌+◌, ◌≤◌, ◌<◌, List, [], ◌∷◌, length, drop, Option, Some, None, Bool, true, false, refl, sym, ap, subst, ◌∙◌, arith, length-drop}
+use Rattle.std.proofs.Common.{◌≡◌, ℕ, ◌+◌, ◌≤◌, ◌<◌, List, [], ◌∷◌, length, drop, Option, Some, None, Bool, true, false, refl, sym, ap, subst, ◌∙◌, arith, length-drop, map}
 use Rattle.std.specs.Prelude.{nat_lt, slice_get, is_some}
 use Rattle.std.proofs.lemmas.Bool.{lt-ltb, le-ltb}
+use Rattle.std.specs.Option.{option_map}
+use Rattle.std.proofs.lemmas.List.{length-map}
+use Rattle.muf_model.specs.declared.value.Value.{Value}
+use Rattle.muf_model.specs.View.{view}
 use Rattle.muf_model.specs.declared.fault.MufFault.TheVariants.{CallsFull, BadType, BadArgument}
 use Rattle.muf_model.specs.Datum.{Datum}
 use Rattle.muf_model.specs.Answer.{variable_at}
@@ -14,11 +18,15 @@ use Rattle.muf_run.specs.Machine.{Next, going}
 
 pub ruleset count_steps = (length-drop)
 
-none_kept : (v : ℕ) (stack : List Datum) (s : Flat) → 1 ≤ length stack → variable_at v (scope_of 0 s) ≡ None → machine.kept v stack s ≡ machine.fault BadArgument s
-none_kept v [] s h e = absurd (omega (arith, h))
-none_kept v (x ∷ rest) s h e = rw e refl
+none_in : (v : ℕ) (o : Option Datum) (x : Datum) (rest : List Datum) (s : Flat) → is_some o ≡ false → machine.kept_in o v x rest s ≡ machine.fault BadArgument s
+none_in v (Some old) x rest s e = cc
+none_in v None x rest s e = refl
 
-pub keep_none : (v : ℕ) (s : Flat) → locked_by s.marks + 1 ≤ length s.stack → variable_at v (scope_of 0 s) ≡ None → machine.keeping v s ≡ machine.fault BadArgument s
+none_kept : (v : ℕ) (stack : List Datum) (s : Flat) → 1 ≤ length stack → is_some (variable_at v (scope_of 0 s)) ≡ false → machine.kept v stack s ≡ machine.fault BadArgument s
+none_kept v [] s h e = absurd (omega (arith, h))
+none_kept v (x ∷ rest) s h e = none_in v (variable_at v (scope_of 0 s)) x rest s e
+
+pub keep_none : (v : ℕ) (s : Flat) → locked_by s.marks + 1 ≤ length s.stack → is_some (variable_at v (scope_of 0 s)) ≡ false → machine.keeping v s ≡ machine.fault BadArgument s
 keep_none v s h e = rw (le-ltb _ _ h) (none_kept v s.stack s (omega (arith, h)) e)
 
 some_kept : (v : ℕ) (o : Option Datum) (x : Datum) (rest : List Datum) (s : Flat) → is_some o ≡ true → machine.kept_in o v x rest s ≡ going 0 (with_variable v x (record s { stack = rest }))
@@ -48,3 +56,14 @@ pub each_opens : (after : ℕ) (s : Flat) (x : Datum) (rest : List Datum) (t : T
 each_opens after s x rest t u e h f =
     let k : machine.keys_at s.stack ≡ Some t = ap machine.keys_at u ∙ e in
     rw (le-ltb _ _ h, k, lt-ltb _ _ f) (ap (λ l. going 0 (record s { stack = drop 1 l; marks = loop t s.place after ∷ s.marks })) u)
+
+pub some_mapped : {A B : Type 0} → (f : A → B) (o : Option A) → is_some (option_map f o) ≡ is_some o
+some_mapped f (Some x) = refl
+some_mapped f None = refl
+
+pub height_alike : (k : ℕ) (xs : List Value) → k ≤ length xs → k ≤ length (map view xs)
+height_alike k xs h = rw (length-map xs view) h
+
+pub keep_done : (v : ℕ) (s t u : Flat) (x : Datum) → s ≡ record t { stack = x ∷ t.stack } → locked_by s.marks + 1 ≤ length s.stack → is_some (variable_at v (scope_of 0 s)) ≡ true → u ≡ with_variable v x t → going 0 u ≡ machine.keeping v s
+keep_done v s t u x q h e w =
+    ap (going 0) w ∙ sym (keep_some v s x t.stack (ap (λ f. f.stack) q) h e ∙ ap (λ f. going 0 (with_variable v x (record f { stack = t.stack }))) q)

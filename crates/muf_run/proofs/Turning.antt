@@ -3,6 +3,7 @@ use Rattle.std.proofs.Common.{◌≡◌, ℕ, zero, suc, ◌+◌, List, [], ◌�
 use Rattle.std.specs.Prelude.{slice_get, pos}
 use Rattle.muf_model.specs.declared.value.Value.{Value}
 use Rattle.muf_model.specs.declared.value.Pair.{Pair}
+use Rattle.muf_model.specs.declared.value.MapKey.{MapKey}
 use Rattle.muf_model.specs.Datum.{Datum, int, data_of, pairs_of}
 use Rattle.muf_model.specs.View.{view, pair_view}
 use Rattle.muf_model.specs.Source.{pairs}
@@ -49,3 +50,18 @@ entries_next (y ∷ xs) (suc at) x e =
 pub pair_turn : (left : List (Datum × Datum)) (again after : ℕ) (s : Flat) (ms : List FlatMark) → machine.pair_test s (loop (pairs left) again after ∷ ms) ≡ turn_with (pull left) again after (record s { marks = ms })
 pair_turn [] again after s ms = refl
 pair_turn (p ∷ left) again after s ms = refl
+
+-- the same by the data of the collection
+pub no_value : (xs : List Value) (ds : List Datum) (at : ℕ) → map view xs ≡ ds → slice_get xs at ≡ None → pull (drop at (numbered 0 (data_of ds))) ≡ None
+no_value xs ds at e n = rw (← e) (ap pull (values_end xs 0 at n))
+
+pub a_value : (xs : List Value) (ds : List Datum) (at : ℕ) (x : Value) → map view xs ≡ ds → slice_get xs at ≡ Some x → pull (drop at (numbered 0 (data_of ds))) ≡ Some ((int (pos at), view x), pairs (drop (at + 1) (numbered 0 (data_of ds))))
+a_value xs ds at x e n =
+    let k : 0 + at ≡ at = omega arith in
+    rw (← e) (ap pull (values_next xs 0 at x n) ∙ ap (λ i. Some ((int (pos i), view x), pairs (drop (at + 1) (numbered 0 (data_of (map view xs)))))) k)
+
+pub no_entry : (xs : List Pair) (ds : List (MapKey × Datum)) (at : ℕ) → map pair_view xs ≡ ds → slice_get xs at ≡ None → pull (drop at (keyed (pairs_of ds))) ≡ None
+no_entry xs ds at e n = rw (← e) (ap pull (entries_end xs at n))
+
+pub an_entry : (xs : List Pair) (ds : List (MapKey × Datum)) (at : ℕ) (x : Pair) → map pair_view xs ≡ ds → slice_get xs at ≡ Some x → pull (drop at (keyed (pairs_of ds))) ≡ Some ((key_datum (pair_view x).0, (pair_view x).1), pairs (drop (at + 1) (keyed (pairs_of ds))))
+an_entry xs ds at x e n = rw (← e) (ap pull (entries_next xs at x n))

@@ -1,7 +1,7 @@
 // Loops over collections.
-ghost use Rattle.std.specs.Prelude.{◌≡◌, ◌<◌, ◌+◌, ℕ, IfOk, slice_get, length, map, is_some, drop, option_map};
+ghost use Rattle.std.specs.Prelude.{◌≡◌, ◌<◌, ◌+◌, ℕ, IfOk, slice_get, length, map, is_some, drop, option_map, option_copied, IfSome, pos};
 ghost use Rattle.std.specs.Arc.{arc_value};
-ghost use Rattle.muf_model.specs.Datum.{data_of, pairs_of};
+ghost use Rattle.muf_model.specs.Datum.{int, data_of, pairs_of};
 ghost use Rattle.muf_model.specs.View.{view, pair_view, list_view, map_view};
 ghost use Rattle.muf_model.specs.Unit.{numbered, keyed, key_datum};
 ghost use Rattle.muf_model.specs.Flat.{Flat};
@@ -14,7 +14,7 @@ use crate::marks::fault;
 use crate::ran::Ran;
 use muck_model::NoMemory;
 use muf_frame::{Frame, Mark, Turns};
-use muf_model::{MapKey, MufFault, OPEN_MOST, STACK_MOST, Value, ValueList, ValueMap};
+use muf_model::{MapKey, MufFault, OPEN_MOST, Pair, STACK_MOST, Value, ValueList, ValueMap};
 use std::alloc::Global;
 use std::sync::Arc;
 
@@ -98,21 +98,44 @@ pub(crate) fn open_each(alloc: Global, frame: &mut Frame, after: usize) -> Resul
     }
 }
 
-// A value of a list, with its number. A list with so many values that their numbers pass 32 bits has no place in
-// memory.
-#[tactic(auto, using(crate::proofs::Turning::values_end, crate::proofs::Turning::values_next, muf_frame::proofs::Data::item_steps))]
+// The value at a place.
+fn value_in(values: &[Value], at: usize) -> Option<&Value>
+    ensures value { option_copied result ≡ slice_get values.now at }
+    ensures within { IfSome result (λ _. at < 9223372036854775807) }
+{
+    values.get(at)
+}
+
+// The pair at a place.
+fn pair_in(pairs: &[Pair], at: usize) -> Option<&Pair>
+    ensures value { option_copied result ≡ slice_get pairs.now at }
+    ensures within { IfSome result (λ _. at < 9223372036854775807) }
+{
+    pairs.get(at)
+}
+
+// A number as a value. A list with so many values that their numbers pass 32 bits has no place in memory.
+#[tactic(auto, using(muf_frame::proofs::Data::item_steps))]
+fn number_value(number: usize) -> Result<Value, NoMemory>
+    ensures { IfOk result (λ v. view v ≡ int (pos number)) }
+{
+    match i32::try_from(number) {
+        Ok(number) => Ok(Value::Int(number)),
+        Err(_) => Err(NoMemory),
+    }
+}
+
+// A value of a list, with its number.
 fn value_at(of: Arc<ValueList>, at: usize) -> Result<Option<Pulled>, NoMemory>
     ensures { IfOk result (λ pulled. option_map pulled_data pulled ≡ pull (drop at (numbered 0 (data_of (list_view (arc_value of)))))) }
 {
-    let value = match of.as_slice().get(at) {
+    let value = match value_in(of.as_slice(), at) {
         None => return Ok(None),
         Some(value) => value.copy()?,
     };
-    let Ok(number) = i32::try_from(at) else {
-        return Err(NoMemory);
-    };
+    let key = number_value(at)?;
     Ok(Some(Pulled {
-        key: Value::Int(number),
+        key,
         value,
         turns: Turns::Values { of, at: at + 1 },
     }))
@@ -130,11 +153,10 @@ fn key_value(key: &MapKey) -> Result<Value, NoMemory>
 }
 
 // A key of a dictionary, with its value.
-#[tactic(auto, using(crate::proofs::Turning::entries_end, crate::proofs::Turning::entries_next))]
 fn entry_at(of: Arc<ValueMap>, at: usize) -> Result<Option<Pulled>, NoMemory>
     ensures { IfOk result (λ pulled. option_map pulled_data pulled ≡ pull (drop at (keyed (pairs_of (map_view (arc_value of)))))) }
 {
-    let (key, value) = match of.as_slice().get(at) {
+    let (key, value) = match pair_in(of.as_slice(), at) {
         None => return Ok(None),
         Some(pair) => (key_value(&pair.key)?, pair.value.copy()?),
     };
