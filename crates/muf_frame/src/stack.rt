@@ -131,7 +131,8 @@ impl Frame {
     /// Drops so many items from the top, which are there.
     pub fn drop_items(&mut self, count: usize)
         requires { count ≤ length self.old.stack }
-        ensures { self.new ≡ record self.old { stack = drop count self.old.stack } }
+        ensures value { self.new ≡ record self.old { stack = drop count self.old.stack } }
+        ensures most { length self.new.stack + count ≤ 1024 }
     {
         let height = self.len() - count;
         self.stack.truncate(height);

@@ -1,7 +1,7 @@
 -- What each primitive of numbers does. Results wrap to 32 bits.
 use Rattle.std.specs.Prelude.{ℕ, suc, List, ◌∷◌, Bool, true, false, not, ◌&&◌, ◌||◌, nat_lt, int_lt, int_le, int_rem, if◌then◌else◌, ℤ, pos, negsuc}
 use Rattle.std.specs.Ordering.{int_eq}
-use Rattle.std.specs.Int.{w32, int_wrapping_add, int_wrapping_sub, int_wrapping_mul, int_wrapping_div, int_wrapping_neg, int_signum, int_bit_and, int_bit_or, int_bit_xor, int_shl, int_shr}
+use Rattle.std.specs.Int.{w32, cast_signed, int_wrapping_add, int_wrapping_sub, int_wrapping_mul, int_wrapping_div, int_wrapping_neg, int_signum, int_bit_and, int_bit_or, int_bit_xor, int_shl, int_shr}
 use Rattle.muf_model.specs.declared.fault.MufFault.TheVariants.{StackEmpty, BadType}
 use Rattle.muf_model.specs.declared.prims.Primitive.{Primitive}
 use Rattle.muf_model.specs.declared.prims.Primitive.TheVariants.{Add, Subtract, Multiply, Divide, Modulo, Increment, Decrement, Abs, Sign, BitOr, BitAnd, BitXor, BitShift, Equal, Unequal, Less, Greater, LessEqual, GreaterEqual, Not, And, Or, Xor, ToInt, ToDbref, DbCmp}
@@ -54,7 +54,7 @@ unlike false b = b
 abbrev pub number_of : List Datum → Answer
 number_of (int i ∷ rest) = gives (int i ∷ rest)
 number_of (object d ∷ rest) = gives (int d ∷ rest)
-number_of (variable v ∷ rest) = gives (int (pos v) ∷ rest)
+number_of (variable v ∷ rest) = gives (int (cast_signed w32 v) ∷ rest)
 number_of _ = refuses BadType
 
 abbrev pub object_of : List Datum → Answer
