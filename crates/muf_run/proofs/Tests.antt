@@ -8,10 +8,12 @@ use Rattle.muf_model.specs.declared.value.Value.{Value}
 use Rattle.muf_model.specs.View.{view}
 use Rattle.muf_model.specs.declared.fault.MufFault.TheVariants.{CallsFull, BadType, BadArgument}
 use Rattle.muf_model.specs.Datum.{Datum}
-use Rattle.muf_model.specs.Answer.{variable_at}
+use Rattle.muf_model.specs.declared.code.Code.{Code}
+use Rattle.muf_model.specs.Answer.{Answer, gives, stores, calls, refuses, unknown, variable_at}
 use Rattle.muf_model.specs.Source.{Turns}
 use Rattle.muf_model.specs.Flat.{loop, Flat}
 use Rattle.muf_frame.specs.Shown.{locked_by, opened_by}
+use Rattle.muf_frame.specs.Answers.{Became}
 use Rattle.muf_frame.specs.Moves.{scope_of, with_variable}
 use Rattle.muf_run.specs.Machine as machine
 use Rattle.muf_run.specs.Machine.{Next, going}
@@ -67,3 +69,11 @@ height_alike k xs h = rw (length-map xs view) h
 pub keep_done : (v : ℕ) (s t u : Flat) (x : Datum) → s ≡ record t { stack = x ∷ t.stack } → locked_by s.marks + 1 ≤ length s.stack → is_some (variable_at v (scope_of 0 s)) ≡ true → u ≡ with_variable v x t → going 0 u ≡ machine.keeping v s
 keep_done v s t u x q h e w =
     ap (going 0) w ∙ sym (keep_some v s x t.stack (ap (λ f. f.stack) q) h e ∙ ap (λ f. going 0 (with_variable v x (record f { stack = t.stack }))) q)
+
+-- a frame that became what an answer says
+pub became_answered : (code : Code) (a : Answer) (s t : Flat) → Became a s t → going 0 t ≡ machine.answered code a s
+became_answered code (gives stack) s t h = ap (going 0) h
+became_answered code (stores v x stack) s t h = ap (going 0) h
+became_answered code (calls w stack) s t h = absurd h
+became_answered code (refuses f) s t h = absurd h
+became_answered code unknown s t h = absurd h

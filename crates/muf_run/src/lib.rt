@@ -1,8 +1,12 @@
 //! The machine that runs the code of a program.
 #![tactic(auto)]
 
+mod instr;
 mod items;
 mod keys;
 mod loops;
 mod marks;
 mod ran;
+mod run;
+
+pub use run::Local;

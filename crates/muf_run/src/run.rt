@@ -11,8 +11,6 @@ ghost use Rattle.muf_run.specs.Runs.{Passed, RunsAlike, taken};
 ghost use Rattle.muf_run.specs.Machine as machine;
 ghost use Rattle.muf_run.specs.Machine.{next_of};
 
-use crate::instr::instr;
-use crate::marks::fault;
 use crate::ran::Ran;
 use muck_model::NoMemory;
 use muf_frame::{Frame, Turns};
