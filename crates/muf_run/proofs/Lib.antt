@@ -1,3 +1,4 @@
 pub mod Lockstep
+pub mod Running
 pub mod Tests
 pub mod Turning

@@ -5,9 +5,13 @@ use Rattle.muf_model.specs.declared.code.Placed.{Placed}
 use Rattle.muf_model.specs.declared.code.Code.{Code}
 use Rattle.muf_model.specs.declared.fault.MufFault.TheVariants.{CallsFull}
 use Rattle.muf_model.specs.Source.{Source}
-use Rattle.muf_model.specs.Unit.{Outcome, goes, ended, faulted, asks, fault, unit}
+use Rattle.muf_model.specs.Unit.{Outcome, goes, ended, faulted, asks, unit}
 use Rattle.muf_model.specs.Flat.{Flat, decode}
 use Rattle.muf_model.specs.Fits.{FitsState, Fits}
+use Rattle.muf_run.specs.Alike.{EndsAlike}
+use Rattle.muf_run.specs.Machine as machine
+use Rattle.muf_run.specs.declared.ran.Ran.{Ran}
+use Rattle.muf_run.specs.declared.ran.Ran.TheVariants as ran
 use Rattle.muf_run.specs.declared.run.Local.{Local}
 use Rattle.muf_run.specs.declared.run.Local.TheVariants.{Spent, Shared, Returned, Ended, Faulted}
 
@@ -16,7 +20,7 @@ use Rattle.muf_run.specs.declared.run.Local.TheVariants.{Spent, Shared, Returned
 abbrev pub Passed : Bool → Code → List Code → Flat → Source → Type 0
 Passed true code codes f s =
     (t : Source) × FitsState (code ∷ codes) f t × (unit s ≡ unit t) × ((q : Placed) (to : ℕ) → slice_get code.placed f.place ≡ Some q → q.instr ≡ Begin to → ⊥)
-Passed false code codes f s = (t : Source) × FitsState (code ∷ codes) f t × (unit s ≡ fault CallsFull t)
+Passed false code codes f s = EndsAlike (code ∷ codes) (machine.fault CallsFull f) (unit s)
 
 -- The answer of a run and the frame that it left, by how the units of the source end. The codes fit the frame again,
 -- but those of the programs that were left, and the state is read off it.
@@ -41,3 +45,16 @@ count (asks p s) more = 0
 abbrev pub taken : ℕ → Source → ℕ
 taken zero s = 0
 taken (suc n) s = count (unit s) (taken n)
+
+-- what the answer of the last unit makes of a run, and whether that was a unit
+abbrev pub local_of : Ran → Local
+local_of (ran.Going k) = Returned
+local_of ran.Ended = Ended
+local_of (ran.Faulted f) = Faulted f
+local_of (ran.Shared p) = Shared p
+
+abbrev pub last_of : Ran → ℕ
+last_of (ran.Going k) = 1
+last_of ran.Ended = 1
+last_of (ran.Faulted f) = 1
+last_of (ran.Shared p) = 0

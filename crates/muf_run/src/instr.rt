@@ -3,6 +3,7 @@ ghost use Rattle.std.specs.Prelude.{◌≡◌, true, IfOk, slice_get, length};
 ghost use Rattle.muf_model.specs.declared.code.Code.{Code as Codes};
 ghost use Rattle.muf_model.specs.declared.prims.Family.TheVariants as family;
 ghost use Rattle.muf_model.specs.Prims.{family_of, is_local};
+ghost use Rattle.muf_model.specs.StackRows.{stack_row};
 ghost use Rattle.muf_model.specs.NumberRows.{number_row};
 ghost use Rattle.muf_model.specs.Rows.{primitive};
 ghost use Rattle.muf_model.specs.View.{view};
@@ -102,4 +103,107 @@ fn address(alloc: Global, frame: &mut Frame, word: u32) -> Result<Ran, NoMemory>
 {
     let program = frame.program();
     push(alloc, frame, Value::Addr { program, word })
+}
+
+// A local primitive.
+fn primitive(alloc: Global, code: &Code, frame: &mut Frame, prim: Prim) -> Result<Ran, NoMemory>
+    requires { is_local prim ≡ true }
+    ensures { IfOk result (λ ran. next_of ran (flat frame.new) ≡ machine.answered code.now (primitive prim (scope_of (length code.now.words) (flat frame.old)) (flat frame.old).stack) (flat frame.old)) }
+{
+    match prim.family() {
+        Family::Stack => stack_word(alloc, code, frame, prim),
+        Family::Number => number_word(alloc, frame, prim),
+        Family::Text | Family::Array => Ok(Ran::Ended),
+        Family::Object | Family::Property | Family::Talk | Family::Process => Ok(Ran::Ended),
+    }
+}
+
+// A word, with the place after it.
+#[tactic(auto, using(muf_frame::proofs::Data::item_steps))]
+fn word(
+    alloc: Global,
+    code: &Code,
+    frame: &mut Frame,
+    word: &Word,
+    next: usize,
+) -> Result<Ran, NoMemory>
+    ensures { IfOk result (λ ran. next_of ran (flat frame.new) ≡ machine.word code.now word.now next (flat frame.old)) }
+{
+    let at = frame.place();
+    frame.go_to(next);
+    match word {
+        Word::Literal(literal) => {
+            let value = constant(literal)?;
+            push(alloc, frame, value)
+        }
+        Word::Variable(v) => push(alloc, frame, Value::Var(*v)),
+        Word::Address(word) => address(alloc, frame, *word),
+        Word::Primitive(prim) if prim.local() => primitive(alloc, code, frame, *prim),
+        Word::Primitive(prim) => {
+            frame.go_to(at);
+            Ok(Ran::Shared(*prim))
+        }
+        Word::Call(word) => call(alloc, code, frame, *word),
+        Word::Bind(count) => bind(alloc, frame, *count),
+        Word::Store(v) => keep(alloc, frame, *v),
+        Word::Exit => Ok(leave_word(frame)),
+        Word::Break => Ok(leave_loop(frame)),
+        Word::Continue => Ok(next_turn(frame)),
+        Word::While => while_word(alloc, frame),
+        Word::NextIndex => index_test(alloc, frame),
+        Word::NextPair => pair_test(alloc, frame),
+    }
+}
+
+// An instruction, with the place after it. BEGIN is none of its own.
+pub(crate) fn instr(
+    alloc: Global,
+    code: &Code,
+    frame: &mut Frame,
+    instr: &Instr,
+    next: usize,
+) -> Result<Ran, NoMemory>
+    ensures { IfOk result (λ ran. next_of ran (flat frame.new) ≡ machine.instr code.now instr.now next (flat frame.old)) }
+{
+    match instr {
+        Instr::Plain(plain) => word(alloc, code, frame, plain, next),
+        Instr::Close(closer) => close(alloc, frame, *closer),
+        Instr::When(to) | Instr::IfElse(to) => {
+            frame.go_to(next);
+            branch(alloc, frame, *to)
+        }
+        Instr::Try(to) => {
+            frame.go_to(next);
+            open_try(alloc, frame, *to)
+        }
+        Instr::Else(to) => {
+            frame.go_to(*to);
+            Ok(Ran::Going(0))
+        }
+        Instr::Catch(to) => Ok(end_try(frame, *to)),
+        Instr::For(to) => {
+            frame.go_to(next);
+            open_for(alloc, frame, *to)
+        }
+        Instr::Each(to) => {
+            frame.go_to(next);
+            open_each(alloc, frame, *to)
+        }
+        Instr::Begin(_) | Instr::Unset => Ok(Ran::Ended),
+    }
+}
+
+// INTERIM
+fn stack_word(alloc: Global, code: &Code, frame: &mut Frame, prim: Prim) -> Result<Ran, NoMemory>
+    requires { family_of prim ≡ family.Stack }
+    ensures { IfOk result (λ ran. next_of ran (flat frame.new) ≡ machine.answered code.now (stack_row prim (scope_of (length code.now.words) (flat frame.old)) (flat frame.old).stack) (flat frame.old)) }
+{
+    Err(NoMemory)
+}
+
+// INTERIM
+fn bind(alloc: Global, frame: &mut Frame, count: u32) -> Result<Ran, NoMemory>
+    ensures { IfOk result (λ ran. next_of ran (flat frame.new) ≡ machine.bound count (flat frame.old)) }
+{
+    Err(NoMemory)
 }

@@ -9,4 +9,4 @@ mod marks;
 mod ran;
 mod run;
 
-pub use run::Local;
+pub use run::{Local, run_local};
