@@ -1,5 +1,6 @@
 -- Runs of units.
-use Rattle.std.proofs.Common.{◌≡◌, ℕ, zero, suc, ◌+◌, ◌-◌, ◌<◌, List, [], ◌∷◌, drop, refl, sym, ap, subst, ◌∙◌, arith}
+use Rattle.std.proofs.Common.{◌≡◌, ℕ, zero, suc, ◌+◌, ◌-◌, ◌<◌, ◌≤◌, List, [], ◌∷◌, drop, refl, sym, ap, subst, ◌∙◌, arith}
+use Rattle.std.specs.Prelude.{Result, Ok, Err, IfOk}
 use Rattle.muf_model.specs.declared.code.Code.{Code}
 use Rattle.muf_model.specs.Source.{Source}
 use Rattle.muf_model.specs.Unit.{Outcome, goes, ended, faulted, asks, unit, units, and_then}
@@ -61,3 +62,35 @@ count_over codes (Shared q) f (goes j s) more over h = absurd h
 count_over codes (Shared q) f ended more over h = absurd h
 count_over codes (Shared q) f (faulted g) more over h = absurd h
 count_over codes (Shared q) f (asks p s) more over h = refl
+
+pub mapped : {A E : Type 0} → (P Q : A → Type 0) (r : Result A E) → ((x : A) → P x → Q x) → IfOk r P → IfOk r Q
+mapped P Q (Ok x) f h = f x h
+mapped P Q (Err e) f h = h
+
+-- one unit more
+pub units_step : (n k : ℕ) (t u : Source) → k < n → unit t ≡ goes 0 u → units (n - k) t ≡ units (n - (k + 1)) u
+units_step n k t u l e =
+    let m : n - k ≡ suc (n - (k + 1)) = omega (arith, l) in
+    rw (m, e) refl
+
+pub taken_step : (n k : ℕ) (t u : Source) → k < n → unit t ≡ goes 0 u → k + taken (n - k) t ≡ k + 1 + taken (n - (k + 1)) u
+taken_step n k t u l e =
+    let m : n - k ≡ suc (n - (k + 1)) = omega (arith, l) in
+    rw (m, e) (omega arith)
+
+-- the unit with which a run is over
+pub units_over : (n k : ℕ) (codes : List Code) (ran : Ran) (f : Flat) (t : Source) → k < n → (ran ≡ Going 0 → ⊥) → EndsAlike codes (next_of ran f) (unit t) → RunsAlike codes (local_of ran) f (units (n - k) t)
+units_over n k codes ran f t l over h =
+    let m : n - k ≡ suc (n - (k + 1)) = omega (arith, l) in
+    rw m (run_over codes ran f (unit t) (units (n - (k + 1))) over h)
+
+pub taken_over : (n k : ℕ) (codes : List Code) (ran : Ran) (f : Flat) (t : Source) → k < n → (ran ≡ Going 0 → ⊥) → EndsAlike codes (next_of ran f) (unit t) → k + last_of ran ≡ k + taken (n - k) t
+taken_over n k codes ran f t l over h =
+    let m : n - k ≡ suc (n - (k + 1)) = omega (arith, l) in
+    rw m (ap (λ j. k + j) (sym (count_over codes ran f (unit t) (taken (n - (k + 1))) over h)))
+
+-- a run that took all its units
+pub spent : (codes : List Code) (f : Flat) (s t : Source) (n k : ℕ) → FitsState codes f t → n ≤ k → units n s ≡ units (n - k) t → Fits codes f × (decode codes f ≡ t) × (units n s ≡ goes 0 t)
+spent codes f s t n k h l e =
+    let m : n - k ≡ 0 = omega (arith, l) in
+    (fits h, decoded h, e ∙ ap (λ j. units j t) m)

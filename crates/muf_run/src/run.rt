@@ -1,11 +1,12 @@
 // Units of a program.
-ghost use Rattle.std.specs.Prelude.{◌≡◌, ◌<◌, ◌+◌, ℕ, List, ◌∷◌, ◌≤◌, IfOk, IfSome, IfNone, slice_get, length, option_copied, zero};
+ghost use Rattle.std.specs.Prelude.{◌≡◌, ◌<◌, ◌+◌, ℕ, List, ◌∷◌, ◌≤◌, IfOk, IfSome, IfNone, slice_get, length, option_copied, zero, IsTrue, IsFalse};
 ghost use Rattle.muf_model.specs.declared.code.Code.{Code};
 ghost use Rattle.muf_model.specs.Source.{Source};
 ghost use Rattle.muf_model.specs.Unit.{unit, units};
 ghost use Rattle.muf_model.specs.Flat.{decode};
 ghost use Rattle.muf_model.specs.Fits.{FitsState, Fits};
 ghost use Rattle.muf_frame.specs.Shown.{flat};
+ghost use Rattle.muf_run.specs.declared.ran.Ran.TheVariants.{Going};
 ghost use Rattle.muf_run.specs.Alike.{EndsAlike};
 ghost use Rattle.muf_run.specs.Runs.{Passed, RunsAlike, taken, local_of, last_of};
 ghost use Rattle.muf_run.specs.Machine as machine;
@@ -83,6 +84,17 @@ fn unit(alloc: Global, code: &Code, frame: &mut Frame) -> Result<Ran, NoMemory>
     }
 }
 
+// Whether the process goes on in the same program.
+fn goes_on(ran: &Ran) -> bool
+    ensures yes { IsTrue result → ran.now ≡ Going 0 }
+    ensures no { IsFalse result → ran.now ≡ Going 0 → ⊥ }
+{
+    match ran {
+        Ran::Going(programs) => *programs == 0,
+        Ran::Ended | Ran::Faulted(_) | Ran::Shared(_) => false,
+    }
+}
+
 // The answer of a run whose last unit ended so.
 fn finish(frame: &mut Frame, ran: Ran, taken: u32) -> Local
     requires { taken < 4294967295 }
@@ -123,10 +135,11 @@ pub fn run_local(
 {
     let mut taken = 0;
     while taken < most {
-        match unit(alloc, code, frame)? {
-            Ran::Going(0) => taken += 1,
-            over => return Ok(finish(frame, over, taken)),
+        let ran = unit(alloc, code, frame)?;
+        if !goes_on(&ran) {
+            return Ok(finish(frame, ran, taken));
         }
+        taken += 1;
     }
     frame.set_units(taken);
     Ok(Local::Spent)
