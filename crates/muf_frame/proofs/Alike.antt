@@ -5,7 +5,7 @@ use Rattle.muf_model.specs.Flat.{FlatMark}
 use Rattle.muf_frame.specs.declared.mark.Mark.{Mark}
 use Rattle.muf_frame.specs.Shown.{flat_mark, outer_of, locked_by, GuardFits, GuardsFit}
 
-map_reverse : {A B : Type 0} → (f : A → B) (xs : List A) → map f (reverse xs) ≡ reverse (map f xs)
+pub map_reverse : {A B : Type 0} → (f : A → B) (xs : List A) → map f (reverse xs) ≡ reverse (map f xs)
 map_reverse f [] = refl
 map_reverse f (x ∷ xs) =
     ap (map f) (reverse-append (x ∷ []) xs) ∙ map-append f (reverse xs) (x ∷ []) ∙ ap (λ r. r ++ (f x ∷ [])) (map_reverse f xs) ∙ sym (reverse-append (f x ∷ []) (map f xs))
