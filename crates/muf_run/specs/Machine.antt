@@ -24,6 +24,7 @@ use Rattle.muf_frame.specs.Shown.{locked_by, calls_by, opened_by}
 use Rattle.muf_frame.specs.Answers.{int_at}
 use Rattle.muf_run.specs.declared.ran.Ran.{Ran}
 use Rattle.muf_run.specs.declared.ran.Ran.TheVariants.{Going, Ended, Faulted, Shared}
+use Rattle.muf_frame.specs.Moves as moves
 use Rattle.muf_frame.specs.Moves.{called, scope_of, with_variable, behind, caught}
 
 -- How an instruction ends: with a frame, after so many programs were left; with the end of the process, with or
@@ -101,14 +102,8 @@ abbrev pub pushed : Datum → Flat → Next
 pushed x s = placed (x ∷ s.stack) s
 
 -- the arguments of a header become the first variables of the call
-abbrev pub bind : ℕ → Flat → Flat
-bind n s = record s {
-  stack = drop n s.stack;
-  variables = take s.base s.variables ++ (reverse (take n s.stack) ++ drop (s.base + n) s.variables);
-}
-
 abbrev pub bound : ℕ → Flat → Next
-bound n s = if nat_lt (length s.stack) (locked_by s.marks + n) then fault (too_few n s.stack) s else going 0 (bind n s)
+bound n s = if nat_lt (length s.stack) (locked_by s.marks + n) then fault (too_few n s.stack) s else going 0 (moves.bound n s)
 
 -- the top item goes into a variable that is there
 abbrev pub kept_in : Option Datum → ℕ → Datum → List Datum → Flat → Next

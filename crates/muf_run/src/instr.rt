@@ -14,7 +14,7 @@ ghost use Rattle.muf_frame.specs.Moves.{scope_of};
 ghost use Rattle.muf_run.specs.Machine as machine;
 ghost use Rattle.muf_run.specs.Machine.{next_of};
 
-use crate::items::{call, keep, push, test};
+use crate::items::{bind, call, keep, push, test};
 use crate::keys::{open_each, pair_test};
 use crate::loops::{index_test, open_for, open_try};
 use crate::marks::{end_try, fault, leave_loop, leave_word, next_turn};
@@ -22,6 +22,7 @@ use crate::ran::Ran;
 use muck_model::NoMemory;
 use muf_frame::{Frame, PrimFault};
 use muf_model::{Closer, Code, Family, Instr, Literal, Prim, Value, Word};
+use prim_stack::Done;
 use std::alloc::Global;
 
 // The value that a literal stands for.
@@ -33,6 +34,20 @@ fn constant(literal: &Literal) -> Result<Value, NoMemory>
         Literal::Int(number) => Ok(Value::Int(*number)),
         Literal::Text(text) => Ok(Value::Str(text.share()?)),
         Literal::Object(object) => Ok(Value::Ref(*object)),
+    }
+}
+
+// A primitive of the stack.
+#[tactic(auto, using(crate::proofs::Tests::became_answered))]
+fn stack_word(alloc: Global, code: &Code, frame: &mut Frame, prim: Prim) -> Result<Ran, NoMemory>
+    requires { family_of prim ≡ family.Stack }
+    ensures { IfOk result (λ ran. next_of ran (flat frame.new) ≡ machine.answered code.now (stack_row prim (scope_of (length code.now.words) (flat frame.old)) (flat frame.old).stack) (flat frame.old)) }
+{
+    match prim_stack::apply(prim, frame, code.words.len()) {
+        Ok(Done::Kept) => Ok(Ran::Going(0)),
+        Ok(Done::Calls(word)) => call(alloc, code, frame, word),
+        Err(PrimFault::Fault(refused)) => fault(alloc, frame, refused),
+        Err(PrimFault::NoMemory) => Err(NoMemory),
     }
 }
 
@@ -191,19 +206,4 @@ pub(crate) fn instr(
         }
         Instr::Begin(_) | Instr::Unset => Ok(Ran::Ended),
     }
-}
-
-// INTERIM
-fn stack_word(alloc: Global, code: &Code, frame: &mut Frame, prim: Prim) -> Result<Ran, NoMemory>
-    requires { family_of prim ≡ family.Stack }
-    ensures { IfOk result (λ ran. next_of ran (flat frame.new) ≡ machine.answered code.now (stack_row prim (scope_of (length code.now.words) (flat frame.old)) (flat frame.old).stack) (flat frame.old)) }
-{
-    Err(NoMemory)
-}
-
-// INTERIM
-fn bind(alloc: Global, frame: &mut Frame, count: u32) -> Result<Ran, NoMemory>
-    ensures { IfOk result (λ ran. next_of ran (flat frame.new) ≡ machine.bound count (flat frame.old)) }
-{
-    Err(NoMemory)
 }

@@ -73,3 +73,15 @@ pub(crate) fn keep(alloc: Global, frame: &mut Frame, v: VarId) -> Result<Ran, No
         None => fault(alloc, frame, MufFault::StackEmpty),
     }
 }
+
+// The arguments of a header become the first variables of the call.
+#[tactic(auto, using(muf_frame::proofs::Data::data_steps))]
+pub(crate) fn bind(alloc: Global, frame: &mut Frame, count: u32) -> Result<Ran, NoMemory>
+    ensures { IfOk result (λ ran. next_of ran (flat frame.new) ≡ machine.bound count (flat frame.old)) }
+{
+    if let Err(refused) = frame.need(count as usize) {
+        return fault(alloc, frame, refused);
+    }
+    frame.bind(alloc, count as usize)?;
+    Ok(Ran::Going(0))
+}

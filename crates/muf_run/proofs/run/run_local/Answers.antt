@@ -13,11 +13,13 @@ use Rattle.muf_run.proofs.run.run_local.Goals as goal
 pub loop-taken-preserved : goal.loop-taken-preserved
 loop-taken-preserved c =
     let l : c.loop-taken.taken < c.args.most = omega (arith, c.loop-taken-test.true) in
-    let g : c.in_ok-ran.ran ≡ Going 0 = c.goes_on.ensures.yes c.if-not-goes_on.false in
-    (omega (arith, l), λ codes s h.
-      (let i = c.loop-taken.invariant.1 codes s h in
-      let u = going_on (c.args.code.now ∷ codes) (flat c.unit.new.frame) (unit i.0) (subst (λ r. EndsAlike (c.args.code.now ∷ codes) (next_of r (flat c.unit.new.frame)) (unit i.0)) g (c.in_ok-ran.ensures codes i.0 i.1)) in
-      (u.0, u.1, i.2 ∙ units_step c.args.most c.loop-taken.taken i.0 u.0 l u.2, i.3 ∙ taken_step c.args.most c.loop-taken.taken i.0 u.0 l u.2)))
+    let g : c.in_ok-ran.ran ≡ Going 0 = c.goes_on.ensures.yes c.if-not-goes_on.false in (
+      omega (arith, l),
+      λ codes s h.
+          (let i = c.loop-taken.invariant.1 codes s h in
+          let u = going_on (c.args.code.now ∷ codes) (flat c.unit.new.frame) (unit i.0) (subst (λ r. EndsAlike (c.args.code.now ∷ codes) (next_of r (flat c.unit.new.frame)) (unit i.0)) g (c.in_ok-ran.ensures codes i.0 i.1)) in
+          (u.0, u.1, i.2 ∙ units_step c.args.most c.loop-taken.taken i.0 u.0 l u.2, i.3 ∙ taken_step c.args.most c.loop-taken.taken i.0 u.0 l u.2)),
+    )
 
 pub returns-then-not-goes_on-clause-answer : goal.returns-then-not-goes_on-clause-answer
 returns-then-not-goes_on-clause-answer c codes h =
