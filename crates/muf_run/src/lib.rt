@@ -8,5 +8,7 @@ mod loops;
 mod marks;
 mod ran;
 mod run;
+#[cfg(test)]
+mod tests;
 
 pub use run::{Local, run_local};
