@@ -3,3 +3,4 @@ pub mod Alike
 pub mod Owners
 pub mod Unguarded
 pub mod Data
+pub mod Binding

@@ -1,5 +1,5 @@
 -- What calls, variables and faults do to the data of a frame.
-use Rattle.std.specs.Prelude.{◌≡◌, Bool, true, false, ℕ, zero, suc, ◌+◌, ◌-◌, List, [], ◌∷◌, ◌++◌, length, take, drop, nat_lt, if◌then◌else◌, ℤ, negsuc, Option, Some, None, slice_set}
+use Rattle.std.specs.Prelude.{◌≡◌, Bool, true, false, ℕ, zero, suc, ◌+◌, ◌-◌, List, [], ◌∷◌, ◌++◌, length, take, drop, reverse, nat_lt, if◌then◌else◌, ℤ, negsuc, Option, Some, None, slice_set}
 use Rattle.muf_model.specs.declared.fault.MufFault.{MufFault}
 use Rattle.muf_model.specs.Faults.{text_of, is_final}
 use Rattle.muf_model.specs.Datum.{Datum, text}
@@ -28,6 +28,13 @@ called start count f = begun f.program start count (record f { marks = back f.ba
 -- a call of a word of a program, in the same way
 abbrev pub entered : ℤ → ℕ → ℕ → ℕ → Flat → Flat
 entered number owned start count f = begun number start count (owning number owned (record f { marks = leave f.program f.base f.place ∷ f.marks }))
+
+-- so many items at the top become the first variables of the innermost call, the top one the last of them
+abbrev pub bound : ℕ → Flat → Flat
+bound n f = record f {
+  stack = drop n f.stack;
+  variables = take f.base f.variables ++ (reverse (take n f.stack) ++ drop (f.base + n) f.variables);
+}
 
 -- what a primitive may look at beside the stack, in a program of so many words
 abbrev pub scope_of : ℕ → Flat → Scope

@@ -1,6 +1,7 @@
 //! The frame of a running program: its stacks, its variables, and what encloses the place where it stands.
 #![tactic(auto)]
 
+mod bind;
 mod calls;
 mod copies;
 mod fault;
