@@ -4,3 +4,4 @@ pub mod Naming
 pub mod Offers
 pub mod Pendings
 pub mod Titles
+pub mod Sound

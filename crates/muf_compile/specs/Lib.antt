@@ -8,3 +8,4 @@ pub mod Growth
 pub mod Knowing
 pub mod Names
 pub mod Reading
+pub mod Spells
