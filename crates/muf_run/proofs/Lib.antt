@@ -1,4 +1,4 @@
 pub mod Lockstep
 pub mod Running
-pub mod Tests
+pub mod Stacks
 pub mod Turning

@@ -1,6 +1,6 @@
 -- Each instruction does to a frame what the item that it stands for does to the source state.
-use Rattle.std.proofs.Common.{◌≡◌, ℕ, zero, suc, ◌+◌, ◌-◌, ◌<◌, ◌≤◌, List, [], ◌∷◌, ◌++◌, length, take, drop, reverse, Option, Some, None, Bool, true, false, cond, sym, ap, refl, subst, ◌∙◌, arith}
-use Rattle.std.specs.Prelude.{slice_get, slice_set, nat_lt, ℤ, pos, negsuc}
+use Rattle.std.proofs.Common.{◌≡◌, ℕ, zero, suc, ◌+◌, ◌-◌, ◌<◌, ◌≤◌, List, [], ◌∷◌, ◌++◌, length, drop, Option, Some, None, Bool, true, false, cond, sym, ap, refl, subst, ◌∙◌, arith}
+use Rattle.std.specs.Prelude.{slice_get, slice_set, nat_lt, pos, negsuc}
 use Rattle.std.proofs.lemmas.Bool.{lt-ltb, le-ltb}
 use Rattle.std.proofs.Math.Seq.{drop-append_seam, take-append_seam}
 use Rattle.muf_model.specs.declared.code.Word.{Word}
@@ -8,7 +8,7 @@ use Rattle.muf_model.specs.declared.code.Word.TheVariants.{Literal, Variable, Ad
 use Rattle.muf_model.specs.declared.code.Closer.{Closer}
 use Rattle.muf_model.specs.declared.code.Closer.TheVariants.{Semicolon, Repeat, Until}
 use Rattle.muf_model.specs.declared.code.Instr.{Instr}
-use Rattle.muf_model.specs.declared.code.Instr.TheVariants.{Plain, Close, When, IfElse, Try, Else, Catch, Begin, For, Each}
+use Rattle.muf_model.specs.declared.code.Instr.TheVariants.{Plain, Close, When, Begin}
 use Rattle.muf_model.specs.declared.code.CodeWord.{CodeWord}
 use Rattle.muf_model.specs.declared.code.Placed.{Placed}
 use Rattle.muf_model.specs.declared.code.Code.{Code}
@@ -22,18 +22,18 @@ use Rattle.muf_model.specs.Measures.{is_true}
 use Rattle.muf_model.specs.Answer.{Answer, gives, stores, calls as calling_answer, refuses, unknown, fitting, too_few, stack_most, variable_at, owned_first, call_first}
 use Rattle.muf_model.specs.StackRows.{stored}
 use Rattle.muf_model.specs.Rows.{primitive}
-use Rattle.muf_model.specs.Tree.{Fork, if_word, try_word, Ring, begin_word, for_word, each_word, Block, stop, word, when, fork, ring, End, closes, hops, then_block, Definition}
-use Rattle.muf_model.specs.Stands.{Stands, EndStands, Remains, IsAt, hop_instr, fork_instr, ring_instr, WordsStand, TreeStands}
+use Rattle.muf_model.specs.Tree.{Fork, if_word, try_word, begin_word, for_word, each_word, Block, stop, word, when, fork, ring, End, closes, hops, then_block, Definition}
+use Rattle.muf_model.specs.Stands.{Stands, Remains, IsAt, hop_instr, fork_instr, ring_instr, WordsStand, TreeStands}
 use Rattle.muf_model.specs.Decode.{placed_or}
 use Rattle.muf_model.specs.Source as source
 use Rattle.muf_model.specs.Source.{Turns, plain, indices, pairs, Program, Mark, looping, trying, calling, entering, Owned, Source, zeros, locked_of, calls_of, open_of, owned_by, with_owned}
 use Rattle.muf_model.specs.Unit as source_unit
 use Rattle.muf_model.specs.Unit.{Outcome, goes, ended, faulted, asks, calls_most, open_most, constant, has_turn, next_index, numbered, keyed, unit}
-use Rattle.muf_model.specs.Flat.{FlatMark, loop, guard, back, leave, Flat}
+use Rattle.muf_model.specs.Flat.{FlatMark, loop, Flat}
 use Rattle.muf_model.specs.Fits.{MarksFit, none, loops, tries, calls, enters, FitsState, fit}
 use Rattle.muf_model.proofs.Standing.{stands_map, joins}
 use Rattle.muf_frame.specs.Shown.{locked_by, calls_by, opened_by}
-use Rattle.muf_frame.specs.Moves.{unwound, caught, scope_of}
+use Rattle.muf_frame.specs.Moves.{unwound, scope_of}
 use Rattle.muf_frame.specs.Answers.{int_at}
 use Rattle.muf_run.specs.Machine as machine
 use Rattle.muf_run.specs.Machine.{Next, going, at_end, broken, asking, after_fault}

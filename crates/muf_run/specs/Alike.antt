@@ -1,5 +1,5 @@
 -- How the machine and the source end alike.
-use Rattle.std.specs.Prelude.{◌≡◌, ℕ, List, drop}
+use Rattle.std.specs.Prelude.{◌≡◌, List, drop}
 use Rattle.muf_model.specs.declared.code.Code.{Code}
 use Rattle.muf_model.specs.Unit.{Outcome, goes, ended, faulted, asks}
 use Rattle.muf_model.specs.Fits.{FitsState}

@@ -1,5 +1,5 @@
 -- What each instruction does to the data of a frame.
-use Rattle.std.specs.Prelude.{ℕ, suc, ◌+◌, ◌-◌, List, [], ◌∷◌, ◌++◌, length, take, drop, reverse, nat_lt, if◌then◌else◌, ℤ, pos, negsuc, Option, Some, None, slice_get, Bool, true, false, Result, Ok, Err}
+use Rattle.std.specs.Prelude.{ℕ, ◌+◌, ◌-◌, List, [], ◌∷◌, length, drop, nat_lt, if◌then◌else◌, ℤ, pos, negsuc, Option, Some, None, slice_get, Bool, true, false, Result, Ok, Err}
 use Rattle.std.specs.Option.{option_and_then}
 use Rattle.muf_model.specs.declared.code.Word.{Word}
 use Rattle.muf_model.specs.declared.code.Word.TheVariants.{Literal, Variable, Address, Primitive, Call, Bind, Store, Exit, Break, Continue, While, NextIndex, NextPair}
@@ -17,7 +17,7 @@ use Rattle.muf_model.specs.Datum.{Datum, int, variable, address, items, dict}
 use Rattle.muf_model.specs.Measures.{is_true}
 use Rattle.muf_model.specs.Answer.{Answer, gives, stores, calls, refuses, unknown, variable_at, stack_most, too_few}
 use Rattle.muf_model.specs.Rows.{primitive}
-use Rattle.muf_model.specs.Source.{Turns, plain, indices, pairs}
+use Rattle.muf_model.specs.Source.{Turns, indices, pairs}
 use Rattle.muf_model.specs.Unit.{calls_most, open_most, constant, has_turn, next_index, numbered, keyed}
 use Rattle.muf_model.specs.Flat.{FlatMark, loop, guard, back, leave, Flat}
 use Rattle.muf_frame.specs.Shown.{locked_by, calls_by, opened_by}

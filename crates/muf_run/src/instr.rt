@@ -38,7 +38,7 @@ fn constant(literal: &Literal) -> Result<Value, NoMemory>
 }
 
 // A primitive of the stack.
-#[tactic(auto, using(crate::proofs::Tests::became_answered))]
+#[tactic(auto, using(crate::proofs::Stacks::became_answered))]
 fn stack_word(alloc: Global, code: &Code, frame: &mut Frame, prim: Prim) -> Result<Ran, NoMemory>
     requires { family_of prim ≡ family.Stack }
     ensures { IfOk result (λ ran. next_of ran (flat frame.new) ≡ machine.answered code.now (stack_row prim (scope_of (length code.now.words) (flat frame.old)) (flat frame.old).stack) (flat frame.old)) }
@@ -52,7 +52,7 @@ fn stack_word(alloc: Global, code: &Code, frame: &mut Frame, prim: Prim) -> Resu
 }
 
 // A primitive of numbers.
-#[tactic(auto, using(crate::proofs::Tests::became_answered))]
+#[tactic(auto, using(crate::proofs::Stacks::became_answered))]
 fn number_word(alloc: Global, frame: &mut Frame, prim: Prim) -> Result<Ran, NoMemory>
     requires { family_of prim ≡ family.Number }
     ensures { IfOk result (λ ran. (code : Codes) → next_of ran (flat frame.new) ≡ machine.answered code (number_row prim (locked_by (flat frame.old).marks) (flat frame.old).stack) (flat frame.old)) }

@@ -114,7 +114,7 @@ pub(crate) fn open_try(alloc: Global, frame: &mut Frame, handler: usize) -> Resu
 }
 
 // TRY, with its count.
-#[tactic(auto, using(muf_frame::proofs::Data::data_steps, crate::proofs::Tests::count_steps))]
+#[tactic(auto, using(muf_frame::proofs::Data::data_steps, crate::proofs::Stacks::count_steps))]
 fn guard(alloc: Global, frame: &mut Frame, count: usize, handler: usize) -> Result<Ran, NoMemory>
     requires { count < 2147483648 }
     ensures { IfOk result (λ ran. next_of ran (flat frame.new) ≡ machine.try_count (Some (pos count)) handler (flat frame.old)) }

@@ -1,4 +1,3 @@
-use Rattle.std.proofs.Common.{◌≡◌}
 use Rattle.muf_run.specs.Machine as machine
 use Rattle.muf_run.proofs.instr.until_word.Goals as goal
 

@@ -1,11 +1,10 @@
-use Rattle.std.proofs.Common.{rules, ◌≡◌, ◌+◌, ◌≤◌, length, map, sym, ap, ◌∙◌, false, true}
+use Rattle.std.proofs.Common.{rules, ◌≡◌, ◌+◌, ◌≤◌, length, sym, ap, ◌∙◌, false, true}
 use Rattle.std.specs.Prelude.{is_some}
-use Rattle.std.specs.Option.{option_map}
 use Rattle.muf_model.specs.View.{view}
 use Rattle.muf_model.specs.Answer.{variable_at}
 use Rattle.muf_frame.specs.Shown.{flat, locked_by}
 use Rattle.muf_frame.specs.Moves.{scope_of}
-use Rattle.muf_run.proofs.Tests.{keep_none, keep_done, some_mapped, height_alike}
+use Rattle.muf_run.proofs.Stacks.{keep_none, keep_done, some_mapped, height_alike}
 use Rattle.muf_run.proofs.items.keep.Goals as goal
 
 pub returns-then-is_none : goal.returns-then-is_none

@@ -1,11 +1,7 @@
-use Rattle.std.proofs.Common.{rules, ◌≡◌, ◌+◌, drop, Some, None, sym, ap, refl, ◌∙◌}
+use Rattle.std.proofs.Common.{rules, ◌≡◌, Some, None, sym, ap, refl, ◌∙◌}
 use Rattle.std.specs.Prelude.{slice_get}
 use Rattle.std.specs.Arc.{arc_value}
-use Rattle.muf_model.specs.Datum.{pairs_of}
-use Rattle.muf_model.specs.View.{pair_view, map_view}
-use Rattle.muf_model.specs.Source.{pairs}
-use Rattle.muf_model.specs.Unit.{keyed}
-use Rattle.muf_run.specs.Keys.{pull}
+use Rattle.muf_model.specs.View.{map_view}
 use Rattle.muf_run.proofs.Turning.{no_entry, an_entry, view_pair}
 use Rattle.muf_run.proofs.keys.entry_at.Goals as goal
 

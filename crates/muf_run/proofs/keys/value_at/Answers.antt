@@ -1,12 +1,7 @@
-use Rattle.std.proofs.Common.{rules, ◌≡◌, ◌+◌, drop, Some, None, sym, ap, refl, ◌∙◌}
-use Rattle.std.specs.Prelude.{slice_get, pos}
+use Rattle.std.proofs.Common.{rules, ◌≡◌, Some, None, sym, ap, refl, ◌∙◌}
+use Rattle.std.specs.Prelude.{slice_get}
 use Rattle.std.specs.Arc.{arc_value}
-use Rattle.muf_model.specs.Datum.{int, data_of}
-use Rattle.muf_model.specs.View.{view, list_view}
-use Rattle.muf_model.specs.Source.{pairs}
-use Rattle.muf_model.specs.Unit.{numbered}
-use Rattle.muf_model.proofs.Views.{view_int}
-use Rattle.muf_run.specs.Keys.{pull}
+use Rattle.muf_model.specs.View.{list_view}
 use Rattle.muf_run.proofs.Turning.{no_value, a_value}
 use Rattle.muf_run.proofs.keys.value_at.Goals as goal
 
