@@ -4,5 +4,7 @@
 mod items;
 mod rows;
 mod table;
+#[cfg(test)]
+mod tests;
 
 pub use table::apply;
