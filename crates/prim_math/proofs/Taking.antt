@@ -1,11 +1,11 @@
 -- The rows of numbers, by the items at the top.
-use Rattle.std.proofs.Common.{◌≡◌, ℕ, List, [], ◌∷◌, length, map, drop, Bool, refl}
+use Rattle.std.proofs.Common.{◌≡◌, List, ◌∷◌, drop, Bool, refl}
 use Rattle.std.specs.Prelude.{ℤ, Option, Some, None, slice_get}
 use Rattle.std.specs.Option.{option_and_then}
 use Rattle.std.specs.Ordering.{int_eq}
 use Rattle.std.proofs.lemmas.List.{length-map}
 use Rattle.muf_model.specs.declared.fault.MufFault.TheVariants.{BadType}
-use Rattle.muf_model.specs.Datum.{Datum, int, text, object, variable, address, lock, items, dict, mark}
+use Rattle.muf_model.specs.Datum.{Datum, int, object, variable}
 use Rattle.muf_model.specs.Answer.{Answer, gives, refuses}
 use Rattle.muf_model.specs.NumberRows.{one_int, two_ints, compared, number_of, object_of, objects_equal}
 use Rattle.muf_model.proofs.Views.{view_int, view_object}

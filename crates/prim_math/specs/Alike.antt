@@ -1,7 +1,6 @@
 -- What the items at the top are.
-use Rattle.std.specs.Prelude.{List, ◌∷◌, ℤ, Option, Some, None, slice_get}
+use Rattle.std.specs.Prelude.{List, ◌∷◌, ℤ, Option, Some, None}
 use Rattle.std.specs.Int.{w32, cast_signed}
-use Rattle.std.specs.Option.{option_and_then}
 use Rattle.muf_model.specs.Datum.{Datum, int, object, variable}
 
 -- the numbers of two integers or of two objects at the top, the upper one last

@@ -1,12 +1,12 @@
 -- The rows that copy items.
 use Rattle.std.proofs.Common.{length-take, length-drop, true, false, ◌≡◌, ℕ, zero, suc, ◌+◌, ◌-◌, ◌<◌, ◌≤◌, List, [], ◌∷◌, ◌++◌, length, map, take, drop, refl, ap, sym, ◌∙◌, arith, rules}
-use Rattle.std.specs.Prelude.{pos, Option, Some, None, slice_get, option_to_list}
+use Rattle.std.specs.Prelude.{pos, Option, Some, None, slice_get}
 use Rattle.std.proofs.lemmas.List.{length-map, map-append}
 use Rattle.muf_model.specs.Datum.{Datum, int}
 use Rattle.muf_model.specs.Measures.{is_true}
 use Rattle.muf_model.specs.Answer.{gives, fitting}
 use Rattle.muf_model.specs.View.{view}
-use Rattle.muf_model.specs.StackRows.{doubled, doubled_true, overed, tucked, picked, doubled_many, doubled_list}
+use Rattle.muf_model.specs.StackRows.{doubled, doubled_true, overed, tucked, picked, doubled_list}
 use Rattle.muf_model.specs.declared.value.Value.{Value}
 use Rattle.muf_frame.specs.Answers.{int_at}
 use Rattle.muf_frame.proofs.Data.{map_take, map_drop, get_drop}

@@ -1,12 +1,12 @@
 -- The rows of variables, addresses and texts, by the item at the top.
-use Rattle.std.proofs.Common.{◌≢◌, true, false, is_some, rules, ◌≡◌, ℕ, List, [], ◌∷◌, length, drop, refl}
+use Rattle.std.proofs.Common.{◌≢◌, true, false, is_some, rules, ◌≡◌, ℕ, List, ◌∷◌, drop, refl}
 use Rattle.std.specs.Prelude.{ℤ, Option, Some, None, slice_get, ◌&&◌, nat_lt, if◌then◌else◌}
 use Rattle.std.specs.Ordering.{int_eq}
 use Rattle.std.specs.Option.{option_and_then}
 use Rattle.std.proofs.lemmas.List.{length-map}
 use Rattle.std.proofs.lemmas.Option.{slice_get-map}
 use Rattle.muf_model.specs.declared.fault.MufFault.TheVariants.{BadType, BadArgument, BadAddress, Aborted}
-use Rattle.muf_model.specs.Datum.{Datum, int, text, object, variable, address, lock, items, dict, mark}
+use Rattle.muf_model.specs.Datum.{Datum, text, variable, address}
 use Rattle.muf_model.specs.Answer.{Answer, stores, calls, refuses, Scope, variable_at}
 use Rattle.muf_model.specs.StackRows.{stack_row, stored, storing, fetched, fetching, executed, aborted}
 use Rattle.muf_model.specs.declared.prims.Primitive.{Primitive}

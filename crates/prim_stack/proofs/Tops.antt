@@ -8,7 +8,7 @@ use Rattle.muf_model.specs.declared.value.Value.{Value}
 use Rattle.muf_model.specs.View.{view}
 use Rattle.muf_model.specs.StackRows.{is_mark, above, rotated, rotated_up, rotated_down, put_at}
 use Rattle.muf_model.specs.declared.fault.MufFault.TheVariants.{BadType, BadArgument}
-use Rattle.muf_model.specs.Datum.{Datum, int, text, object, variable, address, lock, items, dict, mark}
+use Rattle.muf_model.specs.Datum.{Datum, int}
 use Rattle.muf_model.specs.Answer.{Answer, gives, refuses, needing, by_count}
 use Rattle.muf_model.proofs.Views.{view_int, view_mark}
 use Rattle.muf_frame.specs.Answers.{int_at}

@@ -1,7 +1,6 @@
 -- What a primitive of the stack does, and what it looks at.
-use Rattle.std.specs.Prelude.{◌≡◌, ℕ, List, ◌∷◌, ℤ, pos, negsuc, Bool, true, false, Option, Some, None, Result, Ok, Err, slice_get}
-use Rattle.std.specs.Option.{option_and_then}
-use Rattle.muf_model.specs.Datum.{Datum, int, text, variable, address}
+use Rattle.std.specs.Prelude.{◌≡◌, ℕ, List, ℤ, Bool, true, false, Option, Some, None, Result, Ok, Err}
+use Rattle.muf_model.specs.Datum.{Datum, text, variable, address}
 use Rattle.muf_model.specs.declared.prims.Primitive.{Primitive}
 use Rattle.muf_model.specs.declared.prims.Primitive.TheVariants.{Pop, Dup, DupTrue, Swap, Over, Rot, Rotate, Pick, Put, Nip, Tuck, DupN, LDup, PopN, Reverse, Depth, OpenMark, CloseMark, Fetch, Store, IsInt, IsString, IsDbref, IsArray, IsDictionary, IsAddress, IsLock, Abort}
 use Rattle.muf_model.specs.Answer.{Answer, calls, refuses, counted}

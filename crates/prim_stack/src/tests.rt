@@ -91,10 +91,10 @@ fn is_stack(frame: &Frame, items: &[Item]) -> bool {
 }
 
 #[test]
-fn rows_of_the_stack(rt: HostRuntime) -> Result<(), NoMemory> {
+fn moves_of_items(rt: HostRuntime) -> Result<(), NoMemory> {
     let alloc = rt.alloc();
     // The primitive, the stack before it and behind it, and the fault.
-    let rows: [(Prim, &[Item], &[Item], u32); 94] = [
+    let rows: [(Prim, &[Item], &[Item], u32); 32] = [
         (Prim::Pop, &[I(1), I(2)], &[I(1)], 0),
         (Prim::Pop, &[], &[], 40),
         (Prim::Dup, &[I(7)], &[I(7), I(7)], 0),
@@ -152,6 +152,20 @@ fn rows_of_the_stack(rt: HostRuntime) -> Result<(), NoMemory> {
         (Prim::Put, &[I(9), I(1)], &[I(9), I(1)], 40),
         (Prim::Put, &[I(1), S], &[I(1), S], 44),
         (Prim::Nip, &[I(1), I(2)], &[I(2)], 0),
+    ];
+    for (prim, before, after, fault) in rows {
+        let mut frame = frame_of(alloc, before)?;
+        assert_eq!(rt; used(prim, &mut frame), fault, "at {prim:?} of {before:?}");
+        assert!(rt; is_stack(&frame, after), "at {prim:?} of {before:?}");
+    }
+    Ok(())
+}
+
+#[test]
+fn counts_and_marks(rt: HostRuntime) -> Result<(), NoMemory> {
+    let alloc = rt.alloc();
+    // The primitive, the stack before it and behind it, and the fault.
+    let rows: [(Prim, &[Item], &[Item], u32); 32] = [
         (Prim::Nip, &[I(1)], &[I(1)], 40),
         (Prim::Tuck, &[I(1), I(2)], &[I(2), I(1), I(2)], 0),
         (Prim::Tuck, &[I(1)], &[I(1)], 40),
@@ -204,6 +218,20 @@ fn rows_of_the_stack(rt: HostRuntime) -> Result<(), NoMemory> {
         (Prim::Fetch, &[V(4)], &[I(0)], 0),
         (Prim::Fetch, &[V(6)], &[V(6)], 45),
         (Prim::Fetch, &[V(70)], &[I(0)], 0),
+    ];
+    for (prim, before, after, fault) in rows {
+        let mut frame = frame_of(alloc, before)?;
+        assert_eq!(rt; used(prim, &mut frame), fault, "at {prim:?} of {before:?}");
+        assert!(rt; is_stack(&frame, after), "at {prim:?} of {before:?}");
+    }
+    Ok(())
+}
+
+#[test]
+fn names_and_kinds(rt: HostRuntime) -> Result<(), NoMemory> {
+    let alloc = rt.alloc();
+    // The primitive, the stack before it and behind it, and the fault.
+    let rows: [(Prim, &[Item], &[Item], u32); 30] = [
         (Prim::Fetch, &[V(71)], &[V(71)], 45),
         (Prim::Fetch, &[I(1)], &[I(1)], 44),
         (Prim::Fetch, &[], &[], 40),

@@ -1,4 +1,4 @@
-use Rattle.std.proofs.Common.{◌≡◌, ◌≤◌, ◌+◌, ◌-◌, length, drop}
+use Rattle.std.proofs.Common.{◌≡◌, ◌≤◌, ◌+◌, ◌-◌, drop}
 use Rattle.std.specs.List.{position_or_len}
 use Rattle.muf_model.specs.StackRows.{is_mark, above}
 use Rattle.muf_frame.specs.Shown.{flat, locked_by}

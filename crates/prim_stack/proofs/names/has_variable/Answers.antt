@@ -1,4 +1,4 @@
-use Rattle.std.proofs.Common.{◌≡◌, is_some, ap}
+use Rattle.std.proofs.Common.{is_some, ap}
 use Rattle.prim_stack.proofs.names.has_variable.Goals as goal
 
 pub returns-in-Some : goal.returns-in-Some

@@ -1,4 +1,4 @@
-use Rattle.std.proofs.Common.{◌≡◌, ◌∙◌, true, IsTrue, rules}
+use Rattle.std.proofs.Common.{◌≡◌, ◌∙◌, true, rules}
 use Rattle.prim_stack.proofs.names.put_variable.Goals as goal
 
 pub returns : goal.returns
