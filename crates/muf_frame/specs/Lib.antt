@@ -1,4 +1,0 @@
-pub mod Shown
-pub mod Moves
-pub mod Owners
-pub mod Answers

@@ -1,4 +1,0 @@
-pub mod Lockstep
-pub mod Running
-pub mod Stacks
-pub mod Turning

@@ -1,4 +1,0 @@
-pub mod Machine
-pub mod Alike
-pub mod Keys
-pub mod Runs
