@@ -1,0 +1,16 @@
+pub mod Chain
+pub mod Flags
+pub mod Objects
+pub mod Password
+pub mod Moving
+pub mod Making
+pub mod Setting
+pub mod Recycling
+pub mod Marks
+pub mod Consistent
+pub mod Seen
+pub mod Start
+pub mod Output
+pub mod Connections
+pub mod Boards
+pub mod Lives
