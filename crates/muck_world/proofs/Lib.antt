@@ -1,5 +1,7 @@
 pub mod Positions
 pub mod Trims
 pub mod Living
+pub mod Numbered
+pub mod Lines
 pub mod Reached
 pub mod Runs

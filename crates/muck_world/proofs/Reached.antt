@@ -1,20 +1,25 @@
 -- Lawful entries lead from sound worlds to sound worlds.
-use Rattle.std.proofs.Common.{◌≡◌, ℕ, ◌<◌, ◌≤◌, Bool, true, false, not, ◌&&◌, ◌||◌, cond, List, [], ◌∷◌, ◌++◌, length, drop, refl, sym, ◌∙◌, ap, subst, arith, Option, Some, None, ltb, ◌==◌, ◌≢◌}
+use Rattle.std.proofs.Common.{◌≡◌, ℕ, ◌<◌, ◌≤◌, Bool, true, false, not, ◌&&◌, ◌||◌, cond, List, [], ◌∷◌, length, refl, sym, ◌∙◌, ap, arith, Option, Some, None, ltb, ◌==◌, ◌≢◌}
 use Rattle.std.proofs.lemmas.Bool.Decides.{nat_tests}
 use Rattle.std.proofs.lemmas.Bool.{cond-true, cond-false, ltb-true, ltb-false}
 use Rattle.std.specs.Prelude.{find, is_none, is_some, nat_lt}
 use Rattle.std.specs.Option.{option_map, option_map_or}
-use Rattle.muck_model.specs.declared.dbref.Dbref.{Dbref}
 use Rattle.muck_model.specs.declared.event.Entry.{Entry}
 use Rattle.muck_model.specs.declared.event.Event.{Event}
 use Rattle.muck_model.specs.declared.event.Event.TheVariants.{Opened, Input, Closed, Exec, Take, Halt, Died}
-use Rattle.muck_world.specs.Texts.{first_word, other_words, trimmed}
-use Rattle.muck_world.specs.Connections.{Connection, has_number, is_ready, changed_in, placed, without}
-use Rattle.muck_world.specs.World.{World, connection, changed, queue_of, is_leaving, starting}
-use Rattle.muck_world.specs.Talk.{tell, enter, quit, welcome, refused, room_seen, goodbye, huh, you_say, let_in, logged_in, connecting, at_login, in_world, command, line_done, done}
-use Rattle.muck_world.specs.Steps.{newcomer, connections_most, holds, is_allowed, is_lawful, happened, effect, next_ready}
+use Rattle.muck_model.specs.declared.tune.Tune.{Tune}
+use Rattle.muck_live.specs.Objects.{Entry as Kept}
+use Rattle.muck_live.specs.Output.{bytes_of}
+use Rattle.muck_live.specs.Connections.{Connection, has_number, is_ready, placed, without, newcomer, connections_most, holds, lined}
+use Rattle.muck_live.specs.Boards.{opened, closed, line_added, bytes_taken, early_board}
+use Rattle.muck_live.specs.Lives.{Change, on_board}
+use Rattle.muck_world.specs.World.{World, connection, queue_of, is_leaving, on_live, booted, starting}
+use Rattle.muck_world.specs.Talk.{welcome, done}
+use Rattle.muck_world.specs.Steps.{is_allowed, is_lawful, happened, effect, next_ready}
 use Rattle.muck_world.specs.Histories.{by_porter}
 use Rattle.muck_world.specs.Sound.{IsAbove, IsRising, IsSound}
+use Rattle.muck_world.proofs.Numbered.{Numbered, itself as itself_live, rising_by, numbered_one}
+use Rattle.muck_world.proofs.Lines.{numbered_done}
 
 cases_lt : (m n : ℕ) (P : Bool → Type 0) → (m < n → P true) → (n ≤ m → P false) → P (ltb m n)
 cases_lt m n P p q =
@@ -34,73 +39,10 @@ none_of : {X : Type 0} (o : Option X) → is_none o ≡ true → o ≡ None
 none_of None e = refl
 none_of (Some x) e = cc
 
--- Changes that keep the numbers of the connections.
-
-above-changed_in : (n d : ℕ) (f : Connection → Connection) → ((c : Connection) → (f c).number ≡ c.number) → (cs : List Connection) → IsAbove n cs → IsAbove n (changed_in d f cs)
-above-changed_in n d f keeps [] h = tt
-above-changed_in n d f keeps (c ∷ cs) h =
-    elim (has_number d c) as (λ b. IsAbove n (cond b (f c ∷ cs) (c ∷ changed_in d f cs))) [
-      | true ↦ (omega (arith, keeps c, h.0), h.1)
-      | false ↦ (h.0, above-changed_in n d f keeps cs h.1)
-    ]
-
-rising-changed_in : (d : ℕ) (f : Connection → Connection) → ((c : Connection) → (f c).number ≡ c.number) → (cs : List Connection) → IsRising cs → IsRising (changed_in d f cs)
-rising-changed_in d f keeps [] h = tt
-rising-changed_in d f keeps (c ∷ cs) h =
-    elim (has_number d c) as (λ b. IsRising (cond b (f c ∷ cs) (c ∷ changed_in d f cs))) [
-      | true ↦ (let P : ℕ → Type 0 = λ k. IsAbove k cs in subst P (sym (keeps c)) h.0, h.1)
-      | false ↦ (above-changed_in c.number d f keeps cs h.0, rising-changed_in d f keeps cs h.1)
-    ]
-
-sound-changed : (d : ℕ) (f : Connection → Connection) → ((c : Connection) → (f c).number ≡ c.number) → (w : World) → IsSound w → IsSound (changed d f w)
-sound-changed d f keeps w h = record { alive = h.alive; rising = rising-changed_in d f keeps w.board.connections h.rising }
-
--- What a line does.
-
-either_sound : (b : Bool) (v w : World) → IsSound v → IsSound w → IsSound (cond b v w)
-either_sound true v w p q = p
-either_sound false v w p q = q
-
-sound-tell : (d : ℕ) (text : List ℕ) (w : World) → IsSound w → IsSound (tell d text w)
-sound-tell d text w h = sound-changed d _ (λ c. refl) w h
-
-sound-quit : (d : ℕ) (w : World) → IsSound w → IsSound (quit d w)
-sound-quit d w h = sound-changed d (λ c. record c { leaving = true }) (λ c. refl) (tell d goodbye w) (sound-tell d goodbye w h)
-
-sound-let_in : (d : ℕ) (player : Option Dbref) (w : World) → IsSound w → IsSound (let_in d player w)
-sound-let_in d None w h = sound-tell d refused w h
-sound-let_in d (Some player) w h = sound-tell d room_seen (enter d player w) (sound-changed d (λ c. record c { player = Some player }) (λ c. refl) w h)
-
-sound-logged_in : (d : ℕ) (name word : List ℕ) (w : World) → IsSound w → IsSound (logged_in d name word w)
-unfolding logged_in
-sound-logged_in d name word w h = sound-let_in d _ w h
-
-sound-connecting : (d : ℕ) (name word : List ℕ) (w : World) → IsSound w → IsSound (connecting d name word w)
-sound-connecting d name [] w h = sound-tell d welcome w h
-sound-connecting d name (b ∷ word) w h = sound-logged_in d name (b ∷ word) w h
-
-sound-at_login : (d : ℕ) (line : List ℕ) (w : World) → IsSound w → IsSound (at_login d line w)
-unfolding at_login
-sound-at_login d line w h =
-    let rest = trimmed (other_words (trimmed line)) in
-    either_sound _ _ _ (sound-quit d w h) (either_sound _ _ _ (sound-connecting d (first_word rest) (trimmed (other_words rest)) w h) (sound-tell d welcome w h))
-
-sound-in_world : (d : ℕ) (line : List ℕ) (w : World) → IsSound w → IsSound (in_world d line w)
-unfolding in_world
-sound-in_world d [] w h = sound-tell d huh w h
-sound-in_world d (b ∷ line) w h = either_sound _ _ _ (sound-tell d (you_say (trimmed line)) w h) (either_sound _ _ _ (sound-quit d w h) (sound-tell d huh w h))
-
-sound-command : (player : Option Dbref) (d : ℕ) (line : List ℕ) (w : World) → IsSound w → IsSound (command player d line w)
-sound-command None d line w h = sound-at_login d line w h
-sound-command (Some player) d line w h = sound-in_world d line w h
-
-sound-line_done : (d : ℕ) (player : Option Dbref) (lines : List (List ℕ)) (w : World) → IsSound w → IsSound (line_done d player lines w)
-sound-line_done d player [] w h = h
-sound-line_done d player (line ∷ lines) w h = sound-command player d line _ (sound-changed d (λ c. record c { waiting = lines }) (λ c. refl) w h)
-
-sound-done : (d : ℕ) (o : Option Connection) (w : World) → IsSound w → IsSound (done d o w)
-sound-done d None w h = h
-sound-done d (Some c) w h = sound-line_done d c.player c.waiting w h
+-- a change of what is live that keeps the numbers of the connections
+sound-live : (f : Change) → Numbered itself_live f → (w : World) → IsSound w → IsSound (on_live f w)
+unfolding itself_live
+sound-live f keeps w h = record { alive = h.alive; rising = rising_by w.live.board.connections (f w.live).board.connections (keeps.law w.live) h.rising }
 
 -- Connections that come and go.
 
@@ -152,11 +94,15 @@ no_connection d w stop few e = none_of (connection d w) (and_left _ _ (and_left 
 
 -- an event that is allowed and isn't Died
 sound-happened : (event : Event) (party : ℕ) (w : World) → event ≢ Died → is_allowed w party event ≡ true → IsSound w → IsSound (happened w event)
-sound-happened (Opened d) party w other l h = record { alive = h.alive; rising = rising-placed (newcomer d) w.board.connections (no_connection d w w.stopping (nat_lt (length w.board.connections) connections_most) l) h.rising }
-sound-happened (Input d line) party w other l h = sound-changed d (λ c. record c { waiting = c.waiting ++ line ∷ [] }) (λ c. refl) w h
-sound-happened (Closed d) party w other l h = record { alive = h.alive; rising = rising-without d w.board.connections h.rising }
-sound-happened (Exec d) party w other l h = sound-done d (connection d w) w h
-sound-happened (Take d n) party w other l h = sound-changed d (λ c. record c { queue = drop n c.queue }) (λ c. refl) w h
+unfolding opened closed line_added bytes_taken
+sound-happened (Opened d) party w other l h = record {
+  alive = h.alive;
+  rising = rising-placed (newcomer d welcome) w.live.board.connections (no_connection d w w.stopping (nat_lt (length w.live.board.connections) connections_most) l) h.rising;
+}
+sound-happened (Input d line) party w other l h = sound-live (on_board (line_added d line)) (numbered_one d (lined line) (λ c. refl)) w h
+sound-happened (Closed d) party w other l h = record { alive = h.alive; rising = rising-without d w.live.board.connections h.rising }
+sound-happened (Exec d) party w other l h = sound-live (done d (connection d w)) (numbered_done d (connection d w)) w h
+sound-happened (Take d n) party w other l h = sound-live (on_board (bytes_taken d n)) (numbered_one d _ (λ c. refl)) w h
 sound-happened Halt party w other l h = record { alive = h.alive; rising = h.rising }
 sound-happened Died party w other l h = absurd (other refl)
 sound-happened event party w other l h = h
@@ -213,9 +159,9 @@ exec_may false false cs d a h e = ap (λ b. b && true) (exec_ok cs d (find is_re
 -- a turn is lawful, of any party
 pub exec_lawful : (w : World) (party d : ℕ) → IsSound w → next_ready w ≡ Some d → is_lawful w (record { party = party; event = Exec d }) ≡ true
 unfolding is_lawful next_ready
-exec_lawful w party d h e = exec_may w.dead w.stopping w.board.connections d h.alive h.rising e
+exec_lawful w party d h e = exec_may w.dead w.stopping w.live.board.connections d h.alive h.rising e
 
-holds_all : (o : Option Connection) → 0 < length (option_map_or (λ c. c.queue) o []) → (nat_lt 0 (length (option_map_or (λ c. c.queue) o [])) && option_map_or (holds (length (option_map_or (λ c. c.queue) o []))) o false) ≡ true
+holds_all : (o : Option Connection) → 0 < length (option_map_or (λ c. bytes_of c.output) o []) → (nat_lt 0 (length (option_map_or (λ c. bytes_of c.output) o [])) && option_map_or (holds (length (option_map_or (λ c. bytes_of c.output) o []))) o false) ≡ true
 holds_all None h = absurd (omega arith)
 holds_all (Some c) h = grind (arith, nat_tests)
 
@@ -238,6 +184,10 @@ pub halt_lawful : (w : World) → IsSound w → is_lawful w (by_porter Halt) ≡
 unfolding is_lawful
 halt_lawful w h = cond-false _ _ _ h.alive
 
+pub sound-booted : (objects : List Kept) (tune : Tune) (moment start : ℕ) → IsSound (booted objects tune moment start)
+unfolding booted early_board
+sound-booted objects tune moment start = record { alive = refl; rising = tt }
+
 pub sound-starting : IsSound starting
-unfolding starting
+unfolding starting booted early_board
 sound-starting = record { alive = refl; rising = tt }

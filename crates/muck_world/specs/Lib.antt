@@ -1,8 +1,6 @@
 pub mod Texts
-pub mod Password
-pub mod Objects
-pub mod Connections
 pub mod World
+pub mod Levels
 pub mod Talk
 pub mod Steps
 pub mod Histories

@@ -1,6 +1,6 @@
 -- Worlds that can be reached.
 use Rattle.std.specs.Prelude.{◌≡◌, ℕ, ◌<◌, false, List, [], ◌∷◌}
-use Rattle.muck_world.specs.Connections.{Connection}
+use Rattle.muck_live.specs.Connections.{Connection}
 use Rattle.muck_world.specs.World.{World}
 
 -- every number is above n
@@ -15,4 +15,4 @@ IsRising (c ∷ cs) = IsAbove c.number cs × IsRising cs
 -- alive, and its connections stand by rising number
 pub record IsSound (w : World) : Type 0 where
   pub alive : w.dead ≡ false
-  pub rising : IsRising w.board.connections
+  pub rising : IsRising w.live.board.connections

@@ -1,18 +1,11 @@
 -- The world as a value.
-use Rattle.std.specs.Prelude.{ℕ, Bool, true, false, List, [], ◌∷◌, length, Option, Some, None, find}
-use Rattle.std.specs.Option.{option_map_or}
-use Rattle.rand_core.specs.Pcg32Seed.{pcg32_seed}
-use Rattle.rand_pcg.specs.Lcg.{Lcg}
-use Rattle.rand_pcg.specs.Pcg.{pcg32_of_seed}
+use Rattle.std.specs.Prelude.{ℕ, Bool, false, List, [], Option, None}
 use Rattle.muck_model.specs.declared.tune.Tune.{Tune}
-use Rattle.muck_world.specs.Objects.{Object, first_objects, first_digest}
-use Rattle.muck_world.specs.Connections.{Connection, has_number, changed_in}
-
--- who is connected, the state of the random numbers, and what a wizard tuned
-pub record Board : Type 0 where
-  pub connections : List Connection
-  pub random : Lcg
-  pub tune : Tune
+use Rattle.muck_live.specs.Objects.{Entry}
+use Rattle.muck_live.specs.Start.{first_objects}
+use Rattle.muck_live.specs.Connections.{Connection}
+use Rattle.muck_live.specs.Boards.{connection_in, queue_in, is_leaving_in, first_tune, early_board}
+use Rattle.muck_live.specs.Lives.{Live, Change}
 
 -- the dump that runs, whether one is asked and by which connections, and the moment of the last that began
 pub record Dumps : Type 0 where
@@ -21,61 +14,43 @@ pub record Dumps : Type 0 where
   pub askers : List ℕ
   pub last : ℕ
 
--- The world: its objects by their numbers from 0 on, who is connected, the second that it is, its dumps, and whether
--- it is stopping or dead.
+-- The world: what commands and programs change, the second that it is, its dumps, and whether it is stopping or dead.
 pub record World : Type 0 where
-  pub objects : List Object
-  pub board : Board
+  pub live : Live
   pub moment : ℕ
   pub dumps : Dumps
   pub stopping : Bool
   pub dead : Bool
 
-unfoldable pub first_tune : Tune
-first_tune = record {
-  instr_slice = 2000;
-  preempt_units = 20000;
-  m1_units = 20000;
-  m2_units = 80000;
-  process_limit = 400;
-  player_processes = 32;
-  mpi_commands = 2048;
-  dump_interval = 900;
-}
+-- no dump runs or is asked
+abbrev pub no_dumps : ℕ → Dumps
+no_dumps moment = record { running = None; is_asked = false; askers = []; last = moment }
 
-unfoldable pub first_random : Lcg
-first_random = pcg32_of_seed (pcg32_seed 16 0)
-
--- the world of these connections, in which One has this digest and nothing else is as yet as anybody made it
-abbrev pub early_world : List ℕ → List Connection → Bool → World
-early_world digest connections stopping = record {
-  objects = first_objects digest;
-  board = record { connections = connections; random = first_random; tune = first_tune };
-  moment = 0;
-  dumps = record { running = None; is_asked = false; askers = []; last = 0 };
-  stopping = stopping;
+-- the world of these objects at this moment, in which nobody is connected, and whose random numbers begin so
+unfoldable pub booted : List Entry → Tune → ℕ → ℕ → World
+booted objects tune moment start = record {
+  live = record { objects = objects; board = early_board start tune };
+  moment = moment;
+  dumps = no_dumps moment;
+  stopping = false;
   dead = false;
 }
 
--- nobody is connected, and One has the first password
+-- Room Zero and One, and nothing else is as yet as anybody made it
 unfoldable pub starting : World
-starting = early_world first_digest [] false
+starting = booted first_objects first_tune 0 0
 
 -- the connection of a number
 abbrev pub connection : ℕ → World → Option Connection
-connection d w = find (has_number d) w.board.connections
+connection d w = connection_in d w.live.board
 
 -- the bytes that wait to be sent to it
 abbrev pub queue_of : ℕ → World → List ℕ
-queue_of d w = option_map_or (λ c. c.queue) (connection d w) []
+queue_of d w = queue_in d w.live.board
 
 abbrev pub is_leaving : ℕ → World → Bool
-is_leaving d w = option_map_or (λ c. c.leaving) (connection d w) false
+is_leaving d w = is_leaving_in d w.live.board
 
--- with these connections
-abbrev pub with_connections : List Connection → World → World
-with_connections connections w = record w { board = record w.board { connections = connections } }
-
--- with the connection d changed by f
-abbrev pub changed : ℕ → (Connection → Connection) → World → World
-changed d f w = with_connections (changed_in d f w.board.connections) w
+-- with a change of its live part
+abbrev pub on_live : Change → World → World
+on_live f w = record w { live = f w.live }

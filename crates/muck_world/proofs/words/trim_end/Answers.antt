@@ -1,4 +1,4 @@
-use Rattle.std.proofs.Common.{◌≡◌, sym, ◌∙◌, ap, eq-eqb}
+use Rattle.std.proofs.Common.{sym, ◌∙◌, ap, eq-eqb}
 use Rattle.std.proofs.lemmas.Bool.{ne_eqb}
 use Rattle.muck_world.specs.Texts.{end_trimmed}
 use Rattle.muck_world.proofs.Trims.{end_trimmed-space, end_trimmed-other}
