@@ -1,6 +1,7 @@
 pub mod Texts
 pub mod World
 pub mod Levels
+pub mod Verdict
 pub mod Talk
 pub mod Steps
 pub mod Histories
