@@ -1,8 +1,5 @@
 pub mod Texts
 pub mod World
-pub mod Levels
-pub mod Verdict
-pub mod Licence
 pub mod Talk
 pub mod Steps
 pub mod Histories

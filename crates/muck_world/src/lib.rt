@@ -3,12 +3,8 @@
 //! is what those definitions need of a line of text: its words.
 #![tactic(auto)]
 
-mod act;
-mod rule;
 #[cfg(test)]
 mod tests;
 mod words;
 
-pub use act::{Act, Actor};
-pub use rule::Rule;
 pub use words::{alike, cut_word, trim};

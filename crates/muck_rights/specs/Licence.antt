@@ -12,9 +12,9 @@ use Rattle.muck_live.specs.Flags.{has_flag, no_flags, builder, jump, link, wizar
 use Rattle.muck_live.specs.Objects.{Entry, dbref_of, nothing, home, same, is_player, is_exit, object_at}
 use Rattle.muck_live.specs.Connections.{Connection}
 use Rattle.muck_live.specs.Lives.{Live}
-use Rattle.muck_world.specs.declared.act.Actor.{Actor}
-use Rattle.muck_world.specs.Levels.{level_at, is_player_at, flag_at, owner_at}
-use Rattle.muck_world.specs.Verdict.{is_master, controls, controls_or, is_hidden, is_kept, is_guarded, may_take_over, place_of}
+use Rattle.muck_rights.specs.declared.act.Actor.{Actor}
+use Rattle.muck_rights.specs.Levels.{level_at, is_player_at, flag_at, owner_at}
+use Rattle.muck_rights.specs.Verdict.{is_master, controls, controls_or, is_hidden, is_kept, is_guarded, may_take_over, place_of}
 
 -- what stood there stands there, or what stands there now is open
 abbrev pub Open : {X : Type 0} → (X → Bool) → X → X → Type 0
