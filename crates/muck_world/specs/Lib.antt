@@ -1,5 +1,11 @@
 pub mod Texts
 pub mod World
+pub mod Replies
+pub mod Finding
+pub mod Talking
+pub mod Going
+pub mod Building
+pub mod Commands
 pub mod Talk
 pub mod Steps
 pub mod Histories
