@@ -1,0 +1,5 @@
+pub mod Sent
+pub mod Begun
+pub mod Bounded
+pub mod Pieces
+pub mod Lines

@@ -1,0 +1,7 @@
+//! The connections of a world with what waits on each, the random numbers, and what a wizard tuned.
+#![tactic(auto)]
+
+mod output;
+mod piece;
+mod rest;
+mod split;

@@ -1,0 +1,1 @@
+// What waits to be sent to a connection.
