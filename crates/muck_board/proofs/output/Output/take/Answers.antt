@@ -1,46 +1,36 @@
-use Rattle.std.proofs.Common.{rules, ◌≡◌, ℕ, ◌+◌, ◌-◌, ◌<◌, ◌≤◌, nat_le, if◌then◌else◌, true, OnOk, MatchBool, [], ◌∷◌, ◌++◌, length, take, drop, min, ◌*◌, ◌/◌, ◌%◌, Bool, false, nat_eq, nat_lt, List, slice_index_or, slice_set, bit_and, bit_or, Fits, w8, w32, w64, Bor, MutBor}
-use Rattle.std.specs.List.{slice_split}
-use Rattle.std.specs.Option.{option_map_or}
-use Rattle.muck_live.specs.Output.{no_output, sent_form, notice_of, lines_bytes, bytes_of, newest, line_sent, lines_sent, sent, taken}
-use Rattle.muck_board.specs.Pieces.{pieces_after}
+use Rattle.std.proofs.Common.{◌≡◌, ◌+◌, ◌<◌, ◌≤◌, arith, ap, sym, ◌∙◌, refl, length, drop, length-drop}
+use Rattle.muck_live.specs.Output.{bytes_of, taken}
+use Rattle.muck_board.proofs.Outputs.{taken_left, taken_more, taken_rest, took, rest_within}
 use Rattle.muck_board.proofs.output.Output.take.Goals as goal
 
--- src/output.rt:198:9
 pub loop-n-init : goal.loop-n-init
-loop-n-init c = ?
+loop-n-init c = record { left = sym (taken_rest 0 c.args.self.now (omega arith)); there = omega arith; bytes = refl; within = omega arith; len = refl }
 
--- src/output.rt:200:17
 pub returns-then-not-begin-clause-count : goal.returns-then-not-begin-clause-count
-returns-then-not-begin-clause-count c = ?
+returns-then-not-begin-clause-count c =
+    let all = bytes_of c.args.self.now in
+    let left = sym (ap bytes_of c.loop-n.invariant.left ∙ taken_left c.loop-n.n c.args.self.now) ∙ c.if-not-begin.ensures.begun.0 in
+    omega (arith, ap length left, length-drop c.loop-n.n all, c.loop-n.invariant.there, c.loop-n.invariant.len)
 
--- src/output.rt:200:17
-pub returns-then-not-begin-clause-bytes : goal.returns-then-not-begin-clause-bytes
-returns-then-not-begin-clause-bytes c = ?
-
--- src/output.rt:200:17
-pub returns-then-not-begin-clause-rest : goal.returns-then-not-begin-clause-rest
-returns-then-not-begin-clause-rest c = ?
-
--- src/output.rt:200:17
 pub returns-then-not-begin-clause-left : goal.returns-then-not-begin-clause-left
-returns-then-not-begin-clause-left c = ?
+returns-then-not-begin-clause-left c = c.begin.ensures.same ∙ ap bytes_of c.loop-n.invariant.left ∙ taken_left c.loop-n.n c.args.self.now
 
--- src/output.rt:198:9
 pub loop-n-preserved : goal.loop-n-preserved
-loop-n-preserved c = ?
+loop-n-preserved c =
+    let o = c.args.self.now in
+    let n = c.loop-n.n in
+    let k = c.take_begun-n.result in
+    let inv = c.loop-n.invariant in
+    let within : k ≤ length c.begin.new.self.rest = omega (arith, c.take_begun-n.ensures.count) in
+    let some : 0 < k = omega (arith, c.take_begun-n.ensures.count, c.if-not-begin.ensures.begun, inv.len, inv.within) in
+    let behind : bytes_of c.begin.new.self ≡ drop n (bytes_of o) = c.begin.ensures.same ∙ ap bytes_of inv.left ∙ taken_left n o in
+    record {
+      left = c.take_begun-n.ensures.rest ∙ sym (taken_rest k c.begin.new.self within) ∙ c.begin.ensures.taken k some ∙ ap (taken k) inv.left ∙ taken_more k n o;
+      there = omega (arith, within, rest_within c.begin.new.self, ap length behind, length-drop n (bytes_of o), inv.there);
+      bytes = took n k (bytes_of o) _ _ c.begin.new.self behind within inv.bytes c.take_begun-n.ensures.bytes;
+      within = omega (arith, c.take_begun-n.ensures.count, c.take_begun-n.ensures.len, inv.within);
+      len = c.take_begun-n.ensures.len ∙ inv.len;
+    }
 
--- src/output.rt:191:5
-pub returns-clause-count : goal.returns-clause-count
-returns-clause-count c = ?
-
--- src/output.rt:191:5
-pub returns-clause-bytes : goal.returns-clause-bytes
-returns-clause-bytes c = ?
-
--- src/output.rt:191:5
-pub returns-clause-rest : goal.returns-clause-rest
-returns-clause-rest c = ?
-
--- src/output.rt:191:5
 pub returns-clause-left : goal.returns-clause-left
-returns-clause-left c = ?
+returns-clause-left c = ap bytes_of c.loop-n.invariant.left ∙ taken_left c.loop-n.n c.args.self.now
