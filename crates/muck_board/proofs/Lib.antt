@@ -1,3 +1,5 @@
 pub mod Positions
 pub mod Splits
 pub mod Outputs
+pub mod Places
+pub mod Mapped

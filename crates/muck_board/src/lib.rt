@@ -1,6 +1,7 @@
 //! The connections of a world with what waits on each, the random numbers, and what a wizard tuned.
 #![tactic(auto)]
 
+mod connection;
 mod output;
 mod piece;
 mod rest;
