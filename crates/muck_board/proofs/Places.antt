@@ -2,11 +2,15 @@
 use Rattle.std.proofs.Common.{◌≡◌, ℕ, ◌+◌, ◌<◌, ◌≤◌, true, false, List, [], ◌∷◌, length, get_or, set, refl, sym, ◌∙◌, ap, arith, cond, Option, Some, None, not, suc, subst}
 use Rattle.std.specs.List.{position_or_len}
 use Rattle.std.specs.List.{remove, insert}
-use Rattle.std.specs.Option.{option_map_or}
+use Rattle.std.specs.Option.{option_map_or, option_and_then}
 use Rattle.std.specs.Prelude.{nat_lt, find}
 use Rattle.muck_model.specs.declared.dbref.Dbref.{Dbref}
 use Rattle.muck_board.specs.Lines.{HasLine, HasNoLine}
-use Rattle.muck_live.specs.Output.{bytes_of}
+use Rattle.std.proofs.lemmas.Bool.{cond_both}
+use Rattle.std.proofs.lemmas.List.{drop_all}
+use Rattle.std.specs.Prelude.{drop}
+use Rattle.muck_live.specs.Output.{bytes_of, taken}
+use Rattle.muck_board.proofs.Outputs.{taken_left}
 use Rattle.muck_live.specs.Connections.{Connection, has_number, changed_in, without, placed}
 
 changed_at : (d : ℕ) (f : Connection → Connection) (cs : List Connection) (old : Connection) →
@@ -145,3 +149,25 @@ queue_where o c e = ap (λ o'. option_map_or (λ x. bytes_of x.output) o' []) e
 
 pub queue_nowhere : (o : Option Connection) → o ≡ None → option_map_or (λ x. bytes_of x.output) o [] ≡ []
 queue_nowhere o e = ap (λ o'. option_map_or (λ x. bytes_of x.output) o' []) e
+
+queue_of : Option Connection → List ℕ
+queue_of o = option_map_or (λ x. bytes_of x.output) o []
+
+-- what is left in the queue of the connection d
+pub queue_left : (d n : ℕ) (cs : List Connection) →
+    option_map_or (λ x. bytes_of x.output) (find (has_number d) (changed_in d (λ c. record c { output = taken n c.output }) cs)) []
+    ≡ drop n (option_map_or (λ x. bytes_of x.output) (find (has_number d) cs) [])
+unfolding queue_of
+queue_left d n [] = sym (drop_all n [] (omega arith))
+queue_left d n (c ∷ cs) =
+    let f : Connection → Connection = λ x. record x { output = taken n x.output } in
+    cond_both (has_number d c) (f c ∷ cs) (c ∷ changed_in d f cs) (λ l. queue_of (find (has_number d) l) ≡ drop n (queue_of (find (has_number d) (c ∷ cs))))
+      (λ e. rw e (taken_left n c.output))
+      (λ e. rw e (queue_left d n cs))
+
+-- what is edited on the connection d
+pub editor_where : (o : Option Connection) (c : Connection) → o ≡ Some c → option_and_then (λ x. x.editor) o ≡ c.editor
+editor_where o c e = ap (λ o'. option_and_then (λ x. x.editor) o') e
+
+pub editor_nowhere : (o : Option Connection) → o ≡ None → option_and_then (λ x. x.editor) o ≡ None
+editor_nowhere o e = ap (λ o'. option_and_then (λ x. x.editor) o') e

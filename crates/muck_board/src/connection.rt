@@ -1,5 +1,5 @@
 // One connection.
-ghost use Rattle.std.specs.Prelude.{◌≡◌, ◌≤◌, OnOk, IfOk, MatchOption, length, drop, take, min, None, Some, false, [], ◌∷◌, ◌++◌};
+ghost use Rattle.std.specs.Prelude.{◌≡◌, ◌≤◌, OnOk, OnErr, IfOk, MatchOption, length, drop, take, min, None, Some, false, [], ◌∷◌, ◌++◌};
 ghost use Rattle.std.specs.Option.{option_map_or};
 ghost use Rattle.muck_live.specs.Objects.{same};
 ghost use Rattle.muck_live.specs.Output.{bytes_of, taken};
@@ -127,7 +127,8 @@ impl Connection {
     }
 
     pub fn add_line(&mut self, line: Line) -> Result<(), NoMemory>
-        ensures { OnOk result (self.new ≡ lined line self.old) }
+        ensures ok { OnOk result (self.new ≡ lined line self.old) }
+        ensures err { OnErr result (self.new ≡ self.old) }
     {
         self.waiting.push_back(line)?;
         Ok(())

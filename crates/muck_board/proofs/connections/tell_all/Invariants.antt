@@ -1,0 +1,7 @@
+use Rattle.std.proofs.Common.{◌≡◌, ◌++◌, take, drop}
+use Rattle.std.specs.Prelude.{map}
+use Rattle.muck_live.specs.Connections.{told_where, has_player}
+use Rattle.muck_board.proofs.connections.tell_all.Given as goal
+
+abbrev pub invariant-loop-i : goal.invariant-loop-i
+invariant-loop-i l = l.connections.items ≡ map (told_where has_player l.text) (take l.i l.initial.connections.items) ++ drop l.i l.initial.connections.items
