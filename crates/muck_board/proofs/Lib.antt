@@ -3,3 +3,4 @@ pub mod Splits
 pub mod Outputs
 pub mod Places
 pub mod Mapped
+pub mod Quiet

@@ -3,3 +3,4 @@ pub mod Begun
 pub mod Bounded
 pub mod Pieces
 pub mod Lines
+pub mod Silent

@@ -6,6 +6,7 @@ ghost use Rattle.muck_live.specs.Output.{bytes_of};
 ghost use Rattle.muck_live.specs.Connections.{has_number, is_ready, takes_line, is_of};
 ghost use Rattle.muck_live.specs.Boards.{early_board, connection_in, queue_in, is_leaving_in, player_in, editor_in, opened, closed, line_added, bytes_taken, told_one, told_player, told_others, told_all, leaving_one, left_player, seated_one, edited_one, tuned, random_drawn};
 ghost use Rattle.muck_board.specs.Lines.{BoardTakesLine};
+ghost use Rattle.muck_board.specs.Silent.{silent};
 
 use crate::connection::Connection;
 use crate::connections;
@@ -20,8 +21,8 @@ use std::marker::Model;
 /// The connections by rising number, the random numbers, and what a wizard tuned. A connection is named by its number;
 /// where none has that number, a reader answers as of one with nothing on it, and a change changes nothing.
 ///
-/// After `NoMemory` the numbers, players, editors, waiting lines and what leaves are as before, but for what the call
-/// says; of a text that was to be sent a part may have been sent.
+/// After `NoMemory` of a call that sends a text the board is as before but for what waits to be sent: a part of the text
+/// may have been sent, and older lines may have given way to it.
 #[derive(Drop)]
 pub struct Board {
     alloc: Global,
@@ -184,7 +185,8 @@ impl Board {
 
     /// Sends a text to the connection.
     pub fn say(&mut self, d: u32, text: &Line) -> Result<(), NoMemory>
-        ensures { OnOk result (self.new ≡ told_one d text.now self.old) }
+        ensures ok { OnOk result (self.new ≡ told_one d text.now self.old) }
+        ensures rest { silent self.new ≡ silent self.old }
     {
         self.tell(d, text.as_slice())
     }
@@ -193,7 +195,8 @@ impl Board {
     /// give way, and the notice stands, where there is no room.
     #[tactic(auto, unfolding(muck_live::specs::Boards::told_one))]
     pub fn tell(&mut self, d: u32, text: &[u8]) -> Result<(), NoMemory>
-        ensures { OnOk result (self.new ≡ told_one d text.now self.old) }
+        ensures ok { OnOk result (self.new ≡ told_one d text.now self.old) }
+        ensures rest { silent self.new ≡ silent self.old }
     {
         connections::tell(&mut self.connections, d, text)
     }
@@ -201,7 +204,8 @@ impl Board {
     /// Sends a text to all connections of a player.
     #[tactic(auto, unfolding(muck_live::specs::Boards::told_player))]
     pub fn tell_player(&mut self, player: Dbref, text: &[u8]) -> Result<(), NoMemory>
-        ensures { OnOk result (self.new ≡ told_player player text.now self.old) }
+        ensures ok { OnOk result (self.new ≡ told_player player text.now self.old) }
+        ensures rest { silent self.new ≡ silent self.old }
     {
         connections::tell_player(&mut self.connections, player, text)
     }
@@ -215,7 +219,8 @@ impl Board {
         but: Dbref,
         text: &[u8],
     ) -> Result<(), NoMemory>
-        ensures { OnOk result (self.new ≡ told_others (K.places keys.now) room but text.now self.old) }
+        ensures ok { OnOk result (self.new ≡ told_others (K.places keys.now) room but text.now self.old) }
+        ensures rest { silent self.new ≡ silent self.old }
     {
         connections::tell_others(&mut self.connections, keys, room, but, text)
     }
@@ -223,7 +228,8 @@ impl Board {
     /// Sends a text to the connections of all players.
     #[tactic(auto, unfolding(muck_live::specs::Boards::told_all))]
     pub fn tell_all(&mut self, text: &[u8]) -> Result<(), NoMemory>
-        ensures { OnOk result (self.new ≡ told_all text.now self.old) }
+        ensures ok { OnOk result (self.new ≡ told_all text.now self.old) }
+        ensures rest { silent self.new ≡ silent self.old }
     {
         connections::tell_all(&mut self.connections, text)
     }

@@ -4,6 +4,7 @@ ghost use Rattle.std.specs.Option.{option_map_or};
 ghost use Rattle.muck_live.specs.Objects.{same};
 ghost use Rattle.muck_live.specs.Output.{bytes_of, taken};
 ghost use Rattle.muck_live.specs.Connections.{newcomer, takes_line, is_ready, told, told_where, left, left_where, seated, lined, edited, is_of, hears, has_player};
+ghost use Rattle.muck_board.specs.Silent.{quiet};
 
 use crate::output::Output;
 use muck_lock::Keys;
@@ -144,7 +145,8 @@ impl Connection {
 
     /// Sends a text.
     pub fn tell(&mut self, text: &[u8]) -> Result<(), NoMemory>
-        ensures { OnOk result (self.new ≡ told text.now self.old) }
+        ensures ok { OnOk result (self.new ≡ told text.now self.old) }
+        ensures rest { quiet self.new ≡ quiet self.old }
     {
         self.output.say(text)?;
         Ok(())
@@ -152,7 +154,8 @@ impl Connection {
 
     /// Sends a text where it is a connection of that player.
     pub fn tell_player(&mut self, player: Dbref, text: &[u8]) -> Result<(), NoMemory>
-        ensures { OnOk result (self.new ≡ told_where (is_of player) text.now self.old) }
+        ensures ok { OnOk result (self.new ≡ told_where (is_of player) text.now self.old) }
+        ensures rest { quiet self.new ≡ quiet self.old }
     {
         if self.is_of(player) {
             self.tell(text)?;
@@ -162,7 +165,8 @@ impl Connection {
 
     /// Sends a text where it is that of a player in the room, but not of that one.
     pub fn tell_other<K: Keys>(&mut self, keys: &K, room: Dbref, but: Dbref, text: &[u8]) -> Result<(), NoMemory>
-        ensures { OnOk result (self.new ≡ told_where (hears (K.places keys.now) room but) text.now self.old) }
+        ensures ok { OnOk result (self.new ≡ told_where (hears (K.places keys.now) room but) text.now self.old) }
+        ensures rest { quiet self.new ≡ quiet self.old }
     {
         if self.hears(keys, room, but) {
             self.tell(text)?;
@@ -172,7 +176,8 @@ impl Connection {
 
     /// Sends a text where it has a player.
     pub fn tell_any(&mut self, text: &[u8]) -> Result<(), NoMemory>
-        ensures { OnOk result (self.new ≡ told_where has_player text.now self.old) }
+        ensures ok { OnOk result (self.new ≡ told_where has_player text.now self.old) }
+        ensures rest { quiet self.new ≡ quiet self.old }
     {
         if self.has_player() {
             self.tell(text)?;

@@ -5,6 +5,7 @@ ghost use Rattle.std.specs.Option.{option_map, option_map_or, option_and_then, o
 ghost use Rattle.muck_live.specs.Output.{bytes_of, taken};
 ghost use Rattle.muck_live.specs.Connections.{has_number, changed_in, placed, without, is_ready, takes_line, told, told_where, left, left_where, seated, lined, edited, is_of, hears, has_player};
 ghost use Rattle.muck_board.specs.Lines.{TakesLine};
+ghost use Rattle.muck_board.specs.Silent.{quiet};
 
 use crate::connection::Connection;
 use muck_lock::Keys;
@@ -27,7 +28,8 @@ pub fn place_of(connections: &Vec<Connection>, d: u32) -> usize
 }
 
 pub fn tell(connections: &mut Vec<Connection>, d: u32, text: &[u8]) -> Result<(), NoMemory>
-    ensures { OnOk result (connections.new.items ≡ changed_in d (told text.now) connections.old.items) }
+    ensures ok { OnOk result (connections.new.items ≡ changed_in d (told text.now) connections.old.items) }
+    ensures rest { map quiet connections.new.items ≡ map quiet connections.old.items }
 {
     let at = place_of(connections, d);
     if at < connections.len() {
@@ -256,7 +258,8 @@ pub fn count_of(connections: &[Connection], player: Dbref) -> usize
 
 /// Sends a text to all connections of a player.
 pub fn tell_player(connections: &mut Vec<Connection>, player: Dbref, text: &[u8]) -> Result<(), NoMemory>
-    ensures { OnOk result (connections.new.items ≡ map (told_where (is_of player) text.now) connections.old.items) }
+    ensures ok { OnOk result (connections.new.items ≡ map (told_where (is_of player) text.now) connections.old.items) }
+    ensures rest { map quiet connections.new.items ≡ map quiet connections.old.items }
 {
     for i in 0..connections.len() {
         let c = &mut connections[i];
@@ -267,7 +270,8 @@ pub fn tell_player(connections: &mut Vec<Connection>, player: Dbref, text: &[u8]
 
 /// Sends a text to those of the players in a room but one.
 pub fn tell_others<K: Keys>(connections: &mut Vec<Connection>, keys: &K, room: Dbref, but: Dbref, text: &[u8]) -> Result<(), NoMemory>
-    ensures { OnOk result (connections.new.items ≡ map (told_where (hears (K.places keys.now) room but) text.now) connections.old.items) }
+    ensures ok { OnOk result (connections.new.items ≡ map (told_where (hears (K.places keys.now) room but) text.now) connections.old.items) }
+    ensures rest { map quiet connections.new.items ≡ map quiet connections.old.items }
 {
     for i in 0..connections.len() {
         let c = &mut connections[i];
@@ -278,7 +282,8 @@ pub fn tell_others<K: Keys>(connections: &mut Vec<Connection>, keys: &K, room: D
 
 /// Sends a text to those of all players.
 pub fn tell_all(connections: &mut Vec<Connection>, text: &[u8]) -> Result<(), NoMemory>
-    ensures { OnOk result (connections.new.items ≡ map (told_where has_player text.now) connections.old.items) }
+    ensures ok { OnOk result (connections.new.items ≡ map (told_where has_player text.now) connections.old.items) }
+    ensures rest { map quiet connections.new.items ≡ map quiet connections.old.items }
 {
     for i in 0..connections.len() {
         let c = &mut connections[i];

@@ -8,5 +8,7 @@ mod output;
 mod piece;
 mod rest;
 mod split;
+#[cfg(test)]
+mod tests;
 
 pub use board::Board;
