@@ -73,20 +73,20 @@ lines_left n [] = sym (drop_all n [] (omega arith))
 lines_left n (line ∷ lines) =
     let P : Output → Type 0 = λ o. bytes_of o ≡ drop n (sent_form line ++ lines_bytes lines) in
     cond_both (eqb n 0) _ _ P
-      (λ e. ap (λ k. drop k (sent_form line ++ lines_bytes lines)) (sym (eqb-true n 0 e)))
-      (λ e. cond_both (leb (length (sent_form line)) n) _ _ P
-        (λ h. lines_left (n - length (sent_form line)) lines ∙ sym (drop_behind n (sent_form line) (lines_bytes lines) (leb-true _ _ h)))
-        (λ h. sym (drop-append-le n (sent_form line) (lines_bytes lines) (omega (arith, leb-false (length (sent_form line)) n h)))))
+    (λ e. ap (λ k. drop k (sent_form line ++ lines_bytes lines)) (sym (eqb-true n 0 e)))
+    (λ e. cond_both (leb (length (sent_form line)) n) _ _ P
+    (λ h. lines_left (n - length (sent_form line)) lines ∙ sym (drop_behind n (sent_form line) (lines_bytes lines) (leb-true _ _ h)))
+    (λ h. sym (drop-append-le n (sent_form line) (lines_bytes lines) (omega (arith, leb-false (length (sent_form line)) n h)))))
 
 notice_left : (n : ℕ) (lines : List (List ℕ)) → bytes_of (notice_taken n lines) ≡ drop n (notice ++ lines_bytes lines)
 unfolding bytes_of notice_taken
 notice_left n lines =
     let P : Output → Type 0 = λ o. bytes_of o ≡ drop n (notice ++ lines_bytes lines) in
     cond_both (eqb n 0) _ _ P
-      (λ e. ap (λ k. drop k (notice ++ lines_bytes lines)) (sym (eqb-true n 0 e)))
-      (λ e. cond_both (leb (length notice) n) _ _ P
-        (λ h. lines_left (n - length notice) lines ∙ sym (drop_behind n notice (lines_bytes lines) (leb-true _ _ h)))
-        (λ h. sym (drop-append-le n notice (lines_bytes lines) (omega (arith, leb-false (length notice) n h)))))
+    (λ e. ap (λ k. drop k (notice ++ lines_bytes lines)) (sym (eqb-true n 0 e)))
+    (λ e. cond_both (leb (length notice) n) _ _ P
+    (λ h. lines_left (n - length notice) lines ∙ sym (drop_behind n notice (lines_bytes lines) (leb-true _ _ h)))
+    (λ h. sym (drop-append-le n notice (lines_bytes lines) (omega (arith, leb-false (length notice) n h)))))
 
 behind_left : (n : ℕ) (flushed : Bool) (lines : List (List ℕ)) → bytes_of (cond flushed (notice_taken n lines) (lines_taken n lines)) ≡ drop n (notice_of flushed ++ lines_bytes lines)
 behind_left n true lines = notice_left n lines
@@ -98,8 +98,8 @@ unfolding taken bytes_of
 taken_left n o =
     let more : List ℕ = notice_of o.flushed ++ lines_bytes o.lines in
     cond_both (ltb n (length o.rest)) _ _ (λ p. bytes_of p ≡ drop n (o.rest ++ more))
-      (λ h. sym (drop-append-le n o.rest more (omega (arith, ltb-true n (length o.rest) h))))
-      (λ h. behind_left (n - length o.rest) o.flushed o.lines ∙ sym (drop_behind n o.rest more (ltb-false _ _ h)))
+    (λ h. sym (drop-append-le n o.rest more (omega (arith, ltb-true n (length o.rest) h))))
+    (λ h. behind_left (n - length o.rest) o.flushed o.lines ∙ sym (drop_behind n o.rest more (ltb-false _ _ h)))
 
 -- Taking in parts.
 
@@ -120,9 +120,9 @@ pub taken_rest : (k : ℕ) (o : Output) → k ≤ length o.rest → taken k o �
 unfolding taken behind
 taken_rest k o h =
     cond_both (ltb k (length o.rest)) _ _ (λ p. p ≡ record o { rest = drop k o.rest })
-      (λ e. refl)
-      (λ e. ap (λ m. behind m o.flushed o.lines) (omega (arith, ltb-false k (length o.rest) e)) ∙ behind_none o.flushed o.lines
-        ∙ ap (λ r. record o { rest = r }) (sym (drop_all k o.rest (ltb-false k (length o.rest) e))))
+    (λ e. refl)
+    (λ e. ap (λ m. behind m o.flushed o.lines) (omega (arith, ltb-false k (length o.rest) e)) ∙ behind_none o.flushed o.lines
+    ∙ ap (λ r. record o { rest = r }) (sym (drop_all k o.rest (ltb-false k (length o.rest) e))))
 
 taken_lines : (k : ℕ) (lines : List (List ℕ)) → taken k (of_lines [] lines) ≡ lines_taken k lines
 unfolding taken of_lines
@@ -149,12 +149,12 @@ unfolding taken through of_lines
 through_more k m xs lines h =
     let left : length (drop m xs) ≡ length xs - m = length-drop m xs in
     cond_both (leb (length xs) (m + k)) _ _ (λ p. taken k (of_lines (drop m xs) lines) ≡ p)
-      (λ e.
-        let over : length xs ≤ m + k = leb-true (length xs) (m + k) e in
-        cond-false _ _ _ (le-ltb k (length (drop m xs)) (omega arith)) ∙ ap (λ n. lines_taken n lines) (omega arith))
-      (λ e.
-        let under : m + k < length xs = leb-false (length xs) (m + k) e in
-        cond-true _ _ _ (lt-ltb k (length (drop m xs)) (omega arith)) ∙ ap (λ r. of_lines r lines) (drop-drop k m xs))
+    (λ e.
+    let over : length xs ≤ m + k = leb-true (length xs) (m + k) e in
+    cond-false _ _ _ (le-ltb k (length (drop m xs)) (omega arith)) ∙ ap (λ n. lines_taken n lines) (omega arith))
+    (λ e.
+    let under : m + k < length xs = leb-false (length xs) (m + k) e in
+    cond-true _ _ _ (lt-ltb k (length (drop m xs)) (omega arith)) ∙ ap (λ r. of_lines r lines) (drop-drop k m xs))
 
 lines_more : (k n : ℕ) (lines : List (List ℕ)) → taken k (lines_taken n lines) ≡ lines_taken (n + k) lines
 unfolding lines_taken of_lines through
@@ -162,38 +162,38 @@ lines_more k n [] = taken_lines k []
 lines_more k n (line ∷ lines) =
     let P : Output → Type 0 = λ o. taken k o ≡ lines_taken (n + k) (line ∷ lines) in
     cond_both (eqb n 0) _ _ P
-      (λ e.
-        let none : n ≡ 0 = eqb-true n 0 e in
-        taken_lines k (line ∷ lines) ∙ ap (λ m. lines_taken m (line ∷ lines)) (omega arith))
-      (λ e.
-        let some : 0 < n = omega (arith, eqb-false n 0 e) in
-        cond_both (leb (length (sent_form line)) n) _ _ P
-          (λ h.
-            let over : length (sent_form line) ≤ n = leb-true (length (sent_form line)) n h in
-            lines_more k (n - length (sent_form line)) lines ∙ ap (λ m. lines_taken m lines) (omega arith)
-            ∙ sym (lines_begun (n + k) line lines (omega arith) ∙ cond-true _ _ _ (le-leb (length (sent_form line)) (n + k) (omega arith))))
-          (λ h.
-            let under : n < length (sent_form line) = leb-false (length (sent_form line)) n h in
-            through_more k n (sent_form line) lines (omega arith) ∙ sym (lines_begun (n + k) line lines (omega arith))))
+    (λ e.
+    let none : n ≡ 0 = eqb-true n 0 e in
+    taken_lines k (line ∷ lines) ∙ ap (λ m. lines_taken m (line ∷ lines)) (omega arith))
+    (λ e.
+    let some : 0 < n = omega (arith, eqb-false n 0 e) in
+    cond_both (leb (length (sent_form line)) n) _ _ P
+    (λ h.
+    let over : length (sent_form line) ≤ n = leb-true (length (sent_form line)) n h in
+    lines_more k (n - length (sent_form line)) lines ∙ ap (λ m. lines_taken m lines) (omega arith)
+    ∙ sym (lines_begun (n + k) line lines (omega arith) ∙ cond-true _ _ _ (le-leb (length (sent_form line)) (n + k) (omega arith))))
+    (λ h.
+    let under : n < length (sent_form line) = leb-false (length (sent_form line)) n h in
+    through_more k n (sent_form line) lines (omega arith) ∙ sym (lines_begun (n + k) line lines (omega arith))))
 
 notice_more : (k n : ℕ) (lines : List (List ℕ)) → taken k (notice_taken n lines) ≡ notice_taken (n + k) lines
 unfolding notice_taken of_lines through
 notice_more k n lines =
     let P : Output → Type 0 = λ o. taken k o ≡ notice_taken (n + k) lines in
     cond_both (eqb n 0) _ _ P
-      (λ e.
-        let none : n ≡ 0 = eqb-true n 0 e in
-        taken_notice k lines ∙ ap (λ m. notice_taken m lines) (omega arith))
-      (λ e.
-        let some : 0 < n = omega (arith, eqb-false n 0 e) in
-        cond_both (leb (length notice) n) _ _ P
-          (λ h.
-            let over : length notice ≤ n = leb-true (length notice) n h in
-            lines_more k (n - length notice) lines ∙ ap (λ m. lines_taken m lines) (omega arith)
-            ∙ sym (notice_begun (n + k) lines (omega arith) ∙ cond-true _ _ _ (le-leb (length notice) (n + k) (omega arith))))
-          (λ h.
-            let under : n < length notice = leb-false (length notice) n h in
-            through_more k n notice lines (omega arith) ∙ sym (notice_begun (n + k) lines (omega arith))))
+    (λ e.
+    let none : n ≡ 0 = eqb-true n 0 e in
+    taken_notice k lines ∙ ap (λ m. notice_taken m lines) (omega arith))
+    (λ e.
+    let some : 0 < n = omega (arith, eqb-false n 0 e) in
+    cond_both (leb (length notice) n) _ _ P
+    (λ h.
+    let over : length notice ≤ n = leb-true (length notice) n h in
+    lines_more k (n - length notice) lines ∙ ap (λ m. lines_taken m lines) (omega arith)
+    ∙ sym (notice_begun (n + k) lines (omega arith) ∙ cond-true _ _ _ (le-leb (length notice) (n + k) (omega arith))))
+    (λ h.
+    let under : n < length notice = leb-false (length notice) n h in
+    through_more k n notice lines (omega arith) ∙ sym (notice_begun (n + k) lines (omega arith))))
 
 behind_more : (k n : ℕ) (flushed : Bool) (lines : List (List ℕ)) → taken k (behind n flushed lines) ≡ behind (n + k) flushed lines
 unfolding behind
@@ -205,20 +205,20 @@ pub taken_more : (k n : ℕ) (o : Output) → taken k (taken n o) ≡ taken (n +
 unfolding taken behind
 taken_more k n o =
     cond_both (ltb n (length o.rest)) _ _ (λ p. taken k p ≡ taken (n + k) o)
-      (λ e.
-        let some : n < length o.rest = ltb-true n (length o.rest) e in
-        let left : length (drop n o.rest) ≡ length o.rest - n = length-drop n o.rest in
-        cond_both (ltb (n + k) (length o.rest)) _ _ (λ p. taken k (record o { rest = drop n o.rest }) ≡ p)
-          (λ f.
-            let under : n + k < length o.rest = ltb-true (n + k) (length o.rest) f in
-            cond-true _ _ _ (lt-ltb k (length (drop n o.rest)) (omega arith)) ∙ ap (λ r. record o { rest = r }) (drop-drop k n o.rest))
-          (λ f.
-            let over : length o.rest ≤ n + k = ltb-false (n + k) (length o.rest) f in
-            cond-false _ _ _ (le-ltb k (length (drop n o.rest)) (omega arith)) ∙ ap (λ m. behind m o.flushed o.lines) (omega arith)))
-      (λ e.
-        let over : length o.rest ≤ n = ltb-false n (length o.rest) e in
-        behind_more k (n - length o.rest) o.flushed o.lines
-        ∙ sym (cond-false _ _ _ (le-ltb (n + k) (length o.rest) (omega arith)) ∙ ap (λ m. behind m o.flushed o.lines) (omega arith)))
+    (λ e.
+    let some : n < length o.rest = ltb-true n (length o.rest) e in
+    let left : length (drop n o.rest) ≡ length o.rest - n = length-drop n o.rest in
+    cond_both (ltb (n + k) (length o.rest)) _ _ (λ p. taken k (record o { rest = drop n o.rest }) ≡ p)
+    (λ f.
+    let under : n + k < length o.rest = ltb-true (n + k) (length o.rest) f in
+    cond-true _ _ _ (lt-ltb k (length (drop n o.rest)) (omega arith)) ∙ ap (λ r. record o { rest = r }) (drop-drop k n o.rest))
+    (λ f.
+    let over : length o.rest ≤ n + k = ltb-false (n + k) (length o.rest) f in
+    cond-false _ _ _ (le-ltb k (length (drop n o.rest)) (omega arith)) ∙ ap (λ m. behind m o.flushed o.lines) (omega arith)))
+    (λ e.
+    let over : length o.rest ≤ n = ltb-false n (length o.rest) e in
+    behind_more k (n - length o.rest) o.flushed o.lines
+    ∙ sym (cond-false _ _ _ (le-ltb (n + k) (length o.rest) (omega arith)) ∙ ap (λ m. behind m o.flushed o.lines) (omega arith)))
 
 -- a part more was taken
 pub took : (n k : ℕ) (bytes old new : List ℕ) (o : Output) → bytes_of o ≡ drop n bytes → k ≤ length o.rest → take n old ≡ take n bytes →

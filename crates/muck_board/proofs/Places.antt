@@ -162,8 +162,8 @@ queue_left d n [] = sym (drop_all n [] (omega arith))
 queue_left d n (c ∷ cs) =
     let f : Connection → Connection = λ x. record x { output = taken n x.output } in
     cond_both (has_number d c) (f c ∷ cs) (c ∷ changed_in d f cs) (λ l. queue_of (find (has_number d) l) ≡ drop n (queue_of (find (has_number d) (c ∷ cs))))
-      (λ e. rw e (taken_left n c.output))
-      (λ e. rw e (queue_left d n cs))
+    (λ e. rw e (taken_left n c.output))
+    (λ e. rw e (queue_left d n cs))
 
 -- what is edited on the connection d
 pub editor_where : (o : Option Connection) (c : Connection) → o ≡ Some c → option_and_then (λ x. x.editor) o ≡ c.editor

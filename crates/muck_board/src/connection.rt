@@ -164,7 +164,13 @@ impl Connection {
     }
 
     /// Sends a text where it is that of a player in the room, but not of that one.
-    pub fn tell_other<K: Keys>(&mut self, keys: &K, room: Dbref, but: Dbref, text: &[u8]) -> Result<(), NoMemory>
+    pub fn tell_other<K: Keys>(
+        &mut self,
+        keys: &K,
+        room: Dbref,
+        but: Dbref,
+        text: &[u8],
+    ) -> Result<(), NoMemory>
         ensures ok { OnOk result (self.new ≡ told_where (hears (K.places keys.now) room but) text.now self.old) }
         ensures rest { quiet self.new ≡ quiet self.old }
     {

@@ -257,7 +257,11 @@ pub fn count_of(connections: &[Connection], player: Dbref) -> usize
 }
 
 /// Sends a text to all connections of a player.
-pub fn tell_player(connections: &mut Vec<Connection>, player: Dbref, text: &[u8]) -> Result<(), NoMemory>
+pub fn tell_player(
+    connections: &mut Vec<Connection>,
+    player: Dbref,
+    text: &[u8],
+) -> Result<(), NoMemory>
     ensures ok { OnOk result (connections.new.items ≡ map (told_where (is_of player) text.now) connections.old.items) }
     ensures rest { map quiet connections.new.items ≡ map quiet connections.old.items }
 {
@@ -269,7 +273,13 @@ pub fn tell_player(connections: &mut Vec<Connection>, player: Dbref, text: &[u8]
 }
 
 /// Sends a text to those of the players in a room but one.
-pub fn tell_others<K: Keys>(connections: &mut Vec<Connection>, keys: &K, room: Dbref, but: Dbref, text: &[u8]) -> Result<(), NoMemory>
+pub fn tell_others<K: Keys>(
+    connections: &mut Vec<Connection>,
+    keys: &K,
+    room: Dbref,
+    but: Dbref,
+    text: &[u8],
+) -> Result<(), NoMemory>
     ensures ok { OnOk result (connections.new.items ≡ map (told_where (hears (K.places keys.now) room but) text.now) connections.old.items) }
     ensures rest { map quiet connections.new.items ≡ map quiet connections.old.items }
 {

@@ -55,8 +55,11 @@ fn keeps_the_newest_lines(rt: HostRuntime) -> Result<(), Fail> {
     send_lines(alloc, &mut board, 20_000)?;
     assert_eq!(rt; board.queued(1), 18 + 12 * 10_922);
     let bytes = taken(alloc, &mut board, 1, 200_000)?;
-    assert_eq!(rt; part(&bytes, 0, 30), b"<Output Flushed>\r\n1000009078\r\n");
-    assert_eq!(rt; part(&bytes, 131_070, 30), b"1000019999\r\n");
+    assert_eq!(rt;
+        part(&bytes, 0, 30),
+        "<Output Flushed>\r\n1000009078\r\n".as_bytes()
+    );
+    assert_eq!(rt; part(&bytes, 131_070, 30), "1000019999\r\n".as_bytes());
     Ok(())
 }
 
@@ -66,12 +69,15 @@ fn takes_through_the_notice(rt: HostRuntime) -> Result<(), Fail> {
     let mut board = board(alloc)?;
     send_lines(alloc, &mut board, 10_923)?;
     let first = taken(alloc, &mut board, 1, 5)?;
-    assert_eq!(rt; part(&first, 0, 9), b"<Outp");
+    assert_eq!(rt; part(&first, 0, 9), "<Outp".as_bytes());
     board.tell(1, b"more")?;
     let second = taken(alloc, &mut board, 1, 35)?;
-    assert_eq!(rt; part(&second, 0, 40), b"ut Flushed>\r\n<Output Flushed>\r\n1000");
+    assert_eq!(rt;
+        part(&second, 0, 40),
+        "ut Flushed>\r\n<Output Flushed>\r\n1000".as_bytes()
+    );
     let third = taken(alloc, &mut board, 1, 10)?;
-    assert_eq!(rt; part(&third, 0, 20), b"000002\r\n10");
+    assert_eq!(rt; part(&third, 0, 20), "000002\r\n10".as_bytes());
     Ok(())
 }
 
@@ -81,7 +87,10 @@ fn parts_a_text_at_byte_13(rt: HostRuntime) -> Result<(), Fail> {
     let mut board = board(alloc)?;
     board.say(1, &Line::new(alloc, b"one\rtwo\r\rthree")?)?;
     let bytes = taken(alloc, &mut board, 1, 100)?;
-    assert_eq!(rt; part(&bytes, 0, 100), b"one\r\ntwo\r\n\r\nthree\r\n");
+    assert_eq!(rt;
+        part(&bytes, 0, 100),
+        "one\r\ntwo\r\n\r\nthree\r\n".as_bytes()
+    );
     Ok(())
 }
 
@@ -117,7 +126,12 @@ fn crowd(alloc: Global) -> Result<Board, NoMemory> {
     Ok(board)
 }
 
-fn are_heard(rt: &impl Abort, alloc: Global, board: &mut Board, table: &[(u32, &str)]) -> Result<(), Fail> {
+fn are_heard(
+    rt: &impl Abort,
+    alloc: Global,
+    board: &mut Board,
+    table: &[(u32, &str)],
+) -> Result<(), Fail> {
     for (d, text) in table {
         let bytes = taken(alloc, board, *d, 100)?;
         assert_eq!(rt; part(&bytes, 0, 100), text.as_bytes());
@@ -174,7 +188,7 @@ fn takes_lines_in_order(rt: HostRuntime) -> Result<(), Fail> {
     assert!(rt; board.takes_line(2));
     let (player, line) = board.take_line(2).ok_or("no line")?;
     assert_eq!(rt; player, Some(Dbref(2)));
-    assert_eq!(rt; line.as_slice(), b"look");
+    assert_eq!(rt; line.as_slice(), "look".as_bytes());
     board.leave(4);
     assert_eq!(rt; board.first_ready(), None);
     Ok(())
@@ -186,7 +200,10 @@ fn keeps_the_rest(rt: HostRuntime) -> Result<(), Fail> {
     let alloc = rt.alloc();
     let mut board = crowd(alloc)?;
     assert_eq!(rt; board.random(), 298703107);
-    board.set_tune(Tune { m1_units: 7, ..TUNE });
+    board.set_tune(Tune {
+        m1_units: 7,
+        ..TUNE
+    });
     assert_eq!(rt; board.tune().m1_units, 7);
     board.set_editor(
         1,

@@ -23,7 +23,7 @@ overflow_sub-self c =
 pub invariant_of-self-in-Some : goal.invariant_of-self-in-Some
 invariant_of-self-in-Some c =
     let e : length (lines_bytes c.self.inside.lines.items) ≡ length c.sent.result.now + length (lines_bytes c.pop_front.new.self.items) =
-        omega (arith, ap (λ ls. length (lines_bytes ls)) c.in-Some.ensures.items, lines_length c.in-Some.line c.pop_front.new.self.items, ap length c.sent.ensures.bytes) in
+    omega (arith, ap (λ ls. length (lines_bytes ls)) c.in-Some.ensures.items, lines_length c.in-Some.line c.pop_front.new.self.items, ap length c.sent.ensures.bytes) in
     record {
       counted = omega (arith, c.self.invariant.counted);
       rest = omega (arith, ap length c.whole.ensures, ap length c.sent.ensures.bytes, c.sent.ensures.most);
@@ -43,6 +43,7 @@ returns-in-Some-clause-taken c k h =
 pub returns-in-None-clause-begun : goal.returns-in-None-clause-begun
 returns-in-None-clause-begun c =
     let none : c.self.inside.rest ≡ [] = c.is_empty.ensures.0 c.if-not-is_empty.false in
-    let empty : c.self.inside.lines.items ≡ [] = no_lines _ (omega (arith, c.in-None.ensures.cases.0, c.self.inside.lines.ok.0)) in
-    (sym (ap bytes_of c.self.view_is) ∙ nothing_waits _ _ _ none c.if-self.false empty,
-     ap (λ ls. record { rest = c.self.inside.rest; flushed = c.self.inside.flushed; lines = ls }) (sym c.in-None.ensures.items) ∙ c.self.view_is)
+    let empty : c.self.inside.lines.items ≡ [] = no_lines _ (omega (arith, c.in-None.ensures.cases.0, c.self.inside.lines.ok.0)) in (
+      sym (ap bytes_of c.self.view_is) ∙ nothing_waits _ _ _ none c.if-self.false empty,
+      ap (λ ls. record { rest = c.self.inside.rest; flushed = c.self.inside.flushed; lines = ls }) (sym c.in-None.ensures.items) ∙ c.self.view_is,
+    )
