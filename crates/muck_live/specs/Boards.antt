@@ -3,11 +3,12 @@ use Rattle.std.specs.Prelude.{ℕ, Bool, false, List, [], map, find, Option}
 use Rattle.std.specs.Option.{option_map_or, option_and_then}
 use Rattle.rand_core.specs.Pcg32Seed.{pcg32_seed}
 use Rattle.rand_pcg.specs.Lcg.{Lcg}
-use Rattle.rand_pcg.specs.Pcg.{pcg32_of_seed}
+use Rattle.rand_pcg.specs.Pcg.{pcg32, pcg32_of_seed}
 use Rattle.muck_model.specs.declared.dbref.Dbref.{Dbref}
+use Rattle.muck_model.specs.declared.edit.EditState.{EditState}
 use Rattle.muck_model.specs.declared.tune.Tune.{Tune}
 use Rattle.muck_live.specs.Output.{bytes_of, taken}
-use Rattle.muck_live.specs.Connections.{Connection, has_number, changed_in, placed, without, newcomer, told, left, seated, lined, is_of, hears, told_where, has_player}
+use Rattle.muck_live.specs.Connections.{Connection, has_number, changed_in, placed, without, newcomer, told, left, seated, lined, edited, is_of, hears, told_where, left_where, has_player}
 
 pub record Board : Type 0 where
   pub connections : List Connection
@@ -48,6 +49,9 @@ is_leaving_in d b = option_map_or (λ c. c.leaving) (connection_in d b) false
 
 abbrev pub player_in : ℕ → Board → Option Dbref
 player_in d b = option_and_then (λ c. c.player) (connection_in d b)
+
+abbrev pub editor_in : ℕ → Board → Option EditState
+editor_in d b = option_and_then (λ c. c.editor) (connection_in d b)
 
 -- Changes.
 
@@ -94,3 +98,17 @@ leaving_one d b = on_connection d left b
 
 unfoldable pub seated_one : ℕ → Dbref → Board → Board
 seated_one d player b = on_connection d (seated player) b
+
+-- all connections of a player are leaving
+unfoldable pub left_player : Dbref → Board → Board
+left_player player b = on_connections (left_where (is_of player)) b
+
+unfoldable pub edited_one : ℕ → Option EditState → Board → Board
+edited_one d editor b = on_connection d (edited editor) b
+
+unfoldable pub tuned : Tune → Board → Board
+tuned tune b = record b { tune = tune }
+
+-- the next random word, and the board after it was drawn
+unfoldable pub random_drawn : Board → ℕ × Board
+random_drawn b = ((pcg32 b.random).0, record b { random = (pcg32 b.random).1 })

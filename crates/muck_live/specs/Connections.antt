@@ -69,6 +69,9 @@ left c = record c { leaving = true }
 abbrev pub seated : Dbref → Connection → Connection
 seated player c = record c { player = Some player }
 
+abbrev pub edited : Option EditState → Connection → Connection
+edited editor c = record c { editor = editor }
+
 abbrev pub lined : List ℕ → Connection → Connection
 lined line c = record c { waiting = c.waiting ++ line ∷ [] }
 
@@ -83,6 +86,9 @@ hears places room but c = option_map_or (λ p. not (same p but) && option_map_or
 
 abbrev pub told_where : (Connection → Bool) → List ℕ → Connection → Connection
 told_where test text c = if test c then told text c else c
+
+abbrev pub left_where : (Connection → Bool) → Connection → Connection
+left_where test c = if test c then left c else c
 
 abbrev pub has_player : Connection → Bool
 has_player c = option_map_or (λ p. true) c.player false

@@ -1,0 +1,12 @@
+-- The board without what waits to be sent.
+use Rattle.std.specs.Prelude.{List, map}
+use Rattle.muck_live.specs.Output.{no_output}
+use Rattle.muck_live.specs.Connections.{Connection}
+use Rattle.muck_live.specs.Boards.{Board, with_connections}
+
+abbrev pub quiet : Connection → Connection
+quiet c = record c { output = no_output }
+
+-- what is left of a board where a text was sent in part
+abbrev pub silent : Board → Board
+silent b = with_connections (map quiet b.connections) b
