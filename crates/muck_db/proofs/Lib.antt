@@ -1,0 +1,4 @@
+pub mod Tables
+pub mod Linked
+pub mod Readers
+pub mod Bridge
