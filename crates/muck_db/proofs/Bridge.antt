@@ -6,22 +6,21 @@ use Rattle.std.specs.Option.{option_map}
 use Rattle.muck_model.specs.declared.dbref.Dbref.{Dbref}
 use Rattle.muck_live.specs.declared.object.Object.{Object}
 use Rattle.muck_live.specs.Chain.{walk, IsChain, Ends, Member, without, put_at}
-use Rattle.muck_live.specs.Objects.{Entry, dbref_of, list_in, place_in, path_in, number_in, changed_at}
+use Rattle.muck_live.specs.Objects.{Entry, dbref_of, list_in, place_in, path_in, number_in, changed_at, is_garbage, object_in, object_at, kind_in, fits_in, is_vehicle_in}
 use Rattle.muck_live.specs.Moving.{moved, with_place, move_check}
-use Rattle.muck_live.specs.Consistent.{MayMove, IsOrdered, StandsIn}
+use Rattle.muck_live.specs.Consistent.{MayMove, IsOrdered, IsConsistent, StandsIn}
 use Rattle.muck_live.specs.Seen.{listed_in}
 use Rattle.muck_live.proofs.Chains.{ends_from, walk_is, walk_next, walk_none, member_none, without_same}
 use Rattle.muck_live.proofs.Lists.{length_changed}
-use Rattle.muck_live.proofs.Readers.{entries_ext, length_moved, list_moved, object_moved, object_unmoved, mark_moved}
+use Rattle.muck_live.proofs.KindLaws.{standing_alive}
+use Rattle.muck_live.proofs.Orders.{ordered_moved}
+use Rattle.muck_live.proofs.Readers.{entries_ext, length_moved, list_moved, object_moved, object_unmoved, mark_moved, kind_moved}
 use Rattle.muck_db.specs.declared.slot.Slot.{Slot}
-use Rattle.muck_db.specs.Slots.{next_at, first_at, place_at, path_at, is_exit_at, list_at, on_slot, dbrefs_from, entries_of, HasChains, HasOrder, IsSound, IsUnlinked, IsLinked}
+use Rattle.muck_db.specs.Slots.{next_at, first_at, place_at, kind_at, path_at, is_exit_at, list_at, on_slot, dbrefs_from, entries_of, HasChains, HasOrder, IsSound, IsKept, IsUnlinked, IsLinked}
+use Rattle.muck_db.proofs.Laws.{consistent_moved}
 use Rattle.muck_db.proofs.Tables.{first-on_slot, next-on_slot, mark-on_slot, object-on_slot_same, object-on_slot_other}
 use Rattle.muck_db.proofs.Linked.{chain_at, chain_over}
 use Rattle.muck_db.proofs.Readers.{length-entries_of, object_in-entries_of, list_in-entries_of, place_in-entries_of, is_exit-entries_of, kind_in-entries_of, flags_in-entries_of, mark_in-entries_of}
-
--- a move of what may move keeps the order
-ordered_moved : (es : List Entry) (d to : ℕ) → IsOrdered es → MayMove es d to → IsOrdered (moved d to es)
-ordered_moved = ?
 
 walk_same : (k : ℕ) (f g : ℕ → Option ℕ) (s : Option ℕ) → ((x : ℕ) → g x ≡ f x) → walk k g s ≡ walk k f s
 unfolding walk
@@ -91,14 +90,14 @@ pub placed_chain : (d : ℕ) (f : Object → Object) (old mid new : List Slot) �
 placed_chain d f old mid new u is_new v p = chain_on_slot d f old mid new v p (without d (list_at v old p)) is_new (u.chains v p)
 
 -- the three steps make the move
-pub entries_moved : (d to : ℕ) (w : Bool) (old mid placed new : List Slot) → is_exit_at old d ≡ w → to < length old → IsUnlinked d old mid → placed ≡ changed_at d (on_slot (with_place to)) mid → IsLinked w to d placed new
+pub entries_moved : (d to : ℕ) (w : Bool) (old mid placed new : List Slot) → is_exit_at old d ≡ w → to < length old → is_garbage (kind_at mid d) ≡ false → IsUnlinked d old mid → placed ≡ changed_at d (on_slot (with_place to)) mid → IsLinked w to d placed new
     → entries_of new ≡ moved d to (entries_of old)
-entries_moved d to w old mid placed new exit lt u is_placed l =
+entries_moved d to w old mid placed new exit lt alive u is_placed l =
     let same_length : length new ≡ length old = l.same_length ∙ rw is_placed (length_changed mid d (on_slot (with_place to))) ∙ u.same_length in
     entries_ext (entries_of new) (moved d to (entries_of old))
     (length-entries_of new ∙ same_length ∙ sym (length-entries_of old) ∙ sym (length_moved (entries_of old) d to))
     (λ k. object_in-entries_of new k ∙ l.same_objects k ∙ elim (cases_eq k d) [
-      | inl e ↦ rw (e, is_placed) (object-on_slot_same mid d (with_place to)) ∙ ap (λ (o : Option Object). option_map (with_place to) o) (u.same_objects d ∙ sym (object_in-entries_of old d)) ∙ rw e (sym (object_moved (entries_of old) d to))
+      | inl e ↦ rw (e, is_placed) (object-on_slot_same mid d (with_place to) alive) ∙ ap (λ (o : Option Object). option_map (with_place to) o) (u.same_objects d ∙ sym (object_in-entries_of old d)) ∙ rw e (sym (object_moved (entries_of old) d to))
       | inr e ↦ rw is_placed (object-on_slot_other mid d k (with_place to) e) ∙ u.same_objects k ∙ sym (object_in-entries_of old k) ∙ sym (object_unmoved (entries_of old) d to k e)
     ])
     (λ v k. list_in-entries_of v new k ∙ list_is v new k _ (l.chains v k)
@@ -109,7 +108,7 @@ entries_moved d to w old mid placed new exit lt u is_placed l =
 pub order_moved : (d to : ℕ) (w : Bool) (old placed new : List Slot) → HasOrder old → MayMove (entries_of old) d to → IsLinked w to d placed new → entries_of new ≡ moved d to (entries_of old) → HasOrder new
 order_moved d to w old placed new s may l is = record {
   ends = λ v p. ends_from (length new) (next_at new) (first_at v new p) (put_at w to d v p (list_at v placed p)) (l.chains v p);
-  ordered = let P : List Entry → Type 0 = λ z. IsOrdered z in subst P (sym is) (ordered_moved (entries_of old) d to s.ordered may);
+  ordered = let P : List Entry → Type 0 = λ z. IsOrdered z in subst P (sym is) (ordered_moved (entries_of old) d to may s.ordered);
 }
 
 pub ruleset kinds = (kind_in-entries_of, flags_in-entries_of, path_in-entries_of)
@@ -143,5 +142,29 @@ listed_some v es d k h = rw h refl
 pub sound_order : (slots : List Slot) → IsSound slots → HasOrder slots
 sound_order slots s = record { ends = s.ends; ordered = s.world.ordered }
 
-pub move_may : (es : List Entry) (d to : Dbref) (n t : ℕ) → move_check d to es ≡ Ok (n, t) → MayMove es n t
-move_may = ?
+
+-- the kind of what an unlinking leaves
+pub unlinked_kind : (d k : ℕ) (old new : List Slot) → IsUnlinked d old new → kind_at new k ≡ kind_at old k
+unfolding kind_at
+unlinked_kind d k old new u = rw (u.same_objects k) refl
+
+-- what may move is alive
+pub moves_alive : (d to : ℕ) (old mid : List Slot) → MayMove (entries_of old) d to → IsUnlinked d old mid → is_garbage (kind_at mid d) ≡ false
+unfolding fits_in
+moves_alive d to old mid may u = rw (unlinked_kind d d old mid u, ← kind_in-entries_of old d) (standing_alive (kind_in (entries_of old) d) (kind_in (entries_of old) to) (is_vehicle_in (entries_of old) to) may.fits)
+
+pub seen_none : (es : List Entry) (d : Dbref) → number_in es d ≡ None → object_at d es ≡ None
+unfolding object_at
+seen_none es d h = rw h refl
+
+pub seen_some : (es : List Entry) (d : Dbref) (k : ℕ) → number_in es d ≡ Some k → object_at d es ≡ object_in es k
+unfolding object_at
+seen_some es d k h = rw h refl
+
+-- a move keeps the rule of the type
+pub kept_moved : (old new : List Slot) (d to lowest told : ℕ) → MayMove (entries_of old) d to → entries_of new ≡ moved d to (entries_of old) → HasOrder new → IsKept old lowest told → IsKept new lowest told
+kept_moved old new d to lowest told may is order kept = record {
+  sound = record { ends = order.ends; world = let P : List Entry → Type 0 = λ z. IsConsistent z in subst P (sym is) (consistent_moved (entries_of old) d to may kept.sound.world) };
+  full = λ k lt. rw (← kind_in-entries_of new k, is, kind_moved (entries_of old) d to k, kind_in-entries_of old k) (kept.full k lt);
+  unmarked = λ k lt. rw (← mark_in-entries_of new k, is, mark_moved (entries_of old) d to k, mark_in-entries_of old k) (kept.unmarked k lt);
+}

@@ -1,3 +1,4 @@
+pub mod Laws
 pub mod Tables
 pub mod Linked
 pub mod Readers

@@ -13,13 +13,13 @@ use Rattle.muck_live.specs.Objects.{Entry, index_of, is_exit, object_in, list_of
 use Rattle.muck_live.proofs.Chains.{walk_none}
 use Rattle.muck_live.proofs.Lists.{length_map}
 use Rattle.muck_db.specs.declared.slot.Slot.{Slot}
-use Rattle.muck_db.specs.Slots.{object_at, next_at, first_at, first_of, place_at, kind_at, flags_at, mark_at, is_exit_at, list_at, entry_of, entries_of}
+use Rattle.muck_db.specs.Slots.{shown, object_at, next_at, first_at, first_of, place_at, kind_at, flags_at, mark_at, is_exit_at, list_at, entry_of, entries_of}
 
 pub length-entries_of : (slots : List Slot) → length (entries_of slots) ≡ length slots
 unfolding entries_of
 length-entries_of slots = length_map (entry_of slots) slots
 
-object_by : (slots : List Slot) (o : Option Slot) → option_map (λ (e : Entry). e.object) (option_map (entry_of slots) o) ≡ option_map (λ (s : Slot). s.object) o
+object_by : (slots : List Slot) (o : Option Slot) → option_map (λ (e : Entry). e.object) (option_map (entry_of slots) o) ≡ option_map shown o
 unfolding entry_of
 object_by slots None = refl
 object_by slots (Some s) = refl

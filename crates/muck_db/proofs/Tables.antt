@@ -1,20 +1,20 @@
 -- Writes to a table, seen through its readers.
 use Rattle.std.proofs.Common.{◌≡◌, ℕ, ◌<◌, List, Option, Some, None, inl, inr, refl, sym, ◌∙◌, ap, length, Bool, true, false}
-use Rattle.std.proofs.lemmas.Bool.{cases_eq}
+use Rattle.std.proofs.lemmas.Bool.{cases_eq, false≢true}
 use Rattle.std.specs.List.{slice_get}
-use Rattle.std.specs.Option.{option_map, option_and_then}
+use Rattle.std.specs.Option.{option_map, option_and_then, option_map_or}
 use Rattle.muck_live.specs.declared.object.Object.{Object}
 use Rattle.muck_live.specs.declared.mark.Mark.{Mark}
-use Rattle.muck_live.specs.Objects.{changed_at}
+use Rattle.muck_live.specs.Objects.{changed_at, is_garbage, garbage}
 use Rattle.muck_live.proofs.Lists.{get_changed_same, get_changed_other, kept_map, read_kept, some_at}
 use Rattle.muck_db.specs.declared.slot.Slot.{Slot}
-use Rattle.muck_db.specs.Slots.{object_at, next_at, first_of, first_at, mark_at, with_next, with_first, with_mark, on_slot}
+use Rattle.muck_db.specs.Slots.{shown, object_at, kind_at, next_at, first_of, first_at, mark_at, with_next, with_first, with_mark, on_slot}
 
 pub object_kept : (slots : List Slot) (n k : ℕ) (f : Slot → Slot) → ((s : Slot) → (f s).object ≡ s.object) → object_at (changed_at n f slots) k ≡ object_at slots k
 unfolding object_at
 object_kept slots n k f h = elim (cases_eq k n) [
-  | inl e ↦ rw e (ap (λ (o : Option Slot). option_map (λ (s : Slot). s.object) o) (get_changed_same slots n f) ∙ kept_map (λ (s : Slot). s.object) f (slice_get slots n) h)
-  | inr e ↦ ap (λ (o : Option Slot). option_map (λ (s : Slot). s.object) o) (get_changed_other slots n k f e)
+  | inl e ↦ rw e (ap (λ (o : Option Slot). option_map shown o) (get_changed_same slots n f) ∙ kept_map shown f (slice_get slots n) h)
+  | inr e ↦ ap (λ (o : Option Slot). option_map shown o) (get_changed_other slots n k f e)
 ]
 
 -- each write, through each reader
@@ -69,13 +69,17 @@ pub mark-on_slot : (slots : List Slot) (n k : ℕ) (f : Object → Object) → m
 unfolding mark_at
 mark-on_slot slots n k f = read_kept (λ (s : Slot). s.mark) slots n k (on_slot f) (λ s. refl)
 
-pub object-on_slot_same : (slots : List Slot) (n : ℕ) (f : Object → Object) → object_at (changed_at n (on_slot f) slots) n ≡ option_map f (object_at slots n)
-unfolding object_at
-object-on_slot_same slots n f = rw (get_changed_same slots n (on_slot f)) (by_cases (slice_get slots n))
+pub object-on_slot_same : (slots : List Slot) (n : ℕ) (f : Object → Object) → is_garbage (kind_at slots n) ≡ false → object_at (changed_at n (on_slot f) slots) n ≡ option_map f (object_at slots n)
+unfolding object_at kind_at garbage
+object-on_slot_same slots n f alive = rw (get_changed_same slots n (on_slot f)) (by_cases (slice_get slots n) refl)
   where
-    by_cases : (o : Option Slot) → option_map (λ (s : Slot). s.object) (option_map (on_slot f) o) ≡ option_map f (option_map (λ (s : Slot). s.object) o)
-    by_cases None = refl
-    by_cases (Some s) = refl
+    by_cases : (o : Option Slot) → slice_get slots n ≡ o → option_map shown (option_map (on_slot f) o) ≡ option_map f (option_map shown o)
+    by_cases None e = refl
+    by_cases (Some s) e = by_object s.object refl
+      where
+        by_object : (q : Option Object) → s.object ≡ q → ◌≡◌ {A = Option Object} (Some (option_map_or (λ o. o) (option_map f s.object) garbage)) (Some (f (option_map_or (λ o. o) s.object garbage)))
+        by_object None q = absurd (false≢true (sym alive ∙ rw (e, q) refl))
+        by_object (Some o) q = rw q refl
 
 pub object-on_slot_other : (slots : List Slot) (n k : ℕ) (f : Object → Object) → (k ≡ n → ⊥) → object_at (changed_at n (on_slot f) slots) k ≡ object_at slots k
 unfolding object_at

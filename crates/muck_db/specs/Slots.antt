@@ -9,14 +9,18 @@ use Rattle.muck_live.specs.declared.object.Object.{Object}
 use Rattle.muck_live.specs.declared.mark.Mark.{Mark}
 use Rattle.muck_live.specs.Chain.{walk, IsChain, Ends, Member, without, put_at}
 use Rattle.muck_live.specs.Flags.{no_flags}
-use Rattle.muck_live.specs.Objects.{Entry, dbref_of, index_of, is_exit, is_garbage, kind_in}
+use Rattle.muck_live.specs.Objects.{Entry, dbref_of, index_of, is_exit, is_garbage, garbage}
 use Rattle.muck_live.specs.Consistent.{IsOrdered, IsConsistent}
 use Rattle.muck_db.specs.declared.slot.Slot.{Slot}
 
 -- Readers, by number.
 
+-- the object of a slot, in which no object is garbage
+abbrev pub shown : Slot → Object
+shown s = option_map_or (λ o. o) s.object garbage
+
 unfoldable pub object_at : List Slot → ℕ → Option Object
-object_at slots k = option_map (λ s. s.object) (slice_get slots k)
+object_at slots k = option_map shown (slice_get slots k)
 
 unfoldable pub next_at : List Slot → ℕ → Option ℕ
 next_at slots k = option_and_then (λ s. s.next) (slice_get slots k)
@@ -58,7 +62,7 @@ dbrefs_from slots at = map dbref_of (walk (length slots) (next_at slots) at)
 
 unfoldable pub entry_of : List Slot → Slot → Entry
 entry_of slots s = record {
-  object = s.object;
+  object = shown s;
   contents = walk (length slots) (next_at slots) s.first_content;
   exits = walk (length slots) (next_at slots) s.first_exit;
   mark = s.mark;
@@ -79,7 +83,7 @@ abbrev pub with_mark : Option Mark → Slot → Slot
 with_mark mark s = record s { mark = mark }
 
 abbrev pub on_slot : (Object → Object) → Slot → Slot
-on_slot f s = record s { object = f s.object }
+on_slot f s = record s { object = option_map f s.object }
 
 -- Rules.
 

@@ -7,7 +7,7 @@ ghost use Rattle.muck_live.specs.Consistent.{IsConsistent};
 ghost use Rattle.muck_live.specs.Seen.{listed_in};
 
 use crate::chain::Chain;
-use crate::moves::{check_move, list_of, number_of, relocate};
+use crate::moves::{check_move, found, list_of, relocate};
 use crate::slot::Slot;
 use muck_live::{DbFault, Object};
 use muck_model::Dbref;
@@ -48,8 +48,7 @@ impl Db {
     pub fn get(&self, d: Dbref) -> Option<&Object>
         ensures { option_copied result ≡ object_at d self.now }
     {
-        let k = number_of(&self.slots, d)?;
-        Some(&self.slots[k as usize].object)
+        found(&self.slots, d)
     }
 
     /// One above the highest number. The world is consistent.

@@ -46,20 +46,26 @@ pub fn first_of(slots: &Vec<Slot>, exits: bool, k: u32) -> Option<u32>
     }
 }
 
-#[tactic(auto, unfolding(crate::specs::Slots::place_at, crate::specs::Slots::object_at))]
+#[tactic(auto, unfolding(crate::specs::Slots::place_at, crate::specs::Slots::object_at, muck_live::specs::Objects::garbage))]
 pub fn place_of(slots: &Vec<Slot>, k: u32) -> Option<u32>
     requires { k < length slots.now.items }
     ensures { result ≡ place_at slots.now.items k }
 {
-    index_of(slots[k as usize].object.place)
+    match &slots[k as usize].object {
+        Some(object) => index_of(object.place),
+        None => None,
+    }
 }
 
-#[tactic(auto, unfolding(crate::specs::Slots::is_exit_at, crate::specs::Slots::object_at))]
+#[tactic(auto, unfolding(crate::specs::Slots::is_exit_at, crate::specs::Slots::object_at, muck_live::specs::Objects::garbage))]
 pub fn is_exit_of(slots: &Vec<Slot>, k: u32) -> bool
     requires { k < length slots.now.items }
     ensures { result ≡ is_exit_at slots.now.items k }
 {
-    matches!(slots[k as usize].object.kind, Kind::Exit)
+    match &slots[k as usize].object {
+        Some(object) => matches!(object.kind, Kind::Exit),
+        None => false,
+    }
 }
 
 #[tactic(auto, unfolding(muck_live::specs::Objects::changed_at))]
@@ -95,7 +101,9 @@ pub fn set_place(slots: &mut Vec<Slot>, k: u32, to: u32)
 {
     let place = dbref_of(to);
     let slot = &mut slots[k as usize];
-    slot.object.place = place;
+    if let Some(object) = &mut slot.object {
+        object.place = place;
+    }
 }
 
 // Whether the places of `start` lead up to `d`, or it is `d`.

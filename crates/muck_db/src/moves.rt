@@ -1,7 +1,8 @@
 // What stands where, and moving: the check and the act.
 ghost use Rattle.std.specs.Prelude.{◌≡◌, ◌<◌, length, false, IfSome};
 ghost use Rattle.muck_live.specs.Flags.{has_flag, vehicle};
-ghost use Rattle.muck_live.specs.Objects.{may_stand, is_garbage, fits_in, number_in};
+ghost use Rattle.std.specs.Option.{option_copied};
+ghost use Rattle.muck_live.specs.Objects.{may_stand, is_garbage, fits_in, number_in, object_at};
 ghost use Rattle.muck_live.specs.Moving.{move_check, moved};
 ghost use Rattle.muck_live.specs.Consistent.{MayMove};
 ghost use Rattle.muck_live.specs.Seen.{listed_in};
@@ -10,7 +11,7 @@ ghost use Rattle.muck_db.specs.Slots.{kind_at, flags_at, entries_of, HasOrder};
 use crate::chain::Chain;
 use crate::links::{first_of, index_of, is_exit_of, leads_to, link, set_place, take_out};
 use crate::slot::Slot;
-use muck_live::{DbFault, VEHICLE, has_flag};
+use muck_live::{DbFault, Object, VEHICLE, has_flag};
 use muck_model::{Dbref, Kind};
 
 // What may be in a room; in a thing, on which players may sit where it is a vehicle; and in a player.
@@ -31,24 +32,24 @@ pub fn may_stand(kind: Kind, place: Kind, seats: bool) -> bool
     }
 }
 
-#[tactic(auto, unfolding(crate::specs::Slots::kind_at, crate::specs::Slots::object_at))]
+#[tactic(auto, unfolding(crate::specs::Slots::kind_at, crate::specs::Slots::object_at, muck_live::specs::Objects::garbage))]
 pub fn kind_of(slots: &Vec<Slot>, k: u32) -> Kind
     ensures value { result ≡ kind_at slots.now.items k }
     ensures within { is_garbage result ≡ false → k < length slots.now.items }
 {
     match slots.get(k as usize) {
-        Some(slot) => slot.object.kind,
-        None => Kind::Garbage,
+        Some(Slot { object: Some(object), .. }) => object.kind,
+        _ => Kind::Garbage,
     }
 }
 
-#[tactic(auto, unfolding(crate::specs::Slots::flags_at, crate::specs::Slots::object_at))]
+#[tactic(auto, unfolding(crate::specs::Slots::flags_at, crate::specs::Slots::object_at, muck_live::specs::Objects::garbage, muck_live::specs::Flags::has_flag))]
 pub fn is_vehicle(slots: &Vec<Slot>, k: u32) -> bool
     ensures { result ≡ has_flag vehicle (flags_at slots.now.items k) }
 {
     match slots.get(k as usize) {
-        Some(slot) => has_flag(VEHICLE, slot.object.flags),
-        None => false,
+        Some(Slot { object: Some(object), .. }) => has_flag(VEHICLE, object.flags),
+        _ => false,
     }
 }
 
@@ -65,12 +66,23 @@ pub fn fits(slots: &Vec<Slot>, d: u32, to: u32) -> bool
 pub fn number_of(slots: &Vec<Slot>, d: Dbref) -> Option<u32>
     ensures value { result ≡ number_in (entries_of slots.now.items) d }
     ensures within { IfSome result (λ k. k < length slots.now.items) }
+    ensures alive { IfSome result (λ k. is_garbage (kind_at slots.now.items k) ≡ false) }
 {
     let k = index_of(d)?;
     if matches!(kind_of(slots, k), Kind::Garbage) {
         return None;
     }
     Some(k)
+}
+
+// The object of a number.
+pub fn found(slots: &Vec<Slot>, d: Dbref) -> Option<&Object>
+    ensures { option_copied result ≡ object_at d (entries_of slots.now.items) }
+{
+    match number_of(slots, d) {
+        Some(k) => slots[k as usize].object.as_ref(),
+        None => None,
+    }
 }
 
 // The numbers of a move that is allowed, or the first refusal.

@@ -3,7 +3,7 @@ use Rattle.muck_live.specs.Chain.{Member}
 use Rattle.muck_db.specs.Slots.{list_at}
 use Rattle.muck_live.proofs.Chains.{ends_from, without_gone}
 use Rattle.muck_db.proofs.Readers.{length-entries_of}
-use Rattle.muck_db.proofs.Bridge.{order_chains, placed_chain, list_is, entries_moved, order_moved}
+use Rattle.muck_db.proofs.Bridge.{order_chains, placed_chain, list_is, entries_moved, order_moved, moves_alive}
 use Rattle.muck_db.proofs.moves.relocate.Goals as goal
 
 pub is_exit_of-exits-requires : goal.is_exit_of-exits-requires
@@ -34,9 +34,10 @@ link-requires-clause-place c = omega (arith, length-entries_of c.args.slots.now.
 
 pub returns-clause-moved : goal.returns-clause-moved
 returns-clause-moved c = entries_moved c.args.d c.args.to c.is_exit_of-exits.result c.args.slots.now.items _ _ _ (sym c.is_exit_of-exits.ensures)
-    (omega (arith, length-entries_of c.args.slots.now.items, c.requires.may.place)) c.take_out.ensures c.set_place.ensures.items c.link.ensures
+    (omega (arith, length-entries_of c.args.slots.now.items, c.requires.may.place)) (moves_alive _ c.args.to c.args.slots.now.items _ c.requires.may c.take_out.ensures) c.take_out.ensures c.set_place.ensures.items c.link.ensures
 
 pub returns-clause-order : goal.returns-clause-order
 returns-clause-order c = order_moved c.args.d c.args.to c.is_exit_of-exits.result c.args.slots.now.items _ _ c.requires.order c.requires.may c.link.ensures
     (entries_moved c.args.d c.args.to c.is_exit_of-exits.result c.args.slots.now.items _ _ _ (sym c.is_exit_of-exits.ensures)
-    (omega (arith, length-entries_of c.args.slots.now.items, c.requires.may.place)) c.take_out.ensures c.set_place.ensures.items c.link.ensures)
+    (omega (arith, length-entries_of c.args.slots.now.items, c.requires.may.place)) (moves_alive _ c.args.to c.args.slots.now.items _ c.requires.may c.take_out.ensures) c.take_out.ensures c.set_place.ensures.items c.link.ensures)
+
