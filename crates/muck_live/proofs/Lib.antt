@@ -4,3 +4,4 @@ pub mod Readers
 pub mod KindLaws
 pub mod Orders
 pub mod Ties
+pub mod Checks
