@@ -5,3 +5,4 @@ pub mod KindLaws
 pub mod Orders
 pub mod Ties
 pub mod Checks
+pub mod CreationLaws

@@ -5,10 +5,10 @@ use Rattle.std.specs.Option.{option_map}
 use Rattle.muck_model.specs.declared.dbref.Kind.{Kind}
 use Rattle.muck_model.specs.declared.dbref.Kind.TheVariants.{Thing, Player}
 use Rattle.muck_live.specs.declared.object.Object.{Object}
-use Rattle.muck_live.specs.Objects.{Entry, dbref_of, is_player, is_garbage, object_in, kind_in, fits_in, changed_at, on_object}
+use Rattle.muck_live.specs.Objects.{Entry, dbref_of, is_player, is_garbage, garbage, object_in, kind_in, fits_in, changed_at, on_object}
 use Rattle.muck_live.specs.Moving.{with_place, moved}
 use Rattle.muck_live.specs.Setting.{may_link, may_live}
-use Rattle.muck_live.specs.Consistent.{HasOwner, HasLink, HasHome, IsTied, IsOrdered, IsConsistent, MayMove}
+use Rattle.muck_live.specs.Consistent.{HasOwner, HasLink, HasHome, IsTied, IsOrdered, IsPlaced, IsConsistent, MayMove}
 use Rattle.muck_live.proofs.KindLaws.{standing_alive}
 use Rattle.muck_live.proofs.Orders.{ordered_same, placed_same, ordered_moved, placed_moved}
 use Rattle.muck_live.proofs.Readers.{kind_is, kind_changed, kind_moved, object_changed, object_unchanged, object_moved, object_unmoved}
@@ -110,10 +110,20 @@ pub mover_alive : (es : List Entry) (d to : ℕ) → MayMove es d to → is_garb
 unfolding fits_in
 mover_alive es d to may = standing_alive (kind_in es d) (kind_in es to) _ may.fits
 
-pub consistent_moved : (es : List Entry) (d to : ℕ) → MayMove es d to → IsConsistent es → IsConsistent (moved d to es)
-consistent_moved es d to may c = record {
-  ordered = ordered_moved es d to may c.ordered;
-  placed = placed_moved es d to may.known (λ x ne none. c.placed x none);
+-- what holds of the objects beside their lists and places
+pub record IsTidy (es : List Entry) : Type 0 where
+  pub tied : (k : ℕ) (o : Object) → object_in es k ≡ Some o → IsTied es o
+  pub blank : (k : ℕ) (o : Object) → object_in es k ≡ Some o → is_garbage o.kind ≡ true → o ≡ garbage
+  pub first : kind_in es 1 ≡ Player
+
+pub consistent_tidy : (es : List Entry) → IsConsistent es → IsTidy es
+consistent_tidy es c = record { tied = c.tied; blank = c.blank; first = c.first }
+
+pub consistent_from : (es : List Entry) → IsOrdered es → IsPlaced es → IsTidy es → IsConsistent es
+consistent_from es c p t = record { ordered = c; placed = p; tied = t.tied; blank = t.blank; first = t.first }
+
+pub tidy_moved : (es : List Entry) (d to : ℕ) → MayMove es d to → IsTidy es → IsTidy (moved d to es)
+tidy_moved es d to may c = record {
   tied = λ k p h.
       let was : (o : Object) × (object_in es k ≡ Some o) × SameTies o p = moved_from es d to k p h in
       tied_same es (moved d to es) was.0 p was.2 (λ n. kind_moved es d to n) (c.tied k was.0 was.1);
@@ -123,3 +133,11 @@ consistent_moved es d to may c = record {
   ];
   first = kind_moved es d to 1 ∙ c.first;
 }
+
+pub consistent_moved : (es : List Entry) (d to : ℕ) → MayMove es d to → IsConsistent es → IsConsistent (moved d to es)
+consistent_moved es d to may c =
+    consistent_from (moved d to es) (ordered_moved es d to may c.ordered) (placed_moved es d to may.known (λ x ne none. c.placed x none)) (tidy_moved es d to may (consistent_tidy es c))
+
+pub garbage_tied : (es : List Entry) → kind_in es 1 ≡ Player → IsTied es garbage
+unfolding garbage
+garbage_tied es first = record { owner = (1, refl, ap (λ k. is_player k) first); link = inl refl; home = refl }
