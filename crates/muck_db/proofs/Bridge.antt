@@ -1,8 +1,8 @@
 -- From the table to its entries and back.
-use Rattle.std.proofs.Common.{◌≡◌, ℕ, ◌<◌, zero, suc, List, [], ◌∷◌, Option, Some, None, ◌⊎◌, inl, inr, refl, sym, ◌∙◌, ap, subst, length, arith, Bool, map, Ok}
+use Rattle.std.proofs.Common.{◌≡◌, ℕ, ◌<◌, ◌≤◌, zero, suc, List, [], ◌∷◌, Option, Some, None, ◌⊎◌, inl, inr, refl, sym, ◌∙◌, ap, subst, length, arith, Bool, false, map}
 use Rattle.std.proofs.lemmas.Bool.{cases_eq}
 use Rattle.std.specs.List.{slice_get}
-use Rattle.std.specs.Option.{option_map}
+use Rattle.std.specs.Option.{option_map, option_map_or}
 use Rattle.muck_model.specs.declared.dbref.Dbref.{Dbref}
 use Rattle.muck_live.specs.declared.object.Object.{Object}
 use Rattle.muck_live.specs.Chain.{walk, IsChain, Ends, Member, without, put_at}
@@ -11,18 +11,18 @@ use Rattle.muck_live.specs.Moving.{moved, with_place, move_check}
 use Rattle.muck_live.specs.Consistent.{MayMove, IsOrdered, IsConsistent, StandsIn}
 use Rattle.muck_live.specs.Seen.{listed_in}
 use Rattle.muck_live.proofs.Chains.{ends_from, walk_is, walk_next, walk_none, member_none, without_same}
-use Rattle.muck_live.proofs.Lists.{length_changed}
+use Rattle.muck_live.proofs.Lists.{length_changed, length_map}
 use Rattle.muck_live.proofs.KindLaws.{standing_alive}
-use Rattle.muck_live.proofs.Orders.{ordered_moved}
+use Rattle.muck_live.proofs.Orders.{ordered_moved, list_short}
 use Rattle.muck_live.proofs.Readers.{entries_ext, length_moved, list_moved, object_moved, object_unmoved, mark_moved, kind_moved}
 use Rattle.muck_db.specs.declared.slot.Slot.{Slot}
 use Rattle.muck_db.specs.Slots.{next_at, first_at, place_at, kind_at, path_at, is_exit_at, list_at, on_slot, dbrefs_from, entries_of, HasChains, HasOrder, IsSound, IsKept, IsUnlinked, IsLinked}
-use Rattle.muck_db.proofs.Laws.{consistent_moved}
+use Rattle.muck_live.proofs.Ties.{consistent_moved}
 use Rattle.muck_db.proofs.Tables.{first-on_slot, next-on_slot, mark-on_slot, object-on_slot_same, object-on_slot_other}
 use Rattle.muck_db.proofs.Linked.{chain_at, chain_over}
 use Rattle.muck_db.proofs.Readers.{length-entries_of, object_in-entries_of, list_in-entries_of, place_in-entries_of, is_exit-entries_of, kind_in-entries_of, flags_in-entries_of, mark_in-entries_of}
 
-walk_same : (k : ℕ) (f g : ℕ → Option ℕ) (s : Option ℕ) → ((x : ℕ) → g x ≡ f x) → walk k g s ≡ walk k f s
+pub walk_same : (k : ℕ) (f g : ℕ → Option ℕ) (s : Option ℕ) → ((x : ℕ) → g x ≡ f x) → walk k g s ≡ walk k f s
 unfolding walk
 walk_same zero f g s h = refl
 walk_same (suc k) f g None h = refl
@@ -168,3 +168,11 @@ kept_moved old new d to lowest told may is order kept = record {
   full = λ k lt. rw (← kind_in-entries_of new k, is, kind_moved (entries_of old) d to k, kind_in-entries_of old k) (kept.full k lt);
   unmarked = λ k lt. rw (← mark_in-entries_of new k, is, mark_moved (entries_of old) d to k, mark_in-entries_of old k) (kept.unmarked k lt);
 }
+
+pub listed_short : (es : List Entry) (v : Bool) (d : Dbref) → IsOrdered es → length (listed_in v d es) ≤ length es
+unfolding listed_in
+listed_short es v d c = by_cases (number_in es d)
+  where
+    by_cases : (o : Option ℕ) → length (option_map_or (λ n. map dbref_of (list_in v es n)) o []) ≤ length es
+    by_cases None = omega arith
+    by_cases (Some n) = omega (arith, length_map dbref_of (list_in v es n), list_short es v n c)

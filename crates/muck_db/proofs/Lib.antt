@@ -1,5 +1,5 @@
-pub mod Laws
 pub mod Tables
 pub mod Linked
 pub mod Readers
 pub mod Bridge
+pub mod Writes

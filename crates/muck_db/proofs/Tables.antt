@@ -10,7 +10,7 @@ use Rattle.muck_live.proofs.Lists.{get_changed_same, get_changed_other, kept_map
 use Rattle.muck_db.specs.declared.slot.Slot.{Slot}
 use Rattle.muck_db.specs.Slots.{shown, object_at, kind_at, next_at, first_of, first_at, mark_at, with_next, with_first, with_mark, on_slot}
 
-pub object_kept : (slots : List Slot) (n k : ℕ) (f : Slot → Slot) → ((s : Slot) → (f s).object ≡ s.object) → object_at (changed_at n f slots) k ≡ object_at slots k
+pub object_kept : (slots : List Slot) (n k : ℕ) (f : Slot → Slot) → ((s : Slot) → shown (f s) ≡ shown s) → object_at (changed_at n f slots) k ≡ object_at slots k
 unfolding object_at
 object_kept slots n k f h = elim (cases_eq k n) [
   | inl e ↦ rw e (ap (λ (o : Option Slot). option_map shown o) (get_changed_same slots n f) ∙ kept_map shown f (slice_get slots n) h)

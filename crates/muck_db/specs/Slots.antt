@@ -1,5 +1,5 @@
 -- A table of objects with chain fields, and the entries that it stands for.
-use Rattle.std.specs.Prelude.{◌≡◌, ℕ, ◌<◌, Bool, true, false, if◌then◌else◌, List, map, length, Option, Some, None, slice_get}
+use Rattle.std.specs.Prelude.{◌≡◌, ℕ, ◌<◌, Bool, true, false, ◌==◌, if◌then◌else◌, List, [], ◌∷◌, ◌++◌, map, length, Option, Some, None, slice_get}
 use Rattle.std.specs.Option.{option_map, option_and_then, option_map_or}
 use Rattle.muck_model.specs.declared.dbref.Dbref.{Dbref}
 use Rattle.muck_model.specs.declared.dbref.Flags.{Flags}
@@ -9,8 +9,9 @@ use Rattle.muck_live.specs.declared.object.Object.{Object}
 use Rattle.muck_live.specs.declared.mark.Mark.{Mark}
 use Rattle.muck_live.specs.Chain.{walk, IsChain, Ends, Member, without, put_at}
 use Rattle.muck_live.specs.Flags.{no_flags}
-use Rattle.muck_live.specs.Objects.{Entry, dbref_of, index_of, is_exit, is_garbage, garbage}
+use Rattle.muck_live.specs.Objects.{Entry, changed_at, dbref_of, index_of, is_exit, is_garbage, garbage}
 use Rattle.muck_live.specs.Consistent.{IsOrdered, IsConsistent}
+use Rattle.muck_live.specs.Start.{room_zero, player_one}
 use Rattle.muck_db.specs.declared.slot.Slot.{Slot}
 
 -- Readers, by number.
@@ -21,6 +22,10 @@ shown s = option_map_or (λ o. o) s.object garbage
 
 unfoldable pub object_at : List Slot → ℕ → Option Object
 object_at slots k = option_map shown (slice_get slots k)
+
+-- the object that is no garbage
+unfoldable pub kept_at : List Slot → ℕ → Option Object
+kept_at slots k = option_and_then (λ s. s.object) (slice_get slots k)
 
 unfoldable pub next_at : List Slot → ℕ → Option ℕ
 next_at slots k = option_and_then (λ s. s.next) (slice_get slots k)
@@ -84,6 +89,22 @@ with_mark mark s = record s { mark = mark }
 
 abbrev pub on_slot : (Object → Object) → Slot → Slot
 on_slot f s = record s { object = option_map f s.object }
+
+abbrev pub with_kept : Object → Slot → Slot
+with_kept o s = record s { object = Some o }
+
+-- a slot that is in no list and whose lists are empty
+abbrev pub new_slot : Option Object → Option Mark → Slot
+new_slot object mark = record { object = object; first_content = None; first_exit = None; next = None; mark = mark }
+
+-- an object at a number of garbage, or at the next number
+unfoldable pub object_put : ℕ → Object → List Slot → List Slot
+object_put n o slots = if n == length slots then slots ++ new_slot (Some o) None ∷ [] else changed_at n (with_kept o) slots
+
+-- Room Zero, and One in it
+unfoldable pub first_slots : List Slot
+first_slots =
+    record { object = Some room_zero; first_content = Some 1; first_exit = None; next = None; mark = None } ∷ new_slot (Some player_one) None ∷ []
 
 -- Rules.
 

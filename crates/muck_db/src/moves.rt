@@ -6,7 +6,7 @@ ghost use Rattle.muck_live.specs.Objects.{may_stand, is_garbage, fits_in, number
 ghost use Rattle.muck_live.specs.Moving.{move_check, moved};
 ghost use Rattle.muck_live.specs.Consistent.{MayMove};
 ghost use Rattle.muck_live.specs.Seen.{listed_in};
-ghost use Rattle.muck_db.specs.Slots.{kind_at, flags_at, entries_of, HasOrder};
+ghost use Rattle.muck_db.specs.Slots.{kept_at, kind_at, flags_at, entries_of, HasOrder};
 
 use crate::chain::Chain;
 use crate::links::{first_of, index_of, is_exit_of, leads_to, link, set_place, take_out};
@@ -75,12 +75,21 @@ pub fn number_of(slots: &Vec<Slot>, d: Dbref) -> Option<u32>
     Some(k)
 }
 
+// The object at a place, which is none where it is garbage.
+#[tactic(auto, unfolding(crate::specs::Slots::kept_at))]
+fn object_of(slots: &Vec<Slot>, k: u32) -> Option<&Object>
+    requires { k < length slots.now.items }
+    ensures { option_copied result ≡ kept_at slots.now.items k }
+{
+    slots[k as usize].object.as_ref()
+}
+
 // The object of a number.
 pub fn found(slots: &Vec<Slot>, d: Dbref) -> Option<&Object>
     ensures { option_copied result ≡ object_at d (entries_of slots.now.items) }
 {
     match number_of(slots, d) {
-        Some(k) => slots[k as usize].object.as_ref(),
+        Some(k) => object_of(slots, k),
         None => None,
     }
 }
