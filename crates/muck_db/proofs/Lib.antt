@@ -3,3 +3,4 @@ pub mod Linked
 pub mod Readers
 pub mod Bridge
 pub mod Writes
+pub mod Creating

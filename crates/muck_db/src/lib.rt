@@ -3,10 +3,13 @@
 #![tactic(auto)]
 
 mod chain;
+mod creation;
 mod db;
 mod links;
 mod moves;
+mod password;
 mod slot;
+mod start;
 
 pub use chain::Chain;
 pub use db::Db;
