@@ -6,3 +6,5 @@ pub mod Orders
 pub mod Ties
 pub mod Checks
 pub mod CreationLaws
+pub mod StartLaws
+pub mod SettingLaws
