@@ -8,3 +8,5 @@ pub mod Checks
 pub mod CreationLaws
 pub mod StartLaws
 pub mod SettingLaws
+pub mod Fewer
+pub mod HomeLaws

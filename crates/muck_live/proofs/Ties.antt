@@ -98,7 +98,7 @@ consistent_same es n f ties place flags alive c =
 
 -- Moving keeps a world consistent.
 
-moved_from : (es : List Entry) (d to k : ℕ) (p : Object) → object_in (moved d to es) k ≡ Some p → (o : Object) × (object_in es k ≡ Some o) × SameTies o p
+pub moved_from : (es : List Entry) (d to k : ℕ) (p : Object) → object_in (moved d to es) k ≡ Some p → (o : Object) × (object_in es k ≡ Some o) × SameTies o p
 moved_from es d to k p h = elim (cases_eq k d) [
   | inl e ↦
       let was : (o : Object) × (object_in es d ≡ Some o) × (p ≡ with_place to o) = mapped (with_place to) (object_in es d) p (sym (object_moved es d to) ∙ sym (ap (λ z. object_in (moved d to es) z) e) ∙ h) in
