@@ -6,3 +6,7 @@ pub mod Orders
 pub mod Ties
 pub mod Checks
 pub mod CreationLaws
+pub mod StartLaws
+pub mod SettingLaws
+pub mod Fewer
+pub mod HomeLaws
