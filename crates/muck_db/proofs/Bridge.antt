@@ -20,7 +20,7 @@ use Rattle.muck_db.specs.Slots.{next_at, first_at, place_at, kind_at, path_at, i
 use Rattle.muck_live.proofs.Ties.{consistent_moved}
 use Rattle.muck_db.proofs.Tables.{first-on_slot, next-on_slot, mark-on_slot, object-on_slot_same, object-on_slot_other}
 use Rattle.muck_db.proofs.Linked.{chain_at, chain_over}
-use Rattle.muck_db.proofs.Readers.{length-entries_of, object_in-entries_of, list_in-entries_of, place_in-entries_of, is_exit-entries_of, kind_in-entries_of, flags_in-entries_of, mark_in-entries_of}
+use Rattle.muck_db.proofs.Readers.{length-entries_of, object_in-entries_of, list_in-entries_of, place_in-entries_of, is_exit-entries_of, kind_in-entries_of, flags_in-entries_of, home_in-entries_of, owner_in-entries_of, mark_in-entries_of}
 
 pub walk_same : (k : ℕ) (f g : ℕ → Option ℕ) (s : Option ℕ) → ((x : ℕ) → g x ≡ f x) → walk k g s ≡ walk k f s
 unfolding walk
@@ -110,6 +110,8 @@ order_moved d to w old placed new s may l is = record {
   ends = λ v p. ends_from (length new) (next_at new) (first_at v new p) (put_at w to d v p (list_at v placed p)) (l.chains v p);
   ordered = let P : List Entry → Type 0 = λ z. IsOrdered z in subst P (sym is) (ordered_moved (entries_of old) d to may s.ordered);
 }
+
+pub ruleset homes = (kind_in-entries_of, home_in-entries_of, owner_in-entries_of)
 
 pub ruleset kinds = (kind_in-entries_of, flags_in-entries_of, path_in-entries_of)
 

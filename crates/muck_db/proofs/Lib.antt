@@ -4,3 +4,8 @@ pub mod Readers
 pub mod Bridge
 pub mod Writes
 pub mod Creating
+pub mod Starting
+pub mod Holding
+pub mod Fields
+pub mod Tellings
+pub mod Leaving

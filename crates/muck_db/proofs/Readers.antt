@@ -9,11 +9,11 @@ use Rattle.muck_live.specs.declared.object.Object.{Object}
 use Rattle.muck_live.specs.declared.mark.Mark.{Mark}
 use Rattle.muck_live.specs.Chain.{walk}
 use Rattle.muck_live.specs.Flags.{no_flags}
-use Rattle.muck_live.specs.Objects.{Entry, index_of, is_exit, object_in, list_of, list_in, place_in, kind_in, flags_in, mark_in}
+use Rattle.muck_live.specs.Objects.{Entry, index_of, is_exit, object_in, list_of, list_in, place_in, kind_in, flags_in, home_in, owner_in, mark_in}
 use Rattle.muck_live.proofs.Chains.{walk_none}
 use Rattle.muck_live.proofs.Lists.{length_map}
 use Rattle.muck_db.specs.declared.slot.Slot.{Slot}
-use Rattle.muck_db.specs.Slots.{shown, object_at, next_at, first_at, first_of, place_at, kind_at, flags_at, mark_at, is_exit_at, list_at, entry_of, entries_of}
+use Rattle.muck_db.specs.Slots.{shown, object_at, next_at, first_at, first_of, place_at, kind_at, flags_at, home_at, owner_at, mark_at, is_exit_at, list_at, entry_of, entries_of}
 
 pub length-entries_of : (slots : List Slot) → length (entries_of slots) ≡ length slots
 unfolding entries_of
@@ -66,3 +66,11 @@ kind_in-entries_of slots k = ap (λ (o : Option Object). option_map_or (λ (x : 
 pub flags_in-entries_of : (slots : List Slot) (k : ℕ) → flags_in (entries_of slots) k ≡ flags_at slots k
 unfolding flags_in flags_at
 flags_in-entries_of slots k = ap (λ (o : Option Object). option_map_or (λ (x : Object). x.flags) o no_flags) (object_in-entries_of slots k)
+
+pub home_in-entries_of : (slots : List Slot) (k : ℕ) → home_in (entries_of slots) k ≡ home_at slots k
+unfolding home_in home_at
+home_in-entries_of slots k = ap (λ (o : Option Object). option_and_then (λ (x : Object). index_of x.home) o) (object_in-entries_of slots k)
+
+pub owner_in-entries_of : (slots : List Slot) (k : ℕ) → owner_in (entries_of slots) k ≡ owner_at slots k
+unfolding owner_in owner_at
+owner_in-entries_of slots k = ap (λ (o : Option Object). option_and_then (λ (x : Object). index_of x.owner) o) (object_in-entries_of slots k)

@@ -1,8 +1,8 @@
 -- Writes of whole slots, seen as changes of entries.
 use Rattle.std.proofs.Common.{◌≡◌, ℕ, ◌+◌, ◌<◌, ◌≤◌, zero, suc, List, [], ◌∷◌, ◌++◌, Option, Some, None, inl, inr, refl, sym, ◌∙◌, ap, subst, length, arith, length-append, Bool, true, false, map}
-use Rattle.std.proofs.lemmas.Bool.{cases_eq, ne_eqb, eq-eqb, false≢true}
+use Rattle.std.proofs.lemmas.Bool.{cases_eq, cases_lt, ne_eqb, eq-eqb, false≢true}
 use Rattle.std.proofs.lemmas.Option.{slice_get-map, slice_get_past}
-use Rattle.std.specs.List.{slice_get}
+use Rattle.std.specs.List.{slice_get, slice_set}
 use Rattle.std.specs.Option.{option_map, option_and_then, option_map_or}
 use Rattle.muck_live.specs.declared.object.Object.{Object}
 use Rattle.muck_live.specs.declared.mark.Mark.{Mark}
@@ -11,7 +11,7 @@ use Rattle.muck_live.specs.Objects.{Entry, changed_at, is_garbage, garbage, on_o
 use Rattle.muck_live.specs.Making.{blank_entry, grown}
 use Rattle.muck_live.specs.Consistent.{IsOrdered, IsConsistent}
 use Rattle.muck_live.proofs.Chains.{ends_from}
-use Rattle.muck_live.proofs.Lists.{length_changed, length_map, get_changed_same, get_changed_other, get_more, get_last, get_past, read_more, read_kept, some_at}
+use Rattle.muck_live.proofs.Lists.{length_changed, length_map, get_changed_same, get_changed_other, get_more, get_last, get_past, read_more, read_kept, kept_then, some_at}
 use Rattle.muck_live.proofs.Readers.{entries_ext, object_named, object_unnamed, list_named, mark_named}
 use Rattle.muck_live.proofs.Orders.{chain_wider}
 use Rattle.muck_live.proofs.CreationLaws.{object_more, list_more, grown_same, grown_more}
@@ -29,6 +29,12 @@ get_ext (x ∷ xs) (y ∷ ys) h =
     let head : x ≡ y = cc (h 0) in
     let rest : xs ≡ ys = get_ext xs ys (λ k. h (suc k)) in
     cc
+
+-- an item that is written where it stands
+pub set_back : {X : Type 0} (xs : List X) (n : ℕ) (x : X) → slice_get xs n ≡ Some x → slice_set xs n x ≡ xs
+set_back [] n x h = refl
+set_back (y ∷ ys) zero x h = let e : y ≡ x = cc (h) in ap (λ z. z ∷ ys) (sym e)
+set_back (y ∷ ys) (suc n) x h = let e : slice_set ys n x ≡ ys = set_back ys n x h in cc
 
 -- the same slot in another table with the same links
 entry_over : (old new : List Slot) (s : Slot) → length new ≡ length old → ((x : ℕ) → next_at new x ≡ next_at old x) → entry_of new s ≡ entry_of old s
@@ -70,7 +76,7 @@ ends_changed n f old new is links firsts ends v p =
     (chain_over (length old) (length new) (next_at old) (next_at new) s (option_and_then (first_of v) (slice_get new p)) _ _ (rw is (length_changed old n f)) (rw is (read_kept (first_of v) old n p f (firsts v))) refl (λ x m. rw is (next_kept n x f old links)) (ends v p))
 
 -- what is no garbage is kept in its slot
-alive_slot : (slots : List Slot) (n : ℕ) (s : Slot) → slice_get slots n ≡ Some s → is_garbage (kind_at slots n) ≡ false → (o : Object) × (s.object ≡ Some o)
+pub alive_slot : (slots : List Slot) (n : ℕ) (s : Slot) → slice_get slots n ≡ Some s → is_garbage (kind_at slots n) ≡ false → (o : Object) × (s.object ≡ Some o)
 unfolding kind_at object_at garbage
 alive_slot slots n s e alive = by_cases s.object refl
   where
@@ -162,7 +168,7 @@ length_put es o = length_changed (es ++ blank_entry ∷ []) (length es) (with_ob
 last_put : (es : List Entry) (o : Object) (k : ℕ) → k ≡ length es → object_in (changed_at (length es) (with_object o) (es ++ blank_entry ∷ [])) k ≡ Some o
 last_put es o k e = rw e (object_named (length es) o (es ++ blank_entry ∷ []) (omega (arith, length-append es (blank_entry ∷ []))))
 
-mark_blank : (es : List Entry) (k : ℕ) → mark_in (es ++ blank_entry ∷ []) k ≡ mark_in es k
+pub mark_blank : (es : List Entry) (k : ℕ) → mark_in (es ++ blank_entry ∷ []) k ≡ mark_in es k
 unfolding mark_in blank_entry
 mark_blank es k = read_more (λ (z : Option Entry). option_and_then (λ (e : Entry). e.mark) z) es blank_entry k refl
 
@@ -214,3 +220,54 @@ ends_put n o slots ends v p = elim (cases_eq n (length slots)) [
       subst P (sym (put_more n o slots e)) (ends_from (length new) (next_at new) (first_at v new p) (list_at v slots p) (chain_put o slots ends v p))
   | inr e ↦ ends_changed n (with_kept o) slots (object_put n o slots) (put_same n o slots e) (λ s. refl) (with_kept_first o) ends v p
 ]
+
+-- A change of every slot that leaves the links.
+
+next_mapped : (k : ℕ) (f : Slot → Slot) (slots : List Slot) → ((s : Slot) → (f s).next ≡ s.next) → next_at (map f slots) k ≡ next_at slots k
+unfolding next_at
+next_mapped k f slots h = ap (λ (o : Option Slot). option_and_then (λ (s : Slot). s.next) o) (slice_get-map f slots k) ∙ kept_then (λ (s : Slot). s.next) f (slice_get slots k) h
+
+pub entries_mapped : (f : Slot → Slot) (g : Entry → Entry) (slots : List Slot) → ((s : Slot) → (f s).next ≡ s.next) → ((s : Slot) → entry_of slots (f s) ≡ g (entry_of slots s)) → entries_of (map f slots) ≡ map g (entries_of slots)
+unfolding entries_of
+entries_mapped f g slots links same = get_ext (map (entry_of (map f slots)) (map f slots)) (map g (map (entry_of slots) slots)) (λ k.
+    slice_get-map (entry_of (map f slots)) (map f slots) k ∙ ap (λ (o : Option Slot). option_map (entry_of (map f slots)) o) (slice_get-map f slots k) ∙ by_cases (slice_get slots k)
+    ∙ sym (slice_get-map g (map (entry_of slots) slots) k ∙ ap (λ (o : Option Entry). option_map g o) (slice_get-map (entry_of slots) slots k)))
+  where
+    by_cases : (o : Option Slot) → option_map (entry_of (map f slots)) (option_map f o) ≡ option_map g (option_map (entry_of slots) o)
+    by_cases None = refl
+    by_cases (Some s) = ap (λ (e : Entry). Some e) (entry_over slots (map f slots) (f s) (length_map f slots) (λ x. next_mapped x f slots links) ∙ same s)
+
+pub ends_mapped : (f : Slot → Slot) (old new : List Slot) → new ≡ map f old → ((s : Slot) → (f s).next ≡ s.next) → ((v : Bool) (s : Slot) → first_of v (f s) ≡ first_of v s)
+    → ((v : Bool) (p : ℕ) → Ends (length old) (next_at old) (first_at v old p)) → (v : Bool) (p : ℕ) → Ends (length new) (next_at new) (first_at v new p)
+unfolding Ends first_at
+ends_mapped f old new is links firsts ends v p =
+    let s : Option ℕ = option_and_then (first_of v) (slice_get old p) in
+    let same : option_and_then (first_of v) (slice_get new p) ≡ s =
+    ap (λ (z : List Slot). option_and_then (first_of v) (slice_get z p)) is ∙ ap (λ (o : Option Slot). option_and_then (first_of v) o) (slice_get-map f old p) ∙ kept_then (first_of v) f (slice_get old p) (firsts v) in
+    ends_from (length new) (next_at new) (option_and_then (first_of v) (slice_get new p)) (walk (length old) (next_at old) s)
+    (chain_over (length old) (length new) (next_at old) (next_at new) s (option_and_then (first_of v) (slice_get new p)) _ _ (rw is (length_map f old)) same refl (λ x m. rw is (next_mapped x f old links)) (ends v p))
+
+-- A pass over all slots, as far as it has come.
+pub record Passed (f : Slot → Slot) (i : ℕ) (old cur : List Slot) : Type 0 where
+  pub same_length : length cur ≡ length old
+  pub done : (k : ℕ) → k < i → slice_get cur k ≡ option_map f (slice_get old k)
+  pub left : (k : ℕ) → i ≤ k → slice_get cur k ≡ slice_get old k
+
+pub passed_none : (f : Slot → Slot) (old : List Slot) → Passed f 0 old old
+passed_none f old = record { same_length = refl; done = λ k lt. absurd (omega arith); left = λ k le. refl }
+
+pub passed_more : (f : Slot → Slot) (i : ℕ) (old cur new : List Slot) → new ≡ changed_at i f cur → Passed f i old cur → Passed f (i + 1) old new
+passed_more f i old cur new is p = record {
+  same_length = ap (λ (z : List Slot). length z) is ∙ length_changed cur i f ∙ p.same_length;
+  done = λ k lt. ap (λ (z : List Slot). slice_get z k) is ∙ elim (cases_eq k i) [
+    | inl e ↦ rw (e, get_changed_same cur i f) (ap (λ (o : Option Slot). option_map f o) (p.left i (omega arith)))
+    | inr e ↦ get_changed_other cur i k f e ∙ p.done k (omega arith)
+  ];
+  left = λ k le. ap (λ (z : List Slot). slice_get z k) is ∙ get_changed_other cur i k f (λ e. omega (arith, e)) ∙ p.left k (omega arith);
+}
+
+pub passed_all : (f : Slot → Slot) (i : ℕ) (old cur : List Slot) → length old ≤ i → Passed f i old cur → cur ≡ map f old
+passed_all f i old cur le p = get_ext cur (map f old) (λ k. elim (cases_lt k i) [
+    | inl lt ↦ p.done k lt ∙ sym (slice_get-map f old k)
+    | inr more ↦ slice_get_past cur k (omega (arith, p.same_length)) ∙ sym (slice_get_past (map f old) k (omega (arith, length_map f old)))
+  ])

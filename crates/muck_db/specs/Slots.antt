@@ -7,10 +7,13 @@ use Rattle.muck_model.specs.declared.dbref.Kind.{Kind}
 use Rattle.muck_model.specs.declared.dbref.Kind.TheVariants.{Garbage}
 use Rattle.muck_live.specs.declared.object.Object.{Object}
 use Rattle.muck_live.specs.declared.mark.Mark.{Mark}
+use Rattle.muck_live.specs.declared.mark.Mark.TheVariants.{Gone}
 use Rattle.muck_live.specs.Chain.{walk, IsChain, Ends, Member, without, put_at}
 use Rattle.muck_live.specs.Flags.{no_flags}
 use Rattle.muck_live.specs.Objects.{Entry, changed_at, dbref_of, index_of, is_exit, is_garbage, garbage}
 use Rattle.muck_live.specs.Consistent.{IsOrdered, IsConsistent}
+use Rattle.muck_live.specs.Setting.{lines_marked}
+use Rattle.muck_live.specs.Recycling.{is_exit_of}
 use Rattle.muck_live.specs.Start.{room_zero, player_one}
 use Rattle.muck_db.specs.declared.slot.Slot.{Slot}
 
@@ -47,6 +50,12 @@ kind_at slots k = option_map_or (λ o. o.kind) (object_at slots k) Garbage
 
 unfoldable pub flags_at : List Slot → ℕ → Flags
 flags_at slots k = option_map_or (λ o. o.flags) (object_at slots k) no_flags
+
+unfoldable pub home_at : List Slot → ℕ → Option ℕ
+home_at slots k = option_and_then (λ o. index_of o.home) (object_at slots k)
+
+unfoldable pub owner_at : List Slot → ℕ → Option ℕ
+owner_at slots k = option_and_then (λ o. index_of o.owner) (object_at slots k)
 
 unfoldable pub is_exit_at : List Slot → ℕ → Bool
 is_exit_at slots k = option_map_or (λ o. is_exit o.kind) (object_at slots k) false
@@ -90,12 +99,29 @@ with_mark mark s = record s { mark = mark }
 abbrev pub on_slot : (Object → Object) → Slot → Slot
 on_slot f s = record s { object = option_map f s.object }
 
+abbrev pub with_digest : List ℕ → Object → Object
+with_digest digest o = record o { digest = digest }
+
+abbrev pub with_source : List (List ℕ) → Object → Object
+with_source lines o = record o { lines = lines }
+
+-- the source of a program, which is marked
+abbrev pub with_slot_lines : List (List ℕ) → Slot → Slot
+with_slot_lines lines s = record s { object = option_map (with_source lines) s.object; mark = lines_marked s.mark }
+
 abbrev pub with_kept : Object → Slot → Slot
 with_kept o s = record s { object = Some o }
 
 -- a slot that is in no list and whose lists are empty
 abbrev pub new_slot : Option Object → Option Mark → Slot
 new_slot object mark = record { object = object; first_content = None; first_exit = None; next = None; mark = mark }
+
+-- a slot of garbage of which is to be told, and of an exit of d likewise
+abbrev pub wiped : Slot → Slot
+wiped s = new_slot None (Some Gone)
+
+unfoldable pub exit_wiped : ℕ → Slot → Slot
+exit_wiped d s = if is_exit_of d (shown s) then wiped s else s
 
 -- an object at a number of garbage, or at the next number
 unfoldable pub object_put : ℕ → Object → List Slot → List Slot

@@ -1,5 +1,5 @@
 // A new object: at the lowest number of garbage, or at the next number.
-ghost use Rattle.std.specs.Prelude.{◌≡◌, ◌<◌, ◌≤◌, ◌^◌, ℕ, [], length, false, OnOk, OnErr, IfOk, Err};
+ghost use Rattle.std.specs.Prelude.{◌≡◌, ◌<◌, ◌≤◌, ◌^◌, ℕ, [], length, false, OnOk, OnErr, IfOk, Err, if◌then◌else◌};
 ghost use Rattle.muck_live.specs.Objects.{dbref_of, is_garbage, is_player, nothing};
 ghost use Rattle.muck_live.specs.Making.{free_in, may_make, owner_judged, create_check, has_home, new_object};
 ghost use Rattle.muck_db.specs.Slots.{kind_at, entries_of, object_put};

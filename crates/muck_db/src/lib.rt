@@ -8,8 +8,11 @@ mod db;
 mod links;
 mod moves;
 mod password;
+mod recycling;
+mod setting;
 mod slot;
 mod start;
+mod telling;
 
 pub use chain::Chain;
 pub use db::Db;

@@ -1,7 +1,7 @@
 // How a password is kept.
-ghost use Rattle.std.specs.Prelude.{◌≡◌, ◌++◌, ℕ, List, IfOk, OnErr, take, Err};
+ghost use Rattle.std.specs.Prelude.{◌≡◌, ◌++◌, IfOk, OnErr, Err};
 ghost use Rattle.sha2.specs.Sha256.{sha256};
-ghost use Rattle.muck_live.specs.Password.{digest_of, is_digest_of, salt_bytes, first_salt};
+ghost use Rattle.muck_live.specs.Password.{digest_of, salt_bytes};
 
 use muck_live::DbFault;
 use muck_model::Line;
@@ -48,4 +48,13 @@ pub fn digest_text(alloc: Global, salt: &[u8], word: &[u8]) -> Result<Line, DbFa
         Ok(text) => Ok(text),
         Err(_) => Err(DbFault::NoMemory),
     }
+}
+
+// The digest of a word under a number as the salt.
+pub fn digest_word(alloc: Global, salt: u64, word: &Line) -> Result<Line, DbFault>
+    ensures digest { IfOk result (λ text. text ≡ digest_of (salt_bytes salt) word.now) }
+    ensures memory { OnErr result (result ≡ Err DbFault.NoMemory) }
+{
+    let salt = salt.to_be_bytes();
+    digest_text(alloc, &salt, word.as_slice())
 }
