@@ -10,3 +10,4 @@ pub mod StartLaws
 pub mod SettingLaws
 pub mod Fewer
 pub mod HomeLaws
+pub mod RecyclingLaws
