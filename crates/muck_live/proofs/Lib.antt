@@ -11,3 +11,4 @@ pub mod SettingLaws
 pub mod Fewer
 pub mod HomeLaws
 pub mod RecyclingLaws
+pub mod Standing
