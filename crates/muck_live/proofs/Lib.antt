@@ -12,3 +12,4 @@ pub mod Fewer
 pub mod HomeLaws
 pub mod RecyclingLaws
 pub mod Standing
+pub mod Followers
