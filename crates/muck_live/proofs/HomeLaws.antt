@@ -99,7 +99,7 @@ untied_from d k es p h = mapped (without_ties d) (object_in es k) p (sym (object
 number_same : (a b : ℕ) → dbref_of a ≡ dbref_of b → a ≡ b
 number_same a b e = cc (ap (λ z. z.0) e)
 
-not_nothing : (d : ℕ) → nothing ≡ dbref_of d → ⊥
+pub not_nothing : (d : ℕ) → nothing ≡ dbref_of d → ⊥
 not_nothing d e = cc (ap (λ z. z.0) e)
 
 not_home : (d : ℕ) → home ≡ dbref_of d → ⊥

@@ -10,3 +10,6 @@ pub mod StartLaws
 pub mod SettingLaws
 pub mod Fewer
 pub mod HomeLaws
+pub mod RecyclingLaws
+pub mod Standing
+pub mod Followers
