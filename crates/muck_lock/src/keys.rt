@@ -31,9 +31,11 @@ pub trait Keys {
     fn place(&self, d: Dbref) -> Option<Dbref>
         ensures { result ≡ places self.now d };
 
-    /// The first of the contents of an object, `#-1` where it has none.
+    /// The first of the contents of an object, `#-1` where it has none. They are a finite list, which begins there and
+    /// goes on by the next.
     fn first(&self, d: Dbref) -> Dbref
-        ensures { result ≡ firsts self.now d };
+        ensures value { result ≡ firsts self.now d }
+        ensures chained { IsChain (nexts self.now) (firsts self.now d) (contents self.now d) };
 
     /// The one after an object in its list of contents, `#-1` at the end.
     fn next(&self, d: Dbref) -> Dbref
@@ -42,9 +44,6 @@ pub trait Keys {
     /// Whether the property of that path of an object has that text, or that integer in decimal.
     fn prop_is(&self, d: Dbref, path: &Line, value: &Line) -> bool
         ensures { result ≡ has self.now d path.now value.now };
-
-    /// The contents are a finite list, which begins at the first and goes on by the next.
-    ghost chained: { (keys : Self) (d : Dbref) → IsChain (nexts keys) (firsts keys d) (contents keys d) };
 }
 
 // Whether an object has that one among its contents.

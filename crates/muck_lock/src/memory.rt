@@ -108,7 +108,6 @@ impl Keys for MemKeys {
     ghost use Rattle.std.specs.Prelude.{◌≡◌};
     ghost use Rattle.std.specs.Option.{option_map};
     ghost use Rattle.muck_lock.specs.Memory.{object_at, first_in, next_of, standing_in, has_prop};
-    ghost use Rattle.muck_lock.specs.Standing.{chained};
 
     ghost owners = { λ objects d. option_map (λ o. o.owner) (object_at objects d) };
 
@@ -122,8 +121,6 @@ impl Keys for MemKeys {
 
     ghost has = { has_prop };
 
-    ghost chained = { chained };
-
     fn owner(&self, d: Dbref) -> Option<Dbref> {
         Some(self.get(d)?.owner)
     }
@@ -132,6 +129,7 @@ impl Keys for MemKeys {
         Some(self.get(d)?.place)
     }
 
+    #[tactic(auto, using(crate::specs::Standing::chained))]
     fn first(&self, d: Dbref) -> Dbref {
         first_in(self.objects.as_slice(), d, 0)
     }

@@ -7,7 +7,7 @@ use Rattle.muck_lock.proofs.keys.carries.Goals as goal
 
 pub loop-n-init : goal.loop-n-init
 loop-n-init g c = begins (g.K.Keys.nexts c.args.keys.now) (λ d. same d c.args.n) (g.K.Keys.contents c.args.keys.now c.args.x) c.first-d.result
-    (rw c.first-d.ensures (g.met.K.Keys.chained c.args.keys.now c.args.x))
+    (rw c.first-d.ensures.value c.first-d.ensures.chained)
 
 pub returns-then-eq : goal.returns-then-eq
 returns-then-eq g c = sym (found (g.K.Keys.nexts c.args.keys.now) (λ d. same d c.args.n) (g.K.Keys.contents c.args.keys.now c.args.x) c.loop-n.d c.loop-n.invariant

@@ -7,7 +7,7 @@ use Rattle.muck_lock.proofs.keys.carries_property.Goals as goal
 
 pub loop-d-init : goal.loop-d-init
 loop-d-init g c = begins (g.K.Keys.nexts c.args.keys.now) (λ d. g.K.Keys.has c.args.keys.now d c.args.path.now c.args.value.now) (g.K.Keys.contents c.args.keys.now c.args.x) c.first-d.result
-    (rw c.first-d.ensures (g.met.K.Keys.chained c.args.keys.now c.args.x))
+    (rw c.first-d.ensures.value c.first-d.ensures.chained)
 
 pub returns-then-prop_is : goal.returns-then-prop_is
 returns-then-prop_is g c = sym (found (g.K.Keys.nexts c.args.keys.now) (λ d. g.K.Keys.has c.args.keys.now d c.args.path.now c.args.value.now) (g.K.Keys.contents c.args.keys.now c.args.x) c.loop-d.d c.loop-d.invariant

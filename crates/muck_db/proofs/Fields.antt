@@ -1,0 +1,43 @@
+-- A field that was set keeps the rule of the type.
+use Rattle.std.proofs.Common.{◌≡◌, ℕ, ◌<◌, ◌≤◌, List, Option, Some, None, inl, inr, refl, sym, ◌∙◌, ap, subst, length, Result, Ok, Err, Bool, true, false}
+use Rattle.muck_live.specs.declared.object.Object.{Object}
+use Rattle.muck_live.specs.declared.fault.DbFault.{DbFault}
+use Rattle.muck_live.specs.declared.fault.DbFault.TheVariants.{NoMemory}
+use Rattle.muck_live.specs.Objects.{Entry, changed_at, on_object, is_garbage}
+use Rattle.muck_live.specs.Moving.{Does}
+use Rattle.muck_live.specs.Setting.{Tries, set_at, with_password}
+use Rattle.muck_live.specs.Password.{digest_of, salt_bytes}
+use Rattle.muck_live.specs.Consistent.{IsConsistent}
+use Rattle.muck_live.proofs.Readers.{kind_changed, mark_changed}
+use Rattle.muck_db.specs.declared.slot.Slot.{Slot}
+use Rattle.muck_db.specs.Slots.{kind_at, mark_at, on_slot, with_digest, entries_of, IsKept}
+use Rattle.muck_db.proofs.Readers.{kind_in-entries_of, mark_in-entries_of}
+use Rattle.muck_db.proofs.Writes.{entries_on_slot, ends_on_slot}
+
+pub entries_set : (n : ℕ) (f : Object → Object) (old new : List Slot) → is_garbage (kind_at old n) ≡ false → new ≡ changed_at n (on_slot f) old → entries_of new ≡ set_at f n (entries_of old)
+entries_set n f old new alive is = ap (λ (z : List Slot). entries_of z) is ∙ entries_on_slot n f old alive
+
+pub kept_set : (n : ℕ) (f : Object → Object) (old new : List Slot) (lowest told : ℕ) → ((o : Object) → (f o).kind ≡ o.kind) → is_garbage (kind_at old n) ≡ false → new ≡ changed_at n (on_slot f) old
+    → IsConsistent (set_at f n (entries_of old)) → IsKept old lowest told → IsKept new lowest told
+kept_set n f old new lowest told same alive is world kept =
+    let es : List Entry = entries_of old in
+    let entries : entries_of new ≡ changed_at n (on_object f) es = entries_set n f old new alive is in
+    let C : List Entry → Type 0 = λ z. IsConsistent z in
+    record {
+      sound = record { ends = ends_on_slot n f old new is kept.sound.ends; world = subst C (sym entries) world };
+      full = λ k lt. rw (← kind_in-entries_of new k, entries, kind_changed n k f es same, kind_in-entries_of old k) (kept.full k lt);
+      unmarked = λ k lt. rw (← mark_in-entries_of new k, entries, mark_changed n k f es, mark_in-entries_of old k) (kept.unmarked k lt);
+    }
+
+pub did : (f : Object → Object) (check : Result ℕ DbFault) (n : ℕ) (old new : List Entry) → check ≡ Ok n → new ≡ set_at f n old → Does (set_at f) check old new (Ok tt)
+did f check n old new e is = let P : Result ℕ DbFault → Type 0 = λ r. Does (set_at f) r old new (Ok tt) in subst P (sym e) (refl, is)
+
+pub tried : (f : Object → Object) (check : Result ℕ DbFault) (n : ℕ) (old new : List Entry) → check ≡ Ok n → new ≡ set_at f n old → Tries (set_at f) check old new (Ok tt)
+tried f check n old new e is = let P : Result ℕ DbFault → Type 0 = λ r. Tries (set_at f) r old new (Ok tt) in subst P (sym e) is
+
+-- want of memory, where the check was passed
+pub tried_none : (f : Object → Object) (check : Result ℕ DbFault) (n : ℕ) (fault : DbFault) (old new : List Entry) → check ≡ Ok n → fault ≡ NoMemory → new ≡ old → Tries (set_at f) check old new (Err fault)
+tried_none f check n fault old new e none same = let P : Result ℕ DbFault → Type 0 = λ r. Tries (set_at f) r old new (Err fault) in subst P (sym e) (none, same)
+
+pub digest_set : (n salt : ℕ) (word : List ℕ) (digest : List ℕ) (old new : List Slot) → new ≡ changed_at n (on_slot (with_digest digest)) old → digest ≡ digest_of (salt_bytes salt) word → new ≡ changed_at n (on_slot (with_password salt word)) old
+digest_set n salt word digest old new is e = let P : List ℕ → Type 0 = λ z. new ≡ changed_at n (on_slot (with_digest z)) old in subst P e is

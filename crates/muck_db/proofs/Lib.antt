@@ -1,0 +1,11 @@
+pub mod Tables
+pub mod Linked
+pub mod Readers
+pub mod Bridge
+pub mod Writes
+pub mod Creating
+pub mod Starting
+pub mod Holding
+pub mod Fields
+pub mod Tellings
+pub mod Leaving

@@ -1,0 +1,7 @@
+use Rattle.std.proofs.Common.{ℕ, ◌≡◌, ◌<◌, false}
+use Rattle.muck_live.specs.Objects.{is_garbage}
+use Rattle.muck_db.specs.Slots.{kind_at}
+use Rattle.muck_db.proofs.creation.free_number.Given as goal
+
+abbrev pub invariant-loop-k : goal.invariant-loop-k
+invariant-loop-k l = (j : ℕ) → j < l.k → is_garbage (kind_at l.slots.items j) ≡ false

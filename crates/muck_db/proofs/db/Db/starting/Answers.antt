@@ -1,0 +1,11 @@
+use Rattle.std.proofs.Common.{◌∙◌, ap, List}
+use Rattle.muck_db.specs.declared.slot.Slot.{Slot}
+use Rattle.muck_db.specs.Slots.{entries_of}
+use Rattle.muck_db.proofs.Starting.{first_kept, entries_first}
+use Rattle.muck_db.proofs.db.Db.starting.Goals as goal
+
+pub invariant_of-result : goal.invariant_of-result
+invariant_of-result c = first_kept _ c.in_ok-slots.ensures
+
+pub returns : goal.returns
+returns c = ap (λ (z : List Slot). entries_of z) c.in_ok-slots.ensures ∙ entries_first

@@ -1,0 +1,287 @@
+// The objects of the world.
+ghost use Rattle.std.specs.Prelude.{◌≡◌, ◌<◌, ◌≤◌, ◌^◌, true, false, length, IfOk};
+ghost use Rattle.std.specs.Option.{option_copied};
+ghost use Rattle.muck_live.specs.Objects.{object_at};
+ghost use Rattle.muck_live.specs.Making.{create_check, Creates};
+ghost use Rattle.muck_live.specs.Start.{first_objects};
+ghost use Rattle.muck_live.specs.Moving.{move_check, Moves, Does};
+ghost use Rattle.muck_live.specs.Setting.{any, checked, set_at, Tries, owner_check, link_check, home_check, flags_check, level_check, lines_check, password_check, lines_set, with_name, with_owner, with_link, with_home, with_flags, with_level, with_prop, without_prop, with_password};
+ghost use Rattle.muck_live.specs.Recycling.{recycle_check, recycled};
+ghost use Rattle.muck_live.specs.Marks.{next_change, change_told};
+ghost use Rattle.muck_live.specs.Consistent.{IsConsistent};
+ghost use Rattle.muck_live.specs.Seen.{listed_in};
+
+use crate::chain::Chain;
+use crate::creation::{check_create, new_object, put_object};
+use crate::links::dbref_of;
+use crate::moves::{check_move, found, list_of, relocate};
+use crate::password::digest_word;
+use crate::recycling::{check_recycle, clear_out, vanish};
+use crate::setting::{
+    check_any, check_flags, check_home, check_level, check_link, check_owner, check_player,
+    check_program, put_prop, remove_prop, set_digest, set_flags, set_home, set_level, set_lines,
+    set_link, set_name, set_owner,
+};
+use crate::slot::Slot;
+use crate::start::first_slots;
+use crate::telling::{clear_mark, marked, told_of};
+use muck_live::{Changed, DbFault, Object};
+use muck_model::{Dbref, Flags, Kind, Line, LineList, NoMemory};
+use muck_prop::{Path, PropValue};
+use std::alloc::Global;
+use std::marker::Model;
+
+/// The objects of the world, which contracts see as their entries in the order of their numbers.
+///
+/// Every call keeps them consistent: each object but `#0` and garbage stands exactly once in all lists, in that of its
+/// place; places lead up to `#0`; owners are players; links and homes lead where the kinds allow it, or to nothing.
+#[derive(Drop)]
+pub struct Db {
+    slots: Vec<Slot>,
+    // no garbage stands below this number
+    lowest: u32,
+    // nothing below this number is to be told of
+    told: u32,
+}
+
+impl Model for Db {
+    ghost use Rattle.std.specs.Prelude.{List};
+    ghost use Rattle.muck_live.specs.Objects.{Entry};
+    ghost use Rattle.muck_db.specs.Slots.{entries_of, IsKept};
+
+    ghost Value = { List Entry };
+
+    ghost use Rattle.std.specs.Coded.{codes};
+    ghost use Rattle.muck_prop.specs.contracts.props.Props as props;
+
+    ghost coded = { Prim.hlevel (codes, props.the_row.coded) };
+
+    ghost view = { λ a. entries_of a.slots.items };
+
+    ghost invariant = { λ a. IsKept a.slots.items a.lowest a.told };
+}
+
+impl Db {
+    /// Room Zero, and in it One, a wizard whose password is `potrzebie`.
+    pub fn starting(alloc: Global) -> Result<Db, NoMemory>
+        ensures { IfOk result (λ db. db ≡ first_objects) }
+    {
+        let slots = first_slots(alloc)?;
+        Ok(Db {
+            slots,
+            lowest: 0,
+            told: 0,
+        })
+    }
+
+    /// The object of a number; `None` exactly where it isn't there or is garbage.
+    pub fn get(&self, d: Dbref) -> Option<&Object>
+        ensures { option_copied result ≡ object_at d self.now }
+    {
+        found(&self.slots, d)
+    }
+
+    /// One above the highest number. The world is consistent.
+    pub fn count(&self) -> u32
+        ensures count { result ≡ length self.now }
+        ensures most { result ≤ 100000 }
+        ensures consistent { IsConsistent self.now }
+    {
+        self.slots.len() as u32
+    }
+
+    /// The contents of an object, the newest first; none of what isn't there.
+    pub fn contents(&self, d: Dbref) -> Chain<'_>
+        ensures list { result ≡ listed_in false d self.now }
+        ensures short { length result ≤ length self.now }
+    {
+        list_of(&self.slots, false, d)
+    }
+
+    /// The exits of an object, the newest first; none of what isn't there.
+    pub fn exits(&self, d: Dbref) -> Chain<'_>
+        ensures list { result ≡ listed_in true d self.now }
+        ensures short { length result ≤ length self.now }
+    {
+        list_of(&self.slots, true, d)
+    }
+
+    /// Makes an object at the lowest number of garbage, or else at the next number, in front of a list of its place. A
+    /// player owns itself, and `#0` is the first home of a thing or a player. `NoSuchObject` comes where the owner
+    /// isn't there, unless a player is made, or where the place isn't; `WrongKind` where the kind can't be there or the
+    /// owner is no player; `WorldFull` where there are 100,000 objects; `NoMemory` at any place. Nothing has changed
+    /// then.
+    pub fn create(
+        &mut self,
+        alloc: Global,
+        kind: Kind,
+        name: Line,
+        owner: Dbref,
+        place: Dbref,
+    ) -> Result<Dbref, DbFault>
+        requires some { 1 ≤ length name }
+        requires short { length name ≤ 80 }
+        ensures { Creates (create_check kind owner place self.old) kind name owner self.old self.new result }
+    {
+        let (n, to) = check_create(&self.slots, self.lowest, kind, owner, place)?;
+        let object = new_object(alloc, n, kind, name, owner)?;
+        put_object(&mut self.slots, n, object)?;
+        relocate(&mut self.slots, n, to);
+        self.lowest = n + 1;
+        Ok(dbref_of(n))
+    }
+
+    /// Moves an object to the front of a list of `to`. `NoSuchObject` comes where one of both isn't there, `WrongKind`
+    /// for `#0` and where the kinds don't fit, `WouldLoop` where `to` is the object or lies inside it; nothing has
+    /// changed then. It takes no memory.
+    pub fn move_to(&mut self, d: Dbref, to: Dbref) -> Result<(), DbFault>
+        ensures { Moves (move_check d to self.old) self.old self.new result }
+    {
+        let (d, to) = check_move(&self.slots, d, to)?;
+        relocate(&mut self.slots, d, to);
+        Ok(())
+    }
+}
+
+impl Db {
+    /// Names an object. `NoSuchObject` comes exactly where it isn't there; nothing has changed then.
+    pub fn set_name(&mut self, d: Dbref, name: Line) -> Result<(), DbFault>
+        requires some { 1 ≤ length name }
+        requires short { length name ≤ 80 }
+        ensures { Does (set_at (with_name name)) (checked any d self.old) self.old self.new result }
+    {
+        let k = check_any(&self.slots, d)?;
+        set_name(&mut self.slots, k, name);
+        Ok(())
+    }
+
+    /// Gives an object to an owner. `NoSuchObject` comes where one of both isn't there, `WrongKind` where the object is
+    /// a player or the owner isn't one; nothing has changed then.
+    pub fn set_owner(&mut self, d: Dbref, owner: Dbref) -> Result<(), DbFault>
+        ensures { Does (set_at (with_owner owner)) (owner_check d owner self.old) self.old self.new result }
+    {
+        let k = check_owner(&self.slots, d, owner)?;
+        set_owner(&mut self.slots, k, owner);
+        Ok(())
+    }
+
+    /// Links an exit to a room, a program, home or nothing, or a room to a room or nothing. `NoSuchObject` comes where
+    /// the object isn't there, or where what is linked to is a number that isn't; `WrongKind` where the kinds don't
+    /// allow it; nothing has changed then.
+    pub fn set_link(&mut self, d: Dbref, to: Dbref) -> Result<(), DbFault>
+        ensures { Does (set_at (with_link to)) (link_check d to self.old) self.old self.new result }
+    {
+        let k = check_link(&self.slots, d, to)?;
+        set_link(&mut self.slots, k, to);
+        Ok(())
+    }
+
+    /// Sets the home of a thing or a player. `NoSuchObject` comes where one of both isn't there, `WrongKind` where the
+    /// kinds don't allow it; nothing has changed then.
+    pub fn set_home(&mut self, d: Dbref, to: Dbref) -> Result<(), DbFault>
+        ensures { Does (set_at (with_home to)) (home_check d to self.old) self.old self.new result }
+    {
+        let k = check_home(&self.slots, d, to)?;
+        set_home(&mut self.slots, k, to);
+        Ok(())
+    }
+
+    /// Sets all flags of an object. `NoSuchObject` comes where it isn't there, `WrongKind` where a thing would lose V
+    /// while a player is in it; nothing has changed then.
+    pub fn set_flags(&mut self, d: Dbref, flags: Flags) -> Result<(), DbFault>
+        requires { flags.0 < 2 ^ 14 }
+        ensures { Does (set_at (with_flags flags)) (flags_check d flags self.old) self.old self.new result }
+    {
+        let k = check_flags(&self.slots, d, flags)?;
+        set_flags(&mut self.slots, k, flags);
+        Ok(())
+    }
+
+    /// Sets the level of a program or a player. `NoSuchObject` comes where it isn't there, `WrongKind` for another kind
+    /// and for a level above 3; nothing has changed then.
+    pub fn set_level(&mut self, d: Dbref, level: u8) -> Result<(), DbFault>
+        ensures { Does (set_at (with_level level)) (level_check d level self.old) self.old self.new result }
+    {
+        let k = check_level(&self.slots, d, level)?;
+        set_level(&mut self.slots, k, level);
+        Ok(())
+    }
+
+    /// Sets the source of a program, of which is then to be told. `NoSuchObject` comes where it isn't there, `WrongKind`
+    /// for another kind; nothing has changed then.
+    pub fn set_lines(&mut self, d: Dbref, lines: LineList) -> Result<(), DbFault>
+        requires { length lines ≤ 4096 }
+        ensures { Does (lines_set lines) (lines_check d self.old) self.old self.new result }
+    {
+        let k = check_program(&self.slots, d)?;
+        set_lines(&mut self.slots, k, lines);
+        self.told = self.told.min(k);
+        Ok(())
+    }
+
+    /// Stores a value at a path of an object, where an empty text or 0 removes the property. `NoSuchObject` comes where
+    /// the object isn't there; nothing has changed then, and after `NoMemory`.
+    pub fn put_prop(&mut self, d: Dbref, path: Path, value: PropValue) -> Result<(), DbFault>
+        ensures { Tries (set_at (with_prop path value)) (checked any d self.old) self.old self.new result }
+    {
+        let k = check_any(&self.slots, d)?;
+        put_prop(&mut self.slots, k, path, value)?;
+        Ok(())
+    }
+
+    /// Removes a property of an object, which need not have it. `NoSuchObject` comes exactly where the object isn't
+    /// there; nothing has changed then.
+    pub fn remove_prop(&mut self, d: Dbref, path: &Path) -> Result<(), DbFault>
+        ensures { Does (set_at (without_prop path.now)) (checked any d self.old) self.old self.new result }
+    {
+        let k = check_any(&self.slots, d)?;
+        remove_prop(&mut self.slots, k, path);
+        Ok(())
+    }
+
+    /// Sets the password of a player, with a salt. `NoSuchObject` comes where it isn't there, `WrongKind` for another
+    /// kind; nothing has changed then, and after `NoMemory`.
+    pub fn set_password(
+        &mut self,
+        alloc: Global,
+        d: Dbref,
+        salt: u64,
+        word: &Line,
+    ) -> Result<(), DbFault>
+        ensures { Tries (set_at (with_password salt word.now)) (password_check d self.old) self.old self.new result }
+    {
+        let k = check_player(&self.slots, d)?;
+        let digest = digest_word(alloc, salt, word)?;
+        set_digest(&mut self.slots, k, digest);
+        Ok(())
+    }
+
+    /// Recycles an object: homes in it become `#0` and links to it nothing, its contents go home in the order of their
+    /// list, its exits become garbage, and then so does it. `NoSuchObject` comes where it isn't there, `WrongKind` for
+    /// `#0` and for a player; nothing has changed then. It takes no memory, and looks at every object once.
+    pub fn recycle(&mut self, d: Dbref) -> Result<(), DbFault>
+        ensures { Does recycled (recycle_check d self.old) self.old self.new result }
+    {
+        let k = check_recycle(&self.slots, d)?;
+        clear_out(&mut self.slots, k);
+        vanish(&mut self.slots, k);
+        self.lowest = 0;
+        self.told = 0;
+        Ok(())
+    }
+
+    /// What is to be told next: the change of the lowest number, which isn't told again. It takes no memory, and looks
+    /// at no number twice that has nothing to tell, until something below it changes.
+    pub fn next_changed(&mut self) -> Option<Changed>
+        ensures told { result ≡ next_change self.old }
+        ensures left { self.new ≡ change_told self.old }
+    {
+        let Some((n, mark)) = marked(&self.slots, self.told) else {
+            self.told = self.slots.len() as u32;
+            return None;
+        };
+        clear_mark(&mut self.slots, n);
+        self.told = n + 1;
+        Some(told_of(n, mark))
+    }
+}

@@ -1,0 +1,19 @@
+//! The objects of the world: a table of slots, in which the contents and the exits of each object are a chain. Contracts
+//! see it as the entries of `muck_live`, and nothing of the chains.
+#![tactic(auto)]
+
+mod chain;
+mod creation;
+mod db;
+mod links;
+mod moves;
+mod password;
+mod recycling;
+mod setting;
+mod slot;
+mod start;
+mod telling;
+
+pub use chain::Chain;
+pub use db::Db;
+pub use muck_live::{Changed, DbFault, Mark, Object};

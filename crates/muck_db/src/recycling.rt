@@ -1,0 +1,233 @@
+// Recycling an object: nothing is tied to it any more, what it holds goes home, and it and its exits become garbage.
+ghost use Rattle.std.specs.Prelude.{◌≡◌, ◌≢◌, ◌<◌, ◌≤◌, ◌^◌, ℕ, Bool, map, length, false, true, IfOk, if◌then◌else◌, None};
+ghost use Rattle.muck_live.specs.declared.mark.Mark.TheVariants.{Gone};
+ghost use Rattle.muck_live.specs.Chain.{Ends};
+ghost use Rattle.muck_live.specs.Objects.{dbref_of, nothing, same, is_garbage, is_player, kind_in, list_in, changed_at};
+ghost use Rattle.muck_live.specs.Recycling.{without_ties, untied, wished_home, may_go, way_home, sent_home, is_exit_of, exits_gone, vanished, recycle_check};
+ghost use Rattle.muck_db.specs.Slots.{kind_at, home_at, owner_at, shown, next_at, first_at, entries_of, on_slot, new_slot, exit_wiped, wiped, HasOrder};
+
+use crate::links::{dbref_of, first_of, index_of, leads_to, take_out};
+use crate::moves::{fits, kind_of, number_of, relocate};
+use crate::slot::Slot;
+use muck_live::{DbFault, Mark};
+use muck_model::{Dbref, Kind};
+
+// The number of an object that may be recycled.
+#[tactic(auto, using(crate::proofs::Bridge::kinds), unfolding(muck_live::specs::Recycling::recycle_check, muck_live::specs::Setting::checked))]
+pub fn check_recycle(slots: &Vec<Slot>, d: Dbref) -> Result<u32, DbFault>
+    ensures is { result ≡ recycle_check d (entries_of slots.now.items) }
+    ensures within { IfOk result (λ k. k < length slots.now.items) }
+{
+    let Some(k) = number_of(slots, d) else {
+        return Err(DbFault::NoSuchObject);
+    };
+    if k == 0 || matches!(kind_of(slots, k), Kind::Player) {
+        return Err(DbFault::WrongKind);
+    }
+    Ok(k)
+}
+
+fn home_without(home: Dbref, gone: Dbref) -> Dbref
+    ensures { result ≡ (if same home gone then dbref_of 0 else home) }
+{
+    if home == gone { Dbref(0) } else { home }
+}
+
+fn link_without(link: Dbref, gone: Dbref) -> Dbref
+    ensures { result ≡ (if same link gone then nothing else link) }
+{
+    if link == gone { Dbref(-1) } else { link }
+}
+
+// A home in `d` becomes `#0`, and a link to it nothing.
+fn untie_slot(slot: &mut Slot, d: u32)
+    requires { d < 2 ^ 31 }
+    ensures { slot.new ≡ on_slot (without_ties d) slot.old }
+{
+    let gone = dbref_of(d);
+    if let Some(object) = &mut slot.object {
+        object.home = home_without(object.home, gone);
+        object.link = link_without(object.link, gone);
+    }
+}
+
+#[tactic(auto, unfolding(muck_live::specs::Objects::changed_at))]
+fn untie_at(slots: &mut Vec<Slot>, k: u32, d: u32)
+    requires known { k < length slots.old.items }
+    requires number { d < 2 ^ 31 }
+    ensures items { slots.new.items ≡ changed_at k (on_slot (without_ties d)) slots.old.items }
+    ensures len { length slots.new.items ≡ length slots.old.items }
+{
+    untie_slot(&mut slots[k as usize], d);
+}
+
+// No object has its home in `d` or a link to it any more.
+fn untie(slots: &mut Vec<Slot>, d: u32)
+    requires few { length slots.old.items ≤ 100000 }
+    requires number { d < 2 ^ 31 }
+    ensures { slots.new.items ≡ map (on_slot (without_ties d)) slots.old.items }
+{
+    let n = slots.len() as u32;
+    for k in 0..n {
+        untie_at(slots, k, d);
+    }
+}
+
+#[tactic(auto, unfolding(crate::specs::Slots::home_at, crate::specs::Slots::object_at, muck_live::specs::Objects::garbage))]
+fn home_of(slots: &Vec<Slot>, k: u32) -> Option<u32>
+    ensures { result ≡ home_at slots.now.items k }
+{
+    match slots.get(k as usize) {
+        Some(Slot { object: Some(object), .. }) => index_of(object.home),
+        _ => None,
+    }
+}
+
+#[tactic(auto, unfolding(crate::specs::Slots::owner_at, crate::specs::Slots::object_at, muck_live::specs::Objects::garbage))]
+fn owner_of(slots: &Vec<Slot>, k: u32) -> Option<u32>
+    requires { is_garbage (kind_at slots.now.items k) ≡ false }
+    ensures { result ≡ owner_at slots.now.items k }
+{
+    match slots.get(k as usize) {
+        Some(Slot { object: Some(object), .. }) => index_of(object.owner),
+        _ => None,
+    }
+}
+
+// Where `x` goes when it is sent home, if it may.
+#[tactic(auto, using(crate::proofs::Bridge::homes), unfolding(muck_live::specs::Recycling::wished_home))]
+fn wished_home(slots: &Vec<Slot>, x: u32) -> Option<u32>
+    ensures { result ≡ wished_home x (entries_of slots.now.items) (kind_in (entries_of slots.now.items) x) }
+{
+    match kind_of(slots, x) {
+        Kind::Program => {
+            let owner = owner_of(slots, x)?;
+            home_of(slots, owner)
+        }
+        Kind::Thing | Kind::Player => home_of(slots, x),
+        _ => None,
+    }
+}
+
+// Whether `x` may go there, which isn't inside it.
+#[tactic(auto, using(crate::proofs::Bridge::kinds), unfolding(muck_live::specs::Recycling::may_go))]
+fn may_go(slots: &Vec<Slot>, x: u32, to: u32) -> bool
+    requires { HasOrder slots.now.items }
+    ensures { result ≡ may_go x to (entries_of slots.now.items) }
+{
+    if !fits(slots, x, to) {
+        return false;
+    }
+    !leads_to(slots, to, x)
+}
+
+// Where `x` goes when it is sent home.
+#[tactic(auto, unfolding(muck_live::specs::Recycling::way_home))]
+fn way_home(slots: &Vec<Slot>, x: u32) -> u32
+    requires { HasOrder slots.now.items }
+    ensures { result ≡ way_home x (entries_of slots.now.items) }
+{
+    match wished_home(slots, x) {
+        Some(to) => {
+            if may_go(slots, x, to) {
+                to
+            } else {
+                0
+            }
+        }
+        None => 0,
+    }
+}
+
+// Unties all objects from `d`, and sends its contents home, from the front on.
+pub fn clear_out(slots: &mut Vec<Slot>, d: u32)
+    requires order { HasOrder slots.old.items }
+    requires known { d < length slots.old.items }
+    requires lower { d ≢ 0 }
+    ensures sent { entries_of slots.new.items ≡ sent_home (list_in false (entries_of slots.old.items) d) (untied d (entries_of slots.old.items)) }
+    ensures order { HasOrder slots.new.items }
+{
+    untie(slots, d);
+    while let Some(x) = first_of(slots, false, d) {
+        let home = way_home(slots, x);
+        relocate(slots, x, home);
+    }
+}
+
+// What is left of an object, of which is to be told.
+fn gone_slot() -> Slot
+    ensures { result ≡ new_slot None (Some Gone) }
+{
+    Slot {
+        object: None,
+        first_content: None,
+        first_exit: None,
+        next: None,
+        mark: Some(Mark::Gone),
+    }
+}
+
+#[tactic(auto, unfolding(muck_live::specs::Objects::garbage))]
+fn is_exit_of(slot: &Slot, d: u32) -> bool
+    requires { d < 2 ^ 31 }
+    ensures { result ≡ is_exit_of d (shown slot.now) }
+{
+    let place = dbref_of(d);
+    match &slot.object {
+        Some(object) => matches!(object.kind, Kind::Exit) && object.place == place,
+        None => false,
+    }
+}
+
+// An exit of `d` becomes garbage.
+#[tactic(auto, unfolding(crate::specs::Slots::exit_wiped))]
+fn wipe_slot(slot: &mut Slot, d: u32)
+    requires { d < 2 ^ 31 }
+    ensures { slot.new ≡ exit_wiped d slot.old }
+{
+    if is_exit_of(slot, d) {
+        *slot = gone_slot();
+    }
+}
+
+#[tactic(auto, unfolding(muck_live::specs::Objects::changed_at))]
+fn wipe_exit(slots: &mut Vec<Slot>, k: u32, d: u32)
+    requires known { k < length slots.old.items }
+    requires number { d < 2 ^ 31 }
+    ensures items { slots.new.items ≡ changed_at k (exit_wiped d) slots.old.items }
+    ensures len { length slots.new.items ≡ length slots.old.items }
+{
+    wipe_slot(&mut slots[k as usize], d);
+}
+
+// The exits of `d` become garbage.
+fn wipe_exits(slots: &mut Vec<Slot>, d: u32)
+    requires few { length slots.old.items ≤ 100000 }
+    requires number { d < 2 ^ 31 }
+    ensures { slots.new.items ≡ map (exit_wiped d) slots.old.items }
+{
+    let n = slots.len() as u32;
+    for k in 0..n {
+        wipe_exit(slots, k, d);
+    }
+}
+
+#[tactic(auto, unfolding(muck_live::specs::Objects::changed_at))]
+fn wipe(slots: &mut Vec<Slot>, d: u32)
+    requires { d < length slots.old.items }
+    ensures { slots.new.items ≡ changed_at d wiped slots.old.items }
+{
+    slots[d as usize] = gone_slot();
+}
+
+// Takes `d` out of its list; it and its exits become garbage.
+pub fn vanish(slots: &mut Vec<Slot>, d: u32)
+    requires order { HasOrder slots.old.items }
+    requires known { d < length slots.old.items }
+    ensures entries { entries_of slots.new.items ≡ vanished d (exits_gone d (entries_of slots.old.items)) }
+    ensures ends { (v : Bool) (p : ℕ) → Ends (length slots.new.items) (next_at slots.new.items) (first_at v slots.new.items p) }
+{
+    take_out(slots, d);
+    wipe_exits(slots, d);
+    wipe(slots, d);
+}
