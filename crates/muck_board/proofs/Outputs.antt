@@ -1,11 +1,11 @@
 -- The laws of what waits to be sent.
-use Rattle.std.proofs.Common.{◌≡◌, ℕ, ◌+◌, ◌-◌, ◌<◌, ◌≤◌, Bool, true, false, cond, eqb, leb, ltb, List, [], ◌∷◌, ◌++◌, length, take, drop, refl, sym, ◌∙◌, ap, subst, arith, length-append, length-drop}
+use Rattle.std.proofs.Common.{◌≡◌, ℕ, ◌+◌, ◌-◌, ◌<◌, ◌≤◌, Bool, true, false, cond, eqb, leb, ltb, List, [], ◌∷◌, ◌++◌, length, take, drop, refl, sym, ◌∙◌, ap, arith, length-append, length-drop}
 use Rattle.std.proofs.lemmas.Bool.{cond_both, cond-true, cond-false, eqb-true, eqb-false, leb-true, leb-false, ltb-true, ltb-false, le-leb, lt-ltb, lt-leb, le-ltb, ne_eqb}
 use Rattle.std.proofs.lemmas.List.{drop-append-le, take-append-le, drop-drop, drop_all}
 use Rattle.std.proofs.lemmas.Grind.{flat_map-append}
 use Rattle.std.proofs.Math.Seq.{drop-append-add, take-add}
 use Rattle.std.specs.List.{flat_map}
-use Rattle.muck_live.specs.Output.{Output, no_output, sent_form, notice, notice_of, lines_bytes, bytes_of, newest, lines_taken, notice_taken, taken}
+use Rattle.muck_live.specs.Output.{Output, sent_form, notice, notice_of, lines_bytes, bytes_of, newest, lines_taken, notice_taken, taken}
 
 -- Counts.
 

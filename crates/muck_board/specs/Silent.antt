@@ -1,5 +1,5 @@
 -- The board without what waits to be sent.
-use Rattle.std.specs.Prelude.{List, map}
+use Rattle.std.specs.Prelude.{map}
 use Rattle.muck_live.specs.Output.{no_output}
 use Rattle.muck_live.specs.Connections.{Connection}
 use Rattle.muck_live.specs.Boards.{Board, with_connections}

@@ -26,9 +26,9 @@ fn board(alloc: Global) -> Result<Board, NoMemory> {
 }
 
 // Sends lines of ten digits, which count from 1000000000 on.
-fn send_lines(alloc: Global, board: &mut Board, count: u64) -> Result<(), Fail> {
+fn send_lines(alloc: Global, board: &mut Board, count: u32) -> Result<(), Fail> {
     for i in 0..count {
-        let line = format!(in alloc; "{}", 1_000_000_000 + i)?;
+        let line = format!(in alloc; "{}", 1_000_000_000 + u64::from(i))?;
         board.tell(1, line.as_bytes())?;
     }
     Ok(())
