@@ -96,9 +96,6 @@ kept_told old new n lowest told mark h below is kept =
       ];
     }
 
-pub kept_silent : (slots : List Slot) (lowest told n : ℕ) → ((k : ℕ) → k < length slots → mark_at slots k ≡ None) → n ≡ length slots → IsKept slots lowest told → IsKept slots lowest n
-kept_silent slots lowest told n none e kept = record { sound = kept.sound; full = kept.full; unmarked = λ k lt. none k (omega arith) }
-
 -- lines
 
 lines_entry : (lines : List (List ℕ)) (slots : List Slot) (s : Slot) → (o : Object) × (s.object ≡ Some o) → entry_of slots (with_slot_lines lines s) ≡ with_lines lines (entry_of slots s)

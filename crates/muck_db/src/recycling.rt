@@ -2,9 +2,9 @@
 ghost use Rattle.std.specs.Prelude.{◌≡◌, ◌≢◌, ◌<◌, ◌≤◌, ◌^◌, ℕ, Bool, map, length, false, true, IfOk, if◌then◌else◌, None};
 ghost use Rattle.muck_live.specs.declared.mark.Mark.TheVariants.{Gone};
 ghost use Rattle.muck_live.specs.Chain.{Ends};
-ghost use Rattle.muck_live.specs.Objects.{dbref_of, nothing, same, is_garbage, is_player, kind_in, list_in, changed_at};
+ghost use Rattle.muck_live.specs.Objects.{dbref_of, nothing, same, kind_in, list_in, changed_at};
 ghost use Rattle.muck_live.specs.Recycling.{without_ties, untied, wished_home, may_go, way_home, sent_home, is_exit_of, exits_gone, vanished, recycle_check};
-ghost use Rattle.muck_db.specs.Slots.{kind_at, home_at, owner_at, shown, next_at, first_at, entries_of, on_slot, new_slot, exit_wiped, wiped, HasOrder};
+ghost use Rattle.muck_db.specs.Slots.{home_at, owner_at, shown, next_at, first_at, entries_of, on_slot, new_slot, exit_wiped, wiped, HasOrder};
 
 use crate::links::{dbref_of, first_of, index_of, leads_to, take_out};
 use crate::moves::{fits, kind_of, number_of, relocate};
@@ -85,12 +85,13 @@ fn home_of(slots: &Vec<Slot>, k: u32) -> Option<u32>
 
 #[tactic(auto, unfolding(crate::specs::Slots::owner_at, crate::specs::Slots::object_at, muck_live::specs::Objects::garbage))]
 fn owner_of(slots: &Vec<Slot>, k: u32) -> Option<u32>
-    requires { is_garbage (kind_at slots.now.items k) ≡ false }
     ensures { result ≡ owner_at slots.now.items k }
 {
     match slots.get(k as usize) {
         Some(Slot { object: Some(object), .. }) => index_of(object.owner),
-        _ => None,
+        // garbage belongs to `#1`
+        Some(_) => Some(1),
+        None => None,
     }
 }
 

@@ -6,4 +6,3 @@ pub mod Maps
 pub mod Sequence
 pub mod First
 pub mod Least
-pub mod Parts

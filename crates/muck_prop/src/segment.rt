@@ -41,25 +41,6 @@ impl Segment {
         &self.bytes
     }
 
-    // Whether these bytes are it in lower case.
-    pub(crate) fn is_lowered(&self, bytes: &[u8]) -> bool
-        ensures { result ≡ bytes_eq self.now (map to_ascii_lowercase bytes.now) }
-    {
-        let mut rest = self.as_slice();
-        let mut bytes = bytes;
-        while let Some((byte, more)) = bytes.split_first() {
-            let Some((first, behind)) = rest.split_first() else {
-                return false;
-            };
-            if *first != byte.to_ascii_lowercase() {
-                return false;
-            }
-            rest = behind;
-            bytes = more;
-        }
-        rest.is_empty()
-    }
-
     // Whether it begins with a byte.
     pub(crate) fn begins_with(&self, first: u8) -> bool
         ensures { result ≡ begins_with first self.now }

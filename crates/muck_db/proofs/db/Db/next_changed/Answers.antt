@@ -4,7 +4,7 @@ use Rattle.muck_live.specs.Objects.{Entry}
 use Rattle.muck_live.specs.Marks.{next_change, change_told}
 use Rattle.muck_db.specs.Slots.{entries_of}
 use Rattle.muck_db.proofs.Readers.{length-entries_of}
-use Rattle.muck_db.proofs.Tellings.{next_none, next_some, told_none, entries_told, kept_told, kept_silent}
+use Rattle.muck_db.proofs.Tellings.{next_none, next_some, told_none, entries_told, kept_told}
 use Rattle.muck_db.proofs.db.Db.next_changed.Goals as goal
 
 pub marked-requires-clause-few : goal.marked-requires-clause-few
@@ -12,9 +12,6 @@ marked-requires-clause-few c = omega (arith, length-entries_of c.self.inside.slo
 
 pub overflow_cast-self : goal.overflow_cast-self
 overflow_cast-self c = omega (arith, c.len.ensures, length-entries_of c.self.inside.slots.items, c.self.invariant.sound.world.ordered.few)
-
-pub invariant_of-self : goal.invariant_of-self
-invariant_of-self c = kept_silent _ _ _ _ c.in_default.ensures.none c.len.ensures c.self.invariant
 
 pub returns-in_default-clause-told : goal.returns-in_default-clause-told
 returns-in_default-clause-told c =

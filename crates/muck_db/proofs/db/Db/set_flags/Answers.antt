@@ -18,5 +18,5 @@ returns c =
     let P : List Entry → Type 0 = λ z. Does (set_at (with_flags c.args.flags)) (flags_check c.args.d c.args.flags z) z (entries_of c.set_flags.new.slots.items) (Ok tt) in
     subst P c.self.view_is (did (with_flags c.args.flags) _ c.in_ok-k.k _ _ (sym c.check_flags.ensures.is ∙ c.in_ok-k.was) (entries_set c.in_ok-k.k (with_flags c.args.flags) _ _ c.in_ok-k.ensures.alive c.set_flags.ensures))
 
-pub check_flags-requires-clause-order : goal.check_flags-requires-clause-order
-check_flags-requires-clause-order c = sound_order _ c.self.invariant.sound
+pub check_flags-requires : goal.check_flags-requires
+check_flags-requires c = record { order = sound_order _ c.self.invariant.sound }
