@@ -1,1 +1,8 @@
 pub mod Chains
+pub mod Lists
+pub mod Readers
+pub mod KindLaws
+pub mod Orders
+pub mod Ties
+pub mod Checks
+pub mod CreationLaws

@@ -1,0 +1,178 @@
+-- From the table to its entries and back.
+use Rattle.std.proofs.Common.{◌≡◌, ℕ, ◌<◌, ◌≤◌, zero, suc, List, [], ◌∷◌, Option, Some, None, ◌⊎◌, inl, inr, refl, sym, ◌∙◌, ap, subst, length, arith, Bool, false, map}
+use Rattle.std.proofs.lemmas.Bool.{cases_eq}
+use Rattle.std.specs.List.{slice_get}
+use Rattle.std.specs.Option.{option_map, option_map_or}
+use Rattle.muck_model.specs.declared.dbref.Dbref.{Dbref}
+use Rattle.muck_live.specs.declared.object.Object.{Object}
+use Rattle.muck_live.specs.Chain.{walk, IsChain, Ends, Member, without, put_at}
+use Rattle.muck_live.specs.Objects.{Entry, dbref_of, list_in, place_in, path_in, number_in, changed_at, is_garbage, object_in, object_at, kind_in, fits_in, is_vehicle_in}
+use Rattle.muck_live.specs.Moving.{moved, with_place, move_check}
+use Rattle.muck_live.specs.Consistent.{MayMove, IsOrdered, IsConsistent, StandsIn}
+use Rattle.muck_live.specs.Seen.{listed_in}
+use Rattle.muck_live.proofs.Chains.{ends_from, walk_is, walk_next, walk_none, member_none, without_same}
+use Rattle.muck_live.proofs.Lists.{length_changed, length_map}
+use Rattle.muck_live.proofs.KindLaws.{standing_alive}
+use Rattle.muck_live.proofs.Orders.{ordered_moved, list_short}
+use Rattle.muck_live.proofs.Readers.{entries_ext, length_moved, list_moved, object_moved, object_unmoved, mark_moved, kind_moved}
+use Rattle.muck_db.specs.declared.slot.Slot.{Slot}
+use Rattle.muck_db.specs.Slots.{next_at, first_at, place_at, kind_at, path_at, is_exit_at, list_at, on_slot, dbrefs_from, entries_of, HasChains, HasOrder, IsSound, IsKept, IsUnlinked, IsLinked}
+use Rattle.muck_live.proofs.Ties.{consistent_moved}
+use Rattle.muck_db.proofs.Tables.{first-on_slot, next-on_slot, mark-on_slot, object-on_slot_same, object-on_slot_other}
+use Rattle.muck_db.proofs.Linked.{chain_at, chain_over}
+use Rattle.muck_db.proofs.Readers.{length-entries_of, object_in-entries_of, list_in-entries_of, place_in-entries_of, is_exit-entries_of, kind_in-entries_of, flags_in-entries_of, mark_in-entries_of}
+
+pub walk_same : (k : ℕ) (f g : ℕ → Option ℕ) (s : Option ℕ) → ((x : ℕ) → g x ≡ f x) → walk k g s ≡ walk k f s
+unfolding walk
+walk_same zero f g s h = refl
+walk_same (suc k) f g None h = refl
+walk_same (suc k) f g (Some x) h = rw (h x) (ap (λ t. x ∷ t) (walk_same k f g (f x) h))
+
+pub path_in-entries_of : (slots : List Slot) (k : ℕ) → path_in (entries_of slots) k ≡ path_at slots k
+unfolding path_in path_at
+path_in-entries_of slots k = rw (length-entries_of slots) (walk_same (length slots) (place_at slots) (place_in (entries_of slots)) (Some k) (place_in-entries_of slots))
+
+pub order_up : (slots : List Slot) → HasOrder slots → (k : ℕ) → k < length slots → Ends (length slots) (place_at slots) (Some k)
+unfolding Ends
+order_up slots s k lt =
+    let h : Ends (length (entries_of slots)) (place_in (entries_of slots)) (Some k) = s.ordered.up k (omega (arith, length-entries_of slots)) in
+    ends_from (length slots) (place_at slots) (Some k) (walk (length (entries_of slots)) (place_in (entries_of slots)) (Some k))
+    (chain_over (length (entries_of slots)) (length slots) (place_in (entries_of slots)) (place_at slots) (Some k) (Some k) _ _ (sym (length-entries_of slots)) refl refl (λ x m. sym (place_in-entries_of slots x)) h)
+
+pub order_chains : (slots : List Slot) → HasOrder slots → HasChains slots
+order_chains slots s = record {
+  ends = s.ends;
+  stands = λ v p d m.
+      let M : List ℕ → Type 0 = λ l. Member d l in
+      let t : StandsIn (entries_of slots) v p d = s.ordered.stands v p d (subst M (sym (list_in-entries_of v slots p)) m) in
+      record { place = sym (place_in-entries_of slots d) ∙ t.place; kind = sym (is_exit-entries_of slots d) ∙ t.kind };
+  listed = λ v p d t.
+      let M : List ℕ → Type 0 = λ l. Member d l in
+      subst M (list_in-entries_of v slots p) (s.ordered.listed v p d (record { place = place_in-entries_of slots d ∙ t.place; kind = is_exit-entries_of slots d ∙ t.kind }));
+}
+
+-- a number whose list has something is in the table
+pub list_within : (v : Bool) (slots : List Slot) (p d : ℕ) → Member d (list_at v slots p) → p < length slots
+unfolding list_at first_at
+list_within v slots p d m = elim (cases_within (slice_get slots p) refl) [ inl h ↦ h | inr e ↦ absurd (member_none (length slots) (next_at slots) (first_at v slots p) d (rw e refl) m) ]
+  where
+    within : (xs : List Slot) (k : ℕ) (x : Slot) → slice_get xs k ≡ Some x → k < length xs
+    within [] k x h = absurd (cc)
+    within (y ∷ ys) zero x h = omega arith
+    within (y ∷ ys) (suc k) x h = let r : k < length ys = within ys k x h in omega arith
+
+    cases_within : (o : Option Slot) → slice_get slots p ≡ o → (p < length slots) ⊎ (slice_get slots p ≡ None)
+    cases_within None e = inr e
+    cases_within (Some x) e = inl (within slots p x e)
+
+pub list_is : (v : Bool) (slots : List Slot) (p : ℕ) (xs : List ℕ) → IsChain (length slots) (next_at slots) (first_at v slots p) xs → list_at v slots p ≡ xs
+unfolding list_at
+list_is v slots p xs h = walk_is (length slots) (next_at slots) (first_at v slots p) xs h
+
+-- d stands nowhere already
+pub unlinked_none : (d : ℕ) (slots : List Slot) → HasChains slots → place_at slots d ≡ None → IsUnlinked d slots slots
+unlinked_none d slots h none = record {
+  same_length = refl;
+  same_objects = λ k. refl;
+  same_marks = λ k. refl;
+  chains = λ v p. chain_over _ _ _ _ _ _ _ _ refl refl (without_same d (list_at v slots p) (λ m. absurd (cc ((h.stands v p d m).place, none)))) (λ x m. refl) (chain_at slots h v p);
+}
+
+-- the object alone is written
+pub chain_on_slot : (n : ℕ) (f : Object → Object) (old mid new : List Slot) (v : Bool) (p : ℕ) (xs : List ℕ) → new ≡ changed_at n (on_slot f) mid
+    → IsChain (length mid) (next_at mid) (first_at v mid p) xs → IsChain (length new) (next_at new) (first_at v new p) xs
+chain_on_slot n f old mid new v p xs is_new h =
+    chain_over (length mid) (length new) (next_at mid) (next_at new) (first_at v mid p) (first_at v new p) xs xs
+    (rw is_new (length_changed mid n (on_slot f))) (rw is_new (first-on_slot v mid n p f)) refl (λ x m. rw is_new (next-on_slot mid n x f)) h
+
+pub placed_chain : (d : ℕ) (f : Object → Object) (old mid new : List Slot) → IsUnlinked d old mid → new ≡ changed_at d (on_slot f) mid
+    → (v : Bool) (p : ℕ) → IsChain (length new) (next_at new) (first_at v new p) (without d (list_at v old p))
+placed_chain d f old mid new u is_new v p = chain_on_slot d f old mid new v p (without d (list_at v old p)) is_new (u.chains v p)
+
+-- the three steps make the move
+pub entries_moved : (d to : ℕ) (w : Bool) (old mid placed new : List Slot) → is_exit_at old d ≡ w → to < length old → is_garbage (kind_at mid d) ≡ false → IsUnlinked d old mid → placed ≡ changed_at d (on_slot (with_place to)) mid → IsLinked w to d placed new
+    → entries_of new ≡ moved d to (entries_of old)
+entries_moved d to w old mid placed new exit lt alive u is_placed l =
+    let same_length : length new ≡ length old = l.same_length ∙ rw is_placed (length_changed mid d (on_slot (with_place to))) ∙ u.same_length in
+    entries_ext (entries_of new) (moved d to (entries_of old))
+    (length-entries_of new ∙ same_length ∙ sym (length-entries_of old) ∙ sym (length_moved (entries_of old) d to))
+    (λ k. object_in-entries_of new k ∙ l.same_objects k ∙ elim (cases_eq k d) [
+      | inl e ↦ rw (e, is_placed) (object-on_slot_same mid d (with_place to) alive) ∙ ap (λ (o : Option Object). option_map (with_place to) o) (u.same_objects d ∙ sym (object_in-entries_of old d)) ∙ rw e (sym (object_moved (entries_of old) d to))
+      | inr e ↦ rw is_placed (object-on_slot_other mid d k (with_place to) e) ∙ u.same_objects k ∙ sym (object_in-entries_of old k) ∙ sym (object_unmoved (entries_of old) d to k e)
+    ])
+    (λ v k. list_in-entries_of v new k ∙ list_is v new k _ (l.chains v k)
+    ∙ ap (λ t. put_at w to d v k t) (list_is v placed k (without d (list_at v old k)) (placed_chain d (with_place to) old mid placed u is_placed v k))
+    ∙ sym (rw (is_exit-entries_of old d, exit, list_in-entries_of v old k) at (list_moved v (entries_of old) d to k (omega (arith, length-entries_of old)))))
+    (λ k. mark_in-entries_of new k ∙ l.same_marks k ∙ rw is_placed (mark-on_slot mid d k (with_place to)) ∙ u.same_marks k ∙ sym (mark_in-entries_of old k) ∙ sym (mark_moved (entries_of old) d to k))
+
+pub order_moved : (d to : ℕ) (w : Bool) (old placed new : List Slot) → HasOrder old → MayMove (entries_of old) d to → IsLinked w to d placed new → entries_of new ≡ moved d to (entries_of old) → HasOrder new
+order_moved d to w old placed new s may l is = record {
+  ends = λ v p. ends_from (length new) (next_at new) (first_at v new p) (put_at w to d v p (list_at v placed p)) (l.chains v p);
+  ordered = let P : List Entry → Type 0 = λ z. IsOrdered z in subst P (sym is) (ordered_moved (entries_of old) d to may s.ordered);
+}
+
+pub ruleset kinds = (kind_in-entries_of, flags_in-entries_of, path_in-entries_of)
+
+-- the iterator over a list
+pub ends_none : (n : ℕ) (f : ℕ → Option ℕ) → Ends n f None
+unfolding Ends IsChain
+ends_none n f = let P : List ℕ → Type 0 = λ l. IsChain n f None l in subst P (sym (walk_none n f)) refl
+
+pub dbrefs_none : (slots : List Slot) → dbrefs_from slots None ≡ []
+unfolding dbrefs_from
+dbrefs_none slots = rw (walk_none (length slots) (next_at slots)) refl
+
+pub dbrefs_next : (slots : List Slot) (s t : Option ℕ) (x : ℕ) → s ≡ Some x → t ≡ next_at slots x → Ends (length slots) (next_at slots) s → dbrefs_from slots s ≡ dbref_of x ∷ dbrefs_from slots t
+unfolding dbrefs_from
+dbrefs_next slots s t x e to h = ap (λ (l : List ℕ). map dbref_of l) (walk_next (length slots) (next_at slots) s t x e to h)
+
+pub dbrefs_list : (v : Bool) (slots : List Slot) (k : ℕ) → dbrefs_from slots (first_at v slots k) ≡ map dbref_of (list_in v (entries_of slots) k)
+unfolding dbrefs_from list_at
+dbrefs_list v slots k = ap (λ (l : List ℕ). map dbref_of l) (sym (list_in-entries_of v slots k))
+
+pub listed_none : (v : Bool) (es : List Entry) (d : Dbref) → number_in es d ≡ None → listed_in v d es ≡ []
+unfolding listed_in
+listed_none v es d h = rw h refl
+
+pub listed_some : (v : Bool) (es : List Entry) (d : Dbref) (k : ℕ) → number_in es d ≡ Some k → listed_in v d es ≡ map dbref_of (list_in v es k)
+unfolding listed_in
+listed_some v es d k h = rw h refl
+
+
+pub sound_order : (slots : List Slot) → IsSound slots → HasOrder slots
+sound_order slots s = record { ends = s.ends; ordered = s.world.ordered }
+
+
+-- the kind of what an unlinking leaves
+pub unlinked_kind : (d k : ℕ) (old new : List Slot) → IsUnlinked d old new → kind_at new k ≡ kind_at old k
+unfolding kind_at
+unlinked_kind d k old new u = rw (u.same_objects k) refl
+
+-- what may move is alive
+pub moves_alive : (d to : ℕ) (old mid : List Slot) → MayMove (entries_of old) d to → IsUnlinked d old mid → is_garbage (kind_at mid d) ≡ false
+unfolding fits_in
+moves_alive d to old mid may u = rw (unlinked_kind d d old mid u, ← kind_in-entries_of old d) (standing_alive (kind_in (entries_of old) d) (kind_in (entries_of old) to) (is_vehicle_in (entries_of old) to) may.fits)
+
+pub seen_none : (es : List Entry) (d : Dbref) → number_in es d ≡ None → object_at d es ≡ None
+unfolding object_at
+seen_none es d h = rw h refl
+
+pub seen_some : (es : List Entry) (d : Dbref) (k : ℕ) → number_in es d ≡ Some k → object_at d es ≡ object_in es k
+unfolding object_at
+seen_some es d k h = rw h refl
+
+-- a move keeps the rule of the type
+pub kept_moved : (old new : List Slot) (d to lowest told : ℕ) → MayMove (entries_of old) d to → entries_of new ≡ moved d to (entries_of old) → HasOrder new → IsKept old lowest told → IsKept new lowest told
+kept_moved old new d to lowest told may is order kept = record {
+  sound = record { ends = order.ends; world = let P : List Entry → Type 0 = λ z. IsConsistent z in subst P (sym is) (consistent_moved (entries_of old) d to may kept.sound.world) };
+  full = λ k lt. rw (← kind_in-entries_of new k, is, kind_moved (entries_of old) d to k, kind_in-entries_of old k) (kept.full k lt);
+  unmarked = λ k lt. rw (← mark_in-entries_of new k, is, mark_moved (entries_of old) d to k, mark_in-entries_of old k) (kept.unmarked k lt);
+}
+
+pub listed_short : (es : List Entry) (v : Bool) (d : Dbref) → IsOrdered es → length (listed_in v d es) ≤ length es
+unfolding listed_in
+listed_short es v d c = by_cases (number_in es d)
+  where
+    by_cases : (o : Option ℕ) → length (option_map_or (λ n. map dbref_of (list_in v es n)) o []) ≤ length es
+    by_cases None = omega arith
+    by_cases (Some n) = omega (arith, length_map dbref_of (list_in v es n), list_short es v n c)

@@ -1,0 +1,5 @@
+pub mod Tables
+pub mod Linked
+pub mod Readers
+pub mod Bridge
+pub mod Writes

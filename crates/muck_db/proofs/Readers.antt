@@ -1,0 +1,68 @@
+-- What the readers of a table and of its entries give.
+use Rattle.std.proofs.Common.{◌≡◌, ℕ, suc, zero, List, [], ◌∷◌, Option, Some, None, refl, sym, ◌∙◌, ap, length, arith, Bool, true, false}
+use Rattle.std.proofs.lemmas.Option.{slice_get-map}
+use Rattle.std.specs.List.{slice_get}
+use Rattle.std.specs.Option.{option_map, option_and_then, option_map_or}
+use Rattle.muck_model.specs.declared.dbref.Flags.{Flags}
+use Rattle.muck_model.specs.declared.dbref.Kind.TheVariants.{Garbage}
+use Rattle.muck_live.specs.declared.object.Object.{Object}
+use Rattle.muck_live.specs.declared.mark.Mark.{Mark}
+use Rattle.muck_live.specs.Chain.{walk}
+use Rattle.muck_live.specs.Flags.{no_flags}
+use Rattle.muck_live.specs.Objects.{Entry, index_of, is_exit, object_in, list_of, list_in, place_in, kind_in, flags_in, mark_in}
+use Rattle.muck_live.proofs.Chains.{walk_none}
+use Rattle.muck_live.proofs.Lists.{length_map}
+use Rattle.muck_db.specs.declared.slot.Slot.{Slot}
+use Rattle.muck_db.specs.Slots.{shown, object_at, next_at, first_at, first_of, place_at, kind_at, flags_at, mark_at, is_exit_at, list_at, entry_of, entries_of}
+
+pub length-entries_of : (slots : List Slot) → length (entries_of slots) ≡ length slots
+unfolding entries_of
+length-entries_of slots = length_map (entry_of slots) slots
+
+object_by : (slots : List Slot) (o : Option Slot) → option_map (λ (e : Entry). e.object) (option_map (entry_of slots) o) ≡ option_map shown o
+unfolding entry_of
+object_by slots None = refl
+object_by slots (Some s) = refl
+
+pub object_in-entries_of : (slots : List Slot) (k : ℕ) → object_in (entries_of slots) k ≡ object_at slots k
+unfolding object_in object_at entries_of
+object_in-entries_of slots k = ap (λ (o : Option Entry). option_map (λ (e : Entry). e.object) o) (slice_get-map (entry_of slots) slots k) ∙ object_by slots (slice_get slots k)
+
+list_by : (v : Bool) (slots : List Slot) (o : Option Slot) → option_map_or (list_of v) (option_map (entry_of slots) o) [] ≡ walk (length slots) (next_at slots) (option_and_then (first_of v) o)
+unfolding entry_of
+list_by v slots None = sym (walk_none (length slots) (next_at slots))
+list_by true slots (Some s) = refl
+list_by false slots (Some s) = refl
+
+pub list_in-entries_of : (v : Bool) (slots : List Slot) (k : ℕ) → list_in v (entries_of slots) k ≡ list_at v slots k
+unfolding list_in list_at first_at entries_of
+list_in-entries_of v slots k = ap (λ (o : Option Entry). option_map_or (list_of v) o []) (slice_get-map (entry_of slots) slots k) ∙ list_by v slots (slice_get slots k)
+
+pub place_in-entries_of : (slots : List Slot) (k : ℕ) → place_in (entries_of slots) k ≡ place_at slots k
+unfolding place_in place_at
+place_in-entries_of slots k = ap (λ (o : Option Object). option_and_then (λ (x : Object). index_of x.place) o) (object_in-entries_of slots k)
+
+kind_by : (o : Option Object) → is_exit (option_map_or (λ (x : Object). x.kind) o Garbage) ≡ option_map_or (λ (x : Object). is_exit x.kind) o false
+kind_by None = refl
+kind_by (Some o) = refl
+
+pub is_exit-entries_of : (slots : List Slot) (k : ℕ) → is_exit (kind_in (entries_of slots) k) ≡ is_exit_at slots k
+unfolding kind_in is_exit_at
+is_exit-entries_of slots k = ap (λ (o : Option Object). is_exit (option_map_or (λ (x : Object). x.kind) o Garbage)) (object_in-entries_of slots k) ∙ kind_by (object_at slots k)
+
+mark_by : (slots : List Slot) (o : Option Slot) → option_and_then (λ (e : Entry). e.mark) (option_map (entry_of slots) o) ≡ option_and_then (λ (s : Slot). s.mark) o
+unfolding entry_of
+mark_by slots None = refl
+mark_by slots (Some s) = refl
+
+pub mark_in-entries_of : (slots : List Slot) (k : ℕ) → mark_in (entries_of slots) k ≡ mark_at slots k
+unfolding mark_in mark_at entries_of
+mark_in-entries_of slots k = ap (λ (o : Option Entry). option_and_then (λ (e : Entry). e.mark) o) (slice_get-map (entry_of slots) slots k) ∙ mark_by slots (slice_get slots k)
+
+pub kind_in-entries_of : (slots : List Slot) (k : ℕ) → kind_in (entries_of slots) k ≡ kind_at slots k
+unfolding kind_in kind_at
+kind_in-entries_of slots k = ap (λ (o : Option Object). option_map_or (λ (x : Object). x.kind) o Garbage) (object_in-entries_of slots k)
+
+pub flags_in-entries_of : (slots : List Slot) (k : ℕ) → flags_in (entries_of slots) k ≡ flags_at slots k
+unfolding flags_in flags_at
+flags_in-entries_of slots k = ap (λ (o : Option Object). option_map_or (λ (x : Object). x.flags) o no_flags) (object_in-entries_of slots k)

@@ -1,0 +1,13 @@
+//! The objects of the world: a table of slots, in which the contents and the exits of each object are a chain. Contracts
+//! see it as the entries of `muck_live`, and nothing of the chains.
+#![tactic(auto)]
+
+mod chain;
+mod db;
+mod links;
+mod moves;
+mod slot;
+
+pub use chain::Chain;
+pub use db::Db;
+pub use muck_live::{Changed, DbFault, Mark, Object};

@@ -1,0 +1,93 @@
+// The first objects.
+ghost use Rattle.std.specs.Prelude.{◌≡◌, [], ◌∷◌, IfOk, Some, None, codes};
+ghost use Rattle.muck_live.specs.Start.{room_zero, player_one};
+ghost use Rattle.muck_live.specs.Password.{digest_of, first_salt, first_password};
+ghost use Rattle.muck_db.specs.Slots.{first_slots};
+
+use crate::password::digest_text;
+use crate::slot::Slot;
+use muck_live::{Object, WIZARD};
+use muck_model::{Dbref, Flags, Kind, Line, LineList, NoMemory};
+use muck_prop::Props;
+use std::alloc::Global;
+
+fn text(alloc: Global, bytes: &[u8]) -> Result<Line, NoMemory>
+    ensures { IfOk result (λ line. line ≡ bytes.now) }
+{
+    match Line::new(alloc, bytes) {
+        Ok(line) => Ok(line),
+        Err(_) => Err(NoMemory),
+    }
+}
+
+// Room Zero, below which all rooms are.
+#[tactic(auto, unfolding(muck_live::specs::Start::room_zero))]
+fn room_zero(alloc: Global) -> Result<Object, NoMemory>
+    ensures { IfOk result (λ o. o ≡ room_zero) }
+{
+    Ok(Object {
+        kind: Kind::Room,
+        name: text(alloc, b"Room Zero")?,
+        owner: Dbref(1),
+        place: Dbref(-1),
+        link: Dbref(-1),
+        home: Dbref(-1),
+        flags: Flags(0),
+        level: 0,
+        props: Props::new(alloc)?,
+        lines: LineList::new(alloc)?,
+        digest: text(alloc, b"")?,
+    })
+}
+
+fn first_digest(alloc: Global) -> Result<Line, NoMemory>
+    ensures { IfOk result (λ line. line ≡ digest_of first_salt first_password) }
+{
+    match digest_text(alloc, &[0; 8], b"potrzebie") {
+        Ok(digest) => Ok(digest),
+        Err(_) => Err(NoMemory),
+    }
+}
+
+// One, who is a wizard.
+#[tactic(auto, unfolding(muck_live::specs::Start::player_one, muck_live::specs::Start::first_digest))]
+fn player_one(alloc: Global) -> Result<Object, NoMemory>
+    ensures { IfOk result (λ o. o ≡ player_one) }
+{
+    Ok(Object {
+        kind: Kind::Player,
+        name: text(alloc, b"One")?,
+        owner: Dbref(1),
+        place: Dbref(0),
+        link: Dbref(-1),
+        home: Dbref(0),
+        flags: Flags(WIZARD),
+        level: 0,
+        props: Props::new(alloc)?,
+        lines: LineList::new(alloc)?,
+        digest: first_digest(alloc)?,
+    })
+}
+
+// Room Zero, and One in it.
+#[tactic(auto, unfolding(crate::specs::Slots::first_slots))]
+pub fn first_slots(alloc: Global) -> Result<Vec<Slot>, NoMemory>
+    ensures { IfOk result (λ slots. slots.items ≡ first_slots) }
+{
+    let mut slots = Vec::new(alloc);
+    slots.push(Slot {
+        object: Some(room_zero(alloc)?),
+        first_content: Some(1),
+        first_exit: None,
+        next: None,
+        mark: None,
+    })?;
+    slots.push(Slot {
+        object: Some(player_one(alloc)?),
+        first_content: None,
+        first_exit: None,
+        next: None,
+        mark: None,
+    })?;
+    Ok(slots)
+}
