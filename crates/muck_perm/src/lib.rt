@@ -4,6 +4,7 @@
 mod levels;
 mod locks;
 mod rules;
+mod shown;
 
 pub use levels::{level, user};
 pub use rules::{Pass, verdict};
