@@ -45,3 +45,21 @@ vehicle = 1024
 
 abbrev pub wizard : ℕ
 wizard = 2048
+
+-- the flag of a letter; there are fourteen
+abbrev pub flag_of : ℕ → ℕ
+flag_of letter =
+    if letter == 65 then 1
+    else if letter == 66 then 2
+    else if letter == 67 then 4
+    else if letter == 68 then 8
+    else if letter == 72 then 16
+    else if letter == 74 then 32
+    else if letter == 75 then 64
+    else if letter == 76 then 128
+    else if letter == 81 then 256
+    else if letter == 83 then 512
+    else if letter == 86 then 1024
+    else if letter == 87 then 2048
+    else if letter == 88 then 4096
+    else 8192

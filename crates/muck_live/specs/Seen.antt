@@ -1,6 +1,7 @@
 -- What matching and locks see of the objects, and how an object is shown.
 use Rattle.std.specs.Prelude.{ℕ, ℤ, suc, ◌+◌, pos, negsuc, Bool, true, false, if◌then◌else◌, List, [], ◌∷◌, ◌++◌, map, length, Option, None, codes, decimal, zero}
 use Rattle.std.specs.Option.{option_map, option_map_or}
+use Rattle.std.specs.List.{filter}
 use Rattle.std.specs.FinMap.{get}
 use Rattle.std.specs.Str.{bytes_eq}
 use Rattle.muck_model.specs.declared.dbref.Dbref.{Dbref}
@@ -15,7 +16,7 @@ use Rattle.muck_match.specs.Scenery.{Sight, Scenery}
 use Rattle.muck_lock.specs.Opens.{Holdings}
 use Rattle.muck_live.specs.declared.object.Object.{Object}
 use Rattle.muck_live.specs.Chain.{walk}
-use Rattle.muck_live.specs.Flags.{has_flag}
+use Rattle.muck_live.specs.Flags.{has_flag, flag_of}
 use Rattle.muck_live.specs.Objects.{Entry, dbref_of, number_in, object_at, list_in, place_in}
 
 -- the list of contents, or of exits, of an object; that of what isn't there is empty
@@ -72,13 +73,8 @@ kind_letter Player = codes "P"
 kind_letter Program = codes "F"
 kind_letter kind = []
 
--- the letters of the flags whose values are from this one on
-abbrev pub letters_from : ℕ → List ℕ → Flags → List ℕ
-letters_from flag [] flags = []
-letters_from flag (letter ∷ letters) flags = (if has_flag flag flags then letter ∷ [] else []) ++ letters_from (flag + flag) letters flags
-
 unfoldable pub flag_letters : Flags → List ℕ
-flag_letters flags = letters_from 1 (codes "ABCDHJKLQSVWXZ") flags
+flag_letters flags = filter (λ letter. has_flag (flag_of letter) flags) (codes "ABCDHJKLQSVWXZ")
 
 abbrev pub level_letters : ℕ → List ℕ
 level_letters zero = []

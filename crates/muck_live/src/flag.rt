@@ -1,6 +1,6 @@
 // The flags by name.
 ghost use Rattle.std.specs.Prelude.{◌≡◌, ◌<◌};
-ghost use Rattle.muck_live.specs.Flags.{has_flag};
+ghost use Rattle.muck_live.specs.Flags.{has_flag, flag_of};
 
 use muck_model::Flags;
 
@@ -40,4 +40,27 @@ pub fn has_flag(flag: u16, flags: Flags) -> bool
     ensures { result ≡ has_flag flag flags }
 {
     flags.0 / flag % 2 == 1
+}
+
+/// The flag of one of the letters ABCDHJKLQSVWXZ, by the value of its bit.
+pub fn flag_of(letter: u8) -> u16
+    ensures value { result ≡ flag_of letter }
+    ensures some { 0 < result }
+{
+    match letter {
+        b'A' => 1,
+        b'B' => BUILDER,
+        b'C' => CHOWN,
+        b'D' => DARK,
+        b'H' => HAVEN,
+        b'J' => JUMP,
+        b'K' => 64,
+        b'L' => LINK,
+        b'Q' => QUELL,
+        b'S' => SETUID,
+        b'V' => VEHICLE,
+        b'W' => WIZARD,
+        b'X' => 4096,
+        _ => 8192,
+    }
 }

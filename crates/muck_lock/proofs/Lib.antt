@@ -10,3 +10,4 @@ pub mod Inside
 pub mod Kept
 pub mod Back
 pub mod Walks
+pub mod Texts

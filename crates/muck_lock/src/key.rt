@@ -41,7 +41,7 @@ pub fn key_end(text: &[u8]) -> usize
     first_end(text).unwrap_or(text.len())
 }
 
-fn colon(key: &[u8]) -> Option<usize>
+pub fn colon(key: &[u8]) -> Option<usize>
     ensures { result ≡ position is_colon key.now }
 {
     key.iter().position(|b| *b == b':')

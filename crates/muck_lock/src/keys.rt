@@ -75,7 +75,7 @@ fn carries_property<K: Keys>(keys: &K, path: &Line, value: &Line, x: Dbref) -> b
 }
 
 // Whether the key of an object opens for x.
-fn object_opens<K: Keys>(keys: &K, n: Dbref, x: Dbref) -> bool
+pub fn object_opens<K: Keys>(keys: &K, n: Dbref, x: Dbref) -> bool
     ensures { result ≡ object_opens (holdings (K.owners keys.now) (K.places keys.now) (K.contents keys.now) (K.has keys.now)) n x }
 {
     x == n

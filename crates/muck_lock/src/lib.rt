@@ -9,6 +9,7 @@ mod part;
 mod path;
 mod printer;
 mod reader;
+mod text;
 #[cfg(test)]
 mod tests;
 
@@ -18,3 +19,4 @@ pub use keys::{Keys, opens};
 pub use memory::{MemKeys, MemName, MemNames, MemObject, MemProp, NoNames};
 pub use printer::print;
 pub use reader::read;
+pub use text::{TextKeys, text_opens};

@@ -1,0 +1,80 @@
+// How objects are named to players.
+ghost use Rattle.std.specs.Prelude.{◌≡◌, ◌++◌, ◌∷◌, [], ◌<◌, IfOk, OnOk, codes, decimal, drop, length};
+ghost use Rattle.std.specs.List.{filter};
+ghost use Rattle.muck_live.specs.Flags.{has_flag, flag_of};
+ghost use Rattle.muck_live.specs.Objects.{object_at, number_in, index_of};
+ghost use Rattle.muck_live.specs.Seen.{kind_letter, flag_letters, level_letters, long_form};
+ghost use Rattle.muck_rights.specs.Levels.{command_level, controls_as, name_shown};
+
+use crate::levels::{MASTER, controls_as, level_at};
+use muck_db::Db;
+use muck_live::{Object, flag_of, has_flag};
+use muck_model::{Dbref, Flags, Kind, NoMemory};
+use std::alloc::Global;
+
+/// The letters of all flags, in their order.
+const LETTERS: &[u8] = b"ABCDHJKLQSVWXZ";
+
+// The letter of a kind, or none.
+fn kind_letter(kind: Kind) -> &'static [u8]
+    ensures { result.now ≡ kind_letter kind }
+{
+    match kind {
+        Kind::Room => b"R",
+        Kind::Exit => b"E",
+        Kind::Player => b"P",
+        Kind::Program => b"F",
+        Kind::Thing | Kind::Garbage => b"",
+    }
+}
+
+// The letters of the flags that are set.
+#[tactic(auto, unfolding(muck_live::specs::Seen::flag_letters))]
+fn add_flags(text: &mut Vec<u8>, flags: Flags) -> Result<(), NoMemory>
+    ensures { OnOk result (text.new.items ≡ text.old.items ++ flag_letters flags) }
+{
+    add_letters(text, LETTERS, flags)
+}
+
+// Those of these letters whose flags are set.
+fn add_letters(text: &mut Vec<u8>, letters: &[u8], flags: Flags) -> Result<(), NoMemory>
+    ensures { OnOk result (text.new.items ≡ text.old.items ++ filter (λ letter. has_flag (flag_of letter) flags) letters.now) }
+{
+    let mut rest = letters;
+    while let Some((letter, others)) = rest.split_first() {
+        if has_flag(flag_of(*letter), flags) {
+            text.push(*letter)?;
+        }
+        rest = others;
+    }
+    Ok(())
+}
+
+// `M` and the level, where it isn't 0.
+fn add_level(alloc: Global, text: &mut Vec<u8>, level: u8) -> Result<(), NoMemory>
+    ensures { OnOk result (text.new.items ≡ text.old.items ++ level_letters level) }
+{
+    if level == 0 {
+        return Ok(());
+    }
+    let letters = format!(in alloc; "M{level}")?;
+    text.extend_from_slice(letters.as_bytes())?;
+    Ok(())
+}
+
+/// The long form of an object of that number: its name, and in parentheses the number, the letter of its kind, those of
+/// its flags, and its level where it isn't 0.
+#[tactic(auto, unfolding(muck_live::specs::Seen::long_form))]
+pub fn long_form(alloc: Global, n: u32, object: &Object) -> Result<Vec<u8>, NoMemory>
+    ensures { IfOk result (λ text. text.items ≡ long_form n object.now) }
+{
+    let mut text = Vec::new(alloc);
+    text.extend_from_slice(object.name().as_slice())?;
+    let number = format!(in alloc; "(#{n}")?;
+    text.extend_from_slice(number.as_bytes())?;
+    text.extend_from_slice(kind_letter(object.kind()))?;
+    add_flags(&mut text, object.flags())?;
+    add_level(alloc, &mut text, object.level())?;
+    text.push(b')')?;
+    Ok(text)
+}
