@@ -1,6 +1,6 @@
 // Levels, users and control.
 ghost use Rattle.std.specs.Prelude.{◌≡◌, ◌<◌, ◌≤◌, ◌==◌, min, nat_lt, length};
-ghost use Rattle.muck_rights.specs.Levels.{level_of, level_at, owner_at, flag_at, is_player_at, owns, controls_as, effective, inherits, level, own_user, user};
+ghost use Rattle.muck_rights.specs.Levels.{level_of, level_at, owner_at, flag_at, is_player_at, owns, controls_as, command_level, effective, inherits, level, own_user, user};
 
 use muck_db::Db;
 use muck_live::{HAVEN, Object, QUELL, SETUID, WIZARD, has_flag};
@@ -95,6 +95,14 @@ pub fn effective(db: &Db, program: Dbref) -> u8
     ensures { result ≡ effective db.now program }
 {
     level_at(db, program).min(level_at(db, owner_at(db, program)))
+}
+
+/// The level at which a command acts: the highest where its player is a wizard, and else 1.
+#[tactic(auto, unfolding(muck_rights::specs::Levels::command_level))]
+pub fn command_level(db: &Db, player: Dbref) -> u8
+    ensures { result ≡ command_level db.now player }
+{
+    if level_at(db, player) >= MASTER { MASTER } else { 1 }
 }
 
 // Whether a program has the level and the user of the one that called it.

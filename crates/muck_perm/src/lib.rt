@@ -2,9 +2,7 @@
 #![tactic(auto)]
 
 mod levels;
-mod locks;
-mod rules;
 mod shown;
 
-pub use levels::{level, user};
-pub use rules::{Pass, verdict};
+pub use levels::{MASTER, command_level, controls_as, level, user};
+pub use shown::{long_form, name_shown};

@@ -2,11 +2,12 @@
 ghost use Rattle.std.specs.Prelude.{◌≡◌, ◌++◌, ◌∷◌, [], ◌<◌, IfOk, OnOk, codes, decimal, drop, length};
 ghost use Rattle.std.specs.List.{filter};
 ghost use Rattle.muck_live.specs.Flags.{has_flag, flag_of};
-ghost use Rattle.muck_live.specs.Objects.{object_at, number_in, index_of};
+ghost use Rattle.muck_live.specs.Objects.{object_at, index_of};
+ghost use Rattle.muck_live.specs.Lives.{Live};
 ghost use Rattle.muck_live.specs.Seen.{kind_letter, flag_letters, level_letters, long_form};
-ghost use Rattle.muck_rights.specs.Levels.{command_level, controls_as, name_shown};
+ghost use Rattle.muck_rights.specs.Levels.{number_of, shown_as, name_shown};
 
-use crate::levels::{MASTER, controls_as, level_at};
+use crate::levels::{command_level, controls_as};
 use muck_db::Db;
 use muck_live::{Object, flag_of, has_flag};
 use muck_model::{Dbref, Flags, Kind, NoMemory};
@@ -76,5 +77,32 @@ pub fn long_form(alloc: Global, n: u32, object: &Object) -> Result<Vec<u8>, NoMe
     add_flags(&mut text, object.flags())?;
     add_level(alloc, &mut text, object.level())?;
     text.push(b')')?;
+    Ok(text)
+}
+
+// The number that is written behind a name.
+fn number_of(d: Dbref) -> u32
+    ensures { result ≡ number_of d }
+{
+    if d.0 < 0 { 0 } else { d.0 as u32 }
+}
+
+/// The name of an object as a player sees it: its long form where the player controls it. What isn't there has none.
+#[tactic(auto, unfolding(muck_rights::specs::Levels::name_shown))]
+pub fn name_shown(
+    alloc: Global,
+    db: &Db,
+    player: Dbref,
+    d: Dbref,
+) -> Result<Vec<u8>, NoMemory>
+    ensures { IfOk result (λ text. (w : Live) → w.objects ≡ db.now → text.items ≡ name_shown player d w) }
+{
+    let mut text = Vec::new(alloc);
+    if let Some(object) = db.get(d) {
+        if controls_as(db, command_level(db, player), player, d) {
+            return long_form(alloc, number_of(d), object);
+        }
+        text.extend_from_slice(object.name().as_slice())?;
+    }
     Ok(text)
 }

@@ -4,7 +4,7 @@ use Rattle.std.specs.Option.{option_map_or}
 use Rattle.muck_model.specs.declared.dbref.Dbref.{Dbref}
 use Rattle.muck_live.specs.declared.object.Object.{Object}
 use Rattle.muck_live.specs.Flags.{has_flag, wizard, quell, setuid, haven}
-use Rattle.muck_live.specs.Objects.{Entry, nothing, same, is_player, number_in, object_at}
+use Rattle.muck_live.specs.Objects.{Entry, nothing, same, is_player, index_of, object_at}
 use Rattle.muck_live.specs.Seen.{long_form}
 use Rattle.muck_live.specs.Lives.{Live}
 
@@ -43,9 +43,16 @@ controls_as es level user d = nat_le master level || owns es user d
 unfoldable pub command_level : List Entry → Dbref → ℕ
 command_level es player = if nat_le master (level_at es player) then master else 1
 
+-- the number that is written behind a name
+abbrev pub number_of : Dbref → ℕ
+number_of d = unwrap_or (index_of d) 0
+
+abbrev pub shown_as : List Entry → Dbref → Dbref → Object → List ℕ
+shown_as es player d o = if controls_as es (command_level es player) player d then long_form (number_of d) o else o.name
+
 -- the name of an object as a player sees it: the long form where it controls the object
 unfoldable pub name_shown : Dbref → Dbref → Live → List ℕ
-name_shown player d w = option_map_or (λ o. option_map_or (λ n. if controls_as w.objects (command_level w.objects player) player d then long_form n o else o.name) (number_in w.objects d) []) (object_at d w.objects) []
+name_shown player d w = option_map_or (shown_as w.objects player d) (object_at d w.objects) []
 
 -- Programs.
 
