@@ -1,5 +1,5 @@
 -- Lists of numbers, and places that lead upward.
-use Rattle.std.specs.Prelude.{◌≡◌, ℕ, ◌<◌, ◌==◌, zero, suc, if◌then◌else◌, Bool, List, [], ◌∷◌, Option, Some, None, ◌⊎◌}
+use Rattle.std.specs.Prelude.{◌≡◌, ℕ, ◌<◌, ◌==◌, zero, suc, if◌then◌else◌, Bool, true, false, List, [], ◌∷◌, Option, Some, None, ◌⊎◌}
 use Rattle.std.specs.List.{list_any}
 
 -- the numbers met in at most so many steps, where each number has a next one or none
@@ -41,3 +41,12 @@ follower d (x ∷ xs) = if x == d then first_of xs else follower d xs
     first_of : List ℕ → Option ℕ
     first_of [] = None
     first_of (y ∷ ys) = Some y
+
+abbrev pub is_same : Bool → Bool → Bool
+is_same true b = b
+is_same false true = false
+is_same false false = true
+
+-- d stands in front of the list of exits, or of contents, of `to`, seen at the list xs of p
+unfoldable pub put_at : Bool → ℕ → ℕ → Bool → ℕ → List ℕ → List ℕ
+put_at exits to d which p xs = if is_same which exits then (if p == to then d ∷ xs else xs) else xs

@@ -96,6 +96,9 @@ list_of exits e = if exits then e.exits else e.contents
 unfoldable pub list_in : Bool → List Entry → ℕ → List ℕ
 list_in exits es k = option_map_or (list_of exits) (slice_get es k) []
 
+unfoldable pub mark_in : List Entry → ℕ → Option Mark
+mark_in es k = option_and_then (λ e. e.mark) (slice_get es k)
+
 unfoldable pub kind_in : List Entry → ℕ → Kind
 kind_in es k = option_map_or (λ o. o.kind) (object_in es k) Garbage
 
