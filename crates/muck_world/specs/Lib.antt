@@ -3,6 +3,8 @@ pub mod World
 pub mod Levels
 pub mod Verdict
 pub mod Licence
+pub mod Changing
+pub mod Asking
 pub mod Talk
 pub mod Steps
 pub mod Histories
