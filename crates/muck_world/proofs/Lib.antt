@@ -5,3 +5,8 @@ pub mod Numbered
 pub mod Lines
 pub mod Reached
 pub mod Runs
+pub mod Lookups
+pub mod Rights
+pub mod Licences
+pub mod Shown
+pub mod Allowed
