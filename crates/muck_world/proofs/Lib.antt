@@ -10,3 +10,5 @@ pub mod Rights
 pub mod Licences
 pub mod Shown
 pub mod Allowed
+pub mod Changes
+pub mod Bits

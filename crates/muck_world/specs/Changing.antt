@@ -1,5 +1,6 @@
 -- The changes of the live world of which commands and programs are made, one field each.
-use Rattle.std.specs.Prelude.{ℕ, min, if◌then◌else◌, List, Result, Ok, Err}
+use Rattle.std.specs.Prelude.{ℕ, min, Bool, ◌==◌, if◌then◌else◌, List, [], ◌∷◌, Result, Ok, Err}
+use Rattle.std.specs.List.{list_any}
 use Rattle.std.specs.Option.{option_map_or}
 use Rattle.rand_pcg.specs.Lcg.{Lcg}
 use Rattle.muck_model.specs.declared.dbref.Dbref.{Dbref}
@@ -43,6 +44,14 @@ linked x to = on_found x (with_link to)
 -- the new home is there
 unfoldable pub homed : Dbref → Dbref → Change
 homed x to = on_objects (λ es. found to (λ t. found x (set_at (with_home to))) es)
+
+-- the values of the bits of flags
+abbrev pub flag_values : List ℕ
+flag_values = 1 ∷ 2 ∷ 4 ∷ 8 ∷ 16 ∷ 32 ∷ 64 ∷ 128 ∷ 256 ∷ 512 ∷ 1024 ∷ 2048 ∷ 4096 ∷ 8192 ∷ []
+
+-- one flag
+abbrev pub is_flag : Flags → Bool
+is_flag flag = list_any (λ value. value == flag.0) flag_values
 
 unfoldable pub flag_set : Dbref → Flags → Change
 flag_set x flag = on_found x (λ o. with_flags (with_flag flag.0 o.flags) o)
