@@ -34,7 +34,7 @@ use Rattle.muck_world.proofs.Allowed.{rename_allowed, write_allowed, change_allo
 
 -- Where f is done to one object, R holds of all.
 
-rows_number : (R : Dbref → Object → Object → Type 0) → ((y : Dbref) (o : Object) → R y o o) → (x : Dbref) (f : Object → Object) → ((o : Object) → (f o).kind ≡ o.kind) → ((o : Object) → R x o (f o)) →
+pub rows_number : (R : Dbref → Object → Object → Type 0) → ((y : Dbref) (o : Object) → R y o o) → (x : Dbref) (f : Object → Object) → ((o : Object) → (f o).kind ≡ o.kind) → ((o : Object) → R x o (f o)) →
     (es : List Entry) (g : ℕ → List Entry → List Entry) → ((m : ℕ) → object_in (g m es) m ≡ option_map f (object_in es m)) → ((m k : ℕ) → (k ≡ m → ⊥) → object_in (g m es) k ≡ object_in es k) →
     (n : ℕ) (q : Option ℕ) → number_in es x ≡ q → Row (R (dbref_of n)) (object_at (dbref_of n) es) (object_at (dbref_of n) (option_map_or (λ m. g m es) q es))
 rows_number R same x f kinds h es g here there n None e = row_same (R (dbref_of n)) (same (dbref_of n)) (object_at (dbref_of n) es)
@@ -60,13 +60,13 @@ rows_lined R same x lines h es n = rows_number R same x (λ o. record o { lines 
 
 -- Worlds in which the objects alone differ.
 
-stay_objects : (j : Judge) (w v : Live) → v.board ≡ w.board → ((n : ℕ) → Row (Kept j (dbref_of n)) (object_at (dbref_of n) w.objects) (object_at (dbref_of n) v.objects)) → Stay j w v
+pub stay_objects : (j : Judge) (w v : Live) → v.board ≡ w.board → ((n : ℕ) → Row (Kept j (dbref_of n)) (object_at (dbref_of n) w.objects) (object_at (dbref_of n) v.objects)) → Stay j w v
 stay_objects j w v b rows =
     let T : Board → Type 0 = λ t. SameTies j.actor w.board.connections t.connections in
     let U : Board → Type 0 = λ t. Open (λ tune. is_master j.actor) w.board.tune t.tune in
     record { rows = rows; ties = subst T (sym b) (ties_itself j.actor w.board.connections); tune = subst U (sym b) (inl refl) }
 
-differs_row : (j : Judge) (x : Dbref) (o p : Option Object) → Row (Changed j x) o p → Differs j x o p
+pub differs_row : (j : Judge) (x : Dbref) (o p : Option Object) → Row (Changed j x) o p → Differs j x o p
 differs_row j x None None r = r
 differs_row j x None (Some p) r = absurd r
 differs_row j x (Some o) None r = absurd r

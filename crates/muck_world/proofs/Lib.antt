@@ -12,3 +12,6 @@ pub mod Shown
 pub mod Allowed
 pub mod Changes
 pub mod Bits
+pub mod Places
+pub mod Leaving
+pub mod Makings
