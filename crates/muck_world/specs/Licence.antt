@@ -10,7 +10,8 @@ use Rattle.muck_model.specs.declared.dbref.Kind.TheVariants.{Room, Thing, Exit, 
 use Rattle.muck_prop.specs.Paths.{class_of}
 use Rattle.muck_live.specs.declared.object.Object.{Object}
 use Rattle.muck_live.specs.Flags.{has_flag, no_flags, builder, jump, link, wizard}
-use Rattle.muck_live.specs.Objects.{Entry, dbref_of, nothing, home, same, is_player, is_exit, object_at}
+use Rattle.muck_live.specs.Objects.{Entry, dbref_of, nothing, home, same, index_of, is_player, is_exit, kind_in, object_at}
+use Rattle.muck_live.specs.Recycling.{wished_home}
 use Rattle.muck_live.specs.Seen.{listed_in}
 use Rattle.muck_live.specs.Connections.{Connection}
 use Rattle.muck_live.specs.Lives.{Live}
@@ -51,10 +52,9 @@ is_gone j x = option_map_or (same x) j.gone false
 abbrev pub is_emptied : Judge → Dbref → Bool
 is_emptied j x = option_map_or (λ d. list_any (same x) (listed_in false d j.objects)) j.gone false
 
--- where such an object goes: `#0`, its home, or a program to its owner's home
-abbrev pub is_way_home : Judge → Dbref → Dbref → Kind → Bool
-is_way_home j x to Program = same to (dbref_of 0) || same to (home_of j (owner_at j.objects x))
-is_way_home j x to kind = same to (dbref_of 0) || same to (home_of j x)
+-- where such an object goes: to `#0`, or where it wishes to be sent home
+abbrev pub is_way_home : Judge → Dbref → Dbref → Bool
+is_way_home j x to = same to (dbref_of 0) || option_map_or (λ n. option_map_or (λ t. same to (dbref_of t)) (wished_home n j.objects (kind_in j.objects n)) false) (index_of x) false
 
 -- What is open to the actor, a row for each field, by what stands there now.
 
@@ -69,7 +69,7 @@ property_open j x path =
 
 abbrev pub place_open : Judge → Dbref → Dbref → Bool
 place_open j x to =
-    j.free x || ((is_emptied j x && is_way_home j x to (kind_of j x))
+    j.free x || ((is_emptied j x && is_way_home j x to)
     || ((nat_le 3 j.actor.level || owned j x) && (same to (home_of j x) || (nat_le 3 j.actor.level || controls_or jump j.objects j.actor to))))
 
 abbrev pub link_open : Judge → Dbref → Dbref → Bool
