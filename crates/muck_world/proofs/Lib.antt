@@ -15,3 +15,4 @@ pub mod Bits
 pub mod Places
 pub mod Leaving
 pub mod Makings
+pub mod Recycled
