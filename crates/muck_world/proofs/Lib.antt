@@ -16,3 +16,5 @@ pub mod Places
 pub mod Leaving
 pub mod Makings
 pub mod Recycled
+pub mod Permitted
+pub mod Examples

@@ -15,7 +15,7 @@ use Rattle.muck_world.specs.declared.act.Actor.{Actor}
 use Rattle.muck_world.specs.declared.act.Act.{Act}
 use Rattle.muck_world.specs.Verdict.{is_master, verdict}
 use Rattle.muck_world.specs.Licence.{Open, Judge, owned, name_open, property_open, place_open, link_open, home_open, level_open, lines_open, owner_open, Changed, IsNew, Differs, leave_open, SameTies, may_recycle, Licensed}
-use Rattle.muck_world.specs.Asking.{answered, asked, provided}
+use Rattle.muck_world.specs.Asking.{answered, asked, provided, ended, world_of}
 use Rattle.muck_world.proofs.Lookups.{Row, row_same, row_both}
 use Rattle.muck_world.proofs.Rights.{rights, SameRights, same_itself}
 
@@ -309,6 +309,10 @@ unfolding either
 ends_either out a free given true f g p q = record { law = p.law }
 ends_either out a free given false f g p q = record { law = q.law }
 
+pub ends_ended : {X : Type 0} (a : Actor) (free : Dbref → Bool) (given : Option Act) (answer : X) (f : Change) → Ends itself a free given f → Ends world_of a free given (ended answer f)
+unfolding ended
+ends_ended a free given answer f p = record { law = p.law }
+
 ends_answered : {Y : Type 0} (out : Y → Live) (a : Actor) (free : Dbref → Bool) (act : Act) (refuse : Denial → Live → Y) (go : Live → Y) (start : List Entry) (w : Live) →
     ((d : Denial) → Ends out a free None (refuse d)) → Ends out a free (Some act) go → SameRights start w.objects →
     (v : Option Denial) → verdict w.objects a act ≡ v → End (judge a free start) w (out (answered v refuse go w))
@@ -379,6 +383,10 @@ pub whole_either : {Y : Type 0} (out : Y → Live) (a : Actor) (own : Option ℕ
 unfolding either
 whole_either out a own free given true f g p q = record { law = p.law }
 whole_either out a own free given false f g p q = record { law = q.law }
+
+pub whole_ended : {X : Type 0} (a : Actor) (own : Option ℕ) (free : List Entry → Dbref → Bool) (given : Option Act) (answer : X) (f : Change) → Whole itself a own free given f → Whole world_of a own free given (ended answer f)
+unfolding ended
+whole_ended a own free given answer f p = record { law = p.law }
 
 whole_answered : {Y : Type 0} (out : Y → Live) (a : Actor) (own : Option ℕ) (free : List Entry → Dbref → Bool) (act : Act) (refuse : Denial → Live → Y) (go : Live → Y) (w : Live) →
     ((denial : Denial) → Whole out a own free None (refuse denial)) → Whole out a own free (Some act) go → Own own w a →

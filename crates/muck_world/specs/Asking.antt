@@ -25,3 +25,10 @@ refused d denial = tell d (denied_text denial)
 -- go, where the test holds of the objects as they stand; else refuse
 unfoldable pub provided : {Y : Type 0} → (List Entry → Bool) → (Live → Y) → (Live → Y) → Live → Y
 provided test refuse go w = if test w.objects then go w else refuse w
+
+-- what is answered beside the world
+unfoldable pub ended : {X : Type 0} → X → Change → Live → Live × X
+ended answer f w = (f w, answer)
+
+abbrev pub world_of : {X : Type 0} → Live × X → Live
+world_of p = p.0
