@@ -221,6 +221,14 @@ unfolding either
 quiet_either true f g p q = p
 quiet_either false f g p q = q
 
+pub quiet_provided : (test : List Entry → Bool) (refuse go : Change) → Quiet refuse → Quiet go → Quiet (provided test refuse go)
+unfolding provided
+quiet_provided test refuse go p q = record {
+  objects = λ w. elim (test w.objects) as (λ b. (cond b (go w) (refuse w)).objects ≡ w.objects) [ true ↦ q.objects w | false ↦ p.objects w ];
+  ties = λ w. elim (test w.objects) as (λ b. ties (cond b (go w) (refuse w)).board.connections ≡ ties w.board.connections) [ true ↦ q.ties w | false ↦ p.ties w ];
+  tune = λ w. elim (test w.objects) as (λ b. (cond b (go w) (refuse w)).board.tune ≡ w.board.tune) [ true ↦ q.tune w | false ↦ p.tune w ];
+}
+
 -- Changes no right.
 
 pub stays_quiet : (a : Actor) (free : Dbref → Bool) (given : Option Act) (f : Change) → Quiet f → Stays a free given f
@@ -250,6 +258,12 @@ pub stays_either : (a : Actor) (free : Dbref → Bool) (given : Option Act) (b :
 unfolding either
 stays_either a free given true f g p q = p
 stays_either a free given false f g p q = q
+
+pub stays_provided : (a : Actor) (free : Dbref → Bool) (given : Option Act) (test : List Entry → Bool) (refuse go : Change) → Stays a free given refuse → Stays a free given go → Stays a free given (provided test refuse go)
+unfolding provided
+stays_provided a free given test refuse go p q = record {
+  law = λ start w s h. elim (test w.objects) as (λ b. Stay (judge a free start) w (cond b (go w) (refuse w))) [ true ↦ q.law start w s h | false ↦ p.law start w s h ];
+}
 
 stays_answered : (a : Actor) (free : Dbref → Bool) (act : Act) (refuse : Denial → Change) (go : Change) (start : List Entry) (w : Live) →
     ((d : Denial) → Stays a free None (refuse d)) → Stays a free (Some act) go → SameRights start w.objects →
@@ -308,6 +322,12 @@ pub ends_either : {Y : Type 0} (out : Y → Live) (a : Actor) (free : Dbref → 
 unfolding either
 ends_either out a free given true f g p q = record { law = p.law }
 ends_either out a free given false f g p q = record { law = q.law }
+
+pub ends_provided : {Y : Type 0} (out : Y → Live) (a : Actor) (free : Dbref → Bool) (given : Option Act) (test : List Entry → Bool) (refuse go : Live → Y) → Ends out a free given refuse → Ends out a free given go → Ends out a free given (provided test refuse go)
+unfolding provided
+ends_provided out a free given test refuse go p q = record {
+  law = λ start w s h. elim (test w.objects) as (λ b. End (judge a free start) w (out (cond b (go w) (refuse w)))) [ true ↦ q.law start w s h | false ↦ p.law start w s h ];
+}
 
 pub ends_ended : {X : Type 0} (a : Actor) (free : Dbref → Bool) (given : Option Act) (answer : X) (f : Change) → Ends itself a free given f → Ends world_of a free given (ended answer f)
 unfolding ended

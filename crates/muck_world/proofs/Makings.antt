@@ -149,12 +149,9 @@ program_new : (a : Actor) (free : Dbref → Bool) (start : List Entry) (name : L
 unfolding new_object
 program_new a free start name level k t b h = record { kind = and_three _ _ _ (same_eq a.user a.user refl) b h; flags = refl; link = refl }
 
-and_two : (b c : Bool) → b ≡ true → c ≡ true → (b && c) ≡ true
-and_two b c e f = rw (e, f) refl
-
 player_new : (a : Actor) (free : Dbref → Bool) (start : List Entry) (name : List ℕ) (salt : ℕ) (word : List ℕ) (k t : ℕ) → is_master a ≡ true → IsNew (judge a free start) (dbref_of k) (new_in Player name nothing (with_password salt word) k t)
 unfolding new_object
-player_new a free start name salt word k t h = record { kind = and_two _ _ h (same_eq (dbref_of k) (dbref_of k) refl); flags = refl; link = refl }
+player_new a free start name salt word k t h = record { kind = and_three _ _ _ h refl (same_eq (dbref_of k) (dbref_of k) refl); flags = refl; link = refl }
 
 pub ends_room_made : (a : Actor) (free : Dbref → Bool) (name : List ℕ) (place : Dbref) → Ends itself a free (Some (NewRoom place)) (room_made name a.user place)
 unfolding room_made

@@ -125,7 +125,7 @@ abbrev pub builds : Judge → Bool
 builds j = nat_le 3 j.actor.level || flag_at builder j.objects j.actor.user
 
 abbrev pub new_open : Judge → Dbref → Object → Kind → Bool
-new_open j x new Player = is_master j.actor && same new.owner x
+new_open j x new Player = is_master j.actor && (new.level == 0 && same new.owner x)
 new_open j x new Program = same new.owner j.actor.user && (nat_le 1 (level_at j.objects j.actor.user) && nat_le new.level (level_at j.objects j.actor.user))
 new_open j x new Room = same new.owner j.actor.user && (builds j && (new.level == 0 && controls_or link j.objects j.actor new.place))
 new_open j x new Thing = same new.owner j.actor.user && (builds j && (new.level == 0 && (nat_le 3 j.actor.level || controls_or jump j.objects j.actor new.place)))
