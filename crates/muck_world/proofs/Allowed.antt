@@ -16,11 +16,10 @@ use Rattle.muck_prop.specs.declared.path.Class.{Class}
 use Rattle.muck_prop.specs.declared.path.Class.TheVariants.{At, Tilde, Dot, Underscore, Plain}
 use Rattle.muck_prop.specs.Paths.{class_of}
 use Rattle.muck_world.specs.declared.act.Actor.{Actor}
-use Rattle.muck_world.specs.declared.act.Act.{Act}
 use Rattle.muck_world.specs.declared.act.Act.TheVariants.{Write, Move, Link, NewRoom, NewThing, NewExit, NewProgram, Edit, Change, Rename, Password, Wizard, SetFlag, SetLevel, Recycle, SetOwner}
 use Rattle.muck_world.specs.declared.rule.Rule.{Rule}
 use Rattle.muck_world.specs.declared.rule.Rule.TheVariants.{P3, P4, P6, P7, P8, P9, P12, P13, P14, P15, P16, P17, P18, P19, P20, P21, P22}
-use Rattle.muck_world.specs.Levels.{level_at, is_player_at, flag_at, owner_at}
+use Rattle.muck_world.specs.Levels.{level_at, is_player_at, flag_at}
 use Rattle.muck_world.specs.Verdict.{verdict, below, or_else, denial, when, is_master, controls, controls_or, open_place, open_target, is_program_at, may_take_over, may_build, is_hidden, is_kept, is_guarded, is_plain}
 use Rattle.muck_world.specs.Licence.{Judge, name_open, property_open, place_open, link_open, home_open, level_open, level_open_to, lines_open, owner_open, home_of, kind_of}
 use Rattle.muck_world.specs.Changing.{home_at}

@@ -1,6 +1,6 @@
 -- Each change of an object that was there keeps to the licence.
 use Rattle.std.proofs.Common.{◌≡◌, ℕ, Bool, true, false, cond, List, refl, sym, ◌∙◌, ap, subst, Option, Some, None, inl, inr}
-use Rattle.std.specs.Prelude.{◌||◌, ◌&&◌, not, slice_get}
+use Rattle.std.specs.Prelude.{◌&&◌, not, slice_get}
 use Rattle.std.specs.Option.{option_map, option_map_or}
 use Rattle.std.specs.Ordering.{eq_by_cmp}
 use Rattle.std.specs.Cmp.{Equal-is}
@@ -14,22 +14,20 @@ use Rattle.muck_prop.specs.Store.{PropMap, is_nothing, stored as put}
 use Rattle.muck_prop.proofs.Maps.{path_cmp_same}
 use Rattle.muck_live.specs.declared.object.Object.{Object}
 use Rattle.muck_live.specs.Flags.{has_flag, with_flag, without_flag, wizard}
-use Rattle.muck_live.specs.Objects.{Entry, dbref_of, object_in, number_in, object_at, changed_at, on_object}
-use Rattle.muck_live.specs.Setting.{set_at, with_name, with_owner, with_link, with_home, with_flags, with_level, with_lines, lines_set, with_password, with_prop, without_prop}
+use Rattle.muck_live.specs.Objects.{Entry, dbref_of, object_in, number_in, object_at, changed_at}
+use Rattle.muck_live.specs.Setting.{set_at, with_name, with_owner, with_link, with_flags, with_level, with_lines, lines_set, with_password, with_prop, without_prop}
 use Rattle.muck_live.specs.Boards.{Board}
-use Rattle.muck_live.specs.Lives.{Live, Change as LiveChange, on_objects}
+use Rattle.muck_live.specs.Lives.{Live}
 use Rattle.muck_live.proofs.Lists.{get_changed_same}
 use Rattle.muck_live.proofs.Readers.{object_changed, object_unchanged, object_elsewhere}
 use Rattle.muck_world.specs.declared.act.Actor.{Actor}
-use Rattle.muck_world.specs.declared.act.Act.{Act}
 use Rattle.muck_world.specs.declared.act.Act.TheVariants.{Write, Link, Edit, Change, Rename, Password, SetFlag, SetLevel, SetOwner}
 use Rattle.muck_world.specs.Verdict.{is_master, controls, is_guarded}
 use Rattle.muck_world.specs.Changing.{found, on_found, named, owned_by, linked, is_flag, flag_set, flag_cleared, leveled, lines_kept, password_kept, stored, unstored}
 use Rattle.muck_world.specs.Licence.{Open, Judge, Changed, Differs, SameTies, name_open, property_open, link_open, level_open, lines_open, owner_open}
 use Rattle.muck_world.proofs.Lookups.{Row, row_same, rows_changed, number_is}
-use Rattle.muck_world.proofs.Rights.{SameRights, rights}
 use Rattle.muck_world.proofs.Bits.{wizard_stays_set, wizard_stays_cleared}
-use Rattle.muck_world.proofs.Licences.{judge, changed_same, Kept, kept_same, Stay, End, Stays, Ends, Given, itself, ties_itself}
+use Rattle.muck_world.proofs.Licences.{judge, changed_same, Kept, kept_same, Stay, End, Stays, Ends, itself, ties_itself}
 use Rattle.muck_world.proofs.Allowed.{rename_allowed, write_allowed, change_allowed, link_allowed, flag_allowed, level_allowed, owner_allowed, edit_allowed, password_allowed}
 
 -- Where f is done to one object, R holds of all.

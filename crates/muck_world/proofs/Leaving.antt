@@ -1,13 +1,13 @@
 -- Connections that leave, and what is tuned.
-use Rattle.std.proofs.Common.{◌≡◌, ℕ, Bool, true, false, cond, List, [], ◌∷◌, refl, sym, ◌∙◌, ap, subst, Option, Some, None, inl, inr}
-use Rattle.std.specs.Prelude.{map, find, ◌||◌}
+use Rattle.std.proofs.Common.{◌≡◌, ℕ, Bool, true, false, cond, List, [], ◌∷◌, refl, ◌∙◌, ap, Option, Some, None, inl, inr}
+use Rattle.std.specs.Prelude.{map, find}
 use Rattle.std.specs.Option.{option_and_then, option_map_or}
 use Rattle.muck_model.specs.declared.dbref.Dbref.{Dbref}
 use Rattle.muck_model.specs.declared.tune.Tune.{Tune}
 use Rattle.muck_live.specs.Objects.{Entry, dbref_of, same, object_at}
 use Rattle.muck_live.specs.Connections.{Connection, has_number, changed_in, is_of, left}
 use Rattle.muck_live.specs.Boards.{leaving_one}
-use Rattle.muck_live.specs.Lives.{Live, leave}
+use Rattle.muck_live.specs.Lives.{leave}
 use Rattle.muck_world.specs.declared.act.Actor.{Actor}
 use Rattle.muck_world.specs.declared.act.Act.{Act}
 use Rattle.muck_world.specs.declared.act.Act.TheVariants.{Wizard}
@@ -15,7 +15,7 @@ use Rattle.muck_world.specs.Verdict.{is_master}
 use Rattle.muck_world.specs.Changing.{booted, tuned}
 use Rattle.muck_world.specs.Licence.{Open, SameTies, leave_open}
 use Rattle.muck_world.proofs.Lookups.{row_same, same_eq}
-use Rattle.muck_world.proofs.Licences.{judge, Kept, kept_same, changed_same, differs_kept, Stays, Whole, itself, ties_itself}
+use Rattle.muck_world.proofs.Licences.{judge, kept_same, differs_kept, Stays, Whole, itself, ties_itself}
 use Rattle.muck_world.proofs.Allowed.{or_left, or_right, wizard_allowed}
 
 own_open : (a : Actor) (c : Connection) → c.player ≡ Some a.player → leave_open a c ≡ true

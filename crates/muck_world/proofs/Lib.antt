@@ -18,3 +18,4 @@ pub mod Makings
 pub mod Recycled
 pub mod Permitted
 pub mod Examples
+pub mod Lawful

@@ -1,12 +1,11 @@
 -- What keeps to the licence: one lemma for each way to put changes together.
 use Rattle.std.proofs.Common.{◌≡◌, ℕ, Bool, true, false, List, [], ◌∷◌, refl, sym, ◌∙◌, ap, subst, Option, Some, None, inl, inr, cond}
-use Rattle.std.specs.Prelude.{map, find, ◌⊎◌, ◌||◌, ◌&&◌, ◌==◌, if◌then◌else◌}
+use Rattle.std.specs.Prelude.{map, find, ◌||◌, ◌&&◌, ◌==◌}
 use Rattle.std.specs.FinMap.{get}
 use Rattle.std.specs.Option.{option_map, option_and_then, option_map_or}
 use Rattle.muck_model.specs.declared.dbref.Dbref.{Dbref}
 use Rattle.muck_model.specs.declared.dbref.Denial.{Denial}
 use Rattle.muck_live.specs.declared.object.Object.{Object}
-use Rattle.muck_live.specs.Flags.{has_flag, wizard}
 use Rattle.muck_live.specs.Objects.{Entry, dbref_of, same, is_exit, object_at}
 use Rattle.muck_live.specs.Connections.{Connection, has_number}
 use Rattle.muck_live.specs.Boards.{player_in}
@@ -14,7 +13,7 @@ use Rattle.muck_live.specs.Lives.{Live, Change, followed, reading, either, uncha
 use Rattle.muck_world.specs.declared.act.Actor.{Actor}
 use Rattle.muck_world.specs.declared.act.Act.{Act}
 use Rattle.muck_world.specs.Verdict.{is_master, verdict}
-use Rattle.muck_world.specs.Licence.{Open, Judge, owned, name_open, property_open, place_open, link_open, home_open, level_open, lines_open, owner_open, Changed, IsNew, Differs, leave_open, SameTies, may_recycle, Licensed}
+use Rattle.muck_world.specs.Licence.{Open, Judge, owned, name_open, property_open, place_open, link_open, home_open, level_open, lines_open, owner_open, Changed, Differs, leave_open, SameTies, may_recycle, Licensed}
 use Rattle.muck_world.specs.Asking.{answered, asked, provided, ended, world_of}
 use Rattle.muck_world.proofs.Lookups.{Row, row_same, row_both}
 use Rattle.muck_world.proofs.Rights.{rights, SameRights, same_itself}

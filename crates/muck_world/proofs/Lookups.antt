@@ -1,5 +1,5 @@
 -- What stands at a number after a change, where garbage isn't there.
-use Rattle.std.proofs.Common.{◌≡◌, ℕ, ℤ, Bool, true, false, cond, Option, Some, None, inl, inr, refl, sym, ◌∙◌, ap, subst, List}
+use Rattle.std.proofs.Common.{◌≡◌, ℕ, ℤ, Bool, true, false, cond, Option, Some, None, inl, inr, refl, sym, ap, subst, List}
 use Rattle.std.proofs.lemmas.Bool.{cases_eq}
 use Rattle.std.proofs.lemmas.Bool.Decides.{Decides-int_eq}
 use Rattle.std.specs.Prelude.{pos, negsuc}
@@ -8,9 +8,7 @@ use Rattle.muck_model.specs.declared.dbref.Dbref.{Dbref}
 use Rattle.muck_model.specs.declared.dbref.Kind.{Kind}
 use Rattle.muck_model.specs.declared.dbref.Kind.TheVariants.{Garbage}
 use Rattle.muck_live.specs.declared.object.Object.{Object}
-use Rattle.muck_live.specs.Objects.{Entry, dbref_of, same, index_at, is_garbage, object_in, kind_in, number_in, object_at, changed_at, on_object}
-use Rattle.muck_live.specs.Moving.{with_place, moved}
-use Rattle.muck_live.proofs.Readers.{object_changed, object_unchanged, object_elsewhere, object_moved, object_unmoved}
+use Rattle.muck_live.specs.Objects.{Entry, dbref_of, same, index_at, is_garbage, object_in, kind_in, number_in, object_at}
 
 -- R holds between what was there and what is there
 abbrev pub Row : (Object → Object → Type 0) → Option Object → Option Object → Type 0

@@ -8,8 +8,8 @@ use Rattle.muck_model.specs.declared.dbref.Dbref.{Dbref}
 use Rattle.muck_model.specs.declared.dbref.Kind.{Kind}
 use Rattle.muck_model.specs.declared.dbref.Kind.TheVariants.{Room, Thing, Exit, Player, Program}
 use Rattle.muck_live.specs.declared.object.Object.{Object}
-use Rattle.muck_live.specs.Flags.{no_flags, builder, jump, link}
-use Rattle.muck_live.specs.Objects.{Entry, dbref_of, nothing, home, same, is_garbage, object_in, number_in, object_at, changed_at, on_object, with_object, garbage}
+use Rattle.muck_live.specs.Flags.{builder, jump, link}
+use Rattle.muck_live.specs.Objects.{Entry, dbref_of, nothing, home, same, is_garbage, object_in, number_in, object_at, changed_at, with_object, garbage}
 use Rattle.muck_live.specs.Moving.{moved, with_place}
 use Rattle.muck_live.specs.Making.{free_in, blank_entry, grown, new_object, created}
 use Rattle.muck_live.specs.Setting.{with_home, with_link, with_level, with_password}
@@ -17,14 +17,13 @@ use Rattle.muck_live.specs.Lives.{Live}
 use Rattle.muck_live.proofs.Lists.{get_changed_same, read_more}
 use Rattle.muck_live.proofs.Readers.{object_changed, object_unchanged, object_elsewhere, object_moved, object_unmoved}
 use Rattle.muck_world.specs.declared.act.Actor.{Actor}
-use Rattle.muck_world.specs.declared.act.Act.{Act}
 use Rattle.muck_world.specs.declared.act.Act.TheVariants.{NewRoom, NewThing, NewExit, NewProgram, Wizard}
 use Rattle.muck_world.specs.Levels.{level_at, flag_at}
 use Rattle.muck_world.specs.Verdict.{is_master, controls, controls_or}
-use Rattle.muck_world.specs.Changing.{found, made_in, made, room_made, thing_made, exit_made, program_made, player_made}
+use Rattle.muck_world.specs.Changing.{made_in, made, room_made, thing_made, exit_made, program_made, player_made}
 use Rattle.muck_world.specs.Licence.{Judge, IsNew, Differs}
 use Rattle.muck_world.proofs.Lookups.{alive, at_number, number_is, same_eq}
-use Rattle.muck_world.proofs.Rights.{SameRights, same_level}
+use Rattle.muck_world.proofs.Rights.{same_level}
 use Rattle.muck_world.proofs.Licences.{judge, changed_same, End, Ends, itself}
 use Rattle.muck_world.proofs.Allowed.{room_allowed, thing_allowed, exit_allowed, program_allowed, wizard_allowed}
 use Rattle.muck_world.proofs.Changes.{end_objects}

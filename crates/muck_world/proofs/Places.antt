@@ -1,10 +1,9 @@
 -- Moves and homes keep to the licence.
-use Rattle.std.proofs.Common.{◌≡◌, ℕ, Bool, true, false, List, refl, sym, ◌∙◌, ap, subst, Option, Some, None, inl, inr}
-use Rattle.std.specs.Prelude.{◌||◌, ◌&&◌}
-use Rattle.std.specs.Option.{option_map, option_map_or}
+use Rattle.std.proofs.Common.{◌≡◌, ℕ, Bool, true, false, List, refl, sym, ◌∙◌, ap, Option, Some, None, inl, inr}
+use Rattle.std.specs.Option.{option_map_or}
 use Rattle.muck_model.specs.declared.dbref.Dbref.{Dbref}
 use Rattle.muck_live.specs.declared.object.Object.{Object}
-use Rattle.muck_live.specs.Objects.{Entry, dbref_of, nothing, home, same, number_in, object_in, object_at}
+use Rattle.muck_live.specs.Objects.{Entry, dbref_of, nothing, home, same, number_in, object_at}
 use Rattle.muck_live.specs.Setting.{set_at, with_home}
 use Rattle.muck_live.specs.Moving.{moved, with_place}
 use Rattle.muck_live.specs.Lives.{Live}
@@ -15,7 +14,6 @@ use Rattle.muck_world.specs.declared.act.Act.TheVariants.{Move, Link}
 use Rattle.muck_world.specs.Changing.{found, home_at, homed, moved_to, moved_home}
 use Rattle.muck_world.specs.Licence.{Judge, Changed, Differs, place_open, home_open}
 use Rattle.muck_world.proofs.Lookups.{Row, row_same, number_is}
-use Rattle.muck_world.proofs.Rights.{SameRights}
 use Rattle.muck_world.proofs.Licences.{judge, changed_same, Kept, kept_same, Stay, End, Stays, Ends, itself}
 use Rattle.muck_world.proofs.Allowed.{or_left, move_allowed, home_allowed, live_allowed, unlink_allowed}
 use Rattle.muck_world.proofs.Changes.{rows_number, rows_found, stay_objects, end_objects, differs_row}

@@ -1,9 +1,9 @@
 -- Recycling keeps to the licence, with all that it brings with it.
 use Rattle.std.proofs.Common.{◌≡◌, ℕ, ◌==◌, Bool, true, false, cond, List, [], ◌∷◌, refl, sym, ◌∙◌, ap, subst, Option, Some, None, inl, inr, arith}
-use Rattle.std.specs.Prelude.{Result, Ok, Err, map, ◌⊎◌, ◌||◌, ◌&&◌, not, slice_get}
+use Rattle.std.specs.Prelude.{Ok, Err, map, ◌⊎◌, ◌||◌, ◌&&◌, not, slice_get}
 use Rattle.std.specs.Option.{option_map, option_and_then, option_map_or}
 use Rattle.std.specs.List.{list_any}
-use Rattle.std.proofs.lemmas.Bool.{cases_eq, or_cases}
+use Rattle.std.proofs.lemmas.Bool.{cases_eq}
 use Rattle.std.proofs.lemmas.Bool.Decides.{nat_tests}
 use Rattle.std.proofs.lemmas.Option.{slice_get-map}
 use Rattle.muck_model.specs.declared.dbref.Dbref.{Dbref}
@@ -16,7 +16,6 @@ use Rattle.muck_live.specs.Chain.{Member}
 use Rattle.muck_live.specs.Objects.{Entry, dbref_of, nothing, same, index_of, is_exit, is_player, is_garbage, object_in, list_in, kind_in, owner_in, home_in, number_in, object_at, changed_at, on_object, garbage}
 use Rattle.muck_live.specs.Moving.{left_out, moved, with_place}
 use Rattle.muck_live.specs.Recycling.{without_ties, wished_home, may_go, way_home, sent_home, gone_entry, is_exit_of, exit_gone, recycled, recycle_check}
-use Rattle.muck_live.specs.declared.fault.DbFault.{DbFault}
 use Rattle.muck_live.specs.declared.fault.DbFault.TheVariants.{NoSuchObject, WrongKind}
 use Rattle.muck_live.specs.Setting.{checked}
 use Rattle.muck_live.specs.Lives.{Live}
@@ -24,12 +23,11 @@ use Rattle.muck_live.specs.Seen.{listed_in}
 use Rattle.muck_live.proofs.Lists.{get_changed_same}
 use Rattle.muck_live.proofs.Readers.{object_elsewhere, object_left, object_moved, object_unmoved}
 use Rattle.muck_world.specs.declared.act.Actor.{Actor}
-use Rattle.muck_world.specs.declared.act.Act.{Act}
 use Rattle.muck_world.specs.declared.act.Act.TheVariants.{Recycle}
 use Rattle.muck_world.specs.Levels.{is_player_at}
 use Rattle.muck_world.specs.Verdict.{controls}
 use Rattle.muck_world.specs.Changing.{where_ok, recycled_now}
-use Rattle.muck_world.specs.Licence.{Open, Judge, Changed, Differs, Licensed, is_emptied, is_way_home, is_gone, place_open, link_open, home_open, gone_open, may_recycle}
+use Rattle.muck_world.specs.Licence.{Open, Judge, Changed, Differs, Licensed, is_emptied, is_way_home, place_open, link_open, home_open, gone_open, may_recycle}
 use Rattle.muck_world.proofs.Lookups.{Row, alive, at_number, number_is, same_eq, eq_same}
 use Rattle.muck_world.proofs.Licences.{judge, changed_same, Whole, itself, ties_itself}
 use Rattle.muck_world.proofs.Allowed.{or_left, or_right, recycle_allowed}

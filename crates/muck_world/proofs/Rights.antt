@@ -1,5 +1,5 @@
 -- What rights rest on stays the same.
-use Rattle.std.proofs.Common.{◌≡◌, ℕ, ℤ, Bool, true, false, not, ◌&&◌, ◌||◌, if◌then◌else◌, Option, Some, None, refl, sym, ◌∙◌, ap, List}
+use Rattle.std.proofs.Common.{◌≡◌, ℕ, ℤ, false, not, ◌&&◌, ◌||◌, if◌then◌else◌, Option, Some, None, refl, sym, ◌∙◌, ap, List}
 use Rattle.std.specs.Prelude.{pos, negsuc, nat_le}
 use Rattle.std.specs.Option.{option_map, option_map_or}
 use Rattle.muck_model.specs.declared.dbref.Dbref.{Dbref}
@@ -10,7 +10,7 @@ use Rattle.muck_live.specs.declared.object.Object.{Object}
 use Rattle.muck_live.specs.Flags.{has_flag, chown, wizard, quell}
 use Rattle.muck_live.specs.Objects.{Entry, dbref_of, nothing, same, is_player, is_program, object_at}
 use Rattle.muck_world.specs.declared.act.Actor.{Actor}
-use Rattle.muck_world.specs.Levels.{master, level_of, level_at, owner_at, flag_at, is_player_at, owns, controls_as}
+use Rattle.muck_world.specs.Levels.{master, level_at, owner_at, flag_at, is_player_at, owns, controls_as}
 use Rattle.muck_world.specs.Verdict.{controls, controls_or, is_program_at, may_take_over}
 use Rattle.muck_world.specs.Licence.{may_recycle}
 use Rattle.muck_world.proofs.Lookups.{at_negative}

@@ -1,12 +1,12 @@
 -- Changes that only show something.
-use Rattle.std.proofs.Common.{◌≡◌, ℕ, Bool, true, false, cond, List, [], ◌∷◌, refl, ◌∙◌, ap, Option}
+use Rattle.std.proofs.Common.{◌≡◌, ℕ, Bool, true, false, cond, List, [], ◌∷◌, refl, ◌∙◌, ap}
 use Rattle.std.specs.Prelude.{map}
 use Rattle.rand_pcg.specs.Lcg.{Lcg}
 use Rattle.muck_model.specs.declared.dbref.Dbref.{Dbref}
 use Rattle.muck_model.specs.declared.dbref.Denial.{Denial}
 use Rattle.muck_live.specs.Connections.{Connection, has_number, changed_in, told, told_where, is_of, hears, has_player}
 use Rattle.muck_live.specs.Boards.{on_connection, told_one, told_player, told_others, told_all}
-use Rattle.muck_live.specs.Lives.{Change, on_board, tell, tell_player, tell_others, tell_all, place_of}
+use Rattle.muck_live.specs.Lives.{on_board, tell, tell_player, tell_others, tell_all, place_of}
 use Rattle.muck_world.specs.Talk.{waits}
 use Rattle.muck_world.specs.Asking.{refused}
 use Rattle.muck_world.specs.Changing.{rolled}

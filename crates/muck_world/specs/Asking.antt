@@ -1,11 +1,17 @@
 -- Changes that the rules of permission allow or deny.
 use Rattle.std.specs.Prelude.{ℕ, Bool, if◌then◌else◌, List, ◌++◌, Option, Some, None, codes, decimal}
+use Rattle.muck_model.specs.declared.dbref.Dbref.{Dbref}
 use Rattle.muck_model.specs.declared.dbref.Denial.{Denial}
 use Rattle.muck_live.specs.Objects.{Entry}
 use Rattle.muck_live.specs.Lives.{Live, Change, tell}
 use Rattle.muck_world.specs.declared.act.Actor.{Actor}
 use Rattle.muck_world.specs.declared.act.Act.{Act}
+use Rattle.muck_world.specs.Levels.{command_level}
 use Rattle.muck_world.specs.Verdict.{verdict}
+
+-- who acts by a command of a player
+abbrev pub commander : List Entry → Dbref → Actor
+commander es player = record { level = command_level es player; user = player; player = player }
 
 abbrev pub answered : {Y : Type 0} → Option Denial → (Denial → Live → Y) → (Live → Y) → Live → Y
 answered None refuse go = go

@@ -4,19 +4,18 @@ use Rattle.std.specs.Option.{option_map_or}
 use Rattle.std.specs.List.{list_any}
 use Rattle.std.specs.FinMap.{get}
 use Rattle.muck_model.specs.declared.dbref.Dbref.{Dbref}
-use Rattle.muck_model.specs.declared.dbref.Flags.{Flags}
 use Rattle.muck_model.specs.declared.dbref.Kind.{Kind}
 use Rattle.muck_model.specs.declared.dbref.Kind.TheVariants.{Room, Thing, Exit, Player, Program, Garbage}
 use Rattle.muck_prop.specs.Paths.{class_of}
 use Rattle.muck_live.specs.declared.object.Object.{Object}
 use Rattle.muck_live.specs.Flags.{has_flag, no_flags, builder, jump, link, wizard}
-use Rattle.muck_live.specs.Objects.{Entry, dbref_of, nothing, home, same, index_of, is_player, is_exit, kind_in, object_at}
+use Rattle.muck_live.specs.Objects.{Entry, dbref_of, nothing, home, same, index_of, is_exit, kind_in, object_at}
 use Rattle.muck_live.specs.Recycling.{wished_home}
 use Rattle.muck_live.specs.Seen.{listed_in}
 use Rattle.muck_live.specs.Connections.{Connection}
 use Rattle.muck_live.specs.Lives.{Live}
 use Rattle.muck_world.specs.declared.act.Actor.{Actor}
-use Rattle.muck_world.specs.Levels.{level_at, is_player_at, flag_at, owner_at}
+use Rattle.muck_world.specs.Levels.{level_at, is_player_at, flag_at}
 use Rattle.muck_world.specs.Verdict.{is_master, controls, controls_or, is_hidden, is_kept, is_guarded, may_take_over, place_of}
 
 -- what stood there stands there, or what stands there now is open
