@@ -286,6 +286,9 @@ ends_stays a free given f p = record {
   law = λ start w s h. let t = p.law start w s h in record { rows = λ n. differs_kept _ (dbref_of n) _ _ (t.rows n); ties = t.ties; tune = t.tune };
 }
 
+pub ends_quiet : (a : Actor) (free : Dbref → Bool) (given : Option Act) (f : Change) → Quiet f → Ends itself a free given f
+ends_quiet a free given f q = ends_stays a free given f (stays_quiet a free given f q)
+
 pub ends_followed : {Y : Type 0} (out : Y → Live) (a : Actor) (free : Dbref → Bool) (given : Option Act) (f : Change) (g : Live → Y) → Stays a free given f → Ends out a free None g → Ends out a free given (followed f g)
 unfolding followed
 ends_followed out a free given f g p q = record {
@@ -355,6 +358,9 @@ whole_ends out a own free given f p = record {
       let t = (p w.objects).law w.objects w (same_itself w.objects) h in
       record { gone = None; recycled = λ x e. absurd (cc); objects = t.rows; connections = t.ties; tune = t.tune };
 }
+
+pub whole_quiet : (a : Actor) (own : Option ℕ) (free : List Entry → Dbref → Bool) (given : Option Act) (f : Change) → Quiet f → Whole itself a own free given f
+whole_quiet a own free given f q = whole_ends itself a own free given f (λ os. ends_quiet a (free os) given f q)
 
 -- what only shows comes first
 pub whole_followed : {Y : Type 0} (out : Y → Live) (a : Actor) (own : Option ℕ) (free : List Entry → Dbref → Bool) (given : Option Act) (f : Change) (g : Live → Y) → Quiet f → Whole out a own free given g → Whole out a own free given (followed f g)
