@@ -1,3 +1,6 @@
 pub mod Chains
 pub mod Lists
 pub mod Readers
+pub mod KindLaws
+pub mod Orders
+pub mod Ties

@@ -170,4 +170,3 @@ apart_put w to d v p xs free h = elim (same_place v w p to) [
   | inl e ↦ rw (put_same w to d v p xs e.0 e.1) (let k : IsApart (d ∷ xs) = (free, h) in k)
   | inr e ↦ rw (put_other w to d v p xs e) h
 ]
-
