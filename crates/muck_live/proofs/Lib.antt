@@ -4,3 +4,12 @@ pub mod Readers
 pub mod KindLaws
 pub mod Orders
 pub mod Ties
+pub mod Checks
+pub mod CreationLaws
+pub mod StartLaws
+pub mod SettingLaws
+pub mod Fewer
+pub mod HomeLaws
+pub mod RecyclingLaws
+pub mod Standing
+pub mod Followers

@@ -14,3 +14,4 @@ pub mod Output
 pub mod Connections
 pub mod Boards
 pub mod Lives
+pub mod Rows

@@ -19,6 +19,10 @@ without_ties d o = record o {
   link = if same o.link (dbref_of d) then nothing else o.link;
 }
 
+-- no object has its home in d or a link to it
+unfoldable pub untied : ℕ → List Entry → List Entry
+untied d es = map (on_object (without_ties d)) es
+
 -- where an object goes that is sent home, if it may: a program to its owner's home, a thing or a player to its own
 unfoldable pub wished_home : ℕ → List Entry → Kind → Option ℕ
 wished_home x es Program = option_and_then (home_in es) (owner_in es x)
@@ -50,13 +54,21 @@ is_exit_of d o = is_exit o.kind && same o.place (dbref_of d)
 abbrev pub exit_gone : ℕ → Entry → Entry
 exit_gone d e = if is_exit_of d e.object then gone_entry else e
 
+abbrev pub without_exits : Entry → Entry
+without_exits e = record e { exits = [] }
+
+-- the exits of d become garbage
+unfoldable pub exits_gone : ℕ → List Entry → List Entry
+exits_gone d es = changed_at d without_exits (map (exit_gone d) es)
+
+-- d leaves its list and becomes garbage
+unfoldable pub vanished : ℕ → List Entry → List Entry
+vanished d es = changed_at d (λ e. gone_entry) (map (left_out d) es)
+
 -- Homes in d become `#0` and links to it nothing; its contents go home in the order of their list; its exits become
 -- garbage; and then so does it.
 unfoldable pub recycled : ℕ → List Entry → List Entry
-recycled d es =
-    let untied = map (on_object (without_ties d)) es in
-    let emptied = sent_home (list_in false es d) untied in
-    changed_at d (λ e. gone_entry) (map (left_out d) (map (exit_gone d) emptied))
+recycled d es = vanished d (exits_gone d (sent_home (list_in false es d) (untied d es)))
 
 -- Room Zero and players stay
 unfoldable pub recycle_check : Dbref → List Entry → Result ℕ DbFault
