@@ -5,17 +5,3 @@ pub mod Numbered
 pub mod Lines
 pub mod Reached
 pub mod Runs
-pub mod Lookups
-pub mod Rights
-pub mod Licences
-pub mod Shown
-pub mod Allowed
-pub mod Changes
-pub mod Bits
-pub mod Places
-pub mod Leaving
-pub mod Makings
-pub mod Recycled
-pub mod Permitted
-pub mod Examples
-pub mod Lawful

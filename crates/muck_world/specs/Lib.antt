@@ -1,10 +1,11 @@
 pub mod Texts
 pub mod World
-pub mod Levels
-pub mod Verdict
-pub mod Licence
-pub mod Changing
-pub mod Asking
+pub mod Replies
+pub mod Finding
+pub mod Talking
+pub mod Going
+pub mod Building
+pub mod Commands
 pub mod Talk
 pub mod Steps
 pub mod Histories

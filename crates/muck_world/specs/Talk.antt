@@ -10,7 +10,7 @@ use Rattle.muck_live.specs.Connections.{Connection}
 use Rattle.muck_live.specs.Boards.{on_connection}
 use Rattle.muck_live.specs.Lives.{Change, ◌▸◌, reading, either, unchanged, on_board, tell, leave, enter, place_at}
 use Rattle.muck_world.specs.Texts.{first_word, other_words, trimmed, is_alike}
-use Rattle.muck_world.specs.Levels.{name_shown}
+use Rattle.muck_rights.specs.Levels.{name_shown}
 
 abbrev pub welcome : List ℕ
 welcome = codes "Use: connect NAME PASSWORD, WHO or QUIT."

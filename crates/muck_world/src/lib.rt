@@ -3,12 +3,12 @@
 //! is what those definitions need of a line of text: its words.
 #![tactic(auto)]
 
-mod act;
-mod rule;
+mod outcome;
+mod word;
 #[cfg(test)]
 mod tests;
 mod words;
 
-pub use act::{Act, Actor};
-pub use rule::Rule;
+pub use outcome::Outcome;
+pub use word::{BuildWord, Message, PlayWord};
 pub use words::{alike, cut_word, trim};

@@ -10,13 +10,13 @@ use Rattle.muck_live.specs.Objects.{Entry, dbref_of, same, is_exit, object_at}
 use Rattle.muck_live.specs.Connections.{Connection, has_number}
 use Rattle.muck_live.specs.Boards.{player_in}
 use Rattle.muck_live.specs.Lives.{Live, Change, followed, reading, either, unchanged}
-use Rattle.muck_world.specs.declared.act.Actor.{Actor}
-use Rattle.muck_world.specs.declared.act.Act.{Act}
-use Rattle.muck_world.specs.Verdict.{is_master, verdict}
-use Rattle.muck_world.specs.Licence.{Open, Judge, owned, name_open, property_open, place_open, link_open, home_open, level_open, lines_open, owner_open, Changed, Differs, leave_open, SameTies, may_recycle, Licensed}
-use Rattle.muck_world.specs.Asking.{answered, asked, provided, ended, world_of}
-use Rattle.muck_world.proofs.Lookups.{Row, row_same, row_both}
-use Rattle.muck_world.proofs.Rights.{rights, SameRights, same_itself}
+use Rattle.muck_rights.specs.declared.act.Actor.{Actor}
+use Rattle.muck_rights.specs.declared.act.Act.{Act}
+use Rattle.muck_rights.specs.Verdict.{is_master, verdict}
+use Rattle.muck_rights.specs.Licence.{Open, Judge, owned, name_open, property_open, place_open, link_open, home_open, level_open, lines_open, owner_open, Changed, Differs, leave_open, SameTies, may_recycle, Licensed}
+use Rattle.muck_rights.specs.Asking.{answered, asked}
+use Rattle.muck_rights.proofs.Lookups.{Row, row_same, row_both}
+use Rattle.muck_rights.proofs.Rights.{rights, SameRights, same_itself}
 
 abbrev pub judge : Actor → (Dbref → Bool) → List Entry → Judge
 judge a free os = record { actor = a; free = free; gone = None; objects = os }
@@ -194,9 +194,13 @@ abbrev pub Own : Option ℕ → Live → Actor → Type 0
 Own None w a = Unit {0}
 Own (Some d) w a = player_in d w.board ≡ Some a.player
 
--- keeps to the licence from its start, at a connection of the actor's or none; what is free is judged there
-pub record Whole {Y : Type 0} (out : Y → Live) (a : Actor) (own : Option ℕ) (free : List Entry → Dbref → Bool) (given : Option Act) (f : Live → Y) : Type 0 where
-  pub law : (w : Live) → Own own w a → Given given w.objects a → Licensed a (free w.objects) w (out (f w))
+-- keeps to the licence from a world of which something is given, at a connection of the actor's or none; what is free
+-- is judged there
+pub record Whole {Y : Type 0} (out : Y → Live) (a : Actor) (own : Option ℕ) (free : List Entry → Dbref → Bool) (given : Live → Type 0) (f : Live → Y) : Type 0 where
+  pub law : (w : Live) → Own own w a → given w → Licensed a (free w.objects) w (out (f w))
+
+abbrev pub Always : Live → Type 0
+Always w = Unit {0}
 
 abbrev pub itself : Live → Live
 itself w = w
@@ -219,14 +223,6 @@ pub quiet_either : (b : Bool) (f g : Change) → Quiet f → Quiet g → Quiet (
 unfolding either
 quiet_either true f g p q = p
 quiet_either false f g p q = q
-
-pub quiet_provided : (test : List Entry → Bool) (refuse go : Change) → Quiet refuse → Quiet go → Quiet (provided test refuse go)
-unfolding provided
-quiet_provided test refuse go p q = record {
-  objects = λ w. elim (test w.objects) as (λ b. (cond b (go w) (refuse w)).objects ≡ w.objects) [ true ↦ q.objects w | false ↦ p.objects w ];
-  ties = λ w. elim (test w.objects) as (λ b. ties (cond b (go w) (refuse w)).board.connections ≡ ties w.board.connections) [ true ↦ q.ties w | false ↦ p.ties w ];
-  tune = λ w. elim (test w.objects) as (λ b. (cond b (go w) (refuse w)).board.tune ≡ w.board.tune) [ true ↦ q.tune w | false ↦ p.tune w ];
-}
 
 -- Changes no right.
 
@@ -257,12 +253,6 @@ pub stays_either : (a : Actor) (free : Dbref → Bool) (given : Option Act) (b :
 unfolding either
 stays_either a free given true f g p q = p
 stays_either a free given false f g p q = q
-
-pub stays_provided : (a : Actor) (free : Dbref → Bool) (given : Option Act) (test : List Entry → Bool) (refuse go : Change) → Stays a free given refuse → Stays a free given go → Stays a free given (provided test refuse go)
-unfolding provided
-stays_provided a free given test refuse go p q = record {
-  law = λ start w s h. elim (test w.objects) as (λ b. Stay (judge a free start) w (cond b (go w) (refuse w))) [ true ↦ q.law start w s h | false ↦ p.law start w s h ];
-}
 
 stays_answered : (a : Actor) (free : Dbref → Bool) (act : Act) (refuse : Denial → Change) (go : Change) (start : List Entry) (w : Live) →
     ((d : Denial) → Stays a free None (refuse d)) → Stays a free (Some act) go → SameRights start w.objects →
@@ -325,16 +315,6 @@ unfolding either
 ends_either out a free given true f g p q = record { law = p.law }
 ends_either out a free given false f g p q = record { law = q.law }
 
-pub ends_provided : {Y : Type 0} (out : Y → Live) (a : Actor) (free : Dbref → Bool) (given : Option Act) (test : List Entry → Bool) (refuse go : Live → Y) → Ends out a free given refuse → Ends out a free given go → Ends out a free given (provided test refuse go)
-unfolding provided
-ends_provided out a free given test refuse go p q = record {
-  law = λ start w s h. elim (test w.objects) as (λ b. End (judge a free start) w (out (cond b (go w) (refuse w)))) [ true ↦ q.law start w s h | false ↦ p.law start w s h ];
-}
-
-pub ends_ended : {X : Type 0} (a : Actor) (free : Dbref → Bool) (given : Option Act) (answer : X) (f : Change) → Ends itself a free given f → Ends world_of a free given (ended answer f)
-unfolding ended
-ends_ended a free given answer f p = record { law = p.law }
-
 ends_answered : {Y : Type 0} (out : Y → Live) (a : Actor) (free : Dbref → Bool) (act : Act) (refuse : Denial → Live → Y) (go : Live → Y) (start : List Entry) (w : Live) →
     ((d : Denial) → Ends out a free None (refuse d)) → Ends out a free (Some act) go → SameRights start w.objects →
     (v : Option Denial) → verdict w.objects a act ≡ v → End (judge a free start) w (out (answered v refuse go w))
@@ -352,24 +332,21 @@ own_kept : (own : Option ℕ) (w v : Live) (a : Actor) → ties v.board.connecti
 own_kept None w v a e c = tt
 own_kept (Some d) w v a e c = player_kept d w.board.connections v.board.connections e ∙ c
 
-pub whole_ends : {Y : Type 0} (out : Y → Live) (a : Actor) (own : Option ℕ) (free : List Entry → Dbref → Bool) (given : Option Act) (f : Live → Y) → ((os : List Entry) → Ends out a (free os) given f) → Whole out a own free given f
+pub whole_ends : {Y : Type 0} (out : Y → Live) (a : Actor) (own : Option ℕ) (free : List Entry → Dbref → Bool) (given : Live → Type 0) (f : Live → Y) → ((w : Live) → given w → Ends out a (free w.objects) None f) → Whole out a own free given f
 whole_ends out a own free given f p = record {
   law = λ w c h.
-      let t = (p w.objects).law w.objects w (same_itself w.objects) h in
+      let t = (p w h).law w.objects w (same_itself w.objects) tt in
       record { gone = None; recycled = λ x e. absurd (cc); objects = t.rows; connections = t.ties; tune = t.tune };
 }
 
-pub whole_quiet : (a : Actor) (own : Option ℕ) (free : List Entry → Dbref → Bool) (given : Option Act) (f : Change) → Quiet f → Whole itself a own free given f
-whole_quiet a own free given f q = whole_ends itself a own free given f (λ os. ends_quiet a (free os) given f q)
+pub whole_quiet : (a : Actor) (own : Option ℕ) (free : List Entry → Dbref → Bool) (given : Live → Type 0) (f : Change) → Quiet f → Whole itself a own free given f
+whole_quiet a own free given f q = whole_ends itself a own free given f (λ w h. ends_quiet a (free w.objects) None f q)
 
--- what only shows comes first
-pub whole_followed : {Y : Type 0} (out : Y → Live) (a : Actor) (own : Option ℕ) (free : List Entry → Dbref → Bool) (given : Option Act) (f : Change) (g : Live → Y) → Quiet f → Whole out a own free given g → Whole out a own free given (followed f g)
+-- what only shows comes first, after which nothing is given
+pub whole_followed : {Y : Type 0} (out : Y → Live) (a : Actor) (own : Option ℕ) (free : List Entry → Dbref → Bool) (given : Live → Type 0) (f : Change) (g : Live → Y) → Quiet f → Whole out a own free Always g → Whole out a own free given (followed f g)
 unfolding followed
 whole_followed out a own free given f g q p = record {
-  law = λ w c h.
-      let F : List Entry → Type 0 = λ os. Given given os a in
-      let t = p.law (f w) (own_kept own w (f w) a (q.ties w) c) (subst F (sym (q.objects w)) h) in
-      after w (f w) (out (g (f w))) (q.objects w) (q.ties w) (q.tune w) t;
+  law = λ w c h. after w (f w) (out (g (f w))) (q.objects w) (q.ties w) (q.tune w) (p.law (f w) (own_kept own w (f w) a (q.ties w) c) tt);
 }
   where
     after : (w v u : Live) → v.objects ≡ w.objects → ties v.board.connections ≡ ties w.board.connections → v.board.tune ≡ w.board.tune → Licensed a (free v.objects) v u → Licensed a (free w.objects) w u
@@ -385,7 +362,7 @@ whole_followed out a own free given f g q p = record {
         }
 
 -- and what only shows may come last
-pub whole_quietly : (a : Actor) (own : Option ℕ) (free : List Entry → Dbref → Bool) (given : Option Act) (f g : Change) → Whole itself a own free given f → Quiet g → Whole itself a own free given (followed f g)
+pub whole_quietly : (a : Actor) (own : Option ℕ) (free : List Entry → Dbref → Bool) (given : Live → Type 0) (f g : Change) → Whole itself a own free given f → Quiet g → Whole itself a own free given (followed f g)
 unfolding followed
 whole_quietly a own free given f g p q = record {
   law = λ w c h.
@@ -400,42 +377,32 @@ whole_quietly a own free given f g p q = record {
       };
 }
 
-pub whole_reading : {X Y : Type 0} (out : Y → Live) (a : Actor) (own : Option ℕ) (free : List Entry → Dbref → Bool) (given : Option Act) (get : Live → X) (go : X → Live → Y) → ((x : X) → Whole out a own free given (go x)) → Whole out a own free given (reading get go)
+pub whole_reading : {X Y : Type 0} (out : Y → Live) (a : Actor) (own : Option ℕ) (free : List Entry → Dbref → Bool) (given : Live → Type 0) (get : Live → X) (go : X → Live → Y) → ((x : X) → Whole out a own free given (go x)) → Whole out a own free given (reading get go)
 unfolding reading
 whole_reading out a own free given get go p = record { law = λ w. (p (get w)).law w }
 
-pub whole_either : {Y : Type 0} (out : Y → Live) (a : Actor) (own : Option ℕ) (free : List Entry → Dbref → Bool) (given : Option Act) (b : Bool) (f g : Live → Y) → Whole out a own free given f → Whole out a own free given g → Whole out a own free given (either b f g)
+-- with what was read
+pub whole_told : {X Y : Type 0} (out : Y → Live) (a : Actor) (own : Option ℕ) (free : List Entry → Dbref → Bool) (given : Live → Type 0) (get : Live → X) (go : X → Live → Y) →
+    ((x : X) → Whole out a own free (λ w. given w × (get w ≡ x)) (go x)) → Whole out a own free given (reading get go)
+unfolding reading
+whole_told out a own free given get go p = record { law = λ w c h. (p (get w)).law w c (h, refl) }
+
+pub whole_either : {Y : Type 0} (out : Y → Live) (a : Actor) (own : Option ℕ) (free : List Entry → Dbref → Bool) (given : Live → Type 0) (b : Bool) (f g : Live → Y) → Whole out a own free given f → Whole out a own free given g → Whole out a own free given (either b f g)
 unfolding either
 whole_either out a own free given true f g p q = record { law = p.law }
 whole_either out a own free given false f g p q = record { law = q.law }
 
-pub whole_ended : {X : Type 0} (a : Actor) (own : Option ℕ) (free : List Entry → Dbref → Bool) (given : Option Act) (answer : X) (f : Change) → Whole itself a own free given f → Whole world_of a own free given (ended answer f)
-unfolding ended
-whole_ended a own free given answer f p = record { law = p.law }
-
-whole_answered : {Y : Type 0} (out : Y → Live) (a : Actor) (own : Option ℕ) (free : List Entry → Dbref → Bool) (act : Act) (refuse : Denial → Live → Y) (go : Live → Y) (w : Live) →
-    ((denial : Denial) → Whole out a own free None (refuse denial)) → Whole out a own free (Some act) go → Own own w a →
+whole_answered : {Y : Type 0} (out : Y → Live) (a : Actor) (own : Option ℕ) (free : List Entry → Dbref → Bool) (given : Live → Type 0) (act : Act) (refuse : Denial → Live → Y) (go : Live → Y) (w : Live) →
+    ((denial : Denial) → Whole out a own free Always (refuse denial)) → Whole out a own free (λ v. given v × (verdict v.objects a act ≡ None)) go → Own own w a → given w →
     (v : Option Denial) → verdict w.objects a act ≡ v → Licensed a (free w.objects) w (out (answered v refuse go w))
-whole_answered out a own free act refuse go w p q c None e = q.law w c e
-whole_answered out a own free act refuse go w p q c (Some denial) e = (p denial).law w c tt
+whole_answered out a own free given act refuse go w p q c h None e = q.law w c (h, e)
+whole_answered out a own free given act refuse go w p q c h (Some denial) e = (p denial).law w c tt
 
-pub whole_asked : {Y : Type 0} (out : Y → Live) (a : Actor) (own : Option ℕ) (free : List Entry → Dbref → Bool) (given : Option Act) (act : Act) (refuse : Denial → Live → Y) (go : Live → Y) →
-    ((denial : Denial) → Whole out a own free None (refuse denial)) → Whole out a own free (Some act) go → Whole out a own free given (asked a act refuse go)
+pub whole_asked : {Y : Type 0} (out : Y → Live) (a : Actor) (own : Option ℕ) (free : List Entry → Dbref → Bool) (given : Live → Type 0) (act : Act) (refuse : Denial → Live → Y) (go : Live → Y) →
+    ((denial : Denial) → Whole out a own free Always (refuse denial)) → Whole out a own free (λ w. given w × (verdict w.objects a act ≡ None)) go → Whole out a own free given (asked a act refuse go)
 unfolding asked
-whole_asked out a own free given act refuse go p q = record { law = λ w c h. whole_answered out a own free act refuse go w p q c _ refl }
-
--- where go keeps to the licence in each world in which the test holds
-pub whole_provided : {Y : Type 0} (out : Y → Live) (a : Actor) (own : Option ℕ) (free : List Entry → Dbref → Bool) (given : Option Act) (test : List Entry → Bool) (refuse go : Live → Y) →
-    Whole out a own free given refuse → ((os : List Entry) → test os ≡ true → Ends out a (free os) given go) → Whole out a own free given (provided test refuse go)
-unfolding provided
-whole_provided out a own free given test refuse go p q = record { law = λ w c h. at w c h (test w.objects) refl }
-  where
-    at : (w : Live) → Own own w a → Given given w.objects a → (b : Bool) → test w.objects ≡ b → Licensed a (free w.objects) w (out (cond b (go w) (refuse w)))
-    at w c h true e =
-        let t = (q w.objects e).law w.objects w (same_itself w.objects) h in
-        record { gone = None; recycled = λ x n. absurd (cc); objects = t.rows; connections = t.ties; tune = t.tune }
-    at w c h false e = p.law w c h
+whole_asked out a own free given act refuse go p q = record { law = λ w c h. whole_answered out a own free given act refuse go w p q c h _ refl }
 
 -- The law itself.
-pub licensed : {Y : Type 0} (out : Y → Live) (a : Actor) (own : Option ℕ) (free : List Entry → Dbref → Bool) (f : Live → Y) → Whole out a own free None f → (w : Live) → Own own w a → Licensed a (free w.objects) w (out (f w))
+pub licensed : {Y : Type 0} (out : Y → Live) (a : Actor) (own : Option ℕ) (free : List Entry → Dbref → Bool) (f : Live → Y) → Whole out a own free Always f → (w : Live) → Own own w a → Licensed a (free w.objects) w (out (f w))
 licensed out a own free f p w c = p.law w c tt

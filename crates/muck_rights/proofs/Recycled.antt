@@ -1,6 +1,6 @@
 -- Recycling keeps to the licence, with all that it brings with it.
 use Rattle.std.proofs.Common.{◌≡◌, ℕ, ◌==◌, Bool, true, false, cond, List, [], ◌∷◌, refl, sym, ◌∙◌, ap, subst, Option, Some, None, inl, inr, arith}
-use Rattle.std.specs.Prelude.{Ok, Err, map, ◌⊎◌, ◌||◌, ◌&&◌, not, slice_get}
+use Rattle.std.specs.Prelude.{Result, Ok, Err, map, ◌⊎◌, ◌||◌, ◌&&◌, not, slice_get}
 use Rattle.std.specs.Option.{option_map, option_and_then, option_map_or}
 use Rattle.std.specs.List.{list_any}
 use Rattle.std.proofs.lemmas.Bool.{cases_eq}
@@ -15,22 +15,23 @@ use Rattle.muck_live.specs.Flags.{has_flag, wizard}
 use Rattle.muck_live.specs.Chain.{Member}
 use Rattle.muck_live.specs.Objects.{Entry, dbref_of, nothing, same, index_of, is_exit, is_player, is_garbage, object_in, list_in, kind_in, owner_in, home_in, number_in, object_at, changed_at, on_object, garbage}
 use Rattle.muck_live.specs.Moving.{left_out, moved, with_place}
-use Rattle.muck_live.specs.Recycling.{without_ties, wished_home, may_go, way_home, sent_home, gone_entry, is_exit_of, exit_gone, recycled, recycle_check}
+use Rattle.muck_live.specs.Recycling.{untied, exits_gone, vanished, without_exits, without_ties, wished_home, may_go, way_home, sent_home, gone_entry, is_exit_of, exit_gone, recycled, recycle_check}
+use Rattle.muck_live.specs.declared.fault.DbFault.{DbFault}
 use Rattle.muck_live.specs.declared.fault.DbFault.TheVariants.{NoSuchObject, WrongKind}
 use Rattle.muck_live.specs.Setting.{checked}
 use Rattle.muck_live.specs.Lives.{Live}
 use Rattle.muck_live.specs.Seen.{listed_in}
 use Rattle.muck_live.proofs.Lists.{get_changed_same}
 use Rattle.muck_live.proofs.Readers.{object_elsewhere, object_left, object_moved, object_unmoved}
-use Rattle.muck_world.specs.declared.act.Actor.{Actor}
-use Rattle.muck_world.specs.declared.act.Act.TheVariants.{Recycle}
-use Rattle.muck_world.specs.Levels.{is_player_at}
-use Rattle.muck_world.specs.Verdict.{controls}
-use Rattle.muck_world.specs.Changing.{where_ok, recycled_now}
-use Rattle.muck_world.specs.Licence.{Open, Judge, Changed, Differs, Licensed, is_emptied, is_way_home, place_open, link_open, home_open, gone_open, may_recycle}
-use Rattle.muck_world.proofs.Lookups.{Row, alive, at_number, number_is, same_eq, eq_same}
-use Rattle.muck_world.proofs.Licences.{judge, changed_same, Whole, itself, ties_itself}
-use Rattle.muck_world.proofs.Allowed.{or_left, or_right, recycle_allowed}
+use Rattle.muck_rights.specs.declared.act.Actor.{Actor}
+use Rattle.muck_rights.specs.declared.act.Act.TheVariants.{Recycle}
+use Rattle.muck_rights.specs.Levels.{is_player_at}
+use Rattle.muck_rights.specs.Verdict.{verdict, controls}
+use Rattle.muck_rights.specs.Changing.{recycled_now}
+use Rattle.muck_rights.specs.Licence.{Open, Judge, Changed, Differs, Licensed, is_emptied, is_way_home, place_open, link_open, home_open, gone_open, may_recycle}
+use Rattle.muck_rights.proofs.Lookups.{Row, alive, seen_at, number_is, same_eq, eq_same}
+use Rattle.muck_rights.proofs.Licences.{judge, changed_same, Whole, itself, ties_itself}
+use Rattle.muck_rights.proofs.Allowed.{or_left, or_right, recycle_allowed}
 
 -- one object is recycled, of that number
 abbrev judged : Actor → (Dbref → Bool) → ℕ → List Entry → Judge
@@ -167,8 +168,8 @@ all_home a free d es [] h fs r = r
 all_home a free d es (y ∷ ys) h fs r = all_home a free d es ys (λ z m. h z (inr m)) (moved y (way_home y fs) fs) (step_home a free d y es fs (h y (inl refl)) r)
 
 -- Losing ties.
-untied_rows : (j : Judge) (d : ℕ) (es : List Entry) → Rows j d es (map (on_object (without_ties d)) es)
-unfolding object_in
+untied_rows : (j : Judge) (d : ℕ) (es : List Entry) → Rows j d es (untied d es)
+unfolding object_in untied
 untied_rows j d es n = rw (slice_get-map (on_object (without_ties d)) es n) (by_cases (slice_get es n))
   where
     by_cases : (q : Option Entry) → Row (Homeward j d n) (option_map (λ (e : Entry). e.object) q) (option_map (λ (e : Entry). e.object) (option_map (on_object (without_ties d)) q))
@@ -212,17 +213,18 @@ gone_at d es = rw (get_changed_same es d (λ (e : Entry). gone_entry)) (by_cases
     by_cases (Some e) = refl
 
 recycled_there : (d n : ℕ) (es : List Entry) → (n ≡ d → ⊥) →
-    object_in (recycled d es) n ≡ option_map (λ (p : Object). cond (is_exit_of d p) garbage p) (object_in (sent_home (list_in false es d) (map (on_object (without_ties d)) es)) n)
-unfolding recycled
+    object_in (recycled d es) n ≡ option_map (λ (p : Object). cond (is_exit_of d p) garbage p) (object_in (sent_home (list_in false es d) (untied d es)) n)
+unfolding recycled vanished exits_gone
 recycled_there d n es ne =
-    let em : List Entry = sent_home (list_in false es d) (map (on_object (without_ties d)) es) in
-    object_elsewhere d n (λ (e : Entry). gone_entry) (map (left_out d) (map (exit_gone d) em)) ne ∙ object_left d n (map (exit_gone d) em) ∙ exits_at d n em
+    let em : List Entry = sent_home (list_in false es d) (untied d es) in
+    let lost : List Entry = changed_at d without_exits (map (exit_gone d) em) in
+    object_elsewhere d n (λ (e : Entry). gone_entry) (map (left_out d) lost) ne ∙ object_left d n lost ∙ object_elsewhere d n without_exits (map (exit_gone d) em) ne ∙ exits_at d n em
 
 recycled_here : (d : ℕ) (es : List Entry) → (q : Option Object) × (object_in (recycled d es) d ≡ option_map (λ (p : Object). garbage) q)
-unfolding recycled
+unfolding recycled vanished
 recycled_here d es =
-    let em : List Entry = sent_home (list_in false es d) (map (on_object (without_ties d)) es) in
-    (object_in (map (left_out d) (map (exit_gone d) em)) d, gone_at d (map (left_out d) (map (exit_gone d) em)))
+    let lost : List Entry = exits_gone d (sent_home (list_in false es d) (untied d es)) in
+    (object_in (map (left_out d) lost) d, gone_at d (map (left_out d) lost))
 
 -- What differs where an object is still there.
 
@@ -297,7 +299,7 @@ differs_there a free d n es some (Some o) (Some p) e h = at (is_garbage o.kind) 
     at false true g x = exit_open a free d n es o p some h x
     at false false g x =
         let P : Bool → Type 0 = λ k. Differs (judged a free d es) (dbref_of n) (Some o) (cond k None (Some p)) in
-        let there : object_at (dbref_of n) es ≡ Some o = at_number es n ∙ ap (λ (q : Option Object). option_and_then alive q) e ∙ ap (λ (k : Bool). cond k None (Some o)) g in
+        let there : object_at (dbref_of n) es ≡ Some o = seen_at es n ∙ ap (λ (q : Option Object). option_and_then alive q) e ∙ ap (λ (k : Bool). cond k None (Some o)) g in
         subst P (sym (ap (λ (x : Object). is_garbage x.kind) h.same ∙ g)) (changed_home a free d n es o p there h)
 
 differs_here : (a : Actor) (free : Dbref → Bool) (d : ℕ) (es : List Entry) (q r : Option Object) → Differs (judged a free d es) (dbref_of d) (option_and_then alive q) (option_and_then alive (option_map (λ (p : Object). garbage) r))
@@ -317,9 +319,9 @@ differs_recycled : (a : Actor) (free : Dbref → Bool) (d : ℕ) (es : List Entr
 differs_recycled a free d es known some n =
     let j : Judge = judged a free d es in
     let fs : List Entry = recycled d es in
-    let em : List Entry = sent_home (list_in false es d) (map (on_object (without_ties d)) es) in
-    let rows : Rows j d es em = all_home a free d es (list_in false es d) (contents_emptied a free d es known) (map (on_object (without_ties d)) es) (untied_rows j d es) in
-    rw (at_number es n, at_number fs n) (elim (cases_eq n d) [
+    let em : List Entry = sent_home (list_in false es d) (untied d es) in
+    let rows : Rows j d es em = all_home a free d es (list_in false es d) (contents_emptied a free d es known) (untied d es) (untied_rows j d es) in
+    rw (seen_at es n, seen_at fs n) (elim (cases_eq n d) [
       | inl e ↦
           let P : ℕ → Type 0 = λ m. Differs j (dbref_of m) (option_and_then alive (object_in es m)) (option_and_then alive (object_in fs m)) in
           let Q : Option Object → Type 0 = λ q. Differs j (dbref_of d) (option_and_then alive (object_in es d)) (option_and_then alive q) in
@@ -348,7 +350,7 @@ nothing_recycled a free w = record {
 
 no_player : (es : List Entry) (d : ℕ) → is_player (kind_in es d) ≡ false → is_player_at es (dbref_of d) ≡ false
 unfolding is_player_at kind_in
-no_player es d e = ap (λ (q : Option Object). option_map_or (λ (o : Object). is_player o.kind) q false) (at_number es d) ∙ at (object_in es d) e
+no_player es d e = ap (λ (q : Option Object). option_map_or (λ (o : Object). is_player o.kind) q false) (seen_at es d) ∙ at (object_in es d) e
   where
     at : (q : Option Object) → is_player (option_map_or (λ (o : Object). o.kind) q Garbage) ≡ false → option_map_or (λ (o : Object). is_player o.kind) (option_and_then alive q) false ≡ false
     at None e = refl
@@ -372,25 +374,29 @@ neither true c e = absurd (cc)
 neither false true e = absurd (cc)
 neither false false e = (refl, refl)
 
-pub whole_recycled : (a : Actor) (own : Option ℕ) (free : List Entry → Dbref → Bool) (x : Dbref) → Whole itself a own free (Some (Recycle x)) (recycled_now x)
-unfolding recycled_now recycle_check checked
-whole_recycled a own free x = record { law = λ w c g. at w (recycle_allowed w.objects a x g) (number_in w.objects x) refl }
-  where
-    there : (w : Live) → controls w.objects a x ≡ true → (d : ℕ) → number_in w.objects x ≡ Some d → (b : Bool) → not (d == 0 || is_player (kind_in w.objects d)) ≡ b →
-        Licensed a (free w.objects) w (record w { objects = where_ok recycled (cond b (Ok d) (Err WrongKind)) w.objects })
-    there w h d e true t =
-        let known : x ≡ dbref_of d = number_is w.objects x d e in
-        let k = neither (d == 0) (is_player (kind_in w.objects d)) t in
-        record {
-          gone = Some (dbref_of d);
-          recycled = λ y f. let same : x ≡ y = known ∙ cc in ap (may_recycle w.objects a) (sym same) ∙ may a w.objects x d known k.0 k.1 h;
-          objects = differs_recycled a (free w.objects) d w.objects (ap (number_in w.objects) (sym known) ∙ e) k.0;
-          connections = ties_itself a w.board.connections;
-          tune = inl refl;
-        }
-    there w h d e false t = nothing_recycled a (free w.objects) w
+there : (a : Actor) (free : Dbref → Bool) (x : Dbref) (w : Live) → controls w.objects a x ≡ true → (d : ℕ) → number_in w.objects x ≡ Some d → not (d == 0 || is_player (kind_in w.objects d)) ≡ true →
+    Licensed a free w (record w { objects = recycled d w.objects })
+there a free x w h d e t =
+    let known : x ≡ dbref_of d = number_is w.objects x d e in
+    let k = neither (d == 0) (is_player (kind_in w.objects d)) t in
+    record {
+      gone = Some (dbref_of d);
+      recycled = λ y f. let same : x ≡ y = known ∙ cc in ap (may_recycle w.objects a) (sym same) ∙ may a w.objects x d known k.0 k.1 h;
+      objects = differs_recycled a free d w.objects (ap (number_in w.objects) (sym known) ∙ e) k.0;
+      connections = ties_itself a w.board.connections;
+      tune = inl refl;
+    }
 
-    at : (w : Live) → controls w.objects a x ≡ true → (q : Option ℕ) → number_in w.objects x ≡ q →
-        Licensed a (free w.objects) w (record w { objects = where_ok recycled (option_map_or (λ (n : ℕ). cond (not (n == 0 || is_player (kind_in w.objects n))) (Ok n) (Err WrongKind)) q (Err NoSuchObject)) w.objects })
-    at w h None e = nothing_recycled a (free w.objects) w
-    at w h (Some d) e = there w h d e (not (d == 0 || is_player (kind_in w.objects d))) refl
+-- an object is recycled where the check passes
+pub recycled_licensed : (a : Actor) (free : Dbref → Bool) (x : Dbref) (w : Live) (n : ℕ) → verdict w.objects a (Recycle x) ≡ None → recycle_check x w.objects ≡ Ok n → Licensed a free w (recycled_now x w)
+unfolding recycled_now recycle_check checked
+recycled_licensed a free x w n g e = at (number_in w.objects x) refl e
+  where
+    passed : (d n : ℕ) (b : Bool) → ◌≡◌ {A = Result ℕ DbFault} (cond b (Ok d) (Err WrongKind)) (Ok n) → b ≡ true
+    passed d n true e = refl
+    passed d n false e = absurd (cc)
+
+    at : (q : Option ℕ) → number_in w.objects x ≡ q → option_map_or (λ (d : ℕ). cond (not (d == 0 || is_player (kind_in w.objects d))) (Ok d) (Err WrongKind)) q (Err NoSuchObject) ≡ Ok n →
+        Licensed a free w (record w { objects = option_map_or (λ (d : ℕ). recycled d w.objects) q w.objects })
+    at None f e = nothing_recycled a free w
+    at (Some d) f e = there a free x w (recycle_allowed w.objects a x g) d f (passed d n (not (d == 0 || is_player (kind_in w.objects d))) e)

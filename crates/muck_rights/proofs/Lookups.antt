@@ -33,9 +33,9 @@ row_both R S T both (Some o) (Some p) (Some q) r s = both o p q r s
 abbrev pub alive : Object → Option Object
 alive o = cond (is_garbage o.kind) None (Some o)
 
-pub at_number : (es : List Entry) (n : ℕ) → object_at (dbref_of n) es ≡ option_and_then alive (object_in es n)
+pub seen_at : (es : List Entry) (n : ℕ) → object_at (dbref_of n) es ≡ option_and_then alive (object_in es n)
 unfolding object_at number_in kind_in
-at_number es n = by_cases (object_in es n) refl
+seen_at es n = by_cases (object_in es n) refl
   where
     by_cases : (q : Option Object) → object_in es n ≡ q →
         option_and_then (object_in es) (cond (is_garbage (option_map_or (λ (o : Object). o.kind) q Garbage)) None (Some n)) ≡ option_and_then alive q
@@ -79,7 +79,7 @@ pub row_at : (R : Object → Object → Type 0) (es fs : List Entry) (n : ℕ) �
     Row R (object_at (dbref_of n) es) (object_at (dbref_of n) fs)
 row_at R es fs n r =
     let P : Option Object → Option Object → Type 0 = λ s t. Row R s t in
-    rw (at_number es n, at_number fs n) r
+    rw (seen_at es n, seen_at fs n) r
 
 -- where one object is changed
 pub rows_changed : (R : Dbref → Object → Object → Type 0) → ((y : Dbref) (o : Object) → R y o o) → (m : ℕ) (f : Object → Object) → ((o : Object) → (f o).kind ≡ o.kind) → ((o : Object) → R (dbref_of m) o (f o)) →

@@ -20,15 +20,15 @@ use Rattle.muck_live.specs.Boards.{Board}
 use Rattle.muck_live.specs.Lives.{Live}
 use Rattle.muck_live.proofs.Lists.{get_changed_same}
 use Rattle.muck_live.proofs.Readers.{object_changed, object_unchanged, object_elsewhere}
-use Rattle.muck_world.specs.declared.act.Actor.{Actor}
-use Rattle.muck_world.specs.declared.act.Act.TheVariants.{Write, Link, Edit, Change, Rename, Password, SetFlag, SetLevel, SetOwner}
-use Rattle.muck_world.specs.Verdict.{is_master, controls, is_guarded}
-use Rattle.muck_world.specs.Changing.{found, on_found, named, owned_by, linked, is_flag, flag_set, flag_cleared, leveled, lines_kept, password_kept, stored, unstored}
-use Rattle.muck_world.specs.Licence.{Open, Judge, Changed, Differs, SameTies, name_open, property_open, link_open, level_open, lines_open, owner_open}
-use Rattle.muck_world.proofs.Lookups.{Row, row_same, rows_changed, number_is}
-use Rattle.muck_world.proofs.Bits.{wizard_stays_set, wizard_stays_cleared}
-use Rattle.muck_world.proofs.Licences.{judge, changed_same, Kept, kept_same, Stay, End, Stays, Ends, itself, ties_itself}
-use Rattle.muck_world.proofs.Allowed.{rename_allowed, write_allowed, change_allowed, link_allowed, flag_allowed, level_allowed, owner_allowed, edit_allowed, password_allowed}
+use Rattle.muck_rights.specs.declared.act.Actor.{Actor}
+use Rattle.muck_rights.specs.declared.act.Act.TheVariants.{Write, Link, Edit, Change, Rename, Password, SetFlag, SetLevel, SetOwner}
+use Rattle.muck_rights.specs.Verdict.{is_master, controls, is_guarded}
+use Rattle.muck_rights.specs.Changing.{at_number, set_object, named, owned_by, linked, is_flag, flag_set, flag_cleared, leveled, lines_kept, password_kept, stored, unstored}
+use Rattle.muck_rights.specs.Licence.{Open, Judge, Changed, Differs, SameTies, name_open, property_open, link_open, level_open, lines_open, owner_open}
+use Rattle.muck_rights.proofs.Lookups.{Row, row_same, rows_changed, number_is}
+use Rattle.muck_rights.proofs.Bits.{wizard_stays_set, wizard_stays_cleared}
+use Rattle.muck_rights.proofs.Licences.{judge, changed_same, Kept, kept_same, Stay, End, Stays, Ends, itself, ties_itself}
+use Rattle.muck_rights.proofs.Allowed.{rename_allowed, write_allowed, change_allowed, link_allowed, flag_allowed, level_allowed, owner_allowed, edit_allowed, password_allowed}
 
 -- Where f is done to one object, R holds of all.
 
@@ -41,7 +41,7 @@ rows_number R same x f kinds h es g here there n (Some m) e =
     rows_changed R same m f kinds (subst P (number_is es x m e) h) es (g m es) (here m) (there m) n
 
 pub rows_found : (R : Dbref → Object → Object → Type 0) → ((y : Dbref) (o : Object) → R y o o) → (x : Dbref) (f : Object → Object) → ((o : Object) → (f o).kind ≡ o.kind) → ((o : Object) → R x o (f o)) →
-    (es : List Entry) (n : ℕ) → Row (R (dbref_of n)) (object_at (dbref_of n) es) (object_at (dbref_of n) (found x (set_at f) es))
+    (es : List Entry) (n : ℕ) → Row (R (dbref_of n)) (object_at (dbref_of n) es) (object_at (dbref_of n) (at_number (set_at f) x es))
 rows_found R same x f kinds h es n = rows_number R same x f kinds h es (set_at f) (λ m. object_changed m f es) (λ m k ne. object_unchanged m k f es ne) n (number_in es x) refl
 
 object_lined : (m : ℕ) (lines : List (List ℕ)) (es : List Entry) → object_in (changed_at m (with_lines lines) es) m ≡ option_map (λ (o : Object). record o { lines = lines }) (object_in es m)
@@ -53,7 +53,7 @@ object_lined m lines es = rw (get_changed_same es m (with_lines lines)) (by_case
     by_cases lines (Some e) = refl
 
 rows_lined : (R : Dbref → Object → Object → Type 0) → ((y : Dbref) (o : Object) → R y o o) → (x : Dbref) (lines : List (List ℕ)) → ((o : Object) → R x o (record o { lines = lines })) →
-    (es : List Entry) (n : ℕ) → Row (R (dbref_of n)) (object_at (dbref_of n) es) (object_at (dbref_of n) (found x (lines_set lines) es))
+    (es : List Entry) (n : ℕ) → Row (R (dbref_of n)) (object_at (dbref_of n) es) (object_at (dbref_of n) (at_number (lines_set lines) x es))
 rows_lined R same x lines h es n = rows_number R same x (λ o. record o { lines = lines }) (λ o. refl) h es (lines_set lines) (λ m. object_lined m lines es) (λ m k ne. object_elsewhere m k (with_lines lines) es ne) n (number_in es x) refl
 
 -- Worlds in which the objects alone differ.
@@ -76,11 +76,11 @@ end_objects j w v b rows =
     let U : Board → Type 0 = λ t. Open (λ tune. is_master j.actor) w.board.tune t.tune in
     record { rows = rows; ties = subst T (sym b) (ties_itself j.actor w.board.connections); tune = subst U (sym b) (inl refl) }
 
-stay_found : (j : Judge) (x : Dbref) (f : Object → Object) → ((o : Object) → (f o).kind ≡ o.kind) → ((o : Object) → Kept j x o (f o)) → (w : Live) → Stay j w (on_found x f w)
-stay_found j x f kinds h w = stay_objects j w (on_found x f w) refl (rows_found (Kept j) (kept_same j) x f kinds h w.objects)
+stay_found : (j : Judge) (x : Dbref) (f : Object → Object) → ((o : Object) → (f o).kind ≡ o.kind) → ((o : Object) → Kept j x o (f o)) → (w : Live) → Stay j w (set_object f x w)
+stay_found j x f kinds h w = stay_objects j w (set_object f x w) refl (rows_found (Kept j) (kept_same j) x f kinds h w.objects)
 
-end_found : (j : Judge) (x : Dbref) (f : Object → Object) → ((o : Object) → (f o).kind ≡ o.kind) → ((o : Object) → Changed j x o (f o)) → (w : Live) → End j w (on_found x f w)
-end_found j x f kinds h w = end_objects j w (on_found x f w) refl (λ n. differs_row j (dbref_of n) _ _ (rows_found (Changed j) (changed_same j) x f kinds h w.objects n))
+pub end_found : (j : Judge) (x : Dbref) (f : Object → Object) → ((o : Object) → (f o).kind ≡ o.kind) → ((o : Object) → Changed j x o (f o)) → (w : Live) → End j w (set_object f x w)
+end_found j x f kinds h w = end_objects j w (set_object f x w) refl (λ n. differs_row j (dbref_of n) _ _ (rows_found (Changed j) (changed_same j) x f kinds h w.objects n))
 
 -- Names.
 

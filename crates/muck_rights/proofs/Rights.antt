@@ -9,11 +9,11 @@ use Rattle.muck_model.specs.declared.dbref.Kind.TheVariants.{Garbage}
 use Rattle.muck_live.specs.declared.object.Object.{Object}
 use Rattle.muck_live.specs.Flags.{has_flag, chown, wizard, quell}
 use Rattle.muck_live.specs.Objects.{Entry, dbref_of, nothing, same, is_player, is_program, object_at}
-use Rattle.muck_world.specs.declared.act.Actor.{Actor}
-use Rattle.muck_world.specs.Levels.{master, level_at, owner_at, flag_at, is_player_at, owns, controls_as}
-use Rattle.muck_world.specs.Verdict.{controls, controls_or, is_program_at, may_take_over}
-use Rattle.muck_world.specs.Licence.{may_recycle}
-use Rattle.muck_world.proofs.Lookups.{at_negative}
+use Rattle.muck_rights.specs.declared.act.Actor.{Actor}
+use Rattle.muck_rights.specs.Levels.{master, level_at, owner_at, flag_at, is_player_at, owns, controls_as}
+use Rattle.muck_rights.specs.Verdict.{controls, controls_or, is_program_at, may_take_over}
+use Rattle.muck_rights.specs.Licence.{may_recycle}
+use Rattle.muck_rights.proofs.Lookups.{at_negative}
 
 -- what rights rest on: with them the home, to which an object may always go
 pub record Rights : Type 0 where

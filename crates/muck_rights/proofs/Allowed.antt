@@ -15,17 +15,16 @@ use Rattle.muck_live.specs.declared.object.Object.{Object}
 use Rattle.muck_prop.specs.declared.path.Class.{Class}
 use Rattle.muck_prop.specs.declared.path.Class.TheVariants.{At, Tilde, Dot, Underscore, Plain}
 use Rattle.muck_prop.specs.Paths.{class_of}
-use Rattle.muck_world.specs.declared.act.Actor.{Actor}
-use Rattle.muck_world.specs.declared.act.Act.TheVariants.{Write, Move, Link, NewRoom, NewThing, NewExit, NewProgram, Edit, Change, Rename, Password, Wizard, SetFlag, SetLevel, Recycle, SetOwner}
-use Rattle.muck_world.specs.declared.rule.Rule.{Rule}
-use Rattle.muck_world.specs.declared.rule.Rule.TheVariants.{P3, P4, P6, P7, P8, P9, P12, P13, P14, P15, P16, P17, P18, P19, P20, P21, P22}
-use Rattle.muck_world.specs.Levels.{level_at, is_player_at, flag_at}
-use Rattle.muck_world.specs.Verdict.{verdict, below, or_else, denial, when, is_master, controls, controls_or, open_place, open_target, is_program_at, may_take_over, may_build, is_hidden, is_kept, is_guarded, is_plain}
-use Rattle.muck_world.specs.Licence.{Judge, name_open, property_open, place_open, link_open, home_open, level_open, level_open_to, lines_open, owner_open, home_of, kind_of}
-use Rattle.muck_world.specs.Changing.{home_at}
-use Rattle.muck_world.proofs.Lookups.{same_eq}
-use Rattle.muck_world.proofs.Rights.{SameRights, same_level, same_home, same_flag, same_player, same_program, same_controls, same_controls_or, same_take_over}
-use Rattle.muck_world.proofs.Licences.{judge}
+use Rattle.muck_rights.specs.declared.act.Actor.{Actor}
+use Rattle.muck_rights.specs.declared.act.Act.TheVariants.{Write, Move, Link, NewRoom, NewThing, NewExit, NewProgram, Edit, Change, Rename, Password, Wizard, SetFlag, SetLevel, Recycle, SetOwner}
+use Rattle.muck_rights.specs.declared.rule.Rule.{Rule}
+use Rattle.muck_rights.specs.declared.rule.Rule.TheVariants.{P3, P4, P6, P7, P8, P9, P12, P13, P14, P15, P16, P17, P18, P19, P20, P21, P22}
+use Rattle.muck_rights.specs.Levels.{level_at, is_player_at, flag_at}
+use Rattle.muck_rights.specs.Verdict.{verdict, below, or_else, denial, when, is_master, controls, controls_or, open_place, open_target, is_program_at, may_take_over, may_build, is_hidden, is_kept, is_guarded, is_plain}
+use Rattle.muck_rights.specs.Licence.{Judge, name_open, property_open, place_open, link_open, home_open, level_open, level_open_to, lines_open, owner_open, home_of, kind_of}
+use Rattle.muck_rights.proofs.Lookups.{same_eq}
+use Rattle.muck_rights.proofs.Rights.{SameRights, same_level, same_home, same_flag, same_player, same_program, same_controls, same_controls_or, same_take_over}
+use Rattle.muck_rights.proofs.Licences.{judge}
 
 pub le_not : (n m : ℕ) → nat_le n m ≡ not (nat_lt m n)
 le_not n m = grind (arith, nat_tests)
@@ -120,7 +119,7 @@ move_allowed a free start es x to there s e =
     let t : open_place es a to ≡ true = rw there at (not_false (same to home || open_place es a to) q.here) in
     or_right (free x) _ (rw (same_controls a x start es s, same_controls_or jump a to start es s) (and_both (nat_le 3 a.level || controls es a x) _ m (or_right _ (open_place es a to) t)))
 
-pub home_allowed : (a : Actor) (free : Dbref → Bool) (start es : List Entry) (x to : Dbref) → to ≡ home_at x es → SameRights start es → verdict es a (Move x home) ≡ None → place_open (judge a free start) x to ≡ true
+pub home_allowed : (a : Actor) (free : Dbref → Bool) (start es : List Entry) (x to : Dbref) → to ≡ option_map_or (λ (o : Object). o.home) (object_at x es) nothing → SameRights start es → verdict es a (Move x home) ≡ None → place_open (judge a free start) x to ≡ true
 home_allowed a free start es x to there s e =
     let p = passes (below 3 es a x) P8 x _ e in
     let m : (nat_le 3 a.level || controls es a x) ≡ true = rw (le_not 3 a.level) (mover (nat_lt a.level 3) (controls es a x) p.here) in
@@ -136,21 +135,19 @@ link_allowed a free start es x to s e =
     let m : (controls start a x && open_target start a to) ≡ true = rw (same_controls a x start es s, same_controls_or link a to start es s) (and_both (controls es a x) (open_target es a to) (not_false _ p.here) (not_false _ q.here)) in
     or_left _ _ m
 
--- giving a home that is there
-pub live_allowed : (a : Actor) (free : Dbref → Bool) (start es : List Entry) (x to : Dbref) → same to nothing ≡ false → same to home ≡ false → SameRights start es → verdict es a (Link x to) ≡ None → home_open (judge a free start) x to ≡ true
-live_allowed a free start es x to some there s e =
+pub live_allowed : (a : Actor) (free : Dbref → Bool) (start es : List Entry) (x to : Dbref) → SameRights start es → verdict es a (Link x to) ≡ None → home_open (judge a free start) x to ≡ true
+live_allowed a free start es x to s e =
     let p = passes (not (controls es a x)) P12 x _ e in
     let q = passes (not (open_target es a to)) P13 to _ p.next in
-    let t : controls_or link es a to ≡ true = rw (some, there) at (not_false (open_target es a to) q.here) in
-    let m : (controls start a x && (same to (dbref_of 0) || controls_or link start a to)) ≡ true =
-    rw (same_controls a x start es s, same_controls_or link a to start es s) (and_both (controls es a x) _ (not_false _ p.here) (or_right (same to (dbref_of 0)) (controls_or link es a to) t)) in
+    let m : (controls start a x && (same to (dbref_of 0) || open_target start a to)) ≡ true =
+    rw (same_controls a x start es s, same_controls_or link a to start es s) (and_both (controls es a x) _ (not_false _ p.here) (or_right (same to (dbref_of 0)) (open_target es a to) (not_false _ q.here))) in
     or_left _ _ m
 
 -- going back to `#0` as a home
 pub unlink_allowed : (a : Actor) (free : Dbref → Bool) (start es : List Entry) (x to : Dbref) → SameRights start es → verdict es a (Link x to) ≡ None → home_open (judge a free start) x (dbref_of 0) ≡ true
 unlink_allowed a free start es x to s e =
     let p = passes (not (controls es a x)) P12 x _ e in
-    let m : (controls start a x && (same (dbref_of 0) (dbref_of 0) || controls_or link start a (dbref_of 0))) ≡ true = rw (same_controls a x start es s) (and_both (controls es a x) _ (not_false _ p.here) refl) in
+    let m : (controls start a x && (same (dbref_of 0) (dbref_of 0) || open_target start a (dbref_of 0))) ≡ true = rw (same_controls a x start es s) (and_both (controls es a x) _ (not_false _ p.here) refl) in
     or_left _ _ m
 
 -- Flags and levels.

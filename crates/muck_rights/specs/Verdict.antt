@@ -16,12 +16,12 @@ use Rattle.muck_lock.specs.Grammar.{lock_of}
 use Rattle.muck_live.specs.Flags.{has_flag, builder, chown, jump, link, wizard}
 use Rattle.muck_live.specs.Objects.{Entry, nothing, home, same, is_program, object_at}
 use Rattle.muck_live.specs.Seen.{holdings_of}
-use Rattle.muck_world.specs.declared.act.Actor.{Actor}
-use Rattle.muck_world.specs.declared.act.Act.{Act}
-use Rattle.muck_world.specs.declared.act.Act.TheVariants.{Shared, Start, Near, Read, Write, Move, Walk, Take, Link, NewRoom, NewThing, NewExit, NewProgram, Edit, Change, Rename, Password, Wizard, SetFlag, SetLevel, Recycle, SetOwner, EndProcess, Call}
-use Rattle.muck_world.specs.declared.rule.Rule.{Rule}
-use Rattle.muck_world.specs.declared.rule.Rule.TheVariants.{P1, P2, P3, P4, P5, P6, P7, P8, P9, P10, P11, P12, P13, P14, P15, P16, P17, P18, P19, P20, P21, P22, P23, P24}
-use Rattle.muck_world.specs.Levels.{master, level_at, owner_at, flag_at, is_player_at, controls_as, effective}
+use Rattle.muck_rights.specs.declared.act.Actor.{Actor}
+use Rattle.muck_rights.specs.declared.act.Act.{Act}
+use Rattle.muck_rights.specs.declared.act.Act.TheVariants.{Shared, Start, Near, Read, Write, Move, Walk, Take, Link, NewRoom, NewThing, NewExit, NewProgram, Edit, Change, Rename, Password, Wizard, SetFlag, SetLevel, Recycle, SetOwner, EndProcess, Call}
+use Rattle.muck_rights.specs.declared.rule.Rule.{Rule}
+use Rattle.muck_rights.specs.declared.rule.Rule.TheVariants.{P1, P2, P3, P4, P5, P6, P7, P8, P9, P10, P11, P12, P13, P14, P15, P16, P17, P18, P19, P20, P21, P22, P23, P24}
+use Rattle.muck_rights.specs.Levels.{master, level_at, owner_at, flag_at, is_player_at, controls_as, effective}
 
 -- Who may what.
 

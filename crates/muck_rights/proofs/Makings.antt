@@ -1,6 +1,6 @@
 -- What is made keeps to the licence.
 use Rattle.std.proofs.Common.{◌≡◌, ℕ, ◌==◌, suc, Bool, true, false, cond, List, [], ◌∷◌, ◌++◌, length, refl, sym, ◌∙◌, ap, subst, Option, Some, None, inl, inr, arith}
-use Rattle.std.specs.Prelude.{slice_get, min, nat_le, ◌||◌, ◌&&◌}
+use Rattle.std.specs.Prelude.{Result, Ok, Err, nat_lt, slice_get, min, nat_le, ◌||◌, ◌&&◌}
 use Rattle.std.specs.Option.{option_map, option_and_then, option_map_or}
 use Rattle.std.proofs.lemmas.Bool.{cases_eq}
 use Rattle.std.proofs.lemmas.Bool.Decides.{nat_tests}
@@ -11,22 +11,24 @@ use Rattle.muck_live.specs.declared.object.Object.{Object}
 use Rattle.muck_live.specs.Flags.{builder, jump, link}
 use Rattle.muck_live.specs.Objects.{Entry, dbref_of, nothing, home, same, is_garbage, object_in, number_in, object_at, changed_at, with_object, garbage}
 use Rattle.muck_live.specs.Moving.{moved, with_place}
-use Rattle.muck_live.specs.Making.{free_in, blank_entry, grown, new_object, created}
-use Rattle.muck_live.specs.Setting.{with_home, with_link, with_level, with_password}
+use Rattle.muck_live.specs.Making.{free_in, blank_entry, grown, new_object, created, may_make, make_judged, objects_most, owner_judged, create_check}
+use Rattle.muck_live.specs.declared.fault.DbFault.{DbFault}
+use Rattle.muck_live.specs.declared.fault.DbFault.TheVariants.{NoSuchObject, WrongKind, WorldFull}
+use Rattle.muck_live.specs.Setting.{set_at, with_home, with_link, with_level, with_password}
 use Rattle.muck_live.specs.Lives.{Live}
 use Rattle.muck_live.proofs.Lists.{get_changed_same, read_more}
 use Rattle.muck_live.proofs.Readers.{object_changed, object_unchanged, object_elsewhere, object_moved, object_unmoved}
-use Rattle.muck_world.specs.declared.act.Actor.{Actor}
-use Rattle.muck_world.specs.declared.act.Act.TheVariants.{NewRoom, NewThing, NewExit, NewProgram, Wizard}
-use Rattle.muck_world.specs.Levels.{level_at, flag_at}
-use Rattle.muck_world.specs.Verdict.{is_master, controls, controls_or}
-use Rattle.muck_world.specs.Changing.{made_in, made, room_made, thing_made, exit_made, program_made, player_made}
-use Rattle.muck_world.specs.Licence.{Judge, IsNew, Differs}
-use Rattle.muck_world.proofs.Lookups.{alive, at_number, number_is, same_eq}
-use Rattle.muck_world.proofs.Rights.{same_level}
-use Rattle.muck_world.proofs.Licences.{judge, changed_same, End, Ends, itself}
-use Rattle.muck_world.proofs.Allowed.{room_allowed, thing_allowed, exit_allowed, program_allowed, wizard_allowed}
-use Rattle.muck_world.proofs.Changes.{end_objects}
+use Rattle.muck_rights.specs.declared.act.Actor.{Actor}
+use Rattle.muck_rights.specs.declared.act.Act.TheVariants.{NewRoom, NewThing, NewExit, NewProgram, Wizard}
+use Rattle.muck_rights.specs.Levels.{level_at, flag_at}
+use Rattle.muck_rights.specs.Verdict.{verdict, is_master, controls, controls_or}
+use Rattle.muck_rights.specs.Changing.{created_so}
+use Rattle.muck_rights.specs.Licence.{Judge, IsNew, Differs}
+use Rattle.muck_rights.proofs.Lookups.{alive, seen_at, number_is, same_eq}
+use Rattle.muck_rights.proofs.Rights.{SameRights, same_level}
+use Rattle.muck_rights.proofs.Licences.{judge, changed_same, End, Ends, itself}
+use Rattle.muck_rights.proofs.Allowed.{room_allowed, thing_allowed, exit_allowed, program_allowed, wizard_allowed}
+use Rattle.muck_rights.proofs.Changes.{end_objects}
 
 -- Nothing is there at the free number.
 free_dead : (es : List Entry) → option_and_then alive (object_in es (free_in es)) ≡ None
@@ -55,7 +57,10 @@ object_put k o es = rw (get_changed_same es k (with_object o)) (by_cases o (slic
     by_cases o None = refl
     by_cases o (Some e) = refl
 
-abbrev new_in : Kind → List ℕ → Dbref → (Object → Object) → ℕ → ℕ → Object
+abbrev made_in : Kind → List ℕ → Dbref → (Object → Object) → ℕ → List Entry → List Entry
+made_in kind name owner finished to es = set_at finished (free_in es) (created (free_in es) kind name owner to es)
+
+abbrev pub new_in : Kind → List ℕ → Dbref → (Object → Object) → ℕ → ℕ → Object
 new_in kind name owner finished k to = finished (with_place to (new_object k kind name owner))
 
 made_here : (kind : Kind) (name : List ℕ) (owner : Dbref) (finished : Object → Object) (to : ℕ) (es : List Entry) →
@@ -97,7 +102,7 @@ differs_made : (j : Judge) (kind : Kind) (name : List ℕ) (owner : Dbref) (fini
 differs_made j kind name owner finished to es h n =
     let fs : List Entry = made_in kind name owner finished to es in
     let k : ℕ = free_in es in
-    rw (at_number es n, at_number fs n) (elim (cases_eq n k) [
+    rw (seen_at es n, seen_at fs n) (elim (cases_eq n k) [
       | inl e ↦
           let P : ℕ → Type 0 = λ m. Differs j (dbref_of m) (option_and_then alive (object_in es m)) (option_and_then alive (object_in fs m)) in
           let Q : Option Object → Option Object → Type 0 = λ p q. Differs j (dbref_of k) p (option_and_then alive q) in
@@ -108,14 +113,34 @@ differs_made j kind name owner finished to es h n =
       | inr e ↦ differs_same j (dbref_of n) _ _ (ap (λ (q : Option Object). option_and_then alive q) (made_there kind name owner finished to es n e) ∙ grown_same k n es)
     ])
 
--- an object that is made in a place that is there
-end_made : (j : Judge) (kind : Kind) (name : List ℕ) (owner : Dbref) (finished : Object → Object) (place : Dbref) (w : Live) →
-    ((t : ℕ) → place ≡ dbref_of t → IsNew j (dbref_of (free_in w.objects)) (new_in kind name owner finished (free_in w.objects) t)) → End j w (made kind name owner finished place w)
-end_made j kind name owner finished place w h = end_objects j w (made kind name owner finished place w) refl (λ n. at n (number_in w.objects place) refl)
+-- what a check that passes says
+made_by : (kind : Kind) (owned : Bool) (to : ℕ) (es : List Entry) (p : ℕ × ℕ) → make_judged kind owned to es ≡ Ok p → (p.0 ≡ free_in es) × (p.1 ≡ to)
+unfolding make_judged
+made_by kind owned to es p e = at (may_make kind owned to es) (nat_lt (free_in es) objects_most) e
   where
-    at : (n : ℕ) (q : Option ℕ) → number_in w.objects place ≡ q → Differs j (dbref_of n) (object_at (dbref_of n) w.objects) (object_at (dbref_of n) (option_map_or (λ t. made_in kind name owner finished t w.objects) q w.objects))
-    at n None e = differs_same j (dbref_of n) _ _ refl
-    at n (Some t) e = differs_made j kind name owner finished t w.objects (h t (number_is w.objects place t e)) n
+    at : (b c : Bool) → cond b (cond c (Ok (free_in es, to)) (Err WorldFull)) (Err WrongKind) ≡ Ok p → (p.0 ≡ free_in es) × (p.1 ≡ to)
+    at true true e = let k : p ≡ (free_in es, to) = cc in (ap (λ (t : ℕ × ℕ). t.0) k, ap (λ (t : ℕ × ℕ). t.1) k)
+    at true false e = absurd (cc)
+    at false c e = absurd (cc)
+
+made_checked : (kind : Kind) (owner place : Dbref) (es : List Entry) (p : ℕ × ℕ) → create_check kind owner place es ≡ Ok p → (p.0 ≡ free_in es) × (number_in es place ≡ Some p.1)
+unfolding create_check
+made_checked kind owner place es p e = at (owner_judged kind owner es) (number_in es place) refl e
+  where
+    at : (o : Option Bool) (q : Option ℕ) → number_in es place ≡ q → option_map_or (λ owned. option_map_or (λ to. make_judged kind owned to es) q (Err NoSuchObject)) o (Err NoSuchObject) ≡ Ok p → (p.0 ≡ free_in es) × (number_in es place ≡ Some p.1)
+    at None q f e = absurd (cc)
+    at (Some owned) None f e = absurd (cc)
+    at (Some owned) (Some to) f e = let k = made_by kind owned to es p e in (k.0, f ∙ ap Some (sym k.1))
+
+-- an object that is made where the check passed
+pub end_created : (j : Judge) (kind : Kind) (name : List ℕ) (owner place : Dbref) (finished : Object → Object) (w : Live) (p : ℕ × ℕ) → create_check kind owner place w.objects ≡ Ok p →
+    ((k t : ℕ) → place ≡ dbref_of t → IsNew j (dbref_of k) (new_in kind name owner finished k t)) → End j w (created_so p.0 kind name owner p.1 finished w)
+unfolding created_so
+end_created j kind name owner place finished w p e h =
+    let k = made_checked kind owner place w.objects p e in
+    let D : ℕ → Type 0 = λ m. (n : ℕ) → Differs j (dbref_of n) (object_at (dbref_of n) w.objects) (object_at (dbref_of n) (set_at finished m (created m kind name owner p.1 w.objects))) in
+    let new = h (free_in w.objects) p.1 (number_is w.objects place p.1 k.1) in
+    end_objects j w (created_so p.0 kind name owner p.1 finished w) refl (subst D (sym k.0) (differs_made j kind name owner finished p.1 w.objects new))
 
 -- The kinds.
 
@@ -148,45 +173,32 @@ program_new : (a : Actor) (free : Dbref → Bool) (start : List Entry) (name : L
 unfolding new_object
 program_new a free start name level k t b h = record { kind = and_three _ _ _ (same_eq a.user a.user refl) b h; flags = refl; link = refl }
 
-player_new : (a : Actor) (free : Dbref → Bool) (start : List Entry) (name : List ℕ) (salt : ℕ) (word : List ℕ) (k t : ℕ) → is_master a ≡ true → IsNew (judge a free start) (dbref_of k) (new_in Player name nothing (with_password salt word) k t)
+player_new : (a : Actor) (free : Dbref → Bool) (start : List Entry) (name : List ℕ) (owner : Dbref) (salt : ℕ) (word : List ℕ) (k t : ℕ) → is_master a ≡ true → IsNew (judge a free start) (dbref_of k) (new_in Player name owner (with_password salt word) k t)
 unfolding new_object
-player_new a free start name salt word k t h = record { kind = and_three _ _ _ h refl (same_eq (dbref_of k) (dbref_of k) refl); flags = refl; link = refl }
+player_new a free start name owner salt word k t h = record { kind = and_three _ _ _ h refl (same_eq (dbref_of k) (dbref_of k) refl); flags = refl; link = refl }
 
-pub ends_room_made : (a : Actor) (free : Dbref → Bool) (name : List ℕ) (place : Dbref) → Ends itself a free (Some (NewRoom place)) (room_made name a.user place)
-unfolding room_made
-ends_room_made a free name place = record {
-  law = λ start w s g.
-      let p = room_allowed a start w.objects place s g in
-      end_made (judge a free start) Room name a.user (λ o. o) place w (λ t e. room_new a free start name (free_in w.objects) t p.0 (ap (controls_or link start a) (sym e) ∙ p.1));
-}
+-- What is new by an act that is allowed.
 
-pub ends_thing_made : (a : Actor) (free : Dbref → Bool) (name : List ℕ) (place at : Dbref) → Ends itself a free (Some (NewThing place)) (thing_made name a.user place at)
-unfolding thing_made
-ends_thing_made a free name place at = record {
-  law = λ start w s g.
-      let p = thing_allowed a start w.objects place s g in
-      end_made (judge a free start) Thing name a.user (with_home at) place w (λ t e. thing_new a free start name at (free_in w.objects) t p.0 (ap (λ d. nat_le 3 a.level || controls_or jump start a d) (sym e) ∙ p.1));
-}
+pub room_open : (a : Actor) (free : Dbref → Bool) (start es : List Entry) (name : List ℕ) (place : Dbref) (k t : ℕ) → SameRights start es → verdict es a (NewRoom place) ≡ None → place ≡ dbref_of t → IsNew (judge a free start) (dbref_of k) (new_in Room name a.user (λ o. o) k t)
+room_open a free start es name place k t s g e =
+    let p = room_allowed a start es place s g in
+    room_new a free start name k t p.0 (ap (controls_or link start a) (sym e) ∙ p.1)
 
-pub ends_exit_made : (a : Actor) (free : Dbref → Bool) (name : List ℕ) (place to : Dbref) → Ends itself a free (Some (NewExit place to)) (exit_made name a.user place to)
-unfolding exit_made
-ends_exit_made a free name place to = record {
-  law = λ start w s g.
-      let p = exit_allowed a start w.objects place to s g in
-      end_made (judge a free start) Exit name a.user (with_link to) place w (λ t e. exit_new a free start name to (free_in w.objects) t p.0 (ap (controls start a) (sym e) ∙ p.1) p.2);
-}
+pub thing_open : (a : Actor) (free : Dbref → Bool) (start es : List Entry) (name : List ℕ) (place at : Dbref) (k t : ℕ) → SameRights start es → verdict es a (NewThing place) ≡ None → place ≡ dbref_of t → IsNew (judge a free start) (dbref_of k) (new_in Thing name a.user (with_home at) k t)
+thing_open a free start es name place at k t s g e =
+    let p = thing_allowed a start es place s g in
+    thing_new a free start name at k t p.0 (ap (λ d. nat_le 3 a.level || controls_or jump start a d) (sym e) ∙ p.1)
 
-pub ends_program_made : (a : Actor) (free : Dbref → Bool) (name : List ℕ) (place : Dbref) → Ends itself a free (Some NewProgram) (program_made name a.user place)
-unfolding program_made
-ends_program_made a free name place = record {
-  law = λ start w s g.
-      let level : ℕ = min (level_at w.objects a.user) 3 in
-      let h : nat_le level (level_at start a.user) ≡ true = at_most (level_at w.objects a.user) (level_at start a.user) (sym (same_level a.user start w.objects s)) in
-      end_made (judge a free start) Program name a.user (with_level level) place w (λ t e. program_new a free start name level (free_in w.objects) t (program_allowed a start w.objects s g) h);
-}
+pub exit_open : (a : Actor) (free : Dbref → Bool) (start es : List Entry) (name : List ℕ) (place to : Dbref) (k t : ℕ) → SameRights start es → verdict es a (NewExit place to) ≡ None → place ≡ dbref_of t → IsNew (judge a free start) (dbref_of k) (new_in Exit name a.user (with_link to) k t)
+exit_open a free start es name place to k t s g e =
+    let p = exit_allowed a start es place to s g in
+    exit_new a free start name to k t p.0 (ap (controls start a) (sym e) ∙ p.1) p.2
 
-pub ends_player_made : (a : Actor) (free : Dbref → Bool) (name : List ℕ) (salt : ℕ) (word : List ℕ) → Ends itself a free (Some Wizard) (player_made name salt word)
-unfolding player_made
-ends_player_made a free name salt word = record {
-  law = λ start w s g. end_made (judge a free start) Player name nothing (with_password salt word) (dbref_of 0) w (λ t e. player_new a free start name salt word (free_in w.objects) t (wizard_allowed w.objects a g));
-}
+-- at its owner's level, at most 3
+pub program_open : (a : Actor) (free : Dbref → Bool) (start es : List Entry) (name : List ℕ) (level k t : ℕ) → SameRights start es → verdict es a NewProgram ≡ None → level ≡ min (level_at es a.user) 3 → IsNew (judge a free start) (dbref_of k) (new_in Program name a.user (with_level level) k t)
+program_open a free start es name level k t s g e =
+    let h : nat_le (min (level_at es a.user) 3) (level_at start a.user) ≡ true = at_most (level_at es a.user) (level_at start a.user) (sym (same_level a.user start es s)) in
+    program_new a free start name level k t (program_allowed a start es s g) (ap (λ n. nat_le n (level_at start a.user)) e ∙ h)
+
+pub player_open : (a : Actor) (free : Dbref → Bool) (start es : List Entry) (name : List ℕ) (owner : Dbref) (salt : ℕ) (word : List ℕ) (k t : ℕ) → verdict es a Wizard ≡ None → IsNew (judge a free start) (dbref_of k) (new_in Player name owner (with_password salt word) k t)
+player_open a free start es name owner salt word k t g = player_new a free start name owner salt word k t (wizard_allowed es a g)

@@ -5,7 +5,7 @@ use Rattle.std.proofs.lemmas.Bool.Decides.{nat_tests}
 use Rattle.std.specs.List.{list_any}
 use Rattle.muck_model.specs.declared.dbref.Flags.{Flags}
 use Rattle.muck_live.specs.Flags.{has_flag, with_flag, without_flag, wizard}
-use Rattle.muck_world.specs.Changing.{flag_values, is_flag}
+use Rattle.muck_rights.specs.Changing.{flag_values, is_flag}
 
 -- the bit of W after adding or taking away the value of another bit
 record Leaves (v : ℕ) : Type 0 where

@@ -14,9 +14,9 @@ use Rattle.muck_live.specs.Recycling.{wished_home}
 use Rattle.muck_live.specs.Seen.{listed_in}
 use Rattle.muck_live.specs.Connections.{Connection}
 use Rattle.muck_live.specs.Lives.{Live}
-use Rattle.muck_world.specs.declared.act.Actor.{Actor}
-use Rattle.muck_world.specs.Levels.{level_at, is_player_at, flag_at}
-use Rattle.muck_world.specs.Verdict.{is_master, controls, controls_or, is_hidden, is_kept, is_guarded, may_take_over, place_of}
+use Rattle.muck_rights.specs.declared.act.Actor.{Actor}
+use Rattle.muck_rights.specs.Levels.{level_at, is_player_at, flag_at}
+use Rattle.muck_rights.specs.Verdict.{is_master, controls, controls_or, is_hidden, is_kept, is_guarded, may_take_over, place_of}
 
 -- what stood there stands there, or what stands there now is open
 abbrev pub Open : {X : Type 0} → (X → Bool) → X → X → Type 0
@@ -78,7 +78,7 @@ link_open j x to =
 
 abbrev pub home_open : Judge → Dbref → Dbref → Bool
 home_open j x to =
-    (owned j x && (same to (dbref_of 0) || controls_or link j.objects j.actor to))
+    (owned j x && (same to (dbref_of 0) || (same to nothing || (same to home || controls_or link j.objects j.actor to))))
     || (same to (dbref_of 0) && is_gone j (home_of j x))
 
 abbrev pub level_open_to : Judge → Dbref → ℕ → Kind → Bool

@@ -7,10 +7,9 @@ use Rattle.muck_model.specs.declared.dbref.Denial.{Denial}
 use Rattle.muck_live.specs.Connections.{Connection, has_number, changed_in, told, told_where, is_of, hears, has_player}
 use Rattle.muck_live.specs.Boards.{on_connection, told_one, told_player, told_others, told_all}
 use Rattle.muck_live.specs.Lives.{on_board, tell, tell_player, tell_others, tell_all, place_of}
-use Rattle.muck_world.specs.Talk.{waits}
-use Rattle.muck_world.specs.Asking.{refused}
-use Rattle.muck_world.specs.Changing.{rolled}
-use Rattle.muck_world.proofs.Licences.{tie, ties, Quiet, quiet_unchanged, quiet_followed, quiet_reading, quiet_either, quiet_provided}
+use Rattle.muck_rights.specs.Asking.{refused}
+use Rattle.muck_rights.specs.Changing.{rolled}
+use Rattle.muck_rights.proofs.Licences.{tie, ties, Quiet, quiet_unchanged, quiet_followed, quiet_reading, quiet_either}
 
 ties-changed_in : (d : ℕ) (f : Connection → Connection) → ((c : Connection) → tie (f c) ≡ tie c) → (cs : List Connection) → ties (changed_in d f cs) ≡ ties cs
 ties-changed_in d f keeps [] = refl
@@ -31,11 +30,6 @@ told_keeps false text c = refl
 -- what of a connection isn't judged, as what waits there and what is edited
 pub quiet_one : (d : ℕ) (f : Connection → Connection) → ((c : Connection) → tie (f c) ≡ tie c) → Quiet (on_board (on_connection d f))
 quiet_one d f keeps = record { objects = λ w. refl; ties = λ w. ties-changed_in d f keeps w.board.connections; tune = λ w. refl }
-
--- the lines that wait
-pub quiet_waits : (d : ℕ) (lines : List (List ℕ)) → Quiet (waits d lines)
-unfolding waits
-quiet_waits d lines = quiet_one d (λ c. record c { waiting = lines }) (λ c. refl)
 
 pub quiet_tell : (d : ℕ) (text : List ℕ) → Quiet (tell d text)
 unfolding tell told_one
@@ -61,7 +55,7 @@ pub quiet_rolled : (random : Lcg) → Quiet (rolled random)
 unfolding rolled
 quiet_rolled random = record { objects = λ w. refl; ties = λ w. refl; tune = λ w. refl }
 
-pub ruleset showing = (quiet_unchanged, quiet_followed, quiet_reading, quiet_either, quiet_provided, quiet_waits, quiet_tell, quiet_tell_player, quiet_tell_others, quiet_tell_all, quiet_rolled)
+pub ruleset showing = (quiet_unchanged, quiet_followed, quiet_reading, quiet_either, quiet_tell, quiet_tell_player, quiet_tell_others, quiet_tell_all, quiet_rolled)
 
 pub quiet_refused : (d : ℕ) (denial : Denial) → Quiet (refused d denial)
 unfolding refused

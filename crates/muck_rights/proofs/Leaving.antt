@@ -7,16 +7,16 @@ use Rattle.muck_model.specs.declared.tune.Tune.{Tune}
 use Rattle.muck_live.specs.Objects.{Entry, dbref_of, same, object_at}
 use Rattle.muck_live.specs.Connections.{Connection, has_number, changed_in, is_of, left}
 use Rattle.muck_live.specs.Boards.{leaving_one}
-use Rattle.muck_live.specs.Lives.{leave}
-use Rattle.muck_world.specs.declared.act.Actor.{Actor}
-use Rattle.muck_world.specs.declared.act.Act.{Act}
-use Rattle.muck_world.specs.declared.act.Act.TheVariants.{Wizard}
-use Rattle.muck_world.specs.Verdict.{is_master}
-use Rattle.muck_world.specs.Changing.{booted, tuned}
-use Rattle.muck_world.specs.Licence.{Open, SameTies, leave_open}
-use Rattle.muck_world.proofs.Lookups.{row_same, same_eq}
-use Rattle.muck_world.proofs.Licences.{judge, kept_same, differs_kept, Stays, Whole, itself, ties_itself}
-use Rattle.muck_world.proofs.Allowed.{or_left, or_right, wizard_allowed}
+use Rattle.muck_live.specs.Lives.{Live, leave}
+use Rattle.muck_rights.specs.declared.act.Actor.{Actor}
+use Rattle.muck_rights.specs.declared.act.Act.{Act}
+use Rattle.muck_rights.specs.declared.act.Act.TheVariants.{Wizard}
+use Rattle.muck_rights.specs.Verdict.{is_master}
+use Rattle.muck_rights.specs.Changing.{booted, tuned}
+use Rattle.muck_rights.specs.Licence.{Open, SameTies, leave_open}
+use Rattle.muck_rights.proofs.Lookups.{row_same, same_eq}
+use Rattle.muck_rights.proofs.Licences.{judge, kept_same, differs_kept, Stays, Whole, itself, ties_itself}
+use Rattle.muck_rights.proofs.Allowed.{or_left, or_right, wizard_allowed}
 
 own_open : (a : Actor) (c : Connection) → c.player ≡ Some a.player → leave_open a c ≡ true
 own_open a c e = or_right (is_master a) _ (ap (λ p. option_map_or (same a.player) p false) e ∙ same_eq a.player a.player refl)
@@ -30,7 +30,7 @@ ties_left a d (c ∷ cs) =
     ]
 
 -- the actor's own connection leaves
-pub whole_leave : (a : Actor) (d : ℕ) (free : List Entry → Dbref → Bool) (given : Option Act) → Whole itself a (Some d) free given (leave d)
+pub whole_leave : (a : Actor) (d : ℕ) (free : List Entry → Dbref → Bool) (given : Live → Type 0) → Whole itself a (Some d) free given (leave d)
 unfolding leave leaving_one
 whole_leave a d free given = record {
   law = λ w c h. record {

@@ -1,0 +1,5 @@
+pub mod Levels
+pub mod Verdict
+pub mod Licence
+pub mod Asking
+pub mod Changing

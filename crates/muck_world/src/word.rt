@@ -1,0 +1,50 @@
+// The words of commands.
+
+/// What players do.
+#[derive(Clone, Copy, Debug, PartialEq, Eq)]
+pub enum PlayWord {
+    Look,
+    Say,
+    Pose,
+    Page,
+    Whisper,
+    Go,
+    Get,
+    Drop,
+    Inventory,
+    Home,
+    Examine,
+    Who,
+    Quit,
+}
+
+/// A message of an object.
+#[derive(Clone, Copy, Debug, PartialEq, Eq)]
+pub enum Message {
+    Describe,
+    Success,
+    OthersSuccess,
+    Fail,
+    OthersFail,
+    Drop,
+    OthersDrop,
+}
+
+/// What builders do.
+#[derive(Clone, Copy, Debug, PartialEq, Eq)]
+pub enum BuildWord {
+    Dig,
+    Create,
+    Open,
+    Action,
+    Link,
+    Unlink,
+    Name,
+    Set(Message),
+    Lock,
+    Unlock,
+    Teleport,
+    Recycle,
+    Chown,
+    Find,
+}
