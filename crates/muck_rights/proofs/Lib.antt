@@ -1,0 +1,12 @@
+pub mod Lookups
+pub mod Rights
+pub mod Licences
+pub mod Shown
+pub mod Allowed
+pub mod Bits
+pub mod Changes
+pub mod Places
+pub mod Leaving
+pub mod Makings
+pub mod Recycled
+pub mod Permitted

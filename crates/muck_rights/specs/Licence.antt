@@ -1,30 +1,33 @@
 -- What an actor may change: the differences between two worlds, field by field.
 use Rattle.std.specs.Prelude.{◌≡◌, ◌⊎◌, ℕ, Bool, true, false, not, ◌&&◌, ◌||◌, ◌==◌, nat_le, if◌then◌else◌, List, [], ◌∷◌, Option, Some, None}
 use Rattle.std.specs.Option.{option_map_or}
+use Rattle.std.specs.List.{list_any}
 use Rattle.std.specs.FinMap.{get}
 use Rattle.muck_model.specs.declared.dbref.Dbref.{Dbref}
-use Rattle.muck_model.specs.declared.dbref.Flags.{Flags}
 use Rattle.muck_model.specs.declared.dbref.Kind.{Kind}
 use Rattle.muck_model.specs.declared.dbref.Kind.TheVariants.{Room, Thing, Exit, Player, Program, Garbage}
 use Rattle.muck_prop.specs.Paths.{class_of}
 use Rattle.muck_live.specs.declared.object.Object.{Object}
 use Rattle.muck_live.specs.Flags.{has_flag, no_flags, builder, jump, link, wizard}
-use Rattle.muck_live.specs.Objects.{Entry, dbref_of, nothing, home, same, is_player, is_exit, object_at}
+use Rattle.muck_live.specs.Objects.{Entry, dbref_of, nothing, home, same, index_of, is_exit, kind_in, object_at}
+use Rattle.muck_live.specs.Recycling.{wished_home}
+use Rattle.muck_live.specs.Seen.{listed_in}
 use Rattle.muck_live.specs.Connections.{Connection}
 use Rattle.muck_live.specs.Lives.{Live}
 use Rattle.muck_rights.specs.declared.act.Actor.{Actor}
-use Rattle.muck_rights.specs.Levels.{level_at, is_player_at, flag_at, owner_at}
+use Rattle.muck_rights.specs.Levels.{level_at, is_player_at, flag_at}
 use Rattle.muck_rights.specs.Verdict.{is_master, controls, controls_or, is_hidden, is_kept, is_guarded, may_take_over, place_of}
 
 -- what stood there stands there, or what stands there now is open
 abbrev pub Open : {X : Type 0} → (X → Bool) → X → X → Type 0
 Open test old new = (new ≡ old) ⊎ (test new ≡ true)
 
--- Who acts, what it may move freely, what it recycles, and the objects by which rights are judged: those at the start.
+-- Who acts, what it may move freely, what it recycles, if anything, and the objects by which rights are judged: those at
+-- the start.
 pub record Judge : Type 0 where
   pub actor : Actor
   pub free : Dbref → Bool
-  pub gone : Dbref → Bool
+  pub gone : Option Dbref
   pub objects : List Entry
 
 abbrev pub owned : Judge → Dbref → Bool
@@ -39,6 +42,19 @@ link_of j x = option_map_or (λ o. o.link) (object_at x j.objects) nothing
 abbrev pub kind_of : Judge → Dbref → Kind
 kind_of j x = option_map_or (λ o. o.kind) (object_at x j.objects) Garbage
 
+-- What a recycling brings with it.
+
+abbrev pub is_gone : Judge → Dbref → Bool
+is_gone j x = option_map_or (same x) j.gone false
+
+-- x stands among the contents of what is recycled
+abbrev pub is_emptied : Judge → Dbref → Bool
+is_emptied j x = option_map_or (λ d. list_any (same x) (listed_in false d j.objects)) j.gone false
+
+-- where such an object goes: to `#0`, or where it wishes to be sent home
+abbrev pub is_way_home : Judge → Dbref → Dbref → Bool
+is_way_home j x to = same to (dbref_of 0) || option_map_or (λ n. option_map_or (λ t. same to (dbref_of t)) (wished_home n j.objects (kind_in j.objects n)) false) (index_of x) false
+
 -- What is open to the actor, a row for each field, by what stands there now.
 
 abbrev pub name_open : Judge → Dbref → Bool
@@ -52,18 +68,18 @@ property_open j x path =
 
 abbrev pub place_open : Judge → Dbref → Dbref → Bool
 place_open j x to =
-    j.free x || (j.gone (place_of j.objects x)
+    j.free x || ((is_emptied j x && is_way_home j x to)
     || ((nat_le 3 j.actor.level || owned j x) && (same to (home_of j x) || (nat_le 3 j.actor.level || controls_or jump j.objects j.actor to))))
 
 abbrev pub link_open : Judge → Dbref → Dbref → Bool
 link_open j x to =
     (owned j x && (same to nothing || (same to home || controls_or link j.objects j.actor to)))
-    || (same to nothing && j.gone (link_of j x))
+    || (same to nothing && is_gone j (link_of j x))
 
 abbrev pub home_open : Judge → Dbref → Dbref → Bool
 home_open j x to =
-    (owned j x && (same to (dbref_of 0) || controls_or link j.objects j.actor to))
-    || (same to (dbref_of 0) && j.gone (home_of j x))
+    (owned j x && (same to (dbref_of 0) || (same to nothing || (same to home || controls_or link j.objects j.actor to))))
+    || (same to (dbref_of 0) && is_gone j (home_of j x))
 
 abbrev pub level_open_to : Judge → Dbref → ℕ → Kind → Bool
 level_open_to j x level Player = is_master j.actor
@@ -100,7 +116,7 @@ may_recycle es a x = controls es a x && not (is_player_at es x || same x (dbref_
 
 -- an object that became garbage: it is recycled, or is an exit of what is
 abbrev pub gone_open : Judge → Dbref → Object → Bool
-gone_open j x old = j.gone x || (is_exit old.kind && j.gone old.place)
+gone_open j x old = is_gone j x || (is_exit old.kind && is_gone j old.place)
 
 -- The kinds of new objects: a player belongs to itself, all else to the user.
 
@@ -108,7 +124,7 @@ abbrev pub builds : Judge → Bool
 builds j = nat_le 3 j.actor.level || flag_at builder j.objects j.actor.user
 
 abbrev pub new_open : Judge → Dbref → Object → Kind → Bool
-new_open j x new Player = is_master j.actor && same new.owner x
+new_open j x new Player = is_master j.actor && (new.level == 0 && same new.owner x)
 new_open j x new Program = same new.owner j.actor.user && (nat_le 1 (level_at j.objects j.actor.user) && nat_le new.level (level_at j.objects j.actor.user))
 new_open j x new Room = same new.owner j.actor.user && (builds j && (new.level == 0 && controls_or link j.objects j.actor new.place))
 new_open j x new Thing = same new.owner j.actor.user && (builds j && (new.level == 0 && (nat_le 3 j.actor.level || controls_or jump j.objects j.actor new.place)))
@@ -137,10 +153,10 @@ SameTies a [] [] = Unit {0}
 SameTies a (c ∷ cs) (d ∷ ds) = (d.number ≡ c.number) × (d.player ≡ c.player) × Open (λ leaving. leave_open a c) c.leaving d.leaving × SameTies a cs ds
 SameTies a cs ds = ⊥
 
--- every difference is open to the actor, or a consequence of a recycling that is
+-- every difference is open to the actor, or a consequence of the one recycling that is
 pub record Licensed (a : Actor) (free : Dbref → Bool) (w v : Live) : Type 0 where
-  pub gone : Dbref → Bool
-  pub recycled : (x : Dbref) → gone x ≡ true → may_recycle w.objects a x ≡ true
+  pub gone : Option Dbref
+  pub recycled : (x : Dbref) → gone ≡ Some x → may_recycle w.objects a x ≡ true
   pub objects : (n : ℕ) → Differs (record { actor = a; free = free; gone = gone; objects = w.objects }) (dbref_of n) (object_at (dbref_of n) w.objects) (object_at (dbref_of n) v.objects)
   pub connections : SameTies a w.board.connections v.board.connections
   pub tune : Open (λ tune. is_master a) w.board.tune v.board.tune

@@ -1,9 +1,8 @@
 -- Which rule of permission denies an act.
-use Rattle.std.specs.Prelude.{ℕ, ◌+◌, Bool, true, false, not, ◌&&◌, ◌||◌, ◌==◌, nat_lt, nat_le, if◌then◌else◌, List, [], ◌∷◌, ◌++◌, codes, Option, Some, None, Result, Ok, Err}
-use Rattle.std.specs.Option.{option_map, option_map_or, option_and_then}
+use Rattle.std.specs.Prelude.{ℕ, Bool, true, false, not, ◌&&◌, ◌||◌, ◌==◌, nat_lt, nat_le, if◌then◌else◌, List, [], ◌∷◌, codes, Option, Some, None, Result, Ok, Err}
+use Rattle.std.specs.Option.{option_map, option_map_or}
 use Rattle.std.specs.FinMap.{get}
 use Rattle.muck_model.specs.declared.dbref.Dbref.{Dbref}
-use Rattle.muck_model.specs.declared.dbref.Flags.{Flags}
 use Rattle.muck_model.specs.declared.dbref.Denial.{Denial}
 use Rattle.muck_prop.specs.declared.value.PropValue.{PropValue}
 use Rattle.muck_prop.specs.declared.value.PropValue.TheVariants.{Text, Number}
@@ -15,7 +14,7 @@ use Rattle.muck_model.specs.declared.lock.Lock.{Lock}
 use Rattle.muck_lock.specs.Naming.{Naming, naming}
 use Rattle.muck_lock.specs.Grammar.{lock_of}
 use Rattle.muck_live.specs.Flags.{has_flag, builder, chown, jump, link, wizard}
-use Rattle.muck_live.specs.Objects.{Entry, nothing, home, same, is_program, is_player, object_at}
+use Rattle.muck_live.specs.Objects.{Entry, nothing, home, same, is_program, object_at}
 use Rattle.muck_live.specs.Seen.{holdings_of}
 use Rattle.muck_rights.specs.declared.act.Actor.{Actor}
 use Rattle.muck_rights.specs.declared.act.Act.{Act}

@@ -5,3 +5,4 @@ pub mod Numbered
 pub mod Lines
 pub mod Reached
 pub mod Runs
+pub mod Showing
