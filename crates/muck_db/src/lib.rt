@@ -8,6 +8,7 @@ mod db;
 mod links;
 mod moves;
 mod password;
+mod persisted;
 mod recycling;
 mod setting;
 mod slot;
@@ -16,4 +17,5 @@ mod telling;
 
 pub use chain::Chain;
 pub use db::Db;
+pub use persisted::Persisted;
 pub use muck_live::{Changed, DbFault, Mark, Object};

@@ -4,10 +4,10 @@ use Rattle.std.proofs.lemmas.Bool.{cond-true, cond-false}
 use Rattle.muck_model.specs.Told.{Told}
 use Rattle.muck_model.specs.declared.event.Entry.{Entry}
 use Rattle.muck_model.specs.declared.event.Event.TheVariants.{Died}
-use Rattle.muck_world.specs.World.{World, starting}
+use Rattle.muck_world.specs.World.{World}
 use Rattle.std.proofs.Common.{◌<◌, arith, find, ◌||◌}
 use Rattle.std.specs.Option.{option_map}
-use Rattle.muck_world.specs.Connections.{is_ready}
+use Rattle.muck_live.specs.Connections.{is_ready}
 use Rattle.muck_world.specs.Steps.{happened, effect, is_died, is_lawful, is_allowed, next_ready}
 use Rattle.muck_world.specs.Histories.{History, after, now, entered}
 use Rattle.muck_world.proofs.Living.{dead-happened}
@@ -17,41 +17,41 @@ after-append : (es fs : List Entry) (w : World) → after w (es ++ fs) ≡ after
 after-append [] fs w = refl
 after-append (e ∷ es) fs w = after-append es fs (effect w e)
 
-one_more : (entries : List Entry) (e : Entry) → after starting (entries ++ e ∷ []) ≡ happened (after starting entries) e.event
+one_more : (start : World) (entries : List Entry) (e : Entry) → after start (entries ++ e ∷ []) ≡ happened (after start entries) e.event
 unfolding effect
-one_more entries e = after-append entries (e ∷ []) starting
+one_more start entries e = after-append entries (e ∷ []) start
 
 -- an entry that isn't Died was entered, and done to the state
-pub keeps_entry : (tale longer : Told) (dead : Bool) (state next : World) (e : Entry) → Keeps tale dead state → dead ≡ false →
-    longer ≡ record { entries = tale.entries ++ e ∷ []; open_ended = true } → next ≡ happened state e.event → is_died e.event ≡ false → Keeps longer dead next
-keeps_entry tale longer dead state next e k alive l is other =
-    let whole : after starting longer.entries ≡ happened (after starting tale.entries) e.event = ap (λ (t : Told). after starting t.entries) l ∙ one_more tale.entries e in
+pub keeps_entry : (start : World) (tale longer : Told) (dead : Bool) (state next : World) (e : Entry) → Keeps start tale dead state → dead ≡ false →
+    longer ≡ record { entries = tale.entries ++ e ∷ []; open_ended = true } → next ≡ happened state e.event → is_died e.event ≡ false → Keeps start longer dead next
+keeps_entry start tale longer dead state next e k alive l is other =
+    let whole : after start longer.entries ≡ happened (after start tale.entries) e.event = ap (λ (t : Told). after start t.entries) l ∙ one_more start tale.entries e in
     record {
       grows = ap (λ (t : Told). t.open_ended) l;
-      dies = ap (λ (w : World). w.dead) whole ∙ dead-happened e.event (after starting tale.entries) other ∙ k.dies;
+      dies = ap (λ (w : World). w.dead) whole ∙ dead-happened e.event (after start tale.entries) other ∙ k.dies;
       lives = λ h. is ∙ ap (λ w. happened w e.event) (k.lives alive) ∙ sym whole;
     }
 
 -- Died was entered, whatever stood before
-pub keeps_died : (longer : Told) (next : World) (entries : List Entry) (e : Entry) → longer ≡ record { entries = entries ++ e ∷ []; open_ended = true } → e.event ≡ Died → Keeps longer true next
-keeps_died longer next entries e l is = record {
+pub keeps_died : (start : World) (longer : Told) (next : World) (entries : List Entry) (e : Entry) → longer ≡ record { entries = entries ++ e ∷ []; open_ended = true } → e.event ≡ Died → Keeps start longer true next
+keeps_died start longer next entries e l is = record {
   grows = ap (λ (t : Told). t.open_ended) l;
-  dies = ap (λ (t : Told). (after starting t.entries).dead) l ∙ ap (λ (w : World). w.dead) (one_more entries e)
-      ∙ ap (λ event. (happened (after starting entries) event).dead) is;
+  dies = ap (λ (t : Told). (after start t.entries).dead) l ∙ ap (λ (w : World). w.dead) (one_more start entries e)
+      ∙ ap (λ event. (happened (after start entries) event).dead) is;
   lives = λ h. cc;
 }
 
 -- in a dead world only Died is lawful
-pub unlawful_dead : (tale : Told) (dead : Bool) (state : World) (e : Entry) → Keeps tale dead state → dead ≡ true → is_died e.event ≡ false →
-    false ≡ is_lawful (now (record { start = starting; entries = tale.entries })) e
+pub unlawful_dead : (start : World) (tale : Told) (dead : Bool) (state : World) (e : Entry) → Keeps start tale dead state → dead ≡ true → is_died e.event ≡ false →
+    false ≡ is_lawful (now (record { start = start; entries = tale.entries })) e
 unfolding now is_lawful
-unlawful_dead tale dead state e k h other = sym (cond-true _ _ _ (k.dies ∙ h) ∙ other)
+unlawful_dead start tale dead state e k h other = sym (cond-true _ _ _ (k.dies ∙ h) ∙ other)
 
 -- in a world that isn't dead the state decides
-pub lawful_as : (tale : Told) (dead allowed : Bool) (state : World) (e : Entry) → Keeps tale dead state → dead ≡ false → allowed ≡ is_allowed state e.party e.event →
-    allowed ≡ is_lawful (now (record { start = starting; entries = tale.entries })) e
+pub lawful_as : (start : World) (tale : Told) (dead allowed : Bool) (state : World) (e : Entry) → Keeps start tale dead state → dead ≡ false → allowed ≡ is_allowed state e.party e.event →
+    allowed ≡ is_lawful (now (record { start = start; entries = tale.entries })) e
 unfolding now is_lawful
-lawful_as tale dead allowed state e k alive is =
+lawful_as start tale dead allowed state e k alive is =
     is ∙ ap (λ w. is_allowed w e.party e.event) (k.lives alive) ∙ sym (cond-false _ _ _ (k.dies ∙ alive))
 
 -- where something other than Died is lawful, the world isn't dead
@@ -61,50 +61,50 @@ alive_where true allowed died e other = absurd (differ died e other) where
   differ b p q = cc
 alive_where false allowed died e other = refl
 
-pub alive_if_lawful : (tale : Told) (dead : Bool) (state : World) (h : History) (e : Entry) → Keeps tale dead state → record { start = starting; entries = tale.entries } ≡ h →
+pub alive_if_lawful : (start : World) (tale : Told) (dead : Bool) (state : World) (h : History) (e : Entry) → Keeps start tale dead state → record { start = start; entries = tale.entries } ≡ h →
     is_lawful (now h) e ≡ true → is_died e.event ≡ false → dead ≡ false
 unfolding now is_lawful
-alive_if_lawful tale dead state h e k v may other =
+alive_if_lawful start tale dead state h e k v may other =
     let same : (now h).dead ≡ dead = sym (ap (λ (x : History). (now x).dead) v) ∙ k.dies in
     sym same ∙ alive_where (now h).dead _ _ may other
 
-pub lawful_seen : (tale : Told) (h : History) (allowed : Bool) (e : Entry) → record { start = starting; entries = tale.entries } ≡ h →
-    allowed ≡ is_lawful (now (record { start = starting; entries = tale.entries })) e → allowed ≡ is_lawful (now h) e
-lawful_seen tale h allowed e v is = is ∙ ap (λ x. is_lawful (now x) e) v
+pub lawful_seen : (start : World) (tale : Told) (h : History) (allowed : Bool) (e : Entry) → record { start = start; entries = tale.entries } ≡ h →
+    allowed ≡ is_lawful (now (record { start = start; entries = tale.entries })) e → allowed ≡ is_lawful (now h) e
+lawful_seen start tale h allowed e v is = is ∙ ap (λ x. is_lawful (now x) e) v
 
 -- whether the world as it is now is dead
-pub dead_seen : (tale : Told) (dead : Bool) (state : World) (h : History) → Keeps tale dead state → record { start = starting; entries = tale.entries } ≡ h → (now h).dead ≡ dead
+pub dead_seen : (start : World) (tale : Told) (dead : Bool) (state : World) (h : History) → Keeps start tale dead state → record { start = start; entries = tale.entries } ≡ h → (now h).dead ≡ dead
 unfolding now
-dead_seen tale dead state h k v = sym (ap (λ (x : History). (now x).dead) v) ∙ k.dies
+dead_seen start tale dead state h k v = sym (ap (λ (x : History). (now x).dead) v) ∙ k.dies
 
 -- where it isn't, it is the state that is kept
-pub state_seen : (tale : Told) (dead : Bool) (state : World) (h : History) → Keeps tale dead state → record { start = starting; entries = tale.entries } ≡ h → dead ≡ false → state ≡ now h
+pub state_seen : (start : World) (tale : Told) (dead : Bool) (state : World) (h : History) → Keeps start tale dead state → record { start = start; entries = tale.entries } ≡ h → dead ≡ false → state ≡ now h
 unfolding now
-state_seen tale dead state h k v alive = k.lives alive ∙ ap now v
+state_seen start tale dead state h k v alive = k.lives alive ∙ ap now v
 
 -- a reader answers of the world as it is now
-pub reads : {X : Type 0} (f : World → X) (x : X) (tale : Told) (dead : Bool) (state : World) (h : History) → Keeps tale dead state → record { start = starting; entries = tale.entries } ≡ h →
+pub reads : {X : Type 0} (f : World → X) (x : X) (start : World) (tale : Told) (dead : Bool) (state : World) (h : History) → Keeps start tale dead state → record { start = start; entries = tale.entries } ≡ h →
     x ≡ f state → (now h).dead ≡ false → x ≡ f (now h)
-reads f x tale dead state h k v is alive = is ∙ ap f (state_seen tale dead state h k v (sym (dead_seen tale dead state h k v) ∙ alive))
+reads f x start tale dead state h k v is alive = is ∙ ap f (state_seen start tale dead state h k v (sym (dead_seen start tale dead state h k v) ∙ alive))
 
 -- and of a dead one something fixed
-pub reads_dead : {X : Type 0} (f : World → X) (x : X) (tale : Told) (state : World) (h : History) (dead : Bool) → Keeps tale dead state → record { start = starting; entries = tale.entries } ≡ h →
+pub reads_dead : {X : Type 0} (f : World → X) (x : X) (start : World) (tale : Told) (state : World) (h : History) (dead : Bool) → Keeps start tale dead state → record { start = start; entries = tale.entries } ≡ h →
     dead ≡ true → x ≡ cond (now h).dead x (f (now h))
-reads_dead f x tale state h dead k v is = sym (cond-true _ _ _ (dead_seen tale dead state h k v ∙ is))
+reads_dead f x start tale state h dead k v is = sym (cond-true _ _ _ (dead_seen start tale dead state h k v ∙ is))
 
-pub reads_alive : {X : Type 0} (f : World → X) (x other : X) (tale : Told) (state : World) (h : History) (dead : Bool) → Keeps tale dead state → record { start = starting; entries = tale.entries } ≡ h →
+pub reads_alive : {X : Type 0} (f : World → X) (x other : X) (start : World) (tale : Told) (state : World) (h : History) (dead : Bool) → Keeps start tale dead state → record { start = start; entries = tale.entries } ≡ h →
     dead ≡ false → x ≡ f state → x ≡ cond (now h).dead other (f (now h))
-reads_alive f x other tale state h dead k v is e =
-    e ∙ ap f (state_seen tale dead state h k v is) ∙ sym (cond-false _ _ _ (dead_seen tale dead state h k v ∙ is))
+reads_alive f x other start tale state h dead k v is e =
+    e ∙ ap f (state_seen start tale dead state h k v is) ∙ sym (cond-false _ _ _ (dead_seen start tale dead state h k v ∙ is))
 
 -- the choice of the next line
 pub next_dead : (w : World) → w.dead ≡ true → None ≡ next_ready w
 unfolding next_ready
 next_dead w e = sym (cond-true _ _ _ (ap (λ b. b || w.stopping) e))
 
-pub next_alive : (w : World) (found : Option ℕ) → w.dead ≡ false → found ≡ cond w.stopping None (option_map (λ c. c.number) (find is_ready w.board.connections)) → found ≡ next_ready w
+pub next_alive : (w : World) (found : Option ℕ) → w.dead ≡ false → found ≡ cond w.stopping None (option_map (λ c. c.number) (find is_ready w.live.board.connections)) → found ≡ next_ready w
 unfolding next_ready
-next_alive w found e is = is ∙ sym (ap (λ b. cond (b || w.stopping) None (option_map (λ c. c.number) (find is_ready w.board.connections))) e)
+next_alive w found e is = is ∙ sym (ap (λ b. cond (b || w.stopping) None (option_map (λ c. c.number) (find is_ready w.live.board.connections))) e)
 
 -- where something is found, the world isn't dead
 pub alive_if_found : (w : World) (d : ℕ) → next_ready w ≡ Some d → w.dead ≡ false
@@ -126,6 +126,6 @@ pub bytes_there : (w : World) (n m : ℕ) → n ≡ cond w.dead 0 m → w.dead �
 bytes_there w n m is alive = is ∙ cond-false _ _ _ alive
 
 -- the history is longer by the entry
-pub entered_seen : (tale longer : Told) (h : History) (e : Entry) → longer ≡ record { entries = tale.entries ++ e ∷ []; open_ended = true } →
-    record { start = starting; entries = tale.entries } ≡ h → record { start = starting; entries = longer.entries } ≡ entered h e
-entered_seen tale longer h e l v = ap (λ (t : Told). record { start = starting; entries = t.entries }) l ∙ ap (λ x. entered x e) v
+pub entered_seen : (start : World) (tale longer : Told) (h : History) (e : Entry) → longer ≡ record { entries = tale.entries ++ e ∷ []; open_ended = true } →
+    record { start = start; entries = tale.entries } ≡ h → record { start = start; entries = longer.entries } ≡ entered h e
+entered_seen start tale longer h e l v = ap (λ (t : Told). record { start = start; entries = t.entries }) l ∙ ap (λ x. entered x e) v

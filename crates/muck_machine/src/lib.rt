@@ -1,10 +1,7 @@
 //! The world and what happens to it: each public call of [`World`] is one entry of its history.
 #![tactic(auto)]
 
-mod connection;
-mod connections;
-mod password;
-mod queue;
+mod origin;
 mod state;
 #[cfg(test)]
 mod tests;

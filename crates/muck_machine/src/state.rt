@@ -1,58 +1,66 @@
 // The world's own state, without its history.
-ghost use Rattle.std.specs.Prelude.{◌≡◌, ◌≤◌, IfOk, OnOk, MatchOption, length, take, min, find, string_bytes, None, is_some, if◌then◌else◌, List, ℕ};
+ghost use Rattle.std.specs.Prelude.{◌≡◌, ◌≤◌, IfOk, OnOk, MatchOption, length, take, min, find, None, is_some, if◌then◌else◌, List, ℕ, true, false};
 ghost use Rattle.std.specs.Option.{option_map, option_map_or};
-ghost use Rattle.muck_world.specs.Connections.{is_ready, has_number};
-ghost use Rattle.muck_world.specs.Objects.{player_named};
-ghost use Rattle.muck_world.specs.World.{starting, connection, queue_of, is_leaving};
-ghost use Rattle.muck_world.specs.Steps.{is_allowed, happened, takes_line};
-ghost use Rattle.muck_world.specs.Talk.{tell, quit, at_login, in_world, connecting, logged_in, proved, let_in, huh, you_say, done};
 ghost use Rattle.muck_model.specs.declared.event.Event.{Event};
+ghost use Rattle.muck_live.specs.Connections.{is_ready, takes_line};
+ghost use Rattle.muck_live.specs.Lives.{tell};
+ghost use Rattle.muck_world.specs.World.{booted, connection, queue_of, is_leaving, on_live};
+ghost use Rattle.muck_world.specs.Steps.{is_allowed, happened};
+ghost use Rattle.muck_world.specs.Talk.{quit, at_login, in_world, connecting, logged_in, proved, let_in, looked, huh, you_say, done, welcome};
 
-use crate::connection::{Connection, WELCOME};
-use crate::connections;
-use crate::password::digest_text;
-use muck_model::{Dbref, Line, NoMemory};
+use muck_board::Board;
+use muck_db::Db;
+use muck_live::DbFault;
+use muck_match::player;
+use muck_model::{Dbref, Line, LineFault, NoMemory, Tune};
+use muck_perm::name_shown;
 use muck_world::{alike, cut_word, trim};
 use std::alloc::Global;
 use std::marker::Model;
 
-/// One's salt.
-const SALT: [u8; 8] = [0; 8];
+/// What a new connection is shown.
+const WELCOME: &[u8] = b"Use: connect NAME PASSWORD, WHO or QUIT.";
 
 /// The most connections.
 const CONNECTIONS_MOST: usize = 256;
 
-/// Who is connected, One's digest, and whether the run stops.
+/// The objects, who is connected, the moment, and whether the run stops.
 #[derive(Drop)]
 pub struct State {
     alloc: Global,
-    connections: Vec<Connection>,
-    digest: String,
+    db: Db,
+    board: Board,
+    moment: u64,
     stopping: bool,
 }
 
 impl Model for State {
-    ghost use Rattle.std.specs.Prelude.{string_bytes};
-    ghost use Rattle.muck_world.specs.World.{World, early_world};
+    ghost use Rattle.muck_world.specs.World.{World, no_dumps};
+    ghost use Rattle.std.specs.Prelude.{false};
 
     ghost Value = { World };
 
-    ghost view = { λ s. early_world (string_bytes s.digest) s.connections.items s.stopping };
+    ghost use Rattle.std.specs.Coded.{codes};
+    ghost use Rattle.muck_prop.specs.contracts.props.Props as props;
+
+    ghost coded = { Prim.hlevel (codes, props.the_row.coded) };
+
+    ghost view = { λ s. record { live = record { objects = s.db; board = s.board }; moment = s.moment; dumps = no_dumps s.moment; stopping = s.stopping; dead = false } };
 }
 
 impl State {
-    /// Room Zero and One, and nobody connected.
-    #[tactic(auto, unfolding(muck_world::specs::World::starting, muck_world::specs::Objects::first_digest))]
-    pub fn starting(alloc: Global) -> Result<Self, NoMemory>
-        ensures { IfOk result (λ s. s ≡ starting) }
+    /// The world of these objects at this moment, in which nobody is connected, and whose random numbers begin so.
+    #[tactic(auto, unfolding(muck_world::specs::World::booted))]
+    pub fn booted(alloc: Global, db: Db, tune: Tune, moment: u64, start: u64) -> Self
+        ensures { result ≡ booted db tune moment start }
     {
-        let digest = digest_text(alloc, &SALT, b"potrzebie")?;
-        Ok(State {
+        State {
             alloc,
-            connections: Vec::new(alloc),
-            digest,
+            db,
+            board: Board::new(alloc, start, tune),
+            moment,
             stopping: false,
-        })
+        }
     }
 
     pub fn is_stopping(&self) -> bool
@@ -64,58 +72,57 @@ impl State {
     pub fn is_connected(&self, d: u32) -> bool
         ensures { result ≡ is_some (connection d self.now) }
     {
-        connections::is_there(&self.connections, d)
+        self.board.is_connected(d)
     }
 
     pub fn is_leaving(&self, d: u32) -> bool
         ensures { result ≡ is_leaving d self.now }
     {
-        connections::is_leaving_at(&self.connections, d)
+        self.board.is_leaving(d)
     }
 
     pub fn waiting(&self, d: u32) -> usize
         ensures { result ≡ option_map_or (λ c. length c.waiting) (connection d self.now) 0 }
     {
-        connections::waiting_at(&self.connections, d)
+        self.board.waiting(d)
     }
 
     pub fn queued(&self, d: u32) -> usize
         ensures count { result ≡ length (queue_of d self.now) }
-        ensures most { result ≤ 131072 }
+        ensures most { result ≤ 131090 }
     {
-        connections::queued_at(&self.connections, d)
+        self.board.queued(d)
     }
 
     /// Whether a connection of this number may come.
     pub fn may_open(&self, d: u32) -> bool
         ensures { result ≡ is_allowed self.now 0 (Event.Opened d) }
     {
-        !self.is_connected(d) && self.connections.len() < CONNECTIONS_MOST && !self.stopping
+        !self.is_connected(d) && self.board.count() < CONNECTIONS_MOST && !self.stopping
     }
 
     /// Whether a line may come on this connection.
     pub fn may_take_line(&self, d: u32) -> bool
         ensures { (line : List ℕ) → result ≡ is_allowed self.now 0 (Event.Input d line) }
     {
-        connections::takes_line_at(&self.connections, d) && !self.stopping
+        self.board.takes_line(d) && !self.stopping
     }
 
     /// The lowest connection with a line that may be done, where the run doesn't stop.
     pub fn first_ready(&self) -> Option<u32>
-        ensures { result ≡ (if self.now.stopping then None else option_map (λ c. c.number) (find is_ready self.now.board.connections)) }
+        ensures { result ≡ (if self.now.stopping then None else option_map (λ c. c.number) (find is_ready self.now.live.board.connections)) }
     {
         if self.stopping {
             return None;
         }
-        connections::first_ready(&self.connections)
+        self.board.first_ready()
     }
 
     /// A connection comes.
     pub fn open(&mut self, d: u32) -> Result<(), NoMemory>
         ensures { OnOk result (self.new ≡ happened self.old (Event.Opened d)) }
     {
-        let new = Connection::new(self.alloc, d)?;
-        connections::insert(&mut self.connections, new)?;
+        self.board.open(d, WELCOME)?;
         Ok(())
     }
 
@@ -123,7 +130,7 @@ impl State {
     pub fn add_line(&mut self, d: u32, line: Line) -> Result<(), NoMemory>
         ensures { OnOk result (self.new ≡ happened self.old (Event.Input d line)) }
     {
-        connections::add_line(&mut self.connections, d, line)?;
+        self.board.add_line(d, line)?;
         Ok(())
     }
 
@@ -131,7 +138,7 @@ impl State {
     pub fn close(&mut self, d: u32)
         ensures { self.new ≡ happened self.old (Event.Closed d) }
     {
-        connections::remove(&mut self.connections, d);
+        self.board.close(d);
     }
 
     /// The first bytes of a connection's queue leave it, as many as are there and fit.
@@ -140,7 +147,7 @@ impl State {
         ensures bytes { take result buf.new ≡ take result (queue_of d self.old) }
         ensures step { self.new ≡ happened self.old (Event.Take d result) }
     {
-        connections::take_front(&mut self.connections, d, buf)
+        self.board.take(d, buf)
     }
 
     /// The run stops.
@@ -151,19 +158,20 @@ impl State {
     }
 
     /// The first waiting line of a connection is done.
+    #[tactic(auto, unfolding(muck_world::specs::Talk::done, muck_world::specs::Talk::line_done, muck_world::specs::Talk::waits, muck_world::specs::Talk::command, muck_live::specs::Lives::followed, muck_live::specs::Lives::unchanged))]
     pub fn do_line(&mut self, d: u32) -> Result<(), NoMemory>
         ensures { OnOk result (self.new ≡ happened self.old (Event.Exec d)) }
     {
-        match connections::take_line(&mut self.connections, d) {
+        match self.board.take_line(d) {
             None => Ok(()),
             Some((None, line)) => self.at_login(d, line.as_slice()),
             Some((Some(_), line)) => self.in_world(d, line.as_slice()),
         }
     }
 
-    #[tactic(auto, unfolding(muck_world::specs::Talk::at_login))]
+    #[tactic(auto, unfolding(muck_world::specs::Talk::at_login, muck_live::specs::Lives::either))]
     fn at_login(&mut self, d: u32, line: &[u8]) -> Result<(), NoMemory>
-        ensures { OnOk result (self.new ≡ at_login d line.now self.old) }
+        ensures { OnOk result (self.new ≡ on_live (at_login d line.now) self.old) }
     {
         let text = trim(line);
         if alike(text, b"QUIT") {
@@ -178,7 +186,7 @@ impl State {
     }
 
     fn connecting(&mut self, d: u32, name: &[u8], password: &[u8]) -> Result<(), NoMemory>
-        ensures { OnOk result (self.new ≡ connecting d name.now password.now self.old) }
+        ensures { OnOk result (self.new ≡ on_live (connecting d name.now password.now) self.old) }
     {
         if password.is_empty() {
             return self.tell(d, WELCOME);
@@ -186,32 +194,35 @@ impl State {
         self.log_in(d, name, password)
     }
 
-    #[tactic(auto, unfolding(muck_world::specs::Talk::logged_in))]
+    #[tactic(auto, unfolding(muck_world::specs::Talk::logged_in, muck_live::specs::Lives::reading))]
     fn log_in(&mut self, d: u32, name: &[u8], password: &[u8]) -> Result<(), NoMemory>
-        ensures { OnOk result (self.new ≡ logged_in d name.now password.now self.old) }
+        ensures { OnOk result (self.new ≡ on_live (logged_in d name.now password.now) self.old) }
     {
         let player = self.proved(name, password)?;
         self.let_in(d, player)
     }
 
-    // The player of a name whose password the word is: One alone, as yet.
+    // The player of a name whose password the word is.
+    #[tactic(auto, unfolding(muck_world::specs::Talk::proved))]
     fn proved(&self, name: &[u8], word: &[u8]) -> Result<Option<Dbref>, NoMemory>
-        ensures { IfOk result (λ player. player ≡ proved word.now self.now.objects (player_named 0 name.now self.now.objects)) }
+        ensures { IfOk result (λ player. player ≡ proved name.now word.now self.now.live.objects) }
     {
-        let kept = self.digest.as_bytes();
-        if !alike(name, b"One") {
+        let name = line_of(self.alloc, name)?;
+        let Some(player) = player(&self.db, &name) else {
             return Ok(None);
-        }
-        let digest = digest_text(self.alloc, &SALT, word)?;
-        if digest.as_bytes() == kept {
-            Ok(Some(Dbref(1)))
-        } else {
-            Ok(None)
+        };
+        let word = line_of(self.alloc, word)?;
+        match self.db.password_is(self.alloc, player, &word) {
+            Ok(true) => Ok(Some(player)),
+            Ok(false) => Ok(None),
+            Err(DbFault::NoMemory) => Err(NoMemory),
+            Err(_) => Ok(None),
         }
     }
 
+    #[tactic(auto, unfolding(muck_live::specs::Lives::followed, muck_live::specs::Lives::enter))]
     fn let_in(&mut self, d: u32, player: Option<Dbref>) -> Result<(), NoMemory>
-        ensures { OnOk result (self.new ≡ let_in d player self.old) }
+        ensures { OnOk result (self.new ≡ on_live (let_in d player) self.old) }
     {
         let Some(player) = player else {
             return self.tell(
@@ -219,13 +230,32 @@ impl State {
                 b"Either that player does not exist, or has a different password.",
             );
         };
-        connections::set_player(&mut self.connections, d, player);
-        self.tell(d, b"Room Zero(#0R)")
+        self.board.seat(d, player);
+        self.look(d, player)
     }
 
-    #[tactic(auto, unfolding(muck_world::specs::Talk::in_world))]
+    // The player sees the name of its place.
+    #[tactic(auto, unfolding(muck_world::specs::Talk::looked, muck_live::specs::Lives::reading))]
+    fn look(&mut self, d: u32, player: Dbref) -> Result<(), NoMemory>
+        ensures { OnOk result (self.new ≡ on_live (looked d player) self.old) }
+    {
+        let room = self.place_at(player);
+        let name = name_shown(self.alloc, &self.db, player, room)?;
+        self.tell(d, name.as_slice())
+    }
+
+    fn place_at(&self, player: Dbref) -> Dbref
+        ensures { result ≡ place_at player self.now.live }
+    {
+        match self.db.get(player) {
+            Some(object) => object.place(),
+            None => Dbref(-1),
+        }
+    }
+
+    #[tactic(auto, unfolding(muck_world::specs::Talk::in_world, muck_live::specs::Lives::either))]
     fn in_world(&mut self, d: u32, line: &[u8]) -> Result<(), NoMemory>
-        ensures { OnOk result (self.new ≡ in_world d line.now self.old) }
+        ensures { OnOk result (self.new ≡ on_live (in_world d line.now) self.old) }
     {
         let Some((first, rest)) = line.split_first() else {
             return self.huh(d);
@@ -241,13 +271,13 @@ impl State {
     }
 
     fn huh(&mut self, d: u32) -> Result<(), NoMemory>
-        ensures { OnOk result (self.new ≡ tell d huh self.old) }
+        ensures { OnOk result (self.new ≡ on_live (tell d huh) self.old) }
     {
         self.tell(d, b"Huh?  (Type \"help\" for help.)")
     }
 
     fn say(&mut self, d: u32, text: &[u8]) -> Result<(), NoMemory>
-        ensures { OnOk result (self.new ≡ tell d (you_say text.now) self.old) }
+        ensures { OnOk result (self.new ≡ on_live (tell d (you_say text.now)) self.old) }
     {
         let mut said = Vec::new(self.alloc);
         said.extend_from_slice(b"You say, \"")?;
@@ -256,17 +286,31 @@ impl State {
         self.tell(d, said.as_slice())
     }
 
+    #[tactic(auto, unfolding(muck_world::specs::Talk::quit, muck_live::specs::Lives::followed, muck_live::specs::Lives::leave))]
     fn quit(&mut self, d: u32) -> Result<(), NoMemory>
-        ensures { OnOk result (self.new ≡ quit d self.old) }
+        ensures { OnOk result (self.new ≡ on_live (quit d) self.old) }
     {
         self.tell(d, b"Come back later!")?;
-        connections::leave(&mut self.connections, d);
+        self.board.leave(d);
         Ok(())
     }
 
+    #[tactic(auto, unfolding(muck_live::specs::Lives::tell))]
     fn tell(&mut self, d: u32, text: &[u8]) -> Result<(), NoMemory>
-        ensures { OnOk result (self.new ≡ tell d text.now self.old) }
+        ensures { OnOk result (self.new ≡ on_live (tell d text.now) self.old) }
     {
-        connections::tell(&mut self.connections, d, text)
+        self.board.tell(d, text)?;
+        Ok(())
+    }
+}
+
+// The bytes of a part of a line as a line of their own.
+fn line_of(alloc: Global, bytes: &[u8]) -> Result<Line, NoMemory>
+    requires { text_fault bytes.now ≡ None }
+    ensures { IfOk result (λ line. line ≡ bytes.now) }
+{
+    match Line::new(alloc, bytes) {
+        Ok(line) => Ok(line),
+        Err(_) => Err(NoMemory),
     }
 }

@@ -2,12 +2,14 @@
 ghost use Rattle.std.specs.Prelude.{◌≡◌, ◌≤◌, IfOk, OnOk, OnErr, MatchOption, length, take, min, true, false, if◌then◌else◌, nat_lt, is_some, [], List, ℕ};
 ghost use Rattle.std.specs.Option.{option_map_or};
 ghost use Rattle.muck_model.specs.declared.event.Event.{Event};
-ghost use Rattle.muck_world.specs.World.{starting, connection, queue_of, is_leaving};
+ghost use Rattle.muck_world.specs.World.{starting, booted, connection, queue_of, is_leaving};
 ghost use Rattle.muck_world.specs.Steps.{is_lawful, next_ready};
 ghost use Rattle.muck_world.specs.Histories.{now, entered, by_porter};
 
+use crate::origin::{Begun, Origin};
 use crate::state::State;
-use muck_model::{Entry, Event, Line, NoMemory, Tale};
+use muck_db::{Db, Persisted};
+use muck_model::{Entry, Event, Line, NoMemory, Tale, Tune};
 use std::alloc::Global;
 use std::marker::Model;
 
@@ -17,40 +19,81 @@ const DIED: Entry = Entry {
     event: Event::Died,
 };
 
+/// What a wizard tuned before anybody did.
+const FIRST_TUNE: Tune = Tune {
+    instr_slice: 2000,
+    preempt_units: 20_000,
+    m1_units: 20_000,
+    m2_units: 80_000,
+    process_limit: 400,
+    player_processes: 32,
+    mpi_commands: 2048,
+    dump_interval: 900,
+};
+
 /// The world. Contracts see it as its history: how it began, and each entry since. The world as it is now is the one
 /// after these entries. A dead world has lost memory in the midst of something: it takes no entry any more but `Died`.
 #[derive(Drop)]
 pub struct World {
     state: State,
     dead: bool,
+    origin: Origin,
     tale: Tale,
 }
 
 impl Model for World {
     ghost use Rattle.std.specs.Prelude.{◌≡◌, true, false};
-    ghost use Rattle.muck_world.specs.World.{starting};
     ghost use Rattle.muck_world.specs.Histories.{History, after};
     ghost use Rattle.muck_machine.specs.Keeping.{Keeps};
 
     ghost Value = { History };
 
-    ghost view = { λ w. record { start = starting; entries = w.tale.entries } };
+    ghost use Rattle.std.specs.Coded.{codes};
+    ghost use Rattle.muck_prop.specs.contracts.props.Props as props;
 
-    ghost invariant = { λ w. Keeps w.tale w.dead w.state };
+    ghost coded = { Prim.hlevel (codes, props.the_row.coded) };
+
+    ghost view = { λ w. record { start = w.origin; entries = w.tale.entries } };
+
+    ghost invariant = { λ w. Keeps w.origin w.tale w.dead w.state };
 }
 
 impl World {
-    /// Room Zero and One, and nobody connected: nothing has happened yet.
+    /// The world of these objects and parameters at this second, in which nobody is connected and nothing has happened
+    /// yet; its random numbers begin with `start`.
+    pub fn boot(
+        alloc: Global,
+        from: Persisted,
+        moment: u64,
+        start: u64,
+    ) -> Result<Self, NoMemory>
+        ensures { IfOk result (λ w. w ≡ record { start = booted from.db from.tune moment start; entries = [] }) }
+    {
+        let Persisted { db, tune } = from;
+        let begun = Begun {
+            db,
+            tune,
+            moment,
+            start,
+        };
+        let origin = Origin::new(alloc, &begun)?;
+        let tale = Tale::new(alloc)?;
+        let Begun { db, tune, .. } = begun;
+        Ok(World {
+            state: State::booted(alloc, db, tune, moment, start),
+            dead: false,
+            origin,
+            tale,
+        })
+    }
+
+    /// Room Zero and One as they are at first, and nobody connected: nothing has happened yet.
+    #[tactic(auto, unfolding(muck_world::specs::World::starting, muck_live::specs::Boards::first_tune))]
     pub fn starting(alloc: Global) -> Result<Self, NoMemory>
         ensures { IfOk result (λ w. w ≡ record { start = starting; entries = [] }) }
     {
-        let state = State::starting(alloc)?;
-        let tale = Tale::new(alloc)?;
-        Ok(World {
-            state,
-            dead: false,
-            tale,
-        })
+        let db = Db::starting(alloc)?;
+        World::boot(alloc, Persisted { db, tune: FIRST_TUNE }, 0, 0)
     }
 
     /// The history, for contracts alone. It takes no memory.
@@ -275,7 +318,7 @@ impl World {
     /// bound is said of the answer.
     pub fn queued(&self, d: u32) -> usize
         ensures count { (now self.now).dead ≡ false → result ≡ length (queue_of d (now self.now)) }
-        ensures most { result ≤ 131072 }
+        ensures most { result ≤ 131090 }
     {
         self.state.queued(d)
     }

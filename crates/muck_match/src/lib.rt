@@ -11,7 +11,7 @@ mod words;
 
 pub use exits::{ExitHit, exit_for};
 pub use memory::{MemObject, MemScene};
-pub use naming::{Found, find, player};
+pub use naming::{Found, find, player, player_named};
 pub use scene::{HOME, NOTHING, Scene};
 
 #[cfg(test)]

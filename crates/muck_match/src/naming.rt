@@ -138,8 +138,8 @@ fn numbered(n: u32) -> Dbref
     Dbref(n as i32)
 }
 
-// The player of that name.
-fn player_named<S: Scene>(scene: &S, name: &[u8]) -> Option<Dbref>
+/// The player of that name, given by its bytes, as `player` finds it.
+pub fn player_named<S: Scene>(scene: &S, name: &[u8]) -> Option<Dbref>
     ensures { result ≡ player_named (S.shown scene.now) name.now }
 {
     let count = scene.objects();

@@ -4,4 +4,4 @@ use Rattle.muck_world.specs.World.{connection}
 use Rattle.muck_machine.proofs.world.World.connected.Goals as goal
 
 pub returns : goal.returns
-returns c = reads (λ w. is_some (connection c.args.d w)) _ c.self.inside.tale _ _ _ c.self.invariant c.self.view_is c.is_connected.ensures
+returns c = reads (λ w. is_some (connection c.args.d w)) _ c.self.inside.origin c.self.inside.tale _ _ _ c.self.invariant c.self.view_is c.is_connected.ensures

@@ -5,9 +5,9 @@ use Rattle.muck_machine.proofs.world.World.exec.Goals as goal
 
 pub invariant_of-self : goal.invariant_of-self
 invariant_of-self c =
-    keeps_entry _ _ _ _ _ _ c.self.invariant
-    (sym (dead_seen c.self.inside.tale _ _ _ c.self.invariant c.self.view_is) ∙ alive_if_found (now c.args.self.now) _ (sym c.in-Some.ensures))
+    keeps_entry _ _ _ _ _ _ _ c.self.invariant
+    (sym (dead_seen c.self.inside.origin c.self.inside.tale _ _ _ c.self.invariant c.self.view_is) ∙ alive_if_found (now c.args.self.now) _ (sym c.in-Some.ensures))
     c.tell.ensures c.in-Ok.ensures refl
 
 pub invariant_of-self-in-Err : goal.invariant_of-self-in-Err
-invariant_of-self-in-Err c = keeps_died _ _ _ _ c.tell-in-Err.ensures refl
+invariant_of-self-in-Err c = keeps_died _ _ _ _ _ c.tell-in-Err.ensures refl

@@ -4,9 +4,9 @@ use Rattle.muck_machine.proofs.world.World.input.Goals as goal
 
 pub invariant_of-self : goal.invariant_of-self
 invariant_of-self c =
-    keeps_entry _ _ _ _ _ _ c.self.invariant
-    (alive_if_lawful c.self.inside.tale _ _ _ _ c.self.invariant c.self.view_is (sym (c.may_take_line.ensures c.args.line) ∙ c.if-not-may_take_line.false) refl)
+    keeps_entry _ _ _ _ _ _ _ c.self.invariant
+    (alive_if_lawful c.self.inside.origin c.self.inside.tale _ _ _ _ c.self.invariant c.self.view_is (sym (c.may_take_line.ensures c.args.line) ∙ c.if-not-may_take_line.false) refl)
     c.tell_input.ensures c.in-Ok.ensures refl
 
 pub invariant_of-self-in-Err : goal.invariant_of-self-in-Err
-invariant_of-self-in-Err c = keeps_died _ _ _ _ c.tell.ensures refl
+invariant_of-self-in-Err c = keeps_died _ _ _ _ _ c.tell.ensures refl

@@ -1,0 +1,55 @@
+// How a world began, kept for contracts alone.
+ghost use Rattle.std.specs.Prelude.{◌≡◌, IfOk};
+ghost use Rattle.muck_world.specs.World.{booted};
+
+use atomic_table::{Table, TableRule};
+use muck_db::Db;
+use muck_model::{NoMemory, Tune};
+use std::alloc::Global;
+use std::marker::Model;
+
+/// With what a world begins: its objects, its parameters, the second, and how its random numbers begin.
+#[derive(Drop)]
+pub struct Begun {
+    pub db: Db,
+    pub tune: Tune,
+    pub moment: u64,
+    pub start: u64,
+}
+
+// The table's rule, which every state keeps.
+struct Free;
+
+impl TableRule<u64, (), Begun> for Free {
+    ghost holds = { λ _ _. Unit {0} };
+
+    ghost first = { λ _. tt };
+}
+
+/// The world as it began. It isn't stored: contracts see it, and the program keeps one word.
+#[derive(Drop)]
+pub struct Origin {
+    word: Table<u64, (), Begun, Free, Global>,
+}
+
+impl Model for Origin {
+    ghost use Rattle.muck_world.specs.World.{World, booted};
+    ghost use Rattle.std.specs.Coded.{codes};
+    ghost use Rattle.muck_prop.specs.contracts.props.Props as props;
+
+    ghost Value = { World };
+
+    ghost coded = { Prim.hlevel (codes, props.the_row.coded) };
+
+    ghost view = { λ o. booted o.word.shared.key.db o.word.shared.key.tune o.word.shared.key.moment o.word.shared.key.start };
+}
+
+impl Origin {
+    /// The world that begins so.
+    pub fn new(alloc: Global, begun: &Begun) -> Result<Origin, NoMemory>
+        ensures { IfOk result (λ o. o ≡ booted begun.now.db begun.now.tune begun.now.moment begun.now.start) }
+    {
+        let (word, _) = Table::of_words(alloc, &[0], begun)?;
+        Ok(Origin { word })
+    }
+}
