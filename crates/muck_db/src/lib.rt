@@ -9,10 +9,12 @@ mod links;
 mod moves;
 mod password;
 mod recycling;
+mod seen;
 mod setting;
 mod slot;
 mod start;
 mod telling;
+mod walks;
 
 pub use chain::Chain;
 pub use db::Db;
