@@ -9,3 +9,5 @@ pub mod Holding
 pub mod Fields
 pub mod Tellings
 pub mod Leaving
+pub mod Showing
+pub mod Counting

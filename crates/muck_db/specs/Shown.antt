@@ -1,8 +1,14 @@
 -- What matching and locks are shown of the lists.
-use Rattle.std.specs.Prelude.{ℕ, ◌==◌, if◌then◌else◌, Bool, false, List, [], ◌∷◌, map, Option, Some, None}
+use Rattle.std.specs.Prelude.{◌≡◌, ℕ, ◌==◌, not, Result, Err, MatchResult, if◌then◌else◌, Bool, true, false, List, [], ◌∷◌, map, Option, Some, None}
 use Rattle.std.specs.Option.{option_map_or}
 use Rattle.muck_model.specs.declared.dbref.Dbref.{Dbref}
-use Rattle.muck_live.specs.Objects.{Entry, dbref_of, nothing, is_exit, kind_in, place_in, list_in, number_in}
+use Rattle.muck_live.specs.declared.object.Object.{Object}
+use Rattle.muck_live.specs.declared.fault.DbFault.{DbFault}
+use Rattle.muck_live.specs.declared.fault.DbFault.TheVariants.{NoSuchObject, NoMemory}
+use Rattle.hex.specs.declared.error.FromHexError.{FromHexError}
+use Rattle.hex.specs.declared.error.FromHexError.TheVariants.{OutOfMemory}
+use Rattle.muck_live.specs.Password.{is_digest_of}
+use Rattle.muck_live.specs.Objects.{Entry, dbref_of, nothing, is_exit, is_garbage, kind_in, place_in, list_in, number_in}
 
 -- what stands behind a number
 unfoldable pub behind : ℕ → List ℕ → List ℕ
@@ -32,3 +38,17 @@ next_in es d = option_map_or (λ n. head_of (behind n (listing es n))) (number_i
 abbrev pub dbref_at : Option ℕ → Dbref
 dbref_at None = nothing
 dbref_at (Some k) = dbref_of k
+
+-- Whether the password of an object is that word, or why that isn't told.
+abbrev pub Knows : Option Object → List ℕ → Result Bool DbFault → Type 0
+Knows None word result = result ≡ Err NoSuchObject
+Knows (Some o) word result = MatchResult result (λ same. same ≡ is_digest_of word o.digest) (λ fault. fault ≡ NoMemory)
+
+-- an entry of an object that is there
+abbrev pub is_there : Entry → Bool
+is_there e = not (is_garbage e.object.kind)
+
+-- want of memory, where digits were read
+abbrev pub is_memory : FromHexError → Bool
+is_memory OutOfMemory = true
+is_memory fault = false

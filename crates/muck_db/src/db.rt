@@ -1,6 +1,7 @@
 // The objects of the world.
 ghost use Rattle.std.specs.Prelude.{◌≡◌, ◌<◌, ◌≤◌, ◌^◌, true, false, length, IfOk};
-ghost use Rattle.std.specs.Option.{option_copied};
+ghost use Rattle.std.specs.List.{count_by};
+ghost use Rattle.std.specs.Option.{option_copied, option_map};
 ghost use Rattle.muck_live.specs.Objects.{object_at};
 ghost use Rattle.muck_live.specs.Making.{create_check, Creates};
 ghost use Rattle.muck_live.specs.Start.{first_objects};
@@ -9,13 +10,16 @@ ghost use Rattle.muck_live.specs.Setting.{any, checked, set_at, Tries, owner_che
 ghost use Rattle.muck_live.specs.Recycling.{recycle_check, recycled};
 ghost use Rattle.muck_live.specs.Marks.{next_change, change_told};
 ghost use Rattle.muck_live.specs.Consistent.{IsConsistent};
-ghost use Rattle.muck_live.specs.Seen.{listed_in};
+ghost use Rattle.muck_live.specs.Seen.{listed_in, places_of, scenery_of};
+ghost use Rattle.muck_match.specs.Scenery.{chain, upward};
+ghost use Rattle.muck_lock.specs.Chain.{IsChain};
+ghost use Rattle.muck_db.specs.Shown.{is_there, after_in, first_in, next_in, Knows};
 
 use crate::chain::Chain;
 use crate::creation::{check_create, new_object, put_object};
 use crate::links::dbref_of;
-use crate::moves::{check_move, found, list_of, relocate};
-use crate::password::digest_word;
+use crate::moves::{check_move, count_there, found, list_of, relocate};
+use crate::password::{digest_word, is_digest_of};
 use crate::recycling::{check_recycle, clear_out, vanish};
 use crate::setting::{
     check_any, check_flags, check_home, check_level, check_link, check_owner, check_player,
@@ -25,6 +29,7 @@ use crate::setting::{
 use crate::slot::Slot;
 use crate::start::first_slots;
 use crate::telling::{clear_mark, marked, told_of};
+use crate::walks::{first_listed, next_listed};
 use muck_live::{Changed, DbFault, Object};
 use muck_model::{Dbref, Flags, Kind, Line, LineList, NoMemory};
 use muck_prop::{Path, PropValue};
@@ -88,6 +93,24 @@ impl Db {
         ensures consistent { IsConsistent self.now }
     {
         self.slots.len() as u32
+    }
+
+    /// How many objects there are, without garbage. It looks at every number.
+    pub fn objects(&self) -> usize
+        ensures { result ≡ count_by is_there self.now }
+    {
+        count_there(&self.slots)
+    }
+
+    /// Whether the password of an object is that word. `NoSuchObject` comes exactly where the object isn't there; one
+    /// that isn't a player has no password. `NoMemory` comes for an object that is there.
+    pub fn password_is(&self, alloc: Global, d: Dbref, word: &Line) -> Result<bool, DbFault>
+        ensures { Knows (object_at d self.now) word.now result }
+    {
+        match self.get(d) {
+            Some(object) => is_digest_of(alloc, word, object.digest()),
+            None => Err(DbFault::NoSuchObject),
+        }
     }
 
     /// The contents of an object, the newest first; none of what isn't there.
@@ -283,5 +306,35 @@ impl Db {
         clear_mark(&mut self.slots, n);
         self.told = n + 1;
         Some(told_of(n, mark))
+    }
+}
+
+impl Db {
+    // What the object is in.
+    pub(crate) fn place_of(&self, d: Dbref) -> Option<Dbref>
+        ensures value { result ≡ option_map (λ o. o.place) (object_at d self.now) }
+        ensures upward { places_of self.now d ≡ upward (scenery_of self.now) result }
+    {
+        match found(&self.slots, d) {
+            Some(object) => Some(object.place()),
+            None => None,
+        }
+    }
+
+    // The first of a list of exits, or of contents, or `#-1`.
+    pub(crate) fn first_listed(&self, exits: bool, d: Dbref) -> Dbref
+        ensures listed { listed_in exits d self.now ≡ chain (after_in self.now) result }
+        ensures first { exits ≡ false → result ≡ first_in self.now d }
+        ensures chained { IsChain (next_in self.now) (first_in self.now d) (listed_in false d self.now) }
+    {
+        first_listed(&self.slots, exits, d)
+    }
+
+    // What stands behind an object in its list, or `#-1`.
+    pub(crate) fn next_listed(&self, d: Dbref) -> Dbref
+        ensures after { after_in self.now d ≡ chain (after_in self.now) result }
+        ensures next { result ≡ next_in self.now d }
+    {
+        next_listed(&self.slots, d)
     }
 }

@@ -10,10 +10,12 @@ mod moves;
 mod password;
 mod persisted;
 mod recycling;
+mod seen;
 mod setting;
 mod slot;
 mod start;
 mod telling;
+mod walks;
 
 pub use chain::Chain;
 pub use db::Db;

@@ -1,12 +1,14 @@
 // What stands where, and moving: the check and the act.
-ghost use Rattle.std.specs.Prelude.{◌≡◌, ◌<◌, length, false, IfSome};
+ghost use Rattle.std.specs.Prelude.{◌≡◌, ◌<◌, ◌≤◌, length, false, not, if◌then◌else◌, IfSome};
 ghost use Rattle.muck_live.specs.Flags.{has_flag, vehicle};
+ghost use Rattle.std.specs.List.{count_by};
 ghost use Rattle.std.specs.Option.{option_copied};
 ghost use Rattle.muck_live.specs.Objects.{may_stand, is_garbage, fits_in, number_in, object_at};
 ghost use Rattle.muck_live.specs.Moving.{move_check, moved};
 ghost use Rattle.muck_live.specs.Consistent.{MayMove};
 ghost use Rattle.muck_live.specs.Seen.{listed_in};
-ghost use Rattle.muck_db.specs.Slots.{kept_at, kind_at, flags_at, entries_of, HasOrder};
+ghost use Rattle.muck_db.specs.Slots.{shown, kept_at, kind_at, flags_at, entries_of, HasOrder};
+ghost use Rattle.muck_db.specs.Shown.{is_there};
 
 use crate::chain::Chain;
 use crate::links::{first_of, index_of, is_exit_of, leads_to, link, set_place, take_out};
@@ -92,6 +94,41 @@ pub fn found(slots: &Vec<Slot>, d: Dbref) -> Option<&Object>
         Some(k) => object_of(slots, k),
         None => None,
     }
+}
+
+// Whether an object is there.
+#[tactic(auto, unfolding(muck_live::specs::Objects::garbage))]
+fn is_there(slot: &Slot) -> bool
+    ensures { result ≡ not (is_garbage (shown slot.now).kind) }
+{
+    match &slot.object {
+        Some(object) => !matches!(object.kind, Kind::Garbage),
+        None => false,
+    }
+}
+
+fn one_there(slot: &Slot) -> usize
+    ensures is { result ≡ (if not (is_garbage (shown slot.now).kind) then 1 else 0) }
+    ensures most { result ≤ 1 }
+{
+    if is_there(slot) { 1 } else { 0 }
+}
+
+fn count_slots(slots: &Vec<Slot>) -> usize
+    ensures { result ≡ count_by (λ s. not (is_garbage (shown s).kind)) slots.now.items }
+{
+    let mut n = 0;
+    for slot in slots.iter() {
+        n += one_there(slot);
+    }
+    n
+}
+
+// How many objects there are, without garbage.
+pub fn count_there(slots: &Vec<Slot>) -> usize
+    ensures { result ≡ count_by is_there (entries_of slots.now.items) }
+{
+    count_slots(slots)
 }
 
 // The numbers of a move that is allowed, or the first refusal.

@@ -1,8 +1,10 @@
 // How a password is kept.
-ghost use Rattle.std.specs.Prelude.{◌≡◌, ◌++◌, IfOk, OnErr, Err};
+ghost use Rattle.std.specs.Prelude.{◌≡◌, ◌++◌, IfOk, OnErr, Err, take, bytes_eq};
 ghost use Rattle.sha2.specs.Sha256.{sha256};
-ghost use Rattle.muck_live.specs.Password.{digest_of, salt_bytes};
+ghost use Rattle.muck_db.specs.Shown.{is_memory};
+ghost use Rattle.muck_live.specs.Password.{digest_of, is_digest_of, salt_bytes};
 
+use hex::FromHexError;
 use muck_live::DbFault;
 use muck_model::Line;
 use sha2::{Digest, Sha256};
@@ -57,4 +59,48 @@ pub fn digest_word(alloc: Global, salt: u64, word: &Line) -> Result<Line, DbFaul
 {
     let salt = salt.to_be_bytes();
     digest_text(alloc, &salt, word.as_slice())
+}
+
+// The digits of the salt.
+fn salt_digits(digest: &[u8]) -> &[u8]
+    ensures { result.now ≡ take 16 digest.now }
+{
+    if digest.len() > 16 {
+        &digest[..16]
+    } else {
+        digest
+    }
+}
+
+fn is_digest_under(alloc: Global, salt: &[u8], word: &Line, digest: &Line) -> Result<bool, DbFault>
+    ensures is { IfOk result (λ same. same ≡ bytes_eq digest.now (digest_of salt.now word.now)) }
+    ensures memory { OnErr result (result ≡ Err DbFault.NoMemory) }
+{
+    let found = digest_text(alloc, salt, word.as_slice())?;
+    Ok(*digest == found)
+}
+
+fn is_memory(fault: FromHexError) -> bool
+    ensures { result ≡ is_memory fault }
+{
+    matches!(fault, FromHexError::OutOfMemory)
+}
+
+// Whether a digest is that of a word, under the salt that it begins with.
+pub fn is_digest_of(alloc: Global, word: &Line, digest: &Line) -> Result<bool, DbFault>
+    ensures is { IfOk result (λ same. same ≡ is_digest_of word.now digest.now) }
+    ensures memory { OnErr result (result ≡ Err DbFault.NoMemory) }
+{
+    match hex::decode(alloc, salt_digits(digest.as_slice())) {
+        Ok(salt) => {
+            let same = is_digest_under(alloc, salt.as_slice(), word, digest)?;
+            Ok(same)
+        }
+        Err(fault) => {
+            if is_memory(fault) {
+                return Err(DbFault::NoMemory);
+            }
+            Ok(false)
+        }
+    }
 }

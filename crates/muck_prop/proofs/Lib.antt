@@ -6,3 +6,4 @@ pub mod Maps
 pub mod Sequence
 pub mod First
 pub mod Least
+pub mod Parts

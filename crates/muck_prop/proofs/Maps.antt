@@ -30,7 +30,7 @@ found q (e ∷ es) = ap (cond (is_eq (path_cmp q e.0)) (Some e.1)) (found q es)
 pub get_is : (q : List (List ℕ)) (es : List (List (List ℕ) × PropValue)) → get (from_entries {R = path_cmp} es) q ≡ lookup (is_at (path_cmp q)) es
 get_is q es = get-from_entries path_cmp_total es q ∙ found q es
 
-turned : (k q : List (List ℕ)) → is_at (path_cmp k) q ≡ eq_by_cmp path_cmp q k
+pub turned : (k q : List (List ℕ)) → is_at (path_cmp k) q ≡ eq_by_cmp path_cmp q k
 turned k q = (eq_by_cmp_equiv path_cmp_total).symm k q
 
 -- entries that answer as others do, but at one path

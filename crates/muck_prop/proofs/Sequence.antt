@@ -25,7 +25,7 @@ and_true true true h = (refl, refl)
 and_true true false h = cc
 and_true false b h = cc
 
-equal_then : (r : Ordering) → is_eq r ≡ true → r ≡ Equal
+pub equal_then : (r : Ordering) → is_eq r ≡ true → r ≡ Equal
 equal_then Less h = cc
 equal_then Equal h = refl
 equal_then Greater h = cc

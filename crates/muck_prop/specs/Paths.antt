@@ -18,6 +18,10 @@ is_filled (b ∷ bs) = true
 abbrev pub segments_of : List ℕ → List (List ℕ)
 segments_of text = map (map to_ascii_lowercase) (filter is_filled (slice_split is_slash text))
 
+-- segments with a part of a text before them, unless it is empty
+unfoldable pub with_part : List ℕ → List (List ℕ) → List (List ℕ)
+with_part part tail = if is_filled part then map to_ascii_lowercase part ∷ tail else tail
+
 -- the segments, joined by single slashes
 abbrev pub path_text : List (List ℕ) → List ℕ
 path_text path = join_with_byte 47 path

@@ -67,7 +67,7 @@ impl Model for Path {
 }
 
 // Whether a byte stands there that no path has.
-fn has_barred(text: &[u8]) -> bool
+pub(crate) fn has_barred(text: &[u8]) -> bool
     ensures { result ≡ list_any is_barred text.now }
 {
     text.iter().any(|b| *b == b':' || *b == b'\r')

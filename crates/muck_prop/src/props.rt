@@ -1,20 +1,20 @@
 // The properties of one object.
 ghost use Rattle.std.specs.Prelude.{◌≡◌, [], Some, None, IfOk, IfSome, OnOk, OnErr, is_some, is_ok, true, false, length, ◌≤◌, Ok, Err};
-ghost use Rattle.std.specs.Option.{option_copied, unwrap_or};
+ghost use Rattle.std.specs.Option.{option_copied, option_map_or, unwrap_or};
 ghost use Rattle.std.specs.FinMap as map;
 ghost use Rattle.std.specs.Range.Bound.{bound_map};
 ghost use Rattle.std.specs.List.{AllByRecursion, find};
-ghost use Rattle.muck_prop.specs.Paths.{IsPath};
-ghost use Rattle.std.specs.Map.{keys_of};
+ghost use Rattle.muck_prop.specs.Paths.{IsPath, segments_of, path_fault};
+ghost use Rattle.std.specs.Map.{keys_of, lookup};
 ghost use Rattle.std.specs.BTreeMap.{IsOrdered};
 ghost use Rattle.std.specs.BTreeMap.Range.{is_from_start};
-ghost use Rattle.muck_prop.specs.Order.{path_cmp};
+ghost use Rattle.muck_prop.specs.Order.{path_cmp, path_eq};
 ghost use Rattle.muck_prop.specs.Store.{stored, is_dir, next_child, found_child, path_or_top, is_nothing, IsKept, IsLeastChild};
 
-use crate::path::Path;
+use crate::path::{Path, has_barred};
 use crate::segments::Segments;
 use crate::value::PropValue;
-use muck_model::NoMemory;
+use muck_model::{Line, NoMemory};
 use std::alloc::Global;
 use std::collections::BTreeMap;
 use std::marker::Model;
@@ -82,6 +82,19 @@ fn first_past<'a>(
     }
 }
 
+// The value at the path that a text holds.
+fn found_at<'a>(values: &'a BTreeMap<Segments, PropValue>, text: &[u8]) -> Option<&'a PropValue>
+    ensures { option_copied result ≡ lookup (λ path. path_eq path (segments_of text.now)) values.now.entries }
+{
+    let mut left = values.iter();
+    while let Some((path, value)) = left.next() {
+        if path.is_text(text) {
+            return Some(value);
+        }
+    }
+    None
+}
+
 impl Props {
     /// No properties.
     pub fn new(alloc: Global) -> Result<Props, NoMemory>
@@ -98,6 +111,17 @@ impl Props {
         ensures something { IfSome result (λ value. is_nothing value.now ≡ false) }
     {
         self.values.get(&path.segments)
+    }
+
+    /// The value at the path that a text holds; `None` also where the text is no path. It takes no memory.
+    pub fn get_at(&self, text: &Line) -> Option<&PropValue>
+        ensures { option_copied result ≡ option_map_or (λ fault. None) (path_fault text.now) (map.get self.now (segments_of text.now)) }
+    {
+        let text = text.as_slice();
+        if has_barred(text) {
+            return None;
+        }
+        found_at(&self.values, text)
     }
 
     /// Whether some stored path continues this one.

@@ -41,6 +41,22 @@ impl Segment {
         &self.bytes
     }
 
+    // Whether these bytes are it in lower case.
+    pub(crate) fn is_lowered(&self, bytes: &[u8]) -> bool
+        ensures { result ≡ bytes_eq self.now (map to_ascii_lowercase bytes.now) }
+    {
+        let mut rest = self.as_slice();
+        let mut left = bytes;
+        while let [byte, more @ ..] = left {
+            match rest {
+                [first, behind @ ..] if *first == byte.to_ascii_lowercase() => rest = behind,
+                _ => return false,
+            }
+            left = more;
+        }
+        rest.is_empty()
+    }
+
     // Whether it begins with a byte.
     pub(crate) fn begins_with(&self, first: u8) -> bool
         ensures { result ≡ begins_with first self.now }

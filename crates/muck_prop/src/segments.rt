@@ -1,9 +1,9 @@
 // Lists of segments, in the order of paths.
-ghost use Rattle.std.specs.Prelude.{◌≡◌, ◌++◌, ◌∷◌, [], Some, None, IfOk, OnOk, length, take, refl, Ok, Err};
-ghost use Rattle.std.specs.List.{list_any};
+ghost use Rattle.std.specs.Prelude.{◌≡◌, ◌≤◌, ◌++◌, ◌∷◌, [], ℕ, suc, List, Some, None, IfOk, IfSome, IfNone, OnOk, length, take, drop, refl, Ok, Err, false};
+ghost use Rattle.std.specs.List.{list_any, position, position_or_len};
 ghost use Rattle.std.specs.Cmp.{on_equiv, on_total, on_po, on_per, partial_equiv_from_equiv};
 ghost use Rattle.muck_prop.specs.Order.{path_cmp, path_eq, path_cmp_total, path_eq_equiv, path_ties, path_po, is_below, past};
-ghost use Rattle.muck_prop.specs.Paths.{segments_of, path_text, is_slash, begins_with};
+ghost use Rattle.muck_prop.specs.Paths.{segments_of, path_text, is_slash, begins_with, with_part};
 
 use crate::segment::Segment;
 use muck_model::NoMemory;
@@ -25,7 +25,66 @@ impl Model for Segments {
     ghost view = { λ s. s.items.items };
 }
 
+fn first_slash(text: &[u8]) -> Option<usize>
+    ensures { result ≡ position is_slash text.now }
+{
+    text.iter().position(|b| *b == b'/')
+}
+
+// How many bytes stand before the first slash.
+#[tactic(auto, using(crate::proofs::Parts::lens))]
+fn part_len(text: &[u8]) -> usize
+    ensures is { result ≡ position_or_len is_slash text.now }
+    ensures within { result ≤ length text.now }
+{
+    match first_slash(text) {
+        Some(n) => n,
+        None => text.len(),
+    }
+}
+
+// What stands behind the slash at that place.
+fn behind_part(text: &[u8], n: usize) -> &[u8]
+    ensures { result.now ≡ drop (suc n) text.now }
+{
+    if n < text.len() { &text[n + 1..] } else { &[] }
+}
+
+// The segments behind a part of a text, which is empty or the first of them; none where it is another one.
+#[tactic(auto, unfolding(crate::specs::Paths::with_part))]
+fn past_part<'a>(rest: &'a [Segment], part: &[u8]) -> Option<&'a [Segment]>
+    ensures some { IfSome result (λ more. (tail : List (List ℕ)) → path_eq rest.now (with_part part.now tail) ≡ path_eq more.now tail) }
+    ensures none { IfNone result ((tail : List (List ℕ)) → path_eq rest.now (with_part part.now tail) ≡ false) }
+{
+    if part.is_empty() {
+        return Some(rest);
+    }
+    let (first, more) = rest.split_first()?;
+    if first.is_lowered(part) {
+        Some(more)
+    } else {
+        None
+    }
+}
+
 impl Segments {
+    // Whether a text holds these segments. It takes no memory.
+    pub(crate) fn is_text(&self, text: &[u8]) -> bool
+        ensures { result ≡ path_eq self.now (segments_of text.now) }
+    {
+        let mut rest = self.as_slice();
+        let mut left = text;
+        while !left.is_empty() {
+            let n = part_len(left);
+            let Some(more) = past_part(rest, &left[..n]) else {
+                return false;
+            };
+            rest = more;
+            left = behind_part(left, n);
+        }
+        rest.is_empty()
+    }
+
     // No segment.
     pub(crate) fn new(alloc: Global) -> Segments
         ensures { result ≡ [] }

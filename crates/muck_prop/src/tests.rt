@@ -64,6 +64,17 @@ const STEPS: [(&str, &str, &str); 12] = [
     ("b", "", ""),
 ];
 
+// A text, and whether the stored paths have a value at what it holds.
+const FOUND: [(&str, bool); 7] = [
+    ("/A//x/", true),
+    ("A B", true),
+    ("c/d/e", true),
+    ("a", false),
+    ("a/x/y/z", false),
+    ("a/x:", false),
+    ("", false),
+];
+
 fn path(alloc: Global, text: &str) -> Result<Path, Fail> {
     Ok(read_path(alloc, &Line::new(alloc, text.as_bytes())?)?)
 }
@@ -146,6 +157,17 @@ fn walks(rt: HostRuntime) -> Result<(), Fail> {
     let props = stored(rt.alloc())?;
     for (dir, after, want) in STEPS.iter() {
         assert!(rt; steps(rt.alloc(), &props, dir, after, want)?);
+    }
+    Ok(())
+}
+
+#[test]
+fn finds_by_text(rt: HostRuntime) -> Result<(), Fail> {
+    let alloc = rt.alloc();
+    let props = stored(alloc)?;
+    for (text, found) in FOUND.iter() {
+        let text = Line::new(alloc, text.as_bytes())?;
+        assert!(rt; props.get_at(&text).is_some() == *found);
     }
     Ok(())
 }
