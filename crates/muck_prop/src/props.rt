@@ -117,7 +117,13 @@ impl Props {
     pub fn get_at(&self, text: &Line) -> Option<&PropValue>
         ensures { option_copied result ≡ option_map_or (λ fault. None) (path_fault text.now) (map.get self.now (segments_of text.now)) }
     {
-        let text = text.as_slice();
+        self.get_bytes(text.as_slice())
+    }
+
+    /// The same of the bytes of a text.
+    pub fn get_bytes(&self, text: &[u8]) -> Option<&PropValue>
+        ensures { option_copied result ≡ option_map_or (λ fault. None) (path_fault text.now) (map.get self.now (segments_of text.now)) }
+    {
         if has_barred(text) {
             return None;
         }
