@@ -140,10 +140,8 @@ pub listed_some : (v : Bool) (es : List Entry) (d : Dbref) (k : ℕ) → number_
 unfolding listed_in
 listed_some v es d k h = rw h refl
 
-
 pub sound_order : (slots : List Slot) → IsSound slots → HasOrder slots
 sound_order slots s = record { ends = s.ends; ordered = s.world.ordered }
-
 
 -- the kind of what an unlinking leaves
 pub unlinked_kind : (d k : ℕ) (old new : List Slot) → IsUnlinked d old new → kind_at new k ≡ kind_at old k

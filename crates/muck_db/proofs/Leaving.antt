@@ -207,8 +207,8 @@ whether false P so other = other refl
 others_stay : (v : Bool) (d p y : ℕ) (old mid : List Slot) → HasOrder old → IsUnlinked d old mid → (p ≡ d → ⊥) → Member y (without d (list_at v old p)) → exit_at d mid y ≡ false
 others_stay v d p y old mid s u ne m = whether (exit_at d mid y) (exit_at d mid y ≡ false)
     (λ h. let t : Stands old v p y = (order_chains old s).stands v p y (without_member d y (list_at v old p) m) in
-      let place : place_at old y ≡ Some d = exit_place d y old (sym (exit_same d y old mid u) ∙ h) in
-      absurd (ne (cc (t.place, place))))
+    let place : place_at old y ≡ Some d = exit_place d y old (sym (exit_same d y old mid u) ∙ h) in
+    absurd (ne (cc (t.place, place))))
     (λ h. h)
 
 unfoldable left_list : ℕ → List Slot → Bool → ℕ → List ℕ
@@ -227,9 +227,9 @@ chain_left v d p old mid left new s u l n ne =
     whether (exit_at d old p) (IsChain (length new) (next_at new) (first_at v new p) (cond (exit_at d old p) [] (without d (list_at v old p))))
     (λ h. rw h (chain_empty (length new) (next_at new) (first_at v new p) (first ∙ ap (λ b. cond b None (first_at v mid p)) (exit_same d p old mid u ∙ h))))
     (λ h. rw h (chain_over (length mid) (length new) (next_at mid) (next_at new) (first_at v mid p) (first_at v new p) (without d (list_at v old p)) (without d (list_at v old p)) same_length
-      (first ∙ ap (λ b. cond b None (first_at v mid p)) (exit_same d p old mid u ∙ h)) refl
-      (λ y m. next_kept_at d y mid left new (λ e. without_gone d (list_at v old p) (let M : ℕ → Type 0 = λ z. Member z (without d (list_at v old p)) in subst M e m)) (others_stay v d p y old mid s u ne m) l n)
-      (u.chains v p)))
+    (first ∙ ap (λ b. cond b None (first_at v mid p)) (exit_same d p old mid u ∙ h)) refl
+    (λ y m. next_kept_at d y mid left new (λ e. without_gone d (list_at v old p) (let M : ℕ → Type 0 = λ z. Member z (without d (list_at v old p)) in subst M e m)) (others_stay v d p y old mid s u ne m) l n)
+    (u.chains v p)))
 
 first_here : (v : Bool) (d : ℕ) (mid left new : List Slot) → d < length mid → left ≡ map (exit_wiped d) mid → new ≡ changed_at d wiped left → first_at v new d ≡ None
 unfolding first_at
@@ -376,14 +376,14 @@ recycled_from d old mid new e f = f ∙ ap (λ (z : List Entry). vanished d (exi
 
 pub length_cleared : (d : ℕ) (old mid : List Slot) → d < length old → entries_of mid ≡ sent_home (list_in false (entries_of old) d) (untied d (entries_of old)) → d < length mid
 length_cleared d old mid lt e = omega (
-    arith,
-    lt,
-    length-entries_of old,
-    length-entries_of mid,
-    ap (λ (z : List Entry). length z) e,
-    length_sent_home (untied d (entries_of old)) (list_in false (entries_of old) d),
-    length_untied d (entries_of old),
-  )
+  arith,
+  lt,
+  length-entries_of old,
+  length-entries_of mid,
+  ap (λ (z : List Entry). length z) e,
+  length_sent_home (untied d (entries_of old)) (list_in false (entries_of old) d),
+  length_untied d (entries_of old),
+)
 
 pub kept_recycled : (d : Dbref) (n : ℕ) (old new : List Slot) → recycle_check d (entries_of old) ≡ Ok n → entries_of new ≡ recycled n (entries_of old) → ((v : Bool) (p : ℕ) → Ends (length new) (next_at new) (first_at v new p)) → IsSound old → IsKept new 0 0
 kept_recycled d n old new passed is ends sound =

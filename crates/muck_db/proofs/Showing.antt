@@ -242,10 +242,10 @@ places_at es c n o h (Some p) e =
     let number : number_in es (dbref_of p) ≡ Some p = number_is es p alive in
     let P : Dbref → Type 0 = λ z. map dbref_of (walk (length es) (place_in es) (place_in es n)) ≡ upward (scenery_of es) (Some z) in
     subst P (sym is) (
-      ap (λ (s : Option ℕ). map dbref_of (walk (length es) (place_in es) s)) place
-      ∙ ap (λ (l : List ℕ). map dbref_of l) (walk_next (length es) (place_in es) (Some p) (place_in es p) p refl refl (c.up p known))
-      ∙ ap (λ (l : List Dbref). dbref_of p ∷ l) (sym (places_some es (dbref_of p) p number))
-      ∙ sym (upward_there es (dbref_of p) q.0 (seen_some es (dbref_of p) p number ∙ q.1))
+    ap (λ (s : Option ℕ). map dbref_of (walk (length es) (place_in es) s)) place
+    ∙ ap (λ (l : List ℕ). map dbref_of l) (walk_next (length es) (place_in es) (Some p) (place_in es p) p refl refl (c.up p known))
+    ∙ ap (λ (l : List Dbref). dbref_of p ∷ l) (sym (places_some es (dbref_of p) p number))
+    ∙ sym (upward_there es (dbref_of p) q.0 (seen_some es (dbref_of p) p number ∙ q.1))
     )
 
 pub places_chain : (es : List Entry) → IsOrdered es → (d : Dbref) → places_of es d ≡ upward (scenery_of es) (option_map (λ (x : Object). x.place) (object_at d es))

@@ -268,6 +268,6 @@ passed_more f i old cur new is p = record {
 
 pub passed_all : (f : Slot → Slot) (i : ℕ) (old cur : List Slot) → length old ≤ i → Passed f i old cur → cur ≡ map f old
 passed_all f i old cur le p = get_ext cur (map f old) (λ k. elim (cases_lt k i) [
-    | inl lt ↦ p.done k lt ∙ sym (slice_get-map f old k)
-    | inr more ↦ slice_get_past cur k (omega (arith, p.same_length)) ∙ sym (slice_get_past (map f old) k (omega (arith, length_map f old)))
-  ])
+  | inl lt ↦ p.done k lt ∙ sym (slice_get-map f old k)
+  | inr more ↦ slice_get_past cur k (omega (arith, p.same_length)) ∙ sym (slice_get_past (map f old) k (omega (arith, length_map f old)))
+])

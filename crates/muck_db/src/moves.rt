@@ -40,7 +40,12 @@ pub fn kind_of(slots: &Vec<Slot>, k: u32) -> Kind
     ensures within { is_garbage result ≡ false → k < length slots.now.items }
 {
     match slots.get(k as usize) {
-        Some(Slot { object: Some(object), .. }) => object.kind,
+        Some(
+            Slot {
+                object: Some(object),
+                ..
+            },
+        ) => object.kind,
         _ => Kind::Garbage,
     }
 }
@@ -50,7 +55,12 @@ pub fn is_vehicle(slots: &Vec<Slot>, k: u32) -> bool
     ensures { result ≡ has_flag vehicle (flags_at slots.now.items k) }
 {
     match slots.get(k as usize) {
-        Some(Slot { object: Some(object), .. }) => has_flag(VEHICLE, object.flags),
+        Some(
+            Slot {
+                object: Some(object),
+                ..
+            },
+        ) => has_flag(VEHICLE, object.flags),
         _ => false,
     }
 }

@@ -78,7 +78,12 @@ fn home_of(slots: &Vec<Slot>, k: u32) -> Option<u32>
     ensures { result ≡ home_at slots.now.items k }
 {
     match slots.get(k as usize) {
-        Some(Slot { object: Some(object), .. }) => index_of(object.home),
+        Some(
+            Slot {
+                object: Some(object),
+                ..
+            },
+        ) => index_of(object.home),
         _ => None,
     }
 }
@@ -88,7 +93,12 @@ fn owner_of(slots: &Vec<Slot>, k: u32) -> Option<u32>
     ensures { result ≡ owner_at slots.now.items k }
 {
     match slots.get(k as usize) {
-        Some(Slot { object: Some(object), .. }) => index_of(object.owner),
+        Some(
+            Slot {
+                object: Some(object),
+                ..
+            },
+        ) => index_of(object.owner),
         // garbage belongs to `#1`
         Some(_) => Some(1),
         None => None,
@@ -129,13 +139,7 @@ fn way_home(slots: &Vec<Slot>, x: u32) -> u32
     ensures { result ≡ way_home x (entries_of slots.now.items) }
 {
     match wished_home(slots, x) {
-        Some(to) => {
-            if may_go(slots, x, to) {
-                to
-            } else {
-                0
-            }
-        }
+        Some(to) => { if may_go(slots, x, to) { to } else { 0 } }
         None => 0,
     }
 }

@@ -1,7 +1,40 @@
 // What matching and locks read of the objects.
+ghost use Rattle.std.specs.Prelude.{◌≡◌};
+ghost use Rattle.muck_live.specs.Seen.{value_is, has_value};
+
 use crate::db::Db;
+use itoa::Buffer;
+use muck_lock::{Keys, TextKeys};
 use muck_match::Scene;
 use muck_model::{Dbref, Kind, Line};
+use muck_prop::PropValue;
+
+// Whether a value is that text, or that number in decimal.
+fn value_is(value: &PropValue, text: &[u8]) -> bool
+    ensures { result ≡ value_is text.now value.now }
+{
+    match value {
+        PropValue::Text(kept) => kept.as_slice() == text,
+        PropValue::Number(number) => {
+            let mut buffer = Buffer::new();
+            buffer.format(*number).as_bytes() == text
+        }
+    }
+}
+
+// Whether the property of that path of an object has that text, or that number in decimal.
+#[tactic(auto, unfolding(muck_live::specs::Seen::has_value, muck_live::specs::Seen::value_at))]
+fn has_value(db: &Db, d: Dbref, path: &[u8], value: &[u8]) -> bool
+    ensures { result ≡ has_value db.now d path.now value.now }
+{
+    match db.get(d) {
+        Some(object) => match object.props().get_bytes(path) {
+            Some(found) => value_is(found, value),
+            None => false,
+        },
+        None => false,
+    }
+}
 
 impl Scene for Db {
     ghost use Rattle.muck_live.specs.Seen.{scenery_of};
@@ -57,5 +90,57 @@ impl Scene for Db {
     #[tactic(auto, unfolding(muck_live::specs::Seen::scenery_of))]
     fn objects(&self) -> u32 {
         self.count()
+    }
+}
+
+impl Keys for Db {
+    ghost use Rattle.std.specs.Prelude.{◌≡◌, false};
+    ghost use Rattle.std.specs.Option.{option_map};
+    ghost use Rattle.muck_live.specs.Objects.{object_at};
+    ghost use Rattle.muck_live.specs.Seen.{listed_in, has_value};
+    ghost use Rattle.muck_db.specs.Shown.{first_in, next_in};
+
+    ghost owners = { λ es d. option_map (λ o. o.owner) (object_at d es) };
+
+    ghost places = { λ es d. option_map (λ o. o.place) (object_at d es) };
+
+    ghost firsts = { first_in };
+
+    ghost nexts = { next_in };
+
+    ghost contents = { λ es d. listed_in false d es };
+
+    ghost has = { has_value };
+
+    fn owner(&self, d: Dbref) -> Option<Dbref> {
+        match self.get(d) {
+            Some(object) => Some(object.owner()),
+            None => None,
+        }
+    }
+
+    fn place(&self, d: Dbref) -> Option<Dbref> {
+        match self.get(d) {
+            Some(object) => Some(object.place()),
+            None => None,
+        }
+    }
+
+    fn first(&self, d: Dbref) -> Dbref {
+        self.first_listed(false, d)
+    }
+
+    fn next(&self, d: Dbref) -> Dbref {
+        self.next_listed(d)
+    }
+
+    fn prop_is(&self, d: Dbref, path: &Line, value: &Line) -> bool {
+        has_value(self, d, path.as_slice(), value.as_slice())
+    }
+}
+
+impl TextKeys for Db {
+    fn text_is(&self, d: Dbref, path: &[u8], value: &[u8]) -> bool {
+        has_value(self, d, path, value)
     }
 }

@@ -178,7 +178,9 @@ fn keeps_seats(slots: &Vec<Slot>, flags: Flags, n: u32) -> bool
     requires known { n < length slots.now.items }
     ensures { result ≡ keeps_seats (entries_of slots.now.items) flags n }
 {
-    let leaves = matches!(kind_of(slots, n), Kind::Thing) && is_vehicle(slots, n) && !has_flag(VEHICLE, flags);
+    let leaves = matches!(kind_of(slots, n), Kind::Thing)
+        && is_vehicle(slots, n)
+        && !has_flag(VEHICLE, flags);
     !(leaves && holds_player(slots, n))
 }
 
@@ -384,12 +386,7 @@ fn put_at(slot: &mut Slot, path: Path, value: PropValue) -> Result<(), DbFault>
 
 // The same in the table.
 #[tactic(auto, using(crate::proofs::Writes::set_back), unfolding(muck_live::specs::Objects::changed_at))]
-pub fn put_prop(
-    slots: &mut Vec<Slot>,
-    k: u32,
-    path: Path,
-    value: PropValue,
-) -> Result<(), DbFault>
+pub fn put_prop(slots: &mut Vec<Slot>, k: u32, path: Path, value: PropValue) -> Result<(), DbFault>
     requires { k < length slots.old.items }
     ensures ok { OnOk result (slots.new.items ≡ changed_at k (on_slot (with_prop path value)) slots.old.items) }
     ensures memory { OnErr result (result ≡ Err DbFault.NoMemory) }

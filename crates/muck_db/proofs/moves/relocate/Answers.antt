@@ -40,4 +40,3 @@ pub returns-clause-order : goal.returns-clause-order
 returns-clause-order c = order_moved c.args.d c.args.to c.is_exit_of-exits.result c.args.slots.now.items _ _ c.requires.order c.requires.may c.link.ensures
     (entries_moved c.args.d c.args.to c.is_exit_of-exits.result c.args.slots.now.items _ _ _ (sym c.is_exit_of-exits.ensures)
     (omega (arith, length-entries_of c.args.slots.now.items, c.requires.may.place)) (moves_alive _ c.args.to c.args.slots.now.items _ c.requires.may c.take_out.ensures) c.take_out.ensures c.set_place.ensures.items c.link.ensures)
-

@@ -18,13 +18,13 @@ returns-in_default-clause-after c = after_nothing (entries_of c.args.slots.now.i
 pub returns-in_default-clause-next : goal.returns-in_default-clause-next
 returns-in_default-clause-next c = sym (next_nothing (entries_of c.args.slots.now.items) c.args.d (sym c.number_of.ensures.value ∙ c.in_default.is))
 
-pub returns-in-Some-clause-after : goal.returns-in-Some-clause-after
-returns-in-Some-clause-after c =
+pub returns-in-Some-place_of-clause-after : goal.returns-in-Some-place_of-clause-after
+returns-in-Some-place_of-clause-after c =
     after_chain c.args.slots.now.items c.requires c.args.d c.in-Some.k _ (sym c.number_of.ensures.value ∙ c.in-Some.is) (sym c.place_of.ensures ∙ c.in-Some-place_of.is)
     ∙ ap (λ z. chain (after_in (entries_of c.args.slots.now.items)) z) (sym (c.dbref_at.ensures ∙ ap (λ o. dbref_at o) c.next_of.ensures))
 
-pub returns-in-Some-clause-next : goal.returns-in-Some-clause-next
-returns-in-Some-clause-next c =
+pub returns-in-Some-place_of-clause-next : goal.returns-in-Some-place_of-clause-next
+returns-in-Some-place_of-clause-next c =
     c.dbref_at.ensures ∙ ap (λ o. dbref_at o) c.next_of.ensures
     ∙ sym (next_is c.args.slots.now.items c.requires c.args.d c.in-Some.k _ (sym c.number_of.ensures.value ∙ c.in-Some.is) (sym c.place_of.ensures ∙ c.in-Some-place_of.is))
 

@@ -10,8 +10,8 @@ list_of-requires c = sound_order _ c.self.invariant.sound
 
 pub returns-clause-short : goal.returns-clause-short
 returns-clause-short c = omega (
-    arith,
-    ap (λ (l : List Dbref). length l) c.list_of.ensures,
-    listed_short (entries_of c.self.inside.slots.items) false c.args.d c.self.invariant.sound.world.ordered,
-    ap (λ (z : List Entry). length z) c.self.view_is,
-  )
+  arith,
+  ap (λ (l : List Dbref). length l) c.list_of.ensures,
+  listed_short (entries_of c.self.inside.slots.items) false c.args.d c.self.invariant.sound.world.ordered,
+  ap (λ (z : List Entry). length z) c.self.view_is,
+)
