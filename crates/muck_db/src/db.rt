@@ -107,6 +107,13 @@ impl Db {
     pub fn password_is(&self, alloc: Global, d: Dbref, word: &Line) -> Result<bool, DbFault>
         ensures { Knows (object_at d self.now) word.now result }
     {
+        self.is_password(alloc, d, word.as_slice())
+    }
+
+    /// The same of the bytes of a word.
+    pub fn is_password(&self, alloc: Global, d: Dbref, word: &[u8]) -> Result<bool, DbFault>
+        ensures { Knows (object_at d self.now) word.now result }
+    {
         match self.get(d) {
             Some(object) => is_digest_of(alloc, word, object.digest()),
             None => Err(DbFault::NoSuchObject),

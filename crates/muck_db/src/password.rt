@@ -72,11 +72,11 @@ fn salt_digits(digest: &[u8]) -> &[u8]
     }
 }
 
-fn is_digest_under(alloc: Global, salt: &[u8], word: &Line, digest: &Line) -> Result<bool, DbFault>
+fn is_digest_under(alloc: Global, salt: &[u8], word: &[u8], digest: &Line) -> Result<bool, DbFault>
     ensures is { IfOk result (λ same. same ≡ bytes_eq digest.now (digest_of salt.now word.now)) }
     ensures memory { OnErr result (result ≡ Err DbFault.NoMemory) }
 {
-    let found = digest_text(alloc, salt, word.as_slice())?;
+    let found = digest_text(alloc, salt, word)?;
     Ok(*digest == found)
 }
 
@@ -87,7 +87,7 @@ fn is_memory(fault: FromHexError) -> bool
 }
 
 // Whether a digest is that of a word, under the salt that it begins with.
-pub fn is_digest_of(alloc: Global, word: &Line, digest: &Line) -> Result<bool, DbFault>
+pub fn is_digest_of(alloc: Global, word: &[u8], digest: &Line) -> Result<bool, DbFault>
     ensures is { IfOk result (λ same. same ≡ is_digest_of word.now digest.now) }
     ensures memory { OnErr result (result ≡ Err DbFault.NoMemory) }
 {

@@ -3,16 +3,17 @@ ghost use Rattle.std.specs.Prelude.{◌≡◌, ◌≤◌, IfOk, OnOk, MatchOptio
 ghost use Rattle.std.specs.Option.{option_map, option_map_or};
 ghost use Rattle.muck_model.specs.declared.event.Event.{Event};
 ghost use Rattle.muck_live.specs.Connections.{is_ready, takes_line};
-ghost use Rattle.muck_live.specs.Lives.{tell};
+ghost use Rattle.muck_live.specs.Lives.{tell, place_at};
 ghost use Rattle.muck_world.specs.World.{booted, connection, queue_of, is_leaving, on_live};
 ghost use Rattle.muck_world.specs.Steps.{is_allowed, happened};
-ghost use Rattle.muck_world.specs.Talk.{quit, at_login, in_world, connecting, logged_in, proved, let_in, looked, huh, you_say, done, welcome};
+ghost use Rattle.muck_world.specs.Talk.{quit, command, at_login, in_world, connecting, logged_in, proved, let_in, looked, huh, you_say, done, welcome};
+ghost use Rattle.muck_live.specs.Objects.{object_at};
 
 use muck_board::Board;
 use muck_db::Db;
 use muck_live::DbFault;
-use muck_match::player;
-use muck_model::{Dbref, Line, LineFault, NoMemory, Tune};
+use muck_match::player_named;
+use muck_model::{Dbref, Line, NoMemory, Tune};
 use muck_perm::name_shown;
 use muck_world::{alike, cut_word, trim};
 use std::alloc::Global;
@@ -158,14 +159,23 @@ impl State {
     }
 
     /// The first waiting line of a connection is done.
-    #[tactic(auto, unfolding(muck_world::specs::Talk::done, muck_world::specs::Talk::line_done, muck_world::specs::Talk::waits, muck_world::specs::Talk::command, muck_live::specs::Lives::followed, muck_live::specs::Lives::unchanged))]
     pub fn do_line(&mut self, d: u32) -> Result<(), NoMemory>
         ensures { OnOk result (self.new ≡ happened self.old (Event.Exec d)) }
     {
         match self.board.take_line(d) {
             None => Ok(()),
-            Some((None, line)) => self.at_login(d, line.as_slice()),
-            Some((Some(_), line)) => self.in_world(d, line.as_slice()),
+            Some((player, line)) => self.obey(d, player, line.as_slice()),
+        }
+    }
+
+    // A line of that player, or at the login screen, is done.
+    #[tactic(auto, unfolding(muck_world::specs::Talk::command))]
+    fn obey(&mut self, d: u32, player: Option<Dbref>, line: &[u8]) -> Result<(), NoMemory>
+        ensures { OnOk result (self.new ≡ on_live (command player d line.now) self.old) }
+    {
+        match player {
+            None => self.at_login(d, line),
+            Some(_) => self.in_world(d, line),
         }
     }
 
@@ -207,12 +217,10 @@ impl State {
     fn proved(&self, name: &[u8], word: &[u8]) -> Result<Option<Dbref>, NoMemory>
         ensures { IfOk result (λ player. player ≡ proved name.now word.now self.now.live.objects) }
     {
-        let name = line_of(self.alloc, name)?;
-        let Some(player) = player(&self.db, &name) else {
+        let Some(player) = player_named(&self.db, name) else {
             return Ok(None);
         };
-        let word = line_of(self.alloc, word)?;
-        match self.db.password_is(self.alloc, player, &word) {
+        match self.db.is_password(self.alloc, player, word) {
             Ok(true) => Ok(Some(player)),
             Ok(false) => Ok(None),
             Err(DbFault::NoMemory) => Err(NoMemory),
@@ -301,16 +309,5 @@ impl State {
     {
         self.board.tell(d, text)?;
         Ok(())
-    }
-}
-
-// The bytes of a part of a line as a line of their own.
-fn line_of(alloc: Global, bytes: &[u8]) -> Result<Line, NoMemory>
-    requires { text_fault bytes.now ≡ None }
-    ensures { IfOk result (λ line. line ≡ bytes.now) }
-{
-    match Line::new(alloc, bytes) {
-        Ok(line) => Ok(line),
-        Err(_) => Err(NoMemory),
     }
 }
