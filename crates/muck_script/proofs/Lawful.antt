@@ -5,7 +5,8 @@ use Rattle.muck_model.specs.declared.event.Entry.{Entry}
 use Rattle.muck_model.specs.declared.event.Event.{Event}
 use Rattle.muck_model.specs.declared.event.Event.TheVariants.{Opened, Input, Closed, Exec, Take, Halt, Died}
 use Rattle.muck_world.specs.World.{World, queue_of, is_leaving, starting}
-use Rattle.muck_world.specs.Steps.{is_lawful, effect, next_ready, connections_most}
+use Rattle.muck_world.specs.Steps.{is_lawful, effect, next_ready}
+use Rattle.muck_live.specs.Connections.{connections_most}
 use Rattle.muck_world.specs.Histories.{after, AllLawful, by_porter}
 use Rattle.muck_world.specs.Sound.{IsSound}
 use Rattle.muck_world.proofs.Reached.{sound-effect, exec_lawful, take_lawful, close_lawful, halt_lawful, sound-starting}

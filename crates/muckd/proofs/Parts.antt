@@ -9,7 +9,7 @@ use Rattle.muck_io.specs.Sink.{Appends, AppendsFront}
 use Rattle.muck_model.specs.declared.event.Entry.{Entry}
 use Rattle.muck_model.specs.declared.event.Event.{Event}
 use Rattle.muck_model.specs.declared.event.Event.TheVariants.{Opened, Input, Closed, Take, Died}
-use Rattle.muck_world.specs.Connections.{Connection}
+use Rattle.muck_live.specs.Connections.{Connection}
 use Rattle.muck_world.specs.World.{World, connection, queue_of, is_leaving}
 use Rattle.muck_world.specs.Steps.{effect, is_lawful, is_died}
 use Rattle.muck_world.specs.Histories.{History, after, now, extended, entered, by_porter}

@@ -6,7 +6,7 @@ use Rattle.std.specs.Prelude.{nat_lt}
 use Rattle.muck_io.specs.Source.{HasReadAll}
 use Rattle.muck_model.specs.declared.event.Entry.{Entry}
 use Rattle.muck_model.specs.declared.event.Event.TheVariants.{Died}
-use Rattle.muck_world.specs.World.{World, starting}
+use Rattle.muck_world.specs.World.{World, starting, booted}
 use Rattle.muck_world.specs.Histories.{History, after, now, extended, by_porter, AllLawful}
 use Rattle.muck_world.proofs.Runs.{run_of_lawful}
 use Rattle.muck_script.specs.declared.act.Act.{Act}
@@ -24,7 +24,7 @@ abbrev begun : History
 begun = record { start = starting; entries = [] }
 
 pub begun_lives : (h : History) → h ≡ begun → (now h).dead ≡ false
-unfolding now starting
+unfolding now starting booted
 begun_lives h e = ap (λ (x : History). (now x).dead) e
 
 pub played_whole : (acts : List Act) (h k : History) (a b : Option (List ℕ)) (tale : List Entry) → h ≡ begun → Plays (story acts) h k a b → tale ≡ k.entries → PlayedWhole acts a b tale

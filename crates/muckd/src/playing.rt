@@ -2,7 +2,7 @@
 ghost use Rattle.std.specs.Prelude.{◌≡◌, ◌≤◌, OnOk, IsErrOf, OnErr, length, false, Option, List, ℕ};
 ghost use Rattle.muck_io.specs.Faults.{Rose};
 ghost use Rattle.muck_world.specs.Histories.{now};
-ghost use Rattle.muck_world.specs.Steps.{connections_most};
+ghost use Rattle.muck_live.specs.Connections.{connections_most};
 ghost use Rattle.muck_script.specs.Story.{acted, turns, turns_most, taken, parted, both, served, line_story, story};
 ghost use Rattle.muckd.specs.Plays.{PlaysOrBreaks};
 
@@ -64,7 +64,7 @@ fn take_queue<K: Sink>(
     buf: &mut [u8],
     out: &mut K,
 ) -> Result<(), RunFault>
-    requires room { 131072 ≤ length buf.old }
+    requires room { 131090 ≤ length buf.old }
     requires alive { (now world.old).dead ≡ false }
     ensures plays { PlaysOrBreaks (taken d) world.old world.new (K.written out.old) (K.written out.new) result }
     ensures fine { OnOk result (K.faults out.new ≡ K.faults out.old) }
@@ -126,7 +126,7 @@ fn serve_one<K: Sink>(
     buf: &mut [u8],
     out: &mut K,
 ) -> Result<(), RunFault>
-    requires room { 131072 ≤ length buf.old }
+    requires room { 131090 ≤ length buf.old }
     requires alive { (now world.old).dead ≡ false }
     ensures plays { PlaysOrBreaks (both (taken d) (parted d)) world.old world.new (K.written out.old) (K.written out.new) result }
     ensures fine { OnOk result (K.faults out.new ≡ K.faults out.old) }
@@ -147,7 +147,7 @@ fn serve_all<K: Sink>(
     buf: &mut [u8],
     out: &mut K,
 ) -> Result<(), RunFault>
-    requires room { 131072 ≤ length buf.old }
+    requires room { 131090 ≤ length buf.old }
     requires alive { (now world.old).dead ≡ false }
     ensures plays { PlaysOrBreaks (served connections_most 1) world.old world.new (K.written out.old) (K.written out.new) result }
     ensures fine { OnOk result (K.faults out.new ≡ K.faults out.old) }
@@ -184,7 +184,7 @@ fn play_line<K: Sink>(
     buf: &mut [u8],
     out: &mut K,
 ) -> Result<(), RunFault>
-    requires room { 131072 ≤ length buf.old }
+    requires room { 131090 ≤ length buf.old }
     requires alive { (now world.old).dead ≡ false }
     ensures plays { PlaysOrBreaks (line_story asked.now) world.old world.new (K.written out.old) (K.written out.new) result }
     ensures fine { OnOk result (K.faults out.new ≡ K.faults out.old) }
@@ -210,7 +210,7 @@ pub fn play<K: Sink>(
     buf: &mut [u8],
     out: &mut K,
 ) -> Result<(), RunFault>
-    requires room { 131072 ≤ length buf.old }
+    requires room { 131090 ≤ length buf.old }
     requires alive { (now world.old).dead ≡ false }
     ensures plays { PlaysOrBreaks (story acts.now) world.old world.new (K.written out.old) (K.written out.new) result }
     ensures fine { OnOk result (K.faults out.new ≡ K.faults out.old) }

@@ -96,14 +96,14 @@ fn run<S: Source, K: Sink>(alloc: Global, script: &mut S, out: &mut K) -> (Why, 
 
 // Room for a whole queue.
 fn buffer(alloc: Global) -> Result<Vec<u8>, AllocError>
-    ensures { IfOk result (λ buf. 131072 ≤ vec_len buf) }
+    ensures { IfOk result (λ buf. 131090 ≤ vec_len buf) }
 {
-    vec![in alloc; 0u8; 131_072]
+    vec![in alloc; 0u8; 131_090]
 }
 
 // The world of a run that is to begin, and room for a whole queue.
 fn begin(alloc: Global) -> Result<(World, Vec<u8>), NoMemory>
-    ensures { IfOk result (λ both. (both.0 ≡ record { start = starting; entries = [] }) × (131072 ≤ vec_len both.1)) }
+    ensures { IfOk result (λ both. (both.0 ≡ record { start = starting; entries = [] }) × (131090 ≤ vec_len both.1)) }
 {
     let buf = buffer(alloc)?;
     let world = World::starting(alloc)?;
