@@ -7,7 +7,7 @@ use Rattle.muck_model.specs.declared.dbref.Dbref.{Dbref}
 use Rattle.muck_live.specs.declared.object.Object.{Object}
 use Rattle.muck_live.specs.Chain.{walk, IsChain, Ends, Member, without, put_at}
 use Rattle.muck_live.specs.Objects.{Entry, dbref_of, list_in, place_in, path_in, number_in, changed_at, is_garbage, object_in, object_at, kind_in, fits_in, is_vehicle_in}
-use Rattle.muck_live.specs.Moving.{moved, with_place, move_check}
+use Rattle.muck_live.specs.Moving.{moved, with_place}
 use Rattle.muck_live.specs.Consistent.{MayMove, IsOrdered, IsConsistent, StandsIn}
 use Rattle.muck_live.specs.Seen.{listed_in}
 use Rattle.muck_live.proofs.Chains.{ends_from, walk_is, walk_next, walk_none, member_none, without_same}

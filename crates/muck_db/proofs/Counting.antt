@@ -8,7 +8,7 @@ use Rattle.hex.specs.declared.error.FromHexError.TheVariants.{OutOfMemory}
 use Rattle.muck_live.specs.Password.{digest_of, is_digest_of}
 use Rattle.std.proofs.lemmas.List.Sums.{length-filter}
 use Rattle.std.specs.List.{count_by, filter}
-use Rattle.muck_live.specs.Objects.{Entry, is_garbage}
+use Rattle.muck_live.specs.Objects.{is_garbage}
 use Rattle.muck_db.specs.declared.slot.Slot.{Slot}
 use Rattle.muck_db.specs.Slots.{shown, entry_of, entries_of}
 use Rattle.muck_db.specs.Shown.{is_there, is_memory}

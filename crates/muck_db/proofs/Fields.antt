@@ -1,5 +1,5 @@
 -- A field that was set keeps the rule of the type.
-use Rattle.std.proofs.Common.{◌≡◌, ℕ, ◌<◌, ◌≤◌, List, Option, Some, None, inl, inr, refl, sym, ◌∙◌, ap, subst, length, Result, Ok, Err, Bool, true, false}
+use Rattle.std.proofs.Common.{◌≡◌, ℕ, List, refl, sym, ◌∙◌, ap, subst, Result, Ok, Err, false}
 use Rattle.muck_live.specs.declared.object.Object.{Object}
 use Rattle.muck_live.specs.declared.fault.DbFault.{DbFault}
 use Rattle.muck_live.specs.declared.fault.DbFault.TheVariants.{NoMemory}
@@ -10,7 +10,7 @@ use Rattle.muck_live.specs.Password.{digest_of, salt_bytes}
 use Rattle.muck_live.specs.Consistent.{IsConsistent}
 use Rattle.muck_live.proofs.Readers.{kind_changed, mark_changed}
 use Rattle.muck_db.specs.declared.slot.Slot.{Slot}
-use Rattle.muck_db.specs.Slots.{kind_at, mark_at, on_slot, with_digest, entries_of, IsKept}
+use Rattle.muck_db.specs.Slots.{kind_at, on_slot, with_digest, entries_of, IsKept}
 use Rattle.muck_db.proofs.Readers.{kind_in-entries_of, mark_in-entries_of}
 use Rattle.muck_db.proofs.Writes.{entries_on_slot, ends_on_slot}
 

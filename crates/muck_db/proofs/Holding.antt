@@ -1,5 +1,5 @@
 -- Whether something in a list passes a test.
-use Rattle.std.proofs.Common.{◌≡◌, ℕ, List, [], ◌∷◌, Option, Some, None, refl, sym, ◌∙◌, ap, length, Bool, true, false, ◌||◌}
+use Rattle.std.proofs.Common.{◌≡◌, ℕ, List, [], ◌∷◌, Option, Some, None, refl, ◌∙◌, ap, length, Bool, true, false, ◌||◌}
 use Rattle.std.specs.List.{list_any}
 use Rattle.muck_live.specs.Chain.{walk, Ends}
 use Rattle.muck_live.specs.Objects.{is_player, kind_in, list_in}

@@ -1,5 +1,5 @@
 -- Taking out and putting in front, as wholes.
-use Rattle.std.proofs.Common.{◌≡◌, ℕ, ◌<◌, List, ◌∷◌, Option, Some, ◌⊎◌, inl, inr, refl, sym, ◌∙◌, subst, length, arith, Bool}
+use Rattle.std.proofs.Common.{◌≡◌, ℕ, ◌<◌, List, ◌∷◌, Option, Some, inl, inr, refl, sym, ◌∙◌, subst, length, arith, Bool}
 use Rattle.muck_live.specs.Chain.{IsChain, Ends, Member, without, put_at}
 use Rattle.muck_live.specs.Objects.{changed_at}
 use Rattle.muck_live.proofs.Chains.{chain_frame, chain_below, chain_without_first, chain_without, without_same}

@@ -1,13 +1,13 @@
 -- The first table.
-use Rattle.std.proofs.Common.{◌≡◌, ℕ, ◌<◌, zero, suc, List, [], ◌∷◌, Option, Some, None, refl, sym, ap, subst, length, arith, Bool, true, false}
+use Rattle.std.proofs.Common.{◌≡◌, ℕ, zero, suc, List, [], ◌∷◌, Option, Some, None, refl, sym, subst, length, arith, Bool, true, false}
 use Rattle.muck_live.specs.Chain.{walk, IsChain, Ends}
-use Rattle.muck_live.specs.Objects.{Entry, is_garbage}
+use Rattle.muck_live.specs.Objects.{Entry}
 use Rattle.muck_live.specs.Start.{first_objects}
 use Rattle.muck_live.specs.Consistent.{IsConsistent}
 use Rattle.muck_live.proofs.Chains.{ends_from}
 use Rattle.muck_live.proofs.StartLaws.{consistent_first}
 use Rattle.muck_db.specs.declared.slot.Slot.{Slot}
-use Rattle.muck_db.specs.Slots.{next_at, first_at, kind_at, mark_at, entry_of, entries_of, first_slots, IsSound, IsKept}
+use Rattle.muck_db.specs.Slots.{next_at, first_at, entry_of, entries_of, first_slots, IsKept}
 use Rattle.muck_db.proofs.Bridge.{ends_none}
 
 pub entries_first : entries_of first_slots ≡ first_objects

@@ -4,11 +4,10 @@ use Rattle.std.proofs.lemmas.Bool.{cases_eq, false≢true}
 use Rattle.std.specs.List.{slice_get}
 use Rattle.std.specs.Option.{option_map, option_and_then, option_map_or}
 use Rattle.muck_live.specs.declared.object.Object.{Object}
-use Rattle.muck_live.specs.declared.mark.Mark.{Mark}
 use Rattle.muck_live.specs.Objects.{changed_at, is_garbage, garbage}
 use Rattle.muck_live.proofs.Lists.{get_changed_same, get_changed_other, kept_map, read_kept, some_at}
 use Rattle.muck_db.specs.declared.slot.Slot.{Slot}
-use Rattle.muck_db.specs.Slots.{shown, object_at, kind_at, next_at, first_of, first_at, mark_at, with_next, with_first, with_mark, on_slot}
+use Rattle.muck_db.specs.Slots.{shown, object_at, kind_at, next_at, first_of, first_at, mark_at, with_next, with_first, on_slot}
 
 pub object_kept : (slots : List Slot) (n k : ℕ) (f : Slot → Slot) → ((s : Slot) → shown (f s) ≡ shown s) → object_at (changed_at n f slots) k ≡ object_at slots k
 unfolding object_at

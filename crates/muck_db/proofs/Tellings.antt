@@ -1,12 +1,11 @@
 -- What is to be told.
 use Rattle.std.proofs.Common.{◌≡◌, ℕ, ◌+◌, ◌<◌, ◌≤◌, zero, suc, List, [], ◌∷◌, Option, Some, None, inl, inr, refl, sym, ◌∙◌, ap, subst, length, arith, Result, Ok, Bool, true, false}
-use Rattle.std.proofs.lemmas.Bool.{cases_eq, cases_lt}
+use Rattle.std.proofs.lemmas.Bool.{cases_eq}
 use Rattle.std.specs.List.{slice_get}
 use Rattle.std.specs.Option.{option_map, option_and_then, option_map_or}
 use Rattle.muck_model.specs.declared.dbref.Kind.TheVariants.{Garbage}
 use Rattle.muck_live.specs.declared.object.Object.{Object}
 use Rattle.muck_live.specs.declared.mark.Mark.{Mark}
-use Rattle.muck_live.specs.declared.mark.Changed.{Changed}
 use Rattle.muck_live.specs.declared.fault.DbFault.{DbFault}
 use Rattle.muck_live.specs.Objects.{Entry, changed_at, is_garbage, garbage, mark_in}
 use Rattle.muck_live.specs.Marks.{unmarked, marked_from, told_of, next_change, change_told}
@@ -14,12 +13,10 @@ use Rattle.muck_live.specs.Moving.{Does}
 use Rattle.muck_live.specs.Setting.{with_lines, lines_set}
 use Rattle.muck_live.specs.Consistent.{IsConsistent}
 use Rattle.muck_live.proofs.Lists.{get_changed_same, get_changed_other}
-use Rattle.muck_live.proofs.Readers.{object_change, kind_alike, object_past}
 use Rattle.muck_live.proofs.StartLaws.{consistent_told}
 use Rattle.muck_db.specs.declared.slot.Slot.{Slot}
 use Rattle.muck_db.specs.Slots.{shown, object_at, first_of, kind_at, mark_at, with_mark, with_slot_lines, with_source, entry_of, entries_of, IsKept}
-use Rattle.muck_db.proofs.Readers.{length-entries_of, kind_in-entries_of, mark_in-entries_of}
-use Rattle.muck_db.proofs.Tables.{object_kept}
+use Rattle.muck_db.proofs.Readers.{length-entries_of, mark_in-entries_of}
 use Rattle.muck_db.proofs.Writes.{alive_slot, entries_changed, ends_changed, entries_with_mark, ends_with_mark}
 
 marked_at : (es : List Entry) (n k : ℕ) (mark : Mark) → ((j : ℕ) → j < k → mark_in es j ≡ None) → mark_in es k ≡ Some mark → (m : ℕ) → m ≡ n + k → marked_from n es ≡ Some (m, mark)

@@ -1,4 +1,4 @@
-use Rattle.std.proofs.Common.{◌≡◌, sym, ◌∙◌, ap, take, List, ℕ}
+use Rattle.std.proofs.Common.{sym, ◌∙◌, ap, take, List, ℕ}
 use Rattle.std.specs.Prelude.{bytes_eq}
 use Rattle.muck_live.specs.Password.{digest_of}
 use Rattle.muck_db.proofs.Counting.{known_by, unknown_by}

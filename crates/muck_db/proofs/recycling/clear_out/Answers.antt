@@ -1,7 +1,6 @@
-use Rattle.std.proofs.Common.{sym, ◌∙◌, ap, arith, subst, List, ◌≡◌, ◌<◌, length, false, refl, ℕ}
+use Rattle.std.proofs.Common.{sym, ◌∙◌, ap, arith, subst, List, ◌≡◌, ◌<◌, length, false}
 use Rattle.muck_live.specs.Objects.{Entry, list_in}
-use Rattle.muck_live.specs.Recycling.{sent_home, untied, way_home}
-use Rattle.muck_live.specs.Consistent.{MayMove}
+use Rattle.muck_live.specs.Recycling.{sent_home}
 use Rattle.muck_live.proofs.Readers.{length_moved}
 use Rattle.muck_live.proofs.HomeLaws.{IsUntied}
 use Rattle.muck_db.specs.Slots.{entries_of}

@@ -1,5 +1,4 @@
-use Rattle.std.proofs.Common.{arith, List, ap, length}
-use Rattle.muck_db.specs.declared.slot.Slot.{Slot}
+use Rattle.std.proofs.Common.{arith}
 use Rattle.muck_db.proofs.Readers.{length-entries_of}
 use Rattle.muck_db.proofs.Bridge.{order_chains}
 use Rattle.muck_db.proofs.Leaving.{entries_vanished, ends_vanished, length_wiped}

@@ -1,4 +1,4 @@
-use Rattle.std.proofs.Common.{sym, ◌∙◌, arith, ap, ◌≡◌, Option, ℕ, subst, length, ◌<◌}
+use Rattle.std.proofs.Common.{sym, ◌∙◌, arith, ap, Option, ℕ, subst, ◌<◌}
 use Rattle.std.specs.Prelude.{IfSome}
 use Rattle.muck_match.specs.Scenery.{chain}
 use Rattle.muck_db.specs.Slots.{entries_of}

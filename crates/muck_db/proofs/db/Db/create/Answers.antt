@@ -1,11 +1,10 @@
-use Rattle.std.proofs.Common.{sym, ◌∙◌, arith, subst, List, ap, ℕ, ◌≡◌, Result, Ok, Err, refl}
-use Rattle.muck_live.specs.declared.fault.DbFault.{DbFault}
+use Rattle.std.proofs.Common.{sym, ◌∙◌, arith, subst, List, Ok}
 use Rattle.muck_live.specs.Objects.{Entry}
 use Rattle.muck_live.specs.Making.{create_check, Creates}
 use Rattle.muck_db.specs.Slots.{entries_of}
 use Rattle.muck_db.proofs.Readers.{length-entries_of}
 use Rattle.muck_db.proofs.Bridge.{sound_order}
-use Rattle.muck_db.proofs.Creating.{put_begins, put_within, put_few, created_from, kept_created, creates, creates_none}
+use Rattle.muck_db.proofs.Creating.{put_begins, put_within, put_few, created_from, kept_created, creates}
 use Rattle.muck_db.proofs.db.Db.create.Goals as goal
 
 pub check_create-requires-clause-few : goal.check_create-requires-clause-few

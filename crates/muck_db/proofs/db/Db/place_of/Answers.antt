@@ -1,10 +1,7 @@
-use Rattle.std.proofs.Common.{◌∙◌, subst, List, sym, ap, rules}
-use Rattle.std.specs.Option.{option_map}
-use Rattle.muck_live.specs.Objects.{Entry, object_at}
+use Rattle.std.proofs.Common.{subst, List, rules}
+use Rattle.muck_live.specs.Objects.{Entry}
 use Rattle.muck_live.specs.Consistent.{IsOrdered}
-use Rattle.muck_live.specs.Seen.{places_of, scenery_of}
-use Rattle.muck_match.specs.Scenery.{upward}
-use Rattle.muck_db.proofs.Showing.{places_chain, place_upward}
+use Rattle.muck_db.proofs.Showing.{place_upward}
 use Rattle.muck_db.proofs.db.Db.place_of.Goals as goal
 
 pub returns-in-Some-clause-upward : goal.returns-in-Some-clause-upward

@@ -3,7 +3,7 @@ use Rattle.muck_live.specs.Objects.{Entry}
 use Rattle.muck_live.specs.Setting.{Tries, set_at, any, checked, with_prop}
 use Rattle.muck_live.proofs.SettingLaws.{consistent_stored}
 use Rattle.muck_db.specs.Slots.{entries_of}
-use Rattle.muck_db.proofs.Fields.{entries_set, kept_set, tried, tried_none}
+use Rattle.muck_db.proofs.Fields.{entries_set, kept_set, tried}
 use Rattle.muck_db.proofs.db.Db.put_prop.Goals as goal
 
 pub invariant_of-self-2 : goal.invariant_of-self-2
