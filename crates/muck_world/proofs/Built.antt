@@ -1,7 +1,6 @@
 -- What players build is open to them.
-use Rattle.std.proofs.Common.{◌≡◌, ℕ, Bool, true, false, cond, List, [], ◌∷◌, ◌++◌, refl, sym, ◌∙◌, ap, subst, Option, Some, None}
+use Rattle.std.proofs.Common.{◌≡◌, ℕ, Bool, true, false, cond, List, refl, subst, Option, Some, None}
 use Rattle.std.specs.Prelude.{Result, Ok, Err}
-use Rattle.std.specs.Option.{option_map_or}
 use Rattle.muck_model.specs.declared.dbref.Dbref.{Dbref}
 use Rattle.muck_model.specs.declared.dbref.Kind.{Kind}
 use Rattle.muck_model.specs.declared.dbref.Kind.TheVariants.{Room, Thing, Exit}
@@ -9,25 +8,24 @@ use Rattle.muck_model.specs.declared.lock.Lock.{Lock}
 use Rattle.muck_prop.specs.Paths.{class_of}
 use Rattle.muck_live.specs.declared.fault.DbFault.{DbFault}
 use Rattle.muck_live.specs.declared.object.Object.{Object}
-use Rattle.muck_live.specs.Objects.{Entry, dbref_of, nothing, home, same, object_at}
+use Rattle.muck_live.specs.Objects.{Entry, dbref_of, nothing, home, same}
 use Rattle.muck_live.specs.Making.{create_check}
 use Rattle.muck_live.specs.Setting.{with_link, with_home, home_check, link_check}
 use Rattle.muck_live.specs.Lives.{Live, Change, followed, ◌▸◌, reading, either, tell}
 use Rattle.muck_rights.specs.declared.act.Actor.{Actor}
 use Rattle.muck_rights.specs.declared.act.Act.{Act}
-use Rattle.muck_rights.specs.declared.act.Act.TheVariants.{Move, Link, NewRoom, NewThing, NewExit, Change as ChangeAct, Rename, SetOwner}
+use Rattle.muck_rights.specs.declared.act.Act.TheVariants.{Move, Link, NewRoom, NewThing, NewExit, Change as ChangeAct}
 use Rattle.muck_rights.specs.Verdict.{verdict, is_guarded}
-use Rattle.muck_rights.specs.Asking.{asked, refused}
 use Rattle.muck_rights.specs.Changing.{moved_to, homed, linked, created_so}
 use Rattle.muck_rights.specs.Licence.{Judge, IsNew}
 use Rattle.muck_rights.proofs.Lookups.{eq_same}
 use Rattle.muck_rights.proofs.Rights.{SameRights}
-use Rattle.muck_rights.proofs.Licences.{judge, Quiet, Stay, Stays, End, Ends, itself, stay_quietly, end_quietly, stays_quiet, ends_reading, ends_asked, ends_quiet}
+use Rattle.muck_rights.proofs.Licences.{judge, Quiet, Stay, Stays, End, Ends, itself, stay_quietly, end_quietly, stays_quiet, ends_quiet}
 use Rattle.muck_rights.proofs.Makings.{new_in, end_created, room_open, thing_open, exit_open}
 use Rattle.muck_rights.proofs.Places.{stays_moved, stay_moved_home}
 use Rattle.muck_rights.proofs.Permitted.{staying, ending}
-use Rattle.muck_rights.proofs.Shown.{shown, quiet_refused, quiet_tell}
-use Rattle.muck_world.specs.Replies.{cant_be_done, unlinked_reply}
+use Rattle.muck_rights.proofs.Shown.{shown, quiet_tell}
+use Rattle.muck_world.specs.Replies.{cant_be_done}
 use Rattle.muck_world.specs.Finding.{where_so, finding_object, message_path}
 use Rattle.muck_world.specs.Going.{movable, moving, home_at}
 use Rattle.muck_world.specs.Building.{made_at, created_shown, making, as_made, dug, thing_made, exit_made, opened_exit, opened_to, action_made, tied, has_home, allowed, untied_to, link_set, link_cleared, name_set, message_set, lock_kept, lock_set, lock_cleared, meant_place, teleported, chowned, find_shown, examined, owner_shown}

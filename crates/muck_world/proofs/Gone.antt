@@ -1,6 +1,6 @@
 -- How players go, take, drop and recycle is open to them.
-use Rattle.std.proofs.Common.{◌≡◌, ℕ, Bool, true, false, cond, List, [], ◌∷◌, ◌++◌, refl, sym, ◌∙◌, ap, subst, Option, Some, None}
-use Rattle.std.specs.Prelude.{Result, Ok, Err, ◌&&◌, ◌||◌, not, codes}
+use Rattle.std.proofs.Common.{◌≡◌, ℕ, Bool, true, false, List, refl, sym, ◌∙◌, ap, Option, Some, None}
+use Rattle.std.specs.Prelude.{Result, Ok, Err, ◌&&◌, ◌||◌, codes}
 use Rattle.std.specs.Option.{option_map_or}
 use Rattle.muck_model.specs.declared.dbref.Dbref.{Dbref}
 use Rattle.muck_model.specs.declared.dbref.Denial.{Denial}
@@ -9,27 +9,26 @@ use Rattle.muck_model.specs.declared.dbref.Kind.TheVariants.{Room, Thing, Exit, 
 use Rattle.muck_match.specs.declared.exits.ExitHit.{ExitHit}
 use Rattle.muck_live.specs.declared.fault.DbFault.{DbFault}
 use Rattle.muck_live.specs.declared.object.Object.{Object}
-use Rattle.muck_live.specs.Objects.{Entry, dbref_of, nothing, same, is_thing, is_program, object_at}
+use Rattle.muck_live.specs.Objects.{Entry, nothing, same, is_thing, is_program, object_at}
 use Rattle.muck_live.specs.Recycling.{recycle_check}
-use Rattle.muck_live.specs.Lives.{Live, Change, followed, ◌▸◌, reading, either, unchanged, tell, place_at}
+use Rattle.muck_live.specs.Lives.{Live, Change, ◌▸◌, reading, tell}
 use Rattle.muck_rights.specs.declared.act.Actor.{Actor}
 use Rattle.muck_rights.specs.declared.act.Act.{Act}
-use Rattle.muck_rights.specs.declared.act.Act.TheVariants.{Walk, Take, Recycle}
+use Rattle.muck_rights.specs.declared.act.Act.TheVariants.{Take, Recycle}
 use Rattle.muck_rights.specs.Verdict.{verdict, place_of}
-use Rattle.muck_rights.specs.Asking.{asked, refused}
-use Rattle.muck_rights.specs.Changing.{moved_to, recycled_now}
+use Rattle.muck_rights.specs.Changing.{recycled_now}
 use Rattle.muck_rights.specs.Licence.{at_hand, at_hand_kind}
-use Rattle.muck_rights.proofs.Licences.{Quiet, Stays, Ends, Whole, Always, itself, whole_ends, whole_asked, whole_quiet, whole_quietly, ends_stays}
+use Rattle.muck_rights.proofs.Licences.{Quiet, Stays, Ends, Whole, Always, itself, whole_ends, whole_asked, whole_quiet, whole_quietly}
 use Rattle.muck_rights.proofs.Recycled.{recycled_licensed}
 use Rattle.muck_rights.proofs.Allowed.{take_allowed}
-use Rattle.muck_rights.proofs.Permitted.{staying, ending, commanding}
+use Rattle.muck_rights.proofs.Permitted.{staying, ending}
 use Rattle.muck_rights.proofs.Shown.{shown}
 use Rattle.muck_world.specs.declared.outcome.Outcome.{Outcome}
-use Rattle.muck_world.specs.Replies.{taken_reply, recycled_reply, cant_be_done, dropped_reply}
-use Rattle.muck_world.specs.Finding.{finding, where_so, is_so, is_object, finding_object, message_shown, message_to_others}
-use Rattle.muck_world.specs.Going.{Play, ended, movable, moving, gone, gone_home, led, failed, succeeded, walked, walked_some, went, is_item, not_taken, taken, is_carried, drop_place, dropped, inventory_shown}
+use Rattle.muck_world.specs.Replies.{taken_reply, recycled_reply, dropped_reply}
+use Rattle.muck_world.specs.Finding.{is_so, is_object, finding_object, message_shown, message_to_others}
+use Rattle.muck_world.specs.Going.{ended, moving, gone, gone_home, led, failed, succeeded, walked, walked_some, went, is_item, not_taken, taken, is_carried, drop_place, dropped, inventory_shown}
 use Rattle.muck_world.specs.Building.{allowed, recycled}
-use Rattle.muck_world.proofs.Showing.{seeing, stays_where, ends_where, whole_where, whole_finding, quiet_message_shown, quiet_message_to_others}
+use Rattle.muck_world.proofs.Showing.{seeing, stays_where, ends_where, whole_where, whole_finding}
 
 -- The answer of a command is its world and its outcome.
 abbrev pub world_of : Live × Outcome → Live

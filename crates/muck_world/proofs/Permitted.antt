@@ -1,5 +1,5 @@
 -- What a line of a player does is open to it.
-use Rattle.std.proofs.Common.{◌≡◌, ◌==◌, ℕ, Bool, true, false, cond, List, [], ◌∷◌, ◌++◌, refl, sym, ◌∙◌, ap, subst, Option, Some, None}
+use Rattle.std.proofs.Common.{◌≡◌, ◌==◌, ℕ, Bool, true, false, cond, List, [], ◌∷◌, refl, sym, subst, Option, Some, None}
 use Rattle.muck_model.specs.declared.dbref.Dbref.{Dbref}
 use Rattle.std.specs.Prelude.{codes, ◌||◌}
 use Rattle.muck_model.specs.declared.dbref.Denial.{Denial}
@@ -17,11 +17,11 @@ use Rattle.muck_rights.specs.Asking.{answered, asked}
 use Rattle.muck_rights.specs.Licence.{Licensed, oneself, at_hand}
 use Rattle.muck_rights.proofs.Lookups.{same_eq}
 use Rattle.muck_rights.proofs.Allowed.{or_left, or_right}
-use Rattle.muck_rights.proofs.Licences.{Quiet, Ends, Whole, Always, itself, whole_ends, whole_quiet, whole_either, whole_followed, whole_reading, licensed, ends_quiet, ends_stays}
-use Rattle.muck_rights.proofs.Permitted.{ending, commanding}
+use Rattle.muck_rights.proofs.Licences.{Quiet, Ends, Whole, Always, itself, whole_ends, whole_quiet, whole_either, whole_followed, whole_reading, licensed, ends_stays}
+use Rattle.muck_rights.proofs.Permitted.{commanding}
 use Rattle.muck_rights.proofs.Shown.{shown}
 use Rattle.muck_world.specs.declared.outcome.Outcome.{Outcome}
-use Rattle.muck_world.specs.declared.outcome.Outcome.TheVariants.{Done, NotMine, Start, Edit, Leave, Dump, Stop, Retune}
+use Rattle.muck_world.specs.declared.outcome.Outcome.TheVariants.{Done, NotMine, Start, Leave}
 use Rattle.muck_world.specs.declared.word.PlayWord.{PlayWord}
 use Rattle.muck_world.specs.declared.word.PlayWord.TheVariants.{Look, Say, Pose, Page, Whisper, Go, Get, Drop, Inventory, Home, Examine, Who, Quit}
 use Rattle.muck_world.specs.declared.word.Message.{Message}
