@@ -14,10 +14,10 @@ use Rattle.muck_rights.specs.declared.act.Actor.{Actor}
 use Rattle.muck_rights.specs.declared.act.Act.{Act}
 use Rattle.muck_rights.specs.Verdict.{verdict, is_guarded}
 use Rattle.muck_rights.specs.Asking.{answered, asked}
-use Rattle.muck_rights.specs.Licence.{Licensed, oneself, at_hand}
+use Rattle.muck_rights.specs.Licence.{Licensed, nobody, oneself, at_hand}
 use Rattle.muck_rights.proofs.Lookups.{same_eq}
 use Rattle.muck_rights.proofs.Allowed.{or_left, or_right}
-use Rattle.muck_rights.proofs.Licences.{Quiet, Ends, Whole, Always, itself, whole_ends, whole_quiet, whole_either, whole_followed, whole_reading, licensed, ends_stays}
+use Rattle.muck_rights.proofs.Licences.{Own, Quiet, Ends, Whole, Always, itself, whole_ends, whole_quiet, whole_either, whole_followed, whole_reading, licensed, ends_stays}
 use Rattle.muck_rights.proofs.Permitted.{commanding}
 use Rattle.muck_rights.proofs.Shown.{shown}
 use Rattle.muck_world.specs.declared.outcome.Outcome.{Outcome}
@@ -33,6 +33,7 @@ use Rattle.muck_world.specs.Texts.{first_word, trimmed}
 use Rattle.muck_world.specs.Replies.{huh}
 use Rattle.muck_world.specs.Talk.{waits}
 use Rattle.muck_world.specs.Going.{Play, ended, led, walked, walked_some, went, gone_home}
+use Rattle.muck_world.specs.Free.{free_word, free_by, free_line}
 use Rattle.muck_world.specs.Commands.{incomplete, one_part, two_parts, full_parts, play_word, play_done, play_some, play_words, play_line, message_name, open_done, build_word, build_done, build_some, build_line, or_next, or_else, commanded, begins_with_sign, through, played}
 use Rattle.muck_world.proofs.Showing.{seeing, quiet_waits}
 use Rattle.muck_world.proofs.Built.{dug_open, thing_made_open, opened_exit_open, opened_to_open, action_made_open, link_set_open, link_cleared_open, name_set_open, message_set_open, lock_set_open, lock_cleared_open, teleported_open, chowned_open, quiet_find_shown, quiet_examined}
@@ -63,27 +64,39 @@ ruleset parting = (commanding, seeing, whole_ended, whole_one_part, whole_two_pa
 abbrev pub SelfFree : Actor → (List Entry → Dbref → Bool) → Type 0
 SelfFree a free = (es : List Entry) → free es a.player ≡ true
 
+-- what has to be free for a word
+abbrev PlayFree : Actor → (List Entry → Dbref → Bool) → PlayWord → Type 0
+PlayFree a free Go = SelfFree a free
+PlayFree a free Home = SelfFree a free
+PlayFree a free Get = HandFree a free
+PlayFree a free Drop = HandFree a free
+PlayFree a free word = Unit {0}
+
+abbrev WordFree : Actor → (List Entry → Dbref → Bool) → Option PlayWord → Type 0
+WordFree a free None = Unit {0}
+WordFree a free (Some word) = PlayFree a free word
+
 going : (a : Actor) (own : Option ℕ) (free : List Entry → Dbref → Bool) (d : ℕ) (text : List ℕ) → SelfFree a free → Whole world_of a own free Always (went d a text)
 going a own free d text self = whole_ends world_of a own free Always _ (λ w h. went_open a (free w.objects) d text (self w.objects))
 
 going_home : (a : Actor) (own : Option ℕ) (free : List Entry → Dbref → Bool) (d : ℕ) → SelfFree a free → Whole itself a own free Always (gone_home d a.player)
 going_home a own free d self = whole_ends itself a own free Always _ (λ w h. ends_stays a (free w.objects) None _ (stays_gone_home a (free w.objects) None d a.player (self w.objects)))
 
-pub play_open : (a : Actor) (own : Option ℕ) (free : List Entry → Dbref → Bool) (d : ℕ) (word text : List ℕ) (found : PlayWord) → SelfFree a free → HandFree a free → Whole world_of a own free Always (play_done d a word text found)
+pub play_open : (a : Actor) (own : Option ℕ) (free : List Entry → Dbref → Bool) (d : ℕ) (word text : List ℕ) (found : PlayWord) → PlayFree a free found → Whole world_of a own free Always (play_done d a word text found)
 unfolding play_done
-play_open a own free d word text Look self hands = search parting
-play_open a own free d word text Say self hands = search parting
-play_open a own free d word text Pose self hands = search parting
-play_open a own free d word text Page self hands = search parting
-play_open a own free d word text Whisper self hands = search parting
-play_open a own free d word text Go self hands = search (parting, going)
-play_open a own free d word text Get self hands = search (parting, taken_open)
-play_open a own free d word text Drop self hands = search (parting, dropped_open)
-play_open a own free d word text Inventory self hands = search (parting, quiet_inventory_shown)
-play_open a own free d word text Home self hands = search (parting, going_home)
-play_open a own free d word text Examine self hands = search (parting, quiet_examined)
-play_open a own free d word text Who self hands = search parting
-play_open a own free d word text Quit self hands = search parting
+play_open a own free d word text Look h = search parting
+play_open a own free d word text Say h = search parting
+play_open a own free d word text Pose h = search parting
+play_open a own free d word text Page h = search parting
+play_open a own free d word text Whisper h = search parting
+play_open a own free d word text Go h = search (parting, going)
+play_open a own free d word text Get h = search (parting, taken_open)
+play_open a own free d word text Drop h = search (parting, dropped_open)
+play_open a own free d word text Inventory h = search (parting, quiet_inventory_shown)
+play_open a own free d word text Home h = search (parting, going_home)
+play_open a own free d word text Examine h = search (parting, quiet_examined)
+play_open a own free d word text Who h = search parting
+play_open a own free d word text Quit h = search parting
 
 -- What builders do.
 
@@ -215,57 +228,74 @@ or_none : (a : Actor) (own : Option ℕ) (free : List Entry → Dbref → Bool) 
 unfolding or_else ended unchanged
 or_none a own free g p = record { law = λ w c h. p.law w c h }
 
-play_some_open : (a : Actor) (own : Option ℕ) (free : List Entry → Dbref → Bool) (d : ℕ) (word text : List ℕ) (found : Option PlayWord) (g : Play) → SelfFree a free → HandFree a free → Whole world_of a own free Always g → Whole world_of a own free Always (or_else (play_some d a word text found) g)
-play_some_open a own free d word text None g self hands p = or_none a own free g p
-play_some_open a own free d word text (Some found) g self hands p = or_mine a own free (play_done d a word text found) g (play_mine d a word text found) (play_open a own free d word text found self hands)
+play_some_open : (a : Actor) (own : Option ℕ) (free : List Entry → Dbref → Bool) (d : ℕ) (word text : List ℕ) (found : Option PlayWord) (g : Play) → WordFree a free found → Whole world_of a own free Always g → Whole world_of a own free Always (or_else (play_some d a word text found) g)
+play_some_open a own free d word text None g h p = or_none a own free g p
+play_some_open a own free d word text (Some found) g h p = or_mine a own free (play_done d a word text found) g (play_mine d a word text found) (play_open a own free d word text found h)
 
-play_line_open : (a : Actor) (own : Option ℕ) (free : List Entry → Dbref → Bool) (d : ℕ) (line : List ℕ) (g : Play) → SelfFree a free → HandFree a free → Whole world_of a own free Always g → Whole world_of a own free Always (or_else (play_line d a line) g)
+play_line_open : (a : Actor) (own : Option ℕ) (free : List Entry → Dbref → Bool) (d : ℕ) (line : List ℕ) (g : Play) → (begins_with_sign line ≡ false → WordFree a free (play_word (first_word (trimmed line)))) → Whole world_of a own free Always g →
+    Whole world_of a own free Always (or_else (play_line d a line) g)
 unfolding play_line play_words
-play_line_open a own free d [] g self hands p = or_none a own free g p
-play_line_open a own free d (b ∷ line) g self hands p = at (b == 34) (b == 58)
+play_line_open a own free d [] g h p = or_none a own free g p
+play_line_open a own free d (b ∷ line) g h p = at (b == 34) (b == 58) h
   where
-    at : (q r : Bool) → Whole world_of a own free Always (or_else (cond q (play_done d a (codes "say") (trimmed line) Say) (cond r (play_done d a (codes "pose") (trimmed line) Pose) (play_words d a (b ∷ line)))) g)
-    at true r = or_mine a own free _ g (play_mine d a _ _ Say) (play_open a own free d _ _ Say self hands)
-    at false true = or_mine a own free _ g (play_mine d a _ _ Pose) (play_open a own free d _ _ Pose self hands)
-    at false false = play_some_open a own free d _ _ (play_word (first_word (trimmed (b ∷ line)))) g self hands p
+    at : (q r : Bool) → ((q || r) ≡ false → WordFree a free (play_word (first_word (trimmed (b ∷ line))))) →
+        Whole world_of a own free Always (or_else (cond q (play_done d a (codes "say") (trimmed line) Say) (cond r (play_done d a (codes "pose") (trimmed line) Pose) (play_words d a (b ∷ line)))) g)
+    at true r h = or_mine a own free _ g (play_mine d a _ _ Say) (play_open a own free d _ _ Say tt)
+    at false true h = or_mine a own free _ g (play_mine d a _ _ Pose) (play_open a own free d _ _ Pose tt)
+    at false false h = play_some_open a own free d _ _ (play_word (first_word (trimmed (b ∷ line)))) g (h refl) p
 
 build_some_open : (a : Actor) (own : Option ℕ) (free : List Entry → Dbref → Bool) (d : ℕ) (word text : List ℕ) (found : Option BuildWord) (g : Play) → Whole world_of a own free Always g → Whole world_of a own free Always (or_else (build_some d a word text found) g)
 build_some_open a own free d word text None g p = or_none a own free g p
 build_some_open a own free d word text (Some found) g p = or_mine a own free _ g (mine_done _) (whole_ended a own free Always Done _ (build_open a own free d word text found))
 
-commanded_open : (a : Actor) (own : Option ℕ) (free : List Entry → Dbref → Bool) (d : ℕ) (line : List ℕ) → SelfFree a free → HandFree a free → Whole world_of a own free Always (commanded d a line)
+commanded_open : (a : Actor) (own : Option ℕ) (free : List Entry → Dbref → Bool) (d : ℕ) (line : List ℕ) → (begins_with_sign line ≡ false → WordFree a free (play_word (first_word (trimmed line)))) → Whole world_of a own free Always (commanded d a line)
 unfolding commanded build_line
-commanded_open a own free d line self hands =
-    play_line_open a own free d line _ self hands
+commanded_open a own free d line h =
+    play_line_open a own free d line _ h
     (build_some_open a own free d _ _ (build_word (first_word (trimmed line))) (ended Done (tell d huh)) (whole_ended a own free Always Done _ (whole_quiet a own free Always _ (search shown))))
 
-through_open : (a : Actor) (own : Option ℕ) (free : List Entry → Dbref → Bool) (d : ℕ) (line : List ℕ) (hit : Option ExitHit) → SelfFree a free → HandFree a free → Whole world_of a own free Always (through d a line hit)
-through_open a own free d line (Some hit) self hands = whole_ends world_of a own free Always _ (λ w h. walked_open a (free w.objects) d hit line (self w.objects))
-through_open a own free d line None self hands = commanded_open a own free d line self hands
+-- What is free by a line is enough for it.
 
-pub played_open : (a : Actor) (own : Option ℕ) (free : List Entry → Dbref → Bool) (d : ℕ) (line : List ℕ) → SelfFree a free → HandFree a free → Whole world_of a own free Always (played d a line)
-unfolding played
-played_open a own free d line self hands = at (begins_with_sign line)
+self_free : (a : Actor) → oneself a a.player ≡ true
+self_free a = same_eq a.player a.player refl
+
+word_free : (a : Actor) (word : Option PlayWord) → WordFree a (free_word word a) word
+word_free a None = tt
+word_free a (Some Go) = λ es. self_free a
+word_free a (Some Home) = λ es. self_free a
+word_free a (Some Get) = λ es x h. h
+word_free a (Some Drop) = λ es x h. h
+word_free a (Some Look) = tt
+word_free a (Some Say) = tt
+word_free a (Some Pose) = tt
+word_free a (Some Page) = tt
+word_free a (Some Whisper) = tt
+word_free a (Some Inventory) = tt
+word_free a (Some Examine) = tt
+word_free a (Some Who) = tt
+word_free a (Some Quit) = tt
+
+through_open : (a : Actor) (own : Option ℕ) (d : ℕ) (line : List ℕ) (hit : Option ExitHit) (w : Live) → Own own w a →
+    Licensed a (free_by false hit (play_word (first_word (trimmed line))) a w.objects) w (world_of (through d a line hit w))
+through_open a own d line (Some hit) w c =
+    (whole_ends world_of a own (λ es. oneself a) Always _ (λ v h. walked_open a (oneself a) d hit line (self_free a))).law w c tt
+through_open a own d line None w c =
+    (commanded_open a own (free_word (play_word (first_word (trimmed line))) a) d line (λ e. word_free a (play_word (first_word (trimmed line))))).law w c tt
+
+pub played_open : (a : Actor) (own : Option ℕ) (d : ℕ) (line : List ℕ) → Whole world_of a own (free_line a line) Always (played d a line)
+unfolding played free_line reading
+played_open a own d line = record { law = λ w c h. at w c (begins_with_sign line) refl }
   where
-    at : (b : Bool) → Whole world_of a own free Always (cond b (commanded d a line) (reading (λ w. exit_for (scenery_of w.objects) a.player line) (through d a line)))
-    at true = commanded_open a own free d line self hands
-    at false = whole_reading world_of a own free Always _ (through d a line) (λ hit. through_open a own free d line hit self hands)
-
--- what a player may move freely by a line: itself, as it walks, and what is at hand
-abbrev pub freely : Actor → List Entry → Dbref → Bool
-freely a es x = oneself a x || at_hand es a x
-
-self_freely : (a : Actor) → SelfFree a (freely a)
-self_freely a es = or_left (oneself a a.player) _ (same_eq a.player a.player refl)
-
-hand_freely : (a : Actor) → HandFree a (freely a)
-hand_freely a es x h = or_right (oneself a x) _ h
+    at : (w : Live) → Own own w a → (b : Bool) → begins_with_sign line ≡ b →
+        Licensed a (free_by b (exit_for (scenery_of w.objects) a.player line) (play_word (first_word (trimmed line))) a w.objects) w (world_of (cond b (commanded d a line) (reading (λ v. exit_for (scenery_of v.objects) a.player line) (through d a line)) w))
+    at w c true e = (commanded_open a own (λ es. nobody) d line (λ f. absurd (cc))).law w c tt
+    at w c false e = through_open a own d line (exit_for (scenery_of w.objects) a.player line) w c
 
 -- what the player of the connection d does by a line is licensed
 pub played_licensed : (d : ℕ) (player : Dbref) (lines : List (List ℕ)) (line : List ℕ) (w : Live) → player_in d w.board ≡ Some player →
-    Licensed (actor_of w.objects player) (freely (actor_of w.objects player) w.objects) w (world_of ((waits d lines ▸ played d (actor_of w.objects player) line) w))
+    Licensed (actor_of w.objects player) (free_line (actor_of w.objects player) line w.objects) w (world_of ((waits d lines ▸ played d (actor_of w.objects player) line) w))
 unfolding actor_of
 played_licensed d player lines line w own =
     let a : Actor = actor_of w.objects player in
-    licensed world_of a (Some d) (freely a) (waits d lines ▸ played d a line)
-    (whole_followed world_of a (Some d) (freely a) Always (waits d lines) (played d a line) (quiet_waits d lines) (played_open a (Some d) (freely a) d line (self_freely a) (hand_freely a))) w own
+    licensed world_of a (Some d) (free_line a line) (waits d lines ▸ played d a line)
+    (whole_followed world_of a (Some d) (free_line a line) Always (waits d lines) (played d a line) (quiet_waits d lines) (played_open a (Some d) d line)) w own
