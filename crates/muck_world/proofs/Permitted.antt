@@ -14,10 +14,9 @@ use Rattle.muck_rights.specs.declared.act.Actor.{Actor}
 use Rattle.muck_rights.specs.declared.act.Act.{Act}
 use Rattle.muck_rights.specs.Verdict.{verdict, is_guarded}
 use Rattle.muck_rights.specs.Asking.{answered, asked}
-use Rattle.muck_rights.specs.Licence.{Licensed, nobody, oneself, at_hand}
+use Rattle.muck_rights.specs.Licence.{Licensed, nobody, oneself}
 use Rattle.muck_rights.proofs.Lookups.{same_eq}
-use Rattle.muck_rights.proofs.Allowed.{or_left, or_right}
-use Rattle.muck_rights.proofs.Licences.{Own, Quiet, Ends, Whole, Always, itself, whole_ends, whole_quiet, whole_either, whole_followed, whole_reading, licensed, ends_stays}
+use Rattle.muck_rights.proofs.Licences.{Own, Quiet, Ends, Whole, Always, itself, whole_ends, whole_quiet, whole_either, whole_followed, licensed, ends_stays}
 use Rattle.muck_rights.proofs.Permitted.{commanding}
 use Rattle.muck_rights.proofs.Shown.{shown}
 use Rattle.muck_world.specs.declared.outcome.Outcome.{Outcome}
