@@ -16,11 +16,11 @@ use Rattle.muck_prop.specs.declared.path.Class.{Class}
 use Rattle.muck_prop.specs.declared.path.Class.TheVariants.{At, Tilde, Dot, Underscore, Plain}
 use Rattle.muck_prop.specs.Paths.{class_of}
 use Rattle.muck_rights.specs.declared.act.Actor.{Actor}
-use Rattle.muck_rights.specs.declared.act.Act.TheVariants.{Write, Move, Link, NewRoom, NewThing, NewExit, NewProgram, Edit, Change, Rename, Password, Wizard, SetFlag, SetLevel, Recycle, SetOwner}
+use Rattle.muck_rights.specs.declared.act.Act.TheVariants.{Write, Move, Take, Link, NewRoom, NewThing, NewExit, NewProgram, Edit, Change, Rename, Password, Wizard, SetFlag, SetLevel, Recycle, SetOwner}
 use Rattle.muck_rights.specs.declared.rule.Rule.{Rule}
-use Rattle.muck_rights.specs.declared.rule.Rule.TheVariants.{P3, P4, P6, P7, P8, P9, P12, P13, P14, P15, P16, P17, P18, P19, P20, P21, P22}
+use Rattle.muck_rights.specs.declared.rule.Rule.TheVariants.{P3, P4, P6, P7, P8, P9, P10, P11, P12, P13, P14, P15, P16, P17, P18, P19, P20, P21, P22}
 use Rattle.muck_rights.specs.Levels.{level_at, is_player_at, flag_at}
-use Rattle.muck_rights.specs.Verdict.{verdict, below, or_else, denial, when, is_master, controls, controls_or, open_place, open_target, is_program_at, may_take_over, may_build, is_hidden, is_kept, is_guarded, is_plain}
+use Rattle.muck_rights.specs.Verdict.{verdict, opens_at, place_of, below, or_else, denial, when, is_master, controls, controls_or, open_place, open_target, is_program_at, may_take_over, may_build, is_hidden, is_kept, is_guarded, is_plain}
 use Rattle.muck_rights.specs.Licence.{Judge, name_open, property_open, place_open, link_open, home_open, level_open, level_open_to, lines_open, owner_open, home_of, kind_of}
 use Rattle.muck_rights.proofs.Lookups.{same_eq}
 use Rattle.muck_rights.proofs.Rights.{SameRights, same_level, same_home, same_flag, same_player, same_program, same_controls, same_controls_or, same_take_over}
@@ -259,3 +259,10 @@ program_allowed a start es s e =
 
 pub recycle_allowed : (es : List Entry) (a : Actor) (x : Dbref) → verdict es a (Recycle x) ≡ None → controls es a x ≡ true
 recycle_allowed es a x e = let p = passes (not (controls es a x)) P20 x _ e in not_false _ p.here
+
+-- what is taken is where the player is
+pub take_allowed : (es : List Entry) (a : Actor) (x : Dbref) → verdict es a (Take x) ≡ None → same (place_of es x) (place_of es a.player) ≡ true
+take_allowed es a x e =
+    let p = passes (not (opens_at es a.player x)) P10 x _ e in
+    let q = passes (not (same (place_of es x) (place_of es a.player))) P11 x _ p.next in
+    not_false _ q.here

@@ -1,5 +1,5 @@
 -- Connections that leave, and what is tuned.
-use Rattle.std.proofs.Common.{◌≡◌, ℕ, Bool, true, false, cond, List, [], ◌∷◌, refl, ◌∙◌, ap, Option, Some, None, inl, inr}
+use Rattle.std.proofs.Common.{◌≡◌, ℕ, Bool, true, false, cond, List, [], ◌∷◌, refl, ◌∙◌, ap, Some, None, inl, inr}
 use Rattle.std.specs.Prelude.{map, find}
 use Rattle.std.specs.Option.{option_and_then, option_map_or}
 use Rattle.muck_model.specs.declared.dbref.Dbref.{Dbref}
@@ -9,7 +9,6 @@ use Rattle.muck_live.specs.Connections.{Connection, has_number, changed_in, is_o
 use Rattle.muck_live.specs.Boards.{leaving_one}
 use Rattle.muck_live.specs.Lives.{Live, leave}
 use Rattle.muck_rights.specs.declared.act.Actor.{Actor}
-use Rattle.muck_rights.specs.declared.act.Act.{Act}
 use Rattle.muck_rights.specs.declared.act.Act.TheVariants.{Wizard}
 use Rattle.muck_rights.specs.Verdict.{is_master}
 use Rattle.muck_rights.specs.Changing.{booted, tuned}

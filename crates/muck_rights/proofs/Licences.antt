@@ -123,6 +123,12 @@ player_kept d (x ∷ xs) (y ∷ ys) e =
     let P : ℕ → Type 0 = λ n. option_and_then (λ (c : Connection). c.player) (cond (n == d) (Some y) (find (has_number d) ys)) ≡ option_and_then (λ (c : Connection). c.player) (cond (x.number == d) (Some x) (find (has_number d) xs)) in
     subst P (sym number) (elim (x.number == d) as (λ b. option_and_then (λ (c : Connection). c.player) (cond b (Some y) (find (has_number d) ys)) ≡ option_and_then (λ (c : Connection). c.player) (cond b (Some x) (find (has_number d) xs))) [ true ↦ player | false ↦ next ])
 
+-- shows only
+pub record Quiet (f : Change) : Type 0 where
+  pub objects : (w : Live) → (f w).objects ≡ w.objects
+  pub ties : (w : Live) → ties (f w).board.connections ≡ ties w.board.connections
+  pub tune : (w : Live) → (f w).board.tune ≡ w.board.tune
+
 -- Worlds between which only objects that were there differ, and no right does.
 pub record Stay (j : Judge) (w v : Live) : Type 0 where
   pub rows : (n : ℕ) → Row (Kept j (dbref_of n)) (object_at (dbref_of n) w.objects) (object_at (dbref_of n) v.objects)
@@ -140,6 +146,21 @@ stay_both j u v w s t = record {
   rows = λ n. row_both _ _ _ (kept_both j (dbref_of n)) _ _ _ (s.rows n) (t.rows n);
   ties = ties_both j.actor _ _ _ s.ties t.ties;
   tune = open_both (λ tune. is_master j.actor) _ _ _ s.tune t.tune;
+}
+
+-- what only shows may follow
+pub stay_quietly : (j : Judge) (w v : Live) (g : Change) → Stay j w v → Quiet g → Stay j w (g v)
+stay_quietly j w v g t q = record {
+  rows = λ n. let P : List Entry → Type 0 = λ os. Row (Kept j (dbref_of n)) (object_at (dbref_of n) w.objects) (object_at (dbref_of n) os) in subst P (sym (q.objects v)) (t.rows n);
+  ties = ties_both j.actor _ _ _ t.ties (ties_same j.actor v.board.connections (g v).board.connections (q.ties v));
+  tune = open_both (λ tune. is_master j.actor) _ _ _ t.tune (inl (q.tune v));
+}
+
+pub end_quietly : (j : Judge) (w v : Live) (g : Change) → End j w v → Quiet g → End j w (g v)
+end_quietly j w v g t q = record {
+  rows = λ n. let P : List Entry → Type 0 = λ os. Differs j (dbref_of n) (object_at (dbref_of n) w.objects) (object_at (dbref_of n) os) in subst P (sym (q.objects v)) (t.rows n);
+  ties = ties_both j.actor _ _ _ t.ties (ties_same j.actor v.board.connections (g v).board.connections (q.ties v));
+  tune = open_both (λ tune. is_master j.actor) _ _ _ t.tune (inl (q.tune v));
 }
 
 row_rights : (j : Judge) (x : Dbref) (o p : Option Object) → Row (Kept j x) o p → option_map rights o ≡ option_map rights p
@@ -174,12 +195,6 @@ kept_differs a free os x (Some o) (Some p) (Some q) r s = changed_both (judge a 
 abbrev pub Given : Option Act → List Entry → Actor → Type 0
 Given None os a = Unit {0}
 Given (Some act) os a = verdict os a act ≡ None
-
--- shows only
-pub record Quiet (f : Change) : Type 0 where
-  pub objects : (w : Live) → (f w).objects ≡ w.objects
-  pub ties : (w : Live) → ties (f w).board.connections ≡ ties w.board.connections
-  pub tune : (w : Live) → (f w).board.tune ≡ w.board.tune
 
 -- keeps to the licence, and changes no right
 pub record Stays (a : Actor) (free : Dbref → Bool) (given : Option Act) (f : Change) : Type 0 where
@@ -294,17 +309,7 @@ ends_followed out a free given f g p q = record {
 
 pub ends_quietly : (a : Actor) (free : Dbref → Bool) (given : Option Act) (f g : Change) → Ends itself a free given f → Quiet g → Ends itself a free given (followed f g)
 unfolding followed
-ends_quietly a free given f g p q = record {
-  law = λ start w s h.
-      let first = p.law start w s h in
-      record {
-        rows = λ n.
-            let P : List Entry → Type 0 = λ os. Differs (judge a free start) (dbref_of n) (object_at (dbref_of n) w.objects) (object_at (dbref_of n) os) in
-            subst P (sym (q.objects (f w))) (first.rows n);
-        ties = ties_both a _ _ _ first.ties (ties_same a (f w).board.connections (g (f w)).board.connections (q.ties (f w)));
-        tune = open_both (λ tune. is_master a) _ _ _ first.tune (inl (q.tune (f w)));
-      };
-}
+ends_quietly a free given f g p q = record { law = λ start w s h. end_quietly (judge a free start) w (f w) g (p.law start w s h) q }
 
 pub ends_reading : {X Y : Type 0} (out : Y → Live) (a : Actor) (free : Dbref → Bool) (given : Option Act) (get : Live → X) (go : X → Live → Y) → ((x : X) → Ends out a free given (go x)) → Ends out a free given (reading get go)
 unfolding reading

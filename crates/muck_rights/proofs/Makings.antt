@@ -1,6 +1,6 @@
 -- What is made keeps to the licence.
 use Rattle.std.proofs.Common.{◌≡◌, ℕ, ◌==◌, suc, Bool, true, false, cond, List, [], ◌∷◌, ◌++◌, length, refl, sym, ◌∙◌, ap, subst, Option, Some, None, inl, inr, arith}
-use Rattle.std.specs.Prelude.{Result, Ok, Err, nat_lt, slice_get, min, nat_le, ◌||◌, ◌&&◌}
+use Rattle.std.specs.Prelude.{Ok, Err, nat_lt, slice_get, min, nat_le, ◌||◌, ◌&&◌}
 use Rattle.std.specs.Option.{option_map, option_and_then, option_map_or}
 use Rattle.std.proofs.lemmas.Bool.{cases_eq}
 use Rattle.std.proofs.lemmas.Bool.Decides.{nat_tests}
@@ -12,7 +12,6 @@ use Rattle.muck_live.specs.Flags.{builder, jump, link}
 use Rattle.muck_live.specs.Objects.{Entry, dbref_of, nothing, home, same, is_garbage, object_in, number_in, object_at, changed_at, with_object, garbage}
 use Rattle.muck_live.specs.Moving.{moved, with_place}
 use Rattle.muck_live.specs.Making.{free_in, blank_entry, grown, new_object, created, may_make, make_judged, objects_most, owner_judged, create_check}
-use Rattle.muck_live.specs.declared.fault.DbFault.{DbFault}
 use Rattle.muck_live.specs.declared.fault.DbFault.TheVariants.{NoSuchObject, WrongKind, WorldFull}
 use Rattle.muck_live.specs.Setting.{set_at, with_home, with_link, with_level, with_password}
 use Rattle.muck_live.specs.Lives.{Live}
@@ -26,7 +25,7 @@ use Rattle.muck_rights.specs.Changing.{created_so}
 use Rattle.muck_rights.specs.Licence.{Judge, IsNew, Differs}
 use Rattle.muck_rights.proofs.Lookups.{alive, seen_at, number_is, same_eq}
 use Rattle.muck_rights.proofs.Rights.{SameRights, same_level}
-use Rattle.muck_rights.proofs.Licences.{judge, changed_same, End, Ends, itself}
+use Rattle.muck_rights.proofs.Licences.{judge, changed_same, End}
 use Rattle.muck_rights.proofs.Allowed.{room_allowed, thing_allowed, exit_allowed, program_allowed, wizard_allowed}
 use Rattle.muck_rights.proofs.Changes.{end_objects}
 

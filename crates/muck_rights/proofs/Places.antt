@@ -4,7 +4,7 @@ use Rattle.std.specs.Option.{option_map_or}
 use Rattle.muck_model.specs.declared.dbref.Dbref.{Dbref}
 use Rattle.muck_live.specs.declared.object.Object.{Object}
 use Rattle.muck_live.specs.Objects.{Entry, dbref_of, nothing, home, same, number_in, object_at}
-use Rattle.muck_live.specs.Setting.{set_at, with_home}
+use Rattle.muck_live.specs.Setting.{with_home}
 use Rattle.muck_live.specs.Moving.{moved, with_place}
 use Rattle.muck_live.specs.Lives.{Live}
 use Rattle.muck_live.proofs.Readers.{object_moved, object_unmoved}
@@ -12,11 +12,11 @@ use Rattle.muck_rights.specs.declared.act.Actor.{Actor}
 use Rattle.muck_rights.specs.declared.act.Act.{Act}
 use Rattle.muck_rights.specs.declared.act.Act.TheVariants.{Move, Link}
 use Rattle.muck_rights.specs.Changing.{homed, moved_at, moved_to}
-use Rattle.muck_rights.specs.Licence.{Judge, Changed, Differs, place_open, home_open}
+use Rattle.muck_rights.specs.Licence.{Judge, Changed, place_open, home_open}
 use Rattle.muck_rights.specs.Verdict.{verdict}
 use Rattle.muck_rights.proofs.Rights.{SameRights}
 use Rattle.muck_rights.proofs.Lookups.{Row, row_same, number_is}
-use Rattle.muck_rights.proofs.Licences.{judge, changed_same, Kept, kept_same, Stay, End, Stays, Ends, itself}
+use Rattle.muck_rights.proofs.Licences.{judge, Kept, kept_same, Stay, End, Stays, Ends, itself}
 use Rattle.muck_rights.proofs.Allowed.{or_left, move_allowed, home_allowed, live_allowed, unlink_allowed}
 use Rattle.muck_rights.proofs.Changes.{rows_number, stay_objects, end_found}
 

@@ -30,7 +30,7 @@ use Rattle.muck_rights.specs.Verdict.{verdict, controls}
 use Rattle.muck_rights.specs.Changing.{recycled_now}
 use Rattle.muck_rights.specs.Licence.{Open, Judge, Changed, Differs, Licensed, is_emptied, is_way_home, place_open, link_open, home_open, gone_open, may_recycle}
 use Rattle.muck_rights.proofs.Lookups.{Row, alive, seen_at, number_is, same_eq, eq_same}
-use Rattle.muck_rights.proofs.Licences.{judge, changed_same, Whole, itself, ties_itself}
+use Rattle.muck_rights.proofs.Licences.{judge, changed_same, ties_itself}
 use Rattle.muck_rights.proofs.Allowed.{or_left, or_right, recycle_allowed}
 
 -- one object is recycled, of that number

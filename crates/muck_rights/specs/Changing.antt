@@ -1,5 +1,5 @@
 -- The changes of objects that an act is leave for, by the numbers that are written. What isn't there doesn't change.
-use Rattle.std.specs.Prelude.{ℕ, Bool, ◌==◌, if◌then◌else◌, List, [], ◌∷◌, Option, Some, None}
+use Rattle.std.specs.Prelude.{ℕ, Bool, ◌==◌, if◌then◌else◌, List, [], ◌∷◌, Option, Some}
 use Rattle.std.specs.List.{list_any}
 use Rattle.rand_pcg.specs.Lcg.{Lcg}
 use Rattle.std.specs.Option.{option_map_or}
@@ -17,7 +17,7 @@ use Rattle.muck_live.specs.Setting.{set_at, lines_set, with_name, with_owner, wi
 use Rattle.muck_live.specs.Recycling.{recycled}
 use Rattle.muck_live.specs.Connections.{is_of, left}
 use Rattle.muck_live.specs.Boards.{Board, on_connections}
-use Rattle.muck_live.specs.Lives.{Live, Change, on_objects, on_board}
+use Rattle.muck_live.specs.Lives.{Change, on_objects, on_board}
 
 -- a change of what stands at a number, where an object is there
 abbrev pub at_number : (ℕ → List Entry → List Entry) → Dbref → List Entry → List Entry

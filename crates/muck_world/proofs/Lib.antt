@@ -6,3 +6,6 @@ pub mod Lines
 pub mod Reached
 pub mod Runs
 pub mod Showing
+pub mod Built
+pub mod Gone
+pub mod Permitted

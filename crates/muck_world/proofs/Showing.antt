@@ -1,18 +1,16 @@
 -- What players say, see and find changes nothing that is judged.
-use Rattle.std.proofs.Common.{◌≡◌, ℕ, Bool, true, false, List, [], ◌∷◌, ◌++◌, refl, Option, Some, None}
+use Rattle.std.proofs.Common.{◌≡◌, ℕ, Bool, true, false, List, [], ◌∷◌, refl, Option, Some, None}
 use Rattle.std.specs.Option.{option_map_or}
 use Rattle.muck_model.specs.declared.dbref.Dbref.{Dbref}
 use Rattle.muck_match.specs.declared.naming.Found.{Found}
 use Rattle.muck_match.specs.declared.naming.Found.TheVariants.{One, None as Nobody, Many}
-use Rattle.muck_match.specs.Naming.{found, player_named}
 use Rattle.muck_live.specs.Connections.{Connection}
 use Rattle.muck_live.specs.Objects.{Entry}
-use Rattle.muck_live.specs.Seen.{scenery_of}
-use Rattle.muck_live.specs.Lives.{Live, Change, followed, ◌▸◌, reading, either, unchanged, tell}
+use Rattle.muck_live.specs.Lives.{Live, Change, reading, either, unchanged, tell}
 use Rattle.muck_rights.specs.declared.act.Actor.{Actor}
 use Rattle.muck_rights.specs.declared.act.Act.{Act}
 use Rattle.muck_rights.proofs.Shown.{shown, quiet_one}
-use Rattle.muck_rights.proofs.Licences.{Quiet, Stays, Ends, Whole, quiet_reading, stays_reading, ends_reading, whole_reading, whole_told, whole_either, quiet_followed, quiet_unchanged}
+use Rattle.muck_rights.proofs.Licences.{Quiet, Stays, Ends, Whole, quiet_reading, stays_reading, ends_reading, whole_reading, whole_told, quiet_followed, quiet_unchanged}
 use Rattle.muck_world.specs.Finding.{chosen, finding, named_player, finding_player, where_so, finding_object, with_message, shown_others, message_or, message_shown, message_to_others, listed, listed_under, room_shown, looked, looked_at}
 use Rattle.muck_world.specs.Talking.{said, posed, said_to, paged, whispered, who_lines, who_shown}
 use Rattle.muck_world.specs.Talk.{waits}

@@ -6,6 +6,7 @@ pub mod Talking
 pub mod Going
 pub mod Building
 pub mod Commands
+pub mod Free
 pub mod Talk
 pub mod Steps
 pub mod Histories
