@@ -2,7 +2,11 @@
 #![tactic(auto)]
 
 mod levels;
+mod locks;
+mod rules;
 mod shown;
 
 pub use levels::{MASTER, command_level, controls_as, level, user};
+pub use locks::opens_at;
+pub use rules::{Pass, verdict};
 pub use shown::{long_form, name_shown};

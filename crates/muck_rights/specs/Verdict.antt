@@ -9,10 +9,8 @@ use Rattle.muck_prop.specs.declared.value.PropValue.TheVariants.{Text, Number}
 use Rattle.muck_prop.specs.declared.path.Class.{Class}
 use Rattle.muck_prop.specs.declared.path.Class.TheVariants.{At, Tilde, Dot, Underscore, Plain}
 use Rattle.muck_prop.specs.Paths.{class_of}
-use Rattle.muck_lock.specs.Opens.{opens_for}
-use Rattle.muck_model.specs.declared.lock.Lock.{Lock}
-use Rattle.muck_lock.specs.Naming.{Naming, naming}
-use Rattle.muck_lock.specs.Grammar.{lock_of}
+use Rattle.muck_lock.specs.Answers.{text_opens}
+use Rattle.muck_live.specs.declared.object.Object.{Object}
 use Rattle.muck_live.specs.Flags.{has_flag, builder, chown, jump, link, wizard}
 use Rattle.muck_live.specs.Objects.{Entry, nothing, home, same, is_program, object_at}
 use Rattle.muck_live.specs.Seen.{holdings_of}
@@ -49,24 +47,17 @@ is_near es player d =
 abbrev pub lock_path : List (List ℕ)
 lock_path = codes "_" ∷ codes "lok" ∷ []
 
-abbrev pub no_names : Naming
-no_names = naming (λ name. None) (λ d. false)
-
-abbrev pub read_opens : List Entry → Dbref → Result Lock ℕ → Bool
-read_opens es x (Ok lock) = opens_for (holdings_of es) lock x
-read_opens es x (Err at) = false
-
--- what the text of a lock opens for; what isn't the text of a lock opens for nobody
-unfoldable pub text_opens : List Entry → Dbref → List ℕ → Bool
-text_opens es x text = read_opens es x (lock_of no_names text)
-
 abbrev pub kept_opens : List Entry → Dbref → PropValue → Bool
-kept_opens es x (Text text) = text_opens es x text
+kept_opens es x (Text text) = text_opens (holdings_of es) x text
 kept_opens es x (Number n) = false
 
--- the lock of an object opens for x; without a lock it does
+-- what is kept as the lock of an object
+abbrev pub lock_of_object : Object → Option PropValue
+lock_of_object o = get o.props lock_path
+
+-- the lock of an object opens for x; without a lock it does, and what isn't the text of a lock opens for nobody
 unfoldable pub opens_at : List Entry → Dbref → Dbref → Bool
-opens_at es x d = option_map_or (λ o. option_map_or (kept_opens es x) (get o.props lock_path) true) (object_at d es) false
+opens_at es x d = option_map_or (λ o. option_map_or (kept_opens es x) (lock_of_object o) true) (object_at d es) false
 
 -- Classes of paths.
 
