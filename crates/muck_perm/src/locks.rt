@@ -18,6 +18,7 @@ fn kept_lock(object: &Object) -> Option<&PropValue>
 }
 
 // Whether what is kept as a lock opens for x.
+#[tactic(auto, unfolding(muck_live::specs::Seen::holdings_of))]
 fn kept_opens(db: &Db, x: Dbref, kept: &PropValue) -> bool
     ensures { result ≡ kept_opens db.now x kept.now }
 {
