@@ -9,6 +9,8 @@ mod frame;
 mod items;
 mod mark;
 mod stack;
+#[cfg(test)]
+mod tests;
 mod variables;
 mod words;
 

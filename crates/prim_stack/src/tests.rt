@@ -1,24 +1,12 @@
-// Each primitive of the stack, with its faults.
+// Each primitive of the stack, with its faults. An item is written as `5`, `#5` for an object, `v5` for a variable, `a5` and
+// `b5` for the addresses of a word of program 9 and of one of program 8, and by the name of its kind; the last one is on the
+// top.
 use crate::{Done, apply};
-use muck_model::{Dbref, Line, LineFault, NoMemory};
+use muck_model::{Dbref, Line, LineFault, Lock, NoMemory};
 use muf_frame::{Frame, PrimFault};
-use muf_model::{Family, Prim, Text, Value, ValueList, VarId};
+use muf_model::{Family, Prim, Shared, Text, Value, ValueList, ValueMap, VarId};
 use std::alloc::Global;
 use std::sync::Arc;
-
-/// An item of a stack: an integer, an object, a variable, an address, a text, a mark or a list.
-#[derive(Clone, Copy, PartialEq, Eq, Debug)]
-enum Item {
-    I(i32),
-    R(i32),
-    V(u32),
-    A(i32, u32),
-    S,
-    M,
-    L,
-}
-
-use Item::{A, I, L, M, R, S, V};
 
 fn line(alloc: Global) -> Result<Line, NoMemory> {
     match Line::new(alloc, b"text") {
@@ -27,276 +15,284 @@ fn line(alloc: Global) -> Result<Line, NoMemory> {
     }
 }
 
-fn value(alloc: Global, item: Item) -> Result<Value, NoMemory> {
+// The item of a kind.
+fn of_kind(alloc: Global, kind: &str) -> Result<Value, NoMemory> {
+    match kind {
+        "text" => Ok(Value::Str(Text::new(alloc, line(alloc)?)?)),
+        "list" => Ok(Value::Items(Arc::new(alloc, ValueList::of(Vec::new(alloc)))?)),
+        "dict" => Ok(Value::Dict(Arc::new(alloc, ValueMap::of(Vec::new(alloc)))?)),
+        "lock" => Ok(Value::Key(Shared::new(alloc, Lock::Free)?)),
+        _ => Ok(Value::Mark),
+    }
+}
+
+// The item that a word is.
+fn item(alloc: Global, word: &str) -> Result<Value, NoMemory> {
+    if let Some(number) = word.strip_prefix('#') {
+        return Ok(Value::Ref(Dbref(number.parse().unwrap_or(0))));
+    }
+    if let Some(number) = word.strip_prefix('v') {
+        return Ok(Value::Var(VarId(number.parse().unwrap_or(0))));
+    }
+    if let Some(number) = word.strip_prefix('a') {
+        let program = Dbref(9);
+        let word = number.parse().unwrap_or(0);
+        return Ok(Value::Addr { program, word });
+    }
+    if let Some(number) = word.strip_prefix('b') {
+        let program = Dbref(8);
+        let word = number.parse().unwrap_or(0);
+        return Ok(Value::Addr { program, word });
+    }
+    match word.parse() {
+        Ok(number) => Ok(Value::Int(number)),
+        Err(_) => of_kind(alloc, word),
+    }
+}
+
+// The word that an item is.
+fn word(alloc: Global, item: &Value) -> Result<String, NoMemory> {
     match item {
-        I(n) => Ok(Value::Int(n)),
-        R(d) => Ok(Value::Ref(Dbref(d))),
-        V(v) => Ok(Value::Var(VarId(v))),
-        A(d, word) => Ok(Value::Addr {
-            program: Dbref(d),
-            word,
-        }),
-        S => Ok(Value::Str(Text::new(alloc, line(alloc)?)?)),
-        M => Ok(Value::Mark),
-        L => Ok(Value::Items(Arc::new(alloc, ValueList::of(Vec::new(alloc)))?)),
+        Value::Int(n) => Ok(format!(in alloc; "{n}")?),
+        Value::Ref(d) => Ok(format!(in alloc; "#{}", d.0)?),
+        Value::Var(v) => Ok(format!(in alloc; "v{}", v.0)?),
+        Value::Addr { program, word } if program.0 == 9 => Ok(format!(in alloc; "a{word}")?),
+        Value::Addr { word, .. } => Ok(format!(in alloc; "b{word}")?),
+        Value::Str(_) => Ok(format!(in alloc; "text")?),
+        Value::Mark => Ok(format!(in alloc; "mark")?),
+        Value::Items(_) => Ok(format!(in alloc; "list")?),
+        Value::Dict(_) => Ok(format!(in alloc; "dict")?),
+        Value::Key(_) => Ok(format!(in alloc; "lock")?),
     }
 }
 
-fn seen(value: Option<&Value>) -> Option<Item> {
-    match value {
-        Some(Value::Int(n)) => Some(I(*n)),
-        Some(Value::Ref(d)) => Some(R(d.0)),
-        Some(Value::Var(v)) => Some(V(v.0)),
-        Some(Value::Addr { program, word }) => Some(A(program.0, *word)),
-        Some(Value::Str(_)) => Some(S),
-        Some(Value::Mark) => Some(M),
-        Some(Value::Items(_)) => Some(L),
-        _ => None,
-    }
-}
-
-// A frame of program 9, which has two variables, in a call that has three, with these items, the last one on the top.
-fn frame_of(alloc: Global, items: &[Item]) -> Result<Frame, NoMemory> {
+// A frame of program 9, which has two variables, in a call that has three, with these items.
+fn frame_of(alloc: Global, items: &str) -> Result<Frame, NoMemory> {
     let mut frame = Frame::new(alloc, line(alloc)?)?;
     let _argument = frame.pop();
     frame.begin(alloc, Dbref(9), 2, 0, 3)?;
-    for one in items {
-        let _full = frame.push(value(alloc, *one)?);
+    for word in items.split_whitespace() {
+        let _full = frame.push(item(alloc, word)?);
     }
     Ok(frame)
 }
 
-// The number of the fault, 0 where there is none and 102 and more where a word is to be called. The program has two
-// words.
-fn used(prim: Prim, frame: &mut Frame) -> u32 {
-    match prim.family() {
-        Family::Stack => match apply(prim, frame, 2) {
-            Ok(Done::Kept) => 0,
-            Ok(Done::Calls(word)) => word.saturating_add(102),
-            Err(PrimFault::Fault(fault)) => u32::from(fault.number()),
-            Err(PrimFault::NoMemory) => 1,
-        },
-        _ => 2,
-    }
-}
-
-// Whether these are the items, of which the last one is on the top.
-fn is_stack(frame: &Frame, items: &[Item]) -> bool {
-    for depth in 0..items.len() {
-        if seen(frame.peek(depth)) != Some(items[items.len() - 1 - depth]) {
-            return false;
+fn items_of(alloc: Global, frame: &Frame) -> Result<String, NoMemory> {
+    let mut items = String::new(alloc);
+    for depth in (0..frame.len()).rev() {
+        if let Some(item) = frame.peek(depth) {
+            if !items.is_empty() {
+                items.push(' ')?;
+            }
+            items.push_str(word(alloc, item)?.as_str())?;
         }
     }
-    frame.len() == items.len()
+    Ok(items)
+}
+
+// The number of the fault, 0 where there is none and 102 and more where a word is to be called. The program has two
+// words.
+fn used(name: &str, frame: &mut Frame) -> u32 {
+    match Prim::named(name.as_bytes()) {
+        Some(prim) => match prim.family() {
+            Family::Stack => match apply(prim, frame, 2) {
+                Ok(Done::Kept) => 0,
+                Ok(Done::Calls(word)) => word.saturating_add(102),
+                Err(PrimFault::Fault(fault)) => u32::from(fault.number()),
+                Err(PrimFault::NoMemory) => 1,
+            },
+            _ => 2,
+        },
+        None => 3,
+    }
+}
+
+/// A primitive, the stack before it and behind it, and the fault.
+type Row<'a> = (&'a str, &'a str, &'a str, u32);
+
+// The place of the first row that doesn't hold.
+fn first_wrong(alloc: Global, rows: &[Row<'_>]) -> Result<Option<usize>, NoMemory> {
+    for (at, (name, before, after, fault)) in rows.iter().enumerate() {
+        let mut frame = frame_of(alloc, before)?;
+        if used(name, &mut frame) != *fault {
+            return Ok(Some(at));
+        }
+        if items_of(alloc, &frame)?.as_str() != *after {
+            return Ok(Some(at));
+        }
+    }
+    Ok(None)
 }
 
 #[test]
-fn moves_of_items(rt: HostRuntime) -> Result<(), NoMemory> {
-    let alloc = rt.alloc();
-    // The primitive, the stack before it and behind it, and the fault.
-    let rows: [(Prim, &[Item], &[Item], u32); 32] = [
-        (Prim::Pop, &[I(1), I(2)], &[I(1)], 0),
-        (Prim::Pop, &[], &[], 40),
-        (Prim::Dup, &[I(7)], &[I(7), I(7)], 0),
-        (Prim::Dup, &[S], &[S, S], 0),
-        (Prim::Dup, &[], &[], 40),
-        (Prim::DupTrue, &[I(7)], &[I(7), I(7)], 0),
-        (Prim::DupTrue, &[I(0)], &[I(0)], 0),
-        (Prim::DupTrue, &[], &[], 40),
-        (Prim::Swap, &[I(1), I(2)], &[I(2), I(1)], 0),
-        (Prim::Swap, &[I(1)], &[I(1)], 40),
-        (Prim::Over, &[I(1), I(2)], &[I(1), I(2), I(1)], 0),
-        (Prim::Over, &[I(1)], &[I(1)], 40),
-        (Prim::Rot, &[I(1), I(2), I(3)], &[I(2), I(3), I(1)], 0),
-        (Prim::Rot, &[I(1), I(2)], &[I(1), I(2)], 40),
+fn moves(rt: HostRuntime) -> Result<(), NoMemory> {
+    let rows = [
+        ("POP", "1 2", "1", 0),
+        ("DUP", "7", "7 7", 0),
+        ("DUP", "text", "text text", 0),
+        ("?DUP", "7", "7 7", 0),
+        ("?DUP", "0", "0", 0),
+        ("SWAP", "1 2", "2 1", 0),
+        ("OVER", "1 2", "1 2 1", 0),
+        ("ROT", "1 2 3", "2 3 1", 0),
+        ("NIP", "1 2", "2", 0),
+        ("TUCK", "1 2", "2 1 2", 0),
+        ("DEPTH", "", "0", 0),
+        ("DEPTH", "text mark", "text mark 2", 0),
+    ];
+    assert_eq!(rt; first_wrong(rt.alloc(), &rows)?, None);
+    Ok(())
+}
+
+#[test]
+fn moves_by_count(rt: HostRuntime) -> Result<(), NoMemory> {
+    let rows = [
+        ("ROTATE", "1 2 3 4 4", "2 3 4 1", 0),
+        ("ROTATE", "1 2 3 4 -4", "4 1 2 3", 0),
+        ("ROTATE", "1 2 3 -2", "1 3 2", 0),
+        ("ROTATE", "1 0", "1", 0),
+        ("ROTATE", "1 -2147483648", "1 -2147483648", 40),
+        ("PICK", "1 2 3 3", "1 2 3 1", 0),
+        ("PICK", "1 0", "1 0", 45),
+        ("PUT", "1 2 9 2", "9 2", 0),
+        ("PUT", "1 9 0", "1 9 0", 45),
+    ];
+    assert_eq!(rt; first_wrong(rt.alloc(), &rows)?, None);
+    Ok(())
+}
+
+#[test]
+fn many_items(rt: HostRuntime) -> Result<(), NoMemory> {
+    let rows = [
+        ("DUPN", "1 2 2", "1 2 1 2", 0),
+        ("DUPN", "1 0", "1", 0),
+        ("LDUP", "1 2 2", "1 2 2 1 2 2", 0),
+        ("LDUP", "0", "0 0", 0),
+        ("POPN", "1 2 3 2", "1", 0),
+        ("REVERSE", "1 2 3 4 3", "1 4 3 2", 0),
+        ("{", "1", "1 mark", 0),
+        ("}", "8 mark 9 mark 1 2", "8 mark 9 1 2 2", 0),
+        ("}", "mark", "0", 0),
+        ("}", "1 2", "1 2", 45),
+        ("}", "", "", 45),
+    ];
+    assert_eq!(rt; first_wrong(rt.alloc(), &rows)?, None);
+    Ok(())
+}
+
+#[test]
+fn variables_and_words(rt: HostRuntime) -> Result<(), NoMemory> {
+    let rows = [
+        ("@", "v1", "0", 0),
+        ("@", "v4", "0", 0),
+        ("@", "v6", "v6", 45),
+        ("@", "v70", "0", 0),
+        ("@", "v71", "v71", 45),
+        ("!", "5 v3", "", 0),
+        ("!", "5 v5", "", 0),
+        ("!", "5 v68", "", 0),
+        ("!", "5 v71", "5 v71", 45),
+        ("EXECUTE", "a1", "", 103),
+        ("EXECUTE", "a2", "a2", 52),
+        ("EXECUTE", "b1", "b1", 52),
+        ("ABORT", "text", "text", 58),
+    ];
+    assert_eq!(rt; first_wrong(rt.alloc(), &rows)?, None);
+    Ok(())
+}
+
+#[test]
+fn kinds(rt: HostRuntime) -> Result<(), NoMemory> {
+    let names = "INT? STRING? DBREF? ARRAY? DICTIONARY? ADDRESS? LOCK?";
+    // An item, and what each of these answers, in their order.
+    let rows = [
+        ("5", "1 0 0 0 0 0 0"),
+        ("text", "0 1 0 0 0 0 0"),
+        ("#5", "0 0 1 0 0 0 0"),
+        ("list", "0 0 0 1 0 0 0"),
+        ("dict", "0 0 0 1 1 0 0"),
+        ("a0", "0 0 0 0 0 1 0"),
+        ("lock", "0 0 0 0 0 0 1"),
+        ("mark", "0 0 0 0 0 0 0"),
+        ("v0", "0 0 0 0 0 0 0"),
+    ];
+    for (item, answers) in rows {
+        for (name, answer) in names.split_whitespace().zip(answers.split_whitespace()) {
+            let row = [(name, item, answer, 0)];
+            assert_eq!(rt; first_wrong(rt.alloc(), &row)?, None, "{name} at {item}");
+        }
+    }
+    Ok(())
+}
+
+// Whether each of these primitives has this fault at these items, and leaves them.
+fn refused(alloc: Global, names: &str, items: &str, fault: u32) -> Result<bool, NoMemory> {
+    for name in names.split_whitespace() {
+        if first_wrong(alloc, &[(name, items, items, fault)])?.is_some() {
+            return Ok(false);
+        }
+    }
+    Ok(true)
+}
+
+#[test]
+fn faults_of_each(rt: HostRuntime) -> Result<(), NoMemory> {
+    let rows = [
+        ("POP DUP ?DUP ROTATE DUPN LDUP POPN REVERSE @", "", 40),
         (
-            Prim::Rotate,
-            &[I(1), I(2), I(3), I(4), I(4)],
-            &[I(2), I(3), I(4), I(1)],
-            0,
-        ),
-        (
-            Prim::Rotate,
-            &[I(1), I(2), I(3), I(4), I(-4)],
-            &[I(4), I(1), I(2), I(3)],
-            0,
-        ),
-        (
-            Prim::Rotate,
-            &[I(1), I(2), I(3), I(-2)],
-            &[I(1), I(3), I(2)],
-            0,
-        ),
-        (Prim::Rotate, &[I(1), I(0)], &[I(1)], 0),
-        (Prim::Rotate, &[I(1), I(2)], &[I(1), I(2)], 40),
-        (
-            Prim::Rotate,
-            &[I(1), I(-2147483648)],
-            &[I(1), I(-2147483648)],
+            "INT? STRING? DBREF? ARRAY? DICTIONARY? ADDRESS? LOCK?",
+            "",
             40,
         ),
-        (Prim::Rotate, &[S], &[S], 44),
-        (Prim::Rotate, &[], &[], 40),
+        ("EXECUTE ABORT", "", 40),
         (
-            Prim::Pick,
-            &[I(1), I(2), I(3), I(3)],
-            &[I(1), I(2), I(3), I(1)],
-            0,
+            "SWAP OVER NIP TUCK ! PICK PUT ROTATE DUPN LDUP POPN REVERSE",
+            "1",
+            40,
         ),
-        (Prim::Pick, &[I(1), I(0)], &[I(1), I(0)], 45),
-        (Prim::Pick, &[I(1), I(-1)], &[I(1), I(-1)], 45),
-        (Prim::Pick, &[I(1), I(2)], &[I(1), I(2)], 40),
-        (Prim::Pick, &[S], &[S], 44),
-        (Prim::Put, &[I(1), I(2), I(9), I(2)], &[I(9), I(2)], 0),
-        (Prim::Put, &[I(1), I(9), I(0)], &[I(1), I(9), I(0)], 45),
-        (Prim::Put, &[I(9), I(1)], &[I(9), I(1)], 40),
-        (Prim::Put, &[I(1), S], &[I(1), S], 44),
-        (Prim::Nip, &[I(1), I(2)], &[I(2)], 0),
+        ("ROT", "1 2", 40),
+        ("ROTATE PICK DUPN LDUP POPN REVERSE PUT", "1 2", 40),
+        (
+            "ROTATE PICK PUT DUPN LDUP POPN REVERSE @ ! EXECUTE",
+            "1 text",
+            44,
+        ),
+        ("@ ! EXECUTE ABORT", "1 2", 44),
+        ("PICK PUT DUPN LDUP POPN REVERSE", "1 2 -1", 45),
     ];
-    for (prim, before, after, fault) in rows {
-        let mut frame = frame_of(alloc, before)?;
-        assert_eq!(rt; used(prim, &mut frame), fault, "at {prim:?} of {before:?}");
-        assert!(rt; is_stack(&frame, after), "at {prim:?} of {before:?}");
+    for (names, items, fault) in rows {
+        assert!(rt;
+            refused(rt.alloc(), names, items, fault)?,
+            "{names} at {items}"
+        );
     }
     Ok(())
 }
 
 #[test]
-fn counts_and_marks(rt: HostRuntime) -> Result<(), NoMemory> {
-    let alloc = rt.alloc();
-    // The primitive, the stack before it and behind it, and the fault.
-    let rows: [(Prim, &[Item], &[Item], u32); 32] = [
-        (Prim::Nip, &[I(1)], &[I(1)], 40),
-        (Prim::Tuck, &[I(1), I(2)], &[I(2), I(1), I(2)], 0),
-        (Prim::Tuck, &[I(1)], &[I(1)], 40),
-        (
-            Prim::DupN,
-            &[I(1), I(2), I(2)],
-            &[I(1), I(2), I(1), I(2)],
-            0,
-        ),
-        (Prim::DupN, &[I(1), I(0)], &[I(1)], 0),
-        (Prim::DupN, &[I(1), I(2)], &[I(1), I(2)], 40),
-        (Prim::DupN, &[I(-1)], &[I(-1)], 45),
-        (Prim::DupN, &[M], &[M], 44),
-        (
-            Prim::LDup,
-            &[I(1), I(2), I(2)],
-            &[I(1), I(2), I(2), I(1), I(2), I(2)],
-            0,
-        ),
-        (Prim::LDup, &[I(0)], &[I(0), I(0)], 0),
-        (Prim::LDup, &[I(1)], &[I(1)], 40),
-        (Prim::LDup, &[I(-1)], &[I(-1)], 45),
-        (Prim::LDup, &[S], &[S], 44),
-        (Prim::PopN, &[I(1), I(2), I(3), I(2)], &[I(1)], 0),
-        (Prim::PopN, &[I(1), I(2)], &[I(1), I(2)], 40),
-        (Prim::PopN, &[I(-1)], &[I(-1)], 45),
-        (Prim::PopN, &[S], &[S], 44),
-        (
-            Prim::Reverse,
-            &[I(1), I(2), I(3), I(4), I(3)],
-            &[I(1), I(4), I(3), I(2)],
-            0,
-        ),
-        (Prim::Reverse, &[I(1), I(2)], &[I(1), I(2)], 40),
-        (Prim::Reverse, &[I(-1)], &[I(-1)], 45),
-        (Prim::Reverse, &[S], &[S], 44),
-        (Prim::Depth, &[], &[I(0)], 0),
-        (Prim::Depth, &[S, M], &[S, M, I(2)], 0),
-        (Prim::OpenMark, &[I(1)], &[I(1), M], 0),
-        (
-            Prim::CloseMark,
-            &[I(8), M, I(9), M, I(1), I(2)],
-            &[I(8), M, I(9), I(1), I(2), I(2)],
-            0,
-        ),
-        (Prim::CloseMark, &[M], &[I(0)], 0),
-        (Prim::CloseMark, &[I(1), I(2)], &[I(1), I(2)], 45),
-        (Prim::CloseMark, &[], &[], 45),
-        (Prim::Fetch, &[V(1)], &[I(0)], 0),
-        (Prim::Fetch, &[V(4)], &[I(0)], 0),
-        (Prim::Fetch, &[V(6)], &[V(6)], 45),
-        (Prim::Fetch, &[V(70)], &[I(0)], 0),
-    ];
-    for (prim, before, after, fault) in rows {
-        let mut frame = frame_of(alloc, before)?;
-        assert_eq!(rt; used(prim, &mut frame), fault, "at {prim:?} of {before:?}");
-        assert!(rt; is_stack(&frame, after), "at {prim:?} of {before:?}");
-    }
-    Ok(())
-}
-
-#[test]
-fn names_and_kinds(rt: HostRuntime) -> Result<(), NoMemory> {
-    let alloc = rt.alloc();
-    // The primitive, the stack before it and behind it, and the fault.
-    let rows: [(Prim, &[Item], &[Item], u32); 30] = [
-        (Prim::Fetch, &[V(71)], &[V(71)], 45),
-        (Prim::Fetch, &[I(1)], &[I(1)], 44),
-        (Prim::Fetch, &[], &[], 40),
-        (Prim::Store, &[I(5), V(3)], &[], 0),
-        (Prim::Store, &[I(5), V(5)], &[], 0),
-        (Prim::Store, &[I(5), V(68)], &[], 0),
-        (Prim::Store, &[I(5), V(71)], &[I(5), V(71)], 45),
-        (Prim::Store, &[V(1), I(5)], &[V(1), I(5)], 44),
-        (Prim::Store, &[V(1)], &[V(1)], 40),
-        (Prim::IsInt, &[I(0)], &[I(1)], 0),
-        (Prim::IsInt, &[S], &[I(0)], 0),
-        (Prim::IsInt, &[], &[], 40),
-        (Prim::IsString, &[S], &[I(1)], 0),
-        (Prim::IsString, &[M], &[I(0)], 0),
-        (Prim::IsDbref, &[R(1)], &[I(1)], 0),
-        (Prim::IsDbref, &[I(1)], &[I(0)], 0),
-        (Prim::IsArray, &[L], &[I(1)], 0),
-        (Prim::IsArray, &[M], &[I(0)], 0),
-        (Prim::IsDictionary, &[L], &[I(0)], 0),
-        (Prim::IsAddress, &[A(9, 0)], &[I(1)], 0),
-        (Prim::IsAddress, &[R(9)], &[I(0)], 0),
-        (Prim::IsLock, &[S], &[I(0)], 0),
-        (Prim::Execute, &[A(9, 1)], &[], 103),
-        (Prim::Execute, &[A(9, 2)], &[A(9, 2)], 52),
-        (Prim::Execute, &[A(8, 1)], &[A(8, 1)], 52),
-        (Prim::Execute, &[I(1)], &[I(1)], 44),
-        (Prim::Execute, &[], &[], 40),
-        (Prim::Abort, &[S], &[S], 58),
-        (Prim::Abort, &[I(1)], &[I(1)], 44),
-        (Prim::Abort, &[], &[], 40),
-    ];
-    for (prim, before, after, fault) in rows {
-        let mut frame = frame_of(alloc, before)?;
-        assert_eq!(rt; used(prim, &mut frame), fault, "at {prim:?} of {before:?}");
-        assert!(rt; is_stack(&frame, after), "at {prim:?} of {before:?}");
-    }
-    Ok(())
-}
-
-#[test]
-fn locked_and_full_stacks(rt: HostRuntime) -> Result<(), NoMemory> {
-    let alloc = rt.alloc();
-    let mut frame = frame_of(alloc, &[M, I(5)])?;
+fn locked_items(rt: HostRuntime) -> Result<(), NoMemory> {
+    let mut frame = frame_of(rt.alloc(), "mark 1")?;
     if frame.opened() < 512 {
         frame.push_guard(1, 0);
     }
-    assert_eq!(rt; used(Prim::Swap, &mut frame), 42);
-    assert_eq!(rt; used(Prim::CloseMark, &mut frame), 45);
-    assert_eq!(rt; used(Prim::Depth, &mut frame), 0);
-    assert!(rt; is_stack(&frame, &[M, I(5), I(1)]));
-    for _ in 3..1024 {
+    assert_eq!(rt; used("SWAP", &mut frame), 42);
+    assert_eq!(rt; used("PICK", &mut frame), 42);
+    assert_eq!(rt; used("}", &mut frame), 45);
+    assert_eq!(rt; used("DEPTH", &mut frame), 0);
+    assert_eq!(rt; items_of(rt.alloc(), &frame)?.as_str(), "mark 1 1");
+    Ok(())
+}
+
+#[test]
+fn full_stacks(rt: HostRuntime) -> Result<(), NoMemory> {
+    let mut frame = frame_of(rt.alloc(), "")?;
+    for _ in 0..1024 {
         let _room = frame.push(Value::Int(2));
     }
-    for prim in [
-        Prim::Dup,
-        Prim::DupTrue,
-        Prim::Over,
-        Prim::Tuck,
-        Prim::Depth,
-        Prim::OpenMark,
-        Prim::LDup,
-    ] {
-        assert_eq!(rt; used(prim, &mut frame), 41, "at {prim:?}");
+    for name in ["DUP", "?DUP", "OVER", "TUCK", "DEPTH", "{", "LDUP", "DUPN"] {
+        assert_eq!(rt; used(name, &mut frame), 41, "at {name}");
     }
-    assert_eq!(rt; used(Prim::DupN, &mut frame), 41);
-    assert_eq!(rt; used(Prim::Pick, &mut frame), 0);
+    assert_eq!(rt; used("PICK", &mut frame), 0);
+    assert_eq!(rt; frame.len(), 1024);
     Ok(())
 }
