@@ -1,9 +1,14 @@
-// Programs over hand-made code: how a run stops, how many units it takes, and how high the stack is then.
+// Programs over hand-made code: how a run stops, after how many units, and which items are there then. An instruction is
+// written as an integer, as a primitive in capitals, or as a control word in small letters, with its target or number.
 use crate::{Local, run_local};
 use muck_model::{Dbref, Line, LineFault, NoMemory, Row};
 use muf_frame::Frame;
-use muf_model::{Closer, Code, CodeWord, Instr, Literal, Offer, Placed, Prim, Text, VarId, Word};
+use muf_model::{
+    Closer, Code, CodeWord, Instr, Literal, Offer, Placed, Prim, Text, Value, ValueList, VarId,
+    Word,
+};
 use std::alloc::Global;
+use std::sync::Arc;
 
 fn line(alloc: Global, bytes: &[u8]) -> Result<Line, NoMemory> {
     match Line::new(alloc, bytes) {
@@ -12,19 +17,71 @@ fn line(alloc: Global, bytes: &[u8]) -> Result<Line, NoMemory> {
     }
 }
 
-fn program(alloc: Global, instrs: Vec<Instr>) -> Result<Code, NoMemory> {
+// A word that names no place, with its number.
+fn word(name: &str, number: u32) -> Word {
+    match name {
+        "address" => Word::Address(number),
+        "bind" => Word::Bind(number),
+        "break" => Word::Break,
+        "call" => Word::Call(number),
+        "continue" => Word::Continue,
+        "exit" => Word::Exit,
+        "index" => Word::NextIndex,
+        "pair" => Word::NextPair,
+        "store" => Word::Store(VarId(number)),
+        "var" => Word::Variable(VarId(number)),
+        _ => Word::While,
+    }
+}
+
+// A control word, with its target or number.
+fn control(name: &str, number: u32) -> Instr {
+    let to = number as usize;
+    match name {
+        ";" => Instr::Close(Closer::Semicolon),
+        "begin" => Instr::Begin(to),
+        "catch" => Instr::Catch(to),
+        "each" => Instr::Each(to),
+        "else" => Instr::Else(to),
+        "for" => Instr::For(to),
+        "if" => Instr::When(to),
+        "ifelse" => Instr::IfElse(to),
+        "repeat" => Instr::Close(Closer::Repeat),
+        "try" => Instr::Try(to),
+        "until" => Instr::Close(Closer::Until),
+        _ => Instr::Plain(word(name, number)),
+    }
+}
+
+fn instr(text: &str) -> Instr {
+    if let Ok(number) = text.parse() {
+        return Instr::Plain(Word::Literal(Literal::Int(number)));
+    }
+    if let Some(prim) = Prim::named(text.as_bytes()) {
+        return Instr::Plain(Word::Primitive(prim));
+    }
+    match text.split_once(':') {
+        Some((name, number)) => control(name, number.parse().unwrap_or(0)),
+        None => control(text, 0),
+    }
+}
+
+// The code of these instructions, with words that begin at these places and have one variable each.
+fn code_of(alloc: Global, starts: &str, instrs: &str) -> Result<Code, NoMemory> {
     let mut placed = Row::new(alloc)?;
-    for instr in instrs {
+    for text in instrs.split_whitespace() {
+        let instr = instr(text);
         placed.push(Placed { line: 1, instr })?;
     }
-    let name = line(alloc, b"main")?;
     let mut words = Row::new(alloc)?;
-    words.push(CodeWord {
-        name: Text::new(alloc, name)?,
-        offer: Offer::Nobody,
-        variables: 1,
-        start: 0,
-    })?;
+    for start in starts.split_whitespace() {
+        words.push(CodeWord {
+            name: Text::new(alloc, line(alloc, b"word")?)?,
+            offer: Offer::Nobody,
+            variables: 1,
+            start: start.parse().unwrap_or(0),
+        })?;
+    }
     Ok(Code {
         placed,
         words,
@@ -32,7 +89,20 @@ fn program(alloc: Global, instrs: Vec<Instr>) -> Result<Code, NoMemory> {
     })
 }
 
-// The fault's number, or how else it stopped.
+// A frame with no item, at the start of the last word.
+fn begun(alloc: Global, code: &Code) -> Result<Frame, NoMemory> {
+    let mut frame = Frame::new(alloc, line(alloc, b"hello")?)?;
+    let _argument = frame.pop();
+    let start = match code.words.as_slice().last() {
+        Some(word) => word.start,
+        None => 0,
+    };
+    frame.begin(alloc, Dbref(5), 0, start, 1)?;
+    Ok(frame)
+}
+
+// The number of the fault, or how else it stopped: 0 at its most units, 1 before a shared primitive, 2 back in the caller,
+// 3 at the end.
 fn stop(local: &Local) -> u8 {
     match local {
         Local::Spent => 0,
@@ -43,133 +113,184 @@ fn stop(local: &Local) -> u8 {
     }
 }
 
-// A program of one word, with a text on the stack.
-fn run(alloc: Global, instrs: Vec<Instr>, most: u32) -> Result<(u8, u32, usize), NoMemory> {
-    let code = program(alloc, instrs)?;
-    let argument = line(alloc, b"hello")?;
-    let mut frame = Frame::new(alloc, argument)?;
-    frame.begin(alloc, Dbref(5), 0, 0, 1)?;
-    let local = run_local(alloc, &code, &mut frame, most)?;
-    Ok((stop(&local), frame.units(), frame.len()))
+// Adds an item to others, integers as they are and texts in quotes.
+fn add_item(items: &mut String, item: &Value) -> Result<(), NoMemory> {
+    if !items.is_empty() {
+        items.push(' ')?;
+    }
+    match item {
+        Value::Int(number) => write!(items, "{number}")?,
+        Value::Str(text) => {
+            items.push('"')?;
+            for byte in text.as_slice() {
+                items.push(char::from(*byte))?;
+            }
+            items.push('"')?;
+        }
+        _ => items.push('?')?,
+    }
+    Ok(())
 }
 
-fn int(number: i32) -> Instr {
-    Instr::Plain(Word::Literal(Literal::Int(number)))
+fn items_of(alloc: Global, frame: &Frame) -> Result<String, NoMemory> {
+    let mut items = String::new(alloc);
+    for depth in (0..frame.len()).rev() {
+        if let Some(item) = frame.peek(depth) {
+            add_item(&mut items, item)?;
+        }
+    }
+    Ok(items)
 }
 
-fn prim(prim: Prim) -> Instr {
-    Instr::Plain(Word::Primitive(prim))
+/// The places where the words begin, of which the last one runs, and the code; then how it stops, after how many units,
+/// with which items.
+type Case<'a> = (&'a str, &'a str, u8, u32, &'a str);
+
+// The place of the first case that doesn't hold, where each may take so many units.
+fn first_wrong(alloc: Global, most: u32, cases: &[Case<'_>]) -> Result<Option<usize>, NoMemory> {
+    for (at, (starts, instrs, stopped, units, items)) in cases.iter().enumerate() {
+        let code = code_of(alloc, starts, instrs)?;
+        let mut frame = begun(alloc, &code)?;
+        let local = run_local(alloc, &code, &mut frame, most)?;
+        if stop(&local) != *stopped || frame.units() != *units {
+            return Ok(Some(at));
+        }
+        if items_of(alloc, &frame)?.as_str() != *items {
+            return Ok(Some(at));
+        }
+    }
+    Ok(None)
 }
-
-const REPEAT: Instr = Instr::Close(Closer::Repeat);
-
-const END: Instr = Instr::Close(Closer::Semicolon);
-
-const INDEX: Instr = Instr::Plain(Word::NextIndex);
 
 #[test]
-fn loops_by_count(rt: HostRuntime) -> Result<(), NoMemory> {
-    let alloc = rt.alloc();
-    // FOR from 1 to 3 pushes three indices
-    let row = vec![in alloc; int(1), int(3), int(1), Instr::For(6), INDEX, REPEAT, END]?;
-    assert_eq!(rt; run(alloc, row, 100)?, (3, 12, 4));
-    // CONTINUE goes to the next index
-    let row = vec![in alloc;
-        int(1),
-        int(3),
-        int(1),
-        Instr::For(7),
-        INDEX,
-        Instr::Plain(Word::Continue),
-        REPEAT,
-        END,
-    ]?;
-    assert_eq!(rt; run(alloc, row, 100)?, (3, 12, 4));
-    // an index does not go round
-    let row = vec![in alloc;
-        int(2147483646),
-        int(2147483647),
-        int(1),
-        Instr::For(6),
-        INDEX,
-        REPEAT,
-        END,
-    ]?;
-    assert_eq!(rt; run(alloc, row, 100)?, (3, 10, 3));
-    // a FOR whose start is past its end makes no turn
-    let row = vec![in alloc; int(3), int(1), int(1), Instr::For(6), INDEX, REPEAT, END]?;
-    assert_eq!(rt; run(alloc, row, 100)?, (3, 6, 1));
-    // BEGIN takes no unit
-    let row = vec![in alloc; Instr::Begin(3), Instr::Plain(Word::Exit), REPEAT, END]?;
-    assert_eq!(rt; run(alloc, row, 100)?, (3, 1, 1));
-    let row = vec![in alloc; Instr::Begin(2), REPEAT, END]?;
-    assert_eq!(rt; run(alloc, row, 5)?, (0, 5, 1));
+fn numbers(rt: HostRuntime) -> Result<(), NoMemory> {
+    let cases = [
+        ("0", "7 0 / ;", 3, 4, "0"),
+        ("0", "-2147483648 -1 / ;", 3, 4, "-2147483648"),
+        ("0", "-2147483648 -1 % ;", 3, 4, "0"),
+        ("0", "2147483647 1 + ;", 3, 4, "-2147483648"),
+        ("0", "-7 2 / ;", 3, 4, "-3"),
+        ("0", "1 if:3 5 ;", 3, 4, "5"),
+        ("0", "0 ifelse:4 5 else:5 6 ;", 3, 4, "6"),
+        ("0", "1 ifelse:4 5 else:5 6 ;", 3, 5, "5"),
+    ];
+    assert_eq!(rt; first_wrong(rt.alloc(), 100, &cases)?, None);
     Ok(())
 }
 
 #[test]
-fn tries_and_calls(rt: HostRuntime) -> Result<(), NoMemory> {
+fn loops(rt: HostRuntime) -> Result<(), NoMemory> {
+    let cases = [
+        ("0", "1 3 1 for:6 index repeat ;", 3, 12, "1 2 3"),
+        ("0", "3 1 1 for:6 index repeat ;", 3, 6, ""),
+        ("0", "1 3 0 for:6 index repeat ;", 3, 6, ""),
+        ("0", "3 1 -1 for:6 index repeat ;", 3, 12, "3 2 1"),
+        (
+            "0",
+            "2147483646 2147483647 1 for:6 index repeat ;",
+            3,
+            10,
+            "2147483646 2147483647",
+        ),
+        ("0", "1 3 1 for:7 index continue repeat ;", 3, 12, "1 2 3"),
+        ("0", "1 6664 1 for:7 index POP repeat ;", 3, 19998, ""),
+        ("0", "begin:3 exit repeat ;", 3, 1, ""),
+        ("0", "begin:3 1 until ;", 3, 3, ""),
+        ("0", "begin:4 0 while repeat 5 ;", 3, 4, "5"),
+        ("0", "1 for:3 index repeat ;", 40, 2, "1"),
+    ];
+    assert_eq!(rt; first_wrong(rt.alloc(), 20000, &cases)?, None);
+    let endless = [("0", "begin:2 repeat ;", 0, 5, "")];
+    assert_eq!(rt; first_wrong(rt.alloc(), 5, &endless)?, None);
+    Ok(())
+}
+
+#[test]
+fn tries(rt: HostRuntime) -> Result<(), NoMemory> {
+    let cases = [
+        (
+            "0",
+            "1 2 3 1 try:8 POP POP catch:8 ;",
+            3,
+            8,
+            "1 2 \"Stack protection fault.\"",
+        ),
+        (
+            "0",
+            "7 1 try:6 8 call:9 catch:6 ;",
+            3,
+            6,
+            "\"Invalid address.\"",
+        ),
+        ("0", "2 try:3 catch:3 ;", 40, 2, "2"),
+        ("0", "-1 try:3 catch:3 ;", 45, 2, "-1"),
+        (
+            "0",
+            "begin:6 0 try:5 break catch:5 repeat call:7 ;",
+            52,
+            4,
+            "",
+        ),
+        (
+            "0 15",
+            "1 5 1 for:11 index 0 try:9 break catch:10 POP repeat 9 exit 8 ; call:0 DEPTH ;",
+            3,
+            13,
+            "1 9 2",
+        ),
+        ("0 6", "0 try:4 exit catch:4 POP ; call:0 POP ;", 40, 5, ""),
+    ];
+    assert_eq!(rt; first_wrong(rt.alloc(), 100, &cases)?, None);
+    Ok(())
+}
+
+#[test]
+fn calls(rt: HostRuntime) -> Result<(), NoMemory> {
+    let cases = [
+        ("0", "address:0 EXECUTE ;", 43, 1024, ""),
+        ("0", "address:1 EXECUTE ;", 52, 2, "?"),
+        (
+            "0 4",
+            "var:68 @ 1 ; 5 store:68 call:0 var:68 @ ;",
+            3,
+            10,
+            "0 1 5",
+        ),
+        ("0", "4 bind:1 var:68 @ 6 * ;", 3, 7, "24"),
+        ("0", "bind:1 ;", 40, 1, ""),
+        ("0", "1 begin:4 NOTIFY repeat ;", 1, 1, "1"),
+    ];
+    assert_eq!(rt; first_wrong(rt.alloc(), 2000, &cases)?, None);
+    let spent = [("0", "1 NOTIFY ;", 0, 1, "1")];
+    assert_eq!(rt; first_wrong(rt.alloc(), 1, &spent)?, None);
+    Ok(())
+}
+
+#[test]
+fn keys(rt: HostRuntime) -> Result<(), NoMemory> {
     let alloc = rt.alloc();
-    // BREAK out of a TRY leaves it: the fault behind the loop is not caught
-    let row = vec![in alloc;
-        Instr::Begin(6),
-        int(0),
-        Instr::Try(5),
-        Instr::Plain(Word::Break),
-        Instr::Catch(5),
-        REPEAT,
-        Instr::Plain(Word::Call(7)),
-        END,
-    ]?;
-    assert_eq!(rt; run(alloc, row, 100)?, (52, 4, 1));
-    // a fault that is caught leaves what is locked and its text
-    let row = vec![in alloc;
-        int(7),
-        int(1),
-        Instr::Try(6),
-        int(8),
-        Instr::Plain(Word::Call(9)),
-        Instr::Catch(6),
-        END,
-    ]?;
-    assert_eq!(rt; run(alloc, row, 100)?, (3, 6, 2));
-    // TRY with too many items
-    let row = vec![in alloc; int(2), Instr::Try(3), Instr::Catch(3), END]?;
-    assert_eq!(rt; run(alloc, row, 100)?, (40, 2, 2));
-    // a word that executes itself
-    let row = vec![in alloc; Instr::Plain(Word::Address(0)), prim(Prim::Execute), END]?;
-    assert_eq!(rt; run(alloc, row, 5000)?, (43, 1024, 1));
-    // a header's argument, and a product
-    let row = vec![in alloc;
-        Instr::Plain(Word::Bind(1)),
-        Instr::Plain(Word::Variable(VarId(68))),
-        prim(Prim::Fetch),
-        int(6),
-        int(7),
-        prim(Prim::Multiply),
-        END,
-    ]?;
-    assert_eq!(rt; run(alloc, row, 100)?, (3, 7, 2));
-    // a shared primitive takes no unit, and BEGIN before it none
-    let row = vec![in alloc; int(1), Instr::Begin(4), prim(Prim::Notify), REPEAT, END]?;
-    assert_eq!(rt; run(alloc, row, 100)?, (1, 1, 2));
-    let row = vec![in alloc; int(1), prim(Prim::Notify), END]?;
-    assert_eq!(rt; run(alloc, row, 1)?, (0, 1, 2));
+    let code = code_of(alloc, "0", "each:3 pair repeat ;")?;
+    let mut frame = begun(alloc, &code)?;
+    let values = Vec::from_array(alloc, [Value::Int(7), Value::Int(8)])?;
+    let list = Arc::new(alloc, ValueList::of(values))?;
+    let _room = frame.push(Value::Items(list));
+    let local = run_local(alloc, &code, &mut frame, 100)?;
+    assert_eq!(rt; (stop(&local), frame.units()), (3, 7));
+    assert_eq!(rt; items_of(alloc, &frame)?.as_str(), "0 7 1 8");
     Ok(())
 }
 
 #[test]
 fn back_to_the_caller(rt: HostRuntime) -> Result<(), NoMemory> {
     let alloc = rt.alloc();
-    let code = program(alloc, vec![in alloc; int(1), END]?)?;
-    let argument = line(alloc, b"hello")?;
-    let mut frame = Frame::new(alloc, argument)?;
-    frame.begin(alloc, Dbref(5), 0, 0, 0)?;
+    let code = code_of(alloc, "0", "1 ;")?;
+    let mut frame = begun(alloc, &code)?;
     if frame.calls() < 511 {
         frame.enter(alloc, Dbref(6), 0, 0, 1)?;
     }
     let local = run_local(alloc, &code, &mut frame, 100)?;
-    assert_eq!(rt; (stop(&local), frame.units(), frame.len()), (2, 2, 2));
+    assert_eq!(rt; (stop(&local), frame.units()), (2, 2));
+    assert_eq!(rt; items_of(alloc, &frame)?.as_str(), "1");
     assert_eq!(rt; frame.program(), Dbref(5));
     Ok(())
 }
