@@ -2,10 +2,10 @@
 use Rattle.std.proofs.Common.{◌≡◌, ℕ, zero, suc, ◌+◌, List, [], ◌∷◌, drop, map, Some, None, refl, sym, ap, ◌∙◌, arith}
 use Rattle.std.specs.Prelude.{slice_get, pos}
 use Rattle.muf_model.specs.declared.value.Value.{Value}
-use Rattle.muf_model.specs.declared.value.Pair.{Pair, roll-out-Pair, fold-roll-Pair, out-Pair}
+use Rattle.muf_model.specs.declared.value.Pair.{Pair}
 use Rattle.muf_model.specs.declared.value.MapKey.{MapKey}
 use Rattle.muf_model.specs.Datum.{Datum, int, data_of, pairs_of}
-use Rattle.muf_model.specs.View.{view, pair_view, value_step, pair_step, list_step, map_step}
+use Rattle.muf_model.specs.View.{view, pair_view}
 use Rattle.muf_model.specs.Source.{pairs}
 use Rattle.muf_model.specs.Unit.{numbered, keyed, key_datum}
 use Rattle.muf_model.specs.Flat.{FlatMark, loop, Flat}
@@ -65,8 +65,3 @@ no_entry xs ds at e n = rw (← e) (ap pull (entries_end xs at n))
 
 pub an_entry : (xs : List Pair) (ds : List (MapKey × Datum)) (at : ℕ) (x : Pair) → map pair_view xs ≡ ds → slice_get xs at ≡ Some x → pull (drop at (keyed (pairs_of ds))) ≡ Some ((key_datum (pair_view x).0, (pair_view x).1), pairs (drop (at + 1) (keyed (pairs_of ds))))
 an_entry xs ds at x e n = rw (← e) (ap pull (entries_next xs at x n))
-
--- a pair is seen as its key and the data of its value
-pub view_pair : (p : Pair) → pair_view p ≡ (p.key, view p.value)
-view_pair p =
-    ap pair_view (sym (roll-out-Pair p)) ∙ fold-roll-Pair Datum (MapKey × Datum) (List Datum) (List (MapKey × Datum)) value_step pair_step list_step map_step (out-Pair p)

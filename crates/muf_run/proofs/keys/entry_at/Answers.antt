@@ -2,7 +2,8 @@ use Rattle.std.proofs.Common.{rules, ◌≡◌, Some, None, sym, ap, refl, ◌�
 use Rattle.std.specs.Prelude.{slice_get}
 use Rattle.std.specs.Arc.{arc_value}
 use Rattle.muf_model.specs.View.{map_view}
-use Rattle.muf_run.proofs.Turning.{no_entry, an_entry, view_pair}
+use Rattle.muf_model.proofs.Views.{view_pair}
+use Rattle.muf_run.proofs.Turning.{no_entry, an_entry}
 use Rattle.muf_run.proofs.keys.entry_at.Goals as goal
 
 pub returns-in-None : goal.returns-in-None
