@@ -166,7 +166,11 @@ fn variables_by_number(rt: HostRuntime) -> Result<(), NoMemory> {
         (71, false),
     ];
     for (v, there) in rows {
-        assert_eq!(rt; frame.set_variable(VarId(v), Value::Int(8)), there, "at {v}");
+        assert_eq!(rt;
+            frame.set_variable(VarId(v), Value::Int(8)),
+            there,
+            "at {v}"
+        );
         assert_eq!(rt; integer(&frame, v), there.then_some(8), "at {v}");
     }
     assert_eq!(rt; integer(&frame, 0), Some(0));
