@@ -102,7 +102,11 @@ pub fn effective(db: &Db, program: Dbref) -> u8
 pub fn command_level(db: &Db, player: Dbref) -> u8
     ensures { result ≡ command_level db.now player }
 {
-    if level_at(db, player) >= MASTER { MASTER } else { 1 }
+    if level_at(db, player) >= MASTER {
+        MASTER
+    } else {
+        1
+    }
 }
 
 // Whether a program has the level and the user of the one that called it.
@@ -152,13 +156,7 @@ fn own_user(db: &Db, player: Dbref, trigger: Dbref, program: Dbref) -> Dbref
 /// of what triggered it where it has H, else the player; but the user of its caller where it has S and H and a wizard
 /// owns it. It takes no memory.
 #[tactic(auto, unfolding(muck_rights::specs::Levels::user))]
-pub fn user(
-    db: &Db,
-    player: Dbref,
-    trigger: Dbref,
-    program: Dbref,
-    callers: &[Dbref],
-) -> Dbref
+pub fn user(db: &Db, player: Dbref, trigger: Dbref, program: Dbref, callers: &[Dbref]) -> Dbref
     ensures { result ≡ user db.now player trigger program callers.now }
 {
     let mut running = program;

@@ -189,7 +189,11 @@ fn rename_denial(db: &Db, actor: &Actor, object: Dbref) -> Option<Denial>
     if !controls(db, actor, object) {
         return Some(Rule::P16.denies(object));
     }
-    when(is_player_at(db, object) && actor.level < 4, Rule::P17, object)
+    when(
+        is_player_at(db, object) && actor.level < 4,
+        Rule::P17,
+        object,
+    )
 }
 
 fn flag_denial(db: &Db, actor: &Actor, object: Dbref, flag: Flags) -> Option<Denial>

@@ -89,12 +89,7 @@ fn number_of(d: Dbref) -> u32
 
 /// The name of an object as a player sees it: its long form where the player controls it. What isn't there has none.
 #[tactic(auto, unfolding(muck_rights::specs::Levels::name_shown))]
-pub fn name_shown(
-    alloc: Global,
-    db: &Db,
-    player: Dbref,
-    d: Dbref,
-) -> Result<Vec<u8>, NoMemory>
+pub fn name_shown(alloc: Global, db: &Db, player: Dbref, d: Dbref) -> Result<Vec<u8>, NoMemory>
     ensures { IfOk result (λ text. (w : Live) → w.objects ≡ db.now → text.items ≡ name_shown player d w) }
 {
     let mut text = Vec::new(alloc);
