@@ -5,6 +5,8 @@ mod levels;
 mod locks;
 mod rules;
 mod shown;
+#[cfg(test)]
+mod tests;
 
 pub use levels::{MASTER, command_level, controls_as, level, user};
 pub use locks::opens_at;
