@@ -1,0 +1,55 @@
+-- What a guard does to the world that it lends.
+use Rattle.std.specs.Prelude.{◌≡◌, ◌⊎◌, List, None, Result, Ok, Err, MatchResult}
+use Rattle.std.specs.Option.{option_map_or}
+use Rattle.muck_model.specs.declared.dbref.Dbref.{Dbref}
+use Rattle.muck_model.specs.declared.memory.NoMemory.{NoMemory}
+use Rattle.muck_live.specs.declared.fault.DbFault.{DbFault}
+use Rattle.muck_live.specs.declared.fault.DbFault.TheVariants.{NoMemory as WantsMemory}
+use Rattle.muck_live.specs.Objects.{Entry, nothing, object_at}
+use Rattle.muck_live.specs.Lives.{Live, Change}
+use Rattle.muck_rights.specs.declared.act.Act.{Act}
+use Rattle.muck_rights.specs.Verdict.{verdict}
+use Rattle.muck_perm.specs.declared.rules.Pass.{Pass}
+use Rattle.muck_perm.specs.declared.guard.Guard.{Guard}
+
+-- the world that a guard has
+abbrev pub world_of : Guard → Live
+world_of g = record { objects = g.db.now; board = g.board.now }
+
+-- the guard with another world
+abbrev pub with_world : Live → Guard → Guard
+with_world w g = record g { db = record g.db { now = w.objects }; board = record g.board { now = w.board } }
+
+abbrev pub on_world : Change → Guard → Guard
+on_world f g = with_world (f (world_of g)) g
+
+-- the world of the guard has changed so, and nothing else of it
+abbrev pub Done : Change → Guard → Guard → Type 0
+Done f old new = new ≡ on_world f old
+
+-- it still holds the same places
+abbrev pub Same : Guard → Guard → Type 0
+Same old new = (new.db.ghost_name ≡ old.db.ghost_name) × (new.board.ghost_name ≡ old.board.ghost_name)
+
+-- the change was made, or memory was wanted
+abbrev pub Did : {X : Type 0} → Change → Guard → Guard → Result X NoMemory → Type 0
+Did f old new (Ok x) = Done f old new
+Did f old new (Err e) = Same old new
+
+-- leave for that act, by the actor that the guard has and in the world as it is
+abbrev pub IsLeave : Pass → Act → Guard → Type 0
+IsLeave pass act g = (pass.actor ≡ g.actor) × (pass.act.now ≡ act) × (verdict g.db.now g.actor act ≡ None)
+
+-- what a writer does that takes no memory: the change, or the first refusal of the world and nothing
+abbrev pub Makes : {X : Type 0} → Change → Result X DbFault → Guard → Guard → Result (Unit {0}) DbFault → Type 0
+Makes f (Ok x) old new result = (result ≡ Ok tt) × Done f old new
+Makes f (Err fault) old new result = (result ≡ Err fault) × (new ≡ old)
+
+-- one that may want memory
+abbrev pub Tries : {X : Type 0} → Change → Result X DbFault → Guard → Guard → Result (Unit {0}) DbFault → Type 0
+Tries f (Ok x) old new result = MatchResult result (λ u. Done f old new) (λ fault. (fault ≡ WantsMemory) × (new ≡ old))
+Tries f (Err fault) old new result = MatchResult result (λ u. ⊥) (λ found. ((found ≡ fault) ⊎ (found ≡ WantsMemory)) × (new ≡ old))
+
+-- the home of an object, nothing where it isn't there
+abbrev pub home_in : Dbref → List Entry → Dbref
+home_in x es = option_map_or (λ o. o.home) (object_at x es) nothing
