@@ -1,11 +1,19 @@
 -- What a guard does to the world that it lends.
-use Rattle.std.specs.Prelude.{◌≡◌, ◌⊎◌, List, None, Result, Ok, Err, MatchResult}
-use Rattle.std.specs.Option.{option_map_or}
+use Rattle.std.specs.Prelude.{◌≡◌, ◌⊎◌, ℕ, Bool, false, ◌||◌, List, Option, Some, None, Result, Ok, Err, MatchResult}
+use Rattle.std.specs.Option.{option_map_or, option_and_then}
+use Rattle.std.specs.FinMap.{get}
 use Rattle.muck_model.specs.declared.dbref.Dbref.{Dbref}
+use Rattle.muck_model.specs.declared.dbref.Kind.{Kind}
+use Rattle.muck_model.specs.declared.dbref.Kind.TheVariants.{Thing, Exit}
 use Rattle.muck_model.specs.declared.memory.NoMemory.{NoMemory}
+use Rattle.muck_prop.specs.declared.value.PropValue.{PropValue}
+use Rattle.muck_prop.specs.declared.value.PropValue.TheVariants.{Text, Number}
+use Rattle.muck_prop.specs.Paths.{path_fault, segments_of}
+use Rattle.muck_live.specs.declared.object.Object.{Object}
 use Rattle.muck_live.specs.declared.fault.DbFault.{DbFault}
 use Rattle.muck_live.specs.declared.fault.DbFault.TheVariants.{NoMemory as WantsMemory}
-use Rattle.muck_live.specs.Objects.{Entry, nothing, object_at}
+use Rattle.muck_live.specs.Objects.{Entry, dbref_of, nothing, home, same, object_at}
+use Rattle.muck_live.specs.Setting.{may_link, may_live}
 use Rattle.muck_live.specs.Lives.{Live, Change}
 use Rattle.muck_rights.specs.declared.act.Act.{Act}
 use Rattle.muck_rights.specs.Verdict.{verdict}
@@ -53,3 +61,29 @@ Tries f (Err fault) old new result = MatchResult result (λ u. ⊥) (λ found. (
 -- the home of an object, nothing where it isn't there
 abbrev pub home_in : Dbref → List Entry → Dbref
 home_in x es = option_map_or (λ o. o.home) (object_at x es) nothing
+
+-- what a maker does: the numbers of the new object and of its place go into the change
+abbrev pub Founds : Result (ℕ × ℕ) DbFault → (ℕ → ℕ → Change) → Guard → Guard → Result Dbref DbFault → Type 0
+Founds (Ok p) change old new result = MatchResult result (λ d. (d ≡ dbref_of p.0) × Done (change p.0 p.1) old new) (λ fault. (fault ≡ WantsMemory) × (new ≡ old))
+Founds (Err fault) change old new result = MatchResult result (λ d. ⊥) (λ found. ((found ≡ fault) ⊎ (found ≡ WantsMemory)) × (new ≡ old))
+
+-- an object is there and the test holds for its kind
+abbrev pub is_kind_at : (Kind → Bool) → List Entry → Dbref → Bool
+is_kind_at test es d = option_map_or (λ o. test o.kind) (object_at d es) false
+
+-- an exit may lead there
+abbrev pub may_lead : List Entry → Dbref → Bool
+may_lead es to = same to home || (same to nothing || is_kind_at (may_link Exit) es to)
+
+-- a thing may have its home there
+abbrev pub may_house : List Entry → Dbref → Bool
+may_house es to = is_kind_at (may_live Thing) es to
+
+-- the text that is kept, if it is one
+abbrev pub kept_text : PropValue → Option (List ℕ)
+kept_text (Text text) = Some text
+kept_text (Number n) = None
+
+-- the text that an object keeps at a path, which is given as text
+abbrev pub text_kept : List ℕ → Object → Option (List ℕ)
+text_kept path o = option_and_then kept_text (option_map_or (λ fault. None) (path_fault path) (get o.props (segments_of path)))

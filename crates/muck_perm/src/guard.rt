@@ -1,22 +1,27 @@
 // The world under an actor.
-ghost use Rattle.std.specs.Prelude.{◌≡◌, ◌<◌, ◌≤◌, length, true};
-ghost use Rattle.muck_live.specs.Lives.{tell, tell_player, tell_others, tell_all};
-ghost use Rattle.muck_live.specs.Objects.{home};
-ghost use Rattle.muck_live.specs.Moving.{move_check};
-ghost use Rattle.muck_live.specs.Setting.{any, checked, owner_check, link_check, home_check, level_check, lines_check};
-ghost use Rattle.muck_live.specs.Recycling.{recycle_check};
+ghost use Rattle.std.specs.Prelude.{◌≡◌, ◌≤◌, length, true, min};
+ghost use Rattle.std.specs.Option.{option_copied, option_and_then};
+ghost use Rattle.muck_model.specs.declared.dbref.Kind.{Kind};
 ghost use Rattle.muck_prop.specs.Paths.{class_of};
+ghost use Rattle.muck_live.specs.Objects.{home, object_at};
+ghost use Rattle.muck_live.specs.Lives.{tell, tell_player, tell_others, tell_all};
+ghost use Rattle.muck_live.specs.Moving.{move_check};
+ghost use Rattle.muck_live.specs.Making.{create_check};
+ghost use Rattle.muck_live.specs.Setting.{any, checked, owner_check, link_check, home_check, level_check, lines_check, with_link, with_home, with_level};
+ghost use Rattle.muck_live.specs.Recycling.{recycle_check};
 ghost use Rattle.muck_rights.specs.declared.act.Act.{Act};
-ghost use Rattle.muck_rights.specs.Verdict.{is_guarded};
-ghost use Rattle.muck_rights.specs.Changing.{named, owned_by, linked, homed, leveled, lines_kept, stored, unstored, moved_to, recycled_now};
+ghost use Rattle.muck_rights.specs.Levels.{level_at};
+ghost use Rattle.muck_rights.specs.Verdict.{is_guarded, lock_of_object};
+ghost use Rattle.muck_rights.specs.Changing.{named, owned_by, linked, homed, leveled, lines_kept, stored, unstored, moved_to, recycled_now, created_so};
 ghost use Rattle.muck_rights.specs.Licence.{at_hand};
-ghost use Rattle.muck_perm.specs.Guards.{Did, IsLeave, Makes, Tries, home_in};
+ghost use Rattle.muck_perm.specs.Guards.{Did, IsLeave, Makes, Tries, Founds, home_in, may_lead, may_house, kept_text, text_kept};
 
+use crate::levels::level_at;
 use crate::rules::Pass;
 use muck_board::Board;
 use muck_db::Db;
 use muck_live::DbFault;
-use muck_model::{Dbref, Line, LineList, NoMemory};
+use muck_model::{Dbref, Kind, Line, LineList, NoMemory};
 use muck_prop::{Path, PropValue};
 use muck_rights::{Act, Actor};
 use std::alloc::Global;
@@ -332,5 +337,114 @@ impl<'a> Guard<'a> {
     {
         let _ = pass;
         self.db.remove_prop(object, path)
+    }
+}
+
+impl<'a> Guard<'a> {
+    /// Makes a room that the user owns. `NoSuchObject`, `WrongKind` and `WorldFull` come as the world refuses it,
+    /// `NoMemory` at any place; nothing has changed then.
+    #[tactic(auto, using(crate::proofs::Founding::founds_plain))]
+    pub fn create_room(&mut self, pass: Pass, name: Line, place: Dbref) -> Result<Dbref, DbFault>
+        requires leave { IsLeave pass (Act.NewRoom place) self.old }
+        requires some { 1 ≤ length name }
+        requires short { length name ≤ 80 }
+        ensures { Founds (create_check Kind.Room self.old.actor.user place self.old.db.now) (λ n to. created_so n Kind.Room name self.old.actor.user to (λ o. o)) self.old self.new result }
+    {
+        let _ = pass;
+        self.db
+            .create(self.alloc, Kind::Room, name, self.actor.user, place)
+    }
+
+    /// Makes a thing that the user owns, with a home that a thing may have. It is refused as a room is.
+    #[tactic(auto, using(crate::proofs::Founding::founds_refused, crate::proofs::Founding::founds_thing))]
+    pub fn create_thing(
+        &mut self,
+        pass: Pass,
+        name: Line,
+        place: Dbref,
+        home: Dbref,
+    ) -> Result<Dbref, DbFault>
+        requires leave { IsLeave pass (Act.NewThing place) self.old }
+        requires some { 1 ≤ length name }
+        requires short { length name ≤ 80 }
+        requires home { may_house self.old.db.now home ≡ true }
+        ensures { Founds (create_check Kind.Thing self.old.actor.user place self.old.db.now) (λ n to. created_so n Kind.Thing name self.old.actor.user to (with_home home)) self.old self.new result }
+    {
+        let _ = pass;
+        let d = self
+            .db
+            .create(self.alloc, Kind::Thing, name, self.actor.user, place)?;
+        self.db.set_home(d, home)?;
+        Ok(d)
+    }
+
+    /// Makes an exit that the user owns, and links it to where an exit may lead. It is refused as a room is.
+    #[tactic(auto, using(crate::proofs::Founding::founds_refused, crate::proofs::Founding::founds_exit))]
+    pub fn create_exit(
+        &mut self,
+        pass: Pass,
+        name: Line,
+        place: Dbref,
+        to: Dbref,
+    ) -> Result<Dbref, DbFault>
+        requires leave { IsLeave pass (Act.NewExit place to) self.old }
+        requires some { 1 ≤ length name }
+        requires short { length name ≤ 80 }
+        requires leads { may_lead self.old.db.now to ≡ true }
+        ensures { Founds (create_check Kind.Exit self.old.actor.user place self.old.db.now) (λ n at. created_so n Kind.Exit name self.old.actor.user at (with_link to)) self.old self.new result }
+    {
+        let _ = pass;
+        let d = self
+            .db
+            .create(self.alloc, Kind::Exit, name, self.actor.user, place)?;
+        self.db.set_link(d, to)?;
+        Ok(d)
+    }
+
+    /// Makes a program that the user owns, of the user's level but at most 3. It is refused as a room is.
+    #[tactic(auto, using(crate::proofs::Founding::founds_refused, crate::proofs::Founding::founds_program))]
+    pub fn create_program(&mut self, pass: Pass, name: Line, place: Dbref) -> Result<Dbref, DbFault>
+        requires leave { IsLeave pass Act.NewProgram self.old }
+        requires some { 1 ≤ length name }
+        requires short { length name ≤ 80 }
+        ensures { Founds (create_check Kind.Program self.old.actor.user place self.old.db.now) (λ n to. created_so n Kind.Program name self.old.actor.user to (with_level (min (level_at self.old.db.now self.old.actor.user) 3))) self.old self.new result }
+    {
+        let _ = pass;
+        let level = level_at(self.db, self.actor.user).min(3);
+        let d = self
+            .db
+            .create(self.alloc, Kind::Program, name, self.actor.user, place)?;
+        self.db.set_level(d, level)?;
+        Ok(d)
+    }
+}
+
+impl<'a> Guard<'a> {
+    /// The text that an object keeps as its lock.
+    pub fn lock_text(&self, d: Dbref) -> Option<&Line>
+        ensures { option_copied result ≡ option_and_then kept_text (option_and_then lock_of_object (object_at d self.now.db.now)) }
+    {
+        self.message(d, b"_/lok")
+    }
+
+    /// The text that an object keeps at a path, as a message; `None` also where what is kept is a number, and where the
+    /// text is no path. It takes no memory.
+    pub fn message(&self, d: Dbref, path: &[u8]) -> Option<&Line>
+        ensures { option_copied result ≡ option_and_then (text_kept path.now) (object_at d self.now.db.now) }
+    {
+        match self.db.get(d) {
+            Some(object) => text_of(object.props().get_bytes(path)),
+            None => None,
+        }
+    }
+}
+
+// The text that is kept, if it is one.
+fn text_of(kept: Option<&PropValue>) -> Option<&Line>
+    ensures { option_copied result ≡ option_and_then kept_text (option_copied kept.entry) }
+{
+    match kept {
+        Some(PropValue::Text(text)) => Some(text),
+        _ => None,
     }
 }
