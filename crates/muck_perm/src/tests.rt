@@ -1,10 +1,11 @@
 // What no contract says: that the rules mean what they are meant to, just beside their bounds.
-ghost use Rattle.std.specs.Prelude.{◌≡◌, length, IfOk};
+ghost use Rattle.std.specs.Prelude.{◌≡◌, ◌≤◌, length, IfOk};
 
-use crate::{level, name_shown, user, verdict};
+use crate::{Guard, level, name_shown, user, verdict};
+use muck_board::Board;
 use muck_db::Db;
 use muck_live::{BUILDER, HAVEN, JUMP, LINK, SETUID};
-use muck_model::{Dbref, Flags, Kind, Line};
+use muck_model::{Dbref, Flags, Kind, Line, Tune};
 use muck_prop::read_path;
 use muck_rights::{Act, Actor};
 use std::alloc::Global;
@@ -179,5 +180,79 @@ fn shows_names(rt: HostRuntime) -> Result<(), Fail> {
     let db = world(alloc)?;
     assert!(rt; name_shown(alloc, &db, Dbref(2), Dbref(5))?.as_slice() == b"box(#5R)".as_slice());
     assert!(rt; name_shown(alloc, &db, Dbref(3), Dbref(5))?.as_slice() == b"box".as_slice());
+    Ok(())
+}
+
+const TUNE: Tune = Tune {
+    instr_slice: 1,
+    preempt_units: 2,
+    m1_units: 3,
+    m2_units: 4,
+    process_limit: 5,
+    player_processes: 6,
+    mpi_commands: 7,
+    dump_interval: 8,
+};
+
+// Whether there is leave to name the object, which is then named.
+fn renamed(guard: &mut Guard<'_>, object: Dbref, name: Line) -> Result<bool, Fail>
+    requires some { 1 ≤ length name }
+    requires short { length name ≤ 80 }
+{
+    let act = Act::Rename { object };
+    let actor = guard.actor();
+    match verdict(guard.db(), &actor, &act) {
+        Ok(pass) => {
+            guard.rename(pass, object, name)?;
+            Ok(true)
+        }
+        Err(_) => Ok(false),
+    }
+}
+
+const TWO: Actor = Actor {
+    level: 1,
+    user: Dbref(2),
+    player: Dbref(2),
+};
+
+#[test]
+fn writes_by_a_pass(rt: HostRuntime) -> Result<(), Fail> {
+    let alloc = rt.alloc();
+    let mut db = world(alloc)?;
+    let mut board = Board::new(alloc, 0, TUNE);
+    let mut guard = Guard::new(alloc, &mut db, &mut board, TWO);
+    assert!(rt; renamed(&mut guard, Dbref(4), a_name(alloc)?)?);
+    assert!(rt; !renamed(&mut guard, Dbref(3), a_name(alloc)?)?);
+    guard.tell_all(b"done")?;
+    assert!(rt; guard.lock_text(Dbref(4)).is_none());
+    Ok(())
+}
+
+// Whether there is leave to make a room, which is then made.
+fn dug(guard: &mut Guard<'_>, name: Line) -> Result<bool, Fail>
+    requires some { 1 ≤ length name }
+    requires short { length name ≤ 80 }
+{
+    let act = Act::NewRoom { place: Dbref(5) };
+    let actor = guard.actor();
+    match verdict(guard.db(), &actor, &act) {
+        Ok(pass) => {
+            let d = guard.create_room(pass, name, Dbref(5))?;
+            Ok(d.0 == 8)
+        }
+        Err(_) => Ok(false),
+    }
+}
+
+#[test]
+fn makes_by_a_pass(rt: HostRuntime) -> Result<(), Fail> {
+    let alloc = rt.alloc();
+    let mut db = world(alloc)?;
+    let mut board = Board::new(alloc, 0, TUNE);
+    let mut guard = Guard::new(alloc, &mut db, &mut board, TWO);
+    assert!(rt; !dug(&mut guard, a_name(alloc)?)?);
+    guard.swap_actor(Actor { level: 3, ..TWO });
+    assert!(rt; dug(&mut guard, a_name(alloc)?)?);
     Ok(())
 }
