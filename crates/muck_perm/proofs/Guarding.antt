@@ -79,7 +79,7 @@ move_numbers d to es p h = move_by es (number_in es d) (number_in es to) p h
 abbrev pub with_objects : List Entry → Guard → Guard
 with_objects es g = record g { db = record g.db { now = es } }
 
-at_found : (f : ℕ → List Entry → List Entry) (x : Dbref) (es : List Entry) (n : ℕ) → number_in es x ≡ Some n → f n es ≡ at_number f x es
+pub at_found : (f : ℕ → List Entry → List Entry) (x : Dbref) (es : List Entry) (n : ℕ) → number_in es x ≡ Some n → f n es ≡ at_number f x es
 at_found f x es n e = sym (ap (λ o. option_map_or (λ m. f m es) o es) e)
 
 pub makes_one : (f : ℕ → List Entry → List Entry) (x : Dbref) (check : Result ℕ DbFault) (g : Guard) (es : List Entry) (result : Result (Unit {0}) DbFault)

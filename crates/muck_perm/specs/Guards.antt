@@ -3,6 +3,7 @@ use Rattle.std.specs.Prelude.{◌≡◌, ◌⊎◌, ℕ, Bool, false, ◌||◌, 
 use Rattle.std.specs.Option.{option_map_or, option_and_then}
 use Rattle.std.specs.FinMap.{get}
 use Rattle.muck_model.specs.declared.dbref.Dbref.{Dbref}
+use Rattle.muck_model.specs.declared.dbref.Flags.{Flags}
 use Rattle.muck_model.specs.declared.dbref.Kind.{Kind}
 use Rattle.muck_model.specs.declared.dbref.Kind.TheVariants.{Thing, Exit}
 use Rattle.muck_model.specs.declared.memory.NoMemory.{NoMemory}
@@ -12,6 +13,7 @@ use Rattle.muck_prop.specs.Paths.{path_fault, segments_of}
 use Rattle.muck_live.specs.declared.object.Object.{Object}
 use Rattle.muck_live.specs.declared.fault.DbFault.{DbFault}
 use Rattle.muck_live.specs.declared.fault.DbFault.TheVariants.{NoMemory as WantsMemory}
+use Rattle.muck_live.specs.Flags.{no_flags}
 use Rattle.muck_live.specs.Objects.{Entry, dbref_of, nothing, home, same, object_at}
 use Rattle.muck_live.specs.Setting.{may_link, may_live}
 use Rattle.muck_live.specs.Lives.{Live, Change}
@@ -61,6 +63,10 @@ Tries f (Err fault) old new result = MatchResult result (λ u. ⊥) (λ found. (
 -- the home of an object, nothing where it isn't there
 abbrev pub home_in : Dbref → List Entry → Dbref
 home_in x es = option_map_or (λ o. o.home) (object_at x es) nothing
+
+-- the flags of an object, none where it isn't there
+abbrev pub flags_at : Dbref → List Entry → Flags
+flags_at x es = option_map_or (λ o. o.flags) (object_at x es) no_flags
 
 -- what a maker does: the numbers of the new object and of its place go into the change
 abbrev pub Founds : Result (ℕ × ℕ) DbFault → (ℕ → ℕ → Change) → Guard → Guard → Result Dbref DbFault → Type 0

@@ -5,23 +5,25 @@ ghost use Rattle.muck_model.specs.declared.dbref.Kind.{Kind};
 ghost use Rattle.muck_prop.specs.Paths.{class_of};
 ghost use Rattle.muck_live.specs.Objects.{home, object_at};
 ghost use Rattle.muck_live.specs.Lives.{tell, tell_player, tell_others, tell_all};
+ghost use Rattle.muck_live.specs.Flags.{with_flag, without_flag};
 ghost use Rattle.muck_live.specs.Moving.{move_check};
 ghost use Rattle.muck_live.specs.Making.{create_check};
-ghost use Rattle.muck_live.specs.Setting.{any, checked, owner_check, link_check, home_check, level_check, lines_check, with_link, with_home, with_level};
+ghost use Rattle.muck_live.specs.Setting.{any, checked, owner_check, link_check, home_check, flags_check, level_check, lines_check, with_link, with_home, with_level};
 ghost use Rattle.muck_live.specs.Recycling.{recycle_check};
 ghost use Rattle.muck_rights.specs.declared.act.Act.{Act};
 ghost use Rattle.muck_rights.specs.Levels.{level_at};
 ghost use Rattle.muck_rights.specs.Verdict.{is_guarded, lock_of_object};
-ghost use Rattle.muck_rights.specs.Changing.{named, owned_by, linked, homed, leveled, lines_kept, stored, unstored, moved_to, recycled_now, created_so};
+ghost use Rattle.muck_rights.specs.Changing.{named, owned_by, linked, homed, leveled, lines_kept, stored, unstored, moved_to, recycled_now, created_so, is_flag, flag_set, flag_cleared};
 ghost use Rattle.muck_rights.specs.Licence.{at_hand};
-ghost use Rattle.muck_perm.specs.Guards.{Did, IsLeave, Makes, Tries, Founds, home_in, may_lead, may_house, kept_text, text_kept};
+ghost use Rattle.muck_perm.specs.Guards.{Did, IsLeave, Makes, Tries, Founds, flags_at, home_in, may_lead, may_house, kept_text, text_kept};
 
+use crate::flags::{flags_at, with_flag, without_flag};
 use crate::levels::level_at;
 use crate::rules::Pass;
 use muck_board::Board;
 use muck_db::Db;
 use muck_live::DbFault;
-use muck_model::{Dbref, Kind, Line, LineList, NoMemory};
+use muck_model::{Dbref, Flags, Kind, Line, LineList, NoMemory};
 use muck_prop::{Path, PropValue};
 use muck_rights::{Act, Actor};
 use std::alloc::Global;
@@ -245,6 +247,31 @@ impl<'a> Guard<'a> {
     {
         let _ = pass;
         self.db.set_home(object, to)
+    }
+
+    /// Sets a flag. `NoSuchObject` comes exactly where the object isn't there; nothing has changed then.
+    #[tactic(auto, using(crate::proofs::Flagging::makes_flag_set))]
+    pub fn set_flag(&mut self, pass: Pass, object: Dbref, flag: Flags) -> Result<(), DbFault>
+        requires leave { IsLeave pass (Act.SetFlag object flag) self.old }
+        requires one { is_flag flag ≡ true }
+        ensures { Makes (flag_set object flag) (flags_check object (with_flag flag.0 (flags_at object self.old.db.now)) self.old.db.now) self.old self.new result }
+    {
+        let _ = pass;
+        let flags = with_flag(flag, flags_at(self.db, object));
+        self.db.set_flags(object, flags)
+    }
+
+    /// Clears a flag. `NoSuchObject` comes where the object isn't there, `WrongKind` where a thing would lose V while a
+    /// player is in it; nothing has changed then.
+    #[tactic(auto, using(crate::proofs::Flagging::makes_flag_cleared))]
+    pub fn clear_flag(&mut self, pass: Pass, object: Dbref, flag: Flags) -> Result<(), DbFault>
+        requires leave { IsLeave pass (Act.SetFlag object flag) self.old }
+        requires one { is_flag flag ≡ true }
+        ensures { Makes (flag_cleared object flag) (flags_check object (without_flag flag.0 (flags_at object self.old.db.now)) self.old.db.now) self.old self.new result }
+    {
+        let _ = pass;
+        let flags = without_flag(flag, flags_at(self.db, object));
+        self.db.set_flags(object, flags)
     }
 
     /// Gives a program or a player a level. `NoSuchObject` comes where it isn't there, `WrongKind` for another kind and

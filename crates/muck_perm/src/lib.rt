@@ -1,6 +1,7 @@
 //! Who may do what, in code: the level and the user of a program, and the verdict on an act.
 #![tactic(auto)]
 
+mod flags;
 mod guard;
 mod levels;
 mod locks;
