@@ -21,5 +21,5 @@ mod walks;
 
 pub use chain::Chain;
 pub use db::Db;
-pub use persisted::Persisted;
 pub use muck_live::{Changed, DbFault, Mark, Object};
+pub use persisted::Persisted;

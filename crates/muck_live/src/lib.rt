@@ -10,6 +10,8 @@ mod mark;
 mod object;
 
 pub use fault::DbFault;
-pub use flag::{BUILDER, CHOWN, DARK, HAVEN, JUMP, LINK, QUELL, SETUID, VEHICLE, WIZARD, flag_of, has_flag};
+pub use flag::{
+    BUILDER, CHOWN, DARK, HAVEN, JUMP, LINK, QUELL, SETUID, VEHICLE, WIZARD, flag_of, has_flag,
+};
 pub use mark::{Changed, Mark};
 pub use object::Object;

@@ -9,9 +9,9 @@ mod part;
 mod path;
 mod printer;
 mod reader;
-mod text;
 #[cfg(test)]
 mod tests;
+mod text;
 
 pub use fault::LockFault;
 pub use key::Finder;

@@ -61,12 +61,7 @@ impl Model for World {
 impl World {
     /// The world of these objects and parameters at this second, in which nobody is connected and nothing has happened
     /// yet; its random numbers begin with `start`.
-    pub fn boot(
-        alloc: Global,
-        from: Persisted,
-        moment: u64,
-        start: u64,
-    ) -> Result<Self, NoMemory>
+    pub fn boot(alloc: Global, from: Persisted, moment: u64, start: u64) -> Result<Self, NoMemory>
         ensures { IfOk result (λ w. w ≡ record { start = booted from.db from.tune moment start; entries = [] }) }
     {
         let Persisted { db, tune } = from;
@@ -93,7 +88,15 @@ impl World {
         ensures { IfOk result (λ w. w ≡ record { start = starting; entries = [] }) }
     {
         let db = Db::starting(alloc)?;
-        World::boot(alloc, Persisted { db, tune: FIRST_TUNE }, 0, 0)
+        World::boot(
+            alloc,
+            Persisted {
+                db,
+                tune: FIRST_TUNE,
+            },
+            0,
+            0,
+        )
     }
 
     /// The history, for contracts alone. It takes no memory.

@@ -4,9 +4,9 @@
 #![tactic(auto)]
 
 mod outcome;
-mod word;
 #[cfg(test)]
 mod tests;
+mod word;
 mod words;
 
 pub use outcome::Outcome;

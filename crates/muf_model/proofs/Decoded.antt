@@ -1,10 +1,10 @@
 -- A frame stands for no other state than the one that is read off it.
-use Rattle.std.proofs.Common.{◌≡◌, ℕ, List, [], ◌∷◌, length, ap, refl, sym, subst}
+use Rattle.std.proofs.Common.{◌≡◌, List, ◌∷◌, ap, refl, sym, subst}
 use Rattle.std.proofs.Math.Seq.{drop-append_seam, take-append_seam}
 use Rattle.muf_model.specs.declared.code.Code.{Code}
 use Rattle.muf_model.specs.Datum.{Datum}
-use Rattle.muf_model.specs.Tree.{Block, End, closes}
-use Rattle.muf_model.specs.Source.{Turns, Program, Mark, looping, trying, calling, entering, Source}
+use Rattle.muf_model.specs.Tree.{closes}
+use Rattle.muf_model.specs.Source.{Mark, looping, trying, calling, entering, Source}
 use Rattle.muf_model.specs.Flat.{FlatMark, Flat, marks_of, decode}
 use Rattle.muf_model.specs.Fits.{MarksFit, none, loops, tries, calls, enters, FitsState, fit, Fits}
 use Rattle.muf_model.proofs.Unique.{remains_read, tree_read}

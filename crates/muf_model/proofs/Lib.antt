@@ -1,3 +1,4 @@
+mod Entries
 pub mod Decoded
 pub mod FaultTexts
 pub mod Settling
@@ -6,3 +7,4 @@ pub mod Truth
 pub mod Unique
 pub mod Views
 mod Worked
+pub mod Places

@@ -1,5 +1,5 @@
 -- What each value is seen as.
-use Rattle.std.proofs.Common.{◌≡◌, ℕ, List, ap, sym, ◌∙◌}
+use Rattle.std.proofs.Common.{◌≡◌, ℕ, List, Vec, map, ap, sym, ◌∙◌}
 use Rattle.std.specs.Prelude.{ℤ}
 use Rattle.std.specs.Arc.{arc_value}
 use Rattle.std.specs.declared.sync.Arc.{Arc}
@@ -9,12 +9,13 @@ use Rattle.muck_model.specs.declared.lock.Lock.{Lock}
 use Rattle.muf_model.specs.declared.code.VarId.{VarId}
 use Rattle.muf_model.specs.declared.value.MapKey.{MapKey}
 use Rattle.muf_model.specs.declared.value.Value.TheVariants.{Int, Str, Ref, Var, Addr, Key, Items, Dict, Mark, rolls-Int, rolls-Str, rolls-Ref, rolls-Var, rolls-Addr, rolls-Key, rolls-Items, rolls-Dict, rolls-Mark}
+use Rattle.muf_model.specs.declared.value.Pair.{Pair, roll-out-Pair, fold-roll-Pair, out-Pair}
 use Rattle.muf_model.specs.declared.value.ValueList.{ValueList}
-use Rattle.muf_model.specs.declared.value.ValueMap.{ValueMap}
+use Rattle.muf_model.specs.declared.value.ValueMap.{ValueMap, roll-ValueMap, out-ValueMap, roll-out-ValueMap, fold-roll-ValueMap}
 use Rattle.muf_model.specs.declared.value.Value.TheOpen.{Value-F}
 use Rattle.muf_model.specs.declared.value.Value.TheFolds.{fold-roll-Value}
 use Rattle.muf_model.specs.Datum.{Datum, int, text, object, variable, address, lock, items, dict, mark, data_of, pairs_of}
-use Rattle.muf_model.specs.View.{view, list_view, map_view, value_step, pair_step, list_step, map_step}
+use Rattle.muf_model.specs.View.{view, pair_view, list_view, map_view, value_step, pair_step, list_step, map_step}
 
 pub view_int : (n : ℤ) → view (Int n) ≡ int n
 view_int n = ap view (sym (rolls-Int n)) ∙ fold-roll-Value Datum (MapKey × Datum) (List Datum) (List (MapKey × Datum)) value_step pair_step list_step map_step (Value-F.Int n)
@@ -42,3 +43,16 @@ view_dict m = ap view (sym (rolls-Dict m)) ∙ fold-roll-Value Datum (MapKey × 
 
 pub view_mark : view Mark ≡ mark
 view_mark = ap view (sym rolls-Mark) ∙ fold-roll-Value Datum (MapKey × Datum) (List Datum) (List (MapKey × Datum)) value_step pair_step list_step map_step Value-F.Mark
+
+-- a pair is seen as its key and the data of its value
+pub view_pair : (p : Pair) → pair_view p ≡ (p.key, view p.value)
+view_pair p =
+    ap pair_view (sym (roll-out-Pair p)) ∙ fold-roll-Pair Datum (MapKey × Datum) (List Datum) (List (MapKey × Datum)) value_step pair_step list_step map_step (out-Pair p)
+
+-- a dictionary is seen as its pairs are
+pub view_pairs : (ps : Vec Pair Global) → map_view (roll-ValueMap (record { pairs = ps })) ≡ map pair_view ps.items
+view_pairs ps = fold-roll-ValueMap Datum (MapKey × Datum) (List Datum) (List (MapKey × Datum)) value_step pair_step list_step map_step (record { pairs = ps })
+
+pub view_entries : (m : ValueMap) → map pair_view (out-ValueMap m).pairs.items ≡ map_view m
+view_entries m =
+    sym (ap map_view (sym (roll-out-ValueMap m)) ∙ fold-roll-ValueMap Datum (MapKey × Datum) (List Datum) (List (MapKey × Datum)) value_step pair_step list_step map_step (out-ValueMap m))

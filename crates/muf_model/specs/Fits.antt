@@ -1,5 +1,5 @@
 -- Which codes fit a frame, and which source state it stands for with them.
-use Rattle.std.specs.Prelude.{ℕ, List, [], ◌∷◌, ◌++◌, length, ℤ}
+use Rattle.std.specs.Prelude.{ℕ, List, [], ◌∷◌, ◌++◌, length}
 use Rattle.muf_model.specs.declared.code.Closer.{Closer}
 use Rattle.muf_model.specs.declared.code.Code.{Code}
 use Rattle.muf_model.specs.Datum.{Datum}

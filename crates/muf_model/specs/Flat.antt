@@ -2,7 +2,6 @@
 use Rattle.std.specs.Prelude.{ℕ, List, [], ◌∷◌, take, drop, ℤ}
 use Rattle.muf_model.specs.declared.code.Code.{Code}
 use Rattle.muf_model.specs.Datum.{Datum}
-use Rattle.muf_model.specs.Tree.{Tree}
 use Rattle.muf_model.specs.Decode.{Rest, remains_at, end_closer, end_line, tree_of}
 use Rattle.muf_model.specs.Source.{Turns, Program, Mark, looping, trying, calling, entering, Owned, Source}
 

@@ -1,5 +1,5 @@
 -- Truth, weight and nesting of values, and the order of keys.
-use Rattle.std.specs.Prelude.{ℕ, zero, suc, ◌+◌, max, List, [], ◌∷◌, Bool, true, false, not, nat_lt, int_lt, if◌then◌else◌, pos, negsuc}
+use Rattle.std.specs.Prelude.{ℕ, zero, suc, ◌+◌, max, List, [], ◌∷◌, Option, Some, None, Bool, true, false, not, nat_lt, int_lt, if◌then◌else◌, pos, negsuc}
 use Rattle.std.specs.Ordering.{nat_cmp, is_lt}
 use Rattle.std.specs.Cmp.Lexicographic.{slice_cmp}
 use Rattle.muck_model.specs.declared.lock.Lock.{Lock}
@@ -72,6 +72,10 @@ abbrev mutual
   pub pairs_nesting : Pairs → ℕ
   pairs_nesting no_pairs = 0
   pairs_nesting (pair k d ps) = max (nesting d) (pairs_nesting ps)
+
+-- a number that is at most so much
+abbrev pub within : ℕ → ℕ → Option ℕ
+within most n = if nat_lt most n then None else Some n
 
 -- texts by their bytes, a text before those that it begins
 abbrev pub text_below : List ℕ → List ℕ → Bool

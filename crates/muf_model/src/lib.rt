@@ -2,7 +2,10 @@
 #![tactic(auto)]
 
 mod code;
+mod dicts;
 mod fault;
+mod lists;
+mod measures;
 mod prims;
 mod shared;
 #[cfg(test)]
@@ -22,6 +25,12 @@ pub type Prim = Primitive;
 
 /// The most items on a stack of values.
 pub const STACK_MOST: usize = 1024;
+
+/// The most that a value may weigh.
+pub const WEIGHT_MOST: usize = 65_536;
+
+/// The most that lists and dictionaries may be nested.
+pub const NESTING_MOST: usize = 64;
 
 /// The most calls of words that run at once in a process, its first word among them.
 pub const CALLS_MOST: usize = 512;

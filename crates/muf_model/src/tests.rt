@@ -165,3 +165,100 @@ fn code_by_place(rt: HostRuntime) -> Result<(), NoMemory> {
     assert!(rt; code.get(1).is_none());
     Ok(())
 }
+
+// A list of these values.
+fn list_of<const N: usize>(alloc: Global, values: [Value; N]) -> Result<Value, NoMemory> {
+    let items = Vec::from_array(alloc, values)?;
+    Ok(Value::Items(Arc::new(alloc, ValueList::of(items))?))
+}
+
+// The dictionary of one value.
+fn dict_of(alloc: Global, value: Value) -> Result<Value, NoMemory> {
+    let mut pairs = ValueMap::new(alloc)?;
+    pairs.put(MapKey::Number(7), value)?;
+    Ok(Value::Dict(Arc::new(alloc, pairs)?))
+}
+
+#[test]
+fn weights_and_nesting(rt: HostRuntime) -> Result<(), NoMemory> {
+    let alloc = rt.alloc();
+    let inner = list_of(alloc, [Value::Int(2), Value::Mark])?;
+    let outer = list_of(alloc, [Value::Int(1), inner.copy()?])?;
+    // A value, its weight and its nesting.
+    let rows = [
+        (Value::Int(5), 1, 0),
+        (Value::Str(text(alloc, b"long")?), 1, 0),
+        (list_of(alloc, [])?, 1, 1),
+        (inner, 3, 1),
+        (outer.copy()?, 5, 2),
+        (dict_of(alloc, outer)?, 6, 3),
+    ];
+    for (value, weight, nesting) in rows {
+        assert_eq!(rt; value.weight(65536), Some(weight));
+        assert_eq!(rt; value.weight(weight), Some(weight));
+        assert_eq!(rt; value.weight(weight - 1), None);
+        assert_eq!(rt; value.nesting(64), Some(nesting));
+        assert_eq!(rt; value.nesting(nesting), Some(nesting));
+        if nesting > 0 {
+            assert_eq!(rt; value.nesting(nesting - 1), None);
+        }
+    }
+    Ok(())
+}
+
+// The integer that a value is.
+fn integer(value: Option<&Value>) -> Option<i32> {
+    match value {
+        Some(Value::Int(n)) => Some(*n),
+        _ => None,
+    }
+}
+
+#[test]
+fn lists_written_to(rt: HostRuntime) -> Result<(), NoMemory> {
+    let alloc = rt.alloc();
+    let mut list = ValueList::new(alloc)?;
+    list.push(Value::Int(4))?;
+    list.push(Value::Int(5))?;
+    let shared = Arc::new(alloc, list)?;
+    let mut own = ValueList::unshare(shared.clone()?, alloc)?;
+    if own.len() == 2 {
+        own.put(0, Value::Int(9));
+    }
+    own.push(Value::Int(6))?;
+    assert_eq!(rt; integer(own.get(0)), Some(9));
+    assert_eq!(rt; integer(own.get(2)), Some(6));
+    assert_eq!(rt; integer(own.get(3)), None);
+    assert_eq!(rt; integer(shared.get(0)), Some(4));
+    assert_eq!(rt; shared.len(), 2);
+    assert_eq!(rt; ValueList::unshare(shared, alloc)?.len(), 2);
+    Ok(())
+}
+
+#[test]
+fn dictionaries_written_to(rt: HostRuntime) -> Result<(), NoMemory> {
+    let alloc = rt.alloc();
+    let mut dict = ValueMap::new(alloc)?;
+    dict.put(MapKey::Name(text(alloc, b"b")?), Value::Int(1))?;
+    dict.put(MapKey::Number(5), Value::Int(2))?;
+    dict.put(MapKey::Name(text(alloc, b"a")?), Value::Int(3))?;
+    dict.put(MapKey::Number(-1), Value::Int(4))?;
+    let shared = Arc::new(alloc, dict)?;
+    let mut own = ValueMap::unshare(shared.clone()?, alloc)?;
+    own.put(MapKey::Number(5), Value::Int(6))?;
+    assert_eq!(rt; own.len(), 4);
+    assert_eq!(rt; integer(own.get(&MapKey::Number(5))), Some(6));
+    assert_eq!(rt; integer(own.get(&MapKey::Number(0))), None);
+    assert_eq!(rt;
+        integer(own.get(&MapKey::Name(text(alloc, b"a")?))),
+        Some(3)
+    );
+    assert_eq!(rt; integer(shared.get(&MapKey::Number(5))), Some(2));
+    for (at, want) in [4, 6, 3, 1].iter().enumerate() {
+        assert_eq!(rt;
+            integer(own.as_slice().get(at).map(|p| &p.value)),
+            Some(*want)
+        );
+    }
+    Ok(())
+}

@@ -27,14 +27,14 @@ pub enum Value {
 #[cycle(value)]
 #[derive(Drop)]
 pub struct ValueList {
-    items: Vec<Value>,
+    pub(crate) items: Vec<Value>,
 }
 
 /// The pairs of a dictionary, by rising key.
 #[cycle(value)]
 #[derive(Drop)]
 pub struct ValueMap {
-    pairs: Vec<Pair>,
+    pub(crate) pairs: Vec<Pair>,
 }
 
 /// A key with its value.

@@ -1,0 +1,6 @@
+pub mod Tops
+pub mod Alike
+pub mod Owners
+pub mod Unguarded
+pub mod Data
+pub mod Binding

@@ -1,0 +1,12 @@
+use Rattle.std.proofs.Common.{◌≡◌, ◌≤◌, ◌-◌, length, map, take, vec_len, vec_capacity}
+use Rattle.muf_model.specs.View.{view}
+use Rattle.muf_frame.specs.Shown.{flat_mark, flat_owned, outer_of}
+use Rattle.muf_frame.proofs.copies.copy_owned.Given as goal
+
+abbrev pub invariant-loop-at : goal.invariant-loop-at
+invariant-loop-at l =
+    (l.at ≤ length l.fn.owned)
+    × (map flat_owned l.copies.items ≡ map flat_owned (take l.at l.fn.owned))
+
+abbrev pub decreases-loop-at : goal.decreases-loop-at
+decreases-loop-at l = length l.fn.owned - l.at

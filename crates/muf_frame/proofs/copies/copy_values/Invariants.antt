@@ -1,0 +1,14 @@
+use Rattle.std.proofs.Common.{◌≡◌, ◌≤◌, ◌-◌, length, map, take, vec_len, vec_capacity}
+use Rattle.muf_model.specs.View.{view}
+use Rattle.muf_frame.specs.Shown.{flat_mark, flat_owned, outer_of}
+use Rattle.muf_frame.proofs.copies.copy_values.Given as goal
+
+abbrev pub invariant-loop-at : goal.invariant-loop-at
+invariant-loop-at l =
+    (l.at ≤ length l.fn.values)
+    × (map view l.copies.items ≡ map view (take l.at l.fn.values))
+    × (vec_len l.copies ≡ l.at)
+    × (l.fn.room ≤ vec_capacity l.copies)
+
+abbrev pub decreases-loop-at : goal.decreases-loop-at
+decreases-loop-at l = length l.fn.values - l.at

@@ -1,0 +1,7 @@
+use Rattle.std.proofs.Common.{◌≡◌, refl, ap, subst, sym, ◌∙◌}
+use Rattle.std.proofs.lemmas.List.{length-reverse}
+use Rattle.muf_frame.proofs.Tops.{below_height}
+use Rattle.muf_frame.proofs.frame.Frame.cut.Goals as goal
+
+pub returns-clause-value : goal.returns-clause-value
+returns-clause-value c = rw (c.truncate.ensures.items, below_height, ← c.self.view_is, length-reverse) refl

@@ -1,0 +1,4 @@
+pub mod Shown
+pub mod Moves
+pub mod Owners
+pub mod Answers

@@ -1,0 +1,69 @@
+// Items of a kind.
+ghost use Rattle.std.specs.Prelude.{◌≡◌, option_map};
+ghost use Rattle.muf_model.specs.View.{view};
+ghost use Rattle.muf_frame.specs.Shown.{Shown, flat};
+ghost use Rattle.muf_frame.specs.Answers.{as_int, as_object, int_at, object_at};
+
+use crate::Frame;
+use muck_model::Dbref;
+use muf_model::Value;
+
+// The integer that a value is.
+#[tactic(auto, using(crate::proofs::Data::item_steps))]
+fn as_int(value: &Value) -> Option<i32>
+    ensures { result ≡ as_int (view value.now) }
+{
+    match value {
+        Value::Int(n) => Some(*n),
+        Value::Str(_)
+        | Value::Ref(_)
+        | Value::Var(_)
+        | Value::Addr { .. }
+        | Value::Key(_)
+        | Value::Items(_)
+        | Value::Dict(_)
+        | Value::Mark => None,
+    }
+}
+
+// The object that a value is.
+#[tactic(auto, using(crate::proofs::Data::item_steps))]
+fn as_object(value: &Value) -> Option<Dbref>
+    ensures { option_map (λ d. d.0) result ≡ as_object (view value.now) }
+{
+    match value {
+        Value::Ref(d) => Some(*d),
+        Value::Int(_)
+        | Value::Str(_)
+        | Value::Var(_)
+        | Value::Addr { .. }
+        | Value::Key(_)
+        | Value::Items(_)
+        | Value::Dict(_)
+        | Value::Mark => None,
+    }
+}
+
+impl Frame {
+    /// The integer at this depth below the top; `None` exactly where another item or none is there.
+    #[tactic(auto, using(crate::proofs::Data::list_steps))]
+    pub fn int_at(&self, depth: usize) -> Option<i32>
+        ensures { result ≡ int_at depth (flat self.now).stack }
+    {
+        match self.peek(depth) {
+            Some(value) => as_int(value),
+            None => None,
+        }
+    }
+
+    /// The object at this depth below the top; `None` exactly where another item or none is there.
+    #[tactic(auto, using(crate::proofs::Data::list_steps))]
+    pub fn object_at(&self, depth: usize) -> Option<Dbref>
+        ensures { option_map (λ d. d.0) result ≡ object_at depth (flat self.now).stack }
+    {
+        match self.peek(depth) {
+            Some(value) => as_object(value),
+            None => None,
+        }
+    }
+}

@@ -1,0 +1,46 @@
+-- The entries of a dictionary.
+use Rattle.std.specs.Prelude.{◌≡◌, ℕ, zero, suc, Bool, true, false, List, [], ◌∷◌, Option, Some, None, if◌then◌else◌, bytes_eq}
+use Rattle.std.specs.Ordering.{int_eq}
+use Rattle.muf_model.specs.declared.value.MapKey.{MapKey}
+use Rattle.muf_model.specs.declared.value.MapKey.TheVariants.{Number, Name}
+use Rattle.muf_model.specs.Datum.{Datum}
+use Rattle.muf_model.specs.Measures.{key_below}
+
+-- whether two keys are one
+abbrev pub key_same : MapKey → MapKey → Bool
+key_same (Number m) (Number n) = int_eq m n
+key_same (Number m) (Name t) = false
+key_same (Name s) (Number n) = false
+key_same (Name s) (Name t) = bytes_eq s t
+
+-- the value of a key
+abbrev pub entry_of : MapKey → List (MapKey × Datum) → Option Datum
+entry_of k [] = None
+entry_of k ((l, x) ∷ es) = if key_same k l then Some x else entry_of k es
+
+-- the entries with this value of a key, which stands before the first greater key where it is new
+abbrev pub with_entry : MapKey → Datum → List (MapKey × Datum) → List (MapKey × Datum)
+with_entry k x [] = (k, x) ∷ []
+with_entry k x ((l, y) ∷ es) =
+    if key_same k l then (k, x) ∷ es
+    else (if key_below k l then (k, x) ∷ (l, y) ∷ es else (l, y) ∷ with_entry k x es)
+
+-- a key is below the first of the entries
+abbrev pub IsAhead : MapKey → List (MapKey × Datum) → Type 0
+IsAhead k [] = Unit {0}
+IsAhead k ((l, x) ∷ es) = key_below k l ≡ true
+
+-- each key is below the next one
+abbrev pub Rising : List (MapKey × Datum) → Type 0
+Rising [] = Unit {0}
+Rising ((k, x) ∷ es) = IsAhead k es × Rising es
+
+-- the place of a key, or the one where it belongs
+abbrev pub entry_place : MapKey → List (MapKey × Datum) → ℕ
+entry_place k [] = zero
+entry_place k ((l, x) ∷ es) = if key_same k l then 0 else (if key_below k l then 0 else suc (entry_place k es))
+
+-- whether an entry is there and of this key
+abbrev pub has_key : MapKey → Option (MapKey × Datum) → Bool
+has_key k (Some e) = key_same k e.0
+has_key k None = false

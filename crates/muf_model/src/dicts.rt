@@ -1,0 +1,165 @@
+// Dictionaries of values.
+ghost use Rattle.std.specs.Prelude.{◌≡◌, ◌≤◌, ◌<◌, [], ℕ, false, Some, IfOk, OnOk, OnErr, IfSome, IsTrue, map, length, slice_get};
+ghost use Rattle.std.specs.Option.{option_map, option_copied};
+ghost use Rattle.std.specs.Arc.{arc_value};
+ghost use Rattle.muf_model.specs.declared.value.MapKey.{MapKey as Key};
+ghost use Rattle.muf_model.specs.View.{view, pair_view, map_view};
+ghost use Rattle.muf_model.specs.Entries.{key_same, entry_of, with_entry, entry_place, has_key, Rising};
+
+use crate::{MapKey, Pair, Value, ValueMap};
+use muck_model::NoMemory;
+use std::alloc::Global;
+use std::sync::Arc;
+
+impl MapKey {
+    /// Whether the other key is the same one.
+    pub fn is_same(&self, other: &MapKey) -> bool
+        ensures { result ≡ key_same self.now other.now }
+    {
+        match (self, other) {
+            (MapKey::Number(a), MapKey::Number(b)) => *a == *b,
+            (MapKey::Name(a), MapKey::Name(b)) => a.as_slice() == b.as_slice(),
+            (MapKey::Number(_), MapKey::Name(_)) | (MapKey::Name(_), MapKey::Number(_)) => false,
+        }
+    }
+}
+
+impl Pair {
+    /// The same key with a copy of its value.
+    pub fn copy(&self) -> Result<Pair, NoMemory>
+        ensures { IfOk result (λ pair. pair_view pair ≡ pair_view self.now) }
+    {
+        Ok(Pair {
+            key: self.key.copy()?,
+            value: self.value.copy()?,
+        })
+    }
+}
+
+// The place of a key among entries, or the one where it belongs.
+fn entry_place(pairs: &[Pair], key: &MapKey) -> usize
+    ensures place { result ≡ entry_place key.now (map pair_view pairs.now) }
+    ensures most { result ≤ length pairs.now }
+{
+    let mut at = 0;
+    while at < pairs.len() {
+        if key.is_same(&pairs[at].key) || key.is_below(&pairs[at].key) {
+            return at;
+        }
+        at += 1;
+    }
+    at
+}
+
+// The value of a key among entries.
+fn value_of<'a>(pairs: &'a [Pair], key: &MapKey) -> Option<&'a Value>
+    ensures { option_map view (option_copied result) ≡ entry_of key.now (map pair_view pairs.now) }
+{
+    let mut at = 0;
+    while at < pairs.len() {
+        if key.is_same(&pairs[at].key) {
+            return Some(&pairs[at].value);
+        }
+        at += 1;
+    }
+    None
+}
+
+// The same entries.
+fn copy_pairs(alloc: Global, pairs: &[Pair]) -> Result<Vec<Pair>, NoMemory>
+    ensures { IfOk result (λ copies. map pair_view copies.items ≡ map pair_view pairs.now) }
+{
+    let mut copies = Vec::with_capacity(alloc, pairs.len())?;
+    let mut at = 0;
+    while at < pairs.len() {
+        copies.push(pairs[at].copy()?)?;
+        at += 1;
+    }
+    Ok(copies)
+}
+
+// The pair at a place.
+fn pair_at(pairs: &[Pair], at: usize) -> Option<&Pair>
+    ensures value { option_copied result ≡ slice_get pairs.now at }
+    ensures there { IfSome result (λ _. at < length pairs.now) }
+{
+    pairs.get(at)
+}
+
+// Whether an entry of a key stands at a place.
+fn has_key(pairs: &[Pair], at: usize, key: &MapKey) -> bool
+    ensures value { result ≡ has_key key.now (slice_get (map pair_view pairs.now) at) }
+    ensures there { IsTrue result → at < length pairs.now }
+{
+    match pair_at(pairs, at) {
+        Some(pair) => key.is_same(&pair.key),
+        None => false,
+    }
+}
+
+// The entries with this value of a key.
+fn put_entry(pairs: &mut Vec<Pair>, key: MapKey, value: Value) -> Result<(), NoMemory>
+    ensures ok { OnOk result (map pair_view pairs.new.items ≡ with_entry key (view value) (map pair_view pairs.old.items)) }
+    ensures err { OnErr result (pairs.new.items ≡ pairs.old.items) }
+{
+    let at = entry_place(pairs, &key);
+    if has_key(pairs, at, &key) {
+        pairs[at] = Pair { key, value };
+        return Ok(());
+    }
+    pairs.insert(at, Pair { key, value })?;
+    Ok(())
+}
+
+impl ValueMap {
+    /// The empty dictionary.
+    pub fn new(alloc: Global) -> Result<ValueMap, NoMemory>
+        ensures { IfOk result (λ dict. map_view dict ≡ []) }
+    {
+        Ok(ValueMap::of(Vec::new(alloc)))
+    }
+
+    /// The count of its entries.
+    pub fn len(&self) -> usize
+        ensures { result ≡ length (map_view self.now) }
+    {
+        self.pairs.len()
+    }
+
+    /// The value of a key; `None` exactly where the key has none.
+    pub fn get(&self, key: &MapKey) -> Option<&Value>
+        ensures { option_map view (option_copied result) ≡ entry_of key.now (map_view self.now) }
+    {
+        value_of(&self.pairs, key)
+    }
+
+    /// Gives a key a value, in place of the one that it has; a new key goes before the first greater one, so that rising
+    /// keys stay so. After `NoMemory` the dictionary is as before, and key and value are dropped.
+    pub fn put(&mut self, key: MapKey, value: Value) -> Result<(), NoMemory>
+        ensures entries { OnOk result (map_view self.new ≡ with_entry key (view value) (map_view self.old)) }
+        ensures found { OnOk result (entry_of key (map_view self.new) ≡ Some (view value)) }
+        ensures others { OnOk result ((k : Key) → key_same k key ≡ false → entry_of k (map_view self.new) ≡ entry_of k (map_view self.old)) }
+        ensures rising { OnOk result (Rising (map_view self.old) → Rising (map_view self.new)) }
+        ensures err { OnErr result (map_view self.new ≡ map_view self.old) }
+    {
+        put_entry(&mut self.pairs, key, value)?;
+        Ok(())
+    }
+
+    /// A dictionary of the same entries, each of whose values shares what it can with the one here.
+    pub fn copy(&self, alloc: Global) -> Result<ValueMap, NoMemory>
+        ensures { IfOk result (λ dict. map_view dict ≡ map_view self.now) }
+    {
+        Ok(ValueMap::of(copy_pairs(alloc, &self.pairs)?))
+    }
+
+    /// The dictionary itself where nobody else shares it, else a copy, for writing. No sharer sees what is written.
+    pub fn unshare(shared: Arc<ValueMap>, alloc: Global) -> Result<ValueMap, NoMemory>
+        ensures { IfOk result (λ dict. map_view dict ≡ map_view (arc_value shared)) }
+    {
+        match Arc::try_unwrap(shared) {
+            Ok(dict) => Ok(dict),
+            Err(shared) => shared.copy(alloc),
+        }
+    }
+}

@@ -1,0 +1,4 @@
+pub mod Lockstep
+pub mod Running
+pub mod Stacks
+pub mod Turning

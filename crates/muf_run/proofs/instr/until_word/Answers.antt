@@ -1,0 +1,6 @@
+use Rattle.muf_run.specs.Machine as machine
+use Rattle.muf_run.proofs.instr.until_word.Goals as goal
+
+pub returns-in-Err : goal.returns-in-Err
+returns-in-Err c =
+    rw (c.test.ensures (λ t. machine.leave_loop t t.marks) (λ t. machine.next_turn t t.marks), c.in-Err.is) c.fault.ensures

@@ -1,0 +1,14 @@
+//! The machine that runs the code of a program.
+#![tactic(auto)]
+
+mod instr;
+mod items;
+mod keys;
+mod loops;
+mod marks;
+mod ran;
+mod run;
+#[cfg(test)]
+mod tests;
+
+pub use run::{Local, run_local};

@@ -1,0 +1,146 @@
+// Units of a program.
+ghost use Rattle.std.specs.Prelude.{◌≡◌, ◌<◌, ◌+◌, ℕ, List, ◌∷◌, ◌≤◌, IfOk, IfSome, IfNone, slice_get, length, option_copied, zero, IsTrue, IsFalse};
+ghost use Rattle.muf_model.specs.declared.code.Code.{Code};
+ghost use Rattle.muf_model.specs.Source.{Source};
+ghost use Rattle.muf_model.specs.Unit.{unit, units};
+ghost use Rattle.muf_model.specs.Flat.{decode};
+ghost use Rattle.muf_model.specs.Fits.{FitsState, Fits};
+ghost use Rattle.muf_frame.specs.Shown.{flat};
+ghost use Rattle.muf_run.specs.declared.ran.Ran.TheVariants.{Going};
+ghost use Rattle.muf_run.specs.Alike.{EndsAlike};
+ghost use Rattle.muf_run.specs.Runs.{Passed, RunsAlike, taken, local_of, last_of};
+ghost use Rattle.muf_run.specs.Machine as machine;
+ghost use Rattle.muf_run.specs.Machine.{next_of};
+
+use crate::instr::instr;
+use crate::marks::fault;
+use crate::ran::Ran;
+use muck_model::NoMemory;
+use muf_frame::{Frame, Turns};
+use muf_model::{Code, Instr, MufFault, OPEN_MOST, Placed, Prim};
+use std::alloc::Global;
+
+/// Why a run of a program stopped.
+#[derive(Drop)]
+pub enum Local {
+    /// It took all units that it was given.
+    Spent,
+    /// A shared primitive comes next.
+    Shared(Prim),
+    /// The last unit went back into the calling program.
+    Returned,
+    /// The last unit ended the process.
+    Ended,
+    /// The last unit's fault was caught by no TRY.
+    Faulted(MufFault),
+}
+
+// The instruction at the frame's place.
+fn fetch<'a>(code: &'a Code, frame: &Frame) -> Option<&'a Placed>
+    ensures value { option_copied result ≡ slice_get code.now.placed frame.now.place }
+    ensures within { IfSome result (λ _. frame.now.place < length code.now.placed) }
+    ensures room { IfSome result (λ _. frame.now.place < 18446744073709551615) }
+    ensures none { IfNone result (length code.now.placed ≤ frame.now.place) }
+{
+    let place = frame.place();
+    let length = code.placed.len();
+    match code.placed.get(place) {
+        Some(placed) if place < length => Some(placed),
+        _ => None,
+    }
+}
+
+// Goes past each BEGIN that comes next. False where one of them has no room.
+fn settle(code: &Code, frame: &mut Frame) -> bool
+    ensures { (codes : List Code) (s : Source) → FitsState (code.now ∷ codes) (flat frame.old) s → Passed result code.now codes (flat frame.new) s }
+{
+    while let Some(placed) = fetch(code, frame) {
+        let Instr::Begin(after) = &placed.instr else {
+            return true;
+        };
+        if frame.opened() >= OPEN_MOST {
+            return false;
+        }
+        let again = frame.place() + 1;
+        frame.push_loop(Turns::Plain, again, *after);
+        frame.go_to(again);
+    }
+    true
+}
+
+// One unit.
+fn unit(alloc: Global, code: &Code, frame: &mut Frame) -> Result<Ran, NoMemory>
+    ensures { IfOk result (λ ran. (codes : List Code) (s : Source) → FitsState (code.now ∷ codes) (flat frame.old) s → EndsAlike (code.now ∷ codes) (next_of ran (flat frame.new)) (unit s)) }
+{
+    if !settle(code, frame) {
+        return fault(alloc, frame, MufFault::CallsFull);
+    }
+    match fetch(code, frame) {
+        None => Ok(Ran::Ended),
+        Some(placed) => {
+            let next = frame.place() + 1;
+            instr(alloc, code, frame, &placed.instr, next)
+        }
+    }
+}
+
+// Whether the process goes on in the same program.
+fn goes_on(ran: &Ran) -> bool
+    ensures yes { IsTrue result → ran.now ≡ Going 0 }
+    ensures no { IsFalse result → ran.now ≡ Going 0 → ⊥ }
+{
+    match ran {
+        Ran::Going(programs) => *programs == 0,
+        Ran::Ended | Ran::Faulted(_) | Ran::Shared(_) => false,
+    }
+}
+
+// The answer of a run whose last unit ended so.
+fn finish(frame: &mut Frame, ran: Ran, taken: u32) -> Local
+    requires { taken < 4294967295 }
+    ensures value { result ≡ local_of ran }
+    ensures units { frame.new ≡ record frame.old { units = taken + last_of ran } }
+{
+    match ran {
+        Ran::Going(_) => {
+            frame.set_units(taken + 1);
+            Local::Returned
+        }
+        Ran::Ended => {
+            frame.set_units(taken + 1);
+            Local::Ended
+        }
+        Ran::Faulted(fault) => {
+            frame.set_units(taken + 1);
+            Local::Faulted(fault)
+        }
+        Ran::Shared(prim) => {
+            frame.set_units(taken);
+            Local::Shared(prim)
+        }
+    }
+}
+
+/// Runs units of a program up to a shared primitive, to the end of the process, back into the calling program, or so
+/// many of them. `code` is the one with which the running program was entered. The frame tells how many units were
+/// taken. After `NoMemory` nothing is said of the frame.
+pub fn run_local(
+    alloc: Global,
+    code: &Code,
+    frame: &mut Frame,
+    most: u32,
+) -> Result<Local, NoMemory>
+    ensures answer { IfOk result (λ local. (codes : List Code) → Fits (code.now ∷ codes) (flat frame.old) → RunsAlike (code.now ∷ codes) local (flat frame.new) (units most (decode (code.now ∷ codes) (flat frame.old)))) }
+    ensures count { IfOk result (λ _. (codes : List Code) → Fits (code.now ∷ codes) (flat frame.old) → frame.new.units ≡ taken most (decode (code.now ∷ codes) (flat frame.old))) }
+{
+    let mut taken = 0;
+    while taken < most {
+        let ran = unit(alloc, code, frame)?;
+        if !goes_on(&ran) {
+            return Ok(finish(frame, ran, taken));
+        }
+        taken += 1;
+    }
+    frame.set_units(taken);
+    Ok(Local::Spent)
+}

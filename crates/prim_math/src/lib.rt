@@ -1,0 +1,10 @@
+//! The primitives of numbers, which need nothing but the stack and take no memory.
+#![tactic(auto)]
+
+mod items;
+mod rows;
+mod table;
+#[cfg(test)]
+mod tests;
+
+pub use table::apply;

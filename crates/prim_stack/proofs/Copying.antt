@@ -1,0 +1,111 @@
+-- The rows that copy items.
+use Rattle.std.proofs.Common.{length-take, length-drop, true, false, ◌≡◌, ℕ, zero, suc, ◌+◌, ◌-◌, ◌<◌, ◌≤◌, List, [], ◌∷◌, ◌++◌, length, map, take, drop, refl, ap, sym, ◌∙◌, arith, rules}
+use Rattle.std.specs.Prelude.{pos, Option, Some, None, slice_get}
+use Rattle.std.proofs.lemmas.List.{length-map, map-append}
+use Rattle.muf_model.specs.Datum.{Datum, int}
+use Rattle.muf_model.specs.Measures.{is_true}
+use Rattle.muf_model.specs.Answer.{gives, fitting}
+use Rattle.muf_model.specs.View.{view}
+use Rattle.muf_model.specs.StackRows.{doubled, doubled_true, overed, tucked, picked, doubled_list}
+use Rattle.muf_model.specs.declared.value.Value.{Value}
+use Rattle.muf_frame.specs.Answers.{int_at}
+use Rattle.muf_frame.proofs.Data.{map_take, map_drop, get_drop}
+use Rattle.std.proofs.Math.Seq.{drop-append_seam}
+use Rattle.prim_stack.proofs.Tops.{first_one}
+use Rattle.prim_stack.specs.Does.{true_in}
+
+abbrev or_else : {A : Type 0} → A → Option A → A
+or_else d (Some x) = x
+or_else d None = d
+
+pub doubled_read : (stack : List Datum) (x : Datum) → slice_get stack 0 ≡ Some x → doubled stack ≡ fitting (x ∷ stack)
+doubled_read [] x e = absurd (search (rules, e))
+doubled_read (y ∷ rest) x e = ap (λ z. fitting (z ∷ y ∷ rest)) (ap (or_else y) e)
+
+pub doubled_true_read : (stack : List Datum) (x : Datum) → slice_get stack 0 ≡ Some x → true_in (slice_get stack 0) ≡ true → doubled_true stack ≡ fitting (x ∷ stack)
+doubled_true_read [] x e t = absurd (search (rules, e))
+doubled_true_read (y ∷ rest) x e t =
+    let g : is_true y ≡ true = t in
+    rw (g) (ap (λ z. fitting (z ∷ y ∷ rest)) (ap (or_else y) e))
+
+pub doubled_false_read : (stack : List Datum) → 0 < length stack → true_in (slice_get stack 0) ≡ false → doubled_true stack ≡ gives stack
+doubled_false_read [] h t = absurd (omega (arith, h))
+doubled_false_read (y ∷ rest) h t =
+    let g : is_true y ≡ false = t in
+    rw (g) refl
+
+pub overed_read : (stack : List Datum) (x : Datum) → slice_get stack 1 ≡ Some x → overed stack ≡ fitting (x ∷ stack)
+overed_read [] x e = absurd (search (rules, e))
+overed_read (y ∷ []) x e = absurd (search (rules, e))
+overed_read (y ∷ z ∷ rest) x e = ap (λ w. fitting (w ∷ y ∷ z ∷ rest)) (ap (or_else z) e)
+
+pub tucked_read : (stack : List Datum) (x : Datum) → slice_get stack 0 ≡ Some x → 1 < length stack → tucked stack ≡ fitting (take 2 stack ++ (x ∷ drop 2 stack))
+tucked_read [] x e h = absurd (search (rules, e))
+tucked_read (y ∷ []) x e h = absurd (omega (arith, h))
+tucked_read (y ∷ z ∷ rest) x e h = ap (λ w. fitting (y ∷ z ∷ w ∷ rest)) (ap (or_else y) e)
+
+pub tucked_data : (x : Value) (xs : List Value) → map view (take 2 xs ++ (x ∷ drop 2 xs)) ≡ take 2 (map view xs) ++ (view x ∷ drop 2 (map view xs))
+tucked_data x xs = map-append view (take 2 xs) (x ∷ drop 2 xs) ∙ ap (λ a. a ++ map view (x ∷ drop 2 xs)) (map_take view 2 xs) ∙ ap (λ b. take 2 (map view xs) ++ (view x ∷ b)) (map_drop view 2 xs)
+
+pub picked_read : (stack : List Datum) (n : ℕ) (x : Datum) → 0 < n → slice_get stack n ≡ Some x → picked (drop 1 stack) n ≡ gives (x ∷ drop 1 stack)
+picked_read stack zero x h e = absurd (omega (arith, h))
+picked_read [] (suc n) x h e = absurd (search (rules, e))
+picked_read (y ∷ rest) (suc n) x h e = ap (λ l. gives (l ++ rest)) (first_one n rest x e)
+
+get_taken : {A : Type 0} → (n m : ℕ) (xs : List A) → n < m → slice_get (take m xs) n ≡ slice_get xs n
+get_taken n zero xs h = absurd (omega (arith, h))
+get_taken n (suc m) [] h = refl
+get_taken zero (suc m) (x ∷ xs) h = refl
+get_taken (suc n) (suc m) (x ∷ xs) h = get_taken n m xs (omega (arith, h))
+
+drop_taken : {A : Type 0} → (n : ℕ) (xs : List A) → drop n (take n xs) ≡ []
+drop_taken zero xs = refl
+drop_taken (suc n) [] = refl
+drop_taken (suc n) (x ∷ xs) = drop_taken n xs
+
+drop_from : {A : Type 0} → (n : ℕ) (xs : List A) (x : A) → slice_get xs n ≡ Some x → drop n xs ≡ x ∷ drop (n + 1) xs
+drop_from n [] x e = absurd (search (rules, e))
+drop_from zero (y ∷ ys) x e = ap (λ z. z ∷ ys) (ap (or_else y) e)
+drop_from (suc n) (y ∷ ys) x e =
+    let k : suc n + 1 ≡ suc (n + 1) = omega arith in
+    rw (k) (drop_from n ys x e)
+
+-- the next of n items that go to the top once more
+pub next_copied : (n k : ℕ) (xs : List Datum) (x : Datum) → k < n → n ≤ length xs → slice_get (drop (n - k) (take n xs) ++ xs) (n - 1) ≡ Some x → x ∷ (drop (n - k) (take n xs) ++ xs) ≡ drop (n - (k + 1)) (take n xs) ++ xs
+next_copied n k xs x h l e =
+    let t : length (take n xs) ≡ n = omega (arith, length-take n xs, l) in
+    let d : length (drop (n - k) (take n xs)) ≡ k = omega (arith, length-drop (n - k) (take n xs), t, h) in
+    let j : n - 1 ≡ length (drop (n - k) (take n xs)) + (n - (k + 1)) = omega (arith, d, h) in
+    let g : slice_get xs (n - (k + 1)) ≡ Some x = sym (sym (get_drop (length (drop (n - k) (take n xs))) (n - (k + 1)) (drop (n - k) (take n xs) ++ xs)) ∙ ap (λ r. slice_get r (n - (k + 1))) (drop-append_seam (drop (n - k) (take n xs)) xs)) ∙ ap (slice_get (drop (n - k) (take n xs) ++ xs)) (sym j) ∙ e in
+    let i : n - (k + 1) + 1 ≡ n - k = omega (arith, h) in
+    let f : drop (n - (k + 1)) (take n xs) ≡ x ∷ drop (n - k) (take n xs) = drop_from (n - (k + 1)) (take n xs) x (get_taken (n - (k + 1)) n xs (omega (arith, h)) ∙ g) ∙ ap (λ m. x ∷ drop m (take n xs)) i in
+    sym (ap (λ r. r ++ xs) f)
+
+-- none of them yet, and all of them
+pub none_copied : (n : ℕ) (xs : List Datum) → xs ≡ drop (n - 0) (take n xs) ++ xs
+none_copied n xs =
+    let k : n - 0 ≡ n = omega arith in
+    sym (ap (λ r. r ++ xs) (ap (λ m. drop m (take n xs)) k ∙ drop_taken n xs))
+
+pub all_copied : (n : ℕ) (xs : List Datum) → drop (n - n) (take n xs) ++ xs ≡ take n xs ++ xs
+all_copied n xs = let k : n - n ≡ 0 = omega arith in rw (k) refl
+
+pub listed_read : (stack : List Datum) (n : ℕ) → int_at 0 stack ≡ Some (pos n) → doubled_list (drop 1 stack) n ≡ fitting (take (n + 1) stack ++ stack)
+listed_read [] n e = absurd (search (rules, e))
+listed_read (int i ∷ rest) n e =
+    let g : i ≡ pos n = ap (or_else i) e in
+    let k : n + 1 ≡ suc n = omega arith in
+    rw (g, k) refl
+listed_read (y ∷ rest) n e = absurd (search (rules, e))
+
+pub ruleset copy_steps = (doubled_read, doubled_true_read, doubled_false_read, overed_read, length-map)
+
+pub ruleset tuck_steps = (tucked_read, tucked_data, length-map)
+
+pub ruleset pick_steps = (picked_read, map_drop, length-map)
+
+pub ruleset many_steps = (next_copied, none_copied, all_copied, length-map)
+
+pub ruleset dupn_steps = (map_drop, length-map)
+
+pub ruleset ldup_steps = (listed_read, length-map)

@@ -1,0 +1,120 @@
+-- The rows of the stack, by the items at the top.
+use Rattle.std.proofs.Common.{length-take, true, false, ◌≡◌, ℕ, zero, suc, ◌+◌, ◌-◌, ◌<◌, List, [], ◌∷◌, ◌++◌, length, map, take, drop, reverse, refl, ap, sym, ◌∙◌, arith, rules}
+use Rattle.std.specs.Prelude.{ℤ, pos, negsuc, Option, Some, None, slice_get, slice_set, option_map, option_to_list}
+use Rattle.std.proofs.lemmas.List.{length-map, map-append, map-set}
+use Rattle.std.specs.List.{position, position_or_len}
+use Rattle.std.proofs.lemmas.Option.{slice_get-map}
+use Rattle.muf_model.specs.declared.value.Value.{Value}
+use Rattle.muf_model.specs.View.{view}
+use Rattle.muf_model.specs.StackRows.{is_mark, above, rotated, rotated_up, rotated_down, put_at}
+use Rattle.muf_model.specs.declared.fault.MufFault.TheVariants.{BadType, BadArgument}
+use Rattle.muf_model.specs.Datum.{Datum, int}
+use Rattle.muf_model.specs.Answer.{Answer, gives, refuses, needing, by_count}
+use Rattle.muf_model.proofs.Views.{view_int, view_mark}
+use Rattle.muf_frame.specs.Answers.{int_at}
+use Rattle.prim_stack.specs.Does.{mark_in}
+use Rattle.muf_frame.proofs.Data.{map_take, map_drop}
+use Rattle.muf_frame.proofs.Alike.{map_reverse}
+
+abbrev count_read : ℕ → ℕ → List Datum → (ℕ → Answer) → Option ℤ → Answer
+count_read fixed locked stack answer (Some (pos n)) = needing (n + fixed) locked stack (answer n)
+count_read fixed locked stack answer (Some (negsuc n)) = refuses BadArgument
+count_read fixed locked stack answer None = refuses BadType
+
+pub by_count_read : (fixed locked : ℕ) (stack : List Datum) (answer : ℕ → Answer) → by_count fixed locked stack answer ≡ count_read fixed locked stack answer (int_at 0 stack)
+by_count_read fixed locked (int (pos n) ∷ rest) answer = refl
+by_count_read fixed locked (int (negsuc n) ∷ rest) answer = refl
+by_count_read fixed locked _ answer = refl
+
+pub ruleset give_steps = (view_int, view_mark, length-map)
+
+pub ruleset count_steps = (by_count_read, length-map)
+
+pub first_one : {A : Type 0} → (n : ℕ) (xs : List A) (x : A) → slice_get xs n ≡ Some x → take 1 (drop n xs) ≡ x ∷ []
+first_one zero [] x s = absurd (search (rules, s))
+first_one zero (y ∷ ys) x s = ap (λ o. option_to_list o) s
+first_one (suc n) [] x s = absurd (search (rules, s))
+first_one (suc n) (y ∷ ys) x s = first_one n ys x s
+
+-- the deepest of n items goes to the top
+pub lifted : (n : ℕ) (xs : List Value) (v : Value) → 0 < n → slice_get xs (n - 1) ≡ Some v → view v ∷ map view (take (n - 1) xs ++ drop (n - 1 + 1) xs) ≡ rotated_up n (map view xs)
+lifted zero xs v h s = absurd (omega (arith, h))
+lifted (suc n) xs v h s =
+    let e : suc n - 1 ≡ n = omega arith in
+    let k : n + 1 ≡ suc n = omega arith in
+    let t : slice_get xs n ≡ Some v = ap (slice_get xs) (sym e) ∙ s in
+    rw (e, k, map-append, map_take, map_drop) (ap (λ r. r ++ (take n (map view xs) ++ drop (suc n) (map view xs))) (sym (first_one n (map view xs) (view v) (slice_get-map view xs n ∙ ap (option_map view) t))))
+
+-- the top goes below the others of n items
+pub sunk : (n : ℕ) (x : Value) (xs : List Value) → 0 < n → map view (take (n - 1) xs ++ (x ∷ drop (n - 1) xs)) ≡ rotated_down n (view x ∷ map view xs)
+sunk zero x xs h = absurd (omega (arith, h))
+sunk (suc n) x xs h =
+    let e : suc n - 1 ≡ n = omega arith in
+    rw (e) (map-append view (take n xs) (x ∷ drop n xs) ∙ ap (λ a. a ++ map view (x ∷ drop n xs)) (map_take view n xs) ∙ ap (λ b. take n (map view xs) ++ (view x ∷ b)) (map_drop view n xs))
+
+abbrev rotate_read : ℕ → List Datum → Option ℤ → Answer
+rotate_read locked stack (Some (pos n)) = needing (n + 1) locked stack (gives (rotated_up n (drop 1 stack)))
+rotate_read locked stack (Some (negsuc n)) = needing (suc n + 1) locked stack (gives (rotated_down (suc n) (drop 1 stack)))
+rotate_read locked stack None = refuses BadType
+
+pub rotated_read : (locked : ℕ) (stack : List Datum) → rotated locked stack ≡ rotate_read locked stack (int_at 0 stack)
+rotated_read locked (int (pos n) ∷ rest) = refl
+rotated_read locked (int (negsuc n) ∷ rest) = refl
+rotated_read locked _ = refl
+
+-- the item at the n-th place below the top, from 1
+pub put_read : (rest : List Datum) (y : Datum) (n : ℕ) → 0 < n → put_at (y ∷ rest) n ≡ gives (slice_set rest (n - 1) y)
+put_read rest y zero h = absurd (omega (arith, h))
+put_read rest y (suc n) h = let e : suc n - 1 ≡ n = omega arith in rw e refl
+
+pub turned_data : (n : ℕ) (xs : List Value) → map view (reverse (take n xs) ++ drop n xs) ≡ reverse (take n (map view xs)) ++ drop n (map view xs)
+turned_data n xs = rw (map-append, map_drop, map_reverse, map_take) refl
+
+pub ruleset move_steps = (lifted, sunk, put_read, turned_data, map_take, map_drop, map-set, length-map)
+
+pub ruleset rotate_steps = (rotated_read, map_drop, length-map)
+
+get_taken : {A : Type 0} → (n m : ℕ) (xs : List A) → n < m → slice_get (take m xs) n ≡ slice_get xs n
+get_taken n zero xs h = absurd (omega (arith, h))
+get_taken n (suc m) [] h = refl
+get_taken zero (suc m) (x ∷ xs) h = refl
+get_taken (suc n) (suc m) (x ∷ xs) h = get_taken n m xs (omega (arith, h))
+
+-- one item further, where it is no mark
+pub mark_passed : (n : ℕ) (xs : List Datum) → n < length xs → mark_in (slice_get xs n) ≡ false → position_or_len is_mark (drop n xs) ≡ suc (position_or_len is_mark (drop (n + 1) xs))
+mark_passed n [] h e = absurd (omega (arith, h))
+mark_passed zero (x ∷ xs) h e =
+    let g : is_mark x ≡ false = e in
+    rw (g) (omega arith)
+mark_passed (suc n) (x ∷ xs) h e = let k : suc n + 1 ≡ suc (n + 1) = omega arith in rw (k) (mark_passed n xs (omega (arith, h)) e)
+
+-- and there, where it is one
+pub mark_found : (n : ℕ) (xs : List Datum) → mark_in (slice_get xs n) ≡ true → position_or_len is_mark (drop n xs) ≡ 0
+mark_found n [] e = absurd (search (rules, e))
+mark_found zero (x ∷ xs) e =
+    let g : is_mark x ≡ true = e in
+    rw (g) refl
+mark_found (suc n) (x ∷ xs) e = mark_found n xs e
+
+length_above : (l : ℕ) (s : List Datum) → length (above l s) ≡ length s - l
+length_above l s = omega (arith, length-take (length s - l) s)
+
+position_here : (n : ℕ) (xs : List Datum) → position_or_len is_mark xs ≡ n → n < length xs → position is_mark xs ≡ Some n
+position_here n xs e h = rw (e) (search (rules, h))
+
+pub nearest_here : (l n : ℕ) (s : List Datum) → n < length s - l → position_or_len is_mark (above l s) ≡ n + position_or_len is_mark (drop n (above l s)) → mark_in (slice_get s n) ≡ true → Some n ≡ position is_mark (above l s)
+nearest_here l n s h e m =
+    let f : position_or_len is_mark (drop n (above l s)) ≡ 0 = mark_found n (above l s) (ap mark_in (get_taken n (length s - l) s h) ∙ m) in
+    sym (position_here n (above l s) (omega (arith, e, f)) (omega (arith, h, length_above l s)))
+
+pub nearest_further : (l n : ℕ) (s : List Datum) → n < length s - l → position_or_len is_mark (above l s) ≡ n + position_or_len is_mark (drop n (above l s)) → mark_in (slice_get s n) ≡ false → position_or_len is_mark (above l s) ≡ n + 1 + position_or_len is_mark (drop (n + 1) (above l s))
+nearest_further l n s h e m =
+    let f : position_or_len is_mark (drop n (above l s)) ≡ suc (position_or_len is_mark (drop (n + 1) (above l s))) = mark_passed n (above l s) (omega (arith, h, length_above l s)) (ap mark_in (get_taken n (length s - l) s h) ∙ m) in
+    omega (arith, e, f)
+
+pub closed_data : (n : ℕ) (xs : List Value) → map view (take n xs ++ drop (n + 1) xs) ≡ take n (map view xs) ++ drop (n + 1) (map view xs)
+closed_data n xs = map-append view (take n xs) (drop (n + 1) xs) ∙ ap (λ a. a ++ map view (drop (n + 1) xs)) (map_take view n xs) ∙ ap (λ b. take n (map view xs) ++ b) (map_drop view (n + 1) xs)
+
+pub ruleset mark_steps = (slice_get-map, length-map)
+
+pub ruleset close_steps = (closed_data, view_int)

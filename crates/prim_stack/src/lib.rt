@@ -1,0 +1,13 @@
+//! The primitives of the stack.
+#![tactic(auto)]
+
+mod copies;
+mod kinds;
+mod marks;
+mod moves;
+mod names;
+mod table;
+#[cfg(test)]
+mod tests;
+
+pub use table::{Done, apply};
