@@ -9,10 +9,10 @@ use Rattle.muck_live.specs.Chain.{has}
 use Rattle.muck_live.specs.Objects.{Entry, nothing, home, same, is_exit, kind_in, fits_in, path_in, number_in}
 use Rattle.muck_live.specs.Moving.{Does, Moves, judged, moved, move_check}
 use Rattle.muck_live.specs.Setting as setting
-use Rattle.muck_live.specs.Setting.{any, checked, checked_both, has_link, may_link, owner_check, link_check, home_check, level_check, lines_check, set_at, lines_set, with_name, with_owner, with_link, with_home, with_level, with_prop, without_prop}
+use Rattle.muck_live.specs.Setting.{any, checked, checked_both, has_link, may_link, owner_check, link_check, home_check, level_check, lines_check, password_check, set_at, lines_set, with_name, with_owner, with_link, with_home, with_level, with_prop, without_prop, with_password}
 use Rattle.muck_live.specs.Recycling.{recycled, recycle_check}
 use Rattle.muck_live.specs.Lives.{on_objects}
-use Rattle.muck_rights.specs.Changing.{at_number, moved_at, moved_to, named, owned_by, linked, homed, leveled, lines_kept, stored, unstored, recycled_now}
+use Rattle.muck_rights.specs.Changing.{at_number, moved_at, moved_to, named, owned_by, linked, homed, leveled, lines_kept, stored, unstored, recycled_now, password_kept}
 use Rattle.muck_perm.specs.declared.guard.Guard.{Guard}
 use Rattle.muck_perm.specs.Guards.{Makes, Tries}
 
@@ -147,3 +147,8 @@ pub tries_stored : (x : Dbref) (path : List (List ℕ)) (value : PropValue) (g :
     → setting.Tries (set_at (with_prop path value)) (checked any x g.db.now) g.db.now es result → Tries (stored x path value) (checked any x g.db.now) g (with_objects es g) result
 unfolding stored
 tries_stored x path value g es result d = tries_one (set_at (with_prop path value)) x _ g es result (λ n e. checked_number _ x g.db.now n e) d
+
+pub tries_password : (x : Dbref) (salt : ℕ) (word : List ℕ) (g : Guard) (es : List Entry) (result : Result (Unit {0}) DbFault)
+    → setting.Tries (set_at (with_password salt word)) (password_check x g.db.now) g.db.now es result → Tries (password_kept x salt word) (password_check x g.db.now) g (with_objects es g) result
+unfolding password_kept password_check
+tries_password x salt word g es result d = tries_one (set_at (with_password salt word)) x _ g es result (λ n e. checked_number _ x g.db.now n e) d

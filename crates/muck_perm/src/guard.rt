@@ -8,14 +8,14 @@ ghost use Rattle.muck_live.specs.Lives.{tell, tell_player, tell_others, tell_all
 ghost use Rattle.muck_live.specs.Flags.{with_flag, without_flag};
 ghost use Rattle.muck_live.specs.Moving.{move_check};
 ghost use Rattle.muck_live.specs.Making.{create_check};
-ghost use Rattle.muck_live.specs.Setting.{any, checked, owner_check, link_check, home_check, flags_check, level_check, lines_check, with_link, with_home, with_level};
+ghost use Rattle.muck_live.specs.Setting.{any, checked, owner_check, link_check, home_check, flags_check, level_check, lines_check, password_check, with_link, with_home, with_level};
 ghost use Rattle.muck_live.specs.Recycling.{recycle_check};
 ghost use Rattle.muck_rights.specs.declared.act.Act.{Act};
 ghost use Rattle.muck_rights.specs.Levels.{level_at};
 ghost use Rattle.muck_rights.specs.Verdict.{is_guarded, lock_of_object};
-ghost use Rattle.muck_rights.specs.Changing.{named, owned_by, linked, homed, leveled, lines_kept, stored, unstored, moved_to, recycled_now, created_so, is_flag, flag_set, flag_cleared};
+ghost use Rattle.muck_rights.specs.Changing.{named, owned_by, linked, homed, leveled, lines_kept, stored, unstored, moved_to, recycled_now, created_so, is_flag, flag_set, flag_cleared, password_kept, booted, tuned};
 ghost use Rattle.muck_rights.specs.Licence.{at_hand};
-ghost use Rattle.muck_perm.specs.Guards.{Did, IsLeave, Makes, Tries, Founds, flags_at, home_in, may_lead, may_house, kept_text, text_kept};
+ghost use Rattle.muck_perm.specs.Guards.{Did, Done, IsLeave, Makes, Tries, Founds, flags_at, home_in, may_lead, may_house, kept_text, text_kept};
 
 use crate::flags::{flags_at, with_flag, without_flag};
 use crate::levels::level_at;
@@ -23,7 +23,7 @@ use crate::rules::Pass;
 use muck_board::Board;
 use muck_db::Db;
 use muck_live::DbFault;
-use muck_model::{Dbref, Flags, Kind, Line, LineList, NoMemory};
+use muck_model::{Dbref, Flags, Kind, Line, LineList, NoMemory, Tune};
 use muck_prop::{Path, PropValue};
 use muck_rights::{Act, Actor};
 use std::alloc::Global;
@@ -364,6 +364,45 @@ impl<'a> Guard<'a> {
     {
         let _ = pass;
         self.db.remove_prop(object, path)
+    }
+}
+
+impl<'a> Guard<'a> {
+    /// Sets the password of a player, with a salt. `NoSuchObject` comes where the player isn't there, `WrongKind` for
+    /// another kind; nothing has changed then, and after `NoMemory`.
+    #[tactic(auto, using(crate::proofs::Guarding::tries_password))]
+    pub fn set_password(
+        &mut self,
+        pass: Pass,
+        player: Dbref,
+        salt: u64,
+        word: &Line,
+    ) -> Result<(), DbFault>
+        requires leave { IsLeave pass (Act.Password player) self.old }
+        ensures { Tries (password_kept player salt word.now) (password_check player self.old.db.now) self.old self.new result }
+    {
+        let _ = pass;
+        self.db.set_password(self.alloc, player, salt, word)
+    }
+
+    /// The connections of a player are to leave.
+    #[tactic(auto, unfolding(muck_rights::specs::Changing::booted, muck_live::specs::Boards::left_player))]
+    pub fn boot(&mut self, pass: Pass, player: Dbref)
+        requires { IsLeave pass Act.Wizard self.old }
+        ensures { Done (booted player) self.old self.new }
+    {
+        let _ = pass;
+        self.board.leave_player(player);
+    }
+
+    /// Sets what a wizard tunes.
+    #[tactic(auto, unfolding(muck_rights::specs::Changing::tuned, muck_live::specs::Boards::tuned))]
+    pub fn set_tune(&mut self, pass: Pass, tune: Tune)
+        requires { IsLeave pass Act.Wizard self.old }
+        ensures { Done (tuned tune) self.old self.new }
+    {
+        let _ = pass;
+        self.board.set_tune(tune);
     }
 }
 

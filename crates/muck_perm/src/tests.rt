@@ -6,7 +6,7 @@ use muck_board::Board;
 use muck_db::Db;
 use muck_live::{BUILDER, HAVEN, JUMP, LINK, SETUID};
 use muck_model::{Dbref, Flags, Kind, Line, Tune};
-use muck_prop::read_path;
+use muck_prop::{Path, PropValue, read_path};
 use muck_rights::{Act, Actor};
 use std::alloc::Global;
 use std::test::Fail;
@@ -254,5 +254,57 @@ fn makes_by_a_pass(rt: HostRuntime) -> Result<(), Fail> {
     assert!(rt; !dug(&mut guard, a_name(alloc)?)?);
     guard.swap_actor(Actor { level: 3, ..TWO });
     assert!(rt; dug(&mut guard, a_name(alloc)?)?);
+    Ok(())
+}
+
+// Whether there is leave to write a property of #4, which is then stored.
+fn noted(guard: &mut Guard<'_>, path: Path) -> Result<bool, Fail> {
+    let alloc = guard.alloc();
+    let actor = guard.actor();
+    let object = Dbref(4);
+    let kept = path.copy(alloc)?;
+    let act = Act::Write { object, path };
+    match verdict(guard.db(), &actor, &act) {
+        Ok(pass) => {
+            guard.store(pass, object, kept, PropValue::Text(a_name(alloc)?))?;
+            Ok(true)
+        }
+        Err(_) => Ok(false),
+    }
+}
+
+// Whether there is leave to set the password of #2, which is then set.
+fn changed_password(guard: &mut Guard<'_>, word: &Line) -> Result<bool, Fail> {
+    let player = Dbref(2);
+    let act = Act::Password { player };
+    let actor = guard.actor();
+    match verdict(guard.db(), &actor, &act) {
+        Ok(pass) => {
+            guard.set_password(pass, player, 7, word)?;
+            Ok(guard.db().password_is(guard.alloc(), player, word)?)
+        }
+        Err(_) => Ok(false),
+    }
+}
+
+fn is_text(text: Option<&Line>, want: &[u8]) -> bool {
+    match text {
+        Some(text) => text.as_slice() == want,
+        None => false,
+    }
+}
+
+#[test]
+fn keeps_what_is_written(rt: HostRuntime) -> Result<(), Fail> {
+    let alloc = rt.alloc();
+    let mut db = world(alloc)?;
+    let mut board = Board::new(alloc, 0, TUNE);
+    let mut guard = Guard::new(alloc, &mut db, &mut board, TWO);
+    let path = Line::new(alloc, b"_/de")?;
+    assert!(rt; noted(&mut guard, read_path(alloc, &path)?)?);
+    assert!(rt; is_text(guard.message(Dbref(4), b"_/de"), b"box"));
+    assert!(rt; !changed_password(&mut guard, &path)?);
+    guard.swap_actor(Actor { level: 4, ..TWO });
+    assert!(rt; changed_password(&mut guard, &path)?);
     Ok(())
 }
