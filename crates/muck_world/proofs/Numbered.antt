@@ -2,9 +2,19 @@
 use Rattle.std.proofs.Common.{◌≡◌, ℕ, ◌<◌, Bool, true, false, cond, List, [], ◌∷◌, refl, ◌∙◌, ap, subst}
 use Rattle.std.specs.Prelude.{map}
 use Rattle.muck_model.specs.declared.dbref.Dbref.{Dbref}
+use Rattle.muck_model.specs.declared.dbref.Denial.{Denial}
+use Rattle.muck_model.specs.declared.dbref.Kind.{Kind}
+use Rattle.muck_prop.specs.declared.value.PropValue.{PropValue}
+use Rattle.muck_live.specs.declared.object.Object.{Object}
+use Rattle.muck_live.specs.Objects.{Entry}
+use Rattle.muck_rights.specs.declared.act.Actor.{Actor}
+use Rattle.muck_rights.specs.declared.act.Act.{Act}
+use Rattle.muck_rights.specs.Verdict.{verdict}
+use Rattle.muck_rights.specs.Asking.{answered, asked, refused}
+use Rattle.muck_rights.specs.Changing.{named, owned_by, linked, homed, stored, moved_to, recycled_now, created_so}
 use Rattle.muck_live.specs.Connections.{Connection, has_number, changed_in, told, left, seated, told_where, is_of, hears, has_player}
 use Rattle.muck_live.specs.Boards.{on_connection, told_one, told_player, told_others, told_all, leaving_one, seated_one}
-use Rattle.muck_live.specs.Lives.{Live, Change, followed, reading, either, unchanged, on_board, tell, tell_player, tell_others, tell_all, leave, enter, place_of}
+use Rattle.muck_live.specs.Lives.{Live, Change, followed, reading, either, unchanged, on_board, on_objects, tell, tell_player, tell_others, tell_all, leave, enter, place_of}
 use Rattle.muck_world.specs.Sound.{IsAbove, IsRising}
 
 unfoldable pub numbers : List Connection → List ℕ
@@ -103,6 +113,55 @@ pub numbered_tell_all : (text : List ℕ) → Numbered itself (tell_all text)
 unfolding tell_all told_all itself
 numbered_tell_all text = record { law = λ w. numbered_all (told_where has_player text) (λ c. told_keeps (has_player c) text c) w }
 
+pub numbered_objects : (f : List Entry → List Entry) → Numbered itself (on_objects f)
+unfolding itself
+numbered_objects f = record { law = λ w. refl }
+
+pub numbered_named : (x : Dbref) (name : List ℕ) → Numbered itself (named x name)
+unfolding named
+numbered_named x name = numbered_objects _
+
+pub numbered_owned_by : (x owner : Dbref) → Numbered itself (owned_by x owner)
+unfolding owned_by
+numbered_owned_by x owner = numbered_objects _
+
+pub numbered_linked : (x to : Dbref) → Numbered itself (linked x to)
+unfolding linked
+numbered_linked x to = numbered_objects _
+
+pub numbered_homed : (x to : Dbref) → Numbered itself (homed x to)
+unfolding homed
+numbered_homed x to = numbered_objects _
+
+pub numbered_stored : (x : Dbref) (path : List (List ℕ)) (value : PropValue) → Numbered itself (stored x path value)
+unfolding stored
+numbered_stored x path value = numbered_objects _
+
+pub numbered_moved_to : (x to : Dbref) → Numbered itself (moved_to x to)
+unfolding moved_to itself
+numbered_moved_to x to = record { law = λ w. refl }
+
+pub numbered_recycled_now : (x : Dbref) → Numbered itself (recycled_now x)
+unfolding recycled_now
+numbered_recycled_now x = numbered_objects _
+
+pub numbered_created_so : (n : ℕ) (kind : Kind) (name : List ℕ) (owner : Dbref) (to : ℕ) (f : Object → Object) → Numbered itself (created_so n kind name owner to f)
+unfolding created_so
+numbered_created_so n kind name owner to f = numbered_objects _
+
+answered_numbered : {Y : Type 0} (out : Y → Live) (denial : Option Denial) (refuse : Denial → Live → Y) (go : Live → Y) (w : Live) →
+    ((d : Denial) → Numbered out (refuse d)) → Numbered out go → numbers (out (answered denial refuse go w)).board.connections ≡ numbers w.board.connections
+answered_numbered out None refuse go w p q = q.law w
+answered_numbered out (Some d) refuse go w p q = (p d).law w
+
+pub numbered_asked : {Y : Type 0} (out : Y → Live) (a : Actor) (act : Act) (refuse : Denial → Live → Y) (go : Live → Y) → ((d : Denial) → Numbered out (refuse d)) → Numbered out go → Numbered out (asked a act refuse go)
+unfolding asked
+numbered_asked out a act refuse go p q = record { law = λ w. answered_numbered out (verdict w.objects a act) refuse go w p q }
+
+pub numbered_refused : (d : ℕ) (denial : Denial) → Numbered itself (refused d denial)
+unfolding refused
+numbered_refused d denial = numbered_tell d _
+
 pub numbered_leave : (d : ℕ) → Numbered itself (leave d)
 unfolding leave leaving_one
 numbered_leave d = numbered_one d left (λ c. refl)
@@ -111,4 +170,4 @@ pub numbered_enter : (d : ℕ) (player : Dbref) → Numbered itself (enter d pla
 unfolding enter seated_one
 numbered_enter d player = numbered_one d (seated player) (λ c. refl)
 
-pub ruleset numbering = (numbered_followed, numbered_reading, numbered_either, numbered_unchanged, numbered_tell, numbered_tell_player, numbered_tell_others, numbered_tell_all, numbered_leave, numbered_enter)
+pub ruleset numbering = (numbered_followed, numbered_reading, numbered_either, numbered_unchanged, numbered_tell, numbered_tell_player, numbered_tell_others, numbered_tell_all, numbered_leave, numbered_enter, numbered_named, numbered_owned_by, numbered_linked, numbered_homed, numbered_stored, numbered_moved_to, numbered_recycled_now, numbered_created_so, numbered_asked, numbered_refused)
