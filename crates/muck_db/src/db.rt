@@ -219,7 +219,6 @@ impl Db {
     /// Sets all flags of an object. `NoSuchObject` comes where it isn't there, `WrongKind` where a thing would lose V
     /// while a player is in it; nothing has changed then.
     pub fn set_flags(&mut self, d: Dbref, flags: Flags) -> Result<(), DbFault>
-        requires { flags.0 < 2 ^ 14 }
         ensures { Does (set_at (with_flags flags)) (flags_check d flags self.old) self.old self.new result }
     {
         let k = check_flags(&self.slots, d, flags)?;

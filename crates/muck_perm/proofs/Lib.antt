@@ -1,0 +1,3 @@
+pub mod Guarding
+pub mod Founding
+pub mod Flagging

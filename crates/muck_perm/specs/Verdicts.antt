@@ -1,5 +1,5 @@
 -- What asking for leave answers.
-use Rattle.std.specs.Prelude.{◌≡◌, ℕ, List, Option, Some, None, Result, Ok, Err}
+use Rattle.std.specs.Prelude.{◌≡◌, Option, Some, None, Result, Ok, Err}
 use Rattle.muck_model.specs.declared.dbref.Denial.{Denial}
 use Rattle.muck_rights.specs.declared.act.Actor.{Actor}
 use Rattle.muck_rights.specs.declared.act.Act.{Act}

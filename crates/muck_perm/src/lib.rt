@@ -1,6 +1,8 @@
 //! Who may do what, in code: the level and the user of a program, and the verdict on an act.
 #![tactic(auto)]
 
+mod flags;
+mod guard;
 mod levels;
 mod locks;
 mod rules;
@@ -8,6 +10,7 @@ mod shown;
 #[cfg(test)]
 mod tests;
 
+pub use guard::Guard;
 pub use levels::{MASTER, command_level, controls_as, level, user};
 pub use locks::opens_at;
 pub use rules::{Pass, verdict};

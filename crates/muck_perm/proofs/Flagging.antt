@@ -1,0 +1,140 @@
+-- Setting and clearing one flag.
+use Rattle.std.proofs.Common.{◌≡◌, ℕ, ◌<◌, ◌≤◌, ◌+◌, ◌/◌, ◌%◌, ◌==◌, true, false, List, [], ◌∷◌, Option, Some, None, Result, Ok, Err, refl, sym, ◌∙◌, ap, subst, arith, inl, inr}
+use Rattle.std.proofs.lemmas.Bool.{or_cases, eqb-true}
+use Rattle.std.proofs.lemmas.Bool.Decides.{nat_tests}
+use Rattle.std.specs.List.{list_any, slice_get, slice_set}
+use Rattle.std.specs.Option.{option_map, option_map_or, option_and_then}
+use Rattle.muck_model.specs.declared.dbref.Dbref.{Dbref}
+use Rattle.muck_model.specs.declared.dbref.Flags.{Flags}
+use Rattle.muck_live.specs.declared.object.Object.{Object}
+use Rattle.muck_live.specs.declared.fault.DbFault.{DbFault}
+use Rattle.muck_live.specs.Flags.{has_flag, no_flags, with_flag, without_flag}
+use Rattle.muck_live.specs.Objects.{Entry, object_in, object_at, number_in, changed_at, on_object}
+use Rattle.muck_live.specs.Moving.{Does}
+use Rattle.muck_live.specs.Setting.{set_at, with_flags, flags_check}
+use Rattle.muck_rights.specs.Changing.{flag_values, is_flag, set_object, flag_set, flag_cleared}
+use Rattle.muck_perm.specs.declared.guard.Guard.{Guard}
+use Rattle.muck_perm.specs.Guards.{Makes, flags_at}
+use Rattle.muck_perm.proofs.Guarding.{with_objects, checked_number, at_found}
+
+-- The value of a flag.
+
+record Fits (v : ℕ) : Type 0 where
+  some : 0 < v
+  set : (x : ℕ) → x < 65536 → x / v % 2 ≡ 0 → x + v < 65536
+  cleared : (x : ℕ) → x / v % 2 ≡ 1 → v ≤ x
+
+abbrev All : List ℕ → Type 0
+All [] = Unit {0}
+All (v ∷ vs) = Fits v × All vs
+
+fits_1 : Fits 1
+fits_1 = record { some = omega arith; set = λ x k h. omega arith; cleared = λ x h. omega arith }
+
+fits_2 : Fits 2
+fits_2 = record { some = omega arith; set = λ x k h. omega arith; cleared = λ x h. omega arith }
+
+fits_4 : Fits 4
+fits_4 = record { some = omega arith; set = λ x k h. omega arith; cleared = λ x h. omega arith }
+
+fits_8 : Fits 8
+fits_8 = record { some = omega arith; set = λ x k h. omega arith; cleared = λ x h. omega arith }
+
+fits_16 : Fits 16
+fits_16 = record { some = omega arith; set = λ x k h. omega arith; cleared = λ x h. omega arith }
+
+fits_32 : Fits 32
+fits_32 = record { some = omega arith; set = λ x k h. omega arith; cleared = λ x h. omega arith }
+
+fits_64 : Fits 64
+fits_64 = record { some = omega arith; set = λ x k h. omega arith; cleared = λ x h. omega arith }
+
+fits_128 : Fits 128
+fits_128 = record { some = omega arith; set = λ x k h. omega arith; cleared = λ x h. omega arith }
+
+fits_256 : Fits 256
+fits_256 = record { some = omega arith; set = λ x k h. omega arith; cleared = λ x h. omega arith }
+
+fits_512 : Fits 512
+fits_512 = record { some = omega arith; set = λ x k h. omega arith; cleared = λ x h. omega arith }
+
+fits_1024 : Fits 1024
+fits_1024 = record { some = omega arith; set = λ x k h. omega arith; cleared = λ x h. omega arith }
+
+fits_2048 : Fits 2048
+fits_2048 = record { some = omega arith; set = λ x k h. omega arith; cleared = λ x h. omega arith }
+
+fits_4096 : Fits 4096
+fits_4096 = record { some = omega arith; set = λ x k h. omega arith; cleared = λ x h. omega arith }
+
+fits_8192 : Fits 8192
+fits_8192 = record { some = omega arith; set = λ x k h. omega arith; cleared = λ x h. omega arith }
+
+all : All flag_values
+all = (fits_1, (fits_2, (fits_4, (fits_8, (fits_16, (fits_32, (fits_64, (fits_128, (fits_256, (fits_512, (fits_1024, (fits_2048, (fits_4096, (fits_8192, tt))))))))))))))
+
+picked : (v : ℕ) (vs : List ℕ) → All vs → list_any (λ u. u == v) vs ≡ true → Fits v
+picked v [] h e = absurd (cc)
+picked v (u ∷ us) h e = elim (or_cases (u == v) (list_any (λ t. t == v) us) e) [
+  | inl one ↦ subst Fits (eqb-true u v one) h.0
+  | inr more ↦ picked v us h.1 more
+]
+
+even : (n : ℕ) → (n % 2 == 1) ≡ false → n % 2 ≡ 0
+even n e = grind (arith, nat_tests)
+
+odd : (n : ℕ) → (n % 2 == 1) ≡ true → n % 2 ≡ 1
+odd n e = grind (arith, nat_tests)
+
+pub flag_some : (flag : Flags) → is_flag flag ≡ true → 0 < flag.0
+flag_some flag k = (picked flag.0 flag_values all k).some
+
+pub flag_fits : (flag flags : Flags) → is_flag flag ≡ true → has_flag flag.0 flags ≡ false → flags.0 < 65536 → flags.0 + flag.0 < 65536
+flag_fits flag flags k h lt = (picked flag.0 flag_values all k).set flags.0 lt (even (flags.0 / flag.0) h)
+
+pub flag_below : (flag flags : Flags) → is_flag flag ≡ true → has_flag flag.0 flags ≡ true → flag.0 ≤ flags.0
+flag_below flag flags k h = (picked flag.0 flag_values all k).cleared flags.0 (odd (flags.0 / flag.0) h)
+
+-- The guard.
+
+-- flags that are made of those that stood there
+set_read : (n : ℕ) (es : List Entry) (h : Flags → Flags) (flags : Flags) → h (option_map_or (λ o. o.flags) (object_in es n) no_flags) ≡ flags
+    → set_at (with_flags flags) n es ≡ set_at (λ o. with_flags (h o.flags) o) n es
+unfolding changed_at object_in
+set_read n es h flags e = by_cases (slice_get es n) e
+  where
+    by_cases : (q : Option Entry) → h (option_map_or (λ (o : Object). o.flags) (option_map (λ (e : Entry). e.object) q) no_flags) ≡ flags
+        → option_map_or (λ e. slice_set es n (on_object (with_flags flags) e)) q es ≡ option_map_or (λ e. slice_set es n (on_object (λ o. with_flags (h o.flags) o) e)) q es
+    by_cases None e = refl
+    by_cases (Some x) e = ap (λ z. slice_set es n (on_object (with_flags z) x)) (sym e)
+
+read_at : (x : Dbref) (es : List Entry) (n : ℕ) → number_in es x ≡ Some n → option_map_or (λ o. o.flags) (object_in es n) no_flags ≡ flags_at x es
+unfolding object_at
+read_at x es n e = sym (ap (λ (q : Option ℕ). option_map_or (λ (o : Object). o.flags) (option_and_then (object_in es) q) no_flags) e)
+
+flagged : (h : Flags → Flags) (x : Dbref) (g : Guard) (es : List Entry) (result : Result (Unit {0}) DbFault)
+    → Does (set_at (with_flags (h (flags_at x g.db.now)))) (flags_check x (h (flags_at x g.db.now)) g.db.now) g.db.now es result
+    → Makes (set_object (λ o. with_flags (h o.flags) o) x) (flags_check x (h (flags_at x g.db.now)) g.db.now) g (with_objects es g) result
+unfolding flags_check
+flagged h x g es result d = by_cases (flags_check x (h (flags_at x g.db.now)) g.db.now) refl d
+  where
+    by_cases : (check : Result ℕ DbFault) → flags_check x (h (flags_at x g.db.now)) g.db.now ≡ check → Does (set_at (with_flags (h (flags_at x g.db.now)))) check g.db.now es result
+        → Makes (set_object (λ o. with_flags (h o.flags) o) x) check g (with_objects es g) result
+    by_cases (Ok n) e d =
+        let number : number_in g.db.now x ≡ Some n = checked_number _ x g.db.now n e in
+        let read : set_at (with_flags (h (flags_at x g.db.now))) n g.db.now ≡ set_at (λ o. with_flags (h o.flags) o) n g.db.now
+        = set_read n g.db.now h _ (ap h (read_at x g.db.now n number)) in
+        (d.0, ap (λ z. with_objects z g) (d.1 ∙ (read ∙ at_found (set_at (λ o. with_flags (h o.flags) o)) x g.db.now n number)))
+    by_cases (Err fault) e d = (d.0, ap (λ z. with_objects z g) d.1)
+
+pub makes_flag_set : (x : Dbref) (flag : Flags) (g : Guard) (es : List Entry) (result : Result (Unit {0}) DbFault)
+    → Does (set_at (with_flags (with_flag flag.0 (flags_at x g.db.now)))) (flags_check x (with_flag flag.0 (flags_at x g.db.now)) g.db.now) g.db.now es result
+    → Makes (flag_set x flag) (flags_check x (with_flag flag.0 (flags_at x g.db.now)) g.db.now) g (with_objects es g) result
+unfolding flag_set
+makes_flag_set x flag g es result d = flagged (with_flag flag.0) x g es result d
+
+pub makes_flag_cleared : (x : Dbref) (flag : Flags) (g : Guard) (es : List Entry) (result : Result (Unit {0}) DbFault)
+    → Does (set_at (with_flags (without_flag flag.0 (flags_at x g.db.now)))) (flags_check x (without_flag flag.0 (flags_at x g.db.now)) g.db.now) g.db.now es result
+    → Makes (flag_cleared x flag) (flags_check x (without_flag flag.0 (flags_at x g.db.now)) g.db.now) g (with_objects es g) result
+unfolding flag_cleared
+makes_flag_cleared x flag g es result d = flagged (without_flag flag.0) x g es result d

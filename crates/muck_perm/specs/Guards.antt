@@ -1,0 +1,95 @@
+-- What a guard does to the world that it lends.
+use Rattle.std.specs.Prelude.{◌≡◌, ◌⊎◌, ℕ, Bool, false, ◌||◌, List, Option, Some, None, Result, Ok, Err, MatchResult}
+use Rattle.std.specs.Option.{option_map_or, option_and_then}
+use Rattle.std.specs.FinMap.{get}
+use Rattle.muck_model.specs.declared.dbref.Dbref.{Dbref}
+use Rattle.muck_model.specs.declared.dbref.Flags.{Flags}
+use Rattle.muck_model.specs.declared.dbref.Kind.{Kind}
+use Rattle.muck_model.specs.declared.dbref.Kind.TheVariants.{Thing, Exit}
+use Rattle.muck_model.specs.declared.memory.NoMemory.{NoMemory}
+use Rattle.muck_prop.specs.declared.value.PropValue.{PropValue}
+use Rattle.muck_prop.specs.declared.value.PropValue.TheVariants.{Text, Number}
+use Rattle.muck_prop.specs.Paths.{path_fault, segments_of}
+use Rattle.muck_live.specs.declared.object.Object.{Object}
+use Rattle.muck_live.specs.declared.fault.DbFault.{DbFault}
+use Rattle.muck_live.specs.declared.fault.DbFault.TheVariants.{NoMemory as WantsMemory}
+use Rattle.muck_live.specs.Flags.{no_flags}
+use Rattle.muck_live.specs.Objects.{Entry, dbref_of, nothing, home, same, object_at}
+use Rattle.muck_live.specs.Setting.{may_link, may_live}
+use Rattle.muck_live.specs.Lives.{Live, Change}
+use Rattle.muck_rights.specs.declared.act.Act.{Act}
+use Rattle.muck_rights.specs.Verdict.{verdict}
+use Rattle.muck_perm.specs.declared.rules.Pass.{Pass}
+use Rattle.muck_perm.specs.declared.guard.Guard.{Guard}
+
+-- the world that a guard has
+abbrev pub world_of : Guard → Live
+world_of g = record { objects = g.db.now; board = g.board.now }
+
+-- the guard with another world
+abbrev pub with_world : Live → Guard → Guard
+with_world w g = record g { db = record g.db { now = w.objects }; board = record g.board { now = w.board } }
+
+abbrev pub on_world : Change → Guard → Guard
+on_world f g = with_world (f (world_of g)) g
+
+-- the world of the guard has changed so, and nothing else of it
+abbrev pub Done : Change → Guard → Guard → Type 0
+Done f old new = new ≡ on_world f old
+
+-- it still holds the same places
+abbrev pub Same : Guard → Guard → Type 0
+Same old new = (new.db.ghost_name ≡ old.db.ghost_name) × (new.board.ghost_name ≡ old.board.ghost_name)
+
+-- the change was made, or memory was wanted
+abbrev pub Did : {X : Type 0} → Change → Guard → Guard → Result X NoMemory → Type 0
+Did f old new (Ok x) = Done f old new
+Did f old new (Err e) = Same old new
+
+-- leave for that act, by the actor that the guard has and in the world as it is
+abbrev pub IsLeave : Pass → Act → Guard → Type 0
+IsLeave pass act g = (pass.actor ≡ g.actor) × (pass.act.now ≡ act) × (verdict g.db.now g.actor act ≡ None)
+
+-- what a writer does that takes no memory: the change, or the first refusal of the world and nothing
+abbrev pub Makes : {X : Type 0} → Change → Result X DbFault → Guard → Guard → Result (Unit {0}) DbFault → Type 0
+Makes f (Ok x) old new result = (result ≡ Ok tt) × Done f old new
+Makes f (Err fault) old new result = (result ≡ Err fault) × (new ≡ old)
+
+-- one that may want memory
+abbrev pub Tries : {X : Type 0} → Change → Result X DbFault → Guard → Guard → Result (Unit {0}) DbFault → Type 0
+Tries f (Ok x) old new result = MatchResult result (λ u. Done f old new) (λ fault. (fault ≡ WantsMemory) × (new ≡ old))
+Tries f (Err fault) old new result = MatchResult result (λ u. ⊥) (λ found. ((found ≡ fault) ⊎ (found ≡ WantsMemory)) × (new ≡ old))
+
+-- the home of an object, nothing where it isn't there
+abbrev pub home_in : Dbref → List Entry → Dbref
+home_in x es = option_map_or (λ o. o.home) (object_at x es) nothing
+
+-- the flags of an object, none where it isn't there
+abbrev pub flags_at : Dbref → List Entry → Flags
+flags_at x es = option_map_or (λ o. o.flags) (object_at x es) no_flags
+
+-- what a maker does: the numbers of the new object and of its place go into the change
+abbrev pub Founds : Result (ℕ × ℕ) DbFault → (ℕ → ℕ → Change) → Guard → Guard → Result Dbref DbFault → Type 0
+Founds (Ok p) change old new result = MatchResult result (λ d. (d ≡ dbref_of p.0) × Done (change p.0 p.1) old new) (λ fault. (fault ≡ WantsMemory) × (new ≡ old))
+Founds (Err fault) change old new result = MatchResult result (λ d. ⊥) (λ found. ((found ≡ fault) ⊎ (found ≡ WantsMemory)) × (new ≡ old))
+
+-- an object is there and the test holds for its kind
+abbrev pub is_kind_at : (Kind → Bool) → List Entry → Dbref → Bool
+is_kind_at test es d = option_map_or (λ o. test o.kind) (object_at d es) false
+
+-- an exit may lead there
+abbrev pub may_lead : List Entry → Dbref → Bool
+may_lead es to = same to home || (same to nothing || is_kind_at (may_link Exit) es to)
+
+-- a thing may have its home there
+abbrev pub may_house : List Entry → Dbref → Bool
+may_house es to = is_kind_at (may_live Thing) es to
+
+-- the text that is kept, if it is one
+abbrev pub kept_text : PropValue → Option (List ℕ)
+kept_text (Text text) = Some text
+kept_text (Number n) = None
+
+-- the text that an object keeps at a path, which is given as text
+abbrev pub text_kept : List ℕ → Object → Option (List ℕ)
+text_kept path o = option_and_then kept_text (option_map_or (λ fault. None) (path_fault path) (get o.props (segments_of path)))
