@@ -1,5 +1,5 @@
 -- What a guard does to the world that it lends.
-use Rattle.std.specs.Prelude.{◌≡◌, ◌⊎◌, ℕ, Bool, true, false, ◌||◌, List, Option, Some, None, Result, Ok, Err, MatchResult}
+use Rattle.std.specs.Prelude.{◌≡◌, ◌⊎◌, ℕ, Bool, false, ◌||◌, List, Option, Some, None, Result, Ok, Err, MatchResult}
 use Rattle.std.specs.Option.{option_map_or, option_and_then}
 use Rattle.std.specs.FinMap.{get}
 use Rattle.muck_model.specs.declared.dbref.Dbref.{Dbref}
@@ -18,7 +18,6 @@ use Rattle.muck_live.specs.Objects.{Entry, dbref_of, nothing, home, same, object
 use Rattle.muck_live.specs.Setting.{may_link, may_live}
 use Rattle.muck_live.specs.Lives.{Live, Change}
 use Rattle.muck_rights.specs.declared.act.Act.{Act}
-use Rattle.muck_rights.specs.declared.act.Act.TheVariants.{Take}
 use Rattle.muck_rights.specs.Verdict.{verdict, place_of}
 use Rattle.muck_perm.specs.declared.rules.Pass.{Pass}
 use Rattle.muck_perm.specs.declared.guard.Guard.{Guard}
@@ -55,9 +54,9 @@ IsLeave pass act g = (pass.actor ≡ g.actor) × (pass.act.now ≡ act) × (verd
 abbrev pub IsGiven : Pass → Act → Guard → Type 0
 IsGiven pass act g = (pass.actor ≡ g.actor) × (pass.act.now ≡ act)
 
--- nothing denies that x is taken, or at most its lock does: it lies where the player is
-abbrev pub IsInReach : Dbref → Guard → Type 0
-IsInReach x g = (verdict g.db.now g.actor (Take x) ≡ None) ⊎ (same (place_of g.db.now x) (place_of g.db.now g.actor.player) ≡ true)
+-- x lies where the player is
+abbrev pub is_here : Dbref → Guard → Bool
+is_here x g = same (place_of g.db.now x) (place_of g.db.now g.actor.player)
 
 -- what a writer does that takes no memory: the change, or the first refusal of the world and nothing
 abbrev pub Makes : {X : Type 0} → Change → Result X DbFault → Guard → Guard → Result (Unit {0}) DbFault → Type 0

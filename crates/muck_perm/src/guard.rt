@@ -16,7 +16,7 @@ ghost use Rattle.muck_rights.specs.Levels.{level_at};
 ghost use Rattle.muck_rights.specs.Verdict.{is_guarded, lock_of_object};
 ghost use Rattle.muck_rights.specs.Changing.{named, owned_by, linked, homed, leveled, lines_kept, stored, unstored, moved_to, recycled_now, created_so, is_flag, flag_set, flag_cleared, password_kept, booted, tuned};
 ghost use Rattle.muck_rights.specs.Licence.{at_hand};
-ghost use Rattle.muck_perm.specs.Guards.{Did, Done, IsLeave, IsGiven, IsInReach, Makes, Tries, Founds, flags_at, home_in, may_lead, may_house, kept_text, text_kept};
+ghost use Rattle.muck_perm.specs.Guards.{Did, Done, IsLeave, IsGiven, is_here, Makes, Tries, Founds, flags_at, home_in, may_lead, may_house, kept_text, text_kept};
 
 use crate::flags::{flags_at, with_flag, without_flag};
 use crate::levels::level_at;
@@ -172,7 +172,7 @@ impl<'a> Guard<'a> {
     #[tactic(auto, using(crate::proofs::Guarding::makes_moved))]
     pub fn take(&mut self, pass: Pass, object: Dbref) -> Result<(), DbFault>
         requires leave { IsGiven pass (Act.Take object) self.old }
-        requires reach { IsInReach object self.old }
+        requires here { is_here object self.old ≡ true }
         ensures { Makes (moved_to object self.old.actor.player) (move_check object self.old.actor.player self.old.db.now) self.old self.new result }
     {
         let _ = pass;

@@ -1,10 +1,11 @@
 // That a guard writes by a pass, and asks for one.
 ghost use Rattle.std.specs.Prelude.{◌≡◌, ◌≤◌, length};
+ghost use Rattle.muck_perm.specs.Guards.{may_house};
 
 use crate::tests::{a_name, world};
 use crate::{Guard, verdict};
 use muck_board::Board;
-use muck_model::{Dbref, Line, Tune};
+use muck_model::{Dbref, Kind, Line, Tune};
 use muck_prop::{Path, PropValue, read_path};
 use muck_rights::{Act, Actor};
 use std::test::Fail;
@@ -27,6 +28,12 @@ const TWO: Actor = Actor {
 };
 
 const WIZARD: Actor = Actor { level: 4, ..TWO };
+
+const ONE: Actor = Actor {
+    level: 4,
+    user: Dbref(1),
+    player: Dbref(1),
+};
 
 // Whether there is leave to name the object, which is then named.
 fn renamed(guard: &mut Guard<'_>, object: Dbref, name: Line) -> Result<bool, Fail>
@@ -63,7 +70,6 @@ fn taken(guard: &mut Guard<'_>, object: Dbref) -> Result<bool, Fail> {
     let actor = guard.actor();
     match verdict(guard.db(), &actor, &act) {
         Ok(pass) => {
-            guard.tell(1, b"taken")?;
             guard.take(pass, object)?;
             Ok(true)
         }
@@ -112,6 +118,71 @@ fn dug(guard: &mut Guard<'_>, name: Line) -> Result<bool, Fail>
     }
 }
 
+// Whether there is leave to make an exit that leads nowhere, which is then made.
+fn opened(guard: &mut Guard<'_>, name: Line) -> Result<bool, Fail>
+    requires some { 1 ≤ length name }
+    requires short { length name ≤ 80 }
+{
+    let nowhere = Dbref(-1);
+    let act = Act::NewExit {
+        place: Dbref(5),
+        link: nowhere,
+    };
+    let actor = guard.actor();
+    match verdict(guard.db(), &actor, &act) {
+        Ok(pass) => {
+            let d = guard.create_exit(pass, name, Dbref(5), nowhere)?;
+            Ok(d.0 == 12)
+        }
+        Err(_) => Ok(false),
+    }
+}
+
+// Whether there is leave to make a program, which is then made.
+fn written(guard: &mut Guard<'_>, name: Line) -> Result<bool, Fail>
+    requires some { 1 ≤ length name }
+    requires short { length name ≤ 80 }
+{
+    let act = Act::NewProgram;
+    let actor = guard.actor();
+    match verdict(guard.db(), &actor, &act) {
+        Ok(pass) => {
+            let d = guard.create_program(pass, name, Dbref(2))?;
+            Ok(d.0 == 13)
+        }
+        Err(_) => Ok(false),
+    }
+}
+
+fn may_house(guard: &Guard<'_>, d: Dbref) -> bool
+    ensures { result ≡ may_house guard.now.db.now d }
+{
+    match guard.db().get(d) {
+        Some(object) => matches!(object.kind(), Kind::Room | Kind::Thing | Kind::Player),
+        None => false,
+    }
+}
+
+// Whether there is leave to make a thing with its home in Room Zero, which is then made.
+fn wrought(guard: &mut Guard<'_>, name: Line) -> Result<bool, Fail>
+    requires some { 1 ≤ length name }
+    requires short { length name ≤ 80 }
+{
+    let act = Act::NewThing { place: Dbref(5) };
+    let actor = guard.actor();
+    let home = Dbref(0);
+    if !may_house(guard, home) {
+        return Ok(false);
+    }
+    match verdict(guard.db(), &actor, &act) {
+        Ok(pass) => {
+            let d = guard.create_thing(pass, name, Dbref(5), home)?;
+            Ok(d.0 == 14)
+        }
+        Err(_) => Ok(false),
+    }
+}
+
 #[test]
 fn makes_by_a_pass(rt: HostRuntime) -> Result<(), Fail> {
     let alloc = rt.alloc();
@@ -121,6 +192,10 @@ fn makes_by_a_pass(rt: HostRuntime) -> Result<(), Fail> {
     assert!(rt; !dug(&mut guard, a_name(alloc)?)?);
     guard.swap_actor(Actor { level: 3, ..TWO });
     assert!(rt; dug(&mut guard, a_name(alloc)?)?);
+    assert!(rt; opened(&mut guard, a_name(alloc)?)?);
+    guard.swap_actor(ONE);
+    assert!(rt; written(&mut guard, a_name(alloc)?)?);
+    assert!(rt; wrought(&mut guard, a_name(alloc)?)?);
     Ok(())
 }
 
