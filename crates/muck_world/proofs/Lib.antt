@@ -1,11 +1,12 @@
 pub mod Positions
 pub mod Trims
 pub mod Living
-pub mod Numbered
-pub mod Lines
-pub mod Reached
-pub mod Runs
 pub mod Showing
 pub mod Built
 pub mod Gone
 pub mod Permitted
+pub mod Numbered
+pub mod Lines
+pub mod Reached
+pub mod Runs
+pub mod Turns

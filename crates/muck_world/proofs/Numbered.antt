@@ -1,10 +1,13 @@
--- Changes that keep the numbers of the connections: all that commands do.
-use Rattle.std.proofs.Common.{◌≡◌, ℕ, ◌<◌, Bool, true, false, cond, List, [], ◌∷◌, refl, ◌∙◌, ap, subst}
+-- Changes that keep the numbers of the connections, and among them those that change no object and nothing that is tuned.
+use Rattle.std.proofs.Common.{◌≡◌, ℕ, ◌<◌, Bool, true, false, cond, List, [], ◌∷◌, refl, ◌∙◌, ap, subst, Option}
 use Rattle.std.specs.Prelude.{map}
 use Rattle.muck_model.specs.declared.dbref.Dbref.{Dbref}
-use Rattle.muck_live.specs.Connections.{Connection, has_number, changed_in, told, left, seated, told_where, is_of, hears, has_player}
-use Rattle.muck_live.specs.Boards.{on_connection, told_one, told_player, told_others, told_all, leaving_one, seated_one}
-use Rattle.muck_live.specs.Lives.{Live, Change, followed, reading, either, unchanged, on_board, tell, tell_player, tell_others, tell_all, leave, enter, place_of}
+use Rattle.muck_live.specs.Connections.{Connection, has_number, changed_in, left, seated}
+use Rattle.muck_live.specs.Boards.{on_connection, leaving_one, seated_one}
+use Rattle.muck_live.specs.Lives.{Live, Change, followed, reading, either, on_board, leave, enter}
+use Rattle.muck_rights.specs.declared.act.Actor.{Actor}
+use Rattle.muck_rights.specs.Licence.{SameTies}
+use Rattle.muck_rights.proofs.Licences.{Quiet, tie, ties}
 use Rattle.muck_world.specs.Sound.{IsAbove, IsRising}
 
 unfoldable pub numbers : List Connection → List ℕ
@@ -43,72 +46,53 @@ numbers-changed_in d f keeps (c ∷ cs) =
       | false ↦ ap (λ ns. c.number ∷ ns) (numbers-changed_in d f keeps cs)
     ]
 
-pub numbers-map : (f : Connection → Connection) → ((c : Connection) → (f c).number ≡ c.number) → (cs : List Connection) → numbers (map f cs) ≡ numbers cs
+-- connections that are tied alike have the same numbers
+numbers-ties : (cs ds : List Connection) → ties ds ≡ ties cs → numbers ds ≡ numbers cs
 unfolding numbers
-numbers-map f keeps [] = refl
-numbers-map f keeps (c ∷ cs) = ap (λ n. n ∷ numbers (map f cs)) (keeps c) ∙ ap (λ ns. c.number ∷ ns) (numbers-map f keeps cs)
+numbers-ties [] [] e = refl
+numbers-ties [] (d ∷ ds) e = absurd cc
+numbers-ties (c ∷ cs) [] e = absurd cc
+numbers-ties (c ∷ cs) (d ∷ ds) e =
+    let head : tie d ≡ tie c = cc in
+    let rest : ties ds ≡ ties cs = cc in
+    ap (λ (t : ℕ × Option Dbref × Bool). t.0 ∷ numbers ds) head ∙ ap (λ ns. c.number ∷ ns) (numbers-ties cs ds rest)
 
--- The changes.
+pub numbers-same_ties : (a : Actor) (cs ds : List Connection) → SameTies a cs ds → numbers ds ≡ numbers cs
+unfolding numbers
+numbers-same_ties a [] [] t = refl
+numbers-same_ties a [] (d ∷ ds) t = absurd t
+numbers-same_ties a (c ∷ cs) [] t = absurd t
+numbers-same_ties a (c ∷ cs) (d ∷ ds) t = ap (λ n. n ∷ numbers ds) t.0 ∙ ap (λ ns. c.number ∷ ns) (numbers-same_ties a cs ds t.3)
 
--- f answers a world, beside what else it may answer, in which the connections have the same numbers
-pub record Numbered {Y : Type 0} (out : Y → Live) (f : Live → Y) : Type 0 where
-  pub law : (w : Live) → numbers (out (f w)).board.connections ≡ numbers w.board.connections
+-- Changes of connections alone, which keep their numbers.
+pub record Seating (f : Change) : Type 0 where
+  pub objects : (w : Live) → (f w).objects ≡ w.objects
+  pub tune : (w : Live) → (f w).board.tune ≡ w.board.tune
+  pub numbers : (w : Live) → numbers (f w).board.connections ≡ numbers w.board.connections
 
-unfoldable pub itself : Live → Live
-itself w = w
+pub seating_quiet : (f : Change) → Quiet f → Seating f
+seating_quiet f q = record { objects = q.objects; tune = q.tune; numbers = λ w. numbers-ties w.board.connections (f w).board.connections (q.ties w) }
 
-pub numbered_followed : {Y : Type 0} (out : Y → Live) (f : Change) (g : Live → Y) → Numbered itself f → Numbered out g → Numbered out (followed f g)
-unfolding followed itself
-numbered_followed out f g p q = record { law = λ w. q.law (f w) ∙ p.law w }
+pub seating_followed : (f g : Change) → Seating f → Seating g → Seating (followed f g)
+unfolding followed
+seating_followed f g p q = record { objects = λ w. q.objects (f w) ∙ p.objects w; tune = λ w. q.tune (f w) ∙ p.tune w; numbers = λ w. q.numbers (f w) ∙ p.numbers w }
 
-pub numbered_reading : {X Y : Type 0} (out : Y → Live) (get : Live → X) (go : X → Live → Y) → ((x : X) → Numbered out (go x)) → Numbered out (reading get go)
+pub seating_reading : {X : Type 0} (get : Live → X) (go : X → Change) → ((x : X) → Seating (go x)) → Seating (reading get go)
 unfolding reading
-numbered_reading out get go p = record { law = λ w. (p (get w)).law w }
+seating_reading get go p = record { objects = λ w. (p (get w)).objects w; tune = λ w. (p (get w)).tune w; numbers = λ w. (p (get w)).numbers w }
 
-pub numbered_either : {Y : Type 0} (out : Y → Live) (b : Bool) (f g : Live → Y) → Numbered out f → Numbered out g → Numbered out (either b f g)
+pub seating_either : (b : Bool) (f g : Change) → Seating f → Seating g → Seating (either b f g)
 unfolding either
-numbered_either out true f g p q = record { law = λ w. p.law w }
-numbered_either out false f g p q = record { law = λ w. q.law w }
+seating_either true f g p q = record { objects = p.objects; tune = p.tune; numbers = p.numbers }
+seating_either false f g p q = record { objects = q.objects; tune = q.tune; numbers = q.numbers }
 
-pub numbered_unchanged : Numbered itself unchanged
-unfolding unchanged itself
-numbered_unchanged = record { law = λ w. refl }
+pub seating_one : (d : ℕ) (f : Connection → Connection) → ((c : Connection) → (f c).number ≡ c.number) → Seating (on_board (on_connection d f))
+seating_one d f keeps = record { objects = λ w. refl; tune = λ w. refl; numbers = λ w. numbers-changed_in d f keeps w.board.connections }
 
-pub numbered_one : (d : ℕ) (f : Connection → Connection) → ((c : Connection) → (f c).number ≡ c.number) → Numbered itself (on_board (on_connection d f))
-unfolding itself
-numbered_one d f keeps = record { law = λ w. numbers-changed_in d f keeps w.board.connections }
-
-pub numbered_all : (f : Connection → Connection) → ((c : Connection) → (f c).number ≡ c.number) → (w : Live) → numbers (map f w.board.connections) ≡ numbers w.board.connections
-numbered_all f keeps w = numbers-map f keeps w.board.connections
-
-told_keeps : (b : Bool) (text : List ℕ) (c : Connection) → (cond b (told text c) c).number ≡ c.number
-told_keeps true text c = refl
-told_keeps false text c = refl
-
-pub numbered_tell : (d : ℕ) (text : List ℕ) → Numbered itself (tell d text)
-unfolding tell told_one
-numbered_tell d text = numbered_one d (told text) (λ c. refl)
-
-pub numbered_tell_player : (player : Dbref) (text : List ℕ) → Numbered itself (tell_player player text)
-unfolding tell_player told_player itself
-numbered_tell_player player text = record { law = λ w. numbered_all (told_where (is_of player) text) (λ c. told_keeps (is_of player c) text c) w }
-
-pub numbered_tell_others : (room but : Dbref) (text : List ℕ) → Numbered itself (tell_others room but text)
-unfolding tell_others told_others itself
-numbered_tell_others room but text = record {
-  law = λ w. numbered_all (told_where (hears (λ p. place_of p w.objects) room but) text) (λ c. told_keeps (hears (λ p. place_of p w.objects) room but c) text c) w;
-}
-
-pub numbered_tell_all : (text : List ℕ) → Numbered itself (tell_all text)
-unfolding tell_all told_all itself
-numbered_tell_all text = record { law = λ w. numbered_all (told_where has_player text) (λ c. told_keeps (has_player c) text c) w }
-
-pub numbered_leave : (d : ℕ) → Numbered itself (leave d)
+pub seating_leave : (d : ℕ) → Seating (leave d)
 unfolding leave leaving_one
-numbered_leave d = numbered_one d left (λ c. refl)
+seating_leave d = seating_one d left (λ c. refl)
 
-pub numbered_enter : (d : ℕ) (player : Dbref) → Numbered itself (enter d player)
+pub seating_enter : (d : ℕ) (player : Dbref) → Seating (enter d player)
 unfolding enter seated_one
-numbered_enter d player = numbered_one d (seated player) (λ c. refl)
-
-pub ruleset numbering = (numbered_followed, numbered_reading, numbered_either, numbered_unchanged, numbered_tell, numbered_tell_player, numbered_tell_others, numbered_tell_all, numbered_leave, numbered_enter)
+seating_enter d player = seating_one d (seated player) (λ c. refl)

@@ -290,11 +290,6 @@ played_open a own d line = record { law = λ w c h. at w c (begins_with_sign lin
     at w c true e = (commanded_open a own (λ es. nobody) d line (λ f. absurd (cc))).law w c tt
     at w c false e = through_open a own d line (exit_for (scenery_of w.objects) a.player line) w c
 
--- what the player of the connection d does by a line is licensed
-pub played_licensed : (d : ℕ) (player : Dbref) (lines : List (List ℕ)) (line : List ℕ) (w : Live) → player_in d w.board ≡ Some player →
-    Licensed (actor_of w.objects player) (free_line (actor_of w.objects player) line w.objects) w (world_of ((waits d lines ▸ played d (actor_of w.objects player) line) w))
-unfolding actor_of
-played_licensed d player lines line w own =
-    let a : Actor = actor_of w.objects player in
-    licensed world_of a (Some d) (free_line a line) (waits d lines ▸ played d a line)
-    (whole_followed world_of a (Some d) (free_line a line) Always (waits d lines) (played d a line) (quiet_waits d lines) (played_open a (Some d) d line)) w own
+-- with the lines that wait behind it
+pub waited_open : (a : Actor) (d : ℕ) (lines : List (List ℕ)) (line : List ℕ) → Whole world_of a (Some d) (free_line a line) Always (waits d lines ▸ played d a line)
+waited_open a d lines line = whole_followed world_of a (Some d) (free_line a line) Always (waits d lines) (played d a line) (quiet_waits d lines) (played_open a (Some d) d line)

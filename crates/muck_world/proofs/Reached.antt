@@ -11,15 +11,15 @@ use Rattle.muck_model.specs.declared.tune.Tune.{Tune}
 use Rattle.muck_live.specs.Objects.{Entry as Kept}
 use Rattle.muck_live.specs.Output.{bytes_of}
 use Rattle.muck_live.specs.Connections.{Connection, has_number, is_ready, placed, without, newcomer, connections_most, holds, lined}
-use Rattle.muck_live.specs.Boards.{opened, closed, line_added, bytes_taken, early_board}
-use Rattle.muck_live.specs.Lives.{Change, on_board}
+use Rattle.muck_live.specs.Boards.{player_in, opened, closed, line_added, bytes_taken, early_board}
+use Rattle.muck_live.specs.Lives.{Live, Change, followed, reading, on_board}
 use Rattle.muck_world.specs.World.{World, connection, queue_of, is_leaving, on_live, booted, starting}
-use Rattle.muck_world.specs.Talk.{welcome, done}
+use Rattle.muck_world.specs.Talk.{welcome, done, parted, gone_away}
 use Rattle.muck_world.specs.Steps.{is_allowed, is_lawful, happened, effect, next_ready}
 use Rattle.muck_world.specs.Histories.{by_porter}
 use Rattle.muck_world.specs.Sound.{IsAbove, IsRising, IsSound}
-use Rattle.muck_world.proofs.Numbered.{Numbered, itself as itself_live, rising_by, numbered_one}
-use Rattle.muck_world.proofs.Lines.{numbered_done}
+use Rattle.muck_world.proofs.Numbered.{numbers, rising_by, seating_quiet, seating_one}
+use Rattle.muck_world.proofs.Lines.{done_numbers, quiet_parted}
 
 cases_lt : (m n : ℕ) (P : Bool → Type 0) → (m < n → P true) → (n ≤ m → P false) → P (ltb m n)
 cases_lt m n P p q =
@@ -40,9 +40,8 @@ none_of None e = refl
 none_of (Some x) e = cc
 
 -- a change of what is live that keeps the numbers of the connections
-sound-live : (f : Change) → Numbered itself_live f → (w : World) → IsSound w → IsSound (on_live f w)
-unfolding itself_live
-sound-live f keeps w h = record { alive = h.alive; rising = rising_by w.live.board.connections (f w.live).board.connections (keeps.law w.live) h.rising }
+sound-live : (f : Change) → ((w : Live) → numbers (f w).board.connections ≡ numbers w.board.connections) → (w : World) → IsSound w → IsSound (on_live f w)
+sound-live f keeps w h = record { alive = h.alive; rising = rising_by w.live.board.connections (f w.live).board.connections (keeps w.live) h.rising }
 
 -- Connections that come and go.
 
@@ -89,6 +88,13 @@ rising-placed new (c ∷ cs) = λ none h.
     (λ less. ((less, above_more new.number c.number cs less h.0), h))
     (λ le. (above-placed c.number new cs (differs c.number new.number le other) h.0, rising-placed new cs rest h.1))
 
+sound-gone_away : (d : ℕ) (w : World) → IsSound w → IsSound (on_live (gone_away d) w)
+unfolding gone_away reading followed closed
+sound-gone_away d w h =
+    let parting : Change = parted (player_in d w.live.board) in
+    let v : World = on_live (on_board (closed d)) w in
+    sound-live parting (seating_quiet parting (quiet_parted (player_in d w.live.board))).numbers v (record { alive = h.alive; rising = rising-without d w.live.board.connections h.rising })
+
 no_connection : (d : ℕ) (w : World) (stop few : Bool) → (is_none (connection d w) && few && not stop) ≡ true → connection d w ≡ None
 no_connection d w stop few e = none_of (connection d w) (and_left _ _ (and_left _ _ e))
 
@@ -99,10 +105,10 @@ sound-happened (Opened d) party w other l h = record {
   alive = h.alive;
   rising = rising-placed (newcomer d welcome) w.live.board.connections (no_connection d w w.stopping (nat_lt (length w.live.board.connections) connections_most) l) h.rising;
 }
-sound-happened (Input d line) party w other l h = sound-live (on_board (line_added d line)) (numbered_one d (lined line) (λ c. refl)) w h
-sound-happened (Closed d) party w other l h = record { alive = h.alive; rising = rising-without d w.live.board.connections h.rising }
-sound-happened (Exec d) party w other l h = sound-live (done d (connection d w)) (numbered_done d (connection d w)) w h
-sound-happened (Take d n) party w other l h = sound-live (on_board (bytes_taken d n)) (numbered_one d _ (λ c. refl)) w h
+sound-happened (Input d line) party w other l h = sound-live (on_board (line_added d line)) (seating_one d (lined line) (λ c. refl)).numbers w h
+sound-happened (Closed d) party w other l h = sound-gone_away d w h
+sound-happened (Exec d) party w other l h = sound-live (done d (connection d w)) (done_numbers d (connection d w)) w h
+sound-happened (Take d n) party w other l h = sound-live (on_board (bytes_taken d n)) (seating_one d _ (λ c. refl)).numbers w h
 sound-happened Halt party w other l h = record { alive = h.alive; rising = h.rising }
 sound-happened Died party w other l h = absurd (other refl)
 sound-happened event party w other l h = h

@@ -4,6 +4,7 @@ use Rattle.muck_model.specs.declared.event.Entry.{Entry}
 use Rattle.muck_model.specs.declared.event.Event.{Event}
 use Rattle.muck_world.specs.World.{World}
 use Rattle.muck_world.specs.Steps.{Step, is_lawful, effect}
+use Rattle.muck_world.specs.Licences.{EventLicensed}
 
 -- the world after these entries
 abbrev pub after : World → List Entry → World
@@ -19,6 +20,11 @@ Run w (entry ∷ entries) v = (u : World) × Step w entry u × Run u entries v
 abbrev pub AllLawful : World → List Entry → Type 0
 AllLawful w [] = Unit {0}
 AllLawful w (entry ∷ entries) = (is_lawful w entry ≡ true) × AllLawful (effect w entry) entries
+
+-- each entry changes only what is open where it stands
+abbrev pub AllLicensed : World → List Entry → Type 0
+AllLicensed w [] = Unit {0}
+AllLicensed w (entry ∷ entries) = EventLicensed entry.event w (effect w entry) × AllLicensed (effect w entry) entries
 
 -- a history: how the world began, and what happened since
 pub record History : Type 0 where

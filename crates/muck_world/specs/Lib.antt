@@ -9,6 +9,7 @@ pub mod Commands
 pub mod Free
 pub mod Talk
 pub mod Steps
+pub mod Licences
 pub mod Histories
 pub mod Sound
 pub mod Rows

@@ -5,10 +5,10 @@ use Rattle.muck_model.specs.declared.event.Entry.{Entry}
 use Rattle.muck_model.specs.declared.event.Event.{Event}
 use Rattle.muck_model.specs.declared.event.Event.TheVariants.{Opened, Input, Closed, Exec, Take, Halt, Died}
 use Rattle.muck_live.specs.Connections.{Connection, is_ready, connections_most, takes_line, holds}
-use Rattle.muck_live.specs.Boards.{opened, closed, line_added, bytes_taken}
+use Rattle.muck_live.specs.Boards.{opened, line_added, bytes_taken}
 use Rattle.muck_live.specs.Lives.{on_board}
 use Rattle.muck_world.specs.World.{World, connection, on_live}
-use Rattle.muck_world.specs.Talk.{welcome, done}
+use Rattle.muck_world.specs.Talk.{welcome, done, gone_away}
 
 -- the connection d is there and passes
 abbrev pub passes : (Connection → Bool) → ℕ → World → Bool
@@ -37,7 +37,7 @@ is_lawful w entry = if w.dead then is_died entry.event else is_allowed w entry.p
 abbrev pub happened : World → Event → World
 happened w (Opened d) = on_live (on_board (opened d welcome)) w
 happened w (Input d line) = on_live (on_board (line_added d line)) w
-happened w (Closed d) = on_live (on_board (closed d)) w
+happened w (Closed d) = on_live (gone_away d) w
 happened w (Exec d) = on_live (done d (connection d w)) w
 happened w (Take d n) = on_live (on_board (bytes_taken d n)) w
 happened w Halt = record w { stopping = true }
