@@ -100,7 +100,7 @@ fn walks(rt: HostRuntime) -> Result<(), Fail> {
         (Act::Input(3, "\" a\rb "), 1, 3, ""),
         (Act::Exec, 3, 3, "You say, \"a\r\nb\"\r\n"),
         (Act::Input(3, "look"), 1, 3, ""),
-        (Act::Exec, 3, 3, HUH),
+        (Act::Exec, 3, 3, ROOM),
         (Act::Input(3, ""), 1, 3, ""),
         (Act::Exec, 3, 3, HUH),
         (Act::Input(3, "QUIT"), 1, 3, ""),
