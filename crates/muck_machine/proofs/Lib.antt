@@ -1,2 +1,4 @@
+pub mod Counts
+pub mod Outcomes
 pub mod Keepings
 pub mod Turns

@@ -1,6 +1,7 @@
 //! The world and what happens to it: each public call of [`World`] is one entry of its history.
 #![tactic(auto)]
 
+mod commands;
 mod origin;
 mod state;
 #[cfg(test)]

@@ -1,6 +1,9 @@
 // That calls succeed where memory is ample, and what a walk through the world answers.
+ghost use Rattle.std.specs.Prelude.{◌≡◌, length, IfOk};
+
 use crate::World;
-use muck_model::{Line, NoMemory};
+use muck_db::{Db, Persisted};
+use muck_model::{Dbref, Kind, Line, NoMemory, Tune};
 use std::alloc::Global;
 use std::test::Fail;
 
@@ -64,6 +67,21 @@ fn taken(alloc: Global, world: &mut World, d: u32) -> Result<Vec<u8>, Fail> {
     Ok(all)
 }
 
+// What happens and the answer, then a connection and what is taken from it.
+type Step = (Act, u32, u32, &'static str);
+
+// The first step that goes otherwise.
+fn first_wrong(alloc: Global, world: &mut World, steps: &[Step]) -> Result<Option<usize>, Fail> {
+    for (at, (act, answer, d, bytes)) in steps.iter().enumerate() {
+        let found = happens(alloc, world, *act)?;
+        let got = taken(alloc, world, *d)?;
+        if found != *answer || got.as_slice() != bytes.as_bytes() {
+            return Ok(Some(at));
+        }
+    }
+    Ok(None)
+}
+
 const WELCOME: &str = "Use: connect NAME PASSWORD, WHO or QUIT.\r\n";
 
 const REFUSED: &str = "Either that player does not exist, or has a different password.\r\n";
@@ -76,7 +94,6 @@ const GOODBYE: &str = "Come back later!\r\n";
 
 #[test]
 fn walks(rt: HostRuntime) -> Result<(), Fail> {
-    // What happens and the answer, then a connection and what is taken from it.
     let steps = [
         (Act::Exec, 0, 3, ""),
         (Act::Input(3, "look"), 0, 3, ""),
@@ -90,6 +107,8 @@ fn walks(rt: HostRuntime) -> Result<(), Fail> {
         (Act::Exec, 3, 3, REFUSED),
         (Act::Input(3, "connect One"), 1, 3, ""),
         (Act::Exec, 3, 3, WELCOME),
+        (Act::Input(3, " who "), 1, 3, ""),
+        (Act::Exec, 3, 3, "0 connected.\r\n"),
         (Act::Input(7, "CONNECT oNE potrzebie"), 1, 7, ""),
         (Act::Input(3, "  connect  One  potrzebie "), 1, 3, ""),
         (Act::Exec, 3, 3, ROOM),
@@ -100,7 +119,7 @@ fn walks(rt: HostRuntime) -> Result<(), Fail> {
         (Act::Input(3, "\" a\rb "), 1, 3, ""),
         (Act::Exec, 3, 3, "You say, \"a\r\nb\"\r\n"),
         (Act::Input(3, "look"), 1, 3, ""),
-        (Act::Exec, 3, 3, HUH),
+        (Act::Exec, 3, 3, ROOM),
         (Act::Input(3, ""), 1, 3, ""),
         (Act::Exec, 3, 3, HUH),
         (Act::Input(3, "QUIT"), 1, 3, ""),
@@ -125,17 +144,7 @@ fn walks(rt: HostRuntime) -> Result<(), Fail> {
         (Act::Halt, 0, 3, ""),
     ];
     let mut world = World::starting(rt.alloc())?;
-    let mut at = 0u8;
-    for (event, answer, d, bytes) in steps {
-        assert_eq!(rt;
-            happens(rt.alloc(), &mut world, event)?,
-            answer,
-            "at step {at}"
-        );
-        let got = taken(rt.alloc(), &mut world, d)?;
-        assert_eq!(rt; got.as_slice(), bytes.as_bytes(), "at step {at}");
-        at = at.saturating_add(1);
-    }
+    assert_eq!(rt; first_wrong(rt.alloc(), &mut world, &steps)?, None);
     let _ = world.into_tale();
     Ok(())
 }
@@ -153,5 +162,69 @@ fn has_bounds(rt: HostRuntime) -> Result<(), Fail> {
     }
     assert!(rt; !world.input(9, Line::new(rt.alloc(), b"x")?)?);
     assert_eq!(rt; world.waiting(9), 64);
+    Ok(())
+}
+
+fn a_name(alloc: Global, text: [u8; 3]) -> Result<Line, Fail>
+    ensures { IfOk result (λ line. length line ≡ 3) }
+{
+    Ok(Line::new(alloc, &text)?)
+}
+
+// One, and Two, whose password is `two`, in Room Zero, and an exit there to a program.
+fn town(alloc: Global) -> Result<World, Fail> {
+    let mut db = Db::starting(alloc)?;
+    let name = a_name(alloc, *b"Two")?;
+    let two = db.create(alloc, Kind::Player, name, Dbref(1), Dbref(0))?;
+    db.set_password(alloc, two, 7, &a_name(alloc, *b"two")?)?;
+    let name = a_name(alloc, *b"nil")?;
+    let program = db.create(alloc, Kind::Program, name, Dbref(1), Dbref(1))?;
+    let name = a_name(alloc, *b"run")?;
+    let exit = db.create(alloc, Kind::Exit, name, Dbref(1), Dbref(0))?;
+    db.set_link(exit, program)?;
+    let tune = Tune {
+        instr_slice: 1,
+        preempt_units: 1,
+        m1_units: 1,
+        m2_units: 1,
+        process_limit: 1,
+        player_processes: 1,
+        mpi_commands: 1,
+        dump_interval: 1,
+    };
+    Ok(World::boot(alloc, Persisted { db, tune }, 0, 0)?)
+}
+
+#[test]
+fn others_see(rt: HostRuntime) -> Result<(), Fail> {
+    let steps = [
+        (Act::Opened(1), 1, 1, WELCOME),
+        (Act::Opened(2), 1, 2, WELCOME),
+        (Act::Input(1, "connect one potrzebie"), 1, 1, ""),
+        (
+            Act::Exec,
+            1,
+            1,
+            "Room Zero(#0R)\r\nContents:\r\nTwo(#2P)\r\n",
+        ),
+        (Act::Input(2, "connect two two"), 1, 1, ""),
+        (Act::Exec, 2, 1, "Two has connected.\r\n"),
+        (Act::Exec, 0, 2, "Room Zero\r\nContents:\r\nOne\r\n"),
+        (Act::Input(2, ":waves"), 1, 1, ""),
+        (Act::Exec, 2, 1, "Two waves\r\n"),
+        (Act::Exec, 0, 2, "Two waves\r\n"),
+        (Act::Input(2, "@dig Hall"), 1, 1, ""),
+        (Act::Exec, 2, 2, "Permission denied (P14).\r\n"),
+        (Act::Input(1, "@dig Hall"), 1, 1, ""),
+        (Act::Exec, 1, 1, "Created Hall(#5R).\r\n"),
+        (Act::Input(1, "run"), 1, 1, ""),
+        (Act::Exec, 1, 1, "Program not compiled.\r\n"),
+        (Act::Input(2, "quit"), 1, 1, ""),
+        (Act::Exec, 2, 2, GOODBYE),
+        (Act::Exec, 0, 1, ""),
+        (Act::Closed(2), 1, 1, "Two has disconnected.\r\n"),
+    ];
+    let mut world = town(rt.alloc())?;
+    assert_eq!(rt; first_wrong(rt.alloc(), &mut world, &steps)?, None);
     Ok(())
 }

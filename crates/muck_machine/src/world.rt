@@ -206,18 +206,26 @@ impl World {
         }
     }
 
-    /// A connection goes. It takes no memory as yet.
+    /// A connection goes, and where it was a player's last one, others are told. After `NoMemory` the world is dead.
     pub fn closed(&mut self, d: u32) -> Result<(), NoMemory>
         requires { is_lawful (now self.old) (by_porter (Event.Closed d)) ≡ true }
         ensures ok { OnOk result (self.new ≡ entered self.old (by_porter (Event.Closed d))) }
         ensures died { OnErr result (self.new ≡ entered self.old (by_porter Event.Died)) }
     {
-        self.state.close(d);
-        self.tale.tell(&Entry {
-            party: 0,
-            event: Event::Closed { d },
-        });
-        Ok(())
+        match self.state.close(d) {
+            Ok(()) => {
+                self.tale.tell(&Entry {
+                    party: 0,
+                    event: Event::Closed { d },
+                });
+                Ok(())
+            }
+            Err(NoMemory) => {
+                self.dead = true;
+                self.tale.tell(&DIED);
+                Err(NoMemory)
+            }
+        }
     }
 
     // The lowest connection with a line that may be done.

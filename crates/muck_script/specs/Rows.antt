@@ -7,9 +7,10 @@ use Rattle.muck_script.specs.declared.act.Act.TheVariants.{Nothing, Open, Send}
 use Rattle.muck_script.specs.Lines.{lines_of}
 use Rattle.muck_live.specs.Output.{sent_lines, queue_most, bytes_of, lines_bytes, line_sent, lines_sent, sent, taken, lines_taken}
 use Rattle.muck_live.specs.Boards.{early_board, opened, closed, line_added, bytes_taken, told_one, leaving_one}
-use Rattle.muck_live.specs.Lives.{followed, either, tell, leave}
+use Rattle.muck_live.specs.Lives.{followed, reading, either, unchanged, tell, leave}
 use Rattle.muck_world.specs.World.{starting, booted}
-use Rattle.muck_world.specs.Talk.{at_login, quit, command, waits, line_done, done}
+use Rattle.muck_world.specs.Replies.{goodbye}
+use Rattle.muck_world.specs.Talk.{welcome, at_login, quit, command, waits, line_done, done, parted, gone_away}
 use Rattle.muck_world.specs.Steps.{is_lawful, effect, next_ready}
 use Rattle.muck_script.specs.Script.{act_of, script_of, script_most}
 use Rattle.muck_script.specs.Story.{turns, served, line_story, told, transcript}
@@ -100,5 +101,5 @@ whole_row = refl
 -- `QUIT` at the login screen, which is the last that connection 1 does
 quit_row : transcript (Open 1 ∷ Send 1 (codes "quit") ∷ []) starting
     ≡ codes "1< Use: connect NAME PASSWORD, WHO or QUIT." ++ 10 ∷ codes "1< Come back later!" ++ 10 ∷ codes "1 closed" ++ 10 ∷ []
-unfolding starting booted early_board opened closed line_added bytes_taken told_one leaving_one followed either tell leave quit command waits line_done done bytes_of lines_bytes line_sent lines_sent sent taken lines_taken is_lawful effect next_ready at_login sent_lines text_most queue_most turns served line_story told digits
+unfolding starting booted early_board opened closed line_added bytes_taken told_one leaving_one followed reading either unchanged tell leave goodbye welcome quit command waits line_done done parted gone_away bytes_of lines_bytes line_sent lines_sent sent taken lines_taken is_lawful effect next_ready at_login sent_lines text_most queue_most turns served line_story told digits
 quit_row = refl

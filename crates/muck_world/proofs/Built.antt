@@ -67,7 +67,7 @@ making_thing a free d name place at = ends_making a free (NewThing place) d Thin
 
 pub thing_made_open : (a : Actor) (free : Dbref → Bool) (d : ℕ) (name : List ℕ) → Ends itself a free None (thing_made d a name)
 unfolding thing_made
-thing_made_open a free d name = search (ending, making_thing)
+thing_made_open a free d name = search (permitting, making_thing) depth 7
 
 making_exit : (a : Actor) (free : Dbref → Bool) (d : ℕ) (name : List ℕ) (place to : Dbref) → Ends itself a free (Some (NewExit place to)) (making d a Exit name place (with_link to))
 making_exit a free d name place to = ends_making a free (NewExit place to) d Exit name place (with_link to) (λ start es k t s g e. exit_open a free start es name place to k t s g e)

@@ -93,54 +93,33 @@ typed (line ∷ lines) = by_porter (Input 1 line) ∷ by_porter (Exec 1) ∷ typ
 abbrev pub sent_for : List (List ℕ) → World → List (List (List ℕ))
 sent_for lines w = sent_by (typed lines) w
 
--- Talking, and what isn't a command.
-talk_rows :
-    (sent_for (codes "\"hi" ∷ codes "\"  hi  you " ∷ []) inside ≡ (codes "You say, \"hi\"" ∷ codes "You say, \"hi  you\"" ∷ []) ∷ [])
-    × (sent_for (codes "\"hi" ∷ codes ":waves" ∷ []) (company (1 ∷ 2 ∷ [])) ≡ (codes "You say, \"hi\"" ∷ codes "One waves" ∷ []) ∷ (codes "One says, \"hi\"" ∷ codes "One waves" ∷ []) ∷ [])
-    × (sent_for (codes " quit now" ∷ []) inside ≡ (codes "Come back later!" ∷ []) ∷ [])
-    × (sent_for ([] ∷ codes "xyzzy" ∷ []) inside ≡ (huh ∷ huh ∷ []) ∷ [])
-unfolding text_most number_named is_same begins_with has_word placed aliases numbers sight_place things_in exit_order is_there takes rest_behind hits_in runs hits_at hits_on hits exit_for fits answers objects_near near named player_named if_there found_by_sign found sent_lines queue_most bytes_of lines_bytes line_sent lines_sent sent object_at number_in kind_in flags_in place_in object_in list_in is_vehicle_in fits_in path_in changed_at garbage walk has without objects_most free_in blank_entry grown new_object created may_make make_judged owner_judged create_check moved judged move_check first_objects room_zero player_one scenery_of listed_in places_of flag_letters long_form opened closed line_added told_one told_others leaving_one early_board followed reading either unchanged tell tell_others leave level_at owner_at flag_at is_player_at owns controls_as command_level name_shown controls controls_or opens_at asked denied_text refused moved_to created_so huh goodbye cant_go you_say says created_reply has_disconnected has_left has_arrived usage contents_head connected_line connected_count actor_of finding where_so is_so message_at shown_others message_or message_shown message_to_others listed listed_under seen_in room_shown looked said posed who_lines who_shown ended moving gone led failed succeeded walked went is_name making dug thing_made exit_made opened_to created_shown incomplete one_part two_parts full_parts play_word play_done play_words play_line build_word open_done build_done build_line or_else commanded played booted starting welcome refused_login quit command in_world at_login connecting logged_in proved waits line_done done parted gone_away effect is_lawful digits
-talk_rows = (refl, refl, refl, refl)
-
--- What One sees where it stands, by what is kept as the room's description: nothing is.
+-- What One sees where it stands, by what is kept as the room's description.
 abbrev pub seen_by_one : Option PropValue → List (List (List ℕ))
 seen_by_one message = queues (reading (seen_in (dbref_of 1) (dbref_of 0)) (listed_under 1 (dbref_of 1) contents_head unchanged)
     (with_message unchanged (tell 1) (option_and_then text_of message) (reading (name_shown (dbref_of 1) (dbref_of 0)) (tell 1) (company (1 ∷ [])).live))).board.connections
 
-look_row : sent_for (codes "look" ∷ []) (company (1 ∷ [])) ≡ (codes "Room Zero(#0R)" ∷ codes "Contents:" ∷ codes "Two(#2P)" ∷ []) ∷ []
-unfolding text_most number_named is_same begins_with has_word placed aliases numbers sight_place things_in exit_order is_there takes rest_behind hits_in runs hits_at hits_on hits exit_for fits answers objects_near near named player_named if_there found_by_sign found sent_lines queue_most bytes_of lines_bytes line_sent lines_sent sent object_at number_in kind_in flags_in place_in object_in list_in is_vehicle_in fits_in path_in changed_at garbage walk has without objects_most free_in blank_entry grown new_object created may_make make_judged owner_judged create_check moved judged move_check first_objects room_zero player_one scenery_of listed_in places_of flag_letters long_form opened closed line_added told_one told_others leaving_one early_board followed reading either unchanged tell tell_others leave level_at owner_at flag_at is_player_at owns controls_as command_level name_shown controls controls_or opens_at asked denied_text refused moved_to created_so huh goodbye cant_go you_say says created_reply has_disconnected has_left has_arrived usage contents_head connected_line connected_count actor_of finding where_so is_so message_at shown_others message_or message_shown message_to_others listed listed_under seen_in room_shown looked said posed who_lines who_shown ended moving gone led failed succeeded walked went is_name making dug thing_made exit_made opened_to created_shown incomplete one_part two_parts full_parts play_word play_done play_words play_line build_word open_done build_done build_line or_else commanded played booted starting welcome refused_login quit command in_world at_login connecting logged_in proved waits line_done done parted gone_away effect is_lawful digits
-look_row = ap seen_by_one (get-empty _ (message_path (codes "de")))
-
--- Building, which Two may not: One makes a room and a thing.
-build_rows :
-    (sent_for (codes "@dig Hall" ∷ codes "@create lamp" ∷ codes "@create " ∷ []) inside ≡ (codes "Created Hall(#2R)." ∷ codes "Created lamp(#3)." ∷ codes "Usage: @create" ∷ []) ∷ [])
+rows :
+    -- talking, and what isn't a command
+    (sent_for (codes "\"hi" ∷ codes "\"  hi  you " ∷ []) inside ≡ (codes "You say, \"hi\"" ∷ codes "You say, \"hi  you\"" ∷ []) ∷ [])
+    × (sent_for (codes "\"hi" ∷ codes ":waves" ∷ []) (company (1 ∷ 2 ∷ [])) ≡ (codes "You say, \"hi\"" ∷ codes "One waves" ∷ []) ∷ (codes "One says, \"hi\"" ∷ codes "One waves" ∷ []) ∷ [])
+    × (sent_for (codes " quit now" ∷ []) inside ≡ (codes "Come back later!" ∷ []) ∷ [])
+    × (sent_for ([] ∷ codes "xyzzy" ∷ []) inside ≡ (huh ∷ huh ∷ []) ∷ [])
+    -- a wizard sees numbers and flags; the room has no description
+    × (sent_for (codes "look" ∷ []) (company (1 ∷ [])) ≡ (codes "Room Zero(#0R)" ∷ codes "Contents:" ∷ codes "Two(#2P)" ∷ []) ∷ [])
+    -- building, which Two may not
+    × (sent_for (codes "@dig Hall" ∷ codes "@create lamp" ∷ codes "@create " ∷ []) inside ≡ (codes "Created Hall(#2R)." ∷ codes "Created lamp(#3)." ∷ codes "Usage: @create" ∷ []) ∷ [])
     × (sent_for (codes "@create lamp" ∷ []) (company (2 ∷ [])) ≡ (codes "Permission denied (P14)." ∷ []) ∷ [])
-unfolding text_most number_named is_same begins_with has_word placed aliases numbers sight_place things_in exit_order is_there takes rest_behind hits_in runs hits_at hits_on hits exit_for fits answers objects_near near named player_named if_there found_by_sign found sent_lines queue_most bytes_of lines_bytes line_sent lines_sent sent object_at number_in kind_in flags_in place_in object_in list_in is_vehicle_in fits_in path_in changed_at garbage walk has without objects_most free_in blank_entry grown new_object created may_make make_judged owner_judged create_check moved judged move_check first_objects room_zero player_one scenery_of listed_in places_of flag_letters long_form opened closed line_added told_one told_others leaving_one early_board followed reading either unchanged tell tell_others leave level_at owner_at flag_at is_player_at owns controls_as command_level name_shown controls controls_or opens_at asked denied_text refused moved_to created_so huh goodbye cant_go you_say says created_reply has_disconnected has_left has_arrived usage contents_head connected_line connected_count actor_of finding where_so is_so message_at shown_others message_or message_shown message_to_others listed listed_under seen_in room_shown looked said posed who_lines who_shown ended moving gone led failed succeeded walked went is_name making dug thing_made exit_made opened_to created_shown incomplete one_part two_parts full_parts play_word play_done play_words play_line build_word open_done build_done build_line or_else commanded played booted starting welcome refused_login quit command in_world at_login connecting logged_in proved waits line_done done parted gone_away effect is_lawful digits
-build_rows = (refl, refl)
-
--- The login screen wants a name and a password, and no word behind WHO and QUIT.
-login_rows :
-    (sent_for (codes "connect One" ∷ codes "WHO x" ∷ codes "QUIT x" ∷ codes "look" ∷ []) outside ≡ (welcome ∷ welcome ∷ welcome ∷ welcome ∷ []) ∷ [])
+    -- the login screen wants a name and a password, and no word behind WHO and QUIT
+    × (sent_for (codes "connect One" ∷ codes "WHO x" ∷ codes "QUIT x" ∷ codes "look" ∷ []) outside ≡ (welcome ∷ welcome ∷ welcome ∷ welcome ∷ []) ∷ [])
     × (sent_for (codes "  connect  Nobody   at all " ∷ []) outside ≡ (refused_login ∷ []) ∷ [])
     × (sent_for (codes " who " ∷ codes "quit" ∷ []) outside ≡ (codes "0 connected." ∷ goodbye ∷ []) ∷ [])
-unfolding text_most number_named is_same begins_with has_word placed aliases numbers sight_place things_in exit_order is_there takes rest_behind hits_in runs hits_at hits_on hits exit_for fits answers objects_near near named player_named if_there found_by_sign found sent_lines queue_most bytes_of lines_bytes line_sent lines_sent sent object_at number_in kind_in flags_in place_in object_in list_in is_vehicle_in fits_in path_in changed_at garbage walk has without objects_most free_in blank_entry grown new_object created may_make make_judged owner_judged create_check moved judged move_check first_objects room_zero player_one scenery_of listed_in places_of flag_letters long_form opened closed line_added told_one told_others leaving_one early_board followed reading either unchanged tell tell_others leave level_at owner_at flag_at is_player_at owns controls_as command_level name_shown controls controls_or opens_at asked denied_text refused moved_to created_so huh goodbye cant_go you_say says created_reply has_disconnected has_left has_arrived usage contents_head connected_line connected_count actor_of finding where_so is_so message_at shown_others message_or message_shown message_to_others listed listed_under seen_in room_shown looked said posed who_lines who_shown ended moving gone led failed succeeded walked went is_name making dug thing_made exit_made opened_to created_shown incomplete one_part two_parts full_parts play_word play_done play_words play_line build_word open_done build_done build_line or_else commanded played booted starting welcome refused_login quit command in_world at_login connecting logged_in proved waits line_done done parted gone_away effect is_lawful digits
-login_rows = (refl, refl, refl)
-
--- Others see that a player has gone once its last connection has.
-closed_rows :
-    (sent_by (by_porter (Closed 2) ∷ []) (company (2 ∷ 1 ∷ 1 ∷ [])) ≡ [] ∷ [] ∷ [])
+    -- others see that a player has gone once its last connection has
+    × (sent_by (by_porter (Closed 2) ∷ []) (company (2 ∷ 1 ∷ 1 ∷ [])) ≡ [] ∷ [] ∷ [])
     × (sent_by (by_porter (Closed 2) ∷ by_porter (Closed 3) ∷ []) (company (2 ∷ 1 ∷ 1 ∷ [])) ≡ (codes "One has disconnected." ∷ []) ∷ [])
-unfolding text_most number_named is_same begins_with has_word placed aliases numbers sight_place things_in exit_order is_there takes rest_behind hits_in runs hits_at hits_on hits exit_for fits answers objects_near near named player_named if_there found_by_sign found sent_lines queue_most bytes_of lines_bytes line_sent lines_sent sent object_at number_in kind_in flags_in place_in object_in list_in is_vehicle_in fits_in path_in changed_at garbage walk has without objects_most free_in blank_entry grown new_object created may_make make_judged owner_judged create_check moved judged move_check first_objects room_zero player_one scenery_of listed_in places_of flag_letters long_form opened closed line_added told_one told_others leaving_one early_board followed reading either unchanged tell tell_others leave level_at owner_at flag_at is_player_at owns controls_as command_level name_shown controls controls_or opens_at asked denied_text refused moved_to created_so huh goodbye cant_go you_say says created_reply has_disconnected has_left has_arrived usage contents_head connected_line connected_count actor_of finding where_so is_so message_at shown_others message_or message_shown message_to_others listed listed_under seen_in room_shown looked said posed who_lines who_shown ended moving gone led failed succeeded walked went is_name making dug thing_made exit_made opened_to created_shown incomplete one_part two_parts full_parts play_word play_done play_words play_line build_word open_done build_done build_line or_else commanded played booted starting welcome refused_login quit command in_world at_login connecting logged_in proved waits line_done done parted gone_away effect is_lawful digits
-closed_rows = (refl, refl)
-
--- a new connection is sent the welcome line, with its end
-opened_row : bytes_of (newcomer 2 welcome).output ≡ codes "Use: connect NAME PASSWORD, WHO or QUIT." ++ 13 ∷ 10 ∷ []
-unfolding text_most number_named is_same begins_with has_word placed aliases numbers sight_place things_in exit_order is_there takes rest_behind hits_in runs hits_at hits_on hits exit_for fits answers objects_near near named player_named if_there found_by_sign found sent_lines queue_most bytes_of lines_bytes line_sent lines_sent sent object_at number_in kind_in flags_in place_in object_in list_in is_vehicle_in fits_in path_in changed_at garbage walk has without objects_most free_in blank_entry grown new_object created may_make make_judged owner_judged create_check moved judged move_check first_objects room_zero player_one scenery_of listed_in places_of flag_letters long_form opened closed line_added told_one told_others leaving_one early_board followed reading either unchanged tell tell_others leave level_at owner_at flag_at is_player_at owns controls_as command_level name_shown controls controls_or opens_at asked denied_text refused moved_to created_so huh goodbye cant_go you_say says created_reply has_disconnected has_left has_arrived usage contents_head connected_line connected_count actor_of finding where_so is_so message_at shown_others message_or message_shown message_to_others listed listed_under seen_in room_shown looked said posed who_lines who_shown ended moving gone led failed succeeded walked went is_name making dug thing_made exit_made opened_to created_shown incomplete one_part two_parts full_parts play_word play_done play_words play_line build_word open_done build_done build_line or_else commanded played booted starting welcome refused_login quit command in_world at_login connecting logged_in proved waits line_done done parted gone_away effect is_lawful digits
-opened_row = refl
-
--- what waits on a leaving connection is not done, and nobody but the porter halts the world
-lawful_rows :
-    (is_lawful (after inside (by_porter (Input 1 (codes "QUIT")) ∷ by_porter (Input 1 (codes "x")) ∷ by_porter (Exec 1) ∷ [])) (by_porter (Exec 1)) ≡ false)
+    -- a new connection is sent the welcome line, with its end
+    × (bytes_of (newcomer 2 welcome).output ≡ codes "Use: connect NAME PASSWORD, WHO or QUIT." ++ 13 ∷ 10 ∷ [])
+    -- what waits on a leaving connection is not done, and nobody but the porter halts the world
+    × (is_lawful (after inside (by_porter (Input 1 (codes "QUIT")) ∷ by_porter (Input 1 (codes "x")) ∷ by_porter (Exec 1) ∷ [])) (by_porter (Exec 1)) ≡ false)
     × (is_lawful inside (record { party = 9; event = Halt }) ≡ false)
 unfolding text_most number_named is_same begins_with has_word placed aliases numbers sight_place things_in exit_order is_there takes rest_behind hits_in runs hits_at hits_on hits exit_for fits answers objects_near near named player_named if_there found_by_sign found sent_lines queue_most bytes_of lines_bytes line_sent lines_sent sent object_at number_in kind_in flags_in place_in object_in list_in is_vehicle_in fits_in path_in changed_at garbage walk has without objects_most free_in blank_entry grown new_object created may_make make_judged owner_judged create_check moved judged move_check first_objects room_zero player_one scenery_of listed_in places_of flag_letters long_form opened closed line_added told_one told_others leaving_one early_board followed reading either unchanged tell tell_others leave level_at owner_at flag_at is_player_at owns controls_as command_level name_shown controls controls_or opens_at asked denied_text refused moved_to created_so huh goodbye cant_go you_say says created_reply has_disconnected has_left has_arrived usage contents_head connected_line connected_count actor_of finding where_so is_so message_at shown_others message_or message_shown message_to_others listed listed_under seen_in room_shown looked said posed who_lines who_shown ended moving gone led failed succeeded walked went is_name making dug thing_made exit_made opened_to created_shown incomplete one_part two_parts full_parts play_word play_done play_words play_line build_word open_done build_done build_line or_else commanded played booted starting welcome refused_login quit command in_world at_login connecting logged_in proved waits line_done done parted gone_away effect is_lawful digits
-lawful_rows = (refl, refl)
+rows = (refl, refl, refl, refl, ap seen_by_one (get-empty _ (message_path (codes "de"))), refl, refl, refl, refl, refl, refl, refl, refl, refl, refl)

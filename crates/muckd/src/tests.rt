@@ -66,8 +66,8 @@ fn worked_rows(rt: HostRuntime) -> Result<(), Fail> {
             "1< Use: connect NAME PASSWORD, WHO or QUIT.\n1< Either that player does not exist, or has a different password.\n1< Room Zero(#0R)\n",
         ),
         (
-            "open 1\nsend 1 connect One potrzebie\nsend 1 look\nsend 1 \"  a \"b  \n",
-            "1< Use: connect NAME PASSWORD, WHO or QUIT.\n1< Room Zero(#0R)\n1< Huh?  (Type \"help\" for help.)\n1< You say, \"a \"b\"\n",
+            "open 1\nsend 1 connect One potrzebie\nsend 1 look\nsend 1 \"  a \"b  \nsend 1 xyzzy\n",
+            "1< Use: connect NAME PASSWORD, WHO or QUIT.\n1< Room Zero(#0R)\n1< Room Zero(#0R)\n1< You say, \"a \"b\"\n1< Huh?  (Type \"help\" for help.)\n",
         ),
     ];
     for (script, want) in cases {

@@ -2,7 +2,7 @@
 ghost use Rattle.std.specs.Prelude.{◌≡◌, ◌↔◌, ◌⊎◌, ℕ, true, false, IfOk, vec_len, map, string_bytes, [], List, Option, ◌≤◌};
 ghost use Rattle.muck_io.specs.Faults.{Rose};
 ghost use Rattle.muck_world.specs.World.{starting};
-ghost use Rattle.muck_world.specs.Histories.{now, extended};
+ghost use Rattle.muck_world.specs.Histories.{now, extended, AllLicensed};
 ghost use Rattle.muckd.specs.Words.{is_run};
 ghost use Rattle.muckd.specs.Outcome.{status_of, halted, HasRun, HasAnswered, IsWholeRun, IsTranscribed, IsBrokenRun, IsUnbegun, IsFirstOutside, IsInGrammar};
 
@@ -29,6 +29,7 @@ pub struct Done {
 ///
 /// The first cause stands: the words, then reading the script, then its grammar, then the run. Want of memory may come at
 /// any place.
+#[tactic(auto, using(muck_world::proofs::Turns::all_licensed))]
 pub fn muckd<S: Source, K: Sink>(
     alloc: Global,
     words: &[String],
@@ -49,6 +50,10 @@ pub fn muckd<S: Source, K: Sink>(
 
     // The tale is the story of that script, each entry lawful where it stands, and the source was read to its end.
     ensures history { result.why ≡ Why.Fine → IsWholeRun (S.left script.old) (S.left script.new) (K.written out.old) (K.written out.new) result.tale.entries }
+
+    // However the call ended, each entry of the tale changed only what is open where it stands: a line of a player what is
+    // open to that player by its rights before the line, and every other entry no object and nothing that is tuned.
+    ensures licensed { AllLicensed starting result.tale.entries }
 
     // A fault is answered only where that count rose in this call; no count of a thing that isn't answered for rose.
     ensures read_fault { result.why ≡ Why.ReadFault → Rose (S.faults script.old) (S.faults script.new) }

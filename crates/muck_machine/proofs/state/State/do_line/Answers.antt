@@ -14,6 +14,5 @@ pub returns-in-Some : goal.returns-in-Some
 returns-in-Some c =
     let w = state.the_view c.self.inside in
     let P : World → Type 0 = λ v. c.obey.new.self ≡ on_live (done c.args.d (connection c.args.d v)) v in
-    let L : List ℕ → Type 0 = λ line. OnOk c.obey.result (c.obey.new.self ≡ on_live (command c.in-Some.player c.args.d line) (state.the_view (record c.self.inside { board = c.take_line.new.self }))) in
     on_ok_as c.obey.result (c.obey.new.self ≡ on_live (command c.in-Some.player c.args.d c.in-Some.line) (state.the_view (record c.self.inside { board = c.take_line.new.self }))) _
-    (λ e. subst P c.self.view_is (e ∙ line_taken c.args.d w c.take_line.new.self c.in-Some.player c.in-Some.line c.in-Some.ensures)) (subst L c.as_slice.ensures.bytes c.obey.ensures)
+    (λ e. subst P c.self.view_is (e ∙ line_taken c.args.d w c.take_line.new.self c.in-Some.player c.in-Some.line c.in-Some.ensures)) c.obey.ensures

@@ -1,0 +1,11 @@
+-- A command that is done isn't left to the next crate.
+use Rattle.std.proofs.Common.{◌≡◌, refl}
+use Rattle.muck_live.specs.Lives.{Live}
+use Rattle.muck_world.specs.declared.outcome.Outcome.{Outcome}
+use Rattle.muck_world.specs.declared.outcome.Outcome.TheVariants.{NotMine}
+use Rattle.muck_world.specs.Going.{Play}
+use Rattle.muck_world.specs.Commands.{or_next}
+
+pub or_next_mine : (next : Play) (w : Live) (outcome : Outcome) → (outcome ≡ NotMine → ⊥) → or_next next (w, outcome) ≡ (w, outcome)
+or_next_mine next w NotMine h = absurd (h refl)
+or_next_mine next w outcome h = refl

@@ -1,0 +1,51 @@
+// Connections that go.
+ghost use Rattle.std.specs.Prelude.{◌≡◌, OnOk, Bool, ℕ};
+ghost use Rattle.std.specs.List.{list_any};
+ghost use Rattle.muck_model.specs.declared.event.Event.{Event};
+ghost use Rattle.muck_live.specs.Connections.{is_of};
+ghost use Rattle.muck_world.specs.World.{on_live};
+ghost use Rattle.muck_world.specs.Steps.{happened};
+ghost use Rattle.muck_world.specs.Talk.{parted};
+
+use crate::commands::actor_of;
+use crate::state::State;
+use cmd_parts::show_others;
+use muck_model::{Dbref, NoMemory};
+use muck_perm::Guard;
+
+impl State {
+    /// A connection goes.
+    #[tactic(auto, unfolding(muck_world::specs::Talk::gone_away, muck_live::specs::Lives::followed, muck_live::specs::Lives::reading))]
+    pub fn close(&mut self, d: u32) -> Result<(), NoMemory>
+        ensures { OnOk result (self.new ≡ happened self.old (Event.Closed d)) }
+    {
+        let player = self.board.player(d);
+        self.board.close(d);
+        self.part(player)
+    }
+
+    // The others where a player is see that its last connection has gone.
+    #[tactic(auto, unfolding(muck_world::specs::Talk::parted, muck_world::specs::Replies::has_disconnected, muck_live::specs::Lives::unchanged, muck_live::specs::Lives::reading))]
+    fn part(&mut self, player: Option<Dbref>) -> Result<(), NoMemory>
+        ensures { OnOk result (self.new ≡ on_live (parted player) self.old) }
+    {
+        let Some(player) = player else {
+            return Ok(());
+        };
+        if self.is_in(player) {
+            return Ok(());
+        }
+        let actor = actor_of(&self.db, player);
+        let mut guard = Guard::new(self.alloc, &mut self.db, &mut self.board, actor);
+        show_others(&mut guard, player, b" has disconnected.")?;
+        Ok(())
+    }
+
+    // Whether a player is connected.
+    #[tactic(auto, using(crate::proofs::Counts::any_counted))]
+    fn is_in(&self, player: Dbref) -> bool
+        ensures { result ≡ list_any (is_of player) self.now.live.board.connections }
+    {
+        self.board.connections_of(player) > 0
+    }
+}
