@@ -21,7 +21,7 @@ use Rattle.muck_live.specs.declared.fault.DbFault.{DbFault}
 use Rattle.muck_live.specs.declared.object.Object.{Object}
 use Rattle.muck_live.specs.Objects.{Entry, dbref_of, nothing, home, same, is_room, is_thing, is_exit, is_player, is_program, number_in, object_at, kind_in}
 use Rattle.muck_live.specs.Making.{create_check}
-use Rattle.muck_live.specs.Setting.{with_link, with_home, link_check, home_check, owner_check, may_link}
+use Rattle.muck_live.specs.Setting.{with_link, with_home, link_check, home_check, owner_check, may_link, may_live}
 use Rattle.muck_live.specs.Recycling.{recycle_check}
 use Rattle.muck_live.specs.Seen.{scenery_of, long_form, signed_text}
 use Rattle.muck_live.specs.Lives.{Live, Change, followed, ◌▸◌, reading, either, unchanged, tell, place_at, name_at}
@@ -83,12 +83,18 @@ dug d a name =
     (asked a (NewRoom (dbref_of 0)) (refused d) (making d a Room name (dbref_of 0) as_made))
     (tell d bad_name)
 
+-- a thing may have its home there
+abbrev pub may_house : Dbref → Live → Bool
+may_house to w = is_so (λ o. may_live Thing o.kind) to w
+
+-- a thing that the player carries, with that home
+unfoldable pub housed : ℕ → Actor → List ℕ → Dbref → Change
+housed d a name to = where_so (may_house to) (tell d cant_be_done) (making d a Thing name a.player (with_home to))
+
 -- `@create`: a thing whose home is the player's
 unfoldable pub thing_made : ℕ → Actor → List ℕ → Change
 thing_made d a name =
-    either (is_name name)
-    (asked a (NewThing a.player) (refused d) (reading (home_at a.player) (λ to. making d a Thing name a.player (with_home to))))
-    (tell d bad_name)
+    either (is_name name) (asked a (NewThing a.player) (refused d) (reading (home_at a.player) (housed d a name))) (tell d bad_name)
 
 -- an exit may lead there
 abbrev pub may_lead : Dbref → Live → Bool
