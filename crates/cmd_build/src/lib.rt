@@ -2,4 +2,9 @@
 //! world that a guard lends just as the definition of `muck_world` of that name says.
 #![tactic(auto)]
 
+mod making;
 mod names;
+mod owning;
+mod searching;
+#[cfg(test)]
+mod tests;

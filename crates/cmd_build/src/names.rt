@@ -47,10 +47,7 @@ pub fn is_name(name: &[u8]) -> bool
     ensures some { result ≡ true → 1 ≤ length name.now }
     ensures short { result ≡ true → length name.now ≤ 80 }
 {
-    !(has_bad_start(name)
-        || name.len() > NAME_MOST
-        || has_byte(b'\r', name)
-        || is_reserved(name))
+    !(has_bad_start(name) || name.len() > NAME_MOST || has_byte(b'\r', name) || is_reserved(name))
 }
 
 /// Whether a player may have this name, which no player has.
