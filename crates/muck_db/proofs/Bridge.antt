@@ -17,7 +17,9 @@ use Rattle.muck_live.proofs.Orders.{ordered_moved, list_short}
 use Rattle.muck_live.proofs.Readers.{entries_ext, length_moved, list_moved, object_moved, object_unmoved, mark_moved, kind_moved}
 use Rattle.muck_db.specs.declared.slot.Slot.{Slot}
 use Rattle.muck_db.specs.Slots.{next_at, first_at, place_at, kind_at, path_at, is_exit_at, list_at, on_slot, dbrefs_from, entries_of, HasChains, HasOrder, IsSound, IsKept, IsUnlinked, IsLinked}
+use Rattle.muck_db.specs.Limits.{IsWithinLimits}
 use Rattle.muck_live.proofs.Ties.{consistent_moved}
+use Rattle.muck_db.proofs.LimitLaws.{limits_moved}
 use Rattle.muck_db.proofs.Tables.{first-on_slot, next-on_slot, mark-on_slot, object-on_slot_same, object-on_slot_other}
 use Rattle.muck_db.proofs.Linked.{chain_at, chain_over}
 use Rattle.muck_db.proofs.Readers.{length-entries_of, object_in-entries_of, list_in-entries_of, place_in-entries_of, is_exit-entries_of, kind_in-entries_of, flags_in-entries_of, home_in-entries_of, owner_in-entries_of, mark_in-entries_of}
@@ -164,7 +166,7 @@ seen_some es d k h = rw h refl
 -- a move keeps the rule of the type
 pub kept_moved : (old new : List Slot) (d to lowest told : ℕ) → MayMove (entries_of old) d to → entries_of new ≡ moved d to (entries_of old) → HasOrder new → IsKept old lowest told → IsKept new lowest told
 kept_moved old new d to lowest told may is order kept = record {
-  sound = record { ends = order.ends; world = let P : List Entry → Type 0 = λ z. IsConsistent z in subst P (sym is) (consistent_moved (entries_of old) d to may kept.sound.world) };
+  sound = record { ends = order.ends; world = let P : List Entry → Type 0 = λ z. IsConsistent z in subst P (sym is) (consistent_moved (entries_of old) d to may kept.sound.world); limits = subst IsWithinLimits (sym is) (limits_moved d to (entries_of old) kept.sound.limits) };
   full = λ k lt. rw (← kind_in-entries_of new k, is, kind_moved (entries_of old) d to k, kind_in-entries_of old k) (kept.full k lt);
   unmarked = λ k lt. rw (← mark_in-entries_of new k, is, mark_moved (entries_of old) d to k, mark_in-entries_of old k) (kept.unmarked k lt);
 }

@@ -19,6 +19,8 @@ use Rattle.muck_live.proofs.KindLaws.{standing_alive}
 use Rattle.muck_live.proofs.CreationLaws.{free_is, MayCreate, may_create, Begins, begins, grown_kind, grown_more, grown_same, free_le, other_kind, named_kind, ordered_grown, ordered_named, create_checked, consistent_created}
 use Rattle.muck_db.specs.declared.slot.Slot.{Slot}
 use Rattle.muck_db.specs.Slots.{next_at, first_at, kind_at, mark_at, object_put, entries_of, HasOrder, IsKept}
+use Rattle.muck_db.specs.Limits.{IsWithinLimits}
+use Rattle.muck_db.proofs.LimitLaws.{limits_created}
 use Rattle.muck_db.proofs.Readers.{length-entries_of, kind_in-entries_of, mark_in-entries_of}
 use Rattle.muck_db.proofs.Writes.{entries_put, ends_put, mark_blank}
 
@@ -75,8 +77,8 @@ grown_mark n k es = elim (cases_eq n (length es)) [
 
 -- the rule of the type behind a creation
 pub kept_created : (old mid new : List Slot) (n to lowest told : ℕ) (kind : Kind) (name : List ℕ) (owner place : Dbref) → create_check kind owner place (entries_of old) ≡ Ok (n, to) → Put old mid n to kind name owner
-    → entries_of new ≡ moved n to (entries_of mid) → HasOrder new → IsKept old lowest told → IsKept new (n + 1) told
-kept_created old mid new n to lowest told kind name owner place passed put is order kept =
+    → 1 ≤ length name → length name ≤ 80 → entries_of new ≡ moved n to (entries_of mid) → HasOrder new → IsKept old lowest told → IsKept new (n + 1) told
+kept_created old mid new n to lowest told kind name owner place passed put some short is order kept =
     let es : List Entry = entries_of old in
     let m : MayCreate es kind owner n to = may_create kind owner place es (n, to) passed in
     let b : Begins es kind owner n to = begins es kind owner n to m in
@@ -87,7 +89,7 @@ kept_created old mid new n to lowest told kind name owner place passed put is or
     let marks : (k : ℕ) → mark_at new k ≡ mark_at old k =
     λ k. sym (mark_in-entries_of new k) ∙ ap (λ (z : List Entry). mark_in z k) is ∙ mark_moved (entries_of mid) n to k ∙ ap (λ (z : List Entry). mark_in z k) put.is ∙ mark_named n k o (grown n es) ∙ grown_mark n k es ∙ mark_in-entries_of old k in
     record {
-      sound = record { ends = order.ends; world = subst C (sym (created_from old mid new n to kind name owner put is)) (consistent_created kind name owner place es (n, to) passed kept.sound.world) };
+      sound = record { ends = order.ends; world = subst C (sym (created_from old mid new n to kind name owner put is)) (consistent_created kind name owner place es (n, to) passed kept.sound.world); limits = subst IsWithinLimits (sym (created_from old mid new n to kind name owner put is)) (limits_created n kind name owner to es some short kept.sound.limits) };
       full = λ k lt. elim (cases_eq k n) [
         | inl e ↦ ap is_garbage (kinds k ∙ ap (λ z. kind_in (changed_at n (with_object o) (grown n es)) z) e ∙ named_kind (grown n es) n kind name owner b.known) ∙ standing_alive kind (kind_in es to) (is_vehicle_in es to) m.fits
         | inr e ↦ ap is_garbage (kinds k ∙ other_kind (grown n es) n k o e ∙ grown_kind n k es) ∙ below_free es k (omega (arith, m.free))

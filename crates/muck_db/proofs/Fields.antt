@@ -11,6 +11,7 @@ use Rattle.muck_live.specs.Consistent.{IsConsistent}
 use Rattle.muck_live.proofs.Readers.{kind_changed, mark_changed}
 use Rattle.muck_db.specs.declared.slot.Slot.{Slot}
 use Rattle.muck_db.specs.Slots.{kind_at, on_slot, with_digest, entries_of, IsKept}
+use Rattle.muck_db.specs.Limits.{IsWithinLimits}
 use Rattle.muck_db.proofs.Readers.{kind_in-entries_of, mark_in-entries_of}
 use Rattle.muck_db.proofs.Writes.{entries_on_slot, ends_on_slot}
 
@@ -18,13 +19,13 @@ pub entries_set : (n : ℕ) (f : Object → Object) (old new : List Slot) → is
 entries_set n f old new alive is = ap (λ (z : List Slot). entries_of z) is ∙ entries_on_slot n f old alive
 
 pub kept_set : (n : ℕ) (f : Object → Object) (old new : List Slot) (lowest told : ℕ) → ((o : Object) → (f o).kind ≡ o.kind) → is_garbage (kind_at old n) ≡ false → new ≡ changed_at n (on_slot f) old
-    → IsConsistent (set_at f n (entries_of old)) → IsKept old lowest told → IsKept new lowest told
-kept_set n f old new lowest told same alive is world kept =
+    → IsConsistent (set_at f n (entries_of old)) → IsWithinLimits (set_at f n (entries_of old)) → IsKept old lowest told → IsKept new lowest told
+kept_set n f old new lowest told same alive is world limits kept =
     let es : List Entry = entries_of old in
     let entries : entries_of new ≡ changed_at n (on_object f) es = entries_set n f old new alive is in
     let C : List Entry → Type 0 = λ z. IsConsistent z in
     record {
-      sound = record { ends = ends_on_slot n f old new is kept.sound.ends; world = subst C (sym entries) world };
+      sound = record { ends = ends_on_slot n f old new is kept.sound.ends; world = subst C (sym entries) world; limits = subst IsWithinLimits (sym entries) limits };
       full = λ k lt. rw (← kind_in-entries_of new k, entries, kind_changed n k f es same, kind_in-entries_of old k) (kept.full k lt);
       unmarked = λ k lt. rw (← mark_in-entries_of new k, entries, mark_changed n k f es, mark_in-entries_of old k) (kept.unmarked k lt);
     }

@@ -23,6 +23,8 @@ use Rattle.muck_live.proofs.HomeLaws.{IsUntied, is_untied, ordered_untied, list_
 use Rattle.muck_live.proofs.RecyclingLaws.{consistent_recycled}
 use Rattle.muck_db.specs.declared.slot.Slot.{Slot}
 use Rattle.muck_db.specs.Slots.{shown, object_at, next_at, first_of, first_at, mark_at, place_at, list_at, on_slot, new_slot, wiped, exit_wiped, entry_of, entries_of, Stands, HasOrder, IsSound, IsKept, IsUnlinked}
+use Rattle.muck_db.specs.Limits.{IsWithinLimits}
+use Rattle.muck_db.proofs.LimitLaws.{limits_recycled}
 use Rattle.muck_db.proofs.Readers.{length-entries_of, object_in-entries_of, list_in-entries_of, mark_in-entries_of}
 use Rattle.muck_db.proofs.Linked.{chain_over}
 use Rattle.muck_db.proofs.Bridge.{list_is, ends_none, order_chains}
@@ -388,7 +390,7 @@ pub kept_recycled : (d : Dbref) (n : ℕ) (old new : List Slot) → recycle_chec
 kept_recycled d n old new passed is ends sound =
     let C : List Entry → Type 0 = λ z. IsConsistent z in
     record {
-      sound = record { ends = ends; world = subst C (sym is) (consistent_recycled d (entries_of old) n passed sound.world) };
+      sound = record { ends = ends; world = subst C (sym is) (consistent_recycled d (entries_of old) n passed sound.world); limits = subst IsWithinLimits (sym is) (limits_recycled n (entries_of old) sound.limits) };
       full = λ k lt. absurd (omega arith);
       unmarked = λ k lt. absurd (omega arith);
     }

@@ -1,6 +1,8 @@
 pub mod Tables
 pub mod Linked
 pub mod Readers
+pub mod Digests
+pub mod LimitLaws
 pub mod Bridge
 pub mod Writes
 pub mod Creating

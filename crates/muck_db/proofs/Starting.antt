@@ -8,6 +8,8 @@ use Rattle.muck_live.proofs.Chains.{ends_from}
 use Rattle.muck_live.proofs.StartLaws.{consistent_first}
 use Rattle.muck_db.specs.declared.slot.Slot.{Slot}
 use Rattle.muck_db.specs.Slots.{next_at, first_at, entry_of, entries_of, first_slots, IsKept}
+use Rattle.muck_db.specs.Limits.{IsWithinLimits}
+use Rattle.muck_db.proofs.LimitLaws.{limits_first}
 use Rattle.muck_db.proofs.Bridge.{ends_none}
 
 pub entries_first : entries_of first_slots ≡ first_objects
@@ -51,7 +53,7 @@ first_kept slots is =
     let K : List Slot → Type 0 = λ z. IsKept z 0 0 in
     let C : List Entry → Type 0 = λ z. IsConsistent z in
     subst K (sym is) (record {
-      sound = record { ends = first_ends; world = subst C (sym entries_first) consistent_first };
+      sound = record { ends = first_ends; world = subst C (sym entries_first) consistent_first; limits = subst IsWithinLimits (sym entries_first) limits_first };
       full = λ k lt. absurd (omega arith);
       unmarked = λ k lt. absurd (omega arith);
     })

@@ -16,6 +16,8 @@ use Rattle.muck_live.proofs.Lists.{get_changed_same, get_changed_other}
 use Rattle.muck_live.proofs.StartLaws.{consistent_told}
 use Rattle.muck_db.specs.declared.slot.Slot.{Slot}
 use Rattle.muck_db.specs.Slots.{shown, object_at, first_of, kind_at, mark_at, with_mark, with_slot_lines, with_source, entry_of, entries_of, IsKept}
+use Rattle.muck_db.specs.Limits.{IsWithinLimits}
+use Rattle.muck_db.proofs.LimitLaws.{limits_told}
 use Rattle.muck_db.proofs.Readers.{length-entries_of, mark_in-entries_of}
 use Rattle.muck_db.proofs.Writes.{alive_slot, entries_changed, ends_changed, entries_with_mark, ends_with_mark}
 
@@ -85,7 +87,7 @@ pub kept_told : (old new : List Slot) (n lowest told : ℕ) (mark : Mark) → ma
 kept_told old new n lowest told mark h below is kept =
     let C : List Entry → Type 0 = λ z. IsConsistent z in
     record {
-      sound = record { ends = ends_with_mark n None old new is kept.sound.ends; world = subst C (sym (entries_told old new n mark h is)) (consistent_told (entries_of old) kept.sound.world) };
+      sound = record { ends = ends_with_mark n None old new is kept.sound.ends; world = subst C (sym (entries_told old new n mark h is)) (consistent_told (entries_of old) kept.sound.world); limits = subst IsWithinLimits (sym (entries_told old new n mark h is)) (limits_told (entries_of old) kept.sound.limits) };
       full = λ k lt. rw (is, kind_kept n k (with_mark None) old (λ s. refl)) (kept.full k lt);
       unmarked = λ k lt. elim (cases_eq k n) [
         | inl e ↦ ap (λ (z : List Slot). mark_at z k) is ∙ ap (λ z. mark_at (changed_at n (with_mark None) old) z) e ∙ mark_cleared n old
@@ -114,11 +116,11 @@ pub entries_lined : (old new : List Slot) (n : ℕ) (lines : List (List ℕ)) �
 entries_lined old new n lines alive is = ap (λ (z : List Slot). entries_of z) is ∙ entries_changed n (with_slot_lines lines) (with_lines lines) old (λ s. refl) (λ s e. lines_entry lines old s (alive_slot old n s e alive))
 
 pub kept_lined : (old new : List Slot) (n lowest told less : ℕ) (lines : List (List ℕ)) → is_garbage (kind_at old n) ≡ false → new ≡ changed_at n (with_slot_lines lines) old → less ≤ told → less ≤ n
-    → IsConsistent (lines_set lines n (entries_of old)) → IsKept old lowest told → IsKept new lowest less
-kept_lined old new n lowest told less lines alive is le below world kept =
+    → IsConsistent (lines_set lines n (entries_of old)) → IsWithinLimits (lines_set lines n (entries_of old)) → IsKept old lowest told → IsKept new lowest less
+kept_lined old new n lowest told less lines alive is le below world limits kept =
     let C : List Entry → Type 0 = λ z. IsConsistent z in
     record {
-      sound = record { ends = ends_changed n (with_slot_lines lines) old new is (λ s. refl) (lines_first lines) kept.sound.ends; world = subst C (sym (entries_lined old new n lines alive is)) world };
+      sound = record { ends = ends_changed n (with_slot_lines lines) old new is (λ s. refl) (lines_first lines) kept.sound.ends; world = subst C (sym (entries_lined old new n lines alive is)) world; limits = subst IsWithinLimits (sym (entries_lined old new n lines alive is)) limits };
       full = λ k lt. rw (is, kind_kept n k (with_slot_lines lines) old (lines_kind lines)) (kept.full k lt);
       unmarked = λ k lt. ap (λ (z : List Slot). mark_at z k) is ∙ mark_other n k (with_slot_lines lines) old (λ e. omega (arith, e)) ∙ kept.unmarked k (omega arith);
     }

@@ -16,6 +16,7 @@ use Rattle.muck_live.specs.Setting.{lines_marked}
 use Rattle.muck_live.specs.Recycling.{is_exit_of}
 use Rattle.muck_live.specs.Start.{room_zero, player_one}
 use Rattle.muck_db.specs.declared.slot.Slot.{Slot}
+use Rattle.muck_db.specs.Limits.{IsWithinLimits}
 
 -- Readers, by number.
 
@@ -154,6 +155,7 @@ pub record HasOrder (slots : List Slot) : Type 0 where
 pub record IsSound (slots : List Slot) : Type 0 where
   pub ends : (exits : Bool) (p : ℕ) → Ends (length slots) (next_at slots) (first_at exits slots p)
   pub world : IsConsistent (entries_of slots)
+  pub limits : IsWithinLimits (entries_of slots)
 
 -- the rule of the type: no garbage stands below `lowest`, and no mark below `told`
 pub record IsKept (slots : List Slot) (lowest told : ℕ) : Type 0 where

@@ -1,5 +1,5 @@
 // The objects of the world.
-ghost use Rattle.std.specs.Prelude.{◌≡◌, ◌<◌, ◌≤◌, ◌^◌, true, false, length, IfOk};
+ghost use Rattle.std.specs.Prelude.{◌≡◌, ◌<◌, ◌≤◌, ◌^◌, true, false, length, IfOk, IfSome};
 ghost use Rattle.std.specs.List.{count_by};
 ghost use Rattle.std.specs.Option.{option_copied, option_map};
 ghost use Rattle.muck_live.specs.Objects.{object_at};
@@ -13,6 +13,7 @@ ghost use Rattle.muck_live.specs.Consistent.{IsConsistent};
 ghost use Rattle.muck_live.specs.Seen.{listed_in, places_of, scenery_of};
 ghost use Rattle.muck_match.specs.Scenery.{chain, upward};
 ghost use Rattle.muck_lock.specs.Chain.{IsChain};
+ghost use Rattle.muck_db.specs.Limits.{FitsLimits, IsWithinLimits};
 ghost use Rattle.muck_db.specs.Shown.{is_there, after_in, first_in, next_in, Knows};
 
 use crate::chain::Chain;
@@ -40,6 +41,8 @@ use std::marker::Model;
 ///
 /// Every call keeps them consistent: each object but `#0` and garbage stands exactly once in all lists, in that of its
 /// place; places lead up to `#0`; owners are players; links and homes lead where the kinds allow it, or to nothing.
+/// And each object is within the limits: its name has 1 to 80 bytes, its level is at most 3, it has no flag above the
+/// fourteenth and at most 4,096 lines, and its digest is empty or 80 hex digits.
 #[derive(Drop)]
 pub struct Db {
     slots: Vec<Slot>,
@@ -79,18 +82,20 @@ impl Db {
         })
     }
 
-    /// The object of a number; `None` exactly where it isn't there or is garbage.
+    /// The object of a number, which is within the limits; `None` exactly where it isn't there or is garbage.
     pub fn get(&self, d: Dbref) -> Option<&Object>
-        ensures { option_copied result ≡ object_at d self.now }
+        ensures object { option_copied result ≡ object_at d self.now }
+        ensures limits { IfSome result (λ o. FitsLimits o.now) }
     {
         found(&self.slots, d)
     }
 
-    /// One above the highest number. The world is consistent.
+    /// One above the highest number. The world is consistent, and every object within the limits.
     pub fn count(&self) -> u32
         ensures count { result ≡ length self.now }
         ensures most { result ≤ 100000 }
         ensures consistent { IsConsistent self.now }
+        ensures limits { IsWithinLimits self.now }
     {
         self.slots.len() as u32
     }
@@ -219,6 +224,7 @@ impl Db {
     /// Sets all flags of an object. `NoSuchObject` comes where it isn't there, `WrongKind` where a thing would lose V
     /// while a player is in it; nothing has changed then.
     pub fn set_flags(&mut self, d: Dbref, flags: Flags) -> Result<(), DbFault>
+        requires { flags.0 < 2 ^ 14 }
         ensures { Does (set_at (with_flags flags)) (flags_check d flags self.old) self.old self.new result }
     {
         let k = check_flags(&self.slots, d, flags)?;
@@ -287,7 +293,7 @@ impl Db {
 
     /// Recycles an object: homes in it become `#0` and links to it nothing, its contents go home in the order of their
     /// list, its exits become garbage, and then so does it. `NoSuchObject` comes where it isn't there, `WrongKind` for
-    /// `#0` and for a player; nothing has changed then. It takes no memory, and looks at every object once.
+    /// `#0` and for a player; nothing has changed then. It takes no memory, and goes over all objects twice.
     pub fn recycle(&mut self, d: Dbref) -> Result<(), DbFault>
         ensures { Does recycled (recycle_check d self.old) self.old self.new result }
     {

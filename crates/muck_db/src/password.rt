@@ -1,12 +1,12 @@
 // How a password is kept.
-ghost use Rattle.std.specs.Prelude.{◌≡◌, ◌++◌, IfOk, OnErr, Err, take, bytes_eq};
+ghost use Rattle.std.specs.Prelude.{◌≡◌, ◌≤◌, ◌++◌, length, IfOk, OnErr, Err, take, bytes_eq};
 ghost use Rattle.sha2.specs.Sha256.{sha256};
 ghost use Rattle.muck_db.specs.Shown.{is_memory};
 ghost use Rattle.muck_live.specs.Password.{digest_of, is_digest_of, salt_bytes};
 
 use hex::FromHexError;
 use muck_live::DbFault;
-use muck_model::Line;
+use muck_model::{Line, NoMemory};
 use sha2::{Digest, Sha256};
 use std::alloc::Global;
 
@@ -21,34 +21,27 @@ fn sha256_of(salt: &[u8], word: &[u8]) -> [u8; 32]
 }
 
 // The bytes of a salt and of the digest of a word under it.
-fn salted(alloc: Global, salt: &[u8], word: &[u8]) -> Result<Vec<u8>, DbFault>
-    ensures bytes { IfOk result (λ kept. kept.items ≡ salt.now ++ sha256 (salt.now ++ word.now)) }
-    ensures memory { OnErr result (result ≡ Err DbFault.NoMemory) }
+fn salted(alloc: Global, salt: &[u8], word: &[u8]) -> Result<Vec<u8>, NoMemory>
+    ensures { IfOk result (λ kept. kept.items ≡ salt.now ++ sha256 (salt.now ++ word.now)) }
 {
     let digest = sha256_of(salt, word);
     let mut kept = Vec::new(alloc);
-    if kept.extend_from_slice(salt).is_err() {
-        return Err(DbFault::NoMemory);
-    }
-    if kept.extend_from_slice(&digest).is_err() {
-        return Err(DbFault::NoMemory);
-    }
+    kept.extend_from_slice(salt)?;
+    kept.extend_from_slice(&digest)?;
     Ok(kept)
 }
 
-// The digest of a word under a salt.
+// The digest of a word under a salt, which is short enough for a text.
 #[tactic(auto, unfolding(muck_live::specs::Password::digest_of))]
-pub fn digest_text(alloc: Global, salt: &[u8], word: &[u8]) -> Result<Line, DbFault>
-    ensures digest { IfOk result (λ text. text ≡ digest_of salt.now word.now) }
-    ensures memory { OnErr result (result ≡ Err DbFault.NoMemory) }
+pub fn digest_text(alloc: Global, salt: &[u8], word: &[u8]) -> Result<Line, NoMemory>
+    requires { length salt.now ≤ 8 }
+    ensures { IfOk result (λ text. text ≡ digest_of salt.now word.now) }
 {
     let kept = salted(alloc, salt, word)?;
-    let Ok(text) = hex::encode(alloc, kept.as_slice()) else {
-        return Err(DbFault::NoMemory);
-    };
-    match Line::new(alloc, text.as_bytes()) {
+    let digits = hex::encode(alloc, kept.as_slice())?;
+    match Line::from_vec(digits.into_bytes()) {
         Ok(text) => Ok(text),
-        Err(_) => Err(DbFault::NoMemory),
+        Err(_) => unreachable!(),
     }
 }
 
@@ -58,7 +51,10 @@ pub fn digest_word(alloc: Global, salt: u64, word: &Line) -> Result<Line, DbFaul
     ensures memory { OnErr result (result ≡ Err DbFault.NoMemory) }
 {
     let salt = salt.to_be_bytes();
-    digest_text(alloc, &salt, word.as_slice())
+    match digest_text(alloc, &salt, word.as_slice()) {
+        Ok(text) => Ok(text),
+        Err(NoMemory) => Err(DbFault::NoMemory),
+    }
 }
 
 // The digits of the salt.
@@ -73,11 +69,14 @@ fn salt_digits(digest: &[u8]) -> &[u8]
 }
 
 fn is_digest_under(alloc: Global, salt: &[u8], word: &[u8], digest: &Line) -> Result<bool, DbFault>
+    requires { length salt.now ≤ 8 }
     ensures is { IfOk result (λ same. same ≡ bytes_eq digest.now (digest_of salt.now word.now)) }
     ensures memory { OnErr result (result ≡ Err DbFault.NoMemory) }
 {
-    let found = digest_text(alloc, salt, word)?;
-    Ok(*digest == found)
+    match digest_text(alloc, salt, word) {
+        Ok(found) => Ok(*digest == found),
+        Err(NoMemory) => Err(DbFault::NoMemory),
+    }
 }
 
 fn is_memory(fault: FromHexError) -> bool

@@ -1,5 +1,6 @@
 // The first objects.
 ghost use Rattle.std.specs.Prelude.{◌≡◌, [], ◌∷◌, IfOk, Some, None, codes};
+ghost use Rattle.muck_model.specs.Bytes.{text_fault};
 ghost use Rattle.muck_live.specs.Start.{room_zero, player_one};
 ghost use Rattle.muck_live.specs.Password.{digest_of, first_salt, first_password};
 ghost use Rattle.muck_db.specs.Slots.{first_slots};
@@ -7,21 +8,24 @@ ghost use Rattle.muck_db.specs.Slots.{first_slots};
 use crate::password::digest_text;
 use crate::slot::Slot;
 use muck_live::{Object, WIZARD};
-use muck_model::{Dbref, Flags, Kind, Line, LineList, NoMemory};
+use muck_model::{Dbref, Flags, Kind, Line, LineFault, LineList, NoMemory};
 use muck_prop::Props;
 use std::alloc::Global;
 
+// A text of these bytes, which are one.
 fn text(alloc: Global, bytes: &[u8]) -> Result<Line, NoMemory>
+    requires { text_fault bytes.now ≡ None }
     ensures { IfOk result (λ line. line ≡ bytes.now) }
 {
     match Line::new(alloc, bytes) {
         Ok(line) => Ok(line),
-        Err(_) => Err(NoMemory),
+        Err(LineFault::NoMemory) => Err(NoMemory),
+        Err(LineFault::NotLine { .. }) => unreachable!(),
     }
 }
 
 // Room Zero, below which all rooms are.
-#[tactic(auto, unfolding(muck_live::specs::Start::room_zero))]
+#[tactic(auto, unfolding(muck_live::specs::Start::room_zero, muck_model::specs::Bytes::text_most))]
 fn room_zero(alloc: Global) -> Result<Object, NoMemory>
     ensures { IfOk result (λ o. o ≡ room_zero) }
 {
@@ -43,14 +47,11 @@ fn room_zero(alloc: Global) -> Result<Object, NoMemory>
 fn first_digest(alloc: Global) -> Result<Line, NoMemory>
     ensures { IfOk result (λ line. line ≡ digest_of first_salt first_password) }
 {
-    match digest_text(alloc, &[0; 8], b"potrzebie") {
-        Ok(digest) => Ok(digest),
-        Err(_) => Err(NoMemory),
-    }
+    digest_text(alloc, &[0; 8], b"potrzebie")
 }
 
 // One, who is a wizard.
-#[tactic(auto, unfolding(muck_live::specs::Start::player_one, muck_live::specs::Start::first_digest))]
+#[tactic(auto, unfolding(muck_live::specs::Start::player_one, muck_live::specs::Start::first_digest, muck_model::specs::Bytes::text_most))]
 fn player_one(alloc: Global) -> Result<Object, NoMemory>
     ensures { IfOk result (λ o. o ≡ player_one) }
 {

@@ -1,5 +1,5 @@
 -- Setting and clearing one flag.
-use Rattle.std.proofs.Common.{◌≡◌, ℕ, ◌<◌, ◌≤◌, ◌+◌, ◌/◌, ◌%◌, ◌==◌, true, false, List, [], ◌∷◌, Option, Some, None, Result, Ok, Err, refl, sym, ◌∙◌, ap, subst, arith, inl, inr}
+use Rattle.std.proofs.Common.{◌≡◌, ℕ, ◌<◌, ◌≤◌, ◌^◌, ◌+◌, ◌/◌, ◌%◌, ◌==◌, true, false, List, [], ◌∷◌, Option, Some, None, Result, Ok, Err, refl, sym, ◌∙◌, ap, subst, arith, inl, inr}
 use Rattle.std.proofs.lemmas.Bool.{or_cases, eqb-true}
 use Rattle.std.proofs.lemmas.Bool.Decides.{nat_tests}
 use Rattle.std.specs.List.{list_any, slice_get, slice_set}
@@ -22,6 +22,7 @@ use Rattle.muck_perm.proofs.Guarding.{with_objects, checked_number, at_found}
 record Fits (v : ℕ) : Type 0 where
   some : 0 < v
   set : (x : ℕ) → x < 65536 → x / v % 2 ≡ 0 → x + v < 65536
+  lawful : (x : ℕ) → x < 16384 → x / v % 2 ≡ 0 → x + v < 16384
   cleared : (x : ℕ) → x / v % 2 ≡ 1 → v ≤ x
 
 abbrev All : List ℕ → Type 0
@@ -29,46 +30,46 @@ All [] = Unit {0}
 All (v ∷ vs) = Fits v × All vs
 
 fits_1 : Fits 1
-fits_1 = record { some = omega arith; set = λ x k h. omega arith; cleared = λ x h. omega arith }
+fits_1 = record { some = omega arith; set = λ x k h. omega arith; lawful = λ x k h. omega arith; cleared = λ x h. omega arith }
 
 fits_2 : Fits 2
-fits_2 = record { some = omega arith; set = λ x k h. omega arith; cleared = λ x h. omega arith }
+fits_2 = record { some = omega arith; set = λ x k h. omega arith; lawful = λ x k h. omega arith; cleared = λ x h. omega arith }
 
 fits_4 : Fits 4
-fits_4 = record { some = omega arith; set = λ x k h. omega arith; cleared = λ x h. omega arith }
+fits_4 = record { some = omega arith; set = λ x k h. omega arith; lawful = λ x k h. omega arith; cleared = λ x h. omega arith }
 
 fits_8 : Fits 8
-fits_8 = record { some = omega arith; set = λ x k h. omega arith; cleared = λ x h. omega arith }
+fits_8 = record { some = omega arith; set = λ x k h. omega arith; lawful = λ x k h. omega arith; cleared = λ x h. omega arith }
 
 fits_16 : Fits 16
-fits_16 = record { some = omega arith; set = λ x k h. omega arith; cleared = λ x h. omega arith }
+fits_16 = record { some = omega arith; set = λ x k h. omega arith; lawful = λ x k h. omega arith; cleared = λ x h. omega arith }
 
 fits_32 : Fits 32
-fits_32 = record { some = omega arith; set = λ x k h. omega arith; cleared = λ x h. omega arith }
+fits_32 = record { some = omega arith; set = λ x k h. omega arith; lawful = λ x k h. omega arith; cleared = λ x h. omega arith }
 
 fits_64 : Fits 64
-fits_64 = record { some = omega arith; set = λ x k h. omega arith; cleared = λ x h. omega arith }
+fits_64 = record { some = omega arith; set = λ x k h. omega arith; lawful = λ x k h. omega arith; cleared = λ x h. omega arith }
 
 fits_128 : Fits 128
-fits_128 = record { some = omega arith; set = λ x k h. omega arith; cleared = λ x h. omega arith }
+fits_128 = record { some = omega arith; set = λ x k h. omega arith; lawful = λ x k h. omega arith; cleared = λ x h. omega arith }
 
 fits_256 : Fits 256
-fits_256 = record { some = omega arith; set = λ x k h. omega arith; cleared = λ x h. omega arith }
+fits_256 = record { some = omega arith; set = λ x k h. omega arith; lawful = λ x k h. omega arith; cleared = λ x h. omega arith }
 
 fits_512 : Fits 512
-fits_512 = record { some = omega arith; set = λ x k h. omega arith; cleared = λ x h. omega arith }
+fits_512 = record { some = omega arith; set = λ x k h. omega arith; lawful = λ x k h. omega arith; cleared = λ x h. omega arith }
 
 fits_1024 : Fits 1024
-fits_1024 = record { some = omega arith; set = λ x k h. omega arith; cleared = λ x h. omega arith }
+fits_1024 = record { some = omega arith; set = λ x k h. omega arith; lawful = λ x k h. omega arith; cleared = λ x h. omega arith }
 
 fits_2048 : Fits 2048
-fits_2048 = record { some = omega arith; set = λ x k h. omega arith; cleared = λ x h. omega arith }
+fits_2048 = record { some = omega arith; set = λ x k h. omega arith; lawful = λ x k h. omega arith; cleared = λ x h. omega arith }
 
 fits_4096 : Fits 4096
-fits_4096 = record { some = omega arith; set = λ x k h. omega arith; cleared = λ x h. omega arith }
+fits_4096 = record { some = omega arith; set = λ x k h. omega arith; lawful = λ x k h. omega arith; cleared = λ x h. omega arith }
 
 fits_8192 : Fits 8192
-fits_8192 = record { some = omega arith; set = λ x k h. omega arith; cleared = λ x h. omega arith }
+fits_8192 = record { some = omega arith; set = λ x k h. omega arith; lawful = λ x k h. omega arith; cleared = λ x h. omega arith }
 
 all : All flag_values
 all = (fits_1, (fits_2, (fits_4, (fits_8, (fits_16, (fits_32, (fits_64, (fits_128, (fits_256, (fits_512, (fits_1024, (fits_2048, (fits_4096, (fits_8192, tt))))))))))))))
@@ -91,6 +92,10 @@ flag_some flag k = (picked flag.0 flag_values all k).some
 
 pub flag_fits : (flag flags : Flags) → is_flag flag ≡ true → has_flag flag.0 flags ≡ false → flags.0 < 65536 → flags.0 + flag.0 < 65536
 flag_fits flag flags k h lt = (picked flag.0 flag_values all k).set flags.0 lt (even (flags.0 / flag.0) h)
+
+-- there is no flag above the fourteenth
+pub flag_lawful : (flag flags : Flags) → is_flag flag ≡ true → has_flag flag.0 flags ≡ false → flags.0 < 2 ^ 14 → flags.0 + flag.0 < 2 ^ 14
+flag_lawful flag flags k h lt = (picked flag.0 flag_values all k).lawful flags.0 lt (even (flags.0 / flag.0) h)
 
 pub flag_below : (flag flags : Flags) → is_flag flag ≡ true → has_flag flag.0 flags ≡ true → flag.0 ≤ flags.0
 flag_below flag flags k h = (picked flag.0 flag_values all k).cleared flags.0 (odd (flags.0 / flag.0) h)

@@ -18,7 +18,7 @@ use Rattle.muck_live.specs.Objects.{Entry, dbref_of, nothing, home, same, object
 use Rattle.muck_live.specs.Setting.{may_link, may_live}
 use Rattle.muck_live.specs.Lives.{Live, Change}
 use Rattle.muck_rights.specs.declared.act.Act.{Act}
-use Rattle.muck_rights.specs.Verdict.{verdict}
+use Rattle.muck_rights.specs.Verdict.{verdict, place_of}
 use Rattle.muck_perm.specs.declared.rules.Pass.{Pass}
 use Rattle.muck_perm.specs.declared.guard.Guard.{Guard}
 
@@ -49,6 +49,14 @@ Did f old new (Err e) = Same old new
 -- leave for that act, by the actor that the guard has and in the world as it is
 abbrev pub IsLeave : Pass → Act → Guard → Type 0
 IsLeave pass act g = (pass.actor ≡ g.actor) × (pass.act.now ≡ act) × (verdict g.db.now g.actor act ≡ None)
+
+-- a pass for that act, by the actor that the guard has; the world may be another by now
+abbrev pub IsGiven : Pass → Act → Guard → Type 0
+IsGiven pass act g = (pass.actor ≡ g.actor) × (pass.act.now ≡ act)
+
+-- x lies where the player is
+abbrev pub is_here : Dbref → Guard → Bool
+is_here x g = same (place_of g.db.now x) (place_of g.db.now g.actor.player)
 
 -- what a writer does that takes no memory: the change, or the first refusal of the world and nothing
 abbrev pub Makes : {X : Type 0} → Change → Result X DbFault → Guard → Guard → Result (Unit {0}) DbFault → Type 0

@@ -1,5 +1,5 @@
 // Flags with one set or cleared.
-ghost use Rattle.std.specs.Prelude.{◌≡◌, true};
+ghost use Rattle.std.specs.Prelude.{◌≡◌, ◌<◌, ◌^◌, true};
 ghost use Rattle.muck_live.specs.Flags.{with_flag, without_flag};
 ghost use Rattle.muck_rights.specs.Changing.{is_flag};
 ghost use Rattle.muck_perm.specs.Guards.{flags_at};
@@ -10,7 +10,8 @@ use muck_model::{Dbref, Flags};
 
 // The flags of an object, none where it isn't there.
 pub fn flags_at(db: &Db, d: Dbref) -> Flags
-    ensures { result ≡ flags_at d db.now }
+    ensures is { result ≡ flags_at d db.now }
+    ensures lawful { result.0 < 2 ^ 14 }
 {
     match db.get(d) {
         Some(object) => object.flags(),
@@ -19,10 +20,11 @@ pub fn flags_at(db: &Db, d: Dbref) -> Flags
 }
 
 // With this flag set.
-#[tactic(auto, using(crate::proofs::Flagging::flag_some, crate::proofs::Flagging::flag_fits))]
+#[tactic(auto, using(crate::proofs::Flagging::flag_some, crate::proofs::Flagging::flag_fits, crate::proofs::Flagging::flag_lawful))]
 pub fn with_flag(flag: Flags, flags: Flags) -> Flags
     requires { is_flag flag ≡ true }
-    ensures { result ≡ with_flag flag.0 flags }
+    ensures is { result ≡ with_flag flag.0 flags }
+    ensures lawful { flags.0 < 2 ^ 14 → result.0 < 2 ^ 14 }
 {
     if has_flag(flag.0, flags) {
         flags
@@ -35,7 +37,8 @@ pub fn with_flag(flag: Flags, flags: Flags) -> Flags
 #[tactic(auto, using(crate::proofs::Flagging::flag_some, crate::proofs::Flagging::flag_below))]
 pub fn without_flag(flag: Flags, flags: Flags) -> Flags
     requires { is_flag flag ≡ true }
-    ensures { result ≡ without_flag flag.0 flags }
+    ensures is { result ≡ without_flag flag.0 flags }
+    ensures lawful { flags.0 < 2 ^ 14 → result.0 < 2 ^ 14 }
 {
     if has_flag(flag.0, flags) {
         Flags(flags.0 - flag.0)

@@ -1,9 +1,10 @@
 // The world under an actor.
 ghost use Rattle.std.specs.Prelude.{◌≡◌, ◌≤◌, length, true, min};
-ghost use Rattle.std.specs.Option.{option_copied, option_and_then};
+ghost use Rattle.std.specs.Option.{option_copied, option_and_then, option_map};
+ghost use Rattle.std.specs.FinMap.{get};
 ghost use Rattle.muck_model.specs.declared.dbref.Kind.{Kind};
 ghost use Rattle.muck_prop.specs.Paths.{class_of};
-ghost use Rattle.muck_live.specs.Objects.{home, object_at};
+ghost use Rattle.muck_live.specs.Objects.{dbref_of, nothing, home, object_at};
 ghost use Rattle.muck_live.specs.Lives.{tell, tell_player, tell_others, tell_all};
 ghost use Rattle.muck_live.specs.Flags.{with_flag, without_flag};
 ghost use Rattle.muck_live.specs.Moving.{move_check};
@@ -15,7 +16,7 @@ ghost use Rattle.muck_rights.specs.Levels.{level_at};
 ghost use Rattle.muck_rights.specs.Verdict.{is_guarded, lock_of_object};
 ghost use Rattle.muck_rights.specs.Changing.{named, owned_by, linked, homed, leveled, lines_kept, stored, unstored, moved_to, recycled_now, created_so, is_flag, flag_set, flag_cleared, password_kept, booted, tuned};
 ghost use Rattle.muck_rights.specs.Licence.{at_hand};
-ghost use Rattle.muck_perm.specs.Guards.{Did, Done, IsLeave, Makes, Tries, Founds, flags_at, home_in, may_lead, may_house, kept_text, text_kept};
+ghost use Rattle.muck_perm.specs.Guards.{Did, Done, IsLeave, IsGiven, is_here, Makes, Tries, Founds, flags_at, home_in, may_lead, may_house, kept_text, text_kept};
 
 use crate::flags::{flags_at, with_flag, without_flag};
 use crate::levels::level_at;
@@ -29,6 +30,8 @@ use muck_rights::{Act, Actor};
 use std::alloc::Global;
 
 const NOTHING: Dbref = Dbref(-1);
+
+const ROOM_ZERO: Dbref = Dbref(0);
 
 /// The objects and the board, lent to whoever acts. What an act is leave for is written by its `Pass` alone; what is
 /// free is written without one.
@@ -153,20 +156,23 @@ impl<'a> Guard<'a> {
         self.db.move_to(object, to)
     }
 
-    /// Moves the player through an exit. It is refused as a move is.
+    /// Moves the player through an exit. The lock is not tried again, since messages may have changed it after the leave
+    /// was given. It is refused as a move is.
     #[tactic(auto, using(crate::proofs::Guarding::makes_moved))]
     pub fn walk(&mut self, pass: Pass, exit: Dbref, to: Dbref) -> Result<(), DbFault>
-        requires leave { IsLeave pass (Act.Walk exit) self.old }
+        requires leave { IsGiven pass (Act.Walk exit) self.old }
         ensures { Makes (moved_to self.old.actor.player to) (move_check self.old.actor.player to self.old.db.now) self.old self.new result }
     {
         let _ = pass;
         self.db.move_to(self.actor.player, to)
     }
 
-    /// Moves an object to the player. It is refused as a move is.
+    /// Moves an object to the player, while it lies where the player is. The lock is not tried again. It is refused as a
+    /// move is.
     #[tactic(auto, using(crate::proofs::Guarding::makes_moved))]
     pub fn take(&mut self, pass: Pass, object: Dbref) -> Result<(), DbFault>
-        requires leave { IsLeave pass (Act.Take object) self.old }
+        requires leave { IsGiven pass (Act.Take object) self.old }
+        requires here { is_here object self.old ≡ true }
         ensures { Makes (moved_to object self.old.actor.player) (move_check object self.old.actor.player self.old.db.now) self.old self.new result }
     {
         let _ = pass;
@@ -249,6 +255,17 @@ impl<'a> Guard<'a> {
         self.db.set_home(object, to)
     }
 
+    /// Gives a thing or a player `#0` as its home, by leave to clear its link. `NoSuchObject` comes where it isn't there,
+    /// `WrongKind` for another kind; nothing has changed then.
+    #[tactic(auto, using(crate::proofs::Guarding::makes_homed))]
+    pub fn clear_home(&mut self, pass: Pass, object: Dbref) -> Result<(), DbFault>
+        requires leave { IsLeave pass (Act.Link object nothing) self.old }
+        ensures { Makes (homed object (dbref_of 0)) (home_check object (dbref_of 0) self.old.db.now) self.old self.new result }
+    {
+        let _ = pass;
+        self.db.set_home(object, ROOM_ZERO)
+    }
+
     /// Sets a flag. `NoSuchObject` comes exactly where the object isn't there; nothing has changed then.
     #[tactic(auto, using(crate::proofs::Flagging::makes_flag_set))]
     pub fn set_flag(&mut self, pass: Pass, object: Dbref, flag: Flags) -> Result<(), DbFault>
@@ -310,8 +327,8 @@ impl<'a> Guard<'a> {
 }
 
 impl<'a> Guard<'a> {
-    /// Stores a value at a path, where an empty text or 0 removes the property. `NoSuchObject` comes exactly where it isn't there; nothing has changed then, and
-    /// after `NoMemory`.
+    /// Stores a value at a path, where an empty text or 0 removes the property. `NoSuchObject` comes exactly where the
+    /// object isn't there; nothing has changed then, and after `NoMemory`.
     #[tactic(auto, using(crate::proofs::Guarding::tries_stored))]
     pub fn store(
         &mut self,
@@ -337,8 +354,8 @@ impl<'a> Guard<'a> {
         self.db.remove_prop(object, path)
     }
 
-    /// Stores a lock or a message, at a path that is guarded. `NoSuchObject` comes exactly where it isn't there; nothing has changed then,
-    /// and after `NoMemory`.
+    /// Stores a lock or a message, at a path that is guarded. `NoSuchObject` comes exactly where the object isn't there;
+    /// nothing has changed then, and after `NoMemory`.
     #[tactic(auto, using(crate::proofs::Guarding::tries_stored))]
     pub fn store_message(
         &mut self,
@@ -486,6 +503,30 @@ impl<'a> Guard<'a> {
 }
 
 impl<'a> Guard<'a> {
+    /// The value of a property.
+    pub fn read(&self, pass: Pass, object: Dbref, path: &Path) -> Option<&PropValue>
+        requires leave { IsLeave pass (Act.Read object path.now) self.now }
+        ensures { option_copied result ≡ option_and_then (λ o. get o.props path.now) (object_at object self.now.db.now) }
+    {
+        let _ = pass;
+        match self.db.get(object) {
+            Some(object) => object.props().get(path),
+            None => None,
+        }
+    }
+
+    /// The source of a program.
+    pub fn lines(&self, pass: Pass, program: Dbref) -> Option<&LineList>
+        requires leave { IsLeave pass (Act.Change program) self.now }
+        ensures { option_copied result ≡ option_map (λ o. o.lines) (object_at program self.now.db.now) }
+    {
+        let _ = pass;
+        match self.db.get(program) {
+            Some(object) => Some(object.lines()),
+            None => None,
+        }
+    }
+
     /// The text that an object keeps as its lock.
     pub fn lock_text(&self, d: Dbref) -> Option<&Line>
         ensures { option_copied result ≡ option_and_then kept_text (option_and_then lock_of_object (object_at d self.now.db.now)) }

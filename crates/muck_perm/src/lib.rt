@@ -3,6 +3,8 @@
 
 mod flags;
 mod guard;
+#[cfg(test)]
+mod guard_tests;
 mod levels;
 mod locks;
 mod rules;

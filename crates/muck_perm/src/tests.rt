@@ -1,34 +1,36 @@
 // What no contract says: that the rules mean what they are meant to, just beside their bounds.
-ghost use Rattle.std.specs.Prelude.{◌≡◌, ◌≤◌, length, IfOk};
+ghost use Rattle.std.specs.Prelude.{◌≡◌, length, IfOk};
 
-use crate::{Guard, level, name_shown, user, verdict};
-use muck_board::Board;
+use crate::{level, name_shown, user, verdict};
 use muck_db::Db;
-use muck_live::{BUILDER, HAVEN, JUMP, LINK, SETUID};
-use muck_model::{Dbref, Flags, Kind, Line, Tune};
+use muck_live::{BUILDER, CHOWN, HAVEN, JUMP, LINK, SETUID, WIZARD};
+use muck_model::{Dbref, Flags, Kind, Line};
 use muck_prop::{Path, PropValue, read_path};
 use muck_rights::{Act, Actor};
 use std::alloc::Global;
 use std::test::Fail;
 
-fn a_name(alloc: Global) -> Result<Line, Fail>
+pub fn a_name(alloc: Global) -> Result<Line, Fail>
     ensures { IfOk result (λ line. length line ≡ 3) }
 {
     Ok(Line::new(alloc, b"box")?)
 }
 
-const MADE: [(Kind, i32, i32); 6] = [
+const MADE: [(Kind, i32, i32); 9] = [
     (Kind::Player, 0, 0),
     (Kind::Player, 0, 0),
     (Kind::Thing, 2, 0),
     (Kind::Room, 2, 0),
     (Kind::Thing, 1, 5),
     (Kind::Exit, 2, 5),
+    (Kind::Program, 1, 0),
+    (Kind::Program, 1, 0),
+    (Kind::Program, 2, 0),
 ];
 
 // Two players, #2 and #3, with #2's thing, #4, in Room Zero; #2's room, #5, in which lies One's thing, #6, and from
-// which #2's exit, #7, leads nowhere.
-fn world(alloc: Global) -> Result<Db, Fail> {
+// which #2's exit, #7, leads nowhere; and in Room Zero two programs of One's, #8 and #9, and one of #2's, #10.
+pub fn world(alloc: Global) -> Result<Db, Fail> {
     let mut db = Db::starting(alloc)?;
     for (kind, owner, place) in MADE.iter() {
         let name = a_name(alloc)?;
@@ -37,32 +39,108 @@ fn world(alloc: Global) -> Result<Db, Fail> {
     Ok(db)
 }
 
-// The rule and the object of a denial; 0 where there is leave.
-fn ruled(db: &Db, level: u8, user: i32, act: Act) -> (u8, i32) {
+// A level and a user, who is the player too; what is asked; and the rule and the object of the denial.
+type Case = (u8, i32, Act, (u8, i32));
+
+// There is leave.
+const LEAVE: (u8, i32) = (0, 0);
+
+fn ruled(db: &Db, level: u8, user: i32, act: &Act) -> (u8, i32) {
     let actor = Actor {
         level,
         user: Dbref(user),
         player: Dbref(user),
     };
-    match verdict(db, &actor, &act) {
-        Ok(_) => (0, 0),
+    match verdict(db, &actor, act) {
+        Ok(_) => LEAVE,
         Err(denial) => (denial.rule, denial.object.0),
     }
 }
 
-fn rename(object: i32) -> Act {
-    Act::Rename {
-        object: Dbref(object),
+// The place of the first case that is ruled otherwise.
+fn first_wrong(db: &Db, cases: &[Case]) -> Option<usize> {
+    for (i, (level, user, act, want)) in cases.iter().enumerate() {
+        if ruled(db, *level, *user, act) != *want {
+            return Some(i);
+        }
     }
+    None
 }
 
+fn path(alloc: Global, text: &[u8]) -> Result<Path, Fail> {
+    let text = Line::new(alloc, text)?;
+    Ok(read_path(alloc, &text)?)
+}
+
+// What a program may start, and what it may reach.
 #[test]
-fn renames(rt: HostRuntime) -> Result<(), Fail> {
-    let db = world(rt.alloc())?;
-    assert!(rt; ruled(&db, 1, 2, rename(3)) == (16, 3));
-    assert!(rt; ruled(&db, 3, 3, rename(3)) == (17, 3));
-    assert!(rt; ruled(&db, 4, 1, rename(3)) == (0, 0));
-    assert!(rt; ruled(&db, 1, 2, rename(4)) == (0, 0));
+fn starts_and_reaches(rt: HostRuntime) -> Result<(), Fail> {
+    let mut db = world(rt.alloc())?;
+    db.set_level(Dbref(8), 1)?;
+    let cases = [
+        (1, 2, Act::Shared { level: 3 }, (1, 2)),
+        (2, 2, Act::Shared { level: 3 }, (1, 2)),
+        (3, 2, Act::Shared { level: 3 }, LEAVE),
+        (1, 2, Act::Start { program: Dbref(9) }, (1, 9)),
+        (1, 2, Act::Start { program: Dbref(8) }, LEAVE),
+        (1, 2, Act::Near { object: Dbref(6) }, (2, 6)),
+        (2, 2, Act::Near { object: Dbref(6) }, LEAVE),
+        (1, 2, Act::Near { object: Dbref(4) }, LEAVE),
+    ];
+    assert!(rt; first_wrong(&db, &cases).is_none());
+    Ok(())
+}
+
+const READS: [(u8, i32, &[u8], (u8, i32)); 7] = [
+    (3, 2, b"@x", (3, 4)),
+    (4, 2, b"@x", LEAVE),
+    (1, 3, b"~x", LEAVE),
+    (1, 3, b"_x", LEAVE),
+    (2, 3, b".x", (5, 4)),
+    (3, 3, b".x", LEAVE),
+    (1, 2, b".x", LEAVE),
+];
+
+#[test]
+fn reads(rt: HostRuntime) -> Result<(), Fail> {
+    let alloc = rt.alloc();
+    let db = world(alloc)?;
+    for (level, user, text, want) in READS.iter() {
+        let act = Act::Read {
+            object: Dbref(4),
+            path: path(alloc, text)?,
+        };
+        assert!(rt; ruled(&db, *level, *user, &act) == *want);
+    }
+    Ok(())
+}
+
+const WRITES: [(u8, i32, &[u8], (u8, i32)); 12] = [
+    (3, 2, b"@x", (3, 4)),
+    (4, 2, b"@x", LEAVE),
+    (3, 3, b"~x", (4, 4)),
+    (4, 3, b"~x", LEAVE),
+    (2, 3, b"_x", (6, 4)),
+    (3, 3, b"_x", LEAVE),
+    (1, 2, b"_x", LEAVE),
+    (2, 3, b".x", (6, 4)),
+    (1, 2, b".x", LEAVE),
+    (1, 3, b"x", (7, 4)),
+    (2, 3, b"x", LEAVE),
+    (1, 2, b"x", LEAVE),
+];
+
+#[test]
+fn writes(rt: HostRuntime) -> Result<(), Fail> {
+    let alloc = rt.alloc();
+    let db = world(alloc)?;
+    for (level, user, text, want) in WRITES.iter() {
+        let act = Act::Write {
+            object: Dbref(4),
+            path: path(alloc, text)?,
+        };
+        assert!(rt; ruled(&db, *level, *user, &act) == *want);
+    }
     Ok(())
 }
 
@@ -76,25 +154,42 @@ fn moving(object: i32, to: i32) -> Act {
 #[test]
 fn moves(rt: HostRuntime) -> Result<(), Fail> {
     let mut db = world(rt.alloc())?;
-    assert!(rt; ruled(&db, 1, 3, moving(4, 5)) == (8, 4));
-    assert!(rt; ruled(&db, 1, 2, moving(4, 5)) == (0, 0));
-    assert!(rt; ruled(&db, 1, 2, moving(4, 0)) == (9, 0));
-    assert!(rt; ruled(&db, 1, 2, moving(4, -3)) == (0, 0));
-    assert!(rt; ruled(&db, 3, 3, moving(4, 0)) == (0, 0));
-    db.set_flags(Dbref(0), Flags(JUMP))?;
-    assert!(rt; ruled(&db, 1, 2, moving(4, 0)) == (0, 0));
+    db.set_flags(Dbref(6), Flags(JUMP))?;
+    let cases = [
+        (2, 3, moving(4, 5), (8, 4)),
+        (3, 3, moving(4, 5), LEAVE),
+        (1, 2, moving(4, 5), LEAVE),
+        (2, 2, moving(4, 0), (9, 0)),
+        (3, 2, moving(4, 0), LEAVE),
+        (1, 2, moving(4, -3), LEAVE),
+        (1, 2, moving(4, 6), LEAVE),
+    ];
+    assert!(rt; first_wrong(&db, &cases).is_none());
+    Ok(())
+}
+
+// Has the lock of an object open for #3 alone.
+fn lock(alloc: Global, db: &mut Db, object: i32) -> Result<(), Fail> {
+    let key = Line::new(alloc, b"#3")?;
+    db.put_prop(Dbref(object), path(alloc, b"_/lok")?, PropValue::Text(key))?;
     Ok(())
 }
 
 #[test]
-fn builds(rt: HostRuntime) -> Result<(), Fail> {
-    let mut db = world(rt.alloc())?;
-    assert!(rt; ruled(&db, 1, 2, Act::NewRoom { place: Dbref(0) }) == (14, 2));
-    db.set_flags(Dbref(2), Flags(BUILDER))?;
-    assert!(rt; ruled(&db, 1, 2, Act::NewRoom { place: Dbref(0) }) == (15, 0));
-    assert!(rt; ruled(&db, 1, 2, Act::NewRoom { place: Dbref(5) }) == (0, 0));
-    db.set_flags(Dbref(0), Flags(LINK))?;
-    assert!(rt; ruled(&db, 1, 2, Act::NewRoom { place: Dbref(0) }) == (0, 0));
+fn walks_and_takes(rt: HostRuntime) -> Result<(), Fail> {
+    let alloc = rt.alloc();
+    let mut db = world(alloc)?;
+    lock(alloc, &mut db, 4)?;
+    lock(alloc, &mut db, 7)?;
+    let cases = [
+        (4, 2, Act::Walk { exit: Dbref(7) }, (10, 7)),
+        (1, 3, Act::Walk { exit: Dbref(7) }, LEAVE),
+        (4, 2, Act::Take { object: Dbref(4) }, (10, 4)),
+        (1, 3, Act::Take { object: Dbref(4) }, LEAVE),
+        (4, 2, Act::Take { object: Dbref(6) }, (11, 6)),
+        (1, 2, Act::Take { object: Dbref(8) }, LEAVE),
+    ];
+    assert!(rt; first_wrong(&db, &cases).is_none());
     Ok(())
 }
 
@@ -107,53 +202,197 @@ fn link(object: i32, to: i32) -> Act {
 
 #[test]
 fn links(rt: HostRuntime) -> Result<(), Fail> {
-    let db = world(rt.alloc())?;
-    assert!(rt; ruled(&db, 1, 3, link(7, 0)) == (12, 7));
-    assert!(rt; ruled(&db, 1, 2, link(7, 0)) == (13, 0));
-    assert!(rt; ruled(&db, 1, 2, link(7, 5)) == (0, 0));
-    assert!(rt; ruled(&db, 1, 2, link(7, -1)) == (0, 0));
+    let mut db = world(rt.alloc())?;
+    db.set_flags(Dbref(9), Flags(LINK))?;
+    let cases = [
+        (3, 3, link(7, 5), (12, 7)),
+        (4, 3, link(7, 5), LEAVE),
+        (1, 2, link(7, 5), LEAVE),
+        (3, 2, link(7, 0), (13, 0)),
+        (1, 2, link(7, 9), LEAVE),
+        (1, 2, link(7, -1), LEAVE),
+        (1, 2, link(7, -3), LEAVE),
+    ];
+    assert!(rt; first_wrong(&db, &cases).is_none());
     Ok(())
 }
 
-fn writing(alloc: Global, path: &[u8]) -> Result<Act, Fail> {
-    let text = Line::new(alloc, path)?;
-    let path = read_path(alloc, &text)?;
-    Ok(Act::Write {
-        object: Dbref(4),
-        path,
-    })
+fn new_exit(place: i32, link: i32) -> Act {
+    Act::NewExit {
+        place: Dbref(place),
+        link: Dbref(link),
+    }
 }
-
-const WRITES: [(u8, i32, &[u8], (u8, i32)); 8] = [
-    (3, 2, b"@x", (3, 4)),
-    (4, 2, b"@x", (0, 0)),
-    (3, 2, b"~x", (4, 4)),
-    (2, 3, b"_x", (6, 4)),
-    (3, 3, b"_x", (0, 0)),
-    (1, 3, b"x", (7, 4)),
-    (2, 3, b"x", (0, 0)),
-    (1, 2, b".x", (0, 0)),
-];
 
 #[test]
-fn writes(rt: HostRuntime) -> Result<(), Fail> {
-    let alloc = rt.alloc();
-    let db = world(alloc)?;
-    for (level, user, path, want) in WRITES.iter() {
-        assert!(rt; ruled(&db, *level, *user, writing(alloc, path)?) == *want);
-    }
+fn builds(rt: HostRuntime) -> Result<(), Fail> {
+    let db = world(rt.alloc())?;
+    let cases = [
+        (2, 2, Act::NewRoom { place: Dbref(5) }, (14, 2)),
+        (3, 2, Act::NewRoom { place: Dbref(5) }, LEAVE),
+        (2, 2, Act::NewThing { place: Dbref(0) }, (9, 0)),
+        (2, 2, Act::NewThing { place: Dbref(5) }, (14, 2)),
+        (3, 2, Act::NewThing { place: Dbref(0) }, LEAVE),
+        (2, 2, new_exit(5, -1), (14, 2)),
+        (3, 2, new_exit(5, -1), LEAVE),
+        (3, 2, new_exit(5, 0), (13, 0)),
+    ];
+    assert!(rt; first_wrong(&db, &cases).is_none());
     Ok(())
 }
 
-// Two programs, #8 and #9, of One's at level 3.
-fn programs(alloc: Global) -> Result<Db, Fail> {
-    let mut db = world(alloc)?;
-    for d in [8, 9].iter() {
-        let name = a_name(alloc)?;
-        db.create(alloc, Kind::Program, name, Dbref(1), Dbref(0))?;
-        db.set_level(Dbref(*d), 3)?;
+#[test]
+fn builds_by_flags(rt: HostRuntime) -> Result<(), Fail> {
+    let mut db = world(rt.alloc())?;
+    db.set_flags(Dbref(2), Flags(BUILDER))?;
+    db.set_flags(Dbref(8), Flags(LINK))?;
+    let cases = [
+        (1, 2, Act::NewRoom { place: Dbref(5) }, LEAVE),
+        (3, 2, Act::NewRoom { place: Dbref(0) }, (15, 0)),
+        (1, 2, Act::NewRoom { place: Dbref(8) }, LEAVE),
+        (3, 2, new_exit(8, -1), (15, 8)),
+        (1, 2, new_exit(5, 8), LEAVE),
+    ];
+    assert!(rt; first_wrong(&db, &cases).is_none());
+    Ok(())
+}
+
+fn rename(object: i32) -> Act {
+    Act::Rename {
+        object: Dbref(object),
     }
-    Ok(db)
+}
+
+#[test]
+fn changes(rt: HostRuntime) -> Result<(), Fail> {
+    let db = world(rt.alloc())?;
+    let cases = [
+        (3, 2, Act::Change { object: Dbref(6) }, (16, 6)),
+        (1, 2, Act::Change { object: Dbref(2) }, LEAVE),
+        (3, 2, rename(3), (16, 3)),
+        (3, 3, rename(3), (17, 3)),
+        (4, 1, rename(3), LEAVE),
+        (1, 2, rename(4), LEAVE),
+    ];
+    assert!(rt; first_wrong(&db, &cases).is_none());
+    Ok(())
+}
+
+#[test]
+fn asks_for_wizards(rt: HostRuntime) -> Result<(), Fail> {
+    let db = world(rt.alloc())?;
+    let cases = [
+        (3, 2, Act::Password { player: Dbref(3) }, (17, 3)),
+        (4, 2, Act::Password { player: Dbref(3) }, LEAVE),
+        (3, 2, Act::Wizard, (17, 2)),
+        (4, 2, Act::Wizard, LEAVE),
+    ];
+    assert!(rt; first_wrong(&db, &cases).is_none());
+    Ok(())
+}
+
+fn set_flag(object: i32, flag: u16) -> Act {
+    Act::SetFlag {
+        object: Dbref(object),
+        flag: Flags(flag),
+    }
+}
+
+fn set_level(object: i32, level: u8) -> Act {
+    Act::SetLevel {
+        object: Dbref(object),
+        level,
+    }
+}
+
+#[test]
+fn sets_flags_and_levels(rt: HostRuntime) -> Result<(), Fail> {
+    let mut db = world(rt.alloc())?;
+    db.set_level(Dbref(2), 1)?;
+    let cases = [
+        (3, 2, set_flag(6, JUMP), (16, 6)),
+        (1, 2, set_flag(4, JUMP), LEAVE),
+        (3, 2, set_flag(4, WIZARD), (18, 4)),
+        (4, 2, set_flag(4, WIZARD), LEAVE),
+        (3, 2, set_level(2, 1), (18, 2)),
+        (4, 2, set_level(2, 3), LEAVE),
+        (4, 1, set_level(4, 2), (19, 4)),
+        (4, 2, set_level(10, 2), (19, 10)),
+        (1, 2, set_level(10, 1), LEAVE),
+    ];
+    assert!(rt; first_wrong(&db, &cases).is_none());
+    Ok(())
+}
+
+fn set_owner(object: i32, owner: i32) -> Act {
+    Act::SetOwner {
+        object: Dbref(object),
+        owner: Dbref(owner),
+    }
+}
+
+#[test]
+fn recycles_and_gives_away(rt: HostRuntime) -> Result<(), Fail> {
+    let mut db = world(rt.alloc())?;
+    db.set_flags(Dbref(9), Flags(CHOWN))?;
+    let cases = [
+        (3, 3, Act::Recycle { object: Dbref(4) }, (20, 4)),
+        (1, 2, Act::Recycle { object: Dbref(4) }, LEAVE),
+        (4, 1, Act::Recycle { object: Dbref(4) }, LEAVE),
+        (3, 2, set_owner(6, 2), (21, 6)),
+        (1, 2, set_owner(9, 2), LEAVE),
+        (3, 2, set_owner(4, 3), (21, 4)),
+        (1, 2, set_owner(4, 2), LEAVE),
+        (4, 1, set_owner(4, 3), LEAVE),
+    ];
+    assert!(rt; first_wrong(&db, &cases).is_none());
+    Ok(())
+}
+
+fn edit(program: i32) -> Act {
+    Act::Edit {
+        program: Dbref(program),
+    }
+}
+
+#[test]
+fn programs(rt: HostRuntime) -> Result<(), Fail> {
+    let mut db = world(rt.alloc())?;
+    db.set_level(Dbref(3), 1)?;
+    let cases = [
+        (4, 2, Act::NewProgram, (22, 2)),
+        (1, 3, Act::NewProgram, LEAVE),
+        (3, 2, edit(8), (16, 8)),
+        (4, 2, edit(10), (22, 10)),
+        (1, 3, edit(10), (16, 10)),
+        (4, 3, edit(10), LEAVE),
+    ];
+    assert!(rt; first_wrong(&db, &cases).is_none());
+    Ok(())
+}
+
+fn end_process(player: i32, program: i32) -> Act {
+    Act::EndProcess {
+        player: Dbref(player),
+        program: Dbref(program),
+    }
+}
+
+#[test]
+fn ends_and_calls(rt: HostRuntime) -> Result<(), Fail> {
+    let mut db = world(rt.alloc())?;
+    db.set_flags(Dbref(9), Flags(LINK))?;
+    let cases = [
+        (3, 2, end_process(3, 8), (23, 3)),
+        (1, 3, end_process(3, 8), LEAVE),
+        (1, 2, end_process(3, 10), LEAVE),
+        (4, 2, end_process(3, 8), LEAVE),
+        (3, 2, Act::Call { program: Dbref(8) }, (24, 8)),
+        (1, 2, Act::Call { program: Dbref(9) }, LEAVE),
+        (1, 2, Act::Call { program: Dbref(10) }, LEAVE),
+    ];
+    assert!(rt; first_wrong(&db, &cases).is_none());
+    Ok(())
 }
 
 fn user_of(db: &Db, trigger: i32, callers: &[Dbref]) -> i32 {
@@ -162,7 +401,9 @@ fn user_of(db: &Db, trigger: i32, callers: &[Dbref]) -> i32 {
 
 #[test]
 fn runs_programs(rt: HostRuntime) -> Result<(), Fail> {
-    let mut db = programs(rt.alloc())?;
+    let mut db = world(rt.alloc())?;
+    db.set_level(Dbref(8), 3)?;
+    db.set_level(Dbref(9), 3)?;
     let callers = [Dbref(9)];
     assert!(rt; level(&db, Dbref(8), &[]) == 3 && user_of(&db, 4, &[]) == 3);
     db.set_flags(Dbref(8), Flags(HAVEN))?;
@@ -180,131 +421,5 @@ fn shows_names(rt: HostRuntime) -> Result<(), Fail> {
     let db = world(alloc)?;
     assert!(rt; name_shown(alloc, &db, Dbref(2), Dbref(5))?.as_slice() == b"box(#5R)".as_slice());
     assert!(rt; name_shown(alloc, &db, Dbref(3), Dbref(5))?.as_slice() == b"box".as_slice());
-    Ok(())
-}
-
-const TUNE: Tune = Tune {
-    instr_slice: 1,
-    preempt_units: 2,
-    m1_units: 3,
-    m2_units: 4,
-    process_limit: 5,
-    player_processes: 6,
-    mpi_commands: 7,
-    dump_interval: 8,
-};
-
-// Whether there is leave to name the object, which is then named.
-fn renamed(guard: &mut Guard<'_>, object: Dbref, name: Line) -> Result<bool, Fail>
-    requires some { 1 ≤ length name }
-    requires short { length name ≤ 80 }
-{
-    let act = Act::Rename { object };
-    let actor = guard.actor();
-    match verdict(guard.db(), &actor, &act) {
-        Ok(pass) => {
-            guard.rename(pass, object, name)?;
-            Ok(true)
-        }
-        Err(_) => Ok(false),
-    }
-}
-
-const TWO: Actor = Actor {
-    level: 1,
-    user: Dbref(2),
-    player: Dbref(2),
-};
-
-#[test]
-fn writes_by_a_pass(rt: HostRuntime) -> Result<(), Fail> {
-    let alloc = rt.alloc();
-    let mut db = world(alloc)?;
-    let mut board = Board::new(alloc, 0, TUNE);
-    let mut guard = Guard::new(alloc, &mut db, &mut board, TWO);
-    assert!(rt; renamed(&mut guard, Dbref(4), a_name(alloc)?)?);
-    assert!(rt; !renamed(&mut guard, Dbref(3), a_name(alloc)?)?);
-    guard.tell_all(b"done")?;
-    assert!(rt; guard.lock_text(Dbref(4)).is_none());
-    Ok(())
-}
-
-// Whether there is leave to make a room, which is then made.
-fn dug(guard: &mut Guard<'_>, name: Line) -> Result<bool, Fail>
-    requires some { 1 ≤ length name }
-    requires short { length name ≤ 80 }
-{
-    let act = Act::NewRoom { place: Dbref(5) };
-    let actor = guard.actor();
-    match verdict(guard.db(), &actor, &act) {
-        Ok(pass) => {
-            let d = guard.create_room(pass, name, Dbref(5))?;
-            Ok(d.0 == 8)
-        }
-        Err(_) => Ok(false),
-    }
-}
-
-#[test]
-fn makes_by_a_pass(rt: HostRuntime) -> Result<(), Fail> {
-    let alloc = rt.alloc();
-    let mut db = world(alloc)?;
-    let mut board = Board::new(alloc, 0, TUNE);
-    let mut guard = Guard::new(alloc, &mut db, &mut board, TWO);
-    assert!(rt; !dug(&mut guard, a_name(alloc)?)?);
-    guard.swap_actor(Actor { level: 3, ..TWO });
-    assert!(rt; dug(&mut guard, a_name(alloc)?)?);
-    Ok(())
-}
-
-// Whether there is leave to write a property of #4, which is then stored.
-fn noted(guard: &mut Guard<'_>, path: Path) -> Result<bool, Fail> {
-    let alloc = guard.alloc();
-    let actor = guard.actor();
-    let object = Dbref(4);
-    let kept = path.copy(alloc)?;
-    let act = Act::Write { object, path };
-    match verdict(guard.db(), &actor, &act) {
-        Ok(pass) => {
-            guard.store(pass, object, kept, PropValue::Text(a_name(alloc)?))?;
-            Ok(true)
-        }
-        Err(_) => Ok(false),
-    }
-}
-
-// Whether there is leave to set the password of #2, which is then set.
-fn changed_password(guard: &mut Guard<'_>, word: &Line) -> Result<bool, Fail> {
-    let player = Dbref(2);
-    let act = Act::Password { player };
-    let actor = guard.actor();
-    match verdict(guard.db(), &actor, &act) {
-        Ok(pass) => {
-            guard.set_password(pass, player, 7, word)?;
-            Ok(guard.db().password_is(guard.alloc(), player, word)?)
-        }
-        Err(_) => Ok(false),
-    }
-}
-
-fn is_text(text: Option<&Line>, want: &[u8]) -> bool {
-    match text {
-        Some(text) => text.as_slice() == want,
-        None => false,
-    }
-}
-
-#[test]
-fn keeps_what_is_written(rt: HostRuntime) -> Result<(), Fail> {
-    let alloc = rt.alloc();
-    let mut db = world(alloc)?;
-    let mut board = Board::new(alloc, 0, TUNE);
-    let mut guard = Guard::new(alloc, &mut db, &mut board, TWO);
-    let path = Line::new(alloc, b"_/de")?;
-    assert!(rt; noted(&mut guard, read_path(alloc, &path)?)?);
-    assert!(rt; is_text(guard.message(Dbref(4), b"_/de"), b"box"));
-    assert!(rt; !changed_password(&mut guard, &path)?);
-    guard.swap_actor(Actor { level: 4, ..TWO });
-    assert!(rt; changed_password(&mut guard, &path)?);
     Ok(())
 }

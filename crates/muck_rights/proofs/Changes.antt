@@ -14,18 +14,19 @@ use Rattle.muck_prop.specs.Store.{PropMap, is_nothing, stored as put}
 use Rattle.muck_prop.proofs.Maps.{path_cmp_same}
 use Rattle.muck_live.specs.declared.object.Object.{Object}
 use Rattle.muck_live.specs.Flags.{has_flag, with_flag, without_flag, wizard}
-use Rattle.muck_live.specs.Objects.{Entry, dbref_of, object_in, number_in, object_at, changed_at}
+use Rattle.muck_live.specs.Objects.{Entry, dbref_of, object_in, list_in, number_in, object_at, changed_at}
 use Rattle.muck_live.specs.Setting.{set_at, with_name, with_owner, with_link, with_flags, with_level, with_lines, lines_set, with_password, with_prop, without_prop}
 use Rattle.muck_live.specs.Boards.{Board}
 use Rattle.muck_live.specs.Lives.{Live}
 use Rattle.muck_live.proofs.Lists.{get_changed_same}
-use Rattle.muck_live.proofs.Readers.{object_changed, object_unchanged, object_elsewhere}
+use Rattle.muck_live.proofs.Readers.{object_changed, object_unchanged, object_elsewhere, list_change, list_changed}
 use Rattle.muck_rights.specs.declared.act.Actor.{Actor}
 use Rattle.muck_rights.specs.declared.act.Act.TheVariants.{Write, Link, Edit, Change, Rename, Password, SetFlag, SetLevel, SetOwner}
 use Rattle.muck_rights.specs.Verdict.{is_master, controls, is_guarded}
 use Rattle.muck_rights.specs.Changing.{at_number, set_object, named, owned_by, linked, is_flag, flag_set, flag_cleared, leveled, lines_kept, password_kept, stored, unstored}
-use Rattle.muck_rights.specs.Licence.{Open, Judge, Changed, Differs, SameTies, name_open, property_open, link_open, level_open, lines_open, owner_open}
+use Rattle.muck_rights.specs.Licence.{Open, Judge, Changed, Differs, SameLists, SameTies, name_open, property_open, link_open, level_open, lines_open, owner_open}
 use Rattle.muck_rights.proofs.Lookups.{Row, row_same, rows_changed, number_is}
+use Rattle.muck_rights.proofs.Listing.{lists_alike, lists_itself}
 use Rattle.muck_rights.proofs.Bits.{wizard_stays_set, wizard_stays_cleared}
 use Rattle.muck_rights.proofs.Licences.{judge, changed_same, Kept, kept_same, Stay, End, Stays, Ends, itself, ties_itself}
 use Rattle.muck_rights.proofs.Allowed.{rename_allowed, write_allowed, change_allowed, link_allowed, flag_allowed, level_allowed, owner_allowed, edit_allowed, password_allowed}
@@ -58,11 +59,11 @@ rows_lined R same x lines h es n = rows_number R same x (λ o. record o { lines 
 
 -- Worlds in which the objects alone differ.
 
-pub stay_objects : (j : Judge) (w v : Live) → v.board ≡ w.board → ((n : ℕ) → Row (Kept j (dbref_of n)) (object_at (dbref_of n) w.objects) (object_at (dbref_of n) v.objects)) → Stay j w v
-stay_objects j w v b rows =
+pub stay_objects : (j : Judge) (w v : Live) → v.board ≡ w.board → ((n : ℕ) → Row (Kept j (dbref_of n)) (object_at (dbref_of n) w.objects) (object_at (dbref_of n) v.objects)) → SameLists j w.objects v.objects → Stay j w v
+stay_objects j w v b rows lists =
     let T : Board → Type 0 = λ t. SameTies j.actor w.board.connections t.connections in
     let U : Board → Type 0 = λ t. Open (λ tune. is_master j.actor) w.board.tune t.tune in
-    record { rows = rows; ties = subst T (sym b) (ties_itself j.actor w.board.connections); tune = subst U (sym b) (inl refl) }
+    record { rows = rows; lists = lists; ties = subst T (sym b) (ties_itself j.actor w.board.connections); tune = subst U (sym b) (inl refl) }
 
 pub differs_row : (j : Judge) (x : Dbref) (o p : Option Object) → Row (Changed j x) o p → Differs j x o p
 differs_row j x None None r = r
@@ -70,17 +71,28 @@ differs_row j x None (Some p) r = absurd r
 differs_row j x (Some o) None r = absurd r
 differs_row j x (Some o) (Some p) r = r
 
-pub end_objects : (j : Judge) (w v : Live) → v.board ≡ w.board → ((n : ℕ) → Differs j (dbref_of n) (object_at (dbref_of n) w.objects) (object_at (dbref_of n) v.objects)) → End j w v
-end_objects j w v b rows =
+pub end_objects : (j : Judge) (w v : Live) → v.board ≡ w.board → ((n : ℕ) → Differs j (dbref_of n) (object_at (dbref_of n) w.objects) (object_at (dbref_of n) v.objects)) → SameLists j w.objects v.objects → End j w v
+end_objects j w v b rows lists =
     let T : Board → Type 0 = λ t. SameTies j.actor w.board.connections t.connections in
     let U : Board → Type 0 = λ t. Open (λ tune. is_master j.actor) w.board.tune t.tune in
-    record { rows = rows; ties = subst T (sym b) (ties_itself j.actor w.board.connections); tune = subst U (sym b) (inl refl) }
+    record { rows = rows; lists = lists; ties = subst T (sym b) (ties_itself j.actor w.board.connections); tune = subst U (sym b) (inl refl) }
+
+-- the lists of all are as they were
+lists_number : (j : Judge) (g : ℕ → List Entry → List Entry) (es : List Entry) → ((m : ℕ) (v : Bool) (k : ℕ) → list_in v (g m es) k ≡ list_in v es k) → (q : Option ℕ) → SameLists j es (option_map_or (λ m. g m es) q es)
+lists_number j g es h None = lists_itself j es
+lists_number j g es h (Some m) = lists_alike j es (g m es) (h m)
+
+lists_set : (j : Judge) (x : Dbref) (f : Object → Object) (es : List Entry) → SameLists j es (at_number (set_at f) x es)
+lists_set j x f es = lists_number j (set_at f) es (λ m v k. list_changed v m k f es) (number_in es x)
+
+lists_lined : (j : Judge) (x : Dbref) (lines : List (List ℕ)) (es : List Entry) → SameLists j es (at_number (lines_set lines) x es)
+lists_lined j x lines es = lists_number j (lines_set lines) es (λ m v k. list_change v m k (with_lines lines) es (λ e. refl)) (number_in es x)
 
 stay_found : (j : Judge) (x : Dbref) (f : Object → Object) → ((o : Object) → (f o).kind ≡ o.kind) → ((o : Object) → Kept j x o (f o)) → (w : Live) → Stay j w (set_object f x w)
-stay_found j x f kinds h w = stay_objects j w (set_object f x w) refl (rows_found (Kept j) (kept_same j) x f kinds h w.objects)
+stay_found j x f kinds h w = stay_objects j w (set_object f x w) refl (rows_found (Kept j) (kept_same j) x f kinds h w.objects) (lists_set j x f w.objects)
 
 pub end_found : (j : Judge) (x : Dbref) (f : Object → Object) → ((o : Object) → (f o).kind ≡ o.kind) → ((o : Object) → Changed j x o (f o)) → (w : Live) → End j w (set_object f x w)
-end_found j x f kinds h w = end_objects j w (set_object f x w) refl (λ n. differs_row j (dbref_of n) _ _ (rows_found (Changed j) (changed_same j) x f kinds h w.objects n))
+end_found j x f kinds h w = end_objects j w (set_object f x w) refl (λ n. differs_row j (dbref_of n) _ _ (rows_found (Changed j) (changed_same j) x f kinds h w.objects n)) (lists_set j x f w.objects)
 
 -- Names.
 
@@ -180,7 +192,7 @@ unfolding lines_kept
 stays_lines a free x lines = record {
   law = λ start w s g.
       let j = judge a free start in
-      stay_objects j w (lines_kept x lines w) refl (rows_lined (Kept j) (kept_same j) x lines (λ o. kept_lines j x lines o (edit_allowed a free start w.objects x s g)) w.objects);
+      stay_objects j w (lines_kept x lines w) refl (rows_lined (Kept j) (kept_same j) x lines (λ o. kept_lines j x lines o (edit_allowed a free start w.objects x s g)) w.objects) (lists_lined j x lines w.objects);
 }
 
 -- Passwords.

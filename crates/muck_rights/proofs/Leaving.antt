@@ -14,6 +14,7 @@ use Rattle.muck_rights.specs.Verdict.{is_master}
 use Rattle.muck_rights.specs.Changing.{booted, tuned}
 use Rattle.muck_rights.specs.Licence.{Open, SameTies, leave_open}
 use Rattle.muck_rights.proofs.Lookups.{row_same, same_eq}
+use Rattle.muck_rights.proofs.Listing.{lists_itself}
 use Rattle.muck_rights.proofs.Licences.{judge, kept_same, differs_kept, Stays, Whole, itself, ties_itself}
 use Rattle.muck_rights.proofs.Allowed.{or_left, or_right, wizard_allowed}
 
@@ -36,6 +37,7 @@ whole_leave a d free given = record {
     gone = None;
     recycled = λ x e. absurd (cc);
     objects = λ n. differs_kept (judge a (free w.objects) w.objects) (dbref_of n) _ _ (row_same _ (kept_same (judge a (free w.objects) w.objects) (dbref_of n)) (object_at (dbref_of n) w.objects));
+    lists = lists_itself (judge a (free w.objects) w.objects) w.objects;
     connections = ties_left a d w.board.connections c;
     tune = inl refl;
   };
@@ -62,6 +64,7 @@ unfolding booted
 stays_booted a free player = record {
   law = λ start w s g. record {
     rows = λ n. row_same _ (kept_same (judge a free start) (dbref_of n)) (object_at (dbref_of n) w.objects);
+    lists = lists_itself (judge a free start) w.objects;
     ties = ties_booted a player w.board.connections (wizard_allowed w.objects a g);
     tune = inl refl;
   };
@@ -72,6 +75,7 @@ unfolding tuned
 stays_tuned a free tune = record {
   law = λ start w s g. record {
     rows = λ n. row_same _ (kept_same (judge a free start) (dbref_of n)) (object_at (dbref_of n) w.objects);
+    lists = lists_itself (judge a free start) w.objects;
     ties = ties_itself a w.board.connections;
     tune = inr (wizard_allowed w.objects a g);
   };

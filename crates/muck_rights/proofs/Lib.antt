@@ -1,5 +1,6 @@
 pub mod Lookups
 pub mod Rights
+pub mod Listing
 pub mod Licences
 pub mod Shown
 pub mod Allowed

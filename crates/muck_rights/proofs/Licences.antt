@@ -13,9 +13,10 @@ use Rattle.muck_live.specs.Lives.{Live, Change, followed, reading, either, uncha
 use Rattle.muck_rights.specs.declared.act.Actor.{Actor}
 use Rattle.muck_rights.specs.declared.act.Act.{Act}
 use Rattle.muck_rights.specs.Verdict.{is_master, verdict}
-use Rattle.muck_rights.specs.Licence.{Open, Judge, owned, name_open, property_open, place_open, link_open, home_open, level_open, lines_open, owner_open, Changed, Differs, leave_open, SameTies, may_recycle, Licensed}
+use Rattle.muck_rights.specs.Licence.{Open, Judge, owned, name_open, property_open, place_open, link_open, home_open, level_open, lines_open, owner_open, Changed, Differs, SameLists, leave_open, SameTies, may_recycle, Licensed}
 use Rattle.muck_rights.specs.Asking.{answered, asked}
 use Rattle.muck_rights.proofs.Lookups.{Row, row_same, row_both}
+use Rattle.muck_rights.proofs.Listing.{lists_itself, lists_both}
 use Rattle.muck_rights.proofs.Rights.{rights, SameRights, same_itself}
 
 abbrev pub judge : Actor → (Dbref → Bool) → List Entry → Judge
@@ -132,18 +133,21 @@ pub record Quiet (f : Change) : Type 0 where
 -- Worlds between which only objects that were there differ, and no right does.
 pub record Stay (j : Judge) (w v : Live) : Type 0 where
   pub rows : (n : ℕ) → Row (Kept j (dbref_of n)) (object_at (dbref_of n) w.objects) (object_at (dbref_of n) v.objects)
+  pub lists : SameLists j w.objects v.objects
   pub ties : SameTies j.actor w.board.connections v.board.connections
   pub tune : Open (λ tune. is_master j.actor) w.board.tune v.board.tune
 
 -- Worlds that differ as is open.
 pub record End (j : Judge) (w v : Live) : Type 0 where
   pub rows : (n : ℕ) → Differs j (dbref_of n) (object_at (dbref_of n) w.objects) (object_at (dbref_of n) v.objects)
+  pub lists : SameLists j w.objects v.objects
   pub ties : SameTies j.actor w.board.connections v.board.connections
   pub tune : Open (λ tune. is_master j.actor) w.board.tune v.board.tune
 
 pub stay_both : (j : Judge) (u v w : Live) → Stay j u v → Stay j v w → Stay j u w
 stay_both j u v w s t = record {
   rows = λ n. row_both _ _ _ (kept_both j (dbref_of n)) _ _ _ (s.rows n) (t.rows n);
+  lists = lists_both j (λ n. Kept j (dbref_of n)) u.objects v.objects w.objects s.rows s.lists t.lists;
   ties = ties_both j.actor _ _ _ s.ties t.ties;
   tune = open_both (λ tune. is_master j.actor) _ _ _ s.tune t.tune;
 }
@@ -152,6 +156,7 @@ stay_both j u v w s t = record {
 pub stay_quietly : (j : Judge) (w v : Live) (g : Change) → Stay j w v → Quiet g → Stay j w (g v)
 stay_quietly j w v g t q = record {
   rows = λ n. let P : List Entry → Type 0 = λ os. Row (Kept j (dbref_of n)) (object_at (dbref_of n) w.objects) (object_at (dbref_of n) os) in subst P (sym (q.objects v)) (t.rows n);
+  lists = subst (SameLists j w.objects) (sym (q.objects v)) t.lists;
   ties = ties_both j.actor _ _ _ t.ties (ties_same j.actor v.board.connections (g v).board.connections (q.ties v));
   tune = open_both (λ tune. is_master j.actor) _ _ _ t.tune (inl (q.tune v));
 }
@@ -159,6 +164,7 @@ stay_quietly j w v g t q = record {
 pub end_quietly : (j : Judge) (w v : Live) (g : Change) → End j w v → Quiet g → End j w (g v)
 end_quietly j w v g t q = record {
   rows = λ n. let P : List Entry → Type 0 = λ os. Differs j (dbref_of n) (object_at (dbref_of n) w.objects) (object_at (dbref_of n) os) in subst P (sym (q.objects v)) (t.rows n);
+  lists = subst (SameLists j w.objects) (sym (q.objects v)) t.lists;
   ties = ties_both j.actor _ _ _ t.ties (ties_same j.actor v.board.connections (g v).board.connections (q.ties v));
   tune = open_both (λ tune. is_master j.actor) _ _ _ t.tune (inl (q.tune v));
 }
@@ -247,6 +253,7 @@ stays_quiet a free given f q = record {
     rows = λ n.
         let P : List Entry → Type 0 = λ os. Row (Kept (judge a free start) (dbref_of n)) (object_at (dbref_of n) w.objects) (object_at (dbref_of n) os) in
         subst P (sym (q.objects w)) (row_same _ (kept_same (judge a free start) (dbref_of n)) (object_at (dbref_of n) w.objects));
+    lists = subst (SameLists (judge a free start) w.objects) (sym (q.objects w)) (lists_itself (judge a free start) w.objects);
     ties = ties_same a w.board.connections (f w).board.connections (q.ties w);
     tune = inl (q.tune w);
   };
@@ -288,7 +295,7 @@ stays_freely a free given f p = record { law = λ start w s h. p.law start w s t
 
 pub ends_stays : (a : Actor) (free : Dbref → Bool) (given : Option Act) (f : Change) → Stays a free given f → Ends itself a free given f
 ends_stays a free given f p = record {
-  law = λ start w s h. let t = p.law start w s h in record { rows = λ n. differs_kept _ (dbref_of n) _ _ (t.rows n); ties = t.ties; tune = t.tune };
+  law = λ start w s h. let t = p.law start w s h in record { rows = λ n. differs_kept _ (dbref_of n) _ _ (t.rows n); lists = t.lists; ties = t.ties; tune = t.tune };
 }
 
 pub ends_quiet : (a : Actor) (free : Dbref → Bool) (given : Option Act) (f : Change) → Quiet f → Ends itself a free given f
@@ -302,6 +309,7 @@ ends_followed out a free given f g p q = record {
       let next = q.law start (f w) (stay_rights _ start w (f w) s first) tt in
       record {
         rows = λ n. kept_differs a free start (dbref_of n) _ _ _ (first.rows n) (next.rows n);
+        lists = lists_both (judge a free start) (λ n. Kept (judge a free start) (dbref_of n)) _ _ _ first.rows first.lists next.lists;
         ties = ties_both a _ _ _ first.ties next.ties;
         tune = open_both (λ tune. is_master a) _ _ _ first.tune next.tune;
       };
@@ -341,7 +349,7 @@ pub whole_ends : {Y : Type 0} (out : Y → Live) (a : Actor) (own : Option ℕ) 
 whole_ends out a own free given f p = record {
   law = λ w c h.
       let t = (p w h).law w.objects w (same_itself w.objects) tt in
-      record { gone = None; recycled = λ x e. absurd (cc); objects = t.rows; connections = t.ties; tune = t.tune };
+      record { gone = None; recycled = λ x e. absurd (cc); objects = t.rows; lists = t.lists; connections = t.ties; tune = t.tune };
 }
 
 pub whole_quiet : (a : Actor) (own : Option ℕ) (free : List Entry → Dbref → Bool) (given : Live → Type 0) (f : Change) → Quiet f → Whole itself a own free given f
@@ -358,10 +366,12 @@ whole_followed out a own free given f g q p = record {
     after w v u e c t l =
         let O : List Entry → Type 0 = λ os. (n : ℕ) → Differs (record { actor = a; free = free os; gone = l.gone; objects = os }) (dbref_of n) (object_at (dbref_of n) os) (object_at (dbref_of n) u.objects) in
         let R : List Entry → Type 0 = λ os. (x : Dbref) → l.gone ≡ Some x → may_recycle os a x ≡ true in
+        let L : List Entry → Type 0 = λ os. SameLists (record { actor = a; free = free os; gone = l.gone; objects = os }) os u.objects in
         record {
           gone = l.gone;
           recycled = subst R e l.recycled;
           objects = subst O e l.objects;
+          lists = subst L e l.lists;
           connections = ties_both a _ _ _ (ties_same a w.board.connections v.board.connections c) l.connections;
           tune = open_both (λ tune. is_master a) _ _ _ (inl t) l.tune;
         }
@@ -377,6 +387,7 @@ whole_quietly a own free given f g p q = record {
         gone = l.gone;
         recycled = l.recycled;
         objects = subst O (sym (q.objects (f w))) l.objects;
+        lists = subst (SameLists (record { actor = a; free = free w.objects; gone = l.gone; objects = w.objects }) w.objects) (sym (q.objects (f w))) l.lists;
         connections = ties_both a _ _ _ l.connections (ties_same a (f w).board.connections (g (f w)).board.connections (q.ties (f w)));
         tune = open_both (λ tune. is_master a) _ _ _ l.tune (inl (q.tune (f w)));
       };

@@ -9,24 +9,26 @@ use Rattle.muck_model.specs.declared.dbref.Kind.{Kind}
 use Rattle.muck_model.specs.declared.dbref.Kind.TheVariants.{Room, Thing, Exit, Player, Program}
 use Rattle.muck_live.specs.declared.object.Object.{Object}
 use Rattle.muck_live.specs.Flags.{builder, jump, link}
-use Rattle.muck_live.specs.Objects.{Entry, dbref_of, nothing, home, same, is_garbage, object_in, number_in, object_at, changed_at, with_object, garbage}
+use Rattle.muck_live.specs.Objects.{Entry, dbref_of, nothing, home, same, is_garbage, object_in, list_in, number_in, object_at, changed_at, with_object, garbage}
 use Rattle.muck_live.specs.Moving.{moved, with_place}
 use Rattle.muck_live.specs.Making.{free_in, blank_entry, grown, new_object, created, may_make, make_judged, objects_most, owner_judged, create_check}
 use Rattle.muck_live.specs.declared.fault.DbFault.TheVariants.{NoSuchObject, WrongKind, WorldFull}
 use Rattle.muck_live.specs.Setting.{set_at, with_home, with_link, with_level, with_password}
 use Rattle.muck_live.specs.Lives.{Live}
 use Rattle.muck_live.proofs.Lists.{get_changed_same, read_more}
-use Rattle.muck_live.proofs.Readers.{object_changed, object_unchanged, object_elsewhere, object_moved, object_unmoved}
+use Rattle.muck_live.proofs.Readers.{object_changed, object_unchanged, object_elsewhere, object_moved, object_unmoved, list_changed, list_named}
+use Rattle.muck_live.proofs.CreationLaws.{list_more}
 use Rattle.muck_rights.specs.declared.act.Actor.{Actor}
 use Rattle.muck_rights.specs.declared.act.Act.TheVariants.{NewRoom, NewThing, NewExit, NewProgram, Wizard}
 use Rattle.muck_rights.specs.Levels.{level_at, flag_at}
 use Rattle.muck_rights.specs.Verdict.{verdict, is_master, controls, controls_or}
 use Rattle.muck_rights.specs.Changing.{created_so}
-use Rattle.muck_rights.specs.Licence.{Judge, IsNew, Differs}
+use Rattle.muck_rights.specs.Licence.{Judge, IsNew, Differs, Reordered, as_before, front_open, SameLists, place_open}
 use Rattle.muck_rights.proofs.Lookups.{alive, seen_at, number_is, same_eq}
+use Rattle.muck_rights.proofs.Listing.{reordered_moved}
 use Rattle.muck_rights.proofs.Rights.{SameRights, same_level}
 use Rattle.muck_rights.proofs.Licences.{judge, changed_same, End}
-use Rattle.muck_rights.proofs.Allowed.{room_allowed, thing_allowed, exit_allowed, program_allowed, wizard_allowed}
+use Rattle.muck_rights.proofs.Allowed.{or_right, room_allowed, thing_allowed, exit_allowed, program_allowed, wizard_allowed}
 use Rattle.muck_rights.proofs.Changes.{end_objects}
 
 -- Nothing is there at the free number.
@@ -46,6 +48,14 @@ grown_same k n es = at (k == length es)
   where
     at : (b : Bool) → option_and_then alive (option_map (λ (x : Entry). x.object) (slice_get (cond b (es ++ blank_entry ∷ []) es) n)) ≡ option_and_then alive (option_map (λ (x : Entry). x.object) (slice_get es n))
     at true = read_more (λ (q : Option Entry). option_and_then alive (option_map (λ (x : Entry). x.object) q)) es blank_entry n refl
+    at false = refl
+
+list_grown : (v : Bool) (k i : ℕ) (es : List Entry) → list_in v (grown k es) i ≡ list_in v es i
+unfolding grown
+list_grown v k i es = at (k == length es)
+  where
+    at : (b : Bool) → list_in v (cond b (es ++ blank_entry ∷ []) es) i ≡ list_in v es i
+    at true = list_more v es i
     at false = refl
 
 object_put : (k : ℕ) (o : Object) (es : List Entry) → object_in (changed_at k (with_object o) es) k ≡ option_map (λ (x : Object). o) (object_in es k)
@@ -112,6 +122,19 @@ differs_made j kind name owner finished to es h n =
       | inr e ↦ differs_same j (dbref_of n) _ _ (ap (λ (q : Option Object). option_and_then alive q) (made_there kind name owner finished to es n e) ∙ grown_same k n es)
     ])
 
+-- it comes to the front of a list of its place
+lists_made : (j : Judge) (kind : Kind) (name : List ℕ) (owner : Dbref) (finished : Object → Object) (to : ℕ) (es : List Entry) → SameLists j es (made_in kind name owner finished to es)
+unfolding created
+lists_made j kind name owner finished to es v i =
+    let k : ℕ = free_in es in
+    let g : List Entry = grown k es in
+    let one : List Entry = changed_at k (with_object (new_object k kind name owner)) g in
+    let may : ℕ → Bool = front_open j es i in
+    let nobody : option_map_or (λ (o : Object). false) (object_at (dbref_of k) es) true ≡ true = ap (λ (q : Option Object). option_map_or (λ (o : Object). false) q true) (seen_at es k ∙ free_dead es) in
+    let Q : List ℕ → Type 0 = λ l. Reordered may (list_in v es i) l in
+    let before : Q (list_in v one i) = subst Q (sym (list_named v k i (new_object k kind name owner) g ∙ list_grown v k i es)) as_before in
+    subst Q (sym (list_changed v k i finished (moved k to one))) (reordered_moved may (list_in v es i) v k to i one (λ e. or_right (place_open j (dbref_of k) (dbref_of i)) _ nobody) before)
+
 -- what a check that passes says
 made_by : (kind : Kind) (owned : Bool) (to : ℕ) (es : List Entry) (p : ℕ × ℕ) → make_judged kind owned to es ≡ Ok p → (p.0 ≡ free_in es) × (p.1 ≡ to)
 unfolding make_judged
@@ -138,8 +161,9 @@ unfolding created_so
 end_created j kind name owner place finished w p e h =
     let k = made_checked kind owner place w.objects p e in
     let D : ℕ → Type 0 = λ m. (n : ℕ) → Differs j (dbref_of n) (object_at (dbref_of n) w.objects) (object_at (dbref_of n) (set_at finished m (created m kind name owner p.1 w.objects))) in
+    let L : ℕ → Type 0 = λ m. SameLists j w.objects (set_at finished m (created m kind name owner p.1 w.objects)) in
     let new = h (free_in w.objects) p.1 (number_is w.objects place p.1 k.1) in
-    end_objects j w (created_so p.0 kind name owner p.1 finished w) refl (subst D (sym k.0) (differs_made j kind name owner finished p.1 w.objects new))
+    end_objects j w (created_so p.0 kind name owner p.1 finished w) refl (subst D (sym k.0) (differs_made j kind name owner finished p.1 w.objects new)) (subst L (sym k.0) (lists_made j kind name owner finished p.1 w.objects))
 
 -- The kinds.
 

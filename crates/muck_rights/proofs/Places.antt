@@ -1,5 +1,5 @@
 -- Moves and homes keep to the licence.
-use Rattle.std.proofs.Common.{◌≡◌, ℕ, Bool, true, false, List, refl, sym, ◌∙◌, ap, Option, Some, None, inl, inr}
+use Rattle.std.proofs.Common.{◌≡◌, ℕ, Bool, true, false, List, refl, sym, ◌∙◌, ap, subst, Option, Some, None, inl, inr}
 use Rattle.std.specs.Option.{option_map_or}
 use Rattle.muck_model.specs.declared.dbref.Dbref.{Dbref}
 use Rattle.muck_live.specs.declared.object.Object.{Object}
@@ -12,10 +12,11 @@ use Rattle.muck_rights.specs.declared.act.Actor.{Actor}
 use Rattle.muck_rights.specs.declared.act.Act.{Act}
 use Rattle.muck_rights.specs.declared.act.Act.TheVariants.{Move, Link}
 use Rattle.muck_rights.specs.Changing.{homed, moved_at, moved_to}
-use Rattle.muck_rights.specs.Licence.{Judge, Changed, place_open, home_open}
+use Rattle.muck_rights.specs.Licence.{Judge, Changed, SameLists, place_open, home_open}
 use Rattle.muck_rights.specs.Verdict.{verdict}
 use Rattle.muck_rights.proofs.Rights.{SameRights}
 use Rattle.muck_rights.proofs.Lookups.{Row, row_same, number_is}
+use Rattle.muck_rights.proofs.Listing.{lists_itself, lists_moved}
 use Rattle.muck_rights.proofs.Licences.{judge, Kept, kept_same, Stay, End, Stays, Ends, itself}
 use Rattle.muck_rights.proofs.Allowed.{or_left, move_allowed, home_allowed, live_allowed, unlink_allowed}
 use Rattle.muck_rights.proofs.Changes.{rows_number, stay_objects, end_found}
@@ -40,10 +41,18 @@ rows_moved j x to es h n (Some m) (Some t) d e =
     let there : place_open j x (dbref_of t) ≡ true = ap (place_open j x) (sym (number_is es to t e)) ∙ h t e in
     rows_number (Kept j) (kept_same j) x (with_place t) (λ o. refl) (λ o. kept_place j x t o there) es (λ k. moved k t) (λ k. object_moved es k t) (λ k i ne. object_unmoved es k t i ne) n (Some m) d
 
+lists_came : (j : Judge) (x to : Dbref) (es : List Entry) → ((t : ℕ) → number_in es to ≡ Some t → place_open j x to ≡ true) → (p q : Option ℕ) → number_in es x ≡ p → number_in es to ≡ q → SameLists j es (moved_at p q es)
+lists_came j x to es h None q d e = lists_itself j es
+lists_came j x to es h (Some m) None d e = lists_itself j es
+lists_came j x to es h (Some m) (Some t) d e =
+    let P : Dbref → Dbref → Type 0 = λ y z. place_open j y z ≡ true in
+    let Q : Dbref → Type 0 = λ y. P y (dbref_of t) in
+    lists_moved j m t es (subst Q (number_is es x m d) (subst (P x) (number_is es to t e) (h t e)))
+
 -- to a place that is there
 stay_moved : (j : Judge) (x to : Dbref) (w : Live) → ((t : ℕ) → number_in w.objects to ≡ Some t → place_open j x to ≡ true) → Stay j w (moved_to x to w)
 unfolding moved_to
-stay_moved j x to w h = stay_objects j w (moved_to x to w) refl (λ n. rows_moved j x to w.objects h n (number_in w.objects x) (number_in w.objects to) refl refl)
+stay_moved j x to w h = stay_objects j w (moved_to x to w) refl (λ n. rows_moved j x to w.objects h n (number_in w.objects x) (number_in w.objects to) refl refl) (lists_came j x to w.objects h (number_in w.objects x) (number_in w.objects to) refl refl)
 
 -- what may be moved freely
 pub stays_free : (a : Actor) (free : Dbref → Bool) (given : Option Act) (x to : Dbref) → free x ≡ true → Stays a free given (moved_to x to)

@@ -13,7 +13,7 @@ use Rattle.muck_live.specs.declared.object.Object.{Object}
 use Rattle.std.specs.FinMap.{get}
 use Rattle.muck_live.specs.Flags.{has_flag, wizard}
 use Rattle.muck_live.specs.Chain.{Member}
-use Rattle.muck_live.specs.Objects.{Entry, dbref_of, nothing, same, index_of, is_exit, is_player, is_garbage, object_in, list_in, kind_in, owner_in, home_in, number_in, object_at, changed_at, on_object, garbage}
+use Rattle.muck_live.specs.Objects.{Entry, dbref_of, nothing, same, index_of, is_exit, is_player, is_garbage, object_in, list_of, list_in, kind_in, owner_in, home_in, number_in, object_at, changed_at, on_object, garbage}
 use Rattle.muck_live.specs.Moving.{left_out, moved, with_place}
 use Rattle.muck_live.specs.Recycling.{untied, exits_gone, vanished, without_exits, without_ties, wished_home, may_go, way_home, sent_home, gone_entry, is_exit_of, exit_gone, recycled, recycle_check}
 use Rattle.muck_live.specs.declared.fault.DbFault.{DbFault}
@@ -28,7 +28,9 @@ use Rattle.muck_rights.specs.declared.act.Act.TheVariants.{Recycle}
 use Rattle.muck_rights.specs.Levels.{is_player_at}
 use Rattle.muck_rights.specs.Verdict.{verdict, controls}
 use Rattle.muck_rights.specs.Changing.{recycled_now}
-use Rattle.muck_rights.specs.Licence.{Open, Judge, Changed, Differs, Licensed, is_emptied, is_way_home, place_open, link_open, home_open, gone_open, may_recycle}
+use Rattle.muck_rights.specs.Licence.{Open, Judge, Changed, Differs, Reordered, as_before, empties, front_open, SameLists, Licensed, is_emptied, is_way_home, place_open, link_open, home_open, gone_open, may_recycle}
+use Rattle.muck_live.proofs.HomeLaws.{list_untied}
+use Rattle.muck_rights.proofs.Listing.{lists_itself, reordered_all, reordered_one, reordered_left, reordered_moved}
 use Rattle.muck_rights.proofs.Lookups.{Row, alive, seen_at, number_is, same_eq, eq_same}
 use Rattle.muck_rights.proofs.Licences.{judge, changed_same, ties_itself}
 use Rattle.muck_rights.proofs.Allowed.{or_left, or_right, recycle_allowed}
@@ -332,6 +334,47 @@ differs_recycled a free d es known some n =
           subst Q (sym (recycled_there d n es e)) (differs_there a free d n es some (object_in es n) (object_in em n) refl (rows n))
     ])
 
+-- The lists.
+
+lists_home : (a : Actor) (free : Dbref → Bool) (d : ℕ) (es : List Entry) (ys : List ℕ) → ((y : ℕ) → Member y ys → is_emptied (judged a free d es) (dbref_of y) ≡ true) → (fs : List Entry) →
+    Rows (judged a free d es) d es fs → (xs : List ℕ) (v : Bool) (k : ℕ) → Reordered (front_open (judged a free d es) es k) xs (list_in v fs k) → Reordered (front_open (judged a free d es) es k) xs (list_in v (sent_home ys fs) k)
+unfolding sent_home Member
+lists_home a free d es [] h fs r xs v k t = t
+lists_home a free d es (y ∷ ys) h fs r xs v k t =
+    let j : Judge = judged a free d es in
+    let to : ℕ = way_home y fs in
+    let gone : is_emptied j (dbref_of y) ≡ true = h y (inl refl) in
+    let open_there : place_open j (dbref_of y) (dbref_of to) ≡ true = or_right (free (dbref_of y)) _ (or_left _ _ (and_two _ _ gone (way_open a free d es y to (way_tells j d es fs r y)))) in
+    let may : k ≡ to → front_open j es k y ≡ true = λ e. or_left _ _ (ap (λ (m : ℕ). place_open j (dbref_of y) (dbref_of m)) e ∙ open_there) in
+    lists_home a free d es ys (λ z m. h z (inr m)) (moved y to fs) (step_home a free d y es fs gone r) xs v k (reordered_moved (front_open j es k) xs v y to k fs may t)
+
+exit_kept : (may : ℕ → Bool) (xs : List ℕ) (v b : Bool) (e : Entry) → Reordered may xs (list_of v e) → Reordered may xs (list_of v (cond b gone_entry e))
+unfolding gone_entry
+exit_kept may xs v false e r = r
+exit_kept may xs true true e r = empties r
+exit_kept may xs false true e r = empties r
+
+without_kept : (may : ℕ → Bool) (xs : List ℕ) (v : Bool) (e : Entry) → Reordered may xs (list_of v e) → Reordered may xs (list_of v (without_exits e))
+without_kept may xs true e r = empties r
+without_kept may xs false e r = r
+
+lists_recycled : (a : Actor) (free : Dbref → Bool) (d : ℕ) (es : List Entry) → number_in es (dbref_of d) ≡ Some d → SameLists (judged a free d es) es (recycled d es)
+unfolding recycled vanished exits_gone
+lists_recycled a free d es there v k =
+    let j : Judge = judged a free d es in
+    let may : ℕ → Bool = front_open j es k in
+    let xs : List ℕ = list_in v es k in
+    let loose : List Entry = untied d es in
+    let home : List Entry = sent_home (list_in false es d) loose in
+    let lost : List Entry = map (exit_gone d) home in
+    let apart : List Entry = changed_at d without_exits lost in
+    let Q : List ℕ → Type 0 = λ l. Reordered may xs l in
+    let first : Q (list_in v loose k) = subst Q (sym (list_untied v d k es)) as_before in
+    let sent : Q (list_in v home k) = lists_home a free d es (list_in false es d) (contents_emptied a free d es there) loose (untied_rows j d es) xs v k first in
+    let second : Q (list_in v lost k) = reordered_all may xs v k (exit_gone d) home (λ e r. exit_kept may xs v (is_exit_of d e.object) e r) sent in
+    let third : Q (list_in v apart k) = reordered_one may xs v d k without_exits lost (λ q e r. without_kept may xs v e r) second in
+    reordered_one may xs v d k (λ (e : Entry). gone_entry) (map (left_out d) apart) (λ q e r. exit_kept may xs v true e r) (reordered_left may xs v d k apart third)
+
 -- The whole change.
 
 -- what isn't there or stays because it is a player or `#0`
@@ -340,6 +383,7 @@ nothing_recycled a free w = record {
   gone = None;
   recycled = λ x e. absurd (cc);
   objects = λ n. same_differs n (object_at (dbref_of n) w.objects);
+  lists = lists_itself (judge a free w.objects) w.objects;
   connections = ties_itself a w.board.connections;
   tune = inl refl;
 }
@@ -383,6 +427,7 @@ there a free x w h d e t =
       gone = Some (dbref_of d);
       recycled = λ y f. let same : x ≡ y = known ∙ cc in ap (may_recycle w.objects a) (sym same) ∙ may a w.objects x d known k.0 k.1 h;
       objects = differs_recycled a free d w.objects (ap (number_in w.objects) (sym known) ∙ e) k.0;
+      lists = lists_recycled a free d w.objects (ap (number_in w.objects) (sym known) ∙ e);
       connections = ties_itself a w.board.connections;
       tune = inl refl;
     }

@@ -9,7 +9,8 @@ use Rattle.muck_model.specs.declared.dbref.Kind.TheVariants.{Room, Thing, Exit, 
 use Rattle.muck_prop.specs.Paths.{class_of}
 use Rattle.muck_live.specs.declared.object.Object.{Object}
 use Rattle.muck_live.specs.Flags.{has_flag, no_flags, builder, jump, link, wizard}
-use Rattle.muck_live.specs.Objects.{Entry, dbref_of, nothing, home, same, index_of, is_exit, kind_in, object_at}
+use Rattle.muck_live.specs.Chain.{without}
+use Rattle.muck_live.specs.Objects.{Entry, dbref_of, nothing, home, same, index_of, is_exit, kind_in, list_in, object_at}
 use Rattle.muck_live.specs.Recycling.{wished_home}
 use Rattle.muck_live.specs.Seen.{listed_in}
 use Rattle.muck_live.specs.Connections.{Connection}
@@ -144,6 +145,21 @@ Differs j x None (Some new) = IsNew j x new
 Differs j x (Some old) None = gone_open j x old ≡ true
 Differs j x (Some old) (Some new) = Changed j x old new
 
+-- What may become of a list of numbers: some leave it, and those that may come to its front.
+pub data Reordered (may : ℕ → Bool) : List ℕ → List ℕ → Type 0 where
+  as_before : {xs : List ℕ} → Reordered may xs xs
+  leaves : {xs ys : List ℕ} (x : ℕ) → Reordered may xs ys → Reordered may xs (without x ys)
+  empties : {xs ys : List ℕ} → Reordered may xs ys → Reordered may xs []
+  comes : {xs ys : List ℕ} (x : ℕ) → may x ≡ true → Reordered may xs ys → Reordered may xs (x ∷ ys)
+
+-- x may come to the front of a list of p: as to a place, or because it wasn't there
+abbrev pub front_open : Judge → List Entry → ℕ → ℕ → Bool
+front_open j es p x = place_open j (dbref_of x) (dbref_of p) || option_map_or (λ o. false) (object_at (dbref_of x) es) true
+
+-- the lists of contents and of exits
+abbrev pub SameLists : Judge → List Entry → List Entry → Type 0
+SameLists j es fs = (exits : Bool) (p : ℕ) → Reordered (front_open j es p) (list_in exits es p) (list_in exits fs p)
+
 -- a connection leaves by its own player or by a wizard, and else is who it was
 abbrev pub leave_open : Actor → Connection → Bool
 leave_open a c = is_master a || option_map_or (same a.player) c.player false
@@ -158,6 +174,7 @@ pub record Licensed (a : Actor) (free : Dbref → Bool) (w v : Live) : Type 0 wh
   pub gone : Option Dbref
   pub recycled : (x : Dbref) → gone ≡ Some x → may_recycle w.objects a x ≡ true
   pub objects : (n : ℕ) → Differs (record { actor = a; free = free; gone = gone; objects = w.objects }) (dbref_of n) (object_at (dbref_of n) w.objects) (object_at (dbref_of n) v.objects)
+  pub lists : SameLists (record { actor = a; free = free; gone = gone; objects = w.objects }) w.objects v.objects
   pub connections : SameTies a w.board.connections v.board.connections
   pub tune : Open (λ tune. is_master a) w.board.tune v.board.tune
 

@@ -28,7 +28,7 @@ use Rattle.muck_rights.proofs.Shown.{shown, quiet_tell}
 use Rattle.muck_world.specs.Replies.{cant_be_done}
 use Rattle.muck_world.specs.Finding.{where_so, finding_object, message_path}
 use Rattle.muck_world.specs.Going.{movable, moving, home_at}
-use Rattle.muck_world.specs.Building.{made_at, created_shown, making, as_made, dug, thing_made, exit_made, opened_exit, opened_to, action_made, tied, has_home, allowed, untied_to, link_set, link_cleared, name_set, message_set, lock_kept, lock_set, lock_cleared, meant_place, teleported, chowned, find_shown, examined, owner_shown}
+use Rattle.muck_world.specs.Building.{made_at, created_shown, making, as_made, dug, housed, thing_made, exit_made, opened_exit, opened_to, action_made, tied, has_home, allowed, untied_to, link_set, link_cleared, name_set, message_set, lock_kept, lock_set, lock_cleared, meant_place, teleported, chowned, find_shown, examined, owner_shown}
 use Rattle.muck_world.proofs.Showing.{seeing, stays_where, ends_where, ends_finding, ends_finding_player, quiet_listed}
 
 -- whatever ends as is open
@@ -65,9 +65,13 @@ dug_open a free d name = search (ending, making_room)
 making_thing : (a : Actor) (free : Dbref → Bool) (d : ℕ) (name : List ℕ) (place at : Dbref) → Ends itself a free (Some (NewThing place)) (making d a Thing name place (with_home at))
 making_thing a free d name place at = ends_making a free (NewThing place) d Thing name place (with_home at) (λ start es k t s g e. thing_open a free start es name place at k t s g e)
 
+housed_open : (a : Actor) (free : Dbref → Bool) (d : ℕ) (name : List ℕ) (to : Dbref) → Ends itself a free (Some (NewThing a.player)) (housed d a name to)
+unfolding housed
+housed_open a free d name to = search (permitting, making_thing)
+
 pub thing_made_open : (a : Actor) (free : Dbref → Bool) (d : ℕ) (name : List ℕ) → Ends itself a free None (thing_made d a name)
 unfolding thing_made
-thing_made_open a free d name = search (permitting, making_thing) depth 7
+thing_made_open a free d name = search (permitting, housed_open)
 
 making_exit : (a : Actor) (free : Dbref → Bool) (d : ℕ) (name : List ℕ) (place to : Dbref) → Ends itself a free (Some (NewExit place to)) (making d a Exit name place (with_link to))
 making_exit a free d name place to = ends_making a free (NewExit place to) d Exit name place (with_link to) (λ start es k t s g e. exit_open a free start es name place to k t s g e)

@@ -48,7 +48,7 @@ left_licensed : (a : Actor) (d : ℕ) (free : Dbref → Bool) (w v : Live) → p
 unfolding leave leaving_one
 left_licensed a d free w v own l =
     let left : Licensed a free v (leave d v) = (whole_leave a d (λ es. free) Always).law v (player-same_ties a d w.board.connections v.board.connections l.connections ∙ own) tt in
-    record { gone = l.gone; recycled = l.recycled; objects = l.objects; connections = ties_both a _ _ _ l.connections left.connections; tune = l.tune }
+    record { gone = l.gone; recycled = l.recycled; objects = l.objects; lists = l.lists; connections = ties_both a _ _ _ l.connections left.connections; tune = l.tune }
 
 followed_up_licensed : (a : Actor) (d : ℕ) (free : List Kept → Dbref → Bool) (f : Play) → Whole world_of a (Some d) free Always f → (w : Live) → player_in d w.board ≡ Some a.player →
     (outcome : Outcome) → Licensed a (free w.objects) w (followed_up d ((f w).0, outcome))

@@ -86,13 +86,14 @@ dug d a name =
 abbrev pub may_house : Dbref → Live → Bool
 may_house to w = is_so (λ o. may_live Thing o.kind) to w
 
+-- a thing that the player carries, with that home
+unfoldable pub housed : ℕ → Actor → List ℕ → Dbref → Change
+housed d a name to = where_so (may_house to) (tell d cant_be_done) (making d a Thing name a.player (with_home to))
+
 -- `@create`: a thing whose home is the player's
 unfoldable pub thing_made : ℕ → Actor → List ℕ → Change
 thing_made d a name =
-    either (is_name name)
-    (asked a (NewThing a.player) (refused d)
-    (reading (home_at a.player) (λ to. where_so (may_house to) (tell d cant_be_done) (making d a Thing name a.player (with_home to)))))
-    (tell d bad_name)
+    either (is_name name) (asked a (NewThing a.player) (refused d) (reading (home_at a.player) (housed d a name))) (tell d bad_name)
 
 -- an exit may lead there
 abbrev pub may_lead : Dbref → Live → Bool

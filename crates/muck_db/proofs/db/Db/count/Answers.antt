@@ -1,5 +1,6 @@
-use Rattle.std.proofs.Common.{ap, arith, List, length}
+use Rattle.std.proofs.Common.{ap, arith, subst, List, length}
 use Rattle.muck_live.specs.Objects.{Entry}
+use Rattle.muck_db.specs.Limits.{IsWithinLimits}
 use Rattle.muck_db.proofs.Readers.{length-entries_of}
 use Rattle.muck_db.proofs.db.Db.count.Goals as goal
 
@@ -11,3 +12,6 @@ returns-clause-count c = omega (arith, c.len.ensures, length-entries_of c.self.i
 
 pub returns-clause-most : goal.returns-clause-most
 returns-clause-most c = omega (arith, c.len.ensures, length-entries_of c.self.inside.slots.items, c.self.invariant.sound.world.ordered.few)
+
+pub returns-clause-limits : goal.returns-clause-limits
+returns-clause-limits c = subst IsWithinLimits c.self.view_is c.self.invariant.sound.limits

@@ -3,13 +3,14 @@ use Rattle.muck_live.specs.Objects.{Entry}
 use Rattle.muck_live.specs.Setting.{Tries, set_at, any, checked, with_prop}
 use Rattle.muck_live.proofs.SettingLaws.{consistent_stored}
 use Rattle.muck_db.specs.Slots.{entries_of}
+use Rattle.muck_db.proofs.LimitLaws.{limits_stored}
 use Rattle.muck_db.proofs.Fields.{entries_set, kept_set, tried}
 use Rattle.muck_db.proofs.db.Db.put_prop.Goals as goal
 
 pub invariant_of-self-2 : goal.invariant_of-self-2
 invariant_of-self-2 c =
     kept_set c.in_ok-k.k (with_prop c.args.path c.args.value) _ _ _ _ (λ o. refl) c.in_ok-k.ensures.alive c.in_ok-put_prop.ensures.ok
-    (consistent_stored c.args.d c.args.path c.args.value _ c.in_ok-k.k (sym c.check_any.ensures.is ∙ c.in_ok-k.was) c.self.invariant.sound.world) c.self.invariant
+    (consistent_stored c.args.d c.args.path c.args.value _ c.in_ok-k.k (sym c.check_any.ensures.is ∙ c.in_ok-k.was) c.self.invariant.sound.world) (limits_stored c.args.path c.args.value c.in_ok-k.k _ c.self.invariant.sound.limits) c.self.invariant
 
 pub returns : goal.returns
 returns c =

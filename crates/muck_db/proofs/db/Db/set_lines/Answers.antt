@@ -4,6 +4,7 @@ use Rattle.muck_live.specs.Moving.{Does}
 use Rattle.muck_live.specs.Setting.{lines_set, lines_check}
 use Rattle.muck_live.proofs.SettingLaws.{consistent_lined}
 use Rattle.muck_db.specs.Slots.{entries_of}
+use Rattle.muck_db.proofs.LimitLaws.{limits_lined}
 use Rattle.muck_db.proofs.Tellings.{entries_lined, kept_lined, lined}
 use Rattle.muck_db.proofs.db.Db.set_lines.Goals as goal
 
@@ -15,4 +16,4 @@ returns c =
 pub invariant_of-self : goal.invariant_of-self
 invariant_of-self c =
     kept_lined c.self.inside.slots.items _ c.in_ok-k.k c.self.inside.lowest c.self.inside.told c.min-self-inside.result c.args.lines c.in_ok-k.ensures.alive c.set_lines.ensures (omega (arith, c.min-self-inside.ensures)) (omega (arith, c.min-self-inside.ensures))
-    (consistent_lined c.args.d c.args.lines _ c.in_ok-k.k (sym c.check_program.ensures.is ∙ c.in_ok-k.was) c.self.invariant.sound.world) c.self.invariant
+    (consistent_lined c.args.d c.args.lines _ c.in_ok-k.k (sym c.check_program.ensures.is ∙ c.in_ok-k.was) c.self.invariant.sound.world) (limits_lined c.args.lines c.in_ok-k.k _ c.requires c.self.invariant.sound.limits) c.self.invariant

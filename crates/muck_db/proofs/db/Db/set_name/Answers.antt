@@ -4,13 +4,14 @@ use Rattle.muck_live.specs.Moving.{Does}
 use Rattle.muck_live.specs.Setting.{set_at, any, checked, with_name}
 use Rattle.muck_live.proofs.SettingLaws.{consistent_named}
 use Rattle.muck_db.specs.Slots.{entries_of}
+use Rattle.muck_db.proofs.LimitLaws.{limits_named}
 use Rattle.muck_db.proofs.Fields.{entries_set, kept_set, did}
 use Rattle.muck_db.proofs.db.Db.set_name.Goals as goal
 
 pub invariant_of-self : goal.invariant_of-self
 invariant_of-self c =
     kept_set c.in_ok-k.k (with_name c.args.name) _ _ _ _ (λ o. refl) c.in_ok-k.ensures.alive c.set_name.ensures
-    (consistent_named c.args.d c.args.name _ c.in_ok-k.k (sym c.check_any.ensures.is ∙ c.in_ok-k.was) c.self.invariant.sound.world) c.self.invariant
+    (consistent_named c.args.d c.args.name _ c.in_ok-k.k (sym c.check_any.ensures.is ∙ c.in_ok-k.was) c.self.invariant.sound.world) (limits_named c.args.name c.in_ok-k.k _ c.requires.some c.requires.short c.self.invariant.sound.limits) c.self.invariant
 
 pub returns : goal.returns
 returns c =

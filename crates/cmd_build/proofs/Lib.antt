@@ -1,0 +1,6 @@
+pub mod There
+pub mod Keys
+pub mod Made
+pub mod Open
+pub mod Owned
+pub mod Steps

@@ -1,0 +1,11 @@
+use Rattle.std.proofs.Common.{◌≡◌, map, length}
+use Rattle.std.specs.Char.{to_ascii_lowercase}
+use Rattle.muck_world.specs.Building.{begins}
+use Rattle.cmd_build.proofs.searching.begins.Given as goal
+
+-- the rest decides for the whole
+abbrev pub invariant-loop-b : goal.invariant-loop-b
+invariant-loop-b l = begins (map to_ascii_lowercase l.wanted) (map to_ascii_lowercase l.rest) ≡ begins (map to_ascii_lowercase l.part) (map to_ascii_lowercase l.text)
+
+abbrev pub decreases-loop-b : goal.decreases-loop-b
+decreases-loop-b l = length l.wanted

@@ -1,0 +1,4 @@
+pub mod Keys
+pub mod Owned
+pub mod Owning
+pub mod Told

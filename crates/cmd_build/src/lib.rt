@@ -1,0 +1,23 @@
+//! What builders do by a line: making rooms, things and exits, linking and naming them, their messages and locks, moving,
+//! recycling and giving them away. Each function changes the world that a guard lends just as the definition of
+//! `muck_world` of that name says, and a line changes no more than is open to who typed it.
+#![tactic(auto)]
+
+mod command;
+#[cfg(test)]
+mod line_tests;
+mod lines;
+mod locks;
+mod making;
+mod messages;
+mod moving;
+mod names;
+mod naming;
+mod owning;
+mod searching;
+#[cfg(test)]
+mod tests;
+mod tying;
+mod words;
+
+pub use command::run;

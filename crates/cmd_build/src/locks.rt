@@ -1,0 +1,129 @@
+// Locks.
+ghost use Rattle.std.specs.Prelude.{◌≡◌, IfOk, true, None};
+ghost use Rattle.muck_lock.specs.Grammar.{lock_of};
+ghost use Rattle.muck_live.specs.Lives.{reading};
+ghost use Rattle.muck_rights.specs.declared.act.Act.{Act};
+ghost use Rattle.muck_world.specs.Finding.{is_object};
+ghost use Rattle.muck_world.specs.Building.{key_names, lock_kept, lock_set, lock_cleared};
+ghost use Rattle.muck_perm.specs.Guards.{Did, IsLeave, world_of};
+ghost use Rattle.cmd_build.specs.Keys.{key_kept};
+
+use crate::messages::keep;
+use cmd_parts::{find_object, line_of, refuse};
+use muck_db::Db;
+use muck_lock::{Finder, LockFault, print, read};
+use muck_match::{Found, find};
+use muck_model::{Dbref, Kind, Line, Lock, NoMemory};
+use muck_perm::{Guard, Pass, verdict};
+use muck_rights::Act;
+use std::alloc::Global;
+
+const PATH: &[u8] = b"_/lok";
+
+// What the names in a key stand for, as the player finds them.
+#[derive(Drop)]
+struct KeyNames<'a> {
+    db: &'a Db,
+    player: Dbref,
+}
+
+impl<'a> Finder for KeyNames<'a> {
+    ghost use Rattle.std.specs.Prelude.{false};
+    ghost use Rattle.std.specs.Option.{option_map_or};
+    ghost use Rattle.muck_match.specs.Naming.{found as meant};
+    ghost use Rattle.muck_live.specs.Objects.{is_program, object_at};
+    ghost use Rattle.muck_live.specs.Seen.{scenery_of};
+    ghost use Rattle.muck_world.specs.Building.{found_one};
+
+    ghost found = { λ names name. found_one (meant (scenery_of names.db.now) names.player name) };
+
+    ghost programs = { λ names x. option_map_or (λ o. is_program o.kind) (object_at x names.db.now) false };
+
+    fn find(&self, name: &Line) -> Option<Dbref> {
+        match find(self.db, self.player, name) {
+            Found::One(x) => Some(x),
+            _ => None,
+        }
+    }
+
+    fn is_program(&self, x: Dbref) -> bool {
+        match self.db.get(x) {
+            Some(object) => matches!(object.kind(), Kind::Program),
+            None => false,
+        }
+    }
+}
+
+// A lock as it is printed; `None` exactly where that is too long.
+#[tactic(auto, unfolding(muck_model::specs::Bytes::text_most))]
+fn printed(alloc: Global, lock: &Lock) -> Result<Option<Line>, NoMemory>
+    ensures { IfOk result (λ text. text ≡ key_kept (Ok lock.now)) }
+{
+    match print(alloc, lock) {
+        Ok(text) => Ok(Some(text)),
+        Err(LockFault::BadLock { .. }) => Ok(None),
+        Err(LockFault::NoMemory) => Err(NoMemory),
+    }
+}
+
+// The text of the lock that the player means by a key; `None` exactly where it means none, or its text is too long.
+#[tactic(auto, unfolding(muck_world::specs::Finding::is_so))]
+fn printed_key(guard: &Guard, key: &Line) -> Result<Option<Line>, NoMemory>
+    ensures { IfOk result (λ text. text ≡ key_kept (lock_of (key_names (world_of guard.now) guard.now.actor.player) key.now)) }
+{
+    let names = KeyNames {
+        db: guard.db(),
+        player: guard.actor().player,
+    };
+    match read(guard.alloc(), key, &names) {
+        Ok(lock) => printed(guard.alloc(), &lock),
+        Err(LockFault::BadLock { .. }) => Ok(None),
+        Err(LockFault::NoMemory) => Err(NoMemory),
+    }
+}
+
+// Locks an object that is there by a key.
+#[tactic(auto, unfolding(muck_world::specs::Replies::bad_key, muck_world::specs::Replies::locked_reply, muck_live::specs::Lives::reading, muck_live::specs::Lives::either, muck_model::specs::Bytes::text_most))]
+fn lock_by(guard: &mut Guard, pass: Pass, d: u32, x: Dbref, key: &Line) -> Result<(), NoMemory>
+    requires leave { IsLeave pass (Act.Change x) guard.old }
+    requires there { is_object x (world_of guard.old) ≡ true }
+    ensures { Did (reading (λ w. lock_of (key_names w guard.old.actor.player) key.now) (lock_kept d x)) guard.old guard.new result }
+{
+    match printed_key(guard, key)? {
+        None => guard.tell(d, b"I don't understand that key."),
+        Some(text) => keep(guard, pass, d, x, PATH, text, b"Locked."),
+    }
+}
+
+/// `@lock`: locks an object by a key, which is kept as it is printed.
+#[tactic(auto, unfolding(muck_world::specs::Building::lock_set, muck_rights::specs::Asking::asked, muck_live::specs::Lives::reading))]
+pub fn lock(guard: &mut Guard, d: u32, name: &Line, key: &Line) -> Result<(), NoMemory>
+    ensures { Did (lock_set d guard.old.actor name.now key.now) guard.old guard.new result }
+{
+    let Some(x) = find_object(guard, d, name)? else {
+        return Ok(());
+    };
+    let actor = guard.actor();
+    match verdict(guard.db(), &actor, &Act::Change { object: x }) {
+        Err(denial) => refuse(guard, d, denial),
+        Ok(pass) => lock_by(guard, pass, d, x, key),
+    }
+}
+
+/// `@unlock`: does away with the lock of an object.
+#[tactic(auto, unfolding(muck_world::specs::Building::lock_cleared, muck_world::specs::Replies::unlocked_reply, muck_rights::specs::Asking::asked, muck_model::specs::Bytes::text_most))]
+pub fn unlock(guard: &mut Guard, d: u32, name: &Line) -> Result<(), NoMemory>
+    ensures { Did (lock_cleared d guard.old.actor name.now) guard.old guard.new result }
+{
+    let Some(x) = find_object(guard, d, name)? else {
+        return Ok(());
+    };
+    let actor = guard.actor();
+    match verdict(guard.db(), &actor, &Act::Change { object: x }) {
+        Err(denial) => refuse(guard, d, denial),
+        Ok(pass) => {
+            let none = line_of(guard.alloc(), b"")?;
+            keep(guard, pass, d, x, PATH, none, b"Unlocked.")
+        }
+    }
+}
