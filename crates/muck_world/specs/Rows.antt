@@ -34,7 +34,7 @@ use Rattle.muck_world.specs.Replies.{huh, goodbye, cant_go, you_say, says, creat
 use Rattle.muck_world.specs.Finding.{actor_of, finding, where_so, is_so, message_at, message_path, text_of, with_message, shown_others, message_or, message_shown, message_to_others, listed, listed_under, seen_in, room_shown, looked}
 use Rattle.muck_world.specs.Talking.{said, posed, who_lines, who_shown}
 use Rattle.muck_world.specs.Going.{ended, moving, gone, led, failed, succeeded, walked, went}
-use Rattle.muck_world.specs.Building.{is_name, making, dug, thing_made, exit_made, opened_to, created_shown}
+use Rattle.muck_world.specs.Building.{is_name, making, dug, housed, thing_made, exit_made, opened_to, created_shown}
 use Rattle.muck_world.specs.Commands.{incomplete, one_part, two_parts, full_parts, play_word, play_done, play_words, play_line, build_word, open_done, build_done, build_line, or_else, commanded, played}
 use Rattle.muck_world.specs.World.{World, booted, starting}
 use Rattle.muck_world.specs.Talk.{welcome, refused_login, quit, command, in_world, at_login, connecting, logged_in, proved, waits, line_done, done, parted, gone_away}
@@ -120,5 +120,5 @@ rows :
     -- what waits on a leaving connection is not done, and nobody but the porter halts the world
     × (is_lawful (after inside (by_porter (Input 1 (codes "QUIT")) ∷ by_porter (Input 1 (codes "x")) ∷ by_porter (Exec 1) ∷ [])) (by_porter (Exec 1)) ≡ false)
     × (is_lawful inside (record { party = 9; event = Halt }) ≡ false)
-unfolding text_most number_named is_same begins_with has_word placed aliases numbers sight_place things_in exit_order is_there takes rest_behind hits_in runs hits_at hits_on hits exit_for fits answers objects_near near named player_named if_there found_by_sign found sent_lines queue_most bytes_of lines_bytes line_sent lines_sent sent object_at number_in kind_in flags_in place_in object_in list_in is_vehicle_in fits_in path_in changed_at garbage walk has without objects_most free_in blank_entry grown new_object created may_make make_judged owner_judged create_check moved judged move_check first_objects room_zero player_one scenery_of listed_in places_of flag_letters long_form opened closed line_added told_one told_others leaving_one early_board followed reading either unchanged tell tell_others leave level_at owner_at flag_at is_player_at owns controls_as command_level name_shown controls controls_or opens_at asked denied_text refused moved_to created_so huh goodbye cant_go you_say says created_reply has_disconnected has_left has_arrived usage contents_head connected_line connected_count actor_of finding where_so is_so message_at shown_others message_or message_shown message_to_others listed listed_under seen_in room_shown looked said posed who_lines who_shown ended moving gone led failed succeeded walked went is_name making dug thing_made exit_made opened_to created_shown incomplete one_part two_parts full_parts play_word play_done play_words play_line build_word open_done build_done build_line or_else commanded played booted starting welcome refused_login quit command in_world at_login connecting logged_in proved waits line_done done parted gone_away effect is_lawful digits
+unfolding text_most number_named is_same begins_with has_word placed aliases numbers sight_place things_in exit_order is_there takes rest_behind hits_in runs hits_at hits_on hits exit_for fits answers objects_near near named player_named if_there found_by_sign found sent_lines queue_most bytes_of lines_bytes line_sent lines_sent sent object_at number_in kind_in flags_in place_in object_in list_in is_vehicle_in fits_in path_in changed_at garbage walk has without objects_most free_in blank_entry grown new_object created may_make make_judged owner_judged create_check moved judged move_check first_objects room_zero player_one scenery_of listed_in places_of flag_letters long_form opened closed line_added told_one told_others leaving_one early_board followed reading either unchanged tell tell_others leave level_at owner_at flag_at is_player_at owns controls_as command_level name_shown controls controls_or opens_at asked denied_text refused moved_to created_so huh goodbye cant_go you_say says created_reply has_disconnected has_left has_arrived usage contents_head connected_line connected_count actor_of finding where_so is_so message_at shown_others message_or message_shown message_to_others listed listed_under seen_in room_shown looked said posed who_lines who_shown ended moving gone led failed succeeded walked went is_name making dug housed thing_made exit_made opened_to created_shown incomplete one_part two_parts full_parts play_word play_done play_words play_line build_word open_done build_done build_line or_else commanded played booted starting welcome refused_login quit command in_world at_login connecting logged_in proved waits line_done done parted gone_away effect is_lawful digits
 rows = (refl, refl, refl, refl, ap seen_by_one (get-empty _ (message_path (codes "de"))), refl, refl, refl, refl, refl, refl, refl, refl, refl, refl)
