@@ -2,7 +2,7 @@
 use Rattle.std.proofs.Common.{◌≡◌, ℕ, Bool, true, false, List, [], ◌∷◌, refl, ◌∙◌, Option, Some, None}
 use Rattle.muck_model.specs.declared.dbref.Dbref.{Dbref}
 use Rattle.muck_live.specs.Connections.{Connection}
-use Rattle.muck_live.specs.Lives.{Live, Change, followed, ◌▸◌, tell, enter, leave, unchanged}
+use Rattle.muck_live.specs.Lives.{Live, followed, tell, unchanged}
 use Rattle.muck_rights.specs.declared.act.Actor.{Actor}
 use Rattle.muck_rights.specs.Licence.{Licensed}
 use Rattle.muck_rights.proofs.Licences.{Quiet, quiet_followed, quiet_reading, quiet_unchanged}
@@ -10,13 +10,12 @@ use Rattle.muck_rights.proofs.Shown.{quiet_tell}
 use Rattle.muck_world.specs.declared.outcome.Outcome.{Outcome}
 use Rattle.muck_world.specs.declared.outcome.Outcome.TheVariants.{Start, Leave}
 use Rattle.muck_world.specs.Replies.{goodbye, has_connected, has_disconnected}
-use Rattle.muck_world.specs.Finding.{actor_of, shown_others, looked}
+use Rattle.muck_world.specs.Finding.{actor_of}
 use Rattle.muck_world.specs.Commands.{played}
 use Rattle.muck_world.specs.Free.{free_line}
 use Rattle.muck_world.specs.Talk.{welcome, refused_login, not_compiled, let_in, logged_in, connecting, quit, at_login, followed_up, in_world, command, waits, line_done, done, parting, parted}
 use Rattle.muck_world.proofs.Numbered.{numbers, numbers-same_ties, Seating, seating_quiet, seating_followed, seating_reading, seating_either, seating_leave, seating_enter}
 use Rattle.muck_world.proofs.Showing.{quiet_shown_others, quiet_looked, quiet_who_shown, quiet_waits}
-use Rattle.muck_world.proofs.Gone.{world_of}
 use Rattle.muck_world.proofs.Permitted.{played_open}
 
 -- The login screen.

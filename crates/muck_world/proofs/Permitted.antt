@@ -7,7 +7,6 @@ use Rattle.muck_prop.specs.Paths.{class_of}
 use Rattle.muck_match.specs.declared.exits.ExitHit.{ExitHit}
 use Rattle.muck_match.specs.Exits.{exit_for}
 use Rattle.muck_live.specs.Seen.{scenery_of}
-use Rattle.muck_live.specs.Boards.{player_in}
 use Rattle.muck_live.specs.Objects.{Entry}
 use Rattle.muck_live.specs.Lives.{Live, Change, followed, ◌▸◌, reading, either, unchanged, tell}
 use Rattle.muck_rights.specs.declared.act.Actor.{Actor}
@@ -16,7 +15,7 @@ use Rattle.muck_rights.specs.Verdict.{verdict, is_guarded}
 use Rattle.muck_rights.specs.Asking.{answered, asked}
 use Rattle.muck_rights.specs.Licence.{Licensed, nobody, oneself}
 use Rattle.muck_rights.proofs.Lookups.{same_eq}
-use Rattle.muck_rights.proofs.Licences.{Own, Quiet, Ends, Whole, Always, itself, whole_ends, whole_quiet, whole_either, whole_followed, licensed, ends_stays}
+use Rattle.muck_rights.proofs.Licences.{Own, Quiet, Ends, Whole, Always, itself, whole_ends, whole_quiet, whole_either, whole_followed, ends_stays}
 use Rattle.muck_rights.proofs.Permitted.{commanding}
 use Rattle.muck_rights.proofs.Shown.{shown}
 use Rattle.muck_world.specs.declared.outcome.Outcome.{Outcome}
@@ -27,7 +26,7 @@ use Rattle.muck_world.specs.declared.word.Message.{Message}
 use Rattle.muck_world.specs.declared.word.Message.TheVariants.{Describe, Success, OthersSuccess, Fail, OthersFail, Drop as DropMessage, OthersDrop}
 use Rattle.muck_world.specs.declared.word.BuildWord.{BuildWord}
 use Rattle.muck_world.specs.declared.word.BuildWord.TheVariants.{Dig, Create, Open, Action, Link, Unlink, Name, Set, Lock, Unlock, Teleport, Recycle, Chown, Find}
-use Rattle.muck_world.specs.Finding.{actor_of, where_so, message_path}
+use Rattle.muck_world.specs.Finding.{where_so, message_path}
 use Rattle.muck_world.specs.Texts.{first_word, trimmed}
 use Rattle.muck_world.specs.Replies.{huh}
 use Rattle.muck_world.specs.Talk.{waits}

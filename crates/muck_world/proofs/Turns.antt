@@ -12,7 +12,7 @@ use Rattle.muck_live.specs.Boards.{connection_in, player_in, opened, closed, lin
 use Rattle.muck_live.specs.Lives.{Live, Change, followed, ◌▸◌, reading, unchanged, on_board, tell, leave}
 use Rattle.muck_rights.specs.declared.act.Actor.{Actor}
 use Rattle.muck_rights.specs.Licence.{SameTies, Licensed}
-use Rattle.muck_rights.proofs.Licences.{Whole, Always, itself, ties_both, whole_quietly}
+use Rattle.muck_rights.proofs.Licences.{Whole, Always, ties_both, whole_quietly}
 use Rattle.muck_rights.proofs.Leaving.{whole_leave}
 use Rattle.muck_rights.proofs.Shown.{quiet_tell}
 use Rattle.muck_world.specs.declared.outcome.Outcome.{Outcome}
@@ -22,7 +22,7 @@ use Rattle.muck_world.specs.Finding.{actor_of}
 use Rattle.muck_world.specs.Going.{Play}
 use Rattle.muck_world.specs.Free.{free_line}
 use Rattle.muck_world.specs.Commands.{played}
-use Rattle.muck_world.specs.Talk.{not_compiled, at_login, followed_up, in_world, command, waits, line_done, done, parted, gone_away}
+use Rattle.muck_world.specs.Talk.{not_compiled, at_login, followed_up, in_world, command, waits, line_done, done, gone_away}
 use Rattle.muck_world.specs.Steps.{effect, happened}
 use Rattle.muck_world.specs.Licences.{Untouched, LineLicensed, TurnLicensed, EventLicensed}
 use Rattle.muck_world.specs.Histories.{AllLicensed}

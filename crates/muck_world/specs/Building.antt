@@ -1,12 +1,12 @@
 -- How players build.
-use Rattle.std.specs.Prelude.{ℕ, ◌+◌, Bool, true, false, not, ◌&&◌, ◌||◌, ◌==◌, nat_lt, nat_le, if◌then◌else◌, List, [], ◌∷◌, ◌++◌, length, map, codes, Option, Some, None, Result, Ok, Err}
+use Rattle.std.specs.Prelude.{ℕ, ◌+◌, Bool, true, false, not, ◌&&◌, ◌||◌, ◌==◌, nat_lt, nat_le, if◌then◌else◌, List, [], ◌∷◌, length, map, codes, Option, Some, None, Result, Ok, Err}
 use Rattle.std.specs.Option.{option_map_or, option_and_then}
-use Rattle.std.specs.List.{filter, list_any}
+use Rattle.std.specs.List.{list_any}
 use Rattle.std.specs.Char.{to_ascii_lowercase}
 use Rattle.std.specs.FinMap.{get}
 use Rattle.muck_model.specs.declared.dbref.Dbref.{Dbref}
 use Rattle.muck_model.specs.declared.dbref.Kind.{Kind}
-use Rattle.muck_model.specs.declared.dbref.Kind.TheVariants.{Room, Thing, Exit, Player, Program, Garbage}
+use Rattle.muck_model.specs.declared.dbref.Kind.TheVariants.{Room, Thing, Exit, Garbage}
 use Rattle.muck_model.specs.declared.lock.Lock.{Lock}
 use Rattle.muck_prop.specs.declared.value.PropValue.{PropValue}
 use Rattle.muck_prop.specs.declared.value.PropValue.TheVariants.{Text, Number}
@@ -19,16 +19,15 @@ use Rattle.muck_lock.specs.Grammar.{lock_of}
 use Rattle.muck_lock.specs.Printed.{printed}
 use Rattle.muck_live.specs.declared.fault.DbFault.{DbFault}
 use Rattle.muck_live.specs.declared.object.Object.{Object}
-use Rattle.muck_live.specs.Objects.{Entry, dbref_of, nothing, home, same, is_room, is_thing, is_exit, is_player, is_program, number_in, object_at, kind_in}
+use Rattle.muck_live.specs.Objects.{Entry, dbref_of, nothing, home, same, is_thing, is_player, is_program, object_at}
 use Rattle.muck_live.specs.Making.{create_check}
 use Rattle.muck_live.specs.Setting.{with_link, with_home, link_check, home_check, owner_check, may_link, may_live}
 use Rattle.muck_live.specs.Recycling.{recycle_check}
 use Rattle.muck_live.specs.Seen.{scenery_of, long_form, signed_text}
-use Rattle.muck_live.specs.Lives.{Live, Change, followed, ◌▸◌, reading, either, unchanged, tell, place_at, name_at}
+use Rattle.muck_live.specs.Lives.{Live, Change, ◌▸◌, reading, either, tell, place_at, name_at}
 use Rattle.muck_rights.specs.declared.act.Actor.{Actor}
-use Rattle.muck_rights.specs.declared.act.Act.{Act}
 use Rattle.muck_rights.specs.declared.act.Act.TheVariants.{Move, Link, NewRoom, NewThing, NewExit, Change as ChangeAct, Rename, Recycle, SetOwner}
-use Rattle.muck_rights.specs.Levels.{controls_as, command_level, name_shown, owner_at}
+use Rattle.muck_rights.specs.Levels.{controls_as, name_shown, owner_at}
 use Rattle.muck_rights.specs.Asking.{asked, refused}
 use Rattle.muck_rights.specs.Changing.{named, linked, homed, owned_by, stored, recycled_now, created_so}
 use Rattle.muck_world.specs.Replies.{cant_be_done, bad_name, bad_key, owner_line, lock_line, unlocked_text, created_reply, linked_reply, unlinked_reply, named_reply, set_reply, locked_reply, unlocked_reply, teleported_reply, recycled_reply, chowned_reply, found_count}

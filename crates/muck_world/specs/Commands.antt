@@ -1,17 +1,14 @@
 -- A line of a player.
-use Rattle.std.specs.Prelude.{ℕ, Bool, true, false, not, ◌&&◌, ◌||◌, ◌==◌, if◌then◌else◌, List, [], ◌∷◌, ◌++◌, length, map, codes, Option, Some, None}
-use Rattle.std.specs.Option.{option_map_or}
+use Rattle.std.specs.Prelude.{ℕ, Bool, true, false, not, ◌&&◌, ◌||◌, ◌==◌, if◌then◌else◌, List, [], ◌∷◌, map, codes, Option, Some, None}
 use Rattle.std.specs.List.{list_any, before_first, after_first}
 use Rattle.std.specs.Char.{to_ascii_lowercase}
-use Rattle.muck_model.specs.declared.dbref.Dbref.{Dbref}
 use Rattle.muck_match.specs.declared.exits.ExitHit.{ExitHit}
 use Rattle.muck_match.specs.Exits.{exit_for}
-use Rattle.muck_live.specs.Objects.{Entry}
 use Rattle.muck_live.specs.Seen.{scenery_of}
-use Rattle.muck_live.specs.Lives.{Live, Change, followed, ◌▸◌, reading, either, unchanged, tell}
+use Rattle.muck_live.specs.Lives.{Live, Change, reading, either, unchanged, tell}
 use Rattle.muck_rights.specs.declared.act.Actor.{Actor}
 use Rattle.muck_world.specs.declared.outcome.Outcome.{Outcome}
-use Rattle.muck_world.specs.declared.outcome.Outcome.TheVariants.{Done, NotMine, Start, Leave}
+use Rattle.muck_world.specs.declared.outcome.Outcome.TheVariants.{Done, NotMine, Leave}
 use Rattle.muck_world.specs.declared.word.PlayWord.{PlayWord}
 use Rattle.muck_world.specs.declared.word.PlayWord.TheVariants.{Look, Say, Pose, Page, Whisper, Go, Get, Drop, Inventory, Home, Examine, Who, Quit}
 use Rattle.muck_world.specs.declared.word.Message.{Message}
@@ -20,7 +17,7 @@ use Rattle.muck_world.specs.declared.word.BuildWord.{BuildWord}
 use Rattle.muck_world.specs.declared.word.BuildWord.TheVariants.{Dig, Create, Open, Action, Link, Unlink, Name, Set, Lock, Unlock, Teleport, Recycle, Chown, Find}
 use Rattle.muck_world.specs.Texts.{first_word, other_words, trimmed, is_alike}
 use Rattle.muck_world.specs.Replies.{usage, goodbye, huh}
-use Rattle.muck_world.specs.Finding.{actor_of, looked, looked_at}
+use Rattle.muck_world.specs.Finding.{looked, looked_at}
 use Rattle.muck_world.specs.Talking.{said, posed, paged, whispered, who_shown}
 use Rattle.muck_world.specs.Going.{Play, ended, gone_home, walked, went, taken, dropped, inventory_shown}
 use Rattle.muck_world.specs.Building.{dug, thing_made, opened_exit, opened_to, action_made, link_set, link_cleared, name_set, message_set, lock_set, lock_cleared, teleported, recycled, chowned, find_shown, examined}

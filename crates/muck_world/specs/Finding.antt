@@ -1,5 +1,5 @@
 -- Finding what a line names, and showing it.
-use Rattle.std.specs.Prelude.{ℕ, Bool, true, false, not, ◌&&◌, ◌||◌, ◌==◌, if◌then◌else◌, List, [], ◌∷◌, ◌++◌, codes, Option, Some, None}
+use Rattle.std.specs.Prelude.{ℕ, Bool, true, false, not, ◌&&◌, ◌||◌, List, [], ◌∷◌, ◌++◌, codes, Option, Some, None}
 use Rattle.std.specs.Option.{option_map_or, option_and_then}
 use Rattle.std.specs.List.{filter}
 use Rattle.std.specs.FinMap.{get}
@@ -11,9 +11,9 @@ use Rattle.muck_match.specs.declared.naming.Found.TheVariants.{One, None as Nobo
 use Rattle.muck_match.specs.Naming.{found, player_named}
 use Rattle.muck_live.specs.declared.object.Object.{Object}
 use Rattle.muck_live.specs.Flags.{dark}
-use Rattle.muck_live.specs.Objects.{Entry, same, is_room, is_player, object_at}
+use Rattle.muck_live.specs.Objects.{Entry, same, is_room, object_at}
 use Rattle.muck_live.specs.Seen.{scenery_of, listed_in}
-use Rattle.muck_live.specs.Lives.{Live, Change, followed, ◌▸◌, reading, either, unchanged, tell, tell_others, place_at, name_at}
+use Rattle.muck_live.specs.Lives.{Live, Change, ◌▸◌, reading, either, unchanged, tell, tell_others, place_at, name_at}
 use Rattle.muck_rights.specs.declared.act.Actor.{Actor}
 use Rattle.muck_rights.specs.Levels.{command_level, controls_as, flag_at, name_shown}
 use Rattle.muck_world.specs.Replies.{not_understood, not_known, contents_head, cant_be_done, nothing_special}

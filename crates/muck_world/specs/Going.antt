@@ -1,5 +1,5 @@
 -- How players go, take and drop.
-use Rattle.std.specs.Prelude.{ℕ, Bool, true, false, not, ◌&&◌, ◌||◌, ◌==◌, if◌then◌else◌, List, [], ◌∷◌, ◌++◌, drop, codes, Option, Some, None, Result, Ok, Err}
+use Rattle.std.specs.Prelude.{ℕ, Bool, true, false, not, ◌&&◌, ◌||◌, ◌==◌, if◌then◌else◌, List, drop, codes, Option, Some, None, Result, Ok, Err}
 use Rattle.std.specs.Option.{option_map_or}
 use Rattle.muck_model.specs.declared.dbref.Dbref.{Dbref}
 use Rattle.muck_model.specs.declared.dbref.Denial.{Denial}
@@ -12,7 +12,7 @@ use Rattle.muck_live.specs.Seen.{scenery_of, listed_in}
 use Rattle.muck_live.specs.Lives.{Live, Change, followed, ◌▸◌, reading, either, unchanged, tell, place_at}
 use Rattle.muck_rights.specs.declared.act.Actor.{Actor}
 use Rattle.muck_rights.specs.declared.act.Act.TheVariants.{Walk, Take}
-use Rattle.muck_rights.specs.Asking.{asked, refused, denied_text}
+use Rattle.muck_rights.specs.Asking.{asked, refused}
 use Rattle.muck_rights.specs.Changing.{moved_to}
 use Rattle.muck_world.specs.declared.outcome.Outcome.{Outcome}
 use Rattle.muck_world.specs.declared.outcome.Outcome.TheVariants.{Done, Start}

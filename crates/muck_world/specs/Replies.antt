@@ -1,5 +1,5 @@
 -- What commands reply.
-use Rattle.std.specs.Prelude.{ℕ, List, [], ◌∷◌, ◌++◌, codes, decimal}
+use Rattle.std.specs.Prelude.{ℕ, List, ◌++◌, codes, decimal}
 
 unfoldable pub huh : List ℕ
 huh = codes "Huh?  (Type \"help\" for help.)"

@@ -8,7 +8,7 @@ use Rattle.muck_model.specs.Bytes.{text_most}
 use Rattle.muck_model.specs.Numbers.{dbref_of as number_named}
 use Rattle.muck_model.specs.declared.dbref.Dbref.{Dbref}
 use Rattle.muck_model.specs.declared.event.Entry.{Entry as Happened}
-use Rattle.muck_model.specs.declared.event.Event.TheVariants.{Opened, Input, Closed, Exec, Halt}
+use Rattle.muck_model.specs.declared.event.Event.TheVariants.{Input, Closed, Exec, Halt}
 use Rattle.muck_prop.specs.declared.value.PropValue.{PropValue}
 use Rattle.muck_match.specs.Words.{is_same, begins_with, has_word, placed, aliases}
 use Rattle.muck_match.specs.Scenery.{numbers, place_in as sight_place, things_in, exit_order, is_there}
@@ -21,7 +21,6 @@ use Rattle.muck_live.specs.Flags.{no_flags}
 use Rattle.muck_live.specs.Chain.{walk, has, without}
 use Rattle.muck_live.specs.Making.{objects_most, free_in, blank_entry, grown, new_object, created, may_make, make_judged, owner_judged, create_check}
 use Rattle.muck_live.specs.Moving.{moved, judged, move_check}
-use Rattle.muck_live.specs.Setting.{set_at}
 use Rattle.muck_live.specs.Start.{first_objects, room_zero, player_one}
 use Rattle.muck_live.specs.Seen.{scenery_of, listed_in, places_of, flag_letters, long_form}
 use Rattle.muck_live.specs.Connections.{Connection, newcomer}

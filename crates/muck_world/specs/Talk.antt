@@ -1,5 +1,5 @@
 -- What a line does, at the login screen and behind it.
-use Rattle.std.specs.Prelude.{ℕ, Bool, true, false, not, ◌==◌, if◌then◌else◌, List, [], ◌∷◌, ◌++◌, Option, Some, None, codes}
+use Rattle.std.specs.Prelude.{ℕ, Bool, true, false, if◌then◌else◌, List, [], ◌∷◌, Option, Some, None, codes}
 use Rattle.std.specs.Option.{option_map_or, option_and_then}
 use Rattle.std.specs.List.{list_any}
 use Rattle.muck_model.specs.declared.dbref.Dbref.{Dbref}
@@ -9,7 +9,7 @@ use Rattle.muck_live.specs.Password.{is_digest_of}
 use Rattle.muck_live.specs.Seen.{scenery_of}
 use Rattle.muck_live.specs.Connections.{Connection, is_of}
 use Rattle.muck_live.specs.Boards.{on_connection, player_in, closed}
-use Rattle.muck_live.specs.Lives.{Live, Change, followed, ◌▸◌, reading, either, unchanged, on_board, tell, leave, enter}
+use Rattle.muck_live.specs.Lives.{Live, Change, ◌▸◌, reading, either, unchanged, on_board, tell, leave, enter}
 use Rattle.muck_world.specs.declared.outcome.Outcome.{Outcome}
 use Rattle.muck_world.specs.declared.outcome.Outcome.TheVariants.{Start, Leave}
 use Rattle.muck_world.specs.Texts.{first_word, other_words, trimmed, is_alike}

@@ -1,11 +1,11 @@
 -- What players say.
-use Rattle.std.specs.Prelude.{ℕ, Bool, true, false, not, ◌&&◌, ◌||◌, ◌==◌, if◌then◌else◌, List, [], ◌∷◌, ◌++◌, length, codes, Option, Some, None}
+use Rattle.std.specs.Prelude.{ℕ, Bool, ◌&&◌, ◌==◌, if◌then◌else◌, List, [], ◌∷◌, ◌++◌, length}
 use Rattle.std.specs.Option.{option_map_or}
 use Rattle.std.specs.List.{list_any, filter}
 use Rattle.muck_model.specs.declared.dbref.Dbref.{Dbref}
 use Rattle.muck_live.specs.Objects.{same, is_player}
 use Rattle.muck_live.specs.Connections.{Connection, is_of, has_player}
-use Rattle.muck_live.specs.Lives.{Live, Change, followed, ◌▸◌, reading, either, unchanged, tell, tell_player, place_at, name_at}
+use Rattle.muck_live.specs.Lives.{Live, Change, ◌▸◌, reading, unchanged, tell, tell_player, place_at, name_at}
 use Rattle.muck_world.specs.Replies.{cant_be_done, you_say, says, you_page, pages, you_whisper, whispers, not_connected, connected_line, connected_count}
 use Rattle.muck_world.specs.Finding.{finding, finding_player, where_so, is_so, shown_others}
 
