@@ -2,4 +2,11 @@
 //! name says.
 #![tactic(auto)]
 
+mod looking;
 mod messages;
+mod talking;
+#[cfg(test)]
+mod tests;
+
+pub use looking::{examine, inventory, look, look_at};
+pub use talking::{page, pose, say, whisper, who};
