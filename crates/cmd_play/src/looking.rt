@@ -1,11 +1,11 @@
 // What players see.
-ghost use Rattle.std.specs.Prelude.{◌≡◌, ◌∷◌, ◌++◌, false, IfOk, OnOk, codes};
+ghost use Rattle.std.specs.Prelude.{◌≡◌, ◌++◌, false, IfOk, OnOk};
 ghost use Rattle.std.specs.Option.{option_copied};
 ghost use Rattle.muck_live.specs.Objects.{is_room};
-ghost use Rattle.muck_live.specs.Seen.{listed_in, signed_text};
-ghost use Rattle.muck_live.specs.Lives.{tell, reading, either, followed, ◌▸◌, unchanged, name_at};
-ghost use Rattle.muck_rights.specs.Levels.{owner_at, flag_at, name_shown};
-ghost use Rattle.muck_world.specs.Replies.{owner_line, lock_line, unlocked_text, contents_head, carrying_head, carrying_nothing, nothing_special};
+ghost use Rattle.muck_live.specs.Seen.{listed_in};
+ghost use Rattle.muck_live.specs.Lives.{tell, reading, unchanged, name_at};
+ghost use Rattle.muck_rights.specs.Levels.{owner_at, flag_at};
+ghost use Rattle.muck_world.specs.Replies.{lock_line};
 ghost use Rattle.muck_world.specs.Finding.{is_so, listed_under, is_seen, seen_in, room_shown, looked, looked_at};
 ghost use Rattle.muck_world.specs.Going.{inventory_shown};
 ghost use Rattle.muck_world.specs.Building.{kept_text, lock_text, owner_shown, examined};

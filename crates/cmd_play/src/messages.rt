@@ -1,8 +1,7 @@
 // The messages of objects.
-ghost use Rattle.std.specs.Prelude.{◌≡◌, ◌∷◌, ◌++◌, IfOk, None, codes};
+ghost use Rattle.std.specs.Prelude.{◌≡◌, IfOk, None};
 ghost use Rattle.std.specs.Option.{option_copied};
 ghost use Rattle.muck_prop.specs.Paths.{path_fault, segments_of};
-ghost use Rattle.muck_live.specs.Lives.{tell, reading, unchanged};
 ghost use Rattle.muck_world.specs.Commands.{message_name};
 ghost use Rattle.muck_world.specs.Finding.{message_path, message_at, message_or, message_shown, message_to_others};
 ghost use Rattle.muck_perm.specs.Guards.{Did, world_of};

@@ -1,13 +1,11 @@
 // What players say, and who hears it.
-ghost use Rattle.std.specs.Prelude.{◌≡◌, ◌∷◌, ◌++◌, IfOk, codes, decimal, length};
+ghost use Rattle.std.specs.Prelude.{◌≡◌, ◌++◌, IfOk, codes};
 ghost use Rattle.std.specs.List.{list_any, slice_get};
 ghost use Rattle.std.specs.Option.{option_and_then};
-ghost use Rattle.muck_live.specs.Objects.{same, is_player};
 ghost use Rattle.muck_live.specs.Connections.{is_of};
-ghost use Rattle.muck_live.specs.Lives.{tell, reading, name_at};
-ghost use Rattle.muck_world.specs.Replies.{connected_line, connected_count};
-ghost use Rattle.muck_world.specs.Finding.{shown_others};
-ghost use Rattle.muck_world.specs.Talking.{said, pose_tail, posed, said_to, paged, is_company, whispered, who_lines, who_shown};
+ghost use Rattle.muck_live.specs.Lives.{tell, name_at};
+ghost use Rattle.muck_world.specs.Replies.{connected_count};
+ghost use Rattle.muck_world.specs.Talking.{said, pose_tail, posed, said_to, paged, is_company, whispered, who_shown};
 ghost use Rattle.muck_perm.specs.Guards.{Did, world_of};
 ghost use Rattle.cmd_play.specs.Presences.{presence, presences, presence_shown, presences_shown};
 
