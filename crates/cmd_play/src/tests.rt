@@ -22,7 +22,7 @@ const TUNE: Tune = Tune {
     dump_interval: 900,
 };
 
-const ANN: Actor = Actor {
+pub const ANN: Actor = Actor {
     level: 1,
     user: Dbref(2),
     player: Dbref(2),
@@ -42,7 +42,7 @@ enum Deed {
     Who,
 }
 
-fn made(
+pub fn made(
     alloc: Global,
     db: &mut Db,
     kind: Kind,
@@ -59,7 +59,7 @@ fn made(
 }
 
 // In Room Zero are One, Ann, #2, and Bob, #3, and Ann's box, #4, which has a description; Ann carries a hat, #5.
-fn world(alloc: Global) -> Result<Db, Fail> {
+pub fn world(alloc: Global) -> Result<Db, Fail> {
     let mut db = Db::starting(alloc)?;
     made(alloc, &mut db, Kind::Player, b"Ann", 0, 0)?;
     made(alloc, &mut db, Kind::Player, b"Bob", 0, 0)?;
@@ -72,7 +72,7 @@ fn world(alloc: Global) -> Result<Db, Fail> {
 }
 
 // Ann is on connection 1, Bob on 2, and nobody yet on 3.
-fn board(alloc: Global) -> Result<Board, Fail> {
+pub fn board(alloc: Global) -> Result<Board, Fail> {
     let mut board = Board::new(alloc, 0, TUNE);
     for d in 1..4 {
         board.open(d, b"Hi")?;
@@ -83,7 +83,7 @@ fn board(alloc: Global) -> Result<Board, Fail> {
     Ok(board)
 }
 
-fn line(alloc: Global, text: &str) -> Result<Line, Fail> {
+pub fn line(alloc: Global, text: &str) -> Result<Line, Fail> {
     Ok(Line::new(alloc, text.as_bytes())?)
 }
 
@@ -103,7 +103,7 @@ fn done(alloc: Global, guard: &mut Guard<'_>, deed: Deed) -> Result<(), Fail> {
 }
 
 // Whether the connection has just this to be sent, which is taken.
-fn reads(board: &mut Board, d: u32, want: &str) -> bool {
+pub fn reads(board: &mut Board, d: u32, want: &str) -> bool {
     let mut bytes = [0; 200];
     let count = board.take(d, &mut bytes).min(200);
     &bytes[..count] == want.as_bytes()
