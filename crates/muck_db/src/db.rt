@@ -1,5 +1,5 @@
 // The objects of the world.
-ghost use Rattle.std.specs.Prelude.{◌≡◌, ◌<◌, ◌≤◌, ◌^◌, true, false, length, IfOk, IfSome};
+ghost use Rattle.std.specs.Prelude.{◌≡◌, ◌<◌, ◌≤◌, ◌^◌, true, false, length, IfOk, IfSome, is_ok};
 ghost use Rattle.std.specs.List.{count_by};
 ghost use Rattle.std.specs.Option.{option_copied, option_map};
 ghost use Rattle.muck_live.specs.Objects.{object_at};
@@ -175,6 +175,13 @@ impl Db {
         let (d, to) = check_move(&self.slots, d, to)?;
         relocate(&mut self.slots, d, to);
         Ok(())
+    }
+
+    /// Whether a move to the front of a list of `to` is allowed.
+    pub fn can_move(&self, d: Dbref, to: Dbref) -> bool
+        ensures { result ≡ is_ok (move_check d to self.now) }
+    {
+        check_move(&self.slots, d, to).is_ok()
     }
 }
 

@@ -1,0 +1,29 @@
+#!/usr/bin/env bash
+# How long it takes to say something in a room of three players, with 300 and with 3,000 other objects there (at most 1.2
+# times as long), and to look around, which is linear in what it lists. Times are of the processor, the least of five runs.
+# First run `rt run -- 3 2 1` in crates/bench_talk, which builds the program; its arguments are how many things, lines and
+# looks.
+set -eu
+program=${BENCH_TALK:-$(dirname "$0")/../crates/bench_talk/out/bench_talk}
+
+TIMEFORMAT='%3U %3S'
+
+# Microseconds of the processor, the least of five runs.
+best() {
+    local least=999999999 took
+    for _ in 1 2 3 4 5; do
+        took=$({ time "$program" "$@" >/dev/null; } 2>&1 | awk '{ printf "%.0f", ($1 + $2) * 1000000 }')
+        if [ "$took" -lt "$least" ]; then least=$took; fi
+    done
+    echo "$least"
+}
+
+few=$(($(best 300 300000 0) - $(best 300 0 0)))
+many=$(($(best 3000 300000 0) - $(best 3000 0 0)))
+look_few=$(($(best 300 0 3000) - $(best 300 0 0)))
+look_many=$(($(best 3000 0 3000) - $(best 3000 0 0)))
+awk -v few="$few" -v many="$many" -v a="$look_few" -v b="$look_many" 'BEGIN {
+    printf "say: %.2f us with 300 objects in the room, %.2f us with 3,000: %.2f times (at most 1.2)\n", few / 300000, many / 300000, many / few
+    printf "look: %.1f us with 300 objects in the room, %.1f us with 3,000: %.1f times\n", a / 3000, b / 3000, b / a
+    exit many <= 1.2 * few ? 0 : 1
+}'

@@ -1,0 +1,5 @@
+pub mod Kept
+pub mod Present
+pub mod Missing
+pub mod Moves
+pub mod Licences

@@ -1,0 +1,27 @@
+-- What words do without a text.
+use Rattle.std.proofs.Common.{◌≡◌, ℕ, true, List, [], ◌∷◌, refl}
+use Rattle.muck_live.specs.Lives.{Live, either}
+use Rattle.muck_rights.specs.declared.act.Actor.{Actor}
+use Rattle.muck_world.specs.declared.outcome.Outcome.TheVariants.{Done}
+use Rattle.muck_world.specs.declared.word.PlayWord.{PlayWord}
+use Rattle.muck_world.specs.declared.word.PlayWord.TheVariants.{Look, Say, Pose, Page, Whisper, Go, Get, Drop, Inventory, Home, Examine, Who, Quit}
+use Rattle.muck_world.specs.Going.{ended}
+use Rattle.muck_world.specs.Commands.{incomplete, one_part, play_done, is_empty}
+use Rattle.cmd_play.specs.Needs.{needs_text}
+
+pub text_missing : (d : ℕ) (a : Actor) (word text : List ℕ) (found : PlayWord) (w : Live) → needs_text found ≡ true → is_empty text ≡ true → play_done d a word text found w ≡ ended Done (incomplete d word) w
+unfolding play_done one_part either ended
+text_missing d a word [] Say w e f = refl
+text_missing d a word [] Pose w e f = refl
+text_missing d a word [] Go w e f = refl
+text_missing d a word [] Get w e f = refl
+text_missing d a word [] Drop w e f = refl
+text_missing d a word [] Examine w e f = refl
+text_missing d a word [] Look w e f = cc
+text_missing d a word [] Page w e f = cc
+text_missing d a word [] Whisper w e f = cc
+text_missing d a word [] Inventory w e f = cc
+text_missing d a word [] Home w e f = cc
+text_missing d a word [] Who w e f = cc
+text_missing d a word [] Quit w e f = cc
+text_missing d a word (b ∷ text) found w e f = cc

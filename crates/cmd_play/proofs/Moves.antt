@@ -1,0 +1,95 @@
+-- What a move does that was allowed, and what showing keeps.
+use Rattle.std.proofs.Common.{◌≡◌, ◌≤◌, ℕ, Bool, true, false, List, [], length, drop, refl, sym, ap, ◌∙◌, Option, Some, None, Result, Ok, Err, OnOk, ◌&&◌, ◌||◌}
+use Rattle.std.specs.Option.{option_map_or}
+use Rattle.std.proofs.lemmas.List.{drop_all}
+use Rattle.muck_model.specs.declared.dbref.Dbref.{Dbref}
+use Rattle.muck_model.specs.declared.dbref.Kind.{Kind}
+use Rattle.muck_model.specs.declared.dbref.Kind.TheVariants.{Room, Thing, Exit, Player, Program, Garbage}
+use Rattle.muck_model.specs.declared.memory.NoMemory.{NoMemory}
+use Rattle.muck_live.specs.declared.fault.DbFault.{DbFault}
+use Rattle.muck_live.specs.declared.object.Object.{Object}
+use Rattle.muck_live.specs.Objects.{Entry, same, is_thing, is_program, object_at}
+use Rattle.muck_live.specs.Lives.{Live, Change}
+use Rattle.muck_rights.specs.declared.act.Actor.{Actor}
+use Rattle.muck_rights.specs.declared.act.Act.{Act}
+use Rattle.muck_rights.specs.Verdict.{place_of, verdict}
+use Rattle.muck_rights.specs.Licence.{at_hand, at_hand_kind}
+use Rattle.muck_rights.proofs.Licences.{Quiet}
+use Rattle.muck_world.specs.Finding.{is_so, shown_others}
+use Rattle.muck_world.specs.Going.{may_move, is_carried, succeeded}
+use Rattle.muck_world.proofs.Showing.{seeing, quiet_shown_others}
+use Rattle.muck_perm.specs.declared.rules.Pass.{Pass}
+use Rattle.muck_perm.specs.declared.guard.Guard.{Guard}
+use Rattle.muck_perm.specs.Verdicts.{IsVerdict}
+use Rattle.muck_perm.specs.Guards.{Makes, Done, Did, IsLeave, world_of}
+
+-- Moves.
+
+pub made_moves : {X : Type 0} (f : Change) (r : Result X DbFault) (old new : Guard) (result : Result (Unit {0}) DbFault) → may_move r ≡ true → Makes f r old new result → (result ≡ Ok tt) × Done f old new
+made_moves f (Ok x) old new result e m = m
+made_moves f (Err fault) old new result e m = absurd (cc)
+
+-- what was moved could be
+pub was_moved : {X : Type 0} (f : Change) (r : Result X DbFault) (old new : Guard) (u : Unit {0}) → Makes f r old new (Ok u) → (may_move r ≡ true) × Done f old new
+was_moved f (Ok x) old new u m = (refl, m.1)
+was_moved f (Err fault) old new u m = absurd (cc)
+
+pub was_refused : {X : Type 0} (f : Change) (r : Result X DbFault) (old new : Guard) (fault : DbFault) → Makes f r old new (Err fault) → (may_move r ≡ false) × (new ≡ old)
+was_refused f (Ok x) old new fault m = absurd (cc)
+was_refused f (Err found) old new fault m = (refl, m.1)
+
+pub ruleset movings = (was_moved, was_refused)
+
+-- What is shown changes no object.
+
+quiet_kept : (f : Change) (old new : Guard) → Quiet f → Done f old new → new.db.now ≡ old.db.now
+quiet_kept f old new q e = ap (λ (g : Guard). g.db.now) e ∙ q.objects (world_of old)
+
+pub quietly_shown : (player : Dbref) (tail : List ℕ) (old new : Guard) (r : Result (Unit {0}) NoMemory) → Did (shown_others player tail) old new r → OnOk r (new.db.now ≡ old.db.now)
+quietly_shown player tail old new (Ok u) e = quiet_kept _ old new (quiet_shown_others player tail) e
+quietly_shown player tail old new (Err error) e = tt
+
+quiet_succeeded : (d : ℕ) (player x : Dbref) → Quiet (succeeded d player x)
+unfolding succeeded
+quiet_succeeded d player x = search seeing
+
+-- leave that a verdict gave
+pub leave_given : (es : List Entry) (a : Actor) (act : Act) (pass : Pass) (g : Guard) → es ≡ g.db.now → a ≡ g.actor → IsVerdict (verdict es a act) a act (Ok pass) → IsLeave pass act g
+leave_given es a act pass g objects actor v = (v.1 ∙ actor, v.2, rw (sym objects, sym actor) v.0)
+
+-- leave stays after the messages of success
+pub leave_kept : (pass : Pass) (act : Act) (d : ℕ) (player x : Dbref) (old new : Guard) → IsLeave pass act old → Done (succeeded d player x) old new → IsLeave pass act new
+leave_kept pass act d player x old new leave e =
+    let actor : new.actor ≡ old.actor = ap (λ (g : Guard). g.actor) e in
+    let objects : new.db.now ≡ old.db.now = quiet_kept _ old new (quiet_succeeded d player x) e in
+    (leave.0 ∙ sym actor, leave.1, rw (actor, objects) leave.2)
+
+-- What is carried is at hand.
+
+item_kind : (k : Kind) → (is_thing k || is_program k) ≡ true → at_hand_kind k ≡ true
+item_kind Thing e = refl
+item_kind Program e = refl
+item_kind Room e = cc
+item_kind Exit e = cc
+item_kind Player e = cc
+item_kind Garbage e = cc
+
+hand_by : (kind item carried here : Bool) → (item ≡ true → kind ≡ true) → (item && carried) ≡ true → (kind && (carried || here)) ≡ true
+hand_by kind true true here f e = rw (f refl) refl
+hand_by kind true false here f e = cc
+hand_by kind false carried here f e = cc
+
+carried_by : (es : List Entry) (a : Actor) (o : Option Object) → option_map_or (λ (k : Object). (is_thing k.kind || is_program k.kind) && same k.place a.player) o false ≡ true →
+    option_map_or (λ (k : Object). at_hand_kind k.kind && (same k.place a.player || same k.place (place_of es a.player))) o false ≡ true
+carried_by es a None e = cc
+carried_by es a (Some o) e = hand_by (at_hand_kind o.kind) (is_thing o.kind || is_program o.kind) (same o.place a.player) (same o.place (place_of es a.player)) (item_kind o.kind) e
+
+pub carried_at_hand : (w : Live) (a : Actor) (x : Dbref) → is_carried a.player x w ≡ true → at_hand w.objects a x ≡ true
+unfolding is_so
+carried_at_hand w a x e = carried_by w.objects a (object_at x w.objects) e
+
+-- Texts.
+
+-- nothing stands behind the end
+pub behind_all : (n : ℕ) (xs : List ℕ) → length xs ≤ n → drop n xs ≡ []
+behind_all n xs h = drop_all n xs h

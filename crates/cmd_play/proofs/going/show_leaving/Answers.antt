@@ -1,0 +1,5 @@
+use Rattle.cmd_play.proofs.Moves.{quietly_shown}
+use Rattle.cmd_play.proofs.going.show_leaving.Goals as goal
+
+pub returns-clause-kept : goal.returns-clause-kept
+returns-clause-kept c = quietly_shown _ _ _ _ _ c.show_others.ensures

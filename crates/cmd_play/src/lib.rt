@@ -1,0 +1,22 @@
+//! What players do. Each function changes the world that a guard lends just as the definition of `muck_world` of that
+//! name says.
+#![tactic(auto)]
+
+mod command;
+mod going;
+#[cfg(test)]
+mod line_tests;
+mod looking;
+mod messages;
+mod taking;
+mod talking;
+#[cfg(test)]
+mod tests;
+mod words;
+
+pub use command::run;
+pub use going::{go, go_home, walk};
+pub use looking::{examine, inventory, look, look_at};
+pub use taking::{drop, take};
+pub use talking::{page, pose, say, whisper, who};
+pub use words::play_word;

@@ -1,0 +1,258 @@
+// What players see.
+ghost use Rattle.std.specs.Prelude.{◌≡◌, ◌++◌, false, IfOk, OnOk};
+ghost use Rattle.std.specs.Option.{option_copied};
+ghost use Rattle.muck_live.specs.Objects.{is_room};
+ghost use Rattle.muck_live.specs.Seen.{listed_in};
+ghost use Rattle.muck_live.specs.Lives.{tell, reading, unchanged, name_at};
+ghost use Rattle.muck_rights.specs.Levels.{owner_at, flag_at};
+ghost use Rattle.muck_world.specs.Replies.{lock_line};
+ghost use Rattle.muck_world.specs.Finding.{is_so, listed_under, is_seen, seen_in, room_shown, looked, looked_at};
+ghost use Rattle.muck_world.specs.Going.{inventory_shown};
+ghost use Rattle.muck_world.specs.Building.{kept_text, lock_text, owner_shown, examined};
+ghost use Rattle.muck_perm.specs.Guards.{Did, world_of};
+
+use crate::messages::{message_or, show_message};
+use cmd_parts::{find_object, list, name_and, place_at, show_name};
+use itoa::Buffer;
+use muck_live::{DARK, has_flag};
+use muck_model::{Dbref, Kind, Line, NoMemory};
+use muck_perm::{Guard, command_level, controls_as};
+use muck_prop::PropValue;
+use muck_world::Message;
+use std::alloc::Global;
+
+// The connection sees a head and the names of these objects, where there are any.
+#[tactic(auto, unfolding(muck_live::specs::Lives::followed, muck_live::specs::Lives::unchanged, muck_world::specs::Finding::listed_under))]
+fn list_under(
+    guard: &mut Guard,
+    d: u32,
+    player: Dbref,
+    head: &[u8],
+    xs: &[Dbref],
+) -> Result<(), NoMemory>
+    ensures { Did (listed_under d player head.now unchanged xs.now) guard.old guard.new result }
+{
+    if !xs.is_empty() {
+        guard.tell(d, head)?;
+        list(guard, d, player, xs)?;
+    }
+    Ok(())
+}
+
+// The connection sees a head and the names of these objects, or another text where there are none.
+#[tactic(auto, unfolding(muck_live::specs::Lives::followed, muck_world::specs::Finding::listed_under))]
+fn list_or(
+    guard: &mut Guard,
+    d: u32,
+    player: Dbref,
+    head: &[u8],
+    otherwise: &[u8],
+    xs: &[Dbref],
+) -> Result<(), NoMemory>
+    ensures { Did (listed_under d player head.now (tell d otherwise.now) xs.now) guard.old guard.new result }
+{
+    if xs.is_empty() {
+        guard.tell(d, otherwise)?;
+    } else {
+        guard.tell(d, head)?;
+        list(guard, d, player, xs)?;
+    }
+    Ok(())
+}
+
+// Whether an object is there and hidden.
+#[tactic(auto, unfolding(muck_rights::specs::Levels::flag_at))]
+fn is_dark(guard: &Guard, x: Dbref) -> bool
+    ensures { result ≡ flag_at DARK guard.now.db.now x }
+{
+    match guard.db().get(x) {
+        Some(object) => has_flag(DARK, object.flags()),
+        None => false,
+    }
+}
+
+// Whether a player sees an object that is where it looks: itself it doesn't see, nor what is hidden and isn't its own.
+fn is_seen(guard: &Guard, player: Dbref, x: Dbref) -> bool
+    ensures { result ≡ is_seen (world_of guard.now) player x }
+{
+    let db = guard.db();
+    x != player && (!is_dark(guard, x) || controls_as(db, command_level(db, player), player, x))
+}
+
+// What a player sees in a room.
+#[tactic(auto, unfolding(muck_world::specs::Finding::seen_in))]
+fn seen_in(guard: &Guard, player: Dbref, room: Dbref) -> Result<Vec<Dbref>, NoMemory>
+    ensures { IfOk result (λ xs. xs.items ≡ seen_in player room (world_of guard.now)) }
+{
+    let seen = guard
+        .db()
+        .contents(room)
+        .filter(|x| is_seen(guard, player, *x))
+        .collect(guard.alloc())?;
+    Ok(seen)
+}
+
+/// The connection sees a room as a player does: its name, its description, and what is in it.
+#[tactic(auto, unfolding(muck_live::specs::Lives::followed, muck_live::specs::Lives::reading, muck_world::specs::Finding::room_shown, muck_world::specs::Replies::contents_head))]
+pub fn show_room(guard: &mut Guard, d: u32, player: Dbref, room: Dbref) -> Result<(), NoMemory>
+    ensures { Did (room_shown d player room) guard.old guard.new result }
+{
+    show_name(guard, d, player, room)?;
+    show_message(guard, d, Message::Describe, room)?;
+    let seen = seen_in(guard, player, room)?;
+    list_under(guard, d, player, b"Contents:", &seen)?;
+    Ok(())
+}
+
+/// The player looks at where it is.
+#[tactic(auto, unfolding(muck_live::specs::Lives::reading, muck_world::specs::Finding::looked))]
+pub fn look(guard: &mut Guard, d: u32) -> Result<(), NoMemory>
+    ensures { Did (looked d guard.old.actor.player) guard.old guard.new result }
+{
+    let player = guard.actor().player;
+    let room = place_at(guard, player);
+    show_room(guard, d, player, room)?;
+    Ok(())
+}
+
+// Whether it is a room.
+#[tactic(auto, unfolding(muck_world::specs::Finding::is_so))]
+fn is_room(guard: &Guard, x: Dbref) -> bool
+    ensures { result ≡ is_so (λ o. is_room o.kind) x (world_of guard.now) }
+{
+    match guard.db().get(x) {
+        Some(object) => matches!(object.kind(), Kind::Room),
+        None => false,
+    }
+}
+
+/// The player looks at what it names: a room is shown whole, and of anything else its description.
+#[tactic(auto, unfolding(muck_live::specs::Lives::reading, muck_live::specs::Lives::either, muck_world::specs::Finding::where_so, muck_world::specs::Finding::looked_at, muck_world::specs::Replies::nothing_special))]
+pub fn look_at(guard: &mut Guard, d: u32, name: &Line) -> Result<(), NoMemory>
+    ensures { Did (looked_at d guard.old.actor name.now) guard.old guard.new result }
+{
+    let Some(x) = find_object(guard, d, name)? else {
+        return Ok(());
+    };
+    if is_room(guard, x) {
+        let player = guard.actor().player;
+        show_room(guard, d, player, x)?;
+    } else {
+        message_or(guard, d, b"You see nothing special.", Message::Describe, x)?;
+    }
+    Ok(())
+}
+
+// What an object holds.
+fn held_by(guard: &Guard, x: Dbref) -> Result<Vec<Dbref>, NoMemory>
+    ensures { IfOk result (λ xs. xs.items ≡ listed_in false x guard.now.db.now) }
+{
+    let held = guard.db().contents(x).collect(guard.alloc())?;
+    Ok(held)
+}
+
+/// The player sees what it carries.
+#[tactic(auto, unfolding(muck_live::specs::Lives::reading, muck_world::specs::Going::inventory_shown, muck_world::specs::Replies::carrying_head, muck_world::specs::Replies::carrying_nothing))]
+pub fn inventory(guard: &mut Guard, d: u32) -> Result<(), NoMemory>
+    ensures { Did (inventory_shown d guard.old.actor.player) guard.old guard.new result }
+{
+    let player = guard.actor().player;
+    let held = held_by(guard, player)?;
+    list_or(
+        guard,
+        d,
+        player,
+        b"You are carrying:",
+        b"You aren't carrying anything.",
+        &held,
+    )?;
+    Ok(())
+}
+
+// The owner of an object, `#-1` where it isn't there.
+#[tactic(auto, unfolding(muck_rights::specs::Levels::owner_at))]
+fn owner_at(guard: &Guard, x: Dbref) -> Dbref
+    ensures { result ≡ owner_at guard.now.db.now x }
+{
+    match guard.db().get(x) {
+        Some(object) => object.owner(),
+        None => Dbref(-1),
+    }
+}
+
+// The name behind a text.
+fn and_name(guard: &Guard, head: &[u8], x: Dbref) -> Result<Vec<u8>, NoMemory>
+    ensures { IfOk result (λ text. text.items ≡ head.now ++ name_at x (world_of guard.now)) }
+{
+    let mut text = head.to_vec(guard.alloc())?;
+    if let Some(object) = guard.db().get(x) {
+        text.extend_from_slice(object.name().as_slice())?;
+    }
+    Ok(text)
+}
+
+// The connection sees who owns an object.
+#[tactic(auto, unfolding(muck_live::specs::Lives::reading, muck_world::specs::Building::owner_shown, muck_world::specs::Replies::owner_line))]
+fn show_owner(guard: &mut Guard, d: u32, x: Dbref) -> Result<(), NoMemory>
+    ensures { Did (owner_shown d x) guard.old guard.new result }
+{
+    let owner = owner_at(guard, x);
+    let text = and_name(guard, b"Owner: ", owner)?;
+    guard.tell(d, &text)?;
+    Ok(())
+}
+
+// What is kept as a lock, as a text.
+#[tactic(auto, unfolding(muck_world::specs::Replies::unlocked_text))]
+fn add_kept(text: &mut Vec<u8>, kept: Option<&PropValue>) -> Result<(), NoMemory>
+    ensures { OnOk result (text.new.items ≡ text.old.items ++ kept_text (option_copied kept.entry)) }
+{
+    match kept {
+        Some(PropValue::Text(lock)) => text.extend_from_slice(lock.as_slice())?,
+        Some(PropValue::Number(number)) => {
+            let mut buffer = Buffer::new();
+            text.extend_from_slice(buffer.format(*number).as_bytes())?;
+        }
+        None => text.extend_from_slice(b"*UNLOCKED*")?,
+    }
+    Ok(())
+}
+
+// What an object keeps as its lock.
+fn lock_of<'a>(guard: &'a Guard<'_>, x: Dbref) -> Option<&'a PropValue>
+    ensures { kept_text (option_copied result) ≡ lock_text x (world_of guard.now) }
+{
+    match guard.db().get(x) {
+        Some(object) => object.props().get_bytes(b"_/lok"),
+        None => None,
+    }
+}
+
+// The connection sees the lock of an object as it is kept.
+#[tactic(auto, unfolding(muck_live::specs::Lives::reading, muck_world::specs::Replies::lock_line))]
+fn show_lock(guard: &mut Guard, d: u32, x: Dbref) -> Result<(), NoMemory>
+    ensures { Did (reading (lock_text x) (λ text. tell d (lock_line text))) guard.old guard.new result }
+{
+    let mut text = b"Lock: ".to_vec(guard.alloc())?;
+    add_kept(&mut text, lock_of(guard, x))?;
+    guard.tell(d, &text)?;
+    Ok(())
+}
+
+/// The player sees the name, the owner and the lock of what it names, and of what it doesn't control the owner alone.
+#[tactic(auto, unfolding(muck_live::specs::Lives::followed, muck_live::specs::Lives::reading, muck_live::specs::Lives::either, muck_world::specs::Finding::where_so, muck_world::specs::Building::examined))]
+pub fn examine(guard: &mut Guard, d: u32, name: &Line) -> Result<(), NoMemory>
+    ensures { Did (examined d guard.old.actor name.now) guard.old guard.new result }
+{
+    let Some(x) = find_object(guard, d, name)? else {
+        return Ok(());
+    };
+    let actor = guard.actor();
+    if !controls_as(guard.db(), actor.level, actor.user, x) {
+        return show_owner(guard, d, x);
+    }
+    show_name(guard, d, actor.player, x)?;
+    show_owner(guard, d, x)?;
+    show_lock(guard, d, x)?;
+    Ok(())
+}

@@ -1,0 +1,237 @@
+// What players say, and who hears it.
+ghost use Rattle.std.specs.Prelude.{◌≡◌, ◌++◌, IfOk, codes};
+ghost use Rattle.std.specs.List.{list_any, slice_get};
+ghost use Rattle.std.specs.Option.{option_and_then};
+ghost use Rattle.muck_live.specs.Connections.{is_of};
+ghost use Rattle.muck_live.specs.Lives.{tell, name_at};
+ghost use Rattle.muck_world.specs.Replies.{connected_count};
+ghost use Rattle.muck_world.specs.Talking.{said, pose_tail, posed, said_to, paged, is_company, whispered, who_shown};
+ghost use Rattle.muck_perm.specs.Guards.{Did, world_of};
+ghost use Rattle.cmd_play.specs.Presences.{presence, presences, presence_shown, presences_shown};
+
+use cmd_parts::{cant_be_done, find_one, find_player, name_and, place_at, show_others};
+use muck_board::Board;
+use muck_model::{Dbref, Kind, Line, NoMemory};
+use muck_perm::Guard;
+use std::alloc::Global;
+
+// A text between two others.
+fn around(alloc: Global, before: &[u8], text: &[u8], after: &[u8]) -> Result<Vec<u8>, NoMemory>
+    ensures { IfOk result (λ v. v.items ≡ (before.now ++ text.now) ++ after.now) }
+{
+    let mut whole = Vec::new(alloc);
+    whole.extend_from_slice(before)?;
+    whole.extend_from_slice(text)?;
+    whole.extend_from_slice(after)?;
+    Ok(whole)
+}
+
+/// The player says something: it sees its own words, and the others where it is see them with its name.
+#[tactic(auto, unfolding(muck_live::specs::Lives::followed, muck_world::specs::Talking::said, muck_world::specs::Replies::you_say, muck_world::specs::Replies::says))]
+pub fn say(guard: &mut Guard, d: u32, text: &Line) -> Result<(), NoMemory>
+    ensures { Did (said d guard.old.actor.player text.now) guard.old guard.new result }
+{
+    let yours = around(guard.alloc(), b"You say, \"", text.as_slice(), b"\"")?;
+    guard.tell(d, &yours)?;
+    let theirs = around(guard.alloc(), b" says, \"", text.as_slice(), b"\"")?;
+    let player = guard.actor().player;
+    show_others(guard, player, &theirs)?;
+    Ok(())
+}
+
+// What stands behind a player's name: a space comes first, but for an apostrophe.
+fn pose_tail(alloc: Global, text: &[u8]) -> Result<Vec<u8>, NoMemory>
+    ensures { IfOk result (λ tail. tail.items ≡ pose_tail text.now) }
+{
+    let mut tail = Vec::new(alloc);
+    match text.first() {
+        Some(first) if *first != b'\'' => tail.push(b' ')?,
+        _ => {}
+    }
+    tail.extend_from_slice(text)?;
+    Ok(tail)
+}
+
+/// The player does something: it and the others where it is see its name, and the text behind it.
+#[tactic(auto, unfolding(muck_live::specs::Lives::followed, muck_live::specs::Lives::reading, muck_world::specs::Talking::posed))]
+pub fn pose(guard: &mut Guard, d: u32, text: &Line) -> Result<(), NoMemory>
+    ensures { Did (posed d guard.old.actor.player text.now) guard.old guard.new result }
+{
+    let player = guard.actor().player;
+    let tail = pose_tail(guard.alloc(), text.as_slice())?;
+    let whole = name_and(guard, player, &tail)?;
+    guard.tell(d, &whole)?;
+    show_others(guard, player, &tail)?;
+    Ok(())
+}
+
+// What a player sees of what it said to one alone.
+fn said_to_one(guard: &Guard, before: &[u8], text: &[u8], to: Dbref) -> Result<Vec<u8>, NoMemory>
+    ensures { IfOk result (λ v. v.items ≡ (before.now ++ text.now) ++ ((codes "\" to " ++ name_at to (world_of guard.now)) ++ codes ".")) }
+{
+    let name = name_and(guard, to, b"")?;
+    let tail = around(guard.alloc(), b"\" to ", &name, b".")?;
+    around(guard.alloc(), before, text, &tail)
+}
+
+// The player and one other see what was said to that one alone.
+#[tactic(auto, unfolding(muck_live::specs::Lives::followed, muck_live::specs::Lives::reading, muck_world::specs::Talking::said_to))]
+fn say_to(
+    guard: &mut Guard,
+    d: u32,
+    to: Dbref,
+    yours: &[u8],
+    theirs: &[u8],
+    text: &[u8],
+) -> Result<(), NoMemory>
+    ensures { Did (said_to d guard.old.actor.player to (λ name. (yours.now ++ text.now) ++ ((codes "\" to " ++ name) ++ codes ".")) ((theirs.now ++ text.now) ++ codes "\"")) guard.old guard.new result }
+{
+    let shown = said_to_one(guard, yours, text, to)?;
+    guard.tell(d, &shown)?;
+    let speaker = guard.actor().player;
+    let tail = around(guard.alloc(), theirs, text, b"\"")?;
+    let heard = name_and(guard, speaker, &tail)?;
+    guard.tell_player(to, &heard)?;
+    Ok(())
+}
+
+// Whether a player is connected.
+fn is_connected(board: &Board, player: Dbref) -> bool
+    ensures { result ≡ list_any (is_of player) board.now.connections }
+{
+    board.connections_of(player) > 0
+}
+
+/// The player says something to another one, who may be anywhere, but is connected.
+#[tactic(auto, unfolding(muck_live::specs::Lives::reading, muck_live::specs::Lives::either, muck_world::specs::Finding::where_so, muck_world::specs::Talking::paged, muck_world::specs::Replies::not_connected, muck_world::specs::Replies::you_page, muck_world::specs::Replies::pages))]
+pub fn page(guard: &mut Guard, d: u32, name: &Line, text: &Line) -> Result<(), NoMemory>
+    ensures { Did (paged d guard.old.actor.player name.now text.now) guard.old guard.new result }
+{
+    let Some(to) = find_player(guard, d, name)? else {
+        return Ok(());
+    };
+    if is_connected(guard.board(), to) {
+        say_to(
+            guard,
+            d,
+            to,
+            b"You page, \"",
+            b" pages, \"",
+            text.as_slice(),
+        )?;
+    } else {
+        let reply = name_and(guard, to, b" isn't connected.")?;
+        guard.tell(d, &reply)?;
+    }
+    Ok(())
+}
+
+// Whether it is a player, and where this player is.
+#[tactic(auto, unfolding(muck_world::specs::Finding::is_so))]
+fn is_company(guard: &Guard, player: Dbref, to: Dbref) -> bool
+    ensures { result ≡ is_company player to (world_of guard.now) }
+{
+    match guard.db().get(to) {
+        Some(object) => {
+            matches!(object.kind(), Kind::Player) && object.place() == place_at(guard, player)
+        }
+        None => false,
+    }
+}
+
+/// The player says something to another one who is where it is.
+#[tactic(auto, unfolding(muck_live::specs::Lives::reading, muck_live::specs::Lives::either, muck_world::specs::Finding::where_so, muck_world::specs::Talking::whispered, muck_world::specs::Replies::you_whisper, muck_world::specs::Replies::whispers))]
+pub fn whisper(guard: &mut Guard, d: u32, name: &Line, text: &Line) -> Result<(), NoMemory>
+    ensures { Did (whispered d guard.old.actor.player name.now text.now) guard.old guard.new result }
+{
+    let Some(to) = find_one(guard, d, name)? else {
+        return Ok(());
+    };
+    if is_company(guard, guard.actor().player, to) {
+        say_to(
+            guard,
+            d,
+            to,
+            b"You whisper, \"",
+            b" whispers, \"",
+            text.as_slice(),
+        )?;
+    } else {
+        cant_be_done(guard, d)?;
+    }
+    Ok(())
+}
+
+// A connection with its player.
+#[derive(Clone, Copy)]
+struct Presence {
+    number: u32,
+    player: Dbref,
+}
+
+// The connection at a place from 0, where it has a player.
+fn presence_at(board: &Board, at: usize) -> Option<Presence>
+    ensures { result ≡ option_and_then presence (slice_get board.now.connections at) }
+{
+    match (board.number_at(at), board.player_at(at)) {
+        (Some(number), Some(player)) => Some(Presence { number, player }),
+        _ => None,
+    }
+}
+
+// The connections that have a player.
+#[tactic(auto, using(crate::proofs::Present::present_all))]
+fn presences(alloc: Global, board: &Board) -> Result<Vec<Presence>, NoMemory>
+    ensures { IfOk result (λ ps. ps.items ≡ presences board.now.connections) }
+{
+    let mut all = Vec::new(alloc);
+    for at in 0..board.count() {
+        if let Some(presence) = presence_at(board, at) {
+            all.push(presence)?;
+        }
+    }
+    Ok(all)
+}
+
+// The connection sees the player of another connection, and that one's number.
+#[tactic(auto, unfolding(muck_live::specs::Lives::reading, muck_world::specs::Replies::connected_line, crate::specs::Presences::presence_shown))]
+fn show_presence(guard: &mut Guard, d: u32, presence: Presence) -> Result<(), NoMemory>
+    ensures { Did (presence_shown d presence) guard.old guard.new result }
+{
+    let number = presence.number;
+    let mut text = name_and(guard, presence.player, b" (")?;
+    let tail = format!(in guard.alloc(); "{number})")?;
+    text.extend_from_slice(tail.as_bytes())?;
+    guard.tell(d, &text)?;
+    Ok(())
+}
+
+// A line for each of these.
+fn show_presences(guard: &mut Guard, d: u32, presences: &[Presence]) -> Result<(), NoMemory>
+    ensures { Did (presences_shown d presences.now) guard.old guard.new result }
+{
+    for presence in presences {
+        show_presence(guard, d, *presence)?;
+    }
+    Ok(())
+}
+
+// The connection sees how many are connected.
+#[tactic(auto, unfolding(muck_world::specs::Replies::connected_count))]
+fn show_count(guard: &mut Guard, d: u32, count: usize) -> Result<(), NoMemory>
+    ensures { Did (tell d (connected_count count)) guard.old guard.new result }
+{
+    let text = format!(in guard.alloc(); "{count} connected.")?;
+    guard.tell(d, text.as_bytes())?;
+    Ok(())
+}
+
+/// The connection sees the players who are connected, and how many they are.
+pub fn who(guard: &mut Guard, d: u32) -> Result<(), NoMemory>
+    ensures { Did (who_shown d) guard.old guard.new result }
+{
+    let present = presences(guard.alloc(), guard.board())?;
+    show_presences(guard, d, &present)?;
+    show_count(guard, d, present.len())?;
+    Ok(())
+}
