@@ -10,7 +10,7 @@ use muck_db::{Db, DbFault};
 use muck_model::{Dbref, Kind, Line, NoMemory, Tune};
 use muck_perm::Guard;
 use muck_rights::Actor;
-use std::alloc::Global;
+use std::alloc::{AllocError, Global};
 use std::{env, io};
 
 const ROOM_ZERO: Dbref = Dbref(0);
@@ -41,6 +41,12 @@ impl From<DbFault> for TalkFault {
             DbFault::NoMemory => TalkFault::NoMemory,
             _ => TalkFault::Refused,
         }
+    }
+}
+
+impl From<AllocError> for TalkFault {
+    fn from(_: AllocError) -> Self {
+        TalkFault::NoMemory
     }
 }
 
