@@ -55,7 +55,11 @@ fn reply(alloc: Global, db: &mut Db, board: &mut Board, line: &[u8]) -> Result<V
     let outcome = run(&mut guard, 1, &line)?;
     let mut bytes = vec![in alloc; 0; 200]?;
     let count = board.take(1, &mut bytes);
-    let end = if matches!(outcome, Outcome::Done) { 2 } else { 0 };
+    let end = if matches!(outcome, Outcome::Done) {
+        2
+    } else {
+        0
+    };
     bytes.truncate(count.saturating_sub(end));
     Ok(bytes)
 }
@@ -89,7 +93,10 @@ const LINES: [(&[u8], &[u8]); 33] = [
     (b"@ODrop lamp", b"Usage: @odrop"),
     (b"@fail one=No!", b"Permission denied (P16)."),
     (b"@osuccess lamp=", b"Set."),
-    (b"@lock lamp=(me & !*three) | _/x:y", b"I don't understand that key."),
+    (
+        b"@lock lamp=(me & !*three) | _/x:y",
+        b"I don't understand that key.",
+    ),
     (b"@lock lamp=(me&!*three)|x:y", b"Locked."),
     (b"@lock lamp=clock", b"I don't understand that key."),
     (b"@lock one=me", b"Permission denied (P16)."),

@@ -23,6 +23,7 @@ fn is_empty(text: &Line) -> bool
     text.as_slice().is_empty()
 }
 
+/// `@dig NAME`.
 #[tactic(auto, unfolding(muck_world::specs::Commands::one_part, muck_live::specs::Lives::either))]
 pub fn dig_line(guard: &mut Guard, d: u32, word: &[u8], text: &Line) -> Result<(), NoMemory>
     ensures { Did (one_part d word.now text.now (dug d guard.old.actor)) guard.old guard.new result }
@@ -33,6 +34,7 @@ pub fn dig_line(guard: &mut Guard, d: u32, word: &[u8], text: &Line) -> Result<(
     dig(guard, d, text)
 }
 
+/// `@create NAME`.
 #[tactic(auto, unfolding(muck_world::specs::Commands::one_part, muck_live::specs::Lives::either))]
 pub fn create_line(guard: &mut Guard, d: u32, word: &[u8], text: &Line) -> Result<(), NoMemory>
     ensures { Did (one_part d word.now text.now (thing_made d guard.old.actor)) guard.old guard.new result }
@@ -43,6 +45,7 @@ pub fn create_line(guard: &mut Guard, d: u32, word: &[u8], text: &Line) -> Resul
     create(guard, d, text)
 }
 
+/// `@unlink NAME`.
 #[tactic(auto, unfolding(muck_world::specs::Commands::one_part, muck_live::specs::Lives::either))]
 pub fn unlink_line(guard: &mut Guard, d: u32, word: &[u8], text: &Line) -> Result<(), NoMemory>
     ensures { Did (one_part d word.now text.now (link_cleared d guard.old.actor)) guard.old guard.new result }
@@ -53,6 +56,7 @@ pub fn unlink_line(guard: &mut Guard, d: u32, word: &[u8], text: &Line) -> Resul
     unlink(guard, d, text)
 }
 
+/// `@unlock NAME`.
 #[tactic(auto, unfolding(muck_world::specs::Commands::one_part, muck_live::specs::Lives::either))]
 pub fn unlock_line(guard: &mut Guard, d: u32, word: &[u8], text: &Line) -> Result<(), NoMemory>
     ensures { Did (one_part d word.now text.now (lock_cleared d guard.old.actor)) guard.old guard.new result }
@@ -63,6 +67,7 @@ pub fn unlock_line(guard: &mut Guard, d: u32, word: &[u8], text: &Line) -> Resul
     unlock(guard, d, text)
 }
 
+/// `@recycle NAME`.
 #[tactic(auto, unfolding(muck_world::specs::Commands::one_part, muck_live::specs::Lives::either))]
 pub fn recycle_line(guard: &mut Guard, d: u32, word: &[u8], text: &Line) -> Result<(), NoMemory>
     ensures { Did (one_part d word.now text.now (recycled d guard.old.actor)) guard.old guard.new result }
@@ -73,6 +78,7 @@ pub fn recycle_line(guard: &mut Guard, d: u32, word: &[u8], text: &Line) -> Resu
     recycle(guard, d, text)
 }
 
+/// `@find PART`.
 #[tactic(auto, unfolding(muck_world::specs::Commands::one_part, muck_live::specs::Lives::either))]
 pub fn find_line(guard: &mut Guard, d: u32, word: &[u8], text: &Line) -> Result<(), NoMemory>
     ensures { Did (one_part d word.now text.now (find_shown d guard.old.actor)) guard.old guard.new result }
@@ -83,6 +89,7 @@ pub fn find_line(guard: &mut Guard, d: u32, word: &[u8], text: &Line) -> Result<
     find(guard, d, text)
 }
 
+/// `@name NAME=NEW`.
 #[tactic(auto, unfolding(muck_world::specs::Commands::two_parts, muck_live::specs::Lives::either))]
 pub fn name_line(guard: &mut Guard, d: u32, word: &[u8], text: &Line) -> Result<(), NoMemory>
     ensures { Did (two_parts d word.now text.now (name_set d guard.old.actor)) guard.old guard.new result }
@@ -93,6 +100,7 @@ pub fn name_line(guard: &mut Guard, d: u32, word: &[u8], text: &Line) -> Result<
     }
 }
 
+/// `@lock NAME=KEY`.
 #[tactic(auto, unfolding(muck_world::specs::Commands::two_parts, muck_live::specs::Lives::either))]
 pub fn lock_line(guard: &mut Guard, d: u32, word: &[u8], text: &Line) -> Result<(), NoMemory>
     ensures { Did (two_parts d word.now text.now (lock_set d guard.old.actor)) guard.old guard.new result }
@@ -103,6 +111,7 @@ pub fn lock_line(guard: &mut Guard, d: u32, word: &[u8], text: &Line) -> Result<
     }
 }
 
+// `@open NAME=TARGET`.
 #[tactic(auto, unfolding(muck_world::specs::Commands::full_parts, muck_live::specs::Lives::either))]
 fn open_to_line(guard: &mut Guard, d: u32, word: &[u8], text: &Line) -> Result<(), NoMemory>
     ensures { Did (full_parts d word.now text.now (opened_to d guard.old.actor)) guard.old guard.new result }
@@ -113,6 +122,7 @@ fn open_to_line(guard: &mut Guard, d: u32, word: &[u8], text: &Line) -> Result<(
     }
 }
 
+/// `@action NAME=OBJECT`.
 #[tactic(auto, unfolding(muck_world::specs::Commands::full_parts, muck_live::specs::Lives::either))]
 pub fn action_line(guard: &mut Guard, d: u32, word: &[u8], text: &Line) -> Result<(), NoMemory>
     ensures { Did (full_parts d word.now text.now (action_made d guard.old.actor)) guard.old guard.new result }
@@ -123,6 +133,7 @@ pub fn action_line(guard: &mut Guard, d: u32, word: &[u8], text: &Line) -> Resul
     }
 }
 
+/// `@link NAME=TARGET`.
 #[tactic(auto, unfolding(muck_world::specs::Commands::full_parts, muck_live::specs::Lives::either))]
 pub fn link_line(guard: &mut Guard, d: u32, word: &[u8], text: &Line) -> Result<(), NoMemory>
     ensures { Did (full_parts d word.now text.now (link_set d guard.old.actor)) guard.old guard.new result }
@@ -133,6 +144,7 @@ pub fn link_line(guard: &mut Guard, d: u32, word: &[u8], text: &Line) -> Result<
     }
 }
 
+/// `@teleport NAME=PLACE`.
 #[tactic(auto, unfolding(muck_world::specs::Commands::full_parts, muck_live::specs::Lives::either))]
 pub fn teleport_line(guard: &mut Guard, d: u32, word: &[u8], text: &Line) -> Result<(), NoMemory>
     ensures { Did (full_parts d word.now text.now (teleported d guard.old.actor)) guard.old guard.new result }
@@ -143,6 +155,7 @@ pub fn teleport_line(guard: &mut Guard, d: u32, word: &[u8], text: &Line) -> Res
     }
 }
 
+/// `@chown NAME=PLAYER`.
 #[tactic(auto, unfolding(muck_world::specs::Commands::full_parts, muck_live::specs::Lives::either))]
 pub fn chown_line(guard: &mut Guard, d: u32, word: &[u8], text: &Line) -> Result<(), NoMemory>
     ensures { Did (full_parts d word.now text.now (chowned d guard.old.actor)) guard.old guard.new result }
@@ -153,6 +166,7 @@ pub fn chown_line(guard: &mut Guard, d: u32, word: &[u8], text: &Line) -> Result
     }
 }
 
+/// `@describe NAME=TEXT`, and the other messages in the same way.
 #[tactic(auto, unfolding(muck_world::specs::Commands::two_parts, muck_live::specs::Lives::either))]
 pub fn message_line(
     guard: &mut Guard,
@@ -169,6 +183,7 @@ pub fn message_line(
     }
 }
 
+/// `@open NAME`, and `@open NAME=TARGET`.
 #[tactic(auto, unfolding(muck_world::specs::Commands::open_done, muck_world::specs::Commands::one_part, muck_live::specs::Lives::either))]
 pub fn open_line(guard: &mut Guard, d: u32, word: &[u8], text: &Line) -> Result<(), NoMemory>
     ensures { Did (open_done d guard.old.actor word.now text.now) guard.old guard.new result }
