@@ -7,17 +7,7 @@
 set -eu
 program=${BENCH_DB:-$(dirname "$0")/../crates/bench_db/out/bench_db}
 
-TIMEFORMAT='%3U %3S'
-
-# Microseconds of the processor, the least of five runs.
-best() {
-    local least=999999999 took
-    for _ in 1 2 3 4 5; do
-        took=$({ time "$program" "$@" >/dev/null; } 2>&1 | awk '{ printf "%.0f", ($1 + $2) * 1000000 }')
-        if [ "$took" -lt "$least" ]; then least=$took; fi
-    done
-    echo "$least"
-}
+. "$(dirname "$0")/timing.sh"
 
 # A line of the report: what, microseconds for so many, and microseconds for twice as many.
 report() {

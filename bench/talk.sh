@@ -6,17 +6,7 @@
 set -eu
 program=${BENCH_TALK:-$(dirname "$0")/../crates/bench_talk/out/bench_talk}
 
-TIMEFORMAT='%3U %3S'
-
-# Microseconds of the processor, the least of five runs.
-best() {
-    local least=999999999 took
-    for _ in 1 2 3 4 5; do
-        took=$({ time "$program" "$@" >/dev/null; } 2>&1 | awk '{ printf "%.0f", ($1 + $2) * 1000000 }')
-        if [ "$took" -lt "$least" ]; then least=$took; fi
-    done
-    echo "$least"
-}
+. "$(dirname "$0")/timing.sh"
 
 few=$(($(best 300 300000 0) - $(best 300 0 0)))
 many=$(($(best 3000 300000 0) - $(best 3000 0 0)))

@@ -4,3 +4,4 @@ pub mod Owners
 pub mod Unguarded
 pub mod Data
 pub mod Binding
+pub mod Counting

@@ -1,7 +1,8 @@
 // What encloses the place.
-ghost use Rattle.std.specs.Prelude.{◌≡◌, ◌+◌, ◌<◌, ◌≤◌, ◌++◌, [], ◌∷◌, length, map, vec_len, vec_capacity, IfSome, MatchOption, option_copied, slice_get};
+ghost use Rattle.std.specs.Prelude.{◌≡◌, ◌+◌, ◌<◌, ◌≤◌, ◌++◌, [], ◌∷◌, length, map, drop, vec_len, vec_capacity, IfSome, MatchOption, option_copied, slice_get};
 ghost use Rattle.muf_frame.specs.declared.mark.Mark.TheVariants.{Loop, Guard};
 ghost use Rattle.muf_frame.specs.Shown.{Shown, flat, locked_by, calls_by, opened_by, HeightFits, RoomAfter, left};
+ghost use Rattle.muf_frame.specs.Counting.{counting, with_next};
 
 use crate::{Frame, Mark, Turns};
 
@@ -15,6 +16,20 @@ pub(crate) fn push_mark(marks: &mut Vec<Mark>, mark: Mark)
     match marks.push(mark) {
         Ok(()) => {}
         Err(_) => unreachable!(),
+    }
+}
+
+// A mark's next index, where it is a loop that counts.
+#[inline(always)]
+fn count_on(mark: &mut Mark, next: Option<i32>)
+    ensures { mark.new ≡ counting next mark.old }
+{
+    if let Mark::Loop {
+        turns: Turns::Indices { next: index, .. },
+        ..
+    } = mark
+    {
+        *index = next;
     }
 }
 
@@ -36,8 +51,10 @@ impl Frame {
     }
 
     /// The innermost mark.
+    #[inline(always)]
     pub fn innermost(&self) -> Option<&Mark>
-        ensures { option_copied result ≡ slice_get self.now.marks 0 }
+        ensures value { option_copied result ≡ slice_get self.now.marks 0 }
+        ensures first { MatchOption result (self.now.marks ≡ []) (λ m. self.now.marks ≡ m.now ∷ drop 1 self.now.marks) }
     {
         if self.marks.is_empty() {
             None
@@ -79,6 +96,18 @@ impl Frame {
         );
         self.opened += 1;
         self.locked = locked;
+    }
+
+    /// The innermost mark goes on at another index, where it is a loop that counts; else it stays as it is. Takes no
+    /// memory.
+    #[inline(always)]
+    pub fn set_next(&mut self, next: Option<i32>)
+        ensures { self.new ≡ record self.old { marks = with_next next self.old.marks } }
+    {
+        let count = self.marks.len();
+        if count > 0 {
+            count_on(&mut self.marks[count - 1], next);
+        }
     }
 
     /// Leaves the innermost loop, TRY or call, `None` exactly where there is none. Behind a call the variables of the

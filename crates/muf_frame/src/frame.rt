@@ -56,6 +56,7 @@ impl Model for Frame {
 
 impl Frame {
     /// The place of the next instruction.
+    #[inline(always)]
     pub fn place(&self) -> usize
         ensures { result ≡ self.now.place }
     {
@@ -77,6 +78,7 @@ impl Frame {
     }
 
     /// Goes to a place.
+    #[inline(always)]
     pub fn go_to(&mut self, place: usize)
         ensures { self.new ≡ record self.old { place = place } }
     {

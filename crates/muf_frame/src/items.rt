@@ -10,6 +10,7 @@ use muf_model::Value;
 
 // The integer that a value is.
 #[tactic(auto, using(crate::proofs::Data::item_steps))]
+#[inline(always)]
 fn as_int(value: &Value) -> Option<i32>
     ensures { result ≡ as_int (view value.now) }
 {
@@ -47,6 +48,7 @@ fn as_object(value: &Value) -> Option<Dbref>
 impl Frame {
     /// The integer at this depth below the top; `None` exactly where another item or none is there.
     #[tactic(auto, using(crate::proofs::Data::list_steps))]
+    #[inline(always)]
     pub fn int_at(&self, depth: usize) -> Option<i32>
         ensures { result ≡ int_at depth (flat self.now).stack }
     {

@@ -19,6 +19,7 @@ fn reverse_from(items: &mut [Value], at: usize)
 
 impl Frame {
     /// The count of all items.
+    #[inline(always)]
     pub fn len(&self) -> usize
         ensures value { result ≡ length self.now.stack }
         ensures most { result ≤ 1024 }
@@ -51,6 +52,7 @@ impl Frame {
 
     /// Refused where fewer items stand above the locked part: `StackLocked` where the whole stack has enough of them,
     /// else `StackEmpty`.
+    #[inline(always)]
     pub fn need(&self, count: usize) -> Result<(), MufFault>
         requires { count ≤ 4294967296 }
         ensures { MatchResult result (λ _. locked_by (flat self.now).marks + count ≤ length self.now.stack) (λ f. (length self.now.stack < locked_by (flat self.now).marks + count) × (f ≡ too_few count (flat self.now).stack)) }
@@ -65,6 +67,7 @@ impl Frame {
     }
 
     /// The item at this depth below the top, from 0; `None` exactly where there are no more.
+    #[inline(always)]
     pub fn peek(&self, depth: usize) -> Option<&Value>
         ensures { option_copied result ≡ slice_get self.now.stack depth }
     {
@@ -76,6 +79,7 @@ impl Frame {
     }
 
     /// Puts an item on the top, where there is room. Takes no memory.
+    #[inline(always)]
     pub fn push_item(&mut self, item: Value)
         requires { length self.old.stack < 1024 }
         ensures { self.new ≡ record self.old { stack = item ∷ self.old.stack } }
@@ -87,6 +91,7 @@ impl Frame {
     }
 
     /// Takes the top item, locked or not; `None` exactly where there is none.
+    #[inline(always)]
     pub fn pop_item(&mut self) -> Option<Value>
         ensures some { self.old ≡ record self.new { stack = option_to_list result ++ self.new.stack } }
         ensures none { IfNone result (self.old.stack ≡ []) }
@@ -97,6 +102,7 @@ impl Frame {
 
     /// Puts an item on the top: `StackFull` exactly where the stack is full, and then it is unchanged. Takes no
     /// memory.
+    #[inline(always)]
     pub fn push(&mut self, item: Value) -> Result<(), MufFault>
         ensures { MatchResult result (λ _. (length self.old.stack < 1024) × (self.new ≡ record self.old { stack = item ∷ self.old.stack })) (λ f. (length self.old.stack ≡ 1024) × (f ≡ StackFull) × (self.new ≡ self.old)) }
     {
@@ -110,6 +116,7 @@ impl Frame {
 
     /// Takes the top item: `StackEmpty` exactly where there is none, `StackLocked` exactly where it is locked, and
     /// then the frame is unchanged. Takes no memory.
+    #[inline(always)]
     pub fn pop(&mut self) -> Result<Value, MufFault>
         ensures { MatchResult result (λ v. (locked_by (flat self.old).marks < length self.old.stack) × (self.old ≡ record self.new { stack = v ∷ self.new.stack })) (λ f. (length self.old.stack ≤ locked_by (flat self.old).marks) × (f ≡ too_few 1 (flat self.old).stack) × (self.new ≡ self.old)) }
     {

@@ -2,3 +2,4 @@ pub mod Lockstep
 pub mod Running
 pub mod Stacks
 pub mod Turning
+pub mod GoesOn

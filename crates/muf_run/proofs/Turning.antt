@@ -1,5 +1,5 @@
 -- What is left of a collection behind so many turns.
-use Rattle.std.proofs.Common.{◌≡◌, ℕ, zero, suc, ◌+◌, List, [], ◌∷◌, drop, map, Some, None, refl, sym, ap, ◌∙◌, arith}
+use Rattle.std.proofs.Common.{◌≡◌, ℕ, zero, suc, ◌+◌, List, [], ◌∷◌, drop, map, Some, None, refl, ap, ◌∙◌, arith}
 use Rattle.std.specs.Prelude.{slice_get, pos}
 use Rattle.muf_model.specs.declared.value.Value.{Value}
 use Rattle.muf_model.specs.declared.value.Pair.{Pair}

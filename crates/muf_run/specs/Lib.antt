@@ -2,3 +2,4 @@ pub mod Machine
 pub mod Alike
 pub mod Keys
 pub mod Runs
+pub mod Ends

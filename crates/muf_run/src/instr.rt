@@ -39,6 +39,7 @@ fn constant(literal: &Literal) -> Result<Value, NoMemory>
 
 // A primitive of the stack.
 #[tactic(auto, using(crate::proofs::Stacks::became_answered))]
+#[inline(always)]
 fn stack_word(alloc: Global, code: &Code, frame: &mut Frame, prim: Prim) -> Result<Ran, NoMemory>
     requires { family_of prim ≡ family.Stack }
     ensures { IfOk result (λ ran. next_of ran (flat frame.new) ≡ machine.answered code.now (stack_row prim (scope_of (length code.now.words) (flat frame.old)) (flat frame.old).stack) (flat frame.old)) }
@@ -53,6 +54,7 @@ fn stack_word(alloc: Global, code: &Code, frame: &mut Frame, prim: Prim) -> Resu
 
 // A primitive of numbers.
 #[tactic(auto, using(crate::proofs::Stacks::became_answered))]
+#[inline(always)]
 fn number_word(alloc: Global, frame: &mut Frame, prim: Prim) -> Result<Ran, NoMemory>
     requires { family_of prim ≡ family.Number }
     ensures { IfOk result (λ ran. (code : Codes) → next_of ran (flat frame.new) ≡ machine.answered code (number_row prim (locked_by (flat frame.old).marks) (flat frame.old).stack) (flat frame.old)) }
@@ -87,6 +89,7 @@ fn until_word(alloc: Global, frame: &mut Frame) -> Result<Ran, NoMemory>
 }
 
 // IF, with the place of its second way.
+#[inline(always)]
 fn branch(alloc: Global, frame: &mut Frame, to: usize) -> Result<Ran, NoMemory>
     ensures { IfOk result (λ ran. next_of ran (flat frame.new) ≡ machine.branch to (flat frame.old)) }
 {
@@ -101,6 +104,7 @@ fn branch(alloc: Global, frame: &mut Frame, to: usize) -> Result<Ran, NoMemory>
 }
 
 // `;`, REPEAT and UNTIL.
+#[inline(always)]
 fn close(alloc: Global, frame: &mut Frame, closer: Closer) -> Result<Ran, NoMemory>
     ensures { IfOk result (λ ran. next_of ran (flat frame.new) ≡ machine.close closer (flat frame.old)) }
 {
@@ -121,6 +125,7 @@ fn address(alloc: Global, frame: &mut Frame, word: u32) -> Result<Ran, NoMemory>
 }
 
 // A local primitive.
+#[inline(always)]
 fn primitive(alloc: Global, code: &Code, frame: &mut Frame, prim: Prim) -> Result<Ran, NoMemory>
     requires { is_local prim ≡ true }
     ensures { IfOk result (λ ran. next_of ran (flat frame.new) ≡ machine.answered code.now (primitive prim (scope_of (length code.now.words) (flat frame.old)) (flat frame.old).stack) (flat frame.old)) }
@@ -135,6 +140,7 @@ fn primitive(alloc: Global, code: &Code, frame: &mut Frame, prim: Prim) -> Resul
 
 // A word, with the place after it.
 #[tactic(auto, using(muf_frame::proofs::Data::item_steps))]
+#[inline(always)]
 fn word(
     alloc: Global,
     code: &Code,
@@ -171,6 +177,7 @@ fn word(
 }
 
 // An instruction, with the place after it. BEGIN is none of its own.
+#[inline(always)]
 pub(crate) fn instr(
     alloc: Global,
     code: &Code,

@@ -15,6 +15,7 @@ use std::alloc::Global;
 
 // Takes the top item as a truth.
 #[tactic(auto, using(muf_frame::proofs::Data::data_steps))]
+#[inline(always)]
 pub(crate) fn test(frame: &mut Frame) -> Result<bool, MufFault>
     ensures { (then_go : Flat → Next) (else_go : Flat → Next) → machine.test (flat frame.old) then_go else_go ≡ tested_as result (flat frame.new) then_go else_go }
 {
@@ -24,6 +25,7 @@ pub(crate) fn test(frame: &mut Frame) -> Result<bool, MufFault>
 
 // Pushes an item.
 #[tactic(auto, using(muf_frame::proofs::Data::data_steps))]
+#[inline(always)]
 pub(crate) fn push(alloc: Global, frame: &mut Frame, item: Value) -> Result<Ran, NoMemory>
     ensures { IfOk result (λ ran. next_of ran (flat frame.new) ≡ machine.pushed (view item) (flat frame.old)) }
 {

@@ -6,6 +6,7 @@ mod items;
 mod keys;
 mod loops;
 mod marks;
+mod quick;
 mod ran;
 mod run;
 #[cfg(test)]

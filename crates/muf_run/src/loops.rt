@@ -8,7 +8,7 @@ ghost use Rattle.muf_run.specs.Machine as machine;
 ghost use Rattle.muf_run.specs.Machine.{next_of};
 
 use crate::items::push;
-use crate::marks::fault;
+use crate::marks::{fault, leave_loop};
 use crate::ran::Ran;
 use muck_model::NoMemory;
 use muf_frame::{Frame, Mark, Turns};
@@ -16,7 +16,8 @@ use muf_model::{MufFault, OPEN_MOST, Value};
 use std::alloc::Global;
 
 // Whether a loop makes a turn at this index.
-fn has_turn(index: i32, last: i32, step: i32) -> bool
+#[inline(always)]
+pub(crate) fn has_turn(index: i32, last: i32, step: i32) -> bool
     ensures { result ≡ has_turn index last step }
 {
     if step > 0 {
@@ -27,7 +28,8 @@ fn has_turn(index: i32, last: i32, step: i32) -> bool
 }
 
 // The sum, where it fits.
-fn next_index(index: i32, step: i32) -> Option<i32>
+#[inline(always)]
+pub(crate) fn next_index(index: i32, step: i32) -> Option<i32>
     ensures { result ≡ next_index index step }
 {
     index.checked_add(step)
@@ -35,10 +37,11 @@ fn next_index(index: i32, step: i32) -> Option<i32>
 
 // The test of a FOR's index.
 #[tactic(auto, using(muf_frame::proofs::Data::data_steps))]
+#[inline(always)]
 pub(crate) fn index_test(alloc: Global, frame: &mut Frame) -> Result<Ran, NoMemory>
     ensures { IfOk result (λ ran. next_of ran (flat frame.new) ≡ machine.index_test (flat frame.old) (flat frame.old).marks) }
 {
-    match frame.pop_mark() {
+    match frame.innermost() {
         Some(
             Mark::Loop {
                 turns: Turns::Indices {
@@ -46,29 +49,23 @@ pub(crate) fn index_test(alloc: Global, frame: &mut Frame) -> Result<Ran, NoMemo
                     last,
                     step,
                 },
-                again,
-                after,
+                ..
             },
         ) => {
-            if has_turn(index, last, step) {
-                let next = next_index(index, step);
-                frame.push_loop(Turns::Indices { next, last, step }, again, after);
+            let (index, step) = (*index, *step);
+            if has_turn(index, *last, step) {
+                frame.set_next(next_index(index, step));
                 push(alloc, frame, Value::Int(index))
             } else {
-                frame.go_to(after);
-                Ok(Ran::Going(0))
+                Ok(leave_loop(frame))
             }
         }
         Some(
             Mark::Loop {
                 turns: Turns::Indices { next: None, .. },
-                after,
                 ..
             },
-        ) => {
-            frame.go_to(after);
-            Ok(Ran::Going(0))
-        }
+        ) => Ok(leave_loop(frame)),
         _ => Ok(Ran::Ended),
     }
 }

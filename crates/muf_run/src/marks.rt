@@ -61,21 +61,20 @@ pub(crate) fn leave_loop(frame: &mut Frame) -> Ran
 
 // CONTINUE and REPEAT.
 #[tactic(auto, using(muf_frame::proofs::Data::data_steps))]
+#[inline(always)]
 pub(crate) fn next_turn(frame: &mut Frame) -> Ran
     ensures { next_of result (flat frame.new) ≡ machine.next_turn (flat frame.old) (flat frame.old).marks }
 {
-    while let Some(mark) = frame.pop_mark() {
+    while let Some(mark) = frame.innermost() {
         match mark {
-            Mark::Loop {
-                turns,
-                again,
-                after,
-            } => {
-                frame.push_loop(turns, again, after);
+            Mark::Loop { again, .. } => {
+                let again = *again;
                 frame.go_to(again);
                 return Ran::Going(0);
             }
-            Mark::Guard { .. } => {}
+            Mark::Guard { .. } => {
+                let _left = frame.pop_mark();
+            }
             Mark::Back { .. } | Mark::Leave { .. } => return Ran::Ended,
         }
     }

@@ -1,5 +1,5 @@
 // Units of a program.
-ghost use Rattle.std.specs.Prelude.{◌≡◌, ◌<◌, ◌+◌, ℕ, List, ◌∷◌, ◌≤◌, IfOk, IfSome, IfNone, slice_get, length, option_copied, zero, IsTrue, IsFalse};
+ghost use Rattle.std.specs.Prelude.{◌≡◌, ◌<◌, ◌+◌, ℕ, List, ◌∷◌, ◌≤◌, IfOk, IfSome, IfNone, slice_get, length, option_copied, zero, IsTrue, IsFalse, Ok};
 ghost use Rattle.muf_model.specs.declared.code.Code.{Code};
 ghost use Rattle.muf_model.specs.Source.{Source};
 ghost use Rattle.muf_model.specs.Unit.{unit, units};
@@ -8,12 +8,14 @@ ghost use Rattle.muf_model.specs.Fits.{FitsState, Fits};
 ghost use Rattle.muf_frame.specs.Shown.{flat};
 ghost use Rattle.muf_run.specs.declared.ran.Ran.TheVariants.{Going};
 ghost use Rattle.muf_run.specs.Alike.{EndsAlike};
+ghost use Rattle.muf_run.specs.Ends.{UnitEnds};
 ghost use Rattle.muf_run.specs.Runs.{Passed, RunsAlike, taken, local_of, last_of};
 ghost use Rattle.muf_run.specs.Machine as machine;
-ghost use Rattle.muf_run.specs.Machine.{next_of};
+ghost use Rattle.muf_run.specs.Machine.{next_of, going};
 
 use crate::instr::instr;
 use crate::marks::fault;
+use crate::quick::quick;
 use crate::ran::Ran;
 use muck_model::NoMemory;
 use muf_frame::{Frame, Turns};
@@ -36,7 +38,8 @@ pub enum Local {
 }
 
 // The instruction at the frame's place.
-fn fetch<'a>(code: &'a Code, frame: &Frame) -> Option<&'a Placed>
+#[inline(always)]
+pub(crate) fn fetch<'a>(code: &'a Code, frame: &Frame) -> Option<&'a Placed>
     ensures value { option_copied result ≡ slice_get code.now.placed frame.now.place }
     ensures within { IfSome result (λ _. frame.now.place < length code.now.placed) }
     ensures room { IfSome result (λ _. frame.now.place < 18446744073709551615) }
@@ -68,8 +71,8 @@ fn settle(code: &Code, frame: &mut Frame) -> bool
     true
 }
 
-// One unit.
-fn unit(alloc: Global, code: &Code, frame: &mut Frame) -> Result<Ran, NoMemory>
+// One unit, where a BEGIN may come next.
+fn settled_unit(alloc: Global, code: &Code, frame: &mut Frame) -> Result<Ran, NoMemory>
     ensures { IfOk result (λ ran. (codes : List Code) (s : Source) → FitsState (code.now ∷ codes) (flat frame.old) s → EndsAlike (code.now ∷ codes) (next_of ran (flat frame.new)) (unit s)) }
 {
     if !settle(code, frame) {
@@ -84,15 +87,48 @@ fn unit(alloc: Global, code: &Code, frame: &mut Frame) -> Result<Ran, NoMemory>
     }
 }
 
+// One unit.
+#[inline(always)]
+fn unit(alloc: Global, code: &Code, frame: &mut Frame) -> Result<Ran, NoMemory>
+    ensures { IfOk result (λ ran. (codes : List Code) (s : Source) → FitsState (code.now ∷ codes) (flat frame.old) s → EndsAlike (code.now ∷ codes) (next_of ran (flat frame.new)) (unit s)) }
+{
+    match fetch(code, frame) {
+        None => Ok(Ran::Ended),
+        Some(placed) => match &placed.instr {
+            Instr::Begin(_) => settled_unit(alloc, code, frame),
+            other => {
+                let next = frame.place() + 1;
+                instr(alloc, code, frame, other, next)
+            }
+        },
+    }
+}
+
 // Whether the process goes on in the same program.
-fn goes_on(ran: &Ran) -> bool
-    ensures yes { IsTrue result → ran.now ≡ Going 0 }
-    ensures no { IsFalse result → ran.now ≡ Going 0 → ⊥ }
+fn goes_on(ran: &Result<Ran, NoMemory>) -> bool
+    ensures yes { IsTrue result → ran.now ≡ Ok (Going 0) }
+    ensures no { IsFalse result → ran.now ≡ Ok (Going 0) → ⊥ }
 {
     match ran {
-        Ran::Going(programs) => *programs == 0,
-        Ran::Ended | Ran::Faulted(_) | Ran::Shared(_) => false,
+        Ok(Ran::Going(programs)) => *programs == 0,
+        Ok(Ran::Ended | Ran::Faulted(_) | Ran::Shared(_)) | Err(_) => false,
     }
+}
+
+// One unit. None where the process goes on in the same program, and else how the unit ended.
+#[inline(always)]
+fn step(alloc: Global, code: &Code, frame: &mut Frame) -> Option<Result<Ran, NoMemory>>
+    ensures on { IfNone result (UnitEnds code.now (flat frame.old) (going 0 (flat frame.new))) }
+    ensures over { IfSome result (λ r. IfOk r (λ ran. (ran ≡ Going 0 → ⊥) × UnitEnds code.now (flat frame.old) (next_of ran (flat frame.new)))) }
+{
+    if quick(code, frame) {
+        return None;
+    }
+    let ran = unit(alloc, code, frame);
+    if goes_on(&ran) {
+        return None;
+    }
+    Some(ran)
 }
 
 // The answer of a run whose last unit ended so.
@@ -135,11 +171,13 @@ pub fn run_local(
 {
     let mut taken = 0;
     while taken < most {
-        let ran = unit(alloc, code, frame)?;
-        if !goes_on(&ran) {
-            return Ok(finish(frame, ran, taken));
+        match step(alloc, code, frame) {
+            None => taken += 1,
+            Some(ran) => {
+                let ran = ran?;
+                return Ok(finish(frame, ran, taken));
+            }
         }
-        taken += 1;
     }
     frame.set_units(taken);
     Ok(Local::Spent)

@@ -11,6 +11,7 @@ use muf_frame::{Frame, PrimFault};
 use muf_model::{MufFault, Prim};
 
 // One of the primitives of numbers.
+#[inline(always)]
 fn answer(prim: Prim, frame: &mut Frame) -> Result<(), MufFault>
     requires { family_of prim ≡ Number }
     ensures { Answered (number_row prim (locked_by (flat frame.old).marks) (flat frame.old).stack) frame.old frame.new result }
@@ -48,6 +49,7 @@ fn answer(prim: Prim, frame: &mut Frame) -> Result<(), MufFault>
 
 /// Uses a primitive of numbers: the frame is as its row says, or unchanged and the fault is that of the row. Takes no
 /// memory, and so `NoMemory` never comes.
+#[inline(always)]
 pub fn apply(prim: Prim, frame: &mut Frame) -> Result<(), PrimFault>
     requires { family_of prim ≡ Number }
     ensures { Applied (number_row prim (locked_by (flat frame.old).marks) (flat frame.old).stack) frame.old frame.new result }

@@ -12,6 +12,7 @@ use muf_frame::Frame;
 use muf_model::{MufFault, STACK_MOST, Value};
 
 /// POP.
+#[inline(always)]
 pub(crate) fn pop(frame: &mut Frame) -> Result<(), MufFault>
     ensures { Answered (stack_row Pop (scope_of 0 (flat frame.old)) (flat frame.old).stack) frame.old frame.new result }
 {
@@ -20,6 +21,7 @@ pub(crate) fn pop(frame: &mut Frame) -> Result<(), MufFault>
 }
 
 /// SWAP.
+#[inline(always)]
 pub(crate) fn swap(frame: &mut Frame) -> Result<(), MufFault>
     ensures { Answered (stack_row Swap (scope_of 0 (flat frame.old)) (flat frame.old).stack) frame.old frame.new result }
 {

@@ -22,6 +22,7 @@ pub enum Done {
 }
 
 // One of the primitives that take no memory.
+#[inline(always)]
 fn moved(prim: Prim, frame: &mut Frame) -> Result<(), MufFault>
     requires { moves prim ≡ true }
     ensures { Answered (stack_row prim (scope_of 0 (flat frame.old)) (flat frame.old).stack) frame.old frame.new result }
@@ -73,6 +74,7 @@ fn copied(prim: Prim, frame: &mut Frame) -> Result<(), PrimFault>
 /// says, or unchanged and the fault is that of the row. After `NoMemory` nothing is said of the frame; POP, SWAP, ROT,
 /// ROTATE, PUT, NIP, POPN, REVERSE, DEPTH, the marks, `!`, the tests of kinds and EXECUTE take no memory.
 #[tactic(auto, using(crate::proofs::Naming::same_row))]
+#[inline(always)]
 pub fn apply(prim: Prim, frame: &mut Frame, words: usize) -> Result<Done, PrimFault>
     requires { family_of prim ≡ Stack }
     ensures value { Does (stack_row prim (scope_of words (flat frame.old)) (flat frame.old).stack) frame.old frame.new result }
