@@ -23,7 +23,7 @@ ends_stepped : (a : Actor) (free : Dbref → Bool) (given : Option Act) (step : 
 unfolding stepped
 ends_stepped a free given step s f p = record { law = p.law }
 
-quiet_lines_shown : (d : ℕ) (lines : List (List ℕ)) → Quiet (lines_shown d lines)
+pub quiet_lines_shown : (d : ℕ) (lines : List (List ℕ)) → Quiet (lines_shown d lines)
 unfolding lines_shown
 quiet_lines_shown d [] = search shown
 quiet_lines_shown d (line ∷ lines) = quiet_followed (tell d line) (lines_shown d lines) (quiet_tell d line) (quiet_lines_shown d lines)

@@ -1,0 +1,14 @@
+//! The editor of programs: a line that comes while a program is edited changes the lines of the editor, or keeps them as
+//! the source of the program, just as `edited` of `muck_world` says, and changes no more than is open to who typed it.
+#![tactic(auto)]
+
+mod commands;
+mod editor;
+mod keeping;
+mod lines;
+mod showing;
+#[cfg(test)]
+mod tests;
+
+pub use editor::Editor;
+pub use muck_world::EditStep;

@@ -1,0 +1,1 @@
+// What no contract says: that with ample memory each line is done.
