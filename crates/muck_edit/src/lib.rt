@@ -2,6 +2,7 @@
 //! the source of the program, just as `edited` of `muck_world` says, and changes no more than is open to who typed it.
 #![tactic(auto)]
 
+mod checks;
 mod commands;
 mod editor;
 mod keeping;
@@ -10,5 +11,6 @@ mod showing;
 #[cfg(test)]
 mod tests;
 
+pub use checks::is_open;
 pub use editor::Editor;
 pub use muck_world::EditStep;
