@@ -10,4 +10,3 @@ pub mod Lines
 pub mod Reached
 pub mod Runs
 pub mod Turns
-pub mod Edited
