@@ -1,7 +1,7 @@
 // What no contract says: that with ample memory each call answers.
 use crate::{
     after_sign, after_word, cant_be_done, find_object, find_one, find_player, full_parts,
-    incomplete, line_of, list, name_and, refuse, show_name, show_others, two_parts,
+    incomplete, list, name_and, refuse, show_name, show_others, two_parts,
 };
 use muck_board::Board;
 use muck_db::Db;
@@ -82,7 +82,7 @@ fn cuts_parts(rt: HostRuntime) -> Result<(), Fail> {
 
 // What a name finds: as one object, as an object that is there, and as a player.
 fn finds(guard: &mut Guard<'_>, name: &[u8]) -> Result<[i32; 3], Fail> {
-    let name = line_of(guard.alloc(), name)?;
+    let name = Line::new(guard.alloc(), name)?;
     let one = find_one(guard, 1, &name)?.unwrap_or(Dbref(-1));
     let object = find_object(guard, 1, &name)?.unwrap_or(Dbref(-1));
     let player = find_player(guard, 1, &name)?.unwrap_or(Dbref(-1));
