@@ -10,3 +10,4 @@ pub mod Lines
 pub mod Reached
 pub mod Runs
 pub mod Turns
+pub mod Edited

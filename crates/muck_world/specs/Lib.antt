@@ -13,3 +13,5 @@ pub mod Licences
 pub mod Histories
 pub mod Sound
 pub mod Rows
+pub mod Editing
+pub mod EditRows

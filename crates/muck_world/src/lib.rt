@@ -3,12 +3,14 @@
 //! is what those definitions need of a line of text: its words.
 #![tactic(auto)]
 
+mod edit;
 mod outcome;
 #[cfg(test)]
 mod tests;
 mod word;
 mod words;
 
+pub use edit::{EditCommand, EditStep};
 pub use outcome::Outcome;
 pub use word::{BuildWord, Message, PlayWord};
 pub use words::{alike, cut_word, trim};

@@ -1,0 +1,4 @@
+pub mod There
+pub mod Shown
+pub mod Opens
+pub mod Opened

@@ -1,0 +1,76 @@
+// Keeping the source of a program, by leave.
+ghost use Rattle.std.specs.Prelude.{◌≡◌};
+ghost use Rattle.muck_rights.specs.declared.act.Act.{Act};
+ghost use Rattle.muck_rights.specs.Changing.{lines_kept};
+ghost use Rattle.muck_world.specs.declared.edit.EditCommand.{EditCommand};
+ghost use Rattle.muck_world.specs.Editing.{IsOpen, edit_done};
+ghost use Rattle.muck_perm.specs.Guards.{Did, IsLeave, world_of};
+ghost use Rattle.muck_edit.specs.Edits.{Edits};
+
+use crate::lines::copy_lines;
+use crate::showing::tell_exited;
+use cmd_parts::refuse;
+use muck_model::{EditState, NoMemory};
+use muck_perm::{Guard, Pass, verdict};
+use muck_rights::Act;
+use muck_world::EditStep;
+
+// Keeps the lines of the editor as the source of its program.
+#[tactic(auto, using(crate::proofs::There::makes_there))]
+fn keep(guard: &mut Guard, pass: Pass, state: &EditState) -> Result<(), NoMemory>
+    requires leave { IsLeave pass (Act.Edit state.now.program) guard.old }
+    requires open { IsOpen state.now (world_of guard.old) }
+    ensures { Did (lines_kept state.now.program state.now.lines) guard.old guard.new result }
+{
+    let lines = copy_lines(guard.alloc(), &state.lines)?;
+    match guard.set_lines(pass, state.program, lines) {
+        Ok(()) => Ok(()),
+        Err(_) => unreachable!(),
+    }
+}
+
+/// `c`: keeps the source, which is then to be compiled.
+#[tactic(auto, unfolding(muck_world::specs::Editing::edit_done, muck_world::specs::Editing::stepped, muck_rights::specs::Asking::asked))]
+pub fn compile(guard: &mut Guard, d: u32, state: &EditState) -> Result<EditStep, NoMemory>
+    requires { IsOpen state.now (world_of guard.old) }
+    ensures { Edits (edit_done d guard.old.actor state.now EditCommand.Compile) guard.old guard.new state.now result }
+{
+    let actor = guard.actor();
+    let act = Act::Edit {
+        program: state.program,
+    };
+    match verdict(guard.db(), &actor, &act) {
+        Err(denial) => {
+            refuse(guard, d, denial)?;
+            Ok(EditStep::Stay)
+        }
+        Ok(pass) => {
+            keep(guard, pass, state)?;
+            Ok(EditStep::Compile)
+        }
+    }
+}
+
+/// `q`: keeps the source, where that is allowed, and leaves.
+#[tactic(auto, unfolding(muck_world::specs::Editing::edit_done, muck_world::specs::Editing::stepped, muck_rights::specs::Asking::asked, muck_live::specs::Lives::followed))]
+pub fn quit(guard: &mut Guard, d: u32, state: &EditState) -> Result<EditStep, NoMemory>
+    requires { IsOpen state.now (world_of guard.old) }
+    ensures { Edits (edit_done d guard.old.actor state.now EditCommand.Quit) guard.old guard.new state.now result }
+{
+    let actor = guard.actor();
+    let act = Act::Edit {
+        program: state.program,
+    };
+    match verdict(guard.db(), &actor, &act) {
+        Err(denial) => {
+            refuse(guard, d, denial)?;
+            tell_exited(guard, d)?;
+            Ok(EditStep::Left)
+        }
+        Ok(pass) => {
+            keep(guard, pass, state)?;
+            tell_exited(guard, d)?;
+            Ok(EditStep::Left)
+        }
+    }
+}
