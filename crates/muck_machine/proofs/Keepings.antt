@@ -4,13 +4,13 @@ use Rattle.std.proofs.lemmas.Bool.{cond-true, cond-false}
 use Rattle.muck_model.specs.Told.{Told}
 use Rattle.muck_model.specs.declared.event.Entry.{Entry}
 use Rattle.muck_model.specs.declared.event.Event.TheVariants.{Died}
-use Rattle.muck_world.specs.World.{World}
+use Rattle.muck_event.specs.World.{World}
 use Rattle.std.proofs.Common.{◌<◌, arith, find, ◌||◌}
 use Rattle.std.specs.Option.{option_map}
 use Rattle.muck_live.specs.Connections.{is_ready}
-use Rattle.muck_world.specs.Steps.{happened, effect, is_died, is_lawful, is_allowed, next_ready}
-use Rattle.muck_world.specs.Histories.{History, after, now, entered}
-use Rattle.muck_world.proofs.Living.{dead-happened}
+use Rattle.muck_event.specs.Steps.{happened, effect, is_died, is_lawful, is_allowed, next_ready}
+use Rattle.muck_event.specs.Histories.{History, after, now, entered}
+use Rattle.muck_event.proofs.Living.{dead-happened}
 use Rattle.muck_machine.specs.Keeping.{Keeps}
 
 after-append : (es fs : List Entry) (w : World) → after w (es ++ fs) ≡ after (after w es) fs

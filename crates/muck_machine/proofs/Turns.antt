@@ -5,7 +5,7 @@ use Rattle.muck_live.specs.Connections.{Connection}
 use Rattle.muck_live.specs.Boards.{Board, on_connection, connection_in, with_connections}
 use Rattle.muck_live.specs.Lives.{Live, followed, unchanged}
 use Rattle.muck_board.specs.Lines.{HasNoLine, HasLine, BoardTakesLine}
-use Rattle.muck_world.specs.World.{World, connection, on_live}
+use Rattle.muck_event.specs.World.{World, connection, on_live}
 use Rattle.muck_world.specs.Talk.{command, waits, line_done, done}
 
 -- where a line waits, the line is done when it was taken

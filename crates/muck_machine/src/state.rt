@@ -4,8 +4,8 @@ ghost use Rattle.std.specs.Option.{option_map, option_map_or};
 ghost use Rattle.muck_model.specs.declared.event.Event.{Event};
 ghost use Rattle.muck_live.specs.Connections.{is_ready};
 ghost use Rattle.muck_live.specs.Lives.{tell};
-ghost use Rattle.muck_world.specs.World.{booted, connection, queue_of, is_leaving, on_live};
-ghost use Rattle.muck_world.specs.Steps.{is_allowed, happened};
+ghost use Rattle.muck_event.specs.World.{booted, connection, queue_of, is_leaving, on_live};
+ghost use Rattle.muck_event.specs.Steps.{is_allowed, happened};
 ghost use Rattle.muck_world.specs.Talk.{command};
 
 mod going;
@@ -33,7 +33,7 @@ pub struct State {
 }
 
 impl Model for State {
-    ghost use Rattle.muck_world.specs.World.{World, no_dumps};
+    ghost use Rattle.muck_event.specs.World.{World, no_dumps};
     ghost use Rattle.std.specs.Prelude.{false};
 
     ghost Value = { World };
@@ -48,7 +48,7 @@ impl Model for State {
 
 impl State {
     /// The world of these objects at this moment, in which nobody is connected, and whose random numbers begin so.
-    #[tactic(auto, unfolding(muck_world::specs::World::booted))]
+    #[tactic(auto, unfolding(muck_event::specs::World::booted))]
     pub fn booted(alloc: Global, db: Db, tune: Tune, moment: u64, start: u64) -> Self
         ensures { result ≡ booted db tune moment start }
     {

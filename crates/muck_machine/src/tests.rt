@@ -19,7 +19,7 @@ enum Act {
 }
 
 // Closes a connection, where it is there.
-#[tactic(auto, unfolding(muck_world::specs::Steps::is_lawful))]
+#[tactic(auto, unfolding(muck_event::specs::Steps::is_lawful))]
 fn close(world: &mut World, d: u32) -> Result<bool, NoMemory> {
     if world.is_dead() || !world.connected(d) {
         return Ok(false);

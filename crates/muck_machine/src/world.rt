@@ -2,9 +2,9 @@
 ghost use Rattle.std.specs.Prelude.{◌≡◌, ◌≤◌, IfOk, OnOk, OnErr, MatchOption, length, take, min, true, false, if◌then◌else◌, nat_lt, is_some, [], List, ℕ};
 ghost use Rattle.std.specs.Option.{option_map_or};
 ghost use Rattle.muck_model.specs.declared.event.Event.{Event};
-ghost use Rattle.muck_world.specs.World.{starting, booted, connection, queue_of, is_leaving};
-ghost use Rattle.muck_world.specs.Steps.{is_lawful, next_ready};
-ghost use Rattle.muck_world.specs.Histories.{now, entered, by_porter};
+ghost use Rattle.muck_event.specs.World.{starting, booted, connection, queue_of, is_leaving};
+ghost use Rattle.muck_event.specs.Steps.{is_lawful, next_ready};
+ghost use Rattle.muck_event.specs.Histories.{now, entered, by_porter};
 
 use crate::origin::{Begun, Origin};
 use crate::state::State;
@@ -43,7 +43,7 @@ pub struct World {
 
 impl Model for World {
     ghost use Rattle.std.specs.Prelude.{◌≡◌, true, false};
-    ghost use Rattle.muck_world.specs.Histories.{History, after};
+    ghost use Rattle.muck_event.specs.Histories.{History, after};
     ghost use Rattle.muck_machine.specs.Keeping.{Keeps};
 
     ghost Value = { History };
@@ -83,7 +83,7 @@ impl World {
     }
 
     /// Room Zero and One as they are at first, and nobody connected: nothing has happened yet.
-    #[tactic(auto, unfolding(muck_world::specs::World::starting, muck_live::specs::Boards::first_tune))]
+    #[tactic(auto, unfolding(muck_event::specs::World::starting, muck_live::specs::Boards::first_tune))]
     pub fn starting(alloc: Global) -> Result<Self, NoMemory>
         ensures { IfOk result (λ w. w ≡ record { start = starting; entries = [] }) }
     {
@@ -108,7 +108,7 @@ impl World {
     }
 
     /// Whether memory was wanted, after which no entry but `Died` is lawful.
-    #[tactic(auto, unfolding(muck_world::specs::Histories::now))]
+    #[tactic(auto, unfolding(muck_event::specs::Histories::now))]
     pub fn is_dead(&self) -> bool
         ensures { result ≡ (now self.now).dead }
     {

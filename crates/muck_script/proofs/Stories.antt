@@ -2,10 +2,10 @@
 use Rattle.std.proofs.Common.{◌≡◌, ℕ, ◌+◌, ◌<◌, ◌≤◌, List, [], ◌∷◌, ◌++◌, length, length-append, append-nil, refl, sym, ◌∙◌, ap, arith, suc, zero, append_assoc, Some, None}
 use Rattle.muck_model.specs.declared.event.Entry.{Entry}
 use Rattle.muck_model.specs.declared.event.Event.TheVariants.{Exec}
-use Rattle.muck_world.specs.World.{World}
-use Rattle.muck_world.specs.Steps.{effect, next_ready}
-use Rattle.muck_world.specs.Histories.{History, now, extended, entered, by_porter}
-use Rattle.muck_world.proofs.Runs.{now-extended, extended-append}
+use Rattle.muck_event.specs.World.{World}
+use Rattle.muck_event.specs.Steps.{effect, next_ready}
+use Rattle.muck_event.specs.Histories.{History, now, extended, entered, by_porter}
+use Rattle.muck_event.proofs.Runs.{now-extended, extended-append}
 use Rattle.muck_script.specs.Story.{turn, turns}
 
 turns-some : (n : ℕ) (w : World) (d : ℕ) → next_ready w ≡ Some d → turns (suc n) w ≡ by_porter (Exec d) ∷ turns n (effect w (by_porter (Exec d)))

@@ -8,10 +8,10 @@ use Rattle.muck_script.specs.Lines.{lines_of}
 use Rattle.muck_live.specs.Output.{sent_lines, queue_most, bytes_of, lines_bytes, line_sent, lines_sent, sent, taken, lines_taken}
 use Rattle.muck_live.specs.Boards.{early_board, opened, closed, line_added, bytes_taken, told_one, leaving_one}
 use Rattle.muck_live.specs.Lives.{followed, reading, either, unchanged, tell, leave}
-use Rattle.muck_world.specs.World.{starting, booted}
+use Rattle.muck_event.specs.World.{starting, booted}
 use Rattle.muck_world.specs.Replies.{goodbye}
 use Rattle.muck_world.specs.Talk.{welcome, at_login, quit, command, waits, line_done, done, parted, gone_away}
-use Rattle.muck_world.specs.Steps.{is_lawful, effect, next_ready}
+use Rattle.muck_event.specs.Steps.{is_lawful, effect, next_ready}
 use Rattle.muck_script.specs.Script.{act_of, script_of, script_most}
 use Rattle.muck_script.specs.Story.{turns, served, line_story, told, transcript}
 

@@ -2,7 +2,7 @@
 use Rattle.std.specs.Prelude.{◌≡◌, List, [], ◌∷◌, ◌++◌}
 use Rattle.muck_model.specs.declared.event.Entry.{Entry}
 use Rattle.muck_model.specs.declared.event.Event.TheVariants.{Died}
-use Rattle.muck_world.specs.Histories.{History, extended, by_porter}
+use Rattle.muck_event.specs.Histories.{History, extended, by_porter}
 
 -- the first of these entries happened, and then memory was wanted
 pub record DiedDuring (entries : List Entry) (old new : History) : Type 0 where

@@ -1,6 +1,6 @@
 // The turns after a line.
 ghost use Rattle.std.specs.Prelude.{◌≡◌, IfOk, OnErr, length};
-ghost use Rattle.muck_world.specs.Histories.{now, extended};
+ghost use Rattle.muck_event.specs.Histories.{now, extended};
 ghost use Rattle.muck_script.specs.Story.{turns, turns_most};
 ghost use Rattle.muck_script.specs.Settling.{DiedDuring};
 

@@ -1,5 +1,5 @@
 -- What a line does in the editor is open to its actor.
-use Rattle.std.proofs.Common.{◌≡◌, ℕ, Bool, true, false, cond, List, [], ◌∷◌, length, codes, bytes_eq, nat_lt, Option, Some, None}
+use Rattle.std.proofs.Common.{ℕ, Bool, true, false, cond, List, [], ◌∷◌, length, codes, bytes_eq, nat_lt, Option, Some, None}
 use Rattle.muck_model.specs.declared.dbref.Dbref.{Dbref}
 use Rattle.muck_model.specs.declared.edit.EditState.{EditState}
 use Rattle.muck_live.specs.Lives.{Live, Change, unchanged, tell}
@@ -13,7 +13,7 @@ use Rattle.muck_world.specs.declared.edit.EditCommand.{EditCommand}
 use Rattle.muck_world.specs.declared.edit.EditCommand.TheVariants.{Insert, Delete, Show, Compile, Quit}
 use Rattle.muck_world.specs.declared.edit.EditStep.{EditStep}
 use Rattle.muck_world.specs.declared.edit.EditStep.TheVariants.{Stay}
-use Rattle.muck_world.specs.Editing.{Editing, exiting, illegal, edit_command, lines_most, stepped, with_line, line_inserted, lines_shown, edit_done, edit_some, edited_at, edited}
+use Rattle.muck_world.specs.Editing.{exiting, illegal, edit_command, lines_most, stepped, with_line, line_inserted, lines_shown, edit_done, edit_some, edited_at, edited}
 
 -- The answer of a line is its world, the state of the editor, and what follows.
 abbrev pub world_of : Live × EditState × EditStep → Live

@@ -1,13 +1,9 @@
 pub mod Positions
 pub mod Trims
-pub mod Living
 pub mod Showing
 pub mod Built
 pub mod Gone
 pub mod Permitted
 pub mod Numbered
 pub mod Lines
-pub mod Reached
-pub mod Runs
-pub mod Turns
 pub mod Edited

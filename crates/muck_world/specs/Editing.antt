@@ -1,8 +1,7 @@
 -- What a line does in the editor of programs.
-use Rattle.std.specs.Prelude.{◌≡◌, ℕ, ◌+◌, ◌-◌, ◌≤◌, ◌==◌, true, nat_lt, bytes_eq, if◌then◌else◌, List, [], ◌∷◌, length, insert, slice_range, codes, Option, Some, None, IfSome}
-use Rattle.std.specs.Option.{option_and_then}
+use Rattle.std.specs.Prelude.{◌≡◌, ℕ, ◌+◌, ◌-◌, ◌≤◌, ◌==◌, Bool, true, ◌&&◌, nat_lt, nat_le, bytes_eq, if◌then◌else◌, List, [], ◌∷◌, length, insert, slice_range, codes, Option, Some, None, IfSome}
+use Rattle.std.specs.Option.{option_map_or, option_and_then}
 use Rattle.std.specs.List.{remove_range}
-use Rattle.muck_model.specs.declared.dbref.Denial.{Denial}
 use Rattle.muck_model.specs.declared.edit.EditState.{EditState}
 use Rattle.muck_model.specs.Decimal.{decimal_of}
 use Rattle.muck_live.specs.Lives.{Live, Change, ◌▸◌, unchanged, tell}
@@ -132,3 +131,12 @@ pub record IsOpen (s : EditState) (w : Live) : Type 0 where
   pub program : is_program_at s.program w ≡ true
   pub few : length s.lines ≤ lines_most
   pub within : IfSome s.inserting (λ at. at ≤ length s.lines)
+
+-- the same, as it is asked
+
+-- lines are inserted between the lines, where they are
+abbrev pub is_between : EditState → Bool
+is_between s = option_map_or (λ at. nat_le at (length s.lines)) s.inserting true
+
+abbrev pub is_open : EditState → Live → Bool
+is_open s w = is_program_at s.program w && (nat_le (length s.lines) 4096 && is_between s)

@@ -1,5 +1,4 @@
 pub mod Texts
-pub mod World
 pub mod Replies
 pub mod Finding
 pub mod Talking
@@ -8,10 +7,7 @@ pub mod Building
 pub mod Commands
 pub mod Free
 pub mod Talk
-pub mod Steps
-pub mod Licences
-pub mod Histories
-pub mod Sound
-pub mod Rows
+pub mod Rising
+pub mod Company
 pub mod Editing
 pub mod EditRows

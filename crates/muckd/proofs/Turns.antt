@@ -2,11 +2,11 @@
 use Rattle.std.proofs.Common.{◌≡◌, ℕ, false, List, [], ◌∷◌, ◌++◌, refl, sym, ◌∙◌, ap, Option, Some, None, suc, zero, subst}
 use Rattle.muck_model.specs.declared.event.Entry.{Entry}
 use Rattle.muck_model.specs.declared.event.Event.TheVariants.{Exec, Died}
-use Rattle.muck_world.specs.World.{World}
-use Rattle.muck_world.specs.Steps.{effect, next_ready}
-use Rattle.muck_world.specs.Histories.{History, now, after, extended, by_porter}
-use Rattle.muck_world.proofs.Living.{dead-happened}
-use Rattle.muck_world.proofs.Runs.{now-extended}
+use Rattle.muck_event.specs.World.{World}
+use Rattle.muck_event.specs.Steps.{effect, next_ready}
+use Rattle.muck_event.specs.Histories.{History, now, after, extended, by_porter}
+use Rattle.muck_event.proofs.Living.{dead-happened}
+use Rattle.muck_event.proofs.Runs.{now-extended}
 use Rattle.muck_script.specs.Settling.{DiedDuring}
 use Rattle.muck_script.specs.Story.{turn, turns, told, text_of}
 use Rattle.muckd.specs.Plays.{Plays, Breaks}

@@ -3,8 +3,8 @@ ghost use Rattle.std.specs.Prelude.{◌≡◌, OnOk, Bool, ℕ};
 ghost use Rattle.std.specs.List.{list_any};
 ghost use Rattle.muck_model.specs.declared.event.Event.{Event};
 ghost use Rattle.muck_live.specs.Connections.{is_of};
-ghost use Rattle.muck_world.specs.World.{on_live};
-ghost use Rattle.muck_world.specs.Steps.{happened};
+ghost use Rattle.muck_event.specs.World.{on_live};
+ghost use Rattle.muck_event.specs.Steps.{happened};
 ghost use Rattle.muck_world.specs.Talk.{parted};
 
 use crate::commands::actor_of;

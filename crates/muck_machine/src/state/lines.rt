@@ -1,6 +1,6 @@
 // The lines of players.
 ghost use Rattle.std.specs.Prelude.{◌≡◌, IfOk, OnOk};
-ghost use Rattle.muck_world.specs.World.{on_live};
+ghost use Rattle.muck_event.specs.World.{on_live};
 ghost use Rattle.muck_world.specs.Finding.{actor_of};
 ghost use Rattle.muck_world.specs.Commands.{played};
 ghost use Rattle.muck_world.specs.Talk.{followed_up, in_world};

@@ -1,5 +1,5 @@
 use Rattle.std.proofs.Common.{◌≡◌, OnOk, sym, ◌∙◌, ap, subst, List, ℕ}
-use Rattle.muck_world.specs.World.{World, connection, on_live}
+use Rattle.muck_event.specs.World.{World, connection, on_live}
 use Rattle.muck_world.specs.Talk.{command, done}
 use Rattle.muck_machine.specs.contracts.state.State as state
 use Rattle.muck_machine.proofs.Turns.{line_taken, none_taken, on_ok_as}

@@ -13,11 +13,11 @@ use Rattle.muck_live.specs.Output.{bytes_of}
 use Rattle.muck_live.specs.Connections.{Connection, has_number, is_ready, placed, without, newcomer, connections_most, holds, lined}
 use Rattle.muck_live.specs.Boards.{player_in, opened, closed, line_added, bytes_taken, early_board}
 use Rattle.muck_live.specs.Lives.{Live, Change, followed, reading, on_board}
-use Rattle.muck_world.specs.World.{World, connection, queue_of, is_leaving, on_live, booted, starting}
+use Rattle.muck_event.specs.World.{World, connection, queue_of, is_leaving, on_live, booted, starting}
 use Rattle.muck_world.specs.Talk.{welcome, done, parted, gone_away}
-use Rattle.muck_world.specs.Steps.{is_allowed, is_lawful, happened, effect, next_ready}
-use Rattle.muck_world.specs.Histories.{by_porter}
-use Rattle.muck_world.specs.Sound.{IsAbove, IsRising, IsSound}
+use Rattle.muck_event.specs.Steps.{is_allowed, is_lawful, happened, effect, next_ready}
+use Rattle.muck_event.specs.Histories.{by_porter}
+use Rattle.muck_event.specs.Sound.{IsAbove, IsRising, IsSound}
 use Rattle.muck_world.proofs.Numbered.{numbers, rising_by, seating_quiet, seating_one}
 use Rattle.muck_world.proofs.Lines.{done_numbers, quiet_parted}
 

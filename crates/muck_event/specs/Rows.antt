@@ -36,10 +36,10 @@ use Rattle.muck_world.specs.Talking.{said, posed, who_lines, who_shown}
 use Rattle.muck_world.specs.Going.{ended, moving, gone, led, failed, succeeded, walked, went}
 use Rattle.muck_world.specs.Building.{is_name, making, dug, housed, thing_made, exit_made, opened_to, created_shown}
 use Rattle.muck_world.specs.Commands.{incomplete, one_part, two_parts, full_parts, play_word, play_done, play_words, play_line, build_word, open_done, build_done, build_line, or_else, commanded, played}
-use Rattle.muck_world.specs.World.{World, booted, starting}
+use Rattle.muck_event.specs.World.{World, booted, starting}
 use Rattle.muck_world.specs.Talk.{welcome, refused_login, quit, command, in_world, at_login, connecting, logged_in, proved, waits, line_done, done, parted, gone_away}
-use Rattle.muck_world.specs.Steps.{effect, is_lawful}
-use Rattle.muck_world.specs.Histories.{by_porter, after}
+use Rattle.muck_event.specs.Steps.{effect, is_lawful}
+use Rattle.muck_event.specs.Histories.{by_porter, after}
 
 -- a connection with this player, on which nothing waits
 abbrev pub seated : ℕ → Option Dbref → Connection

@@ -2,8 +2,8 @@
 use Rattle.std.proofs.Common.{◌≡◌, false, refl}
 use Rattle.muck_model.specs.declared.event.Event.{Event}
 use Rattle.muck_model.specs.declared.event.Event.TheVariants.{Opened, Input, Closed, Moment, Exec, Planned, Claim, Slice, Commit, Lost, Idle, Take, Cut, Stored, DumpFailed, Halt, StopSeen, Died}
-use Rattle.muck_world.specs.World.{World}
-use Rattle.muck_world.specs.Steps.{happened, is_died}
+use Rattle.muck_event.specs.World.{World}
+use Rattle.muck_event.specs.Steps.{happened, is_died}
 
 pub dead-happened : (event : Event) (w : World) → is_died event ≡ false → (happened w event).dead ≡ w.dead
 dead-happened (Opened d) w e = refl

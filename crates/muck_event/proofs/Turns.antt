@@ -17,15 +17,15 @@ use Rattle.muck_rights.proofs.Leaving.{whole_leave}
 use Rattle.muck_rights.proofs.Shown.{quiet_tell}
 use Rattle.muck_world.specs.declared.outcome.Outcome.{Outcome}
 use Rattle.muck_world.specs.declared.outcome.Outcome.TheVariants.{Start, Leave}
-use Rattle.muck_world.specs.World.{World, connection}
+use Rattle.muck_event.specs.World.{World, connection}
 use Rattle.muck_world.specs.Finding.{actor_of}
 use Rattle.muck_world.specs.Going.{Play}
 use Rattle.muck_world.specs.Free.{free_line}
 use Rattle.muck_world.specs.Commands.{played}
 use Rattle.muck_world.specs.Talk.{not_compiled, at_login, followed_up, in_world, command, waits, line_done, done, gone_away}
-use Rattle.muck_world.specs.Steps.{effect, happened}
-use Rattle.muck_world.specs.Licences.{Untouched, LineLicensed, TurnLicensed, EventLicensed}
-use Rattle.muck_world.specs.Histories.{AllLicensed}
+use Rattle.muck_event.specs.Steps.{effect, happened}
+use Rattle.muck_event.specs.Licences.{Untouched, LineLicensed, TurnLicensed, EventLicensed}
+use Rattle.muck_event.specs.Histories.{AllLicensed}
 use Rattle.muck_world.proofs.Showing.{quiet_waits}
 use Rattle.muck_world.proofs.Gone.{world_of}
 use Rattle.muck_world.proofs.Permitted.{waited_open}

@@ -1,7 +1,6 @@
--- Worlds that can be reached.
-use Rattle.std.specs.Prelude.{◌≡◌, ℕ, ◌<◌, false, List, [], ◌∷◌}
+-- Connections that stand by rising number.
+use Rattle.std.specs.Prelude.{ℕ, ◌<◌, List, [], ◌∷◌}
 use Rattle.muck_live.specs.Connections.{Connection}
-use Rattle.muck_world.specs.World.{World}
 
 -- every number is above n
 abbrev pub IsAbove : ℕ → List Connection → Type 0
@@ -11,8 +10,3 @@ IsAbove n (c ∷ cs) = (n < c.number) × IsAbove n cs
 abbrev pub IsRising : List Connection → Type 0
 IsRising [] = Unit {0}
 IsRising (c ∷ cs) = IsAbove c.number cs × IsRising cs
-
--- alive, and its connections stand by rising number
-pub record IsSound (w : World) : Type 0 where
-  pub alive : w.dead ≡ false
-  pub rising : IsRising w.live.board.connections

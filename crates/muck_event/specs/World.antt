@@ -6,6 +6,8 @@ use Rattle.muck_live.specs.Start.{first_objects}
 use Rattle.muck_live.specs.Connections.{Connection}
 use Rattle.muck_live.specs.Boards.{connection_in, queue_in, is_leaving_in, first_tune, early_board}
 use Rattle.muck_live.specs.Lives.{Live, Change}
+use Rattle.muck_program.specs.Library.{Library}
+use Rattle.muck_queue.specs.Queues.{Queue, empty_queue}
 
 -- the dump that runs, whether one is asked and by which connections, and the moment of the last that began
 pub record Dumps : Type 0 where
@@ -14,9 +16,12 @@ pub record Dumps : Type 0 where
   pub askers : List ℕ
   pub last : ℕ
 
--- The world: what commands and programs change, the second that it is, its dumps, and whether it is stopping or dead.
+-- The world: what commands and programs change, the built forms of its programs, its processes, the second that it is,
+-- its dumps, and whether it is stopping or dead.
 pub record World : Type 0 where
   pub live : Live
+  pub library : Library
+  pub queue : Queue
   pub moment : ℕ
   pub dumps : Dumps
   pub stopping : Bool
@@ -26,10 +31,13 @@ pub record World : Type 0 where
 abbrev pub no_dumps : ℕ → Dumps
 no_dumps moment = record { running = None; is_asked = false; askers = []; last = moment }
 
--- the world of these objects at this moment, in which nobody is connected, and whose random numbers begin so
+-- The world of these objects at this moment, in which nobody is connected, no program is built and nothing runs, and
+-- whose random numbers begin so.
 unfoldable pub booted : List Entry → Tune → ℕ → ℕ → World
 booted objects tune moment start = record {
   live = record { objects = objects; board = early_board start tune };
+  library = [];
+  queue = empty_queue;
   moment = moment;
   dumps = no_dumps moment;
   stopping = false;
@@ -54,3 +62,11 @@ is_leaving d w = is_leaving_in d w.live.board
 -- with a change of its live part
 abbrev pub on_live : Change → World → World
 on_live f w = record w { live = f w.live }
+
+-- with a change of its processes
+abbrev pub on_queue : (Queue → Queue) → World → World
+on_queue f w = record w { queue = f w.queue }
+
+-- with these built forms
+abbrev pub with_library : Library → World → World
+with_library library w = record w { library = library }

@@ -1,9 +1,9 @@
 -- Histories in parts.
 use Rattle.std.proofs.Common.{◌≡◌, List, [], ◌∷◌, ◌++◌, refl, ap, append_assoc}
 use Rattle.muck_model.specs.declared.event.Entry.{Entry}
-use Rattle.muck_world.specs.World.{World}
-use Rattle.muck_world.specs.Steps.{effect}
-use Rattle.muck_world.specs.Histories.{after, Run, AllLawful, History, now, extended}
+use Rattle.muck_event.specs.World.{World}
+use Rattle.muck_event.specs.Steps.{effect}
+use Rattle.muck_event.specs.Histories.{after, Run, AllLawful, History, now, extended}
 
 -- some entries, and others behind them
 pub after-append : (es fs : List Entry) (w : World) → after w (es ++ fs) ≡ after (after w es) fs

@@ -2,9 +2,9 @@
 use Rattle.std.specs.Prelude.{◌≡◌, true, List, [], ◌∷◌, ◌++◌}
 use Rattle.muck_model.specs.declared.event.Entry.{Entry}
 use Rattle.muck_model.specs.declared.event.Event.{Event}
-use Rattle.muck_world.specs.World.{World}
-use Rattle.muck_world.specs.Steps.{Step, is_lawful, effect}
-use Rattle.muck_world.specs.Licences.{EventLicensed}
+use Rattle.muck_event.specs.World.{World}
+use Rattle.muck_event.specs.Steps.{Step, is_lawful, effect}
+use Rattle.muck_event.specs.Licences.{EventLicensed}
 
 -- the world after these entries
 abbrev pub after : World → List Entry → World
