@@ -6,4 +6,5 @@ pub mod Maps
 pub mod Sequence
 pub mod First
 pub mod Least
+pub mod Listing
 pub mod Parts

@@ -61,7 +61,7 @@ no_entries : (es : List (List (List ℕ) × PropValue)) → length es ≡ 0 → 
 no_entries [] h = refl
 no_entries (e ∷ es) h = absurd (omega arith)
 
-entries_are : (es : List (List (List ℕ) × PropValue)) → IsStrictlySortedBy path_cmp (keys_of es) → entries (from_entries {R = path_cmp} es) ≡ es
+pub entries_are : (es : List (List (List ℕ) × PropValue)) → IsStrictlySortedBy path_cmp (keys_of es) → entries (from_entries {R = path_cmp} es) ≡ es
 unfolding IsStrictlySortedBy
 entries_are [] h = no_entries _ (sym (len-entries _) ∙ len-empty path_cmp PropValue)
 entries_are (e ∷ es) h = entries-insert path_cmp_total (from_entries es) e.0 e.1 ∙ ap (put path_cmp e.0 e.1) (entries_are es h.1) ∙ put_first e.0 e.1 es h.0

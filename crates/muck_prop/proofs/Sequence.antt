@@ -71,7 +71,7 @@ convex (s ∷ p) (t ∷ q) (u ∷ r) h g b =
     apart : segment_cmp s u ≡ Less → (bytes_eq s u && is_below p r) ≡ false
     apart less = ap (λ x. x && is_below p r) (other_segment s u less)
 
-none_below : (p q : List (List ℕ)) (ks : List (List (List ℕ))) → path_cmp p q ≡ Less → is_below p q ≡ false → AllByRecursion (λ k. path_cmp q k ≡ Less) ks → AllByRecursion (λ k. is_below p k ≡ false) ks
+pub none_below : (p q : List (List ℕ)) (ks : List (List (List ℕ))) → path_cmp p q ≡ Less → is_below p q ≡ false → AllByRecursion (λ k. path_cmp q k ≡ Less) ks → AllByRecursion (λ k. is_below p k ≡ false) ks
 none_below p q [] less apart all = tt
 none_below p q (k ∷ ks) less apart all = (convex p q k less all.0 apart, none_below p q ks less apart all.1)
 

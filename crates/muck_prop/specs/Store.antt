@@ -1,10 +1,11 @@
 -- The properties of one object, as a map from paths to values.
-use Rattle.std.specs.Prelude.{◌≡◌, ℕ, Bool, true, false, ◌&&◌, ◌==◌, ◌⊎◌, pos, if◌then◌else◌, List, [], ◌∷◌, ◌++◌, Option, None, Some, is_some, length}
-use Rattle.std.specs.List.{list_any}
+use Rattle.std.specs.Prelude.{◌≡◌, ℕ, Bool, true, false, ◌&&◌, ◌==◌, ◌⊎◌, pos, if◌then◌else◌, List, [], ◌∷◌, ◌++◌, map, Option, None, Some, is_some, length, drop}
+use Rattle.std.specs.List.{list_any, filter}
 use Rattle.std.specs.Ordering.{is_lt, is_gt, int_eq}
-use Rattle.std.specs.FinMap.{FinMap, get, insert, remove, keys}
+use Rattle.std.specs.FinMap.{FinMap, get, insert, remove, keys, entries}
 use Rattle.muck_prop.specs.declared.value.PropValue.{PropValue}
 use Rattle.muck_prop.specs.declared.value.PropValue.TheVariants.{Text, Number}
+use Rattle.muck_prop.specs.declared.props.Listed.{Listed}
 use Rattle.muck_prop.specs.Paths.{IsPath}
 use Rattle.muck_prop.specs.Order.{path_cmp, is_below, child}
 
@@ -47,6 +48,14 @@ next_child dir after m = next_among dir after (keys m)
 abbrev pub found_child : List (List ℕ) → Option (List (List ℕ)) → Option (List (List ℕ))
 found_child dir None = None
 found_child dir (Some q) = if is_below dir q then Some (child dir q) else None
+
+-- a property, by its path behind so many segments
+abbrev pub behind : ℕ → List (List ℕ) × PropValue → Listed
+behind depth e = record { rest = drop depth e.0; value = e.1 }
+
+-- the properties below `dir`, in the order of their paths, each by the rest of its path
+unfoldable pub listed_below : List (List ℕ) → PropMap → List Listed
+listed_below dir m = map (behind (length dir)) (filter (λ e. is_below dir e.0) (entries m))
 
 -- a path one segment longer than `dir` that has a value or is a directory
 pub record IsChild (m : PropMap) (dir c : List (List ℕ)) : Type 0 where

@@ -10,5 +10,5 @@ mod tests;
 mod value;
 
 pub use path::{Class, Path, PropFault, read_path};
-pub use props::Props;
+pub use props::{Listed, Props};
 pub use value::PropValue;

@@ -1,24 +1,33 @@
 // The properties of one object.
-ghost use Rattle.std.specs.Prelude.{◌≡◌, [], Some, None, IfOk, IfSome, OnOk, OnErr, is_some, is_ok, true, false, length, ◌≤◌, Ok, Err};
+ghost use Rattle.std.specs.Prelude.{◌≡◌, ◌<◌, map as mapped, [], Some, None, IfOk, IfSome, OnOk, OnErr, is_some, is_ok, true, false, length, ◌≤◌, Ok, Err};
 ghost use Rattle.std.specs.Option.{option_copied, option_map_or, unwrap_or};
 ghost use Rattle.std.specs.FinMap as map;
 ghost use Rattle.std.specs.Range.Bound.{bound_map};
-ghost use Rattle.std.specs.List.{AllByRecursion, find};
+ghost use Rattle.std.specs.List.{AllByRecursion, find, filter};
 ghost use Rattle.muck_prop.specs.Paths.{IsPath, segments_of, path_fault};
 ghost use Rattle.std.specs.Map.{keys_of, lookup};
 ghost use Rattle.std.specs.BTreeMap.{IsOrdered};
 ghost use Rattle.std.specs.BTreeMap.Range.{is_from_start};
-ghost use Rattle.muck_prop.specs.Order.{path_cmp, path_eq};
-ghost use Rattle.muck_prop.specs.Store.{stored, is_dir, next_child, found_child, path_or_top, is_nothing, IsKept, IsLeastChild};
+ghost use Rattle.muck_prop.specs.Order.{path_cmp, path_eq, is_below};
+ghost use Rattle.muck_prop.specs.Store.{stored, is_dir, next_child, found_child, path_or_top, is_nothing, IsKept, IsLeastChild, behind, listed_below};
 
 use crate::path::{Path, has_barred};
 use crate::segments::Segments;
 use crate::value::PropValue;
-use muck_model::{Line, NoMemory};
+use muck_model::{Line, NoMemory, Row};
 use std::alloc::Global;
 use std::collections::BTreeMap;
 use std::marker::Model;
 use std::ops::Bound;
+
+/// A property below a directory: the rest of its path behind the directory, and what it holds.
+#[derive(Drop)]
+pub struct Listed {
+    /// The rest of its path.
+    pub rest: Path,
+    /// What it holds.
+    pub value: PropValue,
+}
 
 /// The properties of one object, which contracts see as the map from paths to values. No kept value is an empty text
 /// or 0.
@@ -95,6 +104,45 @@ fn found_at<'a>(values: &'a BTreeMap<Segments, PropValue>, text: &[u8]) -> Optio
     None
 }
 
+// A property, behind the first `depth` segments of its path.
+fn behind(
+    alloc: Global,
+    path: &Segments,
+    depth: usize,
+    value: &PropValue,
+) -> Result<Listed, NoMemory>
+    requires kept { IsPath path.now }
+    requires deeper { depth < length path.now }
+    ensures { IfOk result (λ listed. listed ≡ behind depth (path.now, value.now)) }
+{
+    let segments = path.rest(alloc, depth)?;
+    let value = value.copy(alloc)?;
+    let rest = Path { segments };
+    Ok(Listed { rest, value })
+}
+
+// The properties below a directory, in the order of their paths. They stand together, right after the directory.
+fn all_below(
+    alloc: Global,
+    values: &BTreeMap<Segments, PropValue>,
+    dir: &Segments,
+) -> Result<Row<Listed>, NoMemory>
+    requires kept { AllByRecursion IsKept values.now.entries }
+    ensures list { IfOk result (λ list. list ≡ mapped (behind (length dir.now)) (filter (λ e. is_below dir.now e.0) values.now.entries)) }
+    ensures ordered { IsOrdered path_cmp values.now }
+{
+    let depth = dir.len();
+    let mut left = values.range((Bound::Excluded(dir), Bound::Unbounded));
+    let mut list = Row::new(alloc)?;
+    while let Some((path, value)) = left.next() {
+        if !path.is_below(dir) {
+            return Ok(list);
+        }
+        list.push(behind(alloc, path, depth, value)?)?;
+    }
+    Ok(list)
+}
+
 impl Props {
     /// No properties.
     pub fn new(alloc: Global) -> Result<Props, NoMemory>
@@ -138,6 +186,15 @@ impl Props {
             Some(first) => first.is_below(&path.segments),
             None => false,
         }
+    }
+
+    /// The properties below a directory, in the order of their paths: those whose paths continue it. It is one search
+    /// and a step for each of them.
+    pub fn below(&self, alloc: Global, dir: &Path) -> Result<Row<Listed>, NoMemory>
+        ensures { IfOk result (λ list. list ≡ listed_below dir.now self.now) }
+    {
+        let list = all_below(alloc, &self.values, &dir.segments)?;
+        Ok(list)
     }
 
     /// Removes the property of a path. It is true exactly where the path had a value.

@@ -148,6 +148,19 @@ impl Segments {
         Ok(Segments { items })
     }
 
+    // A copy of those behind the first `count`.
+    pub(crate) fn rest(&self, alloc: Global, count: usize) -> Result<Segments, NoMemory>
+        requires { count ≤ length self.now }
+        ensures { IfOk result (λ s. s ≡ drop count self.now) }
+    {
+        let (_, rest) = self.items.split_at(count);
+        let mut items = Vec::with_capacity(alloc, rest.len())?;
+        for segment in rest {
+            items.push(segment.copy(alloc)?)?;
+        }
+        Ok(Segments { items })
+    }
+
     // All of them, as a copy.
     pub(crate) fn copy(&self, alloc: Global) -> Result<Segments, NoMemory>
         ensures { IfOk result (λ s. s ≡ self.now) }

@@ -5,3 +5,4 @@ pub mod Offers
 pub mod Pendings
 pub mod Titles
 pub mod Sound
+pub mod Worded
