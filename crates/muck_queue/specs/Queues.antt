@@ -1,0 +1,128 @@
+-- The processes of a world, by rising number.
+use Rattle.std.specs.Prelude.{ℕ, ℤ, pos, ◌+ℤ◌, Bool, false, not, ◌&&◌, ◌||◌, ◌==◌, nat_lt, nat_le, int_lt, if◌then◌else◌, List, [], ◌∷◌, ◌++◌, length, map, find, Option, Some, is_some}
+use Rattle.std.specs.List.{filter, reduce, count_by, list_any}
+use Rattle.std.specs.Option.{option_map, option_map_or}
+use Rattle.std.specs.Ordering.{int_eq}
+use Rattle.muck_model.specs.declared.dbref.Dbref.{Dbref}
+use Rattle.muck_model.specs.declared.tune.Tune.{Tune}
+use Rattle.muck_live.specs.Objects.{same, nothing}
+use Rattle.muck_queue.specs.declared.process.Process.{Process}
+
+-- The processes, and the last number that was given.
+pub record Queue : Type 0 where
+  pub processes : List Process
+  pub last : ℤ
+
+unfoldable pub empty_queue : Queue
+empty_queue = record { processes = []; last = pos 0 }
+
+-- the last number that can be given
+unfoldable pub number_most : ℤ
+number_most = pos 2147483647
+
+-- A process.
+
+abbrev pub has_pid : ℤ → Process → Bool
+has_pid pid p = int_eq p.number pid
+
+abbrev pub is_of : Dbref → Process → Bool
+is_of player p = same p.player player
+
+-- its second has come, and nobody has claimed it
+abbrev pub is_due : ℕ → Process → Bool
+is_due moment p = nat_le p.due moment && not (is_some p.claim)
+
+-- p is due before q, or they are due in the same second and p has the lower number
+abbrev pub is_before : Process → Process → Bool
+is_before p q = nat_lt p.due q.due || (p.due == q.due && int_lt p.number q.number)
+
+abbrev pub is_tied_to : ℕ → Process → Bool
+is_tied_to d p = option_map_or (λ c. c == d) p.descr false
+
+-- the program stands on the call stack: it runs, or is a caller of what runs
+abbrev pub runs : Dbref → Process → Bool
+runs program p = list_any (λ q. int_eq q program.0) p.running
+
+abbrev pub has_trigger : Dbref → Process → Bool
+has_trigger trigger p = same p.trigger trigger
+
+abbrev pub claimed_by : ℕ → Process → Process
+claimed_by party p = record p { claim = Some party }
+
+abbrev pub numbered : ℤ → Process → Process
+numbered pid p = record p { number = pid }
+
+abbrev pub without_trigger : Process → Process
+without_trigger p = record p { trigger = nothing }
+
+-- Lists of processes.
+
+abbrev pub earlier : Process → Process → Process
+earlier p q = if is_before q p then q else p
+
+-- of the processes that pass the test, the one that is before all others
+abbrev pub earliest : (Process → Bool) → List Process → Option Process
+earliest test ps = reduce earlier (filter test ps)
+
+-- with the first process that passes the test changed by f
+abbrev pub changed_first : (Process → Bool) → (Process → Process) → List Process → List Process
+changed_first test f [] = []
+changed_first test f (p ∷ ps) = if test p then f p ∷ ps else p ∷ changed_first test f ps
+
+-- without the first process that passes the test
+abbrev pub without_first : (Process → Bool) → List Process → List Process
+without_first test [] = []
+without_first test (p ∷ ps) = if test p then ps else p ∷ without_first test ps
+
+-- without each process that passes the test
+abbrev pub without_all : (Process → Bool) → List Process → List Process
+without_all test ps = filter (λ p. not (test p)) ps
+
+abbrev pub with_processes : List Process → Queue → Queue
+with_processes ps q = record q { processes = ps }
+
+-- The queue.
+
+-- the process of this number
+abbrev pub process : ℤ → Queue → Option Process
+process pid q = find (has_pid pid) q.processes
+
+-- the number of the process that is to go on next
+unfoldable pub next_due : ℕ → Queue → Option ℤ
+next_due moment q = option_map (λ p. p.number) (earliest (is_due moment) q.processes)
+
+-- the process of this number is claimed by a party
+unfoldable pub claimed : ℤ → ℕ → Queue → Queue
+claimed pid party q = with_processes (changed_first (has_pid pid) (claimed_by party) q.processes) q
+
+-- without the process of this number
+unfoldable pub without : ℤ → Queue → Queue
+without pid q = with_processes (without_first (has_pid pid) q.processes) q
+
+-- no process of this player can be added: there are as many as may be, or as many of this player, or no number is left
+unfoldable pub is_full : Dbref → Tune → Queue → Bool
+is_full player tune q =
+    nat_le tune.process_limit (length q.processes)
+    || nat_le tune.player_processes (count_by (is_of player) q.processes)
+    || int_eq q.last number_most
+
+-- with a process more, behind all others, with the number after the last one that was given
+unfoldable pub added : Process → Queue → Queue
+added p q = record { processes = q.processes ++ numbered (q.last +ℤ pos 1) p ∷ []; last = q.last +ℤ pos 1 }
+
+-- some process is tied to the connection d
+unfoldable pub is_tied : ℕ → Queue → Bool
+is_tied d q = list_any (is_tied_to d) q.processes
+
+-- without the processes that are tied to the connection d
+unfoldable pub ended_tied : ℕ → Queue → Queue
+ended_tied d q = with_processes (without_all (is_tied_to d) q.processes) q
+
+-- without the processes that run the program
+unfoldable pub ended_running : Dbref → Queue → Queue
+ended_running program q = with_processes (without_all (runs program) q.processes) q
+
+-- no process was started by this trigger any more
+unfoldable pub trigger_cleared : Dbref → Queue → Queue
+trigger_cleared trigger q =
+    with_processes (map (λ p. if has_trigger trigger p then without_trigger p else p) q.processes) q
