@@ -1,2 +1,3 @@
 pub mod Flaws
 pub mod Programs
+pub mod Library

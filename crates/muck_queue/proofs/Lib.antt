@@ -1,4 +1,0 @@
-pub mod Positions
-pub mod Mapped
-pub mod Full
-pub mod Earliest

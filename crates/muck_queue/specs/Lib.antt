@@ -1,3 +1,1 @@
 pub mod Queues
-pub mod Adding
-pub mod Rows

@@ -1,11 +1,4 @@
-//! The processes of a world: those that run or wait, in the order of their numbers, and which one goes on next.
+//! A stand-in.
 #![tactic(auto)]
-
-mod fault;
 mod process;
-mod processes;
-mod queue;
-
-pub use fault::QueueFault;
 pub use process::{Mode, Process};
-pub use queue::Queue;

@@ -1,0 +1,6 @@
+//! A stand-in.
+#![tactic(auto)]
+mod occasion;
+mod running;
+pub use occasion::Occasion;
+pub use running::Running;
