@@ -1,10 +1,10 @@
 //! The board of a world.
-ghost use Rattle.std.specs.Prelude.{◌≡◌, ◌≤◌, OnOk, OnErr, IfOk, length, drop, take, min, map, find, false, None, is_some, slice_get};
+ghost use Rattle.std.specs.Prelude.{◌≡◌, ◌≤◌, OnOk, OnErr, IfOk, length, drop, take, min, map, find, false, None, is_some, slice_get, if◌then◌else◌};
 ghost use Rattle.std.specs.List.{count_by};
 ghost use Rattle.std.specs.Option.{option_map, option_map_or, option_and_then};
 ghost use Rattle.muck_live.specs.Output.{bytes_of};
 ghost use Rattle.muck_live.specs.Connections.{has_number, is_ready, takes_line, is_of};
-ghost use Rattle.muck_live.specs.Boards.{early_board, connection_in, queue_in, is_leaving_in, player_in, editor_in, opened, closed, line_added, bytes_taken, told_one, told_player, told_others, told_all, leaving_one, left_player, seated_one, edited_one, tuned, random_drawn};
+ghost use Rattle.muck_live.specs.Boards.{early_board, connection_in, queue_in, is_leaving_in, player_in, editor_in, opened, closed, line_added, bytes_taken, told_one, told_player, told_others, told_all, leaving_one, left_player, seated_one, edited_one, editors_closed, tuned, random_drawn};
 ghost use Rattle.muck_board.specs.Lines.{BoardTakesLine};
 ghost use Rattle.muck_board.specs.Silent.{silent};
 
@@ -108,6 +108,13 @@ impl Board {
         ensures { result ≡ option_map (λ c. c.number) (find is_ready self.now.connections) }
     {
         connections::first_ready(&self.connections)
+    }
+
+    /// The number of the connection at a place from 0, in rising order, where that isn't leaving and has a line that waits.
+    pub fn ready_at(&self, at: usize) -> Option<u32>
+        ensures { result ≡ option_and_then (λ c. if is_ready c then Some c.number else None) (slice_get self.now.connections at) }
+    {
+        connections::ready_at(&self.connections, at)
     }
 
     /// What a wizard tuned.
@@ -289,5 +296,13 @@ impl Board {
         ensures rest { self.new ≡ edited_one d None self.old }
     {
         connections::take_editor(&mut self.connections, d)
+    }
+
+    /// Closes each editor that is open on the program; what was edited in it is dropped. It takes no memory.
+    #[tactic(auto, unfolding(muck_live::specs::Boards::editors_closed))]
+    pub fn close_editors(&mut self, program: Dbref)
+        ensures { self.new ≡ editors_closed program self.old }
+    {
+        connections::close_editors(&mut self.connections, program);
     }
 }

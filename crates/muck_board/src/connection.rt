@@ -3,7 +3,7 @@ ghost use Rattle.std.specs.Prelude.{◌≡◌, ◌≤◌, OnOk, OnErr, IfOk, Mat
 ghost use Rattle.std.specs.Option.{option_map_or};
 ghost use Rattle.muck_live.specs.Objects.{same};
 ghost use Rattle.muck_live.specs.Output.{bytes_of, taken};
-ghost use Rattle.muck_live.specs.Connections.{newcomer, takes_line, is_ready, told, told_where, left, left_where, seated, lined, edited, is_of, hears, has_player};
+ghost use Rattle.muck_live.specs.Connections.{newcomer, takes_line, is_ready, told, told_where, left, left_where, seated, lined, edited, edits, edited_where, is_of, hears, has_player};
 ghost use Rattle.muck_board.specs.Silent.{quiet};
 
 use crate::output::Output;
@@ -224,6 +224,25 @@ impl Connection {
         ensures rest { self.new ≡ edited None self.old }
     {
         self.editor.take()
+    }
+
+    /// Whether its editor is open on that program.
+    pub fn edits(&self, program: Dbref) -> bool
+        ensures { result ≡ edits program self.now }
+    {
+        match &self.editor {
+            Some(editor) => program == editor.program,
+            None => false,
+        }
+    }
+
+    /// Closes its editor where that is open on the program.
+    pub fn close_editor(&mut self, program: Dbref)
+        ensures { self.new ≡ edited_where (edits program) None self.old }
+    {
+        if self.edits(program) {
+            self.editor = None;
+        }
     }
 
     /// Takes the first bytes that wait to be sent, as many as are there and fit.

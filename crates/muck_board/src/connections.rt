@@ -1,9 +1,9 @@
 // The connections, by rising number. Each function changes the one of that number, where it is there, or all.
-ghost use Rattle.std.specs.Prelude.{◌≡◌, ◌<◌, ◌≤◌, OnOk, OnErr, IfOk, MatchOption, length, drop, take, min, map, false, true, [], ◌∷◌, ◌++◌, None, Some, slice_get, slice_index_or, is_some, find, nat_lt};
+ghost use Rattle.std.specs.Prelude.{◌≡◌, ◌<◌, ◌≤◌, OnOk, OnErr, IfOk, MatchOption, length, drop, take, min, map, false, true, [], ◌∷◌, ◌++◌, None, Some, slice_get, slice_index_or, is_some, find, nat_lt, if◌then◌else◌};
 ghost use Rattle.std.specs.List.{position, position_or_len, count_by};
 ghost use Rattle.std.specs.Option.{option_map, option_map_or, option_and_then, option_copied};
 ghost use Rattle.muck_live.specs.Output.{bytes_of, taken};
-ghost use Rattle.muck_live.specs.Connections.{has_number, changed_in, placed, without, is_ready, takes_line, told, told_where, left, left_where, seated, lined, edited, is_of, hears, has_player};
+ghost use Rattle.muck_live.specs.Connections.{has_number, changed_in, placed, without, is_ready, takes_line, told, told_where, left, left_where, seated, lined, edited, edits, edited_where, is_of, hears, has_player};
 ghost use Rattle.muck_board.specs.Lines.{TakesLine};
 ghost use Rattle.muck_board.specs.Silent.{quiet};
 
@@ -113,6 +113,14 @@ pub fn first_ready(connections: &[Connection]) -> Option<u32>
         .iter()
         .find(|c| c.is_ready())
         .map(|c| c.number())
+}
+
+/// The number of the connection at a place, where that is ready.
+pub fn ready_at(connections: &[Connection], at: usize) -> Option<u32>
+    ensures { result ≡ option_and_then (λ c. if is_ready c then Some c.number else None) (slice_get connections.now at) }
+{
+    let c = connections.get(at)?;
+    if c.is_ready() { Some(c.number()) } else { None }
 }
 
 /// The connection of a number.
@@ -309,5 +317,14 @@ pub fn leave_player(connections: &mut Vec<Connection>, player: Dbref)
     for i in 0..connections.len() {
         let c = &mut connections[i];
         c.leave_player(player);
+    }
+}
+
+pub fn close_editors(connections: &mut Vec<Connection>, program: Dbref)
+    ensures { connections.new.items ≡ map (edited_where (edits program) None) connections.old.items }
+{
+    for i in 0..connections.len() {
+        let c = &mut connections[i];
+        c.close_editor(program);
     }
 }

@@ -184,6 +184,7 @@ fn takes_lines_in_order(rt: HostRuntime) -> Result<(), Fail> {
     board.add_line(4, Line::new(alloc, b"WHO")?)?;
     board.add_line(2, Line::new(alloc, b"look")?)?;
     assert_eq!(rt; board.first_ready(), Some(2));
+    are_ready(&rt, &board, &[None, Some(2), None, Some(4), None]);
     assert_eq!(rt; board.waiting(2), 1);
     assert!(rt; board.takes_line(2));
     let (player, line) = board.take_line(2).ok_or("no line")?;
@@ -191,6 +192,36 @@ fn takes_lines_in_order(rt: HostRuntime) -> Result<(), Fail> {
     assert_eq!(rt; line.as_slice(), "look".as_bytes());
     board.leave(4);
     assert_eq!(rt; board.first_ready(), None);
+    are_ready(&rt, &board, &[None; 5]);
+    Ok(())
+}
+
+// What is ready at the places from 0 on.
+fn are_ready(rt: &impl Abort, board: &Board, table: &[Option<u32>]) {
+    for at in 0..table.len() {
+        assert_eq!(rt; board.ready_at(at), table[at]);
+    }
+}
+
+fn editor(alloc: Global, program: i32) -> Result<Option<EditState>, NoMemory> {
+    Ok(Some(EditState {
+        program: Dbref(program),
+        lines: Row::new(alloc)?,
+        inserting: None,
+    }))
+}
+
+#[test]
+fn closes_the_editors_of_a_program(rt: HostRuntime) -> Result<(), Fail> {
+    let alloc = rt.alloc();
+    let mut board = crowd(alloc)?;
+    board.set_editor(1, editor(alloc, 9)?);
+    board.set_editor(2, editor(alloc, 8)?);
+    board.set_editor(3, editor(alloc, 9)?);
+    board.close_editors(Dbref(9));
+    for (d, program) in [(1, None), (2, Some(Dbref(8))), (3, None), (4, None)] {
+        assert_eq!(rt; board.take_editor(d).map(|e| e.program), program);
+    }
     Ok(())
 }
 
@@ -205,14 +236,7 @@ fn keeps_the_rest(rt: HostRuntime) -> Result<(), Fail> {
         ..TUNE
     });
     assert_eq!(rt; board.tune().m1_units, 7);
-    board.set_editor(
-        1,
-        Some(EditState {
-            program: Dbref(9),
-            lines: Row::new(alloc)?,
-            inserting: None,
-        }),
-    );
+    board.set_editor(1, editor(alloc, 9)?);
     let editor = board.take_editor(1).ok_or("no editor")?;
     assert_eq!(rt; editor.program, Dbref(9));
     assert!(rt; board.take_editor(1).is_none());

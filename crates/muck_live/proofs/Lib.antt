@@ -13,3 +13,4 @@ pub mod HomeLaws
 pub mod RecyclingLaws
 pub mod Standing
 pub mod Followers
+pub mod EditorLaws

@@ -1,5 +1,5 @@
 -- Who is connected, the state of the random numbers, and what a wizard tuned.
-use Rattle.std.specs.Prelude.{ℕ, Bool, false, List, [], map, find, Option}
+use Rattle.std.specs.Prelude.{ℕ, Bool, false, List, [], map, find, Option, None}
 use Rattle.std.specs.Option.{option_map_or, option_and_then}
 use Rattle.rand_core.specs.Pcg32Seed.{pcg32_seed}
 use Rattle.rand_pcg.specs.Lcg.{Lcg}
@@ -8,7 +8,7 @@ use Rattle.muck_model.specs.declared.dbref.Dbref.{Dbref}
 use Rattle.muck_model.specs.declared.edit.EditState.{EditState}
 use Rattle.muck_model.specs.declared.tune.Tune.{Tune}
 use Rattle.muck_live.specs.Output.{bytes_of, taken}
-use Rattle.muck_live.specs.Connections.{Connection, has_number, changed_in, placed, without, newcomer, told, left, seated, lined, edited, is_of, hears, told_where, left_where, has_player}
+use Rattle.muck_live.specs.Connections.{Connection, has_number, changed_in, placed, without, newcomer, told, left, seated, lined, edited, edits, edited_where, is_of, hears, told_where, left_where, has_player}
 
 pub record Board : Type 0 where
   pub connections : List Connection
@@ -105,6 +105,10 @@ left_player player b = on_connections (left_where (is_of player)) b
 
 unfoldable pub edited_one : ℕ → Option EditState → Board → Board
 edited_one d editor b = on_connection d (edited editor) b
+
+-- each editor that is open on that program is closed
+unfoldable pub editors_closed : Dbref → Board → Board
+editors_closed program b = on_connections (edited_where (edits program) None) b
 
 unfoldable pub tuned : Tune → Board → Board
 tuned tune b = record b { tune = tune }

@@ -90,6 +90,13 @@ told_where test text c = if test c then told text c else c
 abbrev pub left_where : (Connection → Bool) → Connection → Connection
 left_where test c = if test c then left c else c
 
+-- its editor is open on that program
+abbrev pub edits : Dbref → Connection → Bool
+edits program c = option_map_or (λ e. same program e.program) c.editor false
+
+abbrev pub edited_where : (Connection → Bool) → Option EditState → Connection → Connection
+edited_where test editor c = if test c then edited editor c else c
+
 abbrev pub has_player : Connection → Bool
 has_player c = option_map_or (λ p. true) c.player false
 
