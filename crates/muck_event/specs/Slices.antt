@@ -80,7 +80,7 @@ behind rest s = passed (record s { stack = rest })
 abbrev pub notify_items : Process → Source → List Datum → Doing
 notify_items p s (text t ∷ object d ∷ rest) =
     existing d (permitted p s (Near (numbered d)) (λ w. does (behind rest s) (on_live (tell_player (numbered d) t) w)))
-notify_items p s items w = fails BadType w
+notify_items p s items = λ w. fails BadType w
 
 unfoldable pub notified : Process → Source → Doing
 notified p s = needing 2 s (permitted p s (Shared 1) (notify_items p s s.stack))
@@ -126,7 +126,7 @@ program_called p s d name rest =
 abbrev pub call_items : Process → Source → List Datum → Doing
 call_items p s (text t ∷ object d ∷ rest) = program_called p s d (Some t) rest
 call_items p s (object d ∷ rest) = program_called p s d None rest
-call_items p s items w = fails BadType w
+call_items p s items = λ w. fails BadType w
 
 unfoldable pub called : Process → Source → Doing
 called p s = needing 1 s (needing (call_count s.stack) s (permitted p s (Shared 1) (call_items p s s.stack)))
@@ -135,7 +135,7 @@ called p s = needing 1 s (needing (call_count s.stack) s (permitted p s (Shared 
 unfoldable pub deed : Process → Name → Source → Doing
 deed p Notify s = notified p s
 deed p Call s = called p s
-deed p name s w = fails NotCompiled w
+deed p _ s = λ w. fails NotCompiled w
 
 -- The end.
 

@@ -47,7 +47,7 @@ numbers-changed_in d f keeps (c ∷ cs) =
     ]
 
 -- connections that are tied alike have the same numbers
-numbers-ties : (cs ds : List Connection) → ties ds ≡ ties cs → numbers ds ≡ numbers cs
+pub numbers-ties : (cs ds : List Connection) → ties ds ≡ ties cs → numbers ds ≡ numbers cs
 unfolding numbers
 numbers-ties [] [] e = refl
 numbers-ties [] (d ∷ ds) e = absurd cc
