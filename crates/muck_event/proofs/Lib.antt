@@ -5,3 +5,4 @@ pub mod Living
 pub mod Reached
 pub mod Runs
 pub mod Turns
+pub mod Claims
