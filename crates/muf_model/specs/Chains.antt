@@ -1,8 +1,10 @@
 -- A process: its units, and what the shared primitives do between them.
-use Rattle.std.specs.Prelude.{ℕ, zero, suc, List, [], ◌∷◌, ℤ}
+use Rattle.std.specs.Prelude.{◌≡◌, ℕ, zero, suc, drop, List, [], ◌∷◌, ℤ}
 use Rattle.muf_model.specs.declared.fault.MufFault.{MufFault}
 use Rattle.muf_model.specs.declared.fault.MufFault.TheVariants.{TooManyUnits}
 use Rattle.muf_model.specs.declared.prims.Primitive.{Primitive as Name}
+use Rattle.muf_model.specs.declared.code.Word.TheVariants.{Primitive}
+use Rattle.muf_model.specs.Tree.{Block, word}
 use Rattle.muf_model.specs.Source.{Program, Mark, looping, trying, calling, entering, Source}
 use Rattle.muf_model.specs.Unit.{Outcome, goes, ended, faulted, asks, unit, fault}
 
@@ -66,3 +68,25 @@ count (asks p s) more = 0
 abbrev pub taken : ℕ → Source → ℕ
 taken zero s = 0
 taken (suc n) s = count (unit s) (taken n)
+
+-- What follows units that ended so, where so many more are left, of a process in the program of this number.
+abbrev pub resumed : {W : Type 0} → (Name → Source → W → Deed W) → ℕ → ℤ → Outcome → W → W × Finish
+resumed deed more number (goes k t) w = chain deed more t w
+resumed deed more number ended w = (w, over)
+resumed deed more number (faulted f) w = (w, broke number f)
+resumed deed more number (asks p t) w = chain deed more t w
+
+-- the state stands at this shared primitive
+pub record StandsAt (p : Name) (s : Source) : Type 0 where
+  pub line : ℕ
+  pub next : Block
+  pub at : s.now ≡ word line (Primitive p) next
+  pub asked : unit s ≡ asks p s
+
+-- Of these programs, the process is in those behind the ones that were left; and it stands at the shared primitive
+-- that it asks for.
+abbrev pub Keeps : List Program → Outcome → Type 0
+Keeps ps (goes k t) = programs_of t ≡ drop k ps
+Keeps ps ended = Unit {0}
+Keeps ps (faulted f) = Unit {0}
+Keeps ps (asks p t) = (programs_of t ≡ ps) × StandsAt p t
