@@ -1,3 +1,5 @@
 pub mod Flaws
 pub mod Programs
 pub mod Library
+pub mod Forms
+pub mod Rebuilt

@@ -5,8 +5,10 @@
 mod building;
 mod flaw;
 mod lending;
+mod library;
 #[cfg(test)]
 mod tests;
 
 pub use building::build;
 pub use flaw::{BuildFault, Flaw};
+pub use library::Library;

@@ -64,6 +64,15 @@ const STEPS: [(&str, &str, &str); 12] = [
     ("b", "", ""),
 ];
 
+// A directory, and what stands behind it in the paths below it.
+const LISTED: [(&str, &str); 5] = [
+    ("a", "x x/y z/1/2 "),
+    ("a/x", "y "),
+    ("c", "d/e "),
+    ("b", ""),
+    ("a/z/1/2", ""),
+];
+
 // A text, and whether the stored paths have a value at what it holds.
 const FOUND: [(&str, bool); 7] = [
     ("/A//x/", true),
@@ -157,6 +166,32 @@ fn walks(rt: HostRuntime) -> Result<(), Fail> {
     let props = stored(rt.alloc())?;
     for (dir, after, want) in STEPS.iter() {
         assert!(rt; steps(rt.alloc(), &props, dir, after, want)?);
+    }
+    Ok(())
+}
+
+// What stands behind a directory in the paths below it, where each has the number 1.
+fn listing(alloc: Global, props: &Props, dir: &str) -> Result<Vec<u8>, Fail> {
+    let dir = path(alloc, dir)?;
+    let mut text = Vec::new(alloc);
+    for property in props.below(alloc, &dir)?.as_slice() {
+        text.extend_from_slice(property.rest.text(alloc)?.as_slice())?;
+        text.push(match property.value {
+            PropValue::Number(1) => b' ',
+            _ => b'?',
+        })?;
+    }
+    Ok(text)
+}
+
+#[test]
+fn lists_what_is_below(rt: HostRuntime) -> Result<(), Fail> {
+    let props = stored(rt.alloc())?;
+    for (dir, want) in LISTED.iter() {
+        assert!(rt;
+            listing(rt.alloc(), &props, dir)?.as_slice() == want.as_bytes(),
+            "below {dir}"
+        );
     }
     Ok(())
 }
