@@ -8,3 +8,4 @@ pub mod Unique
 pub mod Views
 mod Worked
 pub mod Places
+pub mod Chains

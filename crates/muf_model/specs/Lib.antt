@@ -17,3 +17,5 @@ pub mod Source
 pub mod Unit
 pub mod Flat
 pub mod Fits
+pub mod Chains
+pub mod Codes
