@@ -6,6 +6,7 @@ use Rattle.std.specs.Ordering.{int_eq}
 use Rattle.muck_model.specs.declared.dbref.Dbref.{Dbref}
 use Rattle.muck_model.specs.declared.tune.Tune.{Tune}
 use Rattle.muck_live.specs.Objects.{same, nothing}
+use Rattle.muf_model.specs.Chains.{programs_of}
 use Rattle.muck_queue.specs.declared.process.Process.{Process}
 
 -- The processes, and the last number that was given.
@@ -41,7 +42,7 @@ is_tied_to d p = option_map_or (λ c. c == d) p.descr false
 
 -- the program stands on the call stack: it runs, or is a caller of what runs
 abbrev pub runs : Dbref → Process → Bool
-runs program p = list_any (λ q. int_eq q program.0) p.running
+runs program p = list_any (λ q. int_eq q.number program.0) (programs_of p.running)
 
 abbrev pub has_trigger : Dbref → Process → Bool
 has_trigger trigger p = same p.trigger trigger

@@ -3,13 +3,32 @@ use Rattle.std.specs.Prelude.{◌≡◌, ℕ, ℤ, pos, true, false, List, [], �
 use Rattle.std.specs.Option.{option_map}
 use Rattle.muck_model.specs.declared.tune.Tune.{Tune}
 use Rattle.muck_live.specs.Objects.{dbref_of, nothing}
+use Rattle.muf_model.specs.declared.code.Closer.TheVariants.{Semicolon}
+use Rattle.muf_model.specs.Tree.{stop, closes}
+use Rattle.muf_model.specs.Source.{Program, Source, entering}
 use Rattle.muck_queue.specs.declared.process.Process.{Process}
 use Rattle.muck_queue.specs.declared.process.Mode.TheVariants.{Foreground}
 use Rattle.muck_queue.specs.Queues.{Queue, process, next_due, claimed, without, is_full, added, is_tied, ended_tied, ended_running, trigger_cleared, number_most}
 
--- a process of #1 that runs these programs, the running one first, and that #4 started
-abbrev pub running_programs : List ℤ → ℤ → ℕ → Process
-running_programs programs n due = record {
+abbrev pub program_of : ℤ → Program
+program_of number = record { number = number; tree = record { words = []; variables = 0 } }
+
+-- a program that runs, called from the others, the nearest first
+abbrev pub state_of : ℤ → List ℤ → Source
+state_of number callers = record {
+  stack = [];
+  common = [];
+  owned = [];
+  variables = [];
+  program = program_of number;
+  now = stop;
+  end = closes Semicolon 1;
+  marks = map (λ caller. entering (program_of caller) [] stop (closes Semicolon 1)) callers;
+}
+
+-- a process of #1 that runs a program, called from the others, and that #4 started
+abbrev pub process_in : ℤ → List ℤ → ℤ → ℕ → Process
+process_in program callers n due = record {
   number = n;
   due = due;
   player = dbref_of 1;
@@ -18,12 +37,12 @@ running_programs programs n due = record {
   descr = None;
   mode = Foreground;
   claim = None;
-  running = programs;
+  running = state_of program callers;
 }
 
--- program #5
+-- one that runs program #5
 abbrev pub sample : ℤ → ℕ → Process
-sample = running_programs (pos 5 ∷ [])
+sample = process_in (pos 5) []
 
 abbrev pub tied_to : ℕ → Process → Process
 tied_to d p = record p { descr = Some d }
@@ -131,7 +150,7 @@ ended_tied_row = refl
 -- 1 runs #5, 2 runs #6, which #5 called, and 3 runs #6
 abbrev pub runners : Queue
 runners = record {
-  processes = sample (pos 1) 5 ∷ running_programs (pos 6 ∷ pos 5 ∷ []) (pos 2) 5 ∷ running_programs (pos 6 ∷ []) (pos 3) 5 ∷ [];
+  processes = sample (pos 1) 5 ∷ process_in (pos 6) (pos 5 ∷ []) (pos 2) 5 ∷ process_in (pos 6) [] (pos 3) 5 ∷ [];
   last = pos 3;
 }
 

@@ -22,9 +22,13 @@ pub struct Queue {
 }
 
 impl Model for Queue {
+    ghost use Rattle.std.specs.Coded.{codes};
+    ghost use Rattle.muf_process.specs.contracts.running.Running as running;
     ghost use Rattle.muck_queue.specs.Queues.{Queue as Table};
 
     ghost Value = { Table };
+
+    ghost coded = { Prim.hlevel (codes, running.the_row.coded) };
 
     ghost view = { λ q. record { processes = q.processes.items; last = q.last } };
 }
