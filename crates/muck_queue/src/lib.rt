@@ -5,6 +5,8 @@ mod fault;
 mod process;
 mod processes;
 mod queue;
+#[cfg(test)]
+mod tests;
 
 pub use fault::QueueFault;
 pub use process::{Mode, Process};
