@@ -1,6 +1,6 @@
 -- Which programs a unit leaves, and what a process makes of many units at once.
 use Rattle.std.proofs.Common.{◌≡◌, ℕ, zero, suc, ◌+◌, ◌-◌, ◌<◌, ◌≤◌, List, [], ◌∷◌, ◌++◌, take, reverse, drop, Bool, true, false, cond, refl, sym, ap, ◌∙◌, subst, arith}
-use Rattle.std.specs.Prelude.{length, nat_lt, ℤ, pos, negsuc, int_lt, Option, Some, None, slice_get, slice_set}
+use Rattle.std.specs.Prelude.{length, nat_lt, pos, negsuc, Option, Some, None, slice_get, slice_set}
 use Rattle.muf_model.specs.declared.code.Word.{Word}
 use Rattle.muf_model.specs.declared.code.Word.TheVariants.{Literal, Variable, Address, Primitive, Call, Bind, Store, Exit, Break, Continue, While, NextIndex, NextPair}
 use Rattle.muf_model.specs.declared.code.Closer.{Closer}
@@ -14,10 +14,10 @@ use Rattle.muf_model.specs.Datum.{Datum, int, text, object, variable, address, l
 use Rattle.muf_model.specs.Answer.{Answer, gives, stores, calls, refuses, unknown, owned_first, call_first, too_few, needing, fitting}
 use Rattle.muf_model.specs.Rows.{primitive}
 use Rattle.muf_model.specs.Tree.{Fork, if_word, try_word, Ring, begin_word, for_word, each_word, Block, stop, word, when, fork, ring, End, closes, hops, then_block, Definition}
-use Rattle.muf_model.specs.Source.{Turns, plain, indices, pairs, Program, Mark, looping, trying, calling, entering, Source, locked_of, with_variable, with_owned, owned_by, scope_of, open_of}
+use Rattle.muf_model.specs.Source.{plain, indices, pairs, Program, Mark, looping, trying, calling, entering, Source, locked_of, with_variable, with_owned, owned_by, scope_of, open_of}
 use Rattle.muf_model.specs.Unit as step
 use Rattle.muf_model.specs.Unit.{Outcome, goes, ended, faulted, asks, unit, units, and_then, Settled, ready, crowded}
-use Rattle.muf_model.specs.Chains.{Deed, Finish, over, broke, chain, chained, after_deed, resumed, callers_of, programs_of, count, taken, StandsAt, Keeps}
+use Rattle.muf_model.specs.Chains.{Deed, chain, chained, resumed, callers_of, programs_of, count, taken, StandsAt, Keeps}
 
 -- the same of an outcome by its form
 data Holds (ps : List Program) : Outcome → Type 0 where

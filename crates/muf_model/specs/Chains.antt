@@ -1,5 +1,5 @@
 -- A process: its units, and what the shared primitives do between them.
-use Rattle.std.specs.Prelude.{ℕ, zero, suc, List, [], ◌∷◌, ℤ}
+use Rattle.std.specs.Prelude.{◌≡◌, ℕ, zero, suc, drop, List, [], ◌∷◌, ℤ}
 use Rattle.muf_model.specs.declared.fault.MufFault.{MufFault}
 use Rattle.muf_model.specs.declared.fault.MufFault.TheVariants.{TooManyUnits}
 use Rattle.muf_model.specs.declared.prims.Primitive.{Primitive as Name}

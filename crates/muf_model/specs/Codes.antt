@@ -2,11 +2,13 @@
 use Rattle.std.specs.Prelude.{◌≡◌, ℕ, ℤ, pos, List, [], ◌∷◌, cond, ◌==◌, refl}
 use Rattle.std.proofs.Common.{ap, ◌∙◌}
 use Rattle.std.specs.Coded.{Coded, code_by, coded×, coded_ℕ, coded_ℤ, coded_list}
+use Rattle.muck_model.specs.contracts.lock.Lock as lock_type
 use Rattle.muck_model.specs.declared.lock.Lock.{Lock}
 use Rattle.muck_model.specs.declared.lock.Lock.TheVariants.{Free}
 use Rattle.muf_model.specs.declared.value.MapKey.TheVariants.{Number, Name}
 use Rattle.muf_model.specs.declared.code.Closer.{Closer}
 use Rattle.muf_model.specs.declared.code.Closer.TheVariants.{Semicolon, Repeat, Until}
+use Rattle.muf_model.specs.contracts.code.Word as word_type
 use Rattle.muf_model.specs.declared.code.Word.{Word}
 use Rattle.muf_model.specs.declared.code.Word.TheVariants.{Exit}
 use Rattle.muf_model.specs.Datum.{Datum, int, text, object, variable, address, lock, items, dict, mark, Data, no_data, datum, Pairs, no_pairs, pair}
@@ -152,9 +154,9 @@ mutual
 pub same_datum : (d : Datum) → first_datum (datum_read (datum_written d [])) ≡ d
 same_datum d = ap first_datum (datum_again d [])
 
-abbrev pub datum_code : Coded Lock → Coded Datum
-datum_code lock_code =
-    code_by (List DatumPiece) (coded_list (code_by DatumParts (coded× coded_ℕ (coded× coded_ℤ (coded× coded_ℕ (coded× (coded_list coded_ℕ) lock_code)))) datum_parts datum_piece same_datum_piece)) (λ d. datum_written d []) (λ ps. first_datum (datum_read ps)) same_datum
+abbrev pub datum_code : Coded Datum
+datum_code =
+    code_by (List DatumPiece) (coded_list (code_by DatumParts (coded× coded_ℕ (coded× coded_ℤ (coded× coded_ℕ (coded× (coded_list coded_ℕ) lock_type.the_row.coded)))) datum_parts datum_piece same_datum_piece)) (λ d. datum_written d []) (λ ps. first_datum (datum_read ps)) same_datum
 
 -- ---- blocks and ends
 
@@ -294,14 +296,14 @@ same_written_block b = ap first_block (block_again b [])
 pub same_written_end : (e : End) → first_end (block_read (end_written e [])) ≡ e
 same_written_end e = ap first_end (end_again e [])
 
-abbrev block_piece_code : Coded Word → Coded BlockPiece
-block_piece_code word_code =
-    code_by BlockParts (coded× coded_ℕ (coded× coded_ℕ (coded× coded_ℕ (coded× coded_ℕ (coded× coded_ℕ word_code))))) block_parts block_piece same_block_piece
+abbrev block_piece_code : Coded BlockPiece
+block_piece_code =
+    code_by BlockParts (coded× coded_ℕ (coded× coded_ℕ (coded× coded_ℕ (coded× coded_ℕ (coded× coded_ℕ word_type.the_row.coded))))) block_parts block_piece same_block_piece
 
-abbrev pub block_code : Coded Word → Coded Block
-block_code word_code =
-    code_by (List BlockPiece) (coded_list (block_piece_code word_code)) (λ b. block_written b []) (λ ps. first_block (block_read ps)) same_written_block
+abbrev pub block_code : Coded Block
+block_code =
+    code_by (List BlockPiece) (coded_list block_piece_code) (λ b. block_written b []) (λ ps. first_block (block_read ps)) same_written_block
 
-abbrev pub end_code : Coded Word → Coded End
-end_code word_code =
-    code_by (List BlockPiece) (coded_list (block_piece_code word_code)) (λ e. end_written e []) (λ ps. first_end (block_read ps)) same_written_end
+abbrev pub end_code : Coded End
+end_code =
+    code_by (List BlockPiece) (coded_list block_piece_code) (λ e. end_written e []) (λ ps. first_end (block_read ps)) same_written_end

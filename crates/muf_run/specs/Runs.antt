@@ -6,6 +6,7 @@ use Rattle.muf_model.specs.declared.code.Code.{Code}
 use Rattle.muf_model.specs.declared.fault.MufFault.TheVariants.{CallsFull}
 use Rattle.muf_model.specs.Source.{Source}
 use Rattle.muf_model.specs.Unit.{Outcome, goes, ended, faulted, asks, unit}
+pub use Rattle.muf_model.specs.Chains.{count, taken}
 use Rattle.muf_model.specs.Flat.{Flat, decode}
 use Rattle.muf_model.specs.Fits.{FitsState, Fits}
 use Rattle.muf_run.specs.Alike.{EndsAlike}
@@ -26,29 +27,15 @@ Passed false code codes f s = EndsAlike (code ∷ codes) (machine.fault CallsFul
 -- but those of the programs that were left, and the state is read off it.
 abbrev pub RunsAlike : List Code → Local → Flat → Outcome → Type 0
 RunsAlike codes Spent f (goes zero s) = Fits codes f × (decode codes f ≡ s)
-RunsAlike codes Returned f (goes (suc k) s) = Fits (drop (suc k) codes) f × (decode (drop (suc k) codes) f ≡ s)
+RunsAlike codes (Returned j) f (goes (suc k) s) = (j ≡ suc k) × Fits (drop (suc k) codes) f × (decode (drop (suc k) codes) f ≡ s)
 RunsAlike codes Ended f ended = Unit {0}
 RunsAlike codes (Faulted g) f (faulted h) = g ≡ h
 RunsAlike codes (Shared p) f (asks q s) = (p ≡ q) × Fits codes f × (decode codes f ≡ s)
 RunsAlike codes _ f _ = ⊥
 
--- one unit more than those behind it, where the process goes on in the same program; none where a shared primitive
--- comes next
-abbrev pub count : Outcome → (Source → ℕ) → ℕ
-count (goes zero s) more = suc (more s)
-count (goes (suc k) s) more = 1
-count ended more = 1
-count (faulted f) more = 1
-count (asks p s) more = 0
-
--- how many units are taken, of so many at most
-abbrev pub taken : ℕ → Source → ℕ
-taken zero s = 0
-taken (suc n) s = count (unit s) (taken n)
-
 -- what the answer of the last unit makes of a run, and whether that was a unit
 abbrev pub local_of : Ran → Local
-local_of (ran.Going k) = Returned
+local_of (ran.Going k) = Returned k
 local_of ran.Ended = Ended
 local_of (ran.Faulted f) = Faulted f
 local_of (ran.Shared p) = Shared p

@@ -29,8 +29,8 @@ pub enum Local {
     Spent,
     /// A shared primitive comes next.
     Shared(Prim),
-    /// The last unit went back into the calling program.
-    Returned,
+    /// The last unit went back into a calling program, and left so many programs, at least one.
+    Returned(usize),
     /// The last unit ended the process.
     Ended,
     /// The last unit's fault was caught by no TRY.
@@ -138,9 +138,9 @@ fn finish(frame: &mut Frame, ran: Ran, taken: u32) -> Local
     ensures units { frame.new ≡ record frame.old { units = taken + last_of ran } }
 {
     match ran {
-        Ran::Going(_) => {
+        Ran::Going(programs) => {
             frame.set_units(taken + 1);
-            Local::Returned
+            Local::Returned(programs)
         }
         Ran::Ended => {
             frame.set_units(taken + 1);

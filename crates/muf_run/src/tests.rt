@@ -107,7 +107,7 @@ fn stop(local: &Local) -> u8 {
     match local {
         Local::Spent => 0,
         Local::Shared(_) => 1,
-        Local::Returned => 2,
+        Local::Returned(_) => 2,
         Local::Ended => 3,
         Local::Faulted(fault) => fault.number(),
     }
