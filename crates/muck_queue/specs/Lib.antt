@@ -1,1 +1,5 @@
 pub mod Queues
+pub mod Adding
+pub mod Numbered
+pub mod Leading
+pub mod Rows

@@ -1,4 +1,13 @@
-//! A stand-in.
+//! The processes of a world: those that run or wait, in the order of their numbers, and which one goes on next.
 #![tactic(auto)]
+
+mod fault;
 mod process;
+mod processes;
+mod queue;
+#[cfg(test)]
+mod tests;
+
+pub use fault::QueueFault;
 pub use process::{Mode, Process};
+pub use queue::Queue;

@@ -1,0 +1,171 @@
+-- Worked examples, which the checker computes.
+use Rattle.std.specs.Prelude.{◌≡◌, ℕ, ℤ, pos, true, false, List, [], ◌∷◌, map, refl, codes, Some, None}
+use Rattle.std.specs.Option.{option_map}
+use Rattle.muck_model.specs.declared.tune.Tune.{Tune}
+use Rattle.muck_live.specs.Objects.{dbref_of, nothing}
+use Rattle.muf_model.specs.declared.code.Closer.TheVariants.{Semicolon}
+use Rattle.muf_model.specs.Tree.{stop, closes}
+use Rattle.muf_model.specs.Source.{Program, Source, entering}
+use Rattle.muck_queue.specs.declared.process.Process.{Process}
+use Rattle.muck_queue.specs.declared.process.Mode.TheVariants.{Foreground}
+use Rattle.muck_queue.specs.Queues.{Queue, process, next_due, claimed, without, is_full, added, is_tied, ended_tied, ended_running, trigger_cleared, number_most}
+
+abbrev pub program_of : ℤ → Program
+program_of number = record { number = number; tree = record { words = []; variables = 0 } }
+
+-- a program that runs, called from the others, the nearest first
+abbrev pub state_of : ℤ → List ℤ → Source
+state_of number callers = record {
+  stack = [];
+  common = [];
+  owned = [];
+  variables = [];
+  program = program_of number;
+  now = stop;
+  end = closes Semicolon 1;
+  marks = map (λ caller. entering (program_of caller) [] stop (closes Semicolon 1)) callers;
+}
+
+-- a process of #1 that runs a program, called from the others, and that #4 started
+abbrev pub process_in : ℤ → List ℤ → ℤ → ℕ → Process
+process_in program callers n due = record {
+  number = n;
+  due = due;
+  player = dbref_of 1;
+  trigger = dbref_of 4;
+  command = codes "go";
+  descr = None;
+  mode = Foreground;
+  claim = None;
+  running = state_of program callers;
+}
+
+-- one that runs program #5
+abbrev pub sample : ℤ → ℕ → Process
+sample = process_in (pos 5) []
+
+abbrev pub tied_to : ℕ → Process → Process
+tied_to d p = record p { descr = Some d }
+
+abbrev pub of_player : ℕ → Process → Process
+of_player n p = record p { player = dbref_of n }
+
+abbrev pub numbers : Queue → List ℤ
+numbers q = map (λ p. p.number) q.processes
+
+-- 1 is due in second 5, 2 and 4 in second 3, and 4 numbers were given
+abbrev pub three : Queue
+three = record { processes = sample (pos 1) 5 ∷ sample (pos 2) 3 ∷ sample (pos 4) 3 ∷ []; last = pos 4 }
+
+-- Which is claimed.
+
+first_due_row : next_due 9 three ≡ Some (pos 2)
+unfolding next_due
+first_due_row = refl
+
+same_second_row : next_due 9 (claimed (pos 2) 7 three) ≡ Some (pos 4)
+unfolding next_due claimed
+same_second_row = refl
+
+later_second_row : next_due 9 (claimed (pos 4) 7 (claimed (pos 2) 7 three)) ≡ Some (pos 1)
+unfolding next_due claimed
+later_second_row = refl
+
+too_early_row : next_due 4 (claimed (pos 4) 7 (claimed (pos 2) 7 three)) ≡ None
+unfolding next_due claimed
+too_early_row = refl
+
+nothing_due_row : next_due 2 three ≡ None
+unfolding next_due
+nothing_due_row = refl
+
+its_second_row : next_due 3 three ≡ Some (pos 2)
+unfolding next_due
+its_second_row = refl
+
+claimed_row : option_map (λ p. p.claim) (process (pos 2) (claimed (pos 2) 7 three)) ≡ Some (Some 7)
+unfolding claimed
+claimed_row = refl
+
+-- Adding and taking.
+
+-- a number isn't given again
+added_row : numbers (added (sample (pos 0) 8) (without (pos 4) three)) ≡ pos 1 ∷ pos 2 ∷ pos 5 ∷ []
+unfolding added without
+added_row = refl
+
+-- this many in all, and this many of a player
+abbrev pub limits : ℕ → ℕ → Tune
+limits most own = record {
+  instr_slice = 1;
+  preempt_units = 1;
+  m1_units = 1;
+  m2_units = 1;
+  process_limit = most;
+  player_processes = own;
+  mpi_commands = 1;
+  dump_interval = 1;
+}
+
+abbrev pub of_two : Queue
+of_two = record { processes = sample (pos 1) 5 ∷ of_player 2 (sample (pos 2) 5) ∷ []; last = pos 2 }
+
+has_room_row : is_full (dbref_of 1) (limits 3 2) of_two ≡ false
+unfolding is_full number_most
+has_room_row = refl
+
+all_full_row : is_full (dbref_of 1) (limits 2 2) of_two ≡ true
+unfolding is_full number_most
+all_full_row = refl
+
+own_full_row : is_full (dbref_of 1) (limits 3 1) of_two ≡ true
+unfolding is_full number_most
+own_full_row = refl
+
+other_player_row : is_full (dbref_of 3) (limits 3 1) of_two ≡ false
+unfolding is_full number_most
+other_player_row = refl
+
+no_number_row : is_full (dbref_of 3) (limits 3 1) (record { processes = []; last = pos 2147483647 }) ≡ true
+unfolding is_full number_most
+no_number_row = refl
+
+-- What ends.
+
+abbrev pub ties : Queue
+ties = record { processes = tied_to 7 (sample (pos 1) 5) ∷ sample (pos 2) 5 ∷ tied_to 8 (sample (pos 3) 5) ∷ []; last = pos 3 }
+
+is_tied_row : is_tied 7 ties ≡ true
+unfolding is_tied
+is_tied_row = refl
+
+not_tied_row : is_tied 9 ties ≡ false
+unfolding is_tied
+not_tied_row = refl
+
+ended_tied_row : numbers (ended_tied 7 ties) ≡ pos 2 ∷ pos 3 ∷ []
+unfolding ended_tied
+ended_tied_row = refl
+
+-- 1 runs #5, 2 runs #6, which #5 called, and 3 runs #6
+abbrev pub runners : Queue
+runners = record {
+  processes = sample (pos 1) 5 ∷ process_in (pos 6) (pos 5 ∷ []) (pos 2) 5 ∷ process_in (pos 6) [] (pos 3) 5 ∷ [];
+  last = pos 3;
+}
+
+ended_running_row : numbers (ended_running (dbref_of 5) runners) ≡ pos 3 ∷ []
+unfolding ended_running
+ended_running_row = refl
+
+ended_other_row : numbers (ended_running (dbref_of 6) runners) ≡ pos 1 ∷ []
+unfolding ended_running
+ended_other_row = refl
+
+cleared_row : map (λ p. p.trigger) (trigger_cleared (dbref_of 4) of_two).processes ≡ nothing ∷ nothing ∷ []
+unfolding trigger_cleared
+cleared_row = refl
+
+kept_trigger_row : map (λ p. p.trigger) (trigger_cleared (dbref_of 5) of_two).processes ≡ dbref_of 4 ∷ dbref_of 4 ∷ []
+unfolding trigger_cleared
+kept_trigger_row = refl

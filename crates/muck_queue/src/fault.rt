@@ -1,0 +1,22 @@
+// Why a process can't be added.
+use muck_model::NoMemory;
+
+/// Why a process can't be added.
+#[derive(Clone, Copy, Debug, PartialEq, Eq)]
+pub enum QueueFault {
+    /// There are as many processes as may be, in all or of this player, or no number is left.
+    ProcessLimit,
+    /// Memory was wanted.
+    NoMemory,
+}
+
+impl From<NoMemory> for QueueFault {
+    ghost use Rattle.std.specs.Prelude.{◌≡◌};
+    ghost use Rattle.muck_queue.specs.declared.fault.QueueFault.TheVariants as refused;
+
+    ghost from_gives = { λ _ e. e ≡ refused.NoMemory };
+
+    fn from(_: NoMemory) -> Self {
+        QueueFault::NoMemory
+    }
+}

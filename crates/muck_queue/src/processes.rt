@@ -1,0 +1,114 @@
+// The processes, by rising number.
+ghost use Rattle.std.specs.Prelude.{◌≡◌, ◌≤◌, length, find, not, map, if◌then◌else◌, Some};
+ghost use Rattle.std.specs.List.{count_by, list_any, position, position_or_len};
+ghost use Rattle.std.specs.Option.{option_map_or, option_copied};
+ghost use Rattle.muck_queue.specs.Queues.{has_pid, is_of, is_due, is_before, is_tied_to, runs, has_trigger, earliest, earlier, changed_first, without_first, without_all, claimed_by, without_trigger};
+
+use crate::process::Process;
+use muck_model::Dbref;
+
+// The place of a process.
+fn found_at(processes: &[Process], pid: i32) -> Option<usize>
+    ensures { result ≡ position (has_pid pid) processes.now }
+{
+    processes.iter().position(|p| p.has_pid(pid))
+}
+
+/// The place of a process, or the length where it isn't there.
+pub fn place_of(processes: &Vec<Process>, pid: i32) -> usize
+    ensures at { result ≡ position_or_len (has_pid pid) processes.now.items }
+    ensures within { result ≤ length processes.now.items }
+{
+    found_at(processes, pid).unwrap_or(processes.len())
+}
+
+/// The process of a number.
+pub fn find_by(processes: &[Process], pid: i32) -> Option<&Process>
+    ensures { option_copied result ≡ find (has_pid pid) processes.now }
+{
+    processes.iter().find(|p| p.has_pid(pid))
+}
+
+/// How many processes a player has.
+pub fn count_of(processes: &[Process], player: Dbref) -> usize
+    ensures { result ≡ count_by (is_of player) processes.now }
+{
+    processes.iter().filter(|p| p.is_of(player)).count()
+}
+
+/// Whether a process is tied to a connection.
+pub fn is_tied(processes: &[Process], d: u32) -> bool
+    ensures { result ≡ list_any (is_tied_to d) processes.now }
+{
+    processes.iter().any(|p| p.is_tied_to(d))
+}
+
+// The earlier of two processes, of which the first may be missing.
+fn earlier<'a>(best: Option<&'a Process>, p: &'a Process) -> &'a Process
+    ensures { result.now ≡ option_map_or (λ q. earlier q p.now) (option_copied best.entry) p.now }
+{
+    match best {
+        Some(q) => if p.is_before(q) { p } else { q },
+        None => p,
+    }
+}
+
+/// The process that is to go on next.
+pub fn earliest(processes: &[Process], moment: u64) -> Option<&Process>
+    ensures { option_copied result ≡ earliest (is_due moment) processes.now }
+{
+    let mut best = None;
+    for p in processes {
+        if p.is_due(moment) {
+            best = Some(earlier(best, p));
+        }
+    }
+    best
+}
+
+/// A party claims the process of a number.
+pub fn claim(processes: &mut Vec<Process>, pid: i32, party: u8)
+    ensures { processes.new.items ≡ changed_first (has_pid pid) (claimed_by party) processes.old.items }
+{
+    let at = place_of(processes, pid);
+    if at < processes.len() {
+        let p = &mut processes[at];
+        p.claim = Some(party);
+    }
+}
+
+/// Takes out the process of a number.
+pub fn take(processes: &mut Vec<Process>, pid: i32) -> Option<Process>
+    ensures process { result ≡ find (has_pid pid) processes.old.items }
+    ensures rest { processes.new.items ≡ without_first (has_pid pid) processes.old.items }
+{
+    let at = place_of(processes, pid);
+    if at < processes.len() {
+        return Some(processes.remove(at));
+    }
+    None
+}
+
+/// The processes that are tied to a connection end.
+pub fn end_tied(processes: &mut Vec<Process>, d: u32)
+    ensures { processes.new.items ≡ without_all (is_tied_to d) processes.old.items }
+{
+    processes.retain(|p| !p.is_tied_to(d));
+}
+
+/// The processes that run a program end.
+pub fn end_running(processes: &mut Vec<Process>, program: Dbref)
+    ensures { processes.new.items ≡ without_all (runs program) processes.old.items }
+{
+    processes.retain(|p| !p.runs(program));
+}
+
+/// What started processes is gone.
+pub fn clear_trigger(processes: &mut Vec<Process>, trigger: Dbref)
+    ensures { processes.new.items ≡ map (λ p. if has_trigger trigger p then without_trigger p else p) processes.old.items }
+{
+    for i in 0..processes.len() {
+        let p = &mut processes[i];
+        p.clear_trigger(trigger);
+    }
+}

@@ -1,0 +1,173 @@
+// The processes of a world.
+ghost use Rattle.std.specs.Prelude.{◌≡◌, ◌≢◌, length, IfOk, OnOk, OnErr};
+ghost use Rattle.std.specs.Option.{option_copied, option_map_or};
+ghost use Rattle.muck_queue.specs.Queues.{empty_queue, process, next_due, claimed, without, is_full, added, is_tied, ended_tied, ended_running, trigger_cleared, number_most};
+ghost use Rattle.muck_queue.specs.Adding.{Adds};
+
+use crate::fault::QueueFault;
+use crate::process::Process;
+use crate::processes;
+use muck_model::{Dbref, NoMemory, Tune};
+use std::alloc::Global;
+use std::marker::Model;
+
+/// The processes of a world. Contracts see the processes by rising number, and the last number that was given.
+///
+/// There are as many processes as a wizard allows, at most 400. Each call costs at most a pass over them, `claim` two.
+/// Only `add` takes memory.
+#[derive(Drop)]
+pub struct Queue {
+    processes: Vec<Process>,
+    last: i32,
+}
+
+impl Model for Queue {
+    ghost use Rattle.std.specs.Coded.{codes};
+    ghost use Rattle.muf_process.specs.contracts.running.Running as running;
+    ghost use Rattle.muck_queue.specs.Queues.{Queue as Table};
+
+    ghost Value = { Table };
+
+    ghost coded = { Prim.hlevel (codes, running.the_row.coded) };
+
+    ghost view = { λ q. record { processes = q.processes.items; last = q.last } };
+}
+
+impl Queue {
+    /// No process. It takes no memory.
+    #[tactic(auto, unfolding(crate::specs::Queues::empty_queue))]
+    pub fn new(alloc: Global) -> Queue
+        ensures { result ≡ empty_queue }
+    {
+        Queue {
+            processes: Vec::new(alloc),
+            last: 0,
+        }
+    }
+
+    /// How many processes there are.
+    pub fn len(&self) -> usize
+        ensures { result ≡ length self.now.processes }
+    {
+        self.processes.len()
+    }
+
+    /// Whether no process of that player can be added: there are as many as may be, or as many of this player, or no
+    /// number is left.
+    #[tactic(auto, unfolding(crate::specs::Queues::is_full, crate::specs::Queues::number_most))]
+    pub fn is_full(&self, player: Dbref, tune: &Tune) -> bool
+        ensures { result ≡ is_full player tune.now self.now }
+    {
+        self.processes.len() >= tune.process_limit as usize
+            || processes::count_of(&self.processes, player) >= tune.player_processes as usize
+            || self.last == i32::MAX
+    }
+
+    /// Adds a process behind all others, and answers its number, the one after the last that was given; the number that
+    /// it came with is not looked at. `ProcessLimit` comes exactly where the queue is full for its player. After an error
+    /// nothing has changed, and the process is gone.
+    pub fn add(&mut self, process: Process, tune: &Tune) -> Result<i32, QueueFault>
+        ensures { Adds process tune.now self.old self.new result }
+    {
+        if self.is_full(process.player, tune) {
+            return Err(QueueFault::ProcessLimit);
+        }
+        let number = self.append(process)?;
+        Ok(number)
+    }
+
+    // Puts a process behind all others, with the next number.
+    #[tactic(auto, unfolding(crate::specs::Queues::added, crate::specs::Queues::number_most))]
+    fn append(&mut self, process: Process) -> Result<i32, NoMemory>
+        requires { self.old.last ≢ number_most }
+        ensures number { IfOk result (λ n. n ≡ self.new.last) }
+        ensures state { OnOk result (self.new ≡ added process self.old) }
+        ensures err { OnErr result (self.new ≡ self.old) }
+    {
+        let number = self.last + 1;
+        let mut process = process;
+        process.number = number;
+        self.processes.push(process)?;
+        self.last = number;
+        Ok(number)
+    }
+
+    /// The number of the process that is to go on next: of those whose second has come and that nobody has claimed, the
+    /// one that is due first, and where several are due in one second the one of the lowest number.
+    #[tactic(auto, unfolding(crate::specs::Queues::next_due))]
+    pub fn next_due(&self, moment: u64) -> Option<i32>
+        ensures { result ≡ next_due moment self.now }
+    {
+        match processes::earliest(&self.processes, moment) {
+            Some(p) => Some(p.number),
+            None => None,
+        }
+    }
+
+    /// A party claims the process that is to go on next. Answers its number, or `None` where there is none and nothing
+    /// has changed.
+    pub fn claim(&mut self, party: u8, moment: u64) -> Option<i32>
+        ensures number { result ≡ next_due moment self.old }
+        ensures state { self.new ≡ option_map_or (λ pid. claimed pid party self.old) result self.old }
+    {
+        let pid = self.next_due(moment)?;
+        self.claim_one(pid, party);
+        Some(pid)
+    }
+
+    // A party claims the process of a number.
+    #[tactic(auto, unfolding(crate::specs::Queues::claimed))]
+    fn claim_one(&mut self, pid: i32, party: u8)
+        ensures { self.new ≡ claimed pid party self.old }
+    {
+        processes::claim(&mut self.processes, pid, party);
+    }
+
+    /// The process of a number.
+    pub fn get(&self, pid: i32) -> Option<&Process>
+        ensures { option_copied result ≡ process pid self.now }
+    {
+        processes::find_by(&self.processes, pid)
+    }
+
+    /// Takes out the process of a number; `None`, and nothing has changed, where there is none.
+    #[tactic(auto, unfolding(crate::specs::Queues::without))]
+    pub fn take(&mut self, pid: i32) -> Option<Process>
+        ensures process { result ≡ process pid self.old }
+        ensures rest { self.new ≡ without pid self.old }
+    {
+        processes::take(&mut self.processes, pid)
+    }
+
+    /// Whether a process is tied to the connection.
+    #[tactic(auto, unfolding(crate::specs::Queues::is_tied))]
+    pub fn is_tied(&self, d: u32) -> bool
+        ensures { result ≡ is_tied d self.now }
+    {
+        processes::is_tied(&self.processes, d)
+    }
+
+    /// The processes that are tied to the connection end.
+    #[tactic(auto, unfolding(crate::specs::Queues::ended_tied))]
+    pub fn end_tied(&mut self, d: u32)
+        ensures { self.new ≡ ended_tied d self.old }
+    {
+        processes::end_tied(&mut self.processes, d);
+    }
+
+    /// The processes that run the program end, also those in which it is a caller of what runs.
+    #[tactic(auto, unfolding(crate::specs::Queues::ended_running))]
+    pub fn end_running(&mut self, program: Dbref)
+        ensures { self.new ≡ ended_running program self.old }
+    {
+        processes::end_running(&mut self.processes, program);
+    }
+
+    /// An object is gone: the processes that it started have the trigger `#-1` from now on.
+    #[tactic(auto, unfolding(crate::specs::Queues::trigger_cleared))]
+    pub fn clear_trigger(&mut self, trigger: Dbref)
+        ensures { self.new ≡ trigger_cleared trigger self.old }
+    {
+        processes::clear_trigger(&mut self.processes, trigger);
+    }
+}
