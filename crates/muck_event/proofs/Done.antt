@@ -30,7 +30,7 @@ use Rattle.muck_world.proofs.Numbered.{numbers, numbers-ties, numbers-same_ties,
 use Rattle.muck_world.proofs.Lines.{seating_at_login}
 use Rattle.muck_event.specs.World.{World, on_live}
 use Rattle.muck_event.specs.Following.{swept, settled}
-use Rattle.muck_event.specs.Lines.{with_editor, next_editor, after_edit, edited_line, editor_left, in_editor, editor_on, followed_up, in_world, command, line_done, done}
+use Rattle.muck_event.specs.Lines.{with_editor, next_editor, after_edit, edited_line, in_editor, editor_on, followed_up, in_world, command, line_done, done}
 use Rattle.muck_event.specs.Licences.{Untouched, free_for, LineLicensed, TurnLicensed}
 use Rattle.muck_event.proofs.Quietly.{Quietly, quietly_same, quietly_live, quietly_swept, quietly_launched, quietly_compiled}
 use Rattle.muck_event.proofs.Told.{licensed_told, licensed_as}
@@ -76,33 +76,36 @@ quiet_with_editor : (d : ℕ) (editor : Option EditState) → Quiet (with_editor
 unfolding edited_one
 quiet_with_editor d editor = quiet_one d (edited_connection editor) (λ c. refl)
 
-quiet_editor_left : (d : ℕ) → Quiet (editor_left d)
-unfolding editor_left
-quiet_editor_left d = quiet_followed _ _ (quiet_with_editor d None) (quiet_tell d editor_exited)
+-- the lines that wait, and an editor that is taken
+abbrev taken_out : ℕ → List (List ℕ) → Change
+taken_out d lines = waits d lines ▸ with_editor d None
+
+quiet_taken_out : (d : ℕ) (lines : List (List ℕ)) → Quiet (taken_out d lines)
+quiet_taken_out d lines = quiet_followed _ _ (quiet_waits d lines) (quiet_with_editor d None)
 
 open_after : (a : Actor) (free : Dbref → Bool) (start : Live) (dead : Bool) (d : ℕ) (program : Dbref) (step : EditStep) (u : World) → Open a free start dead u → Open a free start dead (after_edit d program step u)
 open_after a free start dead d program Compile u p = open_quietly a free start dead u _ p (quietly_compiled d program u)
 open_after a free start dead d program Stay u p = p
 open_after a free start dead d program Left u p = p
 
--- from a world in which only what waits differs
-licensed_from : (a : Actor) (free : Dbref → Bool) (d : ℕ) (lines : List (List ℕ)) (w v : Live) → Licensed a free (waits d lines w) v → Licensed a free w v
-unfolding waits
+-- from a world in which only what waits differs, and an editor
+licensed_from : (a : Actor) (free : Dbref → Bool) (d : ℕ) (lines : List (List ℕ)) (w v : Live) → Licensed a free (taken_out d lines w) v → Licensed a free w v
+unfolding waits followed edited_one
 licensed_from a free d lines w v l = record {
   gone = l.gone;
   recycled = l.recycled;
   objects = l.objects;
   lists = l.lists;
-  connections = ties_both a _ _ _ (ties_same a w.board.connections (waits d lines w).board.connections ((quiet_waits d lines).ties w)) l.connections;
+  connections = ties_both a _ _ _ (ties_same a w.board.connections (taken_out d lines w).board.connections ((quiet_taken_out d lines).ties w)) l.connections;
   tune = l.tune;
 }
 
 open_edited : (d : ℕ) (player : Dbref) (s : EditState) (line : List ℕ) (lines : List (List ℕ)) (w : World) →
-    Open (actor_of w.live.objects player) nobody w.live w.dead (edited_line d player s line (on_live (waits d lines) w))
-unfolding edited_line waits
+    Open (actor_of w.live.objects player) nobody w.live w.dead (edited_line d player s line (on_live (taken_out d lines) w))
+unfolding edited_line waits followed edited_one
 open_edited d player s line lines w =
     let a : Actor = actor_of w.live.objects player in
-    let u : World = on_live (waits d lines) w in
+    let u : World = on_live (taken_out d lines) w in
     let r = edited d a s line u.live in
     let l : Licensed a nobody w.live r.0 = licensed_from a nobody d lines w.live r.0 (edited_licensed d a s line u.live) in
     let v : World = record u { live = r.0 } in
@@ -110,18 +113,19 @@ open_edited d player s line lines w =
     open_after a nobody w.live w.dead d s.program r.2 _ (open_settled a nobody w.live w.dead _ e)
 
 left_open : (d : ℕ) (player : Dbref) (lines : List (List ℕ)) (w : World) →
-    Open (actor_of w.live.objects player) nobody w.live w.dead (on_live (editor_left d) (on_live (waits d lines) w))
+    Open (actor_of w.live.objects player) nobody w.live w.dead (on_live (tell d editor_exited) (on_live (taken_out d lines) w))
 unfolding followed
 left_open d player lines w =
-    let f : Change = waits d lines ▸ editor_left d in
-    let q : Quiet f = quiet_followed _ _ (quiet_waits d lines) (quiet_editor_left d) in
+    let f : Change = taken_out d lines ▸ tell d editor_exited in
+    let q : Quiet f = quiet_followed _ _ (quiet_taken_out d lines) (quiet_tell d editor_exited) in
     record { licensed = (whole_quiet (actor_of w.live.objects player) None (λ es. nobody) Always f q).law w.live tt tt; alive = refl }
 
 open_in_editor : (d : ℕ) (player : Dbref) (s : EditState) (line : List ℕ) (lines : List (List ℕ)) (w : World) →
-    Open (actor_of w.live.objects player) nobody w.live w.dead (in_editor d player s line (on_live (waits d lines) w))
-open_in_editor d player s line lines w = at (is_open s (waits d lines w.live))
+    Open (actor_of w.live.objects player) nobody w.live w.dead (in_editor d player s line (on_live (taken_out d lines) w))
+unfolding in_editor
+open_in_editor d player s line lines w = at (is_open s (taken_out d lines w.live))
   where
-    at : (b : Bool) → Open (actor_of w.live.objects player) nobody w.live w.dead (cond b (edited_line d player s line (on_live (waits d lines) w)) (on_live (editor_left d) (on_live (waits d lines) w)))
+    at : (b : Bool) → Open (actor_of w.live.objects player) nobody w.live w.dead (cond b (edited_line d player s line (on_live (taken_out d lines) w)) (on_live (tell d editor_exited) (on_live (taken_out d lines) w)))
     at true = open_edited d player s line lines w
     at false = left_open d player lines w
 

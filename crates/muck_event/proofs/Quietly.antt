@@ -32,10 +32,12 @@ use Rattle.muck_program.specs.Programs.{built_tree}
 use Rattle.muck_program.specs.Library.{Library, formed}
 use Rattle.muck_queue.specs.declared.process.Process.{Process}
 use Rattle.muck_queue.specs.Queues.{Queue, process, without, added}
+use Rattle.muck_event.specs.declared.starting.Agent.{Agent}
+use Rattle.muck_event.specs.declared.starting.Call.{Call as Started}
 use Rattle.muck_event.specs.World.{World, on_live, on_queue, with_library}
 use Rattle.muck_event.specs.Following.{followed, swept}
-use Rattle.muck_event.specs.Slices.{Doing, numbered, acting, needing, permitted_by, permitted, existing, programmed, behind, notify_items, notified, call_count, called_word, word_entered, form_entered, form_called, program_called, call_items, called, deed, finish_shown, with_finish, ran, sliced}
-use Rattle.muck_event.specs.Starting.{not_compiled, too_many, Call as Started, beginning, new_process, joined, word_started, form_started, built_started, start_judged, launched}
+use Rattle.muck_event.specs.Slices.{Doing, numbered, acting, needing, permitted_by, permitted, existing, programmed, behind, notify_items, notified, call_count, called_word, word_entered, form_entered, form_called, program_called, call_items, called, deed, finish_shown, with_finish, agent_of, ran, sliced}
+use Rattle.muck_event.specs.Starting.{not_compiled, too_many, beginning, new_process, joined, word_started, form_started, built_started, start_judged, launched}
 use Rattle.muck_event.specs.Lines.{compiled_so, compiled}
 
 -- no object differs, nor who the connections are, nor what is tuned, and the world is as dead as before
@@ -104,9 +106,9 @@ quiet_by : (o : Option Denial) (go : Doing) → IsQuiet go → IsQuiet (permitte
 quiet_by None go p w = p w
 quiet_by (Some denial) go p w = quietly_same w
 
-quiet_permitted : (p : Process) (s : Source) (act : Act) (go : Doing) → IsQuiet go → IsQuiet (permitted p s act go)
+quiet_permitted : (x : Agent) (s : Source) (act : Act) (go : Doing) → IsQuiet go → IsQuiet (permitted x s act go)
 unfolding permitted
-quiet_permitted p s act go q w = quiet_by (verdict w.live.objects (acting p s w.live.objects) act) go q w
+quiet_permitted x s act go q w = quiet_by (verdict w.live.objects (acting x s w.live.objects) act) go q w
 
 quiet_existing : (d : ℤ) (go : Doing) → IsQuiet go → IsQuiet (existing d go)
 unfolding existing
@@ -116,51 +118,51 @@ quiet_programmed : (d : ℤ) (go : Doing) → IsQuiet go → IsQuiet (programmed
 unfolding programmed
 quiet_programmed d go p w = either_deed _ w (go w) (fails BadType w) (p w) (quietly_same w)
 
-quiet_notify_items : (p : Process) (s : Source) (stack : List Datum) → IsQuiet (notify_items p s stack)
-quiet_notify_items p s (text t ∷ object d ∷ rest) =
-    quiet_existing d _ (quiet_permitted p s (Near (numbered d)) _ (λ w. quietly_live (tell_player (numbered d) t) (quiet_tell_player (numbered d) t) w))
-quiet_notify_items p s _ = λ w. quietly_same w
+quiet_notify_items : (x : Agent) (s : Source) (stack : List Datum) → IsQuiet (notify_items x s stack)
+quiet_notify_items x s (text t ∷ object d ∷ rest) =
+    quiet_existing d _ (quiet_permitted x s (Near (numbered d)) _ (λ w. quietly_live (tell_player (numbered d) t) (quiet_tell_player (numbered d) t) w))
+quiet_notify_items x s _ = λ w. quietly_same w
 
-quiet_notified : (p : Process) (s : Source) → IsQuiet (notified p s)
+quiet_notified : (x : Agent) (s : Source) → IsQuiet (notified x s)
 unfolding notified
-quiet_notified p s = quiet_needing 2 s _ (quiet_permitted p s (Shared 1) _ (quiet_notify_items p s s.stack))
+quiet_notified x s = quiet_needing 2 s _ (quiet_permitted x s (Shared 1) _ (quiet_notify_items x s s.stack))
 
 quiet_word_entered : (s : Source) (program : Program) (word : Option Definition) → IsQuiet (word_entered s program word)
 quiet_word_entered s program None w = quietly_same w
 quiet_word_entered s program (Some d) w = either_deed _ w (does (entered program d s) w) (fails CallsFull w) (quietly_same w) (quietly_same w)
 
-quiet_form_entered : (p : Process) (s after : Source) (d : ℤ) (name : Option (List ℕ)) (form : Option Tree) → IsQuiet (form_entered p s after d name form)
-quiet_form_entered p s after d name None w = quietly_same w
-quiet_form_entered p s after d name (Some tree) w = quiet_word_entered after (record { number = d; tree = tree }) (called_word (acting p s w.live.objects) name tree) w
+quiet_form_entered : (x : Agent) (s after : Source) (d : ℤ) (name : Option (List ℕ)) (form : Option Tree) → IsQuiet (form_entered x s after d name form)
+quiet_form_entered x s after d name None w = quietly_same w
+quiet_form_entered x s after d name (Some tree) w = quiet_word_entered after (record { number = d; tree = tree }) (called_word (acting x s w.live.objects) name tree) w
 
 deed_after : (w v : World) (d : Deed World) → Quietly w v → DeedQuietly v d → DeedQuietly w d
 deed_after w v (does s u) p q = quietly_both w v u p q
 deed_after w v (fails f u) p q = quietly_both w v u p q
 
-quiet_form_called : (p : Process) (s after : Source) (d : ℤ) (name : Option (List ℕ)) (made : Option Tree × Library) (w : World) → DeedQuietly w (form_called p s after d name made w)
-quiet_form_called p s after d name (form, library) w =
-    deed_after w (with_library library w) _ (quietly_library library w) (quiet_form_entered p s after d name form (with_library library w))
+quiet_form_called : (x : Agent) (s after : Source) (d : ℤ) (name : Option (List ℕ)) (made : Option Tree × Library) (w : World) → DeedQuietly w (form_called x s after d name made w)
+quiet_form_called x s after d name (form, library) w =
+    deed_after w (with_library library w) _ (quietly_library library w) (quiet_form_entered x s after d name form (with_library library w))
 
-quiet_program_called : (p : Process) (s : Source) (d : ℤ) (name : Option (List ℕ)) (rest : List Datum) → IsQuiet (program_called p s d name rest)
+quiet_program_called : (x : Agent) (s : Source) (d : ℤ) (name : Option (List ℕ)) (rest : List Datum) → IsQuiet (program_called x s d name rest)
 unfolding program_called
-quiet_program_called p s d name rest =
-    quiet_existing d _ (quiet_programmed d _ (quiet_permitted p s (CallAct (numbered d)) _
-    (λ w. quiet_form_called p s (behind rest s) d name (formed w.live.objects (numbered d) w.library) w)))
+quiet_program_called x s d name rest =
+    quiet_existing d _ (quiet_programmed d _ (quiet_permitted x s (CallAct (numbered d)) _
+    (λ w. quiet_form_called x s (behind rest s) d name (formed w.live.objects (numbered d) w.library) w)))
 
-quiet_call_items : (p : Process) (s : Source) (stack : List Datum) → IsQuiet (call_items p s stack)
-quiet_call_items p s (text t ∷ object d ∷ rest) = quiet_program_called p s d (Some t) rest
-quiet_call_items p s (object d ∷ rest) = quiet_program_called p s d None rest
-quiet_call_items p s _ = λ w. quietly_same w
+quiet_call_items : (x : Agent) (s : Source) (stack : List Datum) → IsQuiet (call_items x s stack)
+quiet_call_items x s (text t ∷ object d ∷ rest) = quiet_program_called x s d (Some t) rest
+quiet_call_items x s (object d ∷ rest) = quiet_program_called x s d None rest
+quiet_call_items x s _ = λ w. quietly_same w
 
-quiet_called : (p : Process) (s : Source) → IsQuiet (called p s)
+quiet_called : (x : Agent) (s : Source) → IsQuiet (called x s)
 unfolding called
-quiet_called p s = quiet_needing 1 s _ (quiet_needing (call_count s.stack) s _ (quiet_permitted p s (Shared 1) _ (quiet_call_items p s s.stack)))
+quiet_called x s = quiet_needing 1 s _ (quiet_needing (call_count s.stack) s _ (quiet_permitted x s (Shared 1) _ (quiet_call_items x s s.stack)))
 
-quiet_deed : (p : Process) (name : Name) (s : Source) → IsQuiet (deed p name s)
+quiet_deed : (x : Agent) (name : Name) (s : Source) → IsQuiet (deed x name s)
 unfolding deed
-quiet_deed p Notify s = quiet_notified p s
-quiet_deed p Call s = quiet_called p s
-quiet_deed p _ s = λ w. quietly_same w
+quiet_deed x Notify s = quiet_notified x s
+quiet_deed x Call s = quiet_called x s
+quiet_deed x _ s = λ w. quietly_same w
 
 -- A process that runs.
 
@@ -190,12 +192,12 @@ quiet_finish : (player : Dbref) (finish : Finish) → Quiet (finish_shown player
 quiet_finish player over = quiet_unchanged
 quiet_finish player (broke n f) = quiet_tell_player player _
 
-quietly_finish : (p : Process) (w : World) (r : World × Finish) → Quietly w r.0 → Quietly w (with_finish p r)
-quietly_finish p w (v, finish) q = quietly_both w v _ q (quietly_live (finish_shown p.player finish) (quiet_finish p.player finish) v)
+quietly_finish : (player : Dbref) (w : World) (r : World × Finish) → Quietly w r.0 → Quietly w (with_finish player r)
+quietly_finish player w (v, finish) q = quietly_both w v _ q (quietly_live (finish_shown player finish) (quiet_finish player finish) v)
 
 pub quietly_ran : (p : Process) (w : World) → Quietly w (ran p w)
 unfolding ran
-quietly_ran p w = quietly_finish p w _ (quiet_chain (deed p) (quiet_deed p) w.live.board.tune.m2_units p.running w)
+quietly_ran p w = quietly_finish p.player w _ (quiet_chain (deed (agent_of p)) (quiet_deed (agent_of p)) w.live.board.tune.m2_units p.running w)
 
 quietly_some : (pid : ℤ) (o : Option Process) (w : World) → Quietly w (option_map_or (λ p. ran p (on_queue (without pid) w)) o w)
 quietly_some pid None w = quietly_same w

@@ -6,7 +6,7 @@ use Rattle.muck_model.specs.declared.edit.EditState.{EditState}
 use Rattle.muck_live.specs.Objects.{object_at}
 use Rattle.muck_live.specs.Connections.{Connection}
 use Rattle.muck_live.specs.Boards.{edited_one}
-use Rattle.muck_live.specs.Lives.{Live, Change, ◌▸◌, on_board, tell, leave}
+use Rattle.muck_live.specs.Lives.{Live, Change, on_board, tell, leave}
 use Rattle.muf_model.specs.Tree.{Tree}
 use Rattle.muck_program.specs.declared.flaw.Flaw.{Flaw}
 use Rattle.muck_program.specs.Programs.{built_tree}
@@ -59,11 +59,8 @@ edited_line d player s line w =
     after_edit d s.program r.2 (settled (record w { live = with_editor d (next_editor r.2 r.1) r.0 }))
 
 -- an editor that isn't open any more is left
-unfoldable pub editor_left : ℕ → Change
-editor_left d = with_editor d None ▸ tell d editor_exited
-
-abbrev pub in_editor : ℕ → Dbref → EditState → List ℕ → World → World
-in_editor d player s line w = if is_open s w.live then edited_line d player s line w else on_live (editor_left d) w
+unfoldable pub in_editor : ℕ → Dbref → EditState → List ℕ → World → World
+in_editor d player s line w = if is_open s w.live then edited_line d player s line w else on_live (tell d editor_exited) w
 
 -- Commands.
 
@@ -85,11 +82,12 @@ in_world d player line w =
     let r = played d (actor_of w.live.objects player) line w.live in
     followed_up d player r.1 (settled (record w { live = r.0 }))
 
--- Lines go to the login screen, to the editor that is open, or are commands.
+-- Lines go to the login screen, to the editor that is open, or are commands. An editor is taken from its connection for
+-- its line.
 abbrev pub command : Option Dbref → Option EditState → ℕ → List ℕ → World → World
 command None editor d line w = on_live (at_login d line) w
 command (Some player) None d line w = in_world d player line w
-command (Some player) (Some s) d line w = in_editor d player s line w
+command (Some player) (Some s) d line w = in_editor d player s line (on_live (with_editor d None) w)
 
 -- the first waiting line of a connection is done
 abbrev pub line_done : ℕ → Option Dbref → Option EditState → List (List ℕ) → World → World

@@ -29,6 +29,7 @@ use Rattle.muf_model.specs.Chains.{callers_of, Deed, does, fails, Finish, over, 
 use Rattle.muck_program.specs.Library.{Library, formed}
 use Rattle.muck_queue.specs.declared.process.Process.{Process}
 use Rattle.muck_queue.specs.Queues.{process, without}
+use Rattle.muck_event.specs.declared.starting.Agent.{Agent}
 use Rattle.muck_event.specs.World.{World, on_live, on_queue, with_library}
 
 -- Who acts.
@@ -40,11 +41,11 @@ abbrev pub callers : Source → List Dbref
 callers s = map (λ p. numbered p.number) (callers_of s.marks)
 
 -- the running program acts by its level and its user, for the player of the process
-unfoldable pub acting : Process → Source → List Entry → Actor
-acting p s es = record {
+unfoldable pub acting : Agent → Source → List Entry → Actor
+acting x s es = record {
   level = level es (numbered s.program.number) (callers s);
-  user = user es p.player p.trigger (numbered s.program.number) (callers s);
-  player = p.player;
+  user = user es x.player x.trigger (numbered s.program.number) (callers s);
+  player = x.player;
 }
 
 -- The tests that a shared primitive begins with: `go` says how it goes on where they pass.
@@ -61,8 +62,8 @@ permitted_by None go w = go w
 permitted_by (Some denial) go w = fails (Denied denial.rule) w
 
 -- leave for an act of the running program
-unfoldable pub permitted : Process → Source → Act → Doing → Doing
-permitted p s act go w = permitted_by (verdict w.live.objects (acting p s w.live.objects) act) go w
+unfoldable pub permitted : Agent → Source → Act → Doing → Doing
+permitted x s act go w = permitted_by (verdict w.live.objects (acting x s w.live.objects) act) go w
 
 -- an object that is there
 unfoldable pub existing : ℤ → Doing → Doing
@@ -77,13 +78,13 @@ programmed d go w = if option_map_or (λ o. is_program o.kind) (object_at (numbe
 abbrev pub behind : List Datum → Source → Source
 behind rest s = passed (record s { stack = rest })
 
-abbrev pub notify_items : Process → Source → List Datum → Doing
-notify_items p s (text t ∷ object d ∷ rest) =
-    existing d (permitted p s (Near (numbered d)) (λ w. does (behind rest s) (on_live (tell_player (numbered d) t) w)))
-notify_items p s items = λ w. fails BadType w
+abbrev pub notify_items : Agent → Source → List Datum → Doing
+notify_items x s (text t ∷ object d ∷ rest) =
+    existing d (permitted x s (Near (numbered d)) (λ w. does (behind rest s) (on_live (tell_player (numbered d) t) w)))
+notify_items x s items = λ w. fails BadType w
 
-unfoldable pub notified : Process → Source → Doing
-notified p s = needing 2 s (permitted p s (Shared 1) (notify_items p s s.stack))
+unfoldable pub notified : Agent → Source → Doing
+notified x s = needing 2 s (permitted x s (Shared 1) (notify_items x s s.stack))
 
 -- CALL: the last word of a program, or a word of it that is offered.
 
@@ -109,33 +110,33 @@ word_entered s program None w = fails NotPublic w
 word_entered s program (Some d) w = if nat_lt (calls_of s.marks) calls_most then does (entered program d s) w else fails CallsFull w
 
 -- a word of the built form
-abbrev pub form_entered : Process → Source → Source → ℤ → Option (List ℕ) → Option Tree → Doing
-form_entered p s after d name None w = fails NotCompiled w
-form_entered p s after d name (Some tree) w =
-    word_entered after (record { number = d; tree = tree }) (called_word (acting p s w.live.objects) name tree) w
+abbrev pub form_entered : Agent → Source → Source → ℤ → Option (List ℕ) → Option Tree → Doing
+form_entered x s after d name None w = fails NotCompiled w
+form_entered x s after d name (Some tree) w =
+    word_entered after (record { number = d; tree = tree }) (called_word (acting x s w.live.objects) name tree) w
 
 -- the program is built where it isn't yet
-abbrev pub form_called : Process → Source → Source → ℤ → Option (List ℕ) → Option Tree × Library → Doing
-form_called p s after d name (form, library) w = form_entered p s after d name form (with_library library w)
+abbrev pub form_called : Agent → Source → Source → ℤ → Option (List ℕ) → Option Tree × Library → Doing
+form_called x s after d name (form, library) w = form_entered x s after d name form (with_library library w)
 
-unfoldable pub program_called : Process → Source → ℤ → Option (List ℕ) → List Datum → Doing
-program_called p s d name rest =
-    existing d (programmed d (permitted p s (CallAct (numbered d))
-    (λ w. form_called p s (behind rest s) d name (formed w.live.objects (numbered d) w.library) w)))
+unfoldable pub program_called : Agent → Source → ℤ → Option (List ℕ) → List Datum → Doing
+program_called x s d name rest =
+    existing d (programmed d (permitted x s (CallAct (numbered d))
+    (λ w. form_called x s (behind rest s) d name (formed w.live.objects (numbered d) w.library) w)))
 
-abbrev pub call_items : Process → Source → List Datum → Doing
-call_items p s (text t ∷ object d ∷ rest) = program_called p s d (Some t) rest
-call_items p s (object d ∷ rest) = program_called p s d None rest
-call_items p s items = λ w. fails BadType w
+abbrev pub call_items : Agent → Source → List Datum → Doing
+call_items x s (text t ∷ object d ∷ rest) = program_called x s d (Some t) rest
+call_items x s (object d ∷ rest) = program_called x s d None rest
+call_items x s items = λ w. fails BadType w
 
-unfoldable pub called : Process → Source → Doing
-called p s = needing 1 s (needing (call_count s.stack) s (permitted p s (Shared 1) (call_items p s s.stack)))
+unfoldable pub called : Agent → Source → Doing
+called x s = needing 1 s (needing (call_count s.stack) s (permitted x s (Shared 1) (call_items x s s.stack)))
 
 -- What a shared primitive does. No built program has one of those that aren't there yet.
-unfoldable pub deed : Process → Name → Source → Doing
-deed p Notify s = notified p s
-deed p Call s = called p s
-deed p _ s = λ w. fails NotCompiled w
+unfoldable pub deed : Agent → Name → Source → Doing
+deed x Notify s = notified x s
+deed x Call s = called x s
+deed x _ s = λ w. fails NotCompiled w
 
 -- The end.
 
@@ -147,12 +148,15 @@ abbrev pub finish_shown : Dbref → Finish → Change
 finish_shown player over = unchanged
 finish_shown player (broke n f) = tell_player player (program_error n f)
 
-abbrev pub with_finish : Process → World × Finish → World
-with_finish p (w, finish) = on_live (finish_shown p.player finish) w
+abbrev pub with_finish : Dbref → World × Finish → World
+with_finish player (w, finish) = on_live (finish_shown player finish) w
+
+abbrev pub agent_of : Process → Agent
+agent_of p = record { player = p.player; trigger = p.trigger }
 
 -- a process that is out of the queue runs to its end, in as many units as any process may take
 unfoldable pub ran : Process → World → World
-ran p w = with_finish p (chain (deed p) w.live.board.tune.m2_units p.running w)
+ran p w = with_finish p.player (chain (deed (agent_of p)) w.live.board.tune.m2_units p.running w)
 
 -- the process of a number runs
 unfoldable pub sliced : ℤ → World → World

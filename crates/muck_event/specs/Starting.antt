@@ -9,12 +9,13 @@ use Rattle.muck_rights.specs.Verdict.{verdict}
 use Rattle.muck_rights.specs.Asking.{refused}
 use Rattle.muf_model.specs.Tree.{Definition, Tree}
 use Rattle.muf_model.specs.Source.{Source, last_word, started}
-use Rattle.muf_process.specs.declared.occasion.Occasion.{Occasion}
-use Rattle.muf_process.specs.Occasions.{common_of}
+use Rattle.muf_process.specs.declared.begin.Occasion.{Occasion}
+use Rattle.muf_process.specs.Begins.{common_of}
 use Rattle.muck_program.specs.Library.{Library, formed}
 use Rattle.muck_queue.specs.declared.process.Process.{Process}
 use Rattle.muck_queue.specs.declared.process.Mode.TheVariants.{Foreground}
 use Rattle.muck_queue.specs.Queues.{is_full, added}
+use Rattle.muck_event.specs.declared.starting.Call.{Call}
 use Rattle.muck_event.specs.World.{World, on_live, on_queue, with_library}
 
 unfoldable pub not_compiled : List ℕ
@@ -22,14 +23,6 @@ not_compiled = codes "Program not compiled."
 
 unfoldable pub too_many : List ℕ
 too_many = codes "Too many processes."
-
--- by whom and by what a program is started, with its command and what it finds on its stack
-pub record Call : Type 0 where
-  pub player : Dbref
-  pub program : Dbref
-  pub trigger : Dbref
-  pub command : List ℕ
-  pub argument : List ℕ
 
 -- what ME, LOC, TRIGGER and COMMAND are at first
 abbrev pub occasion : Call → World → Occasion
