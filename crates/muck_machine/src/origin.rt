@@ -36,10 +36,12 @@ impl Model for Origin {
     ghost use Rattle.muck_event.specs.World.{World, booted};
     ghost use Rattle.std.specs.Coded.{codes};
     ghost use Rattle.muck_prop.specs.contracts.props.Props as props;
+    ghost use Rattle.muck_model.specs.contracts.lock.Lock as lock;
+    ghost use Rattle.muf_model.specs.Codes.{datum_code, block_code, end_code};
 
     ghost Value = { World };
 
-    ghost coded = { Prim.hlevel (codes, props.the_row.coded) };
+    ghost coded = { Prim.hlevel (codes, props.the_row.coded, lock.the_row.coded, datum_code, block_code, end_code) };
 
     ghost view = { λ o. booted o.word.shared.key.db o.word.shared.key.tune o.word.shared.key.moment o.word.shared.key.start };
 }
