@@ -99,3 +99,14 @@ pub slice_lawful : (w : World) (party : ℕ) (pid : ℤ) → IsSound w → is_la
     is_lawful (effect w (record { party = party; event = Claim pid })) (record { party = party; event = Slice pid }) ≡ true
 unfolding is_lawful effect
 slice_lawful w party pid h e = slice_may w party pid h.alive (due_of w.dead w.stopping _ h.alive e)
+
+alive_of : (dead stop : Bool) (moment : ℕ) (q : Queue) (pid : ℤ) → cond (dead || stop) None (next_due moment q) ≡ Some pid → dead ≡ false
+alive_of true stop moment q pid e = cc
+alive_of false stop moment q pid e = refl
+
+-- the choice of a turn is claimed, and then it may be sliced
+pub chosen_lawful : (w : World) (party : ℕ) (pid : ℤ) → next_process w ≡ Some pid →
+    is_lawful (effect w (record { party = party; event = Claim pid })) (record { party = party; event = Slice pid }) ≡ true
+unfolding is_lawful effect next_process
+chosen_lawful w party pid e =
+    slice_may w party pid (alive_of w.dead w.stopping w.moment w.queue pid e) (due_of w.dead w.stopping _ (alive_of w.dead w.stopping w.moment w.queue pid e) (claim_may w.dead w.stopping w.moment w.queue pid (alive_of w.dead w.stopping w.moment w.queue pid e) e))
