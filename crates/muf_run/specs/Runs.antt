@@ -26,7 +26,7 @@ Passed false code codes f s = EndsAlike (code ∷ codes) (machine.fault CallsFul
 -- but those of the programs that were left, and the state is read off it.
 abbrev pub RunsAlike : List Code → Local → Flat → Outcome → Type 0
 RunsAlike codes Spent f (goes zero s) = Fits codes f × (decode codes f ≡ s)
-RunsAlike codes Returned f (goes (suc k) s) = Fits (drop (suc k) codes) f × (decode (drop (suc k) codes) f ≡ s)
+RunsAlike codes (Returned j) f (goes (suc k) s) = (j ≡ suc k) × Fits (drop (suc k) codes) f × (decode (drop (suc k) codes) f ≡ s)
 RunsAlike codes Ended f ended = Unit {0}
 RunsAlike codes (Faulted g) f (faulted h) = g ≡ h
 RunsAlike codes (Shared p) f (asks q s) = (p ≡ q) × Fits codes f × (decode codes f ≡ s)
@@ -48,7 +48,7 @@ taken (suc n) s = count (unit s) (taken n)
 
 -- what the answer of the last unit makes of a run, and whether that was a unit
 abbrev pub local_of : Ran → Local
-local_of (ran.Going k) = Returned
+local_of (ran.Going k) = Returned k
 local_of ran.Ended = Ended
 local_of (ran.Faulted f) = Faulted f
 local_of (ran.Shared p) = Shared p

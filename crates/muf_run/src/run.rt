@@ -29,8 +29,8 @@ pub enum Local {
     Spent,
     /// A shared primitive comes next.
     Shared(Prim),
-    /// The last unit went back into the calling program.
-    Returned,
+    /// The last unit left so many programs, at least one, and went back into the one that called the last of them.
+    Returned(usize),
     /// The last unit ended the process.
     Ended,
     /// The last unit's fault was caught by no TRY.
@@ -138,9 +138,9 @@ fn finish(frame: &mut Frame, ran: Ran, taken: u32) -> Local
     ensures units { frame.new ≡ record frame.old { units = taken + last_of ran } }
 {
     match ran {
-        Ran::Going(_) => {
+        Ran::Going(programs) => {
             frame.set_units(taken + 1);
-            Local::Returned
+            Local::Returned(programs)
         }
         Ran::Ended => {
             frame.set_units(taken + 1);
@@ -157,7 +157,7 @@ fn finish(frame: &mut Frame, ran: Ran, taken: u32) -> Local
     }
 }
 
-/// Runs units of a program up to a shared primitive, to the end of the process, back into the calling program, or so
+/// Runs units of a program up to a shared primitive, to the end of the process, back into a calling program, or so
 /// many of them. `code` is the one with which the running program was entered. The frame tells how many units were
 /// taken. After `NoMemory` nothing is said of the frame.
 pub fn run_local(
