@@ -55,6 +55,7 @@ fn first_frame(alloc: Global, occasion: Occasion, arg: Line) -> Result<Frame, No
 }
 
 // Where a word of a program begins, how many variables it has, and how many its program has.
+#[derive(Clone, Copy)]
 pub(crate) struct Start {
     pub(crate) place: usize,
     pub(crate) variables: usize,
@@ -66,11 +67,13 @@ pub(crate) fn start_of(code: &Code, word: usize) -> Start
     requires { word < length code.now.words }
     ensures { StartsAt code.now word result }
 {
-    let word = &code.words.as_slice()[word];
-    Start {
-        place: word.start,
-        variables: word.variables,
-        owned: code.variables,
+    match code.words.get(word) {
+        Some(word) => Start {
+            place: word.start,
+            variables: word.variables,
+            owned: code.variables,
+        },
+        None => unreachable!(),
     }
 }
 
