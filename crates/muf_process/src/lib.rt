@@ -1,6 +1,14 @@
 //! A program that runs, which contracts see as the state of its source.
 #![tactic(auto)]
 
+mod begin;
+mod entered;
 mod running;
+mod stack;
+mod stint;
+#[cfg(test)]
+mod tests;
 
+pub use begin::Occasion;
 pub use running::Running;
+pub use stint::{Ran, Stint};

@@ -1,0 +1,17 @@
+-- How a process begins.
+use Rattle.std.specs.Prelude.{◌≡◌, ℕ, List, [], ◌∷◌, Some, slice_get}
+use Rattle.std.specs.Option.{option_map}
+use Rattle.muf_model.specs.declared.code.Code.{Code}
+use Rattle.muf_model.specs.Datum.{Datum, object, text}
+use Rattle.muf_process.specs.declared.begin.Occasion.{Occasion}
+use Rattle.muf_process.specs.declared.begin.Start.{Start}
+
+-- the first values of ME, LOC, TRIGGER and COMMAND
+abbrev pub common_of : Occasion → List Datum
+common_of o = object o.player.0 ∷ object o.place.0 ∷ object o.trigger.0 ∷ text o.command ∷ []
+
+-- the beginning of the word of this number
+abbrev pub StartsAt : Code → ℕ → Start → Type 0
+StartsAt code n start =
+    option_map (λ w. (w.start, w.variables)) (slice_get code.words n) ≡ Some (start.place, start.variables)
+    × (start.owned ≡ code.variables)

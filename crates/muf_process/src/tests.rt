@@ -1,0 +1,1 @@
+// Programs over hand-made code.
