@@ -1,16 +1,15 @@
 -- From the answers of the reader and the compiler to that of `build`.
-use Rattle.std.proofs.Common.{◌≡◌, ℕ, ◌<◌, zero, suc, true, false, List, [], ◌∷◌, length, Result, Ok, Err, refl, sym, ◌∙◌, ap, subst, arith}
+use Rattle.std.proofs.Common.{◌≡◌, ◌<◌, List, length, Result, Ok, Err, sym, ◌∙◌, ap, subst}
 use Rattle.muck_model.specs.declared.dbref.Dbref.{Dbref}
 use Rattle.muck_live.specs.Objects.{Entry}
 use Rattle.muf_model.specs.declared.code.Code.{Code}
-use Rattle.muf_model.specs.Tree.{Tree, Definition}
+use Rattle.muf_model.specs.Tree.{Tree}
 use Rattle.muf_model.specs.Stands.{TreeStands}
 use Rattle.muf_model.specs.Decode as decode
 use Rattle.muf_model.proofs.Unique.{tree_read}
 use Rattle.muf_token.specs.declared.token.Token.{Token}
 use Rattle.muf_token.specs.declared.fault.TokenFault.{TokenFault}
 use Rattle.muf_token.specs.declared.fault.TokenFault.TheVariants as read
-use Rattle.muf_token.specs.declared.fault.Refusal.{Refusal as ReadRefusal}
 use Rattle.muf_token.specs.Source.{words}
 use Rattle.muf_token.specs.Spots.{IsAnswer}
 use Rattle.muf_compile.specs.declared.fault.Refusal.{Refusal as CompileRefusal}
@@ -19,8 +18,7 @@ use Rattle.muf_compile.specs.declared.fault.CompileFault.TheVariants as compiled
 use Rattle.muf_compile.specs.Fits.{IsCode}
 use Rattle.muf_compile.specs.Growth.{tree_of}
 use Rattle.muf_compile.proofs.Worded.{tree_has_word}
-use Rattle.muck_program.specs.declared.flaw.BuildFault.{BuildFault}
-use Rattle.muck_program.specs.Flaws.{flaw_of_reading, flaw_of_compiling, fault_of_reading, fault_of_compiling}
+use Rattle.muck_program.specs.Flaws.{fault_of_reading, fault_of_compiling}
 use Rattle.muck_program.specs.Programs.{lent_in, source_in, built_tree, compiled_tree, tree_of_words, IsBuilt}
 
 -- ---- refusals

@@ -1,6 +1,6 @@
 -- A number in decimal is a text.
-use Rattle.std.proofs.Common.{◌≡◌, ℕ, ◌+◌, ◌<◌, ◌≤◌, ◌^◌, suc, Bool, true, false, cond, List, [], ◌∷◌, length, Some, None, refl, sym, ◌∙◌, ap, arith}
-use Rattle.std.specs.Prelude.{ℤ, pos, negsuc, ◌&&◌, not, nat_lt, nat_le, if◌then◌else◌}
+use Rattle.std.proofs.Common.{◌≡◌, ℕ, ◌+◌, ◌<◌, ◌≤◌, ◌^◌, suc, Bool, true, false, cond, List, [], ◌∷◌, length, Some, None, refl, ◌∙◌, ap, arith}
+use Rattle.std.specs.Prelude.{ℤ, pos, negsuc, ◌&&◌, not, nat_lt, if◌then◌else◌}
 use lib.Signed.{mag}
 use Rattle.std.specs.List.{list_all, position_or_len}
 use Rattle.std.specs.Fmt.{decimal, signed_decimal}

@@ -1,5 +1,5 @@
 -- What continues a directory: the rests of the paths, and where they stand.
-use Rattle.std.proofs.Common.{◌≡◌, ◌≤◌, ◌<◌, bytes_eq, ℕ, zero, suc, Bool, true, false, cond, ◌&&◌, List, [], ◌∷◌, ◌++◌, map, length, take, drop, ap, sym, refl, ◌∙◌, arith, length-append, append_assoc}
+use Rattle.std.proofs.Common.{◌≡◌, ◌≤◌, ◌<◌, bytes_eq, ℕ, zero, suc, Bool, true, false, cond, ◌&&◌, List, [], ◌∷◌, ◌++◌, map, length, drop, ap, sym, refl, ◌∙◌, arith, length-append, append_assoc}
 use Rattle.std.specs.List.{AllByRecursion, filter}
 use Rattle.std.specs.List.Sorted.{IsStrictlySortedBy}
 use Rattle.std.specs.Map.{keys_of}
@@ -14,7 +14,7 @@ use Rattle.muck_prop.specs.Order.{path_cmp, is_below}
 use Rattle.muck_prop.specs.Paths.{IsPath, IsSegment, path_text}
 use Rattle.muck_prop.specs.Store.{IsKept, behind, listed_below}
 use Rattle.muck_prop.proofs.Maps.{entries_are}
-use Rattle.muck_prop.proofs.Sequence.{none_below, below_is_after, is_less, after_start_reaches}
+use Rattle.muck_prop.proofs.Sequence.{none_below, is_less, after_start_reaches}
 
 -- ---- the rest of a path
 

@@ -1,7 +1,7 @@
-use Rattle.std.proofs.Common.{◌≡◌, rules, sym, subst, ap, ◌∙◌, true, ◌∷◌, arith, length, ◌<◌}
+use Rattle.std.proofs.Common.{◌≡◌, rules, sym, subst, ◌∙◌, arith}
 use Rattle.std.specs.BTreeMap.Range.{entries_between}
 use Rattle.std.specs.declared.ops.Bound.TheVariants.{Excluded, Unbounded}
-use Rattle.muck_prop.specs.Order.{path_cmp, is_below}
+use Rattle.muck_prop.specs.Order.{path_cmp}
 use Rattle.muck_prop.proofs.Listing.{IsListed, listing_begins, listing_goes, below_is_deeper}
 use Rattle.muck_prop.proofs.props.all_below.Goals as goal
 

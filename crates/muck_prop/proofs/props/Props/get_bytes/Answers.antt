@@ -1,4 +1,4 @@
-use Rattle.std.proofs.Common.{sym, ◌∙◌, ◌≡◌, Option, None, subst}
+use Rattle.std.proofs.Common.{sym, ◌∙◌, ◌≡◌, None, subst}
 use Rattle.std.specs.Option.{option_map_or}
 use Rattle.std.specs.Map.{lookup}
 use Rattle.std.specs.FinMap.{get}
