@@ -9,6 +9,7 @@ use Rattle.muf_model.specs.declared.code.Offer.TheVariants.{Wizards, All}
 use Rattle.muf_model.specs.declared.code.Literal.TheVariants as literal
 use Rattle.muf_model.specs.declared.code.Word.{Word}
 use Rattle.muf_model.specs.declared.code.Word.TheVariants as item
+use Rattle.muf_model.specs.Prims.{is_there}
 use Rattle.muf_token.specs.declared.token.Token.{Token}
 use Rattle.muf_token.specs.declared.token.TokenKind.{TokenKind}
 use Rattle.muf_token.specs.declared.token.TokenKind.TheVariants as token
@@ -71,6 +72,16 @@ word_of name k =
     or_else (option_map item.Variable (lookup (bytes_eq name) k.locals))
     (or_else (option_map item_of (lookup (bytes_eq name) k.names))
     (or_else (option_map item.Variable (standing_of name)) (option_map item.Primitive (primitive_of name))))
+
+-- whether programs may use an item so far
+abbrev pub may_use : Word → Bool
+may_use (item.Primitive p) = is_there p
+may_use _ = true
+
+-- the item, where programs may use it
+abbrev pub usable : Option Word → Option Word
+usable (Some w) = if may_use w then Some w else None
+usable None = None
 
 -- the number of the word that has this name
 abbrev pub number_in : Option Meaning → Option ℕ
@@ -249,7 +260,7 @@ meant line None k = refuse line UnknownWord
 
 abbrev pub plain : ℕ → List ℕ → Option Control → Known → Read
 plain line name (Some c) k = controlled line c k
-plain line name None k = meant line (word_of name k) k
+plain line name None k = meant line (usable (word_of name k)) k
 
 -- a word in a word
 abbrev pub read_inside : ℕ → TokenKind → Known → Read

@@ -8,7 +8,7 @@ use std::alloc::{AllocError, AllocFailed};
 /// Why a program is refused.
 #[derive(Clone, Copy, Debug, PartialEq, Eq)]
 pub enum CompileKind {
-    /// A word that means nothing.
+    /// A word that means nothing, or a primitive that isn't there yet.
     UnknownWord,
     /// An IF that isn't closed by a THEN.
     UnclosedIf,

@@ -4,7 +4,7 @@ ghost use Rattle.std.specs.Str.{bytes_eq};
 ghost use Rattle.std.specs.Map.{lookup};
 ghost use Rattle.muck_model.specs.Bytes.{text_fault};
 ghost use Rattle.muf_compile.specs.Names.{control_of, standing_of, primitive_of, or_else};
-ghost use Rattle.muf_compile.specs.Reading.{item_of, word_of, number_of, is_unfit, name_fault, wants, shared_variable, own_variable, before_bracket, titled_as, titled, offered, named, read_name, binding, header_end, argument, read_argument, read_result, declaration, read_outside, controlled, meant, plain, read_inside, read, nothing_known, Reads};
+ghost use Rattle.muf_compile.specs.Reading.{item_of, word_of, may_use, number_of, is_unfit, name_fault, wants, shared_variable, own_variable, before_bracket, titled_as, titled, offered, named, read_name, binding, header_end, argument, read_argument, read_result, declaration, read_outside, controlled, meant, plain, read_inside, read, nothing_known, Reads};
 ghost use Rattle.muf_compile.specs.Knowing.{known_of};
 
 use crate::act::{Act, Opening, Reading};
@@ -31,6 +31,16 @@ fn common_item(name: &[u8]) -> Option<Word>
     match primitive_of(name) {
         Some(primitive) => Some(Word::Primitive(primitive)),
         None => None,
+    }
+}
+
+// Whether programs may use an item so far.
+fn may_use(word: &Word) -> bool
+    ensures { result ≡ may_use word.now }
+{
+    match word {
+        Word::Primitive(primitive) => primitive.is_there(),
+        _ => true,
     }
 }
 
@@ -475,11 +485,11 @@ impl Known {
             return self.control(line, control);
         }
         match self.word_of(name) {
-            Some(word) => Ok(Reading {
+            Some(word) if may_use(&word) => Ok(Reading {
                 line,
                 act: Act::Item(word),
             }),
-            None => Err(CompileFault::at(line, CompileKind::UnknownWord)),
+            _ => Err(CompileFault::at(line, CompileKind::UnknownWord)),
         }
     }
 

@@ -108,6 +108,9 @@ fn faults_with_their_lines(rt: HostRuntime) -> Result<(), Fail> {
         ("public f : main ;", "!30 1"),
         ("5 : main ;", "!30 1"),
         ("if", "!30 1"),
+        (": main 1\nstrlen ;", "!30 2"),
+        (": main if random then ;", "!30 1"),
+        (": main { 1 }\narray_make ;", "!30 2"),
         (": main if ;", "!31 1"),
         (": main\n1 if\n2\n;", "!31 4"),
         (": main if\n", "!31 1"),
@@ -134,6 +137,8 @@ fn faults_with_their_lines(rt: HostRuntime) -> Result<(), Fail> {
         (": main 0 try catch catch endcatch ;", "!35 1"),
         ("var x\nlvar\nX", "!37 3"),
         ("var dup", "!37 1"),
+        ("var strlen", "!37 1"),
+        (": random ;", "!37 1"),
         ("var Me", "!37 1"),
         (": f ; : F ;", "!37 1"),
         (": f[ f -- ] ;", "!37 1"),
@@ -168,6 +173,10 @@ fn code_with_its_targets(rt: HostRuntime) -> Result<(), Fail> {
         (
             ": main pop 7 2 - intostr me @ swap notify ;",
             "main@0/0 1:Pop 1:7 1:2 1:Subtract 1:IntToStr 1:v0 1:Fetch 1:Swap 1:Notify 1:; 0",
+        ),
+        (
+            ": main \"a\" StrCat #5 \"f\" CALL abort ;",
+            "main@0/0 1:text 1:StrCat 1:#5 1:text 1:Call 1:Abort 1:; 0",
         ),
         (
             ": main if\n1 then\nif 2 else\n#3 then \"x\" ;",

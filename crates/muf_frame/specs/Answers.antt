@@ -49,9 +49,17 @@ abbrev pub as_object : Datum → Option ℤ
 as_object (object d) = Some d
 as_object _ = None
 
--- the item at a depth, as an integer, and as the number of an object
+-- the bytes of the text that a value is
+abbrev pub as_text : Datum → Option (List ℕ)
+as_text (text t) = Some t
+as_text _ = None
+
+-- the item at a depth, as an integer, as the number of an object, and as the bytes of a text
 abbrev pub int_at : ℕ → List Datum → Option ℤ
 int_at n stack = option_and_then as_int (slice_get stack n)
 
 abbrev pub object_at : ℕ → List Datum → Option ℤ
 object_at n stack = option_and_then as_object (slice_get stack n)
+
+abbrev pub text_at : ℕ → List Datum → Option (List ℕ)
+text_at n stack = option_and_then as_text (slice_get stack n)

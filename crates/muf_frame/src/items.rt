@@ -1,12 +1,12 @@
 // Items of a kind.
-ghost use Rattle.std.specs.Prelude.{◌≡◌, option_map};
+ghost use Rattle.std.specs.Prelude.{◌≡◌, option_map, option_copied};
 ghost use Rattle.muf_model.specs.View.{view};
 ghost use Rattle.muf_frame.specs.Shown.{Shown, flat};
-ghost use Rattle.muf_frame.specs.Answers.{as_int, as_object, int_at, object_at};
+ghost use Rattle.muf_frame.specs.Answers.{as_int, as_object, as_text, int_at, object_at, text_at};
 
 use crate::Frame;
 use muck_model::Dbref;
-use muf_model::Value;
+use muf_model::{Text, Value};
 
 // The integer that a value is.
 #[tactic(auto, using(crate::proofs::Data::item_steps))]
@@ -45,6 +45,24 @@ fn as_object(value: &Value) -> Option<Dbref>
     }
 }
 
+// The text that a value is.
+#[tactic(auto, using(crate::proofs::Data::item_steps))]
+fn as_text(value: &Value) -> Option<&Text>
+    ensures { option_copied result ≡ as_text (view value.now) }
+{
+    match value {
+        Value::Str(text) => Some(text),
+        Value::Int(_)
+        | Value::Ref(_)
+        | Value::Var(_)
+        | Value::Addr { .. }
+        | Value::Key(_)
+        | Value::Items(_)
+        | Value::Dict(_)
+        | Value::Mark => None,
+    }
+}
+
 impl Frame {
     /// The integer at this depth below the top; `None` exactly where another item or none is there.
     #[tactic(auto, using(crate::proofs::Data::list_steps))]
@@ -65,6 +83,16 @@ impl Frame {
     {
         match self.peek(depth) {
             Some(value) => as_object(value),
+            None => None,
+        }
+    }
+    /// The text at this depth below the top; `None` exactly where another item or none is there.
+    #[tactic(auto, using(crate::proofs::Data::list_steps))]
+    pub fn text_at(&self, depth: usize) -> Option<&Text>
+        ensures { option_copied result ≡ text_at depth (flat self.now).stack }
+    {
+        match self.peek(depth) {
+            Some(value) => as_text(value),
             None => None,
         }
     }

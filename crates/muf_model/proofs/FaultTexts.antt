@@ -1,4 +1,4 @@
--- The text of a fault is a text.
+-- Which bytes are a text, and that the text of a fault is one.
 use Rattle.std.proofs.Common.{◌≡◌, ℕ, ◌<◌, ◌≤◌, ◌+◌, ◌^◌, zero, suc, Bool, true, false, cond, List, [], ◌∷◌, ◌++◌, length, map, None, refl, arith, length-append}
 use Rattle.std.specs.Prelude.{not, codes, decimal}
 use Rattle.std.specs.List.{position_or_len, prefix_len}
@@ -10,14 +10,14 @@ use Rattle.muck_model.specs.Bytes.{is_outside, text_most, text_fault}
 use Rattle.muf_model.specs.declared.fault.MufFault.TheVariants.{Denied}
 use Rattle.muf_model.specs.Faults.{text_of}
 
-abbrev is_inside : ℕ → Bool
+abbrev pub is_inside : ℕ → Bool
 is_inside b = not (is_outside b)
 
 -- all bytes are those of texts
-abbrev IsInside : List ℕ → Type 0
+abbrev pub IsInside : List ℕ → Type 0
 IsInside xs = prefix_len is_inside xs ≡ length xs
 
-inside-cons : (b : ℕ) (xs : List ℕ) → is_inside b ≡ true → IsInside xs → IsInside (b ∷ xs)
+pub inside-cons : (b : ℕ) (xs : List ℕ) → is_inside b ≡ true → IsInside xs → IsInside (b ∷ xs)
 inside-cons b xs e h = rw e (omega (arith, h))
 
 inside-first : (b : ℕ) (xs : List ℕ) → IsInside (b ∷ xs) → (is_inside b ≡ true) × IsInside xs
@@ -26,7 +26,7 @@ inside-first b xs = elim (is_inside b) as (λ t. cond t (1 + prefix_len is_insid
   | false ↦ λ h. absurd (omega (arith, h))
 ]
 
-inside-append : (xs ys : List ℕ) → IsInside xs → IsInside ys → IsInside (xs ++ ys)
+pub inside-append : (xs ys : List ℕ) → IsInside xs → IsInside ys → IsInside (xs ++ ys)
 inside-append [] ys h k = k
 inside-append (x ∷ xs) ys h k = let f = inside-first x xs h in inside-cons x (xs ++ ys) f.0 (inside-append xs ys f.1 k)
 
@@ -37,12 +37,12 @@ inside-digits : (ds : List ℕ) → AllBelowBase 10 ds → IsInside (map (λ d. 
 inside-digits [] h = refl
 inside-digits (d ∷ ds) h = inside-cons (48 + d) (map (λ d. 48 + d) ds) (digit d h.0) (inside-digits ds h.1)
 
-inside-decimal : (n : ℕ) → n < 2 ^ 8 → IsInside (decimal n)
+pub inside-decimal : (n : ℕ) → n < 2 ^ 64 → IsInside (decimal n)
 inside-decimal zero l = rw (decimal_digit 0 (omega arith)) refl
 inside-decimal (suc n) l =
-    rw (decimal-digits_of (suc n) (omega arith) (omega arith)) (inside-digits (digits_of 10 (suc n)) (all_below_base_digits_of 10 (suc n) (omega arith)))
+    rw (decimal-digits_of (suc n) (omega arith) (omega (arith, l))) (inside-digits (digits_of 10 (suc n)) (all_below_base_digits_of 10 (suc n) (omega arith)))
 
-from_inside : (xs : List ℕ) → IsInside xs → length xs ≤ 4096 → text_fault xs ≡ None
+pub from_inside : (xs : List ℕ) → IsInside xs → length xs ≤ 4096 → text_fault xs ≡ None
 unfolding text_most
 from_inside xs h le =
     let past : length xs ≤ position_or_len is_outside xs = omega (arith, h) in
@@ -50,5 +50,5 @@ from_inside xs h le =
 
 pub denied_is_text : (rule : ℕ) → rule < 2 ^ 8 → text_fault (text_of (Denied rule)) ≡ None
 denied_is_text rule l =
-    from_inside (text_of (Denied rule)) (inside-append (codes "Permission denied (P") (decimal rule ++ codes ").") refl (inside-append (decimal rule) (codes ").") (inside-decimal rule l) refl))
+    from_inside (text_of (Denied rule)) (inside-append (codes "Permission denied (P") (decimal rule ++ codes ").") refl (inside-append (decimal rule) (codes ").") (inside-decimal rule (omega (arith, l))) refl))
     (rw (length-append (codes "Permission denied (P") (decimal rule ++ codes ").")) (rw (length-append (decimal rule) (codes ").")) (omega (arith, length-decimal-le 3 rule (omega arith) (omega arith) (omega arith)))))

@@ -1,6 +1,8 @@
 -- Worked programs, and the stacks that they leave.
 use Rattle.std.proofs.Common.{◌≡◌, ℕ, zero, suc, List, [], ◌∷◌, refl, Bool, true, false}
 use Rattle.std.specs.Prelude.{ℤ, pos, negsuc, codes, if◌then◌else◌}
+use Rattle.std.specs.Fmt.{digits}
+use Rattle.muck_model.specs.Bytes.{text_most}
 use Rattle.muf_model.specs.declared.code.Word.TheVariants.{Literal, Address, Primitive, Call, Exit, Break, Continue, NextIndex, NextPair}
 use Rattle.muf_model.specs.declared.code.Literal.TheVariants.{Int, Text}
 use Rattle.muf_model.specs.declared.code.Closer.TheVariants.{Semicolon, Repeat, Until}
@@ -8,7 +10,7 @@ use Rattle.muf_model.specs.declared.code.Offer.TheVariants.{Nobody}
 use Rattle.muf_model.specs.declared.fault.MufFault.{MufFault}
 use Rattle.muf_model.specs.declared.fault.MufFault.TheVariants.{CallsFull, Aborted, BadAddress}
 use Rattle.muf_model.specs.declared.prims.Primitive.{Primitive as Name}
-use Rattle.muf_model.specs.declared.prims.Primitive.TheVariants.{Pop, Dup, Depth, Add, Divide, Modulo, Execute, Abort, Rotate, BitShift, OpenMark, CloseMark, Greater}
+use Rattle.muf_model.specs.declared.prims.Primitive.TheVariants.{Pop, Dup, Depth, Add, Divide, Modulo, Execute, Abort, Rotate, BitShift, OpenMark, CloseMark, Greater, StrCat, IntToStr}
 use Rattle.muf_model.specs.Datum.{Datum, int, text, items, data_of}
 use Rattle.muf_model.specs.Tree.{try_word, begin_word, for_word, each_word, Block, stop, word, fork, ring, End, closes, Definition}
 use Rattle.muf_model.specs.Source.{Mark, Source, started}
@@ -156,6 +158,16 @@ nearest_mark = refl
 -- DEPTH doesn't count the locked part
 depth_above : run [] [] (n (pos 6) (n (pos 7) (n (pos 1) (try (p Depth stop) stop stop)))) ≡ leaves (ints (pos 1 ∷ pos 7 ∷ pos 6 ∷ []))
 depth_above = refl
+
+-- "Hello " 3 intostr strcat
+joins : run [] [] (t (codes "Hello ") (n (pos 3) (p IntToStr (p StrCat stop)))) ≡ leaves (text (codes "Hello 3") ∷ [])
+unfolding digits text_most
+joins = refl
+
+-- -3 intostr
+minus_three : run [] [] (n (negsuc 2) (p IntToStr stop)) ≡ leaves (text (codes "-3") ∷ [])
+unfolding digits
+minus_three = refl
 
 -- so many loops open inside one another
 abbrev begins : ℕ → Block

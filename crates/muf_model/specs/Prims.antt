@@ -212,6 +212,20 @@ is_local_family kind.Process = false
 abbrev pub is_local : Primitive → Bool
 is_local p = is_local_family (family_of p)
 
+-- whether programs may use all of a family so far
+abbrev pub is_there_family : Family → Bool
+is_there_family kind.Stack = true
+is_there_family kind.Number = true
+is_there_family _ = false
+
+-- whether programs may use it so far
+abbrev pub is_there : Primitive → Bool
+is_there StrCat = true
+is_there IntToStr = true
+is_there Notify = true
+is_there Call = true
+is_there p = is_there_family (family_of p)
+
 -- the name, in capitals
 abbrev pub name_of : Primitive → List ℕ
 name_of Pop = codes "POP"

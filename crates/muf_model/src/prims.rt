@@ -1,6 +1,6 @@
 // The primitives, by name.
 ghost use Rattle.std.specs.Prelude.{◌≡◌, bytes_eq, position, slice_get, option_and_then};
-ghost use Rattle.muf_model.specs.Prims.{level_of, is_local, family_of, name_of, primitives, named};
+ghost use Rattle.muf_model.specs.Prims.{level_of, is_local, is_there, family_of, name_of, primitives, named};
 
 /// A primitive, by its name. [`Prim`](crate::Prim) is another name of this type.
 #[derive(Clone, Copy, PartialEq, Eq, Debug)]
@@ -568,6 +568,16 @@ impl Primitive {
             self.family(),
             Family::Stack | Family::Number | Family::Text | Family::Array
         )
+    }
+
+    /// Whether programs may use it so far; a program that names another one doesn't compile.
+    pub fn is_there(self) -> bool
+        ensures { result ≡ is_there self }
+    {
+        match self {
+            Primitive::StrCat | Primitive::IntToStr | Primitive::Notify | Primitive::Call => true,
+            _ => matches!(self.family(), Family::Stack | Family::Number),
+        }
     }
 
     /// Its name, in capitals.

@@ -16,32 +16,36 @@ fn text(alloc: Global, bytes: &[u8]) -> Result<Text, NoMemory> {
 
 #[test]
 fn primitives_by_name(rt: HostRuntime) {
-    // The name, the level, and whether it needs no world.
-    let rows: [(&str, u8, bool); 16] = [
-        ("POP", 1, true),
-        ("?DUP", 1, true),
-        ("{", 1, true),
-        ("ABORT", 1, true),
-        ("+", 1, true),
-        ("DBCMP", 1, true),
-        ("ITOC", 1, true),
-        ("ARRAY_MAKE_DICT", 1, true),
-        ("OK?", 1, false),
-        ("SETNAME", 2, false),
-        ("RECYCLE", 3, false),
-        ("PARSEMPI", 3, false),
-        ("NOTIFY", 1, false),
-        ("CONBOOT", 4, false),
-        ("FORK", 3, false),
-        ("CMD", 1, false),
+    // The name, the level, whether it needs no world, and whether programs may use it so far.
+    let rows: [(&str, u8, bool, bool); 19] = [
+        ("POP", 1, true, true),
+        ("?DUP", 1, true, true),
+        ("{", 1, true, true),
+        ("ABORT", 1, true, true),
+        ("+", 1, true, true),
+        ("DBCMP", 1, true, true),
+        ("STRCAT", 1, true, true),
+        ("INTOSTR", 1, true, true),
+        ("ITOC", 1, true, false),
+        ("ARRAY_MAKE_DICT", 1, true, false),
+        ("OK?", 1, false, false),
+        ("SETNAME", 2, false, false),
+        ("RECYCLE", 3, false, false),
+        ("PARSEMPI", 3, false, false),
+        ("NOTIFY", 1, false, true),
+        ("CALL", 1, false, true),
+        ("CONBOOT", 4, false, false),
+        ("FORK", 3, false, false),
+        ("CMD", 1, false, false),
     ];
-    for (name, level, local) in rows {
+    for (name, level, local, there) in rows {
         match Prim::named(name.as_bytes()) {
             None => assert!(rt; false, "{name} is there"),
             Some(prim) => {
                 assert_eq!(rt; prim.name(), name.as_bytes());
                 assert_eq!(rt; prim.level(), level, "at {name}");
                 assert_eq!(rt; prim.local(), local, "at {name}");
+                assert_eq!(rt; prim.is_there(), there, "at {name}");
             }
         }
     }

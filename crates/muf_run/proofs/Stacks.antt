@@ -10,6 +10,10 @@ use Rattle.muf_model.specs.declared.fault.MufFault.TheVariants.{CallsFull, BadTy
 use Rattle.muf_model.specs.Datum.{Datum}
 use Rattle.muf_model.specs.declared.code.Code.{Code}
 use Rattle.muf_model.specs.Answer.{Answer, gives, stores, calls, refuses, unknown, variable_at}
+use Rattle.muf_model.specs.declared.prims.Primitive.{Primitive}
+use Rattle.muf_model.specs.declared.prims.Primitive.TheVariants.{StrCat, IntToStr}
+use Rattle.muf_model.specs.Prims.{is_there}
+use Rattle.muf_model.specs.TextRows.{text_row}
 use Rattle.muf_model.specs.Source.{Turns}
 use Rattle.muf_model.specs.Flat.{loop, Flat}
 use Rattle.muf_frame.specs.Shown.{locked_by, opened_by}
@@ -77,3 +81,9 @@ became_answered code (stores v x stack) s t h = ap (going 0) h
 became_answered code (calls w stack) s t h = absurd h
 became_answered code (refuses f) s t h = absurd h
 became_answered code unknown s t h = absurd h
+
+-- no row says what a primitive of texts does that isn't there
+pub text_not_there : (p : Primitive) (locked : ℕ) (stack : List Datum) → is_there p ≡ false → text_row p locked stack ≡ unknown
+text_not_there StrCat locked stack e = cc
+text_not_there IntToStr locked stack e = cc
+text_not_there _ locked stack e = refl

@@ -2,9 +2,10 @@
 ghost use Rattle.std.specs.Prelude.{◌≡◌, true, IfOk, slice_get, length};
 ghost use Rattle.muf_model.specs.declared.code.Code.{Code as Codes};
 ghost use Rattle.muf_model.specs.declared.prims.Family.TheVariants as family;
-ghost use Rattle.muf_model.specs.Prims.{family_of, is_local};
+ghost use Rattle.muf_model.specs.Prims.{family_of, is_local, is_there};
 ghost use Rattle.muf_model.specs.StackRows.{stack_row};
 ghost use Rattle.muf_model.specs.NumberRows.{number_row};
+ghost use Rattle.muf_model.specs.TextRows.{text_row};
 ghost use Rattle.muf_model.specs.Rows.{primitive};
 ghost use Rattle.muf_model.specs.View.{view};
 ghost use Rattle.muf_model.specs.Unit.{constant};
@@ -60,6 +61,20 @@ fn number_word(alloc: Global, frame: &mut Frame, prim: Prim) -> Result<Ran, NoMe
     ensures { IfOk result (λ ran. (code : Codes) → next_of ran (flat frame.new) ≡ machine.answered code (number_row prim (locked_by (flat frame.old).marks) (flat frame.old).stack) (flat frame.old)) }
 {
     match prim_math::apply(prim, frame) {
+        Ok(()) => Ok(Ran::Going(0)),
+        Err(PrimFault::Fault(refused)) => fault(alloc, frame, refused),
+        Err(PrimFault::NoMemory) => Err(NoMemory),
+    }
+}
+
+// A primitive of texts that is there.
+#[tactic(auto, using(crate::proofs::Stacks::became_answered))]
+fn text_word(alloc: Global, frame: &mut Frame, prim: Prim) -> Result<Ran, NoMemory>
+    requires family { family_of prim ≡ family.Text }
+    requires there { is_there prim ≡ true }
+    ensures { IfOk result (λ ran. (code : Codes) → next_of ran (flat frame.new) ≡ machine.answered code (text_row prim (locked_by (flat frame.old).marks) (flat frame.old).stack) (flat frame.old)) }
+{
+    match prim_text::apply(alloc, prim, frame) {
         Ok(()) => Ok(Ran::Going(0)),
         Err(PrimFault::Fault(refused)) => fault(alloc, frame, refused),
         Err(PrimFault::NoMemory) => Err(NoMemory),
@@ -124,7 +139,8 @@ fn address(alloc: Global, frame: &mut Frame, word: u32) -> Result<Ran, NoMemory>
     push(alloc, frame, Value::Addr { program, word })
 }
 
-// A local primitive.
+// A local primitive. One that isn't there yet ends the process.
+#[tactic(auto, using(crate::proofs::Stacks::text_not_there))]
 #[inline(always)]
 fn primitive(alloc: Global, code: &Code, frame: &mut Frame, prim: Prim) -> Result<Ran, NoMemory>
     requires { is_local prim ≡ true }
@@ -133,6 +149,7 @@ fn primitive(alloc: Global, code: &Code, frame: &mut Frame, prim: Prim) -> Resul
     match prim.family() {
         Family::Stack => stack_word(alloc, code, frame, prim),
         Family::Number => number_word(alloc, frame, prim),
+        Family::Text if prim.is_there() => text_word(alloc, frame, prim),
         Family::Text | Family::Array => Ok(Ran::Ended),
         Family::Object | Family::Property | Family::Talk | Family::Process => Ok(Ran::Ended),
     }

@@ -267,6 +267,24 @@ fn calls(rt: HostRuntime) -> Result<(), NoMemory> {
 }
 
 #[test]
+fn texts(rt: HostRuntime) -> Result<(), NoMemory> {
+    let cases = [
+        ("0", "7 INTOSTR -3 INTOSTR STRCAT ;", 3, 6, "\"7-3\""),
+        ("0", "7 8 STRCAT ;", 44, 3, "7 8"),
+        (
+            "0",
+            "7 1 try:4 STRCAT catch:4 ;",
+            3,
+            5,
+            "\"Stack underflow.\"",
+        ),
+        ("0", "7 STRLEN ;", 3, 2, "7"),
+    ];
+    assert_eq!(rt; first_wrong(rt.alloc(), 100, &cases)?, None);
+    Ok(())
+}
+
+#[test]
 fn keys(rt: HostRuntime) -> Result<(), NoMemory> {
     let alloc = rt.alloc();
     let code = code_of(alloc, "0", "each:3 pair repeat ;")?;

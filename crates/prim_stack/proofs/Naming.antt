@@ -13,8 +13,9 @@ use Rattle.muf_model.specs.declared.prims.Primitive.{Primitive}
 use Rattle.muf_model.specs.declared.prims.Primitive.TheVariants.{Execute}
 use Rattle.muf_model.specs.Flat.{Flat}
 use Rattle.muf_frame.specs.Moves.{scope_of}
+use Rattle.muf_frame.specs.Answers.{text_at}
 use Rattle.muf_frame.proofs.Data.{map_drop}
-use Rattle.prim_stack.specs.Does.{as_variable, as_address, as_text}
+use Rattle.prim_stack.specs.Does.{as_variable, as_address}
 
 abbrev fetch_read : Scope → Option ℕ → List Datum → Answer
 fetch_read s (Some v) rest = fetched (variable_at v s) rest
@@ -36,7 +37,7 @@ abbrev abort_read : Option (List ℕ) → Answer
 abort_read (Some t) = refuses (Aborted t)
 abort_read None = refuses BadType
 
-pub aborted_read : (stack : List Datum) → aborted stack ≡ abort_read (option_and_then as_text (slice_get stack 0))
+pub aborted_read : (stack : List Datum) → aborted stack ≡ abort_read (text_at 0 stack)
 aborted_read (text t ∷ rest) = refl
 aborted_read _ = refl
 

@@ -1,6 +1,6 @@
 -- What a primitive of the stack does, and what it looks at.
-use Rattle.std.specs.Prelude.{◌≡◌, ℕ, List, ℤ, Bool, true, false, Option, Some, None, Result, Ok, Err}
-use Rattle.muf_model.specs.Datum.{Datum, text, variable, address}
+use Rattle.std.specs.Prelude.{◌≡◌, ℕ, ℤ, Bool, true, false, Option, Some, None, Result, Ok, Err}
+use Rattle.muf_model.specs.Datum.{Datum, variable, address}
 use Rattle.muf_model.specs.declared.prims.Primitive.{Primitive}
 use Rattle.muf_model.specs.declared.prims.Primitive.TheVariants.{Pop, Dup, DupTrue, Swap, Over, Rot, Rotate, Pick, Put, Nip, Tuck, DupN, LDup, PopN, Reverse, Depth, OpenMark, CloseMark, Fetch, Store, IsInt, IsString, IsDbref, IsArray, IsDictionary, IsAddress, IsLock, Abort}
 use Rattle.muf_model.specs.Answer.{Answer, calls, refuses, counted}
@@ -34,7 +34,7 @@ abbrev pub true_in : Option Datum → Bool
 true_in (Some x) = is_true x
 true_in None = false
 
--- the variable, the address and the text that a value is
+-- the variable and the address that a value is
 abbrev pub as_variable : Datum → Option ℕ
 as_variable (variable v) = Some v
 as_variable _ = None
@@ -42,10 +42,6 @@ as_variable _ = None
 abbrev pub as_address : Datum → Option (ℤ × ℕ)
 as_address (address program word) = Some (program, word)
 as_address _ = None
-
-abbrev pub as_text : Datum → Option (List ℕ)
-as_text (text t) = Some t
-as_text _ = None
 
 -- the primitives of the stack that take no memory, beside EXECUTE
 abbrev pub moves : Primitive → Bool

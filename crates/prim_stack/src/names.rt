@@ -7,8 +7,8 @@ ghost use Rattle.muf_model.specs.Answer.{variable_at};
 ghost use Rattle.muf_model.specs.View.{view};
 ghost use Rattle.muf_frame.specs.Shown.{Shown, flat};
 ghost use Rattle.muf_frame.specs.Moves.{scope_of, with_variable};
-ghost use Rattle.muf_frame.specs.Answers.{Answered, AppliedOr};
-ghost use Rattle.prim_stack.specs.Does.{as_variable, as_address, as_text, Does, HasMemory};
+ghost use Rattle.muf_frame.specs.Answers.{Answered, AppliedOr, text_at};
+ghost use Rattle.prim_stack.specs.Does.{as_variable, as_address, Does, HasMemory};
 
 use crate::Done;
 use muck_model::{Dbref, NoMemory};
@@ -51,24 +51,6 @@ fn as_address(value: &Value) -> Option<(Dbref, u32)>
     }
 }
 
-// The text that a value is.
-#[tactic(auto, using(muf_frame::proofs::Data::item_steps))]
-fn as_text(value: &Value) -> Result<Option<Text>, NoMemory>
-    ensures { IfOk result (λ t. t ≡ as_text (view value.now)) }
-{
-    match value {
-        Value::Str(text) => Ok(Some(text.share()?)),
-        Value::Int(_)
-        | Value::Ref(_)
-        | Value::Var(_)
-        | Value::Addr { .. }
-        | Value::Key(_)
-        | Value::Items(_)
-        | Value::Dict(_)
-        | Value::Mark => Ok(None),
-    }
-}
-
 // The variable on the top.
 #[tactic(auto, using(crate::proofs::Tops::mark_steps))]
 fn variable_at_top(frame: &Frame) -> Option<VarId>
@@ -92,12 +74,11 @@ fn address_at_top(frame: &Frame) -> Option<(Dbref, u32)>
 }
 
 // The text on the top.
-#[tactic(auto, using(crate::proofs::Tops::mark_steps))]
 fn text_at_top(frame: &Frame) -> Result<Option<Text>, NoMemory>
-    ensures { IfOk result (λ t. t ≡ option_and_then as_text (slice_get (flat frame.now).stack 0)) }
+    ensures { IfOk result (λ t. t ≡ text_at 0 (flat frame.now).stack) }
 {
-    match frame.peek(0) {
-        Some(value) => Ok(as_text(value)?),
+    match frame.text_at(0) {
+        Some(text) => Ok(Some(text.share()?)),
         None => Ok(None),
     }
 }
