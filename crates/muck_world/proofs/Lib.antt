@@ -3,6 +3,8 @@ pub mod Trims
 pub mod Showing
 pub mod Built
 pub mod Gone
+pub mod Programmed
+pub mod Mine
 pub mod Permitted
 pub mod Numbered
 pub mod Lines

@@ -4,6 +4,7 @@ pub mod Finding
 pub mod Talking
 pub mod Going
 pub mod Building
+pub mod Programming
 pub mod Commands
 pub mod Free
 pub mod Talk
