@@ -61,7 +61,7 @@ turned n w None (Some pid) e f h others =
     let rest = others (effect v (by_porter (Slice pid))) (sound-effect v (by_porter (Slice pid)) (λ x. cc) then_may sound) in
     part_as (λ _. by_porter (Claim pid) ∷ by_porter (Slice pid) ∷ turns n (effect v (by_porter (Slice pid)))) (turns (suc n)) w
     (ap (λ p. turn (chosen None p) (λ t. turns n (after w (turn_entries t)))) (sym f) ∙ ap (λ o. turn (chosen o (next_process w)) (λ t. turns n (after w (turn_entries t)))) (sym e))
-    (record { lawful = (may, then_may, rest.lawful); sound = rest.sound })
+    (record { lawful = (may, (then_may, rest.lawful)); sound = rest.sound })
 
 pub lawful_turns : (n : ℕ) (w : World) → IsSound w → IsLawfulPart (turns n) w
 unfolding turns

@@ -15,6 +15,7 @@ after_turn n w None = []
 after_turn n w (Some t) = turns n (after w (turn_entries t))
 
 turns_by : (n : ℕ) (w : World) (o : Option Turn) → turn o (λ t. turns n (after w (turn_entries t))) ≡ entries_of o ++ after_turn n w o
+unfolding after_turn
 turns_by n w None = refl
 turns_by n w (Some t) = refl
 
@@ -61,7 +62,7 @@ nothing_more : (h : History) → extended h [] ≡ h
 nothing_more h = ap (λ (es : List Entry). record h { entries = es }) (append-nil h.entries)
 
 pub way_begins : (most : ℕ) (h : History) → IsOnTheWay most 0 h h
-way_begins most h = record { left = most; front = []; all = omega arith; count = refl; whole = refl; history = sym (nothing_more h) }
+way_begins most h = record { left = most; front = []; all = omega arith; count = omega arith; whole = refl; history = sym (nothing_more h) }
 
 way_on : (most done : ℕ) (old new next : History) (t : Turn) → IsOnTheWay most done old new → done < most → next_turn (now new) ≡ Some t → next ≡ extended new (turn_entries t) → IsOnTheWay most (done + 1) old next
 way_on most done old new next t way less e is = goes way.left way.all way.count way.whole where
@@ -90,9 +91,9 @@ way_goes_on most done old new next way less some is = at (next_turn (now new)) r
   at (Some t) e some is = way_on most done old new next t way less e is
 
 way_done : (most done : ℕ) (old new : History) (way : IsOnTheWay most done old new) → turns way.left (now new) ≡ [] → turns_taken way.left (now new) ≡ 0 → (done ≡ turns_taken most (now old)) × (new ≡ extended old (turns most (now old)))
-way_done most done old new way none no =
+way_done most done old new way none zero_left =
     let all : way.front ≡ turns most (now old) = sym (append-nil way.front) ∙ ap (λ (es : List Entry). way.front ++ es) (sym none) ∙ way.whole in
-    (omega (arith, way.count, no), way.history ∙ ap (extended old) all)
+    (omega (arith, way.count, zero_left), way.history ∙ ap (extended old) all)
 
 none_left : (o : Option Turn) → is_some o ≡ false → o ≡ None
 none_left None e = refl
@@ -100,8 +101,8 @@ none_left (Some t) e = cc
 
 -- nobody is ready any more
 pub way_ends : (most done : ℕ) (old new next : History) → IsOnTheWay most done old new → is_some (next_turn (now new)) ≡ false → next ≡ extended new (entries_of (next_turn (now new))) → (done ≡ turns_taken most (now old)) × (next ≡ extended old (turns most (now old)))
-way_ends most done old new next way no is =
-    let e : next_turn (now new) ≡ None = none_left (next_turn (now new)) no in
+way_ends most done old new next way nothing is =
+    let e : next_turn (now new) ≡ None = none_left (next_turn (now new)) nothing in
     let same : next ≡ new = is ∙ ap (λ (o : Option Turn). extended new (entries_of o)) e ∙ nothing_more new in
     let end = way_done most done old new way (turns-none way.left (now new) e) (taken-none way.left (now new) e) in
     (end.0, same ∙ end.1)

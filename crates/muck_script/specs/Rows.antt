@@ -10,10 +10,12 @@ use Rattle.muck_live.specs.Boards.{early_board, opened, closed, line_added, byte
 use Rattle.muck_live.specs.Lives.{followed, reading, either, unchanged, tell, leave}
 use Rattle.muck_event.specs.World.{starting, booted}
 use Rattle.muck_world.specs.Replies.{goodbye}
-use Rattle.muck_world.specs.Talk.{welcome, at_login, quit, command, waits, line_done, done, parted, gone_away}
-use Rattle.muck_event.specs.Steps.{is_lawful, effect, next_ready}
+use Rattle.muck_world.specs.Talk.{welcome, at_login, quit, waits, parted, gone_away}
+use Rattle.muck_queue.specs.Queues.{empty_queue, next_due, is_tied, ended_tied}
+use Rattle.muck_event.specs.Lines.{done}
+use Rattle.muck_event.specs.Steps.{is_lawful, effect, next_ready, next_process}
 use Rattle.muck_script.specs.Script.{act_of, script_of, script_most}
-use Rattle.muck_script.specs.Story.{turns, served, line_story, told, transcript}
+use Rattle.muck_script.specs.Story.{next_turn, turns, served, line_story, told, transcript}
 
 lines_row : lines_of (97 ∷ 10 ∷ 10 ∷ 98 ∷ []) ≡ (97 ∷ []) ∷ [] ∷ (98 ∷ []) ∷ []
 lines_row = refl
@@ -101,5 +103,5 @@ whole_row = refl
 -- `QUIT` at the login screen, which is the last that connection 1 does
 quit_row : transcript (Open 1 ∷ Send 1 (codes "quit") ∷ []) starting
     ≡ codes "1< Use: connect NAME PASSWORD, WHO or QUIT." ++ 10 ∷ codes "1< Come back later!" ++ 10 ∷ codes "1 closed" ++ 10 ∷ []
-unfolding starting booted early_board opened closed line_added bytes_taken told_one leaving_one followed reading either unchanged tell leave goodbye welcome quit command waits line_done done parted gone_away bytes_of lines_bytes line_sent lines_sent sent taken lines_taken is_lawful effect next_ready at_login sent_lines text_most queue_most turns served line_story told digits
+unfolding starting booted early_board opened closed line_added bytes_taken told_one leaving_one followed reading either unchanged tell leave goodbye welcome quit waits done parted empty_queue next_due is_tied ended_tied gone_away bytes_of lines_bytes line_sent lines_sent sent taken lines_taken is_lawful effect next_ready next_process next_turn at_login sent_lines text_most queue_most turns served line_story told digits
 quit_row = refl

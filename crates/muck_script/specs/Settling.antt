@@ -3,7 +3,7 @@ use Rattle.std.specs.Prelude.{◌≡◌, ℤ, List, [], ◌∷◌, ◌++◌, Opt
 use Rattle.muck_model.specs.declared.event.Entry.{Entry}
 use Rattle.muck_model.specs.declared.event.Event.TheVariants.{Died}
 use Rattle.muck_event.specs.Histories.{History, extended, by_porter}
-use Rattle.muck_script.specs.Story.{Turn, slice, turn_entries}
+use Rattle.muck_script.specs.Story.{Turn, of_process, turn_entries}
 
 -- what happens in a turn, if there is one
 abbrev pub entries_of : Option Turn → List Entry
@@ -12,7 +12,7 @@ entries_of (Some t) = turn_entries t
 
 abbrev pub slice_of : Option ℤ → Option Turn
 slice_of None = None
-slice_of (Some pid) = Some (slice pid)
+slice_of (Some pid) = Some (of_process pid)
 
 -- the first of these entries happened, and then memory was wanted
 pub record DiedDuring (entries : List Entry) (old new : History) : Type 0 where

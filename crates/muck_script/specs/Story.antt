@@ -29,13 +29,13 @@ acted (Send d text) w = if_lawful (Input d text) w
 
 -- A turn: the first line of a connection is done, or a process runs for a slice.
 pub data Turn : Type 0 where
-  line : ℕ → Turn
-  slice : ℤ → Turn
+  of_line : ℕ → Turn
+  of_process : ℤ → Turn
 
 -- lines come before processes
 abbrev pub chosen : Option ℕ → Option ℤ → Option Turn
-chosen (Some d) pid = Some (line d)
-chosen None (Some pid) = Some (slice pid)
+chosen (Some d) pid = Some (of_line d)
+chosen None (Some pid) = Some (of_process pid)
 chosen None None = None
 
 -- the next turn, where there is one
@@ -44,8 +44,8 @@ next_turn w = chosen (next_ready w) (next_process w)
 
 -- what happens in a turn: a process is claimed, and at once sliced
 abbrev pub turn_entries : Turn → List Entry
-turn_entries (line d) = by_porter (Exec d) ∷ []
-turn_entries (slice pid) = by_porter (Claim pid) ∷ by_porter (Slice pid) ∷ []
+turn_entries (of_line d) = by_porter (Exec d) ∷ []
+turn_entries (of_process pid) = by_porter (Claim pid) ∷ by_porter (Slice pid) ∷ []
 
 -- a turn is taken, and others follow; without one nothing follows
 abbrev pub turn : Option Turn → (Turn → List Entry) → List Entry
