@@ -1,5 +1,5 @@
 -- An editor stays open, and what a line of it does is open to its actor.
-use Rattle.std.proofs.Common.{◌≡◌, ℕ, zero, suc, ◌+◌, ◌-◌, ◌<◌, ◌≤◌, ◌==◌, Bool, true, false, ◌&&◌, cond, nat_lt, nat_le, List, [], ◌∷◌, ◌++◌, length, take, drop, codes, bytes_eq, Option, Some, None, Result, Ok, Err, IfSome, OnOk, refl, sym, ◌∙◌, ap, subst, slice_get, arith, length-append, length-take-le, length-drop}
+use Rattle.std.proofs.Common.{◌≡◌, ℕ, zero, suc, ◌+◌, ◌-◌, ◌<◌, ◌≤◌, ◌==◌, Bool, true, false, ◌&&◌, cond, nat_lt, nat_le, List, ◌∷◌, ◌++◌, length, take, drop, codes, bytes_eq, Option, Some, None, Result, Ok, Err, IfSome, OnOk, refl, sym, ◌∙◌, ap, subst, slice_get, arith, length-append, length-take-le, length-drop}
 use Rattle.std.proofs.lemmas.Bool.{ltb-true, leb-true, ltb-false}
 use Rattle.std.specs.Option.{option_map, option_and_then, option_map_or}
 use Rattle.muck_model.specs.declared.dbref.Dbref.{Dbref}
@@ -18,7 +18,7 @@ use Rattle.muck_rights.specs.Verdict.{verdict}
 use Rattle.muck_rights.specs.Asking.{answered, asked, refused}
 use Rattle.muck_rights.specs.Changing.{lines_kept}
 use Rattle.muck_rights.specs.Licence.{Licensed, nobody}
-use Rattle.muck_rights.proofs.Licences.{Quiet, quiet_followed, quiet_unchanged}
+use Rattle.muck_rights.proofs.Licences.{Quiet, quiet_followed}
 use Rattle.muck_rights.proofs.Lookups.{alive, seen_at, number_is}
 use Rattle.muck_rights.proofs.Shown.{quiet_tell, quiet_refused}
 use Rattle.muck_world.specs.declared.edit.EditCommand.{EditCommand}
@@ -28,9 +28,9 @@ use Rattle.muck_world.specs.declared.edit.EditStep.TheVariants.{Stay, Compile as
 use Rattle.muck_world.specs.Texts.{first_word, other_words, trimmed, is_alike}
 use Rattle.muck_world.specs.Finding.{where_so, is_so}
 use Rattle.muck_world.specs.Going.{is_program_at}
-use Rattle.muck_world.specs.Programming.{source_of, lines_shown}
+use Rattle.muck_world.specs.Programming.{source_of}
 use Rattle.muck_world.specs.Commands.{is_empty}
-use Rattle.muck_world.specs.Editing.{Editing, entering, exiting, deleted_reply, editor_exited, illegal, line_number, plain_command, line_command, lines_command, one_line, two_lines, edit_command, lines_most, stepped, with_line, line_inserted, same_lines, source_kept, edit_done, edit_some, edited_at, edited, IsOpen}
+use Rattle.muck_world.specs.Editing.{entering, exiting, deleted_reply, editor_exited, illegal, line_number, plain_command, line_command, lines_command, one_line, two_lines, edit_command, lines_most, stepped, with_line, line_inserted, same_lines, source_kept, edit_done, edit_some, edited_at, edited, IsOpen}
 use Rattle.muck_world.proofs.Programmed.{quiet_lines_shown}
 use Rattle.muck_world.proofs.Edited.{edited_licensed}
 use Rattle.muck_perm.specs.declared.guard.Guard.{Guard}
