@@ -1,6 +1,6 @@
 use Rattle.std.proofs.Common.{Ok}
-use Rattle.muck_edit.proofs.Shown.{shown_one, shown_none}
-use Rattle.muck_edit.proofs.showing.show_lines.Goals as goal
+use Rattle.cmd_parts.proofs.Shown.{shown_one, shown_none}
+use Rattle.cmd_parts.proofs.showing.show_lines.Goals as goal
 
 pub loop-line-init : goal.loop-line-init
 loop-line-init c = λ new r t. t

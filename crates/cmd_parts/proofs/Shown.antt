@@ -3,7 +3,7 @@ use Rattle.std.proofs.Common.{◌≡◌, ℕ, ◌+◌, ◌<◌, ◌≤◌, List,
 use Rattle.std.proofs.lemmas.List.{drop_all}
 use Rattle.muck_model.specs.declared.memory.NoMemory.{NoMemory}
 use Rattle.muck_live.specs.Lives.{tell}
-use Rattle.muck_world.specs.Editing.{lines_shown}
+use Rattle.muck_world.specs.Programming.{lines_shown}
 use Rattle.muck_perm.specs.declared.guard.Guard.{Guard}
 use Rattle.muck_perm.specs.Guards.{Did, Done}
 use Rattle.cmd_parts.proofs.Doing.{did_both, did_nothing}

@@ -1,9 +1,9 @@
-use Rattle.std.proofs.Common.{◌≡◌, drop, Result}
+use Rattle.std.proofs.Common.{drop, Result}
 use Rattle.muck_model.specs.declared.memory.NoMemory.{NoMemory}
-use Rattle.muck_world.specs.Editing.{lines_shown}
+use Rattle.muck_world.specs.Programming.{lines_shown}
 use Rattle.muck_perm.specs.declared.guard.Guard.{Guard}
 use Rattle.muck_perm.specs.Guards.{Did}
-use Rattle.muck_edit.proofs.showing.show_lines.Given as goal
+use Rattle.cmd_parts.proofs.showing.show_lines.Given as goal
 
 -- what shows the rest from here shows all from the start
 abbrev pub invariant-loop-line : goal.invariant-loop-line
