@@ -3,10 +3,10 @@ ghost use Rattle.std.specs.Prelude.{◌<◌, IfOk, length};
 ghost use Rattle.muf_model.specs.Decode.{tree_of};
 ghost use Rattle.muf_model.specs.Stands.{TreeStands};
 
-use crate::{Occasion, Ran, Running};
+use crate::{Occasion, Ran, Running, Stint};
 use muck_model::{Dbref, Line, LineFault, NoMemory};
 use muf_compile::compile;
-use muf_model::{Code, MufFault, Prim, Shared};
+use muf_model::{Code, MufFault, Shared};
 use muf_token::{MemIncludes, tokens};
 use std::alloc::Global;
 
@@ -120,19 +120,30 @@ fn called(alloc: Global, running: Running, source: &str) -> Result<Running, NoMe
     }
 }
 
+fn nearest_caller(alloc: Global, running: &Running) -> Result<Option<Dbref>, NoMemory> {
+    let callers = running.callers(alloc)?;
+    Ok(callers.get(0).copied())
+}
+
+// The process that goes on.
+fn going(stint: Stint) -> Result<Running, NoMemory> {
+    match stint.ran {
+        Ran::Going(running) => Ok(running),
+        Ran::Asking(_prim, _running) => Err(NoMemory),
+        Ran::Ended => Err(NoMemory),
+        Ran::Faulted(_fault) => Err(NoMemory),
+    }
+}
+
 #[test]
 fn programs(rt: HostRuntime) -> Result<(), NoMemory> {
     let alloc = rt.alloc();
     let before = asking(alloc, begun(alloc, ": main notify 8 ;")?)?;
     let running = called(alloc, before, ": other 5 ;")?;
     assert_eq!(rt; (running.program(), running.calls()), (Dbref(9), 1));
-    assert_eq!(rt; running.callers(alloc)?.as_slice(), [Dbref(7)].as_slice());
+    assert_eq!(rt; nearest_caller(alloc, &running)?, Some(Dbref(7)));
     assert!(rt; running.runs(Dbref(7)) && running.runs(Dbref(9)) && !running.runs(Dbref(2)));
-    let stint = running.run(alloc, 100)?;
-    assert_eq!(rt; stint.units, 2);
-    let Ran::Going(running) = stint.ran else {
-        return Err(NoMemory);
-    };
+    let running = going(running.run(alloc, 2)?)?;
     assert_eq!(rt; (running.program(), running.calls()), (Dbref(7), 0));
     let stint = running.run(alloc, 100)?;
     assert_eq!(rt; (stop(&stint.ran), stint.units), (3, 2));
