@@ -48,7 +48,7 @@ plays_nothing f h k o e same alive = record {
 pub lives_on : (h k : History) (event : Event) → k ≡ entered h (by_porter event) → is_died event ≡ false → (now h).dead ≡ false → (now k).dead ≡ false
 unfolding effect
 lives_on h k event is other alive =
-    ap (λ (x : History). (now x).dead) is ∙ ap (λ (w : World). w.dead) (now-extended h (by_porter event ∷ [])) ∙ dead-happened event (now h) other ∙ alive
+    ap (λ (x : History). (now x).dead) is ∙ ap (λ (w : World). w.dead) (now-extended h (by_porter event ∷ [])) ∙ dead-happened event (now h) 0 other ∙ alive
 
 -- one event happens
 pub plays_one : (f : World → List Entry) (h k : History) (a b : Option (List ℕ)) (event : Event) (text : List ℕ) → f (now h) ≡ by_porter event ∷ [] → k ≡ entered h (by_porter event) →

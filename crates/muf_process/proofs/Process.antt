@@ -40,7 +40,9 @@ use Rattle.muf_process.specs.declared.entered.Entered.{Entered}
 use Rattle.muf_process.specs.declared.begin.Start.{Start}
 use Rattle.muf_process.specs.Begins.{StartsIn, StartsAt}
 use Rattle.muf_process.specs.Fitting.{codes_of, numbers_of, numbers_in, number_among, program_with, ProgramsFit, IsAtPrimitive}
-use Rattle.muf_process.specs.Stints.{LeftAt, LocalFits}
+use Rattle.muf_process.specs.declared.stint.Ran.{Ran}
+use Rattle.muf_process.specs.declared.stint.Ran.TheVariants.{Going, Asking, Ended, Faulted}
+use Rattle.muf_process.specs.Stints.{RanAlike, AskedAt, LeftAt, LocalFits}
 
 -- there is a running program
 pub first_there : {cs : List Code} {f : Flat} {s : Source} → FitsState cs f s → cs ≡ first_code cs ∷ drop 1 cs
@@ -253,3 +255,16 @@ common_there v f l n =
 
 pub common_set : (v : ℕ) (x : Datum) (f : Flat) → v < 4 → moves.with_variable v x f ≡ record f { common = slice_set f.common v x }
 common_set v x f l = rw (lt-ltb v 4 l) refl
+
+-- a process that asks stands at the primitive
+asked_at : (ps : List Program) (ran : Ran) (o : Outcome) → Keeps ps o → RanAlike ran o → AskedAt ran
+asked_at ps (Going r) o k h = tt
+asked_at ps (Asking p r) (goes j s) k h = absurd h
+asked_at ps (Asking p r) ended k h = absurd h
+asked_at ps (Asking p r) (faulted f) k h = absurd h
+asked_at ps (Asking p r) (asks q s) k h = rw (h.0, h.1) k.1
+asked_at ps Ended o k h = tt
+asked_at ps (Faulted f) o k h = tt
+
+pub ran_asked : (m : ℕ) (s : Source) (ran : Ran) → RanAlike ran (units m s) → AskedAt ran
+ran_asked m s ran h = asked_at (programs_of s) ran (units m s) (units_keep m s) h

@@ -1,6 +1,7 @@
 -- How runs of a process end, by how the units of its source end.
 use Rattle.std.specs.Prelude.{◌≡◌, ℕ, zero, suc, List, drop, Option, Some, None}
 use Rattle.muf_model.specs.declared.fault.MufFault.{MufFault}
+use Rattle.muf_model.specs.Chains.{StandsAt}
 use Rattle.muf_model.specs.Flat.{Flat, decode}
 use Rattle.muf_model.specs.Source.{Source}
 use Rattle.muf_model.specs.Unit.{Outcome, goes, ended, faulted, asks, fault}
@@ -18,6 +19,13 @@ RanAlike (Asking p r) (asks q s) = (p ≡ q) × (r ≡ s)
 RanAlike Ended ended = Unit {0}
 RanAlike (Faulted f) (faulted g) = f ≡ g
 RanAlike _ _ = ⊥
+
+-- the shared primitive that is asked for comes next
+abbrev pub AskedAt : Ran → Type 0
+AskedAt (Asking p r) = StandsAt p r
+AskedAt (Going r) = Unit {0}
+AskedAt Ended = Unit {0}
+AskedAt (Faulted f) = Unit {0}
 
 -- what a fault makes of a process: the state at which a TRY caught it, or none
 abbrev pub Raised : MufFault → Source → Option Source → Type 0

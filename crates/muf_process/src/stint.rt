@@ -5,7 +5,7 @@ ghost use Rattle.muf_model.specs.Flat.{decode, Flat};
 ghost use Rattle.muf_model.specs.Unit.{Outcome, units, fault};
 ghost use Rattle.muf_frame.specs.Shown.{flat};
 ghost use Rattle.muf_process.specs.Fitting.{codes_of, ProgramsFit};
-ghost use Rattle.muf_process.specs.Stints.{RanAlike, Raised, LocalFits};
+ghost use Rattle.muf_process.specs.Stints.{RanAlike, AskedAt, Raised, LocalFits};
 
 use crate::Running;
 use crate::entered::Entered;
@@ -66,11 +66,12 @@ fn stopped(programs: Vec<Entered>, frame: Frame, local: Local) -> Ran
 }
 
 impl Running {
-    /// Runs at most so many units: up to a shared primitive, to the end of the process, or back into a calling
-    /// program. After `NoMemory` nothing is left of the process.
+    /// Runs at most so many units: up to a shared primitive, which then comes next, to the end of the process, or back
+    /// into a calling program. After `NoMemory` nothing is left of the process.
     pub fn run(self, alloc: Global, most: u32) -> Result<Stint, NoMemory>
         ensures ran { IfOk result (λ s. RanAlike s.ran (units most self)) }
         ensures units { IfOk result (λ s. s.units ≡ taken most self) }
+        ensures asked { IfOk result (λ s. AskedAt s.ran) }
     {
         let Running {
             programs,

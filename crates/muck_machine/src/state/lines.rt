@@ -10,7 +10,7 @@ ghost use Rattle.muck_event.specs.World.{on_live};
 
 use crate::commands::{actor_of, play};
 use crate::state::State;
-use muck_edit::copy_lines;
+use cmd_parts::copy_lines;
 use muck_event::Call;
 use muck_model::{Dbref, EditState, Line, LineList, NoMemory};
 use muck_perm::Guard;
