@@ -1,13 +1,12 @@
 -- A form that is kept, and one that is kept no more.
-use Rattle.std.proofs.Common.{◌≡◌, ℕ, zero, suc, ◌+◌, ◌-◌, ◌<◌, ◌≤◌, true, false, List, [], ◌∷◌, ◌++◌, length, replicate, Option, Some, None, map, take, refl, sym, ap, append-nil, length-append, take_all, ◌∙◌, arith}
+use Rattle.std.proofs.Common.{◌≡◌, ℕ, zero, suc, ◌+◌, ◌-◌, ◌<◌, ◌≤◌, List, [], ◌∷◌, ◌++◌, length, replicate, Option, Some, None, take, refl, sym, ap, append-nil, length-append, take_all, ◌∙◌, arith}
 use Rattle.std.specs.Prelude.{slice_get, slice_set}
 use Rattle.std.specs.Option.{option_map, option_and_then, option_map_or}
 use Rattle.std.specs.List.{FoldsTo, AppendsResults}
 use Rattle.muck_live.specs.Objects.{changed_at}
 use Rattle.muf_model.specs.declared.code.Code.{Code}
-use Rattle.muf_model.specs.Tree.{Tree}
 use Rattle.muf_model.specs.Decode.{tree_of}
-use Rattle.muck_program.specs.Library.{Library, itself, with_form}
+use Rattle.muck_program.specs.Library.{itself, with_form}
 use Rattle.muck_program.specs.Forms.{trees_of}
 
 -- the tree at a number

@@ -241,11 +241,13 @@ fn keeps_forms(rt: HostRuntime) -> Result<(), Fail> {
 fn keeps_forms_apart(rt: HostRuntime) -> Result<(), Fail> {
     let alloc = rt.alloc();
     let mut db = world(alloc)?;
-    db.set_lines(Dbref(2), source(alloc, &[": main ;"])?)?;
+    let lines = source(alloc, &[": main ;"])?;
+    assert!(rt; lines.len() <= 4096);
+    db.set_lines(Dbref(2), lines)?;
     let mut library = Library::new(alloc);
     for d in [5, 2, -1] {
-        let code = Shared::new(alloc, build(alloc, &db, Dbref(2))?)?;
-        library.keep(Dbref(d), code)?;
+        let code = build(alloc, &db, Dbref(2))?;
+        library.keep(Dbref(d), Shared::new(alloc, code)?)?;
     }
     for (d, want) in [
         (-1, false),

@@ -1,4 +1,4 @@
-use Rattle.std.proofs.Common.{◌≡◌, ◌+◌, ◌≤◌, None, length, rules, arith}
+use Rattle.std.proofs.Common.{◌+◌, None, rules}
 use Rattle.muck_program.proofs.Kept.{filled_up}
 use Rattle.muck_program.proofs.library.make_place.Goals as goal
 
