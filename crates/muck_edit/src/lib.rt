@@ -13,5 +13,4 @@ mod tests;
 
 pub use checks::is_open;
 pub use editor::Editor;
-pub use lines::copy_lines;
 pub use muck_world::EditStep;
