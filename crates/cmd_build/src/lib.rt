@@ -15,6 +15,8 @@ mod names;
 mod naming;
 mod owning;
 mod program_lines;
+#[cfg(test)]
+mod program_tests;
 mod programs;
 mod searching;
 #[cfg(test)]

@@ -12,3 +12,4 @@ pub mod Rising
 pub mod Company
 pub mod Editing
 pub mod EditRows
+pub mod ProgramRows
