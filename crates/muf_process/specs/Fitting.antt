@@ -4,7 +4,7 @@ use Rattle.std.specs.List.{list_any}
 use Rattle.std.specs.Ordering.{int_eq}
 use Rattle.muck_model.specs.declared.dbref.Dbref.{Dbref}
 use Rattle.muf_model.specs.declared.code.Code.{Code}
-use Rattle.muf_model.specs.declared.code.Word.TheVariants.{Literal, Variable, Address, Primitive, Call, Bind, Store, Exit, Break, Continue, While, NextIndex, NextPair}
+use Rattle.muf_model.specs.declared.code.Word.TheVariants.{Primitive}
 use Rattle.muf_model.specs.Decode.{tree_of}
 use Rattle.muf_model.specs.Tree.{Block, word}
 use Rattle.muf_model.specs.Source.{Program, Source}

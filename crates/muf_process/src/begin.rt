@@ -1,5 +1,5 @@
 // The beginning of a process.
-ghost use Rattle.std.specs.Prelude.{◌≡◌, ◌<◌, [], ◌∷◌, IfOk, OnOk, MatchOption, Some, None, length, slice_get, slice_set, option_copied};
+ghost use Rattle.std.specs.Prelude.{◌≡◌, ◌<◌, IfOk, length, slice_set};
 ghost use Rattle.std.specs.Option.{option_map};
 ghost use Rattle.muf_model.specs.Decode.{tree_of};
 ghost use Rattle.muf_model.specs.Source.{started, last_word};
@@ -8,13 +8,13 @@ ghost use Rattle.muf_model.specs.View.{view};
 ghost use Rattle.muf_frame.specs.Shown.{flat};
 ghost use Rattle.muf_frame.specs.Moves.{fresh};
 ghost use Rattle.muf_process.specs.Fitting.{program_with};
-ghost use Rattle.muf_process.specs.Begins.{common_of, last_of};
+ghost use Rattle.muf_process.specs.Begins.{common_of, StartsAt};
 
 use crate::Running;
 use crate::entered::Entered;
 use muck_model::{Dbref, Line, NoMemory};
 use muf_frame::Frame;
-use muf_model::{Code, CodeWord, Shared, Text, Value, VarId};
+use muf_model::{Code, Shared, Text, Value, VarId};
 use std::alloc::Global;
 
 /// What the variables ME, LOC, TRIGGER and COMMAND of a process are at first.
@@ -54,15 +54,27 @@ fn first_frame(alloc: Global, occasion: Occasion, arg: Line) -> Result<Frame, No
     Ok(frame)
 }
 
-// The word at which a program begins.
-fn last_word(code: &Code) -> Option<&CodeWord>
-    ensures { option_copied result ≡ last_of code.now.words }
+// Where a word of a program begins, how many variables it has, and how many its program has.
+#[derive(Clone, Copy)]
+pub(crate) struct Start {
+    pub(crate) place: usize,
+    pub(crate) variables: usize,
+    pub(crate) owned: usize,
+}
+
+// The beginning of one of a program's words.
+pub(crate) fn start_of(code: &Code, word: usize) -> Start
+    requires { word < length code.now.words }
+    ensures { StartsAt code.now word result }
 {
-    let count = code.words.len();
-    if count == 0 {
-        return None;
+    match code.words.get(word) {
+        Some(word) => Start {
+            place: word.start,
+            variables: word.variables,
+            owned: code.variables,
+        },
+        None => unreachable!(),
     }
-    code.words.get(count - 1)
 }
 
 impl Running {
@@ -78,13 +90,13 @@ impl Running {
         requires { TreeStands code (tree_of code) }
         ensures { IfOk result (λ r. r ≡ option_map (λ d. started (program_with program code) d (common_of occasion) arg) (last_word (tree_of code).words)) }
     {
-        let (start, variables) = match last_word(code.get()) {
-            Some(word) => (word.start, word.variables),
-            None => return Ok(None),
-        };
+        let count = code.get().words.len();
+        if count == 0 {
+            return Ok(None);
+        }
+        let start = start_of(code.get(), count - 1);
         let mut frame = first_frame(alloc, occasion, arg)?;
-        let owned = code.get().variables;
-        frame.begin(alloc, program, owned, start, variables)?;
+        frame.begin(alloc, program, start.owned, start.place, start.variables)?;
         let mut programs = Vec::new(alloc);
         programs.push(Entered { program, code })?;
         Ok(Some(Running { programs, frame }))

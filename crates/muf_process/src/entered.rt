@@ -1,6 +1,8 @@
 // The programs on a call stack.
-ghost use Rattle.std.specs.Prelude.{◌≡◌, ◌<◌, ◌++◌, [], ◌∷◌, IfOk, OnOk, map, reverse, slice_get, length, Some, vec_len, drop};
-ghost use Rattle.muf_process.specs.Fitting.{codes_of, numbers_of, number_among};
+ghost use Rattle.std.specs.Prelude.{◌≡◌, IfOk, map, reverse, drop};
+ghost use Rattle.std.specs.List.{list_any};
+ghost use Rattle.std.specs.Ordering.{int_eq};
+ghost use Rattle.muf_process.specs.Fitting.{numbers_of};
 
 use muck_model::{Dbref, NoMemory, Row};
 use muf_model::{Code, Shared};
@@ -15,16 +17,9 @@ pub(crate) struct Entered {
 
 // Whether a program is among them.
 pub(crate) fn has_program(programs: &[Entered], program: Dbref) -> bool
-    ensures { result ≡ number_among program.0 (numbers_of programs.now) }
+    ensures { result ≡ list_any (λ e. int_eq e.program.0 program.0) programs.now }
 {
-    let mut at = 0;
-    while at < programs.len() {
-        if programs[at].program == program {
-            return true;
-        }
-        at += 1;
-    }
-    false
+    programs.iter().any(|entered| entered.program == program)
 }
 
 // The numbers of those below the last one, the last first.

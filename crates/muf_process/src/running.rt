@@ -10,6 +10,7 @@ ghost use Rattle.muf_model.specs.Chains.{callers_of};
 ghost use Rattle.muf_frame.specs.Shown.{flat};
 ghost use Rattle.muf_process.specs.Fitting.{codes_of, ProgramsFit, program_with, numbers_in, number_among, IsAtPrimitive};
 
+use crate::begin::start_of;
 use crate::entered::{Entered, has_program, numbers_below};
 use muck_model::{Dbref, NoMemory, Row};
 use muf_frame::Frame;
@@ -127,21 +128,9 @@ impl Running {
             mut programs,
             mut frame,
         } = self;
-        let (owned, start, variables) = begins(code.get(), word);
-        frame.enter(alloc, program, owned, start, variables)?;
+        let start = start_of(code.get(), word);
+        frame.enter(alloc, program, start.owned, start.place, start.variables)?;
         programs.push(Entered { program, code })?;
         Ok(Running { programs, frame })
-    }
-}
-
-// How many variables a program has, and where one of its words begins and how many it has.
-fn begins(code: &Code, word: usize) -> (usize, usize, usize)
-    requires { word < length code.now.words }
-    ensures owned { result.0 ≡ code.now.variables }
-    ensures word { (w : CodeWord) → slice_get code.now.words word ≡ Some w → (result.1.0 ≡ w.start) × (result.1.1 ≡ w.variables) }
-{
-    match code.words.get(word) {
-        Some(entry) => (code.variables, entry.start, entry.variables),
-        None => (code.variables, 0, 0),
     }
 }

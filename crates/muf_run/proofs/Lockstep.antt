@@ -439,3 +439,15 @@ room_fits {code} {codes} (fit {stack} {common} {vars} {below} {owned} {place} {p
 pub full_fits : {code : Code} {codes : List Code} {f : Flat} {s : Source} → FitsState (code ∷ codes) f s → (line to : ℕ) → IsAt code.placed f.place line (Begin to) → 512 ≤ opened_by f.marks → EndsAlike (code ∷ codes) (machine.fault CallsFull f) (unit s)
 full_fits {code} {codes} (fit {stack} {common} {vars} {below} {owned} {place} {program} {now} {end} {ms} {ns} p a m) line to e h =
     begin_full code codes common vars below owned program ms ns p m now end stack place line to a e (le-ltb _ _ h)
+
+-- a fault is caught alike
+pub fault_fits : {code : Code} {codes : List Code} {f : Flat} {s : Source} → FitsState (code ∷ codes) f s → (g : MufFault) → EndsAlike (code ∷ codes) (machine.fault g f) (source_unit.fault g s)
+fault_fits {code} {codes} (fit {stack} {common} {vars} {below} {owned} {place} {program} {now} {end} {ms} {ns} p a m) g =
+    refused code codes common vars below owned program ms ns p m g stack place now end
+
+-- and as much is locked, and as many calls run
+pub locked_fits : {codes : List Code} {f : Flat} {s : Source} → FitsState codes f s → locked_by f.marks ≡ locked_of s.marks
+locked_fits (fit p a m) = locked_alike m
+
+pub calls_fits : {codes : List Code} {f : Flat} {s : Source} → FitsState codes f s → calls_by f.marks ≡ calls_of s.marks
+calls_fits (fit p a m) = calls_alike m

@@ -25,8 +25,7 @@ going_on codes f (asks p s) h = absurd h
 pub run_over : (codes : List Code) (ran : Ran) (f : Flat) (o : Outcome) (more : Source → Outcome) → (ran ≡ Going 0 → ⊥) → EndsAlike codes (next_of ran f) o → RunsAlike codes (local_of ran) f (and_then o more)
 run_over codes (Going zero) f o more over h = absurd (over refl)
 run_over codes (Going (suc k)) f (goes zero s) more over h = let e : suc k ≡ 0 = h.0 in absurd (omega (arith, e))
-run_over codes (Going (suc k)) f (goes (suc j) s) more over h =
-    (h.0, fits h.1, decoded h.1)
+run_over codes (Going (suc k)) f (goes (suc j) s) more over h = (h.0, fits h.1, decoded h.1)
 run_over codes (Going (suc k)) f ended more over h = absurd h
 run_over codes (Going (suc k)) f (faulted g) more over h = absurd h
 run_over codes (Going (suc k)) f (asks p s) more over h = absurd h

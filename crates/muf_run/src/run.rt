@@ -29,7 +29,7 @@ pub enum Local {
     Spent,
     /// A shared primitive comes next.
     Shared(Prim),
-    /// The last unit went back into a calling program, and left so many programs, at least one.
+    /// The last unit left so many programs, at least one, and went back into the one that called the last of them.
     Returned(usize),
     /// The last unit ended the process.
     Ended,
@@ -157,7 +157,7 @@ fn finish(frame: &mut Frame, ran: Ran, taken: u32) -> Local
     }
 }
 
-/// Runs units of a program up to a shared primitive, to the end of the process, back into the calling program, or so
+/// Runs units of a program up to a shared primitive, to the end of the process, back into a calling program, or so
 /// many of them. `code` is the one with which the running program was entered. The frame tells how many units were
 /// taken. After `NoMemory` nothing is said of the frame.
 pub fn run_local(

@@ -101,8 +101,8 @@ fn begun(alloc: Global, code: &Code) -> Result<Frame, NoMemory> {
     Ok(frame)
 }
 
-// The number of the fault, or how else it stopped: 0 at its most units, 1 before a shared primitive, 2 back in the caller,
-// 3 at the end.
+// The number of the fault, or how else it stopped: 0 at its most units, 1 before a shared primitive, 2 back in a calling
+// program, 3 at the end.
 fn stop(local: &Local) -> u8 {
     match local {
         Local::Spent => 0,
@@ -280,6 +280,24 @@ fn keys(rt: HostRuntime) -> Result<(), NoMemory> {
     Ok(())
 }
 
+// How many programs the last unit left, where so many were entered behind a TRY of the first one.
+fn programs_left(alloc: Global, entered: usize, instrs: &str) -> Result<Option<usize>, NoMemory> {
+    let code = code_of(alloc, "0", instrs)?;
+    let mut frame = begun(alloc, &code)?;
+    if frame.opened() < 512 {
+        frame.push_guard(0, 0);
+    }
+    for _ in 0..entered {
+        if frame.calls() < 511 {
+            frame.enter(alloc, Dbref(6), 0, 0, 1)?;
+        }
+    }
+    match run_local(alloc, &code, &mut frame, 100)? {
+        Local::Returned(programs) => Ok(Some(programs)),
+        _ => Ok(None),
+    }
+}
+
 #[test]
 fn back_to_the_caller(rt: HostRuntime) -> Result<(), NoMemory> {
     let alloc = rt.alloc();
@@ -292,5 +310,14 @@ fn back_to_the_caller(rt: HostRuntime) -> Result<(), NoMemory> {
     assert_eq!(rt; (stop(&local), frame.units()), (2, 2));
     assert_eq!(rt; items_of(alloc, &frame)?.as_str(), "1");
     assert_eq!(rt; frame.program(), Dbref(5));
+    Ok(())
+}
+
+#[test]
+fn left_programs(rt: HostRuntime) -> Result<(), NoMemory> {
+    let alloc = rt.alloc();
+    assert_eq!(rt; programs_left(alloc, 3, "1 ;")?, Some(1));
+    assert_eq!(rt; programs_left(alloc, 1, "POP ;")?, Some(1));
+    assert_eq!(rt; programs_left(alloc, 3, "POP ;")?, Some(3));
     Ok(())
 }
