@@ -61,6 +61,7 @@ impl Library {
     }
 
     /// The built form of a program; `None` where none is kept.
+    #[tactic(auto, using(crate::proofs::Kept::tree_read), unfolding(crate::specs::Library::form_at))]
     pub fn form(&self, d: Dbref) -> Option<&Shared<Code>>
         ensures tree { option_map tree_of (option_copied result) ≡ form_at d self.now }
         ensures stands { IfSome result (λ code. TreeStands code.now (tree_of code.now)) }
@@ -74,6 +75,7 @@ impl Library {
 
     /// Keeps the form of a program in place of the one it had; nothing below `#0` has one. After `NoMemory` nothing has
     /// changed.
+    #[tactic(auto, using(crate::proofs::Kept::with_form_placed), unfolding(crate::specs::Library::form_kept))]
     pub fn keep(&mut self, d: Dbref, code: Shared<Code>) -> Result<(), NoMemory>
         requires { TreeStands code (tree_of code) }
         ensures kept { OnOk result (self.new ≡ form_kept d (tree_of code) self.old) }
@@ -87,6 +89,7 @@ impl Library {
     }
 
     /// Keeps no form of a program any more.
+    #[tactic(auto, using(crate::proofs::Kept::none_placed, crate::proofs::Kept::none_past), unfolding(crate::specs::Library::form_dropped))]
     pub fn drop_form(&mut self, d: Dbref)
         ensures { self.new ≡ form_dropped d self.old }
     {
@@ -99,6 +102,7 @@ impl Library {
 
     /// The form of a program, which is built now where none is kept; `None` where its source has a flaw. After
     /// `NoMemory` nothing has changed.
+    #[tactic(auto, unfolding(crate::specs::Library::formed))]
     pub fn formed(
         &mut self,
         alloc: Global,

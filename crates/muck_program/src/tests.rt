@@ -1,11 +1,11 @@
 // What no contract says: that calls succeed where memory is ample, and that the language is the one meant.
 ghost use Rattle.std.specs.Prelude.{◌≡◌, length, IfOk};
 
-use crate::{BuildFault, build};
+use crate::{BuildFault, Flaw, Library, build};
 use muck_db::Db;
 use muck_model::{Dbref, Kind, Line, LineList};
 use muck_prop::{PropValue, read_path};
-use muf_model::{Closer, Code, Instr, Literal, Placed, Word};
+use muf_model::{Closer, Code, Instr, Literal, Placed, Shared, Word};
 use std::alloc::{AllocError, Global};
 use std::test::Fail;
 
@@ -110,26 +110,31 @@ fn placed_text(alloc: Global, placed: &Placed) -> Result<Vec<u8>, AllocError> {
     Ok(text)
 }
 
-// The words and the instructions, or the flaw.
-fn shown(alloc: Global, got: &Result<Code, BuildFault>) -> Result<Vec<u8>, AllocError> {
+// The words and the instructions.
+fn code_text(alloc: Global, code: &Code) -> Result<Vec<u8>, AllocError> {
     let mut text = Vec::new(alloc);
-    match got {
-        Ok(code) => {
-            for word in code.words.as_slice() {
-                text.extend_from_slice(word.name.as_slice())?;
-                text.extend_from_slice(format!(in alloc; "@{} ", word.start)?.as_bytes())?;
-            }
-            for placed in code.placed.as_slice() {
-                text.extend_from_slice(&placed_text(alloc, placed)?)?;
-            }
-        }
-        Err(BuildFault::Refused(flaw)) => {
-            let flaw = format!(in alloc; "!{} {}", flaw.number, flaw.line)?;
-            text.extend_from_slice(flaw.as_bytes())?;
-        }
-        Err(BuildFault::NoMemory) => text.extend_from_slice(b"!memory")?,
+    for word in code.words.as_slice() {
+        text.extend_from_slice(word.name.as_slice())?;
+        text.extend_from_slice(format!(in alloc; "@{} ", word.start)?.as_bytes())?;
+    }
+    for placed in code.placed.as_slice() {
+        text.extend_from_slice(&placed_text(alloc, placed)?)?;
     }
     Ok(text)
+}
+
+fn flaw_text(alloc: Global, flaw: &Flaw) -> Result<Vec<u8>, AllocError> {
+    let text = format!(in alloc; "!{} {}", flaw.number, flaw.line)?;
+    Ok(text.into_bytes())
+}
+
+// The words and the instructions, or the flaw.
+fn shown(alloc: Global, got: &Result<Code, BuildFault>) -> Result<Vec<u8>, AllocError> {
+    match got {
+        Ok(code) => code_text(alloc, code),
+        Err(BuildFault::Refused(flaw)) => flaw_text(alloc, flaw),
+        Err(BuildFault::NoMemory) => b"!memory".to_vec(alloc),
+    }
 }
 
 #[test]
@@ -153,6 +158,104 @@ fn needs_a_source(rt: HostRuntime) -> Result<(), Fail> {
     for d in [0, 2, 3, -1, -3] {
         let got = shown(alloc, &build(alloc, &db, Dbref(d)))?;
         assert!(rt; got.as_slice() == b"!36 1".as_slice(), "object {d}");
+    }
+    Ok(())
+}
+
+// What is done with the form of a program.
+#[derive(Clone, Copy)]
+enum Act {
+    Form,
+    Rebuild,
+    Drop,
+}
+
+// The source of a program, what is done with its form, what is answered, and the form that is kept then.
+const ACTS: [(&str, Act, &str, &str); 9] = [
+    (": main pop ;", Act::Drop, "", ""),
+    (
+        ": main pop ;",
+        Act::Form,
+        "main@0 1:Pop 1:; ",
+        "main@0 1:Pop 1:; ",
+    ),
+    (
+        ": main ;",
+        Act::Form,
+        "main@0 1:Pop 1:; ",
+        "main@0 1:Pop 1:; ",
+    ),
+    (": main ;", Act::Rebuild, "", "main@0 1:; "),
+    (": main frob ;", Act::Form, "main@0 1:; ", "main@0 1:; "),
+    (": main frob ;", Act::Rebuild, "!30 1", ""),
+    (": main frob ;", Act::Form, "", ""),
+    (": main ;", Act::Form, "main@0 1:; ", "main@0 1:; "),
+    (": main ;", Act::Drop, "", ""),
+];
+
+// The form that is kept, or nothing.
+fn kept_text(alloc: Global, library: &Library, d: Dbref) -> Result<Vec<u8>, AllocError> {
+    match library.form(d) {
+        Some(code) => code_text(alloc, code.get()),
+        None => Ok(Vec::new(alloc)),
+    }
+}
+
+// Does it, and tells the answer.
+fn done(alloc: Global, library: &mut Library, db: &Db, act: Act) -> Result<Vec<u8>, Fail> {
+    let d = Dbref(2);
+    match act {
+        Act::Form => {
+            if let Some(code) = library.formed(alloc, db, d)? {
+                return Ok(code_text(alloc, code.get())?);
+            }
+        }
+        Act::Rebuild => {
+            if let Some(flaw) = library.rebuild(alloc, db, d)? {
+                return Ok(flaw_text(alloc, &flaw)?);
+            }
+        }
+        Act::Drop => library.drop_form(d),
+    }
+    Ok(Vec::new(alloc))
+}
+
+#[test]
+fn keeps_forms(rt: HostRuntime) -> Result<(), Fail> {
+    let alloc = rt.alloc();
+    let mut db = world(alloc)?;
+    let mut library = Library::new(alloc);
+    for (number, (text, act, answer, kept)) in ACTS.iter().enumerate() {
+        let lines = source(alloc, &[*text])?;
+        assert!(rt; lines.len() <= 4096);
+        db.set_lines(Dbref(2), lines)?;
+        let got = done(alloc, &mut library, &db, *act)?;
+        assert!(rt; got.as_slice() == answer.as_bytes(), "answer {number}");
+        let got = kept_text(alloc, &library, Dbref(2))?;
+        assert!(rt; got.as_slice() == kept.as_bytes(), "form {number}");
+    }
+    Ok(())
+}
+
+#[test]
+fn keeps_forms_apart(rt: HostRuntime) -> Result<(), Fail> {
+    let alloc = rt.alloc();
+    let mut db = world(alloc)?;
+    db.set_lines(Dbref(2), source(alloc, &[": main ;"])?)?;
+    let mut library = Library::new(alloc);
+    for d in [5, 2, -1] {
+        let code = Shared::new(alloc, build(alloc, &db, Dbref(2))?)?;
+        library.keep(Dbref(d), code)?;
+    }
+    for (d, want) in [
+        (-1, false),
+        (0, false),
+        (2, true),
+        (4, false),
+        (5, true),
+        (6, false),
+    ] {
+        assert!(rt; library.form(Dbref(d)).is_some() == want, "form of {d}");
     }
     Ok(())
 }
