@@ -42,7 +42,7 @@ is_tied_to d p = option_map_or (λ c. c == d) p.descr false
 
 -- the program stands on the call stack: it runs, or is a caller of what runs
 abbrev pub runs : Dbref → Process → Bool
-runs program p = list_any (λ q. int_eq q.number program.0) (programs_of p.running)
+runs program p = list_any (λ n. int_eq n program.0) (map (λ q. q.number) (programs_of p.running))
 
 abbrev pub has_trigger : Dbref → Process → Bool
 has_trigger trigger p = same p.trigger trigger

@@ -1,7 +1,12 @@
 // Which process is claimed, how many may be added, and which end, by calls of the queue.
+ghost use Rattle.std.specs.Prelude.{◌≡◌, IfOk};
+ghost use Rattle.muf_model.specs.Stands.{TreeStands};
+ghost use Rattle.muf_model.specs.Decode.{tree_of};
+
 use crate::{Mode, Process, Queue, QueueFault};
-use muck_model::{Dbref, Line, LineFault, NoMemory, Tune};
-use muf_process::Running;
+use muck_model::{Dbref, Line, LineFault, NoMemory, Row, Tune};
+use muf_model::{Closer, Code, CodeWord, Instr, Offer, Placed, Shared, Text};
+use muf_process::{Occasion, Running};
 use std::alloc::Global;
 use std::process::Abort;
 use std::test::Fail;
@@ -24,14 +29,47 @@ fn line(alloc: Global, bytes: &[u8]) -> Result<Line, NoMemory> {
     }
 }
 
-// A program that runs.
-fn running(alloc: Global, program: i32) -> Result<Running, NoMemory> {
-    Ok(Running::stand_in(alloc, Dbref(program)))
+// The code of a program of one word, which ends at once.
+fn code(alloc: Global) -> Result<Code, NoMemory>
+    ensures { IfOk result (λ c. TreeStands c (tree_of c)) }
+{
+    let mut placed = Row::new(alloc)?;
+    placed.push(Placed {
+        line: 1,
+        instr: Instr::Close(Closer::Semicolon),
+    })?;
+    let mut words = Row::new(alloc)?;
+    words.push(CodeWord {
+        name: Text::new(alloc, line(alloc, b"word")?)?,
+        offer: Offer::Nobody,
+        variables: 0,
+        start: 0,
+    })?;
+    Ok(Code {
+        placed,
+        words,
+        variables: 0,
+    })
+}
+
+// A program that runs; it is there, since the code has a word.
+fn running(alloc: Global, program: i32) -> Result<Option<Running>, NoMemory> {
+    let occasion = Occasion {
+        player: Dbref(1),
+        place: Dbref(0),
+        trigger: Dbref(program),
+        command: line(alloc, b"go")?,
+    };
+    let code = Shared::new(alloc, code(alloc)?)?;
+    Running::begin(alloc, Dbref(program), code, occasion, line(alloc, b"")?)
 }
 
 // A process of a player that is due in a second and runs a program. The same program started it, and it is tied to the
 // connection of that number.
 fn process(alloc: Global, player: i32, due: u64, program: i32) -> Result<Process, NoMemory> {
+    let Some(running) = running(alloc, program)? else {
+        return Err(NoMemory);
+    };
     Ok(Process {
         number: 0,
         due,
@@ -41,7 +79,7 @@ fn process(alloc: Global, player: i32, due: u64, program: i32) -> Result<Process
         descr: u32::try_from(program).ok(),
         mode: Mode::Foreground,
         claim: None,
-        running: running(alloc, program)?,
+        running,
     })
 }
 
