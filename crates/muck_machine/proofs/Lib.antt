@@ -1,4 +1,5 @@
 pub mod Counts
-pub mod Outcomes
 pub mod Keepings
-pub mod Turns
+pub mod Outcomes
+pub mod Free
+pub mod Settling

@@ -75,7 +75,9 @@ impl State {
         line: &Line,
     ) -> Result<EditStep, NoMemory>
         requires { IsOpen editor.old.state self.old.live }
-        ensures { IfOk result (λ step. (record self.old { live = (edited d (actor_of self.old.live.objects player) editor.old.state line.now self.old.live).0 }, editor.new.state, step) ≡ (self.new, (edited d (actor_of self.old.live.objects player) editor.old.state line.now self.old.live).1, (edited d (actor_of self.old.live.objects player) editor.old.state line.now self.old.live).2)) }
+        ensures world { OnOk result (self.new ≡ record self.old { live = (edited d (actor_of self.old.live.objects player) editor.old.state line.now self.old.live).0 }) }
+        ensures state { OnOk result (editor.new.state ≡ (edited d (actor_of self.old.live.objects player) editor.old.state line.now self.old.live).1) }
+        ensures step { IfOk result (λ step. step ≡ (edited d (actor_of self.old.live.objects player) editor.old.state line.now self.old.live).2) }
     {
         let actor = actor_of(&self.db, player);
         let mut guard = Guard::new(self.alloc, &mut self.db, &mut self.board, actor);

@@ -108,9 +108,12 @@ impl State {
         ensures { OnOk result (self.new ≡ joined d process self.old) }
     {
         let tune = self.board.tune();
+        if self.queue.is_full(process.player, &tune) {
+            return self.tell(d, b"Too many processes.");
+        }
         match self.queue.add(process, &tune) {
             Ok(_) => Ok(()),
-            Err(QueueFault::ProcessLimit) => self.tell(d, b"Too many processes."),
+            Err(QueueFault::ProcessLimit) => unreachable!(),
             Err(QueueFault::NoMemory) => Err(NoMemory),
         }
     }

@@ -1,9 +1,10 @@
 // What a turn chooses.
-ghost use Rattle.std.specs.Prelude.{◌≡◌, find, None, if◌then◌else◌};
-ghost use Rattle.std.specs.Option.{option_map, option_map_or};
+ghost use Rattle.std.specs.Prelude.{◌≡◌, find, None, if◌then◌else◌, slice_get};
+ghost use Rattle.std.specs.Option.{option_map, option_map_or, option_and_then};
 ghost use Rattle.muck_model.specs.declared.event.Event.{Event};
 ghost use Rattle.muck_queue.specs.Queues.{next_due};
 ghost use Rattle.muck_event.specs.Steps.{is_free, happened};
+ghost use Rattle.muck_machine.specs.Followed.{free_number};
 
 use crate::state::State;
 
@@ -19,15 +20,24 @@ impl State {
         self.first_free()
     }
 
+    // The connection at a place of their list, where a line waits on it that may be done and no process is tied to it.
+    fn free_at(&self, at: usize) -> Option<u32>
+        ensures { result ≡ option_and_then (free_number self.now) (slice_get self.now.live.board.connections at) }
+    {
+        let d = self.board.ready_at(at)?;
+        if self.queue.is_tied(d) {
+            return None;
+        }
+        Some(d)
+    }
+
     // The lowest connection with a line that may be done and no process tied to it.
     fn first_free(&self) -> Option<u32>
         ensures { result ≡ option_map (λ c. c.number) (find (is_free self.now) self.now.live.board.connections) }
     {
         for at in 0..self.board.count() {
-            if let Some(d) = self.board.ready_at(at) {
-                if !self.queue.is_tied(d) {
-                    return Some(d);
-                }
+            if let Some(d) = self.free_at(at) {
+                return Some(d);
             }
         }
         None
