@@ -3,3 +3,5 @@ pub mod Keepings
 pub mod Outcomes
 pub mod Free
 pub mod Settling
+pub mod Slices
+pub mod Deeds
