@@ -18,7 +18,7 @@ module _ {X : Type 0} (p : X → Bool) (n : X → ℕ) where
   found_here (x ∷ xs) zero d e = head_found x xs d e
   found_here (x ∷ xs) (suc at) d e = found_here xs at d e
 
-  pub found_later : (xs : List X) (at : ℕ) → option_and_then number_if (slice_get xs at) ≡ None → at < length xs → option_map n (find p (drop at xs)) ≡ option_map n (find p (drop (at + 1) xs))
-  found_later [] at e h = refl
+  pub found_later : (xs : List X) (at : ℕ) → option_and_then number_if (slice_get xs at) ≡ None → at < length xs → option_map n (find p (drop at xs)) ≡ option_map n (find p (drop (suc at) xs))
+  found_later [] at e h = absurd (omega (arith, h))
   found_later (x ∷ xs) zero e h = head_passed x xs e
   found_later (x ∷ xs) (suc at) e h = found_later xs at e (omega (arith, h))

@@ -6,7 +6,9 @@ use Rattle.muck_model.specs.declared.event.Entry.{Entry}
 use Rattle.muck_model.specs.declared.event.Event.TheVariants.{Died}
 use Rattle.muck_event.specs.World.{World}
 use Rattle.std.proofs.Common.{◌<◌, arith, find, ◌||◌}
+use Rattle.std.specs.Prelude.{ℤ}
 use Rattle.std.specs.Option.{option_map}
+use Rattle.muck_queue.specs.Queues.{next_due}
 use Rattle.muck_event.specs.Steps.{is_free, happened, effect, is_died, is_lawful, is_allowed, next_ready, next_process}
 use Rattle.muck_event.specs.Histories.{History, after, now, entered}
 use Rattle.muck_event.proofs.Living.{dead-happened}
@@ -104,6 +106,15 @@ next_dead w e = sym (cond-true _ _ _ (ap (λ b. b || w.stopping) e))
 pub next_alive : (w : World) (found : Option ℕ) → w.dead ≡ false → found ≡ cond w.stopping None (option_map (λ c. c.number) (find (is_free w) w.live.board.connections)) → found ≡ next_ready w
 unfolding next_ready
 next_alive w found e is = is ∙ sym (ap (λ b. cond (b || w.stopping) None (option_map (λ c. c.number) (find (is_free w) w.live.board.connections))) e)
+
+-- the choice of the next process
+pub process_dead : (w : World) → w.dead ≡ true → None ≡ next_process w
+unfolding next_process
+process_dead w e = sym (cond-true _ _ _ (ap (λ b. b || w.stopping) e))
+
+pub process_alive : (w : World) (found : Option ℤ) → w.dead ≡ false → found ≡ cond w.stopping None (next_due w.moment w.queue) → found ≡ next_process w
+unfolding next_process
+process_alive w found e is = is ∙ sym (ap (λ b. cond (b || w.stopping) None (next_due w.moment w.queue)) e)
 
 -- where something is found, the world isn't dead
 pub alive_if_found : (w : World) (d : ℕ) → next_ready w ≡ Some d → w.dead ≡ false

@@ -4,5 +4,6 @@ pub mod Keepings
 pub mod Turns
 pub mod Settling
 pub mod Free
+pub mod Joining
 pub mod Slices
 pub mod Deeds

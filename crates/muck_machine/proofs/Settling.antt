@@ -6,6 +6,7 @@ use Rattle.muck_model.specs.declared.dbref.Dbref.{Dbref}
 use Rattle.muck_live.specs.declared.mark.Mark.{Mark}
 use Rattle.muck_live.specs.declared.mark.Mark.TheVariants.{Lines, Gone}
 use Rattle.muck_live.specs.declared.mark.Changed.{Changed}
+use Rattle.muck_live.specs.declared.mark.Changed.TheVariants.{Lines as ChangedLines, Gone as ChangedGone}
 use Rattle.muck_live.specs.Objects.{Entry, dbref_of, changed_at}
 use Rattle.muck_live.specs.Marks.{unmarked, marked_from, told_of, next_change, change_told}
 use Rattle.muck_live.specs.Lives.{on_objects}
@@ -15,7 +16,7 @@ use Rattle.muck_event.proofs.Quietly.{quietly_swept}
 use Rattle.muck_machine.specs.Followed.{followed_change}
 
 -- how many objects are marked
-mark_count : Option Mark → ℕ
+abbrev pub mark_count : Option Mark → ℕ
 mark_count None = 0
 mark_count (Some m) = 1
 
@@ -42,9 +43,6 @@ changed_later k e es = at (slice_get es k)
 
 -- The first mark.
 
-told_later : (k n : ℕ) (m : Mark) (e : Entry) (es : List Entry) → marked_from (suc n) es ≡ Some (k + suc n, m) → changed_at k unmarked es ≡ cleared es → changed_at (suc k) unmarked (e ∷ es) ≡ e ∷ cleared es
-told_later k n m e es f c = changed_later k e es ∙ ap (λ xs. e ∷ xs) c
-
 -- the first mark stands so far behind the first object, and clearing it there is clearing the first mark
 record First (n : ℕ) (es : List Entry) (k : ℕ) (m : Mark) : Type 0 where
   far : ℕ
@@ -57,39 +55,89 @@ at_head : (e : Entry) (es : List Entry) → changed_at 0 unmarked (e ∷ es) ≡
 unfolding changed_at
 at_head e es = refl
 
+abbrev swept_one : ℕ → Option Mark → World → World
+swept_one n o w = option_map_or (λ m. followed m (dbref_of n) w) o w
+
+clears_as : (e : Entry) (es : List Entry) (o : Option Mark) → e.mark ≡ o → cleared_at o e es (cleared es) ≡ cleared (e ∷ es)
+clears_as e es o h = ap (λ x. cleared_at x e es (cleared es)) (sym h)
+
+marked_as : (n : ℕ) (e : Entry) (es : List Entry) (o : Option Mark) → e.mark ≡ o → option_map_or (λ (x : Mark). Some (n, x)) o (marked_from (suc n) es) ≡ marked_from n (e ∷ es)
+unfolding marked_from
+marked_as n e es o h = ap (λ y. option_map_or (λ (x : Mark). Some (n, x)) y (marked_from (suc n) es)) (sym h)
+
+swept_as : (n : ℕ) (e : Entry) (es : List Entry) (o : Option Mark) (w : World) → e.mark ≡ o → swept (suc n) es (swept_one n o w) ≡ swept n (e ∷ es) w
+unfolding swept
+swept_as n e es o w h = ap (λ y. swept (suc n) es (swept_one n y w)) (sym h)
+
+marks_as : (e : Entry) (es : List Entry) (o : Option Mark) → e.mark ≡ o → marks (e ∷ es) ≡ mark_count o + marks es
+marks_as e es o h = ap (λ y. mark_count y + marks es) h
+
+mark_head : (n : ℕ) (e : Entry) (es : List Entry) (x : Mark) (k : ℕ) (m : Mark) → e.mark ≡ Some x → n ≡ k → x ≡ m → First n (e ∷ es) k m
+mark_head n e es x k m h number kind = record {
+  far = 0;
+  number = omega (arith, number);
+  clears = at_head e es ∙ clears_as e es (Some x) h;
+  sweeps = λ w.
+      sym (swept_as n e es (Some x) w h)
+      ∙ swept_as n (unmarked e) es None (followed x (dbref_of n) w) refl
+      ∙ ap (λ q. swept n (unmarked e ∷ es) (followed x (dbref_of q) w)) number
+      ∙ ap (λ y. swept n (unmarked e ∷ es) (followed y (dbref_of k) w)) kind
+      ∙ ap (λ ys. swept n ys (followed m (dbref_of k) w)) (clears_as e es (Some x) h);
+  fewer =
+      let less : marks (unmarked e ∷ es) ≡ marks (cleared (e ∷ es)) = ap marks (clears_as e es (Some x) h) in
+      omega (arith, less, marks_as (unmarked e) es None refl, marks_as e es (Some x) h);
+}
+
+mark_behind : (n : ℕ) (e : Entry) (es : List Entry) (k : ℕ) (m : Mark) → e.mark ≡ None → First (suc n) es k m → First n (e ∷ es) k m
+mark_behind n e es k m h rest = record {
+  far = suc rest.far;
+  number = omega (arith, rest.number);
+  clears = changed_later rest.far e es ∙ ap (λ ys. e ∷ ys) rest.clears ∙ clears_as e es None h;
+  sweeps = λ w.
+      sym (swept_as n e es None w h) ∙ rest.sweeps w
+      ∙ swept_as n e (cleared es) None (followed m (dbref_of k) w) h
+      ∙ ap (λ ys. swept n ys (followed m (dbref_of k) w)) (clears_as e es None h);
+  fewer =
+      let less : marks (e ∷ cleared es) ≡ marks (cleared (e ∷ es)) = ap marks (clears_as e es None h) in
+      omega (arith, less, marks_as e (cleared es) None h, marks_as e es None h, rest.fewer);
+}
+
 first_mark : (n : ℕ) (es : List Entry) (k : ℕ) (m : Mark) → marked_from n es ≡ Some (k, m) → First n es k m
-unfolding marked_from swept
+unfolding marked_from
 first_mark n [] k m e = absurd (cc)
-first_mark n (record { object = o; contents = cs; exits = xs; mark = Some x } ∷ es) k m e =
-    let number : n ≡ k = cc in
-    let kind : x ≡ m = cc in
-    rw (sym number, sym kind) (record { far = 0; number = omega arith; clears = at_head _ es; sweeps = λ w. refl; fewer = omega arith })
-first_mark n (record { object = o; contents = cs; exits = xs; mark = None } ∷ es) k m e =
-    let rest = first_mark (suc n) es k m e in
-    record {
-      far = suc rest.far;
-      number = omega (arith, rest.number);
-      clears = changed_later rest.far _ es ∙ ap (λ ys. record { object = o; contents = cs; exits = xs; mark = None } ∷ ys) rest.clears;
-      sweeps = λ w. rest.sweeps w;
-      fewer = omega (arith, rest.fewer);
-    }
+first_mark n (x ∷ es) k m e = at x.mark refl (λ f. first_mark (suc n) es k m f)
+  where
+    at : (o : Option Mark) → x.mark ≡ o → (marked_from (suc n) es ≡ Some (k, m) → First (suc n) es k m) → First n (x ∷ es) k m
+    at None h rest = mark_behind n x es k m h (rest (marked_as n x es None h ∙ e))
+    at (Some y) h rest = let f : ◌≡◌ {A = Option (ℕ × Mark)} (Some (n, y)) (Some (k, m)) = marked_as n x es (Some y) h ∙ e in
+        let both : ◌≡◌ {A = ℕ × Mark} (n, y) (k, m) = cc in
+        mark_head n x es y k m h (ap (λ (p : ℕ × Mark). p.0) both) (ap (λ (p : ℕ × Mark). p.1) both)
 
 no_mark : (n : ℕ) (es : List Entry) (w : World) → marked_from n es ≡ None → swept n es w ≡ w
 unfolding marked_from swept
 no_mark n [] w e = refl
-no_mark n (record { object = o; contents = cs; exits = xs; mark = Some x } ∷ es) w e = absurd (cc)
-no_mark n (record { object = o; contents = cs; exits = xs; mark = None } ∷ es) w e = no_mark (suc n) es w e
+no_mark n (x ∷ es) w e = at x.mark refl (λ f. no_mark (suc n) es w f)
+  where
+    at : (o : Option Mark) → x.mark ≡ o → (marked_from (suc n) es ≡ None → swept (suc n) es w ≡ w) → swept n (x ∷ es) w ≡ w
+    at None h rest = sym (swept_as n x es None w h) ∙ rest (marked_as n x es None h ∙ e)
+    at (Some y) h rest = let f : ◌≡◌ {A = Option (ℕ × Mark)} (Some (n, y)) None = marked_as n x es (Some y) h ∙ e in absurd (cc)
 
 no_mark_map : (n : ℕ) (es : List Entry) → marked_from n es ≡ None → map unmarked es ≡ es
 unfolding marked_from
 no_mark_map n [] e = refl
-no_mark_map n (record { object = o; contents = cs; exits = xs; mark = Some x } ∷ es) e = absurd (cc)
-no_mark_map n (record { object = o; contents = cs; exits = xs; mark = None } ∷ es) e = ap (λ ys. record { object = o; contents = cs; exits = xs; mark = None } ∷ ys) (no_mark_map (suc n) es e)
+no_mark_map n (x ∷ es) e = at x.mark refl (λ f. no_mark_map (suc n) es f)
+  where
+    at : (o : Option Mark) → x.mark ≡ o → (marked_from (suc n) es ≡ None → map unmarked es ≡ es) → map unmarked (x ∷ es) ≡ x ∷ es
+    at None h rest = ap (λ (o : Option Mark). record x { mark = o } ∷ map unmarked es) (sym h) ∙ ap (λ ys. x ∷ ys) (rest (marked_as n x es None h ∙ e))
+    at (Some y) h rest = let f : ◌≡◌ {A = Option (ℕ × Mark)} (Some (n, y)) None = marked_as n x es (Some y) h ∙ e in absurd (cc)
 
 unmarked_twice : (es : List Entry) → map unmarked (cleared es) ≡ map unmarked es
 unmarked_twice [] = refl
-unmarked_twice (record { object = o; contents = cs; exits = xs; mark = Some x } ∷ es) = refl
-unmarked_twice (record { object = o; contents = cs; exits = xs; mark = None } ∷ es) = ap (λ ys. record { object = o; contents = cs; exits = xs; mark = None } ∷ ys) (unmarked_twice es)
+unmarked_twice (x ∷ es) = at x.mark refl (unmarked_twice es)
+  where
+    at : (o : Option Mark) → x.mark ≡ o → map unmarked (cleared es) ≡ map unmarked es → map unmarked (cleared (x ∷ es)) ≡ map unmarked (x ∷ es)
+    at None h rest = ap (map unmarked) (sym (clears_as x es None h)) ∙ ap (λ ys. unmarked x ∷ ys) rest
+    at (Some y) h rest = ap (map unmarked) (sym (clears_as x es (Some y) h))
 
 -- What follows doesn't look at objects.
 
@@ -173,3 +221,15 @@ tells w c e = at (marked_from 0 w.live.objects) refl e
     at : (o : Option (ℕ × Mark)) → marked_from 0 w.live.objects ≡ o → option_map told_of o ≡ Some c → Tells w c
     at None f e = absurd (cc)
     at (Some (k, m)) f e = tells_mark w c k m f (cc)
+
+pub told_none : (es : List Entry) → next_change es ≡ None → change_told es ≡ es
+unfolding next_change change_told
+told_none es e = at (marked_from 0 es) e
+  where
+    at : (o : Option (ℕ × Mark)) → option_map told_of o ≡ None → option_map_or (λ p. changed_at p.0 unmarked es) o es ≡ es
+    at None e = refl
+    at (Some p) e = absurd (cc)
+
+pub objects_followed : (c : Changed) (w : World) → (followed_change c w).live.objects ≡ w.live.objects
+objects_followed (ChangedLines d) w = refl
+objects_followed (ChangedGone d) w = refl

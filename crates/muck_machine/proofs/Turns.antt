@@ -10,7 +10,7 @@ use Rattle.muck_live.specs.Lives.{Live}
 use Rattle.muck_board.specs.Lines.{HasNoLine, HasLine, BoardTakesLine}
 use Rattle.muck_world.specs.Talk.{waits}
 use Rattle.muck_event.specs.World.{World, connection, on_live}
-use Rattle.muck_event.specs.Lines.{command, line_done, done}
+use Rattle.muck_event.specs.Lines.{command, in_world, done}
 
 -- The editor of a connection.
 
@@ -34,9 +34,16 @@ unedited d (c ∷ cs) =
       | false ↦ λ h. ap (λ (rest : List Connection). c ∷ rest) (unedited d cs h)
     ]
 
-pub unedited_board : (d : ℕ) (b : Board) → editor_in d b ≡ None → edited_one d None b ≡ b
+unedited_board : (d : ℕ) (b : Board) → editor_in d b ≡ None → edited_one d None b ≡ b
 unfolding edited_one
 unedited_board d b h = ap (λ (cs : List Connection). with_connections cs b) (unedited d b.connections h)
+
+-- a command, where no editor was there to be taken out
+pub unedited_taken : (d : ℕ) (player : Dbref) (line : List ℕ) (w : World) (b : Board) → None ≡ editor_in d w.live.board → b ≡ edited_one d None w.live.board →
+    in_world d player line (record w { live = record w.live { board = b } }) ≡ command (Some player) (editor_in d w.live.board) d line w
+unedited_taken d player line w b n e =
+    ap (λ (x : Board). in_world d player line (record w { live = record w.live { board = x } })) (e ∙ unedited_board d w.live.board (sym n))
+    ∙ ap (λ editor. command (Some player) editor d line w) n
 
 -- Lines.
 

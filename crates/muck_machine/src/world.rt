@@ -278,7 +278,9 @@ impl World {
         if self.dead {
             return None;
         }
-        let pid = self.state.claim(party)?;
+        let Some(pid) = self.state.claim(party) else {
+            return None;
+        };
         self.tale.tell(&Entry {
             party,
             event: Event::Claim { pid },
