@@ -4,6 +4,8 @@
 mod commands;
 mod origin;
 mod state;
+#[cfg(test)]
+mod tests;
 mod world;
 
 pub use world::World;
