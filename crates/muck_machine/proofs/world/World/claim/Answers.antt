@@ -29,4 +29,4 @@ returns-clause-found c =
     let alive = dead_seen c.self.inside.origin c.self.inside.tale _ _ _ c.self.invariant c.self.view_is ∙ c.if-self.false in
     ap (λ pid. Some pid) (read_back c)
     ∙ process_alive (now c.args.self.now) _ alive
-      (reads (λ w. cond w.stopping None (next_due w.moment w.queue)) _ c.self.inside.origin c.self.inside.tale _ _ _ c.self.invariant c.self.view_is (sym c.in-Some.is ∙ c.claim.ensures.found) alive)
+    (reads (λ w. cond w.stopping None (next_due w.moment w.queue)) _ c.self.inside.origin c.self.inside.tale _ _ _ c.self.invariant c.self.view_is (sym c.in-Some.is ∙ c.claim.ensures.found) alive)
