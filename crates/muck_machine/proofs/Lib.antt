@@ -5,5 +5,6 @@ pub mod Turns
 pub mod Settling
 pub mod Free
 pub mod Joining
+pub mod Choosing
 pub mod Slices
 pub mod Deeds

@@ -20,7 +20,7 @@ editor_kept : (d : ℕ) (lines : List (List ℕ)) (cs : List Connection) →
 editor_kept d lines [] = refl
 editor_kept d lines (c ∷ cs) =
     (elim (has_number d c) as (λ b. has_number d c ≡ b →
-        option_and_then (λ (c : Connection). c.editor) (find (has_number d) (cond b (record c { waiting = lines } ∷ cs) (c ∷ changed_in d (λ c. record c { waiting = lines }) cs))) ≡ option_and_then (λ (c : Connection). c.editor) (cond b (Some c) (find (has_number d) cs))) [
+    option_and_then (λ (c : Connection). c.editor) (find (has_number d) (cond b (record c { waiting = lines } ∷ cs) (c ∷ changed_in d (λ c. record c { waiting = lines }) cs))) ≡ option_and_then (λ (c : Connection). c.editor) (cond b (Some c) (find (has_number d) cs))) [
       | true ↦ λ r. ap (λ o. option_and_then (λ (c : Connection). c.editor) o) (cond-true _ _ _ r)
       | false ↦ λ r. ap (λ o. option_and_then (λ (c : Connection). c.editor) o) (cond-false _ _ _ r) ∙ editor_kept d lines cs
     ]) refl

@@ -32,7 +32,7 @@ fn close(world: &mut World, d: u32) -> Result<bool, NoMemory> {
 
 // The process that is to go on runs, as another party than the porter has it; answers its number, and 0 where there is
 // none.
-#[tactic(auto, using(muck_event::proofs::Claims::chosen_lawful, muck_event::proofs::Runs::now-extended))]
+#[tactic(auto, using(crate::proofs::Choosing::claimed_may_run))]
 fn run(world: &mut World) -> Result<u32, NoMemory> {
     let Some(pid) = world.claim(3) else {
         return Ok(0);
@@ -211,6 +211,7 @@ fn town(alloc: Global, greets: bool) -> Result<World, Fail> {
     db.set_password(alloc, two, 7, &a_name(alloc, *b"two")?)?;
     let name = a_name(alloc, *b"nil")?;
     let program = db.create(alloc, Kind::Program, name, Dbref(1), Dbref(1))?;
+    db.set_level(program, 2)?;
     if greets {
         db.set_lines(program, greeting(alloc)?)?;
     }

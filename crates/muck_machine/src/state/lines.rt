@@ -86,11 +86,8 @@ impl State {
                 };
                 self.launch(d, actor, call)
             }
-            Outcome::Done
-            | Outcome::NotMine
-            | Outcome::Dump
-            | Outcome::Stop
-            | Outcome::Retune(_) => Ok(()),
+            Outcome::Done | Outcome::NotMine | Outcome::Dump | Outcome::Stop | Outcome::Retune(_) =>
+                Ok(()),
         }
     }
 

@@ -19,8 +19,8 @@ returns-in-Some-None-default c =
     let P : World → Type 0 = λ w. c.at_login.new.self ≡ done c.args.d (connection c.args.d w) w in
     on_ok_as c.at_login.result (c.at_login.new.self ≡ on_live (at_login c.args.d c.as_slice.result.now) v) _
     (λ e. subst P c.self.view_is (e ∙ ap (λ text. on_live (at_login c.args.d text) v) c.as_slice.ensures.bytes
-        ∙ ap (λ player. command player (editor_in c.args.d v.live.board) c.args.d line v) (sym c.in-Some-None-default.field-0-0-is)
-        ∙ line_taken c.args.d (state.the_view c.self.inside) c.take_line.new.self c.in-Some-None-default.field-0-0 line c.in-Some-None-default.ensures)) c.at_login.ensures
+    ∙ ap (λ player. command player (editor_in c.args.d v.live.board) c.args.d line v) (sym c.in-Some-None-default.field-0-0-is)
+    ∙ line_taken c.args.d (state.the_view c.self.inside) c.take_line.new.self c.in-Some-None-default.field-0-0 line c.in-Some-None-default.ensures)) c.at_login.ensures
 
 pub returns-in-Some-Some-default : goal.returns-in-Some-Some-default
 returns-in-Some-Some-default c =
@@ -30,4 +30,4 @@ returns-in-Some-Some-default c =
     let P : World → Type 0 = λ w. c.obey.new.self ≡ done c.args.d (connection c.args.d w) w in
     on_ok_as c.obey.result (c.obey.new.self ≡ command (Some player) (editor_in c.args.d v.live.board) c.args.d line v) _
     (λ e. subst P c.self.view_is (e ∙ ap (λ whose. command whose (editor_in c.args.d v.live.board) c.args.d line v) (sym c.in-Some-Some-default.field-0-0-is)
-        ∙ line_taken c.args.d (state.the_view c.self.inside) c.take_line.new.self c.in-Some-Some-default.field-0-0 line c.in-Some-Some-default.ensures)) c.obey.ensures
+    ∙ line_taken c.args.d (state.the_view c.self.inside) c.take_line.new.self c.in-Some-Some-default.field-0-0 line c.in-Some-Some-default.ensures)) c.obey.ensures
