@@ -278,14 +278,14 @@ impl World {
         if self.dead {
             return None;
         }
-        let found = self.state.claim(party);
-        if let Some(pid) = found {
-            self.tale.tell(&Entry {
-                party,
-                event: Event::Claim { pid },
-            });
-        }
-        found
+        let Some(pid) = self.state.claim(party) else {
+            return None;
+        };
+        self.tale.tell(&Entry {
+            party,
+            event: Event::Claim { pid },
+        });
+        Some(pid)
     }
 
     /// A claimed process runs for one slice, which is to its end. After `NoMemory` the world is dead.
