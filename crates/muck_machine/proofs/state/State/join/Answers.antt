@@ -12,7 +12,6 @@ use Rattle.muck_machine.proofs.state.State.join.Goals as goal
 pub returns-in-Err-ProcessLimit : goal.returns-in-Err-ProcessLimit
 unfolding too_many
 returns-in-Err-ProcessLimit c =
-    let full = rw c.in-Err-ProcessLimit.is at c.add.ensures in
     let P : World → Type 0 = λ v. c.tell.new.self ≡ joined c.args.d c.args.process v in
     let A : QueueFault → Type 0 = λ fault. Adds c.args.process c.tune-tune.result c.self.inside.queue c.add.new.self (Err fault) in
     let full = subst A c.in-Err-ProcessLimit.field-0-is c.in-Err-ProcessLimit.ensures in
