@@ -58,7 +58,7 @@ pub record IsOnTheWay (most done : ℕ) (old new : History) : Type 0 where
   pub whole : front ++ turns left (now new) ≡ turns most (now old)
   pub history : new ≡ extended old front
 
-nothing_more : (h : History) → extended h [] ≡ h
+pub nothing_more : (h : History) → extended h [] ≡ h
 nothing_more h = ap (λ (es : List Entry). record h { entries = es }) (append-nil h.entries)
 
 pub way_begins : (most : ℕ) (h : History) → IsOnTheWay most 0 h h
