@@ -32,7 +32,6 @@ fn close(world: &mut World, d: u32) -> Result<bool, NoMemory> {
 
 // The process that is to go on runs, as another party than the porter has it; answers its number, and 0 where there is
 // none.
-#[tactic(auto, using(crate::proofs::Choosing::claimed_may_run))]
 fn run(world: &mut World) -> Result<u32, NoMemory> {
     let Some(pid) = world.claim(3) else {
         return Ok(0);
