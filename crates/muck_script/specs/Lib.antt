@@ -3,3 +3,4 @@ pub mod Script
 pub mod Reading
 pub mod Story
 pub mod Settling
+pub mod Rows

@@ -1,0 +1,101 @@
+-- Worked examples of the grammar and of a transcript, which the checker computes.
+use Rattle.std.specs.Prelude.{◌≡◌, [], ◌∷◌, ◌++◌, refl, codes, Some, None, Ok, Err, replicate}
+use Rattle.std.specs.Fmt.{digits}
+use Rattle.muck_model.specs.Decimal.{decimal_of}
+use Rattle.muck_model.specs.Bytes.{text_most}
+use Rattle.muck_script.specs.declared.act.Act.TheVariants.{Nothing, Open, Send}
+use Rattle.muck_script.specs.Lines.{lines_of}
+use Rattle.muck_live.specs.Output.{sent_lines, queue_most, bytes_of, lines_bytes, line_sent, lines_sent, sent, taken, lines_taken}
+use Rattle.muck_live.specs.Boards.{early_board, opened, closed, line_added, bytes_taken, told_one, leaving_one}
+use Rattle.muck_live.specs.Lives.{followed, reading, either, unchanged, tell, leave}
+use Rattle.muck_event.specs.World.{starting, booted}
+use Rattle.muck_world.specs.Replies.{goodbye}
+use Rattle.muck_world.specs.Talk.{welcome, at_login, quit, waits, parted, gone_away}
+use Rattle.muck_queue.specs.Queues.{empty_queue, next_due, is_tied, ended_tied}
+use Rattle.muck_event.specs.Lines.{done}
+use Rattle.muck_event.specs.Steps.{is_lawful, effect, next_ready, next_process}
+use Rattle.muck_script.specs.Script.{act_of, script_of, script_most}
+use Rattle.muck_script.specs.Story.{next_turn, turns, served, line_story, told, transcript}
+
+lines_row : lines_of (97 ∷ 10 ∷ 10 ∷ 98 ∷ []) ≡ (97 ∷ []) ∷ [] ∷ (98 ∷ []) ∷ []
+lines_row = refl
+
+ended_row : lines_of (97 ∷ 10 ∷ []) ≡ (97 ∷ []) ∷ []
+ended_row = refl
+
+empty_row : act_of [] ≡ Some Nothing
+unfolding act_of
+empty_row = refl
+
+comment_row : act_of (codes "# open 1") ≡ Some Nothing
+unfolding act_of
+comment_row = refl
+
+open_row : act_of (codes "open 256") ≡ Some (Open 256)
+unfolding act_of decimal_of
+open_row = refl
+
+open_zero_row : act_of (codes "open 0") ≡ None
+unfolding act_of decimal_of
+open_zero_row = refl
+
+open_above_row : act_of (codes "open 257") ≡ None
+unfolding act_of decimal_of
+open_above_row = refl
+
+open_leading_row : act_of (codes "open 01") ≡ None
+unfolding act_of decimal_of
+open_leading_row = refl
+
+open_space_row : act_of (codes "open 1 ") ≡ None
+unfolding act_of decimal_of
+open_space_row = refl
+
+open_spaces_row : act_of (codes "open  1") ≡ None
+unfolding act_of decimal_of
+open_spaces_row = refl
+
+open_what_row : act_of (codes "open") ≡ None
+unfolding act_of decimal_of
+open_what_row = refl
+
+send_row : act_of (codes "send 1 \"hi  you ") ≡ Some (Send 1 (codes "\"hi  you "))
+unfolding act_of decimal_of
+send_row = refl
+
+send_empty_row : act_of (codes "send 1 ") ≡ Some (Send 1 [])
+unfolding act_of decimal_of
+send_empty_row = refl
+
+send_nothing_row : act_of (codes "send 1") ≡ None
+unfolding act_of decimal_of
+send_nothing_row = refl
+
+send_tab_row : act_of (codes "send 1 a" ++ 9 ∷ codes "b") ≡ None
+unfolding act_of decimal_of
+send_tab_row = refl
+
+send_return_row : act_of (codes "send 1 a" ++ 13 ∷ []) ≡ None
+unfolding act_of decimal_of
+send_return_row = refl
+
+send_full_row : act_of (codes "send 2 " ++ replicate 2048 97) ≡ Some (Send 2 (replicate 2048 97))
+unfolding act_of decimal_of
+send_full_row = refl
+
+send_long_row : act_of (codes "send 2 " ++ replicate 2049 97) ≡ None
+unfolding act_of decimal_of
+send_long_row = refl
+
+other_row : act_of (codes "OPEN 1") ≡ None
+unfolding act_of
+other_row = refl
+
+-- the first line outside is the second
+script_row : script_of (codes "open 1" ++ 10 ∷ codes "send x" ++ 10 ∷ codes "open 2" ++ 10 ∷ []) ≡ Err 2
+unfolding act_of decimal_of script_most
+script_row = refl
+
+whole_row : script_of (codes "open 1" ++ 10 ∷ 10 ∷ codes "send 1 x") ≡ Ok (Open 1 ∷ Nothing ∷ Send 1 (codes "x") ∷ [])
+unfolding act_of decimal_of script_most
+whole_row = refl
