@@ -4,3 +4,4 @@ pub mod Made
 pub mod Open
 pub mod Owned
 pub mod Steps
+pub mod Entered

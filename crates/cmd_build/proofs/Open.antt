@@ -7,7 +7,7 @@ use Rattle.muck_rights.specs.declared.act.Actor.{Actor}
 use Rattle.muck_rights.specs.Licence.{Licensed, nobody}
 use Rattle.muck_rights.proofs.Licences.{Whole, Always, whole_quiet, quiet_unchanged}
 use Rattle.muck_world.specs.declared.outcome.Outcome.{Outcome}
-use Rattle.muck_world.specs.declared.outcome.Outcome.TheVariants.{Done, NotMine}
+use Rattle.muck_world.specs.declared.outcome.Outcome.TheVariants.{NotMine}
 use Rattle.muck_world.specs.declared.word.BuildWord.{BuildWord}
 use Rattle.muck_world.specs.Texts.{first_word, trimmed}
 use Rattle.muck_world.specs.Commands.{build_word, build_some, build_line}
@@ -17,13 +17,13 @@ use Rattle.muck_perm.specs.declared.guard.Guard.{Guard}
 use Rattle.muck_perm.specs.Guards.{world_of}
 use Rattle.cmd_parts.specs.Plays.{Plays}
 
-some_open : (a : Actor) (d : ℕ) (word text : List ℕ) (found : Option BuildWord) → Whole left a None (λ es. nobody) Always (build_some d a word text found)
-some_open a d word text None = whole_ended a None (λ es. nobody) Always NotMine unchanged (whole_quiet a None (λ es. nobody) Always unchanged quiet_unchanged)
-some_open a d word text (Some found) = whole_ended a None (λ es. nobody) Always Done _ (build_open a None (λ es. nobody) d word text found)
+some_open : (a : Actor) (d : ℕ) (line word text : List ℕ) (found : Option BuildWord) → Whole left a None (λ es. nobody) Always (build_some d a line word text found)
+some_open a d line word text None = whole_ended a None (λ es. nobody) Always NotMine unchanged (whole_quiet a None (λ es. nobody) Always unchanged quiet_unchanged)
+some_open a d line word text (Some found) = build_open a None (λ es. nobody) d line word text found
 
 line_open : (a : Actor) (d : ℕ) (line : List ℕ) → Whole left a None (λ es. nobody) Always (build_line d a line)
 unfolding build_line
-line_open a d line = some_open a d _ _ (build_word (first_word (trimmed line)))
+line_open a d line = some_open a d line _ _ (build_word (first_word (trimmed line)))
 
 pub plays_open : (d : ℕ) (line : List ℕ) (old new : Guard) (result : Result Outcome NoMemory) → Plays (build_line d old.actor line) old new result →
     OnOk result (Licensed old.actor nobody (world_of old) (world_of new))

@@ -1,3 +1,4 @@
+pub mod Entering
 pub mod Keys
 pub mod Owned
 pub mod Owning

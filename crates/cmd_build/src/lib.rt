@@ -1,5 +1,5 @@
 //! What builders do by a line: making rooms, things and exits, linking and naming them, their messages and locks, moving,
-//! recycling and giving them away. Each function changes the world that a guard lends just as the definition of
+//! recycling and giving them away; and making, editing, listing and running programs. Each function changes the world that a guard lends just as the definition of
 //! `muck_world` of that name says, and a line changes no more than is open to who typed it.
 #![tactic(auto)]
 
@@ -14,6 +14,10 @@ mod moving;
 mod names;
 mod naming;
 mod owning;
+mod program_lines;
+#[cfg(test)]
+mod program_tests;
+mod programs;
 mod searching;
 #[cfg(test)]
 mod tests;

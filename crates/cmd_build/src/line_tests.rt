@@ -9,7 +9,7 @@ use muck_world::Outcome;
 use std::alloc::Global;
 use std::test::Fail;
 
-const TUNE: Tune = Tune {
+pub const TUNE: Tune = Tune {
     instr_slice: 1,
     preempt_units: 2,
     m1_units: 3,
@@ -20,7 +20,7 @@ const TUNE: Tune = Tune {
     dump_interval: 8,
 };
 
-const TWO: Actor = Actor {
+pub const TWO: Actor = Actor {
     level: 1,
     user: Dbref(2),
     player: Dbref(2),
@@ -36,7 +36,7 @@ const MADE: [(Kind, &[u8], i32, i32); 6] = [
 ];
 
 // The players Two, #2, and Three, #3, in Room Zero; and Two's thing, #4, room, #5, exit, #6, and program, #7.
-fn world(alloc: Global) -> Result<Db, Fail> {
+pub fn world(alloc: Global) -> Result<Db, Fail> {
     let mut db = Db::starting(alloc)?;
     for (kind, text, owner, place) in MADE.iter() {
         let name = Line::new(alloc, text)?;

@@ -17,7 +17,8 @@ use muck_model::{Line, NoMemory};
 use muck_perm::Guard;
 use muck_world::Message;
 
-fn is_empty(text: &Line) -> bool
+/// Whether nothing stands behind a word.
+pub fn is_empty(text: &Line) -> bool
     ensures { result ≡ is_empty text.now }
 {
     text.as_slice().is_empty()

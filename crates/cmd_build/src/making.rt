@@ -26,8 +26,8 @@ const NOTHING: Dbref = Dbref(-1);
 
 const HOME: Dbref = Dbref(-3);
 
-// The number of an object that is there.
-fn number_of(x: Dbref) -> u32
+/// The number of an object that is there.
+pub fn number_of(x: Dbref) -> u32
     ensures number { result ≡ number_of x }
     ensures most { result < 2 ^ 31 }
 {
@@ -45,9 +45,9 @@ fn long_name(guard: &Guard, n: u32) -> Result<Vec<u8>, NoMemory>
     }
 }
 
-// Tells the connection of the new object of a number.
+/// Tells the connection of the new object of a number.
 #[tactic(auto, unfolding(muck_world::specs::Building::created_shown, muck_world::specs::Replies::created_reply, muck_live::specs::Lives::reading))]
-fn show_created(guard: &mut Guard, d: u32, n: u32) -> Result<(), NoMemory>
+pub fn show_created(guard: &mut Guard, d: u32, n: u32) -> Result<(), NoMemory>
     requires { n < 2 ^ 31 }
     ensures { Did (created_shown d n) guard.old guard.new result }
 {

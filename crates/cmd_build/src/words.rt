@@ -1,6 +1,6 @@
 // The words of builders.
 ghost use Rattle.std.specs.Prelude.{◌≡◌};
-ghost use Rattle.muck_world.specs.Commands.{make_word, tie_word, message_word, build_word};
+ghost use Rattle.muck_world.specs.Commands.{make_word, tie_word, message_word, program_word, build_word};
 
 use muck_world::{BuildWord, Message, alike};
 
@@ -85,6 +85,25 @@ fn message_word(word: &[u8]) -> Option<BuildWord>
     None
 }
 
+// A word that has to do with programs.
+fn program_word(word: &[u8]) -> Option<BuildWord>
+    ensures { result ≡ program_word word.now }
+{
+    if alike(word, b"@program") {
+        return Some(BuildWord::Program);
+    }
+    if alike(word, b"@edit") {
+        return Some(BuildWord::Edit);
+    }
+    if alike(word, b"@list") {
+        return Some(BuildWord::List);
+    }
+    if alike(word, b"@run") {
+        return Some(BuildWord::Run);
+    }
+    None
+}
+
 /// What a word asks of a builder, in any case of letters; `None` exactly where it is no word of builders.
 #[tactic(auto, unfolding(muck_world::specs::Commands::build_word))]
 pub fn build_word(word: &[u8]) -> Option<BuildWord>
@@ -96,5 +115,8 @@ pub fn build_word(word: &[u8]) -> Option<BuildWord>
     if let Some(found) = tie_word(word) {
         return Some(found);
     }
-    message_word(word)
+    if let Some(found) = message_word(word) {
+        return Some(found);
+    }
+    program_word(word)
 }

@@ -1,9 +1,9 @@
 -- Changes one after another.
-use Rattle.std.proofs.Common.{◌≡◌, ℕ, ◌+◌, ◌<◌, ◌≤◌, List, [], ◌∷◌, length, drop, get_or, refl, sym, subst, add-one, drop-cons, arith, Result, Ok, Err}
+use Rattle.std.proofs.Common.{◌≡◌, ℕ, ◌+◌, ◌<◌, ◌≤◌, List, [], ◌∷◌, length, drop, get_or, refl, sym, subst, add-one, drop-cons, Result, Ok, Err}
 use Rattle.std.proofs.lemmas.List.{drop_all}
 use Rattle.muck_model.specs.declared.dbref.Dbref.{Dbref}
 use Rattle.muck_model.specs.declared.memory.NoMemory.{NoMemory}
-use Rattle.muck_live.specs.Lives.{Live, Change, followed, unchanged, reading, tell}
+use Rattle.muck_live.specs.Lives.{Change, followed, unchanged, reading, tell}
 use Rattle.muck_rights.specs.Levels.{name_shown}
 use Rattle.muck_world.specs.Finding.{listed}
 use Rattle.muck_perm.specs.declared.guard.Guard.{Guard}

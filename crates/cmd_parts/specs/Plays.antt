@@ -1,9 +1,10 @@
 -- What commands do to the world that a guard lends.
-use Rattle.std.specs.Prelude.{◌≡◌, ℕ, List, Option, Some, None, Result, Ok, Err}
+use Rattle.std.specs.Prelude.{◌≡◌, Option, Some, None, Result, Ok, Err}
 use Rattle.muck_model.specs.declared.dbref.Dbref.{Dbref}
 use Rattle.muck_model.specs.declared.memory.NoMemory.{NoMemory}
-use Rattle.muck_live.specs.Lives.{Live, Change}
+use Rattle.muck_live.specs.Lives.{Change}
 use Rattle.muck_world.specs.declared.outcome.Outcome.{Outcome}
+use Rattle.muck_world.specs.declared.outcome.Outcome.TheVariants.{Done as Finished}
 use Rattle.muck_world.specs.Going.{Play}
 use Rattle.muck_perm.specs.declared.guard.Guard.{Guard}
 use Rattle.muck_perm.specs.Guards.{Done, Same, world_of}
@@ -18,3 +19,9 @@ abbrev pub Finds : ((Dbref → Change) → Change) → Guard → Guard → Resul
 Finds seek old new (Ok (Some x)) = (new ≡ old) × ((go : Dbref → Change) → seek go (world_of old) ≡ go x (world_of old))
 Finds seek old new (Ok None) = (go : Dbref → Change) → Done (seek go) old new
 Finds seek old new (Err e) = Same old new
+
+-- one object was found for a line, nothing happened, and the line goes on with it; or it is done
+abbrev pub FindsFor : ((Dbref → Play) → Play) → Guard → Guard → Result (Option Dbref) NoMemory → Type 0
+FindsFor seek old new (Ok (Some x)) = (new ≡ old) × ((go : Dbref → Play) → seek go (world_of old) ≡ go x (world_of old))
+FindsFor seek old new (Ok None) = (go : Dbref → Play) → Plays (seek go) old new (Ok Finished)
+FindsFor seek old new (Err e) = Same old new

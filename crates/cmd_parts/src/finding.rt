@@ -5,12 +5,14 @@ ghost use Rattle.muck_live.specs.Lives.{tell};
 ghost use Rattle.muck_match.specs.Naming.{found, player_named};
 ghost use Rattle.muck_world.specs.Replies.{not_understood, not_known};
 ghost use Rattle.muck_world.specs.Finding.{finding, finding_player, finding_object, is_object};
+ghost use Rattle.muck_world.specs.Going.{is_program_at};
+ghost use Rattle.muck_world.specs.Programming.{finding_program};
 ghost use Rattle.muck_perm.specs.Guards.{Did, world_of};
-ghost use Rattle.cmd_parts.specs.Plays.{Finds};
+ghost use Rattle.cmd_parts.specs.Plays.{Finds, FindsFor};
 
 use crate::replies::cant_be_done;
 use muck_match::{Found, find, player};
-use muck_model::{Dbref, Line, NoMemory};
+use muck_model::{Dbref, Kind, Line, NoMemory};
 use muck_perm::Guard;
 use std::alloc::Global;
 
@@ -99,4 +101,40 @@ pub fn find_object(guard: &mut Guard, d: u32, name: &Line) -> Result<Option<Dbre
     }
     cant_be_done(guard, d)?;
     Ok(None)
+}
+
+/// Whether an object is a program.
+#[tactic(auto, unfolding(muck_world::specs::Finding::is_so))]
+pub fn is_program(guard: &Guard, x: Dbref) -> bool
+    ensures { result ≡ is_program_at x (world_of guard.now) }
+{
+    match guard.db().get(x) {
+        Some(object) => matches!(object.kind(), Kind::Program),
+        None => false,
+    }
+}
+
+/// The one program that the player means by a text. `None` exactly where there is nothing of that name or several, or
+/// where it is no program, and then the connection was told.
+#[tactic(auto, unfolding(muck_world::specs::Programming::finding_program, muck_world::specs::Finding::finding, muck_world::specs::Finding::where_so, muck_world::specs::Going::ended, muck_live::specs::Lives::reading, muck_live::specs::Lives::either))]
+pub fn find_program(guard: &mut Guard, d: u32, text: &Line) -> Result<Option<Dbref>, NoMemory>
+    ensures { FindsFor (finding_program d guard.old.actor text.now) guard.old guard.new result }
+{
+    match find(guard.db(), guard.actor().player, text) {
+        Found::One(x) => {
+            if is_program(guard, x) {
+                return Ok(Some(x));
+            }
+            cant_be_done(guard, d)?;
+            Ok(None)
+        }
+        Found::None => {
+            tell_not_understood(guard, d, text.as_slice())?;
+            Ok(None)
+        }
+        Found::Many => {
+            tell_not_known(guard, d, text.as_slice())?;
+            Ok(None)
+        }
+    }
 }

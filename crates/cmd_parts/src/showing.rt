@@ -3,9 +3,10 @@ ghost use Rattle.std.specs.Prelude.{◌≡◌, ◌++◌, IfOk};
 ghost use Rattle.muck_live.specs.Lives.{tell, reading, place_at, name_at};
 ghost use Rattle.muck_rights.specs.Levels.{name_shown};
 ghost use Rattle.muck_world.specs.Finding.{shown_others, listed};
+ghost use Rattle.muck_world.specs.Programming.{lines_shown};
 ghost use Rattle.muck_perm.specs.Guards.{Did, world_of};
 
-use muck_model::{Dbref, NoMemory};
+use muck_model::{Dbref, Line, NoMemory};
 use muck_perm::{Guard, name_shown};
 use std::alloc::Global;
 
@@ -58,6 +59,23 @@ pub fn list(guard: &mut Guard, d: u32, player: Dbref, xs: &[Dbref]) -> Result<()
 {
     for x in xs {
         show_name(guard, d, player, *x)?;
+    }
+    Ok(())
+}
+
+fn show_line(guard: &mut Guard, d: u32, line: &Line) -> Result<(), NoMemory>
+    ensures { Did (tell d line.now) guard.old guard.new result }
+{
+    guard.tell(d, line.as_slice())?;
+    Ok(())
+}
+
+/// The connection sees these lines, one after another.
+pub fn show_lines(guard: &mut Guard, d: u32, lines: &[Line]) -> Result<(), NoMemory>
+    ensures { Did (lines_shown d lines.now) guard.old guard.new result }
+{
+    for line in lines {
+        show_line(guard, d, line)?;
     }
     Ok(())
 }

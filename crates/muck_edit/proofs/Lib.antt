@@ -1,4 +1,3 @@
 pub mod There
-pub mod Shown
 pub mod Opens
 pub mod Opened

@@ -5,8 +5,7 @@ use Rattle.std.specs.Option.{option_map_or}
 use Rattle.muck_model.specs.declared.edit.EditState.{EditState}
 use Rattle.muck_live.specs.Lives.{Live}
 use Rattle.muck_world.specs.Going.{is_program_at}
-use Rattle.muck_world.specs.Editing.{IsOpen}
-use Rattle.muck_edit.specs.Opened.{is_between, is_open}
+use Rattle.muck_world.specs.Editing.{IsOpen, is_between, is_open}
 
 all_three : (a b c : Bool) → a && (b && c) ≡ true → (a ≡ true) × (b ≡ true) × (c ≡ true)
 all_three true true true h = (refl, refl, refl)

@@ -1,5 +1,5 @@
 -- An editor stays open, and what a line of it does is open to its actor.
-use Rattle.std.proofs.Common.{◌≡◌, ℕ, zero, suc, ◌+◌, ◌-◌, ◌<◌, ◌≤◌, ◌==◌, Bool, true, false, ◌&&◌, cond, nat_lt, nat_le, List, [], ◌∷◌, ◌++◌, length, take, drop, codes, bytes_eq, Option, Some, None, Result, Ok, Err, IfSome, OnOk, refl, sym, ◌∙◌, ap, subst, slice_get, arith, length-append, length-take-le, length-drop}
+use Rattle.std.proofs.Common.{◌≡◌, ℕ, zero, suc, ◌+◌, ◌-◌, ◌<◌, ◌≤◌, ◌==◌, Bool, true, false, ◌&&◌, cond, nat_lt, nat_le, List, ◌∷◌, ◌++◌, length, take, drop, codes, bytes_eq, Option, Some, None, Result, Ok, Err, IfSome, OnOk, refl, sym, ◌∙◌, ap, subst, slice_get, arith, length-append, length-take-le, length-drop}
 use Rattle.std.proofs.lemmas.Bool.{ltb-true, leb-true, ltb-false}
 use Rattle.std.specs.Option.{option_map, option_and_then, option_map_or}
 use Rattle.muck_model.specs.declared.dbref.Dbref.{Dbref}
@@ -10,7 +10,7 @@ use Rattle.muck_model.specs.Decimal.{is_decimal, value_from, decimal_of}
 use Rattle.muck_live.specs.declared.object.Object.{Object}
 use Rattle.muck_live.specs.Objects.{Entry, dbref_of, is_garbage, is_program, object_in, object_at, number_in}
 use Rattle.muck_live.specs.Setting.{with_lines, lines_set}
-use Rattle.muck_live.specs.Lives.{Live, Change, followed, unchanged, tell}
+use Rattle.muck_live.specs.Lives.{Live, Change, followed, reading, either, unchanged, tell}
 use Rattle.muck_live.proofs.Lists.{get_changed_same}
 use Rattle.muck_rights.specs.declared.act.Actor.{Actor}
 use Rattle.muck_rights.specs.declared.act.Act.TheVariants.{Edit}
@@ -18,7 +18,7 @@ use Rattle.muck_rights.specs.Verdict.{verdict}
 use Rattle.muck_rights.specs.Asking.{answered, asked, refused}
 use Rattle.muck_rights.specs.Changing.{lines_kept}
 use Rattle.muck_rights.specs.Licence.{Licensed, nobody}
-use Rattle.muck_rights.proofs.Licences.{Quiet, quiet_followed, quiet_unchanged}
+use Rattle.muck_rights.proofs.Licences.{Quiet, quiet_followed}
 use Rattle.muck_rights.proofs.Lookups.{alive, seen_at, number_is}
 use Rattle.muck_rights.proofs.Shown.{quiet_tell, quiet_refused}
 use Rattle.muck_world.specs.declared.edit.EditCommand.{EditCommand}
@@ -26,11 +26,13 @@ use Rattle.muck_world.specs.declared.edit.EditCommand.TheVariants.{Insert, Delet
 use Rattle.muck_world.specs.declared.edit.EditStep.{EditStep}
 use Rattle.muck_world.specs.declared.edit.EditStep.TheVariants.{Stay, Compile as ToCompile, Left}
 use Rattle.muck_world.specs.Texts.{first_word, other_words, trimmed, is_alike}
-use Rattle.muck_world.specs.Finding.{is_so}
+use Rattle.muck_world.specs.Finding.{where_so, is_so}
 use Rattle.muck_world.specs.Going.{is_program_at}
+use Rattle.muck_world.specs.Programming.{source_of}
 use Rattle.muck_world.specs.Commands.{is_empty}
-use Rattle.muck_world.specs.Editing.{Editing, entering, exiting, deleted_reply, editor_exited, illegal, line_number, plain_command, line_command, lines_command, one_line, two_lines, edit_command, lines_most, stepped, with_line, line_inserted, lines_shown, edit_done, edit_some, edited_at, edited, IsOpen}
-use Rattle.muck_world.proofs.Edited.{quiet_lines_shown, edited_licensed}
+use Rattle.muck_world.specs.Editing.{entering, exiting, deleted_reply, editor_exited, illegal, line_number, plain_command, line_command, lines_command, one_line, two_lines, edit_command, lines_most, stepped, with_line, line_inserted, same_lines, source_kept, edit_done, edit_some, edited_at, edited, IsOpen}
+use Rattle.muck_world.proofs.Programmed.{quiet_lines_shown}
+use Rattle.muck_world.proofs.Edited.{edited_licensed}
 use Rattle.muck_perm.specs.declared.guard.Guard.{Guard}
 use Rattle.muck_perm.specs.Guards.{world_of}
 use Rattle.muck_edit.specs.Edits.{Edits, IsWithin}
@@ -164,8 +166,13 @@ IsOpenAfter r = IsOpen r.1 r.0
 still_open : (s : EditState) (f : Change) → Quiet f → (w : Live) → IsOpen s w → IsOpen s (f w)
 still_open s f q w h = record { program = quiet_there s.program f q w h.program; few = h.few; within = h.within }
 
-kept_open : (s : EditState) (lines : List (List ℕ)) (w : Live) → IsOpen s w → IsOpen s (lines_kept s.program lines w)
-kept_open s lines w h = record { program = kept_there s.program lines w h.program; few = h.few; within = h.within }
+kept_open : (s : EditState) (lines : List (List ℕ)) (w : Live) → IsOpen s w → IsOpen s (source_kept s.program lines w)
+unfolding source_kept where_so reading either unchanged
+kept_open s lines w h = by_case (same_lines (source_of s.program w) lines)
+  where
+    by_case : (b : Bool) → IsOpen s (cond b w (lines_kept s.program lines w))
+    by_case true = h
+    by_case false = record { program = kept_there s.program lines w h.program; few = h.few; within = h.within }
 
 inserted_few : (at : ℕ) (line : List ℕ) (lines : List (List ℕ)) → at ≤ length lines → length (take at lines ++ line ∷ drop at lines) ≡ length lines + 1
 inserted_few at line lines h = rw (length-append (take at lines) (line ∷ drop at lines), length-take-le at lines h, length-drop at lines) (omega arith)
@@ -198,13 +205,13 @@ done_after d a s (Delete from to) w e p h =
 done_after d a s (Show from to) w e p h = still_open s _ (quiet_lines_shown d _) w h
 done_after d a s Compile w e p h = by_verdict (verdict w.objects a (Edit s.program))
   where
-    by_verdict : (v : Option Denial) → IsOpenAfter (answered v (λ denial. stepped Stay s (refused d denial)) (stepped ToCompile s (lines_kept s.program s.lines)) w)
+    by_verdict : (v : Option Denial) → IsOpenAfter (answered v (λ denial. stepped Stay s (refused d denial)) (stepped ToCompile s (source_kept s.program s.lines)) w)
     by_verdict None = kept_open s s.lines w h
     by_verdict (Some denial) = still_open s (refused d denial) (quiet_refused d denial) w h
 done_after d a s Quit w e p h = by_verdict (verdict w.objects a (Edit s.program))
   where
-    by_verdict : (v : Option Denial) → IsOpenAfter (answered v (λ denial. stepped Left s (followed (refused d denial) (tell d editor_exited))) (stepped Left s (followed (lines_kept s.program s.lines) (tell d editor_exited))) w)
-    by_verdict None = still_open s (tell d editor_exited) (quiet_tell d editor_exited) (lines_kept s.program s.lines w) (kept_open s s.lines w h)
+    by_verdict : (v : Option Denial) → IsOpenAfter (answered v (λ denial. stepped Left s (followed (refused d denial) (tell d editor_exited))) (stepped Left s (followed (source_kept s.program s.lines) (tell d editor_exited))) w)
+    by_verdict None = still_open s (tell d editor_exited) (quiet_tell d editor_exited) (source_kept s.program s.lines w) (kept_open s s.lines w h)
     by_verdict (Some denial) = still_open s _ (quiet_followed _ _ (quiet_refused d denial) (quiet_tell d editor_exited)) w h
 
 some_after : (d : ℕ) (a : Actor) (s : EditState) (command : Option EditCommand) (w : Live) → s.inserting ≡ None → IfSome command (IsWithin (length s.lines)) → IsOpen s w → IsOpenAfter (edit_some d a s command w)

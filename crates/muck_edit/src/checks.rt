@@ -1,22 +1,11 @@
 // Whether an editor is open.
 ghost use Rattle.std.specs.Prelude.{◌≡◌};
-ghost use Rattle.muck_world.specs.Going.{is_program_at};
 ghost use Rattle.muck_perm.specs.Guards.{world_of};
-ghost use Rattle.muck_edit.specs.Opened.{is_between, is_open};
+ghost use Rattle.muck_world.specs.Editing.{is_between, is_open};
 
-use muck_model::{Dbref, EditState, Kind};
+use cmd_parts::is_program;
+use muck_model::EditState;
 use muck_perm::Guard;
-
-// Whether an object is a program.
-#[tactic(auto, unfolding(muck_world::specs::Finding::is_so))]
-fn is_program_at(guard: &Guard, x: Dbref) -> bool
-    ensures { result ≡ is_program_at x (world_of guard.now) }
-{
-    match guard.db().get(x) {
-        Some(object) => matches!(object.kind(), Kind::Program),
-        None => false,
-    }
-}
 
 // Whether lines are inserted between the lines, where they are.
 fn is_between(state: &EditState) -> bool
@@ -32,5 +21,5 @@ fn is_between(state: &EditState) -> bool
 pub fn is_open(guard: &Guard, state: &EditState) -> bool
     ensures { result ≡ is_open state.now (world_of guard.now) }
 {
-    is_program_at(guard, state.program) && (state.lines.len() <= 4096 && is_between(state))
+    is_program(guard, state.program) && (state.lines.len() <= 4096 && is_between(state))
 }

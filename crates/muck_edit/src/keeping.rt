@@ -3,21 +3,31 @@ ghost use Rattle.std.specs.Prelude.{◌≡◌};
 ghost use Rattle.muck_rights.specs.declared.act.Act.{Act};
 ghost use Rattle.muck_rights.specs.Changing.{lines_kept};
 ghost use Rattle.muck_world.specs.declared.edit.EditCommand.{EditCommand};
-ghost use Rattle.muck_world.specs.Editing.{IsOpen, edit_done};
+ghost use Rattle.muck_world.specs.Programming.{source_of};
+ghost use Rattle.muck_world.specs.Editing.{IsOpen, same_lines, source_kept, edit_done};
 ghost use Rattle.muck_perm.specs.Guards.{Did, IsLeave, world_of};
 ghost use Rattle.muck_edit.specs.Edits.{Edits};
 
-use crate::lines::copy_lines;
 use crate::showing::tell_exited;
-use cmd_parts::refuse;
-use muck_model::{EditState, NoMemory};
+use cmd_parts::{copy_lines, refuse, same_lines};
+use muck_model::{Dbref, EditState, LineList, NoMemory};
 use muck_perm::{Guard, Pass, verdict};
 use muck_rights::Act;
 use muck_world::EditStep;
 
-// Keeps the lines of the editor as the source of its program.
+// Whether the lines are the source of a program already.
+fn is_source(guard: &Guard, program: Dbref, lines: &LineList) -> bool
+    ensures { result ≡ same_lines (source_of program (world_of guard.now)) lines.now }
+{
+    match guard.db().get(program) {
+        Some(object) => same_lines(object.lines().as_slice(), lines.as_slice()),
+        None => lines.is_empty(),
+    }
+}
+
+// Gives the program of the editor its lines as its source.
 #[tactic(auto, using(crate::proofs::There::makes_there))]
-fn keep(guard: &mut Guard, pass: Pass, state: &EditState) -> Result<(), NoMemory>
+fn set_lines(guard: &mut Guard, pass: Pass, state: &EditState) -> Result<(), NoMemory>
     requires leave { IsLeave pass (Act.Edit state.now.program) guard.old }
     requires open { IsOpen state.now (world_of guard.old) }
     ensures { Did (lines_kept state.now.program state.now.lines) guard.old guard.new result }
@@ -27,6 +37,19 @@ fn keep(guard: &mut Guard, pass: Pass, state: &EditState) -> Result<(), NoMemory
         Ok(()) => Ok(()),
         Err(_) => unreachable!(),
     }
+}
+
+// Keeps the lines of the editor as the source of its program; where they are it already, nothing changes.
+#[tactic(auto, unfolding(muck_world::specs::Editing::source_kept, muck_world::specs::Finding::where_so, muck_live::specs::Lives::reading, muck_live::specs::Lives::either, muck_live::specs::Lives::unchanged))]
+fn keep(guard: &mut Guard, pass: Pass, state: &EditState) -> Result<(), NoMemory>
+    requires leave { IsLeave pass (Act.Edit state.now.program) guard.old }
+    requires open { IsOpen state.now (world_of guard.old) }
+    ensures { Did (source_kept state.now.program state.now.lines) guard.old guard.new result }
+{
+    if is_source(guard, state.program, &state.lines) {
+        return Ok(());
+    }
+    set_lines(guard, pass, state)
 }
 
 /// `c`: keeps the source, which is then to be compiled.

@@ -1,5 +1,5 @@
 // The lines of the editor.
-ghost use Rattle.std.specs.Prelude.{◌≡◌, ◌≤◌, length, insert, take, OnOk, OnErr, IfOk};
+ghost use Rattle.std.specs.Prelude.{◌≡◌, ◌≤◌, length, insert, take, OnOk, OnErr};
 ghost use Rattle.std.specs.List.{remove_range};
 
 use muck_model::{Line, LineList, NoMemory};
@@ -41,15 +41,4 @@ pub fn remove_lines(alloc: Global, lines: &mut LineList, from: u32, to: u32)
     let mut items = take_out(alloc, lines);
     items.drain(from as usize..to as usize);
     *lines = LineList::of(items);
-}
-
-/// A copy of lines.
-pub fn copy_lines(alloc: Global, lines: &LineList) -> Result<LineList, NoMemory>
-    ensures { IfOk result (λ copy. copy ≡ lines.now) }
-{
-    let mut copy = Vec::new(alloc);
-    for line in lines.as_slice() {
-        copy.push(line.copy(alloc)?)?;
-    }
-    Ok(LineList::of(copy))
 }

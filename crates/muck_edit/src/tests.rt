@@ -51,7 +51,7 @@ fn step(guard: &mut Guard, editor: &mut Editor, line: &[u8]) -> Result<Option<Ed
     Ok(None)
 }
 
-const LINES: [(&[u8], EditStep, &[u8]); 14] = [
+const LINES: [(&[u8], EditStep, &[u8]); 15] = [
     (b"i", EditStep::Stay, b"Entering insert mode.\r\n"),
     (b"one", EditStep::Stay, b""),
     (b"three", EditStep::Stay, b""),
@@ -63,6 +63,7 @@ const LINES: [(&[u8], EditStep, &[u8]); 14] = [
     (b"1 d", EditStep::Stay, b"Deleted.\r\n"),
     (b"1 1 l", EditStep::Stay, b"two\r\n"),
     (b"1 3 d", EditStep::Stay, b"Illegal editor command.\r\n"),
+    (b"c", EditStep::Compile, b""),
     (b"c", EditStep::Compile, b""),
     (b"1 2 d", EditStep::Stay, b"Deleted.\r\n"),
     (b"q", EditStep::Left, b"Editor exited.\r\n"),

@@ -4,32 +4,33 @@ use Rattle.std.proofs.lemmas.Bool.{cond-true, cond-false}
 use Rattle.muck_model.specs.Told.{Told}
 use Rattle.muck_model.specs.declared.event.Entry.{Entry}
 use Rattle.muck_model.specs.declared.event.Event.TheVariants.{Died}
-use Rattle.muck_world.specs.World.{World}
+use Rattle.muck_event.specs.World.{World}
 use Rattle.std.proofs.Common.{◌<◌, arith, find, ◌||◌}
+use Rattle.std.specs.Prelude.{ℤ}
 use Rattle.std.specs.Option.{option_map}
-use Rattle.muck_live.specs.Connections.{is_ready}
-use Rattle.muck_world.specs.Steps.{happened, effect, is_died, is_lawful, is_allowed, next_ready}
-use Rattle.muck_world.specs.Histories.{History, after, now, entered}
-use Rattle.muck_world.proofs.Living.{dead-happened}
+use Rattle.muck_queue.specs.Queues.{next_due}
+use Rattle.muck_event.specs.Steps.{is_free, happened, effect, is_died, is_lawful, is_allowed, next_ready, next_process}
+use Rattle.muck_event.specs.Histories.{History, after, now, entered}
+use Rattle.muck_event.proofs.Living.{dead-happened}
 use Rattle.muck_machine.specs.Keeping.{Keeps}
 
 after-append : (es fs : List Entry) (w : World) → after w (es ++ fs) ≡ after (after w es) fs
 after-append [] fs w = refl
 after-append (e ∷ es) fs w = after-append es fs (effect w e)
 
-one_more : (start : World) (entries : List Entry) (e : Entry) → after start (entries ++ e ∷ []) ≡ happened (after start entries) e.event
+one_more : (start : World) (entries : List Entry) (e : Entry) → after start (entries ++ e ∷ []) ≡ happened (after start entries) e.party e.event
 unfolding effect
 one_more start entries e = after-append entries (e ∷ []) start
 
 -- an entry that isn't Died was entered, and done to the state
 pub keeps_entry : (start : World) (tale longer : Told) (dead : Bool) (state next : World) (e : Entry) → Keeps start tale dead state → dead ≡ false →
-    longer ≡ record { entries = tale.entries ++ e ∷ []; open_ended = true } → next ≡ happened state e.event → is_died e.event ≡ false → Keeps start longer dead next
+    longer ≡ record { entries = tale.entries ++ e ∷ []; open_ended = true } → next ≡ happened state e.party e.event → is_died e.event ≡ false → Keeps start longer dead next
 keeps_entry start tale longer dead state next e k alive l is other =
-    let whole : after start longer.entries ≡ happened (after start tale.entries) e.event = ap (λ (t : Told). after start t.entries) l ∙ one_more start tale.entries e in
+    let whole : after start longer.entries ≡ happened (after start tale.entries) e.party e.event = ap (λ (t : Told). after start t.entries) l ∙ one_more start tale.entries e in
     record {
       grows = ap (λ (t : Told). t.open_ended) l;
-      dies = ap (λ (w : World). w.dead) whole ∙ dead-happened e.event (after start tale.entries) other ∙ k.dies;
-      lives = λ h. is ∙ ap (λ w. happened w e.event) (k.lives alive) ∙ sym whole;
+      dies = ap (λ (w : World). w.dead) whole ∙ dead-happened e.event (after start tale.entries) e.party other ∙ k.dies;
+      lives = λ h. is ∙ ap (λ w. happened w e.party e.event) (k.lives alive) ∙ sym whole;
     }
 
 -- Died was entered, whatever stood before
@@ -37,7 +38,7 @@ pub keeps_died : (start : World) (longer : Told) (next : World) (entries : List 
 keeps_died start longer next entries e l is = record {
   grows = ap (λ (t : Told). t.open_ended) l;
   dies = ap (λ (t : Told). (after start t.entries).dead) l ∙ ap (λ (w : World). w.dead) (one_more start entries e)
-      ∙ ap (λ event. (happened (after start entries) event).dead) is;
+      ∙ ap (λ event. (happened (after start entries) e.party event).dead) is;
   lives = λ h. cc;
 }
 
@@ -102,9 +103,18 @@ pub next_dead : (w : World) → w.dead ≡ true → None ≡ next_ready w
 unfolding next_ready
 next_dead w e = sym (cond-true _ _ _ (ap (λ b. b || w.stopping) e))
 
-pub next_alive : (w : World) (found : Option ℕ) → w.dead ≡ false → found ≡ cond w.stopping None (option_map (λ c. c.number) (find is_ready w.live.board.connections)) → found ≡ next_ready w
+pub next_alive : (w : World) (found : Option ℕ) → w.dead ≡ false → found ≡ cond w.stopping None (option_map (λ c. c.number) (find (is_free w) w.live.board.connections)) → found ≡ next_ready w
 unfolding next_ready
-next_alive w found e is = is ∙ sym (ap (λ b. cond (b || w.stopping) None (option_map (λ c. c.number) (find is_ready w.live.board.connections))) e)
+next_alive w found e is = is ∙ sym (ap (λ b. cond (b || w.stopping) None (option_map (λ c. c.number) (find (is_free w) w.live.board.connections))) e)
+
+-- the choice of the next process
+pub process_dead : (w : World) → w.dead ≡ true → None ≡ next_process w
+unfolding next_process
+process_dead w e = sym (cond-true _ _ _ (ap (λ b. b || w.stopping) e))
+
+pub process_alive : (w : World) (found : Option ℤ) → w.dead ≡ false → found ≡ cond w.stopping None (next_due w.moment w.queue) → found ≡ next_process w
+unfolding next_process
+process_alive w found e is = is ∙ sym (ap (λ b. cond (b || w.stopping) None (next_due w.moment w.queue)) e)
 
 -- where something is found, the world isn't dead
 pub alive_if_found : (w : World) (d : ℕ) → next_ready w ≡ Some d → w.dead ≡ false

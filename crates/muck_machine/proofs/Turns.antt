@@ -1,37 +1,81 @@
 -- The first line that waits on a connection.
-use Rattle.std.proofs.Common.{◌≡◌, ℕ, List, [], ◌∷◌, Option, Some, None, Result, Ok, Err, OnOk, refl, sym, ◌∙◌, ap}
+use Rattle.std.proofs.Common.{◌≡◌, ℕ, Bool, true, false, cond, List, [], ◌∷◌, Option, Some, None, Result, Ok, Err, OnOk, refl, sym, ◌∙◌, ap, find}
+use Rattle.std.proofs.lemmas.Bool.{cond-true, cond-false}
+use Rattle.std.specs.Option.{option_and_then}
 use Rattle.muck_model.specs.declared.dbref.Dbref.{Dbref}
-use Rattle.muck_live.specs.Connections.{Connection}
-use Rattle.muck_live.specs.Boards.{Board, on_connection, connection_in, with_connections}
-use Rattle.muck_live.specs.Lives.{Live, followed, unchanged}
+use Rattle.muck_model.specs.declared.edit.EditState.{EditState}
+use Rattle.muck_live.specs.Connections.{Connection, has_number, changed_in, edited}
+use Rattle.muck_live.specs.Boards.{Board, on_connection, connection_in, editor_in, edited_one, with_connections}
+use Rattle.muck_live.specs.Lives.{Live}
 use Rattle.muck_board.specs.Lines.{HasNoLine, HasLine, BoardTakesLine}
-use Rattle.muck_world.specs.World.{World, connection, on_live}
-use Rattle.muck_world.specs.Talk.{command, waits, line_done, done}
+use Rattle.muck_world.specs.Talk.{waits}
+use Rattle.muck_event.specs.World.{World, connection, on_live}
+use Rattle.muck_event.specs.Lines.{command, in_world, done}
+
+-- The editor of a connection.
+
+-- on a connection that loses waiting lines the editor is as before
+editor_kept : (d : ℕ) (lines : List (List ℕ)) (cs : List Connection) →
+    option_and_then (λ (c : Connection). c.editor) (find (has_number d) (changed_in d (λ c. record c { waiting = lines }) cs)) ≡ option_and_then (λ (c : Connection). c.editor) (find (has_number d) cs)
+editor_kept d lines [] = refl
+editor_kept d lines (c ∷ cs) =
+    (elim (has_number d c) as (λ b. has_number d c ≡ b →
+    option_and_then (λ (c : Connection). c.editor) (find (has_number d) (cond b (record c { waiting = lines } ∷ cs) (c ∷ changed_in d (λ c. record c { waiting = lines }) cs))) ≡ option_and_then (λ (c : Connection). c.editor) (cond b (Some c) (find (has_number d) cs))) [
+      | true ↦ λ r. ap (λ o. option_and_then (λ (c : Connection). c.editor) o) (cond-true _ _ _ r)
+      | false ↦ λ r. ap (λ o. option_and_then (λ (c : Connection). c.editor) o) (cond-false _ _ _ r) ∙ editor_kept d lines cs
+    ]) refl
+
+-- where nothing is edited, nothing changes when the editor is taken out
+unedited : (d : ℕ) (cs : List Connection) → option_and_then (λ (c : Connection). c.editor) (find (has_number d) cs) ≡ None → changed_in d (edited None) cs ≡ cs
+unedited d [] = λ h. refl
+unedited d (c ∷ cs) =
+    elim (has_number d c) as (λ b. option_and_then (λ (c : Connection). c.editor) (cond b (Some c) (find (has_number d) cs)) ≡ None → cond b (edited None c ∷ cs) (c ∷ changed_in d (edited None) cs) ≡ c ∷ cs) [
+      | true ↦ λ h. ap (λ e. record c { editor = e } ∷ cs) (sym h)
+      | false ↦ λ h. ap (λ (rest : List Connection). c ∷ rest) (unedited d cs h)
+    ]
+
+unedited_board : (d : ℕ) (b : Board) → editor_in d b ≡ None → edited_one d None b ≡ b
+unfolding edited_one
+unedited_board d b h = ap (λ (cs : List Connection). with_connections cs b) (unedited d b.connections h)
+
+-- a command, where no editor was there to be taken out
+pub unedited_taken : (d : ℕ) (player : Dbref) (line : List ℕ) (w : World) (b : Board) → None ≡ editor_in d w.live.board → b ≡ edited_one d None w.live.board →
+    in_world d player line (record w { live = record w.live { board = b } }) ≡ command (Some player) (editor_in d w.live.board) d line w
+unedited_taken d player line w b n e =
+    ap (λ (x : Board). in_world d player line (record w { live = record w.live { board = x } })) (e ∙ unedited_board d w.live.board (sym n))
+    ∙ ap (λ editor. command (Some player) editor d line w) n
+
+-- Lines.
 
 -- where a line waits, the line is done when it was taken
-line_by : (d : ℕ) (w : Live) (b : Board) (player : Option Dbref) (line : List ℕ) (lines : List (List ℕ)) (o : Option Connection) → HasLine o player line lines → b ≡ on_connection d (λ c. record c { waiting = lines }) w.board →
-    done d o w ≡ command player d line (record w { board = b })
-unfolding done line_done waits followed
+line_by : (d : ℕ) (w : World) (b : Board) (player : Option Dbref) (line : List ℕ) (lines : List (List ℕ)) (o : Option Connection) → HasLine o player line lines → b ≡ on_connection d (λ c. record c { waiting = lines }) w.live.board →
+    done d o w ≡ command player (option_and_then (λ (c : Connection). c.editor) o) d line (record w { live = record w.live { board = b } })
+unfolding done waits
 line_by d w b player line lines None h e = absurd h
-line_by d w b player line lines (Some c) h e = rw (h.0, h.1) (ap (λ (x : Board). command player d line (record w { board = x })) (sym e))
+line_by d w b player line lines (Some c) h e = rw (h.0, h.1) (ap (λ (x : Board). command player c.editor d line (record w { live = record w.live { board = x } })) (sym e))
+
+taken_board : (d : ℕ) (b new : Board) (player : Option Dbref) (line : List ℕ) → (h : BoardTakesLine d b new (Some (player, line))) → new ≡ on_connection d (λ c. record c { waiting = h.0.0 }) b
+taken_board d b new player line h = h.1 ∙ ap (λ (cs : List Connection). with_connections cs b) h.0.2
+
+editor_as_before : (d : ℕ) (b new : Board) (player : Option Dbref) (line : List ℕ) → BoardTakesLine d b new (Some (player, line)) → editor_in d new ≡ editor_in d b
+editor_as_before d b new player line h = ap (λ (x : Board). editor_in d x) (taken_board d b new player line h) ∙ editor_kept d h.0.0 b.connections
 
 pub line_taken : (d : ℕ) (w : World) (b : Board) (player : Option Dbref) (line : List ℕ) → BoardTakesLine d w.live.board b (Some (player, line)) →
-    on_live (command player d line) (record w { live = record w.live { board = b } }) ≡ on_live (done d (connection d w)) w
+    command player (editor_in d b) d line (record w { live = record w.live { board = b } }) ≡ done d (connection d w) w
 line_taken d w b player line h =
-    let lines = h.0.0 in
-    let e : b ≡ on_connection d (λ c. record c { waiting = lines }) w.live.board = h.1 ∙ ap (λ (cs : List Connection). with_connections cs w.live.board) h.0.2 in
-    sym (ap (λ (l : Live). record w { live = l }) (line_by d w.live b player line lines (connection d w) h.0.1 e))
+    ap (λ editor. command player editor d line (record w { live = record w.live { board = b } })) (editor_as_before d w.live.board b player line h)
+    ∙ sym (line_by d w b player line h.0.0 (connection d w) h.0.1 (taken_board d w.live.board b player line h))
 
 -- where none waits, nothing is done
-none_by : (d : ℕ) (w : Live) (o : Option Connection) → HasNoLine o → done d o w ≡ w
-unfolding done line_done unchanged
+none_by : (d : ℕ) (w : World) (o : Option Connection) → HasNoLine o → done d o w ≡ w
+unfolding done
 none_by d w None h = refl
 none_by d w (Some c) h = rw h refl
 
-pub none_taken : (d : ℕ) (w : World) (b : Board) → BoardTakesLine d w.live.board b None → record w { live = record w.live { board = b } } ≡ on_live (done d (connection d w)) w
+pub none_taken : (d : ℕ) (w : World) (b : Board) → BoardTakesLine d w.live.board b None → record w { live = record w.live { board = b } } ≡ done d (connection d w) w
 none_taken d w b h =
     let e : b ≡ w.live.board = h.1 ∙ ap (λ (cs : List Connection). with_connections cs w.live.board) h.0.1 in
-    ap (λ (x : Board). record w { live = record w.live { board = x } }) e ∙ sym (ap (λ (l : Live). record w { live = l }) (none_by d w.live (connection d w) h.0.0))
+    ap (λ (x : Board). record w { live = record w.live { board = x } }) e ∙ sym (none_by d w (connection d w) h.0.0)
 
 -- what holds where a call succeeds, so does what follows from it
 pub on_ok_as : {X E : Type 0} (r : Result X E) (A B : Type 0) → (A → B) → OnOk r A → OnOk r B

@@ -1,8 +1,8 @@
 -- What a world keeps of its history.
 use Rattle.std.specs.Prelude.{◌≡◌, Bool, true, false}
 use Rattle.muck_model.specs.Told.{Told}
-use Rattle.muck_world.specs.World.{World}
-use Rattle.muck_world.specs.Histories.{after}
+use Rattle.muck_event.specs.World.{World}
+use Rattle.muck_event.specs.Histories.{after}
 
 -- The tale may grow, the world after it is dead or not as is kept, and as long as it isn't it is the state that is kept.
 pub record Keeps (start : World) (tale : Told) (dead : Bool) (state : World) : Type 0 where

@@ -1,6 +1,6 @@
 // How a world began, kept for contracts alone.
 ghost use Rattle.std.specs.Prelude.{◌≡◌, IfOk};
-ghost use Rattle.muck_world.specs.World.{booted};
+ghost use Rattle.muck_event.specs.World.{booted};
 
 use atomic_table::{Table, TableRule};
 use muck_db::Db;
@@ -33,13 +33,15 @@ pub struct Origin {
 }
 
 impl Model for Origin {
-    ghost use Rattle.muck_world.specs.World.{World, booted};
+    ghost use Rattle.muck_event.specs.World.{World, booted};
     ghost use Rattle.std.specs.Coded.{codes};
     ghost use Rattle.muck_prop.specs.contracts.props.Props as props;
+    ghost use Rattle.muck_model.specs.contracts.lock.Lock as lock;
+    ghost use Rattle.muf_model.specs.Codes.{datum_code, block_code, end_code};
 
     ghost Value = { World };
 
-    ghost coded = { Prim.hlevel (codes, props.the_row.coded) };
+    ghost coded = { Prim.hlevel (codes, props.the_row.coded, lock.the_row.coded, datum_code, block_code, end_code) };
 
     ghost view = { λ o. booted o.word.shared.key.db o.word.shared.key.tune o.word.shared.key.moment o.word.shared.key.start };
 }

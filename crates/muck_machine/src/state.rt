@@ -1,54 +1,64 @@
 // The world's own state, without its history.
-ghost use Rattle.std.specs.Prelude.{◌≡◌, ◌≤◌, OnOk, length, take, min, find, None, is_some, if◌then◌else◌, List, ℕ};
-ghost use Rattle.std.specs.Option.{option_map, option_map_or};
+ghost use Rattle.std.specs.Prelude.{◌≡◌, ◌≤◌, OnOk, length, take, min, is_some, List, ℕ};
+ghost use Rattle.std.specs.Option.{option_map_or};
 ghost use Rattle.muck_model.specs.declared.event.Event.{Event};
-ghost use Rattle.muck_live.specs.Connections.{is_ready};
 ghost use Rattle.muck_live.specs.Lives.{tell};
-ghost use Rattle.muck_world.specs.World.{booted, connection, queue_of, is_leaving, on_live};
-ghost use Rattle.muck_world.specs.Steps.{is_allowed, happened};
-ghost use Rattle.muck_world.specs.Talk.{command};
+ghost use Rattle.muck_event.specs.World.{booted, connection, queue_of, is_leaving, on_live};
+ghost use Rattle.muck_event.specs.Steps.{is_allowed, happened};
 
+mod deeds;
+mod editing;
+mod following;
 mod going;
 mod lines;
 mod login;
+mod slices;
+mod starting;
+mod turns;
 
 use login::WELCOME;
 use muck_board::Board;
 use muck_db::Db;
-use muck_model::{Dbref, Line, NoMemory, Tune};
+use muck_model::{Line, NoMemory, Tune};
+use muck_program::Library;
+use muck_queue::Queue;
 use std::alloc::Global;
 use std::marker::Model;
 
 /// The most connections.
 const CONNECTIONS_MOST: usize = 256;
 
-/// The objects, who is connected, the moment, and whether the run stops.
+/// The objects, who is connected, the built forms of programs, the processes, the moment, and whether the run stops.
 #[derive(Drop)]
 pub struct State {
     alloc: Global,
     db: Db,
     board: Board,
+    library: Library,
+    queue: Queue,
     moment: u64,
     stopping: bool,
 }
 
 impl Model for State {
-    ghost use Rattle.muck_world.specs.World.{World, no_dumps};
+    ghost use Rattle.muck_event.specs.World.{World, no_dumps};
     ghost use Rattle.std.specs.Prelude.{false};
 
     ghost Value = { World };
 
     ghost use Rattle.std.specs.Coded.{codes};
     ghost use Rattle.muck_prop.specs.contracts.props.Props as props;
+    ghost use Rattle.muck_model.specs.contracts.lock.Lock as lock;
+    ghost use Rattle.muf_model.specs.Codes.{datum_code, block_code, end_code};
 
-    ghost coded = { Prim.hlevel (codes, props.the_row.coded) };
+    ghost coded = { Prim.hlevel (codes, props.the_row.coded, lock.the_row.coded, datum_code, block_code, end_code) };
 
-    ghost view = { λ s. record { live = record { objects = s.db; board = s.board }; moment = s.moment; dumps = no_dumps s.moment; stopping = s.stopping; dead = false } };
+    ghost view = { λ s. record { live = record { objects = s.db; board = s.board }; library = s.library; queue = s.queue; moment = s.moment; dumps = no_dumps s.moment; stopping = s.stopping; dead = false } };
 }
 
 impl State {
     /// The world of these objects at this moment, in which nobody is connected, and whose random numbers begin so.
-    #[tactic(auto, unfolding(muck_world::specs::World::booted))]
+    #[tactic(auto, unfolding(muck_event::specs::World::booted))]
     pub fn booted(alloc: Global, db: Db, tune: Tune, moment: u64, start: u64) -> Self
         ensures { result ≡ booted db tune moment start }
     {
@@ -56,6 +66,8 @@ impl State {
             alloc,
             db,
             board: Board::new(alloc, start, tune),
+            library: Library::new(alloc),
+            queue: Queue::new(alloc),
             moment,
             stopping: false,
         }
@@ -106,20 +118,10 @@ impl State {
         self.board.takes_line(d) && !self.stopping
     }
 
-    /// The lowest connection with a line that may be done, where the run doesn't stop.
-    pub fn first_ready(&self) -> Option<u32>
-        ensures { result ≡ (if self.now.stopping then None else option_map (λ c. c.number) (find is_ready self.now.live.board.connections)) }
-    {
-        if self.stopping {
-            return None;
-        }
-        self.board.first_ready()
-    }
-
     /// A connection comes.
     #[tactic(auto, unfolding(muck_world::specs::Talk::welcome))]
     pub fn open(&mut self, d: u32) -> Result<(), NoMemory>
-        ensures { OnOk result (self.new ≡ happened self.old (Event.Opened d)) }
+        ensures { OnOk result (self.new ≡ happened self.old 0 (Event.Opened d)) }
     {
         self.board.open(d, WELCOME)?;
         Ok(())
@@ -127,7 +129,7 @@ impl State {
 
     /// A line comes, and waits.
     pub fn add_line(&mut self, d: u32, line: Line) -> Result<(), NoMemory>
-        ensures { OnOk result (self.new ≡ happened self.old (Event.Input d line)) }
+        ensures { OnOk result (self.new ≡ happened self.old 0 (Event.Input d line)) }
     {
         self.board.add_line(d, line)?;
         Ok(())
@@ -137,37 +139,16 @@ impl State {
     pub fn take(&mut self, d: u32, buf: &mut [u8]) -> usize
         ensures count { result ≡ min (length (queue_of d self.old)) (length buf.old) }
         ensures bytes { take result buf.new ≡ take result (queue_of d self.old) }
-        ensures step { self.new ≡ happened self.old (Event.Take d result) }
+        ensures step { self.new ≡ happened self.old 0 (Event.Take d result) }
     {
         self.board.take(d, buf)
     }
 
     /// The run stops.
     pub fn halt(&mut self)
-        ensures { self.new ≡ happened self.old Event.Halt }
+        ensures { self.new ≡ happened self.old 0 Event.Halt }
     {
         self.stopping = true;
-    }
-
-    /// The first waiting line of a connection is done.
-    pub fn do_line(&mut self, d: u32) -> Result<(), NoMemory>
-        ensures { OnOk result (self.new ≡ happened self.old (Event.Exec d)) }
-    {
-        match self.board.take_line(d) {
-            None => Ok(()),
-            Some((player, line)) => self.obey(d, player, &line),
-        }
-    }
-
-    // A line of that player, or of the login screen, is done.
-    #[tactic(auto, unfolding(muck_world::specs::Talk::command))]
-    fn obey(&mut self, d: u32, player: Option<Dbref>, line: &Line) -> Result<(), NoMemory>
-        ensures { OnOk result (self.new ≡ on_live (command player d line.now) self.old) }
-    {
-        match player {
-            None => self.at_login(d, line.as_slice()),
-            Some(player) => self.in_world(d, player, line),
-        }
     }
 
     #[tactic(auto, unfolding(muck_live::specs::Lives::tell))]

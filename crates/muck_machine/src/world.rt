@@ -2,9 +2,9 @@
 ghost use Rattle.std.specs.Prelude.{◌≡◌, ◌≤◌, IfOk, OnOk, OnErr, MatchOption, length, take, min, true, false, if◌then◌else◌, nat_lt, is_some, [], List, ℕ};
 ghost use Rattle.std.specs.Option.{option_map_or};
 ghost use Rattle.muck_model.specs.declared.event.Event.{Event};
-ghost use Rattle.muck_world.specs.World.{starting, booted, connection, queue_of, is_leaving};
-ghost use Rattle.muck_world.specs.Steps.{is_lawful, next_ready};
-ghost use Rattle.muck_world.specs.Histories.{now, entered, by_porter};
+ghost use Rattle.muck_event.specs.World.{starting, booted, connection, queue_of, is_leaving};
+ghost use Rattle.muck_event.specs.Steps.{is_lawful, next_ready, next_process};
+ghost use Rattle.muck_event.specs.Histories.{now, entered, by_porter};
 
 use crate::origin::{Begun, Origin};
 use crate::state::State;
@@ -43,15 +43,17 @@ pub struct World {
 
 impl Model for World {
     ghost use Rattle.std.specs.Prelude.{◌≡◌, true, false};
-    ghost use Rattle.muck_world.specs.Histories.{History, after};
+    ghost use Rattle.muck_event.specs.Histories.{History, after};
     ghost use Rattle.muck_machine.specs.Keeping.{Keeps};
 
     ghost Value = { History };
 
     ghost use Rattle.std.specs.Coded.{codes};
     ghost use Rattle.muck_prop.specs.contracts.props.Props as props;
+    ghost use Rattle.muck_model.specs.contracts.lock.Lock as lock;
+    ghost use Rattle.muf_model.specs.Codes.{datum_code, block_code, end_code};
 
-    ghost coded = { Prim.hlevel (codes, props.the_row.coded) };
+    ghost coded = { Prim.hlevel (codes, props.the_row.coded, lock.the_row.coded, datum_code, block_code, end_code) };
 
     ghost view = { λ w. record { start = w.origin; entries = w.tale.entries } };
 
@@ -83,7 +85,7 @@ impl World {
     }
 
     /// Room Zero and One as they are at first, and nobody connected: nothing has happened yet.
-    #[tactic(auto, unfolding(muck_world::specs::World::starting, muck_live::specs::Boards::first_tune))]
+    #[tactic(auto, unfolding(muck_event::specs::World::starting, muck_live::specs::Boards::first_tune))]
     pub fn starting(alloc: Global) -> Result<Self, NoMemory>
         ensures { IfOk result (λ w. w ≡ record { start = starting; entries = [] }) }
     {
@@ -108,7 +110,7 @@ impl World {
     }
 
     /// Whether memory was wanted, after which no entry but `Died` is lawful.
-    #[tactic(auto, unfolding(muck_world::specs::Histories::now))]
+    #[tactic(auto, unfolding(muck_event::specs::Histories::now))]
     pub fn is_dead(&self) -> bool
         ensures { result ≡ (now self.now).dead }
     {
@@ -255,6 +257,50 @@ impl World {
                     event: Event::Exec { d },
                 });
                 Ok(Some(d))
+            }
+            Err(NoMemory) => {
+                self.dead = true;
+                self.tale.tell(&Entry {
+                    party,
+                    event: Event::Died,
+                });
+                Err(NoMemory)
+            }
+        }
+    }
+
+    /// The process that is to go on next, by its second and its number, is claimed by a party; answers its number, and
+    /// `None` exactly where none may be claimed, and then nothing happened. It takes no memory.
+    pub fn claim(&mut self, party: u8) -> Option<i32>
+        ensures found { result ≡ next_process (now self.old) }
+        ensures step { MatchOption result (self.new ≡ self.old) (λ pid. self.new ≡ entered self.old (record { party = party; event = Event.Claim pid })) }
+    {
+        if self.dead {
+            return None;
+        }
+        let Some(pid) = self.state.claim(party) else {
+            return None;
+        };
+        self.tale.tell(&Entry {
+            party,
+            event: Event::Claim { pid },
+        });
+        Some(pid)
+    }
+
+    /// A claimed process runs for one slice, which is to its end. After `NoMemory` the world is dead.
+    pub fn slice(&mut self, party: u8, pid: i32) -> Result<(), NoMemory>
+        requires { is_lawful (now self.old) (record { party = party; event = Event.Slice pid }) ≡ true }
+        ensures ok { OnOk result (self.new ≡ entered self.old (record { party = party; event = Event.Slice pid })) }
+        ensures died { OnErr result (self.new ≡ entered self.old (record { party = party; event = Event.Died })) }
+    {
+        match self.state.slice(pid) {
+            Ok(()) => {
+                self.tale.tell(&Entry {
+                    party,
+                    event: Event::Slice { pid },
+                });
+                Ok(())
             }
             Err(NoMemory) => {
                 self.dead = true;

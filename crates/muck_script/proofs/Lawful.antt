@@ -1,19 +1,20 @@
 -- A story is lawful.
-use Rattle.std.proofs.Common.{◌≡◌, ℕ, ◌+◌, Bool, true, false, cond, List, [], ◌∷◌, length, refl, sym, ap, subst, Option, Some, None, suc, zero, ltb, ◌≢◌}
+use Rattle.std.proofs.Common.{◌≡◌, ℕ, ℤ, ◌∙◌, ◌+◌, Bool, true, false, cond, List, [], ◌∷◌, length, refl, sym, ap, subst, Option, Some, None, suc, zero, ltb, ◌≢◌}
 use Rattle.std.proofs.lemmas.Bool.{ltb-true}
 use Rattle.muck_model.specs.declared.event.Entry.{Entry}
 use Rattle.muck_model.specs.declared.event.Event.{Event}
-use Rattle.muck_model.specs.declared.event.Event.TheVariants.{Opened, Input, Closed, Exec, Take, Halt, Died}
-use Rattle.muck_world.specs.World.{World, queue_of, is_leaving, starting}
-use Rattle.muck_world.specs.Steps.{is_lawful, effect, next_ready}
+use Rattle.muck_model.specs.declared.event.Event.TheVariants.{Opened, Input, Closed, Exec, Claim, Slice, Take, Halt, Died}
+use Rattle.muck_event.specs.World.{World, queue_of, is_leaving, starting}
+use Rattle.muck_event.specs.Steps.{is_lawful, effect, next_ready, next_process}
 use Rattle.muck_live.specs.Connections.{connections_most}
-use Rattle.muck_world.specs.Histories.{after, AllLawful, by_porter}
-use Rattle.muck_world.specs.Sound.{IsSound}
-use Rattle.muck_world.proofs.Reached.{sound-effect, exec_lawful, take_lawful, close_lawful, halt_lawful, sound-starting}
-use Rattle.muck_world.proofs.Runs.{after-append, lawful-append}
+use Rattle.muck_event.specs.Histories.{after, AllLawful, by_porter}
+use Rattle.muck_event.specs.Sound.{IsSound}
+use Rattle.muck_event.proofs.Reached.{sound-effect, exec_lawful, take_lawful, close_lawful, halt_lawful, sound-starting}
+use Rattle.muck_event.proofs.Claims.{claim_lawful, slice_lawful}
+use Rattle.muck_event.proofs.Runs.{after-append, lawful-append}
 use Rattle.muck_script.specs.declared.act.Act.{Act}
 use Rattle.muck_script.specs.declared.act.Act.TheVariants.{Nothing, Open, Send}
-use Rattle.muck_script.specs.Story.{both, acted, turn, turns, turns_most, taken, parted, served, line_story, story}
+use Rattle.muck_script.specs.Story.{both, acted, chosen, next_turn, turn_entries, turn, turns, turns_most, taken, parted, served, line_story, story}
 
 -- what f says is lawful in this world, and leads to a sound world
 pub record IsLawfulPart (f : World → List Entry) (w : World) : Type 0 where
@@ -44,19 +45,28 @@ lawful_acted Nothing w h = record { lawful = tt; sound = h }
 lawful_acted (Open d) w h = part_as _ (acted (Open d)) w refl (lawful_one (is_lawful w (by_porter (Opened d))) (Opened d) w (λ e. e) (λ e. cc) h)
 lawful_acted (Send d text) w h = part_as _ (acted (Send d text)) w refl (lawful_one (is_lawful w (by_porter (Input d text))) (Input d text) w (λ e. e) (λ e. cc) h)
 
-turned : (n : ℕ) (w : World) (o : Option ℕ) → next_ready w ≡ o → IsSound w → ((v : World) → IsSound v → IsLawfulPart (turns n) v) → IsLawfulPart (turns (suc n)) w
-unfolding turns
-turned n w None e h others = part_as (λ _. []) (turns (suc n)) w (ap (λ o. turn o (λ d. turns n (effect w (by_porter (Exec d))))) (sym e)) (record { lawful = tt; sound = h })
-turned n w (Some d) e h others =
+turned : (n : ℕ) (w : World) (o : Option ℕ) (p : Option ℤ) → next_ready w ≡ o → next_process w ≡ p → IsSound w → ((v : World) → IsSound v → IsLawfulPart (turns n) v) → IsLawfulPart (turns (suc n)) w
+unfolding turns next_turn
+turned n w None None e f h others = part_as (λ _. []) (turns (suc n)) w (ap (λ p. turn (chosen None p) (λ t. turns n (after w (turn_entries t)))) (sym f) ∙ ap (λ o. turn (chosen o (next_process w)) (λ t. turns n (after w (turn_entries t)))) (sym e)) (record { lawful = tt; sound = h })
+turned n w (Some d) p e f h others =
     let may = exec_lawful w 0 d h e in
     let rest = others (effect w (by_porter (Exec d))) (sound-effect w (by_porter (Exec d)) (λ x. cc) may h) in
-    part_as (λ _. by_porter (Exec d) ∷ turns n (effect w (by_porter (Exec d)))) (turns (suc n)) w (ap (λ o. turn o (λ k. turns n (effect w (by_porter (Exec k))))) (sym e))
+    part_as (λ _. by_porter (Exec d) ∷ turns n (effect w (by_porter (Exec d)))) (turns (suc n)) w (ap (λ o. turn (chosen o (next_process w)) (λ t. turns n (after w (turn_entries t)))) (sym e))
     (record { lawful = (may, rest.lawful); sound = rest.sound })
+turned n w None (Some pid) e f h others =
+    let may = claim_lawful w 0 pid h f in
+    let v : World = effect w (by_porter (Claim pid)) in
+    let sound : IsSound v = sound-effect w (by_porter (Claim pid)) (λ x. cc) may h in
+    let then_may = slice_lawful w 0 pid h may in
+    let rest = others (effect v (by_porter (Slice pid))) (sound-effect v (by_porter (Slice pid)) (λ x. cc) then_may sound) in
+    part_as (λ _. by_porter (Claim pid) ∷ by_porter (Slice pid) ∷ turns n (effect v (by_porter (Slice pid)))) (turns (suc n)) w
+    (ap (λ p. turn (chosen None p) (λ t. turns n (after w (turn_entries t)))) (sym f) ∙ ap (λ o. turn (chosen o (next_process w)) (λ t. turns n (after w (turn_entries t)))) (sym e))
+    (record { lawful = (may, (then_may, rest.lawful)); sound = rest.sound })
 
 pub lawful_turns : (n : ℕ) (w : World) → IsSound w → IsLawfulPart (turns n) w
 unfolding turns
 lawful_turns zero w h = record { lawful = tt; sound = h }
-lawful_turns (suc n) w h = turned n w (next_ready w) refl h (λ v k. lawful_turns n v k)
+lawful_turns (suc n) w h = turned n w (next_ready w) (next_process w) refl refl h (λ v k. lawful_turns n v k)
 
 lawful_taken : (d : ℕ) (w : World) → IsSound w → IsLawfulPart (taken d) w
 lawful_taken d w h = part_as _ (taken d) w refl (lawful_one (ltb 0 (length (queue_of d w))) (Take d (length (queue_of d w))) w (λ e. take_lawful w d h (ltb-true 0 _ e)) (λ e. cc) h)

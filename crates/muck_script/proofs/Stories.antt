@@ -1,74 +1,134 @@
 -- Lemmas on turns.
-use Rattle.std.proofs.Common.{◌≡◌, ℕ, ◌+◌, ◌<◌, ◌≤◌, List, [], ◌∷◌, ◌++◌, length, length-append, append-nil, refl, sym, ◌∙◌, ap, arith, suc, zero, append_assoc, Some, None}
+use Rattle.std.proofs.Common.{◌≡◌, ℕ, ◌+◌, ◌<◌, ◌≤◌, List, [], ◌∷◌, ◌++◌, append-nil, refl, sym, ◌∙◌, ap, arith, suc, zero, append_assoc, Option, Some, None}
+use Rattle.std.specs.Prelude.{is_some, true, false}
 use Rattle.muck_model.specs.declared.event.Entry.{Entry}
-use Rattle.muck_model.specs.declared.event.Event.TheVariants.{Exec}
-use Rattle.muck_world.specs.World.{World}
-use Rattle.muck_world.specs.Steps.{effect, next_ready}
-use Rattle.muck_world.specs.Histories.{History, now, extended, entered, by_porter}
-use Rattle.muck_world.proofs.Runs.{now-extended, extended-append}
-use Rattle.muck_script.specs.Story.{turn, turns}
+use Rattle.muck_model.specs.declared.event.Event.TheVariants.{Died}
+use Rattle.muck_event.specs.World.{World}
+use Rattle.muck_event.specs.Histories.{History, now, after, extended, entered, by_porter}
+use Rattle.muck_event.proofs.Runs.{now-extended, extended-append}
+use Rattle.muck_script.specs.Story.{Turn, next_turn, turn_entries, turn, turns, counted, turns_taken}
+use Rattle.muck_script.specs.Settling.{entries_of, DiedDuring}
 
-turns-some : (n : ℕ) (w : World) (d : ℕ) → next_ready w ≡ Some d → turns (suc n) w ≡ by_porter (Exec d) ∷ turns n (effect w (by_porter (Exec d)))
+-- what follows the next turn
+after_turn : ℕ → World → Option Turn → List Entry
+after_turn n w None = []
+after_turn n w (Some t) = turns n (after w (turn_entries t))
+
+turns_by : (n : ℕ) (w : World) (o : Option Turn) → turn o (λ t. turns n (after w (turn_entries t))) ≡ entries_of o ++ after_turn n w o
+unfolding after_turn
+turns_by n w None = refl
+turns_by n w (Some t) = refl
+
+turns-one : (n : ℕ) (w : World) → turns (suc n) w ≡ entries_of (next_turn w) ++ after_turn n w (next_turn w)
 unfolding turns
-turns-some n w d e = ap (λ o. turn o (λ k. turns n (effect w (by_porter (Exec k))))) e
+turns-one n w = turns_by n w (next_turn w)
 
-turns-none : (n : ℕ) (w : World) → next_ready w ≡ None → turns n w ≡ []
+turns-some : (n : ℕ) (w : World) (t : Turn) → next_turn w ≡ Some t → turns (suc n) w ≡ turn_entries t ++ turns n (after w (turn_entries t))
+unfolding turns
+turns-some n w t e = ap (λ o. turn o (λ k. turns n (after w (turn_entries k)))) e
+
+turns-none : (n : ℕ) (w : World) → next_turn w ≡ None → turns n w ≡ []
 unfolding turns
 turns-none zero w e = refl
-turns-none (suc n) w e = ap (λ o. turn o (λ k. turns n (effect w (by_porter (Exec k))))) e
+turns-none (suc n) w e = ap (λ o. turn o (λ k. turns n (after w (turn_entries k)))) e
 
 turns-zero : (w : World) → turns 0 w ≡ []
 unfolding turns
 turns-zero w = refl
 
--- so many turns were done since the history old, and with those that are left they are what was to be done
+taken-some : (n : ℕ) (w : World) (t : Turn) → next_turn w ≡ Some t → turns_taken (suc n) w ≡ suc (turns_taken n (after w (turn_entries t)))
+unfolding turns_taken
+taken-some n w t e = ap (λ o. counted o (λ k. turns_taken n (after w (turn_entries k)))) e
+
+taken-none : (n : ℕ) (w : World) → next_turn w ≡ None → turns_taken n w ≡ 0
+unfolding turns_taken
+taken-none zero w e = refl
+taken-none (suc n) w e = ap (λ o. counted o (λ k. turns_taken n (after w (turn_entries k)))) e
+
+taken-zero : (w : World) → turns_taken 0 w ≡ 0
+unfolding turns_taken
+taken-zero w = refl
+
+-- so many turns were taken since the history old, and with those that are left they are what was to be done
 pub record IsOnTheWay (most done : ℕ) (old new : History) : Type 0 where
   pub left : ℕ
   pub front : List Entry
   pub all : left + done ≡ most
-  pub count : length front ≡ done
+  pub count : done + turns_taken left (now new) ≡ turns_taken most (now old)
   pub whole : front ++ turns left (now new) ≡ turns most (now old)
   pub history : new ≡ extended old front
 
-nothing_more : (h : History) → extended h [] ≡ h
+pub nothing_more : (h : History) → extended h [] ≡ h
 nothing_more h = ap (λ (es : List Entry). record h { entries = es }) (append-nil h.entries)
 
 pub way_begins : (most : ℕ) (h : History) → IsOnTheWay most 0 h h
-way_begins most h = record { left = most; front = []; all = omega arith; count = refl; whole = refl; history = sym (nothing_more h) }
+way_begins most h = record { left = most; front = []; all = omega arith; count = omega arith; whole = refl; history = sym (nothing_more h) }
 
-pub way_goes_on : (most done d : ℕ) (old new next : History) → IsOnTheWay most done old new → done < most → next_ready (now new) ≡ Some d → next ≡ entered new (by_porter (Exec d)) → IsOnTheWay most (done + 1) old next
-way_goes_on most done d old new next way less e is = goes way.left way.all way.whole where
-  goes : (left : ℕ) → left + done ≡ most → way.front ++ turns left (now new) ≡ turns most (now old) → IsOnTheWay most (done + 1) old next
-  goes zero a w = absurd (omega arith)
-  goes (suc k) a w = record {
-    left = k;
-    front = way.front ++ by_porter (Exec d) ∷ [];
-    all = omega arith;
-    count = omega (arith, length-append way.front (by_porter (Exec d) ∷ []), way.count);
-    whole =
-        append_assoc way.front (by_porter (Exec d) ∷ []) (turns k (now next))
-        ∙ ap (λ (h : History). way.front ++ by_porter (Exec d) ∷ turns k (now h)) is
-        ∙ ap (λ (v : World). way.front ++ by_porter (Exec d) ∷ turns k v) (now-extended new (by_porter (Exec d) ∷ []))
-        ∙ ap (λ (es : List Entry). way.front ++ es) (sym (turns-some k (now new) d e)) ∙ w;
-    history = is ∙ ap (λ (h : History). entered h (by_porter (Exec d))) way.history ∙ extended-append old way.front (by_porter (Exec d) ∷ []);
-  }
+way_on : (most done : ℕ) (old new next : History) (t : Turn) → IsOnTheWay most done old new → done < most → next_turn (now new) ≡ Some t → next ≡ extended new (turn_entries t) → IsOnTheWay most (done + 1) old next
+way_on most done old new next t way less e is = goes way.left way.all way.count way.whole where
+  goes : (left : ℕ) → left + done ≡ most → done + turns_taken left (now new) ≡ turns_taken most (now old) → way.front ++ turns left (now new) ≡ turns most (now old) → IsOnTheWay most (done + 1) old next
+  goes zero a c w = absurd (omega arith)
+  goes (suc k) a c w =
+      let there : now next ≡ after (now new) (turn_entries t) = ap (λ (h : History). now h) is ∙ now-extended new (turn_entries t) in
+      let more : turns_taken (suc k) (now new) ≡ suc (turns_taken k (now next)) = taken-some k (now new) t e ∙ ap (λ (v : World). suc (turns_taken k v)) (sym there) in
+      record {
+        left = k;
+        front = way.front ++ turn_entries t;
+        all = omega arith;
+        count = omega (arith, c, more);
+        whole =
+            append_assoc way.front (turn_entries t) (turns k (now next))
+            ∙ ap (λ (v : World). way.front ++ (turn_entries t ++ turns k v)) there
+            ∙ ap (λ (es : List Entry). way.front ++ es) (sym (turns-some k (now new) t e)) ∙ w;
+        history = is ∙ ap (λ (h : History). extended h (turn_entries t)) way.history ∙ extended-append old way.front (turn_entries t);
+      }
 
-front_whole : (most left done : ℕ) (front : List Entry) (old new : History) → front ++ turns left (now new) ≡ turns most (now old) → turns left (now new) ≡ [] → front ≡ turns most (now old)
-front_whole most left done front old new whole none = sym (append-nil front) ∙ ap (λ (es : List Entry). front ++ es) (sym none) ∙ whole
+-- a turn was taken
+pub way_goes_on : (most done : ℕ) (old new next : History) → IsOnTheWay most done old new → done < most → is_some (next_turn (now new)) ≡ true → next ≡ extended new (entries_of (next_turn (now new))) → IsOnTheWay most (done + 1) old next
+way_goes_on most done old new next way less some is = at (next_turn (now new)) refl some is where
+  at : (o : Option Turn) → next_turn (now new) ≡ o → is_some o ≡ true → next ≡ extended new (entries_of o) → IsOnTheWay most (done + 1) old next
+  at None e some is = cc
+  at (Some t) e some is = way_on most done old new next t way less e is
 
-way_done : (most done : ℕ) (old new : History) (way : IsOnTheWay most done old new) → turns way.left (now new) ≡ [] → (done ≡ length (turns most (now old))) × (new ≡ extended old (turns most (now old)))
-way_done most done old new way none =
-    let all : way.front ≡ turns most (now old) = front_whole most way.left done way.front old new way.whole none in
-    (sym way.count ∙ ap (λ (es : List Entry). length es) all, way.history ∙ ap (extended old) all)
+way_done : (most done : ℕ) (old new : History) (way : IsOnTheWay most done old new) → turns way.left (now new) ≡ [] → turns_taken way.left (now new) ≡ 0 → (done ≡ turns_taken most (now old)) × (new ≡ extended old (turns most (now old)))
+way_done most done old new way none zero_left =
+    let all : way.front ≡ turns most (now old) = sym (append-nil way.front) ∙ ap (λ (es : List Entry). way.front ++ es) (sym none) ∙ way.whole in
+    (omega (arith, way.count, zero_left), way.history ∙ ap (extended old) all)
+
+none_left : (o : Option Turn) → is_some o ≡ false → o ≡ None
+none_left None e = refl
+none_left (Some t) e = cc
 
 -- nobody is ready any more
-pub way_ends : (most done : ℕ) (old new : History) → IsOnTheWay most done old new → next_ready (now new) ≡ None → (done ≡ length (turns most (now old))) × (new ≡ extended old (turns most (now old)))
-way_ends most done old new way e = way_done most done old new way (turns-none way.left (now new) e)
+pub way_ends : (most done : ℕ) (old new next : History) → IsOnTheWay most done old new → is_some (next_turn (now new)) ≡ false → next ≡ extended new (entries_of (next_turn (now new))) → (done ≡ turns_taken most (now old)) × (next ≡ extended old (turns most (now old)))
+way_ends most done old new next way nothing is =
+    let e : next_turn (now new) ≡ None = none_left (next_turn (now new)) nothing in
+    let same : next ≡ new = is ∙ ap (λ (o : Option Turn). extended new (entries_of o)) e ∙ nothing_more new in
+    let end = way_done most done old new way (turns-none way.left (now new) e) (taken-none way.left (now new) e) in
+    (end.0, same ∙ end.1)
 
--- all turns were done
-pub way_over : (most done : ℕ) (old new : History) → IsOnTheWay most done old new → most ≤ done → (most ≡ length (turns most (now old))) × (new ≡ extended old (turns most (now old)))
+-- all turns were taken
+pub way_over : (most done : ℕ) (old new : History) → IsOnTheWay most done old new → most ≤ done → (most ≡ turns_taken most (now old)) × (new ≡ extended old (turns most (now old)))
 way_over most done old new way h =
     let z : way.left ≡ 0 = omega (arith, way.all) in
     let same : most ≡ done = omega (arith, way.all) in
-    let end = way_done most done old new way (ap (λ k. turns k (now new)) z ∙ turns-zero (now new)) in
+    let end = way_done most done old new way (ap (λ k. turns k (now new)) z ∙ turns-zero (now new)) (ap (λ k. turns_taken k (now new)) z ∙ taken-zero (now new)) in
     (same ∙ end.0, end.1)
+
+-- memory was wanted in a turn
+pub way_dies : (most done : ℕ) (old new next : History) → IsOnTheWay most done old new → done < most → DiedDuring (entries_of (next_turn (now new))) new next → DiedDuring (turns most (now old)) old next
+way_dies most done old new next way less d = dies way.left way.all way.whole where
+  dies : (left : ℕ) → left + done ≡ most → way.front ++ turns left (now new) ≡ turns most (now old) → DiedDuring (turns most (now old)) old next
+  dies zero a w = absurd (omega arith)
+  dies (suc k) a w =
+      let others = after_turn k (now new) (next_turn (now new)) in
+      record {
+        front = way.front ++ d.front;
+        rest = d.rest ++ others;
+        whole =
+            append_assoc way.front d.front (d.rest ++ others)
+            ∙ ap (λ (es : List Entry). way.front ++ es) (sym (append_assoc d.front d.rest others) ∙ ap (λ (es : List Entry). es ++ others) d.whole ∙ sym (turns-one k (now new))) ∙ w;
+        died =
+            d.died ∙ ap (λ (h : History). extended h (d.front ++ by_porter Died ∷ [])) way.history
+            ∙ extended-append old way.front (d.front ++ by_porter Died ∷ []) ∙ ap (extended old) (sym (append_assoc way.front d.front (by_porter Died ∷ [])));
+      }

@@ -8,12 +8,14 @@ use Rattle.muck_script.specs.Lines.{lines_of}
 use Rattle.muck_live.specs.Output.{sent_lines, queue_most, bytes_of, lines_bytes, line_sent, lines_sent, sent, taken, lines_taken}
 use Rattle.muck_live.specs.Boards.{early_board, opened, closed, line_added, bytes_taken, told_one, leaving_one}
 use Rattle.muck_live.specs.Lives.{followed, reading, either, unchanged, tell, leave}
-use Rattle.muck_world.specs.World.{starting, booted}
+use Rattle.muck_event.specs.World.{starting, booted}
 use Rattle.muck_world.specs.Replies.{goodbye}
-use Rattle.muck_world.specs.Talk.{welcome, at_login, quit, command, waits, line_done, done, parted, gone_away}
-use Rattle.muck_world.specs.Steps.{is_lawful, effect, next_ready}
+use Rattle.muck_world.specs.Talk.{welcome, at_login, quit, waits, parted, gone_away}
+use Rattle.muck_queue.specs.Queues.{empty_queue, next_due, is_tied, ended_tied}
+use Rattle.muck_event.specs.Lines.{done}
+use Rattle.muck_event.specs.Steps.{is_lawful, effect, next_ready, next_process}
 use Rattle.muck_script.specs.Script.{act_of, script_of, script_most}
-use Rattle.muck_script.specs.Story.{turns, served, line_story, told, transcript}
+use Rattle.muck_script.specs.Story.{next_turn, turns, served, line_story, told, transcript}
 
 lines_row : lines_of (97 ∷ 10 ∷ 10 ∷ 98 ∷ []) ≡ (97 ∷ []) ∷ [] ∷ (98 ∷ []) ∷ []
 lines_row = refl
@@ -97,9 +99,3 @@ script_row = refl
 whole_row : script_of (codes "open 1" ++ 10 ∷ 10 ∷ codes "send 1 x") ≡ Ok (Open 1 ∷ Nothing ∷ Send 1 (codes "x") ∷ [])
 unfolding act_of decimal_of script_most
 whole_row = refl
-
--- `QUIT` at the login screen, which is the last that connection 1 does
-quit_row : transcript (Open 1 ∷ Send 1 (codes "quit") ∷ []) starting
-    ≡ codes "1< Use: connect NAME PASSWORD, WHO or QUIT." ++ 10 ∷ codes "1< Come back later!" ++ 10 ∷ codes "1 closed" ++ 10 ∷ []
-unfolding starting booted early_board opened closed line_added bytes_taken told_one leaving_one followed reading either unchanged tell leave goodbye welcome quit command waits line_done done parted gone_away bytes_of lines_bytes line_sent lines_sent sent taken lines_taken is_lawful effect next_ready at_login sent_lines text_most queue_most turns served line_story told digits
-quit_row = refl

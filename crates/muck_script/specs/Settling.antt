@@ -1,8 +1,18 @@
 -- What stands where memory is wanted in the middle.
-use Rattle.std.specs.Prelude.{◌≡◌, List, [], ◌∷◌, ◌++◌}
+use Rattle.std.specs.Prelude.{◌≡◌, ℤ, List, [], ◌∷◌, ◌++◌, Option, Some, None}
 use Rattle.muck_model.specs.declared.event.Entry.{Entry}
 use Rattle.muck_model.specs.declared.event.Event.TheVariants.{Died}
-use Rattle.muck_world.specs.Histories.{History, extended, by_porter}
+use Rattle.muck_event.specs.Histories.{History, extended, by_porter}
+use Rattle.muck_script.specs.Story.{Turn, of_process, turn_entries}
+
+-- what happens in a turn, if there is one
+abbrev pub entries_of : Option Turn → List Entry
+entries_of None = []
+entries_of (Some t) = turn_entries t
+
+abbrev pub slice_of : Option ℤ → Option Turn
+slice_of None = None
+slice_of (Some pid) = Some (of_process pid)
 
 -- the first of these entries happened, and then memory was wanted
 pub record DiedDuring (entries : List Entry) (old new : History) : Type 0 where

@@ -1,14 +1,14 @@
 -- What a script makes happen, and the text that it writes.
-use Rattle.std.specs.Prelude.{ℕ, zero, suc, ◌+◌, ◌-◌, nat_lt, if◌then◌else◌, List, [], ◌∷◌, ◌++◌, length, take, Option, Some, None, codes}
+use Rattle.std.specs.Prelude.{ℕ, ℤ, zero, suc, ◌+◌, ◌-◌, nat_lt, if◌then◌else◌, List, [], ◌∷◌, ◌++◌, length, take, Option, Some, None, codes}
 use Rattle.std.specs.List.{flat_map}
 use Rattle.std.specs.Fmt.{decimal}
 use Rattle.muck_model.specs.declared.event.Entry.{Entry}
 use Rattle.muck_model.specs.declared.event.Event.{Event}
-use Rattle.muck_model.specs.declared.event.Event.TheVariants.{Opened, Input, Closed, Exec, Take, Halt}
-use Rattle.muck_world.specs.World.{World, queue_of, is_leaving}
-use Rattle.muck_world.specs.Steps.{is_lawful, effect, next_ready}
+use Rattle.muck_model.specs.declared.event.Event.TheVariants.{Opened, Input, Closed, Exec, Claim, Slice, Take, Halt}
+use Rattle.muck_event.specs.World.{World, queue_of, is_leaving}
+use Rattle.muck_event.specs.Steps.{is_lawful, effect, next_ready, next_process}
 use Rattle.muck_live.specs.Connections.{connections_most}
-use Rattle.muck_world.specs.Histories.{after, by_porter}
+use Rattle.muck_event.specs.Histories.{after, by_porter}
 use Rattle.muck_script.specs.declared.act.Act.{Act}
 use Rattle.muck_script.specs.declared.act.Act.TheVariants.{Nothing, Open, Send}
 use Rattle.muck_script.specs.Lines.{lines_of}
@@ -27,15 +27,44 @@ acted Nothing w = []
 acted (Open d) w = if_lawful (Opened d) w
 acted (Send d text) w = if_lawful (Input d text) w
 
--- a turn does the line of that connection, and others follow; without one nothing follows
-abbrev pub turn : Option ℕ → (ℕ → List Entry) → List Entry
-turn None others = []
-turn (Some d) others = by_porter (Exec d) ∷ others d
+-- A turn: the first line of a connection is done, or a process runs for a slice.
+pub data Turn : Type 0 where
+  of_line : ℕ → Turn
+  of_process : ℤ → Turn
 
--- at most n turns, each of the lowest connection that is ready
+-- lines come before processes
+abbrev pub chosen : Option ℕ → Option ℤ → Option Turn
+chosen (Some d) pid = Some (of_line d)
+chosen None (Some pid) = Some (of_process pid)
+chosen None None = None
+
+-- the next turn, where there is one
+unfoldable pub next_turn : World → Option Turn
+next_turn w = chosen (next_ready w) (next_process w)
+
+-- what happens in a turn: a process is claimed, and at once sliced
+abbrev pub turn_entries : Turn → List Entry
+turn_entries (of_line d) = by_porter (Exec d) ∷ []
+turn_entries (of_process pid) = by_porter (Claim pid) ∷ by_porter (Slice pid) ∷ []
+
+-- a turn is taken, and others follow; without one nothing follows
+abbrev pub turn : Option Turn → (Turn → List Entry) → List Entry
+turn None others = []
+turn (Some t) others = turn_entries t ++ others t
+
+-- at most n turns
 unfoldable pub turns : ℕ → World → List Entry
 turns zero w = []
-turns (suc n) w = turn (next_ready w) (λ d. turns n (effect w (by_porter (Exec d))))
+turns (suc n) w = turn (next_turn w) (λ t. turns n (after w (turn_entries t)))
+
+-- how many turns those are
+abbrev pub counted : Option Turn → (Turn → ℕ) → ℕ
+counted None others = 0
+counted (Some t) others = suc (others t)
+
+unfoldable pub turns_taken : ℕ → World → ℕ
+turns_taken zero w = 0
+turns_taken (suc n) w = counted (next_turn w) (λ t. turns_taken n (after w (turn_entries t)))
 
 -- the most turns after a line
 abbrev pub turns_most : ℕ

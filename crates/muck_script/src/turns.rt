@@ -1,8 +1,9 @@
 // The turns after a line.
-ghost use Rattle.std.specs.Prelude.{◌≡◌, IfOk, OnErr, length};
-ghost use Rattle.muck_world.specs.Histories.{now, extended};
-ghost use Rattle.muck_script.specs.Story.{turns, turns_most};
-ghost use Rattle.muck_script.specs.Settling.{DiedDuring};
+ghost use Rattle.std.specs.Prelude.{◌≡◌, IfOk, OnErr, is_some};
+ghost use Rattle.muck_event.specs.Steps.{next_process};
+ghost use Rattle.muck_event.specs.Histories.{now, extended};
+ghost use Rattle.muck_script.specs.Story.{next_turn, turns, turns_most, turns_taken};
+ghost use Rattle.muck_script.specs.Settling.{entries_of, slice_of, DiedDuring};
 
 use crate::TURNS_MOST;
 use muck_machine::World;
@@ -11,17 +12,44 @@ use muck_model::NoMemory;
 // The party that does everything in a run of a script.
 const PORTER: u8 = 0;
 
-/// Does the lines that wait, at most [`TURNS_MOST`] of them, each time the first of the lowest connection that is
-/// ready; answers how many were done. After `NoMemory` the first of these turns happened, and then `Died`.
+// The process that is to go on runs for a slice; whether there was one.
+fn slice_next(world: &mut World) -> Result<bool, NoMemory>
+    ensures some { IfOk result (λ yes. yes ≡ is_some (next_process (now world.old))) }
+    ensures world { IfOk result (λ _. world.new ≡ extended world.old (entries_of (slice_of (next_process (now world.old))))) }
+    ensures died { OnErr result (DiedDuring (entries_of (slice_of (next_process (now world.old)))) world.old world.new) }
+{
+    match world.claim(PORTER) {
+        None => Ok(false),
+        Some(pid) => {
+            world.slice(PORTER, pid)?;
+            Ok(true)
+        }
+    }
+}
+
+// One turn; whether there was one.
+fn take_turn(world: &mut World) -> Result<bool, NoMemory>
+    ensures some { IfOk result (λ yes. yes ≡ is_some (next_turn (now world.old))) }
+    ensures world { IfOk result (λ _. world.new ≡ extended world.old (entries_of (next_turn (now world.old)))) }
+    ensures died { OnErr result (DiedDuring (entries_of (next_turn (now world.old))) world.old world.new) }
+{
+    match world.exec(PORTER)? {
+        Some(_) => Ok(true),
+        None => slice_next(world),
+    }
+}
+
+/// Does the lines that wait and runs the processes, in at most [`TURNS_MOST`] turns, each time the first line of the
+/// lowest connection that is ready, and where there is none the process that is to go on next; answers how many turns
+/// were taken. After `NoMemory` the first of what these turns do happened, and then `Died`.
 pub fn settle(world: &mut World) -> Result<u32, NoMemory>
-    ensures count { IfOk result (λ n. n ≡ length (turns turns_most (now world.old))) }
+    ensures count { IfOk result (λ n. n ≡ turns_taken turns_most (now world.old)) }
     ensures world { IfOk result (λ _. world.new ≡ extended world.old (turns turns_most (now world.old))) }
     ensures died { OnErr result (DiedDuring (turns turns_most (now world.old)) world.old world.new) }
 {
     for done in 0..TURNS_MOST {
-        match world.exec(PORTER)? {
-            None => return Ok(done),
-            Some(_) => {}
+        if !take_turn(world)? {
+            return Ok(done);
         }
     }
     Ok(TURNS_MOST)

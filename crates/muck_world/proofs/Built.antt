@@ -40,7 +40,7 @@ ends_finding_object a free given d b name go p = search permitting
 
 -- Making.
 
-quiet_created_shown : (d n : ℕ) → Quiet (created_shown d n)
+pub quiet_created_shown : (d n : ℕ) → Quiet (created_shown d n)
 unfolding created_shown
 quiet_created_shown d n = search shown
 

@@ -1,19 +1,21 @@
 -- What a line does in the editor is open to its actor.
-use Rattle.std.proofs.Common.{◌≡◌, ℕ, Bool, true, false, cond, List, [], ◌∷◌, length, codes, bytes_eq, nat_lt, Option, Some, None}
+use Rattle.std.proofs.Common.{ℕ, Bool, true, false, cond, List, length, codes, bytes_eq, nat_lt, Option, Some, None}
 use Rattle.muck_model.specs.declared.dbref.Dbref.{Dbref}
 use Rattle.muck_model.specs.declared.edit.EditState.{EditState}
 use Rattle.muck_live.specs.Lives.{Live, Change, unchanged, tell}
 use Rattle.muck_rights.specs.declared.act.Actor.{Actor}
 use Rattle.muck_rights.specs.declared.act.Act.{Act}
+use Rattle.muck_rights.specs.declared.act.Act.TheVariants.{Edit as EditAct}
 use Rattle.muck_rights.specs.Licence.{Licensed, nobody}
-use Rattle.muck_rights.proofs.Licences.{Quiet, Ends, Always, itself, whole_ends, quiet_followed}
+use Rattle.muck_rights.proofs.Licences.{Ends, Always, itself, whole_ends}
 use Rattle.muck_rights.proofs.Permitted.{ending}
-use Rattle.muck_rights.proofs.Shown.{shown, quiet_tell}
 use Rattle.muck_world.specs.declared.edit.EditCommand.{EditCommand}
 use Rattle.muck_world.specs.declared.edit.EditCommand.TheVariants.{Insert, Delete, Show, Compile, Quit}
 use Rattle.muck_world.specs.declared.edit.EditStep.{EditStep}
 use Rattle.muck_world.specs.declared.edit.EditStep.TheVariants.{Stay}
-use Rattle.muck_world.specs.Editing.{Editing, exiting, illegal, edit_command, lines_most, stepped, with_line, line_inserted, lines_shown, edit_done, edit_some, edited_at, edited}
+use Rattle.muck_world.specs.Editing.{exiting, illegal, edit_command, lines_most, stepped, with_line, line_inserted, source_kept, edit_done, edit_some, edited_at, edited}
+use Rattle.muck_world.proofs.Built.{permitting}
+use Rattle.muck_world.proofs.Programmed.{quiet_lines_shown}
 
 -- The answer of a line is its world, the state of the editor, and what follows.
 abbrev pub world_of : Live × EditState × EditStep → Live
@@ -23,12 +25,11 @@ ends_stepped : (a : Actor) (free : Dbref → Bool) (given : Option Act) (step : 
 unfolding stepped
 ends_stepped a free given step s f p = record { law = p.law }
 
-pub quiet_lines_shown : (d : ℕ) (lines : List (List ℕ)) → Quiet (lines_shown d lines)
-unfolding lines_shown
-quiet_lines_shown d [] = search shown
-quiet_lines_shown d (line ∷ lines) = quiet_followed (tell d line) (lines_shown d lines) (quiet_tell d line) (quiet_lines_shown d lines)
+ends_source_kept : (a : Actor) (free : Dbref → Bool) (program : Dbref) (lines : List (List ℕ)) → Ends itself a free (Some (EditAct program)) (source_kept program lines)
+unfolding source_kept
+ends_source_kept a free program lines = search permitting
 
-ruleset stepping = (ending, ends_stepped, quiet_lines_shown)
+ruleset stepping = (ending, ends_stepped, ends_source_kept, quiet_lines_shown)
 
 done_open : (a : Actor) (free : Dbref → Bool) (d : ℕ) (s : EditState) (command : EditCommand) → Ends world_of a free None (edit_done d a s command)
 unfolding edit_done

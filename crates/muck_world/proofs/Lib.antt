@@ -1,13 +1,11 @@
 pub mod Positions
 pub mod Trims
-pub mod Living
 pub mod Showing
 pub mod Built
 pub mod Gone
+pub mod Programmed
+pub mod Mine
 pub mod Permitted
 pub mod Numbered
 pub mod Lines
-pub mod Reached
-pub mod Runs
-pub mod Turns
 pub mod Edited

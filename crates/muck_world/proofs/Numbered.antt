@@ -8,7 +8,7 @@ use Rattle.muck_live.specs.Lives.{Live, Change, followed, reading, either, on_bo
 use Rattle.muck_rights.specs.declared.act.Actor.{Actor}
 use Rattle.muck_rights.specs.Licence.{SameTies}
 use Rattle.muck_rights.proofs.Licences.{Quiet, tie, ties}
-use Rattle.muck_world.specs.Sound.{IsAbove, IsRising}
+use Rattle.muck_world.specs.Rising.{IsAbove, IsRising}
 
 unfoldable pub numbers : List Connection → List ℕ
 numbers cs = map (λ c. c.number) cs
@@ -47,7 +47,7 @@ numbers-changed_in d f keeps (c ∷ cs) =
     ]
 
 -- connections that are tied alike have the same numbers
-numbers-ties : (cs ds : List Connection) → ties ds ≡ ties cs → numbers ds ≡ numbers cs
+pub numbers-ties : (cs ds : List Connection) → ties ds ≡ ties cs → numbers ds ≡ numbers cs
 unfolding numbers
 numbers-ties [] [] e = refl
 numbers-ties [] (d ∷ ds) e = absurd cc

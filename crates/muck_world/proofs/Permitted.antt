@@ -2,39 +2,38 @@
 use Rattle.std.proofs.Common.{◌≡◌, ◌==◌, ℕ, Bool, true, false, cond, List, [], ◌∷◌, refl, sym, subst, Option, Some, None}
 use Rattle.muck_model.specs.declared.dbref.Dbref.{Dbref}
 use Rattle.std.specs.Prelude.{codes, ◌||◌}
-use Rattle.muck_model.specs.declared.dbref.Denial.{Denial}
 use Rattle.muck_prop.specs.Paths.{class_of}
 use Rattle.muck_match.specs.declared.exits.ExitHit.{ExitHit}
 use Rattle.muck_match.specs.Exits.{exit_for}
 use Rattle.muck_live.specs.Seen.{scenery_of}
 use Rattle.muck_live.specs.Objects.{Entry}
-use Rattle.muck_live.specs.Lives.{Live, Change, followed, ◌▸◌, reading, either, unchanged, tell}
+use Rattle.muck_live.specs.Lives.{Live, Change, ◌▸◌, reading, either, unchanged, tell}
 use Rattle.muck_rights.specs.declared.act.Actor.{Actor}
-use Rattle.muck_rights.specs.declared.act.Act.{Act}
-use Rattle.muck_rights.specs.Verdict.{verdict, is_guarded}
-use Rattle.muck_rights.specs.Asking.{answered, asked}
+use Rattle.muck_rights.specs.Verdict.{is_guarded}
 use Rattle.muck_rights.specs.Licence.{Licensed, nobody, oneself}
 use Rattle.muck_rights.proofs.Lookups.{same_eq}
 use Rattle.muck_rights.proofs.Licences.{Own, Quiet, Ends, Whole, Always, itself, whole_ends, whole_quiet, whole_either, whole_followed, ends_stays}
 use Rattle.muck_rights.proofs.Permitted.{commanding}
 use Rattle.muck_rights.proofs.Shown.{shown}
 use Rattle.muck_world.specs.declared.outcome.Outcome.{Outcome}
-use Rattle.muck_world.specs.declared.outcome.Outcome.TheVariants.{Done, NotMine, Start, Leave}
+use Rattle.muck_world.specs.declared.outcome.Outcome.TheVariants.{Done, NotMine, Leave}
 use Rattle.muck_world.specs.declared.word.PlayWord.{PlayWord}
 use Rattle.muck_world.specs.declared.word.PlayWord.TheVariants.{Look, Say, Pose, Page, Whisper, Go, Get, Drop, Inventory, Home, Examine, Who, Quit}
 use Rattle.muck_world.specs.declared.word.Message.{Message}
 use Rattle.muck_world.specs.declared.word.Message.TheVariants.{Describe, Success, OthersSuccess, Fail, OthersFail, Drop as DropMessage, OthersDrop}
 use Rattle.muck_world.specs.declared.word.BuildWord.{BuildWord}
-use Rattle.muck_world.specs.declared.word.BuildWord.TheVariants.{Dig, Create, Open, Action, Link, Unlink, Name, Set, Lock, Unlock, Teleport, Recycle, Chown, Find}
-use Rattle.muck_world.specs.Finding.{where_so, message_path}
+use Rattle.muck_world.specs.declared.word.BuildWord.TheVariants.{Dig, Create, Open, Action, Link, Unlink, Name, Set, Lock, Unlock, Teleport, Recycle, Chown, Find, Program, Edit, List as ListWord, Run}
+use Rattle.muck_world.specs.Finding.{message_path}
 use Rattle.muck_world.specs.Texts.{first_word, trimmed}
 use Rattle.muck_world.specs.Replies.{huh}
 use Rattle.muck_world.specs.Talk.{waits}
-use Rattle.muck_world.specs.Going.{Play, ended, led, walked, walked_some, went, gone_home}
+use Rattle.muck_world.specs.Going.{Play, ended, went, gone_home}
 use Rattle.muck_world.specs.Free.{free_word, free_by, free_line}
-use Rattle.muck_world.specs.Commands.{incomplete, one_part, two_parts, full_parts, play_word, play_done, play_some, play_words, play_line, message_name, open_done, build_word, build_done, build_some, build_line, or_next, or_else, commanded, begins_with_sign, through, played}
+use Rattle.muck_world.specs.Commands.{is_empty, left_part, right_part, incomplete, one_part, two_parts, full_parts, play_word, play_done, play_some, play_words, play_line, message_name, open_done, build_word, run_done, build_done, build_some, build_line, or_next, or_else, commanded, begins_with_sign, through, played}
 use Rattle.muck_world.proofs.Showing.{seeing, quiet_waits}
 use Rattle.muck_world.proofs.Built.{dug_open, thing_made_open, opened_exit_open, opened_to_open, action_made_open, link_set_open, link_cleared_open, name_set_open, message_set_open, lock_set_open, lock_cleared_open, teleported_open, chowned_open, quiet_find_shown, quiet_examined}
+use Rattle.muck_world.proofs.Programmed.{program_made_open, program_edited_open, program_listed_open, program_run_open}
+use Rattle.muck_world.proofs.Mine.{Mine, mine_done, mine_leave, mine_either, mine_went, mine_program_made, mine_program_edited, mine_program_listed, mine_program_run}
 use Rattle.muck_world.proofs.Gone.{world_of, whole_ended, walked_open, went_open, HandFree, taken_open, dropped_open, recycled_open, stays_gone_home, quiet_inventory_shown}
 
 -- The parts of a command.
@@ -113,84 +112,39 @@ Building a own free f = Whole itself a own free Always f
 by_ends : (a : Actor) (own : Option ℕ) (free : List Entry → Dbref → Bool) (f : Change) → ((free : Dbref → Bool) → Ends itself a free None f) → Building a own free f
 by_ends a own free f p = whole_ends itself a own free Always f (λ w h. p (free w.objects))
 
-pub build_open : (a : Actor) (own : Option ℕ) (free : List Entry → Dbref → Bool) (d : ℕ) (word text : List ℕ) (found : BuildWord) → Whole itself a own free Always (build_done d a word text found)
-unfolding build_done open_done
-build_open a own free d word text Dig = whole_one_part a own free d word text _ (λ t. by_ends a own free _ (λ f. dug_open a f d t))
-build_open a own free d word text Create = whole_one_part a own free d word text _ (λ t. by_ends a own free _ (λ f. thing_made_open a f d t))
-build_open a own free d word text Open = whole_either itself a own free Always _ _ _
+by_play_ends : (a : Actor) (own : Option ℕ) (free : List Entry → Dbref → Bool) (f : Play) → ((free : Dbref → Bool) → Ends world_of a free None f) → Whole world_of a own free Always f
+by_play_ends a own free f p = whole_ends world_of a own free Always f (λ w h. p (free w.objects))
+
+incomplete_open : (a : Actor) (own : Option ℕ) (free : List Entry → Dbref → Bool) (d : ℕ) (word : List ℕ) → Whole world_of a own free Always (ended Done (incomplete d word))
+incomplete_open a own free d word = whole_ended a own free Always Done _ (whole_quiet a own free Always _ (quiet_incomplete d word))
+
+complete_open : (a : Actor) (own : Option ℕ) (free : List Entry → Dbref → Bool) (d : ℕ) (word : List ℕ) (b : Bool) (go : Play) → Whole world_of a own free Always go → Whole world_of a own free Always (either b (ended Done (incomplete d word)) go)
+complete_open a own free d word b go p = whole_either world_of a own free Always b _ _ (incomplete_open a own free d word) p
+
+pub build_open : (a : Actor) (own : Option ℕ) (free : List Entry → Dbref → Bool) (d : ℕ) (line word text : List ℕ) (found : BuildWord) → Whole world_of a own free Always (build_done d a line word text found)
+unfolding build_done open_done run_done
+build_open a own free d line word text Dig = whole_ended a own free Always Done _ (whole_one_part a own free d word text _ (λ t. by_ends a own free _ (λ f. dug_open a f d t)))
+build_open a own free d line word text Create = whole_ended a own free Always Done _ (whole_one_part a own free d word text _ (λ t. by_ends a own free _ (λ f. thing_made_open a f d t)))
+build_open a own free d line word text Open = whole_ended a own free Always Done _ (whole_either itself a own free Always _ _ _
     (whole_full_parts a own free d word text _ (λ s t. by_ends a own free _ (λ f. opened_to_open a f d s t)))
-    (whole_one_part a own free d word text _ (λ t. by_ends a own free _ (λ f. opened_exit_open a f d t)))
-build_open a own free d word text Action = whole_full_parts a own free d word text _ (λ s t. by_ends a own free _ (λ f. action_made_open a f d s t))
-build_open a own free d word text Link = whole_full_parts a own free d word text _ (λ s t. by_ends a own free _ (λ f. link_set_open a f d s t))
-build_open a own free d word text Unlink = whole_one_part a own free d word text _ (λ t. by_ends a own free _ (λ f. link_cleared_open a f d t))
-build_open a own free d word text Name = whole_two_parts a own free d word text _ (λ s t. by_ends a own free _ (λ f. name_set_open a f d s t))
-build_open a own free d word text (Set m) = whole_two_parts a own free d word text _ (λ s t. by_ends a own free _ (λ f. message_set_open a f d (message_name m) s t (message_guarded m)))
-build_open a own free d word text Lock = whole_two_parts a own free d word text _ (λ s t. by_ends a own free _ (λ f. lock_set_open a f d s t))
-build_open a own free d word text Unlock = whole_one_part a own free d word text _ (λ t. by_ends a own free _ (λ f. lock_cleared_open a f d t))
-build_open a own free d word text Teleport = whole_full_parts a own free d word text _ (λ s t. by_ends a own free _ (λ f. teleported_open a f d s t))
-build_open a own free d word text Recycle = whole_one_part a own free d word text _ (λ t. recycled_open a own free d t)
-build_open a own free d word text Chown = whole_full_parts a own free d word text _ (λ s t. by_ends a own free _ (λ f. chowned_open a f d s t))
-build_open a own free d word text Find = whole_one_part a own free d word text _ (λ t. whole_quiet a own free Always _ (quiet_find_shown d a t))
+    (whole_one_part a own free d word text _ (λ t. by_ends a own free _ (λ f. opened_exit_open a f d t))))
+build_open a own free d line word text Action = whole_ended a own free Always Done _ (whole_full_parts a own free d word text _ (λ s t. by_ends a own free _ (λ f. action_made_open a f d s t)))
+build_open a own free d line word text Link = whole_ended a own free Always Done _ (whole_full_parts a own free d word text _ (λ s t. by_ends a own free _ (λ f. link_set_open a f d s t)))
+build_open a own free d line word text Unlink = whole_ended a own free Always Done _ (whole_one_part a own free d word text _ (λ t. by_ends a own free _ (λ f. link_cleared_open a f d t)))
+build_open a own free d line word text Name = whole_ended a own free Always Done _ (whole_two_parts a own free d word text _ (λ s t. by_ends a own free _ (λ f. name_set_open a f d s t)))
+build_open a own free d line word text (Set m) = whole_ended a own free Always Done _ (whole_two_parts a own free d word text _ (λ s t. by_ends a own free _ (λ f. message_set_open a f d (message_name m) s t (message_guarded m))))
+build_open a own free d line word text Lock = whole_ended a own free Always Done _ (whole_two_parts a own free d word text _ (λ s t. by_ends a own free _ (λ f. lock_set_open a f d s t)))
+build_open a own free d line word text Unlock = whole_ended a own free Always Done _ (whole_one_part a own free d word text _ (λ t. by_ends a own free _ (λ f. lock_cleared_open a f d t)))
+build_open a own free d line word text Teleport = whole_ended a own free Always Done _ (whole_full_parts a own free d word text _ (λ s t. by_ends a own free _ (λ f. teleported_open a f d s t)))
+build_open a own free d line word text Recycle = whole_ended a own free Always Done _ (whole_one_part a own free d word text _ (λ t. recycled_open a own free d t))
+build_open a own free d line word text Chown = whole_ended a own free Always Done _ (whole_full_parts a own free d word text _ (λ s t. by_ends a own free _ (λ f. chowned_open a f d s t)))
+build_open a own free d line word text Find = whole_ended a own free Always Done _ (whole_one_part a own free d word text _ (λ t. whole_quiet a own free Always _ (quiet_find_shown d a t)))
+build_open a own free d line word text Program = complete_open a own free d word (is_empty text) _ (by_play_ends a own free _ (λ f. program_made_open a f d text))
+build_open a own free d line word text Edit = complete_open a own free d word (is_empty text) _ (by_play_ends a own free _ (λ f. program_edited_open a f d text))
+build_open a own free d line word text ListWord = complete_open a own free d word (is_empty text) _ (by_play_ends a own free _ (λ f. program_listed_open a f d text))
+build_open a own free d line word text Run = whole_either world_of a own free Always _ _ _ (by_play_ends a own free _ (λ f. program_run_open a f d line (left_part text) (right_part text))) (incomplete_open a own free d word)
 
 -- A whole line.
-
--- it isn't left to the next
-record Mine (f : Play) : Type 0 where
-  law : (w : Live) → (f w).1 ≡ NotMine → ⊥
-
-mine_ended : (outcome : Outcome) (f : Change) → (outcome ≡ NotMine → ⊥) → Mine (ended outcome f)
-unfolding ended
-mine_ended outcome f h = record { law = λ w e. h e }
-
-mine_done : (f : Change) → Mine (ended Done f)
-mine_done f = mine_ended Done f (λ e. cc)
-
-mine_leave : (f : Change) → Mine (ended Leave f)
-mine_leave f = mine_ended Leave f (λ e. cc)
-
-mine_start : (program trigger : Dbref) (command arg : List ℕ) (f : Change) → Mine (ended (Start program trigger command arg) f)
-mine_start program trigger command arg f = mine_ended (Start program trigger command arg) f (λ e. cc)
-
-mine_followed : (f : Change) (g : Play) → Mine g → Mine (followed f g)
-unfolding followed
-mine_followed f g p = record { law = λ w. p.law (f w) }
-
-mine_reading : {X : Type 0} (get : Live → X) (go : X → Play) → ((x : X) → Mine (go x)) → Mine (reading get go)
-unfolding reading
-mine_reading get go p = record { law = λ w. (p (get w)).law w }
-
-mine_either : (b : Bool) (f g : Play) → Mine f → Mine g → Mine (either b f g)
-unfolding either
-mine_either true f g p q = record { law = p.law }
-mine_either false f g p q = record { law = q.law }
-
-mine_where : (test : Live → Bool) (otherwise go : Play) → Mine otherwise → Mine go → Mine (where_so test otherwise go)
-unfolding where_so
-mine_where test otherwise go p q = mine_reading test (λ b. either b go otherwise) (λ b. mine_either b go otherwise q p)
-
-mine_asked : (a : Actor) (act : Act) (refuse : Denial → Play) (go : Play) → ((denial : Denial) → Mine (refuse denial)) → Mine go → Mine (asked a act refuse go)
-unfolding asked
-mine_asked a act refuse go p q = record { law = λ w. at w (verdict w.objects a act) }
-  where
-    at : (w : Live) (v : Option Denial) → (answered v refuse go w).1 ≡ NotMine → ⊥
-    at w None = q.law w
-    at w (Some denial) = (p denial).law w
-
-mine_led : (d : ℕ) (player : Dbref) (hit : ExitHit) (line : List ℕ) (to : Dbref) → Mine (led d player hit line to)
-unfolding led
-mine_led d player hit line to = search (mine_either, mine_where, mine_done, mine_start)
-
-mine_walked : (d : ℕ) (a : Actor) (hit : ExitHit) (line : List ℕ) → Mine (walked d a hit line)
-unfolding walked
-mine_walked d a hit line = search (mine_asked, mine_followed, mine_reading, mine_done, mine_led)
-
-mine_walked_some : (d : ℕ) (a : Actor) (line : List ℕ) (hit : Option ExitHit) → Mine (walked_some d a line hit)
-mine_walked_some d a line None = mine_done _
-mine_walked_some d a line (Some hit) = mine_walked d a hit line
-
-mine_went : (d : ℕ) (a : Actor) (line : List ℕ) → Mine (went d a line)
-unfolding went
-mine_went d a line = mine_reading _ (walked_some d a line) (λ hit. mine_walked_some d a line hit)
 
 play_mine : (d : ℕ) (a : Actor) (word text : List ℕ) (found : PlayWord) → Mine (play_done d a word text found)
 unfolding play_done
@@ -207,6 +161,27 @@ play_mine d a word text Home = mine_done _
 play_mine d a word text Examine = mine_done _
 play_mine d a word text Who = mine_done _
 play_mine d a word text Quit = mine_leave _
+
+build_mine : (d : ℕ) (a : Actor) (line word text : List ℕ) (found : BuildWord) → Mine (build_done d a line word text found)
+unfolding build_done run_done
+build_mine d a line word text Dig = mine_done _
+build_mine d a line word text Create = mine_done _
+build_mine d a line word text Open = mine_done _
+build_mine d a line word text Action = mine_done _
+build_mine d a line word text Link = mine_done _
+build_mine d a line word text Unlink = mine_done _
+build_mine d a line word text Name = mine_done _
+build_mine d a line word text (Set m) = mine_done _
+build_mine d a line word text Lock = mine_done _
+build_mine d a line word text Unlock = mine_done _
+build_mine d a line word text Teleport = mine_done _
+build_mine d a line word text Recycle = mine_done _
+build_mine d a line word text Chown = mine_done _
+build_mine d a line word text Find = mine_done _
+build_mine d a line word text Program = mine_either _ _ _ (mine_done _) (mine_program_made d a text)
+build_mine d a line word text Edit = mine_either _ _ _ (mine_done _) (mine_program_edited d a text)
+build_mine d a line word text ListWord = mine_either _ _ _ (mine_done _) (mine_program_listed d a text)
+build_mine d a line word text Run = mine_either _ _ _ (mine_program_run d a line (left_part text) (right_part text)) (mine_done _)
 
 next_kept : (g : Play) (v : Live) (outcome : Outcome) → (outcome ≡ NotMine → ⊥) → (or_next g (v, outcome)).0 ≡ v
 next_kept g v NotMine h = absurd (h refl)
@@ -242,15 +217,15 @@ play_line_open a own free d (b ∷ line) g h p = at (b == 34) (b == 58) h
     at false true h = or_mine a own free _ g (play_mine d a _ _ Pose) (play_open a own free d _ _ Pose tt)
     at false false h = play_some_open a own free d _ _ (play_word (first_word (trimmed (b ∷ line)))) g (h refl) p
 
-build_some_open : (a : Actor) (own : Option ℕ) (free : List Entry → Dbref → Bool) (d : ℕ) (word text : List ℕ) (found : Option BuildWord) (g : Play) → Whole world_of a own free Always g → Whole world_of a own free Always (or_else (build_some d a word text found) g)
-build_some_open a own free d word text None g p = or_none a own free g p
-build_some_open a own free d word text (Some found) g p = or_mine a own free _ g (mine_done _) (whole_ended a own free Always Done _ (build_open a own free d word text found))
+build_some_open : (a : Actor) (own : Option ℕ) (free : List Entry → Dbref → Bool) (d : ℕ) (line word text : List ℕ) (found : Option BuildWord) (g : Play) → Whole world_of a own free Always g → Whole world_of a own free Always (or_else (build_some d a line word text found) g)
+build_some_open a own free d line word text None g p = or_none a own free g p
+build_some_open a own free d line word text (Some found) g p = or_mine a own free _ g (build_mine d a line word text found) (build_open a own free d line word text found)
 
 commanded_open : (a : Actor) (own : Option ℕ) (free : List Entry → Dbref → Bool) (d : ℕ) (line : List ℕ) → (begins_with_sign line ≡ false → WordFree a free (play_word (first_word (trimmed line)))) → Whole world_of a own free Always (commanded d a line)
 unfolding commanded build_line
 commanded_open a own free d line h =
     play_line_open a own free d line _ h
-    (build_some_open a own free d _ _ (build_word (first_word (trimmed line))) (ended Done (tell d huh)) (whole_ended a own free Always Done _ (whole_quiet a own free Always _ (search shown))))
+    (build_some_open a own free d line _ _ (build_word (first_word (trimmed line))) (ended Done (tell d huh)) (whole_ended a own free Always Done _ (whole_quiet a own free Always _ (search shown))))
 
 -- What is free by a line is enough for it.
 

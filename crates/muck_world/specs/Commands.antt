@@ -14,13 +14,14 @@ use Rattle.muck_world.specs.declared.word.PlayWord.TheVariants.{Look, Say, Pose,
 use Rattle.muck_world.specs.declared.word.Message.{Message}
 use Rattle.muck_world.specs.declared.word.Message.TheVariants.{Describe, Success, OthersSuccess, Fail, OthersFail, Drop as DropMessage, OthersDrop}
 use Rattle.muck_world.specs.declared.word.BuildWord.{BuildWord}
-use Rattle.muck_world.specs.declared.word.BuildWord.TheVariants.{Dig, Create, Open, Action, Link, Unlink, Name, Set, Lock, Unlock, Teleport, Recycle, Chown, Find}
+use Rattle.muck_world.specs.declared.word.BuildWord.TheVariants.{Dig, Create, Open, Action, Link, Unlink, Name, Set, Lock, Unlock, Teleport, Recycle, Chown, Find, Program, Edit, List as ListWord, Run}
 use Rattle.muck_world.specs.Texts.{first_word, other_words, trimmed, is_alike}
 use Rattle.muck_world.specs.Replies.{usage, goodbye, huh}
 use Rattle.muck_world.specs.Finding.{looked, looked_at}
 use Rattle.muck_world.specs.Talking.{said, posed, paged, whispered, who_shown}
 use Rattle.muck_world.specs.Going.{Play, ended, gone_home, walked, went, taken, dropped, inventory_shown}
 use Rattle.muck_world.specs.Building.{dug, thing_made, opened_exit, opened_to, action_made, link_set, link_cleared, name_set, message_set, lock_set, lock_cleared, teleported, recycled, chowned, find_shown, examined}
+use Rattle.muck_world.specs.Programming.{program_made, program_edited, program_listed, program_run}
 
 -- The parts of a command.
 
@@ -163,8 +164,16 @@ message_word word =
     else if is_alike word (codes "@odrop") then Some (Set OthersDrop)
     else None
 
+abbrev pub program_word : List ℕ → Option BuildWord
+program_word word =
+    if is_alike word (codes "@program") then Some Program
+    else if is_alike word (codes "@edit") then Some Edit
+    else if is_alike word (codes "@list") then Some ListWord
+    else if is_alike word (codes "@run") then Some Run
+    else None
+
 unfoldable pub build_word : List ℕ → Option BuildWord
-build_word word = or_word (make_word word) (or_word (tie_word word) (message_word word))
+build_word word = or_word (make_word word) (or_word (tie_word word) (or_word (message_word word) (program_word word)))
 
 -- the word in the path of a message
 abbrev pub message_name : Message → List ℕ
@@ -180,29 +189,39 @@ message_name OthersDrop = codes "odr"
 unfoldable pub open_done : ℕ → Actor → List ℕ → List ℕ → Change
 open_done d a word text = either (has_equals text) (full_parts d word text (opened_to d a)) (one_part d word text (opened_exit d a))
 
-unfoldable pub build_done : ℕ → Actor → List ℕ → List ℕ → BuildWord → Change
-build_done d a word text Dig = one_part d word text (dug d a)
-build_done d a word text Create = one_part d word text (thing_made d a)
-build_done d a word text Open = open_done d a word text
-build_done d a word text Action = full_parts d word text (action_made d a)
-build_done d a word text Link = full_parts d word text (link_set d a)
-build_done d a word text Unlink = one_part d word text (link_cleared d a)
-build_done d a word text Name = two_parts d word text (name_set d a)
-build_done d a word text (Set message) = two_parts d word text (message_set d a (message_name message))
-build_done d a word text Lock = two_parts d word text (lock_set d a)
-build_done d a word text Unlock = one_part d word text (lock_cleared d a)
-build_done d a word text Teleport = full_parts d word text (teleported d a)
-build_done d a word text Recycle = one_part d word text (recycled d a)
-build_done d a word text Chown = full_parts d word text (chowned d a)
-build_done d a word text Find = one_part d word text (find_shown d a)
+-- a program and the text that it finds on its stack, which may be empty
+unfoldable pub run_done : ℕ → Actor → List ℕ → List ℕ → List ℕ → Play
+run_done d a line word text =
+    either (has_equals text && not (is_empty (left_part text))) (program_run d a line (left_part text) (right_part text)) (ended Done (incomplete d word))
 
-abbrev pub build_some : ℕ → Actor → List ℕ → List ℕ → Option BuildWord → Play
-build_some d a word text None = ended NotMine unchanged
-build_some d a word text (Some found) = ended Done (build_done d a word text found)
+-- what such a word does with the rest of its line
+unfoldable pub build_done : ℕ → Actor → List ℕ → List ℕ → List ℕ → BuildWord → Play
+build_done d a line word text Dig = ended Done (one_part d word text (dug d a))
+build_done d a line word text Create = ended Done (one_part d word text (thing_made d a))
+build_done d a line word text Open = ended Done (open_done d a word text)
+build_done d a line word text Action = ended Done (full_parts d word text (action_made d a))
+build_done d a line word text Link = ended Done (full_parts d word text (link_set d a))
+build_done d a line word text Unlink = ended Done (one_part d word text (link_cleared d a))
+build_done d a line word text Name = ended Done (two_parts d word text (name_set d a))
+build_done d a line word text (Set message) = ended Done (two_parts d word text (message_set d a (message_name message)))
+build_done d a line word text Lock = ended Done (two_parts d word text (lock_set d a))
+build_done d a line word text Unlock = ended Done (one_part d word text (lock_cleared d a))
+build_done d a line word text Teleport = ended Done (full_parts d word text (teleported d a))
+build_done d a line word text Recycle = ended Done (one_part d word text (recycled d a))
+build_done d a line word text Chown = ended Done (full_parts d word text (chowned d a))
+build_done d a line word text Find = ended Done (one_part d word text (find_shown d a))
+build_done d a line word text Program = either (is_empty text) (ended Done (incomplete d word)) (program_made d a text)
+build_done d a line word text Edit = either (is_empty text) (ended Done (incomplete d word)) (program_edited d a text)
+build_done d a line word text ListWord = either (is_empty text) (ended Done (incomplete d word)) (program_listed d a text)
+build_done d a line word text Run = run_done d a line word text
+
+abbrev pub build_some : ℕ → Actor → List ℕ → List ℕ → List ℕ → Option BuildWord → Play
+build_some d a line word text None = ended NotMine unchanged
+build_some d a line word text (Some found) = build_done d a line word text found
 
 -- a line as cmd_build does it
 unfoldable pub build_line : ℕ → Actor → List ℕ → Play
-build_line d a line = build_some d a (first_word (trimmed line)) (trimmed (other_words (trimmed line))) (build_word (first_word (trimmed line)))
+build_line d a line = build_some d a line (first_word (trimmed line)) (trimmed (other_words (trimmed line))) (build_word (first_word (trimmed line)))
 
 -- All of them.
 

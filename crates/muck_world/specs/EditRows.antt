@@ -2,17 +2,16 @@
 use Rattle.std.specs.Prelude.{◌≡◌, ℕ, List, [], ◌∷◌, ◌++◌, Option, Some, None, refl, codes}
 use Rattle.std.specs.Option.{option_map}
 use Rattle.std.specs.Fmt.{digits}
-use Rattle.muck_model.specs.declared.dbref.Dbref.{Dbref}
 use Rattle.muck_model.specs.declared.dbref.Kind.TheVariants.{Program}
 use Rattle.muck_model.specs.declared.edit.EditState.{EditState}
 use Rattle.muck_model.specs.Bytes.{text_most}
 use Rattle.muck_model.specs.Decimal.{decimal_of}
 use Rattle.muck_live.specs.declared.object.Object.{Object}
-use Rattle.muck_live.specs.Objects.{Entry, dbref_of, object_in, object_at, number_in, kind_in, changed_at}
+use Rattle.muck_live.specs.Objects.{dbref_of, object_in, object_at, number_in, kind_in, changed_at}
 use Rattle.muck_live.specs.Start.{player_one}
 use Rattle.muck_live.specs.Output.{sent_lines, queue_most, lines_bytes, line_sent, lines_sent, sent}
-use Rattle.muck_live.specs.Boards.{told_one}
-use Rattle.muck_live.specs.Lives.{Live, followed, unchanged, tell}
+use Rattle.muck_live.specs.Boards.{early_board, told_one}
+use Rattle.muck_live.specs.Lives.{Live, followed, reading, either, unchanged, tell}
 use Rattle.muck_rights.specs.declared.act.Actor.{Actor}
 use Rattle.muck_rights.specs.Levels.{level_at, owner_at, flag_at, owns, controls_as}
 use Rattle.muck_rights.specs.Verdict.{controls}
@@ -20,16 +19,17 @@ use Rattle.muck_rights.specs.Asking.{asked, denied_text, refused}
 use Rattle.muck_rights.specs.Changing.{lines_kept}
 use Rattle.muck_world.specs.declared.edit.EditStep.{EditStep}
 use Rattle.muck_world.specs.declared.edit.EditStep.TheVariants.{Stay, Compile, Left}
-use Rattle.muck_world.specs.Editing.{entering, exiting, deleted_reply, editor_exited, illegal, line_number, plain_command, line_command, lines_command, edit_command, Editing, stepped, line_inserted, lines_shown, edit_done, edited}
-use Rattle.muck_world.specs.World.{starting}
-use Rattle.muck_world.specs.Rows.{company, queues, both_there}
+use Rattle.muck_world.specs.Editing.{entering, exiting, deleted_reply, editor_exited, illegal, line_number, plain_command, line_command, lines_command, edit_command, stepped, line_inserted, source_kept, edit_done, edited}
+use Rattle.muck_world.specs.Finding.{where_so}
+use Rattle.muck_world.specs.Programming.{lines_shown}
+use Rattle.muck_world.specs.Company.{company, queues, both_there}
 
 -- One and Two are there, and a program `#3` that belongs to this player
 abbrev pub program_three : ℕ → Object
 program_three owner = record player_one { kind = Program; name = codes "ed"; owner = dbref_of owner; lines = codes "old" ∷ [] }
 
 abbrev pub desk : ℕ → Live
-desk owner = record (company (1 ∷ [])).live { objects = both_there ++ record { object = program_three owner; contents = []; exits = []; mark = None } ∷ [] }
+desk owner = record (company (1 ∷ [])) { objects = both_there ++ record { object = program_three owner; contents = []; exits = []; mark = None } ∷ [] }
 
 abbrev pub opened_on : List (List ℕ) → EditState
 opened_on lines = record { program = dbref_of 3; lines = lines; inserting = None }
@@ -70,6 +70,8 @@ rows :
     ≡ ((entering ∷ exiting ∷ codes " . " ∷ []) ∷ [], Some (codes " . " ∷ codes "Q" ∷ []), Compile))
     -- who may not edit keeps nothing, and leaves all the same
     × (after_typing two 1 [] (codes "c" ∷ []) ≡ ((codes "Permission denied (P16)." ∷ []) ∷ [], Some (codes "old" ∷ []), Stay))
+    -- lines that are the source already change nothing, not even that it was changed
+    × ((typed_in one (codes "c" ∷ codes "q" ∷ []) (desk 1, opened_on (codes "old" ∷ []), Stay)).0.objects ≡ (desk 1).objects)
     × (after_typing two 2 [] (codes "q" ∷ codes "l" ∷ []) ≡ ((codes "Permission denied (P22)." ∷ editor_exited ∷ []) ∷ [], Some (codes "old" ∷ []), Left))
-unfolding text_most decimal_of object_in object_at number_in kind_in changed_at player_one sent_lines queue_most lines_bytes line_sent lines_sent sent told_one followed unchanged tell level_at owner_at flag_at owns controls_as controls asked denied_text refused lines_kept entering exiting deleted_reply editor_exited illegal line_number plain_command line_command lines_command edit_command stepped line_inserted lines_shown edit_done edited starting digits
-rows = (refl, refl, refl, refl, refl, refl)
+unfolding text_most decimal_of object_in object_at number_in kind_in changed_at player_one sent_lines queue_most lines_bytes line_sent lines_sent sent told_one followed reading either unchanged tell level_at owner_at flag_at owns controls_as controls asked denied_text refused lines_kept entering exiting deleted_reply editor_exited illegal line_number plain_command line_command lines_command edit_command stepped line_inserted lines_shown source_kept where_so edit_done edited early_board digits
+rows = (refl, refl, refl, refl, refl, refl, refl)

@@ -1,8 +1,9 @@
 -- What a line does in the editor of programs.
-use Rattle.std.specs.Prelude.{◌≡◌, ℕ, ◌+◌, ◌-◌, ◌≤◌, ◌==◌, true, nat_lt, bytes_eq, if◌then◌else◌, List, [], ◌∷◌, length, insert, slice_range, codes, Option, Some, None, IfSome}
-use Rattle.std.specs.Option.{option_and_then}
+use Rattle.std.specs.Prelude.{◌≡◌, ℕ, ◌+◌, ◌-◌, ◌≤◌, ◌==◌, Bool, true, ◌&&◌, nat_lt, nat_le, bytes_eq, if◌then◌else◌, List, length, insert, slice_range, codes, Option, Some, None, IfSome}
+use Rattle.std.specs.Option.{option_map_or, option_and_then}
 use Rattle.std.specs.List.{remove_range}
-use Rattle.muck_model.specs.declared.dbref.Denial.{Denial}
+use Rattle.std.specs.Cmp.Lexicographic.{pointwise}
+use Rattle.muck_model.specs.declared.dbref.Dbref.{Dbref}
 use Rattle.muck_model.specs.declared.edit.EditState.{EditState}
 use Rattle.muck_model.specs.Decimal.{decimal_of}
 use Rattle.muck_live.specs.Lives.{Live, Change, ◌▸◌, unchanged, tell}
@@ -15,7 +16,9 @@ use Rattle.muck_world.specs.declared.edit.EditCommand.TheVariants.{Insert, Delet
 use Rattle.muck_world.specs.declared.edit.EditStep.{EditStep}
 use Rattle.muck_world.specs.declared.edit.EditStep.TheVariants.{Stay, Compile as ToCompile, Left}
 use Rattle.muck_world.specs.Texts.{first_word, other_words, trimmed, is_alike}
+use Rattle.muck_world.specs.Finding.{where_so}
 use Rattle.muck_world.specs.Going.{is_program_at}
+use Rattle.muck_world.specs.Programming.{source_of, lines_shown}
 use Rattle.muck_world.specs.Commands.{is_empty}
 
 -- Replies.
@@ -104,16 +107,20 @@ line_inserted d s at line =
     else if nat_lt (length s.lines) lines_most then stepped Stay (with_line at line s) unchanged
     else stepped Stay s (tell d illegal)
 
-unfoldable pub lines_shown : ℕ → List (List ℕ) → Change
-lines_shown d [] = unchanged
-lines_shown d (line ∷ lines) = tell d line ▸ lines_shown d lines
+-- two sources are the same
+abbrev pub same_lines : List (List ℕ) → List (List ℕ) → Bool
+same_lines = pointwise bytes_eq
+
+-- these lines are the source of a program from now on; where they are it already, nothing changes
+unfoldable pub source_kept : Dbref → List (List ℕ) → Change
+source_kept program lines = where_so (λ w. same_lines (source_of program w) lines) (lines_kept program lines) unchanged
 
 unfoldable pub edit_done : ℕ → Actor → EditState → EditCommand → Editing
 edit_done d a s (Insert at) = stepped Stay (record s { inserting = Some at }) (tell d entering)
 edit_done d a s (Delete from to) = stepped Stay (record s { lines = remove_range s.lines from to }) (tell d deleted_reply)
 edit_done d a s (Show from to) = stepped Stay s (lines_shown d (slice_range s.lines from to))
-edit_done d a s Compile = asked a (Edit s.program) (λ denial. stepped Stay s (refused d denial)) (stepped ToCompile s (lines_kept s.program s.lines))
-edit_done d a s Quit = asked a (Edit s.program) (λ denial. stepped Left s (refused d denial ▸ tell d editor_exited)) (stepped Left s (lines_kept s.program s.lines ▸ tell d editor_exited))
+edit_done d a s Compile = asked a (Edit s.program) (λ denial. stepped Stay s (refused d denial)) (stepped ToCompile s (source_kept s.program s.lines))
+edit_done d a s Quit = asked a (Edit s.program) (λ denial. stepped Left s (refused d denial ▸ tell d editor_exited)) (stepped Left s (source_kept s.program s.lines ▸ tell d editor_exited))
 
 abbrev pub edit_some : ℕ → Actor → EditState → Option EditCommand → Editing
 edit_some d a s None = stepped Stay s (tell d illegal)
@@ -132,3 +139,12 @@ pub record IsOpen (s : EditState) (w : Live) : Type 0 where
   pub program : is_program_at s.program w ≡ true
   pub few : length s.lines ≤ lines_most
   pub within : IfSome s.inserting (λ at. at ≤ length s.lines)
+
+-- the same, as it is asked
+
+-- lines are inserted between the lines, where they are
+abbrev pub is_between : EditState → Bool
+is_between s = option_map_or (λ at. nat_le at (length s.lines)) s.inserting true
+
+abbrev pub is_open : EditState → Live → Bool
+is_open s w = is_program_at s.program w && (nat_le (length s.lines) 4096 && is_between s)

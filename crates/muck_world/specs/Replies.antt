@@ -129,5 +129,8 @@ recycled_reply = codes "Recycled."
 unfoldable pub chowned_reply : List ℕ
 chowned_reply = codes "Owner changed."
 
+unfoldable pub entering_editor : List ℕ
+entering_editor = codes "Entering editor."
+
 unfoldable pub found_count : ℕ → List ℕ
 found_count count = decimal count ++ codes " found."

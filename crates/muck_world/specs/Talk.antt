@@ -1,4 +1,4 @@
--- What a line does, at the login screen and behind it.
+-- What a line does at the login screen, and what others see of a connection that goes.
 use Rattle.std.specs.Prelude.{ℕ, Bool, true, false, if◌then◌else◌, List, [], ◌∷◌, Option, Some, None, codes}
 use Rattle.std.specs.Option.{option_map_or, option_and_then}
 use Rattle.std.specs.List.{list_any}
@@ -7,25 +7,19 @@ use Rattle.muck_match.specs.Naming.{player_named}
 use Rattle.muck_live.specs.Objects.{Entry, object_at}
 use Rattle.muck_live.specs.Password.{is_digest_of}
 use Rattle.muck_live.specs.Seen.{scenery_of}
-use Rattle.muck_live.specs.Connections.{Connection, is_of}
+use Rattle.muck_live.specs.Connections.{is_of}
 use Rattle.muck_live.specs.Boards.{on_connection, player_in, closed}
-use Rattle.muck_live.specs.Lives.{Live, Change, ◌▸◌, reading, either, unchanged, on_board, tell, leave, enter}
-use Rattle.muck_world.specs.declared.outcome.Outcome.{Outcome}
-use Rattle.muck_world.specs.declared.outcome.Outcome.TheVariants.{Start, Leave}
+use Rattle.muck_live.specs.Lives.{Change, ◌▸◌, reading, either, unchanged, on_board, tell, leave, enter}
 use Rattle.muck_world.specs.Texts.{first_word, other_words, trimmed, is_alike}
 use Rattle.muck_world.specs.Replies.{goodbye, has_connected, has_disconnected}
-use Rattle.muck_world.specs.Finding.{actor_of, shown_others, looked}
+use Rattle.muck_world.specs.Finding.{shown_others, looked}
 use Rattle.muck_world.specs.Talking.{who_shown}
-use Rattle.muck_world.specs.Commands.{played}
 
 unfoldable pub welcome : List ℕ
 welcome = codes "Use: connect NAME PASSWORD, WHO or QUIT."
 
 unfoldable pub refused_login : List ℕ
 refused_login = codes "Either that player does not exist, or has a different password."
-
-unfoldable pub not_compiled : List ℕ
-not_compiled = codes "Program not compiled."
 
 -- The login screen.
 
@@ -57,34 +51,11 @@ at_login d line =
     (either (is_alike text (codes "WHO")) (who_shown d)
     (either (is_alike (first_word text) (codes "connect")) (connecting d (first_word rest) (trimmed (other_words rest))) (tell d welcome)))
 
--- The world.
-
--- what is to follow a command; no program has been compiled as yet
-abbrev pub followed_up : ℕ → Live × Outcome → Live
-followed_up d (w, Leave) = leave d w
-followed_up d (w, (Start program trigger command arg)) = tell d not_compiled w
-followed_up d (w, outcome) = w
-
--- a line of a player
-unfoldable pub in_world : ℕ → Dbref → List ℕ → Change
-in_world d player line w = followed_up d (played d (actor_of w.objects player) line w)
-
-unfoldable pub command : Option Dbref → ℕ → List ℕ → Change
-command None d line = at_login d line
-command (Some player) d line = in_world d player line
+-- Lines that wait.
 
 -- these lines wait on the connection
 unfoldable pub waits : ℕ → List (List ℕ) → Change
 waits d lines = on_board (on_connection d (λ c. record c { waiting = lines }))
-
--- the first waiting line of a connection is done
-unfoldable pub line_done : ℕ → Option Dbref → List (List ℕ) → Change
-line_done d player [] = unchanged
-line_done d player (line ∷ lines) = waits d lines ▸ command player d line
-
-unfoldable pub done : ℕ → Option Connection → Change
-done d None = unchanged
-done d (Some c) = line_done d c.player c.waiting
 
 -- Going away.
 

@@ -47,4 +47,8 @@ pub enum BuildWord {
     Recycle,
     Chown,
     Find,
+    Program,
+    Edit,
+    List,
+    Run,
 }

@@ -10,11 +10,11 @@ use Rattle.muck_model.specs.declared.event.Entry.{Entry}
 use Rattle.muck_model.specs.declared.event.Event.{Event}
 use Rattle.muck_model.specs.declared.event.Event.TheVariants.{Opened, Input, Closed, Take, Died}
 use Rattle.muck_live.specs.Connections.{Connection}
-use Rattle.muck_world.specs.World.{World, connection, queue_of, is_leaving}
-use Rattle.muck_world.specs.Steps.{effect, is_lawful, is_died}
-use Rattle.muck_world.specs.Histories.{History, after, now, extended, entered, by_porter}
-use Rattle.muck_world.proofs.Living.{dead-happened}
-use Rattle.muck_world.proofs.Runs.{now-extended, extended-append}
+use Rattle.muck_event.specs.World.{World, connection, queue_of, is_leaving}
+use Rattle.muck_event.specs.Steps.{effect, is_lawful, is_died}
+use Rattle.muck_event.specs.Histories.{History, after, now, extended, entered, by_porter}
+use Rattle.muck_event.proofs.Living.{dead-happened}
+use Rattle.muck_event.proofs.Runs.{now-extended, extended-append}
 use Rattle.muck_script.specs.Lines.{lines_of}
 use Rattle.muck_script.specs.Story.{both, if_lawful, taken, told, text_of, shown, farewell}
 use Rattle.muckd.specs.Plays.{Plays, Breaks}
@@ -48,7 +48,7 @@ plays_nothing f h k o e same alive = record {
 pub lives_on : (h k : History) (event : Event) → k ≡ entered h (by_porter event) → is_died event ≡ false → (now h).dead ≡ false → (now k).dead ≡ false
 unfolding effect
 lives_on h k event is other alive =
-    ap (λ (x : History). (now x).dead) is ∙ ap (λ (w : World). w.dead) (now-extended h (by_porter event ∷ [])) ∙ dead-happened event (now h) other ∙ alive
+    ap (λ (x : History). (now x).dead) is ∙ ap (λ (w : World). w.dead) (now-extended h (by_porter event ∷ [])) ∙ dead-happened event (now h) 0 other ∙ alive
 
 -- one event happens
 pub plays_one : (f : World → List Entry) (h k : History) (a b : Option (List ℕ)) (event : Event) (text : List ℕ) → f (now h) ≡ by_porter event ∷ [] → k ≡ entered h (by_porter event) →

@@ -1,55 +1,64 @@
 -- The turns after a line: nothing is written of them, and they leave the world alive.
-use Rattle.std.proofs.Common.{◌≡◌, ℕ, false, List, [], ◌∷◌, ◌++◌, refl, sym, ◌∙◌, ap, Option, Some, None, suc, zero, subst}
+use Rattle.std.proofs.Common.{◌≡◌, ℕ, ℤ, false, List, [], ◌∷◌, ◌++◌, refl, sym, ◌∙◌, ap, Option, Some, None, suc, zero, subst}
 use Rattle.muck_model.specs.declared.event.Entry.{Entry}
-use Rattle.muck_model.specs.declared.event.Event.TheVariants.{Exec, Died}
-use Rattle.muck_world.specs.World.{World}
-use Rattle.muck_world.specs.Steps.{effect, next_ready}
-use Rattle.muck_world.specs.Histories.{History, now, after, extended, by_porter}
-use Rattle.muck_world.proofs.Living.{dead-happened}
-use Rattle.muck_world.proofs.Runs.{now-extended}
+use Rattle.muck_model.specs.declared.event.Event.TheVariants.{Exec, Claim, Slice, Died}
+use Rattle.muck_event.specs.World.{World}
+use Rattle.muck_event.specs.Steps.{effect}
+use Rattle.muck_event.specs.Histories.{History, now, after, extended, by_porter}
+use Rattle.muck_event.proofs.Living.{dead-happened}
+use Rattle.muck_event.proofs.Runs.{now-extended}
 use Rattle.muck_script.specs.Settling.{DiedDuring}
-use Rattle.muck_script.specs.Story.{turn, turns, told, text_of}
+use Rattle.muck_script.specs.Story.{Turn, of_line, of_process, next_turn, turn_entries, turn, turns, told, text_of}
 use Rattle.muckd.specs.Plays.{Plays, Breaks}
 use Rattle.muckd.proofs.Parts.{appends_nothing, appends_as, no_ending}
 
--- Entries that are done lines, each behind the other.
-data AreLines : List Entry → Type 0 where
-  no_line : AreLines []
-  a_line : (d : ℕ) (es : List Entry) → AreLines es → AreLines (by_porter (Exec d) ∷ es)
+-- Entries of turns, each behind the other: done lines, claims and slices.
+data AreTurns : List Entry → Type 0 where
+  no_turn : AreTurns []
+  a_line : (d : ℕ) (es : List Entry) → AreTurns es → AreTurns (by_porter (Exec d) ∷ es)
+  a_claim : (pid : ℤ) (es : List Entry) → AreTurns es → AreTurns (by_porter (Claim pid) ∷ es)
+  a_slice : (pid : ℤ) (es : List Entry) → AreTurns es → AreTurns (by_porter (Slice pid) ∷ es)
 
-turns_are : (n : ℕ) (w : World) → AreLines (turns n w)
+turn_is : (o : Option Turn) (others : Turn → List Entry) → ((t : Turn) → AreTurns (others t)) → AreTurns (turn o others)
+turn_is None others p = no_turn
+turn_is (Some (of_line d)) others p = a_line d _ (p (of_line d))
+turn_is (Some (of_process pid)) others p = a_claim pid _ (a_slice pid _ (p (of_process pid)))
+
+turns_are : (n : ℕ) (w : World) → AreTurns (turns n w)
 unfolding turns
-turns_are zero w = no_line
-turns_are (suc n) w =
-    elim (next_ready w) as (λ o. AreLines (turn o (λ d. turns n (effect w (by_porter (Exec d)))))) [
-      | None ↦ no_line
-      | Some d ↦ a_line d _ (turns_are n (effect w (by_porter (Exec d))))
-    ]
+turns_are zero w = no_turn
+turns_are (suc n) w = turn_is (next_turn w) (λ t. turns n (after w (turn_entries t))) (λ t. turns_are n (after w (turn_entries t)))
 
-lines_silent : (es : List Entry) → AreLines es → (w : World) → text_of w es ≡ []
+turns_silent : (es : List Entry) → AreTurns es → (w : World) → text_of w es ≡ []
 unfolding told
-lines_silent _ no_line w = refl
-lines_silent _ (a_line d es l) w = lines_silent es l (effect w (by_porter (Exec d)))
+turns_silent _ no_turn w = refl
+turns_silent _ (a_line d es l) w = turns_silent es l (effect w (by_porter (Exec d)))
+turns_silent _ (a_claim pid es l) w = turns_silent es l (effect w (by_porter (Claim pid)))
+turns_silent _ (a_slice pid es l) w = turns_silent es l (effect w (by_porter (Slice pid)))
 
-lines_live : (es : List Entry) → AreLines es → (w : World) → (after w es).dead ≡ w.dead
+turns_live : (es : List Entry) → AreTurns es → (w : World) → (after w es).dead ≡ w.dead
 unfolding effect
-lines_live _ no_line w = refl
-lines_live _ (a_line d es l) w = lines_live es l (effect w (by_porter (Exec d))) ∙ dead-happened (Exec d) w refl
+turns_live _ no_turn w = refl
+turns_live _ (a_line d es l) w = turns_live es l (effect w (by_porter (Exec d))) ∙ dead-happened (Exec d) w 0 refl
+turns_live _ (a_claim pid es l) w = turns_live es l (effect w (by_porter (Claim pid))) ∙ dead-happened (Claim pid) w 0 refl
+turns_live _ (a_slice pid es l) w = turns_live es l (effect w (by_porter (Slice pid))) ∙ dead-happened (Slice pid) w 0 refl
 
-front_lines : (front rest : List Entry) → AreLines (front ++ rest) → AreLines front
-front_lines [] rest l = no_line
-front_lines (e ∷ front) rest (a_line d _ l) = a_line d front (front_lines front rest l)
+front_turns : (front rest : List Entry) → AreTurns (front ++ rest) → AreTurns front
+front_turns [] rest l = no_turn
+front_turns (e ∷ front) rest (a_line d _ l) = a_line d front (front_turns front rest l)
+front_turns (e ∷ front) rest (a_claim pid _ l) = a_claim pid front (front_turns front rest l)
+front_turns (e ∷ front) rest (a_slice pid _ l) = a_slice pid front (front_turns front rest l)
 
 pub plays_turns : (n : ℕ) (h k : History) (o : Option (List ℕ)) → k ≡ extended h (turns n (now h)) → (now h).dead ≡ false → Plays (turns n) h k o o
 plays_turns n h k o is alive = record {
   history = is;
-  text = appends_as o o [] _ (sym (lines_silent (turns n (now h)) (turns_are n (now h)) (now h))) (appends_nothing o);
-  alive = ap (λ (x : History). (now x).dead) is ∙ ap (λ (w : World). w.dead) (now-extended h (turns n (now h))) ∙ lines_live (turns n (now h)) (turns_are n (now h)) (now h) ∙ alive;
+  text = appends_as o o [] _ (sym (turns_silent (turns n (now h)) (turns_are n (now h)) (now h))) (appends_nothing o);
+  alive = ap (λ (x : History). (now x).dead) is ∙ ap (λ (w : World). w.dead) (now-extended h (turns n (now h))) ∙ turns_live (turns n (now h)) (turns_are n (now h)) (now h) ∙ alive;
 }
 
 pub breaks_turns : (n : ℕ) (h k : History) (o : Option (List ℕ)) → DiedDuring (turns n (now h)) h k → Breaks (turns n) (by_porter Died ∷ []) h k o o
 breaks_turns n h k o d =
-    let lines : AreLines d.front = front_lines d.front d.rest (let P : List Entry → Type 0 = AreLines in subst P (sym d.whole) (turns_are n (now h))) in
+    let lines : AreTurns d.front = front_turns d.front d.rest (let P : List Entry → Type 0 = AreTurns in subst P (sym d.whole) (turns_are n (now h))) in
     record {
       front = d.front;
       rest = d.rest;
@@ -57,7 +66,7 @@ breaks_turns n h k o d =
       history = d.died;
       told = [];
       untold = [];
-      text = sym (lines_silent d.front lines (now h));
+      text = sym (turns_silent d.front lines (now h));
       appended = appends_nothing o;
       alive = λ e. no_ending e;
     }

@@ -3,8 +3,8 @@ ghost use Rattle.std.specs.Prelude.{◌≡◌, OnOk, Bool, ℕ};
 ghost use Rattle.std.specs.List.{list_any};
 ghost use Rattle.muck_model.specs.declared.event.Event.{Event};
 ghost use Rattle.muck_live.specs.Connections.{is_of};
-ghost use Rattle.muck_world.specs.World.{on_live};
-ghost use Rattle.muck_world.specs.Steps.{happened};
+ghost use Rattle.muck_event.specs.World.{on_live};
+ghost use Rattle.muck_event.specs.Steps.{happened};
 ghost use Rattle.muck_world.specs.Talk.{parted};
 
 use crate::commands::actor_of;
@@ -14,14 +14,16 @@ use muck_model::{Dbref, NoMemory};
 use muck_perm::Guard;
 
 impl State {
-    /// A connection goes.
+    /// A connection goes, and the processes that are tied to it end.
     #[tactic(auto, unfolding(muck_world::specs::Talk::gone_away, muck_live::specs::Lives::followed, muck_live::specs::Lives::reading))]
     pub fn close(&mut self, d: u32) -> Result<(), NoMemory>
-        ensures { OnOk result (self.new ≡ happened self.old (Event.Closed d)) }
+        ensures { OnOk result (self.new ≡ happened self.old 0 (Event.Closed d)) }
     {
         let player = self.board.player(d);
         self.board.close(d);
-        self.part(player)
+        self.part(player)?;
+        self.queue.end_tied(d);
+        Ok(())
     }
 
     // The others where a player is see that its last connection has gone.

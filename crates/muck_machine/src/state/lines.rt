@@ -1,29 +1,56 @@
-// The lines of players.
-ghost use Rattle.std.specs.Prelude.{◌≡◌, IfOk, OnOk};
-ghost use Rattle.muck_world.specs.World.{on_live};
+// Lines that are done.
+ghost use Rattle.std.specs.Prelude.{◌≡◌, IfOk, OnOk, Some};
+ghost use Rattle.muck_model.specs.declared.event.Event.{Event};
+ghost use Rattle.muck_live.specs.Boards.{editor_in};
 ghost use Rattle.muck_world.specs.Finding.{actor_of};
 ghost use Rattle.muck_world.specs.Commands.{played};
-ghost use Rattle.muck_world.specs.Talk.{followed_up, in_world};
+ghost use Rattle.muck_event.specs.Lines.{command, followed_up, in_world, with_editor, editor_on};
+ghost use Rattle.muck_event.specs.Steps.{happened};
+ghost use Rattle.muck_event.specs.World.{on_live};
 
 use crate::commands::{actor_of, play};
 use crate::state::State;
-use muck_model::{Dbref, Line, NoMemory};
+use cmd_parts::copy_lines;
+use muck_event::Call;
+use muck_model::{Dbref, EditState, Line, LineList, NoMemory};
 use muck_perm::Guard;
 use muck_world::Outcome;
 
 impl State {
-    /// A line of a player is done.
-    #[tactic(auto, unfolding(muck_world::specs::Talk::in_world))]
+    /// The first waiting line of a connection is done.
+    pub fn do_line(&mut self, d: u32) -> Result<(), NoMemory>
+        ensures { OnOk result (self.new ≡ happened self.old 0 (Event.Exec d)) }
+    {
+        match self.board.take_line(d) {
+            None => Ok(()),
+            Some((None, line)) => self.at_login(d, line.as_slice()),
+            Some((Some(player), line)) => self.obey(d, player, &line),
+        }
+    }
+
+    // A line of a player, who edits a program or gives a command.
+    fn obey(&mut self, d: u32, player: Dbref, line: &Line) -> Result<(), NoMemory>
+        ensures { OnOk result (self.new ≡ command (Some player) (editor_in d self.old.live.board) d line.now self.old) }
+    {
+        match self.board.take_editor(d) {
+            Some(state) => self.in_editor(d, player, state, line),
+            None => self.in_world(d, player, line),
+        }
+    }
+
+    /// A command of a player is done, with what follows from the objects that it changed and what is to follow it.
+    #[tactic(auto, unfolding(muck_event::specs::Lines::in_world))]
     pub fn in_world(&mut self, d: u32, player: Dbref, line: &Line) -> Result<(), NoMemory>
-        ensures { OnOk result (self.new ≡ on_live (in_world d player line.now) self.old) }
+        ensures { OnOk result (self.new ≡ in_world d player line.now self.old) }
     {
         let outcome = self.play(d, player, line)?;
-        self.follow_up(d, outcome)
+        self.settle();
+        self.follow_up(d, player, outcome)
     }
 
     // Does the line, and answers what is to follow.
     fn play(&mut self, d: u32, player: Dbref, line: &Line) -> Result<Outcome, NoMemory>
-        ensures world { OnOk result (self.new ≡ on_live (λ w. (played d (actor_of w.objects player) line.now w).0) self.old) }
+        ensures world { OnOk result (self.new ≡ record self.old { live = (played d (actor_of self.old.live.objects player) line.now self.old.live).0 }) }
         ensures outcome { IfOk result (λ outcome. outcome ≡ (played d (actor_of self.old.live.objects player) line.now self.old.live).1) }
     {
         let actor = actor_of(&self.db, player);
@@ -33,22 +60,58 @@ impl State {
     }
 
     // Does what is to follow a command.
-    #[tactic(auto, unfolding(muck_world::specs::Talk::not_compiled, muck_live::specs::Lives::leave))]
-    fn follow_up(&mut self, d: u32, outcome: Outcome) -> Result<(), NoMemory>
-        ensures { OnOk result (self.new ≡ on_live (λ w. followed_up d (w, outcome)) self.old) }
+    #[tactic(auto, unfolding(muck_live::specs::Lives::leave))]
+    fn follow_up(&mut self, d: u32, player: Dbref, outcome: Outcome) -> Result<(), NoMemory>
+        ensures { OnOk result (self.new ≡ followed_up d player outcome self.old) }
     {
         match outcome {
             Outcome::Leave => {
                 self.board.leave(d);
                 Ok(())
             }
-            Outcome::Start { .. } => self.tell(d, b"Program not compiled."),
-            Outcome::Done
-            | Outcome::NotMine
-            | Outcome::Edit(_)
-            | Outcome::Dump
-            | Outcome::Stop
-            | Outcome::Retune(_) => Ok(()),
+            Outcome::Edit(program) => self.open_editor(d, program),
+            Outcome::Start {
+                program,
+                trigger,
+                command,
+                arg,
+            } => {
+                let actor = actor_of(&self.db, player);
+                let call = Call {
+                    player,
+                    program,
+                    trigger,
+                    command,
+                    argument: arg,
+                };
+                self.launch(d, actor, call)
+            }
+            Outcome::Done | Outcome::NotMine | Outcome::Dump | Outcome::Stop | Outcome::Retune(_) =>
+                Ok(()),
+        }
+    }
+
+    // Opens the editor on a program, with its source.
+    fn open_editor(&mut self, d: u32, program: Dbref) -> Result<(), NoMemory>
+        ensures { OnOk result (self.new ≡ on_live (with_editor d (Some (editor_on program self.old.live))) self.old) }
+    {
+        let lines = self.source_of(program)?;
+        let state = EditState {
+            program,
+            lines,
+            inserting: None,
+        };
+        self.board.set_editor(d, Some(state));
+        Ok(())
+    }
+
+    // A copy of the source of an object; of what isn't there no line.
+    fn source_of(&self, program: Dbref) -> Result<LineList, NoMemory>
+        ensures { IfOk result (λ lines. lines ≡ (editor_on program self.now.live).lines) }
+    {
+        match self.db.get(program) {
+            Some(object) => copy_lines(self.alloc, object.lines()),
+            None => LineList::new(self.alloc),
         }
     }
 }

@@ -1,7 +1,7 @@
 // The login screen.
 ghost use Rattle.std.specs.Prelude.{◌≡◌, IfOk, OnOk};
 ghost use Rattle.muck_live.specs.Lives.{followed};
-ghost use Rattle.muck_world.specs.World.{on_live};
+ghost use Rattle.muck_event.specs.World.{on_live};
 ghost use Rattle.muck_world.specs.Replies.{has_connected};
 ghost use Rattle.muck_world.specs.Finding.{shown_others, looked};
 ghost use Rattle.muck_world.specs.Talking.{who_shown};

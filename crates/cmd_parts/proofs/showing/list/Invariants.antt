@@ -1,4 +1,4 @@
-use Rattle.std.proofs.Common.{◌≡◌, drop, Result}
+use Rattle.std.proofs.Common.{drop, Result}
 use Rattle.muck_model.specs.declared.memory.NoMemory.{NoMemory}
 use Rattle.muck_world.specs.Finding.{listed}
 use Rattle.muck_perm.specs.declared.guard.Guard.{Guard}

@@ -1,6 +1,6 @@
 use Rattle.muck_machine.proofs.Keepings.{reads}
 use Rattle.std.specs.Prelude.{is_some}
-use Rattle.muck_world.specs.World.{connection}
+use Rattle.muck_event.specs.World.{connection}
 use Rattle.muck_machine.proofs.world.World.connected.Goals as goal
 
 pub returns : goal.returns

@@ -1,5 +1,5 @@
 use Rattle.std.proofs.Common.{sym, ◌∙◌, refl, ap}
-use Rattle.muck_world.specs.Histories.{now, History, after}
+use Rattle.muck_event.specs.Histories.{now, History, after}
 use Rattle.muck_machine.proofs.Keepings.{keeps_entry}
 use Rattle.muck_machine.proofs.world.World.halt.Goals as goal
 

@@ -1,5 +1,5 @@
 use Rattle.muck_machine.proofs.Keepings.{reads}
-use Rattle.muck_world.specs.World.{is_leaving}
+use Rattle.muck_event.specs.World.{is_leaving}
 use Rattle.muck_machine.proofs.world.World.leaving.Goals as goal
 
 pub returns : goal.returns

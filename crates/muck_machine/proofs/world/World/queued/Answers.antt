@@ -1,6 +1,6 @@
 use Rattle.muck_machine.proofs.Keepings.{reads}
 use Rattle.std.proofs.Common.{length}
-use Rattle.muck_world.specs.World.{queue_of}
+use Rattle.muck_event.specs.World.{queue_of}
 use Rattle.muck_machine.proofs.world.World.queued.Goals as goal
 
 pub returns-clause-count : goal.returns-clause-count

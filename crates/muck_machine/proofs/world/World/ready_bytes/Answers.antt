@@ -1,6 +1,6 @@
 use Rattle.muck_machine.proofs.Keepings.{reads_dead, reads_alive}
 use Rattle.std.proofs.Common.{length}
-use Rattle.muck_world.specs.World.{queue_of}
+use Rattle.muck_event.specs.World.{queue_of}
 use Rattle.muck_machine.proofs.world.World.ready_bytes.Goals as goal
 
 pub returns-then-self : goal.returns-then-self

@@ -1,7 +1,7 @@
 use Rattle.std.proofs.Common.{◌≡◌, ◌<◌, false, refl, sym, ◌∙◌, ap, arith, length, take, min}
 use Rattle.std.proofs.lemmas.Bool.{lt-ltb, cond-true, eqb-false}
-use Rattle.muck_world.specs.World.{queue_of}
-use Rattle.muck_world.specs.Histories.{now}
+use Rattle.muck_event.specs.World.{queue_of}
+use Rattle.muck_event.specs.Histories.{now}
 use Rattle.muck_machine.proofs.Keepings.{keeps_entry, dead_seen, state_seen, reads_alive, alive_if_bytes, bytes_there, entered_seen}
 use Rattle.muck_machine.proofs.world.World.take.Goals as goal
 use Rattle.muck_machine.proofs.world.World.take.Goals.{Joined-this}

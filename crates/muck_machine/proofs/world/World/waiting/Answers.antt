@@ -1,7 +1,7 @@
 use Rattle.muck_machine.proofs.Keepings.{reads}
 use Rattle.std.proofs.Common.{length}
 use Rattle.std.specs.Option.{option_map_or}
-use Rattle.muck_world.specs.World.{connection}
+use Rattle.muck_event.specs.World.{connection}
 use Rattle.muck_machine.proofs.world.World.waiting.Goals as goal
 
 pub returns : goal.returns

@@ -1,0 +1,191 @@
+// Making, editing, listing and running programs.
+ghost use Rattle.std.specs.Prelude.{◌≡◌, ◌≤◌, IfOk, length};
+ghost use Rattle.muck_live.specs.Lives.{tell};
+ghost use Rattle.muck_rights.specs.declared.act.Act.{Act};
+ghost use Rattle.muck_world.specs.Replies.{entering_editor};
+ghost use Rattle.muck_world.specs.Programming.{source_of, program_new, program_made, editor_entered, program_edited, source_shown, program_listed, program_called, program_run};
+ghost use Rattle.muck_perm.specs.Guards.{Did, IsLeave, world_of};
+ghost use Rattle.cmd_parts.specs.Plays.{Plays};
+ghost use Rattle.cmd_build.specs.Entering.{IsEntered};
+
+use crate::making::{number_of, show_created};
+use crate::names::{bad_name, is_name};
+use cmd_parts::{cant_be_done, copy_lines, find_program, refuse, show_lines};
+use muck_live::DbFault;
+use muck_model::{Dbref, Line, LineList, NoMemory};
+use muck_perm::{Guard, Pass, verdict};
+use muck_rights::Act;
+use muck_world::Outcome;
+
+// Tells the connection that an editor is opened.
+#[tactic(auto, unfolding(muck_world::specs::Replies::entering_editor))]
+fn tell_entering(guard: &mut Guard, d: u32) -> Result<(), NoMemory>
+    ensures { Did (tell d entering_editor) guard.old guard.new result }
+{
+    guard.tell(d, b"Entering editor.")?;
+    Ok(())
+}
+
+// Tells the connection what came of making a program, whose editor is to be opened.
+#[tactic(auto, unfolding(muck_world::specs::Going::ended, muck_live::specs::Lives::followed))]
+fn enter_made(guard: &mut Guard, d: u32, made: Result<Dbref, DbFault>) -> Result<Outcome, NoMemory>
+    ensures { IsEntered d made guard.old guard.new result }
+{
+    match made {
+        Ok(x) => {
+            show_created(guard, d, number_of(x))?;
+            tell_entering(guard, d)?;
+            Ok(Outcome::Edit(x))
+        }
+        Err(DbFault::NoMemory) => Err(NoMemory),
+        Err(_) => {
+            cant_be_done(guard, d)?;
+            Ok(Outcome::Done)
+        }
+    }
+}
+
+// Makes a program that the player carries, where the world allows it.
+fn make_program(guard: &mut Guard, d: u32, pass: Pass, name: Line) -> Result<Outcome, NoMemory>
+    requires leave { IsLeave pass Act.NewProgram guard.old }
+    requires some { 1 ≤ length name }
+    requires short { length name ≤ 80 }
+    ensures { Plays (program_new d guard.old.actor name) guard.old guard.new result }
+{
+    let player = guard.actor().player;
+    let made = guard.create_program(pass, name, player);
+    enter_made(guard, d, made)
+}
+
+/// `@program`: makes a program that the player carries, and whose editor is to be opened.
+#[tactic(auto, unfolding(muck_world::specs::Programming::program_made, muck_world::specs::Going::ended, muck_live::specs::Lives::either, muck_rights::specs::Asking::asked))]
+pub fn program(guard: &mut Guard, d: u32, name: &Line) -> Result<Outcome, NoMemory>
+    ensures { Plays (program_made d guard.old.actor name.now) guard.old guard.new result }
+{
+    if !is_name(name.as_slice()) {
+        bad_name(guard, d)?;
+        return Ok(Outcome::Done);
+    }
+    let name = name.copy(guard.alloc())?;
+    let actor = guard.actor();
+    let act = Act::NewProgram;
+    match verdict(guard.db(), &actor, &act) {
+        Err(denial) => {
+            refuse(guard, d, denial)?;
+            Ok(Outcome::Done)
+        }
+        Ok(pass) => make_program(guard, d, pass, name),
+    }
+}
+
+// The editor of a program is to be opened, where no rule denies it.
+#[tactic(auto, unfolding(muck_world::specs::Programming::editor_entered, muck_world::specs::Going::ended, muck_rights::specs::Asking::asked))]
+fn enter(guard: &mut Guard, d: u32, x: Dbref) -> Result<Outcome, NoMemory>
+    ensures { Plays (editor_entered d guard.old.actor x) guard.old guard.new result }
+{
+    let actor = guard.actor();
+    let act = Act::Edit { program: x };
+    match verdict(guard.db(), &actor, &act) {
+        Err(denial) => {
+            refuse(guard, d, denial)?;
+            Ok(Outcome::Done)
+        }
+        Ok(_) => {
+            tell_entering(guard, d)?;
+            Ok(Outcome::Edit(x))
+        }
+    }
+}
+
+/// `@edit`: the editor of the program of a name is to be opened.
+#[tactic(auto, unfolding(muck_world::specs::Programming::program_edited))]
+pub fn edit(guard: &mut Guard, d: u32, name: &Line) -> Result<Outcome, NoMemory>
+    ensures { Plays (program_edited d guard.old.actor name.now) guard.old guard.new result }
+{
+    let Some(x) = find_program(guard, d, name)? else {
+        return Ok(Outcome::Done);
+    };
+    enter(guard, d, x)
+}
+
+// A copy of the source of a program.
+fn source(guard: &Guard, pass: Pass, x: Dbref) -> Result<LineList, NoMemory>
+    requires { IsLeave pass (Act.Change x) guard.now }
+    ensures { IfOk result (λ lines. lines ≡ source_of x (world_of guard.now)) }
+{
+    match guard.lines(pass, x) {
+        Some(lines) => copy_lines(guard.alloc(), lines),
+        None => LineList::new(guard.alloc()),
+    }
+}
+
+// Shows the source of a program, where no rule denies it.
+#[tactic(auto, unfolding(muck_world::specs::Programming::source_shown, muck_world::specs::Going::ended, muck_live::specs::Lives::reading, muck_rights::specs::Asking::asked))]
+fn show_source(guard: &mut Guard, d: u32, x: Dbref) -> Result<Outcome, NoMemory>
+    ensures { Plays (source_shown d guard.old.actor x) guard.old guard.new result }
+{
+    let actor = guard.actor();
+    let act = Act::Change { object: x };
+    match verdict(guard.db(), &actor, &act) {
+        Err(denial) => {
+            refuse(guard, d, denial)?;
+            Ok(Outcome::Done)
+        }
+        Ok(pass) => {
+            let lines = source(guard, pass, x)?;
+            show_lines(guard, d, lines.as_slice())?;
+            Ok(Outcome::Done)
+        }
+    }
+}
+
+/// `@list`: shows the source of the program of a name.
+#[tactic(auto, unfolding(muck_world::specs::Programming::program_listed))]
+pub fn list(guard: &mut Guard, d: u32, name: &Line) -> Result<Outcome, NoMemory>
+    ensures { Plays (program_listed d guard.old.actor name.now) guard.old guard.new result }
+{
+    let Some(x) = find_program(guard, d, name)? else {
+        return Ok(Outcome::Done);
+    };
+    show_source(guard, d, x)
+}
+
+// A program is to be started by a line, where no rule denies it.
+#[tactic(auto, unfolding(muck_world::specs::Programming::program_called, muck_world::specs::Going::ended, muck_live::specs::Lives::unchanged, muck_rights::specs::Asking::asked))]
+fn call(guard: &mut Guard, d: u32, line: &Line, text: &Line, x: Dbref) -> Result<Outcome, NoMemory>
+    ensures { Plays (program_called d guard.old.actor line.now text.now x) guard.old guard.new result }
+{
+    let command = line.copy(guard.alloc())?;
+    let arg = text.copy(guard.alloc())?;
+    let actor = guard.actor();
+    let act = Act::Call { program: x };
+    match verdict(guard.db(), &actor, &act) {
+        Err(denial) => {
+            refuse(guard, d, denial)?;
+            Ok(Outcome::Done)
+        }
+        Ok(_) => Ok(Outcome::Start {
+            program: x,
+            trigger: x,
+            command,
+            arg,
+        }),
+    }
+}
+
+/// `@run`: the program of a name is to be started by a line, with a text on its stack.
+#[tactic(auto, unfolding(muck_world::specs::Programming::program_run))]
+pub fn start(
+    guard: &mut Guard,
+    d: u32,
+    line: &Line,
+    name: &Line,
+    text: &Line,
+) -> Result<Outcome, NoMemory>
+    ensures { Plays (program_run d guard.old.actor line.now name.now text.now) guard.old guard.new result }
+{
+    let Some(x) = find_program(guard, d, name)? else {
+        return Ok(Outcome::Done);
+    };
+    call(guard, d, line, text, x)
+}

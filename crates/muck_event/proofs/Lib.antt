@@ -1,0 +1,8 @@
+pub mod Quietly
+pub mod Told
+pub mod Done
+pub mod Living
+pub mod Reached
+pub mod Runs
+pub mod Turns
+pub mod Claims

@@ -1,0 +1,9 @@
+pub mod World
+pub mod Following
+pub mod Slices
+pub mod Starting
+pub mod Lines
+pub mod Steps
+pub mod Licences
+pub mod Histories
+pub mod Sound

@@ -1,0 +1,8 @@
+//! What the world is and what happens in it, as definitions: `specs/` holds the record of the world with its programs and
+//! processes, which entries are lawful and what each does, and whole histories; `proofs/` holds the laws about them. The
+//! code here is two small types that those definitions speak of.
+#![tactic(auto)]
+
+mod starting;
+
+pub use starting::{Agent, Call};

@@ -1,0 +1,26 @@
+// For whom a program runs.
+use muck_model::{Dbref, Line};
+
+/// By whom and by what a program is started, with its command and what it finds on its stack.
+#[derive(Drop)]
+pub struct Call {
+    /// The player for whom it runs.
+    pub player: Dbref,
+    /// The program.
+    pub program: Dbref,
+    /// What started it: the program itself, or an exit that leads to it.
+    pub trigger: Dbref,
+    /// The line that did.
+    pub command: Line,
+    /// What the program finds on its stack.
+    pub argument: Line,
+}
+
+/// For whom a process acts.
+#[derive(Clone, Copy, Debug, PartialEq, Eq)]
+pub struct Agent {
+    /// Its player.
+    pub player: Dbref,
+    /// What started it; `#-1` where that is gone.
+    pub trigger: Dbref,
+}

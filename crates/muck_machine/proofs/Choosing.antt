@@ -1,0 +1,14 @@
+-- A process that was claimed may run.
+use Rattle.std.proofs.Common.{◌≡◌, ℕ, true, List, [], ◌∷◌, Some, ◌∙◌, ap}
+use Rattle.std.specs.Prelude.{ℤ}
+use Rattle.muck_model.specs.declared.event.Event.TheVariants.{Claim, Slice}
+use Rattle.muck_event.specs.Steps.{is_lawful, next_process}
+use Rattle.muck_event.specs.Histories.{History, now, entered}
+use Rattle.muck_event.proofs.Claims.{chosen_lawful}
+use Rattle.muck_event.proofs.Runs.{now-extended}
+
+pub claimed_may_run : (h : History) (party : ℕ) (pid : ℤ) → next_process (now h) ≡ Some pid →
+    is_lawful (now (entered h (record { party = party; event = Claim pid }))) (record { party = party; event = Slice pid }) ≡ true
+claimed_may_run h party pid e =
+    ap (λ w. is_lawful w (record { party = party; event = Slice pid })) (now-extended h (record { party = party; event = Claim pid } ∷ []))
+    ∙ chosen_lawful (now h) party pid e

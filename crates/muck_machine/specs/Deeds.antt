@@ -1,0 +1,98 @@
+-- What the code of slices and of shared primitives answers, by what the definitions say.
+use Rattle.std.specs.Prelude.{◌≡◌, ℕ, ◌<◌, ◌≤◌, ℤ, List, [], ◌∷◌, drop, length, slice_get, Option, Some, None, Result, Ok, Err}
+use Rattle.std.specs.Option.{option_map}
+use Rattle.muck_model.specs.declared.dbref.Denial.{Denial}
+use Rattle.muf_model.specs.declared.fault.MufFault.{MufFault}
+use Rattle.muf_model.specs.declared.fault.MufFault.TheVariants.{Denied}
+use Rattle.muf_model.specs.declared.prims.Primitive.{Primitive as Name}
+use Rattle.muf_model.specs.Datum.{Datum, text, object}
+use Rattle.muf_model.specs.Decode.{tree_of}
+use Rattle.muf_model.specs.Stands.{TreeStands}
+use Rattle.muf_model.specs.Tree.{Definition}
+use Rattle.muf_model.specs.Source.{Source, calls_of, entered}
+use Rattle.muf_model.specs.Unit.{calls_most, Outcome, goes, ended, faulted, asks, fault}
+use Rattle.muf_model.specs.Chains.{Deed, does, fails, Finish, over, broke, chain}
+use Rattle.muf_process.specs.Fitting.{program_with}
+use Rattle.muck_event.specs.World.{World}
+use Rattle.muck_event.specs.Slices.{behind}
+use Rattle.muck_machine.specs.declared.state.slices.Ending.{Ending}
+use Rattle.muck_machine.specs.declared.state.slices.Ending.TheVariants.{Over, Broke}
+use Rattle.muck_machine.specs.declared.state.slices.Stop.{Stop}
+use Rattle.muck_machine.specs.declared.state.slices.Stop.TheVariants.{On, Over as Ends}
+use Rattle.muck_machine.specs.declared.state.deeds.Done.{Done}
+use Rattle.muck_machine.specs.declared.state.deeds.Done.TheVariants.{Does as DoneDoes, Fails as DoneFails}
+use Rattle.muck_machine.specs.declared.state.deeds.DeedFault.{DeedFault}
+use Rattle.muck_machine.specs.declared.state.deeds.DeedFault.TheVariants.{Fault, NoMemory}
+use Rattle.muck_machine.specs.declared.state.deeds.Entrance.{Entrance}
+
+abbrev pub finish_of : Ending → Finish
+finish_of Over = over
+finish_of (Broke program f) = broke program.0 f
+
+-- a stint of a process that has n units: it goes on with fewer, or has ended
+abbrev pub Stops : (Name → Source → World → Deed World) → ℕ → Source → World → World → Stop → Type 0
+Stops deed n s w v (On t left) = (left < n) × (chain deed n s w ≡ chain deed left t v)
+Stops deed n s w v (Ends ending) = chain deed n s w ≡ (v, finish_of ending)
+
+-- the process goes on where a fault was caught, or has ended by it
+abbrev pub StopsRaised : MufFault → Source → ℕ → Stop → Type 0
+StopsRaised f s left (On t l) = (l ≡ left) × ((k : ℕ) × (fault f s ≡ goes k t))
+StopsRaised f s left (Ends ending) = (fault f s ≡ faulted f) × (finish_of ending ≡ broke s.program.number f)
+
+-- the process goes on behind a shared primitive, or after its fault
+abbrev pub StopsAfter : Done → ℕ → Stop → Type 0
+StopsAfter (DoneDoes s) left (On t l) = (l ≡ left) × (t ≡ s)
+StopsAfter (DoneDoes s) left (Ends ending) = ⊥
+StopsAfter (DoneFails s f) left stop = StopsRaised f s left stop
+
+-- a shared primitive was done or refused, where the process stood at s
+abbrev pub DoneAs : Deed World → Source → World → Done → Type 0
+DoneAs deed s w (DoneDoes t) = deed ≡ does t w
+DoneAs deed s w (DoneFails t f) = (t ≡ s) × (deed ≡ fails f w)
+
+-- it leads to the state t, or is refused
+abbrev pub Does : Deed World → Source → World → Result (Unit {0}) DeedFault → Type 0
+Does deed t w (Ok x) = deed ≡ does t w
+Does deed t w (Err (Fault f)) = deed ≡ fails f w
+Does deed t w (Err NoMemory) = Unit {0}
+
+-- the state in which a word is entered from the one at CALL
+abbrev pub target : Entrance → Source → Option Source
+target e s =
+    option_map (λ d. entered (program_with e.program e.code) d (behind (drop e.items s.stack) s)) (slice_get (tree_of e.code).words e.word)
+
+-- it may be entered from there
+pub record MayEnter (e : Entrance) (s : Source) : Type 0 where
+  pub items : e.items ≤ length s.stack
+  pub stands : TreeStands e.code (tree_of e.code)
+  pub word : e.word < length e.code.words
+  pub room : calls_of s.marks < calls_most
+
+-- a word is to be entered, or is refused
+abbrev pub Enters : Deed World → Source → World → Result Entrance DeedFault → Type 0
+Enters deed s w (Ok e) = MayEnter e s × ((t : Source) → target e s ≡ Some t → deed ≡ does t w)
+Enters deed s w (Err (Fault f)) = deed ≡ fails f w
+Enters deed s w (Err NoMemory) = Unit {0}
+
+-- leave, or the fault of the rule that denies it
+abbrev pub Permits : Option Denial → Result (Unit {0}) MufFault → Type 0
+Permits None (Ok x) = Unit {0}
+Permits (Some denial) (Err f) = f ≡ Denied denial.rule
+Permits None (Err f) = ⊥
+Permits (Some denial) (Ok x) = ⊥
+
+-- what NOTIFY finds on the stack: a player below a text
+abbrev pub told_of : List Datum → Option (ℤ × List ℕ)
+told_of (text t ∷ object d ∷ rest) = Some (d, t)
+told_of items = None
+
+-- what CALL finds there, and how many items that is: a program, below the name of a word where there is one
+abbrev pub asked_of : List Datum → Option (ℤ × (Option (List ℕ) × ℕ))
+asked_of (text t ∷ object d ∷ rest) = Some (d, (Some t, 2))
+asked_of (object d ∷ rest) = Some (d, (None, 1))
+asked_of items = None
+
+-- the word of this number is that one
+abbrev pub IsWord : List Definition → Option Definition → Option ℕ → Type 0
+IsWord ds d None = d ≡ None
+IsWord ds d (Some n) = (n < length ds) × (d ≡ slice_get ds n)

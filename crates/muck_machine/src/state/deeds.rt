@@ -1,0 +1,339 @@
+// What shared primitives do.
+ghost use Rattle.std.specs.Prelude.{◌≡◌, ◌≤◌, ◌<◌, ◌&&◌, drop, length, true, false, is_some, IfOk, OnOk, Some, MatchResult};
+ghost use Rattle.std.specs.List.{position};
+ghost use Rattle.std.specs.Option.{option_map, option_map_or, option_copied};
+ghost use Rattle.std.specs.Str.{bytes_eq};
+ghost use Rattle.std.specs.Char.{to_ascii_lowercase};
+ghost use Rattle.muck_live.specs.Objects.{object_at, is_program};
+ghost use Rattle.muck_rights.specs.Verdict.{verdict};
+ghost use Rattle.muf_model.specs.Decode.{tree_of};
+ghost use Rattle.muf_model.specs.Source.{last_word};
+ghost use Rattle.muf_process.specs.Fitting.{IsAtPrimitive};
+ghost use Rattle.muck_program.specs.Library.{formed};
+ghost use Rattle.muck_event.specs.Slices.{acting, behind, call_count, called, called_word, deed, form_called, is_offered, notified};
+ghost use Rattle.muck_event.specs.declared.starting.Agent.{Agent};
+ghost use Rattle.muck_machine.specs.Deeds.{asked_of, told_of, target, Does, DoneAs, Enters, IsWord, MayEnter, Permits};
+
+use crate::state::State;
+use muck_event::Agent;
+use muck_model::{Dbref, Kind, Line, NoMemory};
+use muck_perm::{MASTER, level, user, verdict};
+use muck_rights::{Act, Actor};
+use muf_model::{CALLS_MOST, Code, CodeWord, MufFault, Offer, Prim, Shared};
+use muf_process::Running;
+use std::alloc::Global;
+
+/// What a shared primitive made of the process at it: it was done, and the process is behind it; or it was refused, and
+/// the process is still there.
+#[derive(Drop)]
+pub enum Done {
+    Does(Running),
+    Fails(Running, MufFault),
+}
+
+/// Why a shared primitive isn't done.
+#[derive(Drop)]
+pub enum DeedFault {
+    /// The program may not, or with other items.
+    Fault(MufFault),
+    /// Memory was wanted.
+    NoMemory,
+}
+
+impl From<MufFault> for DeedFault {
+    ghost use Rattle.std.specs.Prelude.{◌≡◌};
+    ghost use Rattle.muck_machine.specs.declared.state.deeds.DeedFault.TheVariants.{Fault};
+
+    ghost from_gives = { λ fault e. e ≡ Fault fault };
+
+    fn from(fault: MufFault) -> Self {
+        DeedFault::Fault(fault)
+    }
+}
+
+impl From<NoMemory> for DeedFault {
+    ghost use Rattle.std.specs.Prelude.{◌≡◌};
+    ghost use Rattle.muck_machine.specs.declared.state.deeds.DeedFault.TheVariants.{NoMemory};
+
+    ghost from_gives = { λ _ e. e ≡ NoMemory };
+
+    fn from(_: NoMemory) -> Self {
+        DeedFault::NoMemory
+    }
+}
+
+// What CALL finds on the stack: a program, the name of a word where there is one, and how many items that is.
+#[derive(Drop)]
+struct Request<'a> {
+    program: Dbref,
+    name: Option<&'a Line>,
+    items: usize,
+}
+
+// A word that is to be entered, by its number among the words of its program.
+#[derive(Drop)]
+struct Entrance {
+    program: Dbref,
+    code: Shared<Code>,
+    word: usize,
+    items: usize,
+}
+
+impl State {
+    /// Does the shared primitive that comes next in a process.
+    #[tactic(auto, unfolding(muck_event::specs::Slices::deed), using(crate::proofs::Deeds::other_deed))]
+    pub fn do_deed(&mut self, agent: Agent, prim: Prim, running: Running) -> Result<Done, NoMemory>
+        requires { IsAtPrimitive running.now }
+        ensures { IfOk result (λ done. DoneAs (deed agent prim running self.old) running self.new done) }
+    {
+        match prim {
+            Prim::Notify => self.do_notify(agent, running),
+            Prim::Call => self.do_call(agent, running),
+            _ => Ok(Done::Fails(running, MufFault::NotCompiled)),
+        }
+    }
+
+    fn do_notify(&mut self, agent: Agent, running: Running) -> Result<Done, NoMemory>
+        requires { IsAtPrimitive running.now }
+        ensures { IfOk result (λ done. DoneAs (notified agent running self.old) running self.new done) }
+    {
+        match self.notify(agent, &running) {
+            Ok(()) => Ok(Done::Does(behind(running, 2))),
+            Err(DeedFault::Fault(fault)) => Ok(Done::Fails(running, fault)),
+            Err(DeedFault::NoMemory) => Err(NoMemory),
+        }
+    }
+
+    fn do_call(&mut self, agent: Agent, running: Running) -> Result<Done, NoMemory>
+        requires { IsAtPrimitive running.now }
+        ensures { IfOk result (λ done. DoneAs (called agent running self.old) running self.new done) }
+    {
+        match self.call(agent, &running) {
+            Ok(entrance) => {
+                let next = enter(self.alloc, running, entrance)?;
+                Ok(Done::Does(next))
+            }
+            Err(DeedFault::Fault(fault)) => Ok(Done::Fails(running, fault)),
+            Err(DeedFault::NoMemory) => Err(NoMemory),
+        }
+    }
+
+    // NOTIFY: a text goes to all connections of a player.
+    #[tactic(auto, unfolding(muck_event::specs::Slices::notified, muck_event::specs::Slices::needing, muck_event::specs::Slices::permitted, muck_event::specs::Slices::existing, muck_live::specs::Lives::tell_player))]
+    fn notify(&mut self, agent: Agent, running: &Running) -> Result<(), DeedFault>
+        ensures done { Does (notified agent running.now self.old) (behind (drop 2 running.now.stack) running.now) self.new result }
+        ensures items { OnOk result (2 ≤ length running.now.stack) }
+    {
+        running.need(2)?;
+        let actor = self.actor(agent, running)?;
+        self.permit(&actor, &Act::Shared { level: 1 })?;
+        let Some((player, text)) = told(running) else {
+            return Err(DeedFault::Fault(MufFault::BadType));
+        };
+        self.find(player)?;
+        self.permit(&actor, &Act::Near { object: player })?;
+        self.board.tell_player(player, text.as_slice())?;
+        Ok(())
+    }
+
+    // CALL: a word of a program is to be entered.
+    #[tactic(auto, unfolding(muck_event::specs::Slices::called, muck_event::specs::Slices::needing, muck_event::specs::Slices::permitted, muck_event::specs::Slices::existing, muck_event::specs::Slices::programmed, muck_event::specs::Slices::program_called))]
+    fn call(&mut self, agent: Agent, running: &Running) -> Result<Entrance, DeedFault>
+        ensures { Enters (called agent running.now self.old) running.now self.new result }
+    {
+        running.need(1)?;
+        running.need(call_count(running))?;
+        let actor = self.actor(agent, running)?;
+        self.permit(&actor, &Act::Shared { level: 1 })?;
+        let Some(asked) = asked(running) else {
+            return Err(DeedFault::Fault(MufFault::BadType));
+        };
+        let program = asked.program;
+        self.find(program)?;
+        self.find_program(program)?;
+        self.permit(&actor, &Act::Call { program })?;
+        self.find_entrance(&actor, running, asked)
+    }
+
+    // The word that is asked for, in the built form of its program, which is made where it isn't there yet.
+    fn find_entrance(
+        &mut self,
+        actor: &Actor,
+        running: &Running,
+        asked: Request<'_>,
+    ) -> Result<Entrance, DeedFault>
+        requires { asked.items ≤ length running.now.stack }
+        ensures { (x : Agent) → acting x running.now self.old.live.objects ≡ actor.now → Enters (form_called x running.now (behind (drop asked.entry.items running.now.stack) running.now) asked.entry.program.0 (option_copied asked.entry.name) (formed self.old.live.objects asked.entry.program self.old.library) self.old) running.now self.new result }
+    {
+        let Request {
+            program,
+            name,
+            items,
+        } = asked;
+        let Some(code) = self.library.formed(self.alloc, &self.db, program)? else {
+            return Err(DeedFault::Fault(MufFault::NotCompiled));
+        };
+        let Some(word) = called_word(self.alloc, code.get(), name, actor)? else {
+            return Err(DeedFault::Fault(MufFault::NotPublic));
+        };
+        if running.calls() + 1 >= CALLS_MOST {
+            return Err(DeedFault::Fault(MufFault::CallsFull));
+        }
+        Ok(Entrance {
+            program,
+            code,
+            word,
+            items,
+        })
+    }
+
+    // The running program acts by its level and its user, for the player of the process.
+    #[tactic(auto, using(crate::proofs::Deeds::callers_numbered))]
+    fn actor(&self, agent: Agent, running: &Running) -> Result<Actor, NoMemory>
+        ensures { IfOk result (λ a. a ≡ acting agent running.now self.now.live.objects) }
+    {
+        let Agent { player, trigger } = agent;
+        let program = running.program();
+        let callers = running.callers(self.alloc)?;
+        Ok(Actor {
+            level: level(&self.db, program, callers.as_slice()),
+            user: user(&self.db, player, trigger, program, callers.as_slice()),
+            player,
+        })
+    }
+
+    // Leave for an act.
+    fn permit(&self, actor: &Actor, act: &Act) -> Result<(), MufFault>
+        ensures { Permits (verdict self.now.live.objects actor.now act.now) result }
+    {
+        match verdict(&self.db, actor, act) {
+            Ok(_) => Ok(()),
+            Err(denial) => Err(MufFault::Denied(denial.rule)),
+        }
+    }
+
+    // An object that is there.
+    fn find(&self, d: Dbref) -> Result<(), MufFault>
+        ensures { MatchResult result (λ _. is_some (object_at d self.now.live.objects) ≡ true) (λ f. (is_some (object_at d self.now.live.objects) ≡ false) × (f ≡ MufFault.NoSuchObject)) }
+    {
+        match self.db.get(d) {
+            Some(_) => Ok(()),
+            None => Err(MufFault::NoSuchObject),
+        }
+    }
+
+    // A program.
+    fn find_program(&self, d: Dbref) -> Result<(), MufFault>
+        ensures { MatchResult result (λ _. option_map_or (λ o. is_program o.kind) (object_at d self.now.live.objects) false ≡ true) (λ f. (option_map_or (λ o. is_program o.kind) (object_at d self.now.live.objects) false ≡ false) × (f ≡ MufFault.BadType)) }
+    {
+        match self.db.get(d) {
+            Some(object) if matches!(object.kind(), Kind::Program) => Ok(()),
+            _ => Err(MufFault::BadType),
+        }
+    }
+}
+
+// The player and the text that NOTIFY finds on the stack.
+fn told(running: &Running) -> Option<(Dbref, &Line)>
+    ensures { option_map (λ p. (p.0.0, p.1.now)) result ≡ told_of running.now.stack }
+{
+    let text = running.text_at(0)?;
+    let player = running.object_at(1)?;
+    Some((player, text))
+}
+
+// How many items CALL takes.
+fn call_count(running: &Running) -> usize
+    ensures { result ≡ call_count running.now.stack }
+{
+    match running.text_at(0) {
+        Some(_) => 2,
+        None => 1,
+    }
+}
+
+// What CALL finds on the stack.
+fn asked(running: &Running) -> Option<Request<'_>>
+    ensures { option_map (λ a. (a.program.0, (option_copied a.name, a.items))) result ≡ asked_of running.now.stack }
+{
+    match running.text_at(0) {
+        Some(name) => {
+            let program = running.object_at(1)?;
+            Some(Request {
+                program,
+                name: Some(name),
+                items: 2,
+            })
+        }
+        None => {
+            let program = running.object_at(0)?;
+            Some(Request {
+                program,
+                name: None,
+                items: 1,
+            })
+        }
+    }
+}
+
+// The number of the word that is called: of the last one, or of the first one of a name that is offered to the actor.
+fn called_word(
+    alloc: Global,
+    code: &Code,
+    name: Option<&Line>,
+    actor: &Actor,
+) -> Result<Option<usize>, NoMemory>
+    ensures { IfOk result (λ at. IsWord (tree_of code.now).words (called_word actor.now (option_copied name.entry) (tree_of code.now)) at) }
+{
+    let words = code.words.as_slice();
+    let Some(name) = name else {
+        return Ok(words.len().checked_sub(1));
+    };
+    let lower = name.as_slice().to_ascii_lowercase(alloc)?;
+    Ok(word_named(words, lower.as_slice(), actor))
+}
+
+// The place of the first word of that name that is offered to the actor.
+fn word_named(words: &[CodeWord], name: &[u8], actor: &Actor) -> Option<usize>
+    ensures { result ≡ position (λ w. bytes_eq w.name name.now && is_offered actor.now w.offer) words.now }
+{
+    words.iter().position(|w| w.name.as_slice() == name && is_offered(actor, w.offer))
+}
+
+// Whether a word is offered to an actor.
+fn is_offered(actor: &Actor, offer: Offer) -> bool
+    ensures { result ≡ is_offered actor.now offer }
+{
+    match offer {
+        Offer::Nobody => false,
+        Offer::Wizards => actor.level >= MASTER,
+        Offer::All => true,
+    }
+}
+
+// The process behind a primitive that took so many items.
+fn behind(running: Running, items: usize) -> Running
+    requires at { IsAtPrimitive running.now }
+    requires items { items ≤ length running.stack }
+    ensures { result ≡ behind (drop items running.stack) running }
+{
+    let mut next = running;
+    next.drop_items(items);
+    next.pass();
+    next
+}
+
+// A word is entered from the state behind CALL.
+fn enter(alloc: Global, running: Running, entrance: Entrance) -> Result<Running, NoMemory>
+    requires at { IsAtPrimitive running.now }
+    requires may { MayEnter entrance running }
+    ensures { IfOk result (λ r. target entrance running ≡ Some r) }
+{
+    let Entrance {
+        program,
+        code,
+        word,
+        items,
+    } = entrance;
+    behind(running, items).call(alloc, program, code, word)
+}

@@ -1,0 +1,37 @@
+use Rattle.std.proofs.Common.{◌≡◌, Bool, sym, ◌∙◌, ap, subst, Option, None, IfOk, OnErr}
+use Rattle.std.specs.Prelude.{is_some}
+use Rattle.muck_event.specs.Steps.{next_ready, next_process}
+use Rattle.muck_event.specs.Histories.{History, now, extended}
+use Rattle.muck_script.specs.Story.{Turn, next_turn}
+use Rattle.muck_script.specs.Settling.{entries_of, slice_of, DiedDuring}
+use Rattle.muck_script.proofs.Taking.{line_first, line_taken, line_dies, some_next, process_next, on_error}
+use Rattle.muck_script.proofs.turns.take_turn.Goals as goal
+
+pub returns-in-Some-clause-some : goal.returns-in-Some-clause-some
+returns-in-Some-clause-some c = sym (ap is_some (line_first _ _ (sym c.in_ok-exec.ensures.found ∙ c.in-Some.is)))
+
+pub returns-in-Some-clause-world : goal.returns-in-Some-clause-world
+returns-in-Some-clause-world c = line_taken _ _ _ (sym c.in_ok-exec.ensures.found ∙ c.in-Some.is) (rw c.in-Some.is at c.in_ok-exec.ensures.step)
+
+pub returns-in-None-clause-some : goal.returns-in-None-clause-some
+returns-in-None-clause-some c =
+    let same : c.exec.new.self ≡ c.args.world.now = rw c.in-None.is at c.in_ok-exec.ensures.step in
+    let ready : next_ready (now c.args.world.now) ≡ None = sym c.in_ok-exec.ensures.found ∙ c.in-None.is in
+    let P : Bool → Type 0 = λ b. IfOk c.slice_next.result (λ yes. yes ≡ b) in
+    subst P (ap (λ (h : History). is_some (next_process (now h))) same ∙ some_next (now c.args.world.now) ready) c.slice_next.ensures.some
+
+pub returns-in-None-clause-world : goal.returns-in-None-clause-world
+returns-in-None-clause-world c =
+    let same : c.exec.new.self ≡ c.args.world.now = rw c.in-None.is at c.in_ok-exec.ensures.step in
+    let ready : next_ready (now c.args.world.now) ≡ None = sym c.in_ok-exec.ensures.found ∙ c.in-None.is in
+    let P : History → Type 0 = λ x. IfOk c.slice_next.result (λ _. c.slice_next.new.world ≡ extended x (entries_of (slice_of (next_process (now x))))) in
+    let Q : Option Turn → Type 0 = λ o. IfOk c.slice_next.result (λ _. c.slice_next.new.world ≡ extended c.args.world.now (entries_of o)) in
+    subst Q (process_next (now c.args.world.now) ready) (subst P same c.slice_next.ensures.world)
+
+pub returns-in-None-clause-died : goal.returns-in-None-clause-died
+returns-in-None-clause-died c =
+    let same : c.exec.new.self ≡ c.args.world.now = rw c.in-None.is at c.in_ok-exec.ensures.step in
+    let ready : next_ready (now c.args.world.now) ≡ None = sym c.in_ok-exec.ensures.found ∙ c.in-None.is in
+    let P : History → Type 0 = λ x. OnErr c.slice_next.result (DiedDuring (entries_of (slice_of (next_process (now x)))) x c.slice_next.new.world) in
+    let Q : Option Turn → Type 0 = λ o. OnErr c.slice_next.result (DiedDuring (entries_of o) c.args.world.now c.slice_next.new.world) in
+    subst Q (process_next (now c.args.world.now) ready) (subst P same c.slice_next.ensures.died)
