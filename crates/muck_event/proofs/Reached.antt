@@ -186,7 +186,7 @@ pub take_lawful : (w : World) (d : ℕ) → IsSound w → 0 < length (queue_of d
 unfolding is_lawful
 take_lawful w d h some = cond-false _ _ _ h.alive ∙ holds_all (connection d w) some
 
-leaving_some : (o : Option Connection) → option_map_or (λ c. c.leaving) o false ≡ true → is_some o ≡ true
+pub leaving_some : (o : Option Connection) → option_map_or (λ c. c.leaving) o false ≡ true → is_some o ≡ true
 leaving_some None e = e
 leaving_some (Some c) e = refl
 

@@ -1,4 +1,4 @@
--- Worlds that can be reached.
+-- What the laws of histories keep of a world.
 use Rattle.std.specs.Prelude.{◌≡◌, false}
 use Rattle.muck_world.specs.Rising.{IsRising}
 use Rattle.muck_event.specs.World.{World}

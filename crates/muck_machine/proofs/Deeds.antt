@@ -62,17 +62,6 @@ call_asked x s (object o ∷ rest) w found e =
     ap (λ (q : ℤ × (Option (List ℕ) × ℕ)). program_called x s q.0 q.1.0 (drop q.1.1 (object o ∷ rest)) w) (some_is (o, (None, 1)) found e)
 call_asked x s stack w found e = absurd cc
 
-pub none_asked : (x : Agent) (s : Source) (stack : List Datum) (w : World) → asked_of stack ≡ None → call_items x s stack w ≡ fails BadType w
-none_asked x s (text t ∷ object o ∷ rest) w e = absurd cc
-none_asked x s (object o ∷ rest) w e = absurd cc
-none_asked x s stack w e = refl
-
--- as many items as CALL needs
-pub asked_count : (stack : List Datum) (found : ℤ × (Option (List ℕ) × ℕ)) → asked_of stack ≡ Some found → call_count stack ≡ found.1.1
-asked_count (text t ∷ object o ∷ rest) found e = ap (λ (q : ℤ × (Option (List ℕ) × ℕ)). q.1.1) (some_is (o, (Some t, 2)) found e)
-asked_count (object o ∷ rest) found e = ap (λ (q : ℤ × (Option (List ℕ) × ℕ)). q.1.1) (some_is (o, (None, 1)) found e)
-asked_count stack found e = absurd cc
-
 -- ---- the word that is called
 
 -- the word of this number, from i on, is that one

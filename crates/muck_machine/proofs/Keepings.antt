@@ -12,11 +12,8 @@ use Rattle.muck_queue.specs.Queues.{next_due}
 use Rattle.muck_event.specs.Steps.{is_free, happened, effect, is_died, is_lawful, is_allowed, next_ready, next_process}
 use Rattle.muck_event.specs.Histories.{History, after, now, entered}
 use Rattle.muck_event.proofs.Living.{dead-happened}
+use Rattle.muck_event.proofs.Runs.{after-append}
 use Rattle.muck_machine.specs.Keeping.{Keeps}
-
-after-append : (es fs : List Entry) (w : World) → after w (es ++ fs) ≡ after (after w es) fs
-after-append [] fs w = refl
-after-append (e ∷ es) fs w = after-append es fs (effect w e)
 
 one_more : (start : World) (entries : List Entry) (e : Entry) → after start (entries ++ e ∷ []) ≡ happened (after start entries) e.party e.event
 unfolding effect

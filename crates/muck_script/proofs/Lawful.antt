@@ -106,6 +106,3 @@ lawful_story (act ∷ acts) w h =
 -- and so is that from the starting world
 pub story_lawful : (acts : List Act) → AllLawful starting (story acts starting)
 story_lawful acts = (lawful_story acts starting sound-starting).lawful
-
-pub story_sound : (acts : List Act) → IsSound (after starting (story acts starting))
-story_sound acts = (lawful_story acts starting sound-starting).sound

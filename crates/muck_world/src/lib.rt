@@ -1,6 +1,6 @@
-//! What the world is and what happens in it, as definitions: `specs/` holds the record of the world, which events are
-//! lawful and what each does, what a line does, and whole histories; `proofs/` holds the laws about them. The code here
-//! is what those definitions need of a line of text: its words.
+//! What a line does, as definitions: `specs/` holds the login screen, the commands of players and builders and the lines
+//! of the editor, each as a change of what is live; `proofs/` holds the laws about them. The code here is what those
+//! definitions need of a line of text: its words.
 #![tactic(auto)]
 
 mod edit;

@@ -3,17 +3,15 @@ use Rattle.std.proofs.Common.{◌≡◌, ℕ, ◌<◌, ◌≤◌, Bool, true, fa
 use Rattle.std.proofs.lemmas.Bool.{lt-ltb, cond-true, cond-false}
 use Rattle.std.proofs.lemmas.List.{take-append-drop}
 use Rattle.std.specs.List.{flat_map}
-use Rattle.std.specs.Prelude.{is_some, nat_lt}
-use Rattle.std.specs.Option.{option_map_or}
 use Rattle.muck_io.specs.Sink.{Appends, AppendsFront}
 use Rattle.muck_model.specs.declared.event.Entry.{Entry}
 use Rattle.muck_model.specs.declared.event.Event.{Event}
 use Rattle.muck_model.specs.declared.event.Event.TheVariants.{Opened, Input, Closed, Take, Died}
-use Rattle.muck_live.specs.Connections.{Connection}
 use Rattle.muck_event.specs.World.{World, connection, queue_of, is_leaving}
 use Rattle.muck_event.specs.Steps.{effect, is_lawful, is_died}
 use Rattle.muck_event.specs.Histories.{History, after, now, extended, entered, by_porter}
 use Rattle.muck_event.proofs.Living.{dead-happened}
+use Rattle.muck_event.proofs.Reached.{leaving_some}
 use Rattle.muck_event.proofs.Runs.{now-extended, extended-append}
 use Rattle.muck_script.specs.Lines.{lines_of}
 use Rattle.muck_script.specs.Story.{both, if_lawful, taken, told, text_of, shown, farewell}
@@ -62,20 +60,6 @@ plays_one f h k a b event text e is other alive written app = record {
 pub no_ending : {X : Type 0} {x : X} {xs : List X} {P : Type 0} → x ∷ xs ≡ [] → P
 no_ending e = cc
 
--- memory was wanted at once, and nothing was written
-pub breaks_at_once : (f : World → List Entry) (h k : History) (o : Option (List ℕ)) → k ≡ entered h (by_porter Died) → Breaks f (by_porter Died ∷ []) h k o o
-breaks_at_once f h k o is = record {
-  front = [];
-  rest = f (now h);
-  whole = refl;
-  history = is;
-  told = [];
-  untold = [];
-  text = refl;
-  appended = appends_nothing o;
-  alive = λ e. no_ending e;
-}
-
 -- one event happened, all of the part, and then the ending; a front of its text was written
 pub breaks_after : (f : World → List Entry) (ending : List Entry) (h k : History) (a b : Option (List ℕ)) (event : Event) (text : List ℕ) → f (now h) ≡ by_porter event ∷ [] →
     k ≡ extended h (by_porter event ∷ ending) → text ≡ told (now h) event → AppendsFront a b text → (ending ≡ [] → (now k).dead ≡ false) → Breaks f ending h k a b
@@ -122,9 +106,6 @@ input_breaks d line h k o may is =
 pub taken_some : (d n : ℕ) (w : World) → n ≡ length (queue_of d w) → 0 < n → taken d w ≡ by_porter (Take d n) ∷ []
 taken_some d n w e some = cond-true _ _ _ (lt-ltb 0 (length (queue_of d w)) (omega (arith, e, some))) ∙ ap (λ k. by_porter (Take d k) ∷ []) (sym e)
 
-pub taken_none : (d n : ℕ) (w : World) → n ≡ length (queue_of d w) → n ≡ 0 → taken d w ≡ []
-taken_none d n w e none = ap (λ k. cond (nat_lt 0 k) (by_porter (Take d k) ∷ []) []) (sym e ∙ none)
-
 -- all of a queue is taken, where the buffer has room for it
 pub whole_queue : (d n size : ℕ) (w : World) → n ≡ cond w.dead 0 (min (length (queue_of d w)) size) → w.dead ≡ false → length (queue_of d w) ≤ size → n ≡ length (queue_of d w)
 whole_queue d n size w is alive room =
@@ -140,10 +121,6 @@ text_taken d n w text buf cut is = is ∙ ap (λ bytes. flat_map (shown d) (line
 pub text_parted : (d : ℕ) (w : World) (text : List ℕ) → is_leaving d w ≡ true → text ≡ farewell d → text ≡ told w (Closed d)
 unfolding told
 text_parted d w text leaving is = is ∙ sym (cond-true _ _ _ leaving)
-
-leaving_some : (o : Option Connection) → option_map_or (λ c. c.leaving) o false ≡ true → is_some o ≡ true
-leaving_some None e = e
-leaving_some (Some c) e = refl
 
 -- closing a connection that is leaving is lawful
 pub closing_may : (d : ℕ) (w : World) → w.dead ≡ false → is_leaving d w ≡ true → is_lawful w (by_porter (Closed d)) ≡ true

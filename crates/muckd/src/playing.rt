@@ -44,7 +44,7 @@ fn act(alloc: Global, world: &mut World, act: &Act) -> Result<(), RunFault>
     }
 }
 
-// Does the lines that wait; nothing is written of it.
+// Takes the turns of lines and processes; nothing is written of it.
 fn turn(world: &mut World) -> Result<(), RunFault>
     requires { (now world.old).dead ≡ false }
     ensures plays { (o : Option (List ℕ)) → PlaysOrBreaks (turns turns_most) world.old world.new o o result }
@@ -198,8 +198,9 @@ fn play_line<K: Sink>(
     }
 }
 
-/// Plays a whole script into the world: what each of its lines asks for happens, the lines that wait are done, each
-/// queue is taken and written, and behind the last line the world is halted. `buf` has room for a whole queue.
+/// Plays a whole script into the world: what each of its lines asks for happens, the lines that wait are done and the
+/// processes run, each queue is taken and written, and behind the last line the world is halted. `buf` has room for a
+/// whole queue.
 ///
 /// After `NoMemory` the world is dead, and after `WriteFault` it is as the fault left it; in both cases the world's
 /// history is a front of the script's story, with `Died` behind it after `NoMemory`.

@@ -43,16 +43,6 @@ impl State {
         None
     }
 
-    /// The process that is to go on next, where the run doesn't stop.
-    pub fn first_due(&self) -> Option<i32>
-        ensures { result ≡ (if self.now.stopping then None else next_due self.now.moment self.now.queue) }
-    {
-        if self.stopping {
-            return None;
-        }
-        self.queue.next_due(self.moment)
-    }
-
     /// The process that is to go on next is claimed by a party, where the run doesn't stop; answers its number, and where
     /// there is none nothing has changed.
     pub fn claim(&mut self, party: u8) -> Option<i32>
