@@ -1,15 +1,14 @@
 -- The process that is to go on may be claimed, and then sliced.
 use Rattle.std.proofs.Common.{◌≡◌, ℕ, ℤ, Bool, true, false, not, ◌&&◌, ◌||◌, ◌==◌, cond, List, [], ◌∷◌, refl, sym, ◌∙◌, ap, subst, arith, Option, Some, None}
-use Rattle.std.specs.Prelude.{fold, nat_lt, int_lt, nat_eq}
+use Rattle.std.specs.Prelude.{fold}
 use Rattle.std.specs.List.{filter, reduce, list_any}
-use Rattle.std.specs.Option.{option_map, option_map_or}
-use Rattle.std.specs.Ordering.{int_eq}
-use Rattle.std.proofs.lemmas.Bool.{cond-false, cond-true}
+use Rattle.std.specs.Option.{option_map}
+use Rattle.std.proofs.lemmas.Bool.{cond-false}
 use Rattle.std.proofs.lemmas.Bool.Decides.{nat_tests}
 use Rattle.std.proofs.lemmas.Cmp.{int_eq_equiv}
 use Rattle.muck_model.specs.declared.event.Event.TheVariants.{Claim, Slice}
 use Rattle.muck_queue.specs.declared.process.Process.{Process}
-use Rattle.muck_queue.specs.Queues.{Queue, has_pid, is_due, is_before, earlier, earliest, next_due, claimed_by, changed_first, with_processes, claimed}
+use Rattle.muck_queue.specs.Queues.{Queue, has_pid, is_due, is_before, earlier, earliest, next_due, claimed_by, changed_first, claimed}
 use Rattle.muck_event.specs.World.{World, on_queue}
 use Rattle.muck_event.specs.Steps.{has_process, is_claimed_by, is_lawful, effect, next_process}
 use Rattle.muck_event.specs.Sound.{IsSound}

@@ -1,17 +1,15 @@
 -- A line that is done: what it changes is open, it keeps the numbers of the connections, and the world lives on.
 use Rattle.std.proofs.Common.{◌≡◌, ℕ, Bool, true, false, cond, List, [], ◌∷◌, refl, sym, ◌∙◌, ap, subst, Option, Some, None}
-use Rattle.std.specs.Prelude.{find, ◌==◌, map}
+use Rattle.std.specs.Prelude.{find, ◌==◌}
 use Rattle.std.specs.Option.{option_and_then}
 use Rattle.muck_model.specs.declared.dbref.Dbref.{Dbref}
 use Rattle.muck_model.specs.declared.edit.EditState.{EditState}
-use Rattle.muck_live.specs.Objects.{Entry as Kept}
-use Rattle.muck_live.specs.Marks.{unmarked}
 use Rattle.muck_live.specs.Connections.{Connection, has_number, edited as edited_connection}
 use Rattle.muck_live.specs.Boards.{connection_in, player_in, leaving_one, edited_one}
-use Rattle.muck_live.specs.Lives.{Live, Change, followed, ◌▸◌, unchanged, on_board, on_objects, tell, leave}
+use Rattle.muck_live.specs.Lives.{Live, Change, followed, ◌▸◌, tell, leave}
 use Rattle.muck_rights.specs.declared.act.Actor.{Actor}
 use Rattle.muck_rights.specs.Licence.{SameTies, Licensed, nobody}
-use Rattle.muck_rights.proofs.Licences.{Quiet, Always, ties, ties_same, ties_both, quiet_followed, whole_quiet}
+use Rattle.muck_rights.proofs.Licences.{Quiet, Always, ties_same, ties_both, quiet_followed, whole_quiet}
 use Rattle.muck_rights.proofs.Leaving.{whole_leave}
 use Rattle.muck_rights.proofs.Shown.{quiet_one, quiet_tell}
 use Rattle.muck_world.specs.declared.outcome.Outcome.{Outcome}
@@ -26,13 +24,13 @@ use Rattle.muck_world.specs.Talk.{at_login, waits}
 use Rattle.muck_world.proofs.Showing.{quiet_waits}
 use Rattle.muck_world.proofs.Permitted.{waited_open}
 use Rattle.muck_world.proofs.Edited.{edited_licensed}
-use Rattle.muck_world.proofs.Numbered.{numbers, numbers-ties, numbers-same_ties, Seating, seating_quiet, seating_followed, seating_leave}
+use Rattle.muck_world.proofs.Numbered.{numbers, numbers-ties, numbers-same_ties, Seating, seating_quiet, seating_followed}
 use Rattle.muck_world.proofs.Lines.{seating_at_login}
 use Rattle.muck_event.specs.World.{World, on_live}
 use Rattle.muck_event.specs.Following.{swept, settled}
-use Rattle.muck_event.specs.Lines.{with_editor, next_editor, after_edit, edited_line, in_editor, editor_on, followed_up, in_world, command, line_done, done}
-use Rattle.muck_event.specs.Licences.{Untouched, free_for, LineLicensed, TurnLicensed}
-use Rattle.muck_event.proofs.Quietly.{Quietly, quietly_same, quietly_live, quietly_swept, quietly_launched, quietly_compiled}
+use Rattle.muck_event.specs.Lines.{with_editor, next_editor, after_edit, edited_line, in_editor, editor_on, followed_up, in_world, line_done, done}
+use Rattle.muck_event.specs.Licences.{Untouched, LineLicensed, TurnLicensed}
+use Rattle.muck_event.proofs.Quietly.{Quietly, quietly_live, quietly_swept, quietly_launched, quietly_compiled}
 use Rattle.muck_event.proofs.Told.{licensed_told, licensed_as}
 
 -- what an actor may do to a world that is one already: the changes are open, and it is as dead as before

@@ -1,14 +1,14 @@
 -- Changes of the world that leave alone what a licence speaks of.
 use Rattle.std.proofs.Common.{◌≡◌, ℕ, ℤ, Bool, true, false, cond, zero, suc, List, [], ◌∷◌, refl, ◌∙◌, Option, Some, None}
-use Rattle.std.specs.Prelude.{Result, Ok, Err, nat_lt, ltb, is_some, find}
+use Rattle.std.specs.Prelude.{Result, Ok, Err}
 use Rattle.std.specs.Option.{option_map_or}
 use Rattle.muck_model.specs.declared.dbref.Dbref.{Dbref}
 use Rattle.muck_model.specs.declared.dbref.Denial.{Denial}
 use Rattle.muck_live.specs.declared.mark.Mark.{Mark}
 use Rattle.muck_live.specs.declared.mark.Mark.TheVariants.{Lines, Gone}
-use Rattle.muck_live.specs.Objects.{Entry, dbref_of, is_program, object_at}
+use Rattle.muck_live.specs.Objects.{Entry, dbref_of}
 use Rattle.muck_live.specs.Boards.{Board, editors_closed}
-use Rattle.muck_live.specs.Lives.{Change, on_board, unchanged, tell, tell_player}
+use Rattle.muck_live.specs.Lives.{Change, tell, tell_player}
 use Rattle.muck_live.proofs.EditorLaws.{editors_closed_kept}
 use Rattle.muck_rights.specs.declared.act.Actor.{Actor}
 use Rattle.muck_rights.specs.declared.act.Act.{Act}
@@ -17,15 +17,14 @@ use Rattle.muck_rights.specs.Verdict.{verdict}
 use Rattle.muck_rights.specs.Asking.{refused}
 use Rattle.muck_rights.proofs.Licences.{Quiet, tie, ties, quiet_unchanged}
 use Rattle.muck_rights.proofs.Shown.{quiet_tell, quiet_tell_player, quiet_refused}
-use Rattle.muf_model.specs.declared.fault.MufFault.{MufFault}
 use Rattle.muf_model.specs.declared.fault.MufFault.TheVariants.{CallsFull, BadType, NoSuchObject}
 use Rattle.muf_model.specs.Answer.{too_few}
 use Rattle.muf_model.specs.declared.prims.Primitive.{Primitive as Name}
 use Rattle.muf_model.specs.declared.prims.Primitive.TheVariants.{Notify, Call}
-use Rattle.muf_model.specs.Datum.{Datum, int, text, object, variable, address, lock, items, dict, mark}
+use Rattle.muf_model.specs.Datum.{Datum, text, object}
 use Rattle.muf_model.specs.Tree.{Definition, Tree}
 use Rattle.muf_model.specs.Source.{Program, Source, last_word, entered}
-use Rattle.muf_model.specs.Unit.{Outcome, goes, ended, faulted, asks, unit, fault, calls_most}
+use Rattle.muf_model.specs.Unit.{Outcome, goes, ended, faulted, asks, unit, fault}
 use Rattle.muf_model.specs.Chains.{Deed, does, fails, Finish, over, broke, chain, chained, after_deed, raised}
 use Rattle.muck_program.specs.declared.flaw.Flaw.{Flaw}
 use Rattle.muck_program.specs.Programs.{built_tree}

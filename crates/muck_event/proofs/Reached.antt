@@ -10,17 +10,15 @@ use Rattle.muck_model.specs.declared.event.Event.TheVariants.{Opened, Input, Clo
 use Rattle.muck_model.specs.declared.tune.Tune.{Tune}
 use Rattle.muck_live.specs.Objects.{Entry as Kept}
 use Rattle.muck_live.specs.Output.{bytes_of}
-use Rattle.muck_live.specs.Connections.{Connection, has_number, is_ready, placed, without, newcomer, connections_most, holds, lined}
+use Rattle.muck_live.specs.Connections.{Connection, has_number, placed, without, newcomer, connections_most, holds, lined}
 use Rattle.muck_live.specs.Boards.{player_in, opened, closed, line_added, bytes_taken, early_board}
 use Rattle.muck_live.specs.Lives.{Live, Change, followed, reading, on_board}
 use Rattle.muck_world.specs.Talk.{welcome, parted, gone_away}
 use Rattle.muck_world.specs.Rising.{IsAbove, IsRising}
 use Rattle.muck_world.proofs.Numbered.{numbers, rising_by, seating_quiet, seating_one}
 use Rattle.muck_world.proofs.Lines.{quiet_parted}
-use Rattle.muck_queue.specs.declared.process.Process.{Process}
-use Rattle.muck_queue.specs.Queues.{Queue, has_pid, is_due, earliest, next_due, claimed_by, changed_first, with_processes, claimed}
-use Rattle.muck_event.specs.World.{World, connection, queue_of, is_leaving, on_live, on_queue, booted, starting}
-use Rattle.muck_event.specs.Steps.{is_free, has_process, is_claimed_by, is_allowed, is_lawful, happened, effect, next_ready, next_process}
+use Rattle.muck_event.specs.World.{World, connection, queue_of, is_leaving, on_live, booted, starting}
+use Rattle.muck_event.specs.Steps.{is_free, is_allowed, is_lawful, happened, effect, next_ready}
 use Rattle.muck_event.specs.Histories.{by_porter}
 use Rattle.muck_event.specs.Sound.{IsSound}
 use Rattle.muck_event.proofs.Quietly.{quietly_sliced}

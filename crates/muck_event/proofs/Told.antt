@@ -12,7 +12,7 @@ use Rattle.muck_live.specs.Lives.{Live, on_objects}
 use Rattle.muck_rights.specs.declared.act.Actor.{Actor}
 use Rattle.muck_rights.specs.Verdict.{is_master}
 use Rattle.muck_rights.specs.Licence.{SameLists, Reordered, front_open, Licensed, Differs}
-use Rattle.muck_rights.proofs.Licences.{ties, ties_same, ties_both, open_both, Quiet}
+use Rattle.muck_rights.proofs.Licences.{ties, ties_same, ties_both, open_both}
 
 -- Objects and lists without what is to be told of them.
 

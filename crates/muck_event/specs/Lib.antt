@@ -7,3 +7,4 @@ pub mod Steps
 pub mod Licences
 pub mod Histories
 pub mod Sound
+pub mod Rows

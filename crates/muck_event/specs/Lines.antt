@@ -1,5 +1,5 @@
 -- A line that is done.
-use Rattle.std.specs.Prelude.{ℕ, ◌+◌, if◌then◌else◌, List, [], ◌∷◌, ◌++◌, codes, decimal, Option, Some, None, Result, Ok, Err}
+use Rattle.std.specs.Prelude.{ℕ, if◌then◌else◌, List, [], ◌∷◌, ◌++◌, codes, decimal, Option, Some, None, Result, Ok, Err}
 use Rattle.std.specs.Option.{option_map_or}
 use Rattle.muck_model.specs.declared.dbref.Dbref.{Dbref}
 use Rattle.muck_model.specs.declared.edit.EditState.{EditState}
@@ -14,7 +14,7 @@ use Rattle.muck_program.specs.Library.{form_kept, form_dropped}
 use Rattle.muck_world.specs.declared.outcome.Outcome.{Outcome}
 use Rattle.muck_world.specs.declared.outcome.Outcome.TheVariants.{Start, Leave, Edit}
 use Rattle.muck_world.specs.declared.edit.EditStep.{EditStep}
-use Rattle.muck_world.specs.declared.edit.EditStep.TheVariants.{Stay, Compile, Left}
+use Rattle.muck_world.specs.declared.edit.EditStep.TheVariants.{Compile, Left}
 use Rattle.muck_world.specs.Finding.{actor_of}
 use Rattle.muck_world.specs.Commands.{played}
 use Rattle.muck_world.specs.Editing.{editor_exited, is_open, edited}

@@ -1,6 +1,5 @@
 -- A program is started.
 use Rattle.std.specs.Prelude.{ℕ, pos, if◌then◌else◌, List, codes, Option, Some, None}
-use Rattle.muck_model.specs.declared.dbref.Dbref.{Dbref}
 use Rattle.muck_model.specs.declared.dbref.Denial.{Denial}
 use Rattle.muck_live.specs.Lives.{tell, place_at}
 use Rattle.muck_rights.specs.declared.act.Actor.{Actor}
