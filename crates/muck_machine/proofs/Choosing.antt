@@ -1,5 +1,5 @@
 -- A process that was claimed may run.
-use Rattle.std.proofs.Common.{◌≡◌, ℕ, true, List, [], ◌∷◌, Some, ◌∙◌, ap}
+use Rattle.std.proofs.Common.{◌≡◌, ℕ, true, [], ◌∷◌, Some, ◌∙◌, ap}
 use Rattle.std.specs.Prelude.{ℤ}
 use Rattle.muck_model.specs.declared.event.Event.TheVariants.{Claim, Slice}
 use Rattle.muck_event.specs.Steps.{is_lawful, next_process}

@@ -1,8 +1,8 @@
 -- What shared primitives do, by what stands on the stack.
 use Rattle.std.proofs.Common.{◌≡◌, ℕ, suc, ◌+◌, ◌-◌, ◌<◌, ◌≤◌, subst, cond, List, [], ◌∷◌, map, drop, length, Bool, true, false, Option, Some, None, refl, sym, ap, ◌∙◌, arith, ◌&&◌}
-use Rattle.std.specs.Prelude.{ℤ, slice_get, find, is_some, Result, Ok}
+use Rattle.std.specs.Prelude.{ℤ, slice_get, find, is_some, Ok}
 use Rattle.std.specs.List.{position, position_from}
-use Rattle.std.specs.Option.{option_map, option_map_or, SomeIff}
+use Rattle.std.specs.Option.{option_map_or, SomeIff}
 use Rattle.std.proofs.lemmas.List.{length-map}
 use Rattle.std.proofs.lemmas.Iterator.Adapters.{position_from-zero}
 use Rattle.std.proofs.lemmas.Bool.{cond-true, cond-false, le-ltb}
@@ -13,12 +13,12 @@ use Rattle.muck_rights.specs.declared.act.Act.{Act}
 use Rattle.muck_rights.specs.declared.act.Act.TheVariants.{Shared, Call as CallAct}
 use Rattle.muck_rights.specs.Verdict.{verdict}
 use Rattle.muck_program.specs.Library.{formed}
-use Rattle.muf_model.specs.declared.fault.MufFault.TheVariants.{BadType, NotCompiled}
+use Rattle.muf_model.specs.declared.fault.MufFault.TheVariants.{NotCompiled}
 use Rattle.muf_model.specs.declared.prims.Primitive.{Primitive as Name}
 use Rattle.muf_model.specs.declared.prims.Primitive.TheVariants.{Notify, Call}
-use Rattle.muf_model.specs.Datum.{Datum, int, text, object, variable, address, lock, items, dict, mark}
+use Rattle.muf_model.specs.Datum.{Datum, text, object}
 use Rattle.muf_model.specs.Source.{Program, Source, last_word, locked_of}
-use Rattle.muf_model.specs.Chains.{Deed, does, fails, callers_of}
+use Rattle.muf_model.specs.Chains.{Deed, fails, callers_of}
 use Rattle.muf_model.specs.declared.code.Code.{Code}
 use Rattle.muf_model.specs.declared.code.CodeWord.{CodeWord}
 use Rattle.muf_model.specs.Decode.{definition_at, tree_of}
@@ -28,8 +28,8 @@ use Rattle.std.specs.Char.{to_ascii_lowercase}
 use Rattle.muck_rights.specs.declared.act.Actor.{Actor}
 use Rattle.muck_event.specs.declared.starting.Agent.{Agent}
 use Rattle.muck_event.specs.World.{World}
-use Rattle.muck_event.specs.Slices.{numbered, callers, deed, call_items, call_count, program_called, notify_items, called_word, is_offered, needing, permitted, permitted_by, existing, programmed, called, form_called, behind, acting}
-use Rattle.muck_machine.specs.Deeds.{told_of, asked_of, IsWord, Permits}
+use Rattle.muck_event.specs.Slices.{numbered, callers, deed, call_items, call_count, program_called, called_word, is_offered, needing, permitted, permitted_by, existing, programmed, called, form_called, behind, acting}
+use Rattle.muck_machine.specs.Deeds.{asked_of, IsWord, Permits}
 
 -- programs of these numbers
 numbered_so : (ds : List Dbref) (ps : List Program) → map (λ d. d.0) ds ≡ map (λ p. p.number) ps → ds ≡ map (λ p. numbered p.number) ps

@@ -10,7 +10,7 @@ use Rattle.muf_model.specs.declared.fault.MufFault.{MufFault}
 use Rattle.muf_model.specs.declared.prims.Primitive.{Primitive as Name}
 use Rattle.muf_model.specs.Source.{Source}
 use Rattle.muf_model.specs.Unit.{Outcome, goes, ended, faulted, asks, unit, units, and_then, fault}
-use Rattle.muf_model.specs.Chains.{Deed, does, fails, Finish, over, broke, chain, chained, raised, after_deed, resumed, count, taken, programs_of, Keeps, StandsAt}
+use Rattle.muf_model.specs.Chains.{Deed, does, fails, over, broke, chain, chained, raised, after_deed, resumed, count, taken, programs_of, Keeps, StandsAt}
 use Rattle.muf_model.proofs.Chains.{units_keep, taken_most, taken_some, run_law}
 use Rattle.muf_process.specs.declared.stint.Ran.{Ran}
 use Rattle.muf_process.specs.declared.stint.Ran.TheVariants.{Going, Asking, Ended, Faulted}

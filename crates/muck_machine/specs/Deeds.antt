@@ -1,5 +1,5 @@
 -- What the code of slices and of shared primitives answers, by what the definitions say.
-use Rattle.std.specs.Prelude.{◌≡◌, ℕ, ◌<◌, ◌≤◌, ℤ, List, [], ◌∷◌, drop, length, slice_get, Option, Some, None, Result, Ok, Err}
+use Rattle.std.specs.Prelude.{◌≡◌, ℕ, ◌<◌, ◌≤◌, ℤ, List, ◌∷◌, drop, length, slice_get, Option, Some, None, Result, Ok, Err}
 use Rattle.std.specs.Option.{option_map}
 use Rattle.muck_model.specs.declared.dbref.Denial.{Denial}
 use Rattle.muf_model.specs.declared.fault.MufFault.{MufFault}
@@ -10,7 +10,7 @@ use Rattle.muf_model.specs.Decode.{tree_of}
 use Rattle.muf_model.specs.Stands.{TreeStands}
 use Rattle.muf_model.specs.Tree.{Definition}
 use Rattle.muf_model.specs.Source.{Source, calls_of, entered}
-use Rattle.muf_model.specs.Unit.{calls_most, Outcome, goes, ended, faulted, asks, fault}
+use Rattle.muf_model.specs.Unit.{calls_most, goes, faulted, fault}
 use Rattle.muf_model.specs.Chains.{Deed, does, fails, Finish, over, broke, chain}
 use Rattle.muf_process.specs.Fitting.{program_with}
 use Rattle.muck_event.specs.World.{World}

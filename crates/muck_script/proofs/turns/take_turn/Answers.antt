@@ -2,9 +2,9 @@ use Rattle.std.proofs.Common.{◌≡◌, Bool, sym, ◌∙◌, ap, subst, Option
 use Rattle.std.specs.Prelude.{is_some}
 use Rattle.muck_event.specs.Steps.{next_ready, next_process}
 use Rattle.muck_event.specs.Histories.{History, now, extended}
-use Rattle.muck_script.specs.Story.{Turn, next_turn}
+use Rattle.muck_script.specs.Story.{Turn}
 use Rattle.muck_script.specs.Settling.{entries_of, slice_of, DiedDuring}
-use Rattle.muck_script.proofs.Taking.{line_first, line_taken, line_dies, some_next, process_next, on_error}
+use Rattle.muck_script.proofs.Taking.{line_first, line_taken, some_next, process_next}
 use Rattle.muck_script.proofs.turns.take_turn.Goals as goal
 
 pub returns-in-Some-clause-some : goal.returns-in-Some-clause-some

@@ -1,4 +1,3 @@
-use Rattle.std.proofs.Common.{IfOk}
 use Rattle.muck_event.specs.Slices.{deed}
 use Rattle.muck_machine.proofs.Slices.{if_ok_as, stops_after}
 use Rattle.muck_machine.proofs.state.State.ask.Goals as goal

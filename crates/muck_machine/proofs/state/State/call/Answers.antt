@@ -1,6 +1,5 @@
-use Rattle.std.proofs.Common.{rules, ◌≡◌, ◌≤◌, ◌+◌, length, true, false, is_some, Some, None, subst, sym}
-use Rattle.std.specs.Option.{option_copied, option_map_or}
-use Rattle.muck_live.specs.Objects.{object_at, is_program}
+use Rattle.std.proofs.Common.{rules, ◌≡◌, ◌≤◌, ◌+◌, length, Some, None, subst, sym}
+use Rattle.std.specs.Option.{option_copied}
 use Rattle.muck_rights.specs.Verdict.{verdict}
 use Rattle.muck_rights.specs.declared.act.Act.TheVariants.{Shared, Call as CallAct}
 use Rattle.muf_model.specs.Source.{locked_of}

@@ -1,4 +1,4 @@
-use Rattle.std.proofs.Common.{◌≡◌, ℕ, ◌+◌, suc, sym, ◌∙◌, ap, arith, length, find, drop}
+use Rattle.std.proofs.Common.{◌≡◌, ◌+◌, suc, sym, ◌∙◌, ap, arith, length, find, drop}
 use Rattle.std.specs.Option.{option_map}
 use Rattle.muck_live.specs.Connections.{Connection}
 use Rattle.muck_event.specs.World.{World}

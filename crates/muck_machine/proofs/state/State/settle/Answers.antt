@@ -1,4 +1,4 @@
-use Rattle.std.proofs.Common.{◌≡◌, ◌<◌, ℕ, List, sym, ◌∙◌, ap, arith}
+use Rattle.std.proofs.Common.{◌≡◌, List, sym, ◌∙◌, ap, arith}
 use Rattle.muck_live.specs.Objects.{Entry}
 use Rattle.muck_live.specs.Lives.{on_objects}
 use Rattle.muck_event.specs.World.{World, on_live}

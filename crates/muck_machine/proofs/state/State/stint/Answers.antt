@@ -1,5 +1,5 @@
-use Rattle.std.proofs.Common.{◌≡◌, ◌<◌, ◌≤◌, ◌-◌, arith, ap, ◌∙◌, sym, subst}
-use Rattle.muf_model.specs.Chains.{taken, broke}
+use Rattle.std.proofs.Common.{arith, ap, ◌∙◌, sym, subst}
+use Rattle.muf_model.specs.Chains.{broke}
 use Rattle.muf_model.specs.Unit.{units}
 use Rattle.muf_model.proofs.Chains.{taken_most}
 use Rattle.muf_process.specs.Stints.{RanAlike}

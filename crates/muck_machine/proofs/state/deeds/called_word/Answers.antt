@@ -1,12 +1,9 @@
-use Rattle.std.proofs.Common.{rules, ◌≡◌, ◌&&◌, Some, None, map, sym, subst, length, cond}
-use Rattle.std.specs.Prelude.{nat_lt, ◌-◌}
+use Rattle.std.proofs.Common.{rules, ◌≡◌, ◌&&◌, Some, None, map, sym}
 use Rattle.std.specs.List.{position}
 use Rattle.std.specs.Option.{option_copied}
 use Rattle.std.specs.Str.{bytes_eq}
 use Rattle.std.specs.Char.{to_ascii_lowercase}
-use Rattle.muf_model.specs.Decode.{tree_of}
-use Rattle.muck_event.specs.Slices.{called_word, is_offered}
-use Rattle.muck_machine.specs.Deeds.{IsWord}
+use Rattle.muck_event.specs.Slices.{is_offered}
 use Rattle.muck_machine.proofs.Deeds.{named_word, last_place}
 use Rattle.muck_machine.proofs.state.deeds.called_word.Goals as goal
 

@@ -1,8 +1,7 @@
-use Rattle.std.proofs.Common.{◌≡◌, ◌++◌, rules, ◌∙◌, ap}
+use Rattle.std.proofs.Common.{◌≡◌, ◌++◌, rules}
 use Rattle.std.specs.Prelude.{codes}
 use Rattle.std.specs.Fmt.{signed_decimal}
 use Rattle.muf_model.specs.Faults.{text_of}
-use Rattle.muck_event.specs.Slices.{program_error}
 use Rattle.muck_machine.proofs.Slices.{error_joined}
 use Rattle.muck_machine.proofs.state.slices.error_text.Goals as goal
 
