@@ -6,3 +6,4 @@ pub mod Reached
 pub mod Runs
 pub mod Turns
 pub mod Claims
+mod Errors

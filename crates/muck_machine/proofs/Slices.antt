@@ -1,11 +1,6 @@
 -- How a process goes on from one stint to the next.
 use Rattle.std.proofs.Common.{◌≡◌, ℕ, zero, suc, ◌-◌, ◌<◌, ◌≤◌, List, [], ◌∷◌, ◌++◌, Bool, true, false, cond, Option, Some, None, refl, sym, ap, ◌∙◌, subst, arith, find, Result, Ok, Err, IfOk}
 use Rattle.std.specs.Prelude.{ℤ, pos, negsuc, codes}
-use Rattle.std.specs.Fmt.{signed_decimal}
-use Rattle.std.proofs.lemmas.List.{append_assoc}
-use Rattle.muck_live.specs.Seen.{signed_text}
-use Rattle.muf_model.specs.Faults.{text_of}
-use Rattle.muck_event.specs.Slices.{program_error}
 use Rattle.muf_model.specs.declared.fault.MufFault.{MufFault}
 use Rattle.muf_model.specs.declared.prims.Primitive.{Primitive as Name}
 use Rattle.muf_model.specs.Source.{Source}
@@ -171,16 +166,3 @@ module _ (deed : Name → Source → World → Deed World) where
 pub if_ok_as : {X E : Type 0} (r : Result X E) (A B : X → Type 0) → ((x : X) → A x → B x) → IfOk r A → IfOk r B
 if_ok_as (Ok x) A B f h = f x h
 if_ok_as (Err e) A B f h = h
-
--- a number is written alike
-same_number : (n : ℤ) → signed_decimal n ≡ signed_text n
-same_number (pos n) = refl
-same_number (negsuc n) = refl
-
--- the parts of what the player is told of a fault
-pub error_joined : (n : ℤ) (f : MufFault) (head text : List ℕ) → head ≡ codes "Program error in #" ++ (signed_decimal n ++ codes ": ") → text ≡ text_of f → head ++ text ≡ program_error n f
-unfolding program_error
-error_joined n f head text h t =
-    ap (λ x. x ++ text) h ∙ ap (λ x. (codes "Program error in #" ++ (signed_decimal n ++ codes ": ")) ++ x) t
-    ∙ ap (λ x. codes "Program error in #" ++ x) (append_assoc (signed_decimal n) (codes ": ") (text_of f))
-    ∙ ap (λ x. codes "Program error in #" ++ (x ++ (codes ": " ++ text_of f))) (same_number n)

@@ -10,6 +10,7 @@ ghost use Rattle.muck_event.specs.Lines.{with_editor, next_editor, flaw_text, co
 use crate::commands::actor_of;
 use crate::state::State;
 use muck_edit::{EditStep, Editor, is_open};
+use muck_event::flaw_text;
 use muck_model::{Dbref, EditState, Line, NoMemory};
 use muck_perm::Guard;
 use muck_program::Flaw;
@@ -106,13 +107,11 @@ impl State {
         }
     }
 
-    // The flaw of a source, by its number and its line.
-    #[tactic(auto, unfolding(muck_event::specs::Lines::flaw_text))]
+    // The connection is told of the flaw of a source.
     fn tell_flaw(&mut self, d: u32, flaw: Flaw) -> Result<(), NoMemory>
         ensures { OnOk result (self.new ≡ on_live (tell d (flaw_text flaw)) self.old) }
     {
-        let Flaw { number, line } = flaw;
-        let text = format!(in self.alloc; "Error {number} in line {line}.")?;
-        self.tell(d, text.as_bytes())
+        let text = flaw_text(self.alloc, flaw)?;
+        self.tell(d, text.as_slice())
     }
 }

@@ -3,13 +3,13 @@ ghost use Rattle.std.specs.Prelude.{◌≡◌, ◌<◌, OnOk, IfOk, suc};
 ghost use Rattle.muck_model.specs.declared.event.Event.{Event};
 ghost use Rattle.muf_model.specs.Chains.{chain, StandsAt};
 ghost use Rattle.muck_event.specs.World.{on_live};
-ghost use Rattle.muck_event.specs.Slices.{deed, finish_shown, program_error, ran};
+ghost use Rattle.muck_event.specs.Slices.{deed, finish_shown, ran};
 ghost use Rattle.muck_event.specs.Steps.{happened};
 ghost use Rattle.muck_machine.specs.Deeds.{finish_of, Stops, StopsAfter, StopsRaised};
 
 use crate::state::State;
 use crate::state::deeds::Done;
-use muck_event::Agent;
+use muck_event::{Agent, error_text};
 use muck_model::{Dbref, NoMemory};
 use muck_queue::Process;
 use muf_model::{MufFault, Prim};
@@ -48,14 +48,10 @@ impl State {
     fn run(&mut self, process: Process) -> Result<(), NoMemory>
         ensures { OnOk result (self.new ≡ ran process self.old) }
     {
-        let player = process.player;
-        let agent = Agent {
-            player,
-            trigger: process.trigger,
-        };
+        let agent = Agent::of(&process);
         let limit = self.board.tune().m2_units;
         let ending = self.run_on(agent, process.running, limit)?;
-        self.show_ending(player, ending)
+        self.show_ending(agent.player, ending)
     }
 
     // A process runs to its end, in so many units at most.
@@ -145,17 +141,4 @@ fn raised(alloc: Global, running: Running, fault: MufFault, left: u32) -> Result
         Some(caught) => Ok(Stop::On(caught, left)),
         None => Ok(Stop::Over(Ending::Broke { program, fault })),
     }
-}
-
-// What the player is told of a fault of that program.
-#[tactic(auto, unfolding(muck_event::specs::Slices::program_error))]
-fn error_text(alloc: Global, program: Dbref, fault: &MufFault) -> Result<Vec<u8>, NoMemory>
-    ensures { IfOk result (λ text. text.items ≡ program_error program.0 fault.now) }
-{
-    let number = program.0;
-    let head = format!(in alloc; "Program error in #{number}: ")?;
-    let text = fault.text(alloc)?;
-    let mut bytes = head.into_bytes();
-    bytes.extend_from_slice(text.as_slice())?;
-    Ok(bytes)
 }

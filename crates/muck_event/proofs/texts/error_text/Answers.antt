@@ -2,8 +2,8 @@ use Rattle.std.proofs.Common.{◌≡◌, ◌++◌, rules}
 use Rattle.std.specs.Prelude.{codes}
 use Rattle.std.specs.Fmt.{signed_decimal}
 use Rattle.muf_model.specs.Faults.{text_of}
-use Rattle.muck_machine.proofs.Slices.{error_joined}
-use Rattle.muck_machine.proofs.state.slices.error_text.Goals as goal
+use Rattle.muck_event.proofs.Errors.{error_joined}
+use Rattle.muck_event.proofs.texts.error_text.Goals as goal
 
 pub returns : goal.returns
 returns c =
