@@ -4,8 +4,6 @@
 #![tactic(auto)]
 
 mod command;
-#[cfg(test)]
-mod line_tests;
 mod lines;
 mod locks;
 mod making;
@@ -15,12 +13,8 @@ mod names;
 mod naming;
 mod owning;
 mod program_lines;
-#[cfg(test)]
-mod program_tests;
 mod programs;
 mod searching;
-#[cfg(test)]
-mod tests;
 mod tying;
 mod words;
 

@@ -7,8 +7,6 @@ mod parts;
 mod replies;
 mod showing;
 mod sources;
-#[cfg(test)]
-mod tests;
 
 pub use finding::{find_object, find_one, find_player, find_program, is_object, is_program};
 pub use parts::{Parts, after_sign, after_word, full_parts, has_equals, line_of, two_parts};

@@ -4,14 +4,10 @@
 
 mod command;
 mod going;
-#[cfg(test)]
-mod line_tests;
 mod looking;
 mod messages;
 mod taking;
 mod talking;
-#[cfg(test)]
-mod tests;
 mod words;
 
 pub use command::run;

@@ -8,7 +8,5 @@ mod output;
 mod piece;
 mod rest;
 mod split;
-#[cfg(test)]
-mod tests;
 
 pub use board::Board;

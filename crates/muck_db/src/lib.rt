@@ -15,8 +15,6 @@ mod setting;
 mod slot;
 mod start;
 mod telling;
-#[cfg(test)]
-mod tests;
 mod walks;
 
 pub use chain::Chain;

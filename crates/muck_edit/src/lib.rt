@@ -8,8 +8,6 @@ mod editor;
 mod keeping;
 mod lines;
 mod showing;
-#[cfg(test)]
-mod tests;
 
 pub use checks::is_open;
 pub use editor::Editor;

@@ -10,8 +10,6 @@ mod memory_source;
 mod never;
 mod sink;
 mod source;
-#[cfg(test)]
-mod tests;
 
 pub use adapters::{ReaderSource, SystemClock, WriterSink};
 pub use clock::{Clock, ListClock};

@@ -9,8 +9,6 @@ mod part;
 mod path;
 mod printer;
 mod reader;
-#[cfg(test)]
-mod tests;
 mod text;
 
 pub use fault::LockFault;

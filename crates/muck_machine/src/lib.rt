@@ -4,8 +4,6 @@
 mod commands;
 mod origin;
 mod state;
-#[cfg(test)]
-mod tests;
 mod world;
 
 pub use world::World;

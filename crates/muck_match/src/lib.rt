@@ -14,5 +14,3 @@ pub use memory::{MemObject, MemScene};
 pub use naming::{Found, find, player, player_named};
 pub use scene::{HOME, NOTHING, Scene};
 
-#[cfg(test)]
-mod tests;

@@ -3,14 +3,10 @@
 
 mod flags;
 mod guard;
-#[cfg(test)]
-mod guard_tests;
 mod levels;
 mod locks;
 mod rules;
 mod shown;
-#[cfg(test)]
-mod tests;
 
 pub use guard::Guard;
 pub use levels::{MASTER, command_level, controls_as, level, user};

@@ -6,8 +6,6 @@ mod building;
 mod flaw;
 mod lending;
 mod library;
-#[cfg(test)]
-mod tests;
 
 pub use building::build;
 pub use flaw::{BuildFault, Flaw};

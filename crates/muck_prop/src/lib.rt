@@ -5,8 +5,6 @@ mod path;
 mod props;
 mod segment;
 mod segments;
-#[cfg(test)]
-mod tests;
 mod value;
 
 pub use path::{Class, Path, PropFault, read_path};

@@ -5,8 +5,6 @@ mod fault;
 mod process;
 mod processes;
 mod queue;
-#[cfg(test)]
-mod tests;
 
 pub use fault::QueueFault;
 pub use process::{Mode, Process};

@@ -6,8 +6,6 @@ mod lines;
 mod parsing;
 mod script;
 mod shown;
-#[cfg(test)]
-mod tests;
 mod turns;
 
 pub use act::Act;

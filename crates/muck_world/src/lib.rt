@@ -5,8 +5,6 @@
 
 mod edit;
 mod outcome;
-#[cfg(test)]
-mod tests;
 mod word;
 mod words;
 

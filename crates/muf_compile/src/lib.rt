@@ -10,8 +10,6 @@ mod known;
 mod names;
 mod pass;
 mod primitive;
-#[cfg(test)]
-mod tests;
 
 pub use fault::{CompileFault, CompileKind, Refusal};
 pub use pass::compile;

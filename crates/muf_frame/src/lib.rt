@@ -9,8 +9,6 @@ mod frame;
 mod items;
 mod mark;
 mod stack;
-#[cfg(test)]
-mod tests;
 mod variables;
 mod words;
 

@@ -8,8 +8,6 @@ mod lists;
 mod measures;
 mod prims;
 mod shared;
-#[cfg(test)]
-mod tests;
 mod text;
 mod value;
 

@@ -6,8 +6,6 @@ mod entered;
 mod running;
 mod stack;
 mod stint;
-#[cfg(test)]
-mod tests;
 
 pub use begin::Occasion;
 pub use running::Running;

@@ -9,7 +9,5 @@ mod marks;
 mod quick;
 mod ran;
 mod run;
-#[cfg(test)]
-mod tests;
 
 pub use run::{Local, run_local};

@@ -15,8 +15,6 @@ mod piece;
 mod place;
 mod reader;
 mod source;
-#[cfg(test)]
-mod tests;
 mod token;
 
 pub use fault::{FaultKind, Refusal, TokenFault};

@@ -7,7 +7,5 @@ mod marks;
 mod moves;
 mod names;
 mod table;
-#[cfg(test)]
-mod tests;
 
 pub use table::{Done, apply};

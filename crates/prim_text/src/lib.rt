@@ -4,7 +4,5 @@
 mod made;
 mod rows;
 mod table;
-#[cfg(test)]
-mod tests;
 
 pub use table::apply;
