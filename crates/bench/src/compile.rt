@@ -1,14 +1,10 @@
-// Compiles a MUF source of so many lines, again and again, and prints how many words it had in all.
-// Its arguments: how many lines, and how often.
-#![tactic(auto)]
-
+// Compiles a MUF source, again and again.
 ghost use Rattle.std.specs.Prelude.{◌≡◌, ◌+◌, IfOk, OnOk, vec_len};
 
 use muck_model::{Line, LineFault};
 use muf_compile::compile;
 use muf_token::{MemIncludes, tokens};
 use std::alloc::Global;
-use std::{env, io};
 
 // A line of the source's word, which leaves the stack as it was.
 fn middle(alloc: Global) -> Result<Line, LineFault> {
@@ -19,7 +15,7 @@ fn middle(alloc: Global) -> Result<Line, LineFault> {
 }
 
 // A source of one word with so many lines between its first and its last.
-fn source_of(alloc: Global, lines: u16) -> Result<Vec<Line>, LineFault>
+fn source_of(alloc: Global, lines: u32) -> Result<Vec<Line>, LineFault>
     ensures { IfOk result (λ source. vec_len source ≡ lines + 2) }
 {
     let mut source = Vec::new(alloc);
@@ -48,24 +44,13 @@ fn compiled(alloc: Global, source: &[Line], includes: &MemIncludes) -> Option<u6
     Some(count as u64)
 }
 
-fn rounds(alloc: Global, lines: u16, rounds: u16) -> Option<u64> {
+/// A source of so many lines between its first and its last is compiled so many times; answers how many words it had in all.
+pub fn run(alloc: Global, lines: u32, times: u32) -> Option<String> {
     let source = source_of(alloc, lines).ok()?;
     let includes = MemIncludes::new(alloc).ok()?;
     let mut words = 0u64;
-    for _ in 0..rounds {
+    for _ in 0..times {
         words = words.saturating_add(compiled(alloc, source.as_slice(), &includes)?);
     }
-    Some(words)
-}
-
-fn main(rt: HostRuntime) -> io::Result<()> {
-    let mut numbers = env::args(&rt)?
-        .skip(1)
-        .map(|word| word.parse().unwrap_or(0u16));
-    let lines = numbers.next().unwrap_or(0);
-    let times = numbers.next().unwrap_or(0);
-    match rounds(rt.alloc(), lines, times) {
-        Some(words) => println!(rt; "{words} words"),
-        None => println!(rt; "not compiled"),
-    }
+    format!(in alloc; "{words} words").ok()
 }

@@ -1,14 +1,10 @@
-// Makes things in a world, moves them between two rooms, recycles linked rooms and looks for a player whom nobody knows,
-// and prints how often it did each. Its arguments: how many things, moves, rooms and searches.
-#![tactic(auto)]
-
+// Makes things in a world, moves them between two rooms, recycles linked rooms and looks for a player whom nobody knows.
 ghost use Rattle.std.specs.Prelude.{◌≡◌, length, IfOk};
 
 use muck_db::{Db, DbFault};
 use muck_match::player;
 use muck_model::{Dbref, Kind, Line};
 use std::alloc::Global;
-use std::{env, io};
 
 const ROOM_ZERO: Dbref = Dbref(0);
 
@@ -109,39 +105,15 @@ fn found(db: &Db, name: &Line, count: u32) -> u32 {
     found
 }
 
-// What the arguments ask for.
-#[derive(Drop)]
-struct Counts {
-    things: u32,
-    moves: u32,
-    rooms: u32,
-    searches: u32,
-}
-
-// Does it all, and answers how many objects there are then, and how many searches found someone.
-fn run(alloc: Global, counts: &Counts) -> Result<(usize, u32), DbFault> {
-    let mut db = two_rooms(alloc)?;
-    make_things(&mut db, alloc, counts.things)?;
-    move_things(&mut db, counts.things, counts.moves)?;
-    let rooms = linked_rooms(&mut db, alloc, counts.rooms)?;
-    recycle_rooms(&mut db, &rooms)?;
-    let name = a_name(alloc)?;
-    let found = found(&db, &name, counts.searches);
-    Ok((db.objects(), found))
-}
-
-fn main(rt: HostRuntime) -> io::Result<()> {
-    let mut numbers = env::args(&rt)?
-        .skip(1)
-        .map(|word| word.parse().unwrap_or(0u32));
-    let counts = Counts {
-        things: numbers.next().unwrap_or(0),
-        moves: numbers.next().unwrap_or(0),
-        rooms: numbers.next().unwrap_or(0),
-        searches: numbers.next().unwrap_or(0),
-    };
-    match run(rt.alloc(), &counts) {
-        Ok((objects, found)) => println!(rt; "{objects} objects, {found} found"),
-        Err(_) => println!(rt; "refused"),
-    }
+/// Does each so many times; answers how many objects there are then, and how many searches found someone.
+pub fn run(alloc: Global, things: u32, moves: u32, rooms: u32, searches: u32) -> Option<String> {
+    let mut db = two_rooms(alloc).ok()?;
+    make_things(&mut db, alloc, things).ok()?;
+    move_things(&mut db, things, moves).ok()?;
+    let rooms = linked_rooms(&mut db, alloc, rooms).ok()?;
+    recycle_rooms(&mut db, &rooms).ok()?;
+    let name = a_name(alloc).ok()?;
+    let found = found(&db, &name, searches);
+    let objects = db.objects();
+    format!(in alloc; "{objects} objects, {found} found").ok()
 }

@@ -1,9 +1,4 @@
-// Runs a MUF program for so many units, and prints how many it took.
-// Its arguments: which program (`loop`, `stack` or `call`), and how many units, at most 100,000,000.
-#![tactic(auto)]
-
-ghost use Rattle.std.specs.Prelude.{◌≤◌};
-
+// Runs a MUF program.
 use muck_model::{Dbref, Line};
 use muf_compile::compile;
 use muf_frame::Frame;
@@ -11,10 +6,6 @@ use muf_model::Code;
 use muf_run::run_local;
 use muf_token::{MemIncludes, tokens};
 use std::alloc::Global;
-use std::{env, io};
-
-/// The most units that are run.
-const UNITS_MOST: u32 = 100_000_000;
 
 // An empty counted loop, a loop of stack words, or a loop that calls a word of one unit.
 fn source_of(name: &str) -> &'static str {
@@ -23,13 +14,6 @@ fn source_of(name: &str) -> &'static str {
         "stack" => ": main pop 1 begin dup 1 + swap pop repeat ;",
         _ => ": f ; : main pop begin f repeat ;",
     }
-}
-
-fn units_of(word: &str) -> u32
-    ensures { result ≤ 100000000 }
-{
-    let asked: u32 = word.parse().unwrap_or(0);
-    asked.min(UNITS_MOST)
 }
 
 fn compiled(alloc: Global, source: &str) -> Option<Code> {
@@ -49,27 +33,11 @@ fn started(alloc: Global, code: &Code) -> Option<Frame> {
     Some(frame)
 }
 
-fn run(alloc: Global, source: &str, most: u32) -> Option<u32> {
-    let code = compiled(alloc, source)?;
+/// The program `loop`, `stack` or `call` runs for so many units; answers how many it took.
+pub fn run(alloc: Global, program: &str, most: u32) -> Option<String> {
+    let code = compiled(alloc, source_of(program))?;
     let mut frame = started(alloc, &code)?;
     let _local = run_local(alloc, &code, &mut frame, most).ok()?;
-    Some(frame.units())
-}
-
-fn main(rt: HostRuntime) -> io::Result<()> {
-    let mut words = Vec::new(rt.alloc());
-    for word in env::args(&rt)?.skip(1) {
-        words.push(word)?;
-    }
-    let [name, units] = words.as_slice() else {
-        return println!(rt; "which program, and how many units?");
-    };
-    match run(
-        rt.alloc(),
-        source_of(name.as_str()),
-        units_of(units.as_str()),
-    ) {
-        Some(units) => println!(rt; "{units} units"),
-        None => println!(rt; "not run"),
-    }
+    let units = frame.units();
+    format!(in alloc; "{units} units").ok()
 }

@@ -1,13 +1,9 @@
-// Puts properties on one object and walks over them, again and again, and prints the calls that were made.
-// Its arguments: how many properties, how many objects in turn, and how many walks over each.
-#![tactic(auto)]
-
+// Puts properties on one object and walks over them, again and again.
 ghost use Rattle.std.specs.Prelude.{◌<◌};
 
 use muck_model::Line;
 use muck_prop::{PropValue, Props, read_path};
 use std::alloc::Global;
-use std::{env, io};
 
 // Where the i-th property of so many stands in a scattered order.
 fn scattered(i: u32, count: u32) -> u64
@@ -44,7 +40,8 @@ fn walked(alloc: Global, props: &Props) -> Option<u64> {
     Some(steps)
 }
 
-fn calls(alloc: Global, count: u32, objects: u32, walks: u32) -> Option<u64> {
+/// So many properties are put on each of so many objects, in turn, and so many walks made over each; answers how many calls these were.
+pub fn run(alloc: Global, count: u32, objects: u32, walks: u32) -> Option<String> {
     let mut calls = 0u64;
     for _ in 0..objects {
         let props = filled(alloc, count)?;
@@ -53,18 +50,5 @@ fn calls(alloc: Global, count: u32, objects: u32, walks: u32) -> Option<u64> {
             calls = calls.saturating_add(walked(alloc, &props)?);
         }
     }
-    Some(calls)
-}
-
-fn main(rt: HostRuntime) -> io::Result<()> {
-    let mut numbers = env::args(&rt)?
-        .skip(1)
-        .map(|word| word.parse().unwrap_or(0u32));
-    let count = numbers.next().unwrap_or(0);
-    let objects = numbers.next().unwrap_or(0);
-    let walks = numbers.next().unwrap_or(0);
-    match calls(rt.alloc(), count, objects, walks) {
-        Some(calls) => println!(rt; "{calls} calls"),
-        None => println!(rt; "no memory"),
-    }
+    format!(in alloc; "{calls} calls").ok()
 }
