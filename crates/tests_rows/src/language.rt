@@ -27,13 +27,12 @@ pub fn row(alloc: Global, word: &[u8], rest: &[u8]) -> Result<Vec<u8>, NoMemory>
         b"code" => shown(alloc, compiled(alloc, rest)),
         b"build" => build_row(alloc, rest),
         b"forms" => forms_row(alloc, rest),
-        b"keep" => keep_row(alloc, rest),
         b"run" => run_row(alloc, rest),
         b"value" => value_row(alloc, rest),
         b"keys" => keys_row(alloc, rest),
         b"primitive" => primitive_row(alloc, rest),
         b"fault" => fault_row(alloc, rest),
-        _ => Ok(b"no such word".to_vec(alloc)?),
+        _ => Ok(format!(in alloc; "no such word")?.into_bytes()),
     }
 }
 
@@ -159,23 +158,15 @@ fn compiled(alloc: Global, source: &[u8]) -> Result<Code, BuildFault> {
     Ok(code)
 }
 
-// A text between quotes.
-fn quoted(alloc: Global, text: &Text) -> Result<Vec<u8>, NoMemory> {
-    let mut quoted = b"\"".to_vec(alloc)?;
-    quoted.extend_from_slice(text.as_slice())?;
-    quoted.push(b'"')?;
-    Ok(quoted)
-}
-
 // A word that names no place.
 fn word_text(alloc: Global, word: &Word) -> Result<Vec<u8>, NoMemory> {
     let text = match word {
-        Word::Literal(Literal::Int(n)) => format!(in alloc; "{n}")?,
-        Word::Literal(Literal::Text(text)) => return quoted(alloc, text),
-        Word::Literal(Literal::Object(Dbref(n))) => format!(in alloc; "#{n}")?,
-        Word::Variable(v) => format!(in alloc; "v{}", v.0)?,
+        Word::Literal(Literal::Int(n)) => return item_text(alloc, &Value::Int(*n)),
+        Word::Literal(Literal::Text(text)) => return item_text(alloc, &Value::Str(text.share()?)),
+        Word::Literal(Literal::Object(d)) => return item_text(alloc, &Value::Ref(*d)),
+        Word::Variable(v) => return item_text(alloc, &Value::Var(*v)),
+        Word::Primitive(primitive) => return Ok(primitive.name().to_vec(alloc)?),
         Word::Address(n) => format!(in alloc; "'{n}")?,
-        Word::Primitive(p) => format!(in alloc; "{:?}", *p)?,
         Word::Call(n) => format!(in alloc; "call{n}")?,
         Word::Bind(n) => format!(in alloc; "bind{n}")?,
         Word::Store(v) => format!(in alloc; "store{}", v.0)?,
@@ -248,13 +239,17 @@ fn shown(alloc: Global, got: Result<Code, BuildFault>) -> Result<Vec<u8>, NoMemo
     }
 }
 
-// The starting world with a program, #2. Room Zero has properties, of which those below `_defs` are definitions.
-fn world(alloc: Global) -> Result<Db, NoMemory> {
+// The starting world with a program, #2, of this source. Room Zero has properties, of which those below `_defs` are definitions.
+fn world(alloc: Global, source: &[u8]) -> Result<Db, NoMemory> {
     let Ok(name) = Line::new(alloc, b"prog") else {
         return Err(NoMemory);
     };
     let mut db = Db::starting(alloc)?;
     let _made = db.create(alloc, Kind::Program, name, Dbref(1), Dbref(0));
+    let lines = lines_of(alloc, source, 1)?;
+    if lines.len() <= 4096 {
+        let _set = db.set_lines(Dbref(2), lines);
+    }
     for (path, text, number) in [
         ("_defs", "1", 0),
         ("_defs/word", "\"hello\"", 0),
@@ -275,15 +270,6 @@ fn world(alloc: Global) -> Result<Db, NoMemory> {
     Ok(db)
 }
 
-// Gives the program #2 another source.
-fn set_source(alloc: Global, db: &mut Db, source: &[u8]) -> Result<(), NoMemory> {
-    let lines = lines_of(alloc, source, 1)?;
-    if lines.len() <= 4096 {
-        let _set = db.set_lines(Dbref(2), lines);
-    }
-    Ok(())
-}
-
 // The first word, and what stands behind it and a space.
 fn first_word(bytes: &[u8]) -> (&[u8], &[u8]) {
     let cut = bytes
@@ -297,85 +283,46 @@ fn first_word(bytes: &[u8]) -> (&[u8], &[u8]) {
 // What is built of an object, where the source of #2 is the one behind the object's number.
 fn build_row(alloc: Global, rest: &[u8]) -> Result<Vec<u8>, NoMemory> {
     let (object, source) = first_word(rest);
-    let mut db = world(alloc)?;
-    if !source.is_empty() {
-        set_source(alloc, &mut db, source)?;
-    }
+    let db = world(alloc, source)?;
     match Dbref::read(object) {
         Some(object) => shown(alloc, build(alloc, &db, object)),
-        None => Ok(b"no object".to_vec(alloc)?),
+        None => Ok(format!(in alloc; "no object")?.into_bytes()),
     }
 }
 
-// The form that is kept of the program #2, or nothing.
-fn kept_text(alloc: Global, library: &Library) -> Result<Vec<u8>, NoMemory> {
-    match library.form(Dbref(2)) {
-        Some(code) => code_text(alloc, code.get()),
-        None => Ok(b"nothing".to_vec(alloc)?),
-    }
-}
-
-// Acts on the form of the program #2, each behind another source of it: what each answers, and the form that is kept then.
+// What each of these acts on the form of the program #2 answers, where its source is the one behind the act: `form` is the one
+// that is kept or made now, `kept` the one that is kept.
 fn forms_row(alloc: Global, acts: &[u8]) -> Result<Vec<u8>, NoMemory> {
-    let mut db = world(alloc)?;
     let mut library = Library::new(alloc);
     let mut text = Vec::new(alloc);
-    for act in acts.split(|&byte| byte == b'|') {
-        let (word, source) = first_word(act);
-        set_source(alloc, &mut db, source)?;
+    for act in lines_of(alloc, acts, 1)?.as_slice() {
+        let (word, source) = first_word(act.as_slice());
+        let db = world(alloc, source)?;
         let answer = match word {
             b"form" => match library.formed(alloc, &db, Dbref(2))? {
                 Some(code) => code_text(alloc, code.get())?,
-                None => b"none".to_vec(alloc)?,
+                None => format!(in alloc; "none")?.into_bytes(),
+            },
+            b"kept" => match library.form(Dbref(2)) {
+                Some(code) => code_text(alloc, code.get())?,
+                None => format!(in alloc; "none")?.into_bytes(),
             },
             b"rebuild" => match library.rebuild(alloc, &db, Dbref(2))? {
                 Some(flaw) => flaw_text(alloc, BuildFault::Refused(flaw))?,
-                None => b"built".to_vec(alloc)?,
+                None => format!(in alloc; "built")?.into_bytes(),
             },
             _ => {
                 library.drop_form(Dbref(2));
-                b"dropped".to_vec(alloc)?
+                format!(in alloc; "dropped")?.into_bytes()
             }
         };
         part(&mut text, answer.as_slice())?;
-        part(&mut text, b"keeps")?;
-        part(&mut text, kept_text(alloc, &library)?.as_slice())?;
         text.push(b'.')?;
     }
     Ok(text)
 }
 
-// The objects from #-2 to #9 of which a form is kept, where one is kept of each of these.
-fn keep_row(alloc: Global, objects: &[u8]) -> Result<Vec<u8>, NoMemory> {
-    let mut db = world(alloc)?;
-    set_source(alloc, &mut db, b": main ;")?;
-    let mut library = Library::new(alloc);
-    for object in objects.split(|&byte| byte == b' ') {
-        if let (Some(object), Ok(code)) = (Dbref::read(object), build(alloc, &db, Dbref(2))) {
-            library.keep(object, Shared::new(alloc, code)?)?;
-        }
-    }
-    let mut text = Vec::new(alloc);
-    for number in -2..10 {
-        if library.form(Dbref(number)).is_some() {
-            part(&mut text, format!(in alloc; "#{number}")?.as_bytes())?;
-        }
-    }
-    Ok(text)
-}
-
-// The dictionary of these values, with the keys 0, 1 and so on.
-fn dict_of(alloc: Global, values: Vec<Value>) -> Result<Value, NoMemory> {
-    let mut dict = ValueMap::new(alloc)?;
-    let mut key: i32 = 0;
-    for value in values {
-        dict.put(MapKey::Number(key), value)?;
-        key = key.wrapping_add(1);
-    }
-    Ok(Value::Dict(Arc::new(alloc, dict)?))
-}
-
-// The item that a word stands for, behind these items: `list` and `dict` take them all as their values; `beyond` and
+// The item that a word stands for, behind these items: `list` takes them all, `dict` the last one with the key 0; `beyond` and
 // `elsewhere` are addresses, of a third word of the program and of one of another program.
 fn item_of(alloc: Global, items: &mut Vec<Value>, kind: TokenKind) -> Result<Value, NoMemory> {
     let word = match kind {
@@ -384,14 +331,25 @@ fn item_of(alloc: Global, items: &mut Vec<Value>, kind: TokenKind) -> Result<Val
         TokenKind::Text(text) => return Ok(Value::Str(Text::new(alloc, text)?)),
         TokenKind::Word(word) | TokenKind::Address(word) => word,
     };
-    let addressed = |program, word| Value::Addr { program, word };
     match word.as_slice() {
         b"me" => Ok(Value::Var(VarId(0))),
-        b"beyond" => Ok(addressed(PROGRAM, 2)),
-        b"elsewhere" => Ok(addressed(Dbref(8), 0)),
+        b"beyond" => Ok(Value::Addr {
+            program: PROGRAM,
+            word: 2,
+        }),
+        b"elsewhere" => Ok(Value::Addr {
+            program: Dbref(8),
+            word: 0,
+        }),
         b"free" => Ok(Value::Key(Shared::new(alloc, Lock::Free)?)),
         b"lock" => Ok(Value::Key(Shared::new(alloc, Lock::Object(Dbref(1)))?)),
-        b"dict" => dict_of(alloc, replace(items, Vec::new(alloc))),
+        b"dict" => {
+            let mut dict = ValueMap::new(alloc)?;
+            if let Some(value) = items.pop() {
+                dict.put(MapKey::Number(0), value)?;
+            }
+            Ok(Value::Dict(Arc::new(alloc, dict)?))
+        }
         b"list" => {
             let list = ValueList::of(replace(items, Vec::new(alloc)));
             Ok(Value::Items(Arc::new(alloc, list)?))
@@ -423,13 +381,24 @@ fn item_text(alloc: Global, item: &Value) -> Result<Vec<u8>, NoMemory> {
         Value::Items(_) => format!(in alloc; "list")?,
         Value::Dict(_) => format!(in alloc; "dict")?,
         Value::Mark => format!(in alloc; "mark")?,
-        Value::Str(text) => return quoted(alloc, text),
+        Value::Str(text) => {
+            let mut quoted = format!(in alloc; "\"")?.into_bytes();
+            quoted.extend_from_slice(text.as_slice())?;
+            quoted.push(b'"')?;
+            return Ok(quoted);
+        }
     };
     Ok(text.into_bytes())
 }
 
-// A frame at the start of the last word of a program, with these items alone.
-fn begun(alloc: Global, code: &Code, items: Vec<Value>) -> Result<Frame, NoMemory> {
+// A frame at the start of the last word of a program, with these items alone. Where a count stands there, a TRY is open that
+// locks nothing, and behind it the program #6 was entered so many times.
+fn begun(
+    alloc: Global,
+    code: &Code,
+    items: Vec<Value>,
+    entered: &[Line],
+) -> Result<Frame, NoMemory> {
     let mut frame = Frame::new(alloc, line(alloc, b"")?)?;
     let _argument = frame.pop();
     if let Some(word) = code.words.as_slice().last() {
@@ -438,20 +407,17 @@ fn begun(alloc: Global, code: &Code, items: Vec<Value>) -> Result<Frame, NoMemor
     for item in items {
         let _full = frame.push(item);
     }
-    Ok(frame)
-}
-
-// Enters the program #6 so many times, behind a TRY that locks nothing.
-fn enter_others(alloc: Global, frame: &mut Frame, times: u64) -> Result<(), NoMemory> {
-    if frame.opened() < 512 {
-        frame.push_guard(0, 0);
-    }
-    for _ in 0..times {
-        if frame.calls() < 511 {
-            frame.enter(alloc, Dbref(6), 0, 0, 1)?;
+    for count in entered {
+        if frame.opened() < 512 {
+            frame.push_guard(0, 0);
+        }
+        for _ in 0..number_of(count) {
+            if frame.calls() < 511 {
+                frame.enter(alloc, Dbref(6), 0, 0, 1)?;
+            }
         }
     }
-    Ok(())
+    Ok(frame)
 }
 
 // How a run of a program ended, after how many units, and the items that are there then.
@@ -476,21 +442,28 @@ fn ran_text(alloc: Global, code: &Code, mut frame: Frame, most: u32) -> Result<V
     Ok(text)
 }
 
+// The number that a text is, 0 where it is none.
+fn number_of(text: &Line) -> u32 {
+    match decimal(text.as_slice(), 100_000) {
+        Some(number) => number as u32,
+        None => 0,
+    }
+}
+
 // What a program does, which is given so many units and these items: `MOST|ITEMS|SOURCE`. Where a number stands behind that,
 // it runs as one that was entered so often by calls of programs.
 fn run_row(alloc: Global, rest: &[u8]) -> Result<Vec<u8>, NoMemory> {
-    let mut parts = rest.split(|&byte| byte == b'|');
-    let most = decimal(parts.next().unwrap_or(&[]), 100_000).unwrap_or(0) as u32;
-    let items = items_of(alloc, parts.next().unwrap_or(&[]))?;
-    let code = match compiled(alloc, parts.next().unwrap_or(&[])) {
+    let parts = lines_of(alloc, rest, 1)?;
+    let [most, items, source, entered @ ..] = parts.as_slice() else {
+        return Ok(format!(in alloc; "no run")?.into_bytes());
+    };
+    let code = match compiled(alloc, source.as_slice()) {
         Ok(code) => code,
         Err(fault) => return flaw_text(alloc, fault),
     };
-    let mut frame = begun(alloc, &code, items)?;
-    if let Some(times) = parts.next().and_then(|digits| decimal(digits, 100)) {
-        enter_others(alloc, &mut frame, times)?;
-    }
-    ran_text(alloc, &code, frame, most)
+    let items = items_of(alloc, items.as_slice())?;
+    let frame = begun(alloc, &code, items, entered)?;
+    ran_text(alloc, &code, frame, number_of(most))
 }
 
 // Whether an item counts as true; and the weight and the nesting of a copy, each with the least bound within which it is.
@@ -517,24 +490,21 @@ fn value_row(alloc: Global, words: &[u8]) -> Result<Vec<u8>, NoMemory> {
     Ok(text)
 }
 
-// The key that an item is.
-fn key_of(item: &Value) -> Result<MapKey, NoMemory> {
-    match item {
-        Value::Str(text) => Ok(MapKey::Name(text.share()?)),
-        Value::Int(n) => Ok(MapKey::Number(*n)),
-        _ => Ok(MapKey::Number(0)),
-    }
-}
-
 // For each key whether it stands below each of the keys.
 fn keys_row(alloc: Global, words: &[u8]) -> Result<Vec<u8>, NoMemory> {
-    let items = items_of(alloc, words)?;
+    let mut keys = Vec::new(alloc);
+    for item in items_of(alloc, words)? {
+        keys.push(match item {
+            Value::Str(text) => MapKey::Name(text),
+            Value::Int(n) => MapKey::Number(n),
+            _ => MapKey::Number(0),
+        })?;
+    }
     let mut text = Vec::new(alloc);
-    for low in items.as_slice() {
-        let low = key_of(low)?;
+    for low in keys.as_slice() {
         let mut answers = Vec::new(alloc);
-        for high in items.as_slice() {
-            let below = low.copy()?.is_below(&key_of(high)?);
+        for high in keys.as_slice() {
+            let below = low.copy()?.is_below(high);
             answers.push(if below { b'1' } else { b'0' })?;
         }
         part(&mut text, answers.as_slice())?;
@@ -545,7 +515,7 @@ fn keys_row(alloc: Global, words: &[u8]) -> Result<Vec<u8>, NoMemory> {
 // A primitive: its name, its level, whether it needs no world, and whether programs may use it so far.
 fn primitive_row(alloc: Global, word: &[u8]) -> Result<Vec<u8>, NoMemory> {
     let Some(prim) = Prim::named(word) else {
-        return Ok(b"none".to_vec(alloc)?);
+        return Ok(format!(in alloc; "none")?.into_bytes());
     };
     let mut text = prim.name().to_vec(alloc)?;
     let local = if prim.local() { "local" } else { "shared" };
