@@ -1,41 +1,31 @@
-//! Reads rows, a line each, and prints what the leaves of muckd make of them: `path //A/b` prints `path //A/b -> a/b` and what else
-//! is to be said of that path. The first word of a row says what is tried, and the rest is what it is tried on. The file `stdin`
-//! beside `src/` has the rows, and `stdout` what has to be printed of each. An empty row prints nothing, and neither does one that
-//! begins with `#`.
-//!
-//! Rows of the world may change what later rows are tried on: `new` begins anew. In their texts `{13}` stands for the byte 13, and
-//! `{20*ab}` for 20 times `ab`.
+//! Reads rows, a line each, and prints what the leaves of the language make of them: `tokens 1 +` prints the words of that source. The
+//! first word of a row says what is tried, and the rest is what it is tried on. The file `stdin` beside `src/` has the rows, and
+//! `stdout` what has to be printed of each. An empty row prints nothing, and neither does one that begins with `#`.
 #![tactic(auto)]
 
-mod language;
-mod world;
+mod rows;
 
 use muck_io::{ReaderSource, WriterSink, read_all, write_all};
 use muck_model::NoMemory;
 use std::alloc::Global;
 use std::io;
 use std::process::ExitCode;
-use world::World;
 
 /// The most bytes of rows that are read.
 const MOST: usize = 1_000_000;
 
 // What is printed of a row.
-fn told(alloc: Global, world: &mut World, row: &[u8]) -> Result<Vec<u8>, NoMemory> {
+fn told(alloc: Global, row: &[u8]) -> Result<Vec<u8>, NoMemory> {
     let cut = row
         .iter()
         .position(|&byte| byte == b' ')
         .unwrap_or(row.len());
     let (word, rest) = row.split_at(cut);
     let rest = rest.get(1..).unwrap_or(&[]);
-    match world.row(word, rest)? {
-        Some(text) => Ok(text.into_bytes()),
-        None => language::row(alloc, word, rest),
-    }
+    rows::row(alloc, word, rest)
 }
 
 fn all_told(alloc: Global, rows: &[u8]) -> Result<Vec<u8>, NoMemory> {
-    let mut world = World::new(alloc)?;
     let mut out = Vec::new(alloc);
     for row in rows.split(|&byte| byte == b'\n') {
         if row.is_empty() || row[0] == b'#' {
@@ -43,7 +33,7 @@ fn all_told(alloc: Global, rows: &[u8]) -> Result<Vec<u8>, NoMemory> {
         }
         out.extend_from_slice(row)?;
         out.extend_from_slice(b" -> ")?;
-        let text = told(alloc, &mut world, row)?;
+        let text = told(alloc, row)?;
         out.extend_from_slice(text.as_slice())?;
         out.push(b'\n')?;
     }
