@@ -13,4 +13,3 @@ pub use exits::{ExitHit, exit_for};
 pub use memory::{MemObject, MemScene};
 pub use naming::{Found, find, player, player_named};
 pub use scene::{HOME, NOTHING, Scene};
-
