@@ -9,7 +9,7 @@ use Rattle.muf_model.specs.declared.code.Offer.TheVariants.{Wizards, All}
 use Rattle.muf_model.specs.declared.code.Literal.TheVariants as literal
 use Rattle.muf_model.specs.declared.code.Word.{Word}
 use Rattle.muf_model.specs.declared.code.Word.TheVariants as item
-use Rattle.muf_model.specs.Prims.{is_there}
+use Rattle.muf_model.specs.Prims.{is_there, named_in_any_case}
 use Rattle.muf_token.specs.declared.token.Token.{Token}
 use Rattle.muf_token.specs.declared.token.TokenKind.{TokenKind}
 use Rattle.muf_token.specs.declared.token.TokenKind.TheVariants as token
@@ -31,7 +31,7 @@ use Rattle.muf_compile.specs.declared.fault.CompileFault.TheVariants.{Refused, N
 use Rattle.muf_compile.specs.declared.fault.CompileKind.{CompileKind}
 use Rattle.muf_compile.specs.declared.fault.CompileKind.TheVariants.{UnknownWord, DoubleName, BadHeader, TooLong}
 use Rattle.muf_compile.specs.Faults.{refuse, and_then}
-use Rattle.muf_compile.specs.Names.{control_of, standing_of, primitive_of, or_else}
+use Rattle.muf_compile.specs.Names.{control_of, standing_of, or_else}
 
 -- the most variables of a program, and of a word
 unfoldable pub variables_most : ℕ
@@ -71,7 +71,7 @@ unfoldable pub word_of : List ℕ → Known → Option Word
 word_of name k =
     or_else (option_map item.Variable (lookup (bytes_eq name) k.locals))
     (or_else (option_map item_of (lookup (bytes_eq name) k.names))
-    (or_else (option_map item.Variable (standing_of name)) (option_map item.Primitive (primitive_of name))))
+    (or_else (option_map item.Variable (standing_of name)) (option_map item.Primitive (named_in_any_case name))))
 
 -- whether programs may use an item so far
 abbrev pub may_use : Word → Bool

@@ -5,7 +5,7 @@ ghost use Rattle.muf_compile.specs.Acts.{cost_of};
 use muf_model::{Offer, Text, Word};
 
 /// A word that opens a choice, a TRY or a loop.
-#[derive(Clone, Copy, Debug, PartialEq, Eq)]
+#[derive(Clone, Copy)]
 pub(crate) enum Opening {
     If,
     Try,

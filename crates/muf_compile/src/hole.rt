@@ -5,7 +5,7 @@ ghost use Rattle.muf_compile.specs.Build.{is_looping, unclosed};
 use crate::CompileKind;
 
 /// An instruction whose target isn't known yet: its place, its line, and whether a loop is open round it.
-#[derive(Clone, Copy, Debug, PartialEq, Eq)]
+#[derive(Clone, Copy)]
 pub(crate) struct Hole {
     pub at: usize,
     pub line: u32,
@@ -13,7 +13,7 @@ pub(crate) struct Hole {
 }
 
 /// What is open, with the instruction whose target is not known yet.
-#[derive(Clone, Copy, Debug, PartialEq, Eq)]
+#[derive(Clone, Copy)]
 pub(crate) enum Pending {
     If(Hole),
     Else(Hole),

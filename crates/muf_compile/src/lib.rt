@@ -9,7 +9,6 @@ mod hole;
 mod known;
 mod names;
 mod pass;
-mod primitive;
 
 pub use fault::{CompileFault, CompileKind, Refusal};
 pub use pass::compile;

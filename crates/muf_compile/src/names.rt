@@ -7,7 +7,7 @@ use muck_model::Line;
 use muf_model::{Offer, VarId};
 
 /// What a name of the program's stands for.
-#[derive(Clone, Copy, Debug, PartialEq, Eq)]
+#[derive(Clone, Copy)]
 pub(crate) enum Meaning {
     /// The word of this number.
     Word(u32),
@@ -15,7 +15,7 @@ pub(crate) enum Meaning {
 }
 
 /// What a name that has to follow is wanted for.
-#[derive(Clone, Copy, Debug, PartialEq, Eq)]
+#[derive(Clone, Copy)]
 pub(crate) enum Wanted {
     /// A word whose `:` stands at this line.
     Title(u32),
@@ -30,7 +30,7 @@ pub(crate) enum Wanted {
 }
 
 /// What may come next.
-#[derive(Clone, Copy, Debug, PartialEq, Eq)]
+#[derive(Clone, Copy)]
 pub(crate) enum Mode {
     /// A declaration.
     Outside,

@@ -16,14 +16,7 @@ fn as_int(value: &Value) -> Option<i32>
 {
     match value {
         Value::Int(n) => Some(*n),
-        Value::Str(_)
-        | Value::Ref(_)
-        | Value::Var(_)
-        | Value::Addr { .. }
-        | Value::Key(_)
-        | Value::Items(_)
-        | Value::Dict(_)
-        | Value::Mark => None,
+        _ => None,
     }
 }
 
@@ -34,14 +27,7 @@ fn as_object(value: &Value) -> Option<Dbref>
 {
     match value {
         Value::Ref(d) => Some(*d),
-        Value::Int(_)
-        | Value::Str(_)
-        | Value::Var(_)
-        | Value::Addr { .. }
-        | Value::Key(_)
-        | Value::Items(_)
-        | Value::Dict(_)
-        | Value::Mark => None,
+        _ => None,
     }
 }
 
@@ -52,14 +38,7 @@ fn as_text(value: &Value) -> Option<&Text>
 {
     match value {
         Value::Str(text) => Some(text),
-        Value::Int(_)
-        | Value::Ref(_)
-        | Value::Var(_)
-        | Value::Addr { .. }
-        | Value::Key(_)
-        | Value::Items(_)
-        | Value::Dict(_)
-        | Value::Mark => None,
+        _ => None,
     }
 }
 

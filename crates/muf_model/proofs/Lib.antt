@@ -7,5 +7,6 @@ pub mod Truth
 pub mod Unique
 pub mod Views
 mod Worked
+mod Naming
 pub mod Places
 pub mod Chains

@@ -56,3 +56,5 @@ view_pairs ps = fold-roll-ValueMap Datum (MapKey × Datum) (List Datum) (List (M
 pub view_entries : (m : ValueMap) → map pair_view (out-ValueMap m).pairs.items ≡ map_view m
 view_entries m =
     sym (ap map_view (sym (roll-out-ValueMap m)) ∙ fold-roll-ValueMap Datum (MapKey × Datum) (List Datum) (List (MapKey × Datum)) value_step pair_step list_step map_step (out-ValueMap m))
+
+pub ruleset view_steps = (view_int, view_text, view_object, view_variable, view_address, view_lock, view_items, view_dict, view_mark)

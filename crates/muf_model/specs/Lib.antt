@@ -6,6 +6,7 @@ pub mod Decode
 pub mod Datum
 pub mod View
 pub mod Measures
+pub mod Kinds
 pub mod Entries
 pub mod Answer
 pub mod StackRows

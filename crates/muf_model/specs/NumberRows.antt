@@ -26,6 +26,48 @@ abbrev pub shifted : ℤ → ℤ → ℤ
 shifted i (pos n) = if nat_lt n 32 then int_shl w32 i n else pos 0
 shifted i (negsuc n) = if nat_lt n 31 then int_shr i (suc n) else (if int_lt i (pos 0) then negsuc 0 else pos 0)
 
+-- what a primitive of one integer answers
+abbrev pub int_of : Primitive → ℤ → ℤ
+int_of Increment i = int_wrapping_add w32 i (pos 1)
+int_of Decrement i = int_wrapping_sub w32 i (pos 1)
+int_of Abs i = magnitude i
+int_of Sign i = int_signum i
+int_of _ i = i
+
+-- what a primitive of two integers answers, the second one on top
+abbrev pub int_of_two : Primitive → ℤ → ℤ → ℤ
+int_of_two Add i j = int_wrapping_add w32 i j
+int_of_two Subtract i j = int_wrapping_sub w32 i j
+int_of_two Multiply i j = int_wrapping_mul w32 i j
+int_of_two Divide i j = quotient i j
+int_of_two Modulo i j = remainder i j
+int_of_two BitOr i j = int_bit_or w32 i j
+int_of_two BitAnd i j = int_bit_and w32 i j
+int_of_two BitXor i j = int_bit_xor w32 i j
+int_of_two BitShift i j = shifted i j
+int_of_two _ i j = i
+
+-- whether a comparison holds
+abbrev pub compares : Primitive → ℤ → ℤ → Bool
+compares Equal i j = int_eq i j
+compares Unequal i j = not (int_eq i j)
+compares Less i j = int_lt i j
+compares Greater i j = int_lt j i
+compares LessEqual i j = int_le i j
+compares GreaterEqual i j = int_le j i
+compares _ i j = false
+
+abbrev pub unlike : Bool → Bool → Bool
+unlike true b = not b
+unlike false b = b
+
+-- what AND, OR and XOR answer
+abbrev pub joined : Primitive → Bool → Bool → Bool
+joined And a b = a && b
+joined Or a b = a || b
+joined Xor a b = unlike a b
+joined _ a b = a
+
 -- of one integer
 abbrev pub one_int : (ℤ → ℤ) → List Datum → Answer
 one_int f (int i ∷ rest) = gives (int (f i) ∷ rest)
@@ -47,10 +89,6 @@ abbrev pub two_truths : (Bool → Bool → Bool) → List Datum → Answer
 two_truths f (y ∷ x ∷ rest) = gives (truth (f (is_true x) (is_true y)) ∷ rest)
 two_truths f _ = refuses StackEmpty
 
-abbrev pub unlike : Bool → Bool → Bool
-unlike true b = not b
-unlike false b = b
-
 abbrev pub number_of : List Datum → Answer
 number_of (int i ∷ rest) = gives (int i ∷ rest)
 number_of (object d ∷ rest) = gives (int d ∷ rest)
@@ -66,29 +104,29 @@ objects_equal (object j ∷ object i ∷ rest) = gives (truth (int_eq i j) ∷ r
 objects_equal _ = refuses BadType
 
 abbrev pub number_row : Primitive → ℕ → List Datum → Answer
-number_row Add locked stack = needing 2 locked stack (two_ints (int_wrapping_add w32) stack)
-number_row Subtract locked stack = needing 2 locked stack (two_ints (int_wrapping_sub w32) stack)
-number_row Multiply locked stack = needing 2 locked stack (two_ints (int_wrapping_mul w32) stack)
-number_row Divide locked stack = needing 2 locked stack (two_ints quotient stack)
-number_row Modulo locked stack = needing 2 locked stack (two_ints remainder stack)
-number_row Increment locked stack = needing 1 locked stack (one_int (λ i. int_wrapping_add w32 i (pos 1)) stack)
-number_row Decrement locked stack = needing 1 locked stack (one_int (λ i. int_wrapping_sub w32 i (pos 1)) stack)
-number_row Abs locked stack = needing 1 locked stack (one_int magnitude stack)
-number_row Sign locked stack = needing 1 locked stack (one_int int_signum stack)
-number_row BitOr locked stack = needing 2 locked stack (two_ints (int_bit_or w32) stack)
-number_row BitAnd locked stack = needing 2 locked stack (two_ints (int_bit_and w32) stack)
-number_row BitXor locked stack = needing 2 locked stack (two_ints (int_bit_xor w32) stack)
-number_row BitShift locked stack = needing 2 locked stack (two_ints shifted stack)
-number_row Equal locked stack = needing 2 locked stack (compared int_eq stack)
-number_row Unequal locked stack = needing 2 locked stack (compared (λ i j. not (int_eq i j)) stack)
-number_row Less locked stack = needing 2 locked stack (compared int_lt stack)
-number_row Greater locked stack = needing 2 locked stack (compared (λ i j. int_lt j i) stack)
-number_row LessEqual locked stack = needing 2 locked stack (compared int_le stack)
-number_row GreaterEqual locked stack = needing 2 locked stack (compared (λ i j. int_le j i) stack)
+number_row Add locked stack = needing 2 locked stack (two_ints (int_of_two Add) stack)
+number_row Subtract locked stack = needing 2 locked stack (two_ints (int_of_two Subtract) stack)
+number_row Multiply locked stack = needing 2 locked stack (two_ints (int_of_two Multiply) stack)
+number_row Divide locked stack = needing 2 locked stack (two_ints (int_of_two Divide) stack)
+number_row Modulo locked stack = needing 2 locked stack (two_ints (int_of_two Modulo) stack)
+number_row Increment locked stack = needing 1 locked stack (one_int (int_of Increment) stack)
+number_row Decrement locked stack = needing 1 locked stack (one_int (int_of Decrement) stack)
+number_row Abs locked stack = needing 1 locked stack (one_int (int_of Abs) stack)
+number_row Sign locked stack = needing 1 locked stack (one_int (int_of Sign) stack)
+number_row BitOr locked stack = needing 2 locked stack (two_ints (int_of_two BitOr) stack)
+number_row BitAnd locked stack = needing 2 locked stack (two_ints (int_of_two BitAnd) stack)
+number_row BitXor locked stack = needing 2 locked stack (two_ints (int_of_two BitXor) stack)
+number_row BitShift locked stack = needing 2 locked stack (two_ints (int_of_two BitShift) stack)
+number_row Equal locked stack = needing 2 locked stack (compared (compares Equal) stack)
+number_row Unequal locked stack = needing 2 locked stack (compared (compares Unequal) stack)
+number_row Less locked stack = needing 2 locked stack (compared (compares Less) stack)
+number_row Greater locked stack = needing 2 locked stack (compared (compares Greater) stack)
+number_row LessEqual locked stack = needing 2 locked stack (compared (compares LessEqual) stack)
+number_row GreaterEqual locked stack = needing 2 locked stack (compared (compares GreaterEqual) stack)
 number_row Not locked stack = needing 1 locked stack (judged (λ x. not (is_true x)) stack)
-number_row And locked stack = needing 2 locked stack (two_truths (λ a b. a && b) stack)
-number_row Or locked stack = needing 2 locked stack (two_truths (λ a b. a || b) stack)
-number_row Xor locked stack = needing 2 locked stack (two_truths unlike stack)
+number_row And locked stack = needing 2 locked stack (two_truths (joined And) stack)
+number_row Or locked stack = needing 2 locked stack (two_truths (joined Or) stack)
+number_row Xor locked stack = needing 2 locked stack (two_truths (joined Xor) stack)
 number_row ToInt locked stack = needing 1 locked stack (number_of stack)
 number_row ToDbref locked stack = needing 1 locked stack (object_of stack)
 number_row DbCmp locked stack = needing 2 locked stack (objects_equal stack)

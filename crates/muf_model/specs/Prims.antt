@@ -1,5 +1,6 @@
 -- The primitives: their families, levels and names.
-use Rattle.std.specs.Prelude.{ℕ, Bool, true, false, List, [], ◌∷◌, Option, option_and_then, slice_get, position, bytes_eq, codes}
+use Rattle.std.specs.Prelude.{ℕ, Bool, true, false, List, [], ◌∷◌, Option, find, map, bytes_eq, codes}
+use Rattle.std.specs.Char.{to_ascii_lowercase}
 use Rattle.muf_model.specs.declared.prims.Primitive.{Primitive}
 use Rattle.muf_model.specs.declared.prims.Primitive.TheVariants.{Pop, Dup, DupTrue, Swap, Over, Rot, Rotate, Pick, Put, Nip, Tuck, DupN, LDup, PopN, Reverse, Depth, OpenMark, CloseMark, Fetch, Store, IsInt, IsString, IsDbref, IsArray, IsDictionary, IsAddress, IsLock, Execute, Abort, Add, Subtract, Multiply, Divide, Modulo, Increment, Decrement, Abs, Sign, BitOr, BitAnd, BitXor, BitShift, Equal, Unequal, Less, Greater, LessEqual, GreaterEqual, Not, And, Or, Xor, ToInt, ToDbref, DbCmp, StrCat, StrCmp, StringCmp, StrNCmp, StrLen, StrCut, MidStr, InStr, RInStr, InString, RInString, Explode, Split, RSplit, Subst, ToUpper, ToLower, StripLead, StripTail, AToI, IntToStr, CharToInt, IntToChar, ArrayMake, ArrayMakeDict, ArrayCount, ArrayGetItem, ArraySetItem, ArrayInsertItem, ArrayAppendItem, ArrayDelItem, ArrayFirst, ArrayNext, ArrayKeys, ArrayVals, ArrayExplode, ArrayJoin, Name, Owner, Location, Contents, Exits, Next, IsOk, IsPlayer, IsThing, IsRoom, IsExit, IsProgram, Match, PMatch, MoveTo, SetName, Set, HasFlag, MLevel, GetLink, SetLink, NewRoom, NewObject, NewExit, Recycle, SetOwn, Controls, GetLockStr, SetLockStr, ParseLock, UnparseLock, TestLock, UnparseObj, DbTop, GetProp, GetPropStr, GetPropVal, SetProp, AddProp, RemoveProp, NextProp, IsPropDir, EnvProp, EnvPropStr, ParseMpi, Notify, NotifyExclude, IsAwake, Online, ConCount, ConDbref, Descriptors, Descr, ConBoot, Call, Fork, Sleep, Read, Kill, Pid, IsPid, Queue, Mode, SetMode, Preempt, Foreground, Background, SysTime, Random, EventSend, EventWait, EventCount, Prog, Trig, Caller, Cmd}
 use Rattle.muf_model.specs.declared.prims.Family.{Family}
@@ -403,4 +404,12 @@ primitives = Pop ∷ Dup ∷ DupTrue ∷ Swap ∷ Over ∷ Rot ∷ Rotate ∷ Pi
 
 -- the primitive of a name in capitals
 abbrev pub named : List ℕ → Option Primitive
-named word = option_and_then (λ at. slice_get primitives at) (position (λ p. bytes_eq (name_of p) word) primitives)
+named word = find (λ p. bytes_eq (name_of p) word) primitives
+
+-- whether a word is the name of a primitive, in any case
+abbrev pub is_named : List ℕ → Primitive → Bool
+is_named word p = bytes_eq (map to_ascii_lowercase (name_of p)) (map to_ascii_lowercase word)
+
+-- the primitive of a name in any case
+unfoldable pub named_in_any_case : List ℕ → Option Primitive
+named_in_any_case word = find (is_named word) primitives

@@ -6,6 +6,7 @@ use Rattle.muf_model.specs.declared.prims.Primitive.{Primitive}
 use Rattle.muf_model.specs.declared.prims.Primitive.TheVariants.{Pop, Dup, DupTrue, Swap, Over, Rot, Rotate, Pick, Put, Nip, Tuck, DupN, LDup, PopN, Reverse, Depth, OpenMark, CloseMark, Fetch, Store, IsInt, IsString, IsDbref, IsArray, IsDictionary, IsAddress, IsLock, Execute, Abort}
 use Rattle.muf_model.specs.Datum.{Datum, int, text, object, variable, address, lock, items, dict, mark}
 use Rattle.muf_model.specs.Measures.{is_true}
+use Rattle.muf_model.specs.Kinds.{is_so}
 use Rattle.muf_model.specs.Answer.{Answer, gives, stores, calls, refuses, unknown, Scope, variable_at, needing, fitting, counted}
 
 abbrev pub popped : List Datum → Answer
@@ -121,35 +122,6 @@ abbrev pub judged : (Datum → Bool) → List Datum → Answer
 judged test (x ∷ rest) = gives (truth (test x) ∷ rest)
 judged test [] = refuses StackEmpty
 
-abbrev pub is_int : Datum → Bool
-is_int (int n) = true
-is_int _ = false
-
-abbrev pub is_text : Datum → Bool
-is_text (text t) = true
-is_text _ = false
-
-abbrev pub is_object : Datum → Bool
-is_object (object d) = true
-is_object _ = false
-
-abbrev pub is_array : Datum → Bool
-is_array (items ds) = true
-is_array (dict ps) = true
-is_array _ = false
-
-abbrev pub is_dict : Datum → Bool
-is_dict (dict ps) = true
-is_dict _ = false
-
-abbrev pub is_address : Datum → Bool
-is_address (address program word) = true
-is_address _ = false
-
-abbrev pub is_lock : Datum → Bool
-is_lock (lock l) = true
-is_lock _ = false
-
 -- the word at an address of the running program
 abbrev pub executed : Scope → List Datum → Answer
 executed s (address program word ∷ rest) =
@@ -181,13 +153,13 @@ stack_row OpenMark s stack = fitting (mark ∷ stack)
 stack_row CloseMark s stack = unmarked (position is_mark (above s.locked stack)) stack
 stack_row Fetch s stack = needing 1 s.locked stack (fetching s stack)
 stack_row Store s stack = needing 2 s.locked stack (storing s stack)
-stack_row IsInt s stack = needing 1 s.locked stack (judged is_int stack)
-stack_row IsString s stack = needing 1 s.locked stack (judged is_text stack)
-stack_row IsDbref s stack = needing 1 s.locked stack (judged is_object stack)
-stack_row IsArray s stack = needing 1 s.locked stack (judged is_array stack)
-stack_row IsDictionary s stack = needing 1 s.locked stack (judged is_dict stack)
-stack_row IsAddress s stack = needing 1 s.locked stack (judged is_address stack)
-stack_row IsLock s stack = needing 1 s.locked stack (judged is_lock stack)
+stack_row IsInt s stack = needing 1 s.locked stack (judged (is_so IsInt) stack)
+stack_row IsString s stack = needing 1 s.locked stack (judged (is_so IsString) stack)
+stack_row IsDbref s stack = needing 1 s.locked stack (judged (is_so IsDbref) stack)
+stack_row IsArray s stack = needing 1 s.locked stack (judged (is_so IsArray) stack)
+stack_row IsDictionary s stack = needing 1 s.locked stack (judged (is_so IsDictionary) stack)
+stack_row IsAddress s stack = needing 1 s.locked stack (judged (is_so IsAddress) stack)
+stack_row IsLock s stack = needing 1 s.locked stack (judged (is_so IsLock) stack)
 stack_row Execute s stack = needing 1 s.locked stack (executed s stack)
 stack_row Abort s stack = needing 1 s.locked stack (aborted stack)
 stack_row _ s stack = unknown

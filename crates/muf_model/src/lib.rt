@@ -4,6 +4,7 @@
 mod code;
 mod dicts;
 mod fault;
+mod kind;
 mod lists;
 mod measures;
 mod prims;
@@ -13,6 +14,7 @@ mod value;
 
 pub use code::{Closer, Code, CodeWord, Instr, Literal, Offer, Placed, VarId, Word};
 pub use fault::MufFault;
+pub use kind::ItemKind;
 pub use prims::{Family, Primitive};
 pub use shared::Shared;
 pub use text::Text;

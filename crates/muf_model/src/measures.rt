@@ -73,13 +73,7 @@ impl Value {
         match self {
             Value::Items(list) => Some(1 + weight_of_values(&list.items, rest)?),
             Value::Dict(pairs) => Some(1 + weight_of_pairs(&pairs.pairs, rest)?),
-            Value::Int(_)
-            | Value::Str(_)
-            | Value::Ref(_)
-            | Value::Var(_)
-            | Value::Addr { .. }
-            | Value::Key(_)
-            | Value::Mark => Some(1),
+            _ => Some(1),
         }
     }
 
@@ -98,13 +92,7 @@ impl Value {
                 let rest = most.checked_sub(1)?;
                 Some(1 + nesting_of_pairs(&pairs.pairs, rest)?)
             }
-            Value::Int(_)
-            | Value::Str(_)
-            | Value::Ref(_)
-            | Value::Var(_)
-            | Value::Addr { .. }
-            | Value::Key(_)
-            | Value::Mark => Some(0),
+            _ => Some(0),
         }
     }
 }

@@ -1,6 +1,6 @@
 // The primitives, by name.
-ghost use Rattle.std.specs.Prelude.{◌≡◌, bytes_eq, position, slice_get, option_and_then};
-ghost use Rattle.muf_model.specs.Prims.{level_of, is_local, is_there, family_of, name_of, primitives, named};
+ghost use Rattle.std.specs.Prelude.{◌≡◌};
+ghost use Rattle.muf_model.specs.Prims.{level_of, is_local, is_there, family_of, name_of, primitives, named, is_named, named_in_any_case};
 
 /// A primitive, by its name. [`Prim`](crate::Prim) is another name of this type.
 #[derive(Clone, Copy, PartialEq, Eq, Debug)]
@@ -760,39 +760,29 @@ impl Primitive {
     pub fn named(word: &[u8]) -> Option<Primitive>
         ensures { result ≡ named word.now }
     {
-        first_named(all(), word)
+        all()
+            .iter()
+            .copied()
+            .find(|primitive| primitive.name() == word)
     }
 
-    // Whether this is its name.
-    fn has_name(&self, word: &[u8]) -> bool
-        ensures { result ≡ bytes_eq (name_of self.now) word.now }
+    /// The primitive of a name in any case; `None` exactly where no primitive has it.
+    #[tactic(auto, unfolding(crate::specs::Prims::named_in_any_case))]
+    pub fn named_in_any_case(word: &[u8]) -> Option<Primitive>
+        ensures { result ≡ named_in_any_case word.now }
     {
-        self.name() == word
+        all()
+            .iter()
+            .copied()
+            .find(|primitive| primitive.is_named(word))
     }
-}
 
-// The place of the first primitive that has a name.
-fn place_of(some: &[Primitive], word: &[u8]) -> Option<usize>
-    ensures { result ≡ position (λ p. bytes_eq (name_of p) word.now) some.now }
-{
-    some.iter().position(|p| p.has_name(word))
-}
-
-// The first of some primitives that has a name.
-fn first_named(some: &[Primitive], word: &[u8]) -> Option<Primitive>
-    ensures { result ≡ option_and_then (λ at. slice_get some.now at) (position (λ p. bytes_eq (name_of p) word.now) some.now) }
-{
-    match place_of(some, word) {
-        Some(at) => at_place(some, at),
-        None => None,
+    // Whether a word is its name, in any case.
+    fn is_named(self, word: &[u8]) -> bool
+        ensures { result ≡ is_named word.now self }
+    {
+        self.name().eq_ignore_ascii_case(word)
     }
-}
-
-// The primitive at a place.
-fn at_place(some: &[Primitive], at: usize) -> Option<Primitive>
-    ensures { result ≡ slice_get some.now at }
-{
-    some.get(at).copied()
 }
 
 // All of them.

@@ -2,6 +2,7 @@
 ghost use Rattle.std.specs.Prelude.{◌≡◌, ◌++◌, ◌∷◌, [], IfOk, OnErr, map, option_map, slice_get, length};
 ghost use Rattle.muf_model.specs.View.{view, pair_view, list_view, map_view};
 ghost use Rattle.muf_model.specs.Measures.{is_true, key_below};
+ghost use Rattle.muf_model.specs.StackRows.{truth};
 
 use crate::{Shared, Text, VarId};
 use muck_model::{Dbref, Lock, NoMemory};
@@ -53,6 +54,14 @@ pub enum MapKey {
 }
 
 impl Value {
+    /// The integer of a truth: 1 or 0.
+    #[tactic(auto, using(crate::proofs::Views::view_int))]
+    pub fn truth(yes: bool) -> Value
+        ensures { view result ≡ truth yes }
+    {
+        if yes { Value::Int(1) } else { Value::Int(0) }
+    }
+
     /// An equal value, which shares texts, locks, lists and dictionaries with this one.
     pub fn copy(&self) -> Result<Value, NoMemory>
         ensures { IfOk result (λ v. view v ≡ view self.now) }

@@ -1,4 +1,3 @@
 pub mod Fitting
-pub mod Items
 pub mod Begins
 pub mod Stints

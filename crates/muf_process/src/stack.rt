@@ -3,30 +3,11 @@ ghost use Rattle.std.specs.Prelude.{◌≡◌, ◌+◌, ◌<◌, ◌≤◌, drop
 ghost use Rattle.std.specs.Option.{option_map};
 ghost use Rattle.muf_model.specs.Answer.{too_few};
 ghost use Rattle.muf_model.specs.Source.{locked_of};
-ghost use Rattle.muf_model.specs.View.{view};
-ghost use Rattle.muf_frame.specs.Answers.{object_at};
-ghost use Rattle.muf_process.specs.Items.{as_text, text_at};
+ghost use Rattle.muf_frame.specs.Answers.{object_at, text_at};
 
 use crate::Running;
 use muck_model::{Dbref, Line};
-use muf_model::{MufFault, Value};
-
-// The text that a value is.
-fn as_text(value: &Value) -> Option<&Line>
-    ensures { option_copied result ≡ as_text (view value.now) }
-{
-    match value {
-        Value::Str(text) => Some(text.as_line()),
-        Value::Int(_)
-        | Value::Ref(_)
-        | Value::Var(_)
-        | Value::Addr { .. }
-        | Value::Key(_)
-        | Value::Items(_)
-        | Value::Dict(_)
-        | Value::Mark => None,
-    }
-}
+use muf_model::MufFault;
 
 impl Running {
     /// Refused where fewer items stand above the locked part: `StackLocked` where the whole stack has enough of them,
@@ -49,8 +30,8 @@ impl Running {
     pub fn text_at(&self, depth: usize) -> Option<&Line>
         ensures { option_copied result ≡ text_at depth self.now.stack }
     {
-        match self.frame.peek(depth) {
-            Some(value) => as_text(value),
+        match self.frame.text_at(depth) {
+            Some(text) => Some(text.as_line()),
             None => None,
         }
     }

@@ -34,13 +34,7 @@ fn turns_over(item: Value) -> Option<Turns>
     match item {
         Value::Items(of) => Some(Turns::Values { of, at: 0 }),
         Value::Dict(of) => Some(Turns::Pairs { of, at: 0 }),
-        Value::Int(_)
-        | Value::Str(_)
-        | Value::Ref(_)
-        | Value::Var(_)
-        | Value::Addr { .. }
-        | Value::Key(_)
-        | Value::Mark => None,
+        _ => None,
     }
 }
 
@@ -49,16 +43,7 @@ fn turns_over(item: Value) -> Option<Turns>
 fn is_keyed(item: &Value) -> bool
     ensures { result ≡ is_some (machine.keys_of (view item.now)) }
 {
-    match item {
-        Value::Items(_) | Value::Dict(_) => true,
-        Value::Int(_)
-        | Value::Str(_)
-        | Value::Ref(_)
-        | Value::Var(_)
-        | Value::Addr { .. }
-        | Value::Key(_)
-        | Value::Mark => false,
-    }
+    matches!(item, Value::Items(_) | Value::Dict(_))
 }
 
 // Whether the top item is one.

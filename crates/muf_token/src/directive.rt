@@ -13,7 +13,7 @@ use muck_model::{Line, Row};
 use std::alloc::Global;
 
 /// What a word that begins with `$` asks for.
-#[derive(Clone, Copy, Debug, PartialEq, Eq)]
+#[derive(Clone, Copy)]
 pub(crate) enum Directive {
     Def,
     Define,

@@ -10,7 +10,7 @@ use muck_model::{Dbref, Line, NoMemory};
 use std::alloc::Global;
 
 /// Whether a word writes an integer: an optional `-` and digits.
-#[derive(Clone, Copy, Debug, PartialEq, Eq)]
+#[derive(Clone, Copy)]
 pub(crate) enum Numeral {
     /// It writes none.
     No,

@@ -51,15 +51,13 @@ compared_read f (int j ∷ int i ∷ rest) = refl
 compared_read f (object j ∷ object i ∷ rest) = refl
 compared_read f _ = refl
 
-pub ruleset int_steps = (one_int_read, two_ints_read, map_drop, length-map)
+pub ruleset int_steps = (one_int_read, two_ints_read, map_drop, length-map, view_int)
 
 pub ruleset alike_steps = (alike_read)
 
 pub ruleset compare_steps = (compared_read, map_drop, length-map)
 
 pub ruleset truth_steps = (length-map)
-
-pub ruleset give_steps = (view_int)
 
 abbrev number_read : Option ℤ → List Datum → Answer
 number_read (Some i) rest = gives (int i ∷ rest)

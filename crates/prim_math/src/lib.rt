@@ -1,8 +1,8 @@
 //! The primitives of numbers, which need nothing but the stack and take no memory.
 #![tactic(auto)]
 
-mod items;
 mod rows;
+mod shapes;
 mod table;
 
 pub use table::apply;

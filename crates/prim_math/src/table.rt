@@ -6,7 +6,7 @@ ghost use Rattle.muf_model.specs.Prims.{family_of};
 ghost use Rattle.muf_frame.specs.Shown.{Shown, flat, locked_by};
 ghost use Rattle.muf_frame.specs.Answers.{Answered, Applied};
 
-use crate::rows;
+use crate::shapes;
 use muf_frame::{Frame, PrimFault};
 use muf_model::{MufFault, Prim};
 
@@ -17,32 +17,27 @@ fn answer(prim: Prim, frame: &mut Frame) -> Result<(), MufFault>
     ensures { Answered (number_row prim (locked_by (flat frame.old).marks) (flat frame.old).stack) frame.old frame.new result }
 {
     match prim {
-        Prim::Add => rows::add(frame),
-        Prim::Subtract => rows::subtract(frame),
-        Prim::Multiply => rows::multiply(frame),
-        Prim::Divide => rows::divide(frame),
-        Prim::Modulo => rows::modulo(frame),
-        Prim::Increment => rows::increment(frame),
-        Prim::Decrement => rows::decrement(frame),
-        Prim::Abs => rows::abs(frame),
-        Prim::Sign => rows::sign(frame),
-        Prim::BitOr => rows::bit_or(frame),
-        Prim::BitAnd => rows::bit_and(frame),
-        Prim::BitXor => rows::bit_xor(frame),
-        Prim::BitShift => rows::bit_shift(frame),
-        Prim::Equal => rows::equal(frame),
-        Prim::Unequal => rows::unequal(frame),
-        Prim::Less => rows::less(frame),
-        Prim::Greater => rows::greater(frame),
-        Prim::LessEqual => rows::less_equal(frame),
-        Prim::GreaterEqual => rows::greater_equal(frame),
-        Prim::Not => rows::negate(frame),
-        Prim::And => rows::both(frame),
-        Prim::Or => rows::either(frame),
-        Prim::Xor => rows::one_of(frame),
-        Prim::ToInt => rows::to_int(frame),
-        Prim::ToDbref => rows::to_dbref(frame),
-        Prim::DbCmp => rows::same_object(frame),
+        Prim::Add
+        | Prim::Subtract
+        | Prim::Multiply
+        | Prim::Divide
+        | Prim::Modulo
+        | Prim::BitOr
+        | Prim::BitAnd
+        | Prim::BitXor
+        | Prim::BitShift => shapes::two_ints(prim, frame),
+        Prim::Increment | Prim::Decrement | Prim::Abs | Prim::Sign => shapes::one_int(prim, frame),
+        Prim::Equal
+        | Prim::Unequal
+        | Prim::Less
+        | Prim::Greater
+        | Prim::LessEqual
+        | Prim::GreaterEqual => shapes::compared(prim, frame),
+        Prim::Not => shapes::negated(frame),
+        Prim::And | Prim::Or | Prim::Xor => shapes::two_truths(prim, frame),
+        Prim::ToInt => shapes::to_int(frame),
+        Prim::ToDbref => shapes::to_object(frame),
+        Prim::DbCmp => shapes::objects_equal(frame),
         _ => unreachable!(),
     }
 }

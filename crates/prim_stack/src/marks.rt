@@ -4,14 +4,21 @@ ghost use Rattle.std.specs.List.{position};
 ghost use Rattle.muf_model.specs.Datum.{int};
 ghost use Rattle.muf_model.specs.declared.prims.Primitive.TheVariants.{CloseMark};
 ghost use Rattle.muf_model.specs.StackRows.{stack_row, is_mark, above};
+ghost use Rattle.muf_model.specs.View.{view};
 ghost use Rattle.muf_frame.specs.Shown.{Shown, flat, locked_by};
 ghost use Rattle.muf_frame.specs.Moves.{scope_of};
 ghost use Rattle.muf_frame.specs.Answers.{Answered};
 ghost use Rattle.prim_stack.specs.Does.{mark_in};
 
-use crate::kinds::is_mark;
 use muf_frame::Frame;
 use muf_model::{MufFault, Value};
+
+#[tactic(auto, using(muf_frame::proofs::Data::item_steps))]
+fn is_mark(value: &Value) -> bool
+    ensures { result ≡ is_mark (view value.now) }
+{
+    matches!(value, Value::Mark)
+}
 
 // Whether a mark stands at this depth below the top.
 #[tactic(auto, using(crate::proofs::Tops::mark_steps))]

@@ -22,14 +22,7 @@ fn as_variable(value: &Value) -> Option<VarId>
 {
     match value {
         Value::Var(v) => Some(*v),
-        Value::Int(_)
-        | Value::Str(_)
-        | Value::Ref(_)
-        | Value::Addr { .. }
-        | Value::Key(_)
-        | Value::Items(_)
-        | Value::Dict(_)
-        | Value::Mark => None,
+        _ => None,
     }
 }
 
@@ -40,14 +33,7 @@ fn as_address(value: &Value) -> Option<(Dbref, u32)>
 {
     match value {
         Value::Addr { program, word } => Some((*program, *word)),
-        Value::Int(_)
-        | Value::Str(_)
-        | Value::Ref(_)
-        | Value::Var(_)
-        | Value::Key(_)
-        | Value::Items(_)
-        | Value::Dict(_)
-        | Value::Mark => None,
+        _ => None,
     }
 }
 

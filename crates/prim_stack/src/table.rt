@@ -40,13 +40,13 @@ fn moved(prim: Prim, frame: &mut Frame) -> Result<(), MufFault>
         Prim::OpenMark => moves::open_mark(frame),
         Prim::CloseMark => marks::close_mark(frame),
         Prim::Store => names::store(frame),
-        Prim::IsInt => kinds::judge_int(frame),
-        Prim::IsString => kinds::judge_text(frame),
-        Prim::IsDbref => kinds::judge_object(frame),
-        Prim::IsArray => kinds::judge_array(frame),
-        Prim::IsDictionary => kinds::judge_dict(frame),
-        Prim::IsAddress => kinds::judge_address(frame),
-        Prim::IsLock => kinds::judge_lock(frame),
+        Prim::IsInt
+        | Prim::IsString
+        | Prim::IsDbref
+        | Prim::IsArray
+        | Prim::IsDictionary
+        | Prim::IsAddress
+        | Prim::IsLock => kinds::judge(prim, frame),
         _ => unreachable!(),
     }
 }

@@ -1,0 +1,34 @@
+-- The kinds of values.
+use Rattle.std.specs.Prelude.{Bool, true, false}
+use Rattle.muf_model.specs.declared.kind.ItemKind.{ItemKind}
+use Rattle.muf_model.specs.declared.kind.ItemKind.TheVariants as kind
+use Rattle.muf_model.specs.declared.prims.Primitive.{Primitive}
+use Rattle.muf_model.specs.declared.prims.Primitive.TheVariants.{IsInt, IsString, IsDbref, IsArray, IsDictionary, IsAddress, IsLock}
+use Rattle.muf_model.specs.Datum.{Datum, int, text, object, variable, address, lock, items, dict, mark}
+
+abbrev pub kind_of : Datum → ItemKind
+kind_of (int n) = kind.Int
+kind_of (text t) = kind.Text
+kind_of (object d) = kind.Object
+kind_of (variable v) = kind.Variable
+kind_of (address program word) = kind.Address
+kind_of (lock l) = kind.Lock
+kind_of (items ds) = kind.List
+kind_of (dict ps) = kind.Dictionary
+kind_of mark = kind.Mark
+
+-- whether a test of kinds is true of a kind; ARRAY? is true of lists and dictionaries
+abbrev pub is_kind : Primitive → ItemKind → Bool
+is_kind IsInt kind.Int = true
+is_kind IsString kind.Text = true
+is_kind IsDbref kind.Object = true
+is_kind IsArray kind.List = true
+is_kind IsArray kind.Dictionary = true
+is_kind IsDictionary kind.Dictionary = true
+is_kind IsAddress kind.Address = true
+is_kind IsLock kind.Lock = true
+is_kind _ _ = false
+
+-- whether a test of kinds is true of a value
+abbrev pub is_so : Primitive → Datum → Bool
+is_so test d = is_kind test (kind_of d)

@@ -1,0 +1,194 @@
+// The shapes of the primitives of numbers: what each takes, and that its answer takes its place.
+ghost use Rattle.std.specs.Prelude.{◌≡◌, ℤ, not, slice_get};
+ghost use Rattle.std.specs.Option.{option_and_then};
+ghost use Rattle.muf_model.specs.Measures.{is_true};
+ghost use Rattle.muf_model.specs.NumberRows.{one_int, two_ints, compared, two_truths, number_of, object_of, objects_equal, int_of, int_of_two, compares, joined};
+ghost use Rattle.muf_model.specs.StackRows.{judged};
+ghost use Rattle.muf_model.specs.View.{view};
+ghost use Rattle.muf_frame.specs.Shown.{Shown, flat};
+ghost use Rattle.muf_frame.specs.Answers.{Answered, having};
+ghost use Rattle.prim_math.specs.Alike.{alike, as_number};
+
+use crate::rows::{compares, int_of, int_of_two, joined};
+use muck_model::Dbref;
+use muf_frame::Frame;
+use muf_model::{MufFault, Prim, Value};
+
+/// `++`, `--`, ABS and SIGN.
+#[tactic(auto, using(crate::proofs::Taking::int_steps))]
+pub(crate) fn one_int(prim: Prim, frame: &mut Frame) -> Result<(), MufFault>
+    ensures { Answered (having 1 frame.old (one_int (int_of prim) (flat frame.old).stack)) frame.old frame.new result }
+{
+    frame.need(1)?;
+    match frame.int_at(0) {
+        Some(i) => {
+            frame.drop_items(1);
+            frame.push_item(Value::Int(int_of(prim, i)));
+            Ok(())
+        }
+        None => Err(MufFault::BadType),
+    }
+}
+
+/// The primitives of two integers, the second one on the top.
+#[tactic(auto, using(crate::proofs::Taking::int_steps))]
+pub(crate) fn two_ints(prim: Prim, frame: &mut Frame) -> Result<(), MufFault>
+    ensures { Answered (having 2 frame.old (two_ints (int_of_two prim) (flat frame.old).stack)) frame.old frame.new result }
+{
+    frame.need(2)?;
+    match frame.int_at(0) {
+        Some(j) => match frame.int_at(1) {
+            Some(i) => {
+                frame.drop_items(2);
+                frame.push_item(Value::Int(int_of_two(prim, i, j)));
+                Ok(())
+            }
+            None => Err(MufFault::BadType),
+        },
+        None => Err(MufFault::BadType),
+    }
+}
+
+// The numbers of two integers or of two objects, the second one on the top.
+#[tactic(auto, using(crate::proofs::Taking::alike_steps))]
+fn numbers_alike(frame: &Frame) -> Option<(i32, i32)>
+    ensures { result ≡ alike (flat frame.now).stack }
+{
+    match frame.int_at(0) {
+        Some(j) => match frame.int_at(1) {
+            Some(i) => Some((i, j)),
+            None => None,
+        },
+        None => match frame.object_at(0) {
+            Some(j) => match frame.object_at(1) {
+                Some(i) => Some((i.0, j.0)),
+                None => None,
+            },
+            None => None,
+        },
+    }
+}
+
+/// The comparisons, of two integers or two objects, the second one on the top.
+#[tactic(auto, using(crate::proofs::Taking::compare_steps))]
+pub(crate) fn compared(prim: Prim, frame: &mut Frame) -> Result<(), MufFault>
+    ensures { Answered (having 2 frame.old (compared (compares prim) (flat frame.old).stack)) frame.old frame.new result }
+{
+    frame.need(2)?;
+    match numbers_alike(frame) {
+        Some((i, j)) => {
+            frame.drop_items(2);
+            frame.push_item(Value::truth(compares(prim, i, j)));
+            Ok(())
+        }
+        None => Err(MufFault::BadType),
+    }
+}
+
+/// NOT.
+#[tactic(auto, using(crate::proofs::Taking::truth_steps))]
+pub(crate) fn negated(frame: &mut Frame) -> Result<(), MufFault>
+    ensures { Answered (having 1 frame.old (judged (λ x. not (is_true x)) (flat frame.old).stack)) frame.old frame.new result }
+{
+    frame.need(1)?;
+    match frame.pop_item() {
+        Some(x) => {
+            frame.push_item(Value::truth(!x.is_true()));
+            Ok(())
+        }
+        None => unreachable!(),
+    }
+}
+
+/// AND, OR and XOR.
+#[tactic(auto, using(crate::proofs::Taking::truth_steps))]
+pub(crate) fn two_truths(prim: Prim, frame: &mut Frame) -> Result<(), MufFault>
+    ensures { Answered (having 2 frame.old (two_truths (joined prim) (flat frame.old).stack)) frame.old frame.new result }
+{
+    frame.need(2)?;
+    match frame.pop_item() {
+        Some(y) => match frame.pop_item() {
+            Some(x) => {
+                frame.push_item(Value::truth(joined(prim, x.is_true(), y.is_true())));
+                Ok(())
+            }
+            None => unreachable!(),
+        },
+        None => unreachable!(),
+    }
+}
+
+// The number that a value is or has.
+#[tactic(auto, using(muf_frame::proofs::Data::item_steps))]
+fn as_number(value: &Value) -> Option<i32>
+    ensures { result ≡ as_number (view value.now) }
+{
+    match value {
+        Value::Int(i) => Some(*i),
+        Value::Ref(d) => Some(d.0),
+        Value::Var(v) => Some(v.0.cast_signed()),
+        _ => None,
+    }
+}
+
+// The number that the top item is or has.
+#[tactic(auto, using(muf_frame::proofs::Data::list_steps))]
+fn number_at_top(frame: &Frame) -> Option<i32>
+    ensures { result ≡ option_and_then as_number (slice_get (flat frame.now).stack 0) }
+{
+    match frame.peek(0) {
+        Some(value) => as_number(value),
+        None => None,
+    }
+}
+
+/// INT.
+#[tactic(auto, using(crate::proofs::Taking::kind_steps))]
+pub(crate) fn to_int(frame: &mut Frame) -> Result<(), MufFault>
+    ensures { Answered (having 1 frame.old (number_of (flat frame.old).stack)) frame.old frame.new result }
+{
+    frame.need(1)?;
+    match number_at_top(frame) {
+        Some(i) => {
+            frame.drop_items(1);
+            frame.push_item(Value::Int(i));
+            Ok(())
+        }
+        None => Err(MufFault::BadType),
+    }
+}
+
+/// DBREF.
+#[tactic(auto, using(crate::proofs::Taking::kind_steps))]
+pub(crate) fn to_object(frame: &mut Frame) -> Result<(), MufFault>
+    ensures { Answered (having 1 frame.old (object_of (flat frame.old).stack)) frame.old frame.new result }
+{
+    frame.need(1)?;
+    match frame.int_at(0) {
+        Some(i) => {
+            frame.drop_items(1);
+            frame.push_item(Value::Ref(Dbref(i)));
+            Ok(())
+        }
+        None => Err(MufFault::BadType),
+    }
+}
+
+/// DBCMP.
+#[tactic(auto, using(crate::proofs::Taking::kind_steps))]
+pub(crate) fn objects_equal(frame: &mut Frame) -> Result<(), MufFault>
+    ensures { Answered (having 2 frame.old (objects_equal (flat frame.old).stack)) frame.old frame.new result }
+{
+    frame.need(2)?;
+    match frame.object_at(0) {
+        Some(j) => match frame.object_at(1) {
+            Some(i) => {
+                frame.drop_items(2);
+                frame.push_item(Value::truth(i.0 == j.0));
+                Ok(())
+            }
+            None => Err(MufFault::BadType),
+        },
+        None => Err(MufFault::BadType),
+    }
+}
