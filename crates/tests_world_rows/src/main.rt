@@ -19,33 +19,42 @@ use world::World;
 /// The most bytes of rows that are read.
 const MOST: usize = 1_000_000;
 
-// What is printed of a row.
-fn told(alloc: Global, world: &mut World, row: &[u8]) -> Result<Vec<u8>, NoMemory> {
+// Adds what is printed of a row.
+fn tell(alloc: Global, out: &mut Vec<u8>, world: &mut World, row: &[u8]) -> Result<(), NoMemory> {
     let cut = row
         .iter()
         .position(|&byte| byte == b' ')
         .unwrap_or(row.len());
     let (word, rest) = row.split_at(cut);
     let rest = rest.get(1..).unwrap_or(&[]);
+    out.extend_from_slice(row)?;
+    out.extend_from_slice(b" -> ")?;
     match world.row(word, rest)? {
-        Some(text) => Ok(text.into_bytes()),
-        None => Ok(format!(in alloc; "no such word")?.into_bytes()),
+        Some(text) => out.extend_from_slice(text.as_bytes())?,
+        None => out.extend_from_slice(b"no such word")?,
     }
+    out.push(b'\n')?;
+    Ok(())
+}
+
+fn tell_all(
+    alloc: Global,
+    out: &mut Vec<u8>,
+    world: &mut World,
+    rows: &[u8],
+) -> Result<(), NoMemory> {
+    for row in rows.split(|&byte| byte == b'\n') {
+        if !row.is_empty() && row[0] != b'#' {
+            tell(alloc, out, world, row)?;
+        }
+    }
+    Ok(())
 }
 
 fn all_told(alloc: Global, rows: &[u8]) -> Result<Vec<u8>, NoMemory> {
-    let mut world = World::new(alloc)?;
     let mut out = Vec::new(alloc);
-    for row in rows.split(|&byte| byte == b'\n') {
-        if row.is_empty() || row[0] == b'#' {
-            continue;
-        }
-        out.extend_from_slice(row)?;
-        out.extend_from_slice(b" -> ")?;
-        let text = told(alloc, &mut world, row)?;
-        out.extend_from_slice(text.as_slice())?;
-        out.push(b'\n')?;
-    }
+    let mut world = World::new(alloc)?;
+    tell_all(alloc, &mut out, &mut world, rows)?;
     Ok(out)
 }
 

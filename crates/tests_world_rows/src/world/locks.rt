@@ -1,7 +1,7 @@
 // Locks: how they are read and written, and for whom they open.
-use crate::world::words::{line, written};
+use crate::world::words::{add, line};
 use muck_db::Db;
-use muck_lock::{Finder, LockFault, MemName, MemNames, NoNames, opens, print, read};
+use muck_lock::{LockFault, MemName, MemNames, opens, print, read};
 use muck_model::{Dbref, Line, Lock, NoMemory, Row};
 use std::alloc::Global;
 
@@ -25,56 +25,43 @@ fn names(alloc: Global) -> Result<MemNames, NoMemory> {
     Ok(MemNames::of(names))
 }
 
-// The text of the lock that is read.
-fn printed<F: Finder>(alloc: Global, text: &Line, finder: &F) -> Result<Line, LockFault> {
-    let lock = read(alloc, text, finder)?;
-    print(alloc, &lock)
-}
-
 // The text of a lock, or the fault.
-fn told(alloc: Global, printed: &Result<Line, LockFault>) -> Result<String, NoMemory> {
+fn told(out: &mut String, printed: &Result<Line, LockFault>) -> Result<(), NoMemory> {
     match printed {
-        Ok(line) => written(alloc, line.as_slice()),
-        Err(fault) => Ok(format!(in alloc; "{fault:?}")?),
+        Ok(line) => add(out, line.as_slice()),
+        Err(fault) => Ok(write!(out, "{fault:?}")?),
     }
 }
 
-/// How the lock of a text is written, and what is made of that where it isn't the same again.
-pub fn lock(alloc: Global, text: &[u8]) -> Result<String, NoMemory> {
-    let first = printed(alloc, &line(alloc, text)?, &names(alloc)?);
-    let shown = told(alloc, &first)?;
-    let Ok(first) = first else {
-        return Ok(shown);
-    };
-    match printed(alloc, &first, &NoNames) {
-        Ok(again) if again == first => Ok(shown),
-        other => {
-            let other = told(alloc, &other)?;
-            Ok(format!(in alloc; "{shown}, and again {other}")?)
-        }
+/// How the lock of a text is written, or where the text goes wrong.
+pub fn lock(alloc: Global, out: &mut String, text: &[u8]) -> Result<(), NoMemory> {
+    let text = line(alloc, text)?;
+    match read(alloc, &text, &names(alloc)?) {
+        Ok(lock) => told(out, &print(alloc, &lock)),
+        Err(fault) => told(out, &Err(fault)),
     }
 }
 
 // The lock of a text that is one.
 fn lock_of(alloc: Global, text: &[u8]) -> Result<Lock, NoMemory> {
-    read(alloc, &line(alloc, text)?, &names(alloc)?).map_err(|_| NoMemory)
+    let text = line(alloc, text)?;
+    read(alloc, &text, &names(alloc)?).map_err(|_| NoMemory)
 }
 
 /// How a copy of the lock of a text is written.
-pub fn copied(alloc: Global, text: &[u8]) -> Result<String, NoMemory> {
+pub fn copied(alloc: Global, out: &mut String, text: &[u8]) -> Result<(), NoMemory> {
     let copy = lock_of(alloc, text)?.copy(alloc)?;
-    told(alloc, &print(alloc, &copy))
+    told(out, &print(alloc, &copy))
 }
 
 /// For which of `#0` to `#4` the lock of a text opens.
-pub fn opens_for(alloc: Global, db: &Db, text: &[u8]) -> Result<String, NoMemory> {
+pub fn opens_for(alloc: Global, out: &mut String, db: &Db, text: &[u8]) -> Result<(), NoMemory> {
     let lock = lock_of(alloc, text)?;
-    let mut told = String::from_str(alloc, "for")?;
+    out.push_str("for")?;
     for n in 0..5 {
         if opens(&lock, db, Dbref(n)) {
-            let number = format!(in alloc; " #{n}")?;
-            told.push_str(number.as_str())?;
+            write!(out, " #{n}")?;
         }
     }
-    Ok(told)
+    Ok(())
 }

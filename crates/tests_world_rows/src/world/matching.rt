@@ -8,25 +8,22 @@ use std::alloc::Global;
 const ONE: Dbref = Dbref(1);
 
 /// What a text names.
-pub fn named(alloc: Global, db: &Db, text: &[u8]) -> Result<String, NoMemory> {
+pub fn named(alloc: Global, out: &mut String, db: &Db, text: &[u8]) -> Result<(), NoMemory> {
     let found = find(db, ONE, &line(alloc, text)?);
-    Ok(format!(in alloc; "{found:?}")?)
+    write!(out, "{found:?}")?;
+    Ok(())
 }
 
 /// Which exit a line takes, by which alias, and where the argument begins.
-pub fn exit(alloc: Global, db: &Db, text: &[u8]) -> Result<String, NoMemory> {
-    match exit_for(db, ONE, &line(alloc, text)?) {
-        Some(hit) => {
-            let (from, to) = hit.alias;
-            let (exit, rest) = (hit.exit.0, hit.rest);
-            Ok(format!(in alloc; "#{exit}, alias {from} to {to}, argument {rest}")?)
-        }
-        None => Ok(String::from_str(alloc, "none")?),
-    }
+pub fn exit(alloc: Global, out: &mut String, db: &Db, text: &[u8]) -> Result<(), NoMemory> {
+    let hit = exit_for(db, ONE, &line(alloc, text)?);
+    write!(out, "{hit:?}")?;
+    Ok(())
 }
 
 /// The player of a name.
-pub fn player_of(alloc: Global, db: &Db, text: &[u8]) -> Result<String, NoMemory> {
+pub fn player_of(alloc: Global, out: &mut String, db: &Db, text: &[u8]) -> Result<(), NoMemory> {
     let found = player(db, &line(alloc, text)?);
-    Ok(format!(in alloc; "{found:?}")?)
+    write!(out, "{found:?}")?;
+    Ok(())
 }

@@ -7,6 +7,9 @@ use muck_live::flag_of;
 use muck_model::{Dbref, Flags, Kind, LineList, NoMemory};
 use std::alloc::Global;
 
+// What a change of the objects answers, unless memory was wanted for its arguments.
+type Done = Result<Result<(), DbFault>, NoMemory>;
+
 // The kind of a letter, as objects are shown; T is a thing.
 fn kind(letter: &[u8]) -> Kind {
     match letter {
@@ -31,88 +34,113 @@ pub fn flags(letters: &[u8]) -> Flags
 }
 
 // `create KIND OWNER PLACE NAME`.
-fn create(alloc: Global, db: &mut Db, words: &mut Words<'_>) -> Result<String, NoMemory> {
+fn create(
+    alloc: Global,
+    out: &mut String,
+    db: &mut Db,
+    words: &mut Words<'_>,
+) -> Result<(), NoMemory> {
     let kind = kind(words.word());
     let owner = words.object();
     let place = words.object();
     let made = db.create(alloc, kind, name(alloc, words.left)?, owner, place);
-    Ok(format!(in alloc; "{made:?}")?)
+    write!(out, "{made:?}")?;
+    Ok(())
 }
 
 // Makes things of One's in Room Zero until that is refused.
-fn fill(alloc: Global, db: &mut Db) -> Result<String, NoMemory> {
+fn fill(alloc: Global, out: &mut String, db: &mut Db) -> Result<(), NoMemory> {
     for made in 0..200_000 {
         let name = name(alloc, b"box")?;
         if let Err(fault) = db.create(alloc, Kind::Thing, name, Dbref(1), Dbref(0)) {
-            return Ok(format!(in alloc; "{made} made, then {fault:?}")?);
+            return Ok(write!(out, "{made} made, then {fault:?}")?);
         }
     }
-    Ok(String::from_str(alloc, "never full")?)
-}
-
-// `set FIELD OBJECT VALUE`.
-fn set(alloc: Global, db: &mut Db, words: &mut Words<'_>) -> Result<Result<(), DbFault>, NoMemory> {
-    let field = words.word();
-    let d = words.object();
-    Ok(match field {
-        b"owner" => db.set_owner(d, words.object()),
-        b"link" => db.set_link(d, words.object()),
-        b"home" => db.set_home(d, words.object()),
-        b"level" => db.set_level(d, words.small()),
-        b"flags" => db.set_flags(d, flags(words.left)),
-        b"lines" => db.set_lines(d, LineList::new(alloc)?),
-        b"name" => db.set_name(d, name(alloc, words.left)?),
-        b"password" => db.set_password(alloc, d, 7, &line(alloc, words.left)?),
-        b"prop" => {
-            let (text, new) = halves(words.left);
-            db.put_prop(d, path(alloc, text)?, value(alloc, new)?)
-        }
-        _ => db.remove_prop(d, &path(alloc, words.left)?),
-    })
+    Ok(())
 }
 
 // Adds the numbers of a list.
-fn add_list(alloc: Global, text: &mut String, list: Chain<'_>) -> Result<(), NoMemory> {
+fn add_list(out: &mut String, list: Chain<'_>) -> Result<(), NoMemory> {
     for d in list {
-        let number = format!(in alloc; " #{}", d.0)?;
-        text.push_str(number.as_str())?;
+        write!(out, " #{}", d.0)?;
     }
     Ok(())
 }
 
 // What an object holds, and where it leads.
-fn told(alloc: Global, db: &Db, d: Dbref) -> Result<String, NoMemory> {
+fn told(out: &mut String, db: &Db, d: Dbref) -> Result<(), NoMemory> {
     let Some(object) = db.get(d) else {
-        return Ok(String::from_str(alloc, "none")?);
+        return Ok(out.push_str("none")?);
     };
     let (home, link) = (object.home().0, object.link().0);
-    let mut text = format!(in alloc; "home #{home}, link #{link}, contents")?;
-    add_list(alloc, &mut text, db.contents(d))?;
-    text.push_str(", exits")?;
-    add_list(alloc, &mut text, db.exits(d))?;
-    Ok(text)
+    write!(out, "home #{home}, link #{link}, contents")?;
+    add_list(out, db.contents(d))?;
+    out.push_str(", exits")?;
+    add_list(out, db.exits(d))
 }
 
-/// `create KIND OWNER PLACE NAME`, `fill`, `move OBJECT PLACE`, `recycle OBJECT`, `set FIELD OBJECT VALUE`; `show OBJECT`, `count`,
-/// `knows OBJECT WORD`, and `changed`: what is to be told next.
-pub fn db(alloc: Global, db: &mut Db, words: &mut Words<'_>) -> Result<String, NoMemory> {
-    let done = match words.word() {
-        b"create" => return create(alloc, db, words),
-        b"fill" => return fill(alloc, db),
-        b"show" => return told(alloc, db, words.object()),
-        b"count" => return Ok(format!(in alloc; "{} of {}", db.objects(), db.count())?),
-        b"changed" => return Ok(format!(in alloc; "{:?}", db.next_changed())?),
-        b"knows" => {
-            let d = words.object();
-            let known = db.password_is(alloc, d, &line(alloc, words.left)?);
-            return Ok(format!(in alloc; "{known:?}")?);
+// `knows OBJECT WORD`.
+fn knows(alloc: Global, out: &mut String, db: &Db, words: &mut Words<'_>) -> Result<(), NoMemory> {
+    let d = words.object();
+    let known = db.password_is(alloc, d, &line(alloc, words.left)?);
+    write!(out, "{known:?}")?;
+    Ok(())
+}
+
+/// What is asked of the objects, and those that are made: `create KIND OWNER PLACE NAME`, `fill`, `show OBJECT`, `count`,
+/// `changed`, `knows OBJECT WORD`.
+pub fn db(
+    alloc: Global,
+    out: &mut String,
+    db: &mut Db,
+    words: &mut Words<'_>,
+) -> Result<(), NoMemory> {
+    match words.word() {
+        b"create" => create(alloc, out, db, words),
+        b"fill" => fill(alloc, out, db),
+        b"show" => told(out, db, words.object()),
+        b"count" => Ok(write!(out, "{} of {}", db.objects(), db.count())?),
+        b"changed" => Ok(write!(out, "{:?}", db.next_changed())?),
+        _ => knows(alloc, out, db, words),
+    }
+}
+
+// A change that needs memory for what it is made of.
+fn kept(alloc: Global, db: &mut Db, field: &[u8], d: Dbref, text: &[u8]) -> Done {
+    let (before, behind) = halves(text);
+    match field {
+        b"lines" => Ok(db.set_lines(d, LineList::new(alloc)?)),
+        b"name" => Ok(db.set_name(d, name(alloc, text)?)),
+        b"password" => Ok(db.set_password(alloc, d, 7, &line(alloc, text)?)),
+        b"unprop" => Ok(db.remove_prop(d, &path(alloc, text)?)),
+        _ => {
+            let value = value(alloc, behind)?;
+            Ok(db.put_prop(d, path(alloc, before)?, value))
         }
-        b"recycle" => db.recycle(words.object()),
-        b"move" => {
-            let d = words.object();
-            db.move_to(d, words.object())
-        }
-        _ => set(alloc, db, words)?,
+    }
+}
+
+/// `set CHANGE OBJECT ..`: a change of an object.
+pub fn set(
+    alloc: Global,
+    out: &mut String,
+    db: &mut Db,
+    words: &mut Words<'_>,
+) -> Result<(), NoMemory> {
+    let field = words.word();
+    let d = words.object();
+    let text = words.left;
+    let other = words.object();
+    let done = match field {
+        b"recycle" => db.recycle(d),
+        b"move" => db.move_to(d, other),
+        b"owner" => db.set_owner(d, other),
+        b"link" => db.set_link(d, other),
+        b"home" => db.set_home(d, other),
+        b"level" => db.set_level(d, Words { left: text }.small()),
+        b"flags" => db.set_flags(d, flags(text)),
+        _ => kept(alloc, db, field, d, text)?,
     };
-    Ok(format!(in alloc; "{done:?}")?)
+    write!(out, "{done:?}")?;
+    Ok(())
 }

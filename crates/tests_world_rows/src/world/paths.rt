@@ -1,36 +1,35 @@
 // Paths of properties.
-use crate::world::words::{halves, line, path as path_of, written};
+use crate::world::words::{add, halves, line, path as path_of};
 use muck_model::NoMemory;
 use muck_prop::{Path, read_path};
 use std::alloc::Global;
 
+/// Adds the text of a path.
+pub fn add_path(alloc: Global, out: &mut String, path: &Path) -> Result<(), NoMemory> {
+    let text = path.text(alloc)?;
+    add(out, text.as_slice())
+}
+
 /// The path that a text holds, with the count of its segments and its class.
-pub fn path(alloc: Global, text: &[u8]) -> Result<String, NoMemory> {
-    match read_path(alloc, &line(alloc, text)?) {
+pub fn path(alloc: Global, out: &mut String, text: &[u8]) -> Result<(), NoMemory> {
+    let text = line(alloc, text)?;
+    match read_path(alloc, &text) {
         Ok(path) => {
-            let text = path.text(alloc)?;
-            let text = written(alloc, text.as_slice())?;
-            let (count, class) = (path.len(), path.class());
-            Ok(format!(in alloc; "{text}, {count}, {class:?}")?)
+            add_path(alloc, out, &path)?;
+            write!(out, ", {}, {:?}", path.len(), path.class())?;
         }
-        Err(fault) => Ok(format!(in alloc; "{fault:?}")?),
+        Err(fault) => write!(out, "{fault:?}")?,
     }
+    Ok(())
 }
 
-// How two paths compare.
-fn compared(alloc: Global, first: &Path, second: &Path) -> Result<String, NoMemory> {
-    let order = first.cmp(second);
-    let equal = *first == *second;
-    Ok(format!(in alloc; "{order:?}, {equal}")?)
-}
-
-/// How two paths compare, and each with its copy.
-pub fn order(alloc: Global, text: &[u8]) -> Result<String, NoMemory> {
+/// How two paths compare, and whether the second equals its copy.
+pub fn order(alloc: Global, out: &mut String, text: &[u8]) -> Result<(), NoMemory> {
     let (first, second) = halves(text);
     let first = path_of(alloc, first)?;
     let second = path_of(alloc, second)?;
-    let copy = second.copy(alloc)?;
-    let apart = compared(alloc, &first, &second)?;
-    let alike = compared(alloc, &second, &copy)?;
-    Ok(format!(in alloc; "{apart}; copied {alike}")?)
+    let order = first.cmp(&second);
+    let same = second == second.copy(alloc)?;
+    write!(out, "{order:?}, {same}")?;
+    Ok(())
 }

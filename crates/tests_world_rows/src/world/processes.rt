@@ -48,10 +48,16 @@ fn running(alloc: Global, program: Dbref) -> Result<Option<Running>, NoMemory> {
 
 // `add PLAYER DUE PROGRAM`: a process of a player that is due in a second and runs a program. The same program started it, and it is
 // tied to the connection of that number.
-fn add(alloc: Global, queue: &mut Queue, words: &mut Words<'_>) -> Result<String, NoMemory> {
+fn add(
+    alloc: Global,
+    out: &mut String,
+    queue: &mut Queue,
+    words: &mut Words<'_>,
+) -> Result<(), NoMemory> {
     let player = words.object();
     let due = u64::from(words.number());
     let program = words.object();
+    let command = line(alloc, b"go")?;
     let Some(running) = running(alloc, program)? else {
         return Err(NoMemory);
     };
@@ -60,50 +66,65 @@ fn add(alloc: Global, queue: &mut Queue, words: &mut Words<'_>) -> Result<String
         due,
         player,
         trigger: program,
-        command: line(alloc, b"go")?,
+        command,
         descr: u32::try_from(program.0).ok(),
         mode: Mode::Foreground,
         claim: None,
         running,
     };
     let added = queue.add(process, &TUNE);
-    Ok(format!(in alloc; "{added:?}")?)
+    write!(out, "{added:?}")?;
+    Ok(())
 }
 
-// What is known of the process of a number.
-fn told(alloc: Global, process: Option<&Process>) -> Result<String, NoMemory> {
-    match process {
-        Some(process) => {
-            let (number, due) = (process.number, process.due);
-            let (claim, trigger) = (process.claim, process.trigger.0);
-            Ok(format!(in alloc; "{number}, due {due}, claim {claim:?}, trigger #{trigger}")?)
-        }
-        None => Ok(String::from_str(alloc, "none")?),
+// What is known of a process.
+fn told(out: &mut String, process: Option<&Process>) -> Result<(), NoMemory> {
+    let Some(process) = process else {
+        return Ok(out.push_str("none")?);
+    };
+    let (number, due) = (process.number, process.due);
+    let (claim, trigger) = (process.claim, process.trigger.0);
+    write!(
+        out,
+        "{number}, due {due}, claim {claim:?}, trigger #{trigger}"
+    )?;
+    Ok(())
+}
+
+/// `queue add PLAYER DUE PROGRAM`, `due SECOND`, `claim PARTY SECOND`, `take NUMBER`, `show NUMBER`, `full PLAYER`, `tied CONNECTION`,
+/// `count`.
+pub fn queue(
+    alloc: Global,
+    out: &mut String,
+    queue: &mut Queue,
+    words: &mut Words<'_>,
+) -> Result<(), NoMemory> {
+    let verb = words.word();
+    if verb == b"add".as_slice() {
+        return add(alloc, out, queue, words);
+    }
+    let player = Words { left: words.left }.object();
+    let number = words.small();
+    let pid = i32::from(number);
+    let second = u64::from(words.number());
+    match verb {
+        b"due" => Ok(write!(out, "{:?}", queue.next_due(u64::from(number)))?),
+        b"claim" => Ok(write!(out, "{:?}", queue.claim(number, second))?),
+        b"take" => told(out, queue.take(pid).as_ref()),
+        b"show" => told(out, queue.get(pid)),
+        b"full" => Ok(write!(out, "{}", queue.is_full(player, &TUNE))?),
+        b"tied" => Ok(write!(out, "{}", queue.is_tied(u32::from(number)))?),
+        _ => Ok(write!(out, "{}", queue.len())?),
     }
 }
 
-/// `add PLAYER DUE PROGRAM`, `claim PARTY SECOND`, `due SECOND`, `take NUMBER`, `full PLAYER`, `tied CONNECTION`, `hang-up CONNECTION`,
-/// `end PROGRAM`, `gone TRIGGER`, `show NUMBER`, `count`.
-pub fn queue(alloc: Global, queue: &mut Queue, words: &mut Words<'_>) -> Result<String, NoMemory> {
-    match words.word() {
-        b"add" => return add(alloc, queue, words),
-        b"claim" => {
-            let party = words.small();
-            let claimed = queue.claim(party, u64::from(words.number()));
-            return Ok(format!(in alloc; "{claimed:?}")?);
-        }
-        b"due" => {
-            let due = queue.next_due(u64::from(words.number()));
-            return Ok(format!(in alloc; "{due:?}")?);
-        }
-        b"full" => return Ok(format!(in alloc; "{}", queue.is_full(words.object(), &TUNE))?),
-        b"tied" => return Ok(format!(in alloc; "{}", queue.is_tied(words.number()))?),
-        b"take" => return told(alloc, queue.take(i32::from(words.small())).as_ref()),
-        b"show" => return told(alloc, queue.get(i32::from(words.small()))),
-        b"hang-up" => queue.end_tied(words.number()),
-        b"end" => queue.end_running(words.object()),
-        b"gone" => queue.clear_trigger(words.object()),
-        _ => (),
+/// `end tied CONNECTION`, `running PROGRAM`, `trigger OBJECT`: what follows where those are gone.
+pub fn end(queue: &mut Queue, words: &mut Words<'_>) {
+    let verb = words.word();
+    let object = Words { left: words.left }.object();
+    match verb {
+        b"tied" => queue.end_tied(words.number()),
+        b"running" => queue.end_running(object),
+        _ => queue.clear_trigger(object),
     }
-    Ok(format!(in alloc; "{} left", queue.len())?)
 }

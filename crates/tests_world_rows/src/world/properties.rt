@@ -1,30 +1,26 @@
 // The properties of one object.
-use crate::world::words::{Words, halves, line, path, value, written};
+use crate::world::paths::add_path;
+use crate::world::words::{Words, add, halves, line, path, value};
 use muck_model::NoMemory;
 use muck_prop::{Path, PropValue, Props};
 use std::alloc::Global;
 
 // What a property holds.
-fn held(alloc: Global, value: Option<&PropValue>) -> Result<String, NoMemory> {
+fn held(out: &mut String, value: Option<&PropValue>) -> Result<(), NoMemory> {
     match value {
-        Some(PropValue::Number(number)) => Ok(format!(in alloc; "{number}")?),
-        Some(PropValue::Text(text)) => {
-            let text = written(alloc, text.as_slice())?;
-            Ok(format!(in alloc; "'{text}'")?)
-        }
-        None => Ok(String::from_str(alloc, "nothing")?),
+        Some(PropValue::Number(number)) => Ok(write!(out, "{number}")?),
+        Some(PropValue::Text(text)) => add(out, text.as_slice()),
+        None => Ok(out.push_str("no value")?),
     }
 }
 
 // What a path holds, and whether it is a directory.
-fn at_path(alloc: Global, props: &Props, path: &Path) -> Result<String, NoMemory> {
-    let value = held(alloc, props.get(path))?;
-    let directory = if props.is_dir(path) {
-        ", a directory"
-    } else {
-        ""
-    };
-    Ok(format!(in alloc; "{value}{directory}")?)
+fn at(out: &mut String, props: &Props, path: &Path) -> Result<(), NoMemory> {
+    held(out, props.get(path))?;
+    if props.is_dir(path) {
+        out.push_str(", a directory")?;
+    }
+    Ok(())
 }
 
 // The path that a text holds, or none of an empty text.
@@ -35,51 +31,64 @@ fn some_path(alloc: Global, text: &[u8]) -> Result<Option<Path>, NoMemory> {
     Ok(Some(path(alloc, text)?))
 }
 
-// The least child of a directory behind a path.
-fn next(alloc: Global, props: &Props, text: &[u8]) -> Result<String, NoMemory> {
+// `put PATH;VALUE`.
+fn put(alloc: Global, out: &mut String, props: &mut Props, text: &[u8]) -> Result<(), NoMemory> {
+    let (text, new) = halves(text);
+    let new = value(alloc, new)?;
+    props.put(path(alloc, text)?, new)?;
+    at(out, props, &path(alloc, text)?)
+}
+
+// `remove PATH`.
+fn remove(alloc: Global, out: &mut String, props: &mut Props, text: &[u8]) -> Result<(), NoMemory> {
+    let path = path(alloc, text)?;
+    let had = props.remove(&path);
+    write!(out, "{had}, ")?;
+    at(out, props, &path)
+}
+
+// `next DIRECTORY;PATH`: the least child behind a path.
+fn next(alloc: Global, out: &mut String, props: &Props, text: &[u8]) -> Result<(), NoMemory> {
     let (dir, after) = halves(text);
     let dir = some_path(alloc, dir)?;
     let after = some_path(alloc, after)?;
     match props.next(alloc, dir.as_ref(), after.as_ref())? {
-        Some(child) => written(alloc, child.text(alloc)?.as_slice()),
-        None => Ok(String::from_str(alloc, "none")?),
+        Some(child) => add_path(alloc, out, &child),
+        None => Ok(out.push_str("none")?),
     }
 }
 
-// How much is below a directory, and what.
-fn below(alloc: Global, props: &Props, dir: &Path) -> Result<String, NoMemory> {
-    let listed = props.below(alloc, dir)?;
-    let mut text = format!(in alloc; "{}:", listed.len())?;
+// `below DIRECTORY`: how much, and each with what it holds.
+fn below(alloc: Global, out: &mut String, props: &Props, text: &[u8]) -> Result<(), NoMemory> {
+    let listed = props.below(alloc, &path(alloc, text)?)?;
+    write!(out, "{}:", listed.len())?;
     for property in listed.as_slice() {
-        let rest = written(alloc, property.rest.text(alloc)?.as_slice())?;
-        let value = held(alloc, Some(&property.value))?;
-        let property = format!(in alloc; " {rest}={value}")?;
-        text.push_str(property.as_str())?;
+        out.push(' ')?;
+        add_path(alloc, out, &property.rest)?;
+        out.push('=')?;
+        held(out, Some(&property.value))?;
     }
-    Ok(text)
+    Ok(())
 }
 
-/// `put PATH;VALUE`, `remove PATH`, `at PATH`: what the path holds then. `find TEXT`: what is found by a text. `next DIRECTORY;PATH`,
-/// `below DIRECTORY`.
-pub fn props(alloc: Global, props: &mut Props, words: &mut Words<'_>) -> Result<String, NoMemory> {
-    let verb = words.word();
-    let text = words.left;
-    match verb {
-        b"put" => {
-            let (text, new) = halves(text);
-            let path = path(alloc, text)?;
-            props.put(path.copy(alloc)?, value(alloc, new)?)?;
-            at_path(alloc, props, &path)
-        }
-        b"remove" => {
-            let path = path(alloc, text)?;
-            let had = props.remove(&path);
-            let left = at_path(alloc, props, &path)?;
-            Ok(format!(in alloc; "{had}, {left}")?)
-        }
-        b"at" => at_path(alloc, props, &path(alloc, text)?),
-        b"find" => held(alloc, props.get_at(&line(alloc, text)?)),
-        b"next" => next(alloc, props, text),
-        _ => below(alloc, props, &path(alloc, text)?),
+// `find TEXT`.
+fn find(alloc: Global, out: &mut String, props: &Props, text: &[u8]) -> Result<(), NoMemory> {
+    let text = line(alloc, text)?;
+    held(out, props.get_at(&text))
+}
+
+/// What happens to properties, or is asked of them.
+pub fn props(
+    alloc: Global,
+    out: &mut String,
+    props: &mut Props,
+    words: &mut Words<'_>,
+) -> Result<(), NoMemory> {
+    match words.word() {
+        b"put" => put(alloc, out, props, words.left),
+        b"remove" => remove(alloc, out, props, words.left),
+        b"next" => next(alloc, out, props, words.left),
+        b"below" => below(alloc, out, props, words.left),
+        _ => find(alloc, out, props, words.left),
     }
 }

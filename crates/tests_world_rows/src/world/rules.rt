@@ -1,6 +1,6 @@
 // What the rules allow, by whose rights a program runs, and how names are shown.
 use crate::world::objects::flags;
-use crate::world::words::{Words, line, path, written};
+use crate::world::words::{Words, add, line, path};
 use muck_board::Board;
 use muck_db::Db;
 use muck_model::{Dbref, Denial, NoMemory};
@@ -14,27 +14,11 @@ const NOBODY: Actor = Actor {
     player: Dbref(-1),
 };
 
-// An act by its name, with what it is done to.
-fn act(alloc: Global, words: &mut Words<'_>) -> Result<Act, NoMemory> {
-    let name = words.word();
-    if name == b"shared".as_slice() {
-        let level = words.small();
-        return Ok(Act::Shared { level });
-    }
-    let object = words.object();
-    let rest = words.left;
-    let other = words.object();
-    Ok(match name {
+// An act that needs no memory, by its name, with what it is done to.
+fn act(name: &[u8], object: Dbref, other: Dbref, rest: &[u8]) -> Act {
+    match name {
         b"start" => Act::Start { program: object },
         b"near" => Act::Near { object },
-        b"read" => Act::Read {
-            object,
-            path: path(alloc, rest)?,
-        },
-        b"write" => Act::Write {
-            object,
-            path: path(alloc, rest)?,
-        },
         b"move" => Act::Move { object, to: other },
         b"walk" => Act::Walk { exit: object },
         b"take" => Act::Take { object },
@@ -69,7 +53,27 @@ fn act(alloc: Global, words: &mut Words<'_>) -> Result<Act, NoMemory> {
         },
         b"call" => Act::Call { program: object },
         _ => Act::Wizard,
-    })
+    }
+}
+
+// An act by its name, with what it is done to.
+fn asked(alloc: Global, words: &mut Words<'_>) -> Result<Act, NoMemory> {
+    let name = words.word();
+    let level = Words { left: words.left }.small();
+    let object = words.object();
+    let rest = words.left;
+    match name {
+        b"shared" => Ok(Act::Shared { level }),
+        b"read" => Ok(Act::Read {
+            object,
+            path: path(alloc, rest)?,
+        }),
+        b"write" => Ok(Act::Write {
+            object,
+            path: path(alloc, rest)?,
+        }),
+        _ => Ok(act(name, object, words.object(), rest)),
+    }
 }
 
 // `LEVEL USER`: who acts; the user is the player too.
@@ -84,61 +88,71 @@ fn actor(words: &mut Words<'_>) -> Actor {
 }
 
 // The rule of a denial, with the object that it speaks of.
-fn told(alloc: Global, denial: Denial) -> Result<String, NoMemory> {
-    Ok(format!(in alloc; "P{} #{}", denial.rule, denial.object.0)?)
+fn told(out: &mut String, denial: Denial) -> Result<(), NoMemory> {
+    write!(out, "P{} #{}", denial.rule, denial.object.0)?;
+    Ok(())
 }
 
 /// `verdict LEVEL USER ACT ..`: the rule that denies the act, or leave.
-pub fn ruled(alloc: Global, db: &Db, words: &mut Words<'_>) -> Result<String, NoMemory> {
+pub fn ruled(
+    alloc: Global,
+    out: &mut String,
+    db: &Db,
+    words: &mut Words<'_>,
+) -> Result<(), NoMemory> {
     let actor = actor(words);
-    let act = act(alloc, words)?;
+    let act = asked(alloc, words)?;
     match verdict(db, &actor, &act) {
-        Ok(_) => Ok(String::from_str(alloc, "leave")?),
-        Err(denial) => told(alloc, denial),
+        Ok(_) => Ok(out.push_str("leave")?),
+        Err(denial) => told(out, denial),
     }
 }
 
 /// `password LEVEL USER PLAYER WORD`: a guard is handed on to who acts, who sets a password by leave, and tells all.
 pub fn password(
     alloc: Global,
+    out: &mut String,
     db: &mut Db,
     board: &mut Board,
     words: &mut Words<'_>,
-) -> Result<String, NoMemory> {
+) -> Result<(), NoMemory> {
     let actor = actor(words);
     let player = words.object();
     let word = line(alloc, words.left)?;
     let mut guard = Guard::new(alloc, db, board, NOBODY);
     let _ = guard.swap_actor(actor);
     let act = Act::Password { player };
-    match verdict(guard.db(), &actor, &act) {
-        Ok(pass) => {
-            let done = guard.set_password(pass, player, 7, &word);
-            guard.tell_all(b"set")?;
-            Ok(format!(in alloc; "{done:?}")?)
-        }
-        Err(denial) => told(alloc, denial),
-    }
+    let done = match verdict(guard.db(), &actor, &act) {
+        Ok(pass) => guard.set_password(pass, player, 7, &word),
+        Err(denial) => return told(out, denial),
+    };
+    guard.tell_all(b"set")?;
+    write!(out, "{done:?}")?;
+    Ok(())
 }
 
 /// `runs PLAYER TRIGGER PROGRAM CALLER`: the level and the user of a program, which another or none called.
-pub fn runs(alloc: Global, db: &Db, words: &mut Words<'_>) -> Result<String, NoMemory> {
+pub fn runs(out: &mut String, db: &Db, words: &mut Words<'_>) -> Result<(), NoMemory> {
     let player = words.object();
     let trigger = words.object();
     let program = words.object();
-    let callers = if words.left.is_empty() {
-        Vec::new(alloc)
-    } else {
-        [words.object()].to_vec(alloc)?
-    };
-    let level = level(db, program, &callers);
-    let user = user(db, player, trigger, program, &callers);
-    Ok(format!(in alloc; "level {level}, user #{}", user.0)?)
+    let count = usize::from(!words.left.is_empty());
+    let caller = [words.object()];
+    let callers = &caller[..count];
+    let level = level(db, program, callers);
+    let user = user(db, player, trigger, program, callers);
+    write!(out, "level {level}, user #{}", user.0)?;
+    Ok(())
 }
 
 /// `shown PLAYER OBJECT`: how the name of an object is shown to a player.
-pub fn shown(alloc: Global, db: &Db, words: &mut Words<'_>) -> Result<String, NoMemory> {
+pub fn shown(
+    alloc: Global,
+    out: &mut String,
+    db: &Db,
+    words: &mut Words<'_>,
+) -> Result<(), NoMemory> {
     let player = words.object();
     let shown = name_shown(alloc, db, player, words.object())?;
-    written(alloc, &shown)
+    add(out, &shown)
 }

@@ -116,22 +116,19 @@ pub fn unfolded(alloc: Global, row: &[u8]) -> Result<Vec<u8>, NoMemory> {
     Ok(out)
 }
 
-/// Bytes as they are written in a row; of more than 100 their count.
-pub fn written(alloc: Global, bytes: &[u8]) -> Result<String, NoMemory> {
+/// Adds bytes as they are written in a row; of more than 100 their count, and of none that.
+pub fn add(out: &mut String, bytes: &[u8]) -> Result<(), NoMemory> {
     if bytes.is_empty() {
-        return Ok(String::from_str(alloc, "nothing")?);
+        return Ok(out.push_str("nothing")?);
     }
     if bytes.len() > 100 {
-        return Ok(format!(in alloc; "{} bytes", bytes.len())?);
+        return Ok(write!(out, "{} bytes", bytes.len())?);
     }
-    let mut text = String::new(alloc);
     for byte in bytes {
-        if byte.is_ascii_graphic() || *byte == b' ' {
-            text.push(char::from(*byte))?;
-        } else {
-            let number = format!(in alloc; "{{{byte}}}")?;
-            text.push_str(number.as_str())?;
+        match *byte {
+            b' '..=b'~' => out.push(char::from(*byte))?,
+            other => write!(out, "{{{other}}}")?,
         }
     }
-    Ok(text)
+    Ok(())
 }
