@@ -32,7 +32,7 @@ pub fn row(alloc: Global, word: &[u8], rest: &[u8]) -> Result<Vec<u8>, NoMemory>
         b"keys" => keys_row(alloc, rest),
         b"primitive" => primitive_row(alloc, rest),
         b"fault" => fault_row(alloc, rest),
-        _ => Ok(format!(in alloc; "no such word")?.into_bytes()),
+        _ => owned(alloc, b"no such word"),
     }
 }
 
@@ -49,6 +49,11 @@ fn part(text: &mut Vec<u8>, bytes: &[u8]) -> Result<(), NoMemory> {
         }
     }
     Ok(())
+}
+
+// A copy of these bytes.
+fn owned(alloc: Global, word: &[u8]) -> Result<Vec<u8>, NoMemory> {
+    Ok(word.to_vec(alloc)?)
 }
 
 // The text of these bytes. Rows have only texts; other bytes would end the program.
@@ -111,9 +116,9 @@ fn flaw_text(alloc: Global, fault: BuildFault) -> Result<Vec<u8>, NoMemory> {
 fn token_text(alloc: Global, token: &Token) -> Result<Vec<u8>, NoMemory> {
     let mut text = format!(in alloc; "{}", token.line)?.into_bytes();
     let (letter, said) = match &token.kind {
-        TokenKind::Word(word) => (b'w', word.as_slice().to_vec(alloc)?),
-        TokenKind::Text(text) => (b't', text.as_slice().to_vec(alloc)?),
-        TokenKind::Address(name) => (b'a', name.as_slice().to_vec(alloc)?),
+        TokenKind::Word(word) => (b'w', owned(alloc, word.as_slice())?),
+        TokenKind::Text(text) => (b't', owned(alloc, text.as_slice())?),
+        TokenKind::Address(name) => (b'a', owned(alloc, name.as_slice())?),
         TokenKind::Number(n) => (b'n', format!(in alloc; "{n}")?.into_bytes()),
         TokenKind::Ref(d) => (b'r', format!(in alloc; "{}", d.0)?.into_bytes()),
     };
@@ -160,49 +165,56 @@ fn compiled(alloc: Global, source: &[u8]) -> Result<Code, BuildFault> {
 
 // A word that names no place.
 fn word_text(alloc: Global, word: &Word) -> Result<Vec<u8>, NoMemory> {
-    let text = match word {
+    let (name, number) = match word {
         Word::Literal(Literal::Int(n)) => return item_text(alloc, &Value::Int(*n)),
         Word::Literal(Literal::Text(text)) => return item_text(alloc, &Value::Str(text.share()?)),
         Word::Literal(Literal::Object(d)) => return item_text(alloc, &Value::Ref(*d)),
         Word::Variable(v) => return item_text(alloc, &Value::Var(*v)),
-        Word::Primitive(primitive) => return Ok(primitive.name().to_vec(alloc)?),
-        Word::Address(n) => format!(in alloc; "'{n}")?,
-        Word::Call(n) => format!(in alloc; "call{n}")?,
-        Word::Bind(n) => format!(in alloc; "bind{n}")?,
-        Word::Store(v) => format!(in alloc; "store{}", v.0)?,
-        Word::Exit => format!(in alloc; "exit")?,
-        Word::Break => format!(in alloc; "break")?,
-        Word::Continue => format!(in alloc; "continue")?,
-        Word::While => format!(in alloc; "while")?,
-        Word::NextIndex => format!(in alloc; "index")?,
-        Word::NextPair => format!(in alloc; "pair")?,
+        Word::Primitive(primitive) => return owned(alloc, primitive.name()),
+        Word::Address(n) => ("'", Some(*n)),
+        Word::Call(n) => ("call", Some(*n)),
+        Word::Bind(n) => ("bind", Some(*n)),
+        Word::Store(v) => ("store", Some(v.0)),
+        Word::Exit => ("exit", None),
+        Word::Break => ("break", None),
+        Word::Continue => ("continue", None),
+        Word::While => ("while", None),
+        Word::NextIndex => ("index", None),
+        Word::NextPair => ("pair", None),
+    };
+    let text = match number {
+        Some(number) => format!(in alloc; "{name}{number}")?,
+        None => format!(in alloc; "{name}")?,
     };
     Ok(text.into_bytes())
 }
 
 // An instruction, with its line and its target.
 fn placed_text(alloc: Global, placed: &Placed) -> Result<Vec<u8>, NoMemory> {
-    let line = placed.line;
-    let text = match &placed.instr {
+    let mut text = format!(in alloc; "{}:", placed.line)?.into_bytes();
+    let (name, target) = match &placed.instr {
         Instr::Plain(word) => {
-            let mut text = format!(in alloc; "{line}:")?.into_bytes();
             text.extend_from_slice(word_text(alloc, word)?.as_slice())?;
             return Ok(text);
         }
-        Instr::Close(Closer::Semicolon) => format!(in alloc; "{line}:;")?,
-        Instr::Close(Closer::Repeat) => format!(in alloc; "{line}:repeat")?,
-        Instr::Close(Closer::Until) => format!(in alloc; "{line}:until")?,
-        Instr::When(to) => format!(in alloc; "{line}:if>{to}")?,
-        Instr::IfElse(to) => format!(in alloc; "{line}:if!>{to}")?,
-        Instr::Try(to) => format!(in alloc; "{line}:try>{to}")?,
-        Instr::Else(to) => format!(in alloc; "{line}:else>{to}")?,
-        Instr::Catch(to) => format!(in alloc; "{line}:catch>{to}")?,
-        Instr::Begin(to) => format!(in alloc; "{line}:begin>{to}")?,
-        Instr::For(to) => format!(in alloc; "{line}:for>{to}")?,
-        Instr::Each(to) => format!(in alloc; "{line}:each>{to}")?,
-        Instr::Unset => format!(in alloc; "{line}:?")?,
+        Instr::Close(Closer::Semicolon) => (";", None),
+        Instr::Close(Closer::Repeat) => ("repeat", None),
+        Instr::Close(Closer::Until) => ("until", None),
+        Instr::When(to) => ("if>", Some(*to)),
+        Instr::IfElse(to) => ("if!>", Some(*to)),
+        Instr::Try(to) => ("try>", Some(*to)),
+        Instr::Else(to) => ("else>", Some(*to)),
+        Instr::Catch(to) => ("catch>", Some(*to)),
+        Instr::Begin(to) => ("begin>", Some(*to)),
+        Instr::For(to) => ("for>", Some(*to)),
+        Instr::Each(to) => ("each>", Some(*to)),
+        Instr::Unset => ("unset", None),
     };
-    Ok(text.into_bytes())
+    text.extend_from_slice(name.as_bytes())?;
+    if let Some(target) = target {
+        text.extend_from_slice(format!(in alloc; "{target}")?.as_bytes())?;
+    }
+    Ok(text)
 }
 
 // The words of a program, each with its start, how many variables a call has, and to whom it is offered; the instructions by
@@ -286,7 +298,7 @@ fn build_row(alloc: Global, rest: &[u8]) -> Result<Vec<u8>, NoMemory> {
     let db = world(alloc, source)?;
     match Dbref::read(object) {
         Some(object) => shown(alloc, build(alloc, &db, object)),
-        None => Ok(format!(in alloc; "no object")?.into_bytes()),
+        None => owned(alloc, b"no object"),
     }
 }
 
@@ -301,19 +313,19 @@ fn forms_row(alloc: Global, acts: &[u8]) -> Result<Vec<u8>, NoMemory> {
         let answer = match word {
             b"form" => match library.formed(alloc, &db, Dbref(2))? {
                 Some(code) => code_text(alloc, code.get())?,
-                None => format!(in alloc; "none")?.into_bytes(),
+                None => owned(alloc, b"none")?,
             },
             b"kept" => match library.form(Dbref(2)) {
                 Some(code) => code_text(alloc, code.get())?,
-                None => format!(in alloc; "none")?.into_bytes(),
+                None => owned(alloc, b"none")?,
             },
             b"rebuild" => match library.rebuild(alloc, &db, Dbref(2))? {
                 Some(flaw) => flaw_text(alloc, BuildFault::Refused(flaw))?,
-                None => format!(in alloc; "built")?.into_bytes(),
+                None => owned(alloc, b"built")?,
             },
             _ => {
                 library.drop_form(Dbref(2));
-                format!(in alloc; "dropped")?.into_bytes()
+                owned(alloc, b"dropped")?
             }
         };
         part(&mut text, answer.as_slice())?;
@@ -377,16 +389,16 @@ fn item_text(alloc: Global, item: &Value) -> Result<Vec<u8>, NoMemory> {
         Value::Ref(d) => format!(in alloc; "#{}", d.0)?,
         Value::Var(v) => format!(in alloc; "v{}", v.0)?,
         Value::Addr { program, word } => format!(in alloc; "#{}'{word}", program.0)?,
-        Value::Key(_) => format!(in alloc; "lock")?,
-        Value::Items(_) => format!(in alloc; "list")?,
-        Value::Dict(_) => format!(in alloc; "dict")?,
-        Value::Mark => format!(in alloc; "mark")?,
         Value::Str(text) => {
-            let mut quoted = format!(in alloc; "\"")?.into_bytes();
+            let mut quoted = owned(alloc, b"\"")?;
             quoted.extend_from_slice(text.as_slice())?;
             quoted.push(b'"')?;
             return Ok(quoted);
         }
+        Value::Key(_) => return owned(alloc, b"lock"),
+        Value::Items(_) => return owned(alloc, b"list"),
+        Value::Dict(_) => return owned(alloc, b"dict"),
+        Value::Mark => return owned(alloc, b"mark"),
     };
     Ok(text.into_bytes())
 }
@@ -455,7 +467,7 @@ fn number_of(text: &Line) -> u32 {
 fn run_row(alloc: Global, rest: &[u8]) -> Result<Vec<u8>, NoMemory> {
     let parts = lines_of(alloc, rest, 1)?;
     let [most, items, source, entered @ ..] = parts.as_slice() else {
-        return Ok(format!(in alloc; "no run")?.into_bytes());
+        return owned(alloc, b"no run");
     };
     let code = match compiled(alloc, source.as_slice()) {
         Ok(code) => code,
@@ -515,9 +527,9 @@ fn keys_row(alloc: Global, words: &[u8]) -> Result<Vec<u8>, NoMemory> {
 // A primitive: its name, its level, whether it needs no world, and whether programs may use it so far.
 fn primitive_row(alloc: Global, word: &[u8]) -> Result<Vec<u8>, NoMemory> {
     let Some(prim) = Prim::named(word) else {
-        return Ok(format!(in alloc; "none")?.into_bytes());
+        return owned(alloc, b"none");
     };
-    let mut text = prim.name().to_vec(alloc)?;
+    let mut text = owned(alloc, prim.name())?;
     let local = if prim.local() { "local" } else { "shared" };
     let there = if prim.is_there() {
         "there"
