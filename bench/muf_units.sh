@@ -2,8 +2,8 @@
 # Units per second of MUF programs over ten million units: an empty counted loop (a turn is three units), a loop of
 # `dup 1 + swap pop`, and a loop of calls of a word that does nothing. The empty loop is compared with gforth-itc, the threaded
 # interpreter of Debian's gforth, in the same run (skipped where it is missing): turns per second, of which at least a tenth is
-# the aim. First run `rt run -- loop 1000` in crates/bench_units, which builds the program. The best of five runs each.
-program=$(dirname "$0")/../crates/bench_units/out/bench_units
+# the aim. First run `rt run -- all` in crates/bench, which builds the program. The best of five runs each.
+program=$(dirname "$0")/../crates/bench/out/bench
 units=10000000
 # Milliseconds of the best of five runs of these words.
 best() {
@@ -18,9 +18,9 @@ best() {
   done
   echo "$least"
 }
-start=$(best "$program" loop 1)
+start=$(best "$program" units loop 1)
 for name in loop stack call; do
-  took=$(best "$program" "$name" "$units")
+  took=$(best "$program" units "$name" "$units")
   awk -v name="$name" -v units="$units" -v took="$took" -v start="$start" \
     'BEGIN { printf "%s: %.1f million units per second\n", name, units / (took - start) / 1000 }'
   [ "$name" = loop ] && loop=$((took - start))

@@ -1,16 +1,16 @@
 #!/bin/sh
 # Times `put` and `next` over the properties of one object: 1,000 of them against 10,000, as many calls of each.
 # Prints the time of a call in nanoseconds, and how many times longer it takes with ten times the properties.
-# First run `rt run -- 1000 1 1` in crates/bench_props, which builds the program. The figures want a quiet processor:
+# First run `rt run -- all` in crates/bench, which builds the program. The figures want a quiet processor:
 # what runs beside it takes the caches that the larger object needs.
 set -eu
-program=$(dirname "$0")/../crates/bench_props/out/bench_props
+program=$(dirname "$0")/../crates/bench/out/bench
 calls=400000
 
 # Microseconds of a run over so many properties, with so many walks.
 microseconds() {
     begun=$(date +%s%N)
-    "$program" "$1" $((calls / $1)) "$2" >/dev/null
+    "$program" props "$1" $((calls / $1)) "$2" >/dev/null
     echo $((($(date +%s%N) - begun) / 1000))
 }
 

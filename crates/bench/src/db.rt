@@ -1,0 +1,119 @@
+// Makes things in a world, moves them between two rooms, recycles linked rooms and looks for a player whom nobody knows.
+ghost use Rattle.std.specs.Prelude.{◌≡◌, length, IfOk};
+
+use muck_db::{Db, DbFault};
+use muck_match::player;
+use muck_model::{Dbref, Kind, Line};
+use std::alloc::Global;
+
+const ROOM_ZERO: Dbref = Dbref(0);
+
+const ONE: Dbref = Dbref(1);
+// The two rooms, which are made first, and so the number of the first thing.
+const HERE: Dbref = Dbref(2);
+
+const THERE: Dbref = Dbref(3);
+
+const FIRST_THING: u32 = 4;
+
+fn a_name(alloc: Global) -> Result<Line, DbFault>
+    ensures { IfOk result (λ line. length line ≡ 7) }
+{
+    match Line::new(alloc, b"a thing") {
+        Ok(line) => Ok(line),
+        Err(_) => Err(DbFault::NoMemory),
+    }
+}
+
+// An object of One's.
+fn make(db: &mut Db, alloc: Global, kind: Kind, place: Dbref) -> Result<Dbref, DbFault> {
+    let name = a_name(alloc)?;
+    db.create(alloc, kind, name, ONE, place)
+}
+
+// A world with the two rooms.
+fn two_rooms(alloc: Global) -> Result<Db, DbFault> {
+    let Ok(mut db) = Db::starting(alloc) else {
+        return Err(DbFault::NoMemory);
+    };
+    make(&mut db, alloc, Kind::Room, ROOM_ZERO)?;
+    make(&mut db, alloc, Kind::Room, ROOM_ZERO)?;
+    Ok(db)
+}
+
+fn make_things(db: &mut Db, alloc: Global, count: u32) -> Result<(), DbFault> {
+    for _ in 0..count {
+        make(db, alloc, Kind::Thing, HERE)?;
+    }
+    Ok(())
+}
+
+fn thing(i: u32) -> Dbref {
+    let number = FIRST_THING.saturating_add(i);
+    Dbref(i32::try_from(number).unwrap_or(-1))
+}
+
+// Where the things are taken on a way from the one room to the other, or back.
+fn goal(way: u32) -> Dbref {
+    if way % 2 == 0 { THERE } else { HERE }
+}
+
+// Moves all things from one room to the other, and back, and so on. The thing that moves is always the oldest in its
+// room, which stands last in its list.
+fn move_things(db: &mut Db, things: u32, count: u32) -> Result<(), DbFault> {
+    let things = things.max(1);
+    for i in 0..count {
+        db.move_to(thing(i % things), goal(i / things))?;
+    }
+    Ok(())
+}
+
+// A room, and elsewhere an exit that leads there.
+fn linked_room(db: &mut Db, alloc: Global) -> Result<Dbref, DbFault> {
+    let room = make(db, alloc, Kind::Room, ROOM_ZERO)?;
+    let exit = make(db, alloc, Kind::Exit, HERE)?;
+    db.set_link(exit, room)?;
+    Ok(room)
+}
+
+fn linked_rooms(db: &mut Db, alloc: Global, count: u32) -> Result<Vec<Dbref>, DbFault> {
+    let mut rooms = Vec::new(alloc);
+    for _ in 0..count {
+        let room = linked_room(db, alloc)?;
+        if rooms.push(room).is_err() {
+            return Err(DbFault::NoMemory);
+        }
+    }
+    Ok(rooms)
+}
+
+fn recycle_rooms(db: &mut Db, rooms: &[Dbref]) -> Result<(), DbFault> {
+    for room in rooms {
+        db.recycle(*room)?;
+    }
+    Ok(())
+}
+
+// How many of so many searches find a player whom nobody knows.
+fn found(db: &Db, name: &Line, count: u32) -> u32 {
+    let mut found = 0u32;
+    for _ in 0..count {
+        if player(db, name).is_some() {
+            found = found.saturating_add(1);
+        }
+    }
+    found
+}
+
+/// Does each so many times; answers how many objects there are then, and how many searches found someone.
+pub fn run(alloc: Global, things: u32, moves: u32, rooms: u32, searches: u32) -> Option<String> {
+    let mut db = two_rooms(alloc).ok()?;
+    make_things(&mut db, alloc, things).ok()?;
+    move_things(&mut db, things, moves).ok()?;
+    let rooms = linked_rooms(&mut db, alloc, rooms).ok()?;
+    recycle_rooms(&mut db, &rooms).ok()?;
+    let name = a_name(alloc).ok()?;
+    let found = found(&db, &name, searches);
+    let objects = db.objects();
+    format!(in alloc; "{objects} objects, {found} found").ok()
+}

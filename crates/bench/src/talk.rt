@@ -1,0 +1,92 @@
+// Three players in a room with many things: one says something again and again, and then looks around again and again.
+ghost use Rattle.std.specs.Prelude.{◌≡◌, length, IfSome};
+
+use muck_board::Board;
+use muck_db::{Db, DbFault};
+use muck_model::{Dbref, Kind, Line, Tune};
+use muck_perm::Guard;
+use muck_rights::Actor;
+use std::alloc::Global;
+
+const ROOM_ZERO: Dbref = Dbref(0);
+
+const ONE: Dbref = Dbref(1);
+
+const TUNE: Tune = Tune {
+    instr_slice: 2000,
+    preempt_units: 20_000,
+    m1_units: 20_000,
+    m2_units: 80_000,
+    process_limit: 400,
+    player_processes: 32,
+    mpi_commands: 2048,
+    dump_interval: 900,
+};
+
+fn a_name(alloc: Global) -> Option<Line>
+    ensures { IfSome result (λ line. length line ≡ 3) }
+{
+    Line::new(alloc, b"Two").ok()
+}
+
+// Room Zero with One, two more players, and so many things.
+fn crowd(alloc: Global, things: u32) -> Option<Db> {
+    let mut db = Db::starting(alloc).ok()?;
+    for _ in 0..2u32 {
+        let name = a_name(alloc)?;
+        db.create(alloc, Kind::Player, name, ONE, ROOM_ZERO).ok()?;
+    }
+    for _ in 0..things {
+        let name = a_name(alloc)?;
+        db.create(alloc, Kind::Thing, name, ONE, ROOM_ZERO).ok()?;
+    }
+    Some(db)
+}
+
+// A connection for each of the three players.
+fn seats(alloc: Global) -> Option<Board> {
+    let mut board = Board::new(alloc, 0, TUNE);
+    for d in 1..4u32 {
+        board.open(d, b"hi").ok()?;
+        board.seat(d, Dbref(d as i32));
+    }
+    Some(board)
+}
+
+// All that waits to be sent is taken; answers how many bytes.
+fn taken(board: &mut Board, buf: &mut [u8]) -> u64 {
+    let mut bytes = 0u64;
+    for d in 1..4u32 {
+        bytes = bytes.saturating_add(board.take(d, buf) as u64);
+    }
+    bytes
+}
+
+// One types the line so many times; answers how many bytes were sent for it.
+fn typed(alloc: Global, db: &mut Db, board: &mut Board, line: &Line, count: u32) -> Option<u64> {
+    let actor = Actor {
+        level: 4,
+        user: ONE,
+        player: ONE,
+    };
+    let mut buf = vec![in alloc; 0u8; 65_536].ok()?;
+    let mut bytes = 0u64;
+    for _ in 0..count {
+        let mut guard = Guard::new(alloc, db, board, actor);
+        cmd_play::run(&mut guard, 1, line).ok()?;
+        bytes = bytes.saturating_add(taken(board, &mut buf));
+    }
+    Some(bytes)
+}
+
+/// In a room of so many things so many lines are said, and so many looks taken; answers how many bytes the players were sent.
+pub fn run(alloc: Global, things: u32, said: u32, looks: u32) -> Option<String> {
+    let mut db = crowd(alloc, things)?;
+    let mut board = seats(alloc)?;
+    let say = Line::new(alloc, b"say How many are here today?").ok()?;
+    let look = Line::new(alloc, b"look").ok()?;
+    let heard = typed(alloc, &mut db, &mut board, &say, said)?;
+    let seen = typed(alloc, &mut db, &mut board, &look, looks)?;
+    let bytes = heard.saturating_add(seen);
+    format!(in alloc; "{bytes} bytes").ok()
+}

@@ -1,0 +1,43 @@
+// Runs a MUF program.
+use muck_model::{Dbref, Line};
+use muf_compile::compile;
+use muf_frame::Frame;
+use muf_model::Code;
+use muf_run::run_local;
+use muf_token::{MemIncludes, tokens};
+use std::alloc::Global;
+
+// An empty counted loop, a loop of stack words, or a loop that calls a word of one unit.
+fn source_of(name: &str) -> &'static str {
+    match name {
+        "loop" => ": main pop 1 2000000000 1 for pop repeat ;",
+        "stack" => ": main pop 1 begin dup 1 + swap pop repeat ;",
+        _ => ": f ; : main pop begin f repeat ;",
+    }
+}
+
+fn compiled(alloc: Global, source: &str) -> Option<Code> {
+    let mut lines = Vec::new(alloc);
+    lines.push(Line::new(alloc, source.as_bytes()).ok()?).ok()?;
+    let words = tokens(alloc, lines.as_slice(), &MemIncludes::new(alloc).ok()?).ok()?;
+    compile(alloc, &words).ok()
+}
+
+// A frame at the start of the last word of the code.
+fn started(alloc: Global, code: &Code) -> Option<Frame> {
+    let word = code.words.get(code.words.len().checked_sub(1)?)?;
+    let mut frame = Frame::new(alloc, Line::new(alloc, b"").ok()?).ok()?;
+    frame
+        .begin(alloc, Dbref(2), code.variables, word.start, word.variables)
+        .ok()?;
+    Some(frame)
+}
+
+/// The program `loop`, `stack` or `call` runs for so many units; answers how many it took.
+pub fn run(alloc: Global, program: &str, most: u32) -> Option<String> {
+    let code = compiled(alloc, source_of(program))?;
+    let mut frame = started(alloc, &code)?;
+    let _local = run_local(alloc, &code, &mut frame, most).ok()?;
+    let units = frame.units();
+    format!(in alloc; "{units} units").ok()
+}
