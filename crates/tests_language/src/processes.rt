@@ -7,7 +7,7 @@ use crate::first_wrong;
 use muck_model::{Dbref, Line, LineFault, NoMemory};
 use muf_compile::compile;
 use muf_model::{Code, Shared};
-use muf_process::{Occasion, Ran, Running};
+use muf_process::{Occasion, Ran, Running, Stint};
 use muf_token::{MemIncludes, tokens};
 use std::alloc::Global;
 
@@ -48,7 +48,8 @@ fn asking(alloc: Global, source: &str) -> Result<Running, NoMemory> {
     let Some(running) = Running::begin(alloc, Dbref(7), code, occasion, arg)? else {
         return Err(NoMemory);
     };
-    match running.run(alloc, 100)?.ran {
+    let Stint { ran, .. } = running.run(alloc, 100)?;
+    match ran {
         Ran::Asking(_, mut running) => {
             running.pass();
             Ok(running)
@@ -80,17 +81,17 @@ fn programs(rt: HostRuntime) -> Result<(), NoMemory> {
         !running.runs(Dbref(2)),
     ];
     assert_eq!(rt; first_wrong(&holds), None);
-    let stint = running.run(alloc, 100)?;
-    let Ran::Going(running) = stint.ran else {
+    let Stint { ran, units } = running.run(alloc, 100)?;
+    let Ran::Going(running) = ran else {
         return Err(NoMemory);
     };
     let holds = [
-        stint.units == 2,
+        units == 2,
         running.program() == Dbref(7),
         running.calls() == 0,
     ];
     assert_eq!(rt; first_wrong(&holds), None);
-    let stint = running.run(alloc, 100)?;
-    assert!(rt; matches!(stint.ran, Ran::Ended) && stint.units == 2);
+    let Stint { ran, units } = running.run(alloc, 100)?;
+    assert!(rt; matches!(ran, Ran::Ended) && units == 2);
     Ok(())
 }
