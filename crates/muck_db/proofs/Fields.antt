@@ -39,6 +39,3 @@ tried f check n old new e is = let P : Result ℕ DbFault → Type 0 = λ r. Tri
 -- want of memory, where the check was passed
 pub tried_none : (f : Object → Object) (check : Result ℕ DbFault) (n : ℕ) (fault : DbFault) (old new : List Entry) → check ≡ Ok n → fault ≡ NoMemory → new ≡ old → Tries (set_at f) check old new (Err fault)
 tried_none f check n fault old new e none same = let P : Result ℕ DbFault → Type 0 = λ r. Tries (set_at f) r old new (Err fault) in subst P (sym e) (none, same)
-
-pub digest_set : (n salt : ℕ) (word : List ℕ) (digest : List ℕ) (old new : List Slot) → new ≡ changed_at n (on_slot (with_digest digest)) old → digest ≡ digest_of (salt_bytes salt) word → new ≡ changed_at n (on_slot (with_password salt word)) old
-digest_set n salt word digest old new is e = let P : List ℕ → Type 0 = λ z. new ≡ changed_at n (on_slot (with_digest z)) old in subst P e is

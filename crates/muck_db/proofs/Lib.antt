@@ -13,3 +13,4 @@ pub mod Tellings
 pub mod Leaving
 pub mod Showing
 pub mod Counting
+pub mod Settings

@@ -14,6 +14,7 @@ ghost use Rattle.muck_live.specs.Seen.{listed_in, places_of, scenery_of};
 ghost use Rattle.muck_match.specs.Scenery.{chain, upward};
 ghost use Rattle.muck_lock.specs.Chain.{IsChain};
 ghost use Rattle.muck_db.specs.Limits.{FitsLimits, IsWithinLimits};
+ghost use Rattle.muck_db.specs.Settings.{MaySet, with_setting};
 ghost use Rattle.muck_db.specs.Shown.{is_there, after_in, first_in, next_in, Knows};
 
 use crate::chain::Chain;
@@ -23,9 +24,8 @@ use crate::moves::{check_move, count_there, found, list_of, relocate};
 use crate::password::{digest_word, is_digest_of};
 use crate::recycling::{check_recycle, clear_out, vanish};
 use crate::setting::{
-    check_any, check_flags, check_home, check_level, check_link, check_owner, check_player,
-    check_program, put_prop, remove_prop, set_digest, set_flags, set_home, set_level, set_lines,
-    set_link, set_name, set_owner,
+    Setting, check_any, check_flags, check_home, check_level, check_link, check_owner,
+    check_player, check_program, put_prop, remove_prop, set_at, set_lines,
 };
 use crate::slot::Slot;
 use crate::start::first_slots;
@@ -192,9 +192,8 @@ impl Db {
         requires short { length name ≤ 80 }
         ensures { Does (set_at (with_name name)) (checked any d self.old) self.old self.new result }
     {
-        let k = check_any(&self.slots, d)?;
-        set_name(&mut self.slots, k, name);
-        Ok(())
+        let checked = check_any(&self.slots, d);
+        self.set(checked, Setting::Name(name))
     }
 
     /// Gives an object to an owner. `NoSuchObject` comes where one of both isn't there, `WrongKind` where the object is
@@ -202,9 +201,8 @@ impl Db {
     pub fn set_owner(&mut self, d: Dbref, owner: Dbref) -> Result<(), DbFault>
         ensures { Does (set_at (with_owner owner)) (owner_check d owner self.old) self.old self.new result }
     {
-        let k = check_owner(&self.slots, d, owner)?;
-        set_owner(&mut self.slots, k, owner);
-        Ok(())
+        let checked = check_owner(&self.slots, d, owner);
+        self.set(checked, Setting::Owner(owner))
     }
 
     /// Links an exit to a room, a program, home or nothing, or a room to a room or nothing. `NoSuchObject` comes where
@@ -213,9 +211,8 @@ impl Db {
     pub fn set_link(&mut self, d: Dbref, to: Dbref) -> Result<(), DbFault>
         ensures { Does (set_at (with_link to)) (link_check d to self.old) self.old self.new result }
     {
-        let k = check_link(&self.slots, d, to)?;
-        set_link(&mut self.slots, k, to);
-        Ok(())
+        let checked = check_link(&self.slots, d, to);
+        self.set(checked, Setting::Link(to))
     }
 
     /// Sets the home of a thing or a player. `NoSuchObject` comes where one of both isn't there, `WrongKind` where the
@@ -223,9 +220,8 @@ impl Db {
     pub fn set_home(&mut self, d: Dbref, to: Dbref) -> Result<(), DbFault>
         ensures { Does (set_at (with_home to)) (home_check d to self.old) self.old self.new result }
     {
-        let k = check_home(&self.slots, d, to)?;
-        set_home(&mut self.slots, k, to);
-        Ok(())
+        let checked = check_home(&self.slots, d, to);
+        self.set(checked, Setting::Home(to))
     }
 
     /// Sets all flags of an object. `NoSuchObject` comes where it isn't there, `WrongKind` where a thing would lose V
@@ -234,9 +230,8 @@ impl Db {
         requires { flags.0 < 2 ^ 14 }
         ensures { Does (set_at (with_flags flags)) (flags_check d flags self.old) self.old self.new result }
     {
-        let k = check_flags(&self.slots, d, flags)?;
-        set_flags(&mut self.slots, k, flags);
-        Ok(())
+        let checked = check_flags(&self.slots, d, flags);
+        self.set(checked, Setting::Flags(flags))
     }
 
     /// Sets the level of a program or a player. `NoSuchObject` comes where it isn't there, `WrongKind` for another kind
@@ -244,9 +239,8 @@ impl Db {
     pub fn set_level(&mut self, d: Dbref, level: u8) -> Result<(), DbFault>
         ensures { Does (set_at (with_level level)) (level_check d level self.old) self.old self.new result }
     {
-        let k = check_level(&self.slots, d, level)?;
-        set_level(&mut self.slots, k, level);
-        Ok(())
+        let checked = check_level(&self.slots, d, level);
+        self.set(checked, Setting::Level(level))
     }
 
     /// Sets the source of a program, of which is then to be told. `NoSuchObject` comes where it isn't there, `WrongKind`
@@ -294,8 +288,7 @@ impl Db {
     {
         let k = check_player(&self.slots, d)?;
         let digest = digest_word(alloc, salt, word)?;
-        set_digest(&mut self.slots, k, digest);
-        Ok(())
+        self.set(Ok(k), Setting::Digest(digest))
     }
 
     /// Recycles an object: homes in it become `#0` and links to it nothing, its contents go home in the order of their
@@ -325,6 +318,18 @@ impl Db {
         clear_mark(&mut self.slots, n);
         self.told = n + 1;
         Some(told_of(n, mark))
+    }
+}
+
+impl Db {
+    // Sets a field of an object that was checked, or answers the first refusal.
+    fn set(&mut self, checked: Result<u32, DbFault>, setting: Setting) -> Result<(), DbFault>
+        requires { MaySet checked (with_setting setting) self.old }
+        ensures { Does (set_at (with_setting setting)) checked self.old self.new result }
+    {
+        let k = checked?;
+        set_at(&mut self.slots, k, setting);
+        Ok(())
     }
 }
 

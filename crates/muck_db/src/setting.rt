@@ -1,8 +1,9 @@
 // Setting a field: the checks and the writes.
 ghost use Rattle.std.specs.Prelude.{◌≡◌, ◌<◌, ℕ, List, length, false, IfOk, OnOk, OnErr, Ok, Err};
 ghost use Rattle.muck_live.specs.Objects.{is_garbage, is_player, is_exit, kind_in, changed_at};
-ghost use Rattle.muck_live.specs.Setting.{any, checked, checked_both, owner_check, link_check, home_check, flags_check, level_check, lines_check, password_check, keeps_seats, holds_player, may_link, may_live, has_link, lines_marked, with_name, with_owner, with_link, with_home, with_flags, with_level, with_prop, without_prop};
-ghost use Rattle.muck_db.specs.Slots.{kind_at, entries_of, on_slot, with_slot_lines, with_digest, HasOrder};
+ghost use Rattle.muck_live.specs.Setting.{any, checked, checked_both, owner_check, link_check, home_check, flags_check, level_check, lines_check, password_check, keeps_seats, holds_player, may_link, may_live, has_link, lines_marked, with_prop, without_prop};
+ghost use Rattle.muck_db.specs.Slots.{kind_at, entries_of, on_slot, with_slot_lines, HasOrder};
+ghost use Rattle.muck_db.specs.Settings.{with_setting};
 
 use crate::links::{first_of, next_of};
 use crate::moves::{is_vehicle, kind_of, number_of};
@@ -260,80 +261,41 @@ fn marked(mark: Option<Mark>) -> Option<Mark>
     }
 }
 
-#[tactic(auto, unfolding(muck_live::specs::Objects::changed_at))]
-pub fn set_name(slots: &mut Vec<Slot>, k: u32, name: Line)
-    requires { k < length slots.old.items }
-    ensures { slots.new.items ≡ changed_at k (on_slot (with_name name)) slots.old.items }
+// What is set of an object.
+#[derive(Drop)]
+pub enum Setting {
+    Name(Line),
+    Owner(Dbref),
+    Link(Dbref),
+    Home(Dbref),
+    Flags(Flags),
+    Level(u8),
+    Digest(Line),
+}
+
+fn set_in(object: &mut Object, setting: Setting)
+    ensures { object.new ≡ with_setting setting object.old }
 {
-    let slot = &mut slots[k as usize];
-    if let Some(object) = &mut slot.object {
-        object.name = name;
+    match setting {
+        Setting::Name(name) => object.name = name,
+        Setting::Owner(owner) => object.owner = owner,
+        Setting::Link(to) => object.link = to,
+        Setting::Home(to) => object.home = to,
+        Setting::Flags(flags) => object.flags = flags,
+        Setting::Level(level) => object.level = level,
+        Setting::Digest(digest) => object.digest = digest,
     }
 }
 
+// Sets a field of an object, where it isn't garbage.
 #[tactic(auto, unfolding(muck_live::specs::Objects::changed_at))]
-pub fn set_owner(slots: &mut Vec<Slot>, k: u32, owner: Dbref)
+pub fn set_at(slots: &mut Vec<Slot>, k: u32, setting: Setting)
     requires { k < length slots.old.items }
-    ensures { slots.new.items ≡ changed_at k (on_slot (with_owner owner)) slots.old.items }
+    ensures { slots.new.items ≡ changed_at k (on_slot (with_setting setting)) slots.old.items }
 {
     let slot = &mut slots[k as usize];
     if let Some(object) = &mut slot.object {
-        object.owner = owner;
-    }
-}
-
-#[tactic(auto, unfolding(muck_live::specs::Objects::changed_at))]
-pub fn set_link(slots: &mut Vec<Slot>, k: u32, to: Dbref)
-    requires { k < length slots.old.items }
-    ensures { slots.new.items ≡ changed_at k (on_slot (with_link to)) slots.old.items }
-{
-    let slot = &mut slots[k as usize];
-    if let Some(object) = &mut slot.object {
-        object.link = to;
-    }
-}
-
-#[tactic(auto, unfolding(muck_live::specs::Objects::changed_at))]
-pub fn set_home(slots: &mut Vec<Slot>, k: u32, to: Dbref)
-    requires { k < length slots.old.items }
-    ensures { slots.new.items ≡ changed_at k (on_slot (with_home to)) slots.old.items }
-{
-    let slot = &mut slots[k as usize];
-    if let Some(object) = &mut slot.object {
-        object.home = to;
-    }
-}
-
-#[tactic(auto, unfolding(muck_live::specs::Objects::changed_at))]
-pub fn set_flags(slots: &mut Vec<Slot>, k: u32, flags: Flags)
-    requires { k < length slots.old.items }
-    ensures { slots.new.items ≡ changed_at k (on_slot (with_flags flags)) slots.old.items }
-{
-    let slot = &mut slots[k as usize];
-    if let Some(object) = &mut slot.object {
-        object.flags = flags;
-    }
-}
-
-#[tactic(auto, unfolding(muck_live::specs::Objects::changed_at))]
-pub fn set_level(slots: &mut Vec<Slot>, k: u32, level: u8)
-    requires { k < length slots.old.items }
-    ensures { slots.new.items ≡ changed_at k (on_slot (with_level level)) slots.old.items }
-{
-    let slot = &mut slots[k as usize];
-    if let Some(object) = &mut slot.object {
-        object.level = level;
-    }
-}
-
-#[tactic(auto, unfolding(muck_live::specs::Objects::changed_at))]
-pub fn set_digest(slots: &mut Vec<Slot>, k: u32, digest: Line)
-    requires { k < length slots.old.items }
-    ensures { slots.new.items ≡ changed_at k (on_slot (with_digest digest)) slots.old.items }
-{
-    let slot = &mut slots[k as usize];
-    if let Some(object) = &mut slot.object {
-        object.digest = digest;
+        set_in(object, setting);
     }
 }
 
@@ -349,6 +311,7 @@ pub fn set_lines(slots: &mut Vec<Slot>, k: u32, lines: LineList)
     slot.mark = marked(slot.mark);
 }
 
+// Removes a property of an object.
 #[tactic(auto, unfolding(muck_live::specs::Objects::changed_at))]
 pub fn remove_prop(slots: &mut Vec<Slot>, k: u32, path: &Path)
     requires { k < length slots.old.items }
