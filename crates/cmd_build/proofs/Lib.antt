@@ -5,3 +5,4 @@ pub mod Open
 pub mod Owned
 pub mod Steps
 pub mod Entered
+pub mod Performed

@@ -15,6 +15,7 @@ use Rattle.muck_world.specs.Going.{Play}
 use Rattle.muck_perm.specs.declared.guard.Guard.{Guard}
 use Rattle.muck_perm.specs.Guards.{Did, with_world, world_of}
 use Rattle.cmd_parts.specs.Plays.{Plays, Finds, FindsFor}
+use Rattle.cmd_parts.proofs.Reading.{plays_same}
 
 -- two changes that do the same there
 did_same : (f g : Change) (old new : Guard) (result : Result (Unit {0}) NoMemory) → f (world_of old) ≡ g (world_of old) → Did f old new result → Did g old new result
@@ -54,10 +55,6 @@ unfolding either
 either_then b go otherwise old new result e h = did_same go (either b go otherwise) old new result (sym (ap (λ c. either c go otherwise (world_of old)) e)) h
 
 -- The same for a line, which answers what is to follow too.
-
-plays_same : (f g : Play) (old new : Guard) (result : Result Outcome NoMemory) → f (world_of old) ≡ g (world_of old) → Plays f old new result → Plays g old new result
-plays_same f g old new (Ok outcome) e h = (h.0 ∙ ap (λ (r : Live × Outcome). with_world r.0 old) e, h.1 ∙ ap (λ (r : Live × Outcome). r.1) e)
-plays_same f g old new (Err x) e h = h
 
 pub found_then : (seek : (Dbref → Play) → Play) (go : Guard → Dbref → Play) (x : Dbref) (old mid new : Guard) (result : Result Outcome NoMemory)
     → FindsFor seek old mid (Ok (Some x)) → Plays (go mid x) mid new result → Plays (seek (go old)) old new result

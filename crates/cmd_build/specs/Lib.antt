@@ -3,3 +3,4 @@ pub mod Keys
 pub mod Owned
 pub mod Owning
 pub mod Told
+pub mod Performed

@@ -1,54 +1,92 @@
 // A line of a builder.
 ghost use Rattle.std.specs.Prelude.{◌≡◌, OnOk};
+ghost use Rattle.muck_live.specs.Lives.{either};
 ghost use Rattle.muck_rights.specs.Licence.{Licensed, nobody};
-ghost use Rattle.muck_world.specs.Commands.{build_done, build_line};
-ghost use Rattle.muck_perm.specs.Guards.{world_of};
+ghost use Rattle.muck_world.specs.Building.{opened_exit, opened_to};
+ghost use Rattle.muck_world.specs.Commands.{is_empty, build_done, build_line};
+ghost use Rattle.muck_perm.specs.Guards.{Did, world_of};
 ghost use Rattle.cmd_parts.specs.Plays.{Plays};
+ghost use Rattle.cmd_build.specs.Performed.{performed};
 
-use crate::lines::{
-    action_line, chown_line, create_line, dig_line, find_line, link_line, lock_line, message_line,
-    name_line, open_line, recycle_line, teleport_line, unlink_line, unlock_line,
-};
-use crate::program_lines::{edit_line, list_line, program_line, run_line};
+use crate::forms::form_of;
+use crate::locks::{lock, unlock};
+use crate::making::{act_on, create, dig, open, open_to};
+use crate::messages::set_message;
+use crate::moving::teleport;
+use crate::naming::rename;
+use crate::owning::{chown, recycle};
+use crate::programs::{edit, list, program, start};
+use crate::searching::find;
+use crate::tying::{link, unlink};
 use crate::words::build_word;
-use cmd_parts::after_word;
+use cmd_parts::{after_word, done, incomplete, parts_in};
 use muck_model::{Line, NoMemory};
 use muck_perm::Guard;
 use muck_world::{BuildWord, Outcome, cut_word, trim};
 
+// Makes an exit, which leads nowhere yet where there is no target.
+#[tactic(auto, unfolding(muck_live::specs::Lives::either))]
+fn open_any(guard: &mut Guard, d: u32, name: &Line, target: &Line) -> Result<(), NoMemory>
+    ensures { Did (either (is_empty target.now) (opened_exit d guard.old.actor name.now) (opened_to d guard.old.actor name.now target.now)) guard.old guard.new result }
+{
+    if target.as_slice().is_empty() {
+        open(guard, d, name)
+    } else {
+        open_to(guard, d, name, target)
+    }
+}
+
+// Does what a word asks, with the parts of the text behind it.
+#[tactic(auto, using(cmd_parts::proofs::Doing::plays_done))]
+fn perform(
+    guard: &mut Guard,
+    d: u32,
+    line: &Line,
+    found: BuildWord,
+    left: &Line,
+    right: &Line,
+) -> Result<Outcome, NoMemory>
+    ensures { Plays (performed d guard.old.actor line.now found left.now right.now) guard.old guard.new result }
+{
+    match found {
+        BuildWord::Dig => done(dig(guard, d, left)),
+        BuildWord::Create => done(create(guard, d, left)),
+        BuildWord::Open => done(open_any(guard, d, left, right)),
+        BuildWord::Action => done(act_on(guard, d, left, right)),
+        BuildWord::Link => done(link(guard, d, left, right)),
+        BuildWord::Unlink => done(unlink(guard, d, left)),
+        BuildWord::Name => done(rename(guard, d, left, right)),
+        BuildWord::Set(message) => done(set_message(guard, d, message, left, right)),
+        BuildWord::Lock => done(lock(guard, d, left, right)),
+        BuildWord::Unlock => done(unlock(guard, d, left)),
+        BuildWord::Teleport => done(teleport(guard, d, left, right)),
+        BuildWord::Recycle => done(recycle(guard, d, left)),
+        BuildWord::Chown => done(chown(guard, d, left, right)),
+        BuildWord::Find => done(find(guard, d, left)),
+        BuildWord::Program => program(guard, d, left),
+        BuildWord::Edit => edit(guard, d, left),
+        BuildWord::List => list(guard, d, left),
+        BuildWord::Run => start(guard, d, line, left, right),
+    }
+}
+
 // Does what a word asks, with what stands behind it in the line.
-#[tactic(auto, unfolding(muck_world::specs::Going::ended, muck_world::specs::Commands::build_done))]
+#[tactic(auto, unfolding(muck_world::specs::Going::ended))]
 fn build(
     guard: &mut Guard,
     d: u32,
     line: &Line,
     word: &[u8],
-    text: &Line,
+    text: Line,
     found: BuildWord,
 ) -> Result<Outcome, NoMemory>
-    ensures { Plays (build_done d guard.old.actor line.now word.now text.now found) guard.old guard.new result }
+    ensures { Plays (build_done d guard.old.actor line.now word.now text found) guard.old guard.new result }
 {
-    match found {
-        BuildWord::Dig => dig_line(guard, d, word, text)?,
-        BuildWord::Create => create_line(guard, d, word, text)?,
-        BuildWord::Open => open_line(guard, d, word, text)?,
-        BuildWord::Action => action_line(guard, d, word, text)?,
-        BuildWord::Link => link_line(guard, d, word, text)?,
-        BuildWord::Unlink => unlink_line(guard, d, word, text)?,
-        BuildWord::Name => name_line(guard, d, word, text)?,
-        BuildWord::Set(message) => message_line(guard, d, word, text, message)?,
-        BuildWord::Lock => lock_line(guard, d, word, text)?,
-        BuildWord::Unlock => unlock_line(guard, d, word, text)?,
-        BuildWord::Teleport => teleport_line(guard, d, word, text)?,
-        BuildWord::Recycle => recycle_line(guard, d, word, text)?,
-        BuildWord::Chown => chown_line(guard, d, word, text)?,
-        BuildWord::Find => find_line(guard, d, word, text)?,
-        BuildWord::Program => return program_line(guard, d, word, text),
-        BuildWord::Edit => return edit_line(guard, d, word, text),
-        BuildWord::List => return list_line(guard, d, word, text),
-        BuildWord::Run => return run_line(guard, d, line, word, text),
+    let form = form_of(found, &text);
+    match parts_in(guard.alloc(), form, text)? {
+        None => done(incomplete(guard, d, word)),
+        Some(parts) => perform(guard, d, line, found, &parts.left, &parts.right),
     }
-    Ok(Outcome::Done)
 }
 
 #[tactic(auto, unfolding(muck_world::specs::Commands::build_line, muck_world::specs::Going::ended, muck_live::specs::Lives::unchanged))]
@@ -60,7 +98,7 @@ fn play(guard: &mut Guard, d: u32, line: &Line) -> Result<Outcome, NoMemory>
         return Ok(Outcome::NotMine);
     };
     let text = after_word(guard.alloc(), line)?;
-    build(guard, d, line, word, &text, found)
+    build(guard, d, line, word, text, found)
 }
 
 /// Does a line of the player at the connection d, where its first word is one of builders; else it answers `NotMine`, and

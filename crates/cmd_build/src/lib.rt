@@ -4,7 +4,7 @@
 #![tactic(auto)]
 
 mod command;
-mod lines;
+mod forms;
 mod locks;
 mod making;
 mod messages;
@@ -12,7 +12,6 @@ mod moving;
 mod names;
 mod naming;
 mod owning;
-mod program_lines;
 mod programs;
 mod searching;
 mod tying;

@@ -9,12 +9,12 @@ ghost use Rattle.muck_perm.specs.Guards.{Did, IsLeave, world_of};
 ghost use Rattle.cmd_build.specs.Keys.{key_kept};
 
 use crate::messages::keep;
-use cmd_parts::{find_object, line_of, refuse};
+use cmd_parts::{ask, find_object, line_of};
 use muck_db::Db;
 use muck_lock::{Finder, LockFault, print, read};
 use muck_match::{Found, find};
 use muck_model::{Dbref, Kind, Line, Lock, NoMemory};
-use muck_perm::{Guard, Pass, verdict};
+use muck_perm::{Guard, Pass};
 use muck_rights::Act;
 use std::alloc::Global;
 
@@ -91,7 +91,7 @@ fn lock_by(guard: &mut Guard, pass: Pass, d: u32, x: Dbref, key: &Line) -> Resul
 {
     match printed_key(guard, key)? {
         None => guard.tell(d, b"I don't understand that key."),
-        Some(text) => keep(guard, pass, d, x, PATH, text, b"Locked."),
+        Some(text) => keep(guard, pass, d, x, PATH, &text, b"Locked."),
     }
 }
 
@@ -103,10 +103,10 @@ pub fn lock(guard: &mut Guard, d: u32, name: &Line, key: &Line) -> Result<(), No
     let Some(x) = find_object(guard, d, name)? else {
         return Ok(());
     };
-    let actor = guard.actor();
-    match verdict(guard.db(), &actor, &Act::Change { object: x }) {
-        Err(denial) => refuse(guard, d, denial),
+    let act = Act::Change { object: x };
+    match ask(guard, d, &act) {
         Ok(pass) => lock_by(guard, pass, d, x, key),
+        Err(told) => told,
     }
 }
 
@@ -118,12 +118,10 @@ pub fn unlock(guard: &mut Guard, d: u32, name: &Line) -> Result<(), NoMemory>
     let Some(x) = find_object(guard, d, name)? else {
         return Ok(());
     };
-    let actor = guard.actor();
-    match verdict(guard.db(), &actor, &Act::Change { object: x }) {
-        Err(denial) => refuse(guard, d, denial),
-        Ok(pass) => {
-            let none = line_of(guard.alloc(), b"")?;
-            keep(guard, pass, d, x, PATH, none, b"Unlocked.")
-        }
+    let none = line_of(guard.alloc(), b"")?;
+    let act = Act::Change { object: x };
+    match ask(guard, d, &act) {
+        Ok(pass) => keep(guard, pass, d, x, PATH, &none, b"Unlocked."),
+        Err(told) => told,
     }
 }

@@ -16,10 +16,10 @@ ghost use Rattle.muck_perm.specs.Guards.{Did, IsLeave, world_of};
 ghost use Rattle.cmd_build.specs.Told.{IsTold};
 
 use crate::names::{bad_name, is_name};
-use cmd_parts::{cant_be_done, find_object, find_one, place_at, refuse};
+use cmd_parts::{around, ask, cant_be_done, find_object, find_one, home_at, place_at};
 use muck_live::DbFault;
 use muck_model::{Dbref, Kind, Line, NoMemory};
-use muck_perm::{Guard, Pass, long_form, verdict};
+use muck_perm::{Guard, Pass, long_form};
 use muck_rights::Act;
 
 const NOTHING: Dbref = Dbref(-1);
@@ -52,12 +52,8 @@ pub fn show_created(guard: &mut Guard, d: u32, n: u32) -> Result<(), NoMemory>
     ensures { Did (created_shown d n) guard.old guard.new result }
 {
     let name = long_name(guard, n)?;
-    let mut text = Vec::new(guard.alloc());
-    text.extend_from_slice(b"Created ")?;
-    text.extend_from_slice(&name)?;
-    text.extend_from_slice(b".")?;
-    guard.tell(d, &text)?;
-    Ok(())
+    let text = around(guard.alloc(), b"Created ", &name, b".")?;
+    guard.tell(d, &text)
 }
 
 // Tells the connection what came of making an object.
@@ -71,20 +67,15 @@ fn tell_made(guard: &mut Guard, d: u32, made: Result<Dbref, DbFault>) -> Result<
     }
 }
 
-// Makes a room, where the world allows it.
-fn make_room(
-    guard: &mut Guard,
-    d: u32,
-    pass: Pass,
-    name: Line,
-    place: Dbref,
-) -> Result<(), NoMemory>
-    requires leave { IsLeave pass (Act.NewRoom place) guard.old }
-    requires some { 1 ≤ length name }
-    requires short { length name ≤ 80 }
-    ensures { Did (making d guard.old.actor Kind.Room name place as_made) guard.old guard.new result }
+// Makes a room below Room Zero, where the world allows it.
+fn make_room(guard: &mut Guard, d: u32, pass: Pass, name: &Line) -> Result<(), NoMemory>
+    requires leave { IsLeave pass (Act.NewRoom (dbref_of 0)) guard.old }
+    requires some { 1 ≤ length name.now }
+    requires short { length name.now ≤ 80 }
+    ensures { Did (making d guard.old.actor Kind.Room name.now (dbref_of 0) as_made) guard.old guard.new result }
 {
-    let made = guard.create_room(pass, name, place);
+    let name = name.copy(guard.alloc())?;
+    let made = guard.create_room(pass, name, Dbref(0));
     tell_made(guard, d, made)
 }
 
@@ -96,22 +87,10 @@ pub fn dig(guard: &mut Guard, d: u32, name: &Line) -> Result<(), NoMemory>
     if !is_name(name.as_slice()) {
         return bad_name(guard, d);
     }
-    let name = name.copy(guard.alloc())?;
-    let actor = guard.actor();
     let act = Act::NewRoom { place: Dbref(0) };
-    match verdict(guard.db(), &actor, &act) {
-        Err(denial) => refuse(guard, d, denial),
-        Ok(pass) => make_room(guard, d, pass, name, Dbref(0)),
-    }
-}
-
-// The home of an object, `#-1` where it isn't there.
-fn home_at(guard: &Guard, x: Dbref) -> Dbref
-    ensures { result ≡ home_at x (world_of guard.now) }
-{
-    match guard.db().get(x) {
-        Some(object) => object.home(),
-        None => NOTHING,
+    match ask(guard, d, &act) {
+        Ok(pass) => make_room(guard, d, pass, name),
+        Err(told) => told,
     }
 }
 
@@ -126,53 +105,35 @@ fn may_house(guard: &Guard, to: Dbref) -> bool
     }
 }
 
-// Makes a thing with a home that it may have, where the world allows it.
-#[tactic(auto, unfolding(muck_world::specs::Finding::is_so))]
-fn make_thing(
-    guard: &mut Guard,
-    d: u32,
-    pass: Pass,
-    name: Line,
-    place: Dbref,
-    home: Dbref,
-) -> Result<(), NoMemory>
-    requires leave { IsLeave pass (Act.NewThing place) guard.old }
-    requires some { 1 ≤ length name }
-    requires short { length name ≤ 80 }
-    requires home { may_house home (world_of guard.old) ≡ true }
-    ensures { Did (making d guard.old.actor Kind.Thing name place (with_home home)) guard.old guard.new result }
-{
-    let made = guard.create_thing(pass, name, place, home);
-    tell_made(guard, d, made)
-}
-
 // Makes a thing that the player carries, where a thing may have that home and the world allows it.
-#[tactic(auto, unfolding(muck_world::specs::Building::housed, muck_world::specs::Finding::where_so, muck_live::specs::Lives::reading, muck_live::specs::Lives::either))]
+#[tactic(auto, unfolding(muck_world::specs::Building::housed, muck_world::specs::Finding::is_so, muck_world::specs::Finding::where_so, muck_live::specs::Lives::reading, muck_live::specs::Lives::either))]
 fn house_thing(
     guard: &mut Guard,
     d: u32,
     pass: Pass,
-    name: Line,
+    name: &Line,
     home: Dbref,
 ) -> Result<(), NoMemory>
     requires leave { IsLeave pass (Act.NewThing guard.old.actor.player) guard.old }
-    requires some { 1 ≤ length name }
-    requires short { length name ≤ 80 }
-    ensures { Did (housed d guard.old.actor name home) guard.old guard.new result }
+    requires some { 1 ≤ length name.now }
+    requires short { length name.now ≤ 80 }
+    ensures { Did (housed d guard.old.actor name.now home) guard.old guard.new result }
 {
     if !may_house(guard, home) {
         return cant_be_done(guard, d);
     }
+    let name = name.copy(guard.alloc())?;
     let player = guard.actor().player;
-    make_thing(guard, d, pass, name, player, home)
+    let made = guard.create_thing(pass, name, player, home);
+    tell_made(guard, d, made)
 }
 
 // Makes a thing that the player carries, and whose home is the player's, where the world allows it.
-fn make_at_home(guard: &mut Guard, d: u32, pass: Pass, name: Line) -> Result<(), NoMemory>
+fn make_at_home(guard: &mut Guard, d: u32, pass: Pass, name: &Line) -> Result<(), NoMemory>
     requires leave { IsLeave pass (Act.NewThing guard.old.actor.player) guard.old }
-    requires some { 1 ≤ length name }
-    requires short { length name ≤ 80 }
-    ensures { Did (reading (home_at guard.old.actor.player) (housed d guard.old.actor name)) guard.old guard.new result }
+    requires some { 1 ≤ length name.now }
+    requires short { length name.now ≤ 80 }
+    ensures { Did (reading (home_at guard.old.actor.player) (housed d guard.old.actor name.now)) guard.old guard.new result }
 {
     let home = home_at(guard, guard.actor().player);
     house_thing(guard, d, pass, name, home)
@@ -186,14 +147,12 @@ pub fn create(guard: &mut Guard, d: u32, name: &Line) -> Result<(), NoMemory>
     if !is_name(name.as_slice()) {
         return bad_name(guard, d);
     }
-    let name = name.copy(guard.alloc())?;
-    let actor = guard.actor();
     let act = Act::NewThing {
-        place: actor.player,
+        place: guard.actor().player,
     };
-    match verdict(guard.db(), &actor, &act) {
-        Err(denial) => refuse(guard, d, denial),
+    match ask(guard, d, &act) {
         Ok(pass) => make_at_home(guard, d, pass, name),
+        Err(told) => told,
     }
 }
 
@@ -211,45 +170,27 @@ fn may_lead(guard: &Guard, to: Dbref) -> bool
     }
 }
 
-// Makes an exit that leads where it may lead, where the world allows it.
-#[tactic(auto, unfolding(muck_world::specs::Finding::is_so))]
-fn make_linked(
-    guard: &mut Guard,
-    d: u32,
-    pass: Pass,
-    name: Line,
-    place: Dbref,
-    to: Dbref,
-) -> Result<(), NoMemory>
-    requires leave { IsLeave pass (Act.NewExit place to) guard.old }
-    requires some { 1 ≤ length name }
-    requires short { length name ≤ 80 }
-    requires leads { may_lead to (world_of guard.old) ≡ true }
-    ensures { Did (making d guard.old.actor Kind.Exit name place (with_link to)) guard.old guard.new result }
-{
-    let made = guard.create_exit(pass, name, place, to);
-    tell_made(guard, d, made)
-}
-
 // Makes an exit by leave of the rules, where it may lead there and the world allows it.
-#[tactic(auto, unfolding(muck_world::specs::Finding::where_so, muck_live::specs::Lives::reading, muck_live::specs::Lives::either))]
+#[tactic(auto, unfolding(muck_world::specs::Finding::is_so, muck_world::specs::Finding::where_so, muck_live::specs::Lives::reading, muck_live::specs::Lives::either))]
 fn link_new(
     guard: &mut Guard,
     d: u32,
     pass: Pass,
-    name: Line,
+    name: &Line,
     place: Dbref,
     to: Dbref,
 ) -> Result<(), NoMemory>
     requires leave { IsLeave pass (Act.NewExit place to) guard.old }
-    requires some { 1 ≤ length name }
-    requires short { length name ≤ 80 }
-    ensures { Did (where_so (may_lead to) (tell d cant_be_done) (making d guard.old.actor Kind.Exit name place (with_link to))) guard.old guard.new result }
+    requires some { 1 ≤ length name.now }
+    requires short { length name.now ≤ 80 }
+    ensures { Did (where_so (may_lead to) (tell d cant_be_done) (making d guard.old.actor Kind.Exit name.now place (with_link to))) guard.old guard.new result }
 {
     if !may_lead(guard, to) {
         return cant_be_done(guard, d);
     }
-    make_linked(guard, d, pass, name, place, to)
+    let name = name.copy(guard.alloc())?;
+    let made = guard.create_exit(pass, name, place, to);
+    tell_made(guard, d, made)
 }
 
 // Makes an exit, where neither a rule nor the world denies it or its link.
@@ -265,12 +206,10 @@ fn make_exit(
     requires short { length name.now ≤ 80 }
     ensures { Did (exit_made d guard.old.actor name.now place to) guard.old guard.new result }
 {
-    let name = name.copy(guard.alloc())?;
-    let actor = guard.actor();
     let act = Act::NewExit { place, link: to };
-    match verdict(guard.db(), &actor, &act) {
-        Err(denial) => refuse(guard, d, denial),
+    match ask(guard, d, &act) {
         Ok(pass) => link_new(guard, d, pass, name, place, to),
+        Err(told) => told,
     }
 }
 

@@ -7,15 +7,15 @@ ghost use Rattle.muck_live.specs.Lives.{◌▸◌, tell};
 ghost use Rattle.muck_rights.specs.declared.act.Act.{Act};
 ghost use Rattle.muck_rights.specs.Verdict.{is_guarded};
 ghost use Rattle.muck_rights.specs.Changing.{stored};
-ghost use Rattle.muck_world.specs.Finding.{is_object, message_path};
+ghost use Rattle.muck_world.specs.Finding.{is_object};
 ghost use Rattle.muck_world.specs.Building.{message_set};
 ghost use Rattle.muck_world.specs.Commands.{message_name};
 ghost use Rattle.muck_perm.specs.Guards.{Did, IsLeave, world_of};
 
-use cmd_parts::{find_object, line_of, refuse};
+use cmd_parts::{ask, find_object, line_of, message_path};
 use muck_live::DbFault;
 use muck_model::{Dbref, Line, NoMemory};
-use muck_perm::{Guard, Pass, verdict};
+use muck_perm::{Guard, Pass};
 use muck_prop::{Path, PropFault, PropValue, read_path};
 use muck_rights::Act;
 use muck_world::Message;
@@ -58,7 +58,7 @@ pub fn keep(
     d: u32,
     x: Dbref,
     path: &[u8],
-    text: Line,
+    text: &Line,
     reply: &[u8],
 ) -> Result<(), NoMemory>
     requires leave { IsLeave pass (Act.Change x) guard.old }
@@ -66,30 +66,12 @@ pub fn keep(
     requires text { text_fault path.now ≡ None }
     requires fine { path_fault path.now ≡ None }
     requires guarded { is_guarded (class_of (segments_of path.now)) ≡ true }
-    ensures { Did (stored x (segments_of path.now) (Text text) ▸ tell d reply.now) guard.old guard.new result }
+    ensures { Did (stored x (segments_of path.now) (Text text.now) ▸ tell d reply.now) guard.old guard.new result }
 {
     let path = path_of(guard.alloc(), path)?;
+    let text = text.copy(guard.alloc())?;
     store(guard, pass, x, path, text)?;
     guard.tell(d, reply)
-}
-
-// The path of a message, as text.
-#[tactic(auto, unfolding(muck_model::specs::Bytes::text_most))]
-fn path_text(message: Message) -> &'static [u8]
-    ensures text { text_fault result.now ≡ None }
-    ensures fine { path_fault result.now ≡ None }
-    ensures path { segments_of result.now ≡ message_path (message_name message) }
-    ensures guarded { is_guarded (class_of (segments_of result.now)) ≡ true }
-{
-    match message {
-        Message::Describe => b"_/de",
-        Message::Success => b"_/sc",
-        Message::OthersSuccess => b"_/osc",
-        Message::Fail => b"_/fl",
-        Message::OthersFail => b"_/ofl",
-        Message::Drop => b"_/dr",
-        Message::OthersDrop => b"_/odr",
-    }
 }
 
 /// Sets a message of an object; an empty text clears it.
@@ -106,12 +88,9 @@ pub fn set_message(
     let Some(x) = find_object(guard, d, name)? else {
         return Ok(());
     };
-    let actor = guard.actor();
-    match verdict(guard.db(), &actor, &Act::Change { object: x }) {
-        Err(denial) => refuse(guard, d, denial),
-        Ok(pass) => {
-            let text = text.copy(guard.alloc())?;
-            keep(guard, pass, d, x, path_text(message), text, b"Set.")
-        }
+    let act = Act::Change { object: x };
+    match ask(guard, d, &act) {
+        Ok(pass) => keep(guard, pass, d, x, message_path(message), text, b"Set."),
+        Err(told) => told,
     }
 }

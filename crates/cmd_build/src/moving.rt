@@ -7,9 +7,9 @@ ghost use Rattle.muck_world.specs.Going.{moving};
 ghost use Rattle.muck_world.specs.Building.{meant_place, teleported};
 ghost use Rattle.muck_perm.specs.Guards.{Did, IsLeave};
 
-use cmd_parts::{cant_be_done, find_object, find_one, refuse};
+use cmd_parts::{ask, cant_be_done, find_object, find_one};
 use muck_model::{Dbref, Line, NoMemory};
-use muck_perm::{Guard, Pass, verdict};
+use muck_perm::{Guard, Pass};
 use muck_rights::Act;
 
 const HOME: Dbref = Dbref(-3);
@@ -42,9 +42,9 @@ pub fn teleport(guard: &mut Guard, d: u32, name: &Line, target: &Line) -> Result
     let Some(to) = find_one(guard, d, target)? else {
         return Ok(());
     };
-    let actor = guard.actor();
-    match verdict(guard.db(), &actor, &Act::Move { object: x, to }) {
-        Err(denial) => refuse(guard, d, denial),
+    let act = Act::Move { object: x, to };
+    match ask(guard, d, &act) {
         Ok(pass) => put(guard, pass, d, x, to),
+        Err(told) => told,
     }
 }

@@ -65,6 +65,5 @@ pub fn is_player_name(db: &Db, name: &[u8]) -> bool
 pub fn bad_name(guard: &mut Guard, d: u32) -> Result<(), NoMemory>
     ensures { Did (tell d bad_name) guard.old guard.new result }
 {
-    guard.tell(d, b"That's not a reasonable name.")?;
-    Ok(())
+    guard.tell(d, b"That's not a reasonable name.")
 }

@@ -10,9 +10,9 @@ ghost use Rattle.muck_world.specs.Building.{is_name_for, name_set};
 ghost use Rattle.muck_perm.specs.Guards.{Did, IsLeave, world_of};
 
 use crate::names::{bad_name, is_name, is_player_name};
-use cmd_parts::{find_object, refuse};
+use cmd_parts::{ask, find_object};
 use muck_model::{Dbref, Kind, Line, NoMemory};
-use muck_perm::{Guard, Pass, verdict};
+use muck_perm::{Guard, Pass};
 use muck_rights::Act;
 
 // Whether an object is there and is a player.
@@ -41,13 +41,14 @@ fn may_have(guard: &Guard, x: Dbref, name: &[u8]) -> bool
 
 // Names an object that is there.
 #[tactic(auto, using(crate::proofs::There::made_there), unfolding(muck_world::specs::Replies::named_reply, muck_live::specs::Lives::followed))]
-fn give_name(guard: &mut Guard, pass: Pass, d: u32, x: Dbref, name: Line) -> Result<(), NoMemory>
+fn give_name(guard: &mut Guard, pass: Pass, d: u32, x: Dbref, name: &Line) -> Result<(), NoMemory>
     requires leave { IsLeave pass (Act.Rename x) guard.old }
     requires there { is_object x (world_of guard.old) ≡ true }
-    requires some { 1 ≤ length name }
-    requires short { length name ≤ 80 }
-    ensures { Did (named x name ▸ tell d named_reply) guard.old guard.new result }
+    requires some { 1 ≤ length name.now }
+    requires short { length name.now ≤ 80 }
+    ensures { Did (named x name.now ▸ tell d named_reply) guard.old guard.new result }
 {
+    let name = name.copy(guard.alloc())?;
     match guard.rename(pass, x, name) {
         Ok(()) => guard.tell(d, b"Name set."),
         Err(_) => unreachable!(),
@@ -65,12 +66,9 @@ pub fn rename(guard: &mut Guard, d: u32, name: &Line, new: &Line) -> Result<(), 
     if !may_have(guard, x, new.as_slice()) {
         return bad_name(guard, d);
     }
-    let actor = guard.actor();
-    match verdict(guard.db(), &actor, &Act::Rename { object: x }) {
-        Err(denial) => refuse(guard, d, denial),
-        Ok(pass) => {
-            let new = new.copy(guard.alloc())?;
-            give_name(guard, pass, d, x, new)
-        }
+    let act = Act::Rename { object: x };
+    match ask(guard, d, &act) {
+        Ok(pass) => give_name(guard, pass, d, x, new),
+        Err(told) => told,
     }
 }

@@ -4,9 +4,9 @@ ghost use Rattle.muck_world.specs.Building.{recycled, chowned};
 ghost use Rattle.muck_perm.specs.Guards.{Did, IsLeave};
 ghost use Rattle.cmd_build.specs.Owning.{object_recycled, recycled_by, object_given, given_by};
 
-use cmd_parts::{cant_be_done, find_object, find_player, refuse};
+use cmd_parts::{ask, cant_be_done, find_object, find_player};
 use muck_model::{Dbref, Line, NoMemory};
-use muck_perm::{Guard, Pass, verdict};
+use muck_perm::{Guard, Pass};
 use muck_rights::Act;
 
 // Recycles an object, where the world allows it.
@@ -26,10 +26,10 @@ fn recycle_object(guard: &mut Guard, d: u32, pass: Pass, x: Dbref) -> Result<(),
 fn recycle_found(guard: &mut Guard, d: u32, x: Dbref) -> Result<(), NoMemory>
     ensures { Did (recycled_by d guard.old.actor x) guard.old guard.new result }
 {
-    let actor = guard.actor();
-    match verdict(guard.db(), &actor, &Act::Recycle { object: x }) {
-        Err(denial) => refuse(guard, d, denial),
+    let act = Act::Recycle { object: x };
+    match ask(guard, d, &act) {
         Ok(pass) => recycle_object(guard, d, pass, x),
+        Err(told) => told,
     }
 }
 
@@ -61,11 +61,10 @@ fn give(guard: &mut Guard, d: u32, pass: Pass, x: Dbref, owner: Dbref) -> Result
 fn give_found(guard: &mut Guard, d: u32, x: Dbref, owner: Dbref) -> Result<(), NoMemory>
     ensures { Did (given_by d guard.old.actor x owner) guard.old guard.new result }
 {
-    let actor = guard.actor();
     let act = Act::SetOwner { object: x, owner };
-    match verdict(guard.db(), &actor, &act) {
-        Err(denial) => refuse(guard, d, denial),
+    match ask(guard, d, &act) {
         Ok(pass) => give(guard, d, pass, x, owner),
+        Err(told) => told,
     }
 }
 

@@ -1,29 +1,40 @@
 // Making, editing, listing and running programs.
 ghost use Rattle.std.specs.Prelude.{◌≡◌, ◌≤◌, IfOk, length};
-ghost use Rattle.muck_live.specs.Lives.{tell};
+ghost use Rattle.muck_live.specs.Lives.{reading, tell};
+ghost use Rattle.muck_world.specs.declared.outcome.Outcome.{Outcome};
+ghost use Rattle.muck_world.specs.Going.{ended};
 ghost use Rattle.muck_rights.specs.declared.act.Act.{Act};
 ghost use Rattle.muck_world.specs.Replies.{entering_editor};
-ghost use Rattle.muck_world.specs.Programming.{source_of, program_new, program_made, editor_entered, program_edited, source_shown, program_listed, program_called, program_run};
+ghost use Rattle.muck_world.specs.Programming.{source_of, lines_shown, program_new, program_made, editor_entered, program_edited, source_shown, program_listed, program_called, program_run};
 ghost use Rattle.muck_perm.specs.Guards.{Did, IsLeave, world_of};
 ghost use Rattle.cmd_parts.specs.Plays.{Plays};
 ghost use Rattle.cmd_build.specs.Entering.{IsEntered};
 
 use crate::making::{number_of, show_created};
 use crate::names::{bad_name, is_name};
-use cmd_parts::{cant_be_done, copy_lines, find_program, refuse, show_lines};
+use cmd_parts::{ask, cant_be_done, copy_lines, done, find_program, show_lines};
 use muck_live::DbFault;
 use muck_model::{Dbref, Line, LineList, NoMemory};
-use muck_perm::{Guard, Pass, verdict};
+use muck_perm::{Guard, Pass};
 use muck_rights::Act;
 use muck_world::Outcome;
+use std::alloc::Global;
 
 // Tells the connection that an editor is opened.
 #[tactic(auto, unfolding(muck_world::specs::Replies::entering_editor))]
 fn tell_entering(guard: &mut Guard, d: u32) -> Result<(), NoMemory>
     ensures { Did (tell d entering_editor) guard.old guard.new result }
 {
-    guard.tell(d, b"Entering editor.")?;
-    Ok(())
+    guard.tell(d, b"Entering editor.")
+}
+
+// The editor of a program is to be opened, and the connection is told.
+#[tactic(auto, unfolding(muck_world::specs::Going::ended))]
+fn open_editor(guard: &mut Guard, d: u32, x: Dbref) -> Result<Outcome, NoMemory>
+    ensures { Plays (ended (Outcome.Edit x) (tell d entering_editor)) guard.old guard.new result }
+{
+    tell_entering(guard, d)?;
+    Ok(Outcome::Edit(x))
 }
 
 // Tells the connection what came of making a program, whose editor is to be opened.
@@ -34,24 +45,21 @@ fn enter_made(guard: &mut Guard, d: u32, made: Result<Dbref, DbFault>) -> Result
     match made {
         Ok(x) => {
             show_created(guard, d, number_of(x))?;
-            tell_entering(guard, d)?;
-            Ok(Outcome::Edit(x))
+            open_editor(guard, d, x)
         }
         Err(DbFault::NoMemory) => Err(NoMemory),
-        Err(_) => {
-            cant_be_done(guard, d)?;
-            Ok(Outcome::Done)
-        }
+        Err(_) => { done(cant_be_done(guard, d)) }
     }
 }
 
 // Makes a program that the player carries, where the world allows it.
-fn make_program(guard: &mut Guard, d: u32, pass: Pass, name: Line) -> Result<Outcome, NoMemory>
+fn make_program(guard: &mut Guard, d: u32, pass: Pass, name: &Line) -> Result<Outcome, NoMemory>
     requires leave { IsLeave pass Act.NewProgram guard.old }
-    requires some { 1 ≤ length name }
-    requires short { length name ≤ 80 }
-    ensures { Plays (program_new d guard.old.actor name) guard.old guard.new result }
+    requires some { 1 ≤ length name.now }
+    requires short { length name.now ≤ 80 }
+    ensures { Plays (program_new d guard.old.actor name.now) guard.old guard.new result }
 {
+    let name = name.copy(guard.alloc())?;
     let player = guard.actor().player;
     let made = guard.create_program(pass, name, player);
     enter_made(guard, d, made)
@@ -63,18 +71,12 @@ pub fn program(guard: &mut Guard, d: u32, name: &Line) -> Result<Outcome, NoMemo
     ensures { Plays (program_made d guard.old.actor name.now) guard.old guard.new result }
 {
     if !is_name(name.as_slice()) {
-        bad_name(guard, d)?;
-        return Ok(Outcome::Done);
+        return done(bad_name(guard, d));
     }
-    let name = name.copy(guard.alloc())?;
-    let actor = guard.actor();
     let act = Act::NewProgram;
-    match verdict(guard.db(), &actor, &act) {
-        Err(denial) => {
-            refuse(guard, d, denial)?;
-            Ok(Outcome::Done)
-        }
+    match ask(guard, d, &act) {
         Ok(pass) => make_program(guard, d, pass, name),
+        Err(told) => done(told),
     }
 }
 
@@ -83,17 +85,10 @@ pub fn program(guard: &mut Guard, d: u32, name: &Line) -> Result<Outcome, NoMemo
 fn enter(guard: &mut Guard, d: u32, x: Dbref) -> Result<Outcome, NoMemory>
     ensures { Plays (editor_entered d guard.old.actor x) guard.old guard.new result }
 {
-    let actor = guard.actor();
     let act = Act::Edit { program: x };
-    match verdict(guard.db(), &actor, &act) {
-        Err(denial) => {
-            refuse(guard, d, denial)?;
-            Ok(Outcome::Done)
-        }
-        Ok(_) => {
-            tell_entering(guard, d)?;
-            Ok(Outcome::Edit(x))
-        }
+    match ask(guard, d, &act) {
+        Ok(_) => open_editor(guard, d, x),
+        Err(told) => done(told),
     }
 }
 
@@ -119,23 +114,25 @@ fn source(guard: &Guard, pass: Pass, x: Dbref) -> Result<LineList, NoMemory>
     }
 }
 
+// Shows the source of a program.
+#[tactic(auto, unfolding(muck_live::specs::Lives::reading))]
+fn show_copy(guard: &mut Guard, d: u32, pass: Pass, x: Dbref) -> Result<(), NoMemory>
+    requires { IsLeave pass (Act.Change x) guard.old }
+    ensures { Did (reading (source_of x) (lines_shown d)) guard.old guard.new result }
+{
+    let lines = source(guard, pass, x)?;
+    show_lines(guard, d, lines.as_slice())
+}
+
 // Shows the source of a program, where no rule denies it.
 #[tactic(auto, unfolding(muck_world::specs::Programming::source_shown, muck_world::specs::Going::ended, muck_live::specs::Lives::reading, muck_rights::specs::Asking::asked))]
 fn show_source(guard: &mut Guard, d: u32, x: Dbref) -> Result<Outcome, NoMemory>
     ensures { Plays (source_shown d guard.old.actor x) guard.old guard.new result }
 {
-    let actor = guard.actor();
     let act = Act::Change { object: x };
-    match verdict(guard.db(), &actor, &act) {
-        Err(denial) => {
-            refuse(guard, d, denial)?;
-            Ok(Outcome::Done)
-        }
-        Ok(pass) => {
-            let lines = source(guard, pass, x)?;
-            show_lines(guard, d, lines.as_slice())?;
-            Ok(Outcome::Done)
-        }
+    match ask(guard, d, &act) {
+        Ok(pass) => done(show_copy(guard, d, pass, x)),
+        Err(told) => done(told),
     }
 }
 
@@ -150,26 +147,28 @@ pub fn list(guard: &mut Guard, d: u32, name: &Line) -> Result<Outcome, NoMemory>
     show_source(guard, d, x)
 }
 
+// A program is to be started by a line, as its own trigger.
+fn started(alloc: Global, line: &Line, text: &Line, x: Dbref) -> Result<Outcome, NoMemory>
+    ensures { IfOk result (λ outcome. outcome ≡ Outcome.Start x x line.now text.now) }
+{
+    let command = line.copy(alloc)?;
+    Ok(Outcome::Start {
+        program: x,
+        trigger: x,
+        command,
+        arg: text.copy(alloc)?,
+    })
+}
+
 // A program is to be started by a line, where no rule denies it.
 #[tactic(auto, unfolding(muck_world::specs::Programming::program_called, muck_world::specs::Going::ended, muck_live::specs::Lives::unchanged, muck_rights::specs::Asking::asked))]
 fn call(guard: &mut Guard, d: u32, line: &Line, text: &Line, x: Dbref) -> Result<Outcome, NoMemory>
     ensures { Plays (program_called d guard.old.actor line.now text.now x) guard.old guard.new result }
 {
-    let command = line.copy(guard.alloc())?;
-    let arg = text.copy(guard.alloc())?;
-    let actor = guard.actor();
     let act = Act::Call { program: x };
-    match verdict(guard.db(), &actor, &act) {
-        Err(denial) => {
-            refuse(guard, d, denial)?;
-            Ok(Outcome::Done)
-        }
-        Ok(_) => Ok(Outcome::Start {
-            program: x,
-            trigger: x,
-            command,
-            arg,
-        }),
+    match ask(guard, d, &act) {
+        Ok(_) => started(guard.alloc(), line, text, x),
+        Err(told) => done(told),
     }
 }
 

@@ -88,8 +88,7 @@ fn found_count(guard: &mut Guard, d: u32, count: usize) -> Result<(), NoMemory>
     ensures { Did (tell d (found_count count)) guard.old guard.new result }
 {
     let text = format!(in guard.alloc(); "{count} found.")?;
-    guard.tell(d, text.as_bytes())?;
-    Ok(())
+    guard.tell(d, text.as_bytes())
 }
 
 /// `@find`: shows the user's objects whose name holds a text, by number, and then how many they are.
@@ -100,6 +99,5 @@ pub fn find(guard: &mut Guard, d: u32, part: &Line) -> Result<(), NoMemory>
     let actor = guard.actor();
     let xs = owned_named(guard.alloc(), guard.db(), actor.user, part.as_slice())?;
     list(guard, d, actor.player, &xs)?;
-    found_count(guard, d, xs.len())?;
-    Ok(())
+    found_count(guard, d, xs.len())
 }

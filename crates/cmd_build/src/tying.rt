@@ -7,9 +7,9 @@ ghost use Rattle.muck_world.specs.Building.{has_home, is_linkable, tied, untied_
 ghost use Rattle.muck_world.specs.Replies.{unlinked_reply};
 ghost use Rattle.muck_perm.specs.Guards.{Did, IsLeave, world_of};
 
-use cmd_parts::{cant_be_done, find_one, refuse};
+use cmd_parts::{ask, cant_be_done, find_one};
 use muck_model::{Dbref, Kind, Line, NoMemory};
-use muck_perm::{Guard, Pass, verdict};
+use muck_perm::{Guard, Pass};
 use muck_rights::Act;
 
 const NOTHING: Dbref = Dbref(-1);
@@ -91,10 +91,10 @@ pub fn link(guard: &mut Guard, d: u32, name: &Line, target: &Line) -> Result<(),
     if !is_linkable(guard, x) {
         return cant_be_done(guard, d);
     }
-    let actor = guard.actor();
-    match verdict(guard.db(), &actor, &Act::Link { object: x, to }) {
-        Err(denial) => refuse(guard, d, denial),
+    let act = Act::Link { object: x, to };
+    match ask(guard, d, &act) {
         Ok(pass) => tie(guard, pass, d, x, to, b"Linked."),
+        Err(told) => told,
     }
 }
 
@@ -109,13 +109,12 @@ pub fn unlink(guard: &mut Guard, d: u32, name: &Line) -> Result<(), NoMemory>
     if !is_linkable(guard, x) {
         return cant_be_done(guard, d);
     }
-    let actor = guard.actor();
     let act = Act::Link {
         object: x,
         to: NOTHING,
     };
-    match verdict(guard.db(), &actor, &act) {
-        Err(denial) => refuse(guard, d, denial),
+    match ask(guard, d, &act) {
         Ok(pass) => untie(guard, pass, d, x),
+        Err(told) => told,
     }
 }

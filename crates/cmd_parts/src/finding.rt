@@ -1,39 +1,27 @@
 // Finding what a line names.
-ghost use Rattle.std.specs.Prelude.{◌≡◌, ◌++◌, IfOk, IfSome, codes, true};
+ghost use Rattle.std.specs.Prelude.{◌≡◌, IfOk, IfSome, codes, true};
+ghost use Rattle.muck_live.specs.Objects.{is_room};
 ghost use Rattle.muck_live.specs.Seen.{scenery_of};
 ghost use Rattle.muck_live.specs.Lives.{tell};
 ghost use Rattle.muck_match.specs.Naming.{found, player_named};
 ghost use Rattle.muck_world.specs.Replies.{not_understood, not_known};
-ghost use Rattle.muck_world.specs.Finding.{finding, finding_player, finding_object, is_object};
+ghost use Rattle.muck_world.specs.Finding.{finding, finding_player, finding_object, is_so, is_object};
 ghost use Rattle.muck_world.specs.Going.{is_program_at};
 ghost use Rattle.muck_world.specs.Programming.{finding_program};
 ghost use Rattle.muck_perm.specs.Guards.{Did, world_of};
 ghost use Rattle.cmd_parts.specs.Plays.{Finds, FindsFor};
 
-use crate::replies::cant_be_done;
+use crate::replies::{around, cant_be_done};
 use muck_match::{Found, find, player};
 use muck_model::{Dbref, Kind, Line, NoMemory};
 use muck_perm::Guard;
-use std::alloc::Global;
-
-// A text between two others.
-fn around(alloc: Global, before: &[u8], text: &[u8], after: &[u8]) -> Result<Vec<u8>, NoMemory>
-    ensures { IfOk result (λ v. v.items ≡ (before.now ++ text.now) ++ after.now) }
-{
-    let mut whole = Vec::new(alloc);
-    whole.extend_from_slice(before)?;
-    whole.extend_from_slice(text)?;
-    whole.extend_from_slice(after)?;
-    Ok(whole)
-}
 
 #[tactic(auto, unfolding(muck_world::specs::Replies::not_understood))]
 fn tell_not_understood(guard: &mut Guard, d: u32, text: &[u8]) -> Result<(), NoMemory>
     ensures { Did (tell d (not_understood text.now)) guard.old guard.new result }
 {
     let reply = around(guard.alloc(), b"I don't understand '", text, b"'.")?;
-    guard.tell(d, &reply)?;
-    Ok(())
+    guard.tell(d, &reply)
 }
 
 #[tactic(auto, unfolding(muck_world::specs::Replies::not_known))]
@@ -41,8 +29,7 @@ fn tell_not_known(guard: &mut Guard, d: u32, text: &[u8]) -> Result<(), NoMemory
     ensures { Did (tell d (not_known text.now)) guard.old guard.new result }
 {
     let reply = around(guard.alloc(), b"I don't know which '", text, b"' you mean!")?;
-    guard.tell(d, &reply)?;
-    Ok(())
+    guard.tell(d, &reply)
 }
 
 /// The one object that the player means by a text, which may be home. `None` exactly where there is none or there are
@@ -101,6 +88,17 @@ pub fn find_object(guard: &mut Guard, d: u32, name: &Line) -> Result<Option<Dbre
     }
     cant_be_done(guard, d)?;
     Ok(None)
+}
+
+/// Whether an object is a room.
+#[tactic(auto, unfolding(muck_world::specs::Finding::is_so))]
+pub fn is_room(guard: &Guard, x: Dbref) -> bool
+    ensures { result ≡ is_so (λ o. is_room o.kind) x (world_of guard.now) }
+{
+    match guard.db().get(x) {
+        Some(object) => matches!(object.kind(), Kind::Room),
+        None => false,
+    }
 }
 
 /// Whether an object is a program.

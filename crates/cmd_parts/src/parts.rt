@@ -4,7 +4,7 @@ ghost use Rattle.std.specs.List.{position, position_or_len, before_first, after_
 ghost use Rattle.muck_model.specs.Bytes.{text_fault};
 ghost use Rattle.muck_world.specs.Texts.{first_word, other_words, trimmed};
 ghost use Rattle.muck_world.specs.Commands.{is_equals, has_equals, is_empty, left_part, right_part};
-ghost use Rattle.cmd_parts.specs.Cuts.{IsCut, has_two, has_full};
+ghost use Rattle.cmd_parts.specs.Cuts.{IsCut, has_two, has_full, IsRead};
 
 use muck_model::{Line, LineFault, NoMemory};
 use muck_world::{cut_word, trim};
@@ -17,6 +17,19 @@ pub struct Parts {
     pub left: Line,
     /// What stands behind it.
     pub right: Line,
+}
+
+/// How the text behind a word is read.
+#[derive(Clone, Copy)]
+pub enum Form {
+    /// As it is. It may be empty.
+    Any,
+    /// As one part, which isn't empty.
+    One,
+    /// As two parts around the first `=`, of which the second may be empty.
+    Two,
+    /// As two parts around the first `=`, of which none is empty.
+    Full,
 }
 
 /// A part of a text as a text of its own.
@@ -118,4 +131,32 @@ pub fn full_parts(alloc: Global, text: &Line) -> Result<Option<Parts>, NoMemory>
         left: line_of(alloc, trim(left))?,
         right: line_of(alloc, trim(right))?,
     }))
+}
+
+// A text as the only part.
+fn whole(alloc: Global, text: Line) -> Result<Option<Parts>, NoMemory>
+    ensures { IsRead Form.Any text result }
+{
+    Ok(Some(Parts {
+        left: text,
+        right: line_of(alloc, b"")?,
+    }))
+}
+
+/// The parts of a text in a form; `None` exactly where a part is missing. Where there is one part alone, the second is
+/// empty.
+pub fn parts_in(alloc: Global, form: Form, text: Line) -> Result<Option<Parts>, NoMemory>
+    ensures { IsRead form text result }
+{
+    match form {
+        Form::Any => whole(alloc, text),
+        Form::One => {
+            if text.as_slice().is_empty() {
+                return Ok(None);
+            }
+            whole(alloc, text)
+        }
+        Form::Two => two_parts(alloc, &text),
+        Form::Full => full_parts(alloc, &text),
+    }
 }

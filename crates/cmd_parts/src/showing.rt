@@ -3,6 +3,7 @@ ghost use Rattle.std.specs.Prelude.{◌≡◌, ◌++◌, IfOk};
 ghost use Rattle.muck_live.specs.Lives.{tell, reading, place_at, name_at};
 ghost use Rattle.muck_rights.specs.Levels.{name_shown};
 ghost use Rattle.muck_world.specs.Finding.{shown_others, listed};
+ghost use Rattle.muck_world.specs.Going.{home_at};
 ghost use Rattle.muck_world.specs.Programming.{lines_shown};
 ghost use Rattle.muck_perm.specs.Guards.{Did, world_of};
 
@@ -16,6 +17,16 @@ pub fn place_at(guard: &Guard, x: Dbref) -> Dbref
 {
     match guard.db().get(x) {
         Some(object) => object.place(),
+        None => Dbref(-1),
+    }
+}
+
+/// The home of an object, `#-1` where it isn't there.
+pub fn home_at(guard: &Guard, x: Dbref) -> Dbref
+    ensures { result ≡ home_at x (world_of guard.now) }
+{
+    match guard.db().get(x) {
+        Some(object) => object.home(),
         None => Dbref(-1),
     }
 }
@@ -39,8 +50,7 @@ pub fn show_others(guard: &mut Guard, player: Dbref, tail: &[u8]) -> Result<(), 
 {
     let room = place_at(guard, player);
     let text = name_and(guard, player, tail)?;
-    guard.tell_others(room, player, &text)?;
-    Ok(())
+    guard.tell_others(room, player, &text)
 }
 
 /// The connection sees the name of an object, as the player sees it.
@@ -49,8 +59,7 @@ pub fn show_name(guard: &mut Guard, d: u32, player: Dbref, x: Dbref) -> Result<(
     ensures { Did (reading (name_shown player x) (tell d)) guard.old guard.new result }
 {
     let text = name_shown(guard.alloc(), guard.db(), player, x)?;
-    guard.tell(d, &text)?;
-    Ok(())
+    guard.tell(d, &text)
 }
 
 /// The connection sees the names of these objects, one a line.
@@ -66,8 +75,7 @@ pub fn list(guard: &mut Guard, d: u32, player: Dbref, xs: &[Dbref]) -> Result<()
 fn show_line(guard: &mut Guard, d: u32, line: &Line) -> Result<(), NoMemory>
     ensures { Did (tell d line.now) guard.old guard.new result }
 {
-    guard.tell(d, line.as_slice())?;
-    Ok(())
+    guard.tell(d, line.as_slice())
 }
 
 /// The connection sees these lines, one after another.

@@ -1,5 +1,5 @@
 pub mod Kept
 pub mod Present
-pub mod Missing
+pub mod Performed
 pub mod Moves
 pub mod Licences

@@ -1,5 +1,5 @@
 -- The players who are connected.
-use Rattle.std.proofs.Common.{◌≡◌, ℕ, ◌+◌, ◌<◌, ◌≤◌, suc, zero, List, [], ◌∷◌, ◌++◌, append_assoc, Bool, true, false, length, drop, get_or, Option, Some, None, Result, Ok, refl, sym, ap, cond, ◌||◌, subst, arith, add-one, zero-add, drop-cons, ◌∙◌}
+use Rattle.std.proofs.Common.{◌≡◌, ℕ, ◌+◌, ◌<◌, ◌≤◌, suc, zero, List, [], ◌∷◌, ◌++◌, append_assoc, Bool, true, false, length, drop, get_or, Option, Some, None, Result, Ok, Err, refl, sym, ap, cond, ◌||◌, subst, arith, add-one, zero-add, drop-cons, ◌∙◌}
 use Rattle.std.specs.Prelude.{nat_lt}
 use Rattle.std.proofs.lemmas.Bool.Decides.{nat_tests}
 use Rattle.std.proofs.lemmas.List.{drop_all}
@@ -81,11 +81,13 @@ who_same : (d : ℕ) (ps : List Presence) (count : ℕ) (w : Live) → ps ≡ pr
 unfolding who_shown followed reading
 who_same d ps count w e k = rw k (rw e (rw (lines_same d w.board.connections w) (rw (count_same w.board.connections) refl)))
 
-pub who_done : (d : ℕ) (ps : List Presence) (count : ℕ) (a b c : Guard) → ps ≡ presences a.board.now.connections → count ≡ length ps →
-    Done (presences_shown d ps) a b → Done (tell d (connected_count count)) b c → Done (who_shown d) a c
-who_done d ps count a b c e k p q =
-    let both : Done (followed (presences_shown d ps) (tell d (connected_count count))) a c = did_both {X = Unit {0}} _ _ a b c (Ok tt) p q in
-    both ∙ ap (λ w. with_world w a) (who_same d ps count (world_of a) e k)
+pub who_done : (d : ℕ) (ps : List Presence) (count : ℕ) (a b c : Guard) (r : Result (Unit {0}) NoMemory) → ps ≡ presences a.board.now.connections → count ≡ length ps →
+    Done (presences_shown d ps) a b → Did (tell d (connected_count count)) b c r → Did (who_shown d) a c r
+who_done d ps count a b c r e k p q = end r (did_both _ _ a b c r p q)
+  where
+    end : (r : Result (Unit {0}) NoMemory) → Did (followed (presences_shown d ps) (tell d (connected_count count))) a c r → Did (who_shown d) a c r
+    end (Ok u) both = both ∙ ap (λ w. with_world w a) (who_same d ps count (world_of a) e k)
+    end (Err x) both = both
 
 -- A player is connected where it has some connection.
 

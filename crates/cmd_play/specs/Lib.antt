@@ -1,4 +1,0 @@
-pub mod Presences
-pub mod Needs
-pub mod Dropping
-pub mod Free

@@ -1,14 +1,15 @@
 // A line of a player.
-ghost use Rattle.std.specs.Prelude.{◌≡◌, OnOk};
+ghost use Rattle.std.specs.Prelude.{◌≡◌, OnOk, drop};
 ghost use Rattle.muck_live.specs.Lives.{tell, either};
 ghost use Rattle.muck_rights.specs.Licence.{Licensed};
 ghost use Rattle.muck_world.specs.Replies.{goodbye};
 ghost use Rattle.muck_world.specs.Finding.{looked, looked_at};
-ghost use Rattle.muck_world.specs.Talking.{paged, whispered};
-ghost use Rattle.muck_world.specs.Commands.{is_empty, two_parts, play_done, play_words, play_line};
+ghost use Rattle.muck_world.specs.Going.{ended};
+ghost use Rattle.muck_world.specs.Texts.{trimmed};
+ghost use Rattle.muck_world.specs.Commands.{is_empty, play_done, play_words, play_line};
 ghost use Rattle.muck_perm.specs.Guards.{Did, world_of};
 ghost use Rattle.cmd_parts.specs.Plays.{Plays};
-ghost use Rattle.cmd_play.specs.Needs.{needs_text};
+ghost use Rattle.cmd_play.specs.Performed.{form_of, performed};
 ghost use Rattle.cmd_play.specs.Free.{free_play};
 
 use crate::going::{go, go_home};
@@ -16,30 +17,27 @@ use crate::looking::{examine, inventory, look, look_at};
 use crate::taking::{drop, take};
 use crate::talking::{page, pose, say, whisper, who};
 use crate::words::play_word;
-use cmd_parts::{after_sign, after_word, incomplete, two_parts};
+use cmd_parts::{Form, after_sign, after_word, done, incomplete, parts_in};
 use muck_model::{Line, NoMemory};
 use muck_perm::Guard;
 use muck_world::{Outcome, PlayWord, cut_word, trim};
 
-// Whether a word is one that has to be followed by a text.
-fn needs_text(found: PlayWord) -> bool
-    ensures { result ≡ needs_text found }
+// How the text behind a word is read.
+fn form_of(found: PlayWord) -> Form
+    ensures { result ≡ form_of found }
 {
-    matches!(
-        found,
+    match found {
+        PlayWord::Look | PlayWord::Inventory | PlayWord::Home | PlayWord::Who | PlayWord::Quit => {
+            Form::Any
+        }
         PlayWord::Say
-            | PlayWord::Pose
-            | PlayWord::Go
-            | PlayWord::Get
-            | PlayWord::Drop
-            | PlayWord::Examine
-    )
-}
-
-fn is_empty(text: &Line) -> bool
-    ensures { result ≡ is_empty text.now }
-{
-    text.as_slice().is_empty()
+        | PlayWord::Pose
+        | PlayWord::Go
+        | PlayWord::Get
+        | PlayWord::Drop
+        | PlayWord::Examine => Form::One,
+        PlayWord::Page | PlayWord::Whisper => Form::Two,
+    }
 }
 
 // The player looks where it is, or at what it names.
@@ -47,76 +45,78 @@ fn is_empty(text: &Line) -> bool
 fn look_around(guard: &mut Guard, d: u32, text: &Line) -> Result<(), NoMemory>
     ensures { Did (either (is_empty text.now) (looked d guard.old.actor.player) (looked_at d guard.old.actor text.now)) guard.old guard.new result }
 {
-    if is_empty(text) {
+    if text.as_slice().is_empty() {
         look(guard, d)
     } else {
         look_at(guard, d, text)
     }
 }
 
-// The player pages the one named before the `=`.
-#[tactic(auto, unfolding(muck_live::specs::Lives::either, muck_world::specs::Commands::two_parts))]
-fn page_parts(guard: &mut Guard, d: u32, word: &[u8], text: &Line) -> Result<(), NoMemory>
-    ensures { Did (two_parts d word.now text.now (paged d guard.old.actor.player)) guard.old guard.new result }
+// The player leaves.
+#[tactic(auto, unfolding(muck_world::specs::Going::ended, muck_world::specs::Replies::goodbye))]
+fn quit(guard: &mut Guard, d: u32) -> Result<Outcome, NoMemory>
+    ensures { Plays (ended Outcome.Leave (tell d goodbye)) guard.old guard.new result }
 {
-    match two_parts(guard.alloc(), text)? {
-        Some(parts) => page(guard, d, &parts.left, &parts.right),
-        None => incomplete(guard, d, word),
-    }
+    guard.tell(d, b"Come back later!")?;
+    Ok(Outcome::Leave)
 }
 
-// The player whispers to the one named before the `=`.
-#[tactic(auto, unfolding(muck_live::specs::Lives::either, muck_world::specs::Commands::two_parts))]
-fn whisper_parts(guard: &mut Guard, d: u32, word: &[u8], text: &Line) -> Result<(), NoMemory>
-    ensures { Did (two_parts d word.now text.now (whispered d guard.old.actor.player)) guard.old guard.new result }
+// Does what a word asks, with the parts of the text behind it.
+#[tactic(auto, using(cmd_parts::proofs::Doing::plays_done))]
+fn perform(
+    guard: &mut Guard,
+    d: u32,
+    found: PlayWord,
+    left: &Line,
+    right: &Line,
+) -> Result<Outcome, NoMemory>
+    ensures { Plays (performed d guard.old.actor found left.now right.now) guard.old guard.new result }
 {
-    match two_parts(guard.alloc(), text)? {
-        Some(parts) => whisper(guard, d, &parts.left, &parts.right),
-        None => incomplete(guard, d, word),
+    match found {
+        PlayWord::Look => done(look_around(guard, d, left)),
+        PlayWord::Say => done(say(guard, d, left)),
+        PlayWord::Pose => done(pose(guard, d, left)),
+        PlayWord::Page => done(page(guard, d, left, right)),
+        PlayWord::Whisper => done(whisper(guard, d, left, right)),
+        PlayWord::Go => go(guard, d, left),
+        PlayWord::Get => done(take(guard, d, left)),
+        PlayWord::Drop => done(drop(guard, d, left)),
+        PlayWord::Inventory => done(inventory(guard, d)),
+        PlayWord::Home => done(go_home(guard, d)),
+        PlayWord::Examine => done(examine(guard, d, left)),
+        PlayWord::Who => done(who(guard, d)),
+        PlayWord::Quit => quit(guard, d),
     }
-}
-
-#[tactic(auto, unfolding(muck_world::specs::Replies::goodbye))]
-fn say_goodbye(guard: &mut Guard, d: u32) -> Result<(), NoMemory>
-    ensures { Did (tell d goodbye) guard.old guard.new result }
-{
-    guard.tell(d, b"Come back later!")
 }
 
 // What a word does with the text behind it.
-#[tactic(auto, using(crate::proofs::Missing::text_missing), unfolding(muck_live::specs::Lives::either, muck_world::specs::Going::ended, muck_world::specs::Commands::one_part, muck_world::specs::Commands::play_done))]
 fn do_word(
     guard: &mut Guard,
     d: u32,
     word: &[u8],
-    text: &Line,
+    text: Line,
     found: PlayWord,
 ) -> Result<Outcome, NoMemory>
-    ensures { Plays (play_done d guard.old.actor word.now text.now found) guard.old guard.new result }
+    ensures { Plays (play_done d guard.old.actor word.now text found) guard.old guard.new result }
 {
-    if needs_text(found) && is_empty(text) {
-        incomplete(guard, d, word)?;
-        return Ok(Outcome::Done);
+    match parts_in(guard.alloc(), form_of(found), text)? {
+        None => done(incomplete(guard, d, word)),
+        Some(parts) => perform(guard, d, found, &parts.left, &parts.right),
     }
-    match found {
-        PlayWord::Look => look_around(guard, d, text)?,
-        PlayWord::Say => say(guard, d, text)?,
-        PlayWord::Pose => pose(guard, d, text)?,
-        PlayWord::Page => page_parts(guard, d, word, text)?,
-        PlayWord::Whisper => whisper_parts(guard, d, word, text)?,
-        PlayWord::Go => return go(guard, d, text),
-        PlayWord::Get => take(guard, d, text)?,
-        PlayWord::Drop => drop(guard, d, text)?,
-        PlayWord::Inventory => inventory(guard, d)?,
-        PlayWord::Home => go_home(guard, d)?,
-        PlayWord::Examine => examine(guard, d, text)?,
-        PlayWord::Who => who(guard, d)?,
-        PlayWord::Quit => {
-            say_goodbye(guard, d)?;
-            return Ok(Outcome::Leave);
-        }
-    }
-    Ok(Outcome::Done)
+}
+
+// What a word does with the text behind the sign that stands for it.
+fn do_sign(
+    guard: &mut Guard,
+    d: u32,
+    line: &Line,
+    word: &[u8],
+    found: PlayWord,
+) -> Result<Outcome, NoMemory>
+    ensures { Plays (play_done d guard.old.actor word.now (trimmed (drop 1 line.now)) found) guard.old guard.new result }
+{
+    let text = after_sign(guard.alloc(), line)?;
+    do_word(guard, d, word, text, found)
 }
 
 // A line that doesn't begin with a sign.
@@ -129,7 +129,7 @@ fn do_words(guard: &mut Guard, d: u32, line: &Line) -> Result<Outcome, NoMemory>
         return Ok(Outcome::NotMine);
     };
     let text = after_word(guard.alloc(), line)?;
-    do_word(guard, d, word, &text, found)
+    do_word(guard, d, word, text, found)
 }
 
 // Any line.
@@ -139,14 +139,8 @@ fn do_line(guard: &mut Guard, d: u32, line: &Line) -> Result<Outcome, NoMemory>
 {
     match line.as_slice().first() {
         None => Ok(Outcome::NotMine),
-        Some(b'"') => {
-            let text = after_sign(guard.alloc(), line)?;
-            do_word(guard, d, b"say", &text, PlayWord::Say)
-        }
-        Some(b':') => {
-            let text = after_sign(guard.alloc(), line)?;
-            do_word(guard, d, b"pose", &text, PlayWord::Pose)
-        }
+        Some(b'"') => do_sign(guard, d, line, b"say", PlayWord::Say),
+        Some(b':') => do_sign(guard, d, line, b"pose", PlayWord::Pose),
         Some(_) => do_words(guard, d, line),
     }
 }

@@ -8,29 +8,19 @@ ghost use Rattle.muck_rights.specs.Changing.{moved_to};
 ghost use Rattle.muck_rights.specs.Licence.{Licensed, oneself};
 ghost use Rattle.muck_world.specs.Replies.{cant_go, has_left, has_arrived};
 ghost use Rattle.muck_world.specs.Finding.{shown_others, looked};
-ghost use Rattle.muck_world.specs.Going.{home_at, link_at, movable, gone, gone_home, argument_of, led_place, is_program_at, led, failed, succeeded, walked, went};
+ghost use Rattle.muck_world.specs.Going.{home_at, link_at, movable, gone, gone_home, argument_of, led_place, led, failed, succeeded, walked, went};
 ghost use Rattle.muck_perm.specs.Guards.{Did, Done, IsLeave, world_of};
 ghost use Rattle.cmd_parts.specs.Plays.{Plays};
 ghost use Rattle.cmd_play.specs.Dropping.{drop_shown};
 
 use crate::looking::look;
 use crate::messages::{message_or, message_to_others, show_message};
-use cmd_parts::{cant_be_done, line_of, show_others};
+use cmd_parts::{cant_be_done, done, home_at, is_program, line_of, show_others};
 use muck_match::{ExitHit, HOME, NOTHING, exit_for};
-use muck_model::{Dbref, Kind, Line, NoMemory};
+use muck_model::{Dbref, Line, NoMemory};
 use muck_perm::{Guard, Pass, verdict};
 use muck_rights::Act;
 use muck_world::{Message, Outcome};
-
-// The home of an object, `#-1` where it isn't there.
-fn home_at(guard: &Guard, x: Dbref) -> Dbref
-    ensures { result ≡ home_at x (world_of guard.now) }
-{
-    match guard.db().get(x) {
-        Some(object) => object.home(),
-        None => NOTHING,
-    }
-}
 
 /// Where an object leads, `#-1` where it isn't there.
 pub fn link_at(guard: &Guard, x: Dbref) -> Dbref
@@ -39,17 +29,6 @@ pub fn link_at(guard: &Guard, x: Dbref) -> Dbref
     match guard.db().get(x) {
         Some(object) => object.link(),
         None => NOTHING,
-    }
-}
-
-// Whether an object is a program.
-#[tactic(auto, unfolding(muck_world::specs::Finding::is_so))]
-fn is_program_at(guard: &Guard, x: Dbref) -> bool
-    ensures { result ≡ is_program_at x (world_of guard.now) }
-{
-    match guard.db().get(x) {
-        Some(object) => matches!(object.kind(), Kind::Program),
-        None => false,
     }
 }
 
@@ -66,8 +45,7 @@ pub fn succeed(guard: &mut Guard, d: u32, player: Dbref, x: Dbref) -> Result<(),
     ensures { Did (succeeded d player x) guard.old guard.new result }
 {
     show_message(guard, d, Message::Success, x)?;
-    message_to_others(guard, player, Message::OthersSuccess, x)?;
-    Ok(())
+    message_to_others(guard, player, Message::OthersSuccess, x)
 }
 
 /// A player may not: the object's messages of failure, and what the player sees without one.
@@ -82,8 +60,7 @@ pub fn fail(
     ensures { Did (failed d player otherwise.now x) guard.old guard.new result }
 {
     message_or(guard, d, otherwise, Message::Fail, x)?;
-    message_to_others(guard, player, Message::OthersFail, x)?;
-    Ok(())
+    message_to_others(guard, player, Message::OthersFail, x)
 }
 
 /// What is seen where a player went through an exit or dropped something: its messages of dropping.
@@ -92,8 +69,7 @@ pub fn show_drop(guard: &mut Guard, d: u32, player: Dbref, x: Dbref) -> Result<(
     ensures { Did (drop_shown d player x) guard.old guard.new result }
 {
     show_message(guard, d, Message::Drop, x)?;
-    message_to_others(guard, player, Message::OthersDrop, x)?;
-    Ok(())
+    message_to_others(guard, player, Message::OthersDrop, x)
 }
 
 // Moves the player home.
@@ -207,8 +183,7 @@ fn go_through(guard: &mut Guard, d: u32, pass: Pass, exit: Dbref, to: Dbref) -> 
 fn cant_go(guard: &mut Guard, d: u32) -> Result<(), NoMemory>
     ensures { Did (tell d cant_go) guard.old guard.new result }
 {
-    guard.tell(d, b"You can't go that way.")?;
-    Ok(())
+    guard.tell(d, b"You can't go that way.")
 }
 
 // The place to which a link leads: home is the player's own.
@@ -261,16 +236,31 @@ fn lead(
     ensures { Plays (led d guard.old.actor.player hit line.now to) guard.old guard.new result }
 {
     if to == NOTHING {
-        cant_go(guard, d)?;
-        return Ok(Outcome::Done);
+        return done(cant_go(guard, d));
     }
-    if is_program_at(guard, to) {
-        let outcome = start(guard, hit, line, to)?;
-        return Ok(outcome);
+    if is_program(guard, to) {
+        return start(guard, hit, line, to);
     }
     let place = led_place(guard, guard.actor().player, to);
-    go_through(guard, d, pass, hit.exit, place)?;
-    Ok(Outcome::Done)
+    done(go_through(guard, d, pass, hit.exit, place))
+}
+
+// The exit opens to the player: its messages of success are shown, and it leads on.
+#[tactic(auto, unfolding(muck_live::specs::Lives::reading, muck_live::specs::Lives::followed))]
+fn pass_exit(
+    guard: &mut Guard,
+    d: u32,
+    pass: Pass,
+    hit: ExitHit,
+    line: &Line,
+) -> Result<Outcome, NoMemory>
+    requires { IsLeave pass (Act.Walk hit.exit) guard.old }
+    ensures { Plays (succeeded d guard.old.actor.player hit.exit ▸ reading (link_at hit.exit) (led d guard.old.actor.player hit line.now)) guard.old guard.new result }
+{
+    let player = guard.actor().player;
+    succeed(guard, d, player, hit.exit)?;
+    let to = link_at(guard, hit.exit);
+    lead(guard, d, pass, hit, line, to)
 }
 
 // The player tries an exit that takes the line.
@@ -281,15 +271,8 @@ fn try_exit(guard: &mut Guard, d: u32, hit: ExitHit, line: &Line) -> Result<Outc
     let actor = guard.actor();
     let act = Act::Walk { exit: hit.exit };
     match verdict(guard.db(), &actor, &act) {
-        Err(_) => {
-            fail(guard, d, actor.player, b"You can't go that way.", hit.exit)?;
-            Ok(Outcome::Done)
-        }
-        Ok(pass) => {
-            succeed(guard, d, actor.player, hit.exit)?;
-            let to = link_at(guard, hit.exit);
-            lead(guard, d, pass, hit, line, to)
-        }
+        Err(_) => done(fail(guard, d, actor.player, b"You can't go that way.", hit.exit)),
+        Ok(pass) => pass_exit(guard, d, pass, hit, line),
     }
 }
 
@@ -311,9 +294,6 @@ pub fn go(guard: &mut Guard, d: u32, line: &Line) -> Result<Outcome, NoMemory>
 {
     match exit_for(guard.db(), guard.actor().player, line) {
         Some(hit) => walk(guard, d, hit, line),
-        None => {
-            cant_go(guard, d)?;
-            Ok(Outcome::Done)
-        }
+        None => done(cant_go(guard, d)),
     }
 }

@@ -1,21 +1,20 @@
 // What players see.
 ghost use Rattle.std.specs.Prelude.{◌≡◌, ◌++◌, false, IfOk, OnOk};
 ghost use Rattle.std.specs.Option.{option_copied};
-ghost use Rattle.muck_live.specs.Objects.{is_room};
 ghost use Rattle.muck_live.specs.Seen.{listed_in};
 ghost use Rattle.muck_live.specs.Lives.{tell, reading, unchanged, name_at};
 ghost use Rattle.muck_rights.specs.Levels.{owner_at, flag_at};
 ghost use Rattle.muck_world.specs.Replies.{lock_line};
-ghost use Rattle.muck_world.specs.Finding.{is_so, listed_under, is_seen, seen_in, room_shown, looked, looked_at};
+ghost use Rattle.muck_world.specs.Finding.{listed_under, is_seen, seen_in, room_shown, looked, looked_at};
 ghost use Rattle.muck_world.specs.Going.{inventory_shown};
 ghost use Rattle.muck_world.specs.Building.{kept_text, lock_text, owner_shown, examined};
 ghost use Rattle.muck_perm.specs.Guards.{Did, world_of};
 
 use crate::messages::{message_or, show_message};
-use cmd_parts::{find_object, list, name_and, place_at, show_name};
+use cmd_parts::{find_object, is_room, list, name_and, place_at, show_name};
 use itoa::Buffer;
 use muck_live::{DARK, has_flag};
-use muck_model::{Dbref, Kind, Line, NoMemory};
+use muck_model::{Dbref, Line, NoMemory};
 use muck_perm::{Guard, command_level, controls_as};
 use muck_prop::PropValue;
 use muck_world::Message;
@@ -32,11 +31,11 @@ fn list_under(
 ) -> Result<(), NoMemory>
     ensures { Did (listed_under d player head.now unchanged xs.now) guard.old guard.new result }
 {
-    if !xs.is_empty() {
-        guard.tell(d, head)?;
-        list(guard, d, player, xs)?;
+    if xs.is_empty() {
+        return Ok(());
     }
-    Ok(())
+    guard.tell(d, head)?;
+    list(guard, d, player, xs)
 }
 
 // The connection sees a head and the names of these objects, or another text where there are none.
@@ -52,12 +51,10 @@ fn list_or(
     ensures { Did (listed_under d player head.now (tell d otherwise.now) xs.now) guard.old guard.new result }
 {
     if xs.is_empty() {
-        guard.tell(d, otherwise)?;
-    } else {
-        guard.tell(d, head)?;
-        list(guard, d, player, xs)?;
+        return guard.tell(d, otherwise);
     }
-    Ok(())
+    guard.tell(d, head)?;
+    list(guard, d, player, xs)
 }
 
 // Whether an object is there and hidden.
@@ -100,8 +97,7 @@ pub fn show_room(guard: &mut Guard, d: u32, player: Dbref, room: Dbref) -> Resul
     show_name(guard, d, player, room)?;
     show_message(guard, d, Message::Describe, room)?;
     let seen = seen_in(guard, player, room)?;
-    list_under(guard, d, player, b"Contents:", &seen)?;
-    Ok(())
+    list_under(guard, d, player, b"Contents:", &seen)
 }
 
 /// The player looks at where it is.
@@ -111,19 +107,7 @@ pub fn look(guard: &mut Guard, d: u32) -> Result<(), NoMemory>
 {
     let player = guard.actor().player;
     let room = place_at(guard, player);
-    show_room(guard, d, player, room)?;
-    Ok(())
-}
-
-// Whether it is a room.
-#[tactic(auto, unfolding(muck_world::specs::Finding::is_so))]
-fn is_room(guard: &Guard, x: Dbref) -> bool
-    ensures { result ≡ is_so (λ o. is_room o.kind) x (world_of guard.now) }
-{
-    match guard.db().get(x) {
-        Some(object) => matches!(object.kind(), Kind::Room),
-        None => false,
-    }
+    show_room(guard, d, player, room)
 }
 
 /// The player looks at what it names: a room is shown whole, and of anything else its description.
@@ -136,11 +120,10 @@ pub fn look_at(guard: &mut Guard, d: u32, name: &Line) -> Result<(), NoMemory>
     };
     if is_room(guard, x) {
         let player = guard.actor().player;
-        show_room(guard, d, player, x)?;
+        show_room(guard, d, player, x)
     } else {
-        message_or(guard, d, b"You see nothing special.", Message::Describe, x)?;
+        message_or(guard, d, b"You see nothing special.", Message::Describe, x)
     }
-    Ok(())
 }
 
 // What an object holds.
@@ -165,8 +148,7 @@ pub fn inventory(guard: &mut Guard, d: u32) -> Result<(), NoMemory>
         b"You are carrying:",
         b"You aren't carrying anything.",
         &held,
-    )?;
-    Ok(())
+    )
 }
 
 // The owner of an object, `#-1` where it isn't there.
@@ -198,8 +180,7 @@ fn show_owner(guard: &mut Guard, d: u32, x: Dbref) -> Result<(), NoMemory>
 {
     let owner = owner_at(guard, x);
     let text = and_name(guard, b"Owner: ", owner)?;
-    guard.tell(d, &text)?;
-    Ok(())
+    guard.tell(d, &text)
 }
 
 // What is kept as a lock, as a text.
@@ -235,8 +216,7 @@ fn show_lock(guard: &mut Guard, d: u32, x: Dbref) -> Result<(), NoMemory>
 {
     let mut text = b"Lock: ".to_vec(guard.alloc())?;
     add_kept(&mut text, lock_of(guard, x))?;
-    guard.tell(d, &text)?;
-    Ok(())
+    guard.tell(d, &text)
 }
 
 /// The player sees the name, the owner and the lock of what it names, and of what it doesn't control the owner alone.
@@ -253,6 +233,5 @@ pub fn examine(guard: &mut Guard, d: u32, name: &Line) -> Result<(), NoMemory>
     }
     show_name(guard, d, actor.player, x)?;
     show_owner(guard, d, x)?;
-    show_lock(guard, d, x)?;
-    Ok(())
+    show_lock(guard, d, x)
 }

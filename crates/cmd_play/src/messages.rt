@@ -1,37 +1,20 @@
 // The messages of objects.
 ghost use Rattle.std.specs.Prelude.{◌≡◌, IfOk, None};
 ghost use Rattle.std.specs.Option.{option_copied};
-ghost use Rattle.muck_prop.specs.Paths.{path_fault, segments_of};
 ghost use Rattle.muck_world.specs.Commands.{message_name};
-ghost use Rattle.muck_world.specs.Finding.{message_path, message_at, message_or, message_shown, message_to_others};
+ghost use Rattle.muck_world.specs.Finding.{message_at, message_or, message_shown, message_to_others};
 ghost use Rattle.muck_perm.specs.Guards.{Did, world_of};
 
-use cmd_parts::show_others;
+use cmd_parts::{around, message_path, show_others};
 use muck_model::{Dbref, Line, NoMemory};
 use muck_perm::Guard;
 use muck_world::Message;
-
-// Where an object keeps a message.
-fn path_of(message: Message) -> &'static [u8]
-    ensures right { path_fault result.now ≡ None }
-    ensures parts { segments_of result.now ≡ message_path (message_name message) }
-{
-    match message {
-        Message::Describe => b"_/de",
-        Message::Success => b"_/sc",
-        Message::OthersSuccess => b"_/osc",
-        Message::Fail => b"_/fl",
-        Message::OthersFail => b"_/ofl",
-        Message::Drop => b"_/dr",
-        Message::OthersDrop => b"_/odr",
-    }
-}
 
 // The text that an object keeps as a message; what isn't a text is none.
 fn kept_message<'a>(guard: &'a Guard<'_>, message: Message, x: Dbref) -> Option<&'a Line>
     ensures { option_copied result ≡ message_at (message_name message) x (world_of guard.now) }
 {
-    guard.message(x, path_of(message))
+    guard.message(x, message_path(message))
 }
 
 /// A message of an object, where it has one.
@@ -56,10 +39,9 @@ pub fn message_or(
     ensures { Did (message_or d otherwise.now (message_name message) x) guard.old guard.new result }
 {
     match message_at(guard, message, x)? {
-        Some(text) => guard.tell(d, text.as_slice())?,
-        None => guard.tell(d, otherwise)?,
+        Some(text) => guard.tell(d, text.as_slice()),
+        None => guard.tell(d, otherwise),
     }
-    Ok(())
 }
 
 /// The connection sees a message of an object, where it has one.
@@ -67,10 +49,10 @@ pub fn message_or(
 pub fn show_message(guard: &mut Guard, d: u32, message: Message, x: Dbref) -> Result<(), NoMemory>
     ensures { Did (message_shown d (message_name message) x) guard.old guard.new result }
 {
-    if let Some(text) = message_at(guard, message, x)? {
-        guard.tell(d, text.as_slice())?;
+    match message_at(guard, message, x)? {
+        Some(text) => guard.tell(d, text.as_slice()),
+        None => Ok(()),
     }
-    Ok(())
 }
 
 /// The others where a player is see its name with a message of an object, where it has one.
@@ -83,11 +65,9 @@ pub fn message_to_others(
 ) -> Result<(), NoMemory>
     ensures { Did (message_to_others player (message_name message) x) guard.old guard.new result }
 {
-    if let Some(text) = message_at(guard, message, x)? {
-        let mut tail = Vec::new(guard.alloc());
-        tail.push(b' ')?;
-        tail.extend_from_slice(text.as_slice())?;
-        show_others(guard, player, &tail)?;
-    }
-    Ok(())
+    let Some(text) = message_at(guard, message, x)? else {
+        return Ok(());
+    };
+    let tail = around(guard.alloc(), b" ", text.as_slice(), b"")?;
+    show_others(guard, player, &tail)
 }

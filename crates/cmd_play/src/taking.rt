@@ -1,18 +1,16 @@
 // Taking and dropping.
 ghost use Rattle.std.specs.Prelude.{◌≡◌, true};
 ghost use Rattle.muck_model.specs.declared.dbref.Denial.{Denial};
-ghost use Rattle.muck_live.specs.Objects.{is_room};
 ghost use Rattle.muck_live.specs.Lives.{◌▸◌, tell};
 ghost use Rattle.muck_rights.specs.declared.act.Act.TheVariants.{Take as TakeIt};
 ghost use Rattle.muck_rights.specs.Asking.{asked, refused};
 ghost use Rattle.muck_world.specs.Replies.{taken_reply, dropped_reply};
-ghost use Rattle.muck_world.specs.Finding.{is_so};
 ghost use Rattle.muck_world.specs.Going.{moving, succeeded, is_item, not_taken, taken, is_carried, drop_place, dropped};
 ghost use Rattle.muck_perm.specs.Guards.{Did, IsLeave, world_of};
 ghost use Rattle.cmd_play.specs.Dropping.{drop_shown};
 
 use crate::going::{fail, link_at, show_drop, succeed};
-use cmd_parts::{cant_be_done, find_one, place_at, refuse};
+use cmd_parts::{cant_be_done, find_one, is_room, place_at, refuse};
 use muck_match::NOTHING;
 use muck_model::{Dbref, Denial, Kind, Line, NoMemory};
 use muck_perm::{Guard, Pass, verdict};
@@ -67,8 +65,19 @@ fn pick_up(guard: &mut Guard, d: u32, pass: Pass, x: Dbref) -> Result<(), NoMemo
     }
 }
 
+// The lock of what the player takes opens: its messages of success are shown, and then it is taken.
+#[tactic(auto, unfolding(muck_live::specs::Lives::followed))]
+fn take_by(guard: &mut Guard, d: u32, pass: Pass, x: Dbref) -> Result<(), NoMemory>
+    requires { IsLeave pass (TakeIt x) guard.old }
+    ensures { Did (succeeded d guard.old.actor.player x ▸ moving d x guard.old.actor.player (tell d taken_reply)) guard.old guard.new result }
+{
+    let player = guard.actor().player;
+    succeed(guard, d, player, x)?;
+    pick_up(guard, d, pass, x)
+}
+
 // The player takes what is a thing or a program.
-#[tactic(auto, unfolding(muck_rights::specs::Asking::asked, muck_live::specs::Lives::followed))]
+#[tactic(auto, unfolding(muck_rights::specs::Asking::asked))]
 fn take_item(guard: &mut Guard, d: u32, x: Dbref) -> Result<(), NoMemory>
     ensures { Did (asked guard.old.actor (TakeIt x) (not_taken d guard.old.actor.player x) (succeeded d guard.old.actor.player x ▸ moving d x guard.old.actor.player (tell d taken_reply))) guard.old guard.new result }
 {
@@ -76,10 +85,7 @@ fn take_item(guard: &mut Guard, d: u32, x: Dbref) -> Result<(), NoMemory>
     let act = Act::Take { object: x };
     match verdict(guard.db(), &actor, &act) {
         Err(denial) => not_taken(guard, d, x, denial),
-        Ok(pass) => {
-            succeed(guard, d, actor.player, x)?;
-            pick_up(guard, d, pass, x)
-        }
+        Ok(pass) => take_by(guard, d, pass, x),
     }
 }
 
@@ -95,17 +101,6 @@ pub fn take(guard: &mut Guard, d: u32, name: &Line) -> Result<(), NoMemory>
         return cant_be_done(guard, d);
     }
     take_item(guard, d, x)
-}
-
-// Whether an object is a room.
-#[tactic(auto, unfolding(muck_world::specs::Finding::is_so))]
-fn is_room(guard: &Guard, x: Dbref) -> bool
-    ensures { result ≡ is_so (λ o. is_room o.kind) x (world_of guard.now) }
-{
-    match guard.db().get(x) {
-        Some(object) => matches!(object.kind(), Kind::Room),
-        None => false,
-    }
 }
 
 // Where something goes that is dropped: to the place, or where the room sends it.

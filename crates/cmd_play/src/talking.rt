@@ -9,22 +9,11 @@ ghost use Rattle.muck_world.specs.Talking.{said, pose_tail, posed, said_to, page
 ghost use Rattle.muck_perm.specs.Guards.{Did, world_of};
 ghost use Rattle.cmd_play.specs.Presences.{presence, presences, presence_shown, presences_shown};
 
-use cmd_parts::{cant_be_done, find_one, find_player, name_and, place_at, show_others};
+use cmd_parts::{around, cant_be_done, find_one, find_player, name_and, place_at, show_others};
 use muck_board::Board;
 use muck_model::{Dbref, Kind, Line, NoMemory};
 use muck_perm::Guard;
 use std::alloc::Global;
-
-// A text between two others.
-fn around(alloc: Global, before: &[u8], text: &[u8], after: &[u8]) -> Result<Vec<u8>, NoMemory>
-    ensures { IfOk result (λ v. v.items ≡ (before.now ++ text.now) ++ after.now) }
-{
-    let mut whole = Vec::new(alloc);
-    whole.extend_from_slice(before)?;
-    whole.extend_from_slice(text)?;
-    whole.extend_from_slice(after)?;
-    Ok(whole)
-}
 
 /// The player says something: it sees its own words, and the others where it is see them with its name.
 #[tactic(auto, unfolding(muck_live::specs::Lives::followed, muck_world::specs::Talking::said, muck_world::specs::Replies::you_say, muck_world::specs::Replies::says))]
@@ -35,8 +24,7 @@ pub fn say(guard: &mut Guard, d: u32, text: &Line) -> Result<(), NoMemory>
     guard.tell(d, &yours)?;
     let theirs = around(guard.alloc(), b" says, \"", text.as_slice(), b"\"")?;
     let player = guard.actor().player;
-    show_others(guard, player, &theirs)?;
-    Ok(())
+    show_others(guard, player, &theirs)
 }
 
 // What stands behind a player's name: a space comes first, but for an apostrophe.
@@ -61,8 +49,7 @@ pub fn pose(guard: &mut Guard, d: u32, text: &Line) -> Result<(), NoMemory>
     let tail = pose_tail(guard.alloc(), text.as_slice())?;
     let whole = name_and(guard, player, &tail)?;
     guard.tell(d, &whole)?;
-    show_others(guard, player, &tail)?;
-    Ok(())
+    show_others(guard, player, &tail)
 }
 
 // What a player sees of what it said to one alone.
@@ -91,8 +78,7 @@ fn say_to(
     let speaker = guard.actor().player;
     let tail = around(guard.alloc(), theirs, text, b"\"")?;
     let heard = name_and(guard, speaker, &tail)?;
-    guard.tell_player(to, &heard)?;
-    Ok(())
+    guard.tell_player(to, &heard)
 }
 
 // Whether a player is connected.
@@ -118,12 +104,11 @@ pub fn page(guard: &mut Guard, d: u32, name: &Line, text: &Line) -> Result<(), N
             b"You page, \"",
             b" pages, \"",
             text.as_slice(),
-        )?;
+        )
     } else {
         let reply = name_and(guard, to, b" isn't connected.")?;
-        guard.tell(d, &reply)?;
+        guard.tell(d, &reply)
     }
-    Ok(())
 }
 
 // Whether it is a player, and where this player is.
@@ -155,11 +140,10 @@ pub fn whisper(guard: &mut Guard, d: u32, name: &Line, text: &Line) -> Result<()
             b"You whisper, \"",
             b" whispers, \"",
             text.as_slice(),
-        )?;
+        )
     } else {
-        cant_be_done(guard, d)?;
+        cant_be_done(guard, d)
     }
-    Ok(())
 }
 
 // A connection with its player.
@@ -202,8 +186,7 @@ fn show_presence(guard: &mut Guard, d: u32, presence: Presence) -> Result<(), No
     let mut text = name_and(guard, presence.player, b" (")?;
     let tail = format!(in guard.alloc(); "{number})")?;
     text.extend_from_slice(tail.as_bytes())?;
-    guard.tell(d, &text)?;
-    Ok(())
+    guard.tell(d, &text)
 }
 
 // A line for each of these.
@@ -222,8 +205,7 @@ fn show_count(guard: &mut Guard, d: u32, count: usize) -> Result<(), NoMemory>
     ensures { Did (tell d (connected_count count)) guard.old guard.new result }
 {
     let text = format!(in guard.alloc(); "{count} connected.")?;
-    guard.tell(d, text.as_bytes())?;
-    Ok(())
+    guard.tell(d, text.as_bytes())
 }
 
 /// The connection sees the players who are connected, and how many they are.
@@ -232,6 +214,5 @@ pub fn who(guard: &mut Guard, d: u32) -> Result<(), NoMemory>
 {
     let present = presences(guard.alloc(), guard.board())?;
     show_presences(guard, d, &present)?;
-    show_count(guard, d, present.len())?;
-    Ok(())
+    show_count(guard, d, present.len())
 }

@@ -7,4 +7,4 @@ use Rattle.cmd_play.proofs.messages.kept_message.Goals as goal
 pub returns : goal.returns
 returns c =
     c.message.ensures
-    ∙ message_is c.path_of.result.now (message_name c.args.message) c.args.x (world_of c.args.guard.now) c.path_of.ensures.right c.path_of.ensures.parts
+    ∙ message_is c.message_path.result.now (message_name c.args.message) c.args.x (world_of c.args.guard.now) c.message_path.ensures.fine c.message_path.ensures.path
