@@ -1,6 +1,6 @@
 pub mod Positions
 pub mod Splits
 pub mod Outputs
-pub mod Places
+pub mod Numbered
 pub mod Mapped
 pub mod Quiet

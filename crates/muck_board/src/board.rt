@@ -1,15 +1,16 @@
 //! The board of a world.
-ghost use Rattle.std.specs.Prelude.{◌≡◌, ◌≤◌, OnOk, OnErr, IfOk, length, drop, take, min, map, find, false, None, is_some, slice_get, if◌then◌else◌};
-ghost use Rattle.std.specs.List.{count_by};
-ghost use Rattle.std.specs.Option.{option_map, option_map_or, option_and_then};
-ghost use Rattle.muck_live.specs.Output.{bytes_of};
-ghost use Rattle.muck_live.specs.Connections.{has_number, is_ready, takes_line, is_of};
-ghost use Rattle.muck_live.specs.Boards.{early_board, connection_in, queue_in, is_leaving_in, player_in, editor_in, opened, closed, line_added, bytes_taken, told_one, told_player, told_others, told_all, leaving_one, left_player, seated_one, edited_one, editors_closed, tuned, random_drawn};
+ghost use Rattle.std.specs.Prelude.{◌≡◌, OnOk, OnErr, Bool, length, drop, take, min, None, option_copied};
+ghost use Rattle.std.specs.List.{list_any};
+ghost use Rattle.std.specs.Option.{option_copied_mut};
+ghost use Rattle.std.specs.Borrow.{sem};
+ghost use Rattle.muck_live.specs.Connections.{Connection as Link, is_of, told_where};
+ghost use Rattle.muck_live.specs.Boards.{early_board, connection_in, queue_in, editor_in, on_connections, opened, closed, line_added, bytes_taken, told_one, told_player, told_others, told_all, leaving_one, left_player, seated_one, edited_one, editors_closed, tuned, random_drawn};
 ghost use Rattle.muck_board.specs.Lines.{BoardTakesLine};
 ghost use Rattle.muck_board.specs.Silent.{silent};
+ghost use Rattle.muck_board.specs.Lent.{LendsConnection};
 
 use crate::connection::Connection;
-use crate::connections;
+use crate::places::{greater_at, place_of};
 use muck_lock::Keys;
 use muck_model::{Dbref, EditState, Line, NoMemory, Tune};
 use rand_core::SeedableRng;
@@ -18,8 +19,8 @@ use rand_pcg::Pcg32;
 use std::alloc::Global;
 use std::marker::Model;
 
-/// The connections by rising number, the random numbers, and what a wizard tuned. A connection is named by its number;
-/// where none has that number, a reader answers as of one with nothing on it, and a change changes nothing.
+/// The connections by rising number, the random numbers, and what a wizard tuned. A change names the connection by its
+/// number, and changes nothing where none has that number.
 ///
 /// After `NoMemory` of a call that sends a text the board is as before but for what waits to be sent: a part of the text
 /// may have been sent, and older lines may have given way to it.
@@ -53,68 +54,25 @@ impl Board {
         }
     }
 
-    /// How many connections there are.
-    pub fn count(&self) -> usize
-        ensures { result ≡ length self.now.connections }
+    /// The connections, by rising number.
+    pub fn connections(&self) -> &[Connection]
+        ensures { result.now ≡ self.now.connections }
     {
-        self.connections.len()
+        &self.connections
     }
 
-    /// Whether there is a connection of that number.
-    pub fn is_connected(&self, d: u32) -> bool
-        ensures { result ≡ is_some (connection_in d self.now) }
+    /// The connection of that number.
+    pub fn connection(&self, d: u32) -> Option<&Connection>
+        ensures { option_copied result ≡ connection_in d self.now }
     {
-        connections::is_there(&self.connections, d)
+        self.connections.iter().find(|c| c.number() == d)
     }
 
-    /// Whether the connection is leaving.
-    pub fn is_leaving(&self, d: u32) -> bool
-        ensures { result ≡ is_leaving_in d self.now }
+    /// Whether a player is connected.
+    pub fn is_in(&self, player: Dbref) -> bool
+        ensures { result ≡ list_any (is_of player) self.now.connections }
     {
-        connections::is_leaving_at(&self.connections, d)
-    }
-
-    /// The player of the connection, once it has one.
-    pub fn player(&self, d: u32) -> Option<Dbref>
-        ensures { result ≡ player_in d self.now }
-    {
-        connections::player_of(&self.connections, d)
-    }
-
-    /// How many lines wait on the connection.
-    pub fn waiting(&self, d: u32) -> usize
-        ensures { result ≡ option_map_or (λ c. length c.waiting) (connection_in d self.now) 0 }
-    {
-        connections::waiting_at(&self.connections, d)
-    }
-
-    /// How many bytes wait to be sent to the connection: at most 131,072, and the notice of lost lines.
-    pub fn queued(&self, d: u32) -> usize
-        ensures count { result ≡ length (queue_in d self.now) }
-        ensures most { result ≤ 131090 }
-    {
-        connections::queued_at(&self.connections, d)
-    }
-
-    /// Whether another line may wait on the connection.
-    pub fn takes_line(&self, d: u32) -> bool
-        ensures { result ≡ option_map_or takes_line (connection_in d self.now) false }
-    {
-        connections::takes_line_at(&self.connections, d)
-    }
-
-    /// The lowest connection that isn't leaving and has a line that waits.
-    pub fn first_ready(&self) -> Option<u32>
-        ensures { result ≡ option_map (λ c. c.number) (find is_ready self.now.connections) }
-    {
-        connections::first_ready(&self.connections)
-    }
-
-    /// The number of the connection at a place from 0, in rising order, where that isn't leaving and has a line that waits.
-    pub fn ready_at(&self, at: usize) -> Option<u32>
-        ensures { result ≡ option_and_then (λ c. if is_ready c then Some c.number else None) (slice_get self.now.connections at) }
-    {
-        connections::ready_at(&self.connections, at)
+        self.connections.iter().any(|c| c.is_of(player))
     }
 
     /// What a wizard tuned.
@@ -124,25 +82,33 @@ impl Board {
         self.tune
     }
 
-    /// The number of the connection at a place from 0, in rising order; `None` exactly from the count on.
-    pub fn number_at(&self, at: usize) -> Option<u32>
-        ensures { result ≡ option_map (λ c. c.number) (slice_get self.now.connections at) }
+    // The connection of that number, to be changed.
+    fn connection_mut(&mut self, d: u32) -> Option<&mut Connection>
+        ensures* writes_back { sem 𝓛 (LendsConnection self.entry d result) }
+        ensures value { option_copied_mut result ≡ connection_in d self.old }
     {
-        connections::number_at(&self.connections, at)
+        let at = place_of(&self.connections, d)?;
+        Some(&mut self.connections[at])
     }
 
-    /// The player of the connection at a place from 0, once it has one.
-    pub fn player_at(&self, at: usize) -> Option<Dbref>
-        ensures { result ≡ option_and_then (λ c. c.player) (slice_get self.now.connections at) }
+    // Sends a text to each connection that hears it.
+    fn tell_where<F: Fn(&Connection) -> bool>(
+        &mut self,
+        hears: F,
+        text: &[u8],
+    ) -> Result<(), NoMemory>
+        ghost test: { Link → Bool }
+        requires callable { F.IsAlwaysCallable hears }
+        requires exact { (c : _) → (yes : Bool) → F.post hears c yes → yes ≡ test c.now }
+        ensures ok { OnOk result (self.new ≡ on_connections (told_where test text.now) self.old) }
+        ensures rest { silent self.new ≡ silent self.old }
     {
-        connections::player_at(&self.connections, at)
-    }
-
-    /// How many connections a player has.
-    pub fn connections_of(&self, player: Dbref) -> usize
-        ensures { result ≡ count_by (is_of player) self.now.connections }
-    {
-        connections::count_of(&self.connections, player)
+        for c in self.connections.iter_mut() {
+            if hears(c) {
+                c.tell(text)?;
+            }
+        }
+        Ok(())
     }
 
     /// A connection comes, and is greeted with a text. After `NoMemory` nothing has changed.
@@ -152,7 +118,9 @@ impl Board {
         ensures err { OnErr result (self.new ≡ self.old) }
     {
         let new = Connection::new(self.alloc, d, greeting)?;
-        connections::insert(&mut self.connections, new)
+        let at = greater_at(&self.connections, d);
+        self.connections.insert(at, new)?;
+        Ok(())
     }
 
     /// The connection goes, with all that waits on it.
@@ -160,34 +128,45 @@ impl Board {
     pub fn close(&mut self, d: u32)
         ensures { self.new ≡ closed d self.old }
     {
-        connections::remove(&mut self.connections, d);
+        if let Some(at) = place_of(&self.connections, d) {
+            let _ = self.connections.remove(at);
+        }
     }
 
     /// A line comes, and waits. After `NoMemory` it is lost, and nothing has changed.
-    #[tactic(auto, unfolding(muck_live::specs::Boards::line_added))]
+    #[tactic(auto, using(crate::proofs::Numbered::changes), unfolding(muck_live::specs::Boards::line_added))]
     pub fn add_line(&mut self, d: u32, line: Line) -> Result<(), NoMemory>
         ensures ok { OnOk result (self.new ≡ line_added d line self.old) }
         ensures err { OnErr result (self.new ≡ self.old) }
     {
-        connections::add_line(&mut self.connections, d, line)
+        match self.connection_mut(d) {
+            Some(c) => c.add_line(line),
+            None => Ok(()),
+        }
     }
 
     /// Takes the first line that waits on the connection, with the connection's player.
     pub fn take_line(&mut self, d: u32) -> Option<(Option<Dbref>, Line)>
         ensures { BoardTakesLine d self.old self.new result }
     {
-        connections::take_line(&mut self.connections, d)
+        let c = self.connection_mut(d)?;
+        let player = c.player();
+        let line = c.next_line()?;
+        Some((player, line))
     }
 
     /// Takes the first bytes that wait to be sent to the connection, as many as are there and fit, and answers how many.
-    #[tactic(auto, unfolding(muck_live::specs::Boards::bytes_taken))]
+    #[tactic(auto, using(crate::proofs::Numbered::changes), unfolding(muck_live::specs::Boards::bytes_taken))]
     pub fn take(&mut self, d: u32, buf: &mut [u8]) -> usize
         ensures count { result ≡ min (length (queue_in d self.old)) (length buf.old) }
         ensures bytes { take result buf.new ≡ take result (queue_in d self.old) }
         ensures state { self.new ≡ bytes_taken d result self.old }
         ensures left { queue_in d self.new ≡ drop result (queue_in d self.old) }
     {
-        connections::take(&mut self.connections, d, buf)
+        match self.connection_mut(d) {
+            Some(c) => c.take(buf),
+            None => 0,
+        }
     }
 
     /// Sends a text to the connection.
@@ -200,12 +179,15 @@ impl Board {
 
     /// Sends a text to the connection: the first 4,096 bytes, as one line for each piece between bytes 13. Older lines
     /// give way, and the notice stands, where there is no room.
-    #[tactic(auto, unfolding(muck_live::specs::Boards::told_one))]
+    #[tactic(auto, using(crate::proofs::Numbered::changes), unfolding(muck_live::specs::Boards::told_one))]
     pub fn tell(&mut self, d: u32, text: &[u8]) -> Result<(), NoMemory>
         ensures ok { OnOk result (self.new ≡ told_one d text.now self.old) }
         ensures rest { silent self.new ≡ silent self.old }
     {
-        connections::tell(&mut self.connections, d, text)
+        match self.connection_mut(d) {
+            Some(c) => c.tell(text),
+            None => Ok(()),
+        }
     }
 
     /// Sends a text to all connections of a player.
@@ -214,7 +196,7 @@ impl Board {
         ensures ok { OnOk result (self.new ≡ told_player player text.now self.old) }
         ensures rest { silent self.new ≡ silent self.old }
     {
-        connections::tell_player(&mut self.connections, player, text)
+        self.tell_where(move |c| c.is_of(player), text)
     }
 
     /// Sends a text to the connections of the players in a room but one.
@@ -229,7 +211,13 @@ impl Board {
         ensures ok { OnOk result (self.new ≡ told_others (K.places keys.now) room but text.now self.old) }
         ensures rest { silent self.new ≡ silent self.old }
     {
-        connections::tell_others(&mut self.connections, keys, room, but, text)
+        // Not by `tell_where`: for a test that borrows no ghost value can be picked.
+        for c in self.connections.iter_mut() {
+            if c.hears(keys, room, but) {
+                c.tell(text)?;
+            }
+        }
+        Ok(())
     }
 
     /// Sends a text to the connections of all players.
@@ -238,15 +226,17 @@ impl Board {
         ensures ok { OnOk result (self.new ≡ told_all text.now self.old) }
         ensures rest { silent self.new ≡ silent self.old }
     {
-        connections::tell_all(&mut self.connections, text)
+        self.tell_where(move |c| c.has_player(), text)
     }
 
     /// The connection is leaving: no line of it is done any more.
-    #[tactic(auto, unfolding(muck_live::specs::Boards::leaving_one))]
+    #[tactic(auto, using(crate::proofs::Numbered::changes), unfolding(muck_live::specs::Boards::leaving_one))]
     pub fn leave(&mut self, d: u32)
         ensures { self.new ≡ leaving_one d self.old }
     {
-        connections::leave(&mut self.connections, d);
+        if let Some(c) = self.connection_mut(d) {
+            c.leave();
+        }
     }
 
     /// All connections of a player are leaving.
@@ -254,15 +244,21 @@ impl Board {
     pub fn leave_player(&mut self, player: Dbref)
         ensures { self.new ≡ left_player player self.old }
     {
-        connections::leave_player(&mut self.connections, player);
+        for c in self.connections.iter_mut() {
+            if c.is_of(player) {
+                c.leave();
+            }
+        }
     }
 
     /// The connection is that of a player from now on.
-    #[tactic(auto, unfolding(muck_live::specs::Boards::seated_one))]
+    #[tactic(auto, using(crate::proofs::Numbered::changes), unfolding(muck_live::specs::Boards::seated_one))]
     pub fn seat(&mut self, d: u32, player: Dbref)
         ensures { self.new ≡ seated_one d player self.old }
     {
-        connections::seat(&mut self.connections, d, player);
+        if let Some(c) = self.connection_mut(d) {
+            c.seat(player);
+        }
     }
 
     /// Sets what a wizard tuned.
@@ -282,20 +278,22 @@ impl Board {
     }
 
     /// Sets what is edited on the connection; what was edited before is dropped.
-    #[tactic(auto, unfolding(muck_live::specs::Boards::edited_one))]
+    #[tactic(auto, using(crate::proofs::Numbered::changes), unfolding(muck_live::specs::Boards::edited_one))]
     pub fn set_editor(&mut self, d: u32, editor: Option<EditState>)
         ensures { self.new ≡ edited_one d editor self.old }
     {
-        connections::set_editor(&mut self.connections, d, editor);
+        if let Some(c) = self.connection_mut(d) {
+            c.set_editor(editor);
+        }
     }
 
     /// Takes out what is edited on the connection, so that nothing is edited on it.
-    #[tactic(auto, unfolding(muck_live::specs::Boards::edited_one))]
+    #[tactic(auto, using(crate::proofs::Numbered::changes), unfolding(muck_live::specs::Boards::edited_one))]
     pub fn take_editor(&mut self, d: u32) -> Option<EditState>
         ensures editor { result ≡ editor_in d self.old }
         ensures rest { self.new ≡ edited_one d None self.old }
     {
-        connections::take_editor(&mut self.connections, d)
+        self.connection_mut(d)?.take_editor()
     }
 
     /// Closes each editor that is open on the program; what was edited in it is dropped. It takes no memory.
@@ -303,6 +301,10 @@ impl Board {
     pub fn close_editors(&mut self, program: Dbref)
         ensures { self.new ≡ editors_closed program self.old }
     {
-        connections::close_editors(&mut self.connections, program);
+        for c in self.connections.iter_mut() {
+            if c.edits(program) {
+                c.set_editor(None);
+            }
+        }
     }
 }

@@ -38,7 +38,7 @@ impl Model for Connection {
 
 impl Connection {
     /// A connection without a player, which is greeted with a text.
-    pub fn new(alloc: Global, number: u32, greeting: &[u8]) -> Result<Self, NoMemory>
+    pub(crate) fn new(alloc: Global, number: u32, greeting: &[u8]) -> Result<Self, NoMemory>
         ensures { IfOk result (λ c. c ≡ newcomer number greeting.now) }
     {
         let mut output = Output::new(alloc);
@@ -118,7 +118,7 @@ impl Connection {
     }
 
     /// Whether it is that of a player in the room, but not of that one.
-    pub fn hears<K: Keys>(&self, keys: &K, room: Dbref, but: Dbref) -> bool
+    pub(crate) fn hears<K: Keys>(&self, keys: &K, room: Dbref, but: Dbref) -> bool
         ensures { result ≡ hears (K.places keys.now) room but self.now }
     {
         match self.player {
@@ -127,7 +127,7 @@ impl Connection {
         }
     }
 
-    pub fn add_line(&mut self, line: Line) -> Result<(), NoMemory>
+    pub(crate) fn add_line(&mut self, line: Line) -> Result<(), NoMemory>
         ensures ok { OnOk result (self.new ≡ lined line self.old) }
         ensures err { OnErr result (self.new ≡ self.old) }
     {
@@ -136,7 +136,7 @@ impl Connection {
     }
 
     /// Takes the first waiting line.
-    pub fn next_line(&mut self) -> Option<Line>
+    pub(crate) fn next_line(&mut self) -> Option<Line>
         ensures { MatchOption result ((self.old.waiting ≡ []) × (self.new ≡ self.old)) (λ line.
             (self.old.waiting ≡ line ∷ self.new.waiting) × (self.new ≡ record self.old { waiting = self.new.waiting })) }
     {
@@ -144,7 +144,7 @@ impl Connection {
     }
 
     /// Sends a text.
-    pub fn tell(&mut self, text: &[u8]) -> Result<(), NoMemory>
+    pub(crate) fn tell(&mut self, text: &[u8]) -> Result<(), NoMemory>
         ensures ok { OnOk result (self.new ≡ told text.now self.old) }
         ensures rest { quiet self.new ≡ quiet self.old }
     {
@@ -152,74 +152,26 @@ impl Connection {
         Ok(())
     }
 
-    /// Sends a text where it is a connection of that player.
-    pub fn tell_player(&mut self, player: Dbref, text: &[u8]) -> Result<(), NoMemory>
-        ensures ok { OnOk result (self.new ≡ told_where (is_of player) text.now self.old) }
-        ensures rest { quiet self.new ≡ quiet self.old }
-    {
-        if self.is_of(player) {
-            self.tell(text)?;
-        }
-        Ok(())
-    }
-
-    /// Sends a text where it is that of a player in the room, but not of that one.
-    pub fn tell_other<K: Keys>(
-        &mut self,
-        keys: &K,
-        room: Dbref,
-        but: Dbref,
-        text: &[u8],
-    ) -> Result<(), NoMemory>
-        ensures ok { OnOk result (self.new ≡ told_where (hears (K.places keys.now) room but) text.now self.old) }
-        ensures rest { quiet self.new ≡ quiet self.old }
-    {
-        if self.hears(keys, room, but) {
-            self.tell(text)?;
-        }
-        Ok(())
-    }
-
-    /// Sends a text where it has a player.
-    pub fn tell_any(&mut self, text: &[u8]) -> Result<(), NoMemory>
-        ensures ok { OnOk result (self.new ≡ told_where has_player text.now self.old) }
-        ensures rest { quiet self.new ≡ quiet self.old }
-    {
-        if self.has_player() {
-            self.tell(text)?;
-        }
-        Ok(())
-    }
-
-    pub fn leave(&mut self)
+    pub(crate) fn leave(&mut self)
         ensures { self.new ≡ left self.old }
     {
         self.leaving = true;
     }
 
-    /// Leaves where it is a connection of that player.
-    pub fn leave_player(&mut self, player: Dbref)
-        ensures { self.new ≡ left_where (is_of player) self.old }
-    {
-        if self.is_of(player) {
-            self.leaving = true;
-        }
-    }
-
-    pub fn seat(&mut self, player: Dbref)
+    pub(crate) fn seat(&mut self, player: Dbref)
         ensures { self.new ≡ seated player self.old }
     {
         self.player = Some(player);
     }
 
-    pub fn set_editor(&mut self, editor: Option<EditState>)
+    pub(crate) fn set_editor(&mut self, editor: Option<EditState>)
         ensures { self.new ≡ edited editor self.old }
     {
         self.editor = editor;
     }
 
     /// Takes what is edited out.
-    pub fn take_editor(&mut self) -> Option<EditState>
+    pub(crate) fn take_editor(&mut self) -> Option<EditState>
         ensures editor { result ≡ self.old.editor }
         ensures rest { self.new ≡ edited None self.old }
     {
@@ -227,7 +179,7 @@ impl Connection {
     }
 
     /// Whether its editor is open on that program.
-    pub fn edits(&self, program: Dbref) -> bool
+    pub(crate) fn edits(&self, program: Dbref) -> bool
         ensures { result ≡ edits program self.now }
     {
         match &self.editor {
@@ -236,17 +188,8 @@ impl Connection {
         }
     }
 
-    /// Closes its editor where that is open on the program.
-    pub fn close_editor(&mut self, program: Dbref)
-        ensures { self.new ≡ edited_where (edits program) None self.old }
-    {
-        if self.edits(program) {
-            self.editor = None;
-        }
-    }
-
     /// Takes the first bytes that wait to be sent, as many as are there and fit.
-    pub fn take(&mut self, buf: &mut [u8]) -> usize
+    pub(crate) fn take(&mut self, buf: &mut [u8]) -> usize
         ensures count { result ≡ min (length (bytes_of self.old.output)) (length buf.old) }
         ensures bytes { take result buf.new ≡ take result (bytes_of self.old.output) }
         ensures rest { self.new ≡ record self.old { output = taken result self.old.output } }

@@ -3,10 +3,11 @@
 
 mod board;
 mod connection;
-mod connections;
 mod output;
 mod piece;
+mod places;
 mod rest;
 mod split;
 
 pub use board::Board;
+pub use connection::Connection;
