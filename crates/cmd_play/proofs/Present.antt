@@ -1,14 +1,11 @@
 -- The players who are connected.
-use Rattle.std.proofs.Common.{◌≡◌, ℕ, ◌+◌, ◌<◌, ◌≤◌, suc, zero, List, [], ◌∷◌, ◌++◌, append_assoc, Bool, true, false, length, drop, get_or, Option, Some, None, Result, Ok, refl, sym, ap, cond, ◌||◌, subst, arith, add-one, zero-add, drop-cons, ◌∙◌}
-use Rattle.std.specs.Prelude.{nat_lt}
-use Rattle.std.proofs.lemmas.Bool.Decides.{nat_tests}
+use Rattle.std.proofs.Common.{◌≡◌, ℕ, ◌+◌, ◌<◌, ◌≤◌, suc, List, [], ◌∷◌, true, false, length, drop, get_or, Option, Some, None, Result, Ok, refl, sym, ap, cond, subst, add-one, drop-cons, ◌∙◌}
 use Rattle.std.proofs.lemmas.List.{drop_all}
-use Rattle.std.proofs.lemmas.List.Sums.{sum_by-cons}
-use Rattle.std.specs.Option.{option_map, option_map_or, option_and_then}
-use Rattle.std.specs.List.{list_any, count_by, filter, cons_option, slice_get}
+use Rattle.std.specs.Option.{option_map, option_map_or}
+use Rattle.std.specs.List.{filter, cons_option}
 use Rattle.muck_model.specs.declared.dbref.Dbref.{Dbref}
 use Rattle.muck_model.specs.declared.memory.NoMemory.{NoMemory}
-use Rattle.muck_live.specs.Connections.{Connection, has_player, is_of}
+use Rattle.muck_live.specs.Connections.{Connection, has_player}
 use Rattle.muck_live.specs.Lives.{Live, followed, reading, unchanged, tell, name_at}
 use Rattle.muck_world.specs.Replies.{connected_line, connected_count}
 use Rattle.muck_world.specs.Talking.{who_lines, who_shown}
@@ -16,28 +13,7 @@ use Rattle.muck_perm.specs.declared.guard.Guard.{Guard}
 use Rattle.muck_perm.specs.Guards.{Did, Done, world_of, with_world}
 use Rattle.cmd_parts.proofs.Doing.{did_both, did_nothing}
 use Rattle.cmd_play.specs.declared.talking.Presence.{Presence}
-use Rattle.cmd_play.specs.Presences.{presence, presences, presence_shown, presences_shown}
-
--- One more of the connections.
-
-present_next : (cs : List Connection) (i : ℕ) → i < length cs → presences (drop i cs) ≡ cons_option (option_and_then presence (slice_get cs i)) (presences (drop (suc i) cs))
-present_next [] i h = absurd (omega arith)
-present_next (c ∷ cs) zero h = refl
-present_next (c ∷ cs) (suc i) h = present_next cs i (omega arith)
-
-present_more : (cs : List Connection) (i : ℕ) (found : Option Presence) → i < length cs → found ≡ option_and_then presence (slice_get cs i) → presences (drop i cs) ≡ cons_option found (presences (drop (i + 1) cs))
-present_more cs i found h e = rw e (rw add-one (present_next cs i h))
-
-pub present_some : (cs : List Connection) (i : ℕ) (before all : List Presence) (p : Presence) → i < length cs → Some p ≡ option_and_then presence (slice_get cs i) →
-    before ++ presences (drop i cs) ≡ all → (before ++ p ∷ []) ++ presences (drop (i + 1) cs) ≡ all
-present_some cs i before all p h e t = rw append_assoc (ap (λ ps. before ++ ps) (sym (present_more cs i (Some p) h e)) ∙ t)
-
-pub present_none : (cs : List Connection) (i : ℕ) (before all : List Presence) → i < length cs → None ≡ option_and_then presence (slice_get cs i) →
-    before ++ presences (drop i cs) ≡ all → before ++ presences (drop (i + 1) cs) ≡ all
-present_none cs i before all h e t = ap (λ ps. before ++ ps) (sym (present_more cs i None h e)) ∙ t
-
-pub present_all : (cs : List Connection) (i : ℕ) → length cs ≤ i → presences (drop i cs) ≡ []
-present_all cs i h = ap (λ ds. presences ds) (drop_all i cs h)
+use Rattle.cmd_play.specs.Presences.{presences, presence_shown, presences_shown}
 
 -- One more of the lines.
 
@@ -86,15 +62,3 @@ pub who_done : (d : ℕ) (ps : List Presence) (count : ℕ) (a b c : Guard) → 
 who_done d ps count a b c e k p q =
     let both : Done (followed (presences_shown d ps) (tell d (connected_count count))) a c = did_both {X = Unit {0}} _ _ a b c (Ok tt) p q in
     both ∙ ap (λ w. with_world w a) (who_same d ps count (world_of a) e k)
-
--- A player is connected where it has some connection.
-
-some_more : (b : Bool) (n : ℕ) (any : Bool) → nat_lt 0 n ≡ any → nat_lt 0 (cond b 1 0 + n) ≡ (b || any)
-some_more true n any h = grind (arith, nat_tests)
-some_more false n any h = rw zero-add h
-
-pub some_of : (player : Dbref) (cs : List Connection) → nat_lt 0 (count_by (is_of player) cs) ≡ list_any (is_of player) cs
-some_of player [] = refl
-some_of player (c ∷ cs) =
-    let more : count_by (is_of player) (c ∷ cs) ≡ cond (is_of player c) 1 0 + count_by (is_of player) cs = sum_by-cons (λ x. cond (is_of player x) 1 0) c cs in
-    ap (λ n. nat_lt 0 n) more ∙ some_more (is_of player c) _ _ (some_of player cs)

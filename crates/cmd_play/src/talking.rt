@@ -1,8 +1,5 @@
 // What players say, and who hears it.
 ghost use Rattle.std.specs.Prelude.{◌≡◌, ◌++◌, IfOk, codes};
-ghost use Rattle.std.specs.List.{list_any, slice_get};
-ghost use Rattle.std.specs.Option.{option_and_then};
-ghost use Rattle.muck_live.specs.Connections.{is_of};
 ghost use Rattle.muck_live.specs.Lives.{tell, name_at};
 ghost use Rattle.muck_world.specs.Replies.{connected_count};
 ghost use Rattle.muck_world.specs.Talking.{said, pose_tail, posed, said_to, paged, is_company, whispered, who_shown};
@@ -10,7 +7,7 @@ ghost use Rattle.muck_perm.specs.Guards.{Did, world_of};
 ghost use Rattle.cmd_play.specs.Presences.{presence, presences, presence_shown, presences_shown};
 
 use cmd_parts::{cant_be_done, find_one, find_player, name_and, place_at, show_others};
-use muck_board::Board;
+use muck_board::{Board, Connection};
 use muck_model::{Dbref, Kind, Line, NoMemory};
 use muck_perm::Guard;
 use std::alloc::Global;
@@ -95,13 +92,6 @@ fn say_to(
     Ok(())
 }
 
-// Whether a player is connected.
-fn is_connected(board: &Board, player: Dbref) -> bool
-    ensures { result ≡ list_any (is_of player) board.now.connections }
-{
-    board.connections_of(player) > 0
-}
-
 /// The player says something to another one, who may be anywhere, but is connected.
 #[tactic(auto, unfolding(muck_live::specs::Lives::reading, muck_live::specs::Lives::either, muck_world::specs::Finding::where_so, muck_world::specs::Talking::paged, muck_world::specs::Replies::not_connected, muck_world::specs::Replies::you_page, muck_world::specs::Replies::pages))]
 pub fn page(guard: &mut Guard, d: u32, name: &Line, text: &Line) -> Result<(), NoMemory>
@@ -110,7 +100,7 @@ pub fn page(guard: &mut Guard, d: u32, name: &Line, text: &Line) -> Result<(), N
     let Some(to) = find_player(guard, d, name)? else {
         return Ok(());
     };
-    if is_connected(guard.board(), to) {
+    if guard.board().is_in(to) {
         say_to(
             guard,
             d,
@@ -169,27 +159,24 @@ struct Presence {
     player: Dbref,
 }
 
-// The connection at a place from 0, where it has a player.
-fn presence_at(board: &Board, at: usize) -> Option<Presence>
-    ensures { result ≡ option_and_then presence (slice_get board.now.connections at) }
+// The connection, where it has a player.
+fn presence_of(connection: &Connection) -> Option<Presence>
+    ensures { result ≡ presence connection.now }
 {
-    match (board.number_at(at), board.player_at(at)) {
-        (Some(number), Some(player)) => Some(Presence { number, player }),
-        _ => None,
-    }
+    let player = connection.player()?;
+    let number = connection.number();
+    Some(Presence { number, player })
 }
 
 // The connections that have a player.
-#[tactic(auto, using(crate::proofs::Present::present_all))]
 fn presences(alloc: Global, board: &Board) -> Result<Vec<Presence>, NoMemory>
     ensures { IfOk result (λ ps. ps.items ≡ presences board.now.connections) }
 {
-    let mut all = Vec::new(alloc);
-    for at in 0..board.count() {
-        if let Some(presence) = presence_at(board, at) {
-            all.push(presence)?;
-        }
-    }
+    let all = board
+        .connections()
+        .iter()
+        .filter_map(|c| presence_of(c))
+        .collect(alloc)?;
     Ok(all)
 }
 

@@ -1,4 +1,4 @@
-use Rattle.muck_live.specs.Boards.{bytes_taken, queue_in}
+use Rattle.muck_live.specs.Boards.{queue_in}
 use Rattle.std.proofs.Common.{ap, ◌∙◌}
 use Rattle.muck_live.specs.Output.{taken}
 use Rattle.muck_board.proofs.Numbered.{changed, queue_left}
