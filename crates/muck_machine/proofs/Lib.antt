@@ -1,10 +1,9 @@
-pub mod Counts
 pub mod Outcomes
 pub mod Keepings
 pub mod Turns
 pub mod Settling
-pub mod Free
 pub mod Joining
 pub mod Choosing
 pub mod Slices
 pub mod Deeds
+pub mod Taken

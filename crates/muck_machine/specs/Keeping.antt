@@ -1,11 +1,31 @@
 -- What a world keeps of its history.
-use Rattle.std.specs.Prelude.{◌≡◌, Bool, true, false}
+use Rattle.std.specs.Prelude.{◌≡◌, ℕ, true, false, [], ◌∷◌, ◌++◌, Result, Ok, Err}
 use Rattle.muck_model.specs.Told.{Told}
+use Rattle.muck_model.specs.declared.event.Entry.{Entry}
+use Rattle.muck_model.specs.declared.event.Event.TheVariants.{Died}
+use Rattle.muck_model.specs.declared.memory.NoMemory.{NoMemory}
 use Rattle.muck_event.specs.World.{World}
-use Rattle.muck_event.specs.Histories.{after}
+use Rattle.muck_event.specs.Histories.{History, after}
+use Rattle.muck_machine.specs.declared.past.Past.{Past}
+
+abbrev pub history : Past → History
+history p = record { start = p.origin; entries = p.tale.entries }
 
 -- The tale may grow, the world after it is dead or not as is kept, and as long as it isn't it is the state that is kept.
-pub record Keeps (start : World) (tale : Told) (dead : Bool) (state : World) : Type 0 where
-  pub grows : tale.open_ended ≡ true
-  pub dies : (after start tale.entries).dead ≡ dead
-  pub lives : dead ≡ false → state ≡ after start tale.entries
+pub record Keeps (p : Past) (state : World) : Type 0 where
+  pub grows : p.tale.open_ended ≡ true
+  pub dies : (after p.origin p.tale.entries).dead ≡ p.dead
+  pub lives : p.dead ≡ false → state ≡ after p.origin p.tale.entries
+
+-- longer by an entry
+abbrev pub told : Entry → Past → Past
+told e p = record p { tale = record { entries = p.tale.entries ++ e ∷ []; open_ended = true } }
+
+-- and by memory that a party wanted
+abbrev pub lost : ℕ → Past → Past
+lost party p = record (told (record { party = party; event = Died }) p) { dead = true }
+
+-- longer by what was done, or by the memory that was wanted for it
+abbrev pub Concludes : Entry → Result (Unit {0}) NoMemory → Past → Past → Type 0
+Concludes e (Ok x) p q = q ≡ told e p
+Concludes e (Err x) p q = q ≡ lost e.party p

@@ -3,6 +3,7 @@
 
 mod commands;
 mod origin;
+mod past;
 mod state;
 mod world;
 

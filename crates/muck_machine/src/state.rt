@@ -1,9 +1,8 @@
 // The world's own state, without its history.
-ghost use Rattle.std.specs.Prelude.{◌≡◌, ◌≤◌, OnOk, length, take, min, is_some, List, ℕ};
-ghost use Rattle.std.specs.Option.{option_map_or};
+ghost use Rattle.std.specs.Prelude.{◌≡◌, OnOk, length, take, min, List, ℕ};
 ghost use Rattle.muck_model.specs.declared.event.Event.{Event};
 ghost use Rattle.muck_live.specs.Lives.{tell};
-ghost use Rattle.muck_event.specs.World.{booted, connection, queue_of, is_leaving, on_live};
+ghost use Rattle.muck_event.specs.World.{booted, queue_of, on_live};
 ghost use Rattle.muck_event.specs.Steps.{is_allowed, happened};
 
 mod deeds;
@@ -79,43 +78,29 @@ impl State {
         self.stopping
     }
 
-    pub fn is_connected(&self, d: u32) -> bool
-        ensures { result ≡ is_some (connection d self.now) }
+    /// Who is connected.
+    pub fn board(&self) -> &Board
+        ensures { result.now ≡ self.now.live.board }
     {
-        self.board.is_connected(d)
-    }
-
-    pub fn is_leaving(&self, d: u32) -> bool
-        ensures { result ≡ is_leaving d self.now }
-    {
-        self.board.is_leaving(d)
-    }
-
-    pub fn waiting(&self, d: u32) -> usize
-        ensures { result ≡ option_map_or (λ c. length c.waiting) (connection d self.now) 0 }
-    {
-        self.board.waiting(d)
-    }
-
-    pub fn queued(&self, d: u32) -> usize
-        ensures count { result ≡ length (queue_of d self.now) }
-        ensures most { result ≤ 131090 }
-    {
-        self.board.queued(d)
+        &self.board
     }
 
     /// Whether a connection of this number may come.
     pub fn may_open(&self, d: u32) -> bool
         ensures { result ≡ is_allowed self.now 0 (Event.Opened d) }
     {
-        !self.is_connected(d) && self.board.count() < CONNECTIONS_MOST && !self.stopping
+        let connections = self.board.connections();
+        self.board.connection(d).is_none() && connections.len() < CONNECTIONS_MOST && !self.stopping
     }
 
     /// Whether a line may come on this connection.
     pub fn may_take_line(&self, d: u32) -> bool
         ensures { (line : List ℕ) → result ≡ is_allowed self.now 0 (Event.Input d line) }
     {
-        self.board.takes_line(d) && !self.stopping
+        match self.board.connection(d) {
+            Some(c) => c.takes_line() && !self.stopping,
+            None => false,
+        }
     }
 
     /// A connection comes.

@@ -1,5 +1,5 @@
 // The world with its history.
-ghost use Rattle.std.specs.Prelude.{◌≡◌, ◌≤◌, IfOk, OnOk, OnErr, MatchOption, length, take, min, true, false, if◌then◌else◌, nat_lt, is_some, [], List, ℕ};
+ghost use Rattle.std.specs.Prelude.{◌≡◌, ◌≤◌, IfOk, OnOk, OnErr, MatchOption, length, take, min, true, false, if◌then◌else◌, nat_lt, is_some, option_copied, [], List, ℕ};
 ghost use Rattle.std.specs.Option.{option_map_or};
 ghost use Rattle.muck_model.specs.declared.event.Event.{Event};
 ghost use Rattle.muck_event.specs.World.{starting, booted, connection, queue_of, is_leaving};
@@ -7,17 +7,13 @@ ghost use Rattle.muck_event.specs.Steps.{is_lawful, next_ready, next_process};
 ghost use Rattle.muck_event.specs.Histories.{now, entered, by_porter};
 
 use crate::origin::{Begun, Origin};
+use crate::past::Past;
 use crate::state::State;
+use muck_board::Connection;
 use muck_db::{Db, Persisted};
 use muck_model::{Entry, Event, Line, NoMemory, Tale, Tune};
 use std::alloc::Global;
 use std::marker::Model;
-
-// Memory was wanted by the party that does everything in a run of a script.
-const DIED: Entry = Entry {
-    party: 0,
-    event: Event::Died,
-};
 
 /// What a wizard tuned before anybody did.
 const FIRST_TUNE: Tune = Tune {
@@ -36,15 +32,12 @@ const FIRST_TUNE: Tune = Tune {
 #[derive(Drop)]
 pub struct World {
     state: State,
-    dead: bool,
-    origin: Origin,
-    tale: Tale,
+    past: Past,
 }
 
 impl Model for World {
-    ghost use Rattle.std.specs.Prelude.{◌≡◌, true, false};
-    ghost use Rattle.muck_event.specs.Histories.{History, after};
-    ghost use Rattle.muck_machine.specs.Keeping.{Keeps};
+    ghost use Rattle.muck_event.specs.Histories.{History};
+    ghost use Rattle.muck_machine.specs.Keeping.{history, Keeps};
 
     ghost Value = { History };
 
@@ -55,9 +48,9 @@ impl Model for World {
 
     ghost coded = { Prim.hlevel (codes, props.the_row.coded, lock.the_row.coded, datum_code, block_code, end_code) };
 
-    ghost view = { λ w. record { start = w.origin; entries = w.tale.entries } };
+    ghost view = { λ w. history w.past };
 
-    ghost invariant = { λ w. Keeps w.origin w.tale w.dead w.state };
+    ghost invariant = { λ w. Keeps w.past w.state };
 }
 
 impl World {
@@ -78,9 +71,11 @@ impl World {
         let Begun { db, tune, .. } = begun;
         Ok(World {
             state: State::booted(alloc, db, tune, moment, start),
-            dead: false,
-            origin,
-            tale,
+            past: Past {
+                origin,
+                tale,
+                dead: false,
+            },
         })
     }
 
@@ -105,8 +100,8 @@ impl World {
     pub fn into_tale(self) -> Tale
         ensures { result.entries ≡ self.entries }
     {
-        let World { tale, .. } = self;
-        tale
+        let World { past, .. } = self;
+        past.tale
     }
 
     /// Whether memory was wanted, after which no entry but `Died` is lawful.
@@ -114,18 +109,14 @@ impl World {
     pub fn is_dead(&self) -> bool
         ensures { result ≡ (now self.now).dead }
     {
-        self.dead
+        self.past.dead
     }
 
     /// Memory was wanted, here or by the party outside of the world. It takes none.
     pub fn died(&mut self, party: u8)
         ensures { self.new ≡ entered self.old (record { party = party; event = Event.Died }) }
     {
-        self.tale.tell(&Entry {
-            party,
-            event: Event::Died,
-        });
-        self.dead = true;
+        self.past.lose(party);
     }
 
     /// The run stops. It takes no memory.
@@ -133,7 +124,7 @@ impl World {
         requires { (now self.old).dead ≡ false }
         ensures { self.new ≡ entered self.old (by_porter Event.Halt) }
     {
-        self.tale.tell(&Entry {
+        self.past.enter(Entry {
             party: 0,
             event: Event::Halt,
         });
@@ -144,7 +135,7 @@ impl World {
     fn may_open(&self, d: u32) -> bool
         ensures { result ≡ is_lawful (now self.now) (by_porter (Event.Opened d)) }
     {
-        if self.dead {
+        if self.past.dead {
             return false;
         }
         self.state.may_open(d)
@@ -154,7 +145,7 @@ impl World {
     fn may_take_line(&self, d: u32) -> bool
         ensures { (line : List ℕ) → result ≡ is_lawful (now self.now) (by_porter (Event.Input d line)) }
     {
-        if self.dead {
+        if self.past.dead {
             return false;
         }
         self.state.may_take_line(d)
@@ -170,20 +161,13 @@ impl World {
         if !self.may_open(d) {
             return Ok(false);
         }
-        match self.state.open(d) {
-            Ok(()) => {
-                self.tale.tell(&Entry {
-                    party: 0,
-                    event: Event::Opened { d },
-                });
-                Ok(true)
-            }
-            Err(NoMemory) => {
-                self.dead = true;
-                self.tale.tell(&DIED);
-                Err(NoMemory)
-            }
-        }
+        let done = self.state.open(d);
+        let entry = Entry {
+            party: 0,
+            event: Event::Opened { d },
+        };
+        self.past.conclude(entry, done)?;
+        Ok(true)
     }
 
     /// A line comes, and waits; `false` exactly where it may not, and then nothing happened. After `NoMemory` the world
@@ -197,12 +181,11 @@ impl World {
         if !self.may_take_line(d) {
             return Ok(false);
         }
-        self.tale.tell_input(0, d, &line);
+        self.past.tale.tell_input(0, d, &line);
         match self.state.add_line(d, line) {
             Ok(()) => Ok(true),
             Err(NoMemory) => {
-                self.dead = true;
-                self.tale.tell(&DIED);
+                self.past.lose(0);
                 Err(NoMemory)
             }
         }
@@ -214,27 +197,19 @@ impl World {
         ensures ok { OnOk result (self.new ≡ entered self.old (by_porter (Event.Closed d))) }
         ensures died { OnErr result (self.new ≡ entered self.old (by_porter Event.Died)) }
     {
-        match self.state.close(d) {
-            Ok(()) => {
-                self.tale.tell(&Entry {
-                    party: 0,
-                    event: Event::Closed { d },
-                });
-                Ok(())
-            }
-            Err(NoMemory) => {
-                self.dead = true;
-                self.tale.tell(&DIED);
-                Err(NoMemory)
-            }
-        }
+        let done = self.state.close(d);
+        let entry = Entry {
+            party: 0,
+            event: Event::Closed { d },
+        };
+        self.past.conclude(entry, done)
     }
 
     // The lowest connection with a line that may be done.
     fn next_ready(&self) -> Option<u32>
         ensures { result ≡ next_ready (now self.now) }
     {
-        if self.dead {
+        if self.past.dead {
             return None;
         }
         self.state.first_ready()
@@ -250,23 +225,13 @@ impl World {
         let Some(d) = self.next_ready() else {
             return Ok(None);
         };
-        match self.state.do_line(d) {
-            Ok(()) => {
-                self.tale.tell(&Entry {
-                    party,
-                    event: Event::Exec { d },
-                });
-                Ok(Some(d))
-            }
-            Err(NoMemory) => {
-                self.dead = true;
-                self.tale.tell(&Entry {
-                    party,
-                    event: Event::Died,
-                });
-                Err(NoMemory)
-            }
-        }
+        let done = self.state.do_line(d);
+        let entry = Entry {
+            party,
+            event: Event::Exec { d },
+        };
+        self.past.conclude(entry, done)?;
+        Ok(Some(d))
     }
 
     /// The process that is to go on next, by its second and its number, is claimed by a party; answers its number, and
@@ -275,13 +240,13 @@ impl World {
         ensures found { result ≡ next_process (now self.old) }
         ensures step { MatchOption result (self.new ≡ self.old) (λ pid. self.new ≡ entered self.old (record { party = party; event = Event.Claim pid })) }
     {
-        if self.dead {
+        if self.past.dead {
             return None;
         }
         let Some(pid) = self.state.claim(party) else {
             return None;
         };
-        self.tale.tell(&Entry {
+        self.past.enter(Entry {
             party,
             event: Event::Claim { pid },
         });
@@ -294,33 +259,12 @@ impl World {
         ensures ok { OnOk result (self.new ≡ entered self.old (record { party = party; event = Event.Slice pid })) }
         ensures died { OnErr result (self.new ≡ entered self.old (record { party = party; event = Event.Died })) }
     {
-        match self.state.slice(pid) {
-            Ok(()) => {
-                self.tale.tell(&Entry {
-                    party,
-                    event: Event::Slice { pid },
-                });
-                Ok(())
-            }
-            Err(NoMemory) => {
-                self.dead = true;
-                self.tale.tell(&Entry {
-                    party,
-                    event: Event::Died,
-                });
-                Err(NoMemory)
-            }
-        }
-    }
-
-    // The count of bytes that may be taken from a connection's queue.
-    fn ready_bytes(&self, d: u32) -> usize
-        ensures { result ≡ (if (now self.now).dead then 0 else length (queue_of d (now self.now))) }
-    {
-        if self.dead {
-            return 0;
-        }
-        self.state.queued(d)
+        let done = self.state.slice(pid);
+        let entry = Entry {
+            party,
+            event: Event::Slice { pid },
+        };
+        self.past.conclude(entry, done)
     }
 
     /// The first bytes of a connection's queue leave it, as many as are there and fit; answers how many, and 0 exactly
@@ -331,14 +275,16 @@ impl World {
         ensures bytes { take result buf.new ≡ take result (queue_of d (now self.old)) }
         ensures step { self.new ≡ (if nat_lt 0 result then entered self.old (by_porter (Event.Take d result)) else self.old) }
     {
-        if self.ready_bytes(d) == 0 || buf.is_empty() {
+        if self.past.dead {
             return 0;
         }
         let n = self.state.take(d, buf);
-        self.tale.tell(&Entry {
-            party: 0,
-            event: Event::Take { d, n },
-        });
+        if n > 0 {
+            self.past.enter(Entry {
+                party: 0,
+                event: Event::Take { d, n },
+            });
+        }
         n
     }
 
@@ -349,18 +295,28 @@ impl World {
         self.state.is_stopping()
     }
 
+    // The connection of that number. On a dead world nothing is said of the answer.
+    fn connection(&self, d: u32) -> Option<&Connection>
+        ensures { (now self.now).dead ≡ false → option_copied result ≡ connection d (now self.now) }
+    {
+        self.state.board().connection(d)
+    }
+
     /// Whether the connection is there. On a dead world nothing is said of the answer.
     pub fn connected(&self, d: u32) -> bool
         ensures { (now self.now).dead ≡ false → result ≡ is_some (connection d (now self.now)) }
     {
-        self.state.is_connected(d)
+        self.connection(d).is_some()
     }
 
     /// Whether the connection is there and is leaving. On a dead world nothing is said of the answer.
     pub fn leaving(&self, d: u32) -> bool
         ensures { (now self.now).dead ≡ false → result ≡ is_leaving d (now self.now) }
     {
-        self.state.is_leaving(d)
+        match self.connection(d) {
+            Some(c) => c.is_leaving(),
+            None => false,
+        }
     }
 
     /// The count of lines that wait on the connection, and 0 where it isn't there. On a dead world nothing is said of
@@ -368,7 +324,10 @@ impl World {
     pub fn waiting(&self, d: u32) -> usize
         ensures { (now self.now).dead ≡ false → result ≡ option_map_or (λ c. length c.waiting) (connection d (now self.now)) 0 }
     {
-        self.state.waiting(d)
+        match self.connection(d) {
+            Some(c) => c.waiting(),
+            None => 0,
+        }
     }
 
     /// The count of bytes that wait to be sent to the connection, and 0 where it isn't there. On a dead world only the
@@ -377,6 +336,9 @@ impl World {
         ensures count { (now self.now).dead ≡ false → result ≡ length (queue_of d (now self.now)) }
         ensures most { result ≤ 131090 }
     {
-        self.state.queued(d)
+        match self.connection(d) {
+            Some(c) => c.queued(),
+            None => 0,
+        }
     }
 }

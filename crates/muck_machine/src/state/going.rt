@@ -1,8 +1,7 @@
 // Connections that go.
-ghost use Rattle.std.specs.Prelude.{◌≡◌, OnOk, Bool, ℕ};
-ghost use Rattle.std.specs.List.{list_any};
+ghost use Rattle.std.specs.Prelude.{◌≡◌, OnOk};
 ghost use Rattle.muck_model.specs.declared.event.Event.{Event};
-ghost use Rattle.muck_live.specs.Connections.{is_of};
+ghost use Rattle.muck_live.specs.Boards.{player_in};
 ghost use Rattle.muck_event.specs.World.{on_live};
 ghost use Rattle.muck_event.specs.Steps.{happened};
 ghost use Rattle.muck_world.specs.Talk.{parted};
@@ -19,11 +18,18 @@ impl State {
     pub fn close(&mut self, d: u32) -> Result<(), NoMemory>
         ensures { OnOk result (self.new ≡ happened self.old 0 (Event.Closed d)) }
     {
-        let player = self.board.player(d);
+        let player = self.player_of(d);
         self.board.close(d);
         self.part(player)?;
         self.queue.end_tied(d);
         Ok(())
+    }
+
+    // The player of a connection, once it has one.
+    fn player_of(&self, d: u32) -> Option<Dbref>
+        ensures { result ≡ player_in d self.now.live.board }
+    {
+        self.board.connection(d)?.player()
     }
 
     // The others where a player is see that its last connection has gone.
@@ -34,20 +40,12 @@ impl State {
         let Some(player) = player else {
             return Ok(());
         };
-        if self.is_in(player) {
+        if self.board.is_in(player) {
             return Ok(());
         }
         let actor = actor_of(&self.db, player);
         let mut guard = Guard::new(self.alloc, &mut self.db, &mut self.board, actor);
         show_others(&mut guard, player, b" has disconnected.")?;
         Ok(())
-    }
-
-    // Whether a player is connected.
-    #[tactic(auto, using(crate::proofs::Counts::any_counted))]
-    fn is_in(&self, player: Dbref) -> bool
-        ensures { result ≡ list_any (is_of player) self.now.live.board.connections }
-    {
-        self.board.connections_of(player) > 0
     }
 }

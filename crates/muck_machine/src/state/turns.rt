@@ -1,12 +1,12 @@
 // What a turn chooses.
-ghost use Rattle.std.specs.Prelude.{◌≡◌, find, None, if◌then◌else◌, slice_get};
-ghost use Rattle.std.specs.Option.{option_map, option_map_or, option_and_then};
+ghost use Rattle.std.specs.Prelude.{◌≡◌, find, None, option_copied, if◌then◌else◌};
+ghost use Rattle.std.specs.Option.{option_map, option_map_or};
 ghost use Rattle.muck_model.specs.declared.event.Event.{Event};
 ghost use Rattle.muck_queue.specs.Queues.{next_due};
 ghost use Rattle.muck_event.specs.Steps.{is_free, happened};
-ghost use Rattle.muck_machine.specs.Followed.{free_number};
 
 use crate::state::State;
+use muck_board::Connection;
 
 impl State {
     /// The lowest connection with a line that may be done and no process tied to it, where the run doesn't stop. It goes
@@ -17,30 +17,21 @@ impl State {
         if self.stopping {
             return None;
         }
-        self.first_free()
-    }
-
-    // The connection at a place of their list, where a line waits on it that may be done and no process is tied to it.
-    fn free_at(&self, at: usize) -> Option<u32>
-        ensures { result ≡ option_and_then (free_number self.now) (slice_get self.now.live.board.connections at) }
-    {
-        let d = self.board.ready_at(at)?;
-        if self.queue.is_tied(d) {
-            return None;
-        }
-        Some(d)
+        Some(self.first_free()?.number())
     }
 
     // The lowest connection with a line that may be done and no process tied to it.
-    fn first_free(&self) -> Option<u32>
-        ensures { result ≡ option_map (λ c. c.number) (find (is_free self.now) self.now.live.board.connections) }
+    fn first_free(&self) -> Option<&Connection>
+        ensures { option_copied result ≡ find (is_free self.now) self.now.live.board.connections }
     {
-        for at in 0..self.board.count() {
-            if let Some(d) = self.free_at(at) {
-                return Some(d);
-            }
-        }
-        None
+        self.board.connections().iter().find(|c| self.is_free(c))
+    }
+
+    // Whether a line waits on a connection that may be done, and no process is tied to it.
+    fn is_free(&self, connection: &Connection) -> bool
+        ensures { result ≡ is_free self.now connection.now }
+    {
+        connection.is_ready() && !self.queue.is_tied(connection.number())
     }
 
     /// The process that is to go on next is claimed by a party, where the run doesn't stop; answers its number, and where

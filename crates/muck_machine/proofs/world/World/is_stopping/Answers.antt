@@ -2,4 +2,4 @@ use Rattle.muck_machine.proofs.Keepings.{reads}
 use Rattle.muck_machine.proofs.world.World.is_stopping.Goals as goal
 
 pub returns : goal.returns
-returns c = reads (λ w. w.stopping) _ c.self.inside.origin c.self.inside.tale _ _ _ c.self.invariant c.self.view_is c.is_stopping.ensures
+returns c = reads (λ w. w.stopping) _ c.self.inside.past _ _ c.self.invariant c.self.view_is c.is_stopping.ensures

@@ -1,0 +1,25 @@
+-- No bytes are taken.
+use Rattle.std.proofs.Common.{◌≡◌, ℕ, ◌≤◌, List, [], ◌∷◌, refl, ◌∙◌, ap, arith}
+use Rattle.std.proofs.lemmas.Bool.{cond_both}
+use Rattle.muck_model.specs.declared.event.Event.TheVariants.{Take}
+use Rattle.muck_live.specs.Output.{taken}
+use Rattle.muck_live.specs.Connections.{Connection, has_number, changed_in}
+use Rattle.muck_live.specs.Boards.{bytes_taken, with_connections}
+use Rattle.muck_board.proofs.Outputs.{taken_rest}
+use Rattle.muck_event.specs.World.{World}
+use Rattle.muck_event.specs.Steps.{happened}
+
+none_in : (d : ℕ) (cs : List Connection) → changed_in d (λ c. record c { output = taken 0 c.output }) cs ≡ cs
+none_in d [] = refl
+none_in d (c ∷ cs) =
+    let f : Connection → Connection = λ x. record x { output = taken 0 x.output } in
+    cond_both (has_number d c) (f c ∷ cs) (c ∷ changed_in d f cs) (λ l. l ≡ c ∷ cs)
+    (λ e. ap (λ o. record c { output = o } ∷ cs) (taken_rest 0 c.output (omega arith)))
+    (λ e. ap (λ l. c ∷ l) (none_in d cs))
+
+-- and the world is as before
+pub none_taken : (d n : ℕ) (w : World) → n ≤ 0 → happened w 0 (Take d n) ≡ w
+unfolding bytes_taken
+none_taken d n w h =
+    let none : n ≡ 0 = omega arith in
+    ap (λ m. happened w 0 (Take d m)) none ∙ ap (λ cs. record w { live = record w.live { board = with_connections cs w.live.board } }) (none_in d w.live.board.connections)
