@@ -1,4 +1,3 @@
-pub mod Outcomes
 pub mod Keepings
 pub mod Turns
 pub mod Settling

@@ -8,19 +8,17 @@ ghost use Rattle.muck_event.specs.Steps.{is_allowed, happened};
 mod deeds;
 mod editing;
 mod following;
-mod going;
 mod lines;
-mod login;
 mod slices;
 mod starting;
 mod turns;
 
-use login::WELCOME;
 use muck_board::Board;
 use muck_db::Db;
 use muck_model::{Line, NoMemory, Tune};
 use muck_program::Library;
 use muck_queue::Queue;
+use muck_session::Live;
 use std::alloc::Global;
 use std::marker::Model;
 
@@ -30,9 +28,7 @@ const CONNECTIONS_MOST: usize = 256;
 /// The objects, who is connected, the built forms of programs, the processes, the moment, and whether the run stops.
 #[derive(Drop)]
 pub struct State {
-    alloc: Global,
-    db: Db,
-    board: Board,
+    live: Live,
     library: Library,
     queue: Queue,
     moment: u64,
@@ -41,6 +37,7 @@ pub struct State {
 
 impl Model for State {
     ghost use Rattle.muck_event.specs.World.{World, no_dumps};
+    ghost use Rattle.muck_session.specs.Lives.{world_of};
     ghost use Rattle.std.specs.Prelude.{false};
 
     ghost Value = { World };
@@ -52,7 +49,7 @@ impl Model for State {
 
     ghost coded = { Prim.hlevel (codes, props.the_row.coded, lock.the_row.coded, datum_code, block_code, end_code) };
 
-    ghost view = { λ s. record { live = record { objects = s.db; board = s.board }; library = s.library; queue = s.queue; moment = s.moment; dumps = no_dumps s.moment; stopping = s.stopping; dead = false } };
+    ghost view = { λ s. record { live = world_of s.live; library = s.library; queue = s.queue; moment = s.moment; dumps = no_dumps s.moment; stopping = s.stopping; dead = false } };
 }
 
 impl State {
@@ -62,9 +59,11 @@ impl State {
         ensures { result ≡ booted db tune moment start }
     {
         State {
-            alloc,
-            db,
-            board: Board::new(alloc, start, tune),
+            live: Live {
+                alloc,
+                db,
+                board: Board::new(alloc, start, tune),
+            },
             library: Library::new(alloc),
             queue: Queue::new(alloc),
             moment,
@@ -82,33 +81,42 @@ impl State {
     pub fn board(&self) -> &Board
         ensures { result.now ≡ self.now.live.board }
     {
-        &self.board
+        &self.live.board
     }
 
     /// Whether a connection of this number may come.
     pub fn may_open(&self, d: u32) -> bool
         ensures { result ≡ is_allowed self.now 0 (Event.Opened d) }
     {
-        let connections = self.board.connections();
-        self.board.connection(d).is_none() && connections.len() < CONNECTIONS_MOST && !self.stopping
+        let connections = self.live.board.connections();
+        self.live.board.connection(d).is_none()
+            && connections.len() < CONNECTIONS_MOST
+            && !self.stopping
     }
 
     /// Whether a line may come on this connection.
     pub fn may_take_line(&self, d: u32) -> bool
         ensures { (line : List ℕ) → result ≡ is_allowed self.now 0 (Event.Input d line) }
     {
-        match self.board.connection(d) {
+        match self.live.board.connection(d) {
             Some(c) => c.takes_line() && !self.stopping,
             None => false,
         }
     }
 
     /// A connection comes.
-    #[tactic(auto, unfolding(muck_world::specs::Talk::welcome))]
     pub fn open(&mut self, d: u32) -> Result<(), NoMemory>
         ensures { OnOk result (self.new ≡ happened self.old 0 (Event.Opened d)) }
     {
-        self.board.open(d, WELCOME)?;
+        self.live.open(d)
+    }
+
+    /// A connection goes, and the processes that are tied to it end.
+    pub fn close(&mut self, d: u32) -> Result<(), NoMemory>
+        ensures { OnOk result (self.new ≡ happened self.old 0 (Event.Closed d)) }
+    {
+        self.live.close(d)?;
+        self.queue.end_tied(d);
         Ok(())
     }
 
@@ -116,7 +124,7 @@ impl State {
     pub fn add_line(&mut self, d: u32, line: Line) -> Result<(), NoMemory>
         ensures { OnOk result (self.new ≡ happened self.old 0 (Event.Input d line)) }
     {
-        self.board.add_line(d, line)?;
+        self.live.board.add_line(d, line)?;
         Ok(())
     }
 
@@ -126,7 +134,7 @@ impl State {
         ensures bytes { take result buf.new ≡ take result (queue_of d self.old) }
         ensures step { self.new ≡ happened self.old 0 (Event.Take d result) }
     {
-        self.board.take(d, buf)
+        self.live.board.take(d, buf)
     }
 
     /// The run stops.
@@ -140,7 +148,7 @@ impl State {
     fn tell(&mut self, d: u32, text: &[u8]) -> Result<(), NoMemory>
         ensures { OnOk result (self.new ≡ on_live (tell d text.now) self.old) }
     {
-        self.board.tell(d, text)?;
+        self.live.board.tell(d, text)?;
         Ok(())
     }
 }

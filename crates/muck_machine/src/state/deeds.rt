@@ -110,7 +110,7 @@ impl State {
     {
         match self.call(agent, &running) {
             Ok(entrance) => {
-                let next = enter(self.alloc, running, entrance)?;
+                let next = enter(self.live.alloc, running, entrance)?;
                 Ok(Done::Does(next))
             }
             Err(DeedFault::Fault(fault)) => Ok(Done::Fails(running, fault)),
@@ -132,7 +132,7 @@ impl State {
         };
         self.find(player)?;
         self.permit(&actor, &Act::Near { object: player })?;
-        self.board.tell_player(player, text.as_slice())?;
+        self.live.board.tell_player(player, text.as_slice())?;
         Ok(())
     }
 
@@ -170,10 +170,13 @@ impl State {
             name,
             items,
         } = asked;
-        let Some(code) = self.library.formed(self.alloc, &self.db, program)? else {
+        let Some(code) = self
+            .library
+            .formed(self.live.alloc, &self.live.db, program)?
+        else {
             return Err(DeedFault::Fault(MufFault::NotCompiled));
         };
-        let Some(word) = called_word(self.alloc, code.get(), name, actor)? else {
+        let Some(word) = called_word(self.live.alloc, code.get(), name, actor)? else {
             return Err(DeedFault::Fault(MufFault::NotPublic));
         };
         if running.calls() + 1 >= CALLS_MOST {
@@ -194,10 +197,10 @@ impl State {
     {
         let Agent { player, trigger } = agent;
         let program = running.program();
-        let callers = running.callers(self.alloc)?;
+        let callers = running.callers(self.live.alloc)?;
         Ok(Actor {
-            level: level(&self.db, program, callers.as_slice()),
-            user: user(&self.db, player, trigger, program, callers.as_slice()),
+            level: level(&self.live.db, program, callers.as_slice()),
+            user: user(&self.live.db, player, trigger, program, callers.as_slice()),
             player,
         })
     }
@@ -206,7 +209,7 @@ impl State {
     fn permit(&self, actor: &Actor, act: &Act) -> Result<(), MufFault>
         ensures { Permits (verdict self.now.live.objects actor.now act.now) result }
     {
-        match verdict(&self.db, actor, act) {
+        match verdict(&self.live.db, actor, act) {
             Ok(_) => Ok(()),
             Err(denial) => Err(MufFault::Denied(denial.rule)),
         }
@@ -216,7 +219,7 @@ impl State {
     fn find(&self, d: Dbref) -> Result<(), MufFault>
         ensures { MatchResult result (λ _. is_some (object_at d self.now.live.objects) ≡ true) (λ f. (is_some (object_at d self.now.live.objects) ≡ false) × (f ≡ MufFault.NoSuchObject)) }
     {
-        match self.db.get(d) {
+        match self.live.db.get(d) {
             Some(_) => Ok(()),
             None => Err(MufFault::NoSuchObject),
         }
@@ -226,7 +229,7 @@ impl State {
     fn find_program(&self, d: Dbref) -> Result<(), MufFault>
         ensures { MatchResult result (λ _. option_map_or (λ o. is_program o.kind) (object_at d self.now.live.objects) false ≡ true) (λ f. (option_map_or (λ o. is_program o.kind) (object_at d self.now.live.objects) false ≡ false) × (f ≡ MufFault.BadType)) }
     {
-        match self.db.get(d) {
+        match self.live.db.get(d) {
             Some(object) if matches!(object.kind(), Kind::Program) => Ok(()),
             _ => Err(MufFault::BadType),
         }

@@ -1,18 +1,15 @@
 // Lines of the editor.
-ghost use Rattle.std.specs.Prelude.{◌≡◌, OnOk, IfOk};
+ghost use Rattle.std.specs.Prelude.{◌≡◌, OnOk};
 ghost use Rattle.muck_model.specs.declared.edit.EditState.{EditState};
 ghost use Rattle.muck_live.specs.Lives.{tell};
-ghost use Rattle.muck_world.specs.Finding.{actor_of};
-ghost use Rattle.muck_world.specs.Editing.{IsOpen, is_open, edited};
+ghost use Rattle.muck_world.specs.Editing.{IsOpen};
 ghost use Rattle.muck_event.specs.World.{on_live};
 ghost use Rattle.muck_event.specs.Lines.{with_editor, next_editor, flaw_text, compiled, edited_line, in_editor};
 
-use crate::commands::actor_of;
 use crate::state::State;
-use muck_edit::{EditStep, Editor, is_open};
+use muck_edit::{EditStep, Editor};
 use muck_event::flaw_text;
 use muck_model::{Dbref, EditState, Line, NoMemory};
-use muck_perm::Guard;
 use muck_program::Flaw;
 
 impl State {
@@ -28,20 +25,10 @@ impl State {
     ) -> Result<(), NoMemory>
         ensures { OnOk result (self.new ≡ in_editor d player state line.now self.old) }
     {
-        if !self.is_open(player, &state) {
+        if !self.live.is_open(player, &state) {
             return self.tell(d, b"Editor exited.");
         }
         self.edit_line(d, player, state, line)
-    }
-
-    // Whether an editor is open.
-    fn is_open(&mut self, player: Dbref, state: &EditState) -> bool
-        ensures answer { result ≡ is_open state.now self.old.live }
-        ensures same { self.new ≡ self.old }
-    {
-        let actor = actor_of(&self.db, player);
-        let guard = Guard::new(self.alloc, &mut self.db, &mut self.board, actor);
-        is_open(&guard, state)
     }
 
     // A line of an editor that is open.
@@ -58,7 +45,7 @@ impl State {
     {
         let program = state.program;
         let mut editor = Editor { state };
-        let step = self.edit(&mut editor, d, player, line)?;
+        let step = self.live.edit(&mut editor, d, player, line)?;
         self.keep_editor(d, editor, step);
         self.settle();
         match step {
@@ -67,32 +54,13 @@ impl State {
         }
     }
 
-    // The editor takes the line.
-    fn edit(
-        &mut self,
-        editor: &mut Editor,
-        d: u32,
-        player: Dbref,
-        line: &Line,
-    ) -> Result<EditStep, NoMemory>
-        requires { IsOpen editor.old.state self.old.live }
-        ensures world { OnOk result (self.new ≡ record self.old { live = (edited d (actor_of self.old.live.objects player) editor.old.state line.now self.old.live).0 }) }
-        ensures state { OnOk result (editor.new.state ≡ (edited d (actor_of self.old.live.objects player) editor.old.state line.now self.old.live).1) }
-        ensures step { IfOk result (λ step. step ≡ (edited d (actor_of self.old.live.objects player) editor.old.state line.now self.old.live).2) }
-    {
-        let actor = actor_of(&self.db, player);
-        let mut guard = Guard::new(self.alloc, &mut self.db, &mut self.board, actor);
-        let step = editor.line(&mut guard, d, line)?;
-        Ok(step)
-    }
-
     // The editor goes back to its connection, unless it was left.
     fn keep_editor(&mut self, d: u32, editor: Editor, step: EditStep)
         ensures { self.new ≡ on_live (with_editor d (next_editor step editor.state)) self.old }
     {
         match step {
-            EditStep::Left => self.board.set_editor(d, None),
-            EditStep::Stay | EditStep::Compile => self.board.set_editor(d, Some(editor.state)),
+            EditStep::Left => self.live.board.set_editor(d, None),
+            EditStep::Stay | EditStep::Compile => self.live.board.set_editor(d, Some(editor.state)),
         }
     }
 
@@ -101,7 +69,10 @@ impl State {
     fn compile(&mut self, d: u32, program: Dbref) -> Result<(), NoMemory>
         ensures { OnOk result (self.new ≡ compiled d program self.old) }
     {
-        match self.library.rebuild(self.alloc, &self.db, program)? {
+        match self
+            .library
+            .rebuild(self.live.alloc, &self.live.db, program)?
+        {
             None => self.tell(d, b"Compiler done."),
             Some(flaw) => self.tell_flaw(d, flaw),
         }
@@ -111,7 +82,7 @@ impl State {
     fn tell_flaw(&mut self, d: u32, flaw: Flaw) -> Result<(), NoMemory>
         ensures { OnOk result (self.new ≡ on_live (tell d (flaw_text flaw)) self.old) }
     {
-        let text = flaw_text(self.alloc, flaw)?;
+        let text = flaw_text(self.live.alloc, flaw)?;
         self.tell(d, text.as_slice())
     }
 }

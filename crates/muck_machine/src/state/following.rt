@@ -14,7 +14,7 @@ impl State {
     pub fn settle(&mut self)
         ensures { self.new ≡ settled self.old }
     {
-        while let Some(changed) = self.db.next_changed() {
+        while let Some(changed) = self.live.db.next_changed() {
             self.follow(changed);
         }
     }
@@ -28,7 +28,7 @@ impl State {
             Changed::Gone(object) => {
                 self.unbuild(object);
                 self.queue.clear_trigger(object);
-                self.board.close_editors(object);
+                self.live.board.close_editors(object);
             }
         }
     }

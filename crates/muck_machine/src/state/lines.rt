@@ -2,18 +2,14 @@
 ghost use Rattle.std.specs.Prelude.{◌≡◌, IfOk, OnOk, Some};
 ghost use Rattle.muck_model.specs.declared.event.Event.{Event};
 ghost use Rattle.muck_live.specs.Boards.{editor_in};
-ghost use Rattle.muck_world.specs.Finding.{actor_of};
-ghost use Rattle.muck_world.specs.Commands.{played};
 ghost use Rattle.muck_event.specs.Lines.{command, followed_up, in_world, with_editor, editor_on};
 ghost use Rattle.muck_event.specs.Steps.{happened};
 ghost use Rattle.muck_event.specs.World.{on_live};
 
-use crate::commands::{actor_of, play};
 use crate::state::State;
 use cmd_parts::copy_lines;
 use muck_event::Call;
 use muck_model::{Dbref, EditState, Line, LineList, NoMemory};
-use muck_perm::Guard;
 use muck_world::Outcome;
 
 impl State {
@@ -21,9 +17,9 @@ impl State {
     pub fn do_line(&mut self, d: u32) -> Result<(), NoMemory>
         ensures { OnOk result (self.new ≡ happened self.old 0 (Event.Exec d)) }
     {
-        match self.board.take_line(d) {
+        match self.live.board.take_line(d) {
             None => Ok(()),
-            Some((None, line)) => self.at_login(d, line.as_slice()),
+            Some((None, line)) => self.live.at_login(d, line.as_slice()),
             Some((Some(player), line)) => self.obey(d, player, &line),
         }
     }
@@ -32,7 +28,7 @@ impl State {
     fn obey(&mut self, d: u32, player: Dbref, line: &Line) -> Result<(), NoMemory>
         ensures { OnOk result (self.new ≡ command (Some player) (editor_in d self.old.live.board) d line.now self.old) }
     {
-        match self.board.take_editor(d) {
+        match self.live.board.take_editor(d) {
             Some(state) => self.in_editor(d, player, state, line),
             None => self.in_world(d, player, line),
         }
@@ -43,20 +39,9 @@ impl State {
     pub fn in_world(&mut self, d: u32, player: Dbref, line: &Line) -> Result<(), NoMemory>
         ensures { OnOk result (self.new ≡ in_world d player line.now self.old) }
     {
-        let outcome = self.play(d, player, line)?;
+        let outcome = self.live.play(d, player, line)?;
         self.settle();
         self.follow_up(d, player, outcome)
-    }
-
-    // Does the line, and answers what is to follow.
-    fn play(&mut self, d: u32, player: Dbref, line: &Line) -> Result<Outcome, NoMemory>
-        ensures world { OnOk result (self.new ≡ record self.old { live = (played d (actor_of self.old.live.objects player) line.now self.old.live).0 }) }
-        ensures outcome { IfOk result (λ outcome. outcome ≡ (played d (actor_of self.old.live.objects player) line.now self.old.live).1) }
-    {
-        let actor = actor_of(&self.db, player);
-        let mut guard = Guard::new(self.alloc, &mut self.db, &mut self.board, actor);
-        let outcome = play(&mut guard, d, line)?;
-        Ok(outcome)
     }
 
     // Does what is to follow a command.
@@ -66,7 +51,7 @@ impl State {
     {
         match outcome {
             Outcome::Leave => {
-                self.board.leave(d);
+                self.live.board.leave(d);
                 Ok(())
             }
             Outcome::Edit(program) => self.open_editor(d, program),
@@ -76,7 +61,7 @@ impl State {
                 command,
                 arg,
             } => {
-                let actor = actor_of(&self.db, player);
+                let actor = self.live.actor_of(player);
                 let call = Call {
                     player,
                     program,
@@ -101,7 +86,7 @@ impl State {
             lines,
             inserting: None,
         };
-        self.board.set_editor(d, Some(state));
+        self.live.board.set_editor(d, Some(state));
         Ok(())
     }
 
@@ -109,9 +94,9 @@ impl State {
     fn source_of(&self, program: Dbref) -> Result<LineList, NoMemory>
         ensures { IfOk result (λ lines. lines ≡ (editor_on program self.now.live).lines) }
     {
-        match self.db.get(program) {
-            Some(object) => copy_lines(self.alloc, object.lines()),
-            None => LineList::new(self.alloc),
+        match self.live.db.get(program) {
+            Some(object) => copy_lines(self.live.alloc, object.lines()),
+            None => LineList::new(self.live.alloc),
         }
     }
 }

@@ -49,7 +49,7 @@ impl State {
         ensures { OnOk result (self.new ≡ ran process self.old) }
     {
         let agent = Agent::of(&process);
-        let limit = self.board.tune().m2_units;
+        let limit = self.live.board.tune().m2_units;
         let ending = self.run_on(agent, process.running, limit)?;
         self.show_ending(agent.player, ending)
     }
@@ -82,7 +82,7 @@ impl State {
         ensures { IfOk result (λ stop. Stops (deed agent) left running self.old self.new stop) }
     {
         let program = running.program();
-        let Stint { ran, units } = running.run(self.alloc, left)?;
+        let Stint { ran, units } = running.run(self.live.alloc, left)?;
         match ran {
             Ran::Going(next) => Ok(Stop::On(next, left - units)),
             Ran::Asking(prim, at) => self.ask(agent, prim, at, left - units - 1),
@@ -103,7 +103,7 @@ impl State {
         ensures { IfOk result (λ stop. Stops (deed agent) (suc left) running self.old self.new stop) }
     {
         let done = self.do_deed(agent, prim, running)?;
-        after_deed(self.alloc, done, left)
+        after_deed(self.live.alloc, done, left)
     }
 
     // The player of a process is told of the fault that ended it.
@@ -114,8 +114,8 @@ impl State {
         match ending {
             Ending::Over => Ok(()),
             Ending::Broke { program, fault } => {
-                let text = error_text(self.alloc, program, &fault)?;
-                self.board.tell_player(player, text.as_slice())?;
+                let text = error_text(self.live.alloc, program, &fault)?;
+                self.live.board.tell_player(player, text.as_slice())?;
                 Ok(())
             }
         }

@@ -1,18 +1,15 @@
 // Programs that are started.
 ghost use Rattle.std.specs.Prelude.{◌≡◌, OnOk, Some};
 ghost use Rattle.muck_live.specs.Lives.{place_at};
-ghost use Rattle.muck_rights.specs.Asking.{refused};
 ghost use Rattle.muf_model.specs.Decode.{tree_of};
 ghost use Rattle.muf_model.specs.Stands.{TreeStands};
 ghost use Rattle.muck_program.specs.Library.{formed};
-ghost use Rattle.muck_event.specs.World.{on_live};
 ghost use Rattle.muck_event.specs.Starting.{joined, form_started, built_started, launched};
 
 use crate::state::State;
-use cmd_parts::refuse;
 use muck_event::Call;
-use muck_model::{Dbref, Denial, NoMemory};
-use muck_perm::{Guard, verdict};
+use muck_model::{Dbref, NoMemory};
+use muck_perm::verdict;
 use muck_queue::{Mode, Process, QueueFault};
 use muck_rights::{Act, Actor};
 use muf_model::{Code, Shared};
@@ -28,19 +25,10 @@ impl State {
         let act = Act::Start {
             program: call.program,
         };
-        match verdict(&self.db, &actor, &act) {
-            Err(denial) => self.refuse(d, actor, denial),
+        match verdict(&self.live.db, &actor, &act) {
+            Err(denial) => self.live.refuse(d, actor, denial),
             Ok(_) => self.start(d, call),
         }
-    }
-
-    // A rule denies what was asked, and the connection is told which.
-    fn refuse(&mut self, d: u32, actor: Actor, denial: Denial) -> Result<(), NoMemory>
-        ensures { OnOk result (self.new ≡ on_live (refused d denial) self.old) }
-    {
-        let mut guard = Guard::new(self.alloc, &mut self.db, &mut self.board, actor);
-        refuse(&mut guard, d, denial)?;
-        Ok(())
     }
 
     // Starts a program from its built form, which is made where it isn't there yet.
@@ -48,7 +36,10 @@ impl State {
     fn start(&mut self, d: u32, call: Call) -> Result<(), NoMemory>
         ensures { OnOk result (self.new ≡ built_started d call (formed self.old.live.objects call.program self.old.library) self.old) }
     {
-        match self.library.formed(self.alloc, &self.db, call.program)? {
+        match self
+            .library
+            .formed(self.live.alloc, &self.live.db, call.program)?
+        {
             None => self.tell(d, b"Program not compiled."),
             Some(code) => self.begin(d, call, code),
         }
@@ -58,7 +49,7 @@ impl State {
     fn place_of(&self, x: Dbref) -> Dbref
         ensures { result ≡ place_at x self.now.live }
     {
-        match self.db.get(x) {
+        match self.live.db.get(x) {
             Some(object) => object.place(),
             None => Dbref(-1),
         }
@@ -81,9 +72,9 @@ impl State {
             player,
             place: self.place_of(player),
             trigger,
-            command: command.copy(self.alloc)?,
+            command: command.copy(self.live.alloc)?,
         };
-        match Running::begin(self.alloc, program, code, occasion, argument)? {
+        match Running::begin(self.live.alloc, program, code, occasion, argument)? {
             None => self.tell(d, b"Program not compiled."),
             Some(running) => self.join(
                 d,
@@ -107,7 +98,7 @@ impl State {
     fn join(&mut self, d: u32, process: Process) -> Result<(), NoMemory>
         ensures { OnOk result (self.new ≡ joined d process self.old) }
     {
-        let tune = self.board.tune();
+        let tune = self.live.board.tune();
         match self.queue.add(process, &tune) {
             Ok(_) => Ok(()),
             Err(QueueFault::ProcessLimit) => self.tell(d, b"Too many processes."),

@@ -24,7 +24,11 @@ impl State {
     fn first_free(&self) -> Option<&Connection>
         ensures { option_copied result ≡ find (is_free self.now) self.now.live.board.connections }
     {
-        self.board.connections().iter().find(|c| self.is_free(c))
+        self.live
+            .board
+            .connections()
+            .iter()
+            .find(|c| self.is_free(c))
     }
 
     // Whether a line waits on a connection that may be done, and no process is tied to it.

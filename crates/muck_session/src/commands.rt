@@ -1,34 +1,35 @@
 // All commands, on a world that is lent to a player.
-ghost use Rattle.std.specs.Prelude.{◌≡◌};
+ghost use Rattle.std.specs.Prelude.{◌≡◌, OnOk, IfOk};
 ghost use Rattle.muck_live.specs.Lives.{tell};
 ghost use Rattle.muck_world.specs.Finding.{actor_of};
 ghost use Rattle.muck_world.specs.Replies.{huh};
 ghost use Rattle.muck_world.specs.Going.{ended};
 ghost use Rattle.muck_world.specs.Commands.{build_line, or_else, commanded, begins_with_sign, played};
 ghost use Rattle.cmd_parts.specs.Plays.{Plays};
+ghost use Rattle.muck_session.specs.Lives.{world_of};
 
-use muck_db::Db;
+use crate::live::Live;
 use muck_match::exit_for;
 use muck_model::{Dbref, Line, NoMemory};
-use muck_perm::{Guard, command_level};
-use muck_rights::Actor;
+use muck_perm::Guard;
 use muck_world::Outcome;
 
-/// A player acts by its own rights.
-#[tactic(auto, unfolding(muck_world::specs::Finding::actor_of))]
-pub fn actor_of(db: &Db, player: Dbref) -> Actor
-    ensures { result ≡ actor_of db.now player }
-{
-    Actor {
-        level: command_level(db, player),
-        user: player,
-        player,
+impl Live {
+    /// Does a command of a player, and answers what is to follow it.
+    pub fn play(&mut self, d: u32, player: Dbref, line: &Line) -> Result<Outcome, NoMemory>
+        ensures world { OnOk result (world_of self.new ≡ (played d (actor_of self.old.db player) line.now (world_of self.old)).0) }
+        ensures outcome { IfOk result (λ outcome. outcome ≡ (played d (actor_of self.old.db player) line.now (world_of self.old)).1) }
+    {
+        let actor = self.actor_of(player);
+        let mut guard = Guard::new(self.alloc, &mut self.db, &mut self.board, actor);
+        let outcome = play(&mut guard, d, line)?;
+        Ok(outcome)
     }
 }
 
-/// Does a line: saying and posing come first, then exits, then commands.
+// Does a line: saying and posing come first, then exits, then commands.
 #[tactic(auto, unfolding(muck_world::specs::Commands::played, muck_live::specs::Lives::reading))]
-pub fn play(guard: &mut Guard, d: u32, line: &Line) -> Result<Outcome, NoMemory>
+fn play(guard: &mut Guard, d: u32, line: &Line) -> Result<Outcome, NoMemory>
     ensures { Plays (played d guard.old.actor line.now) guard.old guard.new result }
 {
     if begins_with_sign(line) {
