@@ -52,8 +52,8 @@ fn part(text: &mut Vec<u8>, bytes: &[u8]) -> Result<(), NoMemory> {
 }
 
 // A copy of these bytes.
-fn owned(alloc: Global, bytes: &[u8]) -> Result<Vec<u8>, NoMemory> {
-    Ok(bytes.to_vec(alloc)?)
+fn owned(alloc: Global, word: &[u8]) -> Result<Vec<u8>, NoMemory> {
+    Ok(word.to_vec(alloc)?)
 }
 
 // The text of these bytes. Rows have only texts; other bytes would end the program.
