@@ -5,7 +5,7 @@ use muck_board::Board;
 use muck_db::{Db, DbFault};
 use muck_model::{Dbref, Kind, Line, Tune};
 use muck_perm::Guard;
-use muck_rights::Actor;
+use spec_rights::Actor;
 use std::alloc::Global;
 
 const ROOM_ZERO: Dbref = Dbref(0);

@@ -4,23 +4,23 @@ use Rattle.std.specs.Prelude.{OnOk}
 use Rattle.muck_model.specs.declared.dbref.Dbref.{Dbref}
 use Rattle.muck_model.specs.declared.dbref.Kind.TheVariants.{Program}
 use Rattle.muck_model.specs.declared.memory.NoMemory.{NoMemory}
-use Rattle.muck_live.specs.declared.fault.DbFault.{DbFault}
-use Rattle.muck_live.specs.declared.fault.DbFault.TheVariants.{NoSuchObject, WouldLoop, WrongKind, WorldFull, NoMemory as WantsMemory}
-use Rattle.muck_live.specs.Making.{create_check}
-use Rattle.muck_live.specs.Setting.{with_level}
-use Rattle.muck_live.specs.Lives.{Change, followed, ◌▸◌, reading, tell}
-use Rattle.muck_rights.specs.declared.act.Actor.{Actor}
-use Rattle.muck_rights.specs.Levels.{number_of}
-use Rattle.muck_rights.specs.Changing.{created_so}
-use Rattle.muck_world.specs.declared.outcome.Outcome.{Outcome}
-use Rattle.muck_world.specs.declared.outcome.Outcome.TheVariants.{Edit}
-use Rattle.muck_world.specs.Replies.{cant_be_done, entering_editor}
-use Rattle.muck_world.specs.Going.{Play, ended}
-use Rattle.muck_world.specs.Building.{created_shown}
-use Rattle.muck_world.specs.Programming.{over, first_level, program_put, program_at, program_new}
+use Rattle.spec_live.specs.declared.fault.DbFault.{DbFault}
+use Rattle.spec_live.specs.declared.fault.DbFault.TheVariants.{NoSuchObject, WouldLoop, WrongKind, WorldFull, NoMemory as WantsMemory}
+use Rattle.spec_live.specs.Making.{create_check}
+use Rattle.spec_live.specs.Setting.{with_level}
+use Rattle.spec_live.specs.Lives.{Change, followed, ◌▸◌, reading, tell}
+use Rattle.spec_rights.specs.declared.act.Actor.{Actor}
+use Rattle.spec_rights.specs.Levels.{number_of}
+use Rattle.spec_rights.specs.Changing.{created_so}
+use Rattle.spec_commands.specs.declared.outcome.Outcome.{Outcome}
+use Rattle.spec_commands.specs.declared.outcome.Outcome.TheVariants.{Edit}
+use Rattle.spec_commands.specs.Replies.{cant_be_done, entering_editor}
+use Rattle.spec_commands.specs.Going.{Play, ended}
+use Rattle.spec_commands.specs.Building.{created_shown}
+use Rattle.spec_commands.specs.Programming.{over, first_level, program_put, program_at, program_new}
 use Rattle.muck_perm.specs.declared.guard.Guard.{Guard}
 use Rattle.muck_perm.specs.Guards.{Done, Founds, on_world, world_of}
-use Rattle.cmd_parts.specs.Plays.{Plays}
+use Rattle.cmd_common.specs.Plays.{Plays}
 use Rattle.cmd_build.specs.Entering.{IsEntered}
 
 -- where memory was wanted

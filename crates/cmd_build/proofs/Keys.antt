@@ -6,11 +6,11 @@ use Rattle.muck_model.specs.declared.lock.Lock.{Lock}
 use Rattle.muck_lock.specs.Naming.{Naming, naming}
 use Rattle.muck_lock.specs.Grammar.{lock_of}
 use Rattle.muck_match.specs.Naming.{found}
-use Rattle.muck_live.specs.Objects.{Entry, is_program, object_at}
-use Rattle.muck_live.specs.Seen.{scenery_of}
-use Rattle.muck_live.specs.Lives.{Live}
-use Rattle.muck_world.specs.Finding.{is_so}
-use Rattle.muck_world.specs.Building.{found_one, key_names}
+use Rattle.spec_live.specs.Objects.{Entry, is_program, object_at}
+use Rattle.spec_live.specs.Seen.{scenery_of}
+use Rattle.spec_live.specs.Lives.{Live}
+use Rattle.spec_commands.specs.Finding.{is_so}
+use Rattle.spec_commands.specs.Building.{found_one, key_names}
 use Rattle.cmd_build.specs.Keys.{key_kept}
 
 -- what names stand for among these objects

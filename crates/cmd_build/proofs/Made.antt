@@ -4,16 +4,16 @@ use Rattle.std.specs.Prelude.{OnOk}
 use Rattle.muck_model.specs.declared.dbref.Dbref.{Dbref}
 use Rattle.muck_model.specs.declared.dbref.Kind.{Kind}
 use Rattle.muck_model.specs.declared.memory.NoMemory.{NoMemory}
-use Rattle.muck_live.specs.declared.fault.DbFault.{DbFault}
-use Rattle.muck_live.specs.declared.fault.DbFault.TheVariants.{NoSuchObject, WouldLoop, WrongKind, WorldFull, NoMemory as WantsMemory}
-use Rattle.muck_live.specs.declared.object.Object.{Object}
-use Rattle.muck_live.specs.Making.{create_check}
-use Rattle.muck_live.specs.Lives.{Change, followed, ◌▸◌, reading, tell}
-use Rattle.muck_rights.specs.declared.act.Actor.{Actor}
-use Rattle.muck_rights.specs.Levels.{number_of}
-use Rattle.muck_rights.specs.Changing.{created_so}
-use Rattle.muck_world.specs.Replies.{cant_be_done}
-use Rattle.muck_world.specs.Building.{made_at, created_shown, making}
+use Rattle.spec_live.specs.declared.fault.DbFault.{DbFault}
+use Rattle.spec_live.specs.declared.fault.DbFault.TheVariants.{NoSuchObject, WouldLoop, WrongKind, WorldFull, NoMemory as WantsMemory}
+use Rattle.spec_live.specs.declared.object.Object.{Object}
+use Rattle.spec_live.specs.Making.{create_check}
+use Rattle.spec_live.specs.Lives.{Change, followed, ◌▸◌, reading, tell}
+use Rattle.spec_rights.specs.declared.act.Actor.{Actor}
+use Rattle.spec_rights.specs.Levels.{number_of}
+use Rattle.spec_rights.specs.Changing.{created_so}
+use Rattle.spec_commands.specs.Replies.{cant_be_done}
+use Rattle.spec_commands.specs.Building.{made_at, created_shown, making}
 use Rattle.muck_perm.specs.declared.guard.Guard.{Guard}
 use Rattle.muck_perm.specs.Guards.{Did, Done, Founds, on_world}
 use Rattle.cmd_build.specs.Told.{IsTold}

@@ -2,20 +2,20 @@
 use Rattle.std.proofs.Common.{ℕ, List, Option, Some, None, Result, Ok, Err, sym, subst}
 use Rattle.std.specs.Prelude.{OnOk}
 use Rattle.muck_model.specs.declared.memory.NoMemory.{NoMemory}
-use Rattle.muck_live.specs.Lives.{unchanged}
-use Rattle.muck_rights.specs.declared.act.Actor.{Actor}
-use Rattle.muck_rights.specs.Licence.{Licensed, nobody}
-use Rattle.muck_rights.proofs.Licences.{Whole, Always, whole_quiet, quiet_unchanged}
-use Rattle.muck_world.specs.declared.outcome.Outcome.{Outcome}
-use Rattle.muck_world.specs.declared.outcome.Outcome.TheVariants.{NotMine}
-use Rattle.muck_world.specs.declared.word.BuildWord.{BuildWord}
-use Rattle.muck_world.specs.Texts.{first_word, trimmed}
-use Rattle.muck_world.specs.Commands.{build_word, build_some, build_line}
-use Rattle.muck_world.proofs.Gone.{world_of as left, whole_ended}
-use Rattle.muck_world.proofs.Permitted.{build_open}
+use Rattle.spec_live.specs.Lives.{unchanged}
+use Rattle.spec_rights.specs.declared.act.Actor.{Actor}
+use Rattle.spec_rights.specs.Licence.{Licensed, nobody}
+use Rattle.spec_rights.proofs.Licences.{Whole, Always, whole_quiet, quiet_unchanged}
+use Rattle.spec_commands.specs.declared.outcome.Outcome.{Outcome}
+use Rattle.spec_commands.specs.declared.outcome.Outcome.TheVariants.{NotMine}
+use Rattle.spec_commands.specs.declared.word.BuildWord.{BuildWord}
+use Rattle.spec_commands.specs.Texts.{first_word, trimmed}
+use Rattle.spec_commands.specs.Commands.{build_word, build_some, build_line}
+use Rattle.spec_commands.proofs.Gone.{world_of as left, whole_ended}
+use Rattle.spec_commands.proofs.Permitted.{build_open}
 use Rattle.muck_perm.specs.declared.guard.Guard.{Guard}
 use Rattle.muck_perm.specs.Guards.{world_of}
-use Rattle.cmd_parts.specs.Plays.{Plays}
+use Rattle.cmd_common.specs.Plays.{Plays}
 
 some_open : (a : Actor) (d : ℕ) (line word text : List ℕ) (found : Option BuildWord) → Whole left a None (λ es. nobody) Always (build_some d a line word text found)
 some_open a d line word text None = whole_ended a None (λ es. nobody) Always NotMine unchanged (whole_quiet a None (λ es. nobody) Always unchanged quiet_unchanged)

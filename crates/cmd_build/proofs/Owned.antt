@@ -8,10 +8,10 @@ use Rattle.std.specs.Option.{option_map_or, option_and_then}
 use Rattle.muck_model.specs.declared.dbref.Dbref.{Dbref}
 use Rattle.muck_model.specs.declared.dbref.Kind.{Kind}
 use Rattle.muck_model.specs.declared.dbref.Kind.TheVariants.{Room, Thing, Exit, Player, Program, Garbage}
-use Rattle.muck_live.specs.declared.object.Object.{Object}
-use Rattle.muck_live.specs.Objects.{Entry, dbref_of, is_garbage, kind_in, object_in, number_in, object_at}
-use Rattle.muck_live.proofs.Lists.{some_at}
-use Rattle.muck_world.specs.Building.{owned_named}
+use Rattle.spec_live.specs.declared.object.Object.{Object}
+use Rattle.spec_live.specs.Objects.{Entry, dbref_of, is_garbage, kind_in, object_in, number_in, object_at}
+use Rattle.spec_live.proofs.Lists.{some_at}
+use Rattle.spec_commands.specs.Building.{owned_named}
 use Rattle.cmd_build.specs.Owned.{is_wanted, wanted_at}
 
 -- what isn't garbage

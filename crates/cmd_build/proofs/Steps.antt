@@ -3,18 +3,18 @@ use Rattle.std.proofs.Common.{◌≡◌, Bool, true, List, Some, None, Result, O
 use Rattle.muck_model.specs.declared.dbref.Dbref.{Dbref}
 use Rattle.muck_model.specs.declared.memory.NoMemory.{NoMemory}
 use Rattle.muck_model.specs.declared.dbref.Denial.{Denial}
-use Rattle.muck_live.specs.Objects.{Entry}
-use Rattle.muck_live.specs.Lives.{Live, Change, reading, either}
-use Rattle.muck_rights.specs.declared.act.Actor.{Actor}
-use Rattle.muck_rights.specs.declared.act.Act.{Act}
-use Rattle.muck_rights.specs.Verdict.{verdict}
-use Rattle.muck_rights.specs.Asking.{asked, answered}
-use Rattle.muck_world.specs.declared.outcome.Outcome.{Outcome}
-use Rattle.muck_world.specs.Finding.{where_so}
-use Rattle.muck_world.specs.Going.{Play}
+use Rattle.spec_live.specs.Objects.{Entry}
+use Rattle.spec_live.specs.Lives.{Live, Change, reading, either}
+use Rattle.spec_rights.specs.declared.act.Actor.{Actor}
+use Rattle.spec_rights.specs.declared.act.Act.{Act}
+use Rattle.spec_rights.specs.Verdict.{verdict}
+use Rattle.spec_rights.specs.Asking.{asked, answered}
+use Rattle.spec_commands.specs.declared.outcome.Outcome.{Outcome}
+use Rattle.spec_commands.specs.Finding.{where_so}
+use Rattle.spec_commands.specs.Going.{Play}
 use Rattle.muck_perm.specs.declared.guard.Guard.{Guard}
 use Rattle.muck_perm.specs.Guards.{Did, with_world, world_of}
-use Rattle.cmd_parts.specs.Plays.{Plays, Finds, FindsFor}
+use Rattle.cmd_common.specs.Plays.{Plays, Finds, FindsFor}
 
 -- two changes that do the same there
 did_same : (f g : Change) (old new : Guard) (result : Result (Unit {0}) NoMemory) → f (world_of old) ≡ g (world_of old) → Did f old new result → Did g old new result

@@ -3,12 +3,12 @@ use Rattle.std.proofs.Common.{◌≡◌, ℕ, true, false, cond, Option, Some, N
 use Rattle.std.specs.Prelude.{MatchResult}
 use Rattle.std.specs.Option.{option_map_or, option_and_then}
 use Rattle.muck_model.specs.declared.dbref.Dbref.{Dbref}
-use Rattle.muck_live.specs.declared.fault.DbFault.{DbFault}
-use Rattle.muck_live.specs.declared.fault.DbFault.TheVariants.{NoSuchObject, WrongKind, NoMemory as WantsMemory}
-use Rattle.muck_live.specs.Objects.{object_in, number_in, object_at}
-use Rattle.muck_live.specs.Setting.{any, checked}
-use Rattle.muck_live.specs.Lives.{Change}
-use Rattle.muck_world.specs.Finding.{is_so, is_object}
+use Rattle.spec_live.specs.declared.fault.DbFault.{DbFault}
+use Rattle.spec_live.specs.declared.fault.DbFault.TheVariants.{NoSuchObject, WrongKind, NoMemory as WantsMemory}
+use Rattle.spec_live.specs.Objects.{object_in, number_in, object_at}
+use Rattle.spec_live.specs.Setting.{any, checked}
+use Rattle.spec_live.specs.Lives.{Change}
+use Rattle.spec_commands.specs.Finding.{is_so, is_object}
 use Rattle.muck_perm.specs.declared.guard.Guard.{Guard}
 use Rattle.muck_perm.specs.Guards.{Done, Makes, Tries, world_of}
 

@@ -2,18 +2,18 @@
 use Rattle.std.specs.Prelude.{◌≡◌, ℕ, OnOk, Result, Ok, Err}
 use Rattle.muck_model.specs.declared.dbref.Dbref.{Dbref}
 use Rattle.muck_model.specs.declared.memory.NoMemory.{NoMemory}
-use Rattle.muck_live.specs.declared.fault.DbFault.{DbFault}
-use Rattle.muck_live.specs.declared.fault.DbFault.TheVariants.{NoMemory as WantsMemory}
-use Rattle.muck_live.specs.Lives.{◌▸◌, tell}
-use Rattle.muck_rights.specs.Levels.{number_of}
-use Rattle.muck_world.specs.declared.outcome.Outcome.{Outcome}
-use Rattle.muck_world.specs.declared.outcome.Outcome.TheVariants.{Edit}
-use Rattle.muck_world.specs.Replies.{cant_be_done, entering_editor}
-use Rattle.muck_world.specs.Going.{ended}
-use Rattle.muck_world.specs.Building.{created_shown}
-use Rattle.muck_world.specs.Programming.{over}
+use Rattle.spec_live.specs.declared.fault.DbFault.{DbFault}
+use Rattle.spec_live.specs.declared.fault.DbFault.TheVariants.{NoMemory as WantsMemory}
+use Rattle.spec_live.specs.Lives.{◌▸◌, tell}
+use Rattle.spec_rights.specs.Levels.{number_of}
+use Rattle.spec_commands.specs.declared.outcome.Outcome.{Outcome}
+use Rattle.spec_commands.specs.declared.outcome.Outcome.TheVariants.{Edit}
+use Rattle.spec_commands.specs.Replies.{cant_be_done, entering_editor}
+use Rattle.spec_commands.specs.Going.{ended}
+use Rattle.spec_commands.specs.Building.{created_shown}
+use Rattle.spec_commands.specs.Programming.{over}
 use Rattle.muck_perm.specs.declared.guard.Guard.{Guard}
-use Rattle.cmd_parts.specs.Plays.{Plays}
+use Rattle.cmd_common.specs.Plays.{Plays}
 
 -- the new program is told and its editor is to be opened, or it can't be done; where memory was wanted nothing
 abbrev pub IsEntered : ℕ → Result Dbref DbFault → Guard → Guard → Result Outcome NoMemory → Type 0

@@ -2,9 +2,9 @@
 use Rattle.std.specs.Prelude.{ℕ, Bool, false, ◌&&◌, List}
 use Rattle.std.specs.Option.{option_map_or}
 use Rattle.muck_model.specs.declared.dbref.Dbref.{Dbref}
-use Rattle.muck_live.specs.declared.object.Object.{Object}
-use Rattle.muck_live.specs.Objects.{Entry, same, object_at}
-use Rattle.muck_world.specs.Building.{holds_name}
+use Rattle.spec_live.specs.declared.object.Object.{Object}
+use Rattle.spec_live.specs.Objects.{Entry, same, object_at}
+use Rattle.spec_commands.specs.Building.{holds_name}
 
 -- the user's, and its name holds the text
 abbrev pub is_wanted : Dbref → List ℕ → Object → Bool

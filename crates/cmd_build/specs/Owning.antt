@@ -1,16 +1,16 @@
 -- What is done with an object that is to be recycled or given away, once it is found.
 use Rattle.std.specs.Prelude.{ℕ}
 use Rattle.muck_model.specs.declared.dbref.Dbref.{Dbref}
-use Rattle.muck_live.specs.Setting.{owner_check}
-use Rattle.muck_live.specs.Recycling.{recycle_check}
-use Rattle.muck_live.specs.Lives.{Change, ◌▸◌, tell}
-use Rattle.muck_rights.specs.declared.act.Actor.{Actor}
-use Rattle.muck_rights.specs.declared.act.Act.TheVariants.{Recycle, SetOwner}
-use Rattle.muck_rights.specs.Asking.{asked, refused}
-use Rattle.muck_rights.specs.Changing.{owned_by, recycled_now}
-use Rattle.muck_world.specs.Replies.{cant_be_done, recycled_reply, chowned_reply}
-use Rattle.muck_world.specs.Finding.{where_so}
-use Rattle.muck_world.specs.Building.{allowed}
+use Rattle.spec_live.specs.Setting.{owner_check}
+use Rattle.spec_live.specs.Recycling.{recycle_check}
+use Rattle.spec_live.specs.Lives.{Change, ◌▸◌, tell}
+use Rattle.spec_rights.specs.declared.act.Actor.{Actor}
+use Rattle.spec_rights.specs.declared.act.Act.TheVariants.{Recycle, SetOwner}
+use Rattle.spec_rights.specs.Asking.{asked, refused}
+use Rattle.spec_rights.specs.Changing.{owned_by, recycled_now}
+use Rattle.spec_commands.specs.Replies.{cant_be_done, recycled_reply, chowned_reply}
+use Rattle.spec_commands.specs.Finding.{where_so}
+use Rattle.spec_commands.specs.Building.{allowed}
 
 -- where the world allows it
 unfoldable pub object_recycled : ℕ → Dbref → Change

@@ -2,12 +2,12 @@
 use Rattle.std.specs.Prelude.{◌≡◌, ℕ, OnOk, Result, Ok, Err}
 use Rattle.muck_model.specs.declared.dbref.Dbref.{Dbref}
 use Rattle.muck_model.specs.declared.memory.NoMemory.{NoMemory}
-use Rattle.muck_live.specs.declared.fault.DbFault.{DbFault}
-use Rattle.muck_live.specs.declared.fault.DbFault.TheVariants.{NoMemory as WantsMemory}
-use Rattle.muck_live.specs.Lives.{tell}
-use Rattle.muck_rights.specs.Levels.{number_of}
-use Rattle.muck_world.specs.Replies.{cant_be_done}
-use Rattle.muck_world.specs.Building.{created_shown}
+use Rattle.spec_live.specs.declared.fault.DbFault.{DbFault}
+use Rattle.spec_live.specs.declared.fault.DbFault.TheVariants.{NoMemory as WantsMemory}
+use Rattle.spec_live.specs.Lives.{tell}
+use Rattle.spec_rights.specs.Levels.{number_of}
+use Rattle.spec_commands.specs.Replies.{cant_be_done}
+use Rattle.spec_commands.specs.Building.{created_shown}
 use Rattle.muck_perm.specs.declared.guard.Guard.{Guard}
 use Rattle.muck_perm.specs.Guards.{Did}
 

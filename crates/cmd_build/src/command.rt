@@ -1,9 +1,9 @@
 // A line of a builder.
 ghost use Rattle.std.specs.Prelude.{◌≡◌, OnOk};
-ghost use Rattle.muck_rights.specs.Licence.{Licensed, nobody};
-ghost use Rattle.muck_world.specs.Commands.{build_done, build_line};
+ghost use Rattle.spec_rights.specs.Licence.{Licensed, nobody};
+ghost use Rattle.spec_commands.specs.Commands.{build_done, build_line};
 ghost use Rattle.muck_perm.specs.Guards.{world_of};
-ghost use Rattle.cmd_parts.specs.Plays.{Plays};
+ghost use Rattle.cmd_common.specs.Plays.{Plays};
 
 use crate::lines::{
     action_line, chown_line, create_line, dig_line, find_line, link_line, lock_line, message_line,
@@ -11,13 +11,13 @@ use crate::lines::{
 };
 use crate::program_lines::{edit_line, list_line, program_line, run_line};
 use crate::words::build_word;
-use cmd_parts::after_word;
+use cmd_common::after_word;
 use muck_model::{Line, NoMemory};
 use muck_perm::Guard;
-use muck_world::{BuildWord, Outcome, cut_word, trim};
+use spec_commands::{BuildWord, Outcome, cut_word, trim};
 
 // Does what a word asks, with what stands behind it in the line.
-#[tactic(auto, unfolding(muck_world::specs::Going::ended, muck_world::specs::Commands::build_done))]
+#[tactic(auto, unfolding(spec_commands::specs::Going::ended, spec_commands::specs::Commands::build_done))]
 fn build(
     guard: &mut Guard,
     d: u32,
@@ -51,7 +51,7 @@ fn build(
     Ok(Outcome::Done)
 }
 
-#[tactic(auto, unfolding(muck_world::specs::Commands::build_line, muck_world::specs::Going::ended, muck_live::specs::Lives::unchanged))]
+#[tactic(auto, unfolding(spec_commands::specs::Commands::build_line, spec_commands::specs::Going::ended, spec_live::specs::Lives::unchanged))]
 fn play(guard: &mut Guard, d: u32, line: &Line) -> Result<Outcome, NoMemory>
     ensures { Plays (build_line d guard.old.actor line.now) guard.old guard.new result }
 {

@@ -1,7 +1,7 @@
 // Commands with what stands behind their words.
 ghost use Rattle.std.specs.Prelude.{◌≡◌};
-ghost use Rattle.muck_world.specs.Building.{dug, thing_made, opened_exit, opened_to, action_made, link_set, link_cleared, name_set, message_set, lock_set, lock_cleared, teleported, recycled, chowned, find_shown};
-ghost use Rattle.muck_world.specs.Commands.{is_empty, one_part, two_parts, full_parts, message_name, open_done};
+ghost use Rattle.spec_commands.specs.Building.{dug, thing_made, opened_exit, opened_to, action_made, link_set, link_cleared, name_set, message_set, lock_set, lock_cleared, teleported, recycled, chowned, find_shown};
+ghost use Rattle.spec_commands.specs.Commands.{is_empty, one_part, two_parts, full_parts, message_name, open_done};
 ghost use Rattle.muck_perm.specs.Guards.{Did};
 
 use crate::locks::{lock, unlock};
@@ -12,10 +12,10 @@ use crate::naming::rename;
 use crate::owning::{chown, recycle};
 use crate::searching::find;
 use crate::tying::{link, unlink};
-use cmd_parts::{full_parts, has_equals, incomplete, two_parts};
+use cmd_common::{full_parts, has_equals, incomplete, two_parts};
 use muck_model::{Line, NoMemory};
 use muck_perm::Guard;
-use muck_world::Message;
+use spec_commands::Message;
 
 /// Whether nothing stands behind a word.
 pub fn is_empty(text: &Line) -> bool
@@ -25,7 +25,7 @@ pub fn is_empty(text: &Line) -> bool
 }
 
 /// `@dig NAME`.
-#[tactic(auto, unfolding(muck_world::specs::Commands::one_part, muck_live::specs::Lives::either))]
+#[tactic(auto, unfolding(spec_commands::specs::Commands::one_part, spec_live::specs::Lives::either))]
 pub fn dig_line(guard: &mut Guard, d: u32, word: &[u8], text: &Line) -> Result<(), NoMemory>
     ensures { Did (one_part d word.now text.now (dug d guard.old.actor)) guard.old guard.new result }
 {
@@ -36,7 +36,7 @@ pub fn dig_line(guard: &mut Guard, d: u32, word: &[u8], text: &Line) -> Result<(
 }
 
 /// `@create NAME`.
-#[tactic(auto, unfolding(muck_world::specs::Commands::one_part, muck_live::specs::Lives::either))]
+#[tactic(auto, unfolding(spec_commands::specs::Commands::one_part, spec_live::specs::Lives::either))]
 pub fn create_line(guard: &mut Guard, d: u32, word: &[u8], text: &Line) -> Result<(), NoMemory>
     ensures { Did (one_part d word.now text.now (thing_made d guard.old.actor)) guard.old guard.new result }
 {
@@ -47,7 +47,7 @@ pub fn create_line(guard: &mut Guard, d: u32, word: &[u8], text: &Line) -> Resul
 }
 
 /// `@unlink NAME`.
-#[tactic(auto, unfolding(muck_world::specs::Commands::one_part, muck_live::specs::Lives::either))]
+#[tactic(auto, unfolding(spec_commands::specs::Commands::one_part, spec_live::specs::Lives::either))]
 pub fn unlink_line(guard: &mut Guard, d: u32, word: &[u8], text: &Line) -> Result<(), NoMemory>
     ensures { Did (one_part d word.now text.now (link_cleared d guard.old.actor)) guard.old guard.new result }
 {
@@ -58,7 +58,7 @@ pub fn unlink_line(guard: &mut Guard, d: u32, word: &[u8], text: &Line) -> Resul
 }
 
 /// `@unlock NAME`.
-#[tactic(auto, unfolding(muck_world::specs::Commands::one_part, muck_live::specs::Lives::either))]
+#[tactic(auto, unfolding(spec_commands::specs::Commands::one_part, spec_live::specs::Lives::either))]
 pub fn unlock_line(guard: &mut Guard, d: u32, word: &[u8], text: &Line) -> Result<(), NoMemory>
     ensures { Did (one_part d word.now text.now (lock_cleared d guard.old.actor)) guard.old guard.new result }
 {
@@ -69,7 +69,7 @@ pub fn unlock_line(guard: &mut Guard, d: u32, word: &[u8], text: &Line) -> Resul
 }
 
 /// `@recycle NAME`.
-#[tactic(auto, unfolding(muck_world::specs::Commands::one_part, muck_live::specs::Lives::either))]
+#[tactic(auto, unfolding(spec_commands::specs::Commands::one_part, spec_live::specs::Lives::either))]
 pub fn recycle_line(guard: &mut Guard, d: u32, word: &[u8], text: &Line) -> Result<(), NoMemory>
     ensures { Did (one_part d word.now text.now (recycled d guard.old.actor)) guard.old guard.new result }
 {
@@ -80,7 +80,7 @@ pub fn recycle_line(guard: &mut Guard, d: u32, word: &[u8], text: &Line) -> Resu
 }
 
 /// `@find PART`.
-#[tactic(auto, unfolding(muck_world::specs::Commands::one_part, muck_live::specs::Lives::either))]
+#[tactic(auto, unfolding(spec_commands::specs::Commands::one_part, spec_live::specs::Lives::either))]
 pub fn find_line(guard: &mut Guard, d: u32, word: &[u8], text: &Line) -> Result<(), NoMemory>
     ensures { Did (one_part d word.now text.now (find_shown d guard.old.actor)) guard.old guard.new result }
 {
@@ -91,7 +91,7 @@ pub fn find_line(guard: &mut Guard, d: u32, word: &[u8], text: &Line) -> Result<
 }
 
 /// `@name NAME=NEW`.
-#[tactic(auto, unfolding(muck_world::specs::Commands::two_parts, muck_live::specs::Lives::either))]
+#[tactic(auto, unfolding(spec_commands::specs::Commands::two_parts, spec_live::specs::Lives::either))]
 pub fn name_line(guard: &mut Guard, d: u32, word: &[u8], text: &Line) -> Result<(), NoMemory>
     ensures { Did (two_parts d word.now text.now (name_set d guard.old.actor)) guard.old guard.new result }
 {
@@ -102,7 +102,7 @@ pub fn name_line(guard: &mut Guard, d: u32, word: &[u8], text: &Line) -> Result<
 }
 
 /// `@lock NAME=KEY`.
-#[tactic(auto, unfolding(muck_world::specs::Commands::two_parts, muck_live::specs::Lives::either))]
+#[tactic(auto, unfolding(spec_commands::specs::Commands::two_parts, spec_live::specs::Lives::either))]
 pub fn lock_line(guard: &mut Guard, d: u32, word: &[u8], text: &Line) -> Result<(), NoMemory>
     ensures { Did (two_parts d word.now text.now (lock_set d guard.old.actor)) guard.old guard.new result }
 {
@@ -113,7 +113,7 @@ pub fn lock_line(guard: &mut Guard, d: u32, word: &[u8], text: &Line) -> Result<
 }
 
 // `@open NAME=TARGET`.
-#[tactic(auto, unfolding(muck_world::specs::Commands::full_parts, muck_live::specs::Lives::either))]
+#[tactic(auto, unfolding(spec_commands::specs::Commands::full_parts, spec_live::specs::Lives::either))]
 fn open_to_line(guard: &mut Guard, d: u32, word: &[u8], text: &Line) -> Result<(), NoMemory>
     ensures { Did (full_parts d word.now text.now (opened_to d guard.old.actor)) guard.old guard.new result }
 {
@@ -124,7 +124,7 @@ fn open_to_line(guard: &mut Guard, d: u32, word: &[u8], text: &Line) -> Result<(
 }
 
 /// `@action NAME=OBJECT`.
-#[tactic(auto, unfolding(muck_world::specs::Commands::full_parts, muck_live::specs::Lives::either))]
+#[tactic(auto, unfolding(spec_commands::specs::Commands::full_parts, spec_live::specs::Lives::either))]
 pub fn action_line(guard: &mut Guard, d: u32, word: &[u8], text: &Line) -> Result<(), NoMemory>
     ensures { Did (full_parts d word.now text.now (action_made d guard.old.actor)) guard.old guard.new result }
 {
@@ -135,7 +135,7 @@ pub fn action_line(guard: &mut Guard, d: u32, word: &[u8], text: &Line) -> Resul
 }
 
 /// `@link NAME=TARGET`.
-#[tactic(auto, unfolding(muck_world::specs::Commands::full_parts, muck_live::specs::Lives::either))]
+#[tactic(auto, unfolding(spec_commands::specs::Commands::full_parts, spec_live::specs::Lives::either))]
 pub fn link_line(guard: &mut Guard, d: u32, word: &[u8], text: &Line) -> Result<(), NoMemory>
     ensures { Did (full_parts d word.now text.now (link_set d guard.old.actor)) guard.old guard.new result }
 {
@@ -146,7 +146,7 @@ pub fn link_line(guard: &mut Guard, d: u32, word: &[u8], text: &Line) -> Result<
 }
 
 /// `@teleport NAME=PLACE`.
-#[tactic(auto, unfolding(muck_world::specs::Commands::full_parts, muck_live::specs::Lives::either))]
+#[tactic(auto, unfolding(spec_commands::specs::Commands::full_parts, spec_live::specs::Lives::either))]
 pub fn teleport_line(guard: &mut Guard, d: u32, word: &[u8], text: &Line) -> Result<(), NoMemory>
     ensures { Did (full_parts d word.now text.now (teleported d guard.old.actor)) guard.old guard.new result }
 {
@@ -157,7 +157,7 @@ pub fn teleport_line(guard: &mut Guard, d: u32, word: &[u8], text: &Line) -> Res
 }
 
 /// `@chown NAME=PLAYER`.
-#[tactic(auto, unfolding(muck_world::specs::Commands::full_parts, muck_live::specs::Lives::either))]
+#[tactic(auto, unfolding(spec_commands::specs::Commands::full_parts, spec_live::specs::Lives::either))]
 pub fn chown_line(guard: &mut Guard, d: u32, word: &[u8], text: &Line) -> Result<(), NoMemory>
     ensures { Did (full_parts d word.now text.now (chowned d guard.old.actor)) guard.old guard.new result }
 {
@@ -168,7 +168,7 @@ pub fn chown_line(guard: &mut Guard, d: u32, word: &[u8], text: &Line) -> Result
 }
 
 /// `@describe NAME=TEXT`, and the other messages in the same way.
-#[tactic(auto, unfolding(muck_world::specs::Commands::two_parts, muck_live::specs::Lives::either))]
+#[tactic(auto, unfolding(spec_commands::specs::Commands::two_parts, spec_live::specs::Lives::either))]
 pub fn message_line(
     guard: &mut Guard,
     d: u32,
@@ -185,7 +185,7 @@ pub fn message_line(
 }
 
 /// `@open NAME`, and `@open NAME=TARGET`.
-#[tactic(auto, unfolding(muck_world::specs::Commands::open_done, muck_world::specs::Commands::one_part, muck_live::specs::Lives::either))]
+#[tactic(auto, unfolding(spec_commands::specs::Commands::open_done, spec_commands::specs::Commands::one_part, spec_live::specs::Lives::either))]
 pub fn open_line(guard: &mut Guard, d: u32, word: &[u8], text: &Line) -> Result<(), NoMemory>
     ensures { Did (open_done d guard.old.actor word.now text.now) guard.old guard.new result }
 {

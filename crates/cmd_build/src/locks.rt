@@ -1,21 +1,21 @@
 // Locks.
 ghost use Rattle.std.specs.Prelude.{◌≡◌, IfOk, true, None};
 ghost use Rattle.muck_lock.specs.Grammar.{lock_of};
-ghost use Rattle.muck_live.specs.Lives.{reading};
-ghost use Rattle.muck_rights.specs.declared.act.Act.{Act};
-ghost use Rattle.muck_world.specs.Finding.{is_object};
-ghost use Rattle.muck_world.specs.Building.{key_names, lock_kept, lock_set, lock_cleared};
+ghost use Rattle.spec_live.specs.Lives.{reading};
+ghost use Rattle.spec_rights.specs.declared.act.Act.{Act};
+ghost use Rattle.spec_commands.specs.Finding.{is_object};
+ghost use Rattle.spec_commands.specs.Building.{key_names, lock_kept, lock_set, lock_cleared};
 ghost use Rattle.muck_perm.specs.Guards.{Did, IsLeave, world_of};
 ghost use Rattle.cmd_build.specs.Keys.{key_kept};
 
 use crate::messages::keep;
-use cmd_parts::{find_object, line_of, refuse};
+use cmd_common::{find_object, line_of, refuse};
 use muck_db::Db;
 use muck_lock::{Finder, LockFault, print, read};
 use muck_match::{Found, find};
 use muck_model::{Dbref, Kind, Line, Lock, NoMemory};
 use muck_perm::{Guard, Pass, verdict};
-use muck_rights::Act;
+use spec_rights::Act;
 use std::alloc::Global;
 
 const PATH: &[u8] = b"_/lok";
@@ -31,9 +31,9 @@ impl<'a> Finder for KeyNames<'a> {
     ghost use Rattle.std.specs.Prelude.{false};
     ghost use Rattle.std.specs.Option.{option_map_or};
     ghost use Rattle.muck_match.specs.Naming.{found as meant};
-    ghost use Rattle.muck_live.specs.Objects.{is_program, object_at};
-    ghost use Rattle.muck_live.specs.Seen.{scenery_of};
-    ghost use Rattle.muck_world.specs.Building.{found_one};
+    ghost use Rattle.spec_live.specs.Objects.{is_program, object_at};
+    ghost use Rattle.spec_live.specs.Seen.{scenery_of};
+    ghost use Rattle.spec_commands.specs.Building.{found_one};
 
     ghost found = { λ names name. found_one (meant (scenery_of names.db.now) names.player name) };
 
@@ -67,7 +67,7 @@ fn printed(alloc: Global, lock: &Lock) -> Result<Option<Line>, NoMemory>
 }
 
 // The text of the lock that the player means by a key; `None` exactly where it means none, or its text is too long.
-#[tactic(auto, unfolding(muck_world::specs::Finding::is_so))]
+#[tactic(auto, unfolding(spec_commands::specs::Finding::is_so))]
 fn printed_key(guard: &Guard, key: &Line) -> Result<Option<Line>, NoMemory>
     ensures { IfOk result (λ text. text ≡ key_kept (lock_of (key_names (world_of guard.now) guard.now.actor.player) key.now)) }
 {
@@ -83,7 +83,7 @@ fn printed_key(guard: &Guard, key: &Line) -> Result<Option<Line>, NoMemory>
 }
 
 // Locks an object that is there by a key.
-#[tactic(auto, unfolding(muck_world::specs::Replies::bad_key, muck_world::specs::Replies::locked_reply, muck_live::specs::Lives::reading, muck_live::specs::Lives::either, muck_model::specs::Bytes::text_most))]
+#[tactic(auto, unfolding(spec_commands::specs::Replies::bad_key, spec_commands::specs::Replies::locked_reply, spec_live::specs::Lives::reading, spec_live::specs::Lives::either, muck_model::specs::Bytes::text_most))]
 fn lock_by(guard: &mut Guard, pass: Pass, d: u32, x: Dbref, key: &Line) -> Result<(), NoMemory>
     requires leave { IsLeave pass (Act.Change x) guard.old }
     requires there { is_object x (world_of guard.old) ≡ true }
@@ -96,7 +96,7 @@ fn lock_by(guard: &mut Guard, pass: Pass, d: u32, x: Dbref, key: &Line) -> Resul
 }
 
 /// `@lock`: locks an object by a key, which is kept as it is printed.
-#[tactic(auto, unfolding(muck_world::specs::Building::lock_set, muck_rights::specs::Asking::asked, muck_live::specs::Lives::reading))]
+#[tactic(auto, unfolding(spec_commands::specs::Building::lock_set, spec_rights::specs::Asking::asked, spec_live::specs::Lives::reading))]
 pub fn lock(guard: &mut Guard, d: u32, name: &Line, key: &Line) -> Result<(), NoMemory>
     ensures { Did (lock_set d guard.old.actor name.now key.now) guard.old guard.new result }
 {
@@ -111,7 +111,7 @@ pub fn lock(guard: &mut Guard, d: u32, name: &Line, key: &Line) -> Result<(), No
 }
 
 /// `@unlock`: does away with the lock of an object.
-#[tactic(auto, unfolding(muck_world::specs::Building::lock_cleared, muck_world::specs::Replies::unlocked_reply, muck_rights::specs::Asking::asked, muck_model::specs::Bytes::text_most))]
+#[tactic(auto, unfolding(spec_commands::specs::Building::lock_cleared, spec_commands::specs::Replies::unlocked_reply, spec_rights::specs::Asking::asked, muck_model::specs::Bytes::text_most))]
 pub fn unlock(guard: &mut Guard, d: u32, name: &Line) -> Result<(), NoMemory>
     ensures { Did (lock_cleared d guard.old.actor name.now) guard.old guard.new result }
 {

@@ -2,25 +2,25 @@
 ghost use Rattle.std.specs.Prelude.{◌≡◌, ◌<◌, ◌≤◌, ◌^◌, ◌++◌, true, IfOk, length, codes, []};
 ghost use Rattle.std.specs.Option.{option_map_or};
 ghost use Rattle.muck_model.specs.declared.dbref.Kind.{Kind};
-ghost use Rattle.muck_live.specs.Objects.{dbref_of, nothing, object_at};
-ghost use Rattle.muck_live.specs.Setting.{with_link, with_home};
-ghost use Rattle.muck_live.specs.Seen.{long_form};
-ghost use Rattle.muck_live.specs.Lives.{tell, reading};
-ghost use Rattle.muck_rights.specs.declared.act.Act.{Act};
-ghost use Rattle.muck_rights.specs.Levels.{number_of};
-ghost use Rattle.muck_world.specs.Replies.{cant_be_done};
-ghost use Rattle.muck_world.specs.Finding.{where_so, finding_object};
-ghost use Rattle.muck_world.specs.Going.{home_at};
-ghost use Rattle.muck_world.specs.Building.{created_shown, making, as_made, dug, may_house, housed, thing_made, may_lead, exit_made, opened_exit, opened_to, action_made};
+ghost use Rattle.spec_live.specs.Objects.{dbref_of, nothing, object_at};
+ghost use Rattle.spec_live.specs.Setting.{with_link, with_home};
+ghost use Rattle.spec_live.specs.Seen.{long_form};
+ghost use Rattle.spec_live.specs.Lives.{tell, reading};
+ghost use Rattle.spec_rights.specs.declared.act.Act.{Act};
+ghost use Rattle.spec_rights.specs.Levels.{number_of};
+ghost use Rattle.spec_commands.specs.Replies.{cant_be_done};
+ghost use Rattle.spec_commands.specs.Finding.{where_so, finding_object};
+ghost use Rattle.spec_commands.specs.Going.{home_at};
+ghost use Rattle.spec_commands.specs.Building.{created_shown, making, as_made, dug, may_house, housed, thing_made, may_lead, exit_made, opened_exit, opened_to, action_made};
 ghost use Rattle.muck_perm.specs.Guards.{Did, IsLeave, world_of};
 ghost use Rattle.cmd_build.specs.Told.{IsTold};
 
 use crate::names::{bad_name, is_name};
-use cmd_parts::{cant_be_done, find_object, find_one, place_at, refuse};
-use muck_live::DbFault;
+use cmd_common::{cant_be_done, find_object, find_one, place_at, refuse};
 use muck_model::{Dbref, Kind, Line, NoMemory};
 use muck_perm::{Guard, Pass, long_form, verdict};
-use muck_rights::Act;
+use spec_live::DbFault;
+use spec_rights::Act;
 
 const NOTHING: Dbref = Dbref(-1);
 
@@ -46,7 +46,7 @@ fn long_name(guard: &Guard, n: u32) -> Result<Vec<u8>, NoMemory>
 }
 
 /// Tells the connection of the new object of a number.
-#[tactic(auto, unfolding(muck_world::specs::Building::created_shown, muck_world::specs::Replies::created_reply, muck_live::specs::Lives::reading))]
+#[tactic(auto, unfolding(spec_commands::specs::Building::created_shown, spec_commands::specs::Replies::created_reply, spec_live::specs::Lives::reading))]
 pub fn show_created(guard: &mut Guard, d: u32, n: u32) -> Result<(), NoMemory>
     requires { n < 2 ^ 31 }
     ensures { Did (created_shown d n) guard.old guard.new result }
@@ -89,7 +89,7 @@ fn make_room(
 }
 
 /// `@dig`: makes a room below Room Zero.
-#[tactic(auto, unfolding(muck_world::specs::Building::dug, muck_live::specs::Lives::either, muck_rights::specs::Asking::asked))]
+#[tactic(auto, unfolding(spec_commands::specs::Building::dug, spec_live::specs::Lives::either, spec_rights::specs::Asking::asked))]
 pub fn dig(guard: &mut Guard, d: u32, name: &Line) -> Result<(), NoMemory>
     ensures { Did (dug d guard.old.actor name.now) guard.old guard.new result }
 {
@@ -116,7 +116,7 @@ fn home_at(guard: &Guard, x: Dbref) -> Dbref
 }
 
 // Whether a thing may have its home there.
-#[tactic(auto, unfolding(muck_world::specs::Finding::is_so))]
+#[tactic(auto, unfolding(spec_commands::specs::Finding::is_so))]
 fn may_house(guard: &Guard, to: Dbref) -> bool
     ensures { result ≡ may_house to (world_of guard.now) }
 {
@@ -127,7 +127,7 @@ fn may_house(guard: &Guard, to: Dbref) -> bool
 }
 
 // Makes a thing with a home that it may have, where the world allows it.
-#[tactic(auto, unfolding(muck_world::specs::Finding::is_so))]
+#[tactic(auto, unfolding(spec_commands::specs::Finding::is_so))]
 fn make_thing(
     guard: &mut Guard,
     d: u32,
@@ -147,7 +147,7 @@ fn make_thing(
 }
 
 // Makes a thing that the player carries, where a thing may have that home and the world allows it.
-#[tactic(auto, unfolding(muck_world::specs::Building::housed, muck_world::specs::Finding::where_so, muck_live::specs::Lives::reading, muck_live::specs::Lives::either))]
+#[tactic(auto, unfolding(spec_commands::specs::Building::housed, spec_commands::specs::Finding::where_so, spec_live::specs::Lives::reading, spec_live::specs::Lives::either))]
 fn house_thing(
     guard: &mut Guard,
     d: u32,
@@ -179,7 +179,7 @@ fn make_at_home(guard: &mut Guard, d: u32, pass: Pass, name: Line) -> Result<(),
 }
 
 /// `@create`: makes a thing that the player carries, and whose home is the player's.
-#[tactic(auto, unfolding(muck_world::specs::Building::thing_made, muck_live::specs::Lives::either, muck_rights::specs::Asking::asked))]
+#[tactic(auto, unfolding(spec_commands::specs::Building::thing_made, spec_live::specs::Lives::either, spec_rights::specs::Asking::asked))]
 pub fn create(guard: &mut Guard, d: u32, name: &Line) -> Result<(), NoMemory>
     ensures { Did (thing_made d guard.old.actor name.now) guard.old guard.new result }
 {
@@ -198,7 +198,7 @@ pub fn create(guard: &mut Guard, d: u32, name: &Line) -> Result<(), NoMemory>
 }
 
 // Whether an exit may lead there.
-#[tactic(auto, unfolding(muck_world::specs::Finding::is_so))]
+#[tactic(auto, unfolding(spec_commands::specs::Finding::is_so))]
 fn may_lead(guard: &Guard, to: Dbref) -> bool
     ensures { result ≡ may_lead to (world_of guard.now) }
 {
@@ -212,7 +212,7 @@ fn may_lead(guard: &Guard, to: Dbref) -> bool
 }
 
 // Makes an exit that leads where it may lead, where the world allows it.
-#[tactic(auto, unfolding(muck_world::specs::Finding::is_so))]
+#[tactic(auto, unfolding(spec_commands::specs::Finding::is_so))]
 fn make_linked(
     guard: &mut Guard,
     d: u32,
@@ -232,7 +232,7 @@ fn make_linked(
 }
 
 // Makes an exit by leave of the rules, where it may lead there and the world allows it.
-#[tactic(auto, unfolding(muck_world::specs::Finding::where_so, muck_live::specs::Lives::reading, muck_live::specs::Lives::either))]
+#[tactic(auto, unfolding(spec_commands::specs::Finding::where_so, spec_live::specs::Lives::reading, spec_live::specs::Lives::either))]
 fn link_new(
     guard: &mut Guard,
     d: u32,
@@ -253,7 +253,7 @@ fn link_new(
 }
 
 // Makes an exit, where neither a rule nor the world denies it or its link.
-#[tactic(auto, unfolding(muck_world::specs::Building::exit_made, muck_rights::specs::Asking::asked))]
+#[tactic(auto, unfolding(spec_commands::specs::Building::exit_made, spec_rights::specs::Asking::asked))]
 fn make_exit(
     guard: &mut Guard,
     d: u32,
@@ -275,7 +275,7 @@ fn make_exit(
 }
 
 /// `@open` with a name alone: makes an exit on the place, which leads nowhere yet.
-#[tactic(auto, unfolding(muck_world::specs::Building::opened_exit, muck_live::specs::Lives::either, muck_live::specs::Lives::reading))]
+#[tactic(auto, unfolding(spec_commands::specs::Building::opened_exit, spec_live::specs::Lives::either, spec_live::specs::Lives::reading))]
 pub fn open(guard: &mut Guard, d: u32, name: &Line) -> Result<(), NoMemory>
     ensures { Did (opened_exit d guard.old.actor name.now) guard.old guard.new result }
 {
@@ -287,7 +287,7 @@ pub fn open(guard: &mut Guard, d: u32, name: &Line) -> Result<(), NoMemory>
 }
 
 /// `@open`: makes an exit on the place, which leads to what the target names.
-#[tactic(auto, unfolding(muck_world::specs::Building::opened_to, muck_live::specs::Lives::either, muck_live::specs::Lives::reading))]
+#[tactic(auto, unfolding(spec_commands::specs::Building::opened_to, spec_live::specs::Lives::either, spec_live::specs::Lives::reading))]
 pub fn open_to(guard: &mut Guard, d: u32, name: &Line, target: &Line) -> Result<(), NoMemory>
     ensures { Did (opened_to d guard.old.actor name.now target.now) guard.old guard.new result }
 {
@@ -314,7 +314,7 @@ fn open_on(guard: &mut Guard, d: u32, name: &Line, target: &Line) -> Result<(), 
 }
 
 /// `@action`: makes an exit on what the target names, which leads nowhere yet.
-#[tactic(auto, unfolding(muck_world::specs::Building::action_made, muck_world::specs::Finding::finding_object, muck_live::specs::Lives::either))]
+#[tactic(auto, unfolding(spec_commands::specs::Building::action_made, spec_commands::specs::Finding::finding_object, spec_live::specs::Lives::either))]
 pub fn act_on(guard: &mut Guard, d: u32, name: &Line, target: &Line) -> Result<(), NoMemory>
     ensures { Did (action_made d guard.old.actor name.now target.now) guard.old guard.new result }
 {

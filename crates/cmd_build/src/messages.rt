@@ -3,22 +3,22 @@ ghost use Rattle.std.specs.Prelude.{◌≡◌, IfOk, None, true, [], codes};
 ghost use Rattle.muck_model.specs.Bytes.{text_fault};
 ghost use Rattle.muck_prop.specs.declared.value.PropValue.TheVariants.{Text};
 ghost use Rattle.muck_prop.specs.Paths.{class_of, path_fault, segments_of};
-ghost use Rattle.muck_live.specs.Lives.{◌▸◌, tell};
-ghost use Rattle.muck_rights.specs.declared.act.Act.{Act};
-ghost use Rattle.muck_rights.specs.Verdict.{is_guarded};
-ghost use Rattle.muck_rights.specs.Changing.{stored};
-ghost use Rattle.muck_world.specs.Finding.{is_object, message_path};
-ghost use Rattle.muck_world.specs.Building.{message_set};
-ghost use Rattle.muck_world.specs.Commands.{message_name};
+ghost use Rattle.spec_live.specs.Lives.{◌▸◌, tell};
+ghost use Rattle.spec_rights.specs.declared.act.Act.{Act};
+ghost use Rattle.spec_rights.specs.Verdict.{is_guarded};
+ghost use Rattle.spec_rights.specs.Changing.{stored};
+ghost use Rattle.spec_commands.specs.Finding.{is_object, message_path};
+ghost use Rattle.spec_commands.specs.Building.{message_set};
+ghost use Rattle.spec_commands.specs.Commands.{message_name};
 ghost use Rattle.muck_perm.specs.Guards.{Did, IsLeave, world_of};
 
-use cmd_parts::{find_object, line_of, refuse};
-use muck_live::DbFault;
+use cmd_common::{find_object, line_of, refuse};
 use muck_model::{Dbref, Line, NoMemory};
 use muck_perm::{Guard, Pass, verdict};
 use muck_prop::{Path, PropFault, PropValue, read_path};
-use muck_rights::Act;
-use muck_world::Message;
+use spec_commands::Message;
+use spec_live::DbFault;
+use spec_rights::Act;
 use std::alloc::Global;
 
 // The path that a text holds.
@@ -51,7 +51,7 @@ fn store(guard: &mut Guard, pass: Pass, x: Dbref, path: Path, text: Line) -> Res
 }
 
 /// Keeps a message or a lock of an object that is there, and replies; an empty text clears it.
-#[tactic(auto, unfolding(muck_live::specs::Lives::followed))]
+#[tactic(auto, unfolding(spec_live::specs::Lives::followed))]
 pub fn keep(
     guard: &mut Guard,
     pass: Pass,
@@ -93,7 +93,7 @@ fn path_text(message: Message) -> &'static [u8]
 }
 
 /// Sets a message of an object; an empty text clears it.
-#[tactic(auto, unfolding(muck_world::specs::Building::message_set, muck_world::specs::Replies::set_reply, muck_rights::specs::Asking::asked))]
+#[tactic(auto, unfolding(spec_commands::specs::Building::message_set, spec_commands::specs::Replies::set_reply, spec_rights::specs::Asking::asked))]
 pub fn set_message(
     guard: &mut Guard,
     d: u32,

@@ -1,21 +1,21 @@
 // Moving things about.
 ghost use Rattle.std.specs.Prelude.{◌≡◌};
-ghost use Rattle.muck_live.specs.Lives.{reading, tell};
-ghost use Rattle.muck_rights.specs.declared.act.Act.{Act};
-ghost use Rattle.muck_world.specs.Replies.{teleported_reply};
-ghost use Rattle.muck_world.specs.Going.{moving};
-ghost use Rattle.muck_world.specs.Building.{meant_place, teleported};
+ghost use Rattle.spec_live.specs.Lives.{reading, tell};
+ghost use Rattle.spec_rights.specs.declared.act.Act.{Act};
+ghost use Rattle.spec_commands.specs.Replies.{teleported_reply};
+ghost use Rattle.spec_commands.specs.Going.{moving};
+ghost use Rattle.spec_commands.specs.Building.{meant_place, teleported};
 ghost use Rattle.muck_perm.specs.Guards.{Did, IsLeave};
 
-use cmd_parts::{cant_be_done, find_object, find_one, refuse};
+use cmd_common::{cant_be_done, find_object, find_one, refuse};
 use muck_model::{Dbref, Line, NoMemory};
 use muck_perm::{Guard, Pass, verdict};
-use muck_rights::Act;
+use spec_rights::Act;
 
 const HOME: Dbref = Dbref(-3);
 
 // Moves an object, where the world allows it; home is the object's own.
-#[tactic(auto, unfolding(muck_world::specs::Going::moving, muck_world::specs::Replies::teleported_reply, muck_world::specs::Finding::where_so, muck_live::specs::Lives::reading, muck_live::specs::Lives::either, muck_live::specs::Lives::followed))]
+#[tactic(auto, unfolding(spec_commands::specs::Going::moving, spec_commands::specs::Replies::teleported_reply, spec_commands::specs::Finding::where_so, spec_live::specs::Lives::reading, spec_live::specs::Lives::either, spec_live::specs::Lives::followed))]
 fn put(guard: &mut Guard, pass: Pass, d: u32, x: Dbref, to: Dbref) -> Result<(), NoMemory>
     requires leave { IsLeave pass (Act.Move x to) guard.old }
     ensures { Did (reading (meant_place x to) (λ place. moving d x place (tell d teleported_reply))) guard.old guard.new result }
@@ -32,7 +32,7 @@ fn put(guard: &mut Guard, pass: Pass, d: u32, x: Dbref, to: Dbref) -> Result<(),
 }
 
 /// `@teleport`: moves an object to a place, or to its home.
-#[tactic(auto, unfolding(muck_world::specs::Building::teleported, muck_rights::specs::Asking::asked, muck_live::specs::Lives::reading))]
+#[tactic(auto, unfolding(spec_commands::specs::Building::teleported, spec_rights::specs::Asking::asked, spec_live::specs::Lives::reading))]
 pub fn teleport(guard: &mut Guard, d: u32, name: &Line, target: &Line) -> Result<(), NoMemory>
     ensures { Did (teleported d guard.old.actor name.now target.now) guard.old guard.new result }
 {

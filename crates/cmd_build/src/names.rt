@@ -1,9 +1,9 @@
 // The names that objects and players may have.
 ghost use Rattle.std.specs.Prelude.{◌≡◌, ◌≤◌, true, ◌==◌, length};
 ghost use Rattle.std.specs.List.{list_any};
-ghost use Rattle.muck_live.specs.Lives.{tell};
-ghost use Rattle.muck_world.specs.Building.{is_reserved, bad_start, is_name, is_player_name};
-ghost use Rattle.muck_world.specs.Replies.{bad_name};
+ghost use Rattle.spec_live.specs.Lives.{tell};
+ghost use Rattle.spec_commands.specs.Building.{is_reserved, bad_start, is_name, is_player_name};
+ghost use Rattle.spec_commands.specs.Replies.{bad_name};
 ghost use Rattle.muck_perm.specs.Guards.{Did};
 
 use muck_db::Db;
@@ -41,7 +41,7 @@ fn has_byte(byte: u8, text: &[u8]) -> bool
 }
 
 /// Whether an object may have this name.
-#[tactic(auto, unfolding(muck_world::specs::Building::is_name))]
+#[tactic(auto, unfolding(spec_commands::specs::Building::is_name))]
 pub fn is_name(name: &[u8]) -> bool
     ensures means { result ≡ is_name name.now }
     ensures some { result ≡ true → 1 ≤ length name.now }
@@ -51,7 +51,7 @@ pub fn is_name(name: &[u8]) -> bool
 }
 
 /// Whether a player may have this name, which no player has.
-#[tactic(auto, unfolding(muck_world::specs::Building::is_player_name))]
+#[tactic(auto, unfolding(spec_commands::specs::Building::is_player_name))]
 pub fn is_player_name(db: &Db, name: &[u8]) -> bool
     ensures means { result ≡ is_player_name db.now name.now }
     ensures some { result ≡ true → 1 ≤ length name.now }
@@ -61,7 +61,7 @@ pub fn is_player_name(db: &Db, name: &[u8]) -> bool
 }
 
 /// Tells the connection that nothing may have that name.
-#[tactic(auto, unfolding(muck_world::specs::Replies::bad_name))]
+#[tactic(auto, unfolding(spec_commands::specs::Replies::bad_name))]
 pub fn bad_name(guard: &mut Guard, d: u32) -> Result<(), NoMemory>
     ensures { Did (tell d bad_name) guard.old guard.new result }
 {

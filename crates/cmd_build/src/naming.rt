@@ -1,22 +1,22 @@
 // Names.
 ghost use Rattle.std.specs.Prelude.{◌≡◌, ◌≤◌, true, length, if◌then◌else◌};
-ghost use Rattle.muck_live.specs.Objects.{is_player};
-ghost use Rattle.muck_live.specs.Lives.{◌▸◌, tell};
-ghost use Rattle.muck_rights.specs.declared.act.Act.{Act};
-ghost use Rattle.muck_rights.specs.Changing.{named};
-ghost use Rattle.muck_world.specs.Replies.{named_reply};
-ghost use Rattle.muck_world.specs.Finding.{is_so, is_object};
-ghost use Rattle.muck_world.specs.Building.{is_name_for, name_set};
+ghost use Rattle.spec_live.specs.Objects.{is_player};
+ghost use Rattle.spec_live.specs.Lives.{◌▸◌, tell};
+ghost use Rattle.spec_rights.specs.declared.act.Act.{Act};
+ghost use Rattle.spec_rights.specs.Changing.{named};
+ghost use Rattle.spec_commands.specs.Replies.{named_reply};
+ghost use Rattle.spec_commands.specs.Finding.{is_so, is_object};
+ghost use Rattle.spec_commands.specs.Building.{is_name_for, name_set};
 ghost use Rattle.muck_perm.specs.Guards.{Did, IsLeave, world_of};
 
 use crate::names::{bad_name, is_name, is_player_name};
-use cmd_parts::{find_object, refuse};
+use cmd_common::{find_object, refuse};
 use muck_model::{Dbref, Kind, Line, NoMemory};
 use muck_perm::{Guard, Pass, verdict};
-use muck_rights::Act;
+use spec_rights::Act;
 
 // Whether an object is there and is a player.
-#[tactic(auto, unfolding(muck_world::specs::Finding::is_so))]
+#[tactic(auto, unfolding(spec_commands::specs::Finding::is_so))]
 fn is_player(guard: &Guard, x: Dbref) -> bool
     ensures { result ≡ is_so (λ o. is_player o.kind) x (world_of guard.now) }
 {
@@ -40,7 +40,7 @@ fn may_have(guard: &Guard, x: Dbref, name: &[u8]) -> bool
 }
 
 // Names an object that is there.
-#[tactic(auto, using(crate::proofs::There::made_there), unfolding(muck_world::specs::Replies::named_reply, muck_live::specs::Lives::followed))]
+#[tactic(auto, using(crate::proofs::There::made_there), unfolding(spec_commands::specs::Replies::named_reply, spec_live::specs::Lives::followed))]
 fn give_name(guard: &mut Guard, pass: Pass, d: u32, x: Dbref, name: Line) -> Result<(), NoMemory>
     requires leave { IsLeave pass (Act.Rename x) guard.old }
     requires there { is_object x (world_of guard.old) ≡ true }
@@ -55,7 +55,7 @@ fn give_name(guard: &mut Guard, pass: Pass, d: u32, x: Dbref, name: Line) -> Res
 }
 
 /// `@name`: gives an object another name.
-#[tactic(auto, unfolding(muck_world::specs::Building::name_set, muck_world::specs::Finding::where_so, muck_live::specs::Lives::reading, muck_live::specs::Lives::either, muck_rights::specs::Asking::asked))]
+#[tactic(auto, unfolding(spec_commands::specs::Building::name_set, spec_commands::specs::Finding::where_so, spec_live::specs::Lives::reading, spec_live::specs::Lives::either, spec_rights::specs::Asking::asked))]
 pub fn rename(guard: &mut Guard, d: u32, name: &Line, new: &Line) -> Result<(), NoMemory>
     ensures { Did (name_set d guard.old.actor name.now new.now) guard.old guard.new result }
 {

@@ -1,21 +1,21 @@
 // The commands of programs, with what stands behind their words.
 ghost use Rattle.std.specs.Prelude.{◌≡◌};
-ghost use Rattle.muck_live.specs.Lives.{either};
-ghost use Rattle.muck_world.specs.declared.outcome.Outcome.{Outcome};
-ghost use Rattle.muck_world.specs.Going.{ended};
-ghost use Rattle.muck_world.specs.Programming.{program_made, program_edited, program_listed};
-ghost use Rattle.muck_world.specs.Commands.{is_empty, incomplete, run_done};
-ghost use Rattle.cmd_parts.specs.Plays.{Plays};
+ghost use Rattle.spec_live.specs.Lives.{either};
+ghost use Rattle.spec_commands.specs.declared.outcome.Outcome.{Outcome};
+ghost use Rattle.spec_commands.specs.Going.{ended};
+ghost use Rattle.spec_commands.specs.Programming.{program_made, program_edited, program_listed};
+ghost use Rattle.spec_commands.specs.Commands.{is_empty, incomplete, run_done};
+ghost use Rattle.cmd_common.specs.Plays.{Plays};
 
 use crate::lines::is_empty;
 use crate::programs::{edit, list, program, start};
-use cmd_parts::{incomplete, two_parts};
+use cmd_common::{incomplete, two_parts};
 use muck_model::{Line, NoMemory};
 use muck_perm::Guard;
-use muck_world::Outcome;
+use spec_commands::Outcome;
 
 /// `@program NAME`.
-#[tactic(auto, unfolding(muck_world::specs::Going::ended, muck_live::specs::Lives::either))]
+#[tactic(auto, unfolding(spec_commands::specs::Going::ended, spec_live::specs::Lives::either))]
 pub fn program_line(
     guard: &mut Guard,
     d: u32,
@@ -32,7 +32,7 @@ pub fn program_line(
 }
 
 /// `@edit NAME`.
-#[tactic(auto, unfolding(muck_world::specs::Going::ended, muck_live::specs::Lives::either))]
+#[tactic(auto, unfolding(spec_commands::specs::Going::ended, spec_live::specs::Lives::either))]
 pub fn edit_line(guard: &mut Guard, d: u32, word: &[u8], text: &Line) -> Result<Outcome, NoMemory>
     ensures { Plays (either (is_empty text.now) (ended Outcome.Done (incomplete d word.now)) (program_edited d guard.old.actor text.now)) guard.old guard.new result }
 {
@@ -44,7 +44,7 @@ pub fn edit_line(guard: &mut Guard, d: u32, word: &[u8], text: &Line) -> Result<
 }
 
 /// `@list NAME`.
-#[tactic(auto, unfolding(muck_world::specs::Going::ended, muck_live::specs::Lives::either))]
+#[tactic(auto, unfolding(spec_commands::specs::Going::ended, spec_live::specs::Lives::either))]
 pub fn list_line(guard: &mut Guard, d: u32, word: &[u8], text: &Line) -> Result<Outcome, NoMemory>
     ensures { Plays (either (is_empty text.now) (ended Outcome.Done (incomplete d word.now)) (program_listed d guard.old.actor text.now)) guard.old guard.new result }
 {
@@ -56,7 +56,7 @@ pub fn list_line(guard: &mut Guard, d: u32, word: &[u8], text: &Line) -> Result<
 }
 
 /// `@run NAME=TEXT`, in a line that is kept as it was typed.
-#[tactic(auto, unfolding(muck_world::specs::Commands::run_done, muck_world::specs::Going::ended, muck_live::specs::Lives::either))]
+#[tactic(auto, unfolding(spec_commands::specs::Commands::run_done, spec_commands::specs::Going::ended, spec_live::specs::Lives::either))]
 pub fn run_line(
     guard: &mut Guard,
     d: u32,

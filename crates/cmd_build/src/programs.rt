@@ -1,24 +1,24 @@
 // Making, editing, listing and running programs.
 ghost use Rattle.std.specs.Prelude.{◌≡◌, ◌≤◌, IfOk, length};
-ghost use Rattle.muck_live.specs.Lives.{tell};
-ghost use Rattle.muck_rights.specs.declared.act.Act.{Act};
-ghost use Rattle.muck_world.specs.Replies.{entering_editor};
-ghost use Rattle.muck_world.specs.Programming.{source_of, program_new, program_made, editor_entered, program_edited, source_shown, program_listed, program_called, program_run};
+ghost use Rattle.spec_live.specs.Lives.{tell};
+ghost use Rattle.spec_rights.specs.declared.act.Act.{Act};
+ghost use Rattle.spec_commands.specs.Replies.{entering_editor};
+ghost use Rattle.spec_commands.specs.Programming.{source_of, program_new, program_made, editor_entered, program_edited, source_shown, program_listed, program_called, program_run};
 ghost use Rattle.muck_perm.specs.Guards.{Did, IsLeave, world_of};
-ghost use Rattle.cmd_parts.specs.Plays.{Plays};
+ghost use Rattle.cmd_common.specs.Plays.{Plays};
 ghost use Rattle.cmd_build.specs.Entering.{IsEntered};
 
 use crate::making::{number_of, show_created};
 use crate::names::{bad_name, is_name};
-use cmd_parts::{cant_be_done, copy_lines, find_program, refuse, show_lines};
-use muck_live::DbFault;
+use cmd_common::{cant_be_done, copy_lines, find_program, refuse, show_lines};
 use muck_model::{Dbref, Line, LineList, NoMemory};
 use muck_perm::{Guard, Pass, verdict};
-use muck_rights::Act;
-use muck_world::Outcome;
+use spec_commands::Outcome;
+use spec_live::DbFault;
+use spec_rights::Act;
 
 // Tells the connection that an editor is opened.
-#[tactic(auto, unfolding(muck_world::specs::Replies::entering_editor))]
+#[tactic(auto, unfolding(spec_commands::specs::Replies::entering_editor))]
 fn tell_entering(guard: &mut Guard, d: u32) -> Result<(), NoMemory>
     ensures { Did (tell d entering_editor) guard.old guard.new result }
 {
@@ -27,7 +27,7 @@ fn tell_entering(guard: &mut Guard, d: u32) -> Result<(), NoMemory>
 }
 
 // Tells the connection what came of making a program, whose editor is to be opened.
-#[tactic(auto, unfolding(muck_world::specs::Going::ended, muck_live::specs::Lives::followed))]
+#[tactic(auto, unfolding(spec_commands::specs::Going::ended, spec_live::specs::Lives::followed))]
 fn enter_made(guard: &mut Guard, d: u32, made: Result<Dbref, DbFault>) -> Result<Outcome, NoMemory>
     ensures { IsEntered d made guard.old guard.new result }
 {
@@ -58,7 +58,7 @@ fn make_program(guard: &mut Guard, d: u32, pass: Pass, name: Line) -> Result<Out
 }
 
 /// `@program`: makes a program that the player carries, and whose editor is to be opened.
-#[tactic(auto, unfolding(muck_world::specs::Programming::program_made, muck_world::specs::Going::ended, muck_live::specs::Lives::either, muck_rights::specs::Asking::asked))]
+#[tactic(auto, unfolding(spec_commands::specs::Programming::program_made, spec_commands::specs::Going::ended, spec_live::specs::Lives::either, spec_rights::specs::Asking::asked))]
 pub fn program(guard: &mut Guard, d: u32, name: &Line) -> Result<Outcome, NoMemory>
     ensures { Plays (program_made d guard.old.actor name.now) guard.old guard.new result }
 {
@@ -79,7 +79,7 @@ pub fn program(guard: &mut Guard, d: u32, name: &Line) -> Result<Outcome, NoMemo
 }
 
 // The editor of a program is to be opened, where no rule denies it.
-#[tactic(auto, unfolding(muck_world::specs::Programming::editor_entered, muck_world::specs::Going::ended, muck_rights::specs::Asking::asked))]
+#[tactic(auto, unfolding(spec_commands::specs::Programming::editor_entered, spec_commands::specs::Going::ended, spec_rights::specs::Asking::asked))]
 fn enter(guard: &mut Guard, d: u32, x: Dbref) -> Result<Outcome, NoMemory>
     ensures { Plays (editor_entered d guard.old.actor x) guard.old guard.new result }
 {
@@ -98,7 +98,7 @@ fn enter(guard: &mut Guard, d: u32, x: Dbref) -> Result<Outcome, NoMemory>
 }
 
 /// `@edit`: the editor of the program of a name is to be opened.
-#[tactic(auto, unfolding(muck_world::specs::Programming::program_edited))]
+#[tactic(auto, unfolding(spec_commands::specs::Programming::program_edited))]
 pub fn edit(guard: &mut Guard, d: u32, name: &Line) -> Result<Outcome, NoMemory>
     ensures { Plays (program_edited d guard.old.actor name.now) guard.old guard.new result }
 {
@@ -120,7 +120,7 @@ fn source(guard: &Guard, pass: Pass, x: Dbref) -> Result<LineList, NoMemory>
 }
 
 // Shows the source of a program, where no rule denies it.
-#[tactic(auto, unfolding(muck_world::specs::Programming::source_shown, muck_world::specs::Going::ended, muck_live::specs::Lives::reading, muck_rights::specs::Asking::asked))]
+#[tactic(auto, unfolding(spec_commands::specs::Programming::source_shown, spec_commands::specs::Going::ended, spec_live::specs::Lives::reading, spec_rights::specs::Asking::asked))]
 fn show_source(guard: &mut Guard, d: u32, x: Dbref) -> Result<Outcome, NoMemory>
     ensures { Plays (source_shown d guard.old.actor x) guard.old guard.new result }
 {
@@ -140,7 +140,7 @@ fn show_source(guard: &mut Guard, d: u32, x: Dbref) -> Result<Outcome, NoMemory>
 }
 
 /// `@list`: shows the source of the program of a name.
-#[tactic(auto, unfolding(muck_world::specs::Programming::program_listed))]
+#[tactic(auto, unfolding(spec_commands::specs::Programming::program_listed))]
 pub fn list(guard: &mut Guard, d: u32, name: &Line) -> Result<Outcome, NoMemory>
     ensures { Plays (program_listed d guard.old.actor name.now) guard.old guard.new result }
 {
@@ -151,7 +151,7 @@ pub fn list(guard: &mut Guard, d: u32, name: &Line) -> Result<Outcome, NoMemory>
 }
 
 // A program is to be started by a line, where no rule denies it.
-#[tactic(auto, unfolding(muck_world::specs::Programming::program_called, muck_world::specs::Going::ended, muck_live::specs::Lives::unchanged, muck_rights::specs::Asking::asked))]
+#[tactic(auto, unfolding(spec_commands::specs::Programming::program_called, spec_commands::specs::Going::ended, spec_live::specs::Lives::unchanged, spec_rights::specs::Asking::asked))]
 fn call(guard: &mut Guard, d: u32, line: &Line, text: &Line, x: Dbref) -> Result<Outcome, NoMemory>
     ensures { Plays (program_called d guard.old.actor line.now text.now x) guard.old guard.new result }
 {
@@ -174,7 +174,7 @@ fn call(guard: &mut Guard, d: u32, line: &Line, text: &Line, x: Dbref) -> Result
 }
 
 /// `@run`: the program of a name is to be started by a line, with a text on its stack.
-#[tactic(auto, unfolding(muck_world::specs::Programming::program_run))]
+#[tactic(auto, unfolding(spec_commands::specs::Programming::program_run))]
 pub fn start(
     guard: &mut Guard,
     d: u32,

@@ -1,18 +1,18 @@
 // Looking for objects by a part of their names.
 ghost use Rattle.std.specs.Prelude.{◌≡◌, ◌&&◌, map, IfOk, codes, decimal};
 ghost use Rattle.std.specs.Char.{to_ascii_lowercase};
-ghost use Rattle.muck_live.specs.Objects.{same};
-ghost use Rattle.muck_live.specs.Lives.{tell};
-ghost use Rattle.muck_world.specs.Building.{begins, holds_name, owned_named, find_shown};
-ghost use Rattle.muck_world.specs.Replies.{found_count};
+ghost use Rattle.spec_live.specs.Objects.{same};
+ghost use Rattle.spec_live.specs.Lives.{tell};
+ghost use Rattle.spec_commands.specs.Building.{begins, holds_name, owned_named, find_shown};
+ghost use Rattle.spec_commands.specs.Replies.{found_count};
 ghost use Rattle.muck_perm.specs.Guards.{Did};
 ghost use Rattle.cmd_build.specs.Owned.{is_wanted, wanted_at};
 
-use cmd_parts::list;
+use cmd_common::list;
 use muck_db::Db;
-use muck_live::Object;
 use muck_model::{Dbref, Line, NoMemory};
 use muck_perm::Guard;
+use spec_live::Object;
 use std::alloc::Global;
 
 // Whether a text begins with this, without regard to case.
@@ -35,7 +35,7 @@ fn begins(part: &[u8], text: &[u8]) -> bool
 }
 
 // Whether a text stands somewhere in a name, without regard to case.
-#[tactic(auto, unfolding(muck_world::specs::Building::holds_name))]
+#[tactic(auto, unfolding(spec_commands::specs::Building::holds_name))]
 fn holds_name(part: &[u8], name: &[u8]) -> bool
     ensures { result ≡ holds_name part.now name.now }
 {
@@ -83,7 +83,7 @@ fn owned_named(alloc: Global, db: &Db, user: Dbref, part: &[u8]) -> Result<Vec<D
 }
 
 // Tells the connection how many objects were found.
-#[tactic(auto, unfolding(muck_world::specs::Replies::found_count))]
+#[tactic(auto, unfolding(spec_commands::specs::Replies::found_count))]
 fn found_count(guard: &mut Guard, d: u32, count: usize) -> Result<(), NoMemory>
     ensures { Did (tell d (found_count count)) guard.old guard.new result }
 {
@@ -93,7 +93,7 @@ fn found_count(guard: &mut Guard, d: u32, count: usize) -> Result<(), NoMemory>
 }
 
 /// `@find`: shows the user's objects whose name holds a text, by number, and then how many they are.
-#[tactic(auto, unfolding(muck_world::specs::Building::find_shown, muck_live::specs::Lives::reading, muck_live::specs::Lives::followed))]
+#[tactic(auto, unfolding(spec_commands::specs::Building::find_shown, spec_live::specs::Lives::reading, spec_live::specs::Lives::followed))]
 pub fn find(guard: &mut Guard, d: u32, part: &Line) -> Result<(), NoMemory>
     ensures { Did (find_shown d guard.old.actor part.now) guard.old guard.new result }
 {

@@ -1,21 +1,21 @@
 // Links and homes.
 ghost use Rattle.std.specs.Prelude.{◌≡◌, ◌||◌, not};
-ghost use Rattle.muck_live.specs.Objects.{nothing, is_thing, is_player, is_program};
-ghost use Rattle.muck_live.specs.Lives.{reading};
-ghost use Rattle.muck_rights.specs.declared.act.Act.{Act};
-ghost use Rattle.muck_world.specs.Building.{has_home, is_linkable, tied, untied_to, link_set, link_cleared};
-ghost use Rattle.muck_world.specs.Replies.{unlinked_reply};
+ghost use Rattle.spec_live.specs.Objects.{nothing, is_thing, is_player, is_program};
+ghost use Rattle.spec_live.specs.Lives.{reading};
+ghost use Rattle.spec_rights.specs.declared.act.Act.{Act};
+ghost use Rattle.spec_commands.specs.Building.{has_home, is_linkable, tied, untied_to, link_set, link_cleared};
+ghost use Rattle.spec_commands.specs.Replies.{unlinked_reply};
 ghost use Rattle.muck_perm.specs.Guards.{Did, IsLeave, world_of};
 
-use cmd_parts::{cant_be_done, find_one, refuse};
+use cmd_common::{cant_be_done, find_one, refuse};
 use muck_model::{Dbref, Kind, Line, NoMemory};
 use muck_perm::{Guard, Pass, verdict};
-use muck_rights::Act;
+use spec_rights::Act;
 
 const NOTHING: Dbref = Dbref(-1);
 
 // Whether an object has a home in place of a link.
-#[tactic(auto, unfolding(muck_world::specs::Finding::is_so))]
+#[tactic(auto, unfolding(spec_commands::specs::Finding::is_so))]
 fn has_home(guard: &Guard, x: Dbref) -> bool
     ensures { result ≡ has_home x (world_of guard.now) }
 {
@@ -26,7 +26,7 @@ fn has_home(guard: &Guard, x: Dbref) -> bool
 }
 
 // Whether an object has a link or a home.
-#[tactic(auto, unfolding(muck_world::specs::Finding::is_so))]
+#[tactic(auto, unfolding(spec_commands::specs::Finding::is_so))]
 fn is_linkable(guard: &Guard, x: Dbref) -> bool
     ensures { result ≡ is_linkable x (world_of guard.now) }
 {
@@ -37,7 +37,7 @@ fn is_linkable(guard: &Guard, x: Dbref) -> bool
 }
 
 // Sets the link or the home of an object, where the world allows it.
-#[tactic(auto, unfolding(muck_world::specs::Building::tied, muck_world::specs::Finding::where_so, muck_live::specs::Lives::reading, muck_live::specs::Lives::either, muck_live::specs::Lives::followed))]
+#[tactic(auto, unfolding(spec_commands::specs::Building::tied, spec_commands::specs::Finding::where_so, spec_live::specs::Lives::reading, spec_live::specs::Lives::either, spec_live::specs::Lives::followed))]
 fn tie(
     guard: &mut Guard,
     pass: Pass,
@@ -61,7 +61,7 @@ fn tie(
 }
 
 // Clears the link of an object, or makes `#0` its home.
-#[tactic(auto, unfolding(muck_world::specs::Building::tied, muck_world::specs::Replies::unlinked_reply, muck_world::specs::Finding::where_so, muck_live::specs::Lives::reading, muck_live::specs::Lives::either, muck_live::specs::Lives::followed))]
+#[tactic(auto, unfolding(spec_commands::specs::Building::tied, spec_commands::specs::Replies::unlinked_reply, spec_commands::specs::Finding::where_so, spec_live::specs::Lives::reading, spec_live::specs::Lives::either, spec_live::specs::Lives::followed))]
 fn untie(guard: &mut Guard, pass: Pass, d: u32, x: Dbref) -> Result<(), NoMemory>
     requires leave { IsLeave pass (Act.Link x nothing) guard.old }
     ensures { Did (reading (untied_to x) (λ to. tied d x to unlinked_reply)) guard.old guard.new result }
@@ -78,7 +78,7 @@ fn untie(guard: &mut Guard, pass: Pass, d: u32, x: Dbref) -> Result<(), NoMemory
 }
 
 /// `@link`: gives an exit or a room a link, a thing or a player a home.
-#[tactic(auto, unfolding(muck_world::specs::Building::link_set, muck_world::specs::Replies::linked_reply, muck_world::specs::Finding::where_so, muck_live::specs::Lives::reading, muck_live::specs::Lives::either, muck_rights::specs::Asking::asked))]
+#[tactic(auto, unfolding(spec_commands::specs::Building::link_set, spec_commands::specs::Replies::linked_reply, spec_commands::specs::Finding::where_so, spec_live::specs::Lives::reading, spec_live::specs::Lives::either, spec_rights::specs::Asking::asked))]
 pub fn link(guard: &mut Guard, d: u32, name: &Line, target: &Line) -> Result<(), NoMemory>
     ensures { Did (link_set d guard.old.actor name.now target.now) guard.old guard.new result }
 {
@@ -99,7 +99,7 @@ pub fn link(guard: &mut Guard, d: u32, name: &Line, target: &Line) -> Result<(),
 }
 
 /// `@unlink`: clears the link of an exit or a room; the home of a thing or a player becomes `#0`.
-#[tactic(auto, unfolding(muck_world::specs::Building::link_cleared, muck_world::specs::Finding::where_so, muck_live::specs::Lives::reading, muck_live::specs::Lives::either, muck_rights::specs::Asking::asked))]
+#[tactic(auto, unfolding(spec_commands::specs::Building::link_cleared, spec_commands::specs::Finding::where_so, spec_live::specs::Lives::reading, spec_live::specs::Lives::either, spec_rights::specs::Asking::asked))]
 pub fn unlink(guard: &mut Guard, d: u32, name: &Line) -> Result<(), NoMemory>
     ensures { Did (link_cleared d guard.old.actor name.now) guard.old guard.new result }
 {

@@ -1,8 +1,8 @@
 // The words of builders.
 ghost use Rattle.std.specs.Prelude.{◌≡◌};
-ghost use Rattle.muck_world.specs.Commands.{make_word, tie_word, message_word, program_word, build_word};
+ghost use Rattle.spec_commands.specs.Commands.{make_word, tie_word, message_word, program_word, build_word};
 
-use muck_world::{BuildWord, Message, alike};
+use spec_commands::{BuildWord, Message, alike};
 
 // A word that makes something, or does away with it.
 fn make_word(word: &[u8]) -> Option<BuildWord>
@@ -105,7 +105,7 @@ fn program_word(word: &[u8]) -> Option<BuildWord>
 }
 
 /// What a word asks of a builder, in any case of letters; `None` exactly where it is no word of builders.
-#[tactic(auto, unfolding(muck_world::specs::Commands::build_word))]
+#[tactic(auto, unfolding(spec_commands::specs::Commands::build_word))]
 pub fn build_word(word: &[u8]) -> Option<BuildWord>
     ensures { result ≡ build_word word.now }
 {

@@ -6,10 +6,10 @@ use Rattle.muck_model.specs.declared.dbref.Dbref.{Dbref}
 use Rattle.muck_prop.specs.declared.value.PropValue.{PropValue}
 use Rattle.muck_prop.specs.declared.value.PropValue.TheVariants.{Text, Number}
 use Rattle.muck_prop.specs.Paths.{path_fault, segments_of}
-use Rattle.muck_live.specs.declared.object.Object.{Object}
-use Rattle.muck_live.specs.Objects.{object_at}
-use Rattle.muck_live.specs.Lives.{Live}
-use Rattle.muck_world.specs.Finding.{message_path, message_at, text_of}
+use Rattle.spec_live.specs.declared.object.Object.{Object}
+use Rattle.spec_live.specs.Objects.{object_at}
+use Rattle.spec_live.specs.Lives.{Live}
+use Rattle.spec_commands.specs.Finding.{message_path, message_at, text_of}
 use Rattle.muck_perm.specs.Guards.{kept_text, text_kept}
 
 text_same : (value : Option PropValue) → option_and_then kept_text value ≡ option_and_then text_of value

@@ -4,26 +4,26 @@ use Rattle.std.specs.Prelude.{codes, ◌||◌}
 use Rattle.muck_model.specs.declared.dbref.Dbref.{Dbref}
 use Rattle.muck_model.specs.declared.memory.NoMemory.{NoMemory}
 use Rattle.muck_match.specs.declared.exits.ExitHit.{ExitHit}
-use Rattle.muck_live.specs.Objects.{Entry}
-use Rattle.muck_live.specs.Lives.{Live, unchanged}
-use Rattle.muck_rights.specs.declared.act.Actor.{Actor}
-use Rattle.muck_rights.specs.Licence.{Licensed, oneself}
-use Rattle.muck_rights.proofs.Lookups.{same_eq}
-use Rattle.muck_rights.proofs.Licences.{Whole, Always, whole_ends, whole_quiet, licensed, quiet_unchanged}
-use Rattle.muck_world.specs.declared.outcome.Outcome.{Outcome}
-use Rattle.muck_world.specs.declared.outcome.Outcome.TheVariants.{NotMine}
-use Rattle.muck_world.specs.declared.word.PlayWord.{PlayWord}
-use Rattle.muck_world.specs.declared.word.PlayWord.TheVariants.{Look, Say, Pose, Page, Whisper, Go, Get, Drop, Inventory, Home, Examine, Who, Quit}
-use Rattle.muck_world.specs.Texts.{first_word, trimmed}
-use Rattle.muck_world.specs.Going.{Play, ended, walked}
-use Rattle.muck_world.specs.Free.{free_word, free_by}
-use Rattle.muck_world.specs.Commands.{play_word, play_done, play_some, play_words, play_line}
-use Rattle.muck_world.proofs.Gone.{whole_ended, walked_open}
-use Rattle.muck_world.proofs.Gone as gone
-use Rattle.muck_world.proofs.Permitted.{play_open}
+use Rattle.spec_live.specs.Objects.{Entry}
+use Rattle.spec_live.specs.Lives.{Live, unchanged}
+use Rattle.spec_rights.specs.declared.act.Actor.{Actor}
+use Rattle.spec_rights.specs.Licence.{Licensed, oneself}
+use Rattle.spec_rights.proofs.Lookups.{same_eq}
+use Rattle.spec_rights.proofs.Licences.{Whole, Always, whole_ends, whole_quiet, licensed, quiet_unchanged}
+use Rattle.spec_commands.specs.declared.outcome.Outcome.{Outcome}
+use Rattle.spec_commands.specs.declared.outcome.Outcome.TheVariants.{NotMine}
+use Rattle.spec_commands.specs.declared.word.PlayWord.{PlayWord}
+use Rattle.spec_commands.specs.declared.word.PlayWord.TheVariants.{Look, Say, Pose, Page, Whisper, Go, Get, Drop, Inventory, Home, Examine, Who, Quit}
+use Rattle.spec_commands.specs.Texts.{first_word, trimmed}
+use Rattle.spec_commands.specs.Going.{Play, ended, walked}
+use Rattle.spec_commands.specs.Free.{free_word, free_by}
+use Rattle.spec_commands.specs.Commands.{play_word, play_done, play_some, play_words, play_line}
+use Rattle.spec_commands.proofs.Gone.{whole_ended, walked_open}
+use Rattle.spec_commands.proofs.Gone as gone
+use Rattle.spec_commands.proofs.Permitted.{play_open}
 use Rattle.muck_perm.specs.declared.guard.Guard.{Guard}
 use Rattle.muck_perm.specs.Guards.{world_of}
-use Rattle.cmd_parts.specs.Plays.{Plays}
+use Rattle.cmd_common.specs.Plays.{Plays}
 use Rattle.cmd_play.specs.Free.{free_play}
 
 -- what keeps to the licence is licensed where a guard plays it

@@ -1,12 +1,12 @@
 -- What words do without a text.
 use Rattle.std.proofs.Common.{◌≡◌, ℕ, true, List, [], ◌∷◌, refl}
-use Rattle.muck_live.specs.Lives.{Live, either}
-use Rattle.muck_rights.specs.declared.act.Actor.{Actor}
-use Rattle.muck_world.specs.declared.outcome.Outcome.TheVariants.{Done}
-use Rattle.muck_world.specs.declared.word.PlayWord.{PlayWord}
-use Rattle.muck_world.specs.declared.word.PlayWord.TheVariants.{Look, Say, Pose, Page, Whisper, Go, Get, Drop, Inventory, Home, Examine, Who, Quit}
-use Rattle.muck_world.specs.Going.{ended}
-use Rattle.muck_world.specs.Commands.{incomplete, one_part, play_done, is_empty}
+use Rattle.spec_live.specs.Lives.{Live, either}
+use Rattle.spec_rights.specs.declared.act.Actor.{Actor}
+use Rattle.spec_commands.specs.declared.outcome.Outcome.TheVariants.{Done}
+use Rattle.spec_commands.specs.declared.word.PlayWord.{PlayWord}
+use Rattle.spec_commands.specs.declared.word.PlayWord.TheVariants.{Look, Say, Pose, Page, Whisper, Go, Get, Drop, Inventory, Home, Examine, Who, Quit}
+use Rattle.spec_commands.specs.Going.{ended}
+use Rattle.spec_commands.specs.Commands.{incomplete, one_part, play_done, is_empty}
 use Rattle.cmd_play.specs.Needs.{needs_text}
 
 pub text_missing : (d : ℕ) (a : Actor) (word text : List ℕ) (found : PlayWord) (w : Live) → needs_text found ≡ true → is_empty text ≡ true → play_done d a word text found w ≡ ended Done (incomplete d word) w

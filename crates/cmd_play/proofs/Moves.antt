@@ -6,18 +6,18 @@ use Rattle.muck_model.specs.declared.dbref.Dbref.{Dbref}
 use Rattle.muck_model.specs.declared.dbref.Kind.{Kind}
 use Rattle.muck_model.specs.declared.dbref.Kind.TheVariants.{Room, Thing, Exit, Player, Program, Garbage}
 use Rattle.muck_model.specs.declared.memory.NoMemory.{NoMemory}
-use Rattle.muck_live.specs.declared.fault.DbFault.{DbFault}
-use Rattle.muck_live.specs.declared.object.Object.{Object}
-use Rattle.muck_live.specs.Objects.{Entry, same, is_thing, is_program, object_at}
-use Rattle.muck_live.specs.Lives.{Live, Change}
-use Rattle.muck_rights.specs.declared.act.Actor.{Actor}
-use Rattle.muck_rights.specs.declared.act.Act.{Act}
-use Rattle.muck_rights.specs.Verdict.{place_of, verdict}
-use Rattle.muck_rights.specs.Licence.{at_hand, at_hand_kind}
-use Rattle.muck_rights.proofs.Licences.{Quiet}
-use Rattle.muck_world.specs.Finding.{is_so, shown_others}
-use Rattle.muck_world.specs.Going.{may_move, is_carried, succeeded}
-use Rattle.muck_world.proofs.Showing.{seeing, quiet_shown_others}
+use Rattle.spec_live.specs.declared.fault.DbFault.{DbFault}
+use Rattle.spec_live.specs.declared.object.Object.{Object}
+use Rattle.spec_live.specs.Objects.{Entry, same, is_thing, is_program, object_at}
+use Rattle.spec_live.specs.Lives.{Live, Change}
+use Rattle.spec_rights.specs.declared.act.Actor.{Actor}
+use Rattle.spec_rights.specs.declared.act.Act.{Act}
+use Rattle.spec_rights.specs.Verdict.{place_of, verdict}
+use Rattle.spec_rights.specs.Licence.{at_hand, at_hand_kind}
+use Rattle.spec_rights.proofs.Licences.{Quiet}
+use Rattle.spec_commands.specs.Finding.{is_so, shown_others}
+use Rattle.spec_commands.specs.Going.{may_move, is_carried, succeeded}
+use Rattle.spec_commands.proofs.Showing.{seeing, quiet_shown_others}
 use Rattle.muck_perm.specs.declared.rules.Pass.{Pass}
 use Rattle.muck_perm.specs.declared.guard.Guard.{Guard}
 use Rattle.muck_perm.specs.Verdicts.{IsVerdict}

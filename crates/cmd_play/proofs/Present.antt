@@ -5,13 +5,13 @@ use Rattle.std.specs.Option.{option_map, option_map_or}
 use Rattle.std.specs.List.{filter, cons_option}
 use Rattle.muck_model.specs.declared.dbref.Dbref.{Dbref}
 use Rattle.muck_model.specs.declared.memory.NoMemory.{NoMemory}
-use Rattle.muck_live.specs.Connections.{Connection, has_player}
-use Rattle.muck_live.specs.Lives.{Live, followed, reading, unchanged, tell, name_at}
-use Rattle.muck_world.specs.Replies.{connected_line, connected_count}
-use Rattle.muck_world.specs.Talking.{who_lines, who_shown}
+use Rattle.spec_live.specs.Connections.{Connection, has_player}
+use Rattle.spec_live.specs.Lives.{Live, followed, reading, unchanged, tell, name_at}
+use Rattle.spec_commands.specs.Replies.{connected_line, connected_count}
+use Rattle.spec_commands.specs.Talking.{who_lines, who_shown}
 use Rattle.muck_perm.specs.declared.guard.Guard.{Guard}
 use Rattle.muck_perm.specs.Guards.{Did, Done, world_of, with_world}
-use Rattle.cmd_parts.proofs.Doing.{did_both, did_nothing}
+use Rattle.cmd_common.proofs.Doing.{did_both, did_nothing}
 use Rattle.cmd_play.specs.declared.talking.Presence.{Presence}
 use Rattle.cmd_play.specs.Presences.{presences, presence_shown, presences_shown}
 

@@ -1,8 +1,8 @@
 -- What is seen where a player went through an exit, or dropped something.
 use Rattle.std.specs.Prelude.{ℕ, codes}
 use Rattle.muck_model.specs.declared.dbref.Dbref.{Dbref}
-use Rattle.muck_live.specs.Lives.{Change, ◌▸◌}
-use Rattle.muck_world.specs.Finding.{message_shown, message_to_others}
+use Rattle.spec_live.specs.Lives.{Change, ◌▸◌}
+use Rattle.spec_commands.specs.Finding.{message_shown, message_to_others}
 
 -- the messages of dropping, of an exit or of what was dropped
 abbrev pub drop_shown : ℕ → Dbref → Dbref → Change

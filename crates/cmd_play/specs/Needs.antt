@@ -1,7 +1,7 @@
 -- What the words of players are followed by.
 use Rattle.std.specs.Prelude.{Bool, true, false}
-use Rattle.muck_world.specs.declared.word.PlayWord.{PlayWord}
-use Rattle.muck_world.specs.declared.word.PlayWord.TheVariants.{Say, Pose, Go, Get, Drop, Examine}
+use Rattle.spec_commands.specs.declared.word.PlayWord.{PlayWord}
+use Rattle.spec_commands.specs.declared.word.PlayWord.TheVariants.{Say, Pose, Go, Get, Drop, Examine}
 
 -- a text has to stand behind it
 abbrev pub needs_text : PlayWord → Bool

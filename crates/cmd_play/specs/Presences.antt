@@ -2,9 +2,9 @@
 use Rattle.std.specs.Prelude.{ℕ, List, [], ◌∷◌, Option}
 use Rattle.std.specs.Option.{option_map}
 use Rattle.std.specs.List.{filter_map}
-use Rattle.muck_live.specs.Connections.{Connection}
-use Rattle.muck_live.specs.Lives.{Change, ◌▸◌, reading, unchanged, tell, name_at}
-use Rattle.muck_world.specs.Replies.{connected_line}
+use Rattle.spec_live.specs.Connections.{Connection}
+use Rattle.spec_live.specs.Lives.{Change, ◌▸◌, reading, unchanged, tell, name_at}
+use Rattle.spec_commands.specs.Replies.{connected_line}
 use Rattle.cmd_play.specs.declared.talking.Presence.{Presence}
 
 -- a connection that has a player

@@ -1,13 +1,13 @@
 // A line of a player.
 ghost use Rattle.std.specs.Prelude.{◌≡◌, OnOk};
-ghost use Rattle.muck_live.specs.Lives.{tell, either};
-ghost use Rattle.muck_rights.specs.Licence.{Licensed};
-ghost use Rattle.muck_world.specs.Replies.{goodbye};
-ghost use Rattle.muck_world.specs.Finding.{looked, looked_at};
-ghost use Rattle.muck_world.specs.Talking.{paged, whispered};
-ghost use Rattle.muck_world.specs.Commands.{is_empty, two_parts, play_done, play_words, play_line};
+ghost use Rattle.spec_live.specs.Lives.{tell, either};
+ghost use Rattle.spec_rights.specs.Licence.{Licensed};
+ghost use Rattle.spec_commands.specs.Replies.{goodbye};
+ghost use Rattle.spec_commands.specs.Finding.{looked, looked_at};
+ghost use Rattle.spec_commands.specs.Talking.{paged, whispered};
+ghost use Rattle.spec_commands.specs.Commands.{is_empty, two_parts, play_done, play_words, play_line};
 ghost use Rattle.muck_perm.specs.Guards.{Did, world_of};
-ghost use Rattle.cmd_parts.specs.Plays.{Plays};
+ghost use Rattle.cmd_common.specs.Plays.{Plays};
 ghost use Rattle.cmd_play.specs.Needs.{needs_text};
 ghost use Rattle.cmd_play.specs.Free.{free_play};
 
@@ -16,10 +16,10 @@ use crate::looking::{examine, inventory, look, look_at};
 use crate::taking::{drop, take};
 use crate::talking::{page, pose, say, whisper, who};
 use crate::words::play_word;
-use cmd_parts::{after_sign, after_word, incomplete, two_parts};
+use cmd_common::{after_sign, after_word, incomplete, two_parts};
 use muck_model::{Line, NoMemory};
 use muck_perm::Guard;
-use muck_world::{Outcome, PlayWord, cut_word, trim};
+use spec_commands::{Outcome, PlayWord, cut_word, trim};
 
 // Whether a word is one that has to be followed by a text.
 fn needs_text(found: PlayWord) -> bool
@@ -43,7 +43,7 @@ fn is_empty(text: &Line) -> bool
 }
 
 // The player looks where it is, or at what it names.
-#[tactic(auto, unfolding(muck_live::specs::Lives::either))]
+#[tactic(auto, unfolding(spec_live::specs::Lives::either))]
 fn look_around(guard: &mut Guard, d: u32, text: &Line) -> Result<(), NoMemory>
     ensures { Did (either (is_empty text.now) (looked d guard.old.actor.player) (looked_at d guard.old.actor text.now)) guard.old guard.new result }
 {
@@ -55,7 +55,7 @@ fn look_around(guard: &mut Guard, d: u32, text: &Line) -> Result<(), NoMemory>
 }
 
 // The player pages the one named before the `=`.
-#[tactic(auto, unfolding(muck_live::specs::Lives::either, muck_world::specs::Commands::two_parts))]
+#[tactic(auto, unfolding(spec_live::specs::Lives::either, spec_commands::specs::Commands::two_parts))]
 fn page_parts(guard: &mut Guard, d: u32, word: &[u8], text: &Line) -> Result<(), NoMemory>
     ensures { Did (two_parts d word.now text.now (paged d guard.old.actor.player)) guard.old guard.new result }
 {
@@ -66,7 +66,7 @@ fn page_parts(guard: &mut Guard, d: u32, word: &[u8], text: &Line) -> Result<(),
 }
 
 // The player whispers to the one named before the `=`.
-#[tactic(auto, unfolding(muck_live::specs::Lives::either, muck_world::specs::Commands::two_parts))]
+#[tactic(auto, unfolding(spec_live::specs::Lives::either, spec_commands::specs::Commands::two_parts))]
 fn whisper_parts(guard: &mut Guard, d: u32, word: &[u8], text: &Line) -> Result<(), NoMemory>
     ensures { Did (two_parts d word.now text.now (whispered d guard.old.actor.player)) guard.old guard.new result }
 {
@@ -76,7 +76,7 @@ fn whisper_parts(guard: &mut Guard, d: u32, word: &[u8], text: &Line) -> Result<
     }
 }
 
-#[tactic(auto, unfolding(muck_world::specs::Replies::goodbye))]
+#[tactic(auto, unfolding(spec_commands::specs::Replies::goodbye))]
 fn say_goodbye(guard: &mut Guard, d: u32) -> Result<(), NoMemory>
     ensures { Did (tell d goodbye) guard.old guard.new result }
 {
@@ -84,7 +84,7 @@ fn say_goodbye(guard: &mut Guard, d: u32) -> Result<(), NoMemory>
 }
 
 // What a word does with the text behind it.
-#[tactic(auto, using(crate::proofs::Missing::text_missing), unfolding(muck_live::specs::Lives::either, muck_world::specs::Going::ended, muck_world::specs::Commands::one_part, muck_world::specs::Commands::play_done))]
+#[tactic(auto, using(crate::proofs::Missing::text_missing), unfolding(spec_live::specs::Lives::either, spec_commands::specs::Going::ended, spec_commands::specs::Commands::one_part, spec_commands::specs::Commands::play_done))]
 fn do_word(
     guard: &mut Guard,
     d: u32,
@@ -120,7 +120,7 @@ fn do_word(
 }
 
 // A line that doesn't begin with a sign.
-#[tactic(auto, unfolding(muck_live::specs::Lives::unchanged, muck_world::specs::Going::ended, muck_world::specs::Commands::play_words))]
+#[tactic(auto, unfolding(spec_live::specs::Lives::unchanged, spec_commands::specs::Going::ended, spec_commands::specs::Commands::play_words))]
 fn do_words(guard: &mut Guard, d: u32, line: &Line) -> Result<Outcome, NoMemory>
     ensures { Plays (play_words d guard.old.actor line.now) guard.old guard.new result }
 {
@@ -133,7 +133,7 @@ fn do_words(guard: &mut Guard, d: u32, line: &Line) -> Result<Outcome, NoMemory>
 }
 
 // Any line.
-#[tactic(auto, unfolding(muck_live::specs::Lives::unchanged, muck_world::specs::Going::ended, muck_world::specs::Commands::play_line))]
+#[tactic(auto, unfolding(spec_live::specs::Lives::unchanged, spec_commands::specs::Going::ended, spec_commands::specs::Commands::play_line))]
 fn do_line(guard: &mut Guard, d: u32, line: &Line) -> Result<Outcome, NoMemory>
     ensures { Plays (play_line d guard.old.actor line.now) guard.old guard.new result }
 {

@@ -1,26 +1,26 @@
 // Going: home, and through exits.
 ghost use Rattle.std.specs.Prelude.{◌≡◌, IfOk, OnOk, drop, true};
 ghost use Rattle.muck_match.specs.Exits.{exit_for};
-ghost use Rattle.muck_live.specs.Seen.{scenery_of};
-ghost use Rattle.muck_live.specs.Lives.{◌▸◌, unchanged, tell};
-ghost use Rattle.muck_rights.specs.declared.act.Act.{Act};
-ghost use Rattle.muck_rights.specs.Changing.{moved_to};
-ghost use Rattle.muck_rights.specs.Licence.{Licensed, oneself};
-ghost use Rattle.muck_world.specs.Replies.{cant_go, has_left, has_arrived};
-ghost use Rattle.muck_world.specs.Finding.{shown_others, looked};
-ghost use Rattle.muck_world.specs.Going.{home_at, link_at, movable, gone, gone_home, argument_of, led_place, is_program_at, led, failed, succeeded, walked, went};
+ghost use Rattle.spec_live.specs.Seen.{scenery_of};
+ghost use Rattle.spec_live.specs.Lives.{◌▸◌, unchanged, tell};
+ghost use Rattle.spec_rights.specs.declared.act.Act.{Act};
+ghost use Rattle.spec_rights.specs.Changing.{moved_to};
+ghost use Rattle.spec_rights.specs.Licence.{Licensed, oneself};
+ghost use Rattle.spec_commands.specs.Replies.{cant_go, has_left, has_arrived};
+ghost use Rattle.spec_commands.specs.Finding.{shown_others, looked};
+ghost use Rattle.spec_commands.specs.Going.{home_at, link_at, movable, gone, gone_home, argument_of, led_place, is_program_at, led, failed, succeeded, walked, went};
 ghost use Rattle.muck_perm.specs.Guards.{Did, Done, IsLeave, world_of};
-ghost use Rattle.cmd_parts.specs.Plays.{Plays};
+ghost use Rattle.cmd_common.specs.Plays.{Plays};
 ghost use Rattle.cmd_play.specs.Dropping.{drop_shown};
 
 use crate::looking::look;
 use crate::messages::{message_or, message_to_others, show_message};
-use cmd_parts::{cant_be_done, line_of, show_others};
+use cmd_common::{cant_be_done, line_of, show_others};
 use muck_match::{ExitHit, HOME, NOTHING, exit_for};
 use muck_model::{Dbref, Kind, Line, NoMemory};
 use muck_perm::{Guard, Pass, verdict};
-use muck_rights::Act;
-use muck_world::{Message, Outcome};
+use spec_commands::{Message, Outcome};
+use spec_rights::Act;
 
 // The home of an object, `#-1` where it isn't there.
 fn home_at(guard: &Guard, x: Dbref) -> Dbref
@@ -43,7 +43,7 @@ pub fn link_at(guard: &Guard, x: Dbref) -> Dbref
 }
 
 // Whether an object is a program.
-#[tactic(auto, unfolding(muck_world::specs::Finding::is_so))]
+#[tactic(auto, unfolding(spec_commands::specs::Finding::is_so))]
 fn is_program_at(guard: &Guard, x: Dbref) -> bool
     ensures { result ≡ is_program_at x (world_of guard.now) }
 {
@@ -61,7 +61,7 @@ fn movable(guard: &Guard, x: Dbref, to: Dbref) -> bool
 }
 
 /// A player may do something with an object: the object's messages of success.
-#[tactic(auto, unfolding(muck_world::specs::Going::succeeded, muck_live::specs::Lives::followed))]
+#[tactic(auto, unfolding(spec_commands::specs::Going::succeeded, spec_live::specs::Lives::followed))]
 pub fn succeed(guard: &mut Guard, d: u32, player: Dbref, x: Dbref) -> Result<(), NoMemory>
     ensures { Did (succeeded d player x) guard.old guard.new result }
 {
@@ -71,7 +71,7 @@ pub fn succeed(guard: &mut Guard, d: u32, player: Dbref, x: Dbref) -> Result<(),
 }
 
 /// A player may not: the object's messages of failure, and what the player sees without one.
-#[tactic(auto, unfolding(muck_world::specs::Going::failed, muck_live::specs::Lives::followed))]
+#[tactic(auto, unfolding(spec_commands::specs::Going::failed, spec_live::specs::Lives::followed))]
 pub fn fail(
     guard: &mut Guard,
     d: u32,
@@ -87,7 +87,7 @@ pub fn fail(
 }
 
 /// What is seen where a player went through an exit or dropped something: its messages of dropping.
-#[tactic(auto, unfolding(muck_live::specs::Lives::followed))]
+#[tactic(auto, unfolding(spec_live::specs::Lives::followed))]
 pub fn show_drop(guard: &mut Guard, d: u32, player: Dbref, x: Dbref) -> Result<(), NoMemory>
     ensures { Did (drop_shown d player x) guard.old guard.new result }
 {
@@ -123,7 +123,7 @@ fn step_through(guard: &mut Guard, pass: Pass, exit: Dbref, to: Dbref)
 }
 
 // The others see the player leave.
-#[tactic(auto, unfolding(muck_world::specs::Replies::has_left))]
+#[tactic(auto, unfolding(spec_commands::specs::Replies::has_left))]
 fn show_leaving(guard: &mut Guard, player: Dbref) -> Result<(), NoMemory>
     ensures shown { Did (shown_others player has_left) guard.old guard.new result }
     ensures kept { OnOk result (guard.new.db.now ≡ guard.old.db.now) }
@@ -132,7 +132,7 @@ fn show_leaving(guard: &mut Guard, player: Dbref) -> Result<(), NoMemory>
 }
 
 // The others see the player arrive.
-#[tactic(auto, unfolding(muck_world::specs::Replies::has_arrived))]
+#[tactic(auto, unfolding(spec_commands::specs::Replies::has_arrived))]
 fn show_arriving(guard: &mut Guard, player: Dbref) -> Result<(), NoMemory>
     ensures { Did (shown_others player has_arrived) guard.old guard.new result }
 {
@@ -140,7 +140,7 @@ fn show_arriving(guard: &mut Guard, player: Dbref) -> Result<(), NoMemory>
 }
 
 // The player walks home, where the world allows it.
-#[tactic(auto, unfolding(muck_live::specs::Lives::followed, muck_live::specs::Lives::unchanged))]
+#[tactic(auto, unfolding(spec_live::specs::Lives::followed, spec_live::specs::Lives::unchanged))]
 fn walk_home(guard: &mut Guard, d: u32, home: Dbref) -> Result<(), NoMemory>
     requires home { home_at guard.old.actor.player (world_of guard.old) ≡ home }
     requires may { movable guard.old.actor.player home (world_of guard.old) ≡ true }
@@ -154,7 +154,7 @@ fn walk_home(guard: &mut Guard, d: u32, home: Dbref) -> Result<(), NoMemory>
 }
 
 /// The player walks home, which others see, and looks; or the world refuses it.
-#[tactic(auto, unfolding(muck_world::specs::Going::gone_home, muck_world::specs::Going::gone, muck_world::specs::Finding::where_so, muck_live::specs::Lives::reading, muck_live::specs::Lives::either))]
+#[tactic(auto, unfolding(spec_commands::specs::Going::gone_home, spec_commands::specs::Going::gone, spec_commands::specs::Finding::where_so, spec_live::specs::Lives::reading, spec_live::specs::Lives::either))]
 pub fn go_home(guard: &mut Guard, d: u32) -> Result<(), NoMemory>
     ensures { Did (gone_home d guard.old.actor.player) guard.old guard.new result }
 {
@@ -168,7 +168,7 @@ pub fn go_home(guard: &mut Guard, d: u32) -> Result<(), NoMemory>
 }
 
 // The player goes through an exit, where the world allows it.
-#[tactic(auto, unfolding(muck_live::specs::Lives::followed))]
+#[tactic(auto, unfolding(spec_live::specs::Lives::followed))]
 fn walk_through(
     guard: &mut Guard,
     d: u32,
@@ -190,7 +190,7 @@ fn walk_through(
 
 // The player goes through an exit to another place, which others see, sees the exit's messages of dropping, and looks;
 // or the world refuses it.
-#[tactic(auto, unfolding(muck_world::specs::Going::gone, muck_world::specs::Finding::where_so, muck_live::specs::Lives::reading, muck_live::specs::Lives::either))]
+#[tactic(auto, unfolding(spec_commands::specs::Going::gone, spec_commands::specs::Finding::where_so, spec_live::specs::Lives::reading, spec_live::specs::Lives::either))]
 fn go_through(guard: &mut Guard, d: u32, pass: Pass, exit: Dbref, to: Dbref) -> Result<(), NoMemory>
     requires { IsLeave pass (Act.Walk exit) guard.old }
     ensures { Did (gone d guard.old.actor.player to (drop_shown d guard.old.actor.player exit)) guard.old guard.new result }
@@ -203,7 +203,7 @@ fn go_through(guard: &mut Guard, d: u32, pass: Pass, exit: Dbref, to: Dbref) -> 
     }
 }
 
-#[tactic(auto, unfolding(muck_world::specs::Replies::cant_go))]
+#[tactic(auto, unfolding(spec_commands::specs::Replies::cant_go))]
 fn cant_go(guard: &mut Guard, d: u32) -> Result<(), NoMemory>
     ensures { Did (tell d cant_go) guard.old guard.new result }
 {
@@ -234,7 +234,7 @@ fn behind(line: &[u8], at: usize) -> &[u8]
 }
 
 // A program is to be started by a line that took an exit.
-#[tactic(auto, using(cmd_parts::proofs::Texts::parts_are_texts))]
+#[tactic(auto, using(cmd_common::proofs::Texts::parts_are_texts))]
 fn start(guard: &Guard, hit: ExitHit, line: &Line, program: Dbref) -> Result<Outcome, NoMemory>
     ensures { IfOk result (λ outcome. outcome ≡ Outcome.Start program hit.exit line.now (argument_of hit line.now)) }
 {
@@ -248,7 +248,7 @@ fn start(guard: &Guard, hit: ExitHit, line: &Line, program: Dbref) -> Result<Out
 }
 
 // The exit leads there: a program is to be started, and to any other place the player goes.
-#[tactic(auto, unfolding(muck_world::specs::Going::led, muck_world::specs::Going::ended, muck_world::specs::Finding::where_so, muck_live::specs::Lives::reading, muck_live::specs::Lives::either, muck_live::specs::Lives::unchanged))]
+#[tactic(auto, unfolding(spec_commands::specs::Going::led, spec_commands::specs::Going::ended, spec_commands::specs::Finding::where_so, spec_live::specs::Lives::reading, spec_live::specs::Lives::either, spec_live::specs::Lives::unchanged))]
 fn lead(
     guard: &mut Guard,
     d: u32,
@@ -274,7 +274,7 @@ fn lead(
 }
 
 // The player tries an exit that takes the line.
-#[tactic(auto, unfolding(muck_world::specs::Going::walked, muck_world::specs::Going::ended, muck_rights::specs::Asking::asked, muck_live::specs::Lives::reading, muck_live::specs::Lives::followed, muck_world::specs::Replies::cant_go))]
+#[tactic(auto, unfolding(spec_commands::specs::Going::walked, spec_commands::specs::Going::ended, spec_rights::specs::Asking::asked, spec_live::specs::Lives::reading, spec_live::specs::Lives::followed, spec_commands::specs::Replies::cant_go))]
 fn try_exit(guard: &mut Guard, d: u32, hit: ExitHit, line: &Line) -> Result<Outcome, NoMemory>
     ensures { Plays (walked d guard.old.actor hit line.now) guard.old guard.new result }
 {
@@ -305,7 +305,7 @@ pub fn walk(guard: &mut Guard, d: u32, hit: ExitHit, line: &Line) -> Result<Outc
 }
 
 /// `go` and the words that an exit takes: the player walks through that exit.
-#[tactic(auto, unfolding(muck_world::specs::Going::went, muck_world::specs::Going::ended, muck_live::specs::Lives::reading))]
+#[tactic(auto, unfolding(spec_commands::specs::Going::went, spec_commands::specs::Going::ended, spec_live::specs::Lives::reading))]
 pub fn go(guard: &mut Guard, d: u32, line: &Line) -> Result<Outcome, NoMemory>
     ensures { Plays (went d guard.old.actor line.now) guard.old guard.new result }
 {

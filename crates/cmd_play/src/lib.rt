@@ -1,4 +1,4 @@
-//! What players do. Each function changes the world that a guard lends just as the definition of `muck_world` of that
+//! What players do. Each function changes the world that a guard lends just as the definition of `spec_commands` of that
 //! name says.
 #![tactic(auto)]
 

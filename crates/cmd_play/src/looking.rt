@@ -1,28 +1,28 @@
 // What players see.
 ghost use Rattle.std.specs.Prelude.{◌≡◌, ◌++◌, false, IfOk, OnOk};
 ghost use Rattle.std.specs.Option.{option_copied};
-ghost use Rattle.muck_live.specs.Objects.{is_room};
-ghost use Rattle.muck_live.specs.Seen.{listed_in};
-ghost use Rattle.muck_live.specs.Lives.{tell, reading, unchanged, name_at};
-ghost use Rattle.muck_rights.specs.Levels.{owner_at, flag_at};
-ghost use Rattle.muck_world.specs.Replies.{lock_line};
-ghost use Rattle.muck_world.specs.Finding.{is_so, listed_under, is_seen, seen_in, room_shown, looked, looked_at};
-ghost use Rattle.muck_world.specs.Going.{inventory_shown};
-ghost use Rattle.muck_world.specs.Building.{kept_text, lock_text, owner_shown, examined};
+ghost use Rattle.spec_live.specs.Objects.{is_room};
+ghost use Rattle.spec_live.specs.Seen.{listed_in};
+ghost use Rattle.spec_live.specs.Lives.{tell, reading, unchanged, name_at};
+ghost use Rattle.spec_rights.specs.Levels.{owner_at, flag_at};
+ghost use Rattle.spec_commands.specs.Replies.{lock_line};
+ghost use Rattle.spec_commands.specs.Finding.{is_so, listed_under, is_seen, seen_in, room_shown, looked, looked_at};
+ghost use Rattle.spec_commands.specs.Going.{inventory_shown};
+ghost use Rattle.spec_commands.specs.Building.{kept_text, lock_text, owner_shown, examined};
 ghost use Rattle.muck_perm.specs.Guards.{Did, world_of};
 
 use crate::messages::{message_or, show_message};
-use cmd_parts::{find_object, list, name_and, place_at, show_name};
+use cmd_common::{find_object, list, name_and, place_at, show_name};
 use itoa::Buffer;
-use muck_live::{DARK, has_flag};
 use muck_model::{Dbref, Kind, Line, NoMemory};
 use muck_perm::{Guard, command_level, controls_as};
 use muck_prop::PropValue;
-use muck_world::Message;
+use spec_commands::Message;
+use spec_live::{DARK, has_flag};
 use std::alloc::Global;
 
 // The connection sees a head and the names of these objects, where there are any.
-#[tactic(auto, unfolding(muck_live::specs::Lives::followed, muck_live::specs::Lives::unchanged, muck_world::specs::Finding::listed_under))]
+#[tactic(auto, unfolding(spec_live::specs::Lives::followed, spec_live::specs::Lives::unchanged, spec_commands::specs::Finding::listed_under))]
 fn list_under(
     guard: &mut Guard,
     d: u32,
@@ -40,7 +40,7 @@ fn list_under(
 }
 
 // The connection sees a head and the names of these objects, or another text where there are none.
-#[tactic(auto, unfolding(muck_live::specs::Lives::followed, muck_world::specs::Finding::listed_under))]
+#[tactic(auto, unfolding(spec_live::specs::Lives::followed, spec_commands::specs::Finding::listed_under))]
 fn list_or(
     guard: &mut Guard,
     d: u32,
@@ -61,7 +61,7 @@ fn list_or(
 }
 
 // Whether an object is there and hidden.
-#[tactic(auto, unfolding(muck_rights::specs::Levels::flag_at))]
+#[tactic(auto, unfolding(spec_rights::specs::Levels::flag_at))]
 fn is_dark(guard: &Guard, x: Dbref) -> bool
     ensures { result ≡ flag_at DARK guard.now.db.now x }
 {
@@ -80,7 +80,7 @@ fn is_seen(guard: &Guard, player: Dbref, x: Dbref) -> bool
 }
 
 // What a player sees in a room.
-#[tactic(auto, unfolding(muck_world::specs::Finding::seen_in))]
+#[tactic(auto, unfolding(spec_commands::specs::Finding::seen_in))]
 fn seen_in(guard: &Guard, player: Dbref, room: Dbref) -> Result<Vec<Dbref>, NoMemory>
     ensures { IfOk result (λ xs. xs.items ≡ seen_in player room (world_of guard.now)) }
 {
@@ -93,7 +93,7 @@ fn seen_in(guard: &Guard, player: Dbref, room: Dbref) -> Result<Vec<Dbref>, NoMe
 }
 
 /// The connection sees a room as a player does: its name, its description, and what is in it.
-#[tactic(auto, unfolding(muck_live::specs::Lives::followed, muck_live::specs::Lives::reading, muck_world::specs::Finding::room_shown, muck_world::specs::Replies::contents_head))]
+#[tactic(auto, unfolding(spec_live::specs::Lives::followed, spec_live::specs::Lives::reading, spec_commands::specs::Finding::room_shown, spec_commands::specs::Replies::contents_head))]
 pub fn show_room(guard: &mut Guard, d: u32, player: Dbref, room: Dbref) -> Result<(), NoMemory>
     ensures { Did (room_shown d player room) guard.old guard.new result }
 {
@@ -105,7 +105,7 @@ pub fn show_room(guard: &mut Guard, d: u32, player: Dbref, room: Dbref) -> Resul
 }
 
 /// The player looks at where it is.
-#[tactic(auto, unfolding(muck_live::specs::Lives::reading, muck_world::specs::Finding::looked))]
+#[tactic(auto, unfolding(spec_live::specs::Lives::reading, spec_commands::specs::Finding::looked))]
 pub fn look(guard: &mut Guard, d: u32) -> Result<(), NoMemory>
     ensures { Did (looked d guard.old.actor.player) guard.old guard.new result }
 {
@@ -116,7 +116,7 @@ pub fn look(guard: &mut Guard, d: u32) -> Result<(), NoMemory>
 }
 
 // Whether it is a room.
-#[tactic(auto, unfolding(muck_world::specs::Finding::is_so))]
+#[tactic(auto, unfolding(spec_commands::specs::Finding::is_so))]
 fn is_room(guard: &Guard, x: Dbref) -> bool
     ensures { result ≡ is_so (λ o. is_room o.kind) x (world_of guard.now) }
 {
@@ -127,7 +127,7 @@ fn is_room(guard: &Guard, x: Dbref) -> bool
 }
 
 /// The player looks at what it names: a room is shown whole, and of anything else its description.
-#[tactic(auto, unfolding(muck_live::specs::Lives::reading, muck_live::specs::Lives::either, muck_world::specs::Finding::where_so, muck_world::specs::Finding::looked_at, muck_world::specs::Replies::nothing_special))]
+#[tactic(auto, unfolding(spec_live::specs::Lives::reading, spec_live::specs::Lives::either, spec_commands::specs::Finding::where_so, spec_commands::specs::Finding::looked_at, spec_commands::specs::Replies::nothing_special))]
 pub fn look_at(guard: &mut Guard, d: u32, name: &Line) -> Result<(), NoMemory>
     ensures { Did (looked_at d guard.old.actor name.now) guard.old guard.new result }
 {
@@ -152,7 +152,7 @@ fn held_by(guard: &Guard, x: Dbref) -> Result<Vec<Dbref>, NoMemory>
 }
 
 /// The player sees what it carries.
-#[tactic(auto, unfolding(muck_live::specs::Lives::reading, muck_world::specs::Going::inventory_shown, muck_world::specs::Replies::carrying_head, muck_world::specs::Replies::carrying_nothing))]
+#[tactic(auto, unfolding(spec_live::specs::Lives::reading, spec_commands::specs::Going::inventory_shown, spec_commands::specs::Replies::carrying_head, spec_commands::specs::Replies::carrying_nothing))]
 pub fn inventory(guard: &mut Guard, d: u32) -> Result<(), NoMemory>
     ensures { Did (inventory_shown d guard.old.actor.player) guard.old guard.new result }
 {
@@ -170,7 +170,7 @@ pub fn inventory(guard: &mut Guard, d: u32) -> Result<(), NoMemory>
 }
 
 // The owner of an object, `#-1` where it isn't there.
-#[tactic(auto, unfolding(muck_rights::specs::Levels::owner_at))]
+#[tactic(auto, unfolding(spec_rights::specs::Levels::owner_at))]
 fn owner_at(guard: &Guard, x: Dbref) -> Dbref
     ensures { result ≡ owner_at guard.now.db.now x }
 {
@@ -192,7 +192,7 @@ fn and_name(guard: &Guard, head: &[u8], x: Dbref) -> Result<Vec<u8>, NoMemory>
 }
 
 // The connection sees who owns an object.
-#[tactic(auto, unfolding(muck_live::specs::Lives::reading, muck_world::specs::Building::owner_shown, muck_world::specs::Replies::owner_line))]
+#[tactic(auto, unfolding(spec_live::specs::Lives::reading, spec_commands::specs::Building::owner_shown, spec_commands::specs::Replies::owner_line))]
 fn show_owner(guard: &mut Guard, d: u32, x: Dbref) -> Result<(), NoMemory>
     ensures { Did (owner_shown d x) guard.old guard.new result }
 {
@@ -203,7 +203,7 @@ fn show_owner(guard: &mut Guard, d: u32, x: Dbref) -> Result<(), NoMemory>
 }
 
 // What is kept as a lock, as a text.
-#[tactic(auto, unfolding(muck_world::specs::Replies::unlocked_text))]
+#[tactic(auto, unfolding(spec_commands::specs::Replies::unlocked_text))]
 fn add_kept(text: &mut Vec<u8>, kept: Option<&PropValue>) -> Result<(), NoMemory>
     ensures { OnOk result (text.new.items ≡ text.old.items ++ kept_text (option_copied kept.entry)) }
 {
@@ -229,7 +229,7 @@ fn lock_of<'a>(guard: &'a Guard<'_>, x: Dbref) -> Option<&'a PropValue>
 }
 
 // The connection sees the lock of an object as it is kept.
-#[tactic(auto, unfolding(muck_live::specs::Lives::reading, muck_world::specs::Replies::lock_line))]
+#[tactic(auto, unfolding(spec_live::specs::Lives::reading, spec_commands::specs::Replies::lock_line))]
 fn show_lock(guard: &mut Guard, d: u32, x: Dbref) -> Result<(), NoMemory>
     ensures { Did (reading (lock_text x) (λ text. tell d (lock_line text))) guard.old guard.new result }
 {
@@ -240,7 +240,7 @@ fn show_lock(guard: &mut Guard, d: u32, x: Dbref) -> Result<(), NoMemory>
 }
 
 /// The player sees the name, the owner and the lock of what it names, and of what it doesn't control the owner alone.
-#[tactic(auto, unfolding(muck_live::specs::Lives::followed, muck_live::specs::Lives::reading, muck_live::specs::Lives::either, muck_world::specs::Finding::where_so, muck_world::specs::Building::examined))]
+#[tactic(auto, unfolding(spec_live::specs::Lives::followed, spec_live::specs::Lives::reading, spec_live::specs::Lives::either, spec_commands::specs::Finding::where_so, spec_commands::specs::Building::examined))]
 pub fn examine(guard: &mut Guard, d: u32, name: &Line) -> Result<(), NoMemory>
     ensures { Did (examined d guard.old.actor name.now) guard.old guard.new result }
 {

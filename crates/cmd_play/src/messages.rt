@@ -2,14 +2,14 @@
 ghost use Rattle.std.specs.Prelude.{◌≡◌, IfOk, None};
 ghost use Rattle.std.specs.Option.{option_copied};
 ghost use Rattle.muck_prop.specs.Paths.{path_fault, segments_of};
-ghost use Rattle.muck_world.specs.Commands.{message_name};
-ghost use Rattle.muck_world.specs.Finding.{message_path, message_at, message_or, message_shown, message_to_others};
+ghost use Rattle.spec_commands.specs.Commands.{message_name};
+ghost use Rattle.spec_commands.specs.Finding.{message_path, message_at, message_or, message_shown, message_to_others};
 ghost use Rattle.muck_perm.specs.Guards.{Did, world_of};
 
-use cmd_parts::show_others;
+use cmd_common::show_others;
 use muck_model::{Dbref, Line, NoMemory};
 use muck_perm::Guard;
-use muck_world::Message;
+use spec_commands::Message;
 
 // Where an object keeps a message.
 fn path_of(message: Message) -> &'static [u8]
@@ -45,7 +45,7 @@ pub fn message_at(guard: &Guard, message: Message, x: Dbref) -> Result<Option<Li
 }
 
 /// The connection sees a message of an object, or what is shown without one.
-#[tactic(auto, unfolding(muck_world::specs::Finding::message_or, muck_live::specs::Lives::reading))]
+#[tactic(auto, unfolding(spec_commands::specs::Finding::message_or, spec_live::specs::Lives::reading))]
 pub fn message_or(
     guard: &mut Guard,
     d: u32,
@@ -63,7 +63,7 @@ pub fn message_or(
 }
 
 /// The connection sees a message of an object, where it has one.
-#[tactic(auto, unfolding(muck_world::specs::Finding::message_shown, muck_live::specs::Lives::reading, muck_live::specs::Lives::unchanged))]
+#[tactic(auto, unfolding(spec_commands::specs::Finding::message_shown, spec_live::specs::Lives::reading, spec_live::specs::Lives::unchanged))]
 pub fn show_message(guard: &mut Guard, d: u32, message: Message, x: Dbref) -> Result<(), NoMemory>
     ensures { Did (message_shown d (message_name message) x) guard.old guard.new result }
 {
@@ -74,7 +74,7 @@ pub fn show_message(guard: &mut Guard, d: u32, message: Message, x: Dbref) -> Re
 }
 
 /// The others where a player is see its name with a message of an object, where it has one.
-#[tactic(auto, unfolding(muck_world::specs::Finding::message_to_others, muck_live::specs::Lives::reading, muck_live::specs::Lives::unchanged))]
+#[tactic(auto, unfolding(spec_commands::specs::Finding::message_to_others, spec_live::specs::Lives::reading, spec_live::specs::Lives::unchanged))]
 pub fn message_to_others(
     guard: &mut Guard,
     player: Dbref,

@@ -1,25 +1,25 @@
 // Taking and dropping.
 ghost use Rattle.std.specs.Prelude.{◌≡◌, true};
 ghost use Rattle.muck_model.specs.declared.dbref.Denial.{Denial};
-ghost use Rattle.muck_live.specs.Objects.{is_room};
-ghost use Rattle.muck_live.specs.Lives.{◌▸◌, tell};
-ghost use Rattle.muck_rights.specs.declared.act.Act.TheVariants.{Take as TakeIt};
-ghost use Rattle.muck_rights.specs.Asking.{asked, refused};
-ghost use Rattle.muck_world.specs.Replies.{taken_reply, dropped_reply};
-ghost use Rattle.muck_world.specs.Finding.{is_so};
-ghost use Rattle.muck_world.specs.Going.{moving, succeeded, is_item, not_taken, taken, is_carried, drop_place, dropped};
+ghost use Rattle.spec_live.specs.Objects.{is_room};
+ghost use Rattle.spec_live.specs.Lives.{◌▸◌, tell};
+ghost use Rattle.spec_rights.specs.declared.act.Act.TheVariants.{Take as TakeIt};
+ghost use Rattle.spec_rights.specs.Asking.{asked, refused};
+ghost use Rattle.spec_commands.specs.Replies.{taken_reply, dropped_reply};
+ghost use Rattle.spec_commands.specs.Finding.{is_so};
+ghost use Rattle.spec_commands.specs.Going.{moving, succeeded, is_item, not_taken, taken, is_carried, drop_place, dropped};
 ghost use Rattle.muck_perm.specs.Guards.{Did, IsLeave, world_of};
 ghost use Rattle.cmd_play.specs.Dropping.{drop_shown};
 
 use crate::going::{fail, link_at, show_drop, succeed};
-use cmd_parts::{cant_be_done, find_one, place_at, refuse};
+use cmd_common::{cant_be_done, find_one, place_at, refuse};
 use muck_match::NOTHING;
 use muck_model::{Dbref, Denial, Kind, Line, NoMemory};
 use muck_perm::{Guard, Pass, verdict};
-use muck_rights::Act;
+use spec_rights::Act;
 
 // Whether an object is a thing or a program.
-#[tactic(auto, unfolding(muck_world::specs::Finding::is_so))]
+#[tactic(auto, unfolding(spec_commands::specs::Finding::is_so))]
 fn is_item(guard: &Guard, x: Dbref) -> bool
     ensures { result ≡ is_item x (world_of guard.now) }
 {
@@ -30,7 +30,7 @@ fn is_item(guard: &Guard, x: Dbref) -> bool
 }
 
 // Whether it is one that the player carries.
-#[tactic(auto, unfolding(muck_world::specs::Finding::is_so))]
+#[tactic(auto, unfolding(spec_commands::specs::Finding::is_so))]
 fn is_carried(guard: &Guard, player: Dbref, x: Dbref) -> bool
     ensures { result ≡ is_carried player x (world_of guard.now) }
 {
@@ -43,7 +43,7 @@ fn is_carried(guard: &Guard, player: Dbref, x: Dbref) -> bool
 }
 
 // A rule denies the taking: a lock that doesn't open is told by the object's own messages.
-#[tactic(auto, unfolding(muck_live::specs::Lives::either, muck_world::specs::Replies::cant_take))]
+#[tactic(auto, unfolding(spec_live::specs::Lives::either, spec_commands::specs::Replies::cant_take))]
 fn not_taken(guard: &mut Guard, d: u32, x: Dbref, denial: Denial) -> Result<(), NoMemory>
     ensures { Did (not_taken d guard.old.actor.player x denial) guard.old guard.new result }
 {
@@ -56,7 +56,7 @@ fn not_taken(guard: &mut Guard, d: u32, x: Dbref, denial: Denial) -> Result<(), 
 }
 
 // The player has leave to take it; the world may refuse it.
-#[tactic(auto, using(crate::proofs::Moves::movings), unfolding(muck_world::specs::Going::moving, muck_world::specs::Finding::where_so, muck_live::specs::Lives::reading, muck_live::specs::Lives::either, muck_live::specs::Lives::followed, muck_world::specs::Replies::taken_reply))]
+#[tactic(auto, using(crate::proofs::Moves::movings), unfolding(spec_commands::specs::Going::moving, spec_commands::specs::Finding::where_so, spec_live::specs::Lives::reading, spec_live::specs::Lives::either, spec_live::specs::Lives::followed, spec_commands::specs::Replies::taken_reply))]
 fn pick_up(guard: &mut Guard, d: u32, pass: Pass, x: Dbref) -> Result<(), NoMemory>
     requires { IsLeave pass (TakeIt x) guard.old }
     ensures { Did (moving d x guard.old.actor.player (tell d taken_reply)) guard.old guard.new result }
@@ -68,7 +68,7 @@ fn pick_up(guard: &mut Guard, d: u32, pass: Pass, x: Dbref) -> Result<(), NoMemo
 }
 
 // The player takes what is a thing or a program.
-#[tactic(auto, unfolding(muck_rights::specs::Asking::asked, muck_live::specs::Lives::followed))]
+#[tactic(auto, unfolding(spec_rights::specs::Asking::asked, spec_live::specs::Lives::followed))]
 fn take_item(guard: &mut Guard, d: u32, x: Dbref) -> Result<(), NoMemory>
     ensures { Did (asked guard.old.actor (TakeIt x) (not_taken d guard.old.actor.player x) (succeeded d guard.old.actor.player x ▸ moving d x guard.old.actor.player (tell d taken_reply))) guard.old guard.new result }
 {
@@ -84,7 +84,7 @@ fn take_item(guard: &mut Guard, d: u32, x: Dbref) -> Result<(), NoMemory>
 }
 
 /// The player takes what a name means: a thing or a program where it is, whose lock opens to it.
-#[tactic(auto, unfolding(muck_world::specs::Going::taken, muck_world::specs::Finding::where_so, muck_live::specs::Lives::reading, muck_live::specs::Lives::either))]
+#[tactic(auto, unfolding(spec_commands::specs::Going::taken, spec_commands::specs::Finding::where_so, spec_live::specs::Lives::reading, spec_live::specs::Lives::either))]
 pub fn take(guard: &mut Guard, d: u32, name: &Line) -> Result<(), NoMemory>
     ensures { Did (taken d guard.old.actor name.now) guard.old guard.new result }
 {
@@ -98,7 +98,7 @@ pub fn take(guard: &mut Guard, d: u32, name: &Line) -> Result<(), NoMemory>
 }
 
 // Whether an object is a room.
-#[tactic(auto, unfolding(muck_world::specs::Finding::is_so))]
+#[tactic(auto, unfolding(spec_commands::specs::Finding::is_so))]
 fn is_room(guard: &Guard, x: Dbref) -> bool
     ensures { result ≡ is_so (λ o. is_room o.kind) x (world_of guard.now) }
 {
@@ -109,7 +109,7 @@ fn is_room(guard: &Guard, x: Dbref) -> bool
 }
 
 // Where something goes that is dropped: to the place, or where the room sends it.
-#[tactic(auto, unfolding(muck_world::specs::Finding::is_so))]
+#[tactic(auto, unfolding(spec_commands::specs::Finding::is_so))]
 fn drop_place(guard: &Guard, player: Dbref) -> Dbref
     ensures { result ≡ drop_place player (world_of guard.now) }
 {
@@ -123,7 +123,7 @@ fn drop_place(guard: &Guard, player: Dbref) -> Dbref
 }
 
 // The connection is told, and the messages of dropping are seen.
-#[tactic(auto, unfolding(muck_live::specs::Lives::followed, muck_world::specs::Replies::dropped_reply))]
+#[tactic(auto, unfolding(spec_live::specs::Lives::followed, spec_commands::specs::Replies::dropped_reply))]
 fn show_dropped(guard: &mut Guard, d: u32, x: Dbref) -> Result<(), NoMemory>
     ensures { Did (tell d dropped_reply ▸ drop_shown d guard.old.actor.player x) guard.old guard.new result }
 {
@@ -133,7 +133,7 @@ fn show_dropped(guard: &mut Guard, d: u32, x: Dbref) -> Result<(), NoMemory>
 }
 
 // The player drops what it carries; the world may refuse it.
-#[tactic(auto, using(crate::proofs::Moves::movings), unfolding(muck_world::specs::Going::moving, muck_world::specs::Finding::where_so, muck_live::specs::Lives::reading, muck_live::specs::Lives::either, muck_live::specs::Lives::followed))]
+#[tactic(auto, using(crate::proofs::Moves::movings), unfolding(spec_commands::specs::Going::moving, spec_commands::specs::Finding::where_so, spec_live::specs::Lives::reading, spec_live::specs::Lives::either, spec_live::specs::Lives::followed))]
 fn drop_carried(guard: &mut Guard, d: u32, x: Dbref, to: Dbref) -> Result<(), NoMemory>
     requires { is_carried guard.old.actor.player x (world_of guard.old) ≡ true }
     ensures { Did (moving d x to (tell d dropped_reply ▸ drop_shown d guard.old.actor.player x)) guard.old guard.new result }
@@ -145,7 +145,7 @@ fn drop_carried(guard: &mut Guard, d: u32, x: Dbref, to: Dbref) -> Result<(), No
 }
 
 /// The player drops what a name means, which it carries.
-#[tactic(auto, unfolding(muck_world::specs::Going::dropped, muck_world::specs::Finding::where_so, muck_live::specs::Lives::reading, muck_live::specs::Lives::either))]
+#[tactic(auto, unfolding(spec_commands::specs::Going::dropped, spec_commands::specs::Finding::where_so, spec_live::specs::Lives::reading, spec_live::specs::Lives::either))]
 pub fn drop(guard: &mut Guard, d: u32, name: &Line) -> Result<(), NoMemory>
     ensures { Did (dropped d guard.old.actor.player name.now) guard.old guard.new result }
 {

@@ -1,12 +1,12 @@
 // What players say, and who hears it.
 ghost use Rattle.std.specs.Prelude.{◌≡◌, ◌++◌, IfOk, codes};
-ghost use Rattle.muck_live.specs.Lives.{tell, name_at};
-ghost use Rattle.muck_world.specs.Replies.{connected_count};
-ghost use Rattle.muck_world.specs.Talking.{said, pose_tail, posed, said_to, paged, is_company, whispered, who_shown};
+ghost use Rattle.spec_live.specs.Lives.{tell, name_at};
+ghost use Rattle.spec_commands.specs.Replies.{connected_count};
+ghost use Rattle.spec_commands.specs.Talking.{said, pose_tail, posed, said_to, paged, is_company, whispered, who_shown};
 ghost use Rattle.muck_perm.specs.Guards.{Did, world_of};
 ghost use Rattle.cmd_play.specs.Presences.{presence, presences, presence_shown, presences_shown};
 
-use cmd_parts::{cant_be_done, find_one, find_player, name_and, place_at, show_others};
+use cmd_common::{cant_be_done, find_one, find_player, name_and, place_at, show_others};
 use muck_board::{Board, Connection};
 use muck_model::{Dbref, Kind, Line, NoMemory};
 use muck_perm::Guard;
@@ -24,7 +24,7 @@ fn around(alloc: Global, before: &[u8], text: &[u8], after: &[u8]) -> Result<Vec
 }
 
 /// The player says something: it sees its own words, and the others where it is see them with its name.
-#[tactic(auto, unfolding(muck_live::specs::Lives::followed, muck_world::specs::Talking::said, muck_world::specs::Replies::you_say, muck_world::specs::Replies::says))]
+#[tactic(auto, unfolding(spec_live::specs::Lives::followed, spec_commands::specs::Talking::said, spec_commands::specs::Replies::you_say, spec_commands::specs::Replies::says))]
 pub fn say(guard: &mut Guard, d: u32, text: &Line) -> Result<(), NoMemory>
     ensures { Did (said d guard.old.actor.player text.now) guard.old guard.new result }
 {
@@ -50,7 +50,7 @@ fn pose_tail(alloc: Global, text: &[u8]) -> Result<Vec<u8>, NoMemory>
 }
 
 /// The player does something: it and the others where it is see its name, and the text behind it.
-#[tactic(auto, unfolding(muck_live::specs::Lives::followed, muck_live::specs::Lives::reading, muck_world::specs::Talking::posed))]
+#[tactic(auto, unfolding(spec_live::specs::Lives::followed, spec_live::specs::Lives::reading, spec_commands::specs::Talking::posed))]
 pub fn pose(guard: &mut Guard, d: u32, text: &Line) -> Result<(), NoMemory>
     ensures { Did (posed d guard.old.actor.player text.now) guard.old guard.new result }
 {
@@ -72,7 +72,7 @@ fn said_to_one(guard: &Guard, before: &[u8], text: &[u8], to: Dbref) -> Result<V
 }
 
 // The player and one other see what was said to that one alone.
-#[tactic(auto, unfolding(muck_live::specs::Lives::followed, muck_live::specs::Lives::reading, muck_world::specs::Talking::said_to))]
+#[tactic(auto, unfolding(spec_live::specs::Lives::followed, spec_live::specs::Lives::reading, spec_commands::specs::Talking::said_to))]
 fn say_to(
     guard: &mut Guard,
     d: u32,
@@ -93,7 +93,7 @@ fn say_to(
 }
 
 /// The player says something to another one, who may be anywhere, but is connected.
-#[tactic(auto, unfolding(muck_live::specs::Lives::reading, muck_live::specs::Lives::either, muck_world::specs::Finding::where_so, muck_world::specs::Talking::paged, muck_world::specs::Replies::not_connected, muck_world::specs::Replies::you_page, muck_world::specs::Replies::pages))]
+#[tactic(auto, unfolding(spec_live::specs::Lives::reading, spec_live::specs::Lives::either, spec_commands::specs::Finding::where_so, spec_commands::specs::Talking::paged, spec_commands::specs::Replies::not_connected, spec_commands::specs::Replies::you_page, spec_commands::specs::Replies::pages))]
 pub fn page(guard: &mut Guard, d: u32, name: &Line, text: &Line) -> Result<(), NoMemory>
     ensures { Did (paged d guard.old.actor.player name.now text.now) guard.old guard.new result }
 {
@@ -117,7 +117,7 @@ pub fn page(guard: &mut Guard, d: u32, name: &Line, text: &Line) -> Result<(), N
 }
 
 // Whether it is a player, and where this player is.
-#[tactic(auto, unfolding(muck_world::specs::Finding::is_so))]
+#[tactic(auto, unfolding(spec_commands::specs::Finding::is_so))]
 fn is_company(guard: &Guard, player: Dbref, to: Dbref) -> bool
     ensures { result ≡ is_company player to (world_of guard.now) }
 {
@@ -130,7 +130,7 @@ fn is_company(guard: &Guard, player: Dbref, to: Dbref) -> bool
 }
 
 /// The player says something to another one who is where it is.
-#[tactic(auto, unfolding(muck_live::specs::Lives::reading, muck_live::specs::Lives::either, muck_world::specs::Finding::where_so, muck_world::specs::Talking::whispered, muck_world::specs::Replies::you_whisper, muck_world::specs::Replies::whispers))]
+#[tactic(auto, unfolding(spec_live::specs::Lives::reading, spec_live::specs::Lives::either, spec_commands::specs::Finding::where_so, spec_commands::specs::Talking::whispered, spec_commands::specs::Replies::you_whisper, spec_commands::specs::Replies::whispers))]
 pub fn whisper(guard: &mut Guard, d: u32, name: &Line, text: &Line) -> Result<(), NoMemory>
     ensures { Did (whispered d guard.old.actor.player name.now text.now) guard.old guard.new result }
 {
@@ -181,7 +181,7 @@ fn presences(alloc: Global, board: &Board) -> Result<Vec<Presence>, NoMemory>
 }
 
 // The connection sees the player of another connection, and that one's number.
-#[tactic(auto, unfolding(muck_live::specs::Lives::reading, muck_world::specs::Replies::connected_line, crate::specs::Presences::presence_shown))]
+#[tactic(auto, unfolding(spec_live::specs::Lives::reading, spec_commands::specs::Replies::connected_line, crate::specs::Presences::presence_shown))]
 fn show_presence(guard: &mut Guard, d: u32, presence: Presence) -> Result<(), NoMemory>
     ensures { Did (presence_shown d presence) guard.old guard.new result }
 {
@@ -204,7 +204,7 @@ fn show_presences(guard: &mut Guard, d: u32, presences: &[Presence]) -> Result<(
 }
 
 // The connection sees how many are connected.
-#[tactic(auto, unfolding(muck_world::specs::Replies::connected_count))]
+#[tactic(auto, unfolding(spec_commands::specs::Replies::connected_count))]
 fn show_count(guard: &mut Guard, d: u32, count: usize) -> Result<(), NoMemory>
     ensures { Did (tell d (connected_count count)) guard.old guard.new result }
 {

@@ -1,8 +1,8 @@
 // The words of players.
 ghost use Rattle.std.specs.Prelude.{◌≡◌};
-ghost use Rattle.muck_world.specs.Commands.{talk_word, see_word, go_word, play_word};
+ghost use Rattle.spec_commands.specs.Commands.{talk_word, see_word, go_word, play_word};
 
-use muck_world::{PlayWord, alike};
+use spec_commands::{PlayWord, alike};
 
 // A word of one who talks, asks who is there, or leaves.
 fn talk_word(word: &[u8]) -> Option<PlayWord>
@@ -66,7 +66,7 @@ fn go_word(word: &[u8]) -> Option<PlayWord>
 
 /// What a player does by a word, in upper or lower case; `None` exactly where the word is none of a player's. It takes no
 /// memory.
-#[tactic(auto, unfolding(muck_world::specs::Commands::play_word))]
+#[tactic(auto, unfolding(spec_commands::specs::Commands::play_word))]
 pub fn play_word(word: &[u8]) -> Option<PlayWord>
     ensures { result ≡ play_word word.now }
 {

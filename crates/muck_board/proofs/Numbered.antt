@@ -6,9 +6,9 @@ use Rattle.std.specs.Option.{option_map_or}
 use Rattle.std.proofs.lemmas.Bool.{cond_both, ltb-true, ltb-false}
 use Rattle.std.proofs.lemmas.List.{drop_all}
 use Rattle.muck_model.specs.declared.dbref.Dbref.{Dbref}
-use Rattle.muck_live.specs.Output.{bytes_of, taken}
-use Rattle.muck_live.specs.Connections.{Connection, has_number, changed_in, without, placed}
-use Rattle.muck_live.specs.Boards.{Board, connection_in, on_connection, with_connections}
+use Rattle.spec_live.specs.Output.{bytes_of, taken}
+use Rattle.spec_live.specs.Connections.{Connection, has_number, changed_in, without, placed}
+use Rattle.spec_live.specs.Boards.{Board, connection_in, on_connection, with_connections}
 use Rattle.muck_board.specs.Lines.{HasLine, HasNoLine, BoardTakesLine}
 use Rattle.muck_board.specs.Silent.{quiet, silent}
 use Rattle.muck_board.proofs.Outputs.{taken_left}

@@ -5,7 +5,7 @@ use Rattle.std.proofs.lemmas.List.{drop-append-le, take-append-le, drop-drop, dr
 use Rattle.std.proofs.lemmas.Grind.{flat_map-append}
 use Rattle.std.proofs.Math.Seq.{drop-append-add, take-add}
 use Rattle.std.specs.List.{flat_map}
-use Rattle.muck_live.specs.Output.{Output, sent_form, notice, notice_of, lines_bytes, bytes_of, newest, lines_taken, notice_taken, taken}
+use Rattle.spec_live.specs.Output.{Output, sent_form, notice, notice_of, lines_bytes, bytes_of, newest, lines_taken, notice_taken, taken}
 
 -- Counts.
 

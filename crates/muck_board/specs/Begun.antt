@@ -1,6 +1,6 @@
 -- What was begun to be taken.
 use Rattle.std.specs.Prelude.{ℕ, List, []}
-use Rattle.muck_live.specs.Output.{sent_form, notice}
+use Rattle.spec_live.specs.Output.{sent_form, notice}
 use Rattle.muck_board.specs.declared.rest.Begun.{Begun}
 use Rattle.muck_board.specs.declared.rest.Begun.TheVariants.{Nothing, Notice, Whole}
 

@@ -1,6 +1,6 @@
 -- The bound of what waits to be sent.
 use Rattle.std.specs.Prelude.{◌≡◌, ◌≤◌, ℕ, ◌+◌, length}
-use Rattle.muck_live.specs.Output.{Output, notice_of, lines_bytes}
+use Rattle.spec_live.specs.Output.{Output, notice_of, lines_bytes}
 
 -- This is the count of the bytes of whole lines. The notice isn't counted when a line is sent, so that there may be as
 -- many bytes as it has above the most that a queue holds.

@@ -1,8 +1,8 @@
 -- What a board ends as, where one of its connections is lent.
 use Rattle.std.specs.Prelude.{ℕ, Option}
 use Rattle.std.specs.Borrow.{Fml, MutBor, LendsIf}
-use Rattle.muck_live.specs.Connections.{Connection}
-use Rattle.muck_live.specs.Boards.{Board, on_connection}
+use Rattle.spec_live.specs.Connections.{Connection}
+use Rattle.spec_live.specs.Boards.{Board, on_connection}
 use Rattle.muck_board.specs.contracts.board.Board.{the_row as board_row}
 use Rattle.muck_board.specs.contracts.connection.Connection.{the_row as connection_row}
 

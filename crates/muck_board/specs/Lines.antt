@@ -1,8 +1,8 @@
 -- Taking a waiting line.
 use Rattle.std.specs.Prelude.{◌≡◌, ℕ, List, [], ◌∷◌, Option, Some, None, find}
 use Rattle.muck_model.specs.declared.dbref.Dbref.{Dbref}
-use Rattle.muck_live.specs.Connections.{Connection, has_number, changed_in}
-use Rattle.muck_live.specs.Boards.{Board, with_connections}
+use Rattle.spec_live.specs.Connections.{Connection, has_number, changed_in}
+use Rattle.spec_live.specs.Boards.{Board, with_connections}
 
 -- no line waits there
 abbrev pub HasNoLine : Option Connection → Type 0

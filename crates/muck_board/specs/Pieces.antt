@@ -2,7 +2,7 @@
 use Rattle.std.specs.Prelude.{ℕ, List, [], Option}
 use Rattle.std.specs.List.{slice_split}
 use Rattle.std.specs.Option.{option_map_or}
-use Rattle.muck_live.specs.Output.{is_return}
+use Rattle.spec_live.specs.Output.{is_return}
 use denote.Bor.{Bor}
 
 -- the pieces of what is left, or none where nothing is

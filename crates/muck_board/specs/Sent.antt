@@ -1,6 +1,6 @@
 -- How a whole line is kept: with its end.
 use Rattle.std.specs.Prelude.{◌≡◌, ◌≤◌, ℕ, ◌-◌, List, length, take}
-use Rattle.muck_live.specs.Output.{sent_form}
+use Rattle.spec_live.specs.Output.{sent_form}
 
 -- the line without the two bytes that end it
 abbrev pub line_of : List ℕ → List ℕ

@@ -1,8 +1,8 @@
 -- The board without what waits to be sent.
 use Rattle.std.specs.Prelude.{map}
-use Rattle.muck_live.specs.Output.{no_output}
-use Rattle.muck_live.specs.Connections.{Connection}
-use Rattle.muck_live.specs.Boards.{Board, with_connections}
+use Rattle.spec_live.specs.Output.{no_output}
+use Rattle.spec_live.specs.Connections.{Connection}
+use Rattle.spec_live.specs.Boards.{Board, with_connections}
 
 abbrev pub quiet : Connection → Connection
 quiet c = record c { output = no_output }

@@ -3,8 +3,8 @@ ghost use Rattle.std.specs.Prelude.{◌≡◌, OnOk, OnErr, Bool, length, drop, 
 ghost use Rattle.std.specs.List.{list_any};
 ghost use Rattle.std.specs.Option.{option_copied_mut};
 ghost use Rattle.std.specs.Borrow.{sem};
-ghost use Rattle.muck_live.specs.Connections.{Connection as Link, is_of, told_where};
-ghost use Rattle.muck_live.specs.Boards.{early_board, connection_in, queue_in, editor_in, on_connections, opened, closed, line_added, bytes_taken, told_one, told_player, told_others, told_all, leaving_one, left_player, seated_one, edited_one, editors_closed, tuned, random_drawn};
+ghost use Rattle.spec_live.specs.Connections.{Connection as Link, is_of, told_where};
+ghost use Rattle.spec_live.specs.Boards.{early_board, connection_in, queue_in, editor_in, on_connections, opened, closed, line_added, bytes_taken, told_one, told_player, told_others, told_all, leaving_one, left_player, seated_one, edited_one, editors_closed, tuned, random_drawn};
 ghost use Rattle.muck_board.specs.Lines.{BoardTakesLine};
 ghost use Rattle.muck_board.specs.Silent.{silent};
 ghost use Rattle.muck_board.specs.Lent.{LendsConnection};
@@ -33,7 +33,7 @@ pub struct Board {
 }
 
 impl Model for Board {
-    ghost use Rattle.muck_live.specs.Boards.{Board as Table};
+    ghost use Rattle.spec_live.specs.Boards.{Board as Table};
 
     ghost Value = { Table };
 
@@ -42,7 +42,7 @@ impl Model for Board {
 
 impl Board {
     /// Nobody is connected, and the random numbers begin from that start. It takes no memory.
-    #[tactic(auto, unfolding(muck_live::specs::Boards::early_board, muck_live::specs::Boards::random_from))]
+    #[tactic(auto, unfolding(spec_live::specs::Boards::early_board, spec_live::specs::Boards::random_from))]
     pub fn new(alloc: Global, start: u64, tune: Tune) -> Board
         ensures { result ≡ early_board start tune }
     {
@@ -112,7 +112,7 @@ impl Board {
     }
 
     /// A connection comes, and is greeted with a text. After `NoMemory` nothing has changed.
-    #[tactic(auto, unfolding(muck_live::specs::Boards::opened))]
+    #[tactic(auto, unfolding(spec_live::specs::Boards::opened))]
     pub fn open(&mut self, d: u32, greeting: &[u8]) -> Result<(), NoMemory>
         ensures ok { OnOk result (self.new ≡ opened d greeting.now self.old) }
         ensures err { OnErr result (self.new ≡ self.old) }
@@ -124,7 +124,7 @@ impl Board {
     }
 
     /// The connection goes, with all that waits on it.
-    #[tactic(auto, unfolding(muck_live::specs::Boards::closed))]
+    #[tactic(auto, unfolding(spec_live::specs::Boards::closed))]
     pub fn close(&mut self, d: u32)
         ensures { self.new ≡ closed d self.old }
     {
@@ -134,7 +134,7 @@ impl Board {
     }
 
     /// A line comes, and waits. After `NoMemory` it is lost, and nothing has changed.
-    #[tactic(auto, using(crate::proofs::Numbered::changes), unfolding(muck_live::specs::Boards::line_added))]
+    #[tactic(auto, using(crate::proofs::Numbered::changes), unfolding(spec_live::specs::Boards::line_added))]
     pub fn add_line(&mut self, d: u32, line: Line) -> Result<(), NoMemory>
         ensures ok { OnOk result (self.new ≡ line_added d line self.old) }
         ensures err { OnErr result (self.new ≡ self.old) }
@@ -156,7 +156,7 @@ impl Board {
     }
 
     /// Takes the first bytes that wait to be sent to the connection, as many as are there and fit, and answers how many.
-    #[tactic(auto, using(crate::proofs::Numbered::changes), unfolding(muck_live::specs::Boards::bytes_taken))]
+    #[tactic(auto, using(crate::proofs::Numbered::changes), unfolding(spec_live::specs::Boards::bytes_taken))]
     pub fn take(&mut self, d: u32, buf: &mut [u8]) -> usize
         ensures count { result ≡ min (length (queue_in d self.old)) (length buf.old) }
         ensures bytes { take result buf.new ≡ take result (queue_in d self.old) }
@@ -179,7 +179,7 @@ impl Board {
 
     /// Sends a text to the connection: the first 4,096 bytes, as one line for each piece between bytes 13. Older lines
     /// give way, and the notice stands, where there is no room.
-    #[tactic(auto, using(crate::proofs::Numbered::changes), unfolding(muck_live::specs::Boards::told_one))]
+    #[tactic(auto, using(crate::proofs::Numbered::changes), unfolding(spec_live::specs::Boards::told_one))]
     pub fn tell(&mut self, d: u32, text: &[u8]) -> Result<(), NoMemory>
         ensures ok { OnOk result (self.new ≡ told_one d text.now self.old) }
         ensures rest { silent self.new ≡ silent self.old }
@@ -191,7 +191,7 @@ impl Board {
     }
 
     /// Sends a text to all connections of a player.
-    #[tactic(auto, unfolding(muck_live::specs::Boards::told_player))]
+    #[tactic(auto, unfolding(spec_live::specs::Boards::told_player))]
     pub fn tell_player(&mut self, player: Dbref, text: &[u8]) -> Result<(), NoMemory>
         ensures ok { OnOk result (self.new ≡ told_player player text.now self.old) }
         ensures rest { silent self.new ≡ silent self.old }
@@ -200,7 +200,7 @@ impl Board {
     }
 
     /// Sends a text to the connections of the players in a room but one.
-    #[tactic(auto, unfolding(muck_live::specs::Boards::told_others))]
+    #[tactic(auto, unfolding(spec_live::specs::Boards::told_others))]
     pub fn tell_others<K: Keys>(
         &mut self,
         keys: &K,
@@ -221,7 +221,7 @@ impl Board {
     }
 
     /// Sends a text to the connections of all players.
-    #[tactic(auto, unfolding(muck_live::specs::Boards::told_all))]
+    #[tactic(auto, unfolding(spec_live::specs::Boards::told_all))]
     pub fn tell_all(&mut self, text: &[u8]) -> Result<(), NoMemory>
         ensures ok { OnOk result (self.new ≡ told_all text.now self.old) }
         ensures rest { silent self.new ≡ silent self.old }
@@ -230,7 +230,7 @@ impl Board {
     }
 
     /// The connection is leaving: no line of it is done any more.
-    #[tactic(auto, using(crate::proofs::Numbered::changes), unfolding(muck_live::specs::Boards::leaving_one))]
+    #[tactic(auto, using(crate::proofs::Numbered::changes), unfolding(spec_live::specs::Boards::leaving_one))]
     pub fn leave(&mut self, d: u32)
         ensures { self.new ≡ leaving_one d self.old }
     {
@@ -240,7 +240,7 @@ impl Board {
     }
 
     /// All connections of a player are leaving.
-    #[tactic(auto, unfolding(muck_live::specs::Boards::left_player))]
+    #[tactic(auto, unfolding(spec_live::specs::Boards::left_player))]
     pub fn leave_player(&mut self, player: Dbref)
         ensures { self.new ≡ left_player player self.old }
     {
@@ -252,7 +252,7 @@ impl Board {
     }
 
     /// The connection is that of a player from now on.
-    #[tactic(auto, using(crate::proofs::Numbered::changes), unfolding(muck_live::specs::Boards::seated_one))]
+    #[tactic(auto, using(crate::proofs::Numbered::changes), unfolding(spec_live::specs::Boards::seated_one))]
     pub fn seat(&mut self, d: u32, player: Dbref)
         ensures { self.new ≡ seated_one d player self.old }
     {
@@ -262,7 +262,7 @@ impl Board {
     }
 
     /// Sets what a wizard tuned.
-    #[tactic(auto, unfolding(muck_live::specs::Boards::tuned))]
+    #[tactic(auto, unfolding(spec_live::specs::Boards::tuned))]
     pub fn set_tune(&mut self, tune: Tune)
         ensures { self.new ≡ tuned tune self.old }
     {
@@ -270,7 +270,7 @@ impl Board {
     }
 
     /// The next random word.
-    #[tactic(auto, unfolding(muck_live::specs::Boards::random_drawn))]
+    #[tactic(auto, unfolding(spec_live::specs::Boards::random_drawn))]
     pub fn random(&mut self) -> u32
         ensures { (result, self.new) ≡ random_drawn self.old }
     {
@@ -278,7 +278,7 @@ impl Board {
     }
 
     /// Sets what is edited on the connection; what was edited before is dropped.
-    #[tactic(auto, using(crate::proofs::Numbered::changes), unfolding(muck_live::specs::Boards::edited_one))]
+    #[tactic(auto, using(crate::proofs::Numbered::changes), unfolding(spec_live::specs::Boards::edited_one))]
     pub fn set_editor(&mut self, d: u32, editor: Option<EditState>)
         ensures { self.new ≡ edited_one d editor self.old }
     {
@@ -288,7 +288,7 @@ impl Board {
     }
 
     /// Takes out what is edited on the connection, so that nothing is edited on it.
-    #[tactic(auto, using(crate::proofs::Numbered::changes), unfolding(muck_live::specs::Boards::edited_one))]
+    #[tactic(auto, using(crate::proofs::Numbered::changes), unfolding(spec_live::specs::Boards::edited_one))]
     pub fn take_editor(&mut self, d: u32) -> Option<EditState>
         ensures editor { result ≡ editor_in d self.old }
         ensures rest { self.new ≡ edited_one d None self.old }
@@ -297,7 +297,7 @@ impl Board {
     }
 
     /// Closes each editor that is open on the program; what was edited in it is dropped. It takes no memory.
-    #[tactic(auto, unfolding(muck_live::specs::Boards::editors_closed))]
+    #[tactic(auto, unfolding(spec_live::specs::Boards::editors_closed))]
     pub fn close_editors(&mut self, program: Dbref)
         ensures { self.new ≡ editors_closed program self.old }
     {

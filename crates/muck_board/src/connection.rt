@@ -1,9 +1,9 @@
 // One connection.
 ghost use Rattle.std.specs.Prelude.{◌≡◌, ◌≤◌, OnOk, OnErr, IfOk, MatchOption, length, drop, take, min, None, Some, false, [], ◌∷◌, ◌++◌};
 ghost use Rattle.std.specs.Option.{option_map_or};
-ghost use Rattle.muck_live.specs.Objects.{same};
-ghost use Rattle.muck_live.specs.Output.{bytes_of, taken};
-ghost use Rattle.muck_live.specs.Connections.{newcomer, takes_line, is_ready, told, told_where, left, left_where, seated, lined, edited, edits, edited_where, is_of, hears, has_player};
+ghost use Rattle.spec_live.specs.Objects.{same};
+ghost use Rattle.spec_live.specs.Output.{bytes_of, taken};
+ghost use Rattle.spec_live.specs.Connections.{newcomer, takes_line, is_ready, told, told_where, left, left_where, seated, lined, edited, edits, edited_where, is_of, hears, has_player};
 ghost use Rattle.muck_board.specs.Silent.{quiet};
 
 use crate::output::Output;
@@ -29,7 +29,7 @@ pub struct Connection {
 }
 
 impl Model for Connection {
-    ghost use Rattle.muck_live.specs.Connections.{Connection as Link};
+    ghost use Rattle.spec_live.specs.Connections.{Connection as Link};
 
     ghost Value = { Link };
 

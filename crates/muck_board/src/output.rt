@@ -2,7 +2,7 @@
 ghost use Rattle.std.specs.Prelude.{◌≡◌, ℕ, ◌+◌, ◌-◌, ◌<◌, ◌≤◌, nat_le, if◌then◌else◌, true, OnOk, MatchBool, [], ◌∷◌, ◌++◌, length, take, drop, min};
 ghost use Rattle.std.specs.List.{slice_split};
 ghost use Rattle.std.specs.Option.{option_map_or};
-ghost use Rattle.muck_live.specs.Output.{no_output, sent_form, notice_of, lines_bytes, bytes_of, newest, line_sent, lines_sent, sent, taken};
+ghost use Rattle.spec_live.specs.Output.{no_output, sent_form, notice_of, lines_bytes, bytes_of, newest, line_sent, lines_sent, sent, taken};
 ghost use Rattle.muck_board.specs.Pieces.{pieces_after};
 
 use crate::piece::Piece;
@@ -28,7 +28,7 @@ pub struct Output {
 }
 
 impl Model for Output {
-    ghost use Rattle.muck_live.specs.Output.{Output as Queue};
+    ghost use Rattle.spec_live.specs.Output.{Output as Queue};
     ghost use Rattle.muck_board.specs.Bounded.{IsBounded};
 
     ghost Value = { Queue };
@@ -39,7 +39,7 @@ impl Model for Output {
 }
 
 // How many bytes the notice has, where it stands.
-#[tactic(auto, unfolding(muck_live::specs::Output::notice))]
+#[tactic(auto, unfolding(spec_live::specs::Output::notice))]
 fn notice_len(flushed: bool) -> usize
     ensures { result ≡ length (notice_of flushed) }
 {
@@ -80,7 +80,7 @@ fn copy_at(buf: &mut [u8], at: usize, bytes: &[u8]) -> usize
 
 impl Output {
     /// Nothing waits.
-    #[tactic(auto, unfolding(muck_live::specs::Output::lines_bytes))]
+    #[tactic(auto, unfolding(spec_live::specs::Output::lines_bytes))]
     pub fn new(alloc: Global) -> Output
         ensures { result ≡ no_output }
     {
@@ -125,7 +125,7 @@ impl Output {
     }
 
     // With a line more.
-    #[tactic(auto, unfolding(muck_live::specs::Output::line_sent, muck_live::specs::Output::queue_most))]
+    #[tactic(auto, unfolding(spec_live::specs::Output::line_sent, spec_live::specs::Output::queue_most))]
     fn push_line(&mut self, line: &[u8]) -> Result<(), NoMemory>
         requires { length line.now ≤ 4096 }
         ensures { OnOk result (self.new ≡ line_sent line.now self.old) }
@@ -138,7 +138,7 @@ impl Output {
 
     /// Sends a text: its front, as one line for each piece. Lines that were sent before give way. After `NoMemory` a part
     /// of this may be done: the first lines of the text are sent, and of the next one older lines may have given way.
-    #[tactic(auto, unfolding(muck_live::specs::Output::sent, muck_live::specs::Output::sent_lines, muck_live::specs::Output::lines_sent))]
+    #[tactic(auto, unfolding(spec_live::specs::Output::sent, spec_live::specs::Output::sent_lines, spec_live::specs::Output::lines_sent))]
     pub fn say(&mut self, text: &[u8]) -> Result<(), NoMemory>
         ensures { OnOk result (self.new ≡ sent text.now self.old) }
     {

@@ -1,6 +1,6 @@
 // A whole line that waits to be sent.
 ghost use Rattle.std.specs.Prelude.{◌≡◌, ◌≤◌, IfOk, length};
-ghost use Rattle.muck_live.specs.Output.{sent_form};
+ghost use Rattle.spec_live.specs.Output.{sent_form};
 
 use muck_model::NoMemory;
 use std::alloc::Global;

@@ -1,7 +1,7 @@
 // Where connections stand that are kept by rising number.
 ghost use Rattle.std.specs.Prelude.{◌≡◌, ◌≤◌, length, nat_lt};
 ghost use Rattle.std.specs.List.{position, position_or_len};
-ghost use Rattle.muck_live.specs.Connections.{has_number};
+ghost use Rattle.spec_live.specs.Connections.{has_number};
 
 use crate::connection::Connection;
 

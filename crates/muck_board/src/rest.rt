@@ -1,6 +1,6 @@
 // The rest of a line that was taken in part.
 ghost use Rattle.std.specs.Prelude.{◌≡◌, ◌≤◌, ◌↔◌, IsTrue, [], length, drop};
-ghost use Rattle.muck_live.specs.Output.{sent_form, notice};
+ghost use Rattle.spec_live.specs.Output.{sent_form, notice};
 ghost use Rattle.muck_board.specs.Begun.{begun_bytes};
 
 use crate::piece::Piece;
@@ -36,7 +36,7 @@ impl Model for Rest {
 }
 
 // All bytes of what was begun.
-#[tactic(auto, unfolding(muck_live::specs::Output::notice))]
+#[tactic(auto, unfolding(spec_live::specs::Output::notice))]
 fn begun_bytes(begun: &Begun) -> &[u8]
     ensures bytes { result.now ≡ begun_bytes begun.now }
 {
@@ -59,7 +59,7 @@ impl Rest {
     }
 
     /// The notice, of which nothing is taken so far.
-    #[tactic(auto, unfolding(muck_live::specs::Output::notice))]
+    #[tactic(auto, unfolding(spec_live::specs::Output::notice))]
     pub fn notice() -> Rest
         ensures { result ≡ notice }
     {

@@ -4,21 +4,21 @@ use Rattle.std.proofs.lemmas.Bool.{cases_eq}
 use Rattle.std.specs.List.{slice_get}
 use Rattle.std.specs.Option.{option_map, option_map_or}
 use Rattle.muck_model.specs.declared.dbref.Dbref.{Dbref}
-use Rattle.muck_live.specs.declared.object.Object.{Object}
-use Rattle.muck_live.specs.Chain.{walk, IsChain, Ends, Member, without, put_at}
-use Rattle.muck_live.specs.Objects.{Entry, dbref_of, list_in, place_in, path_in, number_in, changed_at, is_garbage, object_in, object_at, kind_in, fits_in, is_vehicle_in}
-use Rattle.muck_live.specs.Moving.{moved, with_place}
-use Rattle.muck_live.specs.Consistent.{MayMove, IsOrdered, IsConsistent, StandsIn}
-use Rattle.muck_live.specs.Seen.{listed_in}
-use Rattle.muck_live.proofs.Chains.{ends_from, walk_is, walk_next, walk_none, member_none, without_same}
-use Rattle.muck_live.proofs.Lists.{length_changed, length_map}
-use Rattle.muck_live.proofs.KindLaws.{standing_alive}
-use Rattle.muck_live.proofs.Orders.{ordered_moved, list_short}
-use Rattle.muck_live.proofs.Readers.{entries_ext, length_moved, list_moved, object_moved, object_unmoved, mark_moved, kind_moved}
+use Rattle.spec_live.specs.declared.object.Object.{Object}
+use Rattle.spec_live.specs.Chain.{walk, IsChain, Ends, Member, without, put_at}
+use Rattle.spec_live.specs.Objects.{Entry, dbref_of, list_in, place_in, path_in, number_in, changed_at, is_garbage, object_in, object_at, kind_in, fits_in, is_vehicle_in}
+use Rattle.spec_live.specs.Moving.{moved, with_place}
+use Rattle.spec_live.specs.Consistent.{MayMove, IsOrdered, IsConsistent, StandsIn}
+use Rattle.spec_live.specs.Seen.{listed_in}
+use Rattle.spec_live.proofs.Chains.{ends_from, walk_is, walk_next, walk_none, member_none, without_same}
+use Rattle.spec_live.proofs.Lists.{length_changed, length_map}
+use Rattle.spec_live.proofs.KindLaws.{standing_alive}
+use Rattle.spec_live.proofs.Orders.{ordered_moved, list_short}
+use Rattle.spec_live.proofs.Readers.{entries_ext, length_moved, list_moved, object_moved, object_unmoved, mark_moved, kind_moved}
 use Rattle.muck_db.specs.declared.slot.Slot.{Slot}
 use Rattle.muck_db.specs.Slots.{next_at, first_at, place_at, kind_at, path_at, is_exit_at, list_at, on_slot, dbrefs_from, entries_of, HasChains, HasOrder, IsSound, IsKept, IsUnlinked, IsLinked}
 use Rattle.muck_db.specs.Limits.{IsWithinLimits}
-use Rattle.muck_live.proofs.Ties.{consistent_moved}
+use Rattle.spec_live.proofs.Ties.{consistent_moved}
 use Rattle.muck_db.proofs.LimitLaws.{limits_moved}
 use Rattle.muck_db.proofs.Tables.{first-on_slot, next-on_slot, mark-on_slot, object-on_slot_same, object-on_slot_other}
 use Rattle.muck_db.proofs.Linked.{chain_at, chain_over}

@@ -5,10 +5,10 @@ use Rattle.std.specs.Prelude.{bytes_eq}
 use Rattle.hex.specs.Hex.{decode_of}
 use Rattle.hex.specs.declared.error.FromHexError.{FromHexError}
 use Rattle.hex.specs.declared.error.FromHexError.TheVariants.{OutOfMemory}
-use Rattle.muck_live.specs.Password.{digest_of, is_digest_of}
+use Rattle.spec_live.specs.Password.{digest_of, is_digest_of}
 use Rattle.std.proofs.lemmas.List.Sums.{length-filter}
 use Rattle.std.specs.List.{count_by, filter}
-use Rattle.muck_live.specs.Objects.{is_garbage}
+use Rattle.spec_live.specs.Objects.{is_garbage}
 use Rattle.muck_db.specs.declared.slot.Slot.{Slot}
 use Rattle.muck_db.specs.Slots.{shown, entry_of, entries_of}
 use Rattle.muck_db.specs.Shown.{is_there, is_memory}

@@ -6,17 +6,17 @@ use Rattle.std.specs.Option.{option_map, option_map_or}
 use Rattle.muck_model.specs.declared.dbref.Dbref.{Dbref}
 use Rattle.muck_model.specs.declared.dbref.Kind.{Kind}
 use Rattle.muck_model.specs.declared.dbref.Kind.TheVariants.{Garbage}
-use Rattle.muck_live.specs.declared.fault.DbFault.{DbFault}
-use Rattle.muck_live.specs.declared.fault.DbFault.TheVariants.{NoMemory}
-use Rattle.muck_live.specs.declared.object.Object.{Object}
-use Rattle.muck_live.specs.Chain.{Ends}
-use Rattle.muck_live.specs.Objects.{Entry, dbref_of, changed_at, with_object, is_garbage, object_in, kind_in, mark_in, is_vehicle_in}
-use Rattle.muck_live.specs.Making.{grown, free_in, new_object, created, create_check, Creates}
-use Rattle.muck_live.specs.Moving.{moved}
-use Rattle.muck_live.specs.Consistent.{IsOrdered, IsConsistent, MayMove}
-use Rattle.muck_live.proofs.Readers.{kind_moved, mark_moved, mark_named}
-use Rattle.muck_live.proofs.KindLaws.{standing_alive}
-use Rattle.muck_live.proofs.CreationLaws.{free_is, MayCreate, may_create, Begins, begins, grown_kind, grown_more, grown_same, free_le, other_kind, named_kind, ordered_grown, ordered_named, create_checked, consistent_created}
+use Rattle.spec_live.specs.declared.fault.DbFault.{DbFault}
+use Rattle.spec_live.specs.declared.fault.DbFault.TheVariants.{NoMemory}
+use Rattle.spec_live.specs.declared.object.Object.{Object}
+use Rattle.spec_live.specs.Chain.{Ends}
+use Rattle.spec_live.specs.Objects.{Entry, dbref_of, changed_at, with_object, is_garbage, object_in, kind_in, mark_in, is_vehicle_in}
+use Rattle.spec_live.specs.Making.{grown, free_in, new_object, created, create_check, Creates}
+use Rattle.spec_live.specs.Moving.{moved}
+use Rattle.spec_live.specs.Consistent.{IsOrdered, IsConsistent, MayMove}
+use Rattle.spec_live.proofs.Readers.{kind_moved, mark_moved, mark_named}
+use Rattle.spec_live.proofs.KindLaws.{standing_alive}
+use Rattle.spec_live.proofs.CreationLaws.{free_is, MayCreate, may_create, Begins, begins, grown_kind, grown_more, grown_same, free_le, other_kind, named_kind, ordered_grown, ordered_named, create_checked, consistent_created}
 use Rattle.muck_db.specs.declared.slot.Slot.{Slot}
 use Rattle.muck_db.specs.Slots.{next_at, first_at, kind_at, mark_at, object_put, entries_of, HasOrder, IsKept}
 use Rattle.muck_db.specs.Limits.{IsWithinLimits}

@@ -1,14 +1,14 @@
 -- A field that was set keeps the rule of the type.
 use Rattle.std.proofs.Common.{◌≡◌, ℕ, List, refl, sym, ◌∙◌, ap, subst, Result, Ok, Err, false}
-use Rattle.muck_live.specs.declared.object.Object.{Object}
-use Rattle.muck_live.specs.declared.fault.DbFault.{DbFault}
-use Rattle.muck_live.specs.declared.fault.DbFault.TheVariants.{NoMemory}
-use Rattle.muck_live.specs.Objects.{Entry, changed_at, on_object, is_garbage}
-use Rattle.muck_live.specs.Moving.{Does}
-use Rattle.muck_live.specs.Setting.{Tries, set_at, with_password}
-use Rattle.muck_live.specs.Password.{digest_of, salt_bytes}
-use Rattle.muck_live.specs.Consistent.{IsConsistent}
-use Rattle.muck_live.proofs.Readers.{kind_changed, mark_changed}
+use Rattle.spec_live.specs.declared.object.Object.{Object}
+use Rattle.spec_live.specs.declared.fault.DbFault.{DbFault}
+use Rattle.spec_live.specs.declared.fault.DbFault.TheVariants.{NoMemory}
+use Rattle.spec_live.specs.Objects.{Entry, changed_at, on_object, is_garbage}
+use Rattle.spec_live.specs.Moving.{Does}
+use Rattle.spec_live.specs.Setting.{Tries, set_at, with_password}
+use Rattle.spec_live.specs.Password.{digest_of, salt_bytes}
+use Rattle.spec_live.specs.Consistent.{IsConsistent}
+use Rattle.spec_live.proofs.Readers.{kind_changed, mark_changed}
 use Rattle.muck_db.specs.declared.slot.Slot.{Slot}
 use Rattle.muck_db.specs.Slots.{kind_at, on_slot, with_digest, entries_of, IsKept}
 use Rattle.muck_db.specs.Limits.{IsWithinLimits}

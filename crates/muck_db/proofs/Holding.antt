@@ -1,10 +1,10 @@
 -- Whether something in a list passes a test.
 use Rattle.std.proofs.Common.{◌≡◌, ℕ, List, [], ◌∷◌, Option, Some, None, refl, ◌∙◌, ap, length, Bool, true, false, ◌||◌}
 use Rattle.std.specs.List.{list_any}
-use Rattle.muck_live.specs.Chain.{walk, Ends}
-use Rattle.muck_live.specs.Objects.{is_player, kind_in, list_in}
-use Rattle.muck_live.specs.Setting.{holds_player}
-use Rattle.muck_live.proofs.Chains.{walk_next, walk_none}
+use Rattle.spec_live.specs.Chain.{walk, Ends}
+use Rattle.spec_live.specs.Objects.{is_player, kind_in, list_in}
+use Rattle.spec_live.specs.Setting.{holds_player}
+use Rattle.spec_live.proofs.Chains.{walk_next, walk_none}
 use Rattle.muck_db.specs.declared.slot.Slot.{Slot}
 use Rattle.muck_db.specs.Slots.{next_at, first_at, kind_at, list_at, entries_of}
 use Rattle.muck_db.proofs.Readers.{kind_in-entries_of, list_in-entries_of}

@@ -5,22 +5,22 @@ use Rattle.std.proofs.lemmas.Option.{slice_get-map}
 use Rattle.std.specs.List.{slice_get}
 use Rattle.std.specs.Option.{option_map, option_and_then, option_map_or}
 use Rattle.muck_model.specs.declared.dbref.Dbref.{Dbref}
-use Rattle.muck_live.specs.declared.fault.DbFault.{DbFault}
-use Rattle.muck_live.specs.declared.object.Object.{Object}
-use Rattle.muck_live.specs.declared.mark.Mark.TheVariants.{Gone}
-use Rattle.muck_live.specs.Chain.{walk, IsChain, Ends, Member, without}
-use Rattle.muck_live.specs.Objects.{Entry, dbref_of, index_of, same, is_exit, changed_at, garbage, on_object, list_of, object_in, list_in, mark_in, kind_in, fits_in, is_vehicle_in}
-use Rattle.muck_live.specs.Moving.{left_out, moved, Does}
-use Rattle.muck_live.specs.Recycling.{without_ties, untied, way_home, sent_home, gone_entry, is_exit_of, exit_gone, without_exits, exits_gone, vanished, recycled, recycle_check}
-use Rattle.muck_live.specs.Consistent.{IsOrdered, IsConsistent, MayMove}
-use Rattle.muck_live.proofs.Chains.{ends_from, walk_none, walk_next, without_gone, without_member}
-use Rattle.muck_live.proofs.Lists.{length_map, length_changed, get_changed_same, get_changed_other, some_at}
-use Rattle.muck_live.proofs.Readers.{entries_ext}
-use Rattle.muck_live.proofs.KindLaws.{place_alive}
-use Rattle.muck_live.proofs.Checks.{alive_known}
-use Rattle.muck_live.proofs.SettingLaws.{same_only, both_true}
-use Rattle.muck_live.proofs.HomeLaws.{IsUntied, is_untied, ordered_untied, list_untied, length_untied, length_sent_home, HomeStep, home_step}
-use Rattle.muck_live.proofs.RecyclingLaws.{consistent_recycled}
+use Rattle.spec_live.specs.declared.fault.DbFault.{DbFault}
+use Rattle.spec_live.specs.declared.object.Object.{Object}
+use Rattle.spec_live.specs.declared.mark.Mark.TheVariants.{Gone}
+use Rattle.spec_live.specs.Chain.{walk, IsChain, Ends, Member, without}
+use Rattle.spec_live.specs.Objects.{Entry, dbref_of, index_of, same, is_exit, changed_at, garbage, on_object, list_of, object_in, list_in, mark_in, kind_in, fits_in, is_vehicle_in}
+use Rattle.spec_live.specs.Moving.{left_out, moved, Does}
+use Rattle.spec_live.specs.Recycling.{without_ties, untied, way_home, sent_home, gone_entry, is_exit_of, exit_gone, without_exits, exits_gone, vanished, recycled, recycle_check}
+use Rattle.spec_live.specs.Consistent.{IsOrdered, IsConsistent, MayMove}
+use Rattle.spec_live.proofs.Chains.{ends_from, walk_none, walk_next, without_gone, without_member}
+use Rattle.spec_live.proofs.Lists.{length_map, length_changed, get_changed_same, get_changed_other, some_at}
+use Rattle.spec_live.proofs.Readers.{entries_ext}
+use Rattle.spec_live.proofs.KindLaws.{place_alive}
+use Rattle.spec_live.proofs.Checks.{alive_known}
+use Rattle.spec_live.proofs.SettingLaws.{same_only, both_true}
+use Rattle.spec_live.proofs.HomeLaws.{IsUntied, is_untied, ordered_untied, list_untied, length_untied, length_sent_home, HomeStep, home_step}
+use Rattle.spec_live.proofs.RecyclingLaws.{consistent_recycled}
 use Rattle.muck_db.specs.declared.slot.Slot.{Slot}
 use Rattle.muck_db.specs.Slots.{shown, object_at, next_at, first_of, first_at, mark_at, place_at, list_at, on_slot, new_slot, wiped, exit_wiped, entry_of, entries_of, Stands, HasOrder, IsSound, IsKept, IsUnlinked}
 use Rattle.muck_db.specs.Limits.{IsWithinLimits}

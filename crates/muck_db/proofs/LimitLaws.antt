@@ -10,20 +10,20 @@ use Rattle.muck_model.specs.declared.dbref.Dbref.{Dbref}
 use Rattle.muck_model.specs.declared.dbref.Flags.{Flags}
 use Rattle.muck_model.specs.declared.dbref.Kind.{Kind}
 use Rattle.muck_prop.specs.declared.value.PropValue.{PropValue}
-use Rattle.muck_live.specs.declared.object.Object.{Object}
-use Rattle.muck_live.specs.declared.mark.Mark.{Mark}
-use Rattle.muck_live.specs.Objects.{Entry, changed_at, on_object, with_object, garbage, object_in, object_at, number_in, kind_in, is_exit, is_program, is_player}
-use Rattle.muck_live.specs.Moving.{left_out, put_first, with_place, moved}
-use Rattle.muck_live.specs.Making.{blank_entry, grown, new_object, created}
-use Rattle.muck_live.specs.Marks.{unmarked, marked_from, change_told}
-use Rattle.muck_live.specs.Password.{salt_bytes, first_salt, first_password}
-use Rattle.muck_live.specs.Recycling.{without_ties, untied, way_home, sent_home, gone_entry, is_exit_of, exit_gone, without_exits, exits_gone, vanished, recycled}
-use Rattle.muck_live.specs.Setting.{set_at, with_name, with_owner, with_link, with_home, with_flags, level_check, with_level, with_lines, lines_set, with_password, with_prop, without_prop}
-use Rattle.muck_live.specs.Start.{first_digest, room_zero, player_one, first_objects}
-use Rattle.muck_live.proofs.Lists.{get_changed_same}
-use Rattle.muck_live.proofs.Readers.{object_elsewhere}
-use Rattle.muck_live.proofs.Checks.{checked_ok}
-use Rattle.muck_live.proofs.CreationLaws.{object_more, object_last, grown_same, grown_more}
+use Rattle.spec_live.specs.declared.object.Object.{Object}
+use Rattle.spec_live.specs.declared.mark.Mark.{Mark}
+use Rattle.spec_live.specs.Objects.{Entry, changed_at, on_object, with_object, garbage, object_in, object_at, number_in, kind_in, is_exit, is_program, is_player}
+use Rattle.spec_live.specs.Moving.{left_out, put_first, with_place, moved}
+use Rattle.spec_live.specs.Making.{blank_entry, grown, new_object, created}
+use Rattle.spec_live.specs.Marks.{unmarked, marked_from, change_told}
+use Rattle.spec_live.specs.Password.{salt_bytes, first_salt, first_password}
+use Rattle.spec_live.specs.Recycling.{without_ties, untied, way_home, sent_home, gone_entry, is_exit_of, exit_gone, without_exits, exits_gone, vanished, recycled}
+use Rattle.spec_live.specs.Setting.{set_at, with_name, with_owner, with_link, with_home, with_flags, level_check, with_level, with_lines, lines_set, with_password, with_prop, without_prop}
+use Rattle.spec_live.specs.Start.{first_digest, room_zero, player_one, first_objects}
+use Rattle.spec_live.proofs.Lists.{get_changed_same}
+use Rattle.spec_live.proofs.Readers.{object_elsewhere}
+use Rattle.spec_live.proofs.Checks.{checked_ok}
+use Rattle.spec_live.proofs.CreationLaws.{object_more, object_last, grown_same, grown_more}
 use Rattle.muck_db.specs.Limits.{IsDigest, FitsLimits, IsWithinLimits}
 use Rattle.muck_db.proofs.Digests.{bytes_high, length-bytes_high, is_digest}
 

@@ -4,12 +4,12 @@ use Rattle.std.proofs.lemmas.Option.{slice_get-map}
 use Rattle.std.specs.List.{slice_get}
 use Rattle.std.specs.Option.{option_map, option_and_then, option_map_or}
 use Rattle.muck_model.specs.declared.dbref.Kind.TheVariants.{Garbage}
-use Rattle.muck_live.specs.declared.object.Object.{Object}
-use Rattle.muck_live.specs.Chain.{walk}
-use Rattle.muck_live.specs.Flags.{no_flags}
-use Rattle.muck_live.specs.Objects.{Entry, index_of, is_exit, object_in, list_of, list_in, place_in, kind_in, flags_in, home_in, owner_in, mark_in}
-use Rattle.muck_live.proofs.Chains.{walk_none}
-use Rattle.muck_live.proofs.Lists.{length_map}
+use Rattle.spec_live.specs.declared.object.Object.{Object}
+use Rattle.spec_live.specs.Chain.{walk}
+use Rattle.spec_live.specs.Flags.{no_flags}
+use Rattle.spec_live.specs.Objects.{Entry, index_of, is_exit, object_in, list_of, list_in, place_in, kind_in, flags_in, home_in, owner_in, mark_in}
+use Rattle.spec_live.proofs.Chains.{walk_none}
+use Rattle.spec_live.proofs.Lists.{length_map}
 use Rattle.muck_db.specs.declared.slot.Slot.{Slot}
 use Rattle.muck_db.specs.Slots.{shown, object_at, next_at, first_at, first_of, place_at, kind_at, flags_at, home_at, owner_at, mark_at, is_exit_at, list_at, entry_of, entries_of}
 

@@ -1,20 +1,20 @@
 -- A field that is set by a setting.
 use Rattle.std.proofs.Common.{◌≡◌, ℕ, ◌<◌, List, Result, Ok, Err, refl, sym, ◌∙◌, ap, subst, length, false, arith}
 use Rattle.std.specs.Prelude.{IfOk}
-use Rattle.muck_live.specs.declared.object.Object.{Object}
-use Rattle.muck_live.specs.declared.fault.DbFault.{DbFault}
-use Rattle.muck_live.specs.Objects.{Entry, is_garbage, changed_at}
-use Rattle.muck_live.specs.Moving.{Does}
-use Rattle.muck_live.specs.Password.{digest_of, salt_bytes}
-use Rattle.muck_live.specs.Setting.{Tries, set_at, with_password}
-use Rattle.muck_live.specs.Consistent.{IsConsistent}
+use Rattle.spec_live.specs.declared.object.Object.{Object}
+use Rattle.spec_live.specs.declared.fault.DbFault.{DbFault}
+use Rattle.spec_live.specs.Objects.{Entry, is_garbage, changed_at}
+use Rattle.spec_live.specs.Moving.{Does}
+use Rattle.spec_live.specs.Password.{digest_of, salt_bytes}
+use Rattle.spec_live.specs.Setting.{Tries, set_at, with_password}
+use Rattle.spec_live.specs.Consistent.{IsConsistent}
 use Rattle.muck_db.specs.declared.setting.Setting.{Setting}
 use Rattle.muck_db.specs.declared.setting.Setting.TheVariants.{Name, Owner, Link, Home, Flags, Level, Digest}
 use Rattle.muck_db.specs.declared.slot.Slot.{Slot}
 use Rattle.muck_db.specs.Slots.{kind_at, entries_of, on_slot, with_digest, IsKept}
 use Rattle.muck_db.specs.Limits.{IsWithinLimits}
 use Rattle.muck_db.specs.Settings.{with_setting, CanSet, MaySet}
-use Rattle.muck_live.proofs.Checks.{alive_known}
+use Rattle.spec_live.proofs.Checks.{alive_known}
 use Rattle.muck_db.proofs.Readers.{length-entries_of, kind_in-entries_of}
 use Rattle.muck_db.proofs.Fields.{entries_set, kept_set, did}
 

@@ -6,15 +6,15 @@ use Rattle.std.specs.Option.{option_map}
 use Rattle.muck_model.specs.declared.dbref.Dbref.{Dbref}
 use Rattle.muck_match.specs.Scenery.{chain, upward, is_there}
 use Rattle.muck_lock.specs.Chain as lock
-use Rattle.muck_live.specs.Chain.{walk, IsChain, Ends, Member}
-use Rattle.muck_live.specs.Objects.{Entry, dbref_of, index_of, nothing, is_exit, is_garbage, object_in, kind_in, place_in, list_in, number_in, object_at, fits_in, is_vehicle_in}
-use Rattle.muck_live.specs.declared.object.Object.{Object}
-use Rattle.muck_live.specs.Seen.{listed_in, places_of, scenery_of}
-use Rattle.muck_live.specs.Consistent.{IsOrdered}
-use Rattle.muck_live.proofs.Chains.{walk_is, walk_none, walk_next, chain_from, ends_from, ends_within, member_here}
-use Rattle.muck_live.proofs.KindLaws.{standing_alive, place_alive}
-use Rattle.muck_live.proofs.Readers.{place_is, object_there}
-use Rattle.muck_live.proofs.Checks.{alive_known, index_only, number_there}
+use Rattle.spec_live.specs.Chain.{walk, IsChain, Ends, Member}
+use Rattle.spec_live.specs.Objects.{Entry, dbref_of, index_of, nothing, is_exit, is_garbage, object_in, kind_in, place_in, list_in, number_in, object_at, fits_in, is_vehicle_in}
+use Rattle.spec_live.specs.declared.object.Object.{Object}
+use Rattle.spec_live.specs.Seen.{listed_in, places_of, scenery_of}
+use Rattle.spec_live.specs.Consistent.{IsOrdered}
+use Rattle.spec_live.proofs.Chains.{walk_is, walk_none, walk_next, chain_from, ends_from, ends_within, member_here}
+use Rattle.spec_live.proofs.KindLaws.{standing_alive, place_alive}
+use Rattle.spec_live.proofs.Readers.{place_is, object_there}
+use Rattle.spec_live.proofs.Checks.{alive_known, index_only, number_there}
 use Rattle.muck_db.specs.declared.slot.Slot.{Slot}
 use Rattle.muck_db.specs.Slots.{next_at, first_at, place_at, list_at, entries_of, Stands, HasChains, HasOrder}
 use Rattle.muck_db.specs.Shown.{behind, listing, after_in, head_of, first_in, next_in, dbref_at}

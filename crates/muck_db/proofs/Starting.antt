@@ -1,11 +1,11 @@
 -- The first table.
 use Rattle.std.proofs.Common.{◌≡◌, ℕ, zero, suc, List, [], ◌∷◌, Option, Some, None, refl, sym, subst, length, arith, Bool, true, false}
-use Rattle.muck_live.specs.Chain.{walk, IsChain, Ends}
-use Rattle.muck_live.specs.Objects.{Entry}
-use Rattle.muck_live.specs.Start.{first_objects}
-use Rattle.muck_live.specs.Consistent.{IsConsistent}
-use Rattle.muck_live.proofs.Chains.{ends_from}
-use Rattle.muck_live.proofs.StartLaws.{consistent_first}
+use Rattle.spec_live.specs.Chain.{walk, IsChain, Ends}
+use Rattle.spec_live.specs.Objects.{Entry}
+use Rattle.spec_live.specs.Start.{first_objects}
+use Rattle.spec_live.specs.Consistent.{IsConsistent}
+use Rattle.spec_live.proofs.Chains.{ends_from}
+use Rattle.spec_live.proofs.StartLaws.{consistent_first}
 use Rattle.muck_db.specs.declared.slot.Slot.{Slot}
 use Rattle.muck_db.specs.Slots.{next_at, first_at, entry_of, entries_of, first_slots, IsKept}
 use Rattle.muck_db.specs.Limits.{IsWithinLimits}

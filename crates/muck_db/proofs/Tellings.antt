@@ -4,16 +4,16 @@ use Rattle.std.proofs.lemmas.Bool.{cases_eq}
 use Rattle.std.specs.List.{slice_get}
 use Rattle.std.specs.Option.{option_map, option_and_then, option_map_or}
 use Rattle.muck_model.specs.declared.dbref.Kind.TheVariants.{Garbage}
-use Rattle.muck_live.specs.declared.object.Object.{Object}
-use Rattle.muck_live.specs.declared.mark.Mark.{Mark}
-use Rattle.muck_live.specs.declared.fault.DbFault.{DbFault}
-use Rattle.muck_live.specs.Objects.{Entry, changed_at, is_garbage, garbage, mark_in}
-use Rattle.muck_live.specs.Marks.{unmarked, marked_from, told_of, next_change, change_told}
-use Rattle.muck_live.specs.Moving.{Does}
-use Rattle.muck_live.specs.Setting.{with_lines, lines_set}
-use Rattle.muck_live.specs.Consistent.{IsConsistent}
-use Rattle.muck_live.proofs.Lists.{get_changed_same, get_changed_other}
-use Rattle.muck_live.proofs.StartLaws.{consistent_told}
+use Rattle.spec_live.specs.declared.object.Object.{Object}
+use Rattle.spec_live.specs.declared.mark.Mark.{Mark}
+use Rattle.spec_live.specs.declared.fault.DbFault.{DbFault}
+use Rattle.spec_live.specs.Objects.{Entry, changed_at, is_garbage, garbage, mark_in}
+use Rattle.spec_live.specs.Marks.{unmarked, marked_from, told_of, next_change, change_told}
+use Rattle.spec_live.specs.Moving.{Does}
+use Rattle.spec_live.specs.Setting.{with_lines, lines_set}
+use Rattle.spec_live.specs.Consistent.{IsConsistent}
+use Rattle.spec_live.proofs.Lists.{get_changed_same, get_changed_other}
+use Rattle.spec_live.proofs.StartLaws.{consistent_told}
 use Rattle.muck_db.specs.declared.slot.Slot.{Slot}
 use Rattle.muck_db.specs.Slots.{shown, object_at, first_of, kind_at, mark_at, with_mark, with_slot_lines, with_source, entry_of, entries_of, IsKept}
 use Rattle.muck_db.specs.Limits.{IsWithinLimits}

@@ -4,16 +4,16 @@ use Rattle.std.proofs.lemmas.Bool.{cases_eq, cases_lt, ne_eqb, eq-eqb, false≢t
 use Rattle.std.proofs.lemmas.Option.{slice_get-map, slice_get_past}
 use Rattle.std.specs.List.{slice_get, slice_set}
 use Rattle.std.specs.Option.{option_map, option_and_then}
-use Rattle.muck_live.specs.declared.object.Object.{Object}
-use Rattle.muck_live.specs.declared.mark.Mark.{Mark}
-use Rattle.muck_live.specs.Chain.{walk, IsChain, Ends}
-use Rattle.muck_live.specs.Objects.{Entry, changed_at, is_garbage, garbage, on_object, with_object, object_in, mark_in}
-use Rattle.muck_live.specs.Making.{blank_entry, grown}
-use Rattle.muck_live.proofs.Chains.{ends_from}
-use Rattle.muck_live.proofs.Lists.{length_changed, length_map, get_changed_same, get_changed_other, get_more, get_last, read_more, read_kept, kept_then}
-use Rattle.muck_live.proofs.Readers.{entries_ext, object_named, object_unnamed, list_named, mark_named}
-use Rattle.muck_live.proofs.Orders.{chain_wider}
-use Rattle.muck_live.proofs.CreationLaws.{object_more, list_more, grown_same, grown_more}
+use Rattle.spec_live.specs.declared.object.Object.{Object}
+use Rattle.spec_live.specs.declared.mark.Mark.{Mark}
+use Rattle.spec_live.specs.Chain.{walk, IsChain, Ends}
+use Rattle.spec_live.specs.Objects.{Entry, changed_at, is_garbage, garbage, on_object, with_object, object_in, mark_in}
+use Rattle.spec_live.specs.Making.{blank_entry, grown}
+use Rattle.spec_live.proofs.Chains.{ends_from}
+use Rattle.spec_live.proofs.Lists.{length_changed, length_map, get_changed_same, get_changed_other, get_more, get_last, read_more, read_kept, kept_then}
+use Rattle.spec_live.proofs.Readers.{entries_ext, object_named, object_unnamed, list_named, mark_named}
+use Rattle.spec_live.proofs.Orders.{chain_wider}
+use Rattle.spec_live.proofs.CreationLaws.{object_more, list_more, grown_same, grown_more}
 use Rattle.muck_db.specs.declared.slot.Slot.{Slot}
 use Rattle.muck_db.specs.Slots.{shown, object_at, kept_at, next_at, first_of, first_at, mark_at, kind_at, list_at, on_slot, with_mark, with_kept, new_slot, object_put, entry_of, entries_of}
 use Rattle.muck_db.proofs.Readers.{length-entries_of, object_in-entries_of, list_in-entries_of, mark_in-entries_of}

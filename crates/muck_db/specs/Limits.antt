@@ -1,8 +1,8 @@
 -- How long the texts of an object are at most, and how high its numbers.
 use Rattle.std.specs.Prelude.{◌≡◌, ◌⊎◌, ℕ, ◌<◌, ◌≤◌, ◌^◌, nat_le, Bool, ◌&&◌, ◌||◌, List, [], length, Some}
 use Rattle.std.specs.List.{AllPass}
-use Rattle.muck_live.specs.declared.object.Object.{Object}
-use Rattle.muck_live.specs.Objects.{Entry, object_in}
+use Rattle.spec_live.specs.declared.object.Object.{Object}
+use Rattle.spec_live.specs.Objects.{Entry, object_in}
 
 -- a hex digit in lower case
 abbrev pub is_digit : ℕ → Bool

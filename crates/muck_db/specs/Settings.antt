@@ -1,10 +1,10 @@
 -- What is set of an object.
 use Rattle.std.specs.Prelude.{◌≡◌, ℕ, false, List, Result, Ok, Err}
-use Rattle.muck_live.specs.declared.object.Object.{Object}
-use Rattle.muck_live.specs.declared.fault.DbFault.{DbFault}
-use Rattle.muck_live.specs.Objects.{Entry, is_garbage, kind_in}
-use Rattle.muck_live.specs.Setting.{set_at, with_name, with_owner, with_link, with_home, with_flags, with_level}
-use Rattle.muck_live.specs.Consistent.{IsConsistent}
+use Rattle.spec_live.specs.declared.object.Object.{Object}
+use Rattle.spec_live.specs.declared.fault.DbFault.{DbFault}
+use Rattle.spec_live.specs.Objects.{Entry, is_garbage, kind_in}
+use Rattle.spec_live.specs.Setting.{set_at, with_name, with_owner, with_link, with_home, with_flags, with_level}
+use Rattle.spec_live.specs.Consistent.{IsConsistent}
 use Rattle.muck_db.specs.declared.setting.Setting.{Setting}
 use Rattle.muck_db.specs.declared.setting.Setting.TheVariants.{Name, Owner, Link, Home, Flags, Level, Digest}
 use Rattle.muck_db.specs.Slots.{with_digest}

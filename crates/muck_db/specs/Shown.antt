@@ -2,13 +2,13 @@
 use Rattle.std.specs.Prelude.{◌≡◌, ℕ, ◌==◌, not, Result, Err, MatchResult, if◌then◌else◌, Bool, true, false, List, [], ◌∷◌, map, Option, Some, None}
 use Rattle.std.specs.Option.{option_map_or}
 use Rattle.muck_model.specs.declared.dbref.Dbref.{Dbref}
-use Rattle.muck_live.specs.declared.object.Object.{Object}
-use Rattle.muck_live.specs.declared.fault.DbFault.{DbFault}
-use Rattle.muck_live.specs.declared.fault.DbFault.TheVariants.{NoSuchObject, NoMemory}
+use Rattle.spec_live.specs.declared.object.Object.{Object}
+use Rattle.spec_live.specs.declared.fault.DbFault.{DbFault}
+use Rattle.spec_live.specs.declared.fault.DbFault.TheVariants.{NoSuchObject, NoMemory}
 use Rattle.hex.specs.declared.error.FromHexError.{FromHexError}
 use Rattle.hex.specs.declared.error.FromHexError.TheVariants.{OutOfMemory}
-use Rattle.muck_live.specs.Password.{is_digest_of}
-use Rattle.muck_live.specs.Objects.{Entry, dbref_of, nothing, is_exit, is_garbage, kind_in, place_in, list_in, number_in}
+use Rattle.spec_live.specs.Password.{is_digest_of}
+use Rattle.spec_live.specs.Objects.{Entry, dbref_of, nothing, is_exit, is_garbage, kind_in, place_in, list_in, number_in}
 
 -- what stands behind a number
 unfoldable pub behind : ℕ → List ℕ → List ℕ

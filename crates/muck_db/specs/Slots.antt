@@ -5,16 +5,16 @@ use Rattle.muck_model.specs.declared.dbref.Dbref.{Dbref}
 use Rattle.muck_model.specs.declared.dbref.Flags.{Flags}
 use Rattle.muck_model.specs.declared.dbref.Kind.{Kind}
 use Rattle.muck_model.specs.declared.dbref.Kind.TheVariants.{Garbage}
-use Rattle.muck_live.specs.declared.object.Object.{Object}
-use Rattle.muck_live.specs.declared.mark.Mark.{Mark}
-use Rattle.muck_live.specs.declared.mark.Mark.TheVariants.{Gone}
-use Rattle.muck_live.specs.Chain.{walk, IsChain, Ends, Member, without, put_at}
-use Rattle.muck_live.specs.Flags.{no_flags}
-use Rattle.muck_live.specs.Objects.{Entry, changed_at, dbref_of, index_of, is_exit, is_garbage, garbage}
-use Rattle.muck_live.specs.Consistent.{IsOrdered, IsConsistent}
-use Rattle.muck_live.specs.Setting.{lines_marked}
-use Rattle.muck_live.specs.Recycling.{is_exit_of}
-use Rattle.muck_live.specs.Start.{room_zero, player_one}
+use Rattle.spec_live.specs.declared.object.Object.{Object}
+use Rattle.spec_live.specs.declared.mark.Mark.{Mark}
+use Rattle.spec_live.specs.declared.mark.Mark.TheVariants.{Gone}
+use Rattle.spec_live.specs.Chain.{walk, IsChain, Ends, Member, without, put_at}
+use Rattle.spec_live.specs.Flags.{no_flags}
+use Rattle.spec_live.specs.Objects.{Entry, changed_at, dbref_of, index_of, is_exit, is_garbage, garbage}
+use Rattle.spec_live.specs.Consistent.{IsOrdered, IsConsistent}
+use Rattle.spec_live.specs.Setting.{lines_marked}
+use Rattle.spec_live.specs.Recycling.{is_exit_of}
+use Rattle.spec_live.specs.Start.{room_zero, player_one}
 use Rattle.muck_db.specs.declared.slot.Slot.{Slot}
 use Rattle.muck_db.specs.Limits.{IsWithinLimits}
 

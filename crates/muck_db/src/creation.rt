@@ -1,15 +1,15 @@
 // A new object: at the lowest number of garbage, or at the next number.
 ghost use Rattle.std.specs.Prelude.{◌≡◌, ◌<◌, ◌≤◌, ◌^◌, ℕ, [], length, false, OnOk, OnErr, IfOk, Err, if◌then◌else◌};
-ghost use Rattle.muck_live.specs.Objects.{dbref_of, is_garbage, is_player, nothing};
-ghost use Rattle.muck_live.specs.Making.{free_in, may_make, owner_judged, create_check, has_home, new_object};
+ghost use Rattle.spec_live.specs.Objects.{dbref_of, is_garbage, is_player, nothing};
+ghost use Rattle.spec_live.specs.Making.{free_in, may_make, owner_judged, create_check, has_home, new_object};
 ghost use Rattle.muck_db.specs.Slots.{kind_at, entries_of, object_put};
 
 use crate::links::dbref_of;
 use crate::moves::{is_vehicle, kind_of, may_stand, number_of};
 use crate::slot::Slot;
-use muck_live::{DbFault, Object};
 use muck_model::{Dbref, Flags, Kind, Line, LineList};
 use muck_prop::Props;
+use spec_live::{DbFault, Object};
 use std::alloc::Global;
 
 const OBJECTS_MOST: u32 = 100_000;
@@ -36,7 +36,7 @@ fn free_number(slots: &Vec<Slot>, lowest: u32) -> u32
 }
 
 // Whether the owner is a player; none where it isn't there. The owner of a player isn't looked at.
-#[tactic(auto, using(crate::proofs::Bridge::kinds), unfolding(muck_live::specs::Making::owner_judged))]
+#[tactic(auto, using(crate::proofs::Bridge::kinds), unfolding(spec_live::specs::Making::owner_judged))]
 fn is_owned(slots: &Vec<Slot>, kind: Kind, owner: Dbref) -> Option<bool>
     ensures { result ≡ owner_judged kind owner (entries_of slots.now.items) }
 {
@@ -48,7 +48,7 @@ fn is_owned(slots: &Vec<Slot>, kind: Kind, owner: Dbref) -> Option<bool>
 }
 
 // Whether the kind may be there, and its owner is a player.
-#[tactic(auto, using(crate::proofs::Bridge::kinds), unfolding(muck_live::specs::Making::may_make, muck_live::specs::Objects::is_vehicle_in))]
+#[tactic(auto, using(crate::proofs::Bridge::kinds), unfolding(spec_live::specs::Making::may_make, spec_live::specs::Objects::is_vehicle_in))]
 fn may_make(slots: &Vec<Slot>, kind: Kind, owned: bool, to: u32) -> bool
     ensures { result ≡ may_make kind owned to (entries_of slots.now.items) }
 {
@@ -56,7 +56,7 @@ fn may_make(slots: &Vec<Slot>, kind: Kind, owned: bool, to: u32) -> bool
 }
 
 // The number and the place of a creation that is allowed, or the first refusal.
-#[tactic(auto, unfolding(muck_live::specs::Making::create_check, muck_live::specs::Making::make_judged, muck_live::specs::Making::objects_most))]
+#[tactic(auto, unfolding(spec_live::specs::Making::create_check, spec_live::specs::Making::make_judged, spec_live::specs::Making::objects_most))]
 pub fn check_create(
     slots: &Vec<Slot>,
     lowest: u32,
@@ -115,7 +115,7 @@ fn no_text(alloc: Global) -> Line
 }
 
 // The object that is made at a number.
-#[tactic(auto, unfolding(muck_live::specs::Making::new_object))]
+#[tactic(auto, unfolding(spec_live::specs::Making::new_object))]
 pub fn new_object(
     alloc: Global,
     n: u32,
@@ -149,7 +149,7 @@ pub fn new_object(
 }
 
 // Puts an object at a number of garbage, or at the next one.
-#[tactic(auto, unfolding(crate::specs::Slots::object_put, muck_live::specs::Objects::changed_at))]
+#[tactic(auto, unfolding(crate::specs::Slots::object_put, spec_live::specs::Objects::changed_at))]
 pub fn put_object(slots: &mut Vec<Slot>, n: u32, object: Object) -> Result<(), DbFault>
     requires { n ≤ length slots.old.items }
     ensures put { OnOk result (slots.new.items ≡ object_put n object slots.old.items) }

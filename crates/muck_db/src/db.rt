@@ -2,15 +2,15 @@
 ghost use Rattle.std.specs.Prelude.{◌≡◌, ◌<◌, ◌≤◌, ◌^◌, true, false, length, IfOk, IfSome, is_ok};
 ghost use Rattle.std.specs.List.{count_by};
 ghost use Rattle.std.specs.Option.{option_copied, option_map};
-ghost use Rattle.muck_live.specs.Objects.{object_at};
-ghost use Rattle.muck_live.specs.Making.{create_check, Creates};
-ghost use Rattle.muck_live.specs.Start.{first_objects};
-ghost use Rattle.muck_live.specs.Moving.{move_check, Moves, Does};
-ghost use Rattle.muck_live.specs.Setting.{any, checked, set_at, Tries, owner_check, link_check, home_check, flags_check, level_check, lines_check, password_check, lines_set, with_name, with_owner, with_link, with_home, with_flags, with_level, with_prop, without_prop, with_password};
-ghost use Rattle.muck_live.specs.Recycling.{recycle_check, recycled};
-ghost use Rattle.muck_live.specs.Marks.{next_change, change_told};
-ghost use Rattle.muck_live.specs.Consistent.{IsConsistent};
-ghost use Rattle.muck_live.specs.Seen.{listed_in, places_of, scenery_of};
+ghost use Rattle.spec_live.specs.Objects.{object_at};
+ghost use Rattle.spec_live.specs.Making.{create_check, Creates};
+ghost use Rattle.spec_live.specs.Start.{first_objects};
+ghost use Rattle.spec_live.specs.Moving.{move_check, Moves, Does};
+ghost use Rattle.spec_live.specs.Setting.{any, checked, set_at, Tries, owner_check, link_check, home_check, flags_check, level_check, lines_check, password_check, lines_set, with_name, with_owner, with_link, with_home, with_flags, with_level, with_prop, without_prop, with_password};
+ghost use Rattle.spec_live.specs.Recycling.{recycle_check, recycled};
+ghost use Rattle.spec_live.specs.Marks.{next_change, change_told};
+ghost use Rattle.spec_live.specs.Consistent.{IsConsistent};
+ghost use Rattle.spec_live.specs.Seen.{listed_in, places_of, scenery_of};
 ghost use Rattle.muck_match.specs.Scenery.{chain, upward};
 ghost use Rattle.muck_lock.specs.Chain.{IsChain};
 ghost use Rattle.muck_db.specs.Limits.{FitsLimits, IsWithinLimits};
@@ -31,9 +31,9 @@ use crate::slot::Slot;
 use crate::start::first_slots;
 use crate::telling::{clear_mark, marked, told_of};
 use crate::walks::{first_listed, next_listed};
-use muck_live::{Changed, DbFault, Object};
 use muck_model::{Dbref, Flags, Kind, Line, LineList, NoMemory};
 use muck_prop::{Path, PropValue};
+use spec_live::{Changed, DbFault, Object};
 use std::alloc::Global;
 use std::marker::Model;
 
@@ -54,7 +54,7 @@ pub struct Db {
 
 impl Model for Db {
     ghost use Rattle.std.specs.Prelude.{List};
-    ghost use Rattle.muck_live.specs.Objects.{Entry};
+    ghost use Rattle.spec_live.specs.Objects.{Entry};
     ghost use Rattle.muck_db.specs.Slots.{entries_of, IsKept};
 
     ghost Value = { List Entry };

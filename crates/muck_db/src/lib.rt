@@ -1,5 +1,5 @@
 //! The objects of the world: a table of slots, in which the contents and the exits of each object are a chain. Contracts
-//! see it as the entries of `muck_live`, and nothing of the chains.
+//! see it as the entries of `spec_live`, and nothing of the chains.
 #![tactic(auto)]
 
 mod chain;
@@ -19,5 +19,5 @@ mod walks;
 
 pub use chain::Chain;
 pub use db::Db;
-pub use muck_live::{Changed, DbFault, Mark, Object};
 pub use persisted::Persisted;
+pub use spec_live::{Changed, DbFault, Mark, Object};

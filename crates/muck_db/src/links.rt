@@ -1,8 +1,8 @@
 // The chain fields alone: reads, writes, taking out and putting in front.
 ghost use Rattle.std.specs.Prelude.{◌≡◌, ◌≢◌, ◌<◌, ◌^◌, ℕ, Bool, length, Some};
-ghost use Rattle.muck_live.specs.Chain.{walk, has, Ends, Member};
-ghost use Rattle.muck_live.specs.Objects.{dbref_of, index_of, changed_at};
-ghost use Rattle.muck_live.specs.Moving.{with_place};
+ghost use Rattle.spec_live.specs.Chain.{walk, has, Ends, Member};
+ghost use Rattle.spec_live.specs.Objects.{dbref_of, index_of, changed_at};
+ghost use Rattle.spec_live.specs.Moving.{with_place};
 ghost use Rattle.muck_db.specs.Slots.{next_at, first_at, place_at, is_exit_at, list_at, path_at, with_next, with_first, on_slot, HasChains, IsUnlinked, IsLinked};
 
 use crate::slot::Slot;
@@ -46,7 +46,7 @@ pub fn first_of(slots: &Vec<Slot>, exits: bool, k: u32) -> Option<u32>
     }
 }
 
-#[tactic(auto, unfolding(crate::specs::Slots::place_at, crate::specs::Slots::object_at, muck_live::specs::Objects::garbage))]
+#[tactic(auto, unfolding(crate::specs::Slots::place_at, crate::specs::Slots::object_at, spec_live::specs::Objects::garbage))]
 pub fn place_of(slots: &Vec<Slot>, k: u32) -> Option<u32>
     requires { k < length slots.now.items }
     ensures { result ≡ place_at slots.now.items k }
@@ -57,7 +57,7 @@ pub fn place_of(slots: &Vec<Slot>, k: u32) -> Option<u32>
     }
 }
 
-#[tactic(auto, unfolding(crate::specs::Slots::is_exit_at, crate::specs::Slots::object_at, muck_live::specs::Objects::garbage))]
+#[tactic(auto, unfolding(crate::specs::Slots::is_exit_at, crate::specs::Slots::object_at, spec_live::specs::Objects::garbage))]
 pub fn is_exit_of(slots: &Vec<Slot>, k: u32) -> bool
     requires { k < length slots.now.items }
     ensures { result ≡ is_exit_at slots.now.items k }
@@ -68,7 +68,7 @@ pub fn is_exit_of(slots: &Vec<Slot>, k: u32) -> bool
     }
 }
 
-#[tactic(auto, unfolding(muck_live::specs::Objects::changed_at))]
+#[tactic(auto, unfolding(spec_live::specs::Objects::changed_at))]
 pub fn set_next(slots: &mut Vec<Slot>, k: u32, to: Option<u32>)
     requires { k < length slots.old.items }
     ensures items { slots.new.items ≡ changed_at k (with_next to) slots.old.items }
@@ -78,7 +78,7 @@ pub fn set_next(slots: &mut Vec<Slot>, k: u32, to: Option<u32>)
     slot.next = to;
 }
 
-#[tactic(auto, unfolding(muck_live::specs::Objects::changed_at))]
+#[tactic(auto, unfolding(spec_live::specs::Objects::changed_at))]
 pub fn set_first(slots: &mut Vec<Slot>, exits: bool, k: u32, to: Option<u32>)
     requires { k < length slots.old.items }
     ensures items { slots.new.items ≡ changed_at k (with_first exits to) slots.old.items }
@@ -92,7 +92,7 @@ pub fn set_first(slots: &mut Vec<Slot>, exits: bool, k: u32, to: Option<u32>)
     }
 }
 
-#[tactic(auto, unfolding(muck_live::specs::Objects::changed_at))]
+#[tactic(auto, unfolding(spec_live::specs::Objects::changed_at))]
 pub fn set_place(slots: &mut Vec<Slot>, k: u32, to: u32)
     requires known { k < length slots.old.items }
     requires place { to < 2 ^ 31 }

@@ -1,20 +1,20 @@
 // What stands where, and moving: the check and the act.
 ghost use Rattle.std.specs.Prelude.{◌≡◌, ◌<◌, ◌≤◌, length, false, not, if◌then◌else◌, IfSome};
-ghost use Rattle.muck_live.specs.Flags.{has_flag, vehicle};
+ghost use Rattle.spec_live.specs.Flags.{has_flag, vehicle};
 ghost use Rattle.std.specs.List.{count_by};
 ghost use Rattle.std.specs.Option.{option_copied};
-ghost use Rattle.muck_live.specs.Objects.{may_stand, is_garbage, fits_in, number_in, object_at};
-ghost use Rattle.muck_live.specs.Moving.{move_check, moved};
-ghost use Rattle.muck_live.specs.Consistent.{MayMove};
-ghost use Rattle.muck_live.specs.Seen.{listed_in};
+ghost use Rattle.spec_live.specs.Objects.{may_stand, is_garbage, fits_in, number_in, object_at};
+ghost use Rattle.spec_live.specs.Moving.{move_check, moved};
+ghost use Rattle.spec_live.specs.Consistent.{MayMove};
+ghost use Rattle.spec_live.specs.Seen.{listed_in};
 ghost use Rattle.muck_db.specs.Slots.{shown, kept_at, kind_at, flags_at, entries_of, HasOrder};
 ghost use Rattle.muck_db.specs.Shown.{is_there};
 
 use crate::chain::Chain;
 use crate::links::{first_of, index_of, is_exit_of, leads_to, link, set_place, take_out};
 use crate::slot::Slot;
-use muck_live::{DbFault, Object, VEHICLE, has_flag};
 use muck_model::{Dbref, Kind};
+use spec_live::{DbFault, Object, VEHICLE, has_flag};
 
 // What may be in a room; in a thing, on which players may sit where it is a vehicle; and in a player.
 pub fn may_stand(kind: Kind, place: Kind, seats: bool) -> bool
@@ -34,7 +34,7 @@ pub fn may_stand(kind: Kind, place: Kind, seats: bool) -> bool
     }
 }
 
-#[tactic(auto, unfolding(crate::specs::Slots::kind_at, crate::specs::Slots::object_at, muck_live::specs::Objects::garbage))]
+#[tactic(auto, unfolding(crate::specs::Slots::kind_at, crate::specs::Slots::object_at, spec_live::specs::Objects::garbage))]
 pub fn kind_of(slots: &Vec<Slot>, k: u32) -> Kind
     ensures value { result ≡ kind_at slots.now.items k }
     ensures within { is_garbage result ≡ false → k < length slots.now.items }
@@ -50,7 +50,7 @@ pub fn kind_of(slots: &Vec<Slot>, k: u32) -> Kind
     }
 }
 
-#[tactic(auto, unfolding(crate::specs::Slots::flags_at, crate::specs::Slots::object_at, muck_live::specs::Objects::garbage, muck_live::specs::Flags::has_flag))]
+#[tactic(auto, unfolding(crate::specs::Slots::flags_at, crate::specs::Slots::object_at, spec_live::specs::Objects::garbage, spec_live::specs::Flags::has_flag))]
 pub fn is_vehicle(slots: &Vec<Slot>, k: u32) -> bool
     ensures { result ≡ has_flag vehicle (flags_at slots.now.items k) }
 {
@@ -66,7 +66,7 @@ pub fn is_vehicle(slots: &Vec<Slot>, k: u32) -> bool
 }
 
 // Whether `d` may be in `to`.
-#[tactic(auto, using(crate::proofs::Bridge::kinds), unfolding(muck_live::specs::Objects::fits_in, muck_live::specs::Objects::is_vehicle_in))]
+#[tactic(auto, using(crate::proofs::Bridge::kinds), unfolding(spec_live::specs::Objects::fits_in, spec_live::specs::Objects::is_vehicle_in))]
 pub fn fits(slots: &Vec<Slot>, d: u32, to: u32) -> bool
     ensures { result ≡ fits_in (entries_of slots.now.items) d to }
 {
@@ -74,7 +74,7 @@ pub fn fits(slots: &Vec<Slot>, d: u32, to: u32) -> bool
 }
 
 // The number of an object that is there.
-#[tactic(auto, using(crate::proofs::Bridge::kinds), unfolding(muck_live::specs::Objects::number_in))]
+#[tactic(auto, using(crate::proofs::Bridge::kinds), unfolding(spec_live::specs::Objects::number_in))]
 pub fn number_of(slots: &Vec<Slot>, d: Dbref) -> Option<u32>
     ensures value { result ≡ number_in (entries_of slots.now.items) d }
     ensures within { IfSome result (λ k. k < length slots.now.items) }
@@ -107,7 +107,7 @@ pub fn found(slots: &Vec<Slot>, d: Dbref) -> Option<&Object>
 }
 
 // Whether an object is there.
-#[tactic(auto, unfolding(muck_live::specs::Objects::garbage))]
+#[tactic(auto, unfolding(spec_live::specs::Objects::garbage))]
 fn is_there(slot: &Slot) -> bool
     ensures { result ≡ not (is_garbage (shown slot.now).kind) }
 {
@@ -142,7 +142,7 @@ pub fn count_there(slots: &Vec<Slot>) -> usize
 }
 
 // The numbers of a move that is allowed, or the first refusal.
-#[tactic(auto, using(crate::proofs::Bridge::kinds), unfolding(muck_live::specs::Moving::move_check, muck_live::specs::Moving::judged))]
+#[tactic(auto, using(crate::proofs::Bridge::kinds), unfolding(spec_live::specs::Moving::move_check, spec_live::specs::Moving::judged))]
 pub fn check_move(slots: &Vec<Slot>, d: Dbref, to: Dbref) -> Result<(u32, u32), DbFault>
     requires { HasOrder slots.now.items }
     ensures { result ≡ move_check d to (entries_of slots.now.items) }

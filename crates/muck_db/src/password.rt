@@ -2,12 +2,12 @@
 ghost use Rattle.std.specs.Prelude.{◌≡◌, ◌≤◌, ◌++◌, length, IfOk, OnErr, Err, take, bytes_eq};
 ghost use Rattle.sha2.specs.Sha256.{sha256};
 ghost use Rattle.muck_db.specs.Shown.{is_memory};
-ghost use Rattle.muck_live.specs.Password.{digest_of, is_digest_of, salt_bytes};
+ghost use Rattle.spec_live.specs.Password.{digest_of, is_digest_of, salt_bytes};
 
 use hex::FromHexError;
-use muck_live::DbFault;
 use muck_model::{Line, NoMemory};
 use sha2::{Digest, Sha256};
+use spec_live::DbFault;
 use std::alloc::Global;
 
 // The SHA-256 of two pieces taken as one message.
@@ -32,7 +32,7 @@ fn salted(alloc: Global, salt: &[u8], word: &[u8]) -> Result<Vec<u8>, NoMemory>
 }
 
 // The digest of a word under a salt, which is short enough for a text.
-#[tactic(auto, unfolding(muck_live::specs::Password::digest_of))]
+#[tactic(auto, unfolding(spec_live::specs::Password::digest_of))]
 pub fn digest_text(alloc: Global, salt: &[u8], word: &[u8]) -> Result<Line, NoMemory>
     requires { length salt.now ≤ 8 }
     ensures { IfOk result (λ text. text ≡ digest_of salt.now word.now) }

@@ -1,19 +1,19 @@
 // Recycling an object: nothing is tied to it any more, what it holds goes home, and it and its exits become garbage.
 ghost use Rattle.std.specs.Prelude.{◌≡◌, ◌≢◌, ◌<◌, ◌≤◌, ◌^◌, ℕ, Bool, map, length, false, true, IfOk, if◌then◌else◌, None};
-ghost use Rattle.muck_live.specs.declared.mark.Mark.TheVariants.{Gone};
-ghost use Rattle.muck_live.specs.Chain.{Ends};
-ghost use Rattle.muck_live.specs.Objects.{dbref_of, nothing, same, kind_in, list_in, changed_at};
-ghost use Rattle.muck_live.specs.Recycling.{without_ties, untied, wished_home, may_go, way_home, sent_home, is_exit_of, exits_gone, vanished, recycle_check};
+ghost use Rattle.spec_live.specs.declared.mark.Mark.TheVariants.{Gone};
+ghost use Rattle.spec_live.specs.Chain.{Ends};
+ghost use Rattle.spec_live.specs.Objects.{dbref_of, nothing, same, kind_in, list_in, changed_at};
+ghost use Rattle.spec_live.specs.Recycling.{without_ties, untied, wished_home, may_go, way_home, sent_home, is_exit_of, exits_gone, vanished, recycle_check};
 ghost use Rattle.muck_db.specs.Slots.{home_at, owner_at, shown, next_at, first_at, entries_of, on_slot, new_slot, exit_wiped, wiped, HasOrder};
 
 use crate::links::{dbref_of, first_of, index_of, leads_to, take_out};
 use crate::moves::{fits, kind_of, number_of, relocate};
 use crate::slot::Slot;
-use muck_live::{DbFault, Mark};
 use muck_model::{Dbref, Kind};
+use spec_live::{DbFault, Mark};
 
 // The number of an object that may be recycled.
-#[tactic(auto, using(crate::proofs::Bridge::kinds), unfolding(muck_live::specs::Recycling::recycle_check, muck_live::specs::Setting::checked))]
+#[tactic(auto, using(crate::proofs::Bridge::kinds), unfolding(spec_live::specs::Recycling::recycle_check, spec_live::specs::Setting::checked))]
 pub fn check_recycle(slots: &Vec<Slot>, d: Dbref) -> Result<u32, DbFault>
     ensures is { result ≡ recycle_check d (entries_of slots.now.items) }
     ensures within { IfOk result (λ k. k < length slots.now.items) }
@@ -51,7 +51,7 @@ fn untie_slot(slot: &mut Slot, d: u32)
     }
 }
 
-#[tactic(auto, unfolding(muck_live::specs::Objects::changed_at))]
+#[tactic(auto, unfolding(spec_live::specs::Objects::changed_at))]
 fn untie_at(slots: &mut Vec<Slot>, k: u32, d: u32)
     requires known { k < length slots.old.items }
     requires number { d < 2 ^ 31 }
@@ -73,7 +73,7 @@ fn untie(slots: &mut Vec<Slot>, d: u32)
     }
 }
 
-#[tactic(auto, unfolding(crate::specs::Slots::home_at, crate::specs::Slots::object_at, muck_live::specs::Objects::garbage))]
+#[tactic(auto, unfolding(crate::specs::Slots::home_at, crate::specs::Slots::object_at, spec_live::specs::Objects::garbage))]
 fn home_of(slots: &Vec<Slot>, k: u32) -> Option<u32>
     ensures { result ≡ home_at slots.now.items k }
 {
@@ -88,7 +88,7 @@ fn home_of(slots: &Vec<Slot>, k: u32) -> Option<u32>
     }
 }
 
-#[tactic(auto, unfolding(crate::specs::Slots::owner_at, crate::specs::Slots::object_at, muck_live::specs::Objects::garbage))]
+#[tactic(auto, unfolding(crate::specs::Slots::owner_at, crate::specs::Slots::object_at, spec_live::specs::Objects::garbage))]
 fn owner_of(slots: &Vec<Slot>, k: u32) -> Option<u32>
     ensures { result ≡ owner_at slots.now.items k }
 {
@@ -106,7 +106,7 @@ fn owner_of(slots: &Vec<Slot>, k: u32) -> Option<u32>
 }
 
 // Where `x` goes when it is sent home, if it may.
-#[tactic(auto, using(crate::proofs::Bridge::homes), unfolding(muck_live::specs::Recycling::wished_home))]
+#[tactic(auto, using(crate::proofs::Bridge::homes), unfolding(spec_live::specs::Recycling::wished_home))]
 fn wished_home(slots: &Vec<Slot>, x: u32) -> Option<u32>
     ensures { result ≡ wished_home x (entries_of slots.now.items) (kind_in (entries_of slots.now.items) x) }
 {
@@ -121,7 +121,7 @@ fn wished_home(slots: &Vec<Slot>, x: u32) -> Option<u32>
 }
 
 // Whether `x` may go there, which isn't inside it.
-#[tactic(auto, using(crate::proofs::Bridge::kinds), unfolding(muck_live::specs::Recycling::may_go))]
+#[tactic(auto, using(crate::proofs::Bridge::kinds), unfolding(spec_live::specs::Recycling::may_go))]
 fn may_go(slots: &Vec<Slot>, x: u32, to: u32) -> bool
     requires { HasOrder slots.now.items }
     ensures { result ≡ may_go x to (entries_of slots.now.items) }
@@ -133,7 +133,7 @@ fn may_go(slots: &Vec<Slot>, x: u32, to: u32) -> bool
 }
 
 // Where `x` goes when it is sent home.
-#[tactic(auto, unfolding(muck_live::specs::Recycling::way_home))]
+#[tactic(auto, unfolding(spec_live::specs::Recycling::way_home))]
 fn way_home(slots: &Vec<Slot>, x: u32) -> u32
     requires { HasOrder slots.now.items }
     ensures { result ≡ way_home x (entries_of slots.now.items) }
@@ -172,7 +172,7 @@ fn gone_slot() -> Slot
     }
 }
 
-#[tactic(auto, unfolding(muck_live::specs::Objects::garbage))]
+#[tactic(auto, unfolding(spec_live::specs::Objects::garbage))]
 fn is_exit_of(slot: &Slot, d: u32) -> bool
     requires { d < 2 ^ 31 }
     ensures { result ≡ is_exit_of d (shown slot.now) }
@@ -195,7 +195,7 @@ fn wipe_slot(slot: &mut Slot, d: u32)
     }
 }
 
-#[tactic(auto, unfolding(muck_live::specs::Objects::changed_at))]
+#[tactic(auto, unfolding(spec_live::specs::Objects::changed_at))]
 fn wipe_exit(slots: &mut Vec<Slot>, k: u32, d: u32)
     requires known { k < length slots.old.items }
     requires number { d < 2 ^ 31 }
@@ -217,7 +217,7 @@ fn wipe_exits(slots: &mut Vec<Slot>, d: u32)
     }
 }
 
-#[tactic(auto, unfolding(muck_live::specs::Objects::changed_at))]
+#[tactic(auto, unfolding(spec_live::specs::Objects::changed_at))]
 fn wipe(slots: &mut Vec<Slot>, d: u32)
     requires { d < length slots.old.items }
     ensures { slots.new.items ≡ changed_at d wiped slots.old.items }

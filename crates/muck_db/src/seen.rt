@@ -1,6 +1,6 @@
 // What matching and locks read of the objects.
 ghost use Rattle.std.specs.Prelude.{◌≡◌};
-ghost use Rattle.muck_live.specs.Seen.{value_is, has_value};
+ghost use Rattle.spec_live.specs.Seen.{value_is, has_value};
 
 use crate::db::Db;
 use itoa::Buffer;
@@ -23,7 +23,7 @@ fn value_is(value: &PropValue, text: &[u8]) -> bool
 }
 
 // Whether the property of that path of an object has that text, or that number in decimal.
-#[tactic(auto, unfolding(muck_live::specs::Seen::has_value, muck_live::specs::Seen::value_at))]
+#[tactic(auto, unfolding(spec_live::specs::Seen::has_value, spec_live::specs::Seen::value_at))]
 fn has_value(db: &Db, d: Dbref, path: &[u8], value: &[u8]) -> bool
     ensures { result ≡ has_value db.now d path.now value.now }
 {
@@ -37,14 +37,14 @@ fn has_value(db: &Db, d: Dbref, path: &[u8], value: &[u8]) -> bool
 }
 
 impl Scene for Db {
-    ghost use Rattle.muck_live.specs.Seen.{scenery_of};
+    ghost use Rattle.spec_live.specs.Seen.{scenery_of};
     ghost use Rattle.muck_db.specs.Shown.{after_in};
 
     ghost shown = { scenery_of };
 
     ghost after = { after_in };
 
-    #[tactic(auto, unfolding(muck_live::specs::Seen::scenery_of))]
+    #[tactic(auto, unfolding(spec_live::specs::Seen::scenery_of))]
     fn kind(&self, d: Dbref) -> Option<Kind> {
         match self.get(d) {
             Some(object) => Some(object.kind()),
@@ -52,7 +52,7 @@ impl Scene for Db {
         }
     }
 
-    #[tactic(auto, unfolding(muck_live::specs::Seen::scenery_of))]
+    #[tactic(auto, unfolding(spec_live::specs::Seen::scenery_of))]
     fn name(&self, d: Dbref) -> Option<&Line> {
         match self.get(d) {
             Some(object) => Some(object.name()),
@@ -60,12 +60,12 @@ impl Scene for Db {
         }
     }
 
-    #[tactic(auto, unfolding(muck_live::specs::Seen::scenery_of))]
+    #[tactic(auto, unfolding(spec_live::specs::Seen::scenery_of))]
     fn place(&self, d: Dbref) -> Option<Dbref> {
         self.place_of(d)
     }
 
-    #[tactic(auto, unfolding(muck_live::specs::Seen::scenery_of))]
+    #[tactic(auto, unfolding(spec_live::specs::Seen::scenery_of))]
     fn link(&self, d: Dbref) -> Option<Dbref> {
         match self.get(d) {
             Some(object) => Some(object.link()),
@@ -73,12 +73,12 @@ impl Scene for Db {
         }
     }
 
-    #[tactic(auto, unfolding(muck_live::specs::Seen::scenery_of))]
+    #[tactic(auto, unfolding(spec_live::specs::Seen::scenery_of))]
     fn first_content(&self, d: Dbref) -> Dbref {
         self.first_listed(false, d)
     }
 
-    #[tactic(auto, unfolding(muck_live::specs::Seen::scenery_of))]
+    #[tactic(auto, unfolding(spec_live::specs::Seen::scenery_of))]
     fn first_exit(&self, d: Dbref) -> Dbref {
         self.first_listed(true, d)
     }
@@ -87,7 +87,7 @@ impl Scene for Db {
         self.next_listed(d)
     }
 
-    #[tactic(auto, unfolding(muck_live::specs::Seen::scenery_of))]
+    #[tactic(auto, unfolding(spec_live::specs::Seen::scenery_of))]
     fn objects(&self) -> u32 {
         self.count()
     }
@@ -96,8 +96,8 @@ impl Scene for Db {
 impl Keys for Db {
     ghost use Rattle.std.specs.Prelude.{◌≡◌, false};
     ghost use Rattle.std.specs.Option.{option_map};
-    ghost use Rattle.muck_live.specs.Objects.{object_at};
-    ghost use Rattle.muck_live.specs.Seen.{listed_in, has_value};
+    ghost use Rattle.spec_live.specs.Objects.{object_at};
+    ghost use Rattle.spec_live.specs.Seen.{listed_in, has_value};
     ghost use Rattle.muck_db.specs.Shown.{first_in, next_in};
 
     ghost owners = { λ es d. option_map (λ o. o.owner) (object_at d es) };

@@ -1,19 +1,19 @@
 // Setting a field: the checks and the writes.
 ghost use Rattle.std.specs.Prelude.{◌≡◌, ◌<◌, ℕ, List, length, false, IfOk, OnOk, OnErr, Ok, Err};
-ghost use Rattle.muck_live.specs.Objects.{is_garbage, is_player, is_exit, kind_in, changed_at};
-ghost use Rattle.muck_live.specs.Setting.{any, checked, checked_both, owner_check, link_check, home_check, flags_check, level_check, lines_check, password_check, keeps_seats, holds_player, may_link, may_live, has_link, lines_marked, with_prop, without_prop};
+ghost use Rattle.spec_live.specs.Objects.{is_garbage, is_player, is_exit, kind_in, changed_at};
+ghost use Rattle.spec_live.specs.Setting.{any, checked, checked_both, owner_check, link_check, home_check, flags_check, level_check, lines_check, password_check, keeps_seats, holds_player, may_link, may_live, has_link, lines_marked, with_prop, without_prop};
 ghost use Rattle.muck_db.specs.Slots.{kind_at, entries_of, on_slot, with_slot_lines, HasOrder};
 ghost use Rattle.muck_db.specs.Settings.{with_setting};
 
 use crate::links::{first_of, next_of};
 use crate::moves::{is_vehicle, kind_of, number_of};
 use crate::slot::Slot;
-use muck_live::{DbFault, Mark, Object, VEHICLE, has_flag};
 use muck_model::{Dbref, Flags, Kind, Line, LineList};
 use muck_prop::{Path, PropValue};
+use spec_live::{DbFault, Mark, Object, VEHICLE, has_flag};
 
 // The number of an object.
-#[tactic(auto, unfolding(muck_live::specs::Setting::checked))]
+#[tactic(auto, unfolding(spec_live::specs::Setting::checked))]
 pub fn check_any(slots: &Vec<Slot>, d: Dbref) -> Result<u32, DbFault>
     ensures is { result ≡ checked any d (entries_of slots.now.items) }
     ensures within { IfOk result (λ k. k < length slots.now.items) }
@@ -32,7 +32,7 @@ fn is_player(slots: &Vec<Slot>, k: u32) -> bool
 }
 
 // The number of an object that isn't a player, where the owner is one.
-#[tactic(auto, using(crate::proofs::Bridge::kinds), unfolding(muck_live::specs::Setting::owner_check, muck_live::specs::Setting::checked_both))]
+#[tactic(auto, using(crate::proofs::Bridge::kinds), unfolding(spec_live::specs::Setting::owner_check, spec_live::specs::Setting::checked_both))]
 pub fn check_owner(slots: &Vec<Slot>, d: Dbref, owner: Dbref) -> Result<u32, DbFault>
     ensures is { result ≡ owner_check d owner (entries_of slots.now.items) }
     ensures within { IfOk result (λ k. k < length slots.now.items) }
@@ -61,7 +61,7 @@ fn may_link(kind: Kind, to: Kind) -> bool
 }
 
 // The number of an object whose link may be nothing.
-#[tactic(auto, using(crate::proofs::Bridge::kinds), unfolding(muck_live::specs::Setting::checked))]
+#[tactic(auto, using(crate::proofs::Bridge::kinds), unfolding(spec_live::specs::Setting::checked))]
 fn check_unlinked(slots: &Vec<Slot>, d: Dbref) -> Result<u32, DbFault>
     ensures is { result ≡ checked (λ n. has_link (kind_in (entries_of slots.now.items) n)) d (entries_of slots.now.items) }
     ensures within { IfOk result (λ k. k < length slots.now.items) }
@@ -77,7 +77,7 @@ fn check_unlinked(slots: &Vec<Slot>, d: Dbref) -> Result<u32, DbFault>
 }
 
 // The number of an exit.
-#[tactic(auto, using(crate::proofs::Bridge::kinds), unfolding(muck_live::specs::Setting::checked))]
+#[tactic(auto, using(crate::proofs::Bridge::kinds), unfolding(spec_live::specs::Setting::checked))]
 fn check_exit(slots: &Vec<Slot>, d: Dbref) -> Result<u32, DbFault>
     ensures is { result ≡ checked (λ n. is_exit (kind_in (entries_of slots.now.items) n)) d (entries_of slots.now.items) }
     ensures within { IfOk result (λ k. k < length slots.now.items) }
@@ -93,7 +93,7 @@ fn check_exit(slots: &Vec<Slot>, d: Dbref) -> Result<u32, DbFault>
 }
 
 // The number of an object that may be linked to that one.
-#[tactic(auto, using(crate::proofs::Bridge::kinds), unfolding(muck_live::specs::Setting::checked_both))]
+#[tactic(auto, using(crate::proofs::Bridge::kinds), unfolding(spec_live::specs::Setting::checked_both))]
 fn check_target(slots: &Vec<Slot>, d: Dbref, to: Dbref) -> Result<u32, DbFault>
     ensures is { result ≡ checked_both (λ n t. may_link (kind_in (entries_of slots.now.items) n) (kind_in (entries_of slots.now.items) t)) d to (entries_of slots.now.items) }
     ensures within { IfOk result (λ k. k < length slots.now.items) }
@@ -112,7 +112,7 @@ fn check_target(slots: &Vec<Slot>, d: Dbref, to: Dbref) -> Result<u32, DbFault>
 }
 
 // The number of an object whose link may be that.
-#[tactic(auto, unfolding(muck_live::specs::Setting::link_check))]
+#[tactic(auto, unfolding(spec_live::specs::Setting::link_check))]
 pub fn check_link(slots: &Vec<Slot>, d: Dbref, to: Dbref) -> Result<u32, DbFault>
     ensures is { result ≡ link_check d to (entries_of slots.now.items) }
     ensures within { IfOk result (λ k. k < length slots.now.items) }
@@ -138,7 +138,7 @@ fn may_live(kind: Kind, to: Kind) -> bool
 }
 
 // The number of an object that may live there.
-#[tactic(auto, using(crate::proofs::Bridge::kinds), unfolding(muck_live::specs::Setting::home_check, muck_live::specs::Setting::checked_both))]
+#[tactic(auto, using(crate::proofs::Bridge::kinds), unfolding(spec_live::specs::Setting::home_check, spec_live::specs::Setting::checked_both))]
 pub fn check_home(slots: &Vec<Slot>, d: Dbref, to: Dbref) -> Result<u32, DbFault>
     ensures is { result ≡ home_check d to (entries_of slots.now.items) }
     ensures within { IfOk result (λ k. k < length slots.now.items) }
@@ -173,7 +173,7 @@ fn holds_player(slots: &Vec<Slot>, n: u32) -> bool
 }
 
 // Whether all that sit on it may stay.
-#[tactic(auto, using(crate::proofs::Bridge::kinds), unfolding(muck_live::specs::Setting::keeps_seats, muck_live::specs::Objects::is_vehicle_in))]
+#[tactic(auto, using(crate::proofs::Bridge::kinds), unfolding(spec_live::specs::Setting::keeps_seats, spec_live::specs::Objects::is_vehicle_in))]
 fn keeps_seats(slots: &Vec<Slot>, flags: Flags, n: u32) -> bool
     requires order { HasOrder slots.now.items }
     requires known { n < length slots.now.items }
@@ -186,7 +186,7 @@ fn keeps_seats(slots: &Vec<Slot>, flags: Flags, n: u32) -> bool
 }
 
 // The number of an object that may have these flags.
-#[tactic(auto, unfolding(muck_live::specs::Setting::flags_check, muck_live::specs::Setting::checked))]
+#[tactic(auto, unfolding(spec_live::specs::Setting::flags_check, spec_live::specs::Setting::checked))]
 pub fn check_flags(slots: &Vec<Slot>, d: Dbref, flags: Flags) -> Result<u32, DbFault>
     requires order { HasOrder slots.now.items }
     ensures is { result ≡ flags_check d flags (entries_of slots.now.items) }
@@ -203,7 +203,7 @@ pub fn check_flags(slots: &Vec<Slot>, d: Dbref, flags: Flags) -> Result<u32, DbF
 }
 
 // The number of a program or a player, for a level that there is.
-#[tactic(auto, using(crate::proofs::Bridge::kinds), unfolding(muck_live::specs::Setting::level_check, muck_live::specs::Setting::checked))]
+#[tactic(auto, using(crate::proofs::Bridge::kinds), unfolding(spec_live::specs::Setting::level_check, spec_live::specs::Setting::checked))]
 pub fn check_level(slots: &Vec<Slot>, d: Dbref, level: u8) -> Result<u32, DbFault>
     ensures is { result ≡ level_check d level (entries_of slots.now.items) }
     ensures within { IfOk result (λ k. k < length slots.now.items) }
@@ -220,7 +220,7 @@ pub fn check_level(slots: &Vec<Slot>, d: Dbref, level: u8) -> Result<u32, DbFaul
 }
 
 // The number of a program.
-#[tactic(auto, using(crate::proofs::Bridge::kinds), unfolding(muck_live::specs::Setting::lines_check, muck_live::specs::Setting::checked))]
+#[tactic(auto, using(crate::proofs::Bridge::kinds), unfolding(spec_live::specs::Setting::lines_check, spec_live::specs::Setting::checked))]
 pub fn check_program(slots: &Vec<Slot>, d: Dbref) -> Result<u32, DbFault>
     ensures is { result ≡ lines_check d (entries_of slots.now.items) }
     ensures within { IfOk result (λ k. k < length slots.now.items) }
@@ -236,7 +236,7 @@ pub fn check_program(slots: &Vec<Slot>, d: Dbref) -> Result<u32, DbFault>
 }
 
 // The number of a player.
-#[tactic(auto, using(crate::proofs::Bridge::kinds), unfolding(muck_live::specs::Setting::password_check, muck_live::specs::Setting::checked))]
+#[tactic(auto, using(crate::proofs::Bridge::kinds), unfolding(spec_live::specs::Setting::password_check, spec_live::specs::Setting::checked))]
 pub fn check_player(slots: &Vec<Slot>, d: Dbref) -> Result<u32, DbFault>
     ensures is { result ≡ password_check d (entries_of slots.now.items) }
     ensures within { IfOk result (λ k. k < length slots.now.items) }
@@ -288,7 +288,7 @@ fn set_in(object: &mut Object, setting: Setting)
 }
 
 // Sets a field of an object, where it isn't garbage.
-#[tactic(auto, unfolding(muck_live::specs::Objects::changed_at))]
+#[tactic(auto, unfolding(spec_live::specs::Objects::changed_at))]
 pub fn set_at(slots: &mut Vec<Slot>, k: u32, setting: Setting)
     requires { k < length slots.old.items }
     ensures { slots.new.items ≡ changed_at k (on_slot (with_setting setting)) slots.old.items }
@@ -299,7 +299,7 @@ pub fn set_at(slots: &mut Vec<Slot>, k: u32, setting: Setting)
     }
 }
 
-#[tactic(auto, unfolding(muck_live::specs::Objects::changed_at))]
+#[tactic(auto, unfolding(spec_live::specs::Objects::changed_at))]
 pub fn set_lines(slots: &mut Vec<Slot>, k: u32, lines: LineList)
     requires { k < length slots.old.items }
     ensures { slots.new.items ≡ changed_at k (with_slot_lines lines) slots.old.items }
@@ -312,7 +312,7 @@ pub fn set_lines(slots: &mut Vec<Slot>, k: u32, lines: LineList)
 }
 
 // Removes a property of an object.
-#[tactic(auto, unfolding(muck_live::specs::Objects::changed_at))]
+#[tactic(auto, unfolding(spec_live::specs::Objects::changed_at))]
 pub fn remove_prop(slots: &mut Vec<Slot>, k: u32, path: &Path)
     requires { k < length slots.old.items }
     ensures { slots.new.items ≡ changed_at k (on_slot (without_prop path.now)) slots.old.items }
@@ -348,7 +348,7 @@ fn put_at(slot: &mut Slot, path: Path, value: PropValue) -> Result<(), DbFault>
 }
 
 // The same in the table.
-#[tactic(auto, using(crate::proofs::Writes::set_back), unfolding(muck_live::specs::Objects::changed_at))]
+#[tactic(auto, using(crate::proofs::Writes::set_back), unfolding(spec_live::specs::Objects::changed_at))]
 pub fn put_prop(slots: &mut Vec<Slot>, k: u32, path: Path, value: PropValue) -> Result<(), DbFault>
     requires { k < length slots.old.items }
     ensures ok { OnOk result (slots.new.items ≡ changed_at k (on_slot (with_prop path value)) slots.old.items) }

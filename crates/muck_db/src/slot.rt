@@ -1,5 +1,5 @@
 // An object with its chain fields.
-use muck_live::{Mark, Object};
+use spec_live::{Mark, Object};
 
 // What is kept of one number: the object, which is none where it is garbage, where its lists begin, what stands behind it in the list that it is in, and
 // what is to be told of it. The chain field of an object that is in no list means nothing.

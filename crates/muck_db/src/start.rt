@@ -1,15 +1,15 @@
 // The first objects.
 ghost use Rattle.std.specs.Prelude.{◌≡◌, [], ◌∷◌, IfOk, Some, None, codes};
 ghost use Rattle.muck_model.specs.Bytes.{text_fault};
-ghost use Rattle.muck_live.specs.Start.{room_zero, player_one};
-ghost use Rattle.muck_live.specs.Password.{digest_of, first_salt, first_password};
+ghost use Rattle.spec_live.specs.Start.{room_zero, player_one};
+ghost use Rattle.spec_live.specs.Password.{digest_of, first_salt, first_password};
 ghost use Rattle.muck_db.specs.Slots.{first_slots};
 
 use crate::password::digest_text;
 use crate::slot::Slot;
-use muck_live::{Object, WIZARD};
 use muck_model::{Dbref, Flags, Kind, Line, LineFault, LineList, NoMemory};
 use muck_prop::Props;
+use spec_live::{Object, WIZARD};
 use std::alloc::Global;
 
 // A text of these bytes, which are one.
@@ -25,7 +25,7 @@ fn text(alloc: Global, bytes: &[u8]) -> Result<Line, NoMemory>
 }
 
 // Room Zero, below which all rooms are.
-#[tactic(auto, unfolding(muck_live::specs::Start::room_zero, muck_model::specs::Bytes::text_most))]
+#[tactic(auto, unfolding(spec_live::specs::Start::room_zero, muck_model::specs::Bytes::text_most))]
 fn room_zero(alloc: Global) -> Result<Object, NoMemory>
     ensures { IfOk result (λ o. o ≡ room_zero) }
 {
@@ -51,7 +51,7 @@ fn first_digest(alloc: Global) -> Result<Line, NoMemory>
 }
 
 // One, who is a wizard.
-#[tactic(auto, unfolding(muck_live::specs::Start::player_one, muck_live::specs::Start::first_digest, muck_model::specs::Bytes::text_most))]
+#[tactic(auto, unfolding(spec_live::specs::Start::player_one, spec_live::specs::Start::first_digest, muck_model::specs::Bytes::text_most))]
 fn player_one(alloc: Global) -> Result<Object, NoMemory>
     ensures { IfOk result (λ o. o ≡ player_one) }
 {

@@ -1,12 +1,12 @@
 // What is to be told of objects.
 ghost use Rattle.std.specs.Prelude.{◌≡◌, ◌<◌, ◌≤◌, ◌^◌, ℕ, length, None, IfSome, IfNone};
-ghost use Rattle.muck_live.specs.Objects.{changed_at};
-ghost use Rattle.muck_live.specs.Marks.{marked_from, told_of};
+ghost use Rattle.spec_live.specs.Objects.{changed_at};
+ghost use Rattle.spec_live.specs.Marks.{marked_from, told_of};
 ghost use Rattle.muck_db.specs.Slots.{mark_at, entries_of, with_mark};
 
 use crate::links::dbref_of;
 use crate::slot::Slot;
-use muck_live::{Changed, Mark};
+use spec_live::{Changed, Mark};
 
 #[tactic(auto, unfolding(crate::specs::Slots::mark_at))]
 fn mark_of(slots: &Vec<Slot>, k: u32) -> Option<Mark>
@@ -34,7 +34,7 @@ pub fn marked(slots: &Vec<Slot>, told: u32) -> Option<(u32, Mark)>
     None
 }
 
-#[tactic(auto, unfolding(muck_live::specs::Objects::changed_at))]
+#[tactic(auto, unfolding(spec_live::specs::Objects::changed_at))]
 pub fn clear_mark(slots: &mut Vec<Slot>, k: u32)
     requires { k < length slots.old.items }
     ensures { slots.new.items ≡ changed_at k (with_mark None) slots.old.items }

@@ -2,7 +2,7 @@
 ghost use Rattle.std.specs.Prelude.{◌≡◌, ◌<◌, ◌^◌, IfSome, false};
 ghost use Rattle.muck_match.specs.Scenery.{chain};
 ghost use Rattle.muck_lock.specs.Chain.{IsChain};
-ghost use Rattle.muck_live.specs.Seen.{listed_in};
+ghost use Rattle.spec_live.specs.Seen.{listed_in};
 ghost use Rattle.muck_db.specs.Slots.{entries_of, HasOrder};
 ghost use Rattle.muck_db.specs.Shown.{after_in, first_in, next_in, dbref_at};
 

@@ -3,9 +3,9 @@ use Rattle.std.proofs.Common.{◌≡◌, ℕ, ◌≤◌, Bool, true, false, ◌&
 use Rattle.std.proofs.lemmas.Bool.{leb-true}
 use Rattle.std.specs.Option.{option_map_or}
 use Rattle.muck_model.specs.declared.edit.EditState.{EditState}
-use Rattle.muck_live.specs.Lives.{Live}
-use Rattle.muck_world.specs.Going.{is_program_at}
-use Rattle.muck_world.specs.Editing.{IsOpen, is_between, is_open}
+use Rattle.spec_live.specs.Lives.{Live}
+use Rattle.spec_commands.specs.Going.{is_program_at}
+use Rattle.spec_commands.specs.Editing.{IsOpen, is_between, is_open}
 
 all_three : (a b c : Bool) → a && (b && c) ≡ true → (a ≡ true) × (b ≡ true) × (c ≡ true)
 all_three true true true h = (refl, refl, refl)

@@ -7,32 +7,32 @@ use Rattle.muck_model.specs.declared.dbref.Denial.{Denial}
 use Rattle.muck_model.specs.declared.edit.EditState.{EditState}
 use Rattle.muck_model.specs.declared.memory.NoMemory.{NoMemory}
 use Rattle.muck_model.specs.Decimal.{is_decimal, value_from, decimal_of}
-use Rattle.muck_live.specs.declared.object.Object.{Object}
-use Rattle.muck_live.specs.Objects.{Entry, dbref_of, is_garbage, is_program, object_in, object_at, number_in}
-use Rattle.muck_live.specs.Setting.{with_lines, lines_set}
-use Rattle.muck_live.specs.Lives.{Live, Change, followed, reading, either, unchanged, tell}
-use Rattle.muck_live.proofs.Lists.{get_changed_same}
-use Rattle.muck_rights.specs.declared.act.Actor.{Actor}
-use Rattle.muck_rights.specs.declared.act.Act.TheVariants.{Edit}
-use Rattle.muck_rights.specs.Verdict.{verdict}
-use Rattle.muck_rights.specs.Asking.{answered, asked, refused}
-use Rattle.muck_rights.specs.Changing.{lines_kept}
-use Rattle.muck_rights.specs.Licence.{Licensed, nobody}
-use Rattle.muck_rights.proofs.Licences.{Quiet, quiet_followed}
-use Rattle.muck_rights.proofs.Lookups.{alive, seen_at, number_is}
-use Rattle.muck_rights.proofs.Shown.{quiet_tell, quiet_refused}
-use Rattle.muck_world.specs.declared.edit.EditCommand.{EditCommand}
-use Rattle.muck_world.specs.declared.edit.EditCommand.TheVariants.{Insert, Delete, Show, Compile, Quit}
-use Rattle.muck_world.specs.declared.edit.EditStep.{EditStep}
-use Rattle.muck_world.specs.declared.edit.EditStep.TheVariants.{Stay, Compile as ToCompile, Left}
-use Rattle.muck_world.specs.Texts.{first_word, other_words, trimmed, is_alike}
-use Rattle.muck_world.specs.Finding.{where_so, is_so}
-use Rattle.muck_world.specs.Going.{is_program_at}
-use Rattle.muck_world.specs.Programming.{source_of}
-use Rattle.muck_world.specs.Commands.{is_empty}
-use Rattle.muck_world.specs.Editing.{entering, exiting, deleted_reply, editor_exited, illegal, line_number, plain_command, line_command, lines_command, one_line, two_lines, edit_command, lines_most, stepped, with_line, line_inserted, same_lines, source_kept, edit_done, edit_some, edited_at, edited, IsOpen}
-use Rattle.muck_world.proofs.Programmed.{quiet_lines_shown}
-use Rattle.muck_world.proofs.Edited.{edited_licensed}
+use Rattle.spec_live.specs.declared.object.Object.{Object}
+use Rattle.spec_live.specs.Objects.{Entry, dbref_of, is_garbage, is_program, object_in, object_at, number_in}
+use Rattle.spec_live.specs.Setting.{with_lines, lines_set}
+use Rattle.spec_live.specs.Lives.{Live, Change, followed, reading, either, unchanged, tell}
+use Rattle.spec_live.proofs.Lists.{get_changed_same}
+use Rattle.spec_rights.specs.declared.act.Actor.{Actor}
+use Rattle.spec_rights.specs.declared.act.Act.TheVariants.{Edit}
+use Rattle.spec_rights.specs.Verdict.{verdict}
+use Rattle.spec_rights.specs.Asking.{answered, asked, refused}
+use Rattle.spec_rights.specs.Changing.{lines_kept}
+use Rattle.spec_rights.specs.Licence.{Licensed, nobody}
+use Rattle.spec_rights.proofs.Licences.{Quiet, quiet_followed}
+use Rattle.spec_rights.proofs.Lookups.{alive, seen_at, number_is}
+use Rattle.spec_rights.proofs.Shown.{quiet_tell, quiet_refused}
+use Rattle.spec_commands.specs.declared.edit.EditCommand.{EditCommand}
+use Rattle.spec_commands.specs.declared.edit.EditCommand.TheVariants.{Insert, Delete, Show, Compile, Quit}
+use Rattle.spec_commands.specs.declared.edit.EditStep.{EditStep}
+use Rattle.spec_commands.specs.declared.edit.EditStep.TheVariants.{Stay, Compile as ToCompile, Left}
+use Rattle.spec_commands.specs.Texts.{first_word, other_words, trimmed, is_alike}
+use Rattle.spec_commands.specs.Finding.{where_so, is_so}
+use Rattle.spec_commands.specs.Going.{is_program_at}
+use Rattle.spec_commands.specs.Programming.{source_of}
+use Rattle.spec_commands.specs.Commands.{is_empty}
+use Rattle.spec_commands.specs.Editing.{entering, exiting, deleted_reply, editor_exited, illegal, line_number, plain_command, line_command, lines_command, one_line, two_lines, edit_command, lines_most, stepped, with_line, line_inserted, same_lines, source_kept, edit_done, edit_some, edited_at, edited, IsOpen}
+use Rattle.spec_commands.proofs.Programmed.{quiet_lines_shown}
+use Rattle.spec_commands.proofs.Edited.{edited_licensed}
 use Rattle.muck_perm.specs.declared.guard.Guard.{Guard}
 use Rattle.muck_perm.specs.Guards.{world_of}
 use Rattle.muck_edit.specs.Edits.{Edits, IsWithin}

@@ -4,14 +4,14 @@ use Rattle.std.proofs.lemmas.Bool.{cond-true}
 use Rattle.std.specs.Option.{option_map_or, option_and_then}
 use Rattle.muck_model.specs.declared.dbref.Dbref.{Dbref}
 use Rattle.muck_model.specs.declared.dbref.Kind.TheVariants.{Garbage}
-use Rattle.muck_live.specs.declared.object.Object.{Object}
-use Rattle.muck_live.specs.declared.fault.DbFault.{DbFault}
-use Rattle.muck_live.specs.declared.fault.DbFault.TheVariants.{NoSuchObject, WrongKind}
-use Rattle.muck_live.specs.Objects.{Entry, is_program, kind_in, object_in, object_at, number_in}
-use Rattle.muck_live.specs.Setting.{checked, lines_check}
-use Rattle.muck_rights.specs.Changing.{lines_kept}
-use Rattle.muck_world.specs.Finding.{is_so}
-use Rattle.muck_world.specs.Going.{is_program_at}
+use Rattle.spec_live.specs.declared.object.Object.{Object}
+use Rattle.spec_live.specs.declared.fault.DbFault.{DbFault}
+use Rattle.spec_live.specs.declared.fault.DbFault.TheVariants.{NoSuchObject, WrongKind}
+use Rattle.spec_live.specs.Objects.{Entry, is_program, kind_in, object_in, object_at, number_in}
+use Rattle.spec_live.specs.Setting.{checked, lines_check}
+use Rattle.spec_rights.specs.Changing.{lines_kept}
+use Rattle.spec_commands.specs.Finding.{is_so}
+use Rattle.spec_commands.specs.Going.{is_program_at}
 use Rattle.muck_perm.specs.declared.guard.Guard.{Guard}
 use Rattle.muck_perm.specs.Guards.{Done, Makes, world_of}
 

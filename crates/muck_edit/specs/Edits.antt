@@ -2,10 +2,10 @@
 use Rattle.std.specs.Prelude.{◌≡◌, ◌≤◌, ℕ, Result, Ok, Err}
 use Rattle.muck_model.specs.declared.edit.EditState.{EditState}
 use Rattle.muck_model.specs.declared.memory.NoMemory.{NoMemory}
-use Rattle.muck_world.specs.declared.edit.EditCommand.{EditCommand}
-use Rattle.muck_world.specs.declared.edit.EditCommand.TheVariants.{Insert, Delete, Show}
-use Rattle.muck_world.specs.declared.edit.EditStep.{EditStep}
-use Rattle.muck_world.specs.Editing.{Editing}
+use Rattle.spec_commands.specs.declared.edit.EditCommand.{EditCommand}
+use Rattle.spec_commands.specs.declared.edit.EditCommand.TheVariants.{Insert, Delete, Show}
+use Rattle.spec_commands.specs.declared.edit.EditStep.{EditStep}
+use Rattle.spec_commands.specs.Editing.{Editing}
 use Rattle.muck_perm.specs.declared.guard.Guard.{Guard}
 use Rattle.muck_perm.specs.Guards.{Done, Same, world_of}
 

@@ -1,9 +1,9 @@
 // Whether an editor is open.
 ghost use Rattle.std.specs.Prelude.{◌≡◌};
 ghost use Rattle.muck_perm.specs.Guards.{world_of};
-ghost use Rattle.muck_world.specs.Editing.{is_between, is_open};
+ghost use Rattle.spec_commands.specs.Editing.{is_between, is_open};
 
-use cmd_parts::is_program;
+use cmd_common::is_program;
 use muck_model::EditState;
 use muck_perm::Guard;
 

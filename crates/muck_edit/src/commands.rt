@@ -1,13 +1,13 @@
 // The commands of the editor.
 ghost use Rattle.std.specs.Prelude.{◌≡◌, ◌≤◌, IfSome};
-ghost use Rattle.muck_world.specs.Editing.{line_number, plain_command, line_command, lines_command, edit_command};
+ghost use Rattle.spec_commands.specs.Editing.{line_number, plain_command, line_command, lines_command, edit_command};
 ghost use Rattle.muck_edit.specs.Edits.{IsWithin};
 
 use muck_model::decimal;
-use muck_world::{EditCommand, alike, cut_word, trim};
+use spec_commands::{EditCommand, alike, cut_word, trim};
 
 // The number of a line, from 1 to the count.
-#[tactic(auto, unfolding(muck_world::specs::Editing::line_number))]
+#[tactic(auto, unfolding(spec_commands::specs::Editing::line_number))]
 fn line_number(count: u32, word: &[u8]) -> Option<u32>
     ensures value { result ≡ line_number count word.now }
     ensures within { IfSome result (λ n. (1 ≤ n) × (n ≤ count)) }
@@ -20,7 +20,7 @@ fn line_number(count: u32, word: &[u8]) -> Option<u32>
 }
 
 // A word alone.
-#[tactic(auto, unfolding(muck_world::specs::Editing::plain_command))]
+#[tactic(auto, unfolding(spec_commands::specs::Editing::plain_command))]
 fn plain_command(count: u32, word: &[u8]) -> Option<EditCommand>
     ensures value { result ≡ plain_command count word.now }
     ensures within { IfSome result (IsWithin count) }
@@ -41,7 +41,7 @@ fn plain_command(count: u32, word: &[u8]) -> Option<EditCommand>
 }
 
 // A word behind the number of a line.
-#[tactic(auto, unfolding(muck_world::specs::Editing::line_command))]
+#[tactic(auto, unfolding(spec_commands::specs::Editing::line_command))]
 fn line_command(n: u32, word: &[u8]) -> Option<EditCommand>
     requires { 1 ≤ n }
     ensures value { result ≡ line_command n word.now }
@@ -57,7 +57,7 @@ fn line_command(n: u32, word: &[u8]) -> Option<EditCommand>
 }
 
 // A word behind the numbers of two lines.
-#[tactic(auto, unfolding(muck_world::specs::Editing::lines_command))]
+#[tactic(auto, unfolding(spec_commands::specs::Editing::lines_command))]
 fn lines_command(first: u32, last: u32, word: &[u8]) -> Option<EditCommand>
     requires { 1 ≤ first }
     ensures value { result ≡ lines_command first last word.now }
@@ -82,7 +82,7 @@ fn lines_command(first: u32, last: u32, word: &[u8]) -> Option<EditCommand>
 }
 
 /// What a line asks of the editor, where there are so many source lines; `None` exactly where it is no command.
-#[tactic(auto, unfolding(muck_world::specs::Editing::edit_command))]
+#[tactic(auto, unfolding(spec_commands::specs::Editing::edit_command))]
 pub fn edit_command(count: u32, line: &[u8]) -> Option<EditCommand>
     ensures value { result ≡ edit_command count line.now }
     ensures within { IfSome result (IsWithin count) }

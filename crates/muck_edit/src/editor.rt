@@ -1,7 +1,7 @@
 // A line of the editor.
 ghost use Rattle.std.specs.Prelude.{◌≡◌, ◌≤◌, length, slice_range, OnOk};
-ghost use Rattle.muck_rights.specs.Licence.{Licensed, nobody};
-ghost use Rattle.muck_world.specs.Editing.{IsOpen, line_inserted, edit_done, edited};
+ghost use Rattle.spec_rights.specs.Licence.{Licensed, nobody};
+ghost use Rattle.spec_commands.specs.Editing.{IsOpen, line_inserted, edit_done, edited};
 ghost use Rattle.muck_perm.specs.Guards.{world_of};
 ghost use Rattle.muck_edit.specs.Edits.{Edits, IsWithin};
 
@@ -9,10 +9,10 @@ use crate::commands::edit_command;
 use crate::keeping::{compile, quit};
 use crate::lines::{insert_line, remove_lines};
 use crate::showing::tell_illegal;
-use cmd_parts::show_lines;
+use cmd_common::show_lines;
 use muck_model::{EditState, Line, NoMemory};
 use muck_perm::Guard;
-use muck_world::{EditCommand, EditStep};
+use spec_commands::{EditCommand, EditStep};
 
 // The most lines of a program.
 const LINES_MOST: usize = 4096;
@@ -24,7 +24,7 @@ pub struct Editor {
 }
 
 // A line while lines are being inserted at a place.
-#[tactic(auto, unfolding(muck_world::specs::Editing::line_inserted, muck_world::specs::Editing::stepped, muck_world::specs::Editing::exiting, muck_live::specs::Lives::unchanged))]
+#[tactic(auto, unfolding(spec_commands::specs::Editing::line_inserted, spec_commands::specs::Editing::stepped, spec_commands::specs::Editing::exiting, spec_live::specs::Lives::unchanged))]
 fn insert(
     state: &mut EditState,
     guard: &mut Guard,
@@ -50,7 +50,7 @@ fn insert(
 }
 
 // Does a command.
-#[tactic(auto, unfolding(muck_world::specs::Editing::edit_done, muck_world::specs::Editing::stepped, muck_world::specs::Editing::entering, muck_world::specs::Editing::deleted_reply))]
+#[tactic(auto, unfolding(spec_commands::specs::Editing::edit_done, spec_commands::specs::Editing::stepped, spec_commands::specs::Editing::entering, spec_commands::specs::Editing::deleted_reply))]
 fn obey(
     state: &mut EditState,
     guard: &mut Guard,
@@ -85,7 +85,7 @@ fn obey(
     }
 }
 
-#[tactic(auto, unfolding(muck_world::specs::Editing::edited, muck_world::specs::Editing::stepped))]
+#[tactic(auto, unfolding(spec_commands::specs::Editing::edited, spec_commands::specs::Editing::stepped))]
 fn take_line(
     state: &mut EditState,
     guard: &mut Guard,

@@ -1,19 +1,19 @@
 // Keeping the source of a program, by leave.
 ghost use Rattle.std.specs.Prelude.{◌≡◌};
-ghost use Rattle.muck_rights.specs.declared.act.Act.{Act};
-ghost use Rattle.muck_rights.specs.Changing.{lines_kept};
-ghost use Rattle.muck_world.specs.declared.edit.EditCommand.{EditCommand};
-ghost use Rattle.muck_world.specs.Programming.{source_of};
-ghost use Rattle.muck_world.specs.Editing.{IsOpen, same_lines, source_kept, edit_done};
+ghost use Rattle.spec_rights.specs.declared.act.Act.{Act};
+ghost use Rattle.spec_rights.specs.Changing.{lines_kept};
+ghost use Rattle.spec_commands.specs.declared.edit.EditCommand.{EditCommand};
+ghost use Rattle.spec_commands.specs.Programming.{source_of};
+ghost use Rattle.spec_commands.specs.Editing.{IsOpen, same_lines, source_kept, edit_done};
 ghost use Rattle.muck_perm.specs.Guards.{Did, IsLeave, world_of};
 ghost use Rattle.muck_edit.specs.Edits.{Edits};
 
 use crate::showing::tell_exited;
-use cmd_parts::{copy_lines, refuse, same_lines};
+use cmd_common::{copy_lines, refuse, same_lines};
 use muck_model::{Dbref, EditState, LineList, NoMemory};
 use muck_perm::{Guard, Pass, verdict};
-use muck_rights::Act;
-use muck_world::EditStep;
+use spec_commands::EditStep;
+use spec_rights::Act;
 
 // Whether the lines are the source of a program already.
 fn is_source(guard: &Guard, program: Dbref, lines: &LineList) -> bool
@@ -40,7 +40,7 @@ fn set_lines(guard: &mut Guard, pass: Pass, state: &EditState) -> Result<(), NoM
 }
 
 // Keeps the lines of the editor as the source of its program; where they are it already, nothing changes.
-#[tactic(auto, unfolding(muck_world::specs::Editing::source_kept, muck_world::specs::Finding::where_so, muck_live::specs::Lives::reading, muck_live::specs::Lives::either, muck_live::specs::Lives::unchanged))]
+#[tactic(auto, unfolding(spec_commands::specs::Editing::source_kept, spec_commands::specs::Finding::where_so, spec_live::specs::Lives::reading, spec_live::specs::Lives::either, spec_live::specs::Lives::unchanged))]
 fn keep(guard: &mut Guard, pass: Pass, state: &EditState) -> Result<(), NoMemory>
     requires leave { IsLeave pass (Act.Edit state.now.program) guard.old }
     requires open { IsOpen state.now (world_of guard.old) }
@@ -53,7 +53,7 @@ fn keep(guard: &mut Guard, pass: Pass, state: &EditState) -> Result<(), NoMemory
 }
 
 /// `c`: keeps the source, which is then to be compiled.
-#[tactic(auto, unfolding(muck_world::specs::Editing::edit_done, muck_world::specs::Editing::stepped, muck_rights::specs::Asking::asked))]
+#[tactic(auto, unfolding(spec_commands::specs::Editing::edit_done, spec_commands::specs::Editing::stepped, spec_rights::specs::Asking::asked))]
 pub fn compile(guard: &mut Guard, d: u32, state: &EditState) -> Result<EditStep, NoMemory>
     requires { IsOpen state.now (world_of guard.old) }
     ensures { Edits (edit_done d guard.old.actor state.now EditCommand.Compile) guard.old guard.new state.now result }
@@ -75,7 +75,7 @@ pub fn compile(guard: &mut Guard, d: u32, state: &EditState) -> Result<EditStep,
 }
 
 /// `q`: keeps the source, where that is allowed, and leaves.
-#[tactic(auto, unfolding(muck_world::specs::Editing::edit_done, muck_world::specs::Editing::stepped, muck_rights::specs::Asking::asked, muck_live::specs::Lives::followed))]
+#[tactic(auto, unfolding(spec_commands::specs::Editing::edit_done, spec_commands::specs::Editing::stepped, spec_rights::specs::Asking::asked, spec_live::specs::Lives::followed))]
 pub fn quit(guard: &mut Guard, d: u32, state: &EditState) -> Result<EditStep, NoMemory>
     requires { IsOpen state.now (world_of guard.old) }
     ensures { Edits (edit_done d guard.old.actor state.now EditCommand.Quit) guard.old guard.new state.now result }

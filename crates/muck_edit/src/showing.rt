@@ -1,13 +1,13 @@
 // What the editor shows.
-ghost use Rattle.muck_live.specs.Lives.{tell};
-ghost use Rattle.muck_world.specs.Editing.{illegal, editor_exited};
+ghost use Rattle.spec_live.specs.Lives.{tell};
+ghost use Rattle.spec_commands.specs.Editing.{illegal, editor_exited};
 ghost use Rattle.muck_perm.specs.Guards.{Did};
 
 use muck_model::NoMemory;
 use muck_perm::Guard;
 
 /// A line is no command, and the connection is told so.
-#[tactic(auto, unfolding(muck_world::specs::Editing::illegal))]
+#[tactic(auto, unfolding(spec_commands::specs::Editing::illegal))]
 pub fn tell_illegal(guard: &mut Guard, d: u32) -> Result<(), NoMemory>
     ensures { Did (tell d illegal) guard.old guard.new result }
 {
@@ -16,7 +16,7 @@ pub fn tell_illegal(guard: &mut Guard, d: u32) -> Result<(), NoMemory>
 }
 
 /// The editor is left, and the connection is told so.
-#[tactic(auto, unfolding(muck_world::specs::Editing::editor_exited))]
+#[tactic(auto, unfolding(spec_commands::specs::Editing::editor_exited))]
 pub fn tell_exited(guard: &mut Guard, d: u32) -> Result<(), NoMemory>
     ensures { Did (tell d editor_exited) guard.old guard.new result }
 {

@@ -2,10 +2,10 @@
 use Rattle.std.proofs.Common.{◌≡◌, ℕ, true, [], ◌∷◌, Some, ◌∙◌, ap}
 use Rattle.std.specs.Prelude.{ℤ}
 use Rattle.muck_model.specs.declared.event.Event.TheVariants.{Claim, Slice}
-use Rattle.muck_event.specs.Steps.{is_lawful, next_process}
-use Rattle.muck_event.specs.Histories.{History, now, entered}
-use Rattle.muck_event.proofs.Claims.{chosen_lawful}
-use Rattle.muck_event.proofs.Runs.{now-extended}
+use Rattle.spec_events.specs.Steps.{is_lawful, next_process}
+use Rattle.spec_events.specs.Histories.{History, now, entered}
+use Rattle.spec_events.proofs.Claims.{chosen_lawful}
+use Rattle.spec_events.proofs.Runs.{now-extended}
 
 pub claimed_may_run : (h : History) (party : ℕ) (pid : ℤ) → next_process (now h) ≡ Some pid →
     is_lawful (now (entered h (record { party = party; event = Claim pid }))) (record { party = party; event = Slice pid }) ≡ true

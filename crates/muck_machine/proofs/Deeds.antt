@@ -8,11 +8,11 @@ use Rattle.std.proofs.lemmas.Iterator.Adapters.{position_from-zero}
 use Rattle.std.proofs.lemmas.Bool.{cond-true, cond-false, le-ltb}
 use Rattle.muck_model.specs.declared.dbref.Dbref.{Dbref}
 use Rattle.muck_model.specs.declared.dbref.Denial.{Denial}
-use Rattle.muck_live.specs.Objects.{object_at, is_program}
-use Rattle.muck_rights.specs.declared.act.Act.{Act}
-use Rattle.muck_rights.specs.declared.act.Act.TheVariants.{Shared, Call as CallAct}
-use Rattle.muck_rights.specs.Verdict.{verdict}
-use Rattle.muck_program.specs.Library.{formed}
+use Rattle.spec_live.specs.Objects.{object_at, is_program}
+use Rattle.spec_rights.specs.declared.act.Act.{Act}
+use Rattle.spec_rights.specs.declared.act.Act.TheVariants.{Shared, Call as CallAct}
+use Rattle.spec_rights.specs.Verdict.{verdict}
+use Rattle.muck_library.specs.Library.{formed}
 use Rattle.muf_model.specs.declared.fault.MufFault.TheVariants.{NotCompiled}
 use Rattle.muf_model.specs.declared.prims.Primitive.{Primitive as Name}
 use Rattle.muf_model.specs.declared.prims.Primitive.TheVariants.{Notify, Call}
@@ -25,10 +25,10 @@ use Rattle.muf_model.specs.Decode.{definition_at, tree_of}
 use Rattle.muf_model.specs.Tree.{Definition}
 use Rattle.std.specs.Str.{bytes_eq}
 use Rattle.std.specs.Char.{to_ascii_lowercase}
-use Rattle.muck_rights.specs.declared.act.Actor.{Actor}
-use Rattle.muck_event.specs.declared.starting.Agent.{Agent}
-use Rattle.muck_event.specs.World.{World}
-use Rattle.muck_event.specs.Slices.{numbered, callers, deed, call_items, call_count, program_called, called_word, is_offered, needing, permitted, permitted_by, existing, programmed, called, form_called, behind, acting}
+use Rattle.spec_rights.specs.declared.act.Actor.{Actor}
+use Rattle.spec_events.specs.declared.starting.Agent.{Agent}
+use Rattle.spec_events.specs.World.{World}
+use Rattle.spec_events.specs.Slices.{numbered, callers, deed, call_items, call_count, program_called, called_word, is_offered, needing, permitted, permitted_by, existing, programmed, called, form_called, behind, acting}
 use Rattle.muck_machine.specs.Deeds.{asked_of, IsWord, Permits}
 
 -- programs of these numbers

@@ -8,11 +8,11 @@ use Rattle.muck_model.specs.declared.event.Entry.{Entry}
 use Rattle.muck_model.specs.declared.event.Event.TheVariants.{Died}
 use Rattle.muck_model.specs.declared.memory.NoMemory.{NoMemory}
 use Rattle.muck_queue.specs.Queues.{next_due}
-use Rattle.muck_event.specs.World.{World}
-use Rattle.muck_event.specs.Steps.{is_free, happened, effect, is_died, is_lawful, is_allowed, next_ready, next_process}
-use Rattle.muck_event.specs.Histories.{History, after, now, entered}
-use Rattle.muck_event.proofs.Living.{dead-happened}
-use Rattle.muck_event.proofs.Runs.{after-append}
+use Rattle.spec_events.specs.World.{World}
+use Rattle.spec_events.specs.Steps.{is_free, happened, effect, is_died, is_lawful, is_allowed, next_ready, next_process}
+use Rattle.spec_events.specs.Histories.{History, after, now, entered}
+use Rattle.spec_events.proofs.Living.{dead-happened}
+use Rattle.spec_events.proofs.Runs.{after-append}
 use Rattle.muck_machine.specs.declared.past.Past.{Past}
 use Rattle.muck_machine.specs.Keeping.{Keeps, history, told, lost, Concludes}
 

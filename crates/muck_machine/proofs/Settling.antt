@@ -3,16 +3,16 @@ use Rattle.std.proofs.Common.{◌≡◌, ℕ, ◌+◌, ◌<◌, suc, List, [], �
 use Rattle.std.specs.Prelude.{map, slice_get, slice_set}
 use Rattle.std.specs.Option.{option_map, option_map_or}
 use Rattle.muck_model.specs.declared.dbref.Dbref.{Dbref}
-use Rattle.muck_live.specs.declared.mark.Mark.{Mark}
-use Rattle.muck_live.specs.declared.mark.Mark.TheVariants.{Lines, Gone}
-use Rattle.muck_live.specs.declared.mark.Changed.{Changed}
-use Rattle.muck_live.specs.declared.mark.Changed.TheVariants.{Lines as ChangedLines, Gone as ChangedGone}
-use Rattle.muck_live.specs.Objects.{Entry, dbref_of, changed_at}
-use Rattle.muck_live.specs.Marks.{unmarked, marked_from, told_of, next_change, change_told}
-use Rattle.muck_live.specs.Lives.{on_objects}
-use Rattle.muck_event.specs.World.{World, on_live}
-use Rattle.muck_event.specs.Following.{followed, swept, settled}
-use Rattle.muck_event.proofs.Quietly.{quietly_swept}
+use Rattle.spec_live.specs.declared.mark.Mark.{Mark}
+use Rattle.spec_live.specs.declared.mark.Mark.TheVariants.{Lines, Gone}
+use Rattle.spec_live.specs.declared.mark.Changed.{Changed}
+use Rattle.spec_live.specs.declared.mark.Changed.TheVariants.{Lines as ChangedLines, Gone as ChangedGone}
+use Rattle.spec_live.specs.Objects.{Entry, dbref_of, changed_at}
+use Rattle.spec_live.specs.Marks.{unmarked, marked_from, told_of, next_change, change_told}
+use Rattle.spec_live.specs.Lives.{on_objects}
+use Rattle.spec_events.specs.World.{World, on_live}
+use Rattle.spec_events.specs.Following.{followed, swept, settled}
+use Rattle.spec_events.proofs.Quietly.{quietly_swept}
 use Rattle.muck_machine.specs.Followed.{followed_change}
 
 -- how many objects are marked

@@ -7,10 +7,10 @@ use Rattle.muf_model.specs.Source.{Source}
 use Rattle.muf_model.specs.Unit.{Outcome, goes, ended, faulted, asks, unit, units, and_then, fault}
 use Rattle.muf_model.specs.Chains.{Deed, does, fails, over, broke, chain, chained, raised, after_deed, resumed, count, taken, programs_of, Keeps, StandsAt}
 use Rattle.muf_model.proofs.Chains.{units_keep, taken_most, taken_some, run_law}
-use Rattle.muf_process.specs.declared.stint.Ran.{Ran}
-use Rattle.muf_process.specs.declared.stint.Ran.TheVariants.{Going, Asking, Ended, Faulted}
-use Rattle.muf_process.specs.Stints.{RanAlike}
-use Rattle.muck_event.specs.World.{World}
+use Rattle.muf_running.specs.declared.stint.Ran.{Ran}
+use Rattle.muf_running.specs.declared.stint.Ran.TheVariants.{Going, Asking, Ended, Faulted}
+use Rattle.muf_running.specs.Stints.{RanAlike}
+use Rattle.spec_events.specs.World.{World}
 use Rattle.muck_machine.specs.declared.state.deeds.Done.{Done}
 use Rattle.muck_machine.specs.declared.state.deeds.Done.TheVariants.{Does as DoneDoes, Fails as DoneFails}
 use Rattle.muck_machine.specs.declared.state.slices.Stop.{Stop}

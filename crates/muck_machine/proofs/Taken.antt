@@ -2,12 +2,12 @@
 use Rattle.std.proofs.Common.{◌≡◌, ℕ, ◌≤◌, List, [], ◌∷◌, refl, ◌∙◌, ap, arith}
 use Rattle.std.proofs.lemmas.Bool.{cond_both}
 use Rattle.muck_model.specs.declared.event.Event.TheVariants.{Take}
-use Rattle.muck_live.specs.Output.{taken}
-use Rattle.muck_live.specs.Connections.{Connection, has_number, changed_in}
-use Rattle.muck_live.specs.Boards.{bytes_taken, with_connections}
+use Rattle.spec_live.specs.Output.{taken}
+use Rattle.spec_live.specs.Connections.{Connection, has_number, changed_in}
+use Rattle.spec_live.specs.Boards.{bytes_taken, with_connections}
 use Rattle.muck_board.proofs.Outputs.{taken_rest}
-use Rattle.muck_event.specs.World.{World}
-use Rattle.muck_event.specs.Steps.{happened}
+use Rattle.spec_events.specs.World.{World}
+use Rattle.spec_events.specs.Steps.{happened}
 
 none_in : (d : ℕ) (cs : List Connection) → changed_in d (λ c. record c { output = taken 0 c.output }) cs ≡ cs
 none_in d [] = refl

@@ -12,9 +12,9 @@ use Rattle.muf_model.specs.Tree.{Definition}
 use Rattle.muf_model.specs.Source.{Source, calls_of, entered}
 use Rattle.muf_model.specs.Unit.{calls_most, goes, faulted, fault}
 use Rattle.muf_model.specs.Chains.{Deed, does, fails, Finish, over, broke, chain}
-use Rattle.muf_process.specs.Fitting.{program_with}
-use Rattle.muck_event.specs.World.{World}
-use Rattle.muck_event.specs.Slices.{behind}
+use Rattle.muf_running.specs.Fitting.{program_with}
+use Rattle.spec_events.specs.World.{World}
+use Rattle.spec_events.specs.Slices.{behind}
 use Rattle.muck_machine.specs.declared.state.slices.Ending.{Ending}
 use Rattle.muck_machine.specs.declared.state.slices.Ending.TheVariants.{Over, Broke}
 use Rattle.muck_machine.specs.declared.state.slices.Stop.{Stop}

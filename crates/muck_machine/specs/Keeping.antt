@@ -4,8 +4,8 @@ use Rattle.muck_model.specs.Told.{Told}
 use Rattle.muck_model.specs.declared.event.Entry.{Entry}
 use Rattle.muck_model.specs.declared.event.Event.TheVariants.{Died}
 use Rattle.muck_model.specs.declared.memory.NoMemory.{NoMemory}
-use Rattle.muck_event.specs.World.{World}
-use Rattle.muck_event.specs.Histories.{History, after}
+use Rattle.spec_events.specs.World.{World}
+use Rattle.spec_events.specs.Histories.{History, after}
 use Rattle.muck_machine.specs.declared.past.Past.{Past}
 
 abbrev pub history : Past → History

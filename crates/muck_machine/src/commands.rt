@@ -1,21 +1,21 @@
 // All commands, on a world that is lent to a player.
 ghost use Rattle.std.specs.Prelude.{◌≡◌};
-ghost use Rattle.muck_live.specs.Lives.{tell};
-ghost use Rattle.muck_world.specs.Finding.{actor_of};
-ghost use Rattle.muck_world.specs.Replies.{huh};
-ghost use Rattle.muck_world.specs.Going.{ended};
-ghost use Rattle.muck_world.specs.Commands.{build_line, or_else, commanded, begins_with_sign, played};
-ghost use Rattle.cmd_parts.specs.Plays.{Plays};
+ghost use Rattle.spec_live.specs.Lives.{tell};
+ghost use Rattle.spec_commands.specs.Finding.{actor_of};
+ghost use Rattle.spec_commands.specs.Replies.{huh};
+ghost use Rattle.spec_commands.specs.Going.{ended};
+ghost use Rattle.spec_commands.specs.Commands.{build_line, or_else, commanded, begins_with_sign, played};
+ghost use Rattle.cmd_common.specs.Plays.{Plays};
 
 use muck_db::Db;
 use muck_match::exit_for;
 use muck_model::{Dbref, Line, NoMemory};
 use muck_perm::{Guard, command_level};
-use muck_rights::Actor;
-use muck_world::Outcome;
+use spec_commands::Outcome;
+use spec_rights::Actor;
 
 /// A player acts by its own rights.
-#[tactic(auto, unfolding(muck_world::specs::Finding::actor_of))]
+#[tactic(auto, unfolding(spec_commands::specs::Finding::actor_of))]
 pub fn actor_of(db: &Db, player: Dbref) -> Actor
     ensures { result ≡ actor_of db.now player }
 {
@@ -27,7 +27,7 @@ pub fn actor_of(db: &Db, player: Dbref) -> Actor
 }
 
 /// Does a line: saying and posing come first, then exits, then commands.
-#[tactic(auto, unfolding(muck_world::specs::Commands::played, muck_live::specs::Lives::reading))]
+#[tactic(auto, unfolding(spec_commands::specs::Commands::played, spec_live::specs::Lives::reading))]
 pub fn play(guard: &mut Guard, d: u32, line: &Line) -> Result<Outcome, NoMemory>
     ensures { Plays (played d guard.old.actor line.now) guard.old guard.new result }
 {
@@ -50,7 +50,7 @@ fn begins_with_sign(line: &Line) -> bool
 }
 
 // Does a line that no exit takes.
-#[tactic(auto, unfolding(muck_world::specs::Commands::commanded, muck_world::specs::Commands::or_else), using(crate::proofs::Outcomes::or_next_mine))]
+#[tactic(auto, unfolding(spec_commands::specs::Commands::commanded, spec_commands::specs::Commands::or_else), using(crate::proofs::Outcomes::or_next_mine))]
 fn command(guard: &mut Guard, d: u32, line: &Line) -> Result<Outcome, NoMemory>
     ensures { Plays (commanded d guard.old.actor line.now) guard.old guard.new result }
 {
@@ -61,7 +61,7 @@ fn command(guard: &mut Guard, d: u32, line: &Line) -> Result<Outcome, NoMemory>
 }
 
 // Does a line that is none of a player's commands.
-#[tactic(auto, unfolding(muck_world::specs::Commands::or_else, muck_world::specs::Going::ended, muck_world::specs::Replies::huh), using(crate::proofs::Outcomes::or_next_mine))]
+#[tactic(auto, unfolding(spec_commands::specs::Commands::or_else, spec_commands::specs::Going::ended, spec_commands::specs::Replies::huh), using(crate::proofs::Outcomes::or_next_mine))]
 fn build(guard: &mut Guard, d: u32, line: &Line) -> Result<Outcome, NoMemory>
     ensures { Plays (or_else (build_line d guard.old.actor line.now) (ended Outcome.Done (tell d huh))) guard.old guard.new result }
 {

@@ -1,6 +1,6 @@
 // How a world began, kept for contracts alone.
 ghost use Rattle.std.specs.Prelude.{◌≡◌, IfOk};
-ghost use Rattle.muck_event.specs.World.{booted};
+ghost use Rattle.spec_events.specs.World.{booted};
 
 use atomic_table::{Table, TableRule};
 use muck_db::Db;
@@ -33,7 +33,7 @@ pub struct Origin {
 }
 
 impl Model for Origin {
-    ghost use Rattle.muck_event.specs.World.{World, booted};
+    ghost use Rattle.spec_events.specs.World.{World, booted};
     ghost use Rattle.std.specs.Coded.{codes};
     ghost use Rattle.muck_prop.specs.contracts.props.Props as props;
     ghost use Rattle.muck_model.specs.contracts.lock.Lock as lock;

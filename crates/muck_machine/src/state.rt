@@ -1,9 +1,9 @@
 // The world's own state, without its history.
 ghost use Rattle.std.specs.Prelude.{◌≡◌, OnOk, length, take, min, List, ℕ};
 ghost use Rattle.muck_model.specs.declared.event.Event.{Event};
-ghost use Rattle.muck_live.specs.Lives.{tell};
-ghost use Rattle.muck_event.specs.World.{booted, queue_of, on_live};
-ghost use Rattle.muck_event.specs.Steps.{is_allowed, happened};
+ghost use Rattle.spec_live.specs.Lives.{tell};
+ghost use Rattle.spec_events.specs.World.{booted, queue_of, on_live};
+ghost use Rattle.spec_events.specs.Steps.{is_allowed, happened};
 
 mod deeds;
 mod editing;
@@ -18,8 +18,8 @@ mod turns;
 use login::WELCOME;
 use muck_board::Board;
 use muck_db::Db;
+use muck_library::Library;
 use muck_model::{Line, NoMemory, Tune};
-use muck_program::Library;
 use muck_queue::Queue;
 use std::alloc::Global;
 use std::marker::Model;
@@ -40,7 +40,7 @@ pub struct State {
 }
 
 impl Model for State {
-    ghost use Rattle.muck_event.specs.World.{World, no_dumps};
+    ghost use Rattle.spec_events.specs.World.{World, no_dumps};
     ghost use Rattle.std.specs.Prelude.{false};
 
     ghost Value = { World };
@@ -57,7 +57,7 @@ impl Model for State {
 
 impl State {
     /// The world of these objects at this moment, in which nobody is connected, and whose random numbers begin so.
-    #[tactic(auto, unfolding(muck_event::specs::World::booted))]
+    #[tactic(auto, unfolding(spec_events::specs::World::booted))]
     pub fn booted(alloc: Global, db: Db, tune: Tune, moment: u64, start: u64) -> Self
         ensures { result ≡ booted db tune moment start }
     {
@@ -104,7 +104,7 @@ impl State {
     }
 
     /// A connection comes.
-    #[tactic(auto, unfolding(muck_world::specs::Talk::welcome))]
+    #[tactic(auto, unfolding(spec_commands::specs::Talk::welcome))]
     pub fn open(&mut self, d: u32) -> Result<(), NoMemory>
         ensures { OnOk result (self.new ≡ happened self.old 0 (Event.Opened d)) }
     {
@@ -136,7 +136,7 @@ impl State {
         self.stopping = true;
     }
 
-    #[tactic(auto, unfolding(muck_live::specs::Lives::tell))]
+    #[tactic(auto, unfolding(spec_live::specs::Lives::tell))]
     fn tell(&mut self, d: u32, text: &[u8]) -> Result<(), NoMemory>
         ensures { OnOk result (self.new ≡ on_live (tell d text.now) self.old) }
     {

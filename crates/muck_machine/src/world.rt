@@ -2,9 +2,9 @@
 ghost use Rattle.std.specs.Prelude.{◌≡◌, ◌≤◌, IfOk, OnOk, OnErr, MatchOption, length, take, min, true, false, if◌then◌else◌, nat_lt, is_some, option_copied, [], List, ℕ};
 ghost use Rattle.std.specs.Option.{option_map_or};
 ghost use Rattle.muck_model.specs.declared.event.Event.{Event};
-ghost use Rattle.muck_event.specs.World.{starting, booted, connection, queue_of, is_leaving};
-ghost use Rattle.muck_event.specs.Steps.{is_lawful, next_ready, next_process};
-ghost use Rattle.muck_event.specs.Histories.{now, entered, by_porter};
+ghost use Rattle.spec_events.specs.World.{starting, booted, connection, queue_of, is_leaving};
+ghost use Rattle.spec_events.specs.Steps.{is_lawful, next_ready, next_process};
+ghost use Rattle.spec_events.specs.Histories.{now, entered, by_porter};
 
 use crate::origin::{Begun, Origin};
 use crate::past::Past;
@@ -36,7 +36,7 @@ pub struct World {
 }
 
 impl Model for World {
-    ghost use Rattle.muck_event.specs.Histories.{History};
+    ghost use Rattle.spec_events.specs.Histories.{History};
     ghost use Rattle.muck_machine.specs.Keeping.{history, Keeps};
 
     ghost Value = { History };
@@ -80,7 +80,7 @@ impl World {
     }
 
     /// Room Zero and One as they are at first, and nobody connected: nothing has happened yet.
-    #[tactic(auto, unfolding(muck_event::specs::World::starting, muck_live::specs::Boards::first_tune))]
+    #[tactic(auto, unfolding(spec_events::specs::World::starting, spec_live::specs::Boards::first_tune))]
     pub fn starting(alloc: Global) -> Result<Self, NoMemory>
         ensures { IfOk result (λ w. w ≡ record { start = starting; entries = [] }) }
     {
@@ -105,7 +105,7 @@ impl World {
     }
 
     /// Whether memory was wanted, after which no entry but `Died` is lawful.
-    #[tactic(auto, unfolding(muck_event::specs::Histories::now))]
+    #[tactic(auto, unfolding(spec_events::specs::Histories::now))]
     pub fn is_dead(&self) -> bool
         ensures { result ≡ (now self.now).dead }
     {

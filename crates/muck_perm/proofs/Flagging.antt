@@ -6,13 +6,13 @@ use Rattle.std.specs.List.{list_any, slice_get, slice_set}
 use Rattle.std.specs.Option.{option_map, option_map_or, option_and_then}
 use Rattle.muck_model.specs.declared.dbref.Dbref.{Dbref}
 use Rattle.muck_model.specs.declared.dbref.Flags.{Flags}
-use Rattle.muck_live.specs.declared.object.Object.{Object}
-use Rattle.muck_live.specs.declared.fault.DbFault.{DbFault}
-use Rattle.muck_live.specs.Flags.{has_flag, no_flags, with_flag, without_flag}
-use Rattle.muck_live.specs.Objects.{Entry, object_in, object_at, number_in, changed_at, on_object}
-use Rattle.muck_live.specs.Moving.{Does}
-use Rattle.muck_live.specs.Setting.{set_at, with_flags, flags_check}
-use Rattle.muck_rights.specs.Changing.{flag_values, is_flag, set_object, flag_set, flag_cleared}
+use Rattle.spec_live.specs.declared.object.Object.{Object}
+use Rattle.spec_live.specs.declared.fault.DbFault.{DbFault}
+use Rattle.spec_live.specs.Flags.{has_flag, no_flags, with_flag, without_flag}
+use Rattle.spec_live.specs.Objects.{Entry, object_in, object_at, number_in, changed_at, on_object}
+use Rattle.spec_live.specs.Moving.{Does}
+use Rattle.spec_live.specs.Setting.{set_at, with_flags, flags_check}
+use Rattle.spec_rights.specs.Changing.{flag_values, is_flag, set_object, flag_set, flag_cleared}
 use Rattle.muck_perm.specs.declared.guard.Guard.{Guard}
 use Rattle.muck_perm.specs.Guards.{Makes, flags_at}
 use Rattle.muck_perm.proofs.Guarding.{with_objects, checked_number, at_found}

@@ -7,19 +7,19 @@ use Rattle.std.specs.Option.{option_map_or, option_and_then}
 use Rattle.muck_model.specs.declared.dbref.Dbref.{Dbref}
 use Rattle.muck_model.specs.declared.dbref.Kind.{Kind}
 use Rattle.muck_model.specs.declared.dbref.Kind.TheVariants.{Thing, Exit, Program, Garbage}
-use Rattle.muck_live.specs.declared.object.Object.{Object}
-use Rattle.muck_live.specs.declared.fault.DbFault.{DbFault}
-use Rattle.muck_live.specs.declared.fault.DbFault.TheVariants.{NoSuchObject, WrongKind}
-use Rattle.muck_live.specs.Objects.{Entry, dbref_of, nothing, home, same, is_exit, is_player, is_program, is_garbage, kind_in, object_in, number_in, object_at, changed_at}
-use Rattle.muck_live.specs.Moving.{Does}
-use Rattle.muck_live.specs.Making.{grown, new_object, created, create_check, Creates}
-use Rattle.muck_live.specs.Setting.{checked, checked_both, has_link, may_link, may_live, link_check, home_check, level_check, set_at, with_link, with_home, with_level}
-use Rattle.muck_live.proofs.Readers.{kind_is, kind_moved}
-use Rattle.muck_live.proofs.Checks.{IsThere, number_there}
-use Rattle.muck_live.proofs.CreationLaws.{may_create, Begins, begins, grown_kind, named_kind, other_kind}
+use Rattle.spec_live.specs.declared.object.Object.{Object}
+use Rattle.spec_live.specs.declared.fault.DbFault.{DbFault}
+use Rattle.spec_live.specs.declared.fault.DbFault.TheVariants.{NoSuchObject, WrongKind}
+use Rattle.spec_live.specs.Objects.{Entry, dbref_of, nothing, home, same, is_exit, is_player, is_program, is_garbage, kind_in, object_in, number_in, object_at, changed_at}
+use Rattle.spec_live.specs.Moving.{Does}
+use Rattle.spec_live.specs.Making.{grown, new_object, created, create_check, Creates}
+use Rattle.spec_live.specs.Setting.{checked, checked_both, has_link, may_link, may_live, link_check, home_check, level_check, set_at, with_link, with_home, with_level}
+use Rattle.spec_live.proofs.Readers.{kind_is, kind_moved}
+use Rattle.spec_live.proofs.Checks.{IsThere, number_there}
+use Rattle.spec_live.proofs.CreationLaws.{may_create, Begins, begins, grown_kind, named_kind, other_kind}
 use Rattle.muck_db.proofs.Writes.{set_back}
-use Rattle.muck_live.specs.Lives.{Change}
-use Rattle.muck_rights.specs.Changing.{created_so}
+use Rattle.spec_live.specs.Lives.{Change}
+use Rattle.spec_rights.specs.Changing.{created_so}
 use Rattle.muck_perm.specs.declared.guard.Guard.{Guard}
 use Rattle.muck_perm.specs.Guards.{Founds, is_kind_at, may_lead, may_house}
 use Rattle.muck_perm.proofs.Guarding.{with_objects}

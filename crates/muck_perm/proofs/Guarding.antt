@@ -3,16 +3,16 @@ use Rattle.std.proofs.Common.{◌≡◌, ℕ, ◌==◌, Bool, true, false, cond,
 use Rattle.std.specs.Option.{option_map_or}
 use Rattle.muck_model.specs.declared.dbref.Dbref.{Dbref}
 use Rattle.muck_prop.specs.declared.value.PropValue.{PropValue}
-use Rattle.muck_live.specs.declared.fault.DbFault.{DbFault}
-use Rattle.muck_live.specs.declared.fault.DbFault.TheVariants.{NoSuchObject, WouldLoop, WrongKind}
-use Rattle.muck_live.specs.Chain.{has}
-use Rattle.muck_live.specs.Objects.{Entry, nothing, home, same, is_exit, kind_in, fits_in, path_in, number_in}
-use Rattle.muck_live.specs.Moving.{Does, Moves, judged, moved, move_check}
-use Rattle.muck_live.specs.Setting as setting
-use Rattle.muck_live.specs.Setting.{any, checked, checked_both, has_link, may_link, owner_check, link_check, home_check, level_check, lines_check, password_check, set_at, lines_set, with_name, with_owner, with_link, with_home, with_level, with_prop, without_prop, with_password}
-use Rattle.muck_live.specs.Recycling.{recycled, recycle_check}
-use Rattle.muck_live.specs.Lives.{on_objects}
-use Rattle.muck_rights.specs.Changing.{at_number, moved_at, moved_to, named, owned_by, linked, homed, leveled, lines_kept, stored, unstored, recycled_now, password_kept}
+use Rattle.spec_live.specs.declared.fault.DbFault.{DbFault}
+use Rattle.spec_live.specs.declared.fault.DbFault.TheVariants.{NoSuchObject, WouldLoop, WrongKind}
+use Rattle.spec_live.specs.Chain.{has}
+use Rattle.spec_live.specs.Objects.{Entry, nothing, home, same, is_exit, kind_in, fits_in, path_in, number_in}
+use Rattle.spec_live.specs.Moving.{Does, Moves, judged, moved, move_check}
+use Rattle.spec_live.specs.Setting as setting
+use Rattle.spec_live.specs.Setting.{any, checked, checked_both, has_link, may_link, owner_check, link_check, home_check, level_check, lines_check, password_check, set_at, lines_set, with_name, with_owner, with_link, with_home, with_level, with_prop, without_prop, with_password}
+use Rattle.spec_live.specs.Recycling.{recycled, recycle_check}
+use Rattle.spec_live.specs.Lives.{on_objects}
+use Rattle.spec_rights.specs.Changing.{at_number, moved_at, moved_to, named, owned_by, linked, homed, leveled, lines_kept, stored, unstored, recycled_now, password_kept}
 use Rattle.muck_perm.specs.declared.guard.Guard.{Guard}
 use Rattle.muck_perm.specs.Guards.{Makes, Tries}
 

@@ -10,15 +10,15 @@ use Rattle.muck_model.specs.declared.memory.NoMemory.{NoMemory}
 use Rattle.muck_prop.specs.declared.value.PropValue.{PropValue}
 use Rattle.muck_prop.specs.declared.value.PropValue.TheVariants.{Text, Number}
 use Rattle.muck_prop.specs.Paths.{path_fault, segments_of}
-use Rattle.muck_live.specs.declared.object.Object.{Object}
-use Rattle.muck_live.specs.declared.fault.DbFault.{DbFault}
-use Rattle.muck_live.specs.declared.fault.DbFault.TheVariants.{NoMemory as WantsMemory}
-use Rattle.muck_live.specs.Flags.{no_flags}
-use Rattle.muck_live.specs.Objects.{Entry, dbref_of, nothing, home, same, object_at}
-use Rattle.muck_live.specs.Setting.{may_link, may_live}
-use Rattle.muck_live.specs.Lives.{Live, Change}
-use Rattle.muck_rights.specs.declared.act.Act.{Act}
-use Rattle.muck_rights.specs.Verdict.{verdict, place_of}
+use Rattle.spec_live.specs.declared.object.Object.{Object}
+use Rattle.spec_live.specs.declared.fault.DbFault.{DbFault}
+use Rattle.spec_live.specs.declared.fault.DbFault.TheVariants.{NoMemory as WantsMemory}
+use Rattle.spec_live.specs.Flags.{no_flags}
+use Rattle.spec_live.specs.Objects.{Entry, dbref_of, nothing, home, same, object_at}
+use Rattle.spec_live.specs.Setting.{may_link, may_live}
+use Rattle.spec_live.specs.Lives.{Live, Change}
+use Rattle.spec_rights.specs.declared.act.Act.{Act}
+use Rattle.spec_rights.specs.Verdict.{verdict, place_of}
 use Rattle.muck_perm.specs.declared.rules.Pass.{Pass}
 use Rattle.muck_perm.specs.declared.guard.Guard.{Guard}
 

@@ -1,8 +1,8 @@
 -- What asking for leave answers.
 use Rattle.std.specs.Prelude.{◌≡◌, Option, Some, None, Result, Ok, Err}
 use Rattle.muck_model.specs.declared.dbref.Denial.{Denial}
-use Rattle.muck_rights.specs.declared.act.Actor.{Actor}
-use Rattle.muck_rights.specs.declared.act.Act.{Act}
+use Rattle.spec_rights.specs.declared.act.Actor.{Actor}
+use Rattle.spec_rights.specs.declared.act.Act.{Act}
 use Rattle.muck_perm.specs.declared.rules.Pass.{Pass}
 
 -- a pass for this actor and act, where nothing denies it; else the denial

@@ -1,12 +1,12 @@
 // Flags with one set or cleared.
 ghost use Rattle.std.specs.Prelude.{◌≡◌, ◌<◌, ◌^◌, true};
-ghost use Rattle.muck_live.specs.Flags.{with_flag, without_flag};
-ghost use Rattle.muck_rights.specs.Changing.{is_flag};
+ghost use Rattle.spec_live.specs.Flags.{with_flag, without_flag};
+ghost use Rattle.spec_rights.specs.Changing.{is_flag};
 ghost use Rattle.muck_perm.specs.Guards.{flags_at};
 
 use muck_db::Db;
-use muck_live::has_flag;
 use muck_model::{Dbref, Flags};
+use spec_live::has_flag;
 
 // The flags of an object, none where it isn't there.
 pub fn flags_at(db: &Db, d: Dbref) -> Flags

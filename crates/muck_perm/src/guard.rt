@@ -4,18 +4,18 @@ ghost use Rattle.std.specs.Option.{option_copied, option_and_then, option_map};
 ghost use Rattle.std.specs.FinMap.{get};
 ghost use Rattle.muck_model.specs.declared.dbref.Kind.{Kind};
 ghost use Rattle.muck_prop.specs.Paths.{class_of};
-ghost use Rattle.muck_live.specs.Objects.{dbref_of, nothing, home, object_at};
-ghost use Rattle.muck_live.specs.Lives.{tell, tell_player, tell_others, tell_all};
-ghost use Rattle.muck_live.specs.Flags.{with_flag, without_flag};
-ghost use Rattle.muck_live.specs.Moving.{move_check};
-ghost use Rattle.muck_live.specs.Making.{create_check};
-ghost use Rattle.muck_live.specs.Setting.{any, checked, owner_check, link_check, home_check, flags_check, level_check, lines_check, password_check, with_link, with_home, with_level};
-ghost use Rattle.muck_live.specs.Recycling.{recycle_check};
-ghost use Rattle.muck_rights.specs.declared.act.Act.{Act};
-ghost use Rattle.muck_rights.specs.Levels.{level_at};
-ghost use Rattle.muck_rights.specs.Verdict.{is_guarded, lock_of_object};
-ghost use Rattle.muck_rights.specs.Changing.{named, owned_by, linked, homed, leveled, lines_kept, stored, unstored, moved_to, recycled_now, created_so, is_flag, flag_set, flag_cleared, password_kept, booted, tuned};
-ghost use Rattle.muck_rights.specs.Licence.{at_hand};
+ghost use Rattle.spec_live.specs.Objects.{dbref_of, nothing, home, object_at};
+ghost use Rattle.spec_live.specs.Lives.{tell, tell_player, tell_others, tell_all};
+ghost use Rattle.spec_live.specs.Flags.{with_flag, without_flag};
+ghost use Rattle.spec_live.specs.Moving.{move_check};
+ghost use Rattle.spec_live.specs.Making.{create_check};
+ghost use Rattle.spec_live.specs.Setting.{any, checked, owner_check, link_check, home_check, flags_check, level_check, lines_check, password_check, with_link, with_home, with_level};
+ghost use Rattle.spec_live.specs.Recycling.{recycle_check};
+ghost use Rattle.spec_rights.specs.declared.act.Act.{Act};
+ghost use Rattle.spec_rights.specs.Levels.{level_at};
+ghost use Rattle.spec_rights.specs.Verdict.{is_guarded, lock_of_object};
+ghost use Rattle.spec_rights.specs.Changing.{named, owned_by, linked, homed, leveled, lines_kept, stored, unstored, moved_to, recycled_now, created_so, is_flag, flag_set, flag_cleared, password_kept, booted, tuned};
+ghost use Rattle.spec_rights.specs.Licence.{at_hand};
 ghost use Rattle.muck_perm.specs.Guards.{Did, Done, IsLeave, IsGiven, is_here, Makes, Tries, Founds, flags_at, home_in, may_lead, may_house, kept_text, text_kept};
 
 use crate::flags::{flags_at, with_flag, without_flag};
@@ -23,10 +23,10 @@ use crate::levels::level_at;
 use crate::rules::Pass;
 use muck_board::Board;
 use muck_db::Db;
-use muck_live::DbFault;
 use muck_model::{Dbref, Flags, Kind, Line, LineList, NoMemory, Tune};
 use muck_prop::{Path, PropValue};
-use muck_rights::{Act, Actor};
+use spec_live::DbFault;
+use spec_rights::{Act, Actor};
 use std::alloc::Global;
 
 const NOTHING: Dbref = Dbref(-1);
@@ -97,7 +97,7 @@ impl<'a> Guard<'a> {
     }
 
     /// Sends a text to a connection.
-    #[tactic(auto, unfolding(muck_live::specs::Lives::tell))]
+    #[tactic(auto, unfolding(spec_live::specs::Lives::tell))]
     pub fn tell(&mut self, d: u32, text: &[u8]) -> Result<(), NoMemory>
         ensures { Did (tell d text.now) self.old self.new result }
     {
@@ -106,7 +106,7 @@ impl<'a> Guard<'a> {
     }
 
     /// Sends a text to all connections of a player.
-    #[tactic(auto, unfolding(muck_live::specs::Lives::tell_player))]
+    #[tactic(auto, unfolding(spec_live::specs::Lives::tell_player))]
     pub fn tell_player(&mut self, player: Dbref, text: &[u8]) -> Result<(), NoMemory>
         ensures { Did (tell_player player text.now) self.old self.new result }
     {
@@ -115,7 +115,7 @@ impl<'a> Guard<'a> {
     }
 
     /// Sends a text to the players in a room but one.
-    #[tactic(auto, unfolding(muck_live::specs::Lives::tell_others))]
+    #[tactic(auto, unfolding(spec_live::specs::Lives::tell_others))]
     pub fn tell_others(&mut self, room: Dbref, but: Dbref, text: &[u8]) -> Result<(), NoMemory>
         ensures { Did (tell_others room but text.now) self.old self.new result }
     {
@@ -124,7 +124,7 @@ impl<'a> Guard<'a> {
     }
 
     /// Sends a text to all players.
-    #[tactic(auto, unfolding(muck_live::specs::Lives::tell_all))]
+    #[tactic(auto, unfolding(spec_live::specs::Lives::tell_all))]
     pub fn tell_all(&mut self, text: &[u8]) -> Result<(), NoMemory>
         ensures { Did (tell_all text.now) self.old self.new result }
     {
@@ -403,7 +403,7 @@ impl<'a> Guard<'a> {
     }
 
     /// The connections of a player are to leave.
-    #[tactic(auto, unfolding(muck_rights::specs::Changing::booted, muck_live::specs::Boards::left_player))]
+    #[tactic(auto, unfolding(spec_rights::specs::Changing::booted, spec_live::specs::Boards::left_player))]
     pub fn boot(&mut self, pass: Pass, player: Dbref)
         requires { IsLeave pass Act.Wizard self.old }
         ensures { Done (booted player) self.old self.new }
@@ -413,7 +413,7 @@ impl<'a> Guard<'a> {
     }
 
     /// Sets what a wizard tunes.
-    #[tactic(auto, unfolding(muck_rights::specs::Changing::tuned, muck_live::specs::Boards::tuned))]
+    #[tactic(auto, unfolding(spec_rights::specs::Changing::tuned, spec_live::specs::Boards::tuned))]
     pub fn set_tune(&mut self, pass: Pass, tune: Tune)
         requires { IsLeave pass Act.Wizard self.old }
         ensures { Done (tuned tune) self.old self.new }

@@ -1,10 +1,10 @@
 // Levels, users and control.
 ghost use Rattle.std.specs.Prelude.{◌≡◌, ◌<◌, ◌≤◌, ◌==◌, min, nat_lt, length};
-ghost use Rattle.muck_rights.specs.Levels.{level_of, level_at, owner_at, flag_at, is_player_at, owns, controls_as, command_level, effective, inherits, level, own_user, user};
+ghost use Rattle.spec_rights.specs.Levels.{level_of, level_at, owner_at, flag_at, is_player_at, owns, controls_as, command_level, effective, inherits, level, own_user, user};
 
 use muck_db::Db;
-use muck_live::{HAVEN, Object, QUELL, SETUID, WIZARD, has_flag};
 use muck_model::{Dbref, Kind};
+use spec_live::{HAVEN, Object, QUELL, SETUID, WIZARD, has_flag};
 
 /// The highest level, that of a wizard.
 pub const MASTER: u8 = 4;
@@ -24,7 +24,7 @@ fn level_of(object: &Object) -> u8
 }
 
 /// The level of an object, 0 where it isn't there.
-#[tactic(auto, unfolding(muck_rights::specs::Levels::level_at))]
+#[tactic(auto, unfolding(spec_rights::specs::Levels::level_at))]
 pub fn level_at(db: &Db, d: Dbref) -> u8
     ensures { result ≡ level_at db.now d }
 {
@@ -35,7 +35,7 @@ pub fn level_at(db: &Db, d: Dbref) -> u8
 }
 
 /// The owner of an object, `#-1` where it isn't there.
-#[tactic(auto, unfolding(muck_rights::specs::Levels::owner_at))]
+#[tactic(auto, unfolding(spec_rights::specs::Levels::owner_at))]
 pub fn owner_at(db: &Db, d: Dbref) -> Dbref
     ensures { result ≡ owner_at db.now d }
 {
@@ -46,7 +46,7 @@ pub fn owner_at(db: &Db, d: Dbref) -> Dbref
 }
 
 /// Whether an object is there and has the flag.
-#[tactic(auto, unfolding(muck_rights::specs::Levels::flag_at))]
+#[tactic(auto, unfolding(spec_rights::specs::Levels::flag_at))]
 pub fn flag_at(flag: u16, db: &Db, d: Dbref) -> bool
     requires { 0 < flag }
     ensures { result ≡ flag_at flag db.now d }
@@ -58,7 +58,7 @@ pub fn flag_at(flag: u16, db: &Db, d: Dbref) -> bool
 }
 
 /// Whether it is a player.
-#[tactic(auto, unfolding(muck_rights::specs::Levels::is_player_at))]
+#[tactic(auto, unfolding(spec_rights::specs::Levels::is_player_at))]
 pub fn is_player_at(db: &Db, d: Dbref) -> bool
     ensures { result ≡ is_player_at db.now d }
 {
@@ -69,7 +69,7 @@ pub fn is_player_at(db: &Db, d: Dbref) -> bool
 }
 
 // Whether the user owns the object; a player owns itself.
-#[tactic(auto, unfolding(muck_rights::specs::Levels::owns))]
+#[tactic(auto, unfolding(spec_rights::specs::Levels::owns))]
 fn owns(db: &Db, user: Dbref, d: Dbref) -> bool
     ensures { result ≡ owns db.now user d }
 {
@@ -82,7 +82,7 @@ fn owns(db: &Db, user: Dbref, d: Dbref) -> bool
 }
 
 /// Whether somebody at that level, with that user, controls the object.
-#[tactic(auto, unfolding(muck_rights::specs::Levels::controls_as))]
+#[tactic(auto, unfolding(spec_rights::specs::Levels::controls_as))]
 pub fn controls_as(db: &Db, level: u8, user: Dbref, d: Dbref) -> bool
     ensures { result ≡ controls_as db.now level user d }
 {
@@ -90,7 +90,7 @@ pub fn controls_as(db: &Db, level: u8, user: Dbref, d: Dbref) -> bool
 }
 
 /// The lesser of a program's own level and its owner's.
-#[tactic(auto, unfolding(muck_rights::specs::Levels::effective))]
+#[tactic(auto, unfolding(spec_rights::specs::Levels::effective))]
 pub fn effective(db: &Db, program: Dbref) -> u8
     ensures { result ≡ effective db.now program }
 {
@@ -98,7 +98,7 @@ pub fn effective(db: &Db, program: Dbref) -> u8
 }
 
 /// The level at which a command acts: the highest where its player is a wizard, and else 1.
-#[tactic(auto, unfolding(muck_rights::specs::Levels::command_level))]
+#[tactic(auto, unfolding(spec_rights::specs::Levels::command_level))]
 pub fn command_level(db: &Db, player: Dbref) -> u8
     ensures { result ≡ command_level db.now player }
 {
@@ -110,7 +110,7 @@ pub fn command_level(db: &Db, player: Dbref) -> u8
 }
 
 // Whether a program has the level and the user of the one that called it.
-#[tactic(auto, unfolding(muck_rights::specs::Levels::inherits))]
+#[tactic(auto, unfolding(spec_rights::specs::Levels::inherits))]
 fn inherits(db: &Db, program: Dbref) -> bool
     ensures { result ≡ inherits db.now program }
 {
@@ -121,7 +121,7 @@ fn inherits(db: &Db, program: Dbref) -> bool
 
 /// The level of a running program, which these called, the nearest first. It is the lesser of the program's and its
 /// owner's, but that of its caller where it has S and H and a wizard owns it. It takes no memory.
-#[tactic(auto, unfolding(muck_rights::specs::Levels::level))]
+#[tactic(auto, unfolding(spec_rights::specs::Levels::level))]
 pub fn level(db: &Db, program: Dbref, callers: &[Dbref]) -> u8
     ensures { result ≡ level db.now program callers.now }
 {
@@ -138,7 +138,7 @@ pub fn level(db: &Db, program: Dbref, callers: &[Dbref]) -> u8
 }
 
 // The user of a program by its own flags.
-#[tactic(auto, unfolding(muck_rights::specs::Levels::own_user))]
+#[tactic(auto, unfolding(spec_rights::specs::Levels::own_user))]
 fn own_user(db: &Db, player: Dbref, trigger: Dbref, program: Dbref) -> Dbref
     ensures { result ≡ own_user db.now player trigger program }
 {
@@ -155,7 +155,7 @@ fn own_user(db: &Db, player: Dbref, trigger: Dbref, program: Dbref) -> Dbref
 /// The user of a running program, by whose rights it acts: its owner where it has S or is below level 2, else the owner
 /// of what triggered it where it has H, else the player; but the user of its caller where it has S and H and a wizard
 /// owns it. It takes no memory.
-#[tactic(auto, unfolding(muck_rights::specs::Levels::user))]
+#[tactic(auto, unfolding(spec_rights::specs::Levels::user))]
 pub fn user(db: &Db, player: Dbref, trigger: Dbref, program: Dbref, callers: &[Dbref]) -> Dbref
     ensures { result ≡ user db.now player trigger program callers.now }
 {

@@ -1,14 +1,14 @@
 // Whose locks open.
 ghost use Rattle.std.specs.Prelude.{◌≡◌};
 ghost use Rattle.std.specs.Option.{option_copied};
-ghost use Rattle.muck_live.specs.declared.object.Object.{Object};
-ghost use Rattle.muck_rights.specs.Verdict.{lock_of_object, kept_opens, opens_at};
+ghost use Rattle.spec_live.specs.declared.object.Object.{Object};
+ghost use Rattle.spec_rights.specs.Verdict.{lock_of_object, kept_opens, opens_at};
 
 use muck_db::Db;
-use muck_live::Object;
 use muck_lock::text_opens;
 use muck_model::Dbref;
 use muck_prop::PropValue;
+use spec_live::Object;
 
 // What is kept as the lock of an object.
 fn kept_lock(object: &Object) -> Option<&PropValue>
@@ -18,7 +18,7 @@ fn kept_lock(object: &Object) -> Option<&PropValue>
 }
 
 // Whether what is kept as a lock opens for x.
-#[tactic(auto, unfolding(muck_live::specs::Seen::holdings_of))]
+#[tactic(auto, unfolding(spec_live::specs::Seen::holdings_of))]
 fn kept_opens(db: &Db, x: Dbref, kept: &PropValue) -> bool
     ensures { result ≡ kept_opens db.now x kept.now }
 {
@@ -30,7 +30,7 @@ fn kept_opens(db: &Db, x: Dbref, kept: &PropValue) -> bool
 
 /// Whether the lock of an object opens for x; without a lock it does, and what isn't the text of a lock opens for
 /// nobody. It takes no memory.
-#[tactic(auto, unfolding(muck_rights::specs::Verdict::opens_at))]
+#[tactic(auto, unfolding(spec_rights::specs::Verdict::opens_at))]
 pub fn opens_at(db: &Db, x: Dbref, d: Dbref) -> bool
     ensures { result ≡ opens_at db.now x d }
 {

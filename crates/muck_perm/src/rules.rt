@@ -2,17 +2,17 @@
 ghost use Rattle.std.specs.Prelude.{◌≡◌, ◌<◌, Some, None};
 ghost use Rattle.std.specs.Option.{option_map};
 ghost use Rattle.muck_prop.specs.Paths.{class_of};
-ghost use Rattle.muck_rights.specs.declared.act.Act.{Act};
-ghost use Rattle.muck_rights.specs.Verdict.{verdict, denial, when, controls, controls_or, is_near, open_place, open_target, may_build, may_take_over, is_program_at, place_of, below, is_hidden, is_kept, is_private, is_guarded, is_plain};
+ghost use Rattle.spec_rights.specs.declared.act.Act.{Act};
+ghost use Rattle.spec_rights.specs.Verdict.{verdict, denial, when, controls, controls_or, is_near, open_place, open_target, may_build, may_take_over, is_program_at, place_of, below, is_hidden, is_kept, is_private, is_guarded, is_plain};
 ghost use Rattle.muck_perm.specs.Verdicts.{IsVerdict};
 
 use crate::levels::{controls_as, effective, flag_at, is_player_at, level_at, owner_at};
 use crate::locks::opens_at;
 use muck_db::Db;
-use muck_live::{BUILDER, CHOWN, JUMP, LINK, WIZARD, has_flag};
 use muck_model::{Dbref, Denial, Flags, Kind};
 use muck_prop::{Class, Path};
-use muck_rights::{Act, Actor, Rule};
+use spec_live::{BUILDER, CHOWN, JUMP, LINK, WIZARD, has_flag};
+use spec_rights::{Act, Actor, Rule};
 
 const NOTHING: Dbref = Dbref(-1);
 
@@ -242,7 +242,7 @@ fn end_denial(db: &Db, actor: &Actor, player: Dbref, program: Dbref) -> Option<D
     )
 }
 
-#[tactic(auto, unfolding(muck_rights::specs::Verdict::controls))]
+#[tactic(auto, unfolding(spec_rights::specs::Verdict::controls))]
 fn controls(db: &Db, actor: &Actor, d: Dbref) -> bool
     ensures { result ≡ controls db.now actor.now d }
 {
@@ -250,7 +250,7 @@ fn controls(db: &Db, actor: &Actor, d: Dbref) -> bool
 }
 
 // Whether the actor controls the object, or it has the flag.
-#[tactic(auto, unfolding(muck_rights::specs::Verdict::controls_or))]
+#[tactic(auto, unfolding(spec_rights::specs::Verdict::controls_or))]
 fn controls_or(flag: u16, db: &Db, actor: &Actor, d: Dbref) -> bool
     requires { 0 < flag }
     ensures { result ≡ controls_or flag db.now actor.now d }
@@ -307,7 +307,7 @@ fn place_of(db: &Db, d: Dbref) -> Dbref
     }
 }
 
-#[tactic(auto, unfolding(muck_rights::specs::Verdict::is_near))]
+#[tactic(auto, unfolding(spec_rights::specs::Verdict::is_near))]
 fn is_near(db: &Db, player: Dbref, d: Dbref) -> bool
     ensures { result ≡ is_near db.now player d }
 {

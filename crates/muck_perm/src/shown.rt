@@ -1,16 +1,16 @@
 // How objects are named to players.
 ghost use Rattle.std.specs.Prelude.{◌≡◌, ◌++◌, ◌∷◌, [], ◌<◌, IfOk, OnOk, codes, decimal, drop, length};
 ghost use Rattle.std.specs.List.{filter};
-ghost use Rattle.muck_live.specs.Flags.{has_flag, flag_of};
-ghost use Rattle.muck_live.specs.Objects.{object_at, index_of};
-ghost use Rattle.muck_live.specs.Lives.{Live};
-ghost use Rattle.muck_live.specs.Seen.{kind_letter, flag_letters, level_letters, long_form};
-ghost use Rattle.muck_rights.specs.Levels.{number_of, shown_as, name_shown};
+ghost use Rattle.spec_live.specs.Flags.{has_flag, flag_of};
+ghost use Rattle.spec_live.specs.Objects.{object_at, index_of};
+ghost use Rattle.spec_live.specs.Lives.{Live};
+ghost use Rattle.spec_live.specs.Seen.{kind_letter, flag_letters, level_letters, long_form};
+ghost use Rattle.spec_rights.specs.Levels.{number_of, shown_as, name_shown};
 
 use crate::levels::{command_level, controls_as};
 use muck_db::Db;
-use muck_live::{Object, flag_of, has_flag};
 use muck_model::{Dbref, Flags, Kind, NoMemory};
+use spec_live::{Object, flag_of, has_flag};
 use std::alloc::Global;
 
 /// The letters of all flags, in their order.
@@ -30,7 +30,7 @@ fn kind_letter(kind: Kind) -> &'static [u8]
 }
 
 // The letters of the flags that are set.
-#[tactic(auto, unfolding(muck_live::specs::Seen::flag_letters))]
+#[tactic(auto, unfolding(spec_live::specs::Seen::flag_letters))]
 fn add_flags(text: &mut Vec<u8>, flags: Flags) -> Result<(), NoMemory>
     ensures { OnOk result (text.new.items ≡ text.old.items ++ flag_letters flags) }
 {
@@ -65,7 +65,7 @@ fn add_level(alloc: Global, text: &mut Vec<u8>, level: u8) -> Result<(), NoMemor
 
 /// The long form of an object of that number: its name, and in parentheses the number, the letter of its kind, those of
 /// its flags, and its level where it isn't 0.
-#[tactic(auto, unfolding(muck_live::specs::Seen::long_form))]
+#[tactic(auto, unfolding(spec_live::specs::Seen::long_form))]
 pub fn long_form(alloc: Global, n: u32, object: &Object) -> Result<Vec<u8>, NoMemory>
     ensures { IfOk result (λ text. text.items ≡ long_form n object.now) }
 {
@@ -88,7 +88,7 @@ fn number_of(d: Dbref) -> u32
 }
 
 /// The name of an object as a player sees it: its long form where the player controls it. What isn't there has none.
-#[tactic(auto, unfolding(muck_rights::specs::Levels::name_shown))]
+#[tactic(auto, unfolding(spec_rights::specs::Levels::name_shown))]
 pub fn name_shown(alloc: Global, db: &Db, player: Dbref, d: Dbref) -> Result<Vec<u8>, NoMemory>
     ensures { IfOk result (λ text. (w : Live) → w.objects ≡ db.now → text.items ≡ name_shown player d w) }
 {

@@ -5,7 +5,7 @@ use Rattle.std.specs.Option.{option_map, option_map_or}
 use Rattle.std.specs.Ordering.{int_eq}
 use Rattle.muck_model.specs.declared.dbref.Dbref.{Dbref}
 use Rattle.muck_model.specs.declared.tune.Tune.{Tune}
-use Rattle.muck_live.specs.Objects.{same, nothing}
+use Rattle.spec_live.specs.Objects.{same, nothing}
 use Rattle.muf_model.specs.Chains.{programs_of}
 use Rattle.muck_queue.specs.declared.process.Process.{Process}
 

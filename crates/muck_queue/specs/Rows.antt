@@ -2,7 +2,7 @@
 use Rattle.std.specs.Prelude.{◌≡◌, ℕ, ℤ, pos, true, false, List, [], ◌∷◌, map, refl, codes, Some, None}
 use Rattle.std.specs.Option.{option_map}
 use Rattle.muck_model.specs.declared.tune.Tune.{Tune}
-use Rattle.muck_live.specs.Objects.{dbref_of, nothing}
+use Rattle.spec_live.specs.Objects.{dbref_of, nothing}
 use Rattle.muf_model.specs.declared.code.Closer.TheVariants.{Semicolon}
 use Rattle.muf_model.specs.Tree.{stop, closes}
 use Rattle.muf_model.specs.Source.{Program, Source, entering}

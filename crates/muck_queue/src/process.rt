@@ -3,7 +3,7 @@ ghost use Rattle.std.specs.Prelude.{◌≡◌, if◌then◌else◌};
 ghost use Rattle.muck_queue.specs.Queues.{has_pid, is_of, is_due, is_before, is_tied_to, runs, has_trigger, without_trigger};
 
 use muck_model::{Dbref, Line};
-use muf_process::Running;
+use muf_running::Running;
 
 /// How a process runs.
 #[derive(Clone, Copy, PartialEq, Eq, Debug)]

@@ -23,7 +23,7 @@ pub struct Queue {
 
 impl Model for Queue {
     ghost use Rattle.std.specs.Coded.{codes};
-    ghost use Rattle.muf_process.specs.contracts.running.Running as running;
+    ghost use Rattle.muf_running.specs.contracts.running.Running as running;
     ghost use Rattle.muck_queue.specs.Queues.{Queue as Table};
 
     ghost Value = { Table };

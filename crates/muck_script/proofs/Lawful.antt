@@ -4,14 +4,14 @@ use Rattle.std.proofs.lemmas.Bool.{ltb-true}
 use Rattle.muck_model.specs.declared.event.Entry.{Entry}
 use Rattle.muck_model.specs.declared.event.Event.{Event}
 use Rattle.muck_model.specs.declared.event.Event.TheVariants.{Opened, Input, Closed, Exec, Claim, Slice, Take, Halt, Died}
-use Rattle.muck_event.specs.World.{World, queue_of, is_leaving, starting}
-use Rattle.muck_event.specs.Steps.{is_lawful, effect, next_ready, next_process}
-use Rattle.muck_live.specs.Connections.{connections_most}
-use Rattle.muck_event.specs.Histories.{after, AllLawful, by_porter}
-use Rattle.muck_event.specs.Sound.{IsSound}
-use Rattle.muck_event.proofs.Reached.{sound-effect, exec_lawful, take_lawful, close_lawful, halt_lawful, sound-starting}
-use Rattle.muck_event.proofs.Claims.{claim_lawful, slice_lawful}
-use Rattle.muck_event.proofs.Runs.{after-append, lawful-append}
+use Rattle.spec_events.specs.World.{World, queue_of, is_leaving, starting}
+use Rattle.spec_events.specs.Steps.{is_lawful, effect, next_ready, next_process}
+use Rattle.spec_live.specs.Connections.{connections_most}
+use Rattle.spec_events.specs.Histories.{after, AllLawful, by_porter}
+use Rattle.spec_events.specs.Sound.{IsSound}
+use Rattle.spec_events.proofs.Reached.{sound-effect, exec_lawful, take_lawful, close_lawful, halt_lawful, sound-starting}
+use Rattle.spec_events.proofs.Claims.{claim_lawful, slice_lawful}
+use Rattle.spec_events.proofs.Runs.{after-append, lawful-append}
 use Rattle.muck_script.specs.declared.act.Act.{Act}
 use Rattle.muck_script.specs.declared.act.Act.TheVariants.{Nothing, Open, Send}
 use Rattle.muck_script.specs.Story.{both, acted, chosen, next_turn, turn_entries, turn, turns, turns_most, taken, parted, served, line_story, story}

@@ -3,9 +3,9 @@ use Rattle.std.proofs.Common.{◌≡◌, ℕ, ◌+◌, ◌<◌, ◌≤◌, List,
 use Rattle.std.specs.Prelude.{is_some, true, false}
 use Rattle.muck_model.specs.declared.event.Entry.{Entry}
 use Rattle.muck_model.specs.declared.event.Event.TheVariants.{Died}
-use Rattle.muck_event.specs.World.{World}
-use Rattle.muck_event.specs.Histories.{History, now, after, extended, by_porter}
-use Rattle.muck_event.proofs.Runs.{now-extended, extended-append}
+use Rattle.spec_events.specs.World.{World}
+use Rattle.spec_events.specs.Histories.{History, now, after, extended, by_porter}
+use Rattle.spec_events.proofs.Runs.{now-extended, extended-append}
 use Rattle.muck_script.specs.Story.{Turn, next_turn, turn_entries, turn, turns, counted, turns_taken}
 use Rattle.muck_script.specs.Settling.{entries_of, DiedDuring}
 

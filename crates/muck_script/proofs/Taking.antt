@@ -2,11 +2,11 @@
 use Rattle.std.proofs.Common.{◌≡◌, ℕ, ℤ, true, [], ◌∷◌, refl, sym, ◌∙◌, ap, Option, Some, None, Result, Ok, Err}
 use Rattle.std.specs.Prelude.{is_some, OnErr}
 use Rattle.muck_model.specs.declared.event.Event.TheVariants.{Exec, Claim, Slice, Died}
-use Rattle.muck_event.specs.World.{World}
-use Rattle.muck_event.specs.Steps.{is_lawful, next_ready, next_process}
-use Rattle.muck_event.specs.Histories.{History, now, extended, entered, by_porter}
-use Rattle.muck_event.proofs.Runs.{now-extended, extended-append}
-use Rattle.muck_event.proofs.Claims.{chosen_lawful}
+use Rattle.spec_events.specs.World.{World}
+use Rattle.spec_events.specs.Steps.{is_lawful, next_ready, next_process}
+use Rattle.spec_events.specs.Histories.{History, now, extended, entered, by_porter}
+use Rattle.spec_events.proofs.Runs.{now-extended, extended-append}
+use Rattle.spec_events.proofs.Claims.{chosen_lawful}
 use Rattle.muck_script.specs.Story.{Turn, of_line, chosen, next_turn}
 use Rattle.muck_script.specs.Settling.{entries_of, slice_of, DiedDuring}
 use Rattle.muck_script.proofs.Stories.{nothing_more}

@@ -5,15 +5,15 @@ use Rattle.muck_model.specs.Decimal.{decimal_of}
 use Rattle.muck_model.specs.Bytes.{text_most}
 use Rattle.muck_script.specs.declared.act.Act.TheVariants.{Nothing, Open, Send}
 use Rattle.muck_script.specs.Lines.{lines_of}
-use Rattle.muck_live.specs.Output.{sent_lines, queue_most, bytes_of, lines_bytes, line_sent, lines_sent, sent, taken, lines_taken}
-use Rattle.muck_live.specs.Boards.{early_board, opened, closed, line_added, bytes_taken, told_one, leaving_one}
-use Rattle.muck_live.specs.Lives.{followed, reading, either, unchanged, tell, leave}
-use Rattle.muck_event.specs.World.{starting, booted}
-use Rattle.muck_world.specs.Replies.{goodbye}
-use Rattle.muck_world.specs.Talk.{welcome, at_login, quit, waits, parted, gone_away}
+use Rattle.spec_live.specs.Output.{sent_lines, queue_most, bytes_of, lines_bytes, line_sent, lines_sent, sent, taken, lines_taken}
+use Rattle.spec_live.specs.Boards.{early_board, opened, closed, line_added, bytes_taken, told_one, leaving_one}
+use Rattle.spec_live.specs.Lives.{followed, reading, either, unchanged, tell, leave}
+use Rattle.spec_events.specs.World.{starting, booted}
+use Rattle.spec_commands.specs.Replies.{goodbye}
+use Rattle.spec_commands.specs.Talk.{welcome, at_login, quit, waits, parted, gone_away}
 use Rattle.muck_queue.specs.Queues.{empty_queue, next_due, is_tied, ended_tied}
-use Rattle.muck_event.specs.Lines.{done}
-use Rattle.muck_event.specs.Steps.{is_lawful, effect, next_ready, next_process}
+use Rattle.spec_events.specs.Lines.{done}
+use Rattle.spec_events.specs.Steps.{is_lawful, effect, next_ready, next_process}
 use Rattle.muck_script.specs.Script.{act_of, script_of, script_most}
 use Rattle.muck_script.specs.Story.{next_turn, turns, served, line_story, told, transcript}
 

@@ -4,7 +4,7 @@ use Rattle.std.specs.Option.{option_map}
 use Rattle.std.specs.Str.{bytes_eq}
 use Rattle.std.specs.List.{list_any, list_all}
 use Rattle.muck_model.specs.Decimal.{decimal_of}
-use Rattle.muck_world.specs.Texts.{is_space, first_word, other_words}
+use Rattle.spec_commands.specs.Texts.{is_space, first_word, other_words}
 use Rattle.muck_script.specs.declared.act.Act.{Act}
 use Rattle.muck_script.specs.declared.act.Act.TheVariants.{Nothing, Open, Send}
 use Rattle.muck_script.specs.Lines.{lines_of}

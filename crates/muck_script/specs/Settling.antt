@@ -2,7 +2,7 @@
 use Rattle.std.specs.Prelude.{◌≡◌, ℤ, List, [], ◌∷◌, ◌++◌, Option, Some, None}
 use Rattle.muck_model.specs.declared.event.Entry.{Entry}
 use Rattle.muck_model.specs.declared.event.Event.TheVariants.{Died}
-use Rattle.muck_event.specs.Histories.{History, extended, by_porter}
+use Rattle.spec_events.specs.Histories.{History, extended, by_porter}
 use Rattle.muck_script.specs.Story.{Turn, of_process, turn_entries}
 
 -- what happens in a turn, if there is one

@@ -5,10 +5,10 @@ use Rattle.std.specs.Fmt.{decimal}
 use Rattle.muck_model.specs.declared.event.Entry.{Entry}
 use Rattle.muck_model.specs.declared.event.Event.{Event}
 use Rattle.muck_model.specs.declared.event.Event.TheVariants.{Opened, Input, Closed, Exec, Claim, Slice, Take, Halt}
-use Rattle.muck_event.specs.World.{World, queue_of, is_leaving}
-use Rattle.muck_event.specs.Steps.{is_lawful, effect, next_ready, next_process}
-use Rattle.muck_live.specs.Connections.{connections_most}
-use Rattle.muck_event.specs.Histories.{after, by_porter}
+use Rattle.spec_events.specs.World.{World, queue_of, is_leaving}
+use Rattle.spec_events.specs.Steps.{is_lawful, effect, next_ready, next_process}
+use Rattle.spec_live.specs.Connections.{connections_most}
+use Rattle.spec_events.specs.Histories.{after, by_porter}
 use Rattle.muck_script.specs.declared.act.Act.{Act}
 use Rattle.muck_script.specs.declared.act.Act.TheVariants.{Nothing, Open, Send}
 use Rattle.muck_script.specs.Lines.{lines_of}

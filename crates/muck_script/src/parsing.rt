@@ -1,12 +1,12 @@
 // What one line of a script asks for.
 ghost use Rattle.std.specs.Prelude.{◌≡◌, ◌==◌, IfOk, Some};
 ghost use Rattle.std.specs.List.{list_any, list_all};
-ghost use Rattle.muck_world.specs.Texts.{is_space};
+ghost use Rattle.spec_commands.specs.Texts.{is_space};
 ghost use Rattle.muck_script.specs.Script.{act_of, asked, sending, send_to, number_of, is_printable, is_input};
 
 use crate::{Act, INPUT_MOST};
 use muck_model::{Line, LineFault, NoMemory, decimal};
-use muck_world::cut_word;
+use spec_commands::cut_word;
 use std::alloc::Global;
 
 /// What a line asks for, or none where it is outside the grammar.

@@ -1,7 +1,7 @@
 // The turns after a line.
 ghost use Rattle.std.specs.Prelude.{◌≡◌, IfOk, OnErr, is_some};
-ghost use Rattle.muck_event.specs.Steps.{next_process};
-ghost use Rattle.muck_event.specs.Histories.{now, extended};
+ghost use Rattle.spec_events.specs.Steps.{next_process};
+ghost use Rattle.spec_events.specs.Histories.{now, extended};
 ghost use Rattle.muck_script.specs.Story.{next_turn, turns, turns_most, turns_taken};
 ghost use Rattle.muck_script.specs.Settling.{entries_of, slice_of, DiedDuring};
 

@@ -1,8 +1,8 @@
 -- A part of a run whose answer is that of its last part.
 use Rattle.std.proofs.Common.{ℕ, List, Option, Result, Ok, Err}
 use Rattle.muck_model.specs.declared.event.Entry.{Entry}
-use Rattle.muck_event.specs.World.{World}
-use Rattle.muck_event.specs.Histories.{History}
+use Rattle.spec_events.specs.World.{World}
+use Rattle.spec_events.specs.Histories.{History}
 use Rattle.muck_script.specs.Story.{both}
 use Rattle.muckd.specs.declared.playing.RunFault.{RunFault}
 use Rattle.muckd.specs.Plays.{Plays, Breaks, PlaysOrBreaks, ending_of}

@@ -7,12 +7,12 @@ use Rattle.muck_io.specs.Sink.{Appends, AppendsFront}
 use Rattle.muck_model.specs.declared.event.Entry.{Entry}
 use Rattle.muck_model.specs.declared.event.Event.{Event}
 use Rattle.muck_model.specs.declared.event.Event.TheVariants.{Opened, Input, Closed, Take, Died}
-use Rattle.muck_event.specs.World.{World, connection, queue_of, is_leaving}
-use Rattle.muck_event.specs.Steps.{effect, is_lawful, is_died}
-use Rattle.muck_event.specs.Histories.{History, after, now, extended, entered, by_porter}
-use Rattle.muck_event.proofs.Living.{dead-happened}
-use Rattle.muck_event.proofs.Reached.{leaving_some}
-use Rattle.muck_event.proofs.Runs.{now-extended, extended-append}
+use Rattle.spec_events.specs.World.{World, connection, queue_of, is_leaving}
+use Rattle.spec_events.specs.Steps.{effect, is_lawful, is_died}
+use Rattle.spec_events.specs.Histories.{History, after, now, extended, entered, by_porter}
+use Rattle.spec_events.proofs.Living.{dead-happened}
+use Rattle.spec_events.proofs.Reached.{leaving_some}
+use Rattle.spec_events.proofs.Runs.{now-extended, extended-append}
 use Rattle.muck_script.specs.Lines.{lines_of}
 use Rattle.muck_script.specs.Story.{both, if_lawful, taken, told, text_of, shown, farewell}
 use Rattle.muckd.specs.Plays.{Plays, Breaks}

@@ -5,9 +5,9 @@ use Rattle.std.proofs.Math.Seq.{drop-cons}
 use Rattle.std.proofs.lemmas.List.{drop_all}
 use Rattle.muck_model.specs.declared.event.Entry.{Entry}
 use Rattle.muck_model.specs.declared.event.Event.TheVariants.{Halt}
-use Rattle.muck_event.specs.World.{World}
-use Rattle.muck_live.specs.Connections.{connections_most}
-use Rattle.muck_event.specs.Histories.{History, now, entered, by_porter}
+use Rattle.spec_events.specs.World.{World}
+use Rattle.spec_live.specs.Connections.{connections_most}
+use Rattle.spec_events.specs.Histories.{History, now, entered, by_porter}
 use Rattle.muck_script.specs.declared.act.Act.{Act}
 use Rattle.muck_script.specs.Story.{both, taken, parted, served, line_story, story, told}
 use Rattle.muckd.specs.Plays.{Plays, Breaks}

@@ -2,11 +2,11 @@
 use Rattle.std.proofs.Common.{◌≡◌, ℕ, ℤ, false, List, [], ◌∷◌, ◌++◌, refl, sym, ◌∙◌, ap, Option, Some, None, suc, zero, subst}
 use Rattle.muck_model.specs.declared.event.Entry.{Entry}
 use Rattle.muck_model.specs.declared.event.Event.TheVariants.{Exec, Claim, Slice, Died}
-use Rattle.muck_event.specs.World.{World}
-use Rattle.muck_event.specs.Steps.{effect}
-use Rattle.muck_event.specs.Histories.{History, now, after, extended, by_porter}
-use Rattle.muck_event.proofs.Living.{dead-happened}
-use Rattle.muck_event.proofs.Runs.{now-extended}
+use Rattle.spec_events.specs.World.{World}
+use Rattle.spec_events.specs.Steps.{effect}
+use Rattle.spec_events.specs.Histories.{History, now, after, extended, by_porter}
+use Rattle.spec_events.proofs.Living.{dead-happened}
+use Rattle.spec_events.proofs.Runs.{now-extended}
 use Rattle.muck_script.specs.Settling.{DiedDuring}
 use Rattle.muck_script.specs.Story.{Turn, of_line, of_process, next_turn, turn_entries, turn, turns, told, text_of}
 use Rattle.muckd.specs.Plays.{Plays, Breaks}

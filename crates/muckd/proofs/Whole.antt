@@ -6,9 +6,9 @@ use Rattle.std.specs.Prelude.{nat_lt}
 use Rattle.muck_io.specs.Source.{HasReadAll}
 use Rattle.muck_model.specs.declared.event.Entry.{Entry}
 use Rattle.muck_model.specs.declared.event.Event.TheVariants.{Died}
-use Rattle.muck_event.specs.World.{World, starting, booted}
-use Rattle.muck_event.specs.Histories.{History, after, now, extended, by_porter, AllLawful}
-use Rattle.muck_event.proofs.Runs.{run_of_lawful}
+use Rattle.spec_events.specs.World.{World, starting, booted}
+use Rattle.spec_events.specs.Histories.{History, after, now, extended, by_porter, AllLawful}
+use Rattle.spec_events.proofs.Runs.{run_of_lawful}
 use Rattle.muck_script.specs.declared.act.Act.{Act}
 use Rattle.muck_script.specs.Script.{script_of, script_most, read_part, refused_at, acts_of}
 use Rattle.muck_script.specs.Lines.{lines_of}

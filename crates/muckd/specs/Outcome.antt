@@ -4,8 +4,8 @@ use Rattle.muck_io.specs.Sink.{Appends}
 use Rattle.muck_io.specs.Faults.{Rose}
 use Rattle.muck_model.specs.declared.event.Entry.{Entry}
 use Rattle.muck_model.specs.declared.event.Event.TheVariants.{Halt, Died}
-use Rattle.muck_event.specs.World.{World, starting}
-use Rattle.muck_event.specs.Histories.{after, by_porter, AllLawful, Run}
+use Rattle.spec_events.specs.World.{World, starting}
+use Rattle.spec_events.specs.Histories.{after, by_porter, AllLawful, Run}
 use Rattle.muck_script.specs.declared.act.Act.{Act}
 use Rattle.muck_script.specs.Script.{script_of}
 use Rattle.muck_script.specs.Story.{story, text_of, transcript}

@@ -1,8 +1,8 @@
 // A run of a script: what it makes happen in the world, and what is written of it.
 ghost use Rattle.std.specs.Prelude.{◌≡◌, ◌≤◌, OnOk, IsErrOf, OnErr, length, false, Option, List, ℕ};
 ghost use Rattle.muck_io.specs.Faults.{Rose};
-ghost use Rattle.muck_event.specs.Histories.{now};
-ghost use Rattle.muck_live.specs.Connections.{connections_most};
+ghost use Rattle.spec_events.specs.Histories.{now};
+ghost use Rattle.spec_live.specs.Connections.{connections_most};
 ghost use Rattle.muck_script.specs.Story.{acted, turns, turns_most, taken, parted, both, served, line_story, story};
 ghost use Rattle.muckd.specs.Plays.{PlaysOrBreaks};
 

@@ -1,8 +1,8 @@
 // The top call.
 ghost use Rattle.std.specs.Prelude.{◌≡◌, ◌↔◌, ◌⊎◌, ℕ, true, false, IfOk, vec_len, map, string_bytes, [], List, Option, ◌≤◌};
 ghost use Rattle.muck_io.specs.Faults.{Rose};
-ghost use Rattle.muck_event.specs.World.{starting};
-ghost use Rattle.muck_event.specs.Histories.{now, extended, AllLicensed};
+ghost use Rattle.spec_events.specs.World.{starting};
+ghost use Rattle.spec_events.specs.Histories.{now, extended, AllLicensed};
 ghost use Rattle.muckd.specs.Words.{is_run};
 ghost use Rattle.muckd.specs.Outcome.{status_of, halted, HasRun, HasAnswered, IsWholeRun, IsTranscribed, IsBrokenRun, IsUnbegun, IsFirstOutside, IsInGrammar};
 
@@ -29,7 +29,7 @@ pub struct Done {
 ///
 /// The first cause stands: the words, then reading the script, then its grammar, then the run. Want of memory may come at
 /// any place.
-#[tactic(auto, using(muck_event::proofs::Turns::all_licensed))]
+#[tactic(auto, using(spec_events::proofs::Turns::all_licensed))]
 pub fn muckd<S: Source, K: Sink>(
     alloc: Global,
     words: &[String],

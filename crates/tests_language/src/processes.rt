@@ -7,7 +7,7 @@ use crate::first_wrong;
 use muck_model::{Dbref, Line, LineFault, NoMemory};
 use muf_compile::compile;
 use muf_model::{Code, Shared};
-use muf_process::{Occasion, Ran, Running, Stint};
+use muf_running::{Occasion, Ran, Running, Stint};
 use muf_token::{MemIncludes, tokens};
 use std::alloc::Global;
 

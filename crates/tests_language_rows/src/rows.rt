@@ -1,7 +1,7 @@
 // Rows of the leaves of the language. In a source `|` stands for the end of a line.
 use muck_db::Db;
+use muck_library::{BuildFault, Library, build};
 use muck_model::{Dbref, Kind, Line, Lock, NoMemory, Row, decimal};
-use muck_program::{BuildFault, Library, build};
 use muck_prop::{PropValue, read_path};
 use muf_compile::compile;
 use muf_frame::Frame;

@@ -5,8 +5,8 @@
 
 ghost use Rattle.std.specs.Prelude.{◌≡◌, IfOk, OnErr, if◌then◌else◌};
 ghost use Rattle.muck_model.specs.declared.event.Event.{Event};
-ghost use Rattle.muck_event.specs.Steps.{is_lawful};
-ghost use Rattle.muck_event.specs.Histories.{now, entered, by_porter};
+ghost use Rattle.spec_events.specs.Steps.{is_lawful};
+ghost use Rattle.spec_events.specs.Histories.{now, entered, by_porter};
 
 #[cfg(test)]
 mod calls;
@@ -20,7 +20,7 @@ use muck_model::NoMemory;
 
 /// A connection goes; `false` exactly where it isn't there or the world is dead, and then nothing happened. After `NoMemory`
 /// the world is dead.
-#[tactic(auto, unfolding(muck_event::specs::Steps::is_lawful))]
+#[tactic(auto, unfolding(spec_events::specs::Steps::is_lawful))]
 pub fn close(world: &mut World, d: u32) -> Result<bool, NoMemory>
     ensures lawful { IfOk result (λ yes. yes ≡ is_lawful (now world.old) (by_porter (Event.Closed d))) }
     ensures step { IfOk result (λ yes. world.new ≡ (if yes then entered world.old (by_porter (Event.Closed d)) else world.old)) }

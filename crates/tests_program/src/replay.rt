@@ -3,11 +3,11 @@
 // taken, and a connection that is leaving goes. A row `3: exec` is a call behind its answer. Then comes what each is sent.
 use crate::close;
 use muck_db::{Db, Persisted};
-use muck_live::BUILDER;
 use muck_machine::World;
 use muck_model::{Dbref, Flags, Kind, Line, NoMemory, Tune};
 use muck_script::{farewell_text, lines_text, settle};
-use muck_world::{cut_word, trim};
+use spec_commands::{cut_word, trim};
+use spec_live::BUILDER;
 use std::alloc::Global;
 use std::test::Fail;
 

@@ -4,23 +4,23 @@ ghost use Rattle.std.specs.List.{position};
 ghost use Rattle.std.specs.Option.{option_map, option_map_or, option_copied};
 ghost use Rattle.std.specs.Str.{bytes_eq};
 ghost use Rattle.std.specs.Char.{to_ascii_lowercase};
-ghost use Rattle.muck_live.specs.Objects.{object_at, is_program};
-ghost use Rattle.muck_rights.specs.Verdict.{verdict};
+ghost use Rattle.spec_live.specs.Objects.{object_at, is_program};
+ghost use Rattle.spec_rights.specs.Verdict.{verdict};
 ghost use Rattle.muf_model.specs.Decode.{tree_of};
 ghost use Rattle.muf_model.specs.Source.{last_word};
-ghost use Rattle.muf_process.specs.Fitting.{IsAtPrimitive};
-ghost use Rattle.muck_program.specs.Library.{formed};
-ghost use Rattle.muck_event.specs.Slices.{acting, behind, call_count, called, called_word, deed, form_called, is_offered, notified};
-ghost use Rattle.muck_event.specs.declared.starting.Agent.{Agent};
+ghost use Rattle.muf_running.specs.Fitting.{IsAtPrimitive};
+ghost use Rattle.muck_library.specs.Library.{formed};
+ghost use Rattle.spec_events.specs.Slices.{acting, behind, call_count, called, called_word, deed, form_called, is_offered, notified};
+ghost use Rattle.spec_events.specs.declared.starting.Agent.{Agent};
 ghost use Rattle.muck_machine.specs.Deeds.{asked_of, told_of, target, Does, DoneAs, Enters, IsWord, MayEnter, Permits};
 
 use crate::state::State;
-use muck_event::Agent;
 use muck_model::{Dbref, Kind, Line, NoMemory};
 use muck_perm::{MASTER, level, user, verdict};
-use muck_rights::{Act, Actor};
 use muf_model::{CALLS_MOST, Code, CodeWord, MufFault, Offer, Prim, Shared};
-use muf_process::Running;
+use muf_running::Running;
+use spec_events::Agent;
+use spec_rights::{Act, Actor};
 use std::alloc::Global;
 
 /// What a shared primitive made of the process at it: it was done, and the process is behind it; or it was refused, and
@@ -81,7 +81,7 @@ struct Entrance {
 
 impl State {
     /// Does the shared primitive that comes next in a process.
-    #[tactic(auto, unfolding(muck_event::specs::Slices::deed), using(crate::proofs::Deeds::other_deed))]
+    #[tactic(auto, unfolding(spec_events::specs::Slices::deed), using(crate::proofs::Deeds::other_deed))]
     pub fn do_deed(&mut self, agent: Agent, prim: Prim, running: Running) -> Result<Done, NoMemory>
         requires { IsAtPrimitive running.now }
         ensures { IfOk result (λ done. DoneAs (deed agent prim running self.old) running self.new done) }
@@ -119,7 +119,7 @@ impl State {
     }
 
     // NOTIFY: a text goes to all connections of a player.
-    #[tactic(auto, unfolding(muck_event::specs::Slices::notified, muck_event::specs::Slices::needing, muck_event::specs::Slices::permitted, muck_event::specs::Slices::existing, muck_live::specs::Lives::tell_player))]
+    #[tactic(auto, unfolding(spec_events::specs::Slices::notified, spec_events::specs::Slices::needing, spec_events::specs::Slices::permitted, spec_events::specs::Slices::existing, spec_live::specs::Lives::tell_player))]
     fn notify(&mut self, agent: Agent, running: &Running) -> Result<(), DeedFault>
         ensures done { Does (notified agent running.now self.old) (behind (drop 2 running.now.stack) running.now) self.new result }
         ensures items { OnOk result (2 ≤ length running.now.stack) }
@@ -137,7 +137,7 @@ impl State {
     }
 
     // CALL: a word of a program is to be entered.
-    #[tactic(auto, unfolding(muck_event::specs::Slices::called, muck_event::specs::Slices::needing, muck_event::specs::Slices::permitted, muck_event::specs::Slices::existing, muck_event::specs::Slices::programmed, muck_event::specs::Slices::program_called))]
+    #[tactic(auto, unfolding(spec_events::specs::Slices::called, spec_events::specs::Slices::needing, spec_events::specs::Slices::permitted, spec_events::specs::Slices::existing, spec_events::specs::Slices::programmed, spec_events::specs::Slices::program_called))]
     fn call(&mut self, agent: Agent, running: &Running) -> Result<Entrance, DeedFault>
         ensures { Enters (called agent running.now self.old) running.now self.new result }
     {

@@ -1,24 +1,24 @@
 // Lines of the editor.
 ghost use Rattle.std.specs.Prelude.{◌≡◌, OnOk, IfOk};
 ghost use Rattle.muck_model.specs.declared.edit.EditState.{EditState};
-ghost use Rattle.muck_live.specs.Lives.{tell};
-ghost use Rattle.muck_world.specs.Finding.{actor_of};
-ghost use Rattle.muck_world.specs.Editing.{IsOpen, is_open, edited};
-ghost use Rattle.muck_event.specs.World.{on_live};
-ghost use Rattle.muck_event.specs.Lines.{with_editor, next_editor, flaw_text, compiled, edited_line, in_editor};
+ghost use Rattle.spec_live.specs.Lives.{tell};
+ghost use Rattle.spec_commands.specs.Finding.{actor_of};
+ghost use Rattle.spec_commands.specs.Editing.{IsOpen, is_open, edited};
+ghost use Rattle.spec_events.specs.World.{on_live};
+ghost use Rattle.spec_events.specs.Lines.{with_editor, next_editor, flaw_text, compiled, edited_line, in_editor};
 
 use crate::commands::actor_of;
 use crate::state::State;
 use muck_edit::{EditStep, Editor, is_open};
-use muck_event::flaw_text;
+use muck_library::Flaw;
 use muck_model::{Dbref, EditState, Line, NoMemory};
 use muck_perm::Guard;
-use muck_program::Flaw;
+use spec_events::flaw_text;
 
 impl State {
     /// A line goes to an editor that was taken from its connection, which goes on or is left. An editor that isn't open
     /// any more is left.
-    #[tactic(auto, unfolding(muck_event::specs::Lines::in_editor, muck_world::specs::Editing::editor_exited))]
+    #[tactic(auto, unfolding(spec_events::specs::Lines::in_editor, spec_commands::specs::Editing::editor_exited))]
     pub fn in_editor(
         &mut self,
         d: u32,
@@ -45,7 +45,7 @@ impl State {
     }
 
     // A line of an editor that is open.
-    #[tactic(auto, unfolding(muck_event::specs::Lines::edited_line))]
+    #[tactic(auto, unfolding(spec_events::specs::Lines::edited_line))]
     fn edit_line(
         &mut self,
         d: u32,
@@ -97,7 +97,7 @@ impl State {
     }
 
     // Builds a program anew, and tells the connection how that went.
-    #[tactic(auto, unfolding(muck_event::specs::Lines::compiled, muck_event::specs::Lines::compiler_done))]
+    #[tactic(auto, unfolding(spec_events::specs::Lines::compiled, spec_events::specs::Lines::compiler_done))]
     fn compile(&mut self, d: u32, program: Dbref) -> Result<(), NoMemory>
         ensures { OnOk result (self.new ≡ compiled d program self.old) }
     {

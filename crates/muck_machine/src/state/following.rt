@@ -1,11 +1,11 @@
 // What follows from a change of objects.
 ghost use Rattle.std.specs.Prelude.{◌≡◌};
-ghost use Rattle.muck_event.specs.Following.{unbuilt, settled};
+ghost use Rattle.spec_events.specs.Following.{unbuilt, settled};
 ghost use Rattle.muck_machine.specs.Followed.{followed_change};
 
 use crate::state::State;
-use muck_live::Changed;
 use muck_model::Dbref;
+use spec_live::Changed;
 
 impl State {
     /// Everything that is to be told of objects is told, with what follows from it: the built form of a program whose

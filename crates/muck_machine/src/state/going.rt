@@ -1,20 +1,20 @@
 // Connections that go.
 ghost use Rattle.std.specs.Prelude.{◌≡◌, OnOk};
 ghost use Rattle.muck_model.specs.declared.event.Event.{Event};
-ghost use Rattle.muck_live.specs.Boards.{player_in};
-ghost use Rattle.muck_event.specs.World.{on_live};
-ghost use Rattle.muck_event.specs.Steps.{happened};
-ghost use Rattle.muck_world.specs.Talk.{parted};
+ghost use Rattle.spec_live.specs.Boards.{player_in};
+ghost use Rattle.spec_events.specs.World.{on_live};
+ghost use Rattle.spec_events.specs.Steps.{happened};
+ghost use Rattle.spec_commands.specs.Talk.{parted};
 
 use crate::commands::actor_of;
 use crate::state::State;
-use cmd_parts::show_others;
+use cmd_common::show_others;
 use muck_model::{Dbref, NoMemory};
 use muck_perm::Guard;
 
 impl State {
     /// A connection goes, and the processes that are tied to it end.
-    #[tactic(auto, unfolding(muck_world::specs::Talk::gone_away, muck_live::specs::Lives::followed, muck_live::specs::Lives::reading))]
+    #[tactic(auto, unfolding(spec_commands::specs::Talk::gone_away, spec_live::specs::Lives::followed, spec_live::specs::Lives::reading))]
     pub fn close(&mut self, d: u32) -> Result<(), NoMemory>
         ensures { OnOk result (self.new ≡ happened self.old 0 (Event.Closed d)) }
     {
@@ -33,7 +33,7 @@ impl State {
     }
 
     // The others where a player is see that its last connection has gone.
-    #[tactic(auto, unfolding(muck_world::specs::Talk::parted, muck_world::specs::Replies::has_disconnected, muck_live::specs::Lives::unchanged, muck_live::specs::Lives::reading))]
+    #[tactic(auto, unfolding(spec_commands::specs::Talk::parted, spec_commands::specs::Replies::has_disconnected, spec_live::specs::Lives::unchanged, spec_live::specs::Lives::reading))]
     fn part(&mut self, player: Option<Dbref>) -> Result<(), NoMemory>
         ensures { OnOk result (self.new ≡ on_live (parted player) self.old) }
     {

@@ -1,20 +1,20 @@
 // Lines that are done.
 ghost use Rattle.std.specs.Prelude.{◌≡◌, IfOk, OnOk, Some};
 ghost use Rattle.muck_model.specs.declared.event.Event.{Event};
-ghost use Rattle.muck_live.specs.Boards.{editor_in};
-ghost use Rattle.muck_world.specs.Finding.{actor_of};
-ghost use Rattle.muck_world.specs.Commands.{played};
-ghost use Rattle.muck_event.specs.Lines.{command, followed_up, in_world, with_editor, editor_on};
-ghost use Rattle.muck_event.specs.Steps.{happened};
-ghost use Rattle.muck_event.specs.World.{on_live};
+ghost use Rattle.spec_live.specs.Boards.{editor_in};
+ghost use Rattle.spec_commands.specs.Finding.{actor_of};
+ghost use Rattle.spec_commands.specs.Commands.{played};
+ghost use Rattle.spec_events.specs.Lines.{command, followed_up, in_world, with_editor, editor_on};
+ghost use Rattle.spec_events.specs.Steps.{happened};
+ghost use Rattle.spec_events.specs.World.{on_live};
 
 use crate::commands::{actor_of, play};
 use crate::state::State;
-use cmd_parts::copy_lines;
-use muck_event::Call;
+use cmd_common::copy_lines;
 use muck_model::{Dbref, EditState, Line, LineList, NoMemory};
 use muck_perm::Guard;
-use muck_world::Outcome;
+use spec_commands::Outcome;
+use spec_events::Call;
 
 impl State {
     /// The first waiting line of a connection is done.
@@ -39,7 +39,7 @@ impl State {
     }
 
     /// A command of a player is done, with what follows from the objects that it changed and what is to follow it.
-    #[tactic(auto, unfolding(muck_event::specs::Lines::in_world))]
+    #[tactic(auto, unfolding(spec_events::specs::Lines::in_world))]
     pub fn in_world(&mut self, d: u32, player: Dbref, line: &Line) -> Result<(), NoMemory>
         ensures { OnOk result (self.new ≡ in_world d player line.now self.old) }
     {
@@ -60,7 +60,7 @@ impl State {
     }
 
     // Does what is to follow a command.
-    #[tactic(auto, unfolding(muck_live::specs::Lives::leave))]
+    #[tactic(auto, unfolding(spec_live::specs::Lives::leave))]
     fn follow_up(&mut self, d: u32, player: Dbref, outcome: Outcome) -> Result<(), NoMemory>
         ensures { OnOk result (self.new ≡ followed_up d player outcome self.old) }
     {

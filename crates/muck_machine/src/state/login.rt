@@ -1,27 +1,27 @@
 // The login screen.
 ghost use Rattle.std.specs.Prelude.{◌≡◌, IfOk, OnOk};
-ghost use Rattle.muck_live.specs.Lives.{followed};
-ghost use Rattle.muck_event.specs.World.{on_live};
-ghost use Rattle.muck_world.specs.Replies.{has_connected};
-ghost use Rattle.muck_world.specs.Finding.{shown_others, looked};
-ghost use Rattle.muck_world.specs.Talking.{who_shown};
-ghost use Rattle.muck_world.specs.Talk.{at_login, connecting, logged_in, proved, let_in, quit};
+ghost use Rattle.spec_live.specs.Lives.{followed};
+ghost use Rattle.spec_events.specs.World.{on_live};
+ghost use Rattle.spec_commands.specs.Replies.{has_connected};
+ghost use Rattle.spec_commands.specs.Finding.{shown_others, looked};
+ghost use Rattle.spec_commands.specs.Talking.{who_shown};
+ghost use Rattle.spec_commands.specs.Talk.{at_login, connecting, logged_in, proved, let_in, quit};
 
 use crate::commands::actor_of;
 use crate::state::State;
-use cmd_parts::show_others;
-use muck_live::DbFault;
+use cmd_common::show_others;
 use muck_match::player_named;
 use muck_model::{Dbref, NoMemory};
 use muck_perm::Guard;
-use muck_world::{alike, cut_word, trim};
+use spec_commands::{alike, cut_word, trim};
+use spec_live::DbFault;
 
 /// What a new connection is shown.
 pub const WELCOME: &[u8] = b"Use: connect NAME PASSWORD, WHO or QUIT.";
 
 impl State {
     /// A line of the login screen is done.
-    #[tactic(auto, unfolding(muck_world::specs::Talk::at_login, muck_world::specs::Talk::welcome, muck_live::specs::Lives::either))]
+    #[tactic(auto, unfolding(spec_commands::specs::Talk::at_login, spec_commands::specs::Talk::welcome, spec_live::specs::Lives::either))]
     pub fn at_login(&mut self, d: u32, line: &[u8]) -> Result<(), NoMemory>
         ensures { OnOk result (self.new ≡ on_live (at_login d line.now) self.old) }
     {
@@ -40,7 +40,7 @@ impl State {
         self.connecting(d, name, trim(password))
     }
 
-    #[tactic(auto, unfolding(muck_world::specs::Talk::connecting, muck_world::specs::Talk::welcome))]
+    #[tactic(auto, unfolding(spec_commands::specs::Talk::connecting, spec_commands::specs::Talk::welcome))]
     fn connecting(&mut self, d: u32, name: &[u8], password: &[u8]) -> Result<(), NoMemory>
         ensures { OnOk result (self.new ≡ on_live (connecting d name.now password.now) self.old) }
     {
@@ -50,7 +50,7 @@ impl State {
         self.log_in(d, name, password)
     }
 
-    #[tactic(auto, unfolding(muck_world::specs::Talk::logged_in, muck_live::specs::Lives::reading))]
+    #[tactic(auto, unfolding(spec_commands::specs::Talk::logged_in, spec_live::specs::Lives::reading))]
     fn log_in(&mut self, d: u32, name: &[u8], password: &[u8]) -> Result<(), NoMemory>
         ensures { OnOk result (self.new ≡ on_live (logged_in d name.now password.now) self.old) }
     {
@@ -59,7 +59,7 @@ impl State {
     }
 
     // The player of a name whose password the word is.
-    #[tactic(auto, unfolding(muck_world::specs::Talk::proved))]
+    #[tactic(auto, unfolding(spec_commands::specs::Talk::proved))]
     fn proved(&self, name: &[u8], word: &[u8]) -> Result<Option<Dbref>, NoMemory>
         ensures { IfOk result (λ player. player ≡ proved name.now word.now self.now.live.objects) }
     {
@@ -74,7 +74,7 @@ impl State {
         }
     }
 
-    #[tactic(auto, unfolding(muck_world::specs::Talk::refused_login, muck_live::specs::Lives::followed, muck_live::specs::Lives::enter))]
+    #[tactic(auto, unfolding(spec_commands::specs::Talk::refused_login, spec_live::specs::Lives::followed, spec_live::specs::Lives::enter))]
     fn let_in(&mut self, d: u32, player: Option<Dbref>) -> Result<(), NoMemory>
         ensures { OnOk result (self.new ≡ on_live (let_in d player) self.old) }
     {
@@ -89,7 +89,7 @@ impl State {
     }
 
     // The others where a player is see that it has connected, and it looks.
-    #[tactic(auto, unfolding(muck_world::specs::Finding::actor_of, muck_world::specs::Replies::has_connected, muck_live::specs::Lives::followed))]
+    #[tactic(auto, unfolding(spec_commands::specs::Finding::actor_of, spec_commands::specs::Replies::has_connected, spec_live::specs::Lives::followed))]
     fn arrive(&mut self, d: u32, player: Dbref) -> Result<(), NoMemory>
         ensures { OnOk result (self.new ≡ on_live (followed (shown_others player has_connected) (looked d player)) self.old) }
     {
@@ -110,7 +110,7 @@ impl State {
         Ok(())
     }
 
-    #[tactic(auto, unfolding(muck_world::specs::Talk::quit, muck_world::specs::Replies::goodbye, muck_live::specs::Lives::followed, muck_live::specs::Lives::leave))]
+    #[tactic(auto, unfolding(spec_commands::specs::Talk::quit, spec_commands::specs::Replies::goodbye, spec_live::specs::Lives::followed, spec_live::specs::Lives::leave))]
     fn quit(&mut self, d: u32) -> Result<(), NoMemory>
         ensures { OnOk result (self.new ≡ on_live (quit d) self.old) }
     {

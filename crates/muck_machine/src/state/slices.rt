@@ -2,18 +2,18 @@
 ghost use Rattle.std.specs.Prelude.{◌≡◌, ◌<◌, OnOk, IfOk, suc};
 ghost use Rattle.muck_model.specs.declared.event.Event.{Event};
 ghost use Rattle.muf_model.specs.Chains.{chain, StandsAt};
-ghost use Rattle.muck_event.specs.World.{on_live};
-ghost use Rattle.muck_event.specs.Slices.{deed, finish_shown, ran};
-ghost use Rattle.muck_event.specs.Steps.{happened};
+ghost use Rattle.spec_events.specs.World.{on_live};
+ghost use Rattle.spec_events.specs.Slices.{deed, finish_shown, ran};
+ghost use Rattle.spec_events.specs.Steps.{happened};
 ghost use Rattle.muck_machine.specs.Deeds.{finish_of, Stops, StopsAfter, StopsRaised};
 
 use crate::state::State;
 use crate::state::deeds::Done;
-use muck_event::{Agent, error_text};
 use muck_model::{Dbref, NoMemory};
 use muck_queue::Process;
 use muf_model::{MufFault, Prim};
-use muf_process::{Ran, Running, Stint};
+use muf_running::{Ran, Running, Stint};
+use spec_events::{Agent, error_text};
 use std::alloc::Global;
 
 /// How a process ended: by itself, or by a fault of a program that no TRY caught.
@@ -33,7 +33,7 @@ pub enum Stop {
 impl State {
     /// The process of a number runs to its end; where there is none nothing happens. It takes as many steps as the
     /// process takes units, and each costs what it touches.
-    #[tactic(auto, unfolding(muck_event::specs::Slices::sliced), using(crate::proofs::Slices::none_taken))]
+    #[tactic(auto, unfolding(spec_events::specs::Slices::sliced), using(crate::proofs::Slices::none_taken))]
     pub fn slice(&mut self, pid: i32) -> Result<(), NoMemory>
         ensures { OnOk result (self.new ≡ happened self.old 0 (Event.Slice pid)) }
     {
@@ -44,7 +44,7 @@ impl State {
     }
 
     // A process that is out of the queue runs to its end, in as many units as any process may take.
-    #[tactic(auto, unfolding(muck_event::specs::Slices::ran))]
+    #[tactic(auto, unfolding(spec_events::specs::Slices::ran))]
     fn run(&mut self, process: Process) -> Result<(), NoMemory>
         ensures { OnOk result (self.new ≡ ran process self.old) }
     {
@@ -107,7 +107,7 @@ impl State {
     }
 
     // The player of a process is told of the fault that ended it.
-    #[tactic(auto, unfolding(muck_live::specs::Lives::tell_player, muck_live::specs::Lives::unchanged))]
+    #[tactic(auto, unfolding(spec_live::specs::Lives::tell_player, spec_live::specs::Lives::unchanged))]
     fn show_ending(&mut self, player: Dbref, ending: Ending) -> Result<(), NoMemory>
         ensures { OnOk result (self.new ≡ on_live (finish_shown player (finish_of ending)) self.old) }
     {

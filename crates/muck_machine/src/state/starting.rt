@@ -1,27 +1,27 @@
 // Programs that are started.
 ghost use Rattle.std.specs.Prelude.{◌≡◌, OnOk, Some};
-ghost use Rattle.muck_live.specs.Lives.{place_at};
-ghost use Rattle.muck_rights.specs.Asking.{refused};
+ghost use Rattle.spec_live.specs.Lives.{place_at};
+ghost use Rattle.spec_rights.specs.Asking.{refused};
 ghost use Rattle.muf_model.specs.Decode.{tree_of};
 ghost use Rattle.muf_model.specs.Stands.{TreeStands};
-ghost use Rattle.muck_program.specs.Library.{formed};
-ghost use Rattle.muck_event.specs.World.{on_live};
-ghost use Rattle.muck_event.specs.Starting.{joined, form_started, built_started, launched};
+ghost use Rattle.muck_library.specs.Library.{formed};
+ghost use Rattle.spec_events.specs.World.{on_live};
+ghost use Rattle.spec_events.specs.Starting.{joined, form_started, built_started, launched};
 
 use crate::state::State;
-use cmd_parts::refuse;
-use muck_event::Call;
+use cmd_common::refuse;
 use muck_model::{Dbref, Denial, NoMemory};
 use muck_perm::{Guard, verdict};
 use muck_queue::{Mode, Process, QueueFault};
-use muck_rights::{Act, Actor};
 use muf_model::{Code, Shared};
-use muf_process::{Occasion, Running};
+use muf_running::{Occasion, Running};
+use spec_events::Call;
+use spec_rights::{Act, Actor};
 
 impl State {
     /// An actor starts a program from the connection d: by leave, and built where it isn't yet. A denial, a source with a
     /// flaw and too many processes are told to the connection.
-    #[tactic(auto, unfolding(muck_event::specs::Starting::launched))]
+    #[tactic(auto, unfolding(spec_events::specs::Starting::launched))]
     pub fn launch(&mut self, d: u32, actor: Actor, call: Call) -> Result<(), NoMemory>
         ensures { OnOk result (self.new ≡ launched d actor call self.old) }
     {
@@ -44,7 +44,7 @@ impl State {
     }
 
     // Starts a program from its built form, which is made where it isn't there yet.
-    #[tactic(auto, unfolding(muck_event::specs::Starting::not_compiled))]
+    #[tactic(auto, unfolding(spec_events::specs::Starting::not_compiled))]
     fn start(&mut self, d: u32, call: Call) -> Result<(), NoMemory>
         ensures { OnOk result (self.new ≡ built_started d call (formed self.old.live.objects call.program self.old.library) self.old) }
     {
@@ -65,7 +65,7 @@ impl State {
     }
 
     // A new process begins in the last word of a program.
-    #[tactic(auto, unfolding(muck_event::specs::Starting::not_compiled, muck_event::specs::Starting::new_process))]
+    #[tactic(auto, unfolding(spec_events::specs::Starting::not_compiled, spec_events::specs::Starting::new_process))]
     fn begin(&mut self, d: u32, call: Call, code: Shared<Code>) -> Result<(), NoMemory>
         requires { TreeStands code (tree_of code) }
         ensures { OnOk result (self.new ≡ form_started d call (Some (tree_of code)) self.old) }
@@ -103,7 +103,7 @@ impl State {
     }
 
     // A process joins the others, where there is room for it.
-    #[tactic(auto, unfolding(muck_event::specs::Starting::too_many))]
+    #[tactic(auto, unfolding(spec_events::specs::Starting::too_many))]
     fn join(&mut self, d: u32, process: Process) -> Result<(), NoMemory>
         ensures { OnOk result (self.new ≡ joined d process self.old) }
     {

@@ -3,7 +3,7 @@ ghost use Rattle.std.specs.Prelude.{◌≡◌, find, None, option_copied, if◌t
 ghost use Rattle.std.specs.Option.{option_map, option_map_or};
 ghost use Rattle.muck_model.specs.declared.event.Event.{Event};
 ghost use Rattle.muck_queue.specs.Queues.{next_due};
-ghost use Rattle.muck_event.specs.Steps.{is_free, happened};
+ghost use Rattle.spec_events.specs.Steps.{is_free, happened};
 
 use crate::state::State;
 use muck_board::Connection;

@@ -3,8 +3,8 @@ ghost use Rattle.std.specs.Prelude.{◌<◌, ◌^◌};
 
 use crate::world::words::{Words, halves, line, name, path, value};
 use muck_db::{Chain, Db, DbFault};
-use muck_live::flag_of;
 use muck_model::{Dbref, Flags, Kind, LineList, NoMemory};
+use spec_live::flag_of;
 use std::alloc::Global;
 
 // What a change of the objects answers, unless memory was wanted for its arguments.

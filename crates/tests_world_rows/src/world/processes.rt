@@ -8,7 +8,7 @@ use crate::world::words::{Words, line};
 use muck_model::{Dbref, NoMemory, Row};
 use muck_queue::{Mode, Process, Queue};
 use muf_model::{Closer, Code, CodeWord, Instr, Offer, Placed, Shared, Text};
-use muf_process::{Occasion, Running};
+use muf_running::{Occasion, Running};
 use std::alloc::Global;
 
 // The code of a program of one word, which ends at once.

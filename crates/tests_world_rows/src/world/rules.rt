@@ -5,7 +5,7 @@ use muck_board::Board;
 use muck_db::Db;
 use muck_model::{Dbref, Denial, NoMemory};
 use muck_perm::{Guard, level, name_shown, user, verdict};
-use muck_rights::{Act, Actor};
+use spec_rights::{Act, Actor};
 use std::alloc::Global;
 
 const NOBODY: Actor = Actor {

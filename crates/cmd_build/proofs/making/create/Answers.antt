@@ -1,8 +1,8 @@
 use Rattle.std.proofs.Common.{◌≡◌, true, sym, ◌∙◌, ap}
-use Rattle.muck_rights.specs.declared.act.Actor.{Actor}
-use Rattle.muck_rights.specs.declared.act.Act.TheVariants.{NewThing}
-use Rattle.muck_rights.specs.Asking.{refused}
-use Rattle.muck_world.specs.Building.{is_name, thing_made}
+use Rattle.spec_rights.specs.declared.act.Actor.{Actor}
+use Rattle.spec_rights.specs.declared.act.Act.TheVariants.{NewThing}
+use Rattle.spec_rights.specs.Asking.{refused}
+use Rattle.spec_commands.specs.Building.{is_name, thing_made}
 use Rattle.cmd_build.proofs.Steps.{asked_then, either_then}
 use Rattle.cmd_build.proofs.making.create.Goals as goal
 

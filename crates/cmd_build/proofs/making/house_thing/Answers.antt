@@ -1,5 +1,5 @@
 use Rattle.std.proofs.Common.{sym, ◌∙◌}
-use Rattle.muck_world.specs.Building.{housed, may_house}
+use Rattle.spec_commands.specs.Building.{housed, may_house}
 use Rattle.cmd_build.proofs.Steps.{where_then}
 use Rattle.cmd_build.proofs.making.house_thing.Goals as goal
 

@@ -1,7 +1,7 @@
 use Rattle.std.proofs.Common.{◌∙◌, ap}
-use Rattle.muck_rights.specs.declared.act.Actor.{Actor}
-use Rattle.muck_world.specs.Going.{home_at}
-use Rattle.muck_world.specs.Building.{housed}
+use Rattle.spec_rights.specs.declared.act.Actor.{Actor}
+use Rattle.spec_commands.specs.Going.{home_at}
+use Rattle.spec_commands.specs.Building.{housed}
 use Rattle.muck_perm.specs.Guards.{world_of}
 use Rattle.cmd_build.proofs.Steps.{reading_then}
 use Rattle.cmd_build.proofs.making.make_at_home.Goals as goal

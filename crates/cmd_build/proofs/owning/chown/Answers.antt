@@ -1,7 +1,7 @@
 use Rattle.muck_model.specs.declared.dbref.Dbref.{Dbref}
-use Rattle.muck_live.specs.Lives.{tell}
-use Rattle.muck_world.specs.Finding.{finding_object, finding_player}
-use Rattle.muck_world.specs.Building.{chowned}
+use Rattle.spec_live.specs.Lives.{tell}
+use Rattle.spec_commands.specs.Finding.{finding_object, finding_player}
+use Rattle.spec_commands.specs.Building.{chowned}
 use Rattle.muck_perm.specs.declared.guard.Guard.{Guard}
 use Rattle.cmd_build.specs.Owning.{object_given, given_by}
 use Rattle.cmd_build.proofs.Steps.{finds_then}

@@ -1,5 +1,5 @@
-use Rattle.muck_world.specs.Finding.{finding_object}
-use Rattle.muck_world.specs.Building.{recycled}
+use Rattle.spec_commands.specs.Finding.{finding_object}
+use Rattle.spec_commands.specs.Building.{recycled}
 use Rattle.muck_perm.specs.declared.guard.Guard.{Guard}
 use Rattle.cmd_build.specs.Owning.{object_recycled, recycled_by}
 use Rattle.cmd_build.proofs.Steps.{finds_then}

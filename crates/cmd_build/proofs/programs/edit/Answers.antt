@@ -1,4 +1,4 @@
-use Rattle.muck_world.specs.Programming.{finding_program, program_edited, editor_entered}
+use Rattle.spec_commands.specs.Programming.{finding_program, program_edited, editor_entered}
 use Rattle.muck_perm.specs.declared.guard.Guard.{Guard}
 use Rattle.cmd_build.proofs.Steps.{found_then}
 use Rattle.cmd_build.proofs.programs.edit.Goals as goal

@@ -1,4 +1,4 @@
-use Rattle.muck_world.specs.Programming.{finding_program, program_listed, source_shown}
+use Rattle.spec_commands.specs.Programming.{finding_program, program_listed, source_shown}
 use Rattle.muck_perm.specs.declared.guard.Guard.{Guard}
 use Rattle.cmd_build.proofs.Steps.{found_then}
 use Rattle.cmd_build.proofs.programs.list.Goals as goal

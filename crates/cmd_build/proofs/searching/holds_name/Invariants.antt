@@ -1,6 +1,6 @@
 use Rattle.std.proofs.Common.{◌≡◌, map, length}
 use Rattle.std.specs.Char.{to_ascii_lowercase}
-use Rattle.muck_world.specs.Building.{stands_in}
+use Rattle.spec_commands.specs.Building.{stands_in}
 use Rattle.cmd_build.proofs.searching.holds_name.Given as goal
 
 -- the rest decides for the whole

@@ -1,5 +1,5 @@
 use Rattle.std.proofs.Common.{◌≡◌, ◌++◌, drop}
-use Rattle.muck_world.specs.Building.{owned_named}
+use Rattle.spec_commands.specs.Building.{owned_named}
 use Rattle.cmd_build.proofs.searching.owned_named.Given as goal
 
 -- what was found, and what the rest holds

@@ -1,5 +1,5 @@
 use Rattle.std.proofs.Common.{◌∙◌}
-use Rattle.muck_world.specs.Commands.{message_name}
+use Rattle.spec_commands.specs.Commands.{message_name}
 use Rattle.muck_perm.specs.Guards.{world_of}
 use Rattle.cmd_play.proofs.Kept.{message_is}
 use Rattle.cmd_play.proofs.messages.kept_message.Goals as goal

@@ -1,5 +1,5 @@
 use Rattle.std.proofs.Common.{◌≡◌, ◌+◌, ◌<◌, ℕ, List, ◌∷◌, [], arith, ap, sym, ◌∙◌, length}
-use Rattle.muck_live.specs.Output.{lines_bytes, newest, sent_form}
+use Rattle.spec_live.specs.Output.{lines_bytes, newest, sent_form}
 use Rattle.muck_board.proofs.Outputs.{lines_length, none_length, newest_fits, newest_next, sent_length, no_lines}
 use Rattle.muck_board.proofs.output.drop_oldest.Goals as goal
 

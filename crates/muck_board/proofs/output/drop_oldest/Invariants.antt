@@ -1,5 +1,5 @@
 use Rattle.std.proofs.Common.{◌≡◌, length}
-use Rattle.muck_live.specs.Output.{lines_bytes, newest}
+use Rattle.spec_live.specs.Output.{lines_bytes, newest}
 use Rattle.muck_board.proofs.output.drop_oldest.Given as goal
 
 abbrev pub invariant-loop-left : goal.invariant-loop-left

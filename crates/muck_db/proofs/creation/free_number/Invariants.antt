@@ -1,5 +1,5 @@
 use Rattle.std.proofs.Common.{ℕ, ◌≡◌, ◌<◌, false}
-use Rattle.muck_live.specs.Objects.{is_garbage}
+use Rattle.spec_live.specs.Objects.{is_garbage}
 use Rattle.muck_db.specs.Slots.{kind_at}
 use Rattle.muck_db.proofs.creation.free_number.Given as goal
 

@@ -1,5 +1,5 @@
 use Rattle.std.proofs.Common.{sym, ◌∙◌, ap, Some}
-use Rattle.muck_live.proofs.Chains.{ends_within, ends_next, walk_shorter, member_next, member_later, member_here, member_none, leads_true, leads_false}
+use Rattle.spec_live.proofs.Chains.{ends_within, ends_next, walk_shorter, member_next, member_later, member_here, member_none, leads_true, leads_false}
 use Rattle.muck_db.proofs.links.before.Goals as goal
 
 pub next_of-next-requires : goal.next_of-next-requires

@@ -1,5 +1,5 @@
 use Rattle.std.proofs.Common.{ℕ, ◌≡◌, length, Some}
-use Rattle.muck_live.specs.Chain.{walk, Ends, Member}
+use Rattle.spec_live.specs.Chain.{walk, Ends, Member}
 use Rattle.muck_db.specs.Slots.{next_at}
 use Rattle.muck_db.proofs.links.before.Given as goal
 

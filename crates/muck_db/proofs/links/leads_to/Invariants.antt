@@ -1,5 +1,5 @@
 use Rattle.std.proofs.Common.{length, Some}
-use Rattle.muck_live.specs.Chain.{walk, Ends, Member}
+use Rattle.spec_live.specs.Chain.{walk, Ends, Member}
 use Rattle.muck_db.specs.Slots.{place_at}
 use Rattle.muck_db.proofs.links.leads_to.Given as goal
 

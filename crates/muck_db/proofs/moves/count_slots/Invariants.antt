@@ -1,6 +1,6 @@
 use Rattle.std.proofs.Common.{◌≡◌, ◌≤◌, take, not}
 use Rattle.std.specs.List.{count_by}
-use Rattle.muck_live.specs.Objects.{is_garbage}
+use Rattle.spec_live.specs.Objects.{is_garbage}
 use Rattle.muck_db.specs.Slots.{shown}
 use Rattle.muck_db.proofs.moves.count_slots.Given as goal
 

@@ -1,6 +1,6 @@
 use Rattle.std.proofs.Common.{sym, ◌∙◌, ap, take, length, arith, List, ℕ}
 use Rattle.std.specs.Prelude.{bytes_eq}
-use Rattle.muck_live.specs.Password.{digest_of}
+use Rattle.spec_live.specs.Password.{digest_of}
 use Rattle.muck_db.proofs.Counting.{known_by, unknown_by}
 use Rattle.muck_db.proofs.Digests.{salt_short}
 use Rattle.muck_db.proofs.password.is_digest_of.Goals as goal

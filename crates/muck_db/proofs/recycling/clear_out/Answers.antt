@@ -1,8 +1,8 @@
 use Rattle.std.proofs.Common.{sym, ◌∙◌, ap, arith, subst, List, ◌≡◌, ◌<◌, length, false}
-use Rattle.muck_live.specs.Objects.{Entry, list_in}
-use Rattle.muck_live.specs.Recycling.{sent_home}
-use Rattle.muck_live.proofs.Readers.{length_moved}
-use Rattle.muck_live.proofs.HomeLaws.{IsUntied}
+use Rattle.spec_live.specs.Objects.{Entry, list_in}
+use Rattle.spec_live.specs.Recycling.{sent_home}
+use Rattle.spec_live.proofs.Readers.{length_moved}
+use Rattle.spec_live.proofs.HomeLaws.{IsUntied}
 use Rattle.muck_db.specs.Slots.{entries_of}
 use Rattle.muck_db.proofs.Readers.{length-entries_of}
 use Rattle.muck_db.proofs.Leaving.{Turn, turn, first_none, sent_none, Untied, untied_table}

@@ -1,7 +1,7 @@
 use Rattle.std.proofs.Common.{◌≡◌, ◌<◌, false, length}
-use Rattle.muck_live.specs.Objects.{list_in}
-use Rattle.muck_live.specs.Recycling.{sent_home, untied}
-use Rattle.muck_live.proofs.HomeLaws.{IsUntied}
+use Rattle.spec_live.specs.Objects.{list_in}
+use Rattle.spec_live.specs.Recycling.{sent_home, untied}
+use Rattle.spec_live.proofs.HomeLaws.{IsUntied}
 use Rattle.muck_db.specs.Slots.{entries_of, HasOrder}
 use Rattle.muck_db.proofs.recycling.clear_out.Given as goal
 

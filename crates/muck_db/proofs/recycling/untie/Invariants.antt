@@ -1,4 +1,4 @@
-use Rattle.muck_live.specs.Recycling.{without_ties}
+use Rattle.spec_live.specs.Recycling.{without_ties}
 use Rattle.muck_db.specs.Slots.{on_slot}
 use Rattle.muck_db.proofs.Writes.{Passed}
 use Rattle.muck_db.proofs.recycling.untie.Given as goal

@@ -1,5 +1,5 @@
 use Rattle.std.proofs.Common.{◌≡◌, length}
-use Rattle.muck_rights.specs.Levels.{level}
+use Rattle.spec_rights.specs.Levels.{level}
 use Rattle.muck_perm.proofs.levels.level.Given as goal
 
 -- what is left to go up gives the same level

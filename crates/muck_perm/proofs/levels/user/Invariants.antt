@@ -1,5 +1,5 @@
 use Rattle.std.proofs.Common.{◌≡◌, length}
-use Rattle.muck_rights.specs.Levels.{user}
+use Rattle.spec_rights.specs.Levels.{user}
 use Rattle.muck_perm.proofs.levels.user.Given as goal
 
 -- what is left to go up gives the same user

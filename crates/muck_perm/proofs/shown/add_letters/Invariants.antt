@@ -1,6 +1,6 @@
 use Rattle.std.proofs.Common.{◌≡◌, ◌++◌, length}
 use Rattle.std.specs.List.{filter}
-use Rattle.muck_live.specs.Flags.{has_flag, flag_of}
+use Rattle.spec_live.specs.Flags.{has_flag, flag_of}
 use Rattle.muck_perm.proofs.shown.add_letters.Given as goal
 
 -- what was added, with those that are left

@@ -1,8 +1,8 @@
 use Rattle.std.proofs.Common.{◌≡◌, ℤ, sym, ◌∙◌, ap, to_z, of_z, w32, rules}
 use Rattle.std.specs.Prelude.{is_some}
 use Rattle.muck_model.specs.declared.event.Event.TheVariants.{Slice}
-use Rattle.muck_event.specs.Steps.{is_lawful}
-use Rattle.muck_event.specs.Histories.{now, by_porter}
+use Rattle.spec_events.specs.Steps.{is_lawful}
+use Rattle.spec_events.specs.Histories.{now, by_porter}
 use Rattle.muck_script.proofs.Taking.{no_slice, may_slice}
 use Rattle.muck_script.proofs.turns.slice_next.Goals as goal
 

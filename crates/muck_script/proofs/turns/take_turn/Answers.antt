@@ -1,7 +1,7 @@
 use Rattle.std.proofs.Common.{◌≡◌, Bool, sym, ◌∙◌, ap, subst, Option, None, IfOk, OnErr}
 use Rattle.std.specs.Prelude.{is_some}
-use Rattle.muck_event.specs.Steps.{next_ready, next_process}
-use Rattle.muck_event.specs.Histories.{History, now, extended}
+use Rattle.spec_events.specs.Steps.{next_ready, next_process}
+use Rattle.spec_events.specs.Histories.{History, now, extended}
 use Rattle.muck_script.specs.Story.{Turn}
 use Rattle.muck_script.specs.Settling.{entries_of, slice_of, DiedDuring}
 use Rattle.muck_script.proofs.Taking.{line_first, line_taken, some_next, process_next}

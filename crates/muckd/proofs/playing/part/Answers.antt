@@ -1,7 +1,7 @@
 use Rattle.std.proofs.Common.{◌≡◌, true, [], refl, sym, ◌∙◌}
 use Rattle.std.proofs.lemmas.Bool.{cond-true}
-use Rattle.muck_event.specs.World.{is_leaving}
-use Rattle.muck_event.specs.Histories.{now}
+use Rattle.spec_events.specs.World.{is_leaving}
+use Rattle.spec_events.specs.Histories.{now}
 use Rattle.muckd.proofs.Parts.{plays_one, breaks_after, text_parted, closing_may, lives_on}
 use Rattle.muckd.proofs.playing.part.Goals as goal
 

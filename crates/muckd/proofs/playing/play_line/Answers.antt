@@ -1,6 +1,6 @@
 use Rattle.std.proofs.Common.{None}
 use Rattle.muck_script.specs.Story.{acted, turns, turns_most, both, served, line_story}
-use Rattle.muck_live.specs.Connections.{connections_most}
+use Rattle.spec_live.specs.Connections.{connections_most}
 use Rattle.muckd.proofs.Exits.{second_part, first_broke}
 use Rattle.muckd.proofs.playing.play_line.Goals as goal
 

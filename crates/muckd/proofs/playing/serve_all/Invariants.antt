@@ -1,5 +1,5 @@
 use Rattle.std.proofs.Common.{◌≡◌}
-use Rattle.muck_live.specs.Connections.{connections_most}
+use Rattle.spec_live.specs.Connections.{connections_most}
 use Rattle.muck_script.specs.Story.{served}
 use Rattle.muckd.proofs.Towards.{IsServing}
 use Rattle.muckd.proofs.playing.serve_all.Given as goal

@@ -1,7 +1,7 @@
 use Rattle.std.proofs.Common.{◌<◌, ◌≤◌, [], length, refl, ◌∙◌, arith}
 use Rattle.std.proofs.lemmas.Bool.{cond-true, lt-ltb}
-use Rattle.muck_event.specs.World.{queue_of}
-use Rattle.muck_event.specs.Histories.{now}
+use Rattle.spec_events.specs.World.{queue_of}
+use Rattle.spec_events.specs.Histories.{now}
 use Rattle.muckd.proofs.Parts.{plays_one, breaks_after, text_taken, taken_some, whole_queue, front_nothing, entered_twice, lives_on, no_ending}
 use Rattle.muckd.proofs.playing.take_queue.Goals as goal
 

@@ -2,7 +2,7 @@ use Rattle.std.proofs.Common.{subst, sym}
 use Rattle.muf_model.specs.Decode.{tree_of}
 use Rattle.muf_model.specs.Stands.{TreeStands}
 use Rattle.muf_run.proofs.Running.{mapped}
-use Rattle.muf_process.proofs.Compiled.{compiled_stands}
+use Rattle.muf_running.proofs.Compiled.{compiled_stands}
 use Rattle.tests_language.proofs.processes.code_of.Goals as goal
 
 pub returns-in-Ok-compile-clause-stands : goal.returns-in-Ok-compile-clause-stands

@@ -1,7 +1,7 @@
 use Rattle.std.proofs.Common.{◌≡◌, sym, ◌∙◌, ap, to_z, of_z, w32, rules}
 use Rattle.muck_model.specs.declared.event.Event.TheVariants.{Slice}
-use Rattle.muck_event.specs.Steps.{is_lawful}
-use Rattle.muck_event.specs.Histories.{now}
+use Rattle.spec_events.specs.Steps.{is_lawful}
+use Rattle.spec_events.specs.Histories.{now}
 use Rattle.muck_machine.proofs.Choosing.{claimed_may_run}
 use Rattle.tests_program.proofs.replay.run.Goals as goal
 

@@ -1,7 +1,7 @@
 use Rattle.std.proofs.Common.{◌≡◌, Some, None, sym, ap, ◌∙◌}
 use Rattle.std.specs.List.{position}
-use Rattle.muck_live.specs.Connections.{has_number}
-use Rattle.muck_live.specs.Boards.{closed}
+use Rattle.spec_live.specs.Connections.{has_number}
+use Rattle.spec_live.specs.Boards.{closed}
 use Rattle.muck_board.proofs.Numbered.{removed, removed_none}
 use Rattle.muck_board.proofs.board.Board.close.Goals as goal
 

@@ -1,6 +1,6 @@
 use Rattle.std.proofs.Common.{◌≡◌, ◌++◌, take, drop}
 use Rattle.std.specs.Prelude.{map, None}
-use Rattle.muck_live.specs.Connections.{edited_where, edits}
+use Rattle.spec_live.specs.Connections.{edited_where, edits}
 use Rattle.muck_board.proofs.board.Board.close_editors.Given as goal
 
 abbrev pub invariant-loop-c : goal.invariant-loop-c

@@ -1,6 +1,6 @@
 use Rattle.std.proofs.Common.{◌≡◌, Some, None, inl, refl, sym, ◌∙◌, ap}
 use Rattle.std.specs.List.{position}
-use Rattle.muck_live.specs.Connections.{has_number}
+use Rattle.spec_live.specs.Connections.{has_number}
 use Rattle.muck_board.proofs.Numbered.{found_at, found_nowhere, written}
 use Rattle.muck_board.proofs.board.Board.connection_mut.Goals as goal
 

@@ -1,6 +1,6 @@
 use Rattle.std.proofs.Common.{◌≡◌, ◌++◌, take, drop}
 use Rattle.std.specs.Prelude.{map}
-use Rattle.muck_live.specs.Connections.{left_where, is_of}
+use Rattle.spec_live.specs.Connections.{left_where, is_of}
 use Rattle.muck_board.proofs.board.Board.leave_player.Given as goal
 
 abbrev pub invariant-loop-c : goal.invariant-loop-c

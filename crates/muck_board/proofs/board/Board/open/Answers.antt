@@ -1,8 +1,8 @@
 use Rattle.std.proofs.Common.{ap, ◌∙◌}
 use Rattle.std.specs.Prelude.{nat_lt}
 use Rattle.std.specs.List.{position_or_len}
-use Rattle.muck_live.specs.Connections.{placed}
-use Rattle.muck_live.specs.Boards.{opened}
+use Rattle.spec_live.specs.Connections.{placed}
+use Rattle.spec_live.specs.Boards.{opened}
 use Rattle.muck_board.proofs.Numbered.{inserted}
 use Rattle.muck_board.proofs.board.Board.open.Goals as goal
 

@@ -1,6 +1,6 @@
-use Rattle.muck_live.specs.Boards.{queue_in}
+use Rattle.spec_live.specs.Boards.{queue_in}
 use Rattle.std.proofs.Common.{ap, ◌∙◌}
-use Rattle.muck_live.specs.Output.{taken}
+use Rattle.spec_live.specs.Output.{taken}
 use Rattle.muck_board.proofs.Numbered.{changed, queue_left}
 use Rattle.muck_board.proofs.board.Board.take.Goals as goal
 

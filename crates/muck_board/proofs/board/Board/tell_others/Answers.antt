@@ -1,7 +1,7 @@
 use Rattle.std.proofs.Common.{arith, refl, sym, ◌∙◌, ap, map, get_or, length-set}
 use Rattle.std.proofs.lemmas.Bool.{cond-true, cond-false}
 use Rattle.std.proofs.lemmas.List.{with_items_is}
-use Rattle.muck_live.specs.Connections.{told_where, hears}
+use Rattle.spec_live.specs.Connections.{told_where, hears}
 use Rattle.muck_board.specs.Silent.{quiet, silent}
 use Rattle.muck_board.proofs.Mapped.{mapped_more}
 use Rattle.muck_board.proofs.Quiet.{quiet_where}

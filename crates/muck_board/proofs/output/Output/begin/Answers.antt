@@ -1,5 +1,5 @@
 use Rattle.std.proofs.Common.{◌≡◌, ◌+◌, [], arith, ap, sym, ◌∙◌, length}
-use Rattle.muck_live.specs.Output.{lines_bytes, bytes_of, taken}
+use Rattle.spec_live.specs.Output.{lines_bytes, bytes_of, taken}
 use Rattle.muck_board.proofs.Outputs.{lines_length, notice_some, no_lines, notice_first, line_first, same_notice, same_line, nothing_waits}
 use Rattle.muck_board.proofs.output.Output.begin.Goals as goal
 

@@ -1,5 +1,5 @@
 use Rattle.std.proofs.Common.{arith, ap, length}
-use Rattle.muck_live.specs.Output.{bytes_of}
+use Rattle.spec_live.specs.Output.{bytes_of}
 use Rattle.muck_board.proofs.Outputs.{bytes_length}
 use Rattle.muck_board.proofs.output.Output.len.Goals as goal
 

@@ -1,5 +1,5 @@
 use Rattle.std.proofs.Common.{arith, ap, length}
-use Rattle.muck_live.specs.Output.{lines_bytes}
+use Rattle.spec_live.specs.Output.{lines_bytes}
 use Rattle.muck_board.proofs.Outputs.{pushed_length, notice_most}
 use Rattle.muck_board.proofs.output.Output.push_back.Goals as goal
 

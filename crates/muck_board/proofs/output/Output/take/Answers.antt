@@ -1,5 +1,5 @@
 use Rattle.std.proofs.Common.{◌≡◌, ◌<◌, ◌≤◌, arith, ap, sym, ◌∙◌, refl, length, drop, length-drop}
-use Rattle.muck_live.specs.Output.{bytes_of, taken}
+use Rattle.spec_live.specs.Output.{bytes_of, taken}
 use Rattle.muck_board.proofs.Outputs.{taken_left, taken_more, taken_rest, took, rest_within}
 use Rattle.muck_board.proofs.output.Output.take.Goals as goal
 

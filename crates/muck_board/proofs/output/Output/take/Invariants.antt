@@ -1,5 +1,5 @@
 use Rattle.std.proofs.Common.{◌≡◌, ◌-◌, ◌≤◌, length, take}
-use Rattle.muck_live.specs.Output.{bytes_of, taken}
+use Rattle.spec_live.specs.Output.{bytes_of, taken}
 use Rattle.muck_board.proofs.output.Output.take.Given as goal
 
 abbrev pub invariant-loop-n : goal.invariant-loop-n

@@ -1,6 +1,6 @@
 use Rattle.std.proofs.Common.{sym, ◌∙◌, arith, subst, List, Ok}
-use Rattle.muck_live.specs.Objects.{Entry}
-use Rattle.muck_live.specs.Making.{create_check, Creates}
+use Rattle.spec_live.specs.Objects.{Entry}
+use Rattle.spec_live.specs.Making.{create_check, Creates}
 use Rattle.muck_db.specs.Slots.{entries_of}
 use Rattle.muck_db.proofs.Readers.{length-entries_of}
 use Rattle.muck_db.proofs.Bridge.{sound_order}

@@ -1,6 +1,6 @@
 use Rattle.std.proofs.Common.{ap, arith, List, length, true}
 use Rattle.muck_model.specs.declared.dbref.Dbref.{Dbref}
-use Rattle.muck_live.specs.Objects.{Entry}
+use Rattle.spec_live.specs.Objects.{Entry}
 use Rattle.muck_db.specs.Slots.{entries_of}
 use Rattle.muck_db.proofs.Bridge.{sound_order, listed_short}
 use Rattle.muck_db.proofs.db.Db.exits.Goals as goal

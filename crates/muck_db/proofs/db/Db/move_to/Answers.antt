@@ -1,5 +1,5 @@
 use Rattle.std.proofs.Common.{sym, ◌∙◌}
-use Rattle.muck_live.proofs.Checks.{move_checked}
+use Rattle.spec_live.proofs.Checks.{move_checked}
 use Rattle.muck_db.proofs.Bridge.{sound_order, kept_moved}
 use Rattle.muck_db.proofs.db.Db.move_to.Goals as goal
 

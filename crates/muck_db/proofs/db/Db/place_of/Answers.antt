@@ -1,6 +1,6 @@
 use Rattle.std.proofs.Common.{subst, List, rules}
-use Rattle.muck_live.specs.Objects.{Entry}
-use Rattle.muck_live.specs.Consistent.{IsOrdered}
+use Rattle.spec_live.specs.Objects.{Entry}
+use Rattle.spec_live.specs.Consistent.{IsOrdered}
 use Rattle.muck_db.proofs.Showing.{place_upward}
 use Rattle.muck_db.proofs.db.Db.place_of.Goals as goal
 

@@ -1,7 +1,7 @@
 use Rattle.std.proofs.Common.{sym, ◌∙◌, subst, List, Ok, refl}
-use Rattle.muck_live.specs.Objects.{Entry}
-use Rattle.muck_live.specs.Setting.{Tries, set_at, any, checked, with_prop}
-use Rattle.muck_live.proofs.SettingLaws.{consistent_stored}
+use Rattle.spec_live.specs.Objects.{Entry}
+use Rattle.spec_live.specs.Setting.{Tries, set_at, any, checked, with_prop}
+use Rattle.spec_live.proofs.SettingLaws.{consistent_stored}
 use Rattle.muck_db.specs.Slots.{entries_of}
 use Rattle.muck_db.proofs.LimitLaws.{limits_stored}
 use Rattle.muck_db.proofs.Fields.{entries_set, kept_set, tried}

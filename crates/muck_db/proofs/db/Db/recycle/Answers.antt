@@ -1,8 +1,8 @@
 use Rattle.std.proofs.Common.{sym, ◌∙◌, subst, List, Ok}
-use Rattle.muck_live.specs.Objects.{Entry}
-use Rattle.muck_live.specs.Moving.{Does}
-use Rattle.muck_live.specs.Recycling.{recycled, recycle_check}
-use Rattle.muck_live.proofs.RecyclingLaws.{recycle_checked}
+use Rattle.spec_live.specs.Objects.{Entry}
+use Rattle.spec_live.specs.Moving.{Does}
+use Rattle.spec_live.specs.Recycling.{recycled, recycle_check}
+use Rattle.spec_live.proofs.RecyclingLaws.{recycle_checked}
 use Rattle.muck_db.specs.Slots.{entries_of}
 use Rattle.muck_db.proofs.Bridge.{sound_order}
 use Rattle.muck_db.proofs.Leaving.{length_cleared, recycled_from, kept_recycled, does_recycled}

@@ -1,8 +1,8 @@
 use Rattle.std.proofs.Common.{sym, ◌∙◌, subst, List, Ok, refl}
-use Rattle.muck_live.specs.Objects.{Entry}
-use Rattle.muck_live.specs.Moving.{Does}
-use Rattle.muck_live.specs.Setting.{set_at, any, checked, without_prop}
-use Rattle.muck_live.proofs.SettingLaws.{consistent_removed}
+use Rattle.spec_live.specs.Objects.{Entry}
+use Rattle.spec_live.specs.Moving.{Does}
+use Rattle.spec_live.specs.Setting.{set_at, any, checked, without_prop}
+use Rattle.spec_live.proofs.SettingLaws.{consistent_removed}
 use Rattle.muck_db.specs.Slots.{entries_of}
 use Rattle.muck_db.proofs.LimitLaws.{limits_removed}
 use Rattle.muck_db.proofs.Fields.{entries_set, kept_set, did}

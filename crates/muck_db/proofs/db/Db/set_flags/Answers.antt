@@ -1,5 +1,5 @@
-use Rattle.muck_live.specs.Setting.{flags_check, with_flags}
-use Rattle.muck_live.proofs.SettingLaws.{consistent_flagged}
+use Rattle.spec_live.specs.Setting.{flags_check, with_flags}
+use Rattle.spec_live.proofs.SettingLaws.{consistent_flagged}
 use Rattle.muck_db.proofs.Bridge.{sound_order}
 use Rattle.muck_db.proofs.LimitLaws.{limits_flagged}
 use Rattle.muck_db.proofs.Settings.{may_set, checked_so}

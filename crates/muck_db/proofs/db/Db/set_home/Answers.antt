@@ -1,5 +1,5 @@
-use Rattle.muck_live.specs.Setting.{home_check, with_home}
-use Rattle.muck_live.proofs.SettingLaws.{consistent_homed}
+use Rattle.spec_live.specs.Setting.{home_check, with_home}
+use Rattle.spec_live.proofs.SettingLaws.{consistent_homed}
 use Rattle.muck_db.proofs.LimitLaws.{limits_homed}
 use Rattle.muck_db.proofs.Settings.{may_set, checked_so}
 use Rattle.muck_db.proofs.db.Db.set_home.Goals as goal

@@ -1,5 +1,5 @@
-use Rattle.muck_live.specs.Setting.{level_check, with_level}
-use Rattle.muck_live.proofs.SettingLaws.{consistent_leveled}
+use Rattle.spec_live.specs.Setting.{level_check, with_level}
+use Rattle.spec_live.proofs.SettingLaws.{consistent_leveled}
 use Rattle.muck_db.proofs.LimitLaws.{limits_leveled}
 use Rattle.muck_db.proofs.Settings.{may_set, checked_so}
 use Rattle.muck_db.proofs.db.Db.set_level.Goals as goal

@@ -1,8 +1,8 @@
 use Rattle.std.proofs.Common.{sym, ◌∙◌, subst, List, Ok, arith}
-use Rattle.muck_live.specs.Objects.{Entry}
-use Rattle.muck_live.specs.Moving.{Does}
-use Rattle.muck_live.specs.Setting.{lines_set, lines_check}
-use Rattle.muck_live.proofs.SettingLaws.{consistent_lined}
+use Rattle.spec_live.specs.Objects.{Entry}
+use Rattle.spec_live.specs.Moving.{Does}
+use Rattle.spec_live.specs.Setting.{lines_set, lines_check}
+use Rattle.spec_live.proofs.SettingLaws.{consistent_lined}
 use Rattle.muck_db.specs.Slots.{entries_of}
 use Rattle.muck_db.proofs.LimitLaws.{limits_lined}
 use Rattle.muck_db.proofs.Tellings.{entries_lined, kept_lined, lined}

@@ -1,5 +1,5 @@
-use Rattle.muck_live.specs.Setting.{link_check, with_link}
-use Rattle.muck_live.proofs.SettingLaws.{consistent_linked}
+use Rattle.spec_live.specs.Setting.{link_check, with_link}
+use Rattle.spec_live.proofs.SettingLaws.{consistent_linked}
 use Rattle.muck_db.proofs.LimitLaws.{limits_linked}
 use Rattle.muck_db.proofs.Settings.{may_set, checked_so}
 use Rattle.muck_db.proofs.db.Db.set_link.Goals as goal

@@ -1,5 +1,5 @@
-use Rattle.muck_live.specs.Setting.{any, checked, with_name}
-use Rattle.muck_live.proofs.SettingLaws.{consistent_named}
+use Rattle.spec_live.specs.Setting.{any, checked, with_name}
+use Rattle.spec_live.proofs.SettingLaws.{consistent_named}
 use Rattle.muck_db.proofs.LimitLaws.{limits_named}
 use Rattle.muck_db.proofs.Settings.{may_set, checked_so}
 use Rattle.muck_db.proofs.db.Db.set_name.Goals as goal

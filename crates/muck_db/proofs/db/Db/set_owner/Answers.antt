@@ -1,5 +1,5 @@
-use Rattle.muck_live.specs.Setting.{owner_check, with_owner}
-use Rattle.muck_live.proofs.SettingLaws.{consistent_owned}
+use Rattle.spec_live.specs.Setting.{owner_check, with_owner}
+use Rattle.spec_live.proofs.SettingLaws.{consistent_owned}
 use Rattle.muck_db.proofs.LimitLaws.{limits_owned}
 use Rattle.muck_db.proofs.Settings.{may_set, checked_so}
 use Rattle.muck_db.proofs.db.Db.set_owner.Goals as goal

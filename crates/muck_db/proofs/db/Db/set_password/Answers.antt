@@ -1,6 +1,6 @@
 use Rattle.std.proofs.Common.{sym, ◌∙◌}
-use Rattle.muck_live.specs.Setting.{password_check}
-use Rattle.muck_live.proofs.SettingLaws.{consistent_password}
+use Rattle.spec_live.specs.Setting.{password_check}
+use Rattle.spec_live.proofs.SettingLaws.{consistent_password}
 use Rattle.muck_db.proofs.LimitLaws.{limits_password}
 use Rattle.muck_db.proofs.Settings.{may_digest, digest_tried}
 use Rattle.muck_db.proofs.db.Db.set_password.Goals as goal

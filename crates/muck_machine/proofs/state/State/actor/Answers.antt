@@ -1,5 +1,5 @@
 use Rattle.std.proofs.Common.{rules, ◌≡◌, ap}
-use Rattle.muck_event.specs.Slices.{acting, callers, numbered}
+use Rattle.spec_events.specs.Slices.{acting, callers, numbered}
 use Rattle.muck_machine.proofs.Deeds.{callers_numbered}
 use Rattle.muck_machine.proofs.state.State.actor.Goals as goal
 

@@ -1,4 +1,4 @@
-use Rattle.muck_event.specs.Slices.{deed}
+use Rattle.spec_events.specs.Slices.{deed}
 use Rattle.muck_machine.proofs.Slices.{if_ok_as, stops_after}
 use Rattle.muck_machine.proofs.state.State.ask.Goals as goal
 

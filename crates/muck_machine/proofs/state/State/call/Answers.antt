@@ -1,9 +1,9 @@
 use Rattle.std.proofs.Common.{rules, ◌≡◌, ◌≤◌, ◌+◌, length, Some, None, subst, sym}
 use Rattle.std.specs.Option.{option_copied}
-use Rattle.muck_rights.specs.Verdict.{verdict}
-use Rattle.muck_rights.specs.declared.act.Act.TheVariants.{Shared, Call as CallAct}
+use Rattle.spec_rights.specs.Verdict.{verdict}
+use Rattle.spec_rights.specs.declared.act.Act.TheVariants.{Shared, Call as CallAct}
 use Rattle.muf_model.specs.Source.{locked_of}
-use Rattle.muck_event.specs.Slices.{acting, call_count}
+use Rattle.spec_events.specs.Slices.{acting, call_count}
 use Rattle.muck_machine.specs.Deeds.{asked_of, Enters}
 use Rattle.muck_machine.proofs.Deeds.{call_found, permits_none}
 use Rattle.muck_machine.proofs.state.State.call.Goals as goal

@@ -1,8 +1,8 @@
 use Rattle.std.proofs.Common.{◌≡◌, Some, sym, ◌∙◌, ap, subst}
-use Rattle.muck_live.specs.Boards.{editor_in}
-use Rattle.muck_world.specs.Talk.{at_login}
-use Rattle.muck_event.specs.World.{World, connection, on_live}
-use Rattle.muck_event.specs.Lines.{command, done}
+use Rattle.spec_live.specs.Boards.{editor_in}
+use Rattle.spec_commands.specs.Talk.{at_login}
+use Rattle.spec_events.specs.World.{World, connection, on_live}
+use Rattle.spec_events.specs.Lines.{command, done}
 use Rattle.muck_machine.specs.contracts.state.State as state
 use Rattle.muck_machine.proofs.Turns.{line_taken, none_taken, on_ok_as}
 use Rattle.muck_machine.proofs.state.State.do_line.Goals as goal

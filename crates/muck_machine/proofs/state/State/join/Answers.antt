@@ -1,9 +1,9 @@
 use Rattle.std.proofs.Common.{◌≡◌, ◌∙◌, subst, Err}
 use Rattle.muck_queue.specs.declared.fault.QueueFault.{QueueFault}
 use Rattle.muck_queue.specs.Adding.{Adds}
-use Rattle.muck_live.specs.Lives.{tell}
-use Rattle.muck_event.specs.World.{World, on_live}
-use Rattle.muck_event.specs.Starting.{joined, too_many}
+use Rattle.spec_live.specs.Lives.{tell}
+use Rattle.spec_events.specs.World.{World, on_live}
+use Rattle.spec_events.specs.Starting.{joined, too_many}
 use Rattle.muck_machine.specs.contracts.state.State as state
 use Rattle.muck_machine.proofs.Turns.{on_ok_as}
 use Rattle.muck_machine.proofs.Joining.{full_told}

@@ -1,7 +1,7 @@
 use Rattle.std.proofs.Common.{◌≡◌, Some, ◌∙◌, subst}
-use Rattle.muck_live.specs.Boards.{editor_in}
-use Rattle.muck_event.specs.World.{World}
-use Rattle.muck_event.specs.Lines.{command, in_world}
+use Rattle.spec_live.specs.Boards.{editor_in}
+use Rattle.spec_events.specs.World.{World}
+use Rattle.spec_events.specs.Lines.{command, in_world}
 use Rattle.muck_machine.specs.contracts.state.State as state
 use Rattle.muck_machine.proofs.Turns.{unedited_taken, on_ok_as}
 use Rattle.muck_machine.proofs.state.State.obey.Goals as goal

@@ -1,6 +1,6 @@
 use Rattle.std.proofs.Common.{◌≡◌}
 use Rattle.muf_model.specs.Chains.{chain}
-use Rattle.muck_event.specs.Slices.{deed}
+use Rattle.spec_events.specs.Slices.{deed}
 use Rattle.muck_machine.proofs.state.State.run_on.Given as goal
 
 -- what is left to run ends as the whole does

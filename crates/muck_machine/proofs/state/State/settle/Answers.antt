@@ -1,8 +1,8 @@
 use Rattle.std.proofs.Common.{◌≡◌, List, sym, ◌∙◌, ap, arith}
-use Rattle.muck_live.specs.Objects.{Entry}
-use Rattle.muck_live.specs.Lives.{on_objects}
-use Rattle.muck_event.specs.World.{World, on_live}
-use Rattle.muck_event.specs.Following.{settled}
+use Rattle.spec_live.specs.Objects.{Entry}
+use Rattle.spec_live.specs.Lives.{on_objects}
+use Rattle.spec_events.specs.World.{World, on_live}
+use Rattle.spec_events.specs.Following.{settled}
 use Rattle.muck_machine.specs.Followed.{followed_change}
 use Rattle.muck_machine.specs.contracts.state.State as state
 use Rattle.muck_machine.proofs.Settling.{marks, tells, told_none, settled_none, objects_followed}

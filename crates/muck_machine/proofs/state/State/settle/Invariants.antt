@@ -1,5 +1,5 @@
 use Rattle.std.proofs.Common.{◌≡◌}
-use Rattle.muck_event.specs.Following.{settled}
+use Rattle.spec_events.specs.Following.{settled}
 use Rattle.muck_machine.proofs.Settling.{marks}
 use Rattle.muck_machine.proofs.state.State.settle.Given as goal
 

@@ -2,8 +2,8 @@ use Rattle.std.proofs.Common.{arith, ap, ◌∙◌, sym, subst}
 use Rattle.muf_model.specs.Chains.{broke}
 use Rattle.muf_model.specs.Unit.{units}
 use Rattle.muf_model.proofs.Chains.{taken_most}
-use Rattle.muf_process.specs.Stints.{RanAlike}
-use Rattle.muck_event.specs.Slices.{deed}
+use Rattle.muf_running.specs.Stints.{RanAlike}
+use Rattle.spec_events.specs.Slices.{deed}
 use Rattle.muck_machine.proofs.Slices.{if_ok_as, going_so, asks_on, stands_so, fewer_so, ended_so, faulted_so}
 use Rattle.muck_machine.proofs.state.State.stint.Goals as goal
 

@@ -3,7 +3,7 @@ use Rattle.std.specs.List.{position}
 use Rattle.std.specs.Option.{option_copied}
 use Rattle.std.specs.Str.{bytes_eq}
 use Rattle.std.specs.Char.{to_ascii_lowercase}
-use Rattle.muck_event.specs.Slices.{is_offered}
+use Rattle.spec_events.specs.Slices.{is_offered}
 use Rattle.muck_machine.proofs.Deeds.{named_word, last_place}
 use Rattle.muck_machine.proofs.state.deeds.called_word.Goals as goal
 

@@ -1,7 +1,7 @@
 use Rattle.std.proofs.Common.{◌≡◌, sym, ◌∙◌, ap, cond, None, Some, refl, to_z, of_z, w32, rules}
 use Rattle.muck_queue.specs.Queues.{next_due, claimed}
-use Rattle.muck_event.specs.World.{on_queue}
-use Rattle.muck_event.specs.Histories.{now}
+use Rattle.spec_events.specs.World.{on_queue}
+use Rattle.spec_events.specs.Histories.{now}
 use Rattle.muck_machine.proofs.Keepings.{keeps_entered, dead_seen, process_dead, process_alive, reads}
 use Rattle.muck_machine.proofs.world.World.claim.Goals as goal
 use Rattle.muck_machine.proofs.world.World.claim.Goals.{After-enter}

@@ -1,6 +1,6 @@
 use Rattle.std.proofs.Common.{◌∙◌, ap}
-use Rattle.muck_live.specs.Boards.{connection_in}
-use Rattle.muck_event.specs.World.{connection}
+use Rattle.spec_live.specs.Boards.{connection_in}
+use Rattle.spec_events.specs.World.{connection}
 use Rattle.muck_machine.proofs.Keepings.{reads}
 use Rattle.muck_machine.proofs.world.World.connection.Goals as goal
 

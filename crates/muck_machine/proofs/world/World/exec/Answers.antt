@@ -1,5 +1,5 @@
 use Rattle.std.proofs.Common.{refl, sym, ◌∙◌}
-use Rattle.muck_event.specs.Histories.{now}
+use Rattle.spec_events.specs.Histories.{now}
 use Rattle.muck_machine.proofs.Keepings.{keeps_concluded, dead_seen, alive_if_found}
 use Rattle.muck_machine.proofs.world.World.exec.Goals as goal
 

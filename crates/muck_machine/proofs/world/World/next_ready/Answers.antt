@@ -1,6 +1,6 @@
 use Rattle.std.proofs.Common.{◌∙◌, cond, None, find}
 use Rattle.std.specs.Option.{option_map}
-use Rattle.muck_event.specs.Steps.{is_free}
+use Rattle.spec_events.specs.Steps.{is_free}
 use Rattle.muck_machine.proofs.Keepings.{dead_seen, next_dead, next_alive, reads}
 use Rattle.muck_machine.proofs.world.World.next_ready.Goals as goal
 

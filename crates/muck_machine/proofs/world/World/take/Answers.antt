@@ -1,5 +1,5 @@
 use Rattle.std.proofs.Common.{refl, ◌∙◌, ap, length, take, min}
-use Rattle.muck_event.specs.World.{queue_of}
+use Rattle.spec_events.specs.World.{queue_of}
 use Rattle.muck_machine.proofs.Keepings.{keeps_entered, keeps_same, state_seen, reads_dead, reads_alive}
 use Rattle.muck_machine.proofs.Taken.{none_taken}
 use Rattle.muck_machine.proofs.world.World.take.Goals as goal

@@ -1,0 +1,51 @@
+-- Parts of texts are texts.
+use Rattle.std.proofs.Common.{◌≡◌, ℕ, suc, ◌+◌, Bool, true, false, cond, List, [], ◌∷◌, take, drop, None, refl, sym, subst, ap}
+use Rattle.std.specs.List.{before_first, after_first, position_or_len}
+use Rattle.muck_model.specs.Bytes.{text_fault}
+use Rattle.muck_lock.proofs.Places.{text_fault-take, text_fault-drop}
+use Rattle.spec_commands.specs.Texts.{is_space, start_trimmed, before_trimmed, end_trimmed, trimmed}
+
+abbrev IsLine : List ℕ → Type 0
+IsLine xs = text_fault xs ≡ None
+
+start_text : (xs : List ℕ) → IsLine xs → IsLine (start_trimmed xs)
+start_text [] h = h
+start_text (b ∷ xs) h =
+    elim (is_space b) as (λ c. IsLine (cond c (start_trimmed xs) (b ∷ xs))) [
+      | true ↦ start_text xs (text_fault-drop 1 (b ∷ xs) h)
+      | false ↦ h
+    ]
+
+-- a front of a list
+record IsFront (ys xs : List ℕ) : Type 0 where
+  count : ℕ
+  front : ys ≡ take count xs
+
+front_after : (b : ℕ) (ys xs : List ℕ) → IsFront ys xs → IsFront (before_trimmed b ys) (b ∷ xs)
+front_after b [] xs h =
+    elim (is_space b) as (λ c. IsFront (cond c [] (b ∷ [])) (b ∷ xs)) [
+      | true ↦ record { count = 0; front = refl }
+      | false ↦ record { count = 1; front = refl }
+    ]
+front_after b (c ∷ ys) xs h = record { count = suc h.count; front = ap (λ l. b ∷ l) h.front }
+
+end_front : (xs : List ℕ) → IsFront (end_trimmed xs) xs
+end_front [] = record { count = 0; front = refl }
+end_front (b ∷ xs) = front_after b (end_trimmed xs) xs (end_front xs)
+
+pub trimmed_text : (xs : List ℕ) → text_fault xs ≡ None → text_fault (trimmed xs) ≡ None
+trimmed_text xs h =
+    let ys : List ℕ = start_trimmed xs in
+    let e : IsFront (end_trimmed ys) ys = end_front ys in
+    subst IsLine (sym e.front) (text_fault-take e.count ys (start_text xs h))
+
+pub before_text : (p : ℕ → Bool) (xs : List ℕ) → text_fault xs ≡ None → text_fault (before_first p xs) ≡ None
+before_text p xs h = text_fault-take (position_or_len p xs) xs h
+
+pub after_text : (p : ℕ → Bool) (xs : List ℕ) → text_fault xs ≡ None → text_fault (after_first p xs) ≡ None
+after_text p xs h = text_fault-drop (position_or_len p xs + 1) xs h
+
+pub rest_text : (n : ℕ) (xs : List ℕ) → text_fault xs ≡ None → text_fault (drop n xs) ≡ None
+rest_text n xs h = text_fault-drop n xs h
+
+pub ruleset parts_are_texts = (trimmed_text, before_text, after_text, rest_text)

@@ -1,0 +1,121 @@
+// The parts of a line.
+ghost use Rattle.std.specs.Prelude.{◌≡◌, ◌≤◌, IfOk, None, length, drop};
+ghost use Rattle.std.specs.List.{position, position_or_len, before_first, after_first, list_any};
+ghost use Rattle.muck_model.specs.Bytes.{text_fault};
+ghost use Rattle.spec_commands.specs.Texts.{first_word, other_words, trimmed};
+ghost use Rattle.spec_commands.specs.Commands.{is_equals, has_equals, is_empty, left_part, right_part};
+ghost use Rattle.cmd_common.specs.Cuts.{IsCut, has_two, has_full};
+
+use muck_model::{Line, LineFault, NoMemory};
+use spec_commands::{cut_word, trim};
+use std::alloc::Global;
+
+/// What stands before the first `=` of a text, and what stands behind it, without the spaces at their ends.
+#[derive(Drop)]
+pub struct Parts {
+    /// What stands before it.
+    pub left: Line,
+    /// What stands behind it.
+    pub right: Line,
+}
+
+/// A part of a text as a text of its own.
+pub fn line_of(alloc: Global, part: &[u8]) -> Result<Line, NoMemory>
+    requires { text_fault part.now ≡ None }
+    ensures { IfOk result (λ line. line ≡ part.now) }
+{
+    match Line::new(alloc, part) {
+        Ok(line) => Ok(line),
+        Err(LineFault::NotLine { .. }) => unreachable!(),
+        Err(LineFault::NoMemory) => Err(NoMemory),
+    }
+}
+
+/// What stands behind the first word of a line, without the spaces at its ends.
+#[tactic(auto, using(crate::proofs::Texts::parts_are_texts))]
+pub fn after_word(alloc: Global, line: &Line) -> Result<Line, NoMemory>
+    ensures { IfOk result (λ text. text ≡ trimmed (other_words (trimmed line.now))) }
+{
+    let (_, others) = cut_word(trim(line.as_slice()));
+    line_of(alloc, trim(others))
+}
+
+/// What stands behind the first byte of a line, without the spaces at its ends; an empty line has nothing behind it.
+#[tactic(auto, using(crate::proofs::Texts::parts_are_texts))]
+pub fn after_sign(alloc: Global, line: &Line) -> Result<Line, NoMemory>
+    ensures { IfOk result (λ text. text ≡ trimmed (drop 1 line.now)) }
+{
+    let bytes = line.as_slice();
+    if bytes.is_empty() {
+        return line_of(alloc, bytes);
+    }
+    line_of(alloc, trim(bytes.split_at(1).1))
+}
+
+// Where the first `=` stands.
+fn equals_at(text: &[u8]) -> Option<usize>
+    ensures { result ≡ position is_equals text.now }
+{
+    text.iter().position(|b| *b == b'=')
+}
+
+/// Whether a text has an `=`.
+pub fn has_equals(text: &[u8]) -> bool
+    ensures { result ≡ has_equals text.now }
+{
+    text.iter().any(|b| *b == b'=')
+}
+
+// Where the first `=` stands, or the length.
+#[tactic(auto, using(spec_commands::proofs::Positions::positions))]
+fn left_len(text: &[u8]) -> usize
+    ensures at { result ≡ position_or_len is_equals text.now }
+    ensures within { result ≤ length text.now }
+{
+    equals_at(text).unwrap_or(text.len())
+}
+
+// What stands before the first `=`, and what stands behind it.
+fn cut_equals(text: &[u8]) -> (&[u8], &[u8])
+    ensures before { result.0.now ≡ before_first is_equals text.now }
+    ensures after { result.1.now ≡ after_first is_equals text.now }
+{
+    let (left, rest) = text.split_at(left_len(text));
+    match rest.split_first() {
+        Some((_, right)) => (left, right),
+        None => (left, rest),
+    }
+}
+
+/// The parts of a text around its first `=`, of which the second may be empty; `None` exactly where there is no `=`, or
+/// nothing before it.
+#[tactic(auto, using(crate::proofs::Texts::parts_are_texts))]
+pub fn two_parts(alloc: Global, text: &Line) -> Result<Option<Parts>, NoMemory>
+    ensures { IsCut (has_two text.now) text.now result }
+{
+    let bytes = text.as_slice();
+    let (left, right) = cut_equals(bytes);
+    if !has_equals(bytes) || trim(left).is_empty() {
+        return Ok(None);
+    }
+    Ok(Some(Parts {
+        left: line_of(alloc, trim(left))?,
+        right: line_of(alloc, trim(right))?,
+    }))
+}
+
+/// The parts of a text around its first `=`; `None` exactly where there is no `=`, or one of them is empty.
+#[tactic(auto, using(crate::proofs::Texts::parts_are_texts))]
+pub fn full_parts(alloc: Global, text: &Line) -> Result<Option<Parts>, NoMemory>
+    ensures { IsCut (has_full text.now) text.now result }
+{
+    let bytes = text.as_slice();
+    let (left, right) = cut_equals(bytes);
+    if !has_equals(bytes) || trim(left).is_empty() || trim(right).is_empty() {
+        return Ok(None);
+    }
+    Ok(Some(Parts {
+        left: line_of(alloc, trim(left))?,
+        right: line_of(alloc, trim(right))?,
+    }))
+}

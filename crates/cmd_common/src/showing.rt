@@ -1,0 +1,81 @@
+// What players see of each other and of objects.
+ghost use Rattle.std.specs.Prelude.{◌≡◌, ◌++◌, IfOk};
+ghost use Rattle.spec_live.specs.Lives.{tell, reading, place_at, name_at};
+ghost use Rattle.spec_rights.specs.Levels.{name_shown};
+ghost use Rattle.spec_commands.specs.Finding.{shown_others, listed};
+ghost use Rattle.spec_commands.specs.Programming.{lines_shown};
+ghost use Rattle.muck_perm.specs.Guards.{Did, world_of};
+
+use muck_model::{Dbref, Line, NoMemory};
+use muck_perm::{Guard, name_shown};
+use std::alloc::Global;
+
+/// The place of an object, `#-1` where it isn't there.
+pub fn place_at(guard: &Guard, x: Dbref) -> Dbref
+    ensures { result ≡ place_at x (world_of guard.now) }
+{
+    match guard.db().get(x) {
+        Some(object) => object.place(),
+        None => Dbref(-1),
+    }
+}
+
+/// The name of an object, with a text behind it; what isn't there has none.
+pub fn name_and(guard: &Guard, x: Dbref, tail: &[u8]) -> Result<Vec<u8>, NoMemory>
+    ensures { IfOk result (λ text. text.items ≡ name_at x (world_of guard.now) ++ tail.now) }
+{
+    let mut text = Vec::new(guard.alloc());
+    if let Some(object) = guard.db().get(x) {
+        text.extend_from_slice(object.name().as_slice())?;
+    }
+    text.extend_from_slice(tail)?;
+    Ok(text)
+}
+
+/// The others where a player is see its name, and this text behind it.
+#[tactic(auto, unfolding(spec_commands::specs::Finding::shown_others, spec_live::specs::Lives::reading))]
+pub fn show_others(guard: &mut Guard, player: Dbref, tail: &[u8]) -> Result<(), NoMemory>
+    ensures { Did (shown_others player tail.now) guard.old guard.new result }
+{
+    let room = place_at(guard, player);
+    let text = name_and(guard, player, tail)?;
+    guard.tell_others(room, player, &text)?;
+    Ok(())
+}
+
+/// The connection sees the name of an object, as the player sees it.
+#[tactic(auto, unfolding(spec_live::specs::Lives::reading))]
+pub fn show_name(guard: &mut Guard, d: u32, player: Dbref, x: Dbref) -> Result<(), NoMemory>
+    ensures { Did (reading (name_shown player x) (tell d)) guard.old guard.new result }
+{
+    let text = name_shown(guard.alloc(), guard.db(), player, x)?;
+    guard.tell(d, &text)?;
+    Ok(())
+}
+
+/// The connection sees the names of these objects, one a line.
+pub fn list(guard: &mut Guard, d: u32, player: Dbref, xs: &[Dbref]) -> Result<(), NoMemory>
+    ensures { Did (listed d player xs.now) guard.old guard.new result }
+{
+    for x in xs {
+        show_name(guard, d, player, *x)?;
+    }
+    Ok(())
+}
+
+fn show_line(guard: &mut Guard, d: u32, line: &Line) -> Result<(), NoMemory>
+    ensures { Did (tell d line.now) guard.old guard.new result }
+{
+    guard.tell(d, line.as_slice())?;
+    Ok(())
+}
+
+/// The connection sees these lines, one after another.
+pub fn show_lines(guard: &mut Guard, d: u32, lines: &[Line]) -> Result<(), NoMemory>
+    ensures { Did (lines_shown d lines.now) guard.old guard.new result }
+{
+    for line in lines {
+        show_line(guard, d, line)?;
+    }
+    Ok(())
+}

@@ -1,7 +1,0 @@
-use Rattle.std.proofs.Common.{◌≡◌, ◌++◌, map}
-use Rattle.std.specs.Vec.Iter.{into_iter_items}
-use Rattle.muck_program.specs.Programs.{definition_of, defs_of}
-use Rattle.muck_program.proofs.lending.defs_of.Given as goal
-
-abbrev pub invariant-loop-property : goal.invariant-loop-property
-invariant-loop-property l = l.list ++ map definition_of (into_iter_items l.property-iterator) ≡ defs_of l.object

@@ -1,8 +1,0 @@
-use Rattle.std.proofs.Common.{ap, ◌∙◌}
-use Rattle.muf_model.specs.Source.{calls_of}
-use Rattle.muf_run.proofs.Lockstep.{calls_fits}
-use Rattle.muf_process.proofs.running.Running.calls.Goals as goal
-
-pub returns-clause-value : goal.returns-clause-value
-returns-clause-value c =
-    c.calls.ensures.value ∙ calls_fits c.self.invariant.0 ∙ ap (λ s. calls_of s.marks) c.self.view_is

@@ -1,0 +1,29 @@
+use Rattle.std.proofs.Common.{◌≡◌, ◌<◌, ◌∷◌, reverse, Some, sym, ap, subst, ◌∙◌}
+use Rattle.std.specs.Prelude.{slice_get}
+use Rattle.std.specs.Option.{option_map}
+use Rattle.std.proofs.lemmas.List.{reverse-append}
+use Rattle.muf_model.specs.Decode.{tree_of}
+use Rattle.muf_model.specs.Flat.{decode}
+use Rattle.muf_model.specs.Source.{calls_of, entered}
+use Rattle.muf_frame.specs.Shown.{flat}
+use Rattle.muf_run.proofs.Lockstep.{calls_fits}
+use Rattle.muf_running.specs.Begins.{StartsAt}
+use Rattle.muf_running.specs.Fitting.{codes_of, program_with, ProgramsFit}
+use Rattle.muf_running.proofs.Process.{call_at}
+use Rattle.muf_running.proofs.running.Running.call.Goals as goal
+
+pub enter-requires : goal.enter-requires
+enter-requires c =
+    subst (λ n. n < 511) (sym (calls_fits c.self.invariant.0 ∙ ap (λ s. calls_of s.marks) c.self.view_is)) c.requires.calls
+
+pub invariant_of-result : goal.invariant_of-result
+invariant_of-result c =
+    let grown : reverse c.push.new.self.items ≡ record { program = c.args.program; code = c.args.code } ∷ reverse c.self.inside.programs.items = ap reverse c.in_ok-push.ensures.items ∙ reverse-append c.self.inside.programs.items _ in
+    let r = call_at (reverse c.self.inside.programs.items) (flat c.self.inside.frame) (flat c.enter.new.self) c.args.program c.args.code c.args.word c.start_of-start.result c.self.invariant c.requires.stands (subst (λ x. StartsAt x c.args.word c.start_of-start.result) c.get.ensures c.start_of-start.ensures) c.in_ok-enter.ensures in
+    subst (λ es. ProgramsFit es (flat c.enter.new.self)) (sym grown) r.0
+
+pub returns : goal.returns
+returns c =
+    let grown : reverse c.push.new.self.items ≡ record { program = c.args.program; code = c.args.code } ∷ reverse c.self.inside.programs.items = ap reverse c.in_ok-push.ensures.items ∙ reverse-append c.self.inside.programs.items _ in
+    let r = call_at (reverse c.self.inside.programs.items) (flat c.self.inside.frame) (flat c.enter.new.self) c.args.program c.args.code c.args.word c.start_of-start.result c.self.invariant c.requires.stands (subst (λ x. StartsAt x c.args.word c.start_of-start.result) c.get.ensures c.start_of-start.ensures) c.in_ok-enter.ensures in
+    ap (λ s. option_map (λ d. entered (program_with c.args.program c.args.code) d s) (slice_get (tree_of c.args.code).words c.args.word)) (sym c.self.view_is) ∙ r.1 ∙ ap (λ es. Some (decode (codes_of es) (flat c.enter.new.self))) (sym grown)

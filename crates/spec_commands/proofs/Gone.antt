@@ -1,0 +1,189 @@
+-- How players go, take, drop and recycle is open to them.
+use Rattle.std.proofs.Common.{◌≡◌, ℕ, Bool, true, false, List, refl, sym, ◌∙◌, ap, Option, Some, None}
+use Rattle.std.specs.Prelude.{Result, Ok, Err, ◌&&◌, ◌||◌, codes}
+use Rattle.std.specs.Option.{option_map_or}
+use Rattle.muck_model.specs.declared.dbref.Dbref.{Dbref}
+use Rattle.muck_model.specs.declared.dbref.Denial.{Denial}
+use Rattle.muck_model.specs.declared.dbref.Kind.{Kind}
+use Rattle.muck_model.specs.declared.dbref.Kind.TheVariants.{Room, Thing, Exit, Player, Program, Garbage}
+use Rattle.muck_match.specs.declared.exits.ExitHit.{ExitHit}
+use Rattle.spec_live.specs.declared.fault.DbFault.{DbFault}
+use Rattle.spec_live.specs.declared.object.Object.{Object}
+use Rattle.spec_live.specs.Objects.{Entry, nothing, same, is_thing, is_program, object_at}
+use Rattle.spec_live.specs.Recycling.{recycle_check}
+use Rattle.spec_live.specs.Lives.{Live, Change, ◌▸◌, reading, tell}
+use Rattle.spec_rights.specs.declared.act.Actor.{Actor}
+use Rattle.spec_rights.specs.declared.act.Act.{Act}
+use Rattle.spec_rights.specs.declared.act.Act.TheVariants.{Take, Recycle}
+use Rattle.spec_rights.specs.Verdict.{verdict, place_of}
+use Rattle.spec_rights.specs.Changing.{recycled_now}
+use Rattle.spec_rights.specs.Licence.{at_hand, at_hand_kind}
+use Rattle.spec_rights.proofs.Licences.{Quiet, Stays, Ends, Whole, Always, itself, whole_ends, whole_asked, whole_quiet, whole_quietly}
+use Rattle.spec_rights.proofs.Recycled.{recycled_licensed}
+use Rattle.spec_rights.proofs.Allowed.{take_allowed}
+use Rattle.spec_rights.proofs.Permitted.{staying, ending}
+use Rattle.spec_rights.proofs.Shown.{shown}
+use Rattle.spec_commands.specs.declared.outcome.Outcome.{Outcome}
+use Rattle.spec_commands.specs.Replies.{taken_reply, recycled_reply, dropped_reply}
+use Rattle.spec_commands.specs.Finding.{is_so, is_object, finding_object, message_shown, message_to_others}
+use Rattle.spec_commands.specs.Going.{ended, moving, gone, gone_home, led, failed, succeeded, walked, walked_some, went, is_item, not_taken, taken, is_carried, drop_place, dropped, inventory_shown}
+use Rattle.spec_commands.specs.Building.{allowed, recycled}
+use Rattle.spec_commands.proofs.Showing.{seeing, stays_where, ends_where, whole_where, whole_finding}
+
+-- The answer of a command is its world and its outcome.
+abbrev pub world_of : Live × Outcome → Live
+world_of p = p.0
+
+pub ends_ended : (a : Actor) (free : Dbref → Bool) (given : Option Act) (outcome : Outcome) (f : Change) → Ends itself a free given f → Ends world_of a free given (ended outcome f)
+unfolding ended
+ends_ended a free given outcome f p = record { law = p.law }
+
+pub whole_ended : (a : Actor) (own : Option ℕ) (free : List Entry → Dbref → Bool) (given : Live → Type 0) (outcome : Outcome) (f : Change) → Whole itself a own free given f → Whole world_of a own free given (ended outcome f)
+unfolding ended
+whole_ended a own free given outcome f p = record { law = p.law }
+
+-- Going.
+
+stays_moving : (a : Actor) (free : Dbref → Bool) (given : Option Act) (d : ℕ) (x to : Dbref) (go : Change) → free x ≡ true → Quiet go → Stays a free given (moving d x to go)
+unfolding moving
+stays_moving a free given d x to go h q = search (staying, stays_where)
+
+stays_gone : (a : Actor) (free : Dbref → Bool) (given : Option Act) (d : ℕ) (player to : Dbref) (seen : Change) → free player ≡ true → Quiet seen → Stays a free given (gone d player to seen)
+unfolding gone
+stays_gone a free given d player to seen h q = search (staying, seeing, stays_where) depth 8
+
+pub stays_gone_home : (a : Actor) (free : Dbref → Bool) (given : Option Act) (d : ℕ) (player : Dbref) → free player ≡ true → Stays a free given (gone_home d player)
+unfolding gone_home
+stays_gone_home a free given d player h = search (staying, stays_gone)
+
+quiet_failed : (d : ℕ) (player : Dbref) (otherwise : List ℕ) (x : Dbref) → Quiet (failed d player otherwise x)
+unfolding failed
+quiet_failed d player otherwise x = search seeing
+
+quiet_succeeded : (d : ℕ) (player x : Dbref) → Quiet (succeeded d player x)
+unfolding succeeded
+quiet_succeeded d player x = search seeing
+
+ends_led : (a : Actor) (free : Dbref → Bool) (given : Option Act) (d : ℕ) (player : Dbref) (hit : ExitHit) (line : List ℕ) (to : Dbref) → free player ≡ true → Ends world_of a free given (led d player hit line to)
+unfolding led
+ends_led a free given d player hit line to h = search (ending, seeing, ends_ended, ends_where, stays_gone) depth 9
+
+pub walked_open : (a : Actor) (free : Dbref → Bool) (d : ℕ) (hit : ExitHit) (line : List ℕ) → free a.player ≡ true → Ends world_of a free None (walked d a hit line)
+unfolding walked
+walked_open a free d hit line h = search (ending, ends_ended, quiet_failed, quiet_succeeded, ends_led)
+
+walked_some_open : (a : Actor) (free : Dbref → Bool) (d : ℕ) (line : List ℕ) (hit : Option ExitHit) → free a.player ≡ true → Ends world_of a free None (walked_some d a line hit)
+walked_some_open a free d line None h = search (ending, ends_ended)
+walked_some_open a free d line (Some hit) h = walked_open a free d hit line h
+
+pub went_open : (a : Actor) (free : Dbref → Bool) (d : ℕ) (line : List ℕ) → free a.player ≡ true → Ends world_of a free None (went d a line)
+unfolding went
+went_open a free d line h = search (ending, walked_some_open)
+
+-- Taking and dropping what is at hand.
+
+item_kind : (k : Kind) → (is_thing k || is_program k) ≡ true → at_hand_kind k ≡ true
+item_kind Thing e = refl
+item_kind Program e = refl
+item_kind Room e = cc
+item_kind Exit e = cc
+item_kind Player e = cc
+item_kind Garbage e = cc
+
+and_two : (b c : Bool) → b ≡ true → c ≡ true → (b && c) ≡ true
+and_two b c e f = rw (e, f) refl
+
+or_right : (b c : Bool) → c ≡ true → (b || c) ≡ true
+or_right true c e = refl
+or_right false c e = e
+
+or_left : (b c : Bool) → b ≡ true → (b || c) ≡ true
+or_left b c e = rw e refl
+
+here_at_hand : (es : List Entry) (a : Actor) (x : Dbref) (q : Option Object) → object_at x es ≡ q → option_map_or (λ (o : Object). is_thing o.kind || is_program o.kind) q false ≡ true → same (place_of es x) (place_of es a.player) ≡ true → at_hand es a x ≡ true
+here_at_hand es a x None e t p = absurd (cc)
+here_at_hand es a x (Some o) e t p =
+    let here : Dbref = place_of es a.player in
+    let place : same o.place here ≡ true = ap (λ (y : Dbref). same y here) (sym (ap (λ (q : Option Object). option_map_or (λ (k : Object). k.place) q nothing) e)) ∙ p in
+    ap (λ (q : Option Object). option_map_or (λ (k : Object). at_hand_kind k.kind && (same k.place a.player || same k.place here)) q false) e
+    ∙ and_two _ _ (item_kind o.kind t) (or_right (same o.place a.player) _ place)
+
+and_first : (b c : Bool) → (b && c) ≡ true → b ≡ true
+and_first true c e = refl
+and_first false c e = e
+
+and_second : (b c : Bool) → (b && c) ≡ true → c ≡ true
+and_second true c e = e
+and_second false c e = cc
+
+carried_at_hand : (es : List Entry) (a : Actor) (x : Dbref) (q : Option Object) → object_at x es ≡ q → option_map_or (λ (o : Object). (is_thing o.kind || is_program o.kind) && same o.place a.player) q false ≡ true → at_hand es a x ≡ true
+carried_at_hand es a x None e t = absurd (cc)
+carried_at_hand es a x (Some o) e t =
+    ap (λ (q : Option Object). option_map_or (λ (k : Object). at_hand_kind k.kind && (same k.place a.player || same k.place (place_of es a.player))) q false) e
+    ∙ and_two _ _ (item_kind o.kind (and_first (is_thing o.kind || is_program o.kind) (same o.place a.player) t)) (or_left (same o.place a.player) (same o.place (place_of es a.player)) (and_second (is_thing o.kind || is_program o.kind) (same o.place a.player) t))
+
+item_at : (x : Dbref) (w : Live) → is_item x w ≡ true → option_map_or (λ (o : Object). is_thing o.kind || is_program o.kind) (object_at x w.objects) false ≡ true
+unfolding is_so
+item_at x w e = e
+
+carried_at : (player x : Dbref) (w : Live) → is_carried player x w ≡ true → option_map_or (λ (o : Object). (is_thing o.kind || is_program o.kind) && same o.place player) (object_at x w.objects) false ≡ true
+unfolding is_so
+carried_at player x w e = e
+
+taking : (a : Actor) (free : Dbref → Bool) (d : ℕ) (x : Dbref) → free x ≡ true → Ends itself a free None (succeeded d a.player x ▸ moving d x a.player (tell d taken_reply))
+taking a free d x h = search (ending, seeing, quiet_succeeded, stays_moving)
+
+quiet_not_taken : (d : ℕ) (player x : Dbref) (denial : Denial) → Quiet (not_taken d player x denial)
+quiet_not_taken d player x denial = search (seeing, quiet_failed)
+
+-- what is at hand is free
+abbrev pub HandFree : Actor → (List Entry → Dbref → Bool) → Type 0
+HandFree a free = (es : List Entry) (x : Dbref) → at_hand es a x ≡ true → free es x ≡ true
+
+pub taken_open : (a : Actor) (own : Option ℕ) (free : List Entry → Dbref → Bool) (d : ℕ) (name : List ℕ) → HandFree a free → Whole itself a own free Always (taken d a name)
+unfolding taken
+taken_open a own free d name hands =
+    whole_finding itself a own free Always (tell d) a.player name _ (λ t. whole_quiet a own free Always _ (search shown)) (λ x.
+    whole_where itself a own free Always (is_item x) _ _ (whole_quiet a own free Always _ (search shown))
+    (whole_asked itself a own free _ (Take x) _ _ (λ denial. whole_quiet a own free Always _ (quiet_not_taken d a.player x denial))
+    (whole_ends itself a own free _ _ (λ w h.
+    taking a (free w.objects) d x (hands w.objects x (here_at_hand w.objects a x (object_at x w.objects) refl (item_at x w h.0.1) (take_allowed w.objects a x h.1)))))))
+
+dropping : (a : Actor) (free : Dbref → Bool) (d : ℕ) (x : Dbref) → free x ≡ true →
+    Ends itself a free None (reading (drop_place a.player) (λ to. moving d x to (tell d dropped_reply ▸ message_shown d (codes "dr") x ▸ message_to_others a.player (codes "odr") x)))
+dropping a free d x h = search (ending, seeing, stays_moving) depth 7
+
+pub dropped_open : (a : Actor) (own : Option ℕ) (free : List Entry → Dbref → Bool) (d : ℕ) (name : List ℕ) → HandFree a free → Whole itself a own free Always (dropped d a.player name)
+unfolding dropped
+dropped_open a own free d name hands =
+    whole_finding itself a own free Always (tell d) a.player name _ (λ t. whole_quiet a own free Always _ (search shown)) (λ x.
+    whole_where itself a own free Always (is_carried a.player x) _ _ (whole_quiet a own free Always _ (search shown))
+    (whole_ends itself a own free _ _ (λ w h.
+    dropping a (free w.objects) d x (hands w.objects x (carried_at_hand w.objects a x (object_at x w.objects) refl (carried_at a.player x w h.1))))))
+
+pub quiet_inventory_shown : (d : ℕ) (player : Dbref) → Quiet (inventory_shown d player)
+unfolding inventory_shown
+quiet_inventory_shown d player = search seeing
+
+-- Recycling.
+
+passed : (r : Result ℕ DbFault) → allowed r ≡ true → (n : ℕ) × (r ≡ Ok n)
+passed (Ok n) e = (n, refl)
+passed (Err fault) e = absurd (cc)
+
+recycling : (a : Actor) (own : Option ℕ) (free : List Entry → Dbref → Bool) (x : Dbref) (given : Live → Type 0) → ((w : Live) → given w → (verdict w.objects a (Recycle x) ≡ None) × (allowed (recycle_check x w.objects) ≡ true)) → Whole itself a own free given (recycled_now x)
+recycling a own free x given h = record {
+  law = λ w c g.
+      let t = h w g in
+      let p = passed (recycle_check x w.objects) t.1 in
+      recycled_licensed a (free w.objects) x w p.0 t.0 p.1;
+}
+
+pub recycled_open : (a : Actor) (own : Option ℕ) (free : List Entry → Dbref → Bool) (d : ℕ) (name : List ℕ) → Whole itself a own free Always (recycled d a name)
+unfolding recycled finding_object
+recycled_open a own free d name =
+    whole_finding itself a own free Always (tell d) a.player name _ (λ t. whole_quiet a own free Always _ (search shown)) (λ x.
+    whole_where itself a own free Always (is_object x) _ _ (whole_quiet a own free Always _ (search shown))
+    (whole_asked itself a own free _ (Recycle x) _ _ (λ denial. whole_quiet a own free Always _ (search shown))
+    (whole_where itself a own free _ (λ w. allowed (recycle_check x w.objects)) _ _ (whole_quiet a own free _ _ (search shown))
+    (whole_quietly a own free _ (recycled_now x) (tell d recycled_reply) (recycling a own free x _ (λ w h. (h.0.1, h.1))) (search shown)))))

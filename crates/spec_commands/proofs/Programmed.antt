@@ -1,0 +1,80 @@
+-- What players do with programs is open to them.
+use Rattle.std.proofs.Common.{◌≡◌, ℕ, List, [], ◌∷◌, refl, Option, Some, None}
+use Rattle.std.specs.Prelude.{Bool, Result, Ok, Err}
+use Rattle.muck_model.specs.declared.dbref.Dbref.{Dbref}
+use Rattle.muck_model.specs.declared.dbref.Kind.TheVariants.{Program}
+use Rattle.spec_live.specs.declared.fault.DbFault.{DbFault}
+use Rattle.spec_live.specs.Objects.{Entry}
+use Rattle.spec_live.specs.Making.{create_check}
+use Rattle.spec_live.specs.Setting.{with_level}
+use Rattle.spec_live.specs.Lives.{Live, followed, ◌▸◌, reading, tell}
+use Rattle.spec_rights.specs.declared.act.Actor.{Actor}
+use Rattle.spec_rights.specs.declared.act.Act.{Act}
+use Rattle.spec_rights.specs.declared.act.Act.TheVariants.{NewProgram}
+use Rattle.spec_rights.specs.Verdict.{verdict}
+use Rattle.spec_rights.specs.Changing.{created_so}
+use Rattle.spec_rights.proofs.Rights.{SameRights}
+use Rattle.spec_rights.proofs.Licences.{judge, Quiet, End, Ends, end_quietly, ends_quiet, quiet_followed}
+use Rattle.spec_rights.proofs.Makings.{end_created, program_open}
+use Rattle.spec_rights.proofs.Shown.{shown, quiet_tell}
+use Rattle.spec_commands.specs.Replies.{cant_be_done, entering_editor}
+use Rattle.spec_commands.specs.Going.{Play, ended}
+use Rattle.spec_commands.specs.Building.{created_shown}
+use Rattle.spec_commands.specs.Programming.{lines_shown, finding_program, first_level, program_put, program_at, program_new, program_made, editor_entered, program_edited, source_shown, program_listed, program_called, program_run}
+use Rattle.spec_commands.proofs.Built.{permitting, quiet_created_shown}
+use Rattle.spec_commands.proofs.Gone.{world_of, ends_ended}
+
+pub quiet_lines_shown : (d : ℕ) (lines : List (List ℕ)) → Quiet (lines_shown d lines)
+unfolding lines_shown
+quiet_lines_shown d [] = search shown
+quiet_lines_shown d (line ∷ lines) = quiet_followed (tell d line) (lines_shown d lines) (quiet_tell d line) (quiet_lines_shown d lines)
+
+ruleset programming = (permitting, ends_ended, quiet_lines_shown)
+
+ends_finding_program : (a : Actor) (free : Dbref → Bool) (given : Option Act) (d : ℕ) (b : Actor) (name : List ℕ) (go : Dbref → Play) → ((x : Dbref) → Ends world_of a free given (go x)) → Ends world_of a free given (finding_program d b name go)
+unfolding finding_program
+ends_finding_program a free given d b name go p = search programming depth 7
+
+-- Making.
+
+ends_program_new : (a : Actor) (free : Dbref → Bool) (d : ℕ) (name : List ℕ) → Ends world_of a free (Some NewProgram) (program_new d a name)
+unfolding program_new program_put reading ended followed
+ends_program_new a free d name = record { law = λ start w s g. at start w s g (create_check Program a.user a.player w.objects) refl }
+  where
+    at : (start : List Entry) (w : Live) → SameRights start w.objects → verdict w.objects a NewProgram ≡ None → (check : Result (ℕ × ℕ) DbFault) → create_check Program a.user a.player w.objects ≡ check →
+        End (judge a free start) w (world_of (program_at d a name (first_level a.user w) check w))
+    at start w s g (Ok p) e =
+        end_quietly (judge a free start) w (created_so p.0 Program name a.user p.1 (with_level (first_level a.user w)) w) (created_shown d p.0 ▸ tell d entering_editor)
+        (end_created (judge a free start) Program name a.user a.player (with_level (first_level a.user w)) w p e (λ k t q. program_open a free start w.objects name (first_level a.user w) k t s g refl))
+        (quiet_followed _ _ (quiet_created_shown d p.0) (quiet_tell d entering_editor))
+    at start w s g (Err fault) e = (ends_quiet a free (Some NewProgram) (tell d cant_be_done) (quiet_tell d cant_be_done)).law start w s g
+
+pub program_made_open : (a : Actor) (free : Dbref → Bool) (d : ℕ) (name : List ℕ) → Ends world_of a free None (program_made d a name)
+unfolding program_made
+program_made_open a free d name = search (programming, ends_program_new)
+
+-- Editing, listing and running change nothing that is judged.
+
+editor_entered_open : (a : Actor) (free : Dbref → Bool) (d : ℕ) (x : Dbref) → Ends world_of a free None (editor_entered d a x)
+unfolding editor_entered
+editor_entered_open a free d x = search programming
+
+source_shown_open : (a : Actor) (free : Dbref → Bool) (d : ℕ) (x : Dbref) → Ends world_of a free None (source_shown d a x)
+unfolding source_shown
+source_shown_open a free d x = search programming depth 7
+
+program_called_open : (a : Actor) (free : Dbref → Bool) (d : ℕ) (line text : List ℕ) (x : Dbref) → Ends world_of a free None (program_called d a line text x)
+unfolding program_called
+program_called_open a free d line text x = search programming
+
+pub program_edited_open : (a : Actor) (free : Dbref → Bool) (d : ℕ) (name : List ℕ) → Ends world_of a free None (program_edited d a name)
+unfolding program_edited
+program_edited_open a free d name = ends_finding_program a free None d a name _ (editor_entered_open a free d)
+
+pub program_listed_open : (a : Actor) (free : Dbref → Bool) (d : ℕ) (name : List ℕ) → Ends world_of a free None (program_listed d a name)
+unfolding program_listed
+program_listed_open a free d name = ends_finding_program a free None d a name _ (source_shown_open a free d)
+
+pub program_run_open : (a : Actor) (free : Dbref → Bool) (d : ℕ) (line name text : List ℕ) → Ends world_of a free None (program_run d a line name text)
+unfolding program_run
+program_run_open a free d line name text = ends_finding_program a free None d a name _ (program_called_open a free d line text)

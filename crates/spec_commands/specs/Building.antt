@@ -1,0 +1,272 @@
+-- How players build.
+use Rattle.std.specs.Prelude.{ℕ, ◌+◌, Bool, true, false, not, ◌&&◌, ◌||◌, ◌==◌, nat_lt, nat_le, if◌then◌else◌, List, [], ◌∷◌, length, map, codes, Option, Some, None, Result, Ok, Err}
+use Rattle.std.specs.Option.{option_map_or, option_and_then}
+use Rattle.std.specs.List.{list_any}
+use Rattle.std.specs.Char.{to_ascii_lowercase}
+use Rattle.std.specs.FinMap.{get}
+use Rattle.muck_model.specs.declared.dbref.Dbref.{Dbref}
+use Rattle.muck_model.specs.declared.dbref.Kind.{Kind}
+use Rattle.muck_model.specs.declared.dbref.Kind.TheVariants.{Room, Thing, Exit, Garbage}
+use Rattle.muck_model.specs.declared.lock.Lock.{Lock}
+use Rattle.muck_prop.specs.declared.value.PropValue.{PropValue}
+use Rattle.muck_prop.specs.declared.value.PropValue.TheVariants.{Text, Number}
+use Rattle.muck_match.specs.Words.{is_same}
+use Rattle.muck_match.specs.declared.naming.Found.{Found}
+use Rattle.muck_match.specs.declared.naming.Found.TheVariants.{One}
+use Rattle.muck_match.specs.Naming.{found, player_named}
+use Rattle.muck_lock.specs.Naming.{Naming, naming}
+use Rattle.muck_lock.specs.Grammar.{lock_of}
+use Rattle.muck_lock.specs.Printed.{printed}
+use Rattle.spec_live.specs.declared.fault.DbFault.{DbFault}
+use Rattle.spec_live.specs.declared.object.Object.{Object}
+use Rattle.spec_live.specs.Objects.{Entry, dbref_of, nothing, home, same, is_thing, is_player, is_program, object_at}
+use Rattle.spec_live.specs.Making.{create_check}
+use Rattle.spec_live.specs.Setting.{with_link, with_home, link_check, home_check, owner_check, may_link, may_live}
+use Rattle.spec_live.specs.Recycling.{recycle_check}
+use Rattle.spec_live.specs.Seen.{scenery_of, long_form, signed_text}
+use Rattle.spec_live.specs.Lives.{Live, Change, ◌▸◌, reading, either, tell, place_at, name_at}
+use Rattle.spec_rights.specs.declared.act.Actor.{Actor}
+use Rattle.spec_rights.specs.declared.act.Act.TheVariants.{Move, Link, NewRoom, NewThing, NewExit, Change as ChangeAct, Rename, Recycle, SetOwner}
+use Rattle.spec_rights.specs.Levels.{controls_as, name_shown, owner_at}
+use Rattle.spec_rights.specs.Asking.{asked, refused}
+use Rattle.spec_rights.specs.Changing.{named, linked, homed, owned_by, stored, recycled_now, created_so}
+use Rattle.spec_commands.specs.Replies.{cant_be_done, bad_name, bad_key, owner_line, lock_line, unlocked_text, created_reply, linked_reply, unlinked_reply, named_reply, set_reply, locked_reply, unlocked_reply, teleported_reply, recycled_reply, chowned_reply, found_count}
+use Rattle.spec_commands.specs.Finding.{finding, finding_player, where_so, is_so, message_path, listed, finding_object}
+use Rattle.spec_commands.specs.Going.{may_move, moving, home_at}
+
+-- Names.
+
+abbrev pub is_reserved : List ℕ → Bool
+is_reserved name = is_same name (codes "me") || (is_same name (codes "here") || is_same name (codes "home"))
+
+-- the first byte of a name isn't one that means something else
+abbrev pub bad_start : List ℕ → Bool
+bad_start [] = true
+bad_start (b ∷ name) = b == 35 || (b == 42 || (b == 33 || b == 32))
+
+-- 1 to 80 bytes, none of them 13, that no text for finding means otherwise
+unfoldable pub is_name : List ℕ → Bool
+is_name name = not (bad_start name || (nat_lt 80 (length name) || (list_any (λ b. b == 13) name || is_reserved name)))
+
+-- a player's name has no space, and no player has it
+unfoldable pub is_player_name : List Entry → List ℕ → Bool
+is_player_name es name = is_name name && (not (list_any (λ b. b == 32) name) && option_map_or (λ d. false) (player_named (scenery_of es) name) true)
+
+-- Making. Where anything is refused, nothing is made.
+
+abbrev pub allowed : {X : Type 0} → Result X DbFault → Bool
+allowed check = may_move check
+
+-- the number that a new object gets and the number of its place
+abbrev pub made_at : Result (ℕ × ℕ) DbFault → (ℕ → ℕ → Change) → Change → Change
+made_at (Ok p) go otherwise = go p.0 p.1
+made_at (Err fault) go otherwise = otherwise
+
+-- the player sees the long form of what was made
+unfoldable pub created_shown : ℕ → ℕ → Change
+created_shown d n = reading (λ w. option_map_or (long_form n) (object_at (dbref_of n) w.objects) []) (λ name. tell d (created_reply name))
+
+-- an object is made in a place, with a field set at once
+unfoldable pub making : ℕ → Actor → Kind → List ℕ → Dbref → (Object → Object) → Change
+making d a kind name place f =
+    reading (λ w. create_check kind a.user place w.objects) (λ check.
+    made_at check (λ n to. created_so n kind name a.user to f ▸ created_shown d n) (tell d cant_be_done))
+
+abbrev pub as_made : Object → Object
+as_made o = o
+
+-- `@dig`
+unfoldable pub dug : ℕ → Actor → List ℕ → Change
+dug d a name =
+    either (is_name name)
+    (asked a (NewRoom (dbref_of 0)) (refused d) (making d a Room name (dbref_of 0) as_made))
+    (tell d bad_name)
+
+-- a thing may have its home there
+abbrev pub may_house : Dbref → Live → Bool
+may_house to w = is_so (λ o. may_live Thing o.kind) to w
+
+-- a thing that the player carries, with that home
+unfoldable pub housed : ℕ → Actor → List ℕ → Dbref → Change
+housed d a name to = where_so (may_house to) (tell d cant_be_done) (making d a Thing name a.player (with_home to))
+
+-- `@create`: a thing whose home is the player's
+unfoldable pub thing_made : ℕ → Actor → List ℕ → Change
+thing_made d a name =
+    either (is_name name) (asked a (NewThing a.player) (refused d) (reading (home_at a.player) (housed d a name))) (tell d bad_name)
+
+-- an exit may lead there
+abbrev pub may_lead : Dbref → Live → Bool
+may_lead to w = same to home || (same to nothing || is_so (λ o. may_link Exit o.kind) to w)
+
+unfoldable pub exit_made : ℕ → Actor → List ℕ → Dbref → Dbref → Change
+exit_made d a name place to =
+    asked a (NewExit place to) (refused d)
+    (where_so (may_lead to) (tell d cant_be_done) (making d a Exit name place (with_link to)))
+
+-- `@open` with a name alone, and with a place to which the exit leads
+unfoldable pub opened_exit : ℕ → Actor → List ℕ → Change
+opened_exit d a name = either (is_name name) (reading (place_at a.player) (λ here. exit_made d a name here nothing)) (tell d bad_name)
+
+unfoldable pub opened_to : ℕ → Actor → List ℕ → List ℕ → Change
+opened_to d a name target =
+    either (is_name name)
+    (finding (tell d) a.player target (λ to. reading (place_at a.player) (λ here. exit_made d a name here to)))
+    (tell d bad_name)
+
+-- `@action`: an exit on an object
+unfoldable pub action_made : ℕ → Actor → List ℕ → List ℕ → Change
+action_made d a name target =
+    either (is_name name)
+    (finding (tell d) a.player target (λ x. where_so (is_so (λ o. true) x) (tell d cant_be_done) (exit_made d a name x nothing)))
+    (tell d bad_name)
+
+-- Links and homes.
+
+-- exits and rooms have a link, things and players a home
+abbrev pub has_home : Dbref → Live → Bool
+has_home x w = is_so (λ o. is_thing o.kind || is_player o.kind) x w
+
+abbrev pub is_linkable : Dbref → Live → Bool
+is_linkable x w = is_so (λ o. not (is_program o.kind)) x w
+
+-- the link or the home is set, where the world allows it
+unfoldable pub tied : ℕ → Dbref → Dbref → List ℕ → Change
+tied d x to reply =
+    where_so (has_home x)
+    (where_so (λ w. allowed (link_check x to w.objects)) (tell d cant_be_done) (linked x to ▸ tell d reply))
+    (where_so (λ w. allowed (home_check x to w.objects)) (tell d cant_be_done) (homed x to ▸ tell d reply))
+
+-- `@link`
+unfoldable pub link_set : ℕ → Actor → List ℕ → List ℕ → Change
+link_set d a name target =
+    finding (tell d) a.player name (λ x.
+    finding (tell d) a.player target (λ to.
+    where_so (is_linkable x) (tell d cant_be_done) (asked a (Link x to) (refused d) (tied d x to linked_reply))))
+
+-- `@unlink`: a link is cleared, and a home becomes `#0`
+abbrev pub untied_to : Dbref → Live → Dbref
+untied_to x w = if has_home x w then dbref_of 0 else nothing
+
+unfoldable pub link_cleared : ℕ → Actor → List ℕ → Change
+link_cleared d a name =
+    finding (tell d) a.player name (λ x.
+    where_so (is_linkable x) (tell d cant_be_done)
+    (asked a (Link x nothing) (refused d) (reading (untied_to x) (λ to. tied d x to unlinked_reply))))
+
+-- Names, messages and locks.
+
+abbrev pub is_name_for : Dbref → List ℕ → Live → Bool
+is_name_for x name w = if is_so (λ o. is_player o.kind) x w then is_player_name w.objects name else is_name name
+
+-- `@name`
+unfoldable pub name_set : ℕ → Actor → List ℕ → List ℕ → Change
+name_set d a name new =
+    finding_object d a name (λ x.
+    where_so (is_name_for x new) (tell d bad_name) (asked a (Rename x) (refused d) (named x new ▸ tell d named_reply)))
+
+-- the commands of messages; an empty text clears one
+unfoldable pub message_set : ℕ → Actor → List ℕ → List ℕ → List ℕ → Change
+message_set d a word name text =
+    finding_object d a name (λ x. asked a (ChangeAct x) (refused d) (stored x (message_path word) (Text text) ▸ tell d set_reply))
+
+-- the names in a key are found by the player, and no program is a key
+abbrev pub found_one : Found → Option Dbref
+found_one (One x) = Some x
+found_one found = None
+
+abbrev pub key_names : Live → Dbref → Naming
+key_names w player = naming (λ name. found_one (found (scenery_of w.objects) player name)) (λ x. is_so (λ o. is_program o.kind) x w)
+
+-- the lock is kept as it is printed
+abbrev pub lock_kept : ℕ → Dbref → Result Lock ℕ → Change
+lock_kept d x (Ok lock) = either (nat_le (length (printed lock)) 4096) (stored x (message_path (codes "lok")) (Text (printed lock)) ▸ tell d locked_reply) (tell d bad_key)
+lock_kept d x (Err at) = tell d bad_key
+
+-- `@lock` and `@unlock`
+unfoldable pub lock_set : ℕ → Actor → List ℕ → List ℕ → Change
+lock_set d a name key =
+    finding_object d a name (λ x. asked a (ChangeAct x) (refused d) (reading (λ w. lock_of (key_names w a.player) key) (lock_kept d x)))
+
+unfoldable pub lock_cleared : ℕ → Actor → List ℕ → Change
+lock_cleared d a name =
+    finding_object d a name (λ x. asked a (ChangeAct x) (refused d) (stored x (message_path (codes "lok")) (Text []) ▸ tell d unlocked_reply))
+
+-- Moving, recycling and owners.
+
+-- home as a place is the object's own
+abbrev pub meant_place : Dbref → Dbref → Live → Dbref
+meant_place x to w = if same to home then home_at x w else to
+
+-- `@teleport`
+unfoldable pub teleported : ℕ → Actor → List ℕ → List ℕ → Change
+teleported d a name target =
+    finding_object d a name (λ x.
+    finding (tell d) a.player target (λ to.
+    asked a (Move x to) (refused d) (reading (meant_place x to) (λ place. moving d x place (tell d teleported_reply)))))
+
+-- `@recycle`
+unfoldable pub recycled : ℕ → Actor → List ℕ → Change
+recycled d a name =
+    finding_object d a name (λ x.
+    asked a (Recycle x) (refused d) (where_so (λ w. allowed (recycle_check x w.objects)) (tell d cant_be_done) (recycled_now x ▸ tell d recycled_reply)))
+
+-- `@chown`
+unfoldable pub chowned : ℕ → Actor → List ℕ → List ℕ → Change
+chowned d a name owner =
+    finding_object d a name (λ x.
+    finding_player (tell d) owner (λ new.
+    asked a (SetOwner x new) (refused d) (where_so (λ w. allowed (owner_check x new w.objects)) (tell d cant_be_done) (owned_by x new ▸ tell d chowned_reply))))
+
+-- Looking things up.
+
+-- the first text stands in the second, without regard to case
+abbrev pub begins : List ℕ → List ℕ → Bool
+begins [] text = true
+begins (b ∷ part) [] = false
+begins (b ∷ part) (c ∷ text) = b == c && begins part text
+
+abbrev pub stands_in : List ℕ → List ℕ → Bool
+stands_in part [] = begins part []
+stands_in part (c ∷ text) = begins part (c ∷ text) || stands_in part text
+
+unfoldable pub holds_name : List ℕ → List ℕ → Bool
+holds_name part name = stands_in (map to_ascii_lowercase part) (map to_ascii_lowercase name)
+
+-- the user's objects whose name holds the text, by number, where the first number is n
+unfoldable pub owned_named : Dbref → List ℕ → ℕ → List Entry → List Dbref
+owned_named user part n [] = []
+owned_named user part n (e ∷ es) =
+    if is_garbage_kind e.object.kind then owned_named user part (n + 1) es else
+    (if same e.object.owner user && holds_name part e.object.name then dbref_of n ∷ owned_named user part (n + 1) es else owned_named user part (n + 1) es)
+  where
+    is_garbage_kind : Kind → Bool
+    is_garbage_kind Garbage = true
+    is_garbage_kind kind = false
+
+-- `@find`
+unfoldable pub find_shown : ℕ → Actor → List ℕ → Change
+find_shown d a part = reading (λ w. owned_named a.user part 0 w.objects) (λ xs. listed d a.player xs ▸ tell d (found_count (length xs)))
+
+-- `examine`
+
+abbrev pub kept_text : Option PropValue → List ℕ
+kept_text None = unlocked_text
+kept_text (Some (Text text)) = text
+kept_text (Some (Number n)) = signed_text n
+
+-- the text of an object's lock as it is kept
+abbrev pub lock_text : Dbref → Live → List ℕ
+lock_text x w = kept_text (option_and_then (λ o. get o.props (message_path (codes "lok"))) (object_at x w.objects))
+
+abbrev pub is_own : Actor → Dbref → Live → Bool
+is_own a x w = controls_as w.objects a.level a.user x
+
+unfoldable pub owner_shown : ℕ → Dbref → Change
+owner_shown d x = reading (λ w. name_at (owner_at w.objects x) w) (λ name. tell d (owner_line name))
+
+unfoldable pub examined : ℕ → Actor → List ℕ → Change
+examined d a name =
+    finding_object d a name (λ x.
+    where_so (is_own a x) (owner_shown d x)
+    (reading (name_shown a.player x) (tell d) ▸ owner_shown d x ▸ reading (lock_text x) (λ text. tell d (lock_line text))))

@@ -1,0 +1,135 @@
+-- How players go, take and drop.
+use Rattle.std.specs.Prelude.{ℕ, Bool, true, false, not, ◌&&◌, ◌||◌, ◌==◌, if◌then◌else◌, List, drop, codes, Option, Some, None, Result, Ok, Err}
+use Rattle.std.specs.Option.{option_map_or}
+use Rattle.muck_model.specs.declared.dbref.Dbref.{Dbref}
+use Rattle.muck_model.specs.declared.dbref.Denial.{Denial}
+use Rattle.muck_match.specs.declared.exits.ExitHit.{ExitHit}
+use Rattle.muck_match.specs.Exits.{exit_for}
+use Rattle.spec_live.specs.declared.fault.DbFault.{DbFault}
+use Rattle.spec_live.specs.Objects.{nothing, home, same, is_room, is_thing, is_program, object_at}
+use Rattle.spec_live.specs.Moving.{move_check}
+use Rattle.spec_live.specs.Seen.{scenery_of, listed_in}
+use Rattle.spec_live.specs.Lives.{Live, Change, followed, ◌▸◌, reading, either, unchanged, tell, place_at}
+use Rattle.spec_rights.specs.declared.act.Actor.{Actor}
+use Rattle.spec_rights.specs.declared.act.Act.TheVariants.{Walk, Take}
+use Rattle.spec_rights.specs.Asking.{asked, refused}
+use Rattle.spec_rights.specs.Changing.{moved_to}
+use Rattle.spec_commands.specs.declared.outcome.Outcome.{Outcome}
+use Rattle.spec_commands.specs.declared.outcome.Outcome.TheVariants.{Done, Start}
+use Rattle.spec_commands.specs.Replies.{cant_be_done, cant_go, cant_take, has_left, has_arrived, carrying_head, carrying_nothing, taken_reply, dropped_reply}
+use Rattle.spec_commands.specs.Finding.{finding, where_so, is_so, message_or, message_shown, message_to_others, shown_others, listed_under, looked}
+
+-- A line of a player: what it does, and what is to follow.
+abbrev pub Play : Type 0
+Play = Live → Live × Outcome
+
+unfoldable pub ended : Outcome → Change → Play
+ended outcome f w = (f w, outcome)
+
+-- Moving.
+
+abbrev pub home_at : Dbref → Live → Dbref
+home_at x w = option_map_or (λ o. o.home) (object_at x w.objects) nothing
+
+abbrev pub link_at : Dbref → Live → Dbref
+link_at x w = option_map_or (λ o. o.link) (object_at x w.objects) nothing
+
+abbrev pub may_move : {X : Type 0} → Result X DbFault → Bool
+may_move (Ok p) = true
+may_move (Err fault) = false
+
+abbrev pub movable : Dbref → Dbref → Live → Bool
+movable x to w = may_move (move_check x to w.objects)
+
+-- x is moved, and go follows; where the world refuses that is told
+unfoldable pub moving : ℕ → Dbref → Dbref → Change → Change
+moving d x to go = where_so (movable x to) (tell d cant_be_done) (moved_to x to ▸ go)
+
+-- the player goes to another place: others see it leave and arrive, then `seen` is shown, and it looks
+unfoldable pub gone : ℕ → Dbref → Dbref → Change → Change
+gone d player to seen =
+    where_so (movable player to) (tell d cant_be_done)
+    (shown_others player has_left ▸ moved_to player to ▸ shown_others player has_arrived ▸ seen ▸ looked d player)
+
+-- the player walks home
+unfoldable pub gone_home : ℕ → Dbref → Change
+gone_home d player = reading (home_at player) (λ to. gone d player to unchanged)
+
+-- Exits.
+
+-- what stands behind the words that an exit takes
+abbrev pub argument_of : ExitHit → List ℕ → List ℕ
+argument_of hit line = drop hit.rest line
+
+-- the place to which a link leads: home is the player's own
+abbrev pub led_place : Dbref → Dbref → Live → Dbref
+led_place player to w = if same to home then home_at player w else to
+
+abbrev pub is_program_at : Dbref → Live → Bool
+is_program_at x w = is_so (λ o. is_program o.kind) x w
+
+-- the exit leads there: a program is to be started, and to any other place the player goes
+unfoldable pub led : ℕ → Dbref → ExitHit → List ℕ → Dbref → Play
+led d player hit line to =
+    either (same to nothing) (ended Done (tell d cant_go))
+    (where_so (is_program_at to)
+    (ended Done (reading (led_place player to) (λ place. gone d player place (message_shown d (codes "dr") hit.exit ▸ message_to_others player (codes "odr") hit.exit))))
+    (ended (Start to hit.exit line (argument_of hit line)) unchanged))
+
+-- the player may not go through: its messages of failure
+unfoldable pub failed : ℕ → Dbref → List ℕ → Dbref → Change
+failed d player otherwise x = message_or d otherwise (codes "fl") x ▸ message_to_others player (codes "ofl") x
+
+-- the player may: its messages of success
+unfoldable pub succeeded : ℕ → Dbref → Dbref → Change
+succeeded d player x = message_shown d (codes "sc") x ▸ message_to_others player (codes "osc") x
+
+-- the player walks through an exit that takes the line
+unfoldable pub walked : ℕ → Actor → ExitHit → List ℕ → Play
+walked d a hit line =
+    asked a (Walk hit.exit) (λ denial. ended Done (failed d a.player cant_go hit.exit))
+    (followed (succeeded d a.player hit.exit) (reading (link_at hit.exit) (led d a.player hit line)))
+
+abbrev pub walked_some : ℕ → Actor → List ℕ → Option ExitHit → Play
+walked_some d a line None = ended Done (tell d cant_go)
+walked_some d a line (Some hit) = walked d a hit line
+
+-- `go` and the words that an exit takes
+unfoldable pub went : ℕ → Actor → List ℕ → Play
+went d a line = reading (λ w. exit_for (scenery_of w.objects) a.player line) (walked_some d a line)
+
+-- Taking and dropping.
+
+abbrev pub is_item : Dbref → Live → Bool
+is_item x w = is_so (λ o. is_thing o.kind || is_program o.kind) x w
+
+-- a lock that doesn't open is told by the object's own messages, and any other denial by its rule
+abbrev pub not_taken : ℕ → Dbref → Dbref → Denial → Change
+not_taken d player x denial = either (denial.rule == 10) (failed d player cant_take x) (refused d denial)
+
+unfoldable pub taken : ℕ → Actor → List ℕ → Change
+taken d a name =
+    finding (tell d) a.player name (λ x.
+    where_so (is_item x) (tell d cant_be_done)
+    (asked a (Take x) (not_taken d a.player x)
+    (succeeded d a.player x ▸ moving d x a.player (tell d taken_reply))))
+
+abbrev pub is_carried : Dbref → Dbref → Live → Bool
+is_carried player x w = is_so (λ o. (is_thing o.kind || is_program o.kind) && same o.place player) x w
+
+-- where something goes that is dropped: to the place, or where the room sends it
+abbrev pub drop_place : Dbref → Live → Dbref
+drop_place player w =
+    let here = place_at player w in
+    if is_so (λ o. is_room o.kind) here w && not (same (link_at here w) nothing) then link_at here w else here
+
+unfoldable pub dropped : ℕ → Dbref → List ℕ → Change
+dropped d player name =
+    finding (tell d) player name (λ x.
+    where_so (is_carried player x) (tell d cant_be_done)
+    (reading (drop_place player) (λ to.
+    moving d x to (tell d dropped_reply ▸ message_shown d (codes "dr") x ▸ message_to_others player (codes "odr") x))))
+
+-- what the player carries
+unfoldable pub inventory_shown : ℕ → Dbref → Change
+inventory_shown d player = reading (λ w. listed_in false player w.objects) (listed_under d player carrying_head (tell d carrying_nothing))

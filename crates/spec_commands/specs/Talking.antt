@@ -1,0 +1,53 @@
+-- What players say.
+use Rattle.std.specs.Prelude.{ℕ, Bool, ◌&&◌, ◌==◌, if◌then◌else◌, List, [], ◌∷◌, ◌++◌, length}
+use Rattle.std.specs.Option.{option_map_or}
+use Rattle.std.specs.List.{list_any, filter}
+use Rattle.muck_model.specs.declared.dbref.Dbref.{Dbref}
+use Rattle.spec_live.specs.Objects.{same, is_player}
+use Rattle.spec_live.specs.Connections.{Connection, is_of, has_player}
+use Rattle.spec_live.specs.Lives.{Live, Change, ◌▸◌, reading, unchanged, tell, tell_player, place_at, name_at}
+use Rattle.spec_commands.specs.Replies.{cant_be_done, you_say, says, you_page, pages, you_whisper, whispers, not_connected, connected_line, connected_count}
+use Rattle.spec_commands.specs.Finding.{finding, finding_player, where_so, is_so, shown_others}
+
+unfoldable pub said : ℕ → Dbref → List ℕ → Change
+said d player text = tell d (you_say text) ▸ shown_others player (says text)
+
+-- a space stands before what a player does, but for an apostrophe
+abbrev pub pose_tail : List ℕ → List ℕ
+pose_tail [] = []
+pose_tail (b ∷ text) = if b == 39 then b ∷ text else 32 ∷ b ∷ text
+
+unfoldable pub posed : ℕ → Dbref → List ℕ → Change
+posed d player text = reading (name_at player) (λ name. tell d (name ++ pose_tail text)) ▸ shown_others player (pose_tail text)
+
+abbrev pub is_connected : Dbref → Live → Bool
+is_connected player w = list_any (is_of player) w.board.connections
+
+-- the player and the other one see what was said to that one alone
+unfoldable pub said_to : ℕ → Dbref → Dbref → (List ℕ → List ℕ) → List ℕ → Change
+said_to d player to you tail =
+    reading (name_at to) (λ name. tell d (you name)) ▸ reading (name_at player) (λ name. tell_player to (name ++ tail))
+
+unfoldable pub paged : ℕ → Dbref → List ℕ → List ℕ → Change
+paged d player name text =
+    finding_player (tell d) name (λ to.
+    where_so (is_connected to) (reading (name_at to) (λ found. tell d (found ++ not_connected)))
+    (said_to d player to (you_page text) (pages text)))
+
+-- a player who is where the player is
+abbrev pub is_company : Dbref → Dbref → Live → Bool
+is_company player to w = is_so (λ o. is_player o.kind && same o.place (place_at player w)) to w
+
+unfoldable pub whispered : ℕ → Dbref → List ℕ → List ℕ → Change
+whispered d player name text =
+    finding (tell d) player name (λ to. where_so (is_company player to) (tell d cant_be_done) (said_to d player to (you_whisper text) (whispers text)))
+
+-- Who is connected.
+
+-- a line for each connection with a player
+unfoldable pub who_lines : ℕ → List Connection → Change
+who_lines d [] = unchanged
+who_lines d (c ∷ cs) = option_map_or (λ player. reading (name_at player) (λ name. tell d (connected_line name c.number))) c.player unchanged ▸ who_lines d cs
+
+unfoldable pub who_shown : ℕ → Change
+who_shown d = reading (λ w. w.board.connections) (λ cs. who_lines d cs ▸ tell d (connected_count (length (filter has_player cs))))

@@ -1,0 +1,72 @@
+// The words of a line.
+ghost use Rattle.std.specs.Prelude.{◌≡◌, ◌≤◌, length};
+ghost use Rattle.std.specs.List.{position, position_or_len};
+ghost use Rattle.spec_commands.specs.Texts.{is_space, first_word, other_words, is_alike, start_trimmed, end_trimmed, trimmed};
+
+// Where the first space stands.
+fn space_at(line: &[u8]) -> Option<usize>
+    ensures { result ≡ position is_space line.now }
+{
+    line.iter().position(|b| *b == b' ')
+}
+
+// Where the first space stands, or the length.
+#[tactic(auto, using(crate::proofs::Positions::positions))]
+fn word_len(line: &[u8]) -> usize
+    ensures at { result ≡ position_or_len is_space line.now }
+    ensures within { result ≤ length line.now }
+{
+    space_at(line).unwrap_or(line.len())
+}
+
+/// What stands before the first space of a line, and what stands after it.
+pub fn cut_word(line: &[u8]) -> (&[u8], &[u8])
+    ensures first { result.0.now ≡ first_word line.now }
+    ensures others { result.1.now ≡ other_words line.now }
+{
+    let (word, rest) = line.split_at(word_len(line));
+    match rest.split_first() {
+        Some((_, others)) => (word, others),
+        None => (word, rest),
+    }
+}
+
+fn trim_start(text: &[u8]) -> &[u8]
+    ensures { result.now ≡ start_trimmed text.now }
+{
+    let mut rest = text;
+    while let Some((first, others)) = rest.split_first() {
+        if *first != b' ' {
+            return rest;
+        }
+        rest = others;
+    }
+    rest
+}
+
+fn trim_end(text: &[u8]) -> &[u8]
+    ensures { result.now ≡ end_trimmed text.now }
+{
+    let mut rest = text;
+    while let Some((last, others)) = rest.split_last() {
+        if *last != b' ' {
+            return rest;
+        }
+        rest = others;
+    }
+    rest
+}
+
+/// A text without the spaces at its ends.
+pub fn trim(text: &[u8]) -> &[u8]
+    ensures { result.now ≡ trimmed text.now }
+{
+    trim_end(trim_start(text))
+}
+
+/// Whether two texts are the same but for the case of letters.
+pub fn alike(a: &[u8], b: &[u8]) -> bool
+    ensures { result ≡ is_alike a.now b.now }
+{
+    a.eq_ignore_ascii_case(b)
+}

@@ -1,0 +1,111 @@
+-- The process that is to go on may be claimed, and then sliced.
+use Rattle.std.proofs.Common.{◌≡◌, ℕ, ℤ, Bool, true, false, not, ◌&&◌, ◌||◌, ◌==◌, cond, List, [], ◌∷◌, refl, sym, ◌∙◌, ap, subst, arith, Option, Some, None}
+use Rattle.std.specs.Prelude.{fold}
+use Rattle.std.specs.List.{filter, reduce, list_any}
+use Rattle.std.specs.Option.{option_map}
+use Rattle.std.proofs.lemmas.Bool.{cond-false}
+use Rattle.std.proofs.lemmas.Bool.Decides.{nat_tests}
+use Rattle.std.proofs.lemmas.Cmp.{int_eq_equiv}
+use Rattle.muck_model.specs.declared.event.Event.TheVariants.{Claim, Slice}
+use Rattle.muck_queue.specs.declared.process.Process.{Process}
+use Rattle.muck_queue.specs.Queues.{Queue, has_pid, is_due, is_before, earlier, earliest, next_due, claimed_by, changed_first, claimed}
+use Rattle.spec_events.specs.World.{World, on_queue}
+use Rattle.spec_events.specs.Steps.{has_process, is_claimed_by, is_lawful, effect, next_process}
+use Rattle.spec_events.specs.Sound.{IsSound}
+
+-- p is one of them
+data Among (p : Process) : List Process → Type 0 where
+  first : {ps : List Process} → Among p (p ∷ ps)
+  later : {q : Process} {ps : List Process} → Among p ps → Among p (q ∷ ps)
+
+either_among : (b : Bool) (p x y : Process) (ys : List Process) → Among p (cond b y x ∷ ys) → Among p (x ∷ y ∷ ys)
+either_among true p x y ys a = later a
+either_among false p x y ys first = first
+either_among false p x y ys (later a) = later (later a)
+
+fold_among : (x : Process) (ys : List Process) → Among (fold earlier x ys) (x ∷ ys)
+fold_among x [] = first
+fold_among x (y ∷ ys) = either_among (is_before y x) _ x y ys (fold_among (earlier x y) ys)
+
+same_pid : (p : Process) → has_pid p.number p ≡ true
+same_pid p = int_eq_equiv.refl p.number
+
+or_later : (b c : Bool) → c ≡ true → (b || c) ≡ true
+or_later true c e = refl
+or_later false c e = e
+
+kept_any : (test : Process → Bool) (p x : Process) (ps qs : List Process) → test x ≡ true → (Among p qs → list_any (λ q. has_pid p.number q && test q) ps ≡ true) → Among p (x ∷ qs) →
+    ((has_pid p.number x && test x) || list_any (λ q. has_pid p.number q && test q) ps) ≡ true
+kept_any test p x ps qs e rest first = ap (λ b. (b && test p) || list_any (λ q. has_pid p.number q && test q) ps) (same_pid p) ∙ ap (λ b. b || list_any (λ q. has_pid p.number q && test q) ps) e
+kept_any test p x ps qs e rest (later a) = or_later (has_pid p.number x && test x) (list_any (λ q. has_pid p.number q && test q) ps) (rest a)
+
+filtered : (test : Process → Bool) (p : Process) (ps : List Process) → Among p (filter test ps) → list_any (λ q. has_pid p.number q && test q) ps ≡ true
+filtered test p [] = λ a. elim a [ ]
+filtered test p (x ∷ ps) =
+    (elim (test x) as (λ b. test x ≡ b → Among p (cond b (x ∷ filter test ps) (filter test ps)) → list_any (λ q. has_pid p.number q && test q) (x ∷ ps) ≡ true) [
+      | true ↦ λ e a. kept_any test p x ps (filter test ps) e (filtered test p ps) a
+      | false ↦ λ e a. or_later (has_pid p.number x && test x) (list_any (λ q. has_pid p.number q && test q) ps) (filtered test p ps a)
+    ]) refl
+
+named_any : (test : Process → Bool) (p : Process) (ps : List Process) (pid : ℤ) → Among p (filter test ps) → ◌≡◌ {A = Option ℤ} (Some p.number) (Some pid) → list_any (λ q. has_pid pid q && test q) ps ≡ true
+named_any test p ps pid a f = let n : p.number ≡ pid = cc in ap (λ k. list_any (λ q. has_pid k q && test q) ps) (sym n) ∙ filtered test p ps a
+
+among_any : (test : Process → Bool) (ps qs : List Process) (pid : ℤ) → filter test ps ≡ qs → option_map (λ (p : Process). p.number) (reduce earlier qs) ≡ Some pid → list_any (λ q. has_pid pid q && test q) ps ≡ true
+among_any test ps [] pid e f = cc
+among_any test ps (q ∷ qs) pid e f =
+    let P : List Process → Type 0 = Among (fold earlier q qs) in
+    named_any test (fold earlier q qs) ps pid (subst P (sym e) (fold_among q qs)) f
+
+earliest_any : (test : Process → Bool) (ps : List Process) (pid : ℤ) → option_map (λ (p : Process). p.number) (earliest test ps) ≡ Some pid → list_any (λ q. has_pid pid q && test q) ps ≡ true
+earliest_any test ps pid f = among_any test ps (filter test ps) pid refl f
+
+claim_may : (dead stop : Bool) (moment : ℕ) (q : Queue) (pid : ℤ) → dead ≡ false → cond (dead || stop) None (next_due moment q) ≡ Some pid →
+    cond dead false (list_any (λ p. has_pid pid p && is_due moment p) q.processes && not stop) ≡ true
+unfolding next_due
+claim_may true stop moment q pid a e = cc
+claim_may false true moment q pid a e = cc
+claim_may false false moment q pid a e = ap (λ b. b && true) (earliest_any (is_due moment) q.processes pid e)
+
+-- the choice of a turn may be claimed, by any party
+pub claim_lawful : (w : World) (party : ℕ) (pid : ℤ) → IsSound w → next_process w ≡ Some pid → is_lawful w (record { party = party; event = Claim pid }) ≡ true
+unfolding is_lawful next_process
+claim_lawful w party pid h e = claim_may w.dead w.stopping w.moment w.queue pid h.alive e
+
+-- Then it is claimed.
+
+same_party : (n : ℕ) → (n == n) ≡ true
+same_party n = grind (arith, nat_tests)
+
+claimed_any : (test : Process → Bool) (pid : ℤ) (party : ℕ) (ps : List Process) → list_any (λ p. has_pid pid p && test p) ps ≡ true → list_any (λ p. has_pid pid p && is_claimed_by party p) (changed_first (has_pid pid) (claimed_by party) ps) ≡ true
+claimed_any test pid party [] = λ e. cc
+claimed_any test pid party (p ∷ ps) =
+    (elim (has_pid pid p) as (λ b. has_pid pid p ≡ b → ((b && test p) || list_any (λ p. has_pid pid p && test p) ps) ≡ true → list_any (λ p. has_pid pid p && is_claimed_by party p) (cond b (claimed_by party p ∷ ps) (p ∷ changed_first (has_pid pid) (claimed_by party) ps)) ≡ true) [
+      | true ↦ λ e a. ap (λ b. (b && (party == party)) || list_any (λ p. has_pid pid p && is_claimed_by party p) ps) e ∙ ap (λ b. b || list_any (λ p. has_pid pid p && is_claimed_by party p) ps) (same_party party)
+      | false ↦ λ e a. ap (λ b. (b && is_claimed_by party p) || list_any (λ p. has_pid pid p && is_claimed_by party p) (changed_first (has_pid pid) (claimed_by party) ps)) e ∙ claimed_any test pid party ps a
+    ]) refl
+
+slice_may : (w : World) (party : ℕ) (pid : ℤ) → w.dead ≡ false → list_any (λ p. has_pid pid p && is_due w.moment p) w.queue.processes ≡ true → cond w.dead false (has_process (is_claimed_by party) pid (on_queue (claimed pid party) w)) ≡ true
+unfolding claimed
+slice_may w party pid a e = cond-false _ _ _ a ∙ claimed_any (is_due w.moment) pid party w.queue.processes e
+
+due_of : (dead stop b : Bool) → dead ≡ false → cond dead false (b && not stop) ≡ true → b ≡ true
+due_of true stop b a e = cc
+due_of false stop true a e = refl
+due_of false stop false a e = e
+
+-- a process that was claimed may be sliced by the same party
+pub slice_lawful : (w : World) (party : ℕ) (pid : ℤ) → IsSound w → is_lawful w (record { party = party; event = Claim pid }) ≡ true →
+    is_lawful (effect w (record { party = party; event = Claim pid })) (record { party = party; event = Slice pid }) ≡ true
+unfolding is_lawful effect
+slice_lawful w party pid h e = slice_may w party pid h.alive (due_of w.dead w.stopping _ h.alive e)
+
+alive_of : (dead stop : Bool) (moment : ℕ) (q : Queue) (pid : ℤ) → cond (dead || stop) None (next_due moment q) ≡ Some pid → dead ≡ false
+alive_of true stop moment q pid e = cc
+alive_of false stop moment q pid e = refl
+
+-- the choice of a turn is claimed, and then it may be sliced
+pub chosen_lawful : (w : World) (party : ℕ) (pid : ℤ) → next_process w ≡ Some pid →
+    is_lawful (effect w (record { party = party; event = Claim pid })) (record { party = party; event = Slice pid }) ≡ true
+unfolding is_lawful effect next_process
+chosen_lawful w party pid e =
+    slice_may w party pid (alive_of w.dead w.stopping w.moment w.queue pid e) (due_of w.dead w.stopping _ (alive_of w.dead w.stopping w.moment w.queue pid e) (claim_may w.dead w.stopping w.moment w.queue pid (alive_of w.dead w.stopping w.moment w.queue pid e) e))

@@ -1,0 +1,207 @@
+-- Lawful entries lead from sound worlds to sound worlds.
+use Rattle.std.proofs.Common.{◌≡◌, ℕ, ◌<◌, ◌≤◌, Bool, true, false, not, ◌&&◌, ◌||◌, cond, List, [], ◌∷◌, length, refl, sym, ◌∙◌, ap, arith, Option, Some, None, ltb, ◌==◌, ◌≢◌}
+use Rattle.std.proofs.lemmas.Bool.Decides.{nat_tests}
+use Rattle.std.proofs.lemmas.Bool.{cond-true, cond-false, ltb-true, ltb-false}
+use Rattle.std.specs.Prelude.{find, is_none, is_some, nat_lt}
+use Rattle.std.specs.Option.{option_map, option_map_or}
+use Rattle.muck_model.specs.declared.event.Entry.{Entry}
+use Rattle.muck_model.specs.declared.event.Event.{Event}
+use Rattle.muck_model.specs.declared.event.Event.TheVariants.{Opened, Input, Closed, Exec, Claim, Slice, Take, Halt, Died}
+use Rattle.muck_model.specs.declared.tune.Tune.{Tune}
+use Rattle.spec_live.specs.Objects.{Entry as Kept}
+use Rattle.spec_live.specs.Output.{bytes_of}
+use Rattle.spec_live.specs.Connections.{Connection, has_number, placed, without, newcomer, connections_most, holds, lined}
+use Rattle.spec_live.specs.Boards.{player_in, opened, closed, line_added, bytes_taken, early_board}
+use Rattle.spec_live.specs.Lives.{Live, Change, followed, reading, on_board}
+use Rattle.spec_commands.specs.Talk.{welcome, parted, gone_away}
+use Rattle.spec_commands.specs.Rising.{IsAbove, IsRising}
+use Rattle.spec_commands.proofs.Numbered.{numbers, rising_by, seating_quiet, seating_one}
+use Rattle.spec_commands.proofs.Lines.{quiet_parted}
+use Rattle.spec_events.specs.World.{World, connection, queue_of, is_leaving, on_live, booted, starting}
+use Rattle.spec_events.specs.Steps.{is_free, is_allowed, is_lawful, happened, effect, next_ready}
+use Rattle.spec_events.specs.Histories.{by_porter}
+use Rattle.spec_events.specs.Sound.{IsSound}
+use Rattle.spec_events.proofs.Quietly.{quietly_sliced}
+use Rattle.spec_events.proofs.Done.{Going, going_quietly, done_going}
+
+cases_lt : (m n : ℕ) (P : Bool → Type 0) → (m < n → P true) → (n ≤ m → P false) → P (ltb m n)
+cases_lt m n P p q =
+    (elim (ltb m n) as (λ b. ltb m n ≡ b → P b) [ true ↦ λ e. p (ltb-true m n e) | false ↦ λ e. q (ltb-false m n e) ]) refl
+
+differs : (m n : ℕ) → m ≤ n → (m == n) ≡ false → m < n
+differs m n le e = grind (arith, nat_tests)
+
+some_none : {X : Type 0} (x : X) → ◌≡◌ {A = Option X} (Some x) None → ⊥
+some_none x e = cc
+
+and_left : (a b : Bool) → (a && b) ≡ true → a ≡ true
+and_left true b e = refl
+and_left false b e = e
+
+none_of : {X : Type 0} (o : Option X) → is_none o ≡ true → o ≡ None
+none_of None e = refl
+none_of (Some x) e = cc
+
+-- a change of what is live that keeps the numbers of the connections
+sound-live : (f : Change) → ((w : Live) → numbers (f w).board.connections ≡ numbers w.board.connections) → (w : World) → IsSound w → IsSound (on_live f w)
+sound-live f keeps w h = record { alive = h.alive; rising = rising_by w.live.board.connections (f w.live).board.connections (keeps w.live) h.rising }
+
+sound-going : (w v : World) → Going w v → IsSound w → IsSound v
+sound-going w v g h = record { alive = g.dead ∙ h.alive; rising = rising_by w.live.board.connections v.live.board.connections g.numbers h.rising }
+
+-- Connections that come and go.
+
+above-without : (n d : ℕ) (cs : List Connection) → IsAbove n cs → IsAbove n (without d cs)
+above-without n d [] h = tt
+above-without n d (c ∷ cs) h =
+    elim (has_number d c) as (λ b. IsAbove n (cond b cs (c ∷ without d cs))) [
+      | true ↦ h.1
+      | false ↦ (h.0, above-without n d cs h.1)
+    ]
+
+rising-without : (d : ℕ) (cs : List Connection) → IsRising cs → IsRising (without d cs)
+rising-without d [] h = tt
+rising-without d (c ∷ cs) h =
+    elim (has_number d c) as (λ b. IsRising (cond b cs (c ∷ without d cs))) [
+      | true ↦ h.1
+      | false ↦ (above-without c.number d cs h.0, rising-without d cs h.1)
+    ]
+
+above_more : (m n : ℕ) (cs : List Connection) → m < n → IsAbove n cs → IsAbove m cs
+above_more m n [] less h = tt
+above_more m n (c ∷ cs) less h = (omega (arith, h.0), above_more m n cs less h.1)
+
+above-placed : (n : ℕ) (new : Connection) (cs : List Connection) → n < new.number → IsAbove n cs → IsAbove n (placed new cs)
+above-placed n new [] less h = (less, tt)
+above-placed n new (c ∷ cs) less h =
+    elim (ltb new.number c.number) as (λ b. IsAbove n (cond b (new ∷ c ∷ cs) (c ∷ placed new cs))) [
+      | true ↦ (less, h)
+      | false ↦ (h.0, above-placed n new cs less h.1)
+    ]
+
+-- a new number goes to its place
+rising-placed : (new : Connection) (cs : List Connection) → find (has_number new.number) cs ≡ None → IsRising cs → IsRising (placed new cs)
+rising-placed new [] = λ none h. (tt, tt)
+rising-placed new (c ∷ cs) = λ none h.
+    let other : has_number new.number c ≡ false =
+    (elim (has_number new.number c) as (λ b. cond b (Some c) (find (has_number new.number) cs) ≡ None → b ≡ false) [
+      | true ↦ λ e. absurd (some_none c e)
+      | false ↦ λ e. refl
+    ]) none in
+    let rest : find (has_number new.number) cs ≡ None = sym (cond-false _ _ _ other) ∙ none in
+    cases_lt new.number c.number
+    (λ b. IsRising (cond b (new ∷ c ∷ cs) (c ∷ placed new cs)))
+    (λ less. ((less, above_more new.number c.number cs less h.0), h))
+    (λ le. (above-placed c.number new cs (differs c.number new.number le other) h.0, rising-placed new cs rest h.1))
+
+sound-gone_away : (d : ℕ) (w : World) → IsSound w → IsSound (on_live (gone_away d) w)
+unfolding gone_away reading followed closed
+sound-gone_away d w h =
+    let parting : Change = parted (player_in d w.live.board) in
+    let v : World = on_live (on_board (closed d)) w in
+    sound-live parting (seating_quiet parting (quiet_parted (player_in d w.live.board))).numbers v (record { alive = h.alive; rising = rising-without d w.live.board.connections h.rising })
+
+no_connection : (d : ℕ) (w : World) (stop few : Bool) → (is_none (connection d w) && few && not stop) ≡ true → connection d w ≡ None
+no_connection d w stop few e = none_of (connection d w) (and_left _ _ (and_left _ _ e))
+
+-- an event that is allowed and isn't Died
+sound-happened : (event : Event) (party : ℕ) (w : World) → event ≢ Died → is_allowed w party event ≡ true → IsSound w → IsSound (happened w party event)
+unfolding opened closed line_added bytes_taken
+sound-happened (Opened d) party w other l h = record {
+  alive = h.alive;
+  rising = rising-placed (newcomer d welcome) w.live.board.connections (no_connection d w w.stopping (nat_lt (length w.live.board.connections) connections_most) l) h.rising;
+}
+sound-happened (Input d line) party w other l h = sound-live (on_board (line_added d line)) (seating_one d (lined line) (λ c. refl)).numbers w h
+sound-happened (Closed d) party w other l h = let v = sound-gone_away d w h in record { alive = v.alive; rising = v.rising }
+sound-happened (Exec d) party w other l h = sound-going w _ (done_going d w (connection d w) refl) h
+sound-happened (Claim pid) party w other l h = record { alive = h.alive; rising = h.rising }
+sound-happened (Slice pid) party w other l h = sound-going w _ (going_quietly w _ (quietly_sliced pid w)) h
+sound-happened (Take d n) party w other l h = sound-live (on_board (bytes_taken d n)) (seating_one d _ (λ c. refl)).numbers w h
+sound-happened Halt party w other l h = record { alive = h.alive; rising = h.rising }
+sound-happened Died party w other l h = absurd (other refl)
+sound-happened event party w other l h = h
+
+-- a lawful entry that isn't Died leads from a sound world to a sound world
+pub sound-effect : (w : World) (entry : Entry) → entry.event ≢ Died → is_lawful w entry ≡ true → IsSound w → IsSound (effect w entry)
+unfolding effect is_lawful
+sound-effect w entry other l h = sound-happened entry.event entry.party w other (sym (cond-false _ _ _ h.alive) ∙ l) h
+
+-- Choices that are lawful.
+
+found_above : (p : Connection → Bool) (n : ℕ) (cs : List Connection) (c : Connection) → IsAbove n cs → find p cs ≡ Some c → n < c.number
+found_above p n [] c = λ h e. absurd (some_none c (sym e))
+found_above p n (x ∷ xs) c = λ h.
+    elim (p x) as (λ b. cond b (Some x) (find p xs) ≡ Some c → n < c.number) [
+      | true ↦ λ e. let one : x ≡ c = cc in omega (arith, h.0, ap (λ (k : Connection). k.number) one)
+      | false ↦ λ e. found_above p n xs c h.1 e
+    ]
+
+itself : (n : ℕ) → (n == n) ≡ true
+itself n = grind (arith, nat_tests)
+
+apart : (m n : ℕ) → m < n → (m == n) ≡ false
+apart m n h = grind (arith, nat_tests)
+
+-- where a connection is found to be free, it is the one of its number
+free_found : (p : Connection → Bool) (cs : List Connection) (c : Connection) → IsRising cs → find p cs ≡ Some c → (find (has_number c.number) cs ≡ Some c) × (p c ≡ true)
+free_found p [] c = λ h e. absurd (some_none c (sym e))
+free_found p (x ∷ xs) c = λ h.
+    (elim (p x) as (λ b. p x ≡ b → cond b (Some x) (find p xs) ≡ Some c → (find (has_number c.number) (x ∷ xs) ≡ Some c) × (p c ≡ true)) [
+      | true ↦ λ r e.
+          let one : x ≡ c = cc in
+          let same : has_number c.number x ≡ true = ap (λ (k : Connection). k.number == c.number) one ∙ itself c.number in
+          (cond-true _ _ _ same ∙ ap Some one, ap p (sym one) ∙ r)
+      | false ↦ λ r e.
+          let above : x.number < c.number = found_above p x.number xs c h.0 e in
+          let rest = free_found p xs c h.1 e in
+          (cond-false _ _ _ (apart x.number c.number above) ∙ rest.0, rest.1)
+    ]) refl
+
+exec_ok : (p : Connection → Bool) (cs : List Connection) (d : ℕ) (o : Option Connection) → find p cs ≡ o → IsRising cs → option_map (λ c. c.number) o ≡ Some d → option_map_or p (find (has_number d) cs) false ≡ true
+exec_ok p cs d None f h e = absurd (some_none d (sym e))
+exec_ok p cs d (Some c) f h e =
+    let number : c.number ≡ d = cc in
+    let found = free_found p cs c h f in
+    ap (λ k. option_map_or p (find (has_number k) cs) false) (sym number) ∙ ap (λ o. option_map_or p o false) found.0 ∙ found.1
+
+exec_may : (p : Connection → Bool) (dead stop : Bool) (cs : List Connection) (d : ℕ) → dead ≡ false → IsRising cs → cond (dead || stop) None (option_map (λ (c : Connection). c.number) (find p cs)) ≡ Some d →
+    cond dead false (option_map_or p (find (has_number d) cs) false && not stop) ≡ true
+exec_may p true stop cs d a h e = cc
+exec_may p false true cs d a h e = absurd (some_none d (sym e))
+exec_may p false false cs d a h e = ap (λ b. b && true) (exec_ok p cs d (find p cs) refl h e)
+
+-- a turn is lawful, of any party
+pub exec_lawful : (w : World) (party d : ℕ) → IsSound w → next_ready w ≡ Some d → is_lawful w (record { party = party; event = Exec d }) ≡ true
+unfolding is_lawful next_ready
+exec_lawful w party d h e = exec_may (is_free w) w.dead w.stopping w.live.board.connections d h.alive h.rising e
+
+holds_all : (o : Option Connection) → 0 < length (option_map_or (λ c. bytes_of c.output) o []) → (nat_lt 0 (length (option_map_or (λ c. bytes_of c.output) o [])) && option_map_or (holds (length (option_map_or (λ c. bytes_of c.output) o []))) o false) ≡ true
+holds_all None h = absurd (omega arith)
+holds_all (Some c) h = grind (arith, nat_tests)
+
+-- taking a whole queue that isn't empty is lawful
+pub take_lawful : (w : World) (d : ℕ) → IsSound w → 0 < length (queue_of d w) → is_lawful w (by_porter (Take d (length (queue_of d w)))) ≡ true
+unfolding is_lawful
+take_lawful w d h some = cond-false _ _ _ h.alive ∙ holds_all (connection d w) some
+
+pub leaving_some : (o : Option Connection) → option_map_or (λ c. c.leaving) o false ≡ true → is_some o ≡ true
+leaving_some None e = e
+leaving_some (Some c) e = refl
+
+-- closing a connection that is leaving is lawful
+pub close_lawful : (w : World) (d : ℕ) → IsSound w → is_leaving d w ≡ true → is_lawful w (by_porter (Closed d)) ≡ true
+unfolding is_lawful
+close_lawful w d h e = cond-false _ _ _ h.alive ∙ leaving_some (connection d w) e
+
+-- the porter may halt the world
+pub halt_lawful : (w : World) → IsSound w → is_lawful w (by_porter Halt) ≡ true
+unfolding is_lawful
+halt_lawful w h = cond-false _ _ _ h.alive
+
+pub sound-booted : (objects : List Kept) (tune : Tune) (moment start : ℕ) → IsSound (booted objects tune moment start)
+unfolding booted early_board
+sound-booted objects tune moment start = record { alive = refl; rising = tt }
+
+pub sound-starting : IsSound starting
+unfolding starting booted early_board
+sound-starting = record { alive = refl; rising = tt }

@@ -1,0 +1,48 @@
+-- Whole histories.
+use Rattle.std.specs.Prelude.{◌≡◌, true, List, [], ◌∷◌, ◌++◌}
+use Rattle.muck_model.specs.declared.event.Entry.{Entry}
+use Rattle.muck_model.specs.declared.event.Event.{Event}
+use Rattle.spec_events.specs.World.{World}
+use Rattle.spec_events.specs.Steps.{Step, is_lawful, effect}
+use Rattle.spec_events.specs.Licences.{EventLicensed}
+
+-- the world after these entries
+abbrev pub after : World → List Entry → World
+after w [] = w
+after w (entry ∷ entries) = after (effect w entry) entries
+
+-- each entry is a step, and they lead to v
+abbrev pub Run : World → List Entry → World → Type 0
+Run w [] v = v ≡ w
+Run w (entry ∷ entries) v = (u : World) × Step w entry u × Run u entries v
+
+-- each entry is lawful where it stands
+abbrev pub AllLawful : World → List Entry → Type 0
+AllLawful w [] = Unit {0}
+AllLawful w (entry ∷ entries) = (is_lawful w entry ≡ true) × AllLawful (effect w entry) entries
+
+-- each entry changes only what is open where it stands
+abbrev pub AllLicensed : World → List Entry → Type 0
+AllLicensed w [] = Unit {0}
+AllLicensed w (entry ∷ entries) = EventLicensed entry.event w (effect w entry) × AllLicensed (effect w entry) entries
+
+-- a history: how the world began, and what happened since
+pub record History : Type 0 where
+  pub start : World
+  pub entries : List Entry
+
+-- the world as it is now
+unfoldable pub now : History → World
+now h = after h.start h.entries
+
+-- and then these entries
+abbrev pub extended : History → List Entry → History
+extended h entries = record h { entries = h.entries ++ entries }
+
+-- and then this entry
+abbrev pub entered : History → Entry → History
+entered h entry = extended h (entry ∷ [])
+
+-- an event of the party that does everything in a run of a script
+abbrev pub by_porter : Event → Entry
+by_porter event = record { party = 0; event = event }

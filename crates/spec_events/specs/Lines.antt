@@ -1,0 +1,99 @@
+-- A line that is done.
+use Rattle.std.specs.Prelude.{ℕ, if◌then◌else◌, List, [], ◌∷◌, ◌++◌, codes, decimal, Option, Some, None, Result, Ok, Err}
+use Rattle.std.specs.Option.{option_map_or}
+use Rattle.muck_model.specs.declared.dbref.Dbref.{Dbref}
+use Rattle.muck_model.specs.declared.edit.EditState.{EditState}
+use Rattle.spec_live.specs.Objects.{object_at}
+use Rattle.spec_live.specs.Connections.{Connection}
+use Rattle.spec_live.specs.Boards.{edited_one}
+use Rattle.spec_live.specs.Lives.{Live, Change, on_board, tell, leave}
+use Rattle.muf_model.specs.Tree.{Tree}
+use Rattle.muck_library.specs.declared.flaw.Flaw.{Flaw}
+use Rattle.muck_library.specs.Programs.{built_tree}
+use Rattle.muck_library.specs.Library.{form_kept, form_dropped}
+use Rattle.spec_commands.specs.declared.outcome.Outcome.{Outcome}
+use Rattle.spec_commands.specs.declared.outcome.Outcome.TheVariants.{Start, Leave, Edit}
+use Rattle.spec_commands.specs.declared.edit.EditStep.{EditStep}
+use Rattle.spec_commands.specs.declared.edit.EditStep.TheVariants.{Compile, Left}
+use Rattle.spec_commands.specs.Finding.{actor_of}
+use Rattle.spec_commands.specs.Commands.{played}
+use Rattle.spec_commands.specs.Editing.{editor_exited, is_open, edited}
+use Rattle.spec_commands.specs.Talk.{at_login, waits}
+use Rattle.spec_events.specs.World.{World, on_live, with_library}
+use Rattle.spec_events.specs.Following.{settled}
+use Rattle.spec_events.specs.Starting.{launched}
+
+-- The editor.
+
+unfoldable pub compiler_done : List ℕ
+compiler_done = codes "Compiler done."
+
+-- a flaw of a source, by its number and its line
+unfoldable pub flaw_text : Flaw → List ℕ
+flaw_text flaw = codes "Error " ++ (decimal flaw.number ++ (codes " in line " ++ (decimal flaw.line ++ codes ".")))
+
+abbrev pub with_editor : ℕ → Option EditState → Change
+with_editor d editor = on_board (edited_one d editor)
+
+-- a program that is built has that form from now on; one that can't be has none
+abbrev pub compiled_so : ℕ → Dbref → Result Tree Flaw → World → World
+compiled_so d program (Ok tree) w = on_live (tell d compiler_done) (with_library (form_kept program tree w.library) w)
+compiled_so d program (Err flaw) w = on_live (tell d (flaw_text flaw)) (with_library (form_dropped program w.library) w)
+
+unfoldable pub compiled : ℕ → Dbref → World → World
+compiled d program w = compiled_so d program (built_tree w.live.objects program) w
+
+-- the editor goes on in its state, or is left
+abbrev pub next_editor : EditStep → EditState → Option EditState
+next_editor Left s = None
+next_editor step s = Some s
+
+abbrev pub after_edit : ℕ → Dbref → EditStep → World → World
+after_edit d program Compile w = compiled d program w
+after_edit d program step w = w
+
+-- a line of the editor, what follows from a source that it changed, and the building that it asks for
+unfoldable pub edited_line : ℕ → Dbref → EditState → List ℕ → World → World
+edited_line d player s line w =
+    let r = edited d (actor_of w.live.objects player) s line w.live in
+    after_edit d s.program r.2 (settled (record w { live = with_editor d (next_editor r.2 r.1) r.0 }))
+
+-- an editor that isn't open any more is left
+unfoldable pub in_editor : ℕ → Dbref → EditState → List ℕ → World → World
+in_editor d player s line w = if is_open s w.live then edited_line d player s line w else on_live (tell d editor_exited) w
+
+-- Commands.
+
+-- an editor that is opened on a program has its source
+abbrev pub editor_on : Dbref → Live → EditState
+editor_on program w = record { program = program; lines = option_map_or (λ o. o.lines) (object_at program w.objects) []; inserting = None }
+
+-- what is to follow a command
+abbrev pub followed_up : ℕ → Dbref → Outcome → World → World
+followed_up d player Leave w = on_live (leave d) w
+followed_up d player (Edit program) w = on_live (λ v. with_editor d (Some (editor_on program v)) v) w
+followed_up d player (Start program trigger command arg) w =
+    launched d (actor_of w.live.objects player) (record { player = player; program = program; trigger = trigger; command = command; argument = arg }) w
+followed_up d player outcome w = w
+
+-- a command of a player, what follows from the objects that it changed, and what is to follow it
+unfoldable pub in_world : ℕ → Dbref → List ℕ → World → World
+in_world d player line w =
+    let r = played d (actor_of w.live.objects player) line w.live in
+    followed_up d player r.1 (settled (record w { live = r.0 }))
+
+-- Lines go to the login screen, to the editor that is open, or are commands. An editor is taken from its connection for
+-- its line.
+abbrev pub command : Option Dbref → Option EditState → ℕ → List ℕ → World → World
+command None editor d line w = on_live (at_login d line) w
+command (Some player) None d line w = in_world d player line w
+command (Some player) (Some s) d line w = in_editor d player s line (on_live (with_editor d None) w)
+
+-- the first waiting line of a connection is done
+abbrev pub line_done : ℕ → Option Dbref → Option EditState → List (List ℕ) → World → World
+line_done d player editor [] w = w
+line_done d player editor (line ∷ lines) w = command player editor d line (on_live (waits d lines) w)
+
+unfoldable pub done : ℕ → Option Connection → World → World
+done d None w = w
+done d (Some c) w = line_done d c.player c.editor c.waiting w

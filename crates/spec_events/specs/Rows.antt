@@ -1,0 +1,93 @@
+-- Worked slices, which the checker computes.
+use Rattle.std.specs.Prelude.{◌≡◌, ℕ, pos, List, [], ◌∷◌, ◌++◌, length, codes, refl, Some, None}
+use Rattle.std.specs.Fmt.{digits}
+use Rattle.muck_model.specs.Bytes.{text_most}
+use Rattle.spec_live.specs.Output.{sent_lines, queue_most, lines_bytes, line_sent, lines_sent, sent}
+use Rattle.spec_live.specs.Objects.{dbref_of, object_at, number_in, kind_in, flags_in, place_in, object_in, list_in, changed_at}
+use Rattle.spec_live.specs.Boards.{first_tune, early_board, told_one, told_player}
+use Rattle.spec_live.specs.Lives.{unchanged, tell, tell_player}
+use Rattle.spec_live.specs.Start.{room_zero, player_one}
+use Rattle.spec_rights.specs.Levels.{level_at, owner_at, flag_at, owns, controls_as, effective, inherits, level, user}
+use Rattle.spec_rights.specs.Verdict.{controls, controls_or}
+use Rattle.muf_model.specs.declared.code.Literal.TheVariants.{Int, Object}
+use Rattle.muf_model.specs.declared.code.Offer.TheVariants.{All}
+use Rattle.muf_model.specs.declared.code.Word.{Word}
+use Rattle.muf_model.specs.declared.code.Word.TheVariants.{Literal, Variable, Primitive}
+use Rattle.muf_model.specs.declared.prims.Primitive.TheVariants.{Pop, Fetch, Swap, Subtract, IntToStr, Notify, Call}
+use Rattle.muf_model.specs.Tree.{Block, stop, word, fork, try_word, Tree}
+use Rattle.muf_model.specs.Source.{last_word}
+use Rattle.muf_model.specs.Chains.{chain}
+use Rattle.muck_library.specs.Library.{form_at, formed}
+use Rattle.muck_queue.specs.Queues.{empty_queue, number_most, is_full, added, without}
+use Rattle.spec_commands.specs.Company.{queues}
+use Rattle.spec_commands.specs.EditRows.{desk}
+use Rattle.spec_events.specs.declared.starting.Call.{Call as Started}
+use Rattle.spec_events.specs.World.{World, booted, starting, on_live}
+use Rattle.spec_events.specs.Starting.{not_compiled, too_many, new_process, word_started}
+use Rattle.spec_events.specs.Slices.{acting, needing, permitted, existing, programmed, notified, called, program_called, deed, program_error, ran, sliced}
+
+-- these words, one behind the other, all in line 1
+abbrev pub in_turn : List Word → Block → Block
+in_turn [] behind = behind
+in_turn (w ∷ ws) behind = word 1 w (in_turn ws behind)
+
+-- a program of one word
+abbrev pub of_word : Block → Tree
+of_word body = record { words = record { name = codes "main"; offer = All; variables = 0; body = body; last = 1 } ∷ []; variables = 0 }
+
+-- One starts the program `#3`
+abbrev pub by_one : Started
+by_one = record { player = dbref_of 1; program = dbref_of 3; trigger = dbref_of 3; command = codes "@run #3="; argument = [] }
+
+-- the only process is that of this program
+abbrev pub running : Tree → World
+running tree = word_started 1 by_one tree (last_word tree.words) (record starting { live = desk 1 })
+
+-- the same, where the program has this built form for those that call it
+abbrev pub calling : Tree → Tree → World
+calling form tree = record (running tree) { library = None ∷ None ∷ None ∷ Some form ∷ [] }
+
+-- a process may take so many units
+abbrev pub bounded : ℕ → World → World
+bounded most w = on_live (λ v. record v { board = record v.board { tune = record v.board.tune { m2_units = most } } }) w
+
+-- what is shown by the slice of the process, and how many processes there are then
+abbrev pub shown_of : World → List (List (List ℕ)) × ℕ
+shown_of w = (queues (sliced (pos 1) w).live.board.connections, length (sliced (pos 1) w).queue.processes)
+
+-- One is shown this text, and the process has ended
+abbrev pub shows : List ℕ → List (List (List ℕ)) × ℕ
+shows text = ((text ∷ []) ∷ [], 0)
+
+abbrev pub words : List Word → Tree
+words ws = of_word (in_turn ws stop)
+
+-- `pop 7 2`
+abbrev pub two_numbers : List Word
+two_numbers = Primitive Pop ∷ Literal (Int (pos 7)) ∷ Literal (Int (pos 2)) ∷ []
+
+-- `me @ swap notify`
+abbrev pub tell_me : List Word
+tell_me = Variable (record { 0 = 0 }) ∷ Primitive Fetch ∷ Primitive Swap ∷ Primitive Notify ∷ []
+
+-- `#3 call`
+abbrev pub call_three : List Word
+call_three = Literal (Object (dbref_of 3)) ∷ Primitive Call ∷ []
+
+-- `pop 0 try #3 call catch me @ swap notify endcatch`
+abbrev pub try_three : Tree
+try_three = of_word (in_turn (Primitive Pop ∷ Literal (Int (pos 0)) ∷ []) (fork try_word 1 (in_turn call_three stop) 1 (in_turn tell_me stop) stop))
+
+rows :
+    -- `pop 7 2 - intostr me @ swap notify`
+    (shown_of (running (words (two_numbers ++ Primitive Subtract ∷ Primitive IntToStr ∷ tell_me))) ≡ shows (codes "5"))
+    -- `pop pop`: the error names the program
+    × (shown_of (running (words (Primitive Pop ∷ Primitive Pop ∷ []))) ≡ shows (codes "Program error in #3: Stack underflow."))
+    -- three units and the end of the word, where four may be taken and where only three may
+    × (shown_of (bounded 4 (running (words two_numbers))) ≡ ([] ∷ [], 0))
+    × (shown_of (bounded 3 (running (words two_numbers))) ≡ shows (codes "Program error in #3: Too many instructions."))
+    -- a called program tells a text; and its fault is caught by its caller
+    × (shown_of (calling (words tell_me) (words call_three)) ≡ shows [])
+    × (shown_of (calling (words (Primitive Pop ∷ [])) try_three) ≡ shows (codes "Stack underflow."))
+unfolding digits text_most sent_lines queue_most lines_bytes line_sent lines_sent sent object_at number_in kind_in flags_in place_in object_in list_in changed_at first_tune early_board told_one told_player unchanged tell tell_player room_zero player_one level_at owner_at flag_at owns controls_as effective inherits level user controls controls_or chain empty_queue number_most is_full added without booted starting not_compiled too_many new_process form_at formed acting needing permitted existing programmed notified called program_called deed program_error ran sliced
+rows = (refl, refl, refl, refl, refl, refl)

@@ -1,0 +1,82 @@
+-- Which entries are lawful, and what each does.
+use Rattle.std.specs.Prelude.{◌≡◌, ℕ, ℤ, Bool, true, false, not, ◌&&◌, ◌||◌, ◌==◌, find, nat_lt, if◌then◌else◌, length, Option, None, is_some, is_none}
+use Rattle.std.specs.Option.{option_map, option_map_or}
+use Rattle.std.specs.List.{list_any}
+use Rattle.muck_model.specs.declared.event.Entry.{Entry}
+use Rattle.muck_model.specs.declared.event.Event.{Event}
+use Rattle.muck_model.specs.declared.event.Event.TheVariants.{Opened, Input, Closed, Exec, Claim, Slice, Take, Halt, Died}
+use Rattle.spec_live.specs.Connections.{Connection, is_ready, connections_most, takes_line, holds}
+use Rattle.spec_live.specs.Boards.{opened, line_added, bytes_taken}
+use Rattle.spec_live.specs.Lives.{on_board}
+use Rattle.muck_queue.specs.declared.process.Process.{Process}
+use Rattle.muck_queue.specs.Queues.{has_pid, is_due, next_due, claimed, is_tied, ended_tied}
+use Rattle.spec_commands.specs.Talk.{welcome, gone_away}
+use Rattle.spec_events.specs.World.{World, connection, on_live, on_queue}
+use Rattle.spec_events.specs.Lines.{done}
+use Rattle.spec_events.specs.Slices.{sliced}
+
+-- the connection d is there and passes
+abbrev pub passes : (Connection → Bool) → ℕ → World → Bool
+passes test d w = option_map_or test (connection d w) false
+
+-- a line waits that may be done, and no process is tied to the connection
+abbrev pub is_free : World → Connection → Bool
+is_free w c = is_ready c && not (is_tied c.number w.queue)
+
+-- some process of that number passes
+abbrev pub has_process : (Process → Bool) → ℤ → World → Bool
+has_process test pid w = list_any (λ p. has_pid pid p && test p) w.queue.processes
+
+-- this party has claimed it
+abbrev pub is_claimed_by : ℕ → Process → Bool
+is_claimed_by party p = option_map_or (λ n. n == party) p.claim false
+
+-- lawful in a world that isn't dead; an event that nothing uses yet is lawful nowhere
+abbrev pub is_allowed : World → ℕ → Event → Bool
+is_allowed w party (Opened d) = is_none (connection d w) && nat_lt (length w.live.board.connections) connections_most && not w.stopping
+is_allowed w party (Input d line) = passes takes_line d w && not w.stopping
+is_allowed w party (Closed d) = is_some (connection d w)
+is_allowed w party (Exec d) = passes (is_free w) d w && not w.stopping
+is_allowed w party (Claim pid) = has_process (is_due w.moment) pid w && not w.stopping
+is_allowed w party (Slice pid) = has_process (is_claimed_by party) pid w
+is_allowed w party (Take d n) = nat_lt 0 n && passes (holds n) d w
+is_allowed w party Halt = party == 0
+is_allowed w party Died = true
+is_allowed w party event = false
+
+abbrev pub is_died : Event → Bool
+is_died Died = true
+is_died event = false
+
+-- Died is always lawful, and after it nothing else is
+unfoldable pub is_lawful : World → Entry → Bool
+is_lawful w entry = if w.dead then is_died entry.event else is_allowed w entry.party entry.event
+
+-- the world after an event of a party
+abbrev pub happened : World → ℕ → Event → World
+happened w party (Opened d) = on_live (on_board (opened d welcome)) w
+happened w party (Input d line) = on_live (on_board (line_added d line)) w
+happened w party (Closed d) = on_queue (ended_tied d) (on_live (gone_away d) w)
+happened w party (Exec d) = done d (connection d w) w
+happened w party (Claim pid) = on_queue (claimed pid party) w
+happened w party (Slice pid) = sliced pid w
+happened w party (Take d n) = on_live (on_board (bytes_taken d n)) w
+happened w party Halt = record w { stopping = true }
+happened w party Died = record w { dead = true }
+happened w party event = w
+
+unfoldable pub effect : World → Entry → World
+effect w entry = happened w entry.party entry.event
+
+-- the lowest connection with a line that may be done
+unfoldable pub next_ready : World → Option ℕ
+next_ready w = if w.dead || w.stopping then None else option_map (λ c. c.number) (find (is_free w) w.live.board.connections)
+
+-- the process that may go on, whose second came first, and of those the one with the lowest number
+unfoldable pub next_process : World → Option ℤ
+next_process w = if w.dead || w.stopping then None else next_due w.moment w.queue
+
+-- one step: the entry is lawful, and v is its effect
+pub record Step (w : World) (entry : Entry) (v : World) : Type 0 where
+  pub lawful : is_lawful w entry ≡ true
+  pub effect : v ≡ effect w entry

@@ -1,0 +1,72 @@
+-- The world as a value.
+use Rattle.std.specs.Prelude.{ℕ, Bool, false, List, [], Option, None}
+use Rattle.muck_model.specs.declared.tune.Tune.{Tune}
+use Rattle.spec_live.specs.Objects.{Entry}
+use Rattle.spec_live.specs.Start.{first_objects}
+use Rattle.spec_live.specs.Connections.{Connection}
+use Rattle.spec_live.specs.Boards.{connection_in, queue_in, is_leaving_in, first_tune, early_board}
+use Rattle.spec_live.specs.Lives.{Live, Change}
+use Rattle.muck_library.specs.Library.{Library}
+use Rattle.muck_queue.specs.Queues.{Queue, empty_queue}
+
+-- the dump that runs, whether one is asked and by which connections, and the moment of the last that began
+pub record Dumps : Type 0 where
+  pub running : Option ℕ
+  pub is_asked : Bool
+  pub askers : List ℕ
+  pub last : ℕ
+
+-- The world: what commands and programs change, the built forms of its programs, its processes, the second that it is,
+-- its dumps, and whether it is stopping or dead.
+pub record World : Type 0 where
+  pub live : Live
+  pub library : Library
+  pub queue : Queue
+  pub moment : ℕ
+  pub dumps : Dumps
+  pub stopping : Bool
+  pub dead : Bool
+
+-- no dump runs or is asked
+abbrev pub no_dumps : ℕ → Dumps
+no_dumps moment = record { running = None; is_asked = false; askers = []; last = moment }
+
+-- The world of these objects at this moment, in which nobody is connected, no program is built and nothing runs, and
+-- whose random numbers begin so.
+unfoldable pub booted : List Entry → Tune → ℕ → ℕ → World
+booted objects tune moment start = record {
+  live = record { objects = objects; board = early_board start tune };
+  library = [];
+  queue = empty_queue;
+  moment = moment;
+  dumps = no_dumps moment;
+  stopping = false;
+  dead = false;
+}
+
+-- Room Zero and One, and nothing else is as yet as anybody made it
+unfoldable pub starting : World
+starting = booted first_objects first_tune 0 0
+
+-- the connection of a number
+abbrev pub connection : ℕ → World → Option Connection
+connection d w = connection_in d w.live.board
+
+-- the bytes that wait to be sent to it
+abbrev pub queue_of : ℕ → World → List ℕ
+queue_of d w = queue_in d w.live.board
+
+abbrev pub is_leaving : ℕ → World → Bool
+is_leaving d w = is_leaving_in d w.live.board
+
+-- with a change of its live part
+abbrev pub on_live : Change → World → World
+on_live f w = record w { live = f w.live }
+
+-- with a change of its processes
+abbrev pub on_queue : (Queue → Queue) → World → World
+on_queue f w = record w { queue = f w.queue }
+
+-- with these built forms
+abbrev pub with_library : Library → World → World
+with_library library w = record w { library = library }

@@ -1,0 +1,164 @@
+-- The objects of the world, by their numbers from 0 on, each with the lists of what it holds.
+use Rattle.std.specs.Prelude.{ℕ, ℤ, pos, negsuc, Bool, true, false, if◌then◌else◌, List, [], length, Option, Some, None, slice_get, slice_set, codes}
+use Rattle.std.specs.Option.{option_map, option_and_then, option_map_or}
+use Rattle.std.specs.Ordering.{int_eq}
+use Rattle.std.specs.FinMap as map
+use Rattle.muck_model.specs.declared.dbref.Dbref.{Dbref}
+use Rattle.muck_model.specs.declared.dbref.Flags.{Flags}
+use Rattle.muck_model.specs.declared.dbref.Kind.{Kind}
+use Rattle.muck_model.specs.declared.dbref.Kind.TheVariants.{Room, Thing, Exit, Player, Program, Garbage}
+use Rattle.spec_live.specs.declared.object.Object.{Object}
+use Rattle.spec_live.specs.declared.mark.Mark.{Mark}
+use Rattle.spec_live.specs.Flags.{has_flag, no_flags, vehicle}
+use Rattle.spec_live.specs.Chain.{walk}
+
+-- An object with its contents and its exits, the newest first, and what is to be told of it.
+pub record Entry : Type 0 where
+  pub object : Object
+  pub contents : List ℕ
+  pub exits : List ℕ
+  pub mark : Option Mark
+
+-- Numbers.
+
+abbrev pub dbref_of : ℕ → Dbref
+dbref_of n = record { 0 = pos n }
+
+abbrev pub nothing : Dbref
+nothing = record { 0 = negsuc 0 }
+
+-- `#-3`
+abbrev pub home : Dbref
+home = record { 0 = negsuc 2 }
+
+abbrev pub same : Dbref → Dbref → Bool
+same a b = int_eq a.0 b.0
+
+abbrev pub index_at : ℤ → Option ℕ
+index_at (pos n) = Some n
+index_at (negsuc n) = None
+
+-- the number from 0 on
+abbrev pub index_of : Dbref → Option ℕ
+index_of d = index_at d.0
+
+-- Kinds.
+
+abbrev pub is_room : Kind → Bool
+is_room Room = true
+is_room kind = false
+
+abbrev pub is_thing : Kind → Bool
+is_thing Thing = true
+is_thing kind = false
+
+abbrev pub is_exit : Kind → Bool
+is_exit Exit = true
+is_exit kind = false
+
+abbrev pub is_player : Kind → Bool
+is_player Player = true
+is_player kind = false
+
+abbrev pub is_program : Kind → Bool
+is_program Program = true
+is_program kind = false
+
+abbrev pub is_garbage : Kind → Bool
+is_garbage Garbage = true
+is_garbage kind = false
+
+-- what may be in a room; in a thing, on which players may sit where it is a vehicle; and in a player
+abbrev pub may_stand : Kind → Kind → Bool → Bool
+may_stand Room Room seats = true
+may_stand Thing Room seats = true
+may_stand Thing Thing seats = true
+may_stand Thing Player seats = true
+may_stand Program Room seats = true
+may_stand Program Thing seats = true
+may_stand Program Player seats = true
+may_stand Player Room seats = true
+may_stand Player Thing seats = seats
+may_stand Exit Room seats = true
+may_stand Exit Thing seats = true
+may_stand Exit Player seats = true
+may_stand kind place seats = false
+
+-- Readers, by number. What isn't there is garbage.
+
+unfoldable pub object_in : List Entry → ℕ → Option Object
+object_in es k = option_map (λ e. e.object) (slice_get es k)
+
+abbrev pub list_of : Bool → Entry → List ℕ
+list_of exits e = if exits then e.exits else e.contents
+
+-- the list of exits, or of contents, of an object
+unfoldable pub list_in : Bool → List Entry → ℕ → List ℕ
+list_in exits es k = option_map_or (list_of exits) (slice_get es k) []
+
+unfoldable pub mark_in : List Entry → ℕ → Option Mark
+mark_in es k = option_and_then (λ e. e.mark) (slice_get es k)
+
+unfoldable pub kind_in : List Entry → ℕ → Kind
+kind_in es k = option_map_or (λ o. o.kind) (object_in es k) Garbage
+
+unfoldable pub flags_in : List Entry → ℕ → Flags
+flags_in es k = option_map_or (λ o. o.flags) (object_in es k) no_flags
+
+unfoldable pub place_in : List Entry → ℕ → Option ℕ
+place_in es k = option_and_then (λ o. index_of o.place) (object_in es k)
+
+unfoldable pub owner_in : List Entry → ℕ → Option ℕ
+owner_in es k = option_and_then (λ o. index_of o.owner) (object_in es k)
+
+unfoldable pub home_in : List Entry → ℕ → Option ℕ
+home_in es k = option_and_then (λ o. index_of o.home) (object_in es k)
+
+unfoldable pub is_vehicle_in : List Entry → ℕ → Bool
+is_vehicle_in es k = has_flag vehicle (flags_in es k)
+
+-- d may be in p
+unfoldable pub fits_in : List Entry → ℕ → ℕ → Bool
+fits_in es d p = may_stand (kind_in es d) (kind_in es p) (is_vehicle_in es p)
+
+-- the number itself, its place, the place of that, and so on
+unfoldable pub path_in : List Entry → ℕ → List ℕ
+path_in es k = walk (length es) (place_in es) (Some k)
+
+-- Readers, by dbref.
+
+-- the number behind a dbref, where an object is there
+unfoldable pub number_in : List Entry → Dbref → Option ℕ
+number_in es d = option_and_then (λ n. if is_garbage (kind_in es n) then None else Some n) (index_of d)
+
+unfoldable pub object_at : Dbref → List Entry → Option Object
+object_at d es = option_and_then (object_in es) (number_in es d)
+
+-- Changes.
+
+-- the list with f done at one place of it
+unfoldable pub changed_at : {X : Type 0} → ℕ → (X → X) → List X → List X
+changed_at n f xs = option_map_or (λ x. slice_set xs n (f x)) (slice_get xs n) xs
+
+abbrev pub with_object : Object → Entry → Entry
+with_object o e = record e { object = o }
+
+-- with the object changed by f
+abbrev pub on_object : (Object → Object) → Entry → Entry
+on_object f e = record e { object = f e.object }
+
+-- What is left of an object that was recycled: `#1` owns it.
+unfoldable pub garbage : Object
+garbage = record {
+  kind = Garbage;
+  name = codes "<garbage>";
+  owner = dbref_of 1;
+  place = nothing;
+  link = nothing;
+  home = nothing;
+  flags = no_flags;
+  level = 0;
+  props = map.empty;
+  lines = [];
+  digest = [];
+}
