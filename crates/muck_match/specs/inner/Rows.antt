@@ -8,7 +8,7 @@ use Rattle.muck_match.specs.Words.{is_same, begins_with, has_word, placed, alias
 use Rattle.muck_match.specs.Scenery.{Scenery, nothing, home, chain, is_there, place_in, things_in, exit_order, numbers}
 use Rattle.muck_match.specs.Exits.{takes, rest_behind, hits_in, runs, hits_at, hits, exit_for}
 use Rattle.muck_match.specs.Naming.{fits, answers, objects_near, near, named, player_named, if_there, found_by_sign, found}
-use Rattle.muck_match.specs.Memory.{lower, slot_at, object_at, next_at, above_at, walk, first_at, after_in, scenery_of}
+use Rattle.muck_match.specs.inner.Memory.{lower, slot_at, object_at, next_at, above_at, walk, first_at, after_in, scenery_of}
 use Rattle.muck_match.specs.declared.memory.MemObject.{MemObject}
 use Rattle.muck_match.specs.declared.exits.ExitHit.{ExitHit}
 use Rattle.muck_match.specs.declared.naming.Found.{Found}
