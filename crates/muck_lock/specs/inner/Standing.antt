@@ -6,7 +6,7 @@ use Rattle.std.specs.Ordering.{int_eq}
 use Rattle.muck_model.specs.Numbers.{numbered}
 use Rattle.muck_model.specs.declared.dbref.Dbref.{Dbref}
 use Rattle.muck_lock.specs.Chain.{IsChain, same}
-use Rattle.muck_lock.specs.Memory.{numbered_at, standing_in, first_in, next_at, next_of}
+use Rattle.muck_lock.specs.inner.Memory.{numbered_at, standing_in, first_in, next_at, next_of}
 use Rattle.muck_lock.specs.declared.memory.MemObject.{MemObject}
 
 int_eq-true : (x y : ℤ) → int_eq x y ≡ true → x ≡ y
