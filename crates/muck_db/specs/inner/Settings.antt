@@ -7,8 +7,8 @@ use Rattle.spec_live.specs.Setting.{set_at, with_name, with_owner, with_link, wi
 use Rattle.spec_live.specs.Consistent.{IsConsistent}
 use Rattle.muck_db.specs.declared.setting.Setting.{Setting}
 use Rattle.muck_db.specs.declared.setting.Setting.TheVariants.{Name, Owner, Link, Home, Flags, Level, Digest}
-use Rattle.muck_db.specs.Slots.{with_digest}
-use Rattle.muck_db.specs.Limits.{IsWithinLimits}
+use Rattle.muck_db.specs.inner.Slots.{with_digest}
+use Rattle.muck_db.specs.inner.Limits.{IsWithinLimits}
 
 abbrev pub with_setting : Setting → Object → Object
 with_setting (Name name) = with_name name

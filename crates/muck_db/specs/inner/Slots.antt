@@ -16,7 +16,7 @@ use Rattle.spec_live.specs.Setting.{lines_marked}
 use Rattle.spec_live.specs.Recycling.{is_exit_of}
 use Rattle.spec_live.specs.Start.{room_zero, player_one}
 use Rattle.muck_db.specs.declared.slot.Slot.{Slot}
-use Rattle.muck_db.specs.Limits.{IsWithinLimits}
+use Rattle.muck_db.specs.inner.Limits.{IsWithinLimits}
 
 -- Readers, by number.
 
