@@ -6,7 +6,7 @@ use Rattle.muf_token.specs.declared.fault.TokenFault.TheVariants.{Refused, NoMem
 use Rattle.muf_token.specs.declared.place.Place.{Place}
 use Rattle.muf_token.specs.declared.piece.Piece.{Piece}
 use Rattle.muf_token.specs.declared.directive.Name.{Name as RustName}
-use Rattle.muf_token.specs.Places.{text_at}
+use Rattle.muf_token.specs.inner.Places.{text_at}
 use Rattle.muf_token.specs.Directives.{Spot, Name, Body}
 
 -- the line and the text of a place

@@ -4,7 +4,7 @@ use Rattle.muf_token.specs.declared.fault.TokenFault.{TokenFault}
 use Rattle.muf_token.specs.declared.fault.TokenFault.TheVariants.{Refused, NoMemory}
 use Rattle.muf_token.specs.declared.place.Place.{Place}
 use Rattle.muf_token.specs.declared.reader.Reader.{Reader}
-use Rattle.muf_token.specs.Spots.{spot_of}
+use Rattle.muf_token.specs.inner.Spots.{spot_of}
 use Rattle.muck_model.specs.declared.dbref.Dbref.{Dbref}
 use Rattle.muf_token.specs.declared.includes.Definition.{Definition}
 use Rattle.muf_token.specs.Branches.{outermost}
