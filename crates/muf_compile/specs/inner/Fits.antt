@@ -12,8 +12,8 @@ use Rattle.muf_compile.specs.declared.fault.Refusal.{Refusal}
 use Rattle.muf_compile.specs.declared.fault.CompileFault.{CompileFault}
 use Rattle.muf_compile.specs.declared.fault.CompileFault.TheVariants.{Refused, NoMemory}
 use Rattle.muf_compile.specs.Growth.{Unfinished, first, second, turning, Growth, Grown, in_loop}
-use Rattle.muf_compile.specs.Built.{Built}
-use Rattle.muf_compile.specs.Build.{Made}
+use Rattle.muf_compile.specs.inner.Built.{Built}
+use Rattle.muf_compile.specs.inner.Build.{Made}
 
 abbrev pub first_open : Fork → Hole → Pending
 first_open if_word = pending.If

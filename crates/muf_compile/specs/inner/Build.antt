@@ -20,7 +20,7 @@ use Rattle.muf_compile.specs.declared.fault.CompileKind.{CompileKind}
 use Rattle.muf_compile.specs.declared.fault.CompileKind.TheVariants.{UnclosedIf, StrayElse, UnclosedLoop, StrayBreak, UnclosedTry}
 use Rattle.muf_compile.specs.declared.fault.Refusal.{Refusal}
 use Rattle.muf_compile.specs.Faults.{refuse}
-use Rattle.muf_compile.specs.Built.{Built}
+use Rattle.muf_compile.specs.inner.Built.{Built}
 use Rattle.muf_compile.specs.Growth.{widened}
 
 -- the code after an act, or why it is refused

@@ -12,10 +12,10 @@ use Rattle.muf_compile.specs.declared.fault.Refusal.{Refusal}
 use Rattle.muf_compile.specs.Acts.{cost_of}
 use Rattle.muf_compile.specs.Faults.{refuse, and_then}
 use Rattle.muf_compile.specs.Reading.{Known, read, nothing_known}
-use Rattle.muf_compile.specs.Knowing.{known_of}
+use Rattle.muf_compile.specs.inner.Knowing.{known_of}
 use Rattle.muf_compile.specs.Growth.{counted}
-use Rattle.muf_compile.specs.Built.{Built}
-use Rattle.muf_compile.specs.Build.{build, misfit}
+use Rattle.muf_compile.specs.inner.Built.{Built}
+use Rattle.muf_compile.specs.inner.Build.{build, misfit}
 
 -- what is known, the code so far, and how many instructions it has that take a unit
 pub record Compiled : Type 0 where
