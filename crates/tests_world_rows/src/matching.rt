@@ -1,9 +1,9 @@
 // What texts name for `#1`.
-use crate::world::words::line;
 use muck_db::Db;
 use muck_match::{exit_for, find, player};
 use muck_model::{Dbref, NoMemory};
 use std::alloc::Global;
+use tests_rows::line;
 
 const ONE: Dbref = Dbref(1);
 

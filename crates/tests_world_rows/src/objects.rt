@@ -1,11 +1,11 @@
 // The objects of a world.
 ghost use Rattle.std.specs.Prelude.{◌<◌, ◌^◌};
 
-use crate::world::words::{Words, halves, line, name, path, value};
 use muck_db::{Chain, Db, DbFault};
 use muck_model::{Dbref, Flags, Kind, LineList, NoMemory};
 use spec_live::flag_of;
 use std::alloc::Global;
+use tests_rows::{Words, halves, line, name, path, value};
 
 // What a change of the objects answers, unless memory was wanted for its arguments.
 type Done = Result<Result<(), DbFault>, NoMemory>;

@@ -1,8 +1,8 @@
 // Paths of properties.
-use crate::world::words::{add, halves, line, path as path_of};
 use muck_model::NoMemory;
 use muck_prop::{Path, read_path};
 use std::alloc::Global;
+use tests_rows::{add, halves, line, path as path_of};
 
 /// Adds the text of a path.
 pub fn add_path(alloc: Global, out: &mut String, path: &Path) -> Result<(), NoMemory> {

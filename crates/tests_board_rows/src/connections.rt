@@ -1,9 +1,9 @@
 // The connections of a world.
-use crate::world::words::{Words, add, line};
 use muck_board::Board;
 use muck_db::Db;
 use muck_model::{NoMemory, Tune};
 use std::alloc::Global;
+use tests_rows::{Words, add, line};
 
 // Sends lines of ten digits, which count from 1000000000 on.
 fn flood(alloc: Global, board: &mut Board, d: u32, count: u32) -> Result<(), NoMemory> {

@@ -1,8 +1,8 @@
 // Sources and sinks over memory.
-use crate::world::words::{Words, add, halves};
 use muck_io::{MemSink, MemSource, read_all, write_all};
 use muck_model::NoMemory;
 use std::alloc::Global;
+use tests_rows::{Words, add, halves};
 
 // What comes of so many bytes at most, or `!` and the fault.
 fn told(

@@ -1,9 +1,9 @@
 // The properties of one object.
-use crate::world::paths::add_path;
-use crate::world::words::{Words, add, halves, line, path, value};
+use crate::paths::add_path;
 use muck_model::NoMemory;
 use muck_prop::{Path, PropValue, Props};
 use std::alloc::Global;
+use tests_rows::{Words, add, halves, line, path, value};
 
 // What a property holds.
 fn held(out: &mut String, value: Option<&PropValue>) -> Result<(), NoMemory> {

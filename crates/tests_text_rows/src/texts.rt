@@ -1,8 +1,8 @@
 // Texts and numbers.
-use crate::world::words::{halves, line as line_of};
 use muck_model::{Dbref, Line, LineFault, NoMemory, decimal};
 use std::alloc::Global;
 use std::hash::{DefaultHasher, Hash, Hasher};
+use tests_rows::{halves, line as line_of};
 
 // How long a text is, or where the bytes are none.
 fn told(out: &mut String, line: &Result<Line, LineFault>) -> Result<(), NoMemory> {

@@ -4,12 +4,12 @@ ghost use Rattle.muf_model.specs.Stands.{TreeStands};
 ghost use Rattle.muf_model.specs.Decode.{tree_of};
 
 use crate::world::TUNE;
-use crate::world::words::{Words, line};
 use muck_model::{Dbref, NoMemory, Row};
 use muck_queue::{Mode, Process, Queue};
 use muf_model::{Closer, Code, CodeWord, Instr, Offer, Placed, Shared, Text};
 use muf_running::{Occasion, Running};
 use std::alloc::Global;
+use tests_rows::{Words, line};
 
 // The code of a program of one word, which ends at once.
 fn code(alloc: Global) -> Result<Code, NoMemory>

@@ -1,12 +1,12 @@
 // What the rules allow, by whose rights a program runs, and how names are shown.
-use crate::world::objects::flags;
-use crate::world::words::{Words, add, line, path};
+use crate::objects::flags;
 use muck_board::Board;
 use muck_db::Db;
 use muck_model::{Dbref, Denial, NoMemory};
 use muck_perm::{Guard, level, name_shown, user, verdict};
 use spec_rights::{Act, Actor};
 use std::alloc::Global;
+use tests_rows::{Words, add, line, path};
 
 const NOBODY: Actor = Actor {
     level: 0,
@@ -14,35 +14,34 @@ const NOBODY: Actor = Actor {
     player: Dbref(-1),
 };
 
-// An act that needs no memory, by its name, with what it is done to.
-fn act(name: &[u8], object: Dbref, other: Dbref, rest: &[u8]) -> Act {
-    match name {
+// An act on one object, by its name.
+fn on_one(name: &[u8], object: Dbref) -> Option<Act> {
+    Some(match name {
         b"start" => Act::Start { program: object },
         b"near" => Act::Near { object },
-        b"move" => Act::Move { object, to: other },
         b"walk" => Act::Walk { exit: object },
         b"take" => Act::Take { object },
-        b"link" => Act::Link { object, to: other },
         b"room" => Act::NewRoom { place: object },
         b"thing" => Act::NewThing { place: object },
-        b"exit" => Act::NewExit {
-            place: object,
-            link: other,
-        },
-        b"program" => Act::NewProgram,
         b"edit" => Act::Edit { program: object },
         b"change" => Act::Change { object },
         b"rename" => Act::Rename { object },
         b"password" => Act::Password { player: object },
-        b"flag" => Act::SetFlag {
-            object,
-            flag: flags(rest),
-        },
-        b"level" => Act::SetLevel {
-            object,
-            level: Words { left: rest }.small(),
-        },
         b"recycle" => Act::Recycle { object },
+        b"call" => Act::Call { program: object },
+        _ => return None,
+    })
+}
+
+// An act on an object and another one, by its name.
+fn on_two(name: &[u8], object: Dbref, other: Dbref) -> Option<Act> {
+    Some(match name {
+        b"move" => Act::Move { object, to: other },
+        b"link" => Act::Link { object, to: other },
+        b"exit" => Act::NewExit {
+            place: object,
+            link: other,
+        },
         b"owner" => Act::SetOwner {
             object,
             owner: other,
@@ -51,28 +50,47 @@ fn act(name: &[u8], object: Dbref, other: Dbref, rest: &[u8]) -> Act {
             player: object,
             program: other,
         },
-        b"call" => Act::Call { program: object },
+        _ => return None,
+    })
+}
+
+// An act on an object by what is written behind it, or one that is on none.
+fn on_written(alloc: Global, name: &[u8], object: Dbref, text: &[u8]) -> Result<Act, NoMemory> {
+    let level = Words { left: text }.small();
+    let flag = flags(text);
+    Ok(match name {
+        b"flag" => Act::SetFlag { object, flag },
+        b"level" => Act::SetLevel { object, level },
+        b"read" => Act::Read {
+            object,
+            path: path(alloc, text)?,
+        },
+        b"write" => Act::Write {
+            object,
+            path: path(alloc, text)?,
+        },
+        b"program" => Act::NewProgram,
         _ => Act::Wizard,
-    }
+    })
 }
 
 // An act by its name, with what it is done to.
 fn asked(alloc: Global, words: &mut Words<'_>) -> Result<Act, NoMemory> {
     let name = words.word();
-    let level = Words { left: words.left }.small();
+    if name == b"shared".as_slice() {
+        return Ok(Act::Shared {
+            level: words.small(),
+        });
+    }
     let object = words.object();
-    let rest = words.left;
-    match name {
-        b"shared" => Ok(Act::Shared { level }),
-        b"read" => Ok(Act::Read {
-            object,
-            path: path(alloc, rest)?,
-        }),
-        b"write" => Ok(Act::Write {
-            object,
-            path: path(alloc, rest)?,
-        }),
-        _ => Ok(act(name, object, words.object(), rest)),
+    let text = words.left;
+    let other = words.object();
+    if let Some(act) = on_one(name, object) {
+        return Ok(act);
+    }
+    match on_two(name, object, other) {
+        Some(act) => Ok(act),
+        None => on_written(alloc, name, object, text),
     }
 }
 
@@ -129,6 +147,27 @@ pub fn password(
     guard.tell_all(b"set")?;
     write!(out, "{done:?}")?;
     Ok(())
+}
+
+/// `open D`, `seat D PLAYER`, `take D MOST`: a connection that comes, who sits there, and what it hears.
+pub fn hear(
+    alloc: Global,
+    out: &mut String,
+    board: &mut Board,
+    words: &mut Words<'_>,
+) -> Result<(), NoMemory> {
+    let verb = words.word();
+    let d = words.number();
+    match verb {
+        b"open" => board.open(d, b""),
+        b"seat" => Ok(board.seat(d, words.object())),
+        _ => {
+            let mut bytes = vec![in alloc; 0; words.number() as usize]?;
+            let count = board.take(d, &mut bytes);
+            bytes.truncate(count);
+            add(out, &bytes)
+        }
+    }
 }
 
 /// `runs PLAYER TRIGGER PROGRAM CALLER`: the level and the user of a program, which another or none called.
