@@ -3,3 +3,4 @@ pub mod Made
 pub mod Law
 pub mod Memory
 pub mod Standing
+pub mod Answers
