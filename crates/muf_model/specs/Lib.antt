@@ -14,7 +14,6 @@ pub mod Ladder
 pub mod StackRows
 pub mod NumberRows
 pub mod TextRows
-pub mod ArrayRows
 pub mod Rows
 pub mod Source
 pub mod Unit

@@ -1,7 +1,9 @@
 // The primitives, by name.
-ghost use Rattle.std.specs.Prelude.{◌≡◌, false};
+ghost use Rattle.std.specs.Prelude.{◌≡◌, true, false};
+ghost use Rattle.std.specs.List.{list_all};
 ghost use Rattle.std.specs.Option.{option_map};
 ghost use Rattle.muf_model.specs.Needs.{shown_needs};
+ghost use Rattle.muf_model.specs.Rows.{is_settled};
 ghost use Rattle.muf_model.specs.Prims.{row_of, shown_row, level_of, is_local, is_there, family_of, needs_of, name_of, primitives, named, is_named, named_in_any_case};
 
 use crate::needs::{
@@ -621,11 +623,20 @@ impl Primitive {
         self.row().name
     }
 
+    /// All of them, in the order of their families. One that needs no world is there exactly where a row says what it does.
+    #[tactic(auto, unfolding(crate::specs::Prims::primitives))]
+    pub fn all() -> &'static [Primitive]
+        ensures value { result.now ≡ primitives }
+        ensures rows { list_all is_settled result.now ≡ true }
+    {
+        &ALL
+    }
+
     /// The primitive of a name in capitals; `None` exactly where no primitive has it.
     pub fn named(word: &[u8]) -> Option<Primitive>
         ensures { result ≡ named word.now }
     {
-        all()
+        Primitive::all()
             .iter()
             .copied()
             .find(|primitive| primitive.name() == word)
@@ -636,7 +647,7 @@ impl Primitive {
     pub fn named_in_any_case(word: &[u8]) -> Option<Primitive>
         ensures { result ≡ named_in_any_case word.now }
     {
-        all()
+        Primitive::all()
             .iter()
             .copied()
             .find(|primitive| primitive.is_named(word))
@@ -650,16 +661,8 @@ impl Primitive {
     }
 }
 
-// All of them.
-#[tactic(auto, unfolding(crate::specs::Prims::primitives))]
-fn all() -> &'static [Primitive]
-    ensures { result.now ≡ primitives }
-{
-    &ALL
-}
-
-/// All primitives, in the order of their families.
-pub const ALL: [Primitive; 168] = [
+// All primitives, in the order of their families.
+const ALL: [Primitive; 168] = [
     Primitive::Pop,
     Primitive::Dup,
     Primitive::DupTrue,
