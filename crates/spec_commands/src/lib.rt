@@ -5,10 +5,12 @@
 
 mod edit;
 mod outcome;
+mod shape;
 mod word;
 mod words;
 
 pub use edit::{EditCommand, EditStep};
 pub use outcome::Outcome;
+pub use shape::{Argument, Arguments, Form, Shape, Want};
 pub use word::{BuildWord, Message, PlayWord};
 pub use words::{alike, cut_word, trim};
