@@ -25,7 +25,7 @@ use Rattle.spec_rights.proofs.Permitted.{staying, ending}
 use Rattle.spec_rights.proofs.Shown.{shown}
 use Rattle.spec_commands.specs.declared.outcome.Outcome.{Outcome}
 use Rattle.spec_commands.specs.Replies.{taken_reply, recycled_reply, dropped_reply}
-use Rattle.spec_commands.specs.Finding.{is_so, is_object, finding_object, message_shown, message_to_others}
+use Rattle.spec_commands.specs.Finding.{is_so, message_shown, message_to_others}
 use Rattle.spec_commands.specs.Going.{ended, moving, gone, gone_home, led, failed, succeeded, walked, walked_some, went, is_item, not_taken, taken, is_carried, drop_place, dropped, inventory_shown}
 use Rattle.spec_commands.specs.Building.{allowed, written, done_where, recycled}
 use Rattle.spec_commands.proofs.Showing.{seeing, stays_where, ends_where, whole_where, whole_finding}

@@ -7,7 +7,7 @@ use Rattle.muck_match.specs.declared.exits.ExitHit.{ExitHit}
 use Rattle.muck_match.specs.Exits.{exit_for}
 use Rattle.spec_live.specs.Seen.{scenery_of}
 use Rattle.spec_live.specs.Objects.{Entry}
-use Rattle.spec_live.specs.Lives.{Live, Change, ◌▸◌, reading, either, unchanged, tell}
+use Rattle.spec_live.specs.Lives.{Live, Change, ◌▸◌, reading, unchanged, tell}
 use Rattle.spec_rights.specs.declared.act.Actor.{Actor}
 use Rattle.spec_rights.specs.Verdict.{is_guarded}
 use Rattle.spec_rights.specs.Licence.{Licensed, nobody, oneself}
@@ -32,7 +32,7 @@ use Rattle.spec_commands.specs.Talk.{waits}
 use Rattle.spec_commands.specs.Going.{Play, ended, went, gone_home}
 use Rattle.spec_commands.specs.Free.{free_word, free_by, free_line}
 use Rattle.spec_commands.specs.Reading.{incomplete, looked_up, with_arguments, by_command, by_table}
-use Rattle.spec_commands.specs.Commands.{one_part, two_parts, full_parts, play_word, play_done, play_some, play_words, play_line, message_name, build_words, build_shape, build_done, build_line, or_next, or_else, commanded, begins_with_sign, through, played}
+use Rattle.spec_commands.specs.Commands.{one_part, two_parts, play_word, play_done, play_some, play_words, play_line, message_name, build_words, build_shape, build_done, build_line, or_next, or_else, commanded, begins_with_sign, through, played}
 use Rattle.spec_commands.proofs.Showing.{seeing, quiet_waits}
 use Rattle.spec_commands.proofs.Built.{building, quiet_find_shown, quiet_examined}
 use Rattle.spec_commands.proofs.Programmed.{program_made_open, program_edited_open, program_listed_open, program_run_open}
@@ -54,11 +54,7 @@ whole_two_parts : (a : Actor) (own : Option ℕ) (free : List Entry → Dbref �
 unfolding two_parts
 whole_two_parts a own free d word text go p = search (commanding, quiet_incomplete)
 
-whole_full_parts : (a : Actor) (own : Option ℕ) (free : List Entry → Dbref → Bool) (d : ℕ) (word text : List ℕ) (go : List ℕ → List ℕ → Change) → ((s t : List ℕ) → Whole itself a own free Always (go s t)) → Whole itself a own free Always (full_parts d word text go)
-unfolding full_parts
-whole_full_parts a own free d word text go p = search (commanding, quiet_incomplete)
-
-ruleset parting = (commanding, seeing, whole_ended, whole_one_part, whole_two_parts, whole_full_parts, quiet_incomplete)
+ruleset parting = (commanding, seeing, whole_ended, whole_one_part, whole_two_parts, quiet_incomplete)
 
 -- What players do. Who walks moves itself, and who takes or drops what is at hand.
 

@@ -1,5 +1,5 @@
 -- A line of a player.
-use Rattle.std.specs.Prelude.{ℕ, Bool, false, not, ◌&&◌, ◌||◌, ◌==◌, if◌then◌else◌, List, [], ◌∷◌, codes, Option, Some, None}
+use Rattle.std.specs.Prelude.{ℕ, Bool, false, ◌||◌, ◌==◌, if◌then◌else◌, List, [], ◌∷◌, codes, Option, Some, None}
 use Rattle.muck_match.specs.declared.exits.ExitHit.{ExitHit}
 use Rattle.muck_match.specs.Exits.{exit_for}
 use Rattle.spec_live.specs.Objects.{dbref_of, nothing}
@@ -26,7 +26,7 @@ use Rattle.spec_commands.specs.Talking.{said, posed, paged, whispered, who_shown
 use Rattle.spec_commands.specs.Going.{Play, ended, gone_home, walked, went, taken, dropped, inventory_shown}
 use Rattle.spec_commands.specs.Building.{made, thing_made, exit_opened, link_set, link_cleared, name_set, kept, lock_set, teleported, recycled, chowned, find_shown, examined}
 use Rattle.spec_commands.specs.Programming.{program_made, program_edited, program_listed, program_run}
-use Rattle.spec_commands.specs.Reading.{is_empty, left_part, right_part, has_equals, incomplete, shaped, by_table}
+use Rattle.spec_commands.specs.Reading.{is_empty, left_part, right_part, has_two, incomplete, shaped, by_table}
 
 -- The parts of a command.
 
@@ -36,12 +36,7 @@ one_part d word text go = either (is_empty text) (incomplete d word) (go text)
 
 -- a command with two parts, of which the second may be empty
 unfoldable pub two_parts : ℕ → List ℕ → List ℕ → (List ℕ → List ℕ → Change) → Change
-two_parts d word text go = either (has_equals text && not (is_empty (left_part text))) (go (left_part text) (right_part text)) (incomplete d word)
-
--- a command with two parts, of which none may be empty
-unfoldable pub full_parts : ℕ → List ℕ → List ℕ → (List ℕ → List ℕ → Change) → Change
-full_parts d word text go =
-    either (has_equals text && (not (is_empty (left_part text)) && not (is_empty (right_part text)))) (go (left_part text) (right_part text)) (incomplete d word)
+two_parts d word text go = either (has_two text) (go (left_part text) (right_part text)) (incomplete d word)
 
 -- What players do.
 
