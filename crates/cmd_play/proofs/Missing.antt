@@ -6,7 +6,8 @@ use Rattle.spec_commands.specs.declared.outcome.Outcome.TheVariants.{Done}
 use Rattle.spec_commands.specs.declared.word.PlayWord.{PlayWord}
 use Rattle.spec_commands.specs.declared.word.PlayWord.TheVariants.{Look, Say, Pose, Page, Whisper, Go, Get, Drop, Inventory, Home, Examine, Who, Quit}
 use Rattle.spec_commands.specs.Going.{ended}
-use Rattle.spec_commands.specs.Commands.{incomplete, one_part, play_done, is_empty}
+use Rattle.spec_commands.specs.Commands.{one_part, play_done}
+use Rattle.spec_commands.specs.Reading.{incomplete, is_empty}
 use Rattle.cmd_play.specs.Needs.{needs_text}
 
 pub text_missing : (d : ℕ) (a : Actor) (word text : List ℕ) (found : PlayWord) (w : Live) → needs_text found ≡ true → is_empty text ≡ true → play_done d a word text found w ≡ ended Done (incomplete d word) w

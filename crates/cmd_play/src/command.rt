@@ -5,7 +5,8 @@ ghost use Rattle.spec_rights.specs.Licence.{Licensed};
 ghost use Rattle.spec_commands.specs.Replies.{goodbye};
 ghost use Rattle.spec_commands.specs.Finding.{looked, looked_at};
 ghost use Rattle.spec_commands.specs.Talking.{paged, whispered};
-ghost use Rattle.spec_commands.specs.Commands.{is_empty, two_parts, play_done, play_words, play_line};
+ghost use Rattle.spec_commands.specs.Reading.{is_empty};
+ghost use Rattle.spec_commands.specs.Commands.{two_parts, play_done, play_words, play_line};
 ghost use Rattle.muck_perm.specs.Guards.{Did, world_of};
 ghost use Rattle.cmd_common.specs.Plays.{Plays};
 ghost use Rattle.cmd_play.specs.Needs.{needs_text};
@@ -16,10 +17,10 @@ use crate::looking::{examine, inventory, look, look_at};
 use crate::taking::{drop, take};
 use crate::talking::{page, pose, say, whisper, who};
 use crate::words::play_word;
-use cmd_common::{after_sign, after_word, incomplete, two_parts};
+use cmd_common::{after_sign, after_word, incomplete, parts_in};
 use muck_model::{Line, NoMemory};
 use muck_perm::Guard;
-use spec_commands::{Outcome, PlayWord, cut_word, trim};
+use spec_commands::{Form, Outcome, PlayWord, cut_word, trim};
 
 // Whether a word is one that has to be followed by a text.
 fn needs_text(found: PlayWord) -> bool
@@ -59,7 +60,7 @@ fn look_around(guard: &mut Guard, d: u32, text: &Line) -> Result<(), NoMemory>
 fn page_parts(guard: &mut Guard, d: u32, word: &[u8], text: &Line) -> Result<(), NoMemory>
     ensures { Did (two_parts d word.now text.now (paged d guard.old.actor.player)) guard.old guard.new result }
 {
-    match two_parts(guard.alloc(), text)? {
+    match parts_in(guard.alloc(), Form::Two, text)? {
         Some(parts) => page(guard, d, &parts.left, &parts.right),
         None => incomplete(guard, d, word),
     }
@@ -70,7 +71,7 @@ fn page_parts(guard: &mut Guard, d: u32, word: &[u8], text: &Line) -> Result<(),
 fn whisper_parts(guard: &mut Guard, d: u32, word: &[u8], text: &Line) -> Result<(), NoMemory>
     ensures { Did (two_parts d word.now text.now (whispered d guard.old.actor.player)) guard.old guard.new result }
 {
-    match two_parts(guard.alloc(), text)? {
+    match parts_in(guard.alloc(), Form::Two, text)? {
         Some(parts) => whisper(guard, d, &parts.left, &parts.right),
         None => incomplete(guard, d, word),
     }

@@ -25,9 +25,9 @@ use Rattle.spec_rights.proofs.Permitted.{staying, ending}
 use Rattle.spec_rights.proofs.Shown.{shown}
 use Rattle.spec_commands.specs.declared.outcome.Outcome.{Outcome}
 use Rattle.spec_commands.specs.Replies.{taken_reply, recycled_reply, dropped_reply}
-use Rattle.spec_commands.specs.Finding.{is_so, is_object, finding_object, message_shown, message_to_others}
+use Rattle.spec_commands.specs.Finding.{is_so, message_shown, message_to_others}
 use Rattle.spec_commands.specs.Going.{ended, moving, gone, gone_home, led, failed, succeeded, walked, walked_some, went, is_item, not_taken, taken, is_carried, drop_place, dropped, inventory_shown}
-use Rattle.spec_commands.specs.Building.{allowed, recycled}
+use Rattle.spec_commands.specs.Building.{allowed, written, done_where, recycled}
 use Rattle.spec_commands.proofs.Showing.{seeing, stays_where, ends_where, whole_where, whole_finding}
 
 -- The answer of a command is its world and its outcome.
@@ -179,11 +179,9 @@ recycling a own free x given h = record {
       recycled_licensed a (free w.objects) x w p.0 t.0 p.1;
 }
 
-pub recycled_open : (a : Actor) (own : Option ℕ) (free : List Entry → Dbref → Bool) (d : ℕ) (name : List ℕ) → Whole itself a own free Always (recycled d a name)
-unfolding recycled finding_object
-recycled_open a own free d name =
-    whole_finding itself a own free Always (tell d) a.player name _ (λ t. whole_quiet a own free Always _ (search shown)) (λ x.
-    whole_where itself a own free Always (is_object x) _ _ (whole_quiet a own free Always _ (search shown))
-    (whole_asked itself a own free _ (Recycle x) _ _ (λ denial. whole_quiet a own free Always _ (search shown))
+pub recycled_open : (a : Actor) (own : Option ℕ) (free : List Entry → Dbref → Bool) (d : ℕ) (x : Dbref) → Whole itself a own free Always (recycled d a x)
+unfolding recycled written done_where
+recycled_open a own free d x =
+    whole_asked itself a own free Always (Recycle x) _ _ (λ denial. whole_quiet a own free Always _ (search shown))
     (whole_where itself a own free _ (λ w. allowed (recycle_check x w.objects)) _ _ (whole_quiet a own free _ _ (search shown))
-    (whole_quietly a own free _ (recycled_now x) (tell d recycled_reply) (recycling a own free x _ (λ w h. (h.0.1, h.1))) (search shown)))))
+    (whole_quietly a own free _ (recycled_now x) (tell d recycled_reply) (recycling a own free x _ (λ w h. (h.0.1, h.1))) (search shown)))

@@ -7,12 +7,12 @@ use Rattle.muck_match.specs.declared.exits.ExitHit.{ExitHit}
 use Rattle.muck_match.specs.Exits.{exit_for}
 use Rattle.spec_live.specs.Seen.{scenery_of}
 use Rattle.spec_live.specs.Objects.{Entry}
-use Rattle.spec_live.specs.Lives.{Live, Change, ◌▸◌, reading, either, unchanged, tell}
+use Rattle.spec_live.specs.Lives.{Live, Change, ◌▸◌, reading, unchanged, tell}
 use Rattle.spec_rights.specs.declared.act.Actor.{Actor}
 use Rattle.spec_rights.specs.Verdict.{is_guarded}
 use Rattle.spec_rights.specs.Licence.{Licensed, nobody, oneself}
 use Rattle.spec_rights.proofs.Lookups.{same_eq}
-use Rattle.spec_rights.proofs.Licences.{Own, Quiet, Ends, Whole, Always, itself, whole_ends, whole_quiet, whole_either, whole_followed, ends_stays}
+use Rattle.spec_rights.proofs.Licences.{Own, Quiet, Whole, Always, itself, whole_ends, whole_quiet, whole_followed, ends_stays}
 use Rattle.spec_rights.proofs.Permitted.{commanding}
 use Rattle.spec_rights.proofs.Shown.{shown}
 use Rattle.spec_commands.specs.declared.outcome.Outcome.{Outcome}
@@ -22,6 +22,8 @@ use Rattle.spec_commands.specs.declared.word.PlayWord.TheVariants.{Look, Say, Po
 use Rattle.spec_commands.specs.declared.word.Message.{Message}
 use Rattle.spec_commands.specs.declared.word.Message.TheVariants.{Describe, Success, OthersSuccess, Fail, OthersFail, Drop as DropMessage, OthersDrop}
 use Rattle.spec_commands.specs.declared.word.BuildWord.{BuildWord}
+use Rattle.spec_commands.specs.declared.shape.Shape.{Shape}
+use Rattle.spec_commands.specs.declared.shape.Arguments.{Arguments}
 use Rattle.spec_commands.specs.declared.word.BuildWord.TheVariants.{Dig, Create, Open, Action, Link, Unlink, Name, Set, Lock, Unlock, Teleport, Recycle, Chown, Find, Program, Edit, List as ListWord, Run}
 use Rattle.spec_commands.specs.Finding.{message_path}
 use Rattle.spec_commands.specs.Texts.{first_word, trimmed}
@@ -29,11 +31,13 @@ use Rattle.spec_commands.specs.Replies.{huh}
 use Rattle.spec_commands.specs.Talk.{waits}
 use Rattle.spec_commands.specs.Going.{Play, ended, went, gone_home}
 use Rattle.spec_commands.specs.Free.{free_word, free_by, free_line}
-use Rattle.spec_commands.specs.Commands.{is_empty, left_part, right_part, incomplete, one_part, two_parts, full_parts, play_word, play_done, play_some, play_words, play_line, message_name, open_done, build_word, run_done, build_done, build_some, build_line, or_next, or_else, commanded, begins_with_sign, through, played}
+use Rattle.spec_commands.specs.Reading.{incomplete, looked_up, with_arguments, by_command, by_table}
+use Rattle.spec_commands.specs.Commands.{one_part, two_parts, play_word, play_done, play_some, play_words, play_line, message_name, build_words, build_shape, build_done, build_line, or_next, or_else, commanded, begins_with_sign, through, played}
 use Rattle.spec_commands.proofs.Showing.{seeing, quiet_waits}
-use Rattle.spec_commands.proofs.Built.{dug_open, thing_made_open, opened_exit_open, opened_to_open, action_made_open, link_set_open, link_cleared_open, name_set_open, message_set_open, lock_set_open, lock_cleared_open, teleported_open, chowned_open, quiet_find_shown, quiet_examined}
+use Rattle.spec_commands.proofs.Built.{building, quiet_find_shown, quiet_examined}
 use Rattle.spec_commands.proofs.Programmed.{program_made_open, program_edited_open, program_listed_open, program_run_open}
 use Rattle.spec_commands.proofs.Mine.{Mine, mine_done, mine_leave, mine_either, mine_went, mine_program_made, mine_program_edited, mine_program_listed, mine_program_run}
+use Rattle.spec_commands.proofs.Lawful.{Lawful, lawful_done, lawful_quiet, lawful_ends, lawful_play, lawful_with}
 use Rattle.spec_commands.proofs.Gone.{world_of, whole_ended, walked_open, went_open, HandFree, taken_open, dropped_open, recycled_open, stays_gone_home, quiet_inventory_shown}
 
 -- The parts of a command.
@@ -50,11 +54,7 @@ whole_two_parts : (a : Actor) (own : Option ℕ) (free : List Entry → Dbref �
 unfolding two_parts
 whole_two_parts a own free d word text go p = search (commanding, quiet_incomplete)
 
-whole_full_parts : (a : Actor) (own : Option ℕ) (free : List Entry → Dbref → Bool) (d : ℕ) (word text : List ℕ) (go : List ℕ → List ℕ → Change) → ((s t : List ℕ) → Whole itself a own free Always (go s t)) → Whole itself a own free Always (full_parts d word text go)
-unfolding full_parts
-whole_full_parts a own free d word text go p = search (commanding, quiet_incomplete)
-
-ruleset parting = (commanding, seeing, whole_ended, whole_one_part, whole_two_parts, whole_full_parts, quiet_incomplete)
+ruleset parting = (commanding, seeing, whole_ended, whole_one_part, whole_two_parts, quiet_incomplete)
 
 -- What players do. Who walks moves itself, and who takes or drops what is at hand.
 
@@ -106,43 +106,26 @@ message_guarded OthersFail = refl
 message_guarded DropMessage = refl
 message_guarded OthersDrop = refl
 
-abbrev Building : Actor → Option ℕ → (List Entry → Dbref → Bool) → Change → Type 0
-Building a own free f = Whole itself a own free Always f
-
-by_ends : (a : Actor) (own : Option ℕ) (free : List Entry → Dbref → Bool) (f : Change) → ((free : Dbref → Bool) → Ends itself a free None f) → Building a own free f
-by_ends a own free f p = whole_ends itself a own free Always f (λ w h. p (free w.objects))
-
-by_play_ends : (a : Actor) (own : Option ℕ) (free : List Entry → Dbref → Bool) (f : Play) → ((free : Dbref → Bool) → Ends world_of a free None f) → Whole world_of a own free Always f
-by_play_ends a own free f p = whole_ends world_of a own free Always f (λ w h. p (free w.objects))
-
-incomplete_open : (a : Actor) (own : Option ℕ) (free : List Entry → Dbref → Bool) (d : ℕ) (word : List ℕ) → Whole world_of a own free Always (ended Done (incomplete d word))
-incomplete_open a own free d word = whole_ended a own free Always Done _ (whole_quiet a own free Always _ (quiet_incomplete d word))
-
-complete_open : (a : Actor) (own : Option ℕ) (free : List Entry → Dbref → Bool) (d : ℕ) (word : List ℕ) (b : Bool) (go : Play) → Whole world_of a own free Always go → Whole world_of a own free Always (either b (ended Done (incomplete d word)) go)
-complete_open a own free d word b go p = whole_either world_of a own free Always b _ _ (incomplete_open a own free d word) p
-
-pub build_open : (a : Actor) (own : Option ℕ) (free : List Entry → Dbref → Bool) (d : ℕ) (line word text : List ℕ) (found : BuildWord) → Whole world_of a own free Always (build_done d a line word text found)
-unfolding build_done open_done run_done
-build_open a own free d line word text Dig = whole_ended a own free Always Done _ (whole_one_part a own free d word text _ (λ t. by_ends a own free _ (λ f. dug_open a f d t)))
-build_open a own free d line word text Create = whole_ended a own free Always Done _ (whole_one_part a own free d word text _ (λ t. by_ends a own free _ (λ f. thing_made_open a f d t)))
-build_open a own free d line word text Open = whole_ended a own free Always Done _ (whole_either itself a own free Always _ _ _
-    (whole_full_parts a own free d word text _ (λ s t. by_ends a own free _ (λ f. opened_to_open a f d s t)))
-    (whole_one_part a own free d word text _ (λ t. by_ends a own free _ (λ f. opened_exit_open a f d t))))
-build_open a own free d line word text Action = whole_ended a own free Always Done _ (whole_full_parts a own free d word text _ (λ s t. by_ends a own free _ (λ f. action_made_open a f d s t)))
-build_open a own free d line word text Link = whole_ended a own free Always Done _ (whole_full_parts a own free d word text _ (λ s t. by_ends a own free _ (λ f. link_set_open a f d s t)))
-build_open a own free d line word text Unlink = whole_ended a own free Always Done _ (whole_one_part a own free d word text _ (λ t. by_ends a own free _ (λ f. link_cleared_open a f d t)))
-build_open a own free d line word text Name = whole_ended a own free Always Done _ (whole_two_parts a own free d word text _ (λ s t. by_ends a own free _ (λ f. name_set_open a f d s t)))
-build_open a own free d line word text (Set m) = whole_ended a own free Always Done _ (whole_two_parts a own free d word text _ (λ s t. by_ends a own free _ (λ f. message_set_open a f d (message_name m) s t (message_guarded m))))
-build_open a own free d line word text Lock = whole_ended a own free Always Done _ (whole_two_parts a own free d word text _ (λ s t. by_ends a own free _ (λ f. lock_set_open a f d s t)))
-build_open a own free d line word text Unlock = whole_ended a own free Always Done _ (whole_one_part a own free d word text _ (λ t. by_ends a own free _ (λ f. lock_cleared_open a f d t)))
-build_open a own free d line word text Teleport = whole_ended a own free Always Done _ (whole_full_parts a own free d word text _ (λ s t. by_ends a own free _ (λ f. teleported_open a f d s t)))
-build_open a own free d line word text Recycle = whole_ended a own free Always Done _ (whole_one_part a own free d word text _ (λ t. recycled_open a own free d t))
-build_open a own free d line word text Chown = whole_ended a own free Always Done _ (whole_full_parts a own free d word text _ (λ s t. by_ends a own free _ (λ f. chowned_open a f d s t)))
-build_open a own free d line word text Find = whole_ended a own free Always Done _ (whole_one_part a own free d word text _ (λ t. whole_quiet a own free Always _ (quiet_find_shown d a t)))
-build_open a own free d line word text Program = complete_open a own free d word (is_empty text) _ (by_play_ends a own free _ (λ f. program_made_open a f d text))
-build_open a own free d line word text Edit = complete_open a own free d word (is_empty text) _ (by_play_ends a own free _ (λ f. program_edited_open a f d text))
-build_open a own free d line word text ListWord = complete_open a own free d word (is_empty text) _ (by_play_ends a own free _ (λ f. program_listed_open a f d text))
-build_open a own free d line word text Run = whole_either world_of a own free Always _ _ _ (by_play_ends a own free _ (λ f. program_run_open a f d line (left_part text) (right_part text))) (incomplete_open a own free d word)
+pub build_lawful : (a : Actor) (own : Option ℕ) (free : List Entry → Dbref → Bool) (d : ℕ) (line : List ℕ) (command : BuildWord) (args : Arguments) → Lawful a own free (build_done d a line command args)
+unfolding build_done
+build_lawful a own free d line Dig args = lawful_ends a own free _ (λ now. search building)
+build_lawful a own free d line Create args = lawful_ends a own free _ (λ now. search building)
+build_lawful a own free d line Open args = lawful_ends a own free _ (λ now. search building)
+build_lawful a own free d line Action args = lawful_ends a own free _ (λ now. search building)
+build_lawful a own free d line Link args = lawful_ends a own free _ (λ now. search building)
+build_lawful a own free d line Unlink args = lawful_ends a own free _ (λ now. search building)
+build_lawful a own free d line Name args = lawful_ends a own free _ (λ now. search building)
+build_lawful a own free d line (Set message) args = lawful_ends a own free _ (λ now. search (building, message_guarded))
+build_lawful a own free d line Lock args = lawful_ends a own free _ (λ now. search building)
+build_lawful a own free d line Unlock args = lawful_ends a own free _ (λ now. search building)
+build_lawful a own free d line Teleport args = lawful_ends a own free _ (λ now. search building)
+build_lawful a own free d line Recycle args = lawful_done a own free _ (recycled_open a own free d args.first.object)
+build_lawful a own free d line Chown args = lawful_ends a own free _ (λ now. search building)
+build_lawful a own free d line Find args = lawful_quiet a own free _ (quiet_find_shown d a args.first.text)
+build_lawful a own free d line Program args = lawful_play a own free _ (λ now. search program_made_open) (mine_program_made d a args.first.text)
+build_lawful a own free d line Edit args = lawful_play a own free _ (λ now. search program_edited_open) (mine_program_edited d a args.first.object)
+build_lawful a own free d line ListWord args = lawful_play a own free _ (λ now. search program_listed_open) (mine_program_listed d a args.first.object)
+build_lawful a own free d line Run args = lawful_play a own free _ (λ now. search program_run_open) (mine_program_run d a line args.first.object args.second.text)
 
 -- A whole line.
 
@@ -161,27 +144,6 @@ play_mine d a word text Home = mine_done _
 play_mine d a word text Examine = mine_done _
 play_mine d a word text Who = mine_done _
 play_mine d a word text Quit = mine_leave _
-
-build_mine : (d : ℕ) (a : Actor) (line word text : List ℕ) (found : BuildWord) → Mine (build_done d a line word text found)
-unfolding build_done run_done
-build_mine d a line word text Dig = mine_done _
-build_mine d a line word text Create = mine_done _
-build_mine d a line word text Open = mine_done _
-build_mine d a line word text Action = mine_done _
-build_mine d a line word text Link = mine_done _
-build_mine d a line word text Unlink = mine_done _
-build_mine d a line word text Name = mine_done _
-build_mine d a line word text (Set m) = mine_done _
-build_mine d a line word text Lock = mine_done _
-build_mine d a line word text Unlock = mine_done _
-build_mine d a line word text Teleport = mine_done _
-build_mine d a line word text Recycle = mine_done _
-build_mine d a line word text Chown = mine_done _
-build_mine d a line word text Find = mine_done _
-build_mine d a line word text Program = mine_either _ _ _ (mine_done _) (mine_program_made d a text)
-build_mine d a line word text Edit = mine_either _ _ _ (mine_done _) (mine_program_edited d a text)
-build_mine d a line word text ListWord = mine_either _ _ _ (mine_done _) (mine_program_listed d a text)
-build_mine d a line word text Run = mine_either _ _ _ (mine_program_run d a line (left_part text) (right_part text)) (mine_done _)
 
 next_kept : (g : Play) (v : Live) (outcome : Outcome) → (outcome ≡ NotMine → ⊥) → (or_next g (v, outcome)).0 ≡ v
 next_kept g v NotMine h = absurd (h refl)
@@ -217,15 +179,19 @@ play_line_open a own free d (b ∷ line) g h p = at (b == 34) (b == 58) h
     at false true h = or_mine a own free _ g (play_mine d a _ _ Pose) (play_open a own free d _ _ Pose tt)
     at false false h = play_some_open a own free d _ _ (play_word (first_word (trimmed (b ∷ line)))) g (h refl) p
 
-build_some_open : (a : Actor) (own : Option ℕ) (free : List Entry → Dbref → Bool) (d : ℕ) (line word text : List ℕ) (found : Option BuildWord) (g : Play) → Whole world_of a own free Always g → Whole world_of a own free Always (or_else (build_some d a line word text found) g)
-build_some_open a own free d line word text None g p = or_none a own free g p
-build_some_open a own free d line word text (Some found) g p = or_mine a own free _ g (build_mine d a line word text found) (build_open a own free d line word text found)
+-- a line that is looked up in a table, and what is left to the next
+table_open : {C : Type 0} (a : Actor) (own : Option ℕ) (free : List Entry → Dbref → Bool) (shape_of : C → Shape) (go : C → Arguments → Play) (d : ℕ) (word text : List ℕ) (found : Option C) (g : Play) →
+    ((command : C) (args : Arguments) → Lawful a own free (go command args)) → Whole world_of a own free Always g → Whole world_of a own free Always (or_else (by_command shape_of go d a word text found) g)
+table_open a own free shape_of go d word text None g p q = or_none a own free g q
+table_open a own free shape_of go d word text (Some command) g p q =
+    let r : Lawful a own free (with_arguments d a word (shape_of command) text (go command)) = lawful_with a own free d word (shape_of command) text (go command) (p command) in
+    or_mine a own free _ g r.mine r.licence
 
 commanded_open : (a : Actor) (own : Option ℕ) (free : List Entry → Dbref → Bool) (d : ℕ) (line : List ℕ) → (begins_with_sign line ≡ false → WordFree a free (play_word (first_word (trimmed line)))) → Whole world_of a own free Always (commanded d a line)
-unfolding commanded build_line
+unfolding commanded build_line by_table
 commanded_open a own free d line h =
     play_line_open a own free d line _ h
-    (build_some_open a own free d line _ _ (build_word (first_word (trimmed line))) (ended Done (tell d huh)) (whole_ended a own free Always Done _ (whole_quiet a own free Always _ (search shown))))
+    (table_open a own free build_shape (build_done d a line) d _ _ (looked_up build_words (first_word (trimmed line))) (ended Done (tell d huh)) (build_lawful a own free d line) (whole_ended a own free Always Done _ (whole_quiet a own free Always _ (search shown))))
 
 -- What is free by a line is enough for it.
 

@@ -4,11 +4,15 @@
 #![tactic(auto)]
 
 mod edit;
+mod new;
 mod outcome;
+mod shape;
 mod word;
 mod words;
 
 pub use edit::{EditCommand, EditStep};
+pub use new::New;
 pub use outcome::Outcome;
+pub use shape::{Argument, Arguments, Form, Shape, Want};
 pub use word::{BuildWord, Message, PlayWord};
 pub use words::{alike, cut_word, trim};
