@@ -1,4 +1,4 @@
 pub mod Presences
 pub mod Needs
-pub mod Dropping
+pub mod Speaking
 pub mod Free

@@ -1,5 +1,6 @@
 // A line of a player.
-ghost use Rattle.std.specs.Prelude.{◌≡◌, OnOk};
+ghost use Rattle.std.specs.Prelude.{◌≡◌, None, OnOk};
+ghost use Rattle.muck_model.specs.Bytes.{text_fault};
 ghost use Rattle.spec_live.specs.Lives.{tell, either};
 ghost use Rattle.spec_rights.specs.Licence.{Licensed};
 ghost use Rattle.spec_commands.specs.Replies.{goodbye};
@@ -15,11 +16,12 @@ use crate::going::{go, go_home};
 use crate::looking::{examine, inventory, look, look_at};
 use crate::taking::{drop, take};
 use crate::talking::{page, pose, say, whisper, who};
+use crate::typed::typed_of;
 use crate::words::play_word;
 use cmd_common::{after_sign, after_word, incomplete, two_parts};
 use muck_model::{Line, NoMemory};
 use muck_perm::Guard;
-use spec_commands::{Outcome, PlayWord, cut_word, trim};
+use spec_commands::{Outcome, PlayWord, Typed, cut_word, trim};
 
 // Whether a word is one that has to be followed by a text.
 fn needs_text(found: PlayWord) -> bool
@@ -44,13 +46,13 @@ fn is_empty(text: &Line) -> bool
 
 // The player looks where it is, or at what it names.
 #[tactic(auto, unfolding(spec_live::specs::Lives::either))]
-fn look_around(guard: &mut Guard, d: u32, text: &Line) -> Result<(), NoMemory>
-    ensures { Did (either (is_empty text.now) (looked d guard.old.actor.player) (looked_at d guard.old.actor text.now)) guard.old guard.new result }
+fn look_around(guard: &mut Guard, d: u32, typed: &Typed, text: &Line) -> Result<(), NoMemory>
+    ensures { Did (either (is_empty text.now) (looked d guard.old.actor typed.now) (looked_at d guard.old.actor typed.now text.now)) guard.old guard.new result }
 {
     if is_empty(text) {
-        look(guard, d)
+        look(guard, d, typed)
     } else {
-        look_at(guard, d, text)
+        look_at(guard, d, typed, text)
     }
 }
 
@@ -92,6 +94,7 @@ fn do_word(
     text: &Line,
     found: PlayWord,
 ) -> Result<Outcome, NoMemory>
+    requires { text_fault word.now ≡ None }
     ensures { Plays (play_done d guard.old.actor word.now text.now found) guard.old guard.new result }
 {
     if needs_text(found) && is_empty(text) {
@@ -99,14 +102,14 @@ fn do_word(
         return Ok(Outcome::Done);
     }
     match found {
-        PlayWord::Look => look_around(guard, d, text)?,
+        PlayWord::Look => look_around(guard, d, &typed_of(guard.alloc(), word, text.as_slice())?, text)?,
         PlayWord::Say => say(guard, d, text)?,
         PlayWord::Pose => pose(guard, d, text)?,
         PlayWord::Page => page_parts(guard, d, word, text)?,
         PlayWord::Whisper => whisper_parts(guard, d, word, text)?,
         PlayWord::Go => return go(guard, d, text),
-        PlayWord::Get => take(guard, d, text)?,
-        PlayWord::Drop => drop(guard, d, text)?,
+        PlayWord::Get => take(guard, d, &typed_of(guard.alloc(), word, text.as_slice())?, text)?,
+        PlayWord::Drop => drop(guard, d, &typed_of(guard.alloc(), word, text.as_slice())?, text)?,
         PlayWord::Inventory => inventory(guard, d)?,
         PlayWord::Home => go_home(guard, d)?,
         PlayWord::Examine => examine(guard, d, text)?,
@@ -120,7 +123,7 @@ fn do_word(
 }
 
 // A line that doesn't begin with a sign.
-#[tactic(auto, unfolding(spec_live::specs::Lives::unchanged, spec_commands::specs::Going::ended, spec_commands::specs::Commands::play_words))]
+#[tactic(auto, using(cmd_common::proofs::Texts::parts_are_texts), unfolding(spec_live::specs::Lives::unchanged, spec_commands::specs::Going::ended, spec_commands::specs::Commands::play_words))]
 fn do_words(guard: &mut Guard, d: u32, line: &Line) -> Result<Outcome, NoMemory>
     ensures { Plays (play_words d guard.old.actor line.now) guard.old guard.new result }
 {
@@ -133,7 +136,7 @@ fn do_words(guard: &mut Guard, d: u32, line: &Line) -> Result<Outcome, NoMemory>
 }
 
 // Any line.
-#[tactic(auto, unfolding(spec_live::specs::Lives::unchanged, spec_commands::specs::Going::ended, spec_commands::specs::Commands::play_line))]
+#[tactic(auto, unfolding(spec_live::specs::Lives::unchanged, spec_commands::specs::Going::ended, spec_commands::specs::Commands::play_line, muck_model::specs::Bytes::text_most))]
 fn do_line(guard: &mut Guard, d: u32, line: &Line) -> Result<Outcome, NoMemory>
     ensures { Plays (play_line d guard.old.actor line.now) guard.old guard.new result }
 {

@@ -28,7 +28,7 @@ use Rattle.spec_rights.proofs.Shown.{shown, quiet_tell}
 use Rattle.spec_commands.specs.Replies.{cant_be_done}
 use Rattle.spec_commands.specs.Finding.{where_so, finding_object, message_path}
 use Rattle.spec_commands.specs.Going.{movable, moving, home_at}
-use Rattle.spec_commands.specs.Building.{made_at, created_shown, making, as_made, dug, housed, thing_made, exit_made, opened_exit, opened_to, action_made, tied, has_home, allowed, untied_to, link_set, link_cleared, name_set, message_set, lock_kept, lock_set, lock_cleared, meant_place, teleported, chowned, find_shown, examined, owner_shown}
+use Rattle.spec_commands.specs.Building.{made_at, created_shown, making, as_made, dug, housed, thing_made, exit_made, opened_exit, opened_to, action_made, tied, has_home, allowed, untied_to, link_set, link_cleared, name_set, message_set, lock_kept, lock_set, lock_cleared, meant_place, teleported, chowned, find_shown}
 use Rattle.spec_commands.proofs.Showing.{seeing, stays_where, ends_where, ends_finding, ends_finding_player, quiet_listed}
 
 -- whatever ends as is open
@@ -184,11 +184,3 @@ chowned_open a free d name owner = search (permitting, ends_finding_object) dept
 pub quiet_find_shown : (d : ℕ) (a : Actor) (part : List ℕ) → Quiet (find_shown d a part)
 unfolding find_shown
 quiet_find_shown d a part = search seeing
-
-quiet_owner_shown : (d : ℕ) (x : Dbref) → Quiet (owner_shown d x)
-unfolding owner_shown
-quiet_owner_shown d x = search shown
-
-pub quiet_examined : (d : ℕ) (a : Actor) (name : List ℕ) → Quiet (examined d a name)
-unfolding examined
-quiet_examined d a name = search (seeing, quiet_owner_shown) depth 7

@@ -31,7 +31,7 @@ use Rattle.spec_commands.specs.Going.{Play, ended, went, gone_home}
 use Rattle.spec_commands.specs.Free.{free_word, free_by, free_line}
 use Rattle.spec_commands.specs.Commands.{is_empty, left_part, right_part, incomplete, one_part, two_parts, full_parts, play_word, play_done, play_some, play_words, play_line, message_name, open_done, build_word, run_done, build_done, build_some, build_line, or_next, or_else, commanded, begins_with_sign, through, played}
 use Rattle.spec_commands.proofs.Showing.{seeing, quiet_waits}
-use Rattle.spec_commands.proofs.Built.{dug_open, thing_made_open, opened_exit_open, opened_to_open, action_made_open, link_set_open, link_cleared_open, name_set_open, message_set_open, lock_set_open, lock_cleared_open, teleported_open, chowned_open, quiet_find_shown, quiet_examined}
+use Rattle.spec_commands.proofs.Built.{dug_open, thing_made_open, opened_exit_open, opened_to_open, action_made_open, link_set_open, link_cleared_open, name_set_open, message_set_open, lock_set_open, lock_cleared_open, teleported_open, chowned_open, quiet_find_shown}
 use Rattle.spec_commands.proofs.Programmed.{program_made_open, program_edited_open, program_listed_open, program_run_open}
 use Rattle.spec_commands.proofs.Mine.{Mine, mine_done, mine_leave, mine_either, mine_went, mine_program_made, mine_program_edited, mine_program_listed, mine_program_run}
 use Rattle.spec_commands.proofs.Gone.{world_of, whole_ended, walked_open, went_open, HandFree, taken_open, dropped_open, recycled_open, stays_gone_home, quiet_inventory_shown}
@@ -76,8 +76,8 @@ WordFree a free (Some word) = PlayFree a free word
 going : (a : Actor) (own : Option ℕ) (free : List Entry → Dbref → Bool) (d : ℕ) (text : List ℕ) → SelfFree a free → Whole world_of a own free Always (went d a text)
 going a own free d text self = whole_ends world_of a own free Always _ (λ w h. went_open a (free w.objects) d text (self w.objects))
 
-going_home : (a : Actor) (own : Option ℕ) (free : List Entry → Dbref → Bool) (d : ℕ) → SelfFree a free → Whole itself a own free Always (gone_home d a.player)
-going_home a own free d self = whole_ends itself a own free Always _ (λ w h. ends_stays a (free w.objects) None _ (stays_gone_home a (free w.objects) None d a.player (self w.objects)))
+going_home : (a : Actor) (own : Option ℕ) (free : List Entry → Dbref → Bool) (d : ℕ) → SelfFree a free → Whole itself a own free Always (gone_home d a)
+going_home a own free d self = whole_ends itself a own free Always _ (λ w h. ends_stays a (free w.objects) None _ (stays_gone_home a (free w.objects) None d (self w.objects)))
 
 pub play_open : (a : Actor) (own : Option ℕ) (free : List Entry → Dbref → Bool) (d : ℕ) (word text : List ℕ) (found : PlayWord) → PlayFree a free found → Whole world_of a own free Always (play_done d a word text found)
 unfolding play_done
@@ -91,7 +91,7 @@ play_open a own free d word text Get h = search (parting, taken_open)
 play_open a own free d word text Drop h = search (parting, dropped_open)
 play_open a own free d word text Inventory h = search (parting, quiet_inventory_shown)
 play_open a own free d word text Home h = search (parting, going_home)
-play_open a own free d word text Examine h = search (parting, quiet_examined)
+play_open a own free d word text Examine h = search parting
 play_open a own free d word text Who h = search parting
 play_open a own free d word text Quit h = search parting
 

@@ -9,18 +9,19 @@ use Rattle.spec_live.specs.Lives.{Live, Change, reading, either, unchanged, tell
 use Rattle.spec_rights.specs.declared.act.Actor.{Actor}
 use Rattle.spec_commands.specs.declared.outcome.Outcome.{Outcome}
 use Rattle.spec_commands.specs.declared.outcome.Outcome.TheVariants.{Done, NotMine, Leave}
+use Rattle.spec_commands.specs.declared.typed.Typed.{Typed}
 use Rattle.spec_commands.specs.declared.word.PlayWord.{PlayWord}
 use Rattle.spec_commands.specs.declared.word.PlayWord.TheVariants.{Look, Say, Pose, Page, Whisper, Go, Get, Drop, Inventory, Home, Examine, Who, Quit}
-use Rattle.spec_commands.specs.declared.word.Message.{Message}
 use Rattle.spec_commands.specs.declared.word.Message.TheVariants.{Describe, Success, OthersSuccess, Fail, OthersFail, Drop as DropMessage, OthersDrop}
 use Rattle.spec_commands.specs.declared.word.BuildWord.{BuildWord}
 use Rattle.spec_commands.specs.declared.word.BuildWord.TheVariants.{Dig, Create, Open, Action, Link, Unlink, Name, Set, Lock, Unlock, Teleport, Recycle, Chown, Find, Program, Edit, List as ListWord, Run}
 use Rattle.spec_commands.specs.Texts.{first_word, other_words, trimmed, is_alike}
 use Rattle.spec_commands.specs.Replies.{usage, goodbye, huh}
-use Rattle.spec_commands.specs.Finding.{looked, looked_at}
+pub use Rattle.spec_commands.specs.Messages.{message_name}
+use Rattle.spec_commands.specs.Finding.{looked, looked_at, examined}
 use Rattle.spec_commands.specs.Talking.{said, posed, paged, whispered, who_shown}
 use Rattle.spec_commands.specs.Going.{Play, ended, gone_home, walked, went, taken, dropped, inventory_shown}
-use Rattle.spec_commands.specs.Building.{dug, thing_made, opened_exit, opened_to, action_made, link_set, link_cleared, name_set, message_set, lock_set, lock_cleared, teleported, recycled, chowned, find_shown, examined}
+use Rattle.spec_commands.specs.Building.{dug, thing_made, opened_exit, opened_to, action_made, link_set, link_cleared, name_set, message_set, lock_set, lock_cleared, teleported, recycled, chowned, find_shown}
 use Rattle.spec_commands.specs.Programming.{program_made, program_edited, program_listed, program_run}
 
 -- The parts of a command.
@@ -98,18 +99,21 @@ or_word None other = other
 unfoldable pub play_word : List ℕ → Option PlayWord
 play_word word = or_word (talk_word word) (or_word (see_word word) (go_word word))
 
+abbrev pub typed_of : List ℕ → List ℕ → Typed
+typed_of word text = record { word = word; rest = text }
+
 -- what such a word does with the rest of its line
 unfoldable pub play_done : ℕ → Actor → List ℕ → List ℕ → PlayWord → Play
-play_done d a word text Look = ended Done (either (is_empty text) (looked d a.player) (looked_at d a text))
+play_done d a word text Look = ended Done (either (is_empty text) (looked d a (typed_of word text)) (looked_at d a (typed_of word text) text))
 play_done d a word text Say = ended Done (one_part d word text (said d a.player))
 play_done d a word text Pose = ended Done (one_part d word text (posed d a.player))
 play_done d a word text Page = ended Done (two_parts d word text (paged d a.player))
 play_done d a word text Whisper = ended Done (two_parts d word text (whispered d a.player))
 play_done d a word text Go = either (is_empty text) (ended Done (incomplete d word)) (went d a text)
-play_done d a word text Get = ended Done (one_part d word text (taken d a))
-play_done d a word text Drop = ended Done (one_part d word text (dropped d a.player))
+play_done d a word text Get = ended Done (one_part d word text (taken d a (typed_of word text)))
+play_done d a word text Drop = ended Done (one_part d word text (dropped d a (typed_of word text)))
 play_done d a word text Inventory = ended Done (inventory_shown d a.player)
-play_done d a word text Home = ended Done (gone_home d a.player)
+play_done d a word text Home = ended Done (gone_home d a)
 play_done d a word text Examine = ended Done (one_part d word text (examined d a))
 play_done d a word text Who = ended Done (who_shown d)
 play_done d a word text Quit = ended Leave (tell d goodbye)
@@ -174,16 +178,6 @@ program_word word =
 
 unfoldable pub build_word : List ℕ → Option BuildWord
 build_word word = or_word (make_word word) (or_word (tie_word word) (or_word (message_word word) (program_word word)))
-
--- the word in the path of a message
-abbrev pub message_name : Message → List ℕ
-message_name Describe = codes "de"
-message_name Success = codes "sc"
-message_name OthersSuccess = codes "osc"
-message_name Fail = codes "fl"
-message_name OthersFail = codes "ofl"
-message_name DropMessage = codes "dr"
-message_name OthersDrop = codes "odr"
 
 -- `@open` with a name alone, or with a place behind `=`
 unfoldable pub open_done : ℕ → Actor → List ℕ → List ℕ → Change

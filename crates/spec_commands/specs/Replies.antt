@@ -90,9 +90,6 @@ owner_line name = codes "Owner: " ++ name
 unfoldable pub lock_line : List ℕ → List ℕ
 lock_line text = codes "Lock: " ++ text
 
-unfoldable pub unlocked_text : List ℕ
-unlocked_text = codes "*UNLOCKED*"
-
 unfoldable pub connected_line : List ℕ → ℕ → List ℕ
 connected_line name number = (name ++ codes " (") ++ (decimal number ++ codes ")")
 

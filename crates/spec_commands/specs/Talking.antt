@@ -1,13 +1,14 @@
 -- What players say.
-use Rattle.std.specs.Prelude.{ℕ, Bool, ◌&&◌, ◌==◌, if◌then◌else◌, List, [], ◌∷◌, ◌++◌, length}
-use Rattle.std.specs.Option.{option_map_or}
-use Rattle.std.specs.List.{list_any, filter}
+use Rattle.std.specs.Prelude.{ℕ, Bool, ◌&&◌, ◌==◌, if◌then◌else◌, List, [], ◌∷◌, ◌++◌, length, Option}
+use Rattle.std.specs.Option.{option_map}
+use Rattle.std.specs.List.{list_any, filter_map}
 use Rattle.muck_model.specs.declared.dbref.Dbref.{Dbref}
 use Rattle.spec_live.specs.Objects.{same, is_player}
-use Rattle.spec_live.specs.Connections.{Connection, is_of, has_player}
-use Rattle.spec_live.specs.Lives.{Live, Change, ◌▸◌, reading, unchanged, tell, tell_player, place_at, name_at}
+use Rattle.spec_live.specs.Connections.{Connection, is_of}
+use Rattle.spec_live.specs.Lives.{Live, Change, ◌▸◌, reading, tell, tell_player, place_at, name_at}
 use Rattle.spec_commands.specs.Replies.{cant_be_done, you_say, says, you_page, pages, you_whisper, whispers, not_connected, connected_line, connected_count}
-use Rattle.spec_commands.specs.Finding.{finding, finding_player, where_so, is_so, shown_others}
+use Rattle.spec_commands.specs.declared.presence.Presence.{Presence}
+use Rattle.spec_commands.specs.Finding.{finding, finding_player, where_so, is_so, each, shown_others}
 
 unfoldable pub said : ℕ → Dbref → List ℕ → Change
 said d player text = tell d (you_say text) ▸ shown_others player (says text)
@@ -44,10 +45,16 @@ whispered d player name text =
 
 -- Who is connected.
 
--- a line for each connection with a player
-unfoldable pub who_lines : ℕ → List Connection → Change
-who_lines d [] = unchanged
-who_lines d (c ∷ cs) = option_map_or (λ player. reading (name_at player) (λ name. tell d (connected_line name c.number))) c.player unchanged ▸ who_lines d cs
+-- a connection that has a player
+abbrev pub presence : Connection → Option Presence
+presence c = option_map (λ player. record { number = c.number; player = player }) c.player
 
+abbrev pub presences : List Connection → List Presence
+presences cs = filter_map presence cs
+
+unfoldable pub presence_shown : ℕ → Presence → Change
+presence_shown d p = reading (name_at p.player) (λ name. tell d (connected_line name p.number))
+
+-- a line for each connection with a player, and how many they are
 unfoldable pub who_shown : ℕ → Change
-who_shown d = reading (λ w. w.board.connections) (λ cs. who_lines d cs ▸ tell d (connected_count (length (filter has_player cs))))
+who_shown d = reading (λ w. presences w.board.connections) (λ ps. each (presence_shown d) ps ▸ tell d (connected_count (length ps)))

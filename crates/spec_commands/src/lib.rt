@@ -5,10 +5,14 @@
 
 mod edit;
 mod outcome;
+mod presence;
+mod typed;
 mod word;
 mod words;
 
 pub use edit::{EditCommand, EditStep};
 pub use outcome::Outcome;
+pub use presence::Presence;
+pub use typed::Typed;
 pub use word::{BuildWord, Message, PlayWord};
 pub use words::{alike, cut_word, trim};
