@@ -9,11 +9,8 @@ mod messages;
 mod taking;
 mod talking;
 mod typed;
-mod words;
 
 pub use command::run;
-pub use going::{go, go_home, walk};
-pub use looking::{examine, inventory, look, look_at, look_first};
-pub use taking::{drop, take};
-pub use talking::{page, pose, say, whisper, who};
-pub use words::play_word;
+pub use going::walk;
+pub use looking::look_first;
+pub use talking::who;

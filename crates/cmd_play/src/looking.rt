@@ -6,14 +6,14 @@ ghost use Rattle.spec_rights.specs.Levels.{owner_at, flag_at};
 ghost use Rattle.spec_commands.specs.Replies.{lock_line};
 ghost use Rattle.spec_rights.specs.Worth.{lock_text};
 ghost use Rattle.spec_commands.specs.Messages.{look_typed};
-ghost use Rattle.spec_commands.specs.Finding.{listed_under, is_seen, seen_in, room_shown, looked, is_room_at, looked_at, owner_shown, examined};
+ghost use Rattle.spec_commands.specs.Finding.{listed_under, is_seen, seen_in, room_shown, looked, is_room_at, look_shown, owner_shown, examined};
 ghost use Rattle.spec_commands.specs.Going.{inventory_shown};
 ghost use Rattle.muck_perm.specs.Guards.{Did, world_of};
 
 use crate::messages::{message_or, show_message};
 use crate::typed::word_typed;
-use cmd_common::{find_object, list, name_and, place_at, show_name};
-use muck_model::{Dbref, Kind, Line, NoMemory};
+use cmd_common::{list, name_and, place_at, show_name};
+use muck_model::{Dbref, Kind, NoMemory};
 use muck_perm::{Guard, command_level, controls_as};
 use spec_commands::{Message, Typed};
 use spec_live::{DARK, has_flag};
@@ -129,14 +129,11 @@ pub fn is_room(guard: &Guard, x: Dbref) -> bool
     }
 }
 
-/// The player looks at what it names: a room is shown whole, and of anything else its description.
-#[tactic(auto, unfolding(spec_live::specs::Lives::reading, spec_live::specs::Lives::either, spec_commands::specs::Finding::where_so, spec_commands::specs::Finding::looked_at, spec_commands::specs::Replies::nothing_special))]
-pub fn look_at(guard: &mut Guard, d: u32, typed: &Typed, name: &Line) -> Result<(), NoMemory>
-    ensures { Did (looked_at d guard.old.actor typed.now name.now) guard.old guard.new result }
+/// The player looks at something: a room is shown whole, and of anything else its description.
+#[tactic(auto, unfolding(spec_live::specs::Lives::reading, spec_live::specs::Lives::either, spec_commands::specs::Finding::where_so, spec_commands::specs::Finding::look_shown, spec_commands::specs::Replies::nothing_special))]
+pub fn look_at(guard: &mut Guard, d: u32, typed: &Typed, x: Dbref) -> Result<(), NoMemory>
+    ensures { Did (look_shown d guard.old.actor typed.now x) guard.old guard.new result }
 {
-    let Some(x) = find_object(guard, d, name)? else {
-        return Ok(());
-    };
     if is_room(guard, x) {
         show_room(guard, d, typed, x)
     } else {
@@ -214,20 +211,16 @@ fn show_lock(guard: &mut Guard, d: u32, x: Dbref) -> Result<(), NoMemory>
     guard.tell(d, &text)
 }
 
-/// The player sees the name, the owner and the lock of what it names, and of what it doesn't control the owner alone.
+/// The player sees the name, the owner and the lock of something, and of what it doesn't control the owner alone.
 #[tactic(auto, unfolding(spec_live::specs::Lives::followed, spec_live::specs::Lives::reading, spec_live::specs::Lives::either, spec_commands::specs::Finding::where_so, spec_commands::specs::Finding::examined))]
-pub fn examine(guard: &mut Guard, d: u32, name: &Line) -> Result<(), NoMemory>
-    ensures { Did (examined d guard.old.actor name.now) guard.old guard.new result }
+pub fn examine(guard: &mut Guard, d: u32, x: Dbref) -> Result<(), NoMemory>
+    ensures { Did (examined d guard.old.actor x) guard.old guard.new result }
 {
-    let Some(x) = find_object(guard, d, name)? else {
-        return Ok(());
-    };
     let actor = guard.actor();
     if !controls_as(guard.db(), actor.level, actor.user, x) {
         return show_owner(guard, d, x);
     }
     show_name(guard, d, actor.player, x)?;
     show_owner(guard, d, x)?;
-    show_lock(guard, d, x)?;
-    Ok(())
+    show_lock(guard, d, x)
 }

@@ -11,9 +11,9 @@ ghost use Rattle.muck_perm.specs.Guards.{Did, IsLeave, world_of};
 use crate::going::{fail, link_at};
 use crate::looking::is_room;
 use crate::messages::show_both;
-use cmd_common::{cant_be_done, find_one, place_at, refuse};
+use cmd_common::{cant_be_done, place_at, refuse};
 use muck_match::NOTHING;
-use muck_model::{Dbref, Denial, Kind, Line, NoMemory};
+use muck_model::{Dbref, Denial, Kind, NoMemory};
 use muck_perm::{Guard, Pass, verdict};
 use spec_commands::{Message, Typed};
 use spec_rights::Act;
@@ -88,18 +88,16 @@ fn take_item(guard: &mut Guard, d: u32, typed: &Typed, x: Dbref) -> Result<(), N
     }
 }
 
-/// The player takes what a name means: a thing or a program where it is, whose lock opens to it.
+/// The player takes a thing or a program where it is, whose lock opens to it.
 #[tactic(auto, unfolding(spec_commands::specs::Going::taken, spec_commands::specs::Finding::where_so, spec_live::specs::Lives::reading, spec_live::specs::Lives::either))]
-pub fn take(guard: &mut Guard, d: u32, typed: &Typed, name: &Line) -> Result<(), NoMemory>
-    ensures { Did (taken d guard.old.actor typed.now name.now) guard.old guard.new result }
+pub fn take(guard: &mut Guard, d: u32, typed: &Typed, x: Dbref) -> Result<(), NoMemory>
+    ensures { Did (taken d guard.old.actor typed.now x) guard.old guard.new result }
 {
-    let Some(x) = find_one(guard, d, name)? else {
-        return Ok(());
-    };
-    if !is_item(guard, x) {
-        return cant_be_done(guard, d);
+    if is_item(guard, x) {
+        take_item(guard, d, typed, x)
+    } else {
+        cant_be_done(guard, d)
     }
-    take_item(guard, d, typed, x)
 }
 
 // Where something goes that is dropped: to the place, or where the room sends it.
@@ -143,14 +141,11 @@ fn drop_carried(
     }
 }
 
-/// The player drops what a name means, which it carries.
+/// The player drops what it carries.
 #[tactic(auto, unfolding(spec_commands::specs::Going::dropped, spec_commands::specs::Finding::where_so, spec_live::specs::Lives::reading, spec_live::specs::Lives::either))]
-pub fn drop(guard: &mut Guard, d: u32, typed: &Typed, name: &Line) -> Result<(), NoMemory>
-    ensures { Did (dropped d guard.old.actor typed.now name.now) guard.old guard.new result }
+pub fn drop(guard: &mut Guard, d: u32, typed: &Typed, x: Dbref) -> Result<(), NoMemory>
+    ensures { Did (dropped d guard.old.actor typed.now x) guard.old guard.new result }
 {
-    let Some(x) = find_one(guard, d, name)? else {
-        return Ok(());
-    };
     let player = guard.actor().player;
     if !is_carried(guard, player, x) {
         return cant_be_done(guard, d);

@@ -2,14 +2,15 @@
 ghost use Rattle.std.specs.Prelude.{◌≡◌, ◌++◌, IfOk, codes};
 ghost use Rattle.spec_live.specs.Lives.{tell, name_at};
 ghost use Rattle.spec_commands.specs.Replies.{connected_count};
-ghost use Rattle.spec_commands.specs.Talking.{said, pose_tail, posed, said_to, paged, is_company, whispered, who_shown};
+ghost use Rattle.spec_commands.specs.Finding.{each};
+ghost use Rattle.spec_commands.specs.Talking.{said, pose_tail, posed, said_to, paged, is_company, whispered, presence, presences, presence_shown, who_shown};
 ghost use Rattle.muck_perm.specs.Guards.{Did, world_of};
-ghost use Rattle.cmd_play.specs.Presences.{presence, presences, presence_shown, presences_shown};
 
-use cmd_common::{cant_be_done, find_one, find_player, name_and, place_at, show_others};
+use cmd_common::{cant_be_done, name_and, place_at, show_others};
 use muck_board::{Board, Connection};
 use muck_model::{Dbref, Kind, Line, NoMemory};
 use muck_perm::Guard;
+use spec_commands::Presence;
 use std::alloc::Global;
 
 // A text between two others.
@@ -94,26 +95,15 @@ fn say_to(
 
 /// The player says something to another one, who may be anywhere, but is connected.
 #[tactic(auto, unfolding(spec_live::specs::Lives::reading, spec_live::specs::Lives::either, spec_commands::specs::Finding::where_so, spec_commands::specs::Talking::paged, spec_commands::specs::Replies::not_connected, spec_commands::specs::Replies::you_page, spec_commands::specs::Replies::pages))]
-pub fn page(guard: &mut Guard, d: u32, name: &Line, text: &Line) -> Result<(), NoMemory>
-    ensures { Did (paged d guard.old.actor.player name.now text.now) guard.old guard.new result }
+pub fn page(guard: &mut Guard, d: u32, to: Dbref, text: &Line) -> Result<(), NoMemory>
+    ensures { Did (paged d guard.old.actor.player to text.now) guard.old guard.new result }
 {
-    let Some(to) = find_player(guard, d, name)? else {
-        return Ok(());
-    };
     if guard.board().is_in(to) {
-        say_to(
-            guard,
-            d,
-            to,
-            b"You page, \"",
-            b" pages, \"",
-            text.as_slice(),
-        )?;
-    } else {
-        let reply = name_and(guard, to, b" isn't connected.")?;
-        guard.tell(d, &reply)?;
+        let text = text.as_slice();
+        return say_to(guard, d, to, b"You page, \"", b" pages, \"", text);
     }
-    Ok(())
+    let reply = name_and(guard, to, b" isn't connected.")?;
+    guard.tell(d, &reply)
 }
 
 // Whether it is a player, and where this player is.
@@ -131,35 +121,17 @@ fn is_company(guard: &Guard, player: Dbref, to: Dbref) -> bool
 
 /// The player says something to another one who is where it is.
 #[tactic(auto, unfolding(spec_live::specs::Lives::reading, spec_live::specs::Lives::either, spec_commands::specs::Finding::where_so, spec_commands::specs::Talking::whispered, spec_commands::specs::Replies::you_whisper, spec_commands::specs::Replies::whispers))]
-pub fn whisper(guard: &mut Guard, d: u32, name: &Line, text: &Line) -> Result<(), NoMemory>
-    ensures { Did (whispered d guard.old.actor.player name.now text.now) guard.old guard.new result }
+pub fn whisper(guard: &mut Guard, d: u32, to: Dbref, text: &Line) -> Result<(), NoMemory>
+    ensures { Did (whispered d guard.old.actor.player to text.now) guard.old guard.new result }
 {
-    let Some(to) = find_one(guard, d, name)? else {
-        return Ok(());
-    };
     if is_company(guard, guard.actor().player, to) {
-        say_to(
-            guard,
-            d,
-            to,
-            b"You whisper, \"",
-            b" whispers, \"",
-            text.as_slice(),
-        )?;
-    } else {
-        cant_be_done(guard, d)?;
+        let text = text.as_slice();
+        return say_to(guard, d, to, b"You whisper, \"", b" whispers, \"", text);
     }
-    Ok(())
+    cant_be_done(guard, d)
 }
 
-// A connection with its player.
-#[derive(Clone, Copy)]
-struct Presence {
-    number: u32,
-    player: Dbref,
-}
-
-// The connection, where it has a player.
+// A connection, where it has a player.
 fn presence_of(connection: &Connection) -> Option<Presence>
     ensures { result ≡ presence connection.now }
 {
@@ -181,7 +153,7 @@ fn presences(alloc: Global, board: &Board) -> Result<Vec<Presence>, NoMemory>
 }
 
 // The connection sees the player of another connection, and that one's number.
-#[tactic(auto, unfolding(spec_live::specs::Lives::reading, spec_commands::specs::Replies::connected_line, crate::specs::Presences::presence_shown))]
+#[tactic(auto, unfolding(spec_live::specs::Lives::reading, spec_commands::specs::Replies::connected_line, spec_commands::specs::Talking::presence_shown))]
 fn show_presence(guard: &mut Guard, d: u32, presence: Presence) -> Result<(), NoMemory>
     ensures { Did (presence_shown d presence) guard.old guard.new result }
 {
@@ -189,13 +161,12 @@ fn show_presence(guard: &mut Guard, d: u32, presence: Presence) -> Result<(), No
     let mut text = name_and(guard, presence.player, b" (")?;
     let tail = format!(in guard.alloc(); "{number})")?;
     text.extend_from_slice(tail.as_bytes())?;
-    guard.tell(d, &text)?;
-    Ok(())
+    guard.tell(d, &text)
 }
 
 // A line for each of these.
 fn show_presences(guard: &mut Guard, d: u32, presences: &[Presence]) -> Result<(), NoMemory>
-    ensures { Did (presences_shown d presences.now) guard.old guard.new result }
+    ensures { Did (each (presence_shown d) presences.now) guard.old guard.new result }
 {
     for presence in presences {
         show_presence(guard, d, *presence)?;
@@ -209,16 +180,15 @@ fn show_count(guard: &mut Guard, d: u32, count: usize) -> Result<(), NoMemory>
     ensures { Did (tell d (connected_count count)) guard.old guard.new result }
 {
     let text = format!(in guard.alloc(); "{count} connected.")?;
-    guard.tell(d, text.as_bytes())?;
-    Ok(())
+    guard.tell(d, text.as_bytes())
 }
 
 /// The connection sees the players who are connected, and how many they are.
+#[tactic(auto, unfolding(spec_live::specs::Lives::reading, spec_live::specs::Lives::followed, spec_commands::specs::Talking::who_shown))]
 pub fn who(guard: &mut Guard, d: u32) -> Result<(), NoMemory>
     ensures { Did (who_shown d) guard.old guard.new result }
 {
     let present = presences(guard.alloc(), guard.board())?;
     show_presences(guard, d, &present)?;
-    show_count(guard, d, present.len())?;
-    Ok(())
+    show_count(guard, d, present.len())
 }

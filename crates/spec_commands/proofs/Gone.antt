@@ -29,7 +29,7 @@ use Rattle.spec_commands.specs.declared.typed.Typed.{Typed}
 use Rattle.spec_commands.specs.declared.word.Message.{Message}
 use Rattle.spec_commands.specs.Finding.{is_so, is_object, finding_object}
 use Rattle.spec_commands.specs.Going.{ended, moving, gone, gone_home, both_shown, succeeded, failed, drop_shown, led, tried, walked, walked_some, went, is_item, not_taken, taken, is_carried, drop_place, dropped, inventory_shown}
-use Rattle.spec_commands.specs.Building.{allowed, recycled}
+use Rattle.spec_commands.specs.Building.{allowed, written, done_where, recycled}
 use Rattle.spec_commands.proofs.Showing.{seeing, stays_where, ends_where, whole_where, whole_finding}
 
 -- The answer of a command is its world and its outcome.
@@ -70,13 +70,13 @@ ends_led : (a : Actor) (free : Dbref → Bool) (given : Option Act) (d : ℕ) (t
 unfolding led
 ends_led a free given d typed exit line to h = search (ending, seeing, quiet_both_shown, ends_ended, ends_where, stays_gone) depth 9
 
-ends_tried : (a : Actor) (free : Dbref → Bool) (d : ℕ) (typed : Typed) (exit : Dbref) (line : List ℕ) → free a.player ≡ true → Ends world_of a free None (tried d a typed exit line)
+pub tried_open : (a : Actor) (free : Dbref → Bool) (d : ℕ) (typed : Typed) (exit : Dbref) (line : List ℕ) → free a.player ≡ true → Ends world_of a free None (tried d a typed exit line)
 unfolding tried
-ends_tried a free d typed exit line h = search (ending, ends_ended, quiet_failed, quiet_both_shown, ends_led)
+tried_open a free d typed exit line h = search (ending, ends_ended, quiet_failed, quiet_both_shown, ends_led)
 
 pub walked_open : (a : Actor) (free : Dbref → Bool) (d : ℕ) (hit : ExitHit) (line : List ℕ) → free a.player ≡ true → Ends world_of a free None (walked d a hit line)
 unfolding walked
-walked_open a free d hit line h = search (ending, ends_tried)
+walked_open a free d hit line h = search (ending, tried_open)
 
 walked_some_open : (a : Actor) (free : Dbref → Bool) (d : ℕ) (line : List ℕ) (hit : Option ExitHit) → free a.player ≡ true → Ends world_of a free None (walked_some d a line hit)
 walked_some_open a free d line None h = search (ending, ends_ended)
@@ -146,26 +146,24 @@ quiet_not_taken d a typed x denial = search (seeing, quiet_failed)
 abbrev pub HandFree : Actor → (List Entry → Dbref → Bool) → Type 0
 HandFree a free = (es : List Entry) (x : Dbref) → at_hand es a x ≡ true → free es x ≡ true
 
-pub taken_open : (a : Actor) (own : Option ℕ) (free : List Entry → Dbref → Bool) (d : ℕ) (typed : Typed) (name : List ℕ) → HandFree a free → Whole itself a own free Always (taken d a typed name)
+pub taken_open : (a : Actor) (own : Option ℕ) (free : List Entry → Dbref → Bool) (d : ℕ) (typed : Typed) (x : Dbref) → HandFree a free → Whole itself a own free Always (taken d a typed x)
 unfolding taken
-taken_open a own free d typed name hands =
-    whole_finding itself a own free Always (tell d) a.player name _ (λ t. whole_quiet a own free Always _ (search shown)) (λ x.
+taken_open a own free d typed x hands =
     whole_where itself a own free Always (is_item x) _ _ (whole_quiet a own free Always _ (search shown))
     (whole_asked itself a own free _ (Take x) _ _ (λ denial. whole_quiet a own free Always _ (quiet_not_taken d a typed x denial))
     (whole_ends itself a own free _ _ (λ w h.
-    taking a (free w.objects) d typed x (hands w.objects x (here_at_hand w.objects a x (object_at x w.objects) refl (item_at x w h.0.1) (take_allowed w.objects a x h.1)))))))
+    taking a (free w.objects) d typed x (hands w.objects x (here_at_hand w.objects a x (object_at x w.objects) refl (item_at x w h.0.1) (take_allowed w.objects a x h.1))))))
 
 dropping : (a : Actor) (free : Dbref → Bool) (d : ℕ) (typed : Typed) (x : Dbref) → free x ≡ true →
     Ends itself a free None (reading (drop_place a.player) (λ to. moving d x to (tell d dropped_reply ▸ drop_shown d a typed x)))
 dropping a free d typed x h = search (ending, seeing, quiet_both_shown, stays_moving) depth 7
 
-pub dropped_open : (a : Actor) (own : Option ℕ) (free : List Entry → Dbref → Bool) (d : ℕ) (typed : Typed) (name : List ℕ) → HandFree a free → Whole itself a own free Always (dropped d a typed name)
+pub dropped_open : (a : Actor) (own : Option ℕ) (free : List Entry → Dbref → Bool) (d : ℕ) (typed : Typed) (x : Dbref) → HandFree a free → Whole itself a own free Always (dropped d a typed x)
 unfolding dropped
-dropped_open a own free d typed name hands =
-    whole_finding itself a own free Always (tell d) a.player name _ (λ t. whole_quiet a own free Always _ (search shown)) (λ x.
+dropped_open a own free d typed x hands =
     whole_where itself a own free Always (is_carried a.player x) _ _ (whole_quiet a own free Always _ (search shown))
     (whole_ends itself a own free _ _ (λ w h.
-    dropping a (free w.objects) d typed x (hands w.objects x (carried_at_hand w.objects a x (object_at x w.objects) refl (carried_at a.player x w h.1))))))
+    dropping a (free w.objects) d typed x (hands w.objects x (carried_at_hand w.objects a x (object_at x w.objects) refl (carried_at a.player x w h.1)))))
 
 pub quiet_inventory_shown : (d : ℕ) (player : Dbref) → Quiet (inventory_shown d player)
 unfolding inventory_shown
@@ -185,11 +183,9 @@ recycling a own free x given h = record {
       recycled_licensed a (free w.objects) x w p.0 t.0 p.1;
 }
 
-pub recycled_open : (a : Actor) (own : Option ℕ) (free : List Entry → Dbref → Bool) (d : ℕ) (name : List ℕ) → Whole itself a own free Always (recycled d a name)
-unfolding recycled finding_object
-recycled_open a own free d name =
-    whole_finding itself a own free Always (tell d) a.player name _ (λ t. whole_quiet a own free Always _ (search shown)) (λ x.
-    whole_where itself a own free Always (is_object x) _ _ (whole_quiet a own free Always _ (search shown))
-    (whole_asked itself a own free _ (Recycle x) _ _ (λ denial. whole_quiet a own free Always _ (search shown))
+pub recycled_open : (a : Actor) (own : Option ℕ) (free : List Entry → Dbref → Bool) (d : ℕ) (x : Dbref) → Whole itself a own free Always (recycled d a x)
+unfolding recycled written done_where
+recycled_open a own free d x =
+    whole_asked itself a own free Always (Recycle x) _ _ (λ denial. whole_quiet a own free Always _ (search shown))
     (whole_where itself a own free _ (λ w. allowed (recycle_check x w.objects)) _ _ (whole_quiet a own free _ _ (search shown))
-    (whole_quietly a own free _ (recycled_now x) (tell d recycled_reply) (recycling a own free x _ (λ w h. (h.0.1, h.1))) (search shown)))))
+    (whole_quietly a own free _ (recycled_now x) (tell d recycled_reply) (recycling a own free x _ (λ w h. (h.0.1, h.1))) (search shown)))

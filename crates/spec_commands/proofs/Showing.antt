@@ -13,7 +13,7 @@ use Rattle.spec_commands.specs.declared.typed.Typed.{Typed}
 use Rattle.spec_commands.specs.declared.word.Message.{Message}
 use Rattle.spec_commands.specs.Messages.{message_how, spoken, spoken_some, with_message}
 use Rattle.spec_commands.specs.declared.presence.Presence.{Presence}
-use Rattle.spec_commands.specs.Finding.{each, chosen, finding, named_player, finding_player, where_so, finding_object, shown_others, message_or, message_shown, message_to_others, listed, listed_under, room_shown, looked, looked_at, owner_shown, examined}
+use Rattle.spec_commands.specs.Finding.{each, chosen, finding, named_player, finding_player, where_so, finding_object, shown_others, message_or, message_shown, message_to_others, listed, listed_under, room_shown, looked, look_shown, owner_shown, examined}
 use Rattle.spec_commands.specs.Talking.{said, posed, said_to, paged, whispered, presence_shown, who_shown}
 use Rattle.spec_commands.specs.Talk.{waits}
 
@@ -161,17 +161,17 @@ pub quiet_looked : (d : ℕ) (a : Actor) (typed : Typed) → Quiet (looked d a t
 unfolding looked
 quiet_looked d a typed = search (shown, quiet_room_shown)
 
-pub quiet_looked_at : (d : ℕ) (a : Actor) (typed : Typed) (name : List ℕ) → Quiet (looked_at d a typed name)
-unfolding looked_at
-quiet_looked_at d a typed name = search (shown, quiet_finding_object, quiet_where, quiet_message_or, quiet_room_shown)
+pub quiet_look_shown : (d : ℕ) (a : Actor) (typed : Typed) (x : Dbref) → Quiet (look_shown d a typed x)
+unfolding look_shown
+quiet_look_shown d a typed x = search (shown, quiet_where, quiet_message_or, quiet_room_shown)
 
 quiet_owner_shown : (d : ℕ) (x : Dbref) → Quiet (owner_shown d x)
 unfolding owner_shown
 quiet_owner_shown d x = search shown
 
-pub quiet_examined : (d : ℕ) (a : Actor) (name : List ℕ) → Quiet (examined d a name)
+pub quiet_examined : (d : ℕ) (a : Actor) (x : Dbref) → Quiet (examined d a x)
 unfolding examined
-quiet_examined d a name = search (shown, quiet_finding_object, quiet_where, quiet_owner_shown) depth 7
+quiet_examined d a x = search (shown, quiet_where, quiet_owner_shown) depth 7
 
 -- Talking.
 
@@ -187,13 +187,13 @@ quiet_said_to : (d : ℕ) (player to : Dbref) (you : List ℕ → List ℕ) (tai
 unfolding said_to
 quiet_said_to d player to you tail = search shown
 
-pub quiet_paged : (d : ℕ) (player : Dbref) (name text : List ℕ) → Quiet (paged d player name text)
+pub quiet_paged : (d : ℕ) (player to : Dbref) (text : List ℕ) → Quiet (paged d player to text)
 unfolding paged
-quiet_paged d player name text = search (shown, quiet_finding_player, quiet_where, quiet_said_to)
+quiet_paged d player to text = search (shown, quiet_where, quiet_said_to)
 
-pub quiet_whispered : (d : ℕ) (player : Dbref) (name text : List ℕ) → Quiet (whispered d player name text)
+pub quiet_whispered : (d : ℕ) (player to : Dbref) (text : List ℕ) → Quiet (whispered d player to text)
 unfolding whispered
-quiet_whispered d player name text = search (shown, quiet_finding, quiet_where, quiet_said_to)
+quiet_whispered d player to text = search (shown, quiet_where, quiet_said_to)
 
 quiet_presence_shown : (d : ℕ) (p : Presence) → Quiet (presence_shown d p)
 unfolding presence_shown
@@ -209,4 +209,4 @@ unfolding waits
 quiet_waits d lines = quiet_one d (λ c. record c { waiting = lines }) (λ c. refl)
 
 -- whatever players see
-pub ruleset seeing = (shown, quiet_where, quiet_finding, quiet_finding_player, quiet_finding_object, quiet_shown_others, quiet_message_or, quiet_message_shown, quiet_message_to_others, quiet_listed, quiet_listed_under, quiet_room_shown, quiet_looked, quiet_looked_at, quiet_examined, quiet_said, quiet_posed, quiet_paged, quiet_whispered, quiet_who_shown, quiet_waits)
+pub ruleset seeing = (shown, quiet_where, quiet_finding, quiet_finding_player, quiet_finding_object, quiet_shown_others, quiet_message_or, quiet_message_shown, quiet_message_to_others, quiet_listed, quiet_listed_under, quiet_room_shown, quiet_looked, quiet_look_shown, quiet_examined, quiet_said, quiet_posed, quiet_paged, quiet_whispered, quiet_who_shown, quiet_waits)

@@ -7,6 +7,7 @@ use Rattle.muck_model.specs.declared.dbref.Dbref.{Dbref}
 use Rattle.muck_model.specs.declared.dbref.Kind.{Kind}
 use Rattle.muck_model.specs.declared.dbref.Kind.TheVariants.{Room, Thing, Exit, Garbage}
 use Rattle.muck_model.specs.declared.lock.Lock.{Lock}
+use Rattle.muck_model.specs.Bytes.{text_most}
 use Rattle.muck_prop.specs.declared.value.PropValue.TheVariants.{Text}
 use Rattle.muck_match.specs.Words.{is_same}
 use Rattle.muck_match.specs.declared.naming.Found.{Found}
@@ -19,17 +20,18 @@ use Rattle.spec_live.specs.declared.fault.DbFault.{DbFault}
 use Rattle.spec_live.specs.declared.object.Object.{Object}
 use Rattle.spec_live.specs.Objects.{Entry, dbref_of, nothing, home, same, is_thing, is_player, is_program, object_at}
 use Rattle.spec_live.specs.Making.{create_check}
-use Rattle.spec_live.specs.Setting.{with_link, with_home, link_check, home_check, owner_check, may_link, may_live}
+use Rattle.spec_live.specs.Setting.{any, checked, with_link, with_home, link_check, home_check, owner_check, may_link, may_live}
 use Rattle.spec_live.specs.Recycling.{recycle_check}
 use Rattle.spec_live.specs.Seen.{scenery_of, long_form}
 use Rattle.spec_live.specs.Lives.{Live, Change, ◌▸◌, reading, either, tell, place_at}
 use Rattle.spec_rights.specs.declared.act.Actor.{Actor}
+use Rattle.spec_rights.specs.declared.act.Act.{Act}
 use Rattle.spec_rights.specs.declared.act.Act.TheVariants.{Move, Link, NewRoom, NewThing, NewExit, Change as ChangeAct, Rename, Recycle, SetOwner}
 use Rattle.spec_rights.specs.Asking.{asked, refused}
-use Rattle.spec_rights.specs.Changing.{named, linked, homed, owned_by, stored, recycled_now, created_so}
-use Rattle.spec_commands.specs.Replies.{cant_be_done, bad_name, bad_key, created_reply, linked_reply, unlinked_reply, named_reply, set_reply, locked_reply, unlocked_reply, teleported_reply, recycled_reply, chowned_reply, found_count}
-use Rattle.spec_commands.specs.Finding.{finding, finding_player, where_so, is_so, message_path, listed, finding_object}
-use Rattle.spec_commands.specs.Going.{may_move, moving, home_at}
+use Rattle.spec_rights.specs.Changing.{moved_to, named, linked, homed, owned_by, stored, recycled_now, created_so}
+use Rattle.spec_commands.specs.Replies.{cant_be_done, bad_name, bad_key, created_reply, linked_reply, unlinked_reply, named_reply, set_reply, locked_reply, teleported_reply, recycled_reply, chowned_reply, found_count}
+use Rattle.spec_commands.specs.Finding.{where_so, is_so, message_path, listed, finding_object}
+use Rattle.spec_commands.specs.Going.{may_move, movable, home_at}
 
 -- Names.
 
@@ -74,10 +76,7 @@ as_made o = o
 
 -- `@dig`
 unfoldable pub dug : ℕ → Actor → List ℕ → Change
-dug d a name =
-    either (is_name name)
-    (asked a (NewRoom (dbref_of 0)) (refused d) (making d a Room name (dbref_of 0) as_made))
-    (tell d bad_name)
+dug d a name = asked a (NewRoom (dbref_of 0)) (refused d) (making d a Room name (dbref_of 0) as_made)
 
 -- a thing may have its home there
 abbrev pub may_house : Dbref → Live → Bool
@@ -89,34 +88,31 @@ housed d a name to = where_so (may_house to) (tell d cant_be_done) (making d a T
 
 -- `@create`: a thing whose home is the player's
 unfoldable pub thing_made : ℕ → Actor → List ℕ → Change
-thing_made d a name =
-    either (is_name name) (asked a (NewThing a.player) (refused d) (reading (home_at a.player) (housed d a name))) (tell d bad_name)
+thing_made d a name = asked a (NewThing a.player) (refused d) (reading (home_at a.player) (housed d a name))
 
 -- an exit may lead there
 abbrev pub may_lead : Dbref → Live → Bool
 may_lead to w = same to home || (same to nothing || is_so (λ o. may_link Exit o.kind) to w)
 
+-- `@action`: an exit on an object; it leads nowhere, or to a place
 unfoldable pub exit_made : ℕ → Actor → List ℕ → Dbref → Dbref → Change
 exit_made d a name place to =
     asked a (NewExit place to) (refused d)
     (where_so (may_lead to) (tell d cant_be_done) (making d a Exit name place (with_link to)))
 
--- `@open` with a name alone, and with a place to which the exit leads
-unfoldable pub opened_exit : ℕ → Actor → List ℕ → Change
-opened_exit d a name = either (is_name name) (reading (place_at a.player) (λ here. exit_made d a name here nothing)) (tell d bad_name)
+-- `@open`: an exit where the player is
+unfoldable pub exit_opened : ℕ → Actor → List ℕ → Dbref → Change
+exit_opened d a name to = reading (place_at a.player) (λ here. exit_made d a name here to)
 
-unfoldable pub opened_to : ℕ → Actor → List ℕ → List ℕ → Change
-opened_to d a name target =
-    either (is_name name)
-    (finding (tell d) a.player target (λ to. reading (place_at a.player) (λ here. exit_made d a name here to)))
-    (tell d bad_name)
+-- Writing, which a rule or the world may refuse.
 
--- `@action`: an exit on an object
-unfoldable pub action_made : ℕ → Actor → List ℕ → List ℕ → Change
-action_made d a name target =
-    either (is_name name)
-    (finding (tell d) a.player target (λ x. where_so (is_so (λ o. true) x) (tell d cant_be_done) (exit_made d a name x nothing)))
-    (tell d bad_name)
+-- where the world allows it, it is done and told
+unfoldable pub done_where : ℕ → (Live → Bool) → Change → List ℕ → Change
+done_where d may change reply = where_so may (tell d cant_be_done) (change ▸ tell d reply)
+
+-- the rules are asked first
+unfoldable pub written : ℕ → Actor → Act → (Live → Bool) → Change → List ℕ → Change
+written d a act may change reply = asked a act (refused d) (done_where d may change reply)
 
 -- Links and homes.
 
@@ -127,45 +123,38 @@ has_home x w = is_so (λ o. is_thing o.kind || is_player o.kind) x w
 abbrev pub is_linkable : Dbref → Live → Bool
 is_linkable x w = is_so (λ o. not (is_program o.kind)) x w
 
--- the link or the home is set, where the world allows it
-unfoldable pub tied : ℕ → Dbref → Dbref → List ℕ → Change
-tied d x to reply =
-    where_so (has_home x)
-    (where_so (λ w. allowed (link_check x to w.objects)) (tell d cant_be_done) (linked x to ▸ tell d reply))
-    (where_so (λ w. allowed (home_check x to w.objects)) (tell d cant_be_done) (homed x to ▸ tell d reply))
+-- a link, or the home of what has one
+abbrev pub may_tie : Dbref → Dbref → Dbref → Live → Bool
+may_tie x link at w = if has_home x w then allowed (home_check x at w.objects) else allowed (link_check x link w.objects)
+
+unfoldable pub tied : Dbref → Dbref → Dbref → Change
+tied x link at = reading (has_home x) (λ b. either b (homed x at) (linked x link))
 
 -- `@link`
-unfoldable pub link_set : ℕ → Actor → List ℕ → List ℕ → Change
-link_set d a name target =
-    finding (tell d) a.player name (λ x.
-    finding (tell d) a.player target (λ to.
-    where_so (is_linkable x) (tell d cant_be_done) (asked a (Link x to) (refused d) (tied d x to linked_reply))))
+unfoldable pub link_set : ℕ → Actor → Dbref → Dbref → Change
+link_set d a x to = where_so (is_linkable x) (tell d cant_be_done) (written d a (Link x to) (may_tie x to to) (tied x to to) linked_reply)
 
 -- `@unlink`: a link is cleared, and a home becomes `#0`
-abbrev pub untied_to : Dbref → Live → Dbref
-untied_to x w = if has_home x w then dbref_of 0 else nothing
-
-unfoldable pub link_cleared : ℕ → Actor → List ℕ → Change
-link_cleared d a name =
-    finding (tell d) a.player name (λ x.
-    where_so (is_linkable x) (tell d cant_be_done)
-    (asked a (Link x nothing) (refused d) (reading (untied_to x) (λ to. tied d x to unlinked_reply))))
+unfoldable pub link_cleared : ℕ → Actor → Dbref → Change
+link_cleared d a x =
+    where_so (is_linkable x) (tell d cant_be_done) (written d a (Link x nothing) (may_tie x nothing (dbref_of 0)) (tied x nothing (dbref_of 0)) unlinked_reply)
 
 -- Names, messages and locks.
 
-abbrev pub is_name_for : Dbref → List ℕ → Live → Bool
-is_name_for x name w = if is_so (λ o. is_player o.kind) x w then is_player_name w.objects name else is_name name
+-- a player has a name that no other has
+abbrev pub may_be_called : Dbref → List ℕ → Live → Bool
+may_be_called x name w = if is_so (λ o. is_player o.kind) x w then is_player_name w.objects name else is_name name
+
+abbrev pub is_there : Dbref → Live → Bool
+is_there x w = allowed (checked any x w.objects)
 
 -- `@name`
-unfoldable pub name_set : ℕ → Actor → List ℕ → List ℕ → Change
-name_set d a name new =
-    finding_object d a name (λ x.
-    where_so (is_name_for x new) (tell d bad_name) (asked a (Rename x) (refused d) (named x new ▸ tell d named_reply)))
+unfoldable pub name_set : ℕ → Actor → Dbref → List ℕ → Change
+name_set d a x name = where_so (may_be_called x name) (tell d bad_name) (written d a (Rename x) (is_there x) (named x name) named_reply)
 
--- the commands of messages; an empty text clears one
-unfoldable pub message_set : ℕ → Actor → List ℕ → List ℕ → List ℕ → Change
-message_set d a word name text =
-    finding_object d a name (λ x. asked a (ChangeAct x) (refused d) (stored x (message_path word) (Text text) ▸ tell d set_reply))
+-- a message or a lock is kept; an empty text clears it
+unfoldable pub kept : ℕ → Actor → Dbref → List ℕ → List ℕ → List ℕ → Change
+kept d a x word text reply = written d a (ChangeAct x) (is_there x) (stored x (message_path word) (Text text)) reply
 
 -- the names in a key are found by the player, and no program is a key
 abbrev pub found_one : Found → Option Dbref
@@ -175,19 +164,21 @@ found_one found = None
 abbrev pub key_names : Live → Dbref → Naming
 key_names w player = naming (λ name. found_one (found (scenery_of w.objects) player name)) (λ x. is_so (λ o. is_program o.kind) x w)
 
--- the lock is kept as it is printed
-abbrev pub lock_kept : ℕ → Dbref → Result Lock ℕ → Change
-lock_kept d x (Ok lock) = either (nat_le (length (printed lock)) 4096) (stored x (message_path (codes "lok")) (Text (printed lock)) ▸ tell d locked_reply) (tell d bad_key)
-lock_kept d x (Err at) = tell d bad_key
+-- the text that is kept of a key: the lock as it is printed, where that isn't too long
+abbrev pub key_kept : Result Lock ℕ → Option (List ℕ)
+key_kept (Ok lock) = if nat_le (length (printed lock)) text_most then Some (printed lock) else None
+key_kept (Err at) = None
 
--- `@lock` and `@unlock`
-unfoldable pub lock_set : ℕ → Actor → List ℕ → List ℕ → Change
-lock_set d a name key =
-    finding_object d a name (λ x. asked a (ChangeAct x) (refused d) (reading (λ w. lock_of (key_names w a.player) key) (lock_kept d x)))
+abbrev pub key_read : Dbref → List ℕ → Live → Option (List ℕ)
+key_read player key w = key_kept (lock_of (key_names w player) key)
 
-unfoldable pub lock_cleared : ℕ → Actor → List ℕ → Change
-lock_cleared d a name =
-    finding_object d a name (λ x. asked a (ChangeAct x) (refused d) (stored x (message_path (codes "lok")) (Text []) ▸ tell d unlocked_reply))
+abbrev pub lock_kept : ℕ → Dbref → Option (List ℕ) → Change
+lock_kept d x (Some text) = done_where d (is_there x) (stored x (message_path (codes "lok")) (Text text)) locked_reply
+lock_kept d x None = tell d bad_key
+
+-- `@lock`
+unfoldable pub lock_set : ℕ → Actor → Dbref → List ℕ → Change
+lock_set d a x key = asked a (ChangeAct x) (refused d) (reading (key_read a.player key) (lock_kept d x))
 
 -- Moving, recycling and owners.
 
@@ -195,25 +186,20 @@ lock_cleared d a name =
 abbrev pub meant_place : Dbref → Dbref → Live → Dbref
 meant_place x to w = if same to home then home_at x w else to
 
+unfoldable pub placed : Dbref → Dbref → Change
+placed x to = reading (meant_place x to) (λ place. moved_to x place)
+
 -- `@teleport`
-unfoldable pub teleported : ℕ → Actor → List ℕ → List ℕ → Change
-teleported d a name target =
-    finding_object d a name (λ x.
-    finding (tell d) a.player target (λ to.
-    asked a (Move x to) (refused d) (reading (meant_place x to) (λ place. moving d x place (tell d teleported_reply)))))
+unfoldable pub teleported : ℕ → Actor → Dbref → Dbref → Change
+teleported d a x to = written d a (Move x to) (λ w. movable x (meant_place x to w) w) (placed x to) teleported_reply
 
 -- `@recycle`
-unfoldable pub recycled : ℕ → Actor → List ℕ → Change
-recycled d a name =
-    finding_object d a name (λ x.
-    asked a (Recycle x) (refused d) (where_so (λ w. allowed (recycle_check x w.objects)) (tell d cant_be_done) (recycled_now x ▸ tell d recycled_reply)))
+unfoldable pub recycled : ℕ → Actor → Dbref → Change
+recycled d a x = written d a (Recycle x) (λ w. allowed (recycle_check x w.objects)) (recycled_now x) recycled_reply
 
 -- `@chown`
-unfoldable pub chowned : ℕ → Actor → List ℕ → List ℕ → Change
-chowned d a name owner =
-    finding_object d a name (λ x.
-    finding_player (tell d) owner (λ new.
-    asked a (SetOwner x new) (refused d) (where_so (λ w. allowed (owner_check x new w.objects)) (tell d cant_be_done) (owned_by x new ▸ tell d chowned_reply))))
+unfoldable pub chowned : ℕ → Actor → Dbref → Dbref → Change
+chowned d a x owner = written d a (SetOwner x owner) (λ w. allowed (owner_check x owner w.objects)) (owned_by x owner) chowned_reply
 
 -- Looking things up.
 

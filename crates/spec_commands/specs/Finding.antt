@@ -117,9 +117,8 @@ abbrev pub is_room_at : Dbref → Live → Bool
 is_room_at x w = is_so (λ o. is_room o.kind) x w
 
 -- the player looks at something: a room is shown whole
-unfoldable pub looked_at : ℕ → Actor → Typed → List ℕ → Change
-looked_at d a typed name =
-    finding_object d a name (λ x. where_so (is_room_at x) (message_or d a typed nothing_special Describe x) (room_shown d a typed x))
+unfoldable pub look_shown : ℕ → Actor → Typed → Dbref → Change
+look_shown d a typed x = where_so (is_room_at x) (message_or d a typed nothing_special Describe x) (room_shown d a typed x)
 
 -- Examining.
 
@@ -130,8 +129,7 @@ unfoldable pub owner_shown : ℕ → Dbref → Change
 owner_shown d x = reading (λ w. name_at (owner_at w.objects x) w) (λ name. tell d (owner_line name))
 
 -- the player sees the name, the owner and the lock of something, and of what it doesn't control the owner alone
-unfoldable pub examined : ℕ → Actor → List ℕ → Change
-examined d a name =
-    finding_object d a name (λ x.
+unfoldable pub examined : ℕ → Actor → Dbref → Change
+examined d a x =
     where_so (is_own a x) (owner_shown d x)
-    (reading (name_shown a.player x) (tell d) ▸ owner_shown d x ▸ reading (λ w. lock_text x w.objects) (λ text. tell d (lock_line text))))
+    (reading (name_shown a.player x) (tell d) ▸ owner_shown d x ▸ reading (λ w. lock_text x w.objects) (λ text. tell d (lock_line text)))

@@ -21,7 +21,7 @@ use Rattle.spec_commands.specs.declared.word.Message.{Message}
 use Rattle.spec_commands.specs.declared.word.Message.TheVariants.{Success, OthersSuccess, Fail, OthersFail, Drop, OthersDrop}
 use Rattle.spec_commands.specs.Replies.{cant_be_done, cant_go, cant_take, has_left, has_arrived, carrying_head, carrying_nothing, taken_reply, dropped_reply}
 use Rattle.spec_commands.specs.Messages.{home_typed}
-use Rattle.spec_commands.specs.Finding.{finding, where_so, is_room_at, is_so, message_or, message_shown, message_to_others, shown_others, listed_under, looked}
+use Rattle.spec_commands.specs.Finding.{where_so, is_room_at, is_so, message_or, message_shown, message_to_others, shown_others, listed_under, looked}
 
 -- A line of a player: what it does, and what is to follow.
 abbrev pub Play : Type 0
@@ -132,12 +132,10 @@ is_item x w = is_so (λ o. is_thing o.kind || is_program o.kind) x w
 abbrev pub not_taken : ℕ → Actor → Typed → Dbref → Denial → Change
 not_taken d a typed x denial = either (denial.rule == 10) (failed d a typed cant_take x) (refused d denial)
 
-unfoldable pub taken : ℕ → Actor → Typed → List ℕ → Change
-taken d a typed name =
-    finding (tell d) a.player name (λ x.
+unfoldable pub taken : ℕ → Actor → Typed → Dbref → Change
+taken d a typed x =
     where_so (is_item x) (tell d cant_be_done)
-    (asked a (Take x) (not_taken d a typed x)
-    (succeeded d a typed x ▸ moving d x a.player (tell d taken_reply))))
+    (asked a (Take x) (not_taken d a typed x) (succeeded d a typed x ▸ moving d x a.player (tell d taken_reply)))
 
 abbrev pub is_carried : Dbref → Dbref → Live → Bool
 is_carried player x w = is_so (λ o. (is_thing o.kind || is_program o.kind) && same o.place player) x w
@@ -148,11 +146,10 @@ drop_place player w =
     let here = place_at player w in
     if is_room_at here w && not (same (link_at here w) nothing) then link_at here w else here
 
-unfoldable pub dropped : ℕ → Actor → Typed → List ℕ → Change
-dropped d a typed name =
-    finding (tell d) a.player name (λ x.
+unfoldable pub dropped : ℕ → Actor → Typed → Dbref → Change
+dropped d a typed x =
     where_so (is_carried a.player x) (tell d cant_be_done)
-    (reading (drop_place a.player) (λ to. moving d x to (tell d dropped_reply ▸ drop_shown d a typed x))))
+    (reading (drop_place a.player) (λ to. moving d x to (tell d dropped_reply ▸ drop_shown d a typed x)))
 
 -- what the player carries
 unfoldable pub inventory_shown : ℕ → Dbref → Change

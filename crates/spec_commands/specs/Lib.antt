@@ -6,6 +6,7 @@ pub mod Talking
 pub mod Going
 pub mod Building
 pub mod Programming
+pub mod Reading
 pub mod Commands
 pub mod Free
 pub mod Talk

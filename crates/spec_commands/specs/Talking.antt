@@ -8,7 +8,7 @@ use Rattle.spec_live.specs.Connections.{Connection, is_of}
 use Rattle.spec_live.specs.Lives.{Live, Change, ◌▸◌, reading, tell, tell_player, place_at, name_at}
 use Rattle.spec_commands.specs.Replies.{cant_be_done, you_say, says, you_page, pages, you_whisper, whispers, not_connected, connected_line, connected_count}
 use Rattle.spec_commands.specs.declared.presence.Presence.{Presence}
-use Rattle.spec_commands.specs.Finding.{finding, finding_player, where_so, is_so, each, shown_others}
+use Rattle.spec_commands.specs.Finding.{where_so, is_so, each, shown_others}
 
 unfoldable pub said : ℕ → Dbref → List ℕ → Change
 said d player text = tell d (you_say text) ▸ shown_others player (says text)
@@ -29,19 +29,17 @@ unfoldable pub said_to : ℕ → Dbref → Dbref → (List ℕ → List ℕ) →
 said_to d player to you tail =
     reading (name_at to) (λ name. tell d (you name)) ▸ reading (name_at player) (λ name. tell_player to (name ++ tail))
 
-unfoldable pub paged : ℕ → Dbref → List ℕ → List ℕ → Change
-paged d player name text =
-    finding_player (tell d) name (λ to.
-    where_so (is_connected to) (reading (name_at to) (λ found. tell d (found ++ not_connected)))
-    (said_to d player to (you_page text) (pages text)))
+unfoldable pub paged : ℕ → Dbref → Dbref → List ℕ → Change
+paged d player to text =
+    where_so (is_connected to) (reading (name_at to) (λ name. tell d (name ++ not_connected)))
+    (said_to d player to (you_page text) (pages text))
 
 -- a player who is where the player is
 abbrev pub is_company : Dbref → Dbref → Live → Bool
 is_company player to w = is_so (λ o. is_player o.kind && same o.place (place_at player w)) to w
 
-unfoldable pub whispered : ℕ → Dbref → List ℕ → List ℕ → Change
-whispered d player name text =
-    finding (tell d) player name (λ to. where_so (is_company player to) (tell d cant_be_done) (said_to d player to (you_whisper text) (whispers text)))
+unfoldable pub whispered : ℕ → Dbref → Dbref → List ℕ → Change
+whispered d player to text = where_so (is_company player to) (tell d cant_be_done) (said_to d player to (you_whisper text) (whispers text))
 
 -- Who is connected.
 
