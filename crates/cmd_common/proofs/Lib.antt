@@ -1,3 +1,4 @@
 pub mod Texts
 pub mod Doing
 pub mod Shown
+pub mod Taking

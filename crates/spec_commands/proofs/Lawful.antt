@@ -16,7 +16,7 @@ use Rattle.spec_commands.specs.declared.shape.Arguments.{Arguments}
 use Rattle.spec_commands.specs.Finding.{chosen, finding, named_player, finding_player, where_so}
 use Rattle.spec_commands.specs.Going.{Play, ended}
 use Rattle.spec_commands.specs.Programming.{over}
-use Rattle.spec_commands.specs.Reading.{incomplete, sought, meant, with_fit, with_parts, with_arguments}
+use Rattle.spec_commands.specs.Reading.{incomplete, judged, sought, meant, with_fit, with_parts, with_arguments}
 use Rattle.spec_commands.proofs.Gone.{world_of, whole_ended}
 use Rattle.spec_commands.proofs.Mine.{Mine, mine_done, mine_reading, mine_either}
 
@@ -62,7 +62,7 @@ unfolding sought finding
 lawful_sought a own free d text go p = lawful_either a own free _ _ _ (p _) (lawful_reading a own free _ (chosen (over d) text go) (lawful_chosen a own free d text go p))
 
 lawful_meant : (a : Actor) (own : Option ℕ) (free : List Entry → Dbref → Bool) (d : ℕ) (want : Want) (text : List ℕ) (go : Dbref → Play) → ((x : Dbref) → Lawful a own free (go x)) → Lawful a own free (meant d a want text go)
-unfolding meant finding_player
+unfolding judged finding_player
 lawful_meant a own free d Nothing text go p = p _
 lawful_meant a own free d Text text go p = p _
 lawful_meant a own free d NewName text go p = lawful_either a own free _ _ _ (p _) (lawful_over a own free d _)

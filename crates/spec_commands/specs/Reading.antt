@@ -85,19 +85,27 @@ incomplete d word = tell d (usage (map to_ascii_lowercase word))
 abbrev pub shaped : Form → Want → Want → Shape
 shaped form first second = record { form = form; first = first; second = second }
 
+-- nothing is to be found
+abbrev pub unsought : (Dbref → Play) → Play
+unsought go = go nothing
+
+-- a name that is to be given
+unfoldable pub judged : ℕ → List ℕ → (Dbref → Play) → Play
+judged d text go = either (is_name text) (go nothing) (over d bad_name)
+
 -- what a part means is found; a part that is left out means nothing
 unfoldable pub sought : ℕ → Actor → List ℕ → (Dbref → Play) → Play
 sought d a text go = either (is_empty text) (go nothing) (finding (over d) a.player text go)
 
--- a part as its command wants it: a name that is to be given is judged, what is to be there is found
-unfoldable pub meant : ℕ → Actor → Want → List ℕ → (Dbref → Play) → Play
-meant d a Nothing text go = go nothing
-meant d a Text text go = go nothing
-meant d a NewName text go = either (is_name text) (go nothing) (over d bad_name)
-meant d a Found text go = sought d a text go
-meant d a Object text go = sought d a text go
-meant d a Program text go = sought d a text go
-meant d a Player text go = finding_player (over d) text go
+-- a part as its command wants it
+abbrev pub meant : ℕ → Actor → Want → List ℕ → (Dbref → Play) → Play
+meant d a Nothing text = unsought
+meant d a Text text = unsought
+meant d a NewName text = judged d text
+meant d a Found text = sought d a text
+meant d a Object text = sought d a text
+meant d a Program text = sought d a text
+meant d a Player text = finding_player (over d) text
 
 -- what was found is of the kind that is wanted
 abbrev pub is_fit : Want → Argument → Live → Bool

@@ -1,15 +1,10 @@
 // The names that objects and players may have.
 ghost use Rattle.std.specs.Prelude.{◌≡◌, ◌≤◌, true, ◌==◌, length};
 ghost use Rattle.std.specs.List.{list_any};
-ghost use Rattle.spec_live.specs.Lives.{tell};
 ghost use Rattle.spec_commands.specs.Building.{is_reserved, bad_start, is_name, is_player_name};
-ghost use Rattle.spec_commands.specs.Replies.{bad_name};
-ghost use Rattle.muck_perm.specs.Guards.{Did};
 
 use muck_db::Db;
 use muck_match::player_named;
-use muck_model::NoMemory;
-use muck_perm::Guard;
 
 /// The longest name of an object, in bytes.
 const NAME_MOST: usize = 80;
@@ -58,13 +53,4 @@ pub fn is_player_name(db: &Db, name: &[u8]) -> bool
     ensures short { result ≡ true → length name.now ≤ 80 }
 {
     is_name(name) && !has_byte(b' ', name) && player_named(db, name).is_none()
-}
-
-/// Tells the connection that nothing may have that name.
-#[tactic(auto, unfolding(spec_commands::specs::Replies::bad_name))]
-pub fn bad_name(guard: &mut Guard, d: u32) -> Result<(), NoMemory>
-    ensures { Did (tell d bad_name) guard.old guard.new result }
-{
-    guard.tell(d, b"That's not a reasonable name.")?;
-    Ok(())
 }
