@@ -11,14 +11,14 @@ use Rattle.muck_perm.specs.declared.guard.Guard.{Guard}
 use Rattle.muck_perm.specs.Guards.{Did, Same, world_of, with_world, on_world}
 use Rattle.cmd_play.specs.Speaking.{Says}
 
-still_same : {g h : Guard} (old : Guard) → g ≡ with_world (world_of g) old → Same g h → Same old h
-still_same old p s = (s.0 ∙ ap (λ (k : Guard). k.db.ghost_name) p, s.1 ∙ ap (λ (k : Guard). k.board.ghost_name) p)
+still_same : (g h old : Guard) → g ≡ with_world (world_of g) old → Same g h → Same old h
+still_same g h old p s = (s.0 ∙ ap (λ (k : Guard). k.db.ghost_name) p, s.1 ∙ ap (λ (k : Guard). k.board.ghost_name) p)
 
 pub was_spoken : {X : Type 0} (a : Actor) (typed : Typed) (m : Message) (x : Dbref) (otherwise : Change) (go : List ℕ → Change) (old mid new : Guard) (text : List ℕ) (r : Result X NoMemory) →
     Says (with_message a typed m x) old mid (Ok (Some text)) → Did (go text) mid new r → Did (with_message a typed m x otherwise go) old new r
 was_spoken a typed m x otherwise go old mid new text (Ok y) s e =
     e ∙ ap (λ (g : Guard). with_world (go text (world_of mid)) g) s.0 ∙ ap (λ w. with_world w old) (sym (s.1 otherwise go))
-was_spoken a typed m x otherwise go old mid new text (Err fault) s e = still_same old s.0 e
+was_spoken a typed m x otherwise go old mid new text (Err fault) s e = still_same mid new old s.0 e
 
 pub was_not_there : {X : Type 0} (a : Actor) (typed : Typed) (m : Message) (x : Dbref) (otherwise : Change) (go : List ℕ → Change) (old mid new : Guard) (r : Result X NoMemory) →
     Says (with_message a typed m x) old mid (Ok None) → Did otherwise mid new r → Did (with_message a typed m x otherwise go) old new r

@@ -70,7 +70,10 @@ fn spoken(
 ) -> Result<Line, NoMemory>
     ensures { Speaks (spoken guard.old.actor x how.now typed.now text) guard.old guard.new result }
 {
-    let _ = (guard.actor(), x, how, typed);
+    let _ = guard.actor();
+    let _ = x;
+    let _ = how;
+    let _ = typed;
     Ok(text)
 }
 
