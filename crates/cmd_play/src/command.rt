@@ -20,7 +20,9 @@ use crate::typed::typed_of;
 use cmd_common::{after_sign, after_word, arguments, looked_up};
 use muck_model::{Line, NoMemory};
 use muck_perm::Guard;
-use spec_commands::{Argument, Arguments, Form, Outcome, PlayWord, Shape, Typed, Want, cut_word, trim};
+use spec_commands::{
+    Argument, Arguments, Form, Outcome, PlayWord, Shape, Typed, Want, cut_word, trim,
+};
 
 // The words of players.
 #[tactic(auto, unfolding(spec_commands::specs::Commands::play_words))]
@@ -70,12 +72,7 @@ fn shape_of(command: PlayWord) -> Shape
 
 // The player looks where it is, or at what it has named.
 #[tactic(auto, unfolding(spec_live::specs::Lives::either))]
-fn look_around(
-    guard: &mut Guard,
-    d: u32,
-    typed: &Typed,
-    named: &Argument,
-) -> Result<(), NoMemory>
+fn look_around(guard: &mut Guard, d: u32, typed: &Typed, named: &Argument) -> Result<(), NoMemory>
     ensures { Did (either (is_empty named.now.text) (looked d guard.old.actor typed.now) (look_shown d guard.old.actor typed.now named.now.object)) guard.old guard.new result }
 {
     if named.text.as_slice().is_empty() {

@@ -260,7 +260,14 @@ fn try_exit(
             Ok(Outcome::Done)
         }
         Ok(pass) => {
-            show_both(guard, d, typed, Message::Success, Message::OthersSuccess, exit)?;
+            show_both(
+                guard,
+                d,
+                typed,
+                Message::Success,
+                Message::OthersSuccess,
+                exit,
+            )?;
             let to = link_at(guard, exit);
             lead(guard, d, typed, pass, exit, line, to)
         }

@@ -137,7 +137,14 @@ pub fn look_at(guard: &mut Guard, d: u32, typed: &Typed, x: Dbref) -> Result<(),
     if is_room(guard, x) {
         show_room(guard, d, typed, x)
     } else {
-        message_or(guard, d, typed, b"You see nothing special.", Message::Describe, x)
+        message_or(
+            guard,
+            d,
+            typed,
+            b"You see nothing special.",
+            Message::Describe,
+            x,
+        )
     }
 }
 
