@@ -24,10 +24,11 @@ use Rattle.spec_commands.specs.declared.word.BuildWord.{BuildWord}
 use Rattle.spec_commands.specs.declared.shape.Shape.{Shape}
 use Rattle.spec_commands.specs.declared.shape.Arguments.{Arguments}
 use Rattle.spec_commands.specs.declared.word.BuildWord.TheVariants.{Dig, Create, Open, Action, Link, Unlink, Name, Set, Lock, Unlock, Teleport, Recycle, Chown, Find, Program, Edit, List as ListWord, Run}
-use Rattle.spec_commands.specs.Finding.{message_path}
+use Rattle.spec_commands.specs.Finding.{message_path, look_shown, examined}
 use Rattle.spec_commands.specs.Texts.{first_word, other_words, trimmed}
 use Rattle.spec_commands.specs.Replies.{huh}
 use Rattle.spec_commands.specs.Talk.{waits}
+use Rattle.spec_commands.specs.Talking.{said, posed, paged, whispered}
 use Rattle.spec_commands.specs.Going.{Play, ended}
 use Rattle.spec_commands.specs.Free.{free_word, free_by, free_play, free_line}
 use Rattle.spec_commands.specs.Reading.{looked_up, by_command, by_table}
@@ -46,7 +47,7 @@ pub self_free : (a : Actor) → oneself a a.player ≡ true
 self_free a = same_eq a.player a.player refl
 
 pub play_lawful : (a : Actor) (own : Option ℕ) (d : ℕ) (typed : Typed) (command : PlayWord) (args : Arguments) → Lawful a own (free_word (Some command) a) (play_done d a typed command args)
-unfolding play_done
+unfolding play_done look_shown examined said posed paged whispered
 play_lawful a own d typed Look args = lawful_quiet a own _ _ (search seeing)
 play_lawful a own d typed Say args = lawful_quiet a own _ _ (search seeing)
 play_lawful a own d typed Pose args = lawful_quiet a own _ _ (search seeing)
@@ -57,7 +58,7 @@ play_lawful a own d typed Get args = lawful_done a own _ _ (taken_open a own _ d
 play_lawful a own d typed Drop args = lawful_done a own _ _ (dropped_open a own _ d typed _ (λ es x h. h))
 play_lawful a own d typed Inventory args = lawful_quiet a own _ _ (quiet_inventory_shown d a.player)
 play_lawful a own d typed Home args = lawful_done a own _ _ (whole_ends itself a own _ Always _ (λ w h. ends_stays a (oneself a) None _ (stays_gone_home a (oneself a) None d (self_free a))))
-play_lawful a own d typed Examine args = lawful_quiet a own _ _ (search seeing)
+play_lawful a own d typed Examine args = lawful_quiet a own _ _ (search seeing depth 7)
 play_lawful a own d typed Who args = lawful_quiet a own _ _ (search seeing)
 play_lawful a own d typed Quit args = record { licence = whole_ended a own _ Always Leave _ (whole_quiet a own _ Always _ (search shown)); mine = mine_leave _ }
 

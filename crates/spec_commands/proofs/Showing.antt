@@ -13,8 +13,8 @@ use Rattle.spec_commands.specs.declared.typed.Typed.{Typed}
 use Rattle.spec_commands.specs.declared.word.Message.{Message}
 use Rattle.spec_commands.specs.Messages.{message_how, spoken, spoken_some, with_message}
 use Rattle.spec_commands.specs.declared.presence.Presence.{Presence}
-use Rattle.spec_commands.specs.Finding.{each, chosen, finding, named_player, finding_player, where_so, finding_object, shown_others, message_or, message_shown, message_to_others, listed, listed_under, room_shown, looked, look_shown, owner_shown, examined}
-use Rattle.spec_commands.specs.Talking.{said, posed, said_to, paged, whispered, presence_shown, who_shown}
+use Rattle.spec_commands.specs.Finding.{each, chosen, finding, named_player, finding_player, where_so, finding_object, shown_others, message_or, message_shown, message_to_others, listed, listed_under, room_shown, looked, owner_shown}
+use Rattle.spec_commands.specs.Talking.{said_to, presence_shown, who_shown}
 use Rattle.spec_commands.specs.Talk.{waits}
 
 -- Where the world is so.
@@ -161,39 +161,15 @@ pub quiet_looked : (d : ℕ) (a : Actor) (typed : Typed) → Quiet (looked d a t
 unfolding looked
 quiet_looked d a typed = search (shown, quiet_room_shown)
 
-pub quiet_look_shown : (d : ℕ) (a : Actor) (typed : Typed) (x : Dbref) → Quiet (look_shown d a typed x)
-unfolding look_shown
-quiet_look_shown d a typed x = search (shown, quiet_where, quiet_message_or, quiet_room_shown)
-
-quiet_owner_shown : (d : ℕ) (x : Dbref) → Quiet (owner_shown d x)
+pub quiet_owner_shown : (d : ℕ) (x : Dbref) → Quiet (owner_shown d x)
 unfolding owner_shown
 quiet_owner_shown d x = search shown
 
-pub quiet_examined : (d : ℕ) (a : Actor) (x : Dbref) → Quiet (examined d a x)
-unfolding examined
-quiet_examined d a x = search (shown, quiet_where, quiet_owner_shown) depth 7
-
 -- Talking.
 
-pub quiet_said : (d : ℕ) (player : Dbref) (text : List ℕ) → Quiet (said d player text)
-unfolding said
-quiet_said d player text = search (shown, quiet_shown_others)
-
-pub quiet_posed : (d : ℕ) (player : Dbref) (text : List ℕ) → Quiet (posed d player text)
-unfolding posed
-quiet_posed d player text = search (shown, quiet_shown_others)
-
-quiet_said_to : (d : ℕ) (player to : Dbref) (you : List ℕ → List ℕ) (tail : List ℕ) → Quiet (said_to d player to you tail)
+pub quiet_said_to : (d : ℕ) (player to : Dbref) (verb text : List ℕ) → Quiet (said_to d player to verb text)
 unfolding said_to
-quiet_said_to d player to you tail = search shown
-
-pub quiet_paged : (d : ℕ) (player to : Dbref) (text : List ℕ) → Quiet (paged d player to text)
-unfolding paged
-quiet_paged d player to text = search (shown, quiet_where, quiet_said_to)
-
-pub quiet_whispered : (d : ℕ) (player to : Dbref) (text : List ℕ) → Quiet (whispered d player to text)
-unfolding whispered
-quiet_whispered d player to text = search (shown, quiet_where, quiet_said_to)
+quiet_said_to d player to verb text = search shown
 
 quiet_presence_shown : (d : ℕ) (p : Presence) → Quiet (presence_shown d p)
 unfolding presence_shown
@@ -209,4 +185,4 @@ unfolding waits
 quiet_waits d lines = quiet_one d (λ c. record c { waiting = lines }) (λ c. refl)
 
 -- whatever players see
-pub ruleset seeing = (shown, quiet_where, quiet_finding, quiet_finding_player, quiet_finding_object, quiet_shown_others, quiet_message_or, quiet_message_shown, quiet_message_to_others, quiet_listed, quiet_listed_under, quiet_room_shown, quiet_looked, quiet_look_shown, quiet_examined, quiet_said, quiet_posed, quiet_paged, quiet_whispered, quiet_who_shown, quiet_waits)
+pub ruleset seeing = (shown, quiet_where, quiet_finding, quiet_finding_player, quiet_finding_object, quiet_shown_others, quiet_message_or, quiet_message_shown, quiet_message_to_others, quiet_listed, quiet_listed_under, quiet_room_shown, quiet_looked, quiet_owner_shown, quiet_said_to, quiet_who_shown, quiet_waits)

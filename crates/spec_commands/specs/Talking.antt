@@ -1,12 +1,12 @@
 -- What players say.
-use Rattle.std.specs.Prelude.{ℕ, Bool, ◌&&◌, ◌==◌, if◌then◌else◌, List, [], ◌∷◌, ◌++◌, length, Option}
+use Rattle.std.specs.Prelude.{ℕ, Bool, ◌&&◌, ◌==◌, if◌then◌else◌, List, [], ◌∷◌, ◌++◌, length, codes, Option}
 use Rattle.std.specs.Option.{option_map}
 use Rattle.std.specs.List.{list_any, filter_map}
 use Rattle.muck_model.specs.declared.dbref.Dbref.{Dbref}
 use Rattle.spec_live.specs.Objects.{same, is_player}
 use Rattle.spec_live.specs.Connections.{Connection, is_of}
 use Rattle.spec_live.specs.Lives.{Live, Change, ◌▸◌, reading, tell, tell_player, place_at, name_at}
-use Rattle.spec_commands.specs.Replies.{cant_be_done, you_say, says, you_page, pages, you_whisper, whispers, not_connected, connected_line, connected_count}
+use Rattle.spec_commands.specs.Replies.{cant_be_done, you_say, says, you_say_to, says_to, not_connected, connected_line, connected_count}
 use Rattle.spec_commands.specs.declared.presence.Presence.{Presence}
 use Rattle.spec_commands.specs.Finding.{where_so, is_so, each, shown_others}
 
@@ -25,21 +25,21 @@ abbrev pub is_connected : Dbref → Live → Bool
 is_connected player w = list_any (is_of player) w.board.connections
 
 -- the player and the other one see what was said to that one alone
-unfoldable pub said_to : ℕ → Dbref → Dbref → (List ℕ → List ℕ) → List ℕ → Change
-said_to d player to you tail =
-    reading (name_at to) (λ name. tell d (you name)) ▸ reading (name_at player) (λ name. tell_player to (name ++ tail))
+unfoldable pub said_to : ℕ → Dbref → Dbref → List ℕ → List ℕ → Change
+said_to d player to verb text =
+    reading (name_at to) (λ name. tell d (you_say_to verb text name)) ▸ reading (name_at player) (λ name. tell_player to (name ++ says_to verb text))
 
 unfoldable pub paged : ℕ → Dbref → Dbref → List ℕ → Change
 paged d player to text =
     where_so (is_connected to) (reading (name_at to) (λ name. tell d (name ++ not_connected)))
-    (said_to d player to (you_page text) (pages text))
+    (said_to d player to (codes "page") text)
 
 -- a player who is where the player is
 abbrev pub is_company : Dbref → Dbref → Live → Bool
 is_company player to w = is_so (λ o. is_player o.kind && same o.place (place_at player w)) to w
 
 unfoldable pub whispered : ℕ → Dbref → Dbref → List ℕ → Change
-whispered d player to text = where_so (is_company player to) (tell d cant_be_done) (said_to d player to (you_whisper text) (whispers text))
+whispered d player to text = where_so (is_company player to) (tell d cant_be_done) (said_to d player to (codes "whisper") text)
 
 -- Who is connected.
 
