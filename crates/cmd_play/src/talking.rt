@@ -1,7 +1,7 @@
 // What players say, and who hears it.
-ghost use Rattle.std.specs.Prelude.{◌≡◌, ◌++◌, IfOk, codes};
+ghost use Rattle.std.specs.Prelude.{◌≡◌, ◌++◌, IfOk};
 ghost use Rattle.spec_live.specs.Lives.{tell, name_at};
-ghost use Rattle.spec_commands.specs.Replies.{connected_count};
+ghost use Rattle.spec_commands.specs.Replies.{you_say_to, says_to, connected_count};
 ghost use Rattle.spec_commands.specs.Finding.{each};
 ghost use Rattle.spec_commands.specs.Talking.{said, pose_tail, posed, said_to, paged, is_company, whispered, presence, presences, presence_shown, who_shown};
 ghost use Rattle.muck_perm.specs.Guards.{Did, world_of};
@@ -33,8 +33,7 @@ pub fn say(guard: &mut Guard, d: u32, text: &Line) -> Result<(), NoMemory>
     guard.tell(d, &yours)?;
     let theirs = around(guard.alloc(), b" says, \"", text.as_slice(), b"\"")?;
     let player = guard.actor().player;
-    show_others(guard, player, &theirs)?;
-    Ok(())
+    show_others(guard, player, &theirs)
 }
 
 // What stands behind a player's name: a space comes first, but for an apostrophe.
@@ -63,47 +62,49 @@ pub fn pose(guard: &mut Guard, d: u32, text: &Line) -> Result<(), NoMemory>
     Ok(())
 }
 
-// What a player sees of what it said to one alone.
-fn said_to_one(guard: &Guard, before: &[u8], text: &[u8], to: Dbref) -> Result<Vec<u8>, NoMemory>
-    ensures { IfOk result (λ v. v.items ≡ (before.now ++ text.now) ++ ((codes "\" to " ++ name_at to (world_of guard.now)) ++ codes ".")) }
+// What a player sees of what it says to one alone.
+#[tactic(auto, unfolding(spec_commands::specs::Replies::you_say_to))]
+fn you_say_to(guard: &Guard, verb: &[u8], text: &[u8], to: Dbref) -> Result<Vec<u8>, NoMemory>
+    ensures { IfOk result (λ v. v.items ≡ you_say_to verb.now text.now (name_at to (world_of guard.now))) }
 {
+    let head = around(guard.alloc(), b"You ", verb, b", \"")?;
     let name = name_and(guard, to, b"")?;
     let tail = around(guard.alloc(), b"\" to ", &name, b".")?;
-    around(guard.alloc(), before, text, &tail)
+    around(guard.alloc(), &head, text, &tail)
+}
+
+// What that one sees behind the player's name.
+#[tactic(auto, unfolding(spec_commands::specs::Replies::says_to))]
+fn says_to(alloc: Global, verb: &[u8], text: &[u8]) -> Result<Vec<u8>, NoMemory>
+    ensures { IfOk result (λ v. v.items ≡ says_to verb.now text.now) }
+{
+    let head = around(alloc, b" ", verb, b"s, \"")?;
+    around(alloc, &head, text, b"\"")
 }
 
 // The player and one other see what was said to that one alone.
 #[tactic(auto, unfolding(spec_live::specs::Lives::followed, spec_live::specs::Lives::reading, spec_commands::specs::Talking::said_to))]
-fn say_to(
-    guard: &mut Guard,
-    d: u32,
-    to: Dbref,
-    yours: &[u8],
-    theirs: &[u8],
-    text: &[u8],
-) -> Result<(), NoMemory>
-    ensures { Did (said_to d guard.old.actor.player to (λ name. (yours.now ++ text.now) ++ ((codes "\" to " ++ name) ++ codes ".")) ((theirs.now ++ text.now) ++ codes "\"")) guard.old guard.new result }
+fn say_to(guard: &mut Guard, d: u32, to: Dbref, verb: &[u8], text: &Line) -> Result<(), NoMemory>
+    ensures { Did (said_to d guard.old.actor.player to verb.now text.now) guard.old guard.new result }
 {
-    let shown = said_to_one(guard, yours, text, to)?;
+    let shown = you_say_to(guard, verb, text.as_slice(), to)?;
     guard.tell(d, &shown)?;
-    let speaker = guard.actor().player;
-    let tail = around(guard.alloc(), theirs, text, b"\"")?;
-    let heard = name_and(guard, speaker, &tail)?;
-    guard.tell_player(to, &heard)?;
-    Ok(())
+    let tail = says_to(guard.alloc(), verb, text.as_slice())?;
+    let heard = name_and(guard, guard.actor().player, &tail)?;
+    guard.tell_player(to, &heard)
 }
 
 /// The player says something to another one, who may be anywhere, but is connected.
-#[tactic(auto, unfolding(spec_live::specs::Lives::reading, spec_live::specs::Lives::either, spec_commands::specs::Finding::where_so, spec_commands::specs::Talking::paged, spec_commands::specs::Replies::not_connected, spec_commands::specs::Replies::you_page, spec_commands::specs::Replies::pages))]
+#[tactic(auto, unfolding(spec_live::specs::Lives::reading, spec_live::specs::Lives::either, spec_commands::specs::Finding::where_so, spec_commands::specs::Talking::paged, spec_commands::specs::Replies::not_connected))]
 pub fn page(guard: &mut Guard, d: u32, to: Dbref, text: &Line) -> Result<(), NoMemory>
     ensures { Did (paged d guard.old.actor.player to text.now) guard.old guard.new result }
 {
     if guard.board().is_in(to) {
-        let text = text.as_slice();
-        return say_to(guard, d, to, b"You page, \"", b" pages, \"", text);
+        say_to(guard, d, to, b"page", text)
+    } else {
+        let reply = name_and(guard, to, b" isn't connected.")?;
+        guard.tell(d, &reply)
     }
-    let reply = name_and(guard, to, b" isn't connected.")?;
-    guard.tell(d, &reply)
 }
 
 // Whether it is a player, and where this player is.
@@ -120,15 +121,15 @@ fn is_company(guard: &Guard, player: Dbref, to: Dbref) -> bool
 }
 
 /// The player says something to another one who is where it is.
-#[tactic(auto, unfolding(spec_live::specs::Lives::reading, spec_live::specs::Lives::either, spec_commands::specs::Finding::where_so, spec_commands::specs::Talking::whispered, spec_commands::specs::Replies::you_whisper, spec_commands::specs::Replies::whispers))]
+#[tactic(auto, unfolding(spec_live::specs::Lives::reading, spec_live::specs::Lives::either, spec_commands::specs::Finding::where_so, spec_commands::specs::Talking::whispered))]
 pub fn whisper(guard: &mut Guard, d: u32, to: Dbref, text: &Line) -> Result<(), NoMemory>
     ensures { Did (whispered d guard.old.actor.player to text.now) guard.old guard.new result }
 {
     if is_company(guard, guard.actor().player, to) {
-        let text = text.as_slice();
-        return say_to(guard, d, to, b"You whisper, \"", b" whispers, \"", text);
+        say_to(guard, d, to, b"whisper", text)
+    } else {
+        cant_be_done(guard, d)
     }
-    cant_be_done(guard, d)
 }
 
 // A connection, where it has a player.
