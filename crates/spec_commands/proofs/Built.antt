@@ -3,13 +3,12 @@ use Rattle.std.proofs.Common.{◌≡◌, ℕ, Bool, true, false, cond, List, ref
 use Rattle.std.specs.Prelude.{Result, Ok, Err}
 use Rattle.muck_model.specs.declared.dbref.Dbref.{Dbref}
 use Rattle.muck_model.specs.declared.dbref.Kind.{Kind}
-use Rattle.muck_model.specs.declared.dbref.Kind.TheVariants.{Room, Thing, Exit}
+use Rattle.muck_model.specs.declared.dbref.Kind.TheVariants.{Room as RoomKind, Thing as ThingKind, Exit as ExitKind}
 use Rattle.muck_prop.specs.Paths.{class_of}
 use Rattle.spec_live.specs.declared.fault.DbFault.{DbFault}
 use Rattle.spec_live.specs.declared.object.Object.{Object}
 use Rattle.spec_live.specs.Objects.{Entry, dbref_of, nothing, home, same}
 use Rattle.spec_live.specs.Making.{create_check}
-use Rattle.spec_live.specs.Setting.{with_link, with_home}
 use Rattle.spec_live.specs.Lives.{Live, Change, followed, ◌▸◌, reading, tell}
 use Rattle.spec_rights.specs.declared.act.Actor.{Actor}
 use Rattle.spec_rights.specs.declared.act.Act.{Act}
@@ -24,10 +23,12 @@ use Rattle.spec_rights.proofs.Makings.{new_in, end_created, room_open, thing_ope
 use Rattle.spec_rights.proofs.Places.{stays_moved, stay_moved_home}
 use Rattle.spec_rights.proofs.Permitted.{staying, ending}
 use Rattle.spec_rights.proofs.Shown.{shown, quiet_tell}
+use Rattle.spec_commands.specs.declared.new.New.{New}
+use Rattle.spec_commands.specs.declared.new.New.TheVariants.{Room, Thing, Exit}
 use Rattle.spec_commands.specs.Replies.{cant_be_done}
 use Rattle.spec_commands.specs.Finding.{finding_object, message_path}
 use Rattle.spec_commands.specs.Going.{home_at}
-use Rattle.spec_commands.specs.Building.{made_at, created_shown, making, as_made, dug, housed, thing_made, exit_made, exit_opened, done_where, written, tied, link_set, link_cleared, name_set, kept, lock_kept, lock_set, placed, teleported, chowned, find_shown}
+use Rattle.spec_commands.specs.Building.{made_at, created_shown, making, kind_of, as_new, act_in, made, thing_made, exit_opened, done_where, written, tied, link_set, link_cleared, name_set, kept, lock_kept, lock_set, placed, teleported, chowned, find_shown}
 use Rattle.spec_commands.proofs.Showing.{seeing, stays_where, ends_where, ends_finding, ends_finding_player, quiet_listed}
 
 -- whatever ends as is open
@@ -54,34 +55,22 @@ ends_making a free act d kind name place f new = record { law = λ start w s g. 
     at start w s g (Ok p) e = end_quietly (judge a free start) w (created_so p.0 kind name a.user p.1 f w) (created_shown d p.0) (end_created (judge a free start) kind name a.user place f w p e (λ k t q. new start w.objects k t s g q)) (quiet_created_shown d p.0)
     at start w s g (Err fault) e = (ends_quiet a free (Some act) (tell d cant_be_done) (quiet_tell d cant_be_done)).law start w s g
 
-making_room : (a : Actor) (free : Dbref → Bool) (d : ℕ) (name : List ℕ) (place : Dbref) → Ends itself a free (Some (NewRoom place)) (making d a Room name place as_made)
-making_room a free d name place = ends_making a free (NewRoom place) d Room name place as_made (λ start es k t s g e. room_open a free start es name place k t s g e)
+making_new : (a : Actor) (free : Dbref → Bool) (d : ℕ) (new : New) (name : List ℕ) (place : Dbref) → Ends itself a free (Some (act_in place new)) (making d a (kind_of new) name place (as_new new))
+making_new a free d Room name place = ends_making a free (NewRoom place) d RoomKind name place (as_new Room) (λ start es k t s g e. room_open a free start es name place k t s g e)
+making_new a free d (Thing at) name place = ends_making a free (NewThing place) d ThingKind name place (as_new (Thing at)) (λ start es k t s g e. thing_open a free start es name place at k t s g e)
+making_new a free d (Exit to) name place = ends_making a free (NewExit place to) d ExitKind name place (as_new (Exit to)) (λ start es k t s g e. exit_open a free start es name place to k t s g e)
 
-pub dug_open : (a : Actor) (free : Dbref → Bool) (d : ℕ) (name : List ℕ) → Ends itself a free None (dug d a name)
-unfolding dug
-dug_open a free d name = search (ending, making_room)
-
-making_thing : (a : Actor) (free : Dbref → Bool) (d : ℕ) (name : List ℕ) (place at : Dbref) → Ends itself a free (Some (NewThing place)) (making d a Thing name place (with_home at))
-making_thing a free d name place at = ends_making a free (NewThing place) d Thing name place (with_home at) (λ start es k t s g e. thing_open a free start es name place at k t s g e)
-
-housed_open : (a : Actor) (free : Dbref → Bool) (d : ℕ) (name : List ℕ) (to : Dbref) → Ends itself a free (Some (NewThing a.player)) (housed d a name to)
-unfolding housed
-housed_open a free d name to = search (permitting, making_thing)
+pub made_open : (a : Actor) (free : Dbref → Bool) (d : ℕ) (new : New) (name : List ℕ) (place : Dbref) → Ends itself a free None (made d a new name place)
+unfolding made
+made_open a free d new name place = search (permitting, making_new)
 
 pub thing_made_open : (a : Actor) (free : Dbref → Bool) (d : ℕ) (name : List ℕ) → Ends itself a free None (thing_made d a name)
 unfolding thing_made
-thing_made_open a free d name = search (permitting, housed_open)
-
-making_exit : (a : Actor) (free : Dbref → Bool) (d : ℕ) (name : List ℕ) (place to : Dbref) → Ends itself a free (Some (NewExit place to)) (making d a Exit name place (with_link to))
-making_exit a free d name place to = ends_making a free (NewExit place to) d Exit name place (with_link to) (λ start es k t s g e. exit_open a free start es name place to k t s g e)
-
-pub exit_made_open : (a : Actor) (free : Dbref → Bool) (d : ℕ) (name : List ℕ) (place to : Dbref) → Ends itself a free None (exit_made d a name place to)
-unfolding exit_made
-exit_made_open a free d name place to = search (permitting, making_exit)
+thing_made_open a free d name = search (permitting, made_open)
 
 pub exit_opened_open : (a : Actor) (free : Dbref → Bool) (d : ℕ) (name : List ℕ) (to : Dbref) → Ends itself a free None (exit_opened d a name to)
 unfolding exit_opened
-exit_opened_open a free d name to = search (permitting, exit_made_open)
+exit_opened_open a free d name to = search (permitting, made_open)
 
 -- Writing.
 
@@ -146,7 +135,7 @@ unfolding chowned
 chowned_open a free d x owner = search writing
 
 -- whatever builders make and write
-pub ruleset building = (dug_open, thing_made_open, exit_made_open, exit_opened_open, link_set_open, link_cleared_open, name_set_open, kept_open, lock_set_open, teleported_open, chowned_open)
+pub ruleset building = (made_open, thing_made_open, exit_opened_open, link_set_open, link_cleared_open, name_set_open, kept_open, lock_set_open, teleported_open, chowned_open)
 
 -- Looking things up.
 

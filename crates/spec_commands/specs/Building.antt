@@ -5,7 +5,7 @@ use Rattle.std.specs.List.{list_any}
 use Rattle.std.specs.Char.{to_ascii_lowercase}
 use Rattle.muck_model.specs.declared.dbref.Dbref.{Dbref}
 use Rattle.muck_model.specs.declared.dbref.Kind.{Kind}
-use Rattle.muck_model.specs.declared.dbref.Kind.TheVariants.{Room, Thing, Exit, Garbage}
+use Rattle.muck_model.specs.declared.dbref.Kind.TheVariants.{Room as RoomKind, Thing as ThingKind, Exit as ExitKind, Garbage}
 use Rattle.muck_model.specs.declared.lock.Lock.{Lock}
 use Rattle.muck_model.specs.Bytes.{text_most}
 use Rattle.muck_prop.specs.declared.value.PropValue.TheVariants.{Text}
@@ -29,6 +29,8 @@ use Rattle.spec_rights.specs.declared.act.Act.{Act}
 use Rattle.spec_rights.specs.declared.act.Act.TheVariants.{Move, Link, NewRoom, NewThing, NewExit, Change as ChangeAct, Rename, Recycle, SetOwner}
 use Rattle.spec_rights.specs.Asking.{asked, refused}
 use Rattle.spec_rights.specs.Changing.{moved_to, named, linked, homed, owned_by, stored, recycled_now, created_so}
+use Rattle.spec_commands.specs.declared.new.New.{New}
+use Rattle.spec_commands.specs.declared.new.New.TheVariants.{Room, Thing, Exit}
 use Rattle.spec_commands.specs.Replies.{cant_be_done, bad_name, bad_key, created_reply, linked_reply, unlinked_reply, named_reply, set_reply, locked_reply, teleported_reply, recycled_reply, chowned_reply, found_count}
 use Rattle.spec_commands.specs.Finding.{where_so, is_so, message_path, listed, finding_object}
 use Rattle.spec_commands.specs.Going.{may_move, movable, home_at}
@@ -71,38 +73,48 @@ making d a kind name place f =
     reading (λ w. create_check kind a.user place w.objects) (λ check.
     made_at check (λ n to. created_so n kind name a.user to f ▸ created_shown d n) (tell d cant_be_done))
 
-abbrev pub as_made : Object → Object
-as_made o = o
-
--- `@dig`
-unfoldable pub dug : ℕ → Actor → List ℕ → Change
-dug d a name = asked a (NewRoom (dbref_of 0)) (refused d) (making d a Room name (dbref_of 0) as_made)
-
 -- a thing may have its home there
 abbrev pub may_house : Dbref → Live → Bool
-may_house to w = is_so (λ o. may_live Thing o.kind) to w
-
--- a thing that the player carries, with that home
-unfoldable pub housed : ℕ → Actor → List ℕ → Dbref → Change
-housed d a name to = where_so (may_house to) (tell d cant_be_done) (making d a Thing name a.player (with_home to))
-
--- `@create`: a thing whose home is the player's
-unfoldable pub thing_made : ℕ → Actor → List ℕ → Change
-thing_made d a name = asked a (NewThing a.player) (refused d) (reading (home_at a.player) (housed d a name))
+may_house to w = is_so (λ o. may_live ThingKind o.kind) to w
 
 -- an exit may lead there
 abbrev pub may_lead : Dbref → Live → Bool
-may_lead to w = same to home || (same to nothing || is_so (λ o. may_link Exit o.kind) to w)
+may_lead to w = same to home || (same to nothing || is_so (λ o. may_link ExitKind o.kind) to w)
 
--- `@action`: an exit on an object; it leads nowhere, or to a place
-unfoldable pub exit_made : ℕ → Actor → List ℕ → Dbref → Dbref → Change
-exit_made d a name place to =
-    asked a (NewExit place to) (refused d)
-    (where_so (may_lead to) (tell d cant_be_done) (making d a Exit name place (with_link to)))
+-- what is to be made: its kind, the field that is set at once, and what that may be; and the act by which it is asked
+abbrev pub kind_of : New → Kind
+kind_of Room = RoomKind
+kind_of (Thing at) = ThingKind
+kind_of (Exit to) = ExitKind
+
+abbrev pub as_new : New → Object → Object
+as_new Room o = o
+as_new (Thing at) o = with_home at o
+as_new (Exit to) o = with_link to o
+
+abbrev pub may_be : New → Live → Bool
+may_be Room w = true
+may_be (Thing at) w = may_house at w
+may_be (Exit to) w = may_lead to w
+
+abbrev pub act_in : Dbref → New → Act
+act_in place Room = NewRoom place
+act_in place (Thing at) = NewThing place
+act_in place (Exit to) = NewExit place to
+
+-- it is made in a place, where neither a rule nor the world denies it
+unfoldable pub made : ℕ → Actor → New → List ℕ → Dbref → Change
+made d a new name place =
+    asked a (act_in place new) (refused d)
+    (where_so (may_be new) (tell d cant_be_done) (making d a (kind_of new) name place (as_new new)))
+
+-- `@create`: a thing that the player carries, whose home is the player's
+unfoldable pub thing_made : ℕ → Actor → List ℕ → Change
+thing_made d a name = reading (home_at a.player) (λ at. made d a (Thing at) name a.player)
 
 -- `@open`: an exit where the player is
 unfoldable pub exit_opened : ℕ → Actor → List ℕ → Dbref → Change
-exit_opened d a name to = reading (place_at a.player) (λ here. exit_made d a name here to)
+exit_opened d a name to = reading (place_at a.player) (λ here. made d a (Exit to) name here)
 
 -- Writing, which a rule or the world may refuse.
 

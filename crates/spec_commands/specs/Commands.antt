@@ -2,13 +2,14 @@
 use Rattle.std.specs.Prelude.{ℕ, Bool, false, ◌||◌, ◌==◌, if◌then◌else◌, List, [], ◌∷◌, codes, Option, Some, None}
 use Rattle.muck_match.specs.declared.exits.ExitHit.{ExitHit}
 use Rattle.muck_match.specs.Exits.{exit_for}
-use Rattle.spec_live.specs.Objects.{nothing}
+use Rattle.spec_live.specs.Objects.{dbref_of, nothing}
 use Rattle.spec_live.specs.Seen.{scenery_of}
 use Rattle.spec_live.specs.Lives.{Live, Change, reading, either, unchanged, tell}
 use Rattle.spec_rights.specs.declared.act.Actor.{Actor}
 use Rattle.spec_commands.specs.declared.outcome.Outcome.{Outcome}
 use Rattle.spec_commands.specs.declared.outcome.Outcome.TheVariants.{Done, NotMine, Leave}
 use Rattle.spec_commands.specs.declared.typed.Typed.{Typed}
+use Rattle.spec_commands.specs.declared.new.New.TheVariants.{Room as RoomNew, Exit as ExitNew}
 use Rattle.spec_commands.specs.declared.shape.Form.TheVariants.{Any, One, Two, Full, OneOrFull}
 use Rattle.spec_commands.specs.declared.shape.Want.TheVariants.{Nothing, Text, NewName, Found, Object, Player, Program as ProgramWant}
 use Rattle.spec_commands.specs.declared.shape.Shape.{Shape}
@@ -24,7 +25,7 @@ pub use Rattle.spec_commands.specs.Messages.{message_name}
 use Rattle.spec_commands.specs.Finding.{looked, look_shown, examined}
 use Rattle.spec_commands.specs.Talking.{said, posed, paged, whispered, who_shown}
 use Rattle.spec_commands.specs.Going.{Play, ended, gone_home, walked, went, taken, dropped, inventory_shown}
-use Rattle.spec_commands.specs.Building.{dug, thing_made, exit_opened, exit_made, link_set, link_cleared, name_set, kept, lock_set, teleported, recycled, chowned, find_shown}
+use Rattle.spec_commands.specs.Building.{made, thing_made, exit_opened, link_set, link_cleared, name_set, kept, lock_set, teleported, recycled, chowned, find_shown}
 use Rattle.spec_commands.specs.Programming.{program_made, program_edited, program_listed, program_run}
 use Rattle.spec_commands.specs.Reading.{is_empty, shaped, with_arguments, by_table}
 
@@ -153,10 +154,10 @@ build_shape Run = shaped Two ProgramWant Text
 
 -- what each does
 unfoldable pub build_done : ℕ → Actor → List ℕ → BuildWord → Arguments → Play
-build_done d a line Dig args = ended Done (dug d a args.first.text)
+build_done d a line Dig args = ended Done (made d a RoomNew args.first.text (dbref_of 0))
 build_done d a line Create args = ended Done (thing_made d a args.first.text)
 build_done d a line Open args = ended Done (exit_opened d a args.first.text args.second.object)
-build_done d a line Action args = ended Done (exit_made d a args.first.text args.second.object nothing)
+build_done d a line Action args = ended Done (made d a (ExitNew nothing) args.first.text args.second.object)
 build_done d a line Link args = ended Done (link_set d a args.first.object args.second.object)
 build_done d a line Unlink args = ended Done (link_cleared d a args.first.object)
 build_done d a line Name args = ended Done (name_set d a args.first.object args.second.text)

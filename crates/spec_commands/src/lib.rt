@@ -4,6 +4,7 @@
 #![tactic(auto)]
 
 mod edit;
+mod new;
 mod outcome;
 mod presence;
 mod shape;
@@ -12,6 +13,7 @@ mod word;
 mod words;
 
 pub use edit::{EditCommand, EditStep};
+pub use new::New;
 pub use outcome::Outcome;
 pub use presence::Presence;
 pub use shape::{Argument, Arguments, Form, Shape, Want};
