@@ -1,5 +1,5 @@
 -- What a command gets of its line.
-use Rattle.std.specs.Prelude.{◌≡◌, true, false, ℕ, List, Option, Some, None, Result, Ok, Err}
+use Rattle.std.specs.Prelude.{◌≡◌, ◌≤◌, true, false, ℕ, List, length, Option, Some, None, Result, Ok, Err}
 use Rattle.std.specs.Borrow.{Bor}
 use Rattle.muck_model.specs.declared.memory.NoMemory.{NoMemory}
 use Rattle.spec_commands.specs.declared.outcome.Outcome.TheVariants.{Done as Finished}
@@ -8,7 +8,6 @@ use Rattle.spec_commands.specs.declared.shape.Want.{Want}
 use Rattle.spec_commands.specs.declared.shape.Want.TheVariants.{NewName}
 use Rattle.spec_commands.specs.declared.shape.Shape.{Shape}
 use Rattle.spec_commands.specs.declared.shape.Arguments.{Arguments}
-use Rattle.spec_commands.specs.Building.{is_name}
 use Rattle.spec_commands.specs.Going.{Play}
 use Rattle.spec_commands.specs.Reading.{is_whole, left_in, right_in}
 use Rattle.muck_perm.specs.declared.guard.Guard.{Guard}
@@ -32,9 +31,9 @@ Takes seek old new (Ok (Some args)) = (new ≡ old) × ((go : Arguments → Play
 Takes seek old new (Ok None) = (go : Arguments → Play) → Plays (seek go) old new (Ok Finished)
 Takes seek old new (Err e) = Same old new
 
--- a name that is to be given is one
+-- a name that is to be given has 1 to 80 bytes
 abbrev pub IsJudged : Want → List ℕ → Type 0
-IsJudged NewName text = is_name text ≡ true
+IsJudged NewName text = (1 ≤ length text) × (length text ≤ 80)
 IsJudged want text = Unit {0}
 
 abbrev pub AreJudged : Shape → Arguments → Type 0

@@ -9,6 +9,7 @@ mod reading;
 mod replies;
 mod showing;
 mod sources;
+mod writing;
 
 pub use finding::{find_object, find_one, find_player, is_object, is_program};
 pub use names::{is_name, is_player_name};
@@ -17,3 +18,4 @@ pub use reading::{arguments, looked_up};
 pub use replies::{bad_name, cant_be_done, incomplete, refuse};
 pub use showing::{list, name_and, place_at, show_lines, show_name, show_others};
 pub use sources::{copy_lines, same_lines};
+pub use writing::{Write, try_write, write_by_leave};

@@ -88,9 +88,9 @@ kind_of (Thing at) = ThingKind
 kind_of (Exit to) = ExitKind
 
 abbrev pub as_new : New → Object → Object
-as_new Room o = o
-as_new (Thing at) o = with_home at o
-as_new (Exit to) o = with_link to o
+as_new Room = λ o. o
+as_new (Thing at) = with_home at
+as_new (Exit to) = with_link to
 
 abbrev pub may_be : New → Live → Bool
 may_be Room w = true
