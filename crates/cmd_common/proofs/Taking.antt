@@ -1,5 +1,5 @@
 -- Arguments that are found one after another.
-use Rattle.std.proofs.Common.{◌≡◌, ℕ, List, Option, Some, None, Result, Ok, Err, ◌∙◌, ap, sym, subst}
+use Rattle.std.proofs.Common.{◌≡◌, Option, Some, None, Result, Ok, Err, ◌∙◌, ap, sym, subst}
 use Rattle.muck_model.specs.declared.dbref.Dbref.{Dbref}
 use Rattle.muck_model.specs.declared.memory.NoMemory.{NoMemory}
 use Rattle.spec_live.specs.Lives.{Live}
@@ -8,7 +8,7 @@ use Rattle.spec_commands.specs.declared.outcome.Outcome.TheVariants.{Done as Fin
 use Rattle.spec_commands.specs.declared.shape.Arguments.{Arguments}
 use Rattle.spec_commands.specs.Going.{Play}
 use Rattle.muck_perm.specs.declared.guard.Guard.{Guard}
-use Rattle.muck_perm.specs.Guards.{Same, with_world, world_of}
+use Rattle.muck_perm.specs.Guards.{with_world, world_of}
 use Rattle.cmd_common.specs.Plays.{Plays, FindsFor}
 use Rattle.cmd_common.specs.Takes.{Takes}
 

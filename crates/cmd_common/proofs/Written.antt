@@ -1,11 +1,11 @@
 -- What a writer of the guard does.
-use Rattle.std.proofs.Common.{◌≡◌, Bool, true, false, Result, Ok, Err, refl, sym, subst}
+use Rattle.std.proofs.Common.{◌≡◌, true, false, Result, Ok, Err, refl, sym, subst}
 use Rattle.spec_live.specs.declared.fault.DbFault.{DbFault}
 use Rattle.spec_live.specs.declared.fault.DbFault.TheVariants.{NoSuchObject, WouldLoop, WrongKind, WorldFull, NoMemory as WantsMemory}
 use Rattle.spec_live.specs.Lives.{Change}
 use Rattle.spec_commands.specs.Building.{allowed}
 use Rattle.muck_perm.specs.declared.guard.Guard.{Guard}
-use Rattle.muck_perm.specs.Guards.{Done, Makes, Tries}
+use Rattle.muck_perm.specs.Guards.{Makes, Tries}
 use Rattle.cmd_common.specs.Writes.{IsDone}
 
 refused : (f : Change) (old new : Guard) (fault : DbFault) → new ≡ old → IsDone false f old new (Err fault)

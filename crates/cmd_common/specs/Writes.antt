@@ -1,5 +1,5 @@
 -- What a write does, by which act it is asked, and where the world allows it.
-use Rattle.std.specs.Prelude.{◌≡◌, ◌≤◌, Bool, true, false, length, List, Result, Ok, Err}
+use Rattle.std.specs.Prelude.{◌≡◌, ◌≤◌, Bool, true, false, length, Result, Ok, Err}
 use Rattle.muck_prop.specs.Paths.{class_of}
 use Rattle.muck_prop.specs.declared.value.PropValue.TheVariants.{Text}
 use Rattle.spec_live.specs.declared.fault.DbFault.{DbFault}

@@ -15,7 +15,7 @@ use Rattle.spec_rights.specs.declared.act.Act.{Act}
 use Rattle.spec_rights.specs.declared.act.Act.TheVariants.{Move, Link, NewRoom, NewThing, NewExit, Change as ChangeAct}
 use Rattle.spec_rights.specs.Verdict.{verdict, is_guarded}
 use Rattle.spec_rights.specs.Changing.{moved_to, created_so}
-use Rattle.spec_rights.specs.Licence.{Judge, IsNew}
+use Rattle.spec_rights.specs.Licence.{IsNew}
 use Rattle.spec_rights.proofs.Lookups.{eq_same}
 use Rattle.spec_rights.proofs.Rights.{SameRights}
 use Rattle.spec_rights.proofs.Licences.{judge, Quiet, Stay, End, Ends, itself, end_quietly, ends_quiet, ends_stays}

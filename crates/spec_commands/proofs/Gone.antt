@@ -27,10 +27,10 @@ use Rattle.spec_commands.specs.declared.outcome.Outcome.{Outcome}
 use Rattle.spec_commands.specs.Replies.{taken_reply, recycled_reply, dropped_reply}
 use Rattle.spec_commands.specs.declared.typed.Typed.{Typed}
 use Rattle.spec_commands.specs.declared.word.Message.{Message}
-use Rattle.spec_commands.specs.Finding.{is_so, is_object, finding_object}
+use Rattle.spec_commands.specs.Finding.{is_so}
 use Rattle.spec_commands.specs.Going.{ended, moving, gone, gone_home, both_shown, succeeded, failed, drop_shown, led, tried, walked, walked_some, went, is_item, not_taken, taken, is_carried, drop_place, dropped, inventory_shown}
 use Rattle.spec_commands.specs.Building.{allowed, written, done_where, recycled}
-use Rattle.spec_commands.proofs.Showing.{seeing, stays_where, ends_where, whole_where, whole_finding}
+use Rattle.spec_commands.proofs.Showing.{seeing, stays_where, ends_where, whole_where}
 
 -- The answer of a command is its world and its outcome.
 abbrev pub world_of : Live × Outcome → Live

@@ -7,7 +7,7 @@ use Rattle.muck_match.specs.declared.exits.ExitHit.{ExitHit}
 use Rattle.muck_match.specs.Exits.{exit_for}
 use Rattle.spec_live.specs.Seen.{scenery_of}
 use Rattle.spec_live.specs.Objects.{Entry}
-use Rattle.spec_live.specs.Lives.{Live, Change, ◌▸◌, reading, either, unchanged, tell}
+use Rattle.spec_live.specs.Lives.{Live, ◌▸◌, reading, unchanged}
 use Rattle.spec_rights.specs.declared.act.Actor.{Actor}
 use Rattle.spec_rights.specs.Verdict.{is_guarded}
 use Rattle.spec_rights.specs.Licence.{Licensed, oneself}
@@ -26,7 +26,6 @@ use Rattle.spec_commands.specs.declared.shape.Arguments.{Arguments}
 use Rattle.spec_commands.specs.declared.word.BuildWord.TheVariants.{Dig, Create, Open, Action, Link, Unlink, Name, Set, Lock, Unlock, Teleport, Recycle, Chown, Find, Program, Edit, List as ListWord, Run}
 use Rattle.spec_commands.specs.Finding.{message_path, look_shown, examined}
 use Rattle.spec_commands.specs.Texts.{first_word, other_words, trimmed}
-use Rattle.spec_commands.specs.Replies.{huh}
 use Rattle.spec_commands.specs.Talk.{waits}
 use Rattle.spec_commands.specs.Talking.{said, posed, paged, whispered}
 use Rattle.spec_commands.specs.Going.{Play, ended}

@@ -1,5 +1,5 @@
 -- What players do with programs is open to them.
-use Rattle.std.proofs.Common.{◌≡◌, ℕ, List, [], ◌∷◌, refl, Option, Some, None}
+use Rattle.std.proofs.Common.{◌≡◌, ℕ, List, [], ◌∷◌, refl, Some, None}
 use Rattle.std.specs.Prelude.{Bool, Result, Ok, Err}
 use Rattle.muck_model.specs.declared.dbref.Dbref.{Dbref}
 use Rattle.muck_model.specs.declared.dbref.Kind.TheVariants.{Program}
@@ -9,7 +9,6 @@ use Rattle.spec_live.specs.Making.{create_check}
 use Rattle.spec_live.specs.Setting.{with_level}
 use Rattle.spec_live.specs.Lives.{Live, followed, ◌▸◌, reading, tell}
 use Rattle.spec_rights.specs.declared.act.Actor.{Actor}
-use Rattle.spec_rights.specs.declared.act.Act.{Act}
 use Rattle.spec_rights.specs.declared.act.Act.TheVariants.{NewProgram}
 use Rattle.spec_rights.specs.Verdict.{verdict}
 use Rattle.spec_rights.specs.Changing.{created_so}
@@ -18,7 +17,7 @@ use Rattle.spec_rights.proofs.Licences.{judge, Quiet, End, Ends, end_quietly, en
 use Rattle.spec_rights.proofs.Makings.{end_created, program_open}
 use Rattle.spec_rights.proofs.Shown.{shown, quiet_tell}
 use Rattle.spec_commands.specs.Replies.{cant_be_done, entering_editor}
-use Rattle.spec_commands.specs.Going.{Play, ended}
+use Rattle.spec_commands.specs.Going.{ended}
 use Rattle.spec_commands.specs.Building.{created_shown}
 use Rattle.spec_commands.specs.Programming.{lines_shown, first_level, program_put, program_at, program_new, program_made, program_edited, program_listed, program_run}
 use Rattle.spec_commands.proofs.Built.{permitting, quiet_created_shown}

@@ -4,7 +4,7 @@ use Rattle.muck_model.specs.declared.dbref.Dbref.{Dbref}
 use Rattle.muck_match.specs.declared.naming.Found.{Found}
 use Rattle.muck_match.specs.declared.naming.Found.TheVariants.{One, None as Nobody, Many}
 use Rattle.spec_live.specs.Objects.{Entry}
-use Rattle.spec_live.specs.Lives.{Live, Change, reading, either, unchanged}
+use Rattle.spec_live.specs.Lives.{Live, Change, reading, either}
 use Rattle.spec_rights.specs.declared.act.Actor.{Actor}
 use Rattle.spec_rights.specs.declared.act.Act.{Act}
 use Rattle.spec_rights.proofs.Shown.{shown, quiet_one}

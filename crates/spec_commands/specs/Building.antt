@@ -31,8 +31,8 @@ use Rattle.spec_rights.specs.Asking.{asked, refused}
 use Rattle.spec_rights.specs.Changing.{moved_to, named, linked, homed, owned_by, stored, recycled_now, created_so}
 use Rattle.spec_commands.specs.declared.new.New.{New}
 use Rattle.spec_commands.specs.declared.new.New.TheVariants.{Room, Thing, Exit}
-use Rattle.spec_commands.specs.Replies.{cant_be_done, bad_name, bad_key, created_reply, linked_reply, unlinked_reply, named_reply, set_reply, locked_reply, teleported_reply, recycled_reply, chowned_reply, found_count}
-use Rattle.spec_commands.specs.Finding.{where_so, is_so, message_path, listed, finding_object}
+use Rattle.spec_commands.specs.Replies.{cant_be_done, bad_name, bad_key, created_reply, linked_reply, unlinked_reply, named_reply, locked_reply, teleported_reply, recycled_reply, chowned_reply, found_count}
+use Rattle.spec_commands.specs.Finding.{where_so, is_so, message_path, listed}
 use Rattle.spec_commands.specs.Going.{may_move, movable, home_at}
 
 -- Names.

@@ -4,7 +4,7 @@ use Rattle.muck_match.specs.declared.exits.ExitHit.{ExitHit}
 use Rattle.muck_match.specs.Exits.{exit_for}
 use Rattle.spec_live.specs.Objects.{dbref_of, nothing}
 use Rattle.spec_live.specs.Seen.{scenery_of}
-use Rattle.spec_live.specs.Lives.{Live, Change, reading, either, unchanged, tell}
+use Rattle.spec_live.specs.Lives.{Live, reading, either, unchanged, tell}
 use Rattle.spec_rights.specs.declared.act.Actor.{Actor}
 use Rattle.spec_commands.specs.declared.outcome.Outcome.{Outcome}
 use Rattle.spec_commands.specs.declared.outcome.Outcome.TheVariants.{Done, NotMine, Leave}
