@@ -1,0 +1,5 @@
+pub mod Keyed
+pub mod Cutting
+pub mod Sessions
+pub mod Marks
+pub mod Playing

@@ -1,0 +1,11 @@
+//! Links that carry bytes to and from those who are connected, and bytes as lines. `ScriptLinks` plays a script in memory.
+#![tactic(auto)]
+
+mod cutter;
+mod links;
+mod script;
+mod session;
+
+pub use cutter::{LineCutter, Mode};
+pub use links::{Accepted, LinkRead, LinkWrite, Links, Listened};
+pub use script::{LinkStep, LinkWhat, ScriptLinks};
