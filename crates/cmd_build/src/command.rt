@@ -16,7 +16,9 @@ use crate::writing::{link, rename, unlink};
 use cmd_common::{Write, after_word, arguments, looked_up, try_write};
 use muck_model::{Dbref, Line, NoMemory};
 use muck_perm::Guard;
-use spec_commands::{Arguments, BuildWord, Form, Message, New, Outcome, Shape, Want, cut_word, trim};
+use spec_commands::{
+    Arguments, BuildWord, Form, Message, New, Outcome, Shape, Want, cut_word, trim,
+};
 
 static WORDS: [(&[u8], BuildWord); 24] = [
     (b"@dig", BuildWord::Dig),
@@ -58,7 +60,11 @@ fn shape_of(command: BuildWord) -> Shape
     ensures { result ≡ build_shape command }
 {
     let (form, first, second) = match command {
-        BuildWord::Dig | BuildWord::Create | BuildWord::Program => (Form::One, Want::NewName, Want::Nothing),
+        BuildWord::Dig | BuildWord::Create | BuildWord::Program => (
+            Form::One,
+            Want::NewName,
+            Want::Nothing,
+        ),
         BuildWord::Unlock | BuildWord::Recycle => (Form::One, Want::Object, Want::Nothing),
         BuildWord::Edit | BuildWord::List => (Form::One, Want::Program, Want::Nothing),
         BuildWord::Unlink => (Form::One, Want::Found, Want::Nothing),

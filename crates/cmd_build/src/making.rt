@@ -118,7 +118,13 @@ fn act_in(place: Dbref, new: New) -> Act
 
 // Makes it by leave, where the world allows it.
 #[tactic(auto, unfolding(spec_commands::specs::Finding::is_so))]
-fn create(guard: &mut Guard, pass: Pass, new: New, name: Line, place: Dbref) -> Result<Dbref, DbFault>
+fn create(
+    guard: &mut Guard,
+    pass: Pass,
+    new: New,
+    name: Line,
+    place: Dbref,
+) -> Result<Dbref, DbFault>
     requires leave { IsLeave pass (act_in place new) guard.old }
     requires some { 1 ≤ length name }
     requires short { length name ≤ 80 }
@@ -133,7 +139,14 @@ fn create(guard: &mut Guard, pass: Pass, new: New, name: Line, place: Dbref) -> 
 }
 
 // Makes it by leave, and tells the connection what came of it.
-fn make_by(guard: &mut Guard, d: u32, pass: Pass, new: New, name: Line, place: Dbref) -> Result<(), NoMemory>
+fn make_by(
+    guard: &mut Guard,
+    d: u32,
+    pass: Pass,
+    new: New,
+    name: Line,
+    place: Dbref,
+) -> Result<(), NoMemory>
     requires leave { IsLeave pass (act_in place new) guard.old }
     requires some { 1 ≤ length name }
     requires short { length name ≤ 80 }

@@ -34,7 +34,14 @@ pub fn path_of(alloc: Global, text: &[u8]) -> Result<Path, NoMemory>
 }
 
 /// Keeps a message or a lock of an object, where neither a rule nor the world denies it; an empty text clears it.
-pub fn keep(guard: &mut Guard, d: u32, x: Dbref, path: &[u8], text: Line, reply: &[u8]) -> Result<(), NoMemory>
+pub fn keep(
+    guard: &mut Guard,
+    d: u32,
+    x: Dbref,
+    path: &[u8],
+    text: Line,
+    reply: &[u8],
+) -> Result<(), NoMemory>
     requires text { text_fault path.now ≡ None }
     requires fine { path_fault path.now ≡ None }
     requires guarded { is_guarded (class_of (segments_of path.now)) ≡ true }
@@ -65,7 +72,13 @@ fn path_text(message: Message) -> &'static [u8]
 
 /// Sets a message of an object; an empty text clears it.
 #[tactic(auto, unfolding(spec_commands::specs::Building::kept, spec_commands::specs::Replies::set_reply))]
-pub fn set_message(guard: &mut Guard, d: u32, x: Dbref, message: Message, text: Line) -> Result<(), NoMemory>
+pub fn set_message(
+    guard: &mut Guard,
+    d: u32,
+    x: Dbref,
+    message: Message,
+    text: Line,
+) -> Result<(), NoMemory>
     ensures { Did (kept d guard.old.actor x (message_name message) text set_reply) guard.old guard.new result }
 {
     keep(guard, d, x, path_text(message), text, b"Set.")

@@ -117,7 +117,13 @@ pub fn list(guard: &mut Guard, d: u32, x: Dbref) -> Result<Outcome, NoMemory>
 
 /// `@run`: a program is to be started by a line, with a text on its stack, where no rule denies it.
 #[tactic(auto, unfolding(spec_commands::specs::Programming::program_run, spec_commands::specs::Going::ended, spec_live::specs::Lives::unchanged, spec_rights::specs::Asking::asked))]
-pub fn start(guard: &mut Guard, d: u32, line: &Line, x: Dbref, arg: Line) -> Result<Outcome, NoMemory>
+pub fn start(
+    guard: &mut Guard,
+    d: u32,
+    line: &Line,
+    x: Dbref,
+    arg: Line,
+) -> Result<Outcome, NoMemory>
     ensures { Plays (program_run d guard.old.actor line.now x arg) guard.old guard.new result }
 {
     let command = line.copy(guard.alloc())?;

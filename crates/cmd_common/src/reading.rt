@@ -99,7 +99,12 @@ fn are_fit(guard: &Guard, shape: Shape, args: &Arguments) -> bool
 
 // The arguments, where what was found is of the kinds that are wanted; else the connection was told that it isn't.
 #[tactic(auto, unfolding(spec_commands::specs::Reading::with_fit, spec_commands::specs::Finding::where_so, spec_commands::specs::Going::ended, spec_live::specs::Lives::reading, spec_live::specs::Lives::either))]
-fn fit(guard: &mut Guard, d: u32, shape: Shape, args: Arguments) -> Result<Option<Arguments>, NoMemory>
+fn fit(
+    guard: &mut Guard,
+    d: u32,
+    shape: Shape,
+    args: Arguments,
+) -> Result<Option<Arguments>, NoMemory>
     ensures takes { Takes (with_fit d shape args) guard.old guard.new result }
     ensures same { IfOk result (λ found. IfSome found (λ got. got ≡ args)) }
 {
@@ -112,7 +117,12 @@ fn fit(guard: &mut Guard, d: u32, shape: Shape, args: Arguments) -> Result<Optio
 
 // The parts of a text as they are wanted; `None` exactly where the connection was told why they aren't.
 #[tactic(auto, using(crate::proofs::Taking::takes), unfolding(spec_commands::specs::Reading::with_parts))]
-fn take(guard: &mut Guard, d: u32, shape: Shape, parts: Parts) -> Result<Option<Arguments>, NoMemory>
+fn take(
+    guard: &mut Guard,
+    d: u32,
+    shape: Shape,
+    parts: Parts,
+) -> Result<Option<Arguments>, NoMemory>
     ensures takes { Takes (with_parts d guard.old.actor shape parts.left parts.right) guard.old guard.new result }
     ensures judged { IfOk result (λ found. IfSome found (AreJudged shape)) }
 {

@@ -13,6 +13,7 @@ use spec_live::DbFault;
 use spec_rights::Act;
 
 const NOTHING: Dbref = Dbref(-1);
+
 const HOME: Dbref = Dbref(-3);
 
 /// What is to be written of an object.
