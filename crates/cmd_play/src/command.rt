@@ -89,28 +89,32 @@ fn say_goodbye(guard: &mut Guard, d: u32) -> Result<(), NoMemory>
     guard.tell(d, b"Come back later!")
 }
 
-// What each does.
+// What each does. What was typed is kept for those alone that show a message.
 #[tactic(auto, unfolding(spec_commands::specs::Going::ended, spec_commands::specs::Commands::play_done))]
 fn perform(
     guard: &mut Guard,
     d: u32,
-    typed: &Typed,
     command: PlayWord,
+    word: &[u8],
+    rest: &Line,
     args: &Arguments,
 ) -> Result<Outcome, NoMemory>
-    ensures { Plays (play_done d guard.old.actor typed.now command args.now) guard.old guard.new result }
+    requires { text_fault word.now ≡ None }
+    ensures { Plays (play_done d guard.old.actor (record { word = word.now; rest = rest.now }) command args.now) guard.old guard.new result }
 {
+    let alloc = guard.alloc();
+    let rest = rest.as_slice();
     let first = &args.first;
     let text = &args.second.text;
     match command {
-        PlayWord::Look => look_around(guard, d, typed, first)?,
+        PlayWord::Look => look_around(guard, d, &typed_of(alloc, word, rest)?, first)?,
         PlayWord::Say => say(guard, d, &first.text)?,
         PlayWord::Pose => pose(guard, d, &first.text)?,
         PlayWord::Page => page(guard, d, first.object, text)?,
         PlayWord::Whisper => whisper(guard, d, first.object, text)?,
         PlayWord::Go => return go(guard, d, &first.text),
-        PlayWord::Get => take(guard, d, typed, first.object)?,
-        PlayWord::Drop => drop(guard, d, typed, first.object)?,
+        PlayWord::Get => take(guard, d, &typed_of(alloc, word, rest)?, first.object)?,
+        PlayWord::Drop => drop(guard, d, &typed_of(alloc, word, rest)?, first.object)?,
         PlayWord::Inventory => inventory(guard, d)?,
         PlayWord::Home => go_home(guard, d)?,
         PlayWord::Examine => examine(guard, d, first.object)?,
@@ -135,11 +139,10 @@ fn do_command(
     requires { text_fault word.now ≡ None }
     ensures { Plays (signed d guard.old.actor command word.now text.now) guard.old guard.new result }
 {
-    let Some(args) = arguments(guard, d, word, shape_of(command), text)? else {
-        return Ok(Outcome::Done);
-    };
-    let typed = typed_of(guard.alloc(), word, text.as_slice())?;
-    perform(guard, d, &typed, command, &args)
+    match arguments(guard, d, word, shape_of(command), text)? {
+        Some(args) => perform(guard, d, command, word, text, &args),
+        None => Ok(Outcome::Done),
+    }
 }
 
 // A line that doesn't begin with a sign.
