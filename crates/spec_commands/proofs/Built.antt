@@ -28,7 +28,7 @@ use Rattle.spec_commands.specs.declared.new.New.TheVariants.{Room, Thing, Exit}
 use Rattle.spec_commands.specs.Replies.{cant_be_done}
 use Rattle.spec_commands.specs.Finding.{finding_object, message_path}
 use Rattle.spec_commands.specs.Going.{home_at}
-use Rattle.spec_commands.specs.Building.{made_at, created_shown, making, kind_of, as_new, act_in, made, thing_made, exit_opened, done_where, written, tied, link_set, link_cleared, name_set, kept, lock_kept, lock_set, placed, teleported, chowned, find_shown, examined, owner_shown}
+use Rattle.spec_commands.specs.Building.{made_at, created_shown, making, kind_of, as_new, act_in, made, thing_made, exit_opened, done_where, written, tied, link_set, link_cleared, name_set, kept, lock_kept, lock_set, placed, teleported, chowned, find_shown}
 use Rattle.spec_commands.proofs.Showing.{seeing, stays_where, ends_where, ends_finding, ends_finding_player, quiet_listed}
 
 -- whatever ends as is open
@@ -142,11 +142,3 @@ pub ruleset building = (made_open, thing_made_open, exit_opened_open, link_set_o
 pub quiet_find_shown : (d : ℕ) (a : Actor) (part : List ℕ) → Quiet (find_shown d a part)
 unfolding find_shown
 quiet_find_shown d a part = search seeing
-
-quiet_owner_shown : (d : ℕ) (x : Dbref) → Quiet (owner_shown d x)
-unfolding owner_shown
-quiet_owner_shown d x = search shown
-
-pub quiet_examined : (d : ℕ) (a : Actor) (name : List ℕ) → Quiet (examined d a name)
-unfolding examined
-quiet_examined d a name = search (seeing, quiet_owner_shown) depth 7

@@ -13,7 +13,8 @@ use Rattle.spec_rights.specs.Asking.{answered, asked}
 use Rattle.spec_commands.specs.declared.outcome.Outcome.{Outcome}
 use Rattle.spec_commands.specs.declared.outcome.Outcome.TheVariants.{Done, NotMine, Start, Leave, Edit}
 use Rattle.spec_commands.specs.Finding.{where_so}
-use Rattle.spec_commands.specs.Going.{Play, ended, led, walked, walked_some, went}
+use Rattle.spec_commands.specs.declared.typed.Typed.{Typed}
+use Rattle.spec_commands.specs.Going.{Play, ended, led, tried, walked, walked_some, went}
 use Rattle.spec_commands.specs.Programming.{program_put, program_at, program_new, program_made, program_edited, program_listed, program_run}
 
 -- it isn't left to the next
@@ -58,13 +59,13 @@ mine_asked a act refuse go p q = record { law = λ w. at w (verdict w.objects a 
     at w None = q.law w
     at w (Some denial) = (p denial).law w
 
-pub mine_led : (d : ℕ) (player : Dbref) (hit : ExitHit) (line : List ℕ) (to : Dbref) → Mine (led d player hit line to)
+mine_led : (d : ℕ) (a : Actor) (typed : Typed) (exit : Dbref) (line : List ℕ) (to : Dbref) → Mine (led d a typed exit line to)
 unfolding led
-mine_led d player hit line to = search (mine_either, mine_where, mine_done, mine_start)
+mine_led d a typed exit line to = search (mine_either, mine_where, mine_done, mine_start)
 
 pub mine_walked : (d : ℕ) (a : Actor) (hit : ExitHit) (line : List ℕ) → Mine (walked d a hit line)
-unfolding walked
-mine_walked d a hit line = search (mine_asked, mine_followed, mine_reading, mine_done, mine_led)
+unfolding walked tried
+mine_walked d a hit line = search (mine_asked, mine_followed, mine_reading, mine_done, mine_led) depth 7
 
 pub mine_walked_some : (d : ℕ) (a : Actor) (line : List ℕ) (hit : Option ExitHit) → Mine (walked_some d a line hit)
 mine_walked_some d a line None = mine_done _

@@ -1,16 +1,14 @@
 -- How players build.
 use Rattle.std.specs.Prelude.{ℕ, ◌+◌, Bool, true, false, not, ◌&&◌, ◌||◌, ◌==◌, nat_lt, nat_le, if◌then◌else◌, List, [], ◌∷◌, length, map, codes, Option, Some, None, Result, Ok, Err}
-use Rattle.std.specs.Option.{option_map_or, option_and_then}
+use Rattle.std.specs.Option.{option_map_or}
 use Rattle.std.specs.List.{list_any}
 use Rattle.std.specs.Char.{to_ascii_lowercase}
-use Rattle.std.specs.FinMap.{get}
 use Rattle.muck_model.specs.declared.dbref.Dbref.{Dbref}
 use Rattle.muck_model.specs.declared.dbref.Kind.{Kind}
 use Rattle.muck_model.specs.declared.dbref.Kind.TheVariants.{Room as RoomKind, Thing as ThingKind, Exit as ExitKind, Garbage}
 use Rattle.muck_model.specs.declared.lock.Lock.{Lock}
 use Rattle.muck_model.specs.Bytes.{text_most}
-use Rattle.muck_prop.specs.declared.value.PropValue.{PropValue}
-use Rattle.muck_prop.specs.declared.value.PropValue.TheVariants.{Text, Number}
+use Rattle.muck_prop.specs.declared.value.PropValue.TheVariants.{Text}
 use Rattle.muck_match.specs.Words.{is_same}
 use Rattle.muck_match.specs.declared.naming.Found.{Found}
 use Rattle.muck_match.specs.declared.naming.Found.TheVariants.{One}
@@ -24,18 +22,17 @@ use Rattle.spec_live.specs.Objects.{Entry, dbref_of, nothing, home, same, is_thi
 use Rattle.spec_live.specs.Making.{create_check}
 use Rattle.spec_live.specs.Setting.{any, checked, with_link, with_home, link_check, home_check, owner_check, may_link, may_live}
 use Rattle.spec_live.specs.Recycling.{recycle_check}
-use Rattle.spec_live.specs.Seen.{scenery_of, long_form, signed_text}
-use Rattle.spec_live.specs.Lives.{Live, Change, ◌▸◌, reading, either, tell, place_at, name_at}
+use Rattle.spec_live.specs.Seen.{scenery_of, long_form}
+use Rattle.spec_live.specs.Lives.{Live, Change, ◌▸◌, reading, either, tell, place_at}
 use Rattle.spec_rights.specs.declared.act.Actor.{Actor}
 use Rattle.spec_rights.specs.declared.act.Act.{Act}
 use Rattle.spec_rights.specs.declared.act.Act.TheVariants.{Move, Link, NewRoom, NewThing, NewExit, Change as ChangeAct, Rename, Recycle, SetOwner}
-use Rattle.spec_rights.specs.Levels.{controls_as, name_shown, owner_at}
 use Rattle.spec_rights.specs.Asking.{asked, refused}
 use Rattle.spec_rights.specs.Changing.{moved_to, named, linked, homed, owned_by, stored, recycled_now, created_so}
 use Rattle.spec_commands.specs.declared.new.New.{New}
 use Rattle.spec_commands.specs.declared.new.New.TheVariants.{Room, Thing, Exit}
-use Rattle.spec_commands.specs.Replies.{cant_be_done, bad_name, bad_key, owner_line, lock_line, unlocked_text, created_reply, linked_reply, unlinked_reply, named_reply, locked_reply, teleported_reply, recycled_reply, chowned_reply, found_count}
-use Rattle.spec_commands.specs.Finding.{where_so, is_so, message_path, listed, finding_object}
+use Rattle.spec_commands.specs.Replies.{cant_be_done, bad_name, bad_key, created_reply, linked_reply, unlinked_reply, named_reply, locked_reply, teleported_reply, recycled_reply, chowned_reply, found_count}
+use Rattle.spec_commands.specs.Finding.{where_so, is_so, message_path, listed}
 use Rattle.spec_commands.specs.Going.{may_move, movable, home_at}
 
 -- Names.
@@ -245,26 +242,3 @@ owned_named user part n (e ∷ es) =
 -- `@find`
 unfoldable pub find_shown : ℕ → Actor → List ℕ → Change
 find_shown d a part = reading (λ w. owned_named a.user part 0 w.objects) (λ xs. listed d a.player xs ▸ tell d (found_count (length xs)))
-
--- `examine`
-
-abbrev pub kept_text : Option PropValue → List ℕ
-kept_text None = unlocked_text
-kept_text (Some (Text text)) = text
-kept_text (Some (Number n)) = signed_text n
-
--- the text of an object's lock as it is kept
-abbrev pub lock_text : Dbref → Live → List ℕ
-lock_text x w = kept_text (option_and_then (λ o. get o.props (message_path (codes "lok"))) (object_at x w.objects))
-
-abbrev pub is_own : Actor → Dbref → Live → Bool
-is_own a x w = controls_as w.objects a.level a.user x
-
-unfoldable pub owner_shown : ℕ → Dbref → Change
-owner_shown d x = reading (λ w. name_at (owner_at w.objects x) w) (λ name. tell d (owner_line name))
-
-unfoldable pub examined : ℕ → Actor → List ℕ → Change
-examined d a name =
-    finding_object d a name (λ x.
-    where_so (is_own a x) (owner_shown d x)
-    (reading (name_shown a.player x) (tell d) ▸ owner_shown d x ▸ reading (lock_text x) (λ text. tell d (lock_line text))))

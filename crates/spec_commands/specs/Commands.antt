@@ -4,10 +4,11 @@ use Rattle.muck_match.specs.declared.exits.ExitHit.{ExitHit}
 use Rattle.muck_match.specs.Exits.{exit_for}
 use Rattle.spec_live.specs.Objects.{dbref_of, nothing}
 use Rattle.spec_live.specs.Seen.{scenery_of}
-use Rattle.spec_live.specs.Lives.{Live, Change, reading, either, unchanged, tell}
+use Rattle.spec_live.specs.Lives.{Live, reading, either, unchanged, tell}
 use Rattle.spec_rights.specs.declared.act.Actor.{Actor}
 use Rattle.spec_commands.specs.declared.outcome.Outcome.{Outcome}
 use Rattle.spec_commands.specs.declared.outcome.Outcome.TheVariants.{Done, NotMine, Leave}
+use Rattle.spec_commands.specs.declared.typed.Typed.{Typed}
 use Rattle.spec_commands.specs.declared.new.New.TheVariants.{Room as RoomNew, Exit as ExitNew}
 use Rattle.spec_commands.specs.declared.shape.Form.TheVariants.{Any, One, Two, Full, OneOrFull}
 use Rattle.spec_commands.specs.declared.shape.Want.TheVariants.{Nothing, Text, NewName, Found, Object, Player, Program as ProgramWant}
@@ -15,72 +16,23 @@ use Rattle.spec_commands.specs.declared.shape.Shape.{Shape}
 use Rattle.spec_commands.specs.declared.shape.Arguments.{Arguments}
 use Rattle.spec_commands.specs.declared.word.PlayWord.{PlayWord}
 use Rattle.spec_commands.specs.declared.word.PlayWord.TheVariants.{Look, Say, Pose, Page, Whisper, Go, Get, Drop, Inventory, Home, Examine, Who, Quit}
-use Rattle.spec_commands.specs.declared.word.Message.{Message}
 use Rattle.spec_commands.specs.declared.word.Message.TheVariants.{Describe, Success, OthersSuccess, Fail, OthersFail, Drop as DropMessage, OthersDrop}
 use Rattle.spec_commands.specs.declared.word.BuildWord.{BuildWord}
 use Rattle.spec_commands.specs.declared.word.BuildWord.TheVariants.{Dig, Create, Open, Action, Link, Unlink, Name, Set, Lock, Unlock, Teleport, Recycle, Chown, Find, Program, Edit, List as ListWord, Run}
-use Rattle.spec_commands.specs.Texts.{first_word, other_words, trimmed, is_alike}
+use Rattle.spec_commands.specs.Texts.{first_word, other_words, trimmed}
 use Rattle.spec_commands.specs.Replies.{goodbye, huh, set_reply, unlocked_reply}
-use Rattle.spec_commands.specs.Finding.{looked, looked_at}
+pub use Rattle.spec_commands.specs.Messages.{message_name}
+use Rattle.spec_commands.specs.Finding.{looked, look_shown, examined}
 use Rattle.spec_commands.specs.Talking.{said, posed, paged, whispered, who_shown}
 use Rattle.spec_commands.specs.Going.{Play, ended, gone_home, walked, went, taken, dropped, inventory_shown}
-use Rattle.spec_commands.specs.Building.{made, thing_made, exit_opened, link_set, link_cleared, name_set, kept, lock_set, teleported, recycled, chowned, find_shown, examined}
+use Rattle.spec_commands.specs.Building.{made, thing_made, exit_opened, link_set, link_cleared, name_set, kept, lock_set, teleported, recycled, chowned, find_shown}
 use Rattle.spec_commands.specs.Programming.{program_made, program_edited, program_listed, program_run}
-use Rattle.spec_commands.specs.Reading.{is_empty, left_part, right_part, has_two, incomplete, shaped, by_table}
-
--- The parts of a command.
-
--- a command with one part
-unfoldable pub one_part : ℕ → List ℕ → List ℕ → (List ℕ → Change) → Change
-one_part d word text go = either (is_empty text) (incomplete d word) (go text)
-
--- a command with two parts, of which the second may be empty
-unfoldable pub two_parts : ℕ → List ℕ → List ℕ → (List ℕ → List ℕ → Change) → Change
-two_parts d word text go = either (has_two text) (go (left_part text) (right_part text)) (incomplete d word)
+use Rattle.spec_commands.specs.Reading.{is_empty, shaped, with_arguments, by_table}
 
 -- What players do.
 
-abbrev pub talk_word : List ℕ → Option PlayWord
-talk_word word =
-    if is_alike word (codes "say") then Some Say
-    else if is_alike word (codes "pose") then Some Pose
-    else if is_alike word (codes "page") then Some Page
-    else if is_alike word (codes "whisper") then Some Whisper
-    else if is_alike word (codes "WHO") then Some Who
-    else if is_alike word (codes "QUIT") then Some Quit
-    else None
-
-abbrev pub see_word : List ℕ → Option PlayWord
-see_word word =
-    if is_alike word (codes "look") then Some Look
-    else if is_alike word (codes "l") then Some Look
-    else if is_alike word (codes "read") then Some Look
-    else if is_alike word (codes "examine") then Some Examine
-    else if is_alike word (codes "inventory") then Some Inventory
-    else if is_alike word (codes "i") then Some Inventory
-    else None
-
-abbrev pub go_word : List ℕ → Option PlayWord
-go_word word =
-    if is_alike word (codes "go") then Some Go
-    else if is_alike word (codes "move") then Some Go
-    else if is_alike word (codes "home") then Some Home
-    else if is_alike word (codes "get") then Some Get
-    else if is_alike word (codes "take") then Some Get
-    else if is_alike word (codes "drop") then Some Drop
-    else None
-
-abbrev pub or_word : {X : Type 0} → Option X → Option X → Option X
-or_word (Some word) other = Some word
-or_word None other = other
-
-unfoldable pub play_word : List ℕ → Option PlayWord
-play_word word = or_word (talk_word word) (or_word (see_word word) (go_word word))
-
--- the same as a table, and how each takes the text behind its word
-
-unfoldable pub play_table : List (List ℕ × PlayWord)
-play_table =
+unfoldable pub play_words : List (List ℕ × PlayWord)
+play_words =
     (codes "say", Say) ∷
     (codes "pose", Pose) ∷
     (codes "page", Page) ∷
@@ -101,6 +53,7 @@ play_table =
     (codes "drop", Drop) ∷
     []
 
+-- how each takes the text behind its word
 abbrev pub play_shape : PlayWord → Shape
 play_shape Look = shaped Any Object Nothing
 play_shape Say = shaped One Text Nothing
@@ -116,37 +69,37 @@ play_shape Examine = shaped One Object Nothing
 play_shape Who = shaped Any Nothing Nothing
 play_shape Quit = shaped Any Nothing Nothing
 
--- what such a word does with the rest of its line
-unfoldable pub play_done : ℕ → Actor → List ℕ → List ℕ → PlayWord → Play
-play_done d a word text Look = ended Done (either (is_empty text) (looked d a.player) (looked_at d a text))
-play_done d a word text Say = ended Done (one_part d word text (said d a.player))
-play_done d a word text Pose = ended Done (one_part d word text (posed d a.player))
-play_done d a word text Page = ended Done (two_parts d word text (paged d a.player))
-play_done d a word text Whisper = ended Done (two_parts d word text (whispered d a.player))
-play_done d a word text Go = either (is_empty text) (ended Done (incomplete d word)) (went d a text)
-play_done d a word text Get = ended Done (one_part d word text (taken d a))
-play_done d a word text Drop = ended Done (one_part d word text (dropped d a.player))
-play_done d a word text Inventory = ended Done (inventory_shown d a.player)
-play_done d a word text Home = ended Done (gone_home d a.player)
-play_done d a word text Examine = ended Done (one_part d word text (examined d a))
-play_done d a word text Who = ended Done (who_shown d)
-play_done d a word text Quit = ended Leave (tell d goodbye)
+-- the first word of a line, and what stands behind it
+abbrev pub line_typed : List ℕ → Typed
+line_typed line = record { word = first_word (trimmed line); rest = trimmed (other_words (trimmed line)) }
 
-abbrev pub play_some : ℕ → Actor → List ℕ → List ℕ → Option PlayWord → Play
-play_some d a word text None = ended NotMine unchanged
-play_some d a word text (Some found) = play_done d a word text found
+-- what each does
+unfoldable pub play_done : ℕ → Actor → Typed → PlayWord → Arguments → Play
+play_done d a typed Look args = ended Done (either (is_empty args.first.text) (looked d a typed) (look_shown d a typed args.first.object))
+play_done d a typed Say args = ended Done (said d a.player args.first.text)
+play_done d a typed Pose args = ended Done (posed d a.player args.first.text)
+play_done d a typed Page args = ended Done (paged d a.player args.first.object args.second.text)
+play_done d a typed Whisper args = ended Done (whispered d a.player args.first.object args.second.text)
+play_done d a typed Go args = went d a args.first.text
+play_done d a typed Get args = ended Done (taken d a typed args.first.object)
+play_done d a typed Drop args = ended Done (dropped d a typed args.first.object)
+play_done d a typed Inventory args = ended Done (inventory_shown d a.player)
+play_done d a typed Home args = ended Done (gone_home d a)
+play_done d a typed Examine args = ended Done (examined d a args.first.object)
+play_done d a typed Who args = ended Done (who_shown d)
+play_done d a typed Quit args = ended Leave (tell d goodbye)
 
--- a line that doesn't begin with a sign
-unfoldable pub play_words : ℕ → Actor → List ℕ → Play
-play_words d a line = play_some d a (first_word (trimmed line)) (trimmed (other_words (trimmed line))) (play_word (first_word (trimmed line)))
+-- what stands behind a sign is said or posed, as behind the word
+unfoldable pub signed : ℕ → Actor → PlayWord → List ℕ → List ℕ → Play
+signed d a command word text = with_arguments d a word (play_shape command) text (play_done d a (record { word = word; rest = text }) command)
 
 -- a line as cmd_play does it; `"` says and `:` poses what stands behind
 unfoldable pub play_line : ℕ → Actor → List ℕ → Play
 play_line d a [] = ended NotMine unchanged
 play_line d a (b ∷ line) =
-    if b == 34 then play_done d a (codes "say") (trimmed line) Say
-    else if b == 58 then play_done d a (codes "pose") (trimmed line) Pose
-    else play_words d a (b ∷ line)
+    if b == 34 then signed d a Say (codes "say") (trimmed line)
+    else if b == 58 then signed d a Pose (codes "pose") (trimmed line)
+    else by_table play_words play_shape (play_done d a (line_typed (b ∷ line))) d a (b ∷ line)
 
 -- What builders do.
 
@@ -198,16 +151,6 @@ build_shape Program = shaped One NewName Nothing
 build_shape Edit = shaped One ProgramWant Nothing
 build_shape ListWord = shaped One ProgramWant Nothing
 build_shape Run = shaped Two ProgramWant Text
-
--- the word in the path of a message
-abbrev pub message_name : Message → List ℕ
-message_name Describe = codes "de"
-message_name Success = codes "sc"
-message_name OthersSuccess = codes "osc"
-message_name Fail = codes "fl"
-message_name OthersFail = codes "ofl"
-message_name DropMessage = codes "dr"
-message_name OthersDrop = codes "odr"
 
 -- what each does
 unfoldable pub build_done : ℕ → Actor → List ℕ → BuildWord → Arguments → Play

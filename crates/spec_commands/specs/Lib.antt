@@ -1,5 +1,6 @@
 pub mod Texts
 pub mod Replies
+pub mod Messages
 pub mod Finding
 pub mod Talking
 pub mod Going
