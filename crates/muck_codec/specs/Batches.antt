@@ -1,5 +1,5 @@
 -- A batch: records by rising dbref, and the tune parameters.
-use Rattle.std.specs.Prelude.{◌≡◌, ℕ, zero, suc, ◌-◌, ◌≤◌, All, Bool, true, false, ◌==◌, List, [], ◌∷◌, ◌++◌, length, Option, Some, None, Result, Ok, Err, int_lt, if◌then◌else◌}
+use Rattle.std.specs.Prelude.{◌≡◌, ℕ, suc, ◌-◌, ◌≤◌, All, Bool, true, ◌==◌, List, ◌++◌, length, Option, Some, None, Result, Ok, Err, int_lt, if◌then◌else◌}
 use Rattle.std.specs.List.{flat_map}
 use Rattle.std.specs.Int.{w32, to_be_bytes}
 use Rattle.muck_model.specs.declared.dbref.Dbref.{Dbref}
@@ -26,9 +26,15 @@ abbrev pub records_at : ℕ → ℕ → List ℕ → Result (List Stored × List
 records_at version n bytes = several (λ o. o.dbref) (next_at version) None n bytes
 
 abbrev pub tune_of : (ℕ × (ℕ × (ℕ × ℕ))) × (ℕ × (ℕ × (ℕ × ℕ))) → Tune
-tune_of ((slice, (preempt, (m1, m2))), (processes, (player, (mpi, dump)))) = record {
-  instr_slice = slice; preempt_units = preempt; m1_units = m1; m2_units = m2;
-  process_limit = processes; player_processes = player; mpi_commands = mpi; dump_interval = dump;
+tune_of x = record {
+  instr_slice = x.0.0;
+  preempt_units = x.0.1.0;
+  m1_units = x.0.1.1.0;
+  m2_units = x.0.1.1.1;
+  process_limit = x.1.0;
+  player_processes = x.1.1.0;
+  mpi_commands = x.1.1.1.0;
+  dump_interval = x.1.1.1.1;
 }
 
 abbrev pub four_at : List ℕ → Result ((ℕ × (ℕ × (ℕ × ℕ))) × List ℕ) ℕ
@@ -38,7 +44,7 @@ unfoldable pub tune_at : List ℕ → Result (Tune × List ℕ) ℕ
 tune_at bytes = mapped tune_of (both four_at four_at) bytes
 
 abbrev pub batch_of : List Stored × Tune → Batch
-batch_of (records, tune) = record { records = records; tune = tune }
+batch_of x = record { records = x.0; tune = x.1 }
 
 -- a batch, and the bytes behind it
 unfoldable pub batch_at : ℕ → List ℕ → Result (Batch × List ℕ) ℕ

@@ -1,5 +1,5 @@
 -- The grammar of a record.
-use Rattle.std.specs.Prelude.{◌≡◌, ◌≤◌, ◌-◌, ℕ, zero, suc, Bool, true, false, ◌&&◌, ◌==◌, List, [], ◌∷◌, length, drop, Option, Some, None, is_none, Result, Ok, Err, nat_lt, bytes_eq, pos, if◌then◌else◌}
+use Rattle.std.specs.Prelude.{◌≡◌, ◌-◌, ℕ, zero, suc, Bool, true, ◌&&◌, ◌==◌, List, [], ◌∷◌, length, Option, Some, None, is_none, Result, Ok, Err, nat_lt, bytes_eq, pos, if◌then◌else◌}
 use Rattle.std.specs.Int.{w16, w32, w64, cast_signed}
 use Rattle.std.specs.Ordering.{is_lt, int_eq}
 use Rattle.muck_model.specs.declared.dbref.Dbref.{Dbref}
@@ -44,19 +44,19 @@ abbrev pub flags_at : List ℕ → Result (Flags × List ℕ) ℕ
 flags_at bytes = number_at w16 bytes >>= λ n. Ok (record { 0 = n.0 }, n.1)
 
 abbrev pub head_of : Dbref × (Kind × (Flags × ℕ)) → Head
-head_of (dbref, (kind, (flags, level))) = record { dbref = dbref; kind = kind; flags = flags; level = level }
+head_of x = record { dbref = x.0; kind = x.1.0; flags = x.1.1.0; level = x.1.1.1 }
 
 unfoldable pub head_at : List ℕ → Result (Head × List ℕ) ℕ
 head_at bytes = mapped head_of (both dbref_at (both kind_at (both flags_at byte_at))) bytes
 
 abbrev pub ties_of : Dbref × (Dbref × (Dbref × Dbref)) → Ties
-ties_of (owner, (place, (link, home))) = record { owner = owner; place = place; link = link; home = home }
+ties_of x = record { owner = x.0; place = x.1.0; link = x.1.1.0; home = x.1.1.1 }
 
 unfoldable pub ties_at : List ℕ → Result (Ties × List ℕ) ℕ
 ties_at bytes = mapped ties_of (both dbref_at (both dbref_at (both dbref_at dbref_at))) bytes
 
 abbrev pub lists_of : Dbref × (Dbref × Dbref) → Lists
-lists_of (content, (exit, next)) = record { first_content = content; first_exit = exit; next = next }
+lists_of x = record { first_content = x.0; first_exit = x.1.0; next = x.1.1 }
 
 unfoldable pub lists_at : List ℕ → Result (Lists × List ℕ) ℕ
 lists_at bytes = mapped lists_of (both dbref_at (both dbref_at dbref_at)) bytes
@@ -99,7 +99,7 @@ value_at version [] = Err 0
 value_at version (tag ∷ rest) = if nat_lt tag (tags_in version) then tagged tag rest else Err (suc (length rest))
 
 abbrev pub property_of : List (List ℕ) × PropValue → Property
-property_of (path, value) = record { path = path; value = value }
+property_of x = record { path = x.0; value = x.1 }
 
 unfoldable pub property_at : ℕ → Option (List (List ℕ)) → List ℕ → Result (Property × List ℕ) ℕ
 property_at version before bytes = mapped property_of (both (path_at before) (value_at version)) bytes
@@ -118,17 +118,28 @@ lines_at n bytes = several (λ line. line) line_at None n bytes
 -- The record.
 
 abbrev pub texts_of : List ℕ × (List Property × (List (List ℕ) × List ℕ)) → Texts
-texts_of (name, (props, (lines, digest))) = record { name = name; props = props; lines = lines; digest = digest }
+texts_of x = record { name = x.0; props = x.1.0; lines = x.1.1.0; digest = x.1.1.1 }
 
 unfoldable pub texts_at : ℕ → List ℕ → Result (Texts × List ℕ) ℕ
 texts_at version bytes = mapped texts_of (both (text_at 0 4096) (both (counted (number_at w64) (properties_at version)) (both (counted (short_at 0 4096) lines_at) (text_at 0 4096)))) bytes
 
 abbrev pub stored_of : Head × (Ties × (Lists × Texts)) → Stored
-stored_of (head, (ties, (lists, texts))) = record {
-  dbref = head.dbref; kind = head.kind; flags = head.flags; level = head.level;
-  owner = ties.owner; place = ties.place; link = ties.link; home = ties.home;
-  first_content = lists.first_content; first_exit = lists.first_exit; next = lists.next;
-  name = texts.name; props = texts.props; lines = texts.lines; digest = texts.digest;
+stored_of x = record {
+  dbref = x.0.dbref;
+  kind = x.0.kind;
+  flags = x.0.flags;
+  level = x.0.level;
+  owner = x.1.0.owner;
+  place = x.1.0.place;
+  link = x.1.0.link;
+  home = x.1.0.home;
+  first_content = x.1.1.0.first_content;
+  first_exit = x.1.1.0.first_exit;
+  next = x.1.1.0.next;
+  name = x.1.1.1.name;
+  props = x.1.1.1.props;
+  lines = x.1.1.1.lines;
+  digest = x.1.1.1.digest;
 }
 
 -- a record of this version, and the bytes behind it

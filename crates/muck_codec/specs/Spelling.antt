@@ -1,18 +1,15 @@
 -- The one spelling of a record.
-use Rattle.std.specs.Prelude.{◌≡◌, ℕ, ◌<◌, ◌≤◌, ◌^◌, Bool, true, false, pos, List, [], ◌∷◌, ◌++◌, length, Option, Some, None}
-use Rattle.std.specs.List.{flat_map, AllByRecursion}
+use Rattle.std.specs.Prelude.{ℕ, List, [], ◌∷◌, ◌++◌, length}
+use Rattle.std.specs.List.{flat_map}
 use Rattle.std.specs.Int.{w16, w32, w64, to_be_bytes, cast_unsigned}
-use Rattle.std.specs.Ordering.{int_eq}
-use Rattle.muck_model.specs.Bytes.{text_fault}
 use Rattle.muck_model.specs.declared.dbref.Dbref.{Dbref}
 use Rattle.muck_model.specs.declared.dbref.Kind.{Kind}
 use Rattle.muck_model.specs.declared.dbref.Kind.TheVariants.{Room, Thing, Exit, Player, Program, Garbage}
-use Rattle.muck_prop.specs.Paths.{path_text, IsPath}
+use Rattle.muck_prop.specs.Paths.{path_text}
 use Rattle.muck_prop.specs.declared.value.PropValue.{PropValue}
 use Rattle.muck_prop.specs.declared.value.PropValue.TheVariants.{Text, Number}
 use Rattle.muck_codec.specs.declared.stored.Stored.{Stored}
 use Rattle.muck_codec.specs.declared.stored.Property.{Property}
-use Rattle.muck_codec.specs.Records.{rises}
 
 abbrev pub dbref_bytes : Dbref → List ℕ
 dbref_bytes d = to_be_bytes w32 (cast_unsigned w32 d.0)

@@ -12,4 +12,4 @@ pub use batch::take_batch;
 pub use fault::CodecFault;
 pub use record::take_record;
 pub use stored::{Batch, Property, Stored};
-pub use writing::{put_batch, put_record};
+pub use writing::{put_record, put_tune};

@@ -1,6 +1,9 @@
 // Records, as they are read.
-ghost use Rattle.std.specs.Prelude.{◌≡◌, ◌≤◌, ◌<◌, ◌++◌, drop, length, Ok, Err, IfOk, Some, None};
+ghost use Rattle.std.specs.Prelude.{◌≡◌, ◌≤◌, ◌<◌, ◌++◌, drop, length, List, ℕ, Ok, Err, IfOk, Some, None};
 ghost use Rattle.std.specs.Option.{option_copied};
+ghost use Rattle.muck_codec.specs.declared.stored.Stored.{Stored};
+ghost use Rattle.muck_codec.specs.Spelling.{spelling};
+ghost use Rattle.muck_codec.specs.Stored.{IsStored, IsSpelled, Takes};
 ghost use Rattle.muck_codec.specs.Reading.{Gives, last_key, text_at};
 ghost use Rattle.muck_codec.specs.Records.{kind_of, kind_at, flags_at, head_at, ties_at, lists_at, spells, path_at, rises, spelled, stored_of, tags_in, integer_at, tagged, value_at, property_at, properties_at, lines_at, texts_at, record_at, IsTaken};
 
@@ -128,11 +131,7 @@ fn lists_at(bytes: &[u8]) -> Result<(Lists, &[u8]), Unread>
 }
 
 // The path that a text spells, where it stands behind the one before.
-fn spelled_path(
-    alloc: Global,
-    before: Option<&Path>,
-    text: &Line,
-) -> Result<Option<Path>, NoMemory>
+fn spelled_path(alloc: Global, before: Option<&Path>, text: &Line) -> Result<Option<Path>, NoMemory>
     ensures { IfOk result (λ path. path ≡ spelled (option_copied before.entry) text.now) }
 {
     let path = match read_path(alloc, text) {
@@ -317,11 +316,7 @@ fn joined(head: Head, ties: Ties, lists: Lists, texts: Texts) -> Stored
 
 // A record off the front of the bytes.
 #[tactic(auto, unfolding(crate::specs::Records::record_at))]
-pub(crate) fn record_at(
-    alloc: Global,
-    version: u8,
-    bytes: &[u8],
-) -> Result<(Stored, &[u8]), Unread>
+pub(crate) fn record_at(alloc: Global, version: u8, bytes: &[u8]) -> Result<(Stored, &[u8]), Unread>
     ensures { Gives (λ x. (x.0, x.1.now)) result (record_at version bytes.now) }
 {
     let (head, rest) = head_at(bytes)?;
@@ -334,12 +329,10 @@ pub(crate) fn record_at(
 /// The record of this version that stands in front of the bytes, and how many bytes it has. `BadRecord` comes exactly
 /// where none does: at the first byte that no record continues. A path that is out of order or isn't spelled as paths
 /// are is refused at its last byte.
-pub fn take_record(
-    alloc: Global,
-    version: u8,
-    bytes: &[u8],
-) -> Result<(Stored, usize), CodecFault>
-    ensures { IsTaken version bytes.now result }
+pub fn take_record(alloc: Global, version: u8, bytes: &[u8]) -> Result<(Stored, usize), CodecFault>
+    ensures exact { IsTaken version bytes.now result }
+    ensures spelled { version ≡ 1 → IfOk result (λ taken. IsSpelled taken.0 taken.1 bytes.now) }
+    ensures only { version ≡ 1 → (object : Stored) (rest : List ℕ) → IsStored object → bytes.now ≡ spelling object ++ rest → Takes object result }
 {
     match record_at(alloc, version, bytes) {
         Ok((stored, rest)) => {

@@ -2,7 +2,7 @@
 ghost use Rattle.std.specs.Prelude.{◌≡◌, ◌≤◌, ◌<◌, ◌^◌, ◌++◌, length, OnOk, IfOk};
 ghost use Rattle.std.specs.List.{flat_map};
 ghost use Rattle.muck_codec.specs.Spelling.{dbref_bytes, kind_byte, text_bytes, value_bytes, property_bytes, head_bytes, ties_bytes, lists_bytes, properties_bytes, lines_bytes, texts_bytes, spelling};
-ghost use Rattle.muck_codec.specs.Batches.{four_bytes, tune_bytes, batch_bytes, HasFewLines};
+ghost use Rattle.muck_codec.specs.Batches.{four_bytes, tune_bytes};
 
 use crate::stored::{Property, Stored};
 use muck_model::{Dbref, Kind, Line, NoMemory, Tune};
@@ -96,11 +96,7 @@ fn put_lists(out: &mut Vec<u8>, object: &Stored) -> Result<(), NoMemory>
     Ok(())
 }
 
-fn put_each_property(
-    alloc: Global,
-    props: &[Property],
-    out: &mut Vec<u8>,
-) -> Result<(), NoMemory>
+fn put_each_property(alloc: Global, props: &[Property], out: &mut Vec<u8>) -> Result<(), NoMemory>
     ensures { OnOk result (out.new.items ≡ out.old.items ++ flat_map property_bytes props.now) }
 {
     for property in props {
@@ -110,11 +106,7 @@ fn put_each_property(
 }
 
 #[tactic(auto, unfolding(crate::specs::Spelling::properties_bytes))]
-fn put_properties(
-    alloc: Global,
-    out: &mut Vec<u8>,
-    props: &[Property],
-) -> Result<(), NoMemory>
+fn put_properties(alloc: Global, out: &mut Vec<u8>, props: &[Property]) -> Result<(), NoMemory>
     ensures { OnOk result (out.new.items ≡ out.old.items ++ properties_bytes props.now) }
 {
     out.extend_from_slice(&(props.len() as u64).to_be_bytes())?;
@@ -177,8 +169,9 @@ fn put_four(out: &mut Vec<u8>, a: u32, b: u32, c: u32, d: u32) -> Result<(), NoM
     Ok(())
 }
 
+/// Writes the tune parameters behind the bytes. After `NoMemory` a part of them may stand there.
 #[tactic(auto, unfolding(crate::specs::Batches::tune_bytes))]
-fn put_tune(out: &mut Vec<u8>, tune: &Tune) -> Result<(), NoMemory>
+pub fn put_tune(out: &mut Vec<u8>, tune: &Tune) -> Result<(), NoMemory>
     ensures { OnOk result (out.new.items ≡ out.old.items ++ tune_bytes tune.now) }
 {
     put_four(
@@ -195,37 +188,5 @@ fn put_tune(out: &mut Vec<u8>, tune: &Tune) -> Result<(), NoMemory>
         tune.mpi_commands,
         tune.dump_interval,
     )?;
-    Ok(())
-}
-
-/// Writes a batch of these records behind the bytes, in its one spelling. After `NoMemory` a part of it may stand there.
-#[tactic(auto, unfolding(crate::specs::Batches::batch_bytes))]
-pub fn put_batch(
-    alloc: Global,
-    records: &[Stored],
-    tune: &Tune,
-    out: &mut Vec<u8>,
-) -> Result<(), NoMemory>
-    requires few { length records.now < 2 ^ 32 }
-    requires lines { HasFewLines records.now }
-    ensures { OnOk result (out.new.items ≡ out.old.items ++ batch_bytes records.now tune.now) }
-{
-    out.extend_from_slice(&(records.len() as u32).to_be_bytes())?;
-    put_records(alloc, records, out)?;
-    put_tune(out, tune)?;
-    Ok(())
-}
-
-fn put_records(
-    alloc: Global,
-    records: &[Stored],
-    out: &mut Vec<u8>,
-) -> Result<(), NoMemory>
-    requires { HasFewLines records.now }
-    ensures { OnOk result (out.new.items ≡ out.old.items ++ flat_map spelling records.now) }
-{
-    for object in records {
-        put_record(alloc, object, out)?;
-    }
     Ok(())
 }

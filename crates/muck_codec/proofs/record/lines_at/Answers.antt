@@ -1,4 +1,4 @@
-use Rattle.std.proofs.Common.{◌≡◌, ℕ, List, ◌++◌, ◌∷◌, [], ap, subst, sym, ◌∙◌}
+use Rattle.std.proofs.Common.{ℕ, List}
 use Rattle.std.proofs.lemmas.Result.{err_from_is_err_and}
 use Rattle.muck_codec.specs.Records.{line_at, lines_at}
 use Rattle.muck_codec.proofs.Loops.{goes_on, ends, is_done}
