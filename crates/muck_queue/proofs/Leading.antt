@@ -7,7 +7,7 @@ use Rattle.std.proofs.lemmas.Bool.Decides.{nat_tests}
 use Rattle.std.proofs.lemmas.Int.{ints}
 use Rattle.muck_queue.specs.declared.process.Process.{Process}
 use Rattle.muck_queue.specs.Queues.{is_before, earlier, earliest}
-use Rattle.muck_queue.specs.Leading.{IsAmong, NoneBefore}
+use Rattle.muck_queue.specs.inner.Leading.{IsAmong, NoneBefore}
 
 before : ℕ → ℤ → ℕ → ℤ → Bool
 before a m b n = nat_lt a b || (a == b && int_lt m n)

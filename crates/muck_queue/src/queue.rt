@@ -2,7 +2,7 @@
 ghost use Rattle.std.specs.Prelude.{◌≡◌, ◌≢◌, length, IfOk, OnOk, OnErr};
 ghost use Rattle.std.specs.Option.{option_copied, option_map_or};
 ghost use Rattle.muck_queue.specs.Queues.{empty_queue, process, next_due, claimed, without, is_full, added, is_tied, ended_tied, ended_running, trigger_cleared, number_most};
-ghost use Rattle.muck_queue.specs.Adding.{Adds};
+ghost use Rattle.muck_queue.specs.inner.Adding.{Adds};
 
 use crate::fault::QueueFault;
 use crate::process::Process;

@@ -1,0 +1,13 @@
+//! Disks, with what a crash at each moment may leave: the trait, a disk in memory, one that fails a chosen call, and a
+//! file of the system.
+#![tactic(auto)]
+
+mod disk;
+mod fail;
+mod file;
+mod memory;
+
+pub use disk::{Disk, DiskFault};
+pub use fail::FailDisk;
+pub use file::FileDisk;
+pub use memory::{Call, MemDisk};
