@@ -4,7 +4,7 @@ use Rattle.std.specs.Ordering.{int_eq}
 use Rattle.muf_model.specs.declared.fault.MufFault.TheVariants.{StackEmpty, BadType, BadArgument, BadAddress, Aborted}
 use Rattle.muf_model.specs.declared.prims.Primitive.{Primitive}
 use Rattle.muf_model.specs.declared.prims.Primitive.TheVariants.{Pop, Dup, DupTrue, Swap, Over, Rot, Rotate, Pick, Put, Nip, Tuck, DupN, LDup, PopN, Reverse, Depth, OpenMark, CloseMark, Fetch, Store, IsInt, IsString, IsDbref, IsArray, IsDictionary, IsAddress, IsLock, Execute, Abort}
-use Rattle.muf_model.specs.Datum.{Datum, int, text, object, variable, address, lock, items, dict, mark}
+use Rattle.muf_model.specs.Datum.{Datum, int, text, variable, address, mark}
 use Rattle.muf_model.specs.Measures.{is_true}
 use Rattle.muf_model.specs.Kinds.{is_so}
 use Rattle.muf_model.specs.Answer.{Answer, gives, stores, calls, refuses, unknown, Scope, variable_at, needing, fitting, counted}
