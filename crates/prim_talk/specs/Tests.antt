@@ -1,17 +1,14 @@
 -- What tests answer.
-use Rattle.std.specs.Prelude.{◌≡◌, ◌≤◌, Bool, not, ◌&&◌, if◌then◌else◌, List, [], ◌∷◌, length, ℤ, ℕ, Option, Some, None, Result, Ok, Err}
-use Rattle.std.specs.Option.{option_or, option_map_or}
+use Rattle.std.specs.Prelude.{◌≡◌, ◌≤◌, List, [], ◌∷◌, length, ℤ, ℕ, Option, Some, None, Result, Ok, Err}
+use Rattle.std.specs.Option.{option_or}
 use Rattle.spec_live.specs.Objects.{Entry}
 use Rattle.spec_live.specs.Lives.{Live}
 use Rattle.spec_rights.specs.declared.act.Actor.{Actor}
 use Rattle.muf_model.specs.declared.fault.MufFault.{MufFault}
-use Rattle.muf_model.specs.declared.fault.MufFault.TheVariants.{BadType, NoSuchObject}
 use Rattle.muf_model.specs.declared.needs.Need.{Need}
 use Rattle.muf_model.specs.Datum.{Datum, text, object}
-use Rattle.muf_model.specs.Kinds.{kind_of, suits}
 use Rattle.muf_model.specs.Needs.{Needs}
-use Rattle.muf_model.specs.Ladder.{short}
-use Rattle.muf_frame.specs.Answers.{as_object}
+use Rattle.muf_model.specs.Ladder.{short, walk, unfit, absent, distant}
 use Rattle.spec_prims.specs.Asking.{level_fault, is_there, near_fault}
 use Rattle.prim_talk.specs.declared.ready.Asked.{Asked}
 use Rattle.prim_talk.specs.declared.ready.Asked.TheVariants.{Kind, There, Near}
@@ -23,28 +20,11 @@ Passes None (Err f) = ⊥
 Passes (Some e) (Ok x) = ⊥
 Passes (Some e) (Err f) = f ≡ e
 
--- an item of another kind
-abbrev pub kind_fault : Need → Datum → Option MufFault
-kind_fault n x = if suits n.kind (kind_of x) then None else Some BadType
-
--- an object that must be there and isn't
-abbrev pub there_fault : List Entry → Need → Datum → Option MufFault
-there_fault es n x = option_map_or (λ d. if n.there && not (is_there es d) then Some NoSuchObject else None) (as_object x) None
-
--- an object that must be near and isn't
-abbrev pub reach_fault : Actor → List Entry → Need → Datum → Option MufFault
-reach_fault a es n x = option_map_or (λ d. if n.near then near_fault a es d else None) (as_object x) None
-
+-- what is asked of an item
 abbrev pub item_fault : Asked → Actor → List Entry → Need → Datum → Option MufFault
-item_fault Kind a es n x = kind_fault n x
-item_fault There a es n x = there_fault es n x
-item_fault Near a es n x = reach_fault a es n x
-
--- the first fault of a test of each item, from the top down
-abbrev pub walk : (Need → Datum → Option MufFault) → List Need → List Datum → Option MufFault
-walk test [] stack = None
-walk test (n ∷ ns) [] = None
-walk test (n ∷ ns) (x ∷ xs) = option_or (test n x) (walk test ns xs)
+item_fault Kind a es = unfit
+item_fault There a es = absent (is_there es)
+item_fault Near a es = distant (near_fault a es)
 
 -- no item is counted by another, and there are few
 abbrev pub IsFixed : Option Needs → Type 0

@@ -1,15 +1,14 @@
 // The tests that a primitive begins with.
 ghost use Rattle.std.specs.Prelude.{◌≡◌, ◌≤◌, length};
-ghost use Rattle.std.specs.Option.{option_map};
 ghost use Rattle.spec_rights.specs.Verdict.{verdict};
 ghost use Rattle.muf_model.specs.Prims.{needs_of};
 ghost use Rattle.muf_model.specs.View.{view};
 ghost use Rattle.muf_frame.specs.Shown.{Shown, flat, locked_by};
-ghost use Rattle.muf_frame.specs.Answers.{as_object};
 ghost use Rattle.muck_perm.specs.Guards.{world_of};
-ghost use Rattle.spec_prims.specs.Asking.{fault_of, level_fault, near_fault};
+ghost use Rattle.spec_prims.specs.Asking.{fault_of, is_there, level_fault, near_fault};
 ghost use Rattle.spec_prims.specs.Shared.{first_fault};
-ghost use Rattle.prim_talk.specs.Tests.{Passes, IsFixed, fixed_fault, item_fault, kind_fault, reach_fault, there_fault, walk};
+ghost use Rattle.prim_talk.specs.Tests.{Passes, IsFixed, fixed_fault, item_fault};
+ghost use Rattle.muf_model.specs.Ladder.{walk, unfit, absent, distant};
 
 use muck_model::Dbref;
 use muck_perm::{Guard, verdict};
@@ -51,20 +50,9 @@ fn reach_object(guard: &Guard, object: Dbref) -> Result<(), MufFault>
     permit(guard, &Act::Near { object })
 }
 
-// The object that an item is.
-#[tactic(auto, using(muf_model::proofs::Views::view_steps))]
-fn object_of(item: &Value) -> Option<Dbref>
-    ensures { option_map (λ d. d.0) result ≡ as_object (view item.now) }
-{
-    match item {
-        Value::Ref(d) => Some(*d),
-        _ => None,
-    }
-}
-
 // Whether an item is of its kind.
 fn test_kind(need: &Need, item: &Value) -> Result<(), MufFault>
-    ensures { Passes (kind_fault need.now (view item.now)) result }
+    ensures { Passes (unfit need.now (view item.now)) result }
 {
     if need.kind.suits(item.kind()) {
         Ok(())
@@ -74,12 +62,12 @@ fn test_kind(need: &Need, item: &Value) -> Result<(), MufFault>
 }
 
 // Whether an object is there that must be.
-#[tactic(auto, unfolding(spec_prims::specs::Asking::is_there))]
+#[tactic(auto, using(muf_model::proofs::Views::view_steps), unfolding(spec_prims::specs::Asking::is_there))]
 fn test_there(need: &Need, item: &Value, guard: &Guard) -> Result<(), MufFault>
-    ensures { Passes (there_fault guard.now.db.now need.now (view item.now)) result }
+    ensures { Passes (absent (is_there guard.now.db.now) need.now (view item.now)) result }
 {
-    match object_of(item) {
-        Some(object) if need.there && guard.db().get(object).is_none() => {
+    match item {
+        Value::Ref(object) if need.there && guard.db().get(*object).is_none() => {
             Err(MufFault::NoSuchObject)
         }
         _ => Ok(()),
@@ -87,11 +75,12 @@ fn test_there(need: &Need, item: &Value, guard: &Guard) -> Result<(), MufFault>
 }
 
 // Whether an object is near that must be.
+#[tactic(auto, using(muf_model::proofs::Views::view_steps))]
 fn test_near(need: &Need, item: &Value, guard: &Guard) -> Result<(), MufFault>
-    ensures { Passes (reach_fault guard.now.actor guard.now.db.now need.now (view item.now)) result }
+    ensures { Passes (distant (near_fault guard.now.actor guard.now.db.now) need.now (view item.now)) result }
 {
-    match object_of(item) {
-        Some(object) if need.near => reach_object(guard, object),
+    match item {
+        Value::Ref(object) if need.near => reach_object(guard, *object),
         _ => Ok(()),
     }
 }
@@ -123,11 +112,14 @@ fn test_items(asked: Asked, needs: &[Need], guard: &Guard, frame: &Frame) -> Res
 
 // Items of which none is counted by another: how many, the level that is wanted, what they are, and which of them must be
 // there and near.
+#[tactic(auto, using(crate::proofs::Walks::short_some))]
 fn test_fixed(needs: &[Need], level: u8, guard: &Guard, frame: &Frame) -> Result<(), MufFault>
     requires { length needs.now ≤ 64 }
     ensures { Passes (fixed_fault needs.now level guard.now.actor (locked_by (flat frame.now).marks) (flat frame.now).stack (world_of guard.now)) result }
 {
-    frame.need(needs.len())?;
+    if !needs.is_empty() {
+        frame.need(needs.len())?;
+    }
     reach_level(guard, level)?;
     test_items(Asked::Kind, needs, guard, frame)?;
     test_items(Asked::There, needs, guard, frame)?;

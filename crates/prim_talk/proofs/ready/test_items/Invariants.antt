@@ -1,6 +1,7 @@
 use Rattle.std.proofs.Common.{◌≡◌, ◌≤◌, ◌-◌, length, drop}
 use Rattle.muf_frame.specs.Shown.{flat}
-use Rattle.prim_talk.specs.Tests.{item_fault, walk}
+use Rattle.muf_model.specs.Ladder.{walk}
+use Rattle.prim_talk.specs.Tests.{item_fault}
 use Rattle.prim_talk.proofs.ready.test_items.Given as goal
 
 -- what was looked at so far passes
