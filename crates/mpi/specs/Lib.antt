@@ -1,0 +1,9 @@
+pub mod Variables
+pub mod Brackets
+pub mod Functions
+pub mod Hosting
+pub mod Made
+pub mod Thoughts
+pub mod Values
+pub mod Gathering
+pub mod Meaning
