@@ -7,3 +7,4 @@ pub mod Thoughts
 pub mod Values
 pub mod Gathering
 pub mod Meaning
+pub mod Memory

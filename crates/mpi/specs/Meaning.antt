@@ -1,5 +1,5 @@
 -- What a text means: its pieces, from left to right; a function evaluates its arguments, which are texts, one nesting deeper.
-use Rattle.std.specs.Prelude.{ℕ, ◌+◌, ◌-◌, zero, suc, Bool, true, false, not, eqb, ◌==◌, nat_lt, if◌then◌else◌, List, [], ◌∷◌, ◌++◌, map, length, drop, Option, Some, None, option_map, bytes_eq, slice_get, codes, Result, Ok, Err, ℤ, pos, negsuc, int_lt, int_le, ◌+ℤ◌}
+use Rattle.std.specs.Prelude.{ℕ, ◌+◌, ◌-◌, zero, suc, Bool, true, false, not, ◌==◌, nat_lt, if◌then◌else◌, List, [], ◌∷◌, ◌++◌, map, length, drop, Option, Some, None, option_map, bytes_eq, slice_get, codes, Result, Ok, Err, ℤ, pos, negsuc, int_lt, int_le, ◌+ℤ◌}
 use Rattle.std.specs.List.{before_first, position}
 use Rattle.std.specs.Option.{unwrap_or, option_and_then}
 use Rattle.std.specs.Fmt.{signed_decimal}
@@ -26,7 +26,7 @@ use Rattle.mpi.specs.Variables.{Variables}
 use Rattle.mpi.specs.Made.{is_long}
 use Rattle.mpi.specs.Gathering.{kept_of}
 use Rattle.mpi.specs.Thoughts.{State, Thought, gives, fails, followed, found, answers, sized, counted, keeps, variable, scoped, with_value, on_mind}
-use Rattle.mpi.specs.Values.{nth, is_true, truth, number_of, lowered, test_of, computed, text_of, items, rolled}
+use Rattle.mpi.specs.Values.{nth, alike, is_true, truth, number_of, lowered, test_of, computed, text_of, items, rolled}
 
 -- what else a text is evaluated with: the host's powers, and the object that carries it
 pub record Scene (S : Type 0) : Type 0 where
@@ -113,7 +113,7 @@ module _ {S : Type 0} where
 
   -- of the object at that place, or `this`
   abbrev pub about : (Dbref → Ask) → ℕ → Scene S → List (List ℕ) → S → Option Ask
-  about ask at scene values w = option_map ask (object_at scene.this at scene values w)
+  about f at scene values w = option_map f (object_at scene.this at scene values w)
 
   -- of two objects
   abbrev pub both : {A : Type 0} → (Dbref → Dbref → A) → Scene S → List (List ℕ) → S → Option A
@@ -157,7 +157,7 @@ module _ {S : Type 0} where
 
   -- a deed, and the text that it gives
   unfoldable pub doing : Scene S → List ℕ → Deed → Thought S (List ℕ)
-  doing scene text deed s = (done text (scene.powers.does deed s.1).0, (s.0, (scene.powers.does deed s.1).1))
+  doing scene text d s = (done text (scene.powers.does d s.1).0, (s.0, (scene.powers.does d s.1).1))
 
   -- a random number up to n; none is drawn where n is below 1
   abbrev drawn : Scene S → ℤ → Thought S (List ℕ)
@@ -174,7 +174,7 @@ module _ {S : Type 0} where
   acted_by Text f scene values s = followed (found (text_of f values)) sized s
   acted_by Chance f scene values s = diced scene (number_of (nth 0 values)) s
   acted_by Object f scene values s = found (number_answer f scene values s.1) s
-  acted_by group.Ask f scene values s = followed (found (ask_of f scene values s.1)) (λ ask. answers (scene.powers.tells ask s.1)) s
+  acted_by group.Ask f scene values s = followed (found (ask_of f scene values s.1)) (λ question. answers (scene.powers.tells question s.1)) s
   acted_by group.Deed f scene values s = followed (found (deed_of f scene values s.1)) (doing scene (given_by f values)) s
   acted_by Lazy f scene values s = fails BadCount s
 
@@ -204,7 +204,7 @@ module _ {S : Type 0} where
   unfoldable pub until : Bool → (List ℕ → Thought S (List ℕ)) → List (List ℕ) → Thought S (List ℕ)
   until wanted go [] = gives (truth (not wanted))
   until wanted go (text ∷ more) =
-      followed (go text) (λ value. if eqb (is_true value) wanted then gives (truth wanted) else until wanted go more)
+      followed (go text) (λ value. if alike (is_true value) wanted then gives (truth wanted) else until wanted go more)
 
   -- at most so many turns, each a command: the second text while the first is true; the last one is the answer
   unfoldable pub turns_while : ℕ → (List ℕ → Thought S (List ℕ)) → List ℕ → List ℕ → List ℕ → Thought S (List ℕ)

@@ -53,14 +53,14 @@ order_as _ _ x y = slice_cmp nat_cmp (lowered x) (lowered y)
 unfoldable pub order_of : List ℕ → List ℕ → Ordering
 order_of x y = order_as (number_read x) (number_read y) x y
 
-abbrev pub differ : Bool → Bool → Bool
-differ true b = not b
-differ false b = b
+abbrev pub alike : Bool → Bool → Bool
+alike true b = b
+alike false b = not b
 
 -- what a function that tests answers, of two texts or of the first
 abbrev pub test_of : Function → List ℕ → List ℕ → Bool
 test_of Not x y = not (is_true x)
-test_of Xor x y = differ (is_true x) (is_true y)
+test_of Xor x y = not (alike (is_true x) (is_true y))
 test_of Equal x y = is_eq (order_of x y)
 test_of Unequal x y = not (is_eq (order_of x y))
 test_of Greater x y = is_gt (order_of x y)

@@ -85,6 +85,7 @@ fn part_len(wanted: u8, text: &[u8]) -> usize
 }
 
 /// A piece of a text.
+#[derive(Clone, Copy)]
 pub(crate) enum Piece<'a> {
     /// A byte for itself.
     Byte(u8),
@@ -100,6 +101,7 @@ fn meant(byte: u8) -> u8
 }
 
 /// The first piece of a text, and what stands behind it.
+#[derive(Clone, Copy)]
 pub(crate) struct Ahead<'a> {
     pub(crate) piece: Piece<'a>,
     pub(crate) rest: &'a [u8],

@@ -161,7 +161,7 @@ impl Gathered {
 
     // An item more in the list; `TooLong` exactly where that would be too long.
     fn add(&mut self, item: &[u8]) -> Result<(), MpiFault>
-        requires { text_fault item.now ≡ None }
+        requires item { text_fault item.now ≡ None }
         requires bytes { length self.old.bytes.items ≤ 4096 }
         ensures { Gathers (Some (longer (seen_gathered self.old) item.now)) (seen_gathered self.new) result }
     {

@@ -25,7 +25,7 @@ pub(crate) fn nth(values: &[Line], at: usize) -> &[u8]
 pub(crate) fn is_true(text: &[u8]) -> bool
     ensures { result ≡ is_true text.now }
 {
-    !(text.is_empty() || text == b"0")
+    !(text.is_empty() || text == b"0".as_slice())
 }
 
 // Whether all bytes are digits.
