@@ -8,3 +8,4 @@ pub mod Values
 pub mod Gathering
 pub mod Meaning
 pub mod Memory
+pub mod Worked

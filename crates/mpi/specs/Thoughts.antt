@@ -43,7 +43,7 @@ module _ {S : Type 0} where
   abbrev pub fails : {A : Type 0} → MpiFault → Thought S A
   fails fault s = (Err fault, s)
 
-  abbrev carried : {A B : Type 0} → (A → Thought S B) → Result A MpiFault → State S → Result B MpiFault × State S
+  abbrev pub carried : {A B : Type 0} → (A → Thought S B) → Result A MpiFault → State S → Result B MpiFault × State S
   carried next (Ok x) s = next x s
   carried next (Err fault) s = (Err fault, s)
 
@@ -86,8 +86,12 @@ module _ {S : Type 0} where
   unfoldable pub scoped : {A : Type 0} → List ℕ → Thought S A → Thought S A
   scoped name thought s = ((thought s).0, back name (get s.0.variables name) (thought s).1)
 
-  -- the answer, and the state after it, are what the thought makes of the state before; want of memory alone is free
+  -- the answer and the state after it are these; want of memory alone is free
+  abbrev pub Comes : {A : Type 0} → Result A MpiFault × State S → State S → Result A MpiFault → Type 0
+  Comes meant new (Ok x) = meant ≡ (Ok x, new)
+  Comes meant new (Err NoMemory) = Unit {0}
+  Comes meant new (Err fault) = meant ≡ (Err fault, new)
+
+  -- they are what the thought makes of the state before
   abbrev pub Thinks : {A : Type 0} → Thought S A → State S → State S → Result A MpiFault → Type 0
-  Thinks thought old new (Ok x) = thought old ≡ (Ok x, new)
-  Thinks thought old new (Err NoMemory) = Unit {0}
-  Thinks thought old new (Err fault) = thought old ≡ (Err fault, new)
+  Thinks thought old new answer = Comes (thought old) new answer

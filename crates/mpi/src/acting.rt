@@ -129,7 +129,7 @@ fn deed_of<H: Host>(
 }
 
 // A deed, and the text that its function gives.
-#[tactic(auto, unfolding(crate::specs::Meaning::doing))]
+#[tactic(auto, using(crate::proofs::Thinking::thinking), unfolding(crate::specs::Meaning::doing))]
 fn does<H: Host>(
     place: Place,
     host: &mut H,
@@ -170,7 +170,7 @@ fn number_answer<H: Host>(
 }
 
 // A random number up to n; none is drawn where n is below 1.
-#[tactic(auto, unfolding(crate::specs::Meaning::diced))]
+#[tactic(auto, using(crate::proofs::Thinking::thinking), unfolding(crate::specs::Meaning::diced))]
 fn diced<H: Host>(place: Place, host: &mut H, mind: &mut Mind, n: i32) -> Result<Line, MpiFault>
     ensures thinks { Thinks (diced (scene_of H.powers place.this) n) (mind.old, H.seen host.old) (mind.new, H.seen host.new) result }
     ensures same { H.same host.old host.new }
@@ -213,7 +213,7 @@ pub(crate) fn keep(
 }
 
 // The functions of variables.
-#[tactic(auto, unfolding(crate::specs::Meaning::variable_row))]
+#[tactic(auto, using(crate::proofs::Thinking::thinking), unfolding(crate::specs::Meaning::variable_row))]
 fn on_variable(
     alloc: Global,
     mind: &mut Mind,
@@ -238,7 +238,7 @@ fn on_variable(
 }
 
 /// What a function makes of its arguments.
-#[tactic(auto, unfolding(crate::specs::Meaning::acted))]
+#[tactic(auto, using(crate::proofs::Thinking::thinking), unfolding(crate::specs::Meaning::acted))]
 pub(crate) fn act<H: Host>(
     place: Place,
     host: &mut H,

@@ -66,6 +66,7 @@ fn text_at<'a>(texts: &[&'a [u8]], at: usize) -> &'a [u8]
 }
 
 // What a text means where so many functions may stand one in another.
+#[tactic(auto, using(crate::proofs::Thinking::thinking), unfolding(crate::specs::Meaning::spelled))]
 #[cycle(evaluating)]
 fn text<H: Host>(
     place: Place,
@@ -95,6 +96,7 @@ fn text<H: Host>(
 }
 
 // Enters what stands between brackets, which is a command.
+#[tactic(auto, using(crate::proofs::Thinking::thinking), unfolding(crate::specs::Meaning::entered, crate::specs::Meaning::called))]
 #[cycle(evaluating)]
 fn call<H: Host>(
     place: Place,
@@ -118,6 +120,7 @@ fn call<H: Host>(
 }
 
 // A function by its name, with the texts of its arguments.
+#[tactic(auto, using(crate::proofs::Thinking::thinking))]
 #[cycle(evaluating)]
 fn function<H: Host>(
     place: Place,
@@ -156,6 +159,7 @@ fn function<H: Host>(
 }
 
 // The values of the arguments, from left to right.
+#[tactic(auto, using(crate::proofs::Thinking::thinking), unfolding(crate::specs::Meaning::each_value))]
 #[cycle(evaluating)]
 fn values_of<H: Host>(
     place: Place,
@@ -176,6 +180,7 @@ fn values_of<H: Host>(
 }
 
 // A text with a new variable, which is then as it was before.
+#[tactic(auto, using(crate::proofs::Thinking::thinking), unfolding(crate::specs::Meaning::with_variable, crate::specs::Thoughts::scoped, crate::specs::Thoughts::keeps))]
 #[cycle(evaluating)]
 fn with_variable<H: Host>(
     place: Place,
@@ -198,6 +203,7 @@ fn with_variable<H: Host>(
 }
 
 // The second text where the first is true, else the third, or nothing.
+#[tactic(auto, using(crate::proofs::Thinking::thinking), unfolding(crate::specs::Meaning::chosen))]
 #[cycle(evaluating)]
 fn chosen<H: Host>(
     place: Place,
@@ -216,6 +222,7 @@ fn chosen<H: Host>(
 }
 
 // Whether one of the texts is true, or false, up to the first that is.
+#[tactic(auto, using(crate::proofs::Thinking::thinking), unfolding(crate::specs::Meaning::until))]
 #[cycle(evaluating)]
 fn until<H: Host>(
     place: Place,
@@ -239,6 +246,7 @@ fn until<H: Host>(
 }
 
 // The second text while the first is true, each turn a command.
+#[tactic(auto, using(crate::proofs::Thinking::thinking), unfolding(crate::specs::Meaning::while_true, crate::specs::Meaning::turns_while, crate::specs::Thoughts::counted))]
 #[cycle(evaluating)]
 fn while_true<H: Host>(
     place: Place,
@@ -264,6 +272,7 @@ fn while_true<H: Host>(
 }
 
 // The body for each number, each turn a command.
+#[tactic(auto, using(crate::proofs::Thinking::thinking), unfolding(crate::specs::Meaning::turns_for, crate::specs::Thoughts::counted, crate::specs::Thoughts::keeps))]
 #[cycle(evaluating)]
 fn turns_for<H: Host>(
     place: Place,
@@ -297,6 +306,7 @@ fn turns_for<H: Host>(
 }
 
 // The last text for the numbers of a range, with a new variable.
+#[tactic(auto, using(crate::proofs::Thinking::thinking), unfolding(crate::specs::Meaning::for_numbers, crate::specs::Thoughts::scoped))]
 #[cycle(evaluating)]
 fn for_numbers<H: Host>(
     place: Place,
@@ -326,6 +336,7 @@ fn for_numbers<H: Host>(
 }
 
 // The body for each item of a list.
+#[tactic(auto, using(crate::proofs::Thinking::thinking), unfolding(crate::specs::Meaning::each_item, crate::specs::Thoughts::keeps))]
 #[cycle(evaluating)]
 fn each_item<H: Host>(
     place: Place,
@@ -352,6 +363,7 @@ fn each_item<H: Host>(
 }
 
 // What is gathered of the items of a list, with a new variable.
+#[tactic(auto, using(crate::proofs::Thinking::thinking), unfolding(crate::specs::Meaning::for_items, crate::specs::Thoughts::scoped))]
 #[cycle(evaluating)]
 fn for_items<H: Host>(
     place: Place,

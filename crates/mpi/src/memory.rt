@@ -2,6 +2,7 @@
 ghost use Rattle.std.specs.Prelude.{◌≡◌, [], IfOk, Ok};
 ghost use Rattle.std.specs.Option.{option_copied, unwrap_or};
 ghost use Rattle.mpi.specs.Hosting.{Means, Meant};
+ghost use Rattle.mpi.specs.Worked.{Worked};
 ghost use Rattle.mpi.specs.Memory.{name_in, prop_in, stored_in, told_in};
 
 use crate::fault::MpiFault;
@@ -42,6 +43,12 @@ impl MemHost {
             most,
         })
     }
+
+    /// Some texts with what they mean for such a host.
+    #[tactic(auto, using(crate::proofs::Worked::worked))]
+    pub fn worked()
+        ensures { Worked }
+    {}
 
     /// What was told so far.
     pub fn told(&self) -> &[Line]
@@ -106,6 +113,7 @@ fn text_or_empty(alloc: Global, text: Option<&Line>) -> Result<Line, MpiFault>
 
 impl Host for MemHost {
     ghost use Rattle.std.specs.Prelude.{◌≡◌};
+    ghost use Rattle.mpi.specs.Worked.{Worked};
     ghost use Rattle.mpi.specs.Memory.{memory};
 
     type Seen = MemHost;
