@@ -1,5 +1,5 @@
 pub mod Maps
 pub mod Pieces
-pub mod Texts
+pub mod Inside
 pub mod Thinking
 pub mod Worked

@@ -1,8 +1,9 @@
 -- More room than a text needs for its pieces or arguments changes nothing.
 use Rattle.std.proofs.Common.{◌≡◌, ℕ, ◌+◌, ◌<◌, ◌≤◌, zero, suc, Bool, true, false, cond, List, [], ◌∷◌, length, drop, refl, sym, ap, ◌∙◌, arith, nat_lt}
+use Rattle.std.specs.Prelude.{◌==◌}
 use Rattle.std.proofs.lemmas.List.{length-drop}
 use Rattle.std.proofs.lemmas.Bool.{ltb-true, lt-ltb}
-use Rattle.mpi.specs.Brackets.{begun, part_len, part, behind_part, arguments_up_to, arguments}
+use Rattle.mpi.specs.Brackets.{begun, part_len, part, behind_part, arguments_up_to, arguments, Piece, byte, escaped, call_ahead, first_piece, pieces_up_to, pieces}
 
 behind_shorter : (w : ℕ) (text : List ℕ) (n : ℕ) → part_len w begun text < length text → length text ≤ suc n → length (behind_part w text) ≤ n
 behind_shorter w text n h le = omega (arith, h, le, length-drop (suc (part_len w begun text)) text)
@@ -39,3 +40,35 @@ next_argument text h =
     (ap (λ rest. part 44 text ∷ rest) (room (length text) (suc (length (behind_part 44 text))) (behind_part 44 text) (omega (arith, h, length-drop (suc (part_len 44 begun text)) text)) (omega arith)))
 
 pub ruleset argument_steps = (last_argument, next_argument)
+
+escaped_shorter : (more : List ℕ) → length (escaped more).1 ≤ length more
+escaped_shorter [] = omega arith
+escaped_shorter (b ∷ more) = omega arith
+
+chosen_shorter : (t u : Bool) (b : ℕ) (more : List ℕ) → length (cond t (escaped more) (cond u (call_ahead more) (byte b, more))).1 ≤ length more
+chosen_shorter true u b more = escaped_shorter more
+chosen_shorter false true b more = omega (arith, length-drop (suc (part_len 125 begun more)) more)
+chosen_shorter false false b more = omega arith
+
+-- what stands behind the first piece is no longer than what stands behind the first byte
+pub behind_first : (b : ℕ) (more : List ℕ) → length (first_piece b more).1 ≤ length more
+behind_first b more = chosen_shorter (b == 92) (b == 123) b more
+
+no_pieces : (n : ℕ) → pieces_up_to n [] ≡ []
+unfolding pieces_up_to
+no_pieces zero = refl
+no_pieces (suc n) = refl
+
+-- with room for the whole text there are all pieces
+piece_room : (n m : ℕ) (text : List ℕ) → length text ≤ n → length text ≤ m → pieces_up_to n text ≡ pieces_up_to m text
+unfolding pieces_up_to
+piece_room n m [] h k = no_pieces n ∙ sym (no_pieces m)
+piece_room zero m (b ∷ more) h k = absurd (omega (arith, h))
+piece_room (suc n) zero (b ∷ more) h k = absurd (omega (arith, k))
+piece_room (suc n) (suc m) (b ∷ more) h k =
+    ap (λ rest. (first_piece b more).0 ∷ rest) (piece_room n m (first_piece b more).1 (omega (arith, h, behind_first b more)) (omega (arith, k, behind_first b more)))
+
+-- the first piece, and those of what stands behind it
+pub pieces_ahead : (b : ℕ) (more : List ℕ) → pieces (b ∷ more) ≡ (first_piece b more).0 ∷ pieces (first_piece b more).1
+unfolding pieces_up_to
+pieces_ahead b more = ap (λ rest. (first_piece b more).0 ∷ rest) (piece_room (length more) (length (first_piece b more).1) (first_piece b more).1 (behind_first b more) (omega arith))

@@ -29,7 +29,7 @@ abbrev pub seen_gathered : Gathered → Option (List ℕ)
 seen_gathered g = gathered_if g.begun g.bytes.items
 
 abbrev is_all_long : Option (List ℕ) → Bool
-is_all_long list = option_map_or false is_long list
+is_all_long list = option_map_or is_long list false
 
 -- what is gathered is what is meant, or that would be too long; want of memory alone is free
 abbrev pub Gathers : Option (List ℕ) → Option (List ℕ) → Result (Unit {0}) MpiFault → Type 0

@@ -30,14 +30,3 @@ IsGrown old more new (Err fault) = (fault ≡ TooLong) × (is_long (old ++ more)
 abbrev pub found_text : Option (List ℕ) → Result (List ℕ) MpiFault
 found_text None = Err BadValue
 found_text (Some text) = text_or_long text
-
--- what may be lacking, or be too long
-abbrev pub found_text : Option (List ℕ) → Result (List ℕ) MpiFault
-found_text None = Err BadValue
-found_text (Some text) = text_or_long text
-
--- the bytes, or that they would be too many; want of memory alone is free
-abbrev pub IsMade : List ℕ → Result (Vec ℕ) MpiFault → Type 0
-IsMade text (Ok bytes) = bytes.items ≡ text
-IsMade text (Err NoMemory) = Unit {0}
-IsMade text (Err fault) = text_or_long text ≡ Err fault

@@ -1,5 +1,5 @@
 -- What a text means: its pieces, from left to right; a function evaluates its arguments, which are texts, one nesting deeper.
-use Rattle.std.specs.Prelude.{ℕ, ◌+◌, ◌-◌, zero, suc, Bool, true, false, not, ◌==◌, nat_lt, if◌then◌else◌, List, [], ◌∷◌, ◌++◌, map, length, drop, Option, Some, None, option_map, bytes_eq, slice_get, codes, Result, Ok, Err, ℤ, pos, negsuc, int_lt, int_le, ◌+ℤ◌}
+use Rattle.std.specs.Prelude.{◌≡◌, ℕ, ◌+◌, ◌-◌, zero, suc, Bool, true, false, not, ◌==◌, nat_lt, if◌then◌else◌, List, [], ◌∷◌, ◌++◌, map, length, drop, Option, Some, None, option_map, bytes_eq, slice_get, codes, Result, Ok, Err, ℤ, pos, negsuc, int_lt, int_le, ◌+ℤ◌}
 use Rattle.std.specs.List.{before_first, position}
 use Rattle.std.specs.Option.{unwrap_or, option_and_then}
 use Rattle.std.specs.Fmt.{signed_decimal}
@@ -41,7 +41,7 @@ unfoldable pub nesting_most : ℕ
 nesting_most = 64
 
 abbrev pub as_text : Option (List ℕ) → List ℕ
-as_text list = unwrap_or [] list
+as_text list = unwrap_or list []
 
 -- a positive step goes up to the end, any other one down to it
 abbrev pub is_within : ℤ → ℤ → ℤ → Bool
@@ -92,6 +92,11 @@ from_old _ name value (Some old) m = (Ok old, m)
 -- the functions of a variable that is there
 unfoldable pub variable_row : Function → List ℕ → List ℕ → Mind → Result (List ℕ) MpiFault × Mind
 variable_row f name value m = from_old f name value (get m.variables name) m
+
+-- what a deed gives, unless it has a fault
+abbrev done : List ℕ → Option MpiFault → Result (List ℕ) MpiFault
+done text None = Ok text
+done text (Some fault) = Err fault
 
 module _ {S : Type 0} where
   ----------------------------------------------------------------------------------------------------------------------------
@@ -150,10 +155,6 @@ module _ {S : Type 0} where
 
   ----------------------------------------------------------------------------------------------------------------------------
   -- Functions whose arguments are evaluated.
-
-  abbrev done : List ℕ → Option MpiFault → Result (List ℕ) MpiFault
-  done text None = Ok text
-  done text (Some fault) = Err fault
 
   -- a deed, and the text that it gives
   unfoldable pub doing : Scene S → List ℕ → Deed → Thought S (List ℕ)

@@ -1,6 +1,5 @@
 -- What a host in memory answers and changes.
-use Rattle.std.specs.Prelude.{ℕ, ◌+◌, ◌%◌, ◌==◌, Bool, true, false, ◌&&◌, if◌then◌else◌, List, [], ◌∷◌, ◌++◌, Option, Some, None, option_map, Result, Ok, Err, pos, negsuc, slice_get, reverse, find, bytes_eq, codes, int_lt}
-use Rattle.std.specs.Int.{nat_abs}
+use Rattle.std.specs.Prelude.{ℕ, ◌+◌, ◌%◌, ◌==◌, Bool, true, false, ◌&&◌, if◌then◌else◌, List, [], ◌∷◌, ◌++◌, Option, Some, None, option_map, Result, Ok, Err, pos, negsuc, slice_get, reverse, find, bytes_eq, codes, int_lt, nat_abs}
 use Rattle.std.specs.Option.{unwrap_or, option_and_then}
 use Rattle.std.specs.Ordering.{int_eq}
 use Rattle.muck_model.specs.Numbers.{dbref_of, numbered}
@@ -35,10 +34,10 @@ is_prop path d p = int_eq p.object.0 d.0 && bytes_eq p.path path
 
 -- the property that was stored last
 unfoldable pub prop_in : List ℕ → Dbref → MemHost → List ℕ
-prop_in path d h = unwrap_or [] (option_map (λ p. p.text) (find (is_prop path d) (reverse h.props)))
+prop_in path d h = unwrap_or (option_map (λ p. p.text) (find (is_prop path d) (reverse h.props))) []
 
 abbrev pub tells_in : Ask → MemHost → Result (List ℕ) MpiFault
-tells_in (ask.Name d) h = Ok (unwrap_or [] (name_in h d))
+tells_in (ask.Name d) h = Ok (unwrap_or (name_in h d) [])
 tells_in (ask.Prop path d) h = Ok (prop_in path d h)
 tells_in (ask.PropHere path d) h = Ok (prop_in path d h)
 tells_in _ h = Ok []

@@ -1,5 +1,5 @@
 -- Texts as truths, numbers and lists, and what the functions of these give.
-use Rattle.std.specs.Prelude.{ℕ, ◌+◌, ◌-◌, ◌/◌, ◌%◌, zero, suc, Bool, true, false, not, ◌&&◌, ◌||◌, ◌==◌, nat_eq, nat_le, if◌then◌else◌, List, [], ◌∷◌, ◌++◌, map, length, take, drop, reverse, Option, Some, None, option_map, bytes_eq, slice_get, codes, ℤ, pos, negsuc, int_lt, int_le}
+use Rattle.std.specs.Prelude.{ℕ, ◌+◌, ◌-◌, ◌/◌, ◌%◌, zero, suc, Bool, true, false, not, ◌&&◌, ◌||◌, ◌==◌, nat_eq, nat_le, if◌then◌else◌, List, [], ◌∷◌, ◌++◌, map, length, take, drop, reverse, Option, Some, None, option_map, bytes_eq, slice_get, codes, ℤ, pos, negsuc, int_lt, int_le, int_rem}
 use Rattle.std.specs.Char.{to_ascii_lowercase, to_ascii_uppercase}
 use Rattle.std.specs.List.{list_all, fold, prefix_len, position, slice_split, join_with_byte, starts_with}
 use Rattle.std.specs.Option.{unwrap_or, option_map_or}
@@ -7,7 +7,7 @@ use Rattle.std.specs.Fmt.{decimal, signed_decimal}
 use Rattle.std.specs.Ordering.{nat_cmp, int_cmp, int_eq, is_eq, is_lt, is_gt, is_le, is_ge}
 use Rattle.std.specs.declared.cmp.Ordering.{Ordering}
 use Rattle.std.specs.Cmp.Lexicographic.{slice_cmp}
-use Rattle.std.specs.Int.{w32, int_wrapping_add, int_wrapping_sub, int_wrapping_mul, int_wrapping_div, int_wrapping_neg, int_rem, int_signum}
+use Rattle.std.specs.Int.{w32, int_wrapping_add, int_wrapping_sub, int_wrapping_mul, int_wrapping_div, int_wrapping_neg, int_signum}
 use Rattle.muck_model.specs.Decimal.{is_digit, value_from}
 use Rattle.muck_model.specs.Numbers.{below}
 use Rattle.mpi.specs.declared.functions.Function.{Function}
@@ -15,7 +15,7 @@ use Rattle.mpi.specs.declared.functions.Function.TheVariants.{Nothing, Xor, Not,
 
 -- the argument at a place from 0; one that is left out is empty
 abbrev pub nth : ℕ → List (List ℕ) → List ℕ
-nth n values = unwrap_or [] (slice_get values n)
+nth n values = unwrap_or (slice_get values n) []
 
 -- the empty text and `0` are false, all others true
 unfoldable pub is_true : List ℕ → Bool
@@ -40,7 +40,7 @@ number_read (b ∷ more) =
 
 -- a text that is no number counts as 0
 abbrev pub number_of : List ℕ → ℤ
-number_of text = unwrap_or (pos 0) (number_read text)
+number_of text = unwrap_or (number_read text) (pos 0)
 
 abbrev pub lowered : List ℕ → List ℕ
 lowered text = map to_ascii_lowercase text
@@ -120,7 +120,7 @@ place_in (b ∷ more) text = if begins_with (b ∷ more) text then Some 0 else o
 
 -- a place from 1, or 0 where there is none
 abbrev pub from_one : Option ℕ → ℕ
-from_one place = option_map_or 0 suc place
+from_one place = option_map_or suc place 0
 
 -- the empty text is sought nowhere
 abbrev pub found_in : List ℕ → List ℕ → Option ℕ
@@ -155,7 +155,7 @@ bytes_between text p q = if int_le (pos 1) p && int_le p q then Some (cut p q te
 
 -- the second place is the first where it is left out
 abbrev pub middle : List (List ℕ) → Option (List ℕ)
-middle values = bytes_between (nth 0 values) (number_of (nth 1 values)) (number_of (unwrap_or (nth 1 values) (slice_get values 2)))
+middle values = bytes_between (nth 0 values) (number_of (nth 1 values)) (number_of (unwrap_or (slice_get values 2) (nth 1 values)))
 
 -- the items of a list, between bytes 13; the empty text has none
 unfoldable pub items : List ℕ → List (List ℕ)

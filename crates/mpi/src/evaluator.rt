@@ -46,7 +46,7 @@ fn behind_name(body: &[u8]) -> Option<&[u8]>
 
 // The texts of the arguments: none without a `:`, and one at least behind it.
 fn texts_of<'a>(alloc: Global, behind: Option<&'a [u8]>) -> Result<Vec<&'a [u8]>, NoMemory>
-    requires { IfSome behind (λ text. text_fault text.now ≡ None) }
+    requires { IfSome behind.entry (λ text. text_fault text.now ≡ None) }
     ensures { IfOk result (λ v. mapped (λ x. x.now) v.items ≡ texts_of (option_copied behind)) }
 {
     match behind {

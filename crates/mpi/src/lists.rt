@@ -4,7 +4,8 @@ ghost use Rattle.std.specs.Option.{option_copied};
 ghost use Rattle.mpi.specs.Made.{text_or_long};
 ghost use Rattle.mpi.specs.Hosting.{seen_as, Means};
 ghost use Rattle.muck_model.specs.Bytes.{text_fault};
-ghost use Rattle.mpi.specs.Values.{past_spaces, stripped, begins_with, place_in, found_in, replaced, substituted, above, cut, bytes_between, items, listed, from_one, place_of_item, longer, middle};
+ghost use Rattle.mpi.specs.Gathering.{seen_gathered, Gathers, longer, kept_of};
+ghost use Rattle.mpi.specs.Values.{past_spaces, stripped, place_in, found_in, substituted, above, cut, items, listed, place_of_item, middle};
 
 use crate::fault::MpiFault;
 use crate::functions::Function;

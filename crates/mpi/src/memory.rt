@@ -70,7 +70,7 @@ impl MemHost {
     // The property that was stored last.
     #[tactic(auto, unfolding(crate::specs::Memory::prop_in))]
     fn prop(&self, path: &Line, d: Dbref) -> Option<&Line>
-        ensures { unwrap_or [] (option_copied result) ≡ prop_in path.now d self.now }
+        ensures { unwrap_or (option_copied result) [] ≡ prop_in path.now d self.now }
     {
         let mut found = None;
         for prop in self.props.as_slice() {
@@ -103,7 +103,7 @@ impl MemHost {
 
 // The text, or the empty one.
 fn text_or_empty(alloc: Global, text: Option<&Line>) -> Result<Line, MpiFault>
-    ensures { Means (Ok (unwrap_or [] (option_copied text))) result }
+    ensures { Means (Ok (unwrap_or (option_copied text.entry) [])) result }
 {
     match text {
         Some(text) => Ok(text.copy(alloc)?),

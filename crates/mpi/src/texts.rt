@@ -10,7 +10,7 @@ use muck_model::{Line, LineFault, NoMemory, TEXT_MOST};
 use std::alloc::Global;
 
 /// The text of these bytes, which may be too many.
-#[tactic(auto, using(crate::proofs::Texts::text_steps), unfolding(crate::specs::Made::is_long, muck_model::specs::Bytes::text_most))]
+#[tactic(auto, using(crate::proofs::Inside::text_steps), unfolding(crate::specs::Made::is_long, muck_model::specs::Bytes::text_most))]
 pub(crate) fn line_of(bytes: Vec<u8>) -> Result<Line, MpiFault>
     requires { Inside bytes.items }
     ensures { Means (text_or_long bytes.items) result }
