@@ -1,10 +1,15 @@
 -- Bytes that a text may have, and how many it may have.
-use Rattle.std.proofs.Common.{◌≡◌, ℕ, ◌<◌, ◌≤◌, ◌+◌, zero, suc, Bool, true, false, cond, List, [], ◌∷◌, ◌++◌, length, take, drop, None, refl, arith}
+use Rattle.std.proofs.Common.{◌≡◌, ℕ, ◌<◌, ◌≤◌, ◌+◌, zero, suc, Bool, true, false, cond, List, [], ◌∷◌, ◌++◌, length, take, drop, Some, None, refl, inl, inr, arith}
 use Rattle.std.specs.Prelude.{not, ◌&&◌}
 use Rattle.std.specs.List.{list_all, position_or_len, prefix_len}
-use Rattle.std.proofs.lemmas.Bool.{le-ltb, false≢true}
-use Rattle.muck_model.specs.Bytes.{is_outside, text_most, text_fault}
+use Rattle.std.proofs.lemmas.Bool.{le-ltb, lt-ltb, cases_lt, false≢true}
+use Rattle.std.proofs.lemmas.List.{length-take, length-drop}
+use Rattle.std.proofs.lemmas.List.Sums.{prefix_len-le-length}
+use Rattle.muck_model.specs.Bytes.{is_outside, text_most, fault_of, text_fault}
 use Rattle.mpi.specs.Made.{Inside}
+
+abbrev is_inside : ℕ → Bool
+is_inside b = not (is_outside b)
 
 all_prefix : (p : ℕ → Bool) (xs : List ℕ) → list_all p xs ≡ true → prefix_len p xs ≡ length xs
 all_prefix p [] h = refl
@@ -14,11 +19,63 @@ all_prefix p (x ∷ xs) h =
       | false ↦ λ e. absurd (false≢true e)
     ] h
 
+prefix_all : (p : ℕ → Bool) (xs : List ℕ) → prefix_len p xs ≡ length xs → list_all p xs ≡ true
+prefix_all p [] h = refl
+prefix_all p (x ∷ xs) h =
+    elim (p x) as (λ t. cond t (1 + prefix_len p xs) 0 ≡ suc (length xs) → t && list_all p xs ≡ true) [
+      | true ↦ λ e. prefix_all p xs (omega (arith, e))
+      | false ↦ λ e. absurd (omega (arith, e))
+    ] h
+
+all_take : (p : ℕ → Bool) (n : ℕ) (xs : List ℕ) → list_all p xs ≡ true → list_all p (take n xs) ≡ true
+all_take p zero xs h = refl
+all_take p (suc n) [] h = refl
+all_take p (suc n) (x ∷ xs) h =
+    elim (p x) as (λ t. t && list_all p xs ≡ true → t && list_all p (take n xs) ≡ true) [
+      | true ↦ λ e. all_take p n xs e
+      | false ↦ λ e. absurd (false≢true e)
+    ] h
+
+all_drop : (p : ℕ → Bool) (n : ℕ) (xs : List ℕ) → list_all p xs ≡ true → list_all p (drop n xs) ≡ true
+all_drop p zero xs h = h
+all_drop p (suc n) [] h = refl
+all_drop p (suc n) (x ∷ xs) h =
+    elim (p x) as (λ t. t && list_all p xs ≡ true → list_all p (drop n xs) ≡ true) [
+      | true ↦ λ e. all_drop p n xs e
+      | false ↦ λ e. absurd (false≢true e)
+    ] h
+
 -- enough bytes and none too many are a text
 pub made_is_text : (xs : List ℕ) → Inside xs → length xs ≤ 4096 → text_fault xs ≡ None
 unfolding text_most
 made_is_text xs h le =
-    let e = all_prefix (λ b. not (is_outside b)) xs h in
+    let e = all_prefix is_inside xs h in
     rw (le-ltb (position_or_len is_outside xs) (length xs) (omega (arith, e)), le-ltb 4096 (length xs) le) refl
 
-pub ruleset text_steps = (made_is_text)
+-- a text has such bytes, and not too many
+pub text_inside : (xs : List ℕ) → text_fault xs ≡ None → Inside xs
+text_inside xs h =
+    elim (cases_lt (position_or_len is_outside xs) (length xs)) [
+      | inl inside ↦ absurd (let e : fault_of (cond true (Some (position_or_len is_outside xs)) None) (length xs) ≡ None = rw (lt-ltb (position_or_len is_outside xs) (length xs) inside) at h in cc)
+      | inr past ↦ prefix_all is_inside xs (omega (arith, past, prefix_len-le-length is_inside xs))
+    ]
+
+pub text_short : (xs : List ℕ) → text_fault xs ≡ None → length xs ≤ 4096
+unfolding text_most
+text_short xs h =
+    elim (cases_lt 4096 (length xs)) [
+      | inl long ↦ absurd (
+          let e = all_prefix is_inside xs (text_inside xs h) in
+          let none : fault_of None (length xs) ≡ None = rw (le-ltb (position_or_len is_outside xs) (length xs) (omega (arith, e))) at h in
+          let some : Some 4096 ≡ None = rw (lt-ltb 4096 (length xs) long) at none in cc)
+      | inr le ↦ le
+    ]
+
+-- parts of a text are texts
+pub part_is_text : (n : ℕ) (xs : List ℕ) → text_fault xs ≡ None → text_fault (take n xs) ≡ None
+part_is_text n xs h = made_is_text (take n xs) (all_take is_inside n xs (text_inside xs h)) (omega (arith, text_short xs h, length-take n xs))
+
+pub rest_is_text : (n : ℕ) (xs : List ℕ) → text_fault xs ≡ None → text_fault (drop n xs) ≡ None
+rest_is_text n xs h = made_is_text (drop n xs) (all_drop is_inside n xs (text_inside xs h)) (omega (arith, text_short xs h, length-drop n xs))
+
+pub ruleset text_steps = (made_is_text, text_inside, text_short, part_is_text, rest_is_text)

@@ -1,5 +1,6 @@
 -- The bracket grammar: where a text balances, its pieces, and the arguments between commas.
-use Rattle.std.specs.Prelude.{ℕ, ◌+◌, ◌-◌, zero, suc, Bool, true, false, not, ◌&&◌, ◌==◌, nat_lt, if◌then◌else◌, List, [], ◌∷◌, length, take, drop}
+use Rattle.std.specs.Prelude.{◌≡◌, ℕ, ◌+◌, ◌-◌, zero, suc, Bool, true, false, not, ◌&&◌, ◌==◌, nat_lt, if◌then◌else◌, List, [], ◌∷◌, length, take, drop, None}
+use Rattle.muck_model.specs.Bytes.{is_outside, text_fault}
 use Rattle.mpi.specs.declared.brackets.Scan.{Scan}
 use Rattle.mpi.specs.declared.brackets.Ahead.{Ahead}
 use Rattle.mpi.specs.declared.brackets.Piece.{Piece as Kept}
@@ -91,3 +92,8 @@ seen_piece (Call body) = call body.now
 
 abbrev pub seen_ahead : Ahead → Piece × List ℕ
 seen_ahead a = (seen_piece a.piece, a.rest.now)
+
+-- what stands between brackets is a text, and a byte for itself may stand in one
+abbrev pub IsPart : Kept → Type 0
+IsPart (Byte b) = is_outside b ≡ false
+IsPart (Call body) = text_fault body.now ≡ None

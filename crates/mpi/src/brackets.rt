@@ -1,6 +1,9 @@
 // The brackets of a text: where it balances, its pieces, and the arguments of a function.
-ghost use Rattle.std.specs.Prelude.{◌≡◌, ◌+◌, ◌<◌, ◌≤◌, ◌^◌, suc, IfOk, length, drop, map as mapped};
-ghost use Rattle.mpi.specs.Brackets.{begun, passed, is_free, part_len, balances, first_piece, escaped, call_ahead, seen_ahead, arguments, meant};
+ghost use Rattle.std.specs.Prelude.{◌≡◌, ◌+◌, ◌<◌, ◌≤◌, ◌^◌, suc, None, true, IfOk, length, drop, map as mapped};
+ghost use Rattle.std.specs.List.{list_all};
+ghost use Rattle.muck_model.specs.Bytes.{text_fault};
+ghost use Rattle.mpi.specs.Made.{is_text};
+ghost use Rattle.mpi.specs.Brackets.{IsPart, begun, passed, is_free, part_len, balances, first_piece, escaped, call_ahead, seen_ahead, arguments, meant};
 
 use muck_model::NoMemory;
 use std::alloc::Global;
@@ -119,9 +122,12 @@ fn behind(text: &[u8], at: usize) -> &[u8]
 }
 
 // A byte behind a `\\`, or the `\\` itself where the text ends.
+#[tactic(auto, using(crate::proofs::Inside::text_steps))]
 fn escaped<'a>(more: &'a [u8]) -> Ahead<'a>
+    requires { text_fault more.now ≡ None }
     ensures value { seen_ahead result ≡ escaped more.now }
     ensures within { length result.rest.now ≤ length more.now }
+    ensures parts { (text_fault result.rest.now ≡ None) × IsPart result.piece }
 {
     match more.split_first() {
         None => Ahead {
@@ -136,10 +142,12 @@ fn escaped<'a>(more: &'a [u8]) -> Ahead<'a>
 }
 
 // What stands before the next free `}`.
+#[tactic(auto, using(crate::proofs::Inside::text_steps))]
 fn call_ahead<'a>(more: &'a [u8]) -> Ahead<'a>
-    requires { length more.now ≤ 4096 }
+    requires { text_fault more.now ≡ None }
     ensures value { seen_ahead result ≡ call_ahead more.now }
     ensures within { length result.rest.now ≤ length more.now }
+    ensures parts { (text_fault result.rest.now ≡ None) × IsPart result.piece }
 {
     let size = part_len(b'}', more);
     Ahead {
@@ -150,9 +158,10 @@ fn call_ahead<'a>(more: &'a [u8]) -> Ahead<'a>
 
 /// The first piece of a text, which begins with this byte.
 pub(crate) fn piece_ahead<'a>(first: u8, more: &'a [u8]) -> Ahead<'a>
-    requires { length more.now ≤ 4096 }
+    requires { text_fault more.now ≡ None }
     ensures value { seen_ahead result ≡ first_piece first more.now }
     ensures within { length result.rest.now ≤ length more.now }
+    ensures parts { (text_fault result.rest.now ≡ None) × IsPart result.piece }
 {
     match first {
         b'\\' => escaped(more),
@@ -167,8 +176,9 @@ pub(crate) fn piece_ahead<'a>(first: u8, more: &'a [u8]) -> Ahead<'a>
 /// The arguments that stand between commas.
 #[tactic(auto, using(crate::proofs::Pieces::argument_steps))]
 pub(crate) fn arguments<'a>(alloc: Global, text: &'a [u8]) -> Result<Vec<&'a [u8]>, NoMemory>
-    requires { length text.now ≤ 4096 }
-    ensures { IfOk result (λ v. mapped (λ x. x.now) v.items ≡ arguments text.now) }
+    requires { text_fault text.now ≡ None }
+    ensures value { IfOk result (λ v. mapped (λ x. x.now) v.items ≡ arguments text.now) }
+    ensures texts { IfOk result (λ v. list_all is_text (mapped (λ x. x.now) v.items) ≡ true) }
 {
     let mut list = Vec::new(alloc);
     let mut rest = text;

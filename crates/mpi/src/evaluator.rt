@@ -37,8 +37,11 @@ fn name_of(body: &[u8]) -> &[u8]
 }
 
 // What stands behind the `:` of a function, if it has one.
+#[tactic(auto, using(crate::proofs::Inside::text_steps))]
 fn behind_name(body: &[u8]) -> Option<&[u8]>
-    ensures { option_copied result ≡ behind_name body.now }
+    requires { text_fault body.now ≡ None }
+    ensures value { option_copied result ≡ behind_name body.now }
+    ensures text { IfSome result (λ text. text_fault text.now ≡ None) }
 {
     let at = body.iter().position(|b| *b == b':')?;
     Some(&body[at + 1..])
@@ -57,7 +60,9 @@ fn texts_of<'a>(alloc: Global, behind: Option<&'a [u8]>) -> Result<Vec<&'a [u8]>
 
 // The text of the argument at a place from 0; one that is left out is empty.
 fn text_at<'a>(texts: &[&'a [u8]], at: usize) -> &'a [u8]
-    ensures { result.now ≡ nth at (mapped (λ x. x.now) texts.now) }
+    requires { list_all is_text (mapped (λ x. x.now) texts.now) ≡ true }
+    ensures value { result.now ≡ nth at (mapped (λ x. x.now) texts.now) }
+    ensures text { text_fault result.now ≡ None }
 {
     match texts.get(at) {
         Some(text) => text,
