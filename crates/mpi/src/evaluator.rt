@@ -49,8 +49,9 @@ fn behind_name(body: &[u8]) -> Option<&[u8]>
 
 // The texts of the arguments: none without a `:`, and one at least behind it.
 fn texts_of<'a>(alloc: Global, behind: Option<&'a [u8]>) -> Result<Vec<&'a [u8]>, NoMemory>
-    requires { IfSome behind.entry (λ text. text_fault text.now ≡ None) }
-    ensures { IfOk result (λ v. mapped (λ x. x.now) v.items ≡ texts_of (option_copied behind)) }
+    requires { IfSome behind (λ text. text_fault text.now ≡ None) }
+    ensures value { IfOk result (λ v. mapped (λ x. x.now) v.items ≡ texts_of (option_copied behind.entry)) }
+    ensures texts { IfOk result (λ v. list_all is_text (mapped (λ x. x.now) v.items) ≡ true) }
 {
     match behind {
         Some(text) => arguments(alloc, text),
