@@ -1,5 +1,6 @@
+pub mod Inside
 pub mod Maps
 pub mod Pieces
-pub mod Inside
+pub mod Positions
 pub mod Thinking
 pub mod Worked

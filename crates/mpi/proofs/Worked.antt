@@ -14,4 +14,4 @@ use Rattle.mpi.specs.Worked.{Worked}
 
 pub worked : Worked
 unfolding text_most dbref_of given_back balances part_len pieces_up_to arguments_up_to functions is_long followed sized counted keeps variable scoped is_true number_read order_of stripped place_in replaced items nesting_most object_at doing diced variable_row acted each_value with_variable chosen until turns_while while_true turns_for for_numbers each_item for_items called spelled entered evaluated named_in prop_in
-worked = record { row_1 = refl; row_2 = refl; row_3 = refl; row_4 = refl; row_5 = refl; row_6 = refl; row_7 = refl; row_8 = refl; row_9 = refl; row_10 = refl; row_11 = refl }
+worked = record { row_1 = refl; row_2 = refl; row_3 = refl; row_4 = refl; row_5 = refl; row_6 = refl; row_7 = refl; row_8 = refl }

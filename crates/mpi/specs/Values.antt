@@ -8,7 +8,7 @@ use Rattle.std.specs.Ordering.{nat_cmp, int_cmp, int_eq, is_eq, is_lt, is_gt, is
 use Rattle.std.specs.declared.cmp.Ordering.{Ordering}
 use Rattle.std.specs.Cmp.Lexicographic.{slice_cmp}
 use Rattle.std.specs.Int.{w32, int_wrapping_add, int_wrapping_sub, int_wrapping_mul, int_wrapping_div, int_wrapping_neg, int_signum}
-use Rattle.muck_model.specs.Decimal.{is_digit, value_from}
+use Rattle.muck_model.specs.Decimal.{decimal_of}
 use Rattle.muck_model.specs.Numbers.{below}
 use Rattle.mpi.specs.declared.functions.Function.{Function}
 use Rattle.mpi.specs.declared.functions.Function.TheVariants.{Nothing, Xor, Not, Equal, Unequal, Greater, Less, AtLeast, AtMost, Add, Subtract, Multiply, Divide, Modulo, Absolute, Sign, Least, Most, Length, Upper, Lower, Strip, Find, Substitute, Middle, MakeList, Count, Member, Sublist}
@@ -25,18 +25,18 @@ abbrev pub truth : Bool → List ℕ
 truth true = codes "1"
 truth false = codes "0"
 
--- digits that write at most so much
-abbrev pub amount_of : ℕ → List ℕ → Option ℕ
-amount_of most [] = None
-amount_of most (b ∷ more) = if list_all is_digit (b ∷ more) && nat_le (value_from 0 (b ∷ more)) most then Some (value_from 0 (b ∷ more)) else None
+-- digits without the zeros in front of others
+unfoldable pub bare : List ℕ → List ℕ
+bare [] = []
+bare (b ∷ more) = if b == 48 && nat_lt 0 (length more) then bare more else b ∷ more
 
 -- the number that a whole text is: a `-` or none, and digits, in 32 bits
 unfoldable pub number_read : List ℕ → Option ℤ
 number_read [] = None
 number_read (b ∷ more) =
     if b == 45
-    then option_map below (amount_of 2147483648 more)
-    else option_map pos (amount_of 2147483647 (b ∷ more))
+    then option_map below (decimal_of 2147483648 (bare more))
+    else option_map pos (decimal_of 2147483647 (bare (b ∷ more)))
 
 -- a text that is no number counts as 0
 abbrev pub number_of : List ℕ → ℤ

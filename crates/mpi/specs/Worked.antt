@@ -29,6 +29,3 @@ pub record Worked : Type 0 where
   pub row_6 : shown (codes "{not:1,2}") ≡ Err BadCount
   pub row_7 : shown (codes "{store:1,~x,me}") ≡ Err (Denied 4)
   pub row_8 : shown (codes "{while:1,{null:}}") ≡ Err TooManyCommands
-  pub row_9 : shown (codes "{for:i,1,3,1,{&i}}") ≡ Ok (codes "3")
-  pub row_10 : shown (codes "{parse:x,{mklist:a,b},<{&x}>}") ≡ Ok (codes "<a>" ++ 13 ∷ codes "<b>")
-  pub row_11 : shown (codes "{with:a,1,{&a}}{add:1,{add:1,1}}") ≡ Ok (codes "13")

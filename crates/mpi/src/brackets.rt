@@ -1,7 +1,7 @@
 // The brackets of a text: where it balances, its pieces, and the arguments of a function.
 ghost use Rattle.std.specs.Prelude.{◌≡◌, ◌+◌, ◌<◌, ◌≤◌, ◌^◌, suc, None, true, IfOk, length, drop, map as mapped};
 ghost use Rattle.std.specs.List.{list_all};
-ghost use Rattle.muck_model.specs.Bytes.{text_fault};
+ghost use Rattle.muck_model.specs.Bytes.{is_outside, text_fault};
 ghost use Rattle.mpi.specs.Made.{is_text};
 ghost use Rattle.mpi.specs.Brackets.{IsPart, begun, passed, is_free, part_len, balances, first_piece, escaped, call_ahead, seen_ahead, arguments, meant};
 
@@ -158,7 +158,8 @@ fn call_ahead<'a>(more: &'a [u8]) -> Ahead<'a>
 
 /// The first piece of a text, which begins with this byte.
 pub(crate) fn piece_ahead<'a>(first: u8, more: &'a [u8]) -> Ahead<'a>
-    requires { text_fault more.now ≡ None }
+    requires text { text_fault more.now ≡ None }
+    requires byte { is_outside first ≡ false }
     ensures value { seen_ahead result ≡ first_piece first more.now }
     ensures within { length result.rest.now ≤ length more.now }
     ensures parts { (text_fault result.rest.now ≡ None) × IsPart result.piece }

@@ -1,6 +1,6 @@
 // How a text is evaluated: its pieces one after another, and what stands between brackets one nesting deeper. No tree of it is kept.
 ghost use Rattle.std.specs.Prelude.{◌≡◌, [], None, Some, true, IfOk, IfSome, map as mapped};
-ghost use Rattle.std.specs.List.{list_all, before_first};
+ghost use Rattle.std.specs.List.{list_all, before_first, position};
 ghost use Rattle.std.specs.Option.{option_copied};
 ghost use Rattle.muck_model.specs.Bytes.{text_fault};
 ghost use Rattle.mpi.specs.Hosting.{seen_as};
@@ -26,14 +26,19 @@ use std::alloc::Global;
 /// How many functions may stand one in another.
 const NESTING_MOST: u32 = 64;
 
+// Where the `:` behind a name stands.
+fn colon_at(body: &[u8]) -> Option<usize>
+    ensures { result ≡ position is_colon body.now }
+{
+    body.iter().position(|b| *b == b':')
+}
+
 // The name of a function, before its `:`.
+#[tactic(auto, using(crate::proofs::Positions::positions))]
 fn name_of(body: &[u8]) -> &[u8]
     ensures { result.now ≡ before_first is_colon body.now }
 {
-    match body.iter().position(|b| *b == b':') {
-        Some(at) => &body[..at],
-        None => body,
-    }
+    &body[..colon_at(body).unwrap_or(body.len())]
 }
 
 // What stands behind the `:` of a function, if it has one.
@@ -43,7 +48,7 @@ fn behind_name(body: &[u8]) -> Option<&[u8]>
     ensures value { option_copied result ≡ behind_name body.now }
     ensures text { IfSome result (λ text. text_fault text.now ≡ None) }
 {
-    let at = body.iter().position(|b| *b == b':')?;
+    let at = colon_at(body)?;
     Some(&body[at + 1..])
 }
 

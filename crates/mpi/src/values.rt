@@ -1,18 +1,19 @@
 // Texts as truths and numbers, and the functions of these.
-ghost use Rattle.std.specs.Prelude.{◌≡◌, ◌<◌, ◌≤◌, ◌^◌, IfOk, IfSome};
-ghost use Rattle.std.specs.List.{list_all};
-ghost use Rattle.muck_model.specs.Decimal.{is_digit};
+ghost use Rattle.std.specs.Prelude.{◌≡◌, ◌≤◌, None, IfOk};
+ghost use Rattle.muck_model.specs.Bytes.{text_fault};
 ghost use Rattle.muck_model.specs.Numbers.{below};
-ghost use Rattle.mpi.specs.Values.{nth, is_true, amount_of, number_read, number_of, lowered, order_of, test_of, quotient, remainder, number_row, sum_of, product_of, computed};
+ghost use Rattle.mpi.specs.Values.{nth, is_true, bare, number_read, number_of, lowered, order_of, test_of, quotient, remainder, number_row, sum_of, product_of, computed};
 
 use crate::functions::Function;
-use muck_model::{Line, NoMemory};
+use muck_model::{Line, NoMemory, decimal};
 use std::alloc::Global;
 use std::cmp::Ordering;
 
 /// The argument at a place from 0; one that is left out is empty.
+#[tactic(auto, unfolding(muck_model::specs::Bytes::text_most))]
 pub(crate) fn nth(values: &[Line], at: usize) -> &[u8]
-    ensures { result.now ≡ nth at values.now }
+    ensures value { result.now ≡ nth at values.now }
+    ensures text { text_fault result.now ≡ None }
 {
     match values.get(at) {
         Some(value) => value.as_slice(),
@@ -28,30 +29,19 @@ pub(crate) fn is_true(text: &[u8]) -> bool
     !(text.is_empty() || text == b"0".as_slice())
 }
 
-// Whether all bytes are digits.
-fn are_digits(bytes: &[u8]) -> bool
-    ensures { result ≡ list_all is_digit bytes.now }
+// Digits without the zeros in front of others.
+#[tactic(auto, unfolding(crate::specs::Values::bare))]
+fn bare(digits: &[u8]) -> &[u8]
+    ensures { result.now ≡ bare digits.now }
 {
-    bytes.iter().all(|b| *b >= b'0' && *b <= b'9')
-}
-
-// What digits write, where that is at most this.
-fn amount_of(digits: &[u8], most: u64) -> Option<u64>
-    requires { most < 2 ^ 59 }
-    ensures value { result ≡ amount_of most digits.now }
-    ensures most { IfSome result (λ n. n ≤ most) }
-{
-    if digits.is_empty() || !are_digits(digits) {
-        return None;
-    }
-    let mut amount = 0u64;
-    for digit in digits {
-        amount = 10 * amount + u64::from(digit.saturating_sub(b'0'));
-        if amount > most {
-            return None;
+    let mut rest = digits;
+    while let Some((first, more)) = rest.split_first() {
+        if *first != b'0' || more.is_empty() {
+            return rest;
         }
+        rest = more;
     }
-    Some(amount)
+    rest
 }
 
 // The number n with a minus before it.
@@ -72,10 +62,10 @@ pub(crate) fn number_read(text: &[u8]) -> Option<i32>
 {
     let (first, more) = text.split_first()?;
     if *first == b'-' {
-        let n = amount_of(more, 2_147_483_648)?;
+        let n = decimal(bare(more), 2_147_483_648)?;
         return Some(below(n));
     }
-    let n = amount_of(text, 2_147_483_647)?;
+    let n = decimal(bare(text), 2_147_483_647)?;
     Some(n as i32)
 }
 
