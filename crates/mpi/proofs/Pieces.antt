@@ -3,6 +3,7 @@ use Rattle.std.proofs.Common.{◌≡◌, ℕ, ◌+◌, ◌<◌, ◌≤◌, zero,
 use Rattle.std.specs.Prelude.{◌==◌}
 use Rattle.std.proofs.lemmas.List.{length-drop}
 use Rattle.std.proofs.lemmas.Bool.{ltb-true, lt-ltb}
+use Rattle.mpi.proofs.Inside.{text_short, part_is_text, rest_is_text}
 use Rattle.mpi.specs.Brackets.{begun, part_len, part, behind_part, arguments_up_to, arguments, Piece, byte, escaped, call_ahead, first_piece, pieces_up_to, pieces}
 
 behind_shorter : (w : ℕ) (text : List ℕ) (n : ℕ) → part_len w begun text < length text → length text ≤ suc n → length (behind_part w text) ≤ n
@@ -39,7 +40,7 @@ next_argument text h =
     rw (lt-ltb (part_len 44 begun text) (length text) h)
     (ap (λ rest. part 44 text ∷ rest) (room (length text) (suc (length (behind_part 44 text))) (behind_part 44 text) (omega (arith, h, length-drop (suc (part_len 44 begun text)) text)) (omega arith)))
 
-pub ruleset argument_steps = (last_argument, next_argument)
+pub ruleset argument_steps = (last_argument, next_argument, text_short, part_is_text, rest_is_text)
 
 escaped_shorter : (more : List ℕ) → length (escaped more).1 ≤ length more
 escaped_shorter [] = omega arith

@@ -1,5 +1,6 @@
 -- What a host in memory answers and changes.
 use Rattle.std.specs.Prelude.{ℕ, ◌+◌, ◌%◌, ◌==◌, Bool, true, false, ◌&&◌, if◌then◌else◌, List, [], ◌∷◌, ◌++◌, Option, Some, None, option_map, Result, Ok, Err, pos, negsuc, slice_get, reverse, find, bytes_eq, codes, int_lt, nat_abs}
+use Rattle.std.specs.List.{fold}
 use Rattle.std.specs.Option.{unwrap_or, option_and_then}
 use Rattle.std.specs.Ordering.{int_eq}
 use Rattle.muck_model.specs.Numbers.{dbref_of, numbered}
@@ -32,14 +33,17 @@ named_in text h =
 abbrev is_prop : List ℕ → Dbref → MemProp → Bool
 is_prop path d p = int_eq p.object.0 d.0 && bytes_eq p.path path
 
+abbrev pub found_prop : List ℕ → Dbref → Option (List ℕ) → MemProp → Option (List ℕ)
+found_prop path d found p = if is_prop path d p then Some p.text else found
+
 -- the property that was stored last
-unfoldable pub prop_in : List ℕ → Dbref → MemHost → List ℕ
-prop_in path d h = unwrap_or (option_map (λ p. p.text) (find (is_prop path d) (reverse h.props))) []
+unfoldable pub prop_in : List ℕ → Dbref → MemHost → Option (List ℕ)
+prop_in path d h = fold (found_prop path d) None h.props
 
 abbrev pub tells_in : Ask → MemHost → Result (List ℕ) MpiFault
 tells_in (ask.Name d) h = Ok (unwrap_or (name_in h d) [])
-tells_in (ask.Prop path d) h = Ok (prop_in path d h)
-tells_in (ask.PropHere path d) h = Ok (prop_in path d h)
+tells_in (ask.Prop path d) h = Ok (unwrap_or (prop_in path d h) [])
+tells_in (ask.PropHere path d) h = Ok (unwrap_or (prop_in path d h) [])
 tells_in _ h = Ok []
 
 -- a path that begins with `~` is denied

@@ -1,7 +1,7 @@
 -- Texts as truths, numbers and lists, and what the functions of these give.
-use Rattle.std.specs.Prelude.{ℕ, ◌+◌, ◌-◌, ◌/◌, ◌%◌, zero, suc, Bool, true, false, not, ◌&&◌, ◌||◌, ◌==◌, nat_eq, nat_le, if◌then◌else◌, List, [], ◌∷◌, ◌++◌, map, length, take, drop, reverse, Option, Some, None, option_map, bytes_eq, slice_get, codes, ℤ, pos, negsuc, int_lt, int_le, int_rem}
+use Rattle.std.specs.Prelude.{ℕ, ◌+◌, ◌-◌, ◌/◌, ◌%◌, zero, suc, Bool, true, false, not, ◌&&◌, ◌||◌, ◌==◌, nat_eq, nat_lt, nat_le, if◌then◌else◌, List, [], ◌∷◌, ◌++◌, map, length, take, drop, reverse, Option, Some, None, option_map, bytes_eq, slice_get, codes, ℤ, pos, negsuc, int_lt, int_le, int_rem}
 use Rattle.std.specs.Char.{to_ascii_lowercase, to_ascii_uppercase}
-use Rattle.std.specs.List.{list_all, fold, prefix_len, position, slice_split, join_with_byte, starts_with}
+use Rattle.std.specs.List.{list_all, fold, position, slice_split, join_with_byte, starts_with}
 use Rattle.std.specs.Option.{unwrap_or, option_map_or}
 use Rattle.std.specs.Fmt.{decimal, signed_decimal}
 use Rattle.std.specs.Ordering.{nat_cmp, int_cmp, int_eq, is_eq, is_lt, is_gt, is_le, is_ge}
@@ -100,15 +100,18 @@ computed Add values = sum_of values
 computed Multiply values = product_of values
 computed f values = number_row f (number_of (nth 0 values)) (number_of (nth 1 values))
 
-abbrev pub is_space : ℕ → Bool
-is_space b = b == 32
+-- without the spaces before it
+unfoldable pub past_spaces : List ℕ → List ℕ
+past_spaces [] = []
+past_spaces (b ∷ more) = if b == 32 then past_spaces more else b ∷ more
 
-abbrev pub past_spaces : List ℕ → List ℕ
-past_spaces text = drop (prefix_len is_space text) text
+-- without the spaces behind it
+abbrev pub before_spaces : List ℕ → List ℕ
+before_spaces text = reverse (past_spaces (reverse text))
 
 -- without the spaces at both ends
 unfoldable pub stripped : List ℕ → List ℕ
-stripped text = reverse (past_spaces (reverse (past_spaces text)))
+stripped text = before_spaces (past_spaces text)
 
 abbrev pub begins_with : List ℕ → List ℕ → Bool
 begins_with text front = starts_with nat_eq text front

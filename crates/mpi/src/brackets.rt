@@ -1,5 +1,5 @@
 // The brackets of a text: where it balances, its pieces, and the arguments of a function.
-ghost use Rattle.std.specs.Prelude.{◌≡◌, ◌+◌, ◌<◌, ◌≤◌, ◌^◌, suc, None, true, IfOk, length, drop, map as mapped};
+ghost use Rattle.std.specs.Prelude.{◌≡◌, ◌+◌, ◌<◌, ◌≤◌, ◌^◌, suc, None, true, false, IfOk, length, drop, map as mapped};
 ghost use Rattle.std.specs.List.{list_all};
 ghost use Rattle.muck_model.specs.Bytes.{is_outside, text_fault};
 ghost use Rattle.mpi.specs.Made.{is_text};

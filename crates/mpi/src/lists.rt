@@ -5,7 +5,7 @@ ghost use Rattle.mpi.specs.Made.{text_or_long};
 ghost use Rattle.mpi.specs.Hosting.{seen_as, Means};
 ghost use Rattle.muck_model.specs.Bytes.{text_fault};
 ghost use Rattle.mpi.specs.Gathering.{seen_gathered, Gathers, longer, kept_of};
-ghost use Rattle.mpi.specs.Values.{past_spaces, stripped, place_in, found_in, substituted, above, cut, items, listed, place_of_item, middle};
+ghost use Rattle.mpi.specs.Values.{past_spaces, before_spaces, stripped, place_in, found_in, substituted, above, cut, items, listed, place_of_item, middle};
 
 use crate::fault::MpiFault;
 use crate::functions::Function;
@@ -15,13 +15,33 @@ use muck_model::{Line, NoMemory};
 use std::alloc::Global;
 
 // Without the spaces before it.
+#[tactic(auto, unfolding(crate::specs::Values::past_spaces))]
 fn past_spaces(text: &[u8]) -> &[u8]
     ensures { result.now ≡ past_spaces text.now }
 {
-    match text.iter().position(|b| *b != b' ') {
-        Some(at) => &text[at..],
-        None => &[],
+    let mut rest = text;
+    while let Some((first, more)) = rest.split_first() {
+        if *first != b' ' {
+            return rest;
+        }
+        rest = more;
     }
+    rest
+}
+
+// Without the spaces behind it.
+#[tactic(auto, unfolding(crate::specs::Values::past_spaces))]
+fn before_spaces(text: &[u8]) -> &[u8]
+    ensures { result.now ≡ before_spaces text.now }
+{
+    let mut rest = text;
+    while let Some((last, more)) = rest.split_last() {
+        if *last != b' ' {
+            return rest;
+        }
+        rest = more;
+    }
+    rest
 }
 
 /// Without the spaces at both ends.
@@ -29,15 +49,11 @@ fn past_spaces(text: &[u8]) -> &[u8]
 pub(crate) fn stripped(text: &[u8]) -> &[u8]
     ensures { result.now ≡ stripped text.now }
 {
-    let text = past_spaces(text);
-    match text.iter().rposition(|b| *b != b' ') {
-        Some(at) => &text[..at + 1],
-        None => &[],
-    }
+    before_spaces(past_spaces(text))
 }
 
 // How many bytes stand before the first place where a text stands in another.
-#[tactic(auto, unfolding(crate::specs::Values::place_in))]
+#[tactic(auto, using(crate::proofs::Places::place_steps), unfolding(crate::specs::Values::place_in))]
 fn place_in(text: &[u8], part: &[u8]) -> Option<usize>
     ensures { result ≡ place_in text.now part.now }
 {

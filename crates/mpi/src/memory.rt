@@ -70,7 +70,7 @@ impl MemHost {
     // The property that was stored last.
     #[tactic(auto, unfolding(crate::specs::Memory::prop_in))]
     fn prop(&self, path: &Line, d: Dbref) -> Option<&Line>
-        ensures { unwrap_or (option_copied result) [] ≡ prop_in path.now d self.now }
+        ensures { option_copied result ≡ prop_in path.now d self.now }
     {
         let mut found = None;
         for prop in self.props.as_slice() {
@@ -141,16 +141,21 @@ impl Host for MemHost {
         self.most
     }
 
+    #[tactic(auto, unfolding(crate::specs::Memory::named_in))]
     fn find(&self, text: &Line) -> Option<Dbref> {
-        match text.as_slice() {
-            b"me" => Some(Dbref(1)),
-            b"here" => Some(Dbref(0)),
-            b"home" => Some(Dbref(-3)),
-            text => match Dbref::read(text) {
-                Some(d) if self.name_of(d).is_some() => Some(d),
-                _ => None,
-            },
+        let bytes = text.as_slice();
+        if bytes == b"me".as_slice() {
+            return Some(Dbref(1));
         }
+        if bytes == b"here".as_slice() {
+            return Some(Dbref(0));
+        }
+        if bytes == b"home".as_slice() {
+            return Some(Dbref(-3));
+        }
+        let d = Dbref::read(bytes)?;
+        self.name_of(d)?;
+        Some(d)
     }
 
     fn tells(&self, alloc: Global, ask: &Ask) -> Result<Line, MpiFault> {
