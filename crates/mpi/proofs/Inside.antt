@@ -1,6 +1,11 @@
 -- Bytes that a text may have, and how many it may have.
-use Rattle.std.proofs.Common.{◌≡◌, ℕ, ◌<◌, ◌≤◌, ◌+◌, zero, suc, Bool, true, false, cond, List, [], ◌∷◌, ◌++◌, length, take, drop, Some, None, refl, inl, inr, arith}
-use Rattle.std.specs.Prelude.{not, ◌&&◌}
+use Rattle.std.proofs.Common.{◌≡◌, ℕ, ◌<◌, ◌≤◌, ◌+◌, ◌^◌, zero, suc, Bool, true, false, cond, List, [], ◌∷◌, ◌++◌, length, map, take, drop, Some, None, refl, inl, inr, arith}
+use Rattle.std.specs.Prelude.{not, ◌&&◌, decimal, ℤ, pos, negsuc}
+use Rattle.std.specs.Fmt.{signed_decimal}
+use Rattle.std.specs.Int.Signed.{mag}
+use Rattle.std.specs.Int.Digits.{AllBelowBase, digits_of}
+use Rattle.std.proofs.lemmas.Fmt.{decimal-digits_of, decimal_digit}
+use Rattle.std.proofs.lemmas.Int.Digits.{all_below_base_digits_of}
 use Rattle.std.specs.List.{list_all, position_or_len, prefix_len}
 use Rattle.std.proofs.lemmas.Bool.{le-ltb, lt-ltb, cases_lt, false≢true}
 use Rattle.std.proofs.lemmas.List.{length-take, length-drop}
@@ -77,5 +82,32 @@ part_is_text n xs h = made_is_text (take n xs) (all_take is_inside n xs (text_in
 
 pub rest_is_text : (n : ℕ) (xs : List ℕ) → text_fault xs ≡ None → text_fault (drop n xs) ≡ None
 rest_is_text n xs h = made_is_text (drop n xs) (all_drop is_inside n xs (text_inside xs h)) (omega (arith, text_short xs h, length-drop n xs))
+
+all_append : (p : ℕ → Bool) (xs ys : List ℕ) → list_all p xs ≡ true → list_all p ys ≡ true → list_all p (xs ++ ys) ≡ true
+all_append p [] ys h k = k
+all_append p (x ∷ xs) ys h k =
+    elim (p x) as (λ t. t && list_all p xs ≡ true → t && list_all p (xs ++ ys) ≡ true) [
+      | true ↦ λ e. all_append p xs ys e k
+      | false ↦ λ e. absurd (false≢true e)
+    ] h
+
+digit : (d : ℕ) → d < 10 → is_inside (48 + d) ≡ true
+digit d l = rw (le-ltb (48 + d) 32 (omega arith), le-ltb 126 (48 + d) (omega arith)) refl
+
+inside-digits : (ds : List ℕ) → AllBelowBase 10 ds → Inside (map (λ d. 48 + d) ds)
+inside-digits [] h = refl
+inside-digits (d ∷ ds) h = rw (digit d h.0) (inside-digits ds h.1)
+
+inside-decimal : (n : ℕ) → n < 2 ^ 64 → Inside (decimal n)
+inside-decimal zero l = rw (decimal_digit 0 (omega arith)) refl
+inside-decimal (suc n) l =
+    rw (decimal-digits_of (suc n) (omega arith) (omega (arith, l))) (inside-digits (digits_of 10 (suc n)) (all_below_base_digits_of 10 (suc n) (omega arith)))
+
+-- numbers are texts
+pub inside_number : (z : ℤ) → mag z < 2 ^ 32 → Inside (signed_decimal z)
+inside_number (pos n) h = inside-decimal n (omega (arith, h))
+inside_number (negsuc n) h = inside-decimal (suc n) (omega (arith, h))
+
+pub ruleset number_steps = (inside_number)
 
 pub ruleset text_steps = (made_is_text, text_inside, text_short, part_is_text, rest_is_text)

@@ -1,5 +1,5 @@
 -- More room than a text needs for its pieces or arguments changes nothing.
-use Rattle.std.proofs.Common.{◌≡◌, ℕ, ◌+◌, ◌<◌, ◌≤◌, zero, suc, Bool, true, false, cond, List, [], ◌∷◌, length, drop, refl, sym, ap, ◌∙◌, arith, nat_lt}
+use Rattle.std.proofs.Common.{◌≡◌, ℕ, ◌+◌, ◌<◌, ◌≤◌, zero, suc, Bool, true, false, cond, List, [], ◌∷◌, ◌++◌, length, take, drop, refl, sym, ap, ◌∙◌, arith, nat_lt, append_assoc}
 use Rattle.std.specs.Prelude.{◌==◌}
 use Rattle.std.proofs.lemmas.List.{length-drop}
 use Rattle.std.proofs.lemmas.Bool.{ltb-true, lt-ltb}
@@ -40,7 +40,16 @@ next_argument text h =
     rw (lt-ltb (part_len 44 begun text) (length text) h)
     (ap (λ rest. part 44 text ∷ rest) (room (length text) (suc (length (behind_part 44 text))) (behind_part 44 text) (omega (arith, h, length-drop (suc (part_len 44 begun text)) text)) (omega arith)))
 
-pub ruleset argument_steps = (last_argument, next_argument, text_short, part_is_text, rest_is_text)
+-- an argument more is known
+pub one_more : (text rest more : List ℕ) (done : List (List ℕ)) (n : ℕ) → arguments text ≡ done ++ arguments rest → n ≡ part_len 44 begun rest → n < length rest
+    → more ≡ drop (suc n) rest → arguments text ≡ (done ++ take n rest ∷ []) ++ arguments more
+one_more text rest more done n whole at less is =
+    whole ∙ ap (λ xs. done ++ xs) (next_argument rest (omega (arith, at, less)))
+    ∙ (λ i. done ++ take (sym at i) rest ∷ arguments (drop (suc (sym at i)) rest))
+    ∙ (λ i. done ++ take n rest ∷ arguments (sym is i))
+    ∙ sym (append_assoc done (take n rest ∷ []) (arguments more))
+
+pub ruleset argument_steps = (one_more, last_argument, next_argument, text_short, part_is_text, rest_is_text)
 
 escaped_shorter : (more : List ℕ) → length (escaped more).1 ≤ length more
 escaped_shorter [] = omega arith

@@ -186,7 +186,7 @@ pub(crate) fn arguments<'a>(alloc: Global, text: &'a [u8]) -> Result<Vec<&'a [u8
     let mut size = part_len(b',', rest);
     while size < rest.len() {
         list.push(&rest[..size])?;
-        rest = &rest[size + 1..];
+        rest = behind(rest, size);
         size = part_len(b',', rest);
     }
     list.push(rest)?;

@@ -1,5 +1,5 @@
 // Parts of texts, and texts as lists.
-ghost use Rattle.std.specs.Prelude.{◌≡◌, ◌≤◌, None, Some, IfOk, length, map as mapped};
+ghost use Rattle.std.specs.Prelude.{◌≡◌, ◌≤◌, None, Some, IfOk, IfSome, length, map as mapped};
 ghost use Rattle.std.specs.Option.{option_copied};
 ghost use Rattle.mpi.specs.Made.{text_or_long};
 ghost use Rattle.mpi.specs.Hosting.{seen_as, Means};
@@ -55,7 +55,8 @@ pub(crate) fn stripped(text: &[u8]) -> &[u8]
 // How many bytes stand before the first place where a text stands in another.
 #[tactic(auto, using(crate::proofs::Places::place_steps), unfolding(crate::specs::Values::place_in))]
 fn place_in(text: &[u8], part: &[u8]) -> Option<usize>
-    ensures { result ≡ place_in text.now part.now }
+    ensures value { result ≡ place_in text.now part.now }
+    ensures within { IfSome result (λ n. n ≤ length text.now) }
 {
     for at in 0..text.len() {
         if text[at..].starts_with(part) {
@@ -177,6 +178,7 @@ impl Gathered {
     }
 
     // An item more in the list; `TooLong` exactly where that would be too long.
+    #[tactic(auto, using(crate::proofs::Inside::text_steps), unfolding(crate::specs::Made::is_long, muck_model::specs::Bytes::text_most))]
     fn add(&mut self, item: &[u8]) -> Result<(), MpiFault>
         requires item { text_fault item.now ≡ None }
         requires bytes { length self.old.bytes.items ≤ 4096 }
@@ -190,6 +192,7 @@ impl Gathered {
     }
 
     // The text alone.
+    #[tactic(auto, using(crate::proofs::Inside::text_steps), unfolding(crate::specs::Made::is_long, muck_model::specs::Bytes::text_most))]
     fn replace(&mut self, text: &[u8]) -> Result<(), MpiFault>
         requires { text_fault text.now ≡ None }
         ensures { Gathers (Some text.now) (seen_gathered self.new) result }
@@ -200,6 +203,7 @@ impl Gathered {
     }
 
     /// Keeps what the function keeps of an item and of its text; `TooLong` exactly where that would be too long.
+    #[tactic(auto, using(crate::proofs::Inside::text_steps))]
     pub(crate) fn keep(
         &mut self,
         function: Function,

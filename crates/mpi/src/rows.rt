@@ -23,8 +23,10 @@ fn decimal(alloc: Global, n: usize) -> Result<Vec<u8>, NoMemory>
 }
 
 /// A number in decimal, with a `-` where it is negative.
+#[tactic(auto, using(crate::proofs::Inside::number_steps))]
 pub(crate) fn signed(alloc: Global, n: i32) -> Result<Vec<u8>, NoMemory>
-    ensures { IfOk result (λ bytes. bytes.items ≡ signed_decimal n) }
+    ensures value { IfOk result (λ bytes. bytes.items ≡ signed_decimal n) }
+    ensures inside { IfOk result (λ bytes. Inside bytes.items) }
 {
     let digits = n.to_string(alloc)?;
     Ok(digits.into_bytes())

@@ -52,7 +52,8 @@ pub(crate) fn grow(out: &mut Vec<u8>, more: &[u8]) -> Result<(), MpiFault>
 
 /// `1` for true and `0` for false.
 pub(crate) fn truth(alloc: Global, holds: bool) -> Result<Vec<u8>, NoMemory>
-    ensures { IfOk result (λ bytes. bytes.items ≡ truth holds) }
+    ensures value { IfOk result (λ bytes. bytes.items ≡ truth holds) }
+    ensures inside { IfOk result (λ bytes. Inside bytes.items) }
 {
     let text: &[u8] = if holds { b"1" } else { b"0" };
     Ok(text.to_vec(alloc)?)
