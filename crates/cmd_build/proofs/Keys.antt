@@ -10,8 +10,7 @@ use Rattle.spec_live.specs.Objects.{Entry, is_program, object_at}
 use Rattle.spec_live.specs.Seen.{scenery_of}
 use Rattle.spec_live.specs.Lives.{Live}
 use Rattle.spec_commands.specs.Finding.{is_so}
-use Rattle.spec_commands.specs.Building.{found_one, key_names}
-use Rattle.cmd_build.specs.Keys.{key_kept}
+use Rattle.spec_commands.specs.Building.{found_one, key_names, key_kept}
 
 -- what names stand for among these objects
 abbrev names_in : List Entry → Dbref → Naming

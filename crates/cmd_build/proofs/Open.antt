@@ -10,20 +10,23 @@ use Rattle.spec_commands.specs.declared.outcome.Outcome.{Outcome}
 use Rattle.spec_commands.specs.declared.outcome.Outcome.TheVariants.{NotMine}
 use Rattle.spec_commands.specs.declared.word.BuildWord.{BuildWord}
 use Rattle.spec_commands.specs.Texts.{first_word, trimmed}
-use Rattle.spec_commands.specs.Commands.{build_word, build_some, build_line}
+use Rattle.spec_commands.specs.Reading.{looked_up, by_command, by_table}
+use Rattle.spec_commands.specs.Commands.{build_words, build_shape, build_done, build_line}
 use Rattle.spec_commands.proofs.Gone.{world_of as left, whole_ended}
-use Rattle.spec_commands.proofs.Permitted.{build_open}
+use Rattle.spec_commands.proofs.Lawful.{lawful_with}
+use Rattle.spec_commands.proofs.Permitted.{build_lawful}
 use Rattle.muck_perm.specs.declared.guard.Guard.{Guard}
 use Rattle.muck_perm.specs.Guards.{world_of}
 use Rattle.cmd_common.specs.Plays.{Plays}
 
-some_open : (a : Actor) (d : ℕ) (line word text : List ℕ) (found : Option BuildWord) → Whole left a None (λ es. nobody) Always (build_some d a line word text found)
-some_open a d line word text None = whole_ended a None (λ es. nobody) Always NotMine unchanged (whole_quiet a None (λ es. nobody) Always unchanged quiet_unchanged)
-some_open a d line word text (Some found) = build_open a None (λ es. nobody) d line word text found
+-- whatever the table has for its first word
+word_open : (a : Actor) (d : ℕ) (line word text : List ℕ) (found : Option BuildWord) → Whole left a None (λ es. nobody) Always (by_command build_shape (build_done d a line) d a word text found)
+word_open a d line word text None = whole_ended a None (λ es. nobody) Always NotMine unchanged (whole_quiet a None (λ es. nobody) Always unchanged quiet_unchanged)
+word_open a d line word text (Some command) = (lawful_with a None (λ es. nobody) d word (build_shape command) text (build_done d a line command) (build_lawful a None (λ es. nobody) d line command)).licence
 
 line_open : (a : Actor) (d : ℕ) (line : List ℕ) → Whole left a None (λ es. nobody) Always (build_line d a line)
-unfolding build_line
-line_open a d line = some_open a d line _ _ (build_word (first_word (trimmed line)))
+unfolding build_line by_table
+line_open a d line = word_open a d line _ _ (looked_up build_words (first_word (trimmed line)))
 
 pub plays_open : (d : ℕ) (line : List ℕ) (old new : Guard) (result : Result Outcome NoMemory) → Plays (build_line d old.actor line) old new result →
     OnOk result (Licensed old.actor nobody (world_of old) (world_of new))

@@ -1,5 +1,3 @@
 pub mod Entering
-pub mod Keys
 pub mod Owned
-pub mod Owning
 pub mod Told

@@ -1,66 +1,139 @@
 // A line of a builder.
-ghost use Rattle.std.specs.Prelude.{◌≡◌, OnOk};
+ghost use Rattle.std.specs.Prelude.{◌≡◌, map, OnOk};
 ghost use Rattle.spec_rights.specs.Licence.{Licensed, nobody};
-ghost use Rattle.spec_commands.specs.Commands.{build_done, build_line};
+ghost use Rattle.spec_commands.specs.Reading.{shaped};
+ghost use Rattle.spec_commands.specs.Commands.{build_words, build_shape, build_done, build_line};
 ghost use Rattle.muck_perm.specs.Guards.{world_of};
 ghost use Rattle.cmd_common.specs.Plays.{Plays};
+ghost use Rattle.cmd_common.specs.Takes.{word_row, AreJudged};
 
-use crate::lines::{
-    action_line, chown_line, create_line, dig_line, find_line, link_line, lock_line, message_line,
-    name_line, open_line, recycle_line, teleport_line, unlink_line, unlock_line,
-};
-use crate::program_lines::{edit_line, list_line, program_line, run_line};
-use crate::words::build_word;
-use cmd_common::after_word;
-use muck_model::{Line, NoMemory};
+use crate::locks::{lock, unlock};
+use crate::making::{make, make_thing, open};
+use crate::messages::set_message;
+use crate::programs::{edit, list, program, start};
+use crate::searching::find;
+use crate::writing::{link, rename, unlink};
+use cmd_common::{Write, after_word, arguments, looked_up, try_write};
+use muck_model::{Dbref, Line, NoMemory};
 use muck_perm::Guard;
-use spec_commands::{BuildWord, Outcome, cut_word, trim};
+use spec_commands::{
+    Arguments, BuildWord, Form, Message, New, Outcome, Shape, Want, cut_word, trim,
+};
 
-// Does what a word asks, with what stands behind it in the line.
-#[tactic(auto, unfolding(spec_commands::specs::Going::ended, spec_commands::specs::Commands::build_done))]
-fn build(
+static WORDS: [(&[u8], BuildWord); 24] = [
+    (b"@dig", BuildWord::Dig),
+    (b"@create", BuildWord::Create),
+    (b"@open", BuildWord::Open),
+    (b"@action", BuildWord::Action),
+    (b"@link", BuildWord::Link),
+    (b"@unlink", BuildWord::Unlink),
+    (b"@name", BuildWord::Name),
+    (b"@describe", BuildWord::Set(Message::Describe)),
+    (b"@success", BuildWord::Set(Message::Success)),
+    (b"@osuccess", BuildWord::Set(Message::OthersSuccess)),
+    (b"@fail", BuildWord::Set(Message::Fail)),
+    (b"@ofail", BuildWord::Set(Message::OthersFail)),
+    (b"@drop", BuildWord::Set(Message::Drop)),
+    (b"@odrop", BuildWord::Set(Message::OthersDrop)),
+    (b"@lock", BuildWord::Lock),
+    (b"@unlock", BuildWord::Unlock),
+    (b"@teleport", BuildWord::Teleport),
+    (b"@recycle", BuildWord::Recycle),
+    (b"@chown", BuildWord::Chown),
+    (b"@find", BuildWord::Find),
+    (b"@program", BuildWord::Program),
+    (b"@edit", BuildWord::Edit),
+    (b"@list", BuildWord::List),
+    (b"@run", BuildWord::Run),
+];
+
+// The words of builders.
+#[tactic(auto, unfolding(spec_commands::specs::Commands::build_words))]
+fn words() -> &'static [(&'static [u8], BuildWord)]
+    ensures { map word_row result.now ≡ build_words }
+{
+    &WORDS
+}
+
+// How a command takes the text behind its word.
+fn shape_of(command: BuildWord) -> Shape
+    ensures { result ≡ build_shape command }
+{
+    let (form, first, second) = match command {
+        BuildWord::Dig | BuildWord::Create | BuildWord::Program => (
+            Form::One,
+            Want::NewName,
+            Want::Nothing,
+        ),
+        BuildWord::Unlock | BuildWord::Recycle => (Form::One, Want::Object, Want::Nothing),
+        BuildWord::Edit | BuildWord::List => (Form::One, Want::Program, Want::Nothing),
+        BuildWord::Unlink => (Form::One, Want::Found, Want::Nothing),
+        BuildWord::Find => (Form::One, Want::Text, Want::Nothing),
+        BuildWord::Open => (Form::OneOrFull, Want::NewName, Want::Found),
+        BuildWord::Action => (Form::Full, Want::NewName, Want::Object),
+        BuildWord::Link => (Form::Full, Want::Found, Want::Found),
+        BuildWord::Teleport => (Form::Full, Want::Object, Want::Found),
+        BuildWord::Chown => (Form::Full, Want::Object, Want::Player),
+        BuildWord::Name => (Form::Two, Want::Object, Want::NewName),
+        BuildWord::Set(_) | BuildWord::Lock => (Form::Two, Want::Object, Want::Text),
+        BuildWord::Run => (Form::Two, Want::Program, Want::Text),
+    };
+    Shape::new(form, first, second)
+}
+
+// Does what a command asks, with its arguments.
+#[tactic(auto, unfolding(spec_commands::specs::Going::ended, spec_commands::specs::Commands::build_done, spec_commands::specs::Building::teleported, spec_commands::specs::Building::recycled, spec_commands::specs::Building::chowned, spec_commands::specs::Replies::teleported_reply, spec_commands::specs::Replies::recycled_reply, spec_commands::specs::Replies::chowned_reply))]
+fn perform(
     guard: &mut Guard,
     d: u32,
     line: &Line,
-    word: &[u8],
-    text: &Line,
-    found: BuildWord,
+    command: BuildWord,
+    args: Arguments,
 ) -> Result<Outcome, NoMemory>
-    ensures { Plays (build_done d guard.old.actor line.now word.now text.now found) guard.old guard.new result }
+    requires { AreJudged (build_shape command) args }
+    ensures { Plays (build_done d guard.old.actor line.now command args) guard.old guard.new result }
 {
-    match found {
-        BuildWord::Dig => dig_line(guard, d, word, text)?,
-        BuildWord::Create => create_line(guard, d, word, text)?,
-        BuildWord::Open => open_line(guard, d, word, text)?,
-        BuildWord::Action => action_line(guard, d, word, text)?,
-        BuildWord::Link => link_line(guard, d, word, text)?,
-        BuildWord::Unlink => unlink_line(guard, d, word, text)?,
-        BuildWord::Name => name_line(guard, d, word, text)?,
-        BuildWord::Set(message) => message_line(guard, d, word, text, message)?,
-        BuildWord::Lock => lock_line(guard, d, word, text)?,
-        BuildWord::Unlock => unlock_line(guard, d, word, text)?,
-        BuildWord::Teleport => teleport_line(guard, d, word, text)?,
-        BuildWord::Recycle => recycle_line(guard, d, word, text)?,
-        BuildWord::Chown => chown_line(guard, d, word, text)?,
-        BuildWord::Find => find_line(guard, d, word, text)?,
-        BuildWord::Program => return program_line(guard, d, word, text),
-        BuildWord::Edit => return edit_line(guard, d, word, text),
-        BuildWord::List => return list_line(guard, d, word, text),
-        BuildWord::Run => return run_line(guard, d, line, word, text),
+    let x = args.first.object;
+    let y = args.second.object;
+    let text = args.first.text;
+    let behind = args.second.text;
+    match command {
+        BuildWord::Dig => make(guard, d, New::Room, text, Dbref(0))?,
+        BuildWord::Create => make_thing(guard, d, text)?,
+        BuildWord::Open => open(guard, d, text, y)?,
+        BuildWord::Action => make(guard, d, New::Exit(Dbref(-1)), text, y)?,
+        BuildWord::Link => link(guard, d, x, y)?,
+        BuildWord::Unlink => unlink(guard, d, x)?,
+        BuildWord::Name => rename(guard, d, x, behind)?,
+        BuildWord::Set(message) => set_message(guard, d, x, message, behind)?,
+        BuildWord::Lock => lock(guard, d, x, &behind)?,
+        BuildWord::Unlock => unlock(guard, d, x)?,
+        BuildWord::Teleport => try_write(guard, d, Write::Place(x, y), b"Teleported.")?,
+        BuildWord::Recycle => try_write(guard, d, Write::Recycle(x), b"Recycled.")?,
+        BuildWord::Chown => try_write(guard, d, Write::Owner(x, y), b"Owner changed.")?,
+        BuildWord::Find => find(guard, d, &text)?,
+        BuildWord::Program => return program(guard, d, text),
+        BuildWord::Edit => return edit(guard, d, x),
+        BuildWord::List => return list(guard, d, x),
+        BuildWord::Run => return start(guard, d, line, x, behind),
     }
     Ok(Outcome::Done)
 }
 
-#[tactic(auto, unfolding(spec_commands::specs::Commands::build_line, spec_commands::specs::Going::ended, spec_live::specs::Lives::unchanged))]
+// Reads a line and does what it asks.
+#[tactic(auto, using(cmd_common::proofs::Taking::plays_taken), unfolding(spec_commands::specs::Commands::build_line, spec_commands::specs::Reading::by_table, spec_commands::specs::Going::ended, spec_live::specs::Lives::unchanged))]
 fn play(guard: &mut Guard, d: u32, line: &Line) -> Result<Outcome, NoMemory>
     ensures { Plays (build_line d guard.old.actor line.now) guard.old guard.new result }
 {
     let (word, _) = cut_word(trim(line.as_slice()));
-    let Some(found) = build_word(word) else {
+    let Some(command) = looked_up(words(), word) else {
         return Ok(Outcome::NotMine);
     };
     let text = after_word(guard.alloc(), line)?;
-    build(guard, d, line, word, &text, found)
+    match arguments(guard, d, word, shape_of(command), &text)? {
+        Some(args) => perform(guard, d, line, command, args),
+        None => Ok(Outcome::Done),
+    }
 }
 
 /// Does a line of the player at the connection d, where its first word is one of builders; else it answers `NotMine`, and

@@ -4,18 +4,11 @@
 #![tactic(auto)]
 
 mod command;
-mod lines;
 mod locks;
 mod making;
 mod messages;
-mod moving;
-mod names;
-mod naming;
-mod owning;
-mod program_lines;
 mod programs;
 mod searching;
-mod tying;
-mod words;
+mod writing;
 
 pub use command::run;

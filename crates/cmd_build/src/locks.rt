@@ -1,15 +1,13 @@
 // Locks.
-ghost use Rattle.std.specs.Prelude.{◌≡◌, IfOk, true, None};
-ghost use Rattle.muck_lock.specs.Grammar.{lock_of};
+ghost use Rattle.std.specs.Prelude.{◌≡◌, IfOk, None, [], codes};
 ghost use Rattle.spec_live.specs.Lives.{reading};
 ghost use Rattle.spec_rights.specs.declared.act.Act.{Act};
-ghost use Rattle.spec_commands.specs.Finding.{is_object};
-ghost use Rattle.spec_commands.specs.Building.{key_names, lock_kept, lock_set, lock_cleared};
+ghost use Rattle.spec_commands.specs.Replies.{unlocked_reply};
+ghost use Rattle.spec_commands.specs.Building.{key_kept, key_read, lock_kept, lock_set, kept};
 ghost use Rattle.muck_perm.specs.Guards.{Did, IsLeave, world_of};
-ghost use Rattle.cmd_build.specs.Keys.{key_kept};
 
-use crate::messages::keep;
-use cmd_common::{find_object, line_of, refuse};
+use crate::messages::{keep, path_of};
+use cmd_common::{Write, line_of, refuse, write_by_leave};
 use muck_db::Db;
 use muck_lock::{Finder, LockFault, print, read};
 use muck_match::{Found, find};
@@ -69,7 +67,7 @@ fn printed(alloc: Global, lock: &Lock) -> Result<Option<Line>, NoMemory>
 // The text of the lock that the player means by a key; `None` exactly where it means none, or its text is too long.
 #[tactic(auto, unfolding(spec_commands::specs::Finding::is_so))]
 fn printed_key(guard: &Guard, key: &Line) -> Result<Option<Line>, NoMemory>
-    ensures { IfOk result (λ text. text ≡ key_kept (lock_of (key_names (world_of guard.now) guard.now.actor.player) key.now)) }
+    ensures { IfOk result (λ text. text ≡ key_read guard.now.actor.player key.now (world_of guard.now)) }
 {
     let names = KeyNames {
         db: guard.db(),
@@ -82,27 +80,24 @@ fn printed_key(guard: &Guard, key: &Line) -> Result<Option<Line>, NoMemory>
     }
 }
 
-// Locks an object that is there by a key.
-#[tactic(auto, unfolding(spec_commands::specs::Replies::bad_key, spec_commands::specs::Replies::locked_reply, spec_live::specs::Lives::reading, spec_live::specs::Lives::either, muck_model::specs::Bytes::text_most))]
+// Keeps a lock by leave, or tells the connection that the key means none.
+#[tactic(auto, unfolding(spec_commands::specs::Replies::bad_key, spec_commands::specs::Replies::locked_reply, spec_live::specs::Lives::reading, muck_model::specs::Bytes::text_most))]
 fn lock_by(guard: &mut Guard, pass: Pass, d: u32, x: Dbref, key: &Line) -> Result<(), NoMemory>
-    requires leave { IsLeave pass (Act.Change x) guard.old }
-    requires there { is_object x (world_of guard.old) ≡ true }
-    ensures { Did (reading (λ w. lock_of (key_names w guard.old.actor.player) key.now) (lock_kept d x)) guard.old guard.new result }
+    requires { IsLeave pass (Act.Change x) guard.old }
+    ensures { Did (reading (key_read guard.old.actor.player key.now) (lock_kept d x)) guard.old guard.new result }
 {
+    let path = path_of(guard.alloc(), PATH)?;
     match printed_key(guard, key)? {
         None => guard.tell(d, b"I don't understand that key."),
-        Some(text) => keep(guard, pass, d, x, PATH, text, b"Locked."),
+        Some(text) => write_by_leave(guard, pass, d, Write::Keep(x, path, text), b"Locked."),
     }
 }
 
 /// `@lock`: locks an object by a key, which is kept as it is printed.
-#[tactic(auto, unfolding(spec_commands::specs::Building::lock_set, spec_rights::specs::Asking::asked, spec_live::specs::Lives::reading))]
-pub fn lock(guard: &mut Guard, d: u32, name: &Line, key: &Line) -> Result<(), NoMemory>
-    ensures { Did (lock_set d guard.old.actor name.now key.now) guard.old guard.new result }
+#[tactic(auto, unfolding(spec_commands::specs::Building::lock_set, spec_live::specs::Lives::reading, spec_rights::specs::Asking::asked))]
+pub fn lock(guard: &mut Guard, d: u32, x: Dbref, key: &Line) -> Result<(), NoMemory>
+    ensures { Did (lock_set d guard.old.actor x key.now) guard.old guard.new result }
 {
-    let Some(x) = find_object(guard, d, name)? else {
-        return Ok(());
-    };
     let actor = guard.actor();
     match verdict(guard.db(), &actor, &Act::Change { object: x }) {
         Err(denial) => refuse(guard, d, denial),
@@ -111,19 +106,10 @@ pub fn lock(guard: &mut Guard, d: u32, name: &Line, key: &Line) -> Result<(), No
 }
 
 /// `@unlock`: does away with the lock of an object.
-#[tactic(auto, unfolding(spec_commands::specs::Building::lock_cleared, spec_commands::specs::Replies::unlocked_reply, spec_rights::specs::Asking::asked, muck_model::specs::Bytes::text_most))]
-pub fn unlock(guard: &mut Guard, d: u32, name: &Line) -> Result<(), NoMemory>
-    ensures { Did (lock_cleared d guard.old.actor name.now) guard.old guard.new result }
+#[tactic(auto, unfolding(spec_commands::specs::Building::kept, spec_commands::specs::Replies::unlocked_reply, muck_model::specs::Bytes::text_most))]
+pub fn unlock(guard: &mut Guard, d: u32, x: Dbref) -> Result<(), NoMemory>
+    ensures { Did (kept d guard.old.actor x (codes "lok") [] unlocked_reply) guard.old guard.new result }
 {
-    let Some(x) = find_object(guard, d, name)? else {
-        return Ok(());
-    };
-    let actor = guard.actor();
-    match verdict(guard.db(), &actor, &Act::Change { object: x }) {
-        Err(denial) => refuse(guard, d, denial),
-        Ok(pass) => {
-            let none = line_of(guard.alloc(), b"")?;
-            keep(guard, pass, d, x, PATH, none, b"Unlocked.")
-        }
-    }
+    let none = line_of(guard.alloc(), b"")?;
+    keep(guard, d, x, PATH, none, b"Unlocked.")
 }

@@ -1,24 +1,22 @@
 // Making rooms, things and exits.
 ghost use Rattle.std.specs.Prelude.{◌≡◌, ◌<◌, ◌≤◌, ◌^◌, ◌++◌, true, IfOk, length, codes, []};
 ghost use Rattle.std.specs.Option.{option_map_or};
-ghost use Rattle.muck_model.specs.declared.dbref.Kind.{Kind};
-ghost use Rattle.spec_live.specs.Objects.{dbref_of, nothing, object_at};
-ghost use Rattle.spec_live.specs.Setting.{with_link, with_home};
+ghost use Rattle.spec_live.specs.Objects.{dbref_of, object_at};
+ghost use Rattle.spec_live.specs.Making.{create_check};
 ghost use Rattle.spec_live.specs.Seen.{long_form};
 ghost use Rattle.spec_live.specs.Lives.{tell, reading};
-ghost use Rattle.spec_rights.specs.declared.act.Act.{Act};
+ghost use Rattle.spec_rights.specs.Changing.{created_so};
 ghost use Rattle.spec_rights.specs.Levels.{number_of};
 ghost use Rattle.spec_commands.specs.Replies.{cant_be_done};
-ghost use Rattle.spec_commands.specs.Finding.{where_so, finding_object};
 ghost use Rattle.spec_commands.specs.Going.{home_at};
-ghost use Rattle.spec_commands.specs.Building.{created_shown, making, as_made, dug, may_house, housed, thing_made, may_lead, exit_made, opened_exit, opened_to, action_made};
-ghost use Rattle.muck_perm.specs.Guards.{Did, IsLeave, world_of};
+ghost use Rattle.spec_commands.specs.Building.{created_shown, making, may_house, may_lead, kind_of, as_new, may_be, act_in, made, thing_made, exit_opened};
+ghost use Rattle.muck_perm.specs.Guards.{Did, Founds, IsLeave, world_of};
 ghost use Rattle.cmd_build.specs.Told.{IsTold};
 
-use crate::names::{bad_name, is_name};
-use cmd_common::{cant_be_done, find_object, find_one, place_at, refuse};
+use cmd_common::{cant_be_done, place_at, refuse};
 use muck_model::{Dbref, Kind, Line, NoMemory};
 use muck_perm::{Guard, Pass, long_form, verdict};
+use spec_commands::New;
 use spec_live::DbFault;
 use spec_rights::Act;
 
@@ -71,50 +69,6 @@ fn tell_made(guard: &mut Guard, d: u32, made: Result<Dbref, DbFault>) -> Result<
     }
 }
 
-// Makes a room, where the world allows it.
-fn make_room(
-    guard: &mut Guard,
-    d: u32,
-    pass: Pass,
-    name: Line,
-    place: Dbref,
-) -> Result<(), NoMemory>
-    requires leave { IsLeave pass (Act.NewRoom place) guard.old }
-    requires some { 1 ≤ length name }
-    requires short { length name ≤ 80 }
-    ensures { Did (making d guard.old.actor Kind.Room name place as_made) guard.old guard.new result }
-{
-    let made = guard.create_room(pass, name, place);
-    tell_made(guard, d, made)
-}
-
-/// `@dig`: makes a room below Room Zero.
-#[tactic(auto, unfolding(spec_commands::specs::Building::dug, spec_live::specs::Lives::either, spec_rights::specs::Asking::asked))]
-pub fn dig(guard: &mut Guard, d: u32, name: &Line) -> Result<(), NoMemory>
-    ensures { Did (dug d guard.old.actor name.now) guard.old guard.new result }
-{
-    if !is_name(name.as_slice()) {
-        return bad_name(guard, d);
-    }
-    let name = name.copy(guard.alloc())?;
-    let actor = guard.actor();
-    let act = Act::NewRoom { place: Dbref(0) };
-    match verdict(guard.db(), &actor, &act) {
-        Err(denial) => refuse(guard, d, denial),
-        Ok(pass) => make_room(guard, d, pass, name, Dbref(0)),
-    }
-}
-
-// The home of an object, `#-1` where it isn't there.
-fn home_at(guard: &Guard, x: Dbref) -> Dbref
-    ensures { result ≡ home_at x (world_of guard.now) }
-{
-    match guard.db().get(x) {
-        Some(object) => object.home(),
-        None => NOTHING,
-    }
-}
-
 // Whether a thing may have its home there.
 #[tactic(auto, unfolding(spec_commands::specs::Finding::is_so))]
 fn may_house(guard: &Guard, to: Dbref) -> bool
@@ -123,77 +77,6 @@ fn may_house(guard: &Guard, to: Dbref) -> bool
     match guard.db().get(to) {
         Some(object) => matches!(object.kind(), Kind::Room | Kind::Thing | Kind::Player),
         None => false,
-    }
-}
-
-// Makes a thing with a home that it may have, where the world allows it.
-#[tactic(auto, unfolding(spec_commands::specs::Finding::is_so))]
-fn make_thing(
-    guard: &mut Guard,
-    d: u32,
-    pass: Pass,
-    name: Line,
-    place: Dbref,
-    home: Dbref,
-) -> Result<(), NoMemory>
-    requires leave { IsLeave pass (Act.NewThing place) guard.old }
-    requires some { 1 ≤ length name }
-    requires short { length name ≤ 80 }
-    requires home { may_house home (world_of guard.old) ≡ true }
-    ensures { Did (making d guard.old.actor Kind.Thing name place (with_home home)) guard.old guard.new result }
-{
-    let made = guard.create_thing(pass, name, place, home);
-    tell_made(guard, d, made)
-}
-
-// Makes a thing that the player carries, where a thing may have that home and the world allows it.
-#[tactic(auto, unfolding(spec_commands::specs::Building::housed, spec_commands::specs::Finding::where_so, spec_live::specs::Lives::reading, spec_live::specs::Lives::either))]
-fn house_thing(
-    guard: &mut Guard,
-    d: u32,
-    pass: Pass,
-    name: Line,
-    home: Dbref,
-) -> Result<(), NoMemory>
-    requires leave { IsLeave pass (Act.NewThing guard.old.actor.player) guard.old }
-    requires some { 1 ≤ length name }
-    requires short { length name ≤ 80 }
-    ensures { Did (housed d guard.old.actor name home) guard.old guard.new result }
-{
-    if !may_house(guard, home) {
-        return cant_be_done(guard, d);
-    }
-    let player = guard.actor().player;
-    make_thing(guard, d, pass, name, player, home)
-}
-
-// Makes a thing that the player carries, and whose home is the player's, where the world allows it.
-fn make_at_home(guard: &mut Guard, d: u32, pass: Pass, name: Line) -> Result<(), NoMemory>
-    requires leave { IsLeave pass (Act.NewThing guard.old.actor.player) guard.old }
-    requires some { 1 ≤ length name }
-    requires short { length name ≤ 80 }
-    ensures { Did (reading (home_at guard.old.actor.player) (housed d guard.old.actor name)) guard.old guard.new result }
-{
-    let home = home_at(guard, guard.actor().player);
-    house_thing(guard, d, pass, name, home)
-}
-
-/// `@create`: makes a thing that the player carries, and whose home is the player's.
-#[tactic(auto, unfolding(spec_commands::specs::Building::thing_made, spec_live::specs::Lives::either, spec_rights::specs::Asking::asked))]
-pub fn create(guard: &mut Guard, d: u32, name: &Line) -> Result<(), NoMemory>
-    ensures { Did (thing_made d guard.old.actor name.now) guard.old guard.new result }
-{
-    if !is_name(name.as_slice()) {
-        return bad_name(guard, d);
-    }
-    let name = name.copy(guard.alloc())?;
-    let actor = guard.actor();
-    let act = Act::NewThing {
-        place: actor.player,
-    };
-    match verdict(guard.db(), &actor, &act) {
-        Err(denial) => refuse(guard, d, denial),
-        Ok(pass) => make_at_home(guard, d, pass, name),
     }
 }
 
@@ -211,115 +94,118 @@ fn may_lead(guard: &Guard, to: Dbref) -> bool
     }
 }
 
-// Makes an exit that leads where it may lead, where the world allows it.
+// Whether the field that is set at once may be that.
+fn may_be(guard: &Guard, new: New) -> bool
+    ensures { result ≡ may_be new (world_of guard.now) }
+{
+    match new {
+        New::Room => true,
+        New::Thing(at) => may_house(guard, at),
+        New::Exit(to) => may_lead(guard, to),
+    }
+}
+
+// The act by which it is asked.
+fn act_in(place: Dbref, new: New) -> Act
+    ensures { result ≡ act_in place new }
+{
+    match new {
+        New::Room => Act::NewRoom { place },
+        New::Thing(_) => Act::NewThing { place },
+        New::Exit(link) => Act::NewExit { place, link },
+    }
+}
+
+// Makes it by leave, where the world allows it.
 #[tactic(auto, unfolding(spec_commands::specs::Finding::is_so))]
-fn make_linked(
+fn create(
+    guard: &mut Guard,
+    pass: Pass,
+    new: New,
+    name: Line,
+    place: Dbref,
+) -> Result<Dbref, DbFault>
+    requires leave { IsLeave pass (act_in place new) guard.old }
+    requires some { 1 ≤ length name }
+    requires short { length name ≤ 80 }
+    requires fits { may_be new (world_of guard.old) ≡ true }
+    ensures { Founds (create_check (kind_of new) guard.old.actor.user place guard.old.db.now) (λ n to. created_so n (kind_of new) name guard.old.actor.user to (as_new new)) guard.old guard.new result }
+{
+    match new {
+        New::Room => guard.create_room(pass, name, place),
+        New::Thing(at) => guard.create_thing(pass, name, place, at),
+        New::Exit(to) => guard.create_exit(pass, name, place, to),
+    }
+}
+
+// Makes it by leave, and tells the connection what came of it.
+fn make_by(
     guard: &mut Guard,
     d: u32,
     pass: Pass,
+    new: New,
     name: Line,
     place: Dbref,
-    to: Dbref,
 ) -> Result<(), NoMemory>
-    requires leave { IsLeave pass (Act.NewExit place to) guard.old }
+    requires leave { IsLeave pass (act_in place new) guard.old }
     requires some { 1 ≤ length name }
     requires short { length name ≤ 80 }
-    requires leads { may_lead to (world_of guard.old) ≡ true }
-    ensures { Did (making d guard.old.actor Kind.Exit name place (with_link to)) guard.old guard.new result }
+    requires fits { may_be new (world_of guard.old) ≡ true }
+    ensures { Did (making d guard.old.actor (kind_of new) name place (as_new new)) guard.old guard.new result }
 {
-    let made = guard.create_exit(pass, name, place, to);
+    let made = create(guard, pass, new, name, place);
     tell_made(guard, d, made)
 }
 
-// Makes an exit by leave of the rules, where it may lead there and the world allows it.
-#[tactic(auto, unfolding(spec_commands::specs::Finding::where_so, spec_live::specs::Lives::reading, spec_live::specs::Lives::either))]
-fn link_new(
-    guard: &mut Guard,
-    d: u32,
-    pass: Pass,
-    name: Line,
-    place: Dbref,
-    to: Dbref,
-) -> Result<(), NoMemory>
-    requires leave { IsLeave pass (Act.NewExit place to) guard.old }
+/// Makes it in a place, where neither a rule nor the world denies it; the connection is told what was made, or why nothing.
+#[tactic(auto, unfolding(spec_commands::specs::Building::made, spec_commands::specs::Finding::where_so, spec_live::specs::Lives::reading, spec_live::specs::Lives::either, spec_rights::specs::Asking::asked))]
+pub fn make(guard: &mut Guard, d: u32, new: New, name: Line, place: Dbref) -> Result<(), NoMemory>
     requires some { 1 ≤ length name }
     requires short { length name ≤ 80 }
-    ensures { Did (where_so (may_lead to) (tell d cant_be_done) (making d guard.old.actor Kind.Exit name place (with_link to))) guard.old guard.new result }
+    ensures { Did (made d guard.old.actor new name place) guard.old guard.new result }
 {
-    if !may_lead(guard, to) {
-        return cant_be_done(guard, d);
-    }
-    make_linked(guard, d, pass, name, place, to)
-}
-
-// Makes an exit, where neither a rule nor the world denies it or its link.
-#[tactic(auto, unfolding(spec_commands::specs::Building::exit_made, spec_rights::specs::Asking::asked))]
-fn make_exit(
-    guard: &mut Guard,
-    d: u32,
-    name: &Line,
-    place: Dbref,
-    to: Dbref,
-) -> Result<(), NoMemory>
-    requires some { 1 ≤ length name.now }
-    requires short { length name.now ≤ 80 }
-    ensures { Did (exit_made d guard.old.actor name.now place to) guard.old guard.new result }
-{
-    let name = name.copy(guard.alloc())?;
     let actor = guard.actor();
-    let act = Act::NewExit { place, link: to };
+    let act = act_in(place, new);
     match verdict(guard.db(), &actor, &act) {
         Err(denial) => refuse(guard, d, denial),
-        Ok(pass) => link_new(guard, d, pass, name, place, to),
+        Ok(pass) => {
+            if may_be(guard, new) {
+                return make_by(guard, d, pass, new, name, place);
+            }
+            cant_be_done(guard, d)
+        }
     }
 }
 
-/// `@open` with a name alone: makes an exit on the place, which leads nowhere yet.
-#[tactic(auto, unfolding(spec_commands::specs::Building::opened_exit, spec_live::specs::Lives::either, spec_live::specs::Lives::reading))]
-pub fn open(guard: &mut Guard, d: u32, name: &Line) -> Result<(), NoMemory>
-    ensures { Did (opened_exit d guard.old.actor name.now) guard.old guard.new result }
+// The home of an object, `#-1` where it isn't there.
+fn home_at(guard: &Guard, x: Dbref) -> Dbref
+    ensures { result ≡ home_at x (world_of guard.now) }
 {
-    if !is_name(name.as_slice()) {
-        return bad_name(guard, d);
+    match guard.db().get(x) {
+        Some(object) => object.home(),
+        None => NOTHING,
     }
+}
+
+/// `@create`: makes a thing that the player carries, and whose home is the player's.
+#[tactic(auto, unfolding(spec_commands::specs::Building::thing_made, spec_live::specs::Lives::reading))]
+pub fn make_thing(guard: &mut Guard, d: u32, name: Line) -> Result<(), NoMemory>
+    requires some { 1 ≤ length name }
+    requires short { length name ≤ 80 }
+    ensures { Did (thing_made d guard.old.actor name) guard.old guard.new result }
+{
+    let player = guard.actor().player;
+    let at = home_at(guard, player);
+    make(guard, d, New::Thing(at), name, player)
+}
+
+/// `@open`: makes an exit where the player is, which leads to a place, or with `#-1` nowhere.
+#[tactic(auto, unfolding(spec_commands::specs::Building::exit_opened, spec_live::specs::Lives::reading))]
+pub fn open(guard: &mut Guard, d: u32, name: Line, to: Dbref) -> Result<(), NoMemory>
+    requires some { 1 ≤ length name }
+    requires short { length name ≤ 80 }
+    ensures { Did (exit_opened d guard.old.actor name to) guard.old guard.new result }
+{
     let here = place_at(guard, guard.actor().player);
-    make_exit(guard, d, name, here, NOTHING)
-}
-
-/// `@open`: makes an exit on the place, which leads to what the target names.
-#[tactic(auto, unfolding(spec_commands::specs::Building::opened_to, spec_live::specs::Lives::either, spec_live::specs::Lives::reading))]
-pub fn open_to(guard: &mut Guard, d: u32, name: &Line, target: &Line) -> Result<(), NoMemory>
-    ensures { Did (opened_to d guard.old.actor name.now target.now) guard.old guard.new result }
-{
-    if !is_name(name.as_slice()) {
-        return bad_name(guard, d);
-    }
-    let Some(to) = find_one(guard, d, target)? else {
-        return Ok(());
-    };
-    let here = place_at(guard, guard.actor().player);
-    make_exit(guard, d, name, here, to)
-}
-
-// Makes an exit on the object that the target names, which leads nowhere yet.
-fn open_on(guard: &mut Guard, d: u32, name: &Line, target: &Line) -> Result<(), NoMemory>
-    requires some { 1 ≤ length name.now }
-    requires short { length name.now ≤ 80 }
-    ensures { Did (finding_object d guard.old.actor target.now (λ x. exit_made d guard.old.actor name.now x nothing)) guard.old guard.new result }
-{
-    let Some(x) = find_object(guard, d, target)? else {
-        return Ok(());
-    };
-    make_exit(guard, d, name, x, NOTHING)
-}
-
-/// `@action`: makes an exit on what the target names, which leads nowhere yet.
-#[tactic(auto, unfolding(spec_commands::specs::Building::action_made, spec_commands::specs::Finding::finding_object, spec_live::specs::Lives::either))]
-pub fn act_on(guard: &mut Guard, d: u32, name: &Line, target: &Line) -> Result<(), NoMemory>
-    ensures { Did (action_made d guard.old.actor name.now target.now) guard.old guard.new result }
-{
-    if !is_name(name.as_slice()) {
-        return bad_name(guard, d);
-    }
-    open_on(guard, d, name, target)
+    make(guard, d, New::Exit(to), name, here)
 }

@@ -1,28 +1,26 @@
 // Messages and locks.
-ghost use Rattle.std.specs.Prelude.{◌≡◌, IfOk, None, true, [], codes};
+ghost use Rattle.std.specs.Prelude.{◌≡◌, IfOk, None, true, codes};
 ghost use Rattle.muck_model.specs.Bytes.{text_fault};
 ghost use Rattle.muck_prop.specs.declared.value.PropValue.TheVariants.{Text};
 ghost use Rattle.muck_prop.specs.Paths.{class_of, path_fault, segments_of};
-ghost use Rattle.spec_live.specs.Lives.{◌▸◌, tell};
 ghost use Rattle.spec_rights.specs.declared.act.Act.{Act};
 ghost use Rattle.spec_rights.specs.Verdict.{is_guarded};
 ghost use Rattle.spec_rights.specs.Changing.{stored};
-ghost use Rattle.spec_commands.specs.Finding.{is_object, message_path};
-ghost use Rattle.spec_commands.specs.Building.{message_set};
+ghost use Rattle.spec_commands.specs.Finding.{message_path};
+ghost use Rattle.spec_commands.specs.Building.{is_there, written, kept};
 ghost use Rattle.spec_commands.specs.Commands.{message_name};
-ghost use Rattle.muck_perm.specs.Guards.{Did, IsLeave, world_of};
+ghost use Rattle.spec_commands.specs.Replies.{set_reply};
+ghost use Rattle.muck_perm.specs.Guards.{Did};
 
-use cmd_common::{find_object, line_of, refuse};
+use cmd_common::{Write, line_of, try_write};
 use muck_model::{Dbref, Line, NoMemory};
-use muck_perm::{Guard, Pass, verdict};
-use muck_prop::{Path, PropFault, PropValue, read_path};
+use muck_perm::Guard;
+use muck_prop::{Path, PropFault, read_path};
 use spec_commands::Message;
-use spec_live::DbFault;
-use spec_rights::Act;
 use std::alloc::Global;
 
-// The path that a text holds.
-fn path_of(alloc: Global, text: &[u8]) -> Result<Path, NoMemory>
+/// The path that a text holds.
+pub fn path_of(alloc: Global, text: &[u8]) -> Result<Path, NoMemory>
     requires text { text_fault text.now ≡ None }
     requires fine { path_fault text.now ≡ None }
     ensures { IfOk result (λ path. path ≡ segments_of text.now) }
@@ -35,42 +33,22 @@ fn path_of(alloc: Global, text: &[u8]) -> Result<Path, NoMemory>
     }
 }
 
-// Stores a text at a guarded path of an object that is there.
-#[tactic(auto, using(crate::proofs::There::tried_there))]
-fn store(guard: &mut Guard, pass: Pass, x: Dbref, path: Path, text: Line) -> Result<(), NoMemory>
-    requires leave { IsLeave pass (Act.Change x) guard.old }
-    requires there { is_object x (world_of guard.old) ≡ true }
-    requires guarded { is_guarded (class_of path) ≡ true }
-    ensures { Did (stored x path (Text text)) guard.old guard.new result }
-{
-    match guard.store_message(pass, x, path, PropValue::Text(text)) {
-        Ok(()) => Ok(()),
-        Err(DbFault::NoMemory) => Err(NoMemory),
-        Err(_) => unreachable!(),
-    }
-}
-
-/// Keeps a message or a lock of an object that is there, and replies; an empty text clears it.
-#[tactic(auto, unfolding(spec_live::specs::Lives::followed))]
+/// Keeps a message or a lock of an object, where neither a rule nor the world denies it; an empty text clears it.
 pub fn keep(
     guard: &mut Guard,
-    pass: Pass,
     d: u32,
     x: Dbref,
     path: &[u8],
     text: Line,
     reply: &[u8],
 ) -> Result<(), NoMemory>
-    requires leave { IsLeave pass (Act.Change x) guard.old }
-    requires there { is_object x (world_of guard.old) ≡ true }
     requires text { text_fault path.now ≡ None }
     requires fine { path_fault path.now ≡ None }
     requires guarded { is_guarded (class_of (segments_of path.now)) ≡ true }
-    ensures { Did (stored x (segments_of path.now) (Text text) ▸ tell d reply.now) guard.old guard.new result }
+    ensures { Did (written d guard.old.actor (Act.Change x) (is_there x) (stored x (segments_of path.now) (Text text)) reply.now) guard.old guard.new result }
 {
     let path = path_of(guard.alloc(), path)?;
-    store(guard, pass, x, path, text)?;
-    guard.tell(d, reply)
+    try_write(guard, d, Write::Keep(x, path, text), reply)
 }
 
 // The path of a message, as text.
@@ -93,25 +71,15 @@ fn path_text(message: Message) -> &'static [u8]
 }
 
 /// Sets a message of an object; an empty text clears it.
-#[tactic(auto, unfolding(spec_commands::specs::Building::message_set, spec_commands::specs::Replies::set_reply, spec_rights::specs::Asking::asked))]
+#[tactic(auto, unfolding(spec_commands::specs::Building::kept, spec_commands::specs::Replies::set_reply))]
 pub fn set_message(
     guard: &mut Guard,
     d: u32,
+    x: Dbref,
     message: Message,
-    name: &Line,
-    text: &Line,
+    text: Line,
 ) -> Result<(), NoMemory>
-    ensures { Did (message_set d guard.old.actor (message_name message) name.now text.now) guard.old guard.new result }
+    ensures { Did (kept d guard.old.actor x (message_name message) text set_reply) guard.old guard.new result }
 {
-    let Some(x) = find_object(guard, d, name)? else {
-        return Ok(());
-    };
-    let actor = guard.actor();
-    match verdict(guard.db(), &actor, &Act::Change { object: x }) {
-        Err(denial) => refuse(guard, d, denial),
-        Ok(pass) => {
-            let text = text.copy(guard.alloc())?;
-            keep(guard, pass, d, x, path_text(message), text, b"Set.")
-        }
-    }
+    keep(guard, d, x, path_text(message), text, b"Set.")
 }

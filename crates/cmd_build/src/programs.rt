@@ -3,14 +3,13 @@ ghost use Rattle.std.specs.Prelude.{◌≡◌, ◌≤◌, IfOk, length};
 ghost use Rattle.spec_live.specs.Lives.{tell};
 ghost use Rattle.spec_rights.specs.declared.act.Act.{Act};
 ghost use Rattle.spec_commands.specs.Replies.{entering_editor};
-ghost use Rattle.spec_commands.specs.Programming.{source_of, program_new, program_made, editor_entered, program_edited, source_shown, program_listed, program_called, program_run};
+ghost use Rattle.spec_commands.specs.Programming.{source_of, program_new, program_made, program_edited, program_listed, program_run};
 ghost use Rattle.muck_perm.specs.Guards.{Did, IsLeave, world_of};
 ghost use Rattle.cmd_common.specs.Plays.{Plays};
 ghost use Rattle.cmd_build.specs.Entering.{IsEntered};
 
 use crate::making::{number_of, show_created};
-use crate::names::{bad_name, is_name};
-use cmd_common::{cant_be_done, copy_lines, find_program, refuse, show_lines};
+use cmd_common::{cant_be_done, copy_lines, refuse, show_lines};
 use muck_model::{Dbref, Line, LineList, NoMemory};
 use muck_perm::{Guard, Pass, verdict};
 use spec_commands::Outcome;
@@ -58,54 +57,34 @@ fn make_program(guard: &mut Guard, d: u32, pass: Pass, name: Line) -> Result<Out
 }
 
 /// `@program`: makes a program that the player carries, and whose editor is to be opened.
-#[tactic(auto, unfolding(spec_commands::specs::Programming::program_made, spec_commands::specs::Going::ended, spec_live::specs::Lives::either, spec_rights::specs::Asking::asked))]
-pub fn program(guard: &mut Guard, d: u32, name: &Line) -> Result<Outcome, NoMemory>
-    ensures { Plays (program_made d guard.old.actor name.now) guard.old guard.new result }
+#[tactic(auto, unfolding(spec_commands::specs::Programming::program_made, spec_commands::specs::Going::ended, spec_rights::specs::Asking::asked))]
+pub fn program(guard: &mut Guard, d: u32, name: Line) -> Result<Outcome, NoMemory>
+    requires some { 1 ≤ length name }
+    requires short { length name ≤ 80 }
+    ensures { Plays (program_made d guard.old.actor name) guard.old guard.new result }
 {
-    if !is_name(name.as_slice()) {
-        bad_name(guard, d)?;
-        return Ok(Outcome::Done);
-    }
-    let name = name.copy(guard.alloc())?;
     let actor = guard.actor();
     let act = Act::NewProgram;
     match verdict(guard.db(), &actor, &act) {
-        Err(denial) => {
-            refuse(guard, d, denial)?;
-            Ok(Outcome::Done)
-        }
-        Ok(pass) => make_program(guard, d, pass, name),
+        Ok(pass) => return make_program(guard, d, pass, name),
+        Err(denial) => refuse(guard, d, denial)?,
     }
+    Ok(Outcome::Done)
 }
 
-// The editor of a program is to be opened, where no rule denies it.
-#[tactic(auto, unfolding(spec_commands::specs::Programming::editor_entered, spec_commands::specs::Going::ended, spec_rights::specs::Asking::asked))]
-fn enter(guard: &mut Guard, d: u32, x: Dbref) -> Result<Outcome, NoMemory>
-    ensures { Plays (editor_entered d guard.old.actor x) guard.old guard.new result }
+/// `@edit`: the editor of a program is to be opened, where no rule denies it.
+#[tactic(auto, unfolding(spec_commands::specs::Programming::program_edited, spec_commands::specs::Going::ended, spec_rights::specs::Asking::asked))]
+pub fn edit(guard: &mut Guard, d: u32, x: Dbref) -> Result<Outcome, NoMemory>
+    ensures { Plays (program_edited d guard.old.actor x) guard.old guard.new result }
 {
     let actor = guard.actor();
     let act = Act::Edit { program: x };
-    match verdict(guard.db(), &actor, &act) {
-        Err(denial) => {
-            refuse(guard, d, denial)?;
-            Ok(Outcome::Done)
-        }
-        Ok(_) => {
-            tell_entering(guard, d)?;
-            Ok(Outcome::Edit(x))
-        }
-    }
-}
-
-/// `@edit`: the editor of the program of a name is to be opened.
-#[tactic(auto, unfolding(spec_commands::specs::Programming::program_edited))]
-pub fn edit(guard: &mut Guard, d: u32, name: &Line) -> Result<Outcome, NoMemory>
-    ensures { Plays (program_edited d guard.old.actor name.now) guard.old guard.new result }
-{
-    let Some(x) = find_program(guard, d, name)? else {
+    if let Err(denial) = verdict(guard.db(), &actor, &act) {
+        refuse(guard, d, denial)?;
         return Ok(Outcome::Done);
-    };
-    enter(guard, d, x)
+    }
+    tell_entering(guard, d)?;
+    Ok(Outcome::Edit(x))
 }
 
 // A copy of the source of a program.
@@ -119,73 +98,45 @@ fn source(guard: &Guard, pass: Pass, x: Dbref) -> Result<LineList, NoMemory>
     }
 }
 
-// Shows the source of a program, where no rule denies it.
-#[tactic(auto, unfolding(spec_commands::specs::Programming::source_shown, spec_commands::specs::Going::ended, spec_live::specs::Lives::reading, spec_rights::specs::Asking::asked))]
-fn show_source(guard: &mut Guard, d: u32, x: Dbref) -> Result<Outcome, NoMemory>
-    ensures { Plays (source_shown d guard.old.actor x) guard.old guard.new result }
+/// `@list`: shows the source of a program, where no rule denies it.
+#[tactic(auto, unfolding(spec_commands::specs::Programming::program_listed, spec_commands::specs::Going::ended, spec_live::specs::Lives::reading, spec_rights::specs::Asking::asked))]
+pub fn list(guard: &mut Guard, d: u32, x: Dbref) -> Result<Outcome, NoMemory>
+    ensures { Plays (program_listed d guard.old.actor x) guard.old guard.new result }
 {
     let actor = guard.actor();
     let act = Act::Change { object: x };
     match verdict(guard.db(), &actor, &act) {
-        Err(denial) => {
-            refuse(guard, d, denial)?;
-            Ok(Outcome::Done)
-        }
+        Err(denial) => refuse(guard, d, denial)?,
         Ok(pass) => {
             let lines = source(guard, pass, x)?;
             show_lines(guard, d, lines.as_slice())?;
-            Ok(Outcome::Done)
         }
     }
+    Ok(Outcome::Done)
 }
 
-/// `@list`: shows the source of the program of a name.
-#[tactic(auto, unfolding(spec_commands::specs::Programming::program_listed))]
-pub fn list(guard: &mut Guard, d: u32, name: &Line) -> Result<Outcome, NoMemory>
-    ensures { Plays (program_listed d guard.old.actor name.now) guard.old guard.new result }
-{
-    let Some(x) = find_program(guard, d, name)? else {
-        return Ok(Outcome::Done);
-    };
-    show_source(guard, d, x)
-}
-
-// A program is to be started by a line, where no rule denies it.
-#[tactic(auto, unfolding(spec_commands::specs::Programming::program_called, spec_commands::specs::Going::ended, spec_live::specs::Lives::unchanged, spec_rights::specs::Asking::asked))]
-fn call(guard: &mut Guard, d: u32, line: &Line, text: &Line, x: Dbref) -> Result<Outcome, NoMemory>
-    ensures { Plays (program_called d guard.old.actor line.now text.now x) guard.old guard.new result }
-{
-    let command = line.copy(guard.alloc())?;
-    let arg = text.copy(guard.alloc())?;
-    let actor = guard.actor();
-    let act = Act::Call { program: x };
-    match verdict(guard.db(), &actor, &act) {
-        Err(denial) => {
-            refuse(guard, d, denial)?;
-            Ok(Outcome::Done)
-        }
-        Ok(_) => Ok(Outcome::Start {
-            program: x,
-            trigger: x,
-            command,
-            arg,
-        }),
-    }
-}
-
-/// `@run`: the program of a name is to be started by a line, with a text on its stack.
-#[tactic(auto, unfolding(spec_commands::specs::Programming::program_run))]
+/// `@run`: a program is to be started by a line, with a text on its stack, where no rule denies it.
+#[tactic(auto, unfolding(spec_commands::specs::Programming::program_run, spec_commands::specs::Going::ended, spec_live::specs::Lives::unchanged, spec_rights::specs::Asking::asked))]
 pub fn start(
     guard: &mut Guard,
     d: u32,
     line: &Line,
-    name: &Line,
-    text: &Line,
+    x: Dbref,
+    arg: Line,
 ) -> Result<Outcome, NoMemory>
-    ensures { Plays (program_run d guard.old.actor line.now name.now text.now) guard.old guard.new result }
+    ensures { Plays (program_run d guard.old.actor line.now x arg) guard.old guard.new result }
 {
-    let Some(x) = find_program(guard, d, name)? else {
+    let command = line.copy(guard.alloc())?;
+    let actor = guard.actor();
+    let act = Act::Call { program: x };
+    if let Err(denial) = verdict(guard.db(), &actor, &act) {
+        refuse(guard, d, denial)?;
         return Ok(Outcome::Done);
-    };
-    call(guard, d, line, text, x)
+    }
+    Ok(Outcome::Start {
+        program: x,
+        trigger: x,
+        command,
+        arg,
+    })
 }

@@ -1,3 +1,5 @@
 pub mod Texts
 pub mod Doing
 pub mod Shown
+pub mod Taking
+pub mod Written

@@ -1,9 +1,12 @@
 -- Parts of texts are texts.
 use Rattle.std.proofs.Common.{◌≡◌, ℕ, suc, ◌+◌, Bool, true, false, cond, List, [], ◌∷◌, take, drop, None, refl, sym, subst, ap}
 use Rattle.std.specs.List.{before_first, after_first, position_or_len}
-use Rattle.muck_model.specs.Bytes.{text_fault}
+use Rattle.muck_model.specs.Bytes.{text_most, text_fault}
 use Rattle.muck_lock.proofs.Places.{text_fault-take, text_fault-drop}
 use Rattle.spec_commands.specs.Texts.{is_space, start_trimmed, before_trimmed, end_trimmed, trimmed}
+use Rattle.spec_commands.specs.declared.shape.Form.{Form}
+use Rattle.spec_commands.specs.declared.shape.Form.TheVariants.{Any, One, Two, Full, OneOrFull}
+use Rattle.spec_commands.specs.Reading.{is_equals, left_part, right_part, has_equals, left_in, right_in}
 
 abbrev IsLine : List ℕ → Type 0
 IsLine xs = text_fault xs ≡ None
@@ -48,4 +51,29 @@ after_text p xs h = text_fault-drop (position_or_len p xs + 1) xs h
 pub rest_text : (n : ℕ) (xs : List ℕ) → text_fault xs ≡ None → text_fault (drop n xs) ≡ None
 rest_text n xs h = text_fault-drop n xs h
 
-pub ruleset parts_are_texts = (trimmed_text, before_text, after_text, rest_text)
+left_part_text : (xs : List ℕ) → text_fault xs ≡ None → text_fault (left_part xs) ≡ None
+left_part_text xs h = trimmed_text (before_first is_equals xs) (before_text is_equals xs h)
+
+right_part_text : (xs : List ℕ) → text_fault xs ≡ None → text_fault (right_part xs) ≡ None
+right_part_text xs h = trimmed_text (after_first is_equals xs) (after_text is_equals xs h)
+
+either_text : (b : Bool) (xs ys : List ℕ) → text_fault xs ≡ None → text_fault ys ≡ None → text_fault (cond b xs ys) ≡ None
+either_text true xs ys p q = p
+either_text false xs ys p q = q
+
+pub left_text : (form : Form) (xs : List ℕ) → text_fault xs ≡ None → text_fault (left_in form xs) ≡ None
+left_text Any xs h = h
+left_text One xs h = h
+left_text Two xs h = left_part_text xs h
+left_text Full xs h = left_part_text xs h
+left_text OneOrFull xs h = either_text (has_equals xs) _ _ (left_part_text xs h) h
+
+pub right_text : (form : Form) (xs : List ℕ) → text_fault xs ≡ None → text_fault (right_in form xs) ≡ None
+unfolding text_most
+right_text Any xs h = refl
+right_text One xs h = refl
+right_text Two xs h = right_part_text xs h
+right_text Full xs h = right_part_text xs h
+right_text OneOrFull xs h = either_text (has_equals xs) _ _ (right_part_text xs h) refl
+
+pub ruleset parts_are_texts = (trimmed_text, before_text, after_text, rest_text, left_text, right_text)

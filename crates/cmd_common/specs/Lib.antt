@@ -1,2 +1,3 @@
 pub mod Plays
-pub mod Cuts
+pub mod Takes
+pub mod Writes

@@ -6,9 +6,8 @@ ghost use Rattle.muck_match.specs.Naming.{found, player_named};
 ghost use Rattle.spec_commands.specs.Replies.{not_understood, not_known};
 ghost use Rattle.spec_commands.specs.Finding.{finding, finding_player, finding_object, is_object};
 ghost use Rattle.spec_commands.specs.Going.{is_program_at};
-ghost use Rattle.spec_commands.specs.Programming.{finding_program};
 ghost use Rattle.muck_perm.specs.Guards.{Did, world_of};
-ghost use Rattle.cmd_common.specs.Plays.{Finds, FindsFor};
+ghost use Rattle.cmd_common.specs.Plays.{Finds};
 
 use crate::replies::cant_be_done;
 use muck_match::{Found, find, player};
@@ -28,7 +27,7 @@ fn around(alloc: Global, before: &[u8], text: &[u8], after: &[u8]) -> Result<Vec
 }
 
 #[tactic(auto, unfolding(spec_commands::specs::Replies::not_understood))]
-fn tell_not_understood(guard: &mut Guard, d: u32, text: &[u8]) -> Result<(), NoMemory>
+pub(crate) fn tell_not_understood(guard: &mut Guard, d: u32, text: &[u8]) -> Result<(), NoMemory>
     ensures { Did (tell d (not_understood text.now)) guard.old guard.new result }
 {
     let reply = around(guard.alloc(), b"I don't understand '", text, b"'.")?;
@@ -37,7 +36,7 @@ fn tell_not_understood(guard: &mut Guard, d: u32, text: &[u8]) -> Result<(), NoM
 }
 
 #[tactic(auto, unfolding(spec_commands::specs::Replies::not_known))]
-fn tell_not_known(guard: &mut Guard, d: u32, text: &[u8]) -> Result<(), NoMemory>
+pub(crate) fn tell_not_known(guard: &mut Guard, d: u32, text: &[u8]) -> Result<(), NoMemory>
     ensures { Did (tell d (not_known text.now)) guard.old guard.new result }
 {
     let reply = around(guard.alloc(), b"I don't know which '", text, b"' you mean!")?;
@@ -111,30 +110,5 @@ pub fn is_program(guard: &Guard, x: Dbref) -> bool
     match guard.db().get(x) {
         Some(object) => matches!(object.kind(), Kind::Program),
         None => false,
-    }
-}
-
-/// The one program that the player means by a text. `None` exactly where there is nothing of that name or several, or
-/// where it is no program, and then the connection was told.
-#[tactic(auto, unfolding(spec_commands::specs::Programming::finding_program, spec_commands::specs::Finding::finding, spec_commands::specs::Finding::where_so, spec_commands::specs::Going::ended, spec_live::specs::Lives::reading, spec_live::specs::Lives::either))]
-pub fn find_program(guard: &mut Guard, d: u32, text: &Line) -> Result<Option<Dbref>, NoMemory>
-    ensures { FindsFor (finding_program d guard.old.actor text.now) guard.old guard.new result }
-{
-    match find(guard.db(), guard.actor().player, text) {
-        Found::One(x) => {
-            if is_program(guard, x) {
-                return Ok(Some(x));
-            }
-            cant_be_done(guard, d)?;
-            Ok(None)
-        }
-        Found::None => {
-            tell_not_understood(guard, d, text.as_slice())?;
-            Ok(None)
-        }
-        Found::Many => {
-            tell_not_known(guard, d, text.as_slice())?;
-            Ok(None)
-        }
     }
 }

@@ -3,13 +3,19 @@
 #![tactic(auto)]
 
 mod finding;
+mod names;
 mod parts;
+mod reading;
 mod replies;
 mod showing;
 mod sources;
+mod writing;
 
-pub use finding::{find_object, find_one, find_player, find_program, is_object, is_program};
-pub use parts::{Parts, after_sign, after_word, full_parts, has_equals, line_of, two_parts};
-pub use replies::{cant_be_done, incomplete, refuse};
+pub use finding::{find_object, find_one, find_player, is_object, is_program};
+pub use names::{is_name, is_player_name};
+pub use parts::{Parts, after_sign, after_word, line_of, parts_in};
+pub use reading::{arguments, looked_up};
+pub use replies::{bad_name, cant_be_done, incomplete, refuse};
 pub use showing::{list, name_and, place_at, show_lines, show_name, show_others};
 pub use sources::{copy_lines, same_lines};
+pub use writing::{Write, try_write, write_by_leave};

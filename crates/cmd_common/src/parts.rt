@@ -3,11 +3,11 @@ ghost use Rattle.std.specs.Prelude.{◌≡◌, ◌≤◌, IfOk, None, length, dr
 ghost use Rattle.std.specs.List.{position, position_or_len, before_first, after_first, list_any};
 ghost use Rattle.muck_model.specs.Bytes.{text_fault};
 ghost use Rattle.spec_commands.specs.Texts.{first_word, other_words, trimmed};
-ghost use Rattle.spec_commands.specs.Commands.{is_equals, has_equals, is_empty, left_part, right_part};
-ghost use Rattle.cmd_common.specs.Cuts.{IsCut, has_two, has_full};
+ghost use Rattle.spec_commands.specs.Reading.{is_equals, has_equals, is_whole, left_in, right_in};
+ghost use Rattle.cmd_common.specs.Takes.{IsCut};
 
 use muck_model::{Line, LineFault, NoMemory};
-use spec_commands::{cut_word, trim};
+use spec_commands::{Form, cut_word, trim};
 use std::alloc::Global;
 
 /// What stands before the first `=` of a text, and what stands behind it, without the spaces at their ends.
@@ -59,8 +59,8 @@ fn equals_at(text: &[u8]) -> Option<usize>
     text.iter().position(|b| *b == b'=')
 }
 
-/// Whether a text has an `=`.
-pub fn has_equals(text: &[u8]) -> bool
+// Whether a text has an `=`.
+fn has_equals(text: &[u8]) -> bool
     ensures { result ≡ has_equals text.now }
 {
     text.iter().any(|b| *b == b'=')
@@ -87,35 +87,58 @@ fn cut_equals(text: &[u8]) -> (&[u8], &[u8])
     }
 }
 
-/// The parts of a text around its first `=`, of which the second may be empty; `None` exactly where there is no `=`, or
-/// nothing before it.
-#[tactic(auto, using(crate::proofs::Texts::parts_are_texts))]
-pub fn two_parts(alloc: Global, text: &Line) -> Result<Option<Parts>, NoMemory>
-    ensures { IsCut (has_two text.now) text.now result }
+// Whether no part of a text is missing.
+fn is_whole(form: Form, text: &[u8]) -> bool
+    ensures { result ≡ is_whole form text.now }
 {
-    let bytes = text.as_slice();
-    let (left, right) = cut_equals(bytes);
-    if !has_equals(bytes) || trim(left).is_empty() {
-        return Ok(None);
+    let (left, right) = cut_equals(text);
+    match form {
+        Form::Any => true,
+        Form::One => !text.is_empty(),
+        Form::Two => has_equals(text) && !trim(left).is_empty(),
+        Form::Full => has_equals(text) && !trim(left).is_empty() && !trim(right).is_empty(),
+        Form::OneOrFull => {
+            if has_equals(text) {
+                has_equals(text) && !trim(left).is_empty() && !trim(right).is_empty()
+            } else {
+                !text.is_empty()
+            }
+        }
     }
-    Ok(Some(Parts {
-        left: line_of(alloc, trim(left))?,
-        right: line_of(alloc, trim(right))?,
-    }))
 }
 
-/// The parts of a text around its first `=`; `None` exactly where there is no `=`, or one of them is empty.
+// The parts of a text; where there is one alone, the second is empty.
+fn cut_parts(form: Form, text: &[u8]) -> (&[u8], &[u8])
+    ensures left { result.0.now ≡ left_in form text.now }
+    ensures right { result.1.now ≡ right_in form text.now }
+{
+    let none: &[u8] = b"";
+    let (left, right) = cut_equals(text);
+    match form {
+        Form::Any | Form::One => (text, none),
+        Form::Two | Form::Full => (trim(left), trim(right)),
+        Form::OneOrFull => {
+            if has_equals(text) {
+                (trim(left), trim(right))
+            } else {
+                (text, none)
+            }
+        }
+    }
+}
+
+/// The parts of a text in a form; `None` exactly where one is missing. Where there is one part alone, the second is empty.
 #[tactic(auto, using(crate::proofs::Texts::parts_are_texts))]
-pub fn full_parts(alloc: Global, text: &Line) -> Result<Option<Parts>, NoMemory>
-    ensures { IsCut (has_full text.now) text.now result }
+pub fn parts_in(alloc: Global, form: Form, text: &Line) -> Result<Option<Parts>, NoMemory>
+    ensures { IsCut form text.now result }
 {
     let bytes = text.as_slice();
-    let (left, right) = cut_equals(bytes);
-    if !has_equals(bytes) || trim(left).is_empty() || trim(right).is_empty() {
+    if !is_whole(form, bytes) {
         return Ok(None);
     }
+    let (left, right) = cut_parts(form, bytes);
     Ok(Some(Parts {
-        left: line_of(alloc, trim(left))?,
-        right: line_of(alloc, trim(right))?,
+        left: line_of(alloc, left)?,
+        right: line_of(alloc, right)?,
     }))
 }

@@ -3,8 +3,8 @@ ghost use Rattle.std.specs.Prelude.{◌≡◌, ◌++◌, IfOk, map, codes, decim
 ghost use Rattle.std.specs.Char.{to_ascii_lowercase};
 ghost use Rattle.spec_live.specs.Lives.{tell};
 ghost use Rattle.spec_rights.specs.Asking.{refused, denied_text};
-ghost use Rattle.spec_commands.specs.Replies.{cant_be_done, usage};
-ghost use Rattle.spec_commands.specs.Commands.{incomplete};
+ghost use Rattle.spec_commands.specs.Replies.{cant_be_done, bad_name, usage};
+ghost use Rattle.spec_commands.specs.Reading.{incomplete};
 ghost use Rattle.muck_perm.specs.Guards.{Did};
 
 use muck_model::{Denial, NoMemory};
@@ -19,8 +19,17 @@ pub fn cant_be_done(guard: &mut Guard, d: u32) -> Result<(), NoMemory>
     Ok(())
 }
 
+/// Nothing may have that name, and the connection is told so.
+#[tactic(auto, unfolding(spec_commands::specs::Replies::bad_name))]
+pub fn bad_name(guard: &mut Guard, d: u32) -> Result<(), NoMemory>
+    ensures { Did (tell d bad_name) guard.old guard.new result }
+{
+    guard.tell(d, b"That's not a reasonable name.")?;
+    Ok(())
+}
+
 /// A part of a command is missing: the connection is told the command's word, in lower case.
-#[tactic(auto, unfolding(spec_commands::specs::Replies::usage, spec_commands::specs::Commands::incomplete))]
+#[tactic(auto, unfolding(spec_commands::specs::Replies::usage, spec_commands::specs::Reading::incomplete))]
 pub fn incomplete(guard: &mut Guard, d: u32, word: &[u8]) -> Result<(), NoMemory>
     ensures { Did (incomplete d word.now) guard.old guard.new result }
 {

@@ -1,5 +1,5 @@
-pub mod Kept
+pub mod Spoken
 pub mod Present
-pub mod Missing
 pub mod Moves
 pub mod Licences
+pub mod Parts

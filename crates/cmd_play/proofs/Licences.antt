@@ -1,30 +1,23 @@
 -- What a player does by a line, or by walking, is licensed.
-use Rattle.std.proofs.Common.{◌≡◌, ◌==◌, ℕ, Bool, true, false, cond, List, [], ◌∷◌, refl, sym, subst, ap, Option, Some, None, Result, Ok, Err, OnOk}
-use Rattle.std.specs.Prelude.{codes, ◌||◌}
+use Rattle.std.proofs.Common.{◌≡◌, ℕ, Bool, List, sym, subst, ap, Option, None, Result, Ok, Err, OnOk}
 use Rattle.muck_model.specs.declared.dbref.Dbref.{Dbref}
 use Rattle.muck_model.specs.declared.memory.NoMemory.{NoMemory}
-use Rattle.muck_match.specs.declared.exits.ExitHit.{ExitHit}
 use Rattle.spec_live.specs.Objects.{Entry}
-use Rattle.spec_live.specs.Lives.{Live, unchanged}
+use Rattle.spec_live.specs.Lives.{Live}
 use Rattle.spec_rights.specs.declared.act.Actor.{Actor}
 use Rattle.spec_rights.specs.Licence.{Licensed, oneself}
-use Rattle.spec_rights.proofs.Lookups.{same_eq}
-use Rattle.spec_rights.proofs.Licences.{Whole, Always, whole_ends, whole_quiet, licensed, quiet_unchanged}
+use Rattle.spec_rights.proofs.Licences.{Whole, Always, whole_ends, licensed}
 use Rattle.spec_commands.specs.declared.outcome.Outcome.{Outcome}
-use Rattle.spec_commands.specs.declared.outcome.Outcome.TheVariants.{NotMine}
-use Rattle.spec_commands.specs.declared.word.PlayWord.{PlayWord}
-use Rattle.spec_commands.specs.declared.word.PlayWord.TheVariants.{Look, Say, Pose, Page, Whisper, Go, Get, Drop, Inventory, Home, Examine, Who, Quit}
-use Rattle.spec_commands.specs.Texts.{first_word, trimmed}
-use Rattle.spec_commands.specs.Going.{Play, ended, walked}
-use Rattle.spec_commands.specs.Free.{free_word, free_by}
-use Rattle.spec_commands.specs.Commands.{play_word, play_done, play_some, play_words, play_line}
-use Rattle.spec_commands.proofs.Gone.{whole_ended, walked_open}
+use Rattle.spec_commands.specs.declared.typed.Typed.{Typed}
+use Rattle.spec_commands.specs.Going.{Play, tried}
+use Rattle.spec_commands.specs.Free.{free_play}
+use Rattle.spec_commands.specs.Commands.{play_line}
+use Rattle.spec_commands.proofs.Gone.{tried_open}
 use Rattle.spec_commands.proofs.Gone as gone
-use Rattle.spec_commands.proofs.Permitted.{play_open}
+use Rattle.spec_commands.proofs.Permitted.{self_free, play_leading}
 use Rattle.muck_perm.specs.declared.guard.Guard.{Guard}
 use Rattle.muck_perm.specs.Guards.{world_of}
 use Rattle.cmd_common.specs.Plays.{Plays}
-use Rattle.cmd_play.specs.Free.{free_play}
 
 -- what keeps to the licence is licensed where a guard plays it
 plays_licensed : (p : Play) (a : Actor) (free : List Entry → Dbref → Bool) (old new : Guard) (r : Result Outcome NoMemory) →
@@ -34,52 +27,12 @@ plays_licensed p a free old new (Ok outcome) e s =
     subst P (sym (ap world_of s.0)) (licensed gone.world_of a None free p e (world_of old) tt)
 plays_licensed p a free old new (Err error) e s = tt
 
-self_free : (a : Actor) → oneself a a.player ≡ true
-self_free a = same_eq a.player a.player refl
-
--- Walking.
-
-pub walk_licensed : (d : ℕ) (hit : ExitHit) (line : List ℕ) (old new : Guard) (r : Result Outcome NoMemory) →
-    Plays (walked d old.actor hit line) old new r → OnOk r (Licensed old.actor (oneself old.actor) (world_of old) (world_of new))
-walk_licensed d hit line old new r =
-    plays_licensed (walked d old.actor hit line) old.actor (λ es. oneself old.actor) old new r
-    (whole_ends gone.world_of old.actor None (λ es. oneself old.actor) Always _ (λ w h. walked_open old.actor (oneself old.actor) d hit line (self_free old.actor)))
-
--- A line.
-
-word_open : (a : Actor) (d : ℕ) (word text : List ℕ) (found : PlayWord) → Whole gone.world_of a None (free_word (Some found) a) Always (play_done d a word text found)
-word_open a d word text Go = play_open a None _ d word text Go (λ es. self_free a)
-word_open a d word text Home = play_open a None _ d word text Home (λ es. self_free a)
-word_open a d word text Get = play_open a None _ d word text Get (λ es x h. h)
-word_open a d word text Drop = play_open a None _ d word text Drop (λ es x h. h)
-word_open a d word text Look = play_open a None _ d word text Look tt
-word_open a d word text Say = play_open a None _ d word text Say tt
-word_open a d word text Pose = play_open a None _ d word text Pose tt
-word_open a d word text Page = play_open a None _ d word text Page tt
-word_open a d word text Whisper = play_open a None _ d word text Whisper tt
-word_open a d word text Inventory = play_open a None _ d word text Inventory tt
-word_open a d word text Examine = play_open a None _ d word text Examine tt
-word_open a d word text Who = play_open a None _ d word text Who tt
-word_open a d word text Quit = play_open a None _ d word text Quit tt
-
-none_open : (a : Actor) (free : List Entry → Dbref → Bool) → Whole gone.world_of a None free Always (ended NotMine unchanged)
-none_open a free = whole_ended a None free Always NotMine unchanged (whole_quiet a None free Always unchanged quiet_unchanged)
-
-some_open : (a : Actor) (d : ℕ) (word text : List ℕ) (found : Option PlayWord) → Whole gone.world_of a None (free_word found a) Always (play_some d a word text found)
-some_open a d word text None = none_open a _
-some_open a d word text (Some found) = word_open a d word text found
-
-line_open : (a : Actor) (d : ℕ) (line : List ℕ) → Whole gone.world_of a None (free_play a line) Always (play_line d a line)
-unfolding play_line play_words free_play
-line_open a d [] = none_open a _
-line_open a d (b ∷ line) = at (b == 34) (b == 58)
-  where
-    at : (q r : Bool) →
-        Whole gone.world_of a None (free_by (q || r) None (play_word (first_word (trimmed (b ∷ line)))) a) Always (cond q (play_done d a (codes "say") (trimmed line) Say) (cond r (play_done d a (codes "pose") (trimmed line) Pose) (play_words d a (b ∷ line))))
-    at true r = word_open a d (codes "say") (trimmed line) Say
-    at false true = word_open a d (codes "pose") (trimmed line) Pose
-    at false false = some_open a d (first_word (trimmed (b ∷ line))) _ (play_word (first_word (trimmed (b ∷ line))))
+pub walk_licensed : (d : ℕ) (typed : Typed) (exit : Dbref) (line : List ℕ) (old new : Guard) (r : Result Outcome NoMemory) →
+    Plays (tried d old.actor typed exit line) old new r → OnOk r (Licensed old.actor (oneself old.actor) (world_of old) (world_of new))
+walk_licensed d typed exit line old new r =
+    plays_licensed (tried d old.actor typed exit line) old.actor (λ es. oneself old.actor) old new r
+    (whole_ends gone.world_of old.actor None (λ es. oneself old.actor) Always _ (λ w h. tried_open old.actor (oneself old.actor) d typed exit line (self_free old.actor)))
 
 pub line_licensed : (d : ℕ) (line : List ℕ) (old new : Guard) (r : Result Outcome NoMemory) →
     Plays (play_line d old.actor line) old new r → OnOk r (Licensed old.actor (free_play old.actor line old.db.now) (world_of old) (world_of new))
-line_licensed d line old new r = plays_licensed (play_line d old.actor line) old.actor (free_play old.actor line) old new r (line_open old.actor d line)
+line_licensed d line old new r = plays_licensed (play_line d old.actor line) old.actor (free_play old.actor line) old new r (play_leading old.actor None d line).licence

@@ -1,7 +1,6 @@
 -- What a move does that was allowed, and what showing keeps.
-use Rattle.std.proofs.Common.{◌≡◌, ◌≤◌, ℕ, Bool, true, false, List, [], length, drop, refl, sym, ap, ◌∙◌, Option, Some, None, Result, Ok, Err, OnOk, ◌&&◌, ◌||◌}
+use Rattle.std.proofs.Common.{◌≡◌, ℕ, Bool, true, false, List, refl, sym, ap, ◌∙◌, Option, Some, None, Result, Ok, Err, OnOk, ◌&&◌, ◌||◌}
 use Rattle.std.specs.Option.{option_map_or}
-use Rattle.std.proofs.lemmas.List.{drop_all}
 use Rattle.muck_model.specs.declared.dbref.Dbref.{Dbref}
 use Rattle.muck_model.specs.declared.dbref.Kind.{Kind}
 use Rattle.muck_model.specs.declared.dbref.Kind.TheVariants.{Room, Thing, Exit, Player, Program, Garbage}
@@ -16,8 +15,11 @@ use Rattle.spec_rights.specs.Verdict.{place_of, verdict}
 use Rattle.spec_rights.specs.Licence.{at_hand, at_hand_kind}
 use Rattle.spec_rights.proofs.Licences.{Quiet}
 use Rattle.spec_commands.specs.Finding.{is_so, shown_others}
-use Rattle.spec_commands.specs.Going.{may_move, is_carried, succeeded}
-use Rattle.spec_commands.proofs.Showing.{seeing, quiet_shown_others}
+use Rattle.spec_commands.specs.declared.typed.Typed.{Typed}
+use Rattle.spec_commands.specs.declared.word.Message.{Message}
+use Rattle.spec_commands.specs.Going.{may_move, is_carried, both_shown}
+use Rattle.spec_commands.proofs.Showing.{quiet_shown_others}
+use Rattle.spec_commands.proofs.Gone.{quiet_both_shown}
 use Rattle.muck_perm.specs.declared.rules.Pass.{Pass}
 use Rattle.muck_perm.specs.declared.guard.Guard.{Guard}
 use Rattle.muck_perm.specs.Verdicts.{IsVerdict}
@@ -49,19 +51,15 @@ pub quietly_shown : (player : Dbref) (tail : List ℕ) (old new : Guard) (r : Re
 quietly_shown player tail old new (Ok u) e = quiet_kept _ old new (quiet_shown_others player tail) e
 quietly_shown player tail old new (Err error) e = tt
 
-quiet_succeeded : (d : ℕ) (player x : Dbref) → Quiet (succeeded d player x)
-unfolding succeeded
-quiet_succeeded d player x = search seeing
-
 -- leave that a verdict gave
 pub leave_given : (es : List Entry) (a : Actor) (act : Act) (pass : Pass) (g : Guard) → es ≡ g.db.now → a ≡ g.actor → IsVerdict (verdict es a act) a act (Ok pass) → IsLeave pass act g
 leave_given es a act pass g objects actor v = (v.1 ∙ actor, v.2, rw (sym objects, sym actor) v.0)
 
--- leave stays after the messages of success
-pub leave_kept : (pass : Pass) (act : Act) (d : ℕ) (player x : Dbref) (old new : Guard) → IsLeave pass act old → Done (succeeded d player x) old new → IsLeave pass act new
-leave_kept pass act d player x old new leave e =
+-- leave stays after messages
+pub leave_kept : (pass : Pass) (act : Act) (d : ℕ) (a : Actor) (typed : Typed) (mine theirs : Message) (x : Dbref) (old new : Guard) → IsLeave pass act old → Done (both_shown d a typed mine theirs x) old new → IsLeave pass act new
+leave_kept pass act d a typed mine theirs x old new leave e =
     let actor : new.actor ≡ old.actor = ap (λ (g : Guard). g.actor) e in
-    let objects : new.db.now ≡ old.db.now = quiet_kept _ old new (quiet_succeeded d player x) e in
+    let objects : new.db.now ≡ old.db.now = quiet_kept _ old new (quiet_both_shown d a typed mine theirs x) e in
     (leave.0 ∙ sym actor, leave.1, rw (actor, objects) leave.2)
 
 -- What is carried is at hand.
@@ -87,9 +85,3 @@ carried_by es a (Some o) e = hand_by (at_hand_kind o.kind) (is_thing o.kind || i
 pub carried_at_hand : (w : Live) (a : Actor) (x : Dbref) → is_carried a.player x w ≡ true → at_hand w.objects a x ≡ true
 unfolding is_so
 carried_at_hand w a x e = carried_by w.objects a (object_at x w.objects) e
-
--- Texts.
-
--- nothing stands behind the end
-pub behind_all : (n : ℕ) (xs : List ℕ) → length xs ≤ n → drop n xs ≡ []
-behind_all n xs h = drop_all n xs h

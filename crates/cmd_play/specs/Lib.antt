@@ -1,4 +1,1 @@
-pub mod Presences
-pub mod Needs
-pub mod Dropping
-pub mod Free
+pub mod Speaking

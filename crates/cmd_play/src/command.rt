@@ -1,78 +1,84 @@
 // A line of a player.
-ghost use Rattle.std.specs.Prelude.{◌≡◌, OnOk};
+ghost use Rattle.std.specs.Prelude.{◌≡◌, None, OnOk, map};
+ghost use Rattle.muck_model.specs.Bytes.{text_fault};
 ghost use Rattle.spec_live.specs.Lives.{tell, either};
 ghost use Rattle.spec_rights.specs.Licence.{Licensed};
 ghost use Rattle.spec_commands.specs.Replies.{goodbye};
-ghost use Rattle.spec_commands.specs.Finding.{looked, looked_at};
-ghost use Rattle.spec_commands.specs.Talking.{paged, whispered};
-ghost use Rattle.spec_commands.specs.Commands.{is_empty, two_parts, play_done, play_words, play_line};
+ghost use Rattle.spec_commands.specs.Finding.{looked, look_shown};
+ghost use Rattle.spec_commands.specs.Reading.{is_empty, by_table};
+ghost use Rattle.spec_commands.specs.Free.{free_play};
+ghost use Rattle.spec_commands.specs.Commands.{play_words, play_shape, line_typed, play_done, signed, play_line};
 ghost use Rattle.muck_perm.specs.Guards.{Did, world_of};
 ghost use Rattle.cmd_common.specs.Plays.{Plays};
-ghost use Rattle.cmd_play.specs.Needs.{needs_text};
-ghost use Rattle.cmd_play.specs.Free.{free_play};
+ghost use Rattle.cmd_common.specs.Takes.{word_row};
 
 use crate::going::{go, go_home};
 use crate::looking::{examine, inventory, look, look_at};
 use crate::taking::{drop, take};
 use crate::talking::{page, pose, say, whisper, who};
-use crate::words::play_word;
-use cmd_common::{after_sign, after_word, incomplete, two_parts};
+use crate::typed::typed_of;
+use cmd_common::{after_sign, after_word, arguments, looked_up};
 use muck_model::{Line, NoMemory};
 use muck_perm::Guard;
-use spec_commands::{Outcome, PlayWord, cut_word, trim};
+use spec_commands::{
+    Argument, Arguments, Form, Outcome, PlayWord, Shape, Typed, Want, cut_word, trim,
+};
 
-// Whether a word is one that has to be followed by a text.
-fn needs_text(found: PlayWord) -> bool
-    ensures { result ≡ needs_text found }
+// The words of players.
+#[tactic(auto, unfolding(spec_commands::specs::Commands::play_words))]
+fn words() -> &'static [(&'static [u8], PlayWord)]
+    ensures { map word_row result.now ≡ play_words }
 {
-    matches!(
-        found,
-        PlayWord::Say
-            | PlayWord::Pose
-            | PlayWord::Go
-            | PlayWord::Get
-            | PlayWord::Drop
-            | PlayWord::Examine
-    )
+    &[
+        (b"say", PlayWord::Say),
+        (b"pose", PlayWord::Pose),
+        (b"page", PlayWord::Page),
+        (b"whisper", PlayWord::Whisper),
+        (b"WHO", PlayWord::Who),
+        (b"QUIT", PlayWord::Quit),
+        (b"look", PlayWord::Look),
+        (b"l", PlayWord::Look),
+        (b"read", PlayWord::Look),
+        (b"examine", PlayWord::Examine),
+        (b"inventory", PlayWord::Inventory),
+        (b"i", PlayWord::Inventory),
+        (b"go", PlayWord::Go),
+        (b"move", PlayWord::Go),
+        (b"home", PlayWord::Home),
+        (b"get", PlayWord::Get),
+        (b"take", PlayWord::Get),
+        (b"drop", PlayWord::Drop),
+    ]
 }
 
-fn is_empty(text: &Line) -> bool
-    ensures { result ≡ is_empty text.now }
+// How each takes the text behind its word.
+fn shape_of(command: PlayWord) -> Shape
+    ensures { result ≡ play_shape command }
 {
-    text.as_slice().is_empty()
+    match command {
+        PlayWord::Look => Shape::new(Form::Any, Want::Object, Want::Nothing),
+        PlayWord::Say | PlayWord::Pose | PlayWord::Go => {
+            Shape::new(Form::One, Want::Text, Want::Nothing)
+        }
+        PlayWord::Page => Shape::new(Form::Two, Want::Player, Want::Text),
+        PlayWord::Whisper => Shape::new(Form::Two, Want::Found, Want::Text),
+        PlayWord::Get | PlayWord::Drop => Shape::new(Form::One, Want::Found, Want::Nothing),
+        PlayWord::Examine => Shape::new(Form::One, Want::Object, Want::Nothing),
+        PlayWord::Inventory | PlayWord::Home | PlayWord::Who | PlayWord::Quit => {
+            Shape::new(Form::Any, Want::Nothing, Want::Nothing)
+        }
+    }
 }
 
-// The player looks where it is, or at what it names.
+// The player looks where it is, or at what it has named.
 #[tactic(auto, unfolding(spec_live::specs::Lives::either))]
-fn look_around(guard: &mut Guard, d: u32, text: &Line) -> Result<(), NoMemory>
-    ensures { Did (either (is_empty text.now) (looked d guard.old.actor.player) (looked_at d guard.old.actor text.now)) guard.old guard.new result }
+fn look_around(guard: &mut Guard, d: u32, typed: &Typed, named: &Argument) -> Result<(), NoMemory>
+    ensures { Did (either (is_empty named.now.text) (looked d guard.old.actor typed.now) (look_shown d guard.old.actor typed.now named.now.object)) guard.old guard.new result }
 {
-    if is_empty(text) {
-        look(guard, d)
+    if named.text.as_slice().is_empty() {
+        look(guard, d, typed)
     } else {
-        look_at(guard, d, text)
-    }
-}
-
-// The player pages the one named before the `=`.
-#[tactic(auto, unfolding(spec_live::specs::Lives::either, spec_commands::specs::Commands::two_parts))]
-fn page_parts(guard: &mut Guard, d: u32, word: &[u8], text: &Line) -> Result<(), NoMemory>
-    ensures { Did (two_parts d word.now text.now (paged d guard.old.actor.player)) guard.old guard.new result }
-{
-    match two_parts(guard.alloc(), text)? {
-        Some(parts) => page(guard, d, &parts.left, &parts.right),
-        None => incomplete(guard, d, word),
-    }
-}
-
-// The player whispers to the one named before the `=`.
-#[tactic(auto, unfolding(spec_live::specs::Lives::either, spec_commands::specs::Commands::two_parts))]
-fn whisper_parts(guard: &mut Guard, d: u32, word: &[u8], text: &Line) -> Result<(), NoMemory>
-    ensures { Did (two_parts d word.now text.now (whispered d guard.old.actor.player)) guard.old guard.new result }
-{
-    match two_parts(guard.alloc(), text)? {
-        Some(parts) => whisper(guard, d, &parts.left, &parts.right),
-        None => incomplete(guard, d, word),
+        look_at(guard, d, typed, named.object)
     }
 }
 
@@ -83,33 +89,35 @@ fn say_goodbye(guard: &mut Guard, d: u32) -> Result<(), NoMemory>
     guard.tell(d, b"Come back later!")
 }
 
-// What a word does with the text behind it.
-#[tactic(auto, using(crate::proofs::Missing::text_missing), unfolding(spec_live::specs::Lives::either, spec_commands::specs::Going::ended, spec_commands::specs::Commands::one_part, spec_commands::specs::Commands::play_done))]
-fn do_word(
+// What each does. What was typed is kept for those alone that show a message.
+#[tactic(auto, unfolding(spec_commands::specs::Going::ended, spec_commands::specs::Commands::play_done))]
+fn perform(
     guard: &mut Guard,
     d: u32,
+    command: PlayWord,
     word: &[u8],
-    text: &Line,
-    found: PlayWord,
+    rest: &Line,
+    args: &Arguments,
 ) -> Result<Outcome, NoMemory>
-    ensures { Plays (play_done d guard.old.actor word.now text.now found) guard.old guard.new result }
+    requires { text_fault word.now ≡ None }
+    ensures { Plays (play_done d guard.old.actor (record { word = word.now; rest = rest.now }) command args.now) guard.old guard.new result }
 {
-    if needs_text(found) && is_empty(text) {
-        incomplete(guard, d, word)?;
-        return Ok(Outcome::Done);
-    }
-    match found {
-        PlayWord::Look => look_around(guard, d, text)?,
-        PlayWord::Say => say(guard, d, text)?,
-        PlayWord::Pose => pose(guard, d, text)?,
-        PlayWord::Page => page_parts(guard, d, word, text)?,
-        PlayWord::Whisper => whisper_parts(guard, d, word, text)?,
-        PlayWord::Go => return go(guard, d, text),
-        PlayWord::Get => take(guard, d, text)?,
-        PlayWord::Drop => drop(guard, d, text)?,
+    let alloc = guard.alloc();
+    let rest = rest.as_slice();
+    let first = &args.first;
+    let text = &args.second.text;
+    match command {
+        PlayWord::Look => look_around(guard, d, &typed_of(alloc, word, rest)?, first)?,
+        PlayWord::Say => say(guard, d, &first.text)?,
+        PlayWord::Pose => pose(guard, d, &first.text)?,
+        PlayWord::Page => page(guard, d, first.object, text)?,
+        PlayWord::Whisper => whisper(guard, d, first.object, text)?,
+        PlayWord::Go => return go(guard, d, &first.text),
+        PlayWord::Get => take(guard, d, &typed_of(alloc, word, rest)?, first.object)?,
+        PlayWord::Drop => drop(guard, d, &typed_of(alloc, word, rest)?, first.object)?,
         PlayWord::Inventory => inventory(guard, d)?,
         PlayWord::Home => go_home(guard, d)?,
-        PlayWord::Examine => examine(guard, d, text)?,
+        PlayWord::Examine => examine(guard, d, first.object)?,
         PlayWord::Who => who(guard, d)?,
         PlayWord::Quit => {
             say_goodbye(guard, d)?;
@@ -119,21 +127,39 @@ fn do_word(
     Ok(Outcome::Done)
 }
 
+// A command with the text behind its word.
+#[tactic(auto, unfolding(spec_commands::specs::Commands::signed))]
+fn do_command(
+    guard: &mut Guard,
+    d: u32,
+    command: PlayWord,
+    word: &[u8],
+    text: &Line,
+) -> Result<Outcome, NoMemory>
+    requires { text_fault word.now ≡ None }
+    ensures { Plays (signed d guard.old.actor command word.now text.now) guard.old guard.new result }
+{
+    match arguments(guard, d, word, shape_of(command), text)? {
+        Some(args) => perform(guard, d, command, word, text, &args),
+        None => Ok(Outcome::Done),
+    }
+}
+
 // A line that doesn't begin with a sign.
-#[tactic(auto, unfolding(spec_live::specs::Lives::unchanged, spec_commands::specs::Going::ended, spec_commands::specs::Commands::play_words))]
+#[tactic(auto, using(cmd_common::proofs::Texts::parts_are_texts), unfolding(spec_live::specs::Lives::unchanged, spec_commands::specs::Going::ended, spec_commands::specs::Reading::by_table, spec_commands::specs::Commands::signed))]
 fn do_words(guard: &mut Guard, d: u32, line: &Line) -> Result<Outcome, NoMemory>
-    ensures { Plays (play_words d guard.old.actor line.now) guard.old guard.new result }
+    ensures { Plays (by_table play_words play_shape (play_done d guard.old.actor (line_typed line.now)) d guard.old.actor line.now) guard.old guard.new result }
 {
     let (word, _) = cut_word(trim(line.as_slice()));
-    let Some(found) = play_word(word) else {
+    let Some(command) = looked_up(words(), word) else {
         return Ok(Outcome::NotMine);
     };
     let text = after_word(guard.alloc(), line)?;
-    do_word(guard, d, word, &text, found)
+    do_command(guard, d, command, word, &text)
 }
 
 // Any line.
-#[tactic(auto, unfolding(spec_live::specs::Lives::unchanged, spec_commands::specs::Going::ended, spec_commands::specs::Commands::play_line))]
+#[tactic(auto, unfolding(spec_live::specs::Lives::unchanged, spec_commands::specs::Going::ended, spec_commands::specs::Commands::play_line, muck_model::specs::Bytes::text_most))]
 fn do_line(guard: &mut Guard, d: u32, line: &Line) -> Result<Outcome, NoMemory>
     ensures { Plays (play_line d guard.old.actor line.now) guard.old guard.new result }
 {
@@ -141,11 +167,11 @@ fn do_line(guard: &mut Guard, d: u32, line: &Line) -> Result<Outcome, NoMemory>
         None => Ok(Outcome::NotMine),
         Some(b'"') => {
             let text = after_sign(guard.alloc(), line)?;
-            do_word(guard, d, b"say", &text, PlayWord::Say)
+            do_command(guard, d, PlayWord::Say, b"say", &text)
         }
         Some(b':') => {
             let text = after_sign(guard.alloc(), line)?;
-            do_word(guard, d, b"pose", &text, PlayWord::Pose)
+            do_command(guard, d, PlayWord::Pose, b"pose", &text)
         }
         Some(_) => do_words(guard, d, line),
     }

@@ -1,5 +1,5 @@
 // Going: home, and through exits.
-ghost use Rattle.std.specs.Prelude.{◌≡◌, IfOk, OnOk, drop, true};
+ghost use Rattle.std.specs.Prelude.{◌≡◌, IfOk, OnOk, true};
 ghost use Rattle.muck_match.specs.Exits.{exit_for};
 ghost use Rattle.spec_live.specs.Seen.{scenery_of};
 ghost use Rattle.spec_live.specs.Lives.{◌▸◌, unchanged, tell};
@@ -8,18 +8,18 @@ ghost use Rattle.spec_rights.specs.Changing.{moved_to};
 ghost use Rattle.spec_rights.specs.Licence.{Licensed, oneself};
 ghost use Rattle.spec_commands.specs.Replies.{cant_go, has_left, has_arrived};
 ghost use Rattle.spec_commands.specs.Finding.{shown_others, looked};
-ghost use Rattle.spec_commands.specs.Going.{home_at, link_at, movable, gone, gone_home, argument_of, led_place, is_program_at, led, failed, succeeded, walked, went};
-ghost use Rattle.muck_perm.specs.Guards.{Did, Done, IsLeave, world_of};
+ghost use Rattle.spec_commands.specs.Going.{home_at, link_at, movable, gone, gone_home, failed, drop_shown, led_place, led, tried, walked, went};
+ghost use Rattle.muck_perm.specs.Guards.{Did, Done, IsGiven, world_of};
 ghost use Rattle.cmd_common.specs.Plays.{Plays};
-ghost use Rattle.cmd_play.specs.Dropping.{drop_shown};
 
 use crate::looking::look;
-use crate::messages::{message_or, message_to_others, show_message};
-use cmd_common::{cant_be_done, line_of, show_others};
+use crate::messages::{message_or, message_to_others, show_both};
+use crate::typed::{exit_typed, word_typed};
+use cmd_common::{cant_be_done, is_program, show_others};
 use muck_match::{ExitHit, HOME, NOTHING, exit_for};
-use muck_model::{Dbref, Kind, Line, NoMemory};
+use muck_model::{Dbref, Line, NoMemory};
 use muck_perm::{Guard, Pass, verdict};
-use spec_commands::{Message, Outcome};
+use spec_commands::{Message, Outcome, Typed};
 use spec_rights::Act;
 
 // The home of an object, `#-1` where it isn't there.
@@ -42,17 +42,6 @@ pub fn link_at(guard: &Guard, x: Dbref) -> Dbref
     }
 }
 
-// Whether an object is a program.
-#[tactic(auto, unfolding(spec_commands::specs::Finding::is_so))]
-fn is_program_at(guard: &Guard, x: Dbref) -> bool
-    ensures { result ≡ is_program_at x (world_of guard.now) }
-{
-    match guard.db().get(x) {
-        Some(object) => matches!(object.kind(), Kind::Program),
-        None => false,
-    }
-}
-
 // Whether the world allows a move.
 fn movable(guard: &Guard, x: Dbref, to: Dbref) -> bool
     ensures { result ≡ movable x to (world_of guard.now) }
@@ -60,40 +49,19 @@ fn movable(guard: &Guard, x: Dbref, to: Dbref) -> bool
     guard.db().can_move(x, to)
 }
 
-/// A player may do something with an object: the object's messages of success.
-#[tactic(auto, unfolding(spec_commands::specs::Going::succeeded, spec_live::specs::Lives::followed))]
-pub fn succeed(guard: &mut Guard, d: u32, player: Dbref, x: Dbref) -> Result<(), NoMemory>
-    ensures { Did (succeeded d player x) guard.old guard.new result }
-{
-    show_message(guard, d, Message::Success, x)?;
-    message_to_others(guard, player, Message::OthersSuccess, x)?;
-    Ok(())
-}
-
-/// A player may not: the object's messages of failure, and what the player sees without one.
+/// A player may not do something with an object: the object's messages of failure, and what the player sees without one.
 #[tactic(auto, unfolding(spec_commands::specs::Going::failed, spec_live::specs::Lives::followed))]
 pub fn fail(
     guard: &mut Guard,
     d: u32,
-    player: Dbref,
+    typed: &Typed,
     otherwise: &[u8],
     x: Dbref,
 ) -> Result<(), NoMemory>
-    ensures { Did (failed d player otherwise.now x) guard.old guard.new result }
+    ensures { Did (failed d guard.old.actor typed.now otherwise.now x) guard.old guard.new result }
 {
-    message_or(guard, d, otherwise, Message::Fail, x)?;
-    message_to_others(guard, player, Message::OthersFail, x)?;
-    Ok(())
-}
-
-/// What is seen where a player went through an exit or dropped something: its messages of dropping.
-#[tactic(auto, unfolding(spec_live::specs::Lives::followed))]
-pub fn show_drop(guard: &mut Guard, d: u32, player: Dbref, x: Dbref) -> Result<(), NoMemory>
-    ensures { Did (drop_shown d player x) guard.old guard.new result }
-{
-    show_message(guard, d, Message::Drop, x)?;
-    message_to_others(guard, player, Message::OthersDrop, x)?;
-    Ok(())
+    message_or(guard, d, typed, otherwise, Message::Fail, x)?;
+    message_to_others(guard, typed, Message::OthersFail, x)
 }
 
 // Moves the player home.
@@ -112,7 +80,7 @@ fn step_home(guard: &mut Guard, home: Dbref)
 // Moves the player through an exit.
 #[tactic(auto, using(crate::proofs::Moves::made_moves))]
 fn step_through(guard: &mut Guard, pass: Pass, exit: Dbref, to: Dbref)
-    requires leave { IsLeave pass (Act.Walk exit) guard.old }
+    requires leave { IsGiven pass (Act.Walk exit) guard.old }
     requires may { movable guard.old.actor.player to (world_of guard.old) ≡ true }
     ensures { Done (moved_to guard.old.actor.player to) guard.old guard.new }
 {
@@ -124,47 +92,48 @@ fn step_through(guard: &mut Guard, pass: Pass, exit: Dbref, to: Dbref)
 
 // The others see the player leave.
 #[tactic(auto, unfolding(spec_commands::specs::Replies::has_left))]
-fn show_leaving(guard: &mut Guard, player: Dbref) -> Result<(), NoMemory>
-    ensures shown { Did (shown_others player has_left) guard.old guard.new result }
+fn show_leaving(guard: &mut Guard) -> Result<(), NoMemory>
+    ensures shown { Did (shown_others guard.old.actor.player has_left) guard.old guard.new result }
     ensures kept { OnOk result (guard.new.db.now ≡ guard.old.db.now) }
 {
+    let player = guard.actor().player;
     show_others(guard, player, b" has left.")
 }
 
 // The others see the player arrive.
 #[tactic(auto, unfolding(spec_commands::specs::Replies::has_arrived))]
-fn show_arriving(guard: &mut Guard, player: Dbref) -> Result<(), NoMemory>
-    ensures { Did (shown_others player has_arrived) guard.old guard.new result }
+fn show_arriving(guard: &mut Guard) -> Result<(), NoMemory>
+    ensures { Did (shown_others guard.old.actor.player has_arrived) guard.old guard.new result }
 {
+    let player = guard.actor().player;
     show_others(guard, player, b" has arrived.")
 }
 
 // The player walks home, where the world allows it.
 #[tactic(auto, unfolding(spec_live::specs::Lives::followed, spec_live::specs::Lives::unchanged))]
-fn walk_home(guard: &mut Guard, d: u32, home: Dbref) -> Result<(), NoMemory>
+fn walk_home(guard: &mut Guard, d: u32, typed: &Typed, home: Dbref) -> Result<(), NoMemory>
     requires home { home_at guard.old.actor.player (world_of guard.old) ≡ home }
     requires may { movable guard.old.actor.player home (world_of guard.old) ≡ true }
-    ensures { Did (shown_others guard.old.actor.player has_left ▸ moved_to guard.old.actor.player home ▸ shown_others guard.old.actor.player has_arrived ▸ unchanged ▸ looked d guard.old.actor.player) guard.old guard.new result }
+    ensures { Did (shown_others guard.old.actor.player has_left ▸ moved_to guard.old.actor.player home ▸ shown_others guard.old.actor.player has_arrived ▸ unchanged ▸ looked d guard.old.actor typed.now) guard.old guard.new result }
 {
-    let player = guard.actor().player;
-    show_leaving(guard, player)?;
+    show_leaving(guard)?;
     step_home(guard, home);
-    show_arriving(guard, player)?;
-    look(guard, d)
+    show_arriving(guard)?;
+    look(guard, d, typed)
 }
 
 /// The player walks home, which others see, and looks; or the world refuses it.
-#[tactic(auto, unfolding(spec_commands::specs::Going::gone_home, spec_commands::specs::Going::gone, spec_commands::specs::Finding::where_so, spec_live::specs::Lives::reading, spec_live::specs::Lives::either))]
+#[tactic(auto, unfolding(spec_commands::specs::Going::gone_home, spec_commands::specs::Going::gone, spec_commands::specs::Finding::where_so, spec_live::specs::Lives::reading, spec_live::specs::Lives::either, muck_model::specs::Bytes::text_most))]
 pub fn go_home(guard: &mut Guard, d: u32) -> Result<(), NoMemory>
-    ensures { Did (gone_home d guard.old.actor.player) guard.old guard.new result }
+    ensures { Did (gone_home d guard.old.actor) guard.old guard.new result }
 {
     let player = guard.actor().player;
     let home = home_at(guard, player);
-    if movable(guard, player, home) {
-        walk_home(guard, d, home)
-    } else {
-        cant_be_done(guard, d)
+    if !movable(guard, player, home) {
+        return cant_be_done(guard, d);
     }
+    let typed = word_typed(guard.alloc(), b"home")?;
+    walk_home(guard, d, &typed, home)
 }
 
 // The player goes through an exit, where the world allows it.
@@ -172,32 +141,38 @@ pub fn go_home(guard: &mut Guard, d: u32) -> Result<(), NoMemory>
 fn walk_through(
     guard: &mut Guard,
     d: u32,
+    typed: &Typed,
     pass: Pass,
     exit: Dbref,
     to: Dbref,
 ) -> Result<(), NoMemory>
-    requires leave { IsLeave pass (Act.Walk exit) guard.old }
+    requires leave { IsGiven pass (Act.Walk exit) guard.old }
     requires may { movable guard.old.actor.player to (world_of guard.old) ≡ true }
-    ensures { Did (shown_others guard.old.actor.player has_left ▸ moved_to guard.old.actor.player to ▸ shown_others guard.old.actor.player has_arrived ▸ drop_shown d guard.old.actor.player exit ▸ looked d guard.old.actor.player) guard.old guard.new result }
+    ensures { Did (shown_others guard.old.actor.player has_left ▸ moved_to guard.old.actor.player to ▸ shown_others guard.old.actor.player has_arrived ▸ drop_shown d guard.old.actor typed.now exit ▸ looked d guard.old.actor typed.now) guard.old guard.new result }
 {
-    let walker = guard.actor().player;
-    show_leaving(guard, walker)?;
+    show_leaving(guard)?;
     step_through(guard, pass, exit, to);
-    show_arriving(guard, walker)?;
-    show_drop(guard, d, walker, exit)?;
-    look(guard, d)
+    show_arriving(guard)?;
+    show_both(guard, d, typed, Message::Drop, Message::OthersDrop, exit)?;
+    look(guard, d, typed)
 }
 
 // The player goes through an exit to another place, which others see, sees the exit's messages of dropping, and looks;
 // or the world refuses it.
 #[tactic(auto, unfolding(spec_commands::specs::Going::gone, spec_commands::specs::Finding::where_so, spec_live::specs::Lives::reading, spec_live::specs::Lives::either))]
-fn go_through(guard: &mut Guard, d: u32, pass: Pass, exit: Dbref, to: Dbref) -> Result<(), NoMemory>
-    requires { IsLeave pass (Act.Walk exit) guard.old }
-    ensures { Did (gone d guard.old.actor.player to (drop_shown d guard.old.actor.player exit)) guard.old guard.new result }
+fn go_through(
+    guard: &mut Guard,
+    d: u32,
+    typed: &Typed,
+    pass: Pass,
+    exit: Dbref,
+    to: Dbref,
+) -> Result<(), NoMemory>
+    requires { IsGiven pass (Act.Walk exit) guard.old }
+    ensures { Did (gone d guard.old.actor typed.now to (drop_shown d guard.old.actor typed.now exit)) guard.old guard.new result }
 {
-    let player = guard.actor().player;
-    if movable(guard, player, to) {
-        walk_through(guard, d, pass, exit, to)
+    if movable(guard, guard.actor().player, to) {
+        walk_through(guard, d, typed, pass, exit, to)
     } else {
         cant_be_done(guard, d)
     }
@@ -222,28 +197,21 @@ fn led_place(guard: &Guard, player: Dbref, to: Dbref) -> Dbref
     }
 }
 
-// What stands behind that many bytes of a line.
-#[tactic(auto, using(crate::proofs::Moves::behind_all))]
-fn behind(line: &[u8], at: usize) -> &[u8]
-    ensures { result.now ≡ drop at line.now }
-{
-    if at < line.len() {
-        return line.split_at(at).1;
-    }
-    b""
-}
-
 // A program is to be started by a line that took an exit.
-#[tactic(auto, using(cmd_common::proofs::Texts::parts_are_texts))]
-fn start(guard: &Guard, hit: ExitHit, line: &Line, program: Dbref) -> Result<Outcome, NoMemory>
-    ensures { IfOk result (λ outcome. outcome ≡ Outcome.Start program hit.exit line.now (argument_of hit line.now)) }
+fn start(
+    guard: &Guard,
+    typed: &Typed,
+    exit: Dbref,
+    line: &Line,
+    program: Dbref,
+) -> Result<Outcome, NoMemory>
+    ensures { IfOk result (λ outcome. outcome ≡ Outcome.Start program exit line.now typed.now.rest) }
 {
-    let arg = line_of(guard.alloc(), behind(line.as_slice(), hit.rest))?;
     Ok(Outcome::Start {
         program,
-        trigger: hit.exit,
+        trigger: exit,
         command: line.copy(guard.alloc())?,
-        arg,
+        arg: typed.rest.copy(guard.alloc())?,
     })
 }
 
@@ -252,43 +220,56 @@ fn start(guard: &Guard, hit: ExitHit, line: &Line, program: Dbref) -> Result<Out
 fn lead(
     guard: &mut Guard,
     d: u32,
+    typed: &Typed,
     pass: Pass,
-    hit: ExitHit,
+    exit: Dbref,
     line: &Line,
     to: Dbref,
 ) -> Result<Outcome, NoMemory>
-    requires { IsLeave pass (Act.Walk hit.exit) guard.old }
-    ensures { Plays (led d guard.old.actor.player hit line.now to) guard.old guard.new result }
+    requires { IsGiven pass (Act.Walk exit) guard.old }
+    ensures { Plays (led d guard.old.actor typed.now exit line.now to) guard.old guard.new result }
 {
     if to == NOTHING {
         cant_go(guard, d)?;
         return Ok(Outcome::Done);
     }
-    if is_program_at(guard, to) {
-        let outcome = start(guard, hit, line, to)?;
-        return Ok(outcome);
+    if is_program(guard, to) {
+        return start(guard, typed, exit, line, to);
     }
     let place = led_place(guard, guard.actor().player, to);
-    go_through(guard, d, pass, hit.exit, place)?;
+    go_through(guard, d, typed, pass, exit, place)?;
     Ok(Outcome::Done)
 }
 
-// The player tries an exit that takes the line.
-#[tactic(auto, unfolding(spec_commands::specs::Going::walked, spec_commands::specs::Going::ended, spec_rights::specs::Asking::asked, spec_live::specs::Lives::reading, spec_live::specs::Lives::followed, spec_commands::specs::Replies::cant_go))]
-fn try_exit(guard: &mut Guard, d: u32, hit: ExitHit, line: &Line) -> Result<Outcome, NoMemory>
-    ensures { Plays (walked d guard.old.actor hit line.now) guard.old guard.new result }
+// The player tries an exit.
+#[tactic(auto, unfolding(spec_commands::specs::Going::tried, spec_commands::specs::Going::ended, spec_rights::specs::Asking::asked, spec_live::specs::Lives::reading, spec_live::specs::Lives::followed, spec_commands::specs::Replies::cant_go))]
+fn try_exit(
+    guard: &mut Guard,
+    d: u32,
+    typed: &Typed,
+    exit: Dbref,
+    line: &Line,
+) -> Result<Outcome, NoMemory>
+    ensures { Plays (tried d guard.old.actor typed.now exit line.now) guard.old guard.new result }
 {
     let actor = guard.actor();
-    let act = Act::Walk { exit: hit.exit };
+    let act = Act::Walk { exit };
     match verdict(guard.db(), &actor, &act) {
         Err(_) => {
-            fail(guard, d, actor.player, b"You can't go that way.", hit.exit)?;
+            fail(guard, d, typed, b"You can't go that way.", exit)?;
             Ok(Outcome::Done)
         }
         Ok(pass) => {
-            succeed(guard, d, actor.player, hit.exit)?;
-            let to = link_at(guard, hit.exit);
-            lead(guard, d, pass, hit, line, to)
+            show_both(
+                guard,
+                d,
+                typed,
+                Message::Success,
+                Message::OthersSuccess,
+                exit,
+            )?;
+            let to = link_at(guard, exit);
+            lead(guard, d, typed, pass, exit, line, to)
         }
     }
 }
@@ -297,11 +278,13 @@ fn try_exit(guard: &mut Guard, d: u32, hit: ExitHit, line: &Line) -> Result<Outc
 /// shown, and else those of success, and the player goes to where it leads, or a program is to be started. It never
 /// answers `NotMine`. What differs behind it is open to the actor, which may move its player. After `NoMemory` nothing
 /// is said of the world.
+#[tactic(auto, unfolding(spec_commands::specs::Going::walked, spec_live::specs::Lives::reading))]
 pub fn walk(guard: &mut Guard, d: u32, hit: ExitHit, line: &Line) -> Result<Outcome, NoMemory>
     ensures plays { Plays (walked d guard.old.actor hit line.now) guard.old guard.new result }
     ensures licensed { OnOk result (Licensed guard.old.actor (oneself guard.old.actor) (world_of guard.old) (world_of guard.new)) }
 {
-    try_exit(guard, d, hit, line)
+    let typed = exit_typed(guard, &hit, line)?;
+    try_exit(guard, d, &typed, hit.exit, line)
 }
 
 /// `go` and the words that an exit takes: the player walks through that exit.

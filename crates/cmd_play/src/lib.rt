@@ -8,11 +8,9 @@ mod looking;
 mod messages;
 mod taking;
 mod talking;
-mod words;
+mod typed;
 
 pub use command::run;
-pub use going::{go, go_home, walk};
-pub use looking::{examine, inventory, look, look_at};
-pub use taking::{drop, take};
-pub use talking::{page, pose, say, whisper, who};
-pub use words::play_word;
+pub use going::walk;
+pub use looking::look_first;
+pub use talking::who;

@@ -1,25 +1,22 @@
 // What players see.
-ghost use Rattle.std.specs.Prelude.{◌≡◌, ◌++◌, false, IfOk, OnOk};
-ghost use Rattle.std.specs.Option.{option_copied};
-ghost use Rattle.spec_live.specs.Objects.{is_room};
+ghost use Rattle.std.specs.Prelude.{◌≡◌, ◌++◌, false, IfOk};
 ghost use Rattle.spec_live.specs.Seen.{listed_in};
 ghost use Rattle.spec_live.specs.Lives.{tell, reading, unchanged, name_at};
 ghost use Rattle.spec_rights.specs.Levels.{owner_at, flag_at};
 ghost use Rattle.spec_commands.specs.Replies.{lock_line};
-ghost use Rattle.spec_commands.specs.Finding.{is_so, listed_under, is_seen, seen_in, room_shown, looked, looked_at};
+ghost use Rattle.spec_rights.specs.Worth.{lock_text};
+ghost use Rattle.spec_commands.specs.Messages.{look_typed};
+ghost use Rattle.spec_commands.specs.Finding.{listed_under, is_seen, seen_in, room_shown, looked, is_room_at, look_shown, owner_shown, examined};
 ghost use Rattle.spec_commands.specs.Going.{inventory_shown};
-ghost use Rattle.spec_commands.specs.Building.{kept_text, lock_text, owner_shown, examined};
 ghost use Rattle.muck_perm.specs.Guards.{Did, world_of};
 
 use crate::messages::{message_or, show_message};
-use cmd_common::{find_object, list, name_and, place_at, show_name};
-use itoa::Buffer;
-use muck_model::{Dbref, Kind, Line, NoMemory};
+use crate::typed::word_typed;
+use cmd_common::{list, name_and, place_at, show_name};
+use muck_model::{Dbref, Kind, NoMemory};
 use muck_perm::{Guard, command_level, controls_as};
-use muck_prop::PropValue;
-use spec_commands::Message;
+use spec_commands::{Message, Typed};
 use spec_live::{DARK, has_flag};
-use std::alloc::Global;
 
 // The connection sees a head and the names of these objects, where there are any.
 #[tactic(auto, unfolding(spec_live::specs::Lives::followed, spec_live::specs::Lives::unchanged, spec_commands::specs::Finding::listed_under))]
@@ -92,33 +89,40 @@ fn seen_in(guard: &Guard, player: Dbref, room: Dbref) -> Result<Vec<Dbref>, NoMe
     Ok(seen)
 }
 
-/// The connection sees a room as a player does: its name, its description, and what is in it.
+/// The connection sees a room as the player does: its name, its description, and what is in it.
 #[tactic(auto, unfolding(spec_live::specs::Lives::followed, spec_live::specs::Lives::reading, spec_commands::specs::Finding::room_shown, spec_commands::specs::Replies::contents_head))]
-pub fn show_room(guard: &mut Guard, d: u32, player: Dbref, room: Dbref) -> Result<(), NoMemory>
-    ensures { Did (room_shown d player room) guard.old guard.new result }
+pub fn show_room(guard: &mut Guard, d: u32, typed: &Typed, room: Dbref) -> Result<(), NoMemory>
+    ensures { Did (room_shown d guard.old.actor typed.now room) guard.old guard.new result }
 {
+    let player = guard.actor().player;
     show_name(guard, d, player, room)?;
-    show_message(guard, d, Message::Describe, room)?;
+    show_message(guard, d, typed, Message::Describe, room)?;
     let seen = seen_in(guard, player, room)?;
-    list_under(guard, d, player, b"Contents:", &seen)?;
-    Ok(())
+    list_under(guard, d, player, b"Contents:", &seen)
 }
 
 /// The player looks at where it is.
 #[tactic(auto, unfolding(spec_live::specs::Lives::reading, spec_commands::specs::Finding::looked))]
-pub fn look(guard: &mut Guard, d: u32) -> Result<(), NoMemory>
-    ensures { Did (looked d guard.old.actor.player) guard.old guard.new result }
+pub fn look(guard: &mut Guard, d: u32, typed: &Typed) -> Result<(), NoMemory>
+    ensures { Did (looked d guard.old.actor typed.now) guard.old guard.new result }
 {
-    let player = guard.actor().player;
-    let room = place_at(guard, player);
-    show_room(guard, d, player, room)?;
-    Ok(())
+    let room = place_at(guard, guard.actor().player);
+    show_room(guard, d, typed, room)
 }
 
-// Whether it is a room.
+/// The player, which has logged in, looks at where it is.
+#[tactic(auto, unfolding(muck_model::specs::Bytes::text_most))]
+pub fn look_first(guard: &mut Guard, d: u32) -> Result<(), NoMemory>
+    ensures { Did (looked d guard.old.actor look_typed) guard.old guard.new result }
+{
+    let typed = word_typed(guard.alloc(), b"look")?;
+    look(guard, d, &typed)
+}
+
+/// Whether it is a room.
 #[tactic(auto, unfolding(spec_commands::specs::Finding::is_so))]
-fn is_room(guard: &Guard, x: Dbref) -> bool
-    ensures { result ≡ is_so (λ o. is_room o.kind) x (world_of guard.now) }
+pub fn is_room(guard: &Guard, x: Dbref) -> bool
+    ensures { result ≡ is_room_at x (world_of guard.now) }
 {
     match guard.db().get(x) {
         Some(object) => matches!(object.kind(), Kind::Room),
@@ -126,21 +130,23 @@ fn is_room(guard: &Guard, x: Dbref) -> bool
     }
 }
 
-/// The player looks at what it names: a room is shown whole, and of anything else its description.
-#[tactic(auto, unfolding(spec_live::specs::Lives::reading, spec_live::specs::Lives::either, spec_commands::specs::Finding::where_so, spec_commands::specs::Finding::looked_at, spec_commands::specs::Replies::nothing_special))]
-pub fn look_at(guard: &mut Guard, d: u32, name: &Line) -> Result<(), NoMemory>
-    ensures { Did (looked_at d guard.old.actor name.now) guard.old guard.new result }
+/// The player looks at something: a room is shown whole, and of anything else its description.
+#[tactic(auto, unfolding(spec_live::specs::Lives::reading, spec_live::specs::Lives::either, spec_commands::specs::Finding::where_so, spec_commands::specs::Finding::look_shown, spec_commands::specs::Replies::nothing_special))]
+pub fn look_at(guard: &mut Guard, d: u32, typed: &Typed, x: Dbref) -> Result<(), NoMemory>
+    ensures { Did (look_shown d guard.old.actor typed.now x) guard.old guard.new result }
 {
-    let Some(x) = find_object(guard, d, name)? else {
-        return Ok(());
-    };
     if is_room(guard, x) {
-        let player = guard.actor().player;
-        show_room(guard, d, player, x)?;
+        show_room(guard, d, typed, x)
     } else {
-        message_or(guard, d, b"You see nothing special.", Message::Describe, x)?;
+        message_or(
+            guard,
+            d,
+            typed,
+            b"You see nothing special.",
+            Message::Describe,
+            x,
+        )
     }
-    Ok(())
 }
 
 // What an object holds.
@@ -192,7 +198,7 @@ fn and_name(guard: &Guard, head: &[u8], x: Dbref) -> Result<Vec<u8>, NoMemory>
 }
 
 // The connection sees who owns an object.
-#[tactic(auto, unfolding(spec_live::specs::Lives::reading, spec_commands::specs::Building::owner_shown, spec_commands::specs::Replies::owner_line))]
+#[tactic(auto, unfolding(spec_live::specs::Lives::reading, spec_commands::specs::Finding::owner_shown, spec_commands::specs::Replies::owner_line))]
 fn show_owner(guard: &mut Guard, d: u32, x: Dbref) -> Result<(), NoMemory>
     ensures { Did (owner_shown d x) guard.old guard.new result }
 {
@@ -202,57 +208,27 @@ fn show_owner(guard: &mut Guard, d: u32, x: Dbref) -> Result<(), NoMemory>
     Ok(())
 }
 
-// What is kept as a lock, as a text.
-#[tactic(auto, unfolding(spec_commands::specs::Replies::unlocked_text))]
-fn add_kept(text: &mut Vec<u8>, kept: Option<&PropValue>) -> Result<(), NoMemory>
-    ensures { OnOk result (text.new.items ≡ text.old.items ++ kept_text (option_copied kept.entry)) }
-{
-    match kept {
-        Some(PropValue::Text(lock)) => text.extend_from_slice(lock.as_slice())?,
-        Some(PropValue::Number(number)) => {
-            let mut buffer = Buffer::new();
-            text.extend_from_slice(buffer.format(*number).as_bytes())?;
-        }
-        None => text.extend_from_slice(b"*UNLOCKED*")?,
-    }
-    Ok(())
-}
-
-// What an object keeps as its lock.
-fn lock_of<'a>(guard: &'a Guard<'_>, x: Dbref) -> Option<&'a PropValue>
-    ensures { kept_text (option_copied result) ≡ lock_text x (world_of guard.now) }
-{
-    match guard.db().get(x) {
-        Some(object) => object.props().get_bytes(b"_/lok"),
-        None => None,
-    }
-}
-
 // The connection sees the lock of an object as it is kept.
 #[tactic(auto, unfolding(spec_live::specs::Lives::reading, spec_commands::specs::Replies::lock_line))]
 fn show_lock(guard: &mut Guard, d: u32, x: Dbref) -> Result<(), NoMemory>
-    ensures { Did (reading (lock_text x) (λ text. tell d (lock_line text))) guard.old guard.new result }
+    ensures { Did (reading (λ w. lock_text x w.objects) (λ text. tell d (lock_line text))) guard.old guard.new result }
 {
+    let lock = guard.lock_text(x)?;
     let mut text = b"Lock: ".to_vec(guard.alloc())?;
-    add_kept(&mut text, lock_of(guard, x))?;
-    guard.tell(d, &text)?;
-    Ok(())
+    text.extend_from_slice(lock.as_slice())?;
+    guard.tell(d, &text)
 }
 
-/// The player sees the name, the owner and the lock of what it names, and of what it doesn't control the owner alone.
-#[tactic(auto, unfolding(spec_live::specs::Lives::followed, spec_live::specs::Lives::reading, spec_live::specs::Lives::either, spec_commands::specs::Finding::where_so, spec_commands::specs::Building::examined))]
-pub fn examine(guard: &mut Guard, d: u32, name: &Line) -> Result<(), NoMemory>
-    ensures { Did (examined d guard.old.actor name.now) guard.old guard.new result }
+/// The player sees the name, the owner and the lock of something, and of what it doesn't control the owner alone.
+#[tactic(auto, unfolding(spec_live::specs::Lives::followed, spec_live::specs::Lives::reading, spec_live::specs::Lives::either, spec_commands::specs::Finding::where_so, spec_commands::specs::Finding::examined))]
+pub fn examine(guard: &mut Guard, d: u32, x: Dbref) -> Result<(), NoMemory>
+    ensures { Did (examined d guard.old.actor x) guard.old guard.new result }
 {
-    let Some(x) = find_object(guard, d, name)? else {
-        return Ok(());
-    };
     let actor = guard.actor();
     if !controls_as(guard.db(), actor.level, actor.user, x) {
         return show_owner(guard, d, x);
     }
     show_name(guard, d, actor.player, x)?;
     show_owner(guard, d, x)?;
-    show_lock(guard, d, x)?;
-    Ok(())
+    show_lock(guard, d, x)
 }

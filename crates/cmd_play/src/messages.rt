@@ -1,20 +1,26 @@
-// The messages of objects.
-ghost use Rattle.std.specs.Prelude.{◌≡◌, IfOk, None};
-ghost use Rattle.std.specs.Option.{option_copied};
+// The messages of objects, and the one way by which they reach anybody.
+ghost use Rattle.std.specs.Prelude.{◌≡◌, ◌∷◌, IfOk, None};
+ghost use Rattle.muck_model.specs.Bytes.{text_fault};
 ghost use Rattle.muck_prop.specs.Paths.{path_fault, segments_of};
-ghost use Rattle.spec_commands.specs.Commands.{message_name};
-ghost use Rattle.spec_commands.specs.Finding.{message_path, message_at, message_or, message_shown, message_to_others};
-ghost use Rattle.muck_perm.specs.Guards.{Did, world_of};
+ghost use Rattle.spec_commands.specs.Messages.{message_path, message_name, message_how, spoken, with_message};
+ghost use Rattle.spec_commands.specs.Finding.{shown_others, message_or, message_shown, message_to_others};
+ghost use Rattle.spec_commands.specs.Going.{both_shown};
+ghost use Rattle.muck_perm.specs.Guards.{Did};
+ghost use Rattle.cmd_play.specs.Speaking.{Speaks, Says};
 
-use cmd_common::show_others;
+use cmd_common::{line_of, show_others};
 use muck_model::{Dbref, Line, NoMemory};
 use muck_perm::Guard;
-use spec_commands::Message;
+use muck_prop::{Path, PropFault, read_path};
+use spec_commands::{Message, Typed};
+use std::alloc::Global;
 
-// Where an object keeps a message.
-fn path_of(message: Message) -> &'static [u8]
-    ensures right { path_fault result.now ≡ None }
-    ensures parts { segments_of result.now ≡ message_path (message_name message) }
+// Where a message is kept.
+#[tactic(auto, unfolding(muck_model::specs::Bytes::text_most))]
+fn path_text(message: Message) -> &'static [u8]
+    ensures text { text_fault result.now ≡ None }
+    ensures fine { path_fault result.now ≡ None }
+    ensures path { segments_of result.now ≡ message_path (message_name message) }
 {
     match message {
         Message::Describe => b"_/de",
@@ -27,67 +33,143 @@ fn path_of(message: Message) -> &'static [u8]
     }
 }
 
-// The text that an object keeps as a message; what isn't a text is none.
-fn kept_message<'a>(guard: &'a Guard<'_>, message: Message, x: Dbref) -> Option<&'a Line>
-    ensures { option_copied result ≡ message_at (message_name message) x (world_of guard.now) }
+// How a message is called where it is spoken.
+fn how_of(message: Message) -> &'static [u8]
+    ensures { result.now ≡ message_how message }
 {
-    guard.message(x, path_of(message))
-}
-
-/// A message of an object, where it has one.
-pub fn message_at(guard: &Guard, message: Message, x: Dbref) -> Result<Option<Line>, NoMemory>
-    ensures { IfOk result (λ text. text ≡ message_at (message_name message) x (world_of guard.now)) }
-{
-    match kept_message(guard, message, x) {
-        Some(text) => Ok(Some(text.copy(guard.alloc())?)),
-        None => Ok(None),
+    match message {
+        Message::Describe => b"(@desc)",
+        Message::Success => b"(@succ)",
+        Message::OthersSuccess => b"(@osucc)",
+        Message::Fail => b"(@fail)",
+        Message::OthersFail => b"(@ofail)",
+        Message::Drop => b"(@drop)",
+        Message::OthersDrop => b"(@odrop)",
     }
 }
 
+fn path_of(alloc: Global, message: Message) -> Result<Path, NoMemory>
+    ensures { IfOk result (λ path. path ≡ message_path (message_name message)) }
+{
+    let text = line_of(alloc, path_text(message))?;
+    match read_path(alloc, &text) {
+        Ok(path) => Ok(path),
+        Err(PropFault::NoMemory) => Err(NoMemory),
+        Err(_) => unreachable!(),
+    }
+}
+
+// A text that an object carries is spoken by the rights of the actor. It is spoken as it stands.
+#[tactic(auto, unfolding(spec_commands::specs::Messages::spoken))]
+fn spoken(
+    guard: &mut Guard,
+    x: Dbref,
+    how: &[u8],
+    typed: &Typed,
+    text: Line,
+) -> Result<Line, NoMemory>
+    ensures { Speaks (spoken guard.old.actor x how.now typed.now text) guard.old guard.new result }
+{
+    let _ = guard.actor();
+    let _ = x;
+    let _ = how;
+    let _ = typed;
+    Ok(text)
+}
+
+// A message of an object is spoken once, where it has one.
+#[tactic(auto, unfolding(spec_commands::specs::Messages::with_message, spec_live::specs::Lives::reading))]
+fn speak(
+    guard: &mut Guard,
+    typed: &Typed,
+    message: Message,
+    x: Dbref,
+) -> Result<Option<Line>, NoMemory>
+    ensures { Says (with_message guard.old.actor typed.now message x) guard.old guard.new result }
+{
+    let path = path_of(guard.alloc(), message)?;
+    let Some(text) = guard.message(x, &path) else {
+        return Ok(None);
+    };
+    let text = text.copy(guard.alloc())?;
+    let text = spoken(guard, x, how_of(message), typed, text)?;
+    Ok(Some(text))
+}
+
 /// The connection sees a message of an object, or what is shown without one.
-#[tactic(auto, unfolding(spec_commands::specs::Finding::message_or, spec_live::specs::Lives::reading))]
+#[tactic(auto, unfolding(spec_commands::specs::Finding::message_or), using(crate::proofs::Spoken::saying))]
 pub fn message_or(
     guard: &mut Guard,
     d: u32,
+    typed: &Typed,
     otherwise: &[u8],
     message: Message,
     x: Dbref,
 ) -> Result<(), NoMemory>
-    ensures { Did (message_or d otherwise.now (message_name message) x) guard.old guard.new result }
+    ensures { Did (message_or d guard.old.actor typed.now otherwise.now message x) guard.old guard.new result }
 {
-    match message_at(guard, message, x)? {
-        Some(text) => guard.tell(d, text.as_slice())?,
-        None => guard.tell(d, otherwise)?,
+    match speak(guard, typed, message, x)? {
+        Some(text) => guard.tell(d, text.as_slice()),
+        None => guard.tell(d, otherwise),
     }
-    Ok(())
 }
 
 /// The connection sees a message of an object, where it has one.
-#[tactic(auto, unfolding(spec_commands::specs::Finding::message_shown, spec_live::specs::Lives::reading, spec_live::specs::Lives::unchanged))]
-pub fn show_message(guard: &mut Guard, d: u32, message: Message, x: Dbref) -> Result<(), NoMemory>
-    ensures { Did (message_shown d (message_name message) x) guard.old guard.new result }
-{
-    if let Some(text) = message_at(guard, message, x)? {
-        guard.tell(d, text.as_slice())?;
-    }
-    Ok(())
-}
-
-/// The others where a player is see its name with a message of an object, where it has one.
-#[tactic(auto, unfolding(spec_commands::specs::Finding::message_to_others, spec_live::specs::Lives::reading, spec_live::specs::Lives::unchanged))]
-pub fn message_to_others(
+#[tactic(auto, unfolding(spec_commands::specs::Finding::message_shown, spec_live::specs::Lives::unchanged), using(crate::proofs::Spoken::saying))]
+pub fn show_message(
     guard: &mut Guard,
-    player: Dbref,
+    d: u32,
+    typed: &Typed,
     message: Message,
     x: Dbref,
 ) -> Result<(), NoMemory>
-    ensures { Did (message_to_others player (message_name message) x) guard.old guard.new result }
+    ensures { Did (message_shown d guard.old.actor typed.now message x) guard.old guard.new result }
 {
-    if let Some(text) = message_at(guard, message, x)? {
-        let mut tail = Vec::new(guard.alloc());
-        tail.push(b' ')?;
-        tail.extend_from_slice(text.as_slice())?;
-        show_others(guard, player, &tail)?;
+    match speak(guard, typed, message, x)? {
+        Some(text) => guard.tell(d, text.as_slice()),
+        None => Ok(()),
     }
-    Ok(())
+}
+
+// The others where the player is see a text behind its name and a space.
+fn show_behind_name(guard: &mut Guard, text: &Line) -> Result<(), NoMemory>
+    ensures { Did (shown_others guard.old.actor.player (32 ∷ text.now)) guard.old guard.new result }
+{
+    let mut tail = Vec::new(guard.alloc());
+    tail.push(b' ')?;
+    tail.extend_from_slice(text.as_slice())?;
+    let player = guard.actor().player;
+    show_others(guard, player, &tail)
+}
+
+/// The others where the player is see its name with a message of an object, where it has one.
+#[tactic(auto, unfolding(spec_commands::specs::Finding::message_to_others, spec_live::specs::Lives::unchanged), using(crate::proofs::Spoken::saying))]
+pub fn message_to_others(
+    guard: &mut Guard,
+    typed: &Typed,
+    message: Message,
+    x: Dbref,
+) -> Result<(), NoMemory>
+    ensures { Did (message_to_others guard.old.actor typed.now message x) guard.old guard.new result }
+{
+    match speak(guard, typed, message, x)? {
+        Some(text) => show_behind_name(guard, &text),
+        None => Ok(()),
+    }
+}
+
+/// The player sees one message of an object, and the others where it is another, each where the object has it.
+#[tactic(auto, unfolding(spec_commands::specs::Going::both_shown, spec_live::specs::Lives::followed))]
+pub fn show_both(
+    guard: &mut Guard,
+    d: u32,
+    typed: &Typed,
+    mine: Message,
+    theirs: Message,
+    x: Dbref,
+) -> Result<(), NoMemory>
+    ensures { Did (both_shown d guard.old.actor typed.now mine theirs x) guard.old guard.new result }
+{
+    show_message(guard, d, typed, mine, x)?;
+    message_to_others(guard, typed, theirs, x)
 }

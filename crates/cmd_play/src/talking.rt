@@ -1,15 +1,16 @@
 // What players say, and who hears it.
-ghost use Rattle.std.specs.Prelude.{◌≡◌, ◌++◌, IfOk, codes};
+ghost use Rattle.std.specs.Prelude.{◌≡◌, ◌++◌, IfOk};
 ghost use Rattle.spec_live.specs.Lives.{tell, name_at};
-ghost use Rattle.spec_commands.specs.Replies.{connected_count};
-ghost use Rattle.spec_commands.specs.Talking.{said, pose_tail, posed, said_to, paged, is_company, whispered, who_shown};
+ghost use Rattle.spec_commands.specs.Replies.{you_say_to, says_to, connected_count};
+ghost use Rattle.spec_commands.specs.Finding.{each};
+ghost use Rattle.spec_commands.specs.Talking.{said, pose_tail, posed, said_to, paged, is_company, whispered, presence, presences, presence_shown, who_shown};
 ghost use Rattle.muck_perm.specs.Guards.{Did, world_of};
-ghost use Rattle.cmd_play.specs.Presences.{presence, presences, presence_shown, presences_shown};
 
-use cmd_common::{cant_be_done, find_one, find_player, name_and, place_at, show_others};
+use cmd_common::{cant_be_done, name_and, place_at, show_others};
 use muck_board::{Board, Connection};
 use muck_model::{Dbref, Kind, Line, NoMemory};
 use muck_perm::Guard;
+use spec_commands::Presence;
 use std::alloc::Global;
 
 // A text between two others.
@@ -32,8 +33,7 @@ pub fn say(guard: &mut Guard, d: u32, text: &Line) -> Result<(), NoMemory>
     guard.tell(d, &yours)?;
     let theirs = around(guard.alloc(), b" says, \"", text.as_slice(), b"\"")?;
     let player = guard.actor().player;
-    show_others(guard, player, &theirs)?;
-    Ok(())
+    show_others(guard, player, &theirs)
 }
 
 // What stands behind a player's name: a space comes first, but for an apostrophe.
@@ -62,58 +62,49 @@ pub fn pose(guard: &mut Guard, d: u32, text: &Line) -> Result<(), NoMemory>
     Ok(())
 }
 
-// What a player sees of what it said to one alone.
-fn said_to_one(guard: &Guard, before: &[u8], text: &[u8], to: Dbref) -> Result<Vec<u8>, NoMemory>
-    ensures { IfOk result (λ v. v.items ≡ (before.now ++ text.now) ++ ((codes "\" to " ++ name_at to (world_of guard.now)) ++ codes ".")) }
+// What a player sees of what it says to one alone.
+#[tactic(auto, unfolding(spec_commands::specs::Replies::you_say_to))]
+fn you_say_to(guard: &Guard, verb: &[u8], text: &[u8], to: Dbref) -> Result<Vec<u8>, NoMemory>
+    ensures { IfOk result (λ v. v.items ≡ you_say_to verb.now text.now (name_at to (world_of guard.now))) }
 {
+    let head = around(guard.alloc(), b"You ", verb, b", \"")?;
     let name = name_and(guard, to, b"")?;
     let tail = around(guard.alloc(), b"\" to ", &name, b".")?;
-    around(guard.alloc(), before, text, &tail)
+    around(guard.alloc(), &head, text, &tail)
+}
+
+// What that one sees behind the player's name.
+#[tactic(auto, unfolding(spec_commands::specs::Replies::says_to))]
+fn says_to(alloc: Global, verb: &[u8], text: &[u8]) -> Result<Vec<u8>, NoMemory>
+    ensures { IfOk result (λ v. v.items ≡ says_to verb.now text.now) }
+{
+    let head = around(alloc, b" ", verb, b"s, \"")?;
+    around(alloc, &head, text, b"\"")
 }
 
 // The player and one other see what was said to that one alone.
 #[tactic(auto, unfolding(spec_live::specs::Lives::followed, spec_live::specs::Lives::reading, spec_commands::specs::Talking::said_to))]
-fn say_to(
-    guard: &mut Guard,
-    d: u32,
-    to: Dbref,
-    yours: &[u8],
-    theirs: &[u8],
-    text: &[u8],
-) -> Result<(), NoMemory>
-    ensures { Did (said_to d guard.old.actor.player to (λ name. (yours.now ++ text.now) ++ ((codes "\" to " ++ name) ++ codes ".")) ((theirs.now ++ text.now) ++ codes "\"")) guard.old guard.new result }
+fn say_to(guard: &mut Guard, d: u32, to: Dbref, verb: &[u8], text: &Line) -> Result<(), NoMemory>
+    ensures { Did (said_to d guard.old.actor.player to verb.now text.now) guard.old guard.new result }
 {
-    let shown = said_to_one(guard, yours, text, to)?;
+    let shown = you_say_to(guard, verb, text.as_slice(), to)?;
     guard.tell(d, &shown)?;
-    let speaker = guard.actor().player;
-    let tail = around(guard.alloc(), theirs, text, b"\"")?;
-    let heard = name_and(guard, speaker, &tail)?;
-    guard.tell_player(to, &heard)?;
-    Ok(())
+    let tail = says_to(guard.alloc(), verb, text.as_slice())?;
+    let heard = name_and(guard, guard.actor().player, &tail)?;
+    guard.tell_player(to, &heard)
 }
 
 /// The player says something to another one, who may be anywhere, but is connected.
-#[tactic(auto, unfolding(spec_live::specs::Lives::reading, spec_live::specs::Lives::either, spec_commands::specs::Finding::where_so, spec_commands::specs::Talking::paged, spec_commands::specs::Replies::not_connected, spec_commands::specs::Replies::you_page, spec_commands::specs::Replies::pages))]
-pub fn page(guard: &mut Guard, d: u32, name: &Line, text: &Line) -> Result<(), NoMemory>
-    ensures { Did (paged d guard.old.actor.player name.now text.now) guard.old guard.new result }
+#[tactic(auto, unfolding(spec_live::specs::Lives::reading, spec_live::specs::Lives::either, spec_commands::specs::Finding::where_so, spec_commands::specs::Talking::paged, spec_commands::specs::Replies::not_connected))]
+pub fn page(guard: &mut Guard, d: u32, to: Dbref, text: &Line) -> Result<(), NoMemory>
+    ensures { Did (paged d guard.old.actor.player to text.now) guard.old guard.new result }
 {
-    let Some(to) = find_player(guard, d, name)? else {
-        return Ok(());
-    };
     if guard.board().is_in(to) {
-        say_to(
-            guard,
-            d,
-            to,
-            b"You page, \"",
-            b" pages, \"",
-            text.as_slice(),
-        )?;
+        say_to(guard, d, to, b"page", text)
     } else {
         let reply = name_and(guard, to, b" isn't connected.")?;
-        guard.tell(d, &reply)?;
+        guard.tell(d, &reply)
     }
-    Ok(())
 }
 
 // Whether it is a player, and where this player is.
@@ -130,36 +121,18 @@ fn is_company(guard: &Guard, player: Dbref, to: Dbref) -> bool
 }
 
 /// The player says something to another one who is where it is.
-#[tactic(auto, unfolding(spec_live::specs::Lives::reading, spec_live::specs::Lives::either, spec_commands::specs::Finding::where_so, spec_commands::specs::Talking::whispered, spec_commands::specs::Replies::you_whisper, spec_commands::specs::Replies::whispers))]
-pub fn whisper(guard: &mut Guard, d: u32, name: &Line, text: &Line) -> Result<(), NoMemory>
-    ensures { Did (whispered d guard.old.actor.player name.now text.now) guard.old guard.new result }
+#[tactic(auto, unfolding(spec_live::specs::Lives::reading, spec_live::specs::Lives::either, spec_commands::specs::Finding::where_so, spec_commands::specs::Talking::whispered))]
+pub fn whisper(guard: &mut Guard, d: u32, to: Dbref, text: &Line) -> Result<(), NoMemory>
+    ensures { Did (whispered d guard.old.actor.player to text.now) guard.old guard.new result }
 {
-    let Some(to) = find_one(guard, d, name)? else {
-        return Ok(());
-    };
     if is_company(guard, guard.actor().player, to) {
-        say_to(
-            guard,
-            d,
-            to,
-            b"You whisper, \"",
-            b" whispers, \"",
-            text.as_slice(),
-        )?;
+        say_to(guard, d, to, b"whisper", text)
     } else {
-        cant_be_done(guard, d)?;
+        cant_be_done(guard, d)
     }
-    Ok(())
 }
 
-// A connection with its player.
-#[derive(Clone, Copy)]
-struct Presence {
-    number: u32,
-    player: Dbref,
-}
-
-// The connection, where it has a player.
+// A connection, where it has a player.
 fn presence_of(connection: &Connection) -> Option<Presence>
     ensures { result ≡ presence connection.now }
 {
@@ -181,7 +154,7 @@ fn presences(alloc: Global, board: &Board) -> Result<Vec<Presence>, NoMemory>
 }
 
 // The connection sees the player of another connection, and that one's number.
-#[tactic(auto, unfolding(spec_live::specs::Lives::reading, spec_commands::specs::Replies::connected_line, crate::specs::Presences::presence_shown))]
+#[tactic(auto, unfolding(spec_live::specs::Lives::reading, spec_commands::specs::Replies::connected_line, spec_commands::specs::Talking::presence_shown))]
 fn show_presence(guard: &mut Guard, d: u32, presence: Presence) -> Result<(), NoMemory>
     ensures { Did (presence_shown d presence) guard.old guard.new result }
 {
@@ -189,13 +162,12 @@ fn show_presence(guard: &mut Guard, d: u32, presence: Presence) -> Result<(), No
     let mut text = name_and(guard, presence.player, b" (")?;
     let tail = format!(in guard.alloc(); "{number})")?;
     text.extend_from_slice(tail.as_bytes())?;
-    guard.tell(d, &text)?;
-    Ok(())
+    guard.tell(d, &text)
 }
 
 // A line for each of these.
 fn show_presences(guard: &mut Guard, d: u32, presences: &[Presence]) -> Result<(), NoMemory>
-    ensures { Did (presences_shown d presences.now) guard.old guard.new result }
+    ensures { Did (each (presence_shown d) presences.now) guard.old guard.new result }
 {
     for presence in presences {
         show_presence(guard, d, *presence)?;
@@ -209,16 +181,15 @@ fn show_count(guard: &mut Guard, d: u32, count: usize) -> Result<(), NoMemory>
     ensures { Did (tell d (connected_count count)) guard.old guard.new result }
 {
     let text = format!(in guard.alloc(); "{count} connected.")?;
-    guard.tell(d, text.as_bytes())?;
-    Ok(())
+    guard.tell(d, text.as_bytes())
 }
 
 /// The connection sees the players who are connected, and how many they are.
+#[tactic(auto, unfolding(spec_live::specs::Lives::reading, spec_live::specs::Lives::followed, spec_commands::specs::Talking::who_shown))]
 pub fn who(guard: &mut Guard, d: u32) -> Result<(), NoMemory>
     ensures { Did (who_shown d) guard.old guard.new result }
 {
     let present = presences(guard.alloc(), guard.board())?;
     show_presences(guard, d, &present)?;
-    show_count(guard, d, present.len())?;
-    Ok(())
+    show_count(guard, d, present.len())
 }

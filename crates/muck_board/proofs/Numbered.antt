@@ -9,8 +9,8 @@ use Rattle.muck_model.specs.declared.dbref.Dbref.{Dbref}
 use Rattle.spec_live.specs.Output.{bytes_of, taken}
 use Rattle.spec_live.specs.Connections.{Connection, has_number, changed_in, without, placed}
 use Rattle.spec_live.specs.Boards.{Board, connection_in, on_connection, with_connections}
-use Rattle.muck_board.specs.Lines.{HasLine, HasNoLine, BoardTakesLine}
-use Rattle.muck_board.specs.Silent.{quiet, silent}
+use Rattle.muck_board.specs.inner.Lines.{HasLine, HasNoLine, BoardTakesLine}
+use Rattle.muck_board.specs.inner.Silent.{quiet, silent}
 use Rattle.muck_board.proofs.Outputs.{taken_left}
 
 -- What `position` answers.

@@ -5,9 +5,9 @@ ghost use Rattle.std.specs.Option.{option_copied_mut};
 ghost use Rattle.std.specs.Borrow.{sem};
 ghost use Rattle.spec_live.specs.Connections.{Connection as Link, is_of, told_where};
 ghost use Rattle.spec_live.specs.Boards.{early_board, connection_in, queue_in, editor_in, on_connections, opened, closed, line_added, bytes_taken, told_one, told_player, told_others, told_all, leaving_one, left_player, seated_one, edited_one, editors_closed, tuned, random_drawn};
-ghost use Rattle.muck_board.specs.Lines.{BoardTakesLine};
-ghost use Rattle.muck_board.specs.Silent.{silent};
-ghost use Rattle.muck_board.specs.Lent.{LendsConnection};
+ghost use Rattle.muck_board.specs.inner.Lines.{BoardTakesLine};
+ghost use Rattle.muck_board.specs.inner.Silent.{silent};
+ghost use Rattle.muck_board.specs.inner.Lent.{LendsConnection};
 
 use crate::connection::Connection;
 use crate::places::{greater_at, place_of};

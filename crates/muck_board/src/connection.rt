@@ -4,7 +4,7 @@ ghost use Rattle.std.specs.Option.{option_map_or};
 ghost use Rattle.spec_live.specs.Objects.{same};
 ghost use Rattle.spec_live.specs.Output.{bytes_of, taken};
 ghost use Rattle.spec_live.specs.Connections.{newcomer, takes_line, is_ready, told, told_where, left, left_where, seated, lined, edited, edits, edited_where, is_of, hears, has_player};
-ghost use Rattle.muck_board.specs.Silent.{quiet};
+ghost use Rattle.muck_board.specs.inner.Silent.{quiet};
 
 use crate::output::Output;
 use muck_lock::Keys;

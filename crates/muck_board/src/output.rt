@@ -3,7 +3,7 @@ ghost use Rattle.std.specs.Prelude.{◌≡◌, ℕ, ◌+◌, ◌-◌, ◌<◌, �
 ghost use Rattle.std.specs.List.{slice_split};
 ghost use Rattle.std.specs.Option.{option_map_or};
 ghost use Rattle.spec_live.specs.Output.{no_output, sent_form, notice_of, lines_bytes, bytes_of, newest, line_sent, lines_sent, sent, taken};
-ghost use Rattle.muck_board.specs.Pieces.{pieces_after};
+ghost use Rattle.muck_board.specs.inner.Pieces.{pieces_after};
 
 use crate::piece::Piece;
 use crate::rest::Rest;
@@ -29,7 +29,7 @@ pub struct Output {
 
 impl Model for Output {
     ghost use Rattle.spec_live.specs.Output.{Output as Queue};
-    ghost use Rattle.muck_board.specs.Bounded.{IsBounded};
+    ghost use Rattle.muck_board.specs.inner.Bounded.{IsBounded};
 
     ghost Value = { Queue };
 

@@ -14,7 +14,7 @@ pub struct Piece {
 
 impl Model for Piece {
     ghost use Rattle.std.specs.Prelude.{List, ℕ};
-    ghost use Rattle.muck_board.specs.Sent.{line_of, IsSent};
+    ghost use Rattle.muck_board.specs.inner.Sent.{line_of, IsSent};
 
     ghost Value = { List ℕ };
 

@@ -1,7 +1,7 @@
 // The rest of a line that was taken in part.
 ghost use Rattle.std.specs.Prelude.{◌≡◌, ◌≤◌, ◌↔◌, IsTrue, [], length, drop};
 ghost use Rattle.spec_live.specs.Output.{sent_form, notice};
-ghost use Rattle.muck_board.specs.Begun.{begun_bytes};
+ghost use Rattle.muck_board.specs.inner.Begun.{begun_bytes};
 
 use crate::piece::Piece;
 use std::marker::Model;
@@ -26,7 +26,7 @@ pub struct Rest {
 
 impl Model for Rest {
     ghost use Rattle.std.specs.Prelude.{◌≤◌, List, ℕ, length, drop};
-    ghost use Rattle.muck_board.specs.Begun.{begun_bytes};
+    ghost use Rattle.muck_board.specs.inner.Begun.{begun_bytes};
 
     ghost Value = { List ℕ };
 

@@ -3,7 +3,7 @@ ghost use Rattle.std.specs.Prelude.{◌≡◌, ◌+◌, ◌≤◌, length, take,
 ghost use Rattle.std.specs.List.{position, position_or_len, slice_split};
 ghost use Rattle.std.specs.Option.{option_map_or};
 ghost use Rattle.spec_live.specs.Output.{is_return};
-ghost use Rattle.muck_board.specs.Pieces.{pieces_after};
+ghost use Rattle.muck_board.specs.inner.Pieces.{pieces_after};
 ghost use Rattle.muck_model.specs.Bytes.{text_most};
 
 use muck_model::TEXT_MOST;

@@ -16,8 +16,8 @@ use Rattle.spec_live.proofs.KindLaws.{standing_alive}
 use Rattle.spec_live.proofs.Orders.{ordered_moved, list_short}
 use Rattle.spec_live.proofs.Readers.{entries_ext, length_moved, list_moved, object_moved, object_unmoved, mark_moved, kind_moved}
 use Rattle.muck_db.specs.declared.slot.Slot.{Slot}
-use Rattle.muck_db.specs.Slots.{next_at, first_at, place_at, kind_at, path_at, is_exit_at, list_at, on_slot, dbrefs_from, entries_of, HasChains, HasOrder, IsSound, IsKept, IsUnlinked, IsLinked}
-use Rattle.muck_db.specs.Limits.{IsWithinLimits}
+use Rattle.muck_db.specs.inner.Slots.{next_at, first_at, place_at, kind_at, path_at, is_exit_at, list_at, on_slot, dbrefs_from, entries_of, HasChains, HasOrder, IsSound, IsKept, IsUnlinked, IsLinked}
+use Rattle.muck_db.specs.inner.Limits.{IsWithinLimits}
 use Rattle.spec_live.proofs.Ties.{consistent_moved}
 use Rattle.muck_db.proofs.LimitLaws.{limits_moved}
 use Rattle.muck_db.proofs.Tables.{first-on_slot, next-on_slot, mark-on_slot, object-on_slot_same, object-on_slot_other}

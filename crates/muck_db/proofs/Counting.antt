@@ -10,8 +10,8 @@ use Rattle.std.proofs.lemmas.List.Sums.{length-filter}
 use Rattle.std.specs.List.{count_by, filter}
 use Rattle.spec_live.specs.Objects.{is_garbage}
 use Rattle.muck_db.specs.declared.slot.Slot.{Slot}
-use Rattle.muck_db.specs.Slots.{shown, entry_of, entries_of}
-use Rattle.muck_db.specs.Shown.{is_there, is_memory}
+use Rattle.muck_db.specs.inner.Slots.{shown, entry_of, entries_of}
+use Rattle.muck_db.specs.inner.Shown.{is_there, is_memory}
 
 length_there : (all slots : List Slot) → length (filter (λ s. not (is_garbage (shown s).kind)) slots) ≡ length (filter is_there (map (entry_of all) slots))
 unfolding entry_of

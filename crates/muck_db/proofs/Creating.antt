@@ -18,8 +18,8 @@ use Rattle.spec_live.proofs.Readers.{kind_moved, mark_moved, mark_named}
 use Rattle.spec_live.proofs.KindLaws.{standing_alive}
 use Rattle.spec_live.proofs.CreationLaws.{free_is, MayCreate, may_create, Begins, begins, grown_kind, grown_more, grown_same, free_le, other_kind, named_kind, ordered_grown, ordered_named, create_checked, consistent_created}
 use Rattle.muck_db.specs.declared.slot.Slot.{Slot}
-use Rattle.muck_db.specs.Slots.{next_at, first_at, kind_at, mark_at, object_put, entries_of, HasOrder, IsKept}
-use Rattle.muck_db.specs.Limits.{IsWithinLimits}
+use Rattle.muck_db.specs.inner.Slots.{next_at, first_at, kind_at, mark_at, object_put, entries_of, HasOrder, IsKept}
+use Rattle.muck_db.specs.inner.Limits.{IsWithinLimits}
 use Rattle.muck_db.proofs.LimitLaws.{limits_created}
 use Rattle.muck_db.proofs.Readers.{length-entries_of, kind_in-entries_of, mark_in-entries_of}
 use Rattle.muck_db.proofs.Writes.{entries_put, ends_put, mark_blank}

@@ -12,9 +12,9 @@ use Rattle.sha2.specs.Sha256.{digest_bytes, sha256}
 use Rattle.muck_model.specs.Bytes.{is_outside, text_most, text_fault}
 use Rattle.muck_model.specs.declared.line.LineFault.{LineFault}
 use Rattle.muck_model.specs.declared.line.LineFault.TheVariants.{NotLine, NoMemory}
-use Rattle.muck_model.specs.Text.{IsTextOrFault}
+use Rattle.muck_model.specs.inner.Text.{IsTextOrFault}
 use Rattle.spec_live.specs.Password.{digest_of}
-use Rattle.muck_db.specs.Limits.{is_digit, IsDigest}
+use Rattle.muck_db.specs.inner.Limits.{is_digit, IsDigest}
 
 -- bytes
 

@@ -10,8 +10,8 @@ use Rattle.spec_live.specs.Password.{digest_of, salt_bytes}
 use Rattle.spec_live.specs.Consistent.{IsConsistent}
 use Rattle.spec_live.proofs.Readers.{kind_changed, mark_changed}
 use Rattle.muck_db.specs.declared.slot.Slot.{Slot}
-use Rattle.muck_db.specs.Slots.{kind_at, on_slot, with_digest, entries_of, IsKept}
-use Rattle.muck_db.specs.Limits.{IsWithinLimits}
+use Rattle.muck_db.specs.inner.Slots.{kind_at, on_slot, with_digest, entries_of, IsKept}
+use Rattle.muck_db.specs.inner.Limits.{IsWithinLimits}
 use Rattle.muck_db.proofs.Readers.{kind_in-entries_of, mark_in-entries_of}
 use Rattle.muck_db.proofs.Writes.{entries_on_slot, ends_on_slot}
 

@@ -6,7 +6,7 @@ use Rattle.spec_live.specs.Objects.{is_player, kind_in, list_in}
 use Rattle.spec_live.specs.Setting.{holds_player}
 use Rattle.spec_live.proofs.Chains.{walk_next, walk_none}
 use Rattle.muck_db.specs.declared.slot.Slot.{Slot}
-use Rattle.muck_db.specs.Slots.{next_at, first_at, kind_at, list_at, entries_of}
+use Rattle.muck_db.specs.inner.Slots.{next_at, first_at, kind_at, list_at, entries_of}
 use Rattle.muck_db.proofs.Readers.{kind_in-entries_of, list_in-entries_of}
 
 pub any_here : (f : ℕ → Bool) (n : ℕ) (next : ℕ → Option ℕ) (s : Option ℕ) (x : ℕ) → s ≡ Some x → Ends n next s → f x ≡ true → list_any f (walk n next s) ≡ true

@@ -22,8 +22,8 @@ use Rattle.spec_live.proofs.SettingLaws.{same_only, both_true}
 use Rattle.spec_live.proofs.HomeLaws.{IsUntied, is_untied, ordered_untied, list_untied, length_untied, length_sent_home, HomeStep, home_step}
 use Rattle.spec_live.proofs.RecyclingLaws.{consistent_recycled}
 use Rattle.muck_db.specs.declared.slot.Slot.{Slot}
-use Rattle.muck_db.specs.Slots.{shown, object_at, next_at, first_of, first_at, mark_at, place_at, list_at, on_slot, new_slot, wiped, exit_wiped, entry_of, entries_of, Stands, HasOrder, IsSound, IsKept, IsUnlinked}
-use Rattle.muck_db.specs.Limits.{IsWithinLimits}
+use Rattle.muck_db.specs.inner.Slots.{shown, object_at, next_at, first_of, first_at, mark_at, place_at, list_at, on_slot, new_slot, wiped, exit_wiped, entry_of, entries_of, Stands, HasOrder, IsSound, IsKept, IsUnlinked}
+use Rattle.muck_db.specs.inner.Limits.{IsWithinLimits}
 use Rattle.muck_db.proofs.LimitLaws.{limits_recycled}
 use Rattle.muck_db.proofs.Readers.{length-entries_of, object_in-entries_of, list_in-entries_of, mark_in-entries_of}
 use Rattle.muck_db.proofs.Linked.{chain_over}

@@ -24,7 +24,7 @@ use Rattle.spec_live.proofs.Lists.{get_changed_same}
 use Rattle.spec_live.proofs.Readers.{object_elsewhere}
 use Rattle.spec_live.proofs.Checks.{checked_ok}
 use Rattle.spec_live.proofs.CreationLaws.{object_more, object_last, grown_same, grown_more}
-use Rattle.muck_db.specs.Limits.{IsDigest, FitsLimits, IsWithinLimits}
+use Rattle.muck_db.specs.inner.Limits.{IsDigest, FitsLimits, IsWithinLimits}
 use Rattle.muck_db.proofs.Digests.{bytes_high, length-bytes_high, is_digest}
 
 -- Objects.

@@ -5,7 +5,7 @@ use Rattle.spec_live.specs.Objects.{changed_at}
 use Rattle.spec_live.proofs.Chains.{chain_frame, chain_below, chain_without_first, chain_without, without_same}
 use Rattle.spec_live.proofs.Lists.{same_place, put_same, put_other, length_changed}
 use Rattle.muck_db.specs.declared.slot.Slot.{Slot}
-use Rattle.muck_db.specs.Slots.{next_at, first_at, list_at, with_next, with_first, Stands, HasChains, IsUnlinked, IsLinked}
+use Rattle.muck_db.specs.inner.Slots.{next_at, first_at, list_at, with_next, with_first, Stands, HasChains, IsUnlinked, IsLinked}
 use Rattle.muck_db.proofs.Tables.{object-with_next, object-with_first, mark-with_next, mark-with_first, first-with_next, next-with_first, next-with_next_same, next-with_next_other, first-with_first_same, first-with_first_other}
 
 -- the chain of one list

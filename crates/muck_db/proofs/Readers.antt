@@ -11,7 +11,7 @@ use Rattle.spec_live.specs.Objects.{Entry, index_of, is_exit, object_in, list_of
 use Rattle.spec_live.proofs.Chains.{walk_none}
 use Rattle.spec_live.proofs.Lists.{length_map}
 use Rattle.muck_db.specs.declared.slot.Slot.{Slot}
-use Rattle.muck_db.specs.Slots.{shown, object_at, next_at, first_at, first_of, place_at, kind_at, flags_at, home_at, owner_at, mark_at, is_exit_at, list_at, entry_of, entries_of}
+use Rattle.muck_db.specs.inner.Slots.{shown, object_at, next_at, first_at, first_of, place_at, kind_at, flags_at, home_at, owner_at, mark_at, is_exit_at, list_at, entry_of, entries_of}
 
 pub length-entries_of : (slots : List Slot) → length (entries_of slots) ≡ length slots
 unfolding entries_of

@@ -11,9 +11,9 @@ use Rattle.spec_live.specs.Consistent.{IsConsistent}
 use Rattle.muck_db.specs.declared.setting.Setting.{Setting}
 use Rattle.muck_db.specs.declared.setting.Setting.TheVariants.{Name, Owner, Link, Home, Flags, Level, Digest}
 use Rattle.muck_db.specs.declared.slot.Slot.{Slot}
-use Rattle.muck_db.specs.Slots.{kind_at, entries_of, on_slot, with_digest, IsKept}
-use Rattle.muck_db.specs.Limits.{IsWithinLimits}
-use Rattle.muck_db.specs.Settings.{with_setting, CanSet, MaySet}
+use Rattle.muck_db.specs.inner.Slots.{kind_at, entries_of, on_slot, with_digest, IsKept}
+use Rattle.muck_db.specs.inner.Limits.{IsWithinLimits}
+use Rattle.muck_db.specs.inner.Settings.{with_setting, CanSet, MaySet}
 use Rattle.spec_live.proofs.Checks.{alive_known}
 use Rattle.muck_db.proofs.Readers.{length-entries_of, kind_in-entries_of}
 use Rattle.muck_db.proofs.Fields.{entries_set, kept_set, did}

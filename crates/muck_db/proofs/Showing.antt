@@ -16,8 +16,8 @@ use Rattle.spec_live.proofs.KindLaws.{standing_alive, place_alive}
 use Rattle.spec_live.proofs.Readers.{place_is, object_there}
 use Rattle.spec_live.proofs.Checks.{alive_known, index_only, number_there}
 use Rattle.muck_db.specs.declared.slot.Slot.{Slot}
-use Rattle.muck_db.specs.Slots.{next_at, first_at, place_at, list_at, entries_of, Stands, HasChains, HasOrder}
-use Rattle.muck_db.specs.Shown.{behind, listing, after_in, head_of, first_in, next_in, dbref_at}
+use Rattle.muck_db.specs.inner.Slots.{next_at, first_at, place_at, list_at, entries_of, Stands, HasChains, HasOrder}
+use Rattle.muck_db.specs.inner.Shown.{behind, listing, after_in, head_of, first_in, next_in, dbref_at}
 use Rattle.muck_db.proofs.Readers.{list_in-entries_of, place_in-entries_of, is_exit-entries_of}
 use Rattle.muck_db.proofs.Linked.{chain_at}
 use Rattle.muck_db.proofs.Bridge.{order_chains, listed_none, listed_some, seen_none, seen_some}

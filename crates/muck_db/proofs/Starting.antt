@@ -7,8 +7,8 @@ use Rattle.spec_live.specs.Consistent.{IsConsistent}
 use Rattle.spec_live.proofs.Chains.{ends_from}
 use Rattle.spec_live.proofs.StartLaws.{consistent_first}
 use Rattle.muck_db.specs.declared.slot.Slot.{Slot}
-use Rattle.muck_db.specs.Slots.{next_at, first_at, entry_of, entries_of, first_slots, IsKept}
-use Rattle.muck_db.specs.Limits.{IsWithinLimits}
+use Rattle.muck_db.specs.inner.Slots.{next_at, first_at, entry_of, entries_of, first_slots, IsKept}
+use Rattle.muck_db.specs.inner.Limits.{IsWithinLimits}
 use Rattle.muck_db.proofs.LimitLaws.{limits_first}
 use Rattle.muck_db.proofs.Bridge.{ends_none}
 

@@ -7,7 +7,7 @@ use Rattle.spec_live.specs.declared.object.Object.{Object}
 use Rattle.spec_live.specs.Objects.{changed_at, is_garbage, garbage}
 use Rattle.spec_live.proofs.Lists.{get_changed_same, get_changed_other, kept_map, read_kept, some_at}
 use Rattle.muck_db.specs.declared.slot.Slot.{Slot}
-use Rattle.muck_db.specs.Slots.{shown, object_at, kind_at, next_at, first_of, first_at, mark_at, with_next, with_first, on_slot}
+use Rattle.muck_db.specs.inner.Slots.{shown, object_at, kind_at, next_at, first_of, first_at, mark_at, with_next, with_first, on_slot}
 
 pub object_kept : (slots : List Slot) (n k : ℕ) (f : Slot → Slot) → ((s : Slot) → shown (f s) ≡ shown s) → object_at (changed_at n f slots) k ≡ object_at slots k
 unfolding object_at

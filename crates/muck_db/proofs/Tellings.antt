@@ -15,8 +15,8 @@ use Rattle.spec_live.specs.Consistent.{IsConsistent}
 use Rattle.spec_live.proofs.Lists.{get_changed_same, get_changed_other}
 use Rattle.spec_live.proofs.StartLaws.{consistent_told}
 use Rattle.muck_db.specs.declared.slot.Slot.{Slot}
-use Rattle.muck_db.specs.Slots.{shown, object_at, first_of, kind_at, mark_at, with_mark, with_slot_lines, with_source, entry_of, entries_of, IsKept}
-use Rattle.muck_db.specs.Limits.{IsWithinLimits}
+use Rattle.muck_db.specs.inner.Slots.{shown, object_at, first_of, kind_at, mark_at, with_mark, with_slot_lines, with_source, entry_of, entries_of, IsKept}
+use Rattle.muck_db.specs.inner.Limits.{IsWithinLimits}
 use Rattle.muck_db.proofs.LimitLaws.{limits_told}
 use Rattle.muck_db.proofs.Readers.{length-entries_of, mark_in-entries_of}
 use Rattle.muck_db.proofs.Writes.{alive_slot, entries_changed, ends_changed, entries_with_mark, ends_with_mark}

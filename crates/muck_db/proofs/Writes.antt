@@ -15,7 +15,7 @@ use Rattle.spec_live.proofs.Readers.{entries_ext, object_named, object_unnamed, 
 use Rattle.spec_live.proofs.Orders.{chain_wider}
 use Rattle.spec_live.proofs.CreationLaws.{object_more, list_more, grown_same, grown_more}
 use Rattle.muck_db.specs.declared.slot.Slot.{Slot}
-use Rattle.muck_db.specs.Slots.{shown, object_at, kept_at, next_at, first_of, first_at, mark_at, kind_at, list_at, on_slot, with_mark, with_kept, new_slot, object_put, entry_of, entries_of}
+use Rattle.muck_db.specs.inner.Slots.{shown, object_at, kept_at, next_at, first_of, first_at, mark_at, kind_at, list_at, on_slot, with_mark, with_kept, new_slot, object_put, entry_of, entries_of}
 use Rattle.muck_db.proofs.Readers.{length-entries_of, object_in-entries_of, list_in-entries_of, mark_in-entries_of}
 use Rattle.muck_db.proofs.Linked.{chain_over}
 use Rattle.muck_db.proofs.Bridge.{list_is, walk_same}

@@ -1,4 +1,1 @@
-pub mod Slots
-pub mod Limits
-pub mod Shown
-pub mod Settings
+pub mod inner

@@ -17,7 +17,7 @@ impl<'a> Model for Chain<'a> {
     ghost use Rattle.std.specs.Prelude.{List, ◌≤◌, length};
     ghost use Rattle.muck_model.specs.declared.dbref.Dbref.{Dbref};
     ghost use Rattle.spec_live.specs.Chain.{Ends};
-    ghost use Rattle.muck_db.specs.Slots.{next_at, dbrefs_from};
+    ghost use Rattle.muck_db.specs.inner.Slots.{next_at, dbrefs_from};
 
     ghost Value = { List Dbref };
 
@@ -29,7 +29,7 @@ impl<'a> Model for Chain<'a> {
 impl<'a> Chain<'a> {
     ghost use Rattle.std.specs.Prelude.{◌≡◌, ◌≤◌, length};
     ghost use Rattle.spec_live.specs.Chain.{Ends};
-    ghost use Rattle.muck_db.specs.Slots.{next_at, dbrefs_from};
+    ghost use Rattle.muck_db.specs.inner.Slots.{next_at, dbrefs_from};
 
     // From that number on.
     pub(crate) fn new(slots: &'a Vec<Slot>, at: Option<u32>) -> Self

@@ -2,7 +2,7 @@
 ghost use Rattle.std.specs.Prelude.{◌≡◌, ◌<◌, ◌≤◌, ◌^◌, ℕ, [], length, false, OnOk, OnErr, IfOk, Err, if◌then◌else◌};
 ghost use Rattle.spec_live.specs.Objects.{dbref_of, is_garbage, is_player, nothing};
 ghost use Rattle.spec_live.specs.Making.{free_in, may_make, owner_judged, create_check, has_home, new_object};
-ghost use Rattle.muck_db.specs.Slots.{kind_at, entries_of, object_put};
+ghost use Rattle.muck_db.specs.inner.Slots.{kind_at, entries_of, object_put};
 
 use crate::links::dbref_of;
 use crate::moves::{is_vehicle, kind_of, may_stand, number_of};
@@ -149,7 +149,7 @@ pub fn new_object(
 }
 
 // Puts an object at a number of garbage, or at the next one.
-#[tactic(auto, unfolding(crate::specs::Slots::object_put, spec_live::specs::Objects::changed_at))]
+#[tactic(auto, unfolding(crate::specs::inner::Slots::object_put, spec_live::specs::Objects::changed_at))]
 pub fn put_object(slots: &mut Vec<Slot>, n: u32, object: Object) -> Result<(), DbFault>
     requires { n ≤ length slots.old.items }
     ensures put { OnOk result (slots.new.items ≡ object_put n object slots.old.items) }

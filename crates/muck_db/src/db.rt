@@ -13,9 +13,9 @@ ghost use Rattle.spec_live.specs.Consistent.{IsConsistent};
 ghost use Rattle.spec_live.specs.Seen.{listed_in, places_of, scenery_of};
 ghost use Rattle.muck_match.specs.Scenery.{chain, upward};
 ghost use Rattle.muck_lock.specs.Chain.{IsChain};
-ghost use Rattle.muck_db.specs.Limits.{FitsLimits, IsWithinLimits};
-ghost use Rattle.muck_db.specs.Settings.{MaySet, with_setting};
-ghost use Rattle.muck_db.specs.Shown.{is_there, after_in, first_in, next_in, Knows};
+ghost use Rattle.muck_db.specs.inner.Limits.{FitsLimits, IsWithinLimits};
+ghost use Rattle.muck_db.specs.inner.Settings.{MaySet, with_setting};
+ghost use Rattle.muck_db.specs.inner.Shown.{is_there, after_in, first_in, next_in, Knows};
 
 use crate::chain::Chain;
 use crate::creation::{check_create, new_object, put_object};
@@ -55,7 +55,7 @@ pub struct Db {
 impl Model for Db {
     ghost use Rattle.std.specs.Prelude.{List};
     ghost use Rattle.spec_live.specs.Objects.{Entry};
-    ghost use Rattle.muck_db.specs.Slots.{entries_of, IsKept};
+    ghost use Rattle.muck_db.specs.inner.Slots.{entries_of, IsKept};
 
     ghost Value = { List Entry };
 

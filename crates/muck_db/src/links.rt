@@ -3,7 +3,7 @@ ghost use Rattle.std.specs.Prelude.{◌≡◌, ◌≢◌, ◌<◌, ◌^◌, ℕ,
 ghost use Rattle.spec_live.specs.Chain.{walk, has, Ends, Member};
 ghost use Rattle.spec_live.specs.Objects.{dbref_of, index_of, changed_at};
 ghost use Rattle.spec_live.specs.Moving.{with_place};
-ghost use Rattle.muck_db.specs.Slots.{next_at, first_at, place_at, is_exit_at, list_at, path_at, with_next, with_first, on_slot, HasChains, IsUnlinked, IsLinked};
+ghost use Rattle.muck_db.specs.inner.Slots.{next_at, first_at, place_at, is_exit_at, list_at, path_at, with_next, with_first, on_slot, HasChains, IsUnlinked, IsLinked};
 
 use crate::slot::Slot;
 use muck_model::{Dbref, Kind};
@@ -25,7 +25,7 @@ pub fn index_of(d: Dbref) -> Option<u32>
     Some(d.0 as u32)
 }
 
-#[tactic(auto, unfolding(crate::specs::Slots::next_at))]
+#[tactic(auto, unfolding(crate::specs::inner::Slots::next_at))]
 pub fn next_of(slots: &Vec<Slot>, k: u32) -> Option<u32>
     requires { k < length slots.now.items }
     ensures { result ≡ next_at slots.now.items k }
@@ -33,7 +33,7 @@ pub fn next_of(slots: &Vec<Slot>, k: u32) -> Option<u32>
     slots[k as usize].next
 }
 
-#[tactic(auto, unfolding(crate::specs::Slots::first_at))]
+#[tactic(auto, unfolding(crate::specs::inner::Slots::first_at))]
 pub fn first_of(slots: &Vec<Slot>, exits: bool, k: u32) -> Option<u32>
     requires { k < length slots.now.items }
     ensures { result ≡ first_at exits slots.now.items k }
@@ -46,7 +46,7 @@ pub fn first_of(slots: &Vec<Slot>, exits: bool, k: u32) -> Option<u32>
     }
 }
 
-#[tactic(auto, unfolding(crate::specs::Slots::place_at, crate::specs::Slots::object_at, spec_live::specs::Objects::garbage))]
+#[tactic(auto, unfolding(crate::specs::inner::Slots::place_at, crate::specs::inner::Slots::object_at, spec_live::specs::Objects::garbage))]
 pub fn place_of(slots: &Vec<Slot>, k: u32) -> Option<u32>
     requires { k < length slots.now.items }
     ensures { result ≡ place_at slots.now.items k }
@@ -57,7 +57,7 @@ pub fn place_of(slots: &Vec<Slot>, k: u32) -> Option<u32>
     }
 }
 
-#[tactic(auto, unfolding(crate::specs::Slots::is_exit_at, crate::specs::Slots::object_at, spec_live::specs::Objects::garbage))]
+#[tactic(auto, unfolding(crate::specs::inner::Slots::is_exit_at, crate::specs::inner::Slots::object_at, spec_live::specs::Objects::garbage))]
 pub fn is_exit_of(slots: &Vec<Slot>, k: u32) -> bool
     requires { k < length slots.now.items }
     ensures { result ≡ is_exit_at slots.now.items k }

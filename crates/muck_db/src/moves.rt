@@ -7,8 +7,8 @@ ghost use Rattle.spec_live.specs.Objects.{may_stand, is_garbage, fits_in, number
 ghost use Rattle.spec_live.specs.Moving.{move_check, moved};
 ghost use Rattle.spec_live.specs.Consistent.{MayMove};
 ghost use Rattle.spec_live.specs.Seen.{listed_in};
-ghost use Rattle.muck_db.specs.Slots.{shown, kept_at, kind_at, flags_at, entries_of, HasOrder};
-ghost use Rattle.muck_db.specs.Shown.{is_there};
+ghost use Rattle.muck_db.specs.inner.Slots.{shown, kept_at, kind_at, flags_at, entries_of, HasOrder};
+ghost use Rattle.muck_db.specs.inner.Shown.{is_there};
 
 use crate::chain::Chain;
 use crate::links::{first_of, index_of, is_exit_of, leads_to, link, set_place, take_out};
@@ -34,7 +34,7 @@ pub fn may_stand(kind: Kind, place: Kind, seats: bool) -> bool
     }
 }
 
-#[tactic(auto, unfolding(crate::specs::Slots::kind_at, crate::specs::Slots::object_at, spec_live::specs::Objects::garbage))]
+#[tactic(auto, unfolding(crate::specs::inner::Slots::kind_at, crate::specs::inner::Slots::object_at, spec_live::specs::Objects::garbage))]
 pub fn kind_of(slots: &Vec<Slot>, k: u32) -> Kind
     ensures value { result ≡ kind_at slots.now.items k }
     ensures within { is_garbage result ≡ false → k < length slots.now.items }
@@ -50,7 +50,7 @@ pub fn kind_of(slots: &Vec<Slot>, k: u32) -> Kind
     }
 }
 
-#[tactic(auto, unfolding(crate::specs::Slots::flags_at, crate::specs::Slots::object_at, spec_live::specs::Objects::garbage, spec_live::specs::Flags::has_flag))]
+#[tactic(auto, unfolding(crate::specs::inner::Slots::flags_at, crate::specs::inner::Slots::object_at, spec_live::specs::Objects::garbage, spec_live::specs::Flags::has_flag))]
 pub fn is_vehicle(slots: &Vec<Slot>, k: u32) -> bool
     ensures { result ≡ has_flag vehicle (flags_at slots.now.items k) }
 {
@@ -88,7 +88,7 @@ pub fn number_of(slots: &Vec<Slot>, d: Dbref) -> Option<u32>
 }
 
 // The object at a place, which is none where it is garbage.
-#[tactic(auto, unfolding(crate::specs::Slots::kept_at))]
+#[tactic(auto, unfolding(crate::specs::inner::Slots::kept_at))]
 fn object_of(slots: &Vec<Slot>, k: u32) -> Option<&Object>
     requires { k < length slots.now.items }
     ensures { option_copied result ≡ kept_at slots.now.items k }

@@ -1,7 +1,7 @@
 // How a password is kept.
 ghost use Rattle.std.specs.Prelude.{◌≡◌, ◌≤◌, ◌++◌, length, IfOk, OnErr, Err, take, bytes_eq};
 ghost use Rattle.sha2.specs.Sha256.{sha256};
-ghost use Rattle.muck_db.specs.Shown.{is_memory};
+ghost use Rattle.muck_db.specs.inner.Shown.{is_memory};
 ghost use Rattle.spec_live.specs.Password.{digest_of, is_digest_of, salt_bytes};
 
 use hex::FromHexError;

@@ -4,7 +4,7 @@ ghost use Rattle.spec_live.specs.declared.mark.Mark.TheVariants.{Gone};
 ghost use Rattle.spec_live.specs.Chain.{Ends};
 ghost use Rattle.spec_live.specs.Objects.{dbref_of, nothing, same, kind_in, list_in, changed_at};
 ghost use Rattle.spec_live.specs.Recycling.{without_ties, untied, wished_home, may_go, way_home, sent_home, is_exit_of, exits_gone, vanished, recycle_check};
-ghost use Rattle.muck_db.specs.Slots.{home_at, owner_at, shown, next_at, first_at, entries_of, on_slot, new_slot, exit_wiped, wiped, HasOrder};
+ghost use Rattle.muck_db.specs.inner.Slots.{home_at, owner_at, shown, next_at, first_at, entries_of, on_slot, new_slot, exit_wiped, wiped, HasOrder};
 
 use crate::links::{dbref_of, first_of, index_of, leads_to, take_out};
 use crate::moves::{fits, kind_of, number_of, relocate};
@@ -73,7 +73,7 @@ fn untie(slots: &mut Vec<Slot>, d: u32)
     }
 }
 
-#[tactic(auto, unfolding(crate::specs::Slots::home_at, crate::specs::Slots::object_at, spec_live::specs::Objects::garbage))]
+#[tactic(auto, unfolding(crate::specs::inner::Slots::home_at, crate::specs::inner::Slots::object_at, spec_live::specs::Objects::garbage))]
 fn home_of(slots: &Vec<Slot>, k: u32) -> Option<u32>
     ensures { result ≡ home_at slots.now.items k }
 {
@@ -88,7 +88,7 @@ fn home_of(slots: &Vec<Slot>, k: u32) -> Option<u32>
     }
 }
 
-#[tactic(auto, unfolding(crate::specs::Slots::owner_at, crate::specs::Slots::object_at, spec_live::specs::Objects::garbage))]
+#[tactic(auto, unfolding(crate::specs::inner::Slots::owner_at, crate::specs::inner::Slots::object_at, spec_live::specs::Objects::garbage))]
 fn owner_of(slots: &Vec<Slot>, k: u32) -> Option<u32>
     ensures { result ≡ owner_at slots.now.items k }
 {
@@ -185,7 +185,7 @@ fn is_exit_of(slot: &Slot, d: u32) -> bool
 }
 
 // An exit of `d` becomes garbage.
-#[tactic(auto, unfolding(crate::specs::Slots::exit_wiped))]
+#[tactic(auto, unfolding(crate::specs::inner::Slots::exit_wiped))]
 fn wipe_slot(slot: &mut Slot, d: u32)
     requires { d < 2 ^ 31 }
     ensures { slot.new ≡ exit_wiped d slot.old }

@@ -38,7 +38,7 @@ fn has_value(db: &Db, d: Dbref, path: &[u8], value: &[u8]) -> bool
 
 impl Scene for Db {
     ghost use Rattle.spec_live.specs.Seen.{scenery_of};
-    ghost use Rattle.muck_db.specs.Shown.{after_in};
+    ghost use Rattle.muck_db.specs.inner.Shown.{after_in};
 
     ghost shown = { scenery_of };
 
@@ -98,7 +98,7 @@ impl Keys for Db {
     ghost use Rattle.std.specs.Option.{option_map};
     ghost use Rattle.spec_live.specs.Objects.{object_at};
     ghost use Rattle.spec_live.specs.Seen.{listed_in, has_value};
-    ghost use Rattle.muck_db.specs.Shown.{first_in, next_in};
+    ghost use Rattle.muck_db.specs.inner.Shown.{first_in, next_in};
 
     ghost owners = { λ es d. option_map (λ o. o.owner) (object_at d es) };
 

@@ -2,8 +2,8 @@
 ghost use Rattle.std.specs.Prelude.{◌≡◌, ◌<◌, ℕ, List, length, false, IfOk, OnOk, OnErr, Ok, Err};
 ghost use Rattle.spec_live.specs.Objects.{is_garbage, is_player, is_exit, kind_in, changed_at};
 ghost use Rattle.spec_live.specs.Setting.{any, checked, checked_both, owner_check, link_check, home_check, flags_check, level_check, lines_check, password_check, keeps_seats, holds_player, may_link, may_live, has_link, lines_marked, with_prop, without_prop};
-ghost use Rattle.muck_db.specs.Slots.{kind_at, entries_of, on_slot, with_slot_lines, HasOrder};
-ghost use Rattle.muck_db.specs.Settings.{with_setting};
+ghost use Rattle.muck_db.specs.inner.Slots.{kind_at, entries_of, on_slot, with_slot_lines, HasOrder};
+ghost use Rattle.muck_db.specs.inner.Settings.{with_setting};
 
 use crate::links::{first_of, next_of};
 use crate::moves::{is_vehicle, kind_of, number_of};

@@ -3,7 +3,7 @@ ghost use Rattle.std.specs.Prelude.{◌≡◌, [], ◌∷◌, IfOk, Some, None, 
 ghost use Rattle.muck_model.specs.Bytes.{text_fault};
 ghost use Rattle.spec_live.specs.Start.{room_zero, player_one};
 ghost use Rattle.spec_live.specs.Password.{digest_of, first_salt, first_password};
-ghost use Rattle.muck_db.specs.Slots.{first_slots};
+ghost use Rattle.muck_db.specs.inner.Slots.{first_slots};
 
 use crate::password::digest_text;
 use crate::slot::Slot;
@@ -71,7 +71,7 @@ fn player_one(alloc: Global) -> Result<Object, NoMemory>
 }
 
 // Room Zero, and One in it.
-#[tactic(auto, unfolding(crate::specs::Slots::first_slots))]
+#[tactic(auto, unfolding(crate::specs::inner::Slots::first_slots))]
 pub fn first_slots(alloc: Global) -> Result<Vec<Slot>, NoMemory>
     ensures { IfOk result (λ slots. slots.items ≡ first_slots) }
 {

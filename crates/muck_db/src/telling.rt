@@ -2,13 +2,13 @@
 ghost use Rattle.std.specs.Prelude.{◌≡◌, ◌<◌, ◌≤◌, ◌^◌, ℕ, length, None, IfSome, IfNone};
 ghost use Rattle.spec_live.specs.Objects.{changed_at};
 ghost use Rattle.spec_live.specs.Marks.{marked_from, told_of};
-ghost use Rattle.muck_db.specs.Slots.{mark_at, entries_of, with_mark};
+ghost use Rattle.muck_db.specs.inner.Slots.{mark_at, entries_of, with_mark};
 
 use crate::links::dbref_of;
 use crate::slot::Slot;
 use spec_live::{Changed, Mark};
 
-#[tactic(auto, unfolding(crate::specs::Slots::mark_at))]
+#[tactic(auto, unfolding(crate::specs::inner::Slots::mark_at))]
 fn mark_of(slots: &Vec<Slot>, k: u32) -> Option<Mark>
     requires { k < length slots.now.items }
     ensures { result ≡ mark_at slots.now.items k }

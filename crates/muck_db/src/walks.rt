@@ -3,8 +3,8 @@ ghost use Rattle.std.specs.Prelude.{◌≡◌, ◌<◌, ◌^◌, IfSome, false};
 ghost use Rattle.muck_match.specs.Scenery.{chain};
 ghost use Rattle.muck_lock.specs.Chain.{IsChain};
 ghost use Rattle.spec_live.specs.Seen.{listed_in};
-ghost use Rattle.muck_db.specs.Slots.{entries_of, HasOrder};
-ghost use Rattle.muck_db.specs.Shown.{after_in, first_in, next_in, dbref_at};
+ghost use Rattle.muck_db.specs.inner.Slots.{entries_of, HasOrder};
+ghost use Rattle.muck_db.specs.inner.Shown.{after_in, first_in, next_in, dbref_at};
 
 use crate::links::{dbref_of, first_of, next_of, place_of};
 use crate::moves::number_of;

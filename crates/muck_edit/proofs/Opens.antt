@@ -29,7 +29,7 @@ use Rattle.spec_commands.specs.Texts.{first_word, other_words, trimmed, is_alike
 use Rattle.spec_commands.specs.Finding.{where_so, is_so}
 use Rattle.spec_commands.specs.Going.{is_program_at}
 use Rattle.spec_commands.specs.Programming.{source_of}
-use Rattle.spec_commands.specs.Commands.{is_empty}
+use Rattle.spec_commands.specs.Reading.{is_empty}
 use Rattle.spec_commands.specs.Editing.{entering, exiting, deleted_reply, editor_exited, illegal, line_number, plain_command, line_command, lines_command, one_line, two_lines, edit_command, lines_most, stepped, with_line, line_inserted, same_lines, source_kept, edit_done, edit_some, edited_at, edited, IsOpen}
 use Rattle.spec_commands.proofs.Programmed.{quiet_lines_shown}
 use Rattle.spec_commands.proofs.Edited.{edited_licensed}

@@ -1,8 +1,8 @@
 -- Literal rows: what the definitions compute to.
 use Rattle.std.proofs.Common.{◌≡◌, [], ◌∷◌, true, false, refl}
 use Rattle.muck_io.specs.Faults.{one_more}
-use Rattle.muck_io.specs.Clock.{next_answer, later_answers}
-use Rattle.muck_io.specs.Memory.{no_calls, fails_next, after_call, after_fault, to_give, to_take, after_taking}
+use Rattle.muck_io.specs.inner.Clock.{next_answer, later_answers}
+use Rattle.muck_io.specs.inner.Memory.{no_calls, fails_next, after_call, after_fault, to_give, to_take, after_taking}
 
 count_rises : one_more 0 ≡ 1
 count_rises = refl

@@ -1,5 +1,4 @@
 pub mod Faults
 pub mod Source
 pub mod Sink
-pub mod Clock
-pub mod Memory
+pub mod inner

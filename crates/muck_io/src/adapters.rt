@@ -1,6 +1,6 @@
 // A source, a sink and a clock over those of std. They tell no bytes and no answers.
 ghost use Rattle.std.specs.Prelude.{◌≡◌, None};
-ghost use Rattle.muck_io.specs.Clock.{Answers};
+ghost use Rattle.muck_io.specs.inner.Clock.{Answers};
 
 use crate::{Clock, Got, Put, Sink, Source};
 use std::io::{Read, Write};

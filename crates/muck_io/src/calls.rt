@@ -1,7 +1,7 @@
 // The calls of a source or a sink in memory, of which chosen ones fail.
 ghost use Rattle.std.specs.Prelude.{◌≡◌, ◌≤◌};
 ghost use Rattle.muck_io.specs.Faults.{one_more};
-ghost use Rattle.muck_io.specs.Memory.{no_calls, fails_next, after_call};
+ghost use Rattle.muck_io.specs.inner.Memory.{no_calls, fails_next, after_call};
 
 use std::marker::Model;
 
@@ -15,7 +15,7 @@ pub(crate) struct Calls {
 
 impl Model for Calls {
     ghost use Rattle.std.specs.Prelude.{◌^◌};
-    ghost use Rattle.muck_io.specs.Memory.{CallRecord};
+    ghost use Rattle.muck_io.specs.inner.Memory.{CallRecord};
 
     ghost Value = { CallRecord };
 

@@ -1,6 +1,6 @@
 // What tells the time.
 ghost use Rattle.std.specs.Prelude.{◌≡◌, Option, List, ℕ, Some, drop};
-ghost use Rattle.muck_io.specs.Clock.{Answers};
+ghost use Rattle.muck_io.specs.inner.Clock.{Answers};
 
 use std::marker::Model;
 

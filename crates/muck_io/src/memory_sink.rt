@@ -1,7 +1,7 @@
 // A sink in memory, of which chosen writes fail.
 ghost use Rattle.std.specs.Prelude.{◌≡◌, [], Some};
 ghost use Rattle.muck_io.specs.Sink.{HasPut, PutCause};
-ghost use Rattle.muck_io.specs.Memory.{no_calls, HasTaken};
+ghost use Rattle.muck_io.specs.inner.Memory.{no_calls, HasTaken};
 
 use crate::calls::Calls;
 use crate::{Put, Sink};
@@ -16,7 +16,7 @@ pub struct MemSink {
 }
 
 impl Model for MemSink {
-    ghost use Rattle.muck_io.specs.Memory.{Store};
+    ghost use Rattle.muck_io.specs.inner.Memory.{Store};
 
     ghost Value = { Store };
 

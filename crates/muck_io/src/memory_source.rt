@@ -1,7 +1,7 @@
 // A source in memory, of which chosen reads fail.
 ghost use Rattle.std.specs.Prelude.{◌≡◌, ◌<◌, Some};
 ghost use Rattle.muck_io.specs.Source.{HasRead, GotCause};
-ghost use Rattle.muck_io.specs.Memory.{no_calls, HasGiven};
+ghost use Rattle.muck_io.specs.inner.Memory.{no_calls, HasGiven};
 
 use crate::calls::Calls;
 use crate::{Got, Source};
@@ -17,7 +17,7 @@ pub struct MemSource {
 
 impl Model for MemSource {
     ghost use Rattle.std.specs.Prelude.{drop, length, ◌≤◌, ◌<◌};
-    ghost use Rattle.muck_io.specs.Memory.{Supply};
+    ghost use Rattle.muck_io.specs.inner.Memory.{Supply};
 
     ghost Value = { Supply };
 

@@ -11,11 +11,11 @@ use Rattle.muf_token.specs.declared.token.Token.{Token}
 use Rattle.muf_token.specs.declared.fault.TokenFault.{TokenFault}
 use Rattle.muf_token.specs.declared.fault.TokenFault.TheVariants as read
 use Rattle.muf_token.specs.Source.{words}
-use Rattle.muf_token.specs.Spots.{IsAnswer}
+use Rattle.muf_token.specs.inner.Spots.{IsAnswer}
 use Rattle.muf_compile.specs.declared.fault.Refusal.{Refusal as CompileRefusal}
 use Rattle.muf_compile.specs.declared.fault.CompileFault.{CompileFault}
 use Rattle.muf_compile.specs.declared.fault.CompileFault.TheVariants as compiled
-use Rattle.muf_compile.specs.Fits.{IsCode}
+use Rattle.muf_compile.specs.inner.Fits.{IsCode}
 use Rattle.muf_compile.specs.Growth.{tree_of}
 use Rattle.muf_compile.proofs.Worded.{tree_has_word}
 use Rattle.muck_library.specs.Flaws.{fault_of_reading, fault_of_compiling}

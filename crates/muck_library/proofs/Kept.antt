@@ -7,7 +7,7 @@ use Rattle.spec_live.specs.Objects.{changed_at}
 use Rattle.muf_model.specs.declared.code.Code.{Code}
 use Rattle.muf_model.specs.Decode.{tree_of}
 use Rattle.muck_library.specs.Library.{itself, with_form}
-use Rattle.muck_library.specs.Forms.{trees_of}
+use Rattle.muck_library.specs.inner.Forms.{trees_of}
 
 -- the tree at a number
 pub tree_read : (forms : List (Option Code)) (n : ℕ) → option_and_then itself (slice_get (trees_of forms) n) ≡ option_and_then (option_map tree_of) (slice_get forms n)

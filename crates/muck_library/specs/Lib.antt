@@ -1,5 +1,4 @@
 pub mod Flaws
 pub mod Programs
 pub mod Library
-pub mod Forms
-pub mod Rebuilt
+pub mod inner

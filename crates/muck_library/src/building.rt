@@ -3,7 +3,7 @@ ghost use Rattle.std.specs.Prelude.{◌≡◌, ◌<◌, List, IfOk, length};
 ghost use Rattle.muf_model.specs.Decode.{tree_of};
 ghost use Rattle.muf_token.specs.declared.token.Token.{Token};
 ghost use Rattle.muf_token.specs.Source.{words};
-ghost use Rattle.muf_token.specs.Spots.{IsAnswer};
+ghost use Rattle.muf_token.specs.inner.Spots.{IsAnswer};
 ghost use Rattle.muck_library.specs.Programs.{lent_in, source_in, built_tree, IsBuilt};
 
 use crate::BuildFault;

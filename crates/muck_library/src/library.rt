@@ -7,7 +7,7 @@ ghost use Rattle.muf_model.specs.Decode.{tree_of};
 ghost use Rattle.muf_model.specs.Stands.{TreeStands};
 ghost use Rattle.muck_library.specs.Programs.{built_tree};
 ghost use Rattle.muck_library.specs.Library.{form_at, form_kept, form_dropped, form_made, formed};
-ghost use Rattle.muck_library.specs.Rebuilt.{IsRebuilt};
+ghost use Rattle.muck_library.specs.inner.Rebuilt.{IsRebuilt};
 
 use crate::{BuildFault, Flaw, build};
 use muck_db::Db;
@@ -29,7 +29,7 @@ impl Model for Library {
     ghost use Rattle.std.specs.List.{All};
     ghost use Rattle.muf_model.specs.Tree.{Tree};
     ghost use Rattle.muf_model.specs.Codes.{block_code};
-    ghost use Rattle.muck_library.specs.Forms.{trees_of, FormStands};
+    ghost use Rattle.muck_library.specs.inner.Forms.{trees_of, FormStands};
 
     ghost Value = { List (Option Tree) };
 

@@ -4,7 +4,7 @@ use Rattle.std.specs.Prelude.{◌&&◌, ◌||◌, ◌==◌, nat_lt, nat_le, if�
 use Rattle.std.specs.List.{position_or_len}
 use Rattle.muck_model.specs.Bytes.{is_outside, text_fault, text_most}
 use Rattle.muck_model.specs.Bytes as model
-use Rattle.muck_model.specs.Text.{IsTextOrFault}
+use Rattle.muck_model.specs.inner.Text.{IsTextOrFault}
 use Rattle.muck_model.specs.declared.line.LineFault.{LineFault}
 use Rattle.muck_model.specs.declared.line.LineFault.TheVariants.{NotLine, NoMemory}
 use Rattle.muck_links.specs.declared.cutter.Mode.{Mode}

@@ -2,7 +2,7 @@
 ghost use Rattle.std.specs.Prelude.{◌≡◌, ◌≤◌};
 
 /// What `listen` answers.
-#[derive(Clone, Copy)]
+#[derive(Clone, Copy, Debug)]
 pub enum Listened {
     /// Links may come.
     Ready,
@@ -13,7 +13,7 @@ pub enum Listened {
 }
 
 /// What `accept` answers.
-#[derive(Clone, Copy)]
+#[derive(Clone, Copy, Debug)]
 pub enum Accepted {
     /// A link came; it has this number until it is closed.
     Got(u32),
@@ -28,7 +28,7 @@ pub enum Accepted {
 }
 
 /// What `read` answers.
-#[derive(Clone, Copy)]
+#[derive(Clone, Copy, Debug)]
 pub enum LinkRead {
     /// So many bytes stand in the front of the buffer.
     Got(usize),
@@ -41,7 +41,7 @@ pub enum LinkRead {
 }
 
 /// What `write` answers.
-#[derive(Clone, Copy)]
+#[derive(Clone, Copy, Debug)]
 pub enum LinkWrite {
     /// So many bytes of the front were taken.
     Put(usize),

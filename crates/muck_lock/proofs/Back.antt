@@ -13,9 +13,9 @@ use Rattle.muck_model.specs.declared.lock.Lock.TheVariants.{Free, Object, Prop, 
 use Rattle.muck_lock.specs.Naming.{Naming}
 use Rattle.muck_lock.specs.Paths.{is_path}
 use Rattle.muck_lock.specs.Grammar.{Reading, ends_key, is_colon, object_key, property_key, named_key, key_of, key_or_fault, key_in, negated, closed, with_first, followed, joined, part_of, reading, whole, whole_of, lock_of}
-use Rattle.muck_lock.specs.Made.{is_short, is_made, is_made_step}
+use Rattle.muck_lock.specs.inner.Made.{is_short, is_made, is_made_step}
 use Rattle.muck_lock.specs.Printed.{groups_both, groups_either, grouped, written, written_step, printed}
-use Rattle.muck_lock.specs.Law.{has_no_program, has_no_program_step, ReadsBack}
+use Rattle.muck_lock.specs.inner.Law.{has_no_program, has_no_program_step, ReadsBack}
 use Rattle.muck_lock.specs.declared.part.Part.{Part}
 use Rattle.muck_lock.specs.declared.part.Part.TheVariants.{OneOf, AllOf, Term}
 use Rattle.muck_lock.proofs.Locks.{each_lock, at_free, at_object, at_prop, at_not, at_both, at_either}

@@ -10,7 +10,7 @@ use Rattle.std.proofs.lemmas.Str.Parse.{IsNumeralModel, numerals_by_fold}
 use Rattle.muck_model.specs.Decimal.{is_digit, is_decimal, value_from, decimal_of}
 use Rattle.muck_model.specs.Numbers.{below, numbered, signed_of, dbref_of}
 use Rattle.muck_model.proofs.Decimals.{decimal_within}
-use Rattle.muck_lock.specs.Made.{is_short}
+use Rattle.muck_lock.specs.inner.Made.{is_short}
 use Rattle.muck_lock.proofs.Passes.{and_first, and_rest}
 
 own : IsNumeralModel (λ ds. list_all is_digit ds ≡ true) (value_from 0)

@@ -8,7 +8,7 @@ use Rattle.muck_model.specs.Bytes.{text_fault}
 use Rattle.muck_model.specs.Decimal.{is_digit}
 use Rattle.muck_model.specs.declared.lock.Lock.{Lock}
 use Rattle.muck_model.specs.declared.lock.Lock.TheVariants.{Free, Object, Prop, Not, Both, Either}
-use Rattle.muck_lock.specs.Made.{is_short, is_text, is_made, is_made_step}
+use Rattle.muck_lock.specs.inner.Made.{is_short, is_text, is_made, is_made_step}
 use Rattle.muck_lock.specs.Printed.{groups_both, groups_either, grouped, written, written_step}
 use Rattle.muck_lock.specs.declared.part.Part.{Part}
 use Rattle.muck_lock.specs.declared.part.Part.TheVariants.{OneOf, AllOf, Term}

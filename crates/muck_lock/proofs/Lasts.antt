@@ -3,7 +3,7 @@ use Rattle.std.proofs.Common.{◌≡◌, ℕ, ◌+◌, ◌-◌, List, [], ◌∷
 use Rattle.std.specs.Prelude.{◌<◌, ◌==◌, IfSome, slice_get, option_to_list}
 use Rattle.std.proofs.lemmas.Bool.{false≢true, eqb-true}
 use Rattle.std.proofs.lemmas.List.{reverse-append, length-append}
-use Rattle.muck_lock.specs.Waiting.{ends}
+use Rattle.muck_lock.specs.inner.Waiting.{ends}
 use Rattle.muck_lock.specs.declared.reader.Waiting.{Waiting}
 
 slice_get-last : (xs : List Waiting) (w : Waiting) → slice_get (xs ++ w ∷ []) (length xs) ≡ Some w

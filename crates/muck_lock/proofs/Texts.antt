@@ -10,7 +10,8 @@ use Rattle.muck_lock.specs.declared.part.Part.TheVariants.{OneOf, AllOf, Term}
 use Rattle.muck_lock.specs.Paths.{is_path}
 use Rattle.muck_lock.specs.Grammar.{Reading, ends_key, object_key, property_key, key_of, key_or_fault, key_in, negated, closed_by, closed, with_first, followed, joined, term_in, all_of_in, one_of_in, part_in, part_of, reading, whole_of, whole, lock_of}
 use Rattle.muck_lock.specs.Opens.{Holdings, object_opens, property_opens, opens_step, opens_for}
-use Rattle.muck_lock.specs.Answers.{no_names, lock_opens, text_opens, Answer, key_opens, key_answer, negated_answer, closed_pair, closed_answer, joined_by, followed_pair, followed_answer, term_answer, all_answer, one_answer, part_in_answer, part_answer, whole_opens}
+use Rattle.muck_lock.specs.Answers.{no_names, lock_opens, text_opens}
+use Rattle.muck_lock.specs.inner.Answers.{Answer, key_opens, key_answer, negated_answer, closed_pair, closed_answer, joined_by, followed_pair, followed_answer, term_answer, all_answer, one_answer, part_in_answer, part_answer, whole_opens}
 use Rattle.muck_lock.proofs.Locks.{at_free, at_object, at_prop, at_not, at_both, at_either}
 
 -- For whom each kind of lock opens.

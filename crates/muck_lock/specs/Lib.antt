@@ -4,9 +4,5 @@ pub mod Grammar
 pub mod Chain
 pub mod Opens
 pub mod Printed
-pub mod Waiting
-pub mod Made
-pub mod Law
-pub mod Memory
-pub mod Standing
 pub mod Answers
+pub mod inner

@@ -3,7 +3,7 @@ ghost use Rattle.std.specs.Prelude.{◌≡◌, ◌<◌, ◌≤◌, ◌^◌, ◌&
 ghost use Rattle.std.specs.Option.{option_copied};
 ghost use Rattle.std.specs.List.{find, list_any};
 ghost use Rattle.muck_lock.specs.Chain.{same};
-ghost use Rattle.muck_lock.specs.Memory.{index_at, object_at, first_in, next_at, is_prop};
+ghost use Rattle.muck_lock.specs.inner.Memory.{index_at, object_at, first_in, next_at, is_prop};
 
 use crate::key::Finder;
 use crate::keys::Keys;
@@ -107,7 +107,7 @@ impl MemKeys {
 impl Keys for MemKeys {
     ghost use Rattle.std.specs.Prelude.{◌≡◌};
     ghost use Rattle.std.specs.Option.{option_map};
-    ghost use Rattle.muck_lock.specs.Memory.{object_at, first_in, next_of, standing_in, has_prop};
+    ghost use Rattle.muck_lock.specs.inner.Memory.{object_at, first_in, next_of, standing_in, has_prop};
 
     ghost owners = { λ objects d. option_map (λ o. o.owner) (object_at objects d) };
 
@@ -129,7 +129,7 @@ impl Keys for MemKeys {
         Some(self.get(d)?.place)
     }
 
-    #[tactic(auto, using(crate::specs::Standing::chained))]
+    #[tactic(auto, using(crate::specs::inner::Standing::chained))]
     fn first(&self, d: Dbref) -> Dbref {
         first_in(self.objects.as_slice(), d, 0)
     }
@@ -198,7 +198,7 @@ impl Finder for MemNames {
     ghost use Rattle.std.specs.Prelude.{◌&&◌};
     ghost use Rattle.std.specs.List.{list_any};
     ghost use Rattle.muck_lock.specs.Chain.{same};
-    ghost use Rattle.muck_lock.specs.Memory.{object_named};
+    ghost use Rattle.muck_lock.specs.inner.Memory.{object_named};
 
     ghost found = { object_named };
 

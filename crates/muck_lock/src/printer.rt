@@ -1,8 +1,8 @@
 // How a lock is written.
 ghost use Rattle.std.specs.Prelude.{◌≡◌, ◌++◌, [], ◌∷◌, ◌&&◌, true, OnOk, IfOk};
 ghost use Rattle.std.specs.Fmt.{signed_decimal};
-ghost use Rattle.muck_lock.specs.Law.{IsPrinted, ReadsBack};
-ghost use Rattle.muck_lock.specs.Made.{is_made, is_short, is_text};
+ghost use Rattle.muck_lock.specs.inner.Law.{IsPrinted, ReadsBack};
+ghost use Rattle.muck_lock.specs.inner.Made.{is_made, is_short, is_text};
 ghost use Rattle.muck_lock.specs.Printed.{groups_both, groups_either, opening, closing, written};
 
 use crate::fault::LockFault;

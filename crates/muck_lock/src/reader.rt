@@ -3,7 +3,7 @@ ghost use Rattle.std.specs.Prelude.{◌≡◌, ◌≢◌, ◌<◌, ◌≤◌, �
 ghost use Rattle.muck_model.specs.Bytes.{text_fault};
 ghost use Rattle.muck_lock.specs.Naming.{Naming, naming};
 ghost use Rattle.muck_lock.specs.Grammar.{lock_of};
-ghost use Rattle.muck_lock.specs.Waiting.{ends, filled, place_behind, outcome_at, outcome_behind, LastStays, GoesOn, IsRead};
+ghost use Rattle.muck_lock.specs.inner.Waiting.{ends, filled, place_behind, outcome_at, outcome_behind, LastStays, GoesOn, IsRead};
 
 use crate::fault::LockFault;
 use crate::key::{Finder, key_end, read_key};

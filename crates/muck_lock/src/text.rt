@@ -5,7 +5,8 @@ ghost use Rattle.std.specs.List.{before_first, list_any, position, position_or_l
 ghost use Rattle.muck_lock.specs.Grammar.{ends_key, is_colon, object_key, key_of, property_key};
 ghost use Rattle.muck_lock.specs.declared.part.Part.{Part};
 ghost use Rattle.muck_lock.specs.Opens.{holdings, property_opens, opens_for};
-ghost use Rattle.muck_lock.specs.Answers.{no_names, text_opens, seen, key_answer, negated_answer, closed_answer, behind, term_answer, all_answer, one_answer, part_answer, whole_opens};
+ghost use Rattle.muck_lock.specs.Answers.{no_names, text_opens};
+ghost use Rattle.muck_lock.specs.inner.Answers.{seen, key_answer, negated_answer, closed_answer, behind, term_answer, all_answer, one_answer, part_answer, whole_opens};
 
 use crate::key::{colon, key_end};
 use crate::keys::{Keys, object_opens};
@@ -83,7 +84,7 @@ fn key_opens<K: TextKeys>(keys: &K, key: &[u8], x: Dbref) -> Option<bool>
 }
 
 // The same of the key that begins the text, with the bytes behind it.
-#[tactic(auto, unfolding(crate::specs::Answers::key_answer))]
+#[tactic(auto, unfolding(crate::specs::inner::Answers::key_answer))]
 fn key_first<'a, K: TextKeys>(keys: &K, text: &'a [u8], x: Dbref) -> Option<(bool, &'a [u8])>
     ensures { seen result ≡ key_answer (holdings (K.Keys.owners keys.now) (K.Keys.places keys.now) (K.Keys.contents keys.now) (K.Keys.has keys.now)) x text.now }
 {
@@ -179,7 +180,7 @@ fn one_answer<'a, K: TextKeys>(
 
 // Whether a part that begins the text opens for x, nested less deeply than the number says, with the bytes behind it.
 #[cycle(parts)]
-#[tactic(auto, unfolding(crate::specs::Answers::part_answer))]
+#[tactic(auto, unfolding(crate::specs::inner::Answers::part_answer))]
 fn part_answer<'a, K: TextKeys>(
     keys: &K,
     x: Dbref,

@@ -5,7 +5,7 @@ use Rattle.std.specs.Option.{option_and_then}
 use Rattle.muck_model.specs.declared.dbref.Dbref.{Dbref}
 use Rattle.spec_live.specs.Connections.{Connection, has_number, changed_in, edited}
 use Rattle.spec_live.specs.Boards.{Board, on_connection, editor_in, edited_one, with_connections}
-use Rattle.muck_board.specs.Lines.{HasNoLine, HasLine, BoardTakesLine}
+use Rattle.muck_board.specs.inner.Lines.{HasNoLine, HasLine, BoardTakesLine}
 use Rattle.spec_commands.specs.Talk.{waits}
 use Rattle.spec_events.specs.World.{World, connection}
 use Rattle.spec_events.specs.Lines.{command, in_world, done}

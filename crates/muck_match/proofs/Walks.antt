@@ -6,7 +6,7 @@ use Rattle.muck_model.specs.declared.dbref.Dbref.{Dbref}
 use Rattle.muck_model.specs.Numbers.{numbered}
 use Rattle.muck_match.proofs.Lists.{chain_step, chain_end}
 use Rattle.muck_match.specs.Scenery.{Scenery, nothing, is_nothing, chain, upward, is_there}
-use Rattle.muck_match.specs.Memory.{index_of, height, lower, led, walk, behind, object_at, slot_at, next_at, above_at, after_in, sight_of, scenery_of}
+use Rattle.muck_match.specs.inner.Memory.{index_of, height, lower, led, walk, behind, object_at, slot_at, next_at, above_at, after_in, sight_of, scenery_of}
 use Rattle.muck_match.specs.declared.memory.MemObject.{MemObject}
 
 pub record IsFalling (f : Dbref → Dbref) : Type 0 where

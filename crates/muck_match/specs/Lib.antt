@@ -2,5 +2,4 @@ pub mod Words
 pub mod Scenery
 pub mod Exits
 pub mod Naming
-pub mod Memory
-pub mod Rows
+pub mod inner

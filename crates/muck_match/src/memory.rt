@@ -1,7 +1,7 @@
 // A scene in memory, for tests and as the plain form of the trait.
 ghost use Rattle.std.specs.Prelude.{◌≡◌, ◌<◌, ◌≤◌, ◌^◌, length, is_some, MatchOption};
 ghost use Rattle.std.specs.Option.{option_copied};
-ghost use Rattle.muck_match.specs.Memory.{index_of, lower, slot_at, object_at, next_at, above_at, first_at};
+ghost use Rattle.muck_match.specs.inner.Memory.{index_of, lower, slot_at, object_at, next_at, above_at, first_at};
 
 use crate::{NOTHING, Scene};
 use muck_model::{Dbref, Kind, Line, Row};
@@ -37,7 +37,7 @@ fn index_of(d: Dbref) -> Option<usize>
 }
 
 // The number, where it is lower than that of the object.
-#[tactic(auto, unfolding(crate::specs::Memory::lower))]
+#[tactic(auto, unfolding(crate::specs::inner::Memory::lower))]
 fn lower(of: Dbref, d: Dbref) -> Dbref
     ensures { result ≡ lower of d }
 {
@@ -60,7 +60,7 @@ impl MemScene {
     }
 
     // The object of that number that isn't garbage.
-    #[tactic(auto, unfolding(crate::specs::Memory::object_at, crate::specs::Memory::slot_at))]
+    #[tactic(auto, unfolding(crate::specs::inner::Memory::object_at, crate::specs::inner::Memory::slot_at))]
     fn object(&self, d: Dbref) -> Option<&MemObject>
         ensures { option_copied result ≡ object_at self.now.objects d }
     {
@@ -72,7 +72,7 @@ impl MemScene {
     }
 
     // What stands behind it in its list.
-    #[tactic(auto, unfolding(crate::specs::Memory::next_at))]
+    #[tactic(auto, unfolding(crate::specs::inner::Memory::next_at))]
     fn behind(&self, d: Dbref) -> Dbref
         ensures { result ≡ next_at self.now.objects d }
     {
@@ -84,37 +84,37 @@ impl MemScene {
 }
 
 impl Scene for MemScene {
-    ghost use Rattle.muck_match.specs.Memory.{scenery_of, after_in};
+    ghost use Rattle.muck_match.specs.inner.Memory.{scenery_of, after_in};
 
     ghost shown = { λ s. scenery_of s.objects };
 
     ghost after = { λ s. after_in s.objects };
 
-    #[tactic(auto, unfolding(crate::specs::Memory::scenery_of))]
+    #[tactic(auto, unfolding(crate::specs::inner::Memory::scenery_of))]
     fn kind(&self, d: Dbref) -> Option<Kind> {
         let object = self.object(d)?;
         Some(object.kind)
     }
 
-    #[tactic(auto, unfolding(crate::specs::Memory::scenery_of))]
+    #[tactic(auto, unfolding(crate::specs::inner::Memory::scenery_of))]
     fn name(&self, d: Dbref) -> Option<&Line> {
         let object = self.object(d)?;
         Some(&object.name)
     }
 
-    #[tactic(auto, using(crate::proofs::Walks::places_step), unfolding(crate::specs::Memory::scenery_of))]
+    #[tactic(auto, using(crate::proofs::Walks::places_step), unfolding(crate::specs::inner::Memory::scenery_of))]
     fn place(&self, d: Dbref) -> Option<Dbref> {
         let object = self.object(d)?;
         Some(lower(d, object.place))
     }
 
-    #[tactic(auto, unfolding(crate::specs::Memory::scenery_of))]
+    #[tactic(auto, unfolding(crate::specs::inner::Memory::scenery_of))]
     fn link(&self, d: Dbref) -> Option<Dbref> {
         let object = self.object(d)?;
         Some(object.link)
     }
 
-    #[tactic(auto, unfolding(crate::specs::Memory::scenery_of, crate::specs::Memory::first_at))]
+    #[tactic(auto, unfolding(crate::specs::inner::Memory::scenery_of, crate::specs::inner::Memory::first_at))]
     fn first_content(&self, d: Dbref) -> Dbref {
         match self.object(d) {
             Some(object) => object.first_content,
@@ -122,7 +122,7 @@ impl Scene for MemScene {
         }
     }
 
-    #[tactic(auto, unfolding(crate::specs::Memory::scenery_of, crate::specs::Memory::first_at))]
+    #[tactic(auto, unfolding(crate::specs::inner::Memory::scenery_of, crate::specs::inner::Memory::first_at))]
     fn first_exit(&self, d: Dbref) -> Dbref {
         match self.object(d) {
             Some(object) => object.first_exit,
@@ -135,7 +135,7 @@ impl Scene for MemScene {
         self.behind(d)
     }
 
-    #[tactic(auto, unfolding(crate::specs::Memory::scenery_of))]
+    #[tactic(auto, unfolding(crate::specs::inner::Memory::scenery_of))]
     fn objects(&self) -> u32 {
         self.objects.len() as u32
     }

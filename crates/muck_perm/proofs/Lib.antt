@@ -1,3 +1,4 @@
+pub mod Numbers
 pub mod Guarding
 pub mod Founding
 pub mod Flagging

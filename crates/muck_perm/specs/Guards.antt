@@ -1,16 +1,11 @@
 -- What a guard does to the world that it lends.
 use Rattle.std.specs.Prelude.{◌≡◌, ◌⊎◌, ℕ, Bool, false, ◌||◌, List, Option, Some, None, Result, Ok, Err, MatchResult}
-use Rattle.std.specs.Option.{option_map_or, option_and_then}
-use Rattle.std.specs.FinMap.{get}
+use Rattle.std.specs.Option.{option_map_or}
 use Rattle.muck_model.specs.declared.dbref.Dbref.{Dbref}
 use Rattle.muck_model.specs.declared.dbref.Flags.{Flags}
 use Rattle.muck_model.specs.declared.dbref.Kind.{Kind}
 use Rattle.muck_model.specs.declared.dbref.Kind.TheVariants.{Thing, Exit}
 use Rattle.muck_model.specs.declared.memory.NoMemory.{NoMemory}
-use Rattle.muck_prop.specs.declared.value.PropValue.{PropValue}
-use Rattle.muck_prop.specs.declared.value.PropValue.TheVariants.{Text, Number}
-use Rattle.muck_prop.specs.Paths.{path_fault, segments_of}
-use Rattle.spec_live.specs.declared.object.Object.{Object}
 use Rattle.spec_live.specs.declared.fault.DbFault.{DbFault}
 use Rattle.spec_live.specs.declared.fault.DbFault.TheVariants.{NoMemory as WantsMemory}
 use Rattle.spec_live.specs.Flags.{no_flags}
@@ -92,12 +87,3 @@ may_lead es to = same to home || (same to nothing || is_kind_at (may_link Exit) 
 -- a thing may have its home there
 abbrev pub may_house : List Entry → Dbref → Bool
 may_house es to = is_kind_at (may_live Thing) es to
-
--- the text that is kept, if it is one
-abbrev pub kept_text : PropValue → Option (List ℕ)
-kept_text (Text text) = Some text
-kept_text (Number n) = None
-
--- the text that an object keeps at a path, which is given as text
-abbrev pub text_kept : List ℕ → Object → Option (List ℕ)
-text_kept path o = option_and_then kept_text (option_map_or (λ fault. None) (path_fault path) (get o.props (segments_of path)))

@@ -1,5 +1,5 @@
 // The world under an actor.
-ghost use Rattle.std.specs.Prelude.{◌≡◌, ◌≤◌, length, true, min};
+ghost use Rattle.std.specs.Prelude.{◌≡◌, ◌≤◌, IfOk, length, true, min};
 ghost use Rattle.std.specs.Option.{option_copied, option_and_then, option_map};
 ghost use Rattle.std.specs.FinMap.{get};
 ghost use Rattle.muck_model.specs.declared.dbref.Kind.{Kind};
@@ -13,13 +13,15 @@ ghost use Rattle.spec_live.specs.Setting.{any, checked, owner_check, link_check,
 ghost use Rattle.spec_live.specs.Recycling.{recycle_check};
 ghost use Rattle.spec_rights.specs.declared.act.Act.{Act};
 ghost use Rattle.spec_rights.specs.Levels.{level_at};
-ghost use Rattle.spec_rights.specs.Verdict.{is_guarded, lock_of_object};
+ghost use Rattle.spec_rights.specs.Verdict.{is_guarded};
+ghost use Rattle.spec_rights.specs.Worth.{message_at, lock_text};
 ghost use Rattle.spec_rights.specs.Changing.{named, owned_by, linked, homed, leveled, lines_kept, stored, unstored, moved_to, recycled_now, created_so, is_flag, flag_set, flag_cleared, password_kept, booted, tuned};
 ghost use Rattle.spec_rights.specs.Licence.{at_hand};
-ghost use Rattle.muck_perm.specs.Guards.{Did, Done, IsLeave, IsGiven, is_here, Makes, Tries, Founds, flags_at, home_in, may_lead, may_house, kept_text, text_kept};
+ghost use Rattle.muck_perm.specs.Guards.{Did, Done, IsLeave, IsGiven, is_here, Makes, Tries, Founds, flags_at, home_in, may_lead, may_house};
 
 use crate::flags::{flags_at, with_flag, without_flag};
 use crate::levels::level_at;
+use crate::locks;
 use crate::rules::Pass;
 use muck_board::Board;
 use muck_db::Db;
@@ -527,31 +529,17 @@ impl<'a> Guard<'a> {
         }
     }
 
-    /// The text that an object keeps as its lock.
-    pub fn lock_text(&self, d: Dbref) -> Option<&Line>
-        ensures { option_copied result ≡ option_and_then kept_text (option_and_then lock_of_object (object_at d self.now.db.now)) }
+    /// The lock of an object as it is shown: its text, the decimal of an integer, or `*UNLOCKED*` where there is none.
+    pub fn lock_text(&self, d: Dbref) -> Result<Line, NoMemory>
+        ensures { IfOk result (λ text. text ≡ lock_text d self.now.db.now) }
     {
-        self.message(d, b"_/lok")
+        locks::lock_text(self.alloc, self.db, d)
     }
 
-    /// The text that an object keeps at a path, as a message; `None` also where what is kept is a number, and where the
-    /// text is no path. It takes no memory.
-    pub fn message(&self, d: Dbref, path: &[u8]) -> Option<&Line>
-        ensures { option_copied result ≡ option_and_then (text_kept path.now) (object_at d self.now.db.now) }
+    /// The message that an object keeps at a path; what isn't a text counts as not set. It takes no memory.
+    pub fn message(&self, d: Dbref, path: &Path) -> Option<&Line>
+        ensures { option_copied result ≡ message_at path.now d self.now.db.now }
     {
-        match self.db.get(d) {
-            Some(object) => text_of(object.props().get_bytes(path)),
-            None => None,
-        }
-    }
-}
-
-// The text that is kept, if it is one.
-fn text_of(kept: Option<&PropValue>) -> Option<&Line>
-    ensures { option_copied result ≡ option_and_then kept_text (option_copied kept.entry) }
-{
-    match kept {
-        Some(PropValue::Text(text)) => Some(text),
-        _ => None,
+        locks::message_at(self.db, d, path)
     }
 }

@@ -1,14 +1,18 @@
-// Whose locks open.
-ghost use Rattle.std.specs.Prelude.{◌≡◌};
+// Whose locks open, and what messages and locks show.
+ghost use Rattle.std.specs.Prelude.{◌≡◌, IfOk, None};
 ghost use Rattle.std.specs.Option.{option_copied};
+ghost use Rattle.muck_model.specs.Bytes.{text_fault};
 ghost use Rattle.spec_live.specs.declared.object.Object.{Object};
-ghost use Rattle.spec_rights.specs.Verdict.{lock_of_object, kept_opens, opens_at};
+ghost use Rattle.spec_live.specs.Seen.{signed_text};
+ghost use Rattle.spec_rights.specs.Worth.{message_at, lock_of_object, kept_opens, opens_at, lock_text};
 
+use itoa::Buffer;
 use muck_db::Db;
 use muck_lock::text_opens;
-use muck_model::Dbref;
-use muck_prop::PropValue;
+use muck_model::{Dbref, Line, LineFault, NoMemory};
+use muck_prop::{Path, PropValue};
 use spec_live::Object;
+use std::alloc::Global;
 
 // What is kept as the lock of an object.
 fn kept_lock(object: &Object) -> Option<&PropValue>
@@ -30,7 +34,7 @@ fn kept_opens(db: &Db, x: Dbref, kept: &PropValue) -> bool
 
 /// Whether the lock of an object opens for x; without a lock it does, and what isn't the text of a lock opens for
 /// nobody. It takes no memory.
-#[tactic(auto, unfolding(spec_rights::specs::Verdict::opens_at))]
+#[tactic(auto, unfolding(spec_rights::specs::Worth::opens_at))]
 pub fn opens_at(db: &Db, x: Dbref, d: Dbref) -> bool
     ensures { result ≡ opens_at db.now x d }
 {
@@ -40,5 +44,53 @@ pub fn opens_at(db: &Db, x: Dbref, d: Dbref) -> bool
             None => true,
         },
         None => false,
+    }
+}
+
+// A text of these bytes.
+fn line_of(alloc: Global, bytes: &[u8]) -> Result<Line, NoMemory>
+    requires { text_fault bytes.now ≡ None }
+    ensures { IfOk result (λ line. line ≡ bytes.now) }
+{
+    match Line::new(alloc, bytes) {
+        Ok(line) => Ok(line),
+        Err(LineFault::NotLine { .. }) => unreachable!(),
+        Err(LineFault::NoMemory) => Err(NoMemory),
+    }
+}
+
+// A number in decimal.
+fn number_text(alloc: Global, number: i32) -> Result<Line, NoMemory>
+    ensures { IfOk result (λ text. text ≡ signed_text number) }
+{
+    let mut buffer = Buffer::new();
+    let text = line_of(alloc, buffer.format(number).as_bytes())?;
+    Ok(text)
+}
+
+/// The lock of an object, as it is shown.
+#[tactic(auto, unfolding(spec_rights::specs::Worth::lock_text, muck_model::specs::Bytes::text_most))]
+pub fn lock_text(alloc: Global, db: &Db, d: Dbref) -> Result<Line, NoMemory>
+    ensures { IfOk result (λ text. text ≡ lock_text d db.now) }
+{
+    let kept = match db.get(d) {
+        Some(object) => kept_lock(object),
+        None => None,
+    };
+    match kept {
+        Some(PropValue::Text(text)) => text.copy(alloc),
+        Some(PropValue::Number(number)) => number_text(alloc, *number),
+        None => line_of(alloc, b"*UNLOCKED*"),
+    }
+}
+
+/// The message that an object keeps at a path.
+#[tactic(auto, unfolding(spec_rights::specs::Worth::message_at))]
+pub fn message_at<'a>(db: &'a Db, d: Dbref, path: &Path) -> Option<&'a Line>
+    ensures { option_copied result ≡ message_at path.now d db.now }
+{
+    match db.get(d)?.props().get(path) {
+        Some(PropValue::Text(text)) => Some(text),
+        _ => None,
     }
 }

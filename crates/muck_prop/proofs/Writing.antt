@@ -5,7 +5,7 @@ use Rattle.std.specs.Char.{to_ascii_lowercase}
 use Rattle.std.specs.List.{AllByRecursion, filter, list_any, slice_split, onto_first, position_or_len}
 use Rattle.muck_model.specs.Bytes.{is_outside, text_fault, text_most}
 use Rattle.muck_model.specs.Bytes as model
-use Rattle.muck_model.specs.Text.{IsTextOrFault}
+use Rattle.muck_model.specs.inner.Text.{IsTextOrFault}
 use Rattle.muck_model.specs.declared.line.LineFault.{LineFault}
 use Rattle.muck_model.specs.declared.line.LineFault.TheVariants.{NotLine, NoMemory}
 use Rattle.muck_prop.specs.Paths.{is_slash, is_filled, is_barred, segments_of, path_text, fault_of, IsReadAs, IsSegmentByte, IsSegment, IsPath}

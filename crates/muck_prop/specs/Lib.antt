@@ -1,4 +1,4 @@
 pub mod Order
 pub mod Paths
 pub mod Store
-pub mod Rows
+pub mod inner

@@ -8,7 +8,7 @@ use Rattle.std.proofs.lemmas.Bool.Decides.{nat_tests}
 use Rattle.std.proofs.lemmas.Int.{ints}
 use Rattle.muck_queue.specs.declared.process.Process.{Process}
 use Rattle.muck_queue.specs.Queues.{Queue, is_due, is_before, earlier, earliest, next_due}
-use Rattle.muck_queue.specs.Leading.{IsAmong, NoneBefore, NoneDueBefore, NoneDue, IsNext}
+use Rattle.muck_queue.specs.inner.Leading.{IsAmong, NoneBefore, NoneDueBefore, NoneDue, IsNext}
 
 before : ℕ → ℤ → ℕ → ℤ → Bool
 before a m b n = nat_lt a b || (a == b && int_lt m n)

@@ -7,7 +7,7 @@ use Rattle.std.proofs.lemmas.Int.{ints}
 use Rattle.muck_model.specs.declared.dbref.Dbref.{Dbref}
 use Rattle.muck_queue.specs.declared.process.Process.{Process}
 use Rattle.muck_queue.specs.Queues.{Queue, empty_queue, numbered, added, claimed, claimed_by, without, ended_tied, ended_running, trigger_cleared, has_pid, is_tied_to, runs, has_trigger, without_trigger, changed_first, without_first}
-use Rattle.muck_queue.specs.Numbered.{Rises, IsNumbered}
+use Rattle.muck_queue.specs.inner.Numbered.{Rises, IsNumbered}
 
 -- also from a lower number
 rises_lower : (a b last : ℤ) (ps : List Process) → a ≤ℤ b → Rises b last ps → Rises a last ps

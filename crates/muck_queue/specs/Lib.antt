@@ -1,5 +1,2 @@
 pub mod Queues
-pub mod Adding
-pub mod Numbered
-pub mod Leading
-pub mod Rows
+pub mod inner

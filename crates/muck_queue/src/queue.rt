@@ -2,9 +2,9 @@
 ghost use Rattle.std.specs.Prelude.{◌≡◌, ◌≢◌, length, IfOk, OnOk, OnErr};
 ghost use Rattle.std.specs.Option.{option_copied, option_map_or};
 ghost use Rattle.muck_queue.specs.Queues.{empty_queue, process, next_due, claimed, without, is_full, added, is_tied, ended_tied, ended_running, trigger_cleared, number_most};
-ghost use Rattle.muck_queue.specs.Adding.{Adds};
-ghost use Rattle.muck_queue.specs.Leading.{IsNext};
-ghost use Rattle.muck_queue.specs.Numbered.{IsNumbered};
+ghost use Rattle.muck_queue.specs.inner.Adding.{Adds};
+ghost use Rattle.muck_queue.specs.inner.Leading.{IsNext};
+ghost use Rattle.muck_queue.specs.inner.Numbered.{IsNumbered};
 
 use crate::fault::QueueFault;
 use crate::process::Process;
@@ -28,7 +28,7 @@ impl Model for Queue {
     ghost use Rattle.std.specs.Coded.{codes};
     ghost use Rattle.muf_running.specs.contracts.running.Running as running;
     ghost use Rattle.muck_queue.specs.Queues.{Queue as Table};
-    ghost use Rattle.muck_queue.specs.Numbered.{IsNumbered};
+    ghost use Rattle.muck_queue.specs.inner.Numbered.{IsNumbered};
 
     ghost Value = { Table };
 

@@ -7,7 +7,7 @@ use Rattle.spec_events.specs.World.{World}
 use Rattle.spec_events.specs.Histories.{History, now, after, extended, by_porter}
 use Rattle.spec_events.proofs.Runs.{now-extended, extended-append}
 use Rattle.muck_script.specs.Story.{Turn, next_turn, turn_entries, turn, turns, counted, turns_taken}
-use Rattle.muck_script.specs.Settling.{entries_of, DiedDuring}
+use Rattle.muck_script.specs.inner.Settling.{entries_of, DiedDuring}
 
 -- what follows the next turn
 after_turn : ℕ → World → Option Turn → List Entry

@@ -8,7 +8,7 @@ use Rattle.spec_events.specs.Histories.{History, now, extended, entered, by_port
 use Rattle.spec_events.proofs.Runs.{now-extended, extended-append}
 use Rattle.spec_events.proofs.Claims.{chosen_lawful}
 use Rattle.muck_script.specs.Story.{Turn, of_line, chosen, next_turn}
-use Rattle.muck_script.specs.Settling.{entries_of, slice_of, DiedDuring}
+use Rattle.muck_script.specs.inner.Settling.{entries_of, slice_of, DiedDuring}
 use Rattle.muck_script.proofs.Stories.{nothing_more}
 
 -- no process is to go on

@@ -1,7 +1,7 @@
 // Reading a script.
 ghost use Rattle.std.specs.Prelude.{◌≡◌, ◌<◌, length, Err};
 ghost use Rattle.muck_script.specs.Script.{script_most, read_part, acts_of};
-ghost use Rattle.muck_script.specs.Reading.{IsReading, IsScriptOf};
+ghost use Rattle.muck_script.specs.inner.Reading.{IsReading, IsScriptOf};
 
 use crate::lines::cut_line;
 use crate::parsing::act_of;

@@ -3,7 +3,7 @@ ghost use Rattle.std.specs.Prelude.{◌≡◌, IfOk, OnErr, is_some};
 ghost use Rattle.spec_events.specs.Steps.{next_process};
 ghost use Rattle.spec_events.specs.Histories.{now, extended};
 ghost use Rattle.muck_script.specs.Story.{next_turn, turns, turns_most, turns_taken};
-ghost use Rattle.muck_script.specs.Settling.{entries_of, slice_of, DiedDuring};
+ghost use Rattle.muck_script.specs.inner.Settling.{entries_of, slice_of, DiedDuring};
 
 use crate::TURNS_MOST;
 use muck_machine::World;

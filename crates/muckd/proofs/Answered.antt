@@ -5,7 +5,7 @@ use Rattle.spec_events.specs.World.{World}
 use Rattle.muck_script.specs.declared.act.Act.{Act}
 use Rattle.muck_script.specs.declared.script.ScriptFault.{ScriptFault}
 use Rattle.muck_script.specs.declared.script.ScriptFault.TheVariants.{BadScript as BadLine}
-use Rattle.muck_script.specs.Reading.{IsReading}
+use Rattle.muck_script.specs.inner.Reading.{IsReading}
 use Rattle.muckd.specs.declared.why.Why.{Why}
 use Rattle.muckd.specs.declared.why.Why.TheVariants.{Fine, Usage, BadScript, NoMemory, ReadFault, WriteFault}
 use Rattle.muckd.specs.Outcome.{HasRead, HasRun, HasAnswered}

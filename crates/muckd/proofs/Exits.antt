@@ -5,7 +5,7 @@ use Rattle.spec_events.specs.World.{World}
 use Rattle.spec_events.specs.Histories.{History}
 use Rattle.muck_script.specs.Story.{both}
 use Rattle.muckd.specs.declared.playing.RunFault.{RunFault}
-use Rattle.muckd.specs.Plays.{Plays, Breaks, PlaysOrBreaks, ending_of}
+use Rattle.muckd.specs.inner.Plays.{Plays, Breaks, PlaysOrBreaks, ending_of}
 use Rattle.muckd.proofs.Parts.{plays_both, breaks_first, breaks_second}
 
 -- the first part was played, and the second answers

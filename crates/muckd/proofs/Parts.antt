@@ -15,7 +15,7 @@ use Rattle.spec_events.proofs.Reached.{leaving_some}
 use Rattle.spec_events.proofs.Runs.{now-extended, extended-append}
 use Rattle.muck_script.specs.Lines.{lines_of}
 use Rattle.muck_script.specs.Story.{both, if_lawful, taken, told, text_of, shown, farewell}
-use Rattle.muckd.specs.Plays.{Plays, Breaks}
+use Rattle.muckd.specs.inner.Plays.{Plays, Breaks}
 
 pub appends_nothing : (o : Option (List ℕ)) → Appends o o []
 appends_nothing None = tt

@@ -10,7 +10,7 @@ use Rattle.spec_live.specs.Connections.{connections_most}
 use Rattle.spec_events.specs.Histories.{History, now, entered, by_porter}
 use Rattle.muck_script.specs.declared.act.Act.{Act}
 use Rattle.muck_script.specs.Story.{both, taken, parted, served, line_story, story, told}
-use Rattle.muckd.specs.Plays.{Plays, Breaks}
+use Rattle.muckd.specs.inner.Plays.{Plays, Breaks}
 use Rattle.muckd.proofs.Parts.{plays_both, plays_nothing, plays_one, appends_nothing, breaks_first, breaks_second}
 
 -- What does the rest from here does the whole from the start, and what breaks off the rest breaks off the whole. The

@@ -7,9 +7,9 @@ use Rattle.spec_events.specs.Steps.{effect}
 use Rattle.spec_events.specs.Histories.{History, now, after, extended, by_porter}
 use Rattle.spec_events.proofs.Living.{dead-happened}
 use Rattle.spec_events.proofs.Runs.{now-extended}
-use Rattle.muck_script.specs.Settling.{DiedDuring}
+use Rattle.muck_script.specs.inner.Settling.{DiedDuring}
 use Rattle.muck_script.specs.Story.{Turn, of_line, of_process, next_turn, turn_entries, turn, turns, told, text_of}
-use Rattle.muckd.specs.Plays.{Plays, Breaks}
+use Rattle.muckd.specs.inner.Plays.{Plays, Breaks}
 use Rattle.muckd.proofs.Parts.{appends_nothing, appends_as, no_ending}
 
 -- Entries of turns, each behind the other: done lines, claims and slices.

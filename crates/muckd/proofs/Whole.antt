@@ -17,7 +17,7 @@ use Rattle.muck_script.specs.Story.{story}
 use Rattle.muck_script.proofs.Lawful.{story_lawful}
 use Rattle.muckd.specs.declared.why.Why.TheVariants.{NoMemory, WriteFault}
 use Rattle.muckd.specs.declared.playing.RunFault.{RunFault}
-use Rattle.muckd.specs.Plays.{Plays, Breaks, ending_of}
+use Rattle.muckd.specs.inner.Plays.{Plays, Breaks, ending_of}
 use Rattle.muckd.specs.Outcome.{PlayedWhole, BrokeOff, IsScriptIn, IsReadOut, IsFirstOutside, halted}
 
 -- the history in which nothing has happened yet

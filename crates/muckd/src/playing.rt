@@ -4,7 +4,7 @@ ghost use Rattle.muck_io.specs.Faults.{Rose};
 ghost use Rattle.spec_events.specs.Histories.{now};
 ghost use Rattle.spec_live.specs.Connections.{connections_most};
 ghost use Rattle.muck_script.specs.Story.{acted, turns, turns_most, taken, parted, both, served, line_story, story};
-ghost use Rattle.muckd.specs.Plays.{PlaysOrBreaks};
+ghost use Rattle.muckd.specs.inner.Plays.{PlaysOrBreaks};
 
 use muck_io::{Sink, WriteFailed, write_all};
 use muck_machine::World;

@@ -24,11 +24,11 @@ use Rattle.muf_compile.specs.Faults.{refuse, and_then, Leads, Answers}
 use Rattle.muf_compile.specs.Reading.{Known, Read, read}
 use Rattle.muf_compile.specs.Growth as growth
 use Rattle.muf_compile.specs.Growth.{Unfinished, first, second, turning, Growth, Grown, grow, counted, units_most, Draft, step, tree_from, finished, finished_in, empty_draft}
-use Rattle.muf_compile.specs.Built.{Built}
-use Rattle.muf_compile.specs.Build as building
-use Rattle.muf_compile.specs.Build.{Made, build}
-use Rattle.muf_compile.specs.Fits.{OpensFit, outermost, in_first, in_second, in_turn, BuiltFits, MadeAlike, IsCode}
-use Rattle.muf_compile.specs.Compiled.{Compiled, compiled_step, compiled_end, whole_code, nothing_compiled}
+use Rattle.muf_compile.specs.inner.Built.{Built}
+use Rattle.muf_compile.specs.inner.Build as building
+use Rattle.muf_compile.specs.inner.Build.{Made, build}
+use Rattle.muf_compile.specs.inner.Fits.{OpensFit, outermost, in_first, in_second, in_turn, BuiltFits, MadeAlike, IsCode}
+use Rattle.muf_compile.specs.inner.Compiled.{Compiled, compiled_step, compiled_end, whole_code, nothing_compiled}
 use Rattle.muf_compile.proofs.Growing.{growing}
 
 -- what is compiled so far stands for a draft

@@ -21,10 +21,10 @@ use Rattle.muf_compile.specs.declared.act.Act.TheVariants.{Wait, Title, Item, Ju
 use Rattle.muf_compile.specs.declared.hole.Pending.{Pending}
 use Rattle.muf_compile.specs.Growth as growth
 use Rattle.muf_compile.specs.Growth.{Unfinished, first, second, turning, Growth, Grown, grow, with_item, with_part}
-use Rattle.muf_compile.specs.Built.{Built}
-use Rattle.muf_compile.specs.Build as building
-use Rattle.muf_compile.specs.Build.{Made, build, emitted, with_code}
-use Rattle.muf_compile.specs.Fits.{From, OpensFit, outermost, in_first, in_second, in_turn, BuiltFits, MadeAlike, first_open, second_open, ring_open, hole}
+use Rattle.muf_compile.specs.inner.Built.{Built}
+use Rattle.muf_compile.specs.inner.Build as building
+use Rattle.muf_compile.specs.inner.Build.{Made, build, emitted, with_code}
+use Rattle.muf_compile.specs.inner.Fits.{From, OpensFit, outermost, in_first, in_second, in_turn, BuiltFits, MadeAlike, first_open, second_open, ring_open, hole}
 
 -- lists
 get_append : (xs ys : List Placed) (i : ℕ) (x : Placed) → slice_get xs i ≡ Some x → slice_get (xs ++ ys) i ≡ Some x

@@ -4,7 +4,7 @@ use Rattle.std.specs.Prelude.{slice_set, slice_index_or}
 use Rattle.muf_model.specs.declared.code.Offer.{Offer}
 use Rattle.muf_model.specs.declared.code.CodeWord.{CodeWord}
 use Rattle.muf_compile.specs.Growth.{widened}
-use Rattle.muf_compile.specs.Build.{offered_in}
+use Rattle.muf_compile.specs.inner.Build.{offered_in}
 
 pub none_there : (n : ℕ) (o : Offer) (ws : List CodeWord) → length ws ≤ n → offered_in n o ws ≡ ws
 none_there n o [] h = refl

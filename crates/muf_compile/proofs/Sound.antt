@@ -13,7 +13,7 @@ use Rattle.muf_compile.specs.declared.fault.CompileKind.TheVariants.{StrayBreak}
 use Rattle.muf_compile.specs.Faults.{refuse, and_then}
 use Rattle.muf_compile.specs.Growth as growth
 use Rattle.muf_compile.specs.Growth.{Unfinished, first, second, turning, Growth, Grown, grow, with_part, with_item, in_loop}
-use Rattle.muf_compile.specs.Spells.{at_line, Silent, waits, titles, offers, Spells, nothing, silent, item, jump, if_then, if_else, try_catch, begin_repeat, begin_until, for_repeat, each_repeat, growths, IsInside, AllInside}
+use Rattle.muf_compile.specs.inner.Spells.{at_line, Silent, waits, titles, offers, Spells, nothing, silent, item, jump, if_then, if_else, try_catch, begin_repeat, begin_until, for_repeat, each_repeat, growths, IsInside, AllInside}
 
 spells_then : (l : Bool) (a b : Block) (xs ys : List Reading) → Spells l a xs → Spells l b ys → Spells l (then_block a b) (xs ++ ys)
 spells_then l a b xs ys nothing k = k

@@ -1,11 +1,6 @@
 pub mod Acts
-pub mod Build
-pub mod Built
-pub mod Compiled
 pub mod Faults
-pub mod Fits
 pub mod Growth
-pub mod Knowing
 pub mod Names
 pub mod Reading
-pub mod Spells
+pub mod inner

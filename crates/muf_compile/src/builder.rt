@@ -1,10 +1,10 @@
 // The instructions that are made so far, and what is open.
 ghost use Rattle.std.specs.Prelude.{◌≡◌, ◌+◌, ◌<◌, ◌≤◌, [], ◌∷◌, ◌++◌, length, OnOk, OnErr, IfOk, IfNone, option_to_list, slice_set};
 ghost use Rattle.muf_compile.specs.Faults.{Leads, Answers};
-ghost use Rattle.muf_compile.specs.Built.{Built};
-ghost use Rattle.muf_compile.specs.Build as building;
-ghost use Rattle.muf_compile.specs.Build.{build};
-ghost use Rattle.muf_compile.specs.Compiled.{whole_code};
+ghost use Rattle.muf_compile.specs.inner.Built.{Built};
+ghost use Rattle.muf_compile.specs.inner.Build as building;
+ghost use Rattle.muf_compile.specs.inner.Build.{build};
+ghost use Rattle.muf_compile.specs.inner.Compiled.{whole_code};
 ghost use Rattle.muf_compile.specs.Growth.{widened};
 
 use crate::act::{Act, Opening};
@@ -28,7 +28,7 @@ pub(crate) struct Builder {
 
 impl Model for Builder {
     ghost use Rattle.std.specs.Prelude.{reverse};
-    ghost use Rattle.muf_compile.specs.Built.{Built};
+    ghost use Rattle.muf_compile.specs.inner.Built.{Built};
 
     ghost Value = { Built };
 

@@ -1,6 +1,6 @@
 // What is open in the code so far.
 ghost use Rattle.std.specs.Prelude.{◌≡◌};
-ghost use Rattle.muf_compile.specs.Build.{is_looping, unclosed};
+ghost use Rattle.muf_compile.specs.inner.Build.{is_looping, unclosed};
 
 use crate::CompileKind;
 

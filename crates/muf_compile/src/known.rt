@@ -6,7 +6,7 @@ ghost use Rattle.muck_model.specs.Bytes.{text_fault};
 ghost use Rattle.muf_model.specs.Prims.{named_in_any_case};
 ghost use Rattle.muf_compile.specs.Names.{control_of, standing_of, or_else};
 ghost use Rattle.muf_compile.specs.Reading.{item_of, word_of, may_use, number_of, is_unfit, name_fault, wants, shared_variable, own_variable, before_bracket, titled_as, titled, offered, named, read_name, binding, header_end, argument, read_argument, read_result, declaration, read_outside, controlled, meant, plain, read_inside, read, nothing_known, Reads};
-ghost use Rattle.muf_compile.specs.Knowing.{known_of};
+ghost use Rattle.muf_compile.specs.inner.Knowing.{known_of};
 
 use crate::act::{Act, Opening, Reading};
 use crate::control::{Control, control_of, standing_of};

@@ -3,8 +3,8 @@ ghost use Rattle.std.specs.Prelude.{◌≡◌, ◌+◌, ◌≤◌, length, IfOk}
 ghost use Rattle.muf_compile.specs.Acts.{cost_of};
 ghost use Rattle.muf_compile.specs.Faults.{Leads, Answers};
 ghost use Rattle.muf_compile.specs.Growth.{counted, tree_of};
-ghost use Rattle.muf_compile.specs.Compiled.{compiled_of, compiled_step, compiled_end, nothing_compiled};
-ghost use Rattle.muf_compile.specs.Fits.{IsCode};
+ghost use Rattle.muf_compile.specs.inner.Compiled.{compiled_of, compiled_step, compiled_end, nothing_compiled};
+ghost use Rattle.muf_compile.specs.inner.Fits.{IsCode};
 
 use crate::act::{Reading, cost_of};
 use crate::builder::Builder;

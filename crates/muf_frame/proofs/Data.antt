@@ -38,6 +38,8 @@ left_data (Leave caller base place) ms s = ap (λ vs. record (flat s) { variable
 
 pub ruleset list_steps = (slice_get-map, map-set, set_past)
 
+pub ruleset give_steps = (map_drop, length-map)
+
 pub ruleset data_steps = (lowest_data, left_data, view_text, view_int, length-map)
 
 pub get_drop : {A : Type 0} → (n k : ℕ) (xs : List A) → slice_get (drop n xs) k ≡ slice_get xs (n + k)

@@ -5,3 +5,4 @@ pub mod Unguarded
 pub mod Data
 pub mod Binding
 pub mod Counting
+pub mod Ladders

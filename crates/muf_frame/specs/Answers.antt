@@ -3,12 +3,16 @@ use Rattle.std.specs.Prelude.{◌≡◌, ℕ, List, ℤ, Option, Some, None, sli
 use Rattle.std.specs.Option.{option_and_then}
 use Rattle.muf_model.specs.declared.fault.MufFault.{MufFault}
 use Rattle.muf_model.specs.Datum.{Datum, int, text, object, variable, address, lock, items, dict, mark}
-use Rattle.muf_model.specs.Answer.{Answer, gives, stores, calls, refuses, unknown, needing}
+use Rattle.muf_model.specs.Answer.{Answer, gives, stores, calls, refuses, Made, plain}
+use Rattle.muf_model.specs.declared.prims.Primitive.{Primitive}
+use Rattle.muf_model.specs.Needs.{Needs}
+use Rattle.muf_model.specs.Prims.{level_of}
+use Rattle.muf_model.specs.Rows.{used, primitive}
 use Rattle.muf_model.specs.Flat.{Flat}
 use Rattle.muf_frame.specs.declared.fault.PrimFault.{PrimFault}
 use Rattle.muf_frame.specs.declared.fault.PrimFault.TheVariants.{Fault, NoMemory}
 use Rattle.muf_frame.specs.Shown.{Shown, flat, locked_by}
-use Rattle.muf_frame.specs.Moves.{with_variable}
+use Rattle.muf_frame.specs.Moves.{scope_of, with_variable}
 
 -- the frame has become what the answer says, where that neither refuses nor calls a word
 abbrev pub Became : Answer → Flat → Flat → Type 0
@@ -16,7 +20,6 @@ Became (gives stack) old new = new ≡ record old { stack = stack }
 Became (stores v x stack) old new = new ≡ with_variable v x (record old { stack = stack })
 Became (calls w stack) old new = ⊥
 Became (refuses f) old new = ⊥
-Became unknown old new = ⊥
 
 -- the frame is as the answer says, and unchanged where that refuses
 abbrev pub Answered : Answer → Shown → Shown → Result (Unit {0}) MufFault → Type 0
@@ -35,9 +38,20 @@ AppliedOr a old new (Ok x) = Became a (flat old) (flat new)
 AppliedOr a old new (Err (Fault f)) = (a ≡ refuses f) × (new ≡ old)
 AppliedOr a old new (Err NoMemory) = Unit {0}
 
--- an answer of a frame that has n items above the locked part, or the fault of too few
-abbrev pub having : ℕ → Shown → Answer → Answer
-having n f answer = needing n (locked_by (flat f).marks) (flat f).stack answer
+-- the frame is as a primitive of these needs answers, which makes that of the items that it takes
+abbrev pub Used : Primitive → Option Needs → (List Datum → Made) → Shown → Shown → Result (Unit {0}) MufFault → Type 0
+Used p needs f old new result = Answered (used (level_of p) needs (Some (plain f)) (scope_of 0 (flat old)) (flat old).stack) old new result
+
+-- the frame is as a primitive answers that needs no world
+abbrev pub IsRow : Primitive → Shown → Shown → Result (Unit {0}) MufFault → Type 0
+IsRow p old new result = Answered (primitive p (scope_of 0 (flat old)) (flat old).stack) old new result
+
+abbrev pub IsRowOr : Primitive → Shown → Shown → Result (Unit {0}) PrimFault → Type 0
+IsRowOr p old new result = AppliedOr (primitive p (scope_of 0 (flat old)) (flat old).stack) old new result
+
+-- the same, after which want of memory says nothing
+abbrev pub UsedOr : Primitive → Option Needs → (List Datum → Made) → Shown → Shown → Result (Unit {0}) PrimFault → Type 0
+UsedOr p needs f old new result = AppliedOr (used (level_of p) needs (Some (plain f)) (scope_of 0 (flat old)) (flat old).stack) old new result
 
 -- the integer that a value is
 abbrev pub as_int : Datum → Option ℤ

@@ -13,10 +13,7 @@ pub(crate) fn push_mark(marks: &mut Vec<Mark>, mark: Mark)
     ensures len { vec_len marks.new ≡ vec_len marks.old + 1 }
     ensures capacity { vec_capacity marks.old ≤ vec_capacity marks.new }
 {
-    match marks.push(mark) {
-        Ok(()) => {}
-        Err(_) => unreachable!(),
-    }
+    marks.push_reserved(mark);
 }
 
 // A mark's next index, where it is a loop that counts.

@@ -1,7 +1,9 @@
 // The stack of values.
 ghost use Rattle.std.specs.Prelude.{◌↔◌, IsTrue, ◌≡◌, ◌+◌, ◌-◌, ◌<◌, ◌≤◌, [], ◌∷◌, ◌++◌, length, take, drop, reverse, map, Some, IfNone, MatchResult, MatchOption, slice_get, slice_set, option_copied, option_to_list};
 ghost use Rattle.muf_model.specs.declared.fault.MufFault.TheVariants.{StackFull};
-ghost use Rattle.muf_model.specs.Answer.{too_few};
+ghost use Rattle.muf_model.specs.Answer.{too_few, put, makes};
+ghost use Rattle.muf_model.specs.View.{view};
+ghost use Rattle.muf_frame.specs.Answers.{Answered};
 ghost use Rattle.muf_frame.specs.Shown.{Shown, flat, locked_by};
 
 use crate::Frame;
@@ -54,7 +56,6 @@ impl Frame {
     /// else `StackEmpty`.
     #[inline(always)]
     pub fn need(&self, count: usize) -> Result<(), MufFault>
-        requires { count ≤ 4294967296 }
         ensures { MatchResult result (λ _. locked_by (flat self.now).marks + count ≤ length self.now.stack) (λ f. (length self.now.stack < locked_by (flat self.now).marks + count) × (f ≡ too_few count (flat self.now).stack)) }
     {
         if self.stack.len() < count {
@@ -84,10 +85,7 @@ impl Frame {
         requires { length self.old.stack < 1024 }
         ensures { self.new ≡ record self.old { stack = item ∷ self.old.stack } }
     {
-        match self.stack.push(item) {
-            Ok(()) => {}
-            Err(_) => unreachable!(),
-        }
+        self.stack.push_reserved(item);
     }
 
     /// Takes the top item, locked or not; `None` exactly where there is none.
@@ -143,6 +141,22 @@ impl Frame {
     {
         let height = self.len() - count;
         self.stack.truncate(height);
+    }
+
+    /// So many items at the top, which are there, give way to one: `StackFull` where the stack is full and none are taken,
+    /// and then it is unchanged. Takes no memory.
+    #[tactic(auto, using(crate::proofs::Data::give_steps))]
+    #[inline(always)]
+    pub fn give(&mut self, taken: usize, item: Value) -> Result<(), MufFault>
+        requires { taken ≤ length self.old.stack }
+        ensures { Answered (put taken (makes (view item ∷ [])) (drop taken (flat self.old).stack)) self.old self.new result }
+    {
+        if taken == 0 {
+            return self.push(item);
+        }
+        self.drop_items(taken);
+        self.push_item(item);
+        Ok(())
     }
 
     /// Takes the item at this depth below the top, which is there.

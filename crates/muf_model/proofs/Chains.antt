@@ -11,7 +11,7 @@ use Rattle.muf_model.specs.declared.prims.Primitive.{Primitive as Name}
 use Rattle.muf_model.specs.Prims.{is_local}
 use Rattle.muf_model.specs.Faults.{is_final}
 use Rattle.muf_model.specs.Datum.{Datum, int, text, object, variable, address, lock, items, dict, mark}
-use Rattle.muf_model.specs.Answer.{Answer, gives, stores, calls, refuses, unknown, owned_first, call_first, too_few, needing, fitting}
+use Rattle.muf_model.specs.Answer.{Answer, gives, stores, calls, refuses, owned_first, call_first, too_few, needing, fitting}
 use Rattle.muf_model.specs.Rows.{primitive}
 use Rattle.muf_model.specs.Tree.{Fork, if_word, try_word, Ring, begin_word, for_word, each_word, Block, stop, word, when, fork, ring, End, closes, hops, then_block, Definition}
 use Rattle.muf_model.specs.Source.{plain, indices, pairs, Program, Mark, looping, trying, calling, entering, Source, locked_of, with_variable, with_owned, owned_by, scope_of, open_of}
@@ -110,7 +110,6 @@ module _ (ps : List Program) where
   answers (stores v x stack) s e = on (within_of ps _ (keeps_variable v x (record s { stack = stack }) e))
   answers (calls w stack) s e = calls_word _ (record s { stack = stack }) e
   answers (refuses f) s e = faults f s e
-  answers unknown s e = done
 
   opens : (before after : Source) → programs_of before ≡ ps → programs_of after ≡ ps → Holds ps (step.opening before after)
   opens before after e d = either _ _ _ (on d) (faults CallsFull before e)

@@ -166,7 +166,7 @@ joins = refl
 
 -- -3 intostr
 minus_three : run [] [] (n (negsuc 2) (p IntToStr stop)) ≡ leaves (text (codes "-3") ∷ [])
-unfolding digits
+unfolding digits text_most
 minus_three = refl
 
 -- so many loops open inside one another

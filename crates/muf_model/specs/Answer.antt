@@ -1,17 +1,21 @@
 -- What a primitive answers, and the tests that its row begins with.
-use Rattle.std.specs.Prelude.{ℕ, ◌+◌, ◌-◌, List, ◌∷◌, length, nat_lt, if◌then◌else◌, ℤ, pos, negsuc, Option, slice_get}
+use Rattle.std.specs.Prelude.{ℕ, ◌+◌, ◌-◌, List, ◌++◌, length, nat_lt, if◌then◌else◌, ℤ, Option, Some, None, slice_get}
 use Rattle.muf_model.specs.declared.fault.MufFault.{MufFault}
-use Rattle.muf_model.specs.declared.fault.MufFault.TheVariants.{StackEmpty, StackFull, StackLocked, BadType, BadArgument}
-use Rattle.muf_model.specs.Datum.{Datum, int}
+use Rattle.muf_model.specs.declared.fault.MufFault.TheVariants.{StackEmpty, StackFull, StackLocked}
+use Rattle.muf_model.specs.Datum.{Datum}
 
 -- The stack after a primitive, its top first. A primitive may also set a variable, by its number, or call a word of
--- the running program, by its number. Or it is refused; or no row says yet what it does.
+-- the running program, by its number. Or it is refused.
 pub data Answer : Type 0 where
   gives : List Datum → Answer
   stores : ℕ → Datum → List Datum → Answer
   calls : ℕ → List Datum → Answer
   refuses : MufFault → Answer
-  unknown : Answer
+
+-- What a primitive makes of the items that it takes, their tops first: the items that take their place, or a fault.
+pub data Made : Type 0 where
+  makes : List Datum → Made
+  rejects : MufFault → Made
 
 -- What a primitive may look at beside the stack: the variables of the process, of the running program and of the
 -- running call, the number of that program and how many words it has, and how many items, at the bottom of the
@@ -23,6 +27,12 @@ pub record Scope : Type 0 where
   pub program : ℤ
   pub words : ℕ
   pub locked : ℕ
+
+-- What a primitive does behind the tests that all begin with: most see the items that they take and no more, and a few
+-- the whole stack and what stands beside it.
+pub data Deed : Type 0 where
+  plain : (List Datum → Made) → Deed
+  whole : (Scope → List Datum → Answer) → Deed
 
 -- the number of the first variable of the program, and of the call
 abbrev pub owned_first : ℕ
@@ -53,11 +63,12 @@ needing n locked stack answer = if nat_lt (length stack) (locked + n) then refus
 abbrev pub fitting : List Datum → Answer
 fitting stack = if nat_lt stack_most (length stack) then refuses StackFull else gives stack
 
--- a count on the top that says how many items are needed beside the fixed ones
-abbrev pub by_count : ℕ → ℕ → List Datum → (ℕ → Answer) → Answer
-by_count fixed locked (int (pos n) ∷ rest) answer = needing (n + fixed) locked (int (pos n) ∷ rest) (answer n)
-by_count fixed locked (int (negsuc n) ∷ rest) answer = refuses BadArgument
-by_count fixed locked stack answer = refuses BadType
+-- what is made takes the place of n items, and a stack that grows by it has to fit
+abbrev pub put : ℕ → Made → List Datum → Answer
+put n (makes items) rest = if nat_lt n (length items) then fitting (items ++ rest) else gives (items ++ rest)
+put n (rejects f) rest = refuses f
 
-abbrev pub counted : ℕ → ℕ → List Datum → (ℕ → Answer) → Answer
-counted fixed locked stack answer = needing fixed locked stack (by_count fixed locked stack answer)
+-- behind a test that may have refused
+abbrev pub unless : Option MufFault → Answer → Answer
+unless (Some f) answer = refuses f
+unless None answer = answer

@@ -2,6 +2,8 @@
 use Rattle.std.specs.Prelude.{Bool, true, false}
 use Rattle.muf_model.specs.declared.kind.ItemKind.{ItemKind}
 use Rattle.muf_model.specs.declared.kind.ItemKind.TheVariants as kind
+use Rattle.muf_model.specs.declared.needs.Want.{Want}
+use Rattle.muf_model.specs.declared.needs.Want.TheVariants as want
 use Rattle.muf_model.specs.declared.prims.Primitive.{Primitive}
 use Rattle.muf_model.specs.declared.prims.Primitive.TheVariants.{IsInt, IsString, IsDbref, IsArray, IsDictionary, IsAddress, IsLock}
 use Rattle.muf_model.specs.Datum.{Datum, int, text, object, variable, address, lock, items, dict, mark}
@@ -32,3 +34,24 @@ is_kind _ _ = false
 -- whether a test of kinds is true of a value
 abbrev pub is_so : Primitive → Datum → Bool
 is_so test d = is_kind test (kind_of d)
+
+-- whether an item of a kind is what is wanted
+abbrev pub suits : Want → ItemKind → Bool
+suits want.Anything _ = true
+suits want.Int kind.Int = true
+suits want.Text kind.Text = true
+suits want.Object kind.Object = true
+suits want.Variable kind.Variable = true
+suits want.Address kind.Address = true
+suits want.Lock kind.Lock = true
+suits want.List kind.List = true
+suits want.Collection kind.List = true
+suits want.Collection kind.Dictionary = true
+suits want.Key kind.Int = true
+suits want.Key kind.Text = true
+suits want.IntOrObject kind.Int = true
+suits want.IntOrObject kind.Object = true
+suits want.Numbered kind.Int = true
+suits want.Numbered kind.Object = true
+suits want.Numbered kind.Variable = true
+suits _ _ = false

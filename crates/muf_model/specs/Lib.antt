@@ -1,3 +1,4 @@
+pub mod Needs
 pub mod Prims
 pub mod Faults
 pub mod Tree
@@ -9,10 +10,10 @@ pub mod Measures
 pub mod Kinds
 pub mod Entries
 pub mod Answer
+pub mod Ladder
 pub mod StackRows
 pub mod NumberRows
 pub mod TextRows
-pub mod ArrayRows
 pub mod Rows
 pub mod Source
 pub mod Unit

@@ -1,5 +1,5 @@
 -- What each primitive of numbers does. Results wrap to 32 bits.
-use Rattle.std.specs.Prelude.{ℕ, suc, List, ◌∷◌, Bool, true, false, not, ◌&&◌, ◌||◌, nat_lt, int_lt, int_le, int_rem, if◌then◌else◌, ℤ, pos, negsuc}
+use Rattle.std.specs.Prelude.{ℕ, suc, List, [], ◌∷◌, Option, Some, None, Bool, true, false, not, ◌&&◌, ◌||◌, nat_lt, int_lt, int_le, int_rem, if◌then◌else◌, ℤ, pos, negsuc}
 use Rattle.std.specs.Ordering.{int_eq}
 use Rattle.std.specs.Int.{w32, cast_signed, int_wrapping_add, int_wrapping_sub, int_wrapping_mul, int_wrapping_div, int_wrapping_neg, int_signum, int_bit_and, int_bit_or, int_bit_xor, int_shl, int_shr}
 use Rattle.muf_model.specs.declared.fault.MufFault.TheVariants.{StackEmpty, BadType}
@@ -7,7 +7,7 @@ use Rattle.muf_model.specs.declared.prims.Primitive.{Primitive}
 use Rattle.muf_model.specs.declared.prims.Primitive.TheVariants.{Add, Subtract, Multiply, Divide, Modulo, Increment, Decrement, Abs, Sign, BitOr, BitAnd, BitXor, BitShift, Equal, Unequal, Less, Greater, LessEqual, GreaterEqual, Not, And, Or, Xor, ToInt, ToDbref, DbCmp}
 use Rattle.muf_model.specs.Datum.{Datum, int, object, variable}
 use Rattle.muf_model.specs.Measures.{is_true}
-use Rattle.muf_model.specs.Answer.{Answer, gives, refuses, unknown, needing}
+use Rattle.muf_model.specs.Answer.{Deed, plain, Made, makes, rejects}
 use Rattle.muf_model.specs.StackRows.{truth, judged}
 
 -- toward zero, and 0 where the divisor is 0
@@ -69,65 +69,65 @@ joined Xor a b = unlike a b
 joined _ a b = a
 
 -- of one integer
-abbrev pub one_int : (ℤ → ℤ) → List Datum → Answer
-one_int f (int i ∷ rest) = gives (int (f i) ∷ rest)
-one_int f _ = refuses BadType
+abbrev pub one_int : (ℤ → ℤ) → List Datum → Made
+one_int f (int i ∷ []) = makes (int (f i) ∷ [])
+one_int f _ = rejects BadType
 
 -- of two integers, the second one on top
-abbrev pub two_ints : (ℤ → ℤ → ℤ) → List Datum → Answer
-two_ints f (int j ∷ int i ∷ rest) = gives (int (f i j) ∷ rest)
-two_ints f _ = refuses BadType
+abbrev pub two_ints : (ℤ → ℤ → ℤ) → List Datum → Made
+two_ints f (int j ∷ int i ∷ []) = makes (int (f i j) ∷ [])
+two_ints f _ = rejects BadType
 
 -- of two integers or two objects, by number
-abbrev pub compared : (ℤ → ℤ → Bool) → List Datum → Answer
-compared f (int j ∷ int i ∷ rest) = gives (truth (f i j) ∷ rest)
-compared f (object j ∷ object i ∷ rest) = gives (truth (f i j) ∷ rest)
-compared f _ = refuses BadType
+abbrev pub compared : (ℤ → ℤ → Bool) → List Datum → Made
+compared f (int j ∷ int i ∷ []) = makes (truth (f i j) ∷ [])
+compared f (object j ∷ object i ∷ []) = makes (truth (f i j) ∷ [])
+compared f _ = rejects BadType
 
 -- of two truths
-abbrev pub two_truths : (Bool → Bool → Bool) → List Datum → Answer
-two_truths f (y ∷ x ∷ rest) = gives (truth (f (is_true x) (is_true y)) ∷ rest)
-two_truths f _ = refuses StackEmpty
+abbrev pub two_truths : (Bool → Bool → Bool) → List Datum → Made
+two_truths f (y ∷ x ∷ []) = makes (truth (f (is_true x) (is_true y)) ∷ [])
+two_truths f _ = rejects StackEmpty
 
-abbrev pub number_of : List Datum → Answer
-number_of (int i ∷ rest) = gives (int i ∷ rest)
-number_of (object d ∷ rest) = gives (int d ∷ rest)
-number_of (variable v ∷ rest) = gives (int (cast_signed w32 v) ∷ rest)
-number_of _ = refuses BadType
+abbrev pub number_of : List Datum → Made
+number_of (int i ∷ []) = makes (int i ∷ [])
+number_of (object d ∷ []) = makes (int d ∷ [])
+number_of (variable v ∷ []) = makes (int (cast_signed w32 v) ∷ [])
+number_of _ = rejects BadType
 
-abbrev pub object_of : List Datum → Answer
-object_of (int i ∷ rest) = gives (object i ∷ rest)
-object_of _ = refuses BadType
+abbrev pub object_of : List Datum → Made
+object_of (int i ∷ []) = makes (object i ∷ [])
+object_of _ = rejects BadType
 
-abbrev pub objects_equal : List Datum → Answer
-objects_equal (object j ∷ object i ∷ rest) = gives (truth (int_eq i j) ∷ rest)
-objects_equal _ = refuses BadType
+abbrev pub objects_equal : List Datum → Made
+objects_equal (object j ∷ object i ∷ []) = makes (truth (int_eq i j) ∷ [])
+objects_equal _ = rejects BadType
 
-abbrev pub number_row : Primitive → ℕ → List Datum → Answer
-number_row Add locked stack = needing 2 locked stack (two_ints (int_of_two Add) stack)
-number_row Subtract locked stack = needing 2 locked stack (two_ints (int_of_two Subtract) stack)
-number_row Multiply locked stack = needing 2 locked stack (two_ints (int_of_two Multiply) stack)
-number_row Divide locked stack = needing 2 locked stack (two_ints (int_of_two Divide) stack)
-number_row Modulo locked stack = needing 2 locked stack (two_ints (int_of_two Modulo) stack)
-number_row Increment locked stack = needing 1 locked stack (one_int (int_of Increment) stack)
-number_row Decrement locked stack = needing 1 locked stack (one_int (int_of Decrement) stack)
-number_row Abs locked stack = needing 1 locked stack (one_int (int_of Abs) stack)
-number_row Sign locked stack = needing 1 locked stack (one_int (int_of Sign) stack)
-number_row BitOr locked stack = needing 2 locked stack (two_ints (int_of_two BitOr) stack)
-number_row BitAnd locked stack = needing 2 locked stack (two_ints (int_of_two BitAnd) stack)
-number_row BitXor locked stack = needing 2 locked stack (two_ints (int_of_two BitXor) stack)
-number_row BitShift locked stack = needing 2 locked stack (two_ints (int_of_two BitShift) stack)
-number_row Equal locked stack = needing 2 locked stack (compared (compares Equal) stack)
-number_row Unequal locked stack = needing 2 locked stack (compared (compares Unequal) stack)
-number_row Less locked stack = needing 2 locked stack (compared (compares Less) stack)
-number_row Greater locked stack = needing 2 locked stack (compared (compares Greater) stack)
-number_row LessEqual locked stack = needing 2 locked stack (compared (compares LessEqual) stack)
-number_row GreaterEqual locked stack = needing 2 locked stack (compared (compares GreaterEqual) stack)
-number_row Not locked stack = needing 1 locked stack (judged (λ x. not (is_true x)) stack)
-number_row And locked stack = needing 2 locked stack (two_truths (joined And) stack)
-number_row Or locked stack = needing 2 locked stack (two_truths (joined Or) stack)
-number_row Xor locked stack = needing 2 locked stack (two_truths (joined Xor) stack)
-number_row ToInt locked stack = needing 1 locked stack (number_of stack)
-number_row ToDbref locked stack = needing 1 locked stack (object_of stack)
-number_row DbCmp locked stack = needing 2 locked stack (objects_equal stack)
-number_row _ locked stack = unknown
+abbrev pub number_row : Primitive → Option Deed
+number_row Add = Some (plain (two_ints (int_of_two Add)))
+number_row Subtract = Some (plain (two_ints (int_of_two Subtract)))
+number_row Multiply = Some (plain (two_ints (int_of_two Multiply)))
+number_row Divide = Some (plain (two_ints (int_of_two Divide)))
+number_row Modulo = Some (plain (two_ints (int_of_two Modulo)))
+number_row Increment = Some (plain (one_int (int_of Increment)))
+number_row Decrement = Some (plain (one_int (int_of Decrement)))
+number_row Abs = Some (plain (one_int (int_of Abs)))
+number_row Sign = Some (plain (one_int (int_of Sign)))
+number_row BitOr = Some (plain (two_ints (int_of_two BitOr)))
+number_row BitAnd = Some (plain (two_ints (int_of_two BitAnd)))
+number_row BitXor = Some (plain (two_ints (int_of_two BitXor)))
+number_row BitShift = Some (plain (two_ints (int_of_two BitShift)))
+number_row Equal = Some (plain (compared (compares Equal)))
+number_row Unequal = Some (plain (compared (compares Unequal)))
+number_row Less = Some (plain (compared (compares Less)))
+number_row Greater = Some (plain (compared (compares Greater)))
+number_row LessEqual = Some (plain (compared (compares LessEqual)))
+number_row GreaterEqual = Some (plain (compared (compares GreaterEqual)))
+number_row Not = Some (plain (judged (λ x. not (is_true x))))
+number_row And = Some (plain (two_truths (joined And)))
+number_row Or = Some (plain (two_truths (joined Or)))
+number_row Xor = Some (plain (two_truths (joined Xor)))
+number_row ToInt = Some (plain number_of)
+number_row ToDbref = Some (plain object_of)
+number_row DbCmp = Some (plain objects_equal)
+number_row _ = None

@@ -1,203 +1,214 @@
--- The primitives: their families, levels and names.
-use Rattle.std.specs.Prelude.{ℕ, Bool, true, false, List, [], ◌∷◌, Option, find, map, bytes_eq, codes}
+-- The primitives: one table of their names, levels, families and needs.
+use Rattle.std.specs.Prelude.{ℕ, Bool, true, false, List, [], ◌∷◌, Option, None, option_map, is_some, find, map, bytes_eq, codes}
 use Rattle.std.specs.Char.{to_ascii_lowercase}
 use Rattle.muf_model.specs.declared.prims.Primitive.{Primitive}
 use Rattle.muf_model.specs.declared.prims.Primitive.TheVariants.{Pop, Dup, DupTrue, Swap, Over, Rot, Rotate, Pick, Put, Nip, Tuck, DupN, LDup, PopN, Reverse, Depth, OpenMark, CloseMark, Fetch, Store, IsInt, IsString, IsDbref, IsArray, IsDictionary, IsAddress, IsLock, Execute, Abort, Add, Subtract, Multiply, Divide, Modulo, Increment, Decrement, Abs, Sign, BitOr, BitAnd, BitXor, BitShift, Equal, Unequal, Less, Greater, LessEqual, GreaterEqual, Not, And, Or, Xor, ToInt, ToDbref, DbCmp, StrCat, StrCmp, StringCmp, StrNCmp, StrLen, StrCut, MidStr, InStr, RInStr, InString, RInString, Explode, Split, RSplit, Subst, ToUpper, ToLower, StripLead, StripTail, AToI, IntToStr, CharToInt, IntToChar, ArrayMake, ArrayMakeDict, ArrayCount, ArrayGetItem, ArraySetItem, ArrayInsertItem, ArrayAppendItem, ArrayDelItem, ArrayFirst, ArrayNext, ArrayKeys, ArrayVals, ArrayExplode, ArrayJoin, Name, Owner, Location, Contents, Exits, Next, IsOk, IsPlayer, IsThing, IsRoom, IsExit, IsProgram, Match, PMatch, MoveTo, SetName, Set, HasFlag, MLevel, GetLink, SetLink, NewRoom, NewObject, NewExit, Recycle, SetOwn, Controls, GetLockStr, SetLockStr, ParseLock, UnparseLock, TestLock, UnparseObj, DbTop, GetProp, GetPropStr, GetPropVal, SetProp, AddProp, RemoveProp, NextProp, IsPropDir, EnvProp, EnvPropStr, ParseMpi, Notify, NotifyExclude, IsAwake, Online, ConCount, ConDbref, Descriptors, Descr, ConBoot, Call, Fork, Sleep, Read, Kill, Pid, IsPid, Queue, Mode, SetMode, Preempt, Foreground, Background, SysTime, Random, EventSend, EventWait, EventCount, Prog, Trig, Caller, Cmd}
 use Rattle.muf_model.specs.declared.prims.Family.{Family}
+use Rattle.muf_model.specs.declared.prims.Row.{Row as Kept}
+use Rattle.muf_model.specs.Needs.{Needs, takes, counts, any, an_int, a_text, an_object, a_variable, an_address, a_near_one, one_there, int_or_object, numbered, shown_needs}
 use Rattle.muf_model.specs.declared.prims.Family.TheVariants as kind
 
--- the level that a program needs
-abbrev pub level_of : Primitive → ℕ
-level_of SetName = 2
-level_of Set = 2
-level_of SetLink = 2
-level_of NewRoom = 2
-level_of NewObject = 2
-level_of NewExit = 2
-level_of Recycle = 3
-level_of SetOwn = 2
-level_of SetLockStr = 2
-level_of ParseMpi = 3
-level_of Online = 3
-level_of ConDbref = 3
-level_of Descriptors = 3
-level_of ConBoot = 4
-level_of Fork = 3
-level_of Kill = 3
-level_of Queue = 3
-level_of EventSend = 3
-level_of _ = 1
+-- What is so of a primitive: its name in capitals, the level that a program needs to use it, what it works on, and what it
+-- needs on the stack. One without needs isn't there yet.
+pub record Row : Type 0 where
+  pub name : List ℕ
+  pub level : ℕ
+  pub family : Family
+  pub needs : Option Needs
 
--- what it works on
+abbrev row : List ℕ → ℕ → Family → Option Needs → Row
+row name level family needs = record { name = name; level = level; family = family; needs = needs }
+
+-- the table of all primitives
+abbrev pub row_of : Primitive → Row
+row_of Pop = row (codes "POP") 1 kind.Stack (takes (any ∷ []))
+row_of Dup = row (codes "DUP") 1 kind.Stack (takes (any ∷ []))
+row_of DupTrue = row (codes "?DUP") 1 kind.Stack (takes (any ∷ []))
+row_of Swap = row (codes "SWAP") 1 kind.Stack (takes (any ∷ any ∷ []))
+row_of Over = row (codes "OVER") 1 kind.Stack (takes (any ∷ any ∷ []))
+row_of Rot = row (codes "ROT") 1 kind.Stack (takes (any ∷ any ∷ any ∷ []))
+row_of Rotate = row (codes "ROTATE") 1 kind.Stack (takes (an_int ∷ []))
+row_of Pick = row (codes "PICK") 1 kind.Stack (counts (an_int ∷ []) (any ∷ []) [])
+row_of Put = row (codes "PUT") 1 kind.Stack (counts (an_int ∷ any ∷ []) (any ∷ []) [])
+row_of Nip = row (codes "NIP") 1 kind.Stack (takes (any ∷ any ∷ []))
+row_of Tuck = row (codes "TUCK") 1 kind.Stack (takes (any ∷ any ∷ []))
+row_of DupN = row (codes "DUPN") 1 kind.Stack (counts (an_int ∷ []) (any ∷ []) [])
+row_of LDup = row (codes "LDUP") 1 kind.Stack (counts (an_int ∷ []) (any ∷ []) [])
+row_of PopN = row (codes "POPN") 1 kind.Stack (counts (an_int ∷ []) (any ∷ []) [])
+row_of Reverse = row (codes "REVERSE") 1 kind.Stack (counts (an_int ∷ []) (any ∷ []) [])
+row_of Depth = row (codes "DEPTH") 1 kind.Stack (takes [])
+row_of OpenMark = row (codes "{") 1 kind.Stack (takes [])
+row_of CloseMark = row (codes "}") 1 kind.Stack (takes [])
+row_of Fetch = row (codes "@") 1 kind.Stack (takes (a_variable ∷ []))
+row_of Store = row (codes "!") 1 kind.Stack (takes (a_variable ∷ any ∷ []))
+row_of IsInt = row (codes "INT?") 1 kind.Stack (takes (any ∷ []))
+row_of IsString = row (codes "STRING?") 1 kind.Stack (takes (any ∷ []))
+row_of IsDbref = row (codes "DBREF?") 1 kind.Stack (takes (any ∷ []))
+row_of IsArray = row (codes "ARRAY?") 1 kind.Stack (takes (any ∷ []))
+row_of IsDictionary = row (codes "DICTIONARY?") 1 kind.Stack (takes (any ∷ []))
+row_of IsAddress = row (codes "ADDRESS?") 1 kind.Stack (takes (any ∷ []))
+row_of IsLock = row (codes "LOCK?") 1 kind.Stack (takes (any ∷ []))
+row_of Execute = row (codes "EXECUTE") 1 kind.Stack (takes (an_address ∷ []))
+row_of Abort = row (codes "ABORT") 1 kind.Stack (takes (a_text ∷ []))
+row_of Add = row (codes "+") 1 kind.Number (takes (an_int ∷ an_int ∷ []))
+row_of Subtract = row (codes "-") 1 kind.Number (takes (an_int ∷ an_int ∷ []))
+row_of Multiply = row (codes "*") 1 kind.Number (takes (an_int ∷ an_int ∷ []))
+row_of Divide = row (codes "/") 1 kind.Number (takes (an_int ∷ an_int ∷ []))
+row_of Modulo = row (codes "%") 1 kind.Number (takes (an_int ∷ an_int ∷ []))
+row_of Increment = row (codes "++") 1 kind.Number (takes (an_int ∷ []))
+row_of Decrement = row (codes "--") 1 kind.Number (takes (an_int ∷ []))
+row_of Abs = row (codes "ABS") 1 kind.Number (takes (an_int ∷ []))
+row_of Sign = row (codes "SIGN") 1 kind.Number (takes (an_int ∷ []))
+row_of BitOr = row (codes "BITOR") 1 kind.Number (takes (an_int ∷ an_int ∷ []))
+row_of BitAnd = row (codes "BITAND") 1 kind.Number (takes (an_int ∷ an_int ∷ []))
+row_of BitXor = row (codes "BITXOR") 1 kind.Number (takes (an_int ∷ an_int ∷ []))
+row_of BitShift = row (codes "BITSHIFT") 1 kind.Number (takes (an_int ∷ an_int ∷ []))
+row_of Equal = row (codes "=") 1 kind.Number (takes (int_or_object ∷ int_or_object ∷ []))
+row_of Unequal = row (codes "!=") 1 kind.Number (takes (int_or_object ∷ int_or_object ∷ []))
+row_of Less = row (codes "<") 1 kind.Number (takes (int_or_object ∷ int_or_object ∷ []))
+row_of Greater = row (codes ">") 1 kind.Number (takes (int_or_object ∷ int_or_object ∷ []))
+row_of LessEqual = row (codes "<=") 1 kind.Number (takes (int_or_object ∷ int_or_object ∷ []))
+row_of GreaterEqual = row (codes ">=") 1 kind.Number (takes (int_or_object ∷ int_or_object ∷ []))
+row_of Not = row (codes "NOT") 1 kind.Number (takes (any ∷ []))
+row_of And = row (codes "AND") 1 kind.Number (takes (any ∷ any ∷ []))
+row_of Or = row (codes "OR") 1 kind.Number (takes (any ∷ any ∷ []))
+row_of Xor = row (codes "XOR") 1 kind.Number (takes (any ∷ any ∷ []))
+row_of ToInt = row (codes "INT") 1 kind.Number (takes (numbered ∷ []))
+row_of ToDbref = row (codes "DBREF") 1 kind.Number (takes (an_int ∷ []))
+row_of DbCmp = row (codes "DBCMP") 1 kind.Number (takes (an_object ∷ an_object ∷ []))
+row_of StrCat = row (codes "STRCAT") 1 kind.Text (takes (a_text ∷ a_text ∷ []))
+row_of StrCmp = row (codes "STRCMP") 1 kind.Text None
+row_of StringCmp = row (codes "STRINGCMP") 1 kind.Text None
+row_of StrNCmp = row (codes "STRNCMP") 1 kind.Text None
+row_of StrLen = row (codes "STRLEN") 1 kind.Text None
+row_of StrCut = row (codes "STRCUT") 1 kind.Text None
+row_of MidStr = row (codes "MIDSTR") 1 kind.Text None
+row_of InStr = row (codes "INSTR") 1 kind.Text None
+row_of RInStr = row (codes "RINSTR") 1 kind.Text None
+row_of InString = row (codes "INSTRING") 1 kind.Text None
+row_of RInString = row (codes "RINSTRING") 1 kind.Text None
+row_of Explode = row (codes "EXPLODE") 1 kind.Text None
+row_of Split = row (codes "SPLIT") 1 kind.Text None
+row_of RSplit = row (codes "RSPLIT") 1 kind.Text None
+row_of Subst = row (codes "SUBST") 1 kind.Text None
+row_of ToUpper = row (codes "TOUPPER") 1 kind.Text None
+row_of ToLower = row (codes "TOLOWER") 1 kind.Text None
+row_of StripLead = row (codes "STRIPLEAD") 1 kind.Text None
+row_of StripTail = row (codes "STRIPTAIL") 1 kind.Text None
+row_of AToI = row (codes "ATOI") 1 kind.Text None
+row_of IntToStr = row (codes "INTOSTR") 1 kind.Text (takes (int_or_object ∷ []))
+row_of CharToInt = row (codes "CTOI") 1 kind.Text None
+row_of IntToChar = row (codes "ITOC") 1 kind.Text None
+row_of ArrayMake = row (codes "ARRAY_MAKE") 1 kind.Array None
+row_of ArrayMakeDict = row (codes "ARRAY_MAKE_DICT") 1 kind.Array None
+row_of ArrayCount = row (codes "ARRAY_COUNT") 1 kind.Array None
+row_of ArrayGetItem = row (codes "ARRAY_GETITEM") 1 kind.Array None
+row_of ArraySetItem = row (codes "ARRAY_SETITEM") 1 kind.Array None
+row_of ArrayInsertItem = row (codes "ARRAY_INSERTITEM") 1 kind.Array None
+row_of ArrayAppendItem = row (codes "ARRAY_APPENDITEM") 1 kind.Array None
+row_of ArrayDelItem = row (codes "ARRAY_DELITEM") 1 kind.Array None
+row_of ArrayFirst = row (codes "ARRAY_FIRST") 1 kind.Array None
+row_of ArrayNext = row (codes "ARRAY_NEXT") 1 kind.Array None
+row_of ArrayKeys = row (codes "ARRAY_KEYS") 1 kind.Array None
+row_of ArrayVals = row (codes "ARRAY_VALS") 1 kind.Array None
+row_of ArrayExplode = row (codes "ARRAY_EXPLODE") 1 kind.Array None
+row_of ArrayJoin = row (codes "ARRAY_JOIN") 1 kind.Array None
+row_of Name = row (codes "NAME") 1 kind.Object None
+row_of Owner = row (codes "OWNER") 1 kind.Object None
+row_of Location = row (codes "LOCATION") 1 kind.Object None
+row_of Contents = row (codes "CONTENTS") 1 kind.Object None
+row_of Exits = row (codes "EXITS") 1 kind.Object None
+row_of Next = row (codes "NEXT") 1 kind.Object None
+row_of IsOk = row (codes "OK?") 1 kind.Object None
+row_of IsPlayer = row (codes "PLAYER?") 1 kind.Object None
+row_of IsThing = row (codes "THING?") 1 kind.Object None
+row_of IsRoom = row (codes "ROOM?") 1 kind.Object None
+row_of IsExit = row (codes "EXIT?") 1 kind.Object None
+row_of IsProgram = row (codes "PROGRAM?") 1 kind.Object None
+row_of Match = row (codes "MATCH") 1 kind.Object None
+row_of PMatch = row (codes "PMATCH") 1 kind.Object None
+row_of MoveTo = row (codes "MOVETO") 1 kind.Object None
+row_of SetName = row (codes "SETNAME") 2 kind.Object None
+row_of Set = row (codes "SET") 2 kind.Object None
+row_of HasFlag = row (codes "FLAG?") 1 kind.Object None
+row_of MLevel = row (codes "MLEVEL") 1 kind.Object None
+row_of GetLink = row (codes "GETLINK") 1 kind.Object None
+row_of SetLink = row (codes "SETLINK") 2 kind.Object None
+row_of NewRoom = row (codes "NEWROOM") 2 kind.Object None
+row_of NewObject = row (codes "NEWOBJECT") 2 kind.Object None
+row_of NewExit = row (codes "NEWEXIT") 2 kind.Object None
+row_of Recycle = row (codes "RECYCLE") 3 kind.Object None
+row_of SetOwn = row (codes "SETOWN") 2 kind.Object None
+row_of Controls = row (codes "CONTROLS") 1 kind.Object None
+row_of GetLockStr = row (codes "GETLOCKSTR") 1 kind.Object None
+row_of SetLockStr = row (codes "SETLOCKSTR") 2 kind.Object None
+row_of ParseLock = row (codes "PARSELOCK") 1 kind.Object None
+row_of UnparseLock = row (codes "UNPARSELOCK") 1 kind.Object None
+row_of TestLock = row (codes "TESTLOCK") 1 kind.Object None
+row_of UnparseObj = row (codes "UNPARSEOBJ") 1 kind.Object None
+row_of DbTop = row (codes "DBTOP") 1 kind.Object None
+row_of GetProp = row (codes "GETPROP") 1 kind.Property None
+row_of GetPropStr = row (codes "GETPROPSTR") 1 kind.Property None
+row_of GetPropVal = row (codes "GETPROPVAL") 1 kind.Property None
+row_of SetProp = row (codes "SETPROP") 1 kind.Property None
+row_of AddProp = row (codes "ADDPROP") 1 kind.Property None
+row_of RemoveProp = row (codes "REMOVE_PROP") 1 kind.Property None
+row_of NextProp = row (codes "NEXTPROP") 1 kind.Property None
+row_of IsPropDir = row (codes "PROPDIR?") 1 kind.Property None
+row_of EnvProp = row (codes "ENVPROP") 1 kind.Property None
+row_of EnvPropStr = row (codes "ENVPROPSTR") 1 kind.Property None
+row_of ParseMpi = row (codes "PARSEMPI") 3 kind.Property None
+row_of Notify = row (codes "NOTIFY") 1 kind.Talk (takes (a_text ∷ a_near_one ∷ []))
+row_of NotifyExclude = row (codes "NOTIFY_EXCLUDE") 1 kind.Talk None
+row_of IsAwake = row (codes "AWAKE?") 1 kind.Talk None
+row_of Online = row (codes "ONLINE") 3 kind.Talk None
+row_of ConCount = row (codes "CONCOUNT") 1 kind.Talk None
+row_of ConDbref = row (codes "CONDBREF") 3 kind.Talk None
+row_of Descriptors = row (codes "DESCRIPTORS") 3 kind.Talk None
+row_of Descr = row (codes "DESCR") 1 kind.Talk None
+row_of ConBoot = row (codes "CONBOOT") 4 kind.Talk None
+row_of Call = row (codes "CALL") 1 kind.Process (takes (one_there ∷ []))
+row_of Fork = row (codes "FORK") 3 kind.Process None
+row_of Sleep = row (codes "SLEEP") 1 kind.Process None
+row_of Read = row (codes "READ") 1 kind.Process None
+row_of Kill = row (codes "KILL") 3 kind.Process None
+row_of Pid = row (codes "PID") 1 kind.Process None
+row_of IsPid = row (codes "ISPID?") 1 kind.Process None
+row_of Queue = row (codes "QUEUE") 3 kind.Process None
+row_of Mode = row (codes "MODE") 1 kind.Process None
+row_of SetMode = row (codes "SETMODE") 1 kind.Process None
+row_of Preempt = row (codes "PREEMPT") 1 kind.Process None
+row_of Foreground = row (codes "FOREGROUND") 1 kind.Process None
+row_of Background = row (codes "BACKGROUND") 1 kind.Process None
+row_of SysTime = row (codes "SYSTIME") 1 kind.Process None
+row_of Random = row (codes "RANDOM") 1 kind.Process None
+row_of EventSend = row (codes "EVENT_SEND") 3 kind.Process None
+row_of EventWait = row (codes "EVENT_WAIT") 1 kind.Process None
+row_of EventCount = row (codes "EVENT_COUNT") 1 kind.Process None
+row_of Prog = row (codes "PROG") 1 kind.Process None
+row_of Trig = row (codes "TRIG") 1 kind.Process None
+row_of Caller = row (codes "CALLER") 1 kind.Process None
+row_of Cmd = row (codes "CMD") 1 kind.Process None
+
+abbrev pub name_of : Primitive → List ℕ
+name_of p = (row_of p).name
+
+abbrev pub level_of : Primitive → ℕ
+level_of p = (row_of p).level
+
 abbrev pub family_of : Primitive → Family
-family_of Pop = kind.Stack
-family_of Dup = kind.Stack
-family_of DupTrue = kind.Stack
-family_of Swap = kind.Stack
-family_of Over = kind.Stack
-family_of Rot = kind.Stack
-family_of Rotate = kind.Stack
-family_of Pick = kind.Stack
-family_of Put = kind.Stack
-family_of Nip = kind.Stack
-family_of Tuck = kind.Stack
-family_of DupN = kind.Stack
-family_of LDup = kind.Stack
-family_of PopN = kind.Stack
-family_of Reverse = kind.Stack
-family_of Depth = kind.Stack
-family_of OpenMark = kind.Stack
-family_of CloseMark = kind.Stack
-family_of Fetch = kind.Stack
-family_of Store = kind.Stack
-family_of IsInt = kind.Stack
-family_of IsString = kind.Stack
-family_of IsDbref = kind.Stack
-family_of IsArray = kind.Stack
-family_of IsDictionary = kind.Stack
-family_of IsAddress = kind.Stack
-family_of IsLock = kind.Stack
-family_of Execute = kind.Stack
-family_of Abort = kind.Stack
-family_of Add = kind.Number
-family_of Subtract = kind.Number
-family_of Multiply = kind.Number
-family_of Divide = kind.Number
-family_of Modulo = kind.Number
-family_of Increment = kind.Number
-family_of Decrement = kind.Number
-family_of Abs = kind.Number
-family_of Sign = kind.Number
-family_of BitOr = kind.Number
-family_of BitAnd = kind.Number
-family_of BitXor = kind.Number
-family_of BitShift = kind.Number
-family_of Equal = kind.Number
-family_of Unequal = kind.Number
-family_of Less = kind.Number
-family_of Greater = kind.Number
-family_of LessEqual = kind.Number
-family_of GreaterEqual = kind.Number
-family_of Not = kind.Number
-family_of And = kind.Number
-family_of Or = kind.Number
-family_of Xor = kind.Number
-family_of ToInt = kind.Number
-family_of ToDbref = kind.Number
-family_of DbCmp = kind.Number
-family_of StrCat = kind.Text
-family_of StrCmp = kind.Text
-family_of StringCmp = kind.Text
-family_of StrNCmp = kind.Text
-family_of StrLen = kind.Text
-family_of StrCut = kind.Text
-family_of MidStr = kind.Text
-family_of InStr = kind.Text
-family_of RInStr = kind.Text
-family_of InString = kind.Text
-family_of RInString = kind.Text
-family_of Explode = kind.Text
-family_of Split = kind.Text
-family_of RSplit = kind.Text
-family_of Subst = kind.Text
-family_of ToUpper = kind.Text
-family_of ToLower = kind.Text
-family_of StripLead = kind.Text
-family_of StripTail = kind.Text
-family_of AToI = kind.Text
-family_of IntToStr = kind.Text
-family_of CharToInt = kind.Text
-family_of IntToChar = kind.Text
-family_of ArrayMake = kind.Array
-family_of ArrayMakeDict = kind.Array
-family_of ArrayCount = kind.Array
-family_of ArrayGetItem = kind.Array
-family_of ArraySetItem = kind.Array
-family_of ArrayInsertItem = kind.Array
-family_of ArrayAppendItem = kind.Array
-family_of ArrayDelItem = kind.Array
-family_of ArrayFirst = kind.Array
-family_of ArrayNext = kind.Array
-family_of ArrayKeys = kind.Array
-family_of ArrayVals = kind.Array
-family_of ArrayExplode = kind.Array
-family_of ArrayJoin = kind.Array
-family_of Name = kind.Object
-family_of Owner = kind.Object
-family_of Location = kind.Object
-family_of Contents = kind.Object
-family_of Exits = kind.Object
-family_of Next = kind.Object
-family_of IsOk = kind.Object
-family_of IsPlayer = kind.Object
-family_of IsThing = kind.Object
-family_of IsRoom = kind.Object
-family_of IsExit = kind.Object
-family_of IsProgram = kind.Object
-family_of Match = kind.Object
-family_of PMatch = kind.Object
-family_of MoveTo = kind.Object
-family_of SetName = kind.Object
-family_of Set = kind.Object
-family_of HasFlag = kind.Object
-family_of MLevel = kind.Object
-family_of GetLink = kind.Object
-family_of SetLink = kind.Object
-family_of NewRoom = kind.Object
-family_of NewObject = kind.Object
-family_of NewExit = kind.Object
-family_of Recycle = kind.Object
-family_of SetOwn = kind.Object
-family_of Controls = kind.Object
-family_of GetLockStr = kind.Object
-family_of SetLockStr = kind.Object
-family_of ParseLock = kind.Object
-family_of UnparseLock = kind.Object
-family_of TestLock = kind.Object
-family_of UnparseObj = kind.Object
-family_of DbTop = kind.Object
-family_of GetProp = kind.Property
-family_of GetPropStr = kind.Property
-family_of GetPropVal = kind.Property
-family_of SetProp = kind.Property
-family_of AddProp = kind.Property
-family_of RemoveProp = kind.Property
-family_of NextProp = kind.Property
-family_of IsPropDir = kind.Property
-family_of EnvProp = kind.Property
-family_of EnvPropStr = kind.Property
-family_of ParseMpi = kind.Property
-family_of Notify = kind.Talk
-family_of NotifyExclude = kind.Talk
-family_of IsAwake = kind.Talk
-family_of Online = kind.Talk
-family_of ConCount = kind.Talk
-family_of ConDbref = kind.Talk
-family_of Descriptors = kind.Talk
-family_of Descr = kind.Talk
-family_of ConBoot = kind.Talk
-family_of Call = kind.Process
-family_of Fork = kind.Process
-family_of Sleep = kind.Process
-family_of Read = kind.Process
-family_of Kill = kind.Process
-family_of Pid = kind.Process
-family_of IsPid = kind.Process
-family_of Queue = kind.Process
-family_of Mode = kind.Process
-family_of SetMode = kind.Process
-family_of Preempt = kind.Process
-family_of Foreground = kind.Process
-family_of Background = kind.Process
-family_of SysTime = kind.Process
-family_of Random = kind.Process
-family_of EventSend = kind.Process
-family_of EventWait = kind.Process
-family_of EventCount = kind.Process
-family_of Prog = kind.Process
-family_of Trig = kind.Process
-family_of Caller = kind.Process
-family_of Cmd = kind.Process
+family_of p = (row_of p).family
+
+abbrev pub needs_of : Primitive → Option Needs
+needs_of p = (row_of p).needs
+
+-- whether programs may use it so far
+abbrev pub is_there : Primitive → Bool
+is_there p = is_some (needs_of p)
+
+-- the row that a row in code stands for
+abbrev pub shown_row : Kept → Row
+shown_row r = record { name = r.name.now; level = r.level; family = r.family; needs = option_map shown_needs r.needs }
 
 -- the stack and the variables alone, and no world
 abbrev pub is_local_family : Family → Bool
@@ -212,191 +223,6 @@ is_local_family kind.Process = false
 
 abbrev pub is_local : Primitive → Bool
 is_local p = is_local_family (family_of p)
-
--- whether programs may use all of a family so far
-abbrev pub is_there_family : Family → Bool
-is_there_family kind.Stack = true
-is_there_family kind.Number = true
-is_there_family _ = false
-
--- whether programs may use it so far
-abbrev pub is_there : Primitive → Bool
-is_there StrCat = true
-is_there IntToStr = true
-is_there Notify = true
-is_there Call = true
-is_there p = is_there_family (family_of p)
-
--- the name, in capitals
-abbrev pub name_of : Primitive → List ℕ
-name_of Pop = codes "POP"
-name_of Dup = codes "DUP"
-name_of DupTrue = codes "?DUP"
-name_of Swap = codes "SWAP"
-name_of Over = codes "OVER"
-name_of Rot = codes "ROT"
-name_of Rotate = codes "ROTATE"
-name_of Pick = codes "PICK"
-name_of Put = codes "PUT"
-name_of Nip = codes "NIP"
-name_of Tuck = codes "TUCK"
-name_of DupN = codes "DUPN"
-name_of LDup = codes "LDUP"
-name_of PopN = codes "POPN"
-name_of Reverse = codes "REVERSE"
-name_of Depth = codes "DEPTH"
-name_of OpenMark = codes "{"
-name_of CloseMark = codes "}"
-name_of Fetch = codes "@"
-name_of Store = codes "!"
-name_of IsInt = codes "INT?"
-name_of IsString = codes "STRING?"
-name_of IsDbref = codes "DBREF?"
-name_of IsArray = codes "ARRAY?"
-name_of IsDictionary = codes "DICTIONARY?"
-name_of IsAddress = codes "ADDRESS?"
-name_of IsLock = codes "LOCK?"
-name_of Execute = codes "EXECUTE"
-name_of Abort = codes "ABORT"
-name_of Add = codes "+"
-name_of Subtract = codes "-"
-name_of Multiply = codes "*"
-name_of Divide = codes "/"
-name_of Modulo = codes "%"
-name_of Increment = codes "++"
-name_of Decrement = codes "--"
-name_of Abs = codes "ABS"
-name_of Sign = codes "SIGN"
-name_of BitOr = codes "BITOR"
-name_of BitAnd = codes "BITAND"
-name_of BitXor = codes "BITXOR"
-name_of BitShift = codes "BITSHIFT"
-name_of Equal = codes "="
-name_of Unequal = codes "!="
-name_of Less = codes "<"
-name_of Greater = codes ">"
-name_of LessEqual = codes "<="
-name_of GreaterEqual = codes ">="
-name_of Not = codes "NOT"
-name_of And = codes "AND"
-name_of Or = codes "OR"
-name_of Xor = codes "XOR"
-name_of ToInt = codes "INT"
-name_of ToDbref = codes "DBREF"
-name_of DbCmp = codes "DBCMP"
-name_of StrCat = codes "STRCAT"
-name_of StrCmp = codes "STRCMP"
-name_of StringCmp = codes "STRINGCMP"
-name_of StrNCmp = codes "STRNCMP"
-name_of StrLen = codes "STRLEN"
-name_of StrCut = codes "STRCUT"
-name_of MidStr = codes "MIDSTR"
-name_of InStr = codes "INSTR"
-name_of RInStr = codes "RINSTR"
-name_of InString = codes "INSTRING"
-name_of RInString = codes "RINSTRING"
-name_of Explode = codes "EXPLODE"
-name_of Split = codes "SPLIT"
-name_of RSplit = codes "RSPLIT"
-name_of Subst = codes "SUBST"
-name_of ToUpper = codes "TOUPPER"
-name_of ToLower = codes "TOLOWER"
-name_of StripLead = codes "STRIPLEAD"
-name_of StripTail = codes "STRIPTAIL"
-name_of AToI = codes "ATOI"
-name_of IntToStr = codes "INTOSTR"
-name_of CharToInt = codes "CTOI"
-name_of IntToChar = codes "ITOC"
-name_of ArrayMake = codes "ARRAY_MAKE"
-name_of ArrayMakeDict = codes "ARRAY_MAKE_DICT"
-name_of ArrayCount = codes "ARRAY_COUNT"
-name_of ArrayGetItem = codes "ARRAY_GETITEM"
-name_of ArraySetItem = codes "ARRAY_SETITEM"
-name_of ArrayInsertItem = codes "ARRAY_INSERTITEM"
-name_of ArrayAppendItem = codes "ARRAY_APPENDITEM"
-name_of ArrayDelItem = codes "ARRAY_DELITEM"
-name_of ArrayFirst = codes "ARRAY_FIRST"
-name_of ArrayNext = codes "ARRAY_NEXT"
-name_of ArrayKeys = codes "ARRAY_KEYS"
-name_of ArrayVals = codes "ARRAY_VALS"
-name_of ArrayExplode = codes "ARRAY_EXPLODE"
-name_of ArrayJoin = codes "ARRAY_JOIN"
-name_of Name = codes "NAME"
-name_of Owner = codes "OWNER"
-name_of Location = codes "LOCATION"
-name_of Contents = codes "CONTENTS"
-name_of Exits = codes "EXITS"
-name_of Next = codes "NEXT"
-name_of IsOk = codes "OK?"
-name_of IsPlayer = codes "PLAYER?"
-name_of IsThing = codes "THING?"
-name_of IsRoom = codes "ROOM?"
-name_of IsExit = codes "EXIT?"
-name_of IsProgram = codes "PROGRAM?"
-name_of Match = codes "MATCH"
-name_of PMatch = codes "PMATCH"
-name_of MoveTo = codes "MOVETO"
-name_of SetName = codes "SETNAME"
-name_of Set = codes "SET"
-name_of HasFlag = codes "FLAG?"
-name_of MLevel = codes "MLEVEL"
-name_of GetLink = codes "GETLINK"
-name_of SetLink = codes "SETLINK"
-name_of NewRoom = codes "NEWROOM"
-name_of NewObject = codes "NEWOBJECT"
-name_of NewExit = codes "NEWEXIT"
-name_of Recycle = codes "RECYCLE"
-name_of SetOwn = codes "SETOWN"
-name_of Controls = codes "CONTROLS"
-name_of GetLockStr = codes "GETLOCKSTR"
-name_of SetLockStr = codes "SETLOCKSTR"
-name_of ParseLock = codes "PARSELOCK"
-name_of UnparseLock = codes "UNPARSELOCK"
-name_of TestLock = codes "TESTLOCK"
-name_of UnparseObj = codes "UNPARSEOBJ"
-name_of DbTop = codes "DBTOP"
-name_of GetProp = codes "GETPROP"
-name_of GetPropStr = codes "GETPROPSTR"
-name_of GetPropVal = codes "GETPROPVAL"
-name_of SetProp = codes "SETPROP"
-name_of AddProp = codes "ADDPROP"
-name_of RemoveProp = codes "REMOVE_PROP"
-name_of NextProp = codes "NEXTPROP"
-name_of IsPropDir = codes "PROPDIR?"
-name_of EnvProp = codes "ENVPROP"
-name_of EnvPropStr = codes "ENVPROPSTR"
-name_of ParseMpi = codes "PARSEMPI"
-name_of Notify = codes "NOTIFY"
-name_of NotifyExclude = codes "NOTIFY_EXCLUDE"
-name_of IsAwake = codes "AWAKE?"
-name_of Online = codes "ONLINE"
-name_of ConCount = codes "CONCOUNT"
-name_of ConDbref = codes "CONDBREF"
-name_of Descriptors = codes "DESCRIPTORS"
-name_of Descr = codes "DESCR"
-name_of ConBoot = codes "CONBOOT"
-name_of Call = codes "CALL"
-name_of Fork = codes "FORK"
-name_of Sleep = codes "SLEEP"
-name_of Read = codes "READ"
-name_of Kill = codes "KILL"
-name_of Pid = codes "PID"
-name_of IsPid = codes "ISPID?"
-name_of Queue = codes "QUEUE"
-name_of Mode = codes "MODE"
-name_of SetMode = codes "SETMODE"
-name_of Preempt = codes "PREEMPT"
-name_of Foreground = codes "FOREGROUND"
-name_of Background = codes "BACKGROUND"
-name_of SysTime = codes "SYSTIME"
-name_of Random = codes "RANDOM"
-name_of EventSend = codes "EVENT_SEND"
-name_of EventWait = codes "EVENT_WAIT"
-name_of EventCount = codes "EVENT_COUNT"
-name_of Prog = codes "PROG"
-name_of Trig = codes "TRIG"
-name_of Caller = codes "CALLER"
-name_of Cmd = codes "CMD"
 
 -- all primitives, in the order of their families
 unfoldable pub primitives : List Primitive

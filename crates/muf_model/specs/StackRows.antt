@@ -4,42 +4,41 @@ use Rattle.std.specs.Ordering.{int_eq}
 use Rattle.muf_model.specs.declared.fault.MufFault.TheVariants.{StackEmpty, BadType, BadArgument, BadAddress, Aborted}
 use Rattle.muf_model.specs.declared.prims.Primitive.{Primitive}
 use Rattle.muf_model.specs.declared.prims.Primitive.TheVariants.{Pop, Dup, DupTrue, Swap, Over, Rot, Rotate, Pick, Put, Nip, Tuck, DupN, LDup, PopN, Reverse, Depth, OpenMark, CloseMark, Fetch, Store, IsInt, IsString, IsDbref, IsArray, IsDictionary, IsAddress, IsLock, Execute, Abort}
-use Rattle.muf_model.specs.Datum.{Datum, int, text, object, variable, address, lock, items, dict, mark}
+use Rattle.muf_model.specs.Datum.{Datum, int, text, variable, address, mark}
 use Rattle.muf_model.specs.Measures.{is_true}
 use Rattle.muf_model.specs.Kinds.{is_so}
-use Rattle.muf_model.specs.Answer.{Answer, gives, stores, calls, refuses, unknown, Scope, variable_at, needing, fitting, counted}
+use Rattle.muf_model.specs.Answer.{Answer, gives, stores, calls, refuses, Scope, Deed, plain, whole, Made, makes, rejects, variable_at, needing, fitting}
 
-abbrev pub popped : List Datum → Answer
-popped (x ∷ rest) = gives rest
-popped [] = refuses StackEmpty
+abbrev pub popped : List Datum → Made
+popped _ = makes []
 
-abbrev pub doubled : List Datum → Answer
-doubled (x ∷ rest) = fitting (x ∷ x ∷ rest)
-doubled [] = refuses StackEmpty
+abbrev pub doubled : List Datum → Made
+doubled (x ∷ []) = makes (x ∷ x ∷ [])
+doubled _ = rejects StackEmpty
 
-abbrev pub doubled_true : List Datum → Answer
-doubled_true (x ∷ rest) = if is_true x then fitting (x ∷ x ∷ rest) else gives (x ∷ rest)
-doubled_true [] = refuses StackEmpty
+abbrev pub doubled_true : List Datum → Made
+doubled_true (x ∷ []) = makes (if is_true x then x ∷ x ∷ [] else x ∷ [])
+doubled_true _ = rejects StackEmpty
 
-abbrev pub swapped : List Datum → Answer
-swapped (y ∷ x ∷ rest) = gives (x ∷ y ∷ rest)
-swapped _ = refuses StackEmpty
+abbrev pub swapped : List Datum → Made
+swapped (y ∷ x ∷ []) = makes (x ∷ y ∷ [])
+swapped _ = rejects StackEmpty
 
-abbrev pub overed : List Datum → Answer
-overed (y ∷ x ∷ rest) = fitting (x ∷ y ∷ x ∷ rest)
-overed _ = refuses StackEmpty
+abbrev pub overed : List Datum → Made
+overed (y ∷ x ∷ []) = makes (x ∷ y ∷ x ∷ [])
+overed _ = rejects StackEmpty
 
-abbrev pub turned : List Datum → Answer
-turned (z ∷ y ∷ x ∷ rest) = gives (x ∷ z ∷ y ∷ rest)
-turned _ = refuses StackEmpty
+abbrev pub turned : List Datum → Made
+turned (z ∷ y ∷ x ∷ []) = makes (x ∷ z ∷ y ∷ [])
+turned _ = rejects StackEmpty
 
-abbrev pub nipped : List Datum → Answer
-nipped (y ∷ x ∷ rest) = gives (y ∷ rest)
-nipped _ = refuses StackEmpty
+abbrev pub nipped : List Datum → Made
+nipped (y ∷ x ∷ []) = makes (y ∷ [])
+nipped _ = rejects StackEmpty
 
-abbrev pub tucked : List Datum → Answer
-tucked (y ∷ x ∷ rest) = fitting (y ∷ x ∷ y ∷ rest)
-tucked _ = refuses StackEmpty
+abbrev pub tucked : List Datum → Made
+tucked (y ∷ x ∷ []) = makes (y ∷ x ∷ y ∷ [])
+tucked _ = rejects StackEmpty
 
 -- the deepest of n items goes to the top
 abbrev pub rotated_up : ℕ → List Datum → List Datum
@@ -52,10 +51,15 @@ rotated_down zero rest = rest
 rotated_down (suc n) rest = take n (drop 1 rest) ++ (take 1 rest ++ drop (suc n) rest)
 
 -- ROTATE takes a count of either sign
-abbrev pub rotated : ℕ → List Datum → Answer
-rotated locked (int (pos n) ∷ rest) = needing (n + 1) locked (int (pos n) ∷ rest) (gives (rotated_up n rest))
-rotated locked (int (negsuc n) ∷ rest) = needing (suc n + 1) locked (int (negsuc n) ∷ rest) (gives (rotated_down (suc n) rest))
-rotated locked _ = refuses BadType
+abbrev pub rotated : Scope → List Datum → Answer
+rotated s (int (pos n) ∷ rest) = needing (n + 1) s.locked (int (pos n) ∷ rest) (gives (rotated_up n rest))
+rotated s (int (negsuc n) ∷ rest) = needing (suc n + 1) s.locked (int (negsuc n) ∷ rest) (gives (rotated_down (suc n) rest))
+rotated s _ = refuses BadType
+
+-- by the count on the top, with what stands below it
+abbrev pub by_count : (List Datum → ℕ → Answer) → Scope → List Datum → Answer
+by_count answer s (int (pos n) ∷ rest) = answer rest n
+by_count answer s _ = refuses BadType
 
 -- the n-th item from the top, from 1
 abbrev pub picked : List Datum → ℕ → Answer
@@ -67,9 +71,6 @@ abbrev pub put_at : List Datum → ℕ → Answer
 put_at rest zero = refuses BadArgument
 put_at [] (suc n) = refuses StackEmpty
 put_at (y ∷ rest) (suc n) = gives (slice_set rest n y)
-
-abbrev pub below_top : List Datum → List Datum
-below_top stack = drop 1 stack
 
 -- n items once more, and with their count between and behind
 abbrev pub doubled_many : List Datum → ℕ → Answer
@@ -117,10 +118,10 @@ abbrev pub truth : Bool → Datum
 truth true = int (pos 1)
 truth false = int (pos 0)
 
--- the item on the top gives way to the answer of a test
-abbrev pub judged : (Datum → Bool) → List Datum → Answer
-judged test (x ∷ rest) = gives (truth (test x) ∷ rest)
-judged test [] = refuses StackEmpty
+-- the answer of a test
+abbrev pub judged : (Datum → Bool) → List Datum → Made
+judged test (x ∷ []) = makes (truth (test x) ∷ [])
+judged test _ = rejects StackEmpty
 
 -- the word at an address of the running program
 abbrev pub executed : Scope → List Datum → Answer
@@ -128,38 +129,48 @@ executed s (address program word ∷ rest) =
     if int_eq program s.program && nat_lt word s.words then calls word rest else refuses BadAddress
 executed s _ = refuses BadType
 
-abbrev pub aborted : List Datum → Answer
-aborted (text t ∷ rest) = refuses (Aborted t)
-aborted _ = refuses BadType
+abbrev pub aborted : List Datum → Made
+aborted (text t ∷ []) = rejects (Aborted t)
+aborted _ = rejects BadType
 
-abbrev pub stack_row : Primitive → Scope → List Datum → Answer
-stack_row Pop s stack = needing 1 s.locked stack (popped stack)
-stack_row Dup s stack = needing 1 s.locked stack (doubled stack)
-stack_row DupTrue s stack = needing 1 s.locked stack (doubled_true stack)
-stack_row Swap s stack = needing 2 s.locked stack (swapped stack)
-stack_row Over s stack = needing 2 s.locked stack (overed stack)
-stack_row Rot s stack = needing 3 s.locked stack (turned stack)
-stack_row Rotate s stack = needing 1 s.locked stack (rotated s.locked stack)
-stack_row Pick s stack = counted 1 s.locked stack (picked (below_top stack))
-stack_row Put s stack = counted 2 s.locked stack (put_at (below_top stack))
-stack_row Nip s stack = needing 2 s.locked stack (nipped stack)
-stack_row Tuck s stack = needing 2 s.locked stack (tucked stack)
-stack_row DupN s stack = counted 1 s.locked stack (doubled_many (below_top stack))
-stack_row LDup s stack = counted 1 s.locked stack (doubled_list (below_top stack))
-stack_row PopN s stack = counted 1 s.locked stack (popped_many (below_top stack))
-stack_row Reverse s stack = counted 1 s.locked stack (reversed (below_top stack))
-stack_row Depth s stack = fitting (int (pos (length stack - s.locked)) ∷ stack)
-stack_row OpenMark s stack = fitting (mark ∷ stack)
-stack_row CloseMark s stack = unmarked (position is_mark (above s.locked stack)) stack
-stack_row Fetch s stack = needing 1 s.locked stack (fetching s stack)
-stack_row Store s stack = needing 2 s.locked stack (storing s stack)
-stack_row IsInt s stack = needing 1 s.locked stack (judged (is_so IsInt) stack)
-stack_row IsString s stack = needing 1 s.locked stack (judged (is_so IsString) stack)
-stack_row IsDbref s stack = needing 1 s.locked stack (judged (is_so IsDbref) stack)
-stack_row IsArray s stack = needing 1 s.locked stack (judged (is_so IsArray) stack)
-stack_row IsDictionary s stack = needing 1 s.locked stack (judged (is_so IsDictionary) stack)
-stack_row IsAddress s stack = needing 1 s.locked stack (judged (is_so IsAddress) stack)
-stack_row IsLock s stack = needing 1 s.locked stack (judged (is_so IsLock) stack)
-stack_row Execute s stack = needing 1 s.locked stack (executed s stack)
-stack_row Abort s stack = needing 1 s.locked stack (aborted stack)
-stack_row _ s stack = unknown
+-- how many items stand above the locked part
+abbrev pub counted_above : Scope → List Datum → Answer
+counted_above s stack = fitting (int (pos (length stack - s.locked)) ∷ stack)
+
+abbrev pub marked : List Datum → Made
+marked _ = makes (mark ∷ [])
+
+abbrev pub closed : Scope → List Datum → Answer
+closed s stack = unmarked (position is_mark (above s.locked stack)) stack
+
+abbrev pub stack_row : Primitive → Option Deed
+stack_row Pop = Some (plain popped)
+stack_row Dup = Some (plain doubled)
+stack_row DupTrue = Some (plain doubled_true)
+stack_row Swap = Some (plain swapped)
+stack_row Over = Some (plain overed)
+stack_row Rot = Some (plain turned)
+stack_row Rotate = Some (whole rotated)
+stack_row Pick = Some (whole (by_count picked))
+stack_row Put = Some (whole (by_count put_at))
+stack_row Nip = Some (plain nipped)
+stack_row Tuck = Some (plain tucked)
+stack_row DupN = Some (whole (by_count doubled_many))
+stack_row LDup = Some (whole (by_count doubled_list))
+stack_row PopN = Some (whole (by_count popped_many))
+stack_row Reverse = Some (whole (by_count reversed))
+stack_row Depth = Some (whole counted_above)
+stack_row OpenMark = Some (plain marked)
+stack_row CloseMark = Some (whole closed)
+stack_row Fetch = Some (whole fetching)
+stack_row Store = Some (whole storing)
+stack_row IsInt = Some (plain (judged (is_so IsInt)))
+stack_row IsString = Some (plain (judged (is_so IsString)))
+stack_row IsDbref = Some (plain (judged (is_so IsDbref)))
+stack_row IsArray = Some (plain (judged (is_so IsArray)))
+stack_row IsDictionary = Some (plain (judged (is_so IsDictionary)))
+stack_row IsAddress = Some (plain (judged (is_so IsAddress)))
+stack_row IsLock = Some (plain (judged (is_so IsLock)))
+stack_row Execute = Some (whole executed)
+stack_row Abort = Some (plain aborted)
+stack_row _ = None

@@ -15,7 +15,7 @@ use Rattle.muf_model.specs.Prims.{is_local}
 use Rattle.muf_model.specs.Faults.{text_of, is_final}
 use Rattle.muf_model.specs.Datum.{Datum, int, text, object, variable, address, items, dict, Data, no_data, datum, Pairs, no_pairs, pair}
 use Rattle.muf_model.specs.Measures.{is_true}
-use Rattle.muf_model.specs.Answer.{Answer, gives, stores, calls, refuses, unknown, variable_at, needing, fitting, too_few}
+use Rattle.muf_model.specs.Answer.{Answer, gives, stores, calls, refuses, variable_at, needing, fitting, too_few}
 use Rattle.muf_model.specs.StackRows.{stored}
 use Rattle.muf_model.specs.Rows.{primitive}
 use Rattle.muf_model.specs.Tree.{Fork, if_word, try_word, Ring, begin_word, for_word, each_word, Block, stop, word, when, fork, ring, End, closes, hops, then_block, Definition}
@@ -101,7 +101,6 @@ answered (gives stack) s = goes 0 (record s { stack = stack })
 answered (stores v x stack) s = goes 0 (with_variable v x (record s { stack = stack }))
 answered (calls w stack) s = call (slice_get s.program.tree.words w) (record s { stack = stack })
 answered (refuses f) s = fault f s
-answered unknown s = ended
 
 -- one more loop or TRY, where there is room; the fault comes in the state before
 abbrev pub opening : Source → Source → Outcome

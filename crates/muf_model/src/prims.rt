@@ -1,6 +1,16 @@
 // The primitives, by name.
-ghost use Rattle.std.specs.Prelude.{◌≡◌};
-ghost use Rattle.muf_model.specs.Prims.{level_of, is_local, is_there, family_of, name_of, primitives, named, is_named, named_in_any_case};
+ghost use Rattle.std.specs.Prelude.{◌≡◌, true, false};
+ghost use Rattle.std.specs.List.{list_all};
+ghost use Rattle.std.specs.Option.{option_map};
+ghost use Rattle.muf_model.specs.Needs.{shown_needs};
+ghost use Rattle.muf_model.specs.Rows.{is_settled};
+ghost use Rattle.muf_model.specs.Prims.{row_of, shown_row, level_of, is_local, is_there, family_of, needs_of, name_of, primitives, named, is_named, named_in_any_case};
+
+use crate::needs::{
+    A_NUMBERED, A_TEXT, A_VARIABLE, AN_ADDRESS, AN_INT, COUNTED_ITEMS, INT_OR_OBJECT, ITEM,
+    ITEM_OVER_COUNTED, NOTHING, Needs, ONE_THERE, TEXT_FOR_ONE_NEAR, THREE_ITEMS, TWO_ALIKE,
+    TWO_INTS, TWO_ITEMS, TWO_OBJECTS, TWO_TEXTS, VARIABLE_AND_ITEM,
+};
 
 /// A primitive, by its name. [`Prim`](crate::Prim) is another name of this type.
 #[derive(Clone, Copy, PartialEq, Eq, Debug)]
@@ -356,208 +366,230 @@ pub enum Family {
     Process,
 }
 
+/// What is so of a primitive: its name in capitals, the level that a program needs to use it, what it works on, and what
+/// it needs on the stack. One without needs isn't there yet.
+#[derive(Clone, Copy)]
+pub struct Row {
+    pub name: &'static [u8],
+    pub level: u8,
+    pub family: Family,
+    pub needs: Option<Needs>,
+}
+
+// One row of the table.
+macro_rules! row {
+    ($name:literal, $level:literal, $family:ident, $needs:ident) => {
+        Row {
+            name: $name,
+            level: $level,
+            family: Family::$family,
+            needs: $needs,
+        }
+    };
+}
+
 impl Primitive {
+    /// Its row in the table of all primitives.
+    #[inline(always)]
+    pub fn row(self) -> Row
+        ensures { shown_row result ≡ row_of self }
+    {
+        match self {
+            Primitive::Pop => row!(b"POP", 1, Stack, ITEM),
+            Primitive::Dup => row!(b"DUP", 1, Stack, ITEM),
+            Primitive::DupTrue => row!(b"?DUP", 1, Stack, ITEM),
+            Primitive::Swap => row!(b"SWAP", 1, Stack, TWO_ITEMS),
+            Primitive::Over => row!(b"OVER", 1, Stack, TWO_ITEMS),
+            Primitive::Rot => row!(b"ROT", 1, Stack, THREE_ITEMS),
+            Primitive::Rotate => row!(b"ROTATE", 1, Stack, AN_INT),
+            Primitive::Pick => row!(b"PICK", 1, Stack, COUNTED_ITEMS),
+            Primitive::Put => row!(b"PUT", 1, Stack, ITEM_OVER_COUNTED),
+            Primitive::Nip => row!(b"NIP", 1, Stack, TWO_ITEMS),
+            Primitive::Tuck => row!(b"TUCK", 1, Stack, TWO_ITEMS),
+            Primitive::DupN => row!(b"DUPN", 1, Stack, COUNTED_ITEMS),
+            Primitive::LDup => row!(b"LDUP", 1, Stack, COUNTED_ITEMS),
+            Primitive::PopN => row!(b"POPN", 1, Stack, COUNTED_ITEMS),
+            Primitive::Reverse => row!(b"REVERSE", 1, Stack, COUNTED_ITEMS),
+            Primitive::Depth => row!(b"DEPTH", 1, Stack, NOTHING),
+            Primitive::OpenMark => row!(b"{", 1, Stack, NOTHING),
+            Primitive::CloseMark => row!(b"}", 1, Stack, NOTHING),
+            Primitive::Fetch => row!(b"@", 1, Stack, A_VARIABLE),
+            Primitive::Store => row!(b"!", 1, Stack, VARIABLE_AND_ITEM),
+            Primitive::IsInt => row!(b"INT?", 1, Stack, ITEM),
+            Primitive::IsString => row!(b"STRING?", 1, Stack, ITEM),
+            Primitive::IsDbref => row!(b"DBREF?", 1, Stack, ITEM),
+            Primitive::IsArray => row!(b"ARRAY?", 1, Stack, ITEM),
+            Primitive::IsDictionary => row!(b"DICTIONARY?", 1, Stack, ITEM),
+            Primitive::IsAddress => row!(b"ADDRESS?", 1, Stack, ITEM),
+            Primitive::IsLock => row!(b"LOCK?", 1, Stack, ITEM),
+            Primitive::Execute => row!(b"EXECUTE", 1, Stack, AN_ADDRESS),
+            Primitive::Abort => row!(b"ABORT", 1, Stack, A_TEXT),
+            Primitive::Add => row!(b"+", 1, Number, TWO_INTS),
+            Primitive::Subtract => row!(b"-", 1, Number, TWO_INTS),
+            Primitive::Multiply => row!(b"*", 1, Number, TWO_INTS),
+            Primitive::Divide => row!(b"/", 1, Number, TWO_INTS),
+            Primitive::Modulo => row!(b"%", 1, Number, TWO_INTS),
+            Primitive::Increment => row!(b"++", 1, Number, AN_INT),
+            Primitive::Decrement => row!(b"--", 1, Number, AN_INT),
+            Primitive::Abs => row!(b"ABS", 1, Number, AN_INT),
+            Primitive::Sign => row!(b"SIGN", 1, Number, AN_INT),
+            Primitive::BitOr => row!(b"BITOR", 1, Number, TWO_INTS),
+            Primitive::BitAnd => row!(b"BITAND", 1, Number, TWO_INTS),
+            Primitive::BitXor => row!(b"BITXOR", 1, Number, TWO_INTS),
+            Primitive::BitShift => row!(b"BITSHIFT", 1, Number, TWO_INTS),
+            Primitive::Equal => row!(b"=", 1, Number, TWO_ALIKE),
+            Primitive::Unequal => row!(b"!=", 1, Number, TWO_ALIKE),
+            Primitive::Less => row!(b"<", 1, Number, TWO_ALIKE),
+            Primitive::Greater => row!(b">", 1, Number, TWO_ALIKE),
+            Primitive::LessEqual => row!(b"<=", 1, Number, TWO_ALIKE),
+            Primitive::GreaterEqual => row!(b">=", 1, Number, TWO_ALIKE),
+            Primitive::Not => row!(b"NOT", 1, Number, ITEM),
+            Primitive::And => row!(b"AND", 1, Number, TWO_ITEMS),
+            Primitive::Or => row!(b"OR", 1, Number, TWO_ITEMS),
+            Primitive::Xor => row!(b"XOR", 1, Number, TWO_ITEMS),
+            Primitive::ToInt => row!(b"INT", 1, Number, A_NUMBERED),
+            Primitive::ToDbref => row!(b"DBREF", 1, Number, AN_INT),
+            Primitive::DbCmp => row!(b"DBCMP", 1, Number, TWO_OBJECTS),
+            Primitive::StrCat => row!(b"STRCAT", 1, Text, TWO_TEXTS),
+            Primitive::StrCmp => row!(b"STRCMP", 1, Text, None),
+            Primitive::StringCmp => row!(b"STRINGCMP", 1, Text, None),
+            Primitive::StrNCmp => row!(b"STRNCMP", 1, Text, None),
+            Primitive::StrLen => row!(b"STRLEN", 1, Text, None),
+            Primitive::StrCut => row!(b"STRCUT", 1, Text, None),
+            Primitive::MidStr => row!(b"MIDSTR", 1, Text, None),
+            Primitive::InStr => row!(b"INSTR", 1, Text, None),
+            Primitive::RInStr => row!(b"RINSTR", 1, Text, None),
+            Primitive::InString => row!(b"INSTRING", 1, Text, None),
+            Primitive::RInString => row!(b"RINSTRING", 1, Text, None),
+            Primitive::Explode => row!(b"EXPLODE", 1, Text, None),
+            Primitive::Split => row!(b"SPLIT", 1, Text, None),
+            Primitive::RSplit => row!(b"RSPLIT", 1, Text, None),
+            Primitive::Subst => row!(b"SUBST", 1, Text, None),
+            Primitive::ToUpper => row!(b"TOUPPER", 1, Text, None),
+            Primitive::ToLower => row!(b"TOLOWER", 1, Text, None),
+            Primitive::StripLead => row!(b"STRIPLEAD", 1, Text, None),
+            Primitive::StripTail => row!(b"STRIPTAIL", 1, Text, None),
+            Primitive::AToI => row!(b"ATOI", 1, Text, None),
+            Primitive::IntToStr => row!(b"INTOSTR", 1, Text, INT_OR_OBJECT),
+            Primitive::CharToInt => row!(b"CTOI", 1, Text, None),
+            Primitive::IntToChar => row!(b"ITOC", 1, Text, None),
+            Primitive::ArrayMake => row!(b"ARRAY_MAKE", 1, Array, None),
+            Primitive::ArrayMakeDict => row!(b"ARRAY_MAKE_DICT", 1, Array, None),
+            Primitive::ArrayCount => row!(b"ARRAY_COUNT", 1, Array, None),
+            Primitive::ArrayGetItem => row!(b"ARRAY_GETITEM", 1, Array, None),
+            Primitive::ArraySetItem => row!(b"ARRAY_SETITEM", 1, Array, None),
+            Primitive::ArrayInsertItem => row!(b"ARRAY_INSERTITEM", 1, Array, None),
+            Primitive::ArrayAppendItem => row!(b"ARRAY_APPENDITEM", 1, Array, None),
+            Primitive::ArrayDelItem => row!(b"ARRAY_DELITEM", 1, Array, None),
+            Primitive::ArrayFirst => row!(b"ARRAY_FIRST", 1, Array, None),
+            Primitive::ArrayNext => row!(b"ARRAY_NEXT", 1, Array, None),
+            Primitive::ArrayKeys => row!(b"ARRAY_KEYS", 1, Array, None),
+            Primitive::ArrayVals => row!(b"ARRAY_VALS", 1, Array, None),
+            Primitive::ArrayExplode => row!(b"ARRAY_EXPLODE", 1, Array, None),
+            Primitive::ArrayJoin => row!(b"ARRAY_JOIN", 1, Array, None),
+            _ => self.shared_row(),
+        }
+    }
+
+    // The row of one that needs the world.
+    #[inline(always)]
+    fn shared_row(self) -> Row
+        requires { is_local self ≡ false }
+        ensures { shown_row result ≡ row_of self }
+    {
+        match self {
+            Primitive::Name => row!(b"NAME", 1, Object, None),
+            Primitive::Owner => row!(b"OWNER", 1, Object, None),
+            Primitive::Location => row!(b"LOCATION", 1, Object, None),
+            Primitive::Contents => row!(b"CONTENTS", 1, Object, None),
+            Primitive::Exits => row!(b"EXITS", 1, Object, None),
+            Primitive::Next => row!(b"NEXT", 1, Object, None),
+            Primitive::IsOk => row!(b"OK?", 1, Object, None),
+            Primitive::IsPlayer => row!(b"PLAYER?", 1, Object, None),
+            Primitive::IsThing => row!(b"THING?", 1, Object, None),
+            Primitive::IsRoom => row!(b"ROOM?", 1, Object, None),
+            Primitive::IsExit => row!(b"EXIT?", 1, Object, None),
+            Primitive::IsProgram => row!(b"PROGRAM?", 1, Object, None),
+            Primitive::Match => row!(b"MATCH", 1, Object, None),
+            Primitive::PMatch => row!(b"PMATCH", 1, Object, None),
+            Primitive::MoveTo => row!(b"MOVETO", 1, Object, None),
+            Primitive::SetName => row!(b"SETNAME", 2, Object, None),
+            Primitive::Set => row!(b"SET", 2, Object, None),
+            Primitive::HasFlag => row!(b"FLAG?", 1, Object, None),
+            Primitive::MLevel => row!(b"MLEVEL", 1, Object, None),
+            Primitive::GetLink => row!(b"GETLINK", 1, Object, None),
+            Primitive::SetLink => row!(b"SETLINK", 2, Object, None),
+            Primitive::NewRoom => row!(b"NEWROOM", 2, Object, None),
+            Primitive::NewObject => row!(b"NEWOBJECT", 2, Object, None),
+            Primitive::NewExit => row!(b"NEWEXIT", 2, Object, None),
+            Primitive::Recycle => row!(b"RECYCLE", 3, Object, None),
+            Primitive::SetOwn => row!(b"SETOWN", 2, Object, None),
+            Primitive::Controls => row!(b"CONTROLS", 1, Object, None),
+            Primitive::GetLockStr => row!(b"GETLOCKSTR", 1, Object, None),
+            Primitive::SetLockStr => row!(b"SETLOCKSTR", 2, Object, None),
+            Primitive::ParseLock => row!(b"PARSELOCK", 1, Object, None),
+            Primitive::UnparseLock => row!(b"UNPARSELOCK", 1, Object, None),
+            Primitive::TestLock => row!(b"TESTLOCK", 1, Object, None),
+            Primitive::UnparseObj => row!(b"UNPARSEOBJ", 1, Object, None),
+            Primitive::DbTop => row!(b"DBTOP", 1, Object, None),
+            Primitive::GetProp => row!(b"GETPROP", 1, Property, None),
+            Primitive::GetPropStr => row!(b"GETPROPSTR", 1, Property, None),
+            Primitive::GetPropVal => row!(b"GETPROPVAL", 1, Property, None),
+            Primitive::SetProp => row!(b"SETPROP", 1, Property, None),
+            Primitive::AddProp => row!(b"ADDPROP", 1, Property, None),
+            Primitive::RemoveProp => row!(b"REMOVE_PROP", 1, Property, None),
+            Primitive::NextProp => row!(b"NEXTPROP", 1, Property, None),
+            Primitive::IsPropDir => row!(b"PROPDIR?", 1, Property, None),
+            Primitive::EnvProp => row!(b"ENVPROP", 1, Property, None),
+            Primitive::EnvPropStr => row!(b"ENVPROPSTR", 1, Property, None),
+            Primitive::ParseMpi => row!(b"PARSEMPI", 3, Property, None),
+            Primitive::Notify => row!(b"NOTIFY", 1, Talk, TEXT_FOR_ONE_NEAR),
+            Primitive::NotifyExclude => row!(b"NOTIFY_EXCLUDE", 1, Talk, None),
+            Primitive::IsAwake => row!(b"AWAKE?", 1, Talk, None),
+            Primitive::Online => row!(b"ONLINE", 3, Talk, None),
+            Primitive::ConCount => row!(b"CONCOUNT", 1, Talk, None),
+            Primitive::ConDbref => row!(b"CONDBREF", 3, Talk, None),
+            Primitive::Descriptors => row!(b"DESCRIPTORS", 3, Talk, None),
+            Primitive::Descr => row!(b"DESCR", 1, Talk, None),
+            Primitive::ConBoot => row!(b"CONBOOT", 4, Talk, None),
+            Primitive::Call => row!(b"CALL", 1, Process, ONE_THERE),
+            Primitive::Fork => row!(b"FORK", 3, Process, None),
+            Primitive::Sleep => row!(b"SLEEP", 1, Process, None),
+            Primitive::Read => row!(b"READ", 1, Process, None),
+            Primitive::Kill => row!(b"KILL", 3, Process, None),
+            Primitive::Pid => row!(b"PID", 1, Process, None),
+            Primitive::IsPid => row!(b"ISPID?", 1, Process, None),
+            Primitive::Queue => row!(b"QUEUE", 3, Process, None),
+            Primitive::Mode => row!(b"MODE", 1, Process, None),
+            Primitive::SetMode => row!(b"SETMODE", 1, Process, None),
+            Primitive::Preempt => row!(b"PREEMPT", 1, Process, None),
+            Primitive::Foreground => row!(b"FOREGROUND", 1, Process, None),
+            Primitive::Background => row!(b"BACKGROUND", 1, Process, None),
+            Primitive::SysTime => row!(b"SYSTIME", 1, Process, None),
+            Primitive::Random => row!(b"RANDOM", 1, Process, None),
+            Primitive::EventSend => row!(b"EVENT_SEND", 3, Process, None),
+            Primitive::EventWait => row!(b"EVENT_WAIT", 1, Process, None),
+            Primitive::EventCount => row!(b"EVENT_COUNT", 1, Process, None),
+            Primitive::Prog => row!(b"PROG", 1, Process, None),
+            Primitive::Trig => row!(b"TRIG", 1, Process, None),
+            Primitive::Caller => row!(b"CALLER", 1, Process, None),
+            Primitive::Cmd => row!(b"CMD", 1, Process, None),
+            _ => unreachable!(),
+        }
+    }
+
     /// The level that a program needs to use it.
     pub fn level(self) -> u8
         ensures { result ≡ level_of self }
     {
-        match self {
-            Primitive::SetName
-            | Primitive::Set
-            | Primitive::SetLink
-            | Primitive::NewRoom
-            | Primitive::NewObject
-            | Primitive::NewExit
-            | Primitive::SetOwn
-            | Primitive::SetLockStr => 2,
-            Primitive::Recycle
-            | Primitive::ParseMpi
-            | Primitive::Online
-            | Primitive::ConDbref
-            | Primitive::Descriptors
-            | Primitive::Fork
-            | Primitive::Kill
-            | Primitive::Queue
-            | Primitive::EventSend => 3,
-            Primitive::ConBoot => 4,
-            _ => 1,
-        }
+        self.row().level
     }
 
     /// What it works on.
     pub fn family(self) -> Family
         ensures { result ≡ family_of self }
     {
-        match self {
-            Primitive::Pop
-            | Primitive::Dup
-            | Primitive::DupTrue
-            | Primitive::Swap
-            | Primitive::Over
-            | Primitive::Rot
-            | Primitive::Rotate
-            | Primitive::Pick
-            | Primitive::Put
-            | Primitive::Nip
-            | Primitive::Tuck
-            | Primitive::DupN
-            | Primitive::LDup
-            | Primitive::PopN
-            | Primitive::Reverse
-            | Primitive::Depth
-            | Primitive::OpenMark
-            | Primitive::CloseMark => Family::Stack,
-            Primitive::Fetch
-            | Primitive::Store
-            | Primitive::IsInt
-            | Primitive::IsString
-            | Primitive::IsDbref
-            | Primitive::IsArray
-            | Primitive::IsDictionary
-            | Primitive::IsAddress
-            | Primitive::IsLock
-            | Primitive::Execute
-            | Primitive::Abort => Family::Stack,
-            Primitive::Add
-            | Primitive::Subtract
-            | Primitive::Multiply
-            | Primitive::Divide
-            | Primitive::Modulo
-            | Primitive::Increment
-            | Primitive::Decrement
-            | Primitive::Abs
-            | Primitive::Sign
-            | Primitive::BitOr
-            | Primitive::BitAnd
-            | Primitive::BitXor
-            | Primitive::BitShift
-            | Primitive::Equal
-            | Primitive::Unequal
-            | Primitive::Less
-            | Primitive::Greater
-            | Primitive::LessEqual
-            | Primitive::GreaterEqual
-            | Primitive::Not
-            | Primitive::And
-            | Primitive::Or
-            | Primitive::Xor
-            | Primitive::ToInt
-            | Primitive::ToDbref
-            | Primitive::DbCmp => Family::Number,
-            Primitive::StrCat
-            | Primitive::StrCmp
-            | Primitive::StringCmp
-            | Primitive::StrNCmp
-            | Primitive::StrLen
-            | Primitive::StrCut
-            | Primitive::MidStr
-            | Primitive::InStr
-            | Primitive::RInStr
-            | Primitive::InString
-            | Primitive::RInString
-            | Primitive::Explode
-            | Primitive::Split
-            | Primitive::RSplit
-            | Primitive::Subst
-            | Primitive::ToUpper
-            | Primitive::ToLower
-            | Primitive::StripLead
-            | Primitive::StripTail
-            | Primitive::AToI
-            | Primitive::IntToStr
-            | Primitive::CharToInt
-            | Primitive::IntToChar => Family::Text,
-            Primitive::ArrayMake
-            | Primitive::ArrayMakeDict
-            | Primitive::ArrayCount
-            | Primitive::ArrayGetItem
-            | Primitive::ArraySetItem
-            | Primitive::ArrayInsertItem
-            | Primitive::ArrayAppendItem
-            | Primitive::ArrayDelItem
-            | Primitive::ArrayFirst
-            | Primitive::ArrayNext
-            | Primitive::ArrayKeys
-            | Primitive::ArrayVals
-            | Primitive::ArrayExplode
-            | Primitive::ArrayJoin => Family::Array,
-            Primitive::Name
-            | Primitive::Owner
-            | Primitive::Location
-            | Primitive::Contents
-            | Primitive::Exits
-            | Primitive::Next
-            | Primitive::IsOk
-            | Primitive::IsPlayer
-            | Primitive::IsThing
-            | Primitive::IsRoom
-            | Primitive::IsExit
-            | Primitive::IsProgram
-            | Primitive::Match
-            | Primitive::PMatch
-            | Primitive::MoveTo
-            | Primitive::SetName
-            | Primitive::Set
-            | Primitive::HasFlag => Family::Object,
-            Primitive::MLevel
-            | Primitive::GetLink
-            | Primitive::SetLink
-            | Primitive::NewRoom
-            | Primitive::NewObject
-            | Primitive::NewExit
-            | Primitive::Recycle
-            | Primitive::SetOwn
-            | Primitive::Controls
-            | Primitive::GetLockStr
-            | Primitive::SetLockStr
-            | Primitive::ParseLock
-            | Primitive::UnparseLock
-            | Primitive::TestLock
-            | Primitive::UnparseObj
-            | Primitive::DbTop => Family::Object,
-            Primitive::GetProp
-            | Primitive::GetPropStr
-            | Primitive::GetPropVal
-            | Primitive::SetProp
-            | Primitive::AddProp
-            | Primitive::RemoveProp
-            | Primitive::NextProp
-            | Primitive::IsPropDir
-            | Primitive::EnvProp
-            | Primitive::EnvPropStr
-            | Primitive::ParseMpi => Family::Property,
-            Primitive::Notify
-            | Primitive::NotifyExclude
-            | Primitive::IsAwake
-            | Primitive::Online
-            | Primitive::ConCount
-            | Primitive::ConDbref
-            | Primitive::Descriptors
-            | Primitive::Descr
-            | Primitive::ConBoot => Family::Talk,
-            Primitive::Call
-            | Primitive::Fork
-            | Primitive::Sleep
-            | Primitive::Read
-            | Primitive::Kill
-            | Primitive::Pid
-            | Primitive::IsPid
-            | Primitive::Queue
-            | Primitive::Mode
-            | Primitive::SetMode
-            | Primitive::Preempt
-            | Primitive::Foreground
-            | Primitive::Background
-            | Primitive::SysTime
-            | Primitive::Random
-            | Primitive::EventSend
-            | Primitive::EventWait
-            | Primitive::EventCount
-            | Primitive::Prog
-            | Primitive::Trig
-            | Primitive::Caller
-            | Primitive::Cmd => Family::Process,
-        }
+        self.row().family
     }
 
     /// Whether it needs the stack and the variables alone, and no world.
@@ -570,197 +602,41 @@ impl Primitive {
         )
     }
 
+    /// What it needs on the stack; `None` exactly where it isn't there yet.
+    pub fn needs(self) -> Option<Needs>
+        ensures { option_map shown_needs result ≡ needs_of self }
+    {
+        self.row().needs
+    }
+
     /// Whether programs may use it so far; a program that names another one doesn't compile.
     pub fn is_there(self) -> bool
         ensures { result ≡ is_there self }
     {
-        match self {
-            Primitive::StrCat | Primitive::IntToStr | Primitive::Notify | Primitive::Call => true,
-            _ => matches!(self.family(), Family::Stack | Family::Number),
-        }
+        self.needs().is_some()
     }
 
     /// Its name, in capitals.
     pub fn name(self) -> &'static [u8]
         ensures { result.now ≡ name_of self }
     {
-        match self {
-            Primitive::Pop => b"POP",
-            Primitive::Dup => b"DUP",
-            Primitive::DupTrue => b"?DUP",
-            Primitive::Swap => b"SWAP",
-            Primitive::Over => b"OVER",
-            Primitive::Rot => b"ROT",
-            Primitive::Rotate => b"ROTATE",
-            Primitive::Pick => b"PICK",
-            Primitive::Put => b"PUT",
-            Primitive::Nip => b"NIP",
-            Primitive::Tuck => b"TUCK",
-            Primitive::DupN => b"DUPN",
-            Primitive::LDup => b"LDUP",
-            Primitive::PopN => b"POPN",
-            Primitive::Reverse => b"REVERSE",
-            Primitive::Depth => b"DEPTH",
-            Primitive::OpenMark => b"{",
-            Primitive::CloseMark => b"}",
-            Primitive::Fetch => b"@",
-            Primitive::Store => b"!",
-            Primitive::IsInt => b"INT?",
-            Primitive::IsString => b"STRING?",
-            Primitive::IsDbref => b"DBREF?",
-            Primitive::IsArray => b"ARRAY?",
-            Primitive::IsDictionary => b"DICTIONARY?",
-            Primitive::IsAddress => b"ADDRESS?",
-            Primitive::IsLock => b"LOCK?",
-            Primitive::Execute => b"EXECUTE",
-            Primitive::Abort => b"ABORT",
-            Primitive::Add => b"+",
-            Primitive::Subtract => b"-",
-            Primitive::Multiply => b"*",
-            Primitive::Divide => b"/",
-            Primitive::Modulo => b"%",
-            Primitive::Increment => b"++",
-            Primitive::Decrement => b"--",
-            Primitive::Abs => b"ABS",
-            Primitive::Sign => b"SIGN",
-            Primitive::BitOr => b"BITOR",
-            Primitive::BitAnd => b"BITAND",
-            Primitive::BitXor => b"BITXOR",
-            Primitive::BitShift => b"BITSHIFT",
-            Primitive::Equal => b"=",
-            Primitive::Unequal => b"!=",
-            Primitive::Less => b"<",
-            Primitive::Greater => b">",
-            Primitive::LessEqual => b"<=",
-            Primitive::GreaterEqual => b">=",
-            Primitive::Not => b"NOT",
-            Primitive::And => b"AND",
-            Primitive::Or => b"OR",
-            Primitive::Xor => b"XOR",
-            Primitive::ToInt => b"INT",
-            Primitive::ToDbref => b"DBREF",
-            Primitive::DbCmp => b"DBCMP",
-            Primitive::StrCat => b"STRCAT",
-            Primitive::StrCmp => b"STRCMP",
-            Primitive::StringCmp => b"STRINGCMP",
-            Primitive::StrNCmp => b"STRNCMP",
-            Primitive::StrLen => b"STRLEN",
-            Primitive::StrCut => b"STRCUT",
-            Primitive::MidStr => b"MIDSTR",
-            Primitive::InStr => b"INSTR",
-            Primitive::RInStr => b"RINSTR",
-            Primitive::InString => b"INSTRING",
-            Primitive::RInString => b"RINSTRING",
-            Primitive::Explode => b"EXPLODE",
-            Primitive::Split => b"SPLIT",
-            Primitive::RSplit => b"RSPLIT",
-            Primitive::Subst => b"SUBST",
-            Primitive::ToUpper => b"TOUPPER",
-            Primitive::ToLower => b"TOLOWER",
-            Primitive::StripLead => b"STRIPLEAD",
-            Primitive::StripTail => b"STRIPTAIL",
-            Primitive::AToI => b"ATOI",
-            Primitive::IntToStr => b"INTOSTR",
-            Primitive::CharToInt => b"CTOI",
-            Primitive::IntToChar => b"ITOC",
-            Primitive::ArrayMake => b"ARRAY_MAKE",
-            Primitive::ArrayMakeDict => b"ARRAY_MAKE_DICT",
-            Primitive::ArrayCount => b"ARRAY_COUNT",
-            Primitive::ArrayGetItem => b"ARRAY_GETITEM",
-            Primitive::ArraySetItem => b"ARRAY_SETITEM",
-            Primitive::ArrayInsertItem => b"ARRAY_INSERTITEM",
-            Primitive::ArrayAppendItem => b"ARRAY_APPENDITEM",
-            Primitive::ArrayDelItem => b"ARRAY_DELITEM",
-            Primitive::ArrayFirst => b"ARRAY_FIRST",
-            Primitive::ArrayNext => b"ARRAY_NEXT",
-            Primitive::ArrayKeys => b"ARRAY_KEYS",
-            Primitive::ArrayVals => b"ARRAY_VALS",
-            Primitive::ArrayExplode => b"ARRAY_EXPLODE",
-            Primitive::ArrayJoin => b"ARRAY_JOIN",
-            Primitive::Name => b"NAME",
-            Primitive::Owner => b"OWNER",
-            Primitive::Location => b"LOCATION",
-            Primitive::Contents => b"CONTENTS",
-            Primitive::Exits => b"EXITS",
-            Primitive::Next => b"NEXT",
-            Primitive::IsOk => b"OK?",
-            Primitive::IsPlayer => b"PLAYER?",
-            Primitive::IsThing => b"THING?",
-            Primitive::IsRoom => b"ROOM?",
-            Primitive::IsExit => b"EXIT?",
-            Primitive::IsProgram => b"PROGRAM?",
-            Primitive::Match => b"MATCH",
-            Primitive::PMatch => b"PMATCH",
-            Primitive::MoveTo => b"MOVETO",
-            Primitive::SetName => b"SETNAME",
-            Primitive::Set => b"SET",
-            Primitive::HasFlag => b"FLAG?",
-            Primitive::MLevel => b"MLEVEL",
-            Primitive::GetLink => b"GETLINK",
-            Primitive::SetLink => b"SETLINK",
-            Primitive::NewRoom => b"NEWROOM",
-            Primitive::NewObject => b"NEWOBJECT",
-            Primitive::NewExit => b"NEWEXIT",
-            Primitive::Recycle => b"RECYCLE",
-            Primitive::SetOwn => b"SETOWN",
-            Primitive::Controls => b"CONTROLS",
-            Primitive::GetLockStr => b"GETLOCKSTR",
-            Primitive::SetLockStr => b"SETLOCKSTR",
-            Primitive::ParseLock => b"PARSELOCK",
-            Primitive::UnparseLock => b"UNPARSELOCK",
-            Primitive::TestLock => b"TESTLOCK",
-            Primitive::UnparseObj => b"UNPARSEOBJ",
-            Primitive::DbTop => b"DBTOP",
-            Primitive::GetProp => b"GETPROP",
-            Primitive::GetPropStr => b"GETPROPSTR",
-            Primitive::GetPropVal => b"GETPROPVAL",
-            Primitive::SetProp => b"SETPROP",
-            Primitive::AddProp => b"ADDPROP",
-            Primitive::RemoveProp => b"REMOVE_PROP",
-            Primitive::NextProp => b"NEXTPROP",
-            Primitive::IsPropDir => b"PROPDIR?",
-            Primitive::EnvProp => b"ENVPROP",
-            Primitive::EnvPropStr => b"ENVPROPSTR",
-            Primitive::ParseMpi => b"PARSEMPI",
-            Primitive::Notify => b"NOTIFY",
-            Primitive::NotifyExclude => b"NOTIFY_EXCLUDE",
-            Primitive::IsAwake => b"AWAKE?",
-            Primitive::Online => b"ONLINE",
-            Primitive::ConCount => b"CONCOUNT",
-            Primitive::ConDbref => b"CONDBREF",
-            Primitive::Descriptors => b"DESCRIPTORS",
-            Primitive::Descr => b"DESCR",
-            Primitive::ConBoot => b"CONBOOT",
-            Primitive::Call => b"CALL",
-            Primitive::Fork => b"FORK",
-            Primitive::Sleep => b"SLEEP",
-            Primitive::Read => b"READ",
-            Primitive::Kill => b"KILL",
-            Primitive::Pid => b"PID",
-            Primitive::IsPid => b"ISPID?",
-            Primitive::Queue => b"QUEUE",
-            Primitive::Mode => b"MODE",
-            Primitive::SetMode => b"SETMODE",
-            Primitive::Preempt => b"PREEMPT",
-            Primitive::Foreground => b"FOREGROUND",
-            Primitive::Background => b"BACKGROUND",
-            Primitive::SysTime => b"SYSTIME",
-            Primitive::Random => b"RANDOM",
-            Primitive::EventSend => b"EVENT_SEND",
-            Primitive::EventWait => b"EVENT_WAIT",
-            Primitive::EventCount => b"EVENT_COUNT",
-            Primitive::Prog => b"PROG",
-            Primitive::Trig => b"TRIG",
-            Primitive::Caller => b"CALLER",
-            Primitive::Cmd => b"CMD",
-        }
+        self.row().name
+    }
+
+    /// All of them, in the order of their families. One that needs no world is there exactly where a row says what it does.
+    #[tactic(auto, unfolding(crate::specs::Prims::primitives))]
+    pub fn all() -> &'static [Primitive]
+        ensures value { result.now ≡ primitives }
+        ensures rows { list_all is_settled result.now ≡ true }
+    {
+        &ALL
     }
 
     /// The primitive of a name in capitals; `None` exactly where no primitive has it.
     pub fn named(word: &[u8]) -> Option<Primitive>
         ensures { result ≡ named word.now }
     {
-        all()
+        Primitive::all()
             .iter()
             .copied()
             .find(|primitive| primitive.name() == word)
@@ -771,7 +647,7 @@ impl Primitive {
     pub fn named_in_any_case(word: &[u8]) -> Option<Primitive>
         ensures { result ≡ named_in_any_case word.now }
     {
-        all()
+        Primitive::all()
             .iter()
             .copied()
             .find(|primitive| primitive.is_named(word))
@@ -785,16 +661,8 @@ impl Primitive {
     }
 }
 
-// All of them.
-#[tactic(auto, unfolding(crate::specs::Prims::primitives))]
-fn all() -> &'static [Primitive]
-    ensures { result.now ≡ primitives }
-{
-    &ALL
-}
-
-/// All primitives, in the order of their families.
-pub const ALL: [Primitive; 168] = [
+// All primitives, in the order of their families.
+const ALL: [Primitive; 168] = [
     Primitive::Pop,
     Primitive::Dup,
     Primitive::DupTrue,

@@ -19,7 +19,7 @@ use Rattle.muf_model.specs.Prims.{is_local}
 use Rattle.muf_model.specs.Faults.{text_of, is_final}
 use Rattle.muf_model.specs.Datum.{Datum, int, text, object, variable, address, lock, items, dict, mark}
 use Rattle.muf_model.specs.Measures.{is_true}
-use Rattle.muf_model.specs.Answer.{Answer, gives, stores, calls as calling_answer, refuses, unknown, fitting, too_few, stack_most, variable_at, owned_first, call_first}
+use Rattle.muf_model.specs.Answer.{Answer, gives, stores, calls as calling_answer, refuses, fitting, too_few, stack_most, variable_at, owned_first, call_first}
 use Rattle.muf_model.specs.StackRows.{stored}
 use Rattle.muf_model.specs.Rows.{primitive}
 use Rattle.muf_model.specs.Tree.{Fork, if_word, try_word, begin_word, for_word, each_word, Block, stop, word, when, fork, ring, End, closes, hops, then_block, Definition}
@@ -164,7 +164,6 @@ module _ (code : Code) (codes : List Code) (common vars below : List Datum) (own
   answered_alike (stores v x rest) stack place next end a = store_alike v x (nat_lt v owned_first) (nat_lt v call_first) rest place next end a
   answered_alike (calling_answer w rest) stack place next end a = call_alike w program.tree.words code.words p.words rest place next end a
   answered_alike (refuses f) stack place next end a = refused f stack place next end
-  answered_alike unknown stack place next end a = tt
 
   scope_alike : (stack : List Datum) (place : ℕ) (next : Block) (end : End) → scope_of (length code.words) (flat_at stack common owned below vars program place ns) ≡ source.scope_of (state_at stack common owned vars program next end ms)
   scope_alike stack place next end =

@@ -9,20 +9,21 @@ use Rattle.muf_model.specs.View.{view}
 use Rattle.muf_model.specs.declared.fault.MufFault.TheVariants.{CallsFull, BadType, BadArgument}
 use Rattle.muf_model.specs.Datum.{Datum}
 use Rattle.muf_model.specs.declared.code.Code.{Code}
-use Rattle.muf_model.specs.Answer.{Answer, gives, stores, calls, refuses, unknown, variable_at}
-use Rattle.muf_model.specs.declared.prims.Primitive.{Primitive}
-use Rattle.muf_model.specs.declared.prims.Primitive.TheVariants.{StrCat, IntToStr}
-use Rattle.muf_model.specs.Prims.{is_there}
-use Rattle.muf_model.specs.TextRows.{text_row}
+use Rattle.muf_model.specs.Answer.{Answer, gives, stores, calls, refuses, variable_at}
 use Rattle.muf_model.specs.Source.{Turns}
 use Rattle.muf_model.specs.Flat.{loop, Flat}
 use Rattle.muf_frame.specs.Shown.{locked_by, opened_by}
 use Rattle.muf_frame.specs.Answers.{Became}
 use Rattle.muf_frame.specs.Moves.{scope_of, with_variable}
+use Rattle.muf_frame.proofs.Data.{lowest_data, left_data}
+use Rattle.muf_frame.proofs.Ladders.{used_plain}
+use Rattle.muf_model.proofs.Views.{view_text, view_int}
 use Rattle.muf_run.specs.Machine as machine
 use Rattle.muf_run.specs.Machine.{Next, going}
 
 pub ruleset count_steps = (length-drop)
+
+pub ruleset row_steps = (used_plain, lowest_data, left_data, view_text, view_int, length-map)
 
 none_in : (v : ℕ) (o : Option Datum) (x : Datum) (rest : List Datum) (s : Flat) → is_some o ≡ false → machine.kept_in o v x rest s ≡ machine.fault BadArgument s
 none_in v (Some old) x rest s e = cc
@@ -80,10 +81,3 @@ became_answered code (gives stack) s t h = ap (going 0) h
 became_answered code (stores v x stack) s t h = ap (going 0) h
 became_answered code (calls w stack) s t h = absurd h
 became_answered code (refuses f) s t h = absurd h
-became_answered code unknown s t h = absurd h
-
--- no row says what a primitive of texts does that isn't there
-pub text_not_there : (p : Primitive) (locked : ℕ) (stack : List Datum) → is_there p ≡ false → text_row p locked stack ≡ unknown
-text_not_there StrCat locked stack e = cc
-text_not_there IntToStr locked stack e = cc
-text_not_there _ locked stack e = refl

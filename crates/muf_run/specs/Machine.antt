@@ -15,7 +15,7 @@ use Rattle.muf_model.specs.declared.prims.Primitive.{Primitive as Name}
 use Rattle.muf_model.specs.Prims.{is_local}
 use Rattle.muf_model.specs.Datum.{Datum, int, variable, address, items, dict}
 use Rattle.muf_model.specs.Measures.{is_true}
-use Rattle.muf_model.specs.Answer.{Answer, gives, stores, calls, refuses, unknown, variable_at, stack_most, too_few}
+use Rattle.muf_model.specs.Answer.{Answer, gives, stores, calls, refuses, variable_at, stack_most, too_few}
 use Rattle.muf_model.specs.Rows.{primitive}
 use Rattle.muf_model.specs.Source.{Turns, indices, pairs}
 use Rattle.muf_model.specs.Unit.{calls_most, open_most, constant, has_turn, next_index, numbered, keyed}
@@ -88,7 +88,6 @@ answered code (gives stack) s = going 0 (record s { stack = stack })
 answered code (stores v x stack) s = going 0 (with_variable v x (record s { stack = stack }))
 answered code (calls w stack) s = call (slice_get code.words w) (record s { stack = stack })
 answered code (refuses f) s = fault f s
-answered code unknown s = at_end
 
 -- one more loop or TRY, where there is room
 abbrev pub opening : Flat → Flat → Next

@@ -1,16 +1,12 @@
 // Instructions.
 ghost use Rattle.std.specs.Prelude.{◌≡◌, true, IfOk, slice_get, length};
-ghost use Rattle.muf_model.specs.declared.code.Code.{Code as Codes};
 ghost use Rattle.muf_model.specs.declared.prims.Family.TheVariants as family;
-ghost use Rattle.muf_model.specs.Prims.{family_of, is_local, is_there};
-ghost use Rattle.muf_model.specs.StackRows.{stack_row};
-ghost use Rattle.muf_model.specs.NumberRows.{number_row};
-ghost use Rattle.muf_model.specs.TextRows.{text_row};
+ghost use Rattle.muf_model.specs.Prims.{family_of, is_local};
 ghost use Rattle.muf_model.specs.Rows.{primitive};
 ghost use Rattle.muf_model.specs.View.{view};
 ghost use Rattle.muf_model.specs.Unit.{constant};
 ghost use Rattle.muf_model.specs.Datum.{address};
-ghost use Rattle.muf_frame.specs.Shown.{flat, locked_by};
+ghost use Rattle.muf_frame.specs.Shown.{flat};
 ghost use Rattle.muf_frame.specs.Moves.{scope_of};
 ghost use Rattle.muf_run.specs.Machine as machine;
 ghost use Rattle.muf_run.specs.Machine.{next_of};
@@ -22,7 +18,7 @@ use crate::marks::{end_try, fault, leave_loop, leave_word, next_turn};
 use crate::ran::Ran;
 use muck_model::NoMemory;
 use muf_frame::{Frame, PrimFault};
-use muf_model::{Closer, Code, Family, Instr, Literal, Prim, Value, Word};
+use muf_model::{Closer, Code, Family, Instr, Literal, MufFault, Prim, Value, Word};
 use prim_stack::Done;
 use std::alloc::Global;
 
@@ -43,7 +39,7 @@ fn constant(literal: &Literal) -> Result<Value, NoMemory>
 #[inline(always)]
 fn stack_word(alloc: Global, code: &Code, frame: &mut Frame, prim: Prim) -> Result<Ran, NoMemory>
     requires { family_of prim ≡ family.Stack }
-    ensures { IfOk result (λ ran. next_of ran (flat frame.new) ≡ machine.answered code.now (stack_row prim (scope_of (length code.now.words) (flat frame.old)) (flat frame.old).stack) (flat frame.old)) }
+    ensures { IfOk result (λ ran. next_of ran (flat frame.new) ≡ machine.answered code.now (primitive prim (scope_of (length code.now.words) (flat frame.old)) (flat frame.old).stack) (flat frame.old)) }
 {
     match prim_stack::apply(prim, frame, code.words.len()) {
         Ok(Done::Kept) => Ok(Ran::Going(0)),
@@ -56,9 +52,9 @@ fn stack_word(alloc: Global, code: &Code, frame: &mut Frame, prim: Prim) -> Resu
 // A primitive of numbers.
 #[tactic(auto, using(crate::proofs::Stacks::became_answered))]
 #[inline(always)]
-fn number_word(alloc: Global, frame: &mut Frame, prim: Prim) -> Result<Ran, NoMemory>
+fn number_word(alloc: Global, code: &Code, frame: &mut Frame, prim: Prim) -> Result<Ran, NoMemory>
     requires { family_of prim ≡ family.Number }
-    ensures { IfOk result (λ ran. (code : Codes) → next_of ran (flat frame.new) ≡ machine.answered code (number_row prim (locked_by (flat frame.old).marks) (flat frame.old).stack) (flat frame.old)) }
+    ensures { IfOk result (λ ran. next_of ran (flat frame.new) ≡ machine.answered code.now (primitive prim (scope_of (length code.now.words) (flat frame.old)) (flat frame.old).stack) (flat frame.old)) }
 {
     match prim_math::apply(prim, frame) {
         Ok(()) => Ok(Ran::Going(0)),
@@ -67,12 +63,11 @@ fn number_word(alloc: Global, frame: &mut Frame, prim: Prim) -> Result<Ran, NoMe
     }
 }
 
-// A primitive of texts that is there.
+// A primitive of texts.
 #[tactic(auto, using(crate::proofs::Stacks::became_answered))]
-fn text_word(alloc: Global, frame: &mut Frame, prim: Prim) -> Result<Ran, NoMemory>
-    requires family { family_of prim ≡ family.Text }
-    requires there { is_there prim ≡ true }
-    ensures { IfOk result (λ ran. (code : Codes) → next_of ran (flat frame.new) ≡ machine.answered code (text_row prim (locked_by (flat frame.old).marks) (flat frame.old).stack) (flat frame.old)) }
+fn text_word(alloc: Global, code: &Code, frame: &mut Frame, prim: Prim) -> Result<Ran, NoMemory>
+    requires { family_of prim ≡ family.Text }
+    ensures { IfOk result (λ ran. next_of ran (flat frame.new) ≡ machine.answered code.now (primitive prim (scope_of (length code.now.words) (flat frame.old)) (flat frame.old).stack) (flat frame.old)) }
 {
     match prim_text::apply(alloc, prim, frame) {
         Ok(()) => Ok(Ran::Going(0)),
@@ -139,8 +134,7 @@ fn address(alloc: Global, frame: &mut Frame, word: u32) -> Result<Ran, NoMemory>
     push(alloc, frame, Value::Addr { program, word })
 }
 
-// A local primitive. One that isn't there yet ends the process.
-#[tactic(auto, using(crate::proofs::Stacks::text_not_there))]
+// A primitive that needs no world. No row says yet what one of arrays does.
 #[inline(always)]
 fn primitive(alloc: Global, code: &Code, frame: &mut Frame, prim: Prim) -> Result<Ran, NoMemory>
     requires { is_local prim ≡ true }
@@ -148,10 +142,10 @@ fn primitive(alloc: Global, code: &Code, frame: &mut Frame, prim: Prim) -> Resul
 {
     match prim.family() {
         Family::Stack => stack_word(alloc, code, frame, prim),
-        Family::Number => number_word(alloc, frame, prim),
-        Family::Text if prim.is_there() => text_word(alloc, frame, prim),
-        Family::Text | Family::Array => Ok(Ran::Ended),
-        Family::Object | Family::Property | Family::Talk | Family::Process => Ok(Ran::Ended),
+        Family::Number => number_word(alloc, code, frame, prim),
+        Family::Text => text_word(alloc, code, frame, prim),
+        Family::Array => fault(alloc, frame, MufFault::NotCompiled),
+        Family::Object | Family::Property | Family::Talk | Family::Process => unreachable!(),
     }
 }
 

@@ -4,10 +4,9 @@ ghost use Rattle.muf_model.specs.declared.code.Code.{Code as Codes};
 ghost use Rattle.muf_model.specs.declared.code.Word.TheVariants.{Primitive};
 ghost use Rattle.muf_model.specs.Flat.{Flat};
 ghost use Rattle.muf_model.specs.Datum.{int};
-ghost use Rattle.muf_model.specs.StackRows.{stack_row};
-ghost use Rattle.muf_model.specs.NumberRows.{number_row};
+ghost use Rattle.muf_model.specs.Rows.{primitive};
 ghost use Rattle.muf_model.specs.declared.prims.Primitive.TheVariants.{Pop, Dup, Swap, Add};
-ghost use Rattle.muf_frame.specs.Shown.{flat, locked_by};
+ghost use Rattle.muf_frame.specs.Shown.{flat};
 ghost use Rattle.muf_frame.specs.Moves.{scope_of};
 ghost use Rattle.muf_run.specs.Ends.{UnitEnds};
 ghost use Rattle.muf_run.specs.Machine as machine;
@@ -34,9 +33,9 @@ fn quick_number(frame: &mut Frame, number: i32) -> bool
 
 // POP.
 #[inline(always)]
-#[tactic(auto, using(muf_frame::proofs::Data::data_steps))]
+#[tactic(auto, using(crate::proofs::Stacks::row_steps))]
 fn quick_pop(frame: &mut Frame) -> bool
-    ensures yes { IsTrue result → (code : Codes) → machine.answered code (stack_row Pop (scope_of (length code.words) (flat frame.old)) (flat frame.old).stack) (flat frame.old) ≡ going 0 (flat frame.new) }
+    ensures yes { IsTrue result → (code : Codes) → machine.answered code (primitive Pop (scope_of (length code.words) (flat frame.old)) (flat frame.old).stack) (flat frame.old) ≡ going 0 (flat frame.new) }
     ensures no { IsFalse result → frame.new ≡ frame.old }
 {
     if frame.depth() == 0 {
@@ -48,9 +47,9 @@ fn quick_pop(frame: &mut Frame) -> bool
 
 // DUP of an integer.
 #[inline(always)]
-#[tactic(auto, using(muf_frame::proofs::Data::data_steps))]
+#[tactic(auto, using(crate::proofs::Stacks::row_steps))]
 fn quick_dup(frame: &mut Frame) -> bool
-    ensures yes { IsTrue result → (code : Codes) → machine.answered code (stack_row Dup (scope_of (length code.words) (flat frame.old)) (flat frame.old).stack) (flat frame.old) ≡ going 0 (flat frame.new) }
+    ensures yes { IsTrue result → (code : Codes) → machine.answered code (primitive Dup (scope_of (length code.words) (flat frame.old)) (flat frame.old).stack) (flat frame.old) ≡ going 0 (flat frame.new) }
     ensures no { IsFalse result → frame.new ≡ frame.old }
 {
     if frame.depth() == 0 || frame.len() >= STACK_MOST {
@@ -72,9 +71,9 @@ fn quick_dup(frame: &mut Frame) -> bool
 
 // SWAP.
 #[inline(always)]
-#[tactic(auto, using(muf_frame::proofs::Data::data_steps))]
+#[tactic(auto, using(crate::proofs::Stacks::row_steps))]
 fn quick_swap(frame: &mut Frame) -> bool
-    ensures yes { IsTrue result → (code : Codes) → machine.answered code (stack_row Swap (scope_of (length code.words) (flat frame.old)) (flat frame.old).stack) (flat frame.old) ≡ going 0 (flat frame.new) }
+    ensures yes { IsTrue result → (code : Codes) → machine.answered code (primitive Swap (scope_of (length code.words) (flat frame.old)) (flat frame.old).stack) (flat frame.old) ≡ going 0 (flat frame.new) }
     ensures no { IsFalse result → frame.new ≡ frame.old }
 {
     if frame.depth() < 2 {
@@ -95,9 +94,9 @@ fn quick_swap(frame: &mut Frame) -> bool
 
 // `+` of two integers.
 #[inline(always)]
-#[tactic(auto, using(muf_frame::proofs::Data::data_steps))]
+#[tactic(auto, using(crate::proofs::Stacks::row_steps))]
 fn quick_add(frame: &mut Frame) -> bool
-    ensures yes { IsTrue result → (code : Codes) → machine.answered code (number_row Add (locked_by (flat frame.old).marks) (flat frame.old).stack) (flat frame.old) ≡ going 0 (flat frame.new) }
+    ensures yes { IsTrue result → (code : Codes) → machine.answered code (primitive Add (scope_of (length code.words) (flat frame.old)) (flat frame.old).stack) (flat frame.old) ≡ going 0 (flat frame.new) }
     ensures no { IsFalse result → frame.new ≡ frame.old }
 {
     if frame.depth() < 2 {

@@ -7,7 +7,7 @@ use Rattle.muf_model.specs.Stands.{TreeStands}
 use Rattle.muf_model.specs.Tree.{Tree}
 use Rattle.muf_model.proofs.Unique.{tree_read}
 use Rattle.muf_compile.specs.declared.fault.Refusal.{Refusal}
-use Rattle.muf_compile.specs.Fits.{IsCode}
+use Rattle.muf_compile.specs.inner.Fits.{IsCode}
 
 pub compiled_stands : (tree : Result Tree Refusal) (code : Code) → IsCode tree (Ok code) → TreeStands code (tree_of code)
 compiled_stands (Ok tree) code h = subst (TreeStands code) (sym (tree_read code tree h)) h

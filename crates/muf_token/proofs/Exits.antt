@@ -7,10 +7,10 @@ use Rattle.muf_token.specs.declared.fault.TokenFault.TheVariants.{Refused, NoMem
 use Rattle.muf_token.specs.declared.includes.Definition.{Definition}
 use Rattle.muf_token.specs.declared.place.Place.{Place}
 use Rattle.muf_token.specs.Pieces.{front}
-use Rattle.muf_token.specs.Places.{IsFront}
+use Rattle.muf_token.specs.inner.Places.{IsFront}
 use Rattle.muf_token.specs.Directives.{Spot}
 use Rattle.muf_token.specs.Source.{State}
-use Rattle.muf_token.specs.Readers.{IsRead}
+use Rattle.muf_token.specs.inner.Readers.{IsRead}
 use Rattle.muf_token.proofs.Sources.{words_broken}
 
 fault_read : (lent : Dbref → Option (List Definition)) (s now : State) (spot : Spot) (fault : TokenFault) → IsFront (front None spot.line spot.text) (Err fault) → IsRead lent s spot (Err fault) now

@@ -1,7 +1,7 @@
 -- Where a line ends.
 use Rattle.std.proofs.Common.{◌≡◌, ℕ, ◌+◌, true, not, cond, List, [], ◌∷◌, ◌++◌, length, take, drop, refl, ap, ◌∙◌, arith}
 use Rattle.std.specs.List.{position_or_len}
-use Rattle.muf_token.specs.Bytes.{are_inside}
+use Rattle.muf_token.specs.inner.Bytes.{are_inside}
 use Rattle.muf_token.specs.Pieces.{below}
 use Rattle.muf_token.specs.Directives.{is_line_end, rest_of_line}
 use Rattle.muf_token.proofs.Texts.{inside_head, inside_tail}

@@ -3,7 +3,7 @@ use Rattle.std.proofs.Common.{◌≡◌, ℕ, Bool, true, false, not, eqb, List,
 use Rattle.std.proofs.lemmas.Bool.Decides.{nat_tests}
 use Rattle.std.specs.Option.{option_map}
 use Rattle.muck_model.specs.Bytes.{is_outside}
-use Rattle.muf_token.specs.Bytes.{are_inside}
+use Rattle.muf_token.specs.inner.Bytes.{are_inside}
 use Rattle.muf_token.specs.Pieces.{quoted, below, after_byte, escaped_byte}
 use Rattle.muf_token.proofs.Texts.{inside_append, inside_cons, inside_head, inside_tail}
 

@@ -3,7 +3,7 @@ use Rattle.std.proofs.Common.{◌≡◌, ℕ, ◌≤◌, ◌+◌, Bool, true, fa
 use Rattle.std.proofs.lemmas.Bool.Decides.{nat_tests}
 use Rattle.std.specs.List.{position_or_len}
 use Rattle.muck_model.specs.Bytes.{is_outside, text_fault, fault_of, text_most}
-use Rattle.muf_token.specs.Bytes.{are_inside}
+use Rattle.muf_token.specs.inner.Bytes.{are_inside}
 
 and_left : (a b : Bool) → (a && b) ≡ true → a ≡ true
 and_left true b h = refl

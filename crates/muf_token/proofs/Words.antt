@@ -6,7 +6,7 @@ use Rattle.std.proofs.lemmas.Bool.Decides.{nat_tests}
 use Rattle.std.specs.List.{position, position_or_len}
 use Rattle.std.specs.Char.{to_ascii_lowercase}
 use Rattle.muck_model.specs.Bytes.{is_outside}
-use Rattle.muf_token.specs.Bytes.{are_inside}
+use Rattle.muf_token.specs.inner.Bytes.{are_inside}
 use Rattle.muf_token.specs.declared.piece.Piece.TheVariants.{Word}
 use Rattle.muf_token.specs.Pieces.{is_blank, lowered, below, found, word_found}
 use Rattle.muf_token.proofs.Texts.{inside_head, inside_tail, inside_cons, inside_take, inside_drop}

@@ -1,14 +1,9 @@
 pub mod Branches
-pub mod Bytes
 pub mod Directives
 pub mod Expansion
 pub mod Faults
-pub mod Lenders
 pub mod Numbers
 pub mod Output
 pub mod Pieces
-pub mod Places
-pub mod Readers
-pub mod Rows
 pub mod Source
-pub mod Spots
+pub mod inner

@@ -1,6 +1,6 @@
 // Definitions, as the pieces that they are made of.
 ghost use Rattle.std.specs.Prelude.{◌≡◌, IfOk, ◌≤◌, length, true};
-ghost use Rattle.muf_token.specs.Bytes.{are_inside};
+ghost use Rattle.muf_token.specs.inner.Bytes.{are_inside};
 ghost use Rattle.muf_token.specs.Pieces.{pieces};
 
 use crate::TokenFault;

@@ -1,8 +1,8 @@
 // Directives, and what stands behind them.
 ghost use Rattle.std.specs.Prelude.{◌≡◌, ◌∷◌, [], Some, None, true};
-ghost use Rattle.muf_token.specs.Bytes.{are_inside};
+ghost use Rattle.muf_token.specs.inner.Bytes.{are_inside};
 ghost use Rattle.muf_token.specs.Directives.{directive_of, name_at, body_at, is_enddef, rest_of_line, end_of_line};
-ghost use Rattle.muf_token.specs.Spots.{spot_of, IsName, IsBody};
+ghost use Rattle.muf_token.specs.inner.Spots.{spot_of, IsName, IsBody};
 
 use crate::expansion::is_directive;
 use crate::fault::refused;

@@ -64,7 +64,7 @@ fn copy_defs(alloc: Global, list: &[Definition]) -> Result<DefList, NoMemory>
 
 impl Includes for MemIncludes {
     ghost use Rattle.std.specs.Prelude.{◌≡◌, IfOk};
-    ghost use Rattle.muf_token.specs.Lenders.{lent_by};
+    ghost use Rattle.muf_token.specs.inner.Lenders.{lent_by};
 
     ghost lent = { λ m d. lent_by m d };
 

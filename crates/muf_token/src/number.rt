@@ -1,7 +1,7 @@
 // What a word says by itself.
 ghost use Rattle.std.specs.Prelude.{◌≡◌, IfOk, OnErr, ◌∷◌, ◌++◌, ◌≤◌, ◌<◌, length, min, true};
 ghost use Rattle.std.specs.List.{list_all};
-ghost use Rattle.muf_token.specs.Bytes.{are_inside};
+ghost use Rattle.muf_token.specs.inner.Bytes.{are_inside};
 ghost use Rattle.muf_token.specs.Numbers.{kind_of, amount_of, signed, digits_of, integer_of, is_digit};
 
 use crate::place::text_of;

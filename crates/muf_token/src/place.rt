@@ -1,6 +1,6 @@
 // A place in a text, and the pieces from there on.
 ghost use Rattle.std.specs.Prelude.{drop, ◌≡◌, ℕ, List, ◌+◌, ◌++◌, ◌∷◌, [], ◌≤◌, ◌<◌, Some, None, length, IfOk, IsTrue, ◌↔◌, MatchOption, if◌then◌else◌, ◌==◌, true};
-ghost use Rattle.muf_token.specs.Bytes.{are_inside};
+ghost use Rattle.muf_token.specs.inner.Bytes.{are_inside};
 ghost use Rattle.std.specs.List.{position, position_or_len};
 ghost use Rattle.muf_token.specs.Pieces.{is_blank, escaped_byte, lowered, below, joined, next_line, front, piece_here};
 
@@ -94,7 +94,7 @@ pub(crate) fn lower_text(alloc: Global, word: &[u8]) -> Result<Line, NoMemory>
 
 impl<'a> Place<'a> {
     ghost use Rattle.muf_token.specs.Directives.{is_line_end, rest_of_line};
-    ghost use Rattle.muf_token.specs.Places.{text_at, IsFirst, IsLead, IsWord, IsQuoted, IsFront};
+    ghost use Rattle.muf_token.specs.inner.Places.{text_at, IsFirst, IsLead, IsWord, IsQuoted, IsFront};
 
     /// The first place of a text that is one line.
     #[tactic(auto, using(crate::proofs::Texts::append_none))]

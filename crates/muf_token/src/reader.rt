@@ -7,9 +7,9 @@ ghost use Rattle.muf_token.specs.Directives.{name_at, body_at, directive_of};
 ghost use Rattle.muck_model.specs.declared.dbref.Dbref.{Dbref};
 ghost use Rattle.muf_token.specs.Numbers.{kind_of};
 ghost use Rattle.muf_token.specs.Pieces.{lowered, pieces};
-ghost use Rattle.muf_token.specs.Spots.{spot_of, name_of, IsAnswer};
+ghost use Rattle.muf_token.specs.inner.Spots.{spot_of, name_of, IsAnswer};
 ghost use Rattle.muf_token.specs.Source.{with_definition, def_at, define_at, undef_at, is_defined, with_branch, conditional_at, else_at, endif_at, object_of, with_all, include_at, directed, passed, put_out, taken, skipped, stepped, words_unless, nothing_known};
-ghost use Rattle.muf_token.specs.Readers.{state_of, LeadsTo, IsRead};
+ghost use Rattle.muf_token.specs.inner.Readers.{state_of, LeadsTo, IsRead};
 
 use crate::branch::{Branch, Branches};
 use crate::definition::pieces_of;

@@ -2,7 +2,7 @@
 ghost use Rattle.std.specs.Prelude.{◌≡◌, List};
 ghost use Rattle.muf_token.specs.declared.token.Token.{Token};
 ghost use Rattle.muf_token.specs.Source.{words};
-ghost use Rattle.muf_token.specs.Spots.{IsAnswer};
+ghost use Rattle.muf_token.specs.inner.Spots.{IsAnswer};
 
 use crate::includes::Includes;
 use crate::place::Place;

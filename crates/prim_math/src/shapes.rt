@@ -1,12 +1,14 @@
 // The shapes of the primitives of numbers: what each takes, and that its answer takes its place.
-ghost use Rattle.std.specs.Prelude.{◌≡◌, ℤ, not, slice_get};
+ghost use Rattle.std.specs.Prelude.{◌≡◌, ◌∷◌, [], ℤ, not, slice_get};
 ghost use Rattle.std.specs.Option.{option_and_then};
 ghost use Rattle.muf_model.specs.Measures.{is_true};
 ghost use Rattle.muf_model.specs.NumberRows.{one_int, two_ints, compared, two_truths, number_of, object_of, objects_equal, int_of, int_of_two, compares, joined};
 ghost use Rattle.muf_model.specs.StackRows.{judged};
 ghost use Rattle.muf_model.specs.View.{view};
 ghost use Rattle.muf_frame.specs.Shown.{Shown, flat};
-ghost use Rattle.muf_frame.specs.Answers.{Answered, having};
+ghost use Rattle.muf_frame.specs.Answers.{Used};
+ghost use Rattle.muf_model.specs.Needs.{takes, any, an_int, an_object, int_or_object, numbered};
+ghost use Rattle.muf_model.specs.declared.prims.Primitive.TheVariants.{Not, ToInt, ToDbref, DbCmp};
 ghost use Rattle.prim_math.specs.Alike.{alike, as_number};
 
 use crate::rows::{compares, int_of, int_of_two, joined};
@@ -17,15 +19,11 @@ use muf_model::{MufFault, Prim, Value};
 /// `++`, `--`, ABS and SIGN.
 #[tactic(auto, using(crate::proofs::Taking::int_steps))]
 pub(crate) fn one_int(prim: Prim, frame: &mut Frame) -> Result<(), MufFault>
-    ensures { Answered (having 1 frame.old (one_int (int_of prim) (flat frame.old).stack)) frame.old frame.new result }
+    ensures { Used prim (takes (an_int ∷ [])) (one_int (int_of prim)) frame.old frame.new result }
 {
     frame.need(1)?;
     match frame.int_at(0) {
-        Some(i) => {
-            frame.drop_items(1);
-            frame.push_item(Value::Int(int_of(prim, i)));
-            Ok(())
-        }
+        Some(i) => frame.give(1, Value::Int(int_of(prim, i))),
         None => Err(MufFault::BadType),
     }
 }
@@ -33,16 +31,12 @@ pub(crate) fn one_int(prim: Prim, frame: &mut Frame) -> Result<(), MufFault>
 /// The primitives of two integers, the second one on the top.
 #[tactic(auto, using(crate::proofs::Taking::int_steps))]
 pub(crate) fn two_ints(prim: Prim, frame: &mut Frame) -> Result<(), MufFault>
-    ensures { Answered (having 2 frame.old (two_ints (int_of_two prim) (flat frame.old).stack)) frame.old frame.new result }
+    ensures { Used prim (takes (an_int ∷ an_int ∷ [])) (two_ints (int_of_two prim)) frame.old frame.new result }
 {
     frame.need(2)?;
     match frame.int_at(0) {
         Some(j) => match frame.int_at(1) {
-            Some(i) => {
-                frame.drop_items(2);
-                frame.push_item(Value::Int(int_of_two(prim, i, j)));
-                Ok(())
-            }
+            Some(i) => frame.give(2, Value::Int(int_of_two(prim, i, j))),
             None => Err(MufFault::BadType),
         },
         None => Err(MufFault::BadType),
@@ -72,15 +66,11 @@ fn numbers_alike(frame: &Frame) -> Option<(i32, i32)>
 /// The comparisons, of two integers or two objects, the second one on the top.
 #[tactic(auto, using(crate::proofs::Taking::compare_steps))]
 pub(crate) fn compared(prim: Prim, frame: &mut Frame) -> Result<(), MufFault>
-    ensures { Answered (having 2 frame.old (compared (compares prim) (flat frame.old).stack)) frame.old frame.new result }
+    ensures { Used prim (takes (int_or_object ∷ int_or_object ∷ [])) (compared (compares prim)) frame.old frame.new result }
 {
     frame.need(2)?;
     match numbers_alike(frame) {
-        Some((i, j)) => {
-            frame.drop_items(2);
-            frame.push_item(Value::truth(compares(prim, i, j)));
-            Ok(())
-        }
+        Some((i, j)) => frame.give(2, Value::truth(compares(prim, i, j))),
         None => Err(MufFault::BadType),
     }
 }
@@ -88,7 +78,7 @@ pub(crate) fn compared(prim: Prim, frame: &mut Frame) -> Result<(), MufFault>
 /// NOT.
 #[tactic(auto, using(crate::proofs::Taking::truth_steps))]
 pub(crate) fn negated(frame: &mut Frame) -> Result<(), MufFault>
-    ensures { Answered (having 1 frame.old (judged (λ x. not (is_true x)) (flat frame.old).stack)) frame.old frame.new result }
+    ensures { Used Not (takes (any ∷ [])) (judged (λ x. not (is_true x))) frame.old frame.new result }
 {
     frame.need(1)?;
     match frame.pop_item() {
@@ -103,7 +93,7 @@ pub(crate) fn negated(frame: &mut Frame) -> Result<(), MufFault>
 /// AND, OR and XOR.
 #[tactic(auto, using(crate::proofs::Taking::truth_steps))]
 pub(crate) fn two_truths(prim: Prim, frame: &mut Frame) -> Result<(), MufFault>
-    ensures { Answered (having 2 frame.old (two_truths (joined prim) (flat frame.old).stack)) frame.old frame.new result }
+    ensures { Used prim (takes (any ∷ any ∷ [])) (two_truths (joined prim)) frame.old frame.new result }
 {
     frame.need(2)?;
     match frame.pop_item() {
@@ -145,15 +135,11 @@ fn number_at_top(frame: &Frame) -> Option<i32>
 /// INT.
 #[tactic(auto, using(crate::proofs::Taking::kind_steps))]
 pub(crate) fn to_int(frame: &mut Frame) -> Result<(), MufFault>
-    ensures { Answered (having 1 frame.old (number_of (flat frame.old).stack)) frame.old frame.new result }
+    ensures { Used ToInt (takes (numbered ∷ [])) number_of frame.old frame.new result }
 {
     frame.need(1)?;
     match number_at_top(frame) {
-        Some(i) => {
-            frame.drop_items(1);
-            frame.push_item(Value::Int(i));
-            Ok(())
-        }
+        Some(i) => frame.give(1, Value::Int(i)),
         None => Err(MufFault::BadType),
     }
 }
@@ -161,15 +147,11 @@ pub(crate) fn to_int(frame: &mut Frame) -> Result<(), MufFault>
 /// DBREF.
 #[tactic(auto, using(crate::proofs::Taking::kind_steps))]
 pub(crate) fn to_object(frame: &mut Frame) -> Result<(), MufFault>
-    ensures { Answered (having 1 frame.old (object_of (flat frame.old).stack)) frame.old frame.new result }
+    ensures { Used ToDbref (takes (an_int ∷ [])) object_of frame.old frame.new result }
 {
     frame.need(1)?;
     match frame.int_at(0) {
-        Some(i) => {
-            frame.drop_items(1);
-            frame.push_item(Value::Ref(Dbref(i)));
-            Ok(())
-        }
+        Some(i) => frame.give(1, Value::Ref(Dbref(i))),
         None => Err(MufFault::BadType),
     }
 }
@@ -177,16 +159,12 @@ pub(crate) fn to_object(frame: &mut Frame) -> Result<(), MufFault>
 /// DBCMP.
 #[tactic(auto, using(crate::proofs::Taking::kind_steps))]
 pub(crate) fn objects_equal(frame: &mut Frame) -> Result<(), MufFault>
-    ensures { Answered (having 2 frame.old (objects_equal (flat frame.old).stack)) frame.old frame.new result }
+    ensures { Used DbCmp (takes (an_object ∷ an_object ∷ [])) objects_equal frame.old frame.new result }
 {
     frame.need(2)?;
     match frame.object_at(0) {
         Some(j) => match frame.object_at(1) {
-            Some(i) => {
-                frame.drop_items(2);
-                frame.push_item(Value::truth(i.0 == j.0));
-                Ok(())
-            }
+            Some(i) => frame.give(2, Value::truth(i.0 == j.0)),
             None => Err(MufFault::BadType),
         },
         None => Err(MufFault::BadType),

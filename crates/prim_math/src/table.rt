@@ -1,9 +1,10 @@
 // Every primitive of numbers.
-ghost use Rattle.std.specs.Prelude.{◌≡◌};
+ghost use Rattle.std.specs.Prelude.{◌≡◌, ℕ};
 ghost use Rattle.muf_model.specs.declared.prims.Family.TheVariants.{Number};
-ghost use Rattle.muf_model.specs.NumberRows.{number_row};
+ghost use Rattle.muf_model.specs.Rows.{primitive};
 ghost use Rattle.muf_model.specs.Prims.{family_of};
-ghost use Rattle.muf_frame.specs.Shown.{Shown, flat, locked_by};
+ghost use Rattle.muf_frame.specs.Shown.{Shown, flat};
+ghost use Rattle.muf_frame.specs.Moves.{scope_of};
 ghost use Rattle.muf_frame.specs.Answers.{Answered, Applied};
 
 use crate::shapes;
@@ -14,7 +15,7 @@ use muf_model::{MufFault, Prim};
 #[inline(always)]
 fn answer(prim: Prim, frame: &mut Frame) -> Result<(), MufFault>
     requires { family_of prim ≡ Number }
-    ensures { Answered (number_row prim (locked_by (flat frame.old).marks) (flat frame.old).stack) frame.old frame.new result }
+    ensures { (words : ℕ) → Answered (primitive prim (scope_of words (flat frame.old)) (flat frame.old).stack) frame.old frame.new result }
 {
     match prim {
         Prim::Add
@@ -47,7 +48,7 @@ fn answer(prim: Prim, frame: &mut Frame) -> Result<(), MufFault>
 #[inline(always)]
 pub fn apply(prim: Prim, frame: &mut Frame) -> Result<(), PrimFault>
     requires { family_of prim ≡ Number }
-    ensures { Applied (number_row prim (locked_by (flat frame.old).marks) (flat frame.old).stack) frame.old frame.new result }
+    ensures { (words : ℕ) → Applied (primitive prim (scope_of words (flat frame.old)) (flat frame.old).stack) frame.old frame.new result }
 {
     match answer(prim, frame) {
         Ok(()) => Ok(()),

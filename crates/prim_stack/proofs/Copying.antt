@@ -1,10 +1,14 @@
 -- The rows that copy items.
-use Rattle.std.proofs.Common.{length-take, length-drop, true, false, ◌≡◌, ℕ, zero, suc, ◌+◌, ◌-◌, ◌<◌, ◌≤◌, List, [], ◌∷◌, ◌++◌, length, map, take, drop, refl, ap, sym, ◌∙◌, arith, rules}
-use Rattle.std.specs.Prelude.{pos, Option, Some, None, slice_get}
+use Rattle.std.proofs.Common.{length-take, length-drop, Bool, true, false, ◌≡◌, ℕ, zero, suc, ◌+◌, ◌-◌, ◌<◌, ◌≤◌, List, [], ◌∷◌, ◌++◌, length, map, take, drop, refl, ap, sym, ◌∙◌, arith, rules}
+use Rattle.std.specs.Prelude.{if◌then◌else◌, pos, Option, Some, None, slice_get}
 use Rattle.std.proofs.lemmas.List.{length-map, map-append}
 use Rattle.muf_model.specs.Datum.{Datum, int}
 use Rattle.muf_model.specs.Measures.{is_true}
-use Rattle.muf_model.specs.Answer.{gives, fitting}
+use Rattle.muf_model.specs.Answer.{gives, fitting, Scope, makes, needing, put, unless}
+use Rattle.muf_model.specs.declared.prims.Primitive.TheVariants.{Dup, DupTrue, Over, Tuck}
+use Rattle.muf_model.specs.Needs.{any}
+use Rattle.muf_model.specs.Rows.{primitive}
+use Rattle.muf_frame.proofs.Ladders.{kinds, used_plain}
 use Rattle.muf_model.specs.View.{view}
 use Rattle.muf_model.specs.StackRows.{doubled, doubled_true, overed, tucked, picked, doubled_list}
 use Rattle.muf_model.specs.declared.value.Value.{Value}
@@ -18,31 +22,47 @@ abbrev or_else : {A : Type 0} → A → Option A → A
 or_else d (Some x) = x
 or_else d None = d
 
-pub doubled_read : (stack : List Datum) (x : Datum) → slice_get stack 0 ≡ Some x → doubled stack ≡ fitting (x ∷ stack)
+doubled_read : (stack : List Datum) (x : Datum) → slice_get stack 0 ≡ Some x → unless (kinds (any ∷ []) stack) (put 1 (doubled (take 1 stack)) (drop 1 stack)) ≡ fitting (x ∷ stack)
 doubled_read [] x e = absurd (search (rules, e))
 doubled_read (y ∷ rest) x e = ap (λ z. fitting (z ∷ y ∷ rest)) (ap (or_else y) e)
 
-pub doubled_true_read : (stack : List Datum) (x : Datum) → slice_get stack 0 ≡ Some x → true_in (slice_get stack 0) ≡ true → doubled_true stack ≡ fitting (x ∷ stack)
-doubled_true_read [] x e t = absurd (search (rules, e))
-doubled_true_read (y ∷ rest) x e t =
-    let g : is_true y ≡ true = t in
-    rw (g) (ap (λ z. fitting (z ∷ y ∷ rest)) (ap (or_else y) e))
+pub dup_row : (s : Scope) (stack : List Datum) (x : Datum) → slice_get stack 0 ≡ Some x → primitive Dup s stack ≡ needing 1 s.locked stack (fitting (x ∷ stack))
+dup_row s stack x e = used_plain 1 any [] doubled s stack ∙ ap (needing 1 s.locked stack) (doubled_read stack x e)
 
-pub doubled_false_read : (stack : List Datum) → 0 < length stack → true_in (slice_get stack 0) ≡ false → doubled_true stack ≡ gives stack
-doubled_false_read [] h t = absurd (omega (arith, h))
-doubled_false_read (y ∷ rest) h t =
-    let g : is_true y ≡ false = t in
-    rw (g) refl
+doubled_true_read : (b : Bool) (y : Datum) (rest : List Datum) → b ≡ true → put 1 (makes (if b then y ∷ y ∷ [] else y ∷ [])) rest ≡ fitting (y ∷ y ∷ rest)
+doubled_true_read true y rest e = refl
+doubled_true_read false y rest e = absurd (search (rules, e))
 
-pub overed_read : (stack : List Datum) (x : Datum) → slice_get stack 1 ≡ Some x → overed stack ≡ fitting (x ∷ stack)
+doubled_false_read : (b : Bool) (y : Datum) (rest : List Datum) → b ≡ false → put 1 (makes (if b then y ∷ y ∷ [] else y ∷ [])) rest ≡ gives (y ∷ rest)
+doubled_false_read true y rest e = absurd (search (rules, e))
+doubled_false_read false y rest e = refl
+
+pub dup_true_row : (s : Scope) (stack : List Datum) (x : Datum) → slice_get stack 0 ≡ Some x → true_in (slice_get stack 0) ≡ true → primitive DupTrue s stack ≡ needing 1 s.locked stack (fitting (x ∷ stack))
+dup_true_row s [] x e t = absurd (search (rules, e))
+dup_true_row s (y ∷ rest) x e t =
+    used_plain 1 any [] doubled_true s (y ∷ rest)
+    ∙ ap (needing 1 s.locked (y ∷ rest)) (doubled_true_read (is_true y) y rest t ∙ ap (λ z. fitting (z ∷ y ∷ rest)) (ap (or_else y) e))
+
+pub dup_false_row : (s : Scope) (stack : List Datum) → 0 < length stack → true_in (slice_get stack 0) ≡ false → primitive DupTrue s stack ≡ needing 1 s.locked stack (gives stack)
+dup_false_row s [] h t = absurd (omega (arith, h))
+dup_false_row s (y ∷ rest) h t =
+    used_plain 1 any [] doubled_true s (y ∷ rest) ∙ ap (needing 1 s.locked (y ∷ rest)) (doubled_false_read (is_true y) y rest t)
+
+overed_read : (stack : List Datum) (x : Datum) → slice_get stack 1 ≡ Some x → unless (kinds (any ∷ any ∷ []) stack) (put 2 (overed (take 2 stack)) (drop 2 stack)) ≡ fitting (x ∷ stack)
 overed_read [] x e = absurd (search (rules, e))
 overed_read (y ∷ []) x e = absurd (search (rules, e))
 overed_read (y ∷ z ∷ rest) x e = ap (λ w. fitting (w ∷ y ∷ z ∷ rest)) (ap (or_else z) e)
 
-pub tucked_read : (stack : List Datum) (x : Datum) → slice_get stack 0 ≡ Some x → 1 < length stack → tucked stack ≡ fitting (take 2 stack ++ (x ∷ drop 2 stack))
+pub over_row : (s : Scope) (stack : List Datum) (x : Datum) → slice_get stack 1 ≡ Some x → primitive Over s stack ≡ needing 2 s.locked stack (fitting (x ∷ stack))
+over_row s stack x e = used_plain 1 any (any ∷ []) overed s stack ∙ ap (needing 2 s.locked stack) (overed_read stack x e)
+
+tucked_read : (stack : List Datum) (x : Datum) → slice_get stack 0 ≡ Some x → 1 < length stack → unless (kinds (any ∷ any ∷ []) stack) (put 2 (tucked (take 2 stack)) (drop 2 stack)) ≡ fitting (take 2 stack ++ (x ∷ drop 2 stack))
 tucked_read [] x e h = absurd (search (rules, e))
 tucked_read (y ∷ []) x e h = absurd (omega (arith, h))
 tucked_read (y ∷ z ∷ rest) x e h = ap (λ w. fitting (y ∷ z ∷ w ∷ rest)) (ap (or_else y) e)
+
+pub tuck_row : (s : Scope) (stack : List Datum) (x : Datum) → slice_get stack 0 ≡ Some x → 1 < length stack → primitive Tuck s stack ≡ needing 2 s.locked stack (fitting (take 2 stack ++ (x ∷ drop 2 stack)))
+tuck_row s stack x e h = used_plain 1 any (any ∷ []) tucked s stack ∙ ap (needing 2 s.locked stack) (tucked_read stack x e h)
 
 pub tucked_data : (x : Value) (xs : List Value) → map view (take 2 xs ++ (x ∷ drop 2 xs)) ≡ take 2 (map view xs) ++ (view x ∷ drop 2 (map view xs))
 tucked_data x xs = map-append view (take 2 xs) (x ∷ drop 2 xs) ∙ ap (λ a. a ++ map view (x ∷ drop 2 xs)) (map_take view 2 xs) ∙ ap (λ b. take 2 (map view xs) ++ (view x ∷ b)) (map_drop view 2 xs)
@@ -98,9 +118,9 @@ listed_read (int i ∷ rest) n e =
     rw (g, k) refl
 listed_read (y ∷ rest) n e = absurd (search (rules, e))
 
-pub ruleset copy_steps = (doubled_read, doubled_true_read, doubled_false_read, overed_read, length-map)
+pub ruleset copy_steps = (dup_row, dup_true_row, dup_false_row, over_row, length-map)
 
-pub ruleset tuck_steps = (tucked_read, tucked_data, length-map)
+pub ruleset tuck_steps = (tuck_row, tucked_data, length-map)
 
 pub ruleset pick_steps = (picked_read, map_drop, length-map)
 

@@ -1,3 +1,4 @@
+pub mod Counts
 pub mod Tops
 pub mod Copying
 pub mod Naming

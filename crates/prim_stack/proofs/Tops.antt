@@ -9,26 +9,21 @@ use Rattle.muf_model.specs.View.{view}
 use Rattle.muf_model.specs.StackRows.{is_mark, above, rotated, rotated_up, rotated_down, put_at}
 use Rattle.muf_model.specs.declared.fault.MufFault.TheVariants.{BadType, BadArgument}
 use Rattle.muf_model.specs.Datum.{Datum, int}
-use Rattle.muf_model.specs.Answer.{Answer, gives, refuses, needing, by_count}
+use Rattle.muf_model.specs.Answer.{Answer, gives, refuses, needing, Scope, unless}
 use Rattle.muf_model.proofs.Views.{view_int, view_mark}
 use Rattle.muf_frame.specs.Answers.{int_at}
 use Rattle.prim_stack.specs.Does.{mark_in}
 use Rattle.muf_frame.proofs.Data.{map_take, map_drop}
 use Rattle.muf_frame.proofs.Alike.{map_reverse}
+use Rattle.muf_frame.proofs.Ladders.{kinds, used_plain, used_whole}
+use Rattle.muf_model.specs.declared.prims.Primitive.TheVariants.{Rotate}
+use Rattle.muf_model.specs.Needs.{an_int}
+use Rattle.muf_model.specs.Rows.{primitive}
+use Rattle.prim_stack.proofs.Counts.{counted_used}
 
-abbrev count_read : ℕ → ℕ → List Datum → (ℕ → Answer) → Option ℤ → Answer
-count_read fixed locked stack answer (Some (pos n)) = needing (n + fixed) locked stack (answer n)
-count_read fixed locked stack answer (Some (negsuc n)) = refuses BadArgument
-count_read fixed locked stack answer None = refuses BadType
+pub ruleset give_steps = (used_plain, view_int, view_mark, length-map)
 
-pub by_count_read : (fixed locked : ℕ) (stack : List Datum) (answer : ℕ → Answer) → by_count fixed locked stack answer ≡ count_read fixed locked stack answer (int_at 0 stack)
-by_count_read fixed locked (int (pos n) ∷ rest) answer = refl
-by_count_read fixed locked (int (negsuc n) ∷ rest) answer = refl
-by_count_read fixed locked _ answer = refl
-
-pub ruleset give_steps = (view_int, view_mark, length-map)
-
-pub ruleset count_steps = (by_count_read, length-map)
+pub ruleset count_steps = (counted_used, length-map)
 
 pub first_one : {A : Type 0} → (n : ℕ) (xs : List A) (x : A) → slice_get xs n ≡ Some x → take 1 (drop n xs) ≡ x ∷ []
 first_one zero [] x s = absurd (search (rules, s))
@@ -57,10 +52,13 @@ rotate_read locked stack (Some (pos n)) = needing (n + 1) locked stack (gives (r
 rotate_read locked stack (Some (negsuc n)) = needing (suc n + 1) locked stack (gives (rotated_down (suc n) (drop 1 stack)))
 rotate_read locked stack None = refuses BadType
 
-pub rotated_read : (locked : ℕ) (stack : List Datum) → rotated locked stack ≡ rotate_read locked stack (int_at 0 stack)
-rotated_read locked (int (pos n) ∷ rest) = refl
-rotated_read locked (int (negsuc n) ∷ rest) = refl
-rotated_read locked _ = refl
+rotated_read : (s : Scope) (stack : List Datum) → unless (kinds (an_int ∷ []) stack) (rotated s stack) ≡ rotate_read s.locked stack (int_at 0 stack)
+rotated_read s (int (pos n) ∷ rest) = refl
+rotated_read s (int (negsuc n) ∷ rest) = refl
+rotated_read s _ = refl
+
+pub rotate_row : (s : Scope) (stack : List Datum) → primitive Rotate s stack ≡ needing 1 s.locked stack (rotate_read s.locked stack (int_at 0 stack))
+rotate_row s stack = used_whole 1 an_int [] rotated s stack ∙ ap (needing 1 s.locked stack) (rotated_read s stack)
 
 -- the item at the n-th place below the top, from 1
 pub put_read : (rest : List Datum) (y : Datum) (n : ℕ) → 0 < n → put_at (y ∷ rest) n ≡ gives (slice_set rest (n - 1) y)
@@ -72,7 +70,7 @@ turned_data n xs = rw (map-append, map_drop, map_reverse, map_take) refl
 
 pub ruleset move_steps = (lifted, sunk, put_read, turned_data, map_take, map_drop, map-set, length-map)
 
-pub ruleset rotate_steps = (rotated_read, map_drop, length-map)
+pub ruleset rotate_steps = (rotate_row, map_drop, length-map)
 
 get_taken : {A : Type 0} → (n m : ℕ) (xs : List A) → n < m → slice_get (take m xs) n ≡ slice_get xs n
 get_taken n zero xs h = absurd (omega (arith, h))

@@ -1,14 +1,18 @@
 -- What a primitive of the stack does, and what it looks at.
-use Rattle.std.specs.Prelude.{◌≡◌, ℕ, ℤ, Bool, true, false, Option, Some, None, Result, Ok, Err}
+use Rattle.std.specs.Prelude.{◌≡◌, ℕ, ◌-◌, ℤ, List, [], ◌∷◌, Bool, true, false, Option, Some, None, Result, Ok, Err}
 use Rattle.muf_model.specs.Datum.{Datum, variable, address}
 use Rattle.muf_model.specs.declared.prims.Primitive.{Primitive}
 use Rattle.muf_model.specs.declared.prims.Primitive.TheVariants.{Pop, Dup, DupTrue, Swap, Over, Rot, Rotate, Pick, Put, Nip, Tuck, DupN, LDup, PopN, Reverse, Depth, OpenMark, CloseMark, Fetch, Store, IsInt, IsString, IsDbref, IsArray, IsDictionary, IsAddress, IsLock, Abort}
-use Rattle.muf_model.specs.Answer.{Answer, calls, refuses, counted}
+use Rattle.muf_model.specs.Answer.{Answer, calls, refuses, whole}
+use Rattle.muf_model.specs.Needs.{counts, any, an_int}
+use Rattle.muf_model.specs.Ladder.{times}
+use Rattle.muf_model.specs.Rows.{used}
 use Rattle.muf_model.specs.Measures.{is_true}
-use Rattle.muf_model.specs.StackRows.{is_mark}
+use Rattle.muf_model.specs.StackRows.{is_mark, by_count}
 use Rattle.muf_frame.specs.declared.fault.PrimFault.{PrimFault}
 use Rattle.muf_frame.specs.declared.fault.PrimFault.TheVariants.{Fault, NoMemory}
-use Rattle.muf_frame.specs.Shown.{Shown, flat, locked_by}
+use Rattle.muf_frame.specs.Shown.{Shown, flat}
+use Rattle.muf_frame.specs.Moves.{scope_of}
 use Rattle.muf_frame.specs.Answers.{Became}
 use Rattle.prim_stack.specs.declared.table.Done.{Done}
 use Rattle.prim_stack.specs.declared.table.Done.TheVariants.{Kept, Calls}
@@ -20,9 +24,10 @@ Does a old new (Ok (Calls w)) = (a ≡ calls w (flat new).stack) × (new ≡ rec
 Does a old new (Err (Fault f)) = (a ≡ refuses f) × (new ≡ old)
 Does a old new (Err NoMemory) = Unit {0}
 
--- an answer by the count on the top of a frame that has so many items beside the fixed ones
-abbrev pub counting : ℕ → Shown → (ℕ → Answer) → Answer
-counting fixed f answer = counted fixed (locked_by (flat f).marks) (flat f).stack answer
+-- an answer by the count on the top, and by what stands below that, with so many fixed items
+abbrev pub counting : ℕ → Shown → (List Datum → ℕ → Answer) → Answer
+counting fixed f answer =
+    used 1 (counts (an_int ∷ times (fixed - 1) (any ∷ [])) (any ∷ []) []) (Some (whole (by_count answer))) (scope_of 0 (flat f)) (flat f).stack
 
 -- whether a mark is there
 abbrev pub mark_in : Option Datum → Bool

@@ -1,11 +1,9 @@
 // The primitives that copy items, and so may want memory.
 ghost use Rattle.std.specs.Prelude.{◌≡◌, ◌+◌, ◌<◌, ◌≤◌, ◌++◌, ℕ, Some, length, take, slice_get, IfOk, OnOk};
 ghost use Rattle.muf_model.specs.declared.prims.Primitive.TheVariants.{Dup, DupTrue, Over, Tuck, Pick, DupN, LDup};
-ghost use Rattle.muf_model.specs.StackRows.{stack_row};
 ghost use Rattle.muf_model.specs.View.{view};
 ghost use Rattle.muf_frame.specs.Shown.{Shown, flat};
-ghost use Rattle.muf_frame.specs.Moves.{scope_of};
-ghost use Rattle.muf_frame.specs.Answers.{AppliedOr};
+ghost use Rattle.muf_frame.specs.Answers.{IsRowOr};
 ghost use Rattle.prim_stack.specs.Does.{true_in};
 
 use crate::moves::count;
@@ -39,7 +37,7 @@ fn is_true_at_top(frame: &Frame) -> bool
 /// DUP.
 #[tactic(auto, using(crate::proofs::Copying::copy_steps))]
 pub(crate) fn dup(frame: &mut Frame) -> Result<(), PrimFault>
-    ensures { AppliedOr (stack_row Dup (scope_of 0 (flat frame.old)) (flat frame.old).stack) frame.old frame.new result }
+    ensures { IsRowOr Dup frame.old frame.new result }
 {
     frame.need(1)?;
     let item = copy_at(frame, 0)?;
@@ -50,7 +48,7 @@ pub(crate) fn dup(frame: &mut Frame) -> Result<(), PrimFault>
 /// ?DUP.
 #[tactic(auto, using(crate::proofs::Copying::copy_steps))]
 pub(crate) fn dup_true(frame: &mut Frame) -> Result<(), PrimFault>
-    ensures { AppliedOr (stack_row DupTrue (scope_of 0 (flat frame.old)) (flat frame.old).stack) frame.old frame.new result }
+    ensures { IsRowOr DupTrue frame.old frame.new result }
 {
     frame.need(1)?;
     if !is_true_at_top(frame) {
@@ -64,7 +62,7 @@ pub(crate) fn dup_true(frame: &mut Frame) -> Result<(), PrimFault>
 /// OVER.
 #[tactic(auto, using(crate::proofs::Copying::copy_steps))]
 pub(crate) fn over(frame: &mut Frame) -> Result<(), PrimFault>
-    ensures { AppliedOr (stack_row Over (scope_of 0 (flat frame.old)) (flat frame.old).stack) frame.old frame.new result }
+    ensures { IsRowOr Over frame.old frame.new result }
 {
     frame.need(2)?;
     let item = copy_at(frame, 1)?;
@@ -75,7 +73,7 @@ pub(crate) fn over(frame: &mut Frame) -> Result<(), PrimFault>
 /// TUCK.
 #[tactic(auto, using(crate::proofs::Copying::tuck_steps))]
 pub(crate) fn tuck(frame: &mut Frame) -> Result<(), PrimFault>
-    ensures { AppliedOr (stack_row Tuck (scope_of 0 (flat frame.old)) (flat frame.old).stack) frame.old frame.new result }
+    ensures { IsRowOr Tuck frame.old frame.new result }
 {
     frame.need(2)?;
     let item = copy_at(frame, 0)?;
@@ -89,7 +87,7 @@ pub(crate) fn tuck(frame: &mut Frame) -> Result<(), PrimFault>
 /// PICK.
 #[tactic(auto, using(crate::proofs::Copying::pick_steps))]
 pub(crate) fn pick(frame: &mut Frame) -> Result<(), PrimFault>
-    ensures { AppliedOr (stack_row Pick (scope_of 0 (flat frame.old)) (flat frame.old).stack) frame.old frame.new result }
+    ensures { IsRowOr Pick frame.old frame.new result }
 {
     let n = count(frame, 1)?;
     if n == 0 {
@@ -120,7 +118,7 @@ fn copy_items(frame: &mut Frame, n: usize) -> Result<(), NoMemory>
 /// DUPN.
 #[tactic(auto, using(crate::proofs::Copying::dupn_steps))]
 pub(crate) fn dupn(frame: &mut Frame) -> Result<(), PrimFault>
-    ensures { AppliedOr (stack_row DupN (scope_of 0 (flat frame.old)) (flat frame.old).stack) frame.old frame.new result }
+    ensures { IsRowOr DupN frame.old frame.new result }
 {
     let n = count(frame, 1)?;
     if frame.len() - 1 + n > STACK_MOST {
@@ -134,7 +132,7 @@ pub(crate) fn dupn(frame: &mut Frame) -> Result<(), PrimFault>
 /// LDUP.
 #[tactic(auto, using(crate::proofs::Copying::ldup_steps))]
 pub(crate) fn ldup(frame: &mut Frame) -> Result<(), PrimFault>
-    ensures { AppliedOr (stack_row LDup (scope_of 0 (flat frame.old)) (flat frame.old).stack) frame.old frame.new result }
+    ensures { IsRowOr LDup frame.old frame.new result }
 {
     let n = count(frame, 1)?;
     if frame.len() + n + 1 > STACK_MOST {

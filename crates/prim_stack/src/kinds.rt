@@ -1,9 +1,10 @@
 // The tests of kinds.
-ghost use Rattle.std.specs.Prelude.{◌≡◌};
+ghost use Rattle.std.specs.Prelude.{◌≡◌, ◌∷◌, []};
+ghost use Rattle.muf_model.specs.Needs.{takes, any};
 ghost use Rattle.muf_model.specs.Kinds.{is_kind, is_so};
 ghost use Rattle.muf_model.specs.StackRows.{judged};
 ghost use Rattle.muf_frame.specs.Shown.{Shown, flat};
-ghost use Rattle.muf_frame.specs.Answers.{Answered, having};
+ghost use Rattle.muf_frame.specs.Answers.{Used};
 
 use muf_frame::Frame;
 use muf_model::{ItemKind, MufFault, Prim, Value};
@@ -27,7 +28,7 @@ fn is_kind(test: Prim, kind: ItemKind) -> bool
 /// INT?, STRING?, DBREF?, ARRAY?, DICTIONARY?, ADDRESS? and LOCK?.
 #[tactic(auto, using(crate::proofs::Tops::give_steps))]
 pub(crate) fn judge(test: Prim, frame: &mut Frame) -> Result<(), MufFault>
-    ensures { Answered (having 1 frame.old (judged (is_so test) (flat frame.old).stack)) frame.old frame.new result }
+    ensures { Used test (takes (any ∷ [])) (judged (is_so test)) frame.old frame.new result }
 {
     frame.need(1)?;
     match frame.pop_item() {

@@ -3,11 +3,10 @@ ghost use Rattle.std.specs.Prelude.{◌≡◌, ◌+◌, ◌<◌, ◌∷◌, ◌+
 ghost use Rattle.std.specs.List.{position};
 ghost use Rattle.muf_model.specs.Datum.{int};
 ghost use Rattle.muf_model.specs.declared.prims.Primitive.TheVariants.{CloseMark};
-ghost use Rattle.muf_model.specs.StackRows.{stack_row, is_mark, above};
+ghost use Rattle.muf_model.specs.StackRows.{is_mark, above};
 ghost use Rattle.muf_model.specs.View.{view};
 ghost use Rattle.muf_frame.specs.Shown.{Shown, flat, locked_by};
-ghost use Rattle.muf_frame.specs.Moves.{scope_of};
-ghost use Rattle.muf_frame.specs.Answers.{Answered};
+ghost use Rattle.muf_frame.specs.Answers.{IsRow};
 ghost use Rattle.prim_stack.specs.Does.{mark_in};
 
 use muf_frame::Frame;
@@ -63,7 +62,7 @@ fn count_down_to(frame: &mut Frame, n: usize)
 
 /// `}`.
 pub(crate) fn close_mark(frame: &mut Frame) -> Result<(), MufFault>
-    ensures { Answered (stack_row CloseMark (scope_of 0 (flat frame.old)) (flat frame.old).stack) frame.old frame.new result }
+    ensures { IsRow CloseMark frame.old frame.new result }
 {
     match nearest_mark(frame) {
         Some(n) => {

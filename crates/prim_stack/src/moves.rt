@@ -1,29 +1,31 @@
 // The primitives that only move items, and take no memory.
-ghost use Rattle.std.specs.Prelude.{◌≡◌, ◌+◌, ◌<◌, ◌≤◌, ◌∷◌, [], ℕ, ℤ, Some, pos, length, drop, IfOk, IfErr};
+ghost use Rattle.std.specs.Prelude.{◌≡◌, ◌+◌, ◌<◌, ◌≤◌, ◌∷◌, [], ℕ, ℤ, Some, pos, List, length, drop, IfOk, IfErr};
 ghost use Rattle.muf_model.specs.declared.prims.Primitive.TheVariants.{Pop, Swap, Rot, Rotate, Put, Nip, PopN, Reverse, Depth, OpenMark, CloseMark};
 ghost use Rattle.muf_model.specs.Answer.{Answer, refuses};
-ghost use Rattle.muf_model.specs.StackRows.{stack_row, rotated_up, rotated_down};
+ghost use Rattle.muf_model.specs.Datum.{Datum};
+ghost use Rattle.muf_model.specs.StackRows.{rotated_up, rotated_down};
 ghost use Rattle.muf_frame.specs.Shown.{Shown, flat, locked_by};
-ghost use Rattle.muf_frame.specs.Moves.{scope_of};
-ghost use Rattle.muf_frame.specs.Answers.{Answered, int_at};
+ghost use Rattle.muf_frame.specs.Answers.{IsRow, int_at};
 ghost use Rattle.prim_stack.specs.Does.{counting};
 
 use muf_frame::Frame;
 use muf_model::{MufFault, STACK_MOST, Value};
 
 /// POP.
+#[tactic(auto, using(crate::proofs::Tops::give_steps))]
 #[inline(always)]
 pub(crate) fn pop(frame: &mut Frame) -> Result<(), MufFault>
-    ensures { Answered (stack_row Pop (scope_of 0 (flat frame.old)) (flat frame.old).stack) frame.old frame.new result }
+    ensures { IsRow Pop frame.old frame.new result }
 {
     let _dropped = frame.pop()?;
     Ok(())
 }
 
 /// SWAP.
+#[tactic(auto, using(crate::proofs::Tops::give_steps))]
 #[inline(always)]
 pub(crate) fn swap(frame: &mut Frame) -> Result<(), MufFault>
-    ensures { Answered (stack_row Swap (scope_of 0 (flat frame.old)) (flat frame.old).stack) frame.old frame.new result }
+    ensures { IsRow Swap frame.old frame.new result }
 {
     frame.need(2)?;
     match frame.pop_item() {
@@ -40,8 +42,9 @@ pub(crate) fn swap(frame: &mut Frame) -> Result<(), MufFault>
 }
 
 /// ROT.
+#[tactic(auto, using(crate::proofs::Tops::give_steps))]
 pub(crate) fn rot(frame: &mut Frame) -> Result<(), MufFault>
-    ensures { Answered (stack_row Rot (scope_of 0 (flat frame.old)) (flat frame.old).stack) frame.old frame.new result }
+    ensures { IsRow Rot frame.old frame.new result }
 {
     frame.need(3)?;
     match frame.pop_item() {
@@ -62,8 +65,9 @@ pub(crate) fn rot(frame: &mut Frame) -> Result<(), MufFault>
 }
 
 /// NIP.
+#[tactic(auto, using(crate::proofs::Tops::give_steps))]
 pub(crate) fn nip(frame: &mut Frame) -> Result<(), MufFault>
-    ensures { Answered (stack_row Nip (scope_of 0 (flat frame.old)) (flat frame.old).stack) frame.old frame.new result }
+    ensures { IsRow Nip frame.old frame.new result }
 {
     frame.need(2)?;
     match frame.pop_item() {
@@ -81,7 +85,7 @@ pub(crate) fn nip(frame: &mut Frame) -> Result<(), MufFault>
 /// DEPTH.
 #[tactic(auto, using(crate::proofs::Tops::give_steps))]
 pub(crate) fn depth(frame: &mut Frame) -> Result<(), MufFault>
-    ensures { Answered (stack_row Depth (scope_of 0 (flat frame.old)) (flat frame.old).stack) frame.old frame.new result }
+    ensures { IsRow Depth frame.old frame.new result }
 {
     let depth = frame.depth() as i32;
     frame.push(Value::Int(depth))?;
@@ -91,30 +95,49 @@ pub(crate) fn depth(frame: &mut Frame) -> Result<(), MufFault>
 /// `{`.
 #[tactic(auto, using(crate::proofs::Tops::give_steps))]
 pub(crate) fn open_mark(frame: &mut Frame) -> Result<(), MufFault>
-    ensures { Answered (stack_row OpenMark (scope_of 0 (flat frame.old)) (flat frame.old).stack) frame.old frame.new result }
+    ensures { IsRow OpenMark frame.old frame.new result }
 {
     frame.push(Value::Mark)?;
     Ok(())
 }
 
+// The count that stands on the top, where so many items stand below it beside the fixed ones, which are there.
+fn counted(frame: &Frame, fixed: usize, n: usize) -> Result<usize, MufFault>
+    requires some { 0 < fixed }
+    requires there { locked_by (flat frame.now).marks + fixed ≤ length frame.now.stack }
+    requires small { n < 2147483648 }
+    requires few { fixed ≤ 2 }
+    requires top { int_at 0 (flat frame.now).stack ≡ Some (pos n) }
+    ensures ok { IfOk result (λ k. (answer : List Datum → ℕ → Answer) → counting fixed frame.now answer ≡ answer (drop 1 (flat frame.now).stack) k) }
+    ensures value { IfOk result (λ k. k ≡ n) }
+    ensures enough { IfOk result (λ _. n + fixed ≤ length frame.now.stack) }
+    ensures err { IfErr result (λ e. (answer : List Datum → ℕ → Answer) → counting fixed frame.now answer ≡ refuses e) }
+{
+    match frame.need(n + fixed) {
+        Ok(()) => Ok(n),
+        Err(refused) => Err(refused),
+    }
+}
+
 // The count on the top, where so many items stand below it beside the fixed ones.
 #[tactic(auto, using(crate::proofs::Tops::count_steps))]
 pub(crate) fn count(frame: &Frame, fixed: usize) -> Result<usize, MufFault>
-    requires { fixed ≤ 2 }
-    ensures ok { IfOk result (λ n. (answer : ℕ → Answer) → counting fixed frame.now answer ≡ answer n) }
+    requires some { 0 < fixed }
+    requires few { fixed ≤ 2 }
+    ensures ok { IfOk result (λ n. (answer : List Datum → ℕ → Answer) → counting fixed frame.now answer ≡ answer (drop 1 (flat frame.now).stack) n) }
     ensures there { IfOk result (λ n. n + fixed ≤ length frame.now.stack) }
     ensures top { IfOk result (λ n. int_at 0 (flat frame.now).stack ≡ Some (pos n)) }
-    ensures err { IfErr result (λ e. (answer : ℕ → Answer) → counting fixed frame.now answer ≡ refuses e) }
+    ensures err { IfErr result (λ e. (answer : List Datum → ℕ → Answer) → counting fixed frame.now answer ≡ refuses e) }
 {
-    frame.need(fixed)?;
+    if let Err(refused) = frame.need(fixed) {
+        return Err(refused);
+    }
     match frame.int_at(0) {
         Some(n) => {
             if n < 0 {
                 return Err(MufFault::BadArgument);
             }
-            let count = n as usize;
-            frame.need(count + fixed)?;
-            Ok(count)
+            counted(frame, fixed, n as usize)
         }
         None => Err(MufFault::BadType),
     }
@@ -149,7 +172,7 @@ fn sink(frame: &mut Frame, n: usize)
 /// ROTATE.
 #[tactic(auto, using(crate::proofs::Tops::rotate_steps))]
 pub(crate) fn rotate(frame: &mut Frame) -> Result<(), MufFault>
-    ensures { Answered (stack_row Rotate (scope_of 0 (flat frame.old)) (flat frame.old).stack) frame.old frame.new result }
+    ensures { IsRow Rotate frame.old frame.new result }
 {
     frame.need(1)?;
     match frame.int_at(0) {
@@ -171,7 +194,7 @@ pub(crate) fn rotate(frame: &mut Frame) -> Result<(), MufFault>
 /// PUT.
 #[tactic(auto, using(crate::proofs::Tops::move_steps))]
 pub(crate) fn put(frame: &mut Frame) -> Result<(), MufFault>
-    ensures { Answered (stack_row Put (scope_of 0 (flat frame.old)) (flat frame.old).stack) frame.old frame.new result }
+    ensures { IsRow Put frame.old frame.new result }
 {
     let n = count(frame, 2)?;
     if n == 0 {
@@ -190,7 +213,7 @@ pub(crate) fn put(frame: &mut Frame) -> Result<(), MufFault>
 /// POPN.
 #[tactic(auto, using(crate::proofs::Tops::move_steps))]
 pub(crate) fn popn(frame: &mut Frame) -> Result<(), MufFault>
-    ensures { Answered (stack_row PopN (scope_of 0 (flat frame.old)) (flat frame.old).stack) frame.old frame.new result }
+    ensures { IsRow PopN frame.old frame.new result }
 {
     let n = count(frame, 1)?;
     frame.drop_items(1);
@@ -201,7 +224,7 @@ pub(crate) fn popn(frame: &mut Frame) -> Result<(), MufFault>
 /// REVERSE.
 #[tactic(auto, using(crate::proofs::Tops::move_steps))]
 pub(crate) fn reverse(frame: &mut Frame) -> Result<(), MufFault>
-    ensures { Answered (stack_row Reverse (scope_of 0 (flat frame.old)) (flat frame.old).stack) frame.old frame.new result }
+    ensures { IsRow Reverse frame.old frame.new result }
 {
     let n = count(frame, 1)?;
     frame.drop_items(1);

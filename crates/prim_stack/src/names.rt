@@ -2,12 +2,12 @@
 ghost use Rattle.std.specs.Prelude.{true, ◌≡◌, ◌<◌, ℕ, Some, length, slice_get, option_map, is_some, IfOk};
 ghost use Rattle.std.specs.Option.{option_and_then};
 ghost use Rattle.muf_model.specs.declared.prims.Primitive.TheVariants.{Fetch, Store, Execute, Abort};
-ghost use Rattle.muf_model.specs.StackRows.{stack_row};
+ghost use Rattle.muf_model.specs.Rows.{primitive};
 ghost use Rattle.muf_model.specs.Answer.{variable_at};
 ghost use Rattle.muf_model.specs.View.{view};
 ghost use Rattle.muf_frame.specs.Shown.{Shown, flat};
 ghost use Rattle.muf_frame.specs.Moves.{scope_of, with_variable};
-ghost use Rattle.muf_frame.specs.Answers.{Answered, AppliedOr, text_at};
+ghost use Rattle.muf_frame.specs.Answers.{IsRow, IsRowOr, text_at};
 ghost use Rattle.prim_stack.specs.Does.{as_variable, as_address, Does, HasMemory};
 
 use crate::Done;
@@ -82,7 +82,7 @@ fn copy_variable(frame: &Frame, v: VarId) -> Result<Option<Value>, NoMemory>
 /// `@`.
 #[tactic(auto, using(crate::proofs::Naming::name_steps))]
 pub(crate) fn fetch(frame: &mut Frame) -> Result<(), PrimFault>
-    ensures { AppliedOr (stack_row Fetch (scope_of 0 (flat frame.old)) (flat frame.old).stack) frame.old frame.new result }
+    ensures { IsRowOr Fetch frame.old frame.new result }
 {
     frame.need(1)?;
     match variable_at_top(frame) {
@@ -119,7 +119,7 @@ fn put_variable(frame: &mut Frame, v: VarId, item: Value)
 /// `!`.
 #[tactic(auto, using(crate::proofs::Naming::store_steps))]
 pub(crate) fn store(frame: &mut Frame) -> Result<(), MufFault>
-    ensures { Answered (stack_row Store (scope_of 0 (flat frame.old)) (flat frame.old).stack) frame.old frame.new result }
+    ensures { IsRow Store frame.old frame.new result }
 {
     frame.need(2)?;
     match variable_at_top(frame) {
@@ -143,7 +143,7 @@ pub(crate) fn store(frame: &mut Frame) -> Result<(), MufFault>
 /// ABORT.
 #[tactic(auto, using(crate::proofs::Naming::name_steps))]
 pub(crate) fn abort(frame: &mut Frame) -> Result<(), PrimFault>
-    ensures { AppliedOr (stack_row Abort (scope_of 0 (flat frame.old)) (flat frame.old).stack) frame.old frame.new result }
+    ensures { IsRowOr Abort frame.old frame.new result }
 {
     frame.need(1)?;
     match text_at_top(frame)? {
@@ -155,7 +155,7 @@ pub(crate) fn abort(frame: &mut Frame) -> Result<(), PrimFault>
 /// EXECUTE, where the running program has so many words.
 #[tactic(auto, using(crate::proofs::Naming::name_steps))]
 pub(crate) fn execute(frame: &mut Frame, words: usize) -> Result<Done, PrimFault>
-    ensures value { Does (stack_row Execute (scope_of words (flat frame.old)) (flat frame.old).stack) frame.old frame.new result }
+    ensures value { Does (primitive Execute (scope_of words (flat frame.old)) (flat frame.old).stack) frame.old frame.new result }
     ensures memory { HasMemory result }
 {
     frame.need(1)?;

@@ -1,11 +1,11 @@
 // Every primitive of the stack.
 ghost use Rattle.std.specs.Prelude.{◌≡◌, true, false};
 ghost use Rattle.muf_model.specs.declared.prims.Family.TheVariants.{Stack};
-ghost use Rattle.muf_model.specs.StackRows.{stack_row};
+ghost use Rattle.muf_model.specs.Rows.{primitive};
 ghost use Rattle.muf_model.specs.Prims.{family_of};
 ghost use Rattle.muf_frame.specs.Shown.{Shown, flat};
 ghost use Rattle.muf_frame.specs.Moves.{scope_of};
-ghost use Rattle.muf_frame.specs.Answers.{Answered, AppliedOr};
+ghost use Rattle.muf_frame.specs.Answers.{IsRow, IsRowOr};
 ghost use Rattle.prim_stack.specs.Does.{Does, HasMemory, moves, copies};
 
 use crate::{copies, kinds, marks, moves, names};
@@ -25,7 +25,7 @@ pub enum Done {
 #[inline(always)]
 fn moved(prim: Prim, frame: &mut Frame) -> Result<(), MufFault>
     requires { moves prim ≡ true }
-    ensures { Answered (stack_row prim (scope_of 0 (flat frame.old)) (flat frame.old).stack) frame.old frame.new result }
+    ensures { IsRow prim frame.old frame.new result }
 {
     match prim {
         Prim::Pop => moves::pop(frame),
@@ -54,7 +54,7 @@ fn moved(prim: Prim, frame: &mut Frame) -> Result<(), MufFault>
 // One of the primitives that copy.
 fn copied(prim: Prim, frame: &mut Frame) -> Result<(), PrimFault>
     requires { copies prim ≡ true }
-    ensures { AppliedOr (stack_row prim (scope_of 0 (flat frame.old)) (flat frame.old).stack) frame.old frame.new result }
+    ensures { IsRowOr prim frame.old frame.new result }
 {
     match prim {
         Prim::Dup => copies::dup(frame),
@@ -77,7 +77,7 @@ fn copied(prim: Prim, frame: &mut Frame) -> Result<(), PrimFault>
 #[inline(always)]
 pub fn apply(prim: Prim, frame: &mut Frame, words: usize) -> Result<Done, PrimFault>
     requires { family_of prim ≡ Stack }
-    ensures value { Does (stack_row prim (scope_of words (flat frame.old)) (flat frame.old).stack) frame.old frame.new result }
+    ensures value { Does (primitive prim (scope_of words (flat frame.old)) (flat frame.old).stack) frame.old frame.new result }
     ensures memory { copies prim ≡ false → HasMemory result }
 {
     match prim {

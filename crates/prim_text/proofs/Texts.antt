@@ -17,13 +17,18 @@ to_inside xs h =
       | inr past ↦ omega (arith, past, prefix_len-le-length is_inside xs)
     ]
 
-pub joined_is_text : (s t : List ℕ) → text_fault s ≡ None → text_fault t ≡ None → length (s ++ t) ≤ 4096 → text_fault (s ++ t) ≡ None
-joined_is_text s t h k le = from_inside (s ++ t) (inside-append s t (to_inside s h) (to_inside t k)) le
+pub joined_inside : (s t : List ℕ) → text_fault s ≡ None → text_fault t ≡ None → IsInside (s ++ t)
+joined_inside s t h k = inside-append s t (to_inside s h) (to_inside t k)
 
-inside_signed : (z : ℤ) → mag z < 2 ^ 63 → IsInside (signed_decimal z)
-inside_signed (pos n) h = inside-decimal n (omega (arith, h))
-inside_signed (negsuc n) h = inside-cons 45 (decimal (suc n)) refl (inside-decimal (suc n) (omega (arith, h)))
+pub first_inside : (s : List ℕ) → text_fault s ≡ None → IsInside s
+first_inside s h = to_inside s h
 
-pub number_is_text : (z : ℤ) → mag z < 2 ^ 32 → text_fault (signed_decimal z) ≡ None
-number_is_text z h =
-    from_inside (signed_decimal z) (inside_signed z (omega (arith, h))) (omega (arith, length_signed_le 10 z (omega (arith, h)) (omega (arith, h))))
+pub ruleset text_steps = (joined_inside, first_inside)
+
+pub inside_number : (z : ℤ) → mag z < 2 ^ 32 → IsInside (signed_decimal z)
+inside_number (pos n) h = inside-decimal n (omega (arith, h))
+inside_number (negsuc n) h = inside-cons 45 (decimal (suc n)) refl (inside-decimal (suc n) (omega (arith, h)))
+
+-- bytes that may stand in a text, and not too many of them
+pub made_is_text : (bytes : List ℕ) → IsInside bytes → length bytes ≤ 4096 → text_fault bytes ≡ None
+made_is_text bytes h le = from_inside bytes h le

@@ -1,8 +1,8 @@
 //! The primitives of texts that are there so far.
 #![tactic(auto)]
 
-mod made;
 mod rows;
+mod shapes;
 mod table;
 
 pub use table::apply;

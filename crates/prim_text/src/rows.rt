@@ -1,63 +1,35 @@
-// The rows of the primitives of texts.
-ghost use Rattle.std.specs.Prelude.{◌≡◌};
-ghost use Rattle.muf_model.specs.declared.prims.Primitive.TheVariants.{StrCat, IntToStr};
-ghost use Rattle.muf_model.specs.TextRows.{text_row};
-ghost use Rattle.muf_frame.specs.Shown.{Shown, flat, locked_by};
-ghost use Rattle.muf_frame.specs.Answers.{AppliedOr};
-ghost use Rattle.prim_text.specs.Made.{number_at_top};
+// The rows of the primitives of texts: pure functions of bytes.
+ghost use Rattle.std.specs.Prelude.{◌≡◌, None, IfOk};
+ghost use Rattle.muck_model.specs.Bytes.{text_fault};
+ghost use Rattle.muf_model.proofs.FaultTexts.{IsInside};
+ghost use Rattle.muf_model.specs.TextRows.{text_of_two, text_of_number};
 
-use crate::made;
-use muf_frame::{Frame, PrimFault};
-use muf_model::{MufFault, Value};
+use muck_model::NoMemory;
+use muf_model::Prim;
 use std::alloc::Global;
 
-/// STRCAT.
-#[tactic(auto, using(crate::proofs::Reading::text_steps))]
-pub(crate) fn join(alloc: Global, frame: &mut Frame) -> Result<(), PrimFault>
-    ensures { AppliedOr (text_row StrCat (locked_by (flat frame.old).marks) (flat frame.old).stack) frame.old frame.new result }
+/// The primitives of two texts that make one, the second one on the top.
+#[tactic(auto, using(crate::proofs::Texts::text_steps))]
+pub(crate) fn text_of_two(alloc: Global, prim: Prim, first: &[u8], second: &[u8]) -> Result<Vec<u8>, NoMemory>
+    requires first { text_fault first.now ≡ None }
+    requires second { text_fault second.now ≡ None }
+    ensures value { IfOk result (λ bytes. bytes.items ≡ text_of_two prim first.now second.now) }
+    ensures text { IfOk result (λ bytes. IsInside bytes.items) }
 {
-    frame.need(2)?;
-    match frame.text_at(0) {
-        Some(second) => match frame.text_at(1) {
-            Some(first) => {
-                let text = made::join(alloc, first, second)?;
-                frame.drop_items(2);
-                frame.push_item(Value::Str(text));
-                Ok(())
-            }
-            None => Err(PrimFault::Fault(MufFault::BadType)),
-        },
-        None => Err(PrimFault::Fault(MufFault::BadType)),
+    let mut bytes = first.to_vec(alloc)?;
+    match prim {
+        Prim::StrCat => bytes.extend_from_slice(second)?,
+        _ => {}
     }
+    Ok(bytes)
 }
 
-// The integer at the top, or the number of the object there.
-#[tactic(auto, using(crate::proofs::Reading::number_steps))]
-fn number_at_top(frame: &Frame) -> Option<i32>
-    ensures { result ≡ number_at_top (flat frame.now).stack }
+/// The primitives of a number, or of that of an object, that make a text.
+#[tactic(auto, using(crate::proofs::Texts::inside_number))]
+pub(crate) fn text_of_number(alloc: Global, prim: Prim, number: i32) -> Result<Vec<u8>, NoMemory>
+    ensures value { IfOk result (λ bytes. bytes.items ≡ text_of_number prim number) }
+    ensures text { IfOk result (λ bytes. IsInside bytes.items) }
 {
-    match frame.int_at(0) {
-        Some(number) => Some(number),
-        None => match frame.object_at(0) {
-            Some(object) => Some(object.0),
-            None => None,
-        },
-    }
-}
-
-/// INTOSTR.
-#[tactic(auto, using(crate::proofs::Reading::text_steps))]
-pub(crate) fn write_number(alloc: Global, frame: &mut Frame) -> Result<(), PrimFault>
-    ensures { AppliedOr (text_row IntToStr (locked_by (flat frame.old).marks) (flat frame.old).stack) frame.old frame.new result }
-{
-    frame.need(1)?;
-    match number_at_top(frame) {
-        Some(number) => {
-            let text = made::decimal(alloc, number)?;
-            frame.drop_items(1);
-            frame.push_item(Value::Str(text));
-            Ok(())
-        }
-        None => Err(PrimFault::Fault(MufFault::BadType)),
-    }
+    let digits = number.to_string(alloc)?;
+    Ok(digits.into_bytes())
 }

@@ -1,6 +1,6 @@
 -- How players go, take, drop and recycle is open to them.
 use Rattle.std.proofs.Common.{◌≡◌, ℕ, Bool, true, false, List, refl, sym, ◌∙◌, ap, Option, Some, None}
-use Rattle.std.specs.Prelude.{Result, Ok, Err, ◌&&◌, ◌||◌, codes}
+use Rattle.std.specs.Prelude.{Result, Ok, Err, ◌&&◌, ◌||◌}
 use Rattle.std.specs.Option.{option_map_or}
 use Rattle.muck_model.specs.declared.dbref.Dbref.{Dbref}
 use Rattle.muck_model.specs.declared.dbref.Denial.{Denial}
@@ -25,10 +25,12 @@ use Rattle.spec_rights.proofs.Permitted.{staying, ending}
 use Rattle.spec_rights.proofs.Shown.{shown}
 use Rattle.spec_commands.specs.declared.outcome.Outcome.{Outcome}
 use Rattle.spec_commands.specs.Replies.{taken_reply, recycled_reply, dropped_reply}
-use Rattle.spec_commands.specs.Finding.{is_so, is_object, finding_object, message_shown, message_to_others}
-use Rattle.spec_commands.specs.Going.{ended, moving, gone, gone_home, led, failed, succeeded, walked, walked_some, went, is_item, not_taken, taken, is_carried, drop_place, dropped, inventory_shown}
-use Rattle.spec_commands.specs.Building.{allowed, recycled}
-use Rattle.spec_commands.proofs.Showing.{seeing, stays_where, ends_where, whole_where, whole_finding}
+use Rattle.spec_commands.specs.declared.typed.Typed.{Typed}
+use Rattle.spec_commands.specs.declared.word.Message.{Message}
+use Rattle.spec_commands.specs.Finding.{is_so}
+use Rattle.spec_commands.specs.Going.{ended, moving, gone, gone_home, both_shown, succeeded, failed, drop_shown, led, tried, walked, walked_some, went, is_item, not_taken, taken, is_carried, drop_place, dropped, inventory_shown}
+use Rattle.spec_commands.specs.Building.{allowed, written, done_where, recycled}
+use Rattle.spec_commands.proofs.Showing.{seeing, stays_where, ends_where, whole_where}
 
 -- The answer of a command is its world and its outcome.
 abbrev pub world_of : Live × Outcome → Live
@@ -48,29 +50,33 @@ stays_moving : (a : Actor) (free : Dbref → Bool) (given : Option Act) (d : ℕ
 unfolding moving
 stays_moving a free given d x to go h q = search (staying, stays_where)
 
-stays_gone : (a : Actor) (free : Dbref → Bool) (given : Option Act) (d : ℕ) (player to : Dbref) (seen : Change) → free player ≡ true → Quiet seen → Stays a free given (gone d player to seen)
+stays_gone : (a : Actor) (free : Dbref → Bool) (given : Option Act) (d : ℕ) (typed : Typed) (to : Dbref) (seen : Change) → free a.player ≡ true → Quiet seen → Stays a free given (gone d a typed to seen)
 unfolding gone
-stays_gone a free given d player to seen h q = search (staying, seeing, stays_where) depth 8
+stays_gone a free given d typed to seen h q = search (staying, seeing, stays_where) depth 8
 
-pub stays_gone_home : (a : Actor) (free : Dbref → Bool) (given : Option Act) (d : ℕ) (player : Dbref) → free player ≡ true → Stays a free given (gone_home d player)
+pub stays_gone_home : (a : Actor) (free : Dbref → Bool) (given : Option Act) (d : ℕ) → free a.player ≡ true → Stays a free given (gone_home d a)
 unfolding gone_home
-stays_gone_home a free given d player h = search (staying, stays_gone)
+stays_gone_home a free given d h = search (staying, stays_gone)
 
-quiet_failed : (d : ℕ) (player : Dbref) (otherwise : List ℕ) (x : Dbref) → Quiet (failed d player otherwise x)
+pub quiet_both_shown : (d : ℕ) (a : Actor) (typed : Typed) (mine theirs : Message) (x : Dbref) → Quiet (both_shown d a typed mine theirs x)
+unfolding both_shown
+quiet_both_shown d a typed mine theirs x = search seeing
+
+quiet_failed : (d : ℕ) (a : Actor) (typed : Typed) (otherwise : List ℕ) (x : Dbref) → Quiet (failed d a typed otherwise x)
 unfolding failed
-quiet_failed d player otherwise x = search seeing
+quiet_failed d a typed otherwise x = search seeing
 
-quiet_succeeded : (d : ℕ) (player x : Dbref) → Quiet (succeeded d player x)
-unfolding succeeded
-quiet_succeeded d player x = search seeing
-
-ends_led : (a : Actor) (free : Dbref → Bool) (given : Option Act) (d : ℕ) (player : Dbref) (hit : ExitHit) (line : List ℕ) (to : Dbref) → free player ≡ true → Ends world_of a free given (led d player hit line to)
+ends_led : (a : Actor) (free : Dbref → Bool) (given : Option Act) (d : ℕ) (typed : Typed) (exit : Dbref) (line : List ℕ) (to : Dbref) → free a.player ≡ true → Ends world_of a free given (led d a typed exit line to)
 unfolding led
-ends_led a free given d player hit line to h = search (ending, seeing, ends_ended, ends_where, stays_gone) depth 9
+ends_led a free given d typed exit line to h = search (ending, seeing, quiet_both_shown, ends_ended, ends_where, stays_gone) depth 9
+
+pub tried_open : (a : Actor) (free : Dbref → Bool) (d : ℕ) (typed : Typed) (exit : Dbref) (line : List ℕ) → free a.player ≡ true → Ends world_of a free None (tried d a typed exit line)
+unfolding tried
+tried_open a free d typed exit line h = search (ending, ends_ended, quiet_failed, quiet_both_shown, ends_led)
 
 pub walked_open : (a : Actor) (free : Dbref → Bool) (d : ℕ) (hit : ExitHit) (line : List ℕ) → free a.player ≡ true → Ends world_of a free None (walked d a hit line)
 unfolding walked
-walked_open a free d hit line h = search (ending, ends_ended, quiet_failed, quiet_succeeded, ends_led)
+walked_open a free d hit line h = search (ending, tried_open)
 
 walked_some_open : (a : Actor) (free : Dbref → Bool) (d : ℕ) (line : List ℕ) (hit : Option ExitHit) → free a.player ≡ true → Ends world_of a free None (walked_some d a line hit)
 walked_some_open a free d line None h = search (ending, ends_ended)
@@ -130,36 +136,34 @@ carried_at : (player x : Dbref) (w : Live) → is_carried player x w ≡ true �
 unfolding is_so
 carried_at player x w e = e
 
-taking : (a : Actor) (free : Dbref → Bool) (d : ℕ) (x : Dbref) → free x ≡ true → Ends itself a free None (succeeded d a.player x ▸ moving d x a.player (tell d taken_reply))
-taking a free d x h = search (ending, seeing, quiet_succeeded, stays_moving)
+taking : (a : Actor) (free : Dbref → Bool) (d : ℕ) (typed : Typed) (x : Dbref) → free x ≡ true → Ends itself a free None (succeeded d a typed x ▸ moving d x a.player (tell d taken_reply))
+taking a free d typed x h = search (ending, seeing, quiet_both_shown, stays_moving)
 
-quiet_not_taken : (d : ℕ) (player x : Dbref) (denial : Denial) → Quiet (not_taken d player x denial)
-quiet_not_taken d player x denial = search (seeing, quiet_failed)
+quiet_not_taken : (d : ℕ) (a : Actor) (typed : Typed) (x : Dbref) (denial : Denial) → Quiet (not_taken d a typed x denial)
+quiet_not_taken d a typed x denial = search (seeing, quiet_failed)
 
 -- what is at hand is free
 abbrev pub HandFree : Actor → (List Entry → Dbref → Bool) → Type 0
 HandFree a free = (es : List Entry) (x : Dbref) → at_hand es a x ≡ true → free es x ≡ true
 
-pub taken_open : (a : Actor) (own : Option ℕ) (free : List Entry → Dbref → Bool) (d : ℕ) (name : List ℕ) → HandFree a free → Whole itself a own free Always (taken d a name)
+pub taken_open : (a : Actor) (own : Option ℕ) (free : List Entry → Dbref → Bool) (d : ℕ) (typed : Typed) (x : Dbref) → HandFree a free → Whole itself a own free Always (taken d a typed x)
 unfolding taken
-taken_open a own free d name hands =
-    whole_finding itself a own free Always (tell d) a.player name _ (λ t. whole_quiet a own free Always _ (search shown)) (λ x.
+taken_open a own free d typed x hands =
     whole_where itself a own free Always (is_item x) _ _ (whole_quiet a own free Always _ (search shown))
-    (whole_asked itself a own free _ (Take x) _ _ (λ denial. whole_quiet a own free Always _ (quiet_not_taken d a.player x denial))
+    (whole_asked itself a own free _ (Take x) _ _ (λ denial. whole_quiet a own free Always _ (quiet_not_taken d a typed x denial))
     (whole_ends itself a own free _ _ (λ w h.
-    taking a (free w.objects) d x (hands w.objects x (here_at_hand w.objects a x (object_at x w.objects) refl (item_at x w h.0.1) (take_allowed w.objects a x h.1)))))))
+    taking a (free w.objects) d typed x (hands w.objects x (here_at_hand w.objects a x (object_at x w.objects) refl (item_at x w h.0.1) (take_allowed w.objects a x h.1))))))
 
-dropping : (a : Actor) (free : Dbref → Bool) (d : ℕ) (x : Dbref) → free x ≡ true →
-    Ends itself a free None (reading (drop_place a.player) (λ to. moving d x to (tell d dropped_reply ▸ message_shown d (codes "dr") x ▸ message_to_others a.player (codes "odr") x)))
-dropping a free d x h = search (ending, seeing, stays_moving) depth 7
+dropping : (a : Actor) (free : Dbref → Bool) (d : ℕ) (typed : Typed) (x : Dbref) → free x ≡ true →
+    Ends itself a free None (reading (drop_place a.player) (λ to. moving d x to (tell d dropped_reply ▸ drop_shown d a typed x)))
+dropping a free d typed x h = search (ending, seeing, quiet_both_shown, stays_moving) depth 7
 
-pub dropped_open : (a : Actor) (own : Option ℕ) (free : List Entry → Dbref → Bool) (d : ℕ) (name : List ℕ) → HandFree a free → Whole itself a own free Always (dropped d a.player name)
+pub dropped_open : (a : Actor) (own : Option ℕ) (free : List Entry → Dbref → Bool) (d : ℕ) (typed : Typed) (x : Dbref) → HandFree a free → Whole itself a own free Always (dropped d a typed x)
 unfolding dropped
-dropped_open a own free d name hands =
-    whole_finding itself a own free Always (tell d) a.player name _ (λ t. whole_quiet a own free Always _ (search shown)) (λ x.
+dropped_open a own free d typed x hands =
     whole_where itself a own free Always (is_carried a.player x) _ _ (whole_quiet a own free Always _ (search shown))
     (whole_ends itself a own free _ _ (λ w h.
-    dropping a (free w.objects) d x (hands w.objects x (carried_at_hand w.objects a x (object_at x w.objects) refl (carried_at a.player x w h.1))))))
+    dropping a (free w.objects) d typed x (hands w.objects x (carried_at_hand w.objects a x (object_at x w.objects) refl (carried_at a.player x w h.1)))))
 
 pub quiet_inventory_shown : (d : ℕ) (player : Dbref) → Quiet (inventory_shown d player)
 unfolding inventory_shown
@@ -179,11 +183,9 @@ recycling a own free x given h = record {
       recycled_licensed a (free w.objects) x w p.0 t.0 p.1;
 }
 
-pub recycled_open : (a : Actor) (own : Option ℕ) (free : List Entry → Dbref → Bool) (d : ℕ) (name : List ℕ) → Whole itself a own free Always (recycled d a name)
-unfolding recycled finding_object
-recycled_open a own free d name =
-    whole_finding itself a own free Always (tell d) a.player name _ (λ t. whole_quiet a own free Always _ (search shown)) (λ x.
-    whole_where itself a own free Always (is_object x) _ _ (whole_quiet a own free Always _ (search shown))
-    (whole_asked itself a own free _ (Recycle x) _ _ (λ denial. whole_quiet a own free Always _ (search shown))
+pub recycled_open : (a : Actor) (own : Option ℕ) (free : List Entry → Dbref → Bool) (d : ℕ) (x : Dbref) → Whole itself a own free Always (recycled d a x)
+unfolding recycled written done_where
+recycled_open a own free d x =
+    whole_asked itself a own free Always (Recycle x) _ _ (λ denial. whole_quiet a own free Always _ (search shown))
     (whole_where itself a own free _ (λ w. allowed (recycle_check x w.objects)) _ _ (whole_quiet a own free _ _ (search shown))
-    (whole_quietly a own free _ (recycled_now x) (tell d recycled_reply) (recycling a own free x _ (λ w h. (h.0.1, h.1))) (search shown)))))
+    (whole_quietly a own free _ (recycled_now x) (tell d recycled_reply) (recycling a own free x _ (λ w h. (h.0.1, h.1))) (search shown)))

@@ -5,6 +5,7 @@ pub mod Built
 pub mod Gone
 pub mod Programmed
 pub mod Mine
+pub mod Lawful
 pub mod Permitted
 pub mod Numbered
 pub mod Lines

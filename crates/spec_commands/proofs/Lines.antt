@@ -2,9 +2,9 @@
 use Rattle.std.proofs.Common.{ℕ, Bool, true, false, List, [], ◌∷◌, Option, Some, None}
 use Rattle.muck_model.specs.declared.dbref.Dbref.{Dbref}
 use Rattle.spec_live.specs.Lives.{tell}
-use Rattle.spec_rights.proofs.Licences.{Quiet, quiet_followed, quiet_reading, quiet_unchanged}
-use Rattle.spec_rights.proofs.Shown.{quiet_tell}
-use Rattle.spec_commands.specs.Replies.{goodbye, has_connected, has_disconnected}
+use Rattle.spec_rights.proofs.Licences.{Quiet, quiet_reading, quiet_unchanged}
+use Rattle.spec_rights.proofs.Shown.{shown, quiet_tell}
+use Rattle.spec_commands.specs.Replies.{goodbye, has_disconnected}
 use Rattle.spec_commands.specs.Talk.{welcome, refused_login, let_in, logged_in, connecting, quit, at_login, parting, parted}
 use Rattle.spec_commands.proofs.Numbered.{Seating, seating_quiet, seating_followed, seating_reading, seating_either, seating_leave, seating_enter}
 use Rattle.spec_commands.proofs.Showing.{quiet_shown_others, quiet_looked, quiet_who_shown}
@@ -20,7 +20,7 @@ seating_quit d = seating_followed _ _ (seating_tell d goodbye) (seating_leave d)
 
 seating_let_in : (d : ℕ) (player : Option Dbref) → Seating (let_in d player)
 seating_let_in d None = seating_tell d refused_login
-seating_let_in d (Some player) = seating_followed _ _ (seating_enter d player) (seating_quiet _ (quiet_followed _ _ (quiet_shown_others player has_connected) (quiet_looked d player)))
+seating_let_in d (Some player) = seating_followed _ _ (seating_enter d player) (seating_quiet _ (search (shown, quiet_shown_others, quiet_looked)))
 
 seating_logged_in : (d : ℕ) (name word : List ℕ) → Seating (logged_in d name word)
 unfolding logged_in

@@ -4,8 +4,6 @@ use Rattle.std.specs.Prelude.{Result, Ok, Err}
 use Rattle.muck_model.specs.declared.dbref.Dbref.{Dbref}
 use Rattle.muck_model.specs.declared.dbref.Denial.{Denial}
 use Rattle.muck_match.specs.declared.exits.ExitHit.{ExitHit}
-use Rattle.muck_match.specs.declared.naming.Found.{Found}
-use Rattle.muck_match.specs.declared.naming.Found.TheVariants.{One, None as Nobody, Many}
 use Rattle.spec_live.specs.declared.fault.DbFault.{DbFault}
 use Rattle.spec_live.specs.Lives.{Live, Change, followed, reading, either}
 use Rattle.spec_rights.specs.declared.act.Actor.{Actor}
@@ -14,9 +12,10 @@ use Rattle.spec_rights.specs.Verdict.{verdict}
 use Rattle.spec_rights.specs.Asking.{answered, asked}
 use Rattle.spec_commands.specs.declared.outcome.Outcome.{Outcome}
 use Rattle.spec_commands.specs.declared.outcome.Outcome.TheVariants.{Done, NotMine, Start, Leave, Edit}
-use Rattle.spec_commands.specs.Finding.{chosen, finding, where_so}
-use Rattle.spec_commands.specs.Going.{Play, ended, led, walked, walked_some, went}
-use Rattle.spec_commands.specs.Programming.{finding_program, program_put, program_at, program_new, program_made, editor_entered, program_edited, source_shown, program_listed, program_called, program_run}
+use Rattle.spec_commands.specs.Finding.{where_so}
+use Rattle.spec_commands.specs.declared.typed.Typed.{Typed}
+use Rattle.spec_commands.specs.Going.{Play, ended, led, tried, walked, walked_some, went}
+use Rattle.spec_commands.specs.Programming.{program_put, program_at, program_new, program_made, program_edited, program_listed, program_run}
 
 -- it isn't left to the next
 pub record Mine (f : Play) : Type 0 where
@@ -60,13 +59,13 @@ mine_asked a act refuse go p q = record { law = λ w. at w (verdict w.objects a 
     at w None = q.law w
     at w (Some denial) = (p denial).law w
 
-pub mine_led : (d : ℕ) (player : Dbref) (hit : ExitHit) (line : List ℕ) (to : Dbref) → Mine (led d player hit line to)
+mine_led : (d : ℕ) (a : Actor) (typed : Typed) (exit : Dbref) (line : List ℕ) (to : Dbref) → Mine (led d a typed exit line to)
 unfolding led
-mine_led d player hit line to = search (mine_either, mine_where, mine_done, mine_start)
+mine_led d a typed exit line to = search (mine_either, mine_where, mine_done, mine_start)
 
 pub mine_walked : (d : ℕ) (a : Actor) (hit : ExitHit) (line : List ℕ) → Mine (walked d a hit line)
-unfolding walked
-mine_walked d a hit line = search (mine_asked, mine_followed, mine_reading, mine_done, mine_led)
+unfolding walked tried
+mine_walked d a hit line = search (mine_asked, mine_followed, mine_reading, mine_done, mine_led) depth 7
 
 pub mine_walked_some : (d : ℕ) (a : Actor) (line : List ℕ) (hit : Option ExitHit) → Mine (walked_some d a line hit)
 mine_walked_some d a line None = mine_done _
@@ -81,19 +80,6 @@ mine_went d a line = mine_reading _ (walked_some d a line) (λ hit. mine_walked_
 pub mine_edit : (program : Dbref) (f : Change) → Mine (ended (Edit program) f)
 mine_edit program f = mine_ended (Edit program) f (λ e. cc)
 
-mine_chosen : (refuse : List ℕ → Play) (text : List ℕ) (go : Dbref → Play) (hit : Found) → ((t : List ℕ) → Mine (refuse t)) → ((x : Dbref) → Mine (go x)) → Mine (chosen refuse text go hit)
-mine_chosen refuse text go (One x) p q = q x
-mine_chosen refuse text go Nobody p q = p _
-mine_chosen refuse text go Many p q = p _
-
-mine_finding : (refuse : List ℕ → Play) (player : Dbref) (text : List ℕ) (go : Dbref → Play) → ((t : List ℕ) → Mine (refuse t)) → ((x : Dbref) → Mine (go x)) → Mine (finding refuse player text go)
-unfolding finding
-mine_finding refuse player text go p q = mine_reading _ (chosen refuse text go) (λ hit. mine_chosen refuse text go hit p q)
-
-mine_finding_program : (d : ℕ) (a : Actor) (name : List ℕ) (go : Dbref → Play) → ((x : Dbref) → Mine (go x)) → Mine (finding_program d a name go)
-unfolding finding_program
-mine_finding_program d a name go p = mine_finding _ _ _ _ (λ t. mine_done _) (λ x. mine_where _ _ _ (mine_done _) (p x))
-
 mine_program_at : (d : ℕ) (a : Actor) (name : List ℕ) (level : ℕ) (check : Result (ℕ × ℕ) DbFault) → Mine (program_at d a name level check)
 unfolding program_put
 mine_program_at d a name level (Ok p) = mine_edit _ _
@@ -105,16 +91,16 @@ mine_program_new d a name = mine_reading _ _ (λ level. mine_reading _ (program_
 
 pub mine_program_made : (d : ℕ) (a : Actor) (name : List ℕ) → Mine (program_made d a name)
 unfolding program_made
-mine_program_made d a name = mine_either _ _ _ (mine_asked _ _ _ _ (λ denial. mine_done _) (mine_program_new d a name)) (mine_done _)
+mine_program_made d a name = mine_asked _ _ _ _ (λ denial. mine_done _) (mine_program_new d a name)
 
-pub mine_program_edited : (d : ℕ) (a : Actor) (name : List ℕ) → Mine (program_edited d a name)
-unfolding program_edited editor_entered
-mine_program_edited d a name = mine_finding_program d a name _ (λ x. mine_asked _ _ _ _ (λ denial. mine_done _) (mine_edit _ _))
+pub mine_program_edited : (d : ℕ) (a : Actor) (x : Dbref) → Mine (program_edited d a x)
+unfolding program_edited
+mine_program_edited d a x = mine_asked _ _ _ _ (λ denial. mine_done _) (mine_edit _ _)
 
-pub mine_program_listed : (d : ℕ) (a : Actor) (name : List ℕ) → Mine (program_listed d a name)
-unfolding program_listed source_shown
-mine_program_listed d a name = mine_finding_program d a name _ (λ x. mine_asked _ _ _ _ (λ denial. mine_done _) (mine_done _))
+pub mine_program_listed : (d : ℕ) (a : Actor) (x : Dbref) → Mine (program_listed d a x)
+unfolding program_listed
+mine_program_listed d a x = mine_asked _ _ _ _ (λ denial. mine_done _) (mine_done _)
 
-pub mine_program_run : (d : ℕ) (a : Actor) (line name text : List ℕ) → Mine (program_run d a line name text)
-unfolding program_run program_called
-mine_program_run d a line name text = mine_finding_program d a name _ (λ x. mine_asked _ _ _ _ (λ denial. mine_done _) (mine_start _ _ _ _ _))
+pub mine_program_run : (d : ℕ) (a : Actor) (line : List ℕ) (x : Dbref) (text : List ℕ) → Mine (program_run d a line x text)
+unfolding program_run
+mine_program_run d a line x text = mine_asked _ _ _ _ (λ denial. mine_done _) (mine_start _ _ _ _ _)

@@ -1,5 +1,5 @@
 -- What players do with programs is open to them.
-use Rattle.std.proofs.Common.{◌≡◌, ℕ, List, [], ◌∷◌, refl, Option, Some, None}
+use Rattle.std.proofs.Common.{◌≡◌, ℕ, List, [], ◌∷◌, refl, Some, None}
 use Rattle.std.specs.Prelude.{Bool, Result, Ok, Err}
 use Rattle.muck_model.specs.declared.dbref.Dbref.{Dbref}
 use Rattle.muck_model.specs.declared.dbref.Kind.TheVariants.{Program}
@@ -9,7 +9,6 @@ use Rattle.spec_live.specs.Making.{create_check}
 use Rattle.spec_live.specs.Setting.{with_level}
 use Rattle.spec_live.specs.Lives.{Live, followed, ◌▸◌, reading, tell}
 use Rattle.spec_rights.specs.declared.act.Actor.{Actor}
-use Rattle.spec_rights.specs.declared.act.Act.{Act}
 use Rattle.spec_rights.specs.declared.act.Act.TheVariants.{NewProgram}
 use Rattle.spec_rights.specs.Verdict.{verdict}
 use Rattle.spec_rights.specs.Changing.{created_so}
@@ -18,9 +17,9 @@ use Rattle.spec_rights.proofs.Licences.{judge, Quiet, End, Ends, end_quietly, en
 use Rattle.spec_rights.proofs.Makings.{end_created, program_open}
 use Rattle.spec_rights.proofs.Shown.{shown, quiet_tell}
 use Rattle.spec_commands.specs.Replies.{cant_be_done, entering_editor}
-use Rattle.spec_commands.specs.Going.{Play, ended}
+use Rattle.spec_commands.specs.Going.{ended}
 use Rattle.spec_commands.specs.Building.{created_shown}
-use Rattle.spec_commands.specs.Programming.{lines_shown, finding_program, first_level, program_put, program_at, program_new, program_made, editor_entered, program_edited, source_shown, program_listed, program_called, program_run}
+use Rattle.spec_commands.specs.Programming.{lines_shown, first_level, program_put, program_at, program_new, program_made, program_edited, program_listed, program_run}
 use Rattle.spec_commands.proofs.Built.{permitting, quiet_created_shown}
 use Rattle.spec_commands.proofs.Gone.{world_of, ends_ended}
 
@@ -30,10 +29,6 @@ quiet_lines_shown d [] = search shown
 quiet_lines_shown d (line ∷ lines) = quiet_followed (tell d line) (lines_shown d lines) (quiet_tell d line) (quiet_lines_shown d lines)
 
 ruleset programming = (permitting, ends_ended, quiet_lines_shown)
-
-ends_finding_program : (a : Actor) (free : Dbref → Bool) (given : Option Act) (d : ℕ) (b : Actor) (name : List ℕ) (go : Dbref → Play) → ((x : Dbref) → Ends world_of a free given (go x)) → Ends world_of a free given (finding_program d b name go)
-unfolding finding_program
-ends_finding_program a free given d b name go p = search programming depth 7
 
 -- Making.
 
@@ -55,26 +50,14 @@ program_made_open a free d name = search (programming, ends_program_new)
 
 -- Editing, listing and running change nothing that is judged.
 
-editor_entered_open : (a : Actor) (free : Dbref → Bool) (d : ℕ) (x : Dbref) → Ends world_of a free None (editor_entered d a x)
-unfolding editor_entered
-editor_entered_open a free d x = search programming
-
-source_shown_open : (a : Actor) (free : Dbref → Bool) (d : ℕ) (x : Dbref) → Ends world_of a free None (source_shown d a x)
-unfolding source_shown
-source_shown_open a free d x = search programming depth 7
-
-program_called_open : (a : Actor) (free : Dbref → Bool) (d : ℕ) (line text : List ℕ) (x : Dbref) → Ends world_of a free None (program_called d a line text x)
-unfolding program_called
-program_called_open a free d line text x = search programming
-
-pub program_edited_open : (a : Actor) (free : Dbref → Bool) (d : ℕ) (name : List ℕ) → Ends world_of a free None (program_edited d a name)
+pub program_edited_open : (a : Actor) (free : Dbref → Bool) (d : ℕ) (x : Dbref) → Ends world_of a free None (program_edited d a x)
 unfolding program_edited
-program_edited_open a free d name = ends_finding_program a free None d a name _ (editor_entered_open a free d)
+program_edited_open a free d x = search programming
 
-pub program_listed_open : (a : Actor) (free : Dbref → Bool) (d : ℕ) (name : List ℕ) → Ends world_of a free None (program_listed d a name)
+pub program_listed_open : (a : Actor) (free : Dbref → Bool) (d : ℕ) (x : Dbref) → Ends world_of a free None (program_listed d a x)
 unfolding program_listed
-program_listed_open a free d name = ends_finding_program a free None d a name _ (source_shown_open a free d)
+program_listed_open a free d x = search programming depth 7
 
-pub program_run_open : (a : Actor) (free : Dbref → Bool) (d : ℕ) (line name text : List ℕ) → Ends world_of a free None (program_run d a line name text)
+pub program_run_open : (a : Actor) (free : Dbref → Bool) (d : ℕ) (line : List ℕ) (x : Dbref) (text : List ℕ) → Ends world_of a free None (program_run d a line x text)
 unfolding program_run
-program_run_open a free d line name text = ends_finding_program a free None d a name _ (program_called_open a free d line text)
+program_run_open a free d line x text = search programming

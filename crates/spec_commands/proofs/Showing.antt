@@ -1,18 +1,20 @@
 -- What players say, see and find changes nothing that is judged.
 use Rattle.std.proofs.Common.{◌≡◌, ℕ, Bool, true, false, List, [], ◌∷◌, refl, Option, Some, None}
-use Rattle.std.specs.Option.{option_map_or}
 use Rattle.muck_model.specs.declared.dbref.Dbref.{Dbref}
 use Rattle.muck_match.specs.declared.naming.Found.{Found}
 use Rattle.muck_match.specs.declared.naming.Found.TheVariants.{One, None as Nobody, Many}
-use Rattle.spec_live.specs.Connections.{Connection}
 use Rattle.spec_live.specs.Objects.{Entry}
-use Rattle.spec_live.specs.Lives.{Live, Change, reading, either, unchanged, tell}
+use Rattle.spec_live.specs.Lives.{Live, Change, reading, either}
 use Rattle.spec_rights.specs.declared.act.Actor.{Actor}
 use Rattle.spec_rights.specs.declared.act.Act.{Act}
 use Rattle.spec_rights.proofs.Shown.{shown, quiet_one}
 use Rattle.spec_rights.proofs.Licences.{Quiet, Stays, Ends, Whole, quiet_reading, stays_reading, ends_reading, whole_reading, whole_told, quiet_followed, quiet_unchanged}
-use Rattle.spec_commands.specs.Finding.{chosen, finding, named_player, finding_player, where_so, finding_object, with_message, shown_others, message_or, message_shown, message_to_others, listed, listed_under, room_shown, looked, looked_at}
-use Rattle.spec_commands.specs.Talking.{said, posed, said_to, paged, whispered, who_lines, who_shown}
+use Rattle.spec_commands.specs.declared.typed.Typed.{Typed}
+use Rattle.spec_commands.specs.declared.word.Message.{Message}
+use Rattle.spec_commands.specs.Messages.{message_how, spoken, spoken_some, with_message}
+use Rattle.spec_commands.specs.declared.presence.Presence.{Presence}
+use Rattle.spec_commands.specs.Finding.{each, chosen, finding, named_player, finding_player, where_so, finding_object, shown_others, message_or, message_shown, message_to_others, listed, listed_under, room_shown, looked, owner_shown}
+use Rattle.spec_commands.specs.Talking.{said_to, presence_shown, who_shown}
 use Rattle.spec_commands.specs.Talk.{waits}
 
 -- Where the world is so.
@@ -46,6 +48,11 @@ whole_where out a own free given test otherwise go p q = whole_told out a own fr
     at : (b : Bool) → Whole out a own free (λ w. given w × (test w ≡ b)) (either b go otherwise)
     at true = record { law = λ w c h. q.law w c h }
     at false = record { law = λ w c h. p.law w c h.0 }
+
+pub quiet_each : {X : Type 0} (go : X → Change) (xs : List X) → ((x : X) → Quiet (go x)) → Quiet (each go xs)
+unfolding each
+quiet_each go [] q = quiet_unchanged
+quiet_each go (x ∷ xs) q = quiet_followed (go x) (each go xs) (q x) (quiet_each go xs q)
 
 -- Finding.
 
@@ -104,25 +111,35 @@ quiet_finding_object d a name go q = search (shown, quiet_finding, quiet_where)
 
 -- Messages.
 
-quiet_message : (otherwise : Change) (go : List ℕ → Change) (message : Option (List ℕ)) → Quiet otherwise → ((text : List ℕ) → Quiet (go text)) → Quiet (with_message otherwise go message)
-quiet_message otherwise go (Some text) p q = q text
-quiet_message otherwise go None p q = p
+-- what is spoken changes nothing but what is done with it
+quiet_spoken : (a : Actor) (x : Dbref) (how : List ℕ) (typed : Typed) (text : List ℕ) (go : List ℕ → Change) → ((t : List ℕ) → Quiet (go t)) → Quiet (spoken a x how typed text go)
+unfolding spoken
+quiet_spoken a x how typed text go q = q text
+
+quiet_spoken_some : (a : Actor) (typed : Typed) (m : Message) (x : Dbref) (otherwise : Change) (go : List ℕ → Change) (message : Option (List ℕ)) → Quiet otherwise → ((t : List ℕ) → Quiet (go t)) →
+    Quiet (spoken_some a typed m x otherwise go message)
+quiet_spoken_some a typed m x otherwise go (Some text) p q = quiet_spoken a x (message_how m) typed text go q
+quiet_spoken_some a typed m x otherwise go None p q = p
+
+pub quiet_with_message : (a : Actor) (typed : Typed) (m : Message) (x : Dbref) (otherwise : Change) (go : List ℕ → Change) → Quiet otherwise → ((t : List ℕ) → Quiet (go t)) → Quiet (with_message a typed m x otherwise go)
+unfolding with_message
+quiet_with_message a typed m x otherwise go p q = quiet_reading _ (spoken_some a typed m x otherwise go) (λ message. quiet_spoken_some a typed m x otherwise go message p q)
 
 pub quiet_shown_others : (player : Dbref) (tail : List ℕ) → Quiet (shown_others player tail)
 unfolding shown_others
 quiet_shown_others player tail = search shown
 
-pub quiet_message_or : (d : ℕ) (otherwise word : List ℕ) (x : Dbref) → Quiet (message_or d otherwise word x)
+pub quiet_message_or : (d : ℕ) (a : Actor) (typed : Typed) (otherwise : List ℕ) (m : Message) (x : Dbref) → Quiet (message_or d a typed otherwise m x)
 unfolding message_or
-quiet_message_or d otherwise word x = quiet_reading _ (with_message (tell d otherwise) (tell d)) (λ m. quiet_message _ _ m (search shown) (λ t. search shown))
+quiet_message_or d a typed otherwise m x = search (shown, quiet_with_message)
 
-pub quiet_message_shown : (d : ℕ) (word : List ℕ) (x : Dbref) → Quiet (message_shown d word x)
+pub quiet_message_shown : (d : ℕ) (a : Actor) (typed : Typed) (m : Message) (x : Dbref) → Quiet (message_shown d a typed m x)
 unfolding message_shown
-quiet_message_shown d word x = quiet_reading _ (with_message unchanged (tell d)) (λ m. quiet_message _ _ m (search shown) (λ t. search shown))
+quiet_message_shown d a typed m x = search (shown, quiet_with_message)
 
-pub quiet_message_to_others : (player : Dbref) (word : List ℕ) (x : Dbref) → Quiet (message_to_others player word x)
+pub quiet_message_to_others : (a : Actor) (typed : Typed) (m : Message) (x : Dbref) → Quiet (message_to_others a typed m x)
 unfolding message_to_others
-quiet_message_to_others player word x = quiet_reading _ (with_message unchanged (λ text. shown_others player (32 ∷ text))) (λ m. quiet_message _ _ m (search shown) (λ t. quiet_shown_others player (32 ∷ t)))
+quiet_message_to_others a typed m x = search (shown, quiet_with_message, quiet_shown_others)
 
 -- Looking.
 
@@ -136,52 +153,31 @@ unfolding listed_under
 quiet_listed_under d player head otherwise [] p = p
 quiet_listed_under d player head otherwise (x ∷ xs) p = quiet_followed _ _ (search shown) (quiet_listed d player (x ∷ xs))
 
-pub quiet_room_shown : (d : ℕ) (player room : Dbref) → Quiet (room_shown d player room)
+pub quiet_room_shown : (d : ℕ) (a : Actor) (typed : Typed) (room : Dbref) → Quiet (room_shown d a typed room)
 unfolding room_shown
-quiet_room_shown d player room = search (shown, quiet_message_shown, quiet_listed_under)
+quiet_room_shown d a typed room = search (shown, quiet_message_shown, quiet_listed_under)
 
-pub quiet_looked : (d : ℕ) (player : Dbref) → Quiet (looked d player)
+pub quiet_looked : (d : ℕ) (a : Actor) (typed : Typed) → Quiet (looked d a typed)
 unfolding looked
-quiet_looked d player = search (shown, quiet_room_shown)
+quiet_looked d a typed = search (shown, quiet_room_shown)
 
-pub quiet_looked_at : (d : ℕ) (a : Actor) (name : List ℕ) → Quiet (looked_at d a name)
-unfolding looked_at
-quiet_looked_at d a name = search (shown, quiet_finding_object, quiet_where, quiet_message_or, quiet_room_shown)
+pub quiet_owner_shown : (d : ℕ) (x : Dbref) → Quiet (owner_shown d x)
+unfolding owner_shown
+quiet_owner_shown d x = search shown
 
 -- Talking.
 
-pub quiet_said : (d : ℕ) (player : Dbref) (text : List ℕ) → Quiet (said d player text)
-unfolding said
-quiet_said d player text = search (shown, quiet_shown_others)
-
-pub quiet_posed : (d : ℕ) (player : Dbref) (text : List ℕ) → Quiet (posed d player text)
-unfolding posed
-quiet_posed d player text = search (shown, quiet_shown_others)
-
-quiet_said_to : (d : ℕ) (player to : Dbref) (you : List ℕ → List ℕ) (tail : List ℕ) → Quiet (said_to d player to you tail)
+pub quiet_said_to : (d : ℕ) (player to : Dbref) (verb text : List ℕ) → Quiet (said_to d player to verb text)
 unfolding said_to
-quiet_said_to d player to you tail = search shown
+quiet_said_to d player to verb text = search shown
 
-pub quiet_paged : (d : ℕ) (player : Dbref) (name text : List ℕ) → Quiet (paged d player name text)
-unfolding paged
-quiet_paged d player name text = search (shown, quiet_finding_player, quiet_where, quiet_said_to)
-
-pub quiet_whispered : (d : ℕ) (player : Dbref) (name text : List ℕ) → Quiet (whispered d player name text)
-unfolding whispered
-quiet_whispered d player name text = search (shown, quiet_finding, quiet_where, quiet_said_to)
-
-quiet_who_line : (d : ℕ) (number : ℕ) (line : Dbref → Change) (player : Option Dbref) → ((x : Dbref) → Quiet (line x)) → Quiet (option_map_or line player unchanged)
-quiet_who_line d number line None p = quiet_unchanged
-quiet_who_line d number line (Some x) p = p x
-
-quiet_who_lines : (d : ℕ) (cs : List Connection) → Quiet (who_lines d cs)
-unfolding who_lines
-quiet_who_lines d [] = search shown
-quiet_who_lines d (c ∷ cs) = quiet_followed _ _ (quiet_who_line d c.number _ c.player (λ x. search shown)) (quiet_who_lines d cs)
+quiet_presence_shown : (d : ℕ) (p : Presence) → Quiet (presence_shown d p)
+unfolding presence_shown
+quiet_presence_shown d p = search shown
 
 pub quiet_who_shown : (d : ℕ) → Quiet (who_shown d)
 unfolding who_shown
-quiet_who_shown d = search (shown, quiet_who_lines)
+quiet_who_shown d = search (shown, quiet_each, quiet_presence_shown)
 
 -- the lines that wait
 pub quiet_waits : (d : ℕ) (lines : List (List ℕ)) → Quiet (waits d lines)
@@ -189,4 +185,4 @@ unfolding waits
 quiet_waits d lines = quiet_one d (λ c. record c { waiting = lines }) (λ c. refl)
 
 -- whatever players see
-pub ruleset seeing = (shown, quiet_where, quiet_finding, quiet_finding_player, quiet_finding_object, quiet_shown_others, quiet_message_or, quiet_message_shown, quiet_message_to_others, quiet_listed, quiet_listed_under, quiet_room_shown, quiet_looked, quiet_looked_at, quiet_said, quiet_posed, quiet_paged, quiet_whispered, quiet_who_shown, quiet_waits)
+pub ruleset seeing = (shown, quiet_where, quiet_finding, quiet_finding_player, quiet_finding_object, quiet_shown_others, quiet_message_or, quiet_message_shown, quiet_message_to_others, quiet_listed, quiet_listed_under, quiet_room_shown, quiet_looked, quiet_owner_shown, quiet_said_to, quiet_who_shown, quiet_waits)

@@ -1,15 +1,14 @@
 -- How players build.
 use Rattle.std.specs.Prelude.{ℕ, ◌+◌, Bool, true, false, not, ◌&&◌, ◌||◌, ◌==◌, nat_lt, nat_le, if◌then◌else◌, List, [], ◌∷◌, length, map, codes, Option, Some, None, Result, Ok, Err}
-use Rattle.std.specs.Option.{option_map_or, option_and_then}
+use Rattle.std.specs.Option.{option_map_or}
 use Rattle.std.specs.List.{list_any}
 use Rattle.std.specs.Char.{to_ascii_lowercase}
-use Rattle.std.specs.FinMap.{get}
 use Rattle.muck_model.specs.declared.dbref.Dbref.{Dbref}
 use Rattle.muck_model.specs.declared.dbref.Kind.{Kind}
-use Rattle.muck_model.specs.declared.dbref.Kind.TheVariants.{Room, Thing, Exit, Garbage}
+use Rattle.muck_model.specs.declared.dbref.Kind.TheVariants.{Room as RoomKind, Thing as ThingKind, Exit as ExitKind, Garbage}
 use Rattle.muck_model.specs.declared.lock.Lock.{Lock}
-use Rattle.muck_prop.specs.declared.value.PropValue.{PropValue}
-use Rattle.muck_prop.specs.declared.value.PropValue.TheVariants.{Text, Number}
+use Rattle.muck_model.specs.Bytes.{text_most}
+use Rattle.muck_prop.specs.declared.value.PropValue.TheVariants.{Text}
 use Rattle.muck_match.specs.Words.{is_same}
 use Rattle.muck_match.specs.declared.naming.Found.{Found}
 use Rattle.muck_match.specs.declared.naming.Found.TheVariants.{One}
@@ -21,18 +20,20 @@ use Rattle.spec_live.specs.declared.fault.DbFault.{DbFault}
 use Rattle.spec_live.specs.declared.object.Object.{Object}
 use Rattle.spec_live.specs.Objects.{Entry, dbref_of, nothing, home, same, is_thing, is_player, is_program, object_at}
 use Rattle.spec_live.specs.Making.{create_check}
-use Rattle.spec_live.specs.Setting.{with_link, with_home, link_check, home_check, owner_check, may_link, may_live}
+use Rattle.spec_live.specs.Setting.{any, checked, with_link, with_home, link_check, home_check, owner_check, may_link, may_live}
 use Rattle.spec_live.specs.Recycling.{recycle_check}
-use Rattle.spec_live.specs.Seen.{scenery_of, long_form, signed_text}
-use Rattle.spec_live.specs.Lives.{Live, Change, ◌▸◌, reading, either, tell, place_at, name_at}
+use Rattle.spec_live.specs.Seen.{scenery_of, long_form}
+use Rattle.spec_live.specs.Lives.{Live, Change, ◌▸◌, reading, either, tell, place_at}
 use Rattle.spec_rights.specs.declared.act.Actor.{Actor}
+use Rattle.spec_rights.specs.declared.act.Act.{Act}
 use Rattle.spec_rights.specs.declared.act.Act.TheVariants.{Move, Link, NewRoom, NewThing, NewExit, Change as ChangeAct, Rename, Recycle, SetOwner}
-use Rattle.spec_rights.specs.Levels.{controls_as, name_shown, owner_at}
 use Rattle.spec_rights.specs.Asking.{asked, refused}
-use Rattle.spec_rights.specs.Changing.{named, linked, homed, owned_by, stored, recycled_now, created_so}
-use Rattle.spec_commands.specs.Replies.{cant_be_done, bad_name, bad_key, owner_line, lock_line, unlocked_text, created_reply, linked_reply, unlinked_reply, named_reply, set_reply, locked_reply, unlocked_reply, teleported_reply, recycled_reply, chowned_reply, found_count}
-use Rattle.spec_commands.specs.Finding.{finding, finding_player, where_so, is_so, message_path, listed, finding_object}
-use Rattle.spec_commands.specs.Going.{may_move, moving, home_at}
+use Rattle.spec_rights.specs.Changing.{moved_to, named, linked, homed, owned_by, stored, recycled_now, created_so}
+use Rattle.spec_commands.specs.declared.new.New.{New}
+use Rattle.spec_commands.specs.declared.new.New.TheVariants.{Room, Thing, Exit}
+use Rattle.spec_commands.specs.Replies.{cant_be_done, bad_name, bad_key, created_reply, linked_reply, unlinked_reply, named_reply, locked_reply, teleported_reply, recycled_reply, chowned_reply, found_count}
+use Rattle.spec_commands.specs.Finding.{where_so, is_so, message_path, listed}
+use Rattle.spec_commands.specs.Going.{may_move, movable, home_at}
 
 -- Names.
 
@@ -72,54 +73,58 @@ making d a kind name place f =
     reading (λ w. create_check kind a.user place w.objects) (λ check.
     made_at check (λ n to. created_so n kind name a.user to f ▸ created_shown d n) (tell d cant_be_done))
 
-abbrev pub as_made : Object → Object
-as_made o = o
-
--- `@dig`
-unfoldable pub dug : ℕ → Actor → List ℕ → Change
-dug d a name =
-    either (is_name name)
-    (asked a (NewRoom (dbref_of 0)) (refused d) (making d a Room name (dbref_of 0) as_made))
-    (tell d bad_name)
-
 -- a thing may have its home there
 abbrev pub may_house : Dbref → Live → Bool
-may_house to w = is_so (λ o. may_live Thing o.kind) to w
-
--- a thing that the player carries, with that home
-unfoldable pub housed : ℕ → Actor → List ℕ → Dbref → Change
-housed d a name to = where_so (may_house to) (tell d cant_be_done) (making d a Thing name a.player (with_home to))
-
--- `@create`: a thing whose home is the player's
-unfoldable pub thing_made : ℕ → Actor → List ℕ → Change
-thing_made d a name =
-    either (is_name name) (asked a (NewThing a.player) (refused d) (reading (home_at a.player) (housed d a name))) (tell d bad_name)
+may_house to w = is_so (λ o. may_live ThingKind o.kind) to w
 
 -- an exit may lead there
 abbrev pub may_lead : Dbref → Live → Bool
-may_lead to w = same to home || (same to nothing || is_so (λ o. may_link Exit o.kind) to w)
+may_lead to w = same to home || (same to nothing || is_so (λ o. may_link ExitKind o.kind) to w)
 
-unfoldable pub exit_made : ℕ → Actor → List ℕ → Dbref → Dbref → Change
-exit_made d a name place to =
-    asked a (NewExit place to) (refused d)
-    (where_so (may_lead to) (tell d cant_be_done) (making d a Exit name place (with_link to)))
+-- what is to be made: its kind, the field that is set at once, and what that may be; and the act by which it is asked
+abbrev pub kind_of : New → Kind
+kind_of Room = RoomKind
+kind_of (Thing at) = ThingKind
+kind_of (Exit to) = ExitKind
 
--- `@open` with a name alone, and with a place to which the exit leads
-unfoldable pub opened_exit : ℕ → Actor → List ℕ → Change
-opened_exit d a name = either (is_name name) (reading (place_at a.player) (λ here. exit_made d a name here nothing)) (tell d bad_name)
+abbrev pub as_new : New → Object → Object
+as_new Room = λ o. o
+as_new (Thing at) = with_home at
+as_new (Exit to) = with_link to
 
-unfoldable pub opened_to : ℕ → Actor → List ℕ → List ℕ → Change
-opened_to d a name target =
-    either (is_name name)
-    (finding (tell d) a.player target (λ to. reading (place_at a.player) (λ here. exit_made d a name here to)))
-    (tell d bad_name)
+abbrev pub may_be : New → Live → Bool
+may_be Room w = true
+may_be (Thing at) w = may_house at w
+may_be (Exit to) w = may_lead to w
 
--- `@action`: an exit on an object
-unfoldable pub action_made : ℕ → Actor → List ℕ → List ℕ → Change
-action_made d a name target =
-    either (is_name name)
-    (finding (tell d) a.player target (λ x. where_so (is_so (λ o. true) x) (tell d cant_be_done) (exit_made d a name x nothing)))
-    (tell d bad_name)
+abbrev pub act_in : Dbref → New → Act
+act_in place Room = NewRoom place
+act_in place (Thing at) = NewThing place
+act_in place (Exit to) = NewExit place to
+
+-- it is made in a place, where neither a rule nor the world denies it
+unfoldable pub made : ℕ → Actor → New → List ℕ → Dbref → Change
+made d a new name place =
+    asked a (act_in place new) (refused d)
+    (where_so (may_be new) (tell d cant_be_done) (making d a (kind_of new) name place (as_new new)))
+
+-- `@create`: a thing that the player carries, whose home is the player's
+unfoldable pub thing_made : ℕ → Actor → List ℕ → Change
+thing_made d a name = reading (home_at a.player) (λ at. made d a (Thing at) name a.player)
+
+-- `@open`: an exit where the player is
+unfoldable pub exit_opened : ℕ → Actor → List ℕ → Dbref → Change
+exit_opened d a name to = reading (place_at a.player) (λ here. made d a (Exit to) name here)
+
+-- Writing, which a rule or the world may refuse.
+
+-- where the world allows it, it is done and told
+unfoldable pub done_where : ℕ → (Live → Bool) → Change → List ℕ → Change
+done_where d may change reply = where_so may (tell d cant_be_done) (change ▸ tell d reply)
+
+-- the rules are asked first
+unfoldable pub written : ℕ → Actor → Act → (Live → Bool) → Change → List ℕ → Change
+written d a act may change reply = asked a act (refused d) (done_where d may change reply)
 
 -- Links and homes.
 
@@ -130,45 +135,38 @@ has_home x w = is_so (λ o. is_thing o.kind || is_player o.kind) x w
 abbrev pub is_linkable : Dbref → Live → Bool
 is_linkable x w = is_so (λ o. not (is_program o.kind)) x w
 
--- the link or the home is set, where the world allows it
-unfoldable pub tied : ℕ → Dbref → Dbref → List ℕ → Change
-tied d x to reply =
-    where_so (has_home x)
-    (where_so (λ w. allowed (link_check x to w.objects)) (tell d cant_be_done) (linked x to ▸ tell d reply))
-    (where_so (λ w. allowed (home_check x to w.objects)) (tell d cant_be_done) (homed x to ▸ tell d reply))
+-- a link, or the home of what has one
+abbrev pub may_tie : Dbref → Dbref → Dbref → Live → Bool
+may_tie x link at w = if has_home x w then allowed (home_check x at w.objects) else allowed (link_check x link w.objects)
+
+unfoldable pub tied : Dbref → Dbref → Dbref → Change
+tied x link at = reading (has_home x) (λ b. either b (homed x at) (linked x link))
 
 -- `@link`
-unfoldable pub link_set : ℕ → Actor → List ℕ → List ℕ → Change
-link_set d a name target =
-    finding (tell d) a.player name (λ x.
-    finding (tell d) a.player target (λ to.
-    where_so (is_linkable x) (tell d cant_be_done) (asked a (Link x to) (refused d) (tied d x to linked_reply))))
+unfoldable pub link_set : ℕ → Actor → Dbref → Dbref → Change
+link_set d a x to = where_so (is_linkable x) (tell d cant_be_done) (written d a (Link x to) (may_tie x to to) (tied x to to) linked_reply)
 
 -- `@unlink`: a link is cleared, and a home becomes `#0`
-abbrev pub untied_to : Dbref → Live → Dbref
-untied_to x w = if has_home x w then dbref_of 0 else nothing
-
-unfoldable pub link_cleared : ℕ → Actor → List ℕ → Change
-link_cleared d a name =
-    finding (tell d) a.player name (λ x.
-    where_so (is_linkable x) (tell d cant_be_done)
-    (asked a (Link x nothing) (refused d) (reading (untied_to x) (λ to. tied d x to unlinked_reply))))
+unfoldable pub link_cleared : ℕ → Actor → Dbref → Change
+link_cleared d a x =
+    where_so (is_linkable x) (tell d cant_be_done) (written d a (Link x nothing) (may_tie x nothing (dbref_of 0)) (tied x nothing (dbref_of 0)) unlinked_reply)
 
 -- Names, messages and locks.
 
-abbrev pub is_name_for : Dbref → List ℕ → Live → Bool
-is_name_for x name w = if is_so (λ o. is_player o.kind) x w then is_player_name w.objects name else is_name name
+-- a player has a name that no other has
+abbrev pub may_be_called : Dbref → List ℕ → Live → Bool
+may_be_called x name w = if is_so (λ o. is_player o.kind) x w then is_player_name w.objects name else is_name name
+
+abbrev pub is_there : Dbref → Live → Bool
+is_there x w = allowed (checked any x w.objects)
 
 -- `@name`
-unfoldable pub name_set : ℕ → Actor → List ℕ → List ℕ → Change
-name_set d a name new =
-    finding_object d a name (λ x.
-    where_so (is_name_for x new) (tell d bad_name) (asked a (Rename x) (refused d) (named x new ▸ tell d named_reply)))
+unfoldable pub name_set : ℕ → Actor → Dbref → List ℕ → Change
+name_set d a x name = where_so (may_be_called x name) (tell d bad_name) (written d a (Rename x) (is_there x) (named x name) named_reply)
 
--- the commands of messages; an empty text clears one
-unfoldable pub message_set : ℕ → Actor → List ℕ → List ℕ → List ℕ → Change
-message_set d a word name text =
-    finding_object d a name (λ x. asked a (ChangeAct x) (refused d) (stored x (message_path word) (Text text) ▸ tell d set_reply))
+-- a message or a lock is kept; an empty text clears it
+unfoldable pub kept : ℕ → Actor → Dbref → List ℕ → List ℕ → List ℕ → Change
+kept d a x word text reply = written d a (ChangeAct x) (is_there x) (stored x (message_path word) (Text text)) reply
 
 -- the names in a key are found by the player, and no program is a key
 abbrev pub found_one : Found → Option Dbref
@@ -178,19 +176,21 @@ found_one found = None
 abbrev pub key_names : Live → Dbref → Naming
 key_names w player = naming (λ name. found_one (found (scenery_of w.objects) player name)) (λ x. is_so (λ o. is_program o.kind) x w)
 
--- the lock is kept as it is printed
-abbrev pub lock_kept : ℕ → Dbref → Result Lock ℕ → Change
-lock_kept d x (Ok lock) = either (nat_le (length (printed lock)) 4096) (stored x (message_path (codes "lok")) (Text (printed lock)) ▸ tell d locked_reply) (tell d bad_key)
-lock_kept d x (Err at) = tell d bad_key
+-- the text that is kept of a key: the lock as it is printed, where that isn't too long
+abbrev pub key_kept : Result Lock ℕ → Option (List ℕ)
+key_kept (Ok lock) = if nat_le (length (printed lock)) text_most then Some (printed lock) else None
+key_kept (Err at) = None
 
--- `@lock` and `@unlock`
-unfoldable pub lock_set : ℕ → Actor → List ℕ → List ℕ → Change
-lock_set d a name key =
-    finding_object d a name (λ x. asked a (ChangeAct x) (refused d) (reading (λ w. lock_of (key_names w a.player) key) (lock_kept d x)))
+abbrev pub key_read : Dbref → List ℕ → Live → Option (List ℕ)
+key_read player key w = key_kept (lock_of (key_names w player) key)
 
-unfoldable pub lock_cleared : ℕ → Actor → List ℕ → Change
-lock_cleared d a name =
-    finding_object d a name (λ x. asked a (ChangeAct x) (refused d) (stored x (message_path (codes "lok")) (Text []) ▸ tell d unlocked_reply))
+abbrev pub lock_kept : ℕ → Dbref → Option (List ℕ) → Change
+lock_kept d x (Some text) = done_where d (is_there x) (stored x (message_path (codes "lok")) (Text text)) locked_reply
+lock_kept d x None = tell d bad_key
+
+-- `@lock`
+unfoldable pub lock_set : ℕ → Actor → Dbref → List ℕ → Change
+lock_set d a x key = asked a (ChangeAct x) (refused d) (reading (key_read a.player key) (lock_kept d x))
 
 -- Moving, recycling and owners.
 
@@ -198,25 +198,20 @@ lock_cleared d a name =
 abbrev pub meant_place : Dbref → Dbref → Live → Dbref
 meant_place x to w = if same to home then home_at x w else to
 
+unfoldable pub placed : Dbref → Dbref → Change
+placed x to = reading (meant_place x to) (λ place. moved_to x place)
+
 -- `@teleport`
-unfoldable pub teleported : ℕ → Actor → List ℕ → List ℕ → Change
-teleported d a name target =
-    finding_object d a name (λ x.
-    finding (tell d) a.player target (λ to.
-    asked a (Move x to) (refused d) (reading (meant_place x to) (λ place. moving d x place (tell d teleported_reply)))))
+unfoldable pub teleported : ℕ → Actor → Dbref → Dbref → Change
+teleported d a x to = written d a (Move x to) (λ w. movable x (meant_place x to w) w) (placed x to) teleported_reply
 
 -- `@recycle`
-unfoldable pub recycled : ℕ → Actor → List ℕ → Change
-recycled d a name =
-    finding_object d a name (λ x.
-    asked a (Recycle x) (refused d) (where_so (λ w. allowed (recycle_check x w.objects)) (tell d cant_be_done) (recycled_now x ▸ tell d recycled_reply)))
+unfoldable pub recycled : ℕ → Actor → Dbref → Change
+recycled d a x = written d a (Recycle x) (λ w. allowed (recycle_check x w.objects)) (recycled_now x) recycled_reply
 
 -- `@chown`
-unfoldable pub chowned : ℕ → Actor → List ℕ → List ℕ → Change
-chowned d a name owner =
-    finding_object d a name (λ x.
-    finding_player (tell d) owner (λ new.
-    asked a (SetOwner x new) (refused d) (where_so (λ w. allowed (owner_check x new w.objects)) (tell d cant_be_done) (owned_by x new ▸ tell d chowned_reply))))
+unfoldable pub chowned : ℕ → Actor → Dbref → Dbref → Change
+chowned d a x owner = written d a (SetOwner x owner) (λ w. allowed (owner_check x owner w.objects)) (owned_by x owner) chowned_reply
 
 -- Looking things up.
 
@@ -247,26 +242,3 @@ owned_named user part n (e ∷ es) =
 -- `@find`
 unfoldable pub find_shown : ℕ → Actor → List ℕ → Change
 find_shown d a part = reading (λ w. owned_named a.user part 0 w.objects) (λ xs. listed d a.player xs ▸ tell d (found_count (length xs)))
-
--- `examine`
-
-abbrev pub kept_text : Option PropValue → List ℕ
-kept_text None = unlocked_text
-kept_text (Some (Text text)) = text
-kept_text (Some (Number n)) = signed_text n
-
--- the text of an object's lock as it is kept
-abbrev pub lock_text : Dbref → Live → List ℕ
-lock_text x w = kept_text (option_and_then (λ o. get o.props (message_path (codes "lok"))) (object_at x w.objects))
-
-abbrev pub is_own : Actor → Dbref → Live → Bool
-is_own a x w = controls_as w.objects a.level a.user x
-
-unfoldable pub owner_shown : ℕ → Dbref → Change
-owner_shown d x = reading (λ w. name_at (owner_at w.objects x) w) (λ name. tell d (owner_line name))
-
-unfoldable pub examined : ℕ → Actor → List ℕ → Change
-examined d a name =
-    finding_object d a name (λ x.
-    where_so (is_own a x) (owner_shown d x)
-    (reading (name_shown a.player x) (tell d) ▸ owner_shown d x ▸ reading (lock_text x) (λ text. tell d (lock_line text))))

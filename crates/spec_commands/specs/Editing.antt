@@ -19,7 +19,7 @@ use Rattle.spec_commands.specs.Texts.{first_word, other_words, trimmed, is_alike
 use Rattle.spec_commands.specs.Finding.{where_so}
 use Rattle.spec_commands.specs.Going.{is_program_at}
 use Rattle.spec_commands.specs.Programming.{source_of, lines_shown}
-use Rattle.spec_commands.specs.Commands.{is_empty}
+use Rattle.spec_commands.specs.Reading.{is_empty}
 
 -- Replies.
 

@@ -1,11 +1,8 @@
 -- Finding what a line names, and showing it.
-use Rattle.std.specs.Prelude.{ℕ, Bool, true, false, not, ◌&&◌, ◌||◌, List, [], ◌∷◌, ◌++◌, codes, Option, Some, None}
-use Rattle.std.specs.Option.{option_map_or, option_and_then}
+use Rattle.std.specs.Prelude.{ℕ, Bool, true, false, not, ◌&&◌, ◌||◌, List, [], ◌∷◌, ◌++◌, Option, Some, None}
+use Rattle.std.specs.Option.{option_map_or}
 use Rattle.std.specs.List.{filter}
-use Rattle.std.specs.FinMap.{get}
 use Rattle.muck_model.specs.declared.dbref.Dbref.{Dbref}
-use Rattle.muck_prop.specs.declared.value.PropValue.{PropValue}
-use Rattle.muck_prop.specs.declared.value.PropValue.TheVariants.{Text, Number}
 use Rattle.muck_match.specs.declared.naming.Found.{Found}
 use Rattle.muck_match.specs.declared.naming.Found.TheVariants.{One, None as Nobody, Many}
 use Rattle.muck_match.specs.Naming.{found, player_named}
@@ -15,12 +12,23 @@ use Rattle.spec_live.specs.Objects.{Entry, same, is_room, object_at}
 use Rattle.spec_live.specs.Seen.{scenery_of, listed_in}
 use Rattle.spec_live.specs.Lives.{Live, Change, ◌▸◌, reading, either, unchanged, tell, tell_others, place_at, name_at}
 use Rattle.spec_rights.specs.declared.act.Actor.{Actor}
-use Rattle.spec_rights.specs.Levels.{command_level, controls_as, flag_at, name_shown}
-use Rattle.spec_commands.specs.Replies.{not_understood, not_known, contents_head, cant_be_done, nothing_special}
+use Rattle.spec_rights.specs.Worth.{lock_text}
+use Rattle.spec_rights.specs.Levels.{command_level, controls_as, flag_at, name_shown, owner_at}
+use Rattle.spec_commands.specs.declared.typed.Typed.{Typed}
+use Rattle.spec_commands.specs.declared.word.Message.{Message}
+use Rattle.spec_commands.specs.declared.word.Message.TheVariants.{Describe}
+use Rattle.spec_commands.specs.Replies.{not_understood, not_known, contents_head, cant_be_done, nothing_special, owner_line, lock_line}
+use Rattle.spec_commands.specs.Messages.{with_message}
+pub use Rattle.spec_commands.specs.Messages.{message_path}
 
 -- A command acts by the rights of its player.
 unfoldable pub actor_of : List Entry → Dbref → Actor
 actor_of es player = record { level = command_level es player; user = player; player = player }
+
+-- this is done for each of these, one after another
+unfoldable pub each : {X : Type 0} → (X → Change) → List X → Change
+each go [] = unchanged
+each go (x ∷ xs) = go x ▸ each go xs
 
 -- Finding. `refuse` says how a command ends that doesn't find what it was told.
 
@@ -58,37 +66,21 @@ finding_object d a name go = finding (tell d) a.player name (λ x. where_so (is_
 
 -- Messages.
 
-abbrev pub message_path : List ℕ → List (List ℕ)
-message_path word = codes "_" ∷ word ∷ []
-
-abbrev pub text_of : PropValue → Option (List ℕ)
-text_of (Text text) = Some text
-text_of (Number n) = None
-
--- a message of an object, where it has one; what isn't a text is none
-unfoldable pub message_at : List ℕ → Dbref → Live → Option (List ℕ)
-message_at word x w = option_and_then (λ o. option_and_then text_of (get o.props (message_path word))) (object_at x w.objects)
-
--- where there is a message, this is done with it
-abbrev pub with_message : Change → (List ℕ → Change) → Option (List ℕ) → Change
-with_message otherwise go (Some text) = go text
-with_message otherwise go None = otherwise
-
 -- the others where the player is see its name, and this behind it
 unfoldable pub shown_others : Dbref → List ℕ → Change
 shown_others player tail = reading (place_at player) (λ room. reading (name_at player) (λ name. tell_others room player (name ++ tail)))
 
 -- the player sees a message of x, or what is shown without one
-unfoldable pub message_or : ℕ → List ℕ → List ℕ → Dbref → Change
-message_or d otherwise word x = reading (message_at word x) (with_message (tell d otherwise) (tell d))
+unfoldable pub message_or : ℕ → Actor → Typed → List ℕ → Message → Dbref → Change
+message_or d a typed otherwise m x = with_message a typed m x (tell d otherwise) (tell d)
 
 -- the player sees a message of x, where it has one
-unfoldable pub message_shown : ℕ → List ℕ → Dbref → Change
-message_shown d word x = reading (message_at word x) (with_message unchanged (tell d))
+unfoldable pub message_shown : ℕ → Actor → Typed → Message → Dbref → Change
+message_shown d a typed m x = with_message a typed m x unchanged (tell d)
 
 -- the others see the player's name with a message of x, where it has one
-unfoldable pub message_to_others : Dbref → List ℕ → Dbref → Change
-message_to_others player word x = reading (message_at word x) (with_message unchanged (λ text. shown_others player (32 ∷ text)))
+unfoldable pub message_to_others : Actor → Typed → Message → Dbref → Change
+message_to_others a typed m x = with_message a typed m x unchanged (λ text. shown_others a.player (32 ∷ text))
 
 -- Looking.
 
@@ -111,17 +103,33 @@ unfoldable pub seen_in : Dbref → Dbref → Live → List Dbref
 seen_in player room w = filter (is_seen w player) (listed_in false room w.objects)
 
 -- the name, the description and what is in a room
-unfoldable pub room_shown : ℕ → Dbref → Dbref → Change
-room_shown d player room =
-    reading (name_shown player room) (tell d)
-    ▸ message_shown d (codes "de") room
-    ▸ reading (seen_in player room) (listed_under d player contents_head unchanged)
+unfoldable pub room_shown : ℕ → Actor → Typed → Dbref → Change
+room_shown d a typed room =
+    reading (name_shown a.player room) (tell d)
+    ▸ message_shown d a typed Describe room
+    ▸ reading (seen_in a.player room) (listed_under d a.player contents_head unchanged)
 
 -- the player looks at where it is
-unfoldable pub looked : ℕ → Dbref → Change
-looked d player = reading (place_at player) (room_shown d player)
+unfoldable pub looked : ℕ → Actor → Typed → Change
+looked d a typed = reading (place_at a.player) (room_shown d a typed)
+
+abbrev pub is_room_at : Dbref → Live → Bool
+is_room_at x w = is_so (λ o. is_room o.kind) x w
 
 -- the player looks at something: a room is shown whole
-unfoldable pub looked_at : ℕ → Actor → List ℕ → Change
-looked_at d a name =
-    finding_object d a name (λ x. where_so (is_so (λ o. is_room o.kind) x) (message_or d nothing_special (codes "de") x) (room_shown d a.player x))
+unfoldable pub look_shown : ℕ → Actor → Typed → Dbref → Change
+look_shown d a typed x = where_so (is_room_at x) (message_or d a typed nothing_special Describe x) (room_shown d a typed x)
+
+-- Examining.
+
+abbrev pub is_own : Actor → Dbref → Live → Bool
+is_own a x w = controls_as w.objects a.level a.user x
+
+unfoldable pub owner_shown : ℕ → Dbref → Change
+owner_shown d x = reading (λ w. name_at (owner_at w.objects x) w) (λ name. tell d (owner_line name))
+
+-- the player sees the name, the owner and the lock of something, and of what it doesn't control the owner alone
+unfoldable pub examined : ℕ → Actor → Dbref → Change
+examined d a x =
+    where_so (is_own a x) (owner_shown d x)
+    (reading (name_shown a.player x) (tell d) ▸ owner_shown d x ▸ reading (λ w. lock_text x w.objects) (λ text. tell d (lock_line text)))

@@ -1,23 +1,27 @@
 -- How players go, take and drop.
-use Rattle.std.specs.Prelude.{ℕ, Bool, true, false, not, ◌&&◌, ◌||◌, ◌==◌, if◌then◌else◌, List, drop, codes, Option, Some, None, Result, Ok, Err}
+use Rattle.std.specs.Prelude.{ℕ, Bool, true, false, not, ◌&&◌, ◌||◌, ◌==◌, if◌then◌else◌, List, take, drop, Option, Some, None, Result, Ok, Err}
 use Rattle.std.specs.Option.{option_map_or}
 use Rattle.muck_model.specs.declared.dbref.Dbref.{Dbref}
 use Rattle.muck_model.specs.declared.dbref.Denial.{Denial}
 use Rattle.muck_match.specs.declared.exits.ExitHit.{ExitHit}
 use Rattle.muck_match.specs.Exits.{exit_for}
 use Rattle.spec_live.specs.declared.fault.DbFault.{DbFault}
-use Rattle.spec_live.specs.Objects.{nothing, home, same, is_room, is_thing, is_program, object_at}
+use Rattle.spec_live.specs.Objects.{nothing, home, same, is_thing, is_program, object_at}
 use Rattle.spec_live.specs.Moving.{move_check}
 use Rattle.spec_live.specs.Seen.{scenery_of, listed_in}
-use Rattle.spec_live.specs.Lives.{Live, Change, followed, ◌▸◌, reading, either, unchanged, tell, place_at}
+use Rattle.spec_live.specs.Lives.{Live, Change, followed, ◌▸◌, reading, either, unchanged, tell, place_at, name_at}
 use Rattle.spec_rights.specs.declared.act.Actor.{Actor}
 use Rattle.spec_rights.specs.declared.act.Act.TheVariants.{Walk, Take}
 use Rattle.spec_rights.specs.Asking.{asked, refused}
 use Rattle.spec_rights.specs.Changing.{moved_to}
 use Rattle.spec_commands.specs.declared.outcome.Outcome.{Outcome}
 use Rattle.spec_commands.specs.declared.outcome.Outcome.TheVariants.{Done, Start}
+use Rattle.spec_commands.specs.declared.typed.Typed.{Typed}
+use Rattle.spec_commands.specs.declared.word.Message.{Message}
+use Rattle.spec_commands.specs.declared.word.Message.TheVariants.{Success, OthersSuccess, Fail, OthersFail, Drop, OthersDrop}
 use Rattle.spec_commands.specs.Replies.{cant_be_done, cant_go, cant_take, has_left, has_arrived, carrying_head, carrying_nothing, taken_reply, dropped_reply}
-use Rattle.spec_commands.specs.Finding.{finding, where_so, is_so, message_or, message_shown, message_to_others, shown_others, listed_under, looked}
+use Rattle.spec_commands.specs.Messages.{home_typed}
+use Rattle.spec_commands.specs.Finding.{where_so, is_room_at, is_so, message_or, message_shown, message_to_others, shown_others, listed_under, looked}
 
 -- A line of a player: what it does, and what is to follow.
 abbrev pub Play : Type 0
@@ -46,20 +50,45 @@ unfoldable pub moving : ℕ → Dbref → Dbref → Change → Change
 moving d x to go = where_so (movable x to) (tell d cant_be_done) (moved_to x to ▸ go)
 
 -- the player goes to another place: others see it leave and arrive, then `seen` is shown, and it looks
-unfoldable pub gone : ℕ → Dbref → Dbref → Change → Change
-gone d player to seen =
-    where_so (movable player to) (tell d cant_be_done)
-    (shown_others player has_left ▸ moved_to player to ▸ shown_others player has_arrived ▸ seen ▸ looked d player)
+unfoldable pub gone : ℕ → Actor → Typed → Dbref → Change → Change
+gone d a typed to seen =
+    where_so (movable a.player to) (tell d cant_be_done)
+    (shown_others a.player has_left ▸ moved_to a.player to ▸ shown_others a.player has_arrived ▸ seen ▸ looked d a typed)
 
 -- the player walks home
-unfoldable pub gone_home : ℕ → Dbref → Change
-gone_home d player = reading (home_at player) (λ to. gone d player to unchanged)
+unfoldable pub gone_home : ℕ → Actor → Change
+gone_home d a = reading (home_at a.player) (λ to. gone d a home_typed to unchanged)
+
+-- What a player and the others see who are there.
+
+-- the player sees one message of x, and the others another, each where x has it
+unfoldable pub both_shown : ℕ → Actor → Typed → Message → Message → Dbref → Change
+both_shown d a typed mine theirs x = message_shown d a typed mine x ▸ message_to_others a typed theirs x
+
+-- the player may do something with x
+abbrev pub succeeded : ℕ → Actor → Typed → Dbref → Change
+succeeded d a typed x = both_shown d a typed Success OthersSuccess x
+
+-- the player may not
+unfoldable pub failed : ℕ → Actor → Typed → List ℕ → Dbref → Change
+failed d a typed otherwise x = message_or d a typed otherwise Fail x ▸ message_to_others a typed OthersFail x
+
+-- the player went through x, or dropped it
+abbrev pub drop_shown : ℕ → Actor → Typed → Dbref → Change
+drop_shown d a typed x = both_shown d a typed Drop OthersDrop x
 
 -- Exits.
 
 -- what stands behind the words that an exit takes
 abbrev pub argument_of : ExitHit → List ℕ → List ℕ
 argument_of hit line = drop hit.rest line
+
+-- the alias of the exit, as its name spells it
+abbrev pub alias_of : ExitHit → Live → List ℕ
+alias_of hit w = drop hit.alias.0 (take hit.alias.1 (name_at hit.exit w))
+
+abbrev pub exit_typed : ExitHit → List ℕ → Live → Typed
+exit_typed hit line w = record { word = alias_of hit w; rest = argument_of hit line }
 
 -- the place to which a link leads: home is the player's own
 abbrev pub led_place : Dbref → Dbref → Live → Dbref
@@ -69,26 +98,22 @@ abbrev pub is_program_at : Dbref → Live → Bool
 is_program_at x w = is_so (λ o. is_program o.kind) x w
 
 -- the exit leads there: a program is to be started, and to any other place the player goes
-unfoldable pub led : ℕ → Dbref → ExitHit → List ℕ → Dbref → Play
-led d player hit line to =
+unfoldable pub led : ℕ → Actor → Typed → Dbref → List ℕ → Dbref → Play
+led d a typed exit line to =
     either (same to nothing) (ended Done (tell d cant_go))
     (where_so (is_program_at to)
-    (ended Done (reading (led_place player to) (λ place. gone d player place (message_shown d (codes "dr") hit.exit ▸ message_to_others player (codes "odr") hit.exit))))
-    (ended (Start to hit.exit line (argument_of hit line)) unchanged))
+    (ended Done (reading (led_place a.player to) (λ place. gone d a typed place (drop_shown d a typed exit))))
+    (ended (Start to exit line typed.rest) unchanged))
 
--- the player may not go through: its messages of failure
-unfoldable pub failed : ℕ → Dbref → List ℕ → Dbref → Change
-failed d player otherwise x = message_or d otherwise (codes "fl") x ▸ message_to_others player (codes "ofl") x
-
--- the player may: its messages of success
-unfoldable pub succeeded : ℕ → Dbref → Dbref → Change
-succeeded d player x = message_shown d (codes "sc") x ▸ message_to_others player (codes "osc") x
+-- the player tries the exit: its messages of failure or of success, and then it goes to where the exit leads
+unfoldable pub tried : ℕ → Actor → Typed → Dbref → List ℕ → Play
+tried d a typed exit line =
+    asked a (Walk exit) (λ denial. ended Done (failed d a typed cant_go exit))
+    (followed (succeeded d a typed exit) (reading (link_at exit) (led d a typed exit line)))
 
 -- the player walks through an exit that takes the line
 unfoldable pub walked : ℕ → Actor → ExitHit → List ℕ → Play
-walked d a hit line =
-    asked a (Walk hit.exit) (λ denial. ended Done (failed d a.player cant_go hit.exit))
-    (followed (succeeded d a.player hit.exit) (reading (link_at hit.exit) (led d a.player hit line)))
+walked d a hit line = reading (exit_typed hit line) (λ typed. tried d a typed hit.exit line)
 
 abbrev pub walked_some : ℕ → Actor → List ℕ → Option ExitHit → Play
 walked_some d a line None = ended Done (tell d cant_go)
@@ -104,15 +129,13 @@ abbrev pub is_item : Dbref → Live → Bool
 is_item x w = is_so (λ o. is_thing o.kind || is_program o.kind) x w
 
 -- a lock that doesn't open is told by the object's own messages, and any other denial by its rule
-abbrev pub not_taken : ℕ → Dbref → Dbref → Denial → Change
-not_taken d player x denial = either (denial.rule == 10) (failed d player cant_take x) (refused d denial)
+abbrev pub not_taken : ℕ → Actor → Typed → Dbref → Denial → Change
+not_taken d a typed x denial = either (denial.rule == 10) (failed d a typed cant_take x) (refused d denial)
 
-unfoldable pub taken : ℕ → Actor → List ℕ → Change
-taken d a name =
-    finding (tell d) a.player name (λ x.
+unfoldable pub taken : ℕ → Actor → Typed → Dbref → Change
+taken d a typed x =
     where_so (is_item x) (tell d cant_be_done)
-    (asked a (Take x) (not_taken d a.player x)
-    (succeeded d a.player x ▸ moving d x a.player (tell d taken_reply))))
+    (asked a (Take x) (not_taken d a typed x) (succeeded d a typed x ▸ moving d x a.player (tell d taken_reply)))
 
 abbrev pub is_carried : Dbref → Dbref → Live → Bool
 is_carried player x w = is_so (λ o. (is_thing o.kind || is_program o.kind) && same o.place player) x w
@@ -121,14 +144,12 @@ is_carried player x w = is_so (λ o. (is_thing o.kind || is_program o.kind) && s
 abbrev pub drop_place : Dbref → Live → Dbref
 drop_place player w =
     let here = place_at player w in
-    if is_so (λ o. is_room o.kind) here w && not (same (link_at here w) nothing) then link_at here w else here
+    if is_room_at here w && not (same (link_at here w) nothing) then link_at here w else here
 
-unfoldable pub dropped : ℕ → Dbref → List ℕ → Change
-dropped d player name =
-    finding (tell d) player name (λ x.
-    where_so (is_carried player x) (tell d cant_be_done)
-    (reading (drop_place player) (λ to.
-    moving d x to (tell d dropped_reply ▸ message_shown d (codes "dr") x ▸ message_to_others player (codes "odr") x))))
+unfoldable pub dropped : ℕ → Actor → Typed → Dbref → Change
+dropped d a typed x =
+    where_so (is_carried a.player x) (tell d cant_be_done)
+    (reading (drop_place a.player) (λ to. moving d x to (tell d dropped_reply ▸ drop_shown d a typed x)))
 
 -- what the player carries
 unfoldable pub inventory_shown : ℕ → Dbref → Change

@@ -1,10 +1,12 @@
 pub mod Texts
 pub mod Replies
+pub mod Messages
 pub mod Finding
 pub mod Talking
 pub mod Going
 pub mod Building
 pub mod Programming
+pub mod Reading
 pub mod Commands
 pub mod Free
 pub mod Talk

@@ -8,17 +8,16 @@ use Rattle.spec_live.specs.declared.fault.DbFault.{DbFault}
 use Rattle.spec_live.specs.Objects.{dbref_of, object_at}
 use Rattle.spec_live.specs.Making.{create_check}
 use Rattle.spec_live.specs.Setting.{with_level}
-use Rattle.spec_live.specs.Lives.{Live, Change, ◌▸◌, reading, either, unchanged, tell}
+use Rattle.spec_live.specs.Lives.{Live, Change, ◌▸◌, reading, unchanged, tell}
 use Rattle.spec_rights.specs.declared.act.Actor.{Actor}
 use Rattle.spec_rights.specs.declared.act.Act.TheVariants.{NewProgram, Edit as EditAct, Change as ChangeAct, Call}
 use Rattle.spec_rights.specs.Levels.{level_at}
 use Rattle.spec_rights.specs.Asking.{asked, refused}
 use Rattle.spec_rights.specs.Changing.{created_so}
 use Rattle.spec_commands.specs.declared.outcome.Outcome.TheVariants.{Done, Start, Edit}
-use Rattle.spec_commands.specs.Replies.{bad_name, cant_be_done, entering_editor}
-use Rattle.spec_commands.specs.Finding.{finding, where_so}
-use Rattle.spec_commands.specs.Going.{Play, ended, is_program_at}
-use Rattle.spec_commands.specs.Building.{is_name, created_shown}
+use Rattle.spec_commands.specs.Replies.{cant_be_done, entering_editor}
+use Rattle.spec_commands.specs.Going.{Play, ended}
+use Rattle.spec_commands.specs.Building.{created_shown}
 
 -- these lines are shown, one after another
 unfoldable pub lines_shown : ℕ → List (List ℕ) → Change
@@ -31,10 +30,6 @@ over d text = ended Done (tell d text)
 
 abbrev pub over_denied : ℕ → Denial → Play
 over_denied d denial = ended Done (refused d denial)
-
--- the program that a text names; what isn't a program is refused before any rule is asked
-unfoldable pub finding_program : ℕ → Actor → List ℕ → (Dbref → Play) → Play
-finding_program d a name go = finding (over d) a.player name (λ x. where_so (is_program_at x) (over d cant_be_done) (go x))
 
 -- Making.
 
@@ -59,32 +54,22 @@ program_new d a name =
 
 -- `@program`
 unfoldable pub program_made : ℕ → Actor → List ℕ → Play
-program_made d a name = either (is_name name) (asked a NewProgram (over_denied d) (program_new d a name)) (over d bad_name)
+program_made d a name = asked a NewProgram (over_denied d) (program_new d a name)
 
 -- Editing, listing and running.
 
-unfoldable pub editor_entered : ℕ → Actor → Dbref → Play
-editor_entered d a x = asked a (EditAct x) (over_denied d) (ended (Edit x) (tell d entering_editor))
-
 -- `@edit`
-unfoldable pub program_edited : ℕ → Actor → List ℕ → Play
-program_edited d a name = finding_program d a name (editor_entered d a)
+unfoldable pub program_edited : ℕ → Actor → Dbref → Play
+program_edited d a x = asked a (EditAct x) (over_denied d) (ended (Edit x) (tell d entering_editor))
 
 -- the source lines of an object
 abbrev pub source_of : Dbref → Live → List (List ℕ)
 source_of x w = option_map_or (λ o. o.lines) (object_at x w.objects) []
 
-unfoldable pub source_shown : ℕ → Actor → Dbref → Play
-source_shown d a x = asked a (ChangeAct x) (over_denied d) (ended Done (reading (source_of x) (lines_shown d)))
-
 -- `@list`
-unfoldable pub program_listed : ℕ → Actor → List ℕ → Play
-program_listed d a name = finding_program d a name (source_shown d a)
+unfoldable pub program_listed : ℕ → Actor → Dbref → Play
+program_listed d a x = asked a (ChangeAct x) (over_denied d) (ended Done (reading (source_of x) (lines_shown d)))
 
--- the program is to be started by the line, with the text on its stack; it is its own trigger
-unfoldable pub program_called : ℕ → Actor → List ℕ → List ℕ → Dbref → Play
-program_called d a line text x = asked a (Call x) (over_denied d) (ended (Start x x line text) unchanged)
-
--- `@run`
-unfoldable pub program_run : ℕ → Actor → List ℕ → List ℕ → List ℕ → Play
-program_run d a line name text = finding_program d a name (program_called d a line text)
+-- `@run`: the program is to be started by the line, with the text on its stack; it is its own trigger
+unfoldable pub program_run : ℕ → Actor → List ℕ → Dbref → List ℕ → Play
+program_run d a line x text = asked a (Call x) (over_denied d) (ended (Start x x line text) unchanged)

@@ -42,17 +42,12 @@ you_say text = (codes "You say, \"" ++ text) ++ codes "\""
 unfoldable pub says : List ℕ → List ℕ
 says text = (codes " says, \"" ++ text) ++ codes "\""
 
-unfoldable pub you_page : List ℕ → List ℕ → List ℕ
-you_page text name = (codes "You page, \"" ++ text) ++ ((codes "\" to " ++ name) ++ codes ".")
+-- what a player sees of what it says to one alone, by a verb, and what that one sees behind the player's name
+unfoldable pub you_say_to : List ℕ → List ℕ → List ℕ → List ℕ
+you_say_to verb text name = (((codes "You " ++ verb) ++ codes ", \"") ++ text) ++ ((codes "\" to " ++ name) ++ codes ".")
 
-unfoldable pub pages : List ℕ → List ℕ
-pages text = (codes " pages, \"" ++ text) ++ codes "\""
-
-unfoldable pub you_whisper : List ℕ → List ℕ → List ℕ
-you_whisper text name = (codes "You whisper, \"" ++ text) ++ ((codes "\" to " ++ name) ++ codes ".")
-
-unfoldable pub whispers : List ℕ → List ℕ
-whispers text = (codes " whispers, \"" ++ text) ++ codes "\""
+unfoldable pub says_to : List ℕ → List ℕ → List ℕ
+says_to verb text = (((codes " " ++ verb) ++ codes "s, \"") ++ text) ++ codes "\""
 
 unfoldable pub not_connected : List ℕ
 not_connected = codes " isn't connected."
@@ -89,9 +84,6 @@ owner_line name = codes "Owner: " ++ name
 
 unfoldable pub lock_line : List ℕ → List ℕ
 lock_line text = codes "Lock: " ++ text
-
-unfoldable pub unlocked_text : List ℕ
-unlocked_text = codes "*UNLOCKED*"
 
 unfoldable pub connected_line : List ℕ → ℕ → List ℕ
 connected_line name number = (name ++ codes " (") ++ (decimal number ++ codes ")")

@@ -12,7 +12,8 @@ use Rattle.spec_live.specs.Boards.{on_connection, player_in, closed}
 use Rattle.spec_live.specs.Lives.{Change, ◌▸◌, reading, either, unchanged, on_board, tell, leave, enter}
 use Rattle.spec_commands.specs.Texts.{first_word, other_words, trimmed, is_alike}
 use Rattle.spec_commands.specs.Replies.{goodbye, has_connected, has_disconnected}
-use Rattle.spec_commands.specs.Finding.{shown_others, looked}
+use Rattle.spec_commands.specs.Messages.{look_typed}
+use Rattle.spec_commands.specs.Finding.{actor_of, shown_others, looked}
 use Rattle.spec_commands.specs.Talking.{who_shown}
 
 unfoldable pub welcome : List ℕ
@@ -29,7 +30,7 @@ proved name word es = option_and_then (λ player. if option_map_or (λ o. is_dig
 
 abbrev pub let_in : ℕ → Option Dbref → Change
 let_in d None = tell d refused_login
-let_in d (Some player) = enter d player ▸ shown_others player has_connected ▸ looked d player
+let_in d (Some player) = enter d player ▸ reading (λ w. actor_of w.objects player) (λ a. shown_others player has_connected ▸ looked d a look_typed)
 
 unfoldable pub logged_in : ℕ → List ℕ → List ℕ → Change
 logged_in d name word = reading (λ w. proved name word w.objects) (let_in d)

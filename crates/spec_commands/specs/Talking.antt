@@ -1,13 +1,14 @@
 -- What players say.
-use Rattle.std.specs.Prelude.{ℕ, Bool, ◌&&◌, ◌==◌, if◌then◌else◌, List, [], ◌∷◌, ◌++◌, length}
-use Rattle.std.specs.Option.{option_map_or}
-use Rattle.std.specs.List.{list_any, filter}
+use Rattle.std.specs.Prelude.{ℕ, Bool, ◌&&◌, ◌==◌, if◌then◌else◌, List, [], ◌∷◌, ◌++◌, length, codes, Option}
+use Rattle.std.specs.Option.{option_map}
+use Rattle.std.specs.List.{list_any, filter_map}
 use Rattle.muck_model.specs.declared.dbref.Dbref.{Dbref}
 use Rattle.spec_live.specs.Objects.{same, is_player}
-use Rattle.spec_live.specs.Connections.{Connection, is_of, has_player}
-use Rattle.spec_live.specs.Lives.{Live, Change, ◌▸◌, reading, unchanged, tell, tell_player, place_at, name_at}
-use Rattle.spec_commands.specs.Replies.{cant_be_done, you_say, says, you_page, pages, you_whisper, whispers, not_connected, connected_line, connected_count}
-use Rattle.spec_commands.specs.Finding.{finding, finding_player, where_so, is_so, shown_others}
+use Rattle.spec_live.specs.Connections.{Connection, is_of}
+use Rattle.spec_live.specs.Lives.{Live, Change, ◌▸◌, reading, tell, tell_player, place_at, name_at}
+use Rattle.spec_commands.specs.Replies.{cant_be_done, you_say, says, you_say_to, says_to, not_connected, connected_line, connected_count}
+use Rattle.spec_commands.specs.declared.presence.Presence.{Presence}
+use Rattle.spec_commands.specs.Finding.{where_so, is_so, each, shown_others}
 
 unfoldable pub said : ℕ → Dbref → List ℕ → Change
 said d player text = tell d (you_say text) ▸ shown_others player (says text)
@@ -24,30 +25,34 @@ abbrev pub is_connected : Dbref → Live → Bool
 is_connected player w = list_any (is_of player) w.board.connections
 
 -- the player and the other one see what was said to that one alone
-unfoldable pub said_to : ℕ → Dbref → Dbref → (List ℕ → List ℕ) → List ℕ → Change
-said_to d player to you tail =
-    reading (name_at to) (λ name. tell d (you name)) ▸ reading (name_at player) (λ name. tell_player to (name ++ tail))
+unfoldable pub said_to : ℕ → Dbref → Dbref → List ℕ → List ℕ → Change
+said_to d player to verb text =
+    reading (name_at to) (λ name. tell d (you_say_to verb text name)) ▸ reading (name_at player) (λ name. tell_player to (name ++ says_to verb text))
 
-unfoldable pub paged : ℕ → Dbref → List ℕ → List ℕ → Change
-paged d player name text =
-    finding_player (tell d) name (λ to.
-    where_so (is_connected to) (reading (name_at to) (λ found. tell d (found ++ not_connected)))
-    (said_to d player to (you_page text) (pages text)))
+unfoldable pub paged : ℕ → Dbref → Dbref → List ℕ → Change
+paged d player to text =
+    where_so (is_connected to) (reading (name_at to) (λ name. tell d (name ++ not_connected)))
+    (said_to d player to (codes "page") text)
 
 -- a player who is where the player is
 abbrev pub is_company : Dbref → Dbref → Live → Bool
 is_company player to w = is_so (λ o. is_player o.kind && same o.place (place_at player w)) to w
 
-unfoldable pub whispered : ℕ → Dbref → List ℕ → List ℕ → Change
-whispered d player name text =
-    finding (tell d) player name (λ to. where_so (is_company player to) (tell d cant_be_done) (said_to d player to (you_whisper text) (whispers text)))
+unfoldable pub whispered : ℕ → Dbref → Dbref → List ℕ → Change
+whispered d player to text = where_so (is_company player to) (tell d cant_be_done) (said_to d player to (codes "whisper") text)
 
 -- Who is connected.
 
--- a line for each connection with a player
-unfoldable pub who_lines : ℕ → List Connection → Change
-who_lines d [] = unchanged
-who_lines d (c ∷ cs) = option_map_or (λ player. reading (name_at player) (λ name. tell d (connected_line name c.number))) c.player unchanged ▸ who_lines d cs
+-- a connection that has a player
+abbrev pub presence : Connection → Option Presence
+presence c = option_map (λ player. record { number = c.number; player = player }) c.player
 
+abbrev pub presences : List Connection → List Presence
+presences cs = filter_map presence cs
+
+unfoldable pub presence_shown : ℕ → Presence → Change
+presence_shown d p = reading (name_at p.player) (λ name. tell d (connected_line name p.number))
+
+-- a line for each connection with a player, and how many they are
 unfoldable pub who_shown : ℕ → Change
-who_shown d = reading (λ w. w.board.connections) (λ cs. who_lines d cs ▸ tell d (connected_count (length (filter has_player cs))))
+who_shown d = reading (λ w. presences w.board.connections) (λ ps. each (presence_shown d) ps ▸ tell d (connected_count (length ps)))

@@ -4,11 +4,19 @@
 #![tactic(auto)]
 
 mod edit;
+mod new;
 mod outcome;
+mod presence;
+mod shape;
+mod typed;
 mod word;
 mod words;
 
 pub use edit::{EditCommand, EditStep};
+pub use new::New;
 pub use outcome::Outcome;
+pub use presence::Presence;
+pub use shape::{Argument, Arguments, Form, Shape, Want};
+pub use typed::Typed;
 pub use word::{BuildWord, Message, PlayWord};
 pub use words::{alike, cut_word, trim};

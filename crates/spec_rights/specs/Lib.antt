@@ -1,4 +1,5 @@
 pub mod Levels
+pub mod Worth
 pub mod Verdict
 pub mod Licence
 pub mod Asking

@@ -1,24 +1,19 @@
 -- Which rule of permission denies an act.
-use Rattle.std.specs.Prelude.{ℕ, Bool, true, false, not, ◌&&◌, ◌||◌, ◌==◌, nat_lt, nat_le, if◌then◌else◌, List, [], ◌∷◌, codes, Option, Some, None}
+use Rattle.std.specs.Prelude.{ℕ, Bool, true, false, not, ◌&&◌, ◌||◌, ◌==◌, nat_lt, nat_le, if◌then◌else◌, List, [], ◌∷◌, Option, Some, None}
 use Rattle.std.specs.Option.{option_map, option_map_or}
-use Rattle.std.specs.FinMap.{get}
 use Rattle.muck_model.specs.declared.dbref.Dbref.{Dbref}
 use Rattle.muck_model.specs.declared.dbref.Denial.{Denial}
-use Rattle.muck_prop.specs.declared.value.PropValue.{PropValue}
-use Rattle.muck_prop.specs.declared.value.PropValue.TheVariants.{Text, Number}
 use Rattle.muck_prop.specs.declared.path.Class.{Class}
 use Rattle.muck_prop.specs.declared.path.Class.TheVariants.{At, Tilde, Dot, Underscore, Plain}
 use Rattle.muck_prop.specs.Paths.{class_of}
-use Rattle.muck_lock.specs.Answers.{text_opens}
-use Rattle.spec_live.specs.declared.object.Object.{Object}
 use Rattle.spec_live.specs.Flags.{has_flag, builder, chown, jump, link, wizard}
 use Rattle.spec_live.specs.Objects.{Entry, nothing, home, same, is_program, object_at}
-use Rattle.spec_live.specs.Seen.{holdings_of}
 use Rattle.spec_rights.specs.declared.act.Actor.{Actor}
 use Rattle.spec_rights.specs.declared.act.Act.{Act}
 use Rattle.spec_rights.specs.declared.act.Act.TheVariants.{Shared, Start, Near, Read, Write, Move, Walk, Take, Link, NewRoom, NewThing, NewExit, NewProgram, Edit, Change, Rename, Password, Wizard, SetFlag, SetLevel, Recycle, SetOwner, EndProcess, Call}
 use Rattle.spec_rights.specs.declared.rule.Rule.{Rule}
 use Rattle.spec_rights.specs.declared.rule.Rule.TheVariants.{P1, P2, P3, P4, P5, P6, P7, P8, P9, P10, P11, P12, P13, P14, P15, P16, P17, P18, P19, P20, P21, P22, P23, P24}
+use Rattle.spec_rights.specs.Worth.{opens_at}
 use Rattle.spec_rights.specs.Levels.{master, level_at, owner_at, flag_at, is_player_at, controls_as, effective}
 
 -- Who may what.
@@ -41,23 +36,6 @@ unfoldable pub is_near : List Entry → Dbref → Dbref → Bool
 is_near es player d =
     let here = place_of es player in
     same d player || (same d here || (same (place_of es d) here || same (place_of es d) player))
-
--- Locks. A lock is kept as its text, made of numbers of objects and of properties.
-
-abbrev pub lock_path : List (List ℕ)
-lock_path = codes "_" ∷ codes "lok" ∷ []
-
-abbrev pub kept_opens : List Entry → Dbref → PropValue → Bool
-kept_opens es x (Text text) = text_opens (holdings_of es) x text
-kept_opens es x (Number n) = false
-
--- what is kept as the lock of an object
-abbrev pub lock_of_object : Object → Option PropValue
-lock_of_object o = get o.props lock_path
-
--- the lock of an object opens for x; without a lock it does, and what isn't the text of a lock opens for nobody
-unfoldable pub opens_at : List Entry → Dbref → Dbref → Bool
-opens_at es x d = option_map_or (λ o. option_map_or (kept_opens es x) (lock_of_object o) true) (object_at d es) false
 
 -- Classes of paths.
 

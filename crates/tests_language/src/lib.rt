@@ -1,4 +1,4 @@
-//! Tests of the crates of the language, of what neither a script nor a row of `tests_language_rows` can show: that nobody who shares a
+//! Tests of the crates of the language, of what neither a script nor a row of a program `tests_*_rows` can show: that nobody who shares a
 //! value sees what another writes, the readers of a process, and code that no source is compiled to.
 #![tactic(auto)]
 

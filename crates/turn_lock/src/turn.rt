@@ -7,8 +7,8 @@ ghost use Rattle.turn_lock.specs.Turns.{Same, left_after, newcomer, taken_in};
 ghost use Rattle.turn_lock.specs.declared.view.Place.TheVariants.{Idle as AtRest, Holds as HasTurn, Waits as Wanted, Told as Done};
 
 use crate::Story;
-use crate::view::{Draw, First, ForParty, Law, Look, PartyNamed, Pass, TakesIn, View};
-use atomic_table::{Seat, Table};
+use crate::view::{Draw, First, ForParty, Law, Look, PartyNamed, Pass, TakesIn, TurnSeat, View};
+use atomic_table::Table;
 use muck_io::Rest;
 use std::alloc::{AllocError, Global};
 use std::marker::Brand;
@@ -42,7 +42,7 @@ impl<T: Story> Turn<T> {
     pub fn hold<W: Wait, R: Rest>(
         &self,
         rt: &W,
-        seat: &mut Seat<Option<T>, View<T::Entry, T::Start>>,
+        seat: &mut TurnSeat<T>,
         rest: &R,
     ) -> Result<Held<T>, Spent>
         requires own { (seat.old.table_id ≡ self.now.table.shared.table_id) × (seat.old.me.1 ≡ []) }
@@ -73,13 +73,7 @@ impl<T: Story> Turn<T> {
     }
 
     // Looks until the ticket is served.
-    fn wait_turn<W: Wait, R: Rest>(
-        &self,
-        rt: &W,
-        seat: &mut Seat<Option<T>, View<T::Entry, T::Start>>,
-        rest: &R,
-        ticket: u64,
-    )
+    fn wait_turn<W: Wait, R: Rest>(&self, rt: &W, seat: &mut TurnSeat<T>, rest: &R, ticket: u64)
         requires own { (seat.old.table_id ≡ self.now.table.shared.table_id) × (seat.old.me.1 ≡ []) }
         requires drawn { seat.old.me.0.place ≡ Wanted ticket }
         ensures own { (seat.new.table_id ≡ seat.old.table_id) × (seat.new.id ≡ seat.old.id) × Same T.history T.party T.start seat.old.me seat.new.me }
@@ -97,12 +91,7 @@ impl<T: Story> Turn<T> {
     }
 
     // Looks until all turns were had.
-    fn wait_spent<W: Wait, R: Rest>(
-        &self,
-        rt: &W,
-        seat: &mut Seat<Option<T>, View<T::Entry, T::Start>>,
-        rest: &R,
-    )
+    fn wait_spent<W: Wait, R: Rest>(&self, rt: &W, seat: &mut TurnSeat<T>, rest: &R)
         requires own { seat.old.table_id ≡ self.now.table.shared.table_id }
         requires told { seat.old.me.0.place ≡ Done }
         ensures own { (seat.new.table_id ≡ seat.old.table_id) × (seat.new.id ≡ seat.old.id) × Same T.history T.party T.start seat.old.me seat.new.me }
@@ -120,7 +109,7 @@ impl<T: Story> Turn<T> {
     }
 
     /// Gives the turn back, with the state one entry of this party further. It takes no memory.
-    pub fn give(&self, seat: &mut Seat<Option<T>, View<T::Entry, T::Start>>, held: Held<T>)
+    pub fn give(&self, seat: &mut TurnSeat<T>, held: Held<T>)
         requires own { (seat.old.table_id ≡ self.now.table.shared.table_id) × (seat.old.me.1 ≡ (0, None) ∷ []) }
         requires turn { (n : ℕ) × (seat.old.me.0.place ≡ HasTurn n) }
         requires entry { (e : T.Entry) × (T.history held.state ≡ seat.old.me.0.seen ++ e ∷ []) × (T.party e ≡ seat.old.me.0.party) }
@@ -138,10 +127,7 @@ impl<T: Story> Turn<T> {
     }
 
     /// A lock round a state without a history yet, and the seat of party 0. After a refusal of memory the state is dropped.
-    pub fn new(
-        alloc: Global,
-        start: T,
-    ) -> Result<(Turn<T>, Seat<Option<T>, View<T::Entry, T::Start>>), AllocError>
+    pub fn new(alloc: Global, start: T) -> Result<(Turn<T>, TurnSeat<T>), AllocError>
     where
         T: Drop,
         requires { T.history start ≡ [] }
@@ -160,11 +146,7 @@ impl<T: Story> Turn<T> {
     }
 
     // The same for a party that N names.
-    fn split_as<N: PartyNamed>(
-        &self,
-        seat: &mut Seat<Option<T>, View<T::Entry, T::Start>>,
-        _party: u8,
-    ) -> Seat<Option<T>, View<T::Entry, T::Start>>
+    fn split_as<N: PartyNamed>(&self, seat: &mut TurnSeat<T>, _party: u8) -> TurnSeat<T>
         requires named { N.party ≡ _party }
         requires own { (seat.old.table_id ≡ self.now.table.shared.table_id) × (seat.old.id ≡ 0) }
         requires idle { (seat.old.me.0.place ≡ AtRest) × (length seat.old.me.0.given < 9) }
@@ -177,11 +159,7 @@ impl<T: Story> Turn<T> {
     }
 
     /// A seat for a party that has none yet, which has seen what the first seat has. There are at most ten seats. It takes no memory.
-    pub fn split(
-        &self,
-        seat: &mut Seat<Option<T>, View<T::Entry, T::Start>>,
-        party: u8,
-    ) -> Seat<Option<T>, View<T::Entry, T::Start>>
+    pub fn split(&self, seat: &mut TurnSeat<T>, party: u8) -> TurnSeat<T>
         requires own { (seat.old.table_id ≡ self.now.table.shared.table_id) × (seat.old.id ≡ 0) }
         requires idle { (seat.old.me.0.place ≡ AtRest) × (length seat.old.me.0.given < 9) }
         requires fresh { ¬ (party ≡ 0) × ¬ (Has seat.old.me.0.given party) }
@@ -193,11 +171,7 @@ impl<T: Story> Turn<T> {
     }
 
     /// Takes a seat in: its party's entries are kept under its party. It takes no memory.
-    pub fn join(
-        &self,
-        seat: &mut Seat<Option<T>, View<T::Entry, T::Start>>,
-        other: Seat<Option<T>, View<T::Entry, T::Start>>,
-    )
+    pub fn join(&self, seat: &mut TurnSeat<T>, other: TurnSeat<T>)
         requires own { (seat.old.table_id ≡ self.now.table.shared.table_id) × (seat.old.id ≡ 0) × ((seat.old.me.0.place ≡ AtRest) ⊎ (seat.old.me.0.place ≡ Done)) }
         requires other { (other.table_id ≡ self.now.table.shared.table_id) × (other.me.1 ≡ []) }
         requires done { (other.me.0.place ≡ AtRest) ⊎ (other.me.0.place ≡ Done) }
@@ -208,7 +182,7 @@ impl<T: Story> Turn<T> {
     }
 
     /// The state with the whole history, once all seats were taken in. It takes no memory.
-    pub fn close(self, seat: Seat<Option<T>, View<T::Entry, T::Start>>) -> T
+    pub fn close(self, seat: TurnSeat<T>) -> T
         requires own { (seat.table_id ≡ self.table.shared.table_id) × (seat.id ≡ 0) × ((seat.me.0.place ≡ AtRest) ⊎ (seat.me.0.place ≡ Done)) }
         requires all { length seat.me.0.joined ≡ length seat.me.0.given }
         ensures seen { StartsWith (T.history result) seat.me.0.seen }

@@ -1,9 +1,10 @@
 // The login screen.
 ghost use Rattle.std.specs.Prelude.{◌≡◌, IfOk, OnOk};
-ghost use Rattle.spec_live.specs.Lives.{followed};
+ghost use Rattle.spec_live.specs.Lives.{followed, reading};
 ghost use Rattle.spec_events.specs.World.{on_live};
 ghost use Rattle.spec_commands.specs.Replies.{has_connected};
-ghost use Rattle.spec_commands.specs.Finding.{shown_others, looked};
+ghost use Rattle.spec_commands.specs.Messages.{look_typed};
+ghost use Rattle.spec_commands.specs.Finding.{actor_of, shown_others, looked};
 ghost use Rattle.spec_commands.specs.Talking.{who_shown};
 ghost use Rattle.spec_commands.specs.Talk.{at_login, connecting, logged_in, proved, let_in, quit};
 
@@ -89,14 +90,14 @@ impl State {
     }
 
     // The others where a player is see that it has connected, and it looks.
-    #[tactic(auto, unfolding(spec_commands::specs::Finding::actor_of, spec_commands::specs::Replies::has_connected, spec_live::specs::Lives::followed))]
+    #[tactic(auto, unfolding(spec_commands::specs::Replies::has_connected, spec_live::specs::Lives::followed, spec_live::specs::Lives::reading))]
     fn arrive(&mut self, d: u32, player: Dbref) -> Result<(), NoMemory>
-        ensures { OnOk result (self.new ≡ on_live (followed (shown_others player has_connected) (looked d player)) self.old) }
+        ensures { OnOk result (self.new ≡ on_live (reading (λ w. actor_of w.objects player) (λ a. followed (shown_others player has_connected) (looked d a look_typed))) self.old) }
     {
         let actor = actor_of(&self.db, player);
         let mut guard = Guard::new(self.alloc, &mut self.db, &mut self.board, actor);
         show_others(&mut guard, player, b" has connected.")?;
-        cmd_play::look(&mut guard, d)?;
+        cmd_play::look_first(&mut guard, d)?;
         Ok(())
     }
 

@@ -1,6 +1,6 @@
 use Rattle.std.proofs.Common.{ℕ, ◌≡◌, ◌<◌, false}
 use Rattle.spec_live.specs.Objects.{is_garbage}
-use Rattle.muck_db.specs.Slots.{kind_at}
+use Rattle.muck_db.specs.inner.Slots.{kind_at}
 use Rattle.muck_db.proofs.creation.free_number.Given as goal
 
 abbrev pub invariant-loop-k : goal.invariant-loop-k

@@ -1,6 +1,6 @@
 use Rattle.std.proofs.Common.{ℕ, ◌≡◌, length, Some}
 use Rattle.spec_live.specs.Chain.{walk, Ends, Member}
-use Rattle.muck_db.specs.Slots.{next_at}
+use Rattle.muck_db.specs.inner.Slots.{next_at}
 use Rattle.muck_db.proofs.links.before.Given as goal
 
 abbrev pub invariant-loop-at : goal.invariant-loop-at

@@ -1,5 +1,5 @@
 use Rattle.std.proofs.Common.{sym, ◌∙◌, ap, Some}
-use Rattle.muck_db.specs.Slots.{path_at}
+use Rattle.muck_db.specs.inner.Slots.{path_at}
 use Rattle.spec_live.proofs.Lists.{has_true, has_false}
 use Rattle.spec_live.proofs.Chains.{ends_within, ends_next, walk_shorter, member_next, member_later, member_here, member_none}
 use Rattle.muck_db.proofs.links.leads_to.Goals as goal

@@ -1,6 +1,6 @@
 use Rattle.std.proofs.Common.{length, Some}
 use Rattle.spec_live.specs.Chain.{walk, Ends, Member}
-use Rattle.muck_db.specs.Slots.{place_at}
+use Rattle.muck_db.specs.inner.Slots.{place_at}
 use Rattle.muck_db.proofs.links.leads_to.Given as goal
 
 abbrev pub invariant-loop-at : goal.invariant-loop-at

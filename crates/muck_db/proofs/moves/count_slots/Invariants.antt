@@ -1,7 +1,7 @@
 use Rattle.std.proofs.Common.{◌≡◌, ◌≤◌, take, not}
 use Rattle.std.specs.List.{count_by}
 use Rattle.spec_live.specs.Objects.{is_garbage}
-use Rattle.muck_db.specs.Slots.{shown}
+use Rattle.muck_db.specs.inner.Slots.{shown}
 use Rattle.muck_db.proofs.moves.count_slots.Given as goal
 
 abbrev pub invariant-loop-slot : goal.invariant-loop-slot

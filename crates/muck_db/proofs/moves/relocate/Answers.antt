@@ -1,6 +1,6 @@
 use Rattle.std.proofs.Common.{sym, ℕ, arith, List, subst}
 use Rattle.spec_live.specs.Chain.{Member}
-use Rattle.muck_db.specs.Slots.{list_at}
+use Rattle.muck_db.specs.inner.Slots.{list_at}
 use Rattle.spec_live.proofs.Chains.{ends_from, without_gone}
 use Rattle.muck_db.proofs.Readers.{length-entries_of}
 use Rattle.muck_db.proofs.Bridge.{order_chains, placed_chain, list_is, entries_moved, order_moved, moves_alive}

@@ -3,7 +3,7 @@ use Rattle.spec_live.specs.Objects.{Entry, list_in}
 use Rattle.spec_live.specs.Recycling.{sent_home}
 use Rattle.spec_live.proofs.Readers.{length_moved}
 use Rattle.spec_live.proofs.HomeLaws.{IsUntied}
-use Rattle.muck_db.specs.Slots.{entries_of}
+use Rattle.muck_db.specs.inner.Slots.{entries_of}
 use Rattle.muck_db.proofs.Readers.{length-entries_of}
 use Rattle.muck_db.proofs.Leaving.{Turn, turn, first_none, sent_none, Untied, untied_table}
 use Rattle.muck_db.proofs.recycling.clear_out.Goals as goal

@@ -2,7 +2,7 @@ use Rattle.std.proofs.Common.{◌≡◌, ◌<◌, false, length}
 use Rattle.spec_live.specs.Objects.{list_in}
 use Rattle.spec_live.specs.Recycling.{sent_home, untied}
 use Rattle.spec_live.proofs.HomeLaws.{IsUntied}
-use Rattle.muck_db.specs.Slots.{entries_of, HasOrder}
+use Rattle.muck_db.specs.inner.Slots.{entries_of, HasOrder}
 use Rattle.muck_db.proofs.recycling.clear_out.Given as goal
 
 abbrev pub invariant-loop-x : goal.invariant-loop-x

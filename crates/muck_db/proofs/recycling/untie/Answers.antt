@@ -1,6 +1,6 @@
 use Rattle.std.proofs.Common.{arith}
 use Rattle.spec_live.specs.Recycling.{without_ties}
-use Rattle.muck_db.specs.Slots.{on_slot}
+use Rattle.muck_db.specs.inner.Slots.{on_slot}
 use Rattle.muck_db.proofs.Writes.{passed_none, passed_more, passed_all}
 use Rattle.muck_db.proofs.recycling.untie.Goals as goal
 

@@ -1,5 +1,5 @@
 use Rattle.spec_live.specs.Recycling.{without_ties}
-use Rattle.muck_db.specs.Slots.{on_slot}
+use Rattle.muck_db.specs.inner.Slots.{on_slot}
 use Rattle.muck_db.proofs.Writes.{Passed}
 use Rattle.muck_db.proofs.recycling.untie.Given as goal
 

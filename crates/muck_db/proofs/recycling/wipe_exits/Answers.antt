@@ -1,5 +1,5 @@
 use Rattle.std.proofs.Common.{arith}
-use Rattle.muck_db.specs.Slots.{exit_wiped}
+use Rattle.muck_db.specs.inner.Slots.{exit_wiped}
 use Rattle.muck_db.proofs.Writes.{passed_none, passed_more, passed_all}
 use Rattle.muck_db.proofs.recycling.wipe_exits.Goals as goal
 

@@ -1,4 +1,4 @@
-use Rattle.muck_db.specs.Slots.{exit_wiped}
+use Rattle.muck_db.specs.inner.Slots.{exit_wiped}
 use Rattle.muck_db.proofs.Writes.{Passed}
 use Rattle.muck_db.proofs.recycling.wipe_exits.Given as goal
 

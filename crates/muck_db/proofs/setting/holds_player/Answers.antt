@@ -3,7 +3,7 @@ use Rattle.std.specs.List.{list_any}
 use Rattle.spec_live.specs.Chain.{walk, Ends}
 use Rattle.spec_live.specs.Objects.{is_player}
 use Rattle.spec_live.proofs.Chains.{ends_within, ends_next, walk_shorter}
-use Rattle.muck_db.specs.Slots.{next_at, kind_at}
+use Rattle.muck_db.specs.inner.Slots.{next_at, kind_at}
 use Rattle.muck_db.proofs.Holding.{any_here, any_later, any_none, holds_is}
 use Rattle.muck_db.proofs.setting.holds_player.Goals as goal
 

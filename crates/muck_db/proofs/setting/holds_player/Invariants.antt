@@ -2,7 +2,7 @@ use Rattle.std.proofs.Common.{◌≡◌, length, false}
 use Rattle.std.specs.List.{list_any}
 use Rattle.spec_live.specs.Chain.{walk, Ends}
 use Rattle.spec_live.specs.Objects.{is_player}
-use Rattle.muck_db.specs.Slots.{next_at, first_at, kind_at}
+use Rattle.muck_db.specs.inner.Slots.{next_at, first_at, kind_at}
 use Rattle.muck_db.proofs.setting.holds_player.Given as goal
 
 abbrev pub invariant-loop-at : goal.invariant-loop-at

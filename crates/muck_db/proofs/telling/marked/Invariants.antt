@@ -1,5 +1,5 @@
 use Rattle.std.proofs.Common.{ℕ, ◌≡◌, ◌<◌, None}
-use Rattle.muck_db.specs.Slots.{mark_at}
+use Rattle.muck_db.specs.inner.Slots.{mark_at}
 use Rattle.muck_db.proofs.telling.marked.Given as goal
 
 abbrev pub invariant-loop-k : goal.invariant-loop-k

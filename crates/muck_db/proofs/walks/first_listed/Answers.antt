@@ -1,8 +1,8 @@
 use Rattle.std.proofs.Common.{sym, ◌∙◌, arith, ap, Option, ℕ, subst, length, ◌<◌}
 use Rattle.std.specs.Prelude.{IfSome}
 use Rattle.muck_match.specs.Scenery.{chain}
-use Rattle.muck_db.specs.Slots.{first_at, entries_of}
-use Rattle.muck_db.specs.Shown.{after_in, dbref_at}
+use Rattle.muck_db.specs.inner.Slots.{first_at, entries_of}
+use Rattle.muck_db.specs.inner.Shown.{after_in, dbref_at}
 use Rattle.muck_db.proofs.Readers.{length-entries_of}
 use Rattle.muck_db.proofs.Showing.{listed_chain, listed_nothing, first_is, first_nothing, locks_chain, small}
 use Rattle.muck_db.proofs.walks.first_listed.Goals as goal

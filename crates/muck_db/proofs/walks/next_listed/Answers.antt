@@ -1,8 +1,8 @@
 use Rattle.std.proofs.Common.{sym, ◌∙◌, arith, ap, Option, ℕ, subst, ◌<◌}
 use Rattle.std.specs.Prelude.{IfSome}
 use Rattle.muck_match.specs.Scenery.{chain}
-use Rattle.muck_db.specs.Slots.{entries_of}
-use Rattle.muck_db.specs.Shown.{after_in, dbref_at}
+use Rattle.muck_db.specs.inner.Slots.{entries_of}
+use Rattle.muck_db.specs.inner.Shown.{after_in, dbref_at}
 use Rattle.muck_db.proofs.Readers.{length-entries_of}
 use Rattle.muck_db.proofs.Showing.{after_chain, after_nothing, after_placeless, next_is, next_nothing, next_placeless, next_small}
 use Rattle.muck_db.proofs.walks.next_listed.Goals as goal

@@ -1,5 +1,5 @@
 use Rattle.std.proofs.Common.{◌≡◌, drop}
-use Rattle.muck_lock.specs.Memory.{first_in}
+use Rattle.muck_lock.specs.inner.Memory.{first_in}
 use Rattle.muck_lock.proofs.memory.first_in.Given as goal
 
 abbrev pub invariant-loop-k : goal.invariant-loop-k

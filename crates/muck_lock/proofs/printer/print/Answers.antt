@@ -6,7 +6,7 @@ use Rattle.muck_lock.specs.declared.part.Part.TheVariants.{OneOf}
 use Rattle.muck_lock.proofs.Passes.{Passes}
 use Rattle.muck_lock.proofs.Places.{is_inside, too_many}
 use Rattle.muck_lock.proofs.Inside.{inside-written}
-use Rattle.muck_lock.specs.Law.{ReadsBack}
+use Rattle.muck_lock.specs.inner.Law.{ReadsBack}
 use Rattle.muck_lock.proofs.Back.{reads_back}
 use Rattle.muck_lock.proofs.printer.print.Goals as goal
 

@@ -1,7 +1,7 @@
 -- What is taken from the end goes on with the lock.
 use Rattle.std.proofs.Common.{◌≡◌, true, sym, ◌∙◌, ap, arith}
 use Rattle.std.specs.Prelude.{slice_get}
-use Rattle.muck_lock.specs.Waiting.{ends, filled, place_behind, outcome_behind}
+use Rattle.muck_lock.specs.inner.Waiting.{ends, filled, place_behind, outcome_behind}
 use Rattle.muck_lock.proofs.Passing.{step_fills, place_behind-within}
 use Rattle.muck_lock.proofs.reader.put_together.Goals as goal
 

@@ -1,6 +1,6 @@
 use Rattle.std.proofs.Common.{◌≡◌, ◌≤◌, length}
 use Rattle.muck_lock.specs.Naming.{Naming}
-use Rattle.muck_lock.specs.Waiting.{outcome_behind}
+use Rattle.muck_lock.specs.inner.Waiting.{outcome_behind}
 use Rattle.muck_lock.proofs.reader.put_together.Given as goal
 
 abbrev pub invariant-loop-last : goal.invariant-loop-last

@@ -1,7 +1,7 @@
 use Rattle.std.proofs.Common.{◌≡◌, ◌≤◌, ◌-◌, length}
 use Rattle.muck_lock.specs.Naming.{naming}
 use Rattle.muck_lock.specs.Grammar.{lock_of}
-use Rattle.muck_lock.specs.Waiting.{outcome_at}
+use Rattle.muck_lock.specs.inner.Waiting.{outcome_at}
 use Rattle.muck_lock.proofs.reader.read.Given as goal
 
 abbrev pub invariant-loop-at : goal.invariant-loop-at

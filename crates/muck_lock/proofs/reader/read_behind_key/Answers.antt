@@ -5,7 +5,7 @@ use Rattle.std.proofs.lemmas.Bool.{ne_eqb}
 use Rattle.std.proofs.lemmas.Option.{slice_get-get_or}
 use Rattle.muck_lock.specs.Naming.{Naming, naming}
 use Rattle.muck_lock.specs.Grammar.{ends_key, key_of}
-use Rattle.muck_lock.specs.Waiting.{outcome_at, outcome_behind}
+use Rattle.muck_lock.specs.inner.Waiting.{outcome_at, outcome_behind}
 use Rattle.muck_lock.proofs.Places.{text_fault-take, text_fault-drop}
 use Rattle.muck_lock.proofs.Passing.{step_no_key, step_key, goes_on-from}
 use Rattle.muck_lock.proofs.reader.read_behind_key.Goals as goal

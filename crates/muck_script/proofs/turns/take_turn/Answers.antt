@@ -3,7 +3,7 @@ use Rattle.std.specs.Prelude.{is_some}
 use Rattle.spec_events.specs.Steps.{next_ready, next_process}
 use Rattle.spec_events.specs.Histories.{History, now, extended}
 use Rattle.muck_script.specs.Story.{Turn}
-use Rattle.muck_script.specs.Settling.{entries_of, slice_of, DiedDuring}
+use Rattle.muck_script.specs.inner.Settling.{entries_of, slice_of, DiedDuring}
 use Rattle.muck_script.proofs.Taking.{line_first, line_taken, some_next, process_next}
 use Rattle.muck_script.proofs.turns.take_turn.Goals as goal
 

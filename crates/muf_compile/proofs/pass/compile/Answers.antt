@@ -1,6 +1,6 @@
 use Rattle.std.proofs.Common.{refl}
 use Rattle.muf_compile.specs.Growth.{tree_of, empty_draft}
-use Rattle.muf_compile.specs.Compiled.{compiled_of}
+use Rattle.muf_compile.specs.inner.Compiled.{compiled_of}
 use Rattle.muf_compile.proofs.Compiling.{starts, takes_at, refused_at, ends_at, few_words, few_units}
 use Rattle.muf_compile.proofs.pass.compile.Goals as goal
 

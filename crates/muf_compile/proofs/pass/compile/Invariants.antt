@@ -1,6 +1,6 @@
 use Rattle.std.proofs.Common.{◌≡◌, drop}
 use Rattle.muf_compile.specs.Growth.{Draft, tree_of, tree_from}
-use Rattle.muf_compile.specs.Compiled.{compiled_of}
+use Rattle.muf_compile.specs.inner.Compiled.{compiled_of}
 use Rattle.muf_compile.proofs.Compiling.{CompiledFits, IsSmall}
 use Rattle.muf_compile.proofs.pass.compile.Given as goal
 

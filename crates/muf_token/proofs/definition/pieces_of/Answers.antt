@@ -1,4 +1,4 @@
-use Rattle.muf_token.specs.Places.{text_at}
+use Rattle.muf_token.specs.inner.Places.{text_at}
 use Rattle.muf_token.proofs.Fronts.{pieces_more}
 use Rattle.muf_token.proofs.definition.pieces_of.Goals as goal
 

@@ -1,6 +1,6 @@
 use Rattle.std.proofs.Common.{◌≡◌, ◌++◌, length}
 use Rattle.muf_token.specs.Pieces.{pieces}
-use Rattle.muf_token.specs.Places.{text_at}
+use Rattle.muf_token.specs.inner.Places.{text_at}
 use Rattle.muf_token.proofs.Fronts.{pieces_from}
 use Rattle.muf_token.proofs.definition.pieces_of.Given as goal
 

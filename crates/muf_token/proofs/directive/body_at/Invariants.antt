@@ -1,7 +1,7 @@
 use Rattle.std.proofs.Common.{◌≡◌, length}
-use Rattle.muf_token.specs.Places.{text_at}
+use Rattle.muf_token.specs.inner.Places.{text_at}
 use Rattle.muf_token.specs.Directives.{body_at}
-use Rattle.muf_token.specs.Spots.{spot_of}
+use Rattle.muf_token.specs.inner.Spots.{spot_of}
 use Rattle.muf_token.proofs.Bodies.{after_pieces}
 use Rattle.muf_token.proofs.directive.body_at.Given as goal
 

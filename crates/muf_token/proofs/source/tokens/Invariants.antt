@@ -1,7 +1,7 @@
 use Rattle.std.proofs.Common.{◌≡◌, length}
-use Rattle.muf_token.specs.Places.{text_at}
-use Rattle.muf_token.specs.Spots.{spot_of}
-use Rattle.muf_token.specs.Readers.{state_of}
+use Rattle.muf_token.specs.inner.Places.{text_at}
+use Rattle.muf_token.specs.inner.Spots.{spot_of}
+use Rattle.muf_token.specs.inner.Readers.{state_of}
 use Rattle.muf_token.specs.Source.{words_from, words}
 use Rattle.muf_token.proofs.source.tokens.Given as goal
 

@@ -1,7 +1,7 @@
 use Rattle.std.proofs.Common.{◌≡◌, ◌++◌, take, drop}
 use Rattle.std.specs.Prelude.{map}
 use Rattle.spec_live.specs.Connections.{told_where, hears}
-use Rattle.muck_board.specs.Silent.{quiet}
+use Rattle.muck_board.specs.inner.Silent.{quiet}
 use Rattle.muck_board.proofs.board.Board.tell_others.Given as goal
 
 abbrev pub invariant-loop-c : goal.invariant-loop-c

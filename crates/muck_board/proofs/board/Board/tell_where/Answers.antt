@@ -2,7 +2,7 @@ use Rattle.std.proofs.Common.{arith, refl, sym, ◌∙◌, ap, map, get_or, leng
 use Rattle.std.proofs.lemmas.Bool.{cond-true, cond-false}
 use Rattle.std.proofs.lemmas.List.{with_items_is}
 use Rattle.spec_live.specs.Connections.{told_where}
-use Rattle.muck_board.specs.Silent.{quiet, silent}
+use Rattle.muck_board.specs.inner.Silent.{quiet, silent}
 use Rattle.muck_board.proofs.Mapped.{mapped_more}
 use Rattle.muck_board.proofs.Quiet.{quiet_where}
 use Rattle.muck_board.proofs.board.Board.tell_where.Goals as goal

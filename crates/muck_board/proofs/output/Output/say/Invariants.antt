@@ -1,7 +1,7 @@
 use Rattle.std.proofs.Common.{◌≡◌, ◌+◌, ◌≤◌, length}
 use Rattle.std.specs.Option.{option_map_or}
 use Rattle.spec_live.specs.Output.{sent, lines_sent}
-use Rattle.muck_board.specs.Pieces.{pieces_after}
+use Rattle.muck_board.specs.inner.Pieces.{pieces_after}
 use Rattle.muck_board.proofs.output.Output.say.Given as goal
 
 abbrev pub invariant-loop-rest : goal.invariant-loop-rest

@@ -1,6 +1,6 @@
 use Rattle.std.proofs.Common.{sym, ◌∙◌, ap, arith, ◌≡◌, Option, ℕ, List, []}
 use Rattle.muck_model.specs.declared.dbref.Dbref.{Dbref}
-use Rattle.muck_db.specs.Slots.{dbrefs_from}
+use Rattle.muck_db.specs.inner.Slots.{dbrefs_from}
 use Rattle.spec_live.proofs.Chains.{ends_within, ends_next}
 use Rattle.muck_db.proofs.Bridge.{dbrefs_none, dbrefs_next}
 use Rattle.muck_db.proofs.chain.Chain.step.Goals as goal

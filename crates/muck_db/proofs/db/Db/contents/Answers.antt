@@ -1,7 +1,7 @@
 use Rattle.std.proofs.Common.{ap, arith, List, length, false}
 use Rattle.muck_model.specs.declared.dbref.Dbref.{Dbref}
 use Rattle.spec_live.specs.Objects.{Entry}
-use Rattle.muck_db.specs.Slots.{entries_of}
+use Rattle.muck_db.specs.inner.Slots.{entries_of}
 use Rattle.muck_db.proofs.Bridge.{sound_order, listed_short}
 use Rattle.muck_db.proofs.db.Db.contents.Goals as goal
 

@@ -1,6 +1,6 @@
 use Rattle.std.proofs.Common.{ap, arith, subst, List, length}
 use Rattle.spec_live.specs.Objects.{Entry}
-use Rattle.muck_db.specs.Limits.{IsWithinLimits}
+use Rattle.muck_db.specs.inner.Limits.{IsWithinLimits}
 use Rattle.muck_db.proofs.Readers.{length-entries_of}
 use Rattle.muck_db.proofs.db.Db.count.Goals as goal
 

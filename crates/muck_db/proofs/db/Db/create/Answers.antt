@@ -1,7 +1,7 @@
 use Rattle.std.proofs.Common.{sym, ◌∙◌, arith, subst, List, Ok}
 use Rattle.spec_live.specs.Objects.{Entry}
 use Rattle.spec_live.specs.Making.{create_check, Creates}
-use Rattle.muck_db.specs.Slots.{entries_of}
+use Rattle.muck_db.specs.inner.Slots.{entries_of}
 use Rattle.muck_db.proofs.Readers.{length-entries_of}
 use Rattle.muck_db.proofs.Bridge.{sound_order}
 use Rattle.muck_db.proofs.Creating.{put_begins, put_within, put_few, created_from, kept_created, creates}

@@ -2,7 +2,7 @@ use Rattle.std.proofs.Common.{sym, ◌∙◌, arith, ap, subst, List, Option, So
 use Rattle.spec_live.specs.declared.mark.Changed.{Changed}
 use Rattle.spec_live.specs.Objects.{Entry}
 use Rattle.spec_live.specs.Marks.{next_change, change_told}
-use Rattle.muck_db.specs.Slots.{entries_of}
+use Rattle.muck_db.specs.inner.Slots.{entries_of}
 use Rattle.muck_db.proofs.Readers.{length-entries_of}
 use Rattle.muck_db.proofs.Tellings.{next_none, next_some, told_none, entries_told, kept_told}
 use Rattle.muck_db.proofs.db.Db.next_changed.Goals as goal

@@ -2,7 +2,7 @@ use Rattle.std.proofs.Common.{sym, ◌∙◌, subst, List, Ok, refl}
 use Rattle.spec_live.specs.Objects.{Entry}
 use Rattle.spec_live.specs.Setting.{Tries, set_at, any, checked, with_prop}
 use Rattle.spec_live.proofs.SettingLaws.{consistent_stored}
-use Rattle.muck_db.specs.Slots.{entries_of}
+use Rattle.muck_db.specs.inner.Slots.{entries_of}
 use Rattle.muck_db.proofs.LimitLaws.{limits_stored}
 use Rattle.muck_db.proofs.Fields.{entries_set, kept_set, tried}
 use Rattle.muck_db.proofs.db.Db.put_prop.Goals as goal

@@ -3,7 +3,7 @@ use Rattle.spec_live.specs.Objects.{Entry}
 use Rattle.spec_live.specs.Moving.{Does}
 use Rattle.spec_live.specs.Recycling.{recycled, recycle_check}
 use Rattle.spec_live.proofs.RecyclingLaws.{recycle_checked}
-use Rattle.muck_db.specs.Slots.{entries_of}
+use Rattle.muck_db.specs.inner.Slots.{entries_of}
 use Rattle.muck_db.proofs.Bridge.{sound_order}
 use Rattle.muck_db.proofs.Leaving.{length_cleared, recycled_from, kept_recycled, does_recycled}
 use Rattle.muck_db.proofs.db.Db.recycle.Goals as goal

@@ -3,7 +3,7 @@ use Rattle.spec_live.specs.Objects.{Entry}
 use Rattle.spec_live.specs.Moving.{Does}
 use Rattle.spec_live.specs.Setting.{set_at, any, checked, without_prop}
 use Rattle.spec_live.proofs.SettingLaws.{consistent_removed}
-use Rattle.muck_db.specs.Slots.{entries_of}
+use Rattle.muck_db.specs.inner.Slots.{entries_of}
 use Rattle.muck_db.proofs.LimitLaws.{limits_removed}
 use Rattle.muck_db.proofs.Fields.{entries_set, kept_set, did}
 use Rattle.muck_db.proofs.db.Db.remove_prop.Goals as goal

@@ -1,4 +1,4 @@
-use Rattle.muck_db.specs.Settings.{with_setting}
+use Rattle.muck_db.specs.inner.Settings.{with_setting}
 use Rattle.muck_db.proofs.Settings.{can_set, set_known, set_kept, set_does}
 use Rattle.muck_db.proofs.db.Db.set.Goals as goal
 

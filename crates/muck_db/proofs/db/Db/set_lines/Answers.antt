@@ -3,7 +3,7 @@ use Rattle.spec_live.specs.Objects.{Entry}
 use Rattle.spec_live.specs.Moving.{Does}
 use Rattle.spec_live.specs.Setting.{lines_set, lines_check}
 use Rattle.spec_live.proofs.SettingLaws.{consistent_lined}
-use Rattle.muck_db.specs.Slots.{entries_of}
+use Rattle.muck_db.specs.inner.Slots.{entries_of}
 use Rattle.muck_db.proofs.LimitLaws.{limits_lined}
 use Rattle.muck_db.proofs.Tellings.{entries_lined, kept_lined, lined}
 use Rattle.muck_db.proofs.db.Db.set_lines.Goals as goal

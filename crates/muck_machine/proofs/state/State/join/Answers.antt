@@ -1,6 +1,6 @@
 use Rattle.std.proofs.Common.{◌≡◌, ◌∙◌, subst, Err}
 use Rattle.muck_queue.specs.declared.fault.QueueFault.{QueueFault}
-use Rattle.muck_queue.specs.Adding.{Adds}
+use Rattle.muck_queue.specs.inner.Adding.{Adds}
 use Rattle.spec_live.specs.Lives.{tell}
 use Rattle.spec_events.specs.World.{World, on_live}
 use Rattle.spec_events.specs.Starting.{joined, too_many}

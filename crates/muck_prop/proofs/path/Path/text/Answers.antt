@@ -1,6 +1,6 @@
 use Rattle.std.proofs.Common.{subst}
 use Rattle.std.specs.Prelude.{Err}
-use Rattle.muck_model.specs.Text.{IsTextOrFault}
+use Rattle.muck_model.specs.inner.Text.{IsTextOrFault}
 use Rattle.muck_prop.specs.Paths.{IsReadAs, path_text}
 use Rattle.muck_prop.proofs.Writing.{text_reads, text_is_text, never_refused}
 use Rattle.muck_prop.proofs.path.Path.text.Goals as goal

@@ -1,5 +1,5 @@
 use Rattle.std.proofs.Common.{◌≡◌, drop}
-use Rattle.muf_token.specs.Lenders.{lent_by}
+use Rattle.muf_token.specs.inner.Lenders.{lent_by}
 use Rattle.muf_token.proofs.memory.MemIncludesIncludes.defs.Given as goal
 
 -- none of the entries so far is the object's

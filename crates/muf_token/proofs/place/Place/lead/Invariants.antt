@@ -1,6 +1,6 @@
 use Rattle.std.proofs.Common.{◌≡◌, None, length}
 use Rattle.muf_token.specs.Pieces.{front}
-use Rattle.muf_token.specs.Places.{text_at}
+use Rattle.muf_token.specs.inner.Places.{text_at}
 use Rattle.muf_token.proofs.place.Place.lead.Given as goal
 
 -- what is in front of here is what was in front of the start

@@ -1,7 +1,7 @@
 use Rattle.std.proofs.Common.{◌≡◌, ◌≤◌, ◌+◌, ◌++◌, true, false, length}
-use Rattle.muf_token.specs.Bytes.{are_inside}
+use Rattle.muf_token.specs.inner.Bytes.{are_inside}
 use Rattle.muf_token.specs.Pieces.{quoted, below}
-use Rattle.muf_token.specs.Places.{text_at}
+use Rattle.muf_token.specs.inner.Places.{text_at}
 use Rattle.muf_token.proofs.Quotes.{after_bytes}
 use Rattle.muf_token.proofs.place.Place.quoted.Given as goal
 

@@ -1,6 +1,6 @@
-use Rattle.muf_token.specs.Places.{text_at}
-use Rattle.muf_token.specs.Spots.{spot_of}
-use Rattle.muf_token.specs.Readers.{state_of}
+use Rattle.muf_token.specs.inner.Places.{text_at}
+use Rattle.muf_token.specs.inner.Spots.{spot_of}
+use Rattle.muf_token.specs.inner.Readers.{state_of}
 use Rattle.muf_token.proofs.Sources.{words_stepped, step_shorter}
 use Rattle.muf_token.proofs.Exits.{err_read}
 use Rattle.muf_token.proofs.reader.Reader.read.Goals as goal

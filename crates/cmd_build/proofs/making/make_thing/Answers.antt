@@ -1,5 +1,0 @@
-use Rattle.cmd_build.proofs.Made.{told_making}
-use Rattle.cmd_build.proofs.making.make_thing.Goals as goal
-
-pub returns : goal.returns
-returns c = told_making _ _ _ _ _ _ _ c.create_thing-made.new.self _ c.create_thing-made.result _ c.create_thing-made.ensures c.tell_made.ensures

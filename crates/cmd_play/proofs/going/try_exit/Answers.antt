@@ -1,5 +1,0 @@
-use Rattle.cmd_play.proofs.Moves.{leave_given, leave_kept}
-use Rattle.cmd_play.proofs.going.try_exit.Goals as goal
-
-pub lead-requires : goal.lead-requires
-lead-requires c = leave_kept c.in-Ok.pass _ _ _ _ c.args.guard.now _ (leave_given _ _ _ c.in-Ok.pass c.args.guard.now c.db.ensures c.actor-actor.ensures c.in-Ok.ensures) c.in_ok-succeed-in-Ok.ensures

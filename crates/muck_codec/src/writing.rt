@@ -1,0 +1,192 @@
+// Records and batches, as they are written.
+ghost use Rattle.std.specs.Prelude.{◌≡◌, ◌≤◌, ◌<◌, ◌^◌, ◌++◌, length, OnOk, IfOk};
+ghost use Rattle.std.specs.List.{flat_map};
+ghost use Rattle.muck_codec.specs.Spelling.{dbref_bytes, kind_byte, text_bytes, value_bytes, property_bytes, head_bytes, ties_bytes, lists_bytes, properties_bytes, lines_bytes, texts_bytes, spelling};
+ghost use Rattle.muck_codec.specs.Batches.{four_bytes, tune_bytes};
+
+use crate::stored::{Property, Stored};
+use muck_model::{Dbref, Kind, Line, NoMemory, Tune};
+use muck_prop::PropValue;
+use std::alloc::Global;
+
+fn put_dbref(out: &mut Vec<u8>, dbref: Dbref) -> Result<(), NoMemory>
+    ensures { OnOk result (out.new.items ≡ out.old.items ++ dbref_bytes dbref) }
+{
+    out.extend_from_slice(&dbref.0.to_be_bytes())?;
+    Ok(())
+}
+
+fn kind_byte(kind: Kind) -> u8
+    ensures { result ≡ kind_byte kind }
+{
+    match kind {
+        Kind::Room => 0,
+        Kind::Thing => 1,
+        Kind::Exit => 2,
+        Kind::Player => 3,
+        Kind::Program => 4,
+        Kind::Garbage => 5,
+    }
+}
+
+fn put_text(out: &mut Vec<u8>, text: &Line) -> Result<(), NoMemory>
+    ensures { OnOk result (out.new.items ≡ out.old.items ++ text_bytes text.now) }
+{
+    let bytes = text.as_slice();
+    out.extend_from_slice(&(bytes.len() as u16).to_be_bytes())?;
+    out.extend_from_slice(bytes)?;
+    Ok(())
+}
+
+fn put_value(out: &mut Vec<u8>, value: &PropValue) -> Result<(), NoMemory>
+    ensures { OnOk result (out.new.items ≡ out.old.items ++ value_bytes value.now) }
+{
+    match value {
+        PropValue::Text(text) => {
+            out.push(0)?;
+            put_text(out, text)?;
+            Ok(())
+        }
+        PropValue::Number(number) => {
+            out.push(1)?;
+            out.extend_from_slice(&number.to_be_bytes())?;
+            Ok(())
+        }
+    }
+}
+
+fn put_property(alloc: Global, out: &mut Vec<u8>, property: &Property) -> Result<(), NoMemory>
+    ensures { OnOk result (out.new.items ≡ out.old.items ++ property_bytes property.now) }
+{
+    let path = property.path.text(alloc)?;
+    put_text(out, &path)?;
+    put_value(out, &property.value)?;
+    Ok(())
+}
+
+#[tactic(auto, unfolding(crate::specs::Spelling::head_bytes))]
+fn put_head(out: &mut Vec<u8>, object: &Stored) -> Result<(), NoMemory>
+    ensures { OnOk result (out.new.items ≡ out.old.items ++ head_bytes object.now) }
+{
+    put_dbref(out, object.dbref)?;
+    out.push(kind_byte(object.kind))?;
+    out.extend_from_slice(&object.flags.0.to_be_bytes())?;
+    out.push(object.level)?;
+    Ok(())
+}
+
+#[tactic(auto, unfolding(crate::specs::Spelling::ties_bytes))]
+fn put_ties(out: &mut Vec<u8>, object: &Stored) -> Result<(), NoMemory>
+    ensures { OnOk result (out.new.items ≡ out.old.items ++ ties_bytes object.now) }
+{
+    put_dbref(out, object.owner)?;
+    put_dbref(out, object.place)?;
+    put_dbref(out, object.link)?;
+    put_dbref(out, object.home)?;
+    Ok(())
+}
+
+#[tactic(auto, unfolding(crate::specs::Spelling::lists_bytes))]
+fn put_lists(out: &mut Vec<u8>, object: &Stored) -> Result<(), NoMemory>
+    ensures { OnOk result (out.new.items ≡ out.old.items ++ lists_bytes object.now) }
+{
+    put_dbref(out, object.first_content)?;
+    put_dbref(out, object.first_exit)?;
+    put_dbref(out, object.next)?;
+    Ok(())
+}
+
+fn put_each_property(alloc: Global, props: &[Property], out: &mut Vec<u8>) -> Result<(), NoMemory>
+    ensures { OnOk result (out.new.items ≡ out.old.items ++ flat_map property_bytes props.now) }
+{
+    for property in props {
+        put_property(alloc, out, property)?;
+    }
+    Ok(())
+}
+
+#[tactic(auto, unfolding(crate::specs::Spelling::properties_bytes))]
+fn put_properties(alloc: Global, out: &mut Vec<u8>, props: &[Property]) -> Result<(), NoMemory>
+    ensures { OnOk result (out.new.items ≡ out.old.items ++ properties_bytes props.now) }
+{
+    out.extend_from_slice(&(props.len() as u64).to_be_bytes())?;
+    put_each_property(alloc, props, out)?;
+    Ok(())
+}
+
+fn put_each_line(lines: &[Line], out: &mut Vec<u8>) -> Result<(), NoMemory>
+    ensures { OnOk result (out.new.items ≡ out.old.items ++ flat_map text_bytes lines.now) }
+{
+    for line in lines {
+        put_text(out, line)?;
+    }
+    Ok(())
+}
+
+#[tactic(auto, unfolding(crate::specs::Spelling::lines_bytes))]
+fn put_lines(out: &mut Vec<u8>, lines: &[Line]) -> Result<(), NoMemory>
+    requires { length lines.now ≤ 4096 }
+    ensures { OnOk result (out.new.items ≡ out.old.items ++ lines_bytes lines.now) }
+{
+    out.extend_from_slice(&(lines.len() as u16).to_be_bytes())?;
+    put_each_line(lines, out)?;
+    Ok(())
+}
+
+#[tactic(auto, unfolding(crate::specs::Spelling::texts_bytes))]
+fn put_texts(alloc: Global, out: &mut Vec<u8>, object: &Stored) -> Result<(), NoMemory>
+    requires { length object.now.lines ≤ 4096 }
+    ensures { OnOk result (out.new.items ≡ out.old.items ++ texts_bytes object.now) }
+{
+    put_text(out, &object.name)?;
+    put_properties(alloc, out, object.props.as_slice())?;
+    put_lines(out, object.lines.as_slice())?;
+    put_text(out, &object.digest)?;
+    Ok(())
+}
+
+/// Writes the record of an object behind the bytes, in its one spelling. After `NoMemory` a part of it may stand there.
+#[tactic(auto, unfolding(crate::specs::Spelling::spelling))]
+pub fn put_record(alloc: Global, object: &Stored, out: &mut Vec<u8>) -> Result<(), NoMemory>
+    requires lines { length object.now.lines ≤ 4096 }
+    ensures { OnOk result (out.new.items ≡ out.old.items ++ spelling object.now) }
+{
+    put_head(out, object)?;
+    put_ties(out, object)?;
+    put_lists(out, object)?;
+    put_texts(alloc, out, object)?;
+    Ok(())
+}
+
+#[tactic(auto, unfolding(crate::specs::Batches::four_bytes))]
+fn put_four(out: &mut Vec<u8>, a: u32, b: u32, c: u32, d: u32) -> Result<(), NoMemory>
+    ensures { OnOk result (out.new.items ≡ out.old.items ++ four_bytes a b c d) }
+{
+    out.extend_from_slice(&a.to_be_bytes())?;
+    out.extend_from_slice(&b.to_be_bytes())?;
+    out.extend_from_slice(&c.to_be_bytes())?;
+    out.extend_from_slice(&d.to_be_bytes())?;
+    Ok(())
+}
+
+/// Writes the tune parameters behind the bytes. After `NoMemory` a part of them may stand there.
+#[tactic(auto, unfolding(crate::specs::Batches::tune_bytes))]
+pub fn put_tune(out: &mut Vec<u8>, tune: &Tune) -> Result<(), NoMemory>
+    ensures { OnOk result (out.new.items ≡ out.old.items ++ tune_bytes tune.now) }
+{
+    put_four(
+        out,
+        tune.instr_slice,
+        tune.preempt_units,
+        tune.m1_units,
+        tune.m2_units,
+    )?;
+    put_four(
+        out,
+        tune.process_limit,
+        tune.player_processes,
+        tune.mpi_commands,
+        tune.dump_interval,
+    )?;
+    Ok(())
+}

@@ -1,0 +1,4 @@
+pub mod Slots
+pub mod Limits
+pub mod Shown
+pub mod Settings

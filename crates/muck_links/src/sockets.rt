@@ -1,0 +1,272 @@
+// Links over the system's sockets.
+ghost use Rattle.std.specs.Prelude.{◌≡◌, ◌≢◌, ◌<◌, ◌^◌, ℕ, false};
+ghost use Rattle.muck_links.specs.declared.links.Accepted.TheVariants.{Got as Came, Fault as AcceptFault};
+
+use crate::links::{Accepted, LinkRead, LinkWrite, Links, Listened};
+use mio::net::{TcpListener, TcpStream};
+use mio::{Events, Interest, Poll, Token};
+use slab::Slab;
+use std::alloc::Global;
+use std::io;
+use std::io::{ErrorKind, Read, Write};
+use std::net::{Ipv4Addr, Net, Shutdown, SocketAddr};
+use std::time::Duration;
+
+// The name of the listener among what may be ready; the links have their numbers.
+const DOOR: usize = usize::MAX;
+
+// How many events one look at the sockets tells.
+const EVENTS_MOST: usize = 1024;
+
+// How many rounds in which nothing happened are looked through before a round waits.
+const ROUNDS_AWAKE: u32 = 64;
+
+// How many milliseconds a round waits in which nothing happens.
+const NAP_MILLIS: u64 = 1;
+
+// What a closed link still sent is read away at most so often: else the system would drop what was written to it last.
+const READS_AWAY: usize = 16;
+
+// Where links come in.
+#[derive(Drop)]
+struct Door {
+    listener: TcpListener,
+    poll: Poll,
+    events: Events,
+    // Whether links may wait there.
+    pending: bool,
+}
+
+// An open link.
+#[derive(Drop)]
+struct Socket {
+    stream: TcpStream,
+    // Whether a read may find something.
+    readable: bool,
+}
+
+/// Links over the system's sockets, by TCP. They tell nothing of what they carry. What is written goes out at once, in one call of
+/// the system. Where nothing happens for some rounds, `accept` waits for a millisecond, or until something does.
+#[derive(Drop)]
+pub struct MioLinks<N: Net> {
+    net: N,
+    alloc: Global,
+    door: Option<Door>,
+    sockets: Slab<Socket>,
+    listening: u64,
+    // How many rounds nothing happened.
+    quiet: u32,
+}
+
+// Opens a door at the port, on all addresses.
+fn open<N: Net>(net: &N, port: u16, events: Events) -> io::Result<Door> {
+    let address = SocketAddr::from((Ipv4Addr::UNSPECIFIED, port));
+    let mut listener = TcpListener::bind(net, address)?;
+    let poll = Poll::new(net)?;
+    poll.registry()
+        .register(&mut listener, Token(DOOR), Interest::READABLE)?;
+    Ok(Door {
+        listener,
+        poll,
+        events,
+        pending: true,
+    })
+}
+
+// Whether it is the listener that failed, and not the link that came, or the system for a while.
+fn is_door_broken(error: &io::Error) -> bool {
+    match error.raw_os_error() {
+        // EBADF, EINVAL, ENOTSOCK
+        Some(code) => code == 9 || code == 22 || code == 88,
+        None => false,
+    }
+}
+
+// Whether the call may be tried again.
+fn is_passing(error: &io::Error) -> bool {
+    match error.kind() {
+        ErrorKind::WouldBlock | ErrorKind::Interrupted => true,
+        _ => false,
+    }
+}
+
+impl<N: Net> MioLinks<N> {
+    /// No link so far.
+    pub fn new(alloc: Global, net: N) -> Self {
+        MioLinks {
+            net,
+            alloc,
+            door: None,
+            sockets: Slab::new(alloc),
+            listening: 0,
+            quiet: 0,
+        }
+    }
+
+    /// The port that is listened on.
+    pub fn port(&self) -> Option<u16> {
+        let door = self.door.as_ref()?;
+        match door.listener.local_addr() {
+            Ok(address) => Some(address.port()),
+            Err(_) => None,
+        }
+    }
+
+    // Looks which sockets are ready, and waits a moment where none is and none was for some rounds.
+    fn look(&mut self)
+        ensures { self.new.listening ≡ self.old.listening }
+    {
+        let MioLinks {
+            door,
+            sockets,
+            quiet,
+            ..
+        } = self;
+        let Some(door) = door else { return };
+        let time = if *quiet < ROUNDS_AWAKE {
+            Duration::ZERO
+        } else {
+            Duration::from_millis(NAP_MILLIS)
+        };
+        *quiet = quiet.saturating_add(1);
+        if door.poll.poll(&mut door.events, Some(time)).is_err() {
+            return;
+        }
+        for event in door.events.iter() {
+            *quiet = 0;
+            let token = usize::from(event.token());
+            if token == DOOR {
+                door.pending = true;
+            } else if let Some(socket) = sockets.get_mut(token) {
+                socket.readable = true;
+            }
+        }
+    }
+
+    // Keeps a link that came. One that the system can't watch is let go.
+    fn keep(&mut self, stream: TcpStream) -> Accepted
+        ensures number { (d : ℕ) → result ≡ Came d → d < 2 ^ 31 }
+        ensures fine { result ≢ AcceptFault }
+        ensures kept { self.new.listening ≡ self.old.listening }
+    {
+        let mut stream = stream;
+        let Some(door) = &self.door else {
+            return Accepted::NotYet;
+        };
+        if self.sockets.reserve(1).is_err() {
+            return Accepted::NoMemory;
+        }
+        let d = self.sockets.vacant_key();
+        let registry = door.poll.registry();
+        let _ = stream.set_nodelay(true);
+        if d >= 1 << 31
+            || registry
+                .register(&mut stream, Token(d), Interest::READABLE)
+                .is_err()
+        {
+            return Accepted::NotYet;
+        }
+        self.sockets.insert_reserved(Socket {
+            stream,
+            readable: true,
+        });
+        Accepted::Got(d as u32)
+    }
+}
+
+impl<N: Net> Links for MioLinks<N> {
+    ghost use Rattle.std.specs.Prelude.{false, []};
+
+    ghost tells = { λ _. false };
+
+    ghost told = { λ _. record { sessions = []; ports = []; over = false } };
+
+    ghost listening = { λ s. s.listening };
+
+    fn listen(&mut self, port: u16) -> Listened {
+        let Ok(events) = Events::with_capacity(self.alloc, EVENTS_MOST) else {
+            return Listened::NoMemory;
+        };
+        match open(&self.net, port, events) {
+            Ok(door) => {
+                self.door = Some(door);
+                Listened::Ready
+            }
+            Err(_) => {
+                self.listening = self.listening.saturating_add(1);
+                Listened::Fault
+            }
+        }
+    }
+
+    fn accept(&mut self) -> Accepted {
+        self.look();
+        let Some(door) = &mut self.door else {
+            return Accepted::NotYet;
+        };
+        if !door.pending {
+            return Accepted::NotYet;
+        }
+        match door.listener.accept() {
+            Ok((stream, _)) => self.keep(stream),
+            Err(e) if is_door_broken(&e) => {
+                self.listening = self.listening.saturating_add(1);
+                Accepted::Fault
+            }
+            Err(e) => {
+                door.pending = e.kind() != ErrorKind::WouldBlock;
+                Accepted::NotYet
+            }
+        }
+    }
+
+    fn read(&mut self, d: u32, buf: &mut [u8]) -> LinkRead {
+        let Some(socket) = self.sockets.get_mut(d as usize) else {
+            return LinkRead::NotYet;
+        };
+        if !socket.readable {
+            return LinkRead::NotYet;
+        }
+        match socket.stream.read(buf) {
+            Ok(n) if n == 0 && !buf.is_empty() => LinkRead::End,
+            Ok(n) => {
+                self.quiet = 0;
+                LinkRead::Got(n)
+            }
+            Err(e) if is_passing(&e) => {
+                socket.readable = e.kind() != ErrorKind::WouldBlock;
+                LinkRead::NotYet
+            }
+            Err(_) => LinkRead::Fault,
+        }
+    }
+
+    fn write(&mut self, d: u32, bytes: &[u8]) -> LinkWrite {
+        let Some(socket) = self.sockets.get_mut(d as usize) else {
+            return LinkWrite::Fault;
+        };
+        match socket.stream.write(bytes) {
+            Ok(n) => {
+                self.quiet = 0;
+                LinkWrite::Put(n)
+            }
+            Err(e) if is_passing(&e) => LinkWrite::NotYet,
+            Err(_) => LinkWrite::Fault,
+        }
+    }
+
+    fn close(&mut self, d: u32) {
+        let Some(socket) = self.sockets.try_remove(d as usize) else {
+            return;
+        };
+        let mut socket = socket;
+        let _ = socket.stream.shutdown(Shutdown::Write);
+        let mut away = [0u8; 1024];
+        for _ in 0..READS_AWAY {
+            match socket.stream.read(&mut away) {
+                Ok(n) if n > 0 => {}
+                _ => return,
+            }
+        }
+    }
+}

@@ -1,0 +1,6 @@
+pub mod Waiting
+pub mod Made
+pub mod Law
+pub mod Memory
+pub mod Standing
+pub mod Answers

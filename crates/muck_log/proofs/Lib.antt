@@ -1,0 +1,11 @@
+pub mod Appending
+pub mod Files
+pub mod Fronts
+pub mod Moments
+pub mod Mounted
+pub mod Mounting
+pub mod Runs
+pub mod Stores
+pub mod Writing
+pub mod Written
+pub mod Placing

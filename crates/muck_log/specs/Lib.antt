@@ -1,0 +1,7 @@
+pub mod Append
+pub mod Body
+pub mod File
+pub mod Head
+pub mod Mount
+pub mod Store
+pub mod World

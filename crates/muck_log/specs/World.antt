@@ -1,0 +1,143 @@
+-- The world that a store holds: a record of each object, by its number from 0 on, and the tune parameters.
+use Rattle.std.specs.Prelude.{ℕ, Bool, true, not, ◌&&◌, ◌||◌, ◌==◌, nat_le, nat_lt, List, [], ◌∷◌, ◌++◌, length, codes, Option, Some, None, slice_get, slice_set, bytes_eq, if◌then◌else◌, option_and_then, Result, Ok, Err}
+use Rattle.std.specs.Option.{option_map_or}
+use Rattle.std.specs.List.{filter, list_all}
+use Rattle.muck_model.specs.declared.dbref.Kind.TheVariants.{Room, Player}
+use Rattle.muck_model.specs.declared.tune.Tune.{Tune}
+use Rattle.spec_live.specs.Objects.{dbref_of, index_of, nothing}
+use Rattle.spec_live.specs.Flags.{no_flags, wizard}
+use Rattle.muck_codec.specs.declared.stored.Stored.{Stored}
+use Rattle.muck_codec.specs.declared.stored.Batch.{Batch}
+use Rattle.muck_codec.specs.Spelling.{spelling}
+use Rattle.muck_codec.specs.Batches.{whole_batch}
+
+pub record World : Type 0 where
+  pub objects : List Stored
+  pub tune : Tune
+
+-- The starting world.
+
+unfoldable pub room_zero : Stored
+room_zero = record {
+  dbref = dbref_of 0;
+  kind = Room;
+  flags = no_flags;
+  level = 0;
+  owner = dbref_of 1;
+  place = nothing;
+  link = nothing;
+  home = nothing;
+  first_content = dbref_of 1;
+  first_exit = nothing;
+  next = nothing;
+  name = codes "Room Zero";
+  props = [];
+  lines = [];
+  digest = [];
+}
+
+-- the digest of `potrzebie` under a salt of zeros
+unfoldable pub first_digest : List ℕ
+first_digest = codes "0000000000000000788a82af0ffc0d0cdaa372295052de2760a7cbb2947aa0585aab17efefce5216"
+
+unfoldable pub player_one : Stored
+player_one = record {
+  dbref = dbref_of 1;
+  kind = Player;
+  flags = record { 0 = wizard };
+  level = 0;
+  owner = dbref_of 1;
+  place = dbref_of 0;
+  link = nothing;
+  home = dbref_of 0;
+  first_content = nothing;
+  first_exit = nothing;
+  next = nothing;
+  name = codes "One";
+  props = [];
+  lines = [];
+  digest = first_digest;
+}
+
+unfoldable pub first_tune : Tune
+first_tune = record {
+  instr_slice = 2000;
+  preempt_units = 20000;
+  m1_units = 20000;
+  m2_units = 80000;
+  process_limit = 400;
+  player_processes = 32;
+  mpi_commands = 2048;
+  dump_interval = 900;
+}
+
+-- Room Zero, and One in it
+unfoldable pub start : World
+start = record { objects = room_zero ∷ player_one ∷ []; tune = first_tune }
+
+-- what is held of a file behind a batch that is outside the format
+unfoldable pub lost : World
+lost = record { objects = []; tune = first_tune }
+
+-- Limits.
+
+-- a hex digit in lower case
+abbrev pub is_digit : ℕ → Bool
+is_digit b = (nat_le 48 b && nat_le b 57) || (nat_le 97 b && nat_le b 102)
+
+-- none, or two digits for each of the 8 bytes of the salt and the 32 of the hash
+unfoldable pub is_digest : List ℕ → Bool
+is_digest digest = length digest == 0 || (length digest == 80 && list_all is_digit digest)
+
+unfoldable pub fits : Stored → Bool
+fits o = nat_le 1 (length o.name) && (nat_le (length o.name) 80 && (nat_le o.level 3 && (nat_lt o.flags.0 16384 && (nat_le (length o.lines) 4096 && is_digest o.digest))))
+
+abbrev pub is_between : ℕ → ℕ → Bool
+is_between n most = nat_le 1 n && nat_le n most
+
+unfoldable pub tune_fits : Tune → Bool
+tune_fits t = is_between t.instr_slice 20000 && (is_between t.preempt_units 20000 && (is_between t.m1_units 1000000 && (is_between t.m2_units 1000000
+    && (is_between t.process_limit 400 && (is_between t.player_processes 400 && (is_between t.mpi_commands 2048 && is_between t.dump_interval 86400))))))
+
+-- every value is within its limits
+unfoldable pub is_fine : List Stored → Tune → Bool
+is_fine objects tune = nat_le (length objects) 100000 && (list_all fits objects && tune_fits tune)
+
+-- Laying.
+
+abbrev pub put_at : List Stored → Stored → ℕ → Option (List Stored)
+put_at objects o n = if nat_lt n (length objects) then Some (slice_set objects n o) else if n == length objects then Some (objects ++ o ∷ []) else None
+
+-- the record in the place of its number, or at the next number
+unfoldable pub placed : Stored → List Stored → Option (List Stored)
+placed o objects = option_and_then (put_at objects o) (index_of o.dbref)
+
+unfoldable pub all_placed : List Stored → List Stored → Option (List Stored)
+all_placed [] objects = Some objects
+all_placed (o ∷ os) objects = option_and_then (all_placed os) (placed o objects)
+
+abbrev pub judged_world : Tune → List Stored → Option World
+judged_world tune objects = if is_fine objects tune then Some (record { objects = objects; tune = tune }) else None
+
+-- the world with a batch laid over it, where that can be
+unfoldable pub laid_over : Batch → World → Option World
+laid_over b world = option_and_then (judged_world b.tune) (all_placed b.records world.objects)
+
+abbrev pub batch_if : Result Batch ℕ → Option Batch
+batch_if (Ok b) = Some b
+batch_if (Err left) = None
+
+-- The one place where the grammar of records, their limits and the world come in: the world with these bytes laid over it, or none
+-- where they are no batch to their end, or don't leave such a world.
+unfoldable pub laid : List ℕ → World → Option World
+laid payload world = option_and_then (λ b. laid_over b world) (batch_if (whole_batch 1 payload))
+
+-- What is written.
+
+-- what is kept of an object isn't this record
+unfoldable pub differs : List Stored → Stored → Bool
+differs objects o = option_map_or (λ kept. nat_lt 4096 (length kept.lines) || not (bytes_eq (spelling kept) (spelling o))) (option_and_then (slice_get objects) (index_of o.dbref)) true
+
+-- the records that are written: all of them, or those that differ from what is kept
+unfoldable pub written : Bool → List Stored → List Stored → List Stored
+written all objects records = filter (λ o. all || differs objects o) records

@@ -1,0 +1,367 @@
+// What is kept of a store.
+ghost use Rattle.std.specs.Prelude.{◌≡◌, ◌≤◌, ◌<◌, ◌^◌, ◌++◌, List, length, reverse, bytes_eq, ◌||◌, true, false, Some, None, IfOk, OnOk};
+ghost use Rattle.std.specs.List.{flat_map, list_all};
+ghost use Rattle.muck_model.specs.Bytes.{text_fault};
+ghost use Rattle.muck_codec.specs.Spelling.{spelling};
+ghost use Rattle.muck_codec.specs.Batches.{batch_bytes, HasFewLines};
+ghost use Rattle.muck_log.specs.World.{World, room_zero, first_digest, player_one, first_tune, start, lost, is_digit, is_digest, fits, is_between, tune_fits, is_fine, placed, all_placed, laid, differs, written};
+ghost use Rattle.muck_log.specs.Head.{IsLaid, IsPlaced, ArePlaced};
+
+use muck_codec::{Batch, CodecFault, Stored, put_record, put_tune, take_batch};
+use muck_model::{Dbref, Flags, Kind, Line, LineFault, LineList, NoMemory, Row, Tune};
+use spec_live::WIZARD;
+use std::alloc::Global;
+use std::marker::Model;
+
+/// What a store holds: the record of each object, by its number from 0 on, and the tune parameters.
+#[derive(Drop)]
+pub struct Kept {
+    alloc: Global,
+    objects: Vec<Stored>,
+    tune: Tune,
+}
+
+impl Model for Kept {
+    ghost use Rattle.muck_log.specs.World.{World};
+
+    ghost Value = { World };
+
+    ghost view = { λ w. record { objects = w.objects.items; tune = w.tune } };
+}
+
+// A text of these bytes, which are one.
+fn text(alloc: Global, bytes: &[u8]) -> Result<Line, NoMemory>
+    requires { text_fault bytes.now ≡ None }
+    ensures { IfOk result (λ line. line ≡ bytes.now) }
+{
+    match Line::new(alloc, bytes) {
+        Ok(line) => Ok(line),
+        Err(LineFault::NoMemory) => Err(NoMemory),
+        Err(LineFault::NotLine { .. }) => unreachable!(),
+    }
+}
+
+// Room Zero, below which all rooms are.
+#[tactic(auto, unfolding(crate::specs::World::room_zero, muck_model::specs::Bytes::text_most))]
+fn room_zero(alloc: Global) -> Result<Stored, NoMemory>
+    ensures { IfOk result (λ o. o ≡ room_zero) }
+{
+    Ok(Stored {
+        dbref: Dbref(0),
+        kind: Kind::Room,
+        flags: Flags(0),
+        level: 0,
+        owner: Dbref(1),
+        place: Dbref(-1),
+        link: Dbref(-1),
+        home: Dbref(-1),
+        first_content: Dbref(1),
+        first_exit: Dbref(-1),
+        next: Dbref(-1),
+        name: text(alloc, b"Room Zero")?,
+        props: Row::new(alloc)?,
+        lines: LineList::new(alloc)?,
+        digest: text(alloc, b"")?,
+    })
+}
+
+// The digest of One's first password.
+#[tactic(auto, unfolding(crate::specs::World::first_digest, muck_model::specs::Bytes::text_most))]
+fn first_digest(alloc: Global) -> Result<Line, NoMemory>
+    ensures { IfOk result (λ line. line ≡ first_digest) }
+{
+    text(
+        alloc,
+        b"0000000000000000788a82af0ffc0d0cdaa372295052de2760a7cbb2947aa0585aab17efefce5216",
+    )
+}
+
+// One, who is a wizard.
+#[tactic(auto, unfolding(crate::specs::World::player_one, muck_model::specs::Bytes::text_most))]
+fn player_one(alloc: Global) -> Result<Stored, NoMemory>
+    ensures { IfOk result (λ o. o ≡ player_one) }
+{
+    Ok(Stored {
+        dbref: Dbref(1),
+        kind: Kind::Player,
+        flags: Flags(WIZARD),
+        level: 0,
+        owner: Dbref(1),
+        place: Dbref(0),
+        link: Dbref(-1),
+        home: Dbref(0),
+        first_content: Dbref(-1),
+        first_exit: Dbref(-1),
+        next: Dbref(-1),
+        name: text(alloc, b"One")?,
+        props: Row::new(alloc)?,
+        lines: LineList::new(alloc)?,
+        digest: first_digest(alloc)?,
+    })
+}
+
+#[tactic(auto, unfolding(crate::specs::World::first_tune))]
+fn first_tune() -> Tune
+    ensures { result ≡ first_tune }
+{
+    Tune {
+        instr_slice: 2_000,
+        preempt_units: 20_000,
+        m1_units: 20_000,
+        m2_units: 80_000,
+        process_limit: 400,
+        player_processes: 32,
+        mpi_commands: 2_048,
+        dump_interval: 900,
+    }
+}
+
+fn are_digits(bytes: &[u8]) -> bool
+    ensures { result ≡ list_all is_digit bytes.now }
+{
+    bytes
+        .iter()
+        .all(|b| (*b >= 48 && *b <= 57) || (*b >= 97 && *b <= 102))
+}
+
+#[tactic(auto, unfolding(crate::specs::World::is_digest))]
+fn is_digest(digest: &[u8]) -> bool
+    ensures { result ≡ is_digest digest.now }
+{
+    digest.is_empty() || (digest.len() == 80 && are_digits(digest))
+}
+
+// Whether every value of a record is within its limits.
+#[tactic(auto, unfolding(crate::specs::World::fits))]
+fn fits(object: &Stored) -> bool
+    ensures { result ≡ fits object.now }
+{
+    let name = object.name.as_slice().len();
+    name >= 1
+        && name <= 80
+        && object.level <= 3
+        && object.flags.0 < 16_384
+        && object.lines.len() <= 4_096
+        && is_digest(object.digest.as_slice())
+}
+
+fn is_between(n: u32, most: u32) -> bool
+    ensures { result ≡ is_between n most }
+{
+    n >= 1 && n <= most
+}
+
+#[tactic(auto, unfolding(crate::specs::World::tune_fits))]
+fn tune_fits(tune: &Tune) -> bool
+    ensures { result ≡ tune_fits tune.now }
+{
+    is_between(tune.instr_slice, 20_000)
+        && is_between(tune.preempt_units, 20_000)
+        && is_between(tune.m1_units, 1_000_000)
+        && is_between(tune.m2_units, 1_000_000)
+        && is_between(tune.process_limit, 400)
+        && is_between(tune.player_processes, 400)
+        && is_between(tune.mpi_commands, 2_048)
+        && is_between(tune.dump_interval, 86_400)
+}
+
+fn all_fit(objects: &[Stored]) -> bool
+    ensures { result ≡ list_all fits objects.now }
+{
+    objects.iter().all(fits)
+}
+
+#[tactic(auto, unfolding(crate::specs::World::is_fine))]
+fn is_fine(objects: &[Stored], tune: &Tune) -> bool
+    ensures { result ≡ is_fine objects.now tune.now }
+{
+    objects.len() <= 100_000 && all_fit(objects) && tune_fits(tune)
+}
+
+// Puts a record in the place of its number, or at the next number; false where that can't be.
+#[tactic(auto, unfolding(crate::specs::World::placed))]
+fn place(objects: &mut Vec<Stored>, object: Stored) -> Result<bool, NoMemory>
+    ensures { IfOk result (λ yes. IsPlaced yes object objects.old.items objects.new.items) }
+{
+    if object.dbref.0 < 0 {
+        return Ok(false);
+    }
+    let at = object.dbref.0 as usize;
+    if at < objects.len() {
+        objects[at] = object;
+        return Ok(true);
+    }
+    if at == objects.len() {
+        objects.push(object)?;
+        return Ok(true);
+    }
+    Ok(false)
+}
+
+// Puts these records in their places, the last one first; false where one has none.
+fn place_all(objects: &mut Vec<Stored>, records: Vec<Stored>) -> Result<bool, NoMemory>
+    ensures { IfOk result (λ yes. ArePlaced yes (reverse records.items) objects.old.items objects.new.items) }
+{
+    let mut left = records;
+    while let Some(object) = left.pop() {
+        if !place(objects, object)? {
+            return Ok(false);
+        }
+    }
+    Ok(true)
+}
+
+fn in_order(records: Row<Stored>) -> Vec<Stored>
+    ensures { reverse result.items ≡ records }
+{
+    let mut records = records.into_vec();
+    records.reverse();
+    records
+}
+
+impl Kept {
+    #[tactic(auto, unfolding(crate::specs::World::start))]
+    pub(crate) fn starting(alloc: Global) -> Result<Kept, NoMemory>
+        ensures { IfOk result (λ w. w ≡ start) }
+    {
+        let mut objects = Vec::new(alloc);
+        objects.push(room_zero(alloc)?)?;
+        objects.push(player_one(alloc)?)?;
+        Ok(Kept {
+            alloc,
+            objects,
+            tune: first_tune(),
+        })
+    }
+
+    // What is left behind a batch that is outside the format.
+    #[tactic(auto, unfolding(crate::specs::World::lost))]
+    pub(crate) fn lose(&mut self)
+        ensures { self.new ≡ lost }
+    {
+        self.objects.clear();
+        self.tune = first_tune();
+    }
+
+    /// The record of each object, by its number from 0 on.
+    pub fn objects(&self) -> &[Stored]
+        ensures { result.now ≡ self.now.objects }
+    {
+        &self.objects
+    }
+
+    /// The tune parameters.
+    pub fn tune(&self) -> Tune
+        ensures { result ≡ self.now.tune }
+    {
+        self.tune
+    }
+
+    // Lays the bytes of a batch over it; false where that can't be, and nothing is said of it then.
+    #[tactic(auto, unfolding(crate::specs::World::laid, crate::specs::World::laid_over))]
+    pub(crate) fn lay(&mut self, payload: &[u8]) -> Result<bool, NoMemory>
+        ensures { IfOk result (λ yes. IsLaid yes payload.now self.old self.new) }
+    {
+        let batch = match take_batch(self.alloc, 1, payload) {
+            Ok(batch) => batch,
+            Err(CodecFault::BadRecord { .. }) => return Ok(false),
+            Err(CodecFault::NoMemory) => return Err(NoMemory),
+        };
+        let Batch { records, tune } = batch;
+        if !place_all(&mut self.objects, in_order(records))? {
+            return Ok(false);
+        }
+        self.tune = tune;
+        Ok(is_fine(&self.objects, &self.tune))
+    }
+}
+
+// Whether two records are one, by their bytes.
+fn is_same(alloc: Global, a: &Stored, b: &Stored) -> Result<bool, NoMemory>
+    requires a { length a.now.lines ≤ 4096 }
+    requires b { length b.now.lines ≤ 4096 }
+    ensures { IfOk result (λ same. same ≡ bytes_eq (spelling a.now) (spelling b.now)) }
+{
+    let mut left = Vec::new(alloc);
+    let mut right = Vec::new(alloc);
+    put_record(alloc, a, &mut left)?;
+    put_record(alloc, b, &mut right)?;
+    Ok(left.as_slice() == right.as_slice())
+}
+
+// Whether what is kept of an object isn't this record.
+#[tactic(auto, unfolding(crate::specs::World::differs))]
+fn differs(alloc: Global, objects: &[Stored], object: &Stored) -> Result<bool, NoMemory>
+    requires { length object.now.lines ≤ 4096 }
+    ensures { IfOk result (λ yes. yes ≡ differs objects.now object.now) }
+{
+    if object.dbref.0 < 0 {
+        return Ok(true);
+    }
+    match objects.get(object.dbref.0 as usize) {
+        Some(kept) if kept.lines.len() <= 4096 => Ok(!is_same(alloc, kept, object)?),
+        _ => Ok(true),
+    }
+}
+
+// Whether a record is written.
+fn is_written(
+    alloc: Global,
+    all: bool,
+    objects: &[Stored],
+    object: &Stored,
+) -> Result<bool, NoMemory>
+    requires { length object.now.lines ≤ 4096 }
+    ensures { IfOk result (λ yes. yes ≡ (all || differs objects.now object.now)) }
+{
+    if all {
+        return Ok(true);
+    }
+    Ok(differs(alloc, objects, object)?)
+}
+
+// Writes the records that differ from what is kept, or all of them, and answers how many.
+fn put_written(
+    alloc: Global,
+    all: bool,
+    objects: &[Stored],
+    records: &[Stored],
+    out: &mut Vec<u8>,
+) -> Result<u32, NoMemory>
+    requires few { length records.now < 2 ^ 32 }
+    requires lines { HasFewLines records.now }
+    ensures count { IfOk result (λ n. n ≡ length (written all objects.now records.now)) }
+    ensures bytes { OnOk result (out.new.items ≡ out.old.items ++ flat_map spelling (written all objects.now records.now)) }
+{
+    let mut count = 0;
+    for object in records {
+        if is_written(alloc, all, objects, object)? {
+            put_record(alloc, object, out)?;
+            count += 1;
+        }
+    }
+    Ok(count)
+}
+
+impl Kept {
+    // The bytes of a batch: its records that differ from what is kept, or all of them.
+    #[tactic(auto, unfolding(muck_codec::specs::Batches::batch_bytes))]
+    pub(crate) fn payload(&self, all: bool, batch: &Batch) -> Result<Vec<u8>, NoMemory>
+        requires few { length batch.now.records < 2 ^ 32 }
+        requires lines { HasFewLines batch.now.records }
+        ensures { IfOk result (λ v. v.items ≡ batch_bytes (written all self.now.objects batch.now.records) batch.now.tune) }
+    {
+        let mut bytes = Vec::new(self.alloc);
+        let count = put_written(
+            self.alloc,
+            all,
+            &self.objects,
+            batch.records.as_slice(),
+            &mut bytes,
+        )?;
+        let mut payload = Vec::from_slice(self.alloc, &count.to_be_bytes())?;
+        payload.extend_from_slice(&bytes)?;
+        put_tune(&mut payload, &batch.tune)?;
+        Ok(payload)
+    }
+}

@@ -1,0 +1,319 @@
+// The log of a store.
+ghost use Rattle.std.specs.Prelude.{◌≡◌, ◌⊎◌, ◌≤◌, ◌<◌, ◌+◌, ◌-◌, ◌^◌, List, ℕ, length, true, false, not, Some, Ok, IsSome, IfOk, IfErr, OnOk, OnErr, IsErrOf, if◌then◌else◌};
+ghost use Rattle.muck_disk.specs.Images.{Only};
+ghost use Rattle.muck_io.specs.Faults.{Rose};
+ghost use Rattle.muck_log.specs.Body.{body_bytes};
+ghost use Rattle.muck_log.specs.World.{World, laid};
+ghost use Rattle.muck_log.specs.File.{after_number, begin};
+ghost use Rattle.muck_log.specs.Mount.{IsLoaded, IsLoadFault};
+ghost use Rattle.muck_log.specs.Store.{LeavesBoth, MayBeAt, IsMounted, LogState, target, opens_new, next_body, after_batch, stored, framed, pick, IsDone};
+ghost use Rattle.muck_log.specs.Append.{IsEither, IsAppended, IsTarget, IsLaidNext, IsReady, IsRefused, IsFinished, IsNext, IsTouching, LoadsEither, payload_of};
+ghost use Rattle.muck_codec.specs.Batches.{HasFewLines};
+
+use crate::reader::Reader;
+use crate::write::put_target;
+use crate::{Kept, LogFault};
+use muck_codec::Batch;
+use muck_disk::Disk;
+use muck_model::NoMemory;
+use std::alloc::{AllocError, Global};
+use std::marker::Model;
+
+/// The log of a store that was mounted from two disks.
+#[derive(Drop)]
+pub struct Log {
+    alloc: Global,
+    second: bool,
+    place: u64,
+    generation: u64,
+    number: u64,
+    count: u64,
+    last: u64,
+    world: Kept,
+    close: bool,
+    other_close: bool,
+    stale: bool,
+    most: u64,
+}
+
+impl Model for Log {
+    ghost use Rattle.std.specs.Prelude.{◌≤◌, ◌<◌, ◌^◌};
+    ghost use Rattle.muck_log.specs.Store.{LogState};
+
+    ghost Value = { LogState };
+
+    ghost view = { λ l. record { chosen = record { second = l.second; place = l.place; held = record { generation = l.generation; number = l.number; count = l.count; last = l.last; world = l.world } }; close = l.close; other_close = l.other_close; stale = l.stale; most = l.most } };
+
+    ghost invariant = { λ l. (l.count ≤ l.place) × (l.most < 2 ^ 63) × (l.generation < 2 ^ 64) };
+}
+
+// Where the next batch goes.
+#[derive(Clone, Copy, Drop)]
+pub struct Target {
+    second: bool,
+    place: u64,
+    generation: u64,
+    count: u64,
+    close: bool,
+    opens: bool,
+}
+
+// A batch that is ready to be written.
+#[derive(Drop)]
+pub struct Ready {
+    target: Target,
+    number: u64,
+    size: u64,
+    tail: Vec<u8>,
+}
+
+#[tactic(auto, unfolding(crate::specs::Body::body_bytes, crate::specs::Body::magic))]
+fn encode(
+    alloc: Global,
+    generation: u64,
+    number: u64,
+    payload: &[u8],
+) -> Result<Vec<u8>, AllocError>
+    ensures { IfOk result (λ v. v.items ≡ body_bytes generation number payload.now) }
+{
+    let mut body = Vec::from_slice(alloc, b"MUCK\x01")?;
+    body.extend_from_slice(&generation.to_be_bytes())?;
+    body.extend_from_slice(&number.to_be_bytes())?;
+    body.extend_from_slice(payload)?;
+    Ok(body)
+}
+
+#[tactic(auto, unfolding(crate::specs::Store::framed))]
+fn frame(alloc: Global, body: &[u8]) -> Result<Vec<u8>, AllocError>
+    ensures { IfOk result (λ v. v.items ≡ framed body.now) }
+{
+    let mut tail = Vec::from_slice(alloc, &(body.len() as u64).to_be_bytes())?;
+    tail.extend_from_slice(body)?;
+    tail.push(0)?;
+    Ok(tail)
+}
+
+impl Log {
+    /// Whether the next batch opens a new generation in the other file, and so has to be full. It takes no memory.
+    #[tactic(auto, unfolding(crate::specs::Store::opens_new))]
+    pub fn opens_new(&self) -> bool
+        ensures { result ≡ opens_new self.now.chosen.held }
+    {
+        self.count >= 64 && self.generation < u64::MAX
+    }
+
+    // The log of an empty store.
+    #[tactic(auto, unfolding(crate::specs::File::begin))]
+    pub(crate) fn empty(
+        alloc: Global,
+        close: bool,
+        other_close: bool,
+        most: u64,
+    ) -> Result<Log, NoMemory>
+        requires { most < 2 ^ 63 }
+        ensures { IfOk result (λ log. log ≡ record { chosen = record { second = false; place = 0; held = begin 1 }; close = close; other_close = other_close; stale = false; most = most }) }
+    {
+        let world = Kept::starting(alloc)?;
+        Ok(Log {
+            alloc,
+            second: false,
+            place: 0,
+            generation: 1,
+            number: 0,
+            count: 0,
+            last: 0,
+            world,
+            close,
+            other_close,
+            stale: false,
+            most,
+        })
+    }
+
+    // The log of a file that was read.
+    pub(crate) fn loaded(
+        alloc: Global,
+        reader: Reader,
+        second: bool,
+        other_close: bool,
+        most: u64,
+    ) -> Result<Log, LogFault>
+        requires { most < 2 ^ 63 }
+        ensures ok { IfOk result (λ log. IsLoaded reader second other_close most log) }
+        ensures err { IfErr result (λ fault. IsLoadFault reader second fault) }
+    {
+        match reader.finish() {
+            Err(at) => Err(LogFault::Damaged { second, at }),
+            Ok(parts) => Ok(Log {
+                alloc,
+                second,
+                place: parts.place,
+                generation: parts.generation,
+                number: parts.number,
+                count: parts.count,
+                last: parts.last,
+                world: parts.world,
+                close: parts.close,
+                other_close,
+                stale: false,
+                most,
+            }),
+        }
+    }
+
+    /// What the store holds. While the log is stale it means nothing.
+    pub fn kept(&self) -> &Kept
+        ensures { result.now ≡ self.now.chosen.held.world }
+    {
+        &self.world
+    }
+
+    /// The number of the next batch. It takes no memory.
+    #[tactic(auto, unfolding(crate::specs::File::after_number))]
+    pub fn next(&self) -> u64
+        ensures { result ≡ after_number self.now.chosen.held.number }
+    {
+        self.number.wrapping_add(1)
+    }
+
+    #[tactic(auto, unfolding(crate::specs::Store::target, crate::specs::File::begin, crate::specs::Store::opens_new))]
+    fn target(&self) -> Target
+        ensures target { IsTarget self.now result }
+        ensures count { result.count ≤ result.place }
+        ensures wide { result.generation < 2 ^ 64 }
+    {
+        if self.opens_new() {
+            return Target {
+                second: !self.second,
+                place: 0,
+                generation: self.generation + 1,
+                count: 0,
+                close: self.other_close,
+                opens: true,
+            };
+        }
+        Target {
+            second: self.second,
+            place: self.place,
+            generation: self.generation,
+            count: self.count,
+            close: self.close,
+            opens: false,
+        }
+    }
+
+    // Lays the payload over the world that the batch stands on.
+    #[tactic(auto, unfolding(crate::specs::Store::target, crate::specs::File::begin))]
+    fn lay_next(&mut self, payload: &[u8]) -> Result<(), NoMemory>
+        requires { IsSome (laid payload.now (target self.old.chosen).held.world) }
+        ensures { OnOk result (IsLaidNext self.old self.new payload.now) }
+    {
+        if self.opens_new() {
+            self.world = Kept::starting(self.alloc)?;
+        }
+        let true = self.world.lay(payload)? else {
+            unreachable!()
+        };
+        Ok(())
+    }
+
+    // All that takes memory, and all refusals but those of the disks.
+    #[tactic(auto, unfolding(crate::specs::Append::more_of, crate::specs::Append::payload_of, crate::specs::Store::next_body))]
+    fn prepare(&mut self, batch: &Batch) -> Result<Ready, LogFault>
+        requires few { length batch.now.records < 2 ^ 32 }
+        requires lines { HasFewLines batch.now.records }
+        requires lays { self.old.stale ≡ false → IsSome (laid (payload_of self.old batch.now) (target self.old.chosen).held.world) }
+        ensures ok { IfOk result (λ ready. IsReady self.old self.new (payload_of self.old batch.now) ready) }
+        ensures err { IfErr result (λ fault. IsRefused self.old self.new (payload_of self.old batch.now) fault) }
+    {
+        if self.stale {
+            return Err(LogFault::Stale);
+        }
+        let payload = self.world.payload(self.opens_new(), batch)?;
+        let number = self.next();
+        let target = self.target();
+        let body = encode(self.alloc, target.generation, number, &payload)?;
+        let size = body.len() as u64;
+        let more = size.saturating_add(10);
+        if more > self.most || target.place > self.most - more {
+            return Err(LogFault::StoreFull {
+                end: target.place,
+                more,
+            });
+        }
+        let tail = frame(self.alloc, &body)?;
+        self.lay_next(&payload)?;
+        Ok(Ready {
+            target,
+            number,
+            size,
+            tail,
+        })
+    }
+
+    // The batch is written.
+    fn finish(&mut self, target: Target, number: u64, size: u64)
+        requires room { target.place + 10 + size < 2 ^ 63 }
+        requires count { target.count ≤ target.place }
+        ensures { IsFinished self.old self.new target number size }
+    {
+        self.second = target.second;
+        self.place = target.place + 9 + size;
+        self.generation = target.generation;
+        self.number = number;
+        self.count = target.count + 1;
+        self.last = target.place;
+        self.close = false;
+        if target.opens {
+            self.other_close = true;
+        }
+    }
+}
+
+impl Log {
+    /// Writes a batch of what changed, and answers its number. Records that equal what is kept are left out, unless a new
+    /// generation is opened. All memory is taken before the first write.
+    ///
+    /// `StoreFull` comes exactly where the batch would pass the limit, before any write; the log stays as it was then.
+    /// `DiskFault` comes only where a disk's count of faults rose. After it the log answers `Stale` until it is mounted
+    /// again, and nothing else does. At each moment since the call began, whatever a crash leaves of both disks loads as
+    /// the world before or as the one with the batch, and after `Ok` as the latter.
+    pub fn append<D: Disk>(
+        &mut self,
+        first: &mut D,
+        second: &mut D,
+        batch: &Batch,
+    ) -> Result<u64, LogFault>
+        requires few { length batch.now.records < 2 ^ 32 }
+        requires lines { HasFewLines batch.now.records }
+        requires mounted { D.tells ≡ true → self.old.stale ≡ false → IsMounted D.seen D.moment D.images self.old first.old second.old }
+        requires lays { self.old.stale ≡ false → IsSome (laid (payload_of self.old batch.now) (target self.old.chosen).held.world) }
+        ensures answer { IsAppended self.old self.new (payload_of self.old batch.now) result }
+        ensures chosen { OnOk result (IsNext self.old self.new (payload_of self.old batch.now)) }
+        ensures mounted { D.tells ≡ true → OnOk result (IsMounted D.seen D.moment D.images self.new first.new second.new) }
+        ensures any { D.tells ≡ true → self.old.stale ≡ false → (w : World) → laid (payload_of self.old batch.now) (target self.old.chosen).held.world ≡ Some w
+            → LeavesBoth D.moment D.images first.old second.old first.new second.new (LoadsEither self.old.chosen (after_batch self.old.chosen (payload_of self.old batch.now) w)) }
+        ensures other { pick (target self.old.chosen).second second.new first.new ≡ pick (target self.old.chosen).second second.old first.old }
+        ensures untouched { IsTouching result ⊎ ((first.new ≡ first.old) × (second.new ≡ second.old)) }
+        ensures first_attached { D.attached first.new ≡ D.attached first.old }
+        ensures second_attached { D.attached second.new ≡ D.attached second.old }
+        ensures first_later { D.faults first.old ≤ D.faults first.new }
+        ensures second_later { D.faults second.old ≤ D.faults second.new }
+        ensures cause { IsErrOf result LogFault.DiskFault → Rose (D.faults first.old) (D.faults first.new) ⊎ Rose (D.faults second.old) (D.faults second.new) }
+    {
+        let ready = self.prepare(batch)?;
+        let Ok(()) = put_target(
+            first,
+            second,
+            ready.target.second,
+            ready.target.place,
+            ready.target.close,
+            &ready.tail,
+        ) else {
+            self.stale = true;
+            return Err(LogFault::DiskFault);
+        };
+        self.finish(ready.target, ready.number, ready.size);
+        Ok(ready.number)
+    }
+}

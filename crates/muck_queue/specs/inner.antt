@@ -1,0 +1,4 @@
+pub mod Adding
+pub mod Numbered
+pub mod Leading
+pub mod Rows

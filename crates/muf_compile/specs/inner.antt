@@ -1,0 +1,6 @@
+pub mod Build
+pub mod Built
+pub mod Compiled
+pub mod Fits
+pub mod Knowing
+pub mod Spells

@@ -1,0 +1,6 @@
+pub mod Bytes
+pub mod Lenders
+pub mod Places
+pub mod Readers
+pub mod Rows
+pub mod Spots

@@ -1,0 +1,52 @@
+-- The messages of objects, and the one way by which they reach anybody.
+use Rattle.std.specs.Prelude.{ℕ, List, [], ◌∷◌, codes, Option, Some, None}
+use Rattle.muck_model.specs.declared.dbref.Dbref.{Dbref}
+use Rattle.spec_live.specs.Lives.{Change, reading}
+use Rattle.spec_rights.specs.declared.act.Actor.{Actor}
+use Rattle.spec_rights.specs.Worth.{message_at}
+use Rattle.spec_commands.specs.declared.typed.Typed.{Typed}
+use Rattle.spec_commands.specs.declared.word.Message.{Message}
+use Rattle.spec_commands.specs.declared.word.Message.TheVariants.{Describe, Success, OthersSuccess, Fail, OthersFail, Drop, OthersDrop}
+
+-- The seven messages: the word of each in its path, and how it is called where it is spoken.
+
+abbrev pub message_name : Message → List ℕ
+message_name Describe = codes "de"
+message_name Success = codes "sc"
+message_name OthersSuccess = codes "osc"
+message_name Fail = codes "fl"
+message_name OthersFail = codes "ofl"
+message_name Drop = codes "dr"
+message_name OthersDrop = codes "odr"
+
+abbrev pub message_how : Message → List ℕ
+message_how Describe = codes "(@desc)"
+message_how Success = codes "(@succ)"
+message_how OthersSuccess = codes "(@osucc)"
+message_how Fail = codes "(@fail)"
+message_how OthersFail = codes "(@ofail)"
+message_how Drop = codes "(@drop)"
+message_how OthersDrop = codes "(@odrop)"
+
+abbrev pub message_path : List ℕ → List (List ℕ)
+message_path word = codes "_" ∷ word ∷ []
+
+-- What was typed where a player looks when it has logged in, and where it walks home.
+
+abbrev pub look_typed : Typed
+look_typed = record { word = codes "look"; rest = [] }
+
+abbrev pub home_typed : Typed
+home_typed = record { word = codes "home"; rest = [] }
+
+-- A text that x carries is spoken by the rights of the actor, and this is done with what comes of it. It is spoken as it stands.
+unfoldable pub spoken : Actor → Dbref → List ℕ → Typed → List ℕ → (List ℕ → Change) → Change
+spoken a x how typed text go = go text
+
+abbrev pub spoken_some : Actor → Typed → Message → Dbref → Change → (List ℕ → Change) → Option (List ℕ) → Change
+spoken_some a typed m x otherwise go None = otherwise
+spoken_some a typed m x otherwise go (Some text) = spoken a x (message_how m) typed text go
+
+-- a message of x is spoken once, where x has it, and then this is done with what comes of it
+unfoldable pub with_message : Actor → Typed → Message → Dbref → Change → (List ℕ → Change) → Change
+with_message a typed m x otherwise go = reading (λ w. message_at (message_path (message_name m)) x w.objects) (spoken_some a typed m x otherwise go)

@@ -1,0 +1,92 @@
+// What is built of a program of the world.
+use crate::codes::{code_text, shown};
+use crate::tokens::{flaw_text, owned};
+use muck_db::Db;
+use muck_library::{BuildFault, Library, build};
+use muck_model::{Dbref, Kind, Line, NoMemory};
+use muck_prop::{PropValue, read_path};
+use std::alloc::Global;
+use tests_rows::{line, lines_of, part};
+
+// The starting world with a program, #2, of this source. Room Zero has properties, of which those below `_defs` are definitions.
+fn world(alloc: Global, source: &[u8]) -> Result<Db, NoMemory> {
+    let Ok(name) = Line::new(alloc, b"prog") else {
+        return Err(NoMemory);
+    };
+    let mut db = Db::starting(alloc)?;
+    let _made = db.create(alloc, Kind::Program, name, Dbref(1), Dbref(0));
+    let lines = lines_of(alloc, source, 1)?;
+    if lines.len() <= 4096 {
+        let _set = db.set_lines(Dbref(2), lines);
+    }
+    for (path, text, number) in [
+        ("_defs", "1", 0),
+        ("_defs/word", "\"hello\"", 0),
+        ("_defs/a/b", "", 5),
+        ("_defs/negative", "", -7),
+        ("_defs/deeper", "a/b a/b", 0),
+        ("_def/top", "1", 0),
+        ("a/_defs/elsewhere", "1", 0),
+    ] {
+        let value = match text {
+            "" => PropValue::Number(number),
+            text => PropValue::Text(line(alloc, text.as_bytes())?),
+        };
+        if let Ok(path) = read_path(alloc, &line(alloc, path.as_bytes())?) {
+            let _stored = db.put_prop(Dbref(0), path, value);
+        }
+    }
+    Ok(db)
+}
+
+// The first word, and what stands behind it and a space.
+fn first_word(bytes: &[u8]) -> (&[u8], &[u8]) {
+    let cut = bytes
+        .iter()
+        .position(|&byte| byte == b' ')
+        .unwrap_or(bytes.len());
+    let (word, rest) = bytes.split_at(cut);
+    (word, rest.get(1..).unwrap_or(&[]))
+}
+
+/// What is built of an object, where the source of #2 is the one behind the object's number.
+pub fn build_row(alloc: Global, rest: &[u8]) -> Result<Vec<u8>, NoMemory> {
+    let (object, source) = first_word(rest);
+    let db = world(alloc, source)?;
+    match Dbref::read(object) {
+        Some(object) => shown(alloc, build(alloc, &db, object)),
+        None => owned(alloc, b"no object"),
+    }
+}
+
+/// What each of these acts on the form of the program #2 answers, where its source is the one behind the act: `form` is the one
+/// that is kept or made now, `kept` the one that is kept.
+pub fn forms_row(alloc: Global, acts: &[u8]) -> Result<Vec<u8>, NoMemory> {
+    let mut library = Library::new(alloc);
+    let mut text = Vec::new(alloc);
+    for act in lines_of(alloc, acts, 1)?.as_slice() {
+        let (word, source) = first_word(act.as_slice());
+        let db = world(alloc, source)?;
+        let answer = match word {
+            b"form" => match library.formed(alloc, &db, Dbref(2))? {
+                Some(code) => code_text(alloc, code.get())?,
+                None => owned(alloc, b"none")?,
+            },
+            b"kept" => match library.form(Dbref(2)) {
+                Some(code) => code_text(alloc, code.get())?,
+                None => owned(alloc, b"none")?,
+            },
+            b"rebuild" => match library.rebuild(alloc, &db, Dbref(2))? {
+                Some(flaw) => flaw_text(alloc, BuildFault::Refused(flaw))?,
+                None => owned(alloc, b"built")?,
+            },
+            _ => {
+                library.drop_form(Dbref(2));
+                owned(alloc, b"dropped")?
+            }
+        };
+        part(&mut text, answer.as_slice())?;
+        text.push(b'.')?;
+    }
+    Ok(text)
+}
