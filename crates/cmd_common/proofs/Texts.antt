@@ -45,7 +45,4 @@ before_text p xs h = text_fault-take (position_or_len p xs) xs h
 pub after_text : (p : ℕ → Bool) (xs : List ℕ) → text_fault xs ≡ None → text_fault (after_first p xs) ≡ None
 after_text p xs h = text_fault-drop (position_or_len p xs + 1) xs h
 
-pub rest_text : (n : ℕ) (xs : List ℕ) → text_fault xs ≡ None → text_fault (drop n xs) ≡ None
-rest_text n xs h = text_fault-drop n xs h
-
-pub ruleset parts_are_texts = (trimmed_text, before_text, after_text, rest_text)
+pub ruleset parts_are_texts = (trimmed_text, before_text, after_text, text_fault-drop)

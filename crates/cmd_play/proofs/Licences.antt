@@ -1,5 +1,5 @@
 -- What a player does by a line, or by walking, is licensed.
-use Rattle.std.proofs.Common.{◌≡◌, ◌==◌, ℕ, Bool, true, false, cond, List, [], ◌∷◌, refl, sym, subst, ap, Option, Some, None, Result, Ok, Err, OnOk}
+use Rattle.std.proofs.Common.{◌≡◌, ◌==◌, ℕ, Bool, true, false, cond, List, [], ◌∷◌, sym, subst, ap, Option, Some, None, Result, Ok, Err, OnOk}
 use Rattle.std.specs.Prelude.{codes, ◌||◌}
 use Rattle.muck_model.specs.declared.dbref.Dbref.{Dbref}
 use Rattle.muck_model.specs.declared.memory.NoMemory.{NoMemory}
@@ -8,19 +8,18 @@ use Rattle.spec_live.specs.Objects.{Entry}
 use Rattle.spec_live.specs.Lives.{Live, unchanged}
 use Rattle.spec_rights.specs.declared.act.Actor.{Actor}
 use Rattle.spec_rights.specs.Licence.{Licensed, oneself}
-use Rattle.spec_rights.proofs.Lookups.{same_eq}
 use Rattle.spec_rights.proofs.Licences.{Whole, Always, whole_ends, whole_quiet, licensed, quiet_unchanged}
 use Rattle.spec_commands.specs.declared.outcome.Outcome.{Outcome}
 use Rattle.spec_commands.specs.declared.outcome.Outcome.TheVariants.{NotMine}
 use Rattle.spec_commands.specs.declared.word.PlayWord.{PlayWord}
-use Rattle.spec_commands.specs.declared.word.PlayWord.TheVariants.{Look, Say, Pose, Page, Whisper, Go, Get, Drop, Inventory, Home, Examine, Who, Quit}
+use Rattle.spec_commands.specs.declared.word.PlayWord.TheVariants.{Say, Pose}
 use Rattle.spec_commands.specs.Texts.{first_word, trimmed}
 use Rattle.spec_commands.specs.Going.{Play, ended, walked}
 use Rattle.spec_commands.specs.Free.{free_word, free_by}
 use Rattle.spec_commands.specs.Commands.{play_word, play_done, play_some, play_words, play_line}
 use Rattle.spec_commands.proofs.Gone.{whole_ended, walked_open}
 use Rattle.spec_commands.proofs.Gone as gone
-use Rattle.spec_commands.proofs.Permitted.{play_open}
+use Rattle.spec_commands.proofs.Permitted.{play_open, self_free, word_free}
 use Rattle.muck_perm.specs.declared.guard.Guard.{Guard}
 use Rattle.muck_perm.specs.Guards.{world_of}
 use Rattle.cmd_common.specs.Plays.{Plays}
@@ -34,9 +33,6 @@ plays_licensed p a free old new (Ok outcome) e s =
     subst P (sym (ap world_of s.0)) (licensed gone.world_of a None free p e (world_of old) tt)
 plays_licensed p a free old new (Err error) e s = tt
 
-self_free : (a : Actor) → oneself a a.player ≡ true
-self_free a = same_eq a.player a.player refl
-
 -- Walking.
 
 pub walk_licensed : (d : ℕ) (hit : ExitHit) (line : List ℕ) (old new : Guard) (r : Result Outcome NoMemory) →
@@ -48,19 +44,7 @@ walk_licensed d hit line old new r =
 -- A line.
 
 word_open : (a : Actor) (d : ℕ) (word text : List ℕ) (found : PlayWord) → Whole gone.world_of a None (free_word (Some found) a) Always (play_done d a word text found)
-word_open a d word text Go = play_open a None _ d word text Go (λ es. self_free a)
-word_open a d word text Home = play_open a None _ d word text Home (λ es. self_free a)
-word_open a d word text Get = play_open a None _ d word text Get (λ es x h. h)
-word_open a d word text Drop = play_open a None _ d word text Drop (λ es x h. h)
-word_open a d word text Look = play_open a None _ d word text Look tt
-word_open a d word text Say = play_open a None _ d word text Say tt
-word_open a d word text Pose = play_open a None _ d word text Pose tt
-word_open a d word text Page = play_open a None _ d word text Page tt
-word_open a d word text Whisper = play_open a None _ d word text Whisper tt
-word_open a d word text Inventory = play_open a None _ d word text Inventory tt
-word_open a d word text Examine = play_open a None _ d word text Examine tt
-word_open a d word text Who = play_open a None _ d word text Who tt
-word_open a d word text Quit = play_open a None _ d word text Quit tt
+word_open a d word text found = play_open a None _ d word text found (word_free a (Some found))
 
 none_open : (a : Actor) (free : List Entry → Dbref → Bool) → Whole gone.world_of a None free Always (ended NotMine unchanged)
 none_open a free = whole_ended a None free Always NotMine unchanged (whole_quiet a None free Always unchanged quiet_unchanged)

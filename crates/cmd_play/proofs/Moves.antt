@@ -1,5 +1,6 @@
 -- What a move does that was allowed, and what showing keeps.
 use Rattle.std.proofs.Common.{◌≡◌, ◌≤◌, ℕ, Bool, true, false, List, [], length, drop, refl, sym, ap, ◌∙◌, Option, Some, None, Result, Ok, Err, OnOk, ◌&&◌, ◌||◌}
+use Rattle.spec_commands.proofs.Gone.{quiet_succeeded, item_kind}
 use Rattle.std.specs.Option.{option_map_or}
 use Rattle.std.proofs.lemmas.List.{drop_all}
 use Rattle.muck_model.specs.declared.dbref.Dbref.{Dbref}
@@ -49,10 +50,6 @@ pub quietly_shown : (player : Dbref) (tail : List ℕ) (old new : Guard) (r : Re
 quietly_shown player tail old new (Ok u) e = quiet_kept _ old new (quiet_shown_others player tail) e
 quietly_shown player tail old new (Err error) e = tt
 
-quiet_succeeded : (d : ℕ) (player x : Dbref) → Quiet (succeeded d player x)
-unfolding succeeded
-quiet_succeeded d player x = search seeing
-
 -- leave that a verdict gave
 pub leave_given : (es : List Entry) (a : Actor) (act : Act) (pass : Pass) (g : Guard) → es ≡ g.db.now → a ≡ g.actor → IsVerdict (verdict es a act) a act (Ok pass) → IsLeave pass act g
 leave_given es a act pass g objects actor v = (v.1 ∙ actor, v.2, rw (sym objects, sym actor) v.0)
@@ -65,14 +62,6 @@ leave_kept pass act d player x old new leave e =
     (leave.0 ∙ sym actor, leave.1, rw (actor, objects) leave.2)
 
 -- What is carried is at hand.
-
-item_kind : (k : Kind) → (is_thing k || is_program k) ≡ true → at_hand_kind k ≡ true
-item_kind Thing e = refl
-item_kind Program e = refl
-item_kind Room e = cc
-item_kind Exit e = cc
-item_kind Player e = cc
-item_kind Garbage e = cc
 
 hand_by : (kind item carried here : Bool) → (item ≡ true → kind ≡ true) → (item && carried) ≡ true → (kind && (carried || here)) ≡ true
 hand_by kind true true here f e = rw (f refl) refl

@@ -26,7 +26,7 @@ fn return_at(text: &[u8]) -> Option<usize>
     text.iter().position(|b| *b == b'\r')
 }
 
-#[tactic(auto, using(crate::proofs::Positions::positions))]
+#[tactic(auto, using(muck_model::proofs::Positions::positions))]
 fn piece_len(text: &[u8]) -> usize
     ensures at { result ≡ position_or_len is_return text.now }
     ensures within { result ≤ length text.now }

@@ -1,5 +1,6 @@
 -- A text, part by part.
 use Rattle.std.proofs.Common.{◌≡◌, ℕ, zero, suc, ◌+◌, ◌≤◌, Bool, true, false, cond, not, List, [], ◌∷◌, map, length, nat_lt, eqb, take, drop, refl, sym, ◌∙◌, ap, subst, arith}
+use Rattle.muck_model.proofs.Positions.{position_none}
 use Rattle.std.proofs.lemmas.Bool.{ltb-false, le-ltb, ne_eqb}
 use Rattle.std.specs.Prelude.{Option, None, Some}
 use Rattle.std.specs.Char.{to_ascii_lowercase}
@@ -78,12 +79,8 @@ len_le (b ∷ bs) = by_cases (is_slash b) (len_le bs)
     by_cases true h = omega arith
     by_cases false h = omega arith
 
-none_len : (r : Bool) (k : ℕ) → cond r (Some k) None ≡ None → r ≡ false
-none_len true k h = absurd (cc (h))
-none_len false k h = refl
-
 pub all_len : (text : List ℕ) → position is_slash text ≡ None → length text ≡ position_or_len is_slash text
-all_len text h = omega (arith, len_le text, ltb-false _ _ (none_len (nat_lt (position_or_len is_slash text) (length text)) (position_or_len is_slash text) h))
+all_len text h = omega (arith, len_le text, position_none is_slash text h)
 
 pub ruleset lens = (first_len, all_len, len_le)
 

@@ -1,5 +1,6 @@
 -- The text of a path is a text, and is read as that path.
 use Rattle.std.proofs.Common.{◌≡◌, ℕ, ◌+◌, ◌≤◌, false, cond, not, ◌||◌, List, [], ◌∷◌, ◌++◌, map, length, nat_lt, refl, ap, ◌∙◌, arith}
+use Rattle.std.proofs.lemmas.Bool.{le-ltb}
 use Rattle.std.specs.Prelude.{Option, None, Some, Err, if◌then◌else◌, ◌==◌}
 use Rattle.std.specs.Char.{to_ascii_lowercase}
 use Rattle.std.specs.List.{AllByRecursion, filter, list_any, slice_split, onto_first, position_or_len}
@@ -83,14 +84,11 @@ none_outside : (bs : List ℕ) → AllByRecursion IsRead bs → position_or_len 
 none_outside [] h = refl
 none_outside (b ∷ bs) h = ap (λ r. cond (not r) (1 + position_or_len is_outside bs) 0) h.0.0 ∙ omega (arith, none_outside bs h.1)
 
-not_less : (a b : ℕ) → a ≡ b → nat_lt a b ≡ false
-not_less a b e = grind arith
-
 pub text_is_text : (p : List (List ℕ)) → IsPath p → text_fault (path_text p) ≡ None
 unfolding text_most
 text_is_text p h =
     let bs = path_text p in
-    ap (λ r. model.fault_of (cond r (Some (position_or_len is_outside bs)) None) (length bs)) (not_less _ _ (none_outside bs (text_read p h.each)))
+    ap (λ r. model.fault_of (cond r (Some (position_or_len is_outside bs)) None) (length bs)) (le-ltb _ _ (omega (arith, (none_outside bs (text_read p h.each)))))
     ∙ ap (λ r. if r then Some text_most else None) (not_above (length bs) 4096 (omega (arith, h.short)))
   where
     not_above : (n most : ℕ) → n ≤ most → nat_lt most n ≡ false

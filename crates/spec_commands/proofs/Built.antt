@@ -1,5 +1,6 @@
 -- What players build is open to them.
 use Rattle.std.proofs.Common.{◌≡◌, ℕ, Bool, true, false, cond, List, refl, subst, Option, Some, None}
+use Rattle.muck_model.proofs.Dbrefs.{eq_same}
 use Rattle.std.specs.Prelude.{Result, Ok, Err}
 use Rattle.muck_model.specs.declared.dbref.Dbref.{Dbref}
 use Rattle.muck_model.specs.declared.dbref.Kind.{Kind}
@@ -18,7 +19,6 @@ use Rattle.spec_rights.specs.declared.act.Act.TheVariants.{Move, Link, NewRoom, 
 use Rattle.spec_rights.specs.Verdict.{verdict, is_guarded}
 use Rattle.spec_rights.specs.Changing.{moved_to, homed, linked, created_so}
 use Rattle.spec_rights.specs.Licence.{Judge, IsNew}
-use Rattle.spec_rights.proofs.Lookups.{eq_same}
 use Rattle.spec_rights.proofs.Rights.{SameRights}
 use Rattle.spec_rights.proofs.Licences.{judge, Quiet, Stay, Stays, End, Ends, itself, stay_quietly, end_quietly, stays_quiet, ends_quiet}
 use Rattle.spec_rights.proofs.Makings.{new_in, end_created, room_open, thing_open, exit_open}

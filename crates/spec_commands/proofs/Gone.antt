@@ -1,5 +1,6 @@
 -- How players go, take, drop and recycle is open to them.
 use Rattle.std.proofs.Common.{◌≡◌, ℕ, Bool, true, false, List, refl, sym, ◌∙◌, ap, Option, Some, None}
+use Rattle.std.proofs.lemmas.Bool.{and_from, and_parts, or_left, or_right}
 use Rattle.std.specs.Prelude.{Result, Ok, Err, ◌&&◌, ◌||◌, codes}
 use Rattle.std.specs.Option.{option_map_or}
 use Rattle.muck_model.specs.declared.dbref.Dbref.{Dbref}
@@ -60,7 +61,7 @@ quiet_failed : (d : ℕ) (player : Dbref) (otherwise : List ℕ) (x : Dbref) →
 unfolding failed
 quiet_failed d player otherwise x = search seeing
 
-quiet_succeeded : (d : ℕ) (player x : Dbref) → Quiet (succeeded d player x)
+pub quiet_succeeded : (d : ℕ) (player x : Dbref) → Quiet (succeeded d player x)
 unfolding succeeded
 quiet_succeeded d player x = search seeing
 
@@ -82,7 +83,7 @@ went_open a free d line h = search (ending, walked_some_open)
 
 -- Taking and dropping what is at hand.
 
-item_kind : (k : Kind) → (is_thing k || is_program k) ≡ true → at_hand_kind k ≡ true
+pub item_kind : (k : Kind) → (is_thing k || is_program k) ≡ true → at_hand_kind k ≡ true
 item_kind Thing e = refl
 item_kind Program e = refl
 item_kind Room e = cc
@@ -90,37 +91,19 @@ item_kind Exit e = cc
 item_kind Player e = cc
 item_kind Garbage e = cc
 
-and_two : (b c : Bool) → b ≡ true → c ≡ true → (b && c) ≡ true
-and_two b c e f = rw (e, f) refl
-
-or_right : (b c : Bool) → c ≡ true → (b || c) ≡ true
-or_right true c e = refl
-or_right false c e = e
-
-or_left : (b c : Bool) → b ≡ true → (b || c) ≡ true
-or_left b c e = rw e refl
-
 here_at_hand : (es : List Entry) (a : Actor) (x : Dbref) (q : Option Object) → object_at x es ≡ q → option_map_or (λ (o : Object). is_thing o.kind || is_program o.kind) q false ≡ true → same (place_of es x) (place_of es a.player) ≡ true → at_hand es a x ≡ true
 here_at_hand es a x None e t p = absurd (cc)
 here_at_hand es a x (Some o) e t p =
     let here : Dbref = place_of es a.player in
     let place : same o.place here ≡ true = ap (λ (y : Dbref). same y here) (sym (ap (λ (q : Option Object). option_map_or (λ (k : Object). k.place) q nothing) e)) ∙ p in
     ap (λ (q : Option Object). option_map_or (λ (k : Object). at_hand_kind k.kind && (same k.place a.player || same k.place here)) q false) e
-    ∙ and_two _ _ (item_kind o.kind t) (or_right (same o.place a.player) _ place)
-
-and_first : (b c : Bool) → (b && c) ≡ true → b ≡ true
-and_first true c e = refl
-and_first false c e = e
-
-and_second : (b c : Bool) → (b && c) ≡ true → c ≡ true
-and_second true c e = e
-and_second false c e = cc
+    ∙ and_from _ _ (item_kind o.kind t) (or_right (same o.place a.player) _ place)
 
 carried_at_hand : (es : List Entry) (a : Actor) (x : Dbref) (q : Option Object) → object_at x es ≡ q → option_map_or (λ (o : Object). (is_thing o.kind || is_program o.kind) && same o.place a.player) q false ≡ true → at_hand es a x ≡ true
 carried_at_hand es a x None e t = absurd (cc)
 carried_at_hand es a x (Some o) e t =
     ap (λ (q : Option Object). option_map_or (λ (k : Object). at_hand_kind k.kind && (same k.place a.player || same k.place (place_of es a.player))) q false) e
-    ∙ and_two _ _ (item_kind o.kind (and_first (is_thing o.kind || is_program o.kind) (same o.place a.player) t)) (or_left (same o.place a.player) (same o.place (place_of es a.player)) (and_second (is_thing o.kind || is_program o.kind) (same o.place a.player) t))
+    ∙ and_from _ _ (item_kind o.kind (and_parts (is_thing o.kind || is_program o.kind) (same o.place a.player) t).0) (or_left (same o.place a.player) (same o.place (place_of es a.player)) (and_parts (is_thing o.kind || is_program o.kind) (same o.place a.player) t).1)
 
 item_at : (x : Dbref) (w : Live) → is_item x w ≡ true → option_map_or (λ (o : Object). is_thing o.kind || is_program o.kind) (object_at x w.objects) false ≡ true
 unfolding is_so

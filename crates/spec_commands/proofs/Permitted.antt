@@ -1,5 +1,6 @@
 -- What a line of a player does is open to it.
 use Rattle.std.proofs.Common.{◌≡◌, ◌==◌, ℕ, Bool, true, false, cond, List, [], ◌∷◌, refl, sym, subst, Option, Some, None}
+use Rattle.muck_model.proofs.Dbrefs.{same_eq}
 use Rattle.muck_model.specs.declared.dbref.Dbref.{Dbref}
 use Rattle.std.specs.Prelude.{codes, ◌||◌}
 use Rattle.muck_prop.specs.Paths.{class_of}
@@ -11,7 +12,6 @@ use Rattle.spec_live.specs.Lives.{Live, Change, ◌▸◌, reading, either, unch
 use Rattle.spec_rights.specs.declared.act.Actor.{Actor}
 use Rattle.spec_rights.specs.Verdict.{is_guarded}
 use Rattle.spec_rights.specs.Licence.{Licensed, nobody, oneself}
-use Rattle.spec_rights.proofs.Lookups.{same_eq}
 use Rattle.spec_rights.proofs.Licences.{Own, Quiet, Ends, Whole, Always, itself, whole_ends, whole_quiet, whole_either, whole_followed, ends_stays}
 use Rattle.spec_rights.proofs.Permitted.{commanding}
 use Rattle.spec_rights.proofs.Shown.{shown}
@@ -229,10 +229,10 @@ commanded_open a own free d line h =
 
 -- What is free by a line is enough for it.
 
-self_free : (a : Actor) → oneself a a.player ≡ true
+pub self_free : (a : Actor) → oneself a a.player ≡ true
 self_free a = same_eq a.player a.player refl
 
-word_free : (a : Actor) (word : Option PlayWord) → WordFree a (free_word word a) word
+pub word_free : (a : Actor) (word : Option PlayWord) → WordFree a (free_word word a) word
 word_free a None = tt
 word_free a (Some Go) = λ es. self_free a
 word_free a (Some Home) = λ es. self_free a

@@ -11,7 +11,7 @@ fn space_at(line: &[u8]) -> Option<usize>
 }
 
 // Where the first space stands, or the length.
-#[tactic(auto, using(crate::proofs::Positions::positions))]
+#[tactic(auto, using(muck_model::proofs::Positions::positions))]
 fn word_len(line: &[u8]) -> usize
     ensures at { result ≡ position_or_len is_space line.now }
     ensures within { result ≤ length line.now }

@@ -1,7 +1,7 @@
 -- Lawful entries lead from sound worlds to sound worlds.
 use Rattle.std.proofs.Common.{◌≡◌, ℕ, ◌<◌, ◌≤◌, Bool, true, false, not, ◌&&◌, ◌||◌, cond, List, [], ◌∷◌, length, refl, sym, ◌∙◌, ap, arith, Option, Some, None, ltb, ◌==◌, ◌≢◌}
 use Rattle.std.proofs.lemmas.Bool.Decides.{nat_tests}
-use Rattle.std.proofs.lemmas.Bool.{cond-true, cond-false, ltb-true, ltb-false}
+use Rattle.std.proofs.lemmas.Bool.{cond-true, cond-false, ltb-true, ltb-false, and_parts}
 use Rattle.std.specs.Prelude.{find, is_none, is_some, nat_lt}
 use Rattle.std.specs.Option.{option_map, option_map_or}
 use Rattle.muck_model.specs.declared.event.Entry.{Entry}
@@ -33,10 +33,6 @@ differs m n le e = grind (arith, nat_tests)
 
 some_none : {X : Type 0} (x : X) → ◌≡◌ {A = Option X} (Some x) None → ⊥
 some_none x e = cc
-
-and_left : (a b : Bool) → (a && b) ≡ true → a ≡ true
-and_left true b e = refl
-and_left false b e = e
 
 none_of : {X : Type 0} (o : Option X) → is_none o ≡ true → o ≡ None
 none_of None e = refl
@@ -102,7 +98,7 @@ sound-gone_away d w h =
     sound-live parting (seating_quiet parting (quiet_parted (player_in d w.live.board))).numbers v (record { alive = h.alive; rising = rising-without d w.live.board.connections h.rising })
 
 no_connection : (d : ℕ) (w : World) (stop few : Bool) → (is_none (connection d w) && few && not stop) ≡ true → connection d w ≡ None
-no_connection d w stop few e = none_of (connection d w) (and_left _ _ (and_left _ _ e))
+no_connection d w stop few e = none_of (connection d w) (and_parts _ _ (and_parts _ _ e).0).0
 
 -- an event that is allowed and isn't Died
 sound-happened : (event : Event) (party : ℕ) (w : World) → event ≢ Died → is_allowed w party event ≡ true → IsSound w → IsSound (happened w party event)

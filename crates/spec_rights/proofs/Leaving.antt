@@ -1,5 +1,7 @@
 -- Connections that leave, and what is tuned.
 use Rattle.std.proofs.Common.{◌≡◌, ℕ, Bool, true, false, cond, List, [], ◌∷◌, refl, ◌∙◌, ap, Some, None, inl, inr}
+use Rattle.std.proofs.lemmas.Bool.{or_left, or_right}
+use Rattle.muck_model.proofs.Dbrefs.{same_eq}
 use Rattle.std.specs.Prelude.{map, find}
 use Rattle.std.specs.Option.{option_and_then, option_map_or}
 use Rattle.muck_model.specs.declared.dbref.Dbref.{Dbref}
@@ -13,10 +15,10 @@ use Rattle.spec_rights.specs.declared.act.Act.TheVariants.{Wizard}
 use Rattle.spec_rights.specs.Verdict.{is_master}
 use Rattle.spec_rights.specs.Changing.{booted, tuned}
 use Rattle.spec_rights.specs.Licence.{Open, SameTies, leave_open}
-use Rattle.spec_rights.proofs.Lookups.{row_same, same_eq}
+use Rattle.spec_rights.proofs.Lookups.{row_same}
 use Rattle.spec_rights.proofs.Listing.{lists_itself}
 use Rattle.spec_rights.proofs.Licences.{judge, kept_same, differs_kept, Stays, Whole, itself, ties_itself}
-use Rattle.spec_rights.proofs.Allowed.{or_left, or_right, wizard_allowed}
+use Rattle.spec_rights.proofs.Allowed.{wizard_allowed}
 
 own_open : (a : Actor) (c : Connection) → c.player ≡ Some a.player → leave_open a c ≡ true
 own_open a c e = or_right (is_master a) _ (ap (λ p. option_map_or (same a.player) p false) e ∙ same_eq a.player a.player refl)

@@ -1,5 +1,6 @@
 -- Moves and homes keep to the licence.
 use Rattle.std.proofs.Common.{◌≡◌, ℕ, Bool, true, false, List, refl, sym, ◌∙◌, ap, subst, Option, Some, None, inl, inr}
+use Rattle.std.proofs.lemmas.Bool.{or_left}
 use Rattle.std.specs.Option.{option_map_or}
 use Rattle.muck_model.specs.declared.dbref.Dbref.{Dbref}
 use Rattle.spec_live.specs.declared.object.Object.{Object}
@@ -18,7 +19,7 @@ use Rattle.spec_rights.proofs.Rights.{SameRights}
 use Rattle.spec_rights.proofs.Lookups.{Row, row_same, number_is}
 use Rattle.spec_rights.proofs.Listing.{lists_itself, lists_moved}
 use Rattle.spec_rights.proofs.Licences.{judge, Kept, kept_same, Stay, End, Stays, Ends, itself}
-use Rattle.spec_rights.proofs.Allowed.{or_left, move_allowed, home_allowed, live_allowed, unlink_allowed}
+use Rattle.spec_rights.proofs.Allowed.{move_allowed, home_allowed, live_allowed, unlink_allowed}
 use Rattle.spec_rights.proofs.Changes.{rows_number, stay_objects, end_found}
 
 -- a number isn't `#-3`
