@@ -44,7 +44,7 @@ pub ruleset movings = (was_moved, was_refused)
 -- What is shown changes no object.
 
 quiet_kept : (f : Change) (old new : Guard) → Quiet f → Done f old new → new.db.now ≡ old.db.now
-quiet_kept f old new q e = ap (λ (g : Guard). g.db.now) e ∙ q.objects (world_of old)
+quiet_kept f old new q e = ap (λ (g : Guard). g.db.now) e ∙ (q.law (world_of old)).objects
 
 pub quietly_shown : (player : Dbref) (tail : List ℕ) (old new : Guard) (r : Result (Unit {0}) NoMemory) → Did (shown_others player tail) old new r → OnOk r (new.db.now ≡ old.db.now)
 quietly_shown player tail old new (Ok u) e = quiet_kept _ old new (quiet_shown_others player tail) e

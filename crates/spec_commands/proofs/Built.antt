@@ -1,5 +1,5 @@
 -- What players build is open to them.
-use Rattle.std.proofs.Common.{◌≡◌, ℕ, Bool, true, false, cond, List, refl, subst, Option, Some, None}
+use Rattle.std.proofs.Common.{◌≡◌, ℕ, Bool, true, false, cond, List, refl, subst, Some, None}
 use Rattle.muck_model.proofs.Dbrefs.{eq_same}
 use Rattle.std.specs.Prelude.{Result, Ok, Err}
 use Rattle.muck_model.specs.declared.dbref.Dbref.{Dbref}
@@ -20,23 +20,19 @@ use Rattle.spec_rights.specs.Verdict.{verdict, is_guarded}
 use Rattle.spec_rights.specs.Changing.{moved_to, homed, linked, created_so}
 use Rattle.spec_rights.specs.Licence.{Judge, IsNew}
 use Rattle.spec_rights.proofs.Rights.{SameRights}
-use Rattle.spec_rights.proofs.Licences.{judge, Quiet, Stay, Stays, End, Ends, itself, stay_quietly, end_quietly, stays_quiet, ends_quiet}
+use Rattle.spec_rights.proofs.Licences.{judge, Quiet, Stay, Stays, End, Ends, itself, stay_quietly, end_quietly, stays_quiet, ends_quiet, ends_by, stays_by}
 use Rattle.spec_rights.proofs.Makings.{new_in, end_created, room_open, thing_open, exit_open}
 use Rattle.spec_rights.proofs.Places.{stays_moved, stay_moved_home}
-use Rattle.spec_rights.proofs.Permitted.{staying, ending}
+use Rattle.spec_rights.proofs.Permitted.{ending}
 use Rattle.spec_rights.proofs.Shown.{shown, quiet_tell}
 use Rattle.spec_commands.specs.Replies.{cant_be_done}
-use Rattle.spec_commands.specs.Finding.{where_so, finding_object, message_path}
+use Rattle.spec_commands.specs.Finding.{where_so, message_path}
 use Rattle.spec_commands.specs.Going.{movable, moving, home_at}
 use Rattle.spec_commands.specs.Building.{made_at, created_shown, making, as_made, dug, housed, thing_made, exit_made, opened_exit, opened_to, action_made, tied, has_home, allowed, untied_to, link_set, link_cleared, name_set, message_set, lock_kept, lock_set, lock_cleared, meant_place, teleported, chowned, find_shown, examined, owner_shown}
-use Rattle.spec_commands.proofs.Showing.{seeing, stays_where, ends_where, ends_finding, ends_finding_player, quiet_listed}
+use Rattle.spec_commands.proofs.Showing.{seeing}
 
 -- whatever ends as is open
-pub ruleset permitting = (ending, seeing, stays_where, ends_where, ends_finding, ends_finding_player)
-
-pub ends_finding_object : (a : Actor) (free : Dbref → Bool) (given : Option Act) (d : ℕ) (b : Actor) (name : List ℕ) (go : Dbref → Change) → ((x : Dbref) → Ends itself a free given (go x)) → Ends itself a free given (finding_object d b name go)
-unfolding finding_object
-ends_finding_object a free given d b name go p = search permitting
+pub ruleset permitting = (ending, seeing)
 
 -- Making.
 
@@ -48,12 +44,12 @@ ends_making : (a : Actor) (free : Dbref → Bool) (act : Act) (d : ℕ) (kind : 
     ((start es : List Entry) (k t : ℕ) → SameRights start es → verdict es a act ≡ None → place ≡ dbref_of t → IsNew (judge a free start) (dbref_of k) (new_in kind name a.user f k t)) →
     Ends itself a free (Some act) (making d a kind name place f)
 unfolding making reading followed
-ends_making a free act d kind name place f new = record { law = λ start w s g. at start w s g (create_check kind a.user place w.objects) refl }
+ends_making a free act d kind name place f new = ends_by _ (λ start w s g. at start w s g (create_check kind a.user place w.objects) refl)
   where
     at : (start : List Entry) (w : Live) → SameRights start w.objects → verdict w.objects a act ≡ None → (check : Result (ℕ × ℕ) DbFault) → create_check kind a.user place w.objects ≡ check →
         End (judge a free start) w (made_at check (λ n to. created_so n kind name a.user to f ▸ created_shown d n) (tell d cant_be_done) w)
-    at start w s g (Ok p) e = end_quietly (judge a free start) w (created_so p.0 kind name a.user p.1 f w) (created_shown d p.0) (end_created (judge a free start) kind name a.user place f w p e (λ k t q. new start w.objects k t s g q)) (quiet_created_shown d p.0)
-    at start w s g (Err fault) e = (ends_quiet a free (Some act) (tell d cant_be_done) (quiet_tell d cant_be_done)).law start w s g
+    at start w s g (Ok p) e = let v : Live = created_so p.0 kind name a.user p.1 f w in end_quietly (judge a free start) w v (created_shown d p.0 v) (end_created (judge a free start) kind name a.user place f w p e (λ k t q. new start w.objects k t s g q)) ((quiet_created_shown d p.0).law v)
+    at start w s g (Err fault) e = ((ends_quiet a free (Some act) (tell d cant_be_done) (quiet_tell d cant_be_done)).law w).law start s g
 
 making_room : (a : Actor) (free : Dbref → Bool) (d : ℕ) (name : List ℕ) (place : Dbref) → Ends itself a free (Some (NewRoom place)) (making d a Room name place as_made)
 making_room a free d name place = ends_making a free (NewRoom place) d Room name place as_made (λ start es k t s g e. room_open a free start es name place k t s g e)
@@ -104,7 +100,7 @@ link_set_open a free d name target = search (permitting, tied_open) depth 8
 
 untied_open : (a : Actor) (free : Dbref → Bool) (d : ℕ) (x : Dbref) (reply : List ℕ) → Ends itself a free (Some (Link x nothing)) (reading (untied_to x) (λ to. tied d x to reply))
 unfolding reading tied where_so either
-untied_open a free d x reply = record { law = λ start w s g. at start w s g (has_home x w) }
+untied_open a free d x reply = ends_by _ (λ start w s g. at start w s g (has_home x w))
   where
     homes : Ends itself a free (Some (Link x nothing)) (where_so (λ w. allowed (home_check x (dbref_of 0) w.objects)) (tell d cant_be_done) (homed x (dbref_of 0) ▸ tell d reply))
     homes = search permitting
@@ -116,8 +112,8 @@ untied_open a free d x reply = record { law = λ start w s g. at start w s g (ha
         End (judge a free start) w (cond b
         (where_so (λ v. allowed (home_check x (cond b (dbref_of 0) nothing) v.objects)) (tell d cant_be_done) (homed x (cond b (dbref_of 0) nothing) ▸ tell d reply) w)
         (where_so (λ v. allowed (link_check x (cond b (dbref_of 0) nothing) v.objects)) (tell d cant_be_done) (linked x (cond b (dbref_of 0) nothing) ▸ tell d reply) w))
-    at start w s g true = homes.law start w s g
-    at start w s g false = links.law start w s g
+    at start w s g true = (homes.law w).law start s g
+    at start w s g false = (links.law w).law start s g
 
 pub link_cleared_open : (a : Actor) (free : Dbref → Bool) (d : ℕ) (name : List ℕ) → Ends itself a free None (link_cleared d a name)
 unfolding link_cleared
@@ -127,11 +123,11 @@ link_cleared_open a free d name = search (permitting, untied_open) depth 7
 
 pub name_set_open : (a : Actor) (free : Dbref → Bool) (d : ℕ) (name new : List ℕ) → Ends itself a free None (name_set d a name new)
 unfolding name_set
-name_set_open a free d name new = search (permitting, ends_finding_object) depth 7
+name_set_open a free d name new = search permitting depth 7
 
 pub message_set_open : (a : Actor) (free : Dbref → Bool) (d : ℕ) (word name text : List ℕ) → is_guarded (class_of (message_path word)) ≡ true → Ends itself a free None (message_set d a word name text)
 unfolding message_set
-message_set_open a free d word name text h = search (permitting, ends_finding_object) depth 7
+message_set_open a free d word name text h = search permitting depth 7
 
 lock_kept_open : (a : Actor) (free : Dbref → Bool) (d : ℕ) (x : Dbref) (lock : Result Lock ℕ) → Ends itself a free (Some (ChangeAct x)) (lock_kept d x lock)
 lock_kept_open a free d x (Ok lock) = search permitting depth 7
@@ -139,11 +135,11 @@ lock_kept_open a free d x (Err at) = search permitting
 
 pub lock_set_open : (a : Actor) (free : Dbref → Bool) (d : ℕ) (name key : List ℕ) → Ends itself a free None (lock_set d a name key)
 unfolding lock_set
-lock_set_open a free d name key = search (permitting, ends_finding_object, lock_kept_open) depth 7
+lock_set_open a free d name key = search (permitting, lock_kept_open) depth 7
 
 pub lock_cleared_open : (a : Actor) (free : Dbref → Bool) (d : ℕ) (name : List ℕ) → Ends itself a free None (lock_cleared d a name)
 unfolding lock_cleared
-lock_cleared_open a free d name = search (permitting, ends_finding_object) depth 7
+lock_cleared_open a free d name = search permitting depth 7
 
 -- Moving.
 
@@ -152,32 +148,30 @@ unfolding moving where_so reading either followed
 stay_moving j w d x to go q t h = at (movable x to w)
   where
     at : (b : Bool) → Stay j w (cond b (go (moved_to x to w)) (tell d cant_be_done w))
-    at true = stay_quietly j w (moved_to x to w) go h q
+    at true = let v : Live = moved_to x to w in stay_quietly j w v (go v) h (q.law v)
     at false = t
 
 meant_open : (a : Actor) (free : Dbref → Bool) (d : ℕ) (x to : Dbref) (go : Change) → Quiet go → Stays a free (Some (Move x to)) (reading (meant_place x to) (λ place. moving d x place go))
 unfolding reading
-meant_open a free d x to go q = record {
-  law = λ start w s g.
-      let j : Judge = judge a free start in
-      let t : Stay j w (tell d cant_be_done w) = (stays_quiet a free (Some (Move x to)) (tell d cant_be_done) (quiet_tell d cant_be_done)).law start w s g in
-      at start w s g t (same to home) refl;
-}
+meant_open a free d x to go q = stays_by _ (λ start w s g.
+    let j : Judge = judge a free start in
+    let t : Stay j w (tell d cant_be_done w) = ((stays_quiet a free (Some (Move x to)) (tell d cant_be_done) (quiet_tell d cant_be_done)).law w).law start s g in
+    at start w s g t (same to home) refl)
   where
     at : (start : List Entry) (w : Live) → SameRights start w.objects → verdict w.objects a (Move x to) ≡ None → Stay (judge a free start) w (tell d cant_be_done w) → (b : Bool) → same to home ≡ b →
         Stay (judge a free start) w (moving d x (cond b (home_at x w) to) go w)
     at start w s g t true e =
         let P : Dbref → Type 0 = λ y. verdict w.objects a (Move x y) ≡ None in
         stay_moving (judge a free start) w d x (home_at x w) go q t (stay_moved_home a free start w x (home_at x w) refl s (subst P (eq_same to home e) g))
-    at start w s g t false e = stay_moving (judge a free start) w d x to go q t ((stays_moved a free x to).law start w s g)
+    at start w s g t false e = stay_moving (judge a free start) w d x to go q t (((stays_moved a free x to).law w).law start s g)
 
 pub teleported_open : (a : Actor) (free : Dbref → Bool) (d : ℕ) (name target : List ℕ) → Ends itself a free None (teleported d a name target)
 unfolding teleported
-teleported_open a free d name target = search (permitting, ends_finding_object, meant_open) depth 7
+teleported_open a free d name target = search (permitting, meant_open) depth 7
 
 pub chowned_open : (a : Actor) (free : Dbref → Bool) (d : ℕ) (name owner : List ℕ) → Ends itself a free None (chowned d a name owner)
 unfolding chowned
-chowned_open a free d name owner = search (permitting, ends_finding_object) depth 8
+chowned_open a free d name owner = search permitting depth 8
 
 -- Looking things up.
 

@@ -1,5 +1,6 @@
 -- How players go, take, drop and recycle is open to them.
 use Rattle.std.proofs.Common.{◌≡◌, ℕ, Bool, true, false, List, refl, sym, ◌∙◌, ap, Option, Some, None}
+use Rattle.spec_live.proofs.Keeping.{keeps_where}
 use Rattle.std.proofs.lemmas.Bool.{and_from, and_parts, or_left, or_right}
 use Rattle.std.specs.Prelude.{Result, Ok, Err, ◌&&◌, ◌||◌, codes}
 use Rattle.std.specs.Option.{option_map_or}
@@ -19,7 +20,7 @@ use Rattle.spec_rights.specs.declared.act.Act.TheVariants.{Take, Recycle}
 use Rattle.spec_rights.specs.Verdict.{verdict, place_of}
 use Rattle.spec_rights.specs.Changing.{recycled_now}
 use Rattle.spec_rights.specs.Licence.{at_hand, at_hand_kind}
-use Rattle.spec_rights.proofs.Licences.{Quiet, Stays, Ends, Whole, Always, itself, whole_ends, whole_asked, whole_quiet, whole_quietly}
+use Rattle.spec_rights.proofs.Licences.{Quiet, Stays, Ends, Whole, Always, itself, whole_ends, whole_asked, whole_quiet, whole_quietly, whole_by, ends_by}
 use Rattle.spec_rights.proofs.Recycled.{recycled_licensed}
 use Rattle.spec_rights.proofs.Allowed.{take_allowed}
 use Rattle.spec_rights.proofs.Permitted.{staying, ending}
@@ -29,7 +30,7 @@ use Rattle.spec_commands.specs.Replies.{taken_reply, recycled_reply, dropped_rep
 use Rattle.spec_commands.specs.Finding.{is_so, is_object, finding_object, message_shown, message_to_others}
 use Rattle.spec_commands.specs.Going.{ended, moving, gone, gone_home, led, failed, succeeded, walked, walked_some, went, is_item, not_taken, taken, is_carried, drop_place, dropped, inventory_shown}
 use Rattle.spec_commands.specs.Building.{allowed, recycled}
-use Rattle.spec_commands.proofs.Showing.{seeing, stays_where, ends_where, whole_where, whole_finding}
+use Rattle.spec_commands.proofs.Showing.{seeing, whole_where, keeps_finding}
 
 -- The answer of a command is its world and its outcome.
 abbrev pub world_of : Live × Outcome → Live
@@ -37,21 +38,21 @@ world_of p = p.0
 
 pub ends_ended : (a : Actor) (free : Dbref → Bool) (given : Option Act) (outcome : Outcome) (f : Change) → Ends itself a free given f → Ends world_of a free given (ended outcome f)
 unfolding ended
-ends_ended a free given outcome f p = record { law = p.law }
+ends_ended a free given outcome f p = ends_by _ (λ start w. (p.law w).law start)
 
 pub whole_ended : (a : Actor) (own : Option ℕ) (free : List Entry → Dbref → Bool) (given : Live → Type 0) (outcome : Outcome) (f : Change) → Whole itself a own free given f → Whole world_of a own free given (ended outcome f)
 unfolding ended
-whole_ended a own free given outcome f p = record { law = p.law }
+whole_ended a own free given outcome f p = whole_by _ (λ w. (p.law w).law)
 
 -- Going.
 
 stays_moving : (a : Actor) (free : Dbref → Bool) (given : Option Act) (d : ℕ) (x to : Dbref) (go : Change) → free x ≡ true → Quiet go → Stays a free given (moving d x to go)
 unfolding moving
-stays_moving a free given d x to go h q = search (staying, stays_where)
+stays_moving a free given d x to go h q = search (staying, keeps_where)
 
 stays_gone : (a : Actor) (free : Dbref → Bool) (given : Option Act) (d : ℕ) (player to : Dbref) (seen : Change) → free player ≡ true → Quiet seen → Stays a free given (gone d player to seen)
 unfolding gone
-stays_gone a free given d player to seen h q = search (staying, seeing, stays_where) depth 8
+stays_gone a free given d player to seen h q = search (staying, seeing) depth 8
 
 pub stays_gone_home : (a : Actor) (free : Dbref → Bool) (given : Option Act) (d : ℕ) (player : Dbref) → free player ≡ true → Stays a free given (gone_home d player)
 unfolding gone_home
@@ -67,7 +68,7 @@ quiet_succeeded d player x = search seeing
 
 ends_led : (a : Actor) (free : Dbref → Bool) (given : Option Act) (d : ℕ) (player : Dbref) (hit : ExitHit) (line : List ℕ) (to : Dbref) → free player ≡ true → Ends world_of a free given (led d player hit line to)
 unfolding led
-ends_led a free given d player hit line to h = search (ending, seeing, ends_ended, ends_where, stays_gone) depth 9
+ends_led a free given d player hit line to h = search (ending, seeing, ends_ended, stays_gone) depth 9
 
 pub walked_open : (a : Actor) (free : Dbref → Bool) (d : ℕ) (hit : ExitHit) (line : List ℕ) → free a.player ≡ true → Ends world_of a free None (walked d a hit line)
 unfolding walked
@@ -126,7 +127,7 @@ HandFree a free = (es : List Entry) (x : Dbref) → at_hand es a x ≡ true → 
 pub taken_open : (a : Actor) (own : Option ℕ) (free : List Entry → Dbref → Bool) (d : ℕ) (name : List ℕ) → HandFree a free → Whole itself a own free Always (taken d a name)
 unfolding taken
 taken_open a own free d name hands =
-    whole_finding itself a own free Always (tell d) a.player name _ (λ t. whole_quiet a own free Always _ (search shown)) (λ x.
+    keeps_finding (tell d) a.player name _ (λ t. whole_quiet a own free Always _ (search shown)) (λ x.
     whole_where itself a own free Always (is_item x) _ _ (whole_quiet a own free Always _ (search shown))
     (whole_asked itself a own free _ (Take x) _ _ (λ denial. whole_quiet a own free Always _ (quiet_not_taken d a.player x denial))
     (whole_ends itself a own free _ _ (λ w h.
@@ -139,7 +140,7 @@ dropping a free d x h = search (ending, seeing, stays_moving) depth 7
 pub dropped_open : (a : Actor) (own : Option ℕ) (free : List Entry → Dbref → Bool) (d : ℕ) (name : List ℕ) → HandFree a free → Whole itself a own free Always (dropped d a.player name)
 unfolding dropped
 dropped_open a own free d name hands =
-    whole_finding itself a own free Always (tell d) a.player name _ (λ t. whole_quiet a own free Always _ (search shown)) (λ x.
+    keeps_finding (tell d) a.player name _ (λ t. whole_quiet a own free Always _ (search shown)) (λ x.
     whole_where itself a own free Always (is_carried a.player x) _ _ (whole_quiet a own free Always _ (search shown))
     (whole_ends itself a own free _ _ (λ w h.
     dropping a (free w.objects) d x (hands w.objects x (carried_at_hand w.objects a x (object_at x w.objects) refl (carried_at a.player x w h.1))))))
@@ -155,17 +156,15 @@ passed (Ok n) e = (n, refl)
 passed (Err fault) e = absurd (cc)
 
 recycling : (a : Actor) (own : Option ℕ) (free : List Entry → Dbref → Bool) (x : Dbref) (given : Live → Type 0) → ((w : Live) → given w → (verdict w.objects a (Recycle x) ≡ None) × (allowed (recycle_check x w.objects) ≡ true)) → Whole itself a own free given (recycled_now x)
-recycling a own free x given h = record {
-  law = λ w c g.
-      let t = h w g in
-      let p = passed (recycle_check x w.objects) t.1 in
-      recycled_licensed a (free w.objects) x w p.0 t.0 p.1;
-}
+recycling a own free x given h = whole_by _ (λ w c g.
+    let t = h w g in
+    let p = passed (recycle_check x w.objects) t.1 in
+    recycled_licensed a (free w.objects) x w p.0 t.0 p.1)
 
 pub recycled_open : (a : Actor) (own : Option ℕ) (free : List Entry → Dbref → Bool) (d : ℕ) (name : List ℕ) → Whole itself a own free Always (recycled d a name)
 unfolding recycled finding_object
 recycled_open a own free d name =
-    whole_finding itself a own free Always (tell d) a.player name _ (λ t. whole_quiet a own free Always _ (search shown)) (λ x.
+    keeps_finding (tell d) a.player name _ (λ t. whole_quiet a own free Always _ (search shown)) (λ x.
     whole_where itself a own free Always (is_object x) _ _ (whole_quiet a own free Always _ (search shown))
     (whole_asked itself a own free _ (Recycle x) _ _ (λ denial. whole_quiet a own free Always _ (search shown))
     (whole_where itself a own free _ (λ w. allowed (recycle_check x w.objects)) _ _ (whole_quiet a own free _ _ (search shown))

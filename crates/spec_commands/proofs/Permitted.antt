@@ -1,5 +1,6 @@
 -- What a line of a player does is open to it.
 use Rattle.std.proofs.Common.{◌≡◌, ◌==◌, ℕ, Bool, true, false, cond, List, [], ◌∷◌, refl, sym, subst, Option, Some, None}
+use Rattle.spec_live.proofs.Keeping.{keeps_either}
 use Rattle.muck_model.proofs.Dbrefs.{same_eq}
 use Rattle.muck_model.specs.declared.dbref.Dbref.{Dbref}
 use Rattle.std.specs.Prelude.{codes, ◌||◌}
@@ -12,7 +13,7 @@ use Rattle.spec_live.specs.Lives.{Live, Change, ◌▸◌, reading, either, unch
 use Rattle.spec_rights.specs.declared.act.Actor.{Actor}
 use Rattle.spec_rights.specs.Verdict.{is_guarded}
 use Rattle.spec_rights.specs.Licence.{Licensed, nobody, oneself}
-use Rattle.spec_rights.proofs.Licences.{Own, Quiet, Ends, Whole, Always, itself, whole_ends, whole_quiet, whole_either, whole_followed, ends_stays}
+use Rattle.spec_rights.proofs.Licences.{Own, Quiet, Ends, Whole, Always, itself, whole_ends, whole_quiet, whole_followed, ends_stays, whole_by}
 use Rattle.spec_rights.proofs.Permitted.{commanding}
 use Rattle.spec_rights.proofs.Shown.{shown}
 use Rattle.spec_commands.specs.declared.outcome.Outcome.{Outcome}
@@ -119,13 +120,13 @@ incomplete_open : (a : Actor) (own : Option ℕ) (free : List Entry → Dbref �
 incomplete_open a own free d word = whole_ended a own free Always Done _ (whole_quiet a own free Always _ (quiet_incomplete d word))
 
 complete_open : (a : Actor) (own : Option ℕ) (free : List Entry → Dbref → Bool) (d : ℕ) (word : List ℕ) (b : Bool) (go : Play) → Whole world_of a own free Always go → Whole world_of a own free Always (either b (ended Done (incomplete d word)) go)
-complete_open a own free d word b go p = whole_either world_of a own free Always b _ _ (incomplete_open a own free d word) p
+complete_open a own free d word b go p = keeps_either b _ _ (incomplete_open a own free d word) p
 
 pub build_open : (a : Actor) (own : Option ℕ) (free : List Entry → Dbref → Bool) (d : ℕ) (line word text : List ℕ) (found : BuildWord) → Whole world_of a own free Always (build_done d a line word text found)
 unfolding build_done open_done run_done
 build_open a own free d line word text Dig = whole_ended a own free Always Done _ (whole_one_part a own free d word text _ (λ t. by_ends a own free _ (λ f. dug_open a f d t)))
 build_open a own free d line word text Create = whole_ended a own free Always Done _ (whole_one_part a own free d word text _ (λ t. by_ends a own free _ (λ f. thing_made_open a f d t)))
-build_open a own free d line word text Open = whole_ended a own free Always Done _ (whole_either itself a own free Always _ _ _
+build_open a own free d line word text Open = whole_ended a own free Always Done _ (keeps_either _ _ _
     (whole_full_parts a own free d word text _ (λ s t. by_ends a own free _ (λ f. opened_to_open a f d s t)))
     (whole_one_part a own free d word text _ (λ t. by_ends a own free _ (λ f. opened_exit_open a f d t))))
 build_open a own free d line word text Action = whole_ended a own free Always Done _ (whole_full_parts a own free d word text _ (λ s t. by_ends a own free _ (λ f. action_made_open a f d s t)))
@@ -142,7 +143,7 @@ build_open a own free d line word text Find = whole_ended a own free Always Done
 build_open a own free d line word text Program = complete_open a own free d word (is_empty text) _ (by_play_ends a own free _ (λ f. program_made_open a f d text))
 build_open a own free d line word text Edit = complete_open a own free d word (is_empty text) _ (by_play_ends a own free _ (λ f. program_edited_open a f d text))
 build_open a own free d line word text ListWord = complete_open a own free d word (is_empty text) _ (by_play_ends a own free _ (λ f. program_listed_open a f d text))
-build_open a own free d line word text Run = whole_either world_of a own free Always _ _ _ (by_play_ends a own free _ (λ f. program_run_open a f d line (left_part text) (right_part text))) (incomplete_open a own free d word)
+build_open a own free d line word text Run = keeps_either _ _ _ (by_play_ends a own free _ (λ f. program_run_open a f d line (left_part text) (right_part text))) (incomplete_open a own free d word)
 
 -- A whole line.
 
@@ -191,15 +192,13 @@ next_kept g v outcome h = refl
 
 or_mine : (a : Actor) (own : Option ℕ) (free : List Entry → Dbref → Bool) (f g : Play) → Mine f → Whole world_of a own free Always f → Whole world_of a own free Always (or_else f g)
 unfolding or_else
-or_mine a own free f g m p = record {
-  law = λ w c h.
-      let P : Live → Type 0 = λ v. Licensed a (free w.objects) w v in
-      subst P (sym (next_kept g (f w).0 (f w).1 (m.law w))) (p.law w c h);
-}
+or_mine a own free f g m p = whole_by _ (λ w c h.
+    let P : Live → Type 0 = λ v. Licensed a (free w.objects) w v in
+    subst P (sym (next_kept g (f w).0 (f w).1 (m.law w))) ((p.law w).law c h))
 
 or_none : (a : Actor) (own : Option ℕ) (free : List Entry → Dbref → Bool) (g : Play) → Whole world_of a own free Always g → Whole world_of a own free Always (or_else (ended NotMine unchanged) g)
 unfolding or_else ended unchanged
-or_none a own free g p = record { law = λ w c h. p.law w c h }
+or_none a own free g p = whole_by _ (λ w. (p.law w).law)
 
 play_some_open : (a : Actor) (own : Option ℕ) (free : List Entry → Dbref → Bool) (d : ℕ) (word text : List ℕ) (found : Option PlayWord) (g : Play) → WordFree a free found → Whole world_of a own free Always g → Whole world_of a own free Always (or_else (play_some d a word text found) g)
 play_some_open a own free d word text None g h p = or_none a own free g p
@@ -251,17 +250,17 @@ word_free a (Some Quit) = tt
 through_open : (a : Actor) (own : Option ℕ) (d : ℕ) (line : List ℕ) (hit : Option ExitHit) (w : Live) → Own own w a →
     Licensed a (free_by false hit (play_word (first_word (trimmed line))) a w.objects) w (world_of (through d a line hit w))
 through_open a own d line (Some hit) w c =
-    (whole_ends world_of a own (λ es. oneself a) Always _ (λ v h. walked_open a (oneself a) d hit line (self_free a))).law w c tt
+    ((whole_ends world_of a own (λ es. oneself a) Always _ (λ v h. walked_open a (oneself a) d hit line (self_free a))).law w).law c tt
 through_open a own d line None w c =
-    (commanded_open a own (free_word (play_word (first_word (trimmed line))) a) d line (λ e. word_free a (play_word (first_word (trimmed line))))).law w c tt
+    ((commanded_open a own (free_word (play_word (first_word (trimmed line))) a) d line (λ e. word_free a (play_word (first_word (trimmed line))))).law w).law c tt
 
 pub played_open : (a : Actor) (own : Option ℕ) (d : ℕ) (line : List ℕ) → Whole world_of a own (free_line a line) Always (played d a line)
 unfolding played free_line reading
-played_open a own d line = record { law = λ w c h. at w c (begins_with_sign line) refl }
+played_open a own d line = whole_by _ (λ w c h. at w c (begins_with_sign line) refl)
   where
     at : (w : Live) → Own own w a → (b : Bool) → begins_with_sign line ≡ b →
         Licensed a (free_by b (exit_for (scenery_of w.objects) a.player line) (play_word (first_word (trimmed line))) a w.objects) w (world_of (cond b (commanded d a line) (reading (λ v. exit_for (scenery_of v.objects) a.player line) (through d a line)) w))
-    at w c true e = (commanded_open a own (λ es. nobody) d line (λ f. absurd (cc))).law w c tt
+    at w c true e = ((commanded_open a own (λ es. nobody) d line (λ f. absurd (cc))).law w).law c tt
     at w c false e = through_open a own d line (exit_for (scenery_of w.objects) a.player line) w c
 
 -- with the lines that wait behind it

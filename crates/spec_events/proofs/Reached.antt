@@ -95,7 +95,7 @@ unfolding gone_away reading followed closed
 sound-gone_away d w h =
     let parting : Change = parted (player_in d w.live.board) in
     let v : World = on_live (on_board (closed d)) w in
-    sound-live parting (seating_quiet parting (quiet_parted (player_in d w.live.board))).numbers v (record { alive = h.alive; rising = rising-without d w.live.board.connections h.rising })
+    sound-live parting (λ v. ((seating_quiet parting (quiet_parted (player_in d w.live.board))).law v).numbers) v (record { alive = h.alive; rising = rising-without d w.live.board.connections h.rising })
 
 no_connection : (d : ℕ) (w : World) (stop few : Bool) → (is_none (connection d w) && few && not stop) ≡ true → connection d w ≡ None
 no_connection d w stop few e = none_of (connection d w) (and_parts _ _ (and_parts _ _ e).0).0
@@ -107,12 +107,12 @@ sound-happened (Opened d) party w other l h = record {
   alive = h.alive;
   rising = rising-placed (newcomer d welcome) w.live.board.connections (no_connection d w w.stopping (nat_lt (length w.live.board.connections) connections_most) l) h.rising;
 }
-sound-happened (Input d line) party w other l h = sound-live (on_board (line_added d line)) (seating_one d (lined line) (λ c. refl)).numbers w h
+sound-happened (Input d line) party w other l h = sound-live (on_board (line_added d line)) (λ v. ((seating_one d (lined line) (λ c. refl)).law v).numbers) w h
 sound-happened (Closed d) party w other l h = let v = sound-gone_away d w h in record { alive = v.alive; rising = v.rising }
 sound-happened (Exec d) party w other l h = sound-going w _ (done_going d w (connection d w) refl) h
 sound-happened (Claim pid) party w other l h = record { alive = h.alive; rising = h.rising }
 sound-happened (Slice pid) party w other l h = sound-going w _ (going_quietly w _ (quietly_sliced pid w)) h
-sound-happened (Take d n) party w other l h = sound-live (on_board (bytes_taken d n)) (seating_one d _ (λ c. refl)).numbers w h
+sound-happened (Take d n) party w other l h = sound-live (on_board (bytes_taken d n)) (λ v. ((seating_one d _ (λ c. refl)).law v).numbers) w h
 sound-happened Halt party w other l h = record { alive = h.alive; rising = h.rising }
 sound-happened Died party w other l h = absurd (other refl)
 sound-happened event party w other l h = h

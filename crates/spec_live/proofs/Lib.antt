@@ -14,3 +14,4 @@ pub mod RecyclingLaws
 pub mod Standing
 pub mod Followers
 pub mod EditorLaws
+pub mod Keeping

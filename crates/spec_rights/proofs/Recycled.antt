@@ -402,7 +402,7 @@ there : (a : Actor) (free : Dbref → Bool) (x : Dbref) (w : Live) → controls 
     Licensed a free w (record w { objects = recycled d w.objects })
 there a free x w h d e t =
     let known : x ≡ dbref_of d = number_is w.objects x d e in
-    let k = or_parts _ _ (not-true _ t) in
+    let k : ((d == 0) ≡ false) × (is_player (kind_in w.objects d) ≡ false) = or_parts _ _ (not-true _ t) in
     record {
       gone = Some (dbref_of d);
       recycled = λ y f. let same : x ≡ y = known ∙ cc in ap (may_recycle w.objects a) (sym same) ∙ may a w.objects x d known k.0 k.1 h;
