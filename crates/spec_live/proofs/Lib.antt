@@ -15,3 +15,4 @@ pub mod Standing
 pub mod Followers
 pub mod EditorLaws
 pub mod Keeping
+pub mod PathLaws
