@@ -20,7 +20,6 @@ none_outside (b ∷ bs) h =
     ap (λ r. cond (not r) (1 + position_or_len is_outside bs) 0) (digit_inside b parts.0) ∙ omega (arith, none_outside bs parts.1)
 
 short_text : (bs : List ℕ) → length bs ≤ 40 → position_or_len is_outside bs ≡ length bs → text_fault bs ≡ None
-unfolding text_most
 short_text bs short inside =
     ap (λ r. fault_of (cond r (Some (position_or_len is_outside bs)) None) (length bs)) (le-ltb _ _ (omega (arith, inside)))
     ∙ ap (λ r. if r then Some text_most else None) (not_above (length bs) 4096 (omega (arith, short)))

@@ -3,7 +3,7 @@ use Rattle.std.proofs.Common.{◌≡◌, ℕ, true, false, not, ◌&&◌, List, 
 use Rattle.std.proofs.lemmas.Bool.{cond-true, cond-false, le-ltb, leb-true, and_parts}
 use Rattle.std.proofs.lemmas.Bool.Decides.{nat_tests}
 use Rattle.std.specs.List.{position, position_or_len, list_all}
-use Rattle.muck_model.specs.Bytes.{is_outside, text_most, fault_of, text_fault}
+use Rattle.muck_model.specs.Bytes.{is_outside, fault_of, text_fault}
 use Rattle.muck_script.specs.Script.{is_printable, is_input}
 
 inside : (b : ℕ) → is_printable b ≡ true → is_outside b ≡ false
@@ -19,7 +19,6 @@ no_position : (text : List ℕ) → list_all is_printable text ≡ true → posi
 no_position text e = cond-false (ltb (position_or_len is_outside text) (length text)) _ _ (le-ltb _ _ (omega (arith, none_outside text e)))
 
 pub input_text : (text : List ℕ) → is_input text ≡ true → text_fault text ≡ None
-unfolding text_most
 input_text text e =
     let parts = and_parts (list_all is_printable text) _ e in
     ap (λ o. fault_of o (length text)) (no_position text parts.0) ∙ cond-false (ltb 4096 (length text)) _ _ (le-ltb _ _ (omega (arith, leb-true (length text) 2048 parts.1)))
