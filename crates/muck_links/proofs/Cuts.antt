@@ -1,10 +1,11 @@
 -- The lines of bytes, cut from one buffer to the next.
-use Rattle.std.proofs.Common.{◌≡◌, ◌≢◌, ℕ, zero, suc, ◌+◌, ◌<◌, ◌≤◌, Bool, true, false, List, [], ◌∷◌, ◌++◌, length, map, take, refl, sym, ap, ◌∙◌, subst, append_assoc, arith, cond, lt-ltb, le-ltb, ltb-true, ltb-false, eqb-true}
-use Rattle.std.specs.Prelude.{◌==◌, ◌&&◌, nat_lt, nat_le, if◌then◌else◌}
+use Rattle.std.proofs.Common.{◌≡◌, ℕ, zero, suc, Bool, true, false, List, [], ◌∷◌, ◌++◌, length, map, take, refl, sym, ap, ◌∙◌, subst, append_assoc, arith, lt-ltb, le-ltb, ltb-true, ltb-false, eqb-true}
+use Rattle.std.specs.Prelude.{◌==◌, ◌&&◌, nat_lt, if◌then◌else◌}
 use Rattle.std.proofs.lemmas.List.{append-nil}
 use Rattle.muck_links.specs.declared.cutter.Mode.{Mode}
 use Rattle.muck_links.specs.declared.cutter.Mode.TheVariants.{Plain, Command, Choice, Inside, Ending}
-use Rattle.muck_links.specs.Cutting.{next, outside, bare, onto_first, pieces, is_shown, only_shown, line_most, text, lines, Rest, fresh, lined, joins, ends, after_byte, cut_rest, cut_lines, Cut, fed}
+use Rattle.muck_links.specs.Lines.{next, bare, onto_first, pieces, is_shown, only_shown, line_most, text, lines}
+use Rattle.muck_links.specs.inner.Cutting.{Rest, fresh, ends, after_byte, cut_rest, cut_lines}
 
 -- feeding in pieces is feeding the whole
 pub rest_append : (r : Rest) (a b : List ℕ) → cut_rest r (a ++ b) ≡ cut_rest (cut_rest r a) b

@@ -1,5 +1,5 @@
 -- A line so far is a text, and stays one with each byte that joins it.
-use Rattle.std.proofs.Common.{◌≡◌, ℕ, ◌+◌, ◌<◌, ◌≤◌, Bool, true, false, not, cond, List, [], ◌∷◌, ◌++◌, length, length-append, Some, None, Ok, Err, refl, ap, ◌∙◌, arith, ltb-true}
+use Rattle.std.proofs.Common.{◌≡◌, ℕ, ◌+◌, ◌<◌, ◌≤◌, Bool, true, false, not, cond, List, [], ◌∷◌, ◌++◌, length, length-append, Some, None, Err, refl, ap, ◌∙◌, arith, ltb-true}
 use Rattle.std.specs.Prelude.{◌&&◌, ◌||◌, ◌==◌, nat_lt, nat_le, if◌then◌else◌, Option}
 use Rattle.std.specs.List.{position_or_len}
 use Rattle.muck_model.specs.Bytes.{is_outside, text_fault, text_most}
@@ -9,7 +9,8 @@ use Rattle.muck_model.specs.declared.line.LineFault.{LineFault}
 use Rattle.muck_model.specs.declared.line.LineFault.TheVariants.{NotLine, NoMemory}
 use Rattle.muck_links.specs.declared.cutter.Mode.{Mode}
 use Rattle.muck_links.specs.declared.cutter.Mode.TheVariants.{Plain, Command, Choice, Inside, Ending}
-use Rattle.muck_links.specs.Cutting.{is_shown, line_most, joins, AllShown, IsLineSoFar}
+use Rattle.muck_links.specs.Lines.{is_shown, line_most}
+use Rattle.muck_links.specs.inner.Cutting.{joins, AllShown, IsLineSoFar}
 
 and_left : (a b : Bool) → (a && b) ≡ true → a ≡ true
 and_left true b h = refl

@@ -1,12 +1,8 @@
 -- Lemmas on the connection of a number.
-use Rattle.std.proofs.Common.{◌≡◌, ℕ, ◌+◌, ◌<◌, ◌≤◌, true, false, List, [], ◌∷◌, length, get_or, set, refl, sym, ◌∙◌, ap, arith, cond, Option, Some, None, not, suc, subst}
+use Rattle.std.proofs.Common.{◌≡◌, ℕ, ◌+◌, ◌<◌, ◌≤◌, true, false, List, [], ◌∷◌, length, get_or, set, refl, sym, ◌∙◌, ap, arith, cond, not, suc}
 use Rattle.std.specs.List.{position_or_len}
 use Rattle.muck_links.specs.Keyed.{altered}
 use Rattle.muck_links.specs.Sessions.{Session, number_of, has_number}
-use Rattle.std.specs.List.{remove, insert}
-use Rattle.std.specs.Option.{option_map_or, option_and_then}
-use Rattle.std.specs.Prelude.{nat_lt, find}
-use Rattle.std.proofs.lemmas.Bool.{cond_both}
 
 changed_at : (d : ℕ) (f : Session → Session) (cs : List Session) (old : Session) →
     position_or_len (has_number d) cs < length cs → old ≡ get_or cs (position_or_len (has_number d) cs) old →

@@ -1,5 +1,4 @@
 pub mod Keyed
-pub mod Cutting
+pub mod Lines
 pub mod Sessions
-pub mod Marks
-pub mod Playing
+pub mod inner

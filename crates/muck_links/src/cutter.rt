@@ -1,6 +1,7 @@
 // Bytes as lines.
 ghost use Rattle.std.specs.Prelude.{◌≡◌, ◌≢◌, ◌↔◌, ℕ, List, IsTrue, [], ◌∷◌, IfOk, OnOk, OnErr, MatchOption, ◌++◌, option_to_list};
-ghost use Rattle.muck_links.specs.Cutting.{next, is_shown, ends, joins, after_byte, cut_lines, cut_rest, fresh, fed, line_most, lines};
+ghost use Rattle.muck_links.specs.Lines.{next, is_shown, line_most, lines};
+ghost use Rattle.muck_links.specs.inner.Cutting.{ends, joins, after_byte, cut_lines, cut_rest, fresh, fed};
 
 use muck_model::{Line, NoMemory};
 use std::alloc::Global;
@@ -53,7 +54,7 @@ fn ends_line(mode: Mode, b: u8) -> bool
     }
 }
 
-#[tactic(auto, unfolding(crate::specs::Cutting::line_most))]
+#[tactic(auto, unfolding(crate::specs::Lines::line_most))]
 fn joins_line(mode: Mode, b: u8, line: &[u8]) -> bool
     ensures { result ≡ joins mode b line.now }
 {
@@ -71,7 +72,7 @@ struct Unfinished {
 }
 
 impl Model for Unfinished {
-    ghost use Rattle.muck_links.specs.Cutting.{Rest, IsLineSoFar};
+    ghost use Rattle.muck_links.specs.inner.Cutting.{Rest, IsLineSoFar};
 
     ghost Value = { Rest };
 
@@ -137,7 +138,7 @@ pub struct LineCutter {
 }
 
 impl Model for LineCutter {
-    ghost use Rattle.muck_links.specs.Cutting.{Cut};
+    ghost use Rattle.muck_links.specs.inner.Cutting.{Cut};
 
     ghost Value = { Cut };
 

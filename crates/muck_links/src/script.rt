@@ -4,8 +4,8 @@ ghost use Rattle.std.specs.Option.{option_copied};
 ghost use Rattle.muck_io.specs.Faults.{Rose};
 ghost use Rattle.muck_links.specs.Keyed.{latest};
 ghost use Rattle.muck_links.specs.Sessions.{Told, Session, number_of, has_number, is_used, on_session, ListenAs, AcceptAs, read_change, write_change, shut};
-ghost use Rattle.muck_links.specs.Marks.{marked};
-ghost use Rattle.muck_links.specs.Playing.{begun, first_due, stepped, to_read, on_link, fails_listening, coming_by, reading_by, bytes_of as bytes_in, fails_writing, ListenPlays, TakesIn, AcceptPlays, BytesRead, ReadPlays, WritePlays};
+ghost use Rattle.muck_links.specs.inner.Marks.{marked};
+ghost use Rattle.muck_links.specs.inner.Playing.{begun, first_due, stepped, to_read, on_link, fails_listening, coming_by, reading_by, bytes_of as bytes_in, fails_writing, ListenPlays, TakesIn, AcceptPlays, BytesRead, ReadPlays, WritePlays};
 ghost use Rattle.muck_links.specs.declared.script.Reading.TheVariants.{Nothing as Waiting};
 ghost use Rattle.muck_links.specs.declared.links.Listened.TheVariants.{Fault as ListenFault};
 ghost use Rattle.muck_links.specs.declared.links.Accepted.TheVariants.{Got as Came, Fault as AcceptFault};
@@ -65,7 +65,7 @@ pub struct ScriptLinks {
 }
 
 impl Model for ScriptLinks {
-    ghost use Rattle.muck_links.specs.Playing.{Script};
+    ghost use Rattle.muck_links.specs.inner.Playing.{Script};
 
     ghost Value = { Script };
 

@@ -3,7 +3,7 @@ ghost use Rattle.std.specs.Prelude.{◌≡◌, ◌≤◌, OnOk, OnErr, length, L
 ghost use Rattle.std.specs.List.{position, position_or_len};
 ghost use Rattle.muck_links.specs.Keyed.{altered};
 ghost use Rattle.muck_links.specs.Sessions.{number_of, has_number, accepted};
-ghost use Rattle.muck_links.specs.Marks.{marked, carried};
+ghost use Rattle.muck_links.specs.inner.Marks.{marked, carried};
 
 use muck_model::NoMemory;
 use std::alloc::Global;

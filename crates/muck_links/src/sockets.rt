@@ -45,8 +45,8 @@ struct Socket {
     readable: bool,
 }
 
-/// Links over the system's sockets, by TCP. They tell nothing of what they carry. What is written goes out at once, in one call of
-/// the system. Where nothing happens for some rounds, `accept` waits for a millisecond, or until something does.
+/// Links over the system's sockets, by TCP, at all IPv4 addresses of the machine. They tell nothing of what they carry. What is
+/// written goes out at once, in one call of the system. Where nothing happens for some rounds, `accept` waits for a millisecond, or until something does.
 #[derive(Drop)]
 pub struct MioLinks<N: Net> {
     net: N,

@@ -1,5 +1,5 @@
 -- What `append` answers.
-use Rattle.std.specs.Prelude.{◌≡◌, ◌⊎◌, ℕ, ◌+◌, ◌<◌, ◌≤◌, ◌^◌, true, false, Some, Result, Ok, Err, List, length, if◌then◌else◌}
+use Rattle.std.specs.Prelude.{◌≡◌, ◌⊎◌, ℕ, ◌+◌, ◌<◌, ◌≤◌, ◌^◌, true, false, Some, Result, Ok, Err, List, length, if◌then◌else◌, Bool, None}
 use Rattle.muck_codec.specs.declared.stored.Batch.{Batch}
 use Rattle.muck_codec.specs.Batches.{batch_bytes}
 use Rattle.muck_log.specs.World.{laid, written}
@@ -8,7 +8,7 @@ use Rattle.muck_log.specs.Store.{Chosen, Damage, LogState, target, opens_new, ne
 use Rattle.muck_log.specs.declared.log.Target.{Target}
 use Rattle.muck_log.specs.declared.log.Ready.{Ready}
 use Rattle.muck_log.specs.declared.fault.LogFault.{LogFault}
-use Rattle.muck_log.specs.declared.fault.LogFault.TheVariants.{NoMemory, DiskFault, Damaged, StoreFull, Stale}
+use Rattle.muck_log.specs.declared.fault.LogFault.TheVariants.{NoMemory, DiskFault, Damaged, StoreFull, Unfit, Stale}
 
 -- the store as it was, or with the batch
 abbrev pub IsEither : Chosen → Chosen → Result Chosen Damage → Type 0
@@ -31,6 +31,11 @@ pub record IsLaidNext (old new : LogState) (payload : List ℕ) : Type 0 where
 unfoldable pub payload_of : LogState → Batch → List ℕ
 payload_of log batch = batch_bytes (written (opens_new log.chosen.held) log.chosen.held.world.objects batch.records) batch.tune
 
+-- the batch is laid, or it can't be, and the log is stale
+abbrev pub IsTried : Bool → LogState → LogState → List ℕ → Type 0
+IsTried true old new payload = IsLaidNext old new payload
+IsTried false old new payload = (laid payload (target old.chosen).held.world ≡ None) × (new.stale ≡ true)
+
 -- how many bytes the batch takes: gate, length, body and closed gate
 unfoldable pub more_of : LogState → List ℕ → ℕ
 more_of log payload = 10 + length (next_body log.chosen payload)
@@ -39,6 +44,7 @@ more_of log payload = 10 + length (next_body log.chosen payload)
 abbrev pub IsAppended : LogState → LogState → List ℕ → Result ℕ LogFault → Type 0
 IsAppended old new payload (Ok n) = (old.stale ≡ false) × ((target old.chosen).place + more_of old payload ≤ old.most) × (n ≡ after_number old.chosen.held.number)
 IsAppended old new payload (Err (StoreFull end more)) = (old.stale ≡ false) × (end ≡ (target old.chosen).place) × (more ≡ more_of old payload) × (old.most < end + more) × (new ≡ old)
+IsAppended old new payload (Err Unfit) = (old.stale ≡ false) × (laid payload (target old.chosen).held.world ≡ None) × (new.stale ≡ true)
 IsAppended old new payload (Err Stale) = (old.stale ≡ true) × (new ≡ old)
 IsAppended old new payload (Err DiskFault) = (old.stale ≡ false) × ((target old.chosen).place + more_of old payload ≤ old.most) × (new.stale ≡ true)
 IsAppended old new payload (Err NoMemory) = old.stale ≡ false
@@ -59,6 +65,7 @@ pub record IsReady (old new : LogState) (payload : List ℕ) (ready : Ready) : T
 -- the refusals before any write
 abbrev pub IsRefused : LogState → LogState → List ℕ → LogFault → Type 0
 IsRefused old new payload (StoreFull end more) = (old.stale ≡ false) × (end ≡ (target old.chosen).place) × (more ≡ more_of old payload) × (old.most < end + more) × (new ≡ old)
+IsRefused old new payload Unfit = (old.stale ≡ false) × (laid payload (target old.chosen).held.world ≡ None) × (new.stale ≡ true)
 IsRefused old new payload Stale = (old.stale ≡ true) × (new ≡ old)
 IsRefused old new payload NoMemory = old.stale ≡ false
 IsRefused old new payload DiskFault = ⊥

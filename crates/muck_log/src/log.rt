@@ -7,7 +7,7 @@ ghost use Rattle.muck_log.specs.World.{World, laid};
 ghost use Rattle.muck_log.specs.File.{after_number, begin};
 ghost use Rattle.muck_log.specs.Mount.{IsLoaded, IsLoadFault};
 ghost use Rattle.muck_log.specs.Store.{LeavesBoth, MayBeAt, IsMounted, LogState, target, opens_new, next_body, after_batch, stored, framed, pick, IsDone};
-ghost use Rattle.muck_log.specs.Append.{IsEither, IsAppended, IsTarget, IsLaidNext, IsReady, IsRefused, IsFinished, IsNext, IsTouching, LoadsEither, payload_of};
+ghost use Rattle.muck_log.specs.Append.{IsEither, IsAppended, IsTarget, IsTried, IsReady, IsRefused, IsFinished, IsNext, IsTouching, LoadsEither, payload_of};
 ghost use Rattle.muck_codec.specs.Batches.{HasFewLines};
 
 use crate::reader::Reader;
@@ -202,19 +202,19 @@ impl Log {
         }
     }
 
-    // Lays the payload over the world that the batch stands on.
+    // Lays the payload over the world that the batch stands on; where that can't be, the log is stale.
     #[tactic(auto, unfolding(crate::specs::Store::target, crate::specs::File::begin))]
-    fn lay_next(&mut self, payload: &[u8]) -> Result<(), NoMemory>
-        requires { IsSome (laid payload.now (target self.old.chosen).held.world) }
-        ensures { OnOk result (IsLaidNext self.old self.new payload.now) }
+    fn lay_next(&mut self, payload: &[u8]) -> Result<bool, NoMemory>
+        ensures { IfOk result (λ yes. IsTried yes self.old self.new payload.now) }
     {
         if self.opens_new() {
             self.world = Kept::starting(self.alloc)?;
         }
-        let true = self.world.lay(payload)? else {
-            unreachable!()
-        };
-        Ok(())
+        if !self.world.lay(payload)? {
+            self.stale = true;
+            return Ok(false);
+        }
+        Ok(true)
     }
 
     // All that takes memory, and all refusals but those of the disks.
@@ -222,7 +222,6 @@ impl Log {
     fn prepare(&mut self, batch: &Batch) -> Result<Ready, LogFault>
         requires few { length batch.now.records < 2 ^ 32 }
         requires lines { HasFewLines batch.now.records }
-        requires lays { self.old.stale ≡ false → IsSome (laid (payload_of self.old batch.now) (target self.old.chosen).held.world) }
         ensures ok { IfOk result (λ ready. IsReady self.old self.new (payload_of self.old batch.now) ready) }
         ensures err { IfErr result (λ fault. IsRefused self.old self.new (payload_of self.old batch.now) fault) }
     {
@@ -242,7 +241,9 @@ impl Log {
             });
         }
         let tail = frame(self.alloc, &body)?;
-        self.lay_next(&payload)?;
+        if !self.lay_next(&payload)? {
+            return Err(LogFault::Unfit);
+        }
         Ok(Ready {
             target,
             number,
@@ -275,8 +276,9 @@ impl Log {
     /// generation is opened. All memory is taken before the first write.
     ///
     /// `StoreFull` comes exactly where the batch would pass the limit, before any write; the log stays as it was then.
-    /// `DiskFault` comes only where a disk's count of faults rose. After it the log answers `Stale` until it is mounted
-    /// again, and nothing else does. At each moment since the call began, whatever a crash leaves of both disks loads as
+    /// `Unfit` comes only where the batch doesn't leave a world with every value within its limits, before any write.
+    /// `DiskFault` comes only where a disk's count of faults rose. After these two the log answers `Stale` until it is
+    /// mounted again. At each moment since the call began, whatever a crash leaves of both disks loads as
     /// the world before or as the one with the batch, and after `Ok` as the latter.
     pub fn append<D: Disk>(
         &mut self,
@@ -287,7 +289,6 @@ impl Log {
         requires few { length batch.now.records < 2 ^ 32 }
         requires lines { HasFewLines batch.now.records }
         requires mounted { D.tells ≡ true → self.old.stale ≡ false → IsMounted D.seen D.moment D.images self.old first.old second.old }
-        requires lays { self.old.stale ≡ false → IsSome (laid (payload_of self.old batch.now) (target self.old.chosen).held.world) }
         ensures answer { IsAppended self.old self.new (payload_of self.old batch.now) result }
         ensures chosen { OnOk result (IsNext self.old self.new (payload_of self.old batch.now)) }
         ensures mounted { D.tells ≡ true → OnOk result (IsMounted D.seen D.moment D.images self.new first.new second.new) }

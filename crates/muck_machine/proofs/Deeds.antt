@@ -1,6 +1,6 @@
 -- What shared primitives do, by what stands on the stack.
 use Rattle.std.proofs.Common.{◌≡◌, ℕ, suc, ◌+◌, ◌-◌, ◌<◌, ◌≤◌, subst, cond, List, [], ◌∷◌, map, drop, length, Bool, true, false, Option, Some, None, refl, sym, ap, ◌∙◌, arith, ◌&&◌}
-use Rattle.std.specs.Prelude.{ℤ, slice_get, find, is_some, Ok}
+use Rattle.std.specs.Prelude.{ℤ, slice_get, find, is_some, Result, Ok, Err, MatchResult}
 use Rattle.std.specs.List.{position, position_from}
 use Rattle.std.specs.Option.{option_map_or, SomeIff}
 use Rattle.std.proofs.lemmas.List.{length-map}
@@ -13,12 +13,16 @@ use Rattle.spec_rights.specs.declared.act.Act.{Act}
 use Rattle.spec_rights.specs.declared.act.Act.TheVariants.{Shared, Call as CallAct}
 use Rattle.spec_rights.specs.Verdict.{verdict}
 use Rattle.muck_library.specs.Library.{formed}
-use Rattle.muf_model.specs.declared.fault.MufFault.TheVariants.{NotCompiled}
 use Rattle.muf_model.specs.declared.prims.Primitive.{Primitive as Name}
-use Rattle.muf_model.specs.declared.prims.Primitive.TheVariants.{Notify, Call}
+use Rattle.muf_model.specs.declared.prims.Primitive.TheVariants.{Call}
+use Rattle.muf_model.specs.Prims.{family_of, level_of}
+use Rattle.muf_model.specs.Answer.{too_few}
+use Rattle.muf_model.specs.View.{view}
 use Rattle.muf_model.specs.Datum.{Datum, text, object}
-use Rattle.muf_model.specs.Source.{Program, Source, last_word, locked_of}
-use Rattle.muf_model.specs.Chains.{Deed, fails, callers_of}
+use Rattle.muf_model.specs.declared.fault.MufFault.{MufFault}
+use Rattle.muf_model.specs.Flat.{Flat}
+use Rattle.muf_model.specs.Source.{Owned, Program, Source, last_word, locked_of, passed}
+use Rattle.muf_model.specs.Chains.{Deed, does, fails, callers_of}
 use Rattle.muf_model.specs.declared.code.Code.{Code}
 use Rattle.muf_model.specs.declared.code.CodeWord.{CodeWord}
 use Rattle.muf_model.specs.Decode.{definition_at, tree_of}
@@ -28,8 +32,26 @@ use Rattle.std.specs.Char.{to_ascii_lowercase}
 use Rattle.spec_rights.specs.declared.act.Actor.{Actor}
 use Rattle.spec_events.specs.declared.starting.Agent.{Agent}
 use Rattle.spec_events.specs.World.{World}
-use Rattle.spec_events.specs.Slices.{numbered, callers, deed, call_items, call_count, program_called, called_word, is_offered, needing, permitted, permitted_by, existing, programmed, called, form_called, behind, acting}
-use Rattle.muck_machine.specs.Deeds.{asked_of, IsWord, Permits}
+use Rattle.spec_prims.specs.Asking.{numbered}
+use Rattle.spec_prims.specs.Row.{Row, gives, refuses, Doing as RowDoing}
+use Rattle.spec_prims.specs.Shared.{row_in, done_by, shared}
+use Rattle.prim_talk.specs.Applied.{Applied}
+use Rattle.muck_perm.specs.declared.guard.Guard.{Guard}
+use Rattle.muck_perm.specs.Guards.{world_of}
+use Rattle.spec_live.specs.Lives.{Live}
+use Rattle.muf_model.specs.declared.prims.Family.{Family}
+use Rattle.muf_model.specs.declared.prims.Family.TheVariants.{Talk}
+use Rattle.muf_model.specs.declared.fault.MufFault.TheVariants.{NotCompiled}
+use Rattle.muf_frame.specs.declared.fault.PrimFault.{PrimFault}
+use Rattle.muf_frame.specs.declared.fault.PrimFault.TheVariants.{Fault as FrameFault, NoMemory as FrameNoMemory}
+use Rattle.muf_frame.specs.Shown.{Shown, flat, locked_by}
+use Rattle.muf_frame.proofs.Data.{map_drop}
+use Rattle.muf_running.specs.declared.entered.Entered.{Entered}
+use Rattle.muf_running.specs.Fitting.{IsAtPrimitive}
+use Rattle.muf_running.specs.Lending.{Shows, Apart, Differs, Rejoins, with_frame}
+use Rattle.spec_events.specs.Slices.{callers, deed, lifted, row_done, call_items, call_count, program_called, called_word, is_offered, needing, permitted, permitted_by, existing, programmed, called, form_called, behind, acting}
+use Rattle.muck_machine.specs.declared.state.deeds.Done.TheVariants.{Fails as DoneFails}
+use Rattle.muck_machine.specs.Deeds.{asked_of, AppliedTo, DoneAs, IsWord, PassesOn, Permits}
 
 -- programs of these numbers
 numbered_so : (ds : List Dbref) (ps : List Program) → map (λ d. d.0) ds ≡ map (λ p. p.number) ps → ds ≡ map (λ p. numbered p.number) ps
@@ -44,12 +66,11 @@ numbered_so (d ∷ ds) (p ∷ ps) e =
 pub callers_numbered : (ds : List Dbref) (s : Source) → map (λ d. d.0) ds ≡ map (λ p. p.number) (callers_of s.marks) → ds ≡ callers s
 callers_numbered ds s e = numbered_so ds (callers_of s.marks) e
 
--- a primitive that isn't there yet
-pub other_deed : (x : Agent) (p : Name) (s : Source) (w : World) → (p ≡ Notify → ⊥) → (p ≡ Call → ⊥) → deed x p s w ≡ fails NotCompiled w
+-- a primitive that has a row
+pub row_deed : (x : Agent) (p : Name) (s : Source) (w : World) → (p ≡ Call → ⊥) → deed x p s w ≡ row_done x p s w
 unfolding deed
-other_deed x Notify s w h k = absurd (h refl)
-other_deed x Call s w h k = absurd (k refl)
-other_deed x _ s w h k = refl
+row_deed x Call s w h = absurd (h refl)
+row_deed x _ s w h = refl
 
 some_is : {A : Type 0} (a b : A) → Some a ≡ Some b → a ≡ b
 some_is a b e = cc
@@ -129,10 +150,134 @@ call_passes x s w d name rest there program leave =
     cond-true _ _ _ there ∙ cond-true _ _ _ program ∙ leave_passes x s (CallAct (numbered d)) _ w leave
 
 pub call_found : (x : Agent) (s : Source) (w : World) (d : ℤ) (name : Option (List ℕ)) (n : ℕ) → locked_of s.marks + 1 ≤ length s.stack → locked_of s.marks + call_count s.stack ≤ length s.stack →
-    verdict w.live.objects (acting x s w.live.objects) (Shared 1) ≡ None → asked_of s.stack ≡ Some (d, (name, n)) → is_some (object_at (numbered d) w.live.objects) ≡ true →
+    verdict w.live.objects (acting x s w.live.objects) (Shared (level_of Call)) ≡ None → asked_of s.stack ≡ Some (d, (name, n)) → is_some (object_at (numbered d) w.live.objects) ≡ true →
     option_map_or (λ o. is_program o.kind) (object_at (numbered d) w.live.objects) false ≡ true → verdict w.live.objects (acting x s w.live.objects) (CallAct (numbered d)) ≡ None →
     called x s w ≡ form_called x s (behind (drop n s.stack) s) d name (formed w.live.objects (numbered d) w.library) w
 unfolding called
 call_found x s w d name n one all shared found there program leave =
-    need_passes 1 s _ w one ∙ need_passes (call_count s.stack) s _ w all ∙ leave_passes x s (Shared 1) _ w shared
+    need_passes 1 s _ w one ∙ need_passes (call_count s.stack) s _ w all ∙ leave_passes x s (Shared (level_of Call)) _ w shared
     ∙ call_asked x s s.stack w (d, (name, n)) found ∙ call_passes x s w d name (drop n s.stack) there program leave
+
+-- ---- a row that was applied to the frame of a process
+
+applied_differs : (row : Row) (f g : Shown) (w v : World) (u : Unit {0}) → AppliedTo row f g w v (Ok u) → Differs (flat f) (flat g)
+applied_differs (gives stack live) f g w v u h = subst (λ e. Differs (flat f) e) (sym h.0) refl
+applied_differs (refuses e) f g w v u h = absurd h
+
+-- it goes on behind the primitive
+row_passes : (row : Row) (es : List Entered) (f g : Shown) (w v : World) (s : Source) (u : Unit {0}) → Apart es (flat f) s → AppliedTo row f g w v (Ok u) → IsAtPrimitive s.now → PassesOn es (flat g)
+row_passes row es f g w v s u apart h at = (flat f, s, apart, applied_differs row f g w v u h, at)
+
+-- and with the stack of the row
+row_lifted : (row : Row) (f g : Shown) (w v : World) (s : Source) (u : Unit {0}) → Shows (flat f) s → AppliedTo row f g w v (Ok u) → lifted s w row ≡ does (passed (with_frame (flat g) s)) v
+row_lifted (gives stack live) f g w v s u shows h =
+    ap (λ x. does (behind stack s) x) (sym h.1)
+    ∙ ap (λ (c : List Datum). does (passed (record s { stack = stack; common = c })) v) (sym shows.common)
+    ∙ ap (λ (o : List Owned). does (passed (record s { stack = stack; common = (flat f).common; owned = o })) v) (sym shows.owned)
+    ∙ ap (λ (e : Flat). does (passed (with_frame e s)) v) (sym h.0)
+row_lifted (refuses e) f g w v s u shows h = absurd h
+
+row_does : (row : Row) (es : List Entered) (f g : Shown) (w v : World) (s t : Source) (u : Unit {0}) → Apart es (flat f) s → Shows (flat f) s → AppliedTo row f g w v (Ok u) →
+    ((e : Flat) (r : Source) → Apart es e r → Differs e (flat g) → t ≡ passed (with_frame (flat g) r)) → lifted s w row ≡ does t v
+row_does row es f g w v s t u apart shows h so =
+    row_lifted row f g w v s u shows h ∙ ap (λ x. does x v) (sym (so (flat f) s apart (applied_differs row f g w v u h)))
+
+-- where it is refused, the process is as it was
+row_rejoins : (row : Row) (es : List Entered) (f g : Shown) (w v : World) (s : Source) (e : MufFault) → Apart es (flat f) s → AppliedTo row f g w v (Err (FrameFault e)) → Rejoins es (flat g)
+row_rejoins (gives stack live) es f g w v s e apart h = absurd h
+row_rejoins (refuses d) es f g w v s e apart h =
+    (flat f, s, apart, subst (λ (x : Shown). Differs (flat f) (flat x)) (sym h.1) refl)
+
+row_fails : (row : Row) (es : List Entered) (f g : Shown) (w v : World) (s t : Source) (e : MufFault) → Apart es (flat f) s → Shows (flat f) s → AppliedTo row f g w v (Err (FrameFault e)) →
+    ((x : Flat) (r : Source) → Apart es x r → Differs x (flat g) → t ≡ with_frame (flat g) r) → DoneAs (lifted s w row) s v (DoneFails t e)
+row_fails (gives stack live) es f g w v s t e apart shows h so = absurd h
+row_fails (refuses d) es f g w v s t e apart shows h so =
+    let same : t ≡ with_frame (flat f) s = so (flat f) s apart (subst (λ (x : Shown). Differs (flat f) (flat x)) (sym h.1) refl) ∙ ap (λ (x : Shown). with_frame (flat x) s) h.1 in
+    let back : with_frame (flat f) s ≡ s = ap (λ (x : List Datum). record s { stack = x; common = (flat f).common; owned = (flat f).owned }) shows.stack ∙ ap (λ (x : List Datum). record s { common = x; owned = (flat f).owned }) shows.common ∙ ap (λ (x : List Owned). record s { owned = x }) shows.owned in
+    (same ∙ back, ap (λ x. fails x w) (sym h.0) ∙ ap (λ x. fails e x) (sym h.2))
+
+-- what a frame needs of its items, and what the process needs
+pub need_shown : (r : Result (Unit {0}) MufFault) (count : ℕ) (f : Shown) (s : Source) → Shows (flat f) s → MatchResult r (λ _. locked_by (flat f).marks + count ≤ length f.stack) (λ e. (length f.stack < locked_by (flat f).marks + count) × (e ≡ too_few count (flat f).stack)) → MatchResult r (λ _. locked_of s.marks + count ≤ length s.stack) (λ e. (length s.stack < locked_of s.marks + count) × (e ≡ too_few count s.stack))
+need_shown (Ok x) count f s shows h =
+    let n : length s.stack ≡ length f.stack = ap length (sym shows.stack) ∙ length-map f.stack view in
+    let l : locked_by (flat f).marks ≡ locked_of s.marks = shows.locked in
+    omega (arith, h, l, n)
+need_shown (Err e) count f s shows h =
+    let n : length s.stack ≡ length f.stack = ap length (sym shows.stack) ∙ length-map f.stack view in
+    let m : length f.stack < locked_by (flat f).marks + count = h.0 in
+    let l : locked_by (flat f).marks ≡ locked_of s.marks = shows.locked in
+    (omega (arith, m, l, n), h.1 ∙ ap (too_few count) shows.stack)
+
+-- the row as the frame shows what it asks of
+row_seen : (p : Name) (a b : Actor) (f : Flat) (s : Source) (w : Live) → a ≡ b → Shows f s → shared p a (locked_by f.marks) f.stack w ≡ shared p b (locked_of s.marks) s.stack w
+row_seen p a b f s w same shows =
+    ap (λ (x : Actor). shared p x (locked_by f.marks) f.stack w) same
+    ∙ ap (λ (n : ℕ). shared p b n f.stack w) shows.locked
+    ∙ ap (λ (x : List Datum). shared p b (locked_of s.marks) x w) shows.stack
+
+pub done_so : (x : Agent) (p : Name) (a : Actor) (es : List Entered) (f g : Shown) (w v : World) (s t : Source) (r : Result (Unit {0}) PrimFault) (u : Unit {0}) → a ≡ acting x s w.live.objects → Apart es (flat f) s → Shows (flat f) s →
+    AppliedTo (shared p a (locked_by (flat f).marks) (flat f).stack w.live) f g w v r → r ≡ Ok u →
+    ((e : Flat) (r : Source) → Apart es e r → Differs e (flat g) → t ≡ passed (with_frame (flat g) r)) → row_done x p s w ≡ does t v
+unfolding row_done
+done_so x p a es f g w v s t r u same apart shows h is so =
+    let row : Row = shared p a (locked_by (flat f).marks) (flat f).stack w.live in
+    ap (lifted s w) (sym (row_seen p a (acting x s w.live.objects) (flat f) s w.live same shows)) ∙ row_does row es f g w v s t u apart shows (subst (λ q. AppliedTo row f g w v q) is h) so
+
+pub passes_so : (row : Row) (es : List Entered) (f g : Shown) (w v : World) (s : Source) (r : Result (Unit {0}) PrimFault) (u : Unit {0}) → Apart es (flat f) s → AppliedTo row f g w v r → r ≡ Ok u → IsAtPrimitive s.now → PassesOn es (flat g)
+passes_so row es f g w v s r u apart h is at = row_passes row es f g w v s u apart (subst (λ q. AppliedTo row f g w v q) is h) at
+
+pub fails_so : (x : Agent) (p : Name) (a : Actor) (es : List Entered) (f g : Shown) (w v : World) (s t : Source) (r : Result (Unit {0}) PrimFault) (e : MufFault) → a ≡ acting x s w.live.objects → Apart es (flat f) s → Shows (flat f) s →
+    AppliedTo (shared p a (locked_by (flat f).marks) (flat f).stack w.live) f g w v r → r ≡ Err (FrameFault e) →
+    ((x : Flat) (r : Source) → Apart es x r → Differs x (flat g) → t ≡ with_frame (flat g) r) → DoneAs (row_done x p s w) s v (DoneFails t e)
+unfolding row_done
+fails_so x p a es f g w v s t r e same apart shows h is so =
+    let row : Row = shared p a (locked_by (flat f).marks) (flat f).stack w.live in
+    let known = row_fails row es f g w v s t e apart shows (subst (λ q. AppliedTo row f g w v q) is h) so in
+    (known.0, ap (lifted s w) (sym (row_seen p a (acting x s w.live.objects) (flat f) s w.live same shows)) ∙ known.1)
+
+pub rejoins_so : (row : Row) (es : List Entered) (f g : Shown) (w v : World) (s : Source) (r : Result (Unit {0}) PrimFault) (e : MufFault) → Apart es (flat f) s → AppliedTo row f g w v r → r ≡ Err (FrameFault e) → Rejoins es (flat g)
+rejoins_so row es f g w v s r e apart h is =
+    row_rejoins row es f g w v s e apart (subst (λ q. AppliedTo row f g w v q) is h)
+
+-- what a guard makes of the world that it lends is made of the whole world
+pub applied_to : (row : Row) (f g : Shown) (old new : Guard) (w v : World) (r : Result (Unit {0}) PrimFault) → Applied row f g old new r → world_of old ≡ w.live → v ≡ record w { live = world_of new } → AppliedTo row f g w v r
+applied_to (gives stack live) f g old new w v (Ok u) h start is =
+    (h.0, is ∙ ap (λ (x : Guard). record w { live = world_of x }) h.1)
+applied_to (gives stack live) f g old new w v (Err (FrameFault e)) h start is = absurd h
+applied_to (gives stack live) f g old new w v (Err FrameNoMemory) h start is = tt
+applied_to (refuses e) f g old new w v (Ok u) h start is = absurd h
+applied_to (refuses e) f g old new w v (Err (FrameFault d)) h start is =
+    (h.0, h.1, is ∙ ap (λ (x : Guard). record w { live = world_of x }) h.2 ∙ ap (λ live. record w { live = live }) start)
+applied_to (refuses e) f g old new w v (Err FrameNoMemory) h start is = tt
+
+-- a primitive of a family without rows
+no_row_in : (family : Family) (p : Name) → (family ≡ Talk → ⊥) → row_in family p ≡ None
+no_row_in Talk p h = absurd (h refl)
+no_row_in _ p h = refl
+
+pub without_row : (p : Name) (a : Actor) (locked : ℕ) (stack : List Datum) (w : Live) → (family_of p ≡ Talk → ⊥) → shared p a locked stack w ≡ refuses NotCompiled
+unfolding shared
+without_row p a locked stack w h = ap (λ (row : Option RowDoing). done_by row p a locked stack w) (no_row_in (family_of p) p h)
+
+-- ---- items that are dropped from the frame of a process
+
+shown_length : (f : Shown) (s : Source) → Shows (flat f) s → length s.stack ≡ length f.stack
+shown_length f s shows = ap length (sym shows.stack) ∙ length-map f.stack view
+
+pub drops : (count : ℕ) (f : Shown) (s : Source) → Shows (flat f) s → count ≤ length s.stack → count ≤ length f.stack
+drops count f s shows h = let same = shown_length f s shows in omega (arith, h, same)
+
+dropped_differs : (count : ℕ) (f g : Shown) → g ≡ record f { stack = drop count f.stack } → Differs (flat f) (flat g)
+dropped_differs count f g e = subst (λ (x : Shown). Differs (flat f) (flat x)) (sym e) refl
+
+pub dropped_passes : (count : ℕ) (es : List Entered) (f g : Shown) (s : Source) → Apart es (flat f) s → IsAtPrimitive s.now → g ≡ record f { stack = drop count f.stack } → PassesOn es (flat g)
+dropped_passes count es f g s apart at e = (flat f, s, apart, dropped_differs count f g e, at)
+
+pub dropped_behind : (count : ℕ) (es : List Entered) (f g : Shown) (s t : Source) → Apart es (flat f) s → Shows (flat f) s → g ≡ record f { stack = drop count f.stack } →
+    ((x : Flat) (r : Source) → Apart es x r → Differs x (flat g) → t ≡ passed (with_frame (flat g) r)) → t ≡ behind (drop count s.stack) s
+dropped_behind count es f g s t apart shows e so =
+    so (flat f) s apart (dropped_differs count f g e)
+    ∙ ap (λ (x : Shown). passed (with_frame (flat x) s)) e
+    ∙ ap (λ (x : List Datum). passed (record s { stack = x; common = (flat f).common; owned = (flat f).owned })) (map_drop view count f.stack ∙ ap (drop count) shows.stack)
+    ∙ ap (λ (x : List Datum). passed (record s { stack = drop count s.stack; common = x; owned = (flat f).owned })) shows.common
+    ∙ ap (λ (x : List Owned). passed (record s { stack = drop count s.stack; owned = x })) shows.owned

@@ -6,13 +6,20 @@ use Rattle.muf_model.specs.declared.fault.MufFault.{MufFault}
 use Rattle.muf_model.specs.declared.fault.MufFault.TheVariants.{Denied}
 use Rattle.muf_model.specs.declared.prims.Primitive.{Primitive as Name}
 use Rattle.muf_model.specs.Datum.{Datum, text, object}
+use Rattle.muf_model.specs.Flat.{Flat}
 use Rattle.muf_model.specs.Decode.{tree_of}
 use Rattle.muf_model.specs.Stands.{TreeStands}
 use Rattle.muf_model.specs.Tree.{Definition}
 use Rattle.muf_model.specs.Source.{Source, calls_of, entered}
 use Rattle.muf_model.specs.Unit.{calls_most, goes, faulted, fault}
 use Rattle.muf_model.specs.Chains.{Deed, does, fails, Finish, over, broke, chain}
-use Rattle.muf_running.specs.Fitting.{program_with}
+use Rattle.muf_frame.specs.declared.fault.PrimFault.{PrimFault}
+use Rattle.muf_frame.specs.declared.fault.PrimFault.TheVariants.{Fault as FrameFault, NoMemory as FrameNoMemory}
+use Rattle.muf_frame.specs.Shown.{Shown, flat}
+use Rattle.muf_running.specs.declared.entered.Entered.{Entered}
+use Rattle.muf_running.specs.Fitting.{program_with, IsAtPrimitive}
+use Rattle.muf_running.specs.Lending.{Apart, Differs}
+use Rattle.spec_prims.specs.Row.{Row, gives, refuses}
 use Rattle.spec_events.specs.World.{World}
 use Rattle.spec_events.specs.Slices.{behind}
 use Rattle.muck_machine.specs.declared.state.slices.Ending.{Ending}
@@ -50,11 +57,17 @@ abbrev pub DoneAs : Deed World → Source → World → Done → Type 0
 DoneAs deed s w (DoneDoes t) = deed ≡ does t w
 DoneAs deed s w (DoneFails t f) = (t ≡ s) × (deed ≡ fails f w)
 
--- it leads to the state t, or is refused
-abbrev pub Does : Deed World → Source → World → Result (Unit {0}) DeedFault → Type 0
-Does deed t w (Ok x) = deed ≡ does t w
-Does deed t w (Err (Fault f)) = deed ≡ fails f w
-Does deed t w (Err NoMemory) = Unit {0}
+-- a row was applied to a frame and to the world, or was refused, and then both are as they were; after want of memory
+-- nothing is said of them
+abbrev pub AppliedTo : Row → Shown → Shown → World → World → Result (Unit {0}) PrimFault → Type 0
+AppliedTo (gives stack live) f g w v (Ok x) = (flat g ≡ record (flat f) { stack = stack }) × (v ≡ record w { live = live })
+AppliedTo (refuses e) f g w v (Err (FrameFault h)) = (h ≡ e) × (g ≡ f) × (v ≡ w)
+AppliedTo row f g w v (Err FrameNoMemory) = Unit {0}
+AppliedTo row f g w v result = ⊥
+
+-- a frame of a process that stands at a primitive, but for its stack and its variables
+abbrev pub PassesOn : List Entered → Flat → Type 0
+PassesOn es g = (f : Flat) × (s : Source) × Apart es f s × Differs f g × IsAtPrimitive s.now
 
 -- the state in which a word is entered from the one at CALL
 abbrev pub target : Entrance → Source → Option Source
@@ -80,11 +93,6 @@ Permits None (Ok x) = Unit {0}
 Permits (Some denial) (Err f) = f ≡ Denied denial.rule
 Permits None (Err f) = ⊥
 Permits (Some denial) (Ok x) = ⊥
-
--- what NOTIFY finds on the stack: a player below a text
-abbrev pub told_of : List Datum → Option (ℤ × List ℕ)
-told_of (text t ∷ object d ∷ rest) = Some (d, t)
-told_of items = None
 
 -- what CALL finds there, and how many items that is: a program, below the name of a word where there is one
 abbrev pub asked_of : List Datum → Option (ℤ × (Option (List ℕ) × ℕ))

@@ -1,9 +1,8 @@
 -- Items of the stack as the variables of a call.
-use Rattle.std.proofs.Common.{◌≡◌, ℕ, zero, suc, ◌+◌, ◌-◌, ◌≤◌, List, [], ◌∷◌, ◌++◌, length, take, drop, map, sym, ap, refl, ◌∙◌, arith}
+use Rattle.std.proofs.Common.{◌≡◌, ℕ, ◌+◌, ◌-◌, ◌≤◌, List, [], ◌∷◌, ◌++◌, length, take, drop, map, sym, ap, refl, ◌∙◌}
 use Rattle.std.specs.Prelude.{reverse}
 use Rattle.std.proofs.lemmas.List.{reverse-reverse, reverse-append}
 use Rattle.muf_model.specs.declared.value.Value.{Value}
-use Rattle.muf_model.specs.Datum.{Datum}
 use Rattle.muf_model.specs.View.{view}
 use Rattle.muf_frame.proofs.Tops.{below_depth, above_depth}
 use Rattle.muf_frame.proofs.Data.{map_take, map_drop}

@@ -9,7 +9,6 @@ use Rattle.muf_model.specs.Datum.{Datum, int}
 use Rattle.muf_model.specs.Source.{zeros, fitted}
 use Rattle.muf_model.specs.View.{view}
 use Rattle.muf_model.specs.Unit.{lowest}
-use Rattle.muf_model.specs.Flat.{Flat}
 use Rattle.muf_model.proofs.Views.{view_text, view_int, view_object, view_variable, view_address, view_lock, view_items, view_dict, view_mark}
 use Rattle.muf_frame.specs.declared.mark.Mark.{Mark}
 use Rattle.muf_frame.specs.declared.mark.Mark.TheVariants.{Loop, Guard, Back, Leave}

@@ -2,7 +2,7 @@
 use Rattle.std.specs.Prelude.{◌≡◌, ℕ, List, ℤ, Option, Some, None, slice_get, Result, Ok, Err}
 use Rattle.std.specs.Option.{option_and_then}
 use Rattle.muf_model.specs.declared.fault.MufFault.{MufFault}
-use Rattle.muf_model.specs.Datum.{Datum, int, text, object, variable, address, lock, items, dict, mark}
+use Rattle.muf_model.specs.Datum.{Datum, int, text, object}
 use Rattle.muf_model.specs.Answer.{Answer, gives, stores, calls, refuses, Made, plain}
 use Rattle.muf_model.specs.declared.prims.Primitive.{Primitive}
 use Rattle.muf_model.specs.Needs.{Needs}
@@ -11,7 +11,7 @@ use Rattle.muf_model.specs.Rows.{used, primitive}
 use Rattle.muf_model.specs.Flat.{Flat}
 use Rattle.muf_frame.specs.declared.fault.PrimFault.{PrimFault}
 use Rattle.muf_frame.specs.declared.fault.PrimFault.TheVariants.{Fault, NoMemory}
-use Rattle.muf_frame.specs.Shown.{Shown, flat, locked_by}
+use Rattle.muf_frame.specs.Shown.{Shown, flat}
 use Rattle.muf_frame.specs.Moves.{scope_of, with_variable}
 
 -- the frame has become what the answer says, where that neither refuses nor calls a word

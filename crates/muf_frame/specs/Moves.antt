@@ -1,5 +1,5 @@
 -- What calls, variables and faults do to the data of a frame.
-use Rattle.std.specs.Prelude.{◌≡◌, Bool, true, false, ℕ, zero, suc, ◌+◌, ◌-◌, List, [], ◌∷◌, ◌++◌, length, take, drop, reverse, nat_lt, if◌then◌else◌, ℤ, negsuc, Option, Some, None, slice_set}
+use Rattle.std.specs.Prelude.{◌≡◌, Bool, true, false, ℕ, suc, ◌+◌, ◌-◌, List, [], ◌∷◌, ◌++◌, length, take, drop, reverse, nat_lt, if◌then◌else◌, ℤ, negsuc, Option, Some, None, slice_set}
 use Rattle.muf_model.specs.declared.fault.MufFault.{MufFault}
 use Rattle.muf_model.specs.Faults.{text_of, is_final}
 use Rattle.muf_model.specs.Datum.{Datum, text}

@@ -1,5 +1,5 @@
 -- What each primitive of numbers does. Results wrap to 32 bits.
-use Rattle.std.specs.Prelude.{ℕ, suc, List, [], ◌∷◌, Option, Some, None, Bool, true, false, not, ◌&&◌, ◌||◌, nat_lt, int_lt, int_le, int_rem, if◌then◌else◌, ℤ, pos, negsuc}
+use Rattle.std.specs.Prelude.{suc, List, [], ◌∷◌, Option, Some, None, Bool, true, false, not, ◌&&◌, ◌||◌, nat_lt, int_lt, int_le, int_rem, if◌then◌else◌, ℤ, pos, negsuc}
 use Rattle.std.specs.Ordering.{int_eq}
 use Rattle.std.specs.Int.{w32, cast_signed, int_wrapping_add, int_wrapping_sub, int_wrapping_mul, int_wrapping_div, int_wrapping_neg, int_signum, int_bit_and, int_bit_or, int_bit_xor, int_shl, int_shr}
 use Rattle.muf_model.specs.declared.fault.MufFault.TheVariants.{StackEmpty, BadType}

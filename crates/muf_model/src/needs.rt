@@ -71,163 +71,99 @@ pub struct Needs {
     pub many: Option<Many>,
 }
 
-const ANY: Need = Need {
-    kind: Want::Anything,
-    there: false,
-    near: false,
-};
+// An item of a kind, which is an object that must be there, or near besides, where the words say so.
+macro_rules! need {
+    ($kind:ident) => {
+        need!($kind, false, false)
+    };
+    ($kind:ident, there) => {
+        need!($kind, true, false)
+    };
+    ($kind:ident, near) => {
+        need!($kind, true, true)
+    };
+    ($kind:ident, $there:literal, $near:literal) => {
+        Need {
+            kind: Want::$kind,
+            there: $there,
+            near: $near,
+        }
+    };
+}
 
-const INT: Need = Need {
-    kind: Want::Int,
-    there: false,
-    near: false,
-};
+const ANY: Need = need!(Anything);
 
-const TEXT: Need = Need {
-    kind: Want::Text,
-    there: false,
-    near: false,
-};
+const INT: Need = need!(Int);
 
-const OBJECT: Need = Need {
-    kind: Want::Object,
-    there: false,
-    near: false,
-};
+const TEXT: Need = need!(Text);
 
-const VARIABLE: Need = Need {
-    kind: Want::Variable,
-    there: false,
-    near: false,
-};
+const OBJECT: Need = need!(Object);
 
-const ADDRESS: Need = Need {
-    kind: Want::Address,
-    there: false,
-    near: false,
-};
+const VARIABLE: Need = need!(Variable);
 
-const EITHER: Need = Need {
-    kind: Want::IntOrObject,
-    there: false,
-    near: false,
-};
+const ADDRESS: Need = need!(Address);
 
-const NUMBERED: Need = Need {
-    kind: Want::Numbered,
-    there: false,
-    near: false,
-};
+const EITHER: Need = need!(IntOrObject);
 
-const THERE: Need = Need {
-    kind: Want::Object,
-    there: true,
-    near: false,
-};
+const NUMBERED: Need = need!(Numbered);
 
-const NEAR: Need = Need {
-    kind: Want::Object,
-    there: true,
-    near: true,
-};
+const THERE: Need = need!(Object, there);
 
-pub(crate) const ITEM: Option<Needs> = Some(Needs {
-    fixed: &[ANY],
-    many: None,
-});
+const NEAR: Need = need!(Object, near);
 
-pub(crate) const TWO_ITEMS: Option<Needs> = Some(Needs {
-    fixed: &[ANY, ANY],
-    many: None,
-});
+// Items that are taken, the top first, and behind a `;` what the top counts, and what stands below that.
+macro_rules! takes {
+    ($($fixed:ident),*) => {
+        Some(Needs {
+            fixed: &[$($fixed),*],
+            many: None,
+        })
+    };
+    ($($fixed:ident),*; $($each:ident),*; $($under:ident),*) => {
+        Some(Needs {
+            fixed: &[$($fixed),*],
+            many: Some(Many {
+                each: &[$($each),*],
+                under: &[$($under),*],
+            }),
+        })
+    };
+}
 
-pub(crate) const THREE_ITEMS: Option<Needs> = Some(Needs {
-    fixed: &[ANY, ANY, ANY],
-    many: None,
-});
+pub(crate) const ITEM: Option<Needs> = takes!(ANY);
 
-pub(crate) const AN_INT: Option<Needs> = Some(Needs {
-    fixed: &[INT],
-    many: None,
-});
+pub(crate) const TWO_ITEMS: Option<Needs> = takes!(ANY, ANY);
 
-pub(crate) const COUNTED_ITEMS: Option<Needs> = Some(Needs {
-    fixed: &[INT],
-    many: Some(Many {
-        each: &[ANY],
-        under: &[],
-    }),
-});
+pub(crate) const THREE_ITEMS: Option<Needs> = takes!(ANY, ANY, ANY);
 
-pub(crate) const ITEM_OVER_COUNTED: Option<Needs> = Some(Needs {
-    fixed: &[INT, ANY],
-    many: Some(Many {
-        each: &[ANY],
-        under: &[],
-    }),
-});
+pub(crate) const AN_INT: Option<Needs> = takes!(INT);
 
-pub(crate) const NOTHING: Option<Needs> = Some(Needs {
-    fixed: &[],
-    many: None,
-});
+pub(crate) const COUNTED_ITEMS: Option<Needs> = takes!(INT; ANY;);
 
-pub(crate) const A_VARIABLE: Option<Needs> = Some(Needs {
-    fixed: &[VARIABLE],
-    many: None,
-});
+pub(crate) const ITEM_OVER_COUNTED: Option<Needs> = takes!(INT, ANY; ANY;);
 
-pub(crate) const VARIABLE_AND_ITEM: Option<Needs> = Some(Needs {
-    fixed: &[VARIABLE, ANY],
-    many: None,
-});
+pub(crate) const NOTHING: Option<Needs> = takes!();
 
-pub(crate) const AN_ADDRESS: Option<Needs> = Some(Needs {
-    fixed: &[ADDRESS],
-    many: None,
-});
+pub(crate) const A_VARIABLE: Option<Needs> = takes!(VARIABLE);
 
-pub(crate) const A_TEXT: Option<Needs> = Some(Needs {
-    fixed: &[TEXT],
-    many: None,
-});
+pub(crate) const VARIABLE_AND_ITEM: Option<Needs> = takes!(VARIABLE, ANY);
 
-pub(crate) const TWO_INTS: Option<Needs> = Some(Needs {
-    fixed: &[INT, INT],
-    many: None,
-});
+pub(crate) const AN_ADDRESS: Option<Needs> = takes!(ADDRESS);
 
-pub(crate) const TWO_ALIKE: Option<Needs> = Some(Needs {
-    fixed: &[EITHER, EITHER],
-    many: None,
-});
+pub(crate) const A_TEXT: Option<Needs> = takes!(TEXT);
 
-pub(crate) const A_NUMBERED: Option<Needs> = Some(Needs {
-    fixed: &[NUMBERED],
-    many: None,
-});
+pub(crate) const TWO_INTS: Option<Needs> = takes!(INT, INT);
 
-pub(crate) const TWO_OBJECTS: Option<Needs> = Some(Needs {
-    fixed: &[OBJECT, OBJECT],
-    many: None,
-});
+pub(crate) const TWO_ALIKE: Option<Needs> = takes!(EITHER, EITHER);
 
-pub(crate) const TWO_TEXTS: Option<Needs> = Some(Needs {
-    fixed: &[TEXT, TEXT],
-    many: None,
-});
+pub(crate) const A_NUMBERED: Option<Needs> = takes!(NUMBERED);
 
-pub(crate) const INT_OR_OBJECT: Option<Needs> = Some(Needs {
-    fixed: &[EITHER],
-    many: None,
-});
+pub(crate) const TWO_OBJECTS: Option<Needs> = takes!(OBJECT, OBJECT);
 
-pub(crate) const TEXT_FOR_ONE_NEAR: Option<Needs> = Some(Needs {
-    fixed: &[TEXT, NEAR],
-    many: None,
-});
+pub(crate) const TWO_TEXTS: Option<Needs> = takes!(TEXT, TEXT);
 
-pub(crate) const ONE_THERE: Option<Needs> = Some(Needs {
-    fixed: &[THERE],
-    many: None,
-});
+pub(crate) const INT_OR_OBJECT: Option<Needs> = takes!(EITHER);
+
+pub(crate) const TEXT_FOR_ONE_NEAR: Option<Needs> = takes!(TEXT, NEAR);
+
+pub(crate) const ONE_THERE: Option<Needs> = takes!(THERE);

@@ -35,7 +35,7 @@ use Rattle.muf_run.specs.Machine.{after_fault}
 use Rattle.muf_run.specs.Runs.{RunsAlike}
 use Rattle.muf_run.specs.declared.run.Local.{Local}
 use Rattle.muf_run.specs.declared.run.Local.TheVariants as local
-use Rattle.muf_run.proofs.Lockstep.{fault_fits}
+use Rattle.muf_run.proofs.Lockstep.{fault_fits, locked_fits, calls_fits}
 use Rattle.muf_running.specs.declared.entered.Entered.{Entered}
 use Rattle.muf_running.specs.declared.begin.Start.{Start}
 use Rattle.muf_running.specs.Begins.{StartsIn, StartsAt}
@@ -43,6 +43,7 @@ use Rattle.muf_running.specs.Fitting.{codes_of, numbers_of, numbers_in, number_a
 use Rattle.muf_running.specs.declared.stint.Ran.{Ran}
 use Rattle.muf_running.specs.declared.stint.Ran.TheVariants.{Going, Asking, Ended, Faulted}
 use Rattle.muf_running.specs.Stints.{RanAlike, AskedAt, LeftAt, LocalFits}
+use Rattle.muf_running.specs.Lending.{Shows, Apart, Differs, with_frame}
 
 -- there is a running program
 pub first_there : {cs : List Code} {f : Flat} {s : Source} → FitsState cs f s → cs ≡ first_code cs ∷ drop 1 cs
@@ -123,10 +124,6 @@ raised_none es f e h c =
     let s : Source = decode (codes_of es) f in
     uncaught_at (codes_of es) e (fault e s) (subst (λ x. EndsAlike (codes_of es) (after_fault e x) (fault e s)) c (faults_alike (codes_of es) f s e h.0))
 
--- another stack
-pub stack_fits : (stack : List Datum) {cs : List Code} {f : Flat} {s : Source} → FitsState cs f s → FitsState cs (record f { stack = stack }) (record s { stack = stack })
-stack_fits stack (fit p a m) = fit p a m
-
 -- the place behind a primitive
 passing : (code : Code) (codes : List Code) (stack common vars below : List Datum) (owned : List Owned) (place : ℕ) (program : Program) (now : Block) (end : End) (ms : List Mark) (ns : List FlatMark) → IsAtPrimitive now → TreeStands code program.tree → Remains code.placed place now end → MarksFit (code ∷ codes) ms ns below → FitsState (code ∷ codes) (record { stack = stack; common = common; owned = owned; variables = below ++ vars; base = length below; program = program.number; place = place + 1; marks = ns }) (passed (record { stack = stack; common = common; owned = owned; variables = vars; program = program; now = now; end = end; marks = ms })) × (place < length code.placed)
 passing code codes stack common vars below owned place program (word line w next) end ms ns h p a m =
@@ -205,14 +202,29 @@ kept_programs k xs =
     let same : take (length xs - k) xs ≡ reverse (drop k (reverse xs)) = sym (above_height k (reverse xs) ∙ ap (λ l. take (l - k) (reverse (reverse xs))) (length-reverse xs) ∙ ap (take (length xs - k)) (reverse-reverse xs)) in
     ap reverse same ∙ reverse-reverse (drop k (reverse xs))
 
--- the process once items are dropped, and once a primitive is passed
-pub dropped_at : (es : List Entered) (f g : Shown) (count : ℕ) → ProgramsFit es (flat f) → g ≡ record f { stack = drop count f.stack } → ProgramsFit es (flat g) × (decode (codes_of es) (flat g) ≡ record (decode (codes_of es) (flat f)) { stack = drop count (decode (codes_of es) (flat f)).stack })
-dropped_at es f g count h same =
-    let s : Source = decode (codes_of es) (flat f) in
-    let stack : List Datum = drop count (map view f.stack) in
-    let frame : record (flat f) { stack = stack } ≡ flat g = ap (λ xs. record (flat f) { stack = xs }) (drop-map view count f.stack) ∙ ap flat (sym same) in
-    same_programs es (flat f) (flat g) (record s { stack = stack }) h (subst (λ x. FitsState (codes_of es) x (record s { stack = stack })) frame (stack_fits stack h.0)) refl
+-- another stack, and other variables of the process and of its programs
+lent_fits : (g : Flat) {cs : List Code} {f : Flat} {s : Source} → FitsState cs f s → FitsState cs (record f { stack = g.stack; common = g.common; owned = g.owned }) (with_frame g s)
+lent_fits g (fit p a m) = fit p a m
 
+pub lent_at : (es : List Entered) (f g : Flat) (s : Source) → Apart es f s → Differs f g → Apart es g (with_frame g s)
+lent_at es f g s h differs =
+    let t : Source = decode (codes_of es) f in
+    let fitted : FitsState (codes_of es) g (with_frame g t) = subst (λ x. FitsState (codes_of es) x (with_frame g t)) (sym differs) (lent_fits g h.0.0) in
+    subst (λ x. Apart es g (with_frame g x)) h.1 (same_programs es f g (with_frame g t) h.0 fitted refl)
+
+-- what the frame shows
+pub shows_at : (es : List Entered) (f : Flat) (s : Source) → Apart es f s → Shows f s
+shows_at es f s h = subst (Shows f) h.1 (record {
+  stack = refl;
+  locked = locked_fits h.0.0;
+  calls = calls_fits h.0.0;
+  program = refl;
+  common = refl;
+  owned = refl;
+  variables = refl;
+})
+
+-- the process once a primitive is passed
 passed_programs : (now : Block) (s : Source) → IsAtPrimitive now → programs_of (passed_at now s) ≡ programs_of s
 passed_programs (word line w next) s h = refl
 passed_programs stop s h = refl
@@ -228,15 +240,6 @@ passed_at_end es f g h at same =
     let s : Source = decode (codes_of es) (flat f) in
     let frame : record (flat f) { place = f.place + 1 } ≡ flat g = ap flat (sym same) in
     same_programs es (flat f) (flat g) (passed s) h (subst (λ x. FitsState (codes_of es) x (passed s)) frame (passed_fits h.0 at).0) (passed_programs s.now s at)
-
--- what a frame needs of its items, and what the process needs
-pub needs_at : (r : Result (Unit {0}) MufFault) (count : ℕ) (f : Shown) (s : Source) → locked_by (flat f).marks ≡ locked_of s.marks → map view f.stack ≡ s.stack → MatchResult r (λ _. locked_by (flat f).marks + count ≤ length f.stack) (λ e. (length f.stack < locked_by (flat f).marks + count) × (e ≡ too_few count (flat f).stack)) → MatchResult r (λ _. locked_of s.marks + count ≤ length s.stack) (λ e. (length s.stack < locked_of s.marks + count) × (e ≡ too_few count s.stack))
-needs_at (Ok x) count f s l k h =
-    let n : length s.stack ≡ length f.stack = ap length (sym k) ∙ length-map f.stack view in omega (arith, h, l, n)
-needs_at (Err e) count f s l k h =
-    let n : length s.stack ≡ length f.stack = ap length (sym k) ∙ length-map f.stack view in
-    let m : length f.stack < locked_by (flat f).marks + count = h.0 in
-    (omega (arith, m, l, n), h.1 ∙ ap (too_few count) k)
 
 -- a number among those of a call stack, in either order
 any_number : (k : ℤ) (es : List Entered) → list_any (λ e. int_eq e.program.0 k) es ≡ number_among k (numbers_of es)

@@ -3,10 +3,11 @@
 
 mod begin;
 mod entered;
+mod lending;
 mod running;
-mod stack;
 mod stint;
 
 pub use begin::Occasion;
+pub use lending::Programs;
 pub use running::Running;
 pub use stint::{Ran, Stint};

@@ -1,10 +1,9 @@
 // A program that runs, and what it shows.
-ghost use Rattle.std.specs.Prelude.{◌≡◌, ◌+◌, ◌<◌, ◌≤◌, ◌∷◌, IfOk, drop, length, map, reverse, slice_get, Some, MatchResult, vec_len};
+ghost use Rattle.std.specs.Prelude.{◌≡◌, ◌<◌, ◌≤◌, IfOk, drop, length, map, reverse, slice_get, Some};
 ghost use Rattle.std.specs.Option.{option_map};
-ghost use Rattle.muf_model.specs.Answer.{too_few};
 ghost use Rattle.muf_model.specs.Decode.{tree_of};
 ghost use Rattle.muf_model.specs.Flat.{decode, first_code};
-ghost use Rattle.muf_model.specs.Source.{Source, locked_of, calls_of, passed, entered};
+ghost use Rattle.muf_model.specs.Source.{calls_of, passed, entered};
 ghost use Rattle.muf_model.specs.Stands.{TreeStands};
 ghost use Rattle.muf_model.specs.Chains.{callers_of};
 ghost use Rattle.muf_frame.specs.Shown.{flat};
@@ -14,7 +13,7 @@ use crate::begin::start_of;
 use crate::entered::{Entered, has_program, numbers_below};
 use muck_model::{Dbref, NoMemory, Row};
 use muf_frame::Frame;
-use muf_model::{Code, MufFault, Shared};
+use muf_model::{Code, Shared};
 use std::alloc::Global;
 use std::marker::Model;
 

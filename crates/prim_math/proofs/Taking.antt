@@ -7,7 +7,7 @@ use Rattle.std.proofs.lemmas.List.{length-map}
 use Rattle.muf_model.specs.declared.fault.MufFault.TheVariants.{BadType}
 use Rattle.muf_model.specs.Datum.{Datum, int, object, variable}
 use Rattle.muf_model.specs.Answer.{Answer, refuses, Scope, plain, makes, put, unless, needing}
-use Rattle.muf_model.specs.Needs.{takes, any, an_int, an_object, int_or_object, numbered}
+use Rattle.muf_model.specs.Needs.{takes, an_int, an_object, int_or_object, numbered}
 use Rattle.muf_model.specs.Rows.{used}
 use Rattle.muf_model.specs.NumberRows.{one_int, two_ints, compared, number_of, object_of, objects_equal}
 use Rattle.muf_model.proofs.Views.{view_int, view_object}

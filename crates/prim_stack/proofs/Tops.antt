@@ -7,7 +7,7 @@ use Rattle.std.proofs.lemmas.Option.{slice_get-map}
 use Rattle.muf_model.specs.declared.value.Value.{Value}
 use Rattle.muf_model.specs.View.{view}
 use Rattle.muf_model.specs.StackRows.{is_mark, above, rotated, rotated_up, rotated_down, put_at}
-use Rattle.muf_model.specs.declared.fault.MufFault.TheVariants.{BadType, BadArgument}
+use Rattle.muf_model.specs.declared.fault.MufFault.TheVariants.{BadType}
 use Rattle.muf_model.specs.Datum.{Datum, int}
 use Rattle.muf_model.specs.Answer.{Answer, gives, refuses, needing, Scope, unless}
 use Rattle.muf_model.proofs.Views.{view_int, view_mark}

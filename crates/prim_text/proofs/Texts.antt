@@ -6,7 +6,6 @@ use Rattle.std.specs.Fmt.{decimal, signed_decimal}
 use Rattle.std.specs.Int.Signed.{mag}
 use Rattle.std.proofs.lemmas.Bool.{cases_lt, lt-ltb}
 use Rattle.std.proofs.lemmas.List.Sums.{prefix_len-le-length}
-use Rattle.std.proofs.lemmas.Fmt.{length_signed_le}
 use Rattle.muck_model.specs.Bytes.{is_outside, fault_of, text_fault}
 use Rattle.muf_model.proofs.FaultTexts.{is_inside, IsInside, inside-append, inside-cons, inside-decimal, from_inside}
 

@@ -10,7 +10,12 @@ use std::alloc::Global;
 
 /// The primitives of two texts that make one, the second one on the top.
 #[tactic(auto, using(crate::proofs::Texts::text_steps))]
-pub(crate) fn text_of_two(alloc: Global, prim: Prim, first: &[u8], second: &[u8]) -> Result<Vec<u8>, NoMemory>
+pub(crate) fn text_of_two(
+    alloc: Global,
+    prim: Prim,
+    first: &[u8],
+    second: &[u8],
+) -> Result<Vec<u8>, NoMemory>
     requires first { text_fault first.now ≡ None }
     requires second { text_fault second.now ≡ None }
     ensures value { IfOk result (λ bytes. bytes.items ≡ text_of_two prim first.now second.now) }

@@ -16,7 +16,12 @@ use std::alloc::Global;
 
 // So many items at the top give way to the text of these bytes, where that is short enough.
 #[tactic(auto, using(crate::proofs::Texts::made_is_text))]
-fn give_text(alloc: Global, frame: &mut Frame, taken: usize, bytes: Vec<u8>) -> Result<(), PrimFault>
+fn give_text(
+    alloc: Global,
+    frame: &mut Frame,
+    taken: usize,
+    bytes: Vec<u8>,
+) -> Result<(), PrimFault>
     requires there { taken ≤ length frame.old.stack }
     requires inside { IsInside bytes.items }
     ensures { AppliedOr (put taken (sized bytes.items) (drop taken (flat frame.old).stack)) frame.old frame.new result }

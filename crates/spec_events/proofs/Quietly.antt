@@ -8,11 +8,11 @@ use Rattle.spec_live.specs.declared.mark.Mark.{Mark}
 use Rattle.spec_live.specs.declared.mark.Mark.TheVariants.{Lines, Gone}
 use Rattle.spec_live.specs.Objects.{Entry, dbref_of}
 use Rattle.spec_live.specs.Boards.{Board, editors_closed}
-use Rattle.spec_live.specs.Lives.{Change, tell, tell_player}
+use Rattle.spec_live.specs.Lives.{Change, tell}
 use Rattle.spec_live.proofs.EditorLaws.{editors_closed_kept}
 use Rattle.spec_rights.specs.declared.act.Actor.{Actor}
 use Rattle.spec_rights.specs.declared.act.Act.{Act}
-use Rattle.spec_rights.specs.declared.act.Act.TheVariants.{Shared, Near, Start, Call as CallAct}
+use Rattle.spec_rights.specs.declared.act.Act.TheVariants.{Shared, Start, Call as CallAct}
 use Rattle.spec_rights.specs.Verdict.{verdict}
 use Rattle.spec_rights.specs.Asking.{refused}
 use Rattle.spec_rights.proofs.Licences.{Quiet, tie, ties, quiet_unchanged}
@@ -20,12 +20,16 @@ use Rattle.spec_rights.proofs.Shown.{quiet_tell, quiet_tell_player, quiet_refuse
 use Rattle.muf_model.specs.declared.fault.MufFault.TheVariants.{CallsFull, BadType, NoSuchObject}
 use Rattle.muf_model.specs.Answer.{too_few}
 use Rattle.muf_model.specs.declared.prims.Primitive.{Primitive as Name}
-use Rattle.muf_model.specs.declared.prims.Primitive.TheVariants.{Notify, Call}
+use Rattle.muf_model.specs.declared.prims.Primitive.TheVariants.{Call}
+use Rattle.muf_model.specs.Prims.{level_of}
 use Rattle.muf_model.specs.Datum.{Datum, text, object}
 use Rattle.muf_model.specs.Tree.{Definition, Tree}
-use Rattle.muf_model.specs.Source.{Program, Source, last_word, entered}
+use Rattle.muf_model.specs.Source.{Program, Source, last_word, entered, locked_of}
 use Rattle.muf_model.specs.Unit.{Outcome, goes, ended, faulted, asks, unit, fault}
 use Rattle.muf_model.specs.Chains.{Deed, does, fails, Finish, over, broke, chain, chained, after_deed, raised}
+use Rattle.spec_prims.specs.Asking.{numbered}
+use Rattle.spec_prims.specs.Row.{Row, gives, refuses}
+use Rattle.spec_prims.proofs.Quiet.{Keeps, shared_keeps}
 use Rattle.muck_library.specs.declared.flaw.Flaw.{Flaw}
 use Rattle.muck_library.specs.Programs.{built_tree}
 use Rattle.muck_library.specs.Library.{Library, formed}
@@ -35,7 +39,7 @@ use Rattle.spec_events.specs.declared.starting.Agent.{Agent}
 use Rattle.spec_events.specs.declared.starting.Call.{Call as Started}
 use Rattle.spec_events.specs.World.{World, on_live, on_queue, with_library}
 use Rattle.spec_events.specs.Following.{followed, swept}
-use Rattle.spec_events.specs.Slices.{Doing, numbered, acting, needing, permitted_by, permitted, existing, programmed, behind, notify_items, notified, call_count, called_word, word_entered, form_entered, form_called, program_called, call_items, called, deed, finish_shown, with_finish, agent_of, ran, sliced}
+use Rattle.spec_events.specs.Slices.{Doing, acting, lifted, row_done, needing, permitted_by, permitted, existing, programmed, behind, call_count, called_word, word_entered, form_entered, form_called, program_called, call_items, called, deed, finish_shown, with_finish, agent_of, ran, sliced}
 use Rattle.spec_events.specs.Starting.{not_compiled, too_many, beginning, new_process, joined, word_started, form_started, built_started, start_judged, launched}
 use Rattle.spec_events.specs.Lines.{compiled_so, compiled}
 
@@ -117,14 +121,14 @@ quiet_programmed : (d : ℤ) (go : Doing) → IsQuiet go → IsQuiet (programmed
 unfolding programmed
 quiet_programmed d go p w = either_deed _ w (go w) (fails BadType w) (p w) (quietly_same w)
 
-quiet_notify_items : (x : Agent) (s : Source) (stack : List Datum) → IsQuiet (notify_items x s stack)
-quiet_notify_items x s (text t ∷ object d ∷ rest) =
-    quiet_existing d _ (quiet_permitted x s (Near (numbered d)) _ (λ w. quietly_live (tell_player (numbered d) t) (quiet_tell_player (numbered d) t) w))
-quiet_notify_items x s _ = λ w. quietly_same w
+quiet_lifted : (s : Source) (w : World) (row : Row) → Keeps w.live row → DeedQuietly w (lifted s w row)
+quiet_lifted s w (gives stack live) h = record { objects = h.objects; ties = h.ties; tune = h.tune; dead = refl }
+quiet_lifted s w (refuses f) h = quietly_same w
 
-quiet_notified : (x : Agent) (s : Source) → IsQuiet (notified x s)
-unfolding notified
-quiet_notified x s = quiet_needing 2 s _ (quiet_permitted x s (Shared 1) _ (quiet_notify_items x s s.stack))
+quiet_row : (x : Agent) (name : Name) (s : Source) → IsQuiet (row_done x name s)
+unfolding row_done
+quiet_row x name s w =
+    quiet_lifted s w _ (shared_keeps name (acting x s w.live.objects) (locked_of s.marks) s.stack w.live)
 
 quiet_word_entered : (s : Source) (program : Program) (word : Option Definition) → IsQuiet (word_entered s program word)
 quiet_word_entered s program None w = quietly_same w
@@ -155,13 +159,12 @@ quiet_call_items x s _ = λ w. quietly_same w
 
 quiet_called : (x : Agent) (s : Source) → IsQuiet (called x s)
 unfolding called
-quiet_called x s = quiet_needing 1 s _ (quiet_needing (call_count s.stack) s _ (quiet_permitted x s (Shared 1) _ (quiet_call_items x s s.stack)))
+quiet_called x s = quiet_needing 1 s _ (quiet_needing (call_count s.stack) s _ (quiet_permitted x s (Shared (level_of Call)) _ (quiet_call_items x s s.stack)))
 
 quiet_deed : (x : Agent) (name : Name) (s : Source) → IsQuiet (deed x name s)
 unfolding deed
-quiet_deed x Notify s = quiet_notified x s
 quiet_deed x Call s = quiet_called x s
-quiet_deed x _ s = λ w. quietly_same w
+quiet_deed x name s = quiet_row x name s
 
 -- A process that runs.
 

@@ -10,7 +10,7 @@ use Rattle.spec_live.specs.Seen.{signed_text}
 use Rattle.spec_live.specs.Lives.{Change, unchanged, tell_player}
 use Rattle.spec_rights.specs.declared.act.Actor.{Actor}
 use Rattle.spec_rights.specs.declared.act.Act.{Act}
-use Rattle.spec_rights.specs.declared.act.Act.TheVariants.{Shared, Near, Call as CallAct}
+use Rattle.spec_rights.specs.declared.act.Act.TheVariants.{Shared, Call as CallAct}
 use Rattle.spec_rights.specs.Levels.{level, user}
 use Rattle.spec_rights.specs.Verdict.{verdict}
 use Rattle.muf_model.specs.declared.code.Offer.{Offer}
@@ -18,7 +18,8 @@ use Rattle.muf_model.specs.declared.code.Offer.TheVariants.{Nobody, Wizards, All
 use Rattle.muf_model.specs.declared.fault.MufFault.{MufFault}
 use Rattle.muf_model.specs.declared.fault.MufFault.TheVariants.{CallsFull, BadType, NoSuchObject, Denied, NotCompiled, NotPublic}
 use Rattle.muf_model.specs.declared.prims.Primitive.{Primitive as Name}
-use Rattle.muf_model.specs.declared.prims.Primitive.TheVariants.{Notify, Call}
+use Rattle.muf_model.specs.declared.prims.Primitive.TheVariants.{Call}
+use Rattle.muf_model.specs.Prims.{level_of}
 use Rattle.muf_model.specs.Faults.{text_of}
 use Rattle.muf_model.specs.Datum.{Datum, text, object}
 use Rattle.muf_model.specs.Answer.{too_few}
@@ -26,6 +27,9 @@ use Rattle.muf_model.specs.Tree.{Definition, Tree}
 use Rattle.muf_model.specs.Source.{Program, Source, locked_of, calls_of, passed, last_word, entered}
 use Rattle.muf_model.specs.Unit.{calls_most}
 use Rattle.muf_model.specs.Chains.{callers_of, Deed, does, fails, Finish, over, broke, chain}
+use Rattle.spec_prims.specs.Asking.{numbered}
+use Rattle.spec_prims.specs.Row.{Row, gives, refuses}
+use Rattle.spec_prims.specs.Shared.{shared}
 use Rattle.muck_library.specs.Library.{Library, formed}
 use Rattle.muck_queue.specs.declared.process.Process.{Process}
 use Rattle.muck_queue.specs.Queues.{process, without}
@@ -33,9 +37,6 @@ use Rattle.spec_events.specs.declared.starting.Agent.{Agent}
 use Rattle.spec_events.specs.World.{World, on_live, on_queue, with_library}
 
 -- Who acts.
-
-abbrev pub numbered : ℤ → Dbref
-numbered n = record { 0 = n }
 
 abbrev pub callers : Source → List Dbref
 callers s = map (λ p. numbered p.number) (callers_of s.marks)
@@ -48,7 +49,22 @@ acting x s es = record {
   player = x.player;
 }
 
--- The tests that a shared primitive begins with: `go` says how it goes on where they pass.
+-- A shared primitive, in the state at it.
+
+-- the state behind it, with this stack
+abbrev pub behind : List Datum → Source → Source
+behind stack s = passed (record s { stack = stack })
+
+-- what its row makes of the process and of the world
+abbrev pub lifted : Source → World → Row → Deed World
+lifted s w (gives stack live) = does (behind stack s) (record w { live = live })
+lifted s w (refuses f) = fails f w
+
+-- it is done as its row says, by the running program
+unfoldable pub row_done : Agent → Name → Source → World → Deed World
+row_done x p s w = lifted s w (shared p (acting x s w.live.objects) (locked_of s.marks) s.stack w.live)
+
+-- The tests that CALL begins with: `go` says how it goes on where they pass.
 
 abbrev pub Doing : Type 0
 Doing = World → Deed World
@@ -72,19 +88,6 @@ existing d go w = if is_some (object_at (numbered d) w.live.objects) then go w e
 -- a program
 unfoldable pub programmed : ℤ → Doing → Doing
 programmed d go w = if option_map_or (λ o. is_program o.kind) (object_at (numbered d) w.live.objects) false then go w else fails BadType w
-
--- NOTIFY: a text for all connections of a player, and for nobody where the object is none.
-
-abbrev pub behind : List Datum → Source → Source
-behind rest s = passed (record s { stack = rest })
-
-abbrev pub notify_items : Agent → Source → List Datum → Doing
-notify_items x s (text t ∷ object d ∷ rest) =
-    existing d (permitted x s (Near (numbered d)) (λ w. does (behind rest s) (on_live (tell_player (numbered d) t) w)))
-notify_items x s items = λ w. fails BadType w
-
-unfoldable pub notified : Agent → Source → Doing
-notified x s = needing 2 s (permitted x s (Shared 1) (notify_items x s s.stack))
 
 -- CALL: the last word of a program, or a word of it that is offered.
 
@@ -130,13 +133,12 @@ call_items x s (object d ∷ rest) = program_called x s d None rest
 call_items x s items = λ w. fails BadType w
 
 unfoldable pub called : Agent → Source → Doing
-called x s = needing 1 s (needing (call_count s.stack) s (permitted x s (Shared 1) (call_items x s s.stack)))
+called x s = needing 1 s (needing (call_count s.stack) s (permitted x s (Shared (level_of Call)) (call_items x s s.stack)))
 
--- What a shared primitive does. No built program has one of those that aren't there yet.
-unfoldable pub deed : Agent → Name → Source → Doing
-deed x Notify s = notified x s
-deed x Call s = called x s
-deed x _ s = λ w. fails NotCompiled w
+-- What a shared primitive does: CALL enters a program, and every other one has its row.
+unfoldable pub deed : Agent → Name → Source → World → Deed World
+deed x Call s w = called x s w
+deed x p s w = row_done x p s w
 
 -- The end.
 

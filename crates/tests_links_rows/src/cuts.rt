@@ -1,8 +1,8 @@
 // Bytes as lines.
-use crate::words::{add, unfolded};
 use muck_links::LineCutter;
 use muck_model::NoMemory;
 use std::alloc::Global;
+use tests_rows::{add, unfolded};
 
 // The most lines that are shown.
 const LINES_MOST: u32 = 1000;

@@ -1,11 +1,11 @@
 // Links in memory that play a script.
 ghost use Rattle.std.specs.Prelude.{◌≤◌, length};
 
-use crate::words::{Words, add, unfolded};
 use muck_links::{LinkRead, LinkStep, LinkWhat, Links, ScriptLinks};
 use muck_model::{ByteList, NoMemory};
 use std::alloc::Global;
 use std::mem;
+use tests_rows::{Words, add, unfolded};
 
 // The most bytes that a row reads at once.
 const ROOM: usize = 64;
@@ -50,9 +50,8 @@ impl Play {
     }
 
     /// Begins anew.
-    pub fn renew(&mut self) -> Result<(), NoMemory> {
+    pub fn renew(&mut self) {
         *self = Play::new(self.alloc);
-        Ok(())
     }
 
     /// `step AFTER WHAT ..`: a step more.
@@ -87,13 +86,13 @@ impl Play {
         Ok(())
     }
 
-    /// A call of the links, and what it answers.
+    /// A call of the links, and what it answers; false where the word is none.
     pub fn call(
         &mut self,
         out: &mut String,
         word: &[u8],
         words: &mut Words<'_>,
-    ) -> Result<(), NoMemory> {
+    ) -> Result<bool, NoMemory> {
         self.begin();
         match word {
             b"listen" => {
@@ -112,8 +111,8 @@ impl Play {
                 Some(bytes) => add(out, bytes)?,
                 None => out.push_str("no link")?,
             },
-            _ => out.push_str("no such word")?,
+            _ => return Ok(false),
         }
-        Ok(())
+        Ok(true)
     }
 }

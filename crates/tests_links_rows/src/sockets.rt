@@ -1,11 +1,11 @@
 // Links over real sockets, to this machine itself.
-use crate::words::add;
 use muck_links::{Accepted, LinkRead, Links, MioLinks};
 use muck_model::NoMemory;
 use std::alloc::Global;
 use std::io;
 use std::io::{Read, Write};
 use std::net::{Ipv4Addr, Net, SocketAddr, TcpStream};
+use tests_rows::add;
 
 // How many rounds a row waits for the other side: some seconds, where each round waits a millisecond.
 const ROUNDS: u32 = 20_000;

@@ -3,7 +3,6 @@ ghost use Rattle.std.specs.Prelude.{◌≡◌};
 ghost use Rattle.tests_links_rows.specs.Seats.{Rests, Leaves, SameLists};
 
 use crate::book::{Book, enter};
-use crate::words::Words;
 use muck_io::{Rest, YieldRest};
 use muck_model::NoMemory;
 use std::alloc::Global;
@@ -74,14 +73,12 @@ fn filled<W: Threads + Wait + Sync>(rt: &W, alloc: Global, times: u32) -> Result
     Ok(turn.close(seat))
 }
 
-/// `turns N`: how many entries two threads make that make N each.
-pub fn turns<W: Threads + Wait + Sync>(
+/// How many entries two threads make that take turns and make so many each.
+pub fn made<W: Threads + Wait + Sync>(
     rt: &W,
     alloc: Global,
-    out: &mut String,
-    words: &mut Words<'_>,
-) -> Result<(), NoMemory> {
-    let book = filled(rt, alloc, words.number())?;
-    write!(out, "{} and {}", book.first, book.second)?;
-    Ok(())
+    times: u32,
+) -> Result<(u64, u64), NoMemory> {
+    let book = filled(rt, alloc, times)?;
+    Ok((book.first, book.second))
 }

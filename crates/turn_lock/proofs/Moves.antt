@@ -13,7 +13,7 @@ use Rattle.turn_lock.specs.declared.view.Place.{Place}
 use Rattle.turn_lock.specs.declared.view.Place.TheVariants.{Idle, Waits, Holds, Told, Gone}
 use Rattle.turn_lock.proofs.Parts.{parted_set, parted_pass, parted_begin, parted_split, parted_join}
 use Rattle.turn_lock.specs.Histories.{own_of, Has, IsKnown, StartsWith}
-use Rattle.turn_lock.specs.Turns.{total, told, told_of, live, live_of, Rooted, spent_view, left_after, newcomer, taken_in, HasTicket, Stands, Fits, Each, Apart, InSlot, Kept, drew, looked, passed}
+use Rattle.turn_lock.specs.inner.Turns.{total, told, told_of, live, live_of, Rooted, spent_view, left_after, newcomer, taken_in, HasTicket, Stands, Fits, Each, Apart, InSlot, Kept, drew, looked, passed}
 
 module _ {A : Type 0} (f : A → ℕ) where
   total_set : (xs : List A) (i : ℕ) (v w : A) → get_elem? xs i ≡ some v → total f (set xs i w) + f v ≡ total f xs + f w

@@ -9,7 +9,7 @@ use lib.ListN.{get_elem?}
 use Rattle.atomic_table.proofs.Lists.{at_set, set_else, at_snoc, at_longer}
 use Rattle.turn_lock.specs.declared.view.View.{View}
 use Rattle.turn_lock.specs.Histories.{kept, own_of, Has, IsKnown}
-use Rattle.turn_lock.specs.Turns.{live_of, Parted, left_after, newcomer, taken_in, spent_view}
+use Rattle.turn_lock.specs.inner.Turns.{live_of, Parted, left_after, newcomer, taken_in, spent_view}
 
 module _ {E : Type 0} (party : E → ℕ) where
   kept_append : (b : Bool) (e : E) (xs ys : List E) → kept b e xs ++ ys ≡ kept b e (xs ++ ys)

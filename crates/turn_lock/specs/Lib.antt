@@ -1,2 +1,2 @@
 pub mod Histories
-pub mod Turns
+pub mod inner

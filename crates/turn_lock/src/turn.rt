@@ -3,7 +3,7 @@ ghost use Rattle.std.specs.Prelude.{◌≡◌, ◌++◌, ◌≤◌, ◌<◌, ◌
 ghost use lib.ListN.{get_elem?};
 ghost use mathlib.Core.Option.{some};
 ghost use Rattle.turn_lock.specs.Histories.{StartsWith, own_of, Has, IsKnown};
-ghost use Rattle.turn_lock.specs.Turns.{Same, left_after, newcomer, taken_in};
+ghost use Rattle.turn_lock.specs.inner.Turns.{Same, left_after, newcomer, taken_in};
 ghost use Rattle.turn_lock.specs.declared.view.Place.TheVariants.{Idle as AtRest, Holds as HasTurn, Waits as Wanted, Told as Done};
 
 use crate::Story;

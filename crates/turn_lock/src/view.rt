@@ -58,7 +58,7 @@ pub struct Law<T> {
 
 impl<T: Story> TableRule<Option<T>, View<T::Entry, T::Start>, First<T>> for Law<T> {
     ghost use Rattle.std.specs.Prelude.{[], ◌∷◌};
-    ghost use Rattle.turn_lock.specs.Turns.{Kept};
+    ghost use Rattle.turn_lock.specs.inner.Turns.{Kept};
     ghost use Rattle.turn_lock.specs.declared.view.Place.TheVariants.{Idle};
 
     ghost holds = { λ _. Kept T.history T.party T.start };
@@ -72,7 +72,7 @@ pub(crate) struct Draw<T> {
 }
 
 impl<T: Story> Play<Option<T>, View<T::Entry, T::Start>> for Draw<T> {
-    ghost use Rattle.turn_lock.specs.Turns.{drew};
+    ghost use Rattle.turn_lock.specs.inner.Turns.{drew};
 
     ghost then = { drew T.history T.party T.start };
 }
@@ -83,7 +83,7 @@ pub(crate) struct Look<T> {
 }
 
 impl<T: Story> Play<Option<T>, View<T::Entry, T::Start>> for Look<T> {
-    ghost use Rattle.turn_lock.specs.Turns.{looked};
+    ghost use Rattle.turn_lock.specs.inner.Turns.{looked};
 
     ghost then = { looked T.history T.party T.start };
 }
@@ -94,7 +94,7 @@ pub(crate) struct Pass<T> {
 }
 
 impl<T: Story> Play<Option<T>, View<T::Entry, T::Start>> for Pass<T> {
-    ghost use Rattle.turn_lock.specs.Turns.{passed};
+    ghost use Rattle.turn_lock.specs.inner.Turns.{passed};
 
     ghost then = { passed T.history T.party T.start };
 }
@@ -116,7 +116,7 @@ pub(crate) struct ForParty<N> {
 }
 
 impl<N: PartyNamed, E, B> Split<View<E, B>> for ForParty<N> {
-    ghost use Rattle.turn_lock.specs.Turns.{left_after, newcomer};
+    ghost use Rattle.turn_lock.specs.inner.Turns.{left_after, newcomer};
 
     ghost left = { left_after N.party };
 
@@ -127,7 +127,7 @@ impl<N: PartyNamed, E, B> Split<View<E, B>> for ForParty<N> {
 pub(crate) struct TakesIn;
 
 impl<E, B> Join<View<E, B>> for TakesIn {
-    ghost use Rattle.turn_lock.specs.Turns.{taken_in, spent_view};
+    ghost use Rattle.turn_lock.specs.inner.Turns.{taken_in, spent_view};
 
     ghost both = { taken_in };
 

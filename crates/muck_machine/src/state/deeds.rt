@@ -1,24 +1,30 @@
 // What shared primitives do.
-ghost use Rattle.std.specs.Prelude.{◌≡◌, ◌≤◌, ◌<◌, ◌&&◌, drop, length, true, false, is_some, IfOk, OnOk, Some, MatchResult};
+ghost use Rattle.std.specs.Prelude.{◌≡◌, ◌+◌, ◌≤◌, ◌<◌, ◌&&◌, drop, length, true, false, is_some, IfOk, Some, MatchResult};
 ghost use Rattle.std.specs.List.{position};
 ghost use Rattle.std.specs.Option.{option_map, option_map_or, option_copied};
 ghost use Rattle.std.specs.Str.{bytes_eq};
 ghost use Rattle.std.specs.Char.{to_ascii_lowercase};
 ghost use Rattle.spec_live.specs.Objects.{object_at, is_program};
 ghost use Rattle.spec_rights.specs.Verdict.{verdict};
+ghost use Rattle.muf_model.specs.Answer.{too_few};
 ghost use Rattle.muf_model.specs.Decode.{tree_of};
-ghost use Rattle.muf_model.specs.Source.{last_word};
+ghost use Rattle.muf_model.specs.Flat.{Flat};
+ghost use Rattle.muf_model.specs.Source.{Source, last_word, locked_of, passed};
+ghost use Rattle.muf_frame.specs.Shown.{Shown, flat, locked_by};
 ghost use Rattle.muf_running.specs.Fitting.{IsAtPrimitive};
+ghost use Rattle.muf_running.specs.Lending.{Apart, Differs, with_frame};
+ghost use Rattle.spec_prims.specs.Shared.{shared};
 ghost use Rattle.muck_library.specs.Library.{formed};
-ghost use Rattle.spec_events.specs.Slices.{acting, behind, call_count, called, called_word, deed, form_called, is_offered, notified};
+ghost use Rattle.spec_events.specs.Slices.{acting, behind, call_count, called, called_word, deed, form_called, is_offered, row_done};
 ghost use Rattle.spec_events.specs.declared.starting.Agent.{Agent};
-ghost use Rattle.muck_machine.specs.Deeds.{asked_of, told_of, target, Does, DoneAs, Enters, IsWord, MayEnter, Permits};
+ghost use Rattle.muck_machine.specs.Deeds.{asked_of, target, AppliedTo, DoneAs, Enters, IsWord, MayEnter, PassesOn, Permits};
 
 use crate::state::State;
-use muck_model::{Dbref, Kind, Line, NoMemory};
-use muck_perm::{MASTER, level, user, verdict};
-use muf_model::{CALLS_MOST, Code, CodeWord, MufFault, Offer, Prim, Shared};
-use muf_running::Running;
+use muck_model::{Dbref, Kind, NoMemory};
+use muck_perm::{Guard, MASTER, level, user, verdict};
+use muf_frame::{Frame, PrimFault};
+use muf_model::{CALLS_MOST, Code, CodeWord, Family, MufFault, Offer, Prim, Shared, Text};
+use muf_running::{Programs, Running};
 use spec_events::Agent;
 use spec_rights::{Act, Actor};
 use std::alloc::Global;
@@ -66,7 +72,7 @@ impl From<NoMemory> for DeedFault {
 #[derive(Drop)]
 struct Request<'a> {
     program: Dbref,
-    name: Option<&'a Line>,
+    name: Option<&'a Text>,
     items: usize,
 }
 
@@ -81,26 +87,43 @@ struct Entrance {
 
 impl State {
     /// Does the shared primitive that comes next in a process.
-    #[tactic(auto, unfolding(spec_events::specs::Slices::deed), using(crate::proofs::Deeds::other_deed))]
+    #[tactic(auto, unfolding(spec_events::specs::Slices::deed), using(crate::proofs::Deeds::row_deed))]
     pub fn do_deed(&mut self, agent: Agent, prim: Prim, running: Running) -> Result<Done, NoMemory>
         requires { IsAtPrimitive running.now }
         ensures { IfOk result (λ done. DoneAs (deed agent prim running self.old) running self.new done) }
     {
         match prim {
-            Prim::Notify => self.do_notify(agent, running),
             Prim::Call => self.do_call(agent, running),
-            _ => Ok(Done::Fails(running, MufFault::NotCompiled)),
+            _ => self.do_row(agent, prim, running),
         }
     }
 
-    fn do_notify(&mut self, agent: Agent, running: Running) -> Result<Done, NoMemory>
+    // A primitive that has a row: the world and the frame of the process are lent to it.
+    #[tactic(auto, unfolding(spec_events::specs::Slices::row_done))]
+    fn do_row(&mut self, agent: Agent, prim: Prim, running: Running) -> Result<Done, NoMemory>
         requires { IsAtPrimitive running.now }
-        ensures { IfOk result (λ done. DoneAs (notified agent running self.old) running self.new done) }
+        ensures { IfOk result (λ done. DoneAs (row_done agent prim running self.old) running self.new done) }
     {
-        match self.notify(agent, &running) {
-            Ok(()) => Ok(Done::Does(behind(running, 2))),
-            Err(DeedFault::Fault(fault)) => Ok(Done::Fails(running, fault)),
-            Err(DeedFault::NoMemory) => Err(NoMemory),
+        let actor = self.actor(agent, &running)?;
+        let (programs, mut frame) = running.take_apart();
+        match self.apply(prim, actor, &mut frame) {
+            Ok(()) => Ok(Done::Does(passed(programs, frame))),
+            Err(PrimFault::Fault(fault)) => {
+                Ok(Done::Fails(Running::rejoin(programs, frame), fault))
+            }
+            Err(PrimFault::NoMemory) => Err(NoMemory),
+        }
+    }
+
+    // The row of a primitive, by the family that it is of.
+    #[tactic(auto, using(crate::proofs::Deeds::without_row))]
+    fn apply(&mut self, prim: Prim, actor: Actor, frame: &mut Frame) -> Result<(), PrimFault>
+        ensures { AppliedTo (shared prim actor (locked_by (flat frame.old).marks) (flat frame.old).stack self.old.live) frame.old frame.new self.old self.new result }
+    {
+        let mut guard = Guard::new(self.alloc, &mut self.db, &mut self.board, actor);
+        match prim.family() {
+            Family::Talk => prim_talk::apply(prim, &mut guard, frame),
+            _ => Err(PrimFault::Fault(MufFault::NotCompiled)),
         }
     }
 
@@ -118,33 +141,16 @@ impl State {
         }
     }
 
-    // NOTIFY: a text goes to all connections of a player.
-    #[tactic(auto, unfolding(spec_events::specs::Slices::notified, spec_events::specs::Slices::needing, spec_events::specs::Slices::permitted, spec_events::specs::Slices::existing, spec_live::specs::Lives::tell_player))]
-    fn notify(&mut self, agent: Agent, running: &Running) -> Result<(), DeedFault>
-        ensures done { Does (notified agent running.now self.old) (behind (drop 2 running.now.stack) running.now) self.new result }
-        ensures items { OnOk result (2 ≤ length running.now.stack) }
-    {
-        running.need(2)?;
-        let actor = self.actor(agent, running)?;
-        self.permit(&actor, &Act::Shared { level: 1 })?;
-        let Some((player, text)) = told(running) else {
-            return Err(DeedFault::Fault(MufFault::BadType));
-        };
-        self.find(player)?;
-        self.permit(&actor, &Act::Near { object: player })?;
-        self.board.tell_player(player, text.as_slice())?;
-        Ok(())
-    }
-
     // CALL: a word of a program is to be entered.
     #[tactic(auto, unfolding(spec_events::specs::Slices::called, spec_events::specs::Slices::needing, spec_events::specs::Slices::permitted, spec_events::specs::Slices::existing, spec_events::specs::Slices::programmed, spec_events::specs::Slices::program_called))]
     fn call(&mut self, agent: Agent, running: &Running) -> Result<Entrance, DeedFault>
         ensures { Enters (called agent running.now self.old) running.now self.new result }
     {
-        running.need(1)?;
-        running.need(call_count(running))?;
+        need(running, 1)?;
+        need(running, call_count(running))?;
         let actor = self.actor(agent, running)?;
-        self.permit(&actor, &Act::Shared { level: 1 })?;
+        let level = Prim::Call.level();
+        self.permit(&actor, &Act::Shared { level })?;
         let Some(asked) = asked(running) else {
             return Err(DeedFault::Fault(MufFault::BadType));
         };
@@ -233,20 +239,19 @@ impl State {
     }
 }
 
-// The player and the text that NOTIFY finds on the stack.
-fn told(running: &Running) -> Option<(Dbref, &Line)>
-    ensures { option_map (λ p. (p.0.0, p.1.now)) result ≡ told_of running.now.stack }
+// Refused where fewer items stand above the locked part of the stack.
+fn need(running: &Running, count: usize) -> Result<(), MufFault>
+    requires { count ≤ 4294967296 }
+    ensures { MatchResult result (λ _. locked_of running.now.marks + count ≤ length running.now.stack) (λ f. (length running.now.stack < locked_of running.now.marks + count) × (f ≡ too_few count running.now.stack)) }
 {
-    let text = running.text_at(0)?;
-    let player = running.object_at(1)?;
-    Some((player, text))
+    running.frame().need(count)
 }
 
 // How many items CALL takes.
 fn call_count(running: &Running) -> usize
     ensures { result ≡ call_count running.now.stack }
 {
-    match running.text_at(0) {
+    match running.frame().text_at(0) {
         Some(_) => 2,
         None => 1,
     }
@@ -256,9 +261,10 @@ fn call_count(running: &Running) -> usize
 fn asked(running: &Running) -> Option<Request<'_>>
     ensures { option_map (λ a. (a.program.0, (option_copied a.name, a.items))) result ≡ asked_of running.now.stack }
 {
-    match running.text_at(0) {
+    let frame = running.frame();
+    match frame.text_at(0) {
         Some(name) => {
-            let program = running.object_at(1)?;
+            let program = frame.object_at(1)?;
             Some(Request {
                 program,
                 name: Some(name),
@@ -266,7 +272,7 @@ fn asked(running: &Running) -> Option<Request<'_>>
             })
         }
         None => {
-            let program = running.object_at(0)?;
+            let program = frame.object_at(0)?;
             Some(Request {
                 program,
                 name: None,
@@ -280,7 +286,7 @@ fn asked(running: &Running) -> Option<Request<'_>>
 fn called_word(
     alloc: Global,
     code: &Code,
-    name: Option<&Line>,
+    name: Option<&Text>,
     actor: &Actor,
 ) -> Result<Option<usize>, NoMemory>
     ensures { IfOk result (λ at. IsWord (tree_of code.now).words (called_word actor.now (option_copied name.entry) (tree_of code.now)) at) }
@@ -311,16 +317,25 @@ fn is_offered(actor: &Actor, offer: Offer) -> bool
     }
 }
 
+// The process behind the primitive at which it stands.
+fn passed(programs: Programs, frame: Frame) -> Running
+    requires { PassesOn programs (flat frame) }
+    ensures { (f : Flat) (s : Source) → Apart programs f s → Differs f (flat frame) → result ≡ passed (with_frame (flat frame) s) }
+{
+    let mut next = Running::rejoin(programs, frame);
+    next.pass();
+    next
+}
+
 // The process behind a primitive that took so many items.
 fn behind(running: Running, items: usize) -> Running
     requires at { IsAtPrimitive running.now }
     requires items { items ≤ length running.stack }
     ensures { result ≡ behind (drop items running.stack) running }
 {
-    let mut next = running;
-    next.drop_items(items);
-    next.pass();
-    next
+    let (programs, mut frame) = running.take_apart();
+    frame.drop_items(items);
+    passed(programs, frame)
 }
 
 // A word is entered from the state behind CALL.

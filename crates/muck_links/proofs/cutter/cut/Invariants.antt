@@ -1,5 +1,5 @@
 use Rattle.std.proofs.Common.{◌≡◌, ◌++◌, drop}
-use Rattle.muck_links.specs.Cutting.{cut_rest, cut_lines}
+use Rattle.muck_links.specs.inner.Cutting.{cut_rest, cut_lines}
 use Rattle.muck_links.proofs.cutter.cut.Given as goal
 
 abbrev pub invariant-loop-b : goal.invariant-loop-b

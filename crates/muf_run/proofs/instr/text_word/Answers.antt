@@ -11,5 +11,5 @@ returns-in-Err-Fault c =
     let f = c.args.frame.now in
     let answer = primitive c.args.prim (scope_of (length c.args.code.now.words) (flat f)) (flat f).stack in
     let h : (answer ≡ refuses c.in-Err-Fault.refused) × (c.apply.new.frame ≡ f) =
-        subst (λ e. AppliedOr answer f c.apply.new.frame (Err e)) c.in-Err-Fault.field-0-is (c.in-Err-Fault.ensures (length c.args.code.now.words)) in
+    subst (λ e. AppliedOr answer f c.apply.new.frame (Err e)) c.in-Err-Fault.field-0-is (c.in-Err-Fault.ensures (length c.args.code.now.words)) in
     rw (h.0, sym h.1) c.fault.ensures

@@ -1,7 +1,7 @@
-use Rattle.std.proofs.Common.{◌≡◌, ◌+◌, ◌<◌, ◌≤◌, length, map, ap, sym, ◌∙◌, rules}
+use Rattle.std.proofs.Common.{◌+◌, ◌<◌, ◌≤◌, length, ap, sym, ◌∙◌}
 use Rattle.std.proofs.lemmas.List.{length-map}
 use Rattle.muf_model.specs.View.{view}
-use Rattle.muf_model.specs.Answer.{refuses, too_few}
+use Rattle.muf_model.specs.Answer.{refuses}
 use Rattle.muf_frame.specs.Shown.{flat, locked_by}
 use Rattle.muf_frame.specs.Moves.{scope_of}
 use Rattle.prim_stack.proofs.Counts.{count_few, count_fits}

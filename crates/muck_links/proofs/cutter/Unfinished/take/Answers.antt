@@ -1,7 +1,6 @@
-use Rattle.std.proofs.Common.{rules, sym, ap, subst, ◌∙◌}
-use Rattle.std.specs.Prelude.{List, ℕ}
-use Rattle.muck_links.specs.Cutting.{IsLineSoFar}
-use Rattle.muck_links.proofs.Lines.{line_more, never_refused}
+use Rattle.std.proofs.Common.{sym, subst}
+use Rattle.muck_links.specs.inner.Cutting.{IsLineSoFar}
+use Rattle.muck_links.proofs.Lines.{never_refused}
 use Rattle.muck_links.proofs.cutter.Unfinished.take.Goals as goal
 
 pub unreachable-requires : goal.unreachable-requires

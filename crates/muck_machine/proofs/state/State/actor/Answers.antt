@@ -1,5 +1,6 @@
 use Rattle.std.proofs.Common.{rules, ◌≡◌, ap}
-use Rattle.spec_events.specs.Slices.{acting, callers, numbered}
+use Rattle.spec_events.specs.Slices.{acting, callers}
+use Rattle.spec_prims.specs.Asking.{numbered}
 use Rattle.muck_machine.proofs.Deeds.{callers_numbered}
 use Rattle.muck_machine.proofs.state.State.actor.Goals as goal
 

@@ -1,4 +1,4 @@
-use Rattle.std.proofs.Common.{◌≡◌, refl, ap, subst, sym, ◌∙◌}
+use Rattle.std.proofs.Common.{refl}
 use Rattle.std.proofs.lemmas.List.{length-reverse}
 use Rattle.muf_frame.proofs.Tops.{below_height}
 use Rattle.muf_frame.proofs.frame.Frame.cut.Goals as goal

@@ -1,4 +1,4 @@
-use Rattle.std.proofs.Common.{◌≡◌, refl}
+use Rattle.std.proofs.Common.{refl}
 use Rattle.muf_frame.proofs.frame.Frame.new.Goals as goal
 
 pub returns-clause-data : goal.returns-clause-data

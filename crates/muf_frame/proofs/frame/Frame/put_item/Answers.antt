@@ -1,4 +1,4 @@
-use Rattle.std.proofs.Common.{◌≡◌, ◌≤◌, ◌<◌, length, refl, ap, subst, sym, ◌∙◌, arith}
+use Rattle.std.proofs.Common.{length, refl, ap, sym, ◌∙◌, arith}
 use Rattle.muf_frame.proofs.Tops.{inserted}
 use Rattle.muf_frame.proofs.frame.Frame.put_item.Goals as goal
 

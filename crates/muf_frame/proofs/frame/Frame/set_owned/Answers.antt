@@ -1,10 +1,8 @@
-use Rattle.std.proofs.Common.{◌≡◌, ◌<◌, ap, sym, refl, ◌∙◌, length, map, Some, None, arith, rules, is_some, false}
-use Rattle.std.specs.Prelude.{slice_get, slice_set}
+use Rattle.std.proofs.Common.{◌≡◌, ◌<◌, ap, sym, refl, ◌∙◌, length, map, Some, None, rules, is_some}
+use Rattle.std.specs.Prelude.{slice_get}
 use Rattle.std.proofs.lemmas.Option.{slice_get_read, slice_get_past}
-use Rattle.muf_model.specs.View.{view}
-use Rattle.muf_model.specs.Source.{owned_by, with_owned}
 use Rattle.muf_frame.specs.Shown.{flat_owned}
-use Rattle.muf_frame.specs.Owners.{owner_place, owned_values}
+use Rattle.muf_frame.specs.Owners.{owner_place}
 use Rattle.muf_frame.proofs.Owners.{owned_read, owned_found, owned_kept}
 use Rattle.muf_frame.proofs.frame.Frame.set_owned.Goals as goal
 

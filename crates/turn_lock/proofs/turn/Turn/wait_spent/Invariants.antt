@@ -1,5 +1,5 @@
 use Rattle.std.proofs.Common.{◌≡◌}
-use Rattle.turn_lock.specs.Turns.{Same}
+use Rattle.turn_lock.specs.inner.Turns.{Same}
 use Rattle.turn_lock.specs.declared.view.Place.TheVariants.{Told}
 use Rattle.turn_lock.proofs.turn.Turn.wait_spent.Given as goal
 

@@ -1,0 +1,26 @@
+use Rattle.std.proofs.Common.{rules, ◌≡◌, Some, None, sym, ap, ◌∙◌, subst}
+use Rattle.std.specs.Option.{option_map}
+use Rattle.muf_model.specs.Prims.{needs_of, level_of}
+use Rattle.muf_model.specs.Needs.{shown_needs}
+use Rattle.muf_frame.specs.Shown.{flat, locked_by}
+use Rattle.muck_perm.specs.Guards.{world_of}
+use Rattle.prim_talk.specs.Tests.{Passes, IsFixed}
+use Rattle.prim_talk.proofs.Walks.{first_fixed, first_none}
+use Rattle.prim_talk.proofs.ready.ready.Goals as goal
+
+pub test_fixed-requires : goal.test_fixed-requires
+test_fixed-requires c =
+    let needs : needs_of c.args.prim ≡ Some (shown_needs c.in-Some.needs) = ap (λ r. r.needs) (sym c.row-row.ensures) ∙ ap (option_map shown_needs) c.in-Some.is in
+    (subst IsFixed needs c.requires).1
+
+pub returns-in-Some : goal.returns-in-Some
+returns-in-Some c =
+    let needs : needs_of c.args.prim ≡ Some (shown_needs c.in-Some.needs) = ap (λ r. r.needs) (sym c.row-row.ensures) ∙ ap (option_map shown_needs) c.in-Some.is in
+    let level : c.row-row.result.level ≡ level_of c.args.prim = ap (λ r. r.level) c.row-row.ensures in
+    subst (λ o. Passes o c.test_fixed.result) (first_fixed c.args.prim (shown_needs c.in-Some.needs) c.args.guard.now.actor (locked_by (flat c.args.frame.now).marks) (flat c.args.frame.now).stack (world_of c.args.guard.now) needs (subst IsFixed needs c.requires).0)
+    (rw (sym level) c.test_fixed.ensures)
+
+pub returns-in-None : goal.returns-in-None
+returns-in-None c =
+    let needs : needs_of c.args.prim ≡ None = ap (λ r. r.needs) (sym c.row-row.ensures) ∙ ap (option_map shown_needs) c.in-None.is in
+    first_none c.args.prim c.args.guard.now.actor (locked_by (flat c.args.frame.now).marks) (flat c.args.frame.now).stack (world_of c.args.guard.now) needs

@@ -1,0 +1,8 @@
+//! The primitives that talk to players, over a world that is lent and the frame of the program that uses them.
+#![tactic(auto)]
+
+mod ready;
+mod rows;
+mod table;
+
+pub use table::apply;

@@ -1,0 +1,72 @@
+-- No row that is there changes an object, who the connections are, or what is tuned.
+use Rattle.std.proofs.Common.{◌≡◌, ℕ, Bool, true, false, cond, List, [], ◌∷◌, refl, Option, Some, None}
+use Rattle.std.specs.Prelude.{ℤ}
+use Rattle.spec_live.specs.Lives.{Live, Change, tell_player}
+use Rattle.spec_rights.specs.declared.act.Actor.{Actor}
+use Rattle.spec_rights.proofs.Licences.{Quiet, ties}
+use Rattle.spec_rights.proofs.Shown.{quiet_tell_player}
+use Rattle.muf_model.specs.declared.fault.MufFault.{MufFault}
+use Rattle.muf_model.specs.declared.prims.Family.{Family}
+use Rattle.muf_model.specs.declared.prims.Family.TheVariants.{Talk}
+use Rattle.muf_model.specs.declared.prims.Primitive.{Primitive}
+use Rattle.muf_model.specs.declared.prims.Primitive.TheVariants.{Notify}
+use Rattle.muf_model.specs.Datum.{Datum, text, object}
+use Rattle.muf_model.specs.Prims.{family_of}
+use Rattle.spec_prims.specs.Asking.{numbered}
+use Rattle.spec_prims.specs.Row.{Row, gives, refuses, Doing, unless, given_upon}
+use Rattle.spec_prims.specs.Talk.{notified, talk_row}
+use Rattle.spec_prims.specs.Shared.{row_in, shared_row, first_fault, done_by, shared}
+
+pub record Still (w v : Live) : Type 0 where
+  pub objects : v.objects ≡ w.objects
+  pub ties : ties v.board.connections ≡ ties w.board.connections
+  pub tune : v.board.tune ≡ w.board.tune
+
+abbrev pub Keeps : Live → Row → Type 0
+Keeps w (gives items v) = Still w v
+Keeps w (refuses f) = Unit {0}
+
+abbrev IsQuiet : Option Doing → Type 0
+IsQuiet None = Unit {0}
+IsQuiet (Some doing) = (a : Actor) (items : List Datum) (w : Live) → Keeps w (doing a items w)
+
+-- what is made of a world by a change that only shows something
+still : (f : Change) → Quiet f → (w : Live) → Still w (f w)
+still f q w = record { objects = q.objects w; ties = q.ties w; tune = q.tune w }
+
+-- one line for each row
+
+keeps_notified : (a : Actor) (items : List Datum) (w : Live) → Keeps w (notified a items w)
+keeps_notified a (text t ∷ object d ∷ []) w = still (tell_player (numbered d) t) (quiet_tell_player (numbered d) t) w
+keeps_notified a _ w = tt
+
+quiet_talk : (p : Primitive) → IsQuiet (talk_row p)
+quiet_talk Notify = keeps_notified
+quiet_talk _ = tt
+
+-- and all of them
+
+quiet_in : (family : Family) (p : Primitive) → IsQuiet (row_in family p)
+quiet_in Talk p = quiet_talk p
+quiet_in _ p = tt
+
+keeps_if : (b : Bool) (f : MufFault) (items : List Datum) (w v : Live) → Still w v → Keeps w (cond b (refuses f) (gives items v))
+keeps_if true f items w v h = tt
+keeps_if false f items w v h = h
+
+keeps_upon : (rest : List Datum) (w : Live) (row : Row) → Keeps w row → Keeps w (given_upon rest row)
+keeps_upon rest w (gives items v) h = keeps_if _ _ _ w v h
+keeps_upon rest w (refuses f) h = tt
+
+keeps_unless : (o : Option MufFault) (w : Live) (row : Row) → Keeps w row → Keeps w (unless o row)
+keeps_unless None w row h = h
+keeps_unless (Some f) w row h = tt
+
+keeps_done : (doing : Option Doing) (p : Primitive) (a : Actor) (locked : ℕ) (stack : List Datum) (w : Live) → IsQuiet doing → Keeps w (done_by doing p a locked stack w)
+keeps_done None p a locked stack w q = tt
+keeps_done (Some doing) p a locked stack w q =
+    keeps_unless (first_fault p a locked stack w) w _ (keeps_upon _ w _ (q a _ w))
+
+pub shared_keeps : (p : Primitive) (a : Actor) (locked : ℕ) (stack : List Datum) (w : Live) → Keeps w (shared p a locked stack w)
+unfolding shared
+shared_keeps p a locked stack w = keeps_done (shared_row p) p a locked stack w (quiet_in (family_of p) p)

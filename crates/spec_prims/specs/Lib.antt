@@ -1,0 +1,5 @@
+pub mod Asking
+pub mod Row
+pub mod Talk
+pub mod Shared
+pub mod Rows

@@ -1,0 +1,27 @@
+-- What a primitive that reaches the world does.
+use Rattle.std.specs.Prelude.{ℕ, List, ◌++◌, length, nat_lt, if◌then◌else◌, Option, Some, None}
+use Rattle.spec_live.specs.Lives.{Live}
+use Rattle.spec_rights.specs.declared.act.Actor.{Actor}
+use Rattle.muf_model.specs.declared.fault.MufFault.{MufFault}
+use Rattle.muf_model.specs.declared.fault.MufFault.TheVariants.{StackFull}
+use Rattle.muf_model.specs.Datum.{Datum}
+use Rattle.muf_model.specs.Answer.{stack_most}
+
+-- It gives these items, the top first, and leaves this world; or it is refused, and nothing has changed.
+pub data Row : Type 0 where
+  gives : List Datum → Live → Row
+  refuses : MufFault → Row
+
+-- what an actor does by it with the items that it takes, the top first
+abbrev pub Doing : Type 0
+Doing = Actor → List Datum → Live → Row
+
+-- where a test has no fault
+abbrev pub unless : Option MufFault → Row → Row
+unless None row = row
+unless (Some f) row = refuses f
+
+-- what it gives comes upon the rest of the stack, where there is room
+abbrev pub given_upon : List Datum → Row → Row
+given_upon rest (gives items w) = if nat_lt stack_most (length (items ++ rest)) then refuses StackFull else gives (items ++ rest) w
+given_upon rest (refuses f) = refuses f

@@ -1,0 +1,49 @@
+-- Worked rows, which the checker computes.
+use Rattle.std.specs.Prelude.{◌≡◌, ℕ, ℤ, pos, List, [], ◌∷◌, codes, refl}
+use Rattle.spec_live.specs.Objects.{dbref_of, object_at, number_in, kind_in, object_in}
+use Rattle.spec_live.specs.Boards.{first_tune, early_board, told_player}
+use Rattle.spec_live.specs.Lives.{Live, tell_player}
+use Rattle.spec_live.specs.Start.{room_zero, player_one, first_objects}
+use Rattle.spec_rights.specs.declared.act.Actor.{Actor}
+use Rattle.spec_rights.specs.Verdict.{is_near}
+use Rattle.muf_model.specs.declared.fault.MufFault.TheVariants.{StackEmpty, StackLocked, BadType, NoSuchObject, Denied, NotCompiled}
+use Rattle.muf_model.specs.declared.prims.Primitive.TheVariants.{Notify, IsAwake}
+use Rattle.muf_model.specs.Datum.{Datum, int, text, object}
+use Rattle.spec_prims.specs.Asking.{level_fault, is_there, near_fault}
+use Rattle.spec_prims.specs.Row.{gives, refuses}
+use Rattle.spec_prims.specs.Shared.{first_fault, shared}
+
+-- Room Zero and One, and nobody connected
+abbrev pub at_first : Live
+at_first = record { objects = first_objects; board = early_board 0 first_tune }
+
+-- an actor of that level, for the player of that number
+abbrev pub acting_at : ℕ → ℕ → Actor
+acting_at level player = record { level = level; user = dbref_of player; player = dbref_of player }
+
+abbrev pub hello : Datum
+hello = text (codes "hello")
+
+-- a text upon an object of that number
+abbrev pub told : ℕ → List Datum
+told n = hello ∷ object (pos n) ∷ []
+
+rows :
+    -- too few items, also where the rest of the test would fail; and too few of them above the locked part
+    (shared Notify (acting_at 0 1) 0 (int (pos 1) ∷ []) at_first ≡ refuses StackEmpty)
+    × (shared Notify (acting_at 0 1) 1 (int (pos 1) ∷ int (pos 2) ∷ []) at_first ≡ refuses StackLocked)
+    -- the level, before what the items are
+    × (shared Notify (acting_at 0 1) 0 (int (pos 1) ∷ int (pos 2) ∷ []) at_first ≡ refuses (Denied 1))
+    -- what they are, before which are there
+    × (shared Notify (acting_at 1 1) 0 (int (pos 1) ∷ object (pos 7) ∷ []) at_first ≡ refuses BadType)
+    -- which are there, before which are near
+    × (shared Notify (acting_at 1 1) 0 (told 7) at_first ≡ refuses NoSuchObject)
+    -- from afar, at level 1 and above it
+    × (shared Notify (acting_at 1 7) 0 (told 1) at_first ≡ refuses (Denied 2))
+    × (shared Notify (acting_at 2 7) 0 (told 1) at_first ≡ gives [] at_first)
+    -- what is under the items stays
+    × (shared Notify (acting_at 1 1) 0 (hello ∷ object (pos 1) ∷ hello ∷ []) at_first ≡ gives (hello ∷ []) at_first)
+    -- one without a row
+    × (shared IsAwake (acting_at 4 1) 0 (told 1) at_first ≡ refuses NotCompiled)
+unfolding first_tune early_board told_player tell_player object_at number_in kind_in object_in room_zero player_one first_objects is_near level_fault is_there near_fault first_fault shared
+rows = (refl, refl, refl, refl, refl, refl, refl, refl, refl)

@@ -1,0 +1,48 @@
+-- Every primitive that reaches the world by its row: what is asked first, and what it makes of the stack and of the world.
+use Rattle.std.specs.Prelude.{ℕ, List, length, take, drop, Option, Some, None}
+use Rattle.std.specs.Option.{option_or, option_map_or}
+use Rattle.spec_live.specs.Lives.{Live}
+use Rattle.spec_rights.specs.declared.act.Actor.{Actor}
+use Rattle.muf_model.specs.declared.fault.MufFault.{MufFault}
+use Rattle.muf_model.specs.declared.fault.MufFault.TheVariants.{NotCompiled}
+use Rattle.muf_model.specs.declared.prims.Primitive.{Primitive}
+use Rattle.muf_model.specs.declared.prims.Family.{Family}
+use Rattle.muf_model.specs.declared.prims.Family.TheVariants.{Talk}
+use Rattle.muf_model.specs.Datum.{Datum}
+use Rattle.muf_model.specs.Needs.{Needs}
+use Rattle.muf_model.specs.Prims.{family_of, level_of, needs_of}
+use Rattle.muf_model.specs.Ladder.{wanted, ladder, nearby}
+use Rattle.spec_prims.specs.Asking.{level_fault, is_there, near_fault}
+use Rattle.spec_prims.specs.Row.{Row, gives, refuses, Doing, unless, given_upon}
+use Rattle.spec_prims.specs.Talk.{talk_row}
+
+abbrev pub row_in : Family → Primitive → Option Doing
+row_in Talk p = talk_row p
+row_in family p = None
+
+-- the row of a primitive, where there is one
+abbrev pub shared_row : Primitive → Option Doing
+shared_row p = row_in (family_of p) p
+
+-- how many items it takes
+abbrev pub taken : Primitive → List Datum → ℕ
+taken p stack = option_map_or (λ needs. length (wanted needs stack)) (needs_of p) 0
+
+abbrev pub fault_by : Option Needs → ℕ → Actor → ℕ → List Datum → Live → Option MufFault
+fault_by None level a locked stack w = Some NotCompiled
+fault_by (Some needs) level a locked stack w =
+    option_or (ladder level needs (level_fault a w.objects) (is_there w.objects) locked stack) (nearby needs (near_fault a w.objects) stack)
+
+-- The fault of the first test that doesn't pass: the count of the items, the level, what they are, and which of them must
+-- be there and near. No built program has a primitive that isn't there yet.
+unfoldable pub first_fault : Primitive → Actor → ℕ → List Datum → Live → Option MufFault
+first_fault p a locked stack w = fault_by (needs_of p) (level_of p) a locked stack w
+
+abbrev pub done_by : Option Doing → Primitive → Actor → ℕ → List Datum → Live → Row
+done_by None p a locked stack w = refuses NotCompiled
+done_by (Some doing) p a locked stack w =
+    unless (first_fault p a locked stack w) (given_upon (drop (taken p stack) stack) (doing a (take (taken p stack) stack) w))
+
+-- what a primitive makes of a stack of which so many items are locked, and of the world
+unfoldable pub shared : Primitive → Actor → ℕ → List Datum → Live → Row
+shared p a locked stack w = done_by (shared_row p) p a locked stack w

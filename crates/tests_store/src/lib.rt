@@ -1,0 +1,41 @@
+//! Tests of the store's crates: what a run writes byte for byte, what a crash may leave of it, and records.
+#![tactic(auto)]
+
+ghost use Rattle.std.specs.Prelude.{◌<◌, ◌^◌};
+
+#[cfg(test)]
+mod records;
+#[cfg(test)]
+mod runs;
+
+use muck_codec::Batch;
+use muck_disk::Disk;
+use muck_log::{Log, LogFault};
+use muck_model::{Row, Tune};
+use std::alloc::Global;
+
+/// Mounts, and writes a batch without a record, with the tune parameters of the start: what an empty run does.
+pub fn run_once<D: Disk>(
+    alloc: Global,
+    first: &mut D,
+    second: &mut D,
+    most: u64,
+) -> Result<u64, LogFault>
+    requires { most < 2 ^ 63 }
+{
+    let mut log = Log::mount(alloc, first, second, most)?;
+    let batch = Batch {
+        records: Row::new(alloc)?,
+        tune: Tune {
+            instr_slice: 2_000,
+            preempt_units: 20_000,
+            m1_units: 20_000,
+            m2_units: 80_000,
+            process_limit: 400,
+            player_processes: 32,
+            mpi_commands: 2_048,
+            dump_interval: 900,
+        },
+    };
+    log.append(first, second, &batch)
+}
