@@ -1,7 +1,7 @@
 -- A number in decimal is a text.
 use Rattle.std.proofs.Common.{◌≡◌, ℕ, ◌+◌, ◌<◌, ◌≤◌, ◌^◌, suc, true, false, cond, List, [], ◌∷◌, length, Some, None, refl, ◌∙◌, ap, arith}
 use Rattle.std.proofs.lemmas.Bool.{and_parts, le-ltb}
-use Rattle.std.specs.Prelude.{ℤ, pos, negsuc, ◌&&◌, not, nat_lt, if◌then◌else◌}
+use Rattle.std.specs.Prelude.{ℤ, pos, negsuc, not, nat_lt, if◌then◌else◌}
 use lib.Signed.{mag}
 use Rattle.std.specs.List.{list_all, position_or_len}
 use Rattle.std.specs.Fmt.{decimal, signed_decimal}
@@ -21,7 +21,7 @@ none_outside (b ∷ bs) h =
 
 short_text : (bs : List ℕ) → length bs ≤ 40 → position_or_len is_outside bs ≡ length bs → text_fault bs ≡ None
 short_text bs short inside =
-    ap (λ r. fault_of (cond r (Some (position_or_len is_outside bs)) None) (length bs)) (le-ltb _ _ (omega (arith, inside)))
+    ap (λ r. fault_of (cond r (Some (position_or_len is_outside bs)) None) (length bs)) (le-ltb (position_or_len is_outside bs) (length bs) (omega (arith, inside)))
     ∙ ap (λ r. if r then Some text_most else None) (not_above (length bs) 4096 (omega (arith, short)))
   where
     not_above : (n most : ℕ) → n ≤ most → nat_lt most n ≡ false

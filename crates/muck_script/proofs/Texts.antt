@@ -1,5 +1,5 @@
 -- What may come on a connection is a text.
-use Rattle.std.proofs.Common.{◌≡◌, ℕ, true, false, not, ◌&&◌, List, [], ◌∷◌, length, refl, sym, ◌∙◌, ap, arith, Option, Some, None, ltb}
+use Rattle.std.proofs.Common.{◌≡◌, ℕ, true, false, not, List, [], ◌∷◌, length, refl, sym, ◌∙◌, ap, arith, Option, Some, None, ltb}
 use Rattle.std.proofs.lemmas.Bool.{cond-true, cond-false, le-ltb, leb-true, and_parts}
 use Rattle.std.proofs.lemmas.Bool.Decides.{nat_tests}
 use Rattle.std.specs.List.{position, position_or_len, list_all}
