@@ -2,7 +2,7 @@
 ghost use Rattle.std.specs.Prelude.{◌≡◌, ◌↔◌, ◌⊎◌, ℕ, true, false, IfOk, vec_len, map, string_bytes, [], List, Option, ◌≤◌};
 ghost use Rattle.muck_io.specs.Faults.{Rose};
 ghost use Rattle.spec_events.specs.World.{starting};
-ghost use Rattle.spec_events.specs.Histories.{now, extended, AllLicensed};
+ghost use Rattle.spec_events.specs.Histories.{now, extended, AllLawful, AllLicensed};
 ghost use Rattle.muckd.specs.Words.{is_run};
 ghost use Rattle.muckd.specs.Outcome.{status_of, halted, HasRun, HasAnswered, IsWholeRun, IsTranscribed, IsBrokenRun, IsUnbegun, IsFirstOutside, IsInGrammar};
 
@@ -46,27 +46,32 @@ pub fn muckd<S: Source, K: Sink>(
     ensures bad_script { (line : ℕ) → result.why ≡ Why.BadScript line → IsFirstOutside (S.left script.old) line }
 
     // What was written is the transcript of the script on the starting world.
-    ensures transcript { result.why ≡ Why.Fine → IsTranscribed (S.left script.old) (K.written out.old) (K.written out.new) }
+    ensures transcript { result.why ≡ Why.Fine → IsTranscribed starting (S.left script.old) (K.written out.old) (K.written out.new) }
 
-    // The tale is the story of that script, each entry lawful where it stands, and the source was read to its end.
-    ensures history { result.why ≡ Why.Fine → IsWholeRun (S.left script.old) (S.left script.new) (K.written out.old) (K.written out.new) result.tale.entries }
+    // The tale is the story of that script, and the source was read to its end.
+    ensures history { result.why ≡ Why.Fine → IsWholeRun starting (S.left script.old) (S.left script.new) (K.written out.old) (K.written out.new) result.tale.entries }
+
+    // However the call ended, each entry of the tale is lawful where it stands.
+    ensures lawful { AllLawful starting result.tale.entries }
 
     // However the call ended, each entry of the tale changed only what is open where it stands: a line of a player what is
     // open to that player by its rights before the line, and every other entry no object and nothing that is tuned.
     ensures licensed { AllLicensed starting result.tale.entries }
 
-    // A fault is answered only where that count rose in this call; no count of a thing that isn't answered for rose.
+    // A fault is answered only where that count rose in this call; and where it isn't answered it did not rise, so that the
+    // first cause stands.
     ensures read_fault { result.why ≡ Why.ReadFault → Rose (S.faults script.old) (S.faults script.new) }
     ensures write_fault { result.why ≡ Why.WriteFault → Rose (K.faults out.old) (K.faults out.new) }
-    ensures no_fault { result.why ≡ Why.Fine → (S.faults script.new ≡ S.faults script.old) × (K.faults out.new ≡ K.faults out.old) }
+    ensures source_stands { (result.why ≡ Why.ReadFault → ⊥) → S.faults script.new ≡ S.faults script.old }
+    ensures sink_stands { (result.why ≡ Why.WriteFault → ⊥) → K.faults out.new ≡ K.faults out.old }
 
     // Where the run isn't begun, nothing was written and nothing happened.
     ensures nothing_done { (result.why ≡ Why.Usage) ⊎ ((result.why ≡ Why.ReadFault) ⊎ ((line : ℕ) × (result.why ≡ Why.BadScript line))) → IsUnbegun out.old out.new result.tale.entries }
 
     // Where the run broke off, what was written is a front of the transcript, and the tale is a front of the story and how
     // such a run ends: with the porter's halt, or with Died.
-    ensures prefix_written { result.why ≡ Why.WriteFault → IsBrokenRun Why.WriteFault (S.left script.old) (K.written out.old) (K.written out.new) result.tale.entries }
-    ensures prefix_died { result.why ≡ Why.NoMemory → IsUnbegun out.old out.new result.tale.entries ⊎ IsBrokenRun Why.NoMemory (S.left script.old) (K.written out.old) (K.written out.new) result.tale.entries }
+    ensures prefix_written { result.why ≡ Why.WriteFault → IsBrokenRun starting Why.WriteFault (S.left script.old) (S.left script.new) (K.written out.old) (K.written out.new) result.tale.entries }
+    ensures prefix_died { result.why ≡ Why.NoMemory → IsUnbegun out.old out.new result.tale.entries ⊎ IsBrokenRun starting Why.NoMemory (S.left script.old) (S.left script.new) (K.written out.old) (K.written out.new) result.tale.entries }
 
     // Words of `run`, a script inside the grammar and no count that rose: the work is done, or memory was wanted.
     ensures complete { is_run (map string_bytes words.now) ≡ true → (Rose (S.faults script.old) (S.faults script.new) → ⊥) → (Rose (K.faults out.old) (K.faults out.new) → ⊥) → IsInGrammar (S.left script.old) → (result.why ≡ Why.Fine) ⊎ (result.why ≡ Why.NoMemory) }
@@ -85,7 +90,8 @@ pub fn muckd<S: Source, K: Sink>(
 
 // Reads a script and runs it.
 fn run<S: Source, K: Sink>(alloc: Global, script: &mut S, out: &mut K) -> (Why, Tale)
-    ensures { HasAnswered S.left S.faults K.written K.faults result.0 script.old script.new out.old out.new result.1.entries }
+    ensures answers { HasAnswered S.left S.faults K.written K.faults starting result.0 script.old script.new out.old out.new result.1.entries }
+    ensures lawful { AllLawful starting result.1.entries }
 {
     let bytes = match read_all(alloc, script, SCRIPT_MOST + 1) {
         Ok(bytes) => bytes,
@@ -127,7 +133,8 @@ fn stop(world: &mut World)
 
 // Runs a script that was read on the starting world; where the sink fails the world is stopped.
 fn run_acts<K: Sink>(alloc: Global, acts: &[Act], out: &mut K) -> (Why, Tale)
-    ensures { HasRun K.written K.faults result.0 acts.now out.old out.new result.1.entries }
+    ensures run { HasRun K.written K.faults starting result.0 acts.now out.old out.new result.1.entries }
+    ensures lawful { AllLawful starting result.1.entries }
 {
     let Ok((mut world, mut buf)) = begin(alloc) else {
         return (Why::NoMemory, Tale::none());

@@ -1,4 +1,5 @@
-// Code that no source is compiled to: a call of a word that isn't there, and a primitive that isn't there yet.
+// Code that no source is compiled to: a call of a word that isn't there, and a primitive that isn't there yet. Each is a
+// fault, which the TRY catches.
 use crate::first_wrong;
 use muck_model::{Dbref, Line, LineFault, NoMemory, Row};
 use muf_frame::Frame;
@@ -51,9 +52,10 @@ fn words_that_are_not_there(rt: HostRuntime) -> Result<(), NoMemory> {
             .text_at(0)
             .is_some_and(|text| text.as_slice() == b"Invalid address.".as_slice()),
         matches!(stop, Local::Ended),
-        stopped.units() == 1,
+        stopped.units() == 2,
         stopped.len() == 2,
-        stopped.int_at(0) == Some(7),
+        stopped.text_at(0).is_some_and(|text| text.as_slice()
+            == b"Program not compiled.".as_slice()),
     ];
     assert_eq!(rt; first_wrong(&holds), None);
     Ok(())

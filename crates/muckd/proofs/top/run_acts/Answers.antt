@@ -5,21 +5,32 @@ use Rattle.muckd.proofs.top.run_acts.Goals as goal
 pub play-requires-clause-alive : goal.play-requires-clause-alive
 play-requires-clause-alive g c = begun_lives _ c.in-Ok.ensures.0
 
-pub returns-in-Ok-play : goal.returns-in-Ok-play
-returns-in-Ok-play g c = (played_whole _ _ _ _ _ _ c.in-Ok.ensures.0 c.in-Ok-play.ensures.plays c.into_tale.ensures, c.in-Ok-play.ensures.fine)
+pub returns-in-Ok-play-clause-run : goal.returns-in-Ok-play-clause-run
+returns-in-Ok-play-clause-run g c = ((played_whole _ _ _ _ _ _ c.in-Ok.ensures.0 c.in-Ok-play.ensures.plays c.into_tale.ensures).0, c.in-Ok-play.ensures.fine)
 
-pub returns-in-Err-NoMemory : goal.returns-in-Err-NoMemory
-returns-in-Err-NoMemory g c =
+pub returns-in-Ok-play-clause-lawful : goal.returns-in-Ok-play-clause-lawful
+returns-in-Ok-play-clause-lawful g c = (played_whole _ _ _ _ _ _ c.in-Ok.ensures.0 c.in-Ok-play.ensures.plays c.into_tale.ensures).1
+
+pub returns-in-Err-NoMemory-clause-run : goal.returns-in-Err-NoMemory-clause-run
+returns-in-Err-NoMemory-clause-run g c =
     inr (
-      died_off _ _ _ _ _ _ c.in-Ok.ensures.0 (broke_by _ _ _ _ _ _ _ c.in-Err-NoMemory.field-0-is c.in-Err-NoMemory.ensures.plays) c.into_tale-in-Err-NoMemory.ensures,
+      (died_off _ _ _ _ _ _ c.in-Ok.ensures.0 (broke_by _ _ _ _ _ _ _ c.in-Err-NoMemory.field-0-is c.in-Err-NoMemory.ensures.plays) c.into_tale-in-Err-NoMemory.ensures).0,
       c.in-Err-NoMemory.ensures.memory (ap Err c.in-Err-NoMemory.field-0-is),
     )
+
+pub returns-in-Err-NoMemory-clause-lawful : goal.returns-in-Err-NoMemory-clause-lawful
+returns-in-Err-NoMemory-clause-lawful g c =
+    (died_off _ _ _ _ _ _ c.in-Ok.ensures.0 (broke_by _ _ _ _ _ _ _ c.in-Err-NoMemory.field-0-is c.in-Err-NoMemory.ensures.plays) c.into_tale-in-Err-NoMemory.ensures).1
 
 pub stop-requires : goal.stop-requires
 stop-requires g c = (broke_by _ _ _ _ _ _ _ c.in-Err-WriteFault.field-0-is c.in-Err-WriteFault.ensures.plays).alive refl
 
-pub returns : goal.returns
-returns g c = (
-  halted_off _ _ _ _ _ _ _ c.in-Ok.ensures.0 (broke_by _ _ _ _ _ _ _ c.in-Err-WriteFault.field-0-is c.in-Err-WriteFault.ensures.plays) c.stop.ensures c.into_tale-in-Err-WriteFault.ensures,
+pub returns-clause-run : goal.returns-clause-run
+returns-clause-run g c = (
+  (halted_off _ _ _ _ _ _ _ c.in-Ok.ensures.0 (broke_by _ _ _ _ _ _ _ c.in-Err-WriteFault.field-0-is c.in-Err-WriteFault.ensures.plays) c.stop.ensures c.into_tale-in-Err-WriteFault.ensures).0,
   c.in-Err-WriteFault.ensures.write (ap Err c.in-Err-WriteFault.field-0-is),
 )
+
+pub returns-clause-lawful : goal.returns-clause-lawful
+returns-clause-lawful g c =
+    (halted_off _ _ _ _ _ _ _ c.in-Ok.ensures.0 (broke_by _ _ _ _ _ _ _ c.in-Err-WriteFault.field-0-is c.in-Err-WriteFault.ensures.plays) c.stop.ensures c.into_tale-in-Err-WriteFault.ensures).1
