@@ -38,7 +38,7 @@ abbrev pub pick : {A : Type 0} → Bool → A → A → A
 pick true a b = b
 pick false a b = a
 
--- D22: the store that two files hold, or the file and the place that are damaged
+-- the store that two files hold, or the file and the place that are damaged
 unfoldable pub stored : List ℕ → List ℕ → Result Chosen Damage
 stored a b = picked (file_of a) (file_of b)
 
@@ -46,7 +46,7 @@ stored a b = picked (file_of a) (file_of b)
 unfoldable pub must_close : ℕ → List ℕ → Bool
 must_close place file = nat_le (length file) place || (get_or file place 0 == 1)
 
--- R15: a dump opens a new generation in the other file
+-- a dump opens a new generation in the other file
 unfoldable pub opens_new : Held → Bool
 opens_new held = nat_le 64 held.count && nat_lt held.generation (2 ^ 64 - 1)
 
