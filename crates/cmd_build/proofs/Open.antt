@@ -32,5 +32,5 @@ pub plays_open : (d : ℕ) (line : List ℕ) (old new : Guard) (result : Result 
     OnOk result (Licensed old.actor nobody (world_of old) (world_of new))
 plays_open d line old new (Ok outcome) p =
     let P : Guard → Type 0 = λ g. Licensed old.actor nobody (world_of old) (world_of g) in
-    subst P (sym p.0) ((line_open old.actor d line).law (world_of old) tt tt)
+    subst P (sym p.0) (((line_open old.actor d line).law (world_of old)).law tt tt)
 plays_open d line old new (Err e) p = tt

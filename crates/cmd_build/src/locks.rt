@@ -53,7 +53,6 @@ impl<'a> Finder for KeyNames<'a> {
 }
 
 // A lock as it is printed; `None` exactly where that is too long.
-#[tactic(auto, unfolding(muck_model::specs::Bytes::text_most))]
 fn printed(alloc: Global, lock: &Lock) -> Result<Option<Line>, NoMemory>
     ensures { IfOk result (λ text. text ≡ key_kept (Ok lock.now)) }
 {
@@ -81,7 +80,7 @@ fn printed_key(guard: &Guard, key: &Line) -> Result<Option<Line>, NoMemory>
 }
 
 // Keeps a lock by leave, or tells the connection that the key means none.
-#[tactic(auto, unfolding(spec_commands::specs::Replies::bad_key, spec_commands::specs::Replies::locked_reply, spec_live::specs::Lives::reading, muck_model::specs::Bytes::text_most))]
+#[tactic(auto, unfolding(spec_commands::specs::Replies::bad_key, spec_commands::specs::Replies::locked_reply, spec_live::specs::Lives::reading))]
 fn lock_by(guard: &mut Guard, pass: Pass, d: u32, x: Dbref, key: &Line) -> Result<(), NoMemory>
     requires { IsLeave pass (Act.Change x) guard.old }
     ensures { Did (reading (key_read guard.old.actor.player key.now) (lock_kept d x)) guard.old guard.new result }
@@ -106,7 +105,7 @@ pub fn lock(guard: &mut Guard, d: u32, x: Dbref, key: &Line) -> Result<(), NoMem
 }
 
 /// `@unlock`: does away with the lock of an object.
-#[tactic(auto, unfolding(spec_commands::specs::Building::kept, spec_commands::specs::Replies::unlocked_reply, muck_model::specs::Bytes::text_most))]
+#[tactic(auto, unfolding(spec_commands::specs::Building::kept, spec_commands::specs::Replies::unlocked_reply))]
 pub fn unlock(guard: &mut Guard, d: u32, x: Dbref) -> Result<(), NoMemory>
     ensures { Did (kept d guard.old.actor x (codes "lok") [] unlocked_reply) guard.old guard.new result }
 {

@@ -52,7 +52,6 @@ pub fn keep(
 }
 
 // The path of a message, as text.
-#[tactic(auto, unfolding(muck_model::specs::Bytes::text_most))]
 fn path_text(message: Message) -> &'static [u8]
     ensures text { text_fault result.now ≡ None }
     ensures fine { path_fault result.now ≡ None }

@@ -1,7 +1,7 @@
 -- Parts of texts are texts.
-use Rattle.std.proofs.Common.{◌≡◌, ℕ, suc, ◌+◌, Bool, true, false, cond, List, [], ◌∷◌, take, drop, None, refl, sym, subst, ap}
+use Rattle.std.proofs.Common.{◌≡◌, ℕ, suc, ◌+◌, Bool, true, false, cond, List, [], ◌∷◌, take, None, refl, sym, subst, ap}
 use Rattle.std.specs.List.{before_first, after_first, position_or_len}
-use Rattle.muck_model.specs.Bytes.{text_most, text_fault}
+use Rattle.muck_model.specs.Bytes.{text_fault}
 use Rattle.muck_lock.proofs.Places.{text_fault-take, text_fault-drop}
 use Rattle.spec_commands.specs.Texts.{is_space, start_trimmed, before_trimmed, end_trimmed, trimmed}
 use Rattle.spec_commands.specs.declared.shape.Form.{Form}
@@ -48,9 +48,6 @@ before_text p xs h = text_fault-take (position_or_len p xs) xs h
 pub after_text : (p : ℕ → Bool) (xs : List ℕ) → text_fault xs ≡ None → text_fault (after_first p xs) ≡ None
 after_text p xs h = text_fault-drop (position_or_len p xs + 1) xs h
 
-pub rest_text : (n : ℕ) (xs : List ℕ) → text_fault xs ≡ None → text_fault (drop n xs) ≡ None
-rest_text n xs h = text_fault-drop n xs h
-
 left_part_text : (xs : List ℕ) → text_fault xs ≡ None → text_fault (left_part xs) ≡ None
 left_part_text xs h = trimmed_text (before_first is_equals xs) (before_text is_equals xs h)
 
@@ -69,11 +66,10 @@ left_text Full xs h = left_part_text xs h
 left_text OneOrFull xs h = either_text (has_equals xs) _ _ (left_part_text xs h) h
 
 pub right_text : (form : Form) (xs : List ℕ) → text_fault xs ≡ None → text_fault (right_in form xs) ≡ None
-unfolding text_most
 right_text Any xs h = refl
 right_text One xs h = refl
 right_text Two xs h = right_part_text xs h
 right_text Full xs h = right_part_text xs h
 right_text OneOrFull xs h = either_text (has_equals xs) _ _ (right_part_text xs h) refl
 
-pub ruleset parts_are_texts = (trimmed_text, before_text, after_text, rest_text, left_text, right_text)
+pub ruleset parts_are_texts = (trimmed_text, before_text, after_text, text_fault-drop, left_text, right_text)

@@ -67,7 +67,7 @@ fn has_equals(text: &[u8]) -> bool
 }
 
 // Where the first `=` stands, or the length.
-#[tactic(auto, using(spec_commands::proofs::Positions::positions))]
+#[tactic(auto, using(muck_model::proofs::Positions::positions))]
 fn left_len(text: &[u8]) -> usize
     ensures at { result ≡ position_or_len is_equals text.now }
     ensures within { result ≤ length text.now }

@@ -1,5 +1,5 @@
 -- What a player does by a line, or by walking, is licensed.
-use Rattle.std.proofs.Common.{◌≡◌, ℕ, Bool, List, sym, subst, ap, Option, None, Result, Ok, Err, OnOk}
+use Rattle.std.proofs.Common.{ℕ, Bool, List, sym, subst, ap, None, Result, Ok, Err, OnOk}
 use Rattle.muck_model.specs.declared.dbref.Dbref.{Dbref}
 use Rattle.muck_model.specs.declared.memory.NoMemory.{NoMemory}
 use Rattle.spec_live.specs.Objects.{Entry}

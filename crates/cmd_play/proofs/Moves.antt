@@ -2,8 +2,6 @@
 use Rattle.std.proofs.Common.{◌≡◌, ℕ, Bool, true, false, List, refl, sym, ap, ◌∙◌, Option, Some, None, Result, Ok, Err, OnOk, ◌&&◌, ◌||◌}
 use Rattle.std.specs.Option.{option_map_or}
 use Rattle.muck_model.specs.declared.dbref.Dbref.{Dbref}
-use Rattle.muck_model.specs.declared.dbref.Kind.{Kind}
-use Rattle.muck_model.specs.declared.dbref.Kind.TheVariants.{Room, Thing, Exit, Player, Program, Garbage}
 use Rattle.muck_model.specs.declared.memory.NoMemory.{NoMemory}
 use Rattle.spec_live.specs.declared.fault.DbFault.{DbFault}
 use Rattle.spec_live.specs.declared.object.Object.{Object}
@@ -19,7 +17,7 @@ use Rattle.spec_commands.specs.declared.typed.Typed.{Typed}
 use Rattle.spec_commands.specs.declared.word.Message.{Message}
 use Rattle.spec_commands.specs.Going.{may_move, is_carried, both_shown}
 use Rattle.spec_commands.proofs.Showing.{quiet_shown_others}
-use Rattle.spec_commands.proofs.Gone.{quiet_both_shown}
+use Rattle.spec_commands.proofs.Gone.{quiet_both_shown, item_kind}
 use Rattle.muck_perm.specs.declared.rules.Pass.{Pass}
 use Rattle.muck_perm.specs.declared.guard.Guard.{Guard}
 use Rattle.muck_perm.specs.Verdicts.{IsVerdict}
@@ -45,7 +43,7 @@ pub ruleset movings = (was_moved, was_refused)
 -- What is shown changes no object.
 
 quiet_kept : (f : Change) (old new : Guard) → Quiet f → Done f old new → new.db.now ≡ old.db.now
-quiet_kept f old new q e = ap (λ (g : Guard). g.db.now) e ∙ q.objects (world_of old)
+quiet_kept f old new q e = ap (λ (g : Guard). g.db.now) e ∙ (q.law (world_of old)).objects
 
 pub quietly_shown : (player : Dbref) (tail : List ℕ) (old new : Guard) (r : Result (Unit {0}) NoMemory) → Did (shown_others player tail) old new r → OnOk r (new.db.now ≡ old.db.now)
 quietly_shown player tail old new (Ok u) e = quiet_kept _ old new (quiet_shown_others player tail) e
@@ -63,14 +61,6 @@ leave_kept pass act d a typed mine theirs x old new leave e =
     (leave.0 ∙ sym actor, leave.1, rw (actor, objects) leave.2)
 
 -- What is carried is at hand.
-
-item_kind : (k : Kind) → (is_thing k || is_program k) ≡ true → at_hand_kind k ≡ true
-item_kind Thing e = refl
-item_kind Program e = refl
-item_kind Room e = cc
-item_kind Exit e = cc
-item_kind Player e = cc
-item_kind Garbage e = cc
 
 hand_by : (kind item carried here : Bool) → (item ≡ true → kind ≡ true) → (item && carried) ≡ true → (kind && (carried || here)) ≡ true
 hand_by kind true true here f e = rw (f refl) refl

@@ -159,7 +159,7 @@ fn do_words(guard: &mut Guard, d: u32, line: &Line) -> Result<Outcome, NoMemory>
 }
 
 // Any line.
-#[tactic(auto, unfolding(spec_live::specs::Lives::unchanged, spec_commands::specs::Going::ended, spec_commands::specs::Commands::play_line, muck_model::specs::Bytes::text_most))]
+#[tactic(auto, unfolding(spec_live::specs::Lives::unchanged, spec_commands::specs::Going::ended, spec_commands::specs::Commands::play_line))]
 fn do_line(guard: &mut Guard, d: u32, line: &Line) -> Result<Outcome, NoMemory>
     ensures { Plays (play_line d guard.old.actor line.now) guard.old guard.new result }
 {

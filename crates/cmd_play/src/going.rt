@@ -123,7 +123,7 @@ fn walk_home(guard: &mut Guard, d: u32, typed: &Typed, home: Dbref) -> Result<()
 }
 
 /// The player walks home, which others see, and looks; or the world refuses it.
-#[tactic(auto, unfolding(spec_commands::specs::Going::gone_home, spec_commands::specs::Going::gone, spec_commands::specs::Finding::where_so, spec_live::specs::Lives::reading, spec_live::specs::Lives::either, muck_model::specs::Bytes::text_most))]
+#[tactic(auto, unfolding(spec_commands::specs::Going::gone_home, spec_commands::specs::Going::gone, spec_commands::specs::Finding::where_so, spec_live::specs::Lives::reading, spec_live::specs::Lives::either))]
 pub fn go_home(guard: &mut Guard, d: u32) -> Result<(), NoMemory>
     ensures { Did (gone_home d guard.old.actor) guard.old guard.new result }
 {

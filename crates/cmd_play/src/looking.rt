@@ -111,7 +111,6 @@ pub fn look(guard: &mut Guard, d: u32, typed: &Typed) -> Result<(), NoMemory>
 }
 
 /// The player, which has logged in, looks at where it is.
-#[tactic(auto, unfolding(muck_model::specs::Bytes::text_most))]
 pub fn look_first(guard: &mut Guard, d: u32) -> Result<(), NoMemory>
     ensures { Did (looked d guard.old.actor look_typed) guard.old guard.new result }
 {

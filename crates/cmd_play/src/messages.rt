@@ -16,7 +16,6 @@ use spec_commands::{Message, Typed};
 use std::alloc::Global;
 
 // Where a message is kept.
-#[tactic(auto, unfolding(muck_model::specs::Bytes::text_most))]
 fn path_text(message: Message) -> &'static [u8]
     ensures text { text_fault result.now ≡ None }
     ensures fine { path_fault result.now ≡ None }

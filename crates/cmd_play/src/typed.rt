@@ -25,7 +25,6 @@ pub fn typed_of(alloc: Global, word: &[u8], rest: &[u8]) -> Result<Typed, NoMemo
 }
 
 /// A word that stands alone.
-#[tactic(auto, unfolding(muck_model::specs::Bytes::text_most))]
 pub fn word_typed(alloc: Global, word: &[u8]) -> Result<Typed, NoMemory>
     requires { text_fault word.now ≡ None }
     ensures { IfOk result (λ typed. typed ≡ record { word = word.now; rest = [] }) }
@@ -56,7 +55,6 @@ fn front(bytes: &[u8], count: usize) -> &[u8]
 }
 
 // The name of an object; what isn't there has none.
-#[tactic(auto, unfolding(muck_model::specs::Bytes::text_most))]
 fn name_of<'a>(guard: &'a Guard<'_>, x: Dbref) -> &'a [u8]
     ensures name { result.now ≡ name_at x (world_of guard.now) }
     ensures text { text_fault result.now ≡ None }

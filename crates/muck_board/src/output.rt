@@ -4,6 +4,7 @@ ghost use Rattle.std.specs.List.{slice_split};
 ghost use Rattle.std.specs.Option.{option_map_or};
 ghost use Rattle.spec_live.specs.Output.{no_output, sent_form, notice_of, lines_bytes, bytes_of, newest, line_sent, lines_sent, sent, taken};
 ghost use Rattle.muck_board.specs.inner.Pieces.{pieces_after};
+ghost use Rattle.muck_model.specs.Bytes.{text_most};
 
 use crate::piece::Piece;
 use crate::rest::Rest;
@@ -127,7 +128,7 @@ impl Output {
     // With a line more.
     #[tactic(auto, unfolding(spec_live::specs::Output::line_sent, spec_live::specs::Output::queue_most))]
     fn push_line(&mut self, line: &[u8]) -> Result<(), NoMemory>
-        requires { length line.now ≤ 4096 }
+        requires { length line.now ≤ text_most }
         ensures { OnOk result (self.new ≡ line_sent line.now self.old) }
     {
         let piece = Piece::new(self.alloc, line)?;

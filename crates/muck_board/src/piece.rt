@@ -1,6 +1,8 @@
 // A whole line that waits to be sent.
 ghost use Rattle.std.specs.Prelude.{◌≡◌, ◌≤◌, IfOk, length};
 ghost use Rattle.spec_live.specs.Output.{sent_form};
+ghost use Rattle.muck_model.specs.Bytes.{text_most};
+ghost use Rattle.muck_board.specs.inner.Sent.{sent_most};
 
 use muck_model::NoMemory;
 use std::alloc::Global;
@@ -26,7 +28,7 @@ impl Model for Piece {
 impl Piece {
     /// The line, with an end.
     pub fn new(alloc: Global, line: &[u8]) -> Result<Self, NoMemory>
-        requires { length line.now ≤ 4096 }
+        requires { length line.now ≤ text_most }
         ensures { IfOk result (λ p. p ≡ line.now) }
     {
         let mut bytes = Vec::with_capacity(alloc, line.len() + 2)?;
@@ -38,7 +40,7 @@ impl Piece {
     /// The bytes that are sent.
     pub fn sent(&self) -> &[u8]
         ensures bytes { result.now ≡ sent_form self.now }
-        ensures most { length result.now ≤ 4098 }
+        ensures most { length result.now ≤ sent_most }
     {
         &self.bytes
     }

@@ -20,7 +20,7 @@ fn above(connections: &[Connection], d: u32) -> Option<usize>
 }
 
 /// That place, or the length where there is none.
-#[tactic(auto, using(crate::proofs::Positions::positions))]
+#[tactic(auto, using(muck_model::proofs::Positions::positions))]
 pub fn greater_at(connections: &[Connection], d: u32) -> usize
     ensures at { result ≡ position_or_len (λ c. nat_lt d c.number) connections.now }
     ensures within { result ≤ length connections.now }

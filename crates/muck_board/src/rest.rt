@@ -2,6 +2,7 @@
 ghost use Rattle.std.specs.Prelude.{◌≡◌, ◌≤◌, ◌↔◌, IsTrue, [], length, drop};
 ghost use Rattle.spec_live.specs.Output.{sent_form, notice};
 ghost use Rattle.muck_board.specs.inner.Begun.{begun_bytes};
+ghost use Rattle.muck_board.specs.inner.Sent.{sent_most};
 
 use crate::piece::Piece;
 use std::marker::Model;
@@ -27,12 +28,13 @@ pub struct Rest {
 impl Model for Rest {
     ghost use Rattle.std.specs.Prelude.{◌≤◌, List, ℕ, length, drop};
     ghost use Rattle.muck_board.specs.inner.Begun.{begun_bytes};
+    ghost use Rattle.muck_board.specs.inner.Sent.{sent_most};
 
     ghost Value = { List ℕ };
 
     ghost view = { λ r. drop r.from (begun_bytes r.begun) };
 
-    ghost invariant = { λ r. (length (begun_bytes r.begun) ≤ 4098) × (r.from ≤ length (begun_bytes r.begun)) };
+    ghost invariant = { λ r. (length (begun_bytes r.begun) ≤ sent_most) × (r.from ≤ length (begun_bytes r.begun)) };
 }
 
 // All bytes of what was begun.
@@ -71,7 +73,7 @@ impl Rest {
 
     /// The line, of which nothing is taken so far.
     pub fn whole(piece: Piece) -> Rest
-        requires { length (sent_form piece) ≤ 4098 }
+        requires { length (sent_form piece) ≤ sent_most }
         ensures { result ≡ sent_form piece }
     {
         Rest {
@@ -83,7 +85,7 @@ impl Rest {
     /// The bytes.
     pub fn as_slice(&self) -> &[u8]
         ensures bytes { result.now ≡ self.now }
-        ensures most { length self.now ≤ 4098 }
+        ensures most { length self.now ≤ sent_most }
     {
         begun_bytes(&self.begun).split_at(self.from).1
     }

@@ -1,5 +1,5 @@
 -- The digest of a password is a text of 80 hex digits.
-use Rattle.std.proofs.Common.{Err, ◌≡◌, ℕ, ◌+◌, ◌*◌, ◌/◌, ◌%◌, ◌<◌, ◌≤◌, zero, suc, List, [], ◌∷◌, ◌++◌, Option, Some, None, Ok, take, length-take, inl, inr, refl, sym, ◌∙◌, ap, subst, length, length-append, slice_index, arith, Bool, true, false, ◌&&◌}
+use Rattle.std.proofs.Common.{◌≡◌, ℕ, ◌+◌, ◌*◌, ◌/◌, ◌%◌, ◌<◌, ◌≤◌, zero, suc, List, [], ◌∷◌, ◌++◌, Option, Some, None, Ok, take, length-take, inl, inr, refl, sym, ◌∙◌, ap, subst, length, length-append, slice_index, arith, Bool, true, false, ◌&&◌}
 use Rattle.std.proofs.lemmas.Bool.{and_parts, cases_lt}
 use Rattle.std.proofs.lemmas.Bool.Decides.{nat_tests}
 use Rattle.std.proofs.lemmas.List.Elements.{All-nil, All-cons}
@@ -10,9 +10,6 @@ use Rattle.hex.specs.Hex.{IsBytes, encode_with, encode_lower, decode_of, lower_d
 use Rattle.hex.proofs.HexLemmas.{length-encode_with, decode_of-ok}
 use Rattle.sha2.specs.Sha256.{digest_bytes, sha256}
 use Rattle.muck_model.specs.Bytes.{is_outside, text_most, text_fault}
-use Rattle.muck_model.specs.declared.line.LineFault.{LineFault}
-use Rattle.muck_model.specs.declared.line.LineFault.TheVariants.{NotLine, NoMemory}
-use Rattle.muck_model.specs.inner.Text.{IsTextOrFault}
 use Rattle.spec_live.specs.Password.{digest_of}
 use Rattle.muck_db.specs.inner.Limits.{is_digit, IsDigest}
 
@@ -88,8 +85,7 @@ digit_inside : (b : ℕ) → is_digit b ≡ true → is_outside b ≡ true → �
 digit_inside b h o = grind (arith, nat_tests)
 
 -- digits, but not too many, are a text
-pub digits_text : (digits : List ℕ) → AllPass is_digit digits → length digits ≤ 4096 → text_fault digits ≡ None
-unfolding text_most
+pub digits_text : (digits : List ℕ) → AllPass is_digit digits → length digits ≤ text_most → text_fault digits ≡ None
 digits_text digits h le = by_cases (position is_outside digits) refl
   where
     by_cases : (o : Option ℕ) → position is_outside digits ≡ o → text_fault digits ≡ None
@@ -127,7 +123,3 @@ pub digest_text : (salt word digits : List ℕ) → IsBytes salt → length salt
 digest_text salt word digits h le is =
     let P : List ℕ → Type 0 = λ l. text_fault l ≡ None in
     subst P (sym is) (digits_text (digest_of salt word) (digits-digest_of salt word h) (omega (arith, length-digest_of salt word)))
-
-pub not_fault : (bytes : List ℕ) (fault : LineFault) → IsTextOrFault bytes (Err fault) → text_fault bytes ≡ None → ⊥
-not_fault bytes (NotLine at) h none = absurd (cc (h, none))
-not_fault bytes NoMemory h none = h

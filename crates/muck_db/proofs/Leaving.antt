@@ -1,6 +1,7 @@
 -- The steps of recycling, from the table to its entries.
 use Rattle.std.proofs.Common.{◌≡◌, ℕ, ◌<◌, List, [], ◌∷◌, Option, Some, None, Result, Ok, inl, inr, refl, sym, ◌∙◌, ap, subst, length, arith, Bool, true, false, cond, map}
-use Rattle.std.proofs.lemmas.Bool.{cases_eq, false≢true}
+use Rattle.muck_model.proofs.Dbrefs.{eq_same}
+use Rattle.std.proofs.lemmas.Bool.{cases_eq, false≢true, and_parts}
 use Rattle.std.proofs.lemmas.Option.{slice_get-map}
 use Rattle.std.specs.List.{slice_get}
 use Rattle.std.specs.Option.{option_map, option_and_then, option_map_or}
@@ -18,7 +19,6 @@ use Rattle.spec_live.proofs.Lists.{length_map, length_changed, get_changed_same,
 use Rattle.spec_live.proofs.Readers.{entries_ext}
 use Rattle.spec_live.proofs.KindLaws.{place_alive}
 use Rattle.spec_live.proofs.Checks.{alive_known}
-use Rattle.spec_live.proofs.SettingLaws.{same_only, both_true}
 use Rattle.spec_live.proofs.HomeLaws.{IsUntied, is_untied, ordered_untied, list_untied, length_untied, length_sent_home, HomeStep, home_step}
 use Rattle.spec_live.proofs.RecyclingLaws.{consistent_recycled}
 use Rattle.muck_db.specs.declared.slot.Slot.{Slot}
@@ -28,7 +28,7 @@ use Rattle.muck_db.proofs.LimitLaws.{limits_recycled}
 use Rattle.muck_db.proofs.Readers.{length-entries_of, object_in-entries_of, list_in-entries_of, mark_in-entries_of}
 use Rattle.muck_db.proofs.Linked.{chain_over}
 use Rattle.muck_db.proofs.Bridge.{list_is, ends_none, order_chains}
-use Rattle.muck_db.proofs.Writes.{entries_mapped, ends_mapped}
+use Rattle.muck_db.proofs.Writes.{entries_mapped, ends_mapped, on_slot_first}
 
 pub fits_within : (slots : List Slot) (x to : ℕ) → fits_in (entries_of slots) x to ≡ true → to < length slots
 unfolding fits_in
@@ -45,10 +45,6 @@ untied_entry d slots s = by_cases s.object refl
     by_cases : (o : Option Object) → s.object ≡ o → entry_of slots (on_slot (without_ties d) s) ≡ on_object (without_ties d) (entry_of slots s)
     by_cases None e = rw e refl
     by_cases (Some o) e = rw e refl
-
-on_slot_first : (f : Object → Object) (v : Bool) (s : Slot) → first_of v (on_slot f s) ≡ first_of v s
-on_slot_first f true s = refl
-on_slot_first f false s = refl
 
 pub record Untied (d : ℕ) (old new : List Slot) : Type 0 where
   pub order : HasOrder new
@@ -193,8 +189,8 @@ exit_place d k slots h = by_cases (object_at slots k) refl h
     by_cases : (o : Option Object) → object_at slots k ≡ o → option_map_or (is_exit_of d) o false ≡ true → option_and_then (λ (x : Object). index_of x.place) (object_at slots k) ≡ Some d
     by_cases None e q = absurd (false≢true q)
     by_cases (Some o) e q =
-        let both : (is_exit o.kind ≡ true) × (same o.place (dbref_of d) ≡ true) = both_true (is_exit o.kind) (same o.place (dbref_of d)) q in
-        rw e (ap (λ z. index_of z) (same_only o.place (dbref_of d) both.1))
+        let both : (is_exit o.kind ≡ true) × (same o.place (dbref_of d) ≡ true) = and_parts (is_exit o.kind) (same o.place (dbref_of d)) q in
+        rw e (ap (λ z. index_of z) (eq_same o.place (dbref_of d) both.1))
 
 exit_same : (d k : ℕ) (old mid : List Slot) → IsUnlinked d old mid → exit_at d mid k ≡ exit_at d old k
 unfolding exit_at

@@ -1,5 +1,6 @@
 -- Every change keeps a world within its limits.
 use Rattle.std.proofs.Common.{Bor, ◌≡◌, ℕ, ◌<◌, ◌≤◌, ◌^◌, zero, suc, List, [], ◌∷◌, ◌++◌, Option, Some, None, Ok, inl, inr, refl, sym, ◌∙◌, ap, subst, length, arith, Bool, true, false, ◌&&◌, ◌||◌, cond, map}
+use Rattle.muck_model.specs.Bytes.{lines_most}
 use Rattle.std.specs.Prelude.{nat_lt}
 use Rattle.std.proofs.lemmas.Bool.{and_parts, cases_eq}
 use Rattle.std.proofs.lemmas.Bool.Decides.{nat_tests}
@@ -116,7 +117,7 @@ pub limits_leveled : (d : Dbref) (level : ℕ) (es : List Entry) (n : ℕ) → l
 limits_leveled d level es n passed h =
     limits_set (with_level level) n es (λ o l. record { named = l.named; short = l.short; level = level_checked d level es n passed; flags = l.flags; lines = l.lines; digest = l.digest }) h
 
-pub limits_lined : (lines : List (List ℕ)) (n : ℕ) (es : List Entry) → length lines ≤ 4096 → IsWithinLimits es → IsWithinLimits (lines_set lines n es)
+pub limits_lined : (lines : List (List ℕ)) (n : ℕ) (es : List Entry) → length lines ≤ lines_most → IsWithinLimits es → IsWithinLimits (lines_set lines n es)
 limits_lined lines n es few h =
     limits_at n (with_lines lines) es (λ e l. record { named = l.named; short = l.short; level = l.level; flags = l.flags; lines = few; digest = l.digest }) h
 

@@ -36,9 +36,9 @@ record Standing (slots : List Slot) (x : ℕ) : Type 0 where
   there : number_in (entries_of slots) (dbref_of x) ≡ Some x
   rest : behind x (listing (entries_of slots) x) ≡ walk (length slots) (next_at slots) (next_at slots x)
 
-number_is : (es : List Entry) (x : ℕ) → is_garbage (kind_in es x) ≡ false → number_in es (dbref_of x) ≡ Some x
+pub alive_number : (es : List Entry) (x : ℕ) → is_garbage (kind_in es x) ≡ false → number_in es (dbref_of x) ≡ Some x
 unfolding number_in
-number_is es x h = rw h refl
+alive_number es x h = rw h refl
 
 listing_is : (es : List Entry) (x p : ℕ) → place_in es x ≡ Some p → listing es x ≡ list_in (is_exit (kind_in es x)) es p
 unfolding listing
@@ -55,7 +55,7 @@ member_standing slots s v p x m =
     let alive : is_garbage (kind_in es x) ≡ false = standing_alive (kind_in es x) (kind_in es p) (is_vehicle_in es p) (s.ordered.kinds x p place) in
     let list : listing es x ≡ list_at v slots p = listing_is es x p place ∙ ap (λ b. list_in b es p) kind ∙ list_in-entries_of v slots p in
     record {
-      there = number_is es x alive;
+      there = alive_number es x alive;
       rest = ap (λ l. behind x l) list ∙ behind_is (length slots) (next_at slots) (first_at v slots p) (list_at v slots p) x (chain_at slots h v p) m;
     }
 
@@ -239,7 +239,7 @@ places_at es c n o h (Some p) e =
     let known : p < length es = alive_known es p alive in
     let q : (x : Object) × (object_in es p ≡ Some x) = object_there es p known in
     let is : o.place ≡ dbref_of p = index_only o.place p e in
-    let number : number_in es (dbref_of p) ≡ Some p = number_is es p alive in
+    let number : number_in es (dbref_of p) ≡ Some p = alive_number es p alive in
     let P : Dbref → Type 0 = λ z. map dbref_of (walk (length es) (place_in es) (place_in es n)) ≡ upward (scenery_of es) (Some z) in
     subst P (sym is) (
     ap (λ (s : Option ℕ). map dbref_of (walk (length es) (place_in es) s)) place

@@ -99,7 +99,7 @@ on_slot_entry f slots s q = rw q.1 refl
 pub entries_on_slot : (n : ℕ) (f : Object → Object) (slots : List Slot) → is_garbage (kind_at slots n) ≡ false → entries_of (changed_at n (on_slot f) slots) ≡ changed_at n (on_object f) (entries_of slots)
 entries_on_slot n f slots alive = entries_changed n (on_slot f) (on_object f) slots (λ s. refl) (λ s e. on_slot_entry f slots s (alive_slot slots n s e alive))
 
-on_slot_first : (f : Object → Object) (v : Bool) (s : Slot) → first_of v (on_slot f s) ≡ first_of v s
+pub on_slot_first : (f : Object → Object) (v : Bool) (s : Slot) → first_of v (on_slot f s) ≡ first_of v s
 on_slot_first f true s = refl
 on_slot_first f false s = refl
 

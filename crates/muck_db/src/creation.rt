@@ -104,16 +104,6 @@ fn first_home(kind: Kind) -> Dbref
     }
 }
 
-// No text.
-fn no_text(alloc: Global) -> Line
-    ensures { result ≡ [] }
-{
-    match Line::from_vec(Vec::new(alloc)) {
-        Ok(line) => line,
-        Err(_) => unreachable!(),
-    }
-}
-
 // The object that is made at a number.
 #[tactic(auto, unfolding(spec_live::specs::Making::new_object))]
 pub fn new_object(
@@ -144,7 +134,7 @@ pub fn new_object(
         level: 0,
         props,
         lines,
-        digest: no_text(alloc),
+        digest: Line::of_text_vec(Vec::new(alloc)),
     })
 }
 

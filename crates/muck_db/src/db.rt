@@ -16,6 +16,7 @@ ghost use Rattle.muck_lock.specs.Chain.{IsChain};
 ghost use Rattle.muck_db.specs.inner.Limits.{FitsLimits, IsWithinLimits};
 ghost use Rattle.muck_db.specs.inner.Settings.{MaySet, with_setting};
 ghost use Rattle.muck_db.specs.inner.Shown.{is_there, after_in, first_in, next_in, Knows};
+ghost use Rattle.muck_model.specs.Bytes.{lines_most};
 
 use crate::chain::Chain;
 use crate::creation::{check_create, new_object, put_object};
@@ -246,7 +247,7 @@ impl Db {
     /// Sets the source of a program, of which is then to be told. `NoSuchObject` comes where it isn't there, `WrongKind`
     /// for another kind; nothing has changed then.
     pub fn set_lines(&mut self, d: Dbref, lines: LineList) -> Result<(), DbFault>
-        requires { length lines ≤ 4096 }
+        requires { length lines ≤ lines_most }
         ensures { Does (lines_set lines) (lines_check d self.old) self.old self.new result }
     {
         let k = check_program(&self.slots, d)?;

@@ -39,10 +39,7 @@ pub fn digest_text(alloc: Global, salt: &[u8], word: &[u8]) -> Result<Line, NoMe
 {
     let kept = salted(alloc, salt, word)?;
     let digits = hex::encode(alloc, kept.as_slice())?;
-    match Line::from_vec(digits.into_bytes()) {
-        Ok(text) => Ok(text),
-        Err(_) => unreachable!(),
-    }
+    Ok(Line::of_text_vec(digits.into_bytes()))
 }
 
 // The digest of a word under a number as the salt.

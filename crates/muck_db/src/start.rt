@@ -7,31 +7,19 @@ ghost use Rattle.muck_db.specs.inner.Slots.{first_slots};
 
 use crate::password::digest_text;
 use crate::slot::Slot;
-use muck_model::{Dbref, Flags, Kind, Line, LineFault, LineList, NoMemory};
+use muck_model::{Dbref, Flags, Kind, Line, LineList, NoMemory};
 use muck_prop::Props;
 use spec_live::{Object, WIZARD};
 use std::alloc::Global;
 
-// A text of these bytes, which are one.
-fn text(alloc: Global, bytes: &[u8]) -> Result<Line, NoMemory>
-    requires { text_fault bytes.now ≡ None }
-    ensures { IfOk result (λ line. line ≡ bytes.now) }
-{
-    match Line::new(alloc, bytes) {
-        Ok(line) => Ok(line),
-        Err(LineFault::NoMemory) => Err(NoMemory),
-        Err(LineFault::NotLine { .. }) => unreachable!(),
-    }
-}
-
 // Room Zero, below which all rooms are.
-#[tactic(auto, unfolding(spec_live::specs::Start::room_zero, muck_model::specs::Bytes::text_most))]
+#[tactic(auto, unfolding(spec_live::specs::Start::room_zero))]
 fn room_zero(alloc: Global) -> Result<Object, NoMemory>
     ensures { IfOk result (λ o. o ≡ room_zero) }
 {
     Ok(Object {
         kind: Kind::Room,
-        name: text(alloc, b"Room Zero")?,
+        name: Line::of_text(alloc, b"Room Zero")?,
         owner: Dbref(1),
         place: Dbref(-1),
         link: Dbref(-1),
@@ -40,7 +28,7 @@ fn room_zero(alloc: Global) -> Result<Object, NoMemory>
         level: 0,
         props: Props::new(alloc)?,
         lines: LineList::new(alloc)?,
-        digest: text(alloc, b"")?,
+        digest: Line::of_text(alloc, b"")?,
     })
 }
 
@@ -51,13 +39,13 @@ fn first_digest(alloc: Global) -> Result<Line, NoMemory>
 }
 
 // One, who is a wizard.
-#[tactic(auto, unfolding(spec_live::specs::Start::player_one, spec_live::specs::Start::first_digest, muck_model::specs::Bytes::text_most))]
+#[tactic(auto, unfolding(spec_live::specs::Start::player_one, spec_live::specs::Start::first_digest))]
 fn player_one(alloc: Global) -> Result<Object, NoMemory>
     ensures { IfOk result (λ o. o ≡ player_one) }
 {
     Ok(Object {
         kind: Kind::Player,
-        name: text(alloc, b"One")?,
+        name: Line::of_text(alloc, b"One")?,
         owner: Dbref(1),
         place: Dbref(0),
         link: Dbref(-1),

@@ -1,5 +1,6 @@
 -- An editor stays open, and what a line of it does is open to its actor.
 use Rattle.std.proofs.Common.{◌≡◌, ℕ, zero, suc, ◌+◌, ◌-◌, ◌<◌, ◌≤◌, ◌==◌, Bool, true, false, ◌&&◌, cond, nat_lt, nat_le, List, ◌∷◌, ◌++◌, length, take, drop, codes, bytes_eq, Option, Some, None, Result, Ok, Err, IfSome, OnOk, refl, sym, ◌∙◌, ap, subst, slice_get, arith, length-append, length-take-le, length-drop}
+use Rattle.spec_live.proofs.Keeping.{keeps_followed}
 use Rattle.std.proofs.lemmas.Bool.{ltb-true, leb-true, ltb-false}
 use Rattle.std.specs.Option.{option_map, option_and_then, option_map_or}
 use Rattle.muck_model.specs.declared.dbref.Dbref.{Dbref}
@@ -18,7 +19,7 @@ use Rattle.spec_rights.specs.Verdict.{verdict}
 use Rattle.spec_rights.specs.Asking.{answered, asked, refused}
 use Rattle.spec_rights.specs.Changing.{lines_kept}
 use Rattle.spec_rights.specs.Licence.{Licensed, nobody}
-use Rattle.spec_rights.proofs.Licences.{Quiet, quiet_followed}
+use Rattle.spec_rights.proofs.Licences.{Quiet, quiet_order}
 use Rattle.spec_rights.proofs.Lookups.{alive, seen_at, number_is}
 use Rattle.spec_rights.proofs.Shown.{quiet_tell, quiet_refused}
 use Rattle.spec_commands.specs.declared.edit.EditCommand.{EditCommand}
@@ -72,7 +73,7 @@ kept_there x lines w h = by_number (number_in w.objects x) refl
 
 quiet_there : (x : Dbref) (f : Change) → Quiet f → (w : Live) → is_program_at x w ≡ true → is_program_at x (f w) ≡ true
 unfolding is_so
-quiet_there x f q w h = let P : List Entry → Type 0 = λ es. is_there x es ≡ true in subst P (sym (q.objects w)) h
+quiet_there x f q w h = let P : List Entry → Type 0 = λ es. is_there x es ≡ true in subst P (sym (q.law w).objects) h
 
 -- The places of commands.
 
@@ -212,7 +213,7 @@ done_after d a s Quit w e p h = by_verdict (verdict w.objects a (Edit s.program)
   where
     by_verdict : (v : Option Denial) → IsOpenAfter (answered v (λ denial. stepped Left s (followed (refused d denial) (tell d editor_exited))) (stepped Left s (followed (source_kept s.program s.lines) (tell d editor_exited))) w)
     by_verdict None = still_open s (tell d editor_exited) (quiet_tell d editor_exited) (source_kept s.program s.lines w) (kept_open s s.lines w h)
-    by_verdict (Some denial) = still_open s _ (quiet_followed _ _ (quiet_refused d denial) (quiet_tell d editor_exited)) w h
+    by_verdict (Some denial) = still_open s _ (keeps_followed _ _ quiet_order (quiet_refused d denial) (quiet_tell d editor_exited)) w h
 
 some_after : (d : ℕ) (a : Actor) (s : EditState) (command : Option EditCommand) (w : Live) → s.inserting ≡ None → IfSome command (IsWithin (length s.lines)) → IsOpen s w → IsOpenAfter (edit_some d a s command w)
 unfolding stepped

@@ -1,6 +1,7 @@
 -- A number in decimal is a text.
-use Rattle.std.proofs.Common.{◌≡◌, ℕ, ◌+◌, ◌<◌, ◌≤◌, ◌^◌, suc, Bool, true, false, cond, List, [], ◌∷◌, length, Some, None, refl, ◌∙◌, ap, arith}
-use Rattle.std.specs.Prelude.{ℤ, pos, negsuc, ◌&&◌, not, nat_lt, if◌then◌else◌}
+use Rattle.std.proofs.Common.{◌≡◌, ℕ, ◌+◌, ◌<◌, ◌≤◌, ◌^◌, suc, true, false, cond, List, [], ◌∷◌, length, Some, None, refl, ◌∙◌, ap, arith}
+use Rattle.std.proofs.lemmas.Bool.{and_parts, le-ltb}
+use Rattle.std.specs.Prelude.{ℤ, pos, negsuc, not, nat_lt, if◌then◌else◌}
 use lib.Signed.{mag}
 use Rattle.std.specs.List.{list_all, position_or_len}
 use Rattle.std.specs.Fmt.{decimal, signed_decimal}
@@ -12,23 +13,15 @@ use Rattle.muck_lock.proofs.Digits.{digits_of}
 digit_inside : (b : ℕ) → is_digit b ≡ true → is_outside b ≡ false
 digit_inside b h = grind arith
 
-both : (a b : Bool) → (a && b) ≡ true → (a ≡ true) × (b ≡ true)
-both true b h = (refl, h)
-both false b h = cc
-
 none_outside : (bs : List ℕ) → list_all is_digit bs ≡ true → position_or_len is_outside bs ≡ length bs
 none_outside [] h = refl
 none_outside (b ∷ bs) h =
-    let parts = both (is_digit b) (list_all is_digit bs) h in
+    let parts = and_parts (is_digit b) (list_all is_digit bs) h in
     ap (λ r. cond (not r) (1 + position_or_len is_outside bs) 0) (digit_inside b parts.0) ∙ omega (arith, none_outside bs parts.1)
 
-not_less : (a b : ℕ) → a ≡ b → nat_lt a b ≡ false
-not_less a b e = grind arith
-
 short_text : (bs : List ℕ) → length bs ≤ 40 → position_or_len is_outside bs ≡ length bs → text_fault bs ≡ None
-unfolding text_most
 short_text bs short inside =
-    ap (λ r. fault_of (cond r (Some (position_or_len is_outside bs)) None) (length bs)) (not_less _ _ inside)
+    ap (λ r. fault_of (cond r (Some (position_or_len is_outside bs)) None) (length bs)) (le-ltb (position_or_len is_outside bs) (length bs) (omega (arith, inside)))
     ∙ ap (λ r. if r then Some text_most else None) (not_above (length bs) 4096 (omega (arith, short)))
   where
     not_above : (n most : ℕ) → n ≤ most → nat_lt most n ≡ false

@@ -49,7 +49,6 @@ fn path_of(alloc: Global, text: &[u8]) -> Result<Path, NoMemory>
 }
 
 // The path of the directory.
-#[tactic(auto, unfolding(muck_model::specs::Bytes::text_most))]
 fn directory(alloc: Global) -> Result<Path, NoMemory>
     ensures { IfOk result (λ path. path ≡ defs_dir) }
 {

@@ -50,7 +50,7 @@ none_outside [] h = refl
 none_outside (b ∷ bs) h = ap (λ t. cond (not t) (1 + position_or_len is_outside bs) 0) (is_inside b h.0) ∙ omega (arith, none_outside bs h.1)
 
 line_is_text : (line : List ℕ) → IsLineSoFar line → text_fault line ≡ None
-unfolding text_most line_most
+unfolding line_most
 line_is_text line h =
     ap (λ t. model.fault_of (cond t (Some (position_or_len is_outside line)) None) (length line)) (not_below _ _ (none_outside line h.0))
     ∙ ap (λ t. if t then Some text_most else None) (not_above (length line) 4096 (omega (arith, h.1)))

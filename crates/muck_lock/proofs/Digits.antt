@@ -1,26 +1,17 @@
 -- Numbers of objects as they are written: what bytes they have, and that they are read again.
-use Rattle.std.proofs.Common.{◌≡◌, ℕ, ◌+◌, ◌^◌, ◌<◌, ◌≤◌, suc, true, false, List, [], ◌∷◌, length, get_or, Some, refl, ◌∙◌, ap, inl, inr, arith, rules}
+use Rattle.std.proofs.Common.{◌≡◌, ℕ, ◌+◌, ◌^◌, ◌<◌, ◌≤◌, suc, true, false, List, [], ◌∷◌, length, get_or, Some, refl, ◌∙◌, ap, inl, inr, arith}
 use Rattle.std.specs.Prelude.{ℤ, pos, negsuc, ◌==◌, nat_le}
 use Rattle.std.specs.Option.{option_map}
 use Rattle.std.specs.List.{list_all}
 use Rattle.std.specs.Fmt.{decimal, signed_decimal}
 use Rattle.std.proofs.lemmas.Bool.{cases_lt, le-leb, ltb-true, leb-true, ne_eqb}
-use Rattle.std.proofs.lemmas.Fmt.{digits_decimal, digits_value-decimal, decimal_digit, decimal_nonempty, first_decimal}
-use Rattle.std.proofs.lemmas.Str.Parse.{IsNumeralModel, numerals_by_fold}
-use Rattle.muck_model.specs.Decimal.{is_digit, is_decimal, value_from, decimal_of}
+use Rattle.std.proofs.lemmas.Fmt.{decimal_digit, decimal_nonempty, first_decimal}
+use Rattle.muck_model.specs.Decimal.{is_digit, is_decimal, decimal_of}
 use Rattle.muck_model.specs.Numbers.{below, numbered, signed_of, dbref_of}
-use Rattle.muck_model.proofs.Decimals.{decimal_within}
+use Rattle.muck_model.proofs.Decimals.{decimal_within, value_of}
+pub use Rattle.muck_model.proofs.Decimals.{digits_of}
 use Rattle.muck_lock.specs.inner.Made.{is_short}
 use Rattle.muck_lock.proofs.Passes.{and_first, and_rest}
-
-own : IsNumeralModel (λ ds. list_all is_digit ds ≡ true) (value_from 0)
-own = numerals_by_fold _ (search rules) value_from (search rules)
-
-pub digits_of : (n : ℕ) → n < 2 ^ 64 → list_all is_digit (decimal n) ≡ true
-digits_of n h = digits_decimal own n h
-
-value_of : (n : ℕ) → n < 2 ^ 64 → value_from 0 (decimal n) ≡ n
-value_of n h = digits_value-decimal own n h
 
 -- bytes that are digits, of which the first is no 0
 decimal_from : (ds : List ℕ) → list_all is_digit ds ≡ true → 0 < length ds → 48 < get_or ds 0 0 → is_decimal ds ≡ true

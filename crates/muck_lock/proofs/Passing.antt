@@ -1,9 +1,10 @@
 -- One step of reading in one pass leaves the outcome.
-use Rattle.std.proofs.Common.{◌≡◌, ℕ, ◌+◌, ◌-◌, ◌<◌, ◌≤◌, zero, suc, Bool, true, false, List, [], ◌∷◌, ◌++◌, length, take, drop, reverse, Some, None, Option, Result, Ok, Err, add-one, refl, sym, ◌∙◌, ap, subst, arith}
+use Rattle.std.proofs.Common.{◌≡◌, ℕ, ◌+◌, ◌-◌, ◌<◌, ◌≤◌, zero, suc, true, false, List, [], ◌∷◌, ◌++◌, length, take, drop, reverse, Some, None, Option, Result, Ok, Err, add-one, refl, sym, ◌∙◌, ap, subst, arith}
+use Rattle.muck_lock.proofs.Passes.{and_first, and_rest}
 use Rattle.std.specs.Prelude.{not, ◌&&◌, ◌==◌, if◌then◌else◌, slice_get}
 use Rattle.std.specs.List.{before_first, position_or_len}
 use Rattle.std.proofs.lemmas.List.{length-drop, reverse-append, length-reverse, drop-drop, drop_all}
-use Rattle.std.proofs.lemmas.Bool.{false≢true, eqb-true}
+use Rattle.std.proofs.lemmas.Bool.{false≢true, eqb-true, not-true, not-false}
 use Rattle.std.proofs.lemmas.Option.{slice_get_within}
 use Rattle.muck_model.specs.declared.lock.Lock.{Lock}
 use Rattle.muck_model.specs.declared.lock.Lock.TheVariants as locks
@@ -106,33 +107,17 @@ behind Group rest = drop 1 rest
 behind (Both f) rest = rest
 behind (Either f) rest = rest
 
-not_true : (b : Bool) → not b ≡ true → b ≡ false
-not_true true h = absurd (false≢true h)
-not_true false h = refl
-
-not_false : (b : Bool) → not b ≡ false → b ≡ true
-not_false true h = refl
-not_false false h = absurd (false≢true (sym h))
-
-and_left : (a b : Bool) → a && b ≡ true → a ≡ true
-and_left true b h = refl
-and_left false b h = absurd (false≢true h)
-
-and_right : (a b : Bool) → a && b ≡ true → b ≡ true
-and_right true b h = h
-and_right false b h = absurd (false≢true h)
-
 no_and : (o : Option ℕ) (f : Lock) → ends (Both f) o ≡ true → NoAnd o
 no_and None f h = tt
-no_and (Some b) f h = not_true (b == 38) h
+no_and (Some b) f h = not-true (b == 38) h
 
 no_and_either : (o : Option ℕ) (f : Lock) → ends (Either f) o ≡ true → NoAnd o
 no_and_either None f h = tt
-no_and_either (Some b) f h = not_true (b == 38) (and_left (not (b == 38)) (not (b == 124)) h)
+no_and_either (Some b) f h = not-true (b == 38) (and_first (not (b == 38)) (not (b == 124)) h)
 
 no_or : (o : Option ℕ) (f : Lock) → ends (Either f) o ≡ true → NoOr o
 no_or None f h = tt
-no_or (Some b) f h = not_true (b == 124) (and_right (not (b == 38)) (not (b == 124)) h)
+no_or (Some b) f h = not-true (b == 124) (and_rest (not (b == 38)) (not (b == 124)) h)
 
 goes_on : (names : Naming) (w : Waiting) (k : List Waiting) (lock : Lock) (rest : List ℕ) → ends w (ahead_of rest) ≡ true
     → resumed names (w ∷ k) Term (Ok (lock, rest)) ≡ resumed names k Term (Ok (filled w lock, behind w rest))
@@ -185,7 +170,7 @@ is_fault names size (Group ∷ k) lock b rest stays a o =
     ap (λ r. whole size (resumed names k Term (closed r))) (one_of_alone names lock (b ∷ rest) a o)
     ∙ ap (λ t. whole size (resumed names k Term (if t then Ok (lock, rest) else Err (b ∷ rest)))) stays
     ∙ ap (whole size) (resumed_fault names k Term (b ∷ rest))
-is_fault names size (Both f ∷ k) lock b rest stays a o = absurd (false≢true (sym a ∙ not_false (b == 38) stays))
+is_fault names size (Both f ∷ k) lock b rest stays a o = absurd (false≢true (sym a ∙ not-false (b == 38) stays))
 is_fault names size (Either f ∷ k) lock b rest stays a o = absurd (let e : not (b == 38) && not (b == 124) ≡ true = rw (a, o) refl in false≢true (sym stays ∙ e))
 
 -- At the end of the text a lock is whole, unless a `(` waits.

@@ -1,8 +1,7 @@
 -- The first place that passes a test, and texts inside texts.
 use Rattle.std.proofs.Common.{◌≡◌, ℕ, ◌<◌, ◌≤◌, Bool, true, false, cond, List, length, take, drop, Some, None, refl, sym, ◌∙◌, ap, inl, inr, arith}
 use Rattle.std.specs.Prelude.{not, ◌==◌}
-use Rattle.std.specs.Option.{unwrap_or}
-use Rattle.std.specs.List.{position, position_or_len}
+use Rattle.std.specs.List.{position_or_len}
 use Rattle.std.proofs.lemmas.Bool.{cases_lt, lt-ltb, le-ltb, cases_eq, false≢true}
 use Rattle.std.proofs.lemmas.List.{length-take, length-drop}
 use Rattle.std.proofs.lemmas.List.Sums.{prefix_len-le-length}
@@ -12,18 +11,6 @@ use Rattle.muck_model.specs.declared.line.LineFault.TheVariants.{NotLine, NoMemo
 use Rattle.std.proofs.Common.{Err}
 use Rattle.muck_lock.proofs.Passes.{Passes, passes-take, passes-drop}
 use Rattle.muck_model.specs.Bytes.{is_outside, text_most, fault_of, text_fault}
-
-pub position_or_end : (p : ℕ → Bool) (xs : List ℕ) → unwrap_or (position p xs) (length xs) ≡ position_or_len p xs
-position_or_end p xs =
-    elim (cases_lt (position_or_len p xs) (length xs)) [
-      | inl inside ↦ rw (lt-ltb (position_or_len p xs) (length xs) inside) refl
-      | inr past ↦ rw (le-ltb (position_or_len p xs) (length xs) past) (omega (arith, past, prefix_len-le-length (λ x. not (p x)) xs))
-    ]
-
-pub position_or_len-within : (p : ℕ → Bool) (xs : List ℕ) → position_or_len p xs ≤ length xs
-position_or_len-within p xs = prefix_len-le-length (λ x. not (p x)) xs
-
-pub ruleset ends = (position_or_end, position_or_len-within)
 
 abbrev pub is_inside : ℕ → Bool
 is_inside b = not (is_outside b)

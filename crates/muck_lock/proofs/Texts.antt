@@ -1,14 +1,14 @@
 -- The text of a lock answers as the lock does that it is read as.
-use Rattle.std.proofs.Common.{◌≡◌, ℕ, ◌<◌, ◌+◌, arith, zero, suc, Bool, true, false, cond, not, ◌&&◌, ◌||◌, ◌==◌, List, [], ◌∷◌, length, drop, Option, Some, None, Result, Ok, Err, refl, sym, subst, ◌∙◌, ap}
-use Rattle.std.specs.Option.{option_map, option_and_then}
+use Rattle.std.proofs.Common.{◌≡◌, ℕ, ◌<◌, ◌+◌, arith, zero, suc, Bool, true, false, cond, not, ◌&&◌, ◌||◌, ◌==◌, List, [], ◌∷◌, length, drop, Option, Some, None, Ok, Err, refl, sym, subst, ◌∙◌, ap}
+use Rattle.std.specs.Option.{option_map}
 use Rattle.std.specs.List.{before_first, position_or_len}
 use Rattle.muck_model.specs.declared.dbref.Dbref.{Dbref}
 use Rattle.muck_model.specs.declared.lock.Lock.{Lock}
-use Rattle.muck_model.specs.declared.lock.Lock.TheVariants.{Free, Object, Prop, Not, Both, Either}
+use Rattle.muck_model.specs.declared.lock.Lock.TheVariants.{Object, Prop, Not, Both, Either}
 use Rattle.muck_lock.specs.declared.part.Part.{Part}
 use Rattle.muck_lock.specs.declared.part.Part.TheVariants.{OneOf, AllOf, Term}
 use Rattle.muck_lock.specs.Paths.{is_path}
-use Rattle.muck_lock.specs.Grammar.{Reading, ends_key, object_key, property_key, key_of, key_or_fault, key_in, negated, closed_by, closed, with_first, followed, joined, term_in, all_of_in, one_of_in, part_in, part_of, reading, whole_of, whole, lock_of}
+use Rattle.muck_lock.specs.Grammar.{Reading, ends_key, object_key, property_key, key_of, key_or_fault, key_in, negated, closed_by, closed, with_first, followed, joined, term_in, all_of_in, one_of_in, part_of, reading, whole_of, whole}
 use Rattle.muck_lock.specs.Opens.{Holdings, object_opens, property_opens, opens_step, opens_for}
 use Rattle.muck_lock.specs.Answers.{no_names, lock_opens, text_opens}
 use Rattle.muck_lock.specs.inner.Answers.{Answer, key_opens, key_answer, negated_answer, closed_pair, closed_answer, joined_by, followed_pair, followed_answer, term_answer, all_answer, one_answer, part_in_answer, part_answer, whole_opens}

@@ -1,14 +1,7 @@
 -- The lists of contents, as they are walked.
-use Rattle.std.specs.Prelude.{◌≡◌, negsuc, Bool, true, false, List, [], ◌∷◌}
-use Rattle.std.specs.Ordering.{int_eq}
+use Rattle.std.specs.Prelude.{◌≡◌, true, false, List, [], ◌∷◌}
 use Rattle.muck_model.specs.declared.dbref.Dbref.{Dbref}
-
-abbrev pub same : Dbref → Dbref → Bool
-same a b = int_eq a.0 b.0
-
--- `#-1`
-abbrev pub nothing : Dbref
-nothing = record { 0 = negsuc 0 }
+pub use Rattle.muck_model.specs.Dbrefs.{same, nothing}
 
 -- The chain that begins there is this list: each leads to the one behind it, and the last to nothing.
 unfoldable pub IsChain : (Dbref → Dbref) → Dbref → List Dbref → Type 0

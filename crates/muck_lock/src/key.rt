@@ -4,10 +4,10 @@ ghost use Rattle.std.specs.List.{position, position_or_len};
 ghost use Rattle.muck_model.specs.Bytes.{text_fault};
 ghost use Rattle.muck_model.specs.declared.dbref.Dbref.{Dbref};
 ghost use Rattle.muck_lock.specs.Naming.{naming};
-ghost use Rattle.muck_lock.specs.Grammar.{ends_key, is_colon, key_of, object_key, property_key};
+ghost use Rattle.muck_lock.specs.Grammar.{ends_key, key_of, object_key, property_key};
 
 use crate::path::is_path;
-use muck_model::{Dbref, Line, Lock, NoMemory};
+use muck_model::{Dbref, Line, Lock, NoMemory, byte_at};
 use std::alloc::Global;
 
 /// What names in a text of a lock stand for. No call takes memory.
@@ -33,18 +33,12 @@ fn first_end(text: &[u8]) -> Option<usize>
 }
 
 // Where the key that begins the text ends.
-#[tactic(auto, using(crate::proofs::Places::ends))]
+#[tactic(auto, using(muck_model::proofs::Positions::positions))]
 pub fn key_end(text: &[u8]) -> usize
     ensures place { result ≡ position_or_len ends_key text.now }
     ensures within { result ≤ length text.now }
 {
     first_end(text).unwrap_or(text.len())
-}
-
-pub fn colon(key: &[u8]) -> Option<usize>
-    ensures { result ≡ position is_colon key.now }
-{
-    key.iter().position(|b| *b == b':')
 }
 
 // An object as a key, where it is no program.
@@ -58,17 +52,6 @@ fn object_key<F: Finder>(finder: &F, d: Option<Dbref>) -> Option<Lock>
     Some(Lock::Object(d))
 }
 
-// The bytes of a text as a text of their own.
-fn line_of(alloc: Global, bytes: &[u8]) -> Result<Line, NoMemory>
-    requires { text_fault bytes.now ≡ None }
-    ensures { IfOk result (λ line. line ≡ bytes.now) }
-{
-    match Line::new(alloc, bytes) {
-        Ok(line) => Ok(line),
-        Err(_) => Err(NoMemory),
-    }
-}
-
 fn property_key(alloc: Global, path: &[u8], value: &[u8]) -> Result<Option<Lock>, NoMemory>
     requires path { text_fault path.now ≡ None }
     requires value { text_fault value.now ≡ None }
@@ -77,8 +60,8 @@ fn property_key(alloc: Global, path: &[u8], value: &[u8]) -> Result<Option<Lock>
     if !is_path(path) {
         return Ok(None);
     }
-    let path = line_of(alloc, path)?;
-    let value = line_of(alloc, value)?;
+    let path = Line::of_text(alloc, path)?;
+    let value = Line::of_text(alloc, value)?;
     Ok(Some(Lock::Prop { path, value }))
 }
 
@@ -87,7 +70,7 @@ fn name_key<F: Finder>(alloc: Global, finder: &F, name: &[u8]) -> Result<Option<
     requires { text_fault name.now ≡ None }
     ensures { IfOk result (λ lock. lock ≡ object_key (naming (F.found finder.now) (F.programs finder.now)) (F.found finder.now name.now)) }
 {
-    let name = line_of(alloc, name)?;
+    let name = Line::of_text(alloc, name)?;
     Ok(object_key(finder, finder.find(&name)))
 }
 
@@ -101,7 +84,7 @@ pub fn read_key<F: Finder>(alloc: Global, finder: &F, key: &[u8]) -> Result<Opti
         [] => Ok(None),
         [b'#', ..] => Ok(object_key(finder, Dbref::read(key))),
         [b'*', ..] => name_key(alloc, finder, key),
-        _ => match colon(key) {
+        _ => match byte_at(key, b':') {
             None => name_key(alloc, finder, key),
             Some(at) => property_key(alloc, key.split_at(at).0, key.split_at(at + 1).1),
         },

@@ -46,13 +46,14 @@ pub trait Keys {
         ensures { result ≡ has self.now d path.now value.now };
 }
 
-// Whether an object has that one among its contents.
-fn carries<K: Keys>(keys: &K, x: Dbref, n: Dbref) -> bool
-    ensures { result ≡ list_any (λ d. same d n) (K.contents keys.now x) }
+// Whether something among the contents of an object passes.
+pub fn carries_any<K: Keys, F: Fn(Dbref) -> bool>(keys: &K, x: Dbref, passes: F) -> bool
+    requires { F.IsAlwaysCallable passes }
+    ensures { (test : Dbref → Bool) → ((d : Dbref) (r : Bool) → F.post passes d r → r ≡ test d) → result ≡ list_any test (K.contents keys.now x) }
 {
     let mut d = keys.first(x);
     while d != NOTHING {
-        if d == n {
+        if passes(d) {
             return true;
         }
         d = keys.next(d);
@@ -60,18 +61,18 @@ fn carries<K: Keys>(keys: &K, x: Dbref, n: Dbref) -> bool
     false
 }
 
+// Whether an object has that one among its contents.
+fn carries<K: Keys>(keys: &K, x: Dbref, n: Dbref) -> bool
+    ensures { result ≡ list_any (λ d. same d n) (K.contents keys.now x) }
+{
+    carries_any(keys, x, |d| d == n)
+}
+
 // Whether something among the contents of an object has that property with that value.
 fn carries_property<K: Keys>(keys: &K, path: &Line, value: &Line, x: Dbref) -> bool
     ensures { result ≡ list_any (λ d. K.has keys.now d path.now value.now) (K.contents keys.now x) }
 {
-    let mut d = keys.first(x);
-    while d != NOTHING {
-        if keys.prop_is(d, path, value) {
-            return true;
-        }
-        d = keys.next(d);
-    }
-    false
+    carries_any(keys, x, |d| keys.prop_is(d, path, value))
 }
 
 // Whether the key of an object opens for x.

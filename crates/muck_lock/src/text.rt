@@ -8,11 +8,11 @@ ghost use Rattle.muck_lock.specs.Opens.{holdings, property_opens, opens_for};
 ghost use Rattle.muck_lock.specs.Answers.{no_names, text_opens};
 ghost use Rattle.muck_lock.specs.inner.Answers.{seen, key_answer, negated_answer, closed_answer, behind, term_answer, all_answer, one_answer, part_answer, whole_opens};
 
-use crate::key::{colon, key_end};
-use crate::keys::{Keys, object_opens};
+use crate::key::key_end;
+use crate::keys::{Keys, carries_any, object_opens};
 use crate::part::Part;
 use crate::path::is_path;
-use muck_model::{Dbref, Line};
+use muck_model::{Dbref, Line, byte_at};
 
 /// Keys whose properties are asked for by bytes, so that the text of a lock can be tried without memory.
 pub trait TextKeys: Keys {
@@ -21,20 +21,11 @@ pub trait TextKeys: Keys {
         ensures { result ≡ Self.Keys.has self.now d path.now value.now };
 }
 
-const NOTHING: Dbref = Dbref(-1);
-
 // Whether something among the contents of an object has that property with that value.
 fn carries_text<K: TextKeys>(keys: &K, path: &[u8], value: &[u8], x: Dbref) -> bool
     ensures { result ≡ list_any (λ d. K.Keys.has keys.now d path.now value.now) (K.Keys.contents keys.now x) }
 {
-    let mut d = keys.first(x);
-    while d != NOTHING {
-        if keys.text_is(d, path, value) {
-            return true;
-        }
-        d = keys.next(d);
-    }
-    false
+    carries_any(keys, x, |d| keys.text_is(d, path, value))
 }
 
 // Whether the key of a property opens for x.
@@ -77,7 +68,7 @@ fn key_opens<K: TextKeys>(keys: &K, key: &[u8], x: Dbref) -> Option<bool>
     if *first == b'*' {
         return None;
     }
-    match colon(key) {
+    match byte_at(key, b':') {
         None => None,
         Some(at) => property_answer(keys, key.split_at(at).0, key.split_at(at + 1).1, x),
     }

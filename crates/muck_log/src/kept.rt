@@ -42,7 +42,7 @@ fn text(alloc: Global, bytes: &[u8]) -> Result<Line, NoMemory>
 }
 
 // Room Zero, below which all rooms are.
-#[tactic(auto, unfolding(crate::specs::World::room_zero, muck_model::specs::Bytes::text_most))]
+#[tactic(auto, unfolding(crate::specs::World::room_zero))]
 fn room_zero(alloc: Global) -> Result<Stored, NoMemory>
     ensures { IfOk result (λ o. o ≡ room_zero) }
 {
@@ -66,7 +66,7 @@ fn room_zero(alloc: Global) -> Result<Stored, NoMemory>
 }
 
 // The digest of One's first password.
-#[tactic(auto, unfolding(crate::specs::World::first_digest, muck_model::specs::Bytes::text_most))]
+#[tactic(auto, unfolding(crate::specs::World::first_digest))]
 fn first_digest(alloc: Global) -> Result<Line, NoMemory>
     ensures { IfOk result (λ line. line ≡ first_digest) }
 {
@@ -77,7 +77,7 @@ fn first_digest(alloc: Global) -> Result<Line, NoMemory>
 }
 
 // One, who is a wizard.
-#[tactic(auto, unfolding(crate::specs::World::player_one, muck_model::specs::Bytes::text_most))]
+#[tactic(auto, unfolding(crate::specs::World::player_one))]
 fn player_one(alloc: Global) -> Result<Stored, NoMemory>
     ensures { IfOk result (λ o. o ≡ player_one) }
 {

@@ -1,6 +1,6 @@
 -- The aliases of a name, taken off its front one after another.
 use Rattle.std.proofs.Common.{◌≡◌, ℕ, ◌<◌, ◌≤◌, ◌+◌, Bool, true, false, List, [], ◌∷◌, Option, Some, None, refl, sym, ◌∙◌, ap, subst, length, take, drop, map, arith, eqb, cond}
-use Rattle.std.proofs.lemmas.Bool.{ltb-false}
+use Rattle.muck_model.proofs.Positions.{position_none}
 use Rattle.std.proofs.lemmas.List.{length-take-le}
 use Rattle.std.proofs.lemmas.List.Splits.{slice_split_first, slice_split_none}
 use Rattle.std.proofs.lemmas.List.Sums.{fails_before_first}
@@ -33,10 +33,6 @@ cond_some : (b : Bool) (n k : ℕ) → cond b (Some n) None ≡ Some k → n ≡
 cond_some true n k h = cc
 cond_some false n k h = absurd (cc)
 
-cond_none : (b : Bool) (n : ℕ) → cond b (Some n) None ≡ None → b ≡ false
-cond_none true n h = absurd (cc)
-cond_none false n h = refl
-
 -- the part before the first separator
 pub split_some : (p : ℕ → Bool) (xs : List ℕ) (k : ℕ) → position p xs ≡ Some k → Split p xs k
 split_some p xs k h = split_here p xs k (cond_some _ _ k h) (position-Some p xs k 0 h).0
@@ -44,7 +40,7 @@ split_some p xs k h = split_here p xs k (cond_some _ _ k h) (position-Some p xs 
 -- no separator
 pub split_none : (p : ℕ → Bool) (xs : List ℕ) → position p xs ≡ None → slice_split p xs ≡ xs ∷ []
 split_none p xs h =
-    let le : length xs ≤ position_or_len p xs = ltb-false _ _ (cond_none _ _ h) in
+    let le : length xs ≤ position_or_len p xs = position_none p xs h in
     slice_split_none p xs (λ k d lt. fails_before_first p xs k d (omega (arith, lt, le)))
 
 -- what the first part gives, and what the others give

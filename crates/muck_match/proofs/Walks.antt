@@ -6,7 +6,8 @@ use Rattle.muck_model.specs.declared.dbref.Dbref.{Dbref}
 use Rattle.muck_model.specs.Numbers.{numbered}
 use Rattle.muck_match.proofs.Lists.{chain_step, chain_end}
 use Rattle.muck_match.specs.Scenery.{Scenery, nothing, is_nothing, chain, upward, is_there}
-use Rattle.muck_match.specs.inner.Memory.{index_of, height, lower, led, walk, behind, object_at, slot_at, next_at, above_at, after_in, sight_of, scenery_of}
+use Rattle.muck_model.specs.Dbrefs.{index_at}
+use Rattle.muck_match.specs.inner.Memory.{height, lower, led, walk, behind, object_at, slot_at, next_at, above_at, after_in, sight_of, scenery_of}
 use Rattle.muck_match.specs.declared.memory.MemObject.{MemObject}
 
 pub record IsFalling (f : Dbref → Dbref) : Type 0 where
@@ -42,8 +43,8 @@ step_at f h (suc n) d e = elim (cases_Bool (is_nothing (f d))) [
 pub behind_step : (f : Dbref → Dbref) → IsFalling f → (d : Dbref) → behind f d ≡ chain (behind f) (f d)
 behind_step f h d = step_at f h (height d) d refl
 
-lower_z : (d : Dbref) (z : ℤ) → is_nothing (option_map_or (λ n. if ltb n (height d) then numbered z else nothing) (index_of z) nothing) ≡ false
-    → height (option_map_or (λ n. if ltb n (height d) then numbered z else nothing) (index_of z) nothing) < height d
+lower_z : (d : Dbref) (z : ℤ) → is_nothing (option_map_or (λ n. if ltb n (height d) then numbered z else nothing) (index_at z) nothing) ≡ false
+    → height (option_map_or (λ n. if ltb n (height d) then numbered z else nothing) (index_at z) nothing) < height d
 lower_z d (pos n) h = elim (cases_Bool (ltb n (height d))) [
   | inl t ↦ rw t (ltb-true n (height d) t)
   | inr t ↦ absurd (true≢false (rw t at h))

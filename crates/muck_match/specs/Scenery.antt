@@ -1,12 +1,13 @@
 -- What a scene shows: its objects, and the lists that they stand in.
-use Rattle.std.specs.Prelude.{ℕ, pos, negsuc, Bool, true, false, List, [], ◌∷◌, ◌++◌, map, Option, Some, None, is_some, if◌then◌else◌}
+use Rattle.std.specs.Prelude.{ℕ, pos, negsuc, Bool, false, List, [], ◌∷◌, ◌++◌, map, Option, Some, None, is_some, if◌then◌else◌}
 use Rattle.std.specs.Option.{option_map_or}
 use Rattle.std.specs.List.{filter, flat_map, range_with_len}
 use Rattle.std.specs.Ordering.{int_eq}
 use Rattle.muck_model.specs.declared.dbref.Dbref.{Dbref}
+pub use Rattle.muck_model.specs.Dbrefs.{nothing, home}
+pub use Rattle.muck_model.specs.Kinds.{is_thing, is_player, is_program}
 use Rattle.muck_model.specs.Numbers.{numbered}
 use Rattle.muck_model.specs.declared.dbref.Kind.{Kind}
-use Rattle.muck_model.specs.declared.dbref.Kind.TheVariants.{Thing, Player, Program}
 
 -- an object that is there
 pub record Sight : Type 0 where
@@ -23,12 +24,6 @@ pub record Scenery : Type 0 where
   pub places : Dbref → List Dbref
   pub count : ℕ
 
-abbrev pub nothing : Dbref
-nothing = record { 0 = negsuc 0 }
-
-abbrev pub home : Dbref
-home = record { 0 = negsuc 2 }
-
 abbrev pub is_nothing : Dbref → Bool
 is_nothing d = int_eq d.0 (negsuc 0)
 
@@ -43,18 +38,6 @@ is_there w d = is_some (w.sight d)
 unfoldable pub upward : Scenery → Option Dbref → List Dbref
 upward w None = []
 upward w (Some place) = if is_there w place then place ∷ w.places place else []
-
-abbrev pub is_thing : Kind → Bool
-is_thing Thing = true
-is_thing kind = false
-
-abbrev pub is_player : Kind → Bool
-is_player Player = true
-is_player kind = false
-
-abbrev pub is_program : Kind → Bool
-is_program Program = true
-is_program kind = false
 
 -- the object is there and passes the test
 abbrev pub sees : (Sight → Bool) → Scenery → Dbref → Bool

@@ -7,8 +7,8 @@ ghost use Rattle.muck_match.specs.Exits.{first, takes, rest_behind, hit_of, hits
 
 use crate::Scene;
 use crate::sights::{is_nothing, is_program, is_thing, place_above, place_in};
-use crate::words::{begins_with, is_same, place_of};
-use muck_model::{Dbref, Line};
+use crate::words::{begins_with, is_same};
+use muck_model::{Dbref, Line, byte_at};
 
 /// An exit that a line takes: the exit, where the alias begins and ends in its name, and where the argument begins in
 /// the line.
@@ -65,7 +65,7 @@ fn hit_in(exit: Dbref, argument: bool, line: &[u8], name: &[u8]) -> Option<ExitH
 {
     let mut from = 0;
     let mut more = name;
-    while let Some(end) = place_of(b';', more) {
+    while let Some(end) = byte_at(more, b';') {
         let alias = more.split_at(end).0;
         if takes(argument, line, alias) {
             return Some(hit_of(exit, line, alias, from));

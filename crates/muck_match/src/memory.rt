@@ -1,7 +1,8 @@
 // A scene in memory, for tests and as the plain form of the trait.
 ghost use Rattle.std.specs.Prelude.{◌≡◌, ◌<◌, ◌≤◌, ◌^◌, length, is_some, MatchOption};
 ghost use Rattle.std.specs.Option.{option_copied};
-ghost use Rattle.muck_match.specs.inner.Memory.{index_of, lower, slot_at, object_at, next_at, above_at, first_at};
+ghost use Rattle.muck_model.specs.Dbrefs.{index_of};
+ghost use Rattle.muck_match.specs.inner.Memory.{lower, slot_at, object_at, next_at, above_at, first_at};
 
 use crate::{NOTHING, Scene};
 use muck_model::{Dbref, Kind, Line, Row};
@@ -28,7 +29,7 @@ pub struct MemScene {
 
 // The place of the number in a list.
 fn index_of(d: Dbref) -> Option<usize>
-    ensures { result ≡ index_of d.0 }
+    ensures { result ≡ index_of d }
 {
     if d.0 < 0 {
         return None;

@@ -1,6 +1,5 @@
 // Names, and the words and aliases in them.
-ghost use Rattle.std.specs.Prelude.{◌≡◌, ◌==◌};
-ghost use Rattle.std.specs.List.{position};
+ghost use Rattle.std.specs.Prelude.{◌≡◌};
 ghost use Rattle.muck_match.specs.Words.{is_same, begins_with, has_word};
 
 /// Whether the texts are equal, without regard to case.
@@ -29,11 +28,4 @@ pub fn has_word(text: &[u8], name: &[u8]) -> bool
 {
     name.split(|b| *b == b' ')
         .any(|word| begins_with(text, word))
-}
-
-/// Where the first such byte stands.
-pub fn place_of(byte: u8, text: &[u8]) -> Option<usize>
-    ensures { result ≡ position (λ b. b == byte) text.now }
-{
-    text.iter().position(|b| *b == byte)
 }

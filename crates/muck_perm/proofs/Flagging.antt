@@ -1,8 +1,7 @@
 -- Setting and clearing one flag.
-use Rattle.std.proofs.Common.{◌≡◌, ℕ, ◌<◌, ◌≤◌, ◌^◌, ◌+◌, ◌/◌, ◌%◌, ◌==◌, true, false, List, [], ◌∷◌, Option, Some, None, Result, Ok, Err, refl, sym, ◌∙◌, ap, subst, arith, inl, inr}
-use Rattle.std.proofs.lemmas.Bool.{or_cases, eqb-true}
-use Rattle.std.proofs.lemmas.Bool.Decides.{nat_tests}
-use Rattle.std.specs.List.{list_any, slice_get, slice_set}
+use Rattle.std.proofs.Common.{◌≡◌, ℕ, ◌<◌, ◌≤◌, ◌^◌, ◌+◌, ◌/◌, ◌%◌, ◌==◌, true, false, List, [], ◌∷◌, Option, Some, None, Result, Ok, Err, refl, sym, ◌∙◌, ap, arith}
+use Rattle.spec_rights.proofs.Bits.{Each, picked, even, odd}
+use Rattle.std.specs.List.{slice_get, slice_set}
 use Rattle.std.specs.Option.{option_map, option_map_or, option_and_then}
 use Rattle.muck_model.specs.declared.dbref.Dbref.{Dbref}
 use Rattle.muck_model.specs.declared.dbref.Flags.{Flags}
@@ -24,10 +23,6 @@ record Fits (v : ℕ) : Type 0 where
   set : (x : ℕ) → x < 65536 → x / v % 2 ≡ 0 → x + v < 65536
   lawful : (x : ℕ) → x < 16384 → x / v % 2 ≡ 0 → x + v < 16384
   cleared : (x : ℕ) → x / v % 2 ≡ 1 → v ≤ x
-
-abbrev All : List ℕ → Type 0
-All [] = Unit {0}
-All (v ∷ vs) = Fits v × All vs
 
 fits_1 : Fits 1
 fits_1 = record { some = omega arith; set = λ x k h. omega arith; lawful = λ x k h. omega arith; cleared = λ x h. omega arith }
@@ -71,34 +66,21 @@ fits_4096 = record { some = omega arith; set = λ x k h. omega arith; lawful = �
 fits_8192 : Fits 8192
 fits_8192 = record { some = omega arith; set = λ x k h. omega arith; lawful = λ x k h. omega arith; cleared = λ x h. omega arith }
 
-all : All flag_values
+all : Each Fits flag_values
 all = (fits_1, (fits_2, (fits_4, (fits_8, (fits_16, (fits_32, (fits_64, (fits_128, (fits_256, (fits_512, (fits_1024, (fits_2048, (fits_4096, (fits_8192, tt))))))))))))))
 
-picked : (v : ℕ) (vs : List ℕ) → All vs → list_any (λ u. u == v) vs ≡ true → Fits v
-picked v [] h e = absurd (cc)
-picked v (u ∷ us) h e = elim (or_cases (u == v) (list_any (λ t. t == v) us) e) [
-  | inl one ↦ subst Fits (eqb-true u v one) h.0
-  | inr more ↦ picked v us h.1 more
-]
-
-even : (n : ℕ) → (n % 2 == 1) ≡ false → n % 2 ≡ 0
-even n e = grind (arith, nat_tests)
-
-odd : (n : ℕ) → (n % 2 == 1) ≡ true → n % 2 ≡ 1
-odd n e = grind (arith, nat_tests)
-
 pub flag_some : (flag : Flags) → is_flag flag ≡ true → 0 < flag.0
-flag_some flag k = (picked flag.0 flag_values all k).some
+flag_some flag k = (picked Fits flag.0 flag_values all k).some
 
 pub flag_fits : (flag flags : Flags) → is_flag flag ≡ true → has_flag flag.0 flags ≡ false → flags.0 < 65536 → flags.0 + flag.0 < 65536
-flag_fits flag flags k h lt = (picked flag.0 flag_values all k).set flags.0 lt (even (flags.0 / flag.0) h)
+flag_fits flag flags k h lt = (picked Fits flag.0 flag_values all k).set flags.0 lt (even (flags.0 / flag.0) h)
 
 -- there is no flag above the fourteenth
 pub flag_lawful : (flag flags : Flags) → is_flag flag ≡ true → has_flag flag.0 flags ≡ false → flags.0 < 2 ^ 14 → flags.0 + flag.0 < 2 ^ 14
-flag_lawful flag flags k h lt = (picked flag.0 flag_values all k).lawful flags.0 lt (even (flags.0 / flag.0) h)
+flag_lawful flag flags k h lt = (picked Fits flag.0 flag_values all k).lawful flags.0 lt (even (flags.0 / flag.0) h)
 
 pub flag_below : (flag flags : Flags) → is_flag flag ≡ true → has_flag flag.0 flags ≡ true → flag.0 ≤ flags.0
-flag_below flag flags k h = (picked flag.0 flag_values all k).cleared flags.0 (odd (flags.0 / flag.0) h)
+flag_below flag flags k h = (picked Fits flag.0 flag_values all k).cleared flags.0 (odd (flags.0 / flag.0) h)
 
 -- The guard.
 

@@ -1,5 +1,6 @@
 -- What making an object, and then setting a field of it, makes of the world of a guard.
 use Rattle.std.proofs.Common.{◌≡◌, ℕ, Bool, true, false, cond, ◌||◌, ◌&&◌, Option, Some, None, Result, Ok, Err, refl, sym, ◌∙◌, ap, subst, List}
+use Rattle.muck_db.proofs.Showing.{alive_number}
 use Rattle.std.proofs.lemmas.Bool.{false≢true}
 use Rattle.std.specs.Prelude.{nat_lt}
 use Rattle.std.specs.List.{slice_get, slice_set}
@@ -40,10 +41,6 @@ made kind name owner place es p h =
       was = sym (grown_kind p.0 p.0 es) ∙ b.garbage;
       other = λ k ne. kind_moved _ p.0 p.1 k ∙ (other_kind (grown p.0 es) p.0 k (new_object p.0 kind name owner) ne ∙ grown_kind p.0 k es);
     }
-
-alive_number : (es : List Entry) (n : ℕ) → is_garbage (kind_in es n) ≡ false → number_in es (dbref_of n) ≡ Some n
-unfolding number_in
-alive_number es n h = ap (λ b. cond {A = Option ℕ} b None (Some n)) h
 
 made_number : (es fs : List Entry) (kind : Kind) (n : ℕ) → Made es fs kind n → is_garbage kind ≡ false → number_in fs (dbref_of n) ≡ Some n
 made_number es fs kind n m a = alive_number fs n (ap (λ k. is_garbage k) m.here ∙ a)

@@ -26,7 +26,6 @@ not_less : (a b : ℕ) → a ≡ b → nat_lt a b ≡ false
 not_less a b e = grind arith
 
 short_text : (bs : List ℕ) → length bs ≤ 40 → position_or_len is_outside bs ≡ length bs → text_fault bs ≡ None
-unfolding text_most
 short_text bs short inside =
     ap (λ r. fault_of (cond r (Some (position_or_len is_outside bs)) None) (length bs)) (not_less _ _ inside)
     ∙ ap (λ r. if r then Some text_most else None) (not_above (length bs) 4096 (omega (arith, short)))

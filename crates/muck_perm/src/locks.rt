@@ -69,7 +69,7 @@ fn number_text(alloc: Global, number: i32) -> Result<Line, NoMemory>
 }
 
 /// The lock of an object, as it is shown.
-#[tactic(auto, unfolding(spec_rights::specs::Worth::lock_text, muck_model::specs::Bytes::text_most))]
+#[tactic(auto, unfolding(spec_rights::specs::Worth::lock_text))]
 pub fn lock_text(alloc: Global, db: &Db, d: Dbref) -> Result<Line, NoMemory>
     ensures { IfOk result (λ text. text ≡ lock_text d db.now) }
 {

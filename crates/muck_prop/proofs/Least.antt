@@ -1,5 +1,6 @@
 -- The next child is the least of all children after a path.
 use Rattle.std.proofs.Common.{◌≡◌, ℕ, Bool, true, false, ◌&&◌, ◌||◌, ◌⊎◌, List, [], ◌∷◌, ◌++◌, bytes_eq, refl, ap, sym, subst, ◌∙◌}
+use Rattle.std.proofs.lemmas.Bool.{and_parts}
 use mathlib.Core.Logic.{inl, inr}
 use mathlib.Core.Bool.{true≢false}
 use Rattle.std.specs.Option.{unwrap_or}
@@ -18,7 +19,7 @@ use Rattle.muck_prop.specs.declared.value.PropValue.{PropValue}
 use Rattle.muck_prop.specs.Order.{segment_cmp, path_cmp, path_cmp_total, is_below, child}
 use Rattle.muck_prop.specs.Store.{PropMap, is_dir, is_after, next_among, next_child, IsChild, IsLeastChild}
 use Rattle.muck_prop.proofs.Maps.{path_cmp_same}
-use Rattle.muck_prop.proofs.Sequence.{then_less, and_true}
+use Rattle.muck_prop.proofs.Sequence.{then_less}
 
 -- ---- the paths of a map rise
 
@@ -68,10 +69,10 @@ child_leads (s ∷ dir) name =
 
 below_leads : (dir : List (List ℕ)) (name : List ℕ) (q : List (List ℕ)) → is_below (dir ++ name ∷ []) q ≡ true → Leads dir (dir ++ name ∷ []) q
 below_leads [] name [] h = cc
-below_leads [] name (t ∷ q) h = (refl, ap (λ s. s ∷ []) (equal_bytes name t (and_true (bytes_eq name t) (is_below [] q) h).0))
+below_leads [] name (t ∷ q) h = (refl, ap (λ s. s ∷ []) (equal_bytes name t (and_parts (bytes_eq name t) (is_below [] q) h).0))
 below_leads (s ∷ dir) name [] h = cc
 below_leads (s ∷ dir) name (t ∷ q) h =
-    let parts = and_true (bytes_eq s t) (is_below (dir ++ name ∷ []) q) h in
+    let parts = and_parts (bytes_eq s t) (is_below (dir ++ name ∷ []) q) h in
     let rest = below_leads dir name q parts.1 in
     (ap (λ b. b && is_below dir q) parts.0 ∙ rest.0, (λ i. equal_bytes s t parts.0 i ∷ rest.1 i))
 
@@ -107,7 +108,7 @@ child_ends [] [] h = cc
 child_ends [] (t ∷ q) h = (t, refl)
 child_ends (s ∷ dir) [] h = cc
 child_ends (s ∷ dir) (t ∷ q) h =
-    let parts = and_true (bytes_eq s t) (is_below dir q) h in
+    let parts = and_parts (bytes_eq s t) (is_below dir q) h in
     let rest = child_ends dir q parts.1 in
     (rest.0, (λ i. sym (equal_bytes s t parts.0) i ∷ rest.1 i))
 
@@ -118,7 +119,7 @@ child_or_below [] (t ∷ []) h = inl refl
 child_or_below [] (t ∷ u ∷ q) h = inr (ap (λ b. b && true) (itself t))
 child_or_below (s ∷ dir) [] h = cc
 child_or_below (s ∷ dir) (t ∷ q) h =
-    elim (child_or_below dir q (and_true (bytes_eq s t) (is_below dir q) h).1) as (λ _. (child (s ∷ dir) (t ∷ q) ≡ t ∷ q) ⊎ (is_below (child (s ∷ dir) (t ∷ q)) (t ∷ q) ≡ true)) [
+    elim (child_or_below dir q (and_parts (bytes_eq s t) (is_below dir q) h).1) as (λ _. (child (s ∷ dir) (t ∷ q) ≡ t ∷ q) ⊎ (is_below (child (s ∷ dir) (t ∷ q)) (t ∷ q) ≡ true)) [
       | inl same ↦ inl (ap (λ p. t ∷ p) same)
       | inr more ↦ inr (ap (λ b. b && is_below (child dir q) q) (itself t) ∙ more)
     ]
@@ -180,7 +181,7 @@ children_rise (s ∷ dir) (t ∷ q) (u ∷ r) h g less =
     elim (then_less (segment_cmp t u) (path_cmp q r) less) as (λ _. is_gt (ordering_then (segment_cmp t u) (path_cmp (child dir q) (child dir r))) ≡ false) [
       | inl more ↦ ap (λ o. is_gt (ordering_then o (path_cmp (child dir q) (child dir r)))) more
       | inr same ↦ ap (λ o. is_gt (ordering_then o (path_cmp (child dir q) (child dir r)))) same.0
-          ∙ children_rise dir q r (and_true (bytes_eq s t) (is_below dir q) h).1 (and_true (bytes_eq s u) (is_below dir r) g).1 same.1
+          ∙ children_rise dir q r (and_parts (bytes_eq s t) (is_below dir q) h).1 (and_parts (bytes_eq s u) (is_below dir r) g).1 same.1
     ]
 
 later_child : (dir q d : List (List ℕ)) (ks : List (List (List ℕ))) → is_below dir q ≡ true → AllByRecursion (λ k. path_cmp q k ≡ Less) ks → AnyLeads dir d ks → is_gt (path_cmp (child dir q) d) ≡ false
@@ -209,7 +210,7 @@ module _ (dir : List (List ℕ)) (after : Option (List (List ℕ))) where
     where
       by : (b : Bool) → (is_below dir q && is_after after (child dir q)) ≡ b → (if b then Some (child dir q) else next_among dir after ks) ≡ Some c → (next_among dir after ks ≡ Some c → AnyLeads dir c ks × (is_after after c ≡ true)) → (Leads dir c q ⊎ AnyLeads dir c ks) × (is_after after c ≡ true)
       by true test found later =
-          let parts = and_true (is_below dir q) (is_after after (child dir q)) test in
+          let parts = and_parts (is_below dir q) (is_after after (child dir q)) test in
           let same = inside (child dir q) c found in
           (inl (parts.0, sym same), ap (is_after after) (sym same) ∙ parts.1)
       by false test found later = let rest = later found in (inr rest.0, rest.1)
@@ -221,7 +222,7 @@ module _ (dir : List (List ℕ)) (after : Option (List (List ℕ))) where
   gives_least c d (q ∷ ks) sorted e h late =
       let both = elim (is_below dir q && is_after after (child dir q)) as (λ b. (is_below dir q && is_after after (child dir q)) ≡ b → (if b then Some (child dir q) else next_among dir after ks) ≡ Some c → Leads dir d q ⊎ AnyLeads dir d ks → is_gt (path_cmp c d) ≡ false) [
         | true ↦ λ test found leads.
-            let parts = and_true (is_below dir q) (is_after after (child dir q)) test in
+            let parts = and_parts (is_below dir q) (is_after after (child dir q)) test in
             ap (λ p. is_gt (path_cmp p d)) (sym (inside (child dir q) c found))
             ∙ elim leads as (λ _. is_gt (path_cmp (child dir q) d) ≡ false) [
               | inl here ↦ ap (λ p. is_gt (path_cmp (child dir q) p)) here.1 ∙ ap is_gt (tied_itself path_cmp_total (child dir q))

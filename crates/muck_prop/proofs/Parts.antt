@@ -1,9 +1,9 @@
 -- A text, part by part.
-use Rattle.std.proofs.Common.{◌≡◌, ℕ, zero, suc, ◌+◌, ◌≤◌, Bool, true, false, cond, not, List, [], ◌∷◌, map, length, nat_lt, eqb, take, drop, refl, sym, ◌∙◌, ap, subst, arith}
-use Rattle.std.proofs.lemmas.Bool.{ltb-false, le-ltb, ne_eqb}
+use Rattle.std.proofs.Common.{◌≡◌, ℕ, zero, suc, ◌+◌, Bool, true, false, cond, not, List, [], ◌∷◌, map, length, nat_lt, eqb, take, drop, refl, sym, ◌∙◌, ap, subst, arith}
+use Rattle.std.proofs.lemmas.Bool.{le-ltb, ne_eqb}
 use Rattle.std.specs.Prelude.{Option, None, Some}
 use Rattle.std.specs.Char.{to_ascii_lowercase}
-use Rattle.std.specs.List.{AllByRecursion, filter, list_any, slice_split, onto_first, position, position_or_len}
+use Rattle.std.specs.List.{AllByRecursion, filter, list_any, slice_split, onto_first, position_or_len}
 use Rattle.std.specs.Option.{option_map_or}
 use Rattle.std.specs.Map.{lookup}
 use Rattle.std.specs.BTreeMap.{is_at}
@@ -60,32 +60,6 @@ part_goes rest more left behind_it n e is h =
     let P : ℕ → Type 0 = λ k. (tail : List (List ℕ)) → path_eq rest (with_part (take k left) tail) ≡ path_eq more tail in
     ap (λ t. path_eq more (segments_of t)) (is ∙ ap (λ k. drop (suc k) left) e)
     ∙ sym (ap (λ s. path_eq rest s) (next_part left) ∙ subst P e h (segments_of (drop (suc (position_or_len is_slash left)) left)))
-
--- the first slash
-
-some_len : (r : Bool) (k n : ℕ) → cond r (Some k) None ≡ Some n → n ≡ k
-some_len true k n h = let e : k ≡ n = cc (h) in sym e
-some_len false k n h = absurd (cc (h))
-
-pub first_len : (text : List ℕ) (n : ℕ) → position is_slash text ≡ Some n → n ≡ position_or_len is_slash text
-first_len text n h = some_len (nat_lt (position_or_len is_slash text) (length text)) (position_or_len is_slash text) n h
-
-pub len_le : (text : List ℕ) → position_or_len is_slash text ≤ length text
-len_le [] = omega arith
-len_le (b ∷ bs) = by_cases (is_slash b) (len_le bs)
-  where
-    by_cases : (r : Bool) → position_or_len is_slash bs ≤ length bs → cond (not r) (1 + position_or_len is_slash bs) 0 ≤ suc (length bs)
-    by_cases true h = omega arith
-    by_cases false h = omega arith
-
-none_len : (r : Bool) (k : ℕ) → cond r (Some k) None ≡ None → r ≡ false
-none_len true k h = absurd (cc (h))
-none_len false k h = refl
-
-pub all_len : (text : List ℕ) → position is_slash text ≡ None → length text ≡ position_or_len is_slash text
-all_len text h = omega (arith, len_le text, ltb-false _ _ (none_len (nat_lt (position_or_len is_slash text) (length text)) (position_or_len is_slash text) h))
-
-pub ruleset lens = (first_len, all_len, len_le)
 
 -- the path of an entry
 

@@ -1,5 +1,6 @@
 -- What continues a path stands together in the order of paths, right after it.
 use Rattle.std.proofs.Common.{◌≡◌, ℕ, Bool, true, false, cond, ◌&&◌, ◌||◌, ◌⊎◌, List, [], ◌∷◌, ◌++◌, bytes_eq, refl, ap, sym, ◌∙◌, arith}
+use Rattle.std.proofs.lemmas.Bool.{and_parts}
 use mathlib.Core.Logic.{inl, inr}
 use Rattle.std.specs.Prelude.{Option, None, Some, if◌then◌else◌}
 use Rattle.std.specs.Ordering.{nat_cmp, ordering_then, ordering_reverse, is_eq, is_lt, is_le}
@@ -20,11 +21,6 @@ then_less Less x h = inl refl
 then_less Equal x h = inr (refl, h)
 then_less Greater x h = cc
 
-pub and_true : (a b : Bool) → (a && b) ≡ true → (a ≡ true) × (b ≡ true)
-and_true true true h = (refl, refl)
-and_true true false h = cc
-and_true false b h = cc
-
 pub equal_then : (r : Ordering) → is_eq r ≡ true → r ≡ Equal
 equal_then Less h = cc
 equal_then Equal h = refl
@@ -43,7 +39,7 @@ below_is_after [] [] h = cc
 below_is_after [] (t ∷ q) h = refl
 below_is_after (s ∷ p) [] h = cc
 below_is_after (s ∷ p) (t ∷ q) h =
-    let parts = and_true (bytes_eq s t) (is_below p q) h in
+    let parts = and_parts (bytes_eq s t) (is_below p q) h in
     ap (λ r. ordering_then r (path_cmp p q)) (same_segment s t parts.0) ∙ below_is_after p q parts.1
 
 -- past a path that isn't below p, but after it, nothing is below p
@@ -140,7 +136,7 @@ child_is_below [] [] h = cc
 child_is_below [] (t ∷ q) h = refl
 child_is_below (s ∷ p) [] h = cc
 child_is_below (s ∷ p) (t ∷ q) h =
-    let parts = and_true (bytes_eq s t) (is_below p q) h in
+    let parts = and_parts (bytes_eq s t) (is_below p q) h in
     ap (λ b. b && is_below p (child p q)) parts.0 ∙ child_is_below p q parts.1
 
 -- what isn't after another and is before a third
@@ -210,7 +206,7 @@ past_passes [] (a ∷ after) (t ∷ q) h is = lt_first (segment_cmp a t) after �
 past_passes (s ∷ p) [] q h is = cc
 past_passes (s ∷ p) (a ∷ after) [] h is = cc
 past_passes (s ∷ p) (a ∷ []) (t ∷ q) h is =
-    let parts = and_true (bytes_eq s t) (is_below p q) is in
+    let parts = and_parts (bytes_eq s t) (is_below p q) is in
     let same = same_segment s t parts.0 in
     elim (then_less (segment_cmp s a) (path_cmp p []) h) as (λ _. is_after (Some (a ∷ [])) (t ∷ child p q) ≡ is_le (path_cmp ((a ++ 0 ∷ []) ∷ []) (t ∷ q))) [
       | inl less ↦
@@ -220,7 +216,7 @@ past_passes (s ∷ p) (a ∷ []) (t ∷ q) h is =
       | inr ends ↦ absurd (never_before_none p ends.1)
     ]
 past_passes (s ∷ p) (a ∷ b ∷ after) (t ∷ q) h is =
-    let parts = and_true (bytes_eq s t) (is_below p q) is in
+    let parts = and_parts (bytes_eq s t) (is_below p q) is in
     let same = same_segment s t parts.0 in
     elim (then_less (segment_cmp s a) (path_cmp p (b ∷ after)) h) as (λ _. is_after (Some (a ∷ b ∷ after)) (t ∷ child p q) ≡ is_le (path_cmp (a ∷ past (child p (b ∷ after))) (t ∷ q))) [
       | inl less ↦

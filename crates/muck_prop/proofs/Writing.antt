@@ -1,13 +1,10 @@
 -- The text of a path is a text, and is read as that path.
-use Rattle.std.proofs.Common.{◌≡◌, ℕ, ◌+◌, ◌≤◌, false, cond, not, ◌||◌, List, [], ◌∷◌, ◌++◌, map, length, nat_lt, refl, ap, ◌∙◌, arith}
-use Rattle.std.specs.Prelude.{Option, None, Some, Err, if◌then◌else◌, ◌==◌}
+use Rattle.std.proofs.Common.{◌≡◌, ℕ, ◌+◌, false, cond, not, ◌||◌, List, [], ◌∷◌, ◌++◌, map, length, nat_lt, refl, ap, ◌∙◌, arith}
+use Rattle.muck_model.proofs.Texts.{text_if}
+use Rattle.std.specs.Prelude.{None, Some, if◌then◌else◌, ◌==◌}
 use Rattle.std.specs.Char.{to_ascii_lowercase}
 use Rattle.std.specs.List.{AllByRecursion, filter, list_any, slice_split, onto_first, position_or_len}
-use Rattle.muck_model.specs.Bytes.{is_outside, text_fault, text_most}
-use Rattle.muck_model.specs.Bytes as model
-use Rattle.muck_model.specs.inner.Text.{IsTextOrFault}
-use Rattle.muck_model.specs.declared.line.LineFault.{LineFault}
-use Rattle.muck_model.specs.declared.line.LineFault.TheVariants.{NotLine, NoMemory}
+use Rattle.muck_model.specs.Bytes.{is_outside, text_fault}
 use Rattle.muck_prop.specs.Paths.{is_slash, is_filled, is_barred, segments_of, path_text, fault_of, IsReadAs, IsSegmentByte, IsSegment, IsPath}
 use Rattle.muck_prop.specs.declared.path.PropFault.TheVariants.{BadPath, TooDeep}
 use Rattle.muck_prop.proofs.Reading.{IsRead}
@@ -83,18 +80,8 @@ none_outside : (bs : List ℕ) → AllByRecursion IsRead bs → position_or_len 
 none_outside [] h = refl
 none_outside (b ∷ bs) h = ap (λ r. cond (not r) (1 + position_or_len is_outside bs) 0) h.0.0 ∙ omega (arith, none_outside bs h.1)
 
-not_less : (a b : ℕ) → a ≡ b → nat_lt a b ≡ false
-not_less a b e = grind arith
-
 pub text_is_text : (p : List (List ℕ)) → IsPath p → text_fault (path_text p) ≡ None
-unfolding text_most
-text_is_text p h =
-    let bs = path_text p in
-    ap (λ r. model.fault_of (cond r (Some (position_or_len is_outside bs)) None) (length bs)) (not_less _ _ (none_outside bs (text_read p h.each)))
-    ∙ ap (λ r. if r then Some text_most else None) (not_above (length bs) 4096 (omega (arith, h.short)))
-  where
-    not_above : (n most : ℕ) → n ≤ most → nat_lt most n ≡ false
-    not_above n most le = grind arith
+text_is_text p h = text_if (path_text p) (omega (arith, none_outside (path_text p) (text_read p h.each))) (omega (arith, h.short))
 
 fine_fault : (text : List ℕ) (p : List (List ℕ)) → list_any is_barred text ≡ false → (length p == 0) ≡ false → nat_lt 128 (length (path_text p)) ≡ false → nat_lt 16 (length p) ≡ false → fault_of text p ≡ None
 fine_fault text p a b c d = λ i. if a i || b i || c i then Some BadPath else (if d i then Some TooDeep else None)
@@ -104,12 +91,3 @@ text_reads p h = record {
   fine = ap (fault_of (path_text p)) (text_holds p h) ∙ fine_fault (path_text p) p (none_barred _ (text_read p h.each)) (let some = h.some in grind arith) (let short = h.short in grind arith) (let few = h.few in grind arith);
   holds = text_holds p h;
 }
-
--- a text is none the worse for being checked
-pub never_refused : (bs : List ℕ) (fault : LineFault) → text_fault bs ≡ None → IsTextOrFault bs (Err fault) → ⊥
-never_refused bs (NotLine at) fine h = no_both (text_fault bs) at fine h
-  where
-    no_both : (place : Option ℕ) (at : ℕ) → place ≡ None → place ≡ Some at → ⊥
-    no_both None at a b = cc
-    no_both (Some k) at a b = cc
-never_refused bs NoMemory fine h = h

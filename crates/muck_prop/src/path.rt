@@ -133,10 +133,7 @@ impl Path {
         ensures reads { IsReadAs (path_text self.now) self.now }
     {
         let text = self.segments.text(alloc)?;
-        match Line::from_vec(text) {
-            Ok(text) => Ok(text),
-            Err(_) => unreachable!(),
-        }
+        Ok(Line::of_text_vec(text))
     }
 
     /// An equal path.

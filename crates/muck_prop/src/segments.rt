@@ -1,12 +1,12 @@
 // Lists of segments, in the order of paths.
 ghost use Rattle.std.specs.Prelude.{◌≡◌, ◌≤◌, ◌++◌, ◌∷◌, [], ℕ, suc, List, Some, None, IfOk, IfSome, IfNone, OnOk, length, take, drop, refl, Ok, Err, false};
-ghost use Rattle.std.specs.List.{list_any, position, position_or_len};
+ghost use Rattle.std.specs.List.{list_any};
 ghost use Rattle.std.specs.Cmp.{on_equiv, on_total, on_po, on_per, partial_equiv_from_equiv};
 ghost use Rattle.muck_prop.specs.Order.{path_cmp, path_eq, path_cmp_total, path_eq_equiv, path_ties, path_po, is_below, past};
-ghost use Rattle.muck_prop.specs.Paths.{segments_of, path_text, is_slash, begins_with, with_part};
+ghost use Rattle.muck_prop.specs.Paths.{segments_of, path_text, begins_with, with_part};
 
 use crate::segment::Segment;
-use muck_model::NoMemory;
+use muck_model::{NoMemory, count_before};
 use std::alloc::Global;
 use std::cmp::Ordering;
 use std::marker::Model;
@@ -23,24 +23,6 @@ impl Model for Segments {
     ghost Value = { List (List ℕ) };
 
     ghost view = { λ s. s.items.items };
-}
-
-fn first_slash(text: &[u8]) -> Option<usize>
-    ensures { result ≡ position is_slash text.now }
-{
-    text.iter().position(|b| *b == b'/')
-}
-
-// How many bytes stand before the first slash.
-#[tactic(auto, using(crate::proofs::Parts::lens))]
-fn part_len(text: &[u8]) -> usize
-    ensures is { result ≡ position_or_len is_slash text.now }
-    ensures within { result ≤ length text.now }
-{
-    match first_slash(text) {
-        Some(n) => n,
-        None => text.len(),
-    }
 }
 
 // What stands behind the slash at that place.
@@ -75,7 +57,7 @@ impl Segments {
         let mut rest = self.as_slice();
         let mut left = text;
         while !left.is_empty() {
-            let n = part_len(left);
+            let n = count_before(left, b'/');
             let Some(more) = past_part(rest, &left[..n]) else {
                 return false;
             };

@@ -1,5 +1,4 @@
 pub mod Positions
-pub mod Mapped
 pub mod Full
 pub mod Earliest
 pub mod Numbered

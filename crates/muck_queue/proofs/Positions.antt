@@ -1,25 +1,9 @@
 -- The first element that passes a test: where it stands, and what changing or removing it does.
-use Rattle.std.proofs.Common.{◌≡◌, ℕ, ◌+◌, ◌<◌, ◌≤◌, Bool, true, false, List, [], ◌∷◌, length, refl, sym, ◌∙◌, ap, arith, cond, ltb, Option, Some, None, not, suc, get_or, set}
-use Rattle.std.specs.Prelude.{unwrap_or, find}
-use Rattle.std.proofs.lemmas.Bool.{cond_both, ltb-false}
-use Rattle.std.specs.List.{position, position_or_len, remove}
+use Rattle.std.proofs.Common.{◌≡◌, ℕ, ◌+◌, ◌<◌, ◌≤◌, Bool, true, false, List, [], ◌∷◌, length, refl, sym, ◌∙◌, ap, arith, cond, Some, None, not, suc, get_or, set}
+use Rattle.std.specs.Prelude.{find}
+use Rattle.std.specs.List.{position_or_len, remove}
 use Rattle.muck_queue.specs.declared.process.Process.{Process}
 use Rattle.muck_queue.specs.Queues.{changed_first, without_first}
-
-pub position_within : {X : Type 0} (p : X → Bool) (xs : List X) → position_or_len p xs ≤ length xs
-position_within p [] = omega arith
-position_within p (x ∷ xs) =
-    elim (p x) as (λ b. cond (not b) (1 + position_or_len p xs) 0 ≤ length (x ∷ xs)) [
-      | true ↦ omega arith
-      | false ↦ omega (arith, position_within p xs)
-    ]
-
-ends : (n m : ℕ) → n ≤ m → unwrap_or (cond (ltb n m) (Some n) None) m ≡ n
-ends n m h = cond_both (ltb n m) (Some n) None (λ o. unwrap_or o m ≡ n) (λ e. refl) (λ e. omega (arith, ltb-false n m e))
-
--- what `position` answers, or the length where that is nothing
-pub position_or : {X : Type 0} (p : X → Bool) (xs : List X) (o : Option ℕ) (n : ℕ) → o ≡ position p xs → n ≡ length xs → unwrap_or o n ≡ position_or_len p xs
-position_or p xs o n e l = rw (e, l) (ends (position_or_len p xs) (length xs) (position_within p xs))
 
 changed_at : (test : Process → Bool) (f : Process → Process) (ps : List Process) (old : Process) →
     position_or_len test ps < length ps → old ≡ get_or ps (position_or_len test ps) old →

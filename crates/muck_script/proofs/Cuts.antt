@@ -88,7 +88,7 @@ length-acts n (line ∷ lines) acts e = first_ok (act_of line) n (acts_from (n +
 pub script_short : (bytes : List ℕ) → length bytes ≤ script_most → script_of bytes ≡ acts_of bytes
 script_short bytes h = cond-false _ _ _ (le-ltb _ _ h)
 
-script_long : (bytes : List ℕ) → script_most < length bytes → script_of bytes ≡ refused_at (length (lines_of (read_part bytes))) (acts_of (read_part bytes))
+pub script_long : (bytes : List ℕ) → script_most < length bytes → script_of bytes ≡ refused_at (length (lines_of (read_part bytes))) (acts_of (read_part bytes))
 script_long bytes h = cond-true _ _ _ (lt-ltb _ _ h)
 
 -- no line before the last is outside

@@ -11,7 +11,7 @@ fn line_feed_at(bytes: &[u8]) -> Option<usize>
 }
 
 // Where the first line feed stands, or the length.
-#[tactic(auto, using(spec_commands::proofs::Positions::positions))]
+#[tactic(auto, using(muck_model::proofs::Positions::positions))]
 fn line_len(bytes: &[u8]) -> usize
     ensures at { result ≡ position_or_len is_line_feed bytes.now }
     ensures within { result ≤ length bytes.now }

@@ -5,14 +5,10 @@ use Rattle.spec_events.specs.World.{World}
 use Rattle.spec_events.specs.Histories.{History}
 use Rattle.muck_script.specs.Story.{both}
 use Rattle.muckd.specs.declared.playing.RunFault.{RunFault}
-use Rattle.muckd.specs.inner.Plays.{Plays, Breaks, PlaysOrBreaks, ending_of}
-use Rattle.muckd.proofs.Parts.{plays_both, breaks_first, breaks_second}
+use Rattle.muckd.specs.inner.Plays.{Plays, PlaysOrBreaks, ending_of}
+use Rattle.muckd.proofs.Parts.{plays_both, breaks_second}
 
 -- the first part was played, and the second answers
 pub second_part : {T : Type 0} (f g : World → List Entry) (h k m : History) (a b c : Option (List ℕ)) (r : Result T RunFault) → Plays f h k a b → PlaysOrBreaks g k m b c r → PlaysOrBreaks (both f g) h m a c r
 second_part f g h k m a b c (Ok x) p q = plays_both f g h k m a b c p q
 second_part f g h k m a b c (Err fault) p q = breaks_second f g (ending_of fault) h k m a b c p q
-
--- the first part broke off
-pub first_broke : (f g : World → List Entry) (ending : List Entry) (h k : History) (a b : Option (List ℕ)) → Breaks f ending h k a b → Breaks (both f g) ending h k a b
-first_broke f g ending h k a b p = breaks_first f g ending h k a b p

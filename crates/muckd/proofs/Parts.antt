@@ -1,5 +1,6 @@
 -- Lemmas on parts of a run.
 use Rattle.std.proofs.Common.{◌≡◌, ℕ, ◌<◌, ◌≤◌, Bool, true, false, cond, List, [], ◌∷◌, ◌++◌, length, take, drop, refl, sym, ◌∙◌, ap, subst, arith, append_assoc, append-nil, Option, Some, None, min}
+use Rattle.muck_io.proofs.Appended.{appends_twice}
 use Rattle.std.proofs.lemmas.Bool.{lt-ltb, cond-true, cond-false}
 use Rattle.std.proofs.lemmas.List.{take-append-drop}
 use Rattle.std.specs.List.{flat_map}
@@ -23,13 +24,6 @@ appends_nothing (Some w) = ap Some (sym (append-nil w))
 
 pub appends_as : (a b : Option (List ℕ)) (x y : List ℕ) → x ≡ y → Appends a b x → Appends a b y
 appends_as a b x y e p = let P : List ℕ → Type 0 = Appends a b in subst P e p
-
-pub appends_twice : (a b c : Option (List ℕ)) (x y : List ℕ) → Appends a b x → Appends b c y → Appends a c (x ++ y)
-appends_twice None b c x y p q = tt
-appends_twice (Some w) b c x y p q =
-    let P : Option (List ℕ) → Type 0 = λ o. Appends o c y in
-    let step : c ≡ Some ((w ++ x) ++ y) = subst P p q in
-    step ∙ ap Some (append_assoc w x y)
 
 text_of-append : (es fs : List Entry) (w : World) → text_of w (es ++ fs) ≡ text_of w es ++ text_of (after w es) fs
 text_of-append [] fs w = refl

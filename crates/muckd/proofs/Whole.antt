@@ -1,6 +1,7 @@
 -- Whole runs on the starting world, and runs that broke off.
 use Rattle.std.proofs.Common.{◌≡◌, ℕ, ◌+◌, ◌<◌, ◌≤◌, Bool, true, false, List, [], ◌∷◌, ◌++◌, length, take, refl, sym, ◌∙◌, ap, subst, arith, append-nil, Option, Some, None, Result, Ok, Err}
-use Rattle.std.proofs.lemmas.Bool.{lt-ltb, ltb-true, ltb-false, cond-true, cond-false}
+use Rattle.muck_script.proofs.Cuts.{script_long}
+use Rattle.std.proofs.lemmas.Bool.{ltb-true, ltb-false, cond-true, cond-false}
 use Rattle.std.proofs.lemmas.List.{take_all, drop_all, length-take}
 use Rattle.std.specs.Prelude.{nat_lt}
 use Rattle.muck_io.specs.Source.{HasReadAll}
@@ -120,13 +121,10 @@ read_twice left h =
     let n : length (read_part left) ≤ script_most + 1 = omega (arith, length-take (script_most + 1) left) in
     take_all (script_most + 1) (read_part left) n
 
-too_long : (bytes : List ℕ) → script_most < length bytes → script_of bytes ≡ refused_at (length (lines_of (read_part bytes))) (acts_of (read_part bytes))
-too_long bytes h = cond-true _ _ _ (lt-ltb script_most (length bytes) h)
-
 long : (left : List ℕ) → script_most < length left → script_of (read_part left) ≡ script_of left
 long left h =
     let some : script_most < length (read_part left) = omega (arith, length-take (script_most + 1) left, h) in
-    too_long (read_part left) some ∙ ap (λ bytes. refused_at (length (lines_of bytes)) (acts_of bytes)) (read_twice left h) ∙ sym (too_long left h)
+    script_long (read_part left) some ∙ ap (λ bytes. refused_at (length (lines_of bytes)) (acts_of bytes)) (read_twice left h) ∙ sym (script_long left h)
 
 same_script : (left : List ℕ) → script_of (read_part left) ≡ script_of left
 same_script left = decide (nat_lt script_most (length left)) refl where
@@ -142,7 +140,7 @@ not_ok n (Err m) acts e = cc
 within : (bytes : List ℕ) (acts : List Act) → script_of bytes ≡ Ok acts → length bytes ≤ script_most
 within bytes acts e = decide (nat_lt script_most (length bytes)) refl where
   decide : (b : Bool) → nat_lt script_most (length bytes) ≡ b → length bytes ≤ script_most
-  decide true h = absurd (not_ok (length (lines_of (read_part bytes))) (acts_of (read_part bytes)) acts (sym (too_long bytes (ltb-true _ _ h)) ∙ e))
+  decide true h = absurd (not_ok (length (lines_of (read_part bytes))) (acts_of (read_part bytes)) acts (sym (script_long bytes (ltb-true _ _ h)) ∙ e))
   decide false h = ltb-false _ _ h
 
 pub script_in : (left now : Option (List ℕ)) (most : ℕ) (bytes : List ℕ) (acts : List Act) → most ≡ script_most + 1 → HasReadAll left now most bytes → script_of bytes ≡ Ok acts → IsScriptIn left acts

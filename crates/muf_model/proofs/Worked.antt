@@ -2,7 +2,6 @@
 use Rattle.std.proofs.Common.{◌≡◌, ℕ, zero, suc, List, [], ◌∷◌, refl, Bool, true, false}
 use Rattle.std.specs.Prelude.{ℤ, pos, negsuc, codes, if◌then◌else◌}
 use Rattle.std.specs.Fmt.{digits}
-use Rattle.muck_model.specs.Bytes.{text_most}
 use Rattle.muf_model.specs.declared.code.Word.TheVariants.{Literal, Address, Primitive, Call, Exit, Break, Continue, NextIndex, NextPair}
 use Rattle.muf_model.specs.declared.code.Literal.TheVariants.{Int, Text}
 use Rattle.muf_model.specs.declared.code.Closer.TheVariants.{Semicolon, Repeat, Until}
@@ -161,12 +160,12 @@ depth_above = refl
 
 -- "Hello " 3 intostr strcat
 joins : run [] [] (t (codes "Hello ") (n (pos 3) (p IntToStr (p StrCat stop)))) ≡ leaves (text (codes "Hello 3") ∷ [])
-unfolding digits text_most
+unfolding digits
 joins = refl
 
 -- -3 intostr
 minus_three : run [] [] (n (negsuc 2) (p IntToStr stop)) ≡ leaves (text (codes "-3") ∷ [])
-unfolding digits text_most
+unfolding digits
 minus_three = refl
 
 -- so many loops open inside one another

@@ -90,7 +90,6 @@ impl MufFault {
     }
 
     // Its text, where that is the same for each fault of its number.
-    #[tactic(auto, unfolding(muck_model::specs::Bytes::text_most))]
     fn fixed_text(&self) -> &'static [u8]
         ensures { IsFixedText self.now result.now }
     {

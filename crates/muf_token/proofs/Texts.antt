@@ -1,31 +1,20 @@
 -- Parts of texts are texts.
 use Rattle.std.proofs.Common.{◌≡◌, ℕ, ◌≤◌, ◌+◌, Bool, true, false, not, ◌&&◌, cond, ltb, List, [], ◌∷◌, ◌++◌, length, take, drop, Some, None, refl, ap, arith, zero, suc}
+use Rattle.std.proofs.lemmas.Bool.{and_parts, and_from}
 use Rattle.std.proofs.lemmas.Bool.Decides.{nat_tests}
 use Rattle.std.specs.List.{position_or_len}
-use Rattle.muck_model.specs.Bytes.{is_outside, text_fault, fault_of, text_most}
+use Rattle.muck_model.specs.Bytes.{is_outside, text_fault, fault_of}
 use Rattle.muf_token.specs.inner.Bytes.{are_inside}
-
-and_left : (a b : Bool) → (a && b) ≡ true → a ≡ true
-and_left true b h = refl
-and_left false b h = h
-
-and_right : (a b : Bool) → (a && b) ≡ true → b ≡ true
-and_right true b h = h
-and_right false b h = cc
-
-and_both : (a b : Bool) → a ≡ true → b ≡ true → (a && b) ≡ true
-and_both true b h k = k
-and_both false b h k = h
 
 -- what stands behind the first byte
 pub inside_tail : (b : ℕ) (bytes : List ℕ) → are_inside (b ∷ bytes) ≡ true → are_inside bytes ≡ true
-inside_tail b bytes h = and_right (not (is_outside b)) (are_inside bytes) h
+inside_tail b bytes h = (and_parts (not (is_outside b)) (are_inside bytes) h).1
 
 pub inside_head : (b : ℕ) (bytes : List ℕ) → are_inside (b ∷ bytes) ≡ true → not (is_outside b) ≡ true
-inside_head b bytes h = and_left (not (is_outside b)) (are_inside bytes) h
+inside_head b bytes h = (and_parts (not (is_outside b)) (are_inside bytes) h).0
 
 pub inside_cons : (b : ℕ) (bytes : List ℕ) → not (is_outside b) ≡ true → are_inside bytes ≡ true → are_inside (b ∷ bytes) ≡ true
-inside_cons b bytes h k = and_both (not (is_outside b)) (are_inside bytes) h k
+inside_cons b bytes h k = and_from (not (is_outside b)) (are_inside bytes) h k
 
 -- no byte stands outside
 inside_step : (v : Bool) (rest : Bool) (at n : ℕ) → suc n ≤ cond (not v) (1 + at) 0 → (n ≤ at → rest ≡ true) → (not v && rest) ≡ true
@@ -53,7 +42,6 @@ inside_text bytes h =
     inside_none bytes (grind (arith, nat_tests, none))
 
 pub text_inside : (bytes : List ℕ) → are_inside bytes ≡ true → length bytes ≤ 4096 → text_fault bytes ≡ None
-unfolding text_most
 text_inside bytes h k = let all = passed_all bytes h in grind (arith, nat_tests, all)
 
 pub inside_append : (xs ys : List ℕ) → are_inside xs ≡ true → are_inside ys ≡ true → are_inside (xs ++ ys) ≡ true

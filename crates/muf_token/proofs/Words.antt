@@ -1,31 +1,15 @@
 -- Words and the white space behind them.
-use Rattle.std.proofs.Common.{◌≡◌, ℕ, ◌≤◌, ◌+◌, Bool, true, false, not, cond, ltb, List, [], ◌∷◌, ◌++◌, length, take, drop, Some, None, unwrap_or, refl, ap, sym, ◌∙◌, arith, zero, suc}
+use Rattle.std.proofs.Common.{◌≡◌, ℕ, ◌≤◌, ◌+◌, true, not, cond, List, [], ◌∷◌, ◌++◌, length, take, drop, refl, ap, sym, ◌∙◌, arith, zero, suc}
+use Rattle.muck_model.proofs.Positions.{position_within}
 use Rattle.std.proofs.lemmas.List.{length-map}
-use Rattle.std.proofs.lemmas.Bool.{cond_both, ltb-false}
 use Rattle.std.proofs.lemmas.Bool.Decides.{nat_tests}
-use Rattle.std.specs.List.{position, position_or_len}
+use Rattle.std.specs.List.{position_or_len}
 use Rattle.std.specs.Char.{to_ascii_lowercase}
 use Rattle.muck_model.specs.Bytes.{is_outside}
 use Rattle.muf_token.specs.inner.Bytes.{are_inside}
 use Rattle.muf_token.specs.declared.piece.Piece.TheVariants.{Word}
 use Rattle.muf_token.specs.Pieces.{is_blank, lowered, below, found, word_found}
 use Rattle.muf_token.proofs.Texts.{inside_head, inside_tail, inside_cons, inside_take, inside_drop}
-
-pub position_within : {X : Type 0} (p : X → Bool) (xs : List X) → position_or_len p xs ≤ length xs
-position_within p [] = omega arith
-position_within p (x ∷ xs) =
-    elim (p x) as (λ b. cond (not b) (1 + position_or_len p xs) 0 ≤ length (x ∷ xs)) [
-      | true ↦ omega arith
-      | false ↦ omega (arith, position_within p xs)
-    ]
-
-or_all : (n m : ℕ) → n ≤ m → unwrap_or (cond (ltb n m) (Some n) None) m ≡ n
-or_all n m h = cond_both (ltb n m) (Some n) None (λ o. unwrap_or o m ≡ n) (λ e. refl) (λ e. omega (arith, ltb-false n m e))
-
-pub position_found : {X : Type 0} (p : X → Bool) (xs : List X) → unwrap_or (position p xs) (length xs) ≡ position_or_len p xs
-position_found p xs = or_all (position_or_len p xs) (length xs) (position_within p xs)
-
-pub ruleset positions = (position_found, position_within)
 
 lower_inside : (b : ℕ) → not (is_outside b) ≡ true → not (is_outside (to_ascii_lowercase b)) ≡ true
 lower_inside b h = grind (arith, nat_tests)

@@ -51,7 +51,7 @@ fn blank_at(bytes: &[u8]) -> Option<usize>
         .position(|byte| *byte == b'\n' || *byte == 13 || *byte == b' ')
 }
 
-#[tactic(auto, using(crate::proofs::Words::positions))]
+#[tactic(auto, using(muck_model::proofs::Positions::positions))]
 fn word_len(bytes: &[u8]) -> usize
     ensures at { result ≡ position_or_len is_blank bytes.now }
     ensures within { result ≤ length bytes.now }

@@ -15,7 +15,7 @@ use muf_model::{MufFault, Prim, Text, Value};
 use std::alloc::Global;
 
 // So many items at the top give way to the text of these bytes, where that is short enough.
-#[tactic(auto, using(crate::proofs::Texts::made_is_text), unfolding(muck_model::specs::Bytes::text_most))]
+#[tactic(auto, using(crate::proofs::Texts::made_is_text))]
 fn give_text(
     alloc: Global,
     frame: &mut Frame,

@@ -1,5 +1,6 @@
 -- What players build is open to them.
 use Rattle.std.proofs.Common.{◌≡◌, ℕ, Bool, true, false, cond, List, refl, subst, Option, Some, None}
+use Rattle.muck_model.proofs.Dbrefs.{eq_same}
 use Rattle.std.specs.Prelude.{Result, Ok, Err}
 use Rattle.muck_model.specs.declared.dbref.Dbref.{Dbref}
 use Rattle.muck_model.specs.declared.dbref.Kind.{Kind}
@@ -16,27 +17,22 @@ use Rattle.spec_rights.specs.declared.act.Act.TheVariants.{Move, Link, NewRoom, 
 use Rattle.spec_rights.specs.Verdict.{verdict, is_guarded}
 use Rattle.spec_rights.specs.Changing.{moved_to, created_so}
 use Rattle.spec_rights.specs.Licence.{IsNew}
-use Rattle.spec_rights.proofs.Lookups.{eq_same}
 use Rattle.spec_rights.proofs.Rights.{SameRights}
-use Rattle.spec_rights.proofs.Licences.{judge, Quiet, Stay, End, Ends, itself, end_quietly, ends_quiet, ends_stays}
+use Rattle.spec_rights.proofs.Licences.{judge, Quiet, Stay, End, Ends, itself, end_quietly, ends_quiet, ends_stays, ends_by, stays_by}
 use Rattle.spec_rights.proofs.Makings.{new_in, end_created, room_open, thing_open, exit_open}
 use Rattle.spec_rights.proofs.Places.{stays_moved, stay_moved_home}
-use Rattle.spec_rights.proofs.Permitted.{staying, ending}
+use Rattle.spec_rights.proofs.Permitted.{ending}
 use Rattle.spec_rights.proofs.Shown.{shown, quiet_tell}
 use Rattle.spec_commands.specs.declared.new.New.{New}
 use Rattle.spec_commands.specs.declared.new.New.TheVariants.{Room, Thing, Exit}
 use Rattle.spec_commands.specs.Replies.{cant_be_done}
-use Rattle.spec_commands.specs.Finding.{finding_object, message_path}
+use Rattle.spec_commands.specs.Finding.{message_path}
 use Rattle.spec_commands.specs.Going.{home_at}
 use Rattle.spec_commands.specs.Building.{made_at, created_shown, making, kind_of, as_new, act_in, made, thing_made, exit_opened, done_where, written, tied, link_set, link_cleared, name_set, kept, lock_kept, lock_set, placed, teleported, chowned, find_shown}
-use Rattle.spec_commands.proofs.Showing.{seeing, stays_where, ends_where, ends_finding, ends_finding_player, quiet_listed}
+use Rattle.spec_commands.proofs.Showing.{seeing}
 
 -- whatever ends as is open
-pub ruleset permitting = (ending, seeing, stays_where, ends_where, ends_finding, ends_finding_player)
-
-pub ends_finding_object : (a : Actor) (free : Dbref → Bool) (given : Option Act) (d : ℕ) (b : Actor) (name : List ℕ) (go : Dbref → Change) → ((x : Dbref) → Ends itself a free given (go x)) → Ends itself a free given (finding_object d b name go)
-unfolding finding_object
-ends_finding_object a free given d b name go p = search permitting
+pub ruleset permitting = (ending, seeing)
 
 -- Making.
 
@@ -48,12 +44,12 @@ ends_making : (a : Actor) (free : Dbref → Bool) (act : Act) (d : ℕ) (kind : 
     ((start es : List Entry) (k t : ℕ) → SameRights start es → verdict es a act ≡ None → place ≡ dbref_of t → IsNew (judge a free start) (dbref_of k) (new_in kind name a.user f k t)) →
     Ends itself a free (Some act) (making d a kind name place f)
 unfolding making reading followed
-ends_making a free act d kind name place f new = record { law = λ start w s g. at start w s g (create_check kind a.user place w.objects) refl }
+ends_making a free act d kind name place f new = ends_by _ (λ start w s g. at start w s g (create_check kind a.user place w.objects) refl)
   where
     at : (start : List Entry) (w : Live) → SameRights start w.objects → verdict w.objects a act ≡ None → (check : Result (ℕ × ℕ) DbFault) → create_check kind a.user place w.objects ≡ check →
         End (judge a free start) w (made_at check (λ n to. created_so n kind name a.user to f ▸ created_shown d n) (tell d cant_be_done) w)
-    at start w s g (Ok p) e = end_quietly (judge a free start) w (created_so p.0 kind name a.user p.1 f w) (created_shown d p.0) (end_created (judge a free start) kind name a.user place f w p e (λ k t q. new start w.objects k t s g q)) (quiet_created_shown d p.0)
-    at start w s g (Err fault) e = (ends_quiet a free (Some act) (tell d cant_be_done) (quiet_tell d cant_be_done)).law start w s g
+    at start w s g (Ok p) e = let v : Live = created_so p.0 kind name a.user p.1 f w in end_quietly (judge a free start) w v (created_shown d p.0 v) (end_created (judge a free start) kind name a.user place f w p e (λ k t q. new start w.objects k t s g q)) ((quiet_created_shown d p.0).law v)
+    at start w s g (Err fault) e = ((ends_quiet a free (Some act) (tell d cant_be_done) (quiet_tell d cant_be_done)).law w).law start s g
 
 making_new : (a : Actor) (free : Dbref → Bool) (d : ℕ) (new : New) (name : List ℕ) (place : Dbref) → Ends itself a free (Some (act_in place new)) (making d a (kind_of new) name place (as_new new))
 making_new a free d Room name place = ends_making a free (NewRoom place) d RoomKind name place (as_new Room) (λ start es k t s g e. room_open a free start es name place k t s g e)
@@ -118,13 +114,13 @@ lock_set_open a free d x key = search (writing, lock_kept_open)
 
 placed_open : (a : Actor) (free : Dbref → Bool) (x to : Dbref) → Ends itself a free (Some (Move x to)) (placed x to)
 unfolding placed reading
-placed_open a free x to = ends_stays a free (Some (Move x to)) _ (record { law = λ start w s g. at start w s g (same to home) refl })
+placed_open a free x to = ends_stays a free (Some (Move x to)) _ (stays_by _ (λ start w s g. at start w s g (same to home) refl))
   where
     at : (start : List Entry) (w : Live) → SameRights start w.objects → verdict w.objects a (Move x to) ≡ None → (b : Bool) → same to home ≡ b → Stay (judge a free start) w (moved_to x (cond b (home_at x w) to) w)
     at start w s g true e =
         let P : Dbref → Type 0 = λ y. verdict w.objects a (Move x y) ≡ None in
         stay_moved_home a free start w x (home_at x w) refl s (subst P (eq_same to home e) g)
-    at start w s g false e = (stays_moved a free x to).law start w s g
+    at start w s g false e = ((stays_moved a free x to).law w).law start s g
 
 pub teleported_open : (a : Actor) (free : Dbref → Bool) (d : ℕ) (x to : Dbref) → Ends itself a free None (teleported d a x to)
 unfolding teleported

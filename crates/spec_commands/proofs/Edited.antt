@@ -7,7 +7,7 @@ use Rattle.spec_rights.specs.declared.act.Actor.{Actor}
 use Rattle.spec_rights.specs.declared.act.Act.{Act}
 use Rattle.spec_rights.specs.declared.act.Act.TheVariants.{Edit as EditAct}
 use Rattle.spec_rights.specs.Licence.{Licensed, nobody}
-use Rattle.spec_rights.proofs.Licences.{Ends, Always, itself, whole_ends}
+use Rattle.spec_rights.proofs.Licences.{Ends, Always, itself, whole_ends, ends_by}
 use Rattle.spec_rights.proofs.Permitted.{ending}
 use Rattle.spec_commands.specs.declared.edit.EditCommand.{EditCommand}
 use Rattle.spec_commands.specs.declared.edit.EditCommand.TheVariants.{Insert, Delete, Show, Compile, Quit}
@@ -23,7 +23,7 @@ world_of p = p.0
 
 ends_stepped : (a : Actor) (free : Dbref → Bool) (given : Option Act) (step : EditStep) (s : EditState) (f : Change) → Ends itself a free given f → Ends world_of a free given (stepped step s f)
 unfolding stepped
-ends_stepped a free given step s f p = record { law = p.law }
+ends_stepped a free given step s f p = ends_by _ (λ start w. (p.law w).law start)
 
 ends_source_kept : (a : Actor) (free : Dbref → Bool) (program : Dbref) (lines : List (List ℕ)) → Ends itself a free (Some (EditAct program)) (source_kept program lines)
 unfolding source_kept
@@ -62,4 +62,4 @@ unfolding edited
 edited_open a free d s line = at_open a free d s line s.inserting
 
 pub edited_licensed : (d : ℕ) (a : Actor) (s : EditState) (line : List ℕ) (w : Live) → Licensed a nobody w (edited d a s line w).0
-edited_licensed d a s line w = (whole_ends world_of a None (λ es. nobody) Always (edited d a s line) (λ v h. edited_open a nobody d s line)).law w tt tt
+edited_licensed d a s line w = ((whole_ends world_of a None (λ es. nobody) Always (edited d a s line) (λ v h. edited_open a nobody d s line)).law w).law tt tt

@@ -1,6 +1,8 @@
 -- How players go, take, drop and recycle is open to them.
 use Rattle.std.proofs.Common.{◌≡◌, ℕ, Bool, true, false, List, refl, sym, ◌∙◌, ap, Option, Some, None}
 use Rattle.std.specs.Prelude.{Result, Ok, Err, ◌&&◌, ◌||◌}
+use Rattle.spec_live.proofs.Keeping.{keeps_where}
+use Rattle.std.proofs.lemmas.Bool.{and_from, and_parts, or_left, or_right}
 use Rattle.std.specs.Option.{option_map_or}
 use Rattle.muck_model.specs.declared.dbref.Dbref.{Dbref}
 use Rattle.muck_model.specs.declared.dbref.Denial.{Denial}
@@ -18,7 +20,7 @@ use Rattle.spec_rights.specs.declared.act.Act.TheVariants.{Take, Recycle}
 use Rattle.spec_rights.specs.Verdict.{verdict, place_of}
 use Rattle.spec_rights.specs.Changing.{recycled_now}
 use Rattle.spec_rights.specs.Licence.{at_hand, at_hand_kind}
-use Rattle.spec_rights.proofs.Licences.{Quiet, Stays, Ends, Whole, Always, itself, whole_ends, whole_asked, whole_quiet, whole_quietly}
+use Rattle.spec_rights.proofs.Licences.{Quiet, Stays, Ends, Whole, Always, itself, whole_ends, whole_asked, whole_quiet, whole_quietly, whole_by, ends_by}
 use Rattle.spec_rights.proofs.Recycled.{recycled_licensed}
 use Rattle.spec_rights.proofs.Allowed.{take_allowed}
 use Rattle.spec_rights.proofs.Permitted.{staying, ending}
@@ -30,7 +32,7 @@ use Rattle.spec_commands.specs.declared.word.Message.{Message}
 use Rattle.spec_commands.specs.Finding.{is_so}
 use Rattle.spec_commands.specs.Going.{ended, moving, gone, gone_home, both_shown, succeeded, failed, drop_shown, led, tried, walked, walked_some, went, is_item, not_taken, taken, is_carried, drop_place, dropped, inventory_shown}
 use Rattle.spec_commands.specs.Building.{allowed, written, done_where, recycled}
-use Rattle.spec_commands.proofs.Showing.{seeing, stays_where, ends_where, whole_where}
+use Rattle.spec_commands.proofs.Showing.{seeing, whole_where}
 
 -- The answer of a command is its world and its outcome.
 abbrev pub world_of : Live × Outcome → Live
@@ -38,21 +40,21 @@ world_of p = p.0
 
 pub ends_ended : (a : Actor) (free : Dbref → Bool) (given : Option Act) (outcome : Outcome) (f : Change) → Ends itself a free given f → Ends world_of a free given (ended outcome f)
 unfolding ended
-ends_ended a free given outcome f p = record { law = p.law }
+ends_ended a free given outcome f p = ends_by _ (λ start w. (p.law w).law start)
 
 pub whole_ended : (a : Actor) (own : Option ℕ) (free : List Entry → Dbref → Bool) (given : Live → Type 0) (outcome : Outcome) (f : Change) → Whole itself a own free given f → Whole world_of a own free given (ended outcome f)
 unfolding ended
-whole_ended a own free given outcome f p = record { law = p.law }
+whole_ended a own free given outcome f p = whole_by _ (λ w. (p.law w).law)
 
 -- Going.
 
 stays_moving : (a : Actor) (free : Dbref → Bool) (given : Option Act) (d : ℕ) (x to : Dbref) (go : Change) → free x ≡ true → Quiet go → Stays a free given (moving d x to go)
 unfolding moving
-stays_moving a free given d x to go h q = search (staying, stays_where)
+stays_moving a free given d x to go h q = search (staying, keeps_where)
 
 stays_gone : (a : Actor) (free : Dbref → Bool) (given : Option Act) (d : ℕ) (typed : Typed) (to : Dbref) (seen : Change) → free a.player ≡ true → Quiet seen → Stays a free given (gone d a typed to seen)
 unfolding gone
-stays_gone a free given d typed to seen h q = search (staying, seeing, stays_where) depth 8
+stays_gone a free given d typed to seen h q = search (staying, seeing) depth 8
 
 pub stays_gone_home : (a : Actor) (free : Dbref → Bool) (given : Option Act) (d : ℕ) → free a.player ≡ true → Stays a free given (gone_home d a)
 unfolding gone_home
@@ -68,7 +70,7 @@ quiet_failed d a typed otherwise x = search seeing
 
 ends_led : (a : Actor) (free : Dbref → Bool) (given : Option Act) (d : ℕ) (typed : Typed) (exit : Dbref) (line : List ℕ) (to : Dbref) → free a.player ≡ true → Ends world_of a free given (led d a typed exit line to)
 unfolding led
-ends_led a free given d typed exit line to h = search (ending, seeing, quiet_both_shown, ends_ended, ends_where, stays_gone) depth 9
+ends_led a free given d typed exit line to h = search (ending, seeing, quiet_both_shown, ends_ended, stays_gone) depth 9
 
 pub tried_open : (a : Actor) (free : Dbref → Bool) (d : ℕ) (typed : Typed) (exit : Dbref) (line : List ℕ) → free a.player ≡ true → Ends world_of a free None (tried d a typed exit line)
 unfolding tried
@@ -88,7 +90,7 @@ went_open a free d line h = search (ending, walked_some_open)
 
 -- Taking and dropping what is at hand.
 
-item_kind : (k : Kind) → (is_thing k || is_program k) ≡ true → at_hand_kind k ≡ true
+pub item_kind : (k : Kind) → (is_thing k || is_program k) ≡ true → at_hand_kind k ≡ true
 item_kind Thing e = refl
 item_kind Program e = refl
 item_kind Room e = cc
@@ -96,37 +98,19 @@ item_kind Exit e = cc
 item_kind Player e = cc
 item_kind Garbage e = cc
 
-and_two : (b c : Bool) → b ≡ true → c ≡ true → (b && c) ≡ true
-and_two b c e f = rw (e, f) refl
-
-or_right : (b c : Bool) → c ≡ true → (b || c) ≡ true
-or_right true c e = refl
-or_right false c e = e
-
-or_left : (b c : Bool) → b ≡ true → (b || c) ≡ true
-or_left b c e = rw e refl
-
 here_at_hand : (es : List Entry) (a : Actor) (x : Dbref) (q : Option Object) → object_at x es ≡ q → option_map_or (λ (o : Object). is_thing o.kind || is_program o.kind) q false ≡ true → same (place_of es x) (place_of es a.player) ≡ true → at_hand es a x ≡ true
 here_at_hand es a x None e t p = absurd (cc)
 here_at_hand es a x (Some o) e t p =
     let here : Dbref = place_of es a.player in
     let place : same o.place here ≡ true = ap (λ (y : Dbref). same y here) (sym (ap (λ (q : Option Object). option_map_or (λ (k : Object). k.place) q nothing) e)) ∙ p in
     ap (λ (q : Option Object). option_map_or (λ (k : Object). at_hand_kind k.kind && (same k.place a.player || same k.place here)) q false) e
-    ∙ and_two _ _ (item_kind o.kind t) (or_right (same o.place a.player) _ place)
-
-and_first : (b c : Bool) → (b && c) ≡ true → b ≡ true
-and_first true c e = refl
-and_first false c e = e
-
-and_second : (b c : Bool) → (b && c) ≡ true → c ≡ true
-and_second true c e = e
-and_second false c e = cc
+    ∙ and_from _ _ (item_kind o.kind t) (or_right (same o.place a.player) _ place)
 
 carried_at_hand : (es : List Entry) (a : Actor) (x : Dbref) (q : Option Object) → object_at x es ≡ q → option_map_or (λ (o : Object). (is_thing o.kind || is_program o.kind) && same o.place a.player) q false ≡ true → at_hand es a x ≡ true
 carried_at_hand es a x None e t = absurd (cc)
 carried_at_hand es a x (Some o) e t =
     ap (λ (q : Option Object). option_map_or (λ (k : Object). at_hand_kind k.kind && (same k.place a.player || same k.place (place_of es a.player))) q false) e
-    ∙ and_two _ _ (item_kind o.kind (and_first (is_thing o.kind || is_program o.kind) (same o.place a.player) t)) (or_left (same o.place a.player) (same o.place (place_of es a.player)) (and_second (is_thing o.kind || is_program o.kind) (same o.place a.player) t))
+    ∙ and_from _ _ (item_kind o.kind (and_parts (is_thing o.kind || is_program o.kind) (same o.place a.player) t).0) (or_left (same o.place a.player) (same o.place (place_of es a.player)) (and_parts (is_thing o.kind || is_program o.kind) (same o.place a.player) t).1)
 
 item_at : (x : Dbref) (w : Live) → is_item x w ≡ true → option_map_or (λ (o : Object). is_thing o.kind || is_program o.kind) (object_at x w.objects) false ≡ true
 unfolding is_so
@@ -176,12 +160,10 @@ passed (Ok n) e = (n, refl)
 passed (Err fault) e = absurd (cc)
 
 recycling : (a : Actor) (own : Option ℕ) (free : List Entry → Dbref → Bool) (x : Dbref) (given : Live → Type 0) → ((w : Live) → given w → (verdict w.objects a (Recycle x) ≡ None) × (allowed (recycle_check x w.objects) ≡ true)) → Whole itself a own free given (recycled_now x)
-recycling a own free x given h = record {
-  law = λ w c g.
-      let t = h w g in
-      let p = passed (recycle_check x w.objects) t.1 in
-      recycled_licensed a (free w.objects) x w p.0 t.0 p.1;
-}
+recycling a own free x given h = whole_by _ (λ w c g.
+    let t = h w g in
+    let p = passed (recycle_check x w.objects) t.1 in
+    recycled_licensed a (free w.objects) x w p.0 t.0 p.1)
 
 pub recycled_open : (a : Actor) (own : Option ℕ) (free : List Entry → Dbref → Bool) (d : ℕ) (x : Dbref) → Whole itself a own free Always (recycled d a x)
 unfolding recycled written done_where

@@ -6,7 +6,8 @@ use Rattle.muck_match.specs.declared.naming.Found.TheVariants.{One, None as Nobo
 use Rattle.spec_live.specs.Objects.{Entry}
 use Rattle.spec_live.specs.Lives.{Live, Change, reading, either, tell}
 use Rattle.spec_rights.specs.declared.act.Actor.{Actor}
-use Rattle.spec_rights.proofs.Licences.{Quiet, Ends, Whole, Always, itself, whole_ends, whole_quiet, whole_reading, whole_either}
+use Rattle.spec_rights.proofs.Licences.{Quiet, Ends, Whole, Always, itself, whole_ends, whole_quiet}
+use Rattle.spec_live.proofs.Keeping.{keeps_reading, keeps_either}
 use Rattle.spec_rights.proofs.Shown.{shown}
 use Rattle.spec_commands.specs.declared.outcome.Outcome.TheVariants.{Done}
 use Rattle.spec_commands.specs.declared.shape.Want.{Want}
@@ -38,10 +39,10 @@ pub lawful_play : (a : Actor) (own : Option ℕ) (free : List Entry → Dbref �
 lawful_play a own free f p m = record { licence = whole_ends world_of a own free Always f (λ w h. p (free w.objects)); mine = m }
 
 pub lawful_either : (a : Actor) (own : Option ℕ) (free : List Entry → Dbref → Bool) (b : Bool) (f g : Play) → Lawful a own free f → Lawful a own free g → Lawful a own free (either b f g)
-lawful_either a own free b f g p q = record { licence = whole_either world_of a own free Always b f g p.licence q.licence; mine = mine_either b f g p.mine q.mine }
+lawful_either a own free b f g p q = record { licence = keeps_either b f g p.licence q.licence; mine = mine_either b f g p.mine q.mine }
 
 pub lawful_reading : {X : Type 0} (a : Actor) (own : Option ℕ) (free : List Entry → Dbref → Bool) (get : Live → X) (go : X → Play) → ((x : X) → Lawful a own free (go x)) → Lawful a own free (reading get go)
-lawful_reading a own free get go p = record { licence = whole_reading world_of a own free Always get go (λ x. (p x).licence); mine = mine_reading get go (λ x. (p x).mine) }
+lawful_reading a own free get go p = record { licence = keeps_reading get go (λ x. (p x).licence); mine = mine_reading get go (λ x. (p x).mine) }
 
 pub lawful_over : (a : Actor) (own : Option ℕ) (free : List Entry → Dbref → Bool) (d : ℕ) (text : List ℕ) → Lawful a own free (over d text)
 lawful_over a own free d text = lawful_quiet a own free (tell d text) (search shown)

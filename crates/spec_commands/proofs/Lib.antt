@@ -1,4 +1,3 @@
-pub mod Positions
 pub mod Trims
 pub mod Showing
 pub mod Built

@@ -2,11 +2,12 @@
 use Rattle.std.proofs.Common.{ℕ, Bool, true, false, List, [], ◌∷◌, Option, Some, None}
 use Rattle.muck_model.specs.declared.dbref.Dbref.{Dbref}
 use Rattle.spec_live.specs.Lives.{tell}
-use Rattle.spec_rights.proofs.Licences.{Quiet, quiet_reading, quiet_unchanged}
+use Rattle.spec_rights.proofs.Licences.{Quiet, quiet_unchanged}
 use Rattle.spec_rights.proofs.Shown.{shown, quiet_tell}
 use Rattle.spec_commands.specs.Replies.{goodbye, has_disconnected}
+use Rattle.spec_live.proofs.Keeping.{keeps_followed, keeps_reading, keeps_either}
 use Rattle.spec_commands.specs.Talk.{welcome, refused_login, let_in, logged_in, connecting, quit, at_login, parting, parted}
-use Rattle.spec_commands.proofs.Numbered.{Seating, seating_quiet, seating_followed, seating_reading, seating_either, seating_leave, seating_enter}
+use Rattle.spec_commands.proofs.Numbered.{Seating, seating_order, seating_quiet, seating_leave, seating_enter}
 use Rattle.spec_commands.proofs.Showing.{quiet_shown_others, quiet_looked, quiet_who_shown}
 
 -- The login screen.
@@ -16,15 +17,15 @@ seating_tell d text = seating_quiet _ (quiet_tell d text)
 
 seating_quit : (d : ℕ) → Seating (quit d)
 unfolding quit
-seating_quit d = seating_followed _ _ (seating_tell d goodbye) (seating_leave d)
+seating_quit d = keeps_followed _ _ seating_order (seating_tell d goodbye) (seating_leave d)
 
 seating_let_in : (d : ℕ) (player : Option Dbref) → Seating (let_in d player)
 seating_let_in d None = seating_tell d refused_login
-seating_let_in d (Some player) = seating_followed _ _ (seating_enter d player) (seating_quiet _ (search (shown, quiet_shown_others, quiet_looked)))
+seating_let_in d (Some player) = keeps_followed _ _ seating_order (seating_enter d player) (seating_quiet _ (search (shown, quiet_shown_others, quiet_looked)))
 
 seating_logged_in : (d : ℕ) (name word : List ℕ) → Seating (logged_in d name word)
 unfolding logged_in
-seating_logged_in d name word = seating_reading _ (let_in d) (seating_let_in d)
+seating_logged_in d name word = keeps_reading _ (let_in d) (seating_let_in d)
 
 seating_connecting : (d : ℕ) (name word : List ℕ) → Seating (connecting d name word)
 unfolding connecting
@@ -34,8 +35,8 @@ seating_connecting d name (b ∷ word) = seating_logged_in d name (b ∷ word)
 pub seating_at_login : (d : ℕ) (line : List ℕ) → Seating (at_login d line)
 unfolding at_login
 seating_at_login d line =
-    seating_either _ _ _ (seating_quit d)
-    (seating_either _ _ _ (seating_quiet _ (quiet_who_shown d)) (seating_either _ _ _ (seating_connecting d _ _) (seating_tell d welcome)))
+    keeps_either _ _ _ (seating_quit d)
+    (keeps_either _ _ _ (seating_quiet _ (quiet_who_shown d)) (keeps_either _ _ _ (seating_connecting d _ _) (seating_tell d welcome)))
 
 -- Going away.
 
@@ -46,4 +47,4 @@ quiet_parting false player = quiet_shown_others player has_disconnected
 pub quiet_parted : (player : Option Dbref) → Quiet (parted player)
 unfolding parted
 quiet_parted None = quiet_unchanged
-quiet_parted (Some player) = quiet_reading _ (λ others. parting others player) (λ others. quiet_parting others player)
+quiet_parted (Some player) = keeps_reading _ (λ others. parting others player) (λ others. quiet_parting others player)

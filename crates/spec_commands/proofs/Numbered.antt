@@ -4,7 +4,8 @@ use Rattle.std.specs.Prelude.{map}
 use Rattle.muck_model.specs.declared.dbref.Dbref.{Dbref}
 use Rattle.spec_live.specs.Connections.{Connection, has_number, changed_in, left, seated}
 use Rattle.spec_live.specs.Boards.{on_connection, leaving_one, seated_one}
-use Rattle.spec_live.specs.Lives.{Live, Change, followed, reading, either, on_board, leave, enter}
+use Rattle.spec_live.proofs.Keeping.{Keeps, Order, keeps_more}
+use Rattle.spec_live.specs.Lives.{Live, Change, on_board, leave, enter}
 use Rattle.spec_rights.specs.declared.act.Actor.{Actor}
 use Rattle.spec_rights.specs.Licence.{SameTies}
 use Rattle.spec_rights.proofs.Licences.{Quiet, tie, ties}
@@ -64,30 +65,26 @@ numbers-same_ties a [] (d ∷ ds) t = absurd t
 numbers-same_ties a (c ∷ cs) [] t = absurd t
 numbers-same_ties a (c ∷ cs) (d ∷ ds) t = ap (λ n. n ∷ numbers ds) t.0 ∙ ap (λ ns. c.number ∷ ns) (numbers-same_ties a cs ds t.3)
 
--- Changes of connections alone, which keep their numbers.
-pub record Seating (f : Change) : Type 0 where
-  pub objects : (w : Live) → (f w).objects ≡ w.objects
-  pub tune : (w : Live) → (f w).board.tune ≡ w.board.tune
-  pub numbers : (w : Live) → numbers (f w).board.connections ≡ numbers w.board.connections
+-- Worlds of which only the connections differ, which keep their numbers.
+pub record Seats (w v : Live) : Type 0 where
+  pub objects : v.objects ≡ w.objects
+  pub tune : v.board.tune ≡ w.board.tune
+  pub numbers : numbers v.board.connections ≡ numbers w.board.connections
+
+abbrev pub Seating : Change → Type 0
+Seating f = Keeps Seats f
+
+pub seating_order : Order Seats
+seating_order = record {
+  itself = λ w. record { objects = refl; tune = refl; numbers = refl };
+  both = λ u v w r s. record { objects = s.objects ∙ r.objects; tune = s.tune ∙ r.tune; numbers = s.numbers ∙ r.numbers };
+}
 
 pub seating_quiet : (f : Change) → Quiet f → Seating f
-seating_quiet f q = record { objects = q.objects; tune = q.tune; numbers = λ w. numbers-ties w.board.connections (f w).board.connections (q.ties w) }
-
-pub seating_followed : (f g : Change) → Seating f → Seating g → Seating (followed f g)
-unfolding followed
-seating_followed f g p q = record { objects = λ w. q.objects (f w) ∙ p.objects w; tune = λ w. q.tune (f w) ∙ p.tune w; numbers = λ w. q.numbers (f w) ∙ p.numbers w }
-
-pub seating_reading : {X : Type 0} (get : Live → X) (go : X → Change) → ((x : X) → Seating (go x)) → Seating (reading get go)
-unfolding reading
-seating_reading get go p = record { objects = λ w. (p (get w)).objects w; tune = λ w. (p (get w)).tune w; numbers = λ w. (p (get w)).numbers w }
-
-pub seating_either : (b : Bool) (f g : Change) → Seating f → Seating g → Seating (either b f g)
-unfolding either
-seating_either true f g p q = record { objects = p.objects; tune = p.tune; numbers = p.numbers }
-seating_either false f g p q = record { objects = q.objects; tune = q.tune; numbers = q.numbers }
+seating_quiet f q = keeps_more f (λ w v s. record { objects = s.objects; tune = s.tune; numbers = numbers-ties w.board.connections v.board.connections s.ties }) q
 
 pub seating_one : (d : ℕ) (f : Connection → Connection) → ((c : Connection) → (f c).number ≡ c.number) → Seating (on_board (on_connection d f))
-seating_one d f keeps = record { objects = λ w. refl; tune = λ w. refl; numbers = λ w. numbers-changed_in d f keeps w.board.connections }
+seating_one d f keeps = record { law = λ w. record { objects = refl; tune = refl; numbers = numbers-changed_in d f keeps w.board.connections } }
 
 pub seating_leave : (d : ℕ) → Seating (leave d)
 unfolding leave leaving_one

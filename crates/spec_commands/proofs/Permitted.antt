@@ -1,5 +1,6 @@
 -- What a line of a player does is open to it.
 use Rattle.std.proofs.Common.{◌≡◌, ◌==◌, ℕ, Bool, true, false, cond, List, [], ◌∷◌, refl, sym, subst, Option, Some, None}
+use Rattle.muck_model.proofs.Dbrefs.{same_eq}
 use Rattle.muck_model.specs.declared.dbref.Dbref.{Dbref}
 use Rattle.std.specs.Prelude.{codes, ◌||◌}
 use Rattle.muck_prop.specs.Paths.{class_of}
@@ -11,8 +12,7 @@ use Rattle.spec_live.specs.Lives.{Live, ◌▸◌, reading, unchanged}
 use Rattle.spec_rights.specs.declared.act.Actor.{Actor}
 use Rattle.spec_rights.specs.Verdict.{is_guarded}
 use Rattle.spec_rights.specs.Licence.{Licensed, oneself}
-use Rattle.spec_rights.proofs.Lookups.{same_eq}
-use Rattle.spec_rights.proofs.Licences.{Own, Whole, Always, itself, whole_ends, whole_quiet, whole_followed, ends_stays, quiet_unchanged}
+use Rattle.spec_rights.proofs.Licences.{Own, Whole, Always, itself, whole_ends, whole_quiet, whole_followed, ends_stays, quiet_unchanged, whole_by}
 use Rattle.spec_rights.proofs.Shown.{shown}
 use Rattle.spec_commands.specs.declared.outcome.Outcome.{Outcome}
 use Rattle.spec_commands.specs.declared.outcome.Outcome.TheVariants.{Done, NotMine, Leave}
@@ -108,15 +108,13 @@ next_kept g v outcome h = refl
 
 or_mine : (a : Actor) (own : Option ℕ) (free : List Entry → Dbref → Bool) (f g : Play) → Lawful a own free f → Whole world_of a own free Always (or_else f g)
 unfolding or_else
-or_mine a own free f g p = record {
-  law = λ w c h.
-      let P : Live → Type 0 = λ v. Licensed a (free w.objects) w v in
-      subst P (sym (next_kept g (f w).0 (f w).1 (p.mine.law w))) (p.licence.law w c h);
-}
+or_mine a own free f g p = whole_by _ (λ w c h.
+    let P : Live → Type 0 = λ v. Licensed a (free w.objects) w v in
+    subst P (sym (next_kept g (f w).0 (f w).1 (p.mine.law w))) ((p.licence.law w).law c h))
 
 or_none : (a : Actor) (own : Option ℕ) (free : List Entry → Dbref → Bool) (g : Play) → Whole world_of a own free Always g → Whole world_of a own free Always (or_else (ended NotMine unchanged) g)
 unfolding or_else ended unchanged
-or_none a own free g p = record { law = λ w c h. p.law w c h }
+or_none a own free g p = whole_by _ (λ w. (p.law w).law)
 
 leading_lawful : (a : Actor) (own : Option ℕ) (free : List Entry → Dbref → Bool) (f : Play) → Lawful a own free f → Leading a own free f
 leading_lawful a own free f p = record { licence = p.licence; next = λ g q. or_mine a own free f g p }
@@ -159,20 +157,20 @@ through_open : (a : Actor) (own : Option ℕ) (d : ℕ) (line : List ℕ) (hit :
     Licensed a (free_by false hit (looked_up play_words (first_word (trimmed line))) a w.objects) w (world_of (through d a line hit w))
 unfolding free_play
 through_open a own d line (Some hit) w c e =
-    (whole_ends world_of a own (λ es. oneself a) Always _ (λ v h. walked_open a (oneself a) d hit line (self_free a))).law w c tt
+    ((whole_ends world_of a own (λ es. oneself a) Always _ (λ v h. walked_open a (oneself a) d hit line (self_free a))).law w).law c tt
 through_open a own d line None w c e =
     let P : Bool → Type 0 = λ b. Licensed a (free_by b None (looked_up play_words (first_word (trimmed line))) a w.objects) w (world_of (commanded d a line w)) in
-    subst P e ((commanded_open a own d line).law w c tt)
+    subst P e (((commanded_open a own d line).law w).law c tt)
 
 pub played_open : (a : Actor) (own : Option ℕ) (d : ℕ) (line : List ℕ) → Whole world_of a own (free_line a line) Always (played d a line)
 unfolding played free_line free_play reading
-played_open a own d line = record { law = λ w c h. at w c (begins_with_sign line) refl }
+played_open a own d line = whole_by _ (λ w c h. at w c (begins_with_sign line) refl)
   where
     at : (w : Live) → Own own w a → (b : Bool) → begins_with_sign line ≡ b →
         Licensed a (free_by b (exit_for (scenery_of w.objects) a.player line) (looked_up play_words (first_word (trimmed line))) a w.objects) w (world_of (cond b (commanded d a line) (reading (λ v. exit_for (scenery_of v.objects) a.player line) (through d a line)) w))
     at w c true e =
         let P : Bool → Type 0 = λ b. Licensed a (free_by b None (looked_up play_words (first_word (trimmed line))) a w.objects) w (world_of (commanded d a line w)) in
-        subst P e ((commanded_open a own d line).law w c tt)
+        subst P e (((commanded_open a own d line).law w).law c tt)
     at w c false e = through_open a own d line (exit_for (scenery_of w.objects) a.player line) w c e
 
 -- with the lines that wait behind it

@@ -4,110 +4,60 @@ use Rattle.muck_model.specs.declared.dbref.Dbref.{Dbref}
 use Rattle.muck_match.specs.declared.naming.Found.{Found}
 use Rattle.muck_match.specs.declared.naming.Found.TheVariants.{One, None as Nobody, Many}
 use Rattle.spec_live.specs.Objects.{Entry}
-use Rattle.spec_live.specs.Lives.{Live, Change, reading, either}
+use Rattle.spec_live.specs.Lives.{Live, Change, either, tell}
 use Rattle.spec_rights.specs.declared.act.Actor.{Actor}
-use Rattle.spec_rights.specs.declared.act.Act.{Act}
 use Rattle.spec_rights.proofs.Shown.{shown, quiet_one}
-use Rattle.spec_rights.proofs.Licences.{Quiet, Stays, Ends, Whole, quiet_reading, stays_reading, ends_reading, whole_reading, whole_told, quiet_followed, quiet_unchanged}
+use Rattle.spec_rights.proofs.Licences.{Quiet, Whole, whole_told, quiet_unchanged, quiet_order, whole_by}
 use Rattle.spec_commands.specs.declared.typed.Typed.{Typed}
 use Rattle.spec_commands.specs.declared.word.Message.{Message}
 use Rattle.spec_commands.specs.Messages.{message_how, spoken, spoken_some, with_message}
 use Rattle.spec_commands.specs.declared.presence.Presence.{Presence}
 use Rattle.spec_commands.specs.Finding.{each, chosen, finding, named_player, finding_player, where_so, finding_object, shown_others, message_or, message_shown, message_to_others, listed, listed_under, room_shown, looked, owner_shown}
 use Rattle.spec_commands.specs.Talking.{said_to, presence_shown, who_shown}
+use Rattle.spec_live.proofs.Keeping.{Keeps, keeps_followed, keeps_reading, keeps_where}
 use Rattle.spec_commands.specs.Talk.{waits}
 
--- Where the world is so.
+-- Where the world is so: go with what the test says.
 
-pub quiet_where : (test : Live → Bool) (otherwise go : Change) → Quiet otherwise → Quiet go → Quiet (where_so test otherwise go)
-unfolding where_so
-quiet_where test otherwise go p q = search shown
-
-pub stays_where : (a : Actor) (free : Dbref → Bool) (given : Option Act) (test : Live → Bool) (otherwise go : Change) → Stays a free given otherwise → Stays a free given go → Stays a free given (where_so test otherwise go)
-unfolding where_so either reading
-stays_where a free given test otherwise go p q = stays_reading a free given test _ (λ b. at b)
-  where
-    at : (b : Bool) → Stays a free given (either b go otherwise)
-    at true = q
-    at false = p
-
-pub ends_where : {Y : Type 0} (out : Y → Live) (a : Actor) (free : Dbref → Bool) (given : Option Act) (test : Live → Bool) (otherwise go : Live → Y) → Ends out a free given otherwise → Ends out a free given go → Ends out a free given (where_so test otherwise go)
-unfolding where_so either
-ends_where out a free given test otherwise go p q = ends_reading out a free given test (λ b. either b go otherwise) (λ b. at b)
-  where
-    at : (b : Bool) → Ends out a free given (either b go otherwise)
-    at true = record { law = q.law }
-    at false = record { law = p.law }
-
--- go with what the test says
 pub whole_where : {Y : Type 0} (out : Y → Live) (a : Actor) (own : Option ℕ) (free : List Entry → Dbref → Bool) (given : Live → Type 0) (test : Live → Bool) (otherwise go : Live → Y) →
     Whole out a own free given otherwise → Whole out a own free (λ w. given w × (test w ≡ true)) go → Whole out a own free given (where_so test otherwise go)
 unfolding where_so either
 whole_where out a own free given test otherwise go p q = whole_told out a own free given test (λ b. either b go otherwise) (λ b. at b)
   where
     at : (b : Bool) → Whole out a own free (λ w. given w × (test w ≡ b)) (either b go otherwise)
-    at true = record { law = λ w c h. q.law w c h }
-    at false = record { law = λ w c h. p.law w c h.0 }
+    at true = whole_by _ (λ w. (q.law w).law)
+    at false = whole_by _ (λ w c h. (p.law w).law c h.0)
 
 pub quiet_each : {X : Type 0} (go : X → Change) (xs : List X) → ((x : X) → Quiet (go x)) → Quiet (each go xs)
 unfolding each
 quiet_each go [] q = quiet_unchanged
-quiet_each go (x ∷ xs) q = quiet_followed (go x) (each go xs) (q x) (quiet_each go xs q)
+quiet_each go (x ∷ xs) q = keeps_followed (go x) (each go xs) quiet_order (q x) (quiet_each go xs q)
 
 -- Finding.
 
-quiet_chosen : (refuse : List ℕ → Change) (text : List ℕ) (go : Dbref → Change) (hit : Found) → ((t : List ℕ) → Quiet (refuse t)) → ((x : Dbref) → Quiet (go x)) → Quiet (chosen refuse text go hit)
-quiet_chosen refuse text go (One x) p q = q x
-quiet_chosen refuse text go Nobody p q = p _
-quiet_chosen refuse text go Many p q = p _
+keeps_chosen : {W Y : Type 0} {R : W → Y → Type 0} (refuse : List ℕ → W → Y) (text : List ℕ) (go : Dbref → W → Y) (hit : Found) → ((t : List ℕ) → Keeps R (refuse t)) → ((x : Dbref) → Keeps R (go x)) → Keeps R (chosen refuse text go hit)
+keeps_chosen refuse text go (One x) p q = q x
+keeps_chosen refuse text go Nobody p q = p _
+keeps_chosen refuse text go Many p q = p _
 
-pub quiet_finding : (refuse : List ℕ → Change) (player : Dbref) (text : List ℕ) (go : Dbref → Change) → ((t : List ℕ) → Quiet (refuse t)) → ((x : Dbref) → Quiet (go x)) → Quiet (finding refuse player text go)
+pub keeps_finding : {Y : Type 0} {R : Live → Y → Type 0} (refuse : List ℕ → Live → Y) (player : Dbref) (text : List ℕ) (go : Dbref → Live → Y) → ((t : List ℕ) → Keeps R (refuse t)) → ((x : Dbref) → Keeps R (go x)) → Keeps R (finding refuse player text go)
 unfolding finding
-quiet_finding refuse player text go p q = quiet_reading _ (chosen refuse text go) (λ hit. quiet_chosen refuse text go hit p q)
+keeps_finding refuse player text go p q = keeps_reading _ (chosen refuse text go) (λ hit. keeps_chosen refuse text go hit p q)
 
-ends_chosen : {Y : Type 0} (out : Y → Live) (a : Actor) (free : Dbref → Bool) (given : Option Act) (refuse : List ℕ → Live → Y) (text : List ℕ) (go : Dbref → Live → Y) (hit : Found) →
-    ((t : List ℕ) → Ends out a free given (refuse t)) → ((x : Dbref) → Ends out a free given (go x)) → Ends out a free given (chosen refuse text go hit)
-ends_chosen out a free given refuse text go (One x) p q = q x
-ends_chosen out a free given refuse text go Nobody p q = p _
-ends_chosen out a free given refuse text go Many p q = p _
+keeps_named : {W Y : Type 0} {R : W → Y → Type 0} (refuse : List ℕ → W → Y) (name : List ℕ) (go : Dbref → W → Y) (hit : Option Dbref) → ((t : List ℕ) → Keeps R (refuse t)) → ((x : Dbref) → Keeps R (go x)) → Keeps R (named_player refuse name go hit)
+keeps_named refuse name go (Some x) p q = q x
+keeps_named refuse name go None p q = p _
 
-pub ends_finding : {Y : Type 0} (out : Y → Live) (a : Actor) (free : Dbref → Bool) (given : Option Act) (refuse : List ℕ → Live → Y) (player : Dbref) (text : List ℕ) (go : Dbref → Live → Y) →
-    ((t : List ℕ) → Ends out a free given (refuse t)) → ((x : Dbref) → Ends out a free given (go x)) → Ends out a free given (finding refuse player text go)
-unfolding finding
-ends_finding out a free given refuse player text go p q = ends_reading out a free given _ (chosen refuse text go) (λ hit. ends_chosen out a free given refuse text go hit p q)
-
-whole_chosen : {Y : Type 0} (out : Y → Live) (a : Actor) (own : Option ℕ) (free : List Entry → Dbref → Bool) (given : Live → Type 0) (refuse : List ℕ → Live → Y) (text : List ℕ) (go : Dbref → Live → Y) (hit : Found) →
-    ((t : List ℕ) → Whole out a own free given (refuse t)) → ((x : Dbref) → Whole out a own free given (go x)) → Whole out a own free given (chosen refuse text go hit)
-whole_chosen out a own free given refuse text go (One x) p q = q x
-whole_chosen out a own free given refuse text go Nobody p q = p _
-whole_chosen out a own free given refuse text go Many p q = p _
-
-pub whole_finding : {Y : Type 0} (out : Y → Live) (a : Actor) (own : Option ℕ) (free : List Entry → Dbref → Bool) (given : Live → Type 0) (refuse : List ℕ → Live → Y) (player : Dbref) (text : List ℕ) (go : Dbref → Live → Y) →
-    ((t : List ℕ) → Whole out a own free given (refuse t)) → ((x : Dbref) → Whole out a own free given (go x)) → Whole out a own free given (finding refuse player text go)
-unfolding finding
-whole_finding out a own free given refuse player text go p q = whole_reading out a own free given _ (chosen refuse text go) (λ hit. whole_chosen out a own free given refuse text go hit p q)
-
-quiet_named : (refuse : List ℕ → Change) (name : List ℕ) (go : Dbref → Change) (hit : Option Dbref) → ((t : List ℕ) → Quiet (refuse t)) → ((x : Dbref) → Quiet (go x)) → Quiet (named_player refuse name go hit)
-quiet_named refuse name go (Some x) p q = q x
-quiet_named refuse name go None p q = p _
-
-pub quiet_finding_player : (refuse : List ℕ → Change) (name : List ℕ) (go : Dbref → Change) → ((t : List ℕ) → Quiet (refuse t)) → ((x : Dbref) → Quiet (go x)) → Quiet (finding_player refuse name go)
+pub keeps_finding_player : {Y : Type 0} {R : Live → Y → Type 0} (refuse : List ℕ → Live → Y) (name : List ℕ) (go : Dbref → Live → Y) → ((t : List ℕ) → Keeps R (refuse t)) → ((x : Dbref) → Keeps R (go x)) → Keeps R (finding_player refuse name go)
 unfolding finding_player
-quiet_finding_player refuse name go p q = quiet_reading _ (named_player refuse name go) (λ hit. quiet_named refuse name go hit p q)
+keeps_finding_player refuse name go p q = keeps_reading _ (named_player refuse name go) (λ hit. keeps_named refuse name go hit p q)
 
-ends_named : {Y : Type 0} (out : Y → Live) (a : Actor) (free : Dbref → Bool) (given : Option Act) (refuse : List ℕ → Live → Y) (name : List ℕ) (go : Dbref → Live → Y) (hit : Option Dbref) →
-    ((t : List ℕ) → Ends out a free given (refuse t)) → ((x : Dbref) → Ends out a free given (go x)) → Ends out a free given (named_player refuse name go hit)
-ends_named out a free given refuse name go (Some x) p q = q x
-ends_named out a free given refuse name go None p q = p _
-
-pub ends_finding_player : {Y : Type 0} (out : Y → Live) (a : Actor) (free : Dbref → Bool) (given : Option Act) (refuse : List ℕ → Live → Y) (name : List ℕ) (go : Dbref → Live → Y) →
-    ((t : List ℕ) → Ends out a free given (refuse t)) → ((x : Dbref) → Ends out a free given (go x)) → Ends out a free given (finding_player refuse name go)
-unfolding finding_player
-ends_finding_player out a free given refuse name go p q = ends_reading out a free given _ (named_player refuse name go) (λ hit. ends_named out a free given refuse name go hit p q)
-
-pub quiet_finding_object : (d : ℕ) (a : Actor) (name : List ℕ) (go : Dbref → Change) → ((x : Dbref) → Quiet (go x)) → Quiet (finding_object d a name go)
+pub keeps_finding_object : {R : Live → Live → Type 0} (d : ℕ) (a : Actor) (name : List ℕ) (go : Dbref → Change) → ((t : List ℕ) → Keeps R (tell d t)) → ((x : Dbref) → Keeps R (go x)) → Keeps R (finding_object d a name go)
 unfolding finding_object
-quiet_finding_object d a name go q = search (shown, quiet_finding, quiet_where)
+keeps_finding_object d a name go p q = keeps_finding _ _ _ _ p (λ x. keeps_where _ _ _ (p _) (q x))
+
+-- whatever is found
+pub ruleset finds = (keeps_where, keeps_finding, keeps_finding_player, keeps_finding_object)
 
 -- Messages.
 
@@ -123,7 +73,7 @@ quiet_spoken_some a typed m x otherwise go None p q = p
 
 pub quiet_with_message : (a : Actor) (typed : Typed) (m : Message) (x : Dbref) (otherwise : Change) (go : List ℕ → Change) → Quiet otherwise → ((t : List ℕ) → Quiet (go t)) → Quiet (with_message a typed m x otherwise go)
 unfolding with_message
-quiet_with_message a typed m x otherwise go p q = quiet_reading _ (spoken_some a typed m x otherwise go) (λ message. quiet_spoken_some a typed m x otherwise go message p q)
+quiet_with_message a typed m x otherwise go p q = keeps_reading _ (spoken_some a typed m x otherwise go) (λ message. quiet_spoken_some a typed m x otherwise go message p q)
 
 pub quiet_shown_others : (player : Dbref) (tail : List ℕ) → Quiet (shown_others player tail)
 unfolding shown_others
@@ -146,12 +96,12 @@ quiet_message_to_others a typed m x = search (shown, quiet_with_message, quiet_s
 pub quiet_listed : (d : ℕ) (player : Dbref) (xs : List Dbref) → Quiet (listed d player xs)
 unfolding listed
 quiet_listed d player [] = search shown
-quiet_listed d player (x ∷ xs) = quiet_followed _ _ (search shown) (quiet_listed d player xs)
+quiet_listed d player (x ∷ xs) = keeps_followed _ _ quiet_order (search shown) (quiet_listed d player xs)
 
 pub quiet_listed_under : (d : ℕ) (player : Dbref) (head : List ℕ) (otherwise : Change) (xs : List Dbref) → Quiet otherwise → Quiet (listed_under d player head otherwise xs)
 unfolding listed_under
 quiet_listed_under d player head otherwise [] p = p
-quiet_listed_under d player head otherwise (x ∷ xs) p = quiet_followed _ _ (search shown) (quiet_listed d player (x ∷ xs))
+quiet_listed_under d player head otherwise (x ∷ xs) p = keeps_followed _ _ quiet_order (search shown) (quiet_listed d player (x ∷ xs))
 
 pub quiet_room_shown : (d : ℕ) (a : Actor) (typed : Typed) (room : Dbref) → Quiet (room_shown d a typed room)
 unfolding room_shown
@@ -185,4 +135,4 @@ unfolding waits
 quiet_waits d lines = quiet_one d (λ c. record c { waiting = lines }) (λ c. refl)
 
 -- whatever players see
-pub ruleset seeing = (shown, quiet_where, quiet_finding, quiet_finding_player, quiet_finding_object, quiet_shown_others, quiet_message_or, quiet_message_shown, quiet_message_to_others, quiet_listed, quiet_listed_under, quiet_room_shown, quiet_looked, quiet_owner_shown, quiet_said_to, quiet_who_shown, quiet_waits)
+pub ruleset seeing = (shown, finds, quiet_shown_others, quiet_message_or, quiet_message_shown, quiet_message_to_others, quiet_listed, quiet_listed_under, quiet_room_shown, quiet_looked, quiet_owner_shown, quiet_said_to, quiet_who_shown, quiet_waits)

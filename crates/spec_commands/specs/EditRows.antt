@@ -4,7 +4,6 @@ use Rattle.std.specs.Option.{option_map}
 use Rattle.std.specs.Fmt.{digits}
 use Rattle.muck_model.specs.declared.dbref.Kind.TheVariants.{Program}
 use Rattle.muck_model.specs.declared.edit.EditState.{EditState}
-use Rattle.muck_model.specs.Bytes.{text_most}
 use Rattle.muck_model.specs.Decimal.{decimal_of}
 use Rattle.spec_live.specs.declared.object.Object.{Object}
 use Rattle.spec_live.specs.Objects.{dbref_of, object_in, object_at, number_in, kind_in, changed_at}
@@ -73,5 +72,5 @@ rows :
     -- lines that are the source already change nothing, not even that it was changed
     × ((typed_in one (codes "c" ∷ codes "q" ∷ []) (desk 1, opened_on (codes "old" ∷ []), Stay)).0.objects ≡ (desk 1).objects)
     × (after_typing two 2 [] (codes "q" ∷ codes "l" ∷ []) ≡ ((codes "Permission denied (P22)." ∷ editor_exited ∷ []) ∷ [], Some (codes "old" ∷ []), Left))
-unfolding text_most decimal_of object_in object_at number_in kind_in changed_at player_one sent_lines queue_most lines_bytes line_sent lines_sent sent told_one followed reading either unchanged tell level_at owner_at flag_at owns controls_as controls asked denied_text refused lines_kept entering exiting deleted_reply editor_exited illegal line_number plain_command line_command lines_command edit_command stepped line_inserted lines_shown source_kept where_so edit_done edited early_board digits
+unfolding decimal_of object_in object_at number_in kind_in changed_at player_one sent_lines queue_most lines_bytes line_sent lines_sent sent told_one followed reading either unchanged tell level_at owner_at flag_at owns controls_as controls asked denied_text refused lines_kept entering exiting deleted_reply editor_exited illegal line_number plain_command line_command lines_command edit_command stepped line_inserted lines_shown source_kept where_so edit_done edited early_board digits
 rows = (refl, refl, refl, refl, refl, refl, refl)

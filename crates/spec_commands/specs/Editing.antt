@@ -4,6 +4,7 @@ use Rattle.std.specs.Option.{option_map_or, option_and_then}
 use Rattle.std.specs.List.{remove_range}
 use Rattle.std.specs.Cmp.Lexicographic.{pointwise}
 use Rattle.muck_model.specs.declared.dbref.Dbref.{Dbref}
+pub use Rattle.muck_model.specs.Bytes.{lines_most}
 use Rattle.muck_model.specs.declared.edit.EditState.{EditState}
 use Rattle.muck_model.specs.Decimal.{decimal_of}
 use Rattle.spec_live.specs.Lives.{Live, Change, ◌▸◌, unchanged, tell}
@@ -86,10 +87,6 @@ edit_command count line =
 
 -- Lines.
 
--- the most lines of a program
-abbrev pub lines_most : ℕ
-lines_most = 4096
-
 -- what a line does: the world after it, the state of the editor, and what follows
 abbrev pub Editing : Type 0
 Editing = Live → Live × EditState × EditStep
@@ -147,4 +144,4 @@ abbrev pub is_between : EditState → Bool
 is_between s = option_map_or (λ at. nat_le at (length s.lines)) s.inserting true
 
 abbrev pub is_open : EditState → Live → Bool
-is_open s w = is_program_at s.program w && (nat_le (length s.lines) 4096 && is_between s)
+is_open s w = is_program_at s.program w && (nat_le (length s.lines) lines_most && is_between s)

@@ -10,7 +10,8 @@ use Rattle.spec_live.specs.declared.object.Object.{Object}
 use Rattle.spec_live.specs.Flags.{dark}
 use Rattle.spec_live.specs.Objects.{Entry, same, is_room, object_at}
 use Rattle.spec_live.specs.Seen.{scenery_of, listed_in}
-use Rattle.spec_live.specs.Lives.{Live, Change, ◌▸◌, reading, either, unchanged, tell, tell_others, place_at, name_at}
+unfoldable pub use Rattle.spec_live.specs.Lives.{where_so}
+use Rattle.spec_live.specs.Lives.{Live, Change, ◌▸◌, reading, unchanged, tell, tell_others, place_at, name_at}
 use Rattle.spec_rights.specs.declared.act.Actor.{Actor}
 use Rattle.spec_rights.specs.Worth.{lock_text}
 use Rattle.spec_rights.specs.Levels.{command_level, controls_as, flag_at, name_shown, owner_at}
@@ -32,7 +33,7 @@ each go (x ∷ xs) = go x ▸ each go xs
 
 -- Finding. `refuse` says how a command ends that doesn't find what it was told.
 
-abbrev pub chosen : {Y : Type 0} → (List ℕ → Live → Y) → List ℕ → (Dbref → Live → Y) → Found → Live → Y
+abbrev pub chosen : {W Y : Type 0} → (List ℕ → W → Y) → List ℕ → (Dbref → W → Y) → Found → W → Y
 chosen refuse text go (One x) = go x
 chosen refuse text go Nobody = refuse (not_understood text)
 chosen refuse text go Many = refuse (not_known text)
@@ -41,17 +42,13 @@ chosen refuse text go Many = refuse (not_known text)
 unfoldable pub finding : {Y : Type 0} → (List ℕ → Live → Y) → Dbref → List ℕ → (Dbref → Live → Y) → Live → Y
 finding refuse player text go = reading (λ w. found (scenery_of w.objects) player text) (chosen refuse text go)
 
-abbrev pub named_player : {Y : Type 0} → (List ℕ → Live → Y) → List ℕ → (Dbref → Live → Y) → Option Dbref → Live → Y
+abbrev pub named_player : {W Y : Type 0} → (List ℕ → W → Y) → List ℕ → (Dbref → W → Y) → Option Dbref → W → Y
 named_player refuse name go (Some x) = go x
 named_player refuse name go None = refuse (not_understood name)
 
 -- the player of that name
 unfoldable pub finding_player : {Y : Type 0} → (List ℕ → Live → Y) → List ℕ → (Dbref → Live → Y) → Live → Y
 finding_player refuse name go = reading (λ w. player_named (scenery_of w.objects) name) (named_player refuse name go)
-
--- go, where the world is so; otherwise not
-unfoldable pub where_so : {Y : Type 0} → (Live → Bool) → (Live → Y) → (Live → Y) → Live → Y
-where_so test otherwise go = reading test (λ b. either b go otherwise)
 
 -- an object that is there and passes the test
 unfoldable pub is_so : (Object → Bool) → Dbref → Live → Bool

@@ -1,30 +1,15 @@
 // The words of a line.
-ghost use Rattle.std.specs.Prelude.{◌≡◌, ◌≤◌, length};
-ghost use Rattle.std.specs.List.{position, position_or_len};
+ghost use Rattle.std.specs.Prelude.{◌≡◌};
 ghost use Rattle.spec_commands.specs.Texts.{is_space, first_word, other_words, is_alike, start_trimmed, end_trimmed, trimmed};
 
-// Where the first space stands.
-fn space_at(line: &[u8]) -> Option<usize>
-    ensures { result ≡ position is_space line.now }
-{
-    line.iter().position(|b| *b == b' ')
-}
-
-// Where the first space stands, or the length.
-#[tactic(auto, using(crate::proofs::Positions::positions))]
-fn word_len(line: &[u8]) -> usize
-    ensures at { result ≡ position_or_len is_space line.now }
-    ensures within { result ≤ length line.now }
-{
-    space_at(line).unwrap_or(line.len())
-}
+use muck_model::count_before;
 
 /// What stands before the first space of a line, and what stands after it.
 pub fn cut_word(line: &[u8]) -> (&[u8], &[u8])
     ensures first { result.0.now ≡ first_word line.now }
     ensures others { result.1.now ≡ other_words line.now }
 {
-    let (word, rest) = line.split_at(word_len(line));
+    let (word, rest) = line.split_at(count_before(line, b' '));
     match rest.split_first() {
         Some((_, others)) => (word, others),
         None => (word, rest),

@@ -3,7 +3,7 @@ use Rattle.std.proofs.Common.{◌≡◌, ℕ, ℤ, Bool, true, false, not, ◌&&
 use Rattle.std.specs.Prelude.{fold}
 use Rattle.std.specs.List.{filter, reduce, list_any}
 use Rattle.std.specs.Option.{option_map}
-use Rattle.std.proofs.lemmas.Bool.{cond-false}
+use Rattle.std.proofs.lemmas.Bool.{cond-false, or_right}
 use Rattle.std.proofs.lemmas.Bool.Decides.{nat_tests}
 use Rattle.std.proofs.lemmas.Cmp.{int_eq_equiv}
 use Rattle.muck_model.specs.declared.event.Event.TheVariants.{Claim, Slice}
@@ -30,21 +30,17 @@ fold_among x (y ∷ ys) = either_among (is_before y x) _ x y ys (fold_among (ear
 same_pid : (p : Process) → has_pid p.number p ≡ true
 same_pid p = int_eq_equiv.refl p.number
 
-or_later : (b c : Bool) → c ≡ true → (b || c) ≡ true
-or_later true c e = refl
-or_later false c e = e
-
 kept_any : (test : Process → Bool) (p x : Process) (ps qs : List Process) → test x ≡ true → (Among p qs → list_any (λ q. has_pid p.number q && test q) ps ≡ true) → Among p (x ∷ qs) →
     ((has_pid p.number x && test x) || list_any (λ q. has_pid p.number q && test q) ps) ≡ true
 kept_any test p x ps qs e rest first = ap (λ b. (b && test p) || list_any (λ q. has_pid p.number q && test q) ps) (same_pid p) ∙ ap (λ b. b || list_any (λ q. has_pid p.number q && test q) ps) e
-kept_any test p x ps qs e rest (later a) = or_later (has_pid p.number x && test x) (list_any (λ q. has_pid p.number q && test q) ps) (rest a)
+kept_any test p x ps qs e rest (later a) = or_right (has_pid p.number x && test x) (list_any (λ q. has_pid p.number q && test q) ps) (rest a)
 
 filtered : (test : Process → Bool) (p : Process) (ps : List Process) → Among p (filter test ps) → list_any (λ q. has_pid p.number q && test q) ps ≡ true
 filtered test p [] = λ a. elim a [ ]
 filtered test p (x ∷ ps) =
     (elim (test x) as (λ b. test x ≡ b → Among p (cond b (x ∷ filter test ps) (filter test ps)) → list_any (λ q. has_pid p.number q && test q) (x ∷ ps) ≡ true) [
       | true ↦ λ e a. kept_any test p x ps (filter test ps) e (filtered test p ps) a
-      | false ↦ λ e a. or_later (has_pid p.number x && test x) (list_any (λ q. has_pid p.number q && test q) ps) (filtered test p ps a)
+      | false ↦ λ e a. or_right (has_pid p.number x && test x) (list_any (λ q. has_pid p.number q && test q) ps) (filtered test p ps a)
     ]) refl
 
 named_any : (test : Process → Bool) (p : Process) (ps : List Process) (pid : ℤ) → Among p (filter test ps) → ◌≡◌ {A = Option ℤ} (Some p.number) (Some pid) → list_any (λ q. has_pid pid q && test q) ps ≡ true

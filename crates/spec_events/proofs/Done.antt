@@ -1,5 +1,6 @@
 -- A line that is done: what it changes is open, it keeps the numbers of the connections, and the world lives on.
 use Rattle.std.proofs.Common.{◌≡◌, ℕ, Bool, true, false, cond, List, [], ◌∷◌, refl, sym, ◌∙◌, ap, subst, Option, Some, None}
+use Rattle.spec_live.proofs.Keeping.{keeps_followed}
 use Rattle.std.specs.Prelude.{find, ◌==◌}
 use Rattle.std.specs.Option.{option_and_then}
 use Rattle.muck_model.specs.declared.dbref.Dbref.{Dbref}
@@ -9,7 +10,7 @@ use Rattle.spec_live.specs.Boards.{connection_in, player_in, leaving_one, edited
 use Rattle.spec_live.specs.Lives.{Live, Change, followed, ◌▸◌, tell, leave}
 use Rattle.spec_rights.specs.declared.act.Actor.{Actor}
 use Rattle.spec_rights.specs.Licence.{SameTies, Licensed, nobody}
-use Rattle.spec_rights.proofs.Licences.{Quiet, Always, ties_same, ties_both, quiet_followed, whole_quiet}
+use Rattle.spec_rights.proofs.Licences.{Quiet, Always, ties_same, ties_both, quiet_order, whole_quiet}
 use Rattle.spec_rights.proofs.Leaving.{whole_leave}
 use Rattle.spec_rights.proofs.Shown.{quiet_one, quiet_tell}
 use Rattle.spec_commands.specs.declared.outcome.Outcome.{Outcome}
@@ -24,7 +25,7 @@ use Rattle.spec_commands.specs.Talk.{at_login, waits}
 use Rattle.spec_commands.proofs.Showing.{quiet_waits}
 use Rattle.spec_commands.proofs.Permitted.{waited_open}
 use Rattle.spec_commands.proofs.Edited.{edited_licensed}
-use Rattle.spec_commands.proofs.Numbered.{numbers, numbers-ties, numbers-same_ties, Seating, seating_quiet, seating_followed}
+use Rattle.spec_commands.proofs.Numbered.{numbers, numbers-ties, numbers-same_ties, Seating, seating_quiet, seating_order}
 use Rattle.spec_commands.proofs.Lines.{seating_at_login}
 use Rattle.spec_events.specs.World.{World, on_live}
 use Rattle.spec_events.specs.Following.{swept, settled}
@@ -65,7 +66,7 @@ player-same_ties a d (x ∷ xs) (y ∷ ys) t =
 left_licensed : (a : Actor) (d : ℕ) (free : Dbref → Bool) (w v : Live) → player_in d w.board ≡ Some a.player → Licensed a free w v → Licensed a free w (leave d v)
 unfolding leave leaving_one
 left_licensed a d free w v own l =
-    let left : Licensed a free v (leave d v) = (whole_leave a d (λ es. free) Always).law v (player-same_ties a d w.board.connections v.board.connections l.connections ∙ own) tt in
+    let left : Licensed a free v (leave d v) = ((whole_leave a d (λ es. free) Always).law v).law (player-same_ties a d w.board.connections v.board.connections l.connections ∙ own) tt in
     record { gone = l.gone; recycled = l.recycled; objects = l.objects; lists = l.lists; connections = ties_both a _ _ _ l.connections left.connections; tune = l.tune }
 
 -- The editor.
@@ -79,7 +80,7 @@ abbrev taken_out : ℕ → List (List ℕ) → Change
 taken_out d lines = waits d lines ▸ with_editor d None
 
 quiet_taken_out : (d : ℕ) (lines : List (List ℕ)) → Quiet (taken_out d lines)
-quiet_taken_out d lines = quiet_followed _ _ (quiet_waits d lines) (quiet_with_editor d None)
+quiet_taken_out d lines = keeps_followed _ _ quiet_order (quiet_waits d lines) (quiet_with_editor d None)
 
 open_after : (a : Actor) (free : Dbref → Bool) (start : Live) (dead : Bool) (d : ℕ) (program : Dbref) (step : EditStep) (u : World) → Open a free start dead u → Open a free start dead (after_edit d program step u)
 open_after a free start dead d program Compile u p = open_quietly a free start dead u _ p (quietly_compiled d program u)
@@ -94,7 +95,7 @@ licensed_from a free d lines w v l = record {
   recycled = l.recycled;
   objects = l.objects;
   lists = l.lists;
-  connections = ties_both a _ _ _ (ties_same a w.board.connections (taken_out d lines w).board.connections ((quiet_taken_out d lines).ties w)) l.connections;
+  connections = ties_both a _ _ _ (ties_same a w.board.connections (taken_out d lines w).board.connections (((quiet_taken_out d lines).law w).ties)) l.connections;
   tune = l.tune;
 }
 
@@ -115,8 +116,8 @@ left_open : (d : ℕ) (player : Dbref) (lines : List (List ℕ)) (w : World) →
 unfolding followed
 left_open d player lines w =
     let f : Change = taken_out d lines ▸ tell d editor_exited in
-    let q : Quiet f = quiet_followed _ _ (quiet_taken_out d lines) (quiet_tell d editor_exited) in
-    record { licensed = (whole_quiet (actor_of w.live.objects player) None (λ es. nobody) Always f q).law w.live tt tt; alive = refl }
+    let q : Quiet f = keeps_followed _ _ quiet_order (quiet_taken_out d lines) (quiet_tell d editor_exited) in
+    record { licensed = ((whole_quiet (actor_of w.live.objects player) None (λ es. nobody) Always f q).law w.live).law tt tt; alive = refl }
 
 open_in_editor : (d : ℕ) (player : Dbref) (s : EditState) (line : List ℕ) (lines : List (List ℕ)) (w : World) →
     Open (actor_of w.live.objects player) nobody w.live w.dead (in_editor d player s line (on_live (taken_out d lines) w))
@@ -150,16 +151,16 @@ open_in_world d player line lines w own =
     let free : Dbref → Bool = free_line a line w.live.objects in
     let u : World = on_live (waits d lines) w in
     let r = played d a line u.live in
-    let l : Licensed a free w.live r.0 = (waited_open a d lines line).law w.live own tt in
+    let l : Licensed a free w.live r.0 = ((waited_open a d lines line).law w.live).law own tt in
     open_followed d player a free w.live w.dead r.1 _ own (open_settled a free w.live w.dead (record u { live = r.0 }) (record { licensed = l; alive = refl }))
 
 -- What a line does is open.
 
 pub untouched_by : (f : Change) → Seating f → (w : Live) → Untouched w (f w)
-untouched_by f p w = record { objects = p.objects w; tune = p.tune w }
+untouched_by f p w = let s = p.law w in record { objects = s.objects; tune = s.tune }
 
 seating_line : (d : ℕ) (line : List ℕ) (lines : List (List ℕ)) → Seating (waits d lines ▸ at_login d line)
-seating_line d line lines = seating_followed (waits d lines) (at_login d line) (seating_quiet _ (quiet_waits d lines)) (seating_at_login d line)
+seating_line d line lines = keeps_followed (waits d lines) (at_login d line) seating_order (seating_quiet _ (quiet_waits d lines)) (seating_at_login d line)
 
 line_licensed : (d : ℕ) (w : World) (player : Option Dbref) (editor : Option EditState) (lines : List (List ℕ)) → player_in d w.live.board ≡ player →
     LineLicensed player editor lines w.live (line_done d player editor lines w).live
@@ -191,7 +192,7 @@ pub going_same : (w : World) → Going w w
 going_same w = record { numbers = refl; dead = refl }
 
 pub going_live : (f : Change) → Seating f → (w : World) → Going w (on_live f w)
-going_live f p w = record { numbers = p.numbers w.live; dead = refl }
+going_live f p w = record { numbers = (p.law w.live).numbers; dead = refl }
 
 line_going : (d : ℕ) (w : World) (player : Option Dbref) (editor : Option EditState) (lines : List (List ℕ)) → player_in d w.live.board ≡ player → Going w (line_done d player editor lines w)
 unfolding followed

@@ -57,7 +57,7 @@ pub quietly_both : (u v w : World) → Quietly u v → Quietly v w → Quietly u
 quietly_both u v w p q = record { objects = q.objects ∙ p.objects; ties = q.ties ∙ p.ties; tune = q.tune ∙ p.tune; dead = q.dead ∙ p.dead }
 
 pub quietly_live : (f : Change) → Quiet f → (w : World) → Quietly w (on_live f w)
-quietly_live f q w = record { objects = q.objects w.live; ties = q.ties w.live; tune = q.tune w.live; dead = refl }
+quietly_live f q w = let s = q.law w.live in record { objects = s.objects; ties = s.ties; tune = s.tune; dead = refl }
 
 pub quietly_queue : (f : Queue → Queue) (w : World) → Quietly w (on_queue f w)
 quietly_queue f w = record { objects = refl; ties = refl; tune = refl; dead = refl }

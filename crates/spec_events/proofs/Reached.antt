@@ -1,7 +1,7 @@
 -- Lawful entries lead from sound worlds to sound worlds.
 use Rattle.std.proofs.Common.{◌≡◌, ℕ, ◌<◌, ◌≤◌, Bool, true, false, not, ◌&&◌, ◌||◌, cond, List, [], ◌∷◌, length, refl, sym, ◌∙◌, ap, arith, Option, Some, None, ltb, ◌==◌, ◌≢◌}
 use Rattle.std.proofs.lemmas.Bool.Decides.{nat_tests}
-use Rattle.std.proofs.lemmas.Bool.{cond-true, cond-false, ltb-true, ltb-false}
+use Rattle.std.proofs.lemmas.Bool.{cond-true, cond-false, ltb-true, ltb-false, and_parts}
 use Rattle.std.specs.Prelude.{find, is_none, is_some, nat_lt}
 use Rattle.std.specs.Option.{option_map, option_map_or}
 use Rattle.muck_model.specs.declared.event.Entry.{Entry}
@@ -33,10 +33,6 @@ differs m n le e = grind (arith, nat_tests)
 
 some_none : {X : Type 0} (x : X) → ◌≡◌ {A = Option X} (Some x) None → ⊥
 some_none x e = cc
-
-and_left : (a b : Bool) → (a && b) ≡ true → a ≡ true
-and_left true b e = refl
-and_left false b e = e
 
 none_of : {X : Type 0} (o : Option X) → is_none o ≡ true → o ≡ None
 none_of None e = refl
@@ -99,10 +95,10 @@ unfolding gone_away reading followed closed
 sound-gone_away d w h =
     let parting : Change = parted (player_in d w.live.board) in
     let v : World = on_live (on_board (closed d)) w in
-    sound-live parting (seating_quiet parting (quiet_parted (player_in d w.live.board))).numbers v (record { alive = h.alive; rising = rising-without d w.live.board.connections h.rising })
+    sound-live parting (λ v. ((seating_quiet parting (quiet_parted (player_in d w.live.board))).law v).numbers) v (record { alive = h.alive; rising = rising-without d w.live.board.connections h.rising })
 
 no_connection : (d : ℕ) (w : World) (stop few : Bool) → (is_none (connection d w) && few && not stop) ≡ true → connection d w ≡ None
-no_connection d w stop few e = none_of (connection d w) (and_left _ _ (and_left _ _ e))
+no_connection d w stop few e = none_of (connection d w) (and_parts _ _ (and_parts _ _ e).0).0
 
 -- an event that is allowed and isn't Died
 sound-happened : (event : Event) (party : ℕ) (w : World) → event ≢ Died → is_allowed w party event ≡ true → IsSound w → IsSound (happened w party event)
@@ -111,12 +107,12 @@ sound-happened (Opened d) party w other l h = record {
   alive = h.alive;
   rising = rising-placed (newcomer d welcome) w.live.board.connections (no_connection d w w.stopping (nat_lt (length w.live.board.connections) connections_most) l) h.rising;
 }
-sound-happened (Input d line) party w other l h = sound-live (on_board (line_added d line)) (seating_one d (lined line) (λ c. refl)).numbers w h
+sound-happened (Input d line) party w other l h = sound-live (on_board (line_added d line)) (λ v. ((seating_one d (lined line) (λ c. refl)).law v).numbers) w h
 sound-happened (Closed d) party w other l h = let v = sound-gone_away d w h in record { alive = v.alive; rising = v.rising }
 sound-happened (Exec d) party w other l h = sound-going w _ (done_going d w (connection d w) refl) h
 sound-happened (Claim pid) party w other l h = record { alive = h.alive; rising = h.rising }
 sound-happened (Slice pid) party w other l h = sound-going w _ (going_quietly w _ (quietly_sliced pid w)) h
-sound-happened (Take d n) party w other l h = sound-live (on_board (bytes_taken d n)) (seating_one d _ (λ c. refl)).numbers w h
+sound-happened (Take d n) party w other l h = sound-live (on_board (bytes_taken d n)) (λ v. ((seating_one d _ (λ c. refl)).law v).numbers) w h
 sound-happened Halt party w other l h = record { alive = h.alive; rising = h.rising }
 sound-happened Died party w other l h = absurd (other refl)
 sound-happened event party w other l h = h

@@ -23,7 +23,8 @@ unfolding gone_away reading followed closed
 gone_away_untouched d w =
     let parting = quiet_parted (player_in d w.board) in
     let v : Live = on_board (closed d) w in
-    record { objects = parting.objects v; tune = parting.tune v }
+    let shown = parting.law v in
+    record { objects = shown.objects; tune = shown.tune }
 
 quietly_untouched : (w v : World) → Quietly w v → Untouched w.live v.live
 quietly_untouched w v q = record { objects = q.objects; tune = q.tune }

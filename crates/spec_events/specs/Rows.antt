@@ -1,7 +1,6 @@
 -- Worked slices, which the checker computes.
 use Rattle.std.specs.Prelude.{◌≡◌, ℕ, pos, List, [], ◌∷◌, ◌++◌, length, codes, refl, Some, None}
 use Rattle.std.specs.Fmt.{digits}
-use Rattle.muck_model.specs.Bytes.{text_most}
 use Rattle.spec_live.specs.Output.{sent_lines, queue_most, lines_bytes, line_sent, lines_sent, sent}
 use Rattle.spec_live.specs.Objects.{dbref_of, object_at, number_in, kind_in, flags_in, place_in, object_in, list_in, changed_at}
 use Rattle.spec_live.specs.Boards.{first_tune, early_board, told_one, told_player}
@@ -91,5 +90,5 @@ rows :
     -- a called program tells a text; and its fault is caught by its caller
     × (shown_of (calling (words tell_me) (words call_three)) ≡ shows [])
     × (shown_of (calling (words (Primitive Pop ∷ [])) try_three) ≡ shows (codes "Stack underflow."))
-unfolding digits text_most sent_lines queue_most lines_bytes line_sent lines_sent sent object_at number_in kind_in flags_in place_in object_in list_in changed_at first_tune early_board told_one told_player unchanged tell tell_player room_zero player_one level_at owner_at flag_at owns controls_as effective inherits level user controls controls_or chain empty_queue number_most is_full added without booted starting not_compiled too_many new_process form_at formed acting level_fault is_there near_fault first_fault shared row_done needing permitted existing programmed called program_called deed program_error ran sliced
+unfolding digits sent_lines queue_most lines_bytes line_sent lines_sent sent object_at number_in kind_in flags_in place_in object_in list_in changed_at first_tune early_board told_one told_player unchanged tell tell_player room_zero player_one level_at owner_at flag_at owns controls_as effective inherits level user controls controls_or chain empty_queue number_most is_full added without booted starting not_compiled too_many new_process form_at formed acting level_fault is_there near_fault first_fault shared row_done needing permitted existing programmed called program_called deed program_error ran sliced
 rows = (refl, refl, refl, refl, refl, refl)

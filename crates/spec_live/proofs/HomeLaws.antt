@@ -1,6 +1,7 @@
 -- Untying from an object, and sending home what it holds.
 use Rattle.std.proofs.Common.{◌≡◌, ℕ, ◌<◌, List, [], ◌∷◌, Option, Some, None, inl, inr, refl, sym, ◌∙◌, ap, subst, length, arith, Bool, true, false, cond, not}
-use Rattle.std.proofs.lemmas.Bool.{cases_lt, false≢true}
+use Rattle.muck_model.proofs.Dbrefs.{eq_same, same_eq}
+use Rattle.std.proofs.lemmas.Bool.{cases_lt, false≢true, and_parts}
 use Rattle.std.proofs.lemmas.Option.{slice_get-map}
 use Rattle.std.specs.List.{slice_get}
 use Rattle.std.specs.Option.{option_map, option_and_then, option_map_or}
@@ -22,7 +23,6 @@ use Rattle.spec_live.proofs.Readers.{kind_past, list_moved, kind_moved, length_m
 use Rattle.spec_live.proofs.Orders.{ordered_alike, ordered_moved}
 use Rattle.spec_live.proofs.Ties.{SameTies, home_alike, owner_alike, mapped, moved_from, consistent_moved}
 use Rattle.spec_live.proofs.Checks.{index_only}
-use Rattle.spec_live.proofs.SettingLaws.{same_only, same_true, both_true}
 
 -- Untying, reader by reader.
 
@@ -107,7 +107,7 @@ not_home d e = cc (ap (λ z. z.0) e)
 
 other_by : (a b c : Dbref) (t : Bool) → same a b ≡ t → (c ≡ b → ⊥) → cond t c a ≡ b → ⊥
 other_by a b c true e ne h = ne h
-other_by a b c false e ne h = false≢true (sym e ∙ same_true a b h)
+other_by a b c false e ne h = false≢true (sym e ∙ same_eq a b h)
 
 pub is_untied : (es : List Entry) (d : ℕ) → (d ≡ 0 → ⊥) → IsUntied d (untied d es)
 is_untied es d low = record {
@@ -129,7 +129,7 @@ home_untied es fs d o Thing true e kinds room h = (0, refl, ap (λ z. may_live T
 home_untied es fs d o Player true e kinds room h = (0, refl, ap (λ z. may_live Player z) room)
 home_untied es fs d o Thing false e kinds room h = (h.0, h.1, ap (λ z. may_live Thing z) (kinds h.0) ∙ h.2)
 home_untied es fs d o Player false e kinds room h = (h.0, h.1, ap (λ z. may_live Player z) (kinds h.0) ∙ h.2)
-home_untied es fs d o k true e kinds room h = absurd (not_nothing d (sym h ∙ same_only o.home (dbref_of d) e))
+home_untied es fs d o k true e kinds room h = absurd (not_nothing d (sym h ∙ eq_same o.home (dbref_of d) e))
 home_untied es fs d o k false e kinds room h = h
 
 tied_untied : (es : List Entry) (d : ℕ) (o : Object) → kind_in es 0 ≡ Room → IsTied es o → IsTied (untied d es) (without_ties d o)
@@ -213,7 +213,7 @@ not_true false h = refl
 goes_by : (es : List Entry) (x to : ℕ) → may_go x to es ≡ true → GoesTo es x to
 unfolding may_go
 goes_by es x to h =
-    let both : (fits_in es x to ≡ true) × (not (has x (path_in es to)) ≡ true) = both_true (fits_in es x to) (not (has x (path_in es to))) h in
+    let both : (fits_in es x to ≡ true) × (not (has x (path_in es to)) ≡ true) = and_parts (fits_in es x to) (not (has x (path_in es to))) h in
     record { fits = both.0; free = has_not x (path_in es to) (not_true (has x (path_in es to)) both.1) }
 
 way_by : (es : List Entry) (x to : ℕ) (b : Bool) → may_go x to es ≡ b → GoesTo es x 0 → GoesTo es x (cond b to 0)

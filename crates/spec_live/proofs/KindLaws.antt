@@ -1,34 +1,47 @@
--- What kinds allow.
-use Rattle.std.proofs.Common.{◌≡◌, refl, sym, Bool, true, false}
-use Rattle.std.proofs.lemmas.Bool.{false≢true}
+-- What kinds allow. A rule of all kinds is proved by a test that computes.
+use Rattle.std.proofs.Common.{◌≡◌, refl, sym, ◌∙◌, Bool, true, false}
+use Rattle.std.specs.Prelude.{not, ◌&&◌, ◌||◌}
+use Rattle.std.proofs.lemmas.Bool.{false≢true, and_parts, not-true}
 use Rattle.muck_model.specs.declared.dbref.Kind.{Kind}
 use Rattle.muck_model.specs.declared.dbref.Kind.TheVariants.{Room, Thing, Exit, Player, Program, Garbage}
 use Rattle.spec_live.specs.Objects.{is_thing, is_exit, is_player, is_garbage, may_stand}
 use Rattle.spec_live.specs.Setting.{may_link, may_live}
 
+-- Tests.
+
+abbrev each_kind : (Kind → Bool) → Bool
+each_kind p = p Room && (p Thing && (p Exit && (p Player && (p Program && p Garbage))))
+
+kinds : (p : Kind → Bool) → each_kind p ≡ true → (k : Kind) → p k ≡ true
+kinds p h k =
+    let room = and_parts (p Room) _ h in
+    let thing = and_parts (p Thing) _ room.1 in
+    let exit = and_parts (p Exit) _ thing.1 in
+    let player = and_parts (p Player) _ exit.1 in
+    let program = and_parts (p Program) _ player.1 in
+    elim k as (λ x. p x ≡ true) [ Room ↦ room.0 | Thing ↦ thing.0 | Exit ↦ exit.0 | Player ↦ player.0 | Program ↦ program.0 | Garbage ↦ program.1 ]
+
+pairs : (p : Kind → Kind → Bool) → each_kind (λ k. each_kind (p k)) ≡ true → (k to : Kind) → p k to ≡ true
+pairs p h k to = kinds (p k) (kinds (λ x. each_kind (p x)) h k) to
+
+never : (b : Bool) → not b ≡ true → b ≡ true → ⊥
+never b e h = false≢true (sym (not-true b e) ∙ h)
+
+-- not both
+excluded : (a b : Bool) → (not b || not a) ≡ true → a ≡ true → b ≡ false
+excluded a false e h = refl
+excluded a true e h = absurd (never a e h)
+
+-- Standing.
+
 pub none_in_garbage : (k : Kind) (s : Bool) → may_stand k Garbage s ≡ true → ⊥
-none_in_garbage Room s h = false≢true h
-none_in_garbage Thing s h = false≢true h
-none_in_garbage Exit s h = false≢true h
-none_in_garbage Player s h = false≢true h
-none_in_garbage Program s h = false≢true h
-none_in_garbage Garbage s h = false≢true h
+none_in_garbage k s = never (may_stand k Garbage s) (kinds (λ x. not (may_stand x Garbage s)) refl k)
 
 pub none_in_exit : (k : Kind) (s : Bool) → may_stand k Exit s ≡ true → ⊥
-none_in_exit Room s h = false≢true h
-none_in_exit Thing s h = false≢true h
-none_in_exit Exit s h = false≢true h
-none_in_exit Player s h = false≢true h
-none_in_exit Program s h = false≢true h
-none_in_exit Garbage s h = false≢true h
+none_in_exit k s = never (may_stand k Exit s) (kinds (λ x. not (may_stand x Exit s)) refl k)
 
 pub garbage_in_none : (k : Kind) (s : Bool) → may_stand Garbage k s ≡ true → ⊥
-garbage_in_none Room s h = false≢true h
-garbage_in_none Thing s h = false≢true h
-garbage_in_none Exit s h = false≢true h
-garbage_in_none Player s h = false≢true h
-garbage_in_none Program s h = false≢true h
-garbage_in_none Garbage s h = false≢true h
+garbage_in_none k s = never (may_stand Garbage k s) (kinds (λ x. not (may_stand Garbage x s)) refl k)
 
 -- a player's seat is wanted only in a thing
 pub stands_still : (k p : Kind) (s t : Bool) → (k ≡ Player → p ≡ Thing → s ≡ true → t ≡ true) → may_stand k p s ≡ true → may_stand k p t ≡ true
@@ -73,57 +86,25 @@ only_exit k h = absurd (false≢true h)
 -- What stands somewhere, is stood in, owned, linked to or lived in isn't garbage; nor is what isn't garbage itself.
 
 pub standing_alive : (k p : Kind) (s : Bool) → may_stand k p s ≡ true → is_garbage k ≡ false
-standing_alive Garbage p s h = absurd (garbage_in_none p s h)
-standing_alive k p s h = refl
+standing_alive k p s = excluded (may_stand k p s) (is_garbage k) (pairs (λ x y. not (is_garbage x) || not (may_stand x y s)) refl k p)
 
 pub place_alive : (k p : Kind) (s : Bool) → may_stand k p s ≡ true → is_garbage p ≡ false
-place_alive k Garbage s h = absurd (none_in_garbage k s h)
-place_alive k Room s h = refl
-place_alive k Thing s h = refl
-place_alive k Exit s h = refl
-place_alive k Player s h = refl
-place_alive k Program s h = refl
+place_alive k p s = excluded (may_stand k p s) (is_garbage p) (pairs (λ x y. not (is_garbage y) || not (may_stand x y s)) refl k p)
 
 pub player_alive : (k : Kind) → is_player k ≡ true → is_garbage k ≡ false
-player_alive Garbage h = absurd (false≢true h)
-player_alive k h = refl
+player_alive k = excluded (is_player k) (is_garbage k) (kinds (λ x. not (is_garbage x) || not (is_player x)) refl k)
 
 pub player_no_exit : (k : Kind) → is_player k ≡ true → is_exit k ≡ false
-player_no_exit Exit h = absurd (false≢true h)
-player_no_exit k h = refl
+player_no_exit k = excluded (is_player k) (is_exit k) (kinds (λ x. not (is_exit x) || not (is_player x)) refl k)
 
 pub linked_alive : (k to : Kind) → may_link k to ≡ true → is_garbage to ≡ false
-linked_alive Room Garbage h = absurd (false≢true h)
-linked_alive Thing Garbage h = absurd (false≢true h)
-linked_alive Exit Garbage h = absurd (false≢true h)
-linked_alive Player Garbage h = absurd (false≢true h)
-linked_alive Program Garbage h = absurd (false≢true h)
-linked_alive Garbage Garbage h = absurd (false≢true h)
-linked_alive k to h = refl
+linked_alive k to = excluded (may_link k to) (is_garbage to) (pairs (λ x y. not (is_garbage y) || not (may_link x y)) refl k to)
 
 pub linked_no_exit : (k to : Kind) → may_link k to ≡ true → is_exit to ≡ false
-linked_no_exit Room Exit h = absurd (false≢true h)
-linked_no_exit Thing Exit h = absurd (false≢true h)
-linked_no_exit Exit Exit h = absurd (false≢true h)
-linked_no_exit Player Exit h = absurd (false≢true h)
-linked_no_exit Program Exit h = absurd (false≢true h)
-linked_no_exit Garbage Exit h = absurd (false≢true h)
-linked_no_exit k to h = refl
+linked_no_exit k to = excluded (may_link k to) (is_exit to) (pairs (λ x y. not (is_exit y) || not (may_link x y)) refl k to)
 
 pub home_alive : (k to : Kind) → may_live k to ≡ true → is_garbage to ≡ false
-home_alive Room Garbage h = absurd (false≢true h)
-home_alive Thing Garbage h = absurd (false≢true h)
-home_alive Exit Garbage h = absurd (false≢true h)
-home_alive Player Garbage h = absurd (false≢true h)
-home_alive Program Garbage h = absurd (false≢true h)
-home_alive Garbage Garbage h = absurd (false≢true h)
-home_alive k to h = refl
+home_alive k to = excluded (may_live k to) (is_garbage to) (pairs (λ x y. not (is_garbage y) || not (may_live x y)) refl k to)
 
 pub home_no_exit : (k to : Kind) → may_live k to ≡ true → is_exit to ≡ false
-home_no_exit Room Exit h = absurd (false≢true h)
-home_no_exit Thing Exit h = absurd (false≢true h)
-home_no_exit Exit Exit h = absurd (false≢true h)
-home_no_exit Player Exit h = absurd (false≢true h)
-home_no_exit Program Exit h = absurd (false≢true h)
-home_no_exit Garbage Exit h = absurd (false≢true h)
-home_no_exit k to h = refl
+home_no_exit k to = excluded (may_live k to) (is_exit to) (pairs (λ x y. not (is_exit y) || not (may_live x y)) refl k to)

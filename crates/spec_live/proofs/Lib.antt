@@ -14,3 +14,5 @@ pub mod RecyclingLaws
 pub mod Standing
 pub mod Followers
 pub mod EditorLaws
+pub mod Keeping
+pub mod PathLaws

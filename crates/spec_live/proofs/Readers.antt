@@ -4,6 +4,8 @@ use Rattle.std.proofs.lemmas.Bool.{cases_eq, cases_lt, false≢true}
 use Rattle.std.proofs.lemmas.Option.{slice_get-map, slice_get_past}
 use Rattle.std.specs.List.{slice_get}
 use Rattle.std.specs.Option.{option_map, option_and_then, option_map_or}
+use Rattle.muck_model.specs.declared.dbref.Flags.{Flags}
+use Rattle.muck_model.specs.declared.dbref.Kind.{Kind}
 use Rattle.muck_model.specs.declared.dbref.Kind.TheVariants.{Garbage}
 use Rattle.spec_live.specs.declared.object.Object.{Object}
 use Rattle.spec_live.specs.declared.mark.Mark.{Mark}
@@ -110,38 +112,27 @@ fits_alike es fs d p k q v = rw (k, q, v) refl
 
 -- A change at one place, seen by a reader that it leaves alone.
 
-pub object_change : (n k : ℕ) (f : Entry → Entry) (es : List Entry) → ((e : Entry) → (f e).object ≡ e.object) → object_in (changed_at n f es) k ≡ object_in es k
-unfolding object_in
-object_change n k f es h = elim (cases_eq k n) [
+entry_change : {X : Type 0} (read : Option Entry → X) (n k : ℕ) (f : Entry → Entry) (es : List Entry) → ((e : Entry) → read (Some (f e)) ≡ read (Some e)) → read (slice_get (changed_at n f es) k) ≡ read (slice_get es k)
+entry_change read n k f es h = elim (cases_eq k n) [
   | inl q ↦ rw (q, get_changed_same es n f) (by_cases (slice_get es n))
   | inr q ↦ rw (get_changed_other es n k f q) refl
 ]
   where
-    by_cases : (o : Option Entry) → option_map (λ (e : Entry). e.object) (option_map f o) ≡ option_map (λ (e : Entry). e.object) o
+    by_cases : (o : Option Entry) → read (option_map f o) ≡ read o
     by_cases None = refl
-    by_cases (Some e) = ap (λ x. Some x) (h e)
+    by_cases (Some e) = h e
+
+pub object_change : (n k : ℕ) (f : Entry → Entry) (es : List Entry) → ((e : Entry) → (f e).object ≡ e.object) → object_in (changed_at n f es) k ≡ object_in es k
+unfolding object_in
+object_change n k f es h = entry_change (λ o. option_map (λ (e : Entry). e.object) o) n k f es (λ e. ap Some (h e))
 
 pub list_change : (v : Bool) (n k : ℕ) (f : Entry → Entry) (es : List Entry) → ((e : Entry) → list_of v (f e) ≡ list_of v e) → list_in v (changed_at n f es) k ≡ list_in v es k
 unfolding list_in
-list_change v n k f es h = elim (cases_eq k n) [
-  | inl q ↦ rw (q, get_changed_same es n f) (by_cases (slice_get es n))
-  | inr q ↦ rw (get_changed_other es n k f q) refl
-]
-  where
-    by_cases : (o : Option Entry) → option_map_or (list_of v) (option_map f o) [] ≡ option_map_or (list_of v) o []
-    by_cases None = refl
-    by_cases (Some e) = h e
+list_change v n k f es h = entry_change (λ o. option_map_or (list_of v) o []) n k f es h
 
 pub mark_change : (n k : ℕ) (f : Entry → Entry) (es : List Entry) → ((e : Entry) → (f e).mark ≡ e.mark) → mark_in (changed_at n f es) k ≡ mark_in es k
 unfolding mark_in
-mark_change n k f es h = elim (cases_eq k n) [
-  | inl q ↦ rw (q, get_changed_same es n f) (by_cases (slice_get es n))
-  | inr q ↦ rw (get_changed_other es n k f q) refl
-]
-  where
-    by_cases : (o : Option Entry) → option_and_then (λ (e : Entry). e.mark) (option_map f o) ≡ option_and_then (λ (e : Entry). e.mark) o
-    by_cases None = refl
-    by_cases (Some e) = h e
+mark_change n k f es h = entry_change (λ o. option_and_then (λ (e : Entry). e.mark) o) n k f es h
 
 pub object_elsewhere : (n k : ℕ) (f : Entry → Entry) (es : List Entry) → (k ≡ n → ⊥) → object_in (changed_at n f es) k ≡ object_in es k
 unfolding object_in
@@ -174,38 +165,37 @@ list_changed v n k f es = list_change v n k (on_object f) es (on_object_list v f
 pub mark_changed : (n k : ℕ) (f : Object → Object) (es : List Entry) → mark_in (changed_at n (on_object f) es) k ≡ mark_in es k
 mark_changed n k f es = mark_change n k (on_object f) es (λ e. refl)
 
-pub kind_changed : (n k : ℕ) (f : Object → Object) (es : List Entry) → ((o : Object) → (f o).kind ≡ o.kind) → kind_in (changed_at n (on_object f) es) k ≡ kind_in es k
-unfolding kind_in
-kind_changed n k f es h = elim (cases_eq k n) [
+-- seen by what reads something else of it
+read_changed : {X : Type 0} (read : Option Object → X) (n k : ℕ) (f : Object → Object) (es : List Entry) → ((o : Object) → read (Some (f o)) ≡ read (Some o)) → read (object_in (changed_at n (on_object f) es) k) ≡ read (object_in es k)
+read_changed read n k f es h = elim (cases_eq k n) [
   | inl q ↦ rw (q, object_changed n f es) (by_cases (object_in es n))
   | inr q ↦ rw (object_unchanged n k f es q) refl
 ]
   where
-    by_cases : (o : Option Object) → option_map_or (λ (x : Object). x.kind) (option_map f o) Garbage ≡ option_map_or (λ (x : Object). x.kind) o Garbage
+    by_cases : (o : Option Object) → read (option_map f o) ≡ read o
     by_cases None = refl
     by_cases (Some o) = h o
+
+abbrev kind_seen : Option Object → Kind
+kind_seen o = option_map_or (λ (x : Object). x.kind) o Garbage
+
+abbrev flags_seen : Option Object → Flags
+flags_seen o = option_map_or (λ (x : Object). x.flags) o no_flags
+
+abbrev place_seen : Option Object → Option ℕ
+place_seen o = option_and_then (λ (x : Object). index_of x.place) o
+
+pub kind_changed : (n k : ℕ) (f : Object → Object) (es : List Entry) → ((o : Object) → (f o).kind ≡ o.kind) → kind_in (changed_at n (on_object f) es) k ≡ kind_in es k
+unfolding kind_in
+kind_changed n k f es h = read_changed kind_seen n k f es h
 
 pub flags_changed : (n k : ℕ) (f : Object → Object) (es : List Entry) → ((o : Object) → (f o).flags ≡ o.flags) → flags_in (changed_at n (on_object f) es) k ≡ flags_in es k
 unfolding flags_in
-flags_changed n k f es h = elim (cases_eq k n) [
-  | inl q ↦ rw (q, object_changed n f es) (by_cases (object_in es n))
-  | inr q ↦ rw (object_unchanged n k f es q) refl
-]
-  where
-    by_cases : (o : Option Object) → option_map_or (λ (x : Object). x.flags) (option_map f o) no_flags ≡ option_map_or (λ (x : Object). x.flags) o no_flags
-    by_cases None = refl
-    by_cases (Some o) = h o
+flags_changed n k f es h = read_changed flags_seen n k f es h
 
 pub place_changed : (n k : ℕ) (f : Object → Object) (es : List Entry) → ((o : Object) → (f o).place ≡ o.place) → place_in (changed_at n (on_object f) es) k ≡ place_in es k
 unfolding place_in
-place_changed n k f es h = elim (cases_eq k n) [
-  | inl q ↦ rw (q, object_changed n f es) (by_cases (object_in es n))
-  | inr q ↦ rw (object_unchanged n k f es q) refl
-]
-  where
-    by_cases : (o : Option Object) → option_and_then (λ (x : Object). index_of x.place) (option_map f o) ≡ option_and_then (λ (x : Object). index_of x.place) o
-    by_cases None = refl
-    by_cases (Some o) = ap (λ d. index_of d) (h o)
+place_changed n k f es h = read_changed place_seen n k f es (λ o. ap (λ d. index_of d) (h o))
 
 -- An object in place of another.
 
@@ -228,13 +218,16 @@ mark_named n k o es = mark_change n k (with_object o) es (λ e. refl)
 
 -- A number left out of all lists.
 
+entry_left : {X : Type 0} (read : Option Entry → X) (d k : ℕ) (es : List Entry) → ((e : Entry) → read (Some (left_out d e)) ≡ read (Some e)) → read (slice_get (map (left_out d) es) k) ≡ read (slice_get es k)
+entry_left read d k es h = rw (slice_get-map (left_out d) es k) (by_cases (slice_get es k))
+  where
+    by_cases : (o : Option Entry) → read (option_map (left_out d) o) ≡ read o
+    by_cases None = refl
+    by_cases (Some e) = h e
+
 pub object_left : (d k : ℕ) (es : List Entry) → object_in (map (left_out d) es) k ≡ object_in es k
 unfolding object_in
-object_left d k es = rw (slice_get-map (left_out d) es k) (by_cases (slice_get es k))
-  where
-    by_cases : (o : Option Entry) → option_map (λ (e : Entry). e.object) (option_map (left_out d) o) ≡ option_map (λ (e : Entry). e.object) o
-    by_cases None = refl
-    by_cases (Some e) = refl
+object_left d k es = entry_left (λ o. option_map (λ (e : Entry). e.object) o) d k es (λ e. refl)
 
 pub list_left : (v : Bool) (d k : ℕ) (es : List Entry) → list_in v (map (left_out d) es) k ≡ without d (list_in v es k)
 unfolding list_in without
@@ -247,11 +240,7 @@ list_left v d k es = rw (slice_get-map (left_out d) es k) (by_cases v (slice_get
 
 pub mark_left : (d k : ℕ) (es : List Entry) → mark_in (map (left_out d) es) k ≡ mark_in es k
 unfolding mark_in
-mark_left d k es = rw (slice_get-map (left_out d) es k) (by_cases (slice_get es k))
-  where
-    by_cases : (o : Option Entry) → option_and_then (λ (e : Entry). e.mark) (option_map (left_out d) o) ≡ option_and_then (λ (e : Entry). e.mark) o
-    by_cases None = refl
-    by_cases (Some e) = refl
+mark_left d k es = entry_left (λ o. option_and_then (λ (e : Entry). e.mark) o) d k es (λ e. refl)
 
 -- A number in front of a list.
 
@@ -333,27 +322,23 @@ place_moved es d to lt =
 pub place_unmoved : (es : List Entry) (d to k : ℕ) → (k ≡ d → ⊥) → place_in (moved d to es) k ≡ place_in es k
 place_unmoved es d to k ne = place_alike es (moved d to es) k (object_unmoved es d to k ne)
 
-pub kind_moved : (es : List Entry) (d to k : ℕ) → kind_in (moved d to es) k ≡ kind_in es k
-unfolding kind_in
-kind_moved es d to k = elim (cases_eq k d) [
+read_moved : {X : Type 0} (read : Option Object → X) (es : List Entry) (d to k : ℕ) → ((o : Object) → read (Some (with_place to o)) ≡ read (Some o)) → read (object_in (moved d to es) k) ≡ read (object_in es k)
+read_moved read es d to k h = elim (cases_eq k d) [
   | inl e ↦ rw (e, object_moved es d to) (by_cases (object_in es d))
   | inr e ↦ rw (object_unmoved es d to k e) refl
 ]
   where
-    by_cases : (o : Option Object) → option_map_or (λ (x : Object). x.kind) (option_map (with_place to) o) Garbage ≡ option_map_or (λ (x : Object). x.kind) o Garbage
+    by_cases : (o : Option Object) → read (option_map (with_place to) o) ≡ read o
     by_cases None = refl
-    by_cases (Some o) = refl
+    by_cases (Some o) = h o
+
+pub kind_moved : (es : List Entry) (d to k : ℕ) → kind_in (moved d to es) k ≡ kind_in es k
+unfolding kind_in
+kind_moved es d to k = read_moved kind_seen es d to k (λ o. refl)
 
 pub flags_moved : (es : List Entry) (d to k : ℕ) → flags_in (moved d to es) k ≡ flags_in es k
 unfolding flags_in
-flags_moved es d to k = elim (cases_eq k d) [
-  | inl e ↦ rw (e, object_moved es d to) (by_cases (object_in es d))
-  | inr e ↦ rw (object_unmoved es d to k e) refl
-]
-  where
-    by_cases : (o : Option Object) → option_map_or (λ (x : Object). x.flags) (option_map (with_place to) o) no_flags ≡ option_map_or (λ (x : Object). x.flags) o no_flags
-    by_cases None = refl
-    by_cases (Some o) = refl
+flags_moved es d to k = read_moved flags_seen es d to k (λ o. refl)
 
 pub fits_moved : (es : List Entry) (d to x p : ℕ) → fits_in (moved d to es) x p ≡ fits_in es x p
 fits_moved es d to x p = fits_alike es (moved d to es) x p (kind_moved es d to x) (kind_moved es d to p) (vehicle_alike es (moved d to es) p (flags_moved es d to p))

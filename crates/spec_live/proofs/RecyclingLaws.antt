@@ -1,6 +1,7 @@
 -- Recycling keeps a world consistent.
-use Rattle.std.proofs.Common.{◌≡◌, ℕ, List, [], Option, Some, None, Ok, inl, inr, refl, sym, ◌∙◌, ap, subst, length, Bool, true, false, cond, eqb, not, ◌&&◌, ◌||◌, map}
-use Rattle.std.proofs.lemmas.Bool.{cases_eq, eqb-true, eqb-false, ne_eqb, false≢true}
+use Rattle.std.proofs.Common.{◌≡◌, ℕ, List, [], Option, Some, None, Ok, inl, inr, refl, sym, ◌∙◌, ap, subst, length, Bool, true, false, cond, eqb, not, ◌||◌, map}
+use Rattle.muck_model.proofs.Dbrefs.{eq_same, same_eq}
+use Rattle.std.proofs.lemmas.Bool.{cases_eq, eqb-true, eqb-false, ne_eqb, false≢true, and_from, and_parts, or_parts, not-true}
 use Rattle.std.proofs.lemmas.Option.{slice_get-map}
 use Rattle.std.specs.List.{slice_get}
 use Rattle.std.specs.Option.{option_map, option_map_or}
@@ -17,7 +18,6 @@ use Rattle.spec_live.proofs.Lists.{length_map, length_changed, get_changed_same,
 use Rattle.spec_live.proofs.KindLaws.{none_in_exit, only_exit, player_no_exit, linked_no_exit, home_no_exit}
 use Rattle.spec_live.proofs.Readers.{object_change, list_change, object_elsewhere, list_elsewhere, object_left, list_left, kind_is, place_is, kind_alike}
 use Rattle.spec_live.proofs.Checks.{Passed, checked_ok, index_only}
-use Rattle.spec_live.proofs.SettingLaws.{same_only, same_true, both_true}
 use Rattle.spec_live.proofs.Fewer.{IsFewer, IsUnspoken, whether, ordered_fewer, consistent_fewer}
 use Rattle.spec_live.proofs.HomeLaws.{IsUntied, is_untied, not_nothing, ordered_untied, IsSent, is_sent, consistent_untied, consistent_sent_home, list_untied, kind_untied, kind_sent_home}
 
@@ -34,17 +34,12 @@ exit_stands d es k h = by_cases (object_in es k) refl h
     by_cases : (o : Option Object) → object_in es k ≡ o → option_map_or (is_exit_of d) o false ≡ true → StandsIn es true d k
     by_cases None e q = absurd (false≢true q)
     by_cases (Some o) e q =
-        let both : (is_exit o.kind ≡ true) × (same o.place (dbref_of d) ≡ true) = both_true (is_exit o.kind) (same o.place (dbref_of d)) q in
-        record { place = place_is es k o e ∙ ap (λ z. index_of z) (same_only o.place (dbref_of d) both.1); kind = ap (λ z. is_exit z) (kind_is es k o e) ∙ both.0 }
+        let both : (is_exit o.kind ≡ true) × (same o.place (dbref_of d) ≡ true) = and_parts (is_exit o.kind) (same o.place (dbref_of d)) q in
+        record { place = place_is es k o e ∙ ap (λ z. index_of z) (eq_same o.place (dbref_of d) both.1); kind = ap (λ z. is_exit z) (kind_is es k o e) ∙ both.0 }
 
 place_none : (es : List Entry) (k : ℕ) → object_in es k ≡ None → place_in es k ≡ None
 unfolding place_in
 place_none es k h = rw h refl
-
-and_true : (a b : Bool) → a ≡ true → b ≡ true → (a && b) ≡ true
-and_true true true p q = refl
-and_true false b p q = p
-and_true true false p q = q
 
 pub stands_exit : (d : ℕ) (es : List Entry) (k : ℕ) → StandsIn es true d k → is_exit_at d es k ≡ true
 unfolding is_exit_at
@@ -53,7 +48,7 @@ stands_exit d es k s = by_cases (object_in es k) refl
     by_cases : (o : Option Object) → object_in es k ≡ o → option_map_or (is_exit_of d) o false ≡ true
     by_cases None e = absurd (cc (s.place, place_none es k e))
     by_cases (Some o) e =
-        and_true (is_exit o.kind) (same o.place (dbref_of d)) (ap (λ z. is_exit z) (sym (kind_is es k o e)) ∙ s.kind) (same_true o.place (dbref_of d) (index_only o.place d (sym (place_is es k o e) ∙ s.place)))
+        and_from (is_exit o.kind) (same o.place (dbref_of d)) (ap (λ z. is_exit z) (sym (kind_is es k o e)) ∙ s.kind) (same_eq o.place (dbref_of d) (index_only o.place d (sym (place_is es k o e) ∙ s.place)))
 
 -- nothing stands in an exit
 in_exit : (es : List Entry) → IsOrdered es → (k p : ℕ) → place_in es k ≡ Some p → is_exit (kind_in es p) ≡ true → ⊥
@@ -322,16 +317,11 @@ consistent_gone es d low mortal c =
     (ap (λ z. is_player z) (kind_exits_gone emptied d before.ordered ∙ kind_sent_home (untied d es) (list_in false es d) d ∙ kind_untied d d es) ∙ mortal) loose.empty loose.untied
     (consistent_exits_gone emptied d before)
 
-neither : (a b : Bool) → not (a || b) ≡ true → (a ≡ false) × (b ≡ false)
-neither false false h = (refl, refl)
-neither true b h = absurd (false≢true h)
-neither false true h = absurd (false≢true h)
-
 pub recycle_checked : (d : Dbref) (es : List Entry) (n : ℕ) → recycle_check d es ≡ Ok n → (n ≡ 0 → ⊥) × (is_player (kind_in es n) ≡ false)
 unfolding recycle_check
 recycle_checked d es n h =
     let p : Passed es (λ k. not (eqb k 0 || is_player (kind_in es k))) d n = checked_ok _ d es n h in
-    let both : (eqb n 0 ≡ false) × (is_player (kind_in es n) ≡ false) = neither (eqb n 0) (is_player (kind_in es n)) p.holds in
+    let both : (eqb n 0 ≡ false) × (is_player (kind_in es n) ≡ false) = or_parts _ _ (not-true _ p.holds) in
     (eqb-false n 0 both.0, both.1)
 
 pub consistent_recycled : (d : Dbref) (es : List Entry) (n : ℕ) → recycle_check d es ≡ Ok n → IsConsistent es → IsConsistent (recycled n es)

@@ -1,7 +1,7 @@
 -- Every setter keeps a world consistent.
 use Rattle.std.proofs.Common.{◌≡◌, ℕ, ◌<◌, List, [], ◌∷◌, Option, Some, None, Result, Ok, inl, inr, refl, sym, ◌∙◌, ap, subst, length, Bool, true, false, cond, not, ◌&&◌, ◌||◌}
-use Rattle.std.proofs.lemmas.Bool.{cases_eq, false≢true}
-use Rattle.std.proofs.lemmas.Bool.Decides.{Decides-int_eq}
+use Rattle.muck_model.proofs.Dbrefs.{eq_same}
+use Rattle.std.proofs.lemmas.Bool.{cases_eq, false≢true, and_parts}
 use Rattle.std.specs.List.{list_any, slice_get}
 use Rattle.std.specs.Option.{option_map}
 use Rattle.muck_model.specs.declared.dbref.Dbref.{Dbref}
@@ -24,24 +24,6 @@ use Rattle.spec_live.proofs.Ties.{SameTies, owner_alike, link_alike, home_alike,
 use Rattle.spec_live.proofs.Checks.{Passed, PassedBoth, checked_ok, both_ok}
 
 -- Tests.
-
-pub same_only : (a b : Dbref) → same a b ≡ true → a ≡ b
-same_only a b h = let make : Dbref = record { 0 = a.0 } in ap (λ z. let d : Dbref = record { 0 = z } in d) ((Decides-int_eq a.0 b.0).0 h)
-
-pub same_true : (a b : Dbref) → a ≡ b → same a b ≡ true
-same_true a b e = (Decides-int_eq a.0 b.0).1 (ap (λ z. z.0) e)
-
-pub same_false : (a b : Dbref) → (a ≡ b → ⊥) → same a b ≡ false
-same_false a b ne = by_cases (same a b) refl
-  where
-    by_cases : (t : Bool) → same a b ≡ t → t ≡ false
-    by_cases true e = absurd (ne (same_only a b e))
-    by_cases false e = refl
-
-pub both_true : (a b : Bool) → (a && b) ≡ true → (a ≡ true) × (b ≡ true)
-both_true true true h = (refl, refl)
-both_true true false h = absurd (false≢true h)
-both_true false b h = absurd (false≢true h)
 
 pub any_true : (test : ℕ → Bool) (d : ℕ) (xs : List ℕ) → Member d xs → test d ≡ true → list_any test xs ≡ true
 unfolding Member
@@ -114,7 +96,7 @@ pub consistent_owned : (d owner : Dbref) (es : List Entry) (n : ℕ) → owner_c
 unfolding owner_check
 consistent_owned d owner es n h c =
     let p : (t : ℕ) × PassedBoth es (λ n t. not (is_player (kind_in es n)) && is_player (kind_in es t)) d owner n t = both_ok _ d owner es n h in
-    let player : is_player (kind_in es p.0) ≡ true = (both_true (not (is_player (kind_in es n))) (is_player (kind_in es p.0)) p.1.holds).1 in
+    let player : is_player (kind_in es p.0) ≡ true = (and_parts (not (is_player (kind_in es n))) (is_player (kind_in es p.0)) p.1.holds).1 in
     consistent_kept es n (with_owner owner) (λ o. refl) (λ o. refl) p.1.there.alive (ordered_same es n (with_owner owner) (λ o. refl) (λ o. refl) (λ o. refl) c.ordered)
     (λ o e t. record {
       owner = (p.0, p.1.other.is, player);
@@ -136,10 +118,10 @@ relinked es n to alive link c =
 link_by : (d to : Dbref) (es : List Entry) (n : ℕ) (a b : Bool) → same to nothing ≡ a → same to home ≡ b
     → ◌≡◌ {A = Result ℕ DbFault} (cond a (checked (λ n. has_link (kind_in es n)) d es) (cond b (checked (λ n. is_exit (kind_in es n)) d es) (checked_both (λ n t. may_link (kind_in es n) (kind_in es t)) d to es))) (Ok n)
     → IsConsistent es → IsConsistent (set_at (with_link to) n es)
-link_by d to es n true b e f h c = relinked es n to (checked_ok _ d es n h).there.alive (λ o q. inl (same_only to nothing e)) c
+link_by d to es n true b e f h c = relinked es n to (checked_ok _ d es n h).there.alive (λ o q. inl (eq_same to nothing e)) c
 link_by d to es n false true e f h c =
     let p : Passed es (λ n. is_exit (kind_in es n)) d n = checked_ok _ d es n h in
-    relinked es n to p.there.alive (λ o q. inr (inl (sym (kind_is es n o q) ∙ only_exit (kind_in es n) p.holds, same_only to home f))) c
+    relinked es n to p.there.alive (λ o q. inr (inl (sym (kind_is es n o q) ∙ only_exit (kind_in es n) p.holds, eq_same to home f))) c
 link_by d to es n false false e f h c =
     let p : (t : ℕ) × PassedBoth es (λ n t. may_link (kind_in es n) (kind_in es t)) d to n t = both_ok _ d to es n h in
     relinked es n to p.1.there.alive (λ o q. inr (inr (p.0, p.1.other.is, ap (λ z. may_link z (kind_in es p.0)) (sym (kind_is es n o q)) ∙ p.1.holds))) c

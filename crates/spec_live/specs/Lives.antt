@@ -13,22 +13,28 @@ pub record Live : Type 0 where
 abbrev pub Change : Type 0
 Change = Live → Live
 
+-- How changes are put together, of whatever world W.
+
 -- f, and then g, whose answer may be more than the world
-unfoldable pub followed : {Y : Type 0} → Change → (Live → Y) → Live → Y
+unfoldable pub followed : {W Y : Type 0} → (W → W) → (W → Y) → W → Y
 followed f g w = g (f w)
 
-abbrev pub ◌▸◌ : {Y : Type 0} → Change → (Live → Y) → Live → Y
+abbrev pub ◌▸◌ : {W Y : Type 0} → (W → W) → (W → Y) → W → Y
 ◌▸◌ f g = followed f g
 
 infixr 4 ◌▸◌
 -- what is read is handed on
-unfoldable pub reading : {X Y : Type 0} → (Live → X) → (X → Live → Y) → Live → Y
+unfoldable pub reading : {W X Y : Type 0} → (W → X) → (X → W → Y) → W → Y
 reading get go w = go (get w) w
 
-unfoldable pub either : {Y : Type 0} → Bool → (Live → Y) → (Live → Y) → Live → Y
+unfoldable pub either : {W Y : Type 0} → Bool → (W → Y) → (W → Y) → W → Y
 either b f g w = if b then f w else g w
 
-unfoldable pub unchanged : Change
+-- go, where the world is so; otherwise not
+unfoldable pub where_so : {W Y : Type 0} → (W → Bool) → (W → Y) → (W → Y) → W → Y
+where_so test otherwise go = reading test (λ b. either b go otherwise)
+
+unfoldable pub unchanged : {W : Type 0} → W → W
 unchanged w = w
 
 -- Readers.

@@ -1,12 +1,13 @@
 -- The objects of the world, by their numbers from 0 on, each with the lists of what it holds.
-use Rattle.std.specs.Prelude.{ℕ, ℤ, pos, negsuc, Bool, true, false, if◌then◌else◌, List, [], length, Option, Some, None, slice_get, slice_set, codes}
+use Rattle.std.specs.Prelude.{ℕ, Bool, true, false, if◌then◌else◌, List, [], length, Option, Some, None, slice_get, slice_set, codes}
 use Rattle.std.specs.Option.{option_map, option_and_then, option_map_or}
-use Rattle.std.specs.Ordering.{int_eq}
 use Rattle.std.specs.FinMap as map
 use Rattle.muck_model.specs.declared.dbref.Dbref.{Dbref}
 use Rattle.muck_model.specs.declared.dbref.Flags.{Flags}
 use Rattle.muck_model.specs.declared.dbref.Kind.{Kind}
 use Rattle.muck_model.specs.declared.dbref.Kind.TheVariants.{Room, Thing, Exit, Player, Program, Garbage}
+pub use Rattle.muck_model.specs.Dbrefs.{dbref_of, nothing, home, same, index_at, index_of}
+pub use Rattle.muck_model.specs.Kinds.{is_room, is_thing, is_exit, is_player, is_program, is_garbage}
 use Rattle.spec_live.specs.declared.object.Object.{Object}
 use Rattle.spec_live.specs.declared.mark.Mark.{Mark}
 use Rattle.spec_live.specs.Flags.{has_flag, no_flags, vehicle}
@@ -18,55 +19,6 @@ pub record Entry : Type 0 where
   pub contents : List ℕ
   pub exits : List ℕ
   pub mark : Option Mark
-
--- Numbers.
-
-abbrev pub dbref_of : ℕ → Dbref
-dbref_of n = record { 0 = pos n }
-
-abbrev pub nothing : Dbref
-nothing = record { 0 = negsuc 0 }
-
--- `#-3`
-abbrev pub home : Dbref
-home = record { 0 = negsuc 2 }
-
-abbrev pub same : Dbref → Dbref → Bool
-same a b = int_eq a.0 b.0
-
-abbrev pub index_at : ℤ → Option ℕ
-index_at (pos n) = Some n
-index_at (negsuc n) = None
-
--- the number from 0 on
-abbrev pub index_of : Dbref → Option ℕ
-index_of d = index_at d.0
-
--- Kinds.
-
-abbrev pub is_room : Kind → Bool
-is_room Room = true
-is_room kind = false
-
-abbrev pub is_thing : Kind → Bool
-is_thing Thing = true
-is_thing kind = false
-
-abbrev pub is_exit : Kind → Bool
-is_exit Exit = true
-is_exit kind = false
-
-abbrev pub is_player : Kind → Bool
-is_player Player = true
-is_player kind = false
-
-abbrev pub is_program : Kind → Bool
-is_program Program = true
-is_program kind = false
-
-abbrev pub is_garbage : Kind → Bool
-is_garbage Garbage = true
-is_garbage kind = false
 
 -- what may be in a room; in a thing, on which players may sit where it is a vehicle; and in a player
 abbrev pub may_stand : Kind → Kind → Bool → Bool

@@ -2,7 +2,6 @@
 use Rattle.std.specs.Prelude.{◌≡◌, ℕ, true, false, List, [], ◌∷◌, ◌++◌, refl, codes, Option, Some, None, Ok, Err, replicate}
 use Rattle.std.specs.Option.{option_map}
 use Rattle.std.specs.FinMap as map
-use Rattle.muck_model.specs.Bytes.{text_most}
 use Rattle.muck_model.specs.declared.dbref.Dbref.{Dbref}
 use Rattle.muck_model.specs.declared.dbref.Kind.{Kind}
 use Rattle.muck_model.specs.declared.dbref.Kind.TheVariants.{Room, Thing, Exit, Player, Program, Garbage}
@@ -178,5 +177,5 @@ line_taken_row = refl
 
 -- a text with byte 13 is two lines
 sent_lines_row : sent_lines (codes "one" ++ 13 ∷ codes "two") ≡ codes "one" ∷ codes "two" ∷ []
-unfolding sent_lines text_most
+unfolding sent_lines
 sent_lines_row = refl

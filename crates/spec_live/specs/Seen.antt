@@ -1,5 +1,5 @@
 -- What matching and locks see of the objects, and how an object is shown.
-use Rattle.std.specs.Prelude.{ℕ, ℤ, suc, ◌+◌, pos, negsuc, Bool, true, false, if◌then◌else◌, List, [], ◌∷◌, ◌++◌, map, length, Option, None, codes, decimal, zero}
+use Rattle.std.specs.Prelude.{ℕ, ℤ, suc, pos, negsuc, Bool, true, false, List, [], ◌∷◌, ◌++◌, map, length, Option, None, codes, decimal, zero}
 use Rattle.std.specs.Option.{option_map, option_map_or}
 use Rattle.std.specs.List.{filter}
 use Rattle.std.specs.FinMap.{get}

@@ -8,6 +8,7 @@ mod fault;
 mod flag;
 mod mark;
 mod object;
+mod paths;
 
 pub use fault::DbFault;
 pub use flag::{
@@ -15,3 +16,4 @@ pub use flag::{
 };
 pub use mark::{Changed, Mark};
 pub use object::Object;
+pub use paths::paths_agree;

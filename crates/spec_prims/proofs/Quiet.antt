@@ -1,9 +1,8 @@
 -- No row that is there changes an object, who the connections are, or what is tuned.
-use Rattle.std.proofs.Common.{◌≡◌, ℕ, Bool, true, false, cond, List, [], ◌∷◌, refl, Option, Some, None}
-use Rattle.std.specs.Prelude.{ℤ}
-use Rattle.spec_live.specs.Lives.{Live, Change, tell_player}
+use Rattle.std.proofs.Common.{ℕ, Bool, true, false, cond, List, [], ◌∷◌, Option, Some, None}
+use Rattle.spec_live.specs.Lives.{Live}
 use Rattle.spec_rights.specs.declared.act.Actor.{Actor}
-use Rattle.spec_rights.proofs.Licences.{Quiet, ties}
+use Rattle.spec_rights.proofs.Licences.{Shows}
 use Rattle.spec_rights.proofs.Shown.{quiet_tell_player}
 use Rattle.muf_model.specs.declared.fault.MufFault.{MufFault}
 use Rattle.muf_model.specs.declared.prims.Family.{Family}
@@ -17,27 +16,18 @@ use Rattle.spec_prims.specs.Row.{Row, gives, refuses, Doing, unless, given_upon}
 use Rattle.spec_prims.specs.Talk.{notified, talk_row}
 use Rattle.spec_prims.specs.Shared.{row_in, shared_row, first_fault, done_by, shared}
 
-pub record Still (w v : Live) : Type 0 where
-  pub objects : v.objects ≡ w.objects
-  pub ties : ties v.board.connections ≡ ties w.board.connections
-  pub tune : v.board.tune ≡ w.board.tune
-
 abbrev pub Keeps : Live → Row → Type 0
-Keeps w (gives items v) = Still w v
+Keeps w (gives items v) = Shows w v
 Keeps w (refuses f) = Unit {0}
 
 abbrev IsQuiet : Option Doing → Type 0
 IsQuiet None = Unit {0}
 IsQuiet (Some doing) = (a : Actor) (items : List Datum) (w : Live) → Keeps w (doing a items w)
 
--- what is made of a world by a change that only shows something
-still : (f : Change) → Quiet f → (w : Live) → Still w (f w)
-still f q w = record { objects = q.objects w; ties = q.ties w; tune = q.tune w }
-
 -- one line for each row
 
 keeps_notified : (a : Actor) (items : List Datum) (w : Live) → Keeps w (notified a items w)
-keeps_notified a (text t ∷ object d ∷ []) w = still (tell_player (numbered d) t) (quiet_tell_player (numbered d) t) w
+keeps_notified a (text t ∷ object d ∷ []) w = (quiet_tell_player (numbered d) t).law w
 keeps_notified a _ w = tt
 
 quiet_talk : (p : Primitive) → IsQuiet (talk_row p)
@@ -50,7 +40,7 @@ quiet_in : (family : Family) (p : Primitive) → IsQuiet (row_in family p)
 quiet_in Talk p = quiet_talk p
 quiet_in _ p = tt
 
-keeps_if : (b : Bool) (f : MufFault) (items : List Datum) (w v : Live) → Still w v → Keeps w (cond b (refuses f) (gives items v))
+keeps_if : (b : Bool) (f : MufFault) (items : List Datum) (w v : Live) → Shows w v → Keeps w (cond b (refuses f) (gives items v))
 keeps_if true f items w v h = tt
 keeps_if false f items w v h = h
 

@@ -1,5 +1,7 @@
 -- What is open where the rules allow an act.
 use Rattle.std.proofs.Common.{◌≡◌, ℕ, Bool, true, false, cond, List, refl, sym, ◌∙◌, ap, Option, Some, None}
+use Rattle.std.proofs.lemmas.Bool.{and_from, or_left, or_right}
+use Rattle.muck_model.proofs.Dbrefs.{same_eq}
 use Rattle.std.specs.Prelude.{not, ◌||◌, ◌&&◌, ◌==◌, nat_le, nat_lt}
 use Rattle.std.specs.Option.{option_map, option_map_or}
 use Rattle.std.proofs.lemmas.Bool.Decides.{nat_tests}
@@ -23,7 +25,6 @@ use Rattle.spec_rights.specs.Levels.{level_at, is_player_at, flag_at}
 use Rattle.spec_rights.specs.Worth.{opens_at}
 use Rattle.spec_rights.specs.Verdict.{verdict, place_of, below, or_else, denial, when, is_master, controls, controls_or, open_place, open_target, is_program_at, may_take_over, may_build, is_hidden, is_kept, is_guarded, is_plain}
 use Rattle.spec_rights.specs.Licence.{Judge, name_open, property_open, place_open, link_open, home_open, level_open, level_open_to, lines_open, owner_open, home_of, kind_of}
-use Rattle.spec_rights.proofs.Lookups.{same_eq}
 use Rattle.spec_rights.proofs.Rights.{SameRights, same_level, same_home, same_flag, same_player, same_program, same_controls, same_controls_or, same_take_over}
 use Rattle.spec_rights.proofs.Licences.{judge}
 
@@ -42,16 +43,6 @@ passes false r x rest e = record { here = refl; next = e }
 not_false : (b : Bool) → not b ≡ false → b ≡ true
 not_false true e = refl
 not_false false e = cc
-
-and_both : (b c : Bool) → b ≡ true → c ≡ true → (b && c) ≡ true
-and_both b c e f = ap (λ x. x && c) e ∙ f
-
-pub or_left : (b c : Bool) → b ≡ true → (b || c) ≡ true
-or_left b c e = ap (λ x. x || c) e
-
-pub or_right : (b c : Bool) → c ≡ true → (b || c) ≡ true
-or_right true c e = refl
-or_right false c e = e
 
 -- Renaming.
 pub rename_allowed : (a : Actor) (free : Dbref → Bool) (start es : List Entry) (x : Dbref) → SameRights start es → verdict es a (Rename x) ≡ None → name_open (judge a free start) x ≡ true
@@ -118,14 +109,14 @@ move_allowed a free start es x to there s e =
     let q = passes (not (same to home || open_place es a to)) P9 to _ p.next in
     let m : (nat_le 3 a.level || controls es a x) ≡ true = rw (le_not 3 a.level) (mover (nat_lt a.level 3) (controls es a x) p.here) in
     let t : open_place es a to ≡ true = rw there at (not_false (same to home || open_place es a to) q.here) in
-    or_right (free x) _ (rw (same_controls a x start es s, same_controls_or jump a to start es s) (and_both (nat_le 3 a.level || controls es a x) _ m (or_right _ (open_place es a to) t)))
+    or_right (free x) _ (rw (same_controls a x start es s, same_controls_or jump a to start es s) (and_from (nat_le 3 a.level || controls es a x) _ m (or_right _ (open_place es a to) t)))
 
 pub home_allowed : (a : Actor) (free : Dbref → Bool) (start es : List Entry) (x to : Dbref) → to ≡ option_map_or (λ (o : Object). o.home) (object_at x es) nothing → SameRights start es → verdict es a (Move x home) ≡ None → place_open (judge a free start) x to ≡ true
 home_allowed a free start es x to there s e =
     let p = passes (below 3 es a x) P8 x _ e in
     let m : (nat_le 3 a.level || controls es a x) ≡ true = rw (le_not 3 a.level) (mover (nat_lt a.level 3) (controls es a x) p.here) in
     let h : same to (home_of (judge a free start) x) ≡ true = same_eq to _ (there ∙ sym (same_home x start es s)) in
-    or_right (free x) _ (rw (same_controls a x start es s) (and_both (nat_le 3 a.level || controls es a x) _ m (or_left _ _ h)))
+    or_right (free x) _ (rw (same_controls a x start es s) (and_from (nat_le 3 a.level || controls es a x) _ m (or_left _ _ h)))
 
 -- Linking.
 
@@ -133,7 +124,7 @@ pub link_allowed : (a : Actor) (free : Dbref → Bool) (start es : List Entry) (
 link_allowed a free start es x to s e =
     let p = passes (not (controls es a x)) P12 x _ e in
     let q = passes (not (open_target es a to)) P13 to _ p.next in
-    let m : (controls start a x && open_target start a to) ≡ true = rw (same_controls a x start es s, same_controls_or link a to start es s) (and_both (controls es a x) (open_target es a to) (not_false _ p.here) (not_false _ q.here)) in
+    let m : (controls start a x && open_target start a to) ≡ true = rw (same_controls a x start es s, same_controls_or link a to start es s) (and_from (controls es a x) (open_target es a to) (not_false _ p.here) (not_false _ q.here)) in
     or_left _ _ m
 
 pub live_allowed : (a : Actor) (free : Dbref → Bool) (start es : List Entry) (x to : Dbref) → SameRights start es → verdict es a (Link x to) ≡ None → home_open (judge a free start) x to ≡ true
@@ -141,14 +132,14 @@ live_allowed a free start es x to s e =
     let p = passes (not (controls es a x)) P12 x _ e in
     let q = passes (not (open_target es a to)) P13 to _ p.next in
     let m : (controls start a x && (same to (dbref_of 0) || open_target start a to)) ≡ true =
-    rw (same_controls a x start es s, same_controls_or link a to start es s) (and_both (controls es a x) _ (not_false _ p.here) (or_right (same to (dbref_of 0)) (open_target es a to) (not_false _ q.here))) in
+    rw (same_controls a x start es s, same_controls_or link a to start es s) (and_from (controls es a x) _ (not_false _ p.here) (or_right (same to (dbref_of 0)) (open_target es a to) (not_false _ q.here))) in
     or_left _ _ m
 
 -- going back to `#0` as a home
 pub unlink_allowed : (a : Actor) (free : Dbref → Bool) (start es : List Entry) (x to : Dbref) → SameRights start es → verdict es a (Link x to) ≡ None → home_open (judge a free start) x (dbref_of 0) ≡ true
 unlink_allowed a free start es x to s e =
     let p = passes (not (controls es a x)) P12 x _ e in
-    let m : (controls start a x && (same (dbref_of 0) (dbref_of 0) || open_target start a (dbref_of 0))) ≡ true = rw (same_controls a x start es s) (and_both (controls es a x) _ (not_false _ p.here) refl) in
+    let m : (controls start a x && (same (dbref_of 0) (dbref_of 0) || open_target start a (dbref_of 0))) ≡ true = rw (same_controls a x start es s) (and_from (controls es a x) _ (not_false _ p.here) refl) in
     or_left _ _ m
 
 -- Flags and levels.
@@ -186,7 +177,7 @@ level_allowed a free start es x level s e =
     let most : level_at es a.user ≡ level_at start a.user = sym (same_level a.user start es s) in
     let e18 : (is_player k && nat_lt a.level 4) ≡ false = rw (← player) p18.here in
     let e19 : not (is_player k || (is_program k && nat_le level (level_at start a.user))) ≡ false = rw (← player, ← program, ← most) p19.here in
-    and_both (controls start a x) (level_open_to (judge a free start) x level k) (same_controls a x start es s ∙ not_false _ p16.here) (table (judge a free start) x level k e18 e19)
+    and_from (controls start a x) (level_open_to (judge a free start) x level k) (same_controls a x start es s ∙ not_false _ p16.here) (table (judge a free start) x level k e18 e19)
   where
     table : (j : Judge) (x : Dbref) (level : ℕ) (k : Kind) → (is_player k && nat_lt j.actor.level 4) ≡ false → not (is_player k || (is_program k && nat_le level (level_at j.objects j.actor.user))) ≡ false → level_open_to j x level k ≡ true
     table j x level Player e f = le_not 4 j.actor.level ∙ ap not e
@@ -217,7 +208,7 @@ pub edit_allowed : (a : Actor) (free : Dbref → Bool) (start es : List Entry) (
 edit_allowed a free start es x s e =
     let p = passes (not (controls es a x)) P16 x _ e in
     let q = passes (level_at es a.user == 0) P22 x _ p.next in
-    rw (same_controls a x start es s, same_level a.user start es s) (and_both (controls es a x) _ (not_false _ p.here) (some_level (level_at es a.user) q.here))
+    rw (same_controls a x start es s, same_level a.user start es s) (and_from (controls es a x) _ (not_false _ p.here) (some_level (level_at es a.user) q.here))
 
 master_by : (a : Actor) (b : Bool) → nat_lt a.level 4 ≡ b → b ≡ false → is_master a ≡ true
 master_by a b e f = le_not 4 a.level ∙ ap not (e ∙ f)

@@ -15,9 +15,10 @@ record Leaves (v : ℕ) : Type 0 where
 abbrev Other : ℕ → Type 0
 Other v = has_flag wizard (record { 0 = v }) ≡ false → Leaves v
 
-abbrev Others : List ℕ → Type 0
-Others [] = Unit {0}
-Others (v ∷ vs) = Other v × Others vs
+-- each of the values
+abbrev pub Each : (ℕ → Type 0) → List ℕ → Type 0
+Each P [] = Unit {0}
+Each P (v ∷ vs) = P v × Each P vs
 
 other_1 : Other 1
 other_1 e = record { set = λ x h. omega arith; cleared = λ x h. omega arith }
@@ -61,20 +62,20 @@ other_4096 e = record { set = λ x h. omega arith; cleared = λ x h. omega arith
 other_8192 : Other 8192
 other_8192 e = record { set = λ x h. omega arith; cleared = λ x h. omega arith }
 
-others : Others flag_values
+others : Each Other flag_values
 others = (other_1, (other_2, (other_4, (other_8, (other_16, (other_32, (other_64, (other_128, (other_256, (other_512, (other_1024, (other_2048, (other_4096, (other_8192, tt))))))))))))))
 
-picked : (v : ℕ) (vs : List ℕ) → Others vs → list_any (λ u. u == v) vs ≡ true → Other v
-picked v [] h e = absurd (cc)
-picked v (u ∷ us) h e = elim (or_cases (u == v) (list_any (λ t. t == v) us) e) [
-  | inl one ↦ subst Other (eqb-true u v one) h.0
-  | inr more ↦ picked v us h.1 more
+pub picked : (P : ℕ → Type 0) (v : ℕ) (vs : List ℕ) → Each P vs → list_any (λ u. u == v) vs ≡ true → P v
+picked P v [] h e = absurd (cc)
+picked P v (u ∷ us) h e = elim (or_cases (u == v) (list_any (λ t. t == v) us) e) [
+  | inl one ↦ subst P (eqb-true u v one) h.0
+  | inr more ↦ picked P v us h.1 more
 ]
 
-even : (n : ℕ) → (n % 2 == 1) ≡ false → n % 2 ≡ 0
+pub even : (n : ℕ) → (n % 2 == 1) ≡ false → n % 2 ≡ 0
 even n e = grind (arith, nat_tests)
 
-odd : (n : ℕ) → (n % 2 == 1) ≡ true → n % 2 ≡ 1
+pub odd : (n : ℕ) → (n % 2 == 1) ≡ true → n % 2 ≡ 1
 odd n e = grind (arith, nat_tests)
 
 pub wizard_stays_set : (flag flags : Flags) → is_flag flag ≡ true → has_flag wizard flag ≡ false → has_flag wizard (with_flag flag.0 flags) ≡ has_flag wizard flags
@@ -82,11 +83,11 @@ wizard_stays_set flag flags k e = at (has_flag flag.0 flags) refl
   where
     at : (b : Bool) → has_flag flag.0 flags ≡ b → has_flag wizard (cond b flags (record { 0 = flags.0 + flag.0 })) ≡ has_flag wizard flags
     at true h = refl
-    at false h = ap (λ n. n == 1) ((picked flag.0 flag_values others k e).set flags.0 (even (flags.0 / flag.0) h))
+    at false h = ap (λ n. n == 1) ((picked Other flag.0 flag_values others k e).set flags.0 (even (flags.0 / flag.0) h))
 
 pub wizard_stays_cleared : (flag flags : Flags) → is_flag flag ≡ true → has_flag wizard flag ≡ false → has_flag wizard (without_flag flag.0 flags) ≡ has_flag wizard flags
 wizard_stays_cleared flag flags k e = at (has_flag flag.0 flags) refl
   where
     at : (b : Bool) → has_flag flag.0 flags ≡ b → has_flag wizard (cond b (record { 0 = flags.0 - flag.0 }) flags) ≡ has_flag wizard flags
-    at true h = ap (λ n. n == 1) ((picked flag.0 flag_values others k e).cleared flags.0 (odd (flags.0 / flag.0) h))
+    at true h = ap (λ n. n == 1) ((picked Other flag.0 flag_values others k e).cleared flags.0 (odd (flags.0 / flag.0) h))
     at false h = refl

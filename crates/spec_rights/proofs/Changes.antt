@@ -28,7 +28,7 @@ use Rattle.spec_rights.specs.Licence.{Open, Judge, Changed, Differs, SameLists, 
 use Rattle.spec_rights.proofs.Lookups.{Row, row_same, rows_changed, number_is}
 use Rattle.spec_rights.proofs.Listing.{lists_alike, lists_itself}
 use Rattle.spec_rights.proofs.Bits.{wizard_stays_set, wizard_stays_cleared}
-use Rattle.spec_rights.proofs.Licences.{judge, changed_same, Kept, kept_same, Stay, End, Stays, Ends, itself, ties_itself}
+use Rattle.spec_rights.proofs.Licences.{judge, changed_same, Kept, kept_same, Stay, End, Stays, Ends, itself, ties_itself, ends_by, stays_by}
 use Rattle.spec_rights.proofs.Allowed.{rename_allowed, write_allowed, change_allowed, link_allowed, flag_allowed, level_allowed, owner_allowed, edit_allowed, password_allowed}
 
 -- Where f is done to one object, R holds of all.
@@ -104,9 +104,7 @@ kept_name j x name o h = record {
 
 pub stays_named : (a : Actor) (free : Dbref → Bool) (x : Dbref) (name : List ℕ) → Stays a free (Some (Rename x)) (named x name)
 unfolding named
-stays_named a free x name = record {
-  law = λ start w s g. let j = judge a free start in stay_found j x (with_name name) (λ o. refl) (λ o. kept_name j x name o (rename_allowed a free start w.objects x s g)) w;
-}
+stays_named a free x name = stays_by _ (λ start w s g. let j = judge a free start in stay_found j x (with_name name) (λ o. refl) (λ o. kept_name j x name o (rename_allowed a free start w.objects x s g)) w)
 
 -- Links.
 
@@ -118,9 +116,7 @@ kept_link j x to o h = record {
 
 pub stays_linked : (a : Actor) (free : Dbref → Bool) (x to : Dbref) → Stays a free (Some (Link x to)) (linked x to)
 unfolding linked
-stays_linked a free x to = record {
-  law = λ start w s g. let j = judge a free start in stay_found j x (with_link to) (λ o. refl) (λ o. kept_link j x to o (link_allowed a free start w.objects x to s g)) w;
-}
+stays_linked a free x to = stays_by _ (λ start w s g. let j = judge a free start in stay_found j x (with_link to) (λ o. refl) (λ o. kept_link j x to o (link_allowed a free start w.objects x to s g)) w)
 
 -- Properties.
 
@@ -167,17 +163,17 @@ unfolding unstored
 stay_unstored j x path h = stay_found j x (without_prop path) (λ o. refl) (λ o. kept_props j x _ o (removed_open j x path o.props h))
 
 pub stays_stored : (a : Actor) (free : Dbref → Bool) (x : Dbref) (path : List (List ℕ)) (value : PropValue) → Stays a free (Some (Write x path)) (stored x path value)
-stays_stored a free x path value = record { law = λ start w s g. stay_stored (judge a free start) x path value (write_allowed a free start w.objects x path s g) w }
+stays_stored a free x path value = stays_by _ (λ start w s g. stay_stored (judge a free start) x path value (write_allowed a free start w.objects x path s g) w)
 
 pub stays_unstored : (a : Actor) (free : Dbref → Bool) (x : Dbref) (path : List (List ℕ)) → Stays a free (Some (Write x path)) (unstored x path)
-stays_unstored a free x path = record { law = λ start w s g. stay_unstored (judge a free start) x path (write_allowed a free start w.objects x path s g) w }
+stays_unstored a free x path = stays_by _ (λ start w s g. stay_unstored (judge a free start) x path (write_allowed a free start w.objects x path s g) w)
 
 -- a message or a lock, whose path is guarded
 pub stays_set : (a : Actor) (free : Dbref → Bool) (x : Dbref) (path : List (List ℕ)) (value : PropValue) → is_guarded (class_of path) ≡ true → Stays a free (Some (Change x)) (stored x path value)
-stays_set a free x path value h = record { law = λ start w s g. stay_stored (judge a free start) x path value (change_allowed a free start w.objects x path h s g) w }
+stays_set a free x path value h = stays_by _ (λ start w s g. stay_stored (judge a free start) x path value (change_allowed a free start w.objects x path h s g) w)
 
 pub stays_unset : (a : Actor) (free : Dbref → Bool) (x : Dbref) (path : List (List ℕ)) → is_guarded (class_of path) ≡ true → Stays a free (Some (Change x)) (unstored x path)
-stays_unset a free x path h = record { law = λ start w s g. stay_unstored (judge a free start) x path (change_allowed a free start w.objects x path h s g) w }
+stays_unset a free x path h = stays_by _ (λ start w s g. stay_unstored (judge a free start) x path (change_allowed a free start w.objects x path h s g) w)
 
 -- Sources.
 
@@ -189,11 +185,9 @@ kept_lines j x lines o h = record {
 
 pub stays_lines : (a : Actor) (free : Dbref → Bool) (x : Dbref) (lines : List (List ℕ)) → Stays a free (Some (Edit x)) (lines_kept x lines)
 unfolding lines_kept
-stays_lines a free x lines = record {
-  law = λ start w s g.
-      let j = judge a free start in
-      stay_objects j w (lines_kept x lines w) refl (rows_lined (Kept j) (kept_same j) x lines (λ o. kept_lines j x lines o (edit_allowed a free start w.objects x s g)) w.objects) (lists_lined j x lines w.objects);
-}
+stays_lines a free x lines = stays_by _ (λ start w s g.
+    let j = judge a free start in
+    stay_objects j w (lines_kept x lines w) refl (rows_lined (Kept j) (kept_same j) x lines (λ o. kept_lines j x lines o (edit_allowed a free start w.objects x s g)) w.objects) (lists_lined j x lines w.objects))
 
 -- Passwords.
 
@@ -205,9 +199,7 @@ kept_digest j x salt word o h = record {
 
 pub stays_password : (a : Actor) (free : Dbref → Bool) (x : Dbref) (salt : ℕ) (word : List ℕ) → Stays a free (Some (Password x)) (password_kept x salt word)
 unfolding password_kept
-stays_password a free x salt word = record {
-  law = λ start w s g. let j = judge a free start in stay_found j x (with_password salt word) (λ o. refl) (λ o. kept_digest j x salt word o (password_allowed w.objects a x g)) w;
-}
+stays_password a free x salt word = stays_by _ (λ start w s g. let j = judge a free start in stay_found j x (with_password salt word) (λ o. refl) (λ o. kept_digest j x salt word o (password_allowed w.objects a x g)) w)
 
 -- Owners.
 
@@ -216,9 +208,7 @@ changed_owner j x owner o h = record { kind = refl; name = inl refl; owner = inr
 
 pub ends_owned : (a : Actor) (free : Dbref → Bool) (x owner : Dbref) → Ends itself a free (Some (SetOwner x owner)) (owned_by x owner)
 unfolding owned_by
-ends_owned a free x owner = record {
-  law = λ start w s g. let j = judge a free start in end_found j x (with_owner owner) (λ o. refl) (λ o. changed_owner j x owner o (owner_allowed a free start w.objects x owner s g)) w;
-}
+ends_owned a free x owner = ends_by _ (λ start w s g. let j = judge a free start in end_found j x (with_owner owner) (λ o. refl) (λ o. changed_owner j x owner o (owner_allowed a free start w.objects x owner s g)) w)
 
 -- Levels.
 
@@ -227,9 +217,7 @@ changed_level j x level o h = record { kind = refl; name = inl refl; owner = inl
 
 pub ends_leveled : (a : Actor) (free : Dbref → Bool) (x : Dbref) (level : ℕ) → Ends itself a free (Some (SetLevel x level)) (leveled x level)
 unfolding leveled
-ends_leveled a free x level = record {
-  law = λ start w s g. let j = judge a free start in end_found j x (with_level level) (λ o. refl) (λ o. changed_level j x level o (level_allowed a free start w.objects x level s g)) w;
-}
+ends_leveled a free x level = ends_by _ (λ start w s g. let j = judge a free start in end_found j x (with_level level) (λ o. refl) (λ o. changed_level j x level o (level_allowed a free start w.objects x level s g)) w)
 
 -- Flags.
 
@@ -245,18 +233,14 @@ wizard_open false m v old new e f g = absurd (cc)
 
 pub ends_flag_set : (a : Actor) (free : Dbref → Bool) (x : Dbref) (flag : Flags) → is_flag flag ≡ true → Ends itself a free (Some (SetFlag x flag)) (flag_set x flag)
 unfolding flag_set
-ends_flag_set a free x flag k = record {
-  law = λ start w s g.
-      let j = judge a free start in
-      let t = flag_allowed a free start w.objects x flag s g in
-      end_found j x (λ o. with_flags (with_flag flag.0 o.flags) o) (λ o. refl) (λ o. changed_flags j x (with_flag flag.0 o.flags) o t.0 (wizard_open _ _ _ _ _ t.0 t.1 (λ v. wizard_stays_set flag o.flags k v))) w;
-}
+ends_flag_set a free x flag k = ends_by _ (λ start w s g.
+    let j = judge a free start in
+    let t = flag_allowed a free start w.objects x flag s g in
+    end_found j x (λ o. with_flags (with_flag flag.0 o.flags) o) (λ o. refl) (λ o. changed_flags j x (with_flag flag.0 o.flags) o t.0 (wizard_open _ _ _ _ _ t.0 t.1 (λ v. wizard_stays_set flag o.flags k v))) w)
 
 pub ends_flag_cleared : (a : Actor) (free : Dbref → Bool) (x : Dbref) (flag : Flags) → is_flag flag ≡ true → Ends itself a free (Some (SetFlag x flag)) (flag_cleared x flag)
 unfolding flag_cleared
-ends_flag_cleared a free x flag k = record {
-  law = λ start w s g.
-      let j = judge a free start in
-      let t = flag_allowed a free start w.objects x flag s g in
-      end_found j x (λ o. with_flags (without_flag flag.0 o.flags) o) (λ o. refl) (λ o. changed_flags j x (without_flag flag.0 o.flags) o t.0 (wizard_open _ _ _ _ _ t.0 t.1 (λ v. wizard_stays_cleared flag o.flags k v))) w;
-}
+ends_flag_cleared a free x flag k = ends_by _ (λ start w s g.
+    let j = judge a free start in
+    let t = flag_allowed a free start w.objects x flag s g in
+    end_found j x (λ o. with_flags (without_flag flag.0 o.flags) o) (λ o. refl) (λ o. changed_flags j x (without_flag flag.0 o.flags) o t.0 (wizard_open _ _ _ _ _ t.0 t.1 (λ v. wizard_stays_cleared flag o.flags k v))) w)

@@ -1,5 +1,7 @@
 -- Connections that leave, and what is tuned.
 use Rattle.std.proofs.Common.{◌≡◌, ℕ, Bool, true, false, cond, List, [], ◌∷◌, refl, ◌∙◌, ap, Some, None, inl, inr}
+use Rattle.std.proofs.lemmas.Bool.{or_left, or_right}
+use Rattle.muck_model.proofs.Dbrefs.{same_eq}
 use Rattle.std.specs.Prelude.{map, find}
 use Rattle.std.specs.Option.{option_and_then, option_map_or}
 use Rattle.muck_model.specs.declared.dbref.Dbref.{Dbref}
@@ -13,10 +15,10 @@ use Rattle.spec_rights.specs.declared.act.Act.TheVariants.{Wizard}
 use Rattle.spec_rights.specs.Verdict.{is_master}
 use Rattle.spec_rights.specs.Changing.{booted, tuned}
 use Rattle.spec_rights.specs.Licence.{Open, SameTies, leave_open}
-use Rattle.spec_rights.proofs.Lookups.{row_same, same_eq}
+use Rattle.spec_rights.proofs.Lookups.{row_same}
 use Rattle.spec_rights.proofs.Listing.{lists_itself}
-use Rattle.spec_rights.proofs.Licences.{judge, kept_same, differs_kept, Stays, Whole, itself, ties_itself}
-use Rattle.spec_rights.proofs.Allowed.{or_left, or_right, wizard_allowed}
+use Rattle.spec_rights.proofs.Licences.{judge, kept_same, differs_kept, Stays, Whole, itself, ties_itself, stays_by, whole_by}
+use Rattle.spec_rights.proofs.Allowed.{wizard_allowed}
 
 own_open : (a : Actor) (c : Connection) → c.player ≡ Some a.player → leave_open a c ≡ true
 own_open a c e = or_right (is_master a) _ (ap (λ p. option_map_or (same a.player) p false) e ∙ same_eq a.player a.player refl)
@@ -32,16 +34,14 @@ ties_left a d (c ∷ cs) =
 -- the actor's own connection leaves
 pub whole_leave : (a : Actor) (d : ℕ) (free : List Entry → Dbref → Bool) (given : Live → Type 0) → Whole itself a (Some d) free given (leave d)
 unfolding leave leaving_one
-whole_leave a d free given = record {
-  law = λ w c h. record {
-    gone = None;
-    recycled = λ x e. absurd (cc);
-    objects = λ n. differs_kept (judge a (free w.objects) w.objects) (dbref_of n) _ _ (row_same _ (kept_same (judge a (free w.objects) w.objects) (dbref_of n)) (object_at (dbref_of n) w.objects));
-    lists = lists_itself (judge a (free w.objects) w.objects) w.objects;
-    connections = ties_left a d w.board.connections c;
-    tune = inl refl;
-  };
-}
+whole_leave a d free given = whole_by _ (λ w c h. record {
+  gone = None;
+  recycled = λ x e. absurd (cc);
+  objects = λ n. differs_kept (judge a (free w.objects) w.objects) (dbref_of n) _ _ (row_same _ (kept_same (judge a (free w.objects) w.objects) (dbref_of n)) (object_at (dbref_of n) w.objects));
+  lists = lists_itself (judge a (free w.objects) w.objects) w.objects;
+  connections = ties_left a d w.board.connections c;
+  tune = inl refl;
+})
 
 boot_one : (a : Actor) (b : Bool) (c : Connection) → is_master a ≡ true → Open (λ (leaving : Bool). leave_open a c) c.leaving (cond b (left c) c).leaving
 boot_one a true c h = inr (or_left (is_master a) _ h)
@@ -61,22 +61,18 @@ ties_booted a player (c ∷ cs) h = (same_number (is_of player c) c, same_owner 
 
 pub stays_booted : (a : Actor) (free : Dbref → Bool) (player : Dbref) → Stays a free (Some Wizard) (booted player)
 unfolding booted
-stays_booted a free player = record {
-  law = λ start w s g. record {
-    rows = λ n. row_same _ (kept_same (judge a free start) (dbref_of n)) (object_at (dbref_of n) w.objects);
-    lists = lists_itself (judge a free start) w.objects;
-    ties = ties_booted a player w.board.connections (wizard_allowed w.objects a g);
-    tune = inl refl;
-  };
-}
+stays_booted a free player = stays_by _ (λ start w s g. record {
+  rows = λ n. row_same _ (kept_same (judge a free start) (dbref_of n)) (object_at (dbref_of n) w.objects);
+  lists = lists_itself (judge a free start) w.objects;
+  ties = ties_booted a player w.board.connections (wizard_allowed w.objects a g);
+  tune = inl refl;
+})
 
 pub stays_tuned : (a : Actor) (free : Dbref → Bool) (tune : Tune) → Stays a free (Some Wizard) (tuned tune)
 unfolding tuned
-stays_tuned a free tune = record {
-  law = λ start w s g. record {
-    rows = λ n. row_same _ (kept_same (judge a free start) (dbref_of n)) (object_at (dbref_of n) w.objects);
-    lists = lists_itself (judge a free start) w.objects;
-    ties = ties_itself a w.board.connections;
-    tune = inr (wizard_allowed w.objects a g);
-  };
-}
+stays_tuned a free tune = stays_by _ (λ start w s g. record {
+  rows = λ n. row_same _ (kept_same (judge a free start) (dbref_of n)) (object_at (dbref_of n) w.objects);
+  lists = lists_itself (judge a free start) w.objects;
+  ties = ties_itself a w.board.connections;
+  tune = inr (wizard_allowed w.objects a g);
+})

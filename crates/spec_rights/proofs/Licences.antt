@@ -9,7 +9,8 @@ use Rattle.spec_live.specs.declared.object.Object.{Object}
 use Rattle.spec_live.specs.Objects.{Entry, dbref_of, same, is_exit, object_at}
 use Rattle.spec_live.specs.Connections.{Connection, has_number}
 use Rattle.spec_live.specs.Boards.{player_in}
-use Rattle.spec_live.specs.Lives.{Live, Change, followed, reading, either, unchanged}
+use Rattle.spec_live.specs.Lives.{Live, Change, followed, reading, unchanged}
+use Rattle.spec_live.proofs.Keeping.{Keeps, Order, keeps_after, keeps_more, keeps_told, keeps_unchanged}
 use Rattle.spec_rights.specs.declared.act.Actor.{Actor}
 use Rattle.spec_rights.specs.declared.act.Act.{Act}
 use Rattle.spec_rights.specs.Verdict.{is_master, verdict}
@@ -124,11 +125,24 @@ player_kept d (x ∷ xs) (y ∷ ys) e =
     let P : ℕ → Type 0 = λ n. option_and_then (λ (c : Connection). c.player) (cond (n == d) (Some y) (find (has_number d) ys)) ≡ option_and_then (λ (c : Connection). c.player) (cond (x.number == d) (Some x) (find (has_number d) xs)) in
     subst P (sym number) (elim (x.number == d) as (λ b. option_and_then (λ (c : Connection). c.player) (cond b (Some y) (find (has_number d) ys)) ≡ option_and_then (λ (c : Connection). c.player) (cond b (Some x) (find (has_number d) xs))) [ true ↦ player | false ↦ next ])
 
+-- Worlds that differ only in what is shown.
+pub record Shows (w v : Live) : Type 0 where
+  pub objects : v.objects ≡ w.objects
+  pub ties : ties v.board.connections ≡ ties w.board.connections
+  pub tune : v.board.tune ≡ w.board.tune
+
 -- shows only
-pub record Quiet (f : Change) : Type 0 where
-  pub objects : (w : Live) → (f w).objects ≡ w.objects
-  pub ties : (w : Live) → ties (f w).board.connections ≡ ties w.board.connections
-  pub tune : (w : Live) → (f w).board.tune ≡ w.board.tune
+abbrev pub Quiet : Change → Type 0
+Quiet f = Keeps Shows f
+
+pub quiet_order : Order Shows
+quiet_order = record {
+  itself = λ w. record { objects = refl; ties = refl; tune = refl };
+  both = λ u v w r s. record { objects = s.objects ∙ r.objects; ties = s.ties ∙ r.ties; tune = s.tune ∙ r.tune };
+}
+
+pub quiet_unchanged : Quiet unchanged
+quiet_unchanged = keeps_unchanged quiet_order
 
 -- Worlds between which only objects that were there differ, and no right does.
 pub record Stay (j : Judge) (w v : Live) : Type 0 where
@@ -144,6 +158,14 @@ pub record End (j : Judge) (w v : Live) : Type 0 where
   pub ties : SameTies j.actor w.board.connections v.board.connections
   pub tune : Open (λ tune. is_master j.actor) w.board.tune v.board.tune
 
+stay_itself : (j : Judge) (w : Live) → Stay j w w
+stay_itself j w = record {
+  rows = λ n. row_same _ (kept_same j (dbref_of n)) (object_at (dbref_of n) w.objects);
+  lists = lists_itself j w.objects;
+  ties = ties_itself j.actor w.board.connections;
+  tune = inl refl;
+}
+
 pub stay_both : (j : Judge) (u v w : Live) → Stay j u v → Stay j v w → Stay j u w
 stay_both j u v w s t = record {
   rows = λ n. row_both _ _ _ (kept_both j (dbref_of n)) _ _ _ (s.rows n) (t.rows n);
@@ -153,20 +175,20 @@ stay_both j u v w s t = record {
 }
 
 -- what only shows may follow
-pub stay_quietly : (j : Judge) (w v : Live) (g : Change) → Stay j w v → Quiet g → Stay j w (g v)
-stay_quietly j w v g t q = record {
-  rows = λ n. let P : List Entry → Type 0 = λ os. Row (Kept j (dbref_of n)) (object_at (dbref_of n) w.objects) (object_at (dbref_of n) os) in subst P (sym (q.objects v)) (t.rows n);
-  lists = subst (SameLists j w.objects) (sym (q.objects v)) t.lists;
-  ties = ties_both j.actor _ _ _ t.ties (ties_same j.actor v.board.connections (g v).board.connections (q.ties v));
-  tune = open_both (λ tune. is_master j.actor) _ _ _ t.tune (inl (q.tune v));
+pub stay_quietly : (j : Judge) (u v w : Live) → Stay j u v → Shows v w → Stay j u w
+stay_quietly j u v w t q = record {
+  rows = λ n. let P : List Entry → Type 0 = λ os. Row (Kept j (dbref_of n)) (object_at (dbref_of n) u.objects) (object_at (dbref_of n) os) in subst P (sym q.objects) (t.rows n);
+  lists = subst (SameLists j u.objects) (sym q.objects) t.lists;
+  ties = ties_both j.actor _ _ _ t.ties (ties_same j.actor v.board.connections w.board.connections q.ties);
+  tune = open_both (λ tune. is_master j.actor) _ _ _ t.tune (inl q.tune);
 }
 
-pub end_quietly : (j : Judge) (w v : Live) (g : Change) → End j w v → Quiet g → End j w (g v)
-end_quietly j w v g t q = record {
-  rows = λ n. let P : List Entry → Type 0 = λ os. Differs j (dbref_of n) (object_at (dbref_of n) w.objects) (object_at (dbref_of n) os) in subst P (sym (q.objects v)) (t.rows n);
-  lists = subst (SameLists j w.objects) (sym (q.objects v)) t.lists;
-  ties = ties_both j.actor _ _ _ t.ties (ties_same j.actor v.board.connections (g v).board.connections (q.ties v));
-  tune = open_both (λ tune. is_master j.actor) _ _ _ t.tune (inl (q.tune v));
+pub end_quietly : (j : Judge) (u v w : Live) → End j u v → Shows v w → End j u w
+end_quietly j u v w t q = record {
+  rows = λ n. let P : List Entry → Type 0 = λ os. Differs j (dbref_of n) (object_at (dbref_of n) u.objects) (object_at (dbref_of n) os) in subst P (sym q.objects) (t.rows n);
+  lists = subst (SameLists j u.objects) (sym q.objects) t.lists;
+  ties = ties_both j.actor _ _ _ t.ties (ties_same j.actor v.board.connections w.board.connections q.ties);
+  tune = open_both (λ tune. is_master j.actor) _ _ _ t.tune (inl q.tune);
 }
 
 row_rights : (j : Judge) (x : Dbref) (o p : Option Object) → Row (Kept j x) o p → option_map rights o ≡ option_map rights p
@@ -203,12 +225,18 @@ Given None os a = Unit {0}
 Given (Some act) os a = verdict os a act ≡ None
 
 -- keeps to the licence, and changes no right
-pub record Stays (a : Actor) (free : Dbref → Bool) (given : Option Act) (f : Change) : Type 0 where
-  pub law : (start : List Entry) (w : Live) → SameRights start w.objects → Given given w.objects a → Stay (judge a free start) w (f w)
+pub record Stayed (a : Actor) (free : Dbref → Bool) (given : Option Act) (w v : Live) : Type 0 where
+  pub law : (start : List Entry) → SameRights start w.objects → Given given w.objects a → Stay (judge a free start) w v
+
+abbrev pub Stays : Actor → (Dbref → Bool) → Option Act → Change → Type 0
+Stays a free given f = Keeps (Stayed a free given) f
 
 -- keeps to the licence; out is the world of what it answers
-pub record Ends {Y : Type 0} (out : Y → Live) (a : Actor) (free : Dbref → Bool) (given : Option Act) (f : Live → Y) : Type 0 where
-  pub law : (start : List Entry) (w : Live) → SameRights start w.objects → Given given w.objects a → End (judge a free start) w (out (f w))
+pub record Ended {Y : Type 0} (out : Y → Live) (a : Actor) (free : Dbref → Bool) (given : Option Act) (w : Live) (y : Y) : Type 0 where
+  pub law : (start : List Entry) → SameRights start w.objects → Given given w.objects a → End (judge a free start) w (out y)
+
+abbrev pub Ends : {Y : Type 0} → (Y → Live) → Actor → (Dbref → Bool) → Option Act → (Live → Y) → Type 0
+Ends out a free given f = Keeps (Ended out a free given) f
 
 -- the connection, where there is one, is the actor's own
 abbrev pub Own : Option ℕ → Live → Actor → Type 0
@@ -217,8 +245,11 @@ Own (Some d) w a = player_in d w.board ≡ Some a.player
 
 -- keeps to the licence from a world of which something is given, at a connection of the actor's or none; what is free
 -- is judged there
-pub record Whole {Y : Type 0} (out : Y → Live) (a : Actor) (own : Option ℕ) (free : List Entry → Dbref → Bool) (given : Live → Type 0) (f : Live → Y) : Type 0 where
-  pub law : (w : Live) → Own own w a → given w → Licensed a (free w.objects) w (out (f w))
+pub record Wholly {Y : Type 0} (out : Y → Live) (a : Actor) (own : Option ℕ) (free : List Entry → Dbref → Bool) (given : Live → Type 0) (w : Live) (y : Y) : Type 0 where
+  pub law : Own own w a → given w → Licensed a (free w.objects) w (out y)
+
+abbrev pub Whole : {Y : Type 0} → (Y → Live) → Actor → Option ℕ → (List Entry → Dbref → Bool) → (Live → Type 0) → (Live → Y) → Type 0
+Whole out a own free given f = Keeps (Wholly out a own free given) f
 
 abbrev pub Always : Live → Type 0
 Always w = Unit {0}
@@ -226,118 +257,82 @@ Always w = Unit {0}
 abbrev pub itself : Live → Live
 itself w = w
 
--- Shows only.
+-- What is asked.
 
-pub quiet_unchanged : Quiet unchanged
-unfolding unchanged
-quiet_unchanged = record { objects = λ w. refl; ties = λ w. refl; tune = λ w. refl }
+keeps_answered : {Y : Type 0} (R : Live → Y → Type 0) (refuse : Denial → Live → Y) (go : Live → Y) (w : Live) (found v : Option Denial) →
+    found ≡ v → ((denial : Denial) → found ≡ Some denial → R w (refuse denial w)) → (found ≡ None → R w (go w)) → R w (answered v refuse go w)
+keeps_answered R refuse go w found None e p q = q e
+keeps_answered R refuse go w found (Some denial) e p q = p denial e
 
-pub quiet_followed : (f g : Change) → Quiet f → Quiet g → Quiet (followed f g)
-unfolding followed
-quiet_followed f g p q = record { objects = λ w. q.objects (f w) ∙ p.objects w; ties = λ w. q.ties (f w) ∙ p.ties w; tune = λ w. q.tune (f w) ∙ p.tune w }
+-- by what the verdict is
+pub keeps_judged : {Y : Type 0} {R : Live → Y → Type 0} (a : Actor) (act : Act) (refuse : Denial → Live → Y) (go : Live → Y) →
+    ((w : Live) (denial : Denial) → R w (refuse denial w)) → ((w : Live) → verdict w.objects a act ≡ None → R w (go w)) → Keeps R (asked a act refuse go)
+unfolding asked
+keeps_judged {R} a act refuse go p q = record { law = λ w. keeps_answered R refuse go w (verdict w.objects a act) _ refl (λ denial e. p w denial) (q w) }
 
-pub quiet_reading : {X : Type 0} (get : Live → X) (go : X → Change) → ((x : X) → Quiet (go x)) → Quiet (reading get go)
-unfolding reading
-quiet_reading get go p = record { objects = λ w. (p (get w)).objects w; ties = λ w. (p (get w)).ties w; tune = λ w. (p (get w)).tune w }
+pub keeps_asked : {Y : Type 0} {R : Live → Y → Type 0} (a : Actor) (act : Act) (refuse : Denial → Live → Y) (go : Live → Y) → ((denial : Denial) → Keeps R (refuse denial)) → Keeps R go → Keeps R (asked a act refuse go)
+keeps_asked a act refuse go p q = keeps_judged a act refuse go (λ w denial. (p denial).law w) (λ w e. q.law w)
 
-pub quiet_either : (b : Bool) (f g : Change) → Quiet f → Quiet g → Quiet (either b f g)
-unfolding either
-quiet_either true f g p q = p
-quiet_either false f g p q = q
+-- Each by its law.
+
+pub stays_by : {a : Actor} {free : Dbref → Bool} {given : Option Act} (f : Change) → ((start : List Entry) (w : Live) → SameRights start w.objects → Given given w.objects a → Stay (judge a free start) w (f w)) → Stays a free given f
+stays_by f p = record { law = λ w. record { law = λ start s g. p start w s g } }
+
+pub ends_by : {Y : Type 0} {out : Y → Live} {a : Actor} {free : Dbref → Bool} {given : Option Act} (f : Live → Y) → ((start : List Entry) (w : Live) → SameRights start w.objects → Given given w.objects a → End (judge a free start) w (out (f w))) → Ends out a free given f
+ends_by f p = record { law = λ w. record { law = λ start s g. p start w s g } }
+
+pub whole_by : {Y : Type 0} {out : Y → Live} {a : Actor} {own : Option ℕ} {free : List Entry → Dbref → Bool} {given : Live → Type 0} (f : Live → Y) → ((w : Live) → Own own w a → given w → Licensed a (free w.objects) w (out (f w))) → Whole out a own free given f
+whole_by f p = record { law = λ w. record { law = λ c h. p w c h } }
 
 -- Changes no right.
 
 pub stays_quiet : (a : Actor) (free : Dbref → Bool) (given : Option Act) (f : Change) → Quiet f → Stays a free given f
-stays_quiet a free given f q = record {
-  law = λ start w s h. record {
-    rows = λ n.
-        let P : List Entry → Type 0 = λ os. Row (Kept (judge a free start) (dbref_of n)) (object_at (dbref_of n) w.objects) (object_at (dbref_of n) os) in
-        subst P (sym (q.objects w)) (row_same _ (kept_same (judge a free start) (dbref_of n)) (object_at (dbref_of n) w.objects));
-    lists = subst (SameLists (judge a free start) w.objects) (sym (q.objects w)) (lists_itself (judge a free start) w.objects);
-    ties = ties_same a w.board.connections (f w).board.connections (q.ties w);
-    tune = inl (q.tune w);
-  };
-}
+stays_quiet a free given f q = keeps_more f (λ w v s. record { law = λ start r h. stay_quietly (judge a free start) w w v (stay_itself (judge a free start) w) s }) q
 
 pub stays_followed : (a : Actor) (free : Dbref → Bool) (given : Option Act) (f g : Change) → Stays a free given f → Stays a free None g → Stays a free given (followed f g)
-unfolding followed
-stays_followed a free given f g p q = record {
-  law = λ start w s h.
-      let first = p.law start w s h in
-      stay_both _ _ _ _ first (q.law start (f w) (stay_rights _ start w (f w) s first) tt);
-}
-
-pub stays_reading : {X : Type 0} (a : Actor) (free : Dbref → Bool) (given : Option Act) (get : Live → X) (go : X → Change) → ((x : X) → Stays a free given (go x)) → Stays a free given (reading get go)
-unfolding reading
-stays_reading a free given get go p = record { law = λ start w. (p (get w)).law start w }
-
-pub stays_either : (a : Actor) (free : Dbref → Bool) (given : Option Act) (b : Bool) (f g : Change) → Stays a free given f → Stays a free given g → Stays a free given (either b f g)
-unfolding either
-stays_either a free given true f g p q = p
-stays_either a free given false f g p q = q
-
-stays_answered : (a : Actor) (free : Dbref → Bool) (act : Act) (refuse : Denial → Change) (go : Change) (start : List Entry) (w : Live) →
-    ((d : Denial) → Stays a free None (refuse d)) → Stays a free (Some act) go → SameRights start w.objects →
-    (v : Option Denial) → verdict w.objects a act ≡ v → Stay (judge a free start) w (answered v refuse go w)
-stays_answered a free act refuse go start w p q s None e = q.law start w s e
-stays_answered a free act refuse go start w p q s (Some d) e = (p d).law start w s tt
+stays_followed a free given f g p q = keeps_after f g (λ w v u s t. record {
+  law = λ start r h. let first = s.law start r h in stay_both _ _ _ _ first (t.law start (stay_rights _ start w v r first) tt);
+}) p q
 
 -- what was given before an act is asked is forgotten
 pub stays_asked : (a : Actor) (free : Dbref → Bool) (given : Option Act) (act : Act) (refuse : Denial → Change) (go : Change) →
     ((d : Denial) → Stays a free None (refuse d)) → Stays a free (Some act) go → Stays a free given (asked a act refuse go)
-unfolding asked
-stays_asked a free given act refuse go p q = record { law = λ start w s h. stays_answered a free act refuse go start w p q s _ refl }
+stays_asked a free given act refuse go p q =
+    keeps_judged a act refuse go (λ w d. record { law = λ start s h. ((p d).law w).law start s tt }) (λ w e. record { law = λ start s h. (q.law w).law start s e })
 
 pub stays_freely : (a : Actor) (free : Dbref → Bool) (given : Option Act) (f : Change) → Stays a free None f → Stays a free given f
-stays_freely a free given f p = record { law = λ start w s h. p.law start w s tt }
+stays_freely a free given f p = keeps_more f (λ w v s. record { law = λ start r h. s.law start r tt }) p
 
 -- Keeps to the licence.
 
 pub ends_stays : (a : Actor) (free : Dbref → Bool) (given : Option Act) (f : Change) → Stays a free given f → Ends itself a free given f
-ends_stays a free given f p = record {
-  law = λ start w s h. let t = p.law start w s h in record { rows = λ n. differs_kept _ (dbref_of n) _ _ (t.rows n); lists = t.lists; ties = t.ties; tune = t.tune };
-}
+ends_stays a free given f p = keeps_more f (λ w v s. record {
+  law = λ start r h. let t = s.law start r h in record { rows = λ n. differs_kept _ (dbref_of n) _ _ (t.rows n); lists = t.lists; ties = t.ties; tune = t.tune };
+}) p
 
 pub ends_quiet : (a : Actor) (free : Dbref → Bool) (given : Option Act) (f : Change) → Quiet f → Ends itself a free given f
 ends_quiet a free given f q = ends_stays a free given f (stays_quiet a free given f q)
 
 pub ends_followed : {Y : Type 0} (out : Y → Live) (a : Actor) (free : Dbref → Bool) (given : Option Act) (f : Change) (g : Live → Y) → Stays a free given f → Ends out a free None g → Ends out a free given (followed f g)
-unfolding followed
-ends_followed out a free given f g p q = record {
-  law = λ start w s h.
-      let first = p.law start w s h in
-      let next = q.law start (f w) (stay_rights _ start w (f w) s first) tt in
+ends_followed out a free given f g p q = keeps_after f g (λ w v y s t. record {
+  law = λ start r h.
+      let first = s.law start r h in
+      let next = t.law start (stay_rights _ start w v r first) tt in
       record {
         rows = λ n. kept_differs a free start (dbref_of n) _ _ _ (first.rows n) (next.rows n);
         lists = lists_both (judge a free start) (λ n. Kept (judge a free start) (dbref_of n)) _ _ _ first.rows first.lists next.lists;
         ties = ties_both a _ _ _ first.ties next.ties;
         tune = open_both (λ tune. is_master a) _ _ _ first.tune next.tune;
       };
-}
+}) p q
 
 pub ends_quietly : (a : Actor) (free : Dbref → Bool) (given : Option Act) (f g : Change) → Ends itself a free given f → Quiet g → Ends itself a free given (followed f g)
-unfolding followed
-ends_quietly a free given f g p q = record { law = λ start w s h. end_quietly (judge a free start) w (f w) g (p.law start w s h) q }
-
-pub ends_reading : {X Y : Type 0} (out : Y → Live) (a : Actor) (free : Dbref → Bool) (given : Option Act) (get : Live → X) (go : X → Live → Y) → ((x : X) → Ends out a free given (go x)) → Ends out a free given (reading get go)
-unfolding reading
-ends_reading out a free given get go p = record { law = λ start w. (p (get w)).law start w }
-
-pub ends_either : {Y : Type 0} (out : Y → Live) (a : Actor) (free : Dbref → Bool) (given : Option Act) (b : Bool) (f g : Live → Y) → Ends out a free given f → Ends out a free given g → Ends out a free given (either b f g)
-unfolding either
-ends_either out a free given true f g p q = record { law = p.law }
-ends_either out a free given false f g p q = record { law = q.law }
-
-ends_answered : {Y : Type 0} (out : Y → Live) (a : Actor) (free : Dbref → Bool) (act : Act) (refuse : Denial → Live → Y) (go : Live → Y) (start : List Entry) (w : Live) →
-    ((d : Denial) → Ends out a free None (refuse d)) → Ends out a free (Some act) go → SameRights start w.objects →
-    (v : Option Denial) → verdict w.objects a act ≡ v → End (judge a free start) w (out (answered v refuse go w))
-ends_answered out a free act refuse go start w p q s None e = q.law start w s e
-ends_answered out a free act refuse go start w p q s (Some d) e = (p d).law start w s tt
+ends_quietly a free given f g p q = keeps_after f g (λ w v u s t. record { law = λ start r h. end_quietly (judge a free start) w v u (s.law start r h) t }) p q
 
 pub ends_asked : {Y : Type 0} (out : Y → Live) (a : Actor) (free : Dbref → Bool) (given : Option Act) (act : Act) (refuse : Denial → Live → Y) (go : Live → Y) →
     ((d : Denial) → Ends out a free None (refuse d)) → Ends out a free (Some act) go → Ends out a free given (asked a act refuse go)
-unfolding asked
-ends_asked out a free given act refuse go p q = record { law = λ start w s h. ends_answered out a free act refuse go start w p q s _ refl }
+ends_asked out a free given act refuse go p q =
+    keeps_judged a act refuse go (λ w d. record { law = λ start s h. ((p d).law w).law start s tt }) (λ w e. record { law = λ start s h. (q.law w).law start s e })
 
 -- Whole commands.
 
@@ -346,79 +341,58 @@ own_kept None w v a e c = tt
 own_kept (Some d) w v a e c = player_kept d w.board.connections v.board.connections e ∙ c
 
 pub whole_ends : {Y : Type 0} (out : Y → Live) (a : Actor) (own : Option ℕ) (free : List Entry → Dbref → Bool) (given : Live → Type 0) (f : Live → Y) → ((w : Live) → given w → Ends out a (free w.objects) None f) → Whole out a own free given f
-whole_ends out a own free given f p = record {
-  law = λ w c h.
-      let t = (p w h).law w.objects w (same_itself w.objects) tt in
-      record { gone = None; recycled = λ x e. absurd (cc); objects = t.rows; lists = t.lists; connections = t.ties; tune = t.tune };
-}
+whole_ends out a own free given f p = whole_by f (λ w c h.
+    let t = ((p w h).law w).law w.objects (same_itself w.objects) tt in
+    record { gone = None; recycled = λ x e. absurd (cc); objects = t.rows; lists = t.lists; connections = t.ties; tune = t.tune })
 
 pub whole_quiet : (a : Actor) (own : Option ℕ) (free : List Entry → Dbref → Bool) (given : Live → Type 0) (f : Change) → Quiet f → Whole itself a own free given f
 whole_quiet a own free given f q = whole_ends itself a own free given f (λ w h. ends_quiet a (free w.objects) None f q)
 
 -- what only shows comes first, after which nothing is given
 pub whole_followed : {Y : Type 0} (out : Y → Live) (a : Actor) (own : Option ℕ) (free : List Entry → Dbref → Bool) (given : Live → Type 0) (f : Change) (g : Live → Y) → Quiet f → Whole out a own free Always g → Whole out a own free given (followed f g)
-unfolding followed
-whole_followed out a own free given f g q p = record {
-  law = λ w c h. after w (f w) (out (g (f w))) (q.objects w) (q.ties w) (q.tune w) (p.law (f w) (own_kept own w (f w) a (q.ties w) c) tt);
-}
+whole_followed out a own free given f g q p = keeps_after f g (λ w v y s t. record { law = λ c h. after w v (out y) s (t.law (own_kept own w v a s.ties c) tt) }) q p
   where
-    after : (w v u : Live) → v.objects ≡ w.objects → ties v.board.connections ≡ ties w.board.connections → v.board.tune ≡ w.board.tune → Licensed a (free v.objects) v u → Licensed a (free w.objects) w u
-    after w v u e c t l =
+    after : (w v u : Live) → Shows w v → Licensed a (free v.objects) v u → Licensed a (free w.objects) w u
+    after w v u s l =
         let O : List Entry → Type 0 = λ os. (n : ℕ) → Differs (record { actor = a; free = free os; gone = l.gone; objects = os }) (dbref_of n) (object_at (dbref_of n) os) (object_at (dbref_of n) u.objects) in
         let R : List Entry → Type 0 = λ os. (x : Dbref) → l.gone ≡ Some x → may_recycle os a x ≡ true in
         let L : List Entry → Type 0 = λ os. SameLists (record { actor = a; free = free os; gone = l.gone; objects = os }) os u.objects in
         record {
           gone = l.gone;
-          recycled = subst R e l.recycled;
-          objects = subst O e l.objects;
-          lists = subst L e l.lists;
-          connections = ties_both a _ _ _ (ties_same a w.board.connections v.board.connections c) l.connections;
-          tune = open_both (λ tune. is_master a) _ _ _ (inl t) l.tune;
+          recycled = subst R s.objects l.recycled;
+          objects = subst O s.objects l.objects;
+          lists = subst L s.objects l.lists;
+          connections = ties_both a _ _ _ (ties_same a w.board.connections v.board.connections s.ties) l.connections;
+          tune = open_both (λ tune. is_master a) _ _ _ (inl s.tune) l.tune;
         }
 
 -- and what only shows may come last
 pub whole_quietly : (a : Actor) (own : Option ℕ) (free : List Entry → Dbref → Bool) (given : Live → Type 0) (f g : Change) → Whole itself a own free given f → Quiet g → Whole itself a own free given (followed f g)
-unfolding followed
-whole_quietly a own free given f g p q = record {
-  law = λ w c h.
-      let l = p.law w c h in
-      let O : List Entry → Type 0 = λ os. (n : ℕ) → Differs (record { actor = a; free = free w.objects; gone = l.gone; objects = w.objects }) (dbref_of n) (object_at (dbref_of n) w.objects) (object_at (dbref_of n) os) in
+whole_quietly a own free given f g p q = keeps_after f g (λ w v u s t. record {
+  law = λ c h.
+      let l = s.law c h in
+      let j : Judge = record { actor = a; free = free w.objects; gone = l.gone; objects = w.objects } in
+      let O : List Entry → Type 0 = λ os. (n : ℕ) → Differs j (dbref_of n) (object_at (dbref_of n) w.objects) (object_at (dbref_of n) os) in
       record {
         gone = l.gone;
         recycled = l.recycled;
-        objects = subst O (sym (q.objects (f w))) l.objects;
-        lists = subst (SameLists (record { actor = a; free = free w.objects; gone = l.gone; objects = w.objects }) w.objects) (sym (q.objects (f w))) l.lists;
-        connections = ties_both a _ _ _ l.connections (ties_same a (f w).board.connections (g (f w)).board.connections (q.ties (f w)));
-        tune = open_both (λ tune. is_master a) _ _ _ l.tune (inl (q.tune (f w)));
+        objects = subst O (sym t.objects) l.objects;
+        lists = subst (SameLists j w.objects) (sym t.objects) l.lists;
+        connections = ties_both a _ _ _ l.connections (ties_same a v.board.connections u.board.connections t.ties);
+        tune = open_both (λ tune. is_master a) _ _ _ l.tune (inl t.tune);
       };
-}
-
-pub whole_reading : {X Y : Type 0} (out : Y → Live) (a : Actor) (own : Option ℕ) (free : List Entry → Dbref → Bool) (given : Live → Type 0) (get : Live → X) (go : X → Live → Y) → ((x : X) → Whole out a own free given (go x)) → Whole out a own free given (reading get go)
-unfolding reading
-whole_reading out a own free given get go p = record { law = λ w. (p (get w)).law w }
+}) p q
 
 -- with what was read
 pub whole_told : {X Y : Type 0} (out : Y → Live) (a : Actor) (own : Option ℕ) (free : List Entry → Dbref → Bool) (given : Live → Type 0) (get : Live → X) (go : X → Live → Y) →
     ((x : X) → Whole out a own free (λ w. given w × (get w ≡ x)) (go x)) → Whole out a own free given (reading get go)
-unfolding reading
-whole_told out a own free given get go p = record { law = λ w c h. (p (get w)).law w c (h, refl) }
-
-pub whole_either : {Y : Type 0} (out : Y → Live) (a : Actor) (own : Option ℕ) (free : List Entry → Dbref → Bool) (given : Live → Type 0) (b : Bool) (f g : Live → Y) → Whole out a own free given f → Whole out a own free given g → Whole out a own free given (either b f g)
-unfolding either
-whole_either out a own free given true f g p q = record { law = p.law }
-whole_either out a own free given false f g p q = record { law = q.law }
-
-whole_answered : {Y : Type 0} (out : Y → Live) (a : Actor) (own : Option ℕ) (free : List Entry → Dbref → Bool) (given : Live → Type 0) (act : Act) (refuse : Denial → Live → Y) (go : Live → Y) (w : Live) →
-    ((denial : Denial) → Whole out a own free Always (refuse denial)) → Whole out a own free (λ v. given v × (verdict v.objects a act ≡ None)) go → Own own w a → given w →
-    (v : Option Denial) → verdict w.objects a act ≡ v → Licensed a (free w.objects) w (out (answered v refuse go w))
-whole_answered out a own free given act refuse go w p q c h None e = q.law w c (h, e)
-whole_answered out a own free given act refuse go w p q c h (Some denial) e = (p denial).law w c tt
+whole_told out a own free given get go p = keeps_told get go (λ x w y e s. record { law = λ c h. s.law c (h, e) }) p
 
 pub whole_asked : {Y : Type 0} (out : Y → Live) (a : Actor) (own : Option ℕ) (free : List Entry → Dbref → Bool) (given : Live → Type 0) (act : Act) (refuse : Denial → Live → Y) (go : Live → Y) →
     ((denial : Denial) → Whole out a own free Always (refuse denial)) → Whole out a own free (λ w. given w × (verdict w.objects a act ≡ None)) go → Whole out a own free given (asked a act refuse go)
-unfolding asked
-whole_asked out a own free given act refuse go p q = record { law = λ w c h. whole_answered out a own free given act refuse go w p q c h _ refl }
+whole_asked out a own free given act refuse go p q =
+    keeps_judged a act refuse go (λ w denial. record { law = λ c h. ((p denial).law w).law c tt }) (λ w e. record { law = λ c h. (q.law w).law c (h, e) })
 
 -- The law itself.
 pub licensed : {Y : Type 0} (out : Y → Live) (a : Actor) (own : Option ℕ) (free : List Entry → Dbref → Bool) (f : Live → Y) → Whole out a own free Always f → (w : Live) → Own own w a → Licensed a (free w.objects) w (out (f w))
-licensed out a own free f p w c = p.law w c tt
+licensed out a own free f p w c = (p.law w).law c tt

@@ -2,7 +2,7 @@
 use Rattle.std.proofs.Common.{◌≡◌, ℕ, Bool, true, false, List, [], refl, sym, ◌∙◌, ap, subst, Option, Some, None, inl, inr}
 use Rattle.std.specs.Prelude.{map, ◌||◌, slice_get}
 use Rattle.std.specs.Option.{option_map, option_map_or}
-use Rattle.std.proofs.lemmas.Bool.{cases_eq}
+use Rattle.std.proofs.lemmas.Bool.{cases_eq, or_left}
 use Rattle.std.proofs.lemmas.Option.{slice_get-map}
 use Rattle.spec_live.specs.declared.object.Object.{Object}
 use Rattle.spec_live.specs.Objects.{Entry, dbref_of, is_exit, list_of, list_in, kind_in, object_at, changed_at}
@@ -96,8 +96,5 @@ lists_both j R es fs gs rows r s v k =
 pub lists_moved : (j : Judge) (x to : ℕ) (es : List Entry) → place_open j (dbref_of x) (dbref_of to) ≡ true → SameLists j es (moved x to es)
 lists_moved j x to es h v k = reordered_moved (front_open j es k) _ v x to k es (λ e. may e) as_before
   where
-    or_left : (b c : Bool) → b ≡ true → (b || c) ≡ true
-    or_left b c e = ap (λ t. t || c) e
-
     may : k ≡ to → front_open j es k x ≡ true
     may e = or_left _ _ (ap (λ (m : ℕ). place_open j (dbref_of x) (dbref_of m)) e ∙ h)

@@ -1,7 +1,6 @@
 -- What stands at a number after a change, where garbage isn't there.
-use Rattle.std.proofs.Common.{◌≡◌, ℕ, ℤ, Bool, true, false, cond, Option, Some, None, inl, inr, refl, sym, ap, subst, List}
+use Rattle.std.proofs.Common.{◌≡◌, ℕ, ℤ, Bool, true, false, cond, Option, Some, None, inl, inr, refl, sym, subst, List}
 use Rattle.std.proofs.lemmas.Bool.{cases_eq}
-use Rattle.std.proofs.lemmas.Bool.Decides.{Decides-int_eq}
 use Rattle.std.specs.Prelude.{pos, negsuc}
 use Rattle.std.specs.Option.{option_map, option_and_then, option_map_or}
 use Rattle.muck_model.specs.declared.dbref.Dbref.{Dbref}
@@ -98,11 +97,3 @@ pub rows_all : (R : Dbref → Object → Object → Type 0) (f : Object → Obje
 rows_all R f kinds n h es fs e =
     let Q : Option Object → Type 0 = λ t. Row (R (dbref_of n)) (option_and_then alive (object_in es n)) (option_and_then alive t) in
     row_at (R (dbref_of n)) es fs n (subst Q (sym e) (kept_alive (R (dbref_of n)) f kinds h (object_in es n)))
-
--- The test of dbrefs.
-
-pub same_eq : (x y : Dbref) → x ≡ y → same x y ≡ true
-same_eq x y e = (Decides-int_eq x.0 y.0).1 (ap (λ (d : Dbref). d.0) e)
-
-pub eq_same : (x y : Dbref) → same x y ≡ true → x ≡ y
-eq_same x y e = let make : ℤ → Dbref = λ z. record { 0 = z } in ap make ((Decides-int_eq x.0 y.0).0 e)

@@ -1,8 +1,9 @@
 -- What is made keeps to the licence.
 use Rattle.std.proofs.Common.{◌≡◌, ℕ, ◌==◌, suc, Bool, true, false, cond, List, [], ◌∷◌, ◌++◌, length, refl, sym, ◌∙◌, ap, subst, Option, Some, None, inl, inr, arith}
+use Rattle.muck_model.proofs.Dbrefs.{same_eq}
 use Rattle.std.specs.Prelude.{Ok, Err, nat_lt, slice_get, min, nat_le, ◌||◌, ◌&&◌}
 use Rattle.std.specs.Option.{option_map, option_and_then, option_map_or}
-use Rattle.std.proofs.lemmas.Bool.{cases_eq}
+use Rattle.std.proofs.lemmas.Bool.{cases_eq, or_right}
 use Rattle.std.proofs.lemmas.Bool.Decides.{nat_tests}
 use Rattle.muck_model.specs.declared.dbref.Dbref.{Dbref}
 use Rattle.muck_model.specs.declared.dbref.Kind.{Kind}
@@ -24,11 +25,11 @@ use Rattle.spec_rights.specs.Levels.{level_at, flag_at}
 use Rattle.spec_rights.specs.Verdict.{verdict, is_master, controls, controls_or}
 use Rattle.spec_rights.specs.Changing.{created_so}
 use Rattle.spec_rights.specs.Licence.{Judge, IsNew, Differs, Reordered, as_before, front_open, SameLists, place_open}
-use Rattle.spec_rights.proofs.Lookups.{alive, seen_at, number_is, same_eq}
+use Rattle.spec_rights.proofs.Lookups.{alive, seen_at, number_is}
 use Rattle.spec_rights.proofs.Listing.{reordered_moved}
 use Rattle.spec_rights.proofs.Rights.{SameRights, same_level}
 use Rattle.spec_rights.proofs.Licences.{judge, changed_same, End}
-use Rattle.spec_rights.proofs.Allowed.{or_right, room_allowed, thing_allowed, exit_allowed, program_allowed, wizard_allowed}
+use Rattle.spec_rights.proofs.Allowed.{room_allowed, thing_allowed, exit_allowed, program_allowed, wizard_allowed}
 use Rattle.spec_rights.proofs.Changes.{end_objects}
 
 -- Nothing is there at the free number.

@@ -1,5 +1,6 @@
 -- Moves and homes keep to the licence.
 use Rattle.std.proofs.Common.{◌≡◌, ℕ, Bool, true, false, List, refl, sym, ◌∙◌, ap, subst, Option, Some, None, inl, inr}
+use Rattle.std.proofs.lemmas.Bool.{or_left}
 use Rattle.std.specs.Option.{option_map_or}
 use Rattle.muck_model.specs.declared.dbref.Dbref.{Dbref}
 use Rattle.spec_live.specs.declared.object.Object.{Object}
@@ -17,8 +18,8 @@ use Rattle.spec_rights.specs.Verdict.{verdict}
 use Rattle.spec_rights.proofs.Rights.{SameRights}
 use Rattle.spec_rights.proofs.Lookups.{Row, row_same, number_is}
 use Rattle.spec_rights.proofs.Listing.{lists_itself, lists_moved}
-use Rattle.spec_rights.proofs.Licences.{judge, Kept, kept_same, Stay, End, Stays, Ends, itself}
-use Rattle.spec_rights.proofs.Allowed.{or_left, move_allowed, home_allowed, live_allowed, unlink_allowed}
+use Rattle.spec_rights.proofs.Licences.{judge, Kept, kept_same, Stay, End, Stays, Ends, itself, ends_by, stays_by}
+use Rattle.spec_rights.proofs.Allowed.{move_allowed, home_allowed, live_allowed, unlink_allowed}
 use Rattle.spec_rights.proofs.Changes.{rows_number, stay_objects, end_found}
 
 -- a number isn't `#-3`
@@ -56,10 +57,10 @@ stay_moved j x to w h = stay_objects j w (moved_to x to w) refl (λ n. rows_move
 
 -- what may be moved freely
 pub stays_free : (a : Actor) (free : Dbref → Bool) (given : Option Act) (x to : Dbref) → free x ≡ true → Stays a free given (moved_to x to)
-stays_free a free given x to h = record { law = λ start w s g. stay_moved (judge a free start) x to w (λ t e. or_left (free x) _ h) }
+stays_free a free given x to h = stays_by _ (λ start w s g. stay_moved (judge a free start) x to w (λ t e. or_left (free x) _ h))
 
 pub stays_moved : (a : Actor) (free : Dbref → Bool) (x to : Dbref) → Stays a free (Some (Move x to)) (moved_to x to)
-stays_moved a free x to = record { law = λ start w s g. stay_moved (judge a free start) x to w (λ t e. move_allowed a free start w.objects x to (not_home w.objects to t e) s g) }
+stays_moved a free x to = stays_by _ (λ start w s g. stay_moved (judge a free start) x to w (λ t e. move_allowed a free start w.objects x to (not_home w.objects to t e) s g))
 
 -- to where its home is, after leave for `#-3`
 pub stay_moved_home : (a : Actor) (free : Dbref → Bool) (start : List Entry) (w : Live) (x to : Dbref) → to ≡ option_map_or (λ (o : Object). o.home) (object_at x w.objects) nothing → SameRights start w.objects → verdict w.objects a (Move x home) ≡ None → Stay (judge a free start) w (moved_to x to w)
@@ -75,8 +76,8 @@ unfolding homed
 end_homed j x to w h = end_found j x (with_home to) (λ o. refl) (λ o. changed_home j x to o h) w
 
 pub ends_homed : (a : Actor) (free : Dbref → Bool) (x to : Dbref) → Ends itself a free (Some (Link x to)) (homed x to)
-ends_homed a free x to = record { law = λ start w s g. end_homed (judge a free start) x to w (live_allowed a free start w.objects x to s g) }
+ends_homed a free x to = ends_by _ (λ start w s g. end_homed (judge a free start) x to w (live_allowed a free start w.objects x to s g))
 
 -- back to `#0`
 pub ends_unhomed : (a : Actor) (free : Dbref → Bool) (x to : Dbref) → Ends itself a free (Some (Link x to)) (homed x (dbref_of 0))
-ends_unhomed a free x to = record { law = λ start w s g. end_homed (judge a free start) x (dbref_of 0) w (unlink_allowed a free start w.objects x to s g) }
+ends_unhomed a free x to = ends_by _ (λ start w s g. end_homed (judge a free start) x (dbref_of 0) w (unlink_allowed a free start w.objects x to s g))

@@ -1,9 +1,10 @@
 -- Recycling keeps to the licence, with all that it brings with it.
 use Rattle.std.proofs.Common.{◌≡◌, ℕ, ◌==◌, Bool, true, false, cond, List, [], ◌∷◌, refl, sym, ◌∙◌, ap, subst, Option, Some, None, inl, inr, arith}
+use Rattle.muck_model.proofs.Dbrefs.{same_eq, eq_same}
 use Rattle.std.specs.Prelude.{Result, Ok, Err, map, ◌⊎◌, ◌||◌, ◌&&◌, not, slice_get}
 use Rattle.std.specs.Option.{option_map, option_and_then, option_map_or}
 use Rattle.std.specs.List.{list_any}
-use Rattle.std.proofs.lemmas.Bool.{cases_eq}
+use Rattle.std.proofs.lemmas.Bool.{cases_eq, and_parts, or_parts, not-true, or_left, or_right, and_from}
 use Rattle.std.proofs.lemmas.Bool.Decides.{nat_tests}
 use Rattle.std.proofs.lemmas.Option.{slice_get-map}
 use Rattle.muck_model.specs.declared.dbref.Dbref.{Dbref}
@@ -22,7 +23,7 @@ use Rattle.spec_live.specs.Setting.{checked}
 use Rattle.spec_live.specs.Lives.{Live}
 use Rattle.spec_live.specs.Seen.{listed_in}
 use Rattle.spec_live.proofs.Lists.{get_changed_same}
-use Rattle.spec_live.proofs.Readers.{object_elsewhere, object_left, object_moved, object_unmoved}
+use Rattle.spec_live.proofs.Readers.{object_elsewhere, object_left, object_moved, object_unmoved, kind_is}
 use Rattle.spec_rights.specs.declared.act.Actor.{Actor}
 use Rattle.spec_rights.specs.declared.act.Act.TheVariants.{Recycle}
 use Rattle.spec_rights.specs.Levels.{is_player_at}
@@ -31,9 +32,9 @@ use Rattle.spec_rights.specs.Changing.{recycled_now}
 use Rattle.spec_rights.specs.Licence.{Open, Judge, Changed, Differs, Reordered, as_before, empties, front_open, SameLists, Licensed, is_emptied, is_way_home, place_open, link_open, home_open, gone_open, may_recycle}
 use Rattle.spec_live.proofs.HomeLaws.{list_untied}
 use Rattle.spec_rights.proofs.Listing.{lists_itself, reordered_all, reordered_one, reordered_left, reordered_moved}
-use Rattle.spec_rights.proofs.Lookups.{Row, alive, seen_at, number_is, same_eq, eq_same}
+use Rattle.spec_rights.proofs.Lookups.{Row, alive, seen_at, number_is}
 use Rattle.spec_rights.proofs.Licences.{judge, changed_same, ties_itself}
-use Rattle.spec_rights.proofs.Allowed.{or_left, or_right, recycle_allowed}
+use Rattle.spec_rights.proofs.Allowed.{recycle_allowed}
 
 -- one object is recycled, of that number
 abbrev judged : Actor → (Dbref → Bool) → ℕ → List Entry → Judge
@@ -141,10 +142,6 @@ went_row j d y t None (Some p) w h = absurd h
 went_row j d y t (Some o) None w h = absurd h
 went_row j d y t (Some o) (Some p) w h = record { place = dbref_of t; same = ap (λ (x : Object). with_place t x) h.same; way = inr (w o refl) }
 
-kind_of_it : (es : List Entry) (y : ℕ) (o : Object) → object_in es y ≡ Some o → kind_in es y ≡ o.kind
-unfolding kind_in
-kind_of_it es y o e = rw e refl
-
 step_home : (a : Actor) (free : Dbref → Bool) (d y : ℕ) (es fs : List Entry) → is_emptied (judged a free d es) (dbref_of y) ≡ true → Rows (judged a free d es) d es fs → Rows (judged a free d es) d es (moved y (way_home y fs) fs)
 step_home a free d y es fs h r n =
     let j : Judge = judged a free d es in
@@ -156,7 +153,7 @@ step_home a free d y es fs h r n =
           let Q : Option Object → Type 0 = λ q. Row (Homeward j d y) (object_in es y) q in
           let K : Kind → Type 0 = λ k. (t ≡ 0) ⊎ (wished_home y es k ≡ Some t) in
           let went : (o : Object) → object_in es y ≡ Some o → Went j y o (dbref_of t) =
-          λ o f. record { emptied = h; way = way_open a free d es y t way; exit = λ x. exits_stay es y t o.kind x (subst K (kind_of_it es y o f) way) } in
+          λ o f. record { emptied = h; way = way_open a free d es y t way; exit = λ x. exits_stay es y t o.kind x (subst K (kind_is es y o f) way) } in
           subst P (sym e) (subst Q (sym (object_moved fs y t)) (went_row j d y t (object_in es y) (object_in fs y) went (r y)))
       | inr e ↦
           let Q : Option Object → Type 0 = λ q. Row (Homeward j d n) (object_in es n) q in
@@ -230,9 +227,6 @@ recycled_here d es =
 
 -- What differs where an object is still there.
 
-and_two : (b c : Bool) → b ≡ true → c ≡ true → (b && c) ≡ true
-and_two b c e f = rw (e, f) refl
-
 read_at : {X : Type 0} (f : Object → X) (none : X) (x : Dbref) (es : List Entry) (o : Object) → object_at x es ≡ Some o → option_map_or f (object_at x es) none ≡ f o
 read_at f none x es o e = ap (λ q. option_map_or f q none) e
 
@@ -254,7 +248,7 @@ changed_home a free d n es o p there h = record {
   where
     place : (h.place ≡ o.place) ⊎ Went (judged a free d es) n o h.place → Open (place_open (judged a free d es) (dbref_of n)) o.place p.place
     place (inl e) = inl (ap (λ (x : Object). x.place) h.same ∙ e)
-    place (inr w) = inr (ap (λ (x : Object). place_open (judged a free d es) (dbref_of n) x.place) h.same ∙ or_right (free (dbref_of n)) _ (or_left _ _ (and_two _ _ w.emptied w.way)))
+    place (inr w) = inr (ap (λ (x : Object). place_open (judged a free d es) (dbref_of n) x.place) h.same ∙ or_right (free (dbref_of n)) _ (or_left _ _ (and_from _ _ w.emptied w.way)))
 
     link : (b : Bool) → same o.link (dbref_of d) ≡ b → p.link ≡ cond b nothing o.link → Open (link_open (judged a free d es) (dbref_of n)) o.link p.link
     link true t e = inr (ap (link_open (judged a free d es) (dbref_of n)) e ∙ or_right _ _ (ap (λ (y : Dbref). same y (dbref_of d)) (read_at (λ (x : Object). x.link) nothing (dbref_of n) es o there) ∙ t))
@@ -264,23 +258,14 @@ changed_home a free d n es o p there h = record {
     home true t e = inr (ap (home_open (judged a free d es) (dbref_of n)) e ∙ or_right _ _ (ap (λ (y : Dbref). same y (dbref_of d)) (read_at (λ (x : Object). x.home) nothing (dbref_of n) es o there) ∙ t))
     home false t e = inl e
 
--- an exit that is lost stood in what is recycled
-and_first : (b c : Bool) → (b && c) ≡ true → b ≡ true
-and_first true c e = refl
-and_first false c e = e
-
-and_second : (b c : Bool) → (b && c) ≡ true → c ≡ true
-and_second true c e = e
-and_second false c e = cc
-
 not_zero : (d : ℕ) → (d == 0) ≡ false → same (dbref_of 0) (dbref_of d) ≡ true → ⊥
 not_zero d e h = let z : dbref_of 0 ≡ dbref_of d = eq_same (dbref_of 0) (dbref_of d) h in let n : d ≡ 0 = cc in absurd (grind (arith, nat_tests))
 
 exit_open : (a : Actor) (free : Dbref → Bool) (d n : ℕ) (es : List Entry) (o p : Object) → (d == 0) ≡ false → Homeward (judged a free d es) d n o p → is_exit_of d p ≡ true → gone_open (judged a free d es) (dbref_of n) o ≡ true
 exit_open a free d n es o p some h e =
-    let exit : is_exit o.kind ≡ true = ap (λ (x : Object). is_exit x.kind) (sym h.same) ∙ and_first _ _ e in
-    let place : same h.place (dbref_of d) ≡ true = ap (λ (x : Object). same x.place (dbref_of d)) (sym h.same) ∙ and_second _ _ e in
-    or_right (same (dbref_of n) (dbref_of d)) _ (and_two _ _ exit (elim h.way [
+    let exit : is_exit o.kind ≡ true = ap (λ (x : Object). is_exit x.kind) (sym h.same) ∙ (and_parts _ _ e).0 in
+    let place : same h.place (dbref_of d) ≡ true = ap (λ (x : Object). same x.place (dbref_of d)) (sym h.same) ∙ (and_parts _ _ e).1 in
+    or_right (same (dbref_of n) (dbref_of d)) _ (and_from _ _ exit (elim h.way [
       | inl k ↦ ap (λ (y : Dbref). same y (dbref_of d)) (sym k) ∙ place
       | inr w ↦ absurd (not_zero d some (ap (λ (y : Dbref). same y (dbref_of d)) (sym (w.exit exit)) ∙ place))
     ]))
@@ -344,7 +329,7 @@ lists_home a free d es (y ∷ ys) h fs r xs v k t =
     let j : Judge = judged a free d es in
     let to : ℕ = way_home y fs in
     let gone : is_emptied j (dbref_of y) ≡ true = h y (inl refl) in
-    let open_there : place_open j (dbref_of y) (dbref_of to) ≡ true = or_right (free (dbref_of y)) _ (or_left _ _ (and_two _ _ gone (way_open a free d es y to (way_tells j d es fs r y)))) in
+    let open_there : place_open j (dbref_of y) (dbref_of to) ≡ true = or_right (free (dbref_of y)) _ (or_left _ _ (and_from _ _ gone (way_open a free d es y to (way_tells j d es fs r y)))) in
     let may : k ≡ to → front_open j es k y ≡ true = λ e. or_left _ _ (ap (λ (m : ℕ). place_open j (dbref_of y) (dbref_of m)) e ∙ open_there) in
     lists_home a free d es ys (λ z m. h z (inr m)) (moved y to fs) (step_home a free d y es fs gone r) xs v k (reordered_moved (front_open j es k) xs v y to k fs may t)
 
@@ -413,16 +398,11 @@ may a es x d e some other c =
     let at : P (dbref_of d) = λ h. rw (h, no_player es d other, same_zero d _ some refl) refl in
     subst P (sym e) at c
 
-neither : (b c : Bool) → not (b || c) ≡ true → (b ≡ false) × (c ≡ false)
-neither true c e = absurd (cc)
-neither false true e = absurd (cc)
-neither false false e = (refl, refl)
-
 there : (a : Actor) (free : Dbref → Bool) (x : Dbref) (w : Live) → controls w.objects a x ≡ true → (d : ℕ) → number_in w.objects x ≡ Some d → not (d == 0 || is_player (kind_in w.objects d)) ≡ true →
     Licensed a free w (record w { objects = recycled d w.objects })
 there a free x w h d e t =
     let known : x ≡ dbref_of d = number_is w.objects x d e in
-    let k = neither (d == 0) (is_player (kind_in w.objects d)) t in
+    let k : ((d == 0) ≡ false) × (is_player (kind_in w.objects d) ≡ false) = or_parts _ _ (not-true _ t) in
     record {
       gone = Some (dbref_of d);
       recycled = λ y f. let same : x ≡ y = known ∙ cc in ap (may_recycle w.objects a) (sym same) ∙ may a w.objects x d known k.0 k.1 h;

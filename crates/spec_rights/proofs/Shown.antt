@@ -9,7 +9,8 @@ use Rattle.spec_live.specs.Boards.{on_connection, told_one, told_player, told_ot
 use Rattle.spec_live.specs.Lives.{on_board, tell, tell_player, tell_others, tell_all, place_of}
 use Rattle.spec_rights.specs.Asking.{refused}
 use Rattle.spec_rights.specs.Changing.{rolled}
-use Rattle.spec_rights.proofs.Licences.{tie, ties, Quiet, quiet_unchanged, quiet_followed, quiet_reading, quiet_either}
+use Rattle.spec_rights.proofs.Licences.{tie, ties, Quiet, quiet_order, quiet_unchanged}
+use Rattle.spec_live.proofs.Keeping.{keeping}
 
 ties-changed_in : (d : ℕ) (f : Connection → Connection) → ((c : Connection) → tie (f c) ≡ tie c) → (cs : List Connection) → ties (changed_in d f cs) ≡ ties cs
 ties-changed_in d f keeps [] = refl
@@ -29,7 +30,7 @@ told_keeps false text c = refl
 
 -- what of a connection isn't judged, as what waits there and what is edited
 pub quiet_one : (d : ℕ) (f : Connection → Connection) → ((c : Connection) → tie (f c) ≡ tie c) → Quiet (on_board (on_connection d f))
-quiet_one d f keeps = record { objects = λ w. refl; ties = λ w. ties-changed_in d f keeps w.board.connections; tune = λ w. refl }
+quiet_one d f keeps = record { law = λ w. record { objects = refl; ties = ties-changed_in d f keeps w.board.connections; tune = refl } }
 
 pub quiet_tell : (d : ℕ) (text : List ℕ) → Quiet (tell d text)
 unfolding tell told_one
@@ -37,25 +38,21 @@ quiet_tell d text = quiet_one d (told text) (λ c. refl)
 
 pub quiet_tell_player : (player : Dbref) (text : List ℕ) → Quiet (tell_player player text)
 unfolding tell_player told_player
-quiet_tell_player player text = record { objects = λ w. refl; ties = λ w. ties-map (told_where (is_of player) text) (λ c. told_keeps (is_of player c) text c) w.board.connections; tune = λ w. refl }
+quiet_tell_player player text = record { law = λ w. record { objects = refl; ties = ties-map (told_where (is_of player) text) (λ c. told_keeps (is_of player c) text c) w.board.connections; tune = refl } }
 
 pub quiet_tell_others : (room but : Dbref) (text : List ℕ) → Quiet (tell_others room but text)
 unfolding tell_others told_others
-quiet_tell_others room but text = record {
-  objects = λ w. refl;
-  ties = λ w. ties-map (told_where (hears (λ p. place_of p w.objects) room but) text) (λ c. told_keeps (hears (λ p. place_of p w.objects) room but c) text c) w.board.connections;
-  tune = λ w. refl;
-}
+quiet_tell_others room but text = record { law = λ w. record { objects = refl; ties = ties-map (told_where (hears (λ p. place_of p w.objects) room but) text) (λ c. told_keeps (hears (λ p. place_of p w.objects) room but c) text c) w.board.connections; tune = refl } }
 
 pub quiet_tell_all : (text : List ℕ) → Quiet (tell_all text)
 unfolding tell_all told_all
-quiet_tell_all text = record { objects = λ w. refl; ties = λ w. ties-map (told_where has_player text) (λ c. told_keeps (has_player c) text c) w.board.connections; tune = λ w. refl }
+quiet_tell_all text = record { law = λ w. record { objects = refl; ties = ties-map (told_where has_player text) (λ c. told_keeps (has_player c) text c) w.board.connections; tune = refl } }
 
 pub quiet_rolled : (random : Lcg) → Quiet (rolled random)
 unfolding rolled
-quiet_rolled random = record { objects = λ w. refl; ties = λ w. refl; tune = λ w. refl }
+quiet_rolled random = record { law = λ w. record { objects = refl; ties = refl; tune = refl } }
 
-pub ruleset showing = (quiet_unchanged, quiet_followed, quiet_reading, quiet_either, quiet_tell, quiet_tell_player, quiet_tell_others, quiet_tell_all, quiet_rolled)
+pub ruleset showing = (quiet_unchanged, keeping, quiet_order, quiet_tell, quiet_tell_player, quiet_tell_others, quiet_tell_all, quiet_rolled)
 
 pub quiet_refused : (d : ℕ) (denial : Denial) → Quiet (refused d denial)
 unfolding refused

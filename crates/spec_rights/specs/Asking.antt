@@ -6,7 +6,7 @@ use Rattle.spec_rights.specs.declared.act.Actor.{Actor}
 use Rattle.spec_rights.specs.declared.act.Act.{Act}
 use Rattle.spec_rights.specs.Verdict.{verdict}
 
-abbrev pub answered : {Y : Type 0} → Option Denial → (Denial → Live → Y) → (Live → Y) → Live → Y
+abbrev pub answered : {W Y : Type 0} → Option Denial → (Denial → W → Y) → (W → Y) → W → Y
 answered None refuse go = go
 answered (Some denial) refuse go = refuse denial
 

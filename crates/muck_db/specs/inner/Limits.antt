@@ -1,5 +1,6 @@
 -- How long the texts of an object are at most, and how high its numbers.
 use Rattle.std.specs.Prelude.{◌≡◌, ◌⊎◌, ℕ, ◌<◌, ◌≤◌, ◌^◌, nat_le, Bool, ◌&&◌, ◌||◌, List, [], length, Some}
+use Rattle.muck_model.specs.Bytes.{lines_most}
 use Rattle.std.specs.List.{AllPass}
 use Rattle.spec_live.specs.declared.object.Object.{Object}
 use Rattle.spec_live.specs.Objects.{Entry, object_in}
@@ -17,7 +18,7 @@ pub record FitsLimits (o : Object) : Type 0 where
   pub short : length o.name ≤ 80
   pub level : o.level ≤ 3
   pub flags : o.flags.0 < 2 ^ 14
-  pub lines : length o.lines ≤ 4096
+  pub lines : length o.lines ≤ lines_most
   pub digest : IsDigest o.digest
 
 -- every object, garbage too, is within the limits

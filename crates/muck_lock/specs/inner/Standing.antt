@@ -1,19 +1,11 @@
 -- The objects in memory that stand in one place are a chain.
-use Rattle.std.specs.Prelude.{◌≡◌, refl, ℕ, ℤ, zero, suc, ◌+◌, Bool, true, false, if◌then◌else◌, List, [], ◌∷◌, drop, slice_get, Some}
+use Rattle.std.specs.Prelude.{◌≡◌, refl, ℕ, zero, suc, ◌+◌, Bool, true, false, if◌then◌else◌, List, [], ◌∷◌, drop, slice_get, Some}
+use Rattle.muck_model.proofs.Dbrefs.{eq_same}
 use Rattle.std.proofs.Common.{ap, sym, ◌∙◌, subst, add-one}
-use Rattle.std.proofs.lemmas.Bool.Decides.{Decides-int_eq}
-use Rattle.std.specs.Ordering.{int_eq}
-use Rattle.muck_model.specs.Numbers.{numbered}
 use Rattle.muck_model.specs.declared.dbref.Dbref.{Dbref}
 use Rattle.muck_lock.specs.Chain.{IsChain, same}
 use Rattle.muck_lock.specs.inner.Memory.{numbered_at, standing_in, first_in, next_at, next_of}
 use Rattle.muck_lock.specs.declared.memory.MemObject.{MemObject}
-
-int_eq-true : (x y : ℤ) → int_eq x y ≡ true → x ≡ y
-int_eq-true x y h = (Decides-int_eq x y).0 h
-
-same_is : (a b : Dbref) → same a b ≡ true → a ≡ b
-same_is a b h = ap numbered (int_eq-true a.0 b.0 h)
 
 head_of-drop : (objects : List MemObject) (k : ℕ) (o : MemObject) (more : List MemObject) → o ∷ more ≡ drop k objects → (slice_get objects k ≡ Some o) × (more ≡ drop (suc k) objects)
 head_of-drop [] zero o more e = absurd (let f : o ∷ more ≡ [] = e in cc)
@@ -28,7 +20,7 @@ unfolding IsChain
 chain_at objects d k o more false here at rest later = later
 chain_at objects d k o more true here at rest later =
     let next : next_of objects (numbered_at k) ≡ first_in d (suc k) more =
-    ap (next_at objects k) at ∙ ap (λ p. first_in p (k + 1) (drop (k + 1) objects)) (same_is o.place d here)
+    ap (next_at objects k) at ∙ ap (λ p. first_in p (k + 1) (drop (k + 1) objects)) (eq_same o.place d here)
     ∙ ap (λ n. first_in d n (drop n objects)) (add-one k) ∙ ap (first_in d (suc k)) (sym rest) in
     (refl, refl, subst (λ z. IsChain (next_of objects) z (standing_in d (suc k) more)) (sym next) later)
 

@@ -1,37 +1,29 @@
 -- A scene in memory: objects by number, with the first of each list and what stands behind each object.
-use Rattle.std.specs.Prelude.{ℕ, ℤ, zero, suc, pos, negsuc, nat_lt, Bool, true, false, if◌then◌else◌, List, [], ◌∷◌, length, Option, Some, None, is_some, slice_get, unwrap_or}
+use Rattle.std.specs.Prelude.{ℕ, zero, suc, nat_lt, Bool, true, false, if◌then◌else◌, List, [], ◌∷◌, length, Option, Some, None, is_some, slice_get, unwrap_or}
 use Rattle.std.specs.Option.{option_map, option_map_or, option_and_then}
 use Rattle.muck_model.specs.declared.dbref.Dbref.{Dbref}
-use Rattle.muck_model.specs.declared.dbref.Kind.{Kind}
-use Rattle.muck_model.specs.declared.dbref.Kind.TheVariants.{Garbage}
+use Rattle.muck_model.specs.Dbrefs.{index_of}
+use Rattle.muck_model.specs.Kinds.{is_garbage}
 use Rattle.muck_match.specs.Scenery.{Sight, Scenery, nothing, is_nothing, chain}
 use Rattle.muck_match.specs.declared.memory.MemObject.{MemObject}
 
-abbrev pub index_of : ℤ → Option ℕ
-index_of (pos n) = Some n
-index_of (negsuc n) = None
-
 -- how many numbers are lower
 abbrev pub height : Dbref → ℕ
-height d = unwrap_or (index_of d.0) 0
+height d = unwrap_or (index_of d) 0
 
 -- the number, where it is lower than that of this object
 unfoldable pub lower : Dbref → Dbref → Dbref
-lower of d = option_map_or (λ n. if nat_lt n (height of) then d else nothing) (index_of d.0) nothing
+lower of d = option_map_or (λ n. if nat_lt n (height of) then d else nothing) (index_of d) nothing
 
 abbrev pub alive : MemObject → Option MemObject
 alive object = option_of (is_garbage object.kind) object
   where
-    is_garbage : Kind → Bool
-    is_garbage Garbage = true
-    is_garbage kind = false
-
     option_of : Bool → MemObject → Option MemObject
     option_of true o = None
     option_of false o = Some o
 
 unfoldable pub slot_at : List MemObject → Dbref → Option MemObject
-slot_at objects d = option_and_then (λ n. slice_get objects n) (index_of d.0)
+slot_at objects d = option_and_then (λ n. slice_get objects n) (index_of d)
 
 -- the object of that number that isn't garbage
 unfoldable pub object_at : List MemObject → Dbref → Option MemObject

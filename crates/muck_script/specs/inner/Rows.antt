@@ -2,7 +2,6 @@
 use Rattle.std.specs.Prelude.{◌≡◌, [], ◌∷◌, ◌++◌, refl, codes, Some, None, Ok, Err, replicate}
 use Rattle.std.specs.Fmt.{digits}
 use Rattle.muck_model.specs.Decimal.{decimal_of}
-use Rattle.muck_model.specs.Bytes.{text_most}
 use Rattle.muck_script.specs.declared.act.Act.TheVariants.{Nothing, Open, Send}
 use Rattle.muck_script.specs.Lines.{lines_of}
 use Rattle.spec_live.specs.Output.{sent_lines, queue_most, bytes_of, lines_bytes, line_sent, lines_sent, sent, taken, lines_taken}
@@ -103,5 +102,5 @@ whole_row = refl
 -- a script of one connection
 quit_row : transcript (Open 1 ∷ Send 1 (codes "quit") ∷ []) starting
     ≡ codes "1< Use: connect NAME PASSWORD, WHO or QUIT." ++ 10 ∷ codes "1< Come back later!" ++ 10 ∷ codes "1 closed" ++ 10 ∷ []
-unfolding starting booted early_board opened closed line_added bytes_taken told_one leaving_one followed reading either unchanged tell leave goodbye welcome quit waits done parted empty_queue next_due is_tied ended_tied gone_away bytes_of lines_bytes line_sent lines_sent sent taken lines_taken is_lawful effect next_ready next_process next_turn at_login sent_lines text_most queue_most turns served line_story told digits
+unfolding starting booted early_board opened closed line_added bytes_taken told_one leaving_one followed reading either unchanged tell leave goodbye welcome quit waits done parted empty_queue next_due is_tied ended_tied gone_away bytes_of lines_bytes line_sent lines_sent sent taken lines_taken is_lawful effect next_ready next_process next_turn at_login sent_lines queue_most turns served line_story told digits
 quit_row = refl

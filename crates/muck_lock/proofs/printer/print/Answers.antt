@@ -11,7 +11,6 @@ use Rattle.muck_lock.proofs.Back.{reads_back}
 use Rattle.muck_lock.proofs.printer.print.Goals as goal
 
 pub returns-in-Err-clause-text : goal.returns-in-Err-clause-text
-unfolding text_most
 returns-in-Err-clause-text c =
     let text : c.put.new.out.items ≡ printed c.args.lock.now = c.in_ok-put.ensures.text ∙ ap (λ l. l ++ printed c.args.lock.now) c.new-bytes.ensures.items in
     let inside = subst (λ l. Passes is_inside l) (sym text) (inside-written c.args.lock.now c.in_ok-put.ensures.made OneOf) in

@@ -1,4 +1,4 @@
-use Rattle.std.proofs.Common.{ℕ, ◌+◌, ◌*◌}
+use Rattle.std.proofs.Common.{◌+◌, ◌*◌}
 use Rattle.muck_lock.proofs.text.+parts.Given as goal
 
 -- parts inside are nested less deeply, and a part stands above what it is made of

@@ -1,4 +1,4 @@
-use Rattle.std.proofs.Common.{◌≡◌, Bool, Option, Some, None, refl, subst, sym, rules}
+use Rattle.std.proofs.Common.{◌≡◌, Option, Some, subst, sym}
 use Rattle.muck_model.specs.declared.dbref.Dbref.{Dbref}
 use Rattle.std.specs.Option.{option_map}
 use Rattle.muck_lock.specs.Grammar.{object_key}

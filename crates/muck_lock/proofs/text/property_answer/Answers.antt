@@ -1,4 +1,4 @@
-use Rattle.std.proofs.Common.{◌≡◌, Bool, true, false, not, sym, ◌∙◌, arith}
+use Rattle.std.proofs.Common.{arith}
 use Rattle.muck_lock.specs.Opens.{holdings}
 use Rattle.muck_lock.proofs.Texts.{property_answered}
 use Rattle.muck_lock.proofs.text.property_answer.Goals as goal

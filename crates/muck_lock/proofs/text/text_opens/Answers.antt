@@ -1,4 +1,4 @@
-use Rattle.std.proofs.Common.{◌≡◌, ◌<◌, List, ℕ, Bool, true, false, sym, ◌∙◌, subst, length, refl, ap, arith}
+use Rattle.std.proofs.Common.{◌≡◌, ◌<◌, List, ℕ, true, sym, ◌∙◌, subst, length, refl, ap, arith}
 use Rattle.muck_lock.specs.Opens.{holdings}
 use Rattle.muck_lock.specs.Answers.{text_opens}
 use Rattle.muck_lock.specs.inner.Answers.{whole_opens}

@@ -3,7 +3,7 @@ use Rattle.std.proofs.lemmas.Bool.{cond-true, cond-false}
 use Rattle.std.proofs.lemmas.List.{with_items_is}
 use Rattle.spec_live.specs.Connections.{told_where, hears}
 use Rattle.muck_board.specs.inner.Silent.{quiet, silent}
-use Rattle.muck_board.proofs.Mapped.{mapped_more}
+use Rattle.muck_model.proofs.Mapped.{mapped_more}
 use Rattle.muck_board.proofs.Quiet.{quiet_where}
 use Rattle.muck_board.proofs.board.Board.tell_others.Goals as goal
 use Rattle.muck_board.proofs.board.Board.tell_others.Goals.{then-hears+in_ok-tell, else-hears}

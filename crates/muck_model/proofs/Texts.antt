@@ -1,0 +1,38 @@
+-- What is a text.
+use Rattle.std.proofs.Common.{◌≡◌, ℕ, ◌+◌, ◌<◌, ◌≤◌, ◌^◌, suc, Bool, true, false, not, List, [], ◌∷◌, length, None, refl, ◌∙◌, arith}
+use Rattle.std.specs.Prelude.{ℤ, pos, negsuc}
+use lib.Signed.{mag}
+use Rattle.std.specs.List.{list_all, position_or_len}
+use Rattle.std.specs.Fmt.{decimal, signed_decimal}
+use Rattle.std.proofs.lemmas.Bool.{and_parts, cond-true, le-ltb, not_from_false}
+use Rattle.std.proofs.lemmas.Fmt.{length_signed_le}
+use Rattle.muck_model.specs.Bytes.{is_outside, text_most, text_fault}
+use Rattle.muck_model.specs.Decimal.{is_digit}
+use Rattle.muck_model.proofs.Decimals.{digits_of}
+
+-- no byte stands outside, and there are not too many
+pub text_if : (bytes : List ℕ) → length bytes ≤ position_or_len is_outside bytes → length bytes ≤ text_most → text_fault bytes ≡ None
+text_if bytes all short = rw (le-ltb (position_or_len is_outside bytes) (length bytes) all, le-ltb text_most (length bytes) short) refl
+
+-- where all bytes pass a test that only bytes of texts pass
+pub none_outside : (test : ℕ → Bool) → ((b : ℕ) → test b ≡ true → is_outside b ≡ false) → (bytes : List ℕ) → list_all test bytes ≡ true → position_or_len is_outside bytes ≡ length bytes
+none_outside test inside [] h = refl
+none_outside test inside (b ∷ bytes) h =
+    let parts = and_parts (test b) (list_all test bytes) h in
+    cond-true (not (is_outside b)) (1 + position_or_len is_outside bytes) 0 (not_from_false (is_outside b) (inside b parts.0)) ∙ omega (arith, none_outside test inside bytes parts.1)
+
+pub text_of_all : (test : ℕ → Bool) → ((b : ℕ) → test b ≡ true → is_outside b ≡ false) → (bytes : List ℕ) → list_all test bytes ≡ true → length bytes ≤ text_most → text_fault bytes ≡ None
+text_of_all test inside bytes h short = text_if bytes (omega (arith, none_outside test inside bytes h)) short
+
+-- Numbers in decimal.
+
+digit_inside : (b : ℕ) → is_digit b ≡ true → is_outside b ≡ false
+digit_inside b h = grind arith
+
+inside_number : (z : ℤ) → mag z < 2 ^ 63 → position_or_len is_outside (signed_decimal z) ≡ length (signed_decimal z)
+inside_number (pos n) h = none_outside is_digit digit_inside (decimal n) (digits_of n (omega (arith, h)))
+inside_number (negsuc n) h = let rest = none_outside is_digit digit_inside (decimal (suc n)) (digits_of (suc n) (omega (arith, h))) in omega (arith, rest)
+
+-- a number in decimal is a text
+pub number_is_text : (z : ℤ) → mag z < 2 ^ 32 → text_fault (signed_decimal z) ≡ None
+number_is_text z fits = text_if (signed_decimal z) (omega (arith, inside_number z (omega (arith, fits)))) (omega (arith, length_signed_le 10 z (omega (arith, fits)) (omega (arith, fits))))
