@@ -209,6 +209,7 @@ module _ (k : Known) (ws vs ls : List (List ℕ)) (entered : Entered k.names ws 
       none_named ha hb hc hd w (of_program n i) = no_variable entered name n hb i
       none_named ha hb hc hd w (of_local n i) = no_local owned name n ha i
       none_named ha hb hc hd w (of_primitive i) = cc
+
       by : (u : Bool) (a : Option VarId) (b : Option Meaning) (c : Option VarId) (d : Option Primitive) → is_unfit name ≡ u → lookup (bytes_eq name) k.locals ≡ a → lookup (bytes_eq name) k.names ≡ b → standing_of name ≡ c → named_in_any_case name ≡ d
           → cond u (Some BadHeader) (cond (is_some (word_in a b c d)) (Some DoubleName) None) ≡ None
           → (a ≡ None) × (b ≡ None) × IsFree scope name

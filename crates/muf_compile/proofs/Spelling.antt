@@ -405,6 +405,7 @@ module _ (k : Known) (g : Growth) (ts us : List Token) (first line : ℕ) (h : H
     where
       empty : Written g.now g.around []
       empty = rw (h.now, h.around) (at_top nothing)
+
       begins : (now : Block) (n : ℕ) → n ≡ length h.ls → Written now g.around (bindings first n) → Within ts (at first (codes ":") ∷ at line (g.title ++ codes "[") ∷ vs) k.names k.variables k.locals (record g { now = now })
       begins now n e written =
           record {
@@ -419,6 +420,7 @@ module _ (k : Known) (g : Growth) (ts us : List Token) (first line : ℕ) (h : H
             opened = begun (rw e header);
             written = written;
           }
+
       by : (n : ℕ) → n ≡ length h.ls → ReadSpelt g (ts ++ at first (codes ":") ∷ at line (g.title ++ codes "[") ∷ vs) (reading.acts first (reading.binding n) (in_mode mode.Inside k))
       by zero e = within (begins g.now zero e empty)
       by (suc n) e = within (begins _ (suc n) e (grow_written first (act.Item (item.Bind (suc n))) g [] tt empty).0)
@@ -429,6 +431,7 @@ module _ (k : Known) (g : Growth) (ts us : List Token) (first line : ℕ) (h : H
     where
       differs : (word : List ℕ) → bytes_eq name word ≡ false → name ≡ word → ⊥
       differs word f e = let t : bytes_eq name word ≡ true = (bytes_eq-Decides name word).1 e in cc
+
       by : (b : Bool) → bytes_eq name (codes "]") ≡ b → (c : Bool) → bytes_eq name (codes "--") ≡ c → ReadSpelt g (head (us ++ at here name ∷ [])) (cond b (reading.header_end first k) (cond c (reading.acts here act.Wait (in_mode (mode.Results first) k)) (and_then (reading.own_variable here name (mode.Heading first) k) (reading.waiting here))))
       by true e c f = header_ends (us ++ at here name ∷ []) (rw ((bytes_eq-Decides name (codes "]")).0 e) (with_arguments first line here h.arguments))
       by false e true f = rw ((bytes_eq-Decides name (codes "--")).0 f) (results {xs = []} first line here h none_passed)
@@ -454,6 +457,7 @@ module _ (k : Known) (g : Growth) (ts us : List Token) (first line : ℕ) (h : H
     where
       passes : (kind : TokenKind) → t.kind ≡ kind → (kind ≡ token.Word (codes "]") → ⊥) → ReadSpelt g (head (us ++ at mid (codes "--") ∷ (xs ++ t ∷ []))) (reading.acts t.line act.Wait k)
       passes kind e n = subst (λ mode. Spelt k g (head (us ++ at mid (codes "--") ∷ (xs ++ t ∷ []))) mode) (sym m) (results first line mid h (one_passed t p (λ f. n (sym e ∙ f))))
+
       by : (kind : TokenKind) → t.kind ≡ kind → ReadSpelt g (head (us ++ at mid (codes "--") ∷ (xs ++ t ∷ []))) (reading.read_result first t.line kind k)
       by (token.Text bytes) e = passes _ e (λ f. cc)
       by (token.Number n) e = passes _ e (λ f. cc)
