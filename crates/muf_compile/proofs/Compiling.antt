@@ -41,11 +41,6 @@ pub record CompiledFits (c : Compiled) (d : Draft) : Type 0 where
   pub built : BuiltFits c.built d.growth
   pub units : c.units ≡ d.units
 
--- a draft has no more words than instructions, and of these no more than a program may have
-pub record IsSmall (d : Draft) : Type 0 where
-  pub words : length d.growth.words ≤ d.units
-  pub units : d.units ≤ units_most
-
 abbrev StepAlike : Result Compiled Refusal → Result Draft Refusal → Type 0
 StepAlike (Ok c) (Ok d) = CompiledFits c d
 StepAlike (Err r) (Err s) = r ≡ s
@@ -89,142 +84,25 @@ is_wanting : (t : Result Tree Refusal) → IsCode t (Err NoMemory)
 is_wanting (Ok tree) = tt
 is_wanting (Err r) = tt
 
--- how many words there are after an act
-abbrev FewAfter : ℕ → Grown → Type 0
-FewAfter n (Ok g) = length g.words ≤ n
-FewAfter n (Err r) = Unit {0}
-
-few_else : (line : ℕ) (g : Growth) (us : List Unfinished) → FewAfter (length g.words + 1) (growth.else_part line g us)
-few_else line g [] = tt
-few_else line g (first if_word l h ∷ us) = omega arith
-few_else line g (first try_word l h ∷ us) = tt
-few_else line g (second if_word l x m h ∷ us) = tt
-few_else line g (second try_word l x m h ∷ us) = tt
-few_else line g (turning begin_word l h ∷ us) = tt
-few_else line g (turning for_word l h ∷ us) = tt
-few_else line g (turning each_word l h ∷ us) = tt
-
-few_catch : (line : ℕ) (g : Growth) (us : List Unfinished) → FewAfter (length g.words + 1) (growth.catch_part line g us)
-few_catch line g [] = tt
-few_catch line g (first if_word l h ∷ us) = tt
-few_catch line g (first try_word l h ∷ us) = omega arith
-few_catch line g (second if_word l x m h ∷ us) = tt
-few_catch line g (second try_word l x m h ∷ us) = tt
-few_catch line g (turning begin_word l h ∷ us) = tt
-few_catch line g (turning for_word l h ∷ us) = tt
-few_catch line g (turning each_word l h ∷ us) = tt
-
-few_then : (line : ℕ) (g : Growth) (us : List Unfinished) → FewAfter (length g.words + 0) (growth.then_part line g us)
-few_then line g [] = tt
-few_then line g (first if_word l h ∷ us) = omega arith
-few_then line g (first try_word l h ∷ us) = tt
-few_then line g (second if_word l x m h ∷ us) = omega arith
-few_then line g (second try_word l x m h ∷ us) = tt
-few_then line g (turning begin_word l h ∷ us) = tt
-few_then line g (turning for_word l h ∷ us) = tt
-few_then line g (turning each_word l h ∷ us) = tt
-
-few_end_catch : (line : ℕ) (g : Growth) (us : List Unfinished) → FewAfter (length g.words + 0) (growth.end_catch_part line g us)
-few_end_catch line g [] = tt
-few_end_catch line g (first if_word l h ∷ us) = tt
-few_end_catch line g (first try_word l h ∷ us) = tt
-few_end_catch line g (second if_word l x m h ∷ us) = tt
-few_end_catch line g (second try_word l x m h ∷ us) = omega arith
-few_end_catch line g (turning begin_word l h ∷ us) = tt
-few_end_catch line g (turning for_word l h ∷ us) = tt
-few_end_catch line g (turning each_word l h ∷ us) = tt
-
-few_repeat : (line : ℕ) (g : Growth) (us : List Unfinished) → FewAfter (length g.words + 1) (growth.repeat_part line g us)
-few_repeat line g [] = tt
-few_repeat line g (first if_word l h ∷ us) = tt
-few_repeat line g (first try_word l h ∷ us) = tt
-few_repeat line g (second if_word l x m h ∷ us) = tt
-few_repeat line g (second try_word l x m h ∷ us) = tt
-few_repeat line g (turning begin_word l h ∷ us) = omega arith
-few_repeat line g (turning for_word l h ∷ us) = omega arith
-few_repeat line g (turning each_word l h ∷ us) = omega arith
-
-few_until : (line : ℕ) (g : Growth) (us : List Unfinished) → FewAfter (length g.words + 1) (growth.until_part line g us)
-few_until line g [] = tt
-few_until line g (first if_word l h ∷ us) = tt
-few_until line g (first try_word l h ∷ us) = tt
-few_until line g (second if_word l x m h ∷ us) = tt
-few_until line g (second try_word l x m h ∷ us) = tt
-few_until line g (turning begin_word l h ∷ us) = omega arith
-few_until line g (turning for_word l h ∷ us) = tt
-few_until line g (turning each_word l h ∷ us) = tt
-
-few_end : (line n : ℕ) (g : Growth) (us : List Unfinished) → FewAfter (length g.words + 1) (growth.end_part line n g us)
-few_end line n g [] = omega (arith, length-append {A = Definition})
-few_end line n g (u ∷ us) = tt
-
-as_many_offered : (n : ℕ) (o : Offer) (ds : List Definition) → length (growth.offered_in n o ds) ≡ length ds
-as_many_offered n o [] = refl
-as_many_offered zero o (d ∷ ds) = refl
-as_many_offered (suc n) o (d ∷ ds) = ap suc (as_many_offered n o ds)
-
-few_cond : (b : Bool) (n : ℕ) (x y : Grown) → FewAfter n x → FewAfter n y → FewAfter n (cond b x y)
-few_cond true n x y h k = h
-few_cond false n x y h k = k
-
-few : (line : ℕ) (a : Act) (g : Growth) → FewAfter (length g.words + cost_of a) (grow line a g)
-few line Wait g = omega arith
-few line (Title name) g = omega arith
-few line (Item w) g = omega arith
-few line (Jump w) g = few_cond (growth.in_loop g.around) _ _ _ (omega arith) tt
-few line (Open opening.If) g = omega arith
-few line (Open opening.Try) g = omega arith
-few line (Open opening.Begin) g = omega arith
-few line (Open opening.For) g = omega arith
-few line (Open opening.Each) g = omega arith
-few line Else g = few_else line g g.around
-few line Then g = few_then line g g.around
-few line Catch g = few_catch line g g.around
-few line EndCatch g = few_end_catch line g g.around
-few line Repeat g = few_repeat line g g.around
-few line Until g = few_until line g g.around
-few line (End n) g = few_end line n g g.around
-few line (offer_act n o) g = let e = as_many_offered n o g.words in omega arith
-
-abbrev SmallAfter : Result Draft Refusal → Type 0
-SmallAfter (Ok d) = IsSmall d
-SmallAfter (Err r) = Unit {0}
-
-small_counted : (k : Known) (g : Growth) (line units more : ℕ) → length g.words ≤ units + more → (b : Bool) → (b ≡ true → units + more ≤ units_most) → SmallAfter (and_then (cond b (Ok (units + more)) (refuse line TooLong)) (λ n. Ok (record { known = k; growth = g; units = n })))
-small_counted k g line units more h true l = record { words = h; units = l refl }
-small_counted k g line units more h false l = tt
-
-small_grown : (k : Known) (line units more words : ℕ) → words ≤ units → (g : Grown) → FewAfter (words + more) g → SmallAfter (and_then g (λ h. and_then (counted line more units) (λ n. Ok (record { known = k; growth = h; units = n }))))
-small_grown k line units more words h (Ok g) f = small_counted k g line units more (omega arith) (nat_le (units + more) units_most) (λ e. leb-true _ _ e)
-small_grown k line units more words h (Err r) f = tt
-
-small_read : (g : Growth) (units : ℕ) → length g.words ≤ units → (r : Read) → SmallAfter (and_then r (λ p. and_then (grow p.1.line p.1.act g) (λ h. and_then (counted p.1.line (cost_of p.1.act) units) (λ n. Ok (record { known = p.0; growth = h; units = n })))))
-small_read g units h (Ok p) = small_grown p.0 p.1.line units (cost_of p.1.act) (length g.words) h (grow p.1.line p.1.act g) (few p.1.line p.1.act g)
-small_read g units h (Err r) = tt
-
-small_step : (t : Token) (d : Draft) → IsSmall d → SmallAfter (step t d)
-small_step t d s = small_read d.growth d.units s.words _
-
 -- some words of a source have led to the draft
 pub record WasSpelt (d : Draft) : Type 0 where
   pub before : List Token
   pub spelt : IsSpelt before d
 
 -- nothing is compiled
-pub starts : CompiledFits nothing_compiled empty_draft × IsSmall empty_draft × WasSpelt empty_draft
+pub starts : CompiledFits nothing_compiled empty_draft × WasSpelt empty_draft
 starts = (
   record { known = refl; built = record { start = 0; items = refl; within = omega arith; opens = outermost; words = tt; row = refl; title = refl }; units = refl },
-  record { words = omega arith; units = omega arith },
   record { before = []; spelt = spelt_empty },
 )
 
 -- one word more
-pub takes : (t : Token) (ts : List Token) (last : ℕ) (c new : Compiled) (d : Draft) → CompiledFits c d → IsSmall d → WasSpelt d → compiled_step t c ≡ Ok new → (e : Draft) × CompiledFits new e × IsSmall e × WasSpelt e × (tree_from last (t ∷ ts) d ≡ tree_from t.line ts e)
-takes t ts last c new d f s p e = from_alike (step t d) (subst (λ r. StepAlike r (step t d)) e (step_alike t c d f)) (small_step t d s) (spelt_step t p.before d p.spelt)
+pub takes : (t : Token) (ts : List Token) (last : ℕ) (c new : Compiled) (d : Draft) → CompiledFits c d → WasSpelt d → compiled_step t c ≡ Ok new → (e : Draft) × CompiledFits new e × WasSpelt e × (tree_from last (t ∷ ts) d ≡ tree_from t.line ts e)
+takes t ts last c new d f p e = from_alike (step t d) (subst (λ r. StepAlike r (step t d)) e (step_alike t c d f)) (spelt_step t p.before d p.spelt)
   where
-    from_alike : (r : Result Draft Refusal) → StepAlike (Ok new) r → SmallAfter r → DraftSpelt (p.before ++ t ∷ []) r → (e : Draft) × CompiledFits new e × IsSmall e × WasSpelt e × (and_then r (tree_from t.line ts) ≡ tree_from t.line ts e)
-    from_alike (Ok q) h k l = (q, h, k, record { before = p.before ++ t ∷ []; spelt = l }, refl)
-    from_alike (Err r) h k l = absurd h
+    from_alike : (r : Result Draft Refusal) → StepAlike (Ok new) r → DraftSpelt (p.before ++ t ∷ []) r → (e : Draft) × CompiledFits new e × WasSpelt e × (and_then r (tree_from t.line ts) ≡ tree_from t.line ts e)
+    from_alike (Ok q) h l = (q, h, record { before = p.before ++ t ∷ []; spelt = l }, refl)
+    from_alike (Err r) h l = absurd h
 
 -- a word that is refused
 refuses : (t : Token) (ts : List Token) (last : ℕ) (c : Compiled) (r : Refusal) (d : Draft) → CompiledFits c d → compiled_step t c ≡ Err r → tree_from last (t ∷ ts) d ≡ Err r
@@ -283,7 +161,7 @@ end_alike (mode.Results at) last c d ts f s = refl
 
 -- the end of the words
 pub ends : (last : ℕ) (c : Compiled) (d : Draft) (result : Result Code CompileFault) → CompiledFits c d → WasSpelt d → Answers (compiled_end c.known.mode last c) result → IsCode (finished last d) result
-ends last c d result f p a = answered (compiled_end c.known.mode last c) (finished last d) result (subst (λ (k : Known). EndAlike (compiled_end k.mode last c) (finished last d)) (sym f.known) (end_alike d.known.mode last c d p.before f p.spelt)) a
+ends last c d result f p a = answered (compiled_end c.known.mode last c) (finished last d) result (subst (λ (k : Known). EndAlike (compiled_end k.mode last c) (finished last d)) (sym f.known) (end_alike d.known.mode last c d p.before f p.spelt.spelt)) a
   where
     answered : (s : Result Code Refusal) (t : Result Tree Refusal) (r : Result Code CompileFault) → EndAlike s t → Answers s r → IsCode t r
     answered s t (Err NoMemory) h a = is_wanting t
@@ -302,10 +180,10 @@ module _ (items ts : List Token) (same : items ≡ ts) (n last : ℕ) (t : Token
       let first : get_or ts n t ≡ t = sym (here ∙ ap (λ l. get_or l n t) same) in
       rest ∙ ap (λ r. tree_from last r d) (drop-cons ts n t inside ∙ ap (λ k. get_or ts n t ∷ drop k ts) (sym (add-one n)) ∙ ap (λ x. x ∷ drop (n + 1) ts) first)
 
-  pub takes_at : (c new : Compiled) → CompiledFits c d → IsSmall d → WasSpelt d → compiled_step t c ≡ Ok new → (e : Draft) × CompiledFits new e × IsSmall e × WasSpelt e × (whole ≡ tree_from t.line (drop (n + 1) ts) e)
-  takes_at c new f s p b =
-      let g = takes t (drop (n + 1) ts) last c new d f s p b in
-      (g.0, g.1, g.2, g.3, at_place ∙ g.4)
+  pub takes_at : (c new : Compiled) → CompiledFits c d → WasSpelt d → compiled_step t c ≡ Ok new → (e : Draft) × CompiledFits new e × WasSpelt e × (whole ≡ tree_from t.line (drop (n + 1) ts) e)
+  takes_at c new f p b =
+      let g = takes t (drop (n + 1) ts) last c new d f p b in
+      (g.0, g.1, g.2, at_place ∙ g.3)
 
   pub refused_at : (c new : Compiled) (fault : CompileFault) → CompiledFits c d → Leads {B = Unit {0}} (compiled_step t c) (Err fault) new → IsCode whole (Err fault)
   refused_at c new fault f b = subst (λ w. IsCode w (Err fault)) (sym at_place) (take_refused t (drop (n + 1) ts) last c new fault d f b)
@@ -323,17 +201,17 @@ ends_at items ts same n last c d whole result h f p e a =
     subst (λ w. IsCode w result) (sym (e ∙ ap (λ r. tree_from last r d) (drop-all ts n past))) (ends last c d result f p a)
 
 -- there are few words and instructions
-pub few_words : (c : Compiled) (d : Draft) → CompiledFits c d → IsSmall d → length c.built.words ≤ 65536
+pub few_words : (c : Compiled) (d : Draft) → CompiledFits c d → WasSpelt d → length c.built.words ≤ 65536
 unfolding units_most
 few_words c d f s =
     let same : length c.built.words ≡ length d.growth.words = as_many c.built.code c.built.words d.growth.words f.built.words in
-    let w = s.words in
-    let u = s.units in
+    let w = s.spelt.words in
+    let u = s.spelt.units in
     omega arith
 
-pub few_units : (c : Compiled) (d : Draft) → CompiledFits c d → IsSmall d → c.units ≤ 65536
+pub few_units : (c : Compiled) (d : Draft) → CompiledFits c d → WasSpelt d → c.units ≤ 65536
 unfolding units_most
-few_units c d f s = let e = f.units in let u = s.units in omega arith
+few_units c d f s = let e = f.units in let u = s.spelt.units in omega arith
 
 -- the tree that code stands for is written in the words that it was compiled from
 pub code_written : (ts : List Token) (result : Result Code CompileFault) → IsCode (tree_of ts) result → IfOk result (λ code. IsProgram ts (decode.tree_of code))

@@ -1,6 +1,6 @@
 -- A source that is read to its end without a fault is written by the rules of the grammar.
-use Rattle.std.proofs.Common.{◌≡◌, ℕ, zero, suc, ◌+◌, ◌<◌, List, [], ◌∷◌, ◌++◌, length, Bool, true, false, cond, refl, sym, ap, subst, ◌∙◌, append_assoc, arith, length-append}
-use Rattle.std.specs.Prelude.{Option, Some, None, Result, Ok, Err, nat_lt, option_map, slice_get, codes, ◌==◌}
+use Rattle.std.proofs.Common.{◌≡◌, ℕ, zero, suc, ◌+◌, ◌<◌, ◌≤◌, List, [], ◌∷◌, ◌++◌, length, Bool, true, false, cond, refl, sym, ap, subst, ◌∙◌, append_assoc, arith, length-append, leb-true}
+use Rattle.std.specs.Prelude.{Option, Some, None, Result, Ok, Err, nat_lt, nat_le, option_map, slice_get, codes, ◌==◌}
 use Rattle.std.specs.Str.{bytes_eq}
 use Rattle.std.proofs.lemmas.Slice.Eq.{bytes_eq-Decides}
 use Rattle.indexmap.specs.IndexMap.{insert_entry}
@@ -34,7 +34,7 @@ use Rattle.muf_compile.specs.Faults.{refuse, and_then}
 use Rattle.muf_compile.specs.Names.{control_of}
 use Rattle.muf_compile.specs.Reading as reading
 use Rattle.muf_compile.specs.Reading.{Known, Read, read, read_in, in_mode, unless, name_fault, word_of, number_of, usable, may_use, before_bracket, variables_most, is_unfit}
-use Rattle.muf_compile.specs.Growth.{Unfinished, Growth, Grown, grow, counted, end_part, offered_in, Draft, step, tree_of, tree_from, whole_tree, finished, finished_in, empty_draft}
+use Rattle.muf_compile.specs.Growth.{Unfinished, Growth, Grown, grow, counted, units_most, end_part, offered_in, Draft, step, tree_of, tree_from, whole_tree, finished, finished_in, empty_draft}
 use Rattle.muf_compile.specs.Spells.{at_line, Spells, nothing}
 use Rattle.muf_compile.specs.Grammar.{Scope, IsNth, IsFree, structure, Says, text, integer, object, address, structural, named, at, Arguments, no_arguments, one_argument, Passed, none_passed, one_passed, bindings, Header, bare, with_arguments, with_results, Opened, begun, says, own_variable, stored_variable, names_of, outside, Declares, nothing_declared, shared_variable, local_variable, offered_to_all, offered_to_wizards, word_defined, IsProgram}
 use Rattle.muf_compile.proofs.Scopes.{Entered, no_names, word_more, variable_more, Owned, no_locals, local_more, as_many_owned, named_by, free, entered_last, owned_last, numbered_by, control_written, written_as}
@@ -93,17 +93,23 @@ pub data Spelt (k : Known) (g : Growth) : List Token → Mode → Type 0 where
   own_var : {ts us : List Token} (line : ℕ) → Within ts us k.names k.variables k.locals g → Spelt k g (ts ++ (us ++ at line (codes "var") ∷ [])) (mode.Naming wanted.Own)
   own_store : {ts us : List Token} (line : ℕ) → Within ts us k.names k.variables k.locals g → Spelt k g (ts ++ (us ++ at line (codes "var!") ∷ [])) (mode.Naming (wanted.Stored line))
 
--- what holds after a step of the tree, of the reader, and of both, where it isn't refused
-abbrev GrownSpelt : Known → List Token → Grown → Type 0
-GrownSpelt k ts (Ok g) = Spelt k g ts k.mode
-GrownSpelt k ts (Err r) = Unit {0}
+-- what holds after a step of the tree and of the reader, where it isn't refused; there are at most so many words
+abbrev GrownSpelt : Known → List Token → ℕ → Grown → Type 0
+GrownSpelt k ts most (Ok g) = Spelt k g ts k.mode × (length g.words ≤ most)
+GrownSpelt k ts most (Err r) = Unit {0}
 
 abbrev ReadSpelt : Growth → List Token → Read → Type 0
-ReadSpelt g ts (Ok p) = GrownSpelt p.0 ts (grow p.1.line p.1.act g)
+ReadSpelt g ts (Ok p) = GrownSpelt p.0 ts (length g.words + cost_of p.1.act) (grow p.1.line p.1.act g)
 ReadSpelt g ts (Err r) = Unit {0}
 
+-- A draft of these words. It has no more words than instructions, and of these no more than a program may have.
+pub record IsSpelt (ts : List Token) (d : Draft) : Type 0 where
+  pub spelt : Spelt d.known d.growth ts d.known.mode
+  pub words : length d.growth.words ≤ d.units
+  pub units : d.units ≤ units_most
+
 abbrev pub DraftSpelt : List Token → Result Draft Refusal → Type 0
-DraftSpelt ts (Ok d) = Spelt d.known d.growth ts d.known.mode
+DraftSpelt ts (Ok d) = IsSpelt ts d
 DraftSpelt ts (Err r) = Unit {0}
 
 -- ---- answers that may be refused
@@ -124,11 +130,11 @@ module _ (k : Known) (g : Growth) (line : ℕ) (name : List ℕ) where
 
   -- the word of the structure that begins a declaration
   declares_next : (ts : List Token) (c : Option Control) → control_of name ≡ c → Between ts k.names k.variables k.locals g → ReadSpelt g (ts ++ word ∷ []) (reading.declaration line c k)
-  declares_next ts (Some control.Colon) e h = subst (λ x. Spelt (in_mode (mode.Naming (wanted.Title line)) k) g (ts ++ at line x ∷ []) (mode.Naming (wanted.Title line))) (sym (control_written name control.Colon e)) (colon line h)
-  declares_next ts (Some control.Var) e h = subst (λ x. Spelt (in_mode (mode.Naming wanted.Shared) k) g (ts ++ at line x ∷ []) (mode.Naming wanted.Shared)) (sym (control_written name control.Var e)) (var line h)
-  declares_next ts (Some control.LVar) e h = subst (λ x. Spelt (in_mode (mode.Naming wanted.Shared) k) g (ts ++ at line x ∷ []) (mode.Naming wanted.Shared)) (sym (control_written name control.LVar e)) (lvar line h)
-  declares_next ts (Some control.Public) e h = subst (λ x. Spelt (in_mode (mode.Naming (wanted.Offered All)) k) g (ts ++ at line x ∷ []) (mode.Naming (wanted.Offered All))) (sym (control_written name control.Public e)) (offer_all line h)
-  declares_next ts (Some control.WizCall) e h = subst (λ x. Spelt (in_mode (mode.Naming (wanted.Offered Wizards)) k) g (ts ++ at line x ∷ []) (mode.Naming (wanted.Offered Wizards))) (sym (control_written name control.WizCall e)) (offer_wizards line h)
+  declares_next ts (Some control.Colon) e h = (subst (λ x. Spelt (in_mode (mode.Naming (wanted.Title line)) k) g (ts ++ at line x ∷ []) (mode.Naming (wanted.Title line))) (sym (control_written name control.Colon e)) (colon line h), omega arith)
+  declares_next ts (Some control.Var) e h = (subst (λ x. Spelt (in_mode (mode.Naming wanted.Shared) k) g (ts ++ at line x ∷ []) (mode.Naming wanted.Shared)) (sym (control_written name control.Var e)) (var line h), omega arith)
+  declares_next ts (Some control.LVar) e h = (subst (λ x. Spelt (in_mode (mode.Naming wanted.Shared) k) g (ts ++ at line x ∷ []) (mode.Naming wanted.Shared)) (sym (control_written name control.LVar e)) (lvar line h), omega arith)
+  declares_next ts (Some control.Public) e h = (subst (λ x. Spelt (in_mode (mode.Naming (wanted.Offered All)) k) g (ts ++ at line x ∷ []) (mode.Naming (wanted.Offered All))) (sym (control_written name control.Public e)) (offer_all line h), omega arith)
+  declares_next ts (Some control.WizCall) e h = (subst (λ x. Spelt (in_mode (mode.Naming (wanted.Offered Wizards)) k) g (ts ++ at line x ∷ []) (mode.Naming (wanted.Offered Wizards))) (sym (control_written name control.WizCall e)) (offer_wizards line h), omega arith)
   declares_next ts (Some control.VarStore) e h = tt
   declares_next ts (Some control.Semicolon) e h = tt
   declares_next ts (Some control.If) e h = tt
@@ -181,32 +187,37 @@ module _ (k : Known) (g : Growth) (line : ℕ) (name : List ℕ) (ts all : List 
   shared_next declared =
       goes_unless g all line (name_fault name k) _
       (λ e. goes_where g all line TooLong (nat_lt k.variables variables_most) _
-      (λ l. between
-      (record {
-        vs = h.vs ++ name ∷ [];
-        declares = declared (is_free e);
-        entered = rw (entered_last k (names_of g.words) h.vs [] h.entered none_owned name e (meaning.Variable (record { 0 = 4 + k.variables })), h.counts) (variable_more name h.entered);
-        counts = one_longer h.vs name k.variables h.counts;
-        empty = h.empty;
-        now = h.now;
-        around = h.around;
-      })))
+      (λ l. (
+        between
+            (record {
+              vs = h.vs ++ name ∷ [];
+              declares = declared (is_free e);
+              entered = rw (entered_last k (names_of g.words) h.vs [] h.entered none_owned name e (meaning.Variable (record { 0 = 4 + k.variables })), h.counts) (variable_more name h.entered);
+              counts = one_longer h.vs name k.variables h.counts;
+              empty = h.empty;
+              now = h.now;
+              around = h.around;
+            }),
+        omega arith,
+      )))
 
   offered_next : (o : Offer) → ((n : ℕ) → IsNth n (names_of g.words) name → Declares all (offered_in n o g.words) h.vs) → ReadSpelt g all (reading.offered line o name k)
   offered_next o declared = goes_else g all line BadHeader (is_unfit name) _ (by (number_of name k) refl)
     where
       by : (n : Option ℕ) → number_of name k ≡ n → ReadSpelt g all (reading.offered_as line o n k)
-      by (Some n) e =
-          between
-          (record {
-            vs = h.vs;
-            declares = declared n (numbered_by k (names_of g.words) h.vs [] h.entered none_owned name n e);
-            entered = rw (names_offered n o g.words) h.entered;
-            counts = h.counts;
-            empty = h.empty;
-            now = h.now;
-            around = h.around;
-          })
+      by (Some n) e = (
+        between
+            (record {
+              vs = h.vs;
+              declares = declared n (numbered_by k (names_of g.words) h.vs [] h.entered none_owned name n e);
+              entered = rw (names_offered n o g.words) h.entered;
+              counts = h.counts;
+              empty = h.empty;
+              now = h.now;
+              around = h.around;
+            }),
+        (let i = ap length (names_offered n o g.words) ∙ as_many_names g.words in let j = as_many_names (offered_in n o g.words) in omega arith),
+      )
       by None e = tt
 
   module _ (number : ℕ) (same : number ≡ length g.words) where
@@ -217,61 +228,69 @@ module _ (k : Known) (g : Growth) (line : ℕ) (name : List ℕ) (ts all : List 
     title_next : (first : ℕ) → all ≡ ts ++ at first (codes ":") ∷ at line name ∷ [] → ((front : List ℕ) → name ≡ front ++ codes "[" → ⊥) → ReadSpelt g all (reading.titled_as number line name mode.Inside k)
     title_next first e plain =
         goes_unless g all line (name_fault name k) _
-        (λ f. rw e (within {ts = ts} {us = at first (codes ":") ∷ at line name ∷ []}
-        (record {
-          vs = h.vs;
-          declares = h.declares;
-          new = is_free f;
-          entered = title_entered f;
-          counts = h.counts;
-          ls = [];
-          owned = none_owned;
-          rs = [];
-          opened = begun (bare first line plain);
-          written = rw (h.now, h.around) (at_top nothing);
-        })))
+        (λ f. rw e (
+          within {ts = ts} {us = at first (codes ":") ∷ at line name ∷ []}
+              (record {
+                vs = h.vs;
+                declares = h.declares;
+                new = is_free f;
+                entered = title_entered f;
+                counts = h.counts;
+                ls = [];
+                owned = none_owned;
+                rs = [];
+                opened = begun (bare first line plain);
+                written = rw (h.now, h.around) (at_top nothing);
+              }),
+          omega arith,
+        ))
 
     -- a word with a header
     head_next : (first : ℕ) → all ≡ ts ++ at first (codes ":") ∷ at line (name ++ codes "[") ∷ [] → ReadSpelt g all (reading.titled_as number line name (mode.Heading first) k)
     head_next first e =
         goes_unless g all line (name_fault name k) _
-        (λ f. rw e (heading {ts = ts} {us = []} first line
-        (record {
-          vs = h.vs;
-          declares = h.declares;
-          new = is_free f;
-          entered = title_entered f;
-          counts = h.counts;
-          ls = [];
-          owned = none_owned;
-          arguments = no_arguments;
-          now = h.now;
-          around = h.around;
-        })))
+        (λ f. rw e (
+          heading {ts = ts} {us = []} first line
+              (record {
+                vs = h.vs;
+                declares = h.declares;
+                new = is_free f;
+                entered = title_entered f;
+                counts = h.counts;
+                ls = [];
+                owned = none_owned;
+                arguments = no_arguments;
+                now = h.now;
+                around = h.around;
+              }),
+          omega arith,
+        ))
 
 -- ---- a word among the items
 
 module _ (k : Known) (g : Growth) (ts us : List Token) (w : Within ts us k.names k.variables k.locals g) where
   -- an act among the items, which the words say so far
-  goes_on : (next : Known) (vs : List Token) (line : ℕ) (a : Act) → IsInside a → next.mode ≡ mode.Inside → next.names ≡ k.names → next.variables ≡ k.variables → (ls : List (List ℕ)) → Owned next.locals ls → Opened (names_of g.words ++ g.title ∷ []) w.vs g.title vs ls (w.rs ++ at_line line a ∷ []) → GrownSpelt next (ts ++ vs) (grow line a g)
+  goes_on : (next : Known) (vs : List Token) (line : ℕ) (a : Act) → IsInside a → next.mode ≡ mode.Inside → next.names ≡ k.names → next.variables ≡ k.variables → (ls : List (List ℕ)) → Owned next.locals ls → Opened (names_of g.words ++ g.title ∷ []) w.vs g.title vs ls (w.rs ++ at_line line a ∷ []) → GrownSpelt next (ts ++ vs) (length g.words + cost_of a) (grow line a g)
   goes_on next vs line a i m n c ls owned opened = by (grow line a g) (grow_written line a g w.rs i w.written)
     where
-      by : (r : Grown) → GrownWritten g r (w.rs ++ at_line line a ∷ []) → GrownSpelt next (ts ++ vs) r
-      by (Ok h) e =
-          subst (λ mode. Spelt next h (ts ++ vs) mode) (sym m)
-          (within {ts = ts} {us = vs}
-          (record {
-            vs = w.vs;
-            declares = rw e.1 w.declares;
-            new = rw (e.1, e.2) w.new;
-            entered = rw (e.1, e.2, n) w.entered;
-            counts = c ∙ w.counts;
-            ls = ls;
-            owned = owned;
-            rs = w.rs ++ at_line line a ∷ [];
-            opened = rw (e.1, e.2) opened;
-            written = e.0;
-          }))
+      by : (r : Grown) → GrownWritten g r (w.rs ++ at_line line a ∷ []) → GrownSpelt next (ts ++ vs) (length g.words + cost_of a) r
+      by (Ok h) e = (
+        subst (λ mode. Spelt next h (ts ++ vs) mode) (sym m)
+            (within {ts = ts} {us = vs}
+            (record {
+              vs = w.vs;
+              declares = rw e.1 w.declares;
+              new = rw (e.1, e.2) w.new;
+              entered = rw (e.1, e.2, n) w.entered;
+              counts = c ∙ w.counts;
+              ls = ls;
+              owned = owned;
+              rs = w.rs ++ at_line line a ∷ [];
+              opened = rw (e.1, e.2) opened;
+              written = e.0;
+            })),
+        (let i : length h.words ≡ length g.words = ap length e.1 in omega arith),
+      )
       by (Err r) e = tt
 
   -- a word that says something by itself
@@ -283,21 +302,23 @@ module _ (k : Known) (g : Growth) (ts us : List Token) (w : Within ts us k.names
     structure_next c a row e s m i = says_next line (token.Word name) a m i (subst (λ x. Says (record { words = names_of g.words ++ g.title ∷ []; variables = w.vs; locals = w.ls }) (token.Word x) a) (sym (control_written name c e)) (structural row s))
 
     -- `;`
-    end_next : control_of name ≡ Some control.Semicolon → GrownSpelt (record k { locals = []; mode = mode.Outside }) ((ts ++ us) ++ at line name ∷ []) (end_part line (length k.locals) g g.around)
+    end_next : control_of name ≡ Some control.Semicolon → GrownSpelt (record k { locals = []; mode = mode.Outside }) ((ts ++ us) ++ at line name ∷ []) (length g.words + 1) (end_part line (length k.locals) g g.around)
     end_next e = by g.now g.around w.rs w.written w.opened
       where
-        by : (now : Block) (parts : List Unfinished) (rs : List Reading) → Written now parts rs → Opened (names_of g.words ++ g.title ∷ []) w.vs g.title us w.ls rs → GrownSpelt (record k { locals = []; mode = mode.Outside }) ((ts ++ us) ++ at line name ∷ []) (end_part line (length k.locals) (record g { now = now }) parts)
-        by now parts rs (at_top s) o =
-            between
-            (record {
-              vs = w.vs;
-              declares = rw (append_assoc ts us (at line name ∷ []), control_written name control.Semicolon e, as_many_owned w.owned) (word_defined line w.declares w.new o s);
-              entered = rw (map-append (λ (d : Definition). d.name) g.words (record { name = g.title; offer = Nobody; variables = length k.locals; body = now; last = line } ∷ [])) w.entered;
-              counts = w.counts;
-              empty = refl;
-              now = refl;
-              around = refl;
-            })
+        by : (now : Block) (parts : List Unfinished) (rs : List Reading) → Written now parts rs → Opened (names_of g.words ++ g.title ∷ []) w.vs g.title us w.ls rs → GrownSpelt (record k { locals = []; mode = mode.Outside }) ((ts ++ us) ++ at line name ∷ []) (length g.words + 1) (end_part line (length k.locals) (record g { now = now }) parts)
+        by now parts rs (at_top s) o = (
+          between
+              (record {
+                vs = w.vs;
+                declares = rw (append_assoc ts us (at line name ∷ []), control_written name control.Semicolon e, as_many_owned w.owned) (word_defined line w.declares w.new o s);
+                entered = rw (map-append (λ (d : Definition). d.name) g.words (record { name = g.title; offer = Nobody; variables = length k.locals; body = now; last = line } ∷ [])) w.entered;
+                counts = w.counts;
+                empty = refl;
+                now = refl;
+                around = refl;
+              }),
+          omega (arith, length-append {A = Definition}),
+        )
         by now parts rs (in_if xs ys w s) o = tt
         by now parts rs (in_try xs ys w s) o = tt
         by now parts rs (in_else xs ys zs w s r) o = tt
@@ -311,8 +332,8 @@ module _ (k : Known) (g : Growth) (ts us : List Token) (w : Within ts us k.names
     control_next control.LVar e m = tt
     control_next control.Public e m = tt
     control_next control.WizCall e m = tt
-    control_next control.Var e m = rw (append_assoc ts us (at line name ∷ []), control_written name control.Var e) (own_var line w)
-    control_next control.VarStore e m = rw (append_assoc ts us (at line name ∷ []), control_written name control.VarStore e) (own_store line w)
+    control_next control.Var e m = rw (append_assoc ts us (at line name ∷ []), control_written name control.Var e) (own_var line w, omega arith)
+    control_next control.VarStore e m = rw (append_assoc ts us (at line name ∷ []), control_written name control.VarStore e) (own_store line w, omega arith)
     control_next control.Semicolon e m = end_next e
     control_next control.If e m = structure_next control.If _ 0 e refl m tt
     control_next control.Else e m = structure_next control.Else _ 1 e refl m tt
@@ -359,19 +380,22 @@ module _ (k : Known) (g : Growth) (ts us : List Token) (w : Within ts us k.names
     var_next : (first : ℕ) → ReadSpelt g ((ts ++ (us ++ at first (codes "var") ∷ [])) ++ at line name ∷ []) (and_then (reading.own_variable line name mode.Inside k) (reading.waiting line))
     var_next first =
         goes_own g _ line (name_fault name k) (nat_lt (length k.locals) variables_most) _ (reading.waiting line)
-        (λ e. rw (behind first (codes "var")) (within
-        (record {
-          vs = w.vs;
-          declares = w.declares;
-          new = w.new;
-          entered = w.entered;
-          counts = w.counts;
-          ls = w.ls ++ name ∷ [];
-          owned = own_entered e;
-          rs = w.rs;
-          opened = own_variable first line w.opened (own_free e);
-          written = w.written;
-        })))
+        (λ e. rw (behind first (codes "var")) (
+          within
+              (record {
+                vs = w.vs;
+                declares = w.declares;
+                new = w.new;
+                entered = w.entered;
+                counts = w.counts;
+                ls = w.ls ++ name ∷ [];
+                owned = own_entered e;
+                rs = w.rs;
+                opened = own_variable first line w.opened (own_free e);
+                written = w.written;
+              }),
+          omega arith,
+        ))
 
     store_next : (first : ℕ) → ReadSpelt g ((ts ++ (us ++ at first (codes "var!") ∷ [])) ++ at line name ∷ []) (and_then (reading.own_variable line name mode.Inside k) (reading.storing first))
     store_next first =
@@ -422,8 +446,8 @@ module _ (k : Known) (g : Growth) (ts us : List Token) (first line : ℕ) (h : H
           }
 
       by : (n : ℕ) → n ≡ length h.ls → ReadSpelt g (ts ++ at first (codes ":") ∷ at line (g.title ++ codes "[") ∷ vs) (reading.acts first (reading.binding n) (in_mode mode.Inside k))
-      by zero e = within (begins g.now zero e empty)
-      by (suc n) e = within (begins _ (suc n) e (grow_written first (act.Item (item.Bind (suc n))) g [] tt empty).0)
+      by zero e = (within (begins g.now zero e empty), omega arith)
+      by (suc n) e = (within (begins _ (suc n) e (grow_written first (act.Item (item.Bind (suc n))) g [] tt empty).0), omega arith)
 
   -- a word before `--`
   argument_next : (at_line : ℕ) (name : List ℕ) → ReadSpelt g (head us ++ at at_line name ∷ []) (reading.argument first at_line name k)
@@ -434,29 +458,32 @@ module _ (k : Known) (g : Growth) (ts us : List Token) (first line : ℕ) (h : H
 
       by : (b : Bool) → bytes_eq name (codes "]") ≡ b → (c : Bool) → bytes_eq name (codes "--") ≡ c → ReadSpelt g (head (us ++ at here name ∷ [])) (cond b (reading.header_end first k) (cond c (reading.acts here act.Wait (in_mode (mode.Results first) k)) (and_then (reading.own_variable here name (mode.Heading first) k) (reading.waiting here))))
       by true e c f = header_ends (us ++ at here name ∷ []) (rw ((bytes_eq-Decides name (codes "]")).0 e) (with_arguments first line here h.arguments))
-      by false e true f = rw ((bytes_eq-Decides name (codes "--")).0 f) (results {xs = []} first line here h none_passed)
+      by false e true f = rw ((bytes_eq-Decides name (codes "--")).0 f) (results {xs = []} first line here h none_passed, omega arith)
       by false e false f =
           goes_own g _ here (name_fault name k) (nat_lt (length k.locals) variables_most) _ (reading.waiting here)
-          (λ x. heading first line
-          (record {
-            vs = h.vs;
-            declares = h.declares;
-            new = h.new;
-            entered = h.entered;
-            counts = h.counts;
-            ls = h.ls ++ name ∷ [];
-            owned = rw (owned_last k (names_of g.words ++ g.title ∷ []) h.vs h.ls h.entered h.owned name x (record { 0 = 68 + length k.locals }), as_many_owned h.owned) (local_more name h.owned);
-            arguments = one_argument here h.arguments (free k (names_of g.words ++ g.title ∷ []) h.vs h.ls h.entered h.owned name x) (differs (codes "]") e) (differs (codes "--") f);
-            now = h.now;
-            around = h.around;
-          }))
+          (λ x. (
+            heading first line
+                (record {
+                  vs = h.vs;
+                  declares = h.declares;
+                  new = h.new;
+                  entered = h.entered;
+                  counts = h.counts;
+                  ls = h.ls ++ name ∷ [];
+                  owned = rw (owned_last k (names_of g.words ++ g.title ∷ []) h.vs h.ls h.entered h.owned name x (record { 0 = 68 + length k.locals }), as_many_owned h.owned) (local_more name h.owned);
+                  arguments = one_argument here h.arguments (free k (names_of g.words ++ g.title ∷ []) h.vs h.ls h.entered h.owned name x) (differs (codes "]") e) (differs (codes "--") f);
+                  now = h.now;
+                  around = h.around;
+                }),
+            omega arith,
+          ))
 
   -- a word behind it
   result_next : (mid : ℕ) (xs : List Token) (t : Token) → Passed xs → k.mode ≡ mode.Results first → ReadSpelt g (head (us ++ at mid (codes "--") ∷ xs) ++ t ∷ []) (reading.read_result first t.line t.kind k)
   result_next mid xs t p m = rw (head_more (us ++ at mid (codes "--") ∷ xs) (t ∷ []), append_assoc us (at mid (codes "--") ∷ xs) (t ∷ [])) (by t.kind refl)
     where
       passes : (kind : TokenKind) → t.kind ≡ kind → (kind ≡ token.Word (codes "]") → ⊥) → ReadSpelt g (head (us ++ at mid (codes "--") ∷ (xs ++ t ∷ []))) (reading.acts t.line act.Wait k)
-      passes kind e n = subst (λ mode. Spelt k g (head (us ++ at mid (codes "--") ∷ (xs ++ t ∷ []))) mode) (sym m) (results first line mid h (one_passed t p (λ f. n (sym e ∙ f))))
+      passes kind e n = (subst (λ mode. Spelt k g (head (us ++ at mid (codes "--") ∷ (xs ++ t ∷ []))) mode) (sym m) (results first line mid h (one_passed t p (λ f. n (sym e ∙ f)))), omega arith)
 
       by : (kind : TokenKind) → t.kind ≡ kind → ReadSpelt g (head (us ++ at mid (codes "--") ∷ (xs ++ t ∷ []))) (reading.read_result first t.line kind k)
       by (token.Text bytes) e = passes _ e (λ f. cc)
@@ -529,25 +556,28 @@ read_next k g number t ts m same mode (heading {ts = xs} {us} first line h) = by
     by (token.Ref d) e = tt
     by (token.Address name) e = tt
 
-after_read : (g : Growth) (units : ℕ) (ts : List Token) (r : Read) → ReadSpelt g ts r → DraftSpelt ts (and_then r (λ p. and_then (grow p.1.line p.1.act g) (λ h. and_then (counted p.1.line (cost_of p.1.act) units) (λ n. Ok (record { known = p.0; growth = h; units = n })))))
-after_read g units ts (Err r) h = tt
-after_read g units ts (Ok p) h = by (grow p.1.line p.1.act g) h (counted p.1.line (cost_of p.1.act) units)
-  where
-    by : (m : Grown) → GrownSpelt p.0 ts m → (c : Result ℕ Refusal) → DraftSpelt ts (and_then m (λ h. and_then c (λ n. Ok (record { known = p.0; growth = h; units = n }))))
-    by (Ok h) s (Ok n) = s
-    by (Ok h) s (Err r) = tt
-    by (Err r) s c = tt
+after_count : (k : Known) (g : Growth) (ts : List Token) (line units more : ℕ) → Spelt k g ts k.mode → length g.words ≤ units + more → (b : Bool) → (b ≡ true → units + more ≤ units_most) → DraftSpelt ts (and_then (cond b (Ok (units + more)) (refuse line TooLong)) (λ n. Ok (record { known = k; growth = g; units = n })))
+after_count k g ts line units more s h true l = record { spelt = s; words = h; units = l refl }
+after_count k g ts line units more s h false l = tt
 
--- a draft of these words
-abbrev pub IsSpelt : List Token → Draft → Type 0
-IsSpelt ts d = Spelt d.known d.growth ts d.known.mode
+after_growth : (k : Known) (ts : List Token) (line units more words : ℕ) → words ≤ units → (g : Grown) → GrownSpelt k ts (words + more) g → DraftSpelt ts (and_then g (λ h. and_then (counted line more units) (λ n. Ok (record { known = k; growth = h; units = n }))))
+after_growth k ts line units more words h (Ok g) s = let f = s.1 in after_count k g ts line units more s.0 (omega arith) (nat_le (units + more) units_most) (λ e. leb-true _ _ e)
+after_growth k ts line units more words h (Err r) s = tt
+
+after_read : (g : Growth) (units : ℕ) (ts : List Token) → length g.words ≤ units → (r : Read) → ReadSpelt g ts r → DraftSpelt ts (and_then r (λ p. and_then (grow p.1.line p.1.act g) (λ h. and_then (counted p.1.line (cost_of p.1.act) units) (λ n. Ok (record { known = p.0; growth = h; units = n })))))
+after_read g units ts l (Err r) h = tt
+after_read g units ts l (Ok p) h = after_growth p.0 ts p.1.line units (cost_of p.1.act) (length g.words) l (grow p.1.line p.1.act g) h
 
 pub spelt_step : (t : Token) (ts : List Token) (d : Draft) → IsSpelt ts d → DraftSpelt (ts ++ t ∷ []) (step t d)
 unfolding read
-spelt_step t ts d s = after_read d.growth d.units (ts ++ t ∷ []) _ (read_next d.known d.growth (length d.growth.words) t ts d.known.mode refl refl s)
+spelt_step t ts d s = after_read d.growth d.units (ts ++ t ∷ []) s.words _ (read_next d.known d.growth (length d.growth.words) t ts d.known.mode refl refl s.spelt)
 
 pub spelt_empty : IsSpelt [] empty_draft
-spelt_empty = between (record { vs = []; declares = nothing_declared; entered = no_names; counts = refl; empty = refl; now = refl; around = refl })
+spelt_empty = record {
+  spelt = between (record { vs = []; declares = nothing_declared; entered = no_names; counts = refl; empty = refl; now = refl; around = refl });
+  words = omega arith;
+  units = omega arith;
+}
 
 -- ---- a whole program
 
@@ -576,7 +606,7 @@ finished_written last ts d m (own_var line w) = tt
 finished_written last ts d m (own_store line w) = tt
 
 from_written : (last : ℕ) (ts more : List Token) (d : Draft) → IsSpelt ts d → TreeWritten (ts ++ more) (tree_from last more d)
-from_written last ts [] d s = rw (append-nil ts) (finished_written last ts d d.known.mode s)
+from_written last ts [] d s = rw (append-nil ts) (finished_written last ts d d.known.mode s.spelt)
 from_written last ts (t ∷ more) d s = rw (← append_assoc ts (t ∷ []) more) (by (step t d) (spelt_step t ts d s) (from_written t.line (ts ++ t ∷ []) more))
   where
     by : (r : Result Draft Refusal) → DraftSpelt (ts ++ t ∷ []) r → ((e : Draft) → IsSpelt (ts ++ t ∷ []) e → TreeWritten ((ts ++ t ∷ []) ++ more) (tree_from t.line more e)) → TreeWritten ((ts ++ t ∷ []) ++ more) (and_then r (tree_from t.line more))
