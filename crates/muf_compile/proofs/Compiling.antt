@@ -1,31 +1,27 @@
 -- The pass over the words of a source goes as its tree grows.
-use Rattle.std.proofs.Common.{◌≡◌, ℕ, zero, suc, ◌+◌, ◌<◌, ◌≤◌, List, [], ◌∷◌, ◌++◌, length, Bool, true, false, cond, refl, sym, ap, subst, ◌∙◌, arith, length-append, drop, get_or, add-one, leb-true}
-use Rattle.std.specs.Prelude.{Result, Ok, Err, IfOk, nat_le}
+use Rattle.std.proofs.Common.{◌≡◌, ℕ, zero, suc, ◌+◌, ◌<◌, ◌≤◌, List, [], ◌∷◌, ◌++◌, length, refl, sym, ap, subst, ◌∙◌, arith, drop, get_or, add-one}
+use Rattle.std.specs.Prelude.{Result, Ok, Err, IfOk}
 use Rattle.std.proofs.Math.Seq.{drop-cons}
 use Rattle.muf_model.specs.declared.code.Placed.{Placed}
 use Rattle.muf_model.specs.declared.code.CodeWord.{CodeWord}
 use Rattle.muf_model.specs.declared.code.Code.{Code}
-use Rattle.muf_model.specs.declared.code.Offer.{Offer}
 use Rattle.muf_model.specs.Tree.{if_word, try_word, begin_word, for_word, each_word, stop, Definition, Tree}
 use Rattle.muf_model.specs.Decode as decode
 use Rattle.muf_model.proofs.Unique.{tree_read}
 use Rattle.muf_model.specs.Stands.{WordsStand, InRow, TreeStands}
 use Rattle.muf_token.specs.declared.token.Token.{Token}
-use Rattle.muf_compile.specs.declared.act.Opening.TheVariants as opening
-use Rattle.muf_compile.specs.declared.act.Act.{Act}
-use Rattle.muf_compile.specs.declared.act.Act.TheVariants.{Wait, Title, Item, Jump, Open, Else, Then, Catch, EndCatch, Repeat, Until, End, Offer as offer_act}
 use Rattle.muf_compile.specs.declared.names.Mode.{Mode}
 use Rattle.muf_compile.specs.declared.names.Mode.TheVariants as mode
 use Rattle.muf_compile.specs.declared.hole.Pending.{Pending}
-use Rattle.muf_compile.specs.declared.fault.CompileKind.TheVariants.{NoWord, TooLong}
+use Rattle.muf_compile.specs.declared.fault.CompileKind.TheVariants.{NoWord}
 use Rattle.muf_compile.specs.declared.fault.Refusal.{Refusal}
 use Rattle.muf_compile.specs.declared.fault.CompileFault.{CompileFault}
 use Rattle.muf_compile.specs.declared.fault.CompileFault.TheVariants.{Refused, NoMemory}
 use Rattle.muf_compile.specs.Acts.{cost_of}
-use Rattle.muf_compile.specs.Faults.{refuse, and_then, Leads, Answers}
-use Rattle.muf_compile.specs.Reading.{Known, Read, read}
+use Rattle.muf_compile.specs.Faults.{and_then, Leads, Answers}
+use Rattle.muf_compile.specs.Reading.{Known, Read}
 use Rattle.muf_compile.specs.Growth as growth
-use Rattle.muf_compile.specs.Growth.{Unfinished, first, second, turning, Growth, Grown, grow, counted, units_most, Draft, step, tree_from, finished, finished_in, empty_draft, tree_of}
+use Rattle.muf_compile.specs.Growth.{Unfinished, first, Growth, Grown, grow, counted, units_most, Draft, step, tree_from, finished, finished_in, empty_draft, tree_of}
 use Rattle.muf_compile.specs.Grammar.{IsProgram}
 use Rattle.muf_compile.specs.inner.Built.{Built}
 use Rattle.muf_compile.specs.inner.Build as building

@@ -1,6 +1,6 @@
 -- What is known of names, and which names are in scope.
 use Rattle.std.proofs.Common.{◌≡◌, ℕ, zero, suc, ◌+◌, List, [], ◌∷◌, ◌++◌, length, Bool, true, false, cond, refl, sym, ap, subst, ◌∙◌, length-append}
-use Rattle.std.specs.Prelude.{Option, Some, None, is_some, option_map, slice_get, find, codes}
+use Rattle.std.specs.Prelude.{Option, Some, None, is_some, option_map, find, codes}
 use Rattle.std.specs.Str.{bytes_eq}
 use Rattle.std.specs.Map.{lookup}
 use Rattle.std.proofs.lemmas.Slice.Eq.{bytes_eq-Decides}

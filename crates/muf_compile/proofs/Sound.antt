@@ -1,10 +1,9 @@
 -- The items of a word are written in the acts that they grow from.
-use Rattle.std.proofs.Common.{◌≡◌, ℕ, List, [], ◌∷◌, ◌++◌, Bool, true, false, cond, refl, ap, subst, append_assoc}
+use Rattle.std.proofs.Common.{◌≡◌, ℕ, List, [], ◌∷◌, ◌++◌, Bool, true, false, cond, refl, subst, append_assoc}
 use Rattle.std.specs.Prelude.{Ok, Err}
-use Rattle.std.proofs.lemmas.List.{append-nil}
 use Rattle.muf_model.specs.declared.code.Word.{Word}
 use Rattle.muf_model.specs.declared.code.Word.TheVariants.{NextIndex, NextPair}
-use Rattle.muf_model.specs.Tree.{if_word, try_word, begin_word, for_word, each_word, Block, stop, word, when, fork, ring, then_block, Definition}
+use Rattle.muf_model.specs.Tree.{if_word, try_word, begin_word, for_word, each_word, Block, stop, word, then_block}
 use Rattle.muf_compile.specs.declared.act.Opening.TheVariants as opening
 use Rattle.muf_compile.specs.declared.act.Act.{Act}
 use Rattle.muf_compile.specs.declared.act.Act.TheVariants.{Wait, Title, Item, Jump, Open, Else, Then, Catch, EndCatch, Repeat, Until, End, Offer}
@@ -12,7 +11,7 @@ use Rattle.muf_compile.specs.declared.act.Reading.{Reading}
 use Rattle.muf_compile.specs.declared.fault.CompileKind.TheVariants.{StrayBreak}
 use Rattle.muf_compile.specs.Faults.{refuse}
 use Rattle.muf_compile.specs.Growth as growth
-use Rattle.muf_compile.specs.Growth.{Unfinished, first, second, turning, Growth, Grown, grow, with_part, with_item, in_loop}
+use Rattle.muf_compile.specs.Growth.{Unfinished, first, second, turning, Growth, Grown, grow, with_item, in_loop}
 use Rattle.muf_compile.specs.Spells.{at_line, Spells, nothing, item, jump, if_then, if_else, try_catch, begin_repeat, begin_until, for_repeat, each_repeat}
 
 spells_then : (l : Bool) (a b : Block) (xs ys : List Reading) → Spells l a xs → Spells l b ys → Spells l (then_block a b) (xs ++ ys)

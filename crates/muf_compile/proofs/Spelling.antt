@@ -1,6 +1,6 @@
 -- A source that is read to its end without a fault is written by the rules of the grammar.
-use Rattle.std.proofs.Common.{◌≡◌, ℕ, zero, suc, ◌+◌, ◌<◌, ◌≤◌, List, [], ◌∷◌, ◌++◌, length, Bool, true, false, cond, refl, sym, ap, subst, ◌∙◌, append_assoc, arith, length-append, leb-true}
-use Rattle.std.specs.Prelude.{Option, Some, None, Result, Ok, Err, nat_lt, nat_le, option_map, slice_get, codes, ◌==◌}
+use Rattle.std.proofs.Common.{◌≡◌, ℕ, zero, suc, ◌+◌, ◌≤◌, List, [], ◌∷◌, ◌++◌, length, Bool, true, false, cond, refl, sym, ap, subst, ◌∙◌, append_assoc, arith, length-append, leb-true}
+use Rattle.std.specs.Prelude.{Option, Some, None, Result, Ok, Err, nat_lt, nat_le, option_map, slice_get, codes}
 use Rattle.std.specs.Str.{bytes_eq}
 use Rattle.std.proofs.lemmas.Slice.Eq.{bytes_eq-Decides}
 use Rattle.indexmap.specs.IndexMap.{insert_entry}
@@ -14,7 +14,6 @@ use Rattle.muf_model.specs.Tree.{Block, stop, Definition, Tree}
 use Rattle.muf_token.specs.declared.token.Token.{Token}
 use Rattle.muf_token.specs.declared.token.TokenKind.{TokenKind}
 use Rattle.muf_token.specs.declared.token.TokenKind.TheVariants as token
-use Rattle.muf_compile.specs.declared.act.Opening.TheVariants as opening
 use Rattle.muf_compile.specs.declared.act.Act.{Act}
 use Rattle.muf_compile.specs.declared.act.Act.TheVariants as act
 use Rattle.muf_compile.specs.declared.act.Reading.{Reading}
@@ -34,9 +33,9 @@ use Rattle.muf_compile.specs.Faults.{refuse, and_then}
 use Rattle.muf_compile.specs.Names.{control_of}
 use Rattle.muf_compile.specs.Reading as reading
 use Rattle.muf_compile.specs.Reading.{Known, Read, read, read_in, in_mode, unless, name_fault, word_of, number_of, usable, may_use, before_bracket, variables_most, is_unfit}
-use Rattle.muf_compile.specs.Growth.{Unfinished, Growth, Grown, grow, counted, units_most, end_part, offered_in, Draft, step, tree_of, tree_from, whole_tree, finished, finished_in, empty_draft}
-use Rattle.muf_compile.specs.Spells.{at_line, Spells, nothing}
-use Rattle.muf_compile.specs.Grammar.{Scope, IsNth, IsFree, structure, Says, text, integer, object, address, structural, named, at, Arguments, no_arguments, one_argument, Passed, none_passed, one_passed, bindings, Header, bare, with_arguments, with_results, Opened, begun, says, own_variable, stored_variable, names_of, outside, Declares, nothing_declared, shared_variable, local_variable, offered_to_all, offered_to_wizards, word_defined, IsProgram}
+use Rattle.muf_compile.specs.Growth.{Unfinished, Growth, Grown, grow, counted, units_most, end_part, offered_in, Draft, step, tree_of, tree_from, whole_tree, finished_in, empty_draft}
+use Rattle.muf_compile.specs.Spells.{at_line, nothing}
+use Rattle.muf_compile.specs.Grammar.{IsNth, IsFree, structure, Says, text, integer, object, address, structural, named, at, Arguments, no_arguments, one_argument, Passed, none_passed, one_passed, bindings, Header, bare, with_arguments, with_results, Opened, begun, says, own_variable, stored_variable, names_of, outside, Declares, nothing_declared, shared_variable, local_variable, offered_to_all, offered_to_wizards, word_defined, IsProgram}
 use Rattle.muf_compile.proofs.Scopes.{Entered, no_names, word_more, variable_more, Owned, no_locals, local_more, as_many_owned, named_by, free, entered_last, owned_last, numbered_by, control_written, written_as}
 use Rattle.muf_compile.proofs.Sound.{Written, at_top, in_if, in_try, in_else, in_catch, in_begin, in_for, in_each, GrownWritten, IsInside, grow_written}
 use Rattle.muf_compile.proofs.Titles.{bracket_yes, bracket_found}

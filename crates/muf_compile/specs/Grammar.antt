@@ -1,6 +1,6 @@
 -- How a program is written: its declarations one behind the other, the rules of a header, and what each word of a source
 -- says by itself, wherever it stands.
-use Rattle.std.specs.Prelude.{◌≡◌, ℕ, zero, suc, ◌+◌, ◌<◌, false, true, List, [], ◌∷◌, ◌++◌, length, map, Option, Some, slice_get, ℤ, codes}
+use Rattle.std.specs.Prelude.{◌≡◌, ℕ, zero, suc, ◌+◌, ◌<◌, false, true, List, [], ◌∷◌, ◌++◌, length, map, Some, slice_get, ℤ, codes}
 use Rattle.muck_model.specs.declared.dbref.Dbref.{Dbref}
 use Rattle.muf_model.specs.declared.code.Offer.TheVariants.{Nobody, Wizards, All}
 use Rattle.muf_model.specs.declared.code.Literal.TheVariants as literal
