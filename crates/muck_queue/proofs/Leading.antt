@@ -1,6 +1,6 @@
 -- The earliest is one of those that pass, and none of them is before it.
-use Rattle.std.proofs.Common.{◌≡◌, ◌⊎◌, ℕ, ℤ, Bool, true, false, List, [], ◌∷◌, Option, Some, None, inl, inr, arith, refl, sym, ◌∙◌, subst}
-use Rattle.std.specs.Prelude.{nat_lt, ◌||◌, ◌&&◌, ◌==◌, int_lt, cond}
+use Rattle.std.proofs.Common.{◌≡◌, ◌⊎◌, ℕ, ℤ, Bool, true, false, List, [], ◌∷◌, Option, Some, None, inl, inr, arith, refl, sym, subst}
+use Rattle.std.specs.Prelude.{nat_lt, ◌||◌, ◌&&◌, ◌==◌, int_lt}
 use Rattle.std.specs.Option.{option_map}
 use Rattle.std.specs.List.{filter, fold, reduce}
 use Rattle.std.proofs.lemmas.Bool.{cond_both, cond-true, cond-false}
