@@ -45,7 +45,7 @@ use Rattle.spec_events.specs.Endings.{ProcessesLicensed, NoProcess, Lapsed, MayE
 use Rattle.spec_events.specs.Licences.{Untouched, Undisturbed, LineLicensed, TurnLicensed}
 use Rattle.spec_events.proofs.Quietly.{Quietly, quietly_live, quietly_swept, quietly_launched, quietly_compiled}
 use Rattle.spec_events.proofs.Told.{told_at, licensed_told, licensed_as}
-use Rattle.spec_events.proofs.Endings.{Lasting, lasting_same, lasting_both, lasting_settled, lasting_up, lasting_after, runs_in, Told, IsTold, told_settled, processes_remain}
+use Rattle.spec_events.proofs.Endings.{Lasting, lasting_same, lasting_both, lasting_settled, lasting_up, lasting_after, runs_in, Tells, IsTold, told_settled, processes_remain}
 
 -- what an actor may do to a world that is one already: the changes are open, and it is as dead as before
 record Open (a : Actor) (free : Freedom) (start : Live) (dead : Bool) (v : World) : Type 0 where
@@ -229,7 +229,7 @@ ends_in_world d player line lines w own told =
     let x : World = record u { live = r.0 } in
     let v : World = followed_up d player r.1 (settled x) in
     let marks : SameMarks (judge a free w.live.objects) w.live.objects r.0.objects = (((waited_open a d lines line).law w.live).law own tt).marks in
-    let cut : Told (Cut w.live v.live) 0 x.live.objects = λ k m e t f. (
+    let cut : Tells (Cut w.live v.live) x.live.objects = λ k m e t f. (
       dbref_of k,
       f,
       lapsed_as (dbref_of k) w.live r.0 v.live (ap (object_at (dbref_of k)) (objects_up d player r.1 (settled x)) ∙ objects_settled (dbref_of k) x)
@@ -247,7 +247,7 @@ ends_edited d player s line lines w told =
     let x : World = record u { live = with_editor d (next_editor r.2 r.1) r.0 } in
     let v : World = after_edit d s.program r.2 (settled x) in
     let seen : (k : ℕ) → object_at (dbref_of k) v.live.objects ≡ object_at (dbref_of k) r.0.objects = λ k. ap (object_at (dbref_of k)) (objects_after d s.program r.2 (settled x)) ∙ objects_settled (dbref_of k) x in
-    let cut : Told (Cut w.live v.live) 0 x.live.objects = λ k m e t f. (
+    let cut : Tells (Cut w.live v.live) x.live.objects = λ k m e t f. (
       dbref_of k,
       f,
       lapsed_as (dbref_of k) w.live r.0 v.live (seen k) (elim (((edited_rewrites d a s line).law u.live).marks k) [

@@ -1,6 +1,6 @@
 -- Processes end only where a program on their call stack is gone, or its source is another.
-use Rattle.std.proofs.Common.{◌≡◌, ℕ, ℤ, zero, suc, Bool, true, false, cond, List, [], ◌∷◌, ◌++◌, refl, sym, ◌∙◌, ap, subst, Option, Some, None, inl, inr, arith}
-use Rattle.std.specs.Prelude.{◌⊎◌, ◌+◌, map, find, not, slice_get, pos}
+use Rattle.std.proofs.Common.{◌≡◌, ℕ, ℤ, suc, Bool, true, false, cond, List, [], ◌∷◌, ◌++◌, refl, sym, ◌∙◌, ap, subst, Option, Some, None, inl, inr, arith}
+use Rattle.std.specs.Prelude.{◌⊎◌, ◌+◌, map, find, not, slice_get}
 use Rattle.std.specs.Option.{option_map, option_map_or, option_and_then}
 use Rattle.std.specs.List.{list_any}
 use Rattle.std.specs.Ordering.{int_eq}
@@ -69,33 +69,33 @@ lasting_both may q r s g h pid = lasts_both may (process pid q) (process pid r) 
 -- Queues.
 
 -- Where it was there, a process is as it was, or might end.
-abbrev Left : (Process → Type 0) → Option Process → Option Process → Type 0
-Left Ends None q = Unit {0}
-Left Ends (Some p) None = Ends p
-Left Ends (Some p) (Some q) = (q ≡ p) ⊎ Ends p
+abbrev Stands : (Process → Type 0) → Option Process → Option Process → Type 0
+Stands Ends None q = Unit {0}
+Stands Ends (Some p) None = Ends p
+Stands Ends (Some p) (Some q) = (q ≡ p) ⊎ Ends p
 
-left_by : (Ends : Process → Type 0) (p : Process) (q : Option Process) → Ends p → Left Ends (Some p) q
+left_by : (Ends : Process → Type 0) (p : Process) (q : Option Process) → Ends p → Stands Ends (Some p) q
 left_by Ends p None m = m
 left_by Ends p (Some q) m = inr m
 
 left_without : (Ends : Process → Type 0) (test : Process → Bool) → ((p : Process) → test p ≡ true → Ends p) → (pid : ℤ) (ps : List Process) →
-    Left Ends (find (has_pid pid) ps) (find (has_pid pid) (without_all test ps))
+    Stands Ends (find (has_pid pid) ps) (find (has_pid pid) (without_all test ps))
 left_without Ends test h pid [] = tt
 left_without Ends test h pid (p ∷ ps) = at (left_without Ends test h pid ps) (test p) refl
   where
-    kept : Left Ends (find (has_pid pid) ps) (find (has_pid pid) (without_all test ps)) → (b : Bool) → Left Ends (cond b (Some p) (find (has_pid pid) ps)) (cond b (Some p) (find (has_pid pid) (without_all test ps)))
+    kept : Stands Ends (find (has_pid pid) ps) (find (has_pid pid) (without_all test ps)) → (b : Bool) → Stands Ends (cond b (Some p) (find (has_pid pid) ps)) (cond b (Some p) (find (has_pid pid) (without_all test ps)))
     kept r true = inl refl
     kept r false = r
 
-    lost : Left Ends (find (has_pid pid) ps) (find (has_pid pid) (without_all test ps)) → test p ≡ true → (b : Bool) → Left Ends (cond b (Some p) (find (has_pid pid) ps)) (find (has_pid pid) (without_all test ps))
+    lost : Stands Ends (find (has_pid pid) ps) (find (has_pid pid) (without_all test ps)) → test p ≡ true → (b : Bool) → Stands Ends (cond b (Some p) (find (has_pid pid) ps)) (find (has_pid pid) (without_all test ps))
     lost r e true = left_by Ends p _ (h p e)
     lost r e false = r
 
-    at : Left Ends (find (has_pid pid) ps) (find (has_pid pid) (without_all test ps)) → (c : Bool) → test p ≡ c → Left Ends (cond (has_pid pid p) (Some p) (find (has_pid pid) ps)) (find (has_pid pid) (cond (not c) (p ∷ without_all test ps) (without_all test ps)))
+    at : Stands Ends (find (has_pid pid) ps) (find (has_pid pid) (without_all test ps)) → (c : Bool) → test p ≡ c → Stands Ends (cond (has_pid pid p) (Some p) (find (has_pid pid) ps)) (find (has_pid pid) (cond (not c) (p ∷ without_all test ps) (without_all test ps)))
     at r true e = lost r e (has_pid pid p)
     at r false e = kept r (has_pid pid p)
 
-left_lasts : (may : Source → Type 0) (o q : Option Process) → Left (λ p. may p.running) o q → Lasts may o q
+left_lasts : (may : Source → Type 0) (o q : Option Process) → Stands (λ p. may p.running) o q → Lasts may o q
 left_lasts may None q g = tt
 left_lasts may (Some p) None g = g
 left_lasts may (Some p) (Some q) (inl e) = inl (ap (λ (r : Process). r.running) e)
@@ -168,7 +168,7 @@ lasting_marked may None d w h = lasting_same may w.queue
 lasting_marked may (Some m) d w h = lasting_followed may m d w (h m refl)
 
 -- what a mark at a number lets end
-abbrev pub Told : (Source → Type 0) → ℕ → List Entry → Type 0
+abbrev Told : (Source → Type 0) → ℕ → List Entry → Type 0
 Told may n es = (k : ℕ) (m : Mark) → mark_in es k ≡ Some m → (s : Source) → runs_in (dbref_of (n + k)) s ≡ true → may s
 
 told_first : (may : Source → Type 0) (e : Entry) (es : List Entry) (n : ℕ) → Told may n (e ∷ es) → (m : Mark) → e.mark ≡ Some m → (s : Source) → runs_in (dbref_of n) s ≡ true → may s
@@ -192,9 +192,16 @@ lasting_swept may n (e ∷ es) w h =
     let u : World = option_map_or (λ m. followed m (dbref_of n) w) e.mark w in
     lasting_both may w.queue u.queue (swept (suc n) es u).queue (lasting_marked may e.mark (dbref_of n) w (told_first may e es n h)) (lasting_swept may (suc n) es u (told_rest may e es n h))
 
-pub lasting_settled : (may : Source → Type 0) (w : World) → Told may 0 w.live.objects → Lasting may w.queue (settled w).queue
+-- the same from the first number on
+abbrev pub Tells : (Source → Type 0) → List Entry → Type 0
+Tells may es = (k : ℕ) (m : Mark) → mark_in es k ≡ Some m → (s : Source) → runs_in (dbref_of k) s ≡ true → may s
+
+pub lasting_settled : (may : Source → Type 0) (w : World) → Tells may w.live.objects → Lasting may w.queue (settled w).queue
 unfolding settled
-lasting_settled may w h = lasting_swept may 0 w.live.objects w h
+lasting_settled may w h = lasting_swept may 0 w.live.objects w (λ k m e s r. h k m e s (ap (λ i. runs_in (dbref_of i) s) (first k) ∙ r))
+  where
+    first : (k : ℕ) → k ≡ 0 + k
+    first k = omega arith
 
 -- nothing is to be told any more
 abbrev pub IsTold : Live → Type 0
@@ -268,7 +275,7 @@ remains may Ends h (Some p) (Some q) g = tt
 pub processes_remain : (may : Source → Type 0) (Ends : Process → Type 0) (w v : World) → ((p : Process) → may p.running → Ends p) → Lasting may w.queue v.queue → ProcessesLicensed Ends w v
 processes_remain may Ends w v h g pid = remains may Ends h (process pid w.queue) (process pid v.queue) (g pid)
 
-left_remains : (Ends : Process → Type 0) (o q : Option Process) → Left Ends o q → Remains Ends o q
+left_remains : (Ends : Process → Type 0) (o q : Option Process) → Stands Ends o q → Remains Ends o q
 left_remains Ends None None g = tt
 left_remains Ends None (Some q) g = tt
 left_remains Ends (Some p) None g = g
@@ -277,4 +284,6 @@ left_remains Ends (Some p) (Some q) g = tt
 -- those that are tied to a connection may end with it
 pub tied_remain : (d : ℕ) (q : Queue) (pid : ℤ) → Remains (λ p. is_tied_to d p ≡ true) (process pid q) (process pid (ended_tied d q))
 unfolding ended_tied
-tied_remain d q pid = left_remains _ _ _ (left_without (λ p. is_tied_to d p ≡ true) (is_tied_to d) (λ p e. e) pid q.processes)
+tied_remain d q pid =
+    left_remains (λ p. is_tied_to d p ≡ true) (find (has_pid pid) q.processes) (find (has_pid pid) (without_all (is_tied_to d) q.processes))
+    (left_without (λ p. is_tied_to d p ≡ true) (is_tied_to d) (λ p e. e) pid q.processes)
