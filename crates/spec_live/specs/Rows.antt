@@ -1,7 +1,6 @@
 -- Worked examples, which the checker computes.
 use Rattle.std.specs.Prelude.{◌≡◌, ℕ, true, false, List, [], ◌∷◌, ◌++◌, refl, codes, Option, Some, None, Ok, Err, replicate}
 use Rattle.std.specs.Option.{option_map}
-use Rattle.std.specs.FinMap as map
 use Rattle.muck_model.specs.declared.dbref.Dbref.{Dbref}
 use Rattle.muck_model.specs.declared.dbref.Kind.{Kind}
 use Rattle.muck_model.specs.declared.dbref.Kind.TheVariants.{Room, Thing, Exit, Player, Program, Garbage}
@@ -9,7 +8,7 @@ use Rattle.spec_live.specs.declared.object.Object.{Object}
 use Rattle.spec_live.specs.declared.fault.DbFault.TheVariants.{NoSuchObject, WouldLoop, WrongKind}
 use Rattle.spec_live.specs.Flags.{no_flags, vehicle}
 use Rattle.spec_live.specs.Chain.{walk, has, without}
-use Rattle.spec_live.specs.Objects.{Entry, dbref_of, nothing, object_in, list_in, kind_in, place_in, path_in, fits_in, flags_in, is_vehicle_in, number_in, owner_in, home_in, changed_at, garbage}
+use Rattle.spec_live.specs.Objects.{Entry, dbref_of, nothing, object_in, list_in, kind_in, place_in, path_in, fits_in, flags_in, is_vehicle_in, number_in, owner_in, home_in, changed_at, plain, garbage}
 use Rattle.spec_live.specs.Moving.{moved, judged, move_check}
 use Rattle.spec_live.specs.Making.{free_in, objects_most, may_make, make_judged, owner_judged, create_check}
 use Rattle.spec_live.specs.Setting.{checked, holds_player, keeps_seats, flags_check}
@@ -21,19 +20,7 @@ use Rattle.spec_live.specs.Output.{Output, notice, lines_bytes, sent_lines, queu
 
 -- what `#1` owns, in that place, with this home and this link
 abbrev pub made : Kind → Dbref → Dbref → Dbref → Object
-made kind place home link = record {
-  kind = kind;
-  name = codes "it";
-  owner = dbref_of 1;
-  place = place;
-  link = link;
-  home = home;
-  flags = no_flags;
-  level = 0;
-  props = map.empty;
-  lines = [];
-  digest = [];
-}
+made kind place home link = record (plain kind (codes "it") (dbref_of 1)) { place = place; home = home; link = link }
 
 abbrev pub owned_by : ℕ → Object → Object
 owned_by n o = record o { owner = dbref_of n }

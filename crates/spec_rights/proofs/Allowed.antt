@@ -22,8 +22,9 @@ use Rattle.spec_rights.specs.declared.act.Act.TheVariants.{Write, Move, Take, Li
 use Rattle.spec_rights.specs.declared.rule.Rule.{Rule}
 use Rattle.spec_rights.specs.declared.rule.Rule.TheVariants.{P3, P4, P6, P7, P8, P9, P10, P11, P12, P13, P14, P15, P16, P17, P18, P19, P20, P21, P22}
 use Rattle.spec_rights.specs.Levels.{level_at, is_player_at, flag_at}
-use Rattle.spec_rights.specs.Worth.{opens_at}
-use Rattle.spec_rights.specs.Verdict.{verdict, place_of, below, or_else, denial, when, is_master, controls, controls_or, open_place, open_target, is_program_at, may_take_over, may_build, is_hidden, is_kept, is_guarded, is_plain}
+use Rattle.spec_live.specs.Worth.{opens_at}
+use Rattle.spec_rights.specs.inner.Numbers.{denial}
+use Rattle.spec_rights.specs.Verdict.{verdict, place_of, below, or_else, when, is_master, controls, controls_or, open_place, open_target, is_program_at, may_take_over, may_build, is_hidden, is_kept, is_guarded, is_plain}
 use Rattle.spec_rights.specs.Licence.{Freedom, Judge, name_open, property_open, place_open, link_open, home_open, level_open, level_open_to, lines_open, owner_open, home_of, kind_of}
 use Rattle.spec_rights.proofs.Rights.{SameRights, same_level, same_home, same_flag, same_player, same_program, same_controls, same_controls_or, same_take_over}
 use Rattle.spec_rights.proofs.Licences.{judge}
