@@ -7,29 +7,29 @@ use Rattle.std.proofs.lemmas.Bool.{cases_eq, or_right}
 use Rattle.std.proofs.lemmas.Bool.Decides.{nat_tests}
 use Rattle.muck_model.specs.declared.dbref.Dbref.{Dbref}
 use Rattle.muck_model.specs.declared.dbref.Kind.{Kind}
-use Rattle.muck_model.specs.declared.dbref.Kind.TheVariants.{Room, Thing, Exit, Program}
+use Rattle.muck_model.specs.declared.dbref.Kind.TheVariants.{Room, Thing, Exit, Player, Program}
 use Rattle.spec_live.specs.declared.object.Object.{Object}
 use Rattle.spec_live.specs.Flags.{builder, jump, link}
 use Rattle.spec_live.specs.Objects.{Entry, dbref_of, nothing, home, same, is_garbage, object_in, list_in, number_in, object_at, changed_at, with_object, garbage}
 use Rattle.spec_live.specs.Moving.{moved, with_place}
 use Rattle.spec_live.specs.Making.{free_in, blank_entry, grown, new_object, created, may_make, make_judged, objects_most, owner_judged, create_check}
 use Rattle.spec_live.specs.declared.fault.DbFault.TheVariants.{NoSuchObject, WrongKind, WorldFull}
-use Rattle.spec_live.specs.Setting.{set_at, with_home, with_link, with_level}
+use Rattle.spec_live.specs.Setting.{set_at, with_home, with_link, with_level, with_password}
 use Rattle.spec_live.specs.Lives.{Live}
 use Rattle.spec_live.proofs.Lists.{get_changed_same, read_more}
 use Rattle.spec_live.proofs.Readers.{object_changed, object_unchanged, object_elsewhere, object_moved, object_unmoved, list_changed, list_named}
 use Rattle.spec_live.proofs.CreationLaws.{list_more}
 use Rattle.spec_rights.specs.declared.act.Actor.{Actor}
-use Rattle.spec_rights.specs.declared.act.Act.TheVariants.{NewRoom, NewThing, NewExit, NewProgram}
+use Rattle.spec_rights.specs.declared.act.Act.TheVariants.{NewRoom, NewThing, NewExit, NewProgram, Wizard}
 use Rattle.spec_rights.specs.Levels.{level_at, flag_at}
-use Rattle.spec_rights.specs.Verdict.{verdict, controls, controls_or}
+use Rattle.spec_rights.specs.Verdict.{verdict, is_master, controls, controls_or}
 use Rattle.spec_rights.specs.Changing.{created_so}
 use Rattle.spec_rights.specs.Licence.{Judge, IsNew, Differs, Reordered, as_before, front_open, SameLists, place_open}
 use Rattle.spec_rights.proofs.Lookups.{alive, seen_at, number_is}
 use Rattle.spec_rights.proofs.Listing.{reordered_moved}
 use Rattle.spec_rights.proofs.Rights.{SameRights, same_level}
 use Rattle.spec_rights.proofs.Licences.{judge, changed_same, End}
-use Rattle.spec_rights.proofs.Allowed.{room_allowed, thing_allowed, exit_allowed, program_allowed}
+use Rattle.spec_rights.proofs.Allowed.{room_allowed, thing_allowed, exit_allowed, program_allowed, wizard_allowed}
 use Rattle.spec_rights.proofs.Changes.{end_objects}
 
 -- Nothing is there at the free number.
@@ -197,6 +197,10 @@ program_new : (a : Actor) (free : Dbref → Bool) (start : List Entry) (name : L
 unfolding new_object
 program_new a free start name level k t b h = record { kind = and_three _ _ _ (same_eq a.user a.user refl) b h; flags = refl; link = refl }
 
+player_new : (a : Actor) (free : Dbref → Bool) (start : List Entry) (name : List ℕ) (owner : Dbref) (salt : ℕ) (word : List ℕ) (k t : ℕ) → is_master a ≡ true → IsNew (judge a free start) (dbref_of k) (new_in Player name owner (with_password salt word) k t)
+unfolding new_object
+player_new a free start name owner salt word k t h = record { kind = and_three _ _ _ h refl (same_eq (dbref_of k) (dbref_of k) refl); flags = refl; link = refl }
+
 -- What is new by an act that is allowed.
 
 pub room_open : (a : Actor) (free : Dbref → Bool) (start es : List Entry) (name : List ℕ) (place : Dbref) (k t : ℕ) → SameRights start es → verdict es a (NewRoom place) ≡ None → place ≡ dbref_of t → IsNew (judge a free start) (dbref_of k) (new_in Room name a.user (λ o. o) k t)
@@ -219,3 +223,6 @@ pub program_open : (a : Actor) (free : Dbref → Bool) (start es : List Entry) (
 program_open a free start es name level k t s g e =
     let h : nat_le (min (level_at es a.user) 3) (level_at start a.user) ≡ true = at_most (level_at es a.user) (level_at start a.user) (sym (same_level a.user start es s)) in
     program_new a free start name level k t (program_allowed a start es s g) (ap (λ n. nat_le n (level_at start a.user)) e ∙ h)
+
+pub player_open : (a : Actor) (free : Dbref → Bool) (start es : List Entry) (name : List ℕ) (owner : Dbref) (salt : ℕ) (word : List ℕ) (k t : ℕ) → verdict es a Wizard ≡ None → IsNew (judge a free start) (dbref_of k) (new_in Player name owner (with_password salt word) k t)
+player_open a free start es name owner salt word k t g = player_new a free start name owner salt word k t (wizard_allowed es a g)
