@@ -17,6 +17,7 @@ use Rattle.muf_token.specs.declared.fault.Refusal.{Refusal as ReadRefusal}
 use Rattle.muf_token.specs.declared.includes.Definition.{Definition}
 use Rattle.muf_token.specs.Source.{words}
 use Rattle.muf_compile.specs.declared.fault.Refusal.{Refusal as CompileRefusal}
+use Rattle.muf_compile.specs.Grammar.{IsProgram}
 use Rattle.muf_compile.specs.Growth.{tree_of}
 use Rattle.muck_library.specs.declared.flaw.Flaw.{Flaw}
 use Rattle.muck_library.specs.declared.flaw.BuildFault.{BuildFault}
@@ -64,3 +65,7 @@ abbrev pub IsBuilt : Result Tree Flaw → Result Code BuildFault → Type 0
 IsBuilt tree (Ok code) = (tree ≡ Ok (decode.tree_of code)) × TreeStands code (decode.tree_of code)
 IsBuilt tree (Err (Refused flaw)) = tree ≡ Err flaw
 IsBuilt tree (Err NoMemory) = Unit {0}
+
+-- the tree of the code is written in the words of the source by the rules of the grammar
+abbrev pub IsWritten : List Entry → Dbref → Code → Type 0
+IsWritten es d code = (tokens : List Token) × (words (lent_in es) (source_in es d) ≡ Ok tokens) × IsProgram tokens (decode.tree_of code)

@@ -127,6 +127,10 @@ pub list_elsewhere : (v : Bool) (n k : ℕ) (f : Entry → Entry) (es : List Ent
 unfolding list_in
 list_elsewhere v n k f es ne = rw (get_changed_other es n k f ne) refl
 
+pub mark_elsewhere : (n k : ℕ) (f : Entry → Entry) (es : List Entry) → (k ≡ n → ⊥) → mark_in (changed_at n f es) k ≡ mark_in es k
+unfolding mark_in
+mark_elsewhere n k f es ne = rw (get_changed_other es n k f ne) refl
+
 -- A change of one object.
 
 pub object_changed : (n : ℕ) (f : Object → Object) (es : List Entry) → object_in (changed_at n (on_object f) es) n ≡ option_map f (object_in es n)
