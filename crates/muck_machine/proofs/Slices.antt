@@ -4,7 +4,7 @@ use Rattle.std.specs.Prelude.{ℤ, pos, negsuc, codes}
 use Rattle.muf_model.specs.declared.fault.MufFault.{MufFault}
 use Rattle.muf_model.specs.declared.prims.Primitive.{Primitive as Name}
 use Rattle.muf_model.specs.Source.{Source}
-use Rattle.muf_model.specs.Unit.{Outcome, goes, ended, faulted, asks, unit, units, and_then, fault}
+use Rattle.muf_model.specs.Unit.{Outcome, goes, ended, faulted, asks, stuck, unit, units, and_then, fault}
 use Rattle.muf_model.specs.Chains.{Deed, does, fails, over, broke, chain, chained, raised, after_deed, resumed, count, taken, programs_of, Keeps, StandsAt}
 use Rattle.muf_model.proofs.Chains.{units_keep, taken_most, taken_some, run_law}
 use Rattle.muf_running.specs.declared.stint.Ran.{Ran}
@@ -37,6 +37,7 @@ counted_before : (m : ℕ) (o : Outcome) (p : Name) (t : Source) → ((u : Sourc
 counted_before m (goes zero u) p t h e = (let l = h u e in omega arith)
 counted_before m (goes (suc k) u) p t h e = absurd cc
 counted_before m ended p t h e = absurd cc
+counted_before m stuck p t h e = absurd cc
 counted_before m (faulted f) p t h e = absurd cc
 counted_before m (asks q u) p t h e = omega arith
 
@@ -56,6 +57,7 @@ module _ {W : Type 0} (deed : Name → Source → W → Deed W) where
       let most : taken n s ≤ n = taken_most n s in
       (omega arith, resumed_as n s w (goes k u) e ∙ ap (λ x. chain deed (n - taken n s) x w) (sym h))
   going_by n s t w ended l h e = absurd h
+  going_by n s t w stuck l h e = absurd h
   going_by n s t w (faulted f) l h e = absurd h
   going_by n s t w (asks p u) l h e = absurd h
 
@@ -67,6 +69,7 @@ module _ {W : Type 0} (deed : Name → Source → W → Deed W) where
     by : (o : Outcome) → RanAlike Ended o → units n s ≡ o → chain deed n s w ≡ (w, over)
     by ended h e = resumed_as n s w ended e
     by (goes k u) h e = absurd h
+    by stuck h e = absurd h
     by (faulted f) h e = absurd h
     by (asks p u) h e = absurd h
 
@@ -76,6 +79,7 @@ module _ {W : Type 0} (deed : Name → Source → W → Deed W) where
     by (faulted g) h e = resumed_as n s w (faulted g) e ∙ ap (λ x. (w, broke s.program.number x)) (sym h)
     by ended h e = absurd h
     by (goes k u) h e = absurd h
+    by stuck h e = absurd h
     by (asks p u) h e = absurd h
 
   -- where a shared primitive is asked for, a unit is left for it
@@ -88,6 +92,7 @@ module _ {W : Type 0} (deed : Name → Source → W → Deed W) where
         resumed_as n s w (asks q u) e ∙ ap (λ x. chain deed (n - taken n s) x w) (sym h.1) ∙ ap (λ m. chain deed m t w) left
     by ended h e = absurd h
     by (goes k u) h e = absurd h
+    by stuck h e = absurd h
     by (faulted f) h e = absurd h
 
   -- a shared primitive at which the process stands is the next unit
@@ -120,6 +125,7 @@ stands_by n s t p h = by (units n s) h (units_keep n s) where
   by (asks q u) h k = subst (λ q. StandsAt q t) (sym h.0) (subst (λ u. StandsAt q u) (sym h.1) k.1)
   by ended h k = absurd h
   by (goes j u) h k = absurd h
+  by stuck h k = absurd h
   by (faulted f) h k = absurd h
 
 pub stands_so : (n : ℕ) (s t : Source) (p : Name) (ran : Ran) → RanAlike ran (units n s) → ran ≡ Asking p t → StandsAt p t
@@ -131,6 +137,7 @@ fewer_by n s t p h = by (units n s) h refl where
   by (asks q u) h e = asked_before n s q u e
   by ended h e = absurd h
   by (goes j u) h e = absurd h
+  by stuck h e = absurd h
   by (faulted f) h e = absurd h
 
 pub fewer_so : (n u : ℕ) (s t : Source) (p : Name) (ran : Ran) → RanAlike ran (units n s) → ran ≡ Asking p t → u ≡ taken n s → u < n

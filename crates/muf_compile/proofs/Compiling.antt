@@ -7,6 +7,7 @@ use Rattle.muf_model.specs.declared.code.CodeWord.{CodeWord}
 use Rattle.muf_model.specs.declared.code.Code.{Code}
 use Rattle.muf_model.specs.Tree.{if_word, try_word, begin_word, for_word, each_word, stop, Definition, Tree}
 use Rattle.muf_model.specs.Decode as decode
+use Rattle.muf_model.specs.Nesting.{NestedWords}
 use Rattle.muf_model.proofs.Unique.{tree_read}
 use Rattle.muf_model.specs.Stands.{WordsStand, InRow, TreeStands}
 use Rattle.muf_token.specs.declared.token.Token.{Token}
@@ -29,6 +30,7 @@ use Rattle.muf_compile.specs.inner.Build.{Made, build}
 use Rattle.muf_compile.specs.inner.Fits.{From, OpensFit, outermost, in_first, in_second, in_turn, BuiltFits, MadeAlike, IsCode}
 use Rattle.muf_compile.specs.inner.Compiled.{Compiled, compiled_step, compiled_end, whole_code, nothing_compiled}
 use Rattle.muf_compile.proofs.Growing.{growing}
+use Rattle.muf_compile.proofs.Nesting.{declared_nested}
 use Rattle.muf_compile.proofs.Spelling.{Spelt, between, DraftSpelt, IsSpelt, spelt_step, spelt_empty, TreeWritten, tree_written}
 
 -- what is compiled so far stands for a draft
@@ -129,11 +131,11 @@ EndAlike (Err r) (Err s) = r ≡ s
 EndAlike (Ok code) (Err s) = ⊥
 EndAlike (Err r) (Ok tree) = ⊥
 
-whole_alike : (last n : ℕ) (code : List Placed) (ws : List CodeWord) (ds : List Definition) → WordsStand code ws ds → InRow code 0 ws ds (length code) → EndAlike (whole_code last n code ws) (growth.whole_tree last n ds)
-whole_alike last n code [] [] h r = refl
-whole_alike last n code (w ∷ ws) (d ∷ ds) h r = record { variables = refl; words = h; row = r }
-whole_alike last n code [] (d ∷ ds) h r = absurd h
-whole_alike last n code (w ∷ ws) [] h r = absurd h
+whole_alike : (last n : ℕ) (code : List Placed) (ws : List CodeWord) (ds : List Definition) → WordsStand code ws ds → InRow code 0 ws ds (length code) → NestedWords ds → EndAlike (whole_code last n code ws) (growth.whole_tree last n ds)
+whole_alike last n code [] [] h r k = refl
+whole_alike last n code (w ∷ ws) (d ∷ ds) h r k = record { variables = refl; words = h; row = r; nested = k }
+whole_alike last n code [] (d ∷ ds) h r k = absurd h
+whole_alike last n code (w ∷ ws) [] h r k = absurd h
 
 -- where nothing is open, the innermost part is the word's
 starts_word : {code : List Placed} {begin : ℕ} {us : List Unfinished} {os : List Pending} {start : ℕ} → OpensFit code begin us os start → us ≡ [] → start ≡ begin
@@ -149,7 +151,7 @@ row_ends b g f now around =
     subst (InRow b.code 0 b.words g.words) (sym (starts_word f.opens around) ∙ items) f.row
 
 end_alike : (m : Mode) (last : ℕ) (c : Compiled) (d : Draft) (ts : List Token) → CompiledFits c d → Spelt d.known d.growth ts m → EndAlike (compiled_end m last c) (finished_in m last d)
-end_alike mode.Outside last c d ts f (between h) = rw f.known (whole_alike last d.known.variables c.built.code c.built.words d.growth.words f.built.words (row_ends c.built d.growth f.built h.now h.around))
+end_alike mode.Outside last c d ts f (between h) = rw f.known (whole_alike last d.known.variables c.built.code c.built.words d.growth.words f.built.words (row_ends c.built d.growth f.built h.now h.around) (declared_nested h.declares))
 end_alike mode.Inside last c d ts f s = ap (λ k. record { line = last; kind = k }) (kinds_alike f.built.opens)
 end_alike (mode.Naming w) last c d ts f s = refl
 end_alike (mode.Heading at) last c d ts f s = refl

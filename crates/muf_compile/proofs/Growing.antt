@@ -148,9 +148,9 @@ module _ (b : Built) (g : Growth) (fit : WordsStand b.code b.words g.words) (row
           title = named;
         }
 
-    -- BEGIN
-    begin_opens : (line : ℕ) → BuiltFits (with_code b (emitted b.code line Unset) (ring_open begin_word (hole (length b.code) line us) ∷ os)) (with_part g stop (turning begin_word line g.now ∷ us))
-    begin_opens line =
+    -- a loop that begins with no test
+    begin_opens : (k : Ring) (line : ℕ) → BuiltFits (with_code b (emitted b.code line Unset) (ring_open k (hole (length b.code) line us) ∷ os)) (with_part g stop (turning k line g.now ∷ us))
+    begin_opens k line =
         let code = b.code in
         let v : Placed = record { line = line; instr = Unset } in
         let len : length (code ++ v ∷ []) ≡ length code + 1 = length-append code (v ∷ []) in
@@ -159,7 +159,7 @@ module _ (b : Built) (g : Growth) (fit : WordsStand b.code b.words g.words) (row
           start = length code + 1;
           items = sym len;
           within = omega arith;
-          opens = in_turn {k = begin_word} (length code) (stands_kept code _ y g.now start _ _ (λ p e. e) items) within (get_end code v) (opens_kept code _ y b.start start (λ p row l e. get_append code _ p _ e) (omega arith) o);
+          opens = in_turn {k = k} (length code) (stands_kept code _ y g.now start _ _ (λ p e. e) items) within (get_end code v) (opens_kept code _ y b.start start (λ p row l e. get_append code _ p _ e) (omega arith) o);
           words = words_kept code _ y b.words g.words fit;
           row = row_kept code _ y b.words g.words 0 b.start row;
           title = named;
@@ -350,7 +350,7 @@ module _ (b : Built) (g : Growth) (fit : WordsStand b.code b.words g.words) (row
       → BuiltFits (with_code b (building.beginning w (emitted b.code line Unset) line) (building.opened w (hole (length b.code) line us) ∷ os)) (with_part g (growth.beginning w line) (growth.opened w line g.now ∷ us))
   opening_alike line opening.If items within o = first_opens _ _ _ items within o if_word line
   opening_alike line opening.Try items within o = first_opens _ _ _ items within o try_word line
-  opening_alike line opening.Begin items within o = begin_opens _ _ _ items within o line
+  opening_alike line opening.Begin items within o = begin_opens _ _ _ items within o begin_word line
   opening_alike line opening.For items within o = test_opens _ _ _ items within o for_word line NextIndex
   opening_alike line opening.Each items within o = test_opens _ _ _ items within o each_word line NextPair
 

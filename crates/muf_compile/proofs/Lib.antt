@@ -1,5 +1,6 @@
 pub mod Compiling
 pub mod Growing
+pub mod Nesting
 pub mod Offers
 pub mod Pendings
 pub mod Rows

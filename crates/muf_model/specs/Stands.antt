@@ -6,6 +6,7 @@ use Rattle.muf_model.specs.declared.code.Instr.TheVariants.{Plain, Close, When, 
 use Rattle.muf_model.specs.declared.code.Placed.{Placed}
 use Rattle.muf_model.specs.declared.code.CodeWord.{CodeWord}
 use Rattle.muf_model.specs.declared.code.Code.{Code}
+use Rattle.muf_model.specs.Nesting.{NestedTree}
 use Rattle.muf_model.specs.Tree.{Fork, if_word, try_word, Ring, begin_word, for_word, each_word, Block, stop, word, when, fork, ring, End, closes, hops, Definition, Tree}
 
 -- the instruction that opens a choice, with the place behind its ELSE or CATCH
@@ -76,8 +77,10 @@ InRow code place (w ∷ ws) (d ∷ ds) end = (w.start ≡ place) × Stands code 
 InRow code place [] (d ∷ ds) end = ⊥
 InRow code place (w ∷ ws) [] end = ⊥
 
--- the code stands for the tree, and has nothing else
+-- the code stands for the tree, and has nothing else; and in the tree BREAK, CONTINUE and WHILE stand in loops, and each
+-- turn of FOR or FOREACH begins with its test
 pub record TreeStands (code : Code) (tree : Tree) : Type 0 where
   pub variables : code.variables ≡ tree.variables
   pub words : WordsStand code.placed code.words tree.words
   pub row : InRow code.placed 0 code.words tree.words (length code.placed)
+  pub nested : NestedTree tree

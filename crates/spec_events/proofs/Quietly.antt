@@ -25,8 +25,8 @@ use Rattle.muf_model.specs.Prims.{level_of}
 use Rattle.muf_model.specs.Datum.{Datum, text, object}
 use Rattle.muf_model.specs.Tree.{Definition, Tree}
 use Rattle.muf_model.specs.Source.{Program, Source, last_word, entered, locked_of}
-use Rattle.muf_model.specs.Unit.{Outcome, goes, ended, faulted, asks, unit, fault}
-use Rattle.muf_model.specs.Chains.{Deed, does, fails, Finish, over, broke, chain, chained, after_deed, raised}
+use Rattle.muf_model.specs.Unit.{Outcome, goes, ended, faulted, asks, stuck, unit, fault}
+use Rattle.muf_model.specs.Chains.{Deed, does, fails, Finish, over, broke, astray, chain, chained, after_deed, raised}
 use Rattle.spec_prims.specs.Asking.{numbered}
 use Rattle.spec_prims.specs.Row.{Row, gives, refuses}
 use Rattle.spec_prims.proofs.Quiet.{Keeps, shared_keeps}
@@ -174,6 +174,7 @@ module _ (deeds : Name → Source → World → Deed World) (quiet : (name : Nam
   quiet_raised n go number (faulted f) w = quietly_same w
   quiet_raised n go number ended w = quietly_same w
   quiet_raised n go number (asks p t) w = quietly_same w
+  quiet_raised n go number stuck w = quietly_same w
 
   quiet_after : (n : ℕ) → ((s : Source) (w : World) → Quietly w (chain deeds n s w).0) → (t : Source) (w : World) (d : Deed World) → DeedQuietly w d → Quietly w (after_deed (chain deeds n) t d).0
   quiet_after n go t w (does u v) q = quietly_both w v _ q (go u v)
@@ -183,6 +184,7 @@ module _ (deeds : Name → Source → World → Deed World) (quiet : (name : Nam
   quiet_chained n go number (goes k t) w = go t w
   quiet_chained n go number ended w = quietly_same w
   quiet_chained n go number (faulted f) w = quietly_same w
+  quiet_chained n go number stuck w = quietly_same w
   quiet_chained n go number (asks p t) w = quiet_after n go t w (deeds p t w) (quiet p t w)
 
   pub quiet_chain : (n : ℕ) (s : Source) (w : World) → Quietly w (chain deeds n s w).0
@@ -193,6 +195,7 @@ module _ (deeds : Name → Source → World → Deed World) (quiet : (name : Nam
 quiet_finish : (player : Dbref) (finish : Finish) → Quiet (finish_shown player finish)
 quiet_finish player over = quiet_unchanged
 quiet_finish player (broke n f) = quiet_tell_player player _
+quiet_finish player astray = quiet_unchanged
 
 quietly_finish : (player : Dbref) (w : World) (r : World × Finish) → Quietly w r.0 → Quietly w (with_finish player r)
 quietly_finish player w (v, finish) q = quietly_both w v _ q (quietly_live (finish_shown player finish) (quiet_finish player finish) v)

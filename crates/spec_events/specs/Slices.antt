@@ -26,7 +26,7 @@ use Rattle.muf_model.specs.Answer.{too_few}
 use Rattle.muf_model.specs.Tree.{Definition, Tree}
 use Rattle.muf_model.specs.Source.{Program, Source, locked_of, calls_of, passed, last_word, entered}
 use Rattle.muf_model.specs.Unit.{calls_most}
-use Rattle.muf_model.specs.Chains.{callers_of, Deed, does, fails, Finish, over, broke, chain}
+use Rattle.muf_model.specs.Chains.{callers_of, Deed, does, fails, Finish, over, broke, astray, chain}
 use Rattle.spec_prims.specs.Asking.{numbered}
 use Rattle.spec_prims.specs.Row.{Row, gives, refuses}
 use Rattle.spec_prims.specs.Shared.{shared}
@@ -149,6 +149,7 @@ program_error n f = codes "Program error in #" ++ (signed_text n ++ (codes ": " 
 abbrev pub finish_shown : Dbref → Finish → Change
 finish_shown player over = unchanged
 finish_shown player (broke n f) = tell_player player (program_error n f)
+finish_shown player astray = unchanged
 
 abbrev pub with_finish : Dbref → World × Finish → World
 with_finish player (w, finish) = on_live (finish_shown player finish) w
