@@ -1,5 +1,5 @@
 -- How players go, take, drop and recycle is open to them.
-use Rattle.std.proofs.Common.{◌≡◌, ℕ, Bool, true, false, List, refl, sym, ◌∙◌, ap, Option, Some, None}
+use Rattle.std.proofs.Common.{◌≡◌, ℕ, true, false, List, refl, sym, ◌∙◌, ap, Option, Some, None}
 use Rattle.std.specs.Prelude.{Result, Ok, Err, ◌&&◌, ◌||◌}
 use Rattle.spec_live.proofs.Keeping.{keeps_where}
 use Rattle.std.proofs.lemmas.Bool.{and_from, and_parts, or_left, or_right}

@@ -1,7 +1,6 @@
 -- What a line of a player does is open to it.
 use Rattle.std.proofs.Common.{◌≡◌, ◌==◌, ℕ, Bool, true, false, cond, List, [], ◌∷◌, refl, sym, subst, Option, Some, None}
 use Rattle.muck_model.proofs.Dbrefs.{same_eq}
-use Rattle.muck_model.specs.declared.dbref.Dbref.{Dbref}
 use Rattle.std.specs.Prelude.{codes, ◌||◌}
 use Rattle.muck_prop.specs.Paths.{class_of}
 use Rattle.muck_match.specs.declared.exits.ExitHit.{ExitHit}

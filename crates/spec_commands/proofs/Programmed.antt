@@ -1,7 +1,7 @@
 -- What players do with programs is open to them.
 use Rattle.std.proofs.Common.{◌≡◌, ℕ, List, [], ◌∷◌, refl, Some, None}
 use Rattle.spec_live.proofs.Keeping.{keeps_followed}
-use Rattle.std.specs.Prelude.{Bool, Result, Ok, Err}
+use Rattle.std.specs.Prelude.{Result, Ok, Err}
 use Rattle.muck_model.specs.declared.dbref.Dbref.{Dbref}
 use Rattle.muck_model.specs.declared.dbref.Kind.TheVariants.{Program}
 use Rattle.spec_live.specs.declared.fault.DbFault.{DbFault}

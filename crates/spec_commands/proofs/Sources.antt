@@ -5,18 +5,16 @@ use Rattle.std.specs.Option.{option_map, option_and_then, option_map_or}
 use Rattle.std.proofs.lemmas.Bool.{cases_eq}
 use Rattle.std.proofs.lemmas.Slice.Eq.{bytes_eq-Decides}
 use Rattle.muck_model.specs.declared.dbref.Dbref.{Dbref}
-use Rattle.muck_model.specs.declared.dbref.Denial.{Denial}
 use Rattle.muck_model.specs.declared.dbref.Kind.TheVariants.{Garbage}
 use Rattle.muck_model.specs.declared.edit.EditState.{EditState}
 use Rattle.spec_live.specs.declared.object.Object.{Object}
 use Rattle.spec_live.specs.Objects.{Entry, dbref_of, is_garbage, object_in, kind_in, mark_in, number_in, object_at}
 use Rattle.spec_live.specs.Setting.{with_lines, lines_set}
-use Rattle.spec_live.specs.Lives.{Live, Change, followed, ◌▸◌, reading, either, where_so, unchanged, tell}
+use Rattle.spec_live.specs.Lives.{Live, Change, followed, reading, either, where_so, unchanged, tell}
 use Rattle.spec_live.proofs.Keeping.{Keeps, keeps_more, keeps_after}
 use Rattle.spec_live.proofs.Readers.{mark_elsewhere}
 use Rattle.spec_rights.specs.declared.act.Actor.{Actor}
 use Rattle.spec_rights.specs.declared.act.Act.TheVariants.{Edit as EditAct}
-use Rattle.spec_rights.specs.Asking.{refused}
 use Rattle.spec_rights.specs.Changing.{lines_kept}
 use Rattle.spec_rights.proofs.Lookups.{alive, seen_at, number_is}
 use Rattle.spec_rights.proofs.Changes.{object_lined}

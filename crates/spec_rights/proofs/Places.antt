@@ -1,5 +1,5 @@
 -- Moves and homes keep to the licence.
-use Rattle.std.proofs.Common.{◌≡◌, ℕ, Bool, true, false, List, refl, sym, ◌∙◌, ap, subst, Option, Some, None, inl, inr}
+use Rattle.std.proofs.Common.{◌≡◌, ℕ, true, false, List, refl, sym, ◌∙◌, ap, subst, Option, Some, None, inl, inr}
 use Rattle.std.proofs.lemmas.Bool.{or_left}
 use Rattle.std.specs.Option.{option_map_or}
 use Rattle.muck_model.specs.declared.dbref.Dbref.{Dbref}

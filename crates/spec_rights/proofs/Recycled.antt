@@ -1,7 +1,7 @@
 -- Recycling keeps to the licence, with all that it brings with it.
 use Rattle.std.proofs.Common.{◌≡◌, ℕ, ◌==◌, Bool, true, false, cond, List, [], ◌∷◌, refl, sym, ◌∙◌, ap, subst, Option, Some, None, inl, inr, arith}
 use Rattle.muck_model.proofs.Dbrefs.{same_eq, eq_same}
-use Rattle.std.specs.Prelude.{Result, Ok, Err, map, ◌⊎◌, ◌||◌, ◌&&◌, not, slice_get}
+use Rattle.std.specs.Prelude.{Result, Ok, Err, map, ◌⊎◌, ◌||◌, not, slice_get}
 use Rattle.std.specs.Option.{option_map, option_and_then, option_map_or}
 use Rattle.std.specs.List.{list_any}
 use Rattle.std.proofs.lemmas.Bool.{cases_eq, and_parts, or_parts, not-true, or_left, or_right, and_from}
@@ -29,7 +29,7 @@ use Rattle.spec_rights.specs.declared.act.Act.TheVariants.{Recycle}
 use Rattle.spec_rights.specs.Levels.{is_player_at}
 use Rattle.spec_rights.specs.Verdict.{verdict, controls}
 use Rattle.spec_rights.specs.Changing.{recycled_now}
-use Rattle.spec_rights.specs.Licence.{Freedom, Open, Judge, Changed, Differs, Reordered, as_before, empties, front_open, SameLists, Licensed, is_emptied, is_way_home, place_open, link_open, home_open, gone_open, may_recycle}
+use Rattle.spec_rights.specs.Licence.{Freedom, Open, Judge, Changed, Differs, Reordered, as_before, empties, front_open, SameLists, is_emptied, is_way_home, place_open, link_open, home_open, gone_open, may_recycle}
 use Rattle.spec_live.proofs.HomeLaws.{list_untied, mark_untied}
 use Rattle.spec_rights.proofs.Listing.{lists_itself, reordered_all, reordered_one, reordered_left, reordered_moved}
 use Rattle.spec_rights.proofs.Lookups.{Row, alive, seen_at, number_is}
