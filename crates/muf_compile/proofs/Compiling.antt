@@ -6,8 +6,8 @@ use Rattle.muf_model.specs.declared.code.Placed.{Placed}
 use Rattle.muf_model.specs.declared.code.CodeWord.{CodeWord}
 use Rattle.muf_model.specs.declared.code.Code.{Code}
 use Rattle.muf_model.specs.Tree.{if_word, try_word, begin_word, for_word, each_word, stop, Definition, Tree}
-use Rattle.muf_model.specs.Nesting.{NestedWords}
 use Rattle.muf_model.specs.Decode as decode
+use Rattle.muf_model.specs.Nesting.{NestedWords}
 use Rattle.muf_model.proofs.Unique.{tree_read}
 use Rattle.muf_model.specs.Stands.{WordsStand, InRow, TreeStands}
 use Rattle.muf_token.specs.declared.token.Token.{Token}
@@ -30,7 +30,7 @@ use Rattle.muf_compile.specs.inner.Build.{Made, build}
 use Rattle.muf_compile.specs.inner.Fits.{From, OpensFit, outermost, in_first, in_second, in_turn, BuiltFits, MadeAlike, IsCode}
 use Rattle.muf_compile.specs.inner.Compiled.{Compiled, compiled_step, compiled_end, whole_code, nothing_compiled}
 use Rattle.muf_compile.proofs.Growing.{growing}
-use Rattle.muf_compile.proofs.Nesting.{NestedGrowth, DraftNested, step_nested, empty_nested}
+use Rattle.muf_compile.proofs.Nesting.{declared_nested}
 use Rattle.muf_compile.proofs.Spelling.{Spelt, between, DraftSpelt, IsSpelt, spelt_step, spelt_empty, TreeWritten, tree_written}
 
 -- what is compiled so far stands for a draft
@@ -82,26 +82,25 @@ is_wanting : (t : Result Tree Refusal) → IsCode t (Err NoMemory)
 is_wanting (Ok tree) = tt
 is_wanting (Err r) = tt
 
--- some words of a source have led to the draft, which is nested
+-- some words of a source have led to the draft
 pub record WasSpelt (d : Draft) : Type 0 where
   pub before : List Token
   pub spelt : IsSpelt before d
-  pub nested : NestedGrowth d.growth
 
 -- nothing is compiled
 pub starts : CompiledFits nothing_compiled empty_draft × WasSpelt empty_draft
 starts = (
   record { known = refl; built = record { start = 0; items = refl; within = omega arith; opens = outermost; words = tt; row = refl; title = refl }; units = refl },
-  record { before = []; spelt = spelt_empty; nested = empty_nested },
+  record { before = []; spelt = spelt_empty },
 )
 
 -- one word more
 pub takes : (t : Token) (ts : List Token) (last : ℕ) (c new : Compiled) (d : Draft) → CompiledFits c d → WasSpelt d → compiled_step t c ≡ Ok new → (e : Draft) × CompiledFits new e × WasSpelt e × (tree_from last (t ∷ ts) d ≡ tree_from t.line ts e)
-takes t ts last c new d f p e = from_alike (step t d) (subst (λ r. StepAlike r (step t d)) e (step_alike t c d f)) (spelt_step t p.before d p.spelt) (step_nested t d p.nested)
+takes t ts last c new d f p e = from_alike (step t d) (subst (λ r. StepAlike r (step t d)) e (step_alike t c d f)) (spelt_step t p.before d p.spelt)
   where
-    from_alike : (r : Result Draft Refusal) → StepAlike (Ok new) r → DraftSpelt (p.before ++ t ∷ []) r → DraftNested r → (e : Draft) × CompiledFits new e × WasSpelt e × (and_then r (tree_from t.line ts) ≡ tree_from t.line ts e)
-    from_alike (Ok q) h l n = (q, h, record { before = p.before ++ t ∷ []; spelt = l; nested = n }, refl)
-    from_alike (Err r) h l n = absurd h
+    from_alike : (r : Result Draft Refusal) → StepAlike (Ok new) r → DraftSpelt (p.before ++ t ∷ []) r → (e : Draft) × CompiledFits new e × WasSpelt e × (and_then r (tree_from t.line ts) ≡ tree_from t.line ts e)
+    from_alike (Ok q) h l = (q, h, record { before = p.before ++ t ∷ []; spelt = l }, refl)
+    from_alike (Err r) h l = absurd h
 
 -- a word that is refused
 refuses : (t : Token) (ts : List Token) (last : ℕ) (c : Compiled) (r : Refusal) (d : Draft) → CompiledFits c d → compiled_step t c ≡ Err r → tree_from last (t ∷ ts) d ≡ Err r
@@ -151,17 +150,16 @@ row_ends b g f now around =
     let items = subst (λ block. From b.code f.start block (length b.code)) now f.items in
     subst (InRow b.code 0 b.words g.words) (sym (starts_word f.opens around) ∙ items) f.row
 
-end_alike : (m : Mode) (last : ℕ) (c : Compiled) (d : Draft) (ts : List Token) → CompiledFits c d → Spelt d.known d.growth ts m → NestedWords d.growth.words → EndAlike (compiled_end m last c) (finished_in m last d)
-end_alike mode.Outside last c d ts f (between h) k =
-    rw f.known (whole_alike last d.known.variables c.built.code c.built.words d.growth.words f.built.words (row_ends c.built d.growth f.built h.now h.around) k)
-end_alike mode.Inside last c d ts f s n = ap (λ k. record { line = last; kind = k }) (kinds_alike f.built.opens)
-end_alike (mode.Naming w) last c d ts f s n = refl
-end_alike (mode.Heading at) last c d ts f s n = refl
-end_alike (mode.Results at) last c d ts f s n = refl
+end_alike : (m : Mode) (last : ℕ) (c : Compiled) (d : Draft) (ts : List Token) → CompiledFits c d → Spelt d.known d.growth ts m → EndAlike (compiled_end m last c) (finished_in m last d)
+end_alike mode.Outside last c d ts f (between h) = rw f.known (whole_alike last d.known.variables c.built.code c.built.words d.growth.words f.built.words (row_ends c.built d.growth f.built h.now h.around) (declared_nested h.declares))
+end_alike mode.Inside last c d ts f s = ap (λ k. record { line = last; kind = k }) (kinds_alike f.built.opens)
+end_alike (mode.Naming w) last c d ts f s = refl
+end_alike (mode.Heading at) last c d ts f s = refl
+end_alike (mode.Results at) last c d ts f s = refl
 
 -- the end of the words
 pub ends : (last : ℕ) (c : Compiled) (d : Draft) (result : Result Code CompileFault) → CompiledFits c d → WasSpelt d → Answers (compiled_end c.known.mode last c) result → IsCode (finished last d) result
-ends last c d result f p a = answered (compiled_end c.known.mode last c) (finished last d) result (subst (λ (k : Known). EndAlike (compiled_end k.mode last c) (finished last d)) (sym f.known) (end_alike d.known.mode last c d p.before f p.spelt.spelt p.nested.words)) a
+ends last c d result f p a = answered (compiled_end c.known.mode last c) (finished last d) result (subst (λ (k : Known). EndAlike (compiled_end k.mode last c) (finished last d)) (sym f.known) (end_alike d.known.mode last c d p.before f p.spelt.spelt)) a
   where
     answered : (s : Result Code Refusal) (t : Result Tree Refusal) (r : Result Code CompileFault) → EndAlike s t → Answers s r → IsCode t r
     answered s t (Err NoMemory) h a = is_wanting t
