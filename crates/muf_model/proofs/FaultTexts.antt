@@ -20,7 +20,7 @@ IsInside xs = prefix_len is_inside xs ≡ length xs
 pub inside-cons : (b : ℕ) (xs : List ℕ) → is_inside b ≡ true → IsInside xs → IsInside (b ∷ xs)
 inside-cons b xs e h = rw e (omega (arith, h))
 
-inside-first : (b : ℕ) (xs : List ℕ) → IsInside (b ∷ xs) → (is_inside b ≡ true) × IsInside xs
+pub inside-first : (b : ℕ) (xs : List ℕ) → IsInside (b ∷ xs) → (is_inside b ≡ true) × IsInside xs
 inside-first b xs = elim (is_inside b) as (λ t. cond t (1 + prefix_len is_inside xs) 0 ≡ suc (length xs) → (t ≡ true) × IsInside xs) [
   | true ↦ λ h. (refl, omega (arith, h))
   | false ↦ λ h. absurd (omega (arith, h))

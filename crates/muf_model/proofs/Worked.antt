@@ -1,5 +1,5 @@
 -- Worked programs, and the stacks that they leave.
-use Rattle.std.proofs.Common.{◌≡◌, ℕ, zero, suc, List, [], ◌∷◌, refl, Bool, true, false}
+use Rattle.std.proofs.Common.{◌≡◌, ℕ, zero, suc, List, [], ◌∷◌, map, refl, Bool, true, false}
 use Rattle.std.specs.Prelude.{ℤ, pos, negsuc, codes, if◌then◌else◌}
 use Rattle.std.specs.Fmt.{digits}
 use Rattle.muf_model.specs.declared.code.Word.TheVariants.{Literal, Address, Primitive, Call, Exit, Break, Continue, NextIndex, NextPair}
@@ -9,8 +9,10 @@ use Rattle.muf_model.specs.declared.code.Offer.TheVariants.{Nobody}
 use Rattle.muf_model.specs.declared.fault.MufFault.{MufFault}
 use Rattle.muf_model.specs.declared.fault.MufFault.TheVariants.{CallsFull, Aborted, BadAddress}
 use Rattle.muf_model.specs.declared.prims.Primitive.{Primitive as Name}
-use Rattle.muf_model.specs.declared.prims.Primitive.TheVariants.{Pop, Dup, Depth, Add, Divide, Modulo, Execute, Abort, Rotate, BitShift, OpenMark, CloseMark, Greater, StrCat, IntToStr}
+use Rattle.muf_model.specs.declared.prims.Primitive.TheVariants.{Pop, Dup, Depth, Add, Divide, Modulo, Execute, Abort, Rotate, BitShift, OpenMark, CloseMark, Greater, StrCat, StrCmp, StringCmp, InStr, InString, RInString, Explode, Split, RSplit, StripTail, IntToStr}
 use Rattle.muf_model.specs.Datum.{Datum, int, text, items, data_of}
+use Rattle.muf_model.specs.Texts.{cut, first_place, last_place, number_in}
+use Rattle.muf_model.specs.TextRows.{sized, number, two_parts, counted_texts, of_text, of_texts, of_sought, subst, first_compared, middle}
 use Rattle.muf_model.specs.Tree.{try_word, begin_word, for_word, each_word, Block, stop, word, fork, ring, End, closes, Definition}
 use Rattle.muf_model.specs.Source.{Mark, Source, started}
 use Rattle.muf_model.specs.Unit.{Outcome, goes, ended, faulted, asks, stuck, unit}
@@ -168,6 +170,71 @@ joins = refl
 minus_three : run [] [] (n (negsuc 2) (p IntToStr stop)) ≡ leaves (text (codes "-3") ∷ [])
 unfolding digits
 minus_three = refl
+
+-- "HEY: This : is a test:" ":" explode, and a last text that is left where the pieces were found from the left
+explodes : of_sought Explode (codes "HEY: This : is a test:") (codes ":") ≡ counted_texts (codes "HEY" ∷ codes " This " ∷ codes " is a test" ∷ [] ∷ [])
+unfolding cut first_place
+explodes = refl
+
+explodes_from_the_left : of_sought Explode (codes "aaab") (codes "aa") ≡ counted_texts ([] ∷ codes "ab" ∷ [])
+unfolding cut first_place
+explodes_from_the_left = refl
+
+explodes_nothing : of_sought Explode [] (codes ":") ≡ counted_texts ([] ∷ [])
+unfolding cut first_place
+explodes_nothing = refl
+
+-- what is put in isn't read again
+substitutes : subst (codes "aaa") (codes "b") (codes "aa") ≡ sized (codes "ba")
+unfolding cut first_place
+substitutes = refl
+
+substitutes_once : subst (codes "xaxa") (codes "aa") (codes "a") ≡ sized (codes "xaaxaa")
+unfolding cut first_place
+substitutes_once = refl
+
+splits : of_sought Split (codes "aXbX") (codes "X") ≡ two_parts (codes "a") (codes "bX")
+unfolding first_place
+splits = refl
+
+splits_last : of_sought RSplit (codes "aXbX") (codes "X") ≡ two_parts (codes "aXb") []
+unfolding last_place
+splits_last = refl
+
+finds : of_sought InString (codes "ABAB") (codes "b") ≡ number (pos 2)
+unfolding first_place
+finds = refl
+
+finds_last : of_sought RInString (codes "ABAB") (codes "b") ≡ number (pos 4)
+unfolding last_place
+finds_last = refl
+
+finds_nothing : of_sought InStr (codes "abab") (codes "B") ≡ number (pos 0)
+unfolding first_place
+finds_nothing = refl
+
+-- an ended text goes on with 0
+compares_longer : of_texts StrCmp (codes "ab") (codes "a") ≡ number (pos 98)
+compares_longer = refl
+
+compares_unlike : of_texts StringCmp (codes "A") (codes "c") ≡ number (negsuc 1)
+compares_unlike = refl
+
+compares_first : first_compared (codes "abc") (codes "abd") (pos 2) ≡ number (pos 0)
+compares_first = refl
+
+strips : of_text StripTail (codes " a ") ≡ sized (codes " a")
+strips = refl
+
+middle_at_the_end : middle (codes "abc") (pos 3) (pos 9) ≡ sized (codes "c")
+middle_at_the_end = refl
+
+middle_past_the_end : middle (codes "abc") (pos 4) (pos 1) ≡ sized []
+middle_past_the_end = refl
+
+-- a whole text in 32 bits is a number
+numbers : map number_in (codes "-07" ∷ codes "7x" ∷ codes "" ∷ codes "-" ∷ codes "+7" ∷ codes "-2147483648" ∷ codes "2147483648" ∷ []) ≡ negsuc 6 ∷ pos 0 ∷ pos 0 ∷ pos 0 ∷ pos 0 ∷ negsuc 2147483647 ∷ pos 0 ∷ []
+numbers = refl
 
 -- so many loops open inside one another
 abbrev begins : ℕ → Block

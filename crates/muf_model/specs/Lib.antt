@@ -14,6 +14,7 @@ pub mod Answer
 pub mod Ladder
 pub mod StackRows
 pub mod NumberRows
+pub mod Texts
 pub mod TextRows
 pub mod Rows
 pub mod Source

@@ -162,6 +162,14 @@ pub(crate) const TWO_OBJECTS: Option<Needs> = takes!(OBJECT, OBJECT);
 
 pub(crate) const TWO_TEXTS: Option<Needs> = takes!(TEXT, TEXT);
 
+pub(crate) const THREE_TEXTS: Option<Needs> = takes!(TEXT, TEXT, TEXT);
+
+pub(crate) const INT_OVER_TEXT: Option<Needs> = takes!(INT, TEXT);
+
+pub(crate) const INT_OVER_TEXTS: Option<Needs> = takes!(INT, TEXT, TEXT);
+
+pub(crate) const INTS_OVER_TEXT: Option<Needs> = takes!(INT, INT, TEXT);
+
 pub(crate) const INT_OR_OBJECT: Option<Needs> = takes!(EITHER);
 
 pub(crate) const TEXT_FOR_ONE_NEAR: Option<Needs> = takes!(TEXT, NEAR);

@@ -1,6 +1,23 @@
--- What the item at the top is.
-use Rattle.std.specs.Prelude.{List, ◌∷◌, ℤ, Option, Some, None}
+-- What a primitive of texts makes.
+use Rattle.std.specs.Prelude.{◌≡◌, List, [], ◌∷◌, map, ℤ, Option, Some, None, Result, Ok, Err}
 use Rattle.muf_model.specs.Datum.{Datum, int, object}
+use Rattle.muf_model.specs.Answer as answer
+use Rattle.muf_model.specs.View.{view}
+use Rattle.muf_frame.specs.declared.fault.PrimFault.{PrimFault}
+use Rattle.muf_frame.specs.declared.fault.PrimFault.TheVariants.{Fault, NoMemory}
+use Rattle.prim_text.specs.declared.made.Made.{Made}
+use Rattle.prim_text.specs.declared.made.Made.TheVariants.{One, Many}
+
+-- the items that stand for what is made
+abbrev pub made_of : Made → answer.Made
+made_of (One item) = answer.makes (view item ∷ [])
+made_of (Many items) = answer.makes (map view items.items)
+
+-- it is made, or it is refused with its fault, or memory is wanted
+abbrev pub Makes : answer.Made → Result Made PrimFault → Type 0
+Makes m (Ok made) = m ≡ made_of made
+Makes m (Err (Fault f)) = m ≡ answer.rejects f
+Makes m (Err NoMemory) = Unit {0}
 
 -- the integer at the top, or the number of the object there
 abbrev pub number_at_top : List Datum → Option ℤ

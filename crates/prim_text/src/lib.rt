@@ -1,6 +1,9 @@
-//! The primitives of texts that are there so far.
+//! The primitives of texts.
 #![tactic(auto)]
 
+mod made;
+mod numbers;
+mod places;
 mod rows;
 mod shapes;
 mod table;

@@ -1,53 +1,118 @@
 // The shapes of the primitives of texts: what each takes, and that its answer takes its place.
-ghost use Rattle.std.specs.Prelude.{◌≡◌, ◌≤◌, ◌∷◌, [], length, drop};
-ghost use Rattle.muf_model.proofs.FaultTexts.{IsInside};
-ghost use Rattle.muf_model.specs.Answer.{put};
-ghost use Rattle.muf_model.specs.Needs.{takes, a_text, int_or_object};
-ghost use Rattle.muf_model.specs.TextRows.{sized, two_texts, one_number, text_of_two, text_of_number};
+ghost use Rattle.std.specs.Prelude.{◌≡◌, ◌∷◌, []};
+ghost use Rattle.muf_model.specs.Needs.{takes, a_text, an_int, int_or_object};
+ghost use Rattle.muf_model.specs.TextRows as row;
+ghost use Rattle.muf_model.specs.declared.prims.Primitive.TheVariants.{StrNCmp, StrCut, MidStr, Subst, IntToStr, IntToChar};
 ghost use Rattle.muf_frame.specs.Shown.{Shown, flat};
-ghost use Rattle.muf_frame.specs.Answers.{AppliedOr, UsedOr};
+ghost use Rattle.muf_frame.specs.Answers.{UsedOr};
 ghost use Rattle.prim_text.specs.Made.{number_at_top};
 
-use crate::rows::{text_of_number, text_of_two};
-use muck_model::{Line, TEXT_MOST};
+use crate::made::give;
+use crate::rows;
 use muf_frame::{Frame, PrimFault};
-use muf_model::{MufFault, Prim, Text, Value};
+use muf_model::{MufFault, Prim};
 use std::alloc::Global;
 
-// So many items at the top give way to the text of these bytes, where that is short enough.
-#[tactic(auto, using(crate::proofs::Texts::made_is_text))]
-fn give_text(
-    alloc: Global,
-    frame: &mut Frame,
-    taken: usize,
-    bytes: Vec<u8>,
-) -> Result<(), PrimFault>
-    requires there { taken ≤ length frame.old.stack }
-    requires inside { IsInside bytes.items }
-    ensures { AppliedOr (put taken (sized bytes.items) (drop taken (flat frame.old).stack)) frame.old frame.new result }
+/// The primitives of one text.
+#[tactic(auto, using(crate::proofs::Reading::text_steps))]
+pub(crate) fn one_text(alloc: Global, prim: Prim, frame: &mut Frame) -> Result<(), PrimFault>
+    ensures { UsedOr prim (takes (a_text ∷ [])) (row.one_text (row.of_text prim)) frame.old frame.new result }
 {
-    if bytes.len() > TEXT_MOST {
-        return Err(PrimFault::Fault(MufFault::TextTooLong));
-    }
-    match Line::from_vec(bytes) {
-        Ok(line) => {
-            let text = Text::new(alloc, line)?;
-            Ok(frame.give(taken, Value::Str(text))?)
+    frame.need(1)?;
+    match frame.text_at(0) {
+        Some(text) => {
+            let made = rows::of_text(alloc, prim, text.as_slice())?;
+            give(frame, 1, made)
         }
-        Err(_) => unreachable!(),
+        _ => Err(PrimFault::Fault(MufFault::BadType)),
     }
 }
 
-/// The primitives of two texts that make one, the second one on the top.
+/// The primitives of two texts, the second one on the top.
 #[tactic(auto, using(crate::proofs::Reading::text_steps))]
 pub(crate) fn two_texts(alloc: Global, prim: Prim, frame: &mut Frame) -> Result<(), PrimFault>
-    ensures { UsedOr prim (takes (a_text ∷ a_text ∷ [])) (two_texts (text_of_two prim)) frame.old frame.new result }
+    ensures { UsedOr prim (takes (a_text ∷ a_text ∷ [])) (row.two_texts (row.of_texts prim)) frame.old frame.new result }
 {
     frame.need(2)?;
     match (frame.text_at(0), frame.text_at(1)) {
         (Some(second), Some(first)) => {
-            let bytes = text_of_two(alloc, prim, first.as_slice(), second.as_slice())?;
-            give_text(alloc, frame, 2, bytes)
+            let made = rows::of_texts(alloc, prim, first.as_slice(), second.as_slice())?;
+            give(frame, 2, made)
+        }
+        _ => Err(PrimFault::Fault(MufFault::BadType)),
+    }
+}
+
+/// The primitives that seek a text, which is on the top, in another one.
+#[tactic(auto, using(crate::proofs::Reading::text_steps))]
+pub(crate) fn sought(alloc: Global, prim: Prim, frame: &mut Frame) -> Result<(), PrimFault>
+    ensures { UsedOr prim (takes (a_text ∷ a_text ∷ [])) (row.two_texts (row.seeking (row.of_sought prim))) frame.old frame.new result }
+{
+    frame.need(2)?;
+    match (frame.text_at(0), frame.text_at(1)) {
+        (Some(sought), Some(text)) => {
+            let made = rows::seeking(alloc, prim, text.as_slice(), sought.as_slice())?;
+            give(frame, 2, made)
+        }
+        _ => Err(PrimFault::Fault(MufFault::BadType)),
+    }
+}
+
+/// SUBST.
+#[tactic(auto, using(crate::proofs::Reading::text_steps))]
+pub(crate) fn subst(alloc: Global, frame: &mut Frame) -> Result<(), PrimFault>
+    ensures { UsedOr Subst (takes (a_text ∷ a_text ∷ a_text ∷ [])) (row.three_texts row.subst) frame.old frame.new result }
+{
+    frame.need(3)?;
+    match (frame.text_at(0), frame.text_at(1), frame.text_at(2)) {
+        (Some(sought), Some(other), Some(text)) => {
+            let made = rows::subst(alloc, text.as_slice(), other.as_slice(), sought.as_slice())?;
+            give(frame, 3, made)
+        }
+        _ => Err(PrimFault::Fault(MufFault::BadType)),
+    }
+}
+
+/// STRNCMP.
+#[tactic(auto, using(crate::proofs::Reading::text_steps))]
+pub(crate) fn first_compared(frame: &mut Frame) -> Result<(), PrimFault>
+    ensures { UsedOr StrNCmp (takes (an_int ∷ a_text ∷ a_text ∷ [])) (row.texts_and_int row.first_compared) frame.old frame.new result }
+{
+    frame.need(3)?;
+    match (frame.int_at(0), frame.text_at(1), frame.text_at(2)) {
+        (Some(count), Some(second), Some(first)) => {
+            let made = rows::first_compared(first.as_slice(), second.as_slice(), count)?;
+            give(frame, 3, made)
+        }
+        _ => Err(PrimFault::Fault(MufFault::BadType)),
+    }
+}
+
+/// STRCUT.
+#[tactic(auto, using(crate::proofs::Reading::text_steps))]
+pub(crate) fn cut_behind(alloc: Global, frame: &mut Frame) -> Result<(), PrimFault>
+    ensures { UsedOr StrCut (takes (an_int ∷ a_text ∷ [])) (row.text_and_int row.cut_behind) frame.old frame.new result }
+{
+    frame.need(2)?;
+    match (frame.int_at(0), frame.text_at(1)) {
+        (Some(count), Some(text)) => {
+            let made = rows::cut_behind(alloc, text.as_slice(), count)?;
+            give(frame, 2, made)
+        }
+        _ => Err(PrimFault::Fault(MufFault::BadType)),
+    }
+}
+
+/// MIDSTR.
+#[tactic(auto, using(crate::proofs::Reading::text_steps))]
+pub(crate) fn middle(alloc: Global, frame: &mut Frame) -> Result<(), PrimFault>
+    ensures { UsedOr MidStr (takes (an_int ∷ an_int ∷ a_text ∷ [])) (row.text_and_ints row.middle) frame.old frame.new result }
+{
+    frame.need(3)?;
+    match (frame.int_at(0), frame.int_at(1), frame.text_at(2)) {
+        (Some(count), Some(place), Some(text)) => {
+            let made = rows::middle(alloc, text.as_slice(), place, count)?;
+            give(frame, 3, made)
         }
         _ => Err(PrimFault::Fault(MufFault::BadType)),
     }
@@ -67,17 +132,32 @@ fn number_at_top(frame: &Frame) -> Option<i32>
     }
 }
 
-/// The primitives of a number, or of that of an object, that make a text.
+/// INTOSTR.
 #[tactic(auto, using(crate::proofs::Reading::text_steps))]
-pub(crate) fn one_number(alloc: Global, prim: Prim, frame: &mut Frame) -> Result<(), PrimFault>
-    ensures { UsedOr prim (takes (int_or_object ∷ [])) (one_number (text_of_number prim)) frame.old frame.new result }
+pub(crate) fn in_decimal(alloc: Global, frame: &mut Frame) -> Result<(), PrimFault>
+    ensures { UsedOr IntToStr (takes (int_or_object ∷ [])) (row.one_number row.in_decimal) frame.old frame.new result }
 {
     frame.need(1)?;
     match number_at_top(frame) {
         Some(number) => {
-            let bytes = text_of_number(alloc, prim, number)?;
-            give_text(alloc, frame, 1, bytes)
+            let made = rows::in_decimal(alloc, number)?;
+            give(frame, 1, made)
         }
-        None => Err(PrimFault::Fault(MufFault::BadType)),
+        _ => Err(PrimFault::Fault(MufFault::BadType)),
+    }
+}
+
+/// ITOC.
+#[tactic(auto, using(crate::proofs::Reading::text_steps))]
+pub(crate) fn character(alloc: Global, frame: &mut Frame) -> Result<(), PrimFault>
+    ensures { UsedOr IntToChar (takes (an_int ∷ [])) (row.one_integer row.character) frame.old frame.new result }
+{
+    frame.need(1)?;
+    match frame.int_at(0) {
+        Some(number) => {
+            let made = rows::character(alloc, number)?;
+            give(frame, 1, made)
+        }
+        _ => Err(PrimFault::Fault(MufFault::BadType)),
     }
 }

@@ -41,7 +41,7 @@ fn words_that_are_not_there(rt: HostRuntime) -> Result<(), NoMemory> {
     let call = code_of(alloc, Word::Call(9))?;
     let mut faulted = frame_of(alloc)?;
     let end = run_local(alloc, &call, &mut faulted, 100)?;
-    let primitive = code_of(alloc, Word::Primitive(Prim::StrLen))?;
+    let primitive = code_of(alloc, Word::Primitive(Prim::ArrayCount))?;
     let mut stopped = frame_of(alloc)?;
     let stop = run_local(alloc, &primitive, &mut stopped, 100)?;
     let holds = [
