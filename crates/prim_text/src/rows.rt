@@ -6,7 +6,7 @@ ghost use Rattle.muck_model.specs.Bytes.{text_fault};
 ghost use Rattle.muf_model.proofs.FaultTexts.{IsInside};
 ghost use Rattle.muf_model.specs.Texts.{pieces, one_byte};
 ghost use Rattle.muf_model.specs.TextRows as row;
-ghost use Rattle.prim_text.specs.Made.{Makes, made_of};
+ghost use Rattle.prim_text.specs.Made.{Makes, made_of, sought_in};
 
 use crate::made::{Made, number, sized, two_parts};
 use crate::numbers::{difference, first_byte, lead_stripped, number_in, tail_stripped};
@@ -116,6 +116,7 @@ fn of_sought(alloc: Global, prim: Prim, bytes: &[u8], sought: &[u8]) -> Result<M
 }
 
 /// The primitives that seek a text in another one.
+#[tactic(auto, unfolding(crate::specs::Made::sought_in))]
 pub(crate) fn seeking(
     alloc: Global,
     prim: Prim,
@@ -124,7 +125,7 @@ pub(crate) fn seeking(
 ) -> Result<Made, PrimFault>
     requires short { length bytes.now ≤ 4096 }
     requires text { text_fault bytes.now ≡ None }
-    ensures { Makes (row.seeking (row.of_sought prim) bytes.now sought.now) result }
+    ensures { Makes (sought_in prim bytes.now sought.now) result }
 {
     if sought.is_empty() {
         return Err(PrimFault::Fault(MufFault::BadArgument));

@@ -5,7 +5,7 @@ ghost use Rattle.muf_model.specs.TextRows as row;
 ghost use Rattle.muf_model.specs.declared.prims.Primitive.TheVariants.{StrNCmp, StrCut, MidStr, Subst, IntToStr, IntToChar};
 ghost use Rattle.muf_frame.specs.Shown.{Shown, flat};
 ghost use Rattle.muf_frame.specs.Answers.{UsedOr};
-ghost use Rattle.prim_text.specs.Made.{number_at_top};
+ghost use Rattle.prim_text.specs.Made.{number_at_top, sought_in};
 
 use crate::made::give;
 use crate::rows;
@@ -46,7 +46,7 @@ pub(crate) fn two_texts(alloc: Global, prim: Prim, frame: &mut Frame) -> Result<
 /// The primitives that seek a text, which is on the top, in another one.
 #[tactic(auto, using(crate::proofs::Reading::text_steps))]
 pub(crate) fn sought(alloc: Global, prim: Prim, frame: &mut Frame) -> Result<(), PrimFault>
-    ensures { UsedOr prim (takes (a_text ∷ a_text ∷ [])) (row.two_texts (row.seeking (row.of_sought prim))) frame.old frame.new result }
+    ensures { UsedOr prim (takes (a_text ∷ a_text ∷ [])) (row.two_texts (sought_in prim)) frame.old frame.new result }
 {
     frame.need(2)?;
     match (frame.text_at(0), frame.text_at(1)) {

@@ -14,6 +14,7 @@ use std::alloc::Global;
 
 /// Uses a primitive of texts: the frame is as its row says, or unchanged and the fault is that of the row. After
 /// `NoMemory` nothing is said of the frame.
+#[tactic(auto, unfolding(crate::specs::Made::sought_in))]
 pub fn apply(alloc: Global, prim: Prim, frame: &mut Frame) -> Result<(), PrimFault>
     requires { family_of prim ≡ Text }
     ensures { (words : ℕ) → AppliedOr (primitive prim (scope_of words (flat frame.old)) (flat frame.old).stack) frame.old frame.new result }
