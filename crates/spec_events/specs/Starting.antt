@@ -42,7 +42,7 @@ new_process d c running w = record {
   descr = Some d;
   mode = Foreground;
   claim = None;
-  running = running;
+  running = Some running;
 }
 
 -- it joins the others, where there is room for it

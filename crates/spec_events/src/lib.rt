@@ -7,5 +7,6 @@ mod agents;
 mod starting;
 mod texts;
 
+pub use agents::ends_what_runs_it;
 pub use starting::{Agent, Call};
 pub use texts::{error_text, flaw_text};

@@ -96,7 +96,7 @@ impl State {
                     descr: Some(d),
                     mode: Mode::Foreground,
                     claim: None,
-                    running,
+                    running: Some(running),
                 },
             ),
         }
