@@ -93,3 +93,10 @@ asked_of items = None
 abbrev pub IsWord : List Definition → Option Definition → Option ℕ → Type 0
 IsWord ds d None = d ≡ None
 IsWord ds d (Some n) = (n < length ds) × (d ≡ slice_get ds n)
+
+-- a process was started, or the fault is answered for which there is none
+abbrev pub Begins : World × Result ℤ MufFault → World → Result ℤ DeedFault → Type 0
+Begins (w, Ok n) v (Ok m) = (m ≡ n) × (v ≡ w)
+Begins (w, Err f) v (Err (Fault g)) = (g ≡ f) × (v ≡ w)
+Begins r v (Err NoMemory) = Unit {0}
+Begins r v result = ⊥

@@ -1,5 +1,5 @@
 -- Changes of the world that leave alone what a licence speaks of.
-use Rattle.std.proofs.Common.{◌≡◌, ℕ, ℤ, Bool, true, false, cond, zero, suc, List, [], ◌∷◌, refl, ◌∙◌, Option, Some, None}
+use Rattle.std.proofs.Common.{◌≡◌, ℕ, ℤ, pos, ◌+ℤ◌, Bool, true, false, cond, suc, List, [], ◌∷◌, refl, ◌∙◌, Option, Some, None}
 use Rattle.std.specs.Prelude.{Result, Ok, Err}
 use Rattle.std.specs.Option.{option_map_or}
 use Rattle.muck_model.specs.declared.dbref.Dbref.{Dbref}
@@ -11,36 +11,26 @@ use Rattle.spec_live.specs.Boards.{Board, editors_closed}
 use Rattle.spec_live.specs.Lives.{Change, tell}
 use Rattle.spec_live.proofs.EditorLaws.{editors_closed_kept}
 use Rattle.spec_rights.specs.declared.act.Actor.{Actor}
-use Rattle.spec_rights.specs.declared.act.Act.{Act}
-use Rattle.spec_rights.specs.declared.act.Act.TheVariants.{Shared, Start, Call as CallAct}
+use Rattle.spec_rights.specs.declared.act.Act.TheVariants.{Start}
 use Rattle.spec_rights.specs.Verdict.{verdict}
 use Rattle.spec_rights.specs.Asking.{refused}
-use Rattle.spec_rights.proofs.Licences.{Quiet, tie, ties, quiet_unchanged}
-use Rattle.spec_rights.proofs.Shown.{quiet_tell, quiet_tell_player, quiet_refused}
-use Rattle.muf_model.specs.declared.fault.MufFault.TheVariants.{CallsFull, BadType, NoSuchObject}
-use Rattle.muf_model.specs.Answer.{too_few}
-use Rattle.muf_model.specs.declared.prims.Primitive.{Primitive as Name}
-use Rattle.muf_model.specs.declared.prims.Primitive.TheVariants.{Call}
-use Rattle.muf_model.specs.Prims.{level_of}
-use Rattle.muf_model.specs.Datum.{Datum, text, object}
+use Rattle.spec_rights.proofs.Licences.{Quiet, tie, ties}
+use Rattle.spec_rights.proofs.Shown.{quiet_tell, quiet_refused}
+use Rattle.muf_model.specs.declared.fault.MufFault.{MufFault}
+use Rattle.muf_model.specs.declared.fault.MufFault.TheVariants.{ProcessLimit}
+use Rattle.muf_model.specs.Faults.{text_of}
 use Rattle.muf_model.specs.Tree.{Definition, Tree}
-use Rattle.muf_model.specs.Source.{Program, Source, last_word, entered, locked_of}
-use Rattle.muf_model.specs.Unit.{Outcome, goes, ended, faulted, asks, unit, fault}
-use Rattle.muf_model.specs.Chains.{Deed, does, fails, Finish, over, broke, chain, chained, after_deed, raised}
-use Rattle.spec_prims.specs.Asking.{numbered}
-use Rattle.spec_prims.specs.Row.{Row, gives, refuses}
-use Rattle.spec_prims.proofs.Quiet.{Keeps, shared_keeps}
+use Rattle.muf_model.specs.Source.{last_word}
 use Rattle.muck_library.specs.declared.flaw.Flaw.{Flaw}
 use Rattle.muck_library.specs.Programs.{built_tree}
 use Rattle.muck_library.specs.Library.{Library, formed}
 use Rattle.muck_queue.specs.declared.process.Process.{Process}
-use Rattle.muck_queue.specs.Queues.{Queue, process, without, added}
-use Rattle.spec_events.specs.declared.starting.Agent.{Agent}
+use Rattle.muck_queue.specs.Queues.{Queue, added, is_full}
 use Rattle.spec_events.specs.declared.starting.Call.{Call as Started}
+use Rattle.spec_events.specs.declared.starting.Manner.{Manner}
 use Rattle.spec_events.specs.World.{World, on_live, on_queue, with_library}
 use Rattle.spec_events.specs.Following.{followed, swept}
-use Rattle.spec_events.specs.Slices.{Doing, acting, lifted, row_done, needing, permitted_by, permitted, existing, programmed, behind, call_count, called_word, word_entered, form_entered, form_called, program_called, call_items, called, deed, finish_shown, with_finish, agent_of, ran, sliced}
-use Rattle.spec_events.specs.Starting.{not_compiled, too_many, beginning, new_process, joined, word_started, form_started, built_started, start_judged, launched}
+use Rattle.spec_events.specs.Starting.{beginning, foreground, new_process, joined, word_started, form_started, built_started, begun, start_told, start_judged, launched}
 use Rattle.spec_events.specs.Lines.{compiled_so, compiled}
 
 -- no object differs, nor who the connections are, nor what is tuned, and the world is as dead as before
@@ -84,29 +74,40 @@ unfolding swept
 quietly_swept n [] w = quietly_same w
 quietly_swept n (e ∷ es) w = quietly_both w _ _ (quietly_marked e.mark (dbref_of n) w) (quietly_swept (suc n) es _)
 
-either_world : (b : Bool) (w u v : World) → Quietly w u → Quietly w v → Quietly w (cond b u v)
-either_world true w u v p q = p
-either_world false w u v p q = q
-
 -- A program that is started.
 
-quietly_joined : (d : ℕ) (p : Process) (w : World) → Quietly w (joined d p w)
-quietly_joined d p w = either_world _ w (on_live (tell d too_many) w) (on_queue (added p) w) (quietly_live (tell d too_many) (quiet_tell d too_many) w) (quietly_queue (added p) w)
+abbrev BegunQuietly : World → World × Result ℤ MufFault → Type 0
+BegunQuietly w r = Quietly w r.0
 
-quietly_word : (d : ℕ) (c : Started) (tree : Tree) (word : Option Definition) (w : World) → Quietly w (word_started d c tree word w)
-quietly_word d c tree None w = quietly_live (tell d not_compiled) (quiet_tell d not_compiled) w
-quietly_word d c tree (Some word) w = quietly_joined d (new_process d c (beginning c tree word w) w) w
+quietly_joined : (p : Process) (w : World) → BegunQuietly w (joined p w)
+quietly_joined p w = either (is_full p.player w.live.board.tune w.queue)
+  where
+    either : (b : Bool) → BegunQuietly w (cond b (w, Err ProcessLimit) (on_queue (added p) w, Ok (w.queue.last +ℤ pos 1)))
+    either true = quietly_same w
+    either false = quietly_queue (added p) w
 
-quietly_form : (d : ℕ) (c : Started) (form : Option Tree) (w : World) → Quietly w (form_started d c form w)
-quietly_form d c None w = quietly_live (tell d not_compiled) (quiet_tell d not_compiled) w
-quietly_form d c (Some tree) w = quietly_word d c tree (last_word tree.words) w
+quietly_word : (m : Manner) (c : Started) (tree : Tree) (word : Option Definition) (w : World) → BegunQuietly w (word_started m c tree word w)
+quietly_word m c tree None w = quietly_same w
+quietly_word m c tree (Some word) w = quietly_joined (new_process m c (beginning c tree word w)) w
 
-quietly_built : (d : ℕ) (c : Started) (made : Option Tree × Library) (w : World) → Quietly w (built_started d c made w)
-quietly_built d c (form, library) w = quietly_both w (with_library library w) _ (quietly_library library w) (quietly_form d c form (with_library library w))
+quietly_form : (m : Manner) (c : Started) (form : Option Tree) (w : World) → BegunQuietly w (form_started m c form w)
+quietly_form m c None w = quietly_same w
+quietly_form m c (Some tree) w = quietly_word m c tree (last_word tree.words) w
+
+quietly_built : (m : Manner) (c : Started) (made : Option Tree × Library) (w : World) → BegunQuietly w (built_started m c made w)
+quietly_built m c (form, library) w = quietly_both w (with_library library w) _ (quietly_library library w) (quietly_form m c form (with_library library w))
+
+pub quietly_begun : (m : Manner) (c : Started) (w : World) → BegunQuietly w (begun m c w)
+unfolding begun
+quietly_begun m c w = quietly_built m c (formed w.live.objects c.program w.library) w
+
+quietly_told : (d : ℕ) (w : World) (r : World × Result ℤ MufFault) → BegunQuietly w r → Quietly w (start_told d r)
+quietly_told d w (v, Ok pid) q = q
+quietly_told d w (v, Err fault) q = quietly_both w v _ q (quietly_live (tell d (text_of fault)) (quiet_tell d (text_of fault)) v)
 
 quietly_judged : (d : ℕ) (c : Started) (o : Option Denial) (w : World) → Quietly w (start_judged d c o w)
 quietly_judged d c (Some denial) w = quietly_live (refused d denial) (quiet_refused d denial) w
-quietly_judged d c None w = quietly_built d c (formed w.live.objects c.program w.library) w
+quietly_judged d c None w = quietly_told d w _ (quietly_begun (foreground d w) c w)
 
 pub quietly_launched : (d : ℕ) (a : Actor) (c : Started) (w : World) → Quietly w (launched d a c w)
 unfolding launched
