@@ -5,19 +5,22 @@ use Rattle.muf_model.specs.declared.fault.MufFault.{MufFault}
 use Rattle.muf_model.specs.declared.fault.MufFault.TheVariants.{TooManyUnits}
 use Rattle.muf_model.specs.declared.prims.Primitive.{Primitive as Name}
 use Rattle.muf_model.specs.Source.{Source}
-use Rattle.muf_model.specs.Unit.{Outcome, goes, ended, faulted, asks, unit, units, and_then}
-use Rattle.muf_model.specs.Chains.{count, taken, StandsAt}
+use Rattle.muf_model.specs.Unit.{Outcome, goes, ended, faulted, asks, unit, units, and_then, fault}
+use Rattle.muf_model.specs.Chains.{Deed, count, taken, StandsAt}
 use Rattle.muf_model.proofs.Chains.{taken_most, taken_some}
 use Rattle.muf_running.specs.declared.stint.Ran.{Ran}
 use Rattle.muf_running.specs.declared.stint.Ran.TheVariants.{Going, Asking, Ended, Faulted}
-use Rattle.muf_running.specs.Stints.{RanAlike, AskedAt}
+use Rattle.muf_running.specs.Stints.{RanAlike, AskedAt, Raised}
 use Rattle.spec_live.specs.Lives.{tell_player}
 use Rattle.muck_queue.specs.Queues.{standing}
 use Rattle.spec_events.specs.declared.starting.Agent.{Agent}
 use Rattle.spec_events.specs.World.{World, on_live, on_queue}
-use Rattle.spec_events.specs.Slices.{deed, program_error, stands_at, ended_one, broken, went, after_deed, Turn, world_of, turn, seat}
+use Rattle.muck_model.specs.declared.dbref.Dbref.{Dbref}
+use Rattle.spec_events.specs.Following.{settled}
+use Rattle.muck_machine.specs.declared.state.deeds.Done.TheVariants.{Does as DoneDoes, Fails as DoneFails}
+use Rattle.spec_events.specs.Slices.{deed, program_error, stands_at, ended_one, broken, went, after_deed, Turn, on, over, turn, seat}
 use Rattle.spec_events.proofs.Units.{finish, after_turn, finish_spent, resumed, resumed_moved, run_law, ended_moved}
-use Rattle.muck_machine.specs.Deeds.{turn_to, Stops}
+use Rattle.muck_machine.specs.Deeds.{turn_to, Stops, DoneAs}
 
 -- where a shared primitive is asked for, a unit is left for it
 counted_before : (m : ℕ) (o : Outcome) (p : Name) (t : Source) → ((u : Source) → units m u ≡ asks p t → taken m u < m) → and_then o (units m) ≡ asks p t → count o (taken m) < suc m
@@ -104,3 +107,26 @@ module _ (pid : ℤ) (x : Agent) where
   spent_so n s w v program at none same is =
       ap (λ m. finish m pid w) none ∙ finish_spent pid x s w at
       ∙ ap (λ y. on_live (tell_player x.player (program_error s.program.number TooManyUnits)) y) (sym (ended_moved pid None w)) ∙ ap (λ k. broken pid x.player k TooManyUnits (out w)) (sym same) ∙ sym is
+
+-- A shared primitive.
+
+module _ (pid : ℤ) (player : Dbref) where
+  -- a fault is caught, or not
+  pub caught_so : (program : ℤ) (f : MufFault) (s r : Source) (w v : World) → Raised f s (Some r) → v ≡ stands_at pid r w → went pid player program (fault f s) w ≡ turn_to true v
+  caught_so program f s r w v h is = ap (λ o. went pid player program o w) h.1 ∙ ap on (sym is)
+
+  pub uncaught_so : (program : ℤ) (f : MufFault) (s : Source) (w v : World) → Raised f s None → v ≡ broken pid player program f w → went pid player program (fault f s) w ≡ turn_to false v
+  uncaught_so program f s w v h is = ap (λ o. went pid player program o w) h ∙ ap over (sym is)
+
+  -- it was done, or refused
+  pub done_so : (d : Deed World) (s t : Source) (u v : World) → DoneAs d s u (DoneDoes t) → v ≡ settled (stands_at pid t u) → after_deed pid player s d ≡ turn_to true v
+  done_so d s t u v h is = ap (after_deed pid player s) h ∙ ap on (sym is)
+
+  pub failed_so : (d : Deed World) (s t : Source) (f : MufFault) (u v : World) (goes_on : Bool) → DoneAs d s u (DoneFails t f) → went pid player t.program.number (fault f t) u ≡ turn_to goes_on v → after_deed pid player s d ≡ turn_to goes_on v
+  failed_so d s t f u v goes_on h is =
+      ap (after_deed pid player s) h.1 ∙ ap (λ y. went pid player y.program.number (fault f y) u) (sym h.0) ∙ is
+
+-- what holds of an answer, so does what follows from it
+pub if_ok_as : {X E : Type 0} (r : Result X E) (A B : X → Type 0) → ((x : X) → A x → B x) → IfOk r A → IfOk r B
+if_ok_as (Ok x) A B f h = f x h
+if_ok_as (Err e) A B f h = h

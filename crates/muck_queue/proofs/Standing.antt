@@ -1,11 +1,11 @@
 -- A process that stands at another state.
-use Rattle.std.proofs.Common.{◌≡◌, ℤ, true, false, cond, List, [], ◌∷◌, refl, ◌∙◌, ap, Option, Some, None}
+use Rattle.std.proofs.Common.{◌≡◌, ℤ, true, false, cond, List, [], ◌∷◌, refl, sym, ◌∙◌, ap, Option, Some, None}
 use Rattle.std.proofs.lemmas.Bool.{cond-true, cond-false}
 use Rattle.std.specs.Prelude.{find}
-use Rattle.std.specs.Option.{option_map}
+use Rattle.std.specs.Option.{option_map, option_and_then}
 use Rattle.muf_model.specs.Source.{Source}
 use Rattle.muck_queue.specs.declared.process.Process.{Process}
-use Rattle.muck_queue.specs.Queues.{Queue, has_pid, at_state, changed_first, without_first, with_processes, process, standing, without}
+use Rattle.muck_queue.specs.Queues.{Queue, has_pid, at_state, changed_first, without_first, with_processes, process, standing, state_of, without}
 
 module _ (pid : ℤ) (r : Option Source) where
   twice : (s : Option Source) (ps : List Process) → changed_first (has_pid pid) (at_state s) (changed_first (has_pid pid) (at_state r) ps) ≡ changed_first (has_pid pid) (at_state s) ps
@@ -58,3 +58,16 @@ module _ (pid : ℤ) (r : Option Source) where
   pub standing_same : (q : Queue) (p : Process) → process pid q ≡ Some p → p.running ≡ r → standing pid r q ≡ q
   unfolding standing
   standing_same q p f e = ap (λ ps. with_processes ps q) (same_in q.processes p f e)
+
+none_in : (pid : ℤ) (ps : List Process) → option_and_then (λ (p : Process). p.running) (find (has_pid pid) ps) ≡ None → changed_first (has_pid pid) (at_state None) ps ≡ ps
+none_in pid [] = λ e. refl
+none_in pid (p ∷ ps) =
+    elim (has_pid pid p) as (λ b. option_and_then (λ (q : Process). q.running) (cond b (Some p) (find (has_pid pid) ps)) ≡ None → cond b (at_state None p ∷ ps) (p ∷ changed_first (has_pid pid) (at_state None) ps) ≡ p ∷ ps) [
+      | true ↦ λ e. ap (λ s. record p { running = s } ∷ ps) (sym e)
+      | false ↦ λ e. ap (λ xs. p ∷ xs) (none_in pid ps e)
+    ]
+
+-- where it isn't there, or its state is out, nothing changes when that is taken out
+pub none_standing : (pid : ℤ) (q : Queue) → state_of pid q ≡ None → standing pid None q ≡ q
+unfolding standing
+none_standing pid q e = ap (λ ps. with_processes ps q) (none_in pid q.processes e)

@@ -27,5 +27,4 @@ impl Agent {
 /// process that did it. It does nothing.
 pub fn ends_what_runs_it()
     ensures { (pid : ℤ) (player : Dbref) (s t : Source) (w : World) (n : ℕ) → is_marked n w.live.objects ≡ true → NoneIn (dbref_of n) (world_of (after_deed pid player s (does t w))).queue.processes }
-{
-}
+{}
