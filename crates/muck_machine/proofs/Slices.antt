@@ -12,14 +12,17 @@ use Rattle.muf_running.specs.declared.stint.Ran.{Ran}
 use Rattle.muf_running.specs.declared.stint.Ran.TheVariants.{Going, Asking, Ended, Faulted}
 use Rattle.muf_running.specs.Stints.{RanAlike, AskedAt, Raised}
 use Rattle.spec_live.specs.Lives.{tell_player}
-use Rattle.muck_queue.specs.Queues.{standing}
+use Rattle.muck_queue.specs.declared.process.Process.{Process}
+use Rattle.muck_queue.specs.Queues.{process, standing}
+use Rattle.muck_queue.proofs.Standing.{none_standing}
+use Rattle.std.specs.Option.{option_map, option_and_then}
 use Rattle.spec_events.specs.declared.starting.Agent.{Agent}
 use Rattle.spec_events.specs.World.{World, on_live, on_queue}
 use Rattle.muck_model.specs.declared.dbref.Dbref.{Dbref}
 use Rattle.spec_events.specs.Following.{settled}
 use Rattle.muck_machine.specs.declared.state.deeds.Done.TheVariants.{Does as DoneDoes, Fails as DoneFails}
-use Rattle.spec_events.specs.Slices.{deed, program_error, stands_at, ended_one, broken, went, after_deed, Turn, on, over, turn, seat}
-use Rattle.spec_events.proofs.Units.{finish, after_turn, finish_spent, resumed, resumed_moved, run_law, ended_moved}
+use Rattle.spec_events.specs.Slices.{deed, program_error, stands_at, ended_one, broken, went, after_deed, Turn, on, over, turn, agent_of, seat_of, seat}
+use Rattle.spec_events.proofs.Units.{finish, after_turn, finish_none, finish_spent, resumed, resumed_moved, run_law, ended_moved}
 use Rattle.muck_machine.specs.Deeds.{turn_to, Stops, DoneAs}
 
 -- where a shared primitive is asked for, a unit is left for it
@@ -100,6 +103,22 @@ module _ (pid : ℤ) (x : Agent) where
       asked_on n u w v goes_on (fewer_so n u s t p ran h r e)
       (asking_by n s t w p (units n s) at (subst (λ y. RanAlike y (units n s)) r h) refl
       ∙ ap (λ m. after_turn (n - m - 1) pid (after_deed pid x.player t (deed x p t (out w)))) (sym e) ∙ ap (after_turn (n - u - 1) pid) is)
+
+  unlent : (p : Process) (o : Option Source) → option_map {U = Agent × Source} (λ s. (agent_of p, s)) o ≡ None → o ≡ None
+  unlent p None e = refl
+  unlent p (Some s) e = absurd cc
+
+  unseated : (o : Option Process) → option_and_then seat_of o ≡ None → option_and_then (λ (p : Process). p.running) o ≡ None
+  unseated None e = refl
+  unseated (Some p) e = unlent p p.running e
+
+  pub asked_as : (p : Name) (t : Source) (old w v : World) (goes_on : Bool) → old ≡ out w → after_deed pid x.player t (deed x p t old) ≡ turn_to goes_on v → after_deed pid x.player t (deed x p t (out w)) ≡ turn_to goes_on v
+  asked_as p t old w v goes_on is h = ap (λ u. after_deed pid x.player t (deed x p t u)) (sym is) ∙ h
+
+  -- it isn't there
+  pub none_so : (n : ℕ) (w v : World) → seat pid w ≡ None → v ≡ out w → Stops pid n w v None
+  none_so n w v e is =
+      finish_none n pid w e ∙ sym (is ∙ ap (λ q. record w { queue = q }) (none_standing pid w.queue (unseated (process pid w.queue) e)))
 
   -- no unit is left
   pub spent_so : (n : ℕ) (s : Source) (w v : World) (program : ℤ) → seat pid w ≡ Some (x, s) → n ≡ 0 → program ≡ s.program.number → v ≡ broken pid x.player program TooManyUnits (out w) → Stops pid n w v None

@@ -3,7 +3,7 @@ use Rattle.std.specs.Prelude.{◌≡◌, ℕ, ◌<◌, ◌≤◌, ℤ, Bool, if�
 use Rattle.std.specs.Option.{option_map}
 use Rattle.muck_model.specs.declared.dbref.Denial.{Denial}
 use Rattle.muf_model.specs.declared.fault.MufFault.{MufFault}
-use Rattle.muf_model.specs.declared.fault.MufFault.TheVariants.{Denied}
+use Rattle.muf_model.specs.declared.fault.MufFault.TheVariants.{Denied, ProcessLimit}
 use Rattle.muf_model.specs.Datum.{Datum, text, object}
 use Rattle.muf_model.specs.Flat.{Flat}
 use Rattle.muf_model.specs.Decode.{tree_of}
@@ -15,6 +15,8 @@ use Rattle.muf_model.specs.Chains.{Deed, does, fails}
 use Rattle.muf_frame.specs.declared.fault.PrimFault.{PrimFault}
 use Rattle.muf_frame.specs.declared.fault.PrimFault.TheVariants.{Fault as FrameFault, NoMemory as FrameNoMemory}
 use Rattle.muf_frame.specs.Shown.{Shown, flat}
+use Rattle.muck_queue.specs.declared.fault.QueueFault.{QueueFault}
+use Rattle.muck_queue.specs.declared.fault.QueueFault.TheVariants.{ProcessLimit as Limit, NoMemory as Wanted}
 use Rattle.muf_running.specs.declared.entered.Entered.{Entered}
 use Rattle.muf_running.specs.Fitting.{program_with, IsAtPrimitive}
 use Rattle.muf_running.specs.Lending.{Apart, Differs}
@@ -100,3 +102,10 @@ Begins (w, Ok n) v (Ok m) = (m ≡ n) × (v ≡ w)
 Begins (w, Err f) v (Err (Fault g)) = (g ≡ f) × (v ≡ w)
 Begins r v (Err NoMemory) = Unit {0}
 Begins r v result = ⊥
+
+-- the number of a process that was added, or the fault of one that was refused
+abbrev pub StartsAs : Result ℤ QueueFault → Result ℤ DeedFault → Type 0
+StartsAs (Ok n) (Ok m) = m ≡ n
+StartsAs (Err Limit) (Err (Fault f)) = f ≡ ProcessLimit
+StartsAs (Err Wanted) (Err NoMemory) = Unit {0}
+StartsAs added result = ⊥

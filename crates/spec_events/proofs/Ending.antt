@@ -1,6 +1,6 @@
 -- Whoever is in a program that changed ends once that is told.
-use Rattle.std.proofs.Common.{◌≡◌, ℕ, ◌+◌, zero, suc, Bool, true, false, not, cond, List, [], ◌∷◌, map, refl, sym, ◌∙◌, ap, subst, arith, Option, Some, None}
-use Rattle.std.specs.Prelude.{slice_get, is_some}
+use Rattle.std.proofs.Common.{◌≡◌, ℕ, ◌+◌, zero, suc, Bool, true, false, not, cond, List, [], ◌∷◌, map, refl, sym, subst, arith, Option, Some, None}
+use Rattle.std.specs.Prelude.{is_some}
 use Rattle.std.specs.List.{filter}
 use Rattle.std.specs.Option.{option_map_or}
 use Rattle.std.proofs.lemmas.Bool.{cond_both}
@@ -8,12 +8,10 @@ use Rattle.muck_model.specs.declared.dbref.Dbref.{Dbref}
 use Rattle.spec_live.specs.declared.mark.Mark.{Mark}
 use Rattle.spec_live.specs.declared.mark.Mark.TheVariants.{Lines, Gone}
 use Rattle.spec_live.specs.Objects.{Entry, dbref_of}
-use Rattle.muf_model.specs.Source.{Source}
 use Rattle.muck_queue.specs.declared.process.Process.{Process}
-use Rattle.muck_queue.specs.Queues.{Queue, runs, has_trigger, without_trigger, ended_running, trigger_cleared}
+use Rattle.muck_queue.specs.Queues.{runs, has_trigger, without_trigger, ended_running, trigger_cleared}
 use Rattle.spec_events.specs.World.{World}
 use Rattle.spec_events.specs.Following.{followed, swept, settled, NoneIn, is_marked}
-use Rattle.spec_events.specs.Slices.{stands_at}
 
 -- where some processes are left out
 kept_out : (d : Dbref) (test : Process → Bool) (ps : List Process) → NoneIn d ps → NoneIn d (filter test ps)
@@ -73,4 +71,6 @@ swept_ends n (suc k) (e ∷ es) w h =
 
 pub settled_ends : (n : ℕ) (w : World) → is_marked n w.live.objects ≡ true → NoneIn (dbref_of n) (settled w).queue.processes
 unfolding settled
-settled_ends n w h = swept_ends 0 n w.live.objects w h
+settled_ends n w h =
+    let here : 0 + n ≡ n = omega arith in
+    subst (λ m. NoneIn (dbref_of m) (swept 0 w.live.objects w).queue.processes) here (swept_ends 0 n w.live.objects w h)

@@ -13,7 +13,7 @@ use Rattle.muf_model.specs.declared.fault.MufFault.{MufFault}
 use Rattle.muf_model.specs.declared.prims.Primitive.{Primitive as Name}
 use Rattle.muf_model.specs.declared.prims.Primitive.TheVariants.{Call}
 use Rattle.muf_model.specs.Source.{Program, Source, locked_of}
-use Rattle.muf_model.specs.Unit.{Outcome, goes, ended, faulted, asks, unit, fault}
+use Rattle.muf_model.specs.Unit.{Outcome, goes, faulted, asks, unit, fault}
 use Rattle.muf_model.specs.Chains.{Deed, does, fails, programs_of, Keeps as Keep}
 use Rattle.muf_model.proofs.Chains.{unit_keeps}
 use Rattle.spec_prims.specs.Asking.{numbered}
@@ -25,7 +25,7 @@ use Rattle.spec_prims.proofs.Quiet.{Keeps, shared_keeps}
 use Rattle.muck_library.specs.Library.{Library}
 use Rattle.muck_queue.specs.Queues.{standing, without}
 use Rattle.spec_events.specs.declared.starting.Agent.{Agent}
-use Rattle.spec_events.specs.World.{World, on_live, on_queue}
+use Rattle.spec_events.specs.World.{World}
 use Rattle.spec_events.specs.Slices.{acting, lifted, row_done, called, with_forms, deed, stands_at, ended_one, broken, program_error, Turn, on, over, went, after_deed, unit_done, limit_fault, within_limit, turn, world_of, unit_of, seat, then_more, run_of, last_world, units_of, sliced}
 use Rattle.spec_events.specs.Licences.{UnitLicensed, SliceLicensed}
 use Rattle.spec_events.proofs.Quietly.{quietly_live, quietly_queue, quietly_library}

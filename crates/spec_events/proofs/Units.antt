@@ -3,6 +3,7 @@ use Rattle.std.proofs.Common.{◌≡◌, ℕ, zero, suc, ◌-◌, ◌≤◌, Lis
 use Rattle.std.specs.Prelude.{ℤ}
 use Rattle.std.specs.Option.{option_map, option_map_or, option_and_then}
 use Rattle.muck_model.specs.declared.dbref.Dbref.{Dbref}
+use Rattle.spec_live.specs.Lives.{tell_player}
 use Rattle.muf_model.specs.declared.prims.Primitive.{Primitive as Name}
 use Rattle.muf_model.specs.declared.prims.Primitive.TheVariants.{Call}
 use Rattle.muf_model.specs.Source.{Program, Source, locked_of}
@@ -13,12 +14,12 @@ use Rattle.spec_prims.specs.Row.{Row, gives, refuses}
 use Rattle.spec_prims.specs.Shared.{shared}
 use Rattle.muck_library.specs.Library.{Library}
 use Rattle.muck_queue.specs.declared.process.Process.{Process}
-use Rattle.muck_queue.specs.Queues.{Queue, at_state, process, standing}
+use Rattle.muck_queue.specs.Queues.{at_state, process, standing}
 use Rattle.muck_queue.proofs.Standing.{standing_twice, without_standing, process_standing, standing_same}
 use Rattle.spec_events.specs.declared.starting.Agent.{Agent}
 use Rattle.spec_events.specs.World.{World, on_live, on_queue, with_library}
 use Rattle.spec_events.specs.Following.{settled}
-use Rattle.spec_events.specs.Slices.{acting, lifted, row_done, behind, called, with_forms, deed, stands_at, ended_one, broken, Turn, on, over, went, after_deed, unit_done, turn, world_of, unit_of, agent_of, seat_of, seat, then_more, run_of, last_world}
+use Rattle.spec_events.specs.Slices.{acting, program_error, lifted, row_done, behind, called, with_forms, deed, stands_at, ended_one, Turn, on, over, went, after_deed, unit_done, turn, world_of, unit_of, agent_of, seat_of, seat, then_more, run_of, last_world}
 
 -- the world after the units of a process that has so many left
 abbrev pub finish : ℕ → ℤ → World → World
@@ -60,11 +61,11 @@ record Sits (pid : ℤ) (x : Agent) (s : Source) (w : World) : Type 0 where
   agent : agent_of it ≡ x
   state : it.running ≡ Some s
 
-sits_in : (pid : ℤ) (x : Agent) (s : Source) (w : World) (p : Process) (o : Option Source) → process pid w.queue ≡ Some p → p.running ≡ o → option_map (λ r. (agent_of p, r)) o ≡ Some (x, s) → Sits pid x s w
+sits_in : (pid : ℤ) (x : Agent) (s : Source) (w : World) (p : Process) (o : Option Source) → process pid w.queue ≡ Some p → p.running ≡ o → option_map {U = Agent × Source} (λ r. (agent_of p, r)) o ≡ Some (x, s) → Sits pid x s w
 sits_in pid x s w p None f r e = absurd cc
 sits_in pid x s w p (Some t) f r e =
-    let same : t ≡ s = cc in
-    let who : agent_of p ≡ x = cc in
+    let same : t ≡ s = ap (λ (q : Option (Agent × Source)). option_map_or (λ r. r.1) q s) e in
+    let who : agent_of p ≡ x = ap (λ (q : Option (Agent × Source)). option_map_or (λ r. r.0) q x) e in
     record { it = p; found = f; agent = who; state = r ∙ ap Some same }
 
 sits_by : (pid : ℤ) (x : Agent) (s : Source) (w : World) (o : Option Process) → process pid w.queue ≡ o → option_and_then seat_of o ≡ Some (x, s) → Sits pid x s w
@@ -99,7 +100,7 @@ module _ (pid : ℤ) (r : Option Source) where
 
   pub went_moved : (player : Dbref) (program : ℤ) (o : Outcome) (w : World) → went pid player program o (moved w) ≡ went pid player program o w
   went_moved player program (goes k t) w = ap on (stands_moved t w)
-  went_moved player program (faulted f) w = ap (λ v. over (on_live _ v)) (ended_moved w)
+  went_moved player program (faulted f) w = ap (λ v. over (on_live (tell_player player (program_error program f)) v)) (ended_moved w)
   went_moved player program _ w = ap over (ended_moved w)
 
   after_row : (player : Dbref) (s : Source) (row : Row) (w : World) → after_deed pid player s (lifted s (moved w) row) ≡ after_deed pid player s (lifted s w row)

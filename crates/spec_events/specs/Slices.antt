@@ -25,7 +25,7 @@ use Rattle.muf_model.specs.Datum.{Datum, text, object}
 use Rattle.muf_model.specs.Answer.{too_few}
 use Rattle.muf_model.specs.Tree.{Definition, Tree}
 use Rattle.muf_model.specs.Source.{Program, Source, locked_of, calls_of, passed, last_word, entered}
-use Rattle.muf_model.specs.Unit.{calls_most, Outcome, goes, ended, faulted, asks, unit, fault}
+use Rattle.muf_model.specs.Unit.{calls_most, Outcome, goes, faulted, asks, unit, fault}
 use Rattle.muf_model.specs.Chains.{callers_of, Deed, does, fails}
 use Rattle.spec_prims.specs.Asking.{numbered}
 use Rattle.spec_prims.specs.Row.{Row, gives, refuses}

@@ -5,7 +5,7 @@ ghost use Rattle.muf_model.specs.Chains.{StandsAt};
 ghost use Rattle.muf_model.specs.Unit.{fault};
 ghost use Rattle.muck_queue.specs.Queues.{standing};
 ghost use Rattle.spec_events.specs.World.{on_queue};
-ghost use Rattle.spec_events.specs.Slices.{after_deed, broken, deed, seat, went};
+ghost use Rattle.spec_events.specs.Slices.{after_deed, broken, deed, last_world, run_of, seat, went};
 ghost use Rattle.spec_events.specs.Steps.{happened};
 ghost use Rattle.muck_machine.specs.Deeds.{Stops, turn_to};
 
@@ -24,7 +24,15 @@ impl State {
     pub fn slice(&mut self, pid: i32) -> Result<(), NoMemory>
         ensures { OnOk result (self.new ≡ happened self.old 0 (Event.Slice pid)) }
     {
-        let mut left = self.board.tune().m2_units;
+        let limit = self.board.tune().m2_units;
+        self.take_units(pid, limit)
+    }
+
+    // The units of a process that has so many.
+    fn take_units(&mut self, pid: i32, limit: u32) -> Result<(), NoMemory>
+        ensures { OnOk result (self.new ≡ last_world self.old (run_of limit pid self.old)) }
+    {
+        let mut left = limit;
         while let Some(units) = self.stint(pid, left)? {
             left = units;
         }
@@ -102,24 +110,25 @@ impl State {
         pid: i32,
         player: Dbref,
         running: Running,
-        fault: MufFault,
+        raised: MufFault,
     ) -> Result<bool, NoMemory>
-        ensures { IfOk result (λ goes_on. went pid player running.program.number (fault fault running) self.old ≡ turn_to goes_on self.new) }
+        ensures { IfOk result (λ goes_on. went pid player running.program.number (fault raised running) self.old ≡ turn_to goes_on self.new) }
     {
         let program = running.program();
-        match running.raise(self.alloc, &fault)? {
+        match running.raise(self.alloc, &raised)? {
             Some(caught) => {
                 self.queue.put_back(pid, caught);
                 Ok(true)
             }
             None => {
-                self.end_broken(pid, player, program, fault)?;
+                self.end_broken(pid, player, program, raised)?;
                 Ok(false)
             }
         }
     }
 
     // A process ends by a fault, of which its player is told.
+    #[tactic(auto, unfolding(spec_live::specs::Lives::tell_player))]
     fn end_broken(
         &mut self,
         pid: i32,

@@ -7,7 +7,7 @@ ghost use Rattle.muf_model.specs.Faults.{text_of};
 ghost use Rattle.muf_model.specs.Stands.{TreeStands};
 ghost use Rattle.spec_events.specs.World.{on_live};
 ghost use Rattle.spec_events.specs.Starting.{begun, foreground, form_started, joined, launched, start_told};
-ghost use Rattle.muck_machine.specs.Deeds.{Begins};
+ghost use Rattle.muck_machine.specs.Deeds.{Begins, StartsAs};
 
 use crate::state::State;
 use crate::state::deeds::DeedFault;
@@ -138,10 +138,18 @@ impl State {
         ensures { Begins (joined process self.old) self.new result }
     {
         let tune = self.board.tune();
-        match self.queue.add(process, &tune) {
-            Ok(number) => Ok(number),
-            Err(QueueFault::ProcessLimit) => Err(DeedFault::Fault(MufFault::ProcessLimit)),
-            Err(QueueFault::NoMemory) => Err(DeedFault::NoMemory),
-        }
+        let added = self.queue.add(process, &tune);
+        started(added)
+    }
+}
+
+// What a start answers, once its process was added or refused.
+fn started(added: Result<i32, QueueFault>) -> Result<i32, DeedFault>
+    ensures { StartsAs added result }
+{
+    match added {
+        Ok(number) => Ok(number),
+        Err(QueueFault::ProcessLimit) => Err(DeedFault::Fault(MufFault::ProcessLimit)),
+        Err(QueueFault::NoMemory) => Err(DeedFault::NoMemory),
     }
 }

@@ -1,4 +1,4 @@
-use Rattle.std.proofs.Common.{◌∙◌, None, Option, ap, sym, refl, arith}
+use Rattle.std.proofs.Common.{◌∙◌, None, Option, ap, sym, arith}
 use Rattle.std.specs.Option.{option_and_then}
 use Rattle.std.proofs.lemmas.Int.{to_z-of_z}
 use Rattle.muck_queue.specs.declared.process.Process.{Process}
