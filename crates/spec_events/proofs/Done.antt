@@ -25,7 +25,7 @@ use Rattle.spec_commands.specs.Talk.{at_login, waits}
 use Rattle.spec_commands.proofs.Showing.{quiet_waits}
 use Rattle.spec_commands.proofs.Permitted.{waited_open}
 use Rattle.spec_commands.proofs.Edited.{edited_licensed}
-use Rattle.spec_commands.proofs.Numbered.{numbers, numbers-ties, numbers-same_ties, Seating, seating_quiet, seating_order}
+use Rattle.spec_commands.proofs.Numbered.{numbers, numbers-same_ties, Seating, seating_quiet, seating_order}
 use Rattle.spec_commands.proofs.Lines.{seating_at_login}
 use Rattle.spec_events.specs.World.{World, on_live}
 use Rattle.spec_events.specs.Following.{swept, settled}
@@ -35,17 +35,17 @@ use Rattle.spec_events.proofs.Quietly.{Quietly, quietly_live, quietly_swept, qui
 use Rattle.spec_events.proofs.Told.{licensed_told, licensed_as}
 
 -- what an actor may do to a world that is one already: the changes are open, and it is as dead as before
-record Open (a : Actor) (free : Dbref → Bool) (start : Live) (dead : Bool) (v : World) : Type 0 where
-  licensed : Licensed a free start v.live
-  alive : v.dead ≡ dead
+pub record Open (a : Actor) (free : Dbref → Bool) (start : Live) (dead : Bool) (v : World) : Type 0 where
+  pub licensed : Licensed a free start v.live
+  pub alive : v.dead ≡ dead
 
-open_quietly : (a : Actor) (free : Dbref → Bool) (start : Live) (dead : Bool) (u v : World) → Open a free start dead u → Quietly u v → Open a free start dead v
+pub open_quietly : (a : Actor) (free : Dbref → Bool) (start : Live) (dead : Bool) (u v : World) → Open a free start dead u → Quietly u v → Open a free start dead v
 open_quietly a free start dead u v p q = record {
   licensed = licensed_as a free start u.live v.live p.licensed q.objects q.ties q.tune;
   alive = q.dead ∙ p.alive;
 }
 
-open_settled : (a : Actor) (free : Dbref → Bool) (start : Live) (dead : Bool) (u : World) → Open a free start dead u → Open a free start dead (settled u)
+pub open_settled : (a : Actor) (free : Dbref → Bool) (start : Live) (dead : Bool) (u : World) → Open a free start dead u → Open a free start dead (settled u)
 unfolding settled
 open_settled a free start dead u p =
     let q = open_quietly a free start dead u _ p (quietly_swept 0 u.live.objects u) in
@@ -182,11 +182,8 @@ pub record Going (w v : World) : Type 0 where
   pub numbers : numbers v.live.board.connections ≡ numbers w.live.board.connections
   pub dead : v.dead ≡ w.dead
 
-going_open : (a : Actor) (free : Dbref → Bool) (w v : World) → Open a free w.live w.dead v → Going w v
+pub going_open : (a : Actor) (free : Dbref → Bool) (w v : World) → Open a free w.live w.dead v → Going w v
 going_open a free w v p = record { numbers = numbers-same_ties a w.live.board.connections v.live.board.connections p.licensed.connections; dead = p.alive }
-
-pub going_quietly : (w v : World) → Quietly w v → Going w v
-going_quietly w v q = record { numbers = numbers-ties w.live.board.connections v.live.board.connections q.ties; dead = q.dead }
 
 pub going_same : (w : World) → Going w w
 going_same w = record { numbers = refl; dead = refl }

@@ -11,8 +11,8 @@ use Rattle.spec_events.specs.World.{World, connection}
 use Rattle.spec_events.specs.Steps.{effect, happened}
 use Rattle.spec_events.specs.Licences.{Untouched, EventLicensed}
 use Rattle.spec_events.specs.Histories.{AllLicensed}
-use Rattle.spec_events.proofs.Quietly.{Quietly, quietly_sliced}
 use Rattle.spec_events.proofs.Done.{turn_licensed}
+use Rattle.spec_events.proofs.Taken.{slice_licensed}
 
 -- what a player does by a line is open to it, and at the login screen no object changes
 pub exec_licensed : (d : ℕ) (w : World) (party : ℕ) → EventLicensed (Exec d) w (happened w party (Exec d))
@@ -26,13 +26,10 @@ gone_away_untouched d w =
     let shown = parting.law v in
     record { objects = shown.objects; tune = shown.tune }
 
-quietly_untouched : (w v : World) → Quietly w v → Untouched w.live v.live
-quietly_untouched w v q = record { objects = q.objects; tune = q.tune }
-
 event_licensed : (event : Event) (w : World) (party : ℕ) → EventLicensed event w (happened w party event)
 unfolding opened line_added bytes_taken
 event_licensed (Exec d) w party = exec_licensed d w party
-event_licensed (Slice pid) w party = quietly_untouched w _ (quietly_sliced pid w)
+event_licensed (Slice pid) w party = slice_licensed pid w
 event_licensed (Closed d) w party = gone_away_untouched d w.live
 event_licensed (Opened d) w party = record { objects = refl; tune = refl }
 event_licensed (Input d line) w party = record { objects = refl; tune = refl }

@@ -1,9 +1,9 @@
 -- What a step may change.
-use Rattle.std.specs.Prelude.{◌≡◌, ℕ, Bool, List, ◌∷◌, Option, Some, None}
+use Rattle.std.specs.Prelude.{◌≡◌, ℕ, All, Bool, List, ◌∷◌, Option, Some, None}
 use Rattle.muck_model.specs.declared.dbref.Dbref.{Dbref}
 use Rattle.muck_model.specs.declared.edit.EditState.{EditState}
 use Rattle.muck_model.specs.declared.event.Event.{Event}
-use Rattle.muck_model.specs.declared.event.Event.TheVariants.{Exec}
+use Rattle.muck_model.specs.declared.event.Event.TheVariants.{Exec, Slice}
 use Rattle.spec_live.specs.Objects.{Entry}
 use Rattle.spec_live.specs.Connections.{Connection}
 use Rattle.spec_live.specs.Lives.{Live}
@@ -12,6 +12,7 @@ use Rattle.spec_rights.specs.Licence.{Licensed, nobody}
 use Rattle.spec_commands.specs.Finding.{actor_of}
 use Rattle.spec_commands.specs.Free.{free_line}
 use Rattle.spec_events.specs.World.{World, connection}
+use Rattle.spec_events.specs.Slices.{Taken, last_world, units_of}
 
 -- no object changes, and nothing that is tuned
 pub record Untouched (w v : Live) : Type 0 where
@@ -34,7 +35,17 @@ abbrev pub TurnLicensed : Option Connection → Live → Live → Type 0
 TurnLicensed (Some c) w v = LineLicensed c.player c.editor c.waiting w v
 TurnLicensed None w v = Untouched w v
 
--- nothing but a line that is done changes an object
+-- a unit changes only what is open to the running program, by the rights before it
+abbrev pub UnitLicensed : Taken → Type 0
+UnitLicensed t = Licensed t.actor nobody t.before.live t.after.live
+
+-- the units of a slice lead to the world after it
+pub record SliceLicensed (ts : List Taken) (w v : World) : Type 0 where
+  pub units : All UnitLicensed ts
+  pub leads : v.live ≡ (last_world w ts).live
+
+-- nothing but a line that is done and a unit that is taken changes an object
 abbrev pub EventLicensed : Event → World → World → Type 0
 EventLicensed (Exec d) w v = TurnLicensed (connection d w) w.live v.live
+EventLicensed (Slice pid) w v = SliceLicensed (units_of pid w) w v
 EventLicensed event w v = Untouched w.live v.live
