@@ -125,11 +125,10 @@ fn is_company(guard: &Guard, player: Dbref, to: Dbref) -> bool
 pub fn whisper(guard: &mut Guard, d: u32, to: Dbref, text: &Line) -> Result<(), NoMemory>
     ensures { Did (whispered d guard.old.actor.player to text.now) guard.old guard.new result }
 {
-    if is_company(guard, guard.actor().player, to) {
-        say_to(guard, d, to, b"whisper", text)
-    } else {
-        cant_be_done(guard, d)
+    if !is_company(guard, guard.actor().player, to) {
+        return cant_be_done(guard, d);
     }
+    say_to(guard, d, to, b"whisper", text)
 }
 
 // A connection, where it has a player.

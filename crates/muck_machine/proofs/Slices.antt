@@ -5,7 +5,7 @@ use Rattle.muf_model.specs.declared.fault.MufFault.{MufFault}
 use Rattle.muf_model.specs.declared.fault.MufFault.TheVariants.{TooManyUnits}
 use Rattle.muf_model.specs.declared.prims.Primitive.{Primitive as Name}
 use Rattle.muf_model.specs.Source.{Source}
-use Rattle.muf_model.specs.Unit.{Outcome, goes, ended, faulted, asks, unit, units, and_then, fault}
+use Rattle.muf_model.specs.Unit.{Outcome, goes, ended, faulted, asks, stuck, unit, units, and_then, fault}
 use Rattle.muf_model.specs.Chains.{Deed, count, taken, StandsAt}
 use Rattle.muf_model.proofs.Chains.{taken_most, taken_some}
 use Rattle.muf_running.specs.declared.stint.Ran.{Ran}
@@ -30,6 +30,7 @@ counted_before : (m : ℕ) (o : Outcome) (p : Name) (t : Source) → ((u : Sourc
 counted_before m (goes zero u) p t h e = (let l = h u e in omega arith)
 counted_before m (goes (suc k) u) p t h e = absurd cc
 counted_before m ended p t h e = absurd cc
+counted_before m stuck p t h e = absurd cc
 counted_before m (faulted f) p t h e = absurd cc
 counted_before m (asks q u) p t h e = omega arith
 

@@ -29,7 +29,7 @@ pub struct Done {
 ///
 /// The first cause stands: the words, then reading the script, then its grammar, then the run. Want of memory may come at
 /// any place.
-#[tactic(auto, using(spec_events::proofs::Turns::all_licensed))]
+#[tactic(auto, using(spec_events::proofs::Turns::all_licensed_starting))]
 pub fn muckd<S: Source, K: Sink>(
     alloc: Global,
     words: &[String],

@@ -1,8 +1,10 @@
 pub mod Compiling
 pub mod Growing
+pub mod Nesting
 pub mod Offers
 pub mod Pendings
 pub mod Rows
-pub mod Titles
+pub mod Scopes
 pub mod Sound
-pub mod Worded
+pub mod Spelling
+pub mod Titles

@@ -228,7 +228,7 @@ read_outside line (token.Number n) k = refuse line UnknownWord
 read_outside line (token.Ref d) k = refuse line UnknownWord
 read_outside line (token.Address name) k = refuse line UnknownWord
 
--- a word of the structure in a word
+-- a word of the structure in a word; there is nothing yet that FOREACH could go over
 abbrev pub controlled : ℕ → Control → Known → Read
 controlled line control.Colon k = refuse line BadHeader
 controlled line control.LVar k = refuse line BadHeader
@@ -245,7 +245,7 @@ controlled line control.Catch k = acts line act.Catch k
 controlled line control.EndCatch k = acts line act.EndCatch k
 controlled line control.Begin k = acts line (act.Open opening.Begin) k
 controlled line control.For k = acts line (act.Open opening.For) k
-controlled line control.ForEach k = acts line (act.Open opening.Each) k
+controlled line control.ForEach k = refuse line UnknownWord
 controlled line control.Repeat k = acts line act.Repeat k
 controlled line control.Until k = acts line act.Until k
 controlled line control.While k = acts line (act.Jump item.While) k

@@ -466,7 +466,7 @@ impl Known {
             Control::EndCatch => Act::EndCatch,
             Control::Begin => Act::Open(Opening::Begin),
             Control::For => Act::Open(Opening::For),
-            Control::ForEach => Act::Open(Opening::Each),
+            Control::ForEach => return Err(CompileFault::at(line, CompileKind::UnknownWord)),
             Control::Repeat => Act::Repeat,
             Control::Until => Act::Until,
             Control::While => Act::Jump(Word::While),

@@ -16,7 +16,7 @@ use Rattle.muf_model.specs.Rows.{primitive}
 use Rattle.muf_model.specs.Tree.{Fork, if_word, try_word, Ring, begin_word, for_word, each_word, Block, stop, word, when, fork, ring, End, closes, hops, then_block, Definition}
 use Rattle.muf_model.specs.Source.{plain, indices, pairs, Program, Mark, looping, trying, calling, entering, Source, locked_of, with_variable, with_owned, owned_by, scope_of, open_of}
 use Rattle.muf_model.specs.Unit as step
-use Rattle.muf_model.specs.Unit.{Outcome, goes, ended, faulted, asks, unit, units, and_then, Settled, ready, crowded}
+use Rattle.muf_model.specs.Unit.{Outcome, goes, ended, faulted, asks, stuck, unit, units, and_then, Settled, ready, crowded}
 use Rattle.muf_model.specs.Chains.{Deed, chain, chained, resumed, callers_of, programs_of, count, taken, StandsAt, Keeps}
 
 -- the same of an outcome by its form
@@ -25,6 +25,7 @@ data Holds (ps : List Program) : Outcome → Type 0 where
   done : Holds ps ended
   broken : {f : MufFault} → Holds ps (faulted f)
   asking : {p : Name} {t : Source} → programs_of t ≡ ps → StandsAt p t → Holds ps (asks p t)
+  lost : Holds ps stuck
 
 data Within (ps : List Program) : Source → Type 0 where
   within : {t : Source} → programs_of t ≡ ps → Within ps t
@@ -37,6 +38,7 @@ holds ps (goes k t) (on e) = e
 holds ps ended done = tt
 holds ps (faulted f) broken = tt
 holds ps (asks p t) (asking e h) = (e, h)
+holds ps stuck lost = tt
 
 -- the running one of some programs
 abbrev first_program : Program → List Program → Program
@@ -73,18 +75,18 @@ module _ (ps : List Program) where
   leaves_word s (entering caller saved next end ∷ ms) e = on (drop_one 0 s.program ps _ e)
 
   leaves_loop : (s : Source) (ms : List Mark) → s.program ∷ callers_of ms ≡ ps → Holds ps (step.leave_loop s ms)
-  leaves_loop s [] e = done
+  leaves_loop s [] e = lost
   leaves_loop s (looping t round c last next end ∷ ms) e = on e
   leaves_loop s (trying locked next end ∷ ms) e = leaves_loop s ms e
-  leaves_loop s (calling saved next end ∷ ms) e = done
-  leaves_loop s (entering caller saved next end ∷ ms) e = done
+  leaves_loop s (calling saved next end ∷ ms) e = lost
+  leaves_loop s (entering caller saved next end ∷ ms) e = lost
 
   turns : (s : Source) (ms : List Mark) → s.program ∷ callers_of ms ≡ ps → Holds ps (step.next_turn s ms)
-  turns s [] e = done
+  turns s [] e = lost
   turns s (looping t round c last next end ∷ ms) e = on e
   turns s (trying locked next end ∷ ms) e = turns s ms e
-  turns s (calling saved next end ∷ ms) e = done
-  turns s (entering caller saved next end ∷ ms) e = done
+  turns s (calling saved next end ∷ ms) e = lost
+  turns s (entering caller saved next end ∷ ms) e = lost
 
   tests_of : (stack : List Datum) (s : Source) (f g : Source → Outcome) → programs_of s ≡ ps → ((rest : List Datum) → Holds ps (f (record s { stack = rest }))) → ((rest : List Datum) → Holds ps (g (record s { stack = rest }))) → Holds ps (step.tested stack s f g)
   tests_of [] s f g e h k = faults StackEmpty s e
@@ -115,25 +117,25 @@ module _ (ps : List Program) where
   opens before after e d = either _ _ _ (on d) (faults CallsFull before e)
 
   index_tests : (s : Source) (ms : List Mark) → s.program ∷ callers_of ms ≡ ps → Holds ps (step.index_test s ms)
-  index_tests s [] e = done
-  index_tests s (looping plain round c last next end ∷ ms) e = done
+  index_tests s [] e = lost
+  index_tests s (looping plain round c last next end ∷ ms) e = lost
   index_tests s (looping (indices (Some i) to by) round c last next end ∷ ms) e = either (step.has_turn i to by) (step.answered (fitting (int i ∷ s.stack)) (record s { marks = looping (indices (step.next_index i by) to by) round c last next end ∷ ms })) (goes 0 (record s { now = next; end = end; marks = ms })) (answers (fitting (int i ∷ s.stack)) (record s { marks = looping (indices (step.next_index i by) to by) round c last next end ∷ ms }) e) (on e)
   index_tests s (looping (indices None to by) round c last next end ∷ ms) e = on e
-  index_tests s (looping (pairs left) round c last next end ∷ ms) e = done
-  index_tests s (trying locked next end ∷ ms) e = done
-  index_tests s (calling saved next end ∷ ms) e = done
-  index_tests s (entering caller saved next end ∷ ms) e = done
+  index_tests s (looping (pairs left) round c last next end ∷ ms) e = lost
+  index_tests s (trying locked next end ∷ ms) e = lost
+  index_tests s (calling saved next end ∷ ms) e = lost
+  index_tests s (entering caller saved next end ∷ ms) e = lost
 
   pair_tests : (s : Source) (ms : List Mark) → s.program ∷ callers_of ms ≡ ps → Holds ps (step.pair_test s ms)
-  pair_tests s [] e = done
-  pair_tests s (looping plain round c last next end ∷ ms) e = done
-  pair_tests s (looping (indices i to by) round c last next end ∷ ms) e = done
+  pair_tests s [] e = lost
+  pair_tests s (looping plain round c last next end ∷ ms) e = lost
+  pair_tests s (looping (indices i to by) round c last next end ∷ ms) e = lost
   pair_tests s (looping (pairs []) round c last next end ∷ ms) e = on e
   pair_tests s (looping (pairs ((k, x) ∷ left)) round c last next end ∷ ms) e =
       answers (fitting (x ∷ k ∷ s.stack)) (record s { marks = looping (pairs left) round c last next end ∷ ms }) e
-  pair_tests s (trying locked next end ∷ ms) e = done
-  pair_tests s (calling saved next end ∷ ms) e = done
-  pair_tests s (entering caller saved next end ∷ ms) e = done
+  pair_tests s (trying locked next end ∷ ms) e = lost
+  pair_tests s (calling saved next end ∷ ms) e = lost
+  pair_tests s (entering caller saved next end ∷ ms) e = lost
 
   -- a primitive that isn't local is asked for
   uses_shared : (p : Name) (line : ℕ) (next : Block) (s : Source) → s.now ≡ word line (Primitive p) next → programs_of s ≡ ps → (b : Bool) → is_local p ≡ b → Holds ps (cond b (step.answered (primitive p (scope_of (record s { now = next })) s.stack) (record s { now = next })) (asks p s))
@@ -167,11 +169,11 @@ module _ (ps : List Program) where
       tests s (λ t. step.leave_loop t t.marks) (λ t. step.next_turn t t.marks) e (λ rest. leaves_loop (record s { stack = rest }) s.marks e) (λ rest. turns (record s { stack = rest }) s.marks e)
 
   ends_try : (s : Source) (ms : List Mark) → s.program ∷ callers_of ms ≡ ps → Holds ps (step.end_try s ms)
-  ends_try s [] e = done
-  ends_try s (looping t round c last next end ∷ ms) e = done
+  ends_try s [] e = lost
+  ends_try s (looping t round c last next end ∷ ms) e = lost
   ends_try s (trying locked next end ∷ ms) e = on e
-  ends_try s (calling saved next end ∷ ms) e = done
-  ends_try s (entering caller saved next end ∷ ms) e = done
+  ends_try s (calling saved next end ∷ ms) e = lost
+  ends_try s (entering caller saved next end ∷ ms) e = lost
 
   ends : (end : End) (s : Source) → programs_of s ≡ ps → Holds ps (step.end_unit end s)
   ends (closes c line) s e = closers c s e
@@ -209,7 +211,7 @@ module _ (ps : List Program) where
   eaches _ s body c last e = faults BadType s e
 
   rings : (k : Ring) (body : Block) (c : Closer) (last : ℕ) (s : Source) → programs_of s ≡ ps → Holds ps (step.ring_unit k body c last s)
-  rings begin_word body c last s e = done
+  rings begin_word body c last s e = lost
   rings for_word body c last s e =
       either (nat_lt (length s.stack) (locked_of s.marks + 3)) (step.fault (too_few 3 s.stack) s) (step.for_count s.stack s body c last) (faults (too_few 3 s.stack) s e) (fors s.stack s body c last e)
   rings each_word body c last s e =
@@ -261,6 +263,7 @@ then_keeps ps m (goes (suc k) t) more h = h
 then_keeps ps m ended more h = tt
 then_keeps ps m (faulted f) more h = tt
 then_keeps ps m (asks p t) more h = h
+then_keeps ps m stuck more h = tt
 
 units_in : (ps : List Program) (m : ℕ) (s : Source) → programs_of s ≡ ps → Keeps ps (units m s)
 units_in ps zero s e = e
@@ -276,6 +279,7 @@ count_most m (goes (suc k) t) h = omega arith
 count_most m ended h = omega arith
 count_most m (faulted f) h = omega arith
 count_most m (asks p t) h = omega arith
+count_most m stuck h = omega arith
 
 pub taken_most : (m : ℕ) (s : Source) → taken m s ≤ m
 taken_most zero s = omega arith
@@ -288,6 +292,7 @@ count_all m (goes (suc k) u) t h e = absurd cc
 count_all m ended t h e = absurd cc
 count_all m (faulted f) t h e = absurd cc
 count_all m (asks p u) t h e = absurd cc
+count_all m stuck t h e = absurd cc
 
 pub taken_all : (m : ℕ) (s t : Source) → units m s ≡ goes 0 t → taken m s ≡ m
 taken_all zero s t e = refl
@@ -300,6 +305,7 @@ count_some m (goes (suc k) u) h = omega arith
 count_some m ended h = omega arith
 count_some m (faulted f) h = omega arith
 count_some m (asks p u) h = absurd (h p u refl)
+count_some m stuck h = omega arith
 
 pub taken_some : (m : ℕ) (s : Source) → 0 < m → ((p : Name) (t : Source) → units m s ≡ asks p t → ⊥) → 1 ≤ taken m s
 taken_some zero s l h = absurd (omega (arith, l))
@@ -317,6 +323,7 @@ module _ {W : Type 0} (deed : Name → Source → W → Deed W) where
   run_on n m s w (goes (suc k) t) e l h =
       let left : suc n - 1 ≡ n = omega arith in ap (λ r. chain deed r t w) (sym left)
   run_on n m s w ended e l h = refl
+  run_on n m s w stuck e l h = refl
   run_on n m s w (faulted f) e l h = refl
   run_on n m s w (asks p t) e l h =
       let kept : Keeps (programs_of s) (asks p t) = subst (Keeps (programs_of s)) e (unit_keeps s) in

@@ -5,6 +5,7 @@ use Rattle.muf_model.specs.declared.code.Code.{Code}
 use Rattle.muf_model.specs.Datum.{Datum}
 use Rattle.muf_model.specs.Tree.{closes}
 use Rattle.muf_model.specs.Source.{Mark, looping, trying, calling, entering, Source}
+use Rattle.muf_model.specs.Nested.{Nested}
 use Rattle.muf_model.specs.Flat.{FlatMark, Flat, marks_of, decode}
 use Rattle.muf_model.specs.Fits.{MarksFit, none, loops, tries, calls, enters, FitsState, fit, Fits}
 use Rattle.muf_model.proofs.Unique.{remains_read, tree_read}
@@ -24,6 +25,6 @@ pub decoded : {codes : List Code} {f : Flat} {s : Source} → FitsState codes f 
 decoded (fit {code} {vars} {below} {place} {program} {now} {end} p a m) =
     rw (remains_read code.placed place now end a, take-append_seam below vars, drop-append_seam below vars, tree_read code program.tree p, marks_read m) refl
 
--- a frame that stands for some state fits
-pub fits : {codes : List Code} {f : Flat} {s : Source} → FitsState codes f s → Fits codes f
-fits {codes} {f} h = subst (FitsState codes f) (sym (decoded h)) h
+-- a frame that stands for a nested state fits
+pub fits : {codes : List Code} {f : Flat} {s : Source} → FitsState codes f s → Nested s → Fits codes f
+fits {codes} {f} h n = record { state = subst (FitsState codes f) (sym (decoded h)) h; nested = subst Nested (sym (decoded h)) n }

@@ -3,6 +3,7 @@ pub mod Decoded
 pub mod FaultTexts
 pub mod Settling
 pub mod Standing
+pub mod Nesting
 pub mod Truth
 pub mod Unique
 pub mod Views

@@ -13,7 +13,7 @@ use Rattle.muf_model.specs.declared.prims.Primitive.TheVariants.{Pop, Dup, Depth
 use Rattle.muf_model.specs.Datum.{Datum, int, text, items, data_of}
 use Rattle.muf_model.specs.Tree.{try_word, begin_word, for_word, each_word, Block, stop, word, fork, ring, End, closes, Definition}
 use Rattle.muf_model.specs.Source.{Mark, Source, started}
-use Rattle.muf_model.specs.Unit.{Outcome, goes, ended, faulted, asks, unit}
+use Rattle.muf_model.specs.Unit.{Outcome, goes, ended, faulted, asks, stuck, unit}
 
 -- whether nothing but the `;` of the first word is left
 abbrev at_end : Block → End → List Mark → Bool
@@ -31,6 +31,7 @@ on (goes k s) next = next s
 on ended next = late
 on (faulted f) next = fails f
 on (asks p s) next = late
+on stuck next = late
 
 abbrev ending : ℕ → Source → Ending
 ending zero s = late

@@ -6,7 +6,7 @@ use Rattle.muf_model.specs.declared.prims.Primitive.{Primitive as Name}
 use Rattle.muf_model.specs.declared.code.Word.TheVariants.{Primitive}
 use Rattle.muf_model.specs.Tree.{Block, word}
 use Rattle.muf_model.specs.Source.{Program, Mark, looping, trying, calling, entering, Source}
-use Rattle.muf_model.specs.Unit.{Outcome, goes, ended, faulted, asks, unit, fault}
+use Rattle.muf_model.specs.Unit.{Outcome, goes, ended, faulted, asks, stuck, unit, fault}
 
 -- What a shared primitive did, from the state at it: it was done, and the state is behind it; or it was refused. The
 -- world may have changed either way.
@@ -14,18 +14,21 @@ pub data Deed (W : Type 0) : Type 0 where
   does : Source → W → Deed W
   fails : MufFault → W → Deed W
 
--- How a process ends: by itself; or by a fault that no TRY caught, of the program of this number.
+-- How a process ends: by itself; by a fault that no TRY caught, of the program of this number; or in a state that is
+-- stuck, which no nested one comes to.
 pub data Finish : Type 0 where
   over : Finish
   broke : ℤ → MufFault → Finish
+  astray : Finish
 
 module _ {W : Type 0} where
   -- after a fault: the process goes on where it was caught
   abbrev pub raised : (Source → W → W × Finish) → ℤ → Outcome → W → W × Finish
   raised go number (goes k t) w = go t w
   raised go number (faulted f) w = (w, broke number f)
-  raised go number ended w = (w, over)
-  raised go number (asks p t) w = (w, over)
+  raised go number ended w = (w, astray)
+  raised go number (asks p t) w = (w, astray)
+  raised go number stuck w = (w, astray)
 
   -- after a shared primitive
   abbrev pub after_deed : (Source → W → W × Finish) → Source → Deed W → W × Finish
@@ -38,6 +41,7 @@ module _ {W : Type 0} where
   chained go deed number ended w = (w, over)
   chained go deed number (faulted f) w = (w, broke number f)
   chained go deed number (asks p t) w = after_deed go t (deed p t w)
+  chained go deed number stuck w = (w, astray)
 
 -- A process runs to its end, in n units at most: one unit more is the fault of too many.
 unfoldable pub chain : {W : Type 0} → (Name → Source → W → Deed W) → ℕ → Source → W → W × Finish
@@ -63,6 +67,7 @@ count (goes (suc k) s) more = 1
 count ended more = 1
 count (faulted f) more = 1
 count (asks p s) more = 0
+count stuck more = 1
 
 -- how many of at most n units are taken
 abbrev pub taken : ℕ → Source → ℕ
@@ -75,6 +80,7 @@ resumed deed more number (goes k t) w = chain deed more t w
 resumed deed more number ended w = (w, over)
 resumed deed more number (faulted f) w = (w, broke number f)
 resumed deed more number (asks p t) w = chain deed more t w
+resumed deed more number stuck w = (w, astray)
 
 -- the state stands at this shared primitive
 pub record StandsAt (p : Name) (s : Source) : Type 0 where
@@ -90,3 +96,4 @@ Keeps ps (goes k t) = programs_of t ≡ drop k ps
 Keeps ps ended = Unit {0}
 Keeps ps (faulted f) = Unit {0}
 Keeps ps (asks p t) = (programs_of t ≡ ps) × StandsAt p t
+Keeps ps stuck = Unit {0}

@@ -6,6 +6,7 @@ use Rattle.muf_model.specs.Datum.{Datum}
 use Rattle.muf_model.specs.Tree.{Block, End, closes}
 use Rattle.muf_model.specs.Stands.{Remains, TreeStands}
 use Rattle.muf_model.specs.Source.{Turns, Program, Mark, looping, trying, calling, entering, Owned, Source}
+use Rattle.muf_model.specs.Nested.{Nested}
 use Rattle.muf_model.specs.Flat.{FlatMark, loop, guard, back, leave, Flat, decode}
 
 -- The marks of the source and of a frame, with one code for each program on the call stack, the running one first,
@@ -21,6 +22,7 @@ pub data MarksFit : List Code → List Mark → List FlatMark → List Datum →
 pub data FitsState : List Code → Flat → Source → Type 0 where
   fit : {code : Code} {codes : List Code} {stack common vars below : List Datum} {owned : List Owned} {place : ℕ} {program : Program} {now : Block} {end : End} {ms : List Mark} {ns : List FlatMark} → TreeStands code program.tree → Remains code.placed place now end → MarksFit (code ∷ codes) ms ns below → FitsState (code ∷ codes) (record { stack = stack; common = common; owned = owned; variables = below ++ vars; base = length below; program = program.number; place = place; marks = ns }) (record { stack = stack; common = common; owned = owned; variables = vars; program = program; now = now; end = end; marks = ms })
 
--- the codes fit the frame: it stands for what is read off it
-abbrev pub Fits : List Code → Flat → Type 0
-Fits codes f = FitsState codes f (decode codes f)
+-- the codes fit the frame: it stands for what is read off it, with the marks that the nesting there asks for
+pub record Fits (codes : List Code) (f : Flat) : Type 0 where
+  pub state : FitsState codes f (decode codes f)
+  pub nested : Nested (decode codes f)

@@ -2,6 +2,7 @@ pub mod Needs
 pub mod Prims
 pub mod Faults
 pub mod Tree
+pub mod Nesting
 pub mod Stands
 pub mod Decode
 pub mod Datum
@@ -17,6 +18,7 @@ pub mod TextRows
 pub mod Rows
 pub mod Source
 pub mod Unit
+pub mod Nested
 pub mod Flat
 pub mod Fits
 pub mod Chains

@@ -22,12 +22,14 @@ use Rattle.muf_model.specs.Tree.{Fork, if_word, try_word, Ring, begin_word, for_
 use Rattle.muf_model.specs.Source.{Turns, plain, indices, pairs, Mark, looping, trying, calling, entering, Source, locked_of, calls_of, open_of, scope_of, with_variable, called}
 
 -- How a unit ends: with a state, after so many programs were left; with the end of the process, with or without a
--- fault; or, before it began, with the request for a shared primitive, and the state that stands at it.
+-- fault; or, before it began, with the request for a shared primitive, and the state that stands at it. A state whose
+-- marks aren't those that its items ask for may be stuck; one that is nested never is.
 pub data Outcome : Type 0 where
   goes : ℕ → Source → Outcome
   ended : Outcome
   faulted : MufFault → Outcome
   asks : Name → Source → Outcome
+  stuck : Outcome
 
 -- the most calls that run at once beside the first word, and the most open loops and TRYs
 abbrev pub calls_most : ℕ
@@ -65,20 +67,20 @@ leave_word s (entering caller saved next end ∷ ms) =
 
 -- BREAK leaves the nearest loop; there is one in the same word
 abbrev pub leave_loop : Source → List Mark → Outcome
-leave_loop s [] = ended
+leave_loop s [] = stuck
 leave_loop s (looping t round c last next end ∷ ms) = goes 0 (record s { now = next; end = end; marks = ms })
 leave_loop s (trying locked next end ∷ ms) = leave_loop s ms
-leave_loop s (calling saved next end ∷ ms) = ended
-leave_loop s (entering caller saved next end ∷ ms) = ended
+leave_loop s (calling saved next end ∷ ms) = stuck
+leave_loop s (entering caller saved next end ∷ ms) = stuck
 
 -- CONTINUE and REPEAT begin the next turn of the nearest loop; there is one in the same word
 abbrev pub next_turn : Source → List Mark → Outcome
-next_turn s [] = ended
+next_turn s [] = stuck
 next_turn s (looping t round c last next end ∷ ms) =
     goes 0 (record s { now = round; end = closes c last; marks = looping t round c last next end ∷ ms })
 next_turn s (trying locked next end ∷ ms) = next_turn s ms
-next_turn s (calling saved next end ∷ ms) = ended
-next_turn s (entering caller saved next end ∷ ms) = ended
+next_turn s (calling saved next end ∷ ms) = stuck
+next_turn s (entering caller saved next end ∷ ms) = stuck
 
 -- a test takes one item and goes one of two ways
 abbrev pub tested : List Datum → Source → (Source → Outcome) → (Source → Outcome) → Outcome
@@ -146,14 +148,14 @@ index_test s (looping (indices (Some i) last step) round c line next end ∷ ms)
     then answered (fitting (int i ∷ s.stack)) (record s { marks = looping (indices (next_index i step) last step) round c line next end ∷ ms })
     else goes 0 (record s { now = next; end = end; marks = ms })
 index_test s (looping (indices None last step) round c line next end ∷ ms) = goes 0 (record s { now = next; end = end; marks = ms })
-index_test s _ = ended
+index_test s _ = stuck
 
 -- the test of a FOREACH's keys, of which one is pushed for each turn with its value
 abbrev pub pair_test : Source → List Mark → Outcome
 pair_test s (looping (pairs ((k, x) ∷ left)) round c line next end ∷ ms) =
     answered (fitting (x ∷ k ∷ s.stack)) (record s { marks = looping (pairs left) round c line next end ∷ ms })
 pair_test s (looping (pairs []) round c line next end ∷ ms) = goes 0 (record s { now = next; end = end; marks = ms })
-pair_test s _ = ended
+pair_test s _ = stuck
 
 -- a word, from the state at it and the state behind it
 abbrev pub word_unit : Word → Source → Source → Outcome
@@ -179,7 +181,7 @@ close_unit Until s = test s (λ t. leave_loop t t.marks) (λ t. next_turn t t.ma
 -- CATCH, when the block reaches it, ends the TRY, which is the innermost mark
 abbrev pub end_try : Source → List Mark → Outcome
 end_try s (trying locked next end ∷ ms) = goes 0 (record s { marks = ms })
-end_try s _ = ended
+end_try s _ = stuck
 
 abbrev pub hop_unit : Fork → Source → Outcome
 hop_unit if_word s = goes 0 s
@@ -247,7 +249,7 @@ each_unit s body c last =
 
 -- FOR and FOREACH, from the state behind the loop; BEGIN is no unit
 abbrev pub ring_unit : Ring → Block → Closer → ℕ → Source → Outcome
-ring_unit begin_word body c last s = ended
+ring_unit begin_word body c last s = stuck
 ring_unit for_word body c last s = for_unit s body c last
 ring_unit each_word body c last s = each_unit s body c last
 
@@ -302,6 +304,7 @@ abbrev pub and_then : Outcome → (Source → Outcome) → Outcome
 and_then (goes zero s) next = next s
 and_then (goes (suc k) s) next = goes (suc k) s
 and_then ended next = ended
+and_then stuck next = stuck
 and_then (faulted f) next = faulted f
 and_then (asks p s) next = asks p s
 

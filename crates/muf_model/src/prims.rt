@@ -12,344 +12,177 @@ use crate::needs::{
     TWO_INTS, TWO_ITEMS, TWO_OBJECTS, TWO_TEXTS, VARIABLE_AND_ITEM,
 };
 
-/// A primitive, by its name. [`Prim`](crate::Prim) is another name of this type.
+/// A primitive. Its name in programs stands in its row of the table, with its level and what it needs on the stack.
+/// [`Prim`](crate::Prim) is another name of this type.
 #[derive(Clone, Copy, PartialEq, Eq, Debug)]
 pub enum Primitive {
-    /// `POP`
     Pop,
-    /// `DUP`
     Dup,
-    /// `?DUP`
     DupTrue,
-    /// `SWAP`
     Swap,
-    /// `OVER`
     Over,
-    /// `ROT`
     Rot,
-    /// `ROTATE`
     Rotate,
-    /// `PICK`
     Pick,
-    /// `PUT`
     Put,
-    /// `NIP`
     Nip,
-    /// `TUCK`
     Tuck,
-    /// `DUPN`
     DupN,
-    /// `LDUP`
     LDup,
-    /// `POPN`
     PopN,
-    /// `REVERSE`
     Reverse,
-    /// `DEPTH`
     Depth,
-    /// `{`
     OpenMark,
-    /// `}`
     CloseMark,
-    /// `@`
     Fetch,
-    /// `!`
     Store,
-    /// `INT?`
     IsInt,
-    /// `STRING?`
     IsString,
-    /// `DBREF?`
     IsDbref,
-    /// `ARRAY?`
     IsArray,
-    /// `DICTIONARY?`
     IsDictionary,
-    /// `ADDRESS?`
     IsAddress,
-    /// `LOCK?`
     IsLock,
-    /// `EXECUTE`
     Execute,
-    /// `ABORT`
     Abort,
-    /// `+`
     Add,
-    /// `-`
     Subtract,
-    /// `*`
     Multiply,
-    /// `/`
     Divide,
-    /// `%`
     Modulo,
-    /// `++`
     Increment,
-    /// `--`
     Decrement,
-    /// `ABS`
     Abs,
-    /// `SIGN`
     Sign,
-    /// `BITOR`
     BitOr,
-    /// `BITAND`
     BitAnd,
-    /// `BITXOR`
     BitXor,
-    /// `BITSHIFT`
     BitShift,
-    /// `=`
     Equal,
-    /// `!=`
     Unequal,
-    /// `<`
     Less,
-    /// `>`
     Greater,
-    /// `<=`
     LessEqual,
-    /// `>=`
     GreaterEqual,
-    /// `NOT`
     Not,
-    /// `AND`
     And,
-    /// `OR`
     Or,
-    /// `XOR`
     Xor,
-    /// `INT`
     ToInt,
-    /// `DBREF`
     ToDbref,
-    /// `DBCMP`
     DbCmp,
-    /// `STRCAT`
     StrCat,
-    /// `STRCMP`
     StrCmp,
-    /// `STRINGCMP`
     StringCmp,
-    /// `STRNCMP`
     StrNCmp,
-    /// `STRLEN`
     StrLen,
-    /// `STRCUT`
     StrCut,
-    /// `MIDSTR`
     MidStr,
-    /// `INSTR`
     InStr,
-    /// `RINSTR`
     RInStr,
-    /// `INSTRING`
     InString,
-    /// `RINSTRING`
     RInString,
-    /// `EXPLODE`
     Explode,
-    /// `SPLIT`
     Split,
-    /// `RSPLIT`
     RSplit,
-    /// `SUBST`
     Subst,
-    /// `TOUPPER`
     ToUpper,
-    /// `TOLOWER`
     ToLower,
-    /// `STRIPLEAD`
     StripLead,
-    /// `STRIPTAIL`
     StripTail,
-    /// `ATOI`
     AToI,
-    /// `INTOSTR`
     IntToStr,
-    /// `CTOI`
     CharToInt,
-    /// `ITOC`
     IntToChar,
-    /// `ARRAY_MAKE`
     ArrayMake,
-    /// `ARRAY_MAKE_DICT`
     ArrayMakeDict,
-    /// `ARRAY_COUNT`
     ArrayCount,
-    /// `ARRAY_GETITEM`
     ArrayGetItem,
-    /// `ARRAY_SETITEM`
     ArraySetItem,
-    /// `ARRAY_INSERTITEM`
     ArrayInsertItem,
-    /// `ARRAY_APPENDITEM`
     ArrayAppendItem,
-    /// `ARRAY_DELITEM`
     ArrayDelItem,
-    /// `ARRAY_FIRST`
     ArrayFirst,
-    /// `ARRAY_NEXT`
     ArrayNext,
-    /// `ARRAY_KEYS`
     ArrayKeys,
-    /// `ARRAY_VALS`
     ArrayVals,
-    /// `ARRAY_EXPLODE`
     ArrayExplode,
-    /// `ARRAY_JOIN`
     ArrayJoin,
-    /// `NAME`
     Name,
-    /// `OWNER`
     Owner,
-    /// `LOCATION`
     Location,
-    /// `CONTENTS`
     Contents,
-    /// `EXITS`
     Exits,
-    /// `NEXT`
     Next,
-    /// `OK?`
     IsOk,
-    /// `PLAYER?`
     IsPlayer,
-    /// `THING?`
     IsThing,
-    /// `ROOM?`
     IsRoom,
-    /// `EXIT?`
     IsExit,
-    /// `PROGRAM?`
     IsProgram,
-    /// `MATCH`
     Match,
-    /// `PMATCH`
     PMatch,
-    /// `MOVETO`
     MoveTo,
-    /// `SETNAME`
     SetName,
-    /// `SET`
     Set,
-    /// `FLAG?`
     HasFlag,
-    /// `MLEVEL`
     MLevel,
-    /// `GETLINK`
     GetLink,
-    /// `SETLINK`
     SetLink,
-    /// `NEWROOM`
     NewRoom,
-    /// `NEWOBJECT`
     NewObject,
-    /// `NEWEXIT`
     NewExit,
-    /// `RECYCLE`
     Recycle,
-    /// `SETOWN`
     SetOwn,
-    /// `CONTROLS`
     Controls,
-    /// `GETLOCKSTR`
     GetLockStr,
-    /// `SETLOCKSTR`
     SetLockStr,
-    /// `PARSELOCK`
     ParseLock,
-    /// `UNPARSELOCK`
     UnparseLock,
-    /// `TESTLOCK`
     TestLock,
-    /// `UNPARSEOBJ`
     UnparseObj,
-    /// `DBTOP`
     DbTop,
-    /// `GETPROP`
     GetProp,
-    /// `GETPROPSTR`
     GetPropStr,
-    /// `GETPROPVAL`
     GetPropVal,
-    /// `SETPROP`
     SetProp,
-    /// `ADDPROP`
     AddProp,
-    /// `REMOVE_PROP`
     RemoveProp,
-    /// `NEXTPROP`
     NextProp,
-    /// `PROPDIR?`
     IsPropDir,
-    /// `ENVPROP`
     EnvProp,
-    /// `ENVPROPSTR`
     EnvPropStr,
-    /// `PARSEMPI`
     ParseMpi,
-    /// `NOTIFY`
     Notify,
-    /// `NOTIFY_EXCLUDE`
     NotifyExclude,
-    /// `AWAKE?`
     IsAwake,
-    /// `ONLINE`
     Online,
-    /// `CONCOUNT`
     ConCount,
-    /// `CONDBREF`
     ConDbref,
-    /// `DESCRIPTORS`
     Descriptors,
-    /// `DESCR`
     Descr,
-    /// `CONBOOT`
     ConBoot,
-    /// `CALL`
     Call,
-    /// `FORK`
     Fork,
-    /// `SLEEP`
     Sleep,
-    /// `READ`
     Read,
-    /// `KILL`
     Kill,
-    /// `PID`
     Pid,
-    /// `ISPID?`
     IsPid,
-    /// `QUEUE`
     Queue,
-    /// `MODE`
     Mode,
-    /// `SETMODE`
     SetMode,
-    /// `PREEMPT`
     Preempt,
-    /// `FOREGROUND`
     Foreground,
-    /// `BACKGROUND`
     Background,
-    /// `SYSTIME`
     SysTime,
-    /// `RANDOM`
     Random,
-    /// `EVENT_SEND`
     EventSend,
-    /// `EVENT_WAIT`
     EventWait,
-    /// `EVENT_COUNT`
     EventCount,
-    /// `PROG`
     Prog,
-    /// `TRIG`
     Trig,
-    /// `CALLER`
     Caller,
-    /// `CMD`
     Cmd,
 }
 
@@ -661,174 +494,25 @@ impl Primitive {
     }
 }
 
+macro_rules! primitives {
+    ($($name:ident)*) => { [$(Primitive::$name),*] };
+}
+
 // All primitives, in the order of their families.
-const ALL: [Primitive; 168] = [
-    Primitive::Pop,
-    Primitive::Dup,
-    Primitive::DupTrue,
-    Primitive::Swap,
-    Primitive::Over,
-    Primitive::Rot,
-    Primitive::Rotate,
-    Primitive::Pick,
-    Primitive::Put,
-    Primitive::Nip,
-    Primitive::Tuck,
-    Primitive::DupN,
-    Primitive::LDup,
-    Primitive::PopN,
-    Primitive::Reverse,
-    Primitive::Depth,
-    Primitive::OpenMark,
-    Primitive::CloseMark,
-    Primitive::Fetch,
-    Primitive::Store,
-    Primitive::IsInt,
-    Primitive::IsString,
-    Primitive::IsDbref,
-    Primitive::IsArray,
-    Primitive::IsDictionary,
-    Primitive::IsAddress,
-    Primitive::IsLock,
-    Primitive::Execute,
-    Primitive::Abort,
-    Primitive::Add,
-    Primitive::Subtract,
-    Primitive::Multiply,
-    Primitive::Divide,
-    Primitive::Modulo,
-    Primitive::Increment,
-    Primitive::Decrement,
-    Primitive::Abs,
-    Primitive::Sign,
-    Primitive::BitOr,
-    Primitive::BitAnd,
-    Primitive::BitXor,
-    Primitive::BitShift,
-    Primitive::Equal,
-    Primitive::Unequal,
-    Primitive::Less,
-    Primitive::Greater,
-    Primitive::LessEqual,
-    Primitive::GreaterEqual,
-    Primitive::Not,
-    Primitive::And,
-    Primitive::Or,
-    Primitive::Xor,
-    Primitive::ToInt,
-    Primitive::ToDbref,
-    Primitive::DbCmp,
-    Primitive::StrCat,
-    Primitive::StrCmp,
-    Primitive::StringCmp,
-    Primitive::StrNCmp,
-    Primitive::StrLen,
-    Primitive::StrCut,
-    Primitive::MidStr,
-    Primitive::InStr,
-    Primitive::RInStr,
-    Primitive::InString,
-    Primitive::RInString,
-    Primitive::Explode,
-    Primitive::Split,
-    Primitive::RSplit,
-    Primitive::Subst,
-    Primitive::ToUpper,
-    Primitive::ToLower,
-    Primitive::StripLead,
-    Primitive::StripTail,
-    Primitive::AToI,
-    Primitive::IntToStr,
-    Primitive::CharToInt,
-    Primitive::IntToChar,
-    Primitive::ArrayMake,
-    Primitive::ArrayMakeDict,
-    Primitive::ArrayCount,
-    Primitive::ArrayGetItem,
-    Primitive::ArraySetItem,
-    Primitive::ArrayInsertItem,
-    Primitive::ArrayAppendItem,
-    Primitive::ArrayDelItem,
-    Primitive::ArrayFirst,
-    Primitive::ArrayNext,
-    Primitive::ArrayKeys,
-    Primitive::ArrayVals,
-    Primitive::ArrayExplode,
-    Primitive::ArrayJoin,
-    Primitive::Name,
-    Primitive::Owner,
-    Primitive::Location,
-    Primitive::Contents,
-    Primitive::Exits,
-    Primitive::Next,
-    Primitive::IsOk,
-    Primitive::IsPlayer,
-    Primitive::IsThing,
-    Primitive::IsRoom,
-    Primitive::IsExit,
-    Primitive::IsProgram,
-    Primitive::Match,
-    Primitive::PMatch,
-    Primitive::MoveTo,
-    Primitive::SetName,
-    Primitive::Set,
-    Primitive::HasFlag,
-    Primitive::MLevel,
-    Primitive::GetLink,
-    Primitive::SetLink,
-    Primitive::NewRoom,
-    Primitive::NewObject,
-    Primitive::NewExit,
-    Primitive::Recycle,
-    Primitive::SetOwn,
-    Primitive::Controls,
-    Primitive::GetLockStr,
-    Primitive::SetLockStr,
-    Primitive::ParseLock,
-    Primitive::UnparseLock,
-    Primitive::TestLock,
-    Primitive::UnparseObj,
-    Primitive::DbTop,
-    Primitive::GetProp,
-    Primitive::GetPropStr,
-    Primitive::GetPropVal,
-    Primitive::SetProp,
-    Primitive::AddProp,
-    Primitive::RemoveProp,
-    Primitive::NextProp,
-    Primitive::IsPropDir,
-    Primitive::EnvProp,
-    Primitive::EnvPropStr,
-    Primitive::ParseMpi,
-    Primitive::Notify,
-    Primitive::NotifyExclude,
-    Primitive::IsAwake,
-    Primitive::Online,
-    Primitive::ConCount,
-    Primitive::ConDbref,
-    Primitive::Descriptors,
-    Primitive::Descr,
-    Primitive::ConBoot,
-    Primitive::Call,
-    Primitive::Fork,
-    Primitive::Sleep,
-    Primitive::Read,
-    Primitive::Kill,
-    Primitive::Pid,
-    Primitive::IsPid,
-    Primitive::Queue,
-    Primitive::Mode,
-    Primitive::SetMode,
-    Primitive::Preempt,
-    Primitive::Foreground,
-    Primitive::Background,
-    Primitive::SysTime,
-    Primitive::Random,
-    Primitive::EventSend,
-    Primitive::EventWait,
-    Primitive::EventCount,
-    Primitive::Prog,
-    Primitive::Trig,
-    Primitive::Caller,
-    Primitive::Cmd,
-];
+const ALL: [Primitive; 168] = primitives! {
+    Pop Dup DupTrue Swap Over Rot Rotate Pick Put Nip Tuck DupN LDup PopN Reverse Depth OpenMark
+    CloseMark Fetch Store IsInt IsString IsDbref IsArray IsDictionary IsAddress IsLock Execute Abort
+    Add Subtract Multiply Divide Modulo Increment Decrement Abs Sign BitOr BitAnd BitXor BitShift
+    Equal Unequal Less Greater LessEqual GreaterEqual Not And Or Xor ToInt ToDbref DbCmp StrCat
+    StrCmp StringCmp StrNCmp StrLen StrCut MidStr InStr RInStr InString RInString Explode Split
+    RSplit Subst ToUpper ToLower StripLead StripTail AToI IntToStr CharToInt IntToChar ArrayMake
+    ArrayMakeDict ArrayCount ArrayGetItem ArraySetItem ArrayInsertItem ArrayAppendItem ArrayDelItem
+    ArrayFirst ArrayNext ArrayKeys ArrayVals ArrayExplode ArrayJoin Name Owner Location Contents
+    Exits Next IsOk IsPlayer IsThing IsRoom IsExit IsProgram Match PMatch MoveTo SetName Set HasFlag
+    MLevel GetLink SetLink NewRoom NewObject NewExit Recycle SetOwn Controls GetLockStr SetLockStr
+    ParseLock UnparseLock TestLock UnparseObj DbTop GetProp GetPropStr GetPropVal SetProp AddProp
+    RemoveProp NextProp IsPropDir EnvProp EnvPropStr ParseMpi Notify NotifyExclude IsAwake Online
+    ConCount ConDbref Descriptors Descr ConBoot Call Fork Sleep Read Kill Pid IsPid Queue Mode
+    SetMode Preempt Foreground Background SysTime Random EventSend EventWait EventCount Prog Trig
+    Caller Cmd
+};

@@ -36,7 +36,7 @@ use Rattle.muf_frame.specs.Shown.{locked_by, calls_by, opened_by}
 use Rattle.muf_frame.specs.Moves.{unwound, scope_of}
 use Rattle.muf_frame.specs.Answers.{int_at}
 use Rattle.muf_run.specs.Machine as machine
-use Rattle.muf_run.specs.Machine.{Next, going, at_end, broken, asking, after_fault}
+use Rattle.muf_run.specs.Machine.{Next, going, at_end, broken, asking, stuck, after_fault}
 use Rattle.muf_run.specs.Alike.{EndsAlike}
 
 -- a frame and the state that it stands for, where the variables of the calls below the innermost one stand apart
@@ -352,10 +352,10 @@ abbrev begin_target : Instr → ℕ
 begin_target (Begin to) = to
 begin_target _ = 0
 
--- the instruction that stands at a place, and the end where there is none
+-- the instruction that stands at a place; where there is none, the frame is stuck
 abbrev fetched : Code → Option Placed → ℕ → Flat → Next
 fetched code (Some q) next s = machine.instr code q.instr next s
-fetched code None next s = at_end
+fetched code None next s = stuck
 
 module _ (code : Code) (codes : List Code) (common vars below : List Datum) (owned : List Owned) (program : Program) (ms : List Mark) (ns : List FlatMark) (p : TreeStands code program.tree) (m : MarksFit (code ∷ codes) ms ns below) where
   -- the instruction at the place does what the first item that remains does; BEGIN takes no unit

@@ -3,44 +3,52 @@ use Rattle.std.proofs.Common.{◌≡◌, ℕ, zero, suc, ◌+◌, ◌-◌, ◌<�
 use Rattle.std.specs.Prelude.{Result, Ok, Err, IfOk}
 use Rattle.muf_model.specs.declared.code.Code.{Code}
 use Rattle.muf_model.specs.Source.{Source}
-use Rattle.muf_model.specs.Unit.{Outcome, goes, ended, faulted, asks, unit, units, and_then}
+use Rattle.muf_model.specs.Unit.{Outcome, goes, ended, faulted, asks, stuck, unit, units, and_then}
+use Rattle.muf_model.specs.Nested.{Nested, StaysNested}
 use Rattle.muf_model.specs.Flat.{Flat, decode}
 use Rattle.muf_model.specs.Fits.{FitsState, Fits}
 use Rattle.muf_model.proofs.Decoded.{decoded, fits}
+use Rattle.muf_model.proofs.Nesting.{unit_nested}
 use Rattle.muf_run.specs.declared.ran.Ran.{Ran}
-use Rattle.muf_run.specs.declared.ran.Ran.TheVariants.{Going, Ended, Faulted, Shared}
+use Rattle.muf_run.specs.declared.ran.Ran.TheVariants.{Going, Ended, Faulted, Shared, Stuck}
 use Rattle.muf_run.specs.Machine.{next_of, going}
 use Rattle.muf_run.specs.Alike.{EndsAlike}
 use Rattle.muf_run.specs.Runs.{RunsAlike, count, taken, local_of, last_of}
 
--- a unit that goes on leaves a state for which the frame stands
-pub going_on : (codes : List Code) (f : Flat) (o : Outcome) → EndsAlike codes (going 0 f) o → (t : Source) × FitsState codes f t × (o ≡ goes 0 t)
-going_on codes f (goes zero s) h = (s, h.1, refl)
-going_on codes f (goes (suc j) s) h = let e : 0 ≡ suc j = h.0 in cc
-going_on codes f ended h = absurd h
-going_on codes f (faulted g) h = absurd h
-going_on codes f (asks p s) h = absurd h
+-- a unit that goes on leaves a nested state for which the frame stands
+pub going_on : (codes : List Code) (f : Flat) (o : Outcome) → StaysNested o → EndsAlike codes (going 0 f) o → (t : Source) × FitsState codes f t × Nested t × (o ≡ goes 0 t)
+going_on codes f (goes zero s) n h = (s, h.1, n, refl)
+going_on codes f (goes (suc j) s) n h = let e : 0 ≡ suc j = h.0 in cc
+going_on codes f ended n h = absurd h
+going_on codes f (faulted g) n h = absurd h
+going_on codes f (asks p s) n h = absurd h
+going_on codes f stuck n h = absurd h
 
--- a run that is over stays over
-pub run_over : (codes : List Code) (ran : Ran) (f : Flat) (o : Outcome) (more : Source → Outcome) → (ran ≡ Going 0 → ⊥) → EndsAlike codes (next_of ran f) o → RunsAlike codes (local_of ran) f (and_then o more)
-run_over codes (Going zero) f o more over h = absurd (over refl)
-run_over codes (Going (suc k)) f (goes zero s) more over h = let e : suc k ≡ 0 = h.0 in absurd (omega (arith, e))
-run_over codes (Going (suc k)) f (goes (suc j) s) more over h = (h.0, fits h.1, decoded h.1)
-run_over codes (Going (suc k)) f ended more over h = absurd h
-run_over codes (Going (suc k)) f (faulted g) more over h = absurd h
-run_over codes (Going (suc k)) f (asks p s) more over h = absurd h
-run_over codes Ended f (goes j s) more over h = absurd h
-run_over codes Ended f ended more over h = tt
-run_over codes Ended f (faulted g) more over h = absurd h
-run_over codes Ended f (asks p s) more over h = absurd h
-run_over codes (Faulted g) f (goes j s) more over h = absurd h
-run_over codes (Faulted g) f ended more over h = absurd h
-run_over codes (Faulted g) f (faulted e) more over h = h
-run_over codes (Faulted g) f (asks p s) more over h = absurd h
-run_over codes (Shared q) f (goes j s) more over h = absurd h
-run_over codes (Shared q) f ended more over h = absurd h
-run_over codes (Shared q) f (faulted g) more over h = absurd h
-run_over codes (Shared q) f (asks p s) more over h = (h.0, fits h.1, decoded h.1)
+-- a run that is over stays over, where its last unit wasn't stuck
+pub run_over : (codes : List Code) (ran : Ran) (f : Flat) (o : Outcome) (more : Source → Outcome) → (ran ≡ Going 0 → ⊥) → StaysNested o → EndsAlike codes (next_of ran f) o → RunsAlike codes (local_of ran) f (and_then o more)
+run_over codes (Going zero) f o more over n h = absurd (over refl)
+run_over codes (Going (suc k)) f (goes zero s) more over n h = let e : suc k ≡ 0 = h.0 in absurd (omega (arith, e))
+run_over codes (Going (suc k)) f (goes (suc j) s) more over n h = (h.0, fits h.1 n, decoded h.1)
+run_over codes (Going (suc k)) f ended more over n h = absurd h
+run_over codes (Going (suc k)) f (faulted g) more over n h = absurd h
+run_over codes (Going (suc k)) f (asks p s) more over n h = absurd h
+run_over codes Ended f (goes j s) more over n h = absurd h
+run_over codes Ended f ended more over n h = tt
+run_over codes Ended f (faulted g) more over n h = absurd h
+run_over codes Ended f (asks p s) more over n h = absurd h
+run_over codes (Faulted g) f (goes j s) more over n h = absurd h
+run_over codes (Faulted g) f ended more over n h = absurd h
+run_over codes (Faulted g) f (faulted e) more over n h = h
+run_over codes (Faulted g) f (asks p s) more over n h = absurd h
+run_over codes (Shared q) f (goes j s) more over n h = absurd h
+run_over codes (Shared q) f ended more over n h = absurd h
+run_over codes (Shared q) f (faulted g) more over n h = absurd h
+run_over codes (Shared q) f (asks p s) more over n h = (h.0, fits h.1 n, decoded h.1)
+run_over codes Stuck f (goes j s) more over n h = absurd h
+run_over codes Stuck f ended more over n h = absurd h
+run_over codes Stuck f (faulted g) more over n h = absurd h
+run_over codes Stuck f (asks p s) more over n h = absurd h
+run_over codes ran f stuck more over n h = absurd n
 
 -- and its last unit is counted
 pub count_over : (codes : List Code) (ran : Ran) (f : Flat) (o : Outcome) (more : Source → ℕ) → (ran ≡ Going 0 → ⊥) → EndsAlike codes (next_of ran f) o → count o more ≡ last_of ran
@@ -50,18 +58,27 @@ count_over codes (Going (suc k)) f (goes (suc j) s) more over h = refl
 count_over codes (Going (suc k)) f ended more over h = absurd h
 count_over codes (Going (suc k)) f (faulted g) more over h = absurd h
 count_over codes (Going (suc k)) f (asks p s) more over h = absurd h
+count_over codes (Going (suc k)) f stuck more over h = absurd h
 count_over codes Ended f (goes j s) more over h = absurd h
 count_over codes Ended f ended more over h = refl
 count_over codes Ended f (faulted g) more over h = absurd h
 count_over codes Ended f (asks p s) more over h = absurd h
+count_over codes Ended f stuck more over h = absurd h
 count_over codes (Faulted g) f (goes j s) more over h = absurd h
 count_over codes (Faulted g) f ended more over h = absurd h
 count_over codes (Faulted g) f (faulted e) more over h = refl
 count_over codes (Faulted g) f (asks p s) more over h = absurd h
+count_over codes (Faulted g) f stuck more over h = absurd h
 count_over codes (Shared q) f (goes j s) more over h = absurd h
 count_over codes (Shared q) f ended more over h = absurd h
 count_over codes (Shared q) f (faulted g) more over h = absurd h
 count_over codes (Shared q) f (asks p s) more over h = refl
+count_over codes (Shared q) f stuck more over h = absurd h
+count_over codes Stuck f (goes j s) more over h = absurd h
+count_over codes Stuck f ended more over h = absurd h
+count_over codes Stuck f (faulted e) more over h = absurd h
+count_over codes Stuck f (asks p s) more over h = absurd h
+count_over codes Stuck f stuck more over h = refl
 
 pub mapped : {A E : Type 0} → (P Q : A → Type 0) (r : Result A E) → ((x : A) → P x → Q x) → IfOk r P → IfOk r Q
 mapped P Q (Ok x) f h = f x h
@@ -79,10 +96,10 @@ taken_step n k t u l e =
     rw (m, e) (omega arith)
 
 -- the unit with which a run is over
-pub units_over : (n k : ℕ) (codes : List Code) (ran : Ran) (f : Flat) (t : Source) → k < n → (ran ≡ Going 0 → ⊥) → EndsAlike codes (next_of ran f) (unit t) → RunsAlike codes (local_of ran) f (units (n - k) t)
-units_over n k codes ran f t l over h =
+pub units_over : (n k : ℕ) (codes : List Code) (ran : Ran) (f : Flat) (t : Source) → k < n → (ran ≡ Going 0 → ⊥) → Nested t → EndsAlike codes (next_of ran f) (unit t) → RunsAlike codes (local_of ran) f (units (n - k) t)
+units_over n k codes ran f t l over nested h =
     let m : n - k ≡ suc (n - (k + 1)) = omega (arith, l) in
-    rw m (run_over codes ran f (unit t) (units (n - (k + 1))) over h)
+    rw m (run_over codes ran f (unit t) (units (n - (k + 1))) over (unit_nested t nested) h)
 
 pub taken_over : (n k : ℕ) (codes : List Code) (ran : Ran) (f : Flat) (t : Source) → k < n → (ran ≡ Going 0 → ⊥) → EndsAlike codes (next_of ran f) (unit t) → k + last_of ran ≡ k + taken (n - k) t
 taken_over n k codes ran f t l over h =
@@ -90,7 +107,7 @@ taken_over n k codes ran f t l over h =
     rw m (ap (λ j. k + j) (sym (count_over codes ran f (unit t) (taken (n - (k + 1))) over h)))
 
 -- a run that took all its units
-pub spent : (codes : List Code) (f : Flat) (s t : Source) (n k : ℕ) → FitsState codes f t → n ≤ k → units n s ≡ units (n - k) t → Fits codes f × (decode codes f ≡ t) × (units n s ≡ goes 0 t)
-spent codes f s t n k h l e =
+pub spent : (codes : List Code) (f : Flat) (s t : Source) (n k : ℕ) → FitsState codes f t → Nested t → n ≤ k → units n s ≡ units (n - k) t → Fits codes f × (decode codes f ≡ t) × (units n s ≡ goes 0 t)
+spent codes f s t n k h nested l e =
     let m : n - k ≡ 0 = omega (arith, l) in
-    (fits h, decoded h, e ∙ ap (λ j. units j t) m)
+    (fits h nested, decoded h, e ∙ ap (λ j. units j t) m)

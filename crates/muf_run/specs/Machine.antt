@@ -23,17 +23,19 @@ use Rattle.muf_model.specs.Flat.{FlatMark, loop, guard, back, leave, Flat}
 use Rattle.muf_frame.specs.Shown.{locked_by, calls_by, opened_by}
 use Rattle.muf_frame.specs.Answers.{int_at}
 use Rattle.muf_run.specs.declared.ran.Ran.{Ran}
-use Rattle.muf_run.specs.declared.ran.Ran.TheVariants.{Going, Ended, Faulted, Shared}
+use Rattle.muf_run.specs.declared.ran.Ran.TheVariants.{Going, Ended, Faulted, Shared, Stuck}
 use Rattle.muf_frame.specs.Moves as moves
 use Rattle.muf_frame.specs.Moves.{called, scope_of, with_variable, behind, caught}
 
 -- How an instruction ends: with a frame, after so many programs were left; with the end of the process, with or
--- without a fault; or, before it began, with the request for a shared primitive and the frame that stands at it.
+-- without a fault; or, before it began, with the request for a shared primitive and the frame that stands at it. A frame
+-- that fits no code may be stuck.
 pub data Next : Type 0 where
   going : ℕ → Flat → Next
   at_end : Next
   broken : MufFault → Next
   asking : Name → Flat → Next
+  stuck : Next
 
 -- a fault goes on where it was caught
 abbrev pub after_fault : MufFault → Option (ℕ × Flat) → Next
@@ -53,19 +55,19 @@ leave_word s (leave caller base place ∷ ms) = going 1 (record (behind (leave c
 
 -- BREAK leaves the nearest loop
 abbrev pub leave_loop : Flat → List FlatMark → Next
-leave_loop s [] = at_end
+leave_loop s [] = stuck
 leave_loop s (loop t again after ∷ ms) = going 0 (record s { place = after; marks = ms })
 leave_loop s (guard locked place ∷ ms) = leave_loop (behind (guard locked place) ms s) ms
-leave_loop s (back base place ∷ ms) = at_end
-leave_loop s (leave caller base place ∷ ms) = at_end
+leave_loop s (back base place ∷ ms) = stuck
+leave_loop s (leave caller base place ∷ ms) = stuck
 
 -- CONTINUE and REPEAT begin the next turn of the nearest loop
 abbrev pub next_turn : Flat → List FlatMark → Next
-next_turn s [] = at_end
+next_turn s [] = stuck
 next_turn s (loop t again after ∷ ms) = going 0 (record s { place = again; marks = loop t again after ∷ ms })
 next_turn s (guard locked place ∷ ms) = next_turn (behind (guard locked place) ms s) ms
-next_turn s (back base place ∷ ms) = at_end
-next_turn s (leave caller base place ∷ ms) = at_end
+next_turn s (back base place ∷ ms) = stuck
+next_turn s (leave caller base place ∷ ms) = stuck
 
 -- a test takes one item and goes one of two ways
 abbrev pub tested : List Datum → Flat → (Flat → Next) → (Flat → Next) → Next
@@ -123,14 +125,14 @@ index_test s (loop (indices (Some i) last step) again after ∷ ms) =
     then pushed (int i) (record s { marks = loop (indices (next_index i step) last step) again after ∷ ms })
     else going 0 (record s { place = after; marks = ms })
 index_test s (loop (indices None last step) again after ∷ ms) = going 0 (record s { place = after; marks = ms })
-index_test s _ = at_end
+index_test s _ = stuck
 
 -- the test of a FOREACH's keys
 abbrev pub pair_test : Flat → List FlatMark → Next
 pair_test s (loop (pairs ((k, x) ∷ left)) again after ∷ ms) =
     placed (x ∷ k ∷ s.stack) (record s { marks = loop (pairs left) again after ∷ ms })
 pair_test s (loop (pairs []) again after ∷ ms) = going 0 (record s { place = after; marks = ms })
-pair_test s _ = at_end
+pair_test s _ = stuck
 
 -- a word, with the place after it
 abbrev pub word_after : Code → Word → Flat → Flat → Next
@@ -165,7 +167,7 @@ branch to s = test s (λ t. going 0 t) (λ t. going 0 (record t { place = to }))
 -- CATCH, when the block reaches it
 abbrev pub end_try : ℕ → Flat → List FlatMark → Next
 end_try to s (guard locked place ∷ ms) = going 0 (record s { place = to; marks = ms })
-end_try to s _ = at_end
+end_try to s _ = stuck
 
 -- TRY, with the place behind its CATCH
 abbrev pub try_count : Option ℤ → ℕ → Flat → Next
@@ -221,10 +223,10 @@ instr code (IfElse to) next s = branch to (record s { place = next })
 instr code (Try to) next s = open_try to (record s { place = next })
 instr code (Else to) next s = going 0 (record s { place = to })
 instr code (Catch to) next s = end_try to s s.marks
-instr code (Begin to) next s = at_end
+instr code (Begin to) next s = stuck
 instr code (For to) next s = open_for to (record s { place = next })
 instr code (Each to) next s = open_each to (record s { place = next })
-instr code Unset next s = at_end
+instr code Unset next s = stuck
 
 -- how a call that gave this answer and left this frame ended
 abbrev pub next_of : Ran → Flat → Next
@@ -232,6 +234,7 @@ next_of (Going k) s = going k s
 next_of Ended s = at_end
 next_of (Faulted f) s = broken f
 next_of (Shared p) s = asking p s
+next_of Stuck s = stuck
 
 -- how a test that gave this answer and left this frame goes on
 abbrev pub tested_as : Result Bool MufFault → Flat → (Flat → Next) → (Flat → Next) → Next

@@ -3,7 +3,7 @@ use Rattle.std.specs.Prelude.{◌≡◌, ℕ, zero, suc, List, ◌∷◌, Bool, 
 use Rattle.muf_model.specs.declared.code.Instr.TheVariants.{Begin}
 use Rattle.muf_model.specs.declared.code.Placed.{Placed}
 use Rattle.muf_model.specs.declared.code.Code.{Code}
-use Rattle.muf_model.specs.declared.fault.MufFault.TheVariants.{CallsFull}
+use Rattle.muf_model.specs.declared.fault.MufFault.TheVariants.{CallsFull, NotCompiled}
 use Rattle.muf_model.specs.Source.{Source}
 use Rattle.muf_model.specs.Unit.{Outcome, goes, ended, faulted, asks, unit}
 pub use Rattle.muf_model.specs.Chains.{count, taken}
@@ -33,15 +33,18 @@ RunsAlike codes (Faulted g) f (faulted h) = g ≡ h
 RunsAlike codes (Shared p) f (asks q s) = (p ≡ q) × Fits codes f × (decode codes f ≡ s)
 RunsAlike codes _ f _ = ⊥
 
--- what the answer of the last unit makes of a run, and whether that was a unit
+-- What the answer of the last unit makes of a run, and whether that was a unit. A frame that fits its codes never gets
+-- stuck; any other one ends by a fault.
 abbrev pub local_of : Ran → Local
 local_of (ran.Going k) = Returned k
 local_of ran.Ended = Ended
 local_of (ran.Faulted f) = Faulted f
 local_of (ran.Shared p) = Shared p
+local_of ran.Stuck = Faulted NotCompiled
 
 abbrev pub last_of : Ran → ℕ
 last_of (ran.Going k) = 1
 last_of ran.Ended = 1
 last_of (ran.Faulted f) = 1
 last_of (ran.Shared p) = 0
+last_of ran.Stuck = 1

@@ -222,6 +222,6 @@ pub(crate) fn instr(
             frame.go_to(next);
             open_each(alloc, frame, *to)
         }
-        Instr::Begin(_) | Instr::Unset => Ok(Ran::Ended),
+        Instr::Begin(_) | Instr::Unset => Ok(Ran::Stuck),
     }
 }

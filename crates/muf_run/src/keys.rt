@@ -194,7 +194,7 @@ pub(crate) fn pair_test(alloc: Global, frame: &mut Frame) -> Result<Ran, NoMemor
                 after,
             },
         ) => match turns {
-            Turns::Plain | Turns::Indices { .. } => Ok(Ran::Ended),
+            Turns::Plain | Turns::Indices { .. } => Ok(Ran::Stuck),
             Turns::Values { of, at } => {
                 let pulled = value_at(of, at)?;
                 turn(alloc, frame, pulled, again, after)
@@ -205,7 +205,7 @@ pub(crate) fn pair_test(alloc: Global, frame: &mut Frame) -> Result<Ran, NoMemor
             }
         },
         Some(Mark::Guard { .. }) | Some(Mark::Back { .. }) | Some(Mark::Leave { .. }) | None => {
-            Ok(Ran::Ended)
+            Ok(Ran::Stuck)
         }
     }
 }

@@ -66,7 +66,7 @@ pub(crate) fn index_test(alloc: Global, frame: &mut Frame) -> Result<Ran, NoMemo
                 ..
             },
         ) => Ok(leave_loop(frame)),
-        _ => Ok(Ran::Ended),
+        _ => Ok(Ran::Stuck),
     }
 }
 

@@ -53,10 +53,10 @@ pub(crate) fn leave_loop(frame: &mut Frame) -> Ran
                 return Ran::Going(0);
             }
             Mark::Guard { .. } => {}
-            Mark::Back { .. } | Mark::Leave { .. } => return Ran::Ended,
+            Mark::Back { .. } | Mark::Leave { .. } => return Ran::Stuck,
         }
     }
-    Ran::Ended
+    Ran::Stuck
 }
 
 // CONTINUE and REPEAT.
@@ -75,10 +75,10 @@ pub(crate) fn next_turn(frame: &mut Frame) -> Ran
             Mark::Guard { .. } => {
                 let _left = frame.pop_mark();
             }
-            Mark::Back { .. } | Mark::Leave { .. } => return Ran::Ended,
+            Mark::Back { .. } | Mark::Leave { .. } => return Ran::Stuck,
         }
     }
-    Ran::Ended
+    Ran::Stuck
 }
 
 // CATCH, when the block reaches it.
@@ -92,7 +92,7 @@ pub(crate) fn end_try(frame: &mut Frame, to: usize) -> Ran
             Ran::Going(0)
         }
         Some(Mark::Loop { .. }) | Some(Mark::Back { .. }) | Some(Mark::Leave { .. }) | None => {
-            Ran::Ended
+            Ran::Stuck
         }
     }
 }

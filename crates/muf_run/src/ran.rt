@@ -2,11 +2,12 @@
 use muf_model::{MufFault, Prim};
 
 // How a unit ends: the process goes on, after so many programs were left, or it ends, with or without a fault; or a
-// shared primitive comes next, and no unit was taken.
+// shared primitive comes next, and no unit was taken. A frame that fits no code may be stuck.
 #[derive(Drop)]
 pub(crate) enum Ran {
     Going(usize),
     Ended,
     Faulted(MufFault),
     Shared(Prim),
+    Stuck,
 }

@@ -79,7 +79,7 @@ fn settled_unit(alloc: Global, code: &Code, frame: &mut Frame) -> Result<Ran, No
         return fault(alloc, frame, MufFault::CallsFull);
     }
     match fetch(code, frame) {
-        None => Ok(Ran::Ended),
+        None => Ok(Ran::Stuck),
         Some(placed) => {
             let next = frame.place() + 1;
             instr(alloc, code, frame, &placed.instr, next)
@@ -93,7 +93,7 @@ fn unit(alloc: Global, code: &Code, frame: &mut Frame) -> Result<Ran, NoMemory>
     ensures { IfOk result (λ ran. (codes : List Code) (s : Source) → FitsState (code.now ∷ codes) (flat frame.old) s → EndsAlike (code.now ∷ codes) (next_of ran (flat frame.new)) (unit s)) }
 {
     match fetch(code, frame) {
-        None => Ok(Ran::Ended),
+        None => Ok(Ran::Stuck),
         Some(placed) => match &placed.instr {
             Instr::Begin(_) => settled_unit(alloc, code, frame),
             other => {
@@ -111,7 +111,7 @@ fn goes_on(ran: &Result<Ran, NoMemory>) -> bool
 {
     match ran {
         Ok(Ran::Going(programs)) => *programs == 0,
-        Ok(Ran::Ended | Ran::Faulted(_) | Ran::Shared(_)) | Err(_) => false,
+        Ok(Ran::Ended | Ran::Faulted(_) | Ran::Shared(_) | Ran::Stuck) | Err(_) => false,
     }
 }
 
@@ -154,12 +154,16 @@ fn finish(frame: &mut Frame, ran: Ran, taken: u32) -> Local
             frame.set_units(taken);
             Local::Shared(prim)
         }
+        Ran::Stuck => {
+            frame.set_units(taken + 1);
+            Local::Faulted(MufFault::NotCompiled)
+        }
     }
 }
 
 /// Runs units of a program up to a shared primitive, to the end of the process, back into a calling program, or so
 /// many of them. `code` is the one with which the running program was entered. The frame tells how many units were
-/// taken. After `NoMemory` nothing is said of the frame.
+/// taken. A code that doesn't fit the frame may end in any way. After `NoMemory` nothing is said of the frame.
 pub fn run_local(
     alloc: Global,
     code: &Code,

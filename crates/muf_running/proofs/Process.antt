@@ -22,8 +22,11 @@ use Rattle.muf_model.specs.Flat.{FlatMark, Flat, decode, first_code}
 use Rattle.muf_model.specs.Source.{Program, Mark, Owned, Source, locked_of, passed, passed_at, entered, started, last_word}
 use Rattle.muf_model.specs.Stands.{Remains, TreeStands, WordStands, WordsStand}
 use Rattle.muf_model.specs.Tree.{Block, stop, word, when, fork, ring, End}
-use Rattle.muf_model.specs.Unit.{Outcome, goes, ended, faulted, asks, units, fault}
+use Rattle.muf_model.specs.Nesting.{outside, NestedBlock, NestedWords}
+use Rattle.muf_model.specs.Nested.{Nested, StaysNested}
+use Rattle.muf_model.specs.Unit.{Outcome, goes, ended, faulted, asks, stuck, units, fault}
 use Rattle.muf_model.proofs.Chains.{units_keep, fault_keeps}
+use Rattle.muf_model.proofs.Nesting.{fault_nested, entered_nested, started_nested, passed_nested, units_nested}
 use Rattle.muf_model.proofs.Decoded.{decoded, fits}
 use Rattle.muf_model.specs.View.{view}
 use Rattle.muf_frame.specs.Shown.{Shown, flat, locked_by}
@@ -53,62 +56,69 @@ no_codes : {f : Flat} {s : Source} → FitsState [] f s → ⊥
 no_codes h = let e : [] ≡ first_code [] ∷ drop 1 [] = first_there h in cc
 
 -- a process that left k of its programs
-pub left_at : (k : ℕ) (es : List Entered) (f g : Flat) (t : Source) → ProgramsFit es f → FitsState (drop k (codes_of es)) g t → programs_of t ≡ drop k (programs_of (decode (codes_of es) f)) → LeftAt k es g t
-left_at k es f g t h fitting kept =
+pub left_at : (k : ℕ) (es : List Entered) (f g : Flat) (t : Source) → ProgramsFit es f → FitsState (drop k (codes_of es)) g t → Nested t → programs_of t ≡ drop k (programs_of (decode (codes_of es) f)) → LeftAt k es g t
+left_at k es f g t h fitting nested kept =
     let codes : drop k (codes_of es) ≡ codes_of (drop k es) = drop-map _ k es in
     let fitted : FitsState (codes_of (drop k es)) g t = subst (λ cs. FitsState cs g t) codes fitting in
     let numbers : numbers_of (drop k es) ≡ numbers_in t =
     sym (drop-map (λ e. e.program.0) k es) ∙ ap (drop k) h.1 ∙ drop-map (λ p. p.number) k (programs_of (decode (codes_of es) f)) ∙ ap (map (λ p. p.number)) (sym kept) in
-    ((fits fitted, numbers ∙ ap numbers_in (sym (decoded fitted))), decoded fitted)
+    ((fits fitted nested, numbers ∙ ap numbers_in (sym (decoded fitted))), decoded fitted)
 
 -- a process in the same programs
-pub same_programs : (es : List Entered) (f g : Flat) (t : Source) → ProgramsFit es f → FitsState (codes_of es) g t → programs_of t ≡ programs_of (decode (codes_of es) f) → ProgramsFit es g × (decode (codes_of es) g ≡ t)
-same_programs es f g t h fitting kept = left_at 0 es f g t h fitting kept
+pub same_programs : (es : List Entered) (f g : Flat) (t : Source) → ProgramsFit es f → FitsState (codes_of es) g t → Nested t → programs_of t ≡ programs_of (decode (codes_of es) f) → ProgramsFit es g × (decode (codes_of es) g ≡ t)
+same_programs es f g t h fitting nested kept = left_at 0 es f g t h fitting nested kept
 
 -- what a run in one program leaves
 local_at : (es : List Entered) (f g : Flat) (l : Local) (o : Outcome) → ProgramsFit es f → Keeps (programs_of (decode (codes_of es) f)) o → RunsAlike (codes_of es) l g o → LocalFits es l g o
-local_at es f g local.Spent (goes zero s) h k r = left_at 0 es f g s h (subst (FitsState (codes_of es) g) r.1 r.0) k
+local_at es f g local.Spent (goes zero s) h k r = left_at 0 es f g s h (subst (FitsState (codes_of es) g) r.1 r.0.state) (subst Nested r.1 r.0.nested) k
 local_at es f g local.Spent (goes (suc j) s) h k r = absurd r
 local_at es f g local.Spent ended h k r = absurd r
 local_at es f g local.Spent (faulted e) h k r = absurd r
 local_at es f g local.Spent (asks p s) h k r = absurd r
+local_at es f g local.Spent stuck h k r = absurd r
 local_at es f g (local.Returned i) (goes zero s) h k r = absurd r
 local_at es f g (local.Returned i) (goes (suc j) s) h k r =
-    (r.0, left_at (suc j) es f g s h (subst (FitsState (drop (suc j) (codes_of es)) g) r.2 r.1) k)
+    (r.0, left_at (suc j) es f g s h (subst (FitsState (drop (suc j) (codes_of es)) g) r.2 r.1.state) (subst Nested r.2 r.1.nested) k)
 local_at es f g (local.Returned i) ended h k r = absurd r
 local_at es f g (local.Returned i) (faulted e) h k r = absurd r
 local_at es f g (local.Returned i) (asks p s) h k r = absurd r
+local_at es f g (local.Returned i) stuck h k r = absurd r
 local_at es f g (local.Shared q) (goes j s) h k r = absurd r
 local_at es f g (local.Shared q) ended h k r = absurd r
 local_at es f g (local.Shared q) (faulted e) h k r = absurd r
-local_at es f g (local.Shared q) (asks p s) h k r = (r.0, left_at 0 es f g s h (subst (FitsState (codes_of es) g) r.2 r.1) k.0)
+local_at es f g (local.Shared q) (asks p s) h k r = (r.0, left_at 0 es f g s h (subst (FitsState (codes_of es) g) r.2 r.1.state) (subst Nested r.2 r.1.nested) k.0)
+local_at es f g (local.Shared q) stuck h k r = absurd r
 local_at es f g local.Ended (goes j s) h k r = absurd r
 local_at es f g local.Ended ended h k r = tt
 local_at es f g local.Ended (faulted e) h k r = absurd r
 local_at es f g local.Ended (asks p s) h k r = absurd r
+local_at es f g local.Ended stuck h k r = absurd r
 local_at es f g (local.Faulted d) (goes j s) h k r = absurd r
 local_at es f g (local.Faulted d) ended h k r = absurd r
 local_at es f g (local.Faulted d) (faulted e) h k r = r
 local_at es f g (local.Faulted d) (asks p s) h k r = absurd r
+local_at es f g (local.Faulted d) stuck h k r = absurd r
 
 pub run_at : (es : List Entered) (f g : Flat) (l : Local) (m : ℕ) → ProgramsFit es f → RunsAlike (codes_of es) l g (units m (decode (codes_of es) f)) → LocalFits es l g (units m (decode (codes_of es) f))
 run_at es f g l m h r =
     local_at es f g l (units m (decode (codes_of es) f)) h (units_keep m (decode (codes_of es) f)) r
 
 -- what a fault leaves
-caught_at : (es : List Entered) (f g : Flat) (k : ℕ) (o : Outcome) → ProgramsFit es f → Keeps (programs_of (decode (codes_of es) f)) o → (e : MufFault) → EndsAlike (codes_of es) (after_fault e (Some (k, g))) o → (t : Source) × LeftAt k es g t × (o ≡ goes k t)
-caught_at es f g k (goes j t) h kept e r =
+caught_at : (es : List Entered) (f g : Flat) (k : ℕ) (o : Outcome) → ProgramsFit es f → Keeps (programs_of (decode (codes_of es) f)) o → StaysNested o → (e : MufFault) → EndsAlike (codes_of es) (after_fault e (Some (k, g))) o → (t : Source) × LeftAt k es g t × (o ≡ goes k t)
+caught_at es f g k (goes j t) h kept n e r =
     let same : j ≡ k = sym r.0 in
-    (t, left_at k es f g t h (subst (λ i. FitsState (drop i (codes_of es)) g t) same r.1) (kept ∙ ap (λ i. drop i (programs_of (decode (codes_of es) f))) same), ap (λ i. goes i t) same)
-caught_at es f g k ended h kept e r = absurd r
-caught_at es f g k (faulted d) h kept e r = absurd r
-caught_at es f g k (asks p t) h kept e r = absurd r
+    (t, left_at k es f g t h (subst (λ i. FitsState (drop i (codes_of es)) g t) same r.1) n (kept ∙ ap (λ i. drop i (programs_of (decode (codes_of es) f))) same), ap (λ i. goes i t) same)
+caught_at es f g k ended h kept n e r = absurd r
+caught_at es f g k (faulted d) h kept n e r = absurd r
+caught_at es f g k (asks p t) h kept n e r = absurd r
+caught_at es f g k stuck h kept n e r = absurd n
 
 uncaught_at : (cs : List Code) (e : MufFault) (o : Outcome) → EndsAlike cs (after_fault e None) o → o ≡ faulted e
 uncaught_at cs e (goes j t) r = absurd r
 uncaught_at cs e ended r = absurd r
 uncaught_at cs e (faulted d) r = ap faulted (sym r)
 uncaught_at cs e (asks p t) r = absurd r
+uncaught_at cs e stuck r = absurd r
 
 faults_alike : (cs : List Code) (f : Flat) (s : Source) (e : MufFault) → FitsState cs f s → EndsAlike cs (after_fault e (caught e f)) (fault e s)
 faults_alike (c ∷ cs) f s e h = fault_fits h e
@@ -117,12 +127,12 @@ faults_alike [] f s e h = absurd (no_codes h)
 pub raised_some : (es : List Entered) (f g : Flat) (e : MufFault) (k : ℕ) → ProgramsFit es f → caught e f ≡ Some (k, g) → (t : Source) × LeftAt k es g t × (fault e (decode (codes_of es) f) ≡ goes k t)
 raised_some es f g e k h c =
     let s : Source = decode (codes_of es) f in
-    caught_at es f g k (fault e s) h (fault_keeps e s) e (subst (λ x. EndsAlike (codes_of es) (after_fault e x) (fault e s)) c (faults_alike (codes_of es) f s e h.0))
+    caught_at es f g k (fault e s) h (fault_keeps e s) (fault_nested e s h.0.nested) e (subst (λ x. EndsAlike (codes_of es) (after_fault e x) (fault e s)) c (faults_alike (codes_of es) f s e h.0.state))
 
 pub raised_none : (es : List Entered) (f : Flat) (e : MufFault) → ProgramsFit es f → caught e f ≡ None → fault e (decode (codes_of es) f) ≡ faulted e
 raised_none es f e h c =
     let s : Source = decode (codes_of es) f in
-    uncaught_at (codes_of es) e (fault e s) (subst (λ x. EndsAlike (codes_of es) (after_fault e x) (fault e s)) c (faults_alike (codes_of es) f s e h.0))
+    uncaught_at (codes_of es) e (fault e s) (subst (λ x. EndsAlike (codes_of es) (after_fault e x) (fault e s)) c (faults_alike (codes_of es) f s e h.0.state))
 
 -- the place behind a primitive
 passing : (code : Code) (codes : List Code) (stack common vars below : List Datum) (owned : List Owned) (place : ℕ) (program : Program) (now : Block) (end : End) (ms : List Mark) (ns : List FlatMark) → IsAtPrimitive now → TreeStands code program.tree → Remains code.placed place now end → MarksFit (code ∷ codes) ms ns below → FitsState (code ∷ codes) (record { stack = stack; common = common; owned = owned; variables = below ++ vars; base = length below; program = program.number; place = place + 1; marks = ns }) (passed (record { stack = stack; common = common; owned = owned; variables = vars; program = program; now = now; end = end; marks = ms })) × (place < length code.placed)
@@ -148,13 +158,20 @@ word_at code (v ∷ ws) zero w h e =
     let same : v ≡ w = ap (λ o. option_or v o) e in subst (λ x. WordStands code x (definition_at code x)) same h.0
 word_at code (v ∷ ws) (suc n) w h e = word_at code ws n w h.1 e
 
+-- and that is nested
+word_nested : (code : List Placed) (ws : List CodeWord) (n : ℕ) (w : CodeWord) → NestedWords (map (definition_at code) ws) → slice_get ws n ≡ Some w → NestedBlock outside (definition_at code w).body
+word_nested code [] n w h e = absurd cc
+word_nested code (v ∷ ws) zero w h e =
+    let same : v ≡ w = ap (λ o. option_or v o) e in subst (λ x. NestedBlock outside (definition_at code x).body) same h.0
+word_nested code (v ∷ ws) (suc n) w h e = word_nested code ws n w h.1 e
+
 -- a word of a program is called
 pub entered_fits : {cs : List Code} {f : Flat} {s : Source} → FitsState cs f s → (d : Dbref) (code : Code) (n : ℕ) (w : CodeWord) → TreeStands code (tree_of code) → slice_get code.words n ≡ Some w → FitsState (code ∷ cs) (moves.entered d.0 code.variables w.start w.variables f) (entered (program_with d code) (definition_at code.placed w) s)
 entered_fits (fit p a m) d code n w h e = fit h (word_at code.placed code.words n w h.words e).body (enters p a m)
 
-pub entered_programs : (es : List Entered) (f g : Flat) (e : Entered) (s : Source) → ProgramsFit es f → FitsState (codes_of (e ∷ es)) g s → numbers_in s ≡ e.program.0 ∷ numbers_in (decode (codes_of es) f) → ProgramsFit (e ∷ es) g × (decode (codes_of (e ∷ es)) g ≡ s)
-entered_programs es f g e s h fitting numbers =
-    ((fits fitting, ap (λ ns. e.program.0 ∷ ns) h.1 ∙ sym numbers ∙ ap numbers_in (sym (decoded fitting))), decoded fitting)
+pub entered_programs : (es : List Entered) (f g : Flat) (e : Entered) (s : Source) → ProgramsFit es f → FitsState (codes_of (e ∷ es)) g s → Nested s → numbers_in s ≡ e.program.0 ∷ numbers_in (decode (codes_of es) f) → ProgramsFit (e ∷ es) g × (decode (codes_of (e ∷ es)) g ≡ s)
+entered_programs es f g e s h fitting nested numbers =
+    ((fits fitting nested, ap (λ ns. e.program.0 ∷ ns) h.1 ∙ sym numbers ∙ ap numbers_in (sym (decoded fitting))), decoded fitting)
 
 -- a process begins in a word
 pub begun_fits : (d : Dbref) (code : Code) (common : List Datum) (argument : List ℕ) (n : ℕ) (w : CodeWord) → TreeStands code (tree_of code) → slice_get code.words n ≡ Some w → FitsState (code ∷ []) (moves.begun d.0 w.start w.variables (moves.owning d.0 code.variables (record (moves.fresh argument) { common = common }))) (started (program_with d code) (definition_at code.placed w) common argument)
@@ -179,8 +196,8 @@ call_at es f g d code n start h stands at same =
     let s : Source = decode (codes_of es) f in
     let next : Source = entered (program_with d code) (definition_at code.placed w.0) s in
     let frame : moves.entered d.0 code.variables w.0.start w.0.variables f ≡ g = rw (← at.1, ← w.2, ← w.3) (sym same) in
-    let fitting : FitsState (code ∷ codes_of es) g next = subst (λ x. FitsState (code ∷ codes_of es) x next) frame (entered_fits h.0 d code n w.0 stands w.1) in
-    let r = entered_programs es f g (record { program = d; code = code }) next h fitting refl in
+    let fitting : FitsState (code ∷ codes_of es) g next = subst (λ x. FitsState (code ∷ codes_of es) x next) frame (entered_fits h.0.state d code n w.0 stands w.1) in
+    let r = entered_programs es f g (record { program = d; code = code }) next h fitting (entered_nested (program_with d code) (definition_at code.placed w.0) s stands.nested (word_nested code.placed code.words n w.0 stands.nested w.1) h.0.nested) refl in
     let found : slice_get (tree_of code).words n ≡ Some (definition_at code.placed w.0) = slice_get-map (definition_at code.placed) code.words n ∙ ap (option_map (definition_at code.placed)) w.1 in
     (r.0, ap (option_map (λ x. entered (program_with d code) x s)) found ∙ ap Some (sym r.1))
 
@@ -194,7 +211,7 @@ begin_at f g d code common argument n start count stands at first same =
     ap (λ x. moves.begun d.0 x w.0.variables (moves.owning d.0 code.variables from)) (sym w.2) ∙ ap (λ x. moves.begun d.0 start.place x (moves.owning d.0 code.variables from)) (sym w.3) ∙ ap (λ x. moves.begun d.0 start.place start.variables (moves.owning d.0 x from)) (sym at.1) ∙ ap (λ x. moves.begun d.0 start.place start.variables (moves.owning d.0 start.owned x)) (sym first) ∙ sym same in
     let fitting : FitsState (code ∷ []) g next = subst (λ x. FitsState (code ∷ []) x next) frame (begun_fits d code common argument n w.0 stands w.1) in
     let found : last_word (tree_of code).words ≡ Some (definition_at code.placed w.0) = last_read code.placed code.words n count ∙ ap (option_map (definition_at code.placed)) w.1 in
-    ((fits fitting, ap numbers_in (sym (decoded fitting))), ap Some (decoded fitting) ∙ sym (ap (option_map (λ x. started (program_with d code) x common argument)) found))
+    ((fits fitting (started_nested (program_with d code) (definition_at code.placed w.0) common argument stands.nested (word_nested code.placed code.words n w.0 stands.nested w.1)), ap numbers_in (sym (decoded fitting))), ap Some (decoded fitting) ∙ sym (ap (option_map (λ x. started (program_with d code) x common argument)) found))
 
 -- those that are left of a call stack
 pub kept_programs : {A : Type 0} (k : ℕ) (xs : List A) → reverse (take (length xs - k) xs) ≡ drop k (reverse xs)
@@ -206,18 +223,21 @@ kept_programs k xs =
 lent_fits : (g : Flat) {cs : List Code} {f : Flat} {s : Source} → FitsState cs f s → FitsState cs (record f { stack = g.stack; common = g.common; owned = g.owned }) (with_frame g s)
 lent_fits g (fit p a m) = fit p a m
 
+lent_nested : (g : Flat) (s : Source) → Nested s → Nested (with_frame g s)
+lent_nested g s h = record { now = h.now; end = h.end; marks = h.marks; tree = h.tree }
+
 pub lent_at : (es : List Entered) (f g : Flat) (s : Source) → Apart es f s → Differs f g → Apart es g (with_frame g s)
 lent_at es f g s h differs =
     let t : Source = decode (codes_of es) f in
-    let fitted : FitsState (codes_of es) g (with_frame g t) = subst (λ x. FitsState (codes_of es) x (with_frame g t)) (sym differs) (lent_fits g h.0.0) in
-    subst (λ x. Apart es g (with_frame g x)) h.1 (same_programs es f g (with_frame g t) h.0 fitted refl)
+    let fitted : FitsState (codes_of es) g (with_frame g t) = subst (λ x. FitsState (codes_of es) x (with_frame g t)) (sym differs) (lent_fits g h.0.0.state) in
+    subst (λ x. Apart es g (with_frame g x)) h.1 (same_programs es f g (with_frame g t) h.0 fitted (lent_nested g t h.0.0.nested) refl)
 
 -- what the frame shows
 pub shows_at : (es : List Entered) (f : Flat) (s : Source) → Apart es f s → Shows f s
 shows_at es f s h = subst (Shows f) h.1 (record {
   stack = refl;
-  locked = locked_fits h.0.0;
-  calls = calls_fits h.0.0;
+  locked = locked_fits h.0.0.state;
+  calls = calls_fits h.0.0.state;
   program = refl;
   common = refl;
   owned = refl;
@@ -233,13 +253,13 @@ passed_programs (fork k line b mid c next) s h = refl
 passed_programs (ring k line b c last next) s h = refl
 
 pub passed_place : (es : List Entered) (f : Shown) → ProgramsFit es (flat f) → IsAtPrimitive (decode (codes_of es) (flat f)).now → f.place < length (first_code (codes_of es)).placed
-passed_place es f h at = (passed_fits h.0 at).1
+passed_place es f h at = (passed_fits h.0.state at).1
 
 pub passed_at_end : (es : List Entered) (f g : Shown) → ProgramsFit es (flat f) → IsAtPrimitive (decode (codes_of es) (flat f)).now → g ≡ record f { place = f.place + 1 } → ProgramsFit es (flat g) × (decode (codes_of es) (flat g) ≡ passed (decode (codes_of es) (flat f)))
 passed_at_end es f g h at same =
     let s : Source = decode (codes_of es) (flat f) in
     let frame : record (flat f) { place = f.place + 1 } ≡ flat g = ap flat (sym same) in
-    same_programs es (flat f) (flat g) (passed s) h (subst (λ x. FitsState (codes_of es) x (passed s)) frame (passed_fits h.0 at).0) (passed_programs s.now s at)
+    same_programs es (flat f) (flat g) (passed s) h (subst (λ x. FitsState (codes_of es) x (passed s)) frame (passed_fits h.0.state at).0) (passed_nested s h.0.nested) (passed_programs s.now s at)
 
 -- a number among those of a call stack, in either order
 any_number : (k : ℤ) (es : List Entered) → list_any (λ e. int_eq e.program.0 k) es ≡ number_among k (numbers_of es)
@@ -265,6 +285,7 @@ asked_at ps (Going r) o k h = tt
 asked_at ps (Asking p r) (goes j s) k h = absurd h
 asked_at ps (Asking p r) ended k h = absurd h
 asked_at ps (Asking p r) (faulted f) k h = absurd h
+asked_at ps (Asking p r) stuck k h = absurd h
 asked_at ps (Asking p r) (asks q s) k h = rw (h.0, h.1) k.1
 asked_at ps Ended o k h = tt
 asked_at ps (Faulted f) o k h = tt

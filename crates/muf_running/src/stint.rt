@@ -2,6 +2,7 @@
 ghost use Rattle.std.specs.Prelude.{◌≡◌, IfOk, List, ◌∷◌, reverse, length, ◌<◌, drop};
 ghost use Rattle.muf_model.specs.Chains.{taken};
 ghost use Rattle.muf_model.specs.Flat.{decode, Flat};
+ghost use Rattle.muf_model.specs.Nested.{StaysNested};
 ghost use Rattle.muf_model.specs.Unit.{Outcome, units, fault};
 ghost use Rattle.muf_frame.specs.Shown.{flat};
 ghost use Rattle.muf_running.specs.Fitting.{codes_of, ProgramsFit};
@@ -67,11 +68,12 @@ fn stopped(programs: Vec<Entered>, frame: Frame, local: Local) -> Ran
 
 impl Running {
     /// Runs at most so many units: up to a shared primitive, which then comes next, to the end of the process, or back
-    /// into a calling program. After `NoMemory` nothing is left of the process.
+    /// into a calling program. No unit is ever stuck. After `NoMemory` nothing is left of the process.
     pub fn run(self, alloc: Global, most: u32) -> Result<Stint, NoMemory>
         ensures ran { IfOk result (λ s. RanAlike s.ran (units most self)) }
         ensures units { IfOk result (λ s. s.units ≡ taken most self) }
         ensures asked { IfOk result (λ s. AskedAt s.ran) }
+        ensures nested { IfOk result (λ _. StaysNested (units most self)) }
     {
         let Running {
             programs,

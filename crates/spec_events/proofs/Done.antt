@@ -1,16 +1,24 @@
 -- A line that is done: what it changes is open, it keeps the numbers of the connections, and the world lives on.
-use Rattle.std.proofs.Common.{◌≡◌, ℕ, Bool, true, false, cond, List, [], ◌∷◌, refl, sym, ◌∙◌, ap, subst, Option, Some, None}
+use Rattle.std.proofs.Common.{◌≡◌, ℕ, Bool, true, false, cond, List, [], ◌∷◌, refl, sym, ◌∙◌, ap, subst, Option, Some, None, inl, inr}
 use Rattle.spec_live.proofs.Keeping.{keeps_followed}
 use Rattle.std.specs.Prelude.{find, ◌==◌}
-use Rattle.std.specs.Option.{option_and_then}
+use Rattle.std.specs.Option.{option_and_then, option_map_or}
+use Rattle.std.proofs.lemmas.Bool.{and_parts}
+use Rattle.std.proofs.lemmas.Option.{none-some}
 use Rattle.muck_model.specs.declared.dbref.Dbref.{Dbref}
 use Rattle.muck_model.specs.declared.edit.EditState.{EditState}
+use Rattle.muck_match.specs.declared.exits.ExitHit.{ExitHit}
+use Rattle.muck_match.specs.Exits.{exit_for}
+use Rattle.spec_live.specs.declared.mark.Mark.{Mark}
+use Rattle.spec_live.specs.declared.object.Object.{Object}
+use Rattle.spec_live.specs.Objects.{Entry, dbref_of, mark_in, object_at}
+use Rattle.spec_live.specs.Seen.{scenery_of}
 use Rattle.spec_live.specs.Connections.{Connection, has_number, edited as edited_connection}
 use Rattle.spec_live.specs.Boards.{connection_in, player_in, leaving_one, edited_one}
 use Rattle.spec_live.specs.Lives.{Live, Change, followed, ◌▸◌, tell, leave}
 use Rattle.spec_rights.specs.declared.act.Actor.{Actor}
-use Rattle.spec_rights.specs.Licence.{SameTies, Licensed, nobody}
-use Rattle.spec_rights.proofs.Licences.{Quiet, Always, ties_same, ties_both, quiet_order, whole_quiet}
+use Rattle.spec_rights.specs.Licence.{Freedom, Judge, SameTies, Licensed, editing}
+use Rattle.spec_rights.proofs.Licences.{judge, MarkOpen, SameMarks, Quiet, Always, ties_same, ties_both, quiet_order, whole_quiet}
 use Rattle.spec_rights.proofs.Leaving.{whole_leave}
 use Rattle.spec_rights.proofs.Shown.{quiet_one, quiet_tell}
 use Rattle.spec_commands.specs.declared.outcome.Outcome.{Outcome}
@@ -18,34 +26,39 @@ use Rattle.spec_commands.specs.declared.outcome.Outcome.TheVariants.{Done, NotMi
 use Rattle.spec_commands.specs.declared.edit.EditStep.{EditStep}
 use Rattle.spec_commands.specs.declared.edit.EditStep.TheVariants.{Stay, Compile, Left}
 use Rattle.spec_commands.specs.Finding.{actor_of}
-use Rattle.spec_commands.specs.Free.{free_line}
-use Rattle.spec_commands.specs.Commands.{played}
+use Rattle.spec_commands.specs.Free.{free_play, free_through, free_line}
+use Rattle.spec_commands.specs.Commands.{begins_with_sign, played}
 use Rattle.spec_commands.specs.Editing.{editor_exited, is_open, edited}
 use Rattle.spec_commands.specs.Talk.{at_login, waits}
 use Rattle.spec_commands.proofs.Showing.{quiet_waits}
 use Rattle.spec_commands.proofs.Permitted.{waited_open}
-use Rattle.spec_commands.proofs.Edited.{edited_licensed}
-use Rattle.spec_commands.proofs.Numbered.{numbers, numbers-same_ties, Seating, seating_quiet, seating_order}
+use Rattle.spec_commands.proofs.Edited.{edited_proper}
+use Rattle.spec_commands.proofs.Sources.{edited_rewrites}
+use Rattle.muf_model.specs.Source.{Source}
+use Rattle.muck_queue.specs.Queues.{Queue}
+use Rattle.spec_commands.proofs.Numbered.{numbers, numbers-same_ties, leavers_ties, Seats, Seating, seating_quiet, seating_order}
 use Rattle.spec_commands.proofs.Lines.{seating_at_login}
 use Rattle.spec_events.specs.World.{World, on_live}
 use Rattle.spec_events.specs.Following.{swept, settled}
 use Rattle.spec_events.specs.Lines.{with_editor, next_editor, after_edit, edited_line, in_editor, editor_on, followed_up, in_world, line_done, done}
-use Rattle.spec_events.specs.Licences.{Untouched, LineLicensed, TurnLicensed}
+use Rattle.spec_events.specs.Endings.{ProcessesLicensed, NoProcess, Lapsed, MayEnd, by_program}
+use Rattle.spec_events.specs.Licences.{Untouched, Undisturbed, LineLicensed, TurnLicensed}
 use Rattle.spec_events.proofs.Quietly.{Quietly, quietly_live, quietly_swept, quietly_launched, quietly_compiled}
-use Rattle.spec_events.proofs.Told.{licensed_told, licensed_as}
+use Rattle.spec_events.proofs.Told.{told_at, licensed_told, licensed_as}
+use Rattle.spec_events.proofs.Endings.{Lasting, lasting_same, lasting_both, lasting_settled, lasting_up, lasting_after, runs_in, Tells, IsTold, told_settled, processes_remain}
 
 -- what an actor may do to a world that is one already: the changes are open, and it is as dead as before
-pub record Open (a : Actor) (free : Dbref → Bool) (start : Live) (dead : Bool) (v : World) : Type 0 where
+pub record Open (a : Actor) (free : Freedom) (start : Live) (dead : Bool) (v : World) : Type 0 where
   pub licensed : Licensed a free start v.live
   pub alive : v.dead ≡ dead
 
-pub open_quietly : (a : Actor) (free : Dbref → Bool) (start : Live) (dead : Bool) (u v : World) → Open a free start dead u → Quietly u v → Open a free start dead v
+pub open_quietly : (a : Actor) (free : Freedom) (start : Live) (dead : Bool) (u v : World) → Open a free start dead u → Quietly u v → Open a free start dead v
 open_quietly a free start dead u v p q = record {
   licensed = licensed_as a free start u.live v.live p.licensed q.objects q.ties q.tune;
   alive = q.dead ∙ p.alive;
 }
 
-pub open_settled : (a : Actor) (free : Dbref → Bool) (start : Live) (dead : Bool) (u : World) → Open a free start dead u → Open a free start dead (settled u)
+pub open_settled : (a : Actor) (free : Freedom) (start : Live) (dead : Bool) (u : World) → Open a free start dead u → Open a free start dead (settled u)
 unfolding settled
 open_settled a free start dead u p =
     let q = open_quietly a free start dead u _ p (quietly_swept 0 u.live.objects u) in
@@ -63,11 +76,11 @@ player-same_ties a d (x ∷ xs) (y ∷ ys) t =
     let P : ℕ → Type 0 = λ n. option_and_then (λ (c : Connection). c.player) (cond (n == d) (Some y) (find (has_number d) ys)) ≡ option_and_then (λ (c : Connection). c.player) (cond (x.number == d) (Some x) (find (has_number d) xs)) in
     subst P (sym t.0) (elim (x.number == d) as (λ b. option_and_then (λ (c : Connection). c.player) (cond b (Some y) (find (has_number d) ys)) ≡ option_and_then (λ (c : Connection). c.player) (cond b (Some x) (find (has_number d) xs))) [ true ↦ t.1 | false ↦ next ])
 
-left_licensed : (a : Actor) (d : ℕ) (free : Dbref → Bool) (w v : Live) → player_in d w.board ≡ Some a.player → Licensed a free w v → Licensed a free w (leave d v)
+left_licensed : (a : Actor) (d : ℕ) (free : Freedom) (w v : Live) → player_in d w.board ≡ Some a.player → Licensed a free w v → Licensed a free w (leave d v)
 unfolding leave leaving_one
 left_licensed a d free w v own l =
-    let left : Licensed a free v (leave d v) = ((whole_leave a d (λ es. free) Always).law v).law (player-same_ties a d w.board.connections v.board.connections l.connections ∙ own) tt in
-    record { gone = l.gone; recycled = l.recycled; objects = l.objects; lists = l.lists; connections = ties_both a _ _ _ l.connections left.connections; tune = l.tune }
+    let left : Licensed a free v (leave d v) = (((whole_leave a d (λ es. free) Always).law v).law (player-same_ties a d w.board.connections v.board.connections l.connections ∙ own) tt).licensed in
+    record { gone = l.gone; recycled = l.recycled; vanished = l.vanished; objects = l.objects; lists = l.lists; connections = ties_both a _ _ _ l.connections left.connections; tune = l.tune }
 
 -- The editor.
 
@@ -82,17 +95,18 @@ taken_out d lines = waits d lines ▸ with_editor d None
 quiet_taken_out : (d : ℕ) (lines : List (List ℕ)) → Quiet (taken_out d lines)
 quiet_taken_out d lines = keeps_followed _ _ quiet_order (quiet_waits d lines) (quiet_with_editor d None)
 
-open_after : (a : Actor) (free : Dbref → Bool) (start : Live) (dead : Bool) (d : ℕ) (program : Dbref) (step : EditStep) (u : World) → Open a free start dead u → Open a free start dead (after_edit d program step u)
+open_after : (a : Actor) (free : Freedom) (start : Live) (dead : Bool) (d : ℕ) (program : Dbref) (step : EditStep) (u : World) → Open a free start dead u → Open a free start dead (after_edit d program step u)
 open_after a free start dead d program Compile u p = open_quietly a free start dead u _ p (quietly_compiled d program u)
 open_after a free start dead d program Stay u p = p
 open_after a free start dead d program Left u p = p
 
 -- from a world in which only what waits differs, and an editor
-licensed_from : (a : Actor) (free : Dbref → Bool) (d : ℕ) (lines : List (List ℕ)) (w v : Live) → Licensed a free (taken_out d lines w) v → Licensed a free w v
+licensed_from : (a : Actor) (free : Freedom) (d : ℕ) (lines : List (List ℕ)) (w v : Live) → Licensed a free (taken_out d lines w) v → Licensed a free w v
 unfolding waits followed edited_one
 licensed_from a free d lines w v l = record {
   gone = l.gone;
   recycled = l.recycled;
+  vanished = l.vanished;
   objects = l.objects;
   lists = l.lists;
   connections = ties_both a _ _ _ (ties_same a w.board.connections (taken_out d lines w).board.connections (((quiet_taken_out d lines).law w).ties)) l.connections;
@@ -100,37 +114,37 @@ licensed_from a free d lines w v l = record {
 }
 
 open_edited : (d : ℕ) (player : Dbref) (s : EditState) (line : List ℕ) (lines : List (List ℕ)) (w : World) →
-    Open (actor_of w.live.objects player) nobody w.live w.dead (edited_line d player s line (on_live (taken_out d lines) w))
+    Open (actor_of w.live.objects player) (editing s.program) w.live w.dead (edited_line d player s line (on_live (taken_out d lines) w))
 unfolding edited_line waits followed edited_one
 open_edited d player s line lines w =
     let a : Actor = actor_of w.live.objects player in
     let u : World = on_live (taken_out d lines) w in
     let r = edited d a s line u.live in
-    let l : Licensed a nobody w.live r.0 = licensed_from a nobody d lines w.live r.0 (edited_licensed d a s line u.live) in
+    let l : Licensed a (editing s.program) w.live r.0 = licensed_from a (editing s.program) d lines w.live r.0 (edited_proper d a s line u.live).licensed in
     let v : World = record u { live = r.0 } in
-    let e = open_quietly a nobody w.live w.dead v (on_live (with_editor d (next_editor r.2 r.1)) v) (record { licensed = l; alive = refl }) (quietly_live _ (quiet_with_editor d (next_editor r.2 r.1)) v) in
-    open_after a nobody w.live w.dead d s.program r.2 _ (open_settled a nobody w.live w.dead _ e)
+    let e = open_quietly a (editing s.program) w.live w.dead v (on_live (with_editor d (next_editor r.2 r.1)) v) (record { licensed = l; alive = refl }) (quietly_live _ (quiet_with_editor d (next_editor r.2 r.1)) v) in
+    open_after a (editing s.program) w.live w.dead d s.program r.2 _ (open_settled a (editing s.program) w.live w.dead _ e)
 
-left_open : (d : ℕ) (player : Dbref) (lines : List (List ℕ)) (w : World) →
-    Open (actor_of w.live.objects player) nobody w.live w.dead (on_live (tell d editor_exited) (on_live (taken_out d lines) w))
+left_open : (d : ℕ) (player : Dbref) (s : EditState) (lines : List (List ℕ)) (w : World) →
+    Open (actor_of w.live.objects player) (editing s.program) w.live w.dead (on_live (tell d editor_exited) (on_live (taken_out d lines) w))
 unfolding followed
-left_open d player lines w =
+left_open d player s lines w =
     let f : Change = taken_out d lines ▸ tell d editor_exited in
     let q : Quiet f = keeps_followed _ _ quiet_order (quiet_taken_out d lines) (quiet_tell d editor_exited) in
-    record { licensed = ((whole_quiet (actor_of w.live.objects player) None (λ es. nobody) Always f q).law w.live).law tt tt; alive = refl }
+    record { licensed = (((whole_quiet (actor_of w.live.objects player) None (λ es. editing s.program) Always f q).law w.live).law tt tt).licensed; alive = refl }
 
 open_in_editor : (d : ℕ) (player : Dbref) (s : EditState) (line : List ℕ) (lines : List (List ℕ)) (w : World) →
-    Open (actor_of w.live.objects player) nobody w.live w.dead (in_editor d player s line (on_live (taken_out d lines) w))
+    Open (actor_of w.live.objects player) (editing s.program) w.live w.dead (in_editor d player s line (on_live (taken_out d lines) w))
 unfolding in_editor
 open_in_editor d player s line lines w = at (is_open s (taken_out d lines w.live))
   where
-    at : (b : Bool) → Open (actor_of w.live.objects player) nobody w.live w.dead (cond b (edited_line d player s line (on_live (taken_out d lines) w)) (on_live (tell d editor_exited) (on_live (taken_out d lines) w)))
+    at : (b : Bool) → Open (actor_of w.live.objects player) (editing s.program) w.live w.dead (cond b (edited_line d player s line (on_live (taken_out d lines) w)) (on_live (tell d editor_exited) (on_live (taken_out d lines) w)))
     at true = open_edited d player s line lines w
-    at false = left_open d player lines w
+    at false = left_open d player s lines w
 
 -- Commands.
 
-open_followed : (d : ℕ) (player : Dbref) (a : Actor) (free : Dbref → Bool) (start : Live) (dead : Bool) (outcome : Outcome) (u : World) → player_in d start.board ≡ Some a.player →
+open_followed : (d : ℕ) (player : Dbref) (a : Actor) (free : Freedom) (start : Live) (dead : Bool) (outcome : Outcome) (u : World) → player_in d start.board ≡ Some a.player →
     Open a free start dead u → Open a free start dead (followed_up d player outcome u)
 open_followed d player a free start dead Leave u own p = record { licensed = left_licensed a d free start u.live own p.licensed; alive = p.alive }
 open_followed d player a free start dead (Edit program) u own p =
@@ -148,33 +162,181 @@ open_in_world : (d : ℕ) (player : Dbref) (line : List ℕ) (lines : List (List
 unfolding in_world waits followed actor_of
 open_in_world d player line lines w own =
     let a : Actor = actor_of w.live.objects player in
-    let free : Dbref → Bool = free_line a line w.live.objects in
+    let free : Freedom = free_line a line w.live.objects in
     let u : World = on_live (waits d lines) w in
     let r = played d a line u.live in
-    let l : Licensed a free w.live r.0 = ((waited_open a d lines line).law w.live).law own tt in
+    let l : Licensed a free w.live r.0 = (((waited_open a d lines line).law w.live).law own tt).licensed in
     open_followed d player a free w.live w.dead r.1 _ own (open_settled a free w.live w.dead (record u { live = r.0 }) (record { licensed = l; alive = refl }))
+
+-- Processes.
+
+objects_settled : (x : Dbref) (w : World) → object_at x (settled w).live.objects ≡ object_at x w.live.objects
+unfolding settled
+objects_settled x w = told_at x (swept 0 w.live.objects w).live.objects ∙ ap (object_at x) (quietly_swept 0 w.live.objects w).objects
+
+objects_up : (d : ℕ) (player : Dbref) (outcome : Outcome) (w : World) → (followed_up d player outcome w).live.objects ≡ w.live.objects
+unfolding leave
+objects_up d player Leave w = refl
+objects_up d player (Edit program) w = refl
+objects_up d player (Start program trigger line arg) w = (quietly_launched d (actor_of w.live.objects player) (record { player = player; program = program; trigger = trigger; command = line; argument = arg }) w).objects
+objects_up d player Done w = refl
+objects_up d player NotMine w = refl
+objects_up d player Dump w = refl
+objects_up d player Stop w = refl
+objects_up d player (Retune tune) w = refl
+
+objects_after : (d : ℕ) (program : Dbref) (step : EditStep) (w : World) → (after_edit d program step w).live.objects ≡ w.live.objects
+objects_after d program Compile w = (quietly_compiled d program w).objects
+objects_after d program Stay w = refl
+objects_after d program Left w = refl
+
+lapsed_as : (x : Dbref) (w u v : Live) → object_at x v.objects ≡ object_at x u.objects → Lapsed x w u → Lapsed x w v
+lapsed_as x w u v e (inl g) = inl (e ∙ g)
+lapsed_as x w u v e (inr h) = inr (λ s. h (ap (λ (q : Option Object). option_map_or (λ o. o.lines) q []) (sym e) ∙ s))
+
+-- of a program on the call stack it was told
+abbrev Cut : Live → Live → Option Source → Type 0
+Cut w v t = (x : Dbref) × (runs_in x t ≡ true) × Lapsed x w v
+
+cut_ends : (a : Actor) (w v : World) → Lasting (Cut w.live v.live) w.queue v.queue → ProcessesLicensed (MayEnd a w.live v.live) w v
+cut_ends a w v g = processes_remain (Cut w.live v.live) (MayEnd a w.live v.live) w v (λ p c. by_program c.0 c.1 c.2) g
+
+nothing_edited : (a : Actor) (line : List ℕ) (es : List Entry) (x : Dbref) → (free_line a line es).edits x ≡ false
+unfolding free_line free_play
+nothing_edited a line es x = at (begins_with_sign line) (exit_for (scenery_of es) a.player line)
+  where
+    at : (b : Bool) (hit : Option ExitHit) → (free_through b hit a line es).edits x ≡ false
+    at true hit = refl
+    at false None = refl
+    at false (Some hit) = refl
+
+gone_by : (j : Judge) (x : Dbref) (old new : Option Mark) (m : Mark) (q : Option Object) → j.free.edits x ≡ false → old ≡ None → new ≡ Some m → MarkOpen j x old new q → q ≡ None
+gone_by j x old new m None c e f o = refl
+gone_by j x old new m (Some p) c e f (inl s) = absurd (none-some m (sym (s ∙ e) ∙ f))
+gone_by j x old new m (Some p) c e f (inr l) = absurd (never (sym c ∙ (and_parts _ _ l).0))
+  where
+    never : false ≡ true → ⊥
+    never e = cc
+
+ends_in_world : (d : ℕ) (player : Dbref) (line : List ℕ) (lines : List (List ℕ)) (w : World) → player_in d w.live.board ≡ Some player → IsTold w.live →
+    let v = in_world d player line (on_live (waits d lines) w) in ProcessesLicensed (MayEnd (actor_of w.live.objects player) w.live v.live) w v
+unfolding in_world waits followed actor_of
+ends_in_world d player line lines w own told =
+    let a : Actor = actor_of w.live.objects player in
+    let free : Freedom = free_line a line w.live.objects in
+    let u : World = on_live (waits d lines) w in
+    let r = played d a line u.live in
+    let x : World = record u { live = r.0 } in
+    let v : World = followed_up d player r.1 (settled x) in
+    let marks : SameMarks (judge a free w.live.objects) w.live.objects r.0.objects = (((waited_open a d lines line).law w.live).law own tt).marks in
+    let cut : Tells (Cut w.live v.live) x.live.objects = λ k m e t f. (
+      dbref_of k,
+      f,
+      lapsed_as (dbref_of k) w.live r.0 v.live (ap (object_at (dbref_of k)) (objects_up d player r.1 (settled x)) ∙ objects_settled (dbref_of k) x)
+          (inl (gone_by (judge a free w.live.objects) (dbref_of k) _ _ m (object_at (dbref_of k) r.0.objects) (nothing_edited a line w.live.objects (dbref_of k)) (told k) e (marks k))),
+    ) in
+    cut_ends a w v (lasting_both (Cut w.live v.live) w.queue (settled x).queue v.queue (lasting_settled (Cut w.live v.live) x cut) (lasting_up (Cut w.live v.live) d player r.1 (settled x)))
+
+ends_edited : (d : ℕ) (player : Dbref) (s : EditState) (line : List ℕ) (lines : List (List ℕ)) (w : World) → IsTold w.live →
+    let v = edited_line d player s line (on_live (taken_out d lines) w) in ProcessesLicensed (MayEnd (actor_of w.live.objects player) w.live v.live) w v
+unfolding edited_line waits followed edited_one
+ends_edited d player s line lines w told =
+    let a : Actor = actor_of w.live.objects player in
+    let u : World = on_live (taken_out d lines) w in
+    let r = edited d a s line u.live in
+    let x : World = record u { live = with_editor d (next_editor r.2 r.1) r.0 } in
+    let v : World = after_edit d s.program r.2 (settled x) in
+    let seen : (k : ℕ) → object_at (dbref_of k) v.live.objects ≡ object_at (dbref_of k) r.0.objects = λ k. ap (object_at (dbref_of k)) (objects_after d s.program r.2 (settled x)) ∙ objects_settled (dbref_of k) x in
+    let cut : Tells (Cut w.live v.live) x.live.objects = λ k m e t f. (
+      dbref_of k,
+      f,
+      lapsed_as (dbref_of k) w.live r.0 v.live (seen k) (elim (((edited_rewrites d a s line).law u.live).marks k) [
+        | inl same ↦ absurd (none-some m (sym (same ∙ told k) ∙ e))
+        | inr other ↦ inr other
+      ]),
+    ) in
+    cut_ends a w v (lasting_both (Cut w.live v.live) w.queue (settled x).queue v.queue (lasting_settled (Cut w.live v.live) x cut) (lasting_after (Cut w.live v.live) d s.program r.2 (settled x)))
+
+ends_in_editor : (d : ℕ) (player : Dbref) (s : EditState) (line : List ℕ) (lines : List (List ℕ)) (w : World) → IsTold w.live →
+    let v = in_editor d player s line (on_live (taken_out d lines) w) in ProcessesLicensed (MayEnd (actor_of w.live.objects player) w.live v.live) w v
+unfolding in_editor
+ends_in_editor d player s line lines w told = at (is_open s (taken_out d lines w.live))
+  where
+    at : (b : Bool) → let v = cond b (edited_line d player s line (on_live (taken_out d lines) w)) (on_live (tell d editor_exited) (on_live (taken_out d lines) w)) in
+        ProcessesLicensed (MayEnd (actor_of w.live.objects player) w.live v.live) w v
+    at true = ends_edited d player s line lines w told
+    at false = let v : World = on_live (tell d editor_exited) (on_live (taken_out d lines) w) in cut_ends (actor_of w.live.objects player) w v (lasting_same (Cut w.live v.live) w.queue)
 
 -- What a line does is open.
 
-pub untouched_by : (f : Change) → Seating f → (w : Live) → Untouched w (f w)
-untouched_by f p w = let s = p.law w in record { objects = s.objects; tune = s.tune }
+untouched_by : (d : ℕ) (w v : Live) → Seats d w v → Untouched w v
+untouched_by d w v s = record { objects = s.objects; tune = s.tune }
 
-seating_line : (d : ℕ) (line : List ℕ) (lines : List (List ℕ)) → Seating (waits d lines ▸ at_login d line)
-seating_line d line lines = keeps_followed (waits d lines) (at_login d line) seating_order (seating_quiet _ (quiet_waits d lines)) (seating_at_login d line)
+-- nothing but the queue is asked
+pub none_ends : (w v : World) → v.queue ≡ w.queue → ProcessesLicensed NoProcess w v
+none_ends w v e =
+    let P : Queue → Type 0 = λ q. Lasting (λ t. ⊥) w.queue q in
+    processes_remain (λ t. ⊥) NoProcess w v (λ p m. m) (subst P (sym e) (lasting_same (λ t. ⊥) w.queue))
 
-line_licensed : (d : ℕ) (w : World) (player : Option Dbref) (editor : Option EditState) (lines : List (List ℕ)) → player_in d w.live.board ≡ player →
-    LineLicensed player editor lines w.live (line_done d player editor lines w).live
+pub undisturbed : (may : Connection → Bool) (w : World) → Undisturbed may w w
+undisturbed may w = (record { objects = refl; tune = refl }, none_ends w w refl, leavers_ties may w.live.board.connections w.live.board.connections refl)
+
+-- what only shows on the way disturbs nothing
+pub undisturbed_quietly : (may : Connection → Bool) (f : Change) (w : World) → Quiet f → Undisturbed may w (on_live f w)
+undisturbed_quietly may f w q = let s = q.law w.live in (record { objects = s.objects; tune = s.tune }, none_ends w (on_live f w) refl, leavers_ties may w.live.board.connections (f w.live).board.connections s.ties)
+
+seating_line : (d : ℕ) (line : List ℕ) (lines : List (List ℕ)) → Seating d (waits d lines ▸ at_login d line)
+seating_line d line lines = keeps_followed (waits d lines) (at_login d line) (seating_order d) (seating_quiet d _ (quiet_waits d lines)) (seating_at_login d line)
+
+line_licensed : (d : ℕ) (w : World) (player : Option Dbref) (editor : Option EditState) (lines : List (List ℕ)) → player_in d w.live.board ≡ player → IsTold w.live →
+    LineLicensed d player editor lines w (line_done d player editor lines w)
 unfolding followed
-line_licensed d w None editor [] e = record { objects = refl; tune = refl }
-line_licensed d w (Some player) editor [] e = record { objects = refl; tune = refl }
-line_licensed d w None editor (line ∷ lines) e = untouched_by _ (seating_line d line lines) w.live
-line_licensed d w (Some player) None (line ∷ lines) e = (open_in_world d player line lines w e).licensed
-line_licensed d w (Some player) (Some s) (line ∷ lines) e = (open_in_editor d player s line lines w).licensed
+line_licensed d w None editor [] e told = undisturbed (has_number d) w
+line_licensed d w (Some player) editor [] e told = undisturbed (has_number d) w
+line_licensed d w None editor (line ∷ lines) e told = let s = (seating_line d line lines).law w.live in (untouched_by d w.live _ s, none_ends w (on_live (at_login d line) (on_live (waits d lines) w)) refl, s.leavers)
+line_licensed d w (Some player) None (line ∷ lines) e told = ((open_in_world d player line lines w e).licensed, ends_in_world d player line lines w e told)
+line_licensed d w (Some player) (Some s) (line ∷ lines) e told = ((open_in_editor d player s line lines w).licensed, ends_in_editor d player s line lines w told)
 
-pub turn_licensed : (d : ℕ) (w : World) (o : Option Connection) → connection_in d w.live.board ≡ o → TurnLicensed o w.live (done d o w).live
+pub turn_licensed : (d : ℕ) (w : World) (o : Option Connection) → connection_in d w.live.board ≡ o → IsTold w.live → TurnLicensed d o w (done d o w)
 unfolding done
-turn_licensed d w None e = record { objects = refl; tune = refl }
-turn_licensed d w (Some c) e = line_licensed d w c.player c.editor c.waiting (ap (λ (o : Option Connection). option_and_then (λ (k : Connection). k.player) o) e)
+turn_licensed d w None e told = undisturbed (has_number d) w
+turn_licensed d w (Some c) e told = line_licensed d w c.player c.editor c.waiting (ap (λ (o : Option Connection). option_and_then (λ (k : Connection). k.player) o) e) told
+
+-- Behind it nothing is to be told.
+
+pub told_by : (w v : Live) → v.objects ≡ w.objects → IsTold w → IsTold v
+told_by w v e h n = ap (λ os. mark_in os n) e ∙ h n
+
+told_in_world : (d : ℕ) (player : Dbref) (line : List ℕ) (w : World) → IsTold (in_world d player line w).live
+unfolding in_world
+told_in_world d player line w =
+    let r = played d (actor_of w.live.objects player) line w.live in
+    let x : World = record w { live = r.0 } in
+    told_by (settled x).live (followed_up d player r.1 (settled x)).live (objects_up d player r.1 (settled x)) (told_settled x)
+
+told_in_editor : (d : ℕ) (player : Dbref) (s : EditState) (line : List ℕ) (w : World) → IsTold w.live → IsTold (in_editor d player s line w).live
+unfolding in_editor edited_line
+told_in_editor d player s line w h = at (is_open s w.live)
+  where
+    at : (b : Bool) → IsTold (cond b (edited_line d player s line w) (on_live (tell d editor_exited) w)).live
+    at true =
+        let r = edited d (actor_of w.live.objects player) s line w.live in
+        let x : World = record w { live = with_editor d (next_editor r.2 r.1) r.0 } in
+        told_by (settled x).live (after_edit d s.program r.2 (settled x)).live (objects_after d s.program r.2 (settled x)) (told_settled x)
+    at false = told_by w.live (tell d editor_exited w.live) ((quiet_tell d editor_exited).law w.live).objects h
+
+told_line : (d : ℕ) (w : World) (player : Option Dbref) (editor : Option EditState) (lines : List (List ℕ)) → IsTold w.live → IsTold (line_done d player editor lines w).live
+unfolding followed
+told_line d w player editor [] h = h
+told_line d w None editor (line ∷ lines) h = told_by w.live (at_login d line (waits d lines w.live)) (((seating_line d line lines).law w.live).objects) h
+told_line d w (Some player) None (line ∷ lines) h = told_in_world d player line (on_live (waits d lines) w)
+told_line d w (Some player) (Some s) (line ∷ lines) h =
+    told_in_editor d player s line (on_live (taken_out d lines) w) (told_by w.live (taken_out d lines w.live) (((quiet_taken_out d lines).law w.live).objects) h)
+
+pub told_done : (d : ℕ) (w : World) (o : Option Connection) → IsTold w.live → IsTold (done d o w).live
+unfolding done
+told_done d w None h = h
+told_done d w (Some c) h = told_line d w c.player c.editor c.waiting h
 
 -- The numbers of the connections, and that the world lives on.
 
@@ -182,19 +344,19 @@ pub record Going (w v : World) : Type 0 where
   pub numbers : numbers v.live.board.connections ≡ numbers w.live.board.connections
   pub dead : v.dead ≡ w.dead
 
-pub going_open : (a : Actor) (free : Dbref → Bool) (w v : World) → Open a free w.live w.dead v → Going w v
+pub going_open : (a : Actor) (free : Freedom) (w v : World) → Open a free w.live w.dead v → Going w v
 going_open a free w v p = record { numbers = numbers-same_ties a w.live.board.connections v.live.board.connections p.licensed.connections; dead = p.alive }
 
 pub going_same : (w : World) → Going w w
 going_same w = record { numbers = refl; dead = refl }
 
-pub going_live : (f : Change) → Seating f → (w : World) → Going w (on_live f w)
-going_live f p w = record { numbers = (p.law w.live).numbers; dead = refl }
+pub going_live : (d : ℕ) (f : Change) → Seating d f → (w : World) → Going w (on_live f w)
+going_live d f p w = record { numbers = (p.law w.live).numbers; dead = refl }
 
 line_going : (d : ℕ) (w : World) (player : Option Dbref) (editor : Option EditState) (lines : List (List ℕ)) → player_in d w.live.board ≡ player → Going w (line_done d player editor lines w)
 unfolding followed
 line_going d w player editor [] e = going_same w
-line_going d w None editor (line ∷ lines) e = going_live (waits d lines ▸ at_login d line) (seating_line d line lines) w
+line_going d w None editor (line ∷ lines) e = going_live d (waits d lines ▸ at_login d line) (seating_line d line lines) w
 line_going d w (Some player) None (line ∷ lines) e = going_open _ _ w _ (open_in_world d player line lines w e)
 line_going d w (Some player) (Some s) (line ∷ lines) e = going_open _ _ w _ (open_in_editor d player s line lines w)
 

@@ -1,5 +1,6 @@
 pub mod Quietly
 pub mod Told
+pub mod Endings
 pub mod Done
 pub mod Units
 pub mod Taken

@@ -7,7 +7,7 @@ use Rattle.muck_model.specs.declared.dbref.Dbref.{Dbref}
 use Rattle.spec_live.specs.Lives.{Live, unchanged, tell_player}
 use Rattle.spec_rights.specs.declared.act.Actor.{Actor}
 use Rattle.spec_rights.specs.Licence.{Licensed, nobody}
-use Rattle.spec_rights.proofs.Licences.{quiet_unchanged, whole_quiet, Always, itself, licensed}
+use Rattle.spec_rights.proofs.Licences.{quiet_unchanged, whole_quiet, Always}
 use Rattle.spec_rights.proofs.Shown.{quiet_tell_player}
 use Rattle.muf_model.specs.declared.fault.MufFault.{MufFault}
 use Rattle.muf_model.specs.declared.prims.Primitive.{Primitive as Name}
@@ -30,11 +30,12 @@ use Rattle.spec_events.specs.Slices.{acting, lifted, row_done, called, with_form
 use Rattle.spec_events.specs.Licences.{UnitLicensed, SliceLicensed}
 use Rattle.spec_events.proofs.Quietly.{quietly_live, quietly_queue, quietly_library}
 use Rattle.spec_events.proofs.Told.{licensed_as}
-use Rattle.spec_events.proofs.Done.{Open, open_quietly, open_settled, Going, going_same, going_open}
+use Rattle.spec_events.proofs.Endings.{IsTold, told_settled}
+use Rattle.spec_events.proofs.Done.{told_by, Open, open_quietly, open_settled, Going, going_same, going_open}
 
 licensed_itself : (a : Actor) (w : Live) → Licensed a nobody w w
 unfolding unchanged
-licensed_itself a w = licensed itself a None (λ es. nobody) unchanged (whole_quiet a None (λ es. nobody) Always unchanged quiet_unchanged) w tt
+licensed_itself a w = (((whole_quiet a None (λ es. nobody) Always unchanged quiet_unchanged).law w).law tt tt).licensed
 
 -- Rows: those that change no object, and those that do by their licence.
 
@@ -180,3 +181,69 @@ module _ (pid : ℤ) where
   pub sliced_going : (w : World) → Going w (sliced pid w)
   unfolding sliced
   sliced_going w = going_run w.live.board.tune.m2_units w
+
+-- Of what was told before a slice nothing is to be told behind it.
+
+abbrev DeedTold : Deed World → Type 0
+DeedTold (does t v) = Unit {0}
+DeedTold (fails f v) = IsTold v.live
+
+told_row : (s : Source) (w : World) (row : Row) → IsTold w.live → DeedTold (lifted s w row)
+told_row s w (gives stack live) h = tt
+told_row s w (refuses f) h = h
+
+told_forms : (w : World) (d : Deed Library) → IsTold w.live → DeedTold (with_forms w d)
+told_forms w (does t forms) h = tt
+told_forms w (fails f forms) h = h
+
+told_deed : (x : Agent) (p : Name) (s : Source) (w : World) → IsTold w.live → DeedTold (deed x p s w)
+unfolding deed row_done
+told_deed x Call s w h = told_forms w (called w.live.objects (acting x s w.live.objects) s w.library) h
+told_deed x p s w h = told_row s w (shared p (acting x s w.live.objects) (locked_of s.marks) s.stack w.live) h
+
+module _ (pid : ℤ) where
+  told_broken : (player : Dbref) (program : ℤ) (f : MufFault) (w : World) → IsTold w.live → IsTold (broken pid player program f w).live
+  told_broken player program f w h = told_by w.live (tell_player player (program_error program f) w.live) ((quiet_tell_player player (program_error program f)).law w.live).objects h
+
+  told_went : (player : Dbref) (program : ℤ) (o : Outcome) (w : World) → IsTold w.live → IsTold (world_of (went pid player program o w)).live
+  told_went player program (goes k t) w h = h
+  told_went player program (faulted f) w h = told_broken player program f w h
+  told_went player program _ w h = h
+
+  told_after : (player : Dbref) (s : Source) (d : Deed World) → DeedTold d → IsTold (world_of (after_deed pid player s d)).live
+  told_after player s (does t v) h = told_settled (stands_at pid t v)
+  told_after player s (fails f v) h = told_went player s.program.number (fault f s) v h
+
+  told_unit : (x : Agent) (program : ℤ) (o : Outcome) (w : World) → IsTold w.live → IsTold (world_of (unit_done pid x program o w)).live
+  told_unit x program (asks p t) w h = told_after x.player t (deed x p t w) (told_deed x p t w h)
+  told_unit x program o w h = told_went x.player program o w h
+
+  told_limited : (x : Agent) (s : Source) (o : Option MufFault) (w : World) → IsTold w.live → IsTold (world_of (within_limit o pid x s w)).live
+  told_limited x s (Some f) w h = told_broken x.player s.program.number f w h
+  told_limited x s None w h = told_unit x s.program.number (unit s) w h
+
+  told_turn : (n : ℕ) (x : Agent) (s : Source) (w : World) → IsTold w.live → IsTold (world_of (turn n pid x s w)).live
+  unfolding turn
+  told_turn n x s w h = told_limited x s (limit_fault n) w h
+
+  told_more : (n : ℕ) → ((w : World) → IsTold w.live → IsTold (last_world w (run_of n pid w)).live) → (t : Turn) → IsTold (world_of t).live → IsTold (last_world (world_of t) (then_more (run_of n pid) t)).live
+  told_more n go (on w) h = go w h
+  told_more n go (over w) h = h
+
+  told_last : (w : World) (o : Option (Agent × Source)) → IsTold w.live → IsTold (last_world w (option_map_or (λ q. unit_of q.0 q.1 w (turn zero pid q.0 q.1 w) ∷ []) o [])).live
+  told_last w None h = h
+  told_last w (Some (x, s)) h = told_turn zero x s w h
+
+  told_next : (n : ℕ) (w : World) → ((v : World) → IsTold v.live → IsTold (last_world v (run_of n pid v)).live) → (o : Option (Agent × Source)) → IsTold w.live →
+      IsTold (last_world w (option_map_or (λ q. unit_of q.0 q.1 w (turn (suc n) pid q.0 q.1 w) ∷ then_more (run_of n pid) (turn (suc n) pid q.0 q.1 w)) o [])).live
+  told_next n w go None h = h
+  told_next n w go (Some (x, s)) h = told_more n go (turn (suc n) pid x s w) (told_turn (suc n) x s w h)
+
+  told_run : (n : ℕ) (w : World) → IsTold w.live → IsTold (last_world w (run_of n pid w)).live
+  unfolding run_of
+  told_run zero w h = told_last w (seat pid w) h
+  told_run (suc n) w h = told_next n w (told_run n) (seat pid w) h
+
+  pub told_sliced : (w : World) → IsTold w.live → IsTold (sliced pid w).live
+  unfolding sliced
+  told_sliced w h = told_run w.live.board.tune.m2_units w h

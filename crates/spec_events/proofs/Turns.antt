@@ -1,22 +1,30 @@
 -- Each step changes only what is open.
-use Rattle.std.proofs.Common.{ℕ, List, [], ◌∷◌, refl}
+use Rattle.std.proofs.Common.{ℕ, ℤ, false, zero, suc, List, [], ◌∷◌, refl}
 use Rattle.muck_model.specs.declared.event.Entry.{Entry}
 use Rattle.muck_model.specs.declared.event.Event.{Event}
-use Rattle.muck_model.specs.declared.event.Event.TheVariants.{Opened, Input, Closed, Exec, Slice, Take}
+use Rattle.muck_model.specs.declared.event.Event.TheVariants.{Opened, Input, Closed, Exec, Claim, Slice, Take}
+use Rattle.spec_live.specs.Objects.{mark_in}
+use Rattle.spec_live.specs.Start.{first_objects}
 use Rattle.spec_live.specs.Boards.{player_in, opened, closed, line_added, bytes_taken}
 use Rattle.spec_live.specs.Lives.{Live, followed, reading, on_board}
 use Rattle.spec_commands.specs.Talk.{gone_away}
+use Rattle.spec_rights.proofs.Shown.{quiet_one}
+use Rattle.spec_commands.proofs.Numbered.{leavers_ties}
 use Rattle.spec_commands.proofs.Lines.{quiet_parted}
-use Rattle.spec_events.specs.World.{World, connection}
+use Rattle.muck_queue.specs.Queues.{claimed}
+use Rattle.spec_events.specs.World.{World, booted, starting, connection, on_queue}
+use Rattle.spec_events.specs.Slices.{sliced}
 use Rattle.spec_events.specs.Steps.{effect, happened}
+use Rattle.spec_events.specs.Endings.{ProcessesLicensed, NoProcess}
 use Rattle.spec_events.specs.Licences.{Untouched, EventLicensed}
 use Rattle.spec_events.specs.Histories.{AllLicensed}
-use Rattle.spec_events.proofs.Done.{turn_licensed}
-use Rattle.spec_events.proofs.Taken.{slice_licensed}
+use Rattle.spec_events.proofs.Endings.{lasts_claimed, IsTold, processes_remain, tied_remain}
+use Rattle.spec_events.proofs.Done.{none_ends, undisturbed_quietly, turn_licensed, told_by, told_done}
+use Rattle.spec_events.proofs.Taken.{slice_licensed, told_sliced}
 
 -- what a player does by a line is open to it, and at the login screen no object changes
-pub exec_licensed : (d : ℕ) (w : World) (party : ℕ) → EventLicensed (Exec d) w (happened w party (Exec d))
-exec_licensed d w party = turn_licensed d w (connection d w) refl
+pub exec_licensed : (d : ℕ) (w : World) (party : ℕ) → IsTold w.live → EventLicensed (Exec d) w (happened w party (Exec d))
+exec_licensed d w party told = turn_licensed d w (connection d w) refl told
 
 gone_away_untouched : (d : ℕ) (w : Live) → Untouched w (gone_away d w)
 unfolding gone_away reading followed closed
@@ -26,18 +34,40 @@ gone_away_untouched d w =
     let shown = parting.law v in
     record { objects = shown.objects; tune = shown.tune }
 
-event_licensed : (event : Event) (w : World) (party : ℕ) → EventLicensed event w (happened w party event)
-unfolding opened line_added bytes_taken
-event_licensed (Exec d) w party = exec_licensed d w party
-event_licensed (Slice pid) w party = slice_licensed pid w
-event_licensed (Closed d) w party = gone_away_untouched d w.live
-event_licensed (Opened d) w party = record { objects = refl; tune = refl }
-event_licensed (Input d line) w party = record { objects = refl; tune = refl }
-event_licensed (Take d n) w party = record { objects = refl; tune = refl }
-event_licensed event w party = record { objects = refl; tune = refl }
+claim_ends : (pid : ℤ) (party : ℕ) (w : World) → ProcessesLicensed NoProcess w (on_queue (claimed pid party) w)
+unfolding claimed
+claim_ends pid party w = processes_remain (λ s. ⊥) NoProcess w (on_queue (claimed pid party) w) (λ p m. m) (λ at. lasts_claimed (λ s. ⊥) party pid at w.queue.processes)
 
--- whole histories
-pub all_licensed : (w : World) (es : List Entry) → AllLicensed w es
+event_licensed : (event : Event) (w : World) (party : ℕ) → IsTold w.live → EventLicensed event w (happened w party event)
+unfolding opened line_added bytes_taken
+event_licensed (Exec d) w party told = exec_licensed d w party told
+event_licensed (Slice pid) w party told = slice_licensed pid w
+event_licensed (Closed d) w party told = (gone_away_untouched d w.live, tied_remain d w.queue)
+event_licensed (Claim pid) w party told = (record { objects = refl; tune = refl }, claim_ends pid party w, leavers_ties (λ c. false) w.live.board.connections w.live.board.connections refl)
+event_licensed (Opened d) w party told = (record { objects = refl; tune = refl }, none_ends w (happened w party (Opened d)) refl)
+event_licensed (Input d line) w party told = undisturbed_quietly (λ c. false) (on_board (line_added d line)) w (quiet_one d _ (λ c. refl))
+event_licensed (Take d n) w party told = undisturbed_quietly (λ c. false) (on_board (bytes_taken d n)) w (quiet_one d _ (λ c. refl))
+event_licensed event w party told = (record { objects = refl; tune = refl }, none_ends w (happened w party event) refl, leavers_ties (λ c. false) w.live.board.connections w.live.board.connections refl)
+
+told_happened : (event : Event) (w : World) (party : ℕ) → IsTold w.live → IsTold (happened w party event).live
+told_happened (Exec d) w party h = told_done d w (connection d w) h
+told_happened (Slice pid) w party h = told_sliced pid w h
+told_happened (Closed d) w party h = told_by w.live (gone_away d w.live) (gone_away_untouched d w.live).objects h
+told_happened event w party h = h
+
+-- whole histories, from a world of which nothing is to be told
+pub all_licensed : (w : World) (es : List Entry) → IsTold w.live → AllLicensed w es
 unfolding effect
-all_licensed w [] = tt
-all_licensed w (entry ∷ entries) = (event_licensed entry.event w entry.party, all_licensed (effect w entry) entries)
+all_licensed w [] told = tt
+all_licensed w (entry ∷ entries) told =
+    (event_licensed entry.event w entry.party told, all_licensed (effect w entry) entries (told_happened entry.event w entry.party told))
+
+told_starting : IsTold starting.live
+unfolding starting booted first_objects mark_in
+told_starting zero = refl
+told_starting (suc zero) = refl
+told_starting (suc (suc n)) = refl
+
+-- as from the first
+pub all_licensed_starting : (es : List Entry) → AllLicensed starting es
+all_licensed_starting es = all_licensed starting es told_starting

@@ -7,7 +7,7 @@ use Rattle.spec_live.specs.Lives.{tell_player}
 use Rattle.muf_model.specs.declared.prims.Primitive.{Primitive as Name}
 use Rattle.muf_model.specs.declared.prims.Primitive.TheVariants.{Call}
 use Rattle.muf_model.specs.Source.{Program, Source, locked_of}
-use Rattle.muf_model.specs.Unit.{Outcome, goes, ended, faulted, asks, unit, units, and_then, fault}
+use Rattle.muf_model.specs.Unit.{Outcome, goes, ended, faulted, asks, stuck, unit, units, and_then, fault}
 use Rattle.muf_model.specs.Chains.{Deed, does, fails, count, taken, programs_of, Keeps}
 use Rattle.muf_model.proofs.Chains.{unit_keeps}
 use Rattle.spec_prims.specs.Row.{Row, gives, refuses}
@@ -126,6 +126,7 @@ pub resumed_moved : (pid : ℤ) (r : Option Source) (x : Agent) (more : ℕ) (pr
 resumed_moved pid r x more program (asks p t) w = ap (after_turn (more - 1) pid) (deed_moved pid r x p t w)
 resumed_moved pid r x more program (goes k t) w = ap (after_turn more pid) (went_moved pid r x.player program (goes k t) w)
 resumed_moved pid r x more program ended w = ap (after_turn more pid) (went_moved pid r x.player program ended w)
+resumed_moved pid r x more program stuck w = ap (after_turn more pid) (went_moved pid r x.player program stuck w)
 resumed_moved pid r x more program (faulted f) w = ap (after_turn more pid) (went_moved pid r x.player program (faulted f) w)
 
 -- the running one of some programs
@@ -145,6 +146,7 @@ module _ (pid : ℤ) (x : Agent) where
       ∙ ap (λ number. resumed pid x (n - taken m t) number (units m t) w) same ∙ ap (λ k. resumed pid x k s.program.number (units m t) w) (sym left)
   run_on n m s w (goes (suc k) t) e l h at = let left : suc n - 1 ≡ n = omega arith in ap (λ r. finish r pid (stands_at pid t w)) (sym left)
   run_on n m s w ended e l h at = refl
+  run_on n m s w stuck e l h at = refl
   run_on n m s w (faulted f) e l h at = refl
   run_on n m s w (asks p t) e l h at =
       let left : n ≡ suc n - 0 - 1 = omega arith in ap (λ r. after_turn r pid (after_deed pid x.player t (deed x p t w))) left

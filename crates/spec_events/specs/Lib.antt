@@ -4,6 +4,7 @@ pub mod Slices
 pub mod Starting
 pub mod Lines
 pub mod Steps
+pub mod Endings
 pub mod Licences
 pub mod Histories
 pub mod Sound

@@ -1,39 +1,43 @@
 -- What a step may change.
-use Rattle.std.specs.Prelude.{◌≡◌, ℕ, All, Bool, List, ◌∷◌, Option, Some, None}
+use Rattle.std.specs.Prelude.{◌≡◌, ℕ, All, Bool, true, false, List, ◌∷◌, Option, Some, None}
 use Rattle.muck_model.specs.declared.dbref.Dbref.{Dbref}
 use Rattle.muck_model.specs.declared.edit.EditState.{EditState}
 use Rattle.muck_model.specs.declared.event.Event.{Event}
-use Rattle.muck_model.specs.declared.event.Event.TheVariants.{Exec, Slice}
+use Rattle.muck_model.specs.declared.event.Event.TheVariants.{Opened, Exec, Slice, Closed}
 use Rattle.spec_live.specs.Objects.{Entry}
-use Rattle.spec_live.specs.Connections.{Connection}
+use Rattle.spec_live.specs.Connections.{Connection, has_number}
 use Rattle.spec_live.specs.Lives.{Live}
 use Rattle.spec_rights.specs.declared.act.Actor.{Actor}
-use Rattle.spec_rights.specs.Licence.{Licensed, nobody}
+use Rattle.spec_rights.specs.Licence.{Freedom, Licensed, LeaversLicensed, editing, nobody}
 use Rattle.spec_commands.specs.Finding.{actor_of}
 use Rattle.spec_commands.specs.Free.{free_line}
+use Rattle.muck_queue.specs.Queues.{is_tied_to}
 use Rattle.spec_events.specs.World.{World, connection}
 use Rattle.spec_events.specs.Slices.{Taken, last_world, units_of}
+use Rattle.spec_events.specs.Endings.{ProcessesLicensed, NoProcess, MayEnd}
 
 -- no object changes, and nothing that is tuned
 pub record Untouched (w v : Live) : Type 0 where
   pub objects : v.objects ≡ w.objects
   pub tune : v.board.tune ≡ w.board.tune
 
--- what a player may move freely by a line: nothing while it edits a program
-abbrev pub free_for : Option EditState → Actor → List ℕ → List Entry → Dbref → Bool
-free_for (Some s) a line es = nobody
+-- what a player is free to do by a line: to change that source, while it edits a program
+abbrev pub free_for : Option EditState → Actor → List ℕ → List Entry → Freedom
+free_for (Some s) a line es = editing s.program
 free_for None a line es = free_line a line es
 
--- The first waiting line is done. One of a player changes only what is open to that player, by its rights before the
--- line; a line of the login screen changes no object.
-abbrev pub LineLicensed : Option Dbref → Option EditState → List (List ℕ) → Live → Live → Type 0
-LineLicensed (Some player) editor (line ∷ lines) w v =
-    Licensed (actor_of w.objects player) (free_for editor (actor_of w.objects player) line w.objects) w v
-LineLicensed player editor lines w v = Untouched w v
+-- nor does any process end, and of the connections only such leave
+abbrev pub Undisturbed : (Connection → Bool) → World → World → Type 0
+Undisturbed may w v = Untouched w.live v.live × ProcessesLicensed NoProcess w v × LeaversLicensed may w.live.board.connections v.live.board.connections
 
-abbrev pub TurnLicensed : Option Connection → Live → Live → Type 0
-TurnLicensed (Some c) w v = LineLicensed c.player c.editor c.waiting w v
-TurnLicensed None w v = Untouched w v
+-- The first waiting line is done. By one of a player, what is open to that player by its rights before the line changes,
+-- and processes end that may by the player, or by the change of a source. A line of the login screen changes no object, and
+-- lets no connection leave but its own.
+abbrev pub LineLicensed : ℕ → Option Dbref → Option EditState → List (List ℕ) → World → World → Type 0
+LineLicensed d (Some player) editor (line ∷ lines) w v =
+    Licensed (actor_of w.live.objects player) (free_for editor (actor_of w.live.objects player) line w.live.objects) w.live v.live
+    × ProcessesLicensed (MayEnd (actor_of w.live.objects player) w.live v.live) w v
+LineLicensed d player editor lines w v = Undisturbed (has_number d) w v
 
 -- a unit changes only what is open to the running program, by the rights before it
 abbrev pub UnitLicensed : Taken → Type 0
@@ -44,8 +48,15 @@ pub record SliceLicensed (ts : List Taken) (w v : World) : Type 0 where
   pub units : All UnitLicensed ts
   pub leads : v.live ≡ (last_world w ts).live
 
--- nothing but a line that is done and a unit that is taken changes an object
+abbrev pub TurnLicensed : ℕ → Option Connection → World → World → Type 0
+TurnLicensed d (Some c) w v = LineLicensed d c.player c.editor c.waiting w v
+TurnLicensed d None w v = Undisturbed (has_number d) w v
+
+-- Nothing but a line that is done and a unit that is taken changes an object. Processes end by such a line, when they run, and with the connection
+-- that they are tied to.
 abbrev pub EventLicensed : Event → World → World → Type 0
-EventLicensed (Exec d) w v = TurnLicensed (connection d w) w.live v.live
+EventLicensed (Exec d) w v = TurnLicensed d (connection d w) w v
 EventLicensed (Slice pid) w v = SliceLicensed (units_of pid w) w v
-EventLicensed event w v = Untouched w.live v.live
+EventLicensed (Closed d) w v = Untouched w.live v.live × ProcessesLicensed (λ p. is_tied_to d p ≡ true) w v
+EventLicensed (Opened d) w v = Untouched w.live v.live × ProcessesLicensed NoProcess w v
+EventLicensed event w v = Undisturbed (λ c. false) w v

@@ -2,6 +2,7 @@ use Rattle.std.proofs.Common.{◌≡◌, ◌+◌, ◌-◌, ◌≤◌, List, ◌�
 use Rattle.muf_model.specs.declared.code.Code.{Code}
 use Rattle.muf_model.specs.Source.{Source}
 use Rattle.muf_model.specs.Unit.{units}
+use Rattle.muf_model.specs.Nested.{Nested}
 use Rattle.muf_model.specs.Fits.{FitsState}
 use Rattle.muf_frame.specs.Shown.{flat}
 use Rattle.muf_run.specs.Runs.{taken}
@@ -10,7 +11,7 @@ use Rattle.muf_run.proofs.run.run_local.Given as goal
 abbrev pub invariant-loop-taken : goal.invariant-loop-taken
 invariant-loop-taken l =
     (l.taken ≤ l.most)
-    × ((codes : List Code) (s : Source) → FitsState (l.code ∷ codes) (flat l.fn.frame) s → (t : Source) × FitsState (l.code ∷ codes) (flat l.frame) t × (units l.most s ≡ units (l.most - l.taken) t) × (taken l.most s ≡ l.taken + taken (l.most - l.taken) t))
+    × ((codes : List Code) (s : Source) → FitsState (l.code ∷ codes) (flat l.fn.frame) s → Nested s → (t : Source) × FitsState (l.code ∷ codes) (flat l.frame) t × Nested t × (units l.most s ≡ units (l.most - l.taken) t) × (taken l.most s ≡ l.taken + taken (l.most - l.taken) t))
 
 abbrev pub decreases-loop-taken : goal.decreases-loop-taken
 decreases-loop-taken l = l.most - l.taken

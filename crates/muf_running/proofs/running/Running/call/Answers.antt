@@ -14,7 +14,7 @@ use Rattle.muf_running.proofs.running.Running.call.Goals as goal
 
 pub enter-requires : goal.enter-requires
 enter-requires c =
-    subst (λ n. n < 511) (sym (calls_fits c.self.invariant.0 ∙ ap (λ s. calls_of s.marks) c.self.view_is)) c.requires.calls
+    subst (λ n. n < 511) (sym (calls_fits c.self.invariant.0.state ∙ ap (λ s. calls_of s.marks) c.self.view_is)) c.requires.calls
 
 pub invariant_of-result : goal.invariant_of-result
 invariant_of-result c =

@@ -5,4 +5,4 @@ use Rattle.muf_running.proofs.running.Running.calls.Goals as goal
 
 pub returns-clause-value : goal.returns-clause-value
 returns-clause-value c =
-    c.calls.ensures.value ∙ calls_fits c.self.invariant.0 ∙ ap (λ s. calls_of s.marks) c.self.view_is
+    c.calls.ensures.value ∙ calls_fits c.self.invariant.0.state ∙ ap (λ s. calls_of s.marks) c.self.view_is
