@@ -8,11 +8,11 @@ use Rattle.std.proofs.lemmas.Iterator.Adapters.{position_from-zero}
 use Rattle.std.proofs.lemmas.Bool.{cond-true, cond-false, le-ltb}
 use Rattle.muck_model.specs.declared.dbref.Dbref.{Dbref}
 use Rattle.muck_model.specs.declared.dbref.Denial.{Denial}
-use Rattle.spec_live.specs.Objects.{object_at, is_program}
+use Rattle.spec_live.specs.Objects.{Entry, object_at, is_program}
 use Rattle.spec_rights.specs.declared.act.Act.{Act}
 use Rattle.spec_rights.specs.declared.act.Act.TheVariants.{Shared, Call as CallAct}
 use Rattle.spec_rights.specs.Verdict.{verdict}
-use Rattle.muck_library.specs.Library.{formed}
+use Rattle.muck_library.specs.Library.{Library, formed}
 use Rattle.muf_model.specs.declared.prims.Primitive.{Primitive as Name}
 use Rattle.muf_model.specs.declared.prims.Primitive.TheVariants.{Call}
 use Rattle.muf_model.specs.Prims.{family_of, level_of}
@@ -49,7 +49,7 @@ use Rattle.muf_frame.proofs.Data.{map_drop}
 use Rattle.muf_running.specs.declared.entered.Entered.{Entered}
 use Rattle.muf_running.specs.Fitting.{IsAtPrimitive}
 use Rattle.muf_running.specs.Lending.{Shows, Apart, Differs, Rejoins, with_frame}
-use Rattle.spec_events.specs.Slices.{callers, deed, lifted, row_done, call_items, call_count, program_called, called_word, is_offered, needing, permitted, permitted_by, existing, programmed, called, form_called, behind, acting}
+use Rattle.spec_events.specs.Slices.{Doing, callers, deed, lifted, row_done, call_items, call_count, program_called, called_word, is_offered, needing, permitted, permitted_by, existing, programmed, called, form_called, behind, acting}
 use Rattle.muck_machine.specs.declared.state.deeds.Done.TheVariants.{Fails as DoneFails}
 use Rattle.muck_machine.specs.Deeds.{asked_of, AppliedTo, DoneAs, IsWord, PassesOn, Permits}
 
@@ -76,12 +76,12 @@ some_is : {A : Type 0} (a b : A) → Some a ≡ Some b → a ≡ b
 some_is a b e = cc
 
 -- what CALL finds is the call of a program
-pub call_asked : (x : Agent) (s : Source) (stack : List Datum) (w : World) (found : ℤ × (Option (List ℕ) × ℕ)) → asked_of stack ≡ Some found → call_items x s stack w ≡ program_called x s found.0 found.1.0 (drop found.1.1 stack) w
-call_asked x s (text t ∷ object o ∷ rest) w found e =
-    ap (λ (q : ℤ × (Option (List ℕ) × ℕ)). program_called x s q.0 q.1.0 (drop q.1.1 (text t ∷ object o ∷ rest)) w) (some_is (o, (Some t, 2)) found e)
-call_asked x s (object o ∷ rest) w found e =
-    ap (λ (q : ℤ × (Option (List ℕ) × ℕ)). program_called x s q.0 q.1.0 (drop q.1.1 (object o ∷ rest)) w) (some_is (o, (None, 1)) found e)
-call_asked x s stack w found e = absurd cc
+pub call_asked : (es : List Entry) (a : Actor) (s : Source) (stack : List Datum) (forms : Library) (found : ℤ × (Option (List ℕ) × ℕ)) → asked_of stack ≡ Some found → call_items es a s stack forms ≡ program_called es a s found.0 found.1.0 (drop found.1.1 stack) forms
+call_asked es a s (text t ∷ object o ∷ rest) forms found e =
+    ap (λ (q : ℤ × (Option (List ℕ) × ℕ)). program_called es a s q.0 q.1.0 (drop q.1.1 (text t ∷ object o ∷ rest)) forms) (some_is (o, (Some t, 2)) found e)
+call_asked es a s (object o ∷ rest) forms found e =
+    ap (λ (q : ℤ × (Option (List ℕ) × ℕ)). program_called es a s q.0 q.1.0 (drop q.1.1 (object o ∷ rest)) forms) (some_is (o, (None, 1)) found e)
+call_asked es a s stack forms found e = absurd cc
 
 -- ---- the word that is called
 
@@ -130,33 +130,33 @@ last_place code a r h = last_by (tree_of code).words (length code.words) r (leng
 
 -- ---- the tests of CALL, where all of them pass
 
-need_passes : (n : ℕ) (s : Source) (go : World → Deed World) (w : World) → locked_of s.marks + n ≤ length s.stack → needing n s go w ≡ go w
+need_passes : (n : ℕ) (s : Source) (go : Doing) (forms : Library) → locked_of s.marks + n ≤ length s.stack → needing n s go forms ≡ go forms
 unfolding needing
-need_passes n s go w l = cond-false _ _ _ (le-ltb (length s.stack) (locked_of s.marks + n) l)
+need_passes n s go forms l = cond-false _ _ _ (le-ltb (length s.stack) (locked_of s.marks + n) l)
 
-leave_passes : (x : Agent) (s : Source) (act : Act) (go : World → Deed World) (w : World) → verdict w.live.objects (acting x s w.live.objects) act ≡ None → permitted x s act go w ≡ go w
+leave_passes : (es : List Entry) (a : Actor) (act : Act) (go : Doing) (forms : Library) → verdict es a act ≡ None → permitted es a act go forms ≡ go forms
 unfolding permitted
-leave_passes x s act go w h = ap (λ v. permitted_by v go w) h
+leave_passes es a act go forms h = ap (λ v. permitted_by v go forms) h
 
 pub permits_none : (v : Option Denial) (x : Unit {0}) → Permits v (Ok x) → v ≡ None
 permits_none None x h = refl
 permits_none (Some d) x h = absurd h
 
-call_passes : (x : Agent) (s : Source) (w : World) (d : ℤ) (name : Option (List ℕ)) (rest : List Datum) → is_some (object_at (numbered d) w.live.objects) ≡ true →
-    option_map_or (λ o. is_program o.kind) (object_at (numbered d) w.live.objects) false ≡ true → verdict w.live.objects (acting x s w.live.objects) (CallAct (numbered d)) ≡ None →
-    program_called x s d name rest w ≡ form_called x s (behind rest s) d name (formed w.live.objects (numbered d) w.library) w
+call_passes : (es : List Entry) (a : Actor) (s : Source) (forms : Library) (d : ℤ) (name : Option (List ℕ)) (rest : List Datum) → is_some (object_at (numbered d) es) ≡ true →
+    option_map_or (λ o. is_program o.kind) (object_at (numbered d) es) false ≡ true → verdict es a (CallAct (numbered d)) ≡ None →
+    program_called es a s d name rest forms ≡ form_called a (behind rest s) d name (formed es (numbered d) forms)
 unfolding program_called existing programmed
-call_passes x s w d name rest there program leave =
-    cond-true _ _ _ there ∙ cond-true _ _ _ program ∙ leave_passes x s (CallAct (numbered d)) _ w leave
+call_passes es a s forms d name rest there program leave =
+    cond-true _ _ _ there ∙ cond-true _ _ _ program ∙ leave_passes es a (CallAct (numbered d)) _ forms leave
 
-pub call_found : (x : Agent) (s : Source) (w : World) (d : ℤ) (name : Option (List ℕ)) (n : ℕ) → locked_of s.marks + 1 ≤ length s.stack → locked_of s.marks + call_count s.stack ≤ length s.stack →
-    verdict w.live.objects (acting x s w.live.objects) (Shared (level_of Call)) ≡ None → asked_of s.stack ≡ Some (d, (name, n)) → is_some (object_at (numbered d) w.live.objects) ≡ true →
-    option_map_or (λ o. is_program o.kind) (object_at (numbered d) w.live.objects) false ≡ true → verdict w.live.objects (acting x s w.live.objects) (CallAct (numbered d)) ≡ None →
-    called x s w ≡ form_called x s (behind (drop n s.stack) s) d name (formed w.live.objects (numbered d) w.library) w
+pub call_found : (es : List Entry) (a : Actor) (s : Source) (forms : Library) (d : ℤ) (name : Option (List ℕ)) (n : ℕ) → locked_of s.marks + 1 ≤ length s.stack → locked_of s.marks + call_count s.stack ≤ length s.stack →
+    verdict es a (Shared (level_of Call)) ≡ None → asked_of s.stack ≡ Some (d, (name, n)) → is_some (object_at (numbered d) es) ≡ true →
+    option_map_or (λ o. is_program o.kind) (object_at (numbered d) es) false ≡ true → verdict es a (CallAct (numbered d)) ≡ None →
+    called es a s forms ≡ form_called a (behind (drop n s.stack) s) d name (formed es (numbered d) forms)
 unfolding called
-call_found x s w d name n one all shared found there program leave =
-    need_passes 1 s _ w one ∙ need_passes (call_count s.stack) s _ w all ∙ leave_passes x s (Shared (level_of Call)) _ w shared
-    ∙ call_asked x s s.stack w (d, (name, n)) found ∙ call_passes x s w d name (drop n s.stack) there program leave
+call_found es a s forms d name n one all shared found there program leave =
+    need_passes 1 s _ forms one ∙ need_passes (call_count s.stack) s _ forms all ∙ leave_passes es a (Shared (level_of Call)) _ forms shared
+    ∙ call_asked es a s s.stack forms (d, (name, n)) found ∙ call_passes es a s forms d name (drop n s.stack) there program leave
 
 -- ---- a row that was applied to the frame of a process
 

@@ -1,36 +1,29 @@
--- How a process goes on from one stint to the next.
-use Rattle.std.proofs.Common.{◌≡◌, ℕ, zero, suc, ◌-◌, ◌<◌, ◌≤◌, List, [], ◌∷◌, ◌++◌, Bool, true, false, cond, Option, Some, None, refl, sym, ap, ◌∙◌, subst, arith, find, Result, Ok, Err, IfOk}
-use Rattle.std.specs.Prelude.{ℤ, pos, negsuc, codes}
+-- The units of a slice, many at once.
+use Rattle.std.proofs.Common.{◌≡◌, ℕ, zero, suc, ◌-◌, ◌<◌, ◌≤◌, Bool, true, false, cond, Option, Some, None, refl, sym, ap, ◌∙◌, subst, arith, Result, Ok, Err, IfOk}
+use Rattle.std.specs.Prelude.{ℤ}
 use Rattle.muf_model.specs.declared.fault.MufFault.{MufFault}
+use Rattle.muf_model.specs.declared.fault.MufFault.TheVariants.{TooManyUnits}
 use Rattle.muf_model.specs.declared.prims.Primitive.{Primitive as Name}
 use Rattle.muf_model.specs.Source.{Source}
 use Rattle.muf_model.specs.Unit.{Outcome, goes, ended, faulted, asks, stuck, unit, units, and_then, fault}
-use Rattle.muf_model.specs.Chains.{Deed, does, fails, over, broke, chain, chained, raised, after_deed, resumed, count, taken, programs_of, Keeps, StandsAt}
-use Rattle.muf_model.proofs.Chains.{units_keep, taken_most, taken_some, run_law}
+use Rattle.muf_model.specs.Chains.{Deed, count, taken, StandsAt}
+use Rattle.muf_model.proofs.Chains.{taken_most, taken_some}
 use Rattle.muf_running.specs.declared.stint.Ran.{Ran}
 use Rattle.muf_running.specs.declared.stint.Ran.TheVariants.{Going, Asking, Ended, Faulted}
-use Rattle.muf_running.specs.Stints.{RanAlike}
-use Rattle.spec_events.specs.World.{World}
-use Rattle.muck_machine.specs.declared.state.deeds.Done.{Done}
-use Rattle.muck_machine.specs.declared.state.deeds.Done.TheVariants.{Does as DoneDoes, Fails as DoneFails}
-use Rattle.muck_machine.specs.declared.state.slices.Stop.{Stop}
-use Rattle.muck_machine.specs.declared.state.slices.Stop.TheVariants.{On, Over as Ends}
-use Rattle.muck_machine.specs.Deeds.{Stops, StopsAfter, DoneAs}
+use Rattle.muf_running.specs.Stints.{RanAlike, AskedAt, Raised}
+use Rattle.spec_live.specs.Lives.{tell_player}
 use Rattle.muck_queue.specs.declared.process.Process.{Process}
-use Rattle.muck_queue.specs.Queues.{Queue, process, without, without_first, with_processes, has_pid}
-
--- where no process has the number, none is taken out
-first_kept : (b : Bool) (p : Process) (ps qs : List Process) (o : Option Process) → cond b (Some p) o ≡ None → (o ≡ None → qs ≡ ps) → cond b ps (p ∷ qs) ≡ p ∷ ps
-first_kept true p ps qs o e h = absurd cc
-first_kept false p ps qs o e h = ap (λ xs. p ∷ xs) (h e)
-
-none_first : (test : Process → Bool) (ps : List Process) → find test ps ≡ None → without_first test ps ≡ ps
-none_first test [] e = refl
-none_first test (p ∷ ps) e = first_kept (test p) p ps (without_first test ps) (find test ps) e (none_first test ps)
-
-pub none_taken : (pid : ℤ) (q : Queue) → process pid q ≡ None → without pid q ≡ q
-unfolding without
-none_taken pid q e = ap (λ ps. with_processes ps q) (none_first (has_pid pid) q.processes e)
+use Rattle.muck_queue.specs.Queues.{process, standing}
+use Rattle.muck_queue.proofs.Standing.{none_standing}
+use Rattle.std.specs.Option.{option_map, option_and_then}
+use Rattle.spec_events.specs.declared.starting.Agent.{Agent}
+use Rattle.spec_events.specs.World.{World, on_live, on_queue}
+use Rattle.muck_model.specs.declared.dbref.Dbref.{Dbref}
+use Rattle.spec_events.specs.Following.{settled}
+use Rattle.muck_machine.specs.declared.state.deeds.Done.TheVariants.{Does as DoneDoes, Fails as DoneFails}
+use Rattle.spec_events.specs.Slices.{deed, program_error, stands_at, ended_one, broken, went, after_deed, Turn, on, over, turn, agent_of, seat_of, seat}
+use Rattle.spec_events.proofs.Units.{finish, after_turn, finish_none, finish_spent, resumed, resumed_moved, run_law, ended_moved}
+use Rattle.muck_machine.specs.Deeds.{turn_to, Stops, DoneAs}
 
 -- where a shared primitive is asked for, a unit is left for it
 counted_before : (m : ℕ) (o : Outcome) (p : Name) (t : Source) → ((u : Source) → units m u ≡ asks p t → taken m u < m) → and_then o (units m) ≡ asks p t → count o (taken m) < suc m
@@ -41,133 +34,117 @@ counted_before m stuck p t h e = absurd cc
 counted_before m (faulted f) p t h e = absurd cc
 counted_before m (asks q u) p t h e = omega arith
 
-pub asked_before : (n : ℕ) (s : Source) (p : Name) (t : Source) → units n s ≡ asks p t → taken n s < n
+asked_before : (n : ℕ) (s : Source) (p : Name) (t : Source) → units n s ≡ asks p t → taken n s < n
 asked_before zero s p t e = absurd cc
 asked_before (suc n) s p t e = counted_before n (unit s) p t (λ u. asked_before n u p t) e
 
-module _ {W : Type 0} (deed : Name → Source → W → Deed W) where
-  resumed_as : (n : ℕ) (s : Source) (w : W) (o : Outcome) → units n s ≡ o → chain deed n s w ≡ resumed deed (n - taken n s) s.program.number o w
-  resumed_as n s w o e =
-      run_law deed n n s w (omega arith) ∙ ap (λ x. resumed deed (n - taken n s) s.program.number x w) e
-
-  -- after units that end so, the process goes on with fewer
-  going_by : (n : ℕ) (s t : Source) (w : W) (o : Outcome) → 0 < n → RanAlike (Going t) o → units n s ≡ o → (n - taken n s < n) × (chain deed n s w ≡ chain deed (n - taken n s) t w)
-  going_by n s t w (goes k u) l h e =
-      let some : 1 ≤ taken n s = taken_some n s l (λ p x q. let differ : goes k u ≡ asks p x = sym e ∙ q in cc) in
-      let most : taken n s ≤ n = taken_most n s in
-      (omega arith, resumed_as n s w (goes k u) e ∙ ap (λ x. chain deed (n - taken n s) x w) (sym h))
-  going_by n s t w ended l h e = absurd h
-  going_by n s t w stuck l h e = absurd h
-  going_by n s t w (faulted f) l h e = absurd h
-  going_by n s t w (asks p u) l h e = absurd h
-
-  pub going : (n : ℕ) (s t : Source) (w : W) → 0 < n → RanAlike (Going t) (units n s) → (n - taken n s < n) × (chain deed n s w ≡ chain deed (n - taken n s) t w)
-  going n s t w l h = going_by n s t w (units n s) l h refl
-
-  pub ended_so : (n : ℕ) (s : Source) (w : W) → RanAlike Ended (units n s) → chain deed n s w ≡ (w, over)
-  ended_so n s w h = by (units n s) h refl where
-    by : (o : Outcome) → RanAlike Ended o → units n s ≡ o → chain deed n s w ≡ (w, over)
-    by ended h e = resumed_as n s w ended e
-    by (goes k u) h e = absurd h
-    by stuck h e = absurd h
-    by (faulted f) h e = absurd h
-    by (asks p u) h e = absurd h
-
-  pub faulted_so : (n : ℕ) (s : Source) (w : W) (f : MufFault) → RanAlike (Faulted f) (units n s) → chain deed n s w ≡ (w, broke s.program.number f)
-  faulted_so n s w f h = by (units n s) h refl where
-    by : (o : Outcome) → RanAlike (Faulted f) o → units n s ≡ o → chain deed n s w ≡ (w, broke s.program.number f)
-    by (faulted g) h e = resumed_as n s w (faulted g) e ∙ ap (λ x. (w, broke s.program.number x)) (sym h)
-    by ended h e = absurd h
-    by (goes k u) h e = absurd h
-    by stuck h e = absurd h
-    by (asks p u) h e = absurd h
-
-  -- where a shared primitive is asked for, a unit is left for it
-  pub asking_so : (n : ℕ) (s t : Source) (w : W) (p : Name) → RanAlike (Asking p t) (units n s) → chain deed n s w ≡ chain deed (suc (n - taken n s - 1)) t w
-  asking_so n s t w p h = by (units n s) h refl where
-    by : (o : Outcome) → RanAlike (Asking p t) o → units n s ≡ o → chain deed n s w ≡ chain deed (suc (n - taken n s - 1)) t w
-    by (asks q u) h e =
-        let fewer : taken n s < n = asked_before n s q u e in
-        let left : n - taken n s ≡ suc (n - taken n s - 1) = omega arith in
-        resumed_as n s w (asks q u) e ∙ ap (λ x. chain deed (n - taken n s) x w) (sym h.1) ∙ ap (λ m. chain deed m t w) left
-    by ended h e = absurd h
-    by (goes k u) h e = absurd h
-    by stuck h e = absurd h
-    by (faulted f) h e = absurd h
-
-  -- a shared primitive at which the process stands is the next unit
-  unit_asks : (n : ℕ) (s : Source) (w : W) (p : Name) → StandsAt p s → chain deed (suc n) s w ≡ after_deed (chain deed n) s (deed p s w)
-  unfolding chain
-  unit_asks n s w p h = ap (λ o. chained (chain deed n) deed s.program.number o w) h.asked
-
-  pub done_so : (n : ℕ) (s t : Source) (w v : W) (p : Name) → StandsAt p s → deed p s w ≡ does t v → chain deed (suc n) s w ≡ chain deed n t v
-  done_so n s t w v p h e = unit_asks n s w p h ∙ ap (after_deed (chain deed n) s) e
-
-  failing : (n : ℕ) (s : Source) (w v : W) (p : Name) (f : MufFault) (o : Outcome) → StandsAt p s → deed p s w ≡ fails f v → fault f s ≡ o → chain deed (suc n) s w ≡ raised (chain deed n) s.program.number o v
-  failing n s w v p f o h e g =
-      unit_asks n s w p h ∙ ap (after_deed (chain deed n) s) e ∙ ap (λ x. raised (chain deed n) s.program.number x v) g
-
-  pub caught_so : (n : ℕ) (s t : Source) (w v : W) (p : Name) (f : MufFault) (k : ℕ) → StandsAt p s → deed p s w ≡ fails f v → fault f s ≡ goes k t → chain deed (suc n) s w ≡ chain deed n t v
-  caught_so n s t w v p f k h e g = failing n s w v p f (goes k t) h e g
-
-  pub broken_so : (n : ℕ) (s : Source) (w v : W) (p : Name) (f : MufFault) → StandsAt p s → deed p s w ≡ fails f v → fault f s ≡ faulted f → chain deed (suc n) s w ≡ (v, broke s.program.number f)
-  broken_so n s w v p f h e g = failing n s w v p f (faulted f) h e g
-
-  -- with the run as it was answered
-  pub going_so : (n u : ℕ) (s t : Source) (w : W) (ran : Ran) → 0 < n → RanAlike ran (units n s) → ran ≡ Going t → u ≡ taken n s → (n - u < n) × (chain deed n s w ≡ chain deed (n - u) t w)
-  going_so n u s t w ran l h r e =
-      subst (λ u. (n - u < n) × (chain deed n s w ≡ chain deed (n - u) t w)) (sym e) (going n s t w l (subst (λ x. RanAlike x (units n s)) r h))
-
--- and the process stands at it
-stands_by : (n : ℕ) (s t : Source) (p : Name) → RanAlike (Asking p t) (units n s) → StandsAt p t
-stands_by n s t p h = by (units n s) h (units_keep n s) where
-  by : (o : Outcome) → RanAlike (Asking p t) o → Keeps (programs_of s) o → StandsAt p t
-  by (asks q u) h k = subst (λ q. StandsAt q t) (sym h.0) (subst (λ u. StandsAt q u) (sym h.1) k.1)
-  by ended h k = absurd h
-  by (goes j u) h k = absurd h
-  by stuck h k = absurd h
-  by (faulted f) h k = absurd h
-
-pub stands_so : (n : ℕ) (s t : Source) (p : Name) (ran : Ran) → RanAlike ran (units n s) → ran ≡ Asking p t → StandsAt p t
-stands_so n s t p ran h r = stands_by n s t p (subst (λ x. RanAlike x (units n s)) r h)
-
-fewer_by : (n : ℕ) (s t : Source) (p : Name) → RanAlike (Asking p t) (units n s) → taken n s < n
-fewer_by n s t p h = by (units n s) h refl where
-  by : (o : Outcome) → RanAlike (Asking p t) o → units n s ≡ o → taken n s < n
-  by (asks q u) h e = asked_before n s q u e
-  by ended h e = absurd h
-  by (goes j u) h e = absurd h
-  by stuck h e = absurd h
-  by (faulted f) h e = absurd h
+fewer_by : (n : ℕ) (s t : Source) (p : Name) (o : Outcome) → RanAlike (Asking p t) o → units n s ≡ o → taken n s < n
+fewer_by n s t p (asks q u) h e = asked_before n s q u e
+fewer_by n s t p _ h e = absurd h
 
 pub fewer_so : (n u : ℕ) (s t : Source) (p : Name) (ran : Ran) → RanAlike ran (units n s) → ran ≡ Asking p t → u ≡ taken n s → u < n
 fewer_so n u s t p ran h r e =
-    let fewer : taken n s < n = fewer_by n s t p (subst (λ x. RanAlike x (units n s)) r h) in omega arith
+    let fewer : taken n s < n = fewer_by n s t p (units n s) (subst (λ x. RanAlike x (units n s)) r h) refl in omega arith
 
-module _ (deed : Name → Source → World → Deed World) where
-  -- what follows the shared primitive ends as the process does
-  pub asks_on : (n u : ℕ) (s t : Source) (w v : World) (p : Name) (ran : Ran) (stop : Stop) → RanAlike ran (units n s) → ran ≡ Asking p t → u ≡ taken n s → Stops deed (suc (n - u - 1)) t w v stop → Stops deed n s w v stop
-  asks_on n u s t w v p ran stop h r e k =
-      let fewer : u < n = fewer_so n u s t p ran h r e in
-      let here : chain deed n s w ≡ chain deed (suc (n - u - 1)) t w =
-      subst (λ u. chain deed n s w ≡ chain deed (suc (n - u - 1)) t w) (sym e) (asking_so deed n s t w p (subst (λ x. RanAlike x (units n s)) r h)) in
-      by stop here fewer k where
-        by : (stop : Stop) → chain deed n s w ≡ chain deed (suc (n - u - 1)) t w → u < n → Stops deed (suc (n - u - 1)) t w v stop → Stops deed n s w v stop
-        by (On x l) here fewer k = (let less : l < suc (n - u - 1) = k.0 in omega arith, here ∙ k.1)
-        by (Ends ending) here fewer k = here ∙ k
+pub stands_so : (t : Source) (p : Name) (ran : Ran) → AskedAt ran → ran ≡ Asking p t → StandsAt p t
+stands_so t p ran h r = subst AskedAt r h
 
-  -- a shared primitive, and what is made of its fault
-  pub stops_after : (n : ℕ) (s : Source) (w v : World) (p : Name) (done : Done) (stop : Stop) → StandsAt p s → DoneAs (deed p s w) s v done → StopsAfter done n stop → Stops deed (suc n) s w v stop
-  stops_after n s w v p (DoneDoes t) (On x l) at h k =
-      let less : l < suc n = (let same = k.0 in omega arith) in
-      (less, done_so deed n s t w v p at h ∙ ap (λ y. chain deed n y v) (sym k.1) ∙ ap (λ m. chain deed m x v) (sym k.0))
-  stops_after n s w v p (DoneDoes t) (Ends ending) at h k = absurd k
-  stops_after n s w v p (DoneFails t f) (On x l) at h k =
-      let less : l < suc n = (let same = k.0 in omega arith) in
-      let here : fault f s ≡ goes k.1.0 x = ap (λ y. fault f y) (sym h.0) ∙ k.1.1 in
-      (less, caught_so deed n s x w v p f k.1.0 at h.1 here ∙ ap (λ m. chain deed m x v) (sym k.0))
-  stops_after n s w v p (DoneFails t f) (Ends ending) at h k =
-      broken_so deed n s w v p f at h.1 (ap (λ y. fault f y) (sym h.0) ∙ k.0) ∙ ap (λ (y : Source). (v, broke y.program.number f)) (sym h.0) ∙ ap (λ y. (v, y)) (sym k.1)
+module _ (pid : ℤ) (x : Agent) where
+  -- its state is out
+  abbrev out : World → World
+  out w = on_queue (standing pid None) w
+
+  ran_as : (n : ℕ) (s : Source) (w : World) (o : Outcome) → seat pid w ≡ Some (x, s) → units n s ≡ o → finish n pid w ≡ resumed pid x (n - taken n s) s.program.number o (out w)
+  ran_as n s w o at e =
+      run_law pid x n n s w at (omega arith) ∙ ap (λ o. resumed pid x (n - taken n s) s.program.number o w) e
+      ∙ sym (resumed_moved pid None x (n - taken n s) s.program.number o w)
+
+  going_by : (n : ℕ) (s t : Source) (w : World) (o : Outcome) → seat pid w ≡ Some (x, s) → 0 < n → RanAlike (Going t) o → units n s ≡ o → (1 ≤ taken n s) × (finish n pid w ≡ finish (n - taken n s) pid (stands_at pid t (out w)))
+  going_by n s t w (goes k u) at l h e =
+      (taken_some n s l (λ p y q. let differ : goes k u ≡ asks p y = sym e ∙ q in cc), ran_as n s w (goes k u) at e ∙ ap (λ y. finish (n - taken n s) pid (stands_at pid y (out w))) (sym h))
+  going_by n s t w _ at l h e = absurd h
+
+  pub going_so : (n u : ℕ) (s t : Source) (w v : World) (ran : Ran) → seat pid w ≡ Some (x, s) → 0 < n → RanAlike ran (units n s) → ran ≡ Going t → u ≡ taken n s → v ≡ stands_at pid t (out w) → Stops pid n w v (Some (n - u))
+  going_so n u s t w v ran at l h r e is =
+      let k = going_by n s t w (units n s) at l (subst (λ y. RanAlike y (units n s)) r h) refl in
+      let most : taken n s ≤ n = taken_most n s in
+      let some : 1 ≤ taken n s = k.0 in
+      (omega arith, k.1 ∙ ap (λ m. finish (n - m) pid (stands_at pid t (out w))) (sym e) ∙ ap (finish (n - u) pid) (sym is))
+
+  ended_by : (n : ℕ) (s : Source) (w : World) (o : Outcome) → seat pid w ≡ Some (x, s) → RanAlike Ended o → units n s ≡ o → finish n pid w ≡ ended_one pid (out w)
+  ended_by n s w ended at h e = ran_as n s w ended at e
+  ended_by n s w _ at h e = absurd h
+
+  pub ended_so : (n : ℕ) (s : Source) (w v : World) (ran : Ran) → seat pid w ≡ Some (x, s) → RanAlike ran (units n s) → ran ≡ Ended → v ≡ ended_one pid (out w) → Stops pid n w v None
+  ended_so n s w v ran at h r is = ended_by n s w (units n s) at (subst (λ y. RanAlike y (units n s)) r h) refl ∙ sym is
+
+  faulted_by : (n : ℕ) (s : Source) (w : World) (f : MufFault) (o : Outcome) → seat pid w ≡ Some (x, s) → RanAlike (Faulted f) o → units n s ≡ o → finish n pid w ≡ broken pid x.player s.program.number f (out w)
+  faulted_by n s w f (faulted g) at h e = ran_as n s w (faulted g) at e ∙ ap (λ y. broken pid x.player s.program.number y (out w)) (sym h)
+  faulted_by n s w f _ at h e = absurd h
+
+  pub faulted_so : (n : ℕ) (s : Source) (w v : World) (f : MufFault) (program : ℤ) (ran : Ran) → seat pid w ≡ Some (x, s) → RanAlike ran (units n s) → ran ≡ Faulted f → program ≡ s.program.number →
+      v ≡ broken pid x.player program f (out w) → Stops pid n w v None
+  faulted_so n s w v f program ran at h r same is =
+      faulted_by n s w f (units n s) at (subst (λ y. RanAlike y (units n s)) r h) refl ∙ ap (λ k. broken pid x.player k f (out w)) (sym same) ∙ sym is
+
+  asking_by : (n : ℕ) (s t : Source) (w : World) (p : Name) (o : Outcome) → seat pid w ≡ Some (x, s) → RanAlike (Asking p t) o → units n s ≡ o →
+      finish n pid w ≡ after_turn (n - taken n s - 1) pid (after_deed pid x.player t (deed x p t (out w)))
+  asking_by n s t w p (asks q u) at h e =
+      ran_as n s w (asks q u) at e ∙ ap (λ y. after_turn (n - taken n s - 1) pid (after_deed pid x.player y (deed x q y (out w)))) (sym h.1)
+      ∙ ap (λ y. after_turn (n - taken n s - 1) pid (after_deed pid x.player t (deed x y t (out w)))) (sym h.0)
+  asking_by n s t w p _ at h e = absurd h
+
+  asked_on : (n u : ℕ) (w v : World) (goes_on : Bool) → u < n → finish n pid w ≡ after_turn (n - u - 1) pid (turn_to goes_on v) → Stops pid n w v (cond goes_on (Some (n - u - 1)) None)
+  asked_on n u w v true l e = (omega arith, e)
+  asked_on n u w v false l e = e
+
+  pub asking_so : (n u : ℕ) (s t : Source) (w v : World) (p : Name) (ran : Ran) (goes_on : Bool) → seat pid w ≡ Some (x, s) → RanAlike ran (units n s) → ran ≡ Asking p t → u ≡ taken n s →
+      after_deed pid x.player t (deed x p t (out w)) ≡ turn_to goes_on v → Stops pid n w v (cond goes_on (Some (n - u - 1)) None)
+  asking_so n u s t w v p ran goes_on at h r e is =
+      asked_on n u w v goes_on (fewer_so n u s t p ran h r e)
+      (asking_by n s t w p (units n s) at (subst (λ y. RanAlike y (units n s)) r h) refl
+      ∙ ap (λ m. after_turn (n - m - 1) pid (after_deed pid x.player t (deed x p t (out w)))) (sym e) ∙ ap (after_turn (n - u - 1) pid) is)
+
+  unlent : (p : Process) (o : Option Source) → option_map {U = Agent × Source} (λ s. (agent_of p, s)) o ≡ None → o ≡ None
+  unlent p None e = refl
+  unlent p (Some s) e = absurd cc
+
+  unseated : (o : Option Process) → option_and_then seat_of o ≡ None → option_and_then (λ (p : Process). p.running) o ≡ None
+  unseated None e = refl
+  unseated (Some p) e = unlent p p.running e
+
+  pub asked_as : (p : Name) (t : Source) (old w v : World) (goes_on : Bool) → old ≡ out w → after_deed pid x.player t (deed x p t old) ≡ turn_to goes_on v → after_deed pid x.player t (deed x p t (out w)) ≡ turn_to goes_on v
+  asked_as p t old w v goes_on is h = ap (λ u. after_deed pid x.player t (deed x p t u)) (sym is) ∙ h
+
+  -- it isn't there
+  pub none_so : (n : ℕ) (w v : World) → seat pid w ≡ None → v ≡ out w → Stops pid n w v None
+  none_so n w v e is =
+      finish_none n pid w e ∙ sym (is ∙ ap (λ q. record w { queue = q }) (none_standing pid w.queue (unseated (process pid w.queue) e)))
+
+  -- no unit is left
+  pub spent_so : (n : ℕ) (s : Source) (w v : World) (program : ℤ) → seat pid w ≡ Some (x, s) → n ≡ 0 → program ≡ s.program.number → v ≡ broken pid x.player program TooManyUnits (out w) → Stops pid n w v None
+  unfolding turn
+  spent_so n s w v program at none same is =
+      ap (λ m. finish m pid w) none ∙ finish_spent pid x s w at
+      ∙ ap (λ y. on_live (tell_player x.player (program_error s.program.number TooManyUnits)) y) (sym (ended_moved pid None w)) ∙ ap (λ k. broken pid x.player k TooManyUnits (out w)) (sym same) ∙ sym is
+
+-- A shared primitive.
+
+module _ (pid : ℤ) (player : Dbref) where
+  -- a fault is caught, or not
+  pub caught_so : (program : ℤ) (f : MufFault) (s r : Source) (w v : World) → Raised f s (Some r) → v ≡ stands_at pid r w → went pid player program (fault f s) w ≡ turn_to true v
+  caught_so program f s r w v h is = ap (λ o. went pid player program o w) h.1 ∙ ap on (sym is)
+
+  pub uncaught_so : (program : ℤ) (f : MufFault) (s : Source) (w v : World) → Raised f s None → v ≡ broken pid player program f w → went pid player program (fault f s) w ≡ turn_to false v
+  uncaught_so program f s w v h is = ap (λ o. went pid player program o w) h ∙ ap over (sym is)
+
+  -- it was done, or refused
+  pub done_so : (d : Deed World) (s t : Source) (u v : World) → DoneAs d s u (DoneDoes t) → v ≡ settled (stands_at pid t u) → after_deed pid player s d ≡ turn_to true v
+  done_so d s t u v h is = ap (after_deed pid player s) h ∙ ap on (sym is)
+
+  pub failed_so : (d : Deed World) (s t : Source) (f : MufFault) (u v : World) (goes_on : Bool) → DoneAs d s u (DoneFails t f) → went pid player t.program.number (fault f t) u ≡ turn_to goes_on v → after_deed pid player s d ≡ turn_to goes_on v
+  failed_so d s t f u v goes_on h is =
+      ap (after_deed pid player s) h.1 ∙ ap (λ y. went pid player y.program.number (fault f y) u) (sym h.0) ∙ is
 
 -- what holds of an answer, so does what follows from it
 pub if_ok_as : {X E : Type 0} (r : Result X E) (A B : X → Type 0) → ((x : X) → A x → B x) → IfOk r A → IfOk r B

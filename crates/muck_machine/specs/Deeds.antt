@@ -1,56 +1,47 @@
 -- What the code of slices and of shared primitives answers, by what the definitions say.
-use Rattle.std.specs.Prelude.{◌≡◌, ℕ, ◌<◌, ◌≤◌, ℤ, List, ◌∷◌, drop, length, slice_get, Option, Some, None, Result, Ok, Err}
+use Rattle.std.specs.Prelude.{◌≡◌, ℕ, ◌<◌, ◌≤◌, ℤ, Bool, if◌then◌else◌, List, ◌∷◌, drop, length, slice_get, Option, Some, None, Result, Ok, Err}
 use Rattle.std.specs.Option.{option_map}
 use Rattle.muck_model.specs.declared.dbref.Denial.{Denial}
 use Rattle.muf_model.specs.declared.fault.MufFault.{MufFault}
-use Rattle.muf_model.specs.declared.fault.MufFault.TheVariants.{Denied}
-use Rattle.muf_model.specs.declared.prims.Primitive.{Primitive as Name}
+use Rattle.muf_model.specs.declared.fault.MufFault.TheVariants.{Denied, ProcessLimit}
 use Rattle.muf_model.specs.Datum.{Datum, text, object}
 use Rattle.muf_model.specs.Flat.{Flat}
 use Rattle.muf_model.specs.Decode.{tree_of}
 use Rattle.muf_model.specs.Stands.{TreeStands}
 use Rattle.muf_model.specs.Tree.{Definition}
 use Rattle.muf_model.specs.Source.{Source, calls_of, entered}
-use Rattle.muf_model.specs.Unit.{calls_most, goes, faulted, fault}
-use Rattle.muf_model.specs.Chains.{Deed, does, fails, Finish, over, broke, chain}
+use Rattle.muf_model.specs.Unit.{calls_most}
+use Rattle.muf_model.specs.Chains.{Deed, does, fails}
 use Rattle.muf_frame.specs.declared.fault.PrimFault.{PrimFault}
 use Rattle.muf_frame.specs.declared.fault.PrimFault.TheVariants.{Fault as FrameFault, NoMemory as FrameNoMemory}
 use Rattle.muf_frame.specs.Shown.{Shown, flat}
+use Rattle.muck_queue.specs.declared.fault.QueueFault.{QueueFault}
+use Rattle.muck_queue.specs.declared.fault.QueueFault.TheVariants.{ProcessLimit as Limit, NoMemory as Wanted}
 use Rattle.muf_running.specs.declared.entered.Entered.{Entered}
 use Rattle.muf_running.specs.Fitting.{program_with, IsAtPrimitive}
 use Rattle.muf_running.specs.Lending.{Apart, Differs}
 use Rattle.spec_prims.specs.Row.{Row, gives, refuses}
 use Rattle.spec_events.specs.World.{World}
-use Rattle.spec_events.specs.Slices.{behind}
-use Rattle.muck_machine.specs.declared.state.slices.Ending.{Ending}
-use Rattle.muck_machine.specs.declared.state.slices.Ending.TheVariants.{Over, Broke}
-use Rattle.muck_machine.specs.declared.state.slices.Stop.{Stop}
-use Rattle.muck_machine.specs.declared.state.slices.Stop.TheVariants.{On, Over as Ends}
+use Rattle.spec_events.specs.declared.starting.Agent.{Agent}
+use Rattle.spec_events.specs.Slices.{acting, behind, called, with_forms, Turn, on, over, run_of, last_world}
 use Rattle.muck_machine.specs.declared.state.deeds.Done.{Done}
 use Rattle.muck_machine.specs.declared.state.deeds.Done.TheVariants.{Does as DoneDoes, Fails as DoneFails}
 use Rattle.muck_machine.specs.declared.state.deeds.DeedFault.{DeedFault}
 use Rattle.muck_machine.specs.declared.state.deeds.DeedFault.TheVariants.{Fault, NoMemory}
 use Rattle.muck_machine.specs.declared.state.deeds.Entrance.{Entrance}
 
-abbrev pub finish_of : Ending → Finish
-finish_of Over = over
-finish_of (Broke program f) = broke program.0 f
+-- where a unit left the world, whether the process goes on or not
+abbrev pub turn_to : Bool → World → Turn
+turn_to goes_on v = if goes_on then on v else over v
 
--- a stint of a process that has n units: it goes on with fewer, or has ended
-abbrev pub Stops : (Name → Source → World → Deed World) → ℕ → Source → World → World → Stop → Type 0
-Stops deed n s w v (On t left) = (left < n) × (chain deed n s w ≡ chain deed left t v)
-Stops deed n s w v (Ends ending) = chain deed n s w ≡ (v, finish_of ending)
+-- units of a process that has n: it goes on with fewer, or is over
+abbrev pub Stops : ℤ → ℕ → World → World → Option ℕ → Type 0
+Stops pid n w v (Some left) = (left < n) × (last_world w (run_of n pid w) ≡ last_world v (run_of left pid v))
+Stops pid n w v None = last_world w (run_of n pid w) ≡ v
 
--- the process goes on where a fault was caught, or has ended by it
-abbrev pub StopsRaised : MufFault → Source → ℕ → Stop → Type 0
-StopsRaised f s left (On t l) = (l ≡ left) × ((k : ℕ) × (fault f s ≡ goes k t))
-StopsRaised f s left (Ends ending) = (fault f s ≡ faulted f) × (finish_of ending ≡ broke s.program.number f)
-
--- the process goes on behind a shared primitive, or after its fault
-abbrev pub StopsAfter : Done → ℕ → Stop → Type 0
-StopsAfter (DoneDoes s) left (On t l) = (l ≡ left) × (t ≡ s)
-StopsAfter (DoneDoes s) left (Ends ending) = ⊥
-StopsAfter (DoneFails s f) left stop = StopsRaised f s left stop
+-- CALL in a world
+abbrev pub called_in : Agent → Source → World → Deed World
+called_in x s w = with_forms w (called w.live.objects (acting x s w.live.objects) s w.library)
 
 -- a shared primitive was done or refused, where the process stood at s
 abbrev pub DoneAs : Deed World → Source → World → Done → Type 0
@@ -104,3 +95,17 @@ asked_of items = None
 abbrev pub IsWord : List Definition → Option Definition → Option ℕ → Type 0
 IsWord ds d None = d ≡ None
 IsWord ds d (Some n) = (n < length ds) × (d ≡ slice_get ds n)
+
+-- a process was started, or the fault is answered for which there is none
+abbrev pub Begins : World × Result ℤ MufFault → World → Result ℤ DeedFault → Type 0
+Begins (w, Ok n) v (Ok m) = (m ≡ n) × (v ≡ w)
+Begins (w, Err f) v (Err (Fault g)) = (g ≡ f) × (v ≡ w)
+Begins r v (Err NoMemory) = Unit {0}
+Begins r v result = ⊥
+
+-- the number of a process that was added, or the fault of one that was refused
+abbrev pub StartsAs : Result ℤ QueueFault → Result ℤ DeedFault → Type 0
+StartsAs (Ok n) (Ok m) = m ≡ n
+StartsAs (Err Limit) (Err (Fault f)) = f ≡ ProcessLimit
+StartsAs (Err Wanted) (Err NoMemory) = Unit {0}
+StartsAs added result = ⊥

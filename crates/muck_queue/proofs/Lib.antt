@@ -3,3 +3,4 @@ pub mod Full
 pub mod Earliest
 pub mod Numbered
 pub mod Leading
+pub mod Standing

@@ -1,12 +1,13 @@
 -- Each change of a queue keeps its processes numbered.
-use Rattle.std.proofs.Common.{◌≡◌, ℕ, ℤ, pos, ◌+ℤ◌, ◌≤ℤ◌, Bool, not, List, [], ◌∷◌, ◌++◌, arith, if◌then◌else◌}
+use Rattle.std.proofs.Common.{◌≡◌, ℕ, ℤ, pos, ◌+ℤ◌, ◌≤ℤ◌, Bool, not, List, [], ◌∷◌, ◌++◌, Option, arith, if◌then◌else◌}
 use Rattle.std.specs.Prelude.{map}
 use Rattle.std.specs.List.{filter}
 use Rattle.std.proofs.lemmas.Bool.{cond_both}
 use Rattle.std.proofs.lemmas.Int.{ints}
 use Rattle.muck_model.specs.declared.dbref.Dbref.{Dbref}
+use Rattle.muf_model.specs.Source.{Source}
 use Rattle.muck_queue.specs.declared.process.Process.{Process}
-use Rattle.muck_queue.specs.Queues.{numbered, claimed_by, has_pid, has_trigger, without_trigger, changed_first, without_first, without_all}
+use Rattle.muck_queue.specs.Queues.{numbered, at_state, claimed_by, has_pid, has_trigger, without_trigger, changed_first, without_first, without_all}
 use Rattle.muck_queue.specs.inner.Numbered.{Rises, IsNumbered}
 
 -- also from a lower number
@@ -38,6 +39,13 @@ rises_claimed test party low last (p ∷ ps) r =
     cond_both (test p) (claimed_by party p ∷ ps) (p ∷ changed_first test (claimed_by party) ps) (Rises low last)
     (λ e. r)
     (λ e. (r.0, rises_claimed test party p.number last ps r.1))
+
+rises_standing : (test : Process → Bool) (r : Option Source) (low last : ℤ) (ps : List Process) → Rises low last ps → Rises low last (changed_first test (at_state r) ps)
+rises_standing test r low last [] h = h
+rises_standing test r low last (p ∷ ps) h =
+    cond_both (test p) (at_state r p ∷ ps) (p ∷ changed_first test (at_state r) ps) (Rises low last)
+    (λ e. h)
+    (λ e. (h.0, rises_standing test r p.number last ps h.1))
 
 cleared : Dbref → Process → Process
 cleared trigger p = if has_trigger trigger p then without_trigger p else p
@@ -75,3 +83,7 @@ numbered_kept test ps new last r e = rw e (rises_kept (λ p. not (test p)) (pos 
 pub numbered_cleared : (trigger : Dbref) (ps new : List Process) (last : ℤ) → IsNumbered (record { processes = ps; last = last }) → new ≡ map (λ p. if has_trigger trigger p then without_trigger p else p) ps → IsNumbered (record { processes = new; last = last })
 unfolding IsNumbered cleared
 numbered_cleared trigger ps new last r e = rw e (rises_cleared trigger (pos 0) last ps r)
+
+pub numbered_standing : (pid : ℤ) (r : Option Source) (ps new : List Process) (last : ℤ) → IsNumbered (record { processes = ps; last = last }) → new ≡ changed_first (has_pid pid) (at_state r) ps → IsNumbered (record { processes = new; last = last })
+unfolding IsNumbered
+numbered_standing pid r ps new last h e = rw e (rises_standing (has_pid pid) r (pos 0) last ps h)

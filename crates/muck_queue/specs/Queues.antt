@@ -1,11 +1,12 @@
 -- The processes of a world, by rising number.
 use Rattle.std.specs.Prelude.{ℕ, ℤ, pos, ◌+ℤ◌, Bool, false, not, ◌&&◌, ◌||◌, ◌==◌, nat_lt, nat_le, int_lt, if◌then◌else◌, List, [], ◌∷◌, ◌++◌, length, map, find, Option, Some, is_some}
 use Rattle.std.specs.List.{filter, reduce, count_by, list_any}
-use Rattle.std.specs.Option.{option_map, option_map_or}
+use Rattle.std.specs.Option.{option_map, option_map_or, option_and_then}
 use Rattle.std.specs.Ordering.{int_eq}
 use Rattle.muck_model.specs.declared.dbref.Dbref.{Dbref}
 use Rattle.muck_model.specs.declared.tune.Tune.{Tune}
 use Rattle.spec_live.specs.Objects.{same, nothing}
+use Rattle.muf_model.specs.Source.{Source}
 use Rattle.muf_model.specs.Chains.{programs_of}
 use Rattle.muck_queue.specs.declared.process.Process.{Process}
 
@@ -41,8 +42,12 @@ abbrev pub is_tied_to : ℕ → Process → Bool
 is_tied_to d p = option_map_or (λ c. c == d) p.descr false
 
 -- the program stands on the call stack: it runs, or is a caller of what runs
+abbrev pub is_in : Dbref → Source → Bool
+is_in program s = list_any (λ n. int_eq n program.0) (map (λ q. q.number) (programs_of s))
+
+-- a process whose state is out is in no program
 abbrev pub runs : Dbref → Process → Bool
-runs program p = list_any (λ n. int_eq n program.0) (map (λ q. q.number) (programs_of p.running))
+runs program p = option_map_or (is_in program) p.running false
 
 abbrev pub has_trigger : Dbref → Process → Bool
 has_trigger trigger p = same p.trigger trigger
@@ -55,6 +60,10 @@ numbered pid p = record p { number = pid }
 
 abbrev pub without_trigger : Process → Process
 without_trigger p = record p { trigger = nothing }
+
+-- at this state, or without one
+abbrev pub at_state : Option Source → Process → Process
+at_state running p = record p { running = running }
 
 -- Lists of processes.
 
@@ -95,6 +104,14 @@ next_due moment q = option_map (λ p. p.number) (earliest (is_due moment) q.proc
 -- the process of this number is claimed by a party
 unfoldable pub claimed : ℤ → ℕ → Queue → Queue
 claimed pid party q = with_processes (changed_first (has_pid pid) (claimed_by party) q.processes) q
+
+-- the process of this number stands at this state, or its state is out
+unfoldable pub standing : ℤ → Option Source → Queue → Queue
+standing pid running q = with_processes (changed_first (has_pid pid) (at_state running) q.processes) q
+
+-- the state of the process of this number, where it is there
+abbrev pub state_of : ℤ → Queue → Option Source
+state_of pid q = option_and_then (λ p. p.running) (process pid q)
 
 -- without the process of this number
 unfoldable pub without : ℤ → Queue → Queue

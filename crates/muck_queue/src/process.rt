@@ -35,8 +35,8 @@ pub struct Process {
     pub mode: Mode,
     /// The party that has claimed it.
     pub claim: Option<u8>,
-    /// The program that runs.
-    pub running: Running,
+    /// The program that runs; out of the process while a unit of it is taken.
+    pub running: Option<Running>,
 }
 
 impl Process {
@@ -82,7 +82,10 @@ impl Process {
     pub fn runs(&self, program: Dbref) -> bool
         ensures { result ≡ runs program self.now }
     {
-        self.running.runs(program)
+        match &self.running {
+            Some(running) => running.runs(program),
+            None => false,
+        }
     }
 
     /// Whether that started it.

@@ -1,11 +1,12 @@
 // The processes, by rising number.
-ghost use Rattle.std.specs.Prelude.{◌≡◌, ◌≤◌, length, find, not, map, if◌then◌else◌, Some};
+ghost use Rattle.std.specs.Prelude.{◌≡◌, ◌≤◌, length, find, not, map, if◌then◌else◌, Some, None};
 ghost use Rattle.std.specs.List.{count_by, list_any, position, position_or_len};
-ghost use Rattle.std.specs.Option.{option_map_or, option_copied};
-ghost use Rattle.muck_queue.specs.Queues.{has_pid, is_of, is_due, is_before, is_tied_to, runs, has_trigger, earliest, earlier, changed_first, without_first, without_all, claimed_by, without_trigger};
+ghost use Rattle.std.specs.Option.{option_and_then, option_map_or, option_copied};
+ghost use Rattle.muck_queue.specs.Queues.{at_state, has_pid, is_of, is_due, is_before, is_tied_to, runs, has_trigger, earliest, earlier, changed_first, without_first, without_all, claimed_by, without_trigger};
 
 use crate::process::Process;
 use muck_model::Dbref;
+use muf_running::Running;
 
 // The place of a process.
 fn found_at(processes: &[Process], pid: i32) -> Option<usize>
@@ -74,6 +75,30 @@ pub fn claim(processes: &mut Vec<Process>, pid: i32, party: u8)
     if at < processes.len() {
         let p = &mut processes[at];
         p.claim = Some(party);
+    }
+}
+
+/// Takes out the state of a process, which keeps its place.
+pub fn lend(processes: &mut Vec<Process>, pid: i32) -> Option<Running>
+    ensures running { result ≡ option_and_then (λ p. p.running) (find (has_pid pid) processes.old.items) }
+    ensures rest { processes.new.items ≡ changed_first (has_pid pid) (at_state None) processes.old.items }
+{
+    let at = place_of(processes, pid);
+    if at < processes.len() {
+        let p = &mut processes[at];
+        return p.running.take();
+    }
+    None
+}
+
+/// A process stands at a state.
+pub fn put_back(processes: &mut Vec<Process>, pid: i32, running: Running)
+    ensures { processes.new.items ≡ changed_first (has_pid pid) (at_state (Some running)) processes.old.items }
+{
+    let at = place_of(processes, pid);
+    if at < processes.len() {
+        let p = &mut processes[at];
+        p.running = Some(running);
     }
 }
 

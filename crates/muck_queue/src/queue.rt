@@ -1,7 +1,7 @@
 // The processes of a world.
-ghost use Rattle.std.specs.Prelude.{◌≡◌, ◌≢◌, length, IfOk, OnOk, OnErr};
+ghost use Rattle.std.specs.Prelude.{◌≡◌, ◌≢◌, length, IfOk, OnOk, OnErr, Some, None};
 ghost use Rattle.std.specs.Option.{option_copied, option_map_or};
-ghost use Rattle.muck_queue.specs.Queues.{empty_queue, process, next_due, claimed, without, is_full, added, is_tied, ended_tied, ended_running, trigger_cleared, number_most};
+ghost use Rattle.muck_queue.specs.Queues.{empty_queue, process, next_due, claimed, standing, state_of, without, is_full, added, is_tied, ended_tied, ended_running, trigger_cleared, number_most};
 ghost use Rattle.muck_queue.specs.inner.Adding.{Adds};
 ghost use Rattle.muck_queue.specs.inner.Leading.{IsNext};
 ghost use Rattle.muck_queue.specs.inner.Numbered.{IsNumbered};
@@ -10,6 +10,7 @@ use crate::fault::QueueFault;
 use crate::process::Process;
 use crate::processes;
 use muck_model::{Dbref, NoMemory, Tune};
+use muf_running::Running;
 use std::alloc::Global;
 use std::marker::Model;
 
@@ -138,6 +139,24 @@ impl Queue {
         ensures { option_copied result ≡ process pid self.now }
     {
         processes::find_by(&self.processes, pid)
+    }
+
+    /// Takes out the state of a process, which keeps its place and its number. `None`, and nothing has changed, where
+    /// there is no such process or its state is out.
+    #[tactic(auto, unfolding(crate::specs::Queues::standing))]
+    pub fn lend(&mut self, pid: i32) -> Option<Running>
+        ensures running { result ≡ state_of pid self.old }
+        ensures rest { self.new ≡ standing pid None self.old }
+    {
+        processes::lend(&mut self.processes, pid)
+    }
+
+    /// The process of a number stands at this state; nothing has changed where there is no such process.
+    #[tactic(auto, unfolding(crate::specs::Queues::standing))]
+    pub fn put_back(&mut self, pid: i32, running: Running)
+        ensures { self.new ≡ standing pid (Some running) self.old }
+    {
+        processes::put_back(&mut self.processes, pid, running);
     }
 
     /// Takes out the process of a number; `None`, and nothing has changed, where there is none.

@@ -36,7 +36,7 @@ use Rattle.spec_commands.proofs.Edited.{edited_proper}
 use Rattle.spec_commands.proofs.Sources.{edited_rewrites}
 use Rattle.muf_model.specs.Source.{Source}
 use Rattle.muck_queue.specs.Queues.{Queue}
-use Rattle.spec_commands.proofs.Numbered.{numbers, numbers-ties, numbers-same_ties, leavers_ties, Seats, Seating, seating_quiet, seating_order}
+use Rattle.spec_commands.proofs.Numbered.{numbers, numbers-same_ties, leavers_ties, Seats, Seating, seating_quiet, seating_order}
 use Rattle.spec_commands.proofs.Lines.{seating_at_login}
 use Rattle.spec_events.specs.World.{World, on_live}
 use Rattle.spec_events.specs.Following.{swept, settled}
@@ -48,17 +48,17 @@ use Rattle.spec_events.proofs.Told.{told_at, licensed_told, licensed_as}
 use Rattle.spec_events.proofs.Endings.{Lasting, lasting_same, lasting_both, lasting_settled, lasting_up, lasting_after, runs_in, Tells, IsTold, told_settled, processes_remain}
 
 -- what an actor may do to a world that is one already: the changes are open, and it is as dead as before
-record Open (a : Actor) (free : Freedom) (start : Live) (dead : Bool) (v : World) : Type 0 where
-  licensed : Licensed a free start v.live
-  alive : v.dead ≡ dead
+pub record Open (a : Actor) (free : Freedom) (start : Live) (dead : Bool) (v : World) : Type 0 where
+  pub licensed : Licensed a free start v.live
+  pub alive : v.dead ≡ dead
 
-open_quietly : (a : Actor) (free : Freedom) (start : Live) (dead : Bool) (u v : World) → Open a free start dead u → Quietly u v → Open a free start dead v
+pub open_quietly : (a : Actor) (free : Freedom) (start : Live) (dead : Bool) (u v : World) → Open a free start dead u → Quietly u v → Open a free start dead v
 open_quietly a free start dead u v p q = record {
   licensed = licensed_as a free start u.live v.live p.licensed q.objects q.ties q.tune;
   alive = q.dead ∙ p.alive;
 }
 
-open_settled : (a : Actor) (free : Freedom) (start : Live) (dead : Bool) (u : World) → Open a free start dead u → Open a free start dead (settled u)
+pub open_settled : (a : Actor) (free : Freedom) (start : Live) (dead : Bool) (u : World) → Open a free start dead u → Open a free start dead (settled u)
 unfolding settled
 open_settled a free start dead u p =
     let q = open_quietly a free start dead u _ p (quietly_swept 0 u.live.objects u) in
@@ -195,7 +195,7 @@ lapsed_as x w u v e (inl g) = inl (e ∙ g)
 lapsed_as x w u v e (inr h) = inr (λ s. h (ap (λ (q : Option Object). option_map_or (λ o. o.lines) q []) (sym e) ∙ s))
 
 -- of a program on the call stack it was told
-abbrev Cut : Live → Live → Source → Type 0
+abbrev Cut : Live → Live → Option Source → Type 0
 Cut w v t = (x : Dbref) × (runs_in x t ≡ true) × Lapsed x w v
 
 cut_ends : (a : Actor) (w v : World) → Lasting (Cut w.live v.live) w.queue v.queue → ProcessesLicensed (MayEnd a w.live v.live) w v
@@ -344,11 +344,8 @@ pub record Going (w v : World) : Type 0 where
   pub numbers : numbers v.live.board.connections ≡ numbers w.live.board.connections
   pub dead : v.dead ≡ w.dead
 
-going_open : (a : Actor) (free : Freedom) (w v : World) → Open a free w.live w.dead v → Going w v
+pub going_open : (a : Actor) (free : Freedom) (w v : World) → Open a free w.live w.dead v → Going w v
 going_open a free w v p = record { numbers = numbers-same_ties a w.live.board.connections v.live.board.connections p.licensed.connections; dead = p.alive }
-
-pub going_quietly : (w v : World) → Quietly w v → Going w v
-going_quietly w v q = record { numbers = numbers-ties w.live.board.connections v.live.board.connections q.ties; dead = q.dead }
 
 pub going_same : (w : World) → Going w w
 going_same w = record { numbers = refl; dead = refl }

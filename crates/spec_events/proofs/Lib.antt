@@ -2,9 +2,12 @@ pub mod Quietly
 pub mod Told
 pub mod Endings
 pub mod Done
+pub mod Units
+pub mod Taken
 pub mod Living
 pub mod Reached
 pub mod Runs
 pub mod Turns
 pub mod Claims
 mod Errors
+mod Ending

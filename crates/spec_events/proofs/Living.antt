@@ -4,8 +4,8 @@ use Rattle.muck_model.specs.declared.event.Event.{Event}
 use Rattle.muck_model.specs.declared.event.Event.TheVariants.{Opened, Input, Closed, Moment, Exec, Planned, Claim, Slice, Commit, Lost, Idle, Take, Cut, Stored, DumpFailed, Halt, StopSeen, Died}
 use Rattle.spec_events.specs.World.{World, connection}
 use Rattle.spec_events.specs.Steps.{happened, is_died}
-use Rattle.spec_events.proofs.Quietly.{quietly_sliced}
 use Rattle.spec_events.proofs.Done.{done_going}
+use Rattle.spec_events.proofs.Taken.{sliced_going}
 
 pub dead-happened : (event : Event) (w : World) (party : ℕ) → is_died event ≡ false → (happened w party event).dead ≡ w.dead
 dead-happened (Opened d) w party e = refl
@@ -15,7 +15,7 @@ dead-happened (Moment t) w party e = refl
 dead-happened (Exec d) w party e = (done_going d w (connection d w) refl).dead
 dead-happened (Planned d) w party e = refl
 dead-happened (Claim pid) w party e = refl
-dead-happened (Slice pid) w party e = (quietly_sliced pid w).dead
+dead-happened (Slice pid) w party e = (sliced_going pid w).dead
 dead-happened (Commit pid) w party e = refl
 dead-happened (Lost pid) w party e = refl
 dead-happened Idle w party e = refl

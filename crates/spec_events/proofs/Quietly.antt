@@ -1,5 +1,5 @@
 -- Changes of the world that leave alone what a licence speaks of.
-use Rattle.std.proofs.Common.{◌≡◌, ℕ, ℤ, Bool, true, false, cond, zero, suc, List, [], ◌∷◌, refl, ◌∙◌, Option, Some, None}
+use Rattle.std.proofs.Common.{◌≡◌, ℕ, ℤ, pos, ◌+ℤ◌, Bool, true, false, cond, suc, List, [], ◌∷◌, refl, ◌∙◌, Option, Some, None}
 use Rattle.std.specs.Prelude.{Result, Ok, Err}
 use Rattle.std.specs.Option.{option_map_or}
 use Rattle.muck_model.specs.declared.dbref.Dbref.{Dbref}
@@ -11,36 +11,26 @@ use Rattle.spec_live.specs.Boards.{Board, editors_closed}
 use Rattle.spec_live.specs.Lives.{Change, tell}
 use Rattle.spec_live.proofs.EditorLaws.{editors_closed_kept}
 use Rattle.spec_rights.specs.declared.act.Actor.{Actor}
-use Rattle.spec_rights.specs.declared.act.Act.{Act}
-use Rattle.spec_rights.specs.declared.act.Act.TheVariants.{Shared, Start, Call as CallAct}
+use Rattle.spec_rights.specs.declared.act.Act.TheVariants.{Start}
 use Rattle.spec_rights.specs.Verdict.{verdict}
 use Rattle.spec_rights.specs.Asking.{refused}
-use Rattle.spec_rights.proofs.Licences.{Quiet, tie, ties, quiet_unchanged}
-use Rattle.spec_rights.proofs.Shown.{quiet_tell, quiet_tell_player, quiet_refused}
-use Rattle.muf_model.specs.declared.fault.MufFault.TheVariants.{CallsFull, BadType, NoSuchObject}
-use Rattle.muf_model.specs.Answer.{too_few}
-use Rattle.muf_model.specs.declared.prims.Primitive.{Primitive as Name}
-use Rattle.muf_model.specs.declared.prims.Primitive.TheVariants.{Call}
-use Rattle.muf_model.specs.Prims.{level_of}
-use Rattle.muf_model.specs.Datum.{Datum, text, object}
+use Rattle.spec_rights.proofs.Licences.{Quiet, tie, ties}
+use Rattle.spec_rights.proofs.Shown.{quiet_tell, quiet_refused}
+use Rattle.muf_model.specs.declared.fault.MufFault.{MufFault}
+use Rattle.muf_model.specs.declared.fault.MufFault.TheVariants.{ProcessLimit}
+use Rattle.muf_model.specs.Faults.{text_of}
 use Rattle.muf_model.specs.Tree.{Definition, Tree}
-use Rattle.muf_model.specs.Source.{Program, Source, last_word, entered, locked_of}
-use Rattle.muf_model.specs.Unit.{Outcome, goes, ended, faulted, asks, stuck, unit, fault}
-use Rattle.muf_model.specs.Chains.{Deed, does, fails, Finish, over, broke, astray, chain, chained, after_deed, raised}
-use Rattle.spec_prims.specs.Asking.{numbered}
-use Rattle.spec_prims.specs.Row.{Row, gives, refuses}
-use Rattle.spec_prims.proofs.Quiet.{Keeps, shared_keeps}
+use Rattle.muf_model.specs.Source.{last_word}
 use Rattle.muck_library.specs.declared.flaw.Flaw.{Flaw}
 use Rattle.muck_library.specs.Programs.{built_tree}
 use Rattle.muck_library.specs.Library.{Library, formed}
 use Rattle.muck_queue.specs.declared.process.Process.{Process}
-use Rattle.muck_queue.specs.Queues.{Queue, process, without, added}
-use Rattle.spec_events.specs.declared.starting.Agent.{Agent}
+use Rattle.muck_queue.specs.Queues.{Queue, added, is_full}
 use Rattle.spec_events.specs.declared.starting.Call.{Call as Started}
+use Rattle.spec_events.specs.declared.starting.Manner.{Manner}
 use Rattle.spec_events.specs.World.{World, on_live, on_queue, with_library}
 use Rattle.spec_events.specs.Following.{followed, swept}
-use Rattle.spec_events.specs.Slices.{Doing, acting, lifted, row_done, needing, permitted_by, permitted, existing, programmed, behind, call_count, called_word, word_entered, form_entered, form_called, program_called, call_items, called, deed, finish_shown, with_finish, agent_of, ran, sliced}
-use Rattle.spec_events.specs.Starting.{not_compiled, too_many, beginning, new_process, joined, word_started, form_started, built_started, start_judged, launched}
+use Rattle.spec_events.specs.Starting.{beginning, foreground, new_process, joined, word_started, form_started, built_started, begun, start_told, start_judged, launched}
 use Rattle.spec_events.specs.Lines.{compiled_so, compiled}
 
 -- no object differs, nor who the connections are, nor what is tuned, and the world is as dead as before
@@ -84,153 +74,40 @@ unfolding swept
 quietly_swept n [] w = quietly_same w
 quietly_swept n (e ∷ es) w = quietly_both w _ _ (quietly_marked e.mark (dbref_of n) w) (quietly_swept (suc n) es _)
 
--- Shared primitives.
-
-abbrev DeedQuietly : World → Deed World → Type 0
-DeedQuietly w (does s v) = Quietly w v
-DeedQuietly w (fails f v) = Quietly w v
-
-abbrev IsQuiet : Doing → Type 0
-IsQuiet go = (w : World) → DeedQuietly w (go w)
-
-either_deed : (b : Bool) (w : World) (d e : Deed World) → DeedQuietly w d → DeedQuietly w e → DeedQuietly w (cond b d e)
-either_deed true w d e p q = p
-either_deed false w d e p q = q
-
-either_world : (b : Bool) (w u v : World) → Quietly w u → Quietly w v → Quietly w (cond b u v)
-either_world true w u v p q = p
-either_world false w u v p q = q
-
-quiet_needing : (n : ℕ) (s : Source) (go : Doing) → IsQuiet go → IsQuiet (needing n s go)
-unfolding needing
-quiet_needing n s go p w = either_deed _ w (fails (too_few n s.stack) w) (go w) (quietly_same w) (p w)
-
-quiet_by : (o : Option Denial) (go : Doing) → IsQuiet go → IsQuiet (permitted_by o go)
-quiet_by None go p w = p w
-quiet_by (Some denial) go p w = quietly_same w
-
-quiet_permitted : (x : Agent) (s : Source) (act : Act) (go : Doing) → IsQuiet go → IsQuiet (permitted x s act go)
-unfolding permitted
-quiet_permitted x s act go q w = quiet_by (verdict w.live.objects (acting x s w.live.objects) act) go q w
-
-quiet_existing : (d : ℤ) (go : Doing) → IsQuiet go → IsQuiet (existing d go)
-unfolding existing
-quiet_existing d go p w = either_deed _ w (go w) (fails NoSuchObject w) (p w) (quietly_same w)
-
-quiet_programmed : (d : ℤ) (go : Doing) → IsQuiet go → IsQuiet (programmed d go)
-unfolding programmed
-quiet_programmed d go p w = either_deed _ w (go w) (fails BadType w) (p w) (quietly_same w)
-
-quiet_lifted : (s : Source) (w : World) (row : Row) → Keeps w.live row → DeedQuietly w (lifted s w row)
-quiet_lifted s w (gives stack live) h = record { objects = h.objects; ties = h.ties; tune = h.tune; dead = refl }
-quiet_lifted s w (refuses f) h = quietly_same w
-
-quiet_row : (x : Agent) (name : Name) (s : Source) → IsQuiet (row_done x name s)
-unfolding row_done
-quiet_row x name s w =
-    quiet_lifted s w _ (shared_keeps name (acting x s w.live.objects) (locked_of s.marks) s.stack w.live)
-
-quiet_word_entered : (s : Source) (program : Program) (word : Option Definition) → IsQuiet (word_entered s program word)
-quiet_word_entered s program None w = quietly_same w
-quiet_word_entered s program (Some d) w = either_deed _ w (does (entered program d s) w) (fails CallsFull w) (quietly_same w) (quietly_same w)
-
-quiet_form_entered : (x : Agent) (s after : Source) (d : ℤ) (name : Option (List ℕ)) (form : Option Tree) → IsQuiet (form_entered x s after d name form)
-quiet_form_entered x s after d name None w = quietly_same w
-quiet_form_entered x s after d name (Some tree) w = quiet_word_entered after (record { number = d; tree = tree }) (called_word (acting x s w.live.objects) name tree) w
-
-deed_after : (w v : World) (d : Deed World) → Quietly w v → DeedQuietly v d → DeedQuietly w d
-deed_after w v (does s u) p q = quietly_both w v u p q
-deed_after w v (fails f u) p q = quietly_both w v u p q
-
-quiet_form_called : (x : Agent) (s after : Source) (d : ℤ) (name : Option (List ℕ)) (made : Option Tree × Library) (w : World) → DeedQuietly w (form_called x s after d name made w)
-quiet_form_called x s after d name (form, library) w =
-    deed_after w (with_library library w) _ (quietly_library library w) (quiet_form_entered x s after d name form (with_library library w))
-
-quiet_program_called : (x : Agent) (s : Source) (d : ℤ) (name : Option (List ℕ)) (rest : List Datum) → IsQuiet (program_called x s d name rest)
-unfolding program_called
-quiet_program_called x s d name rest =
-    quiet_existing d _ (quiet_programmed d _ (quiet_permitted x s (CallAct (numbered d)) _
-    (λ w. quiet_form_called x s (behind rest s) d name (formed w.live.objects (numbered d) w.library) w)))
-
-quiet_call_items : (x : Agent) (s : Source) (stack : List Datum) → IsQuiet (call_items x s stack)
-quiet_call_items x s (text t ∷ object d ∷ rest) = quiet_program_called x s d (Some t) rest
-quiet_call_items x s (object d ∷ rest) = quiet_program_called x s d None rest
-quiet_call_items x s _ = λ w. quietly_same w
-
-quiet_called : (x : Agent) (s : Source) → IsQuiet (called x s)
-unfolding called
-quiet_called x s = quiet_needing 1 s _ (quiet_needing (call_count s.stack) s _ (quiet_permitted x s (Shared (level_of Call)) _ (quiet_call_items x s s.stack)))
-
-quiet_deed : (x : Agent) (name : Name) (s : Source) → IsQuiet (deed x name s)
-unfolding deed
-quiet_deed x Call s = quiet_called x s
-quiet_deed x name s = quiet_row x name s
-
--- A process that runs.
-
-module _ (deeds : Name → Source → World → Deed World) (quiet : (name : Name) (s : Source) (w : World) → DeedQuietly w (deeds name s w)) where
-  quiet_raised : (n : ℕ) → ((s : Source) (w : World) → Quietly w (chain deeds n s w).0) → (number : ℤ) (o : Outcome) (w : World) → Quietly w (raised (chain deeds n) number o w).0
-  quiet_raised n go number (goes k t) w = go t w
-  quiet_raised n go number (faulted f) w = quietly_same w
-  quiet_raised n go number ended w = quietly_same w
-  quiet_raised n go number (asks p t) w = quietly_same w
-  quiet_raised n go number stuck w = quietly_same w
-
-  quiet_after : (n : ℕ) → ((s : Source) (w : World) → Quietly w (chain deeds n s w).0) → (t : Source) (w : World) (d : Deed World) → DeedQuietly w d → Quietly w (after_deed (chain deeds n) t d).0
-  quiet_after n go t w (does u v) q = quietly_both w v _ q (go u v)
-  quiet_after n go t w (fails f v) q = quietly_both w v _ q (quiet_raised n go t.program.number (fault f t) v)
-
-  quiet_chained : (n : ℕ) → ((s : Source) (w : World) → Quietly w (chain deeds n s w).0) → (number : ℤ) (o : Outcome) (w : World) → Quietly w (chained (chain deeds n) deeds number o w).0
-  quiet_chained n go number (goes k t) w = go t w
-  quiet_chained n go number ended w = quietly_same w
-  quiet_chained n go number (faulted f) w = quietly_same w
-  quiet_chained n go number stuck w = quietly_same w
-  quiet_chained n go number (asks p t) w = quiet_after n go t w (deeds p t w) (quiet p t w)
-
-  pub quiet_chain : (n : ℕ) (s : Source) (w : World) → Quietly w (chain deeds n s w).0
-  unfolding chain
-  quiet_chain zero s w = quietly_same w
-  quiet_chain (suc n) s w = quiet_chained n (quiet_chain n) s.program.number (unit s) w
-
-quiet_finish : (player : Dbref) (finish : Finish) → Quiet (finish_shown player finish)
-quiet_finish player over = quiet_unchanged
-quiet_finish player (broke n f) = quiet_tell_player player _
-quiet_finish player astray = quiet_unchanged
-
-quietly_finish : (player : Dbref) (w : World) (r : World × Finish) → Quietly w r.0 → Quietly w (with_finish player r)
-quietly_finish player w (v, finish) q = quietly_both w v _ q (quietly_live (finish_shown player finish) (quiet_finish player finish) v)
-
-pub quietly_ran : (p : Process) (w : World) → Quietly w (ran p w)
-unfolding ran
-quietly_ran p w = quietly_finish p.player w _ (quiet_chain (deed (agent_of p)) (quiet_deed (agent_of p)) w.live.board.tune.m2_units p.running w)
-
-quietly_some : (pid : ℤ) (o : Option Process) (w : World) → Quietly w (option_map_or (λ p. ran p (on_queue (without pid) w)) o w)
-quietly_some pid None w = quietly_same w
-quietly_some pid (Some p) w = quietly_both w _ _ (quietly_queue (without pid) w) (quietly_ran p (on_queue (without pid) w))
-
-pub quietly_sliced : (pid : ℤ) (w : World) → Quietly w (sliced pid w)
-unfolding sliced
-quietly_sliced pid w = quietly_some pid (process pid w.queue) w
-
 -- A program that is started.
 
-quietly_joined : (d : ℕ) (p : Process) (w : World) → Quietly w (joined d p w)
-quietly_joined d p w = either_world _ w (on_live (tell d too_many) w) (on_queue (added p) w) (quietly_live (tell d too_many) (quiet_tell d too_many) w) (quietly_queue (added p) w)
+abbrev BegunQuietly : World → World × Result ℤ MufFault → Type 0
+BegunQuietly w r = Quietly w r.0
 
-quietly_word : (d : ℕ) (c : Started) (tree : Tree) (word : Option Definition) (w : World) → Quietly w (word_started d c tree word w)
-quietly_word d c tree None w = quietly_live (tell d not_compiled) (quiet_tell d not_compiled) w
-quietly_word d c tree (Some word) w = quietly_joined d (new_process d c (beginning c tree word w) w) w
+quietly_joined : (p : Process) (w : World) → BegunQuietly w (joined p w)
+quietly_joined p w = either (is_full p.player w.live.board.tune w.queue)
+  where
+    either : (b : Bool) → BegunQuietly w (cond b (w, Err ProcessLimit) (on_queue (added p) w, Ok (w.queue.last +ℤ pos 1)))
+    either true = quietly_same w
+    either false = quietly_queue (added p) w
 
-quietly_form : (d : ℕ) (c : Started) (form : Option Tree) (w : World) → Quietly w (form_started d c form w)
-quietly_form d c None w = quietly_live (tell d not_compiled) (quiet_tell d not_compiled) w
-quietly_form d c (Some tree) w = quietly_word d c tree (last_word tree.words) w
+quietly_word : (m : Manner) (c : Started) (tree : Tree) (word : Option Definition) (w : World) → BegunQuietly w (word_started m c tree word w)
+quietly_word m c tree None w = quietly_same w
+quietly_word m c tree (Some word) w = quietly_joined (new_process m c (beginning c tree word w)) w
 
-quietly_built : (d : ℕ) (c : Started) (made : Option Tree × Library) (w : World) → Quietly w (built_started d c made w)
-quietly_built d c (form, library) w = quietly_both w (with_library library w) _ (quietly_library library w) (quietly_form d c form (with_library library w))
+quietly_form : (m : Manner) (c : Started) (form : Option Tree) (w : World) → BegunQuietly w (form_started m c form w)
+quietly_form m c None w = quietly_same w
+quietly_form m c (Some tree) w = quietly_word m c tree (last_word tree.words) w
+
+quietly_built : (m : Manner) (c : Started) (made : Option Tree × Library) (w : World) → BegunQuietly w (built_started m c made w)
+quietly_built m c (form, library) w = quietly_both w (with_library library w) _ (quietly_library library w) (quietly_form m c form (with_library library w))
+
+pub quietly_begun : (m : Manner) (c : Started) (w : World) → BegunQuietly w (begun m c w)
+unfolding begun
+quietly_begun m c w = quietly_built m c (formed w.live.objects c.program w.library) w
+
+quietly_told : (d : ℕ) (w : World) (r : World × Result ℤ MufFault) → BegunQuietly w r → Quietly w (start_told d r)
+quietly_told d w (v, Ok pid) q = q
+quietly_told d w (v, Err fault) q = quietly_both w v _ q (quietly_live (tell d (text_of fault)) (quiet_tell d (text_of fault)) v)
 
 quietly_judged : (d : ℕ) (c : Started) (o : Option Denial) (w : World) → Quietly w (start_judged d c o w)
 quietly_judged d c (Some denial) w = quietly_live (refused d denial) (quiet_refused d denial) w
-quietly_judged d c None w = quietly_built d c (formed w.live.objects c.program w.library) w
+quietly_judged d c None w = quietly_told d w _ (quietly_begun (foreground d w) c w)
 
 pub quietly_launched : (d : ℕ) (a : Actor) (c : Started) (w : World) → Quietly w (launched d a c w)
 unfolding launched

@@ -21,8 +21,8 @@ use Rattle.spec_events.specs.World.{World, connection, queue_of, is_leaving, on_
 use Rattle.spec_events.specs.Steps.{is_free, is_allowed, is_lawful, happened, effect, next_ready}
 use Rattle.spec_events.specs.Histories.{by_porter}
 use Rattle.spec_events.specs.Sound.{IsSound}
-use Rattle.spec_events.proofs.Quietly.{quietly_sliced}
-use Rattle.spec_events.proofs.Done.{Going, going_quietly, done_going}
+use Rattle.spec_events.proofs.Done.{Going, done_going}
+use Rattle.spec_events.proofs.Taken.{sliced_going}
 
 cases_lt : (m n : ℕ) (P : Bool → Type 0) → (m < n → P true) → (n ≤ m → P false) → P (ltb m n)
 cases_lt m n P p q =
@@ -111,7 +111,7 @@ sound-happened (Input d line) party w other l h = sound-live (on_board (line_add
 sound-happened (Closed d) party w other l h = let v = sound-gone_away d w h in record { alive = v.alive; rising = v.rising }
 sound-happened (Exec d) party w other l h = sound-going w _ (done_going d w (connection d w) refl) h
 sound-happened (Claim pid) party w other l h = record { alive = h.alive; rising = h.rising }
-sound-happened (Slice pid) party w other l h = sound-going w _ (going_quietly w _ (quietly_sliced pid w)) h
+sound-happened (Slice pid) party w other l h = sound-going w _ (sliced_going pid w) h
 sound-happened (Take d n) party w other l h = sound-live (on_board (bytes_taken d n)) (λ v. ((seating_one d _ (λ c. refl)).law v).numbers) w h
 sound-happened Halt party w other l h = record { alive = h.alive; rising = h.rising }
 sound-happened Died party w other l h = absurd (other refl)

@@ -18,9 +18,9 @@ use Rattle.spec_events.specs.Steps.{effect, happened}
 use Rattle.spec_events.specs.Endings.{ProcessesLicensed, NoProcess}
 use Rattle.spec_events.specs.Licences.{Untouched, EventLicensed}
 use Rattle.spec_events.specs.Histories.{AllLicensed}
-use Rattle.spec_events.proofs.Quietly.{Quietly, quietly_sliced}
 use Rattle.spec_events.proofs.Endings.{lasts_claimed, IsTold, processes_remain, tied_remain}
 use Rattle.spec_events.proofs.Done.{none_ends, undisturbed_quietly, turn_licensed, told_by, told_done}
+use Rattle.spec_events.proofs.Taken.{slice_licensed, told_sliced}
 
 -- what a player does by a line is open to it, and at the login screen no object changes
 pub exec_licensed : (d : ℕ) (w : World) (party : ℕ) → IsTold w.live → EventLicensed (Exec d) w (happened w party (Exec d))
@@ -34,9 +34,6 @@ gone_away_untouched d w =
     let shown = parting.law v in
     record { objects = shown.objects; tune = shown.tune }
 
-quietly_untouched : (w v : World) → Quietly w v → Untouched w.live v.live
-quietly_untouched w v q = record { objects = q.objects; tune = q.tune }
-
 claim_ends : (pid : ℤ) (party : ℕ) (w : World) → ProcessesLicensed NoProcess w (on_queue (claimed pid party) w)
 unfolding claimed
 claim_ends pid party w = processes_remain (λ s. ⊥) NoProcess w (on_queue (claimed pid party) w) (λ p m. m) (λ at. lasts_claimed (λ s. ⊥) party pid at w.queue.processes)
@@ -44,7 +41,7 @@ claim_ends pid party w = processes_remain (λ s. ⊥) NoProcess w (on_queue (cla
 event_licensed : (event : Event) (w : World) (party : ℕ) → IsTold w.live → EventLicensed event w (happened w party event)
 unfolding opened line_added bytes_taken
 event_licensed (Exec d) w party told = exec_licensed d w party told
-event_licensed (Slice pid) w party told = quietly_untouched w _ (quietly_sliced pid w)
+event_licensed (Slice pid) w party told = slice_licensed pid w
 event_licensed (Closed d) w party told = (gone_away_untouched d w.live, tied_remain d w.queue)
 event_licensed (Claim pid) w party told = (record { objects = refl; tune = refl }, claim_ends pid party w, leavers_ties (λ c. false) w.live.board.connections w.live.board.connections refl)
 event_licensed (Opened d) w party told = (record { objects = refl; tune = refl }, none_ends w (happened w party (Opened d)) refl)
@@ -54,7 +51,7 @@ event_licensed event w party told = (record { objects = refl; tune = refl }, non
 
 told_happened : (event : Event) (w : World) (party : ℕ) → IsTold w.live → IsTold (happened w party event).live
 told_happened (Exec d) w party h = told_done d w (connection d w) h
-told_happened (Slice pid) w party h = told_by w.live (sliced pid w).live (quietly_sliced pid w).objects h
+told_happened (Slice pid) w party h = told_sliced pid w h
 told_happened (Closed d) w party h = told_by w.live (gone_away d w.live) (gone_away_untouched d w.live).objects h
 told_happened event w party h = h
 

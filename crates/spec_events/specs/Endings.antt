@@ -1,7 +1,8 @@
 -- Which processes may end.
 use Rattle.std.specs.Prelude.{◌≡◌, ◌⊎◌, ℤ, Bool, true, ◌||◌, List, [], ◌∷◌, Option, Some, None}
+use Rattle.std.specs.Option.{option_map_or}
 use Rattle.muck_model.specs.declared.dbref.Dbref.{Dbref}
-use Rattle.spec_live.specs.Objects.{Entry, same, object_at}
+use Rattle.spec_live.specs.Objects.{Entry, same, nothing, object_at}
 use Rattle.spec_live.specs.Lives.{Live}
 use Rattle.spec_rights.specs.declared.act.Actor.{Actor}
 use Rattle.spec_rights.specs.Levels.{owner_at}
@@ -32,7 +33,7 @@ last_of p [] = p
 last_of p (q ∷ qs) = last_of q qs
 
 abbrev pub started_of : Process → Dbref
-started_of p = numbered (last_of p.running.program (callers_of p.running.marks)).number
+started_of p = option_map_or (λ s. numbered (last_of s.program (callers_of s.marks)).number) p.running nothing
 
 -- its player or the owner of its program is the user, or the actor is at the highest level
 abbrev pub end_open : Actor → List Entry → Process → Bool

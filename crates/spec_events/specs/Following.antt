@@ -1,5 +1,5 @@
 -- What follows from a change of objects.
-use Rattle.std.specs.Prelude.{ℕ, suc, List, [], ◌∷◌, map}
+use Rattle.std.specs.Prelude.{◌≡◌, ℕ, zero, suc, Bool, false, List, [], ◌∷◌, map, is_some}
 use Rattle.std.specs.Option.{option_map_or}
 use Rattle.muck_model.specs.declared.dbref.Dbref.{Dbref}
 use Rattle.spec_live.specs.declared.mark.Mark.{Mark}
@@ -9,7 +9,8 @@ use Rattle.spec_live.specs.Marks.{unmarked}
 use Rattle.spec_live.specs.Boards.{editors_closed}
 use Rattle.spec_live.specs.Lives.{on_objects, on_board}
 use Rattle.muck_library.specs.Library.{form_dropped}
-use Rattle.muck_queue.specs.Queues.{ended_running, trigger_cleared}
+use Rattle.muck_queue.specs.declared.process.Process.{Process}
+use Rattle.muck_queue.specs.Queues.{runs, ended_running, trigger_cleared}
 use Rattle.spec_events.specs.World.{World, on_live, on_queue, with_library}
 
 -- the built form of a program is dropped, and the processes that run it end
@@ -29,3 +30,14 @@ swept n (e ∷ es) w = swept (suc n) es (option_map_or (λ mark. followed mark (
 -- Everything that is to be told of objects is told, with what follows from it.
 unfoldable pub settled : World → World
 settled w = on_live (on_objects (map unmarked)) (swept 0 w.live.objects w)
+
+-- something of this object is to be told
+abbrev pub is_marked : ℕ → List Entry → Bool
+is_marked n [] = false
+is_marked zero (e ∷ es) = is_some e.mark
+is_marked (suc n) (e ∷ es) = is_marked n es
+
+-- none of these processes is in the program
+abbrev pub NoneIn : Dbref → List Process → Type 0
+NoneIn d [] = Unit {0}
+NoneIn d (p ∷ ps) = (runs d p ≡ false) × NoneIn d ps

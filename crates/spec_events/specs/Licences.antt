@@ -1,5 +1,5 @@
 -- What a step may change.
-use Rattle.std.specs.Prelude.{◌≡◌, ℕ, Bool, true, false, List, ◌∷◌, Option, Some, None}
+use Rattle.std.specs.Prelude.{◌≡◌, ℕ, All, Bool, true, false, List, ◌∷◌, Option, Some, None}
 use Rattle.muck_model.specs.declared.dbref.Dbref.{Dbref}
 use Rattle.muck_model.specs.declared.edit.EditState.{EditState}
 use Rattle.muck_model.specs.declared.event.Event.{Event}
@@ -8,11 +8,12 @@ use Rattle.spec_live.specs.Objects.{Entry}
 use Rattle.spec_live.specs.Connections.{Connection, has_number}
 use Rattle.spec_live.specs.Lives.{Live}
 use Rattle.spec_rights.specs.declared.act.Actor.{Actor}
-use Rattle.spec_rights.specs.Licence.{Freedom, Licensed, LeaversLicensed, editing}
+use Rattle.spec_rights.specs.Licence.{Freedom, Licensed, LeaversLicensed, editing, nobody}
 use Rattle.spec_commands.specs.Finding.{actor_of}
 use Rattle.spec_commands.specs.Free.{free_line}
 use Rattle.muck_queue.specs.Queues.{is_tied_to}
 use Rattle.spec_events.specs.World.{World, connection}
+use Rattle.spec_events.specs.Slices.{Taken, last_world, units_of}
 use Rattle.spec_events.specs.Endings.{ProcessesLicensed, NoProcess, MayEnd}
 
 -- no object changes, and nothing that is tuned
@@ -38,15 +39,24 @@ LineLicensed d (Some player) editor (line ∷ lines) w v =
     × ProcessesLicensed (MayEnd (actor_of w.live.objects player) w.live v.live) w v
 LineLicensed d player editor lines w v = Undisturbed (has_number d) w v
 
+-- a unit changes only what is open to the running program, by the rights before it
+abbrev pub UnitLicensed : Taken → Type 0
+UnitLicensed t = Licensed t.actor nobody t.before.live t.after.live
+
+-- the units of a slice lead to the world after it
+pub record SliceLicensed (ts : List Taken) (w v : World) : Type 0 where
+  pub units : All UnitLicensed ts
+  pub leads : v.live ≡ (last_world w ts).live
+
 abbrev pub TurnLicensed : ℕ → Option Connection → World → World → Type 0
 TurnLicensed d (Some c) w v = LineLicensed d c.player c.editor c.waiting w v
 TurnLicensed d None w v = Undisturbed (has_number d) w v
 
--- Nothing but a line that is done changes an object. Processes end by such a line, when they run, and with the connection
+-- Nothing but a line that is done and a unit that is taken changes an object. Processes end by such a line, when they run, and with the connection
 -- that they are tied to.
 abbrev pub EventLicensed : Event → World → World → Type 0
 EventLicensed (Exec d) w v = TurnLicensed d (connection d w) w v
-EventLicensed (Slice pid) w v = Untouched w.live v.live
+EventLicensed (Slice pid) w v = SliceLicensed (units_of pid w) w v
 EventLicensed (Closed d) w v = Untouched w.live v.live × ProcessesLicensed (λ p. is_tied_to d p ≡ true) w v
 EventLicensed (Opened d) w v = Untouched w.live v.live × ProcessesLicensed NoProcess w v
 EventLicensed event w v = Undisturbed (λ c. false) w v

@@ -15,17 +15,17 @@ use Rattle.muf_model.specs.declared.code.Word.TheVariants.{Literal, Variable, Pr
 use Rattle.muf_model.specs.declared.prims.Primitive.TheVariants.{Pop, Fetch, Swap, Subtract, IntToStr, Notify, Call}
 use Rattle.muf_model.specs.Tree.{Block, stop, word, fork, try_word, Tree}
 use Rattle.muf_model.specs.Source.{last_word}
-use Rattle.muf_model.specs.Chains.{chain}
 use Rattle.spec_prims.specs.Asking.{level_fault, is_there, near_fault}
 use Rattle.spec_prims.specs.Shared.{first_fault, shared}
 use Rattle.muck_library.specs.Library.{form_at, formed}
-use Rattle.muck_queue.specs.Queues.{empty_queue, number_most, is_full, added, without}
+use Rattle.muck_queue.specs.Queues.{empty_queue, number_most, is_full, added, standing, without}
 use Rattle.spec_commands.specs.Company.{queues}
 use Rattle.spec_commands.specs.EditRows.{desk}
 use Rattle.spec_events.specs.declared.starting.Call.{Call as Started}
 use Rattle.spec_events.specs.World.{World, booted, starting, on_live}
-use Rattle.spec_events.specs.Starting.{not_compiled, too_many, new_process, word_started}
-use Rattle.spec_events.specs.Slices.{acting, row_done, needing, permitted, existing, programmed, called, program_called, deed, program_error, ran, sliced}
+use Rattle.spec_events.specs.Starting.{foreground, new_process, word_started}
+use Rattle.spec_events.specs.Following.{swept, settled}
+use Rattle.spec_events.specs.Slices.{acting, row_done, needing, permitted, existing, programmed, called, program_called, deed, program_error, turn, run_of, sliced}
 
 -- these words, one behind the other, all in line 1
 abbrev pub in_turn : List Word → Block → Block
@@ -42,7 +42,7 @@ by_one = record { player = dbref_of 1; program = dbref_of 3; trigger = dbref_of 
 
 -- the only process is that of this program
 abbrev pub running : Tree → World
-running tree = word_started 1 by_one tree (last_word tree.words) (record starting { live = desk 1 })
+running tree = (word_started (foreground 1 starting) by_one tree (last_word tree.words) (record starting { live = desk 1 })).0
 
 -- the same, where the program has this built form for those that call it
 abbrev pub calling : Tree → Tree → World
@@ -90,5 +90,5 @@ rows :
     -- a called program tells a text; and its fault is caught by its caller
     × (shown_of (calling (words tell_me) (words call_three)) ≡ shows [])
     × (shown_of (calling (words (Primitive Pop ∷ [])) try_three) ≡ shows (codes "Stack underflow."))
-unfolding digits sent_lines queue_most lines_bytes line_sent lines_sent sent object_at number_in kind_in flags_in place_in object_in list_in changed_at first_tune early_board told_one told_player unchanged tell tell_player room_zero player_one level_at owner_at flag_at owns controls_as effective inherits level user controls controls_or chain empty_queue number_most is_full added without booted starting not_compiled too_many new_process form_at formed acting level_fault is_there near_fault first_fault shared row_done needing permitted existing programmed called program_called deed program_error ran sliced
+unfolding digits sent_lines queue_most lines_bytes line_sent lines_sent sent object_at number_in kind_in flags_in place_in object_in list_in changed_at first_tune early_board told_one told_player unchanged tell tell_player room_zero player_one level_at owner_at flag_at owns controls_as effective inherits level user controls controls_or empty_queue number_most is_full added standing without booted starting new_process form_at formed acting level_fault is_there near_fault first_fault shared row_done needing permitted existing programmed called program_called deed program_error swept settled turn run_of sliced
 rows = (refl, refl, refl, refl, refl, refl)

@@ -1,11 +1,14 @@
 -- A program is started.
-use Rattle.std.specs.Prelude.{ℕ, pos, if◌then◌else◌, List, codes, Option, Some, None}
+use Rattle.std.specs.Prelude.{ℕ, ℤ, pos, ◌+ℤ◌, if◌then◌else◌, Option, Some, None, Result, Ok, Err}
 use Rattle.muck_model.specs.declared.dbref.Denial.{Denial}
 use Rattle.spec_live.specs.Lives.{tell, place_at}
 use Rattle.spec_rights.specs.declared.act.Actor.{Actor}
 use Rattle.spec_rights.specs.declared.act.Act.TheVariants.{Start}
 use Rattle.spec_rights.specs.Verdict.{verdict}
 use Rattle.spec_rights.specs.Asking.{refused}
+use Rattle.muf_model.specs.declared.fault.MufFault.{MufFault}
+use Rattle.muf_model.specs.declared.fault.MufFault.TheVariants.{NotCompiled, ProcessLimit}
+use Rattle.muf_model.specs.Faults.{text_of}
 use Rattle.muf_model.specs.Tree.{Definition, Tree}
 use Rattle.muf_model.specs.Source.{Source, last_word, started}
 use Rattle.muf_running.specs.declared.begin.Occasion.{Occasion}
@@ -15,13 +18,8 @@ use Rattle.muck_queue.specs.declared.process.Process.{Process}
 use Rattle.muck_queue.specs.declared.process.Mode.TheVariants.{Foreground}
 use Rattle.muck_queue.specs.Queues.{is_full, added}
 use Rattle.spec_events.specs.declared.starting.Call.{Call}
+use Rattle.spec_events.specs.declared.starting.Manner.{Manner}
 use Rattle.spec_events.specs.World.{World, on_live, on_queue, with_library}
-
-unfoldable pub not_compiled : List ℕ
-not_compiled = codes "Program not compiled."
-
-unfoldable pub too_many : List ℕ
-too_many = codes "Too many processes."
 
 -- what ME, LOC, TRIGGER and COMMAND are at first
 abbrev pub occasion : Call → World → Occasion
@@ -31,40 +29,52 @@ occasion c w = record { player = c.player; place = place_at c.player w.live; tri
 abbrev pub beginning : Call → Tree → Definition → World → Source
 beginning c tree word w = started (record { number = c.program.0; tree = tree }) word (common_of (occasion c w)) c.argument
 
--- a process of the connection d, in the foreground, that may go on at once
-unfoldable pub new_process : ℕ → Call → Source → World → Process
-new_process d c running w = record {
+-- as a command starts it: tied to the connection d, in the foreground, and at once
+abbrev pub foreground : ℕ → World → Manner
+foreground d w = record { descr = Some d; mode = Foreground; due = w.moment }
+
+unfoldable pub new_process : Manner → Call → Source → Process
+new_process m c running = record {
   number = pos 0;
-  due = w.moment;
+  due = m.due;
   player = c.player;
   trigger = c.trigger;
   command = c.command;
-  descr = Some d;
-  mode = Foreground;
+  descr = m.descr;
+  mode = m.mode;
   claim = None;
-  running = running;
+  running = Some running;
 }
 
--- it joins the others, where there is room for it
-abbrev pub joined : ℕ → Process → World → World
-joined d p w = if is_full p.player w.live.board.tune w.queue then on_live (tell d too_many) w else on_queue (added p) w
+-- it joins the others, where there is room for it; what is answered is its number
+abbrev pub joined : Process → World → World × Result ℤ MufFault
+joined p w = if is_full p.player w.live.board.tune w.queue then (w, Err ProcessLimit) else (on_queue (added p) w, Ok (w.queue.last +ℤ pos 1))
 
-abbrev pub word_started : ℕ → Call → Tree → Option Definition → World → World
-word_started d c tree None w = on_live (tell d not_compiled) w
-word_started d c tree (Some word) w = joined d (new_process d c (beginning c tree word w) w) w
+abbrev pub word_started : Manner → Call → Tree → Option Definition → World → World × Result ℤ MufFault
+word_started m c tree None w = (w, Err NotCompiled)
+word_started m c tree (Some word) w = joined (new_process m c (beginning c tree word w)) w
 
 -- the last word of the built form is begun
-abbrev pub form_started : ℕ → Call → Option Tree → World → World
-form_started d c None w = on_live (tell d not_compiled) w
-form_started d c (Some tree) w = word_started d c tree (last_word tree.words) w
+abbrev pub form_started : Manner → Call → Option Tree → World → World × Result ℤ MufFault
+form_started m c None w = (w, Err NotCompiled)
+form_started m c (Some tree) w = word_started m c tree (last_word tree.words) w
 
-abbrev pub built_started : ℕ → Call → Option Tree × Library → World → World
-built_started d c (form, library) w = form_started d c form (with_library library w)
+abbrev pub built_started : Manner → Call → Option Tree × Library → World → World × Result ℤ MufFault
+built_started m c (form, library) w = form_started m c form (with_library library w)
+
+-- A program is started, built where it isn't yet: the number of its process, or why there is none.
+unfoldable pub begun : Manner → Call → World → World × Result ℤ MufFault
+begun m c w = built_started m c (formed w.live.objects c.program w.library) w
+
+-- the connection d is told why not
+abbrev pub start_told : ℕ → World × Result ℤ MufFault → World
+start_told d (w, Ok pid) = w
+start_told d (w, Err fault) = on_live (tell d (text_of fault)) w
 
 abbrev pub start_judged : ℕ → Call → Option Denial → World → World
 start_judged d c (Some denial) w = on_live (refused d denial) w
-start_judged d c None w = built_started d c (formed w.live.objects c.program w.library) w
+start_judged d c None w = start_told d (begun (foreground d w) c w)
 
--- An actor starts a program from the connection d: by leave, and built where it isn't yet.
+-- An actor starts a program from the connection d, by leave.
 unfoldable pub launched : ℕ → Actor → Call → World → World
 launched d a c w = start_judged d c (verdict w.live.objects a (Start c.program)) w

@@ -1,6 +1,12 @@
 // Whom a process acts for.
-ghost use Rattle.std.specs.Prelude.{◌≡◌};
-ghost use Rattle.spec_events.specs.Slices.{agent_of};
+ghost use Rattle.std.specs.Prelude.{◌≡◌, ℤ, ℕ, true};
+ghost use Rattle.muck_model.specs.declared.dbref.Dbref.{Dbref};
+ghost use Rattle.spec_live.specs.Objects.{dbref_of};
+ghost use Rattle.muf_model.specs.Source.{Source};
+ghost use Rattle.muf_model.specs.Chains.{does};
+ghost use Rattle.spec_events.specs.World.{World};
+ghost use Rattle.spec_events.specs.Following.{is_marked, NoneIn};
+ghost use Rattle.spec_events.specs.Slices.{after_deed, agent_of, world_of};
 
 use crate::starting::Agent;
 use muck_queue::Process;
@@ -16,3 +22,9 @@ impl Agent {
         }
     }
 }
+
+/// Says that no process is in a program that a shared primitive changed or recycled, once that was done, also not the
+/// process that did it. It does nothing.
+pub fn ends_what_runs_it()
+    ensures { (pid : ℤ) (player : Dbref) (s t : Source) (w : World) (n : ℕ) → is_marked n w.live.objects ≡ true → NoneIn (dbref_of n) (world_of (after_deed pid player s (does t w))).queue.processes }
+{}

@@ -1,11 +1,12 @@
 //! What the world is and what happens in it, as definitions: `specs/` holds the record of the world with its programs and
 //! processes, which entries are lawful and what each does, and whole histories; `proofs/` holds the laws about them. The
-//! code here is two small types that those definitions speak of, and what players are told of programs that go wrong.
+//! code here is three small types that those definitions speak of, and what players are told of programs that go wrong.
 #![tactic(auto)]
 
 mod agents;
 mod starting;
 mod texts;
 
-pub use starting::{Agent, Call};
+pub use agents::ends_what_runs_it;
+pub use starting::{Agent, Call, Manner};
 pub use texts::{error_text, flaw_text};

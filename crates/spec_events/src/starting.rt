@@ -1,5 +1,6 @@
-// For whom a program runs.
+// For whom a program runs, and how.
 use muck_model::{Dbref, Line};
+use muck_queue::Mode;
 
 /// By whom and by what a program is started, with its command and what it finds on its stack.
 #[derive(Drop)]
@@ -14,6 +15,17 @@ pub struct Call {
     pub command: Line,
     /// What the program finds on its stack.
     pub argument: Line,
+}
+
+/// How a process is to run.
+#[derive(Clone, Copy, Debug, PartialEq, Eq)]
+pub struct Manner {
+    /// The connection to which it is tied.
+    pub descr: Option<u32>,
+    /// Whether it is in the foreground.
+    pub mode: Mode,
+    /// The second from which it may go on.
+    pub due: u64,
 }
 
 /// For whom a process acts.

@@ -70,7 +70,7 @@ fn add(
         descr: u32::try_from(program.0).ok(),
         mode: Mode::Foreground,
         claim: None,
-        running,
+        running: Some(running),
     };
     let added = queue.add(process, &TUNE);
     write!(out, "{added:?}")?;

@@ -15,9 +15,8 @@ ghost use Rattle.muf_running.specs.Fitting.{IsAtPrimitive};
 ghost use Rattle.muf_running.specs.Lending.{Apart, Differs, with_frame};
 ghost use Rattle.spec_prims.specs.Shared.{shared};
 ghost use Rattle.muck_library.specs.Library.{formed};
-ghost use Rattle.spec_events.specs.Slices.{acting, behind, call_count, called, called_word, deed, form_called, is_offered, row_done};
-ghost use Rattle.spec_events.specs.declared.starting.Agent.{Agent};
-ghost use Rattle.muck_machine.specs.Deeds.{asked_of, target, AppliedTo, DoneAs, Enters, IsWord, MayEnter, PassesOn, Permits};
+ghost use Rattle.spec_events.specs.Slices.{acting, behind, call_count, called_word, deed, form_called, is_offered, row_done, with_forms};
+ghost use Rattle.muck_machine.specs.Deeds.{asked_of, called_in, target, AppliedTo, DoneAs, Enters, IsWord, MayEnter, PassesOn, Permits};
 
 use crate::state::State;
 use muck_model::{Dbref, Kind, NoMemory};
@@ -129,7 +128,7 @@ impl State {
 
     fn do_call(&mut self, agent: Agent, running: Running) -> Result<Done, NoMemory>
         requires { IsAtPrimitive running.now }
-        ensures { IfOk result (λ done. DoneAs (called agent running self.old) running self.new done) }
+        ensures { IfOk result (λ done. DoneAs (called_in agent running self.old) running self.new done) }
     {
         match self.call(agent, &running) {
             Ok(entrance) => {
@@ -144,7 +143,7 @@ impl State {
     // CALL: a word of a program is to be entered.
     #[tactic(auto, unfolding(spec_events::specs::Slices::called, spec_events::specs::Slices::needing, spec_events::specs::Slices::permitted, spec_events::specs::Slices::existing, spec_events::specs::Slices::programmed, spec_events::specs::Slices::program_called))]
     fn call(&mut self, agent: Agent, running: &Running) -> Result<Entrance, DeedFault>
-        ensures { Enters (called agent running.now self.old) running.now self.new result }
+        ensures { Enters (called_in agent running.now self.old) running.now self.new result }
     {
         need(running, 1)?;
         need(running, call_count(running))?;
@@ -169,7 +168,7 @@ impl State {
         asked: Request<'_>,
     ) -> Result<Entrance, DeedFault>
         requires { asked.items ≤ length running.now.stack }
-        ensures { (x : Agent) → acting x running.now self.old.live.objects ≡ actor.now → Enters (form_called x running.now (behind (drop asked.entry.items running.now.stack) running.now) asked.entry.program.0 (option_copied asked.entry.name) (formed self.old.live.objects asked.entry.program self.old.library) self.old) running.now self.new result }
+        ensures { Enters (with_forms self.old (form_called actor.now (behind (drop asked.entry.items running.now.stack) running.now) asked.entry.program.0 (option_copied asked.entry.name) (formed self.old.live.objects asked.entry.program self.old.library))) running.now self.new result }
     {
         let Request {
             program,

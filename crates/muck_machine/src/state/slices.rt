@@ -1,144 +1,146 @@
-// Slices: a process runs to its end.
-ghost use Rattle.std.specs.Prelude.{◌≡◌, ◌<◌, OnOk, IfOk, suc};
+// Slices: the units of a process, one behind the other.
+ghost use Rattle.std.specs.Prelude.{◌≡◌, OnOk, IfOk, None};
 ghost use Rattle.muck_model.specs.declared.event.Event.{Event};
-ghost use Rattle.muf_model.specs.Chains.{chain, StandsAt};
-ghost use Rattle.spec_events.specs.World.{on_live};
-ghost use Rattle.spec_events.specs.Slices.{deed, finish_shown, ran};
+ghost use Rattle.muf_model.specs.Chains.{StandsAt};
+ghost use Rattle.muf_model.specs.Unit.{fault};
+ghost use Rattle.muck_queue.specs.Queues.{standing};
+ghost use Rattle.spec_events.specs.World.{on_queue};
+ghost use Rattle.spec_events.specs.Slices.{after_deed, broken, deed, last_world, run_of, seat, went};
 ghost use Rattle.spec_events.specs.Steps.{happened};
-ghost use Rattle.muck_machine.specs.Deeds.{finish_of, Stops, StopsAfter, StopsRaised};
+ghost use Rattle.muck_machine.specs.Deeds.{Stops, turn_to};
 
 use crate::state::State;
 use crate::state::deeds::Done;
 use muck_model::{Dbref, NoMemory};
-use muck_queue::Process;
 use muf_model::{MufFault, Prim};
 use muf_running::{Ran, Running, Stint};
 use spec_events::{Agent, error_text};
-use std::alloc::Global;
-
-/// How a process ended: by itself, or by a fault of a program that no TRY caught.
-#[derive(Drop)]
-pub enum Ending {
-    Over,
-    Broke { program: Dbref, fault: MufFault },
-}
-
-/// How far a stint of a process went: it goes on, with so many units left, or has ended.
-#[derive(Drop)]
-pub enum Stop {
-    On(Running, u32),
-    Over(Ending),
-}
 
 impl State {
-    /// The process of a number runs to its end; where there is none nothing happens. It takes as many steps as the
-    /// process takes units, and each costs what it touches.
-    #[tactic(auto, unfolding(spec_events::specs::Slices::sliced), using(crate::proofs::Slices::none_taken))]
+    /// The units of a process, as many as any process may take, until it is over; where there is none nothing happens.
+    /// Each unit costs what it touches. Before and after those that run at once the process is looked for, which is a
+    /// pass over at most 400.
+    #[tactic(auto, unfolding(spec_events::specs::Slices::sliced))]
     pub fn slice(&mut self, pid: i32) -> Result<(), NoMemory>
         ensures { OnOk result (self.new ≡ happened self.old 0 (Event.Slice pid)) }
     {
-        match self.queue.take(pid) {
-            Some(process) => self.run(process),
-            None => Ok(()),
-        }
-    }
-
-    // A process that is out of the queue runs to its end, in as many units as any process may take.
-    #[tactic(auto, unfolding(spec_events::specs::Slices::ran))]
-    fn run(&mut self, process: Process) -> Result<(), NoMemory>
-        ensures { OnOk result (self.new ≡ ran process self.old) }
-    {
-        let agent = Agent::of(&process);
         let limit = self.board.tune().m2_units;
-        let ending = self.run_on(agent, process.running, limit)?;
-        self.show_ending(agent.player, ending)
+        self.take_units(pid, limit)
     }
 
-    // A process runs to its end, in so many units at most.
-    #[tactic(auto, unfolding(muf_model::specs::Chains::chain))]
-    fn run_on(&mut self, agent: Agent, running: Running, limit: u32) -> Result<Ending, NoMemory>
-        ensures { IfOk result (λ ending. chain (deed agent) limit running self.old ≡ (self.new, finish_of ending)) }
+    // The units of a process that has so many.
+    fn take_units(&mut self, pid: i32, limit: u32) -> Result<(), NoMemory>
+        ensures { OnOk result (self.new ≡ last_world self.old (run_of limit pid self.old)) }
     {
-        let mut current = running;
         let mut left = limit;
-        while left > 0 {
-            match self.stint(agent, current, left)? {
-                Stop::On(next, units) => {
-                    current = next;
-                    left = units;
-                }
-                Stop::Over(ending) => return Ok(ending),
-            }
+        while let Some(units) = self.stint(pid, left)? {
+            left = units;
         }
-        Ok(Ending::Broke {
-            program: current.program(),
-            fault: MufFault::TooManyUnits,
-        })
+        Ok(())
     }
 
-    // Many units at once, and a shared primitive where one is asked for.
-    fn stint(&mut self, agent: Agent, running: Running, left: u32) -> Result<Stop, NoMemory>
-        requires { 0 < left }
-        ensures { IfOk result (λ stop. Stops (deed agent) left running self.old self.new stop) }
+    // Many units at once, and a shared primitive where one is asked for; answers how many are left, where it goes on.
+    fn stint(&mut self, pid: i32, left: u32) -> Result<Option<u32>, NoMemory>
+        ensures { IfOk result (λ next. Stops pid left self.old self.new next) }
     {
+        let Some((agent, running)) = self.lend(pid) else {
+            return Ok(None);
+        };
         let program = running.program();
+        if left == 0 {
+            self.end_broken(pid, agent.player, program, MufFault::TooManyUnits)?;
+            return Ok(None);
+        }
         let Stint { ran, units } = running.run(self.alloc, left)?;
         match ran {
-            Ran::Going(next) => Ok(Stop::On(next, left - units)),
-            Ran::Asking(prim, at) => self.ask(agent, prim, at, left - units - 1),
-            Ran::Ended => Ok(Stop::Over(Ending::Over)),
-            Ran::Faulted(fault) => Ok(Stop::Over(Ending::Broke { program, fault })),
+            Ran::Going(next) => {
+                self.queue.put_back(pid, next);
+                Ok(Some(left - units))
+            }
+            Ran::Asking(prim, at) => {
+                let goes_on = self.ask(pid, agent, prim, at)?;
+                let rest = left - units - 1;
+                Ok(if goes_on { Some(rest) } else { None })
+            }
+            Ran::Ended => {
+                self.queue.take(pid);
+                Ok(None)
+            }
+            Ran::Faulted(fault) => {
+                self.end_broken(pid, agent.player, program, fault)?;
+                Ok(None)
+            }
         }
     }
 
-    // The shared primitive that is asked for, which is a unit, with so many left behind it.
+    // For whom a process acts as the world is, and its state, which is out of it from now on.
+    fn lend(&mut self, pid: i32) -> Option<(Agent, Running)>
+        ensures seat { result ≡ seat pid self.old }
+        ensures out { self.new ≡ on_queue (standing pid None) self.old }
+    {
+        let agent = Agent::of(self.queue.get(pid)?);
+        let running = self.queue.lend(pid)?;
+        Some((agent, running))
+    }
+
+    // The shared primitive that is asked for, and what follows from it; answers whether the process goes on.
     fn ask(
         &mut self,
+        pid: i32,
         agent: Agent,
         prim: Prim,
         running: Running,
-        left: u32,
-    ) -> Result<Stop, NoMemory>
+    ) -> Result<bool, NoMemory>
         requires { StandsAt prim running }
-        ensures { IfOk result (λ stop. Stops (deed agent) (suc left) running self.old self.new stop) }
+        ensures { IfOk result (λ goes_on. after_deed pid agent.player running (deed agent prim running self.old) ≡ turn_to goes_on self.new) }
     {
-        let done = self.do_deed(agent, prim, running)?;
-        after_deed(self.alloc, done, left)
+        match self.do_deed(agent, prim, running)? {
+            Done::Does(next) => {
+                self.queue.put_back(pid, next);
+                self.settle();
+                Ok(true)
+            }
+            Done::Fails(at, fault) => self.raise(pid, agent.player, at, fault),
+        }
     }
 
-    // The player of a process is told of the fault that ended it.
-    #[tactic(auto, unfolding(spec_live::specs::Lives::tell_player, spec_live::specs::Lives::unchanged))]
-    fn show_ending(&mut self, player: Dbref, ending: Ending) -> Result<(), NoMemory>
-        ensures { OnOk result (self.new ≡ on_live (finish_shown player (finish_of ending)) self.old) }
+    // A fault: the process goes on where it was caught, and else ends; answers whether it goes on.
+    fn raise(
+        &mut self,
+        pid: i32,
+        player: Dbref,
+        running: Running,
+        raised: MufFault,
+    ) -> Result<bool, NoMemory>
+        ensures { IfOk result (λ goes_on. went pid player running.program.number (fault raised running) self.old ≡ turn_to goes_on self.new) }
     {
-        match ending {
-            Ending::Over => Ok(()),
-            Ending::Broke { program, fault } => {
-                let text = error_text(self.alloc, program, &fault)?;
-                self.board.tell_player(player, text.as_slice())?;
-                Ok(())
+        let program = running.program();
+        match running.raise(self.alloc, &raised)? {
+            Some(caught) => {
+                self.queue.put_back(pid, caught);
+                Ok(true)
+            }
+            None => {
+                self.end_broken(pid, player, program, raised)?;
+                Ok(false)
             }
         }
     }
-}
 
-// After a shared primitive, with so many units left.
-fn after_deed(alloc: Global, done: Done, left: u32) -> Result<Stop, NoMemory>
-    ensures { IfOk result (λ stop. StopsAfter done left stop) }
-{
-    match done {
-        Done::Does(next) => Ok(Stop::On(next, left)),
-        Done::Fails(at, fault) => raised(alloc, at, fault, left),
-    }
-}
-
-// After a fault: the process goes on where it was caught, and else ends.
-fn raised(alloc: Global, running: Running, fault: MufFault, left: u32) -> Result<Stop, NoMemory>
-    ensures { IfOk result (λ stop. StopsRaised fault running left stop) }
-{
-    let program = running.program();
-    match running.raise(alloc, &fault)? {
-        Some(caught) => Ok(Stop::On(caught, left)),
-        None => Ok(Stop::Over(Ending::Broke { program, fault })),
+    // A process ends by a fault, of which its player is told.
+    #[tactic(auto, unfolding(spec_live::specs::Lives::tell_player))]
+    fn end_broken(
+        &mut self,
+        pid: i32,
+        player: Dbref,
+        program: Dbref,
+        fault: MufFault,
+    ) -> Result<(), NoMemory>
+        ensures { OnOk result (self.new ≡ broken pid player program.0 fault self.old) }
+    {
+        self.queue.take(pid);
+        let text = error_text(self.alloc, program, &fault)?;
+        self.board.tell_player(player, text.as_slice())?;
+        Ok(())
     }
 }

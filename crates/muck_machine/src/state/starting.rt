@@ -1,21 +1,23 @@
 // Programs that are started.
 ghost use Rattle.std.specs.Prelude.{◌≡◌, OnOk, Some};
-ghost use Rattle.spec_live.specs.Lives.{place_at};
+ghost use Rattle.spec_live.specs.Lives.{place_at, tell};
 ghost use Rattle.spec_rights.specs.Asking.{refused};
 ghost use Rattle.muf_model.specs.Decode.{tree_of};
+ghost use Rattle.muf_model.specs.Faults.{text_of};
 ghost use Rattle.muf_model.specs.Stands.{TreeStands};
-ghost use Rattle.muck_library.specs.Library.{formed};
 ghost use Rattle.spec_events.specs.World.{on_live};
-ghost use Rattle.spec_events.specs.Starting.{joined, form_started, built_started, launched};
+ghost use Rattle.spec_events.specs.Starting.{begun, foreground, form_started, joined, launched, start_told};
+ghost use Rattle.muck_machine.specs.Deeds.{Begins, StartsAs};
 
 use crate::state::State;
+use crate::state::deeds::DeedFault;
 use cmd_common::refuse;
 use muck_model::{Dbref, Denial, NoMemory};
 use muck_perm::{Guard, verdict};
 use muck_queue::{Mode, Process, QueueFault};
-use muf_model::{Code, Shared};
+use muf_model::{Code, MufFault, Shared};
 use muf_running::{Occasion, Running};
-use spec_events::Call;
+use spec_events::{Call, Manner};
 use spec_rights::{Act, Actor};
 
 impl State {
@@ -43,14 +45,40 @@ impl State {
         Ok(())
     }
 
-    // Starts a program from its built form, which is made where it isn't there yet.
-    #[tactic(auto, unfolding(spec_events::specs::Starting::not_compiled))]
+    // Starts a program from the connection d, in the foreground; where it isn't started the connection is told why.
     fn start(&mut self, d: u32, call: Call) -> Result<(), NoMemory>
-        ensures { OnOk result (self.new ≡ built_started d call (formed self.old.live.objects call.program self.old.library) self.old) }
+        ensures { OnOk result (self.new ≡ start_told d (begun (foreground d self.old) call self.old)) }
+    {
+        let manner = Manner {
+            descr: Some(d),
+            mode: Mode::Foreground,
+            due: self.moment,
+        };
+        match self.begin(manner, call) {
+            Ok(_) => Ok(()),
+            Err(DeedFault::Fault(fault)) => self.tell_fault(d, &fault),
+            Err(DeedFault::NoMemory) => Err(NoMemory),
+        }
+    }
+
+    // A connection is told of a fault.
+    fn tell_fault(&mut self, d: u32, fault: &MufFault) -> Result<(), NoMemory>
+        ensures { OnOk result (self.new ≡ on_live (tell d (text_of fault.now)) self.old) }
+    {
+        let text = fault.text(self.alloc)?;
+        self.tell(d, text.as_slice())
+    }
+
+    /// Starts a program from its built form, which is made where it isn't there yet, and answers the number of its
+    /// process. `NotCompiled` comes where it can't be built or has no word, `ProcessLimit` where there are too many
+    /// processes; then no process has come.
+    #[tactic(auto, unfolding(spec_events::specs::Starting::begun))]
+    pub fn begin(&mut self, manner: Manner, call: Call) -> Result<i32, DeedFault>
+        ensures { Begins (begun manner call self.old) self.new result }
     {
         match self.library.formed(self.alloc, &self.db, call.program)? {
-            None => self.tell(d, b"Program not compiled."),
-            Some(code) => self.begin(d, call, code),
+            None => Err(DeedFault::Fault(MufFault::NotCompiled)),
+            Some(code) => self.begin_word(manner, call, code),
         }
     }
 
@@ -65,10 +93,15 @@ impl State {
     }
 
     // A new process begins in the last word of a program.
-    #[tactic(auto, unfolding(spec_events::specs::Starting::not_compiled, spec_events::specs::Starting::new_process))]
-    fn begin(&mut self, d: u32, call: Call, code: Shared<Code>) -> Result<(), NoMemory>
+    #[tactic(auto, unfolding(spec_events::specs::Starting::new_process))]
+    fn begin_word(
+        &mut self,
+        manner: Manner,
+        call: Call,
+        code: Shared<Code>,
+    ) -> Result<i32, DeedFault>
         requires { TreeStands code (tree_of code) }
-        ensures { OnOk result (self.new ≡ form_started d call (Some (tree_of code)) self.old) }
+        ensures { Begins (form_started manner call (Some (tree_of code)) self.old) self.new result }
     {
         let Call {
             player,
@@ -83,35 +116,40 @@ impl State {
             trigger,
             command: command.copy(self.alloc)?,
         };
+        let Manner { descr, mode, due } = manner;
         match Running::begin(self.alloc, program, code, occasion, argument)? {
-            None => self.tell(d, b"Program not compiled."),
-            Some(running) => self.join(
-                d,
-                Process {
-                    number: 0,
-                    due: self.moment,
-                    player,
-                    trigger,
-                    command,
-                    descr: Some(d),
-                    mode: Mode::Foreground,
-                    claim: None,
-                    running,
-                },
-            ),
+            None => Err(DeedFault::Fault(MufFault::NotCompiled)),
+            Some(running) => self.join(Process {
+                number: 0,
+                due,
+                player,
+                trigger,
+                command,
+                descr,
+                mode,
+                claim: None,
+                running: Some(running),
+            }),
         }
     }
 
     // A process joins the others, where there is room for it.
-    #[tactic(auto, unfolding(spec_events::specs::Starting::too_many))]
-    fn join(&mut self, d: u32, process: Process) -> Result<(), NoMemory>
-        ensures { OnOk result (self.new ≡ joined d process self.old) }
+    fn join(&mut self, process: Process) -> Result<i32, DeedFault>
+        ensures { Begins (joined process self.old) self.new result }
     {
         let tune = self.board.tune();
-        match self.queue.add(process, &tune) {
-            Ok(_) => Ok(()),
-            Err(QueueFault::ProcessLimit) => self.tell(d, b"Too many processes."),
-            Err(QueueFault::NoMemory) => Err(NoMemory),
-        }
+        let added = self.queue.add(process, &tune);
+        started(added)
+    }
+}
+
+// What a start answers, once its process was added or refused.
+fn started(added: Result<i32, QueueFault>) -> Result<i32, DeedFault>
+    ensures { StartsAs added result }
+{
+    match added {
+        Ok(number) => Ok(number),
+        Err(QueueFault::ProcessLimit) => Err(DeedFault::Fault(MufFault::ProcessLimit)),
+        Err(QueueFault::NoMemory) => Err(DeedFault::NoMemory),
     }
 }

@@ -14,8 +14,8 @@ abbrev pub program_of : ℤ → Program
 program_of number = record { number = number; tree = record { words = []; variables = 0 } }
 
 -- a program that runs, called from the others, the nearest first
-abbrev pub state_of : ℤ → List ℤ → Source
-state_of number callers = record {
+abbrev pub standing_in : ℤ → List ℤ → Source
+standing_in number callers = record {
   stack = [];
   common = [];
   owned = [];
@@ -37,7 +37,7 @@ process_in program callers n due = record {
   descr = None;
   mode = Foreground;
   claim = None;
-  running = state_of program callers;
+  running = Some (standing_in program callers);
 }
 
 -- one that runs program #5
