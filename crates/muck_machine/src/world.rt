@@ -4,16 +4,21 @@ ghost use Rattle.std.specs.Option.{option_map_or};
 ghost use Rattle.muck_model.specs.declared.event.Event.{Event};
 ghost use Rattle.spec_events.specs.World.{starting, booted, connection, queue_of, is_leaving};
 ghost use Rattle.spec_events.specs.Steps.{is_lawful, next_ready, next_process};
-ghost use Rattle.spec_events.specs.Histories.{now, entered, by_porter};
+ghost use Rattle.spec_events.specs.Histories.{now, entered, by_porter, AllLawful};
 
 use crate::origin::{Begun, Origin};
 use crate::past::Past;
-use crate::state::State;
-use muck_board::Connection;
+use crate::state::{State, WELCOME};
+use muck_board::{Board, Connection};
 use muck_db::{Db, Persisted};
+use muck_library::Library;
 use muck_model::{Entry, Event, Line, NoMemory, Tale, Tune};
+use muck_queue::Queue;
 use std::alloc::Global;
 use std::marker::Model;
+
+/// The most connections.
+const CONNECTIONS_MOST: usize = 256;
 
 /// What a wizard tuned before anybody did.
 const FIRST_TUNE: Tune = Tune {
@@ -29,6 +34,7 @@ const FIRST_TUNE: Tune = Tune {
 
 /// The world. Contracts see it as its history: how it began, and each entry since. The world as it is now is the one
 /// after these entries. A dead world has lost memory in the midst of something: it takes no entry any more but `Died`.
+/// Each call enters one entry at most, which is lawful where it stands.
 #[derive(Drop)]
 pub struct World {
     state: State,
@@ -56,6 +62,7 @@ impl Model for World {
 impl World {
     /// The world of these objects and parameters at this second, in which nobody is connected and nothing has happened
     /// yet; its random numbers begin with `start`.
+    #[tactic(auto, unfolding(spec_events::specs::World::booted))]
     pub fn boot(alloc: Global, from: Persisted, moment: u64, start: u64) -> Result<Self, NoMemory>
         ensures { IfOk result (λ w. w ≡ record { start = booted from.db from.tune moment start; entries = [] }) }
     {
@@ -70,7 +77,15 @@ impl World {
         let tale = Tale::new(alloc)?;
         let Begun { db, tune, .. } = begun;
         Ok(World {
-            state: State::booted(alloc, db, tune, moment, start),
+            state: State {
+                alloc,
+                db,
+                board: Board::new(alloc, start, tune),
+                library: Library::new(alloc),
+                queue: Queue::new(alloc),
+                moment,
+                stopping: false,
+            },
             past: Past {
                 origin,
                 tale,
@@ -96,18 +111,20 @@ impl World {
         )
     }
 
-    /// The history, for contracts alone. It takes no memory.
+    /// The history, for contracts alone: each entry of it is lawful where it stands. It takes no memory.
     pub fn into_tale(self) -> Tale
-        ensures { result.entries ≡ self.entries }
+        ensures entries { result.entries ≡ self.entries }
+        ensures lawful { AllLawful self.start result.entries }
     {
         let World { past, .. } = self;
         past.tale
     }
 
-    /// Whether memory was wanted, after which no entry but `Died` is lawful.
+    /// Whether memory was wanted, after which no entry but `Died` is lawful. Each entry so far was lawful where it stands.
     #[tactic(auto, unfolding(spec_events::specs::Histories::now))]
     pub fn is_dead(&self) -> bool
-        ensures { result ≡ (now self.now).dead }
+        ensures dead { result ≡ (now self.now).dead }
+        ensures lawful { AllLawful self.now.start self.now.entries }
     {
         self.past.dead
     }
@@ -128,7 +145,8 @@ impl World {
             party: 0,
             event: Event::Halt,
         });
-        self.state.halt();
+        let state = &mut self.state;
+        state.stopping = true;
     }
 
     // Whether a connection of this number may come.
@@ -138,7 +156,9 @@ impl World {
         if self.past.dead {
             return false;
         }
-        self.state.may_open(d)
+        let state = &self.state;
+        let connections = state.board.connections();
+        state.board.connection(d).is_none() && connections.len() < CONNECTIONS_MOST && !state.stopping
     }
 
     // Whether a line may come on this connection.
@@ -148,7 +168,11 @@ impl World {
         if self.past.dead {
             return false;
         }
-        self.state.may_take_line(d)
+        let state = &self.state;
+        match state.board.connection(d) {
+            Some(c) => c.takes_line() && !state.stopping,
+            None => false,
+        }
     }
 
     /// A connection comes; `false` exactly where it may not, and then nothing happened. After `NoMemory` the world is
@@ -161,7 +185,8 @@ impl World {
         if !self.may_open(d) {
             return Ok(false);
         }
-        let done = self.state.open(d);
+        let state = &mut self.state;
+        let done = state.board.open(d, WELCOME);
         let entry = Entry {
             party: 0,
             event: Event::Opened { d },
@@ -175,20 +200,18 @@ impl World {
     pub fn input(&mut self, d: u32, line: Line) -> Result<bool, NoMemory>
         ensures lawful { IfOk result (λ yes. yes ≡ is_lawful (now self.old) (by_porter (Event.Input d line))) }
         ensures step { IfOk result (λ yes. self.new ≡ (if yes then entered self.old (by_porter (Event.Input d line)) else self.old)) }
-        ensures died { OnErr result (self.new ≡ entered (entered self.old (by_porter (Event.Input d line))) (by_porter Event.Died)) }
-        ensures may { OnErr result (is_lawful (now self.old) (by_porter (Event.Input d line)) ≡ true) }
+        ensures died { OnErr result (self.new ≡ entered self.old (by_porter Event.Died)) }
     {
         if !self.may_take_line(d) {
             return Ok(false);
         }
-        self.past.tale.tell_input(0, d, &line);
-        match self.state.add_line(d, line) {
-            Ok(()) => Ok(true),
-            Err(NoMemory) => {
-                self.past.lose(0);
-                Err(NoMemory)
-            }
-        }
+        let done = self.state.hear(d, &line);
+        let entry = Entry {
+            party: 0,
+            event: Event::Input { d, line },
+        };
+        self.past.conclude(entry, done)?;
+        Ok(true)
     }
 
     /// A connection goes, and where it was a player's last one, others are told. After `NoMemory` the world is dead.
@@ -209,10 +232,11 @@ impl World {
     fn next_ready(&self) -> Option<u32>
         ensures { result ≡ next_ready (now self.now) }
     {
-        if self.past.dead {
+        let state = &self.state;
+        if self.past.dead || state.stopping {
             return None;
         }
-        self.state.first_ready()
+        Some(state.first_free()?.number())
     }
 
     /// The first line of the lowest connection with a line that may be done is done; answers that connection, and
@@ -240,12 +264,11 @@ impl World {
         ensures found { result ≡ next_process (now self.old) }
         ensures step { MatchOption result (self.new ≡ self.old) (λ pid. self.new ≡ entered self.old (record { party = party; event = Event.Claim pid })) }
     {
-        if self.past.dead {
+        let state = &mut self.state;
+        if self.past.dead || state.stopping {
             return None;
         }
-        let Some(pid) = self.state.claim(party) else {
-            return None;
-        };
+        let pid = state.queue.claim(party, state.moment)?;
         self.past.enter(Entry {
             party,
             event: Event::Claim { pid },
@@ -278,7 +301,8 @@ impl World {
         if self.past.dead {
             return 0;
         }
-        let n = self.state.take(d, buf);
+        let state = &mut self.state;
+        let n = state.board.take(d, buf);
         if n > 0 {
             self.past.enter(Entry {
                 party: 0,
@@ -292,14 +316,16 @@ impl World {
     pub fn is_stopping(&self) -> bool
         ensures { (now self.now).dead ≡ false → result ≡ (now self.now).stopping }
     {
-        self.state.is_stopping()
+        let state = &self.state;
+        state.stopping
     }
 
     // The connection of that number. On a dead world nothing is said of the answer.
     fn connection(&self, d: u32) -> Option<&Connection>
         ensures { (now self.now).dead ≡ false → option_copied result ≡ connection d (now self.now) }
     {
-        self.state.board().connection(d)
+        let state = &self.state;
+        state.board.connection(d)
     }
 
     /// Whether the connection is there. On a dead world nothing is said of the answer.

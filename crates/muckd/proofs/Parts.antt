@@ -8,11 +8,10 @@ use Rattle.muck_io.specs.Sink.{Appends, AppendsFront}
 use Rattle.muck_model.specs.declared.event.Entry.{Entry}
 use Rattle.muck_model.specs.declared.event.Event.{Event}
 use Rattle.muck_model.specs.declared.event.Event.TheVariants.{Opened, Input, Closed, Take, Died}
-use Rattle.spec_events.specs.World.{World, connection, queue_of, is_leaving}
+use Rattle.spec_events.specs.World.{World, queue_of, is_leaving}
 use Rattle.spec_events.specs.Steps.{effect, is_lawful, is_died}
 use Rattle.spec_events.specs.Histories.{History, after, now, extended, entered, by_porter}
 use Rattle.spec_events.proofs.Living.{dead-happened}
-use Rattle.spec_events.proofs.Reached.{leaving_some}
 use Rattle.spec_events.proofs.Runs.{now-extended, extended-append}
 use Rattle.muck_script.specs.Lines.{lines_of}
 use Rattle.muck_script.specs.Story.{both, if_lawful, taken, told, text_of, shown, farewell}
@@ -89,13 +88,6 @@ pub input_silent : (d : ℕ) (line : List ℕ) (w : World) → told w (Input d l
 unfolding told
 input_silent d line w = refl
 
--- a line was entered, and then memory was wanted
-pub input_breaks : (d : ℕ) (line : List ℕ) (h k : History) (o : Option (List ℕ)) → is_lawful (now h) (by_porter (Input d line)) ≡ true →
-    k ≡ entered (entered h (by_porter (Input d line))) (by_porter Died) → Breaks (if_lawful (Input d line)) (by_porter Died ∷ []) h k o o
-input_breaks d line h k o may is =
-    breaks_after (if_lawful (Input d line)) (by_porter Died ∷ []) h k o o (Input d line) [] (cond-true _ _ _ may)
-    (is ∙ extended-append h (by_porter (Input d line) ∷ []) (by_porter Died ∷ [])) (sym (input_silent d line (now h))) (front_nothing o []) (λ x. no_ending x)
-
 -- what is taken of a queue that isn't empty
 pub taken_some : (d n : ℕ) (w : World) → n ≡ length (queue_of d w) → 0 < n → taken d w ≡ by_porter (Take d n) ∷ []
 taken_some d n w e some = cond-true _ _ _ (lt-ltb 0 (length (queue_of d w)) (omega (arith, e, some))) ∙ ap (λ k. by_porter (Take d k) ∷ []) (sym e)
@@ -115,11 +107,6 @@ text_taken d n w text buf cut is = is ∙ ap (λ bytes. flat_map (shown d) (line
 pub text_parted : (d : ℕ) (w : World) (text : List ℕ) → is_leaving d w ≡ true → text ≡ farewell d → text ≡ told w (Closed d)
 unfolding told
 text_parted d w text leaving is = is ∙ sym (cond-true _ _ _ leaving)
-
--- closing a connection that is leaving is lawful
-pub closing_may : (d : ℕ) (w : World) → w.dead ≡ false → is_leaving d w ≡ true → is_lawful w (by_porter (Closed d)) ≡ true
-unfolding is_lawful
-closing_may d w alive e = cond-false _ _ _ alive ∙ leaving_some (connection d w) e
 
 -- one part and then another
 pub plays_both : (f g : World → List Entry) (h k m : History) (a b c : Option (List ℕ)) → Plays f h k a b → Plays g k m b c → Plays (both f g) h m a c

@@ -2,11 +2,12 @@ use Rattle.std.proofs.Common.{◌≡◌, true, [], refl, sym, ◌∙◌}
 use Rattle.std.proofs.lemmas.Bool.{cond-true}
 use Rattle.spec_events.specs.World.{is_leaving}
 use Rattle.spec_events.specs.Histories.{now}
-use Rattle.muckd.proofs.Parts.{plays_one, breaks_after, text_parted, closing_may, lives_on}
+use Rattle.spec_events.proofs.Reached.{close_lawful}
+use Rattle.muckd.proofs.Parts.{plays_one, breaks_after, text_parted, lives_on}
 use Rattle.muckd.proofs.playing.part.Goals as goal
 
 pub closed-requires : goal.closed-requires
-closed-requires g c = closing_may _ _ c.requires (sym (c.leaving.ensures c.requires) ∙ c.if-not-leaving.false)
+closed-requires g c = close_lawful _ _ c.requires (sym (c.leaving.ensures c.requires) ∙ c.if-not-leaving.false)
 
 pub returns-in-Ok-write_all-clause-plays : goal.returns-in-Ok-write_all-clause-plays
 returns-in-Ok-write_all-clause-plays g c =
