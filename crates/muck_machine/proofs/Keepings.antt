@@ -1,5 +1,5 @@
 -- A world stays the one after its history.
-use Rattle.std.proofs.Common.{◌≡◌, ◌≢◌, ℕ, ◌<◌, Bool, true, false, cond, List, [], ◌∷◌, ◌++◌, refl, sym, ◌∙◌, ap, subst, find, ◌||◌, Option, None, Some, Result, Ok, Err, OnOk, OnErr}
+use Rattle.std.proofs.Common.{◌≡◌, ◌≢◌, ℕ, Bool, true, false, cond, List, [], ◌∷◌, ◌++◌, refl, sym, ◌∙◌, ap, subst, find, ◌||◌, Option, None, Some, Result, Ok, Err, OnOk}
 use Rattle.std.proofs.lemmas.Bool.{cond-true, cond-false}
 use Rattle.std.specs.Prelude.{ℤ}
 use Rattle.std.specs.Option.{option_map}
@@ -99,6 +99,18 @@ pub lawful_as : (p : Past) (allowed : Bool) (state : World) (h : History) (e : E
 unfolding now is_lawful
 lawful_as p allowed state h e k v alive is =
     is ∙ ap (λ w. is_allowed w e.party e.event) (k.lives alive ∙ ap now v) ∙ sym (cond-false _ _ _ (dead_seen p state h k v ∙ alive))
+
+-- a world begins, in which nothing has happened yet
+pub keeps_begun : (p : Past) (state : World) → p.tale ≡ record { entries = []; open_ended = true } → p.dead ≡ false → IsSound p.origin → state ≡ p.origin → Keeps p state
+keeps_begun p state t alive sound is =
+    let none : p.tale.entries ≡ [] = ap (λ (x : Told). x.entries) t in
+    record {
+      grows = ap (λ (x : Told). x.open_ended) t;
+      lawful = subst (AllLawful p.origin) (sym none) tt;
+      dies = ap (λ (es : List Entry). (after p.origin es).dead) none ∙ sound.alive ∙ sym alive;
+      sound = λ h. subst (λ (es : List Entry). IsSound (after p.origin es)) (sym none) sound;
+      lives = λ h. is ∙ sym (ap (after p.origin) none);
+    }
 
 -- where it isn't, it is the state that is kept
 pub state_seen : (p : Past) (state : World) (h : History) → Keeps p state → history p ≡ h → p.dead ≡ false → state ≡ now h

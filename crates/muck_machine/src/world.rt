@@ -9,16 +9,11 @@ ghost use Rattle.spec_events.specs.Histories.{now, entered, by_porter, AllLawful
 use crate::origin::{Begun, Origin};
 use crate::past::Past;
 use crate::state::{State, WELCOME};
-use muck_board::{Board, Connection};
+use muck_board::Connection;
 use muck_db::{Db, Persisted};
-use muck_library::Library;
 use muck_model::{Entry, Event, Line, NoMemory, Tale, Tune};
-use muck_queue::Queue;
 use std::alloc::Global;
 use std::marker::Model;
-
-/// The most connections.
-const CONNECTIONS_MOST: usize = 256;
 
 /// What a wizard tuned before anybody did.
 const FIRST_TUNE: Tune = Tune {
@@ -62,7 +57,6 @@ impl Model for World {
 impl World {
     /// The world of these objects and parameters at this second, in which nobody is connected and nothing has happened
     /// yet; its random numbers begin with `start`.
-    #[tactic(auto, unfolding(spec_events::specs::World::booted))]
     pub fn boot(alloc: Global, from: Persisted, moment: u64, start: u64) -> Result<Self, NoMemory>
         ensures { IfOk result (λ w. w ≡ record { start = booted from.db from.tune moment start; entries = [] }) }
     {
@@ -77,15 +71,7 @@ impl World {
         let tale = Tale::new(alloc)?;
         let Begun { db, tune, .. } = begun;
         Ok(World {
-            state: State {
-                alloc,
-                db,
-                board: Board::new(alloc, start, tune),
-                library: Library::new(alloc),
-                queue: Queue::new(alloc),
-                moment,
-                stopping: false,
-            },
+            state: State::booted(alloc, db, tune, moment, start),
             past: Past {
                 origin,
                 tale,
@@ -156,9 +142,7 @@ impl World {
         if self.past.dead {
             return false;
         }
-        let state = &self.state;
-        let connections = state.board.connections();
-        state.board.connection(d).is_none() && connections.len() < CONNECTIONS_MOST && !state.stopping
+        self.state.may_open(d)
     }
 
     // Whether a line may come on this connection.
@@ -168,11 +152,7 @@ impl World {
         if self.past.dead {
             return false;
         }
-        let state = &self.state;
-        match state.board.connection(d) {
-            Some(c) => c.takes_line() && !state.stopping,
-            None => false,
-        }
+        self.state.may_take_line(d)
     }
 
     /// A connection comes; `false` exactly where it may not, and then nothing happened. After `NoMemory` the world is
@@ -232,11 +212,10 @@ impl World {
     fn next_ready(&self) -> Option<u32>
         ensures { result ≡ next_ready (now self.now) }
     {
-        let state = &self.state;
-        if self.past.dead || state.stopping {
+        if self.past.dead {
             return None;
         }
-        Some(state.first_free()?.number())
+        self.state.first_ready()
     }
 
     /// The first line of the lowest connection with a line that may be done is done; answers that connection, and
@@ -264,11 +243,12 @@ impl World {
         ensures found { result ≡ next_process (now self.old) }
         ensures step { MatchOption result (self.new ≡ self.old) (λ pid. self.new ≡ entered self.old (record { party = party; event = Event.Claim pid })) }
     {
-        let state = &mut self.state;
-        if self.past.dead || state.stopping {
+        if self.past.dead {
             return None;
         }
-        let pid = state.queue.claim(party, state.moment)?;
+        let Some(pid) = self.state.claim(party) else {
+            return None;
+        };
         self.past.enter(Entry {
             party,
             event: Event::Claim { pid },

@@ -1,14 +1,15 @@
 -- Whole runs on the starting world, and runs that broke off.
 use Rattle.std.proofs.Common.{◌≡◌, ℕ, ◌+◌, ◌<◌, ◌≤◌, Bool, true, false, List, [], ◌∷◌, ◌++◌, length, take, refl, sym, ◌∙◌, ap, subst, arith, append-nil, Option, Some, None, Result, Ok, Err}
 use Rattle.muck_script.proofs.Cuts.{script_long}
-use Rattle.std.proofs.lemmas.Bool.{ltb-true, ltb-false}
+use Rattle.std.proofs.lemmas.Bool.{ltb-true, ltb-false, cond-true, cond-false}
 use Rattle.std.proofs.lemmas.List.{take_all, drop_all, length-take}
 use Rattle.std.specs.Prelude.{nat_lt}
 use Rattle.muck_io.specs.Source.{HasReadAll}
 use Rattle.muck_model.specs.declared.event.Entry.{Entry}
-use Rattle.muck_model.specs.declared.event.Event.TheVariants.{Died}
+use Rattle.muck_model.specs.declared.event.Event.TheVariants.{Halt, Died}
 use Rattle.spec_events.specs.World.{World, starting, booted}
-use Rattle.spec_events.specs.Histories.{History, after, now, extended, by_porter}
+use Rattle.spec_events.specs.Histories.{History, after, now, entered, Grew, by_porter}
+use Rattle.spec_events.proofs.Runs.{grew_nothing, grew_one, grew_as, now-grew}
 use Rattle.muck_script.specs.declared.act.Act.{Act}
 use Rattle.muck_script.specs.Script.{script_of, script_most, read_part, refused_at, acts_of}
 use Rattle.muck_script.specs.Lines.{lines_of}
@@ -26,16 +27,12 @@ pub begun_lives : (h : History) → h ≡ begun → (now h).dead ≡ false
 unfolding now starting booted
 begun_lives h e = ap (λ (x : History). (now x).dead) e
 
--- what grew of a history that began so began so
-pub begins_so : (h k : History) (es : List Entry) (w : World) → h.start ≡ w → k ≡ extended h es → k.start ≡ w
-begins_so h k es w e is = ap (λ (x : History). x.start) is ∙ e
-
 pub played_whole : (acts : List Act) (h k : History) (a b : Option (List ℕ)) (tale : List Entry) → h ≡ begun → Plays (story acts) h k a b → tale ≡ k.entries → PlayedWhole starting acts a b tale
 unfolding now
 played_whole acts h k a b tale e p is =
     let P : History → Type 0 = λ x. Plays (story acts) x k a b in
     let q : Plays (story acts) begun k a b = subst P e p in
-    record { history = is ∙ ap (λ (x : History). x.entries) q.history; text = q.text }
+    record { history = is ∙ q.history.entries; text = q.text }
 
 -- the ending of a run by its fault
 pub broke_by : (f : World → List Entry) (h k : History) (a b : Option (List ℕ)) (fault is : RunFault) → fault ≡ is → Breaks f (ending_of fault) h k a b → Breaks f (ending_of is) h k a b
@@ -52,31 +49,39 @@ died_off acts h k a b tale e p is =
       whole = q.whole;
       ending = by_porter Died ∷ [];
       ends = refl;
-      history = is ∙ ap (λ (x : History). x.entries) q.history;
+      history = is ∙ q.history.entries;
       told = q.told;
       untold = q.untold;
       text = q.text;
       appended = q.appended;
     }
 
-pub halted_off : (acts : List Act) (h k m : History) (a b : Option (List ℕ)) (tale : List Entry) → h ≡ begun → Breaks (story acts) [] h k a b → m ≡ extended k (halted (now k)) → tale ≡ m.entries → BrokeOff starting WriteFault acts a b tale
+pub halted_off : (acts : List Act) (h k m : History) (a b : Option (List ℕ)) (tale : List Entry) → h ≡ begun → Breaks (story acts) [] h k a b → Grew k m (halted (now k)) → tale ≡ m.entries → BrokeOff starting WriteFault acts a b tale
 unfolding now
 halted_off acts h k m a b tale e p stops is =
     let P : History → Type 0 = λ x. Breaks (story acts) [] x k a b in
     let q : Breaks (story acts) [] begun k a b = subst P e p in
-    let same : k ≡ extended begun q.front = q.history ∙ ap (extended begun) (append-nil q.front) in
+    let same : k.entries ≡ q.front = q.history.entries ∙ append-nil q.front in
+    let there : now k ≡ after starting q.front = now-grew begun k _ q.history ∙ ap (after starting) (append-nil q.front) in
     record {
       front = q.front;
       rest = q.rest;
       whole = q.whole;
       ending = halted (after starting q.front);
       ends = refl;
-      history = is ∙ ap (λ (x : History). x.entries) stops ∙ ap (λ (x : History). x.entries ++ halted (now x)) same;
+      history = is ∙ stops.entries ∙ ap (λ es. es ++ halted (now k)) same ∙ ap (λ w. q.front ++ halted w) there;
       told = q.told;
       untold = q.untold;
       text = q.text;
       appended = q.appended;
     }
+
+-- a world that isn't stopping is halted, and one that is stays as it is
+pub halts : (h k : History) → (now h).stopping ≡ false → k ≡ entered h (by_porter Halt) → Grew h k (halted (now h))
+halts h k e is = grew_as h k (by_porter Halt ∷ []) _ (sym (cond-false _ _ _ e)) (grew_one h k (by_porter Halt) is)
+
+pub stands : (h : History) → (now h).stopping ≡ true → Grew h h (halted (now h))
+stands h e = grew_as h h [] _ (sym (cond-true _ _ _ e)) (grew_nothing h h refl)
 
 -- What is read of the source decides what its script is.
 

@@ -1,4 +1,4 @@
-use Rattle.std.proofs.Common.{rules, refl}
+use Rattle.std.proofs.Common.{refl}
 use Rattle.muck_machine.proofs.Keepings.{unlawful_dead, lawful_as}
 use Rattle.muck_machine.proofs.world.World.may_open.Goals as goal
 
@@ -6,4 +6,4 @@ pub returns-then-self : goal.returns-then-self
 returns-then-self c = unlawful_dead c.self.inside.past _ _ _ c.self.invariant c.self.view_is c.if-self.true refl
 
 pub returns : goal.returns
-returns c = lawful_as c.self.inside.past _ _ _ _ c.self.invariant c.self.view_is c.if-self.false (search rules)
+returns c = lawful_as c.self.inside.past _ _ _ _ c.self.invariant c.self.view_is c.if-self.false c.may_open.ensures
