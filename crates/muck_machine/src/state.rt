@@ -16,7 +16,6 @@ mod starting;
 mod turns;
 
 pub use login::WELCOME;
-
 use muck_board::Board;
 use muck_db::Db;
 use muck_library::Library;
