@@ -1,18 +1,21 @@
 -- A world stays the one after its history.
-use Rattle.std.proofs.Common.{◌≡◌, ℕ, ◌<◌, Bool, true, false, cond, List, [], ◌∷◌, ◌++◌, refl, sym, ◌∙◌, ap, find, ◌||◌, Option, None, Some, Result, Ok, Err, OnOk, OnErr}
+use Rattle.std.proofs.Common.{◌≡◌, ◌≢◌, ℕ, Bool, true, false, cond, List, [], ◌∷◌, ◌++◌, refl, sym, ◌∙◌, ap, subst, find, ◌||◌, Option, None, Some, Result, Ok, Err, OnOk}
 use Rattle.std.proofs.lemmas.Bool.{cond-true, cond-false}
 use Rattle.std.specs.Prelude.{ℤ}
 use Rattle.std.specs.Option.{option_map}
 use Rattle.muck_model.specs.Told.{Told}
 use Rattle.muck_model.specs.declared.event.Entry.{Entry}
+use Rattle.muck_model.specs.declared.event.Event.{Event}
 use Rattle.muck_model.specs.declared.event.Event.TheVariants.{Died}
 use Rattle.muck_model.specs.declared.memory.NoMemory.{NoMemory}
 use Rattle.muck_queue.specs.Queues.{next_due}
 use Rattle.spec_events.specs.World.{World}
 use Rattle.spec_events.specs.Steps.{is_free, happened, effect, is_died, is_lawful, is_allowed, next_ready, next_process}
-use Rattle.spec_events.specs.Histories.{History, after, now, entered}
+use Rattle.spec_events.specs.Histories.{History, after, now, entered, AllLawful}
+use Rattle.spec_events.specs.Sound.{IsSound}
 use Rattle.spec_events.proofs.Living.{dead-happened}
-use Rattle.spec_events.proofs.Runs.{after-append}
+use Rattle.spec_events.proofs.Reached.{sound-effect, died_lawful}
+use Rattle.spec_events.proofs.Runs.{after-append, lawful-append}
 use Rattle.muck_machine.specs.declared.past.Past.{Past}
 use Rattle.muck_machine.specs.Keeping.{Keeps, history, told, lost, Concludes}
 
@@ -20,33 +23,33 @@ one_more : (start : World) (entries : List Entry) (e : Entry) → after start (e
 unfolding effect
 one_more start entries e = after-append entries (e ∷ []) start
 
--- an entry that isn't Died was entered, and done to the state
-pub keeps_told : (p : Past) (state next : World) (e : Entry) → Keeps p state → p.dead ≡ false → next ≡ happened state e.party e.event → is_died e.event ≡ false → Keeps (told e p) next
-keeps_told p state next e k alive is other =
+not_died : (event : Event) → is_died event ≡ false → event ≢ Died
+not_died event other = λ e. differ (is_died event) (ap is_died e) other where
+  differ : (b : Bool) → b ≡ true → b ≡ false → ⊥
+  differ b p q = cc
+
+-- an entry that is lawful and isn't Died was entered, and done to the state
+keeps_told : (p : Past) (state next : World) (e : Entry) → Keeps p state → p.dead ≡ false → is_lawful (after p.origin p.tale.entries) e ≡ true → is_died e.event ≡ false →
+    next ≡ happened state e.party e.event → Keeps (told e p) next
+keeps_told p state next e k alive may other is =
     let whole = one_more p.origin p.tale.entries e in
     record {
       grows = refl;
+      lawful = lawful-append p.tale.entries (e ∷ []) p.origin k.lawful (may, tt);
       dies = ap (λ (w : World). w.dead) whole ∙ dead-happened e.event (after p.origin p.tale.entries) e.party other ∙ k.dies;
+      sound = λ h. subst IsSound (sym (after-append p.tale.entries (e ∷ []) p.origin)) (sound-effect (after p.origin p.tale.entries) e (not_died e.event other) may (k.sound alive));
       lives = λ h. is ∙ ap (λ w. happened w e.party e.event) (k.lives alive) ∙ sym whole;
     }
 
-pub keeps_entered : (p q : Past) (state next : World) (e : Entry) → Keeps p state → p.dead ≡ false → q ≡ told e p → next ≡ happened state e.party e.event → is_died e.event ≡ false → Keeps q next
-keeps_entered p q state next e k alive l is other = rw l (keeps_told p state next e k alive is other)
-
 -- memory was wanted, whatever stood before
-pub keeps_lost : (p : Past) (party : ℕ) (next : World) → Keeps (lost party p) next
-keeps_lost p party next = record {
+pub keeps_lost : (p : Past) (party : ℕ) (state next : World) → Keeps p state → Keeps (lost party p) next
+keeps_lost p party state next k = record {
   grows = refl;
+  lawful = lawful-append p.tale.entries (record { party = party; event = Died } ∷ []) p.origin k.lawful (died_lawful (after p.origin p.tale.entries) party, tt);
   dies = ap (λ (w : World). w.dead) (one_more p.origin p.tale.entries (record { party = party; event = Died }));
+  sound = λ h. cc;
   lives = λ h. cc;
 }
-
--- a deed was concluded
-pub keeps_concluded : (p q : Past) (state next : World) (e : Entry) (done result : Result (Unit {0}) NoMemory) → Keeps p state → p.dead ≡ false → OnOk done (next ≡ happened state e.party e.event) → is_died e.event ≡ false →
-    result ≡ done → Concludes e result p q → Keeps q next
-keeps_concluded p q state next e done (Ok x) k alive is other same c =
-    rw c (keeps_told p state next e k alive (rw (sym same) at is) other)
-keeps_concluded p q state next e done (Err x) k alive is other same c = rw c (keeps_lost p e.party next)
 
 -- where something other than Died is lawful, the world isn't dead
 alive_where : (dead allowed died : Bool) → cond dead died allowed ≡ true → died ≡ false → dead ≡ false
@@ -60,9 +63,31 @@ pub dead_seen : (p : Past) (state : World) (h : History) → Keeps p state → h
 unfolding now
 dead_seen p state h k v = sym (ap (λ (x : History). (now x).dead) v) ∙ k.dies
 
-pub alive_if_lawful : (p : Past) (state : World) (h : History) (e : Entry) → Keeps p state → history p ≡ h → is_lawful (now h) e ≡ true → is_died e.event ≡ false → p.dead ≡ false
+alive_if_lawful : (p : Past) (state : World) (h : History) (e : Entry) → Keeps p state → history p ≡ h → is_lawful (now h) e ≡ true → is_died e.event ≡ false → p.dead ≡ false
 unfolding is_lawful
 alive_if_lawful p state h e k v may other = sym (dead_seen p state h k v) ∙ alive_where (now h).dead _ _ may other
+
+-- an entry that is lawful now and isn't Died was entered
+pub keeps_entered : (p q : Past) (state next : World) (h : History) (e : Entry) → Keeps p state → history p ≡ h → is_lawful (now h) e ≡ true → is_died e.event ≡ false →
+    q ≡ told e p → next ≡ happened state e.party e.event → Keeps q next
+unfolding now
+keeps_entered p q state next h e k v may other l is =
+    rw l (keeps_told p state next e k (alive_if_lawful p state h e k v may other) (ap (λ (x : History). is_lawful (now x) e) v ∙ may) other is)
+
+-- a deed was concluded
+pub keeps_concluded : (p q : Past) (state next : World) (h : History) (e : Entry) (done result : Result (Unit {0}) NoMemory) → Keeps p state → history p ≡ h → is_lawful (now h) e ≡ true → is_died e.event ≡ false →
+    OnOk done (next ≡ happened state e.party e.event) → result ≡ done → Concludes e result p q → Keeps q next
+keeps_concluded p q state next h e done (Ok x) k v may other is same c = keeps_entered p q state next h e k v may other c (rw (sym same) at is)
+keeps_concluded p q state next h e done (Err x) k v may other is same c = rw c (keeps_lost p e.party state next k)
+
+-- a world that isn't dead is sound
+pub sound_seen : (p : Past) (state : World) (h : History) → Keeps p state → history p ≡ h → (now h).dead ≡ false → IsSound (now h)
+unfolding now
+sound_seen p state h k v alive = subst (λ (x : History). IsSound (now x)) v (k.sound (sym (dead_seen p state h k v) ∙ alive))
+
+-- and each entry so far was lawful
+pub lawful_seen : (p : Past) (state : World) (h : History) → Keeps p state → history p ≡ h → AllLawful h.start h.entries
+lawful_seen p state h k v = subst (λ (x : History). AllLawful x.start x.entries) v k.lawful
 
 -- in a dead world only Died is lawful
 pub unlawful_dead : (p : Past) (state : World) (h : History) (e : Entry) → Keeps p state → history p ≡ h → p.dead ≡ true → is_died e.event ≡ false → false ≡ is_lawful (now h) e
@@ -74,6 +99,18 @@ pub lawful_as : (p : Past) (allowed : Bool) (state : World) (h : History) (e : E
 unfolding now is_lawful
 lawful_as p allowed state h e k v alive is =
     is ∙ ap (λ w. is_allowed w e.party e.event) (k.lives alive ∙ ap now v) ∙ sym (cond-false _ _ _ (dead_seen p state h k v ∙ alive))
+
+-- a world begins, in which nothing has happened yet
+pub keeps_begun : (p : Past) (state : World) → p.tale ≡ record { entries = []; open_ended = true } → p.dead ≡ false → IsSound p.origin → state ≡ p.origin → Keeps p state
+keeps_begun p state t alive sound is =
+    let none : p.tale.entries ≡ [] = ap (λ (x : Told). x.entries) t in
+    record {
+      grows = ap (λ (x : Told). x.open_ended) t;
+      lawful = subst (AllLawful p.origin) (sym none) tt;
+      dies = ap (λ (es : List Entry). (after p.origin es).dead) none ∙ sound.alive ∙ sym alive;
+      sound = λ h. subst (λ (es : List Entry). IsSound (after p.origin es)) (sym none) sound;
+      lives = λ h. is ∙ sym (ap (after p.origin) none);
+    }
 
 -- where it isn't, it is the state that is kept
 pub state_seen : (p : Past) (state : World) (h : History) → Keeps p state → history p ≡ h → p.dead ≡ false → state ≡ now h
@@ -119,4 +156,4 @@ alive_if_found w d e = alive w.dead _ e where
 
 -- nothing happened, and the state is as it was
 pub keeps_same : (p : Past) (state next : World) → Keeps p state → next ≡ state → Keeps p next
-keeps_same p state next k e = record { grows = k.grows; dies = k.dies; lives = λ h. e ∙ k.lives h }
+keeps_same p state next k e = record { grows = k.grows; lawful = k.lawful; dies = k.dies; sound = k.sound; lives = λ h. e ∙ k.lives h }

@@ -1,14 +1,28 @@
--- No bytes are taken.
-use Rattle.std.proofs.Common.{◌≡◌, ℕ, ◌≤◌, List, [], ◌∷◌, refl, ◌∙◌, ap, arith}
+-- A change of the board, as what happens.
+use Rattle.std.proofs.Common.{◌≡◌, ℕ, ◌≤◌, List, [], ◌∷◌, refl, ◌∙◌, ap, arith, codes}
 use Rattle.std.proofs.lemmas.Bool.{cond_both}
-use Rattle.muck_model.specs.declared.event.Event.TheVariants.{Take}
+use Rattle.muck_model.specs.declared.event.Event.TheVariants.{Opened, Take}
 use Rattle.spec_live.specs.Output.{taken}
 use Rattle.spec_live.specs.Connections.{Connection, has_number, changed_in}
-use Rattle.spec_live.specs.Boards.{bytes_taken, with_connections}
+use Rattle.spec_live.specs.Boards.{Board, opened, bytes_taken, with_connections}
+use Rattle.spec_live.specs.Lives.{on_board}
+use Rattle.spec_commands.specs.Talk.{welcome}
 use Rattle.muck_board.proofs.Outputs.{taken_rest}
-use Rattle.spec_events.specs.World.{World}
+use Rattle.spec_events.specs.World.{World, on_live}
 use Rattle.spec_events.specs.Steps.{happened}
 
+-- the board of a state that is seen as w is changed so
+board_so : (f : Board → Board) (w v : World) (b : Board) → b ≡ f w.live.board → w ≡ v → record w { live = record w.live { board = b } } ≡ on_live (on_board f) v
+board_so f w v b is seen = ap (λ (x : Board). record w { live = record w.live { board = x } }) is ∙ ap (on_live (on_board f)) seen
+
+pub taken_so : (d n : ℕ) (w v : World) (b : Board) → b ≡ bytes_taken d n w.live.board → w ≡ v → record w { live = record w.live { board = b } } ≡ happened v 0 (Take d n)
+taken_so d n = board_so (bytes_taken d n)
+
+pub opened_so : (d : ℕ) (w v : World) (b : Board) → b ≡ opened d (codes "Use: connect NAME PASSWORD, WHO or QUIT.") w.live.board → w ≡ v → record w { live = record w.live { board = b } } ≡ happened v 0 (Opened d)
+unfolding welcome
+opened_so d = board_so (opened d welcome)
+
+-- no bytes are taken
 none_in : (d : ℕ) (cs : List Connection) → changed_in d (λ c. record c { output = taken 0 c.output }) cs ≡ cs
 none_in d [] = refl
 none_in d (c ∷ cs) =

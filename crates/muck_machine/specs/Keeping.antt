@@ -5,16 +5,20 @@ use Rattle.muck_model.specs.declared.event.Entry.{Entry}
 use Rattle.muck_model.specs.declared.event.Event.TheVariants.{Died}
 use Rattle.muck_model.specs.declared.memory.NoMemory.{NoMemory}
 use Rattle.spec_events.specs.World.{World}
-use Rattle.spec_events.specs.Histories.{History, after}
+use Rattle.spec_events.specs.Histories.{History, after, AllLawful}
+use Rattle.spec_events.specs.Sound.{IsSound}
 use Rattle.muck_machine.specs.declared.past.Past.{Past}
 
 abbrev pub history : Past → History
 history p = record { start = p.origin; entries = p.tale.entries }
 
--- The tale may grow, the world after it is dead or not as is kept, and as long as it isn't it is the state that is kept.
+-- The tale may grow, and each entry of it is lawful where it stands. The world after it is dead or not as is kept, and as
+-- long as it isn't it is sound, and it is the state that is kept.
 pub record Keeps (p : Past) (state : World) : Type 0 where
   pub grows : p.tale.open_ended ≡ true
+  pub lawful : AllLawful p.origin p.tale.entries
   pub dies : (after p.origin p.tale.entries).dead ≡ p.dead
+  pub sound : p.dead ≡ false → IsSound (after p.origin p.tale.entries)
   pub lives : p.dead ≡ false → state ≡ after p.origin p.tale.entries
 
 -- longer by an entry

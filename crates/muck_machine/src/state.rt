@@ -1,8 +1,8 @@
 // The world's own state, without its history.
-ghost use Rattle.std.specs.Prelude.{◌≡◌, OnOk, length, take, min, List, ℕ};
+ghost use Rattle.std.specs.Prelude.{◌≡◌, OnOk, List, ℕ};
 ghost use Rattle.muck_model.specs.declared.event.Event.{Event};
 ghost use Rattle.spec_live.specs.Lives.{tell};
-ghost use Rattle.spec_events.specs.World.{booted, queue_of, on_live};
+ghost use Rattle.spec_events.specs.World.{booted, on_live};
 ghost use Rattle.spec_events.specs.Steps.{is_allowed, happened};
 
 mod deeds;
@@ -15,7 +15,7 @@ mod slices;
 mod starting;
 mod turns;
 
-use login::WELCOME;
+pub use login::WELCOME;
 use muck_board::Board;
 use muck_db::Db;
 use muck_library::Library;
@@ -27,16 +27,17 @@ use std::marker::Model;
 /// The most connections.
 const CONNECTIONS_MOST: usize = 256;
 
-/// The objects, who is connected, the built forms of programs, the processes, the moment, and whether the run stops.
+/// The objects, who is connected, the built forms of programs, the processes, the moment, and whether the run stops; and
+/// what is done to them. Contracts see it as a world that lives.
 #[derive(Drop)]
 pub struct State {
-    alloc: Global,
-    db: Db,
-    board: Board,
-    library: Library,
-    queue: Queue,
-    moment: u64,
-    stopping: bool,
+    pub alloc: Global,
+    pub db: Db,
+    pub board: Board,
+    pub library: Library,
+    pub queue: Queue,
+    pub moment: u64,
+    pub stopping: bool,
 }
 
 impl Model for State {
@@ -72,19 +73,6 @@ impl State {
         }
     }
 
-    pub fn is_stopping(&self) -> bool
-        ensures { result ≡ self.now.stopping }
-    {
-        self.stopping
-    }
-
-    /// Who is connected.
-    pub fn board(&self) -> &Board
-        ensures { result.now ≡ self.now.live.board }
-    {
-        &self.board
-    }
-
     /// Whether a connection of this number may come.
     pub fn may_open(&self, d: u32) -> bool
         ensures { result ≡ is_allowed self.now 0 (Event.Opened d) }
@@ -103,39 +91,16 @@ impl State {
         }
     }
 
-    /// A connection comes.
-    #[tactic(auto, unfolding(spec_commands::specs::Talk::welcome))]
-    pub fn open(&mut self, d: u32) -> Result<(), NoMemory>
-        ensures { OnOk result (self.new ≡ happened self.old 0 (Event.Opened d)) }
+    /// A copy of a line comes, and waits.
+    pub fn hear(&mut self, d: u32, line: &Line) -> Result<(), NoMemory>
+        ensures { OnOk result (self.new ≡ happened self.old 0 (Event.Input d line.now)) }
     {
-        self.board.open(d, WELCOME)?;
-        Ok(())
-    }
-
-    /// A line comes, and waits.
-    pub fn add_line(&mut self, d: u32, line: Line) -> Result<(), NoMemory>
-        ensures { OnOk result (self.new ≡ happened self.old 0 (Event.Input d line)) }
-    {
+        let line = line.copy(self.alloc)?;
         self.board.add_line(d, line)?;
         Ok(())
     }
 
-    /// The first bytes of a connection's queue leave it, as many as are there and fit.
-    pub fn take(&mut self, d: u32, buf: &mut [u8]) -> usize
-        ensures count { result ≡ min (length (queue_of d self.old)) (length buf.old) }
-        ensures bytes { take result buf.new ≡ take result (queue_of d self.old) }
-        ensures step { self.new ≡ happened self.old 0 (Event.Take d result) }
-    {
-        self.board.take(d, buf)
-    }
-
-    /// The run stops.
-    pub fn halt(&mut self)
-        ensures { self.new ≡ happened self.old 0 Event.Halt }
-    {
-        self.stopping = true;
-    }
-
+    // A text is sent to a connection.
     #[tactic(auto, unfolding(spec_live::specs::Lives::tell))]
     fn tell(&mut self, d: u32, text: &[u8]) -> Result<(), NoMemory>
         ensures { OnOk result (self.new ≡ on_live (tell d text.now) self.old) }

@@ -4,11 +4,11 @@ ghost use Rattle.std.specs.Option.{option_map_or};
 ghost use Rattle.muck_model.specs.declared.event.Event.{Event};
 ghost use Rattle.spec_events.specs.World.{starting, booted, connection, queue_of, is_leaving};
 ghost use Rattle.spec_events.specs.Steps.{is_lawful, next_ready, next_process};
-ghost use Rattle.spec_events.specs.Histories.{now, entered, by_porter};
+ghost use Rattle.spec_events.specs.Histories.{now, entered, by_porter, AllLawful};
 
 use crate::origin::{Begun, Origin};
 use crate::past::Past;
-use crate::state::State;
+use crate::state::{State, WELCOME};
 use muck_board::Connection;
 use muck_db::{Db, Persisted};
 use muck_model::{Entry, Event, Line, NoMemory, Tale, Tune};
@@ -29,6 +29,7 @@ const FIRST_TUNE: Tune = Tune {
 
 /// The world. Contracts see it as its history: how it began, and each entry since. The world as it is now is the one
 /// after these entries. A dead world has lost memory in the midst of something: it takes no entry any more but `Died`.
+/// Each call enters one entry at most, which is lawful where it stands.
 #[derive(Drop)]
 pub struct World {
     state: State,
@@ -96,18 +97,20 @@ impl World {
         )
     }
 
-    /// The history, for contracts alone. It takes no memory.
+    /// The history, for contracts alone: each entry of it is lawful where it stands. It takes no memory.
     pub fn into_tale(self) -> Tale
-        ensures { result.entries ≡ self.entries }
+        ensures entries { result.entries ≡ self.entries }
+        ensures lawful { AllLawful self.start result.entries }
     {
         let World { past, .. } = self;
         past.tale
     }
 
-    /// Whether memory was wanted, after which no entry but `Died` is lawful.
+    /// Whether memory was wanted, after which no entry but `Died` is lawful. Each entry so far was lawful where it stands.
     #[tactic(auto, unfolding(spec_events::specs::Histories::now))]
     pub fn is_dead(&self) -> bool
-        ensures { result ≡ (now self.now).dead }
+        ensures dead { result ≡ (now self.now).dead }
+        ensures lawful { AllLawful self.now.start self.now.entries }
     {
         self.past.dead
     }
@@ -128,7 +131,8 @@ impl World {
             party: 0,
             event: Event::Halt,
         });
-        self.state.halt();
+        let state = &mut self.state;
+        state.stopping = true;
     }
 
     // Whether a connection of this number may come.
@@ -161,7 +165,8 @@ impl World {
         if !self.may_open(d) {
             return Ok(false);
         }
-        let done = self.state.open(d);
+        let state = &mut self.state;
+        let done = state.board.open(d, WELCOME);
         let entry = Entry {
             party: 0,
             event: Event::Opened { d },
@@ -175,20 +180,18 @@ impl World {
     pub fn input(&mut self, d: u32, line: Line) -> Result<bool, NoMemory>
         ensures lawful { IfOk result (λ yes. yes ≡ is_lawful (now self.old) (by_porter (Event.Input d line))) }
         ensures step { IfOk result (λ yes. self.new ≡ (if yes then entered self.old (by_porter (Event.Input d line)) else self.old)) }
-        ensures died { OnErr result (self.new ≡ entered (entered self.old (by_porter (Event.Input d line))) (by_porter Event.Died)) }
-        ensures may { OnErr result (is_lawful (now self.old) (by_porter (Event.Input d line)) ≡ true) }
+        ensures died { OnErr result (self.new ≡ entered self.old (by_porter Event.Died)) }
     {
         if !self.may_take_line(d) {
             return Ok(false);
         }
-        self.past.tale.tell_input(0, d, &line);
-        match self.state.add_line(d, line) {
-            Ok(()) => Ok(true),
-            Err(NoMemory) => {
-                self.past.lose(0);
-                Err(NoMemory)
-            }
-        }
+        let done = self.state.hear(d, &line);
+        let entry = Entry {
+            party: 0,
+            event: Event::Input { d, line },
+        };
+        self.past.conclude(entry, done)?;
+        Ok(true)
     }
 
     /// A connection goes, and where it was a player's last one, others are told. After `NoMemory` the world is dead.
@@ -278,7 +281,8 @@ impl World {
         if self.past.dead {
             return 0;
         }
-        let n = self.state.take(d, buf);
+        let state = &mut self.state;
+        let n = state.board.take(d, buf);
         if n > 0 {
             self.past.enter(Entry {
                 party: 0,
@@ -292,14 +296,16 @@ impl World {
     pub fn is_stopping(&self) -> bool
         ensures { (now self.now).dead ≡ false → result ≡ (now self.now).stopping }
     {
-        self.state.is_stopping()
+        let state = &self.state;
+        state.stopping
     }
 
     // The connection of that number. On a dead world nothing is said of the answer.
     fn connection(&self, d: u32) -> Option<&Connection>
         ensures { (now self.now).dead ≡ false → option_copied result ≡ connection d (now self.now) }
     {
-        self.state.board().connection(d)
+        let state = &self.state;
+        state.board.connection(d)
     }
 
     /// Whether the connection is there. On a dead world nothing is said of the answer.

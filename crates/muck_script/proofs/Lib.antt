@@ -1,5 +1,4 @@
 pub mod Cuts
 pub mod Texts
 pub mod Stories
-pub mod Lawful
 pub mod Taking

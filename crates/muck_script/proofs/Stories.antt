@@ -4,8 +4,8 @@ use Rattle.std.specs.Prelude.{is_some, true, false}
 use Rattle.muck_model.specs.declared.event.Entry.{Entry}
 use Rattle.muck_model.specs.declared.event.Event.TheVariants.{Died}
 use Rattle.spec_events.specs.World.{World}
-use Rattle.spec_events.specs.Histories.{History, now, after, extended, by_porter}
-use Rattle.spec_events.proofs.Runs.{now-extended, extended-append}
+use Rattle.spec_events.specs.Histories.{History, now, after, Grew, by_porter}
+use Rattle.spec_events.proofs.Runs.{grew_nothing, grew_on, grew_as, now-grew}
 use Rattle.muck_script.specs.Story.{Turn, next_turn, turn_entries, turn, turns, counted, turns_taken}
 use Rattle.muck_script.specs.inner.Settling.{entries_of, DiedDuring}
 
@@ -56,20 +56,17 @@ pub record IsOnTheWay (most done : ℕ) (old new : History) : Type 0 where
   pub all : left + done ≡ most
   pub count : done + turns_taken left (now new) ≡ turns_taken most (now old)
   pub whole : front ++ turns left (now new) ≡ turns most (now old)
-  pub history : new ≡ extended old front
-
-pub nothing_more : (h : History) → extended h [] ≡ h
-nothing_more h = ap (λ (es : List Entry). record h { entries = es }) (append-nil h.entries)
+  pub history : Grew old new front
 
 pub way_begins : (most : ℕ) (h : History) → IsOnTheWay most 0 h h
-way_begins most h = record { left = most; front = []; all = omega arith; count = omega arith; whole = refl; history = sym (nothing_more h) }
+way_begins most h = record { left = most; front = []; all = omega arith; count = omega arith; whole = refl; history = grew_nothing h h refl }
 
-way_on : (most done : ℕ) (old new next : History) (t : Turn) → IsOnTheWay most done old new → done < most → next_turn (now new) ≡ Some t → next ≡ extended new (turn_entries t) → IsOnTheWay most (done + 1) old next
+way_on : (most done : ℕ) (old new next : History) (t : Turn) → IsOnTheWay most done old new → done < most → next_turn (now new) ≡ Some t → Grew new next (turn_entries t) → IsOnTheWay most (done + 1) old next
 way_on most done old new next t way less e is = goes way.left way.all way.count way.whole where
   goes : (left : ℕ) → left + done ≡ most → done + turns_taken left (now new) ≡ turns_taken most (now old) → way.front ++ turns left (now new) ≡ turns most (now old) → IsOnTheWay most (done + 1) old next
   goes zero a c w = absurd (omega arith)
   goes (suc k) a c w =
-      let there : now next ≡ after (now new) (turn_entries t) = ap (λ (h : History). now h) is ∙ now-extended new (turn_entries t) in
+      let there : now next ≡ after (now new) (turn_entries t) = now-grew new next (turn_entries t) is in
       let more : turns_taken (suc k) (now new) ≡ suc (turns_taken k (now next)) = taken-some k (now new) t e ∙ ap (λ (v : World). suc (turns_taken k v)) (sym there) in
       record {
         left = k;
@@ -80,35 +77,35 @@ way_on most done old new next t way less e is = goes way.left way.all way.count 
             append_assoc way.front (turn_entries t) (turns k (now next))
             ∙ ap (λ (v : World). way.front ++ (turn_entries t ++ turns k v)) there
             ∙ ap (λ (es : List Entry). way.front ++ es) (sym (turns-some k (now new) t e)) ∙ w;
-        history = is ∙ ap (λ (h : History). extended h (turn_entries t)) way.history ∙ extended-append old way.front (turn_entries t);
+        history = grew_on old new next way.front (turn_entries t) way.history is;
       }
 
 -- a turn was taken
-pub way_goes_on : (most done : ℕ) (old new next : History) → IsOnTheWay most done old new → done < most → is_some (next_turn (now new)) ≡ true → next ≡ extended new (entries_of (next_turn (now new))) → IsOnTheWay most (done + 1) old next
+pub way_goes_on : (most done : ℕ) (old new next : History) → IsOnTheWay most done old new → done < most → is_some (next_turn (now new)) ≡ true → Grew new next (entries_of (next_turn (now new))) → IsOnTheWay most (done + 1) old next
 way_goes_on most done old new next way less some is = at (next_turn (now new)) refl some is where
-  at : (o : Option Turn) → next_turn (now new) ≡ o → is_some o ≡ true → next ≡ extended new (entries_of o) → IsOnTheWay most (done + 1) old next
+  at : (o : Option Turn) → next_turn (now new) ≡ o → is_some o ≡ true → Grew new next (entries_of o) → IsOnTheWay most (done + 1) old next
   at None e some is = cc
   at (Some t) e some is = way_on most done old new next t way less e is
 
-way_done : (most done : ℕ) (old new : History) (way : IsOnTheWay most done old new) → turns way.left (now new) ≡ [] → turns_taken way.left (now new) ≡ 0 → (done ≡ turns_taken most (now old)) × (new ≡ extended old (turns most (now old)))
+way_done : (most done : ℕ) (old new : History) (way : IsOnTheWay most done old new) → turns way.left (now new) ≡ [] → turns_taken way.left (now new) ≡ 0 → (done ≡ turns_taken most (now old)) × Grew old new (turns most (now old))
 way_done most done old new way none zero_left =
     let all : way.front ≡ turns most (now old) = sym (append-nil way.front) ∙ ap (λ (es : List Entry). way.front ++ es) (sym none) ∙ way.whole in
-    (omega (arith, way.count, zero_left), way.history ∙ ap (extended old) all)
+    (omega (arith, way.count, zero_left), grew_as old new way.front _ all way.history)
 
 none_left : (o : Option Turn) → is_some o ≡ false → o ≡ None
 none_left None e = refl
 none_left (Some t) e = cc
 
 -- nobody is ready any more
-pub way_ends : (most done : ℕ) (old new next : History) → IsOnTheWay most done old new → is_some (next_turn (now new)) ≡ false → next ≡ extended new (entries_of (next_turn (now new))) → (done ≡ turns_taken most (now old)) × (next ≡ extended old (turns most (now old)))
+pub way_ends : (most done : ℕ) (old new next : History) → IsOnTheWay most done old new → is_some (next_turn (now new)) ≡ false → Grew new next (entries_of (next_turn (now new))) → (done ≡ turns_taken most (now old)) × Grew old next (turns most (now old))
 way_ends most done old new next way nothing is =
     let e : next_turn (now new) ≡ None = none_left (next_turn (now new)) nothing in
-    let same : next ≡ new = is ∙ ap (λ (o : Option Turn). extended new (entries_of o)) e ∙ nothing_more new in
+    let same : Grew new next [] = grew_as new next _ [] (ap (λ (o : Option Turn). entries_of o) e) is in
     let end = way_done most done old new way (turns-none way.left (now new) e) (taken-none way.left (now new) e) in
-    (end.0, same ∙ end.1)
+    (end.0, grew_as old next _ _ (append-nil (turns most (now old))) (grew_on old new next _ [] end.1 same))
 
 -- all turns were taken
-pub way_over : (most done : ℕ) (old new : History) → IsOnTheWay most done old new → most ≤ done → (most ≡ turns_taken most (now old)) × (new ≡ extended old (turns most (now old)))
+pub way_over : (most done : ℕ) (old new : History) → IsOnTheWay most done old new → most ≤ done → (most ≡ turns_taken most (now old)) × Grew old new (turns most (now old))
 way_over most done old new way h =
     let z : way.left ≡ 0 = omega (arith, way.all) in
     let same : most ≡ done = omega (arith, way.all) in
@@ -128,7 +125,5 @@ way_dies most done old new next way less d = dies way.left way.all way.whole whe
         whole =
             append_assoc way.front d.front (d.rest ++ others)
             ∙ ap (λ (es : List Entry). way.front ++ es) (sym (append_assoc d.front d.rest others) ∙ ap (λ (es : List Entry). es ++ others) d.whole ∙ sym (turns-one k (now new))) ∙ w;
-        died =
-            d.died ∙ ap (λ (h : History). extended h (d.front ++ by_porter Died ∷ [])) way.history
-            ∙ extended-append old way.front (d.front ++ by_porter Died ∷ []) ∙ ap (extended old) (sym (append_assoc way.front d.front (by_porter Died ∷ [])));
+        died = grew_as old next _ _ (sym (append_assoc way.front d.front (by_porter Died ∷ []))) (grew_on old new next way.front _ way.history d.died);
       }

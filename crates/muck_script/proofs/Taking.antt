@@ -4,30 +4,27 @@ use Rattle.std.specs.Prelude.{is_some, OnErr}
 use Rattle.muck_model.specs.declared.event.Event.TheVariants.{Exec, Claim, Slice, Died}
 use Rattle.spec_events.specs.World.{World}
 use Rattle.spec_events.specs.Steps.{is_lawful, next_ready, next_process}
-use Rattle.spec_events.specs.Histories.{History, now, extended, entered, by_porter}
-use Rattle.spec_events.proofs.Runs.{now-extended, extended-append}
+use Rattle.spec_events.specs.Histories.{History, now, entered, Grew, by_porter}
+use Rattle.spec_events.proofs.Runs.{grew_nothing, grew_one, grew_on, grew_as, now-grew}
 use Rattle.spec_events.proofs.Claims.{chosen_lawful}
 use Rattle.muck_script.specs.Story.{Turn, of_line, chosen, next_turn}
 use Rattle.muck_script.specs.inner.Settling.{entries_of, slice_of, DiedDuring}
-use Rattle.muck_script.proofs.Stories.{nothing_more}
 
 -- no process is to go on
-pub no_slice : (h k : History) → next_process (now h) ≡ None → k ≡ h → k ≡ extended h (entries_of (slice_of (next_process (now h))))
-no_slice h k e is = is ∙ sym (nothing_more h) ∙ ap (λ (o : Option ℤ). extended h (entries_of (slice_of o))) (sym e)
+pub no_slice : (h k : History) → next_process (now h) ≡ None → k ≡ h → Grew h k (entries_of (slice_of (next_process (now h))))
+no_slice h k e is = grew_as h k [] _ (ap (λ (o : Option ℤ). entries_of (slice_of o)) (sym e)) (grew_nothing h k is)
 
 -- what was claimed may be sliced
 pub may_slice : (h k : History) (pid : ℤ) → next_process (now h) ≡ Some pid → k ≡ entered h (by_porter (Claim pid)) → is_lawful (now k) (by_porter (Slice pid)) ≡ true
 may_slice h k pid e is =
-    ap (λ (x : History). is_lawful (now x) (by_porter (Slice pid))) is
-    ∙ ap (λ (w : World). is_lawful w (by_porter (Slice pid))) (now-extended h (by_porter (Claim pid) ∷ []))
+    ap (λ (w : World). is_lawful w (by_porter (Slice pid))) (now-grew h k _ (grew_one h k (by_porter (Claim pid)) is))
     ∙ chosen_lawful (now h) 0 pid e
 
 pub sliced : (h k next : History) (pid : ℤ) → next_process (now h) ≡ Some pid → k ≡ entered h (by_porter (Claim pid)) → next ≡ entered k (by_porter (Slice pid)) →
-    next ≡ extended h (entries_of (slice_of (next_process (now h))))
+    Grew h next (entries_of (slice_of (next_process (now h))))
 sliced h k next pid e claimed is =
-    is ∙ ap (λ (x : History). entered x (by_porter (Slice pid))) claimed
-    ∙ extended-append h (by_porter (Claim pid) ∷ []) (by_porter (Slice pid) ∷ [])
-    ∙ ap (λ (o : Option ℤ). extended h (entries_of (slice_of o))) (sym e)
+    grew_as h next (by_porter (Claim pid) ∷ by_porter (Slice pid) ∷ []) _ (ap (λ (o : Option ℤ). entries_of (slice_of o)) (sym e))
+    (grew_on h k next _ _ (grew_one h k (by_porter (Claim pid)) claimed) (grew_one k next (by_porter (Slice pid)) is))
 
 -- memory was wanted in the slice
 pub slice_dies : (h k next : History) (pid : ℤ) → next_process (now h) ≡ Some pid → k ≡ entered h (by_porter (Claim pid)) → next ≡ entered k (by_porter Died) →
@@ -36,9 +33,7 @@ slice_dies h k next pid e claimed is = record {
   front = by_porter (Claim pid) ∷ [];
   rest = by_porter (Slice pid) ∷ [];
   whole = ap (λ (o : Option ℤ). entries_of (slice_of o)) (sym e);
-  died =
-      is ∙ ap (λ (x : History). entered x (by_porter Died)) claimed
-      ∙ extended-append h (by_porter (Claim pid) ∷ []) (by_porter Died ∷ []);
+  died = grew_on h k next _ _ (grew_one h k (by_porter (Claim pid)) claimed) (grew_one k next (by_porter Died) is);
 }
 
 -- a line is first
@@ -46,12 +41,12 @@ pub line_first : (w : World) (d : ℕ) → next_ready w ≡ Some d → next_turn
 unfolding next_turn
 line_first w d e = ap (λ (o : Option ℕ). chosen o (next_process w)) e
 
-pub line_taken : (h k : History) (d : ℕ) → next_ready (now h) ≡ Some d → k ≡ entered h (by_porter (Exec d)) → k ≡ extended h (entries_of (next_turn (now h)))
-line_taken h k d e is = is ∙ ap (λ (o : Option Turn). extended h (entries_of o)) (sym (line_first (now h) d e))
+pub line_taken : (h k : History) (d : ℕ) → next_ready (now h) ≡ Some d → k ≡ entered h (by_porter (Exec d)) → Grew h k (entries_of (next_turn (now h)))
+line_taken h k d e is = grew_as h k (by_porter (Exec d) ∷ []) _ (ap (λ (o : Option Turn). entries_of o) (sym (line_first (now h) d e))) (grew_one h k (by_porter (Exec d)) is)
 
 -- memory was wanted in the line
 pub line_dies : (h k : History) → k ≡ entered h (by_porter Died) → DiedDuring (entries_of (next_turn (now h))) h k
-line_dies h k is = record { front = []; rest = entries_of (next_turn (now h)); whole = refl; died = is }
+line_dies h k is = record { front = []; rest = entries_of (next_turn (now h)); whole = refl; died = grew_one h k (by_porter Died) is }
 
 chosen_none : (p : Option ℤ) → slice_of p ≡ chosen None p
 chosen_none None = refl

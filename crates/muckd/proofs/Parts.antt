@@ -8,12 +8,11 @@ use Rattle.muck_io.specs.Sink.{Appends, AppendsFront}
 use Rattle.muck_model.specs.declared.event.Entry.{Entry}
 use Rattle.muck_model.specs.declared.event.Event.{Event}
 use Rattle.muck_model.specs.declared.event.Event.TheVariants.{Opened, Input, Closed, Take, Died}
-use Rattle.spec_events.specs.World.{World, connection, queue_of, is_leaving}
+use Rattle.spec_events.specs.World.{World, queue_of, is_leaving}
 use Rattle.spec_events.specs.Steps.{effect, is_lawful, is_died}
-use Rattle.spec_events.specs.Histories.{History, after, now, extended, entered, by_porter}
+use Rattle.spec_events.specs.Histories.{History, after, now, entered, Grew, by_porter}
 use Rattle.spec_events.proofs.Living.{dead-happened}
-use Rattle.spec_events.proofs.Reached.{leaving_some}
-use Rattle.spec_events.proofs.Runs.{now-extended, extended-append}
+use Rattle.spec_events.proofs.Runs.{grew_nothing, grew_one, grew_on, grew_as, now-grew}
 use Rattle.muck_script.specs.Lines.{lines_of}
 use Rattle.muck_script.specs.Story.{both, if_lawful, taken, told, text_of, shown, farewell}
 use Rattle.muckd.specs.inner.Plays.{Plays, Breaks}
@@ -32,7 +31,7 @@ text_of-append (e ∷ es) fs w = ap (λ t. told w e.event ++ t) (text_of-append 
 -- nothing happens
 pub plays_nothing : (f : World → List Entry) (h k : History) (o : Option (List ℕ)) → f (now h) ≡ [] → k ≡ h → (now h).dead ≡ false → Plays f h k o o
 plays_nothing f h k o e same alive = record {
-  history = same ∙ sym (ap (λ (es : List Entry). record h { entries = es }) (append-nil h.entries)) ∙ sym (ap (extended h) e);
+  history = grew_as h k [] _ (sym e) (grew_nothing h k same);
   text = appends_as o o [] (text_of (now h) (f (now h))) (sym (ap (text_of (now h)) e)) (appends_nothing o);
   alive = ap (λ (x : History). (now x).dead) same ∙ alive;
 }
@@ -40,13 +39,13 @@ plays_nothing f h k o e same alive = record {
 pub lives_on : (h k : History) (event : Event) → k ≡ entered h (by_porter event) → is_died event ≡ false → (now h).dead ≡ false → (now k).dead ≡ false
 unfolding effect
 lives_on h k event is other alive =
-    ap (λ (x : History). (now x).dead) is ∙ ap (λ (w : World). w.dead) (now-extended h (by_porter event ∷ [])) ∙ dead-happened event (now h) 0 other ∙ alive
+    ap (λ (w : World). w.dead) (now-grew h k _ (grew_one h k (by_porter event) is)) ∙ dead-happened event (now h) 0 other ∙ alive
 
 -- one event happens
 pub plays_one : (f : World → List Entry) (h k : History) (a b : Option (List ℕ)) (event : Event) (text : List ℕ) → f (now h) ≡ by_porter event ∷ [] → k ≡ entered h (by_porter event) →
     is_died event ≡ false → (now h).dead ≡ false → text ≡ told (now h) event → Appends a b text → Plays f h k a b
 plays_one f h k a b event text e is other alive written app = record {
-  history = is ∙ sym (ap (extended h) e);
+  history = grew_as h k (by_porter event ∷ []) _ (sym e) (grew_one h k (by_porter event) is);
   text = appends_as a b text _ (written ∙ sym (append-nil (told (now h) event)) ∙ sym (ap (text_of (now h)) e)) app;
   alive = lives_on h k event is other alive;
 }
@@ -56,7 +55,7 @@ no_ending e = cc
 
 -- one event happened, all of the part, and then the ending; a front of its text was written
 pub breaks_after : (f : World → List Entry) (ending : List Entry) (h k : History) (a b : Option (List ℕ)) (event : Event) (text : List ℕ) → f (now h) ≡ by_porter event ∷ [] →
-    k ≡ extended h (by_porter event ∷ ending) → text ≡ told (now h) event → AppendsFront a b text → (ending ≡ [] → (now k).dead ≡ false) → Breaks f ending h k a b
+    Grew h k (by_porter event ∷ ending) → text ≡ told (now h) event → AppendsFront a b text → (ending ≡ [] → (now k).dead ≡ false) → Breaks f ending h k a b
 breaks_after f ending h k a b event text e is written app alive = record {
   front = by_porter event ∷ [];
   rest = [];
@@ -89,13 +88,6 @@ pub input_silent : (d : ℕ) (line : List ℕ) (w : World) → told w (Input d l
 unfolding told
 input_silent d line w = refl
 
--- a line was entered, and then memory was wanted
-pub input_breaks : (d : ℕ) (line : List ℕ) (h k : History) (o : Option (List ℕ)) → is_lawful (now h) (by_porter (Input d line)) ≡ true →
-    k ≡ entered (entered h (by_porter (Input d line))) (by_porter Died) → Breaks (if_lawful (Input d line)) (by_porter Died ∷ []) h k o o
-input_breaks d line h k o may is =
-    breaks_after (if_lawful (Input d line)) (by_porter Died ∷ []) h k o o (Input d line) [] (cond-true _ _ _ may)
-    (is ∙ extended-append h (by_porter (Input d line) ∷ []) (by_porter Died ∷ [])) (sym (input_silent d line (now h))) (front_nothing o []) (λ x. no_ending x)
-
 -- what is taken of a queue that isn't empty
 pub taken_some : (d n : ℕ) (w : World) → n ≡ length (queue_of d w) → 0 < n → taken d w ≡ by_porter (Take d n) ∷ []
 taken_some d n w e some = cond-true _ _ _ (lt-ltb 0 (length (queue_of d w)) (omega (arith, e, some))) ∙ ap (λ k. by_porter (Take d k) ∷ []) (sym e)
@@ -116,17 +108,12 @@ pub text_parted : (d : ℕ) (w : World) (text : List ℕ) → is_leaving d w ≡
 unfolding told
 text_parted d w text leaving is = is ∙ sym (cond-true _ _ _ leaving)
 
--- closing a connection that is leaving is lawful
-pub closing_may : (d : ℕ) (w : World) → w.dead ≡ false → is_leaving d w ≡ true → is_lawful w (by_porter (Closed d)) ≡ true
-unfolding is_lawful
-closing_may d w alive e = cond-false _ _ _ alive ∙ leaving_some (connection d w) e
-
 -- one part and then another
 pub plays_both : (f g : World → List Entry) (h k m : History) (a b c : Option (List ℕ)) → Plays f h k a b → Plays g k m b c → Plays (both f g) h m a c
 plays_both f g h k m a b c p q =
-    let next : now k ≡ after (now h) (f (now h)) = ap now p.history ∙ now-extended h (f (now h)) in
+    let next : now k ≡ after (now h) (f (now h)) = now-grew h k _ p.history in
     record {
-      history = q.history ∙ ap (λ w. extended k (g w)) next ∙ ap (λ x. extended x (g (after (now h) (f (now h))))) p.history ∙ extended-append h (f (now h)) (g (after (now h) (f (now h))));
+      history = grew_on h k m _ _ p.history (grew_as k m _ _ (ap g next) q.history);
       text = appends_as a c _ _
           (ap (λ w. text_of (now h) (f (now h)) ++ text_of w (g w)) next ∙ sym (text_of-append (f (now h)) (g (after (now h) (f (now h)))) (now h)))
           (appends_twice a b c _ _ p.text q.text);
@@ -148,13 +135,12 @@ breaks_first f g ending h k a b p = record {
 
 pub breaks_second : (f g : World → List Entry) (ending : List Entry) (h k m : History) (a b c : Option (List ℕ)) → Plays f h k a b → Breaks g ending k m b c → Breaks (both f g) ending h m a c
 breaks_second f g ending h k m a b c p q =
-    let next : now k ≡ after (now h) (f (now h)) = ap now p.history ∙ now-extended h (f (now h)) in
+    let next : now k ≡ after (now h) (f (now h)) = now-grew h k _ p.history in
     record {
       front = f (now h) ++ q.front;
       rest = q.rest;
       whole = append_assoc (f (now h)) q.front q.rest ∙ ap (λ es. f (now h) ++ es) (q.whole ∙ ap g next);
-      history = q.history ∙ ap (λ x. extended x (q.front ++ ending)) p.history ∙ extended-append h (f (now h)) (q.front ++ ending)
-          ∙ ap (extended h) (sym (append_assoc (f (now h)) q.front ending));
+      history = grew_as h m _ _ (sym (append_assoc (f (now h)) q.front ending)) (grew_on h k m _ _ p.history q.history);
       told = text_of (now h) (f (now h)) ++ q.told;
       untold = q.untold;
       text = append_assoc (text_of (now h) (f (now h))) q.told q.untold
@@ -165,5 +151,5 @@ breaks_second f g ending h k m a b c p q =
     }
 
 -- one entry, and another behind it
-pub entered_twice : (h k m : History) (e f : Entry) → k ≡ entered h e → m ≡ entered k f → m ≡ extended h (e ∷ f ∷ [])
-entered_twice h k m e f is then = then ∙ ap (λ x. entered x f) is ∙ extended-append h (e ∷ []) (f ∷ [])
+pub entered_twice : (h k m : History) (e f : Entry) → k ≡ entered h e → m ≡ entered k f → Grew h m (e ∷ f ∷ [])
+entered_twice h k m e f is then = grew_on h k m _ _ (grew_one h k e is) (grew_one k m f then)

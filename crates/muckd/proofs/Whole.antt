@@ -6,16 +6,14 @@ use Rattle.std.proofs.lemmas.List.{take_all, drop_all, length-take}
 use Rattle.std.specs.Prelude.{nat_lt}
 use Rattle.muck_io.specs.Source.{HasReadAll}
 use Rattle.muck_model.specs.declared.event.Entry.{Entry}
-use Rattle.muck_model.specs.declared.event.Event.TheVariants.{Died}
+use Rattle.muck_model.specs.declared.event.Event.TheVariants.{Halt, Died}
 use Rattle.spec_events.specs.World.{World, starting, booted}
-use Rattle.spec_events.specs.Histories.{History, after, now, extended, by_porter, AllLawful}
-use Rattle.spec_events.specs.Steps.{effect, is_lawful}
-use Rattle.spec_events.proofs.Runs.{lawful-append}
+use Rattle.spec_events.specs.Histories.{History, after, now, entered, Grew, by_porter}
+use Rattle.spec_events.proofs.Runs.{grew_nothing, grew_one, grew_as, now-grew}
 use Rattle.muck_script.specs.declared.act.Act.{Act}
 use Rattle.muck_script.specs.Script.{script_of, script_most, read_part, refused_at, acts_of}
 use Rattle.muck_script.specs.Lines.{lines_of}
 use Rattle.muck_script.specs.Story.{story}
-use Rattle.muck_script.proofs.Lawful.{story_lawful}
 use Rattle.muckd.specs.declared.why.Why.TheVariants.{NoMemory, WriteFault}
 use Rattle.muckd.specs.declared.playing.RunFault.{RunFault}
 use Rattle.muckd.specs.inner.Plays.{Plays, Breaks, ending_of}
@@ -29,87 +27,61 @@ pub begun_lives : (h : History) → h ≡ begun → (now h).dead ≡ false
 unfolding now starting booted
 begun_lives h e = ap (λ (x : History). (now x).dead) e
 
-pub played_whole : (acts : List Act) (h k : History) (a b : Option (List ℕ)) (tale : List Entry) → h ≡ begun → Plays (story acts) h k a b → tale ≡ k.entries → PlayedWhole starting acts a b tale × AllLawful starting tale
+pub played_whole : (acts : List Act) (h k : History) (a b : Option (List ℕ)) (tale : List Entry) → h ≡ begun → Plays (story acts) h k a b → tale ≡ k.entries → PlayedWhole starting acts a b tale
 unfolding now
 played_whole acts h k a b tale e p is =
     let P : History → Type 0 = λ x. Plays (story acts) x k a b in
     let q : Plays (story acts) begun k a b = subst P e p in
-    let story_is : tale ≡ story acts starting = is ∙ ap (λ (x : History). x.entries) q.history in
-    let lawful : AllLawful starting tale = subst (AllLawful starting) (sym story_is) (story_lawful acts) in
-    (record { history = story_is; text = q.text }, lawful)
-
--- a front of lawful entries is lawful, with what is lawful behind it
-front_lawful : (front rest : List Entry) (w : World) → AllLawful w (front ++ rest) → AllLawful w front
-front_lawful [] rest w p = tt
-front_lawful (e ∷ front) rest w p = (p.0, front_lawful front rest (effect w e) p.1)
-
-ends_lawful : (acts : List Act) (front rest ending tale : List Entry) → front ++ rest ≡ story acts starting → AllLawful (after starting front) ending → tale ≡ front ++ ending → AllLawful starting tale
-ends_lawful acts front rest ending tale whole ends is =
-    let all : AllLawful starting (front ++ rest) = subst (AllLawful starting) (sym whole) (story_lawful acts) in
-    subst (AllLawful starting) (sym is) (lawful-append front ending starting (front_lawful front rest starting all) ends)
-
--- Died is lawful anywhere, and the porter halts a world that lives
-died_lawful : (w : World) → AllLawful w (by_porter Died ∷ [])
-unfolding is_lawful
-died_lawful w = (decide w.dead refl, tt) where
-  decide : (b : Bool) → w.dead ≡ b → is_lawful w (by_porter Died) ≡ true
-  decide true e = cond-true _ _ _ e
-  decide false e = cond-false _ _ _ e
-
-halted_lawful : (w : World) → w.dead ≡ false → AllLawful w (halted w)
-unfolding is_lawful
-halted_lawful w alive = decide w.stopping refl where
-  decide : (b : Bool) → w.stopping ≡ b → AllLawful w (halted w)
-  decide true e = subst (AllLawful w) (sym (cond-true _ _ _ e)) tt
-  decide false e = subst (AllLawful w) (sym (cond-false _ _ _ e)) (cond-false _ _ _ alive, tt)
+    record { history = is ∙ q.history.entries; text = q.text }
 
 -- the ending of a run by its fault
 pub broke_by : (f : World → List Entry) (h k : History) (a b : Option (List ℕ)) (fault is : RunFault) → fault ≡ is → Breaks f (ending_of fault) h k a b → Breaks f (ending_of is) h k a b
 broke_by f h k a b fault is e p = let P : RunFault → Type 0 = λ x. Breaks f (ending_of x) h k a b in subst P e p
 
-pub died_off : (acts : List Act) (h k : History) (a b : Option (List ℕ)) (tale : List Entry) → h ≡ begun → Breaks (story acts) (by_porter Died ∷ []) h k a b → tale ≡ k.entries → BrokeOff starting NoMemory acts a b tale × AllLawful starting tale
+pub died_off : (acts : List Act) (h k : History) (a b : Option (List ℕ)) (tale : List Entry) → h ≡ begun → Breaks (story acts) (by_porter Died ∷ []) h k a b → tale ≡ k.entries → BrokeOff starting NoMemory acts a b tale
 unfolding now
 died_off acts h k a b tale e p is =
     let P : History → Type 0 = λ x. Breaks (story acts) (by_porter Died ∷ []) x k a b in
     let q : Breaks (story acts) (by_porter Died ∷ []) begun k a b = subst P e p in
-    let tale_is : tale ≡ q.front ++ by_porter Died ∷ [] = is ∙ ap (λ (x : History). x.entries) q.history in (
-      record {
-        front = q.front;
-        rest = q.rest;
-        whole = q.whole;
-        ending = by_porter Died ∷ [];
-        ends = refl;
-        history = tale_is;
-        told = q.told;
-        untold = q.untold;
-        text = q.text;
-        appended = q.appended;
-      },
-      ends_lawful acts q.front q.rest (by_porter Died ∷ []) tale q.whole (died_lawful (after starting q.front)) tale_is,
-    )
+    record {
+      front = q.front;
+      rest = q.rest;
+      whole = q.whole;
+      ending = by_porter Died ∷ [];
+      ends = refl;
+      history = is ∙ q.history.entries;
+      told = q.told;
+      untold = q.untold;
+      text = q.text;
+      appended = q.appended;
+    }
 
-pub halted_off : (acts : List Act) (h k m : History) (a b : Option (List ℕ)) (tale : List Entry) → h ≡ begun → Breaks (story acts) [] h k a b → m ≡ extended k (halted (now k)) → tale ≡ m.entries → BrokeOff starting WriteFault acts a b tale × AllLawful starting tale
+pub halted_off : (acts : List Act) (h k m : History) (a b : Option (List ℕ)) (tale : List Entry) → h ≡ begun → Breaks (story acts) [] h k a b → Grew k m (halted (now k)) → tale ≡ m.entries → BrokeOff starting WriteFault acts a b tale
 unfolding now
 halted_off acts h k m a b tale e p stops is =
     let P : History → Type 0 = λ x. Breaks (story acts) [] x k a b in
     let q : Breaks (story acts) [] begun k a b = subst P e p in
-    let same : k ≡ extended begun q.front = q.history ∙ ap (extended begun) (append-nil q.front) in
-    let alive : (after starting q.front).dead ≡ false = sym (ap (λ (x : History). (now x).dead) same) ∙ q.alive refl in
-    let tale_is : tale ≡ q.front ++ halted (after starting q.front) = is ∙ ap (λ (x : History). x.entries) stops ∙ ap (λ (x : History). x.entries ++ halted (now x)) same in (
-      record {
-        front = q.front;
-        rest = q.rest;
-        whole = q.whole;
-        ending = halted (after starting q.front);
-        ends = refl;
-        history = tale_is;
-        told = q.told;
-        untold = q.untold;
-        text = q.text;
-        appended = q.appended;
-      },
-      ends_lawful acts q.front q.rest (halted (after starting q.front)) tale q.whole (halted_lawful (after starting q.front) alive) tale_is,
-    )
+    let same : k.entries ≡ q.front = q.history.entries ∙ append-nil q.front in
+    let there : now k ≡ after starting q.front = now-grew begun k _ q.history ∙ ap (after starting) (append-nil q.front) in
+    record {
+      front = q.front;
+      rest = q.rest;
+      whole = q.whole;
+      ending = halted (after starting q.front);
+      ends = refl;
+      history = is ∙ stops.entries ∙ ap (λ es. es ++ halted (now k)) same ∙ ap (λ w. q.front ++ halted w) there;
+      told = q.told;
+      untold = q.untold;
+      text = q.text;
+      appended = q.appended;
+    }
+
+-- a world that isn't stopping is halted, and one that is stays as it is
+pub halts : (h k : History) → (now h).stopping ≡ false → k ≡ entered h (by_porter Halt) → Grew h k (halted (now h))
+halts h k e is = grew_as h k (by_porter Halt ∷ []) _ (sym (cond-false _ _ _ e)) (grew_one h k (by_porter Halt) is)
+
+pub stands : (h : History) → (now h).stopping ≡ true → Grew h h (halted (now h))
+stands h e = grew_as h h [] _ (sym (cond-true _ _ _ e)) (grew_nothing h h refl)
 
 -- What is read of the source decides what its script is.
 

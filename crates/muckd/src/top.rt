@@ -2,7 +2,7 @@
 ghost use Rattle.std.specs.Prelude.{◌≡◌, ◌↔◌, ◌⊎◌, ℕ, true, false, IfOk, vec_len, map, string_bytes, [], List, Option, ◌≤◌};
 ghost use Rattle.muck_io.specs.Faults.{Rose};
 ghost use Rattle.spec_events.specs.World.{starting};
-ghost use Rattle.spec_events.specs.Histories.{now, extended, AllLawful, AllLicensed};
+ghost use Rattle.spec_events.specs.Histories.{now, Grew, AllLawful, AllLicensed};
 ghost use Rattle.muckd.specs.Words.{is_run};
 ghost use Rattle.muckd.specs.Outcome.{status_of, halted, HasRun, HasAnswered, IsWholeRun, IsTranscribed, IsBrokenRun, IsUnbegun, IsFirstOutside, IsInGrammar};
 
@@ -124,7 +124,7 @@ fn begin(alloc: Global) -> Result<(World, Vec<u8>), NoMemory>
 // The world stops, where it doesn't yet.
 fn stop(world: &mut World)
     requires { (now world.old).dead ≡ false }
-    ensures { world.new ≡ extended world.old (halted (now world.old)) }
+    ensures { Grew world.old world.new (halted (now world.old)) }
 {
     if !world.is_stopping() {
         world.halt();

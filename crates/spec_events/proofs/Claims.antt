@@ -89,12 +89,6 @@ due_of true stop b a e = cc
 due_of false stop true a e = refl
 due_of false stop false a e = e
 
--- a process that was claimed may be sliced by the same party
-pub slice_lawful : (w : World) (party : ℕ) (pid : ℤ) → IsSound w → is_lawful w (record { party = party; event = Claim pid }) ≡ true →
-    is_lawful (effect w (record { party = party; event = Claim pid })) (record { party = party; event = Slice pid }) ≡ true
-unfolding is_lawful effect
-slice_lawful w party pid h e = slice_may w party pid h.alive (due_of w.dead w.stopping _ h.alive e)
-
 alive_of : (dead stop : Bool) (moment : ℕ) (q : Queue) (pid : ℤ) → cond (dead || stop) None (next_due moment q) ≡ Some pid → dead ≡ false
 alive_of true stop moment q pid e = cc
 alive_of false stop moment q pid e = refl

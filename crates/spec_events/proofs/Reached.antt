@@ -97,15 +97,15 @@ sound-gone_away d w h =
     let v : World = on_live (on_board (closed d)) w in
     sound-live parting (λ v. ((seating_quiet d parting (quiet_parted (player_in d w.live.board))).law v).numbers) v (record { alive = h.alive; rising = rising-without d w.live.board.connections h.rising })
 
-no_connection : (d : ℕ) (w : World) (stop few : Bool) → (is_none (connection d w) && few && not stop) ≡ true → connection d w ≡ None
-no_connection d w stop few e = none_of (connection d w) (and_parts _ _ (and_parts _ _ e).0).0
+no_connection : (d : ℕ) (w : World) (first stop few : Bool) → (first && is_none (connection d w) && few && not stop) ≡ true → connection d w ≡ None
+no_connection d w first stop few e = none_of (connection d w) (and_parts first _ (and_parts _ _ (and_parts _ _ e).0).0).1
 
 -- an event that is allowed and isn't Died
 sound-happened : (event : Event) (party : ℕ) (w : World) → event ≢ Died → is_allowed w party event ≡ true → IsSound w → IsSound (happened w party event)
 unfolding opened closed line_added bytes_taken
 sound-happened (Opened d) party w other l h = record {
   alive = h.alive;
-  rising = rising-placed (newcomer d welcome) w.live.board.connections (no_connection d w w.stopping (nat_lt (length w.live.board.connections) connections_most) l) h.rising;
+  rising = rising-placed (newcomer d welcome) w.live.board.connections (no_connection d w (party == 0) w.stopping (nat_lt (length w.live.board.connections) connections_most) l) h.rising;
 }
 sound-happened (Input d line) party w other l h = sound-live (on_board (line_added d line)) (λ v. ((seating_one d (lined line) (λ c. refl)).law v).numbers) w h
 sound-happened (Closed d) party w other l h = let v = sound-gone_away d w h in record { alive = v.alive; rising = v.rising }
@@ -171,33 +171,37 @@ pub exec_lawful : (w : World) (party d : ℕ) → IsSound w → next_ready w ≡
 unfolding is_lawful next_ready
 exec_lawful w party d h e = exec_may (is_free w) w.dead w.stopping w.live.board.connections d h.alive h.rising e
 
-holds_all : (o : Option Connection) → 0 < length (option_map_or (λ c. bytes_of c.output) o []) → (nat_lt 0 (length (option_map_or (λ c. bytes_of c.output) o [])) && option_map_or (holds (length (option_map_or (λ c. bytes_of c.output) o []))) o false) ≡ true
-holds_all None h = absurd (omega arith)
-holds_all (Some c) h = grind (arith, nat_tests)
+holds_some : (n : ℕ) (o : Option Connection) → 0 < n → n ≤ length (option_map_or (λ c. bytes_of c.output) o []) → (nat_lt 0 n && option_map_or (holds n) o false) ≡ true
+holds_some n None some most = absurd (omega arith)
+holds_some n (Some c) some most = grind (arith, nat_tests)
 
--- taking a whole queue that isn't empty is lawful
-pub take_lawful : (w : World) (d : ℕ) → IsSound w → 0 < length (queue_of d w) → is_lawful w (by_porter (Take d (length (queue_of d w)))) ≡ true
+-- taking some of what is in a queue is lawful
+pub take_lawful : (w : World) (d n : ℕ) → w.dead ≡ false → 0 < n → n ≤ length (queue_of d w) → is_lawful w (by_porter (Take d n)) ≡ true
 unfolding is_lawful
-take_lawful w d h some = cond-false _ _ _ h.alive ∙ holds_all (connection d w) some
+take_lawful w d n alive some most = cond-false _ _ _ alive ∙ holds_some n (connection d w) some most
 
-pub leaving_some : (o : Option Connection) → option_map_or (λ c. c.leaving) o false ≡ true → is_some o ≡ true
+leaving_some : (o : Option Connection) → option_map_or (λ c. c.leaving) o false ≡ true → is_some o ≡ true
 leaving_some None e = e
 leaving_some (Some c) e = refl
 
 -- closing a connection that is leaving is lawful
-pub close_lawful : (w : World) (d : ℕ) → IsSound w → is_leaving d w ≡ true → is_lawful w (by_porter (Closed d)) ≡ true
+pub close_lawful : (w : World) (d : ℕ) → w.dead ≡ false → is_leaving d w ≡ true → is_lawful w (by_porter (Closed d)) ≡ true
 unfolding is_lawful
-close_lawful w d h e = cond-false _ _ _ h.alive ∙ leaving_some (connection d w) e
+close_lawful w d alive e = cond-false _ _ _ alive ∙ leaving_some (connection d w) e
 
 -- the porter may halt the world
-pub halt_lawful : (w : World) → IsSound w → is_lawful w (by_porter Halt) ≡ true
+pub halt_lawful : (w : World) → w.dead ≡ false → is_lawful w (by_porter Halt) ≡ true
 unfolding is_lawful
-halt_lawful w h = cond-false _ _ _ h.alive
+halt_lawful w alive = cond-false _ _ _ alive
+
+-- memory may be wanted anywhere
+pub died_lawful : (w : World) (party : ℕ) → is_lawful w (record { party = party; event = Died }) ≡ true
+unfolding is_lawful
+died_lawful w party = either_way w.dead where
+  either_way : (b : Bool) → cond b true true ≡ true
+  either_way true = refl
+  either_way false = refl
 
 pub sound-booted : (objects : List Kept) (tune : Tune) (moment start : ℕ) → IsSound (booted objects tune moment start)
 unfolding booted early_board
 sound-booted objects tune moment start = record { alive = refl; rising = tt }
-
-pub sound-starting : IsSound starting
-unfolding starting booted early_board
-sound-starting = record { alive = refl; rising = tt }

@@ -1,9 +1,9 @@
 -- Histories in parts.
-use Rattle.std.proofs.Common.{◌≡◌, List, [], ◌∷◌, ◌++◌, refl, ap, append_assoc}
+use Rattle.std.proofs.Common.{◌≡◌, List, [], ◌∷◌, ◌++◌, refl, sym, ◌∙◌, ap, subst, append_assoc, append-nil}
 use Rattle.muck_model.specs.declared.event.Entry.{Entry}
 use Rattle.spec_events.specs.World.{World}
 use Rattle.spec_events.specs.Steps.{effect}
-use Rattle.spec_events.specs.Histories.{after, Run, AllLawful, History, now, extended}
+use Rattle.spec_events.specs.Histories.{after, Run, AllLawful, History, now, entered, Grew}
 
 -- some entries, and others behind them
 pub after-append : (es fs : List Entry) (w : World) → after w (es ++ fs) ≡ after (after w es) fs
@@ -20,9 +20,22 @@ run_of_lawful w [] h = refl
 run_of_lawful w (e ∷ es) h = (effect w e, record { lawful = h.0; effect = refl }, run_of_lawful (effect w e) es h.1)
 
 -- the same of histories
-pub now-extended : (h : History) (es : List Entry) → now (extended h es) ≡ after (now h) es
-unfolding now
-now-extended h es = after-append h.entries es h.start
+pub grew_nothing : (h k : History) → k ≡ h → Grew h k []
+grew_nothing h k is = record { start = ap (λ (x : History). x.start) is; entries = ap (λ (x : History). x.entries) is ∙ sym (append-nil h.entries) }
 
-pub extended-append : (h : History) (es fs : List Entry) → extended (extended h es) fs ≡ extended h (es ++ fs)
-extended-append h es fs = ap (λ (all : List Entry). record h { entries = all }) (append_assoc h.entries es fs)
+pub grew_one : (h k : History) (e : Entry) → k ≡ entered h e → Grew h k (e ∷ [])
+grew_one h k e is = record { start = ap (λ (x : History). x.start) is; entries = ap (λ (x : History). x.entries) is }
+
+pub grew_on : (h k m : History) (es fs : List Entry) → Grew h k es → Grew k m fs → Grew h m (es ++ fs)
+grew_on h k m es fs p q = record {
+  start = q.start ∙ p.start;
+  entries = q.entries ∙ ap (λ (all : List Entry). all ++ fs) p.entries ∙ append_assoc h.entries es fs;
+}
+
+pub grew_as : (h k : History) (es fs : List Entry) → es ≡ fs → Grew h k es → Grew h k fs
+grew_as h k es fs e g = subst (Grew h k) e g
+
+-- the world as it is then
+pub now-grew : (h k : History) (es : List Entry) → Grew h k es → now k ≡ after (now h) es
+unfolding now
+now-grew h k es g = ap (λ (w : World). after w k.entries) g.start ∙ ap (after h.start) g.entries ∙ after-append h.entries es h.start

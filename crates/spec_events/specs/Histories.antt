@@ -35,13 +35,14 @@ pub record History : Type 0 where
 unfoldable pub now : History → World
 now h = after h.start h.entries
 
--- and then these entries
-abbrev pub extended : History → List Entry → History
-extended h entries = record h { entries = h.entries ++ entries }
-
 -- and then this entry
 abbrev pub entered : History → Entry → History
-entered h entry = extended h (entry ∷ [])
+entered h entry = record h { entries = h.entries ++ entry ∷ [] }
+
+-- k is the history h, and then these entries
+pub record Grew (h k : History) (es : List Entry) : Type 0 where
+  pub start : k.start ≡ h.start
+  pub entries : k.entries ≡ h.entries ++ es
 
 -- an event of the party that does everything in a run of a script
 abbrev pub by_porter : Event → Entry

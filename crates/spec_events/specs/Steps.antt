@@ -11,7 +11,7 @@ use Rattle.spec_live.specs.Lives.{on_board}
 use Rattle.muck_queue.specs.declared.process.Process.{Process}
 use Rattle.muck_queue.specs.Queues.{has_pid, is_due, next_due, claimed, is_tied, ended_tied}
 use Rattle.spec_commands.specs.Talk.{welcome, gone_away}
-use Rattle.spec_events.specs.World.{World, connection, on_live, on_queue}
+use Rattle.spec_events.specs.World.{World, connection, unasked, on_live, on_queue, on_dumps}
 use Rattle.spec_events.specs.Lines.{done}
 use Rattle.spec_events.specs.Slices.{sliced}
 
@@ -31,15 +31,16 @@ has_process test pid w = list_any (λ p. has_pid pid p && test p) w.queue.proces
 abbrev pub is_claimed_by : ℕ → Process → Bool
 is_claimed_by party p = option_map_or (λ n. n == party) p.claim false
 
--- lawful in a world that isn't dead; an event that nothing uses yet is lawful nowhere
+-- Lawful in a world that isn't dead. Connections and what runs over them are the first party's alone, and so is the end of
+-- the run; lines and processes are any party's. An event that nothing uses yet is lawful nowhere.
 abbrev pub is_allowed : World → ℕ → Event → Bool
-is_allowed w party (Opened d) = is_none (connection d w) && nat_lt (length w.live.board.connections) connections_most && not w.stopping
-is_allowed w party (Input d line) = passes takes_line d w && not w.stopping
-is_allowed w party (Closed d) = is_some (connection d w)
+is_allowed w party (Opened d) = party == 0 && is_none (connection d w) && nat_lt (length w.live.board.connections) connections_most && not w.stopping
+is_allowed w party (Input d line) = party == 0 && passes takes_line d w && not w.stopping
+is_allowed w party (Closed d) = party == 0 && is_some (connection d w)
 is_allowed w party (Exec d) = passes (is_free w) d w && not w.stopping
 is_allowed w party (Claim pid) = has_process (is_due w.moment) pid w && not w.stopping
 is_allowed w party (Slice pid) = has_process (is_claimed_by party) pid w
-is_allowed w party (Take d n) = nat_lt 0 n && passes (holds n) d w
+is_allowed w party (Take d n) = party == 0 && nat_lt 0 n && passes (holds n) d w
 is_allowed w party Halt = party == 0
 is_allowed w party Died = true
 is_allowed w party event = false
@@ -56,7 +57,7 @@ is_lawful w entry = if w.dead then is_died entry.event else is_allowed w entry.p
 abbrev pub happened : World → ℕ → Event → World
 happened w party (Opened d) = on_live (on_board (opened d welcome)) w
 happened w party (Input d line) = on_live (on_board (line_added d line)) w
-happened w party (Closed d) = on_queue (ended_tied d) (on_live (gone_away d) w)
+happened w party (Closed d) = on_dumps (unasked d) (on_queue (ended_tied d) (on_live (gone_away d) w))
 happened w party (Exec d) = done d (connection d w) w
 happened w party (Claim pid) = on_queue (claimed pid party) w
 happened w party (Slice pid) = sliced pid w

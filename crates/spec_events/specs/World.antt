@@ -1,5 +1,7 @@
 -- The world as a value.
-use Rattle.std.specs.Prelude.{ℕ, Bool, false, List, [], Option, None}
+use Rattle.std.specs.Prelude.{ℕ, Bool, false, not, ◌==◌, List, [], Option, None}
+use Rattle.std.specs.List.{filter}
+use Rattle.std.specs.Option.{option_map}
 use Rattle.muck_model.specs.declared.tune.Tune.{Tune}
 use Rattle.spec_live.specs.Objects.{Entry}
 use Rattle.spec_live.specs.Start.{first_objects}
@@ -9,11 +11,11 @@ use Rattle.spec_live.specs.Lives.{Live, Change}
 use Rattle.muck_library.specs.Library.{Library}
 use Rattle.muck_queue.specs.Queues.{Queue, empty_queue}
 
--- the dump that runs, whether one is asked and by which connections, and the moment of the last that began
+-- The dump that runs, by its number, with the connections that asked for it; those that ask for the next one, where one is
+-- asked; and the moment at which the last one began.
 pub record Dumps : Type 0 where
-  pub running : Option ℕ
-  pub is_asked : Bool
-  pub askers : List ℕ
+  pub running : Option (ℕ × List ℕ)
+  pub asked : Option (List ℕ)
   pub last : ℕ
 
 -- The world: what commands and programs change, the built forms of its programs, its processes, the second that it is,
@@ -29,7 +31,15 @@ pub record World : Type 0 where
 
 -- no dump runs or is asked
 abbrev pub no_dumps : ℕ → Dumps
-no_dumps moment = record { running = None; is_asked = false; askers = []; last = moment }
+no_dumps moment = record { running = None; asked = None; last = moment }
+
+-- all of them but the connection d
+abbrev pub others_than : ℕ → List ℕ → List ℕ
+others_than d askers = filter (λ n. not (n == d)) askers
+
+-- the connection d has gone, and nothing of a dump is shown to it any more
+abbrev pub unasked : ℕ → Dumps → Dumps
+unasked d dumps = record dumps { running = option_map (λ r. (r.0, others_than d r.1)) dumps.running; asked = option_map (others_than d) dumps.asked }
 
 -- The world of these objects at this moment, in which nobody is connected, no program is built and nothing runs, and
 -- whose random numbers begin so.
@@ -66,6 +76,10 @@ on_live f w = record w { live = f w.live }
 -- with a change of its processes
 abbrev pub on_queue : (Queue → Queue) → World → World
 on_queue f w = record w { queue = f w.queue }
+
+-- with a change of its dumps
+abbrev pub on_dumps : (Dumps → Dumps) → World → World
+on_dumps f w = record w { dumps = f w.dumps }
 
 -- with these built forms
 abbrev pub with_library : Library → World → World

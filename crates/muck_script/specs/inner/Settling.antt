@@ -2,7 +2,7 @@
 use Rattle.std.specs.Prelude.{◌≡◌, ℤ, List, [], ◌∷◌, ◌++◌, Option, Some, None}
 use Rattle.muck_model.specs.declared.event.Entry.{Entry}
 use Rattle.muck_model.specs.declared.event.Event.TheVariants.{Died}
-use Rattle.spec_events.specs.Histories.{History, extended, by_porter}
+use Rattle.spec_events.specs.Histories.{History, Grew, by_porter}
 use Rattle.muck_script.specs.Story.{Turn, of_process, turn_entries}
 
 -- what happens in a turn, if there is one
@@ -19,4 +19,4 @@ pub record DiedDuring (entries : List Entry) (old new : History) : Type 0 where
   pub front : List Entry
   pub rest : List Entry
   pub whole : front ++ rest ≡ entries
-  pub died : new ≡ extended old (front ++ by_porter Died ∷ [])
+  pub died : Grew old new (front ++ by_porter Died ∷ [])

@@ -4,7 +4,7 @@ use Rattle.muck_io.specs.Sink.{Appends}
 use Rattle.muck_model.specs.declared.event.Entry.{Entry}
 use Rattle.muck_model.specs.declared.event.Event.TheVariants.{Died}
 use Rattle.spec_events.specs.World.{World}
-use Rattle.spec_events.specs.Histories.{History, now, extended, by_porter}
+use Rattle.spec_events.specs.Histories.{History, now, Grew, by_porter}
 use Rattle.muck_script.specs.Story.{text_of}
 use Rattle.muckd.specs.declared.playing.RunFault.{RunFault}
 use Rattle.muckd.specs.declared.playing.RunFault.TheVariants.{NoMemory, WriteFault}
@@ -12,7 +12,7 @@ use Rattle.muckd.specs.declared.playing.RunFault.TheVariants.{NoMemory, WriteFau
 -- The entries that f says of the world as it was happened behind the history h, which is k now, and their text was
 -- written. The world still lives.
 pub record Plays (f : World → List Entry) (h k : History) (before written : Option (List ℕ)) : Type 0 where
-  pub history : k ≡ extended h (f (now h))
+  pub history : Grew h k (f (now h))
   pub text : Appends before written (text_of (now h) (f (now h)))
   pub alive : (now k).dead ≡ false
 
@@ -22,7 +22,7 @@ pub record Breaks (f : World → List Entry) (ending : List Entry) (h k : Histor
   pub front : List Entry
   pub rest : List Entry
   pub whole : front ++ rest ≡ f (now h)
-  pub history : k ≡ extended h (front ++ ending)
+  pub history : Grew h k (front ++ ending)
   pub told : List ℕ
   pub untold : List ℕ
   pub text : told ++ untold ≡ text_of (now h) front

@@ -1,7 +1,7 @@
 use Rattle.std.proofs.Common.{◌≡◌, Bool, sym, ◌∙◌, ap, subst, Option, None, IfOk, OnErr}
 use Rattle.std.specs.Prelude.{is_some}
 use Rattle.spec_events.specs.Steps.{next_ready, next_process}
-use Rattle.spec_events.specs.Histories.{History, now, extended}
+use Rattle.spec_events.specs.Histories.{History, now, Grew}
 use Rattle.muck_script.specs.Story.{Turn}
 use Rattle.muck_script.specs.inner.Settling.{entries_of, slice_of, DiedDuring}
 use Rattle.muck_script.proofs.Taking.{line_first, line_taken, some_next, process_next}
@@ -24,8 +24,8 @@ pub returns-in-None-clause-world : goal.returns-in-None-clause-world
 returns-in-None-clause-world c =
     let same : c.exec.new.self ≡ c.args.world.now = rw c.in-None.is at c.in_ok-exec.ensures.step in
     let ready : next_ready (now c.args.world.now) ≡ None = sym c.in_ok-exec.ensures.found ∙ c.in-None.is in
-    let P : History → Type 0 = λ x. IfOk c.slice_next.result (λ _. c.slice_next.new.world ≡ extended x (entries_of (slice_of (next_process (now x))))) in
-    let Q : Option Turn → Type 0 = λ o. IfOk c.slice_next.result (λ _. c.slice_next.new.world ≡ extended c.args.world.now (entries_of o)) in
+    let P : History → Type 0 = λ x. IfOk c.slice_next.result (λ _. Grew x c.slice_next.new.world (entries_of (slice_of (next_process (now x))))) in
+    let Q : Option Turn → Type 0 = λ o. IfOk c.slice_next.result (λ _. Grew c.args.world.now c.slice_next.new.world (entries_of o)) in
     subst Q (process_next (now c.args.world.now) ready) (subst P same c.slice_next.ensures.world)
 
 pub returns-in-None-clause-died : goal.returns-in-None-clause-died

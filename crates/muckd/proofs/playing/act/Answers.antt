@@ -1,5 +1,5 @@
 use Rattle.std.proofs.Common.{refl}
-use Rattle.muckd.proofs.Parts.{plays_if_lawful, opened_silent, input_silent, input_breaks}
+use Rattle.muckd.proofs.Parts.{plays_if_lawful, opened_silent, input_silent}
 use Rattle.muckd.proofs.playing.act.Goals as goal
 
 pub returns-in-Ok-clause-plays : goal.returns-in-Ok-clause-plays
@@ -9,7 +9,3 @@ returns-in-Ok-clause-plays c = λ o.
 pub returns-in-Ok-input-clause-plays : goal.returns-in-Ok-input-clause-plays
 returns-in-Ok-input-clause-plays c = λ o.
     rw c.in-Send.is (rw (← c.in-Ok-copy.ensures) (plays_if_lawful _ _ _ _ c.in-Ok-input.field-0 (input_silent _ _ _) refl c.requires c.in-Ok-input.ensures.lawful c.in-Ok-input.ensures.step))
-
-pub returns-in-Err-input-clause-plays : goal.returns-in-Err-input-clause-plays
-returns-in-Err-input-clause-plays c = λ o.
-    rw c.in-Send.is (rw (← c.in-Ok-copy.ensures) (input_breaks _ _ _ _ _ c.in-Err-input.ensures.may c.in-Err-input.ensures.died))

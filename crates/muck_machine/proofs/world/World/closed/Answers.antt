@@ -1,8 +1,7 @@
 use Rattle.std.proofs.Common.{refl}
-use Rattle.muck_machine.proofs.Keepings.{keeps_concluded, alive_if_lawful}
+use Rattle.muck_machine.proofs.Keepings.{keeps_concluded}
 use Rattle.muck_machine.proofs.world.World.closed.Goals as goal
 
 pub invariant_of-self : goal.invariant_of-self
 invariant_of-self c =
-    keeps_concluded c.self.inside.past _ _ _ _ c.close-done.result c.conclude.result c.self.invariant (alive_if_lawful c.self.inside.past _ _ _ c.self.invariant c.self.view_is c.requires refl) c.close-done.ensures refl c.conclude.ensures.same
-    c.conclude.ensures.past
+    keeps_concluded c.self.inside.past _ _ _ _ _ c.close-done.result c.conclude.result c.self.invariant c.self.view_is c.requires refl c.close-done.ensures c.conclude.ensures.same c.conclude.ensures.past

@@ -1,0 +1,5 @@
+use Rattle.muck_machine.proofs.Keepings.{lawful_seen}
+use Rattle.muck_machine.proofs.world.World.is_dead.Goals as goal
+
+pub returns-clause-lawful : goal.returns-clause-lawful
+returns-clause-lawful c = lawful_seen c.self.inside.past _ _ c.self.invariant c.self.view_is
