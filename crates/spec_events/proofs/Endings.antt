@@ -23,7 +23,7 @@ use Rattle.muck_library.specs.Library.{Library, formed}
 use Rattle.muck_library.specs.Programs.{built_tree}
 use Rattle.std.specs.Prelude.{Result, Ok, Err}
 use Rattle.muck_queue.specs.declared.process.Process.{Process}
-use Rattle.muck_queue.specs.Queues.{Queue, is_in, has_pid, has_trigger, runs, is_tied_to, without_trigger, without_all, process, added, claimed, claimed_by, changed_first, ended_tied, ended_running, trigger_cleared}
+use Rattle.muck_queue.specs.Queues.{Queue, is_in, has_pid, has_trigger, runs, is_tied_to, without_trigger, without_all, process, added, ended_tied, ended_running, trigger_cleared}
 use Rattle.muck_queue.specs.Queues as queues
 use Rattle.spec_commands.specs.declared.outcome.Outcome.{Outcome}
 use Rattle.spec_commands.specs.declared.outcome.Outcome.TheVariants.{Done, NotMine, Start as StartOutcome, Edit, Leave, Dump, Stop, Retune}
@@ -135,22 +135,6 @@ clear d false p = (refl, refl)
 lasting_cleared : (may : Option Source → Type 0) (d : Dbref) (q : Queue) → Lasting may q (trigger_cleared d q)
 unfolding trigger_cleared
 lasting_cleared may d q pid = lasts_each may (λ p. cond (has_trigger d p) (without_trigger p) p) (λ p. clear d (has_trigger d p) p) pid q.processes
-
-pub lasts_claimed : (may : Option Source → Type 0) (party : ℕ) (pid at : ℤ) (ps : List Process) → Lasts may (find (has_pid at) ps) (find (has_pid at) (changed_first (has_pid pid) (claimed_by party) ps))
-lasts_claimed may party pid at [] = tt
-lasts_claimed may party pid at (p ∷ ps) = one (lasts_claimed may party pid at ps) (has_pid pid p)
-  where
-    first : (b : Bool) → Lasts may (cond b (Some p) (find (has_pid at) ps)) (cond b (Some (claimed_by party p)) (find (has_pid at) ps))
-    first true = inl refl
-    first false = lasts_same may (find (has_pid at) ps)
-
-    next : Lasts may (find (has_pid at) ps) (find (has_pid at) (changed_first (has_pid pid) (claimed_by party) ps)) → (b : Bool) → Lasts may (cond b (Some p) (find (has_pid at) ps)) (cond b (Some p) (find (has_pid at) (changed_first (has_pid pid) (claimed_by party) ps)))
-    next r true = inl refl
-    next r false = r
-
-    one : Lasts may (find (has_pid at) ps) (find (has_pid at) (changed_first (has_pid pid) (claimed_by party) ps)) → (c : Bool) → Lasts may (cond (has_pid at p) (Some p) (find (has_pid at) ps)) (find (has_pid at) (cond c (claimed_by party p ∷ ps) (p ∷ changed_first (has_pid pid) (claimed_by party) ps)))
-    one r true = first (has_pid at p)
-    one r false = next r (has_pid at p)
 
 -- What follows from a change of objects.
 
