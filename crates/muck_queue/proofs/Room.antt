@@ -83,7 +83,7 @@ fewer : (c : Claim) (cs : List Claim) (ps : List Process) → unclaimed (cs ++ c
 fewer c cs [] = omega arith
 fewer c cs (p ∷ ps) =
     let m = unclaimed (cs ++ c ∷ []) ps in
-    rw (claimed_more p.number c cs) (fewer_one (is_claimed p.number cs) (is_on p.number c) m (unclaimed cs ps) (fewer c cs ps))
+    subst (λ b. cond b m (suc m) ≤ unclaimed cs (p ∷ ps)) (sym (claimed_more p.number c cs)) (fewer_one (is_claimed p.number cs) (is_on p.number c) m (unclaimed cs ps) (fewer c cs ps))
 
 taken_here : (a b : Bool) (m k : ℕ) → a ≡ false → b ≡ true → m ≤ k → suc (cond (a || b) m (suc m)) ≤ cond a k (suc k)
 taken_here true b m k e f h = absurd cc
@@ -104,14 +104,16 @@ unclaimed_claimed c cs r [] n e a = absurd a
 unclaimed_claimed c cs r (p ∷ ps) n e (inl is) =
     let on : is_on p.number c ≡ true = ap (λ (q : Process). int_eq c.number q.number) (sym is) ∙ ap (λ k. int_eq c.number k) (sym n) ∙ itself c.number in
     let free : is_claimed p.number cs ≡ false = ap (λ (q : Process). is_claimed q.number cs) (sym is) ∙ e in
-    rw (claimed_more p.number c cs) (taken_here (is_claimed p.number cs) (is_on p.number c) _ _ free on (fewer c cs ps))
+    let m = unclaimed (cs ++ c ∷ []) ps in
+    subst (λ b. suc (cond b m (suc m)) ≤ unclaimed cs (p ∷ ps)) (sym (claimed_more p.number c cs)) (taken_here (is_claimed p.number cs) (is_on p.number c) m (unclaimed cs ps) free on (fewer c cs ps))
 unclaimed_claimed c cs r (p ∷ ps) n e (inr s) =
-    rw (claimed_more p.number c cs) (taken_later (is_claimed p.number cs) (is_on p.number c) _ _ (unclaimed_claimed c cs r ps n e s))
+    let m = unclaimed (cs ++ c ∷ []) ps in
+    subst (λ b. suc (cond b m (suc m)) ≤ unclaimed cs (p ∷ ps)) (sym (claimed_more p.number c cs)) (taken_later (is_claimed p.number cs) (is_on p.number c) m (unclaimed cs ps) (unclaimed_claimed c cs r ps n e s))
 
 -- Nobody claims a process any more.
 
 module _ (pid : ℤ) where
-  abbrev left : List Claim → List Claim
+  abbrev pub left : List Claim → List Claim
   left cs = filter (λ c. not (is_on pid c)) cs
 
   -- some claims go, or all stay
@@ -155,7 +157,7 @@ module _ (pid : ℤ) where
   unclaimed_left low last cs [] r = omega arith
   unclaimed_left low last cs (p ∷ ps) r = decide (int_eq p.number pid) refl where
     decide : (b : Bool) → int_eq p.number pid ≡ b → unclaimed (left cs) (p ∷ ps) ≤ suc (unclaimed cs (p ∷ ps))
-    decide true e = one_more (is_claimed p.number (left cs)) (is_claimed p.number cs) _ _ (above p.number last cs ps (omega (arith, ints, e)) r.1)
+    decide true e = one_more (is_claimed p.number (left cs)) (is_claimed p.number cs) _ _ (above p.number last cs ps (grind (arith, ints, e)) r.1)
     decide false e =
         subst (λ b. cond b (unclaimed (left cs) ps) (suc (unclaimed (left cs) ps)) ≤ suc (unclaimed cs (p ∷ ps))) (sym (others p.number cs e))
         (same_more (is_claimed p.number cs) _ _ (unclaimed_left p.number last cs ps r.1))
@@ -165,4 +167,4 @@ module _ (pid : ℤ) where
   room_left low last cs ps r = decide (shorter cs) where
     decide : (suc (length (left cs)) ≤ length cs) ⊎ (left cs ≡ cs) → unclaimed (left cs) ps + length (left cs) ≤ unclaimed cs ps + length cs
     decide (inl h) = let more = unclaimed_left low last cs ps r in omega arith
-    decide (inr e) = rw e (omega arith)
+    decide (inr e) = subst (λ xs. unclaimed xs ps + length xs ≤ unclaimed cs ps + length cs) (sym e) (omega arith)
