@@ -3,6 +3,7 @@ pub mod Told
 pub mod Endings
 pub mod Done
 pub mod Units
+mod Remaining
 pub mod Taken
 pub mod Living
 pub mod Reached

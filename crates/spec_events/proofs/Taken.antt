@@ -31,6 +31,7 @@ use Rattle.spec_events.specs.Licences.{UnitLicensed, SliceLicensed}
 use Rattle.spec_events.proofs.Quietly.{quietly_live, quietly_queue, quietly_library}
 use Rattle.spec_events.proofs.Told.{licensed_as}
 use Rattle.spec_events.proofs.Endings.{IsTold, told_settled}
+use Rattle.spec_events.proofs.Remaining.{leaves_turn}
 use Rattle.spec_events.proofs.Done.{told_by, Open, open_quietly, open_settled, Going, going_same, going_open}
 
 licensed_itself : (a : Actor) (w : Live) → Licensed a nobody w w
@@ -127,61 +128,6 @@ opens_turn : (left : ℕ) (pid : ℤ) (x : Agent) (s : Source) (w : World) → O
 unfolding turn
 opens_turn left pid x s w = opens_limited pid x s w (limit_fault left)
 
--- Slices.
-
-module _ (pid : ℤ) where
-  licensed_more : (n : ℕ) → ((w : World) → All UnitLicensed (run_of n pid w)) → (t : Turn) → All UnitLicensed (then_more (run_of n pid) t)
-  licensed_more n h (on w) = h w
-  licensed_more n h (over w) = All-nil UnitLicensed
-
-  licensed_last : (w : World) (o : Option (Agent × Source)) → All UnitLicensed (option_map_or (λ q. unit_of q.0 q.1 w (turn zero pid q.0 q.1 w) ∷ []) o [])
-  licensed_last w None = All-nil UnitLicensed
-  licensed_last w (Some (x, s)) = All-cons UnitLicensed _ [] (opens_turn zero pid x s w).licensed (All-nil UnitLicensed)
-
-  licensed_next : (n : ℕ) (w : World) → ((v : World) → All UnitLicensed (run_of n pid v)) → (o : Option (Agent × Source)) →
-      All UnitLicensed (option_map_or (λ q. unit_of q.0 q.1 w (turn (suc n) pid q.0 q.1 w) ∷ then_more (run_of n pid) (turn (suc n) pid q.0 q.1 w)) o [])
-  licensed_next n w h None = All-nil UnitLicensed
-  licensed_next n w h (Some (x, s)) = All-cons UnitLicensed _ _ (opens_turn (suc n) pid x s w).licensed (licensed_more n h (turn (suc n) pid x s w))
-
-  units_licensed : (n : ℕ) (w : World) → All UnitLicensed (run_of n pid w)
-  unfolding run_of
-  units_licensed zero w = licensed_last w (seat pid w)
-  units_licensed (suc n) w = licensed_next n w (units_licensed n) (seat pid w)
-
-  pub slice_licensed : (w : World) → SliceLicensed (units_of pid w) w (sliced pid w)
-  unfolding sliced
-  slice_licensed w = record { units = units_licensed w.live.board.tune.m2_units w; leads = refl }
-
-  -- and the world lives on, with the same connections
-
-  going_both : (u v w : World) → Going u v → Going v w → Going u w
-  going_both u v w p q = record { numbers = q.numbers ∙ p.numbers; dead = q.dead ∙ p.dead }
-
-  going_turn : (n : ℕ) (x : Agent) (s : Source) (w : World) → Going w (world_of (turn n pid x s w))
-  going_turn n x s w = going_open (acting x s w.live.objects) nobody w _ (opens_turn n pid x s w)
-
-  going_more : (n : ℕ) → ((w : World) → Going w (last_world w (run_of n pid w))) → (t : Turn) → Going (world_of t) (last_world (world_of t) (then_more (run_of n pid) t))
-  going_more n h (on w) = h w
-  going_more n h (over w) = going_same w
-
-  going_last : (w : World) (o : Option (Agent × Source)) → Going w (last_world w (option_map_or (λ q. unit_of q.0 q.1 w (turn zero pid q.0 q.1 w) ∷ []) o []))
-  going_last w None = going_same w
-  going_last w (Some (x, s)) = going_turn zero x s w
-
-  going_next : (n : ℕ) (w : World) → ((v : World) → Going v (last_world v (run_of n pid v))) → (o : Option (Agent × Source)) →
-      Going w (last_world w (option_map_or (λ q. unit_of q.0 q.1 w (turn (suc n) pid q.0 q.1 w) ∷ then_more (run_of n pid) (turn (suc n) pid q.0 q.1 w)) o []))
-  going_next n w h None = going_same w
-  going_next n w h (Some (x, s)) = going_both w _ _ (going_turn (suc n) x s w) (going_more n h (turn (suc n) pid x s w))
-
-  going_run : (n : ℕ) (w : World) → Going w (last_world w (run_of n pid w))
-  unfolding run_of
-  going_run zero w = going_last w (seat pid w)
-  going_run (suc n) w = going_next n w (going_run n) (seat pid w)
-
-  pub sliced_going : (w : World) → Going w (sliced pid w)
-  unfolding sliced
-  sliced_going w = going_run w.live.board.tune.m2_units w
-
 -- Of what was told before a slice nothing is to be told behind it.
 
 abbrev DeedTold : Deed World → Type 0
@@ -247,3 +193,62 @@ module _ (pid : ℤ) where
   pub told_sliced : (w : World) → IsTold w.live → IsTold (sliced pid w).live
   unfolding sliced
   told_sliced w h = told_run w.live.board.tune.m2_units w h
+
+-- Slices.
+
+module _ (pid : ℤ) where
+  licensed_more : (n : ℕ) → ((w : World) → IsTold w.live → All (UnitLicensed pid) (run_of n pid w)) → (t : Turn) → IsTold (world_of t).live → All (UnitLicensed pid) (then_more (run_of n pid) t)
+  licensed_more n h (on w) told = h w told
+  licensed_more n h (over w) told = All-nil (UnitLicensed pid)
+
+  licensed_unit : (n : ℕ) (x : Agent) (s : Source) (w : World) → IsTold w.live → UnitLicensed pid (unit_of x s w (turn n pid x s w))
+  licensed_unit n x s w told = ((opens_turn n pid x s w).licensed, leaves_turn pid w n x s told)
+
+  licensed_last : (w : World) → IsTold w.live → (o : Option (Agent × Source)) → All (UnitLicensed pid) (option_map_or (λ q. unit_of q.0 q.1 w (turn zero pid q.0 q.1 w) ∷ []) o [])
+  licensed_last w told None = All-nil (UnitLicensed pid)
+  licensed_last w told (Some (x, s)) = All-cons (UnitLicensed pid) _ [] (licensed_unit zero x s w told) (All-nil (UnitLicensed pid))
+
+  licensed_next : (n : ℕ) (w : World) → IsTold w.live → ((v : World) → IsTold v.live → All (UnitLicensed pid) (run_of n pid v)) → (o : Option (Agent × Source)) →
+      All (UnitLicensed pid) (option_map_or (λ q. unit_of q.0 q.1 w (turn (suc n) pid q.0 q.1 w) ∷ then_more (run_of n pid) (turn (suc n) pid q.0 q.1 w)) o [])
+  licensed_next n w told h None = All-nil (UnitLicensed pid)
+  licensed_next n w told h (Some (x, s)) =
+      All-cons (UnitLicensed pid) _ _ (licensed_unit (suc n) x s w told) (licensed_more n h (turn (suc n) pid x s w) (told_turn pid (suc n) x s w told))
+
+  units_licensed : (n : ℕ) (w : World) → IsTold w.live → All (UnitLicensed pid) (run_of n pid w)
+  unfolding run_of
+  units_licensed zero w told = licensed_last w told (seat pid w)
+  units_licensed (suc n) w told = licensed_next n w told (units_licensed n) (seat pid w)
+
+  pub slice_licensed : (w : World) → IsTold w.live → SliceLicensed pid (units_of pid w) w (sliced pid w)
+  unfolding sliced
+  slice_licensed w told = record { units = units_licensed w.live.board.tune.m2_units w told; leads = refl; processes = refl }
+
+  -- and the world lives on, with the same connections
+
+  going_both : (u v w : World) → Going u v → Going v w → Going u w
+  going_both u v w p q = record { numbers = q.numbers ∙ p.numbers; dead = q.dead ∙ p.dead }
+
+  going_turn : (n : ℕ) (x : Agent) (s : Source) (w : World) → Going w (world_of (turn n pid x s w))
+  going_turn n x s w = going_open (acting x s w.live.objects) nobody w _ (opens_turn n pid x s w)
+
+  going_more : (n : ℕ) → ((w : World) → Going w (last_world w (run_of n pid w))) → (t : Turn) → Going (world_of t) (last_world (world_of t) (then_more (run_of n pid) t))
+  going_more n h (on w) = h w
+  going_more n h (over w) = going_same w
+
+  going_last : (w : World) (o : Option (Agent × Source)) → Going w (last_world w (option_map_or (λ q. unit_of q.0 q.1 w (turn zero pid q.0 q.1 w) ∷ []) o []))
+  going_last w None = going_same w
+  going_last w (Some (x, s)) = going_turn zero x s w
+
+  going_next : (n : ℕ) (w : World) → ((v : World) → Going v (last_world v (run_of n pid v))) → (o : Option (Agent × Source)) →
+      Going w (last_world w (option_map_or (λ q. unit_of q.0 q.1 w (turn (suc n) pid q.0 q.1 w) ∷ then_more (run_of n pid) (turn (suc n) pid q.0 q.1 w)) o []))
+  going_next n w h None = going_same w
+  going_next n w h (Some (x, s)) = going_both w _ _ (going_turn (suc n) x s w) (going_more n h (turn (suc n) pid x s w))
+
+  going_run : (n : ℕ) (w : World) → Going w (last_world w (run_of n pid w))
+  unfolding run_of
+  going_run zero w = going_last w (seat pid w)
+  going_run (suc n) w = going_next n w (going_run n) (seat pid w)
+
+  pub sliced_going : (w : World) → Going w (sliced pid w)
+  unfolding sliced
+  sliced_going w = going_run w.live.board.tune.m2_units w

@@ -36,7 +36,7 @@ gone_away_untouched d w =
 event_licensed : (event : Event) (w : World) (party : ℕ) → IsTold w.live → EventLicensed event w (happened w party event)
 unfolding opened line_added bytes_taken claimed released
 event_licensed (Exec d) w party told = exec_licensed d w party told
-event_licensed (Slice pid) w party told = let s = slice_licensed pid w in record { units = s.units; leads = s.leads }
+event_licensed (Slice pid) w party told = let s = slice_licensed pid w told in record { units = s.units; leads = s.leads; processes = s.processes }
 event_licensed (Closed d) w party told = (gone_away_untouched d w.live, tied_remain d w.queue)
 event_licensed (Opened d) w party told = (record { objects = refl; tune = refl }, none_ends w (happened w party (Opened d)) refl)
 event_licensed (Input d line) w party told = undisturbed_quietly (λ c. false) (on_board (line_added d line)) w (quiet_one d _ (λ c. refl))
