@@ -8,7 +8,7 @@ use Rattle.muck_model.specs.declared.dbref.Dbref.{Dbref}
 use Rattle.muf_model.specs.Source.{Source}
 use Rattle.muck_queue.specs.declared.claim.Claim.{Claim}
 use Rattle.muck_queue.specs.declared.process.Process.{Process}
-use Rattle.muck_queue.specs.Queues.{at_state, changed_first, has_pid, has_trigger, is_claimed, is_on, numbered, without_all, without_first, without_trigger}
+use Rattle.muck_queue.specs.Queues.{at_state, changed_first, has_pid, has_trigger, is_on, numbered, without_all, without_first, without_trigger}
 use Rattle.muck_queue.specs.inner.Leading.{Leads}
 use Rattle.muck_queue.specs.inner.Numbered.{Rises}
 use Rattle.muck_queue.specs.inner.Room.{Stands, unclaimed}

@@ -36,7 +36,7 @@ abbrev pub has_claim : ℕ → ℤ → World → Bool
 has_claim party pid w = list_any (λ c. is_on pid c && c.party == party) w.queue.claims
 
 -- Lawful in a world that isn't dead. Connections and what runs over them are the first party's alone, and so is the end of
--- the run; lines and processes are any party's. An event that nothing uses yet is lawful nowhere.
+-- the run; lines and processes are any party's. Of the events that nothing uses yet Lost alone is lawful anywhere.
 abbrev pub is_allowed : World → ℕ → Event → Bool
 is_allowed w party (Opened d) = party == 0 && is_none (connection d w) && nat_lt (length w.live.board.connections) connections_most && not w.stopping
 is_allowed w party (Input d line) = party == 0 && passes takes_line d w && not w.stopping

@@ -7,7 +7,7 @@ use Rattle.muf_model.specs.Tree.{stop, closes}
 use Rattle.muf_model.specs.Source.{Program, Source, entering}
 use Rattle.muck_queue.specs.declared.process.Process.{Process}
 use Rattle.muck_queue.specs.declared.process.Mode.TheVariants.{Foreground}
-use Rattle.muck_queue.specs.Queues.{Queue, process, next_due, claimed, released, without, is_full, added, is_tied, ended_tied, ended_running, trigger_cleared, number_most}
+use Rattle.muck_queue.specs.Queues.{Queue, next_due, claimed, released, without, is_full, added, is_tied, ended_tied, ended_running, trigger_cleared, number_most}
 
 abbrev pub program_of : ℤ → Program
 program_of number = record { number = number; tree = record { words = []; variables = 0 } }
