@@ -12,6 +12,6 @@ unclaimed cs (p ∷ ps) = if is_claimed p.number cs then unclaimed cs ps else su
 
 -- What a queue keeps that has room for so many claims: its numbers rise, and beside its claims there is room for one on each
 -- process that nobody has claimed. So a claim takes no memory: its room is there since the process was added.
-pub record Stands (room : ℕ) (last : ℤ) (cs : List Claim) (ps : List Process) : Type 0 where
+pub record Stands (most : ℕ) (last : ℤ) (cs : List Claim) (ps : List Process) : Type 0 where
   pub numbered : Rises (pos 0) last ps
-  pub room : unclaimed cs ps + length cs ≤ room
+  pub room : unclaimed cs ps + length cs ≤ most
