@@ -5,7 +5,7 @@ use Rattle.std.specs.Option.{option_and_then}
 use Rattle.std.specs.Ordering.{int_eq}
 use Rattle.std.proofs.lemmas.List.{length-map}
 use Rattle.muf_model.specs.declared.fault.MufFault.TheVariants.{BadType}
-use Rattle.muf_model.specs.Datum.{Datum, int, object, variable}
+use Rattle.muf_model.specs.Datum.{Datum, int, object}
 use Rattle.muf_model.specs.Answer.{Answer, refuses, Scope, plain, makes, put, unless, needing}
 use Rattle.muf_model.specs.Needs.{takes, an_int, an_object, int_or_object, numbered}
 use Rattle.muf_model.specs.Rows.{used}
@@ -76,9 +76,6 @@ number_read (Some i) rest = put 1 (makes (int i ∷ [])) rest
 number_read None rest = refuses BadType
 
 number_of_read : (stack : List Datum) → unless (kinds (numbered ∷ []) stack) (put 1 (number_of (take 1 stack)) (drop 1 stack)) ≡ number_read (option_and_then as_number (slice_get stack 0)) (drop 1 stack)
-number_of_read (int i ∷ rest) = refl
-number_of_read (object d ∷ rest) = refl
-number_of_read (variable v ∷ rest) = refl
 number_of_read _ = refl
 
 pub number_of_used : (level : ℕ) (s : Scope) (stack : List Datum) → used level (takes (numbered ∷ [])) (Some (plain number_of)) s stack ≡ needing 1 s.locked stack (number_read (option_and_then as_number (slice_get stack 0)) (drop 1 stack))
