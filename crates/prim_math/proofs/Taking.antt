@@ -76,6 +76,7 @@ number_read (Some i) rest = put 1 (makes (int i ∷ [])) rest
 number_read None rest = refuses BadType
 
 number_of_read : (stack : List Datum) → unless (kinds (numbered ∷ []) stack) (put 1 (number_of (take 1 stack)) (drop 1 stack)) ≡ number_read (option_and_then as_number (slice_get stack 0)) (drop 1 stack)
+number_of_read (int i ∷ rest) = refl
 number_of_read _ = refl
 
 pub number_of_used : (level : ℕ) (s : Scope) (stack : List Datum) → used level (takes (numbered ∷ [])) (Some (plain number_of)) s stack ≡ needing 1 s.locked stack (number_read (option_and_then as_number (slice_get stack 0)) (drop 1 stack))
