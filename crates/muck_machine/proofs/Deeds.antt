@@ -35,7 +35,7 @@ use Rattle.spec_events.specs.World.{World}
 use Rattle.spec_prims.specs.Asking.{numbered}
 use Rattle.spec_prims.specs.Row.{Row, gives, refuses, Doing as RowDoing}
 use Rattle.spec_prims.specs.Shared.{row_in, done_by, shared}
-use Rattle.prim_talk.specs.Applied.{Applied}
+use Rattle.prim_common.specs.Applied.{Applied}
 use Rattle.muck_perm.specs.declared.guard.Guard.{Guard}
 use Rattle.muck_perm.specs.Guards.{world_of}
 use Rattle.spec_live.specs.Lives.{Live}

@@ -5,14 +5,14 @@ ghost use Rattle.muf_model.specs.declared.prims.Primitive.TheVariants.{Notify};
 ghost use Rattle.muf_frame.specs.Shown.{Shown, flat, locked_by};
 ghost use Rattle.muck_perm.specs.Guards.{world_of};
 ghost use Rattle.spec_prims.specs.Shared.{shared};
-ghost use Rattle.prim_talk.specs.Applied.{Applied};
-ghost use Rattle.prim_talk.specs.Tests.{told_in};
+ghost use Rattle.prim_common.specs.Applied.{Applied};
+ghost use Rattle.prim_talk.specs.Told.{told_in};
 
-use crate::ready::ready;
 use muck_model::Dbref;
 use muck_perm::Guard;
 use muf_frame::{Frame, PrimFault};
 use muf_model::{MufFault, Prim, Text};
+use prim_common::ready;
 
 // The player and the text above it.
 fn told(frame: &Frame) -> Option<(Dbref, &Text)>
@@ -28,7 +28,7 @@ fn told(frame: &Frame) -> Option<(Dbref, &Text)>
 pub(crate) fn notify(guard: &mut Guard, frame: &mut Frame) -> Result<(), PrimFault>
     ensures { Applied (shared Notify guard.old.actor (locked_by (flat frame.old).marks) (flat frame.old).stack (world_of guard.old)) frame.old frame.new guard.old guard.new result }
 {
-    ready(Prim::Notify, guard, frame)?;
+    ready(Prim::Notify, None, guard, frame)?;
     let Some((player, text)) = told(frame) else {
         return Err(PrimFault::Fault(MufFault::BadType));
     };

@@ -6,7 +6,7 @@ ghost use Rattle.muf_frame.specs.Shown.{Shown, flat, locked_by};
 ghost use Rattle.muck_perm.specs.Guards.{world_of};
 ghost use Rattle.spec_prims.specs.Shared.{shared};
 ghost use Rattle.spec_prims.specs.Talk.{talk_row};
-ghost use Rattle.prim_talk.specs.Applied.{Applied};
+ghost use Rattle.prim_common.specs.Applied.{Applied};
 
 use crate::rows;
 use muck_perm::Guard;

@@ -22,7 +22,7 @@ Keeps w (refuses f) = Unit {0}
 
 abbrev IsQuiet : Option Doing → Type 0
 IsQuiet None = Unit {0}
-IsQuiet (Some doing) = (a : Actor) (items : List Datum) (w : Live) → Keeps w (doing a items w)
+IsQuiet (Some doing) = (a : Actor) (items : List Datum) (w : Live) → Keeps w (doing.does a items w)
 
 -- one line for each row
 
@@ -55,7 +55,7 @@ keeps_unless (Some f) w row h = tt
 keeps_done : (doing : Option Doing) (p : Primitive) (a : Actor) (locked : ℕ) (stack : List Datum) (w : Live) → IsQuiet doing → Keeps w (done_by doing p a locked stack w)
 keeps_done None p a locked stack w q = tt
 keeps_done (Some doing) p a locked stack w q =
-    keeps_unless (first_fault p a locked stack w) w _ (keeps_upon _ w _ (q a _ w))
+    keeps_unless (first_fault p (doing.argued a _ w) a locked stack w) w _ (keeps_upon _ w _ (q a _ w))
 
 pub shared_keeps : (p : Primitive) (a : Actor) (locked : ℕ) (stack : List Datum) (w : Live) → Keeps w (shared p a locked stack w)
 unfolding shared

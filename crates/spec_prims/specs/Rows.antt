@@ -1,17 +1,20 @@
 -- Worked rows, which the checker computes.
-use Rattle.std.specs.Prelude.{◌≡◌, ℕ, ℤ, pos, List, [], ◌∷◌, codes, refl}
+use Rattle.std.specs.Prelude.{◌≡◌, ℕ, ℤ, pos, negsuc, List, [], ◌∷◌, Option, Some, None, codes, refl}
 use Rattle.spec_live.specs.Objects.{dbref_of, object_at, number_in, kind_in, object_in}
 use Rattle.spec_live.specs.Boards.{first_tune, early_board, told_player}
 use Rattle.spec_live.specs.Lives.{Live, tell_player}
 use Rattle.spec_live.specs.Start.{room_zero, player_one, first_objects}
 use Rattle.spec_rights.specs.declared.act.Actor.{Actor}
 use Rattle.spec_rights.specs.Verdict.{is_near}
-use Rattle.muf_model.specs.declared.fault.MufFault.TheVariants.{StackEmpty, StackLocked, BadType, NoSuchObject, Denied, NotCompiled}
+use Rattle.muf_model.specs.declared.fault.MufFault.TheVariants.{StackEmpty, StackLocked, BadType, BadArgument, NoSuchObject, Denied, NotCompiled}
 use Rattle.muf_model.specs.declared.prims.Primitive.TheVariants.{Notify, IsAwake}
+use Rattle.muf_model.specs.declared.fault.MufFault.{MufFault}
 use Rattle.muf_model.specs.Datum.{Datum, int, text, object}
+use Rattle.muf_model.specs.Needs.{counts, an_int, a_near_one}
 use Rattle.spec_prims.specs.Asking.{level_fault, is_there, near_fault}
-use Rattle.spec_prims.specs.Row.{gives, refuses}
-use Rattle.spec_prims.specs.Shared.{first_fault, shared}
+use Rattle.spec_prims.specs.Row.{gives, refuses, Doing}
+use Rattle.spec_prims.specs.Shared.{fault_by, first_fault, done_by, shared}
+use Rattle.spec_prims.specs.Talk.{notified}
 
 -- Room Zero and One, and nobody connected
 abbrev pub at_first : Live
@@ -27,6 +30,14 @@ hello = text (codes "hello")
 -- a text upon an object of that number
 abbrev pub told : ℕ → List Datum
 told n = hello ∷ object (pos n) ∷ []
+
+-- one that allows no arguments
+abbrev pub forbidden : Doing
+forbidden = record { argued = λ a items w. Some BadArgument; does = notified }
+
+-- the tests of one that takes objects which the top counts, and which must be near
+abbrev pub counted : Actor → List Datum → Option MufFault
+counted a stack = fault_by (counts (an_int ∷ []) (a_near_one ∷ []) []) 1 None a 0 stack at_first
 
 -- the rows
 unfoldable pub Rows : Type 0
@@ -45,9 +56,17 @@ Rows =
     × (shared Notify (acting_at 2 7) 0 (told 1) at_first ≡ gives [] at_first)
     -- what is under the items stays
     × (shared Notify (acting_at 1 1) 0 (hello ∷ object (pos 1) ∷ hello ∷ []) at_first ≡ gives (hello ∷ []) at_first)
+    -- a rule for its arguments is asked behind which are there, and before which are near
+    × (done_by (Some forbidden) Notify (acting_at 1 1) 0 (told 7) at_first ≡ refuses NoSuchObject)
+    × (done_by (Some forbidden) Notify (acting_at 1 7) 0 (told 1) at_first ≡ refuses BadArgument)
+    -- so many objects as the top says: with too few of them, with a count below 0, and with one that isn't there
+    × (counted (acting_at 1 1) (int (pos 2) ∷ object (pos 1) ∷ []) ≡ Some StackEmpty)
+    × (counted (acting_at 1 1) (int (negsuc 0) ∷ object (pos 1) ∷ []) ≡ Some BadArgument)
+    × (counted (acting_at 1 1) (int (pos 2) ∷ object (pos 1) ∷ object (pos 7) ∷ []) ≡ Some NoSuchObject)
+    × (counted (acting_at 1 1) (int (pos 2) ∷ object (pos 1) ∷ object (pos 1) ∷ []) ≡ None)
     -- one without a row
     × (shared IsAwake (acting_at 4 1) 0 (told 1) at_first ≡ refuses NotCompiled)
 
 pub rows : Rows
 unfolding Rows first_tune early_board told_player tell_player object_at number_in kind_in object_in room_zero player_one first_objects is_near level_fault is_there near_fault first_fault shared
-rows = (refl, refl, refl, refl, refl, refl, refl, refl, refl)
+rows = (refl, refl, refl, refl, refl, refl, refl, refl, refl, refl, refl, refl, refl, refl, refl)

@@ -4,23 +4,24 @@ use Rattle.muf_model.specs.Prims.{needs_of, level_of}
 use Rattle.muf_model.specs.Needs.{shown_needs}
 use Rattle.muf_frame.specs.Shown.{flat, locked_by}
 use Rattle.muck_perm.specs.Guards.{world_of}
-use Rattle.prim_talk.specs.Tests.{Passes, IsFixed}
-use Rattle.prim_talk.proofs.Walks.{first_fixed, first_none}
-use Rattle.prim_talk.proofs.ready.ready.Goals as goal
+use Rattle.prim_common.specs.Tests.{Passes}
+use Rattle.prim_common.proofs.Counts.{needs_few}
+use Rattle.prim_common.proofs.First.{first_some, first_none}
+use Rattle.prim_common.proofs.order.ready.Goals as goal
 
-pub test_fixed-requires : goal.test_fixed-requires
-test_fixed-requires c =
+pub test_all-requires : goal.test_all-requires
+test_all-requires c =
     let needs : needs_of c.args.prim ≡ Some (shown_needs c.in-Some.needs) = ap (λ r. r.needs) (sym c.row-row.ensures) ∙ ap (option_map shown_needs) c.in-Some.is in
-    (subst IsFixed needs c.requires).1
+    needs_few c.args.prim (shown_needs c.in-Some.needs) needs
 
 pub returns-in-Some : goal.returns-in-Some
 returns-in-Some c =
     let needs : needs_of c.args.prim ≡ Some (shown_needs c.in-Some.needs) = ap (λ r. r.needs) (sym c.row-row.ensures) ∙ ap (option_map shown_needs) c.in-Some.is in
     let level : c.row-row.result.level ≡ level_of c.args.prim = ap (λ r. r.level) c.row-row.ensures in
-    subst (λ o. Passes o c.test_fixed.result) (first_fixed c.args.prim (shown_needs c.in-Some.needs) c.args.guard.now.actor (locked_by (flat c.args.frame.now).marks) (flat c.args.frame.now).stack (world_of c.args.guard.now) needs (subst IsFixed needs c.requires).0)
-    (rw (sym level) c.test_fixed.ensures)
+    subst (λ o. Passes o c.test_all.result) (first_some c.args.prim (shown_needs c.in-Some.needs) c.args.argued c.args.guard.now.actor (locked_by (flat c.args.frame.now).marks) (flat c.args.frame.now).stack (world_of c.args.guard.now) needs)
+    (rw (sym level) c.test_all.ensures)
 
 pub returns-in-None : goal.returns-in-None
 returns-in-None c =
     let needs : needs_of c.args.prim ≡ None = ap (λ r. r.needs) (sym c.row-row.ensures) ∙ ap (option_map shown_needs) c.in-None.is in
-    first_none c.args.prim c.args.guard.now.actor (locked_by (flat c.args.frame.now).marks) (flat c.args.frame.now).stack (world_of c.args.guard.now) needs
+    first_none c.args.prim c.args.argued c.args.guard.now.actor (locked_by (flat c.args.frame.now).marks) (flat c.args.frame.now).stack (world_of c.args.guard.now) needs

@@ -1,0 +1,4 @@
+mod Counts
+mod Faults
+mod First
+mod Walks

@@ -1,0 +1,8 @@
+//! What every primitive that reaches the world begins with, over a world that is lent and the frame of the program that uses it.
+#![tactic(auto)]
+
+mod items;
+mod order;
+mod parts;
+
+pub use order::ready;
