@@ -1,5 +1,5 @@
 -- How many items needs name.
-use Rattle.std.proofs.Common.{◌≡◌, ℕ, zero, suc, ◌+◌, ◌*◌, ◌<◌, ◌≤◌, List, [], ◌∷◌, ◌++◌, length, cond, Bool, true, false, Option, Some, None, refl, sym, ap, ◌∙◌, arith}
+use Rattle.std.proofs.Common.{◌≡◌, ℕ, zero, suc, ◌+◌, ◌*◌, ◌<◌, ◌≤◌, List, [], ◌∷◌, ◌++◌, length, drop, cond, Bool, true, false, Option, Some, None, refl, sym, ap, ◌∙◌, arith}
 use Rattle.std.specs.Prelude.{ℤ, pos, negsuc, nat_lt, ◌&&◌}
 use Rattle.std.proofs.lemmas.List.{length-append, length-map, append-nil}
 use Rattle.std.proofs.lemmas.Bool.{ltb-true}
@@ -14,12 +14,12 @@ use Rattle.muf_model.specs.Answer.{too_few}
 use Rattle.muf_model.specs.Datum.{Datum, int}
 use Rattle.muf_model.specs.Needs.{Many, Needs}
 use Rattle.muf_model.specs.Prims.{needs_of}
-use Rattle.muf_model.specs.Ladder.{short, times, wanted, miscounted, too_short}
+use Rattle.muf_model.specs.Ladder.{short, times, counted, wanted, miscounted, too_short}
 use Rattle.muf_frame.specs.Answers.{int_at}
 use Rattle.prim_common.specs.Tests.{count_of, uncounted, AreFew, FewCounted}
 use Rattle.prim_common.proofs.Faults.{or_assoc}
 
--- the count on the top
+-- the item that counts
 
 count_top : (o : Option ℤ) (n : ℕ) → o ≡ Some (pos n) → n ≡ count_of o
 count_top o n e = ap count_of (sym e)
@@ -30,21 +30,28 @@ abbrev negative : Option ℤ → Option MufFault
 negative (Some (negsuc n)) = Some BadArgument
 negative _ = None
 
-pub miscounted_at : (stack : List Datum) → miscounted stack ≡ negative (int_at 0 stack)
-miscounted_at [] = refl
-miscounted_at (int (pos n) ∷ rest) = refl
-miscounted_at (int (negsuc n) ∷ rest) = refl
-miscounted_at (_ ∷ rest) = refl
+pub miscounted_at : (at : ℕ) (stack : List Datum) → miscounted (drop at stack) ≡ negative (int_at at stack)
+miscounted_at zero [] = refl
+miscounted_at zero (int (pos n) ∷ rest) = refl
+miscounted_at zero (int (negsuc n) ∷ rest) = refl
+miscounted_at zero (_ ∷ rest) = refl
+miscounted_at (suc at) [] = refl
+miscounted_at (suc at) (x ∷ rest) = miscounted_at at rest
+
+count_at : (at : ℕ) (stack : List Datum) → counted (drop at stack) ≡ count_of (int_at at stack)
+count_at zero [] = refl
+count_at zero (int (pos n) ∷ rest) = refl
+count_at zero (int (negsuc n) ∷ rest) = refl
+count_at zero (_ ∷ rest) = refl
+count_at (suc at) [] = refl
+count_at (suc at) (x ∷ rest) = count_at at rest
 
 -- needs of these parts
 abbrev pub made_of : List Need → Option Many → Needs
 made_of fixed many = record { fixed = fixed; many = many }
 
-pub counted_at : (fixed : List Need) (m : Many) (stack : List Datum) → wanted (made_of fixed (Some m)) stack ≡ fixed ++ (times (count_of (int_at 0 stack)) m.each ++ m.under)
-counted_at fixed m [] = refl
-counted_at fixed m (int (pos n) ∷ rest) = refl
-counted_at fixed m (int (negsuc n) ∷ rest) = refl
-counted_at fixed m (_ ∷ rest) = refl
+pub counted_at : (fixed : List Need) (m : Many) (stack : List Datum) → wanted (made_of fixed (Some m)) stack ≡ fixed ++ (times (count_of (int_at m.at stack)) m.each ++ m.under)
+counted_at fixed m stack = ap (λ n. fixed ++ (times n m.each ++ m.under)) (count_at m.at stack)
 
 pub none_counted : (fixed : List Need) (stack : List Datum) → fixed ++ [] ≡ wanted (made_of fixed None) stack
 none_counted fixed stack = append-nil fixed
@@ -52,7 +59,7 @@ none_counted fixed stack = append-nil fixed
 -- too few items: without those that are counted, or with a count below 0, or with them
 pub short_by : (fixed : List Need) (many : Option Many) (locked : ℕ) (stack : List Datum) → option_or (uncounted fixed many locked stack) (short (length (wanted (made_of fixed many) stack)) locked stack) ≡ too_short (made_of fixed many) locked stack
 short_by fixed None locked stack = refl
-short_by fixed (Some m) locked stack = sym (or_assoc (short (length (fixed ++ m.under)) locked stack) (miscounted stack) (short (length (wanted (made_of fixed (Some m)) stack)) locked stack))
+short_by fixed (Some m) locked stack = sym (or_assoc (short (length (fixed ++ m.under)) locked stack) (miscounted (drop m.at stack)) (short (length (wanted (made_of fixed (Some m)) stack)) locked stack))
 
 -- so many items, of which there is one
 

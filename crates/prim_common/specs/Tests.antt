@@ -1,5 +1,5 @@
 -- What tests answer, and what is asked of which items.
-use Rattle.std.specs.Prelude.{◌≡◌, ◌≤◌, List, ◌++◌, length, ℤ, pos, ℕ, Option, Some, None, Result, Ok, Err}
+use Rattle.std.specs.Prelude.{◌≡◌, ◌≤◌, List, ◌++◌, length, drop, ℤ, pos, ℕ, Option, Some, None, Result, Ok, Err}
 use Rattle.std.specs.Option.{option_or}
 use Rattle.spec_live.specs.Objects.{Entry}
 use Rattle.spec_rights.specs.declared.act.Actor.{Actor}
@@ -38,7 +38,7 @@ all_needs p = p.fixed.now ++ (times p.count p.each.now ++ p.under.now)
 -- a count that isn't negative, and what is asked for without what is counted
 abbrev pub uncounted : List Need → Option Many → ℕ → List Datum → Option MufFault
 uncounted fixed None locked stack = None
-uncounted fixed (Some m) locked stack = option_or (short (length (fixed ++ m.under)) locked stack) (miscounted stack)
+uncounted fixed (Some m) locked stack = option_or (short (length (fixed ++ m.under)) locked stack) (miscounted (drop m.at stack))
 
 -- the parts are short, and the count is that of an integer
 abbrev pub AreShort : Parts → Type 0

@@ -1,5 +1,5 @@
 // What is asked of the items on a stack, and how many there must be.
-ghost use Rattle.std.specs.Prelude.{◌≡◌, ◌≤◌, length, Some};
+ghost use Rattle.std.specs.Prelude.{◌≡◌, ◌≤◌, drop, length, Some};
 ghost use Rattle.std.specs.Option.{option_map};
 ghost use Rattle.muf_model.specs.Ladder.{short, miscounted, times, too_short, wanted};
 ghost use Rattle.muf_model.specs.Needs.{shown_many, shown_needs};
@@ -19,13 +19,13 @@ pub struct Parts {
     pub under: &'static [Need],
 }
 
-// The count on the top; 0 where none stands there.
+// The count that stands so many items below the top; 0 where none stands there.
 #[tactic(auto, using(crate::proofs::Counts::count_steps))]
-fn count(frame: &Frame) -> usize
-    ensures value { result ≡ count_of (int_at 0 (flat frame.now).stack) }
+fn count(at: usize, frame: &Frame) -> usize
+    ensures value { result ≡ count_of (int_at at (flat frame.now).stack) }
     ensures most { result ≤ 2147483647 }
 {
-    match frame.int_at(0) {
+    match frame.int_at(at) {
         Some(n) => {
             if n < 0 {
                 0
@@ -47,7 +47,7 @@ pub(crate) fn wanted_parts(needs: Needs, frame: &Frame) -> Parts
         Some(many) => Parts {
             fixed: needs.fixed,
             each: many.each,
-            count: count(frame),
+            count: count(many.at, frame),
             under: many.under,
         },
         None => Parts {
@@ -70,12 +70,12 @@ fn test_short(count: usize, frame: &Frame) -> Result<(), MufFault>
     Ok(())
 }
 
-// A count that isn't negative.
+// A count, so many items below the top, that isn't negative.
 #[tactic(auto, using(crate::proofs::Counts::miscounted_at))]
-fn test_sign(frame: &Frame) -> Result<(), MufFault>
-    ensures { Passes (miscounted (flat frame.now).stack) result }
+fn test_sign(at: usize, frame: &Frame) -> Result<(), MufFault>
+    ensures { Passes (miscounted (drop at (flat frame.now).stack)) result }
 {
-    match frame.int_at(0) {
+    match frame.int_at(at) {
         Some(n) if n < 0 => Err(MufFault::BadArgument),
         _ => Ok(()),
     }
@@ -109,7 +109,7 @@ fn test_many(fixed: &[Need], many: Many, frame: &Frame) -> Result<(), MufFault>
     ensures { Passes (uncounted fixed.now (Some (shown_many many)) (locked_by (flat frame.now).marks) (flat frame.now).stack) result }
 {
     test_short(fixed.len() + many.under.len(), frame)?;
-    test_sign(frame)
+    test_sign(many.at, frame)
 }
 
 fn test_uncounted(needs: Needs, frame: &Frame) -> Result<(), MufFault>

@@ -10,7 +10,7 @@ use Rattle.muf_model.specs.declared.fault.MufFault.TheVariants.{StackEmpty, Stac
 use Rattle.muf_model.specs.declared.prims.Primitive.TheVariants.{Notify, IsAwake}
 use Rattle.muf_model.specs.declared.fault.MufFault.{MufFault}
 use Rattle.muf_model.specs.Datum.{Datum, int, text, object}
-use Rattle.muf_model.specs.Needs.{counts, an_int, a_near_one}
+use Rattle.muf_model.specs.Needs.{counts_at, a_text, an_int, an_object, a_near_one}
 use Rattle.spec_prims.specs.Asking.{level_fault, is_there, near_fault}
 use Rattle.spec_prims.specs.Row.{gives, refuses, Doing}
 use Rattle.spec_prims.specs.Shared.{fault_by, first_fault, done_by, shared}
@@ -35,9 +35,9 @@ told n = hello ∷ object (pos n) ∷ []
 abbrev pub forbidden : Doing
 forbidden = record { argued = λ a items w. Some BadArgument; does = notified }
 
--- the tests of one that takes objects which the top counts, and which must be near
-abbrev pub counted : Actor → List Datum → Option MufFault
-counted a stack = fault_by (counts (an_int ∷ []) (a_near_one ∷ []) []) 1 None a 0 stack at_first
+-- the tests of one that takes a text, and under it a count, so many objects, and one that must be near
+abbrev pub counted : List Datum → Option MufFault
+counted stack = fault_by (counts_at 1 (a_text ∷ an_int ∷ []) (an_object ∷ []) (a_near_one ∷ [])) 1 None (acting_at 1 1) 0 stack at_first
 
 -- the rows
 unfoldable pub Rows : Type 0
@@ -59,14 +59,16 @@ Rows =
     -- a rule for its arguments is asked behind which are there, and before which are near
     × (done_by (Some forbidden) Notify (acting_at 1 1) 0 (told 7) at_first ≡ refuses NoSuchObject)
     × (done_by (Some forbidden) Notify (acting_at 1 7) 0 (told 1) at_first ≡ refuses BadArgument)
-    -- so many objects as the top says: with too few of them, with a count below 0, and with one that isn't there
-    × (counted (acting_at 1 1) (int (pos 2) ∷ object (pos 1) ∷ []) ≡ Some StackEmpty)
-    × (counted (acting_at 1 1) (int (negsuc 0) ∷ object (pos 1) ∷ []) ≡ Some BadArgument)
-    × (counted (acting_at 1 1) (int (pos 2) ∷ object (pos 1) ∷ object (pos 7) ∷ []) ≡ Some NoSuchObject)
-    × (counted (acting_at 1 1) (int (pos 2) ∷ object (pos 1) ∷ object (pos 1) ∷ []) ≡ None)
+    -- so many objects as an item says, and one under them: with too few of them, with a count below 0, with one among them
+    -- that is none, with none that is there under them, and as it should be
+    × (counted (hello ∷ int (pos 2) ∷ object (pos 7) ∷ object (pos 1) ∷ []) ≡ Some StackEmpty)
+    × (counted (hello ∷ int (negsuc 0) ∷ object (pos 1) ∷ []) ≡ Some BadArgument)
+    × (counted (hello ∷ int (pos 2) ∷ object (pos 7) ∷ hello ∷ object (pos 1) ∷ []) ≡ Some BadType)
+    × (counted (hello ∷ int (pos 1) ∷ object (pos 1) ∷ object (pos 7) ∷ []) ≡ Some NoSuchObject)
+    × (counted (hello ∷ int (pos 1) ∷ object (pos 7) ∷ object (pos 1) ∷ []) ≡ None)
     -- one without a row
     × (shared IsAwake (acting_at 4 1) 0 (told 1) at_first ≡ refuses NotCompiled)
 
 pub rows : Rows
 unfolding Rows first_tune early_board told_player tell_player object_at number_in kind_in object_in room_zero player_one first_objects is_near level_fault is_there near_fault first_fault shared
-rows = (refl, refl, refl, refl, refl, refl, refl, refl, refl, refl, refl, refl, refl, refl, refl)
+rows = (refl, refl, refl, refl, refl, refl, refl, refl, refl, refl, refl, refl, refl, refl, refl, refl)
