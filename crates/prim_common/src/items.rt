@@ -94,7 +94,13 @@ fn test_item(asked: Asked, need: &Need, item: &Value, guard: &Guard) -> Result<(
 }
 
 // A test of each item behind so many, from the top down.
-fn test_items(asked: Asked, needs: &[Need], from: usize, guard: &Guard, frame: &Frame) -> Result<(), MufFault>
+fn test_items(
+    asked: Asked,
+    needs: &[Need],
+    from: usize,
+    guard: &Guard,
+    frame: &Frame,
+) -> Result<(), MufFault>
     requires { length needs.now + from ≤ 274877906944 }
     ensures { Passes (walk (item_fault asked guard.now.actor guard.now.db.now) needs.now (drop from (flat frame.now).stack)) result }
 {
@@ -110,7 +116,14 @@ fn test_items(asked: Asked, needs: &[Need], from: usize, guard: &Guard, frame: &
 }
 
 // The same of items that are counted.
-fn test_counted(asked: Asked, each: &[Need], count: usize, from: usize, guard: &Guard, frame: &Frame) -> Result<(), MufFault>
+fn test_counted(
+    asked: Asked,
+    each: &[Need],
+    count: usize,
+    from: usize,
+    guard: &Guard,
+    frame: &Frame,
+) -> Result<(), MufFault>
     requires { length (times count each.now) + from ≤ 274877906944 }
     ensures { Passes (walk (item_fault asked guard.now.actor guard.now.db.now) (times count each.now) (drop from (flat frame.now).stack)) result }
 {
@@ -126,7 +139,12 @@ fn test_counted(asked: Asked, each: &[Need], count: usize, from: usize, guard: &
 
 /// The same of all items.
 #[tactic(auto, using(crate::proofs::Walks::part_steps))]
-pub(crate) fn test_parts(asked: Asked, parts: Parts, guard: &Guard, frame: &Frame) -> Result<(), MufFault>
+pub(crate) fn test_parts(
+    asked: Asked,
+    parts: Parts,
+    guard: &Guard,
+    frame: &Frame,
+) -> Result<(), MufFault>
     requires { AreShort parts }
     ensures { Passes (walk (item_fault asked guard.now.actor guard.now.db.now) (all_needs parts) (flat frame.now).stack) result }
 {

@@ -14,7 +14,13 @@ use muf_model::{MufFault, Needs, Prim};
 
 // How many items, the level that is wanted, what they are, which of them must be there, the primitive's own rule, and which must
 // be near.
-fn test_all(needs: Needs, level: u8, argued: Option<MufFault>, guard: &Guard, frame: &Frame) -> Result<(), MufFault>
+fn test_all(
+    needs: Needs,
+    level: u8,
+    argued: Option<MufFault>,
+    guard: &Guard,
+    frame: &Frame,
+) -> Result<(), MufFault>
     requires { AreFew (shown_needs needs) }
     ensures { Passes (fault_by (Some (shown_needs needs)) level argued guard.now.actor (locked_by (flat frame.now).marks) (flat frame.now).stack (world_of guard.now)) result }
 {
@@ -33,7 +39,12 @@ fn test_all(needs: Needs, level: u8, argued: Option<MufFault>, guard: &Guard, fr
 /// be there, the primitive's own rule for its arguments, and which of them must be near. `argued` is what that rule says of the
 /// items as they stand; `None` where it has no fault, or the primitive has no such rule. The answer is the fault of the first
 /// test that doesn't pass; of a primitive that isn't there yet `NotCompiled`. Nothing is changed.
-pub fn ready(prim: Prim, argued: Option<MufFault>, guard: &Guard, frame: &Frame) -> Result<(), MufFault>
+pub fn ready(
+    prim: Prim,
+    argued: Option<MufFault>,
+    guard: &Guard,
+    frame: &Frame,
+) -> Result<(), MufFault>
     ensures { Passes (first_fault prim argued guard.now.actor (locked_by (flat frame.now).marks) (flat frame.now).stack (world_of guard.now)) result }
 {
     let row = prim.row();

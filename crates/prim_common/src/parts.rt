@@ -26,13 +26,7 @@ fn count(at: usize, frame: &Frame) -> usize
     ensures most { result ≤ 2147483647 }
 {
     match frame.int_at(at) {
-        Some(n) => {
-            if n < 0 {
-                0
-            } else {
-                n as usize
-            }
-        }
+        Some(n) => { if n < 0 { 0 } else { n as usize } }
         None => 0,
     }
 }

@@ -17,9 +17,10 @@ pub loop-left-preserved : goal.loop-left-preserved
 loop-left-preserved c =
     let test = item_fault c.args.asked c.args.guard.now.actor c.args.guard.now.db.now in
     let stack = (flat c.args.frame.now).stack in
-    let was : c.test_items.result ≡ Ok c.in_ok-test_items.field-0 = search rules in
-    (omega (arith, c.loop-left.invariant.0, times_left c.loop-left.left c.args.each.now c.loop-left-test.true),
-     passed_round test c.args.each.now c.loop-left.left c.loop-left.depth stack (walk test (times c.args.count c.args.each.now) (drop c.args.from stack)) c.in_ok-test_items.field-0 c.test_items.result c.loop-left.invariant.1 c.loop-left-test.true c.test_items.ensures was)
+    let was : c.test_items.result ≡ Ok c.in_ok-test_items.field-0 = search rules in (
+      omega (arith, c.loop-left.invariant.0, times_left c.loop-left.left c.args.each.now c.loop-left-test.true),
+      passed_round test c.args.each.now c.loop-left.left c.loop-left.depth stack (walk test (times c.args.count c.args.each.now) (drop c.args.from stack)) c.in_ok-test_items.field-0 c.test_items.result c.loop-left.invariant.1 c.loop-left-test.true c.test_items.ensures was,
+    )
 
 pub test_items-requires : goal.test_items-requires
 test_items-requires c = omega (arith, c.loop-left.invariant.0, times_left c.loop-left.left c.args.each.now c.loop-left-test.true)
