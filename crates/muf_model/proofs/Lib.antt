@@ -3,9 +3,9 @@ pub mod Decoded
 pub mod FaultTexts
 pub mod Settling
 pub mod Standing
+pub mod Sized
 pub mod Truth
 pub mod Unique
-pub mod Views
 mod Worked
 mod Naming
 pub mod Places
