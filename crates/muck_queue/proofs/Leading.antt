@@ -1,13 +1,14 @@
 -- The earliest is one of those that pass, and none of them is before it.
-use Rattle.std.proofs.Common.{◌≡◌, ◌⊎◌, ℕ, ℤ, Bool, true, false, List, [], ◌∷◌, Some, inl, inr, arith, refl, subst}
+use Rattle.std.proofs.Common.{◌≡◌, ◌⊎◌, ℕ, ℤ, Bool, true, false, List, [], ◌∷◌, Option, Some, None, inl, inr, arith, refl, sym, subst}
 use Rattle.std.specs.Prelude.{nat_lt, ◌||◌, ◌&&◌, ◌==◌, int_lt}
+use Rattle.std.specs.Option.{option_map}
 use Rattle.std.specs.List.{filter, fold, reduce}
-use Rattle.std.proofs.lemmas.Bool.{cond_both}
+use Rattle.std.proofs.lemmas.Bool.{cond_both, cond-true, cond-false}
 use Rattle.std.proofs.lemmas.Bool.Decides.{nat_tests}
 use Rattle.std.proofs.lemmas.Int.{ints}
 use Rattle.muck_queue.specs.declared.process.Process.{Process}
-use Rattle.muck_queue.specs.Queues.{is_before, earlier, earliest}
-use Rattle.muck_queue.specs.inner.Leading.{IsAmong, NoneBefore}
+use Rattle.muck_queue.specs.Queues.{Queue, is_due, is_before, earlier, earliest, next_due}
+use Rattle.muck_queue.specs.inner.Leading.{IsAmong, NoneBefore, NoneDueBefore, NoneDue, IsNext}
 
 before : ℕ → ℤ → ℕ → ℤ → Bool
 before a m b n = nat_lt a b || (a == b && int_lt m n)
@@ -47,3 +48,43 @@ first_of (p ∷ ps) r e =
 pub earliest_leads : (test : Process → Bool) (ps : List Process) (r : Process) → earliest test ps ≡ Some r →
     NoneBefore r (filter test ps) × IsAmong r (filter test ps)
 earliest_leads test ps r e = first_of (filter test ps) r e
+
+-- what is among those that pass is among all, and passes
+among_all : (test : Process → Bool) (r : Process) (ps : List Process) → IsAmong r (filter test ps) → IsAmong r ps × (test r ≡ true)
+among_all test r [] i = absurd i
+among_all test r (p ∷ ps) i = decide (test p) refl (among_all test r ps) where
+  here : test p ≡ true → (IsAmong r (filter test ps) → IsAmong r ps × (test r ≡ true)) → (r ≡ p) ⊎ IsAmong r (filter test ps) → IsAmong r (p ∷ ps) × (test r ≡ true)
+  here e rest (inl is) = (inl is, subst (λ (x : Process). test x ≡ true) (sym is) e)
+  here e rest (inr i) = let a = rest i in (inr a.0, a.1)
+
+  decide : (b : Bool) → test p ≡ b → (IsAmong r (filter test ps) → IsAmong r ps × (test r ≡ true)) → IsAmong r (p ∷ ps) × (test r ≡ true)
+  decide true e rest = here e rest (subst (IsAmong r) (cond-true _ _ _ e) i)
+  decide false e rest = let a = rest (subst (IsAmong r) (cond-false _ _ _ e) i) in (inr a.0, a.1)
+
+not_both : {b : Bool} → b ≡ false → b ≡ true → ⊥
+not_both f t = cc
+
+none_due_before : (moment : ℕ) (r : Process) (ps : List Process) → NoneBefore r (filter (is_due moment) ps) → NoneDueBefore moment r ps
+none_due_before moment r [] n = tt
+none_due_before moment r (p ∷ ps) n = decide (is_due moment p) refl (none_due_before moment r ps) where
+  decide : (b : Bool) → is_due moment p ≡ b → (NoneBefore r (filter (is_due moment) ps) → NoneDueBefore moment r ps) → NoneDueBefore moment r (p ∷ ps)
+  decide true e rest = let m : NoneBefore r (p ∷ filter (is_due moment) ps) = subst (NoneBefore r) (cond-true _ _ _ e) n in (λ _. m.0, rest m.1)
+  decide false e rest = (λ d. absurd (not_both e d), rest (subst (NoneBefore r) (cond-false _ _ _ e) n))
+
+none_due : (moment : ℕ) (ps : List Process) → earliest (is_due moment) ps ≡ None → NoneDue moment ps
+none_due moment [] e = tt
+none_due moment (p ∷ ps) e = decide (is_due moment p) refl (none_due moment ps) where
+  decide : (b : Bool) → is_due moment p ≡ b → (earliest (is_due moment) ps ≡ None → NoneDue moment ps) → NoneDue moment (p ∷ ps)
+  decide true d rest = let some : reduce earlier (p ∷ filter (is_due moment) ps) ≡ None = subst (λ xs. reduce earlier xs ≡ None) (cond-true _ _ _ d) e in absurd cc
+  decide false d rest = (d, rest (subst (λ xs. reduce earlier xs ≡ None) (cond-false _ _ _ d) e))
+
+-- the next is the earliest of those that are due
+pub next_is_next : (moment : ℕ) (q : Queue) (r : Option ℤ) → r ≡ next_due moment q → IsNext moment q.processes r
+unfolding next_due
+next_is_next moment q r e = subst (IsNext moment q.processes) (sym e) (decide (earliest (is_due moment) q.processes) refl) where
+  decide : (o : Option Process) → earliest (is_due moment) q.processes ≡ o → IsNext moment q.processes (option_map (λ p. p.number) o)
+  decide None is = none_due moment q.processes is
+  decide (Some p) is =
+      let l = earliest_leads (is_due moment) q.processes p is in
+      let a = among_all (is_due moment) p q.processes l.1 in
+      record { process = p; number = refl; among = a.0; due = a.1; first = none_due_before moment p q.processes l.0 }

@@ -1,12 +1,12 @@
 -- Each change of a queue keeps its processes numbered.
-use Rattle.std.proofs.Common.{ℕ, ℤ, pos, ◌+ℤ◌, ◌≤ℤ◌, Bool, not, List, [], ◌∷◌, ◌++◌, arith, if◌then◌else◌}
+use Rattle.std.proofs.Common.{◌≡◌, ℕ, ℤ, pos, ◌+ℤ◌, ◌≤ℤ◌, Bool, not, List, [], ◌∷◌, ◌++◌, arith, if◌then◌else◌}
 use Rattle.std.specs.Prelude.{map}
 use Rattle.std.specs.List.{filter}
 use Rattle.std.proofs.lemmas.Bool.{cond_both}
 use Rattle.std.proofs.lemmas.Int.{ints}
 use Rattle.muck_model.specs.declared.dbref.Dbref.{Dbref}
 use Rattle.muck_queue.specs.declared.process.Process.{Process}
-use Rattle.muck_queue.specs.Queues.{Queue, empty_queue, numbered, added, claimed, claimed_by, without, ended_tied, ended_running, trigger_cleared, has_pid, is_tied_to, runs, has_trigger, without_trigger, changed_first, without_first}
+use Rattle.muck_queue.specs.Queues.{numbered, claimed_by, has_pid, has_trigger, without_trigger, changed_first, without_first, without_all}
 use Rattle.muck_queue.specs.inner.Numbered.{Rises, IsNumbered}
 
 -- also from a lower number
@@ -50,30 +50,28 @@ rises_cleared trigger low last (p ∷ ps) r =
     (λ e. (r.0, rises_cleared trigger p.number last ps r.1))
     (λ e. (r.0, rises_cleared trigger p.number last ps r.1))
 
-pub numbered_empty : IsNumbered empty_queue
-unfolding IsNumbered empty_queue
-numbered_empty = omega (arith, ints)
+-- the processes of a queue before and after a change, with the last number that was given
 
-pub numbered_added : (p : Process) (q : Queue) → IsNumbered q → IsNumbered (added p q)
-unfolding IsNumbered added
-numbered_added p q r = rises_added (pos 0) q.last q.processes p r
+pub numbered_none : (ps : List Process) → ps ≡ [] → IsNumbered (record { processes = ps; last = pos 0 })
+unfolding IsNumbered
+numbered_none ps e = rw e (omega (arith, ints))
 
-pub numbered_claimed : (pid : ℤ) (party : ℕ) (q : Queue) → IsNumbered q → IsNumbered (claimed pid party q)
-unfolding IsNumbered claimed
-numbered_claimed pid party q r = rises_claimed (has_pid pid) party (pos 0) q.last q.processes r
+pub numbered_added : (p : Process) (ps new : List Process) (last next : ℤ) → IsNumbered (record { processes = ps; last = last }) → next ≡ last +ℤ pos 1 → new ≡ ps ++ numbered next p ∷ [] → IsNumbered (record { processes = new; last = next })
+unfolding IsNumbered
+numbered_added p ps new last next r n e = rw (e, n) (rises_added (pos 0) last ps p r)
 
-pub numbered_without : (pid : ℤ) (q : Queue) → IsNumbered q → IsNumbered (without pid q)
-unfolding IsNumbered without
-numbered_without pid q r = rises_without (has_pid pid) (pos 0) q.last q.processes r
+pub numbered_claimed : (pid : ℤ) (party : ℕ) (ps new : List Process) (last : ℤ) → IsNumbered (record { processes = ps; last = last }) → new ≡ changed_first (has_pid pid) (claimed_by party) ps → IsNumbered (record { processes = new; last = last })
+unfolding IsNumbered
+numbered_claimed pid party ps new last r e = rw e (rises_claimed (has_pid pid) party (pos 0) last ps r)
 
-pub numbered_ended_tied : (d : ℕ) (q : Queue) → IsNumbered q → IsNumbered (ended_tied d q)
-unfolding IsNumbered ended_tied
-numbered_ended_tied d q r = rises_kept (λ p. not (is_tied_to d p)) (pos 0) q.last q.processes r
+pub numbered_without : (pid : ℤ) (ps new : List Process) (last : ℤ) → IsNumbered (record { processes = ps; last = last }) → new ≡ without_first (has_pid pid) ps → IsNumbered (record { processes = new; last = last })
+unfolding IsNumbered
+numbered_without pid ps new last r e = rw e (rises_without (has_pid pid) (pos 0) last ps r)
 
-pub numbered_ended_running : (program : Dbref) (q : Queue) → IsNumbered q → IsNumbered (ended_running program q)
-unfolding IsNumbered ended_running
-numbered_ended_running program q r = rises_kept (λ p. not (runs program p)) (pos 0) q.last q.processes r
+pub numbered_kept : (test : Process → Bool) (ps new : List Process) (last : ℤ) → IsNumbered (record { processes = ps; last = last }) → new ≡ without_all test ps → IsNumbered (record { processes = new; last = last })
+unfolding IsNumbered
+numbered_kept test ps new last r e = rw e (rises_kept (λ p. not (test p)) (pos 0) last ps r)
 
-pub numbered_cleared : (trigger : Dbref) (q : Queue) → IsNumbered q → IsNumbered (trigger_cleared trigger q)
-unfolding IsNumbered trigger_cleared cleared
-numbered_cleared trigger q r = rises_cleared trigger (pos 0) q.last q.processes r
+pub numbered_cleared : (trigger : Dbref) (ps new : List Process) (last : ℤ) → IsNumbered (record { processes = ps; last = last }) → new ≡ map (λ p. if has_trigger trigger p then without_trigger p else p) ps → IsNumbered (record { processes = new; last = last })
+unfolding IsNumbered cleared
+numbered_cleared trigger ps new last r e = rw e (rises_cleared trigger (pos 0) last ps r)

@@ -3,6 +3,8 @@ ghost use Rattle.std.specs.Prelude.{◌≡◌, ◌≢◌, length, IfOk, OnOk, On
 ghost use Rattle.std.specs.Option.{option_copied, option_map_or};
 ghost use Rattle.muck_queue.specs.Queues.{empty_queue, process, next_due, claimed, without, is_full, added, is_tied, ended_tied, ended_running, trigger_cleared, number_most};
 ghost use Rattle.muck_queue.specs.inner.Adding.{Adds};
+ghost use Rattle.muck_queue.specs.inner.Leading.{IsNext};
+ghost use Rattle.muck_queue.specs.inner.Numbered.{IsNumbered};
 
 use crate::fault::QueueFault;
 use crate::process::Process;
@@ -11,7 +13,8 @@ use muck_model::{Dbref, NoMemory, Tune};
 use std::alloc::Global;
 use std::marker::Model;
 
-/// The processes of a world. Contracts see the processes by rising number, and the last number that was given.
+/// The processes of a world. Contracts see the processes by rising number, and the last number that was given; that their
+/// numbers rise from 1 on, and that none is above the last, is a rule of the type (`numbered`).
 ///
 /// There are as many processes as a wizard allows, at most 400. Each call costs at most a pass over them, `claim` two.
 /// Only `add` takes memory.
@@ -25,12 +28,15 @@ impl Model for Queue {
     ghost use Rattle.std.specs.Coded.{codes};
     ghost use Rattle.muf_running.specs.contracts.running.Running as running;
     ghost use Rattle.muck_queue.specs.Queues.{Queue as Table};
+    ghost use Rattle.muck_queue.specs.inner.Numbered.{IsNumbered};
 
     ghost Value = { Table };
 
     ghost coded = { Prim.hlevel (codes, running.the_row.coded) };
 
     ghost view = { λ q. record { processes = q.processes.items; last = q.last } };
+
+    ghost invariant = { λ q. IsNumbered (record { processes = q.processes.items; last = q.last }) };
 }
 
 impl Queue {
@@ -47,7 +53,8 @@ impl Queue {
 
     /// How many processes there are.
     pub fn len(&self) -> usize
-        ensures { result ≡ length self.now.processes }
+        ensures count { result ≡ length self.now.processes }
+        ensures numbered { IsNumbered self.now }
     {
         self.processes.len()
     }
@@ -96,7 +103,8 @@ impl Queue {
     /// one that is due first, and where several are due in one second the one of the lowest number.
     #[tactic(auto, unfolding(crate::specs::Queues::next_due))]
     pub fn next_due(&self, moment: u64) -> Option<i32>
-        ensures { result ≡ next_due moment self.now }
+        ensures number { result ≡ next_due moment self.now }
+        ensures next { IsNext moment self.now.processes result }
     {
         match processes::earliest(&self.processes, moment) {
             Some(p) => Some(p.number),
@@ -104,10 +112,12 @@ impl Queue {
         }
     }
 
-    /// A party claims the process that is to go on next. Answers its number, or `None` where there is none and nothing
-    /// has changed.
+    /// A party claims the process that is to go on next: it is due and claimed by nobody, and no other such process is due
+    /// before it, or in the same second with a lower number. Answers its number; or `None` exactly where there is none, and
+    /// nothing has changed.
     pub fn claim(&mut self, party: u8, moment: u64) -> Option<i32>
         ensures number { result ≡ next_due moment self.old }
+        ensures next { IsNext moment self.old.processes result }
         ensures state { self.new ≡ option_map_or (λ pid. claimed pid party self.old) result self.old }
     {
         let pid = self.next_due(moment)?;
