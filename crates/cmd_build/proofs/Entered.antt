@@ -5,7 +5,7 @@ use Rattle.muck_model.specs.declared.dbref.Dbref.{Dbref}
 use Rattle.muck_model.specs.declared.dbref.Kind.TheVariants.{Program}
 use Rattle.muck_model.specs.declared.memory.NoMemory.{NoMemory}
 use Rattle.spec_live.specs.declared.fault.DbFault.{DbFault}
-use Rattle.spec_live.specs.declared.fault.DbFault.TheVariants.{NoSuchObject, WouldLoop, WrongKind, WorldFull, NoMemory as WantsMemory}
+use Rattle.spec_live.specs.declared.fault.DbFault.TheVariants.{NoMemory as WantsMemory}
 use Rattle.spec_live.specs.Making.{create_check}
 use Rattle.spec_live.specs.Setting.{with_level}
 use Rattle.spec_live.specs.Lives.{Change, followed, ◌▸◌, reading, tell}
@@ -36,11 +36,8 @@ both f g outcome old mid new (Err x) e t = (t.0 ∙ ap (λ (h : Guard). h.db.gho
 
 -- that the world refused it
 refused : (d : ℕ) (old mid new : Guard) (fault : DbFault) (result : Result Outcome NoMemory) → mid ≡ old → IsEntered d (Err fault) mid new result → Plays (over d cant_be_done) old new result
-refused d old mid new NoSuchObject result e t = let P : Guard → Type 0 = λ g. Plays (over d cant_be_done) g new result in subst P e t
-refused d old mid new WouldLoop result e t = let P : Guard → Type 0 = λ g. Plays (over d cant_be_done) g new result in subst P e t
-refused d old mid new WrongKind result e t = let P : Guard → Type 0 = λ g. Plays (over d cant_be_done) g new result in subst P e t
-refused d old mid new WorldFull result e t = let P : Guard → Type 0 = λ g. Plays (over d cant_be_done) g new result in subst P e t
 refused d old mid new WantsMemory result e t = wanted (over d cant_be_done) old mid new result e t
+refused d old mid new _ result e t = let P : Guard → Type 0 = λ g. Plays (over d cant_be_done) g new result in subst P e t
 
 abbrev made_by : Actor → List ℕ → ℕ → ℕ → ℕ → Change
 made_by a name level n to = created_so n Program name a.user to (with_level level)

@@ -5,7 +5,7 @@ use Rattle.muck_model.specs.declared.dbref.Dbref.{Dbref}
 use Rattle.muck_model.specs.declared.dbref.Kind.{Kind}
 use Rattle.muck_model.specs.declared.memory.NoMemory.{NoMemory}
 use Rattle.spec_live.specs.declared.fault.DbFault.{DbFault}
-use Rattle.spec_live.specs.declared.fault.DbFault.TheVariants.{NoSuchObject, WouldLoop, WrongKind, WorldFull, NoMemory as WantsMemory}
+use Rattle.spec_live.specs.declared.fault.DbFault.TheVariants.{NoMemory as WantsMemory}
 use Rattle.spec_live.specs.declared.object.Object.{Object}
 use Rattle.spec_live.specs.Making.{create_check}
 use Rattle.spec_live.specs.Lives.{Change, followed, ◌▸◌, reading, tell}
@@ -31,11 +31,8 @@ both f g old mid new (Err x) e t = (t.0 ∙ ap (λ (h : Guard). h.db.ghost_name)
 
 -- that the world refused it
 refused : (d : ℕ) (old mid new : Guard) (fault : DbFault) (result : Result (Unit {0}) NoMemory) → mid ≡ old → IsTold d (Err fault) mid new result → Did (tell d cant_be_done) old new result
-refused d old mid new NoSuchObject result e t = let P : Guard → Type 0 = λ g. Did (tell d cant_be_done) g new result in subst P e t
-refused d old mid new WouldLoop result e t = let P : Guard → Type 0 = λ g. Did (tell d cant_be_done) g new result in subst P e t
-refused d old mid new WrongKind result e t = let P : Guard → Type 0 = λ g. Did (tell d cant_be_done) g new result in subst P e t
-refused d old mid new WorldFull result e t = let P : Guard → Type 0 = λ g. Did (tell d cant_be_done) g new result in subst P e t
 refused d old mid new WantsMemory result e t = wanted (tell d cant_be_done) old mid new result e t
+refused d old mid new _ result e t = let P : Guard → Type 0 = λ g. Did (tell d cant_be_done) g new result in subst P e t
 
 told : (change : ℕ → ℕ → Change) (check : Result (ℕ × ℕ) DbFault) (d : ℕ) (old mid new : Guard) (made : Result Dbref DbFault) (result : Result (Unit {0}) NoMemory)
     → Founds check change old mid made → IsTold d made mid new result → Did (made_at check (λ n to. change n to ▸ created_shown d n) (tell d cant_be_done)) old new result

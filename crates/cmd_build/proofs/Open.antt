@@ -4,12 +4,13 @@ use Rattle.std.specs.Prelude.{OnOk}
 use Rattle.muck_model.specs.declared.memory.NoMemory.{NoMemory}
 use Rattle.spec_live.specs.Lives.{unchanged}
 use Rattle.spec_rights.specs.declared.act.Actor.{Actor}
-use Rattle.spec_rights.specs.Licence.{Licensed, nobody}
+use Rattle.spec_rights.specs.Licence.{Licensed, clearing, nobody}
 use Rattle.spec_rights.proofs.Licences.{Whole, Always, whole_quiet, quiet_unchanged}
 use Rattle.spec_commands.specs.declared.outcome.Outcome.{Outcome}
 use Rattle.spec_commands.specs.declared.outcome.Outcome.TheVariants.{NotMine}
 use Rattle.spec_commands.specs.declared.word.BuildWord.{BuildWord}
 use Rattle.spec_commands.specs.Texts.{first_word, trimmed}
+use Rattle.spec_commands.specs.Free.{clears_word, clears}
 use Rattle.spec_commands.specs.Reading.{looked_up, by_command, by_table}
 use Rattle.spec_commands.specs.Commands.{build_words, build_shape, build_done, build_line}
 use Rattle.spec_commands.proofs.Gone.{world_of as left, whole_ended}
@@ -20,17 +21,17 @@ use Rattle.muck_perm.specs.Guards.{world_of}
 use Rattle.cmd_common.specs.Plays.{Plays}
 
 -- whatever the table has for its first word
-word_open : (a : Actor) (d : ℕ) (line word text : List ℕ) (found : Option BuildWord) → Whole left a None (λ es. nobody) Always (by_command build_shape (build_done d a line) d a word text found)
-word_open a d line word text None = whole_ended a None (λ es. nobody) Always NotMine unchanged (whole_quiet a None (λ es. nobody) Always unchanged quiet_unchanged)
-word_open a d line word text (Some command) = (lawful_with a None (λ es. nobody) d word (build_shape command) text (build_done d a line command) (build_lawful a None (λ es. nobody) d line command)).licence
+word_open : (a : Actor) (d : ℕ) (line word text : List ℕ) (found : Option BuildWord) → Whole left a None (λ es. clearing (clears_word found) nobody) Always (by_command build_shape (build_done d a line) d a word text found)
+word_open a d line word text None = whole_ended a None _ Always NotMine unchanged (whole_quiet a None _ Always unchanged quiet_unchanged)
+word_open a d line word text (Some command) = (lawful_with a None (λ es. clearing (clears_word (Some command)) nobody) d word (build_shape command) text (build_done d a line command) (build_lawful a None (λ es. nobody) d line command)).licence
 
-line_open : (a : Actor) (d : ℕ) (line : List ℕ) → Whole left a None (λ es. nobody) Always (build_line d a line)
-unfolding build_line by_table
+line_open : (a : Actor) (d : ℕ) (line : List ℕ) → Whole left a None (λ es. clearing (clears line) nobody) Always (build_line d a line)
+unfolding build_line by_table clears
 line_open a d line = word_open a d line _ _ (looked_up build_words (first_word (trimmed line)))
 
 pub plays_open : (d : ℕ) (line : List ℕ) (old new : Guard) (result : Result Outcome NoMemory) → Plays (build_line d old.actor line) old new result →
-    OnOk result (Licensed old.actor nobody (world_of old) (world_of new))
+    OnOk result (Licensed old.actor (clearing (clears line) nobody) (world_of old) (world_of new))
 plays_open d line old new (Ok outcome) p =
-    let P : Guard → Type 0 = λ g. Licensed old.actor nobody (world_of old) (world_of g) in
-    subst P (sym p.0) (((line_open old.actor d line).law (world_of old)).law tt tt)
+    let P : Guard → Type 0 = λ g. Licensed old.actor (clearing (clears line) nobody) (world_of old) (world_of g) in
+    subst P (sym p.0) (((line_open old.actor d line).law (world_of old)).law tt tt).licensed
 plays_open d line old new (Err e) p = tt

@@ -1,6 +1,7 @@
 // A line of a builder.
 ghost use Rattle.std.specs.Prelude.{◌≡◌, map, OnOk};
-ghost use Rattle.spec_rights.specs.Licence.{Licensed, nobody};
+ghost use Rattle.spec_rights.specs.Licence.{Licensed, clearing, nobody};
+ghost use Rattle.spec_commands.specs.Free.{clears};
 ghost use Rattle.spec_commands.specs.Reading.{shaped};
 ghost use Rattle.spec_commands.specs.Commands.{build_words, build_shape, build_done, build_line};
 ghost use Rattle.muck_perm.specs.Guards.{world_of};
@@ -138,11 +139,11 @@ fn play(guard: &mut Guard, d: u32, line: &Line) -> Result<Outcome, NoMemory>
 
 /// Does a line of the player at the connection d, where its first word is one of builders; else it answers `NotMine`, and
 /// nothing has changed. `Edit` comes exactly where the editor of a program is to be opened, and `Start` where a program is
-/// to be started. What it changes is open to the actor.
+/// to be started. What it changes is open to the actor, who makes `#0` a home by `@unlink` alone.
 #[tactic(auto, using(crate::proofs::Open::plays_open))]
 pub fn run(guard: &mut Guard, d: u32, line: &Line) -> Result<Outcome, NoMemory>
     ensures plays { Plays (build_line d guard.old.actor line.now) guard.old guard.new result }
-    ensures licensed { OnOk result (Licensed guard.old.actor nobody (world_of guard.old) (world_of guard.new)) }
+    ensures licensed { OnOk result (Licensed guard.old.actor (clearing (clears line.now) nobody) (world_of guard.old) (world_of guard.new)) }
 {
     play(guard, d, line)
 }

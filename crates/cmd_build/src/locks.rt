@@ -6,13 +6,14 @@ ghost use Rattle.spec_commands.specs.Replies.{unlocked_reply};
 ghost use Rattle.spec_commands.specs.Building.{key_kept, key_read, lock_kept, lock_set, kept};
 ghost use Rattle.muck_perm.specs.Guards.{Did, IsLeave, world_of};
 
-use crate::messages::{keep, path_of};
-use cmd_common::{Write, line_of, refuse, write_by_leave};
+use crate::messages::keep;
+use cmd_common::{Write, refuse, write_by_leave};
 use muck_db::Db;
 use muck_lock::{Finder, LockFault, print, read};
 use muck_match::{Found, find};
 use muck_model::{Dbref, Kind, Line, Lock, NoMemory};
 use muck_perm::{Guard, Pass, verdict};
+use muck_prop::Path;
 use spec_rights::Act;
 use std::alloc::Global;
 
@@ -85,7 +86,7 @@ fn lock_by(guard: &mut Guard, pass: Pass, d: u32, x: Dbref, key: &Line) -> Resul
     requires { IsLeave pass (Act.Change x) guard.old }
     ensures { Did (reading (key_read guard.old.actor.player key.now) (lock_kept d x)) guard.old guard.new result }
 {
-    let path = path_of(guard.alloc(), PATH)?;
+    let path = Path::of_text(guard.alloc(), PATH)?;
     match printed_key(guard, key)? {
         None => guard.tell(d, b"I don't understand that key."),
         Some(text) => write_by_leave(guard, pass, d, Write::Keep(x, path, text), b"Locked."),
@@ -109,6 +110,6 @@ pub fn lock(guard: &mut Guard, d: u32, x: Dbref, key: &Line) -> Result<(), NoMem
 pub fn unlock(guard: &mut Guard, d: u32, x: Dbref) -> Result<(), NoMemory>
     ensures { Did (kept d guard.old.actor x (codes "lok") [] unlocked_reply) guard.old guard.new result }
 {
-    let none = line_of(guard.alloc(), b"")?;
+    let none = Line::of_text(guard.alloc(), b"")?;
     keep(guard, d, x, PATH, none, b"Unlocked.")
 }

@@ -3,6 +3,7 @@
 #![tactic(auto)]
 
 mod finding;
+mod messages;
 mod names;
 mod parts;
 mod reading;
@@ -12,8 +13,9 @@ mod sources;
 mod writing;
 
 pub use finding::{find_object, find_one, find_player, is_object, is_program};
+pub use messages::message_path;
 pub use names::{is_name, is_player_name};
-pub use parts::{Parts, after_sign, after_word, line_of, parts_in};
+pub use parts::{Parts, after_sign, after_word, parts_in};
 pub use reading::{arguments, looked_up};
 pub use replies::{bad_name, cant_be_done, incomplete, refuse};
 pub use showing::{list, name_and, place_at, show_lines, show_name, show_others};

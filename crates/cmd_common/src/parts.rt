@@ -1,12 +1,11 @@
 // The parts of a line.
-ghost use Rattle.std.specs.Prelude.{◌≡◌, ◌≤◌, IfOk, None, length, drop};
+ghost use Rattle.std.specs.Prelude.{◌≡◌, ◌≤◌, IfOk, length, drop};
 ghost use Rattle.std.specs.List.{position, position_or_len, before_first, after_first, list_any};
-ghost use Rattle.muck_model.specs.Bytes.{text_fault};
 ghost use Rattle.spec_commands.specs.Texts.{first_word, other_words, trimmed};
 ghost use Rattle.spec_commands.specs.Reading.{is_equals, has_equals, is_whole, left_in, right_in};
 ghost use Rattle.cmd_common.specs.Takes.{IsCut};
 
-use muck_model::{Line, LineFault, NoMemory};
+use muck_model::{Line, NoMemory};
 use spec_commands::{Form, cut_word, trim};
 use std::alloc::Global;
 
@@ -19,25 +18,13 @@ pub struct Parts {
     pub right: Line,
 }
 
-/// A part of a text as a text of its own.
-pub fn line_of(alloc: Global, part: &[u8]) -> Result<Line, NoMemory>
-    requires { text_fault part.now ≡ None }
-    ensures { IfOk result (λ line. line ≡ part.now) }
-{
-    match Line::new(alloc, part) {
-        Ok(line) => Ok(line),
-        Err(LineFault::NotLine { .. }) => unreachable!(),
-        Err(LineFault::NoMemory) => Err(NoMemory),
-    }
-}
-
 /// What stands behind the first word of a line, without the spaces at its ends.
 #[tactic(auto, using(crate::proofs::Texts::parts_are_texts))]
 pub fn after_word(alloc: Global, line: &Line) -> Result<Line, NoMemory>
     ensures { IfOk result (λ text. text ≡ trimmed (other_words (trimmed line.now))) }
 {
     let (_, others) = cut_word(trim(line.as_slice()));
-    line_of(alloc, trim(others))
+    Line::of_text(alloc, trim(others))
 }
 
 /// What stands behind the first byte of a line, without the spaces at its ends; an empty line has nothing behind it.
@@ -47,9 +34,9 @@ pub fn after_sign(alloc: Global, line: &Line) -> Result<Line, NoMemory>
 {
     let bytes = line.as_slice();
     if bytes.is_empty() {
-        return line_of(alloc, bytes);
+        return Line::of_text(alloc, bytes);
     }
-    line_of(alloc, trim(bytes.split_at(1).1))
+    Line::of_text(alloc, trim(bytes.split_at(1).1))
 }
 
 // Where the first `=` stands.
@@ -138,7 +125,7 @@ pub fn parts_in(alloc: Global, form: Form, text: &Line) -> Result<Option<Parts>,
     }
     let (left, right) = cut_parts(form, bytes);
     Ok(Some(Parts {
-        left: line_of(alloc, left)?,
-        right: line_of(alloc, right)?,
+        left: Line::of_text(alloc, left)?,
+        right: Line::of_text(alloc, right)?,
     }))
 }

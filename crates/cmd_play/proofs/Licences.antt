@@ -1,11 +1,11 @@
 -- What a player does by a line, or by walking, is licensed.
-use Rattle.std.proofs.Common.{ℕ, Bool, List, sym, subst, ap, None, Result, Ok, Err, OnOk}
+use Rattle.std.proofs.Common.{ℕ, false, List, sym, subst, ap, None, Result, Ok, Err, OnOk}
 use Rattle.muck_model.specs.declared.dbref.Dbref.{Dbref}
 use Rattle.muck_model.specs.declared.memory.NoMemory.{NoMemory}
 use Rattle.spec_live.specs.Objects.{Entry}
 use Rattle.spec_live.specs.Lives.{Live}
 use Rattle.spec_rights.specs.declared.act.Actor.{Actor}
-use Rattle.spec_rights.specs.Licence.{Licensed, oneself}
+use Rattle.spec_rights.specs.Licence.{Freedom, Licensed, oneself}
 use Rattle.spec_rights.proofs.Licences.{Whole, Always, whole_ends, licensed}
 use Rattle.spec_commands.specs.declared.outcome.Outcome.{Outcome}
 use Rattle.spec_commands.specs.declared.typed.Typed.{Typed}
@@ -20,7 +20,7 @@ use Rattle.muck_perm.specs.Guards.{world_of}
 use Rattle.cmd_common.specs.Plays.{Plays}
 
 -- what keeps to the licence is licensed where a guard plays it
-plays_licensed : (p : Play) (a : Actor) (free : List Entry → Dbref → Bool) (old new : Guard) (r : Result Outcome NoMemory) →
+plays_licensed : (p : Play) (a : Actor) (free : List Entry → Freedom) (old new : Guard) (r : Result Outcome NoMemory) →
     Whole gone.world_of a None free Always p → Plays p old new r → OnOk r (Licensed a (free old.db.now) (world_of old) (world_of new))
 plays_licensed p a free old new (Ok outcome) e s =
     let P : Live → Type 0 = Licensed a (free old.db.now) (world_of old) in
@@ -35,4 +35,5 @@ walk_licensed d typed exit line old new r =
 
 pub line_licensed : (d : ℕ) (line : List ℕ) (old new : Guard) (r : Result Outcome NoMemory) →
     Plays (play_line d old.actor line) old new r → OnOk r (Licensed old.actor (free_play old.actor line old.db.now) (world_of old) (world_of new))
-line_licensed d line old new r = plays_licensed (play_line d old.actor line) old.actor (free_play old.actor line) old new r (play_leading old.actor None d line).licence
+unfolding free_play
+line_licensed d line old new r = plays_licensed (play_line d old.actor line) old.actor (free_play old.actor line) old new r (play_leading old.actor None false d line).licence

@@ -4,7 +4,7 @@ ghost use Rattle.spec_live.specs.Seen.{listed_in};
 ghost use Rattle.spec_live.specs.Lives.{tell, reading, unchanged, name_at};
 ghost use Rattle.spec_rights.specs.Levels.{owner_at, flag_at};
 ghost use Rattle.spec_commands.specs.Replies.{lock_line};
-ghost use Rattle.spec_rights.specs.Worth.{lock_text};
+ghost use Rattle.spec_live.specs.Worth.{lock_text};
 ghost use Rattle.spec_commands.specs.Messages.{look_typed};
 ghost use Rattle.spec_commands.specs.Finding.{listed_under, is_seen, seen_in, room_shown, looked, is_room_at, look_shown, owner_shown, examined};
 ghost use Rattle.spec_commands.specs.Going.{inventory_shown};

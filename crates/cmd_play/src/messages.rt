@@ -1,36 +1,15 @@
 // The messages of objects, and the one way by which they reach anybody.
-ghost use Rattle.std.specs.Prelude.{◌≡◌, ◌∷◌, IfOk, None};
-ghost use Rattle.muck_model.specs.Bytes.{text_fault};
-ghost use Rattle.muck_prop.specs.Paths.{path_fault, segments_of};
-ghost use Rattle.spec_commands.specs.Messages.{message_path, message_name, message_how, spoken, with_message};
+ghost use Rattle.std.specs.Prelude.{◌≡◌, ◌∷◌};
+ghost use Rattle.spec_commands.specs.Messages.{message_how, spoken, with_message};
 ghost use Rattle.spec_commands.specs.Finding.{shown_others, message_or, message_shown, message_to_others};
 ghost use Rattle.spec_commands.specs.Going.{both_shown};
 ghost use Rattle.muck_perm.specs.Guards.{Did};
 ghost use Rattle.cmd_play.specs.Speaking.{Speaks, Says};
 
-use cmd_common::{line_of, show_others};
+use cmd_common::{message_path, show_others};
 use muck_model::{Dbref, Line, NoMemory};
 use muck_perm::Guard;
-use muck_prop::{Path, PropFault, read_path};
 use spec_commands::{Message, Typed};
-use std::alloc::Global;
-
-// Where a message is kept.
-fn path_text(message: Message) -> &'static [u8]
-    ensures text { text_fault result.now ≡ None }
-    ensures fine { path_fault result.now ≡ None }
-    ensures path { segments_of result.now ≡ message_path (message_name message) }
-{
-    match message {
-        Message::Describe => b"_/de",
-        Message::Success => b"_/sc",
-        Message::OthersSuccess => b"_/osc",
-        Message::Fail => b"_/fl",
-        Message::OthersFail => b"_/ofl",
-        Message::Drop => b"_/dr",
-        Message::OthersDrop => b"_/odr",
-    }
-}
 
 // How a message is called where it is spoken.
 fn how_of(message: Message) -> &'static [u8]
@@ -44,17 +23,6 @@ fn how_of(message: Message) -> &'static [u8]
         Message::OthersFail => b"(@ofail)",
         Message::Drop => b"(@drop)",
         Message::OthersDrop => b"(@odrop)",
-    }
-}
-
-fn path_of(alloc: Global, message: Message) -> Result<Path, NoMemory>
-    ensures { IfOk result (λ path. path ≡ message_path (message_name message)) }
-{
-    let text = line_of(alloc, path_text(message))?;
-    match read_path(alloc, &text) {
-        Ok(path) => Ok(path),
-        Err(PropFault::NoMemory) => Err(NoMemory),
-        Err(_) => unreachable!(),
     }
 }
 
@@ -86,8 +54,7 @@ fn speak(
 ) -> Result<Option<Line>, NoMemory>
     ensures { Says (with_message guard.old.actor typed.now message x) guard.old guard.new result }
 {
-    let path = path_of(guard.alloc(), message)?;
-    let Some(text) = guard.message(x, &path) else {
+    let Some(text) = guard.message(x, message_path(message)) else {
         return Ok(None);
     };
     let text = text.copy(guard.alloc())?;

@@ -5,7 +5,6 @@ ghost use Rattle.spec_live.specs.Lives.{name_at};
 ghost use Rattle.spec_commands.specs.Going.{exit_typed};
 ghost use Rattle.muck_perm.specs.Guards.{world_of};
 
-use cmd_common::line_of;
 use muck_match::ExitHit;
 use muck_model::{Dbref, Line, NoMemory};
 use muck_perm::Guard;
@@ -19,8 +18,8 @@ pub fn typed_of(alloc: Global, word: &[u8], rest: &[u8]) -> Result<Typed, NoMemo
     ensures { IfOk result (λ typed. typed ≡ record { word = word.now; rest = rest.now }) }
 {
     Ok(Typed {
-        word: line_of(alloc, word)?,
-        rest: line_of(alloc, rest)?,
+        word: Line::of_text(alloc, word)?,
+        rest: Line::of_text(alloc, rest)?,
     })
 }
 

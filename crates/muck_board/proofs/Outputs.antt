@@ -63,10 +63,6 @@ drop_behind n xs ys h =
     let e : n ≡ length xs + (n - length xs) = omega arith in
     ap (λ k. drop k (xs ++ ys)) e ∙ drop-append-add xs ys (n - length xs)
 
-nil_more : (xs : List ℕ) → xs ++ [] ≡ xs
-nil_more [] = refl
-nil_more (x ∷ xs) = ap (λ t. x ∷ t) (nil_more xs)
-
 lines_left : (n : ℕ) (lines : List (List ℕ)) → bytes_of (lines_taken n lines) ≡ drop n (lines_bytes lines)
 unfolding bytes_of lines_bytes lines_taken
 lines_left n [] = sym (drop_all n [] (omega arith))

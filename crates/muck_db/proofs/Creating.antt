@@ -1,5 +1,5 @@
 -- A new object in the table.
-use Rattle.std.proofs.Common.{◌≡◌, ℕ, ◌+◌, ◌<◌, ◌≤◌, zero, suc, List, [], ◌∷◌, inl, inr, refl, sym, ◌∙◌, ap, subst, length, arith, Result, Ok, Err, Bool, true, false, cond}
+use Rattle.std.proofs.Common.{◌≡◌, ℕ, ◌+◌, ◌<◌, ◌≤◌, zero, suc, List, [], ◌∷◌, inl, inr, refl, sym, ◌∙◌, ap, subst, length, arith, Result, Ok, Bool, true, false, cond}
 use Rattle.std.proofs.lemmas.Bool.{cases_eq}
 use Rattle.std.specs.List.{slice_get}
 use Rattle.std.specs.Option.{option_map, option_map_or}
@@ -7,7 +7,6 @@ use Rattle.muck_model.specs.declared.dbref.Dbref.{Dbref}
 use Rattle.muck_model.specs.declared.dbref.Kind.{Kind}
 use Rattle.muck_model.specs.declared.dbref.Kind.TheVariants.{Garbage}
 use Rattle.spec_live.specs.declared.fault.DbFault.{DbFault}
-use Rattle.spec_live.specs.declared.fault.DbFault.TheVariants.{NoMemory}
 use Rattle.spec_live.specs.declared.object.Object.{Object}
 use Rattle.spec_live.specs.Chain.{Ends}
 use Rattle.spec_live.specs.Objects.{Entry, dbref_of, changed_at, with_object, is_garbage, object_in, kind_in, mark_in, is_vehicle_in}
@@ -105,7 +104,3 @@ put_few old n to kind owner place passed = (may_create kind owner place (entries
 
 pub creates : (kind : Kind) (name : List ℕ) (owner : Dbref) (check : Result (ℕ × ℕ) DbFault) (n to : ℕ) (d : Dbref) (old new : List Entry) → check ≡ Ok (n, to) → d ≡ dbref_of n → new ≡ created n kind name owner to old → Creates check kind name owner old new (Ok d)
 creates kind name owner check n to d old new e is_d is = let P : Result (ℕ × ℕ) DbFault → Type 0 = λ r. Creates r kind name owner old new (Ok d) in subst P (sym e) (is_d, is)
-
--- want of memory, where the check was passed
-pub creates_none : (kind : Kind) (name : List ℕ) (owner : Dbref) (check : Result (ℕ × ℕ) DbFault) (p : ℕ × ℕ) (fault : DbFault) (old new : List Entry) → check ≡ Ok p → fault ≡ NoMemory → new ≡ old → Creates check kind name owner old new (Err fault)
-creates_none kind name owner check p fault old new e none same = let P : Result (ℕ × ℕ) DbFault → Type 0 = λ r. Creates r kind name owner old new (Err fault) in subst P (sym e) (none, same)

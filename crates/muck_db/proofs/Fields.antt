@@ -1,16 +1,14 @@
 -- A field that was set keeps the rule of the type.
-use Rattle.std.proofs.Common.{◌≡◌, ℕ, List, refl, sym, ◌∙◌, ap, subst, Result, Ok, Err, false}
+use Rattle.std.proofs.Common.{◌≡◌, ℕ, List, refl, sym, ◌∙◌, ap, subst, Result, Ok, false}
 use Rattle.spec_live.specs.declared.object.Object.{Object}
 use Rattle.spec_live.specs.declared.fault.DbFault.{DbFault}
-use Rattle.spec_live.specs.declared.fault.DbFault.TheVariants.{NoMemory}
 use Rattle.spec_live.specs.Objects.{Entry, changed_at, on_object, is_garbage}
 use Rattle.spec_live.specs.Moving.{Does}
-use Rattle.spec_live.specs.Setting.{Tries, set_at, with_password}
-use Rattle.spec_live.specs.Password.{digest_of, salt_bytes}
+use Rattle.spec_live.specs.Setting.{Tries, set_at}
 use Rattle.spec_live.specs.Consistent.{IsConsistent}
 use Rattle.spec_live.proofs.Readers.{kind_changed, mark_changed}
 use Rattle.muck_db.specs.declared.slot.Slot.{Slot}
-use Rattle.muck_db.specs.inner.Slots.{kind_at, on_slot, with_digest, entries_of, IsKept}
+use Rattle.muck_db.specs.inner.Slots.{kind_at, on_slot, entries_of, IsKept}
 use Rattle.muck_db.specs.inner.Limits.{IsWithinLimits}
 use Rattle.muck_db.proofs.Readers.{kind_in-entries_of, mark_in-entries_of}
 use Rattle.muck_db.proofs.Writes.{entries_on_slot, ends_on_slot}
@@ -35,7 +33,3 @@ did f check n old new e is = let P : Result ℕ DbFault → Type 0 = λ r. Does 
 
 pub tried : (f : Object → Object) (check : Result ℕ DbFault) (n : ℕ) (old new : List Entry) → check ≡ Ok n → new ≡ set_at f n old → Tries (set_at f) check old new (Ok tt)
 tried f check n old new e is = let P : Result ℕ DbFault → Type 0 = λ r. Tries (set_at f) r old new (Ok tt) in subst P (sym e) is
-
--- want of memory, where the check was passed
-pub tried_none : (f : Object → Object) (check : Result ℕ DbFault) (n : ℕ) (fault : DbFault) (old new : List Entry) → check ≡ Ok n → fault ≡ NoMemory → new ≡ old → Tries (set_at f) check old new (Err fault)
-tried_none f check n fault old new e none same = let P : Result ℕ DbFault → Type 0 = λ r. Tries (set_at f) r old new (Err fault) in subst P (sym e) (none, same)

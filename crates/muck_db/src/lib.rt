@@ -20,4 +20,5 @@ mod walks;
 pub use chain::Chain;
 pub use db::Db;
 pub use persisted::Persisted;
+pub use seen::value_text;
 pub use spec_live::{Changed, DbFault, Mark, Object};

@@ -1,13 +1,34 @@
 // What matching and locks read of the objects.
-ghost use Rattle.std.specs.Prelude.{◌≡◌};
-ghost use Rattle.spec_live.specs.Seen.{value_is, has_value};
+ghost use Rattle.std.specs.Prelude.{◌≡◌, IfOk};
+ghost use Rattle.std.specs.Fmt.{signed_decimal};
+ghost use Rattle.spec_live.specs.Worth.{value_is, value_text, has_value};
 
 use crate::db::Db;
 use itoa::Buffer;
 use muck_lock::{Keys, TextKeys};
 use muck_match::Scene;
-use muck_model::{Dbref, Kind, Line};
+use muck_model::{Dbref, Kind, Line, NoMemory};
 use muck_prop::PropValue;
+use std::alloc::Global;
+
+// A number in decimal.
+fn number_text(alloc: Global, number: i32) -> Result<Line, NoMemory>
+    ensures { IfOk result (λ text. text ≡ signed_decimal number) }
+{
+    let mut buffer = Buffer::new();
+    let text = Line::of_text(alloc, buffer.format(number).as_bytes())?;
+    Ok(text)
+}
+
+/// The value of a property as a text: a number is written in decimal.
+pub fn value_text(alloc: Global, value: &PropValue) -> Result<Line, NoMemory>
+    ensures { IfOk result (λ text. text ≡ value_text value.now) }
+{
+    match value {
+        PropValue::Text(text) => text.copy(alloc),
+        PropValue::Number(number) => number_text(alloc, *number),
+    }
+}
 
 // Whether a value is that text, or that number in decimal.
 fn value_is(value: &PropValue, text: &[u8]) -> bool
@@ -23,7 +44,7 @@ fn value_is(value: &PropValue, text: &[u8]) -> bool
 }
 
 // Whether the property of that path of an object has that text, or that number in decimal.
-#[tactic(auto, unfolding(spec_live::specs::Seen::has_value, spec_live::specs::Seen::value_at))]
+#[tactic(auto, unfolding(spec_live::specs::Worth::has_value, spec_live::specs::Worth::value_at))]
 fn has_value(db: &Db, d: Dbref, path: &[u8], value: &[u8]) -> bool
     ensures { result ≡ has_value db.now d path.now value.now }
 {
@@ -97,7 +118,8 @@ impl Keys for Db {
     ghost use Rattle.std.specs.Prelude.{◌≡◌, false};
     ghost use Rattle.std.specs.Option.{option_map};
     ghost use Rattle.spec_live.specs.Objects.{object_at};
-    ghost use Rattle.spec_live.specs.Seen.{listed_in, has_value};
+    ghost use Rattle.spec_live.specs.Seen.{listed_in};
+    ghost use Rattle.spec_live.specs.Worth.{has_value};
     ghost use Rattle.muck_db.specs.inner.Shown.{first_in, next_in};
 
     ghost owners = { λ es d. option_map (λ o. o.owner) (object_at d es) };

@@ -1,3 +1,2 @@
 pub mod There
 pub mod Opens
-pub mod Opened

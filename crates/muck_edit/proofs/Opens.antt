@@ -18,7 +18,7 @@ use Rattle.spec_rights.specs.declared.act.Act.TheVariants.{Edit}
 use Rattle.spec_rights.specs.Verdict.{verdict}
 use Rattle.spec_rights.specs.Asking.{answered, asked, refused}
 use Rattle.spec_rights.specs.Changing.{lines_kept}
-use Rattle.spec_rights.specs.Licence.{Licensed, nobody}
+use Rattle.spec_rights.specs.Licence.{Licensed, editing}
 use Rattle.spec_rights.proofs.Licences.{Quiet, quiet_order}
 use Rattle.spec_rights.proofs.Lookups.{alive, seen_at, number_is}
 use Rattle.spec_rights.proofs.Shown.{quiet_tell, quiet_refused}
@@ -33,7 +33,7 @@ use Rattle.spec_commands.specs.Programming.{source_of}
 use Rattle.spec_commands.specs.Reading.{is_empty}
 use Rattle.spec_commands.specs.Editing.{entering, exiting, deleted_reply, editor_exited, illegal, line_number, plain_command, line_command, lines_command, one_line, two_lines, edit_command, lines_most, stepped, with_line, line_inserted, same_lines, source_kept, edit_done, edit_some, edited_at, edited, IsOpen}
 use Rattle.spec_commands.proofs.Programmed.{quiet_lines_shown}
-use Rattle.spec_commands.proofs.Edited.{edited_licensed}
+use Rattle.spec_commands.proofs.Edited.{edited_proper}
 use Rattle.muck_perm.specs.declared.guard.Guard.{Guard}
 use Rattle.muck_perm.specs.Guards.{world_of}
 use Rattle.muck_edit.specs.Edits.{Edits, IsWithin}
@@ -238,8 +238,8 @@ edits_open d line s state old new (Ok step) h p =
 edits_open d line s state old new (Err e) h p = tt
 
 pub edits_licensed : (d : ℕ) (line : List ℕ) (s state : EditState) (old new : Guard) (result : Result EditStep NoMemory) → Edits (edited d old.actor s line) old new state result →
-    OnOk result (Licensed old.actor nobody (world_of old) (world_of new))
+    OnOk result (Licensed old.actor (editing s.program) (world_of old) (world_of new))
 edits_licensed d line s state old new (Ok step) p =
-    let P : Guard → Type 0 = λ g. Licensed old.actor nobody (world_of old) (world_of g) in
-    subst P (sym p.0) (edited_licensed d old.actor s line (world_of old))
+    let P : Guard → Type 0 = λ g. Licensed old.actor (editing s.program) (world_of old) (world_of g) in
+    subst P (sym p.0) (edited_proper d old.actor s line (world_of old)).licensed
 edits_licensed d line s state old new (Err e) p = tt

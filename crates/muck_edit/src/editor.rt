@@ -1,6 +1,6 @@
 // A line of the editor.
 ghost use Rattle.std.specs.Prelude.{◌≡◌, ◌≤◌, length, slice_range, OnOk};
-ghost use Rattle.spec_rights.specs.Licence.{Licensed, nobody};
+ghost use Rattle.spec_rights.specs.Licence.{Licensed, editing};
 ghost use Rattle.spec_commands.specs.Editing.{IsOpen, line_inserted, edit_done, edited};
 ghost use Rattle.muck_perm.specs.Guards.{world_of};
 ghost use Rattle.muck_edit.specs.Edits.{Edits, IsWithin};
@@ -115,7 +115,7 @@ impl Editor {
         requires { IsOpen self.old.state (world_of guard.old) }
         ensures edits { Edits (edited d guard.old.actor self.old.state line.now) guard.old guard.new self.new.state result }
         ensures open { OnOk result (IsOpen self.new.state (world_of guard.new)) }
-        ensures licensed { OnOk result (Licensed guard.old.actor nobody (world_of guard.old) (world_of guard.new)) }
+        ensures licensed { OnOk result (Licensed guard.old.actor (editing self.old.state.program) (world_of guard.old) (world_of guard.new)) }
     {
         take_line(&mut self.state, guard, d, line)
     }

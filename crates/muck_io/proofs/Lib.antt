@@ -1,4 +1,3 @@
 pub mod Appended
 pub mod Counts
-mod Rows
 pub mod Taken

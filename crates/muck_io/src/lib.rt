@@ -11,6 +11,7 @@ mod memory_sink;
 mod memory_source;
 mod never;
 mod rest;
+mod rows;
 mod sink;
 mod source;
 
@@ -21,5 +22,6 @@ pub use memory_sink::MemSink;
 pub use memory_source::MemSource;
 pub use never::{NeverSink, NeverSource};
 pub use rest::{NoRest, Rest, YieldRest};
+pub use rows::rows_hold;
 pub use sink::{Put, Sink, WriteFailed, write_all};
 pub use source::{Got, ReadFault, Source, read_all};

@@ -1,5 +1,5 @@
 -- From the answers of the reader and the compiler to that of `build`.
-use Rattle.std.proofs.Common.{◌≡◌, ◌<◌, List, length, Result, Ok, Err, sym, ◌∙◌, ap, subst}
+use Rattle.std.proofs.Common.{◌≡◌, List, Result, Ok, Err, sym, ◌∙◌, ap, subst}
 use Rattle.muck_model.specs.declared.dbref.Dbref.{Dbref}
 use Rattle.spec_live.specs.Objects.{Entry}
 use Rattle.muf_model.specs.declared.code.Code.{Code}
@@ -17,7 +17,6 @@ use Rattle.muf_compile.specs.declared.fault.CompileFault.{CompileFault}
 use Rattle.muf_compile.specs.declared.fault.CompileFault.TheVariants as compiled
 use Rattle.muf_compile.specs.inner.Fits.{IsCode}
 use Rattle.muf_compile.specs.Growth.{tree_of}
-use Rattle.muf_compile.proofs.Worded.{tree_has_word}
 use Rattle.muck_library.specs.Flaws.{fault_of_reading, fault_of_compiling}
 use Rattle.muck_library.specs.Programs.{lent_in, source_in, built_tree, compiled_tree, tree_of_words, IsBuilt}
 
@@ -49,8 +48,3 @@ unfolding built_tree
 built es d tokens code told h =
     let s = stands (tree_of tokens) code h in
     (ap tree_of_words told ∙ ap compiled_tree s.0, s.1)
-
--- ---- a tree has a word
-
-pub has_word : (tokens : List Token) (code : Code) → IsCode (tree_of tokens) (Ok code) → 0 < length (decode.tree_of code).words
-has_word tokens code h = tree_has_word tokens (decode.tree_of code) (stands (tree_of tokens) code h).0

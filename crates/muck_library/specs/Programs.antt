@@ -2,14 +2,12 @@
 use Rattle.std.specs.Prelude.{◌≡◌, ℕ, List, [], ◌∷◌, map, codes, Option, Result, Ok, Err}
 use Rattle.std.specs.Option.{option_map, option_map_or}
 use Rattle.muck_model.specs.declared.dbref.Dbref.{Dbref}
-use Rattle.muck_prop.specs.declared.value.PropValue.{PropValue}
-use Rattle.muck_prop.specs.declared.value.PropValue.TheVariants.{Text, Number}
 use Rattle.muck_prop.specs.declared.props.Listed.{Listed}
 use Rattle.muck_prop.specs.Paths.{path_text}
 use Rattle.muck_prop.specs.Store.{listed_below}
 use Rattle.spec_live.specs.declared.object.Object.{Object}
 use Rattle.spec_live.specs.Objects.{Entry, object_at}
-use Rattle.spec_live.specs.Seen.{signed_text}
+use Rattle.spec_live.specs.Worth.{value_text}
 use Rattle.muf_model.specs.declared.code.Code.{Code}
 use Rattle.muf_model.specs.Tree.{Tree}
 use Rattle.muf_model.specs.Stands.{TreeStands}
@@ -19,6 +17,7 @@ use Rattle.muf_token.specs.declared.fault.Refusal.{Refusal as ReadRefusal}
 use Rattle.muf_token.specs.declared.includes.Definition.{Definition}
 use Rattle.muf_token.specs.Source.{words}
 use Rattle.muf_compile.specs.declared.fault.Refusal.{Refusal as CompileRefusal}
+use Rattle.muf_compile.specs.Grammar.{IsProgram}
 use Rattle.muf_compile.specs.Growth.{tree_of}
 use Rattle.muck_library.specs.declared.flaw.Flaw.{Flaw}
 use Rattle.muck_library.specs.declared.flaw.BuildFault.{BuildFault}
@@ -30,12 +29,7 @@ use Rattle.muck_library.specs.Flaws.{flaw_of_reading, flaw_of_compiling}
 abbrev pub defs_dir : List (List ℕ)
 defs_dir = codes "_defs" ∷ []
 
--- what a definition stands for: the text of its property, or its number in decimal
-abbrev pub value_text : PropValue → List ℕ
-value_text (Text text) = text
-value_text (Number n) = signed_text n
-
--- its name is the rest of the path, with the segments joined by slashes
+-- its name is the rest of the path, with the segments joined by slashes; it stands for the value as a text
 abbrev pub definition_of : Listed → Definition
 definition_of p = record { name = path_text p.rest; text = value_text p.value }
 
@@ -71,3 +65,7 @@ abbrev pub IsBuilt : Result Tree Flaw → Result Code BuildFault → Type 0
 IsBuilt tree (Ok code) = (tree ≡ Ok (decode.tree_of code)) × TreeStands code (decode.tree_of code)
 IsBuilt tree (Err (Refused flaw)) = tree ≡ Err flaw
 IsBuilt tree (Err NoMemory) = Unit {0}
+
+-- the tree of the code is written in the words of the source by the rules of the grammar
+abbrev pub IsWritten : List Entry → Dbref → Code → Type 0
+IsWritten es d code = (tokens : List Token) × (words (lent_in es) (source_in es d) ≡ Ok tokens) × IsProgram tokens (decode.tree_of code)

@@ -4,7 +4,7 @@ ghost use Rattle.muf_model.specs.Decode.{tree_of};
 ghost use Rattle.muf_token.specs.declared.token.Token.{Token};
 ghost use Rattle.muf_token.specs.Source.{words};
 ghost use Rattle.muf_token.specs.inner.Spots.{IsAnswer};
-ghost use Rattle.muck_library.specs.Programs.{lent_in, source_in, built_tree, IsBuilt};
+ghost use Rattle.muck_library.specs.Programs.{lent_in, source_in, built_tree, IsBuilt, IsWritten};
 
 use crate::BuildFault;
 use crate::lending::Definitions;
@@ -37,9 +37,11 @@ fn words_of(alloc: Global, db: &Db, program: Dbref) -> Result<TokenList, TokenFa
 /// The code of a program, built from its source as it is and from the definitions that objects lend now.
 ///
 /// `Refused` comes exactly where the source has a flaw, with the first one; an object that isn't there or isn't a
-/// program has no line, which is refused. `NoMemory` says nothing of the source. Nothing is changed.
+/// program has no line, which is refused. `NoMemory` says nothing of the source. Nothing is changed. The tree of the code
+/// is written in the words of the source by the rules of the grammar.
 pub fn build(alloc: Global, db: &Db, program: Dbref) -> Result<Code, BuildFault>
     ensures built { IsBuilt (built_tree db.now program) result }
+    ensures written { IfOk result (λ code. IsWritten db.now program code) }
     ensures some { IfOk result (λ code. 0 < length (tree_of code).words) }
 {
     let words = words_of(alloc, db, program)?;

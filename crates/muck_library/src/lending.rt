@@ -1,14 +1,10 @@
 // The definitions that the objects of the world lend.
-ghost use Rattle.std.specs.Prelude.{◌≡◌, ◌∷◌, [], None, IfOk, codes, map};
-ghost use Rattle.muck_model.specs.Bytes.{text_fault};
-ghost use Rattle.muck_prop.specs.Paths.{path_fault, segments_of};
-ghost use Rattle.spec_live.specs.Seen.{signed_text};
-ghost use Rattle.muck_library.specs.Programs.{defs_dir, value_text, definition_of, defs_of};
+ghost use Rattle.std.specs.Prelude.{◌≡◌, ◌∷◌, [], IfOk, codes, map};
+ghost use Rattle.muck_library.specs.Programs.{defs_dir, definition_of, defs_of};
 
-use itoa::Buffer;
-use muck_db::Db;
-use muck_model::{Dbref, Line, LineFault, NoMemory, Row};
-use muck_prop::{Listed, Path, PropFault, PropValue, read_path};
+use muck_db::{Db, value_text};
+use muck_model::{Dbref, NoMemory, Row};
+use muck_prop::{Listed, Path};
 use muf_token::{DefList, Definition, Includes};
 use spec_live::Object;
 use std::alloc::Global;
@@ -22,57 +18,11 @@ pub(crate) struct Definitions<'a> {
     pub db: &'a Db,
 }
 
-// The text of these bytes.
-fn line_of(alloc: Global, bytes: &[u8]) -> Result<Line, NoMemory>
-    requires { text_fault bytes.now ≡ None }
-    ensures { IfOk result (λ line. line ≡ bytes.now) }
-{
-    match Line::new(alloc, bytes) {
-        Ok(line) => Ok(line),
-        Err(LineFault::NotLine { .. }) => unreachable!(),
-        Err(LineFault::NoMemory) => Err(NoMemory),
-    }
-}
-
-// The path that a text holds.
-fn path_of(alloc: Global, text: &[u8]) -> Result<Path, NoMemory>
-    requires text { text_fault text.now ≡ None }
-    requires fine { path_fault text.now ≡ None }
-    ensures { IfOk result (λ path. path ≡ segments_of text.now) }
-{
-    let text = line_of(alloc, text)?;
-    match read_path(alloc, &text) {
-        Ok(path) => Ok(path),
-        Err(PropFault::NoMemory) => Err(NoMemory),
-        Err(_) => unreachable!(),
-    }
-}
-
 // The path of the directory.
 fn directory(alloc: Global) -> Result<Path, NoMemory>
     ensures { IfOk result (λ path. path ≡ defs_dir) }
 {
-    let path = path_of(alloc, DIRECTORY)?;
-    Ok(path)
-}
-
-// A number in decimal.
-fn number_text(alloc: Global, number: i32) -> Result<Line, NoMemory>
-    ensures { IfOk result (λ text. text ≡ signed_text number) }
-{
-    let mut buffer = Buffer::new();
-    let text = line_of(alloc, buffer.format(number).as_bytes())?;
-    Ok(text)
-}
-
-// What a definition stands for.
-fn value_text(alloc: Global, value: PropValue) -> Result<Line, NoMemory>
-    ensures { IfOk result (λ text. text ≡ value_text value) }
-{
-    match value {
-        PropValue::Text(text) => Ok(text),
-        PropValue::Number(number) => number_text(alloc, number),
-    }
+    Path::of_text(alloc, DIRECTORY)
 }
 
 fn definition_of(alloc: Global, property: Listed) -> Result<Definition, NoMemory>
@@ -80,7 +30,7 @@ fn definition_of(alloc: Global, property: Listed) -> Result<Definition, NoMemory
 {
     let Listed { rest, value } = property;
     let name = rest.text(alloc)?;
-    let text = value_text(alloc, value)?;
+    let text = value_text(alloc, &value)?;
     Ok(Definition { name, text })
 }
 

@@ -1,4 +1,3 @@
-mod Rows
 pub mod Places
 pub mod Depth
 pub mod Passing

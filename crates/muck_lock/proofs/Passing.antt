@@ -66,9 +66,6 @@ NoOr (Some b) = (b == 124) ≡ false
 not_followed : (sign : ℕ) (join : Lock → Lock → Lock) (more : List ℕ → Reading) (lock : Lock) (b : ℕ) (rest : List ℕ) → (b == sign) ≡ false → followed sign join more lock (b ∷ rest) ≡ Ok (lock, b ∷ rest)
 not_followed sign join more lock b rest h = rw h refl
 
-is_followed : (sign : ℕ) (join : Lock → Lock → Lock) (more : List ℕ → Reading) (lock : Lock) (b : ℕ) (rest : List ℕ) → (b == sign) ≡ true → followed sign join more lock (b ∷ rest) ≡ with_first join lock (more rest)
-is_followed sign join more lock b rest h = rw h refl
-
 all_of_alone : (names : Naming) (lock : Lock) (rest : List ℕ) → NoAnd (ahead_of rest) → widened names Term AllOf (Ok (lock, rest)) ≡ Ok (lock, rest)
 all_of_alone names lock [] h = refl
 all_of_alone names lock (b ∷ rest) h = not_followed 38 locks.Both (reading names AllOf) lock b rest h
@@ -212,10 +209,8 @@ drop-behind_group text at None here h = absurd (false≢true (sym (ap (ends Grou
 drop-behind_group text at (Some b) here h = ap (drop 1) (drop-here text at b here)
 
 drop-behind : (text : List ℕ) (at : ℕ) (w : Waiting) → ends w (slice_get text at) ≡ true → behind w (drop at text) ≡ drop (place_behind w at) text
-drop-behind text at Not h = refl
 drop-behind text at Group h = drop-behind_group text at (slice_get text at) refl h
-drop-behind text at (Both f) h = refl
-drop-behind text at (Either f) h = refl
+drop-behind text at _ h = refl
 
 pub step_fills : (names : Naming) (text : List ℕ) (old new : List Waiting) (w : Waiting) (lock : Lock) (at : ℕ) → reverse old ≡ w ∷ reverse new → ends w (slice_get text at) ≡ true
     → outcome_behind names text old lock at ≡ outcome_behind names text new (filled w lock) (place_behind w at)

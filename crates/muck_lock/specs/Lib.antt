@@ -6,3 +6,4 @@ pub mod Opens
 pub mod Printed
 pub mod Answers
 pub mod inner
+pub mod Rows

@@ -9,6 +9,7 @@ mod part;
 mod path;
 mod printer;
 mod reader;
+mod rows;
 mod text;
 
 pub use fault::LockFault;
@@ -17,4 +18,5 @@ pub use keys::{Keys, opens};
 pub use memory::{MemKeys, MemName, MemNames, MemObject, MemProp, NoNames};
 pub use printer::print;
 pub use reader::read;
+pub use rows::rows_hold;
 pub use text::{TextKeys, text_opens};

@@ -1,5 +1,5 @@
 -- One candidate, none or several, and numbers that are gone over.
-use Rattle.std.proofs.Common.{◌≡◌, ℕ, ◌<◌, ◌≤◌, ◌+◌, ◌-◌, suc, pos, Bool, true, false, List, [], ◌∷◌, ◌++◌, Option, Some, None, refl, sym, ◌∙◌, ap, map, is_some, arith}
+use Rattle.std.proofs.Common.{◌≡◌, ℕ, ◌<◌, ◌+◌, ◌-◌, suc, pos, Bool, true, false, List, [], ◌∷◌, ◌++◌, Option, Some, None, refl, sym, ◌∙◌, ap, map, is_some, arith}
 use Rattle.std.specs.List.{filter, find, range_with_len}
 use Rattle.muck_model.specs.declared.dbref.Dbref.{Dbref}
 use Rattle.muck_model.specs.Numbers.{numbered}
@@ -67,30 +67,16 @@ near_of_both w fit text player place e =
 abbrev pub numbers_from : ℕ → ℕ → List Dbref
 numbers_from n c = map (λ k. numbered (pos k)) (range_with_len n (c - n))
 
-range_step : (n m : ℕ) → range_with_len n (suc m) ≡ n ∷ range_with_len (n + 1) m
-range_step n m = refl
-
 numbers_step : (n c : ℕ) → n < c → numbers_from n c ≡ numbered (pos n) ∷ numbers_from (n + 1) c
 numbers_step n c lt =
     let e : c - n ≡ suc (c - (n + 1)) = omega arith in
     ap (λ m. map (λ k. numbered (pos k)) (range_with_len n m)) e
-
-pub find_here : (p : Dbref → Bool) (n c : ℕ) (d : Dbref) (whole : Option Dbref) → n < c → d ≡ numbered (pos n) → p d ≡ true → find p (numbers_from n c) ≡ whole → Some d ≡ whole
-find_here p n c d whole lt e fits left =
-    let here : p (numbered (pos n)) ≡ true = ap p (sym e) ∙ fits in
-    let first : find p (numbered (pos n) ∷ numbers_from (n + 1) c) ≡ Some (numbered (pos n)) = rw here refl in
-    ap (λ t. Some t) e ∙ sym first ∙ ap (find p) (sym (numbers_step n c lt)) ∙ left
 
 pub find_later : (p : Dbref → Bool) (n c : ℕ) (d : Dbref) (whole : Option Dbref) → n < c → d ≡ numbered (pos n) → p d ≡ false → find p (numbers_from n c) ≡ whole → find p (numbers_from (n + 1) c) ≡ whole
 find_later p n c d whole lt e fails left =
     let here : p (numbered (pos n)) ≡ false = ap p (sym e) ∙ fails in
     let later : find p (numbered (pos n) ∷ numbers_from (n + 1) c) ≡ find p (numbers_from (n + 1) c) = rw here refl in
     sym later ∙ ap (find p) (sym (numbers_step n c lt)) ∙ left
-
-pub find_end : (p : Dbref → Bool) (n c : ℕ) (whole : Option Dbref) → c ≤ n → find p (numbers_from n c) ≡ whole → None ≡ whole
-find_end p n c whole le left =
-    let e : c - n ≡ 0 = omega arith in
-    ap (λ m. find p (map (λ k. numbered (pos k)) (range_with_len n m))) (sym e) ∙ left
 
 pub find_all : (w : Scenery) (name : List ℕ) (c : ℕ) → c ≡ w.count → find (is_player_named name w) (numbers_from 0 c) ≡ player_named w name
 unfolding player_named numbers

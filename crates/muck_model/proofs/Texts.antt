@@ -21,9 +21,6 @@ none_outside test inside (b ∷ bytes) h =
     let parts = and_parts (test b) (list_all test bytes) h in
     cond-true (not (is_outside b)) (1 + position_or_len is_outside bytes) 0 (not_from_false (is_outside b) (inside b parts.0)) ∙ omega (arith, none_outside test inside bytes parts.1)
 
-pub text_of_all : (test : ℕ → Bool) → ((b : ℕ) → test b ≡ true → is_outside b ≡ false) → (bytes : List ℕ) → list_all test bytes ≡ true → length bytes ≤ text_most → text_fault bytes ≡ None
-text_of_all test inside bytes h short = text_if bytes (omega (arith, none_outside test inside bytes h)) short
-
 -- Numbers in decimal.
 
 digit_inside : (b : ℕ) → is_digit b ≡ true → is_outside b ≡ false

@@ -1,4 +1,3 @@
-pub mod Numbers
 pub mod Guarding
 pub mod Founding
 pub mod Flagging

@@ -1,9 +1,9 @@
 // The world under an actor.
-ghost use Rattle.std.specs.Prelude.{◌≡◌, ◌≤◌, IfOk, length, true, min};
+ghost use Rattle.std.specs.Prelude.{◌≡◌, ◌≤◌, IfOk, None, length, true, min};
 ghost use Rattle.std.specs.Option.{option_copied, option_and_then, option_map};
 ghost use Rattle.std.specs.FinMap.{get};
 ghost use Rattle.muck_model.specs.declared.dbref.Kind.{Kind};
-ghost use Rattle.muck_prop.specs.Paths.{class_of};
+ghost use Rattle.muck_prop.specs.Paths.{class_of, path_fault, segments_of};
 ghost use Rattle.spec_live.specs.Objects.{dbref_of, nothing, home, object_at};
 ghost use Rattle.spec_live.specs.Lives.{tell, tell_player, tell_others, tell_all};
 ghost use Rattle.spec_live.specs.Flags.{with_flag, without_flag};
@@ -14,7 +14,7 @@ ghost use Rattle.spec_live.specs.Recycling.{recycle_check};
 ghost use Rattle.spec_rights.specs.declared.act.Act.{Act};
 ghost use Rattle.spec_rights.specs.Levels.{level_at};
 ghost use Rattle.spec_rights.specs.Verdict.{is_guarded};
-ghost use Rattle.spec_rights.specs.Worth.{message_at, lock_text};
+ghost use Rattle.spec_live.specs.Worth.{message_at, lock_text};
 ghost use Rattle.spec_rights.specs.Changing.{named, owned_by, linked, homed, leveled, lines_kept, stored, unstored, moved_to, recycled_now, created_so, is_flag, flag_set, flag_cleared, password_kept, booted, tuned};
 ghost use Rattle.spec_rights.specs.Licence.{at_hand};
 ghost use Rattle.muck_perm.specs.Guards.{Did, Done, IsLeave, IsGiven, is_here, Makes, Tries, Founds, flags_at, home_in, may_lead, may_house};
@@ -536,9 +536,10 @@ impl<'a> Guard<'a> {
         locks::lock_text(self.alloc, self.db, d)
     }
 
-    /// The message that an object keeps at a path; what isn't a text counts as not set. It takes no memory.
-    pub fn message(&self, d: Dbref, path: &Path) -> Option<&Line>
-        ensures { option_copied result ≡ message_at path.now d self.now.db.now }
+    /// The message that an object keeps at the path of a text; what isn't a text counts as not set. It takes no memory.
+    pub fn message(&self, d: Dbref, path: &[u8]) -> Option<&Line>
+        requires { path_fault path.now ≡ None }
+        ensures { option_copied result ≡ message_at (segments_of path.now) d self.now.db.now }
     {
         locks::message_at(self.db, d, path)
     }

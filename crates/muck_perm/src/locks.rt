@@ -1,16 +1,14 @@
 // Whose locks open, and what messages and locks show.
 ghost use Rattle.std.specs.Prelude.{◌≡◌, IfOk, None};
 ghost use Rattle.std.specs.Option.{option_copied};
-ghost use Rattle.muck_model.specs.Bytes.{text_fault};
+ghost use Rattle.muck_prop.specs.Paths.{path_fault, segments_of};
 ghost use Rattle.spec_live.specs.declared.object.Object.{Object};
-ghost use Rattle.spec_live.specs.Seen.{signed_text};
-ghost use Rattle.spec_rights.specs.Worth.{message_at, lock_of_object, kept_opens, opens_at, lock_text};
+ghost use Rattle.spec_live.specs.Worth.{message_at, lock_of_object, kept_opens, opens_at, lock_text};
 
-use itoa::Buffer;
-use muck_db::Db;
+use muck_db::{Db, value_text};
 use muck_lock::text_opens;
-use muck_model::{Dbref, Line, LineFault, NoMemory};
-use muck_prop::{Path, PropValue};
+use muck_model::{Dbref, Line, NoMemory};
+use muck_prop::PropValue;
 use spec_live::Object;
 use std::alloc::Global;
 
@@ -22,7 +20,7 @@ fn kept_lock(object: &Object) -> Option<&PropValue>
 }
 
 // Whether what is kept as a lock opens for x.
-#[tactic(auto, unfolding(spec_live::specs::Seen::holdings_of))]
+#[tactic(auto, unfolding(spec_live::specs::Worth::holdings_of))]
 fn kept_opens(db: &Db, x: Dbref, kept: &PropValue) -> bool
     ensures { result ≡ kept_opens db.now x kept.now }
 {
@@ -34,7 +32,7 @@ fn kept_opens(db: &Db, x: Dbref, kept: &PropValue) -> bool
 
 /// Whether the lock of an object opens for x; without a lock it does, and what isn't the text of a lock opens for
 /// nobody. It takes no memory.
-#[tactic(auto, unfolding(spec_rights::specs::Worth::opens_at))]
+#[tactic(auto, unfolding(spec_live::specs::Worth::opens_at))]
 pub fn opens_at(db: &Db, x: Dbref, d: Dbref) -> bool
     ensures { result ≡ opens_at db.now x d }
 {
@@ -47,29 +45,8 @@ pub fn opens_at(db: &Db, x: Dbref, d: Dbref) -> bool
     }
 }
 
-// A text of these bytes.
-fn line_of(alloc: Global, bytes: &[u8]) -> Result<Line, NoMemory>
-    requires { text_fault bytes.now ≡ None }
-    ensures { IfOk result (λ line. line ≡ bytes.now) }
-{
-    match Line::new(alloc, bytes) {
-        Ok(line) => Ok(line),
-        Err(LineFault::NotLine { .. }) => unreachable!(),
-        Err(LineFault::NoMemory) => Err(NoMemory),
-    }
-}
-
-// A number in decimal.
-fn number_text(alloc: Global, number: i32) -> Result<Line, NoMemory>
-    ensures { IfOk result (λ text. text ≡ signed_text number) }
-{
-    let mut buffer = Buffer::new();
-    let text = line_of(alloc, buffer.format(number).as_bytes())?;
-    Ok(text)
-}
-
 /// The lock of an object, as it is shown.
-#[tactic(auto, unfolding(spec_rights::specs::Worth::lock_text))]
+#[tactic(auto, unfolding(spec_live::specs::Worth::lock_text))]
 pub fn lock_text(alloc: Global, db: &Db, d: Dbref) -> Result<Line, NoMemory>
     ensures { IfOk result (λ text. text ≡ lock_text d db.now) }
 {
@@ -78,18 +55,18 @@ pub fn lock_text(alloc: Global, db: &Db, d: Dbref) -> Result<Line, NoMemory>
         None => None,
     };
     match kept {
-        Some(PropValue::Text(text)) => text.copy(alloc),
-        Some(PropValue::Number(number)) => number_text(alloc, *number),
-        None => line_of(alloc, b"*UNLOCKED*"),
+        Some(value) => value_text(alloc, value),
+        None => Line::of_text(alloc, b"*UNLOCKED*"),
     }
 }
 
-/// The message that an object keeps at a path.
-#[tactic(auto, unfolding(spec_rights::specs::Worth::message_at))]
-pub fn message_at<'a>(db: &'a Db, d: Dbref, path: &Path) -> Option<&'a Line>
-    ensures { option_copied result ≡ message_at path.now d db.now }
+/// The message that an object keeps at the path of a text. It takes no memory.
+#[tactic(auto, unfolding(spec_live::specs::Worth::message_at))]
+pub fn message_at<'a>(db: &'a Db, d: Dbref, path: &[u8]) -> Option<&'a Line>
+    requires { path_fault path.now ≡ None }
+    ensures { option_copied result ≡ message_at (segments_of path.now) d db.now }
 {
-    match db.get(d)?.props().get(path) {
+    match db.get(d)?.props().get_bytes(path) {
         Some(PropValue::Text(text)) => Some(text),
         _ => None,
     }

@@ -1,6 +1,6 @@
 -- What the first path within a start says of a directory and of its next child.
-use Rattle.std.proofs.Common.{◌≡◌, ◌≤◌, ℕ, zero, suc, Bool, true, false, cond, List, [], ◌∷◌, length, take, ap, sym, ◌∙◌, arith, length-append}
-use Rattle.std.specs.Prelude.{None, Some, IfSome}
+use Rattle.std.proofs.Common.{◌≡◌, ◌≤◌, ℕ, zero, suc, false, List, [], ◌∷◌, length, take, ap, sym, ◌∙◌, arith, length-append}
+use Rattle.std.specs.Prelude.{None, Some}
 use Rattle.std.specs.List.{AllByRecursion, list_any, find}
 use Rattle.std.specs.List.Sorted.{IsStrictlySortedBy}
 use Rattle.std.specs.Map.{keys_of}
@@ -13,7 +13,7 @@ use Rattle.std.specs.Ordering.{is_lt}
 use Rattle.std.proofs.lemmas.List.{length-take}
 use Rattle.std.specs.declared.cmp.Ordering.TheVariants.{Less}
 use Rattle.muck_prop.specs.Paths.{IsPath, IsSegment, path_text}
-use Rattle.muck_prop.specs.Store.{is_dir, next_among, next_child, found_child, IsKept}
+use Rattle.muck_prop.specs.Store.{is_dir, next_among, next_child, found_child}
 use Rattle.muck_prop.proofs.Maps.{keys_are}
 use Rattle.muck_prop.proofs.Sequence.{found_below, any_by_first, next_by_first, after_start_later, after_start_reaches, after_start_passes, past_passes, past_later}
 
@@ -41,10 +41,6 @@ next_from_past p after es high sorted =
     ∙ next_by_first p (is_from_start path_cmp (Included (past (child p after)))) (λ q le. past_later p after q high le) (Some after) (λ q is. past_passes p after q high is) (keys_of es) sorted
 
 -- ---- paths again
-
-pub found_is_path : (start : List (List ℕ) → Bool) (es : List (List (List ℕ) × PropValue)) → AllByRecursion IsKept es → IfSome (find start (keys_of es)) IsPath
-found_is_path start [] kept = tt
-found_is_path start (e ∷ es) kept = elim (start e.0) as (λ b. IfSome (cond b (Some e.0) (find start (keys_of es))) IsPath) [ true ↦ kept.0.path | false ↦ found_is_path start es kept.1 ]
 
 text_of_first : (n : ℕ) (p : List (List ℕ)) → length (path_text (take n p)) ≤ length (path_text p)
 text_of_first zero p = omega arith

@@ -7,7 +7,7 @@ use Rattle.std.specs.BTreeMap.Range.{entries_between}
 use Rattle.std.specs.declared.ops.Bound.TheVariants.{Excluded, Unbounded}
 use Rattle.std.specs.FinMap.{from_entries}
 use Rattle.std.specs.Ordering.{is_lt}
-use Rattle.std.proofs.lemmas.List.{length-drop, append-nil}
+use Rattle.std.proofs.lemmas.List.{length-drop}
 use Rattle.muck_prop.specs.declared.props.Listed.{Listed}
 use Rattle.muck_prop.specs.declared.value.PropValue.{PropValue}
 use Rattle.muck_prop.specs.Order.{path_cmp, is_below}
@@ -109,15 +109,6 @@ listing_goes dir es e left list is h = record {
       ∙ h.whole;
   kept = h.kept.1;
 }
-
-pub listing_stops : (dir : List (List ℕ)) (es : List (List (List ℕ) × PropValue)) (e : List (List ℕ) × PropValue) (left : List (List (List ℕ) × PropValue)) (list : List Listed) → is_below dir e.0 ≡ false → IsListed dir es (e ∷ left) list → list ≡ map (behind (length dir)) (filter (goes_on dir) es)
-listing_stops dir es e left list is h =
-    sym (append-nil list)
-    ∙ ap (λ b. list ++ map (behind (length dir)) (cond b (e ∷ first_below dir left) [])) (sym is)
-    ∙ h.whole
-
-pub listing_ends : (dir : List (List ℕ)) (es : List (List (List ℕ) × PropValue)) (list : List Listed) → IsListed dir es [] list → list ≡ map (behind (length dir)) (filter (goes_on dir) es)
-listing_ends dir es list h = sym (append-nil list) ∙ h.whole
 
 -- ---- the map
 

@@ -109,6 +109,3 @@ at_barred text found h = rw h refl
 -- the first entry
 pub found_here : {X : Type 0} (test : List (List ℕ) → Bool) (entries more : List (List (List ℕ) × X)) (path : List (List ℕ)) (value : X) → entries ≡ (path, value) ∷ more → test path ≡ true → lookup test entries ≡ Some value
 found_here {X} test entries more path value e h = ap (λ (z : List (List (List ℕ) × X)). lookup test z) e ∙ ap (λ b. cond b (Some value) (lookup test more)) h
-
-pub found_later : {X : Type 0} (test : List (List ℕ) → Bool) (entries more : List (List (List ℕ) × X)) (path : List (List ℕ)) (value : X) → entries ≡ (path, value) ∷ more → test path ≡ false → lookup test entries ≡ lookup test more
-found_later {X} test entries more path value e h = ap (λ (z : List (List (List ℕ) × X)). lookup test z) e ∙ ap (λ b. cond b (Some value) (lookup test more)) h

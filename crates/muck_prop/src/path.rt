@@ -1,6 +1,7 @@
 // Property paths.
 ghost use Rattle.std.specs.Prelude.{◌≡◌, ◌++◌, ◌∷◌, [], Some, None, IfOk, OnOk, length, take, refl, Ok, Err};
 ghost use Rattle.std.specs.List.{list_any};
+ghost use Rattle.muck_model.specs.Bytes.{text_fault};
 ghost use Rattle.muck_prop.specs.Order.{path_cmp};
 ghost use Rattle.muck_prop.specs.Paths.{segments_of, path_text, fault_of, path_fault, IsPathOf, IsPath, class_of, is_barred, IsReadAs};
 
@@ -102,6 +103,16 @@ pub fn read_path(alloc: Global, text: &Line) -> Result<Path, PropFault>
 }
 
 impl Path {
+    /// The path of a text that is known to write one.
+    pub fn of_text(alloc: Global, text: &[u8]) -> Result<Path, NoMemory>
+        requires text { text_fault text.now ≡ None }
+        requires fine { path_fault text.now ≡ None }
+        ensures { IfOk result (λ path. path ≡ segments_of text.now) }
+    {
+        let segments = Segments::of_text(alloc, text)?;
+        Ok(Path { segments })
+    }
+
     /// The class of the path.
     pub fn class(&self) -> Class
         ensures { result ≡ class_of self.now }

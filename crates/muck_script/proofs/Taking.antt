@@ -1,14 +1,14 @@
 -- A turn, as it is taken.
 use Rattle.std.proofs.Common.{◌≡◌, ℕ, ℤ, true, [], ◌∷◌, refl, sym, ◌∙◌, ap, Option, Some, None, Result, Ok, Err}
 use Rattle.std.specs.Prelude.{is_some, OnErr}
-use Rattle.muck_model.specs.declared.event.Event.TheVariants.{Exec, Claim, Slice, Died}
+use Rattle.muck_model.specs.declared.event.Event.TheVariants.{Exec, Claim, Slice}
 use Rattle.spec_events.specs.World.{World}
 use Rattle.spec_events.specs.Steps.{is_lawful, next_ready, next_process}
 use Rattle.spec_events.specs.Histories.{History, now, extended, entered, by_porter}
 use Rattle.spec_events.proofs.Runs.{now-extended, extended-append}
 use Rattle.spec_events.proofs.Claims.{chosen_lawful}
 use Rattle.muck_script.specs.Story.{Turn, of_line, chosen, next_turn}
-use Rattle.muck_script.specs.inner.Settling.{entries_of, slice_of, DiedDuring}
+use Rattle.muck_script.specs.inner.Settling.{entries_of, slice_of}
 use Rattle.muck_script.proofs.Stories.{nothing_more}
 
 -- no process is to go on
@@ -29,18 +29,6 @@ sliced h k next pid e claimed is =
     ∙ extended-append h (by_porter (Claim pid) ∷ []) (by_porter (Slice pid) ∷ [])
     ∙ ap (λ (o : Option ℤ). extended h (entries_of (slice_of o))) (sym e)
 
--- memory was wanted in the slice
-pub slice_dies : (h k next : History) (pid : ℤ) → next_process (now h) ≡ Some pid → k ≡ entered h (by_porter (Claim pid)) → next ≡ entered k (by_porter Died) →
-    DiedDuring (entries_of (slice_of (next_process (now h)))) h next
-slice_dies h k next pid e claimed is = record {
-  front = by_porter (Claim pid) ∷ [];
-  rest = by_porter (Slice pid) ∷ [];
-  whole = ap (λ (o : Option ℤ). entries_of (slice_of o)) (sym e);
-  died =
-      is ∙ ap (λ (x : History). entered x (by_porter Died)) claimed
-      ∙ extended-append h (by_porter (Claim pid) ∷ []) (by_porter Died ∷ []);
-}
-
 -- a line is first
 pub line_first : (w : World) (d : ℕ) → next_ready w ≡ Some d → next_turn w ≡ Some (of_line d)
 unfolding next_turn
@@ -48,10 +36,6 @@ line_first w d e = ap (λ (o : Option ℕ). chosen o (next_process w)) e
 
 pub line_taken : (h k : History) (d : ℕ) → next_ready (now h) ≡ Some d → k ≡ entered h (by_porter (Exec d)) → k ≡ extended h (entries_of (next_turn (now h)))
 line_taken h k d e is = is ∙ ap (λ (o : Option Turn). extended h (entries_of o)) (sym (line_first (now h) d e))
-
--- memory was wanted in the line
-pub line_dies : (h k : History) → k ≡ entered h (by_porter Died) → DiedDuring (entries_of (next_turn (now h))) h k
-line_dies h k is = record { front = []; rest = entries_of (next_turn (now h)); whole = refl; died = is }
 
 chosen_none : (p : Option ℤ) → slice_of p ≡ chosen None p
 chosen_none None = refl

@@ -1,46 +1,41 @@
 -- The pass over the words of a source goes as its tree grows.
-use Rattle.std.proofs.Common.{◌≡◌, ℕ, zero, suc, ◌+◌, ◌<◌, ◌≤◌, List, [], ◌∷◌, length, Bool, true, false, cond, refl, sym, ap, subst, ◌∙◌, arith, length-append, drop, get_or, add-one, leb-true}
-use Rattle.std.specs.Prelude.{Result, Ok, Err, nat_le}
+use Rattle.std.proofs.Common.{◌≡◌, ℕ, zero, suc, ◌+◌, ◌<◌, ◌≤◌, List, [], ◌∷◌, ◌++◌, length, refl, sym, ap, subst, ◌∙◌, arith, drop, get_or, add-one}
+use Rattle.std.specs.Prelude.{Result, Ok, Err, IfOk}
 use Rattle.std.proofs.Math.Seq.{drop-cons}
 use Rattle.muf_model.specs.declared.code.Placed.{Placed}
 use Rattle.muf_model.specs.declared.code.CodeWord.{CodeWord}
 use Rattle.muf_model.specs.declared.code.Code.{Code}
-use Rattle.muf_model.specs.declared.code.Offer.{Offer}
-use Rattle.muf_model.specs.Tree.{if_word, try_word, begin_word, for_word, each_word, Definition, Tree}
-use Rattle.muf_model.specs.Stands.{WordsStand, TreeStands}
+use Rattle.muf_model.specs.Tree.{if_word, try_word, begin_word, for_word, each_word, stop, Definition, Tree}
+use Rattle.muf_model.specs.Decode as decode
+use Rattle.muf_model.proofs.Unique.{tree_read}
+use Rattle.muf_model.specs.Stands.{WordsStand, InRow, TreeStands}
 use Rattle.muf_token.specs.declared.token.Token.{Token}
-use Rattle.muf_compile.specs.declared.act.Opening.TheVariants as opening
-use Rattle.muf_compile.specs.declared.act.Act.{Act}
-use Rattle.muf_compile.specs.declared.act.Act.TheVariants.{Wait, Title, Item, Jump, Open, Else, Then, Catch, EndCatch, Repeat, Until, End, Offer as offer_act}
 use Rattle.muf_compile.specs.declared.names.Mode.{Mode}
 use Rattle.muf_compile.specs.declared.names.Mode.TheVariants as mode
 use Rattle.muf_compile.specs.declared.hole.Pending.{Pending}
-use Rattle.muf_compile.specs.declared.fault.CompileKind.TheVariants.{NoWord, TooLong}
+use Rattle.muf_compile.specs.declared.fault.CompileKind.TheVariants.{NoWord}
 use Rattle.muf_compile.specs.declared.fault.Refusal.{Refusal}
 use Rattle.muf_compile.specs.declared.fault.CompileFault.{CompileFault}
 use Rattle.muf_compile.specs.declared.fault.CompileFault.TheVariants.{Refused, NoMemory}
 use Rattle.muf_compile.specs.Acts.{cost_of}
-use Rattle.muf_compile.specs.Faults.{refuse, and_then, Leads, Answers}
-use Rattle.muf_compile.specs.Reading.{Known, Read, read}
+use Rattle.muf_compile.specs.Faults.{and_then, Leads, Answers}
+use Rattle.muf_compile.specs.Reading.{Known, Read}
 use Rattle.muf_compile.specs.Growth as growth
-use Rattle.muf_compile.specs.Growth.{Unfinished, first, second, turning, Growth, Grown, grow, counted, units_most, Draft, step, tree_from, finished, finished_in, empty_draft}
+use Rattle.muf_compile.specs.Growth.{Unfinished, first, Growth, Grown, grow, counted, units_most, Draft, step, tree_from, finished, finished_in, empty_draft, tree_of}
+use Rattle.muf_compile.specs.Grammar.{IsProgram}
 use Rattle.muf_compile.specs.inner.Built.{Built}
 use Rattle.muf_compile.specs.inner.Build as building
 use Rattle.muf_compile.specs.inner.Build.{Made, build}
-use Rattle.muf_compile.specs.inner.Fits.{OpensFit, outermost, in_first, in_second, in_turn, BuiltFits, MadeAlike, IsCode}
+use Rattle.muf_compile.specs.inner.Fits.{From, OpensFit, outermost, in_first, in_second, in_turn, BuiltFits, MadeAlike, IsCode}
 use Rattle.muf_compile.specs.inner.Compiled.{Compiled, compiled_step, compiled_end, whole_code, nothing_compiled}
 use Rattle.muf_compile.proofs.Growing.{growing}
+use Rattle.muf_compile.proofs.Spelling.{Spelt, between, DraftSpelt, IsSpelt, spelt_step, spelt_empty, TreeWritten, tree_written}
 
 -- what is compiled so far stands for a draft
 pub record CompiledFits (c : Compiled) (d : Draft) : Type 0 where
   pub known : c.known ≡ d.known
   pub built : BuiltFits c.built d.growth
   pub units : c.units ≡ d.units
-
--- a draft has no more words than instructions, and of these no more than a program may have
-pub record IsSmall (d : Draft) : Type 0 where
-  pub words : length d.growth.words ≤ d.units
-  pub units : d.units ≤ units_most
 
 abbrev StepAlike : Result Compiled Refusal → Result Draft Refusal → Type 0
 StepAlike (Ok c) (Ok d) = CompiledFits c d
@@ -75,7 +70,7 @@ after_read b g units f (Err r) = refl
 step_alike : (t : Token) (c : Compiled) (d : Draft) → CompiledFits c d → StepAlike (compiled_step t c) (step t d)
 step_alike t c d f =
     let same : length c.built.words ≡ length d.growth.words = as_many c.built.code c.built.words d.growth.words f.built.words in
-    rw (same, f.known, f.units) (after_read c.built d.growth d.units f.built (read (length d.growth.words) t d.known))
+    rw (same, f.known, f.units) (after_read c.built d.growth d.units f.built _)
 
 is_refused : (t : Result Tree Refusal) (r : Refusal) → t ≡ Err r → IsCode t (Err (Refused r))
 is_refused (Ok tree) r h = h
@@ -85,136 +80,25 @@ is_wanting : (t : Result Tree Refusal) → IsCode t (Err NoMemory)
 is_wanting (Ok tree) = tt
 is_wanting (Err r) = tt
 
--- how many words there are after an act
-abbrev FewAfter : ℕ → Grown → Type 0
-FewAfter n (Ok g) = length g.words ≤ n
-FewAfter n (Err r) = Unit {0}
-
-few_else : (line : ℕ) (g : Growth) (us : List Unfinished) → FewAfter (length g.words + 1) (growth.else_part line g us)
-few_else line g [] = tt
-few_else line g (first if_word l h ∷ us) = omega arith
-few_else line g (first try_word l h ∷ us) = tt
-few_else line g (second if_word l x m h ∷ us) = tt
-few_else line g (second try_word l x m h ∷ us) = tt
-few_else line g (turning begin_word l h ∷ us) = tt
-few_else line g (turning for_word l h ∷ us) = tt
-few_else line g (turning each_word l h ∷ us) = tt
-
-few_catch : (line : ℕ) (g : Growth) (us : List Unfinished) → FewAfter (length g.words + 1) (growth.catch_part line g us)
-few_catch line g [] = tt
-few_catch line g (first if_word l h ∷ us) = tt
-few_catch line g (first try_word l h ∷ us) = omega arith
-few_catch line g (second if_word l x m h ∷ us) = tt
-few_catch line g (second try_word l x m h ∷ us) = tt
-few_catch line g (turning begin_word l h ∷ us) = tt
-few_catch line g (turning for_word l h ∷ us) = tt
-few_catch line g (turning each_word l h ∷ us) = tt
-
-few_then : (line : ℕ) (g : Growth) (us : List Unfinished) → FewAfter (length g.words + 0) (growth.then_part line g us)
-few_then line g [] = tt
-few_then line g (first if_word l h ∷ us) = omega arith
-few_then line g (first try_word l h ∷ us) = tt
-few_then line g (second if_word l x m h ∷ us) = omega arith
-few_then line g (second try_word l x m h ∷ us) = tt
-few_then line g (turning begin_word l h ∷ us) = tt
-few_then line g (turning for_word l h ∷ us) = tt
-few_then line g (turning each_word l h ∷ us) = tt
-
-few_end_catch : (line : ℕ) (g : Growth) (us : List Unfinished) → FewAfter (length g.words + 0) (growth.end_catch_part line g us)
-few_end_catch line g [] = tt
-few_end_catch line g (first if_word l h ∷ us) = tt
-few_end_catch line g (first try_word l h ∷ us) = tt
-few_end_catch line g (second if_word l x m h ∷ us) = tt
-few_end_catch line g (second try_word l x m h ∷ us) = omega arith
-few_end_catch line g (turning begin_word l h ∷ us) = tt
-few_end_catch line g (turning for_word l h ∷ us) = tt
-few_end_catch line g (turning each_word l h ∷ us) = tt
-
-few_repeat : (line : ℕ) (g : Growth) (us : List Unfinished) → FewAfter (length g.words + 1) (growth.repeat_part line g us)
-few_repeat line g [] = tt
-few_repeat line g (first if_word l h ∷ us) = tt
-few_repeat line g (first try_word l h ∷ us) = tt
-few_repeat line g (second if_word l x m h ∷ us) = tt
-few_repeat line g (second try_word l x m h ∷ us) = tt
-few_repeat line g (turning begin_word l h ∷ us) = omega arith
-few_repeat line g (turning for_word l h ∷ us) = omega arith
-few_repeat line g (turning each_word l h ∷ us) = omega arith
-
-few_until : (line : ℕ) (g : Growth) (us : List Unfinished) → FewAfter (length g.words + 1) (growth.until_part line g us)
-few_until line g [] = tt
-few_until line g (first if_word l h ∷ us) = tt
-few_until line g (first try_word l h ∷ us) = tt
-few_until line g (second if_word l x m h ∷ us) = tt
-few_until line g (second try_word l x m h ∷ us) = tt
-few_until line g (turning begin_word l h ∷ us) = omega arith
-few_until line g (turning for_word l h ∷ us) = tt
-few_until line g (turning each_word l h ∷ us) = tt
-
-few_end : (line n : ℕ) (g : Growth) (us : List Unfinished) → FewAfter (length g.words + 1) (growth.end_part line n g us)
-few_end line n g [] = omega (arith, length-append {A = Definition})
-few_end line n g (u ∷ us) = tt
-
-as_many_offered : (n : ℕ) (o : Offer) (ds : List Definition) → length (growth.offered_in n o ds) ≡ length ds
-as_many_offered n o [] = refl
-as_many_offered zero o (d ∷ ds) = refl
-as_many_offered (suc n) o (d ∷ ds) = ap suc (as_many_offered n o ds)
-
-few_cond : (b : Bool) (n : ℕ) (x y : Grown) → FewAfter n x → FewAfter n y → FewAfter n (cond b x y)
-few_cond true n x y h k = h
-few_cond false n x y h k = k
-
-few : (line : ℕ) (a : Act) (g : Growth) → FewAfter (length g.words + cost_of a) (grow line a g)
-few line Wait g = omega arith
-few line (Title name) g = omega arith
-few line (Item w) g = omega arith
-few line (Jump w) g = few_cond (growth.in_loop g.around) _ _ _ (omega arith) tt
-few line (Open opening.If) g = omega arith
-few line (Open opening.Try) g = omega arith
-few line (Open opening.Begin) g = omega arith
-few line (Open opening.For) g = omega arith
-few line (Open opening.Each) g = omega arith
-few line Else g = few_else line g g.around
-few line Then g = few_then line g g.around
-few line Catch g = few_catch line g g.around
-few line EndCatch g = few_end_catch line g g.around
-few line Repeat g = few_repeat line g g.around
-few line Until g = few_until line g g.around
-few line (End n) g = few_end line n g g.around
-few line (offer_act n o) g = let e = as_many_offered n o g.words in omega arith
-
-abbrev SmallAfter : Result Draft Refusal → Type 0
-SmallAfter (Ok d) = IsSmall d
-SmallAfter (Err r) = Unit {0}
-
-small_counted : (k : Known) (g : Growth) (line units more : ℕ) → length g.words ≤ units + more → (b : Bool) → (b ≡ true → units + more ≤ units_most) → SmallAfter (and_then (cond b (Ok (units + more)) (refuse line TooLong)) (λ n. Ok (record { known = k; growth = g; units = n })))
-small_counted k g line units more h true l = record { words = h; units = l refl }
-small_counted k g line units more h false l = tt
-
-small_grown : (k : Known) (line units more words : ℕ) → words ≤ units → (g : Grown) → FewAfter (words + more) g → SmallAfter (and_then g (λ h. and_then (counted line more units) (λ n. Ok (record { known = k; growth = h; units = n }))))
-small_grown k line units more words h (Ok g) f = small_counted k g line units more (omega arith) (nat_le (units + more) units_most) (λ e. leb-true _ _ e)
-small_grown k line units more words h (Err r) f = tt
-
-small_read : (g : Growth) (units : ℕ) → length g.words ≤ units → (r : Read) → SmallAfter (and_then r (λ p. and_then (grow p.1.line p.1.act g) (λ h. and_then (counted p.1.line (cost_of p.1.act) units) (λ n. Ok (record { known = p.0; growth = h; units = n })))))
-small_read g units h (Ok p) = small_grown p.0 p.1.line units (cost_of p.1.act) (length g.words) h (grow p.1.line p.1.act g) (few p.1.line p.1.act g)
-small_read g units h (Err r) = tt
-
-small_step : (t : Token) (d : Draft) → IsSmall d → SmallAfter (step t d)
-small_step t d s = small_read d.growth d.units s.words (read (length d.growth.words) t d.known)
+-- some words of a source have led to the draft
+pub record WasSpelt (d : Draft) : Type 0 where
+  pub before : List Token
+  pub spelt : IsSpelt before d
 
 -- nothing is compiled
-pub starts : CompiledFits nothing_compiled empty_draft × IsSmall empty_draft
+pub starts : CompiledFits nothing_compiled empty_draft × WasSpelt empty_draft
 starts = (
-  record { known = refl; built = record { start = 0; items = refl; within = omega arith; opens = outermost; words = tt; title = refl }; units = refl },
-  record { words = omega arith; units = omega arith },
+  record { known = refl; built = record { start = 0; items = refl; within = omega arith; opens = outermost; words = tt; row = refl; title = refl }; units = refl },
+  record { before = []; spelt = spelt_empty },
 )
 
 -- one word more
-pub takes : (t : Token) (ts : List Token) (last : ℕ) (c new : Compiled) (d : Draft) → CompiledFits c d → IsSmall d → compiled_step t c ≡ Ok new → (e : Draft) × CompiledFits new e × IsSmall e × (tree_from last (t ∷ ts) d ≡ tree_from t.line ts e)
-takes t ts last c new d f s e = from_alike (step t d) (subst (λ r. StepAlike r (step t d)) e (step_alike t c d f)) (small_step t d s)
+pub takes : (t : Token) (ts : List Token) (last : ℕ) (c new : Compiled) (d : Draft) → CompiledFits c d → WasSpelt d → compiled_step t c ≡ Ok new → (e : Draft) × CompiledFits new e × WasSpelt e × (tree_from last (t ∷ ts) d ≡ tree_from t.line ts e)
+takes t ts last c new d f p e = from_alike (step t d) (subst (λ r. StepAlike r (step t d)) e (step_alike t c d f)) (spelt_step t p.before d p.spelt)
   where
-    from_alike : (r : Result Draft Refusal) → StepAlike (Ok new) r → SmallAfter r → (e : Draft) × CompiledFits new e × IsSmall e × (and_then r (tree_from t.line ts) ≡ tree_from t.line ts e)
-    from_alike (Ok q) h k = (q, h, k, refl)
-    from_alike (Err r) h k = absurd h
+    from_alike : (r : Result Draft Refusal) → StepAlike (Ok new) r → DraftSpelt (p.before ++ t ∷ []) r → (e : Draft) × CompiledFits new e × WasSpelt e × (and_then r (tree_from t.line ts) ≡ tree_from t.line ts e)
+    from_alike (Ok q) h l = (q, h, record { before = p.before ++ t ∷ []; spelt = l }, refl)
+    from_alike (Err r) h l = absurd h
 
 -- a word that is refused
 refuses : (t : Token) (ts : List Token) (last : ℕ) (c : Compiled) (r : Refusal) (d : Draft) → CompiledFits c d → compiled_step t c ≡ Err r → tree_from last (t ∷ ts) d ≡ Err r
@@ -245,22 +129,35 @@ EndAlike (Err r) (Err s) = r ≡ s
 EndAlike (Ok code) (Err s) = ⊥
 EndAlike (Err r) (Ok tree) = ⊥
 
-whole_alike : (last n : ℕ) (code : List Placed) (ws : List CodeWord) (ds : List Definition) → WordsStand code ws ds → EndAlike (whole_code last n code ws) (growth.whole_tree last n ds)
-whole_alike last n code [] [] h = refl
-whole_alike last n code (w ∷ ws) (d ∷ ds) h = record { variables = refl; words = h }
-whole_alike last n code [] (d ∷ ds) h = absurd h
-whole_alike last n code (w ∷ ws) [] h = absurd h
+whole_alike : (last n : ℕ) (code : List Placed) (ws : List CodeWord) (ds : List Definition) → WordsStand code ws ds → InRow code 0 ws ds (length code) → EndAlike (whole_code last n code ws) (growth.whole_tree last n ds)
+whole_alike last n code [] [] h r = refl
+whole_alike last n code (w ∷ ws) (d ∷ ds) h r = record { variables = refl; words = h; row = r }
+whole_alike last n code [] (d ∷ ds) h r = absurd h
+whole_alike last n code (w ∷ ws) [] h r = absurd h
 
-end_alike : (m : Mode) (last : ℕ) (c : Compiled) (d : Draft) → CompiledFits c d → EndAlike (compiled_end m last c) (finished_in m last d)
-end_alike mode.Outside last c d f = rw f.known (whole_alike last d.known.variables c.built.code c.built.words d.growth.words f.built.words)
-end_alike mode.Inside last c d f = ap (λ k. record { line = last; kind = k }) (kinds_alike f.built.opens)
-end_alike (mode.Naming w) last c d f = refl
-end_alike (mode.Heading at) last c d f = refl
-end_alike (mode.Results at) last c d f = refl
+-- where nothing is open, the innermost part is the word's
+starts_word : {code : List Placed} {begin : ℕ} {us : List Unfinished} {os : List Pending} {start : ℕ} → OpensFit code begin us os start → us ≡ [] → start ≡ begin
+starts_word outermost e = refl
+starts_word (in_first at h le u o) e = cc
+starts_word (in_second at h le lt f c u o) e = cc
+starts_word (in_turn at h le u o) e = cc
+
+-- between words the next one begins at the end of the code
+row_ends : (b : Built) (g : Growth) → BuiltFits b g → g.now ≡ stop → g.around ≡ [] → InRow b.code 0 b.words g.words (length b.code)
+row_ends b g f now around =
+    let items = subst (λ block. From b.code f.start block (length b.code)) now f.items in
+    subst (InRow b.code 0 b.words g.words) (sym (starts_word f.opens around) ∙ items) f.row
+
+end_alike : (m : Mode) (last : ℕ) (c : Compiled) (d : Draft) (ts : List Token) → CompiledFits c d → Spelt d.known d.growth ts m → EndAlike (compiled_end m last c) (finished_in m last d)
+end_alike mode.Outside last c d ts f (between h) = rw f.known (whole_alike last d.known.variables c.built.code c.built.words d.growth.words f.built.words (row_ends c.built d.growth f.built h.now h.around))
+end_alike mode.Inside last c d ts f s = ap (λ k. record { line = last; kind = k }) (kinds_alike f.built.opens)
+end_alike (mode.Naming w) last c d ts f s = refl
+end_alike (mode.Heading at) last c d ts f s = refl
+end_alike (mode.Results at) last c d ts f s = refl
 
 -- the end of the words
-pub ends : (last : ℕ) (c : Compiled) (d : Draft) (result : Result Code CompileFault) → CompiledFits c d → Answers (compiled_end c.known.mode last c) result → IsCode (finished last d) result
-ends last c d result f a = answered (compiled_end c.known.mode last c) (finished last d) result (subst (λ (k : Known). EndAlike (compiled_end c.known.mode last c) (finished_in k.mode last d)) f.known (end_alike c.known.mode last c d f)) a
+pub ends : (last : ℕ) (c : Compiled) (d : Draft) (result : Result Code CompileFault) → CompiledFits c d → WasSpelt d → Answers (compiled_end c.known.mode last c) result → IsCode (finished last d) result
+ends last c d result f p a = answered (compiled_end c.known.mode last c) (finished last d) result (subst (λ (k : Known). EndAlike (compiled_end k.mode last c) (finished last d)) (sym f.known) (end_alike d.known.mode last c d p.before f p.spelt.spelt)) a
   where
     answered : (s : Result Code Refusal) (t : Result Tree Refusal) (r : Result Code CompileFault) → EndAlike s t → Answers s r → IsCode t r
     answered s t (Err NoMemory) h a = is_wanting t
@@ -279,9 +176,9 @@ module _ (items ts : List Token) (same : items ≡ ts) (n last : ℕ) (t : Token
       let first : get_or ts n t ≡ t = sym (here ∙ ap (λ l. get_or l n t) same) in
       rest ∙ ap (λ r. tree_from last r d) (drop-cons ts n t inside ∙ ap (λ k. get_or ts n t ∷ drop k ts) (sym (add-one n)) ∙ ap (λ x. x ∷ drop (n + 1) ts) first)
 
-  pub takes_at : (c new : Compiled) → CompiledFits c d → IsSmall d → compiled_step t c ≡ Ok new → (e : Draft) × CompiledFits new e × IsSmall e × (whole ≡ tree_from t.line (drop (n + 1) ts) e)
-  takes_at c new f s b =
-      let g = takes t (drop (n + 1) ts) last c new d f s b in
+  pub takes_at : (c new : Compiled) → CompiledFits c d → WasSpelt d → compiled_step t c ≡ Ok new → (e : Draft) × CompiledFits new e × WasSpelt e × (whole ≡ tree_from t.line (drop (n + 1) ts) e)
+  takes_at c new f p b =
+      let g = takes t (drop (n + 1) ts) last c new d f p b in
       (g.0, g.1, g.2, at_place ∙ g.3)
 
   pub refused_at : (c new : Compiled) (fault : CompileFault) → CompiledFits c d → Leads {B = Unit {0}} (compiled_step t c) (Err fault) new → IsCode whole (Err fault)
@@ -294,20 +191,29 @@ drop-all (t ∷ ts) zero h = absurd (omega arith)
 drop-all (t ∷ ts) (suc n) h = drop-all ts n (omega arith)
 
 -- at the end of the words
-pub ends_at : (items ts : List Token) → items ≡ ts → (n last : ℕ) (c : Compiled) (d : Draft) (whole : Result Tree Refusal) (result : Result Code CompileFault) → length items ≤ n → CompiledFits c d → whole ≡ tree_from last (drop n ts) d → Answers (compiled_end c.known.mode last c) result → IsCode whole result
-ends_at items ts same n last c d whole result h f e a =
+pub ends_at : (items ts : List Token) → items ≡ ts → (n last : ℕ) (c : Compiled) (d : Draft) (whole : Result Tree Refusal) (result : Result Code CompileFault) → length items ≤ n → CompiledFits c d → WasSpelt d → whole ≡ tree_from last (drop n ts) d → Answers (compiled_end c.known.mode last c) result → IsCode whole result
+ends_at items ts same n last c d whole result h f p e a =
     let past : length ts ≤ n = subst (λ l. length l ≤ n) same h in
-    subst (λ w. IsCode w result) (sym (e ∙ ap (λ r. tree_from last r d) (drop-all ts n past))) (ends last c d result f a)
+    subst (λ w. IsCode w result) (sym (e ∙ ap (λ r. tree_from last r d) (drop-all ts n past))) (ends last c d result f p a)
 
 -- there are few words and instructions
-pub few_words : (c : Compiled) (d : Draft) → CompiledFits c d → IsSmall d → length c.built.words ≤ 65536
+pub few_words : (c : Compiled) (d : Draft) → CompiledFits c d → WasSpelt d → length c.built.words ≤ 65536
 unfolding units_most
 few_words c d f s =
     let same : length c.built.words ≡ length d.growth.words = as_many c.built.code c.built.words d.growth.words f.built.words in
-    let w = s.words in
-    let u = s.units in
+    let w = s.spelt.words in
+    let u = s.spelt.units in
     omega arith
 
-pub few_units : (c : Compiled) (d : Draft) → CompiledFits c d → IsSmall d → c.units ≤ 65536
+pub few_units : (c : Compiled) (d : Draft) → CompiledFits c d → WasSpelt d → c.units ≤ 65536
 unfolding units_most
-few_units c d f s = let e = f.units in let u = s.units in omega arith
+few_units c d f s = let e = f.units in let u = s.spelt.units in omega arith
+
+-- the tree that code stands for is written in the words that it was compiled from
+pub code_written : (ts : List Token) (result : Result Code CompileFault) → IsCode (tree_of ts) result → IfOk result (λ code. IsProgram ts (decode.tree_of code))
+code_written ts (Err fault) h = tt
+code_written ts (Ok code) h = by (tree_of ts) (tree_written ts) h
+  where
+    by : (r : Result Tree Refusal) → TreeWritten ts r → IsCode r (Ok code) → IsProgram ts (decode.tree_of code)
+    by (Ok tree) w h = subst (IsProgram ts) (sym (tree_read code tree h)) w
+    by (Err r) w h = absurd h

@@ -1,5 +1,5 @@
 -- What each act adds to the instructions stands for what it adds to the tree.
-use Rattle.std.proofs.Common.{◌≡◌, ℕ, zero, suc, ◌+◌, ◌<◌, ◌≤◌, List, [], ◌∷◌, ◌++◌, length, Some, Bool, true, false, cond, refl, sym, ap, ◌∙◌, arith, length-append}
+use Rattle.std.proofs.Common.{◌≡◌, ℕ, zero, suc, ◌+◌, ◌<◌, ◌≤◌, List, [], ◌∷◌, ◌++◌, length, Some, Bool, true, false, cond, refl, sym, ap, subst, ◌∙◌, arith, length-append}
 use Rattle.std.specs.Prelude.{slice_get, slice_set}
 use Rattle.std.proofs.Math.ListN.{length-set}
 use Rattle.muf_model.specs.declared.code.Offer.{Offer}
@@ -12,8 +12,8 @@ use Rattle.muf_model.specs.declared.code.Instr.TheVariants.{Plain, Unset, Close,
 use Rattle.muf_model.specs.declared.code.Placed.{Placed}
 use Rattle.muf_model.specs.declared.code.CodeWord.{CodeWord}
 use Rattle.muf_model.specs.Tree.{Fork, if_word, try_word, Ring, begin_word, for_word, each_word, Block, stop, word, when, fork, ring, Definition}
-use Rattle.muf_model.specs.Stands.{Stands, IsAt, fork_instr, ring_instr, hop_instr, WordsStand, WordStands}
-use Rattle.muf_model.proofs.Standing.{joins, Extends, stands_kept, fork_kept, words_kept}
+use Rattle.muf_model.specs.Stands.{Stands, IsAt, fork_instr, ring_instr, hop_instr, WordsStand, WordStands, InRow}
+use Rattle.muf_model.proofs.Standing.{joins, Extends, stands_map, stands_kept, fork_kept, words_kept, row_kept}
 use Rattle.muf_compile.specs.declared.act.Opening.{Opening}
 use Rattle.muf_compile.specs.declared.act.Opening.TheVariants as opening
 use Rattle.muf_compile.specs.declared.act.Act.{Act}
@@ -84,6 +84,13 @@ word_stands_last code (v ∷ ws) (e ∷ ds) w d h k = (h.0, word_stands_last cod
 word_stands_last code [] (e ∷ ds) w d h k = absurd h
 word_stands_last code (v ∷ ws) [] w d h k = absurd h
 
+-- it begins where the others end, and ends behind its `;`
+row_last : (code : List Placed) (ws : List CodeWord) (ds : List Definition) (place end : ℕ) (w : CodeWord) (d : Definition) → InRow code place ws ds w.start → Stands code w.start d.body (λ p. p + 1 ≡ end) → InRow code place (ws ++ w ∷ []) (ds ++ d ∷ []) end
+row_last code [] [] place end w d h k = (sym h, subst (λ p. Stands code p d.body (λ q. q + 1 ≡ end)) (sym h) k)
+row_last code (v ∷ ws) (e ∷ ds) place end w d h k = (h.0, stands_map code e.body place _ _ (λ p r. row_last code ws ds (p + 1) end w d r k) h.1)
+row_last code [] (e ∷ ds) place end w d h k = absurd h
+row_last code (v ∷ ws) [] place end w d h k = absurd h
+
 -- the offer of a word
 words_offered : (code : List Placed) (n : ℕ) (o : Offer) (ws : List CodeWord) (ds : List Definition) → WordsStand code ws ds → WordsStand code (building.offered_in n o ws) (growth.offered_in n o ds)
 words_offered code n o [] [] h = tt
@@ -93,8 +100,15 @@ words_offered code (suc n) o (w ∷ ws) (d ∷ ds) h = (h.0, words_offered code 
 words_offered code n o [] (d ∷ ds) h = absurd h
 words_offered code n o (w ∷ ws) [] h = absurd h
 
+row_offered : (code : List Placed) (n : ℕ) (o : Offer) (ws : List CodeWord) (ds : List Definition) (place end : ℕ) → InRow code place ws ds end → InRow code place (building.offered_in n o ws) (growth.offered_in n o ds) end
+row_offered code n o [] [] place end h = h
+row_offered code zero o (w ∷ ws) (d ∷ ds) place end h = h
+row_offered code (suc n) o (w ∷ ws) (d ∷ ds) place end h = (h.0, stands_map code d.body place _ _ (λ p r. row_offered code n o ws ds (p + 1) end r) h.1)
+row_offered code n o [] (d ∷ ds) place end h = absurd h
+row_offered code n o (w ∷ ws) [] place end h = absurd h
+
 -- A builder and a growth that fit, by their parts.
-module _ (b : Built) (g : Growth) (fit : WordsStand b.code b.words g.words) (named : b.title ≡ g.title) where
+module _ (b : Built) (g : Growth) (fit : WordsStand b.code b.words g.words) (row : InRow b.code 0 b.words g.words b.start) (named : b.title ≡ g.title) where
   -- one more item in other code, after those before it
   item_joins : (other : List Placed) → Extends b.code other → (before item : Block) (us : List Unfinished) (os : List Pending) (start at bound : ℕ) → From b.code start before at → start ≤ at → at ≤ length other → OpensFit b.code b.start us os start → start ≤ bound → ((p line : ℕ) → p < bound → IsAt b.code p line Unset → IsAt other p line Unset) → Stands other at item (λ p. p ≡ length other) → BuiltFits (with_code b other os) (with_item g before us item)
   item_joins other x before item us os start at bound h le end o small holes s =
@@ -104,6 +118,7 @@ module _ (b : Built) (g : Growth) (fit : WordsStand b.code b.words g.words) (nam
         within = omega arith;
         opens = opens_kept b.code other x b.start bound holes small o;
         words = words_kept b.code other x b.words g.words fit;
+        row = row_kept b.code other x b.words g.words 0 b.start row;
         title = named;
       }
 
@@ -129,6 +144,7 @@ module _ (b : Built) (g : Growth) (fit : WordsStand b.code b.words g.words) (nam
           within = omega arith;
           opens = in_first (length code) (stands_kept code _ y g.now start _ _ (λ p e. e) items) within (get_end code v) (opens_kept code _ y b.start start (λ p row l e. get_append code _ p _ e) (omega arith) o);
           words = words_kept code _ y b.words g.words fit;
+          row = row_kept code _ y b.words g.words 0 b.start row;
           title = named;
         }
 
@@ -145,6 +161,7 @@ module _ (b : Built) (g : Growth) (fit : WordsStand b.code b.words g.words) (nam
           within = omega arith;
           opens = in_turn {k = begin_word} (length code) (stands_kept code _ y g.now start _ _ (λ p e. e) items) within (get_end code v) (opens_kept code _ y b.start start (λ p row l e. get_append code _ p _ e) (omega arith) o);
           words = words_kept code _ y b.words g.words fit;
+          row = row_kept code _ y b.words g.words 0 b.start row;
           title = named;
         }
 
@@ -163,6 +180,7 @@ module _ (b : Built) (g : Growth) (fit : WordsStand b.code b.words g.words) (nam
           within = omega arith;
           opens = in_turn {k = k} (length code) (stands_kept code _ y g.now start _ _ (λ p e. e) items) within (get_append (code ++ v ∷ []) _ _ _ (get_end code v)) (opens_kept code _ y b.start start (λ p row l e. get_append _ _ p _ (get_append code _ p _ e)) (omega arith) o);
           words = words_kept code _ y b.words g.words fit;
+          row = row_kept code _ y b.words g.words 0 b.start row;
           title = named;
         }
 
@@ -195,6 +213,7 @@ module _ (b : Built) (g : Growth) (fit : WordsStand b.code b.words g.words) (nam
           within = omega arith;
           opens = in_second at (stands_kept code other y before start _ _ (λ p e. e) h) le (omega arith) (get_set_same longer at _ i w) (stands_kept code other y g.now (at + 1) _ _ (λ p e. e) items) (get_set_other longer at (length code) v i (λ h. omega arith) (get_end code v)) (opens_kept code other y b.start at (λ p row l e. get_set_other longer at p _ i (λ h. omega arith) (get_append code _ p _ e)) le o);
           words = words_kept code other y b.words g.words fit;
+          row = row_kept code other y b.words g.words 0 b.start row;
           title = named;
         }
 
@@ -313,6 +332,7 @@ module _ (b : Built) (g : Growth) (fit : WordsStand b.code b.words g.words) (nam
         words =
             word_stands_last _ b.words g.words _ _ (words_kept b.code _ x b.words g.words fit)
             (record { name = named; offer = refl; variables = refl; body = stands_kept b.code _ x g.now b.start _ _ (λ p e. rw e (get_end b.code y)) items });
+        row = row_last _ b.words g.words 0 (length b.code + 1) _ _ (row_kept b.code _ x b.words g.words 0 b.start row) (stands_kept b.code _ x g.now b.start _ _ (λ p e. ap (λ n. n + 1) e) items);
         title = named;
       }
 
@@ -337,16 +357,16 @@ module _ (b : Built) (g : Growth) (fit : WordsStand b.code b.words g.words) (nam
 -- the tree after an act
 pub growing : (line : ℕ) (t : Act) (b : Built) (g : Growth) → BuiltFits b g → MadeAlike (build line t b) (grow line t g)
 growing line Wait b g f = f
-growing line (Title name) b g f = record { start = f.start; items = f.items; within = f.within; opens = f.opens; words = f.words; title = refl }
-growing line (Item w) b g f = word_grows b g f.words f.title g.around b.pending f.start f.items f.within f.opens line w
+growing line (Title name) b g f = record { start = f.start; items = f.items; within = f.within; opens = f.opens; words = f.words; row = f.row; title = refl }
+growing line (Item w) b g f = word_grows b g f.words f.row f.title g.around b.pending f.start f.items f.within f.opens line w
 growing line (Jump w) b g f =
-    rw (loops_alike b g f.words f.title f.opens) (cond_alike b g f.words f.title (growth.in_loop g.around) _ _ _ _ (word_grows b g f.words f.title g.around b.pending f.start f.items f.within f.opens line w) refl)
-growing line (Open o) b g f = rw (loops_alike b g f.words f.title f.opens) (opening_alike b g f.words f.title line o f.items f.within f.opens)
-growing line Else b g f = else_alike b g f.words f.title line f.items f.within f.opens
-growing line Then b g f = then_alike b g f.words f.title line f.items f.within f.opens
-growing line Catch b g f = catch_alike b g f.words f.title line f.items f.within f.opens
-growing line EndCatch b g f = end_catch_alike b g f.words f.title line f.items f.within f.opens
-growing line Repeat b g f = repeat_alike b g f.words f.title line f.items f.within f.opens
-growing line Until b g f = until_alike b g f.words f.title line f.items f.within f.opens
-growing line (End n) b g f = end_alike b g f.words f.title line n f.items f.within f.opens
-growing line (offer_act n o) b g f = record { start = f.start; items = f.items; within = f.within; opens = f.opens; words = words_offered b.code n o b.words g.words f.words; title = f.title }
+    rw (loops_alike b g f.words f.row f.title f.opens) (cond_alike b g f.words f.row f.title (growth.in_loop g.around) _ _ _ _ (word_grows b g f.words f.row f.title g.around b.pending f.start f.items f.within f.opens line w) refl)
+growing line (Open o) b g f = rw (loops_alike b g f.words f.row f.title f.opens) (opening_alike b g f.words f.row f.title line o f.items f.within f.opens)
+growing line Else b g f = else_alike b g f.words f.row f.title line f.items f.within f.opens
+growing line Then b g f = then_alike b g f.words f.row f.title line f.items f.within f.opens
+growing line Catch b g f = catch_alike b g f.words f.row f.title line f.items f.within f.opens
+growing line EndCatch b g f = end_catch_alike b g f.words f.row f.title line f.items f.within f.opens
+growing line Repeat b g f = repeat_alike b g f.words f.row f.title line f.items f.within f.opens
+growing line Until b g f = until_alike b g f.words f.row f.title line f.items f.within f.opens
+growing line (End n) b g f = end_alike b g f.words f.row f.title line n f.items f.within f.opens
+growing line (offer_act n o) b g f = record { start = f.start; items = f.items; within = f.within; opens = f.opens; words = words_offered b.code n o b.words g.words f.words; row = row_offered b.code n o b.words g.words 0 b.start f.row; title = f.title }

@@ -3,6 +3,7 @@ pub mod Growing
 pub mod Offers
 pub mod Pendings
 pub mod Rows
-pub mod Titles
+pub mod Scopes
 pub mod Sound
-pub mod Worded
+pub mod Spelling
+pub mod Titles

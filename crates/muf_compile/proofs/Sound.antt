@@ -1,23 +1,21 @@
 -- The items of a word are written in the acts that they grow from.
-use Rattle.std.proofs.Common.{◌≡◌, ℕ, List, [], ◌∷◌, ◌++◌, Bool, true, false, cond, refl, ap, subst, append_assoc}
+use Rattle.std.proofs.Common.{◌≡◌, ℕ, List, [], ◌∷◌, ◌++◌, Bool, true, false, cond, refl, subst, append_assoc}
 use Rattle.std.specs.Prelude.{Ok, Err}
-use Rattle.std.proofs.lemmas.List.{append-nil}
 use Rattle.muf_model.specs.declared.code.Word.{Word}
 use Rattle.muf_model.specs.declared.code.Word.TheVariants.{NextIndex, NextPair}
-use Rattle.muf_model.specs.Tree.{if_word, try_word, begin_word, for_word, each_word, Block, stop, word, when, fork, ring, then_block, Definition}
+use Rattle.muf_model.specs.Tree.{if_word, try_word, begin_word, for_word, each_word, Block, stop, word, then_block}
 use Rattle.muf_compile.specs.declared.act.Opening.TheVariants as opening
 use Rattle.muf_compile.specs.declared.act.Act.{Act}
 use Rattle.muf_compile.specs.declared.act.Act.TheVariants.{Wait, Title, Item, Jump, Open, Else, Then, Catch, EndCatch, Repeat, Until, End, Offer}
 use Rattle.muf_compile.specs.declared.act.Reading.{Reading}
 use Rattle.muf_compile.specs.declared.fault.CompileKind.TheVariants.{StrayBreak}
-use Rattle.muf_compile.specs.Faults.{refuse, and_then}
+use Rattle.muf_compile.specs.Faults.{refuse}
 use Rattle.muf_compile.specs.Growth as growth
-use Rattle.muf_compile.specs.Growth.{Unfinished, first, second, turning, Growth, Grown, grow, with_part, with_item, in_loop}
-use Rattle.muf_compile.specs.inner.Spells.{at_line, Silent, waits, titles, offers, Spells, nothing, silent, item, jump, if_then, if_else, try_catch, begin_repeat, begin_until, for_repeat, each_repeat, growths, IsInside, AllInside}
+use Rattle.muf_compile.specs.Growth.{Unfinished, first, second, turning, Growth, Grown, grow, with_item, in_loop}
+use Rattle.muf_compile.specs.Spells.{at_line, Spells, nothing, item, jump, if_then, if_else, try_catch, begin_repeat, begin_until, for_repeat, each_repeat}
 
 spells_then : (l : Bool) (a b : Block) (xs ys : List Reading) → Spells l a xs → Spells l b ys → Spells l (then_block a b) (xs ++ ys)
 spells_then l a b xs ys nothing k = k
-spells_then l a b xs ys (silent line s h) k = silent line s (spells_then l a b _ ys h k)
 spells_then l a b xs ys (item h) k = item (spells_then l _ b _ ys h k)
 spells_then l a b xs ys (jump h) k = jump (spells_then true _ b _ ys h k)
 spells_then l a b xs ys (if_then last us {rs} h n) k = rw (append_assoc us (at_line last Then ∷ rs) ys) (if_then last us h (spells_then l _ b rs ys n k))
@@ -30,15 +28,8 @@ spells_then l a b xs ys (begin_until {last} us {rs} h n) k = rw (append_assoc us
 spells_then l a b xs ys (for_repeat {last} us {rs} h n) k = rw (append_assoc us (at_line last Repeat ∷ rs) ys) (for_repeat us h (spells_then l _ b rs ys n k))
 spells_then l a b xs ys (each_repeat {last} us {rs} h n) k = rw (append_assoc us (at_line last Repeat ∷ rs) ys) (each_repeat us h (spells_then l _ b rs ys n k))
 
-then_stop : (b : Block) → then_block b stop ≡ b
-then_stop stop = refl
-then_stop (word line w r) = ap (word line w) (then_stop r)
-then_stop (when line a r) = ap (when line a) (then_stop r)
-then_stop (fork k line x mid y r) = ap (fork k line x mid y) (then_stop r)
-then_stop (ring k line x c last r) = ap (ring k line x c last) (then_stop r)
-
 -- a part of a word is written in the acts so far
-data Written : Block → List Unfinished → List Reading → Type 0 where
+pub data Written : Block → List Unfinished → List Reading → Type 0 where
   at_top : {now : Block} {rs : List Reading} → Spells false now rs → Written now [] rs
   in_if : {now before : Block} {us : List Unfinished} {line : ℕ} (xs ys : List Reading) → Written before us xs → Spells (in_loop us) now ys → Written now (first if_word line before ∷ us) (xs ++ at_line line (Open opening.If) ∷ ys)
   in_try : {now before : Block} {us : List Unfinished} {line : ℕ} (xs ys : List Reading) → Written before us xs → Spells (in_loop us) now ys → Written now (first try_word line before ∷ us) (xs ++ at_line line (Open opening.Try) ∷ ys)
@@ -60,23 +51,21 @@ written_more now more us rs zs (in_begin {line} xs ys w s) k = rw (append_assoc 
 written_more now more us rs zs (in_for {line} xs ys w s) k = rw (append_assoc xs (at_line line (Open opening.For) ∷ ys) zs) (in_for xs (ys ++ zs) w (spells_then true _ more ys zs s k))
 written_more now more us rs zs (in_each {line} xs ys w s) k = rw (append_assoc xs (at_line line (Open opening.Each) ∷ ys) zs) (in_each xs (ys ++ zs) w (spells_then true _ more ys zs s k))
 
-abbrev GrownWritten : Grown → List Reading → Type 0
-GrownWritten (Ok g) rs = Written g.now g.around rs
-GrownWritten (Err r) rs = Unit {0}
+-- after an act a part of the same word is written in these acts, and no word has come or gone
+abbrev pub GrownWritten : Growth → Grown → List Reading → Type 0
+GrownWritten g (Ok h) rs = Written h.now h.around rs × (h.words ≡ g.words) × (h.title ≡ g.title)
+GrownWritten g (Err r) rs = Unit {0}
 
-stays : (now : Block) (us : List Unfinished) (rs : List Reading) (line : ℕ) (a : Act) → Silent a → Written now us rs → Written now us (rs ++ at_line line a ∷ [])
-stays now us rs line a s h = subst (λ b. Written b us (rs ++ at_line line a ∷ [])) (then_stop now) (written_more now stop us rs _ h (silent line s nothing))
-
-jumps : (b : Bool) → (line : ℕ) (w : Word) (g : Growth) (rs : List Reading) → b ≡ in_loop g.around → Written g.now g.around rs → GrownWritten (cond b (Ok (with_item g g.now g.around (word line w stop))) (refuse line StrayBreak)) (rs ++ at_line line (Jump w) ∷ [])
-jumps true line w g rs e h = written_more g.now (word line w stop) g.around rs _ h (subst (λ l. Spells l (word line w stop) (at_line line (Jump w) ∷ [])) e (jump nothing))
+jumps : (b : Bool) → (line : ℕ) (w : Word) (g : Growth) (rs : List Reading) → b ≡ in_loop g.around → Written g.now g.around rs → GrownWritten g (cond b (Ok (with_item g g.now g.around (word line w stop))) (refuse line StrayBreak)) (rs ++ at_line line (Jump w) ∷ [])
+jumps true line w g rs e h = (written_more g.now (word line w stop) g.around rs _ h (subst (λ l. Spells l (word line w stop) (at_line line (Jump w) ∷ [])) e (jump nothing)), refl, refl)
 jumps false line w g rs e h = tt
 
-else_written : (at : ℕ) (g : Growth) (us : List Unfinished) (rs : List Reading) → Written g.now us rs → GrownWritten (growth.else_part at g us) (rs ++ at_line at Else ∷ [])
+else_written : (at : ℕ) (g : Growth) (us : List Unfinished) (rs : List Reading) → Written g.now us rs → GrownWritten g (growth.else_part at g us) (rs ++ at_line at Else ∷ [])
 else_written at g us rs h = else_of g.now us rs h
   where
-    else_of : (now : Block) (us : List Unfinished) (rs : List Reading) → Written now us rs → GrownWritten (growth.else_part at (record g { now = now }) us) (rs ++ at_line at Else ∷ [])
+    else_of : (now : Block) (us : List Unfinished) (rs : List Reading) → Written now us rs → GrownWritten g (growth.else_part at (record g { now = now }) us) (rs ++ at_line at Else ∷ [])
     else_of now us rs (at_top s) = tt
-    else_of now us rs (in_if {line} xs ys w s) = rw (append_assoc xs (at_line line (Open opening.If) ∷ ys) (at_line at Else ∷ [])) (in_else xs ys [] w s nothing)
+    else_of now us rs (in_if {line} xs ys w s) = rw (append_assoc xs (at_line line (Open opening.If) ∷ ys) (at_line at Else ∷ [])) (in_else xs ys [] w s nothing, refl, refl)
     else_of now us rs (in_try xs ys w s) = tt
     else_of now us rs (in_else xs ys vs w s r) = tt
     else_of now us rs (in_catch xs ys vs w s r) = tt
@@ -84,83 +73,91 @@ else_written at g us rs h = else_of g.now us rs h
     else_of now us rs (in_for xs ys w s) = tt
     else_of now us rs (in_each xs ys w s) = tt
 
-catch_written : (at : ℕ) (g : Growth) (us : List Unfinished) (rs : List Reading) → Written g.now us rs → GrownWritten (growth.catch_part at g us) (rs ++ at_line at Catch ∷ [])
+catch_written : (at : ℕ) (g : Growth) (us : List Unfinished) (rs : List Reading) → Written g.now us rs → GrownWritten g (growth.catch_part at g us) (rs ++ at_line at Catch ∷ [])
 catch_written at g us rs h = catch_of g.now us rs h
   where
-    catch_of : (now : Block) (us : List Unfinished) (rs : List Reading) → Written now us rs → GrownWritten (growth.catch_part at (record g { now = now }) us) (rs ++ at_line at Catch ∷ [])
+    catch_of : (now : Block) (us : List Unfinished) (rs : List Reading) → Written now us rs → GrownWritten g (growth.catch_part at (record g { now = now }) us) (rs ++ at_line at Catch ∷ [])
     catch_of now us rs (at_top s) = tt
     catch_of now us rs (in_if xs ys w s) = tt
-    catch_of now us rs (in_try {line} xs ys w s) = rw (append_assoc xs (at_line line (Open opening.Try) ∷ ys) (at_line at Catch ∷ [])) (in_catch xs ys [] w s nothing)
+    catch_of now us rs (in_try {line} xs ys w s) = rw (append_assoc xs (at_line line (Open opening.Try) ∷ ys) (at_line at Catch ∷ [])) (in_catch xs ys [] w s nothing, refl, refl)
     catch_of now us rs (in_else xs ys vs w s r) = tt
     catch_of now us rs (in_catch xs ys vs w s r) = tt
     catch_of now us rs (in_begin xs ys w s) = tt
     catch_of now us rs (in_for xs ys w s) = tt
     catch_of now us rs (in_each xs ys w s) = tt
 
-then_written : (at : ℕ) (g : Growth) (us : List Unfinished) (rs : List Reading) → Written g.now us rs → GrownWritten (growth.then_part at g us) (rs ++ at_line at Then ∷ [])
+then_written : (at : ℕ) (g : Growth) (us : List Unfinished) (rs : List Reading) → Written g.now us rs → GrownWritten g (growth.then_part at g us) (rs ++ at_line at Then ∷ [])
 then_written at g us rs h = then_of g.now us rs h
   where
-    then_of : (now : Block) (us : List Unfinished) (rs : List Reading) → Written now us rs → GrownWritten (growth.then_part at (record g { now = now }) us) (rs ++ at_line at Then ∷ [])
+    then_of : (now : Block) (us : List Unfinished) (rs : List Reading) → Written now us rs → GrownWritten g (growth.then_part at (record g { now = now }) us) (rs ++ at_line at Then ∷ [])
     then_of now us rs (at_top s) = tt
-    then_of now us rs (in_if {line} xs ys w s) = rw (append_assoc xs (at_line line (Open opening.If) ∷ ys) (at_line at Then ∷ [])) (written_more _ _ _ xs _ w (if_then at ys s nothing))
+    then_of now us rs (in_if {line} xs ys w s) = rw (append_assoc xs (at_line line (Open opening.If) ∷ ys) (at_line at Then ∷ [])) (written_more _ _ _ xs _ w (if_then at ys s nothing), refl, refl)
     then_of now us rs (in_try xs ys w s) = tt
     then_of now us rs (in_else {line} {mid} xs ys vs w s r) =
-        rw (append_assoc xs (at_line line (Open opening.If) ∷ (ys ++ at_line mid Else ∷ vs)) (at_line at Then ∷ []), append_assoc ys (at_line mid Else ∷ vs) (at_line at Then ∷ [])) (written_more _ _ _ xs _ w (if_else at ys vs s r nothing))
+        rw (append_assoc xs (at_line line (Open opening.If) ∷ (ys ++ at_line mid Else ∷ vs)) (at_line at Then ∷ []), append_assoc ys (at_line mid Else ∷ vs) (at_line at Then ∷ [])) (written_more _ _ _ xs _ w (if_else at ys vs s r nothing), refl, refl)
     then_of now us rs (in_catch xs ys vs w s r) = tt
     then_of now us rs (in_begin xs ys w s) = tt
     then_of now us rs (in_for xs ys w s) = tt
     then_of now us rs (in_each xs ys w s) = tt
 
-end_catch_written : (at : ℕ) (g : Growth) (us : List Unfinished) (rs : List Reading) → Written g.now us rs → GrownWritten (growth.end_catch_part at g us) (rs ++ at_line at EndCatch ∷ [])
+end_catch_written : (at : ℕ) (g : Growth) (us : List Unfinished) (rs : List Reading) → Written g.now us rs → GrownWritten g (growth.end_catch_part at g us) (rs ++ at_line at EndCatch ∷ [])
 end_catch_written at g us rs h = end_of g.now us rs h
   where
-    end_of : (now : Block) (us : List Unfinished) (rs : List Reading) → Written now us rs → GrownWritten (growth.end_catch_part at (record g { now = now }) us) (rs ++ at_line at EndCatch ∷ [])
+    end_of : (now : Block) (us : List Unfinished) (rs : List Reading) → Written now us rs → GrownWritten g (growth.end_catch_part at (record g { now = now }) us) (rs ++ at_line at EndCatch ∷ [])
     end_of now us rs (at_top s) = tt
     end_of now us rs (in_if xs ys w s) = tt
     end_of now us rs (in_try xs ys w s) = tt
     end_of now us rs (in_else xs ys vs w s r) = tt
     end_of now us rs (in_catch {line} {mid} xs ys vs w s r) =
-        rw (append_assoc xs (at_line line (Open opening.Try) ∷ (ys ++ at_line mid Catch ∷ vs)) (at_line at EndCatch ∷ []), append_assoc ys (at_line mid Catch ∷ vs) (at_line at EndCatch ∷ [])) (written_more _ _ _ xs _ w (try_catch at ys vs s r nothing))
+        rw (append_assoc xs (at_line line (Open opening.Try) ∷ (ys ++ at_line mid Catch ∷ vs)) (at_line at EndCatch ∷ []), append_assoc ys (at_line mid Catch ∷ vs) (at_line at EndCatch ∷ [])) (written_more _ _ _ xs _ w (try_catch at ys vs s r nothing), refl, refl)
     end_of now us rs (in_begin xs ys w s) = tt
     end_of now us rs (in_for xs ys w s) = tt
     end_of now us rs (in_each xs ys w s) = tt
 
-repeat_written : (at : ℕ) (g : Growth) (us : List Unfinished) (rs : List Reading) → Written g.now us rs → GrownWritten (growth.repeat_part at g us) (rs ++ at_line at Repeat ∷ [])
+repeat_written : (at : ℕ) (g : Growth) (us : List Unfinished) (rs : List Reading) → Written g.now us rs → GrownWritten g (growth.repeat_part at g us) (rs ++ at_line at Repeat ∷ [])
 repeat_written at g us rs h = repeat_of g.now us rs h
   where
-    repeat_of : (now : Block) (us : List Unfinished) (rs : List Reading) → Written now us rs → GrownWritten (growth.repeat_part at (record g { now = now }) us) (rs ++ at_line at Repeat ∷ [])
+    repeat_of : (now : Block) (us : List Unfinished) (rs : List Reading) → Written now us rs → GrownWritten g (growth.repeat_part at (record g { now = now }) us) (rs ++ at_line at Repeat ∷ [])
     repeat_of now us rs (at_top s) = tt
     repeat_of now us rs (in_if xs ys w s) = tt
     repeat_of now us rs (in_try xs ys w s) = tt
     repeat_of now us rs (in_else xs ys vs w s r) = tt
     repeat_of now us rs (in_catch xs ys vs w s r) = tt
-    repeat_of now us rs (in_begin {line} xs ys w s) = rw (append_assoc xs (at_line line (Open opening.Begin) ∷ ys) (at_line at Repeat ∷ [])) (written_more _ _ _ xs _ w (begin_repeat ys s nothing))
-    repeat_of now us rs (in_for {line} xs ys w s) = rw (append_assoc xs (at_line line (Open opening.For) ∷ ys) (at_line at Repeat ∷ [])) (written_more _ _ _ xs _ w (for_repeat ys s nothing))
-    repeat_of now us rs (in_each {line} xs ys w s) = rw (append_assoc xs (at_line line (Open opening.Each) ∷ ys) (at_line at Repeat ∷ [])) (written_more _ _ _ xs _ w (each_repeat ys s nothing))
+    repeat_of now us rs (in_begin {line} xs ys w s) = rw (append_assoc xs (at_line line (Open opening.Begin) ∷ ys) (at_line at Repeat ∷ [])) (written_more _ _ _ xs _ w (begin_repeat ys s nothing), refl, refl)
+    repeat_of now us rs (in_for {line} xs ys w s) = rw (append_assoc xs (at_line line (Open opening.For) ∷ ys) (at_line at Repeat ∷ [])) (written_more _ _ _ xs _ w (for_repeat ys s nothing), refl, refl)
+    repeat_of now us rs (in_each {line} xs ys w s) = rw (append_assoc xs (at_line line (Open opening.Each) ∷ ys) (at_line at Repeat ∷ [])) (written_more _ _ _ xs _ w (each_repeat ys s nothing), refl, refl)
 
-until_written : (at : ℕ) (g : Growth) (us : List Unfinished) (rs : List Reading) → Written g.now us rs → GrownWritten (growth.until_part at g us) (rs ++ at_line at Until ∷ [])
+until_written : (at : ℕ) (g : Growth) (us : List Unfinished) (rs : List Reading) → Written g.now us rs → GrownWritten g (growth.until_part at g us) (rs ++ at_line at Until ∷ [])
 until_written at g us rs h = until_of g.now us rs h
   where
-    until_of : (now : Block) (us : List Unfinished) (rs : List Reading) → Written now us rs → GrownWritten (growth.until_part at (record g { now = now }) us) (rs ++ at_line at Until ∷ [])
+    until_of : (now : Block) (us : List Unfinished) (rs : List Reading) → Written now us rs → GrownWritten g (growth.until_part at (record g { now = now }) us) (rs ++ at_line at Until ∷ [])
     until_of now us rs (at_top s) = tt
     until_of now us rs (in_if xs ys w s) = tt
     until_of now us rs (in_try xs ys w s) = tt
     until_of now us rs (in_else xs ys vs w s r) = tt
     until_of now us rs (in_catch xs ys vs w s r) = tt
-    until_of now us rs (in_begin {line} xs ys w s) = rw (append_assoc xs (at_line line (Open opening.Begin) ∷ ys) (at_line at Until ∷ [])) (written_more _ _ _ xs _ w (begin_until ys s nothing))
+    until_of now us rs (in_begin {line} xs ys w s) = rw (append_assoc xs (at_line line (Open opening.Begin) ∷ ys) (at_line at Until ∷ [])) (written_more _ _ _ xs _ w (begin_until ys s nothing), refl, refl)
     until_of now us rs (in_for xs ys w s) = tt
     until_of now us rs (in_each xs ys w s) = tt
 
-grow_written : (line : ℕ) (a : Act) (g : Growth) (rs : List Reading) → IsInside a → Written g.now g.around rs → GrownWritten (grow line a g) (rs ++ at_line line a ∷ [])
-grow_written line Wait g rs i h = stays g.now g.around rs line Wait waits h
-grow_written line (Title name) g rs i h = stays g.now g.around rs line (Title name) titles h
-grow_written line (Item w) g rs i h = written_more g.now (word line w stop) g.around rs _ h (item nothing)
+-- an act among the items of a word
+abbrev pub IsInside : Act → Type 0
+IsInside Wait = ⊥
+IsInside (Title name) = ⊥
+IsInside (End n) = ⊥
+IsInside (Offer n o) = ⊥
+IsInside _ = Unit {0}
+
+pub grow_written : (line : ℕ) (a : Act) (g : Growth) (rs : List Reading) → IsInside a → Written g.now g.around rs → GrownWritten g (grow line a g) (rs ++ at_line line a ∷ [])
+grow_written line Wait g rs i h = absurd i
+grow_written line (Title name) g rs i h = absurd i
+grow_written line (Item w) g rs i h = (written_more g.now (word line w stop) g.around rs _ h (item nothing), refl, refl)
 grow_written line (Jump w) g rs i h = jumps (in_loop g.around) line w g rs refl h
-grow_written line (Open opening.If) g rs i h = in_if rs [] h nothing
-grow_written line (Open opening.Try) g rs i h = in_try rs [] h nothing
-grow_written line (Open opening.Begin) g rs i h = in_begin rs [] h nothing
-grow_written line (Open opening.For) g rs i h = in_for rs [] h nothing
-grow_written line (Open opening.Each) g rs i h = in_each rs [] h nothing
+grow_written line (Open opening.If) g rs i h = (in_if rs [] h nothing, refl, refl)
+grow_written line (Open opening.Try) g rs i h = (in_try rs [] h nothing, refl, refl)
+grow_written line (Open opening.Begin) g rs i h = (in_begin rs [] h nothing, refl, refl)
+grow_written line (Open opening.For) g rs i h = (in_for rs [] h nothing, refl, refl)
+grow_written line (Open opening.Each) g rs i h = (in_each rs [] h nothing, refl, refl)
 grow_written line Else g rs i h = else_written line g g.around rs h
 grow_written line Then g rs i h = then_written line g g.around rs h
 grow_written line Catch g rs i h = catch_written line g g.around rs h
@@ -168,36 +165,15 @@ grow_written line EndCatch g rs i h = end_catch_written line g g.around rs h
 grow_written line Repeat g rs i h = repeat_written line g g.around rs h
 grow_written line Until g rs i h = until_written line g g.around rs h
 grow_written line (End n) g rs i h = absurd i
-grow_written line (Offer n o) g rs i h = stays g.now g.around rs line (Offer n o) offers h
+grow_written line (Offer n o) g rs i h = absurd i
 
 -- where nothing is open, the items are written in these acts
-abbrev pub IsSpelled : Grown → List Reading → Type 0
-IsSpelled (Ok g) rs = g.around ≡ [] → Spells false g.now rs
-IsSpelled (Err r) rs = Unit {0}
-
-closed : (now : Block) (us : List Unfinished) (rs : List Reading) → Written now us rs → us ≡ [] → Spells false now rs
-closed now us rs (at_top s) e = s
-closed now us rs (in_if xs ys w s) e = cc
-closed now us rs (in_try xs ys w s) e = cc
-closed now us rs (in_else xs ys vs w s r) e = cc
-closed now us rs (in_catch xs ys vs w s r) e = cc
-closed now us rs (in_begin xs ys w s) e = cc
-closed now us rs (in_for xs ys w s) e = cc
-closed now us rs (in_each xs ys w s) e = cc
-
-all_written : (rs : List Reading) (g : Growth) (xs : List Reading) → AllInside rs → Written g.now g.around xs → GrownWritten (growths rs g) (xs ++ rs)
-all_written [] g xs i h = rw (append-nil xs) h
-all_written (r ∷ rs) g xs i h =
-    rw (← append_assoc xs (r ∷ []) rs) (goes_on (grow r.line r.act g) (grow_written r.line r.act g xs i.0 h) (λ q w. all_written rs q (xs ++ r ∷ []) i.1 w))
-  where
-    goes_on : (m : Grown) → GrownWritten m (xs ++ r ∷ []) → ((q : Growth) → Written q.now q.around (xs ++ r ∷ []) → GrownWritten (growths rs q) ((xs ++ r ∷ []) ++ rs)) → GrownWritten (and_then m (growths rs)) ((xs ++ r ∷ []) ++ rs)
-    goes_on (Ok q) h more = more q h
-    goes_on (Err k) h more = tt
-
--- The items that acts between a `:` and its `;` make are written in these acts.
-pub sound : (rs : List Reading) (ws : List Definition) (title : List ℕ) → AllInside rs → IsSpelled (growths rs (record { words = ws; title = title; now = stop; around = [] })) rs
-sound rs ws title i = spelled (growths rs (record { words = ws; title = title; now = stop; around = [] })) (all_written rs _ [] i (at_top nothing))
-  where
-    spelled : (m : Grown) → GrownWritten m rs → IsSpelled m rs
-    spelled (Ok g) h = λ e. closed g.now g.around rs h e
-    spelled (Err r) h = tt
+pub all_written : (now : Block) (us : List Unfinished) (rs : List Reading) → Written now us rs → us ≡ [] → Spells false now rs
+all_written now us rs (at_top s) e = s
+all_written now us rs (in_if xs ys w s) e = cc
+all_written now us rs (in_try xs ys w s) e = cc
+all_written now us rs (in_else xs ys vs w s r) e = cc
+all_written now us rs (in_catch xs ys vs w s r) e = cc
+all_written now us rs (in_begin xs ys w s) e = cc
+all_written now us rs (in_for xs ys w s) e = cc
+all_written now us rs (in_each xs ys w s) e = cc

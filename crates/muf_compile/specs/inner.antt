@@ -3,4 +3,3 @@ pub mod Built
 pub mod Compiled
 pub mod Fits
 pub mod Knowing
-pub mod Spells

@@ -2,6 +2,8 @@
 ghost use Rattle.std.specs.Prelude.{◌≡◌, ◌+◌, ◌≤◌, length, IfOk};
 ghost use Rattle.muf_compile.specs.Acts.{cost_of};
 ghost use Rattle.muf_compile.specs.Faults.{Leads, Answers};
+ghost use Rattle.muf_model.specs.Decode as decode;
+ghost use Rattle.muf_compile.specs.Grammar.{IsProgram};
 ghost use Rattle.muf_compile.specs.Growth.{counted, tree_of};
 ghost use Rattle.muf_compile.specs.inner.Compiled.{compiled_of, compiled_step, compiled_end, nothing_compiled};
 ghost use Rattle.muf_compile.specs.inner.Fits.{IsCode};
@@ -85,9 +87,11 @@ impl Compiler {
 }
 
 /// The code of a program in these words, which stands for its tree; or the first word that is refused, its line and
-/// why.
+/// why. The tree is written in these words by the rules of the grammar: each token belongs to one declaration, and each
+/// item is what its token says wherever it stands.
 pub fn compile(alloc: Global, tokens: &TokenList) -> Result<Code, CompileFault>
-    ensures { IsCode (tree_of tokens.now) result }
+    ensures code { IsCode (tree_of tokens.now) result }
+    ensures written { IfOk result (λ code. IsProgram tokens.now (decode.tree_of code)) }
 {
     let mut compiler = Compiler::new(alloc)?;
     let mut last = 1;

@@ -6,7 +6,7 @@ use Rattle.muf_model.specs.declared.code.Instr.TheVariants.{Unset}
 use Rattle.muf_model.specs.declared.code.Placed.{Placed}
 use Rattle.muf_model.specs.declared.code.CodeWord.{CodeWord}
 use Rattle.muf_model.specs.Tree.{Fork, if_word, try_word, Ring, begin_word, for_word, each_word, Block, stop, word, when, fork, ring, End, closes, hops, then_block, Definition}
-use Rattle.muf_model.specs.Stands.{Stands, EndStands, Remains, IsAt, fork_instr, ring_instr, hop_instr, WordsStand}
+use Rattle.muf_model.specs.Stands.{Stands, EndStands, Remains, IsAt, fork_instr, ring_instr, hop_instr, WordsStand, InRow}
 
 module _ (code : List Placed) where
   -- what follows may be weakened
@@ -72,3 +72,9 @@ module _ (code other : List Placed) (x : Extends code other) where
       (record { name = h.0.name; offer = h.0.offer; variables = h.0.variables; body = remains_kept d.body (closes Semicolon d.last) w.start h.0.body }, words_kept ws ds h.1)
   words_kept [] (d ∷ ds) h = absurd h
   words_kept (w ∷ ws) [] h = absurd h
+
+  pub row_kept : (ws : List CodeWord) (ds : List Definition) (place end : ℕ) → InRow code place ws ds end → InRow other place ws ds end
+  row_kept [] [] place end h = h
+  row_kept (w ∷ ws) (d ∷ ds) place end h = (h.0, stands_kept d.body place _ _ (λ p r. row_kept ws ds (p + 1) end r) h.1)
+  row_kept [] (d ∷ ds) place end h = absurd h
+  row_kept (w ∷ ws) [] place end h = absurd h

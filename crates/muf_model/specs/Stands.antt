@@ -1,5 +1,5 @@
 -- Which code stands for which tree.
-use Rattle.std.specs.Prelude.{◌≡◌, ℕ, ◌+◌, ◌<◌, ◌≤◌, List, [], ◌∷◌, Some, slice_get}
+use Rattle.std.specs.Prelude.{◌≡◌, ℕ, ◌+◌, ◌<◌, ◌≤◌, List, [], ◌∷◌, length, Some, slice_get}
 use Rattle.muf_model.specs.declared.code.Closer.TheVariants.{Semicolon}
 use Rattle.muf_model.specs.declared.code.Instr.{Instr}
 use Rattle.muf_model.specs.declared.code.Instr.TheVariants.{Plain, Close, When, IfElse, Try, Else, Catch, Begin, For, Each}
@@ -68,7 +68,16 @@ WordsStand code (w ∷ ws) (d ∷ ds) = WordStands code w d × WordsStand code w
 WordsStand code [] (d ∷ ds) = ⊥
 WordsStand code (w ∷ ws) [] = ⊥
 
--- the code stands for the tree
+-- The words stand one behind the other with nothing between: the first begins at this place, each next one behind the `;`
+-- of the one before it, and the last `;` is the last instruction before `end`.
+abbrev pub InRow : List Placed → ℕ → List CodeWord → List Definition → ℕ → Type 0
+InRow code place [] [] end = place ≡ end
+InRow code place (w ∷ ws) (d ∷ ds) end = (w.start ≡ place) × Stands code place d.body (λ p. InRow code (p + 1) ws ds end)
+InRow code place [] (d ∷ ds) end = ⊥
+InRow code place (w ∷ ws) [] end = ⊥
+
+-- the code stands for the tree, and has nothing else
 pub record TreeStands (code : Code) (tree : Tree) : Type 0 where
   pub variables : code.variables ≡ tree.variables
   pub words : WordsStand code.placed code.words tree.words
+  pub row : InRow code.placed 0 code.words tree.words (length code.placed)

@@ -16,7 +16,7 @@ use Rattle.spec_rights.specs.declared.act.Act.{Act}
 use Rattle.spec_rights.specs.declared.act.Act.TheVariants.{Move, Link, NewRoom, NewThing, NewExit, Change as ChangeAct}
 use Rattle.spec_rights.specs.Verdict.{verdict, is_guarded}
 use Rattle.spec_rights.specs.Changing.{moved_to, created_so}
-use Rattle.spec_rights.specs.Licence.{IsNew}
+use Rattle.spec_rights.specs.Licence.{Freedom, IsNew}
 use Rattle.spec_rights.proofs.Rights.{SameRights}
 use Rattle.spec_rights.proofs.Licences.{judge, Quiet, Stay, End, Ends, itself, end_quietly, ends_quiet, ends_stays, ends_by, stays_by}
 use Rattle.spec_rights.proofs.Makings.{new_in, end_created, room_open, thing_open, exit_open}
@@ -40,7 +40,7 @@ pub quiet_created_shown : (d n : ℕ) → Quiet (created_shown d n)
 unfolding created_shown
 quiet_created_shown d n = search shown
 
-ends_making : (a : Actor) (free : Dbref → Bool) (act : Act) (d : ℕ) (kind : Kind) (name : List ℕ) (place : Dbref) (f : Object → Object) →
+ends_making : (a : Actor) (free : Freedom) (act : Act) (d : ℕ) (kind : Kind) (name : List ℕ) (place : Dbref) (f : Object → Object) →
     ((start es : List Entry) (k t : ℕ) → SameRights start es → verdict es a act ≡ None → place ≡ dbref_of t → IsNew (judge a free start) (dbref_of k) (new_in kind name a.user f k t)) →
     Ends itself a free (Some act) (making d a kind name place f)
 unfolding making reading followed
@@ -51,68 +51,68 @@ ends_making a free act d kind name place f new = ends_by _ (λ start w s g. at s
     at start w s g (Ok p) e = let v : Live = created_so p.0 kind name a.user p.1 f w in end_quietly (judge a free start) w v (created_shown d p.0 v) (end_created (judge a free start) kind name a.user place f w p e (λ k t q. new start w.objects k t s g q)) ((quiet_created_shown d p.0).law v)
     at start w s g (Err fault) e = ((ends_quiet a free (Some act) (tell d cant_be_done) (quiet_tell d cant_be_done)).law w).law start s g
 
-making_new : (a : Actor) (free : Dbref → Bool) (d : ℕ) (new : New) (name : List ℕ) (place : Dbref) → Ends itself a free (Some (act_in place new)) (making d a (kind_of new) name place (as_new new))
+making_new : (a : Actor) (free : Freedom) (d : ℕ) (new : New) (name : List ℕ) (place : Dbref) → Ends itself a free (Some (act_in place new)) (making d a (kind_of new) name place (as_new new))
 making_new a free d Room name place = ends_making a free (NewRoom place) d RoomKind name place (as_new Room) (λ start es k t s g e. room_open a free start es name place k t s g e)
 making_new a free d (Thing at) name place = ends_making a free (NewThing place) d ThingKind name place (as_new (Thing at)) (λ start es k t s g e. thing_open a free start es name place at k t s g e)
 making_new a free d (Exit to) name place = ends_making a free (NewExit place to) d ExitKind name place (as_new (Exit to)) (λ start es k t s g e. exit_open a free start es name place to k t s g e)
 
-pub made_open : (a : Actor) (free : Dbref → Bool) (d : ℕ) (new : New) (name : List ℕ) (place : Dbref) → Ends itself a free None (made d a new name place)
+pub made_open : (a : Actor) (free : Freedom) (d : ℕ) (new : New) (name : List ℕ) (place : Dbref) → Ends itself a free None (made d a new name place)
 unfolding made
 made_open a free d new name place = search (permitting, making_new)
 
-pub thing_made_open : (a : Actor) (free : Dbref → Bool) (d : ℕ) (name : List ℕ) → Ends itself a free None (thing_made d a name)
+pub thing_made_open : (a : Actor) (free : Freedom) (d : ℕ) (name : List ℕ) → Ends itself a free None (thing_made d a name)
 unfolding thing_made
 thing_made_open a free d name = search (permitting, made_open)
 
-pub exit_opened_open : (a : Actor) (free : Dbref → Bool) (d : ℕ) (name : List ℕ) (to : Dbref) → Ends itself a free None (exit_opened d a name to)
+pub exit_opened_open : (a : Actor) (free : Freedom) (d : ℕ) (name : List ℕ) (to : Dbref) → Ends itself a free None (exit_opened d a name to)
 unfolding exit_opened
 exit_opened_open a free d name to = search (permitting, made_open)
 
 -- Writing.
 
-ends_done_where : (a : Actor) (free : Dbref → Bool) (given : Option Act) (d : ℕ) (may : Live → Bool) (change : Change) (reply : List ℕ) → Ends itself a free given change → Ends itself a free given (done_where d may change reply)
+ends_done_where : (a : Actor) (free : Freedom) (given : Option Act) (d : ℕ) (may : Live → Bool) (change : Change) (reply : List ℕ) → Ends itself a free given change → Ends itself a free given (done_where d may change reply)
 unfolding done_where
 ends_done_where a free given d may change reply p = search permitting
 
-ends_written : (a : Actor) (free : Dbref → Bool) (d : ℕ) (act : Act) (may : Live → Bool) (change : Change) (reply : List ℕ) → Ends itself a free (Some act) change → Ends itself a free None (written d a act may change reply)
+ends_written : (a : Actor) (free : Freedom) (d : ℕ) (act : Act) (may : Live → Bool) (change : Change) (reply : List ℕ) → Ends itself a free (Some act) change → Ends itself a free None (written d a act may change reply)
 unfolding written
 ends_written a free d act may change reply p = search (permitting, ends_done_where)
 
 ruleset writing = (permitting, ends_done_where, ends_written)
 
-tied_open : (a : Actor) (free : Dbref → Bool) (x to : Dbref) → Ends itself a free (Some (Link x to)) (tied x to to)
+tied_open : (a : Actor) (free : Freedom) (x to : Dbref) → Ends itself a free (Some (Link x to)) (tied x to to)
 unfolding tied
 tied_open a free x to = search permitting
 
-untied_open : (a : Actor) (free : Dbref → Bool) (x : Dbref) → Ends itself a free (Some (Link x nothing)) (tied x nothing (dbref_of 0))
+untied_open : (a : Actor) (free : Freedom) (x : Dbref) → free.clears ≡ true → Ends itself a free (Some (Link x nothing)) (tied x nothing (dbref_of 0))
 unfolding tied
-untied_open a free x = search permitting
+untied_open a free x h = search permitting
 
-pub link_set_open : (a : Actor) (free : Dbref → Bool) (d : ℕ) (x to : Dbref) → Ends itself a free None (link_set d a x to)
+pub link_set_open : (a : Actor) (free : Freedom) (d : ℕ) (x to : Dbref) → Ends itself a free None (link_set d a x to)
 unfolding link_set
 link_set_open a free d x to = search (writing, tied_open)
 
-pub link_cleared_open : (a : Actor) (free : Dbref → Bool) (d : ℕ) (x : Dbref) → Ends itself a free None (link_cleared d a x)
+pub link_cleared_open : (a : Actor) (free : Freedom) (d : ℕ) (x : Dbref) → free.clears ≡ true → Ends itself a free None (link_cleared d a x)
 unfolding link_cleared
-link_cleared_open a free d x = search (writing, untied_open)
+link_cleared_open a free d x h = search (writing, untied_open)
 
-pub name_set_open : (a : Actor) (free : Dbref → Bool) (d : ℕ) (x : Dbref) (name : List ℕ) → Ends itself a free None (name_set d a x name)
+pub name_set_open : (a : Actor) (free : Freedom) (d : ℕ) (x : Dbref) (name : List ℕ) → Ends itself a free None (name_set d a x name)
 unfolding name_set
 name_set_open a free d x name = search writing
 
-pub kept_open : (a : Actor) (free : Dbref → Bool) (d : ℕ) (x : Dbref) (word text reply : List ℕ) → is_guarded (class_of (message_path word)) ≡ true → Ends itself a free None (kept d a x word text reply)
+pub kept_open : (a : Actor) (free : Freedom) (d : ℕ) (x : Dbref) (word text reply : List ℕ) → is_guarded (class_of (message_path word)) ≡ true → Ends itself a free None (kept d a x word text reply)
 unfolding kept
 kept_open a free d x word text reply h = search writing
 
-lock_kept_open : (a : Actor) (free : Dbref → Bool) (d : ℕ) (x : Dbref) (text : Option (List ℕ)) → Ends itself a free (Some (ChangeAct x)) (lock_kept d x text)
+lock_kept_open : (a : Actor) (free : Freedom) (d : ℕ) (x : Dbref) (text : Option (List ℕ)) → Ends itself a free (Some (ChangeAct x)) (lock_kept d x text)
 lock_kept_open a free d x (Some text) = search writing
 lock_kept_open a free d x None = search writing
 
-pub lock_set_open : (a : Actor) (free : Dbref → Bool) (d : ℕ) (x : Dbref) (key : List ℕ) → Ends itself a free None (lock_set d a x key)
+pub lock_set_open : (a : Actor) (free : Freedom) (d : ℕ) (x : Dbref) (key : List ℕ) → Ends itself a free None (lock_set d a x key)
 unfolding lock_set
 lock_set_open a free d x key = search (writing, lock_kept_open)
 
-placed_open : (a : Actor) (free : Dbref → Bool) (x to : Dbref) → Ends itself a free (Some (Move x to)) (placed x to)
+placed_open : (a : Actor) (free : Freedom) (x to : Dbref) → Ends itself a free (Some (Move x to)) (placed x to)
 unfolding placed reading
 placed_open a free x to = ends_stays a free (Some (Move x to)) _ (stays_by _ (λ start w s g. at start w s g (same to home) refl))
   where
@@ -122,11 +122,11 @@ placed_open a free x to = ends_stays a free (Some (Move x to)) _ (stays_by _ (λ
         stay_moved_home a free start w x (home_at x w) refl s (subst P (eq_same to home e) g)
     at start w s g false e = ((stays_moved a free x to).law w).law start s g
 
-pub teleported_open : (a : Actor) (free : Dbref → Bool) (d : ℕ) (x to : Dbref) → Ends itself a free None (teleported d a x to)
+pub teleported_open : (a : Actor) (free : Freedom) (d : ℕ) (x to : Dbref) → Ends itself a free None (teleported d a x to)
 unfolding teleported
 teleported_open a free d x to = search (writing, placed_open)
 
-pub chowned_open : (a : Actor) (free : Dbref → Bool) (d : ℕ) (x owner : Dbref) → Ends itself a free None (chowned d a x owner)
+pub chowned_open : (a : Actor) (free : Freedom) (d : ℕ) (x owner : Dbref) → Ends itself a free None (chowned d a x owner)
 unfolding chowned
 chowned_open a free d x owner = search writing
 

@@ -19,9 +19,9 @@ use Rattle.spec_rights.specs.declared.act.Act.{Act}
 use Rattle.spec_rights.specs.declared.act.Act.TheVariants.{Take, Recycle}
 use Rattle.spec_rights.specs.Verdict.{verdict, place_of}
 use Rattle.spec_rights.specs.Changing.{recycled_now}
-use Rattle.spec_rights.specs.Licence.{at_hand, at_hand_kind}
+use Rattle.spec_rights.specs.Licence.{Freedom, at_hand, at_hand_kind}
 use Rattle.spec_rights.proofs.Licences.{Quiet, Stays, Ends, Whole, Always, itself, whole_ends, whole_asked, whole_quiet, whole_quietly, whole_by, ends_by}
-use Rattle.spec_rights.proofs.Recycled.{recycled_licensed}
+use Rattle.spec_rights.proofs.Recycled.{recycled_proper}
 use Rattle.spec_rights.proofs.Allowed.{take_allowed}
 use Rattle.spec_rights.proofs.Permitted.{staying, ending}
 use Rattle.spec_rights.proofs.Shown.{shown}
@@ -38,25 +38,25 @@ use Rattle.spec_commands.proofs.Showing.{seeing, whole_where}
 abbrev pub world_of : Live × Outcome → Live
 world_of p = p.0
 
-pub ends_ended : (a : Actor) (free : Dbref → Bool) (given : Option Act) (outcome : Outcome) (f : Change) → Ends itself a free given f → Ends world_of a free given (ended outcome f)
+pub ends_ended : (a : Actor) (free : Freedom) (given : Option Act) (outcome : Outcome) (f : Change) → Ends itself a free given f → Ends world_of a free given (ended outcome f)
 unfolding ended
 ends_ended a free given outcome f p = ends_by _ (λ start w. (p.law w).law start)
 
-pub whole_ended : (a : Actor) (own : Option ℕ) (free : List Entry → Dbref → Bool) (given : Live → Type 0) (outcome : Outcome) (f : Change) → Whole itself a own free given f → Whole world_of a own free given (ended outcome f)
+pub whole_ended : (a : Actor) (own : Option ℕ) (free : List Entry → Freedom) (given : Live → Type 0) (outcome : Outcome) (f : Change) → Whole itself a own free given f → Whole world_of a own free given (ended outcome f)
 unfolding ended
 whole_ended a own free given outcome f p = whole_by _ (λ w. (p.law w).law)
 
 -- Going.
 
-stays_moving : (a : Actor) (free : Dbref → Bool) (given : Option Act) (d : ℕ) (x to : Dbref) (go : Change) → free x ≡ true → Quiet go → Stays a free given (moving d x to go)
+stays_moving : (a : Actor) (free : Freedom) (given : Option Act) (d : ℕ) (x to : Dbref) (go : Change) → free.moves x ≡ true → Quiet go → Stays a free given (moving d x to go)
 unfolding moving
 stays_moving a free given d x to go h q = search (staying, keeps_where)
 
-stays_gone : (a : Actor) (free : Dbref → Bool) (given : Option Act) (d : ℕ) (typed : Typed) (to : Dbref) (seen : Change) → free a.player ≡ true → Quiet seen → Stays a free given (gone d a typed to seen)
+stays_gone : (a : Actor) (free : Freedom) (given : Option Act) (d : ℕ) (typed : Typed) (to : Dbref) (seen : Change) → free.moves a.player ≡ true → Quiet seen → Stays a free given (gone d a typed to seen)
 unfolding gone
 stays_gone a free given d typed to seen h q = search (staying, seeing) depth 8
 
-pub stays_gone_home : (a : Actor) (free : Dbref → Bool) (given : Option Act) (d : ℕ) → free a.player ≡ true → Stays a free given (gone_home d a)
+pub stays_gone_home : (a : Actor) (free : Freedom) (given : Option Act) (d : ℕ) → free.moves a.player ≡ true → Stays a free given (gone_home d a)
 unfolding gone_home
 stays_gone_home a free given d h = search (staying, stays_gone)
 
@@ -68,23 +68,23 @@ quiet_failed : (d : ℕ) (a : Actor) (typed : Typed) (otherwise : List ℕ) (x :
 unfolding failed
 quiet_failed d a typed otherwise x = search seeing
 
-ends_led : (a : Actor) (free : Dbref → Bool) (given : Option Act) (d : ℕ) (typed : Typed) (exit : Dbref) (line : List ℕ) (to : Dbref) → free a.player ≡ true → Ends world_of a free given (led d a typed exit line to)
+ends_led : (a : Actor) (free : Freedom) (given : Option Act) (d : ℕ) (typed : Typed) (exit : Dbref) (line : List ℕ) (to : Dbref) → free.moves a.player ≡ true → Ends world_of a free given (led d a typed exit line to)
 unfolding led
 ends_led a free given d typed exit line to h = search (ending, seeing, quiet_both_shown, ends_ended, stays_gone) depth 9
 
-pub tried_open : (a : Actor) (free : Dbref → Bool) (d : ℕ) (typed : Typed) (exit : Dbref) (line : List ℕ) → free a.player ≡ true → Ends world_of a free None (tried d a typed exit line)
+pub tried_open : (a : Actor) (free : Freedom) (d : ℕ) (typed : Typed) (exit : Dbref) (line : List ℕ) → free.moves a.player ≡ true → Ends world_of a free None (tried d a typed exit line)
 unfolding tried
 tried_open a free d typed exit line h = search (ending, ends_ended, quiet_failed, quiet_both_shown, ends_led)
 
-pub walked_open : (a : Actor) (free : Dbref → Bool) (d : ℕ) (hit : ExitHit) (line : List ℕ) → free a.player ≡ true → Ends world_of a free None (walked d a hit line)
+pub walked_open : (a : Actor) (free : Freedom) (d : ℕ) (hit : ExitHit) (line : List ℕ) → free.moves a.player ≡ true → Ends world_of a free None (walked d a hit line)
 unfolding walked
 walked_open a free d hit line h = search (ending, tried_open)
 
-walked_some_open : (a : Actor) (free : Dbref → Bool) (d : ℕ) (line : List ℕ) (hit : Option ExitHit) → free a.player ≡ true → Ends world_of a free None (walked_some d a line hit)
+walked_some_open : (a : Actor) (free : Freedom) (d : ℕ) (line : List ℕ) (hit : Option ExitHit) → free.moves a.player ≡ true → Ends world_of a free None (walked_some d a line hit)
 walked_some_open a free d line None h = search (ending, ends_ended)
 walked_some_open a free d line (Some hit) h = walked_open a free d hit line h
 
-pub went_open : (a : Actor) (free : Dbref → Bool) (d : ℕ) (line : List ℕ) → free a.player ≡ true → Ends world_of a free None (went d a line)
+pub went_open : (a : Actor) (free : Freedom) (d : ℕ) (line : List ℕ) → free.moves a.player ≡ true → Ends world_of a free None (went d a line)
 unfolding went
 went_open a free d line h = search (ending, walked_some_open)
 
@@ -120,17 +120,17 @@ carried_at : (player x : Dbref) (w : Live) → is_carried player x w ≡ true �
 unfolding is_so
 carried_at player x w e = e
 
-taking : (a : Actor) (free : Dbref → Bool) (d : ℕ) (typed : Typed) (x : Dbref) → free x ≡ true → Ends itself a free None (succeeded d a typed x ▸ moving d x a.player (tell d taken_reply))
+taking : (a : Actor) (free : Freedom) (d : ℕ) (typed : Typed) (x : Dbref) → free.moves x ≡ true → Ends itself a free None (succeeded d a typed x ▸ moving d x a.player (tell d taken_reply))
 taking a free d typed x h = search (ending, seeing, quiet_both_shown, stays_moving)
 
 quiet_not_taken : (d : ℕ) (a : Actor) (typed : Typed) (x : Dbref) (denial : Denial) → Quiet (not_taken d a typed x denial)
 quiet_not_taken d a typed x denial = search (seeing, quiet_failed)
 
 -- what is at hand is free
-abbrev pub HandFree : Actor → (List Entry → Dbref → Bool) → Type 0
-HandFree a free = (es : List Entry) (x : Dbref) → at_hand es a x ≡ true → free es x ≡ true
+abbrev pub HandFree : Actor → (List Entry → Freedom) → Type 0
+HandFree a free = (es : List Entry) (x : Dbref) → at_hand es a x ≡ true → (free es).moves x ≡ true
 
-pub taken_open : (a : Actor) (own : Option ℕ) (free : List Entry → Dbref → Bool) (d : ℕ) (typed : Typed) (x : Dbref) → HandFree a free → Whole itself a own free Always (taken d a typed x)
+pub taken_open : (a : Actor) (own : Option ℕ) (free : List Entry → Freedom) (d : ℕ) (typed : Typed) (x : Dbref) → HandFree a free → Whole itself a own free Always (taken d a typed x)
 unfolding taken
 taken_open a own free d typed x hands =
     whole_where itself a own free Always (is_item x) _ _ (whole_quiet a own free Always _ (search shown))
@@ -138,11 +138,11 @@ taken_open a own free d typed x hands =
     (whole_ends itself a own free _ _ (λ w h.
     taking a (free w.objects) d typed x (hands w.objects x (here_at_hand w.objects a x (object_at x w.objects) refl (item_at x w h.0.1) (take_allowed w.objects a x h.1))))))
 
-dropping : (a : Actor) (free : Dbref → Bool) (d : ℕ) (typed : Typed) (x : Dbref) → free x ≡ true →
+dropping : (a : Actor) (free : Freedom) (d : ℕ) (typed : Typed) (x : Dbref) → free.moves x ≡ true →
     Ends itself a free None (reading (drop_place a.player) (λ to. moving d x to (tell d dropped_reply ▸ drop_shown d a typed x)))
 dropping a free d typed x h = search (ending, seeing, quiet_both_shown, stays_moving) depth 7
 
-pub dropped_open : (a : Actor) (own : Option ℕ) (free : List Entry → Dbref → Bool) (d : ℕ) (typed : Typed) (x : Dbref) → HandFree a free → Whole itself a own free Always (dropped d a typed x)
+pub dropped_open : (a : Actor) (own : Option ℕ) (free : List Entry → Freedom) (d : ℕ) (typed : Typed) (x : Dbref) → HandFree a free → Whole itself a own free Always (dropped d a typed x)
 unfolding dropped
 dropped_open a own free d typed x hands =
     whole_where itself a own free Always (is_carried a.player x) _ _ (whole_quiet a own free Always _ (search shown))
@@ -159,13 +159,13 @@ passed : (r : Result ℕ DbFault) → allowed r ≡ true → (n : ℕ) × (r ≡
 passed (Ok n) e = (n, refl)
 passed (Err fault) e = absurd (cc)
 
-recycling : (a : Actor) (own : Option ℕ) (free : List Entry → Dbref → Bool) (x : Dbref) (given : Live → Type 0) → ((w : Live) → given w → (verdict w.objects a (Recycle x) ≡ None) × (allowed (recycle_check x w.objects) ≡ true)) → Whole itself a own free given (recycled_now x)
+recycling : (a : Actor) (own : Option ℕ) (free : List Entry → Freedom) (x : Dbref) (given : Live → Type 0) → ((w : Live) → given w → (verdict w.objects a (Recycle x) ≡ None) × (allowed (recycle_check x w.objects) ≡ true)) → Whole itself a own free given (recycled_now x)
 recycling a own free x given h = whole_by _ (λ w c g.
     let t = h w g in
     let p = passed (recycle_check x w.objects) t.1 in
-    recycled_licensed a (free w.objects) x w p.0 t.0 p.1)
+    recycled_proper a (free w.objects) x w p.0 t.0 p.1)
 
-pub recycled_open : (a : Actor) (own : Option ℕ) (free : List Entry → Dbref → Bool) (d : ℕ) (x : Dbref) → Whole itself a own free Always (recycled d a x)
+pub recycled_open : (a : Actor) (own : Option ℕ) (free : List Entry → Freedom) (d : ℕ) (x : Dbref) → Whole itself a own free Always (recycled d a x)
 unfolding recycled written done_where
 recycled_open a own free d x =
     whole_asked itself a own free Always (Recycle x) _ _ (λ denial. whole_quiet a own free Always _ (search shown))

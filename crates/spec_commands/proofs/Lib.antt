@@ -9,3 +9,4 @@ pub mod Permitted
 pub mod Numbered
 pub mod Lines
 pub mod Edited
+pub mod Sources

@@ -12,31 +12,31 @@ use Rattle.spec_commands.proofs.Showing.{quiet_shown_others, quiet_looked, quiet
 
 -- The login screen.
 
-seating_tell : (d : ℕ) (text : List ℕ) → Seating (tell d text)
-seating_tell d text = seating_quiet _ (quiet_tell d text)
+seating_tell : (d : ℕ) (text : List ℕ) → Seating d (tell d text)
+seating_tell d text = seating_quiet d _ (quiet_tell d text)
 
-seating_quit : (d : ℕ) → Seating (quit d)
+seating_quit : (d : ℕ) → Seating d (quit d)
 unfolding quit
-seating_quit d = keeps_followed _ _ seating_order (seating_tell d goodbye) (seating_leave d)
+seating_quit d = keeps_followed _ _ (seating_order d) (seating_tell d goodbye) (seating_leave d)
 
-seating_let_in : (d : ℕ) (player : Option Dbref) → Seating (let_in d player)
+seating_let_in : (d : ℕ) (player : Option Dbref) → Seating d (let_in d player)
 seating_let_in d None = seating_tell d refused_login
-seating_let_in d (Some player) = keeps_followed _ _ seating_order (seating_enter d player) (seating_quiet _ (search (shown, quiet_shown_others, quiet_looked)))
+seating_let_in d (Some player) = keeps_followed _ _ (seating_order d) (seating_enter d player) (seating_quiet d _ (search (shown, quiet_shown_others, quiet_looked)))
 
-seating_logged_in : (d : ℕ) (name word : List ℕ) → Seating (logged_in d name word)
+seating_logged_in : (d : ℕ) (name word : List ℕ) → Seating d (logged_in d name word)
 unfolding logged_in
 seating_logged_in d name word = keeps_reading _ (let_in d) (seating_let_in d)
 
-seating_connecting : (d : ℕ) (name word : List ℕ) → Seating (connecting d name word)
+seating_connecting : (d : ℕ) (name word : List ℕ) → Seating d (connecting d name word)
 unfolding connecting
 seating_connecting d name [] = seating_tell d welcome
 seating_connecting d name (b ∷ word) = seating_logged_in d name (b ∷ word)
 
-pub seating_at_login : (d : ℕ) (line : List ℕ) → Seating (at_login d line)
+pub seating_at_login : (d : ℕ) (line : List ℕ) → Seating d (at_login d line)
 unfolding at_login
 seating_at_login d line =
     keeps_either _ _ _ (seating_quit d)
-    (keeps_either _ _ _ (seating_quiet _ (quiet_who_shown d)) (keeps_either _ _ _ (seating_connecting d _ _) (seating_tell d welcome)))
+    (keeps_either _ _ _ (seating_quiet d _ (quiet_who_shown d)) (keeps_either _ _ _ (seating_connecting d _ _) (seating_tell d welcome)))
 
 -- Going away.
 

@@ -1,14 +1,14 @@
 -- Changes that keep the numbers of the connections, and among them those that change no object and nothing that is tuned.
-use Rattle.std.proofs.Common.{◌≡◌, ℕ, ◌<◌, Bool, true, false, cond, List, [], ◌∷◌, refl, ◌∙◌, ap, subst, Option}
-use Rattle.std.specs.Prelude.{map}
+use Rattle.std.proofs.Common.{◌≡◌, ℕ, ◌<◌, Bool, true, false, cond, List, [], ◌∷◌, refl, ◌∙◌, ap, subst, Option, inl, inr}
+use Rattle.std.specs.Prelude.{map, ◌==◌}
 use Rattle.muck_model.specs.declared.dbref.Dbref.{Dbref}
 use Rattle.spec_live.specs.Connections.{Connection, has_number, changed_in, left, seated}
 use Rattle.spec_live.specs.Boards.{on_connection, leaving_one, seated_one}
 use Rattle.spec_live.proofs.Keeping.{Keeps, Order, keeps_more}
 use Rattle.spec_live.specs.Lives.{Live, Change, on_board, leave, enter}
 use Rattle.spec_rights.specs.declared.act.Actor.{Actor}
-use Rattle.spec_rights.specs.Licence.{SameTies}
-use Rattle.spec_rights.proofs.Licences.{Quiet, tie, ties}
+use Rattle.spec_rights.specs.Licence.{Open, SameTies, LeaversLicensed}
+use Rattle.spec_rights.proofs.Licences.{Quiet, open_both, tie, ties}
 use Rattle.spec_commands.specs.Rising.{IsAbove, IsRising}
 
 unfoldable pub numbers : List Connection → List ℕ
@@ -65,31 +65,66 @@ numbers-same_ties a [] (d ∷ ds) t = absurd t
 numbers-same_ties a (c ∷ cs) [] t = absurd t
 numbers-same_ties a (c ∷ cs) (d ∷ ds) t = ap (λ n. n ∷ numbers ds) t.0 ∙ ap (λ ns. c.number ∷ ns) (numbers-same_ties a cs ds t.3)
 
--- Worlds of which only the connections differ, which keep their numbers.
-pub record Seats (w v : Live) : Type 0 where
+-- Leaving.
+
+pub leavers_ties : (may : Connection → Bool) (cs ds : List Connection) → ties ds ≡ ties cs → LeaversLicensed may cs ds
+leavers_ties may [] [] e = tt
+leavers_ties may [] (d ∷ ds) e = absurd cc
+leavers_ties may (c ∷ cs) [] e = absurd cc
+leavers_ties may (c ∷ cs) (d ∷ ds) e =
+    let head : tie d ≡ tie c = cc in
+    let rest : ties ds ≡ ties cs = cc in
+    (ap (λ (t : ℕ × Option Dbref × Bool). t.0) head, inl (ap (λ (t : ℕ × Option Dbref × Bool). t.2) head), leavers_ties may cs ds rest)
+
+leavers_both : (n : ℕ) (cs ds es : List Connection) → LeaversLicensed (has_number n) cs ds → LeaversLicensed (has_number n) ds es → LeaversLicensed (has_number n) cs es
+leavers_both n [] [] [] r s = tt
+leavers_both n [] [] (e ∷ es) r s = absurd s
+leavers_both n [] (d ∷ ds) es r s = absurd r
+leavers_both n (c ∷ cs) [] es r s = absurd r
+leavers_both n (c ∷ cs) (d ∷ ds) [] r s = absurd s
+leavers_both n (c ∷ cs) (d ∷ ds) (e ∷ es) r s =
+    let P : ℕ → Type 0 = λ k. Open (λ (leaving : Bool). k == n) d.leaving e.leaving in
+    (s.0 ∙ r.0, open_both (λ leaving. has_number n c) c.leaving d.leaving e.leaving r.1 (subst P r.0 s.1), leavers_both n cs ds es r.2 s.2)
+
+leavers_changed_in : (d : ℕ) (f : Connection → Connection) → ((c : Connection) → (f c).number ≡ c.number) → (cs : List Connection) → LeaversLicensed (has_number d) cs (changed_in d f cs)
+leavers_changed_in d f keeps [] = tt
+leavers_changed_in d f keeps (c ∷ cs) = at (has_number d c) refl (leavers_changed_in d f keeps cs)
+  where
+    at : (b : Bool) → has_number d c ≡ b → LeaversLicensed (has_number d) cs (changed_in d f cs) → LeaversLicensed (has_number d) (c ∷ cs) (cond b (f c ∷ cs) (c ∷ changed_in d f cs))
+    at true e h = (keeps c, inr e, leavers_ties (has_number d) cs cs refl)
+    at false e h = (refl, inl refl, h)
+
+-- Worlds of which only the connections differ, which keep their numbers, and of which only d may begin to leave.
+pub record Seats (d : ℕ) (w v : Live) : Type 0 where
   pub objects : v.objects ≡ w.objects
   pub tune : v.board.tune ≡ w.board.tune
   pub numbers : numbers v.board.connections ≡ numbers w.board.connections
+  pub leavers : LeaversLicensed (has_number d) w.board.connections v.board.connections
 
-abbrev pub Seating : Change → Type 0
-Seating f = Keeps Seats f
+abbrev pub Seating : ℕ → Change → Type 0
+Seating d f = Keeps (Seats d) f
 
-pub seating_order : Order Seats
-seating_order = record {
-  itself = λ w. record { objects = refl; tune = refl; numbers = refl };
-  both = λ u v w r s. record { objects = s.objects ∙ r.objects; tune = s.tune ∙ r.tune; numbers = s.numbers ∙ r.numbers };
+pub seating_order : (d : ℕ) → Order (Seats d)
+seating_order d = record {
+  itself = λ w. record { objects = refl; tune = refl; numbers = refl; leavers = leavers_ties (has_number d) w.board.connections w.board.connections refl };
+  both = λ u v w r s. record { objects = s.objects ∙ r.objects; tune = s.tune ∙ r.tune; numbers = s.numbers ∙ r.numbers; leavers = leavers_both d _ _ _ r.leavers s.leavers };
 }
 
-pub seating_quiet : (f : Change) → Quiet f → Seating f
-seating_quiet f q = keeps_more f (λ w v s. record { objects = s.objects; tune = s.tune; numbers = numbers-ties w.board.connections v.board.connections s.ties }) q
+pub seating_quiet : (d : ℕ) (f : Change) → Quiet f → Seating d f
+seating_quiet d f q = keeps_more f (λ w v s. record {
+  objects = s.objects;
+  tune = s.tune;
+  numbers = numbers-ties w.board.connections v.board.connections s.ties;
+  leavers = leavers_ties (has_number d) w.board.connections v.board.connections s.ties;
+}) q
 
-pub seating_one : (d : ℕ) (f : Connection → Connection) → ((c : Connection) → (f c).number ≡ c.number) → Seating (on_board (on_connection d f))
-seating_one d f keeps = record { law = λ w. record { objects = refl; tune = refl; numbers = numbers-changed_in d f keeps w.board.connections } }
+pub seating_one : (d : ℕ) (f : Connection → Connection) → ((c : Connection) → (f c).number ≡ c.number) → Seating d (on_board (on_connection d f))
+seating_one d f keeps = record { law = λ w. record { objects = refl; tune = refl; numbers = numbers-changed_in d f keeps w.board.connections; leavers = leavers_changed_in d f keeps w.board.connections } }
 
-pub seating_leave : (d : ℕ) → Seating (leave d)
+pub seating_leave : (d : ℕ) → Seating d (leave d)
 unfolding leave leaving_one
 seating_leave d = seating_one d left (λ c. refl)
 
-pub seating_enter : (d : ℕ) (player : Dbref) → Seating (enter d player)
+pub seating_enter : (d : ℕ) (player : Dbref) → Seating d (enter d player)
 unfolding enter seated_one
 seating_enter d player = seating_one d (seated player) (λ c. refl)

@@ -11,8 +11,8 @@ use Rattle.spec_live.specs.Objects.{Entry}
 use Rattle.spec_live.specs.Lives.{Live, ◌▸◌, reading, unchanged}
 use Rattle.spec_rights.specs.declared.act.Actor.{Actor}
 use Rattle.spec_rights.specs.Verdict.{is_guarded}
-use Rattle.spec_rights.specs.Licence.{Licensed, oneself}
-use Rattle.spec_rights.proofs.Licences.{Own, Whole, Always, itself, whole_ends, whole_quiet, whole_followed, ends_stays, quiet_unchanged, whole_by}
+use Rattle.spec_rights.specs.Licence.{Freedom, moving, clearing, oneself}
+use Rattle.spec_rights.proofs.Licences.{Own, Proper, Whole, Always, itself, whole_ends, whole_quiet, whole_followed, ends_stays, quiet_unchanged, whole_by}
 use Rattle.spec_rights.proofs.Shown.{shown}
 use Rattle.spec_commands.specs.declared.outcome.Outcome.{Outcome}
 use Rattle.spec_commands.specs.declared.outcome.Outcome.TheVariants.{Done, NotMine, Leave}
@@ -29,11 +29,11 @@ use Rattle.spec_commands.specs.Texts.{first_word, other_words, trimmed}
 use Rattle.spec_commands.specs.Talk.{waits}
 use Rattle.spec_commands.specs.Talking.{said, posed, paged, whispered}
 use Rattle.spec_commands.specs.Going.{Play, ended}
-use Rattle.spec_commands.specs.Free.{free_word, free_by, free_play, free_line}
+use Rattle.spec_commands.specs.Free.{moves_word, moves_by, free_play, clears_word, clears, free_command, free_through, free_line}
 use Rattle.spec_commands.specs.Reading.{looked_up, by_command, by_table}
 use Rattle.spec_commands.specs.Commands.{play_words, play_shape, line_typed, play_done, signed, play_line, message_name, build_words, build_shape, build_done, build_line, or_next, or_else, commanded, begins_with_sign, through, played}
 use Rattle.spec_commands.proofs.Showing.{seeing, quiet_waits}
-use Rattle.spec_commands.proofs.Built.{building, quiet_find_shown}
+use Rattle.spec_commands.proofs.Built.{building, link_cleared_open, quiet_find_shown}
 use Rattle.spec_commands.proofs.Programmed.{program_made_open, program_edited_open, program_listed_open, program_run_open}
 use Rattle.spec_commands.proofs.Mine.{mine_leave, mine_went, mine_program_made, mine_program_edited, mine_program_listed, mine_program_run}
 use Rattle.spec_commands.proofs.Lawful.{Lawful, lawful_done, lawful_quiet, lawful_ends, lawful_play, lawful_with}
@@ -42,24 +42,28 @@ use Rattle.spec_commands.proofs.Gone.{world_of, whole_ended, walked_open, went_o
 
 -- What players do. Who walks moves itself, and who takes or drops what is at hand.
 
-pub self_free : (a : Actor) → oneself a a.player ≡ true
+pub self_free : (a : Actor) → (oneself a).moves a.player ≡ true
 self_free a = same_eq a.player a.player refl
 
-pub play_lawful : (a : Actor) (own : Option ℕ) (d : ℕ) (typed : Typed) (command : PlayWord) (args : Arguments) → Lawful a own (free_word (Some command) a) (play_done d a typed command args)
+-- what its word is for, where the word may be of builders too
+abbrev WordFree : Bool → PlayWord → Actor → List Entry → Freedom
+WordFree may command a es = clearing may (moving (moves_word (Some command) a es))
+
+pub play_lawful : (a : Actor) (own : Option ℕ) (may : Bool) (d : ℕ) (typed : Typed) (command : PlayWord) (args : Arguments) → Lawful a own (WordFree may command a) (play_done d a typed command args)
 unfolding play_done look_shown examined said posed paged whispered
-play_lawful a own d typed Look args = lawful_quiet a own _ _ (search seeing)
-play_lawful a own d typed Say args = lawful_quiet a own _ _ (search seeing)
-play_lawful a own d typed Pose args = lawful_quiet a own _ _ (search seeing)
-play_lawful a own d typed Page args = lawful_quiet a own _ _ (search seeing)
-play_lawful a own d typed Whisper args = lawful_quiet a own _ _ (search seeing)
-play_lawful a own d typed Go args = record { licence = whole_ends world_of a own _ Always _ (λ w h. went_open a (oneself a) d _ (self_free a)); mine = mine_went d a _ }
-play_lawful a own d typed Get args = lawful_done a own _ _ (taken_open a own _ d typed _ (λ es x h. h))
-play_lawful a own d typed Drop args = lawful_done a own _ _ (dropped_open a own _ d typed _ (λ es x h. h))
-play_lawful a own d typed Inventory args = lawful_quiet a own _ _ (quiet_inventory_shown d a.player)
-play_lawful a own d typed Home args = lawful_done a own _ _ (whole_ends itself a own _ Always _ (λ w h. ends_stays a (oneself a) None _ (stays_gone_home a (oneself a) None d (self_free a))))
-play_lawful a own d typed Examine args = lawful_quiet a own _ _ (search seeing depth 7)
-play_lawful a own d typed Who args = lawful_quiet a own _ _ (search seeing)
-play_lawful a own d typed Quit args = record { licence = whole_ended a own _ Always Leave _ (whole_quiet a own _ Always _ (search shown)); mine = mine_leave _ }
+play_lawful a own may d typed Look args = lawful_quiet a own _ _ (search seeing)
+play_lawful a own may d typed Say args = lawful_quiet a own _ _ (search seeing)
+play_lawful a own may d typed Pose args = lawful_quiet a own _ _ (search seeing)
+play_lawful a own may d typed Page args = lawful_quiet a own _ _ (search seeing)
+play_lawful a own may d typed Whisper args = lawful_quiet a own _ _ (search seeing)
+play_lawful a own may d typed Go args = record { licence = whole_ends world_of a own _ Always _ (λ w h. went_open a _ d _ (self_free a)); mine = mine_went d a _ }
+play_lawful a own may d typed Get args = lawful_done a own _ _ (taken_open a own _ d typed _ (λ es x h. h))
+play_lawful a own may d typed Drop args = lawful_done a own _ _ (dropped_open a own _ d typed _ (λ es x h. h))
+play_lawful a own may d typed Inventory args = lawful_quiet a own _ _ (quiet_inventory_shown d a.player)
+play_lawful a own may d typed Home args = lawful_done a own _ _ (whole_ends itself a own _ Always _ (λ w h. ends_stays a _ None _ (stays_gone_home a _ None d (self_free a))))
+play_lawful a own may d typed Examine args = lawful_quiet a own _ _ (search seeing depth 7)
+play_lawful a own may d typed Who args = lawful_quiet a own _ _ (search seeing)
+play_lawful a own may d typed Quit args = record { licence = whole_ended a own _ Always Leave _ (whole_quiet a own _ Always _ (search shown)); mine = mine_leave _ }
 
 -- What builders do.
 
@@ -72,31 +76,31 @@ message_guarded OthersFail = refl
 message_guarded DropMessage = refl
 message_guarded OthersDrop = refl
 
-pub build_lawful : (a : Actor) (own : Option ℕ) (free : List Entry → Dbref → Bool) (d : ℕ) (line : List ℕ) (command : BuildWord) (args : Arguments) → Lawful a own free (build_done d a line command args)
+pub build_lawful : (a : Actor) (own : Option ℕ) (free : List Entry → Freedom) (d : ℕ) (line : List ℕ) (command : BuildWord) (args : Arguments) → Lawful a own (λ es. clearing (clears_word (Some command)) (free es)) (build_done d a line command args)
 unfolding build_done
-build_lawful a own free d line Dig args = lawful_ends a own free _ (λ now. search building)
-build_lawful a own free d line Create args = lawful_ends a own free _ (λ now. search building)
-build_lawful a own free d line Open args = lawful_ends a own free _ (λ now. search building)
-build_lawful a own free d line Action args = lawful_ends a own free _ (λ now. search building)
-build_lawful a own free d line Link args = lawful_ends a own free _ (λ now. search building)
-build_lawful a own free d line Unlink args = lawful_ends a own free _ (λ now. search building)
-build_lawful a own free d line Name args = lawful_ends a own free _ (λ now. search building)
-build_lawful a own free d line (Set message) args = lawful_ends a own free _ (λ now. search (building, message_guarded))
-build_lawful a own free d line Lock args = lawful_ends a own free _ (λ now. search building)
-build_lawful a own free d line Unlock args = lawful_ends a own free _ (λ now. search building)
-build_lawful a own free d line Teleport args = lawful_ends a own free _ (λ now. search building)
-build_lawful a own free d line Recycle args = lawful_done a own free _ (recycled_open a own free d args.first.object)
-build_lawful a own free d line Chown args = lawful_ends a own free _ (λ now. search building)
-build_lawful a own free d line Find args = lawful_quiet a own free _ (quiet_find_shown d a args.first.text)
-build_lawful a own free d line Program args = lawful_play a own free _ (λ now. search program_made_open) (mine_program_made d a args.first.text)
-build_lawful a own free d line Edit args = lawful_play a own free _ (λ now. search program_edited_open) (mine_program_edited d a args.first.object)
-build_lawful a own free d line ListWord args = lawful_play a own free _ (λ now. search program_listed_open) (mine_program_listed d a args.first.object)
-build_lawful a own free d line Run args = lawful_play a own free _ (λ now. search program_run_open) (mine_program_run d a line args.first.object args.second.text)
+build_lawful a own free d line Dig args = lawful_ends a own _ _ (λ now. search building)
+build_lawful a own free d line Create args = lawful_ends a own _ _ (λ now. search building)
+build_lawful a own free d line Open args = lawful_ends a own _ _ (λ now. search building)
+build_lawful a own free d line Action args = lawful_ends a own _ _ (λ now. search building)
+build_lawful a own free d line Link args = lawful_ends a own _ _ (λ now. search building)
+build_lawful a own free d line Unlink args = lawful_done a own _ _ (whole_ends itself a own _ Always _ (λ w h. link_cleared_open a _ d _ refl))
+build_lawful a own free d line Name args = lawful_ends a own _ _ (λ now. search building)
+build_lawful a own free d line (Set message) args = lawful_ends a own _ _ (λ now. search (building, message_guarded))
+build_lawful a own free d line Lock args = lawful_ends a own _ _ (λ now. search building)
+build_lawful a own free d line Unlock args = lawful_ends a own _ _ (λ now. search building)
+build_lawful a own free d line Teleport args = lawful_ends a own _ _ (λ now. search building)
+build_lawful a own free d line Recycle args = lawful_done a own _ _ (recycled_open a own _ d args.first.object)
+build_lawful a own free d line Chown args = lawful_ends a own _ _ (λ now. search building)
+build_lawful a own free d line Find args = lawful_quiet a own _ _ (quiet_find_shown d a args.first.text)
+build_lawful a own free d line Program args = lawful_play a own _ _ (λ now. search program_made_open) (mine_program_made d a args.first.text)
+build_lawful a own free d line Edit args = lawful_play a own _ _ (λ now. search program_edited_open) (mine_program_edited d a args.first.object)
+build_lawful a own free d line ListWord args = lawful_play a own _ _ (λ now. search program_listed_open) (mine_program_listed d a args.first.object)
+build_lawful a own free d line Run args = lawful_play a own _ _ (λ now. search program_run_open) (mine_program_run d a line args.first.object args.second.text)
 
 -- A whole line.
 
 -- a line keeps to the licence, also where what isn't its own is left to another
-pub record Leading (a : Actor) (own : Option ℕ) (free : List Entry → Dbref → Bool) (f : Play) : Type 0 where
+pub record Leading (a : Actor) (own : Option ℕ) (free : List Entry → Freedom) (f : Play) : Type 0 where
   pub licence : Whole world_of a own free Always f
   pub next : (g : Play) → Whole world_of a own free Always g → Whole world_of a own free Always (or_else f g)
 
@@ -106,72 +110,66 @@ next_kept g v Done h = refl
 next_kept g v Leave h = refl
 next_kept g v outcome h = refl
 
-or_mine : (a : Actor) (own : Option ℕ) (free : List Entry → Dbref → Bool) (f g : Play) → Lawful a own free f → Whole world_of a own free Always (or_else f g)
+or_mine : (a : Actor) (own : Option ℕ) (free : List Entry → Freedom) (f g : Play) → Lawful a own free f → Whole world_of a own free Always (or_else f g)
 unfolding or_else
 or_mine a own free f g p = whole_by _ (λ w c h.
-    let P : Live → Type 0 = λ v. Licensed a (free w.objects) w v in
+    let P : Live → Type 0 = λ v. Proper a (free w.objects) w v in
     subst P (sym (next_kept g (f w).0 (f w).1 (p.mine.law w))) ((p.licence.law w).law c h))
 
-or_none : (a : Actor) (own : Option ℕ) (free : List Entry → Dbref → Bool) (g : Play) → Whole world_of a own free Always g → Whole world_of a own free Always (or_else (ended NotMine unchanged) g)
+or_none : (a : Actor) (own : Option ℕ) (free : List Entry → Freedom) (g : Play) → Whole world_of a own free Always g → Whole world_of a own free Always (or_else (ended NotMine unchanged) g)
 unfolding or_else ended unchanged
 or_none a own free g p = whole_by _ (λ w. (p.law w).law)
 
-leading_lawful : (a : Actor) (own : Option ℕ) (free : List Entry → Dbref → Bool) (f : Play) → Lawful a own free f → Leading a own free f
+leading_lawful : (a : Actor) (own : Option ℕ) (free : List Entry → Freedom) (f : Play) → Lawful a own free f → Leading a own free f
 leading_lawful a own free f p = record { licence = p.licence; next = λ g q. or_mine a own free f g p }
 
-leading_none : (a : Actor) (own : Option ℕ) (free : List Entry → Dbref → Bool) → Leading a own free (ended NotMine unchanged)
+leading_none : (a : Actor) (own : Option ℕ) (free : List Entry → Freedom) → Leading a own free (ended NotMine unchanged)
 leading_none a own free = record { licence = whole_ended a own free Always NotMine unchanged (whole_quiet a own free Always unchanged quiet_unchanged); next = or_none a own free }
 
 -- a line that is looked up in a table
-leading_found : {C : Type 0} (a : Actor) (own : Option ℕ) (free : Option C → List Entry → Dbref → Bool) (shape_of : C → Shape) (go : C → Arguments → Play) (d : ℕ) (word text : List ℕ) (found : Option C) →
+leading_found : {C : Type 0} (a : Actor) (own : Option ℕ) (free : Option C → List Entry → Freedom) (shape_of : C → Shape) (go : C → Arguments → Play) (d : ℕ) (word text : List ℕ) (found : Option C) →
     ((command : C) (args : Arguments) → Lawful a own (free (Some command)) (go command args)) → Leading a own (free found) (by_command shape_of go d a word text found)
 leading_found a own free shape_of go d word text None p = leading_none a own (free None)
 leading_found a own free shape_of go d word text (Some command) p = leading_lawful a own (free (Some command)) _ (lawful_with a own (free (Some command)) d word (shape_of command) text (go command) (p command))
 
-signed_lawful : (a : Actor) (own : Option ℕ) (d : ℕ) (command : PlayWord) (word text : List ℕ) → Lawful a own (free_word (Some command) a) (signed d a command word text)
+signed_lawful : (a : Actor) (own : Option ℕ) (may : Bool) (d : ℕ) (command : PlayWord) (word text : List ℕ) → Lawful a own (WordFree may command a) (signed d a command word text)
 unfolding signed
-signed_lawful a own d command word text = lawful_with a own (free_word (Some command) a) d word (play_shape command) text _ (play_lawful a own d _ command)
+signed_lawful a own may d command word text = lawful_with a own (WordFree may command a) d word (play_shape command) text _ (play_lawful a own may d _ command)
 
-pub play_leading : (a : Actor) (own : Option ℕ) (d : ℕ) (line : List ℕ) → Leading a own (free_play a line) (play_line d a line)
+pub play_leading : (a : Actor) (own : Option ℕ) (may : Bool) (d : ℕ) (line : List ℕ) → Leading a own (λ es. clearing may (free_play a line es)) (play_line d a line)
 unfolding play_line by_table free_play
-play_leading a own d [] = leading_none a own _
-play_leading a own d (b ∷ line) = at (b == 34) (b == 58)
+play_leading a own may d [] = leading_none a own _
+play_leading a own may d (b ∷ line) = at (b == 34) (b == 58)
   where
-    at : (q r : Bool) → Leading a own (free_by (q || r) None (looked_up play_words (first_word (trimmed (b ∷ line)))) a)
+    at : (q r : Bool) → Leading a own (λ es. clearing may (moving (moves_by (q || r) (looked_up play_words (first_word (trimmed (b ∷ line)))) a es)))
         (cond q (signed d a Say (codes "say") (trimmed line)) (cond r (signed d a Pose (codes "pose") (trimmed line))
         (by_command play_shape (play_done d a (line_typed (b ∷ line))) d a (first_word (trimmed (b ∷ line))) (trimmed (other_words (trimmed (b ∷ line)))) (looked_up play_words (first_word (trimmed (b ∷ line)))))))
-    at true r = leading_lawful a own _ _ (signed_lawful a own d Say _ _)
-    at false true = leading_lawful a own _ _ (signed_lawful a own d Pose _ _)
-    at false false = leading_found a own (λ word. free_word word a) play_shape _ d _ _ (looked_up play_words (first_word (trimmed (b ∷ line)))) (play_lawful a own d _)
+    at true r = leading_lawful a own _ _ (signed_lawful a own may d Say _ _)
+    at false true = leading_lawful a own _ _ (signed_lawful a own may d Pose _ _)
+    at false false = leading_found a own (λ word es. clearing may (moving (moves_word word a es))) play_shape _ d _ _ (looked_up play_words (first_word (trimmed (b ∷ line)))) (play_lawful a own may d _)
 
-pub build_leading : (a : Actor) (own : Option ℕ) (free : List Entry → Dbref → Bool) (d : ℕ) (line : List ℕ) → Leading a own free (build_line d a line)
-unfolding build_line by_table
-build_leading a own free d line = leading_found a own (λ word. free) build_shape _ d _ _ (looked_up build_words (first_word (trimmed line))) (build_lawful a own free d line)
+pub build_leading : (a : Actor) (own : Option ℕ) (free : List Entry → Freedom) (d : ℕ) (line : List ℕ) → Leading a own (λ es. clearing (clears line) (free es)) (build_line d a line)
+unfolding build_line by_table clears
+build_leading a own free d line = leading_found a own (λ word es. clearing (clears_word word) (free es)) build_shape _ d _ _ (looked_up build_words (first_word (trimmed line))) (build_lawful a own free d line)
 
-commanded_open : (a : Actor) (own : Option ℕ) (d : ℕ) (line : List ℕ) → Whole world_of a own (free_play a line) Always (commanded d a line)
+commanded_open : (a : Actor) (own : Option ℕ) (d : ℕ) (line : List ℕ) → Whole world_of a own (free_command a line) Always (commanded d a line)
 unfolding commanded
 commanded_open a own d line =
-    (play_leading a own d line).next _ ((build_leading a own (free_play a line) d line).next _ (whole_ended a own _ Always Done _ (whole_quiet a own _ Always _ (search shown))))
+    (play_leading a own (clears line) d line).next _ ((build_leading a own (free_play a line) d line).next _ (whole_ended a own _ Always Done _ (whole_quiet a own _ Always _ (search shown))))
 
-through_open : (a : Actor) (own : Option ℕ) (d : ℕ) (line : List ℕ) (hit : Option ExitHit) (w : Live) → Own own w a → begins_with_sign line ≡ false →
-    Licensed a (free_by false hit (looked_up play_words (first_word (trimmed line))) a w.objects) w (world_of (through d a line hit w))
-unfolding free_play
-through_open a own d line (Some hit) w c e =
+through_open : (a : Actor) (own : Option ℕ) (d : ℕ) (line : List ℕ) (hit : Option ExitHit) (w : Live) → Own own w a → Proper a (free_through false hit a line w.objects) w (world_of (through d a line hit w))
+through_open a own d line (Some hit) w c =
     ((whole_ends world_of a own (λ es. oneself a) Always _ (λ v h. walked_open a (oneself a) d hit line (self_free a))).law w).law c tt
-through_open a own d line None w c e =
-    let P : Bool → Type 0 = λ b. Licensed a (free_by b None (looked_up play_words (first_word (trimmed line))) a w.objects) w (world_of (commanded d a line w)) in
-    subst P e (((commanded_open a own d line).law w).law c tt)
+through_open a own d line None w c = ((commanded_open a own d line).law w).law c tt
 
 pub played_open : (a : Actor) (own : Option ℕ) (d : ℕ) (line : List ℕ) → Whole world_of a own (free_line a line) Always (played d a line)
-unfolding played free_line free_play reading
-played_open a own d line = whole_by _ (λ w c h. at w c (begins_with_sign line) refl)
+unfolding played free_line reading
+played_open a own d line = whole_by _ (λ w c h. at w c (begins_with_sign line))
   where
-    at : (w : Live) → Own own w a → (b : Bool) → begins_with_sign line ≡ b →
-        Licensed a (free_by b (exit_for (scenery_of w.objects) a.player line) (looked_up play_words (first_word (trimmed line))) a w.objects) w (world_of (cond b (commanded d a line) (reading (λ v. exit_for (scenery_of v.objects) a.player line) (through d a line)) w))
-    at w c true e =
-        let P : Bool → Type 0 = λ b. Licensed a (free_by b None (looked_up play_words (first_word (trimmed line))) a w.objects) w (world_of (commanded d a line w)) in
-        subst P e (((commanded_open a own d line).law w).law c tt)
-    at w c false e = through_open a own d line (exit_for (scenery_of w.objects) a.player line) w c e
+    at : (w : Live) → Own own w a → (b : Bool) →
+        Proper a (free_through b (exit_for (scenery_of w.objects) a.player line) a line w.objects) w (world_of (cond b (commanded d a line) (reading (λ v. exit_for (scenery_of v.objects) a.player line) (through d a line)) w))
+    at w c true = ((commanded_open a own d line).law w).law c tt
+    at w c false = through_open a own d line (exit_for (scenery_of w.objects) a.player line) w c
 
 -- with the lines that wait behind it
 pub waited_open : (a : Actor) (d : ℕ) (lines : List (List ℕ)) (line : List ℕ) → Whole world_of a (Some d) (free_line a line) Always (waits d lines ▸ played d a line)

@@ -13,6 +13,7 @@ use Rattle.spec_rights.specs.declared.act.Actor.{Actor}
 use Rattle.spec_rights.specs.declared.act.Act.TheVariants.{NewProgram}
 use Rattle.spec_rights.specs.Verdict.{verdict}
 use Rattle.spec_rights.specs.Changing.{created_so}
+use Rattle.spec_rights.specs.Licence.{Freedom}
 use Rattle.spec_rights.proofs.Rights.{SameRights}
 use Rattle.spec_rights.proofs.Licences.{judge, Quiet, End, Ends, end_quietly, ends_quiet, quiet_order, ends_by}
 use Rattle.spec_rights.proofs.Makings.{end_created, program_open}
@@ -33,7 +34,7 @@ ruleset programming = (permitting, ends_ended, quiet_lines_shown)
 
 -- Making.
 
-ends_program_new : (a : Actor) (free : Dbref → Bool) (d : ℕ) (name : List ℕ) → Ends world_of a free (Some NewProgram) (program_new d a name)
+ends_program_new : (a : Actor) (free : Freedom) (d : ℕ) (name : List ℕ) → Ends world_of a free (Some NewProgram) (program_new d a name)
 unfolding program_new program_put reading ended followed
 ends_program_new a free d name = ends_by _ (λ start w s g. at start w s g (create_check Program a.user a.player w.objects) refl)
   where
@@ -46,20 +47,20 @@ ends_program_new a free d name = ends_by _ (λ start w s g. at start w s g (crea
         ((keeps_followed _ _ quiet_order (quiet_created_shown d p.0) (quiet_tell d entering_editor)).law v)
     at start w s g (Err fault) e = ((ends_quiet a free (Some NewProgram) (tell d cant_be_done) (quiet_tell d cant_be_done)).law w).law start s g
 
-pub program_made_open : (a : Actor) (free : Dbref → Bool) (d : ℕ) (name : List ℕ) → Ends world_of a free None (program_made d a name)
+pub program_made_open : (a : Actor) (free : Freedom) (d : ℕ) (name : List ℕ) → Ends world_of a free None (program_made d a name)
 unfolding program_made
 program_made_open a free d name = search (programming, ends_program_new)
 
 -- Editing, listing and running change nothing that is judged.
 
-pub program_edited_open : (a : Actor) (free : Dbref → Bool) (d : ℕ) (x : Dbref) → Ends world_of a free None (program_edited d a x)
+pub program_edited_open : (a : Actor) (free : Freedom) (d : ℕ) (x : Dbref) → Ends world_of a free None (program_edited d a x)
 unfolding program_edited
 program_edited_open a free d x = search programming
 
-pub program_listed_open : (a : Actor) (free : Dbref → Bool) (d : ℕ) (x : Dbref) → Ends world_of a free None (program_listed d a x)
+pub program_listed_open : (a : Actor) (free : Freedom) (d : ℕ) (x : Dbref) → Ends world_of a free None (program_listed d a x)
 unfolding program_listed
 program_listed_open a free d x = search programming depth 7
 
-pub program_run_open : (a : Actor) (free : Dbref → Bool) (d : ℕ) (line : List ℕ) (x : Dbref) (text : List ℕ) → Ends world_of a free None (program_run d a line x text)
+pub program_run_open : (a : Actor) (free : Freedom) (d : ℕ) (line : List ℕ) (x : Dbref) (text : List ℕ) → Ends world_of a free None (program_run d a line x text)
 unfolding program_run
 program_run_open a free d line x text = search programming

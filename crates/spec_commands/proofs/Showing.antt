@@ -6,6 +6,7 @@ use Rattle.muck_match.specs.declared.naming.Found.TheVariants.{One, None as Nobo
 use Rattle.spec_live.specs.Objects.{Entry}
 use Rattle.spec_live.specs.Lives.{Live, Change, either, tell}
 use Rattle.spec_rights.specs.declared.act.Actor.{Actor}
+use Rattle.spec_rights.specs.Licence.{Freedom}
 use Rattle.spec_rights.proofs.Shown.{shown, quiet_one}
 use Rattle.spec_rights.proofs.Licences.{Quiet, Whole, whole_told, quiet_unchanged, quiet_order, whole_by}
 use Rattle.spec_commands.specs.declared.typed.Typed.{Typed}
@@ -19,7 +20,7 @@ use Rattle.spec_commands.specs.Talk.{waits}
 
 -- Where the world is so: go with what the test says.
 
-pub whole_where : {Y : Type 0} (out : Y → Live) (a : Actor) (own : Option ℕ) (free : List Entry → Dbref → Bool) (given : Live → Type 0) (test : Live → Bool) (otherwise go : Live → Y) →
+pub whole_where : {Y : Type 0} (out : Y → Live) (a : Actor) (own : Option ℕ) (free : List Entry → Freedom) (given : Live → Type 0) (test : Live → Bool) (otherwise go : Live → Y) →
     Whole out a own free given otherwise → Whole out a own free (λ w. given w × (test w ≡ true)) go → Whole out a own free given (where_so test otherwise go)
 unfolding where_so either
 whole_where out a own free given test otherwise go p q = whole_told out a own free given test (λ b. either b go otherwise) (λ b. at b)

@@ -55,7 +55,8 @@ two = record { level = 0; user = dbref_of 2; player = dbref_of 2 }
 abbrev pub after_typing : Actor → ℕ → List (List ℕ) → List (List ℕ) → List (List (List ℕ)) × Option (List (List ℕ)) × EditStep
 after_typing a owner source lines = results (typed_in a lines (desk owner, opened_on source, Stay))
 
-rows :
+unfoldable pub EditRows : Type 0
+EditRows =
     -- inserting, listing and deleting
     (after_typing one 1 [] (codes "i" ∷ codes "one" ∷ codes "two" ∷ codes "three" ∷ codes "." ∷ codes "l" ∷ codes "2 i" ∷ codes "between" ∷ codes "." ∷ codes "1 3 l" ∷ codes "1 d" ∷ codes "2 3 d" ∷ codes "l" ∷ codes "q" ∷ [])
     ≡ ((entering ∷ exiting ∷ codes "one" ∷ codes "two" ∷ codes "three" ∷ entering ∷ exiting ∷ codes "one" ∷ codes "between" ∷ codes "two" ∷ deleted_reply ∷ deleted_reply ∷ codes "between" ∷ editor_exited ∷ []) ∷ [], Some (codes "between" ∷ []), Left))
@@ -72,5 +73,7 @@ rows :
     -- lines that are the source already change nothing, not even that it was changed
     × ((typed_in one (codes "c" ∷ codes "q" ∷ []) (desk 1, opened_on (codes "old" ∷ []), Stay)).0.objects ≡ (desk 1).objects)
     × (after_typing two 2 [] (codes "q" ∷ codes "l" ∷ []) ≡ ((codes "Permission denied (P22)." ∷ editor_exited ∷ []) ∷ [], Some (codes "old" ∷ []), Left))
-unfolding decimal_of object_in object_at number_in kind_in changed_at player_one sent_lines queue_most lines_bytes line_sent lines_sent sent told_one followed reading either unchanged tell level_at owner_at flag_at owns controls_as controls asked denied_text refused lines_kept entering exiting deleted_reply editor_exited illegal line_number plain_command line_command lines_command edit_command stepped line_inserted lines_shown source_kept where_so edit_done edited early_board digits
+
+pub rows : EditRows
+unfolding EditRows decimal_of object_in object_at number_in kind_in changed_at player_one sent_lines queue_most lines_bytes line_sent lines_sent sent told_one followed reading either unchanged tell level_at owner_at flag_at owns controls_as controls asked denied_text refused lines_kept entering exiting deleted_reply editor_exited illegal line_number plain_command line_command lines_command edit_command stepped line_inserted lines_shown source_kept where_so edit_done edited early_board digits
 rows = (refl, refl, refl, refl, refl, refl, refl)

@@ -13,7 +13,7 @@ use Rattle.spec_live.specs.Seen.{scenery_of, listed_in}
 unfoldable pub use Rattle.spec_live.specs.Lives.{where_so}
 use Rattle.spec_live.specs.Lives.{Live, Change, ◌▸◌, reading, unchanged, tell, tell_others, place_at, name_at}
 use Rattle.spec_rights.specs.declared.act.Actor.{Actor}
-use Rattle.spec_rights.specs.Worth.{lock_text}
+use Rattle.spec_live.specs.Worth.{lock_text}
 use Rattle.spec_rights.specs.Levels.{command_level, controls_as, flag_at, name_shown, owner_at}
 use Rattle.spec_commands.specs.declared.typed.Typed.{Typed}
 use Rattle.spec_commands.specs.declared.word.Message.{Message}

@@ -44,7 +44,8 @@ typed a owner line = played_so (build_line 1 a line (desk owner))
 abbrev pub shows : List ℕ → List (List (List ℕ))
 shows text = (text ∷ []) ∷ []
 
-rows :
+unfoldable pub ProgramRows : Type 0
+ProgramRows =
     -- a new program gets the first free number, and its editor is to be opened
     (played_so (build_line 1 one (codes "@program ed") (company (1 ∷ []))) ≡ ((codes "Created ed(#3FM3)." ∷ entering_editor ∷ []) ∷ [], Edit (dbref_of 3)))
     × (typed one 1 (codes " @PROGRAM ") ≡ (shows (codes "Usage: @program"), Done))
@@ -68,5 +69,7 @@ rows :
     × (typed two 1 (codes "@run #2=a") ≡ (shows cant_be_done, Done))
     -- what isn't one of these words
     × (typed one 1 (codes "@programs ed") ≡ ([] ∷ [], NotMine))
-unfolding number_named is_same begins_with has_word placed aliases numbers sight_place things_in exit_order is_there fits answers objects_near near named if_there found_by_sign found sent_lines queue_most lines_bytes line_sent lines_sent sent object_at number_in kind_in flags_in place_in object_in list_in is_vehicle_in fits_in changed_at garbage walk has without objects_most free_in blank_entry grown new_object created may_make make_judged owner_judged create_check moved room_zero player_one scenery_of listed_in places_of flag_letters long_form early_board told_one followed reading either unchanged tell level_at owner_at flag_at owns controls_as controls controls_or asked denied_text refused created_so bad_name cant_be_done usage created_reply not_understood entering_editor finding where_so is_so ended is_name created_shown lines_shown program_put program_new program_made program_edited program_listed program_run incomplete judged sought with_fit with_parts with_arguments by_table build_words build_done build_line decimal_of digits
+
+pub rows : ProgramRows
+unfolding ProgramRows number_named is_same begins_with has_word placed aliases numbers sight_place things_in exit_order is_there fits answers objects_near near named if_there found_by_sign found sent_lines queue_most lines_bytes line_sent lines_sent sent object_at number_in kind_in flags_in place_in object_in list_in is_vehicle_in fits_in changed_at garbage walk has without objects_most free_in blank_entry grown new_object created may_make make_judged owner_judged create_check moved room_zero player_one scenery_of listed_in places_of flag_letters long_form early_board told_one followed reading either unchanged tell level_at owner_at flag_at owns controls_as controls controls_or asked denied_text refused created_so bad_name cant_be_done usage created_reply not_understood entering_editor finding where_so is_so ended is_name created_shown lines_shown program_put program_new program_made program_edited program_listed program_run incomplete judged sought with_fit with_parts with_arguments by_table build_words build_done build_line decimal_of digits
 rows = (refl, refl, refl, refl, refl, refl, refl, refl, refl, refl, refl, refl, refl, refl, refl, refl, refl)

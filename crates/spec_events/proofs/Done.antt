@@ -9,7 +9,7 @@ use Rattle.spec_live.specs.Connections.{Connection, has_number, edited as edited
 use Rattle.spec_live.specs.Boards.{connection_in, player_in, leaving_one, edited_one}
 use Rattle.spec_live.specs.Lives.{Live, Change, followed, ◌▸◌, tell, leave}
 use Rattle.spec_rights.specs.declared.act.Actor.{Actor}
-use Rattle.spec_rights.specs.Licence.{SameTies, Licensed, nobody}
+use Rattle.spec_rights.specs.Licence.{Freedom, SameTies, Licensed, editing}
 use Rattle.spec_rights.proofs.Licences.{Quiet, Always, ties_same, ties_both, quiet_order, whole_quiet}
 use Rattle.spec_rights.proofs.Leaving.{whole_leave}
 use Rattle.spec_rights.proofs.Shown.{quiet_one, quiet_tell}
@@ -24,7 +24,7 @@ use Rattle.spec_commands.specs.Editing.{editor_exited, is_open, edited}
 use Rattle.spec_commands.specs.Talk.{at_login, waits}
 use Rattle.spec_commands.proofs.Showing.{quiet_waits}
 use Rattle.spec_commands.proofs.Permitted.{waited_open}
-use Rattle.spec_commands.proofs.Edited.{edited_licensed}
+use Rattle.spec_commands.proofs.Edited.{edited_proper}
 use Rattle.spec_commands.proofs.Numbered.{numbers, numbers-ties, numbers-same_ties, Seating, seating_quiet, seating_order}
 use Rattle.spec_commands.proofs.Lines.{seating_at_login}
 use Rattle.spec_events.specs.World.{World, on_live}
@@ -35,17 +35,17 @@ use Rattle.spec_events.proofs.Quietly.{Quietly, quietly_live, quietly_swept, qui
 use Rattle.spec_events.proofs.Told.{licensed_told, licensed_as}
 
 -- what an actor may do to a world that is one already: the changes are open, and it is as dead as before
-record Open (a : Actor) (free : Dbref → Bool) (start : Live) (dead : Bool) (v : World) : Type 0 where
+record Open (a : Actor) (free : Freedom) (start : Live) (dead : Bool) (v : World) : Type 0 where
   licensed : Licensed a free start v.live
   alive : v.dead ≡ dead
 
-open_quietly : (a : Actor) (free : Dbref → Bool) (start : Live) (dead : Bool) (u v : World) → Open a free start dead u → Quietly u v → Open a free start dead v
+open_quietly : (a : Actor) (free : Freedom) (start : Live) (dead : Bool) (u v : World) → Open a free start dead u → Quietly u v → Open a free start dead v
 open_quietly a free start dead u v p q = record {
   licensed = licensed_as a free start u.live v.live p.licensed q.objects q.ties q.tune;
   alive = q.dead ∙ p.alive;
 }
 
-open_settled : (a : Actor) (free : Dbref → Bool) (start : Live) (dead : Bool) (u : World) → Open a free start dead u → Open a free start dead (settled u)
+open_settled : (a : Actor) (free : Freedom) (start : Live) (dead : Bool) (u : World) → Open a free start dead u → Open a free start dead (settled u)
 unfolding settled
 open_settled a free start dead u p =
     let q = open_quietly a free start dead u _ p (quietly_swept 0 u.live.objects u) in
@@ -63,11 +63,11 @@ player-same_ties a d (x ∷ xs) (y ∷ ys) t =
     let P : ℕ → Type 0 = λ n. option_and_then (λ (c : Connection). c.player) (cond (n == d) (Some y) (find (has_number d) ys)) ≡ option_and_then (λ (c : Connection). c.player) (cond (x.number == d) (Some x) (find (has_number d) xs)) in
     subst P (sym t.0) (elim (x.number == d) as (λ b. option_and_then (λ (c : Connection). c.player) (cond b (Some y) (find (has_number d) ys)) ≡ option_and_then (λ (c : Connection). c.player) (cond b (Some x) (find (has_number d) xs))) [ true ↦ t.1 | false ↦ next ])
 
-left_licensed : (a : Actor) (d : ℕ) (free : Dbref → Bool) (w v : Live) → player_in d w.board ≡ Some a.player → Licensed a free w v → Licensed a free w (leave d v)
+left_licensed : (a : Actor) (d : ℕ) (free : Freedom) (w v : Live) → player_in d w.board ≡ Some a.player → Licensed a free w v → Licensed a free w (leave d v)
 unfolding leave leaving_one
 left_licensed a d free w v own l =
-    let left : Licensed a free v (leave d v) = ((whole_leave a d (λ es. free) Always).law v).law (player-same_ties a d w.board.connections v.board.connections l.connections ∙ own) tt in
-    record { gone = l.gone; recycled = l.recycled; objects = l.objects; lists = l.lists; connections = ties_both a _ _ _ l.connections left.connections; tune = l.tune }
+    let left : Licensed a free v (leave d v) = (((whole_leave a d (λ es. free) Always).law v).law (player-same_ties a d w.board.connections v.board.connections l.connections ∙ own) tt).licensed in
+    record { gone = l.gone; recycled = l.recycled; vanished = l.vanished; objects = l.objects; lists = l.lists; connections = ties_both a _ _ _ l.connections left.connections; tune = l.tune }
 
 -- The editor.
 
@@ -82,17 +82,18 @@ taken_out d lines = waits d lines ▸ with_editor d None
 quiet_taken_out : (d : ℕ) (lines : List (List ℕ)) → Quiet (taken_out d lines)
 quiet_taken_out d lines = keeps_followed _ _ quiet_order (quiet_waits d lines) (quiet_with_editor d None)
 
-open_after : (a : Actor) (free : Dbref → Bool) (start : Live) (dead : Bool) (d : ℕ) (program : Dbref) (step : EditStep) (u : World) → Open a free start dead u → Open a free start dead (after_edit d program step u)
+open_after : (a : Actor) (free : Freedom) (start : Live) (dead : Bool) (d : ℕ) (program : Dbref) (step : EditStep) (u : World) → Open a free start dead u → Open a free start dead (after_edit d program step u)
 open_after a free start dead d program Compile u p = open_quietly a free start dead u _ p (quietly_compiled d program u)
 open_after a free start dead d program Stay u p = p
 open_after a free start dead d program Left u p = p
 
 -- from a world in which only what waits differs, and an editor
-licensed_from : (a : Actor) (free : Dbref → Bool) (d : ℕ) (lines : List (List ℕ)) (w v : Live) → Licensed a free (taken_out d lines w) v → Licensed a free w v
+licensed_from : (a : Actor) (free : Freedom) (d : ℕ) (lines : List (List ℕ)) (w v : Live) → Licensed a free (taken_out d lines w) v → Licensed a free w v
 unfolding waits followed edited_one
 licensed_from a free d lines w v l = record {
   gone = l.gone;
   recycled = l.recycled;
+  vanished = l.vanished;
   objects = l.objects;
   lists = l.lists;
   connections = ties_both a _ _ _ (ties_same a w.board.connections (taken_out d lines w).board.connections (((quiet_taken_out d lines).law w).ties)) l.connections;
@@ -100,37 +101,37 @@ licensed_from a free d lines w v l = record {
 }
 
 open_edited : (d : ℕ) (player : Dbref) (s : EditState) (line : List ℕ) (lines : List (List ℕ)) (w : World) →
-    Open (actor_of w.live.objects player) nobody w.live w.dead (edited_line d player s line (on_live (taken_out d lines) w))
+    Open (actor_of w.live.objects player) (editing s.program) w.live w.dead (edited_line d player s line (on_live (taken_out d lines) w))
 unfolding edited_line waits followed edited_one
 open_edited d player s line lines w =
     let a : Actor = actor_of w.live.objects player in
     let u : World = on_live (taken_out d lines) w in
     let r = edited d a s line u.live in
-    let l : Licensed a nobody w.live r.0 = licensed_from a nobody d lines w.live r.0 (edited_licensed d a s line u.live) in
+    let l : Licensed a (editing s.program) w.live r.0 = licensed_from a (editing s.program) d lines w.live r.0 (edited_proper d a s line u.live).licensed in
     let v : World = record u { live = r.0 } in
-    let e = open_quietly a nobody w.live w.dead v (on_live (with_editor d (next_editor r.2 r.1)) v) (record { licensed = l; alive = refl }) (quietly_live _ (quiet_with_editor d (next_editor r.2 r.1)) v) in
-    open_after a nobody w.live w.dead d s.program r.2 _ (open_settled a nobody w.live w.dead _ e)
+    let e = open_quietly a (editing s.program) w.live w.dead v (on_live (with_editor d (next_editor r.2 r.1)) v) (record { licensed = l; alive = refl }) (quietly_live _ (quiet_with_editor d (next_editor r.2 r.1)) v) in
+    open_after a (editing s.program) w.live w.dead d s.program r.2 _ (open_settled a (editing s.program) w.live w.dead _ e)
 
-left_open : (d : ℕ) (player : Dbref) (lines : List (List ℕ)) (w : World) →
-    Open (actor_of w.live.objects player) nobody w.live w.dead (on_live (tell d editor_exited) (on_live (taken_out d lines) w))
+left_open : (d : ℕ) (player : Dbref) (s : EditState) (lines : List (List ℕ)) (w : World) →
+    Open (actor_of w.live.objects player) (editing s.program) w.live w.dead (on_live (tell d editor_exited) (on_live (taken_out d lines) w))
 unfolding followed
-left_open d player lines w =
+left_open d player s lines w =
     let f : Change = taken_out d lines ▸ tell d editor_exited in
     let q : Quiet f = keeps_followed _ _ quiet_order (quiet_taken_out d lines) (quiet_tell d editor_exited) in
-    record { licensed = ((whole_quiet (actor_of w.live.objects player) None (λ es. nobody) Always f q).law w.live).law tt tt; alive = refl }
+    record { licensed = (((whole_quiet (actor_of w.live.objects player) None (λ es. editing s.program) Always f q).law w.live).law tt tt).licensed; alive = refl }
 
 open_in_editor : (d : ℕ) (player : Dbref) (s : EditState) (line : List ℕ) (lines : List (List ℕ)) (w : World) →
-    Open (actor_of w.live.objects player) nobody w.live w.dead (in_editor d player s line (on_live (taken_out d lines) w))
+    Open (actor_of w.live.objects player) (editing s.program) w.live w.dead (in_editor d player s line (on_live (taken_out d lines) w))
 unfolding in_editor
 open_in_editor d player s line lines w = at (is_open s (taken_out d lines w.live))
   where
-    at : (b : Bool) → Open (actor_of w.live.objects player) nobody w.live w.dead (cond b (edited_line d player s line (on_live (taken_out d lines) w)) (on_live (tell d editor_exited) (on_live (taken_out d lines) w)))
+    at : (b : Bool) → Open (actor_of w.live.objects player) (editing s.program) w.live w.dead (cond b (edited_line d player s line (on_live (taken_out d lines) w)) (on_live (tell d editor_exited) (on_live (taken_out d lines) w)))
     at true = open_edited d player s line lines w
-    at false = left_open d player lines w
+    at false = left_open d player s lines w
 
 -- Commands.
 
-open_followed : (d : ℕ) (player : Dbref) (a : Actor) (free : Dbref → Bool) (start : Live) (dead : Bool) (outcome : Outcome) (u : World) → player_in d start.board ≡ Some a.player →
+open_followed : (d : ℕ) (player : Dbref) (a : Actor) (free : Freedom) (start : Live) (dead : Bool) (outcome : Outcome) (u : World) → player_in d start.board ≡ Some a.player →
     Open a free start dead u → Open a free start dead (followed_up d player outcome u)
 open_followed d player a free start dead Leave u own p = record { licensed = left_licensed a d free start u.live own p.licensed; alive = p.alive }
 open_followed d player a free start dead (Edit program) u own p =
@@ -148,26 +149,26 @@ open_in_world : (d : ℕ) (player : Dbref) (line : List ℕ) (lines : List (List
 unfolding in_world waits followed actor_of
 open_in_world d player line lines w own =
     let a : Actor = actor_of w.live.objects player in
-    let free : Dbref → Bool = free_line a line w.live.objects in
+    let free : Freedom = free_line a line w.live.objects in
     let u : World = on_live (waits d lines) w in
     let r = played d a line u.live in
-    let l : Licensed a free w.live r.0 = ((waited_open a d lines line).law w.live).law own tt in
+    let l : Licensed a free w.live r.0 = (((waited_open a d lines line).law w.live).law own tt).licensed in
     open_followed d player a free w.live w.dead r.1 _ own (open_settled a free w.live w.dead (record u { live = r.0 }) (record { licensed = l; alive = refl }))
 
 -- What a line does is open.
 
-pub untouched_by : (f : Change) → Seating f → (w : Live) → Untouched w (f w)
-untouched_by f p w = let s = p.law w in record { objects = s.objects; tune = s.tune }
+pub untouched_by : (d : ℕ) (f : Change) → Seating d f → (w : Live) → Untouched w (f w)
+untouched_by d f p w = let s = p.law w in record { objects = s.objects; tune = s.tune }
 
-seating_line : (d : ℕ) (line : List ℕ) (lines : List (List ℕ)) → Seating (waits d lines ▸ at_login d line)
-seating_line d line lines = keeps_followed (waits d lines) (at_login d line) seating_order (seating_quiet _ (quiet_waits d lines)) (seating_at_login d line)
+seating_line : (d : ℕ) (line : List ℕ) (lines : List (List ℕ)) → Seating d (waits d lines ▸ at_login d line)
+seating_line d line lines = keeps_followed (waits d lines) (at_login d line) (seating_order d) (seating_quiet d _ (quiet_waits d lines)) (seating_at_login d line)
 
 line_licensed : (d : ℕ) (w : World) (player : Option Dbref) (editor : Option EditState) (lines : List (List ℕ)) → player_in d w.live.board ≡ player →
     LineLicensed player editor lines w.live (line_done d player editor lines w).live
 unfolding followed
 line_licensed d w None editor [] e = record { objects = refl; tune = refl }
 line_licensed d w (Some player) editor [] e = record { objects = refl; tune = refl }
-line_licensed d w None editor (line ∷ lines) e = untouched_by _ (seating_line d line lines) w.live
+line_licensed d w None editor (line ∷ lines) e = untouched_by d _ (seating_line d line lines) w.live
 line_licensed d w (Some player) None (line ∷ lines) e = (open_in_world d player line lines w e).licensed
 line_licensed d w (Some player) (Some s) (line ∷ lines) e = (open_in_editor d player s line lines w).licensed
 
@@ -182,7 +183,7 @@ pub record Going (w v : World) : Type 0 where
   pub numbers : numbers v.live.board.connections ≡ numbers w.live.board.connections
   pub dead : v.dead ≡ w.dead
 
-going_open : (a : Actor) (free : Dbref → Bool) (w v : World) → Open a free w.live w.dead v → Going w v
+going_open : (a : Actor) (free : Freedom) (w v : World) → Open a free w.live w.dead v → Going w v
 going_open a free w v p = record { numbers = numbers-same_ties a w.live.board.connections v.live.board.connections p.licensed.connections; dead = p.alive }
 
 pub going_quietly : (w v : World) → Quietly w v → Going w v
@@ -191,13 +192,13 @@ going_quietly w v q = record { numbers = numbers-ties w.live.board.connections v
 pub going_same : (w : World) → Going w w
 going_same w = record { numbers = refl; dead = refl }
 
-pub going_live : (f : Change) → Seating f → (w : World) → Going w (on_live f w)
-going_live f p w = record { numbers = (p.law w.live).numbers; dead = refl }
+pub going_live : (d : ℕ) (f : Change) → Seating d f → (w : World) → Going w (on_live f w)
+going_live d f p w = record { numbers = (p.law w.live).numbers; dead = refl }
 
 line_going : (d : ℕ) (w : World) (player : Option Dbref) (editor : Option EditState) (lines : List (List ℕ)) → player_in d w.live.board ≡ player → Going w (line_done d player editor lines w)
 unfolding followed
 line_going d w player editor [] e = going_same w
-line_going d w None editor (line ∷ lines) e = going_live (waits d lines ▸ at_login d line) (seating_line d line lines) w
+line_going d w None editor (line ∷ lines) e = going_live d (waits d lines ▸ at_login d line) (seating_line d line lines) w
 line_going d w (Some player) None (line ∷ lines) e = going_open _ _ w _ (open_in_world d player line lines w e)
 line_going d w (Some player) (Some s) (line ∷ lines) e = going_open _ _ w _ (open_in_editor d player s line lines w)
 

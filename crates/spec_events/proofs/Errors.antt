@@ -3,7 +3,7 @@ use Rattle.std.proofs.Common.{◌≡◌, List, ◌++◌, refl, ap, ◌∙◌, �
 use Rattle.std.specs.Prelude.{ℤ, pos, negsuc, codes}
 use Rattle.std.specs.Fmt.{signed_decimal}
 use Rattle.std.proofs.lemmas.List.{append_assoc}
-use Rattle.spec_live.specs.Seen.{signed_text}
+use Rattle.std.specs.Fmt.{signed_decimal as signed_text}
 use Rattle.muf_model.specs.Faults.{text_of}
 use Rattle.muf_model.specs.declared.fault.MufFault.{MufFault}
 use Rattle.spec_events.specs.Slices.{program_error}

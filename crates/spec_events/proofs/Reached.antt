@@ -95,7 +95,7 @@ unfolding gone_away reading followed closed
 sound-gone_away d w h =
     let parting : Change = parted (player_in d w.live.board) in
     let v : World = on_live (on_board (closed d)) w in
-    sound-live parting (λ v. ((seating_quiet parting (quiet_parted (player_in d w.live.board))).law v).numbers) v (record { alive = h.alive; rising = rising-without d w.live.board.connections h.rising })
+    sound-live parting (λ v. ((seating_quiet d parting (quiet_parted (player_in d w.live.board))).law v).numbers) v (record { alive = h.alive; rising = rising-without d w.live.board.connections h.rising })
 
 no_connection : (d : ℕ) (w : World) (stop few : Bool) → (is_none (connection d w) && few && not stop) ≡ true → connection d w ≡ None
 no_connection d w stop few e = none_of (connection d w) (and_parts _ _ (and_parts _ _ e).0).0

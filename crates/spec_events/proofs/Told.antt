@@ -11,7 +11,7 @@ use Rattle.spec_live.specs.Marks.{unmarked}
 use Rattle.spec_live.specs.Lives.{Live, on_objects}
 use Rattle.spec_rights.specs.declared.act.Actor.{Actor}
 use Rattle.spec_rights.specs.Verdict.{is_master}
-use Rattle.spec_rights.specs.Licence.{SameLists, Reordered, front_open, Licensed, Differs}
+use Rattle.spec_rights.specs.Licence.{Freedom, SameLists, Reordered, front_open, Licensed, Differs}
 use Rattle.spec_rights.proofs.Licences.{ties, ties_same, ties_both, open_both}
 
 -- Objects and lists without what is to be told of them.
@@ -55,10 +55,11 @@ told_list exits es k = ap (λ o. option_map_or (list_of exits) o []) (slice_get-
 
 -- The licence.
 
-pub licensed_told : (a : Actor) (free : Dbref → Bool) (w v : Live) → Licensed a free w v → Licensed a free w (on_objects (map unmarked) v)
+pub licensed_told : (a : Actor) (free : Freedom) (w v : Live) → Licensed a free w v → Licensed a free w (on_objects (map unmarked) v)
 licensed_told a free w v l = record {
   gone = l.gone;
   recycled = l.recycled;
+  vanished = λ x e. told_at x v.objects ∙ l.vanished x e;
   objects = λ n. let P : Option Object → Type 0 = λ o. Differs (record { actor = a; free = free; gone = l.gone; objects = w.objects }) (dbref_of n) (object_at (dbref_of n) w.objects) o in subst P (sym (told_at (dbref_of n) v.objects)) (l.objects n);
   lists = λ exits p. subst (Reordered (front_open (record { actor = a; free = free; gone = l.gone; objects = w.objects }) w.objects p) (list_in exits w.objects p)) (sym (told_list exits v.objects p)) (l.lists exits p);
   connections = l.connections;
@@ -66,12 +67,13 @@ licensed_told a free w v l = record {
 }
 
 -- what leaves alone objects, ties and what is tuned may follow
-pub licensed_as : (a : Actor) (free : Dbref → Bool) (w u v : Live) → Licensed a free w u → v.objects ≡ u.objects → ties v.board.connections ≡ ties u.board.connections → v.board.tune ≡ u.board.tune → Licensed a free w v
+pub licensed_as : (a : Actor) (free : Freedom) (w u v : Live) → Licensed a free w u → v.objects ≡ u.objects → ties v.board.connections ≡ ties u.board.connections → v.board.tune ≡ u.board.tune → Licensed a free w v
 licensed_as a free w u v l objects tied tuned =
     let O : List Entry → Type 0 = λ os. (n : ℕ) → Differs (record { actor = a; free = free; gone = l.gone; objects = w.objects }) (dbref_of n) (object_at (dbref_of n) w.objects) (object_at (dbref_of n) os) in
     record {
       gone = l.gone;
       recycled = l.recycled;
+      vanished = λ x e. ap (object_at x) objects ∙ l.vanished x e;
       objects = subst O (sym objects) l.objects;
       lists = subst (SameLists (record { actor = a; free = free; gone = l.gone; objects = w.objects }) w.objects) (sym objects) l.lists;
       connections = ties_both a _ _ _ l.connections (ties_same a u.board.connections v.board.connections tied);

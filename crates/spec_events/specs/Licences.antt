@@ -8,7 +8,7 @@ use Rattle.spec_live.specs.Objects.{Entry}
 use Rattle.spec_live.specs.Connections.{Connection}
 use Rattle.spec_live.specs.Lives.{Live}
 use Rattle.spec_rights.specs.declared.act.Actor.{Actor}
-use Rattle.spec_rights.specs.Licence.{Licensed, nobody}
+use Rattle.spec_rights.specs.Licence.{Freedom, Licensed, editing}
 use Rattle.spec_commands.specs.Finding.{actor_of}
 use Rattle.spec_commands.specs.Free.{free_line}
 use Rattle.spec_events.specs.World.{World, connection}
@@ -18,9 +18,9 @@ pub record Untouched (w v : Live) : Type 0 where
   pub objects : v.objects ≡ w.objects
   pub tune : v.board.tune ≡ w.board.tune
 
--- what a player may move freely by a line: nothing while it edits a program
-abbrev pub free_for : Option EditState → Actor → List ℕ → List Entry → Dbref → Bool
-free_for (Some s) a line es = nobody
+-- what a player is free to do by a line: to change that source, while it edits a program
+abbrev pub free_for : Option EditState → Actor → List ℕ → List Entry → Freedom
+free_for (Some s) a line es = editing s.program
 free_for None a line es = free_line a line es
 
 -- The first waiting line is done. One of a player changes only what is open to that player, by its rights before the

@@ -6,7 +6,7 @@ use Rattle.std.specs.Char.{to_ascii_lowercase}
 use Rattle.muck_model.specs.declared.dbref.Dbref.{Dbref}
 use Rattle.muck_model.specs.declared.dbref.Denial.{Denial}
 use Rattle.spec_live.specs.Objects.{Entry, is_program, object_at}
-use Rattle.spec_live.specs.Seen.{signed_text}
+use Rattle.std.specs.Fmt.{signed_decimal as signed_text}
 use Rattle.spec_live.specs.Lives.{Change, unchanged, tell_player}
 use Rattle.spec_rights.specs.declared.act.Actor.{Actor}
 use Rattle.spec_rights.specs.declared.act.Act.{Act}

@@ -80,9 +80,6 @@ grown_place n k es = elim (cases_eq n (length es)) [ inl e ↦ ap (λ (z : List 
 pub grown_flags : (n k : ℕ) (es : List Entry) → flags_in (grown n es) k ≡ flags_in es k
 grown_flags n k es = elim (cases_eq n (length es)) [ inl e ↦ ap (λ (z : List Entry). flags_in z k) (grown_more n es e) ∙ flags_more es k | inr e ↦ ap (λ (z : List Entry). flags_in z k) (grown_same n es e) ]
 
-pub grown_fits : (n d p : ℕ) (es : List Entry) → fits_in (grown n es) d p ≡ fits_in es d p
-grown_fits n d p es = fits_same es (grown n es) d p (λ k. grown_kind n k es) (grown_flags n p es)
-
 last_object : (es : List Entry) (k : ℕ) (o : Object) → object_in (es ++ blank_entry ∷ []) k ≡ Some o → (object_in es k ≡ Some o) ⊎ (o ≡ garbage)
 last_object es k o h = elim (cases_eq k (length es)) [
   | inl e ↦ inr (cc (h, ap (λ z. object_in (es ++ blank_entry ∷ []) z) e, object_last es))

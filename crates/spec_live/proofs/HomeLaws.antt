@@ -325,13 +325,6 @@ is_sent es d (x ∷ xs) c u low e =
     let P : List Entry → Type 0 = λ z. IsSent z d in
     subst P (sym s.sent) (is_sent (moved x (way_home x es) es) d xs (ordered_moved es x (way_home x es) s.may c) s.untied low s.rest)
 
-pub ordered_sent_home : (es : List Entry) (d : ℕ) (xs : List ℕ) → IsOrdered es → IsUntied d es → (d ≡ 0 → ⊥) → list_in false es d ≡ xs → IsOrdered (sent_home xs es)
-ordered_sent_home es d [] c u low e = let P : List Entry → Type 0 = λ z. IsOrdered z in subst P (sym (sent_nothing es)) c
-ordered_sent_home es d (x ∷ xs) c u low e =
-    let s : HomeStep es d x xs = home_step es d x xs c u low e in
-    let P : List Entry → Type 0 = λ z. IsOrdered z in
-    subst P (sym s.sent) (ordered_sent_home (moved x (way_home x es) es) d xs (ordered_moved es x (way_home x es) s.may c) s.untied low s.rest)
-
 pub consistent_sent_home : (es : List Entry) (d : ℕ) (xs : List ℕ) → IsConsistent es → IsUntied d es → (d ≡ 0 → ⊥) → list_in false es d ≡ xs → IsConsistent (sent_home xs es)
 consistent_sent_home es d [] c u low e = let P : List Entry → Type 0 = λ z. IsConsistent z in subst P (sym (sent_nothing es)) c
 consistent_sent_home es d (x ∷ xs) c u low e =

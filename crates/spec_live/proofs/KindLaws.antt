@@ -4,7 +4,7 @@ use Rattle.std.specs.Prelude.{not, ◌&&◌, ◌||◌}
 use Rattle.std.proofs.lemmas.Bool.{false≢true, and_parts, not-true}
 use Rattle.muck_model.specs.declared.dbref.Kind.{Kind}
 use Rattle.muck_model.specs.declared.dbref.Kind.TheVariants.{Room, Thing, Exit, Player, Program, Garbage}
-use Rattle.spec_live.specs.Objects.{is_thing, is_exit, is_player, is_garbage, may_stand}
+use Rattle.spec_live.specs.Objects.{is_exit, is_player, is_garbage, may_stand}
 use Rattle.spec_live.specs.Setting.{may_link, may_live}
 
 -- Tests.
@@ -70,14 +70,6 @@ stands_in_room Garbage p s t h e = absurd (garbage_in_none p s h)
 pub only_garbage : (k : Kind) → is_garbage k ≡ true → k ≡ Garbage
 only_garbage Garbage h = refl
 only_garbage k h = absurd (false≢true h)
-
-pub only_player : (k : Kind) → is_player k ≡ true → k ≡ Player
-only_player Player h = refl
-only_player k h = absurd (false≢true h)
-
-pub only_thing : (k : Kind) → is_thing k ≡ true → k ≡ Thing
-only_thing Thing h = refl
-only_thing k h = absurd (false≢true h)
 
 pub only_exit : (k : Kind) → is_exit k ≡ true → k ≡ Exit
 only_exit Exit h = refl

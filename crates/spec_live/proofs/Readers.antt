@@ -11,7 +11,7 @@ use Rattle.spec_live.specs.declared.object.Object.{Object}
 use Rattle.spec_live.specs.declared.mark.Mark.{Mark}
 use Rattle.spec_live.specs.Chain.{without, put_at}
 use Rattle.spec_live.specs.Flags.{no_flags}
-use Rattle.spec_live.specs.Objects.{Entry, index_of, object_in, list_of, list_in, mark_in, kind_in, flags_in, place_in, owner_in, home_in, fits_in, is_vehicle_in, is_exit, changed_at, on_object, with_object}
+use Rattle.spec_live.specs.Objects.{Entry, index_of, object_in, list_of, list_in, mark_in, kind_in, flags_in, place_in, fits_in, is_vehicle_in, is_exit, changed_at, on_object, with_object}
 use Rattle.spec_live.specs.Moving.{left_out, put_first, with_place, moved}
 use Rattle.spec_live.proofs.Lists.{length_map, get_changed_same, get_changed_other, length_changed, some_at, same_place, put_same, put_other}
 
@@ -52,16 +52,9 @@ pub place_past : (es : List Entry) (k : ℕ) → length es ≤ k → place_in es
 unfolding place_in
 place_past es k le = rw (object_past es k le) refl
 
-pub list_past : (v : Bool) (es : List Entry) (k : ℕ) → length es ≤ k → list_in v es k ≡ []
-unfolding list_in
-list_past v es k le = rw (slice_get_past es k le) refl
-
 pub object_there : (es : List Entry) (k : ℕ) → k < length es → (o : Object) × (object_in es k ≡ Some o)
 unfolding object_in
 object_there es k lt = let s : (x : Entry) × (slice_get es k ≡ Some x) = some_at es k lt in (s.0.object, rw s.1 refl)
-
-pub object_known : (es : List Entry) (k : ℕ) (o : Object) → object_in es k ≡ Some o → k < length es
-object_known es k o h = elim (cases_lt k (length es)) [ inl lt ↦ lt | inr le ↦ absurd (cc (h, object_past es k le)) ]
 
 pub place_known : (es : List Entry) (k p : ℕ) → place_in es k ≡ Some p → k < length es
 place_known es k p h = elim (cases_lt k (length es)) [ inl lt ↦ lt | inr le ↦ absurd (cc (h, place_past es k le)) ]
@@ -79,14 +72,6 @@ place_is es k o h = rw h refl
 pub flags_is : (es : List Entry) (k : ℕ) (o : Object) → object_in es k ≡ Some o → flags_in es k ≡ o.flags
 unfolding flags_in
 flags_is es k o h = rw h refl
-
-pub home_is : (es : List Entry) (k : ℕ) (o : Object) → object_in es k ≡ Some o → home_in es k ≡ index_of o.home
-unfolding home_in
-home_is es k o h = rw h refl
-
-pub owner_is : (es : List Entry) (k : ℕ) (o : Object) → object_in es k ≡ Some o → owner_in es k ≡ index_of o.owner
-unfolding owner_in
-owner_is es k o h = rw h refl
 
 -- What two lists of entries have alike where an object is.
 
@@ -141,6 +126,10 @@ object_elsewhere n k f es ne = rw (get_changed_other es n k f ne) refl
 pub list_elsewhere : (v : Bool) (n k : ℕ) (f : Entry → Entry) (es : List Entry) → (k ≡ n → ⊥) → list_in v (changed_at n f es) k ≡ list_in v es k
 unfolding list_in
 list_elsewhere v n k f es ne = rw (get_changed_other es n k f ne) refl
+
+pub mark_elsewhere : (n k : ℕ) (f : Entry → Entry) (es : List Entry) → (k ≡ n → ⊥) → mark_in (changed_at n f es) k ≡ mark_in es k
+unfolding mark_in
+mark_elsewhere n k f es ne = rw (get_changed_other es n k f ne) refl
 
 -- A change of one object.
 

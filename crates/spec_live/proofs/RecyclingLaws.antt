@@ -18,7 +18,7 @@ use Rattle.spec_live.proofs.Lists.{length_map, length_changed, get_changed_same,
 use Rattle.spec_live.proofs.KindLaws.{none_in_exit, only_exit, player_no_exit, linked_no_exit, home_no_exit}
 use Rattle.spec_live.proofs.Readers.{object_change, list_change, object_elsewhere, list_elsewhere, object_left, list_left, kind_is, place_is, kind_alike}
 use Rattle.spec_live.proofs.Checks.{Passed, checked_ok, index_only}
-use Rattle.spec_live.proofs.Fewer.{IsFewer, IsUnspoken, whether, ordered_fewer, consistent_fewer}
+use Rattle.spec_live.proofs.Fewer.{IsFewer, IsUnspoken, whether, consistent_fewer}
 use Rattle.spec_live.proofs.HomeLaws.{IsUntied, is_untied, not_nothing, ordered_untied, IsSent, is_sent, consistent_untied, consistent_sent_home, list_untied, kind_untied, kind_sent_home}
 
 -- The exits of an object.
@@ -179,9 +179,6 @@ fewer_exits es d c = record {
     once_by true xs h = nil_apart [] refl
     once_by false xs h = h
 
-pub ordered_exits_gone : (es : List Entry) (d : ℕ) → IsOrdered es → IsOrdered (exits_gone d es)
-ordered_exits_gone es d c = ordered_fewer es (exits_gone d es) (is_exit_at d es) (fewer_exits es d c) c
-
 unspoken_exits : (es : List Entry) (d : ℕ) → IsUnspoken es (is_exit_at d es)
 unspoken_exits es d = record {
   player = λ n h. by_kind n (player_no_exit (kind_in es n) h);
@@ -278,9 +275,6 @@ fewer_vanished es d low empty c = record {
   ];
   room = ne_eqb 0 d (λ e. low (sym e));
 }
-
-pub ordered_vanished : (es : List Entry) (d : ℕ) → (d ≡ 0 → ⊥) → ((v : Bool) → list_in v es d ≡ []) → IsOrdered es → IsOrdered (vanished d es)
-ordered_vanished es d low empty c = ordered_fewer es (vanished d es) (λ k. eqb k d) (fewer_vanished es d low empty c) c
 
 unspoken_vanished : (es : List Entry) (d : ℕ) → is_player (kind_in es d) ≡ false → IsUntied d es → IsUnspoken es (λ k. eqb k d)
 unspoken_vanished es d mortal u = record {

@@ -39,9 +39,6 @@ any_true test d (x ∷ xs) m h = elim m [
 
 -- What no tie speaks of.
 
-kept_ties : (o : Object) → SameTies o o
-kept_ties o = record { kind = refl; owner = refl; link = refl; home = refl }
-
 pub consistent_checked : (test : ℕ → Bool) (d : Dbref) (es : List Entry) (n : ℕ) (f : Object → Object) → checked test d es ≡ Ok n → ((o : Object) → SameTies o (f o)) → ((o : Object) → (f o).place ≡ o.place) → ((o : Object) → (f o).flags ≡ o.flags)
     → IsConsistent es → IsConsistent (changed_at n (on_object f) es)
 consistent_checked test d es n f h ties place flags c = consistent_same es n f ties place flags (checked_ok test d es n h).there.alive c

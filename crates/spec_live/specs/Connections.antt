@@ -99,7 +99,3 @@ edited_where test editor c = if test c then edited editor c else c
 
 abbrev pub has_player : Connection → Bool
 has_player c = option_map_or (λ p. true) c.player false
-
--- another player than this one, or the same on another connection
-abbrev pub is_other : ℕ → Connection → Bool
-is_other d c = not (has_number d c)

@@ -9,6 +9,7 @@ pub mod Recycling
 pub mod Marks
 pub mod Consistent
 pub mod Seen
+pub mod Worth
 pub mod Start
 pub mod Output
 pub mod Connections

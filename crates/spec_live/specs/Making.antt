@@ -1,14 +1,12 @@
 -- Making an object.
 use Rattle.std.specs.Prelude.{◌≡◌, ◌⊎◌, ℕ, suc, ◌==◌, nat_lt, Bool, true, false, ◌||◌, if◌then◌else◌, List, [], ◌∷◌, ◌++◌, length, Option, Some, None, Result, Ok, Err, MatchResult}
 use Rattle.std.specs.Option.{option_map_or}
-use Rattle.std.specs.FinMap as map
 use Rattle.muck_model.specs.declared.dbref.Dbref.{Dbref}
 use Rattle.muck_model.specs.declared.dbref.Kind.{Kind}
 use Rattle.spec_live.specs.declared.object.Object.{Object}
 use Rattle.spec_live.specs.declared.fault.DbFault.{DbFault}
 use Rattle.spec_live.specs.declared.fault.DbFault.TheVariants.{NoSuchObject, WrongKind, WorldFull, NoMemory}
-use Rattle.spec_live.specs.Flags.{no_flags}
-use Rattle.spec_live.specs.Objects.{Entry, dbref_of, nothing, is_thing, is_player, is_garbage, may_stand, kind_in, is_vehicle_in, number_in, changed_at, with_object, garbage}
+use Rattle.spec_live.specs.Objects.{Entry, dbref_of, nothing, is_thing, is_player, is_garbage, may_stand, kind_in, is_vehicle_in, number_in, changed_at, with_object, plain, garbage}
 use Rattle.spec_live.specs.Moving.{moved}
 
 -- the most objects
@@ -32,19 +30,8 @@ has_home kind = is_thing kind || is_player kind
 
 -- a new object: a player owns itself, and `#0` is the first home of a thing or a player
 unfoldable pub new_object : ℕ → Kind → List ℕ → Dbref → Object
-new_object n kind name owner = record {
-  kind = kind;
-  name = name;
-  owner = if is_player kind then dbref_of n else owner;
-  place = nothing;
-  link = nothing;
-  home = if has_home kind then dbref_of 0 else nothing;
-  flags = no_flags;
-  level = 0;
-  props = map.empty;
-  lines = [];
-  digest = [];
-}
+new_object n kind name owner =
+    record (plain kind name (if is_player kind then dbref_of n else owner)) { home = if has_home kind then dbref_of 0 else nothing }
 
 -- an object at that number, in front of a list of `to`
 unfoldable pub created : ℕ → Kind → List ℕ → Dbref → ℕ → List Entry → List Entry

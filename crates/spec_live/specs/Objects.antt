@@ -99,12 +99,12 @@ with_object o e = record e { object = o }
 abbrev pub on_object : (Object → Object) → Entry → Entry
 on_object f e = record e { object = f e.object }
 
--- What is left of an object that was recycled: `#1` owns it.
-unfoldable pub garbage : Object
-garbage = record {
-  kind = Garbage;
-  name = codes "<garbage>";
-  owner = dbref_of 1;
+-- an object that has a kind, a name and an owner, and nothing else
+abbrev pub plain : Kind → List ℕ → Dbref → Object
+plain kind name owner = record {
+  kind = kind;
+  name = name;
+  owner = owner;
   place = nothing;
   link = nothing;
   home = nothing;
@@ -114,3 +114,7 @@ garbage = record {
   lines = [];
   digest = [];
 }
+
+-- What is left of an object that was recycled: `#1` owns it.
+unfoldable pub garbage : Object
+garbage = plain Garbage (codes "<garbage>") (dbref_of 1)

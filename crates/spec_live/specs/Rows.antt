@@ -1,7 +1,6 @@
 -- Worked examples, which the checker computes.
 use Rattle.std.specs.Prelude.{◌≡◌, ℕ, true, false, List, [], ◌∷◌, ◌++◌, refl, codes, Option, Some, None, Ok, Err, replicate}
 use Rattle.std.specs.Option.{option_map}
-use Rattle.std.specs.FinMap as map
 use Rattle.muck_model.specs.declared.dbref.Dbref.{Dbref}
 use Rattle.muck_model.specs.declared.dbref.Kind.{Kind}
 use Rattle.muck_model.specs.declared.dbref.Kind.TheVariants.{Room, Thing, Exit, Player, Program, Garbage}
@@ -9,7 +8,7 @@ use Rattle.spec_live.specs.declared.object.Object.{Object}
 use Rattle.spec_live.specs.declared.fault.DbFault.TheVariants.{NoSuchObject, WouldLoop, WrongKind}
 use Rattle.spec_live.specs.Flags.{no_flags, vehicle}
 use Rattle.spec_live.specs.Chain.{walk, has, without}
-use Rattle.spec_live.specs.Objects.{Entry, dbref_of, nothing, object_in, list_in, kind_in, place_in, path_in, fits_in, flags_in, is_vehicle_in, number_in, owner_in, home_in, changed_at, garbage}
+use Rattle.spec_live.specs.Objects.{Entry, dbref_of, nothing, object_in, list_in, kind_in, place_in, path_in, fits_in, flags_in, is_vehicle_in, number_in, owner_in, home_in, changed_at, plain, garbage}
 use Rattle.spec_live.specs.Moving.{moved, judged, move_check}
 use Rattle.spec_live.specs.Making.{free_in, objects_most, may_make, make_judged, owner_judged, create_check}
 use Rattle.spec_live.specs.Setting.{checked, holds_player, keeps_seats, flags_check}
@@ -21,19 +20,7 @@ use Rattle.spec_live.specs.Output.{Output, notice, lines_bytes, sent_lines, queu
 
 -- what `#1` owns, in that place, with this home and this link
 abbrev pub made : Kind → Dbref → Dbref → Dbref → Object
-made kind place home link = record {
-  kind = kind;
-  name = codes "it";
-  owner = dbref_of 1;
-  place = place;
-  link = link;
-  home = home;
-  flags = no_flags;
-  level = 0;
-  props = map.empty;
-  lines = [];
-  digest = [];
-}
+made kind place home link = record (plain kind (codes "it") (dbref_of 1)) { place = place; home = home; link = link }
 
 abbrev pub owned_by : ℕ → Object → Object
 owned_by n o = record o { owner = dbref_of n }
@@ -60,10 +47,6 @@ den_world =
 abbrev pub den_gone : List Entry → Kind × Option ℕ × Option Dbref × List ℕ
 den_gone es = (kind_in es 2, place_in es 3, link_in es 4, list_in false es 0)
 
-recycled_den_row : den_gone (recycled 2 den_world) ≡ (Garbage, Some 0, Some nothing, 3 ∷ 1 ∷ [])
-unfolding recycled untied vanished exits_gone sent_home way_home wished_home may_go gone_entry garbage moved changed_at kind_in object_in list_in place_in path_in fits_in flags_in is_vehicle_in home_in owner_in walk has without room_zero player_one
-recycled_den_row = refl
-
 -- Car `#2`, in which player `#3`, his program `#4` and ball `#6` are; he lives in Den `#5`, and the ball with him. Lamp
 -- `#7` lives in the car, and exit `#8` is attached to it.
 abbrev pub car_world : List Entry
@@ -81,16 +64,8 @@ car_world =
 abbrev pub lists_of : List Entry → List ℕ × List ℕ × List ℕ × List ℕ
 lists_of es = (list_in false es 0, list_in false es 2, list_in false es 3, list_in false es 5)
 
-recycled_car_row : lists_of (recycled 2 car_world) ≡ (7 ∷ 5 ∷ 1 ∷ [], [], 6 ∷ [], 3 ∷ 4 ∷ [])
-unfolding recycled untied vanished exits_gone sent_home way_home wished_home may_go gone_entry garbage moved changed_at kind_in object_in list_in place_in path_in fits_in flags_in is_vehicle_in home_in owner_in walk has without room_zero player_one
-recycled_car_row = refl
-
 abbrev pub car_gone : List Entry → Kind × Kind × Option ℕ × Option ℕ
 car_gone es = (kind_in es 2, kind_in es 8, home_in es 7, place_in es 8)
-
-recycled_ties_row : car_gone (recycled 2 car_world) ≡ (Garbage, Garbage, Some 0, None)
-unfolding recycled untied vanished exits_gone sent_home way_home wished_home may_go gone_entry garbage moved changed_at kind_in object_in list_in place_in path_in fits_in flags_in is_vehicle_in home_in owner_in walk has without room_zero player_one
-recycled_ties_row = refl
 
 -- Bag `#3`, in it box `#4`, garbage `#2`
 abbrev pub bag_world : List Entry
@@ -101,81 +76,45 @@ bag_world =
     holding (4 ∷ []) [] (made Thing (dbref_of 0) (dbref_of 0) nothing) ∷
     holding [] [] (made Thing (dbref_of 3) (dbref_of 0) nothing) ∷ []
 
-move_loop_row : move_check (dbref_of 3) (dbref_of 4) bag_world ≡ Err WouldLoop
-unfolding gone_entry garbage move_check judged number_in kind_in object_in place_in path_in fits_in flags_in is_vehicle_in walk has room_zero player_one
-move_loop_row = refl
-
-move_itself_row : move_check (dbref_of 3) (dbref_of 3) bag_world ≡ Err WouldLoop
-unfolding gone_entry garbage move_check judged number_in kind_in object_in place_in path_in fits_in flags_in is_vehicle_in walk has room_zero player_one
-move_itself_row = refl
-
-move_nowhere_row : move_check (dbref_of 3) (dbref_of 99999) bag_world ≡ Err NoSuchObject
-unfolding gone_entry garbage move_check judged number_in kind_in object_in place_in path_in fits_in flags_in is_vehicle_in walk has room_zero player_one
-move_nowhere_row = refl
-
-move_garbage_row : move_check (dbref_of 2) (dbref_of 0) bag_world ≡ Err NoSuchObject
-unfolding gone_entry garbage move_check judged number_in kind_in object_in place_in path_in fits_in flags_in is_vehicle_in walk has room_zero player_one
-move_garbage_row = refl
-
-move_room_zero_row : move_check (dbref_of 0) (dbref_of 0) bag_world ≡ Err WrongKind
-unfolding gone_entry garbage move_check judged number_in kind_in object_in place_in path_in fits_in flags_in is_vehicle_in walk has room_zero player_one
-move_room_zero_row = refl
-
--- a player may be in a thing only where it is a vehicle
-move_player_row : move_check (dbref_of 1) (dbref_of 3) bag_world ≡ Err WrongKind
-unfolding gone_entry garbage move_check judged number_in kind_in object_in place_in path_in fits_in flags_in is_vehicle_in walk has room_zero player_one
-move_player_row = refl
-
-move_into_car_row : move_check (dbref_of 1) (dbref_of 2) car_world ≡ Ok (1, 2)
-unfolding move_check judged number_in kind_in object_in place_in path_in fits_in flags_in is_vehicle_in walk has room_zero player_one
-move_into_car_row = refl
-
--- a new object takes the number of garbage
-create_row : create_check Thing (dbref_of 1) (dbref_of 3) bag_world ≡ Ok (2, 3)
-unfolding create_check owner_judged make_judged may_make free_in objects_most gone_entry garbage number_in kind_in object_in flags_in is_vehicle_in room_zero player_one
-create_row = refl
-
--- only a player owns what isn't a player
-create_owned_row : create_check Thing (dbref_of 3) (dbref_of 0) bag_world ≡ Err WrongKind
-unfolding create_check owner_judged make_judged may_make free_in objects_most gone_entry garbage number_in kind_in object_in flags_in is_vehicle_in room_zero player_one
-create_owned_row = refl
-
--- a player keeps his seat
-flags_seat_row : flags_check (dbref_of 2) no_flags car_world ≡ Err WrongKind
-unfolding flags_check checked keeps_seats holds_player list_in number_in kind_in object_in flags_in is_vehicle_in room_zero player_one
-flags_seat_row = refl
-
 -- Output.
 
 -- a line of 12 bytes with its end
 abbrev pub line : List ℕ
 line = replicate 10 120
 
--- With room for 30 bytes, the newest two of three lines stay.
-newest_row : newest 30 (codes "aaaaaaaaaa" ∷ codes "bbbbbbbbbb" ∷ codes "cccccccccc" ∷ []) ≡ codes "bbbbbbbbbb" ∷ codes "cccccccccc" ∷ []
-unfolding newest lines_bytes
-newest_row = refl
-
 -- a queue that such lines fill, the oldest of other bytes
 abbrev pub full : Output
 full = record { rest = []; flushed = false; lines = replicate 10 97 ∷ replicate 10921 line }
 
--- With one more the oldest goes, and the newest 10,922 stay.
-full_row : line_sent line full ≡ record { rest = []; flushed = true; lines = replicate 10922 line }
-unfolding line_sent newest lines_bytes queue_most
-full_row = refl
+pub record Rows : Type 0 where
+  pub recycled_den_row : den_gone (recycled 2 den_world) ≡ (Garbage, Some 0, Some nothing, 3 ∷ 1 ∷ [])
+  pub recycled_car_row : lists_of (recycled 2 car_world) ≡ (7 ∷ 5 ∷ 1 ∷ [], [], 6 ∷ [], 3 ∷ 4 ∷ [])
+  pub recycled_ties_row : car_gone (recycled 2 car_world) ≡ (Garbage, Garbage, Some 0, None)
+  pub move_loop_row : move_check (dbref_of 3) (dbref_of 4) bag_world ≡ Err WouldLoop
+  pub move_itself_row : move_check (dbref_of 3) (dbref_of 3) bag_world ≡ Err WouldLoop
+  pub move_nowhere_row : move_check (dbref_of 3) (dbref_of 99999) bag_world ≡ Err NoSuchObject
+  pub move_garbage_row : move_check (dbref_of 2) (dbref_of 0) bag_world ≡ Err NoSuchObject
+  pub move_room_zero_row : move_check (dbref_of 0) (dbref_of 0) bag_world ≡ Err WrongKind
+  -- a player may be in a thing only where it is a vehicle
+  pub move_player_row : move_check (dbref_of 1) (dbref_of 3) bag_world ≡ Err WrongKind
+  pub move_into_car_row : move_check (dbref_of 1) (dbref_of 2) car_world ≡ Ok (1, 2)
+  -- a new object takes the number of garbage
+  pub create_row : create_check Thing (dbref_of 1) (dbref_of 3) bag_world ≡ Ok (2, 3)
+  -- only a player owns what isn't a player
+  pub create_owned_row : create_check Thing (dbref_of 3) (dbref_of 0) bag_world ≡ Err WrongKind
+  -- a player keeps his seat
+  pub flags_seat_row : flags_check (dbref_of 2) no_flags car_world ≡ Err WrongKind
+  -- With room for 30 bytes, the newest two of three lines stay.
+  pub newest_row : newest 30 (codes "aaaaaaaaaa" ∷ codes "bbbbbbbbbb" ∷ codes "cccccccccc" ∷ []) ≡ codes "bbbbbbbbbb" ∷ codes "cccccccccc" ∷ []
+  -- With one more the oldest goes, and the newest 10,922 stay.
+  pub full_row : line_sent line full ≡ record { rest = []; flushed = true; lines = replicate 10922 line }
+  -- the notice that was taken in part becomes the rest
+  pub notice_taken_row : taken 5 (record { rest = []; flushed = true; lines = line ∷ [] }) ≡ record { rest = codes "ut Flushed>" ++ 13 ∷ 10 ∷ []; flushed = false; lines = line ∷ [] }
+  -- and a line likewise
+  pub line_taken_row : taken 4 (record { rest = codes "ab"; flushed = false; lines = codes "cdef" ∷ line ∷ [] }) ≡ record { rest = codes "ef" ++ 13 ∷ 10 ∷ []; flushed = false; lines = line ∷ [] }
+  -- a text with byte 13 is two lines
+  pub sent_lines_row : sent_lines (codes "one" ++ 13 ∷ codes "two") ≡ codes "one" ∷ codes "two" ∷ []
 
--- the notice that was taken in part becomes the rest
-notice_taken_row : taken 5 (record { rest = []; flushed = true; lines = line ∷ [] }) ≡ record { rest = codes "ut Flushed>" ++ 13 ∷ 10 ∷ []; flushed = false; lines = line ∷ [] }
-unfolding taken notice_taken notice
-notice_taken_row = refl
-
--- and a line likewise
-line_taken_row : taken 4 (record { rest = codes "ab"; flushed = false; lines = codes "cdef" ∷ line ∷ [] }) ≡ record { rest = codes "ef" ++ 13 ∷ 10 ∷ []; flushed = false; lines = line ∷ [] }
-unfolding taken lines_taken
-line_taken_row = refl
-
--- a text with byte 13 is two lines
-sent_lines_row : sent_lines (codes "one" ++ 13 ∷ codes "two") ≡ codes "one" ∷ codes "two" ∷ []
-unfolding sent_lines
-sent_lines_row = refl
+pub rows : Rows
+unfolding recycled untied vanished exits_gone sent_home way_home wished_home may_go gone_entry garbage moved changed_at kind_in object_in list_in place_in path_in fits_in flags_in is_vehicle_in home_in owner_in walk has without room_zero player_one move_check judged number_in create_check owner_judged make_judged may_make free_in objects_most flags_check checked keeps_seats holds_player newest lines_bytes line_sent queue_most taken notice_taken notice lines_taken sent_lines
+rows = record { recycled_den_row = refl; recycled_car_row = refl; recycled_ties_row = refl; move_loop_row = refl; move_itself_row = refl; move_nowhere_row = refl; move_garbage_row = refl; move_room_zero_row = refl; move_player_row = refl; move_into_car_row = refl; create_row = refl; create_owned_row = refl; flags_seat_row = refl; newest_row = refl; full_row = refl; notice_taken_row = refl; line_taken_row = refl; sent_lines_row = refl }

@@ -9,6 +9,7 @@ mod flag;
 mod mark;
 mod object;
 mod paths;
+mod rows;
 
 pub use fault::DbFault;
 pub use flag::{
@@ -17,3 +18,4 @@ pub use flag::{
 pub use mark::{Changed, Mark};
 pub use object::Object;
 pub use paths::paths_agree;
+pub use rows::rows_hold;

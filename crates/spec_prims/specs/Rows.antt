@@ -28,7 +28,9 @@ hello = text (codes "hello")
 abbrev pub told : ℕ → List Datum
 told n = hello ∷ object (pos n) ∷ []
 
-rows :
+-- the rows
+unfoldable pub Rows : Type 0
+Rows =
     -- too few items, also where the rest of the test would fail; and too few of them above the locked part
     (shared Notify (acting_at 0 1) 0 (int (pos 1) ∷ []) at_first ≡ refuses StackEmpty)
     × (shared Notify (acting_at 0 1) 1 (int (pos 1) ∷ int (pos 2) ∷ []) at_first ≡ refuses StackLocked)
@@ -45,5 +47,7 @@ rows :
     × (shared Notify (acting_at 1 1) 0 (hello ∷ object (pos 1) ∷ hello ∷ []) at_first ≡ gives (hello ∷ []) at_first)
     -- one without a row
     × (shared IsAwake (acting_at 4 1) 0 (told 1) at_first ≡ refuses NotCompiled)
-unfolding first_tune early_board told_player tell_player object_at number_in kind_in object_in room_zero player_one first_objects is_near level_fault is_there near_fault first_fault shared
+
+pub rows : Rows
+unfolding Rows first_tune early_board told_player tell_player object_at number_in kind_in object_in room_zero player_one first_objects is_near level_fault is_there near_fault first_fault shared
 rows = (refl, refl, refl, refl, refl, refl, refl, refl, refl)

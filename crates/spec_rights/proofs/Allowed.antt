@@ -22,9 +22,10 @@ use Rattle.spec_rights.specs.declared.act.Act.TheVariants.{Write, Move, Take, Li
 use Rattle.spec_rights.specs.declared.rule.Rule.{Rule}
 use Rattle.spec_rights.specs.declared.rule.Rule.TheVariants.{P3, P4, P6, P7, P8, P9, P10, P11, P12, P13, P14, P15, P16, P17, P18, P19, P20, P21, P22}
 use Rattle.spec_rights.specs.Levels.{level_at, is_player_at, flag_at}
-use Rattle.spec_rights.specs.Worth.{opens_at}
-use Rattle.spec_rights.specs.Verdict.{verdict, place_of, below, or_else, denial, when, is_master, controls, controls_or, open_place, open_target, is_program_at, may_take_over, may_build, is_hidden, is_kept, is_guarded, is_plain}
-use Rattle.spec_rights.specs.Licence.{Judge, name_open, property_open, place_open, link_open, home_open, level_open, level_open_to, lines_open, owner_open, home_of, kind_of}
+use Rattle.spec_live.specs.Worth.{opens_at}
+use Rattle.spec_rights.specs.inner.Numbers.{denial}
+use Rattle.spec_rights.specs.Verdict.{verdict, place_of, below, or_else, when, is_master, controls, controls_or, open_place, open_target, is_program_at, may_take_over, may_build, is_hidden, is_kept, is_guarded, is_plain}
+use Rattle.spec_rights.specs.Licence.{Freedom, Judge, name_open, property_open, place_open, link_open, home_open, level_open, level_open_to, lines_open, owner_open, home_of, kind_of}
 use Rattle.spec_rights.proofs.Rights.{SameRights, same_level, same_home, same_flag, same_player, same_program, same_controls, same_controls_or, same_take_over}
 use Rattle.spec_rights.proofs.Licences.{judge}
 
@@ -45,7 +46,7 @@ not_false true e = refl
 not_false false e = cc
 
 -- Renaming.
-pub rename_allowed : (a : Actor) (free : Dbref → Bool) (start es : List Entry) (x : Dbref) → SameRights start es → verdict es a (Rename x) ≡ None → name_open (judge a free start) x ≡ true
+pub rename_allowed : (a : Actor) (free : Freedom) (start es : List Entry) (x : Dbref) → SameRights start es → verdict es a (Rename x) ≡ None → name_open (judge a free start) x ≡ true
 rename_allowed a free start es x s e =
     let p = passes (not (controls es a x)) P16 x _ e in
     let q = passes (is_player_at es x && nat_lt a.level 4) P17 x _ p.next in
@@ -59,7 +60,7 @@ rename_allowed a free start es x s e =
     table false p b e f = cc
 
 -- Writing a property.
-pub write_allowed : (a : Actor) (free : Dbref → Bool) (start es : List Entry) (x : Dbref) (path : List (List ℕ)) → SameRights start es → verdict es a (Write x path) ≡ None → property_open (judge a free start) x path ≡ true
+pub write_allowed : (a : Actor) (free : Freedom) (start es : List Entry) (x : Dbref) (path : List (List ℕ)) → SameRights start es → verdict es a (Write x path) ≡ None → property_open (judge a free start) x path ≡ true
 write_allowed a free start es x path s e =
     let k = class_of path in
     let p3 = passes (is_hidden k && nat_lt a.level 4) P3 x _ e in
@@ -83,7 +84,7 @@ write_allowed a free start es x path s e =
     table Plain c b4 b3 b2 e f g h = not_both b2 c h
 
 -- Setting a message or a lock.
-pub change_allowed : (a : Actor) (free : Dbref → Bool) (start es : List Entry) (x : Dbref) (path : List (List ℕ)) → is_guarded (class_of path) ≡ true → SameRights start es → verdict es a (Change x) ≡ None → property_open (judge a free start) x path ≡ true
+pub change_allowed : (a : Actor) (free : Freedom) (start es : List Entry) (x : Dbref) (path : List (List ℕ)) → is_guarded (class_of path) ≡ true → SameRights start es → verdict es a (Change x) ≡ None → property_open (judge a free start) x path ≡ true
 change_allowed a free start es x path g s e =
     let p = passes (not (controls es a x)) P16 x _ e in
     rw (same_controls a x start es s, not_false (controls es a x) p.here) (table (class_of path) (nat_le 4 a.level) (nat_le 3 a.level) (nat_le 2 a.level) g)
@@ -103,48 +104,49 @@ mover true true e = refl
 mover true false e = cc
 mover false c e = refl
 
-pub move_allowed : (a : Actor) (free : Dbref → Bool) (start es : List Entry) (x to : Dbref) → same to home ≡ false → SameRights start es → verdict es a (Move x to) ≡ None → place_open (judge a free start) x to ≡ true
+pub move_allowed : (a : Actor) (free : Freedom) (start es : List Entry) (x to : Dbref) → same to home ≡ false → SameRights start es → verdict es a (Move x to) ≡ None → place_open (judge a free start) x to ≡ true
 move_allowed a free start es x to there s e =
     let p = passes (below 3 es a x) P8 x _ e in
     let q = passes (not (same to home || open_place es a to)) P9 to _ p.next in
     let m : (nat_le 3 a.level || controls es a x) ≡ true = rw (le_not 3 a.level) (mover (nat_lt a.level 3) (controls es a x) p.here) in
     let t : open_place es a to ≡ true = rw there at (not_false (same to home || open_place es a to) q.here) in
-    or_right (free x) _ (rw (same_controls a x start es s, same_controls_or jump a to start es s) (and_from (nat_le 3 a.level || controls es a x) _ m (or_right _ (open_place es a to) t)))
+    or_right (free.moves x) _ (rw (same_controls a x start es s, same_controls_or jump a to start es s) (and_from (nat_le 3 a.level || controls es a x) _ m (or_right _ (open_place es a to) t)))
 
-pub home_allowed : (a : Actor) (free : Dbref → Bool) (start es : List Entry) (x to : Dbref) → to ≡ option_map_or (λ (o : Object). o.home) (object_at x es) nothing → SameRights start es → verdict es a (Move x home) ≡ None → place_open (judge a free start) x to ≡ true
+pub home_allowed : (a : Actor) (free : Freedom) (start es : List Entry) (x to : Dbref) → to ≡ option_map_or (λ (o : Object). o.home) (object_at x es) nothing → SameRights start es → verdict es a (Move x home) ≡ None → place_open (judge a free start) x to ≡ true
 home_allowed a free start es x to there s e =
     let p = passes (below 3 es a x) P8 x _ e in
     let m : (nat_le 3 a.level || controls es a x) ≡ true = rw (le_not 3 a.level) (mover (nat_lt a.level 3) (controls es a x) p.here) in
     let h : same to (home_of (judge a free start) x) ≡ true = same_eq to _ (there ∙ sym (same_home x start es s)) in
-    or_right (free x) _ (rw (same_controls a x start es s) (and_from (nat_le 3 a.level || controls es a x) _ m (or_left _ _ h)))
+    or_right (free.moves x) _ (rw (same_controls a x start es s) (and_from (nat_le 3 a.level || controls es a x) _ m (or_left _ _ h)))
 
 -- Linking.
 
-pub link_allowed : (a : Actor) (free : Dbref → Bool) (start es : List Entry) (x to : Dbref) → SameRights start es → verdict es a (Link x to) ≡ None → link_open (judge a free start) x to ≡ true
+pub link_allowed : (a : Actor) (free : Freedom) (start es : List Entry) (x to : Dbref) → SameRights start es → verdict es a (Link x to) ≡ None → link_open (judge a free start) x to ≡ true
 link_allowed a free start es x to s e =
     let p = passes (not (controls es a x)) P12 x _ e in
     let q = passes (not (open_target es a to)) P13 to _ p.next in
     let m : (controls start a x && open_target start a to) ≡ true = rw (same_controls a x start es s, same_controls_or link a to start es s) (and_from (controls es a x) (open_target es a to) (not_false _ p.here) (not_false _ q.here)) in
     or_left _ _ m
 
-pub live_allowed : (a : Actor) (free : Dbref → Bool) (start es : List Entry) (x to : Dbref) → SameRights start es → verdict es a (Link x to) ≡ None → home_open (judge a free start) x to ≡ true
+pub live_allowed : (a : Actor) (free : Freedom) (start es : List Entry) (x to : Dbref) → SameRights start es → verdict es a (Link x to) ≡ None → home_open (judge a free start) x to ≡ true
 live_allowed a free start es x to s e =
     let p = passes (not (controls es a x)) P12 x _ e in
     let q = passes (not (open_target es a to)) P13 to _ p.next in
-    let m : (controls start a x && (same to (dbref_of 0) || open_target start a to)) ≡ true =
-    rw (same_controls a x start es s, same_controls_or link a to start es s) (and_from (controls es a x) _ (not_false _ p.here) (or_right (same to (dbref_of 0)) (open_target es a to) (not_false _ q.here))) in
+    let m : (controls start a x && ((free.clears && same to (dbref_of 0)) || open_target start a to)) ≡ true =
+    rw (same_controls a x start es s, same_controls_or link a to start es s) (and_from (controls es a x) _ (not_false _ p.here) (or_right (free.clears && same to (dbref_of 0)) (open_target es a to) (not_false _ q.here))) in
     or_left _ _ m
 
--- going back to `#0` as a home
-pub unlink_allowed : (a : Actor) (free : Dbref → Bool) (start es : List Entry) (x to : Dbref) → SameRights start es → verdict es a (Link x to) ≡ None → home_open (judge a free start) x (dbref_of 0) ≡ true
-unlink_allowed a free start es x to s e =
+-- going back to `#0` as a home, where that is free
+pub unlink_allowed : (a : Actor) (free : Freedom) (start es : List Entry) (x to : Dbref) → free.clears ≡ true → SameRights start es → verdict es a (Link x to) ≡ None → home_open (judge a free start) x (dbref_of 0) ≡ true
+unlink_allowed a free start es x to h s e =
     let p = passes (not (controls es a x)) P12 x _ e in
-    let m : (controls start a x && (same (dbref_of 0) (dbref_of 0) || open_target start a (dbref_of 0))) ≡ true = rw (same_controls a x start es s) (and_from (controls es a x) _ (not_false _ p.here) refl) in
+    let t : ((free.clears && same (dbref_of 0) (dbref_of 0)) || open_target start a (dbref_of 0)) ≡ true = or_left _ _ (and_from free.clears _ h refl) in
+    let m : (controls start a x && ((free.clears && same (dbref_of 0) (dbref_of 0)) || open_target start a (dbref_of 0))) ≡ true = rw (same_controls a x start es s) (and_from (controls es a x) _ (not_false _ p.here) t) in
     or_left _ _ m
 
 -- Flags and levels.
 
-pub flag_allowed : (a : Actor) (free : Dbref → Bool) (start es : List Entry) (x : Dbref) (flag : Flags) → SameRights start es → verdict es a (SetFlag x flag) ≡ None → (controls start a x ≡ true) × ((has_flag wizard flag && not (is_master a)) ≡ false)
+pub flag_allowed : (a : Actor) (free : Freedom) (start es : List Entry) (x : Dbref) (flag : Flags) → SameRights start es → verdict es a (SetFlag x flag) ≡ None → (controls start a x ≡ true) × ((has_flag wizard flag && not (is_master a)) ≡ false)
 flag_allowed a free start es x flag s e =
     let p = passes (not (controls es a x)) P16 x _ e in
     let q = passes (has_flag wizard flag && nat_lt a.level 4) P18 x _ p.next in
@@ -166,7 +168,7 @@ kind_tells : (es : List Entry) (x : Dbref) → is_player_at es x ≡ is_player (
 unfolding is_player_at
 kind_tells es x = player_kind (object_at x es)
 
-pub level_allowed : (a : Actor) (free : Dbref → Bool) (start es : List Entry) (x : Dbref) (level : ℕ) → SameRights start es → verdict es a (SetLevel x level) ≡ None → level_open (judge a free start) x level ≡ true
+pub level_allowed : (a : Actor) (free : Freedom) (start es : List Entry) (x : Dbref) (level : ℕ) → SameRights start es → verdict es a (SetLevel x level) ≡ None → level_open (judge a free start) x level ≡ true
 level_allowed a free start es x level s e =
     let p16 = passes (not (controls es a x)) P16 x _ e in
     let p18 = passes (is_player_at es x && nat_lt a.level 4) P18 x _ p16.next in
@@ -189,7 +191,7 @@ level_allowed a free start es x level s e =
 
 -- Owners, sources, passwords.
 
-pub owner_allowed : (a : Actor) (free : Dbref → Bool) (start es : List Entry) (x owner : Dbref) → SameRights start es → verdict es a (SetOwner x owner) ≡ None → owner_open (judge a free start) x owner ≡ true
+pub owner_allowed : (a : Actor) (free : Freedom) (start es : List Entry) (x owner : Dbref) → SameRights start es → verdict es a (SetOwner x owner) ≡ None → owner_open (judge a free start) x owner ≡ true
 owner_allowed a free start es x owner s e =
     let p = passes (nat_lt a.level 4 && not (may_take_over es a x && same owner a.user)) P21 x _ e in
     let t : may_take_over start a x ≡ may_take_over es a x = same_take_over a x start es s in
@@ -204,11 +206,11 @@ owner_allowed a free start es x owner s e =
 some_level : (n : ℕ) → (n == 0) ≡ false → nat_le 1 n ≡ true
 some_level n e = grind (arith, nat_tests)
 
-pub edit_allowed : (a : Actor) (free : Dbref → Bool) (start es : List Entry) (x : Dbref) → SameRights start es → verdict es a (Edit x) ≡ None → lines_open (judge a free start) x ≡ true
-edit_allowed a free start es x s e =
+pub edit_allowed : (a : Actor) (free : Freedom) (start es : List Entry) (x : Dbref) → free.edits x ≡ true → SameRights start es → verdict es a (Edit x) ≡ None → lines_open (judge a free start) x ≡ true
+edit_allowed a free start es x h s e =
     let p = passes (not (controls es a x)) P16 x _ e in
     let q = passes (level_at es a.user == 0) P22 x _ p.next in
-    rw (same_controls a x start es s, same_level a.user start es s) (and_from (controls es a x) _ (not_false _ p.here) (some_level (level_at es a.user) q.here))
+    and_from (free.edits x) _ h (rw (same_controls a x start es s, same_level a.user start es s) (and_from (controls es a x) _ (not_false _ p.here) (some_level (level_at es a.user) q.here)))
 
 master_by : (a : Actor) (b : Bool) → nat_lt a.level 4 ≡ b → b ≡ false → is_master a ≡ true
 master_by a b e f = le_not 4 a.level ∙ ap not (e ∙ f)

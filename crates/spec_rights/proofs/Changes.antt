@@ -1,6 +1,7 @@
 -- Each change of an object that was there keeps to the licence.
 use Rattle.std.proofs.Common.{◌≡◌, ℕ, Bool, true, false, cond, List, refl, sym, ◌∙◌, ap, subst, Option, Some, None, inl, inr}
 use Rattle.std.specs.Prelude.{◌&&◌, not, slice_get}
+use Rattle.std.proofs.lemmas.Bool.{cases_eq}
 use Rattle.std.specs.Option.{option_map, option_map_or}
 use Rattle.std.specs.Ordering.{eq_by_cmp}
 use Rattle.std.specs.Cmp.{Equal-is}
@@ -14,21 +15,21 @@ use Rattle.muck_prop.specs.Store.{PropMap, is_nothing, stored as put}
 use Rattle.muck_prop.proofs.Maps.{path_cmp_same}
 use Rattle.spec_live.specs.declared.object.Object.{Object}
 use Rattle.spec_live.specs.Flags.{has_flag, with_flag, without_flag, wizard}
-use Rattle.spec_live.specs.Objects.{Entry, dbref_of, object_in, list_in, number_in, object_at, changed_at}
+use Rattle.spec_live.specs.Objects.{Entry, dbref_of, object_in, list_in, mark_in, number_in, object_at, changed_at}
 use Rattle.spec_live.specs.Setting.{set_at, with_name, with_owner, with_link, with_flags, with_level, with_lines, lines_set, with_password, with_prop, without_prop}
 use Rattle.spec_live.specs.Boards.{Board}
 use Rattle.spec_live.specs.Lives.{Live}
 use Rattle.spec_live.proofs.Lists.{get_changed_same}
-use Rattle.spec_live.proofs.Readers.{object_changed, object_unchanged, object_elsewhere, list_change, list_changed}
+use Rattle.spec_live.proofs.Readers.{object_changed, object_unchanged, object_elsewhere, list_change, list_changed, mark_changed, mark_elsewhere}
 use Rattle.spec_rights.specs.declared.act.Actor.{Actor}
 use Rattle.spec_rights.specs.declared.act.Act.TheVariants.{Write, Link, Edit, Change, Rename, Password, SetFlag, SetLevel, SetOwner}
 use Rattle.spec_rights.specs.Verdict.{is_master, controls, is_guarded}
 use Rattle.spec_rights.specs.Changing.{at_number, set_object, named, owned_by, linked, is_flag, flag_set, flag_cleared, leveled, lines_kept, password_kept, stored, unstored}
-use Rattle.spec_rights.specs.Licence.{Open, Judge, Changed, Differs, SameLists, SameTies, name_open, property_open, link_open, level_open, lines_open, owner_open}
+use Rattle.spec_rights.specs.Licence.{Freedom, Open, Judge, Changed, Differs, SameLists, SameTies, name_open, property_open, link_open, level_open, lines_open, owner_open}
 use Rattle.spec_rights.proofs.Lookups.{Row, row_same, rows_changed, number_is}
 use Rattle.spec_rights.proofs.Listing.{lists_alike, lists_itself}
 use Rattle.spec_rights.proofs.Bits.{wizard_stays_set, wizard_stays_cleared}
-use Rattle.spec_rights.proofs.Licences.{judge, changed_same, Kept, kept_same, Stay, End, Stays, Ends, itself, ties_itself, ends_by, stays_by}
+use Rattle.spec_rights.proofs.Licences.{judge, changed_same, SameMarks, TellsLines, mark_open, Kept, kept_same, Stay, End, Stays, Ends, itself, ties_itself, ends_by, stays_by}
 use Rattle.spec_rights.proofs.Allowed.{rename_allowed, write_allowed, change_allowed, link_allowed, flag_allowed, level_allowed, owner_allowed, edit_allowed, password_allowed}
 
 -- Where f is done to one object, R holds of all.
@@ -45,7 +46,7 @@ pub rows_found : (R : Dbref → Object → Object → Type 0) → ((y : Dbref) (
     (es : List Entry) (n : ℕ) → Row (R (dbref_of n)) (object_at (dbref_of n) es) (object_at (dbref_of n) (at_number (set_at f) x es))
 rows_found R same x f kinds h es n = rows_number R same x f kinds h es (set_at f) (λ m. object_changed m f es) (λ m k ne. object_unchanged m k f es ne) n (number_in es x) refl
 
-object_lined : (m : ℕ) (lines : List (List ℕ)) (es : List Entry) → object_in (changed_at m (with_lines lines) es) m ≡ option_map (λ (o : Object). record o { lines = lines }) (object_in es m)
+pub object_lined : (m : ℕ) (lines : List (List ℕ)) (es : List Entry) → object_in (changed_at m (with_lines lines) es) m ≡ option_map (λ (o : Object). record o { lines = lines }) (object_in es m)
 unfolding object_in
 object_lined m lines es = rw (get_changed_same es m (with_lines lines)) (by_cases lines (slice_get es m))
   where
@@ -59,11 +60,11 @@ rows_lined R same x lines h es n = rows_number R same x (λ o. record o { lines 
 
 -- Worlds in which the objects alone differ.
 
-pub stay_objects : (j : Judge) (w v : Live) → v.board ≡ w.board → ((n : ℕ) → Row (Kept j (dbref_of n)) (object_at (dbref_of n) w.objects) (object_at (dbref_of n) v.objects)) → SameLists j w.objects v.objects → Stay j w v
-stay_objects j w v b rows lists =
+pub stay_objects : (j : Judge) (w v : Live) → v.board ≡ w.board → ((n : ℕ) → Row (Kept j (dbref_of n)) (object_at (dbref_of n) w.objects) (object_at (dbref_of n) v.objects)) → SameLists j w.objects v.objects → TellsLines j w.objects v.objects → Stay j w v
+stay_objects j w v b rows lists marks =
     let T : Board → Type 0 = λ t. SameTies j.actor w.board.connections t.connections in
     let U : Board → Type 0 = λ t. Open (λ tune. is_master j.actor) w.board.tune t.tune in
-    record { rows = rows; lists = lists; ties = subst T (sym b) (ties_itself j.actor w.board.connections); tune = subst U (sym b) (inl refl) }
+    record { rows = rows; lists = lists; marks = marks; ties = subst T (sym b) (ties_itself j.actor w.board.connections); tune = subst U (sym b) (inl refl) }
 
 pub differs_row : (j : Judge) (x : Dbref) (o p : Option Object) → Row (Changed j x) o p → Differs j x o p
 differs_row j x None None r = r
@@ -71,11 +72,11 @@ differs_row j x None (Some p) r = absurd r
 differs_row j x (Some o) None r = absurd r
 differs_row j x (Some o) (Some p) r = r
 
-pub end_objects : (j : Judge) (w v : Live) → v.board ≡ w.board → ((n : ℕ) → Differs j (dbref_of n) (object_at (dbref_of n) w.objects) (object_at (dbref_of n) v.objects)) → SameLists j w.objects v.objects → End j w v
-end_objects j w v b rows lists =
+pub end_objects : (j : Judge) (w v : Live) → v.board ≡ w.board → ((n : ℕ) → Differs j (dbref_of n) (object_at (dbref_of n) w.objects) (object_at (dbref_of n) v.objects)) → SameLists j w.objects v.objects → SameMarks j w.objects v.objects → End j w v
+end_objects j w v b rows lists marks =
     let T : Board → Type 0 = λ t. SameTies j.actor w.board.connections t.connections in
     let U : Board → Type 0 = λ t. Open (λ tune. is_master j.actor) w.board.tune t.tune in
-    record { rows = rows; lists = lists; ties = subst T (sym b) (ties_itself j.actor w.board.connections); tune = subst U (sym b) (inl refl) }
+    record { rows = rows; lists = lists; marks = marks; ties = subst T (sym b) (ties_itself j.actor w.board.connections); tune = subst U (sym b) (inl refl) }
 
 -- the lists of all are as they were
 lists_number : (j : Judge) (g : ℕ → List Entry → List Entry) (es : List Entry) → ((m : ℕ) (v : Bool) (k : ℕ) → list_in v (g m es) k ≡ list_in v es k) → (q : Option ℕ) → SameLists j es (option_map_or (λ m. g m es) q es)
@@ -88,11 +89,17 @@ lists_set j x f es = lists_number j (set_at f) es (λ m v k. list_changed v m k 
 lists_lined : (j : Judge) (x : Dbref) (lines : List (List ℕ)) (es : List Entry) → SameLists j es (at_number (lines_set lines) x es)
 lists_lined j x lines es = lists_number j (lines_set lines) es (λ m v k. list_change v m k (with_lines lines) es (λ e. refl)) (number_in es x)
 
+-- and what is to be told of them
+marks_set : (n : ℕ) (f : Object → Object) (es : List Entry) (q : Option ℕ) → mark_in (option_map_or (λ m. set_at f m es) q es) n ≡ mark_in es n
+marks_set n f es None = refl
+marks_set n f es (Some m) = mark_changed m n f es
+
 stay_found : (j : Judge) (x : Dbref) (f : Object → Object) → ((o : Object) → (f o).kind ≡ o.kind) → ((o : Object) → Kept j x o (f o)) → (w : Live) → Stay j w (set_object f x w)
-stay_found j x f kinds h w = stay_objects j w (set_object f x w) refl (rows_found (Kept j) (kept_same j) x f kinds h w.objects) (lists_set j x f w.objects)
+stay_found j x f kinds h w = stay_objects j w (set_object f x w) refl (rows_found (Kept j) (kept_same j) x f kinds h w.objects) (lists_set j x f w.objects) (λ n. inl (marks_set n f w.objects (number_in w.objects x)))
 
 pub end_found : (j : Judge) (x : Dbref) (f : Object → Object) → ((o : Object) → (f o).kind ≡ o.kind) → ((o : Object) → Changed j x o (f o)) → (w : Live) → End j w (set_object f x w)
 end_found j x f kinds h w = end_objects j w (set_object f x w) refl (λ n. differs_row j (dbref_of n) _ _ (rows_found (Changed j) (changed_same j) x f kinds h w.objects n)) (lists_set j x f w.objects)
+    (λ n. mark_open j (dbref_of n) _ _ (object_at (dbref_of n) (set_object f x w).objects) (inl (marks_set n f w.objects (number_in w.objects x))))
 
 -- Names.
 
@@ -102,7 +109,7 @@ kept_name j x name o h = record {
   same = refl;
 }
 
-pub stays_named : (a : Actor) (free : Dbref → Bool) (x : Dbref) (name : List ℕ) → Stays a free (Some (Rename x)) (named x name)
+pub stays_named : (a : Actor) (free : Freedom) (x : Dbref) (name : List ℕ) → Stays a free (Some (Rename x)) (named x name)
 unfolding named
 stays_named a free x name = stays_by _ (λ start w s g. let j = judge a free start in stay_found j x (with_name name) (λ o. refl) (λ o. kept_name j x name o (rename_allowed a free start w.objects x s g)) w)
 
@@ -114,7 +121,7 @@ kept_link j x to o h = record {
   same = refl;
 }
 
-pub stays_linked : (a : Actor) (free : Dbref → Bool) (x to : Dbref) → Stays a free (Some (Link x to)) (linked x to)
+pub stays_linked : (a : Actor) (free : Freedom) (x to : Dbref) → Stays a free (Some (Link x to)) (linked x to)
 unfolding linked
 stays_linked a free x to = stays_by _ (λ start w s g. let j = judge a free start in stay_found j x (with_link to) (λ o. refl) (λ o. kept_link j x to o (link_allowed a free start w.objects x to s g)) w)
 
@@ -162,17 +169,17 @@ stay_unstored : (j : Judge) (x : Dbref) (path : List (List ℕ)) → property_op
 unfolding unstored
 stay_unstored j x path h = stay_found j x (without_prop path) (λ o. refl) (λ o. kept_props j x _ o (removed_open j x path o.props h))
 
-pub stays_stored : (a : Actor) (free : Dbref → Bool) (x : Dbref) (path : List (List ℕ)) (value : PropValue) → Stays a free (Some (Write x path)) (stored x path value)
+pub stays_stored : (a : Actor) (free : Freedom) (x : Dbref) (path : List (List ℕ)) (value : PropValue) → Stays a free (Some (Write x path)) (stored x path value)
 stays_stored a free x path value = stays_by _ (λ start w s g. stay_stored (judge a free start) x path value (write_allowed a free start w.objects x path s g) w)
 
-pub stays_unstored : (a : Actor) (free : Dbref → Bool) (x : Dbref) (path : List (List ℕ)) → Stays a free (Some (Write x path)) (unstored x path)
+pub stays_unstored : (a : Actor) (free : Freedom) (x : Dbref) (path : List (List ℕ)) → Stays a free (Some (Write x path)) (unstored x path)
 stays_unstored a free x path = stays_by _ (λ start w s g. stay_unstored (judge a free start) x path (write_allowed a free start w.objects x path s g) w)
 
 -- a message or a lock, whose path is guarded
-pub stays_set : (a : Actor) (free : Dbref → Bool) (x : Dbref) (path : List (List ℕ)) (value : PropValue) → is_guarded (class_of path) ≡ true → Stays a free (Some (Change x)) (stored x path value)
+pub stays_set : (a : Actor) (free : Freedom) (x : Dbref) (path : List (List ℕ)) (value : PropValue) → is_guarded (class_of path) ≡ true → Stays a free (Some (Change x)) (stored x path value)
 stays_set a free x path value h = stays_by _ (λ start w s g. stay_stored (judge a free start) x path value (change_allowed a free start w.objects x path h s g) w)
 
-pub stays_unset : (a : Actor) (free : Dbref → Bool) (x : Dbref) (path : List (List ℕ)) → is_guarded (class_of path) ≡ true → Stays a free (Some (Change x)) (unstored x path)
+pub stays_unset : (a : Actor) (free : Freedom) (x : Dbref) (path : List (List ℕ)) → is_guarded (class_of path) ≡ true → Stays a free (Some (Change x)) (unstored x path)
 stays_unset a free x path h = stays_by _ (λ start w s g. stay_unstored (judge a free start) x path (change_allowed a free start w.objects x path h s g) w)
 
 -- Sources.
@@ -183,11 +190,21 @@ kept_lines j x lines o h = record {
   same = refl;
 }
 
-pub stays_lines : (a : Actor) (free : Dbref → Bool) (x : Dbref) (lines : List (List ℕ)) → Stays a free (Some (Edit x)) (lines_kept x lines)
+marks_lined : (j : Judge) (x : Dbref) (lines : List (List ℕ)) (es : List Entry) → lines_open j x ≡ true → (n : ℕ) (q : Option ℕ) → number_in es x ≡ q →
+    Open (λ mark. lines_open j (dbref_of n)) (mark_in es n) (mark_in (option_map_or (λ m. lines_set lines m es) q es) n)
+marks_lined j x lines es h n None e = inl refl
+marks_lined j x lines es h n (Some m) e = elim (cases_eq n m) [
+  | inl k ↦ inr (ap (λ i. lines_open j (dbref_of i)) k ∙ ap (lines_open j) (sym (number_is es x m e)) ∙ h)
+  | inr k ↦ inl (mark_elsewhere m n (with_lines lines) es k)
+]
+
+pub stays_lines : (a : Actor) (free : Freedom) (x : Dbref) (lines : List (List ℕ)) → free.edits x ≡ true → Stays a free (Some (Edit x)) (lines_kept x lines)
 unfolding lines_kept
-stays_lines a free x lines = stays_by _ (λ start w s g.
+stays_lines a free x lines h = stays_by _ (λ start w s g.
     let j = judge a free start in
-    stay_objects j w (lines_kept x lines w) refl (rows_lined (Kept j) (kept_same j) x lines (λ o. kept_lines j x lines o (edit_allowed a free start w.objects x s g)) w.objects) (lists_lined j x lines w.objects))
+    let may : lines_open j x ≡ true = edit_allowed a free start w.objects x h s g in
+    stay_objects j w (lines_kept x lines w) refl (rows_lined (Kept j) (kept_same j) x lines (λ o. kept_lines j x lines o may) w.objects)
+    (lists_lined j x lines w.objects) (λ n. marks_lined j x lines w.objects may n (number_in w.objects x) refl))
 
 -- Passwords.
 
@@ -197,7 +214,7 @@ kept_digest j x salt word o h = record {
   same = refl;
 }
 
-pub stays_password : (a : Actor) (free : Dbref → Bool) (x : Dbref) (salt : ℕ) (word : List ℕ) → Stays a free (Some (Password x)) (password_kept x salt word)
+pub stays_password : (a : Actor) (free : Freedom) (x : Dbref) (salt : ℕ) (word : List ℕ) → Stays a free (Some (Password x)) (password_kept x salt word)
 unfolding password_kept
 stays_password a free x salt word = stays_by _ (λ start w s g. let j = judge a free start in stay_found j x (with_password salt word) (λ o. refl) (λ o. kept_digest j x salt word o (password_allowed w.objects a x g)) w)
 
@@ -206,7 +223,7 @@ stays_password a free x salt word = stays_by _ (λ start w s g. let j = judge a 
 changed_owner : (j : Judge) (x owner : Dbref) (o : Object) → owner_open j x owner ≡ true → Changed j x o (with_owner owner o)
 changed_owner j x owner o h = record { kind = refl; name = inl refl; owner = inr h; place = inl refl; link = inl refl; home = inl refl; flags = inl refl; wizard = inl refl; level = inl refl; props = λ path. inl refl; lines = inl refl; digest = inl refl }
 
-pub ends_owned : (a : Actor) (free : Dbref → Bool) (x owner : Dbref) → Ends itself a free (Some (SetOwner x owner)) (owned_by x owner)
+pub ends_owned : (a : Actor) (free : Freedom) (x owner : Dbref) → Ends itself a free (Some (SetOwner x owner)) (owned_by x owner)
 unfolding owned_by
 ends_owned a free x owner = ends_by _ (λ start w s g. let j = judge a free start in end_found j x (with_owner owner) (λ o. refl) (λ o. changed_owner j x owner o (owner_allowed a free start w.objects x owner s g)) w)
 
@@ -215,7 +232,7 @@ ends_owned a free x owner = ends_by _ (λ start w s g. let j = judge a free star
 changed_level : (j : Judge) (x : Dbref) (level : ℕ) (o : Object) → level_open j x level ≡ true → Changed j x o (with_level level o)
 changed_level j x level o h = record { kind = refl; name = inl refl; owner = inl refl; place = inl refl; link = inl refl; home = inl refl; flags = inl refl; wizard = inl refl; level = inr h; props = λ path. inl refl; lines = inl refl; digest = inl refl }
 
-pub ends_leveled : (a : Actor) (free : Dbref → Bool) (x : Dbref) (level : ℕ) → Ends itself a free (Some (SetLevel x level)) (leveled x level)
+pub ends_leveled : (a : Actor) (free : Freedom) (x : Dbref) (level : ℕ) → Ends itself a free (Some (SetLevel x level)) (leveled x level)
 unfolding leveled
 ends_leveled a free x level = ends_by _ (λ start w s g. let j = judge a free start in end_found j x (with_level level) (λ o. refl) (λ o. changed_level j x level o (level_allowed a free start w.objects x level s g)) w)
 
@@ -231,14 +248,14 @@ wizard_open true false true old new e f g = absurd (cc)
 wizard_open true false false old new e f g = inl (g refl)
 wizard_open false m v old new e f g = absurd (cc)
 
-pub ends_flag_set : (a : Actor) (free : Dbref → Bool) (x : Dbref) (flag : Flags) → is_flag flag ≡ true → Ends itself a free (Some (SetFlag x flag)) (flag_set x flag)
+pub ends_flag_set : (a : Actor) (free : Freedom) (x : Dbref) (flag : Flags) → is_flag flag ≡ true → Ends itself a free (Some (SetFlag x flag)) (flag_set x flag)
 unfolding flag_set
 ends_flag_set a free x flag k = ends_by _ (λ start w s g.
     let j = judge a free start in
     let t = flag_allowed a free start w.objects x flag s g in
     end_found j x (λ o. with_flags (with_flag flag.0 o.flags) o) (λ o. refl) (λ o. changed_flags j x (with_flag flag.0 o.flags) o t.0 (wizard_open _ _ _ _ _ t.0 t.1 (λ v. wizard_stays_set flag o.flags k v))) w)
 
-pub ends_flag_cleared : (a : Actor) (free : Dbref → Bool) (x : Dbref) (flag : Flags) → is_flag flag ≡ true → Ends itself a free (Some (SetFlag x flag)) (flag_cleared x flag)
+pub ends_flag_cleared : (a : Actor) (free : Freedom) (x : Dbref) (flag : Flags) → is_flag flag ≡ true → Ends itself a free (Some (SetFlag x flag)) (flag_cleared x flag)
 unfolding flag_cleared
 ends_flag_cleared a free x flag k = ends_by _ (λ start w s g.
     let j = judge a free start in

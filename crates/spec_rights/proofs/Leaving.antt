@@ -14,10 +14,10 @@ use Rattle.spec_rights.specs.declared.act.Actor.{Actor}
 use Rattle.spec_rights.specs.declared.act.Act.TheVariants.{Wizard}
 use Rattle.spec_rights.specs.Verdict.{is_master}
 use Rattle.spec_rights.specs.Changing.{booted, tuned}
-use Rattle.spec_rights.specs.Licence.{Open, SameTies, leave_open}
+use Rattle.spec_rights.specs.Licence.{Freedom, Open, SameTies, leave_open}
 use Rattle.spec_rights.proofs.Lookups.{row_same}
 use Rattle.spec_rights.proofs.Listing.{lists_itself}
-use Rattle.spec_rights.proofs.Licences.{judge, kept_same, differs_kept, Stays, Whole, itself, ties_itself, stays_by, whole_by}
+use Rattle.spec_rights.proofs.Licences.{judge, marks_itself, kept_same, differs_kept, Stays, Whole, itself, ties_itself, stays_by, whole_by}
 use Rattle.spec_rights.proofs.Allowed.{wizard_allowed}
 
 own_open : (a : Actor) (c : Connection) → c.player ≡ Some a.player → leave_open a c ≡ true
@@ -32,15 +32,19 @@ ties_left a d (c ∷ cs) =
     ]
 
 -- the actor's own connection leaves
-pub whole_leave : (a : Actor) (d : ℕ) (free : List Entry → Dbref → Bool) (given : Live → Type 0) → Whole itself a (Some d) free given (leave d)
+pub whole_leave : (a : Actor) (d : ℕ) (free : List Entry → Freedom) (given : Live → Type 0) → Whole itself a (Some d) free given (leave d)
 unfolding leave leaving_one
 whole_leave a d free given = whole_by _ (λ w c h. record {
-  gone = None;
-  recycled = λ x e. absurd (cc);
-  objects = λ n. differs_kept (judge a (free w.objects) w.objects) (dbref_of n) _ _ (row_same _ (kept_same (judge a (free w.objects) w.objects) (dbref_of n)) (object_at (dbref_of n) w.objects));
-  lists = lists_itself (judge a (free w.objects) w.objects) w.objects;
-  connections = ties_left a d w.board.connections c;
-  tune = inl refl;
+  licensed = record {
+    gone = None;
+    recycled = λ x e. absurd (cc);
+    vanished = λ x e. absurd (cc);
+    objects = λ n. differs_kept (judge a (free w.objects) w.objects) (dbref_of n) _ _ (row_same _ (kept_same (judge a (free w.objects) w.objects) (dbref_of n)) (object_at (dbref_of n) w.objects));
+    lists = lists_itself (judge a (free w.objects) w.objects) w.objects;
+    connections = ties_left a d w.board.connections c;
+    tune = inl refl;
+  };
+  marks = marks_itself (judge a (free w.objects) w.objects) w.objects;
 })
 
 boot_one : (a : Actor) (b : Bool) (c : Connection) → is_master a ≡ true → Open (λ (leaving : Bool). leave_open a c) c.leaving (cond b (left c) c).leaving
@@ -59,20 +63,22 @@ ties_booted : (a : Actor) (player : Dbref) (cs : List Connection) → is_master 
 ties_booted a player [] h = tt
 ties_booted a player (c ∷ cs) h = (same_number (is_of player c) c, same_owner (is_of player c) c, boot_one a (is_of player c) c h, ties_booted a player cs h)
 
-pub stays_booted : (a : Actor) (free : Dbref → Bool) (player : Dbref) → Stays a free (Some Wizard) (booted player)
+pub stays_booted : (a : Actor) (free : Freedom) (player : Dbref) → Stays a free (Some Wizard) (booted player)
 unfolding booted
 stays_booted a free player = stays_by _ (λ start w s g. record {
   rows = λ n. row_same _ (kept_same (judge a free start) (dbref_of n)) (object_at (dbref_of n) w.objects);
   lists = lists_itself (judge a free start) w.objects;
+  marks = λ n. inl refl;
   ties = ties_booted a player w.board.connections (wizard_allowed w.objects a g);
   tune = inl refl;
 })
 
-pub stays_tuned : (a : Actor) (free : Dbref → Bool) (tune : Tune) → Stays a free (Some Wizard) (tuned tune)
+pub stays_tuned : (a : Actor) (free : Freedom) (tune : Tune) → Stays a free (Some Wizard) (tuned tune)
 unfolding tuned
 stays_tuned a free tune = stays_by _ (λ start w s g. record {
   rows = λ n. row_same _ (kept_same (judge a free start) (dbref_of n)) (object_at (dbref_of n) w.objects);
   lists = lists_itself (judge a free start) w.objects;
+  marks = λ n. inl refl;
   ties = ties_itself a w.board.connections;
   tune = inr (wizard_allowed w.objects a g);
 })

@@ -5,8 +5,9 @@ use Rattle.std.specs.FinMap.{get}
 use Rattle.std.specs.Option.{option_map, option_and_then, option_map_or}
 use Rattle.muck_model.specs.declared.dbref.Dbref.{Dbref}
 use Rattle.muck_model.specs.declared.dbref.Denial.{Denial}
+use Rattle.spec_live.specs.declared.mark.Mark.{Mark}
 use Rattle.spec_live.specs.declared.object.Object.{Object}
-use Rattle.spec_live.specs.Objects.{Entry, dbref_of, same, is_exit, object_at}
+use Rattle.spec_live.specs.Objects.{Entry, dbref_of, same, is_exit, mark_in, object_at}
 use Rattle.spec_live.specs.Connections.{Connection, has_number}
 use Rattle.spec_live.specs.Boards.{player_in}
 use Rattle.spec_live.specs.Lives.{Live, Change, followed, reading, unchanged}
@@ -14,13 +15,13 @@ use Rattle.spec_live.proofs.Keeping.{Keeps, Order, keeps_after, keeps_more, keep
 use Rattle.spec_rights.specs.declared.act.Actor.{Actor}
 use Rattle.spec_rights.specs.declared.act.Act.{Act}
 use Rattle.spec_rights.specs.Verdict.{is_master, verdict}
-use Rattle.spec_rights.specs.Licence.{Open, Judge, owned, name_open, property_open, place_open, link_open, home_open, level_open, lines_open, owner_open, Changed, Differs, SameLists, leave_open, SameTies, may_recycle, Licensed}
+use Rattle.spec_rights.specs.Licence.{Freedom, Open, Judge, owned, name_open, property_open, place_open, link_open, home_open, level_open, lines_open, owner_open, Changed, Differs, SameLists, leave_open, SameTies, may_recycle, Licensed}
 use Rattle.spec_rights.specs.Asking.{answered, asked}
 use Rattle.spec_rights.proofs.Lookups.{Row, row_same, row_both}
 use Rattle.spec_rights.proofs.Listing.{lists_itself, lists_both}
 use Rattle.spec_rights.proofs.Rights.{rights, SameRights, same_itself}
 
-abbrev pub judge : Actor → (Dbref → Bool) → List Entry → Judge
+abbrev pub judge : Actor → Freedom → List Entry → Judge
 judge a free os = record { actor = a; free = free; gone = None; objects = os }
 
 -- Differences that are open add up.
@@ -72,6 +73,35 @@ kept_same j x o = record { changed = changed_same j x o; same = refl }
 
 pub kept_both : (j : Judge) (x : Dbref) (o p q : Object) → Kept j x o p → Kept j x p q → Kept j x o q
 kept_both j x o p q r s = record { changed = changed_both j x o p q r.changed s.changed; same = r.same ∙ s.same }
+
+-- What is to be told: of an object that is there, what was, or that its source changed, where that is open.
+
+abbrev pub MarkOpen : Judge → Dbref → Option Mark → Option Mark → Option Object → Type 0
+MarkOpen j x old new None = Unit {0}
+MarkOpen j x old new (Some o) = Open (λ mark. lines_open j x) old new
+
+abbrev pub SameMarks : Judge → List Entry → List Entry → Type 0
+SameMarks j es fs = (n : ℕ) → MarkOpen j (dbref_of n) (mark_in es n) (mark_in fs n) (object_at (dbref_of n) fs)
+
+abbrev pub TellsLines : Judge → List Entry → List Entry → Type 0
+TellsLines j es fs = (n : ℕ) → Open (λ mark. lines_open j (dbref_of n)) (mark_in es n) (mark_in fs n)
+
+pub mark_open : (j : Judge) (x : Dbref) (old new : Option Mark) (q : Option Object) → Open (λ mark. lines_open j x) old new → MarkOpen j x old new q
+mark_open j x old new None m = tt
+mark_open j x old new (Some o) m = m
+
+marks_open : (j : Judge) (es fs : List Entry) → TellsLines j es fs → SameMarks j es fs
+marks_open j es fs m n = mark_open j (dbref_of n) _ _ (object_at (dbref_of n) fs) (m n)
+
+pub marks_itself : (j : Judge) (es : List Entry) → SameMarks j es es
+marks_itself j es = marks_open j es es (λ n. inl refl)
+
+marks_both : (j : Judge) (es fs gs : List Entry) → TellsLines j es fs → SameMarks j fs gs → SameMarks j es gs
+marks_both j es fs gs m k n = at (object_at (dbref_of n) gs) (k n)
+  where
+    at : (q : Option Object) → MarkOpen j (dbref_of n) (mark_in fs n) (mark_in gs n) q → MarkOpen j (dbref_of n) (mark_in es n) (mark_in gs n) q
+    at None s = tt
+    at (Some o) s = open_both (λ mark. lines_open j (dbref_of n)) _ _ _ (m n) s
 
 -- Connections.
 
@@ -148,6 +178,7 @@ quiet_unchanged = keeps_unchanged quiet_order
 pub record Stay (j : Judge) (w v : Live) : Type 0 where
   pub rows : (n : ℕ) → Row (Kept j (dbref_of n)) (object_at (dbref_of n) w.objects) (object_at (dbref_of n) v.objects)
   pub lists : SameLists j w.objects v.objects
+  pub marks : TellsLines j w.objects v.objects
   pub ties : SameTies j.actor w.board.connections v.board.connections
   pub tune : Open (λ tune. is_master j.actor) w.board.tune v.board.tune
 
@@ -155,6 +186,7 @@ pub record Stay (j : Judge) (w v : Live) : Type 0 where
 pub record End (j : Judge) (w v : Live) : Type 0 where
   pub rows : (n : ℕ) → Differs j (dbref_of n) (object_at (dbref_of n) w.objects) (object_at (dbref_of n) v.objects)
   pub lists : SameLists j w.objects v.objects
+  pub marks : SameMarks j w.objects v.objects
   pub ties : SameTies j.actor w.board.connections v.board.connections
   pub tune : Open (λ tune. is_master j.actor) w.board.tune v.board.tune
 
@@ -162,6 +194,7 @@ stay_itself : (j : Judge) (w : Live) → Stay j w w
 stay_itself j w = record {
   rows = λ n. row_same _ (kept_same j (dbref_of n)) (object_at (dbref_of n) w.objects);
   lists = lists_itself j w.objects;
+  marks = λ n. inl refl;
   ties = ties_itself j.actor w.board.connections;
   tune = inl refl;
 }
@@ -170,6 +203,7 @@ pub stay_both : (j : Judge) (u v w : Live) → Stay j u v → Stay j v w → Sta
 stay_both j u v w s t = record {
   rows = λ n. row_both _ _ _ (kept_both j (dbref_of n)) _ _ _ (s.rows n) (t.rows n);
   lists = lists_both j (λ n. Kept j (dbref_of n)) u.objects v.objects w.objects s.rows s.lists t.lists;
+  marks = λ n. open_both (λ mark. lines_open j (dbref_of n)) _ _ _ (s.marks n) (t.marks n);
   ties = ties_both j.actor _ _ _ s.ties t.ties;
   tune = open_both (λ tune. is_master j.actor) _ _ _ s.tune t.tune;
 }
@@ -179,6 +213,7 @@ pub stay_quietly : (j : Judge) (u v w : Live) → Stay j u v → Shows v w → S
 stay_quietly j u v w t q = record {
   rows = λ n. let P : List Entry → Type 0 = λ os. Row (Kept j (dbref_of n)) (object_at (dbref_of n) u.objects) (object_at (dbref_of n) os) in subst P (sym q.objects) (t.rows n);
   lists = subst (SameLists j u.objects) (sym q.objects) t.lists;
+  marks = subst (TellsLines j u.objects) (sym q.objects) t.marks;
   ties = ties_both j.actor _ _ _ t.ties (ties_same j.actor v.board.connections w.board.connections q.ties);
   tune = open_both (λ tune. is_master j.actor) _ _ _ t.tune (inl q.tune);
 }
@@ -187,6 +222,7 @@ pub end_quietly : (j : Judge) (u v w : Live) → End j u v → Shows v w → End
 end_quietly j u v w t q = record {
   rows = λ n. let P : List Entry → Type 0 = λ os. Differs j (dbref_of n) (object_at (dbref_of n) u.objects) (object_at (dbref_of n) os) in subst P (sym q.objects) (t.rows n);
   lists = subst (SameLists j u.objects) (sym q.objects) t.lists;
+  marks = subst (SameMarks j u.objects) (sym q.objects) t.marks;
   ties = ties_both j.actor _ _ _ t.ties (ties_same j.actor v.board.connections w.board.connections q.ties);
   tune = open_both (λ tune. is_master j.actor) _ _ _ t.tune (inl q.tune);
 }
@@ -207,7 +243,7 @@ differs_kept j x (Some o) None r = absurd r
 differs_kept j x (Some o) (Some p) r = r.changed
 
 -- where nothing is recycled
-pub kept_differs : (a : Actor) (free : Dbref → Bool) (os : List Entry) (x : Dbref) (o p q : Option Object) → Row (Kept (judge a free os) x) o p → Differs (judge a free os) x p q → Differs (judge a free os) x o q
+pub kept_differs : (a : Actor) (free : Freedom) (os : List Entry) (x : Dbref) (o p q : Option Object) → Row (Kept (judge a free os) x) o p → Differs (judge a free os) x p q → Differs (judge a free os) x o q
 kept_differs a free os x None None q r s = s
 kept_differs a free os x None (Some p) q r s = absurd r
 kept_differs a free os x (Some o) None q r s = absurd r
@@ -225,17 +261,17 @@ Given None os a = Unit {0}
 Given (Some act) os a = verdict os a act ≡ None
 
 -- keeps to the licence, and changes no right
-pub record Stayed (a : Actor) (free : Dbref → Bool) (given : Option Act) (w v : Live) : Type 0 where
+pub record Stayed (a : Actor) (free : Freedom) (given : Option Act) (w v : Live) : Type 0 where
   pub law : (start : List Entry) → SameRights start w.objects → Given given w.objects a → Stay (judge a free start) w v
 
-abbrev pub Stays : Actor → (Dbref → Bool) → Option Act → Change → Type 0
+abbrev pub Stays : Actor → Freedom → Option Act → Change → Type 0
 Stays a free given f = Keeps (Stayed a free given) f
 
 -- keeps to the licence; out is the world of what it answers
-pub record Ended {Y : Type 0} (out : Y → Live) (a : Actor) (free : Dbref → Bool) (given : Option Act) (w : Live) (y : Y) : Type 0 where
+pub record Ended {Y : Type 0} (out : Y → Live) (a : Actor) (free : Freedom) (given : Option Act) (w : Live) (y : Y) : Type 0 where
   pub law : (start : List Entry) → SameRights start w.objects → Given given w.objects a → End (judge a free start) w (out y)
 
-abbrev pub Ends : {Y : Type 0} → (Y → Live) → Actor → (Dbref → Bool) → Option Act → (Live → Y) → Type 0
+abbrev pub Ends : {Y : Type 0} → (Y → Live) → Actor → Freedom → Option Act → (Live → Y) → Type 0
 Ends out a free given f = Keeps (Ended out a free given) f
 
 -- the connection, where there is one, is the actor's own
@@ -243,12 +279,17 @@ abbrev pub Own : Option ℕ → Live → Actor → Type 0
 Own None w a = Unit {0}
 Own (Some d) w a = player_in d w.board ≡ Some a.player
 
+-- it is licensed, and so is what is to be told
+pub record Proper (a : Actor) (free : Freedom) (w v : Live) : Type 0 where
+  pub licensed : Licensed a free w v
+  pub marks : SameMarks (judge a free w.objects) w.objects v.objects
+
 -- keeps to the licence from a world of which something is given, at a connection of the actor's or none; what is free
 -- is judged there
-pub record Wholly {Y : Type 0} (out : Y → Live) (a : Actor) (own : Option ℕ) (free : List Entry → Dbref → Bool) (given : Live → Type 0) (w : Live) (y : Y) : Type 0 where
-  pub law : Own own w a → given w → Licensed a (free w.objects) w (out y)
+pub record Wholly {Y : Type 0} (out : Y → Live) (a : Actor) (own : Option ℕ) (free : List Entry → Freedom) (given : Live → Type 0) (w : Live) (y : Y) : Type 0 where
+  pub law : Own own w a → given w → Proper a (free w.objects) w (out y)
 
-abbrev pub Whole : {Y : Type 0} → (Y → Live) → Actor → Option ℕ → (List Entry → Dbref → Bool) → (Live → Type 0) → (Live → Y) → Type 0
+abbrev pub Whole : {Y : Type 0} → (Y → Live) → Actor → Option ℕ → (List Entry → Freedom) → (Live → Type 0) → (Live → Y) → Type 0
 Whole out a own free given f = Keeps (Wholly out a own free given) f
 
 abbrev pub Always : Live → Type 0
@@ -275,45 +316,45 @@ keeps_asked a act refuse go p q = keeps_judged a act refuse go (λ w denial. (p 
 
 -- Each by its law.
 
-pub stays_by : {a : Actor} {free : Dbref → Bool} {given : Option Act} (f : Change) → ((start : List Entry) (w : Live) → SameRights start w.objects → Given given w.objects a → Stay (judge a free start) w (f w)) → Stays a free given f
+pub stays_by : {a : Actor} {free : Freedom} {given : Option Act} (f : Change) → ((start : List Entry) (w : Live) → SameRights start w.objects → Given given w.objects a → Stay (judge a free start) w (f w)) → Stays a free given f
 stays_by f p = record { law = λ w. record { law = λ start s g. p start w s g } }
 
-pub ends_by : {Y : Type 0} {out : Y → Live} {a : Actor} {free : Dbref → Bool} {given : Option Act} (f : Live → Y) → ((start : List Entry) (w : Live) → SameRights start w.objects → Given given w.objects a → End (judge a free start) w (out (f w))) → Ends out a free given f
+pub ends_by : {Y : Type 0} {out : Y → Live} {a : Actor} {free : Freedom} {given : Option Act} (f : Live → Y) → ((start : List Entry) (w : Live) → SameRights start w.objects → Given given w.objects a → End (judge a free start) w (out (f w))) → Ends out a free given f
 ends_by f p = record { law = λ w. record { law = λ start s g. p start w s g } }
 
-pub whole_by : {Y : Type 0} {out : Y → Live} {a : Actor} {own : Option ℕ} {free : List Entry → Dbref → Bool} {given : Live → Type 0} (f : Live → Y) → ((w : Live) → Own own w a → given w → Licensed a (free w.objects) w (out (f w))) → Whole out a own free given f
+pub whole_by : {Y : Type 0} {out : Y → Live} {a : Actor} {own : Option ℕ} {free : List Entry → Freedom} {given : Live → Type 0} (f : Live → Y) → ((w : Live) → Own own w a → given w → Proper a (free w.objects) w (out (f w))) → Whole out a own free given f
 whole_by f p = record { law = λ w. record { law = λ c h. p w c h } }
 
 -- Changes no right.
 
-pub stays_quiet : (a : Actor) (free : Dbref → Bool) (given : Option Act) (f : Change) → Quiet f → Stays a free given f
+pub stays_quiet : (a : Actor) (free : Freedom) (given : Option Act) (f : Change) → Quiet f → Stays a free given f
 stays_quiet a free given f q = keeps_more f (λ w v s. record { law = λ start r h. stay_quietly (judge a free start) w w v (stay_itself (judge a free start) w) s }) q
 
-pub stays_followed : (a : Actor) (free : Dbref → Bool) (given : Option Act) (f g : Change) → Stays a free given f → Stays a free None g → Stays a free given (followed f g)
+pub stays_followed : (a : Actor) (free : Freedom) (given : Option Act) (f g : Change) → Stays a free given f → Stays a free None g → Stays a free given (followed f g)
 stays_followed a free given f g p q = keeps_after f g (λ w v u s t. record {
   law = λ start r h. let first = s.law start r h in stay_both _ _ _ _ first (t.law start (stay_rights _ start w v r first) tt);
 }) p q
 
 -- what was given before an act is asked is forgotten
-pub stays_asked : (a : Actor) (free : Dbref → Bool) (given : Option Act) (act : Act) (refuse : Denial → Change) (go : Change) →
+pub stays_asked : (a : Actor) (free : Freedom) (given : Option Act) (act : Act) (refuse : Denial → Change) (go : Change) →
     ((d : Denial) → Stays a free None (refuse d)) → Stays a free (Some act) go → Stays a free given (asked a act refuse go)
 stays_asked a free given act refuse go p q =
     keeps_judged a act refuse go (λ w d. record { law = λ start s h. ((p d).law w).law start s tt }) (λ w e. record { law = λ start s h. (q.law w).law start s e })
 
-pub stays_freely : (a : Actor) (free : Dbref → Bool) (given : Option Act) (f : Change) → Stays a free None f → Stays a free given f
+pub stays_freely : (a : Actor) (free : Freedom) (given : Option Act) (f : Change) → Stays a free None f → Stays a free given f
 stays_freely a free given f p = keeps_more f (λ w v s. record { law = λ start r h. s.law start r tt }) p
 
 -- Keeps to the licence.
 
-pub ends_stays : (a : Actor) (free : Dbref → Bool) (given : Option Act) (f : Change) → Stays a free given f → Ends itself a free given f
+pub ends_stays : (a : Actor) (free : Freedom) (given : Option Act) (f : Change) → Stays a free given f → Ends itself a free given f
 ends_stays a free given f p = keeps_more f (λ w v s. record {
-  law = λ start r h. let t = s.law start r h in record { rows = λ n. differs_kept _ (dbref_of n) _ _ (t.rows n); lists = t.lists; ties = t.ties; tune = t.tune };
+  law = λ start r h. let t = s.law start r h in record { rows = λ n. differs_kept _ (dbref_of n) _ _ (t.rows n); lists = t.lists; marks = marks_open (judge a free start) w.objects v.objects t.marks; ties = t.ties; tune = t.tune };
 }) p
 
-pub ends_quiet : (a : Actor) (free : Dbref → Bool) (given : Option Act) (f : Change) → Quiet f → Ends itself a free given f
+pub ends_quiet : (a : Actor) (free : Freedom) (given : Option Act) (f : Change) → Quiet f → Ends itself a free given f
 ends_quiet a free given f q = ends_stays a free given f (stays_quiet a free given f q)
 
-pub ends_followed : {Y : Type 0} (out : Y → Live) (a : Actor) (free : Dbref → Bool) (given : Option Act) (f : Change) (g : Live → Y) → Stays a free given f → Ends out a free None g → Ends out a free given (followed f g)
+pub ends_followed : {Y : Type 0} (out : Y → Live) (a : Actor) (free : Freedom) (given : Option Act) (f : Change) (g : Live → Y) → Stays a free given f → Ends out a free None g → Ends out a free given (followed f g)
 ends_followed out a free given f g p q = keeps_after f g (λ w v y s t. record {
   law = λ start r h.
       let first = s.law start r h in
@@ -321,15 +362,16 @@ ends_followed out a free given f g p q = keeps_after f g (λ w v y s t. record {
       record {
         rows = λ n. kept_differs a free start (dbref_of n) _ _ _ (first.rows n) (next.rows n);
         lists = lists_both (judge a free start) (λ n. Kept (judge a free start) (dbref_of n)) _ _ _ first.rows first.lists next.lists;
+        marks = marks_both (judge a free start) _ _ _ first.marks next.marks;
         ties = ties_both a _ _ _ first.ties next.ties;
         tune = open_both (λ tune. is_master a) _ _ _ first.tune next.tune;
       };
 }) p q
 
-pub ends_quietly : (a : Actor) (free : Dbref → Bool) (given : Option Act) (f g : Change) → Ends itself a free given f → Quiet g → Ends itself a free given (followed f g)
+pub ends_quietly : (a : Actor) (free : Freedom) (given : Option Act) (f g : Change) → Ends itself a free given f → Quiet g → Ends itself a free given (followed f g)
 ends_quietly a free given f g p q = keeps_after f g (λ w v u s t. record { law = λ start r h. end_quietly (judge a free start) w v u (s.law start r h) t }) p q
 
-pub ends_asked : {Y : Type 0} (out : Y → Live) (a : Actor) (free : Dbref → Bool) (given : Option Act) (act : Act) (refuse : Denial → Live → Y) (go : Live → Y) →
+pub ends_asked : {Y : Type 0} (out : Y → Live) (a : Actor) (free : Freedom) (given : Option Act) (act : Act) (refuse : Denial → Live → Y) (go : Live → Y) →
     ((d : Denial) → Ends out a free None (refuse d)) → Ends out a free (Some act) go → Ends out a free given (asked a act refuse go)
 ends_asked out a free given act refuse go p q =
     keeps_judged a act refuse go (λ w d. record { law = λ start s h. ((p d).law w).law start s tt }) (λ w e. record { law = λ start s h. (q.law w).law start s e })
@@ -340,59 +382,70 @@ own_kept : (own : Option ℕ) (w v : Live) (a : Actor) → ties v.board.connecti
 own_kept None w v a e c = tt
 own_kept (Some d) w v a e c = player_kept d w.board.connections v.board.connections e ∙ c
 
-pub whole_ends : {Y : Type 0} (out : Y → Live) (a : Actor) (own : Option ℕ) (free : List Entry → Dbref → Bool) (given : Live → Type 0) (f : Live → Y) → ((w : Live) → given w → Ends out a (free w.objects) None f) → Whole out a own free given f
+pub whole_ends : {Y : Type 0} (out : Y → Live) (a : Actor) (own : Option ℕ) (free : List Entry → Freedom) (given : Live → Type 0) (f : Live → Y) → ((w : Live) → given w → Ends out a (free w.objects) None f) → Whole out a own free given f
 whole_ends out a own free given f p = whole_by f (λ w c h.
     let t = ((p w h).law w).law w.objects (same_itself w.objects) tt in
-    record { gone = None; recycled = λ x e. absurd (cc); objects = t.rows; lists = t.lists; connections = t.ties; tune = t.tune })
+    record { licensed = record { gone = None; recycled = λ x e. absurd (cc); vanished = λ x e. absurd (cc); objects = t.rows; lists = t.lists; connections = t.ties; tune = t.tune }; marks = t.marks })
 
-pub whole_quiet : (a : Actor) (own : Option ℕ) (free : List Entry → Dbref → Bool) (given : Live → Type 0) (f : Change) → Quiet f → Whole itself a own free given f
+pub whole_quiet : (a : Actor) (own : Option ℕ) (free : List Entry → Freedom) (given : Live → Type 0) (f : Change) → Quiet f → Whole itself a own free given f
 whole_quiet a own free given f q = whole_ends itself a own free given f (λ w h. ends_quiet a (free w.objects) None f q)
 
 -- what only shows comes first, after which nothing is given
-pub whole_followed : {Y : Type 0} (out : Y → Live) (a : Actor) (own : Option ℕ) (free : List Entry → Dbref → Bool) (given : Live → Type 0) (f : Change) (g : Live → Y) → Quiet f → Whole out a own free Always g → Whole out a own free given (followed f g)
+pub whole_followed : {Y : Type 0} (out : Y → Live) (a : Actor) (own : Option ℕ) (free : List Entry → Freedom) (given : Live → Type 0) (f : Change) (g : Live → Y) → Quiet f → Whole out a own free Always g → Whole out a own free given (followed f g)
 whole_followed out a own free given f g q p = keeps_after f g (λ w v y s t. record { law = λ c h. after w v (out y) s (t.law (own_kept own w v a s.ties c) tt) }) q p
   where
-    after : (w v u : Live) → Shows w v → Licensed a (free v.objects) v u → Licensed a (free w.objects) w u
-    after w v u s l =
+    after : (w v u : Live) → Shows w v → Proper a (free v.objects) v u → Proper a (free w.objects) w u
+    after w v u s p =
+        let l = p.licensed in
         let O : List Entry → Type 0 = λ os. (n : ℕ) → Differs (record { actor = a; free = free os; gone = l.gone; objects = os }) (dbref_of n) (object_at (dbref_of n) os) (object_at (dbref_of n) u.objects) in
         let R : List Entry → Type 0 = λ os. (x : Dbref) → l.gone ≡ Some x → may_recycle os a x ≡ true in
         let L : List Entry → Type 0 = λ os. SameLists (record { actor = a; free = free os; gone = l.gone; objects = os }) os u.objects in
+        let M : List Entry → Type 0 = λ os. SameMarks (judge a (free os) os) os u.objects in
         record {
-          gone = l.gone;
-          recycled = subst R s.objects l.recycled;
-          objects = subst O s.objects l.objects;
-          lists = subst L s.objects l.lists;
-          connections = ties_both a _ _ _ (ties_same a w.board.connections v.board.connections s.ties) l.connections;
-          tune = open_both (λ tune. is_master a) _ _ _ (inl s.tune) l.tune;
+          licensed = record {
+            gone = l.gone;
+            recycled = subst R s.objects l.recycled;
+            vanished = l.vanished;
+            objects = subst O s.objects l.objects;
+            lists = subst L s.objects l.lists;
+            connections = ties_both a _ _ _ (ties_same a w.board.connections v.board.connections s.ties) l.connections;
+            tune = open_both (λ tune. is_master a) _ _ _ (inl s.tune) l.tune;
+          };
+          marks = subst M s.objects p.marks;
         }
 
 -- and what only shows may come last
-pub whole_quietly : (a : Actor) (own : Option ℕ) (free : List Entry → Dbref → Bool) (given : Live → Type 0) (f g : Change) → Whole itself a own free given f → Quiet g → Whole itself a own free given (followed f g)
+pub whole_quietly : (a : Actor) (own : Option ℕ) (free : List Entry → Freedom) (given : Live → Type 0) (f g : Change) → Whole itself a own free given f → Quiet g → Whole itself a own free given (followed f g)
 whole_quietly a own free given f g p q = keeps_after f g (λ w v u s t. record {
   law = λ c h.
-      let l = s.law c h in
+      let p = s.law c h in
+      let l = p.licensed in
       let j : Judge = record { actor = a; free = free w.objects; gone = l.gone; objects = w.objects } in
       let O : List Entry → Type 0 = λ os. (n : ℕ) → Differs j (dbref_of n) (object_at (dbref_of n) w.objects) (object_at (dbref_of n) os) in
       record {
-        gone = l.gone;
-        recycled = l.recycled;
-        objects = subst O (sym t.objects) l.objects;
-        lists = subst (SameLists j w.objects) (sym t.objects) l.lists;
-        connections = ties_both a _ _ _ l.connections (ties_same a v.board.connections u.board.connections t.ties);
-        tune = open_both (λ tune. is_master a) _ _ _ l.tune (inl t.tune);
+        licensed = record {
+          gone = l.gone;
+          recycled = l.recycled;
+          vanished = λ x e. ap (object_at x) t.objects ∙ l.vanished x e;
+          objects = subst O (sym t.objects) l.objects;
+          lists = subst (SameLists j w.objects) (sym t.objects) l.lists;
+          connections = ties_both a _ _ _ l.connections (ties_same a v.board.connections u.board.connections t.ties);
+          tune = open_both (λ tune. is_master a) _ _ _ l.tune (inl t.tune);
+        };
+        marks = subst (SameMarks (judge a (free w.objects) w.objects) w.objects) (sym t.objects) p.marks;
       };
 }) p q
 
 -- with what was read
-pub whole_told : {X Y : Type 0} (out : Y → Live) (a : Actor) (own : Option ℕ) (free : List Entry → Dbref → Bool) (given : Live → Type 0) (get : Live → X) (go : X → Live → Y) →
+pub whole_told : {X Y : Type 0} (out : Y → Live) (a : Actor) (own : Option ℕ) (free : List Entry → Freedom) (given : Live → Type 0) (get : Live → X) (go : X → Live → Y) →
     ((x : X) → Whole out a own free (λ w. given w × (get w ≡ x)) (go x)) → Whole out a own free given (reading get go)
 whole_told out a own free given get go p = keeps_told get go (λ x w y e s. record { law = λ c h. s.law c (h, e) }) p
 
-pub whole_asked : {Y : Type 0} (out : Y → Live) (a : Actor) (own : Option ℕ) (free : List Entry → Dbref → Bool) (given : Live → Type 0) (act : Act) (refuse : Denial → Live → Y) (go : Live → Y) →
+pub whole_asked : {Y : Type 0} (out : Y → Live) (a : Actor) (own : Option ℕ) (free : List Entry → Freedom) (given : Live → Type 0) (act : Act) (refuse : Denial → Live → Y) (go : Live → Y) →
     ((denial : Denial) → Whole out a own free Always (refuse denial)) → Whole out a own free (λ w. given w × (verdict w.objects a act ≡ None)) go → Whole out a own free given (asked a act refuse go)
 whole_asked out a own free given act refuse go p q =
     keeps_judged a act refuse go (λ w denial. record { law = λ c h. ((p denial).law w).law c tt }) (λ w e. record { law = λ c h. (q.law w).law c (h, e) })
 
 -- The law itself.
-pub licensed : {Y : Type 0} (out : Y → Live) (a : Actor) (own : Option ℕ) (free : List Entry → Dbref → Bool) (f : Live → Y) → Whole out a own free Always f → (w : Live) → Own own w a → Licensed a (free w.objects) w (out (f w))
-licensed out a own free f p w c = (p.law w).law c tt
+pub licensed : {Y : Type 0} (out : Y → Live) (a : Actor) (own : Option ℕ) (free : List Entry → Freedom) (f : Live → Y) → Whole out a own free Always f → (w : Live) → Own own w a → Licensed a (free w.objects) w (out (f w))
+licensed out a own free f p w c = ((p.law w).law c tt).licensed

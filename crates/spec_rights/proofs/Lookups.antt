@@ -90,10 +90,3 @@ rows_changed R same m f kinds h es fs here there n = row_at (R (dbref_of n)) es 
       subst P (sym e) (subst Q (sym here) (kept_alive (R (dbref_of m)) f kinds h (object_in es m)))
   | inr e ↦ same_alive (R (dbref_of n)) (same (dbref_of n)) (object_in es n) (object_in fs n) (there n e)
 ])
-
--- where all objects are changed
-pub rows_all : (R : Dbref → Object → Object → Type 0) (f : Object → Object) → ((o : Object) → (f o).kind ≡ o.kind) → (n : ℕ) → ((o : Object) → R (dbref_of n) o (f o)) →
-    (es fs : List Entry) → object_in fs n ≡ option_map f (object_in es n) → Row (R (dbref_of n)) (object_at (dbref_of n) es) (object_at (dbref_of n) fs)
-rows_all R f kinds n h es fs e =
-    let Q : Option Object → Type 0 = λ t. Row (R (dbref_of n)) (option_and_then alive (object_in es n)) (option_and_then alive t) in
-    row_at (R (dbref_of n)) es fs n (subst Q (sym e) (kept_alive (R (dbref_of n)) f kinds h (object_in es n)))

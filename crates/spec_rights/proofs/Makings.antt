@@ -7,29 +7,29 @@ use Rattle.std.proofs.lemmas.Bool.{cases_eq, or_right}
 use Rattle.std.proofs.lemmas.Bool.Decides.{nat_tests}
 use Rattle.muck_model.specs.declared.dbref.Dbref.{Dbref}
 use Rattle.muck_model.specs.declared.dbref.Kind.{Kind}
-use Rattle.muck_model.specs.declared.dbref.Kind.TheVariants.{Room, Thing, Exit, Player, Program}
+use Rattle.muck_model.specs.declared.dbref.Kind.TheVariants.{Room, Thing, Exit, Program}
 use Rattle.spec_live.specs.declared.object.Object.{Object}
 use Rattle.spec_live.specs.Flags.{builder, jump, link}
-use Rattle.spec_live.specs.Objects.{Entry, dbref_of, nothing, home, same, is_garbage, object_in, list_in, number_in, object_at, changed_at, with_object, garbage}
+use Rattle.spec_live.specs.Objects.{Entry, dbref_of, nothing, home, same, is_garbage, object_in, list_in, mark_in, number_in, object_at, changed_at, with_object, garbage}
 use Rattle.spec_live.specs.Moving.{moved, with_place}
 use Rattle.spec_live.specs.Making.{free_in, blank_entry, grown, new_object, created, may_make, make_judged, objects_most, owner_judged, create_check}
 use Rattle.spec_live.specs.declared.fault.DbFault.TheVariants.{NoSuchObject, WrongKind, WorldFull}
-use Rattle.spec_live.specs.Setting.{set_at, with_home, with_link, with_level, with_password}
+use Rattle.spec_live.specs.Setting.{set_at, with_home, with_link, with_level}
 use Rattle.spec_live.specs.Lives.{Live}
 use Rattle.spec_live.proofs.Lists.{get_changed_same, read_more}
-use Rattle.spec_live.proofs.Readers.{object_changed, object_unchanged, object_elsewhere, object_moved, object_unmoved, list_changed, list_named}
+use Rattle.spec_live.proofs.Readers.{object_changed, object_unchanged, object_elsewhere, object_moved, object_unmoved, list_changed, list_named, mark_changed, mark_named, mark_moved}
 use Rattle.spec_live.proofs.CreationLaws.{list_more}
 use Rattle.spec_rights.specs.declared.act.Actor.{Actor}
-use Rattle.spec_rights.specs.declared.act.Act.TheVariants.{NewRoom, NewThing, NewExit, NewProgram, Wizard}
+use Rattle.spec_rights.specs.declared.act.Act.TheVariants.{NewRoom, NewThing, NewExit, NewProgram}
 use Rattle.spec_rights.specs.Levels.{level_at, flag_at}
-use Rattle.spec_rights.specs.Verdict.{verdict, is_master, controls, controls_or}
+use Rattle.spec_rights.specs.Verdict.{verdict, controls, controls_or}
 use Rattle.spec_rights.specs.Changing.{created_so}
-use Rattle.spec_rights.specs.Licence.{Judge, IsNew, Differs, Reordered, as_before, front_open, SameLists, place_open}
+use Rattle.spec_rights.specs.Licence.{Freedom, Judge, IsNew, Differs, Reordered, as_before, front_open, SameLists, place_open}
 use Rattle.spec_rights.proofs.Lookups.{alive, seen_at, number_is}
 use Rattle.spec_rights.proofs.Listing.{reordered_moved}
 use Rattle.spec_rights.proofs.Rights.{SameRights, same_level}
-use Rattle.spec_rights.proofs.Licences.{judge, changed_same, End}
-use Rattle.spec_rights.proofs.Allowed.{room_allowed, thing_allowed, exit_allowed, program_allowed, wizard_allowed}
+use Rattle.spec_rights.proofs.Licences.{judge, changed_same, mark_open, End}
+use Rattle.spec_rights.proofs.Allowed.{room_allowed, thing_allowed, exit_allowed, program_allowed}
 use Rattle.spec_rights.proofs.Changes.{end_objects}
 
 -- Nothing is there at the free number.
@@ -136,6 +136,22 @@ lists_made j kind name owner finished to es v i =
     let before : Q (list_in v one i) = subst Q (sym (list_named v k i (new_object k kind name owner) g ∙ list_grown v k i es)) as_before in
     subst Q (sym (list_changed v k i finished (moved k to one))) (reordered_moved may (list_in v es i) v k to i one (λ e. or_right (place_open j (dbref_of k) (dbref_of i)) _ nobody) before)
 
+mark_grown : (k i : ℕ) (es : List Entry) → mark_in (grown k es) i ≡ mark_in es i
+unfolding grown mark_in blank_entry
+mark_grown k i es = at (k == length es)
+  where
+    at : (b : Bool) → option_and_then (λ (e : Entry). e.mark) (slice_get (cond b (es ++ blank_entry ∷ []) es) i) ≡ option_and_then (λ (e : Entry). e.mark) (slice_get es i)
+    at true = read_more (λ (o : Option Entry). option_and_then (λ (e : Entry). e.mark) o) es blank_entry i refl
+    at false = refl
+
+mark_made : (m : ℕ) (kind : Kind) (name : List ℕ) (owner : Dbref) (finished : Object → Object) (to : ℕ) (es : List Entry) (n : ℕ) → mark_in (set_at finished m (created m kind name owner to es)) n ≡ mark_in es n
+unfolding created
+mark_made m kind name owner finished to es n =
+    mark_changed m n finished (moved m to (changed_at m (with_object (new_object m kind name owner)) (grown m es)))
+    ∙ mark_moved (changed_at m (with_object (new_object m kind name owner)) (grown m es)) m to n
+    ∙ mark_named m n (new_object m kind name owner) (grown m es)
+    ∙ mark_grown m n es
+
 -- what a check that passes says
 made_by : (kind : Kind) (owned : Bool) (to : ℕ) (es : List Entry) (p : ℕ × ℕ) → make_judged kind owned to es ≡ Ok p → (p.0 ≡ free_in es) × (p.1 ≡ to)
 unfolding make_judged
@@ -165,6 +181,7 @@ end_created j kind name owner place finished w p e h =
     let L : ℕ → Type 0 = λ m. SameLists j w.objects (set_at finished m (created m kind name owner p.1 w.objects)) in
     let new = h (free_in w.objects) p.1 (number_is w.objects place p.1 k.1) in
     end_objects j w (created_so p.0 kind name owner p.1 finished w) refl (subst D (sym k.0) (differs_made j kind name owner finished p.1 w.objects new)) (subst L (sym k.0) (lists_made j kind name owner finished p.1 w.objects))
+    (λ n. mark_open j (dbref_of n) _ _ _ (inl (mark_made p.0 kind name owner finished p.1 w.objects n)))
 
 -- The kinds.
 
@@ -174,15 +191,15 @@ Builds a start = (nat_le 3 a.level || flag_at builder start a.user) ≡ true
 and_all : (b c d : Bool) → b ≡ true → c ≡ true → d ≡ true → (b && (c && (true && d))) ≡ true
 and_all b c d e f g = rw (e, f, g) refl
 
-room_new : (a : Actor) (free : Dbref → Bool) (start : List Entry) (name : List ℕ) (k t : ℕ) → Builds a start → controls_or link start a (dbref_of t) ≡ true → IsNew (judge a free start) (dbref_of k) (new_in Room name a.user (λ o. o) k t)
+room_new : (a : Actor) (free : Freedom) (start : List Entry) (name : List ℕ) (k t : ℕ) → Builds a start → controls_or link start a (dbref_of t) ≡ true → IsNew (judge a free start) (dbref_of k) (new_in Room name a.user (λ o. o) k t)
 unfolding new_object
 room_new a free start name k t b h = record { kind = and_all _ _ _ (same_eq a.user a.user refl) b h; flags = refl; link = refl }
 
-thing_new : (a : Actor) (free : Dbref → Bool) (start : List Entry) (name : List ℕ) (at : Dbref) (k t : ℕ) → Builds a start → (nat_le 3 a.level || controls_or jump start a (dbref_of t)) ≡ true → IsNew (judge a free start) (dbref_of k) (new_in Thing name a.user (with_home at) k t)
+thing_new : (a : Actor) (free : Freedom) (start : List Entry) (name : List ℕ) (at : Dbref) (k t : ℕ) → Builds a start → (nat_le 3 a.level || controls_or jump start a (dbref_of t)) ≡ true → IsNew (judge a free start) (dbref_of k) (new_in Thing name a.user (with_home at) k t)
 unfolding new_object
 thing_new a free start name at k t b h = record { kind = and_all _ _ _ (same_eq a.user a.user refl) b h; flags = refl; link = refl }
 
-exit_new : (a : Actor) (free : Dbref → Bool) (start : List Entry) (name : List ℕ) (to : Dbref) (k t : ℕ) → Builds a start → controls start a (dbref_of t) ≡ true → (same to nothing || (same to home || controls_or link start a to)) ≡ true →
+exit_new : (a : Actor) (free : Freedom) (start : List Entry) (name : List ℕ) (to : Dbref) (k t : ℕ) → Builds a start → controls start a (dbref_of t) ≡ true → (same to nothing || (same to home || controls_or link start a to)) ≡ true →
     IsNew (judge a free start) (dbref_of k) (new_in Exit name a.user (with_link to) k t)
 unfolding new_object
 exit_new a free start name to k t b h l = record { kind = and_all _ _ _ (same_eq a.user a.user refl) b h; flags = refl; link = l }
@@ -193,36 +210,29 @@ at_most n m e = grind (arith, nat_tests)
 and_three : (b c d : Bool) → b ≡ true → c ≡ true → d ≡ true → (b && (c && d)) ≡ true
 and_three b c d e f g = rw (e, f, g) refl
 
-program_new : (a : Actor) (free : Dbref → Bool) (start : List Entry) (name : List ℕ) (level k t : ℕ) → nat_le 1 (level_at start a.user) ≡ true → nat_le level (level_at start a.user) ≡ true → IsNew (judge a free start) (dbref_of k) (new_in Program name a.user (with_level level) k t)
+program_new : (a : Actor) (free : Freedom) (start : List Entry) (name : List ℕ) (level k t : ℕ) → nat_le 1 (level_at start a.user) ≡ true → nat_le level (level_at start a.user) ≡ true → IsNew (judge a free start) (dbref_of k) (new_in Program name a.user (with_level level) k t)
 unfolding new_object
 program_new a free start name level k t b h = record { kind = and_three _ _ _ (same_eq a.user a.user refl) b h; flags = refl; link = refl }
 
-player_new : (a : Actor) (free : Dbref → Bool) (start : List Entry) (name : List ℕ) (owner : Dbref) (salt : ℕ) (word : List ℕ) (k t : ℕ) → is_master a ≡ true → IsNew (judge a free start) (dbref_of k) (new_in Player name owner (with_password salt word) k t)
-unfolding new_object
-player_new a free start name owner salt word k t h = record { kind = and_three _ _ _ h refl (same_eq (dbref_of k) (dbref_of k) refl); flags = refl; link = refl }
-
 -- What is new by an act that is allowed.
 
-pub room_open : (a : Actor) (free : Dbref → Bool) (start es : List Entry) (name : List ℕ) (place : Dbref) (k t : ℕ) → SameRights start es → verdict es a (NewRoom place) ≡ None → place ≡ dbref_of t → IsNew (judge a free start) (dbref_of k) (new_in Room name a.user (λ o. o) k t)
+pub room_open : (a : Actor) (free : Freedom) (start es : List Entry) (name : List ℕ) (place : Dbref) (k t : ℕ) → SameRights start es → verdict es a (NewRoom place) ≡ None → place ≡ dbref_of t → IsNew (judge a free start) (dbref_of k) (new_in Room name a.user (λ o. o) k t)
 room_open a free start es name place k t s g e =
     let p = room_allowed a start es place s g in
     room_new a free start name k t p.0 (ap (controls_or link start a) (sym e) ∙ p.1)
 
-pub thing_open : (a : Actor) (free : Dbref → Bool) (start es : List Entry) (name : List ℕ) (place at : Dbref) (k t : ℕ) → SameRights start es → verdict es a (NewThing place) ≡ None → place ≡ dbref_of t → IsNew (judge a free start) (dbref_of k) (new_in Thing name a.user (with_home at) k t)
+pub thing_open : (a : Actor) (free : Freedom) (start es : List Entry) (name : List ℕ) (place at : Dbref) (k t : ℕ) → SameRights start es → verdict es a (NewThing place) ≡ None → place ≡ dbref_of t → IsNew (judge a free start) (dbref_of k) (new_in Thing name a.user (with_home at) k t)
 thing_open a free start es name place at k t s g e =
     let p = thing_allowed a start es place s g in
     thing_new a free start name at k t p.0 (ap (λ d. nat_le 3 a.level || controls_or jump start a d) (sym e) ∙ p.1)
 
-pub exit_open : (a : Actor) (free : Dbref → Bool) (start es : List Entry) (name : List ℕ) (place to : Dbref) (k t : ℕ) → SameRights start es → verdict es a (NewExit place to) ≡ None → place ≡ dbref_of t → IsNew (judge a free start) (dbref_of k) (new_in Exit name a.user (with_link to) k t)
+pub exit_open : (a : Actor) (free : Freedom) (start es : List Entry) (name : List ℕ) (place to : Dbref) (k t : ℕ) → SameRights start es → verdict es a (NewExit place to) ≡ None → place ≡ dbref_of t → IsNew (judge a free start) (dbref_of k) (new_in Exit name a.user (with_link to) k t)
 exit_open a free start es name place to k t s g e =
     let p = exit_allowed a start es place to s g in
     exit_new a free start name to k t p.0 (ap (controls start a) (sym e) ∙ p.1) p.2
 
 -- at its owner's level, at most 3
-pub program_open : (a : Actor) (free : Dbref → Bool) (start es : List Entry) (name : List ℕ) (level k t : ℕ) → SameRights start es → verdict es a NewProgram ≡ None → level ≡ min (level_at es a.user) 3 → IsNew (judge a free start) (dbref_of k) (new_in Program name a.user (with_level level) k t)
+pub program_open : (a : Actor) (free : Freedom) (start es : List Entry) (name : List ℕ) (level k t : ℕ) → SameRights start es → verdict es a NewProgram ≡ None → level ≡ min (level_at es a.user) 3 → IsNew (judge a free start) (dbref_of k) (new_in Program name a.user (with_level level) k t)
 program_open a free start es name level k t s g e =
     let h : nat_le (min (level_at es a.user) 3) (level_at start a.user) ≡ true = at_most (level_at es a.user) (level_at start a.user) (sym (same_level a.user start es s)) in
     program_new a free start name level k t (program_allowed a start es s g) (ap (λ n. nat_le n (level_at start a.user)) e ∙ h)
-
-pub player_open : (a : Actor) (free : Dbref → Bool) (start es : List Entry) (name : List ℕ) (owner : Dbref) (salt : ℕ) (word : List ℕ) (k t : ℕ) → verdict es a Wizard ≡ None → IsNew (judge a free start) (dbref_of k) (new_in Player name owner (with_password salt word) k t)
-player_open a free start es name owner salt word k t g = player_new a free start name owner salt word k t (wizard_allowed es a g)

@@ -4,16 +4,16 @@ use Rattle.std.proofs.lemmas.Bool.{or_left}
 use Rattle.std.specs.Option.{option_map_or}
 use Rattle.muck_model.specs.declared.dbref.Dbref.{Dbref}
 use Rattle.spec_live.specs.declared.object.Object.{Object}
-use Rattle.spec_live.specs.Objects.{Entry, dbref_of, nothing, home, same, number_in, object_at}
+use Rattle.spec_live.specs.Objects.{Entry, dbref_of, nothing, home, same, mark_in, number_in, object_at}
 use Rattle.spec_live.specs.Setting.{with_home}
 use Rattle.spec_live.specs.Moving.{moved, with_place}
 use Rattle.spec_live.specs.Lives.{Live}
-use Rattle.spec_live.proofs.Readers.{object_moved, object_unmoved}
+use Rattle.spec_live.proofs.Readers.{object_moved, object_unmoved, mark_moved}
 use Rattle.spec_rights.specs.declared.act.Actor.{Actor}
 use Rattle.spec_rights.specs.declared.act.Act.{Act}
 use Rattle.spec_rights.specs.declared.act.Act.TheVariants.{Move, Link}
 use Rattle.spec_rights.specs.Changing.{homed, moved_at, moved_to}
-use Rattle.spec_rights.specs.Licence.{Judge, Changed, SameLists, place_open, home_open}
+use Rattle.spec_rights.specs.Licence.{Freedom, Judge, Changed, SameLists, place_open, home_open}
 use Rattle.spec_rights.specs.Verdict.{verdict}
 use Rattle.spec_rights.proofs.Rights.{SameRights}
 use Rattle.spec_rights.proofs.Lookups.{Row, row_same, number_is}
@@ -50,20 +50,26 @@ lists_came j x to es h (Some m) (Some t) d e =
     let Q : Dbref → Type 0 = λ y. P y (dbref_of t) in
     lists_moved j m t es (subst Q (number_is es x m d) (subst (P x) (number_is es to t e) (h t e)))
 
+marks_came : (n : ℕ) (es : List Entry) (p q : Option ℕ) → mark_in (moved_at p q es) n ≡ mark_in es n
+marks_came n es None q = refl
+marks_came n es (Some m) None = refl
+marks_came n es (Some m) (Some t) = mark_moved es m t n
+
 -- to a place that is there
 stay_moved : (j : Judge) (x to : Dbref) (w : Live) → ((t : ℕ) → number_in w.objects to ≡ Some t → place_open j x to ≡ true) → Stay j w (moved_to x to w)
 unfolding moved_to
 stay_moved j x to w h = stay_objects j w (moved_to x to w) refl (λ n. rows_moved j x to w.objects h n (number_in w.objects x) (number_in w.objects to) refl refl) (lists_came j x to w.objects h (number_in w.objects x) (number_in w.objects to) refl refl)
+    (λ n. inl (marks_came n w.objects (number_in w.objects x) (number_in w.objects to)))
 
 -- what may be moved freely
-pub stays_free : (a : Actor) (free : Dbref → Bool) (given : Option Act) (x to : Dbref) → free x ≡ true → Stays a free given (moved_to x to)
-stays_free a free given x to h = stays_by _ (λ start w s g. stay_moved (judge a free start) x to w (λ t e. or_left (free x) _ h))
+pub stays_free : (a : Actor) (free : Freedom) (given : Option Act) (x to : Dbref) → free.moves x ≡ true → Stays a free given (moved_to x to)
+stays_free a free given x to h = stays_by _ (λ start w s g. stay_moved (judge a free start) x to w (λ t e. or_left (free.moves x) _ h))
 
-pub stays_moved : (a : Actor) (free : Dbref → Bool) (x to : Dbref) → Stays a free (Some (Move x to)) (moved_to x to)
+pub stays_moved : (a : Actor) (free : Freedom) (x to : Dbref) → Stays a free (Some (Move x to)) (moved_to x to)
 stays_moved a free x to = stays_by _ (λ start w s g. stay_moved (judge a free start) x to w (λ t e. move_allowed a free start w.objects x to (not_home w.objects to t e) s g))
 
 -- to where its home is, after leave for `#-3`
-pub stay_moved_home : (a : Actor) (free : Dbref → Bool) (start : List Entry) (w : Live) (x to : Dbref) → to ≡ option_map_or (λ (o : Object). o.home) (object_at x w.objects) nothing → SameRights start w.objects → verdict w.objects a (Move x home) ≡ None → Stay (judge a free start) w (moved_to x to w)
+pub stay_moved_home : (a : Actor) (free : Freedom) (start : List Entry) (w : Live) (x to : Dbref) → to ≡ option_map_or (λ (o : Object). o.home) (object_at x w.objects) nothing → SameRights start w.objects → verdict w.objects a (Move x home) ≡ None → Stay (judge a free start) w (moved_to x to w)
 stay_moved_home a free start w x to there s g = stay_moved (judge a free start) x to w (λ t e. home_allowed a free start w.objects x to there s g)
 
 -- Homes.
@@ -75,9 +81,9 @@ end_homed : (j : Judge) (x to : Dbref) (w : Live) → home_open j x to ≡ true 
 unfolding homed
 end_homed j x to w h = end_found j x (with_home to) (λ o. refl) (λ o. changed_home j x to o h) w
 
-pub ends_homed : (a : Actor) (free : Dbref → Bool) (x to : Dbref) → Ends itself a free (Some (Link x to)) (homed x to)
+pub ends_homed : (a : Actor) (free : Freedom) (x to : Dbref) → Ends itself a free (Some (Link x to)) (homed x to)
 ends_homed a free x to = ends_by _ (λ start w s g. end_homed (judge a free start) x to w (live_allowed a free start w.objects x to s g))
 
--- back to `#0`
-pub ends_unhomed : (a : Actor) (free : Dbref → Bool) (x to : Dbref) → Ends itself a free (Some (Link x to)) (homed x (dbref_of 0))
-ends_unhomed a free x to = ends_by _ (λ start w s g. end_homed (judge a free start) x (dbref_of 0) w (unlink_allowed a free start w.objects x to s g))
+-- back to `#0`, where that is free
+pub ends_unhomed : (a : Actor) (free : Freedom) (x to : Dbref) → free.clears ≡ true → Ends itself a free (Some (Link x to)) (homed x (dbref_of 0))
+ends_unhomed a free x to h = ends_by _ (λ start w s g. end_homed (judge a free start) x (dbref_of 0) w (unlink_allowed a free start w.objects x to h s g))

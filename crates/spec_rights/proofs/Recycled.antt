@@ -6,7 +6,7 @@ use Rattle.std.specs.Option.{option_map, option_and_then, option_map_or}
 use Rattle.std.specs.List.{list_any}
 use Rattle.std.proofs.lemmas.Bool.{cases_eq, and_parts, or_parts, not-true, or_left, or_right, and_from}
 use Rattle.std.proofs.lemmas.Bool.Decides.{nat_tests}
-use Rattle.std.proofs.lemmas.Option.{slice_get-map}
+use Rattle.std.proofs.lemmas.Option.{slice_get-map, none-some}
 use Rattle.muck_model.specs.declared.dbref.Dbref.{Dbref}
 use Rattle.muck_model.specs.declared.dbref.Kind.{Kind}
 use Rattle.muck_model.specs.declared.dbref.Kind.TheVariants.{Room, Thing, Exit, Player, Program, Garbage}
@@ -14,7 +14,7 @@ use Rattle.spec_live.specs.declared.object.Object.{Object}
 use Rattle.std.specs.FinMap.{get}
 use Rattle.spec_live.specs.Flags.{has_flag, wizard}
 use Rattle.spec_live.specs.Chain.{Member}
-use Rattle.spec_live.specs.Objects.{Entry, dbref_of, nothing, same, index_of, is_exit, is_player, is_garbage, object_in, list_of, list_in, kind_in, owner_in, home_in, number_in, object_at, changed_at, on_object, garbage}
+use Rattle.spec_live.specs.Objects.{Entry, dbref_of, nothing, same, index_of, is_exit, is_player, is_garbage, object_in, list_of, list_in, mark_in, kind_in, owner_in, home_in, number_in, object_at, changed_at, on_object, garbage}
 use Rattle.spec_live.specs.Moving.{left_out, moved, with_place}
 use Rattle.spec_live.specs.Recycling.{untied, exits_gone, vanished, without_exits, without_ties, wished_home, may_go, way_home, sent_home, gone_entry, is_exit_of, exit_gone, recycled, recycle_check}
 use Rattle.spec_live.specs.declared.fault.DbFault.{DbFault}
@@ -23,21 +23,21 @@ use Rattle.spec_live.specs.Setting.{checked}
 use Rattle.spec_live.specs.Lives.{Live}
 use Rattle.spec_live.specs.Seen.{listed_in}
 use Rattle.spec_live.proofs.Lists.{get_changed_same}
-use Rattle.spec_live.proofs.Readers.{object_elsewhere, object_left, object_moved, object_unmoved, kind_is}
+use Rattle.spec_live.proofs.Readers.{object_elsewhere, object_left, object_moved, object_unmoved, kind_is, mark_elsewhere, mark_left, mark_moved}
 use Rattle.spec_rights.specs.declared.act.Actor.{Actor}
 use Rattle.spec_rights.specs.declared.act.Act.TheVariants.{Recycle}
 use Rattle.spec_rights.specs.Levels.{is_player_at}
 use Rattle.spec_rights.specs.Verdict.{verdict, controls}
 use Rattle.spec_rights.specs.Changing.{recycled_now}
-use Rattle.spec_rights.specs.Licence.{Open, Judge, Changed, Differs, Reordered, as_before, empties, front_open, SameLists, Licensed, is_emptied, is_way_home, place_open, link_open, home_open, gone_open, may_recycle}
-use Rattle.spec_live.proofs.HomeLaws.{list_untied}
+use Rattle.spec_rights.specs.Licence.{Freedom, Open, Judge, Changed, Differs, Reordered, as_before, empties, front_open, SameLists, Licensed, is_emptied, is_way_home, place_open, link_open, home_open, gone_open, may_recycle}
+use Rattle.spec_live.proofs.HomeLaws.{list_untied, mark_untied}
 use Rattle.spec_rights.proofs.Listing.{lists_itself, reordered_all, reordered_one, reordered_left, reordered_moved}
 use Rattle.spec_rights.proofs.Lookups.{Row, alive, seen_at, number_is}
-use Rattle.spec_rights.proofs.Licences.{judge, changed_same, ties_itself}
+use Rattle.spec_rights.proofs.Licences.{judge, changed_same, MarkOpen, SameMarks, marks_itself, ties_itself, Proper}
 use Rattle.spec_rights.proofs.Allowed.{recycle_allowed}
 
 -- one object is recycled, of that number
-abbrev judged : Actor → (Dbref → Bool) → ℕ → List Entry → Judge
+abbrev judged : Actor → Freedom → ℕ → List Entry → Judge
 judged a free d es = record { actor = a; free = free; gone = Some (dbref_of d); objects = es }
 
 -- Where an object is sent that stands in the contents.
@@ -122,7 +122,7 @@ way_tells j d es fs r y =
 
 -- Sending home.
 
-way_open : (a : Actor) (free : Dbref → Bool) (d : ℕ) (es : List Entry) (y t : ℕ) → (t ≡ 0) ⊎ (wished_home y es (kind_in es y) ≡ Some t) → is_way_home (judged a free d es) (dbref_of y) (dbref_of t) ≡ true
+way_open : (a : Actor) (free : Freedom) (d : ℕ) (es : List Entry) (y t : ℕ) → (t ≡ 0) ⊎ (wished_home y es (kind_in es y) ≡ Some t) → is_way_home (judged a free d es) (dbref_of y) (dbref_of t) ≡ true
 way_open a free d es y t (inl e) = or_left _ _ (same_eq (dbref_of t) (dbref_of 0) (ap dbref_of e))
 way_open a free d es y t (inr e) = or_right (same (dbref_of t) (dbref_of 0)) _ (ap (λ (q : Option ℕ). option_map_or (λ u. same (dbref_of t) (dbref_of u)) q false) e ∙ same_eq (dbref_of t) (dbref_of t) refl)
 
@@ -142,7 +142,7 @@ went_row j d y t None (Some p) w h = absurd h
 went_row j d y t (Some o) None w h = absurd h
 went_row j d y t (Some o) (Some p) w h = record { place = dbref_of t; same = ap (λ (x : Object). with_place t x) h.same; way = inr (w o refl) }
 
-step_home : (a : Actor) (free : Dbref → Bool) (d y : ℕ) (es fs : List Entry) → is_emptied (judged a free d es) (dbref_of y) ≡ true → Rows (judged a free d es) d es fs → Rows (judged a free d es) d es (moved y (way_home y fs) fs)
+step_home : (a : Actor) (free : Freedom) (d y : ℕ) (es fs : List Entry) → is_emptied (judged a free d es) (dbref_of y) ≡ true → Rows (judged a free d es) d es fs → Rows (judged a free d es) d es (moved y (way_home y fs) fs)
 step_home a free d y es fs h r n =
     let j : Judge = judged a free d es in
     let t : ℕ = way_home y fs in
@@ -160,7 +160,7 @@ step_home a free d y es fs h r n =
           subst Q (sym (object_unmoved fs y t n e)) (r n)
     ]
 
-all_home : (a : Actor) (free : Dbref → Bool) (d : ℕ) (es : List Entry) (ys : List ℕ) → ((y : ℕ) → Member y ys → is_emptied (judged a free d es) (dbref_of y) ≡ true) → (fs : List Entry) →
+all_home : (a : Actor) (free : Freedom) (d : ℕ) (es : List Entry) (ys : List ℕ) → ((y : ℕ) → Member y ys → is_emptied (judged a free d es) (dbref_of y) ≡ true) → (fs : List Entry) →
     Rows (judged a free d es) d es fs → Rows (judged a free d es) d es (sent_home ys fs)
 unfolding sent_home Member
 all_home a free d es [] h fs r = r
@@ -184,7 +184,7 @@ member_listed y (x ∷ xs) m = elim m [
   | inr r ↦ or_right (same (dbref_of y) (dbref_of x)) _ (member_listed y xs r)
 ]
 
-contents_emptied : (a : Actor) (free : Dbref → Bool) (d : ℕ) (es : List Entry) → number_in es (dbref_of d) ≡ Some d → (y : ℕ) → Member y (list_in false es d) → is_emptied (judged a free d es) (dbref_of y) ≡ true
+contents_emptied : (a : Actor) (free : Freedom) (d : ℕ) (es : List Entry) → number_in es (dbref_of d) ≡ Some d → (y : ℕ) → Member y (list_in false es d) → is_emptied (judged a free d es) (dbref_of y) ≡ true
 unfolding listed_in
 contents_emptied a free d es e y m =
     ap (λ (q : Option ℕ). list_any (same (dbref_of y)) (option_map_or (λ n. map dbref_of (list_in false es n)) q [])) e ∙ member_listed y (list_in false es d) m
@@ -230,7 +230,7 @@ recycled_here d es =
 read_at : {X : Type 0} (f : Object → X) (none : X) (x : Dbref) (es : List Entry) (o : Object) → object_at x es ≡ Some o → option_map_or f (object_at x es) none ≡ f o
 read_at f none x es o e = ap (λ q. option_map_or f q none) e
 
-changed_home : (a : Actor) (free : Dbref → Bool) (d n : ℕ) (es : List Entry) (o p : Object) → object_at (dbref_of n) es ≡ Some o → Homeward (judged a free d es) d n o p → Changed (judged a free d es) (dbref_of n) o p
+changed_home : (a : Actor) (free : Freedom) (d n : ℕ) (es : List Entry) (o p : Object) → object_at (dbref_of n) es ≡ Some o → Homeward (judged a free d es) d n o p → Changed (judged a free d es) (dbref_of n) o p
 changed_home a free d n es o p there h = record {
   kind = ap (λ (x : Object). x.kind) h.same;
   name = inl (ap (λ (x : Object). x.name) h.same);
@@ -248,7 +248,7 @@ changed_home a free d n es o p there h = record {
   where
     place : (h.place ≡ o.place) ⊎ Went (judged a free d es) n o h.place → Open (place_open (judged a free d es) (dbref_of n)) o.place p.place
     place (inl e) = inl (ap (λ (x : Object). x.place) h.same ∙ e)
-    place (inr w) = inr (ap (λ (x : Object). place_open (judged a free d es) (dbref_of n) x.place) h.same ∙ or_right (free (dbref_of n)) _ (or_left _ _ (and_from _ _ w.emptied w.way)))
+    place (inr w) = inr (ap (λ (x : Object). place_open (judged a free d es) (dbref_of n) x.place) h.same ∙ or_right (free.moves (dbref_of n)) _ (or_left _ _ (and_from _ _ w.emptied w.way)))
 
     link : (b : Bool) → same o.link (dbref_of d) ≡ b → p.link ≡ cond b nothing o.link → Open (link_open (judged a free d es) (dbref_of n)) o.link p.link
     link true t e = inr (ap (link_open (judged a free d es) (dbref_of n)) e ∙ or_right _ _ (ap (λ (y : Dbref). same y (dbref_of d)) (read_at (λ (x : Object). x.link) nothing (dbref_of n) es o there) ∙ t))
@@ -261,7 +261,7 @@ changed_home a free d n es o p there h = record {
 not_zero : (d : ℕ) → (d == 0) ≡ false → same (dbref_of 0) (dbref_of d) ≡ true → ⊥
 not_zero d e h = let z : dbref_of 0 ≡ dbref_of d = eq_same (dbref_of 0) (dbref_of d) h in let n : d ≡ 0 = cc in absurd (grind (arith, nat_tests))
 
-exit_open : (a : Actor) (free : Dbref → Bool) (d n : ℕ) (es : List Entry) (o p : Object) → (d == 0) ≡ false → Homeward (judged a free d es) d n o p → is_exit_of d p ≡ true → gone_open (judged a free d es) (dbref_of n) o ≡ true
+exit_open : (a : Actor) (free : Freedom) (d n : ℕ) (es : List Entry) (o p : Object) → (d == 0) ≡ false → Homeward (judged a free d es) d n o p → is_exit_of d p ≡ true → gone_open (judged a free d es) (dbref_of n) o ≡ true
 exit_open a free d n es o p some h e =
     let exit : is_exit o.kind ≡ true = ap (λ (x : Object). is_exit x.kind) (sym h.same) ∙ (and_parts _ _ e).0 in
     let place : same h.place (dbref_of d) ≡ true = ap (λ (x : Object). same x.place (dbref_of d)) (sym h.same) ∙ (and_parts _ _ e).1 in
@@ -270,7 +270,7 @@ exit_open a free d n es o p some h e =
       | inr w ↦ absurd (not_zero d some (ap (λ (y : Dbref). same y (dbref_of d)) (sym (w.exit exit)) ∙ place))
     ]))
 
-differs_there : (a : Actor) (free : Dbref → Bool) (d n : ℕ) (es : List Entry) → (d == 0) ≡ false → (q r : Option Object) → object_in es n ≡ q → Row (Homeward (judged a free d es) d n) q r →
+differs_there : (a : Actor) (free : Freedom) (d n : ℕ) (es : List Entry) → (d == 0) ≡ false → (q r : Option Object) → object_in es n ≡ q → Row (Homeward (judged a free d es) d n) q r →
     Differs (judged a free d es) (dbref_of n) (option_and_then alive q) (option_and_then alive (option_map (λ (p : Object). cond (is_exit_of d p) garbage p) r))
 unfolding garbage
 differs_there a free d n es some None None e h = tt
@@ -289,7 +289,7 @@ differs_there a free d n es some (Some o) (Some p) e h = at (is_garbage o.kind) 
         let there : object_at (dbref_of n) es ≡ Some o = seen_at es n ∙ ap (λ (q : Option Object). option_and_then alive q) e ∙ ap (λ (k : Bool). cond k None (Some o)) g in
         subst P (sym (ap (λ (x : Object). is_garbage x.kind) h.same ∙ g)) (changed_home a free d n es o p there h)
 
-differs_here : (a : Actor) (free : Dbref → Bool) (d : ℕ) (es : List Entry) (q r : Option Object) → Differs (judged a free d es) (dbref_of d) (option_and_then alive q) (option_and_then alive (option_map (λ (p : Object). garbage) r))
+differs_here : (a : Actor) (free : Freedom) (d : ℕ) (es : List Entry) (q r : Option Object) → Differs (judged a free d es) (dbref_of d) (option_and_then alive q) (option_and_then alive (option_map (λ (p : Object). garbage) r))
 unfolding garbage
 differs_here a free d es None None = tt
 differs_here a free d es None (Some p) = tt
@@ -301,7 +301,7 @@ differs_here a free d es (Some o) r = at (is_garbage o.kind) r
     at false None = or_left _ _ (same_eq (dbref_of d) (dbref_of d) refl)
     at false (Some p) = or_left _ _ (same_eq (dbref_of d) (dbref_of d) refl)
 
-differs_recycled : (a : Actor) (free : Dbref → Bool) (d : ℕ) (es : List Entry) → number_in es (dbref_of d) ≡ Some d → (d == 0) ≡ false → (n : ℕ) →
+differs_recycled : (a : Actor) (free : Freedom) (d : ℕ) (es : List Entry) → number_in es (dbref_of d) ≡ Some d → (d == 0) ≡ false → (n : ℕ) →
     Differs (judged a free d es) (dbref_of n) (object_at (dbref_of n) es) (object_at (dbref_of n) (recycled d es))
 differs_recycled a free d es known some n =
     let j : Judge = judged a free d es in
@@ -321,7 +321,7 @@ differs_recycled a free d es known some n =
 
 -- The lists.
 
-lists_home : (a : Actor) (free : Dbref → Bool) (d : ℕ) (es : List Entry) (ys : List ℕ) → ((y : ℕ) → Member y ys → is_emptied (judged a free d es) (dbref_of y) ≡ true) → (fs : List Entry) →
+lists_home : (a : Actor) (free : Freedom) (d : ℕ) (es : List Entry) (ys : List ℕ) → ((y : ℕ) → Member y ys → is_emptied (judged a free d es) (dbref_of y) ≡ true) → (fs : List Entry) →
     Rows (judged a free d es) d es fs → (xs : List ℕ) (v : Bool) (k : ℕ) → Reordered (front_open (judged a free d es) es k) xs (list_in v fs k) → Reordered (front_open (judged a free d es) es k) xs (list_in v (sent_home ys fs) k)
 unfolding sent_home Member
 lists_home a free d es [] h fs r xs v k t = t
@@ -329,7 +329,7 @@ lists_home a free d es (y ∷ ys) h fs r xs v k t =
     let j : Judge = judged a free d es in
     let to : ℕ = way_home y fs in
     let gone : is_emptied j (dbref_of y) ≡ true = h y (inl refl) in
-    let open_there : place_open j (dbref_of y) (dbref_of to) ≡ true = or_right (free (dbref_of y)) _ (or_left _ _ (and_from _ _ gone (way_open a free d es y to (way_tells j d es fs r y)))) in
+    let open_there : place_open j (dbref_of y) (dbref_of to) ≡ true = or_right (free.moves (dbref_of y)) _ (or_left _ _ (and_from _ _ gone (way_open a free d es y to (way_tells j d es fs r y)))) in
     let may : k ≡ to → front_open j es k y ≡ true = λ e. or_left _ _ (ap (λ (m : ℕ). place_open j (dbref_of y) (dbref_of m)) e ∙ open_there) in
     lists_home a free d es ys (λ z m. h z (inr m)) (moved y to fs) (step_home a free d y es fs gone r) xs v k (reordered_moved (front_open j es k) xs v y to k fs may t)
 
@@ -343,7 +343,7 @@ without_kept : (may : ℕ → Bool) (xs : List ℕ) (v : Bool) (e : Entry) → R
 without_kept may xs true e r = empties r
 without_kept may xs false e r = r
 
-lists_recycled : (a : Actor) (free : Dbref → Bool) (d : ℕ) (es : List Entry) → number_in es (dbref_of d) ≡ Some d → SameLists (judged a free d es) es (recycled d es)
+lists_recycled : (a : Actor) (free : Freedom) (d : ℕ) (es : List Entry) → number_in es (dbref_of d) ≡ Some d → SameLists (judged a free d es) es (recycled d es)
 unfolding recycled vanished exits_gone
 lists_recycled a free d es there v k =
     let j : Judge = judged a free d es in
@@ -360,17 +360,71 @@ lists_recycled a free d es there v k =
     let third : Q (list_in v apart k) = reordered_one may xs v d k without_exits lost (λ q e r. without_kept may xs v e r) second in
     reordered_one may xs v d k (λ (e : Entry). gone_entry) (map (left_out d) apart) (λ q e r. exit_kept may xs v true e r) (reordered_left may xs v d k apart third)
 
+-- What is to be told: what is gone, of which nothing is there any more.
+
+lost_at : (d : ℕ) (es : List Entry) → object_at (dbref_of d) (recycled d es) ≡ None
+unfolding garbage
+lost_at d es = seen_at (recycled d es) d ∙ ap (λ q. option_and_then alive q) (recycled_here d es).1 ∙ at (recycled_here d es).0
+  where
+    at : (q : Option Object) → option_and_then alive (option_map (λ (p : Object). garbage) q) ≡ None
+    at None = refl
+    at (Some o) = refl
+
+-- an entry keeps its mark on the way, or nothing is there
+abbrev Silent : Option Entry → Option Entry → Type 0
+Silent p q = (option_and_then (λ (e : Entry). e.mark) q ≡ option_and_then (λ (e : Entry). e.mark) p) ⊎ (option_and_then alive (option_map (λ (e : Entry). e.object) q) ≡ None)
+
+mark_home : (ys : List ℕ) (es : List Entry) (n : ℕ) → mark_in (sent_home ys es) n ≡ mark_in es n
+unfolding sent_home
+mark_home [] es n = refl
+mark_home (y ∷ ys) es n = mark_home ys (moved y (way_home y es) es) n ∙ mark_moved es y (way_home y es) n
+
+exit_silent : (d : ℕ) (q : Option Entry) → Silent q (option_map (exit_gone d) q)
+unfolding gone_entry garbage
+exit_silent d None = inl refl
+exit_silent d (Some e) = elim (is_exit_of d e.object) as (λ b. Silent (Some e) (Some (cond b gone_entry e))) [ true ↦ inr refl | false ↦ inl refl ]
+
+mark_kept : (d n : ℕ) (es : List Entry) (o : Object) → object_at (dbref_of n) (recycled d es) ≡ Some o → mark_in (recycled d es) n ≡ mark_in es n
+unfolding recycled vanished exits_gone mark_in object_in
+mark_kept d n es o e = elim (cases_eq n d) [
+  | inl k ↦ absurd (none-some o (sym (ap (λ m. object_at (dbref_of m) (recycled d es)) k ∙ lost_at d es) ∙ e))
+  | inr k ↦
+      let home : List Entry = sent_home (list_in false es d) (untied d es) in
+      let lost : List Entry = map (exit_gone d) home in
+      let apart : List Entry = changed_at d without_exits lost in
+      let object : object_in (recycled d es) n ≡ object_in lost n = object_elsewhere d n (λ (e : Entry). gone_entry) (map (left_out d) apart) k ∙ object_left d n apart ∙ object_elsewhere d n without_exits lost k in
+      let mark : mark_in (recycled d es) n ≡ mark_in lost n = mark_elsewhere d n (λ (e : Entry). gone_entry) (map (left_out d) apart) k ∙ mark_left d n apart ∙ mark_elsewhere d n without_exits lost k in
+      let before : mark_in home n ≡ mark_in es n = mark_home (list_in false es d) (untied d es) n ∙ mark_untied d n es in
+      let there : option_and_then alive (object_in lost n) ≡ Some o = ap (λ q. option_and_then alive q) (sym object) ∙ sym (seen_at (recycled d es) n) ∙ e in
+      let S : Option Entry → Type 0 = λ q. Silent (slice_get home n) q in
+      elim (subst S (sym (slice_get-map (exit_gone d) home n)) (exit_silent d (slice_get home n))) [
+        | inl f ↦ mark ∙ f ∙ before
+        | inr f ↦ absurd (none-some o (sym f ∙ there))
+      ]
+]
+
+marks_recycled : (j : Judge) (d : ℕ) (es : List Entry) → SameMarks j es (recycled d es)
+marks_recycled j d es n = at (object_at (dbref_of n) (recycled d es)) refl
+  where
+    at : (q : Option Object) → object_at (dbref_of n) (recycled d es) ≡ q → MarkOpen j (dbref_of n) (mark_in es n) (mark_in (recycled d es) n) q
+    at None e = tt
+    at (Some o) e = inl (mark_kept d n es o e)
+
 -- The whole change.
 
 -- what isn't there or stays because it is a player or `#0`
-nothing_recycled : (a : Actor) (free : Dbref → Bool) (w : Live) → Licensed a free w w
+nothing_recycled : (a : Actor) (free : Freedom) (w : Live) → Proper a free w w
 nothing_recycled a free w = record {
-  gone = None;
-  recycled = λ x e. absurd (cc);
-  objects = λ n. same_differs n (object_at (dbref_of n) w.objects);
-  lists = lists_itself (judge a free w.objects) w.objects;
-  connections = ties_itself a w.board.connections;
-  tune = inl refl;
+  licensed = record {
+    gone = None;
+    recycled = λ x e. absurd (cc);
+    vanished = λ x e. absurd (cc);
+    objects = λ n. same_differs n (object_at (dbref_of n) w.objects);
+    lists = lists_itself (judge a free w.objects) w.objects;
+    connections = ties_itself a w.board.connections;
+    tune = inl refl;
+  };
+  marks = marks_itself (judge a free w.objects) w.objects;
 }
   where
     same_differs : (n : ℕ) (q : Option Object) → Differs (judge a free w.objects) (dbref_of n) q q
@@ -398,30 +452,34 @@ may a es x d e some other c =
     let at : P (dbref_of d) = λ h. rw (h, no_player es d other, same_zero d _ some refl) refl in
     subst P (sym e) at c
 
-there : (a : Actor) (free : Dbref → Bool) (x : Dbref) (w : Live) → controls w.objects a x ≡ true → (d : ℕ) → number_in w.objects x ≡ Some d → not (d == 0 || is_player (kind_in w.objects d)) ≡ true →
-    Licensed a free w (record w { objects = recycled d w.objects })
+there : (a : Actor) (free : Freedom) (x : Dbref) (w : Live) → controls w.objects a x ≡ true → (d : ℕ) → number_in w.objects x ≡ Some d → not (d == 0 || is_player (kind_in w.objects d)) ≡ true →
+    Proper a free w (record w { objects = recycled d w.objects })
 there a free x w h d e t =
     let known : x ≡ dbref_of d = number_is w.objects x d e in
     let k : ((d == 0) ≡ false) × (is_player (kind_in w.objects d) ≡ false) = or_parts _ _ (not-true _ t) in
     record {
-      gone = Some (dbref_of d);
-      recycled = λ y f. let same : x ≡ y = known ∙ cc in ap (may_recycle w.objects a) (sym same) ∙ may a w.objects x d known k.0 k.1 h;
-      objects = differs_recycled a free d w.objects (ap (number_in w.objects) (sym known) ∙ e) k.0;
-      lists = lists_recycled a free d w.objects (ap (number_in w.objects) (sym known) ∙ e);
-      connections = ties_itself a w.board.connections;
-      tune = inl refl;
+      licensed = record {
+        gone = Some (dbref_of d);
+        recycled = λ y f. let same : x ≡ y = known ∙ cc in ap (may_recycle w.objects a) (sym same) ∙ may a w.objects x d known k.0 k.1 h;
+        vanished = λ y f. let same : y ≡ dbref_of d = cc in ap (λ z. object_at z (recycled d w.objects)) same ∙ lost_at d w.objects;
+        objects = differs_recycled a free d w.objects (ap (number_in w.objects) (sym known) ∙ e) k.0;
+        lists = lists_recycled a free d w.objects (ap (number_in w.objects) (sym known) ∙ e);
+        connections = ties_itself a w.board.connections;
+        tune = inl refl;
+      };
+      marks = marks_recycled (judge a free w.objects) d w.objects;
     }
 
 -- an object is recycled where the check passes
-pub recycled_licensed : (a : Actor) (free : Dbref → Bool) (x : Dbref) (w : Live) (n : ℕ) → verdict w.objects a (Recycle x) ≡ None → recycle_check x w.objects ≡ Ok n → Licensed a free w (recycled_now x w)
+pub recycled_proper : (a : Actor) (free : Freedom) (x : Dbref) (w : Live) (n : ℕ) → verdict w.objects a (Recycle x) ≡ None → recycle_check x w.objects ≡ Ok n → Proper a free w (recycled_now x w)
 unfolding recycled_now recycle_check checked
-recycled_licensed a free x w n g e = at (number_in w.objects x) refl e
+recycled_proper a free x w n g e = at (number_in w.objects x) refl e
   where
     passed : (d n : ℕ) (b : Bool) → ◌≡◌ {A = Result ℕ DbFault} (cond b (Ok d) (Err WrongKind)) (Ok n) → b ≡ true
     passed d n true e = refl
     passed d n false e = absurd (cc)
 
     at : (q : Option ℕ) → number_in w.objects x ≡ q → option_map_or (λ (d : ℕ). cond (not (d == 0 || is_player (kind_in w.objects d))) (Ok d) (Err WrongKind)) q (Err NoSuchObject) ≡ Ok n →
-        Licensed a free w (record w { objects = option_map_or (λ (d : ℕ). recycled d w.objects) q w.objects })
+        Proper a free w (record w { objects = option_map_or (λ (d : ℕ). recycled d w.objects) q w.objects })
     at None f e = nothing_recycled a free w
     at (Some d) f e = there a free x w (recycle_allowed w.objects a x g) d f (passed d n (not (d == 0 || is_player (kind_in w.objects d))) e)

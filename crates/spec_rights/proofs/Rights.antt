@@ -12,7 +12,6 @@ use Rattle.spec_live.specs.Objects.{Entry, dbref_of, nothing, same, is_player, i
 use Rattle.spec_rights.specs.declared.act.Actor.{Actor}
 use Rattle.spec_rights.specs.Levels.{master, level_at, owner_at, flag_at, is_player_at, owns, controls_as}
 use Rattle.spec_rights.specs.Verdict.{controls, controls_or, is_program_at, may_take_over}
-use Rattle.spec_rights.specs.Licence.{may_recycle}
 use Rattle.spec_rights.proofs.Lookups.{at_negative}
 
 -- what rights rest on: with them the home, to which an object may always go
@@ -86,6 +85,3 @@ same_controls_or flag a d os ps s = ap (λ b. b || flag_at flag os d) (same_cont
 
 pub same_take_over : (a : Actor) (d : Dbref) (os ps : List Entry) → SameRights os ps → may_take_over os a d ≡ may_take_over ps a d
 same_take_over a d os ps s = ap (λ o. same o a.user || flag_at chown os d) (same_owner d os ps s) ∙ ap (λ b. same (owner_at ps d) a.user || b) (same_flag chown d os ps s)
-
-pub same_recycle : (a : Actor) (d : Dbref) (os ps : List Entry) → SameRights os ps → may_recycle os a d ≡ may_recycle ps a d
-same_recycle a d os ps s = ap (λ b. b && not (is_player_at os d || same d (dbref_of 0))) (same_controls a d os ps s) ∙ ap (λ b. controls ps a d && not (b || same d (dbref_of 0))) (same_player d os ps s)

@@ -1,6 +1,6 @@
 pub mod Levels
-pub mod Worth
 pub mod Verdict
 pub mod Licence
 pub mod Asking
 pub mod Changing
+pub mod inner

@@ -23,11 +23,18 @@ use Rattle.spec_rights.specs.Verdict.{is_master, controls, controls_or, is_hidde
 abbrev pub Open : {X : Type 0} → (X → Bool) → X → X → Type 0
 Open test old new = (new ≡ old) ⊎ (test new ≡ true)
 
--- Who acts, what it may move freely, what it recycles, if anything, and the objects by which rights are judged: those at
--- the start.
+-- What an act lets its actor do beside its rights: what it may move freely, whether it may make `#0` a home, as `@unlink`
+-- does, and whose source it may change.
+pub record Freedom : Type 0 where
+  pub moves : Dbref → Bool
+  pub clears : Bool
+  pub edits : Dbref → Bool
+
+-- Who acts, what the act is free to do, what it recycles, if anything, and the objects by which rights are judged: those
+-- at the start.
 pub record Judge : Type 0 where
   pub actor : Actor
-  pub free : Dbref → Bool
+  pub free : Freedom
   pub gone : Option Dbref
   pub objects : List Entry
 
@@ -69,7 +76,7 @@ property_open j x path =
 
 abbrev pub place_open : Judge → Dbref → Dbref → Bool
 place_open j x to =
-    j.free x || ((is_emptied j x && is_way_home j x to)
+    j.free.moves x || ((is_emptied j x && is_way_home j x to)
     || ((nat_le 3 j.actor.level || owned j x) && (same to (home_of j x) || (nat_le 3 j.actor.level || controls_or jump j.objects j.actor to))))
 
 abbrev pub link_open : Judge → Dbref → Dbref → Bool
@@ -79,7 +86,7 @@ link_open j x to =
 
 abbrev pub home_open : Judge → Dbref → Dbref → Bool
 home_open j x to =
-    (owned j x && (same to (dbref_of 0) || (same to nothing || (same to home || controls_or link j.objects j.actor to))))
+    (owned j x && ((j.free.clears && same to (dbref_of 0)) || (same to nothing || (same to home || controls_or link j.objects j.actor to))))
     || (same to (dbref_of 0) && is_gone j (home_of j x))
 
 abbrev pub level_open_to : Judge → Dbref → ℕ → Kind → Bool
@@ -91,7 +98,7 @@ abbrev pub level_open : Judge → Dbref → ℕ → Bool
 level_open j x level = owned j x && level_open_to j x level (kind_of j x)
 
 abbrev pub lines_open : Judge → Dbref → Bool
-lines_open j x = owned j x && nat_le 1 (level_at j.objects j.actor.user)
+lines_open j x = j.free.edits x && (owned j x && nat_le 1 (level_at j.objects j.actor.user))
 
 abbrev pub owner_open : Judge → Dbref → Dbref → Bool
 owner_open j x owner = is_master j.actor || (same owner j.actor.user && may_take_over j.objects j.actor x)
@@ -169,21 +176,41 @@ SameTies a [] [] = Unit {0}
 SameTies a (c ∷ cs) (d ∷ ds) = (d.number ≡ c.number) × (d.player ≡ c.player) × Open (λ leaving. leave_open a c) c.leaving d.leaving × SameTies a cs ds
 SameTies a cs ds = ⊥
 
--- every difference is open to the actor, or a consequence of the one recycling that is
-pub record Licensed (a : Actor) (free : Dbref → Bool) (w v : Live) : Type 0 where
+-- the connections are those that were, and each is leaving as before, or may leave
+abbrev pub LeaversLicensed : (Connection → Bool) → List Connection → List Connection → Type 0
+LeaversLicensed may [] [] = Unit {0}
+LeaversLicensed may (c ∷ cs) (d ∷ ds) = (d.number ≡ c.number) × Open (λ leaving. may c) c.leaving d.leaving × LeaversLicensed may cs ds
+LeaversLicensed may cs ds = ⊥
+
+-- every difference is open to the actor, or a consequence of one recycling: of what it may recycle, and what is gone
+pub record Licensed (a : Actor) (free : Freedom) (w v : Live) : Type 0 where
   pub gone : Option Dbref
   pub recycled : (x : Dbref) → gone ≡ Some x → may_recycle w.objects a x ≡ true
+  pub vanished : (x : Dbref) → gone ≡ Some x → object_at x v.objects ≡ None
   pub objects : (n : ℕ) → Differs (record { actor = a; free = free; gone = gone; objects = w.objects }) (dbref_of n) (object_at (dbref_of n) w.objects) (object_at (dbref_of n) v.objects)
   pub lists : SameLists (record { actor = a; free = free; gone = gone; objects = w.objects }) w.objects v.objects
   pub connections : SameTies a w.board.connections v.board.connections
   pub tune : Open (λ tune. is_master a) w.board.tune v.board.tune
 
--- what may be moved freely: nothing; the player that walks; what it carries or what lies where it is
-abbrev pub nobody : Dbref → Bool
-nobody x = false
+-- What acts are free to do: nothing; to move what passes the test; to make `#0` a home, too; to change that source.
 
-abbrev pub oneself : Actor → Dbref → Bool
-oneself a x = same x a.player
+abbrev pub nobody : Freedom
+nobody = record { moves = λ x. false; clears = false; edits = λ x. false }
+
+abbrev pub moving : (Dbref → Bool) → Freedom
+moving test = record nobody { moves = test }
+
+abbrev pub clearing : Bool → Freedom → Freedom
+clearing clears free = record free { clears = clears || free.clears }
+
+abbrev pub editing : Dbref → Freedom
+editing program = record nobody { edits = same program }
+
+-- the player that walks moves itself
+abbrev pub oneself : Actor → Freedom
+oneself a = moving (same a.player)
+
+-- a thing or a program that the player carries, or that lies where it is
 
 abbrev pub at_hand_kind : Kind → Bool
 at_hand_kind Thing = true

@@ -1,5 +1,5 @@
 -- Which rule of permission denies an act.
-use Rattle.std.specs.Prelude.{ℕ, Bool, true, false, not, ◌&&◌, ◌||◌, ◌==◌, nat_lt, nat_le, if◌then◌else◌, List, [], ◌∷◌, Option, Some, None}
+use Rattle.std.specs.Prelude.{ℕ, suc, Bool, true, false, not, ◌&&◌, ◌||◌, ◌==◌, nat_lt, nat_le, if◌then◌else◌, List, [], ◌∷◌, Option, Some, None}
 use Rattle.std.specs.Option.{option_map, option_map_or}
 use Rattle.muck_model.specs.declared.dbref.Dbref.{Dbref}
 use Rattle.muck_model.specs.declared.dbref.Denial.{Denial}
@@ -13,7 +13,7 @@ use Rattle.spec_rights.specs.declared.act.Act.{Act}
 use Rattle.spec_rights.specs.declared.act.Act.TheVariants.{Shared, Start, Near, Read, Write, Move, Walk, Take, Link, NewRoom, NewThing, NewExit, NewProgram, Edit, Change, Rename, Password, Wizard, SetFlag, SetLevel, Recycle, SetOwner, EndProcess, Call}
 use Rattle.spec_rights.specs.declared.rule.Rule.{Rule}
 use Rattle.spec_rights.specs.declared.rule.Rule.TheVariants.{P1, P2, P3, P4, P5, P6, P7, P8, P9, P10, P11, P12, P13, P14, P15, P16, P17, P18, P19, P20, P21, P22, P23, P24}
-use Rattle.spec_rights.specs.Worth.{opens_at}
+use Rattle.spec_live.specs.Worth.{opens_at}
 use Rattle.spec_rights.specs.Levels.{master, level_at, owner_at, flag_at, is_player_at, controls_as, effective}
 
 -- Who may what.
@@ -132,46 +132,19 @@ denied_object P23 es a (EndProcess player program) = when (nat_lt a.level 4 && n
 denied_object P24 es a (Call program) = when (not (controls_or link es a program)) program
 denied_object rule es a act = None
 
-abbrev pub number_of : Rule → ℕ
-number_of P1 = 1
-number_of P2 = 2
-number_of P3 = 3
-number_of P4 = 4
-number_of P5 = 5
-number_of P6 = 6
-number_of P7 = 7
-number_of P8 = 8
-number_of P9 = 9
-number_of P10 = 10
-number_of P11 = 11
-number_of P12 = 12
-number_of P13 = 13
-number_of P14 = 14
-number_of P15 = 15
-number_of P16 = 16
-number_of P17 = 17
-number_of P18 = 18
-number_of P19 = 19
-number_of P20 = 20
-number_of P21 = 21
-number_of P22 = 22
-number_of P23 = 23
-number_of P24 = 24
-
-abbrev pub denial : Rule → Dbref → Denial
-denial rule d = record { rule = number_of rule; object = d }
-
 abbrev pub or_else : {X : Type 0} → Option X → Option X → Option X
 or_else None next = next
 or_else (Some x) next = Some x
 
-abbrev pub first_denial : List Rule → List Entry → Actor → Act → Option Denial
-first_denial [] es a act = None
-first_denial (rule ∷ rules) es a act = or_else (option_map (denial rule) (denied_object rule es a act)) (first_denial rules es a act)
+-- the rules, by their numbers from n on
+abbrev pub first_denial : ℕ → List Rule → List Entry → Actor → Act → Option Denial
+first_denial n [] es a act = None
+first_denial n (rule ∷ rules) es a act =
+    or_else (option_map (λ d. record { rule = n; object = d }) (denied_object rule es a act)) (first_denial (suc n) rules es a act)
 
 abbrev pub rules : List Rule
 rules = P1 ∷ P2 ∷ P3 ∷ P4 ∷ P5 ∷ P6 ∷ P7 ∷ P8 ∷ P9 ∷ P10 ∷ P11 ∷ P12 ∷ P13 ∷ P14 ∷ P15 ∷ P16 ∷ P17 ∷ P18 ∷ P19 ∷ P20 ∷ P21 ∷ P22 ∷ P23 ∷ P24 ∷ []
 
--- the denial by the first rule, in this order, that denies the act; none where it is allowed
+-- the denial by the first rule, in this order, that denies the act, with its number from 1 on; none where it is allowed
 abbrev pub verdict : List Entry → Actor → Act → Option Denial
-verdict es a act = first_denial rules es a act
+verdict es a act = first_denial 1 rules es a act

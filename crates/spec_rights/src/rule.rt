@@ -1,6 +1,6 @@
 // The rules of permission by name.
 ghost use Rattle.std.specs.Prelude.{◌≡◌};
-ghost use Rattle.spec_rights.specs.Verdict.{number_of, denial};
+ghost use Rattle.spec_rights.specs.inner.Numbers.{number_of, denial};
 
 use muck_model::{Dbref, Denial};
 

@@ -4,7 +4,7 @@ use Rattle.muf_model.specs.declared.code.Instr.TheVariants.{Unset}
 use Rattle.muf_model.specs.declared.code.Placed.{Placed}
 use Rattle.muf_model.specs.declared.code.Code.{Code}
 use Rattle.muf_model.specs.Tree.{Fork, if_word, try_word, Ring, begin_word, for_word, each_word, Block, Tree}
-use Rattle.muf_model.specs.Stands.{Stands, IsAt, fork_instr, WordsStand, TreeStands}
+use Rattle.muf_model.specs.Stands.{Stands, IsAt, fork_instr, WordsStand, InRow, TreeStands}
 use Rattle.muf_compile.specs.declared.hole.Hole.{Hole}
 use Rattle.muf_compile.specs.declared.hole.Pending.{Pending}
 use Rattle.muf_compile.specs.declared.hole.Pending.TheVariants as pending
@@ -50,6 +50,7 @@ pub record BuiltFits (b : Built) (g : Growth) : Type 0 where
   pub within : start ≤ length b.code
   pub opens : OpensFit b.code b.start g.around b.pending start
   pub words : WordsStand b.code b.words g.words
+  pub row : InRow b.code 0 b.words g.words b.start
   pub title : b.title ≡ g.title
 
 abbrev pub MadeAlike : Made → Grown → Type 0

@@ -5,7 +5,7 @@ use Rattle.cmd_common.proofs.Texts.{trimmed_text}
 use Rattle.cmd_common.proofs.parts.after_sign.Goals as goal
 
 -- what stands behind the sign is a text
-pub line_of-requires-2 : goal.line_of-requires-2
-line_of-requires-2 c =
+pub of_text-requires-2 : goal.of_text-requires-2
+of_text-requires-2 c =
     let P : List ℕ → Type 0 = λ l. text_fault l ≡ None in
     subst P (sym c.trim.ensures) (trimmed_text c.split_at.result.1.now (subst P (sym c.split_at.ensures.back) (text_fault-drop 1 c.as_slice-bytes.result.now c.as_slice-bytes.ensures.text)))

@@ -1,7 +1,6 @@
 use Rattle.std.proofs.Common.{◌≡◌, subst, sym}
 use Rattle.muck_prop.specs.declared.value.PropValue.{PropValue}
-use Rattle.spec_live.specs.Seen.{holdings_of}
-use Rattle.spec_rights.specs.Worth.{kept_opens}
+use Rattle.spec_live.specs.Worth.{holdings_of, kept_opens}
 use Rattle.muck_perm.proofs.locks.kept_opens.Goals as goal
 
 pub returns-in-Text : goal.returns-in-Text

@@ -7,4 +7,4 @@ use Rattle.tests_language.proofs.processes.code_of.Goals as goal
 
 pub returns-in-Ok-compile-clause-stands : goal.returns-in-Ok-compile-clause-stands
 returns-in-Ok-compile-clause-stands c =
-    mapped _ _ c.new-in-Ok-compile.result (λ s e. subst (λ code. TreeStands code (tree_of code)) (sym e) (compiled_stands _ c.in-Ok-compile.code c.in-Ok-compile.ensures)) c.new-in-Ok-compile.ensures
+    mapped _ _ c.new-in-Ok-compile.result (λ s e. subst (λ code. TreeStands code (tree_of code)) (sym e) (compiled_stands _ c.in-Ok-compile.code c.in-Ok-compile.ensures.code)) c.new-in-Ok-compile.ensures

@@ -1,30 +1,20 @@
 -- How the items of a word are written: the grammar, rule by rule.
-use Rattle.std.specs.Prelude.{ℕ, Bool, true, List, [], ◌∷◌, ◌++◌, Ok}
-use Rattle.muf_model.specs.declared.code.Offer.{Offer as Offered}
+use Rattle.std.specs.Prelude.{ℕ, Bool, true, List, [], ◌∷◌, ◌++◌}
 use Rattle.muf_model.specs.declared.code.Word.{Word}
 use Rattle.muf_model.specs.declared.code.Word.TheVariants.{NextIndex, NextPair}
 use Rattle.muf_model.specs.declared.code.Closer.TheVariants as closer
 use Rattle.muf_model.specs.Tree.{if_word, try_word, begin_word, for_word, each_word, Block, stop, word, when, fork, ring}
 use Rattle.muf_compile.specs.declared.act.Opening.TheVariants as opening
 use Rattle.muf_compile.specs.declared.act.Act.{Act}
-use Rattle.muf_compile.specs.declared.act.Act.TheVariants.{Wait, Title, Item, Jump, Open, Else, Then, Catch, EndCatch, Repeat, Until, End, Offer}
+use Rattle.muf_compile.specs.declared.act.Act.TheVariants.{Item, Jump, Open, Else, Then, Catch, EndCatch, Repeat, Until}
 use Rattle.muf_compile.specs.declared.act.Reading.{Reading}
-use Rattle.muf_compile.specs.Faults.{and_then}
-use Rattle.muf_compile.specs.Growth.{Growth, Grown, grow}
 
 abbrev pub at_line : ℕ → Act → Reading
 at_line line a = record { line = line; act = a }
 
--- an act that makes no item
-pub data Silent : Act → Type 0 where
-  waits : Silent Wait
-  titles : {name : List ℕ} → Silent (Title name)
-  offers : {n : ℕ} {o : Offered} → Silent (Offer n o)
-
 -- Items in these words; `true` where they stand in a loop, as BREAK, CONTINUE and WHILE do.
 pub data Spells : Bool → Block → List Reading → Type 0 where
   nothing : {l : Bool} → Spells l stop []
-  silent : {l : Bool} {b : Block} {rs : List Reading} (line : ℕ) {a : Act} → Silent a → Spells l b rs → Spells l b (at_line line a ∷ rs)
   item : {l : Bool} {line : ℕ} {w : Word} {next : Block} {rs : List Reading} → Spells l next rs → Spells l (word line w next) (at_line line (Item w) ∷ rs)
   jump : {line : ℕ} {w : Word} {next : Block} {rs : List Reading} → Spells true next rs → Spells true (word line w next) (at_line line (Jump w) ∷ rs)
   if_then : {l : Bool} {line : ℕ} (last : ℕ) {a next : Block} (xs : List Reading) {rs : List Reading} → Spells l a xs → Spells l next rs → Spells l (when line a next) (at_line line (Open opening.If) ∷ (xs ++ at_line last Then ∷ rs))
@@ -34,17 +24,3 @@ pub data Spells : Bool → Block → List Reading → Type 0 where
   begin_until : {l : Bool} {line last : ℕ} {a next : Block} (xs : List Reading) {rs : List Reading} → Spells true a xs → Spells l next rs → Spells l (ring begin_word line a closer.Until last next) (at_line line (Open opening.Begin) ∷ (xs ++ at_line last Until ∷ rs))
   for_repeat : {l : Bool} {line last : ℕ} {a next : Block} (xs : List Reading) {rs : List Reading} → Spells true a xs → Spells l next rs → Spells l (ring for_word line (word line NextIndex a) closer.Repeat last next) (at_line line (Open opening.For) ∷ (xs ++ at_line last Repeat ∷ rs))
   each_repeat : {l : Bool} {line last : ℕ} {a next : Block} (xs : List Reading) {rs : List Reading} → Spells true a xs → Spells l next rs → Spells l (ring each_word line (word line NextPair a) closer.Repeat last next) (at_line line (Open opening.Each) ∷ (xs ++ at_line last Repeat ∷ rs))
-
--- the tree after these acts
-abbrev pub growths : List Reading → Growth → Grown
-growths [] g = Ok g
-growths (r ∷ rs) g = and_then (grow r.line r.act g) (growths rs)
-
--- an act that doesn't end a word
-abbrev pub IsInside : Act → Type 0
-IsInside (End n) = ⊥
-IsInside _ = Unit {0}
-
-abbrev pub AllInside : List Reading → Type 0
-AllInside [] = Unit {0}
-AllInside (r ∷ rs) = IsInside r.act × AllInside rs

@@ -1,0 +1,6 @@
+use Rattle.spec_commands.specs.EditRows.{rows as edit_rows}
+use Rattle.spec_commands.specs.ProgramRows.{rows as program_rows}
+use Rattle.spec_commands.proofs.rows.rows_hold.Goals as goal
+
+pub returns : goal.returns
+returns c = record { edit_rows = edit_rows; program_rows = program_rows }

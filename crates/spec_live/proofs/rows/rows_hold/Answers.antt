@@ -1,0 +1,5 @@
+use Rattle.spec_live.specs.Rows.{rows}
+use Rattle.spec_live.proofs.rows.rows_hold.Goals as goal
+
+pub returns : goal.returns
+returns c = record { rows = rows }
