@@ -6,10 +6,10 @@ mod dicts;
 mod fault;
 mod kind;
 mod lists;
-mod measures;
 mod needs;
 mod prims;
 mod shared;
+mod size;
 mod text;
 mod value;
 
@@ -19,6 +19,7 @@ pub use kind::ItemKind;
 pub use needs::{Many, Need, Needs, Want};
 pub use prims::{Family, Primitive, Row};
 pub use shared::Shared;
+pub use size::{Size, ValueFault};
 pub use text::Text;
 pub use value::{MapKey, Pair, Value, ValueList, ValueMap};
 

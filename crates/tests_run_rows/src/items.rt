@@ -49,13 +49,17 @@ fn item_of(alloc: Global, items: &mut Vec<Value>, kind: TokenKind) -> Result<Val
         b"dict" => {
             let mut dict = ValueMap::new(alloc)?;
             if let Some(value) = items.pop() {
-                dict.put(MapKey::Number(0), value)?;
+                if dict.put(MapKey::Number(0), value).is_err() {
+                    return Err(NoMemory);
+                }
             }
             Ok(Value::Dict(Arc::new(alloc, dict)?))
         }
         b"list" => {
-            let list = ValueList::of(replace(items, Vec::new(alloc)));
-            Ok(Value::Items(Arc::new(alloc, list)?))
+            match ValueList::of(replace(items, Vec::new(alloc))) {
+                Some(list) => Ok(Value::Items(Arc::new(alloc, list)?)),
+                None => Err(NoMemory),
+            }
         }
         _ => Ok(Value::Mark),
     }
@@ -94,26 +98,15 @@ pub fn item_text(alloc: Global, item: &Value) -> Result<Vec<u8>, NoMemory> {
     Ok(text.into_bytes())
 }
 
-/// Whether an item counts as true; and the weight and the nesting of a copy, each with the least bound within which it is.
+/// Whether an item counts as true; and the weight and the nesting of a copy.
 pub fn value_row(alloc: Global, words: &[u8]) -> Result<Vec<u8>, NoMemory> {
     let mut text = Vec::new(alloc);
     for item in items_of(alloc, words)? {
         let copy = item.copy()?;
         part(&mut text, if item.is_true() { b"true" } else { b"false" })?;
-        for most in 0..100 {
-            if let Some(weight) = copy.weight(most) {
-                let said = format!(in alloc; "weight {weight} within {most}")?;
-                part(&mut text, said.as_bytes())?;
-                break;
-            }
-        }
-        for most in 0..100 {
-            if let Some(nesting) = copy.nesting(most) {
-                let said = format!(in alloc; "nesting {nesting} within {most}")?;
-                part(&mut text, said.as_bytes())?;
-                break;
-            }
-        }
+        let (weight, nesting) = (copy.weight(), copy.nesting());
+        let said = format!(in alloc; "weight {weight} nesting {nesting}")?;
+        part(&mut text, said.as_bytes())?;
     }
     Ok(text)
 }
