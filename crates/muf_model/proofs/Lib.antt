@@ -5,9 +5,12 @@ pub mod Settling
 pub mod Standing
 pub mod Nesting
 pub mod Sized
+mod KeptRows
+pub mod KeptUnits
 pub mod Truth
 pub mod Unique
 mod Worked
+mod WorkedArrays
 mod Naming
 pub mod Places
 pub mod Chains

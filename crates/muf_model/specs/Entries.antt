@@ -3,7 +3,7 @@ use Rattle.std.specs.Prelude.{◌≡◌, ℕ, zero, suc, Bool, true, false, List
 use Rattle.std.specs.Ordering.{int_eq}
 use Rattle.muf_model.specs.declared.value.MapKey.{MapKey}
 use Rattle.muf_model.specs.declared.value.MapKey.TheVariants.{Number, Name}
-use Rattle.muf_model.specs.Datum.{Datum}
+use Rattle.muf_model.specs.Datum.{Datum, int, text}
 use Rattle.muf_model.specs.Measures.{key_below}
 
 -- whether two keys are one
@@ -44,3 +44,8 @@ entry_place k ((l, x) ∷ es) = if key_same k l then 0 else (if key_below k l th
 abbrev pub has_key : MapKey → Option (MapKey × Datum) → Bool
 has_key k (Some e) = key_same k e.0
 has_key k None = false
+
+-- a key as a value
+abbrev pub key_datum : MapKey → Datum
+key_datum (Number n) = int n
+key_datum (Name t) = text t

@@ -18,10 +18,12 @@ pub mod StackRows
 pub mod NumberRows
 pub mod Texts
 pub mod TextRows
+pub mod ArrayRows
 pub mod Rows
 pub mod Source
 pub mod Unit
 pub mod Nested
+pub mod Held
 pub mod Flat
 pub mod Fits
 pub mod Chains
