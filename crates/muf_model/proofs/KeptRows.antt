@@ -1,10 +1,10 @@
 -- What each primitive gives that needs no world are values, where what it is given are.
-use Rattle.std.proofs.Common.{◌≡◌, ◌≤◌, ℕ, zero, suc, ◌+◌, ◌-◌, Bool, true, false, cond, refl, List, [], ◌∷◌, ◌++◌, take, drop, reverse, length, map, arith, Option, Some, None}
+use Rattle.std.proofs.Common.{◌≡◌, ◌≤◌, ℕ, zero, suc, ◌+◌, ◌-◌, Bool, true, false, cond, refl, sym, subst, List, [], ◌∷◌, ◌++◌, take, drop, reverse, length, map, arith, Option, Some, None}
 use Rattle.std.specs.Prelude.{ℤ, pos, negsuc, nat_lt, nat_le, not, ◌&&◌, ◌==◌, position, slice_get, slice_set, if◌then◌else◌}
 use Rattle.std.specs.Ordering.{int_eq}
 use Rattle.std.specs.List.{AllByRecursion}
 use Rattle.std.proofs.lemmas.Bool.Decides.{nat_tests}
-use Rattle.std.proofs.lemmas.List.Elements.{All-from_recursion, recursion_from_All, All-replicate}
+use Rattle.std.proofs.lemmas.Grind.{reverse_onto}
 use Rattle.muck_model.specs.Bytes.{text_most}
 use Rattle.muf_model.specs.declared.prims.Primitive.{Primitive}
 use Rattle.muf_model.specs.declared.prims.Primitive.TheVariants as p
@@ -77,7 +77,8 @@ dropped (suc n) (x ∷ xs) h = dropped n xs h.1
 
 pub turned_round : (xs : List Datum) → AreValues xs → AreValues (reverse xs)
 turned_round [] h = tt
-turned_round (x ∷ xs) h = appended (reverse xs) (x ∷ []) (turned_round xs h.1) (h.0, tt)
+turned_round (x ∷ xs) h =
+    subst AreValues (sym (reverse_onto xs x [])) (appended (reverse xs) (x ∷ []) (turned_round xs h.1) (h.0, tt))
 
 pub replaced : (i : ℕ) (xs : List Datum) (x : Datum) → AreValues xs → IsValue x → AreValues (slice_set xs i x)
 replaced i [] x h v = tt

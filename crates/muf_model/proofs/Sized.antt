@@ -23,7 +23,7 @@ pub sized : (d : Datum) (size : Size) → weight d ≡ 1 + size.weight → nesti
 sized d size w n r h =
     record { weighs = w; nests = n; is_value = record { fitting = fitting size.weight size.nesting _ _ w n ∙ h; rising = r } }
 
-both_within : (w n : ℕ) → (nat_le (1 + w) 65536 && nat_le (1 + n) 64) ≡ true → (w ≤ 65535) × (n ≤ 63)
+pub both_within : (w n : ℕ) → (nat_le (1 + w) 65536 && nat_le (1 + n) 64) ≡ true → (w ≤ 65535) × (n ≤ 63)
 both_within w n h = (grind (arith, nat_tests, h), grind (arith, nat_tests, h))
 
 pub within : (d : Datum) (size : Size) → IsSized d size → (size.weight ≤ 65535) × (size.nesting ≤ 63)

@@ -1,5 +1,5 @@
 -- What a running program holds: each datum on its stack, in its variables and in what encloses its items is a value.
-use Rattle.std.specs.Prelude.{List, Option, Some, None}
+use Rattle.std.specs.Prelude.{List}
 use Rattle.std.specs.List.{AllByRecursion}
 use Rattle.muf_model.specs.Datum.{Datum}
 use Rattle.muf_model.specs.Values.{IsValue}
