@@ -24,9 +24,9 @@ use Rattle.muf_model.specs.Held.{AreValues, AreEntries, MarkHolds, HoldsValues, 
 use Rattle.muf_model.specs.Answer.{Answer, gives, stores, calls, refuses, owned_first, call_first, variable_at, too_few, needing, fitting}
 use Rattle.muf_model.specs.Rows.{primitive}
 use Rattle.muf_model.specs.Tree.{Fork, if_word, try_word, Ring, begin_word, for_word, each_word, Block, stop, word, when, fork, ring, End, closes, hops, then_block, Definition}
-use Rattle.muf_model.specs.Source.{Turns, plain, indices, pairs, Program, Mark, looping, trying, calling, entering, Owned, Source, owned_by, with_owned, zeros, locked_of, calls_of, open_of, scope_of, with_variable, called}
+use Rattle.muf_model.specs.Source.{Turns, plain, indices, pairs, Program, Mark, looping, trying, calling, entering, Owned, Source, owned_by, with_owned, zeros, locked_of, calls_of, open_of, scope_of, with_variable, called, started}
 use Rattle.muf_model.specs.Unit as step
-use Rattle.muf_model.specs.Unit.{Outcome, goes, ended, faulted, asks, stuck, unit, Settled, ready, crowded}
+use Rattle.muf_model.specs.Unit.{Outcome, goes, ended, faulted, asks, stuck, unit, units, and_then, Settled, ready, crowded}
 use Rattle.muf_model.proofs.Sized.{both_within}
 use Rattle.muf_model.proofs.KeptRows.{either, int_is, text_is, object_is, variable_is, address_is, a_value, appended, taken, dropped, turned_round, replaced, AnswerHolds, ScopeHolds, fits_held, needs_held, stored_held, primitive_held}
 
@@ -300,3 +300,21 @@ settled_acts (crowded s) h = faults CallsFull s h
 -- a unit of a state that holds values goes on with one that does
 pub unit_held : (s : Source) → HoldsValues s → StaysHeld (unit s)
 unit_held s h = settled_acts (step.settle s) (settles s.now s h)
+
+-- and many units
+then_units : (m : ℕ) (o : Outcome) → ((t : Source) → HoldsValues t → StaysHeld (units m t)) → StaysHeld o → StaysHeld (and_then o (units m))
+then_units m (goes zero t) more h = more t h
+then_units m (goes (suc k) t) more h = h
+then_units m ended more h = tt
+then_units m (faulted f) more h = tt
+then_units m (asks name t) more h = h
+then_units m stuck more h = tt
+
+pub units_held : (m : ℕ) (s : Source) → HoldsValues s → StaysHeld (units m s)
+units_held zero s h = h
+units_held (suc m) s h = then_units m (unit s) (units_held m) (unit_held s h)
+
+-- the state in which a process begins
+pub started_held : (p : Program) (d : Definition) (common : List Datum) (argument : List ℕ) → AreValues common → HoldsValues (started p d common argument)
+started_held p d common argument h =
+    record { stack = (text_is argument, tt); common = h; owned = (taken p.tree.variables (zeros p.tree.variables) (zeros_held p.tree.variables), tt); variables = zeros_held d.variables; marks = tt }
