@@ -443,9 +443,9 @@ does_held (whole f) needs s stack d k h = d s stack k h
 used_held : (level : ℕ) (needs : Option Needs) (deed : Option Deed) (s : Scope) (stack : List Datum) → RowHolds deed → ScopeHolds s → AreValues stack → AnswerHolds (used level needs deed s stack)
 used_held level (Some needs) (Some d) s stack r k h =
     passes (ladder level needs any_level all_there s.locked stack) (does d needs s stack) (does_held d needs s stack r k h) where
-  passes : (o : Option MufFault) (a : Answer) → AnswerHolds a → AnswerHolds (unless o a)
-  passes None a h = h
-  passes (Some f) a h = tt
+      passes : (o : Option MufFault) (a : Answer) → AnswerHolds a → AnswerHolds (unless o a)
+      passes None a h = h
+      passes (Some f) a h = tt
 used_held level None deed s stack r k h = tt
 used_held level (Some needs) None s stack r k h = tt
 

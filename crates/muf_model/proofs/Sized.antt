@@ -161,10 +161,10 @@ pub part_fits : (i : ℕ) (ds : List Datum) (d : Datum) (s t : Size) → i < len
     IsSized (items (data_of (take (i + 1) ds))) t
 part_fits i ds d s t h e z v w n f =
     sized (items (data_of (take (i + 1) ds))) t (omega (arith, weight_part i ds d h e, z.weighs, w)) (omega (arith, nesting_part i ds d h e, z.nests, n)) (rise_part i ds d h e z.is_value.rising v.rising) f where
-  rise_part : (i : ℕ) (ds : List Datum) (d : Datum) → i < length ds → d ≡ get_or ds i d → RiseInData (data_of (take i ds)) → KeysRise d → RiseInData (data_of (take (i + 1) ds))
-  rise_part i [] d h e r k = absurd (omega arith)
-  rise_part zero (x ∷ ds) d h e r k = rw (← e) (k, tt)
-  rise_part (suc i) (x ∷ ds) d h e r k = let j : suc i + 1 ≡ suc (i + 1) = omega arith in rw j (r.0, rise_part i ds d (omega arith) e r.1 k)
+      rise_part : (i : ℕ) (ds : List Datum) (d : Datum) → i < length ds → d ≡ get_or ds i d → RiseInData (data_of (take i ds)) → KeysRise d → RiseInData (data_of (take (i + 1) ds))
+      rise_part i [] d h e r k = absurd (omega arith)
+      rise_part zero (x ∷ ds) d h e r k = rw (← e) (k, tt)
+      rise_part (suc i) (x ∷ ds) d h e r k = let j : suc i + 1 ≡ suc (i + 1) = omega arith in rw j (r.0, rise_part i ds d (omega arith) e r.1 k)
 
 pub part_unfit : (i : ℕ) (ds : List Datum) (d : Datum) (s t : Size) → i < length ds → d ≡ get_or ds i d → IsSized (items (data_of (take i ds))) s → t.weight ≡ s.weight + weight d → t.nesting ≡ max s.nesting (nesting d) → size_fits t ≡ false →
     fits (items (data_of ds)) ≡ false

@@ -9,8 +9,8 @@ ghost use Rattle.muf_model.specs.Measures.{data_weight, data_nesting, pairs_weig
 ghost use Rattle.muf_model.specs.Entries.{key_same, entry_of, with_entry, entry_place, has_key};
 ghost use Rattle.muf_model.specs.Values.{IsValue, IsSized, Becomes};
 
-use crate::{MapKey, Pair, Size, Value, ValueFault, ValueMap};
 use crate::size::deeper;
+use crate::{MapKey, Pair, Size, Value, ValueFault, ValueMap};
 use muck_model::NoMemory;
 use std::alloc::Global;
 use std::sync::Arc;

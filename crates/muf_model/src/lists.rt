@@ -8,8 +8,8 @@ ghost use Rattle.muf_model.specs.View.{view};
 ghost use Rattle.muf_model.specs.Measures.{data_weight, data_nesting};
 ghost use Rattle.muf_model.specs.Values.{IsValue, IsSized, HasSize, Makes, Becomes};
 
-use crate::{Size, Value, ValueFault, ValueList};
 use crate::size::deeper;
+use crate::{Size, Value, ValueFault, ValueList};
 use muck_model::NoMemory;
 use std::alloc::Global;
 use std::sync::Arc;
