@@ -1,5 +1,5 @@
--- Which programs a unit leaves, and what a process makes of many units at once.
-use Rattle.std.proofs.Common.{◌≡◌, ℕ, zero, suc, ◌+◌, ◌-◌, ◌<◌, ◌≤◌, List, [], ◌∷◌, ◌++◌, take, reverse, drop, Bool, true, false, cond, refl, sym, ap, ◌∙◌, subst, arith}
+-- Which programs a unit leaves, and how many units are taken.
+use Rattle.std.proofs.Common.{◌≡◌, ℕ, zero, suc, ◌+◌, ◌-◌, ◌<◌, ◌≤◌, List, [], ◌∷◌, ◌++◌, take, reverse, drop, Bool, true, false, cond, refl, ap, ◌∙◌, subst, arith}
 use Rattle.std.specs.Prelude.{length, nat_lt, pos, negsuc, Option, Some, None, slice_get, slice_set}
 use Rattle.muf_model.specs.declared.code.Word.{Word}
 use Rattle.muf_model.specs.declared.code.Word.TheVariants.{Literal, Variable, Address, Primitive, Call, Bind, Store, Exit, Break, Continue, While, NextIndex, NextPair}
@@ -17,7 +17,7 @@ use Rattle.muf_model.specs.Tree.{Fork, if_word, try_word, Ring, begin_word, for_
 use Rattle.muf_model.specs.Source.{plain, indices, pairs, Program, Mark, looping, trying, calling, entering, Source, locked_of, with_variable, with_owned, owned_by, scope_of, open_of}
 use Rattle.muf_model.specs.Unit as step
 use Rattle.muf_model.specs.Unit.{Outcome, goes, ended, faulted, asks, stuck, unit, units, and_then, Settled, ready, crowded}
-use Rattle.muf_model.specs.Chains.{Deed, chain, chained, resumed, callers_of, programs_of, count, taken, StandsAt, Keeps}
+use Rattle.muf_model.specs.Chains.{callers_of, programs_of, count, taken, StandsAt, Keeps}
 
 -- the same of an outcome by its form
 data Holds (ps : List Program) : Outcome → Type 0 where
@@ -39,11 +39,6 @@ holds ps ended done = tt
 holds ps (faulted f) broken = tt
 holds ps (asks p t) (asking e h) = (e, h)
 holds ps stuck lost = tt
-
--- the running one of some programs
-abbrev first_program : Program → List Program → Program
-first_program p [] = p
-first_program p (q ∷ qs) = q
 
 drop_one : (k : ℕ) (p : Program) (ps qs : List Program) → p ∷ qs ≡ drop k ps → qs ≡ drop (suc k) ps
 drop_one zero p (q ∷ ps) qs e = ap (drop 1) e
@@ -285,19 +280,6 @@ pub taken_most : (m : ℕ) (s : Source) → taken m s ≤ m
 taken_most zero s = omega arith
 taken_most (suc m) s = count_most m (unit s) (taken_most m)
 
--- all are taken where the process goes on in the same program
-count_all : (m : ℕ) (o : Outcome) (t : Source) → ((u : Source) → units m u ≡ goes 0 t → taken m u ≡ m) → and_then o (units m) ≡ goes 0 t → count o (taken m) ≡ suc m
-count_all m (goes zero u) t h e = ap (λ n. suc n) (h u e)
-count_all m (goes (suc k) u) t h e = absurd cc
-count_all m ended t h e = absurd cc
-count_all m (faulted f) t h e = absurd cc
-count_all m (asks p u) t h e = absurd cc
-count_all m stuck t h e = absurd cc
-
-pub taken_all : (m : ℕ) (s t : Source) → units m s ≡ goes 0 t → taken m s ≡ m
-taken_all zero s t e = refl
-taken_all (suc m) s t e = count_all m (unit s) t (λ u g. taken_all m u t g) e
-
 -- and one at least, but before a shared primitive
 count_some : (m : ℕ) (o : Outcome) → ((p : Name) (t : Source) → and_then o (units m) ≡ asks p t → ⊥) → 1 ≤ count o (taken m)
 count_some m (goes zero u) h = omega arith
@@ -310,29 +292,3 @@ count_some m stuck h = omega arith
 pub taken_some : (m : ℕ) (s : Source) → 0 < m → ((p : Name) (t : Source) → units m s ≡ asks p t → ⊥) → 1 ≤ taken m s
 taken_some zero s l h = absurd (omega (arith, l))
 taken_some (suc m) s l h = count_some m (unit s) h
-
--- The chain of a process is that of its units one by one: many of them at once make the same.
-module _ {W : Type 0} (deed : Name → Source → W → Deed W) where
-  run_on : (n m : ℕ) (s : Source) (w : W) (o : Outcome) → unit s ≡ o → m ≤ n → ((t : Source) → chain deed n t w ≡ resumed deed (n - taken m t) t.program.number (units m t) w) → chained (chain deed n) deed s.program.number o w ≡ resumed deed (suc n - count o (taken m)) s.program.number (and_then o (units m)) w
-  unfolding chain
-  run_on n m s w (goes zero t) e l h =
-      let kept : programs_of t ≡ programs_of s = subst (Keeps (programs_of s)) e (unit_keeps s) in
-      let same : t.program.number ≡ s.program.number = ap (λ ps. (first_program s.program ps).number) kept in
-      let left : suc n - suc (taken m t) ≡ n - taken m t = omega arith in
-      rw left (h t ∙ ap (λ number. resumed deed (n - taken m t) number (units m t) w) same)
-  run_on n m s w (goes (suc k) t) e l h =
-      let left : suc n - 1 ≡ n = omega arith in ap (λ r. chain deed r t w) (sym left)
-  run_on n m s w ended e l h = refl
-  run_on n m s w stuck e l h = refl
-  run_on n m s w (faulted f) e l h = refl
-  run_on n m s w (asks p t) e l h =
-      let kept : Keeps (programs_of s) (asks p t) = subst (Keeps (programs_of s)) e (unit_keeps s) in
-      let all : suc n - 0 ≡ suc n = omega arith in
-      sym (ap (λ r. chain deed r t w) all ∙ ap (λ o. chained (chain deed n) deed t.program.number o w) kept.1.asked)
-
-  pub run_law : (m n : ℕ) (s : Source) (w : W) → m ≤ n → chain deed n s w ≡ resumed deed (n - taken m s) s.program.number (units m s) w
-  unfolding chain
-  run_law zero n s w l = let left : n - 0 ≡ n = omega arith in ap (λ r. chain deed r s w) (sym left)
-  run_law (suc m) zero s w l = absurd (omega (arith, l))
-  run_law (suc m) (suc n) s w l =
-      run_on n m s w (unit s) refl (omega (arith, l)) (λ t. run_law m n t w (omega (arith, l)))

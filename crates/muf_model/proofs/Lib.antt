@@ -7,7 +7,6 @@ pub mod Nesting
 pub mod Truth
 pub mod Unique
 pub mod Views
-mod Worked
 mod Naming
 pub mod Places
 pub mod Chains

@@ -1,52 +1,17 @@
--- A process: its units, and what the shared primitives do between them.
-use Rattle.std.specs.Prelude.{◌≡◌, ℕ, zero, suc, drop, List, [], ◌∷◌, ℤ}
+-- A process: what a shared primitive did, the programs that it is in, and how many units are taken.
+use Rattle.std.specs.Prelude.{◌≡◌, ℕ, zero, suc, drop, List, [], ◌∷◌}
 use Rattle.muf_model.specs.declared.fault.MufFault.{MufFault}
-use Rattle.muf_model.specs.declared.fault.MufFault.TheVariants.{TooManyUnits}
 use Rattle.muf_model.specs.declared.prims.Primitive.{Primitive as Name}
 use Rattle.muf_model.specs.declared.code.Word.TheVariants.{Primitive}
 use Rattle.muf_model.specs.Tree.{Block, word}
 use Rattle.muf_model.specs.Source.{Program, Mark, looping, trying, calling, entering, Source}
-use Rattle.muf_model.specs.Unit.{Outcome, goes, ended, faulted, asks, stuck, unit, fault}
+use Rattle.muf_model.specs.Unit.{Outcome, goes, ended, faulted, asks, stuck, unit}
 
 -- What a shared primitive did, from the state at it: it was done, and the state is behind it; or it was refused. The
 -- world may have changed either way.
 pub data Deed (W : Type 0) : Type 0 where
   does : Source → W → Deed W
   fails : MufFault → W → Deed W
-
--- How a process ends: by itself; by a fault that no TRY caught, of the program of this number; or in a state that is
--- stuck, which no nested one comes to.
-pub data Finish : Type 0 where
-  over : Finish
-  broke : ℤ → MufFault → Finish
-  astray : Finish
-
-module _ {W : Type 0} where
-  -- after a fault: the process goes on where it was caught
-  abbrev pub raised : (Source → W → W × Finish) → ℤ → Outcome → W → W × Finish
-  raised go number (goes k t) w = go t w
-  raised go number (faulted f) w = (w, broke number f)
-  raised go number ended w = (w, astray)
-  raised go number (asks p t) w = (w, astray)
-  raised go number stuck w = (w, astray)
-
-  -- after a shared primitive
-  abbrev pub after_deed : (Source → W → W × Finish) → Source → Deed W → W × Finish
-  after_deed go t (does u v) = go u v
-  after_deed go t (fails f v) = raised go t.program.number (fault f t) v
-
-  -- a unit, and what follows
-  abbrev pub chained : (Source → W → W × Finish) → (Name → Source → W → Deed W) → ℤ → Outcome → W → W × Finish
-  chained go deed number (goes k t) w = go t w
-  chained go deed number ended w = (w, over)
-  chained go deed number (faulted f) w = (w, broke number f)
-  chained go deed number (asks p t) w = after_deed go t (deed p t w)
-  chained go deed number stuck w = (w, astray)
-
--- A process runs to its end, in n units at most: one unit more is the fault of too many.
-unfoldable pub chain : {W : Type 0} → (Name → Source → W → Deed W) → ℕ → Source → W → W × Finish
-chain deed zero s w = (w, broke s.program.number TooManyUnits)
-chain deed (suc n) s w = chained (chain deed n) deed s.program.number (unit s) w
 
 -- the programs that a process is in below the running one, the nearest first
 abbrev pub callers_of : List Mark → List Program
@@ -73,14 +38,6 @@ count stuck more = 1
 abbrev pub taken : ℕ → Source → ℕ
 taken zero s = 0
 taken (suc n) s = count (unit s) (taken n)
-
--- What follows units that ended so, where so many more are left, of a process in the program of this number.
-abbrev pub resumed : {W : Type 0} → (Name → Source → W → Deed W) → ℕ → ℤ → Outcome → W → W × Finish
-resumed deed more number (goes k t) w = chain deed more t w
-resumed deed more number ended w = (w, over)
-resumed deed more number (faulted f) w = (w, broke number f)
-resumed deed more number (asks p t) w = chain deed more t w
-resumed deed more number stuck w = (w, astray)
 
 -- the state stands at this shared primitive
 pub record StandsAt (p : Name) (s : Source) : Type 0 where

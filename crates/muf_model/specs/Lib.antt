@@ -24,3 +24,4 @@ pub mod Flat
 pub mod Fits
 pub mod Chains
 pub mod Codes
+pub mod Worked

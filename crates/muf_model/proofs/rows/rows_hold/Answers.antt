@@ -1,0 +1,5 @@
+use Rattle.muf_model.specs.Worked.{rows}
+use Rattle.muf_model.proofs.rows.rows_hold.Goals as goal
+
+pub returns : goal.returns
+returns c = record { rows = rows }
