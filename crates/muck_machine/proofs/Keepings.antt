@@ -133,18 +133,29 @@ pub next_dead : (w : World) → w.dead ≡ true → None ≡ next_ready w
 unfolding next_ready
 next_dead w e = sym (cond-true _ _ _ (ap (λ b. b || w.stopping) e))
 
-pub next_alive : (w : World) (found : Option ℕ) → w.dead ≡ false → found ≡ cond w.stopping None (option_map (λ c. c.number) (find (is_free w) w.live.board.connections)) → found ≡ next_ready w
+-- where a world isn't dead the state chooses
+abbrev pub line_chosen : World → Option ℕ
+line_chosen w = cond w.stopping None (option_map (λ c. c.number) (find (is_free w) w.live.board.connections))
+
+pub next_seen : (p : Past) (state : World) (h : History) (found : Option ℕ) → Keeps p state → history p ≡ h → p.dead ≡ false → found ≡ line_chosen state → found ≡ next_ready (now h)
 unfolding next_ready
-next_alive w found e is = is ∙ sym (ap (λ b. cond (b || w.stopping) None (option_map (λ c. c.number) (find (is_free w) w.live.board.connections))) e)
+next_seen p state h found k v alive is =
+    let e = dead_seen p state h k v ∙ alive in
+    reads line_chosen found p state h k v is e ∙ sym (ap (λ b. cond (b || (now h).stopping) None (option_map (λ c. c.number) (find (is_free (now h)) (now h).live.board.connections))) e)
 
 -- the choice of the next process
 pub process_dead : (w : World) → w.dead ≡ true → None ≡ next_process w
 unfolding next_process
 process_dead w e = sym (cond-true _ _ _ (ap (λ b. b || w.stopping) e))
 
-pub process_alive : (w : World) (found : Option ℤ) → w.dead ≡ false → found ≡ cond w.stopping None (next_due w.moment w.queue) → found ≡ next_process w
+abbrev pub process_chosen : World → Option ℤ
+process_chosen w = cond w.stopping None (next_due w.moment w.queue)
+
+pub process_seen : (p : Past) (state : World) (h : History) (found : Option ℤ) → Keeps p state → history p ≡ h → p.dead ≡ false → found ≡ process_chosen state → found ≡ next_process (now h)
 unfolding next_process
-process_alive w found e is = is ∙ sym (ap (λ b. cond (b || w.stopping) None (next_due w.moment w.queue)) e)
+process_seen p state h found k v alive is =
+    let e = dead_seen p state h k v ∙ alive in
+    reads process_chosen found p state h k v is e ∙ sym (ap (λ b. cond (b || (now h).stopping) None (next_due (now h).moment (now h).queue)) e)
 
 -- where something is found, the world isn't dead
 pub alive_if_found : (w : World) (d : ℕ) → next_ready w ≡ Some d → w.dead ≡ false

@@ -1,6 +1,7 @@
 pub mod Outcomes
 pub mod Keepings
 pub mod Turns
+pub mod Coming
 pub mod Settling
 pub mod Joining
 pub mod Choosing

@@ -1,14 +1,19 @@
--- A change of the board, as what happens.
-use Rattle.std.proofs.Common.{◌≡◌, ℕ, ◌≤◌, List, [], ◌∷◌, refl, ◌∙◌, ap, arith, codes}
+-- A change of a part of the world, as what happens.
+use Rattle.std.proofs.Common.{◌≡◌, ℕ, ◌≤◌, List, [], ◌∷◌, false, refl, ◌∙◌, ap, arith, codes}
+use Rattle.std.specs.Prelude.{ℤ}
 use Rattle.std.proofs.lemmas.Bool.{cond_both}
-use Rattle.muck_model.specs.declared.event.Event.TheVariants.{Opened, Take}
+use Rattle.muck_model.specs.declared.tune.Tune.{Tune}
+use Rattle.muck_model.specs.declared.event.Event.TheVariants.{Opened, Claim, Take}
+use Rattle.spec_live.specs.Objects.{Entry}
 use Rattle.spec_live.specs.Output.{taken}
 use Rattle.spec_live.specs.Connections.{Connection, has_number, changed_in}
-use Rattle.spec_live.specs.Boards.{Board, opened, bytes_taken, with_connections}
+use Rattle.spec_live.specs.Boards.{Board, early_board, opened, bytes_taken, with_connections}
 use Rattle.spec_live.specs.Lives.{on_board}
 use Rattle.spec_commands.specs.Talk.{welcome}
 use Rattle.muck_board.proofs.Outputs.{taken_rest}
-use Rattle.spec_events.specs.World.{World, on_live}
+use Rattle.muck_library.specs.Library.{Library}
+use Rattle.muck_queue.specs.Queues.{Queue, empty_queue, claimed}
+use Rattle.spec_events.specs.World.{World, no_dumps, booted, on_live, on_queue}
 use Rattle.spec_events.specs.Steps.{happened}
 
 -- the board of a state that is seen as w is changed so
@@ -21,6 +26,15 @@ taken_so d n = board_so (bytes_taken d n)
 pub opened_so : (d : ℕ) (w v : World) (b : Board) → b ≡ opened d (codes "Use: connect NAME PASSWORD, WHO or QUIT.") w.live.board → w ≡ v → record w { live = record w.live { board = b } } ≡ happened v 0 (Opened d)
 unfolding welcome
 opened_so d = board_so (opened d welcome)
+
+pub claimed_so : (pid : ℤ) (party : ℕ) (w v : World) (q : Queue) → q ≡ claimed pid party w.queue → w ≡ v → record w { queue = q } ≡ happened v party (Claim pid)
+claimed_so pid party w v q is seen = ap (λ (x : Queue). record w { queue = x }) is ∙ ap (on_queue (claimed pid party)) seen
+
+-- how it begins, by its parts
+pub booted_so : (objects : List Entry) (tune : Tune) (moment start : ℕ) (board : Board) (library : Library) (queue : Queue) → board ≡ early_board start tune → library ≡ [] → queue ≡ empty_queue →
+    record { live = record { objects = objects; board = board }; library = library; queue = queue; moment = moment; dumps = no_dumps moment; stopping = false; dead = false } ≡ booted objects tune moment start
+unfolding booted
+booted_so objects tune moment start board library queue b l q = rw (b, l, q) refl
 
 -- no bytes are taken
 none_in : (d : ℕ) (cs : List Connection) → changed_in d (λ c. record c { output = taken 0 c.output }) cs ≡ cs

@@ -1,9 +1,9 @@
 // The world's own state, without its history.
-ghost use Rattle.std.specs.Prelude.{◌≡◌, OnOk, List, ℕ};
+ghost use Rattle.std.specs.Prelude.{◌≡◌, OnOk};
 ghost use Rattle.muck_model.specs.declared.event.Event.{Event};
 ghost use Rattle.spec_live.specs.Lives.{tell};
-ghost use Rattle.spec_events.specs.World.{booted, on_live};
-ghost use Rattle.spec_events.specs.Steps.{is_allowed, happened};
+ghost use Rattle.spec_events.specs.World.{on_live};
+ghost use Rattle.spec_events.specs.Steps.{happened};
 
 mod deeds;
 mod editing;
@@ -19,13 +19,10 @@ pub use login::WELCOME;
 use muck_board::Board;
 use muck_db::Db;
 use muck_library::Library;
-use muck_model::{Line, NoMemory, Tune};
+use muck_model::{Line, NoMemory};
 use muck_queue::Queue;
 use std::alloc::Global;
 use std::marker::Model;
-
-/// The most connections.
-const CONNECTIONS_MOST: usize = 256;
 
 /// The objects, who is connected, the built forms of programs, the processes, the moment, and whether the run stops; and
 /// what is done to them. Contracts see it as a world that lives.
@@ -57,40 +54,6 @@ impl Model for State {
 }
 
 impl State {
-    /// The world of these objects at this moment, in which nobody is connected, and whose random numbers begin so.
-    #[tactic(auto, unfolding(spec_events::specs::World::booted))]
-    pub fn booted(alloc: Global, db: Db, tune: Tune, moment: u64, start: u64) -> Self
-        ensures { result ≡ booted db tune moment start }
-    {
-        State {
-            alloc,
-            db,
-            board: Board::new(alloc, start, tune),
-            library: Library::new(alloc),
-            queue: Queue::new(alloc),
-            moment,
-            stopping: false,
-        }
-    }
-
-    /// Whether a connection of this number may come.
-    pub fn may_open(&self, d: u32) -> bool
-        ensures { result ≡ is_allowed self.now 0 (Event.Opened d) }
-    {
-        let connections = self.board.connections();
-        self.board.connection(d).is_none() && connections.len() < CONNECTIONS_MOST && !self.stopping
-    }
-
-    /// Whether a line may come on this connection.
-    pub fn may_take_line(&self, d: u32) -> bool
-        ensures { (line : List ℕ) → result ≡ is_allowed self.now 0 (Event.Input d line) }
-    {
-        match self.board.connection(d) {
-            Some(c) => c.takes_line() && !self.stopping,
-            None => false,
-        }
-    }
-
     /// A copy of a line comes, and waits.
     pub fn hear(&mut self, d: u32, line: &Line) -> Result<(), NoMemory>
         ensures { OnOk result (self.new ≡ happened self.old 0 (Event.Input d line.now)) }

@@ -9,11 +9,16 @@ ghost use Rattle.spec_events.specs.Histories.{now, entered, by_porter, AllLawful
 use crate::origin::{Begun, Origin};
 use crate::past::Past;
 use crate::state::{State, WELCOME};
-use muck_board::Connection;
+use muck_board::{Board, Connection};
 use muck_db::{Db, Persisted};
+use muck_library::Library;
 use muck_model::{Entry, Event, Line, NoMemory, Tale, Tune};
+use muck_queue::Queue;
 use std::alloc::Global;
 use std::marker::Model;
+
+/// The most connections.
+const CONNECTIONS_MOST: usize = 256;
 
 /// What a wizard tuned before anybody did.
 const FIRST_TUNE: Tune = Tune {
@@ -71,7 +76,15 @@ impl World {
         let tale = Tale::new(alloc)?;
         let Begun { db, tune, .. } = begun;
         Ok(World {
-            state: State::booted(alloc, db, tune, moment, start),
+            state: State {
+                alloc,
+                db,
+                board: Board::new(alloc, start, tune),
+                library: Library::new(alloc),
+                queue: Queue::new(alloc),
+                moment,
+                stopping: false,
+            },
             past: Past {
                 origin,
                 tale,
@@ -142,7 +155,14 @@ impl World {
         if self.past.dead {
             return false;
         }
-        self.state.may_open(d)
+        let state = &self.state;
+        if state.stopping {
+            return false;
+        }
+        match state.board.connection(d) {
+            Some(_) => false,
+            None => state.board.connections().len() < CONNECTIONS_MOST,
+        }
     }
 
     // Whether a line may come on this connection.
@@ -152,7 +172,14 @@ impl World {
         if self.past.dead {
             return false;
         }
-        self.state.may_take_line(d)
+        let state = &self.state;
+        if state.stopping {
+            return false;
+        }
+        match state.board.connection(d) {
+            Some(c) => c.takes_line(),
+            None => false,
+        }
     }
 
     /// A connection comes; `false` exactly where it may not, and then nothing happened. After `NoMemory` the world is
@@ -215,7 +242,11 @@ impl World {
         if self.past.dead {
             return None;
         }
-        self.state.first_ready()
+        let state = &self.state;
+        if state.stopping {
+            return None;
+        }
+        Some(state.first_free()?.number())
     }
 
     /// The first line of the lowest connection with a line that may be done is done; answers that connection, and
@@ -246,9 +277,11 @@ impl World {
         if self.past.dead {
             return None;
         }
-        let Some(pid) = self.state.claim(party) else {
+        let state = &mut self.state;
+        if state.stopping {
             return None;
-        };
+        }
+        let pid = state.queue.claim(party, state.moment)?;
         self.past.enter(Entry {
             party,
             event: Event::Claim { pid },
