@@ -3,7 +3,7 @@ ghost use Rattle.std.specs.Prelude.{◌≡◌, ◌≤◌, IfOk, None, length, tr
 ghost use Rattle.std.specs.Option.{option_copied, option_and_then, option_map};
 ghost use Rattle.std.specs.FinMap.{get};
 ghost use Rattle.muck_model.specs.declared.dbref.Kind.{Kind};
-ghost use Rattle.muck_prop.specs.Paths.{class_of, path_fault, segments_of};
+ghost use Rattle.muck_prop.specs.Paths.{class_of};
 ghost use Rattle.spec_live.specs.Objects.{dbref_of, nothing, home, object_at};
 ghost use Rattle.spec_live.specs.Lives.{tell, tell_player, tell_others, tell_all};
 ghost use Rattle.spec_live.specs.Flags.{with_flag, without_flag};
@@ -536,10 +536,9 @@ impl<'a> Guard<'a> {
         locks::lock_text(self.alloc, self.db, d)
     }
 
-    /// The message that an object keeps at the path of a text; what isn't a text counts as not set. It takes no memory.
-    pub fn message(&self, d: Dbref, path: &[u8]) -> Option<&Line>
-        requires { path_fault path.now ≡ None }
-        ensures { option_copied result ≡ message_at (segments_of path.now) d (objects_of self.now) }
+    /// The message that an object keeps at a path; what isn't a text counts as not set. It takes no memory.
+    pub fn message(&self, d: Dbref, path: &Path) -> Option<&Line>
+        ensures { option_copied result ≡ message_at path.now d (objects_of self.now) }
     {
         locks::message_at(self.db, d, path)
     }
