@@ -117,12 +117,12 @@ impl Connection {
         self.player.is_some()
     }
 
-    /// Whether it is that of a player in the room, but not of that one.
-    pub(crate) fn hears<K: Keys>(&self, keys: &K, room: Dbref, but: Dbref) -> bool
-        ensures { result ≡ hears (K.places keys.now) room but self.now }
+    /// Whether it is that of a player in the room, but of none of these.
+    pub(crate) fn hears<K: Keys>(&self, keys: &K, room: Dbref, but: &[Dbref]) -> bool
+        ensures { result ≡ hears (K.places keys.now) room but.now self.now }
     {
         match self.player {
-            Some(own) => own != but && is_in(keys, room, own),
+            Some(own) => !but.iter().any(|d| own == *d) && is_in(keys, room, own),
             None => false,
         }
     }

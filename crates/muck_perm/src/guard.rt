@@ -5,7 +5,7 @@ ghost use Rattle.std.specs.FinMap.{get};
 ghost use Rattle.muck_model.specs.declared.dbref.Kind.{Kind};
 ghost use Rattle.muck_prop.specs.Paths.{class_of};
 ghost use Rattle.spec_live.specs.Objects.{dbref_of, nothing, home, object_at};
-ghost use Rattle.spec_live.specs.Lives.{tell, tell_player, tell_others, tell_all};
+ghost use Rattle.spec_live.specs.Lives.{tell, tell_player, tell_but, tell_others, tell_all, leave, random_word, draw};
 ghost use Rattle.spec_live.specs.Flags.{with_flag, without_flag};
 ghost use Rattle.spec_live.specs.Moving.{move_check};
 ghost use Rattle.spec_live.specs.Making.{create_check};
@@ -17,7 +17,7 @@ ghost use Rattle.spec_rights.specs.Verdict.{is_guarded};
 ghost use Rattle.spec_live.specs.Worth.{message_at, lock_text};
 ghost use Rattle.spec_rights.specs.Changing.{named, owned_by, linked, homed, leveled, lines_kept, stored, unstored, moved_to, recycled_now, created_so, is_flag, flag_set, flag_cleared, password_kept, booted, tuned};
 ghost use Rattle.spec_rights.specs.Licence.{at_hand};
-ghost use Rattle.muck_perm.specs.Guards.{objects_of, Did, Done, IsLeave, IsGiven, is_here, Makes, Tries, Founds, flags_at, home_in, may_lead, may_house};
+ghost use Rattle.muck_perm.specs.Guards.{objects_of, world_of, Did, Done, IsLeave, IsGiven, is_here, Makes, Tries, Founds, flags_at, home_in, may_lead, may_house};
 
 use crate::flags::{flags_at, with_flag, without_flag};
 use crate::levels::level_at;
@@ -121,6 +121,14 @@ impl<'a> Guard<'a> {
     pub fn tell_others(&mut self, room: Dbref, but: Dbref, text: &[u8]) -> Result<(), NoMemory>
         ensures { Did (tell_others room but text.now) self.old self.new result }
     {
+        self.tell_but(room, &[but], text)
+    }
+
+    /// Sends a text to the players in a room but these.
+    #[tactic(auto, unfolding(spec_live::specs::Lives::tell_but))]
+    pub fn tell_but(&mut self, room: Dbref, but: &[Dbref], text: &[u8]) -> Result<(), NoMemory>
+        ensures { Did (tell_but room but.now text.now) self.old self.new result }
+    {
         self.board.tell_others(self.db, room, but, text)?;
         Ok(())
     }
@@ -132,6 +140,15 @@ impl<'a> Guard<'a> {
     {
         self.board.tell_all(text)?;
         Ok(())
+    }
+
+    /// The next random word.
+    #[tactic(auto, unfolding(spec_live::specs::Lives::draw))]
+    pub fn random(&mut self) -> u32
+        ensures word { result ≡ random_word (world_of self.old) }
+        ensures drawn { Done draw self.old self.new }
+    {
+        self.board.random()
     }
 }
 
@@ -412,6 +429,16 @@ impl<'a> Guard<'a> {
     {
         let _ = pass;
         self.board.leave_player(player);
+    }
+
+    /// One connection is to leave.
+    #[tactic(auto, unfolding(spec_live::specs::Lives::leave))]
+    pub fn leave(&mut self, pass: Pass, d: u32)
+        requires { IsLeave pass (Act.Shared 4) self.old }
+        ensures { Done (leave d) self.old self.new }
+    {
+        let _ = pass;
+        self.board.leave(d);
     }
 
     /// Sets what a wizard tunes.
