@@ -1,5 +1,6 @@
 // One connection.
 ghost use Rattle.std.specs.Prelude.{◌≡◌, ◌≤◌, OnOk, OnErr, IfOk, MatchOption, length, drop, take, min, None, Some, false, [], ◌∷◌, ◌++◌};
+ghost use Rattle.std.specs.List.{list_any};
 ghost use Rattle.std.specs.Option.{option_map_or};
 ghost use Rattle.spec_live.specs.Objects.{same};
 ghost use Rattle.spec_live.specs.Output.{bytes_of, taken};
@@ -122,7 +123,7 @@ impl Connection {
         ensures { result ≡ hears (K.places keys.now) room but.now self.now }
     {
         match self.player {
-            Some(own) => !but.iter().any(|d| own == *d) && is_in(keys, room, own),
+            Some(own) => !is_among(own, but) && is_in(keys, room, own),
             None => false,
         }
     }
@@ -197,6 +198,13 @@ impl Connection {
     {
         self.output.take(buf)
     }
+}
+
+// Whether a player is one of these.
+fn is_among(player: Dbref, these: &[Dbref]) -> bool
+    ensures { result ≡ list_any (same player) these.now }
+{
+    these.iter().any(|d| player == *d)
 }
 
 // Whether an object is in that room.
