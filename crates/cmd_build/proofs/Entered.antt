@@ -1,5 +1,5 @@
 -- What a maker of programs does, and what follows of it.
-use Rattle.std.proofs.Common.{◌≡◌, ℕ, List, Result, Ok, Err, ◌∙◌, ap, subst}
+use Rattle.std.proofs.Common.{◌≡◌, ℕ, List, Result, Ok, Err, ◌∙◌, subst}
 use Rattle.std.specs.Prelude.{OnOk}
 use Rattle.muck_model.specs.declared.dbref.Dbref.{Dbref}
 use Rattle.muck_model.specs.declared.dbref.Kind.TheVariants.{Program}
@@ -20,14 +20,14 @@ use Rattle.spec_commands.specs.Building.{created_shown}
 use Rattle.spec_commands.specs.Programming.{over, first_level, program_put, program_at, program_new}
 use Rattle.muck_perm.specs.declared.guard.Guard.{Guard}
 use Rattle.muck_perm.specs.Guards.{Done, Founds, objects_of, world_of}
-use Rattle.muck_perm.proofs.Worlds.{done_both, same_after}
+use Rattle.muck_perm.proofs.Worlds.{same_as, same_after, done_both}
 use Rattle.cmd_common.specs.Plays.{Plays}
 use Rattle.cmd_build.specs.Entering.{IsEntered}
 
 -- where memory was wanted
 wanted : (p : Play) (old mid new : Guard) (result : Result Outcome NoMemory) → mid ≡ old → (new ≡ mid) × OnOk result ⊥ → Plays p old new result
 wanted p old mid new (Ok outcome) e t = absurd t.1
-wanted p old mid new (Err x) e t = let is : new ≡ old = t.0 ∙ e in (ap (λ (g : Guard). g.db.ghost_name) is, ap (λ (g : Guard). g.board.ghost_name) is)
+wanted p old mid new (Err x) e t = same_as old new (t.0 ∙ e)
 
 -- a change, and what ends a line after it
 both : (f g : Change) (outcome : Outcome) (old mid new : Guard) (result : Result Outcome NoMemory) → Done f old mid → Plays (ended outcome g) mid new result → Plays (ended outcome (f ▸ g)) old new result

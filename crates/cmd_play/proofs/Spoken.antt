@@ -1,5 +1,5 @@
 -- What follows a message that was spoken, or that isn't there.
-use Rattle.std.proofs.Common.{ℕ, List, Option, Some, None, Result, Ok, Err, sym, ap, ◌∙◌, subst}
+use Rattle.std.proofs.Common.{ℕ, List, Some, None, Result, Ok, Err, sym, ◌∙◌, subst}
 use Rattle.muck_model.specs.declared.dbref.Dbref.{Dbref}
 use Rattle.muck_model.specs.declared.memory.NoMemory.{NoMemory}
 use Rattle.spec_live.specs.Lives.{Change}

@@ -8,6 +8,9 @@ use Rattle.muck_perm.specs.Guards.{Same, Kept, Done, Did}
 pub kept_itself : (a : Guard) → Kept a a
 kept_itself a = (refl, (refl, refl))
 
+pub same_as : (a b : Guard) → b ≡ a → Same a b
+same_as a b e = (ap (λ (g : Guard). g.db.ghost_name) e, ap (λ (g : Guard). g.board.ghost_name) e)
+
 pub same_after : (a b c : Guard) → Same a b → Same b c → Same a c
 same_after a b c p q = (q.0 ∙ p.0, q.1 ∙ p.1)
 
