@@ -1,5 +1,5 @@
 -- What a maker of programs does, and what follows of it.
-use Rattle.std.proofs.Common.{◌≡◌, ℕ, List, Result, Ok, Err, ◌∙◌, ap, subst}
+use Rattle.std.proofs.Common.{◌≡◌, ℕ, List, Result, Ok, Err, ◌∙◌, subst}
 use Rattle.std.specs.Prelude.{OnOk}
 use Rattle.muck_model.specs.declared.dbref.Dbref.{Dbref}
 use Rattle.muck_model.specs.declared.dbref.Kind.TheVariants.{Program}
@@ -8,7 +8,7 @@ use Rattle.spec_live.specs.declared.fault.DbFault.{DbFault}
 use Rattle.spec_live.specs.declared.fault.DbFault.TheVariants.{NoMemory as WantsMemory}
 use Rattle.spec_live.specs.Making.{create_check}
 use Rattle.spec_live.specs.Setting.{with_level}
-use Rattle.spec_live.specs.Lives.{Change, followed, ◌▸◌, reading, tell}
+use Rattle.spec_live.specs.Lives.{Change, ◌▸◌, reading, tell}
 use Rattle.spec_rights.specs.declared.act.Actor.{Actor}
 use Rattle.spec_rights.specs.Levels.{number_of}
 use Rattle.spec_rights.specs.Changing.{created_so}
@@ -19,20 +19,21 @@ use Rattle.spec_commands.specs.Going.{Play, ended}
 use Rattle.spec_commands.specs.Building.{created_shown}
 use Rattle.spec_commands.specs.Programming.{over, first_level, program_put, program_at, program_new}
 use Rattle.muck_perm.specs.declared.guard.Guard.{Guard}
-use Rattle.muck_perm.specs.Guards.{Done, Founds, on_world, world_of}
+use Rattle.muck_perm.specs.Guards.{Done, Founds, objects_of, world_of}
+use Rattle.muck_perm.proofs.Worlds.{same_as, same_after, done_both}
 use Rattle.cmd_common.specs.Plays.{Plays}
 use Rattle.cmd_build.specs.Entering.{IsEntered}
 
 -- where memory was wanted
 wanted : (p : Play) (old mid new : Guard) (result : Result Outcome NoMemory) → mid ≡ old → (new ≡ mid) × OnOk result ⊥ → Plays p old new result
 wanted p old mid new (Ok outcome) e t = absurd t.1
-wanted p old mid new (Err x) e t = let is : new ≡ old = t.0 ∙ e in (ap (λ (g : Guard). g.db.ghost_name) is, ap (λ (g : Guard). g.board.ghost_name) is)
+wanted p old mid new (Err x) e t = same_as old new (t.0 ∙ e)
 
 -- a change, and what ends a line after it
 both : (f g : Change) (outcome : Outcome) (old mid new : Guard) (result : Result Outcome NoMemory) → Done f old mid → Plays (ended outcome g) mid new result → Plays (ended outcome (f ▸ g)) old new result
-unfolding ended followed
-both f g outcome old mid new (Ok found) e t = (t.0 ∙ ap (λ (h : Guard). on_world g h) e, t.1)
-both f g outcome old mid new (Err x) e t = (t.0 ∙ ap (λ (h : Guard). h.db.ghost_name) e, t.1 ∙ ap (λ (h : Guard). h.board.ghost_name) e)
+unfolding ended
+both f g outcome old mid new (Ok found) e t = (done_both f g old mid new e t.0, t.1)
+both f g outcome old mid new (Err x) e t = same_after old mid new e.1.1 t
 
 -- that the world refused it
 refused : (d : ℕ) (old mid new : Guard) (fault : DbFault) (result : Result Outcome NoMemory) → mid ≡ old → IsEntered d (Err fault) mid new result → Plays (over d cant_be_done) old new result
@@ -55,7 +56,7 @@ entered (Err fault) d a name level old mid new (Ok x) result f t = absurd f
 entered (Err fault) d a name level old mid new (Err found) result f t = refused d old mid new found result f.1 t
 
 pub entered_new : (d : ℕ) (a : Actor) (name : List ℕ) (old mid new : Guard) (made : Result Dbref DbFault) (result : Result Outcome NoMemory)
-    → Founds (create_check Program a.user a.player old.db.now) (made_by a name (first_level a.user (world_of old))) old mid made → IsEntered d made mid new result → Plays (program_new d a name) old new result
+    → Founds (create_check Program a.user a.player (objects_of old)) (made_by a name (first_level a.user (world_of old))) old mid made → IsEntered d made mid new result → Plays (program_new d a name) old new result
 unfolding program_new reading
-entered_new d a name old mid new made (Ok outcome) h t = entered (create_check Program a.user a.player old.db.now) d a name (first_level a.user (world_of old)) old mid new made (Ok outcome) h t
-entered_new d a name old mid new made (Err e) h t = entered (create_check Program a.user a.player old.db.now) d a name (first_level a.user (world_of old)) old mid new made (Err e) h t
+entered_new d a name old mid new made (Ok outcome) h t = entered (create_check Program a.user a.player (objects_of old)) d a name (first_level a.user (world_of old)) old mid new made (Ok outcome) h t
+entered_new d a name old mid new made (Err e) h t = entered (create_check Program a.user a.player (objects_of old)) d a name (first_level a.user (world_of old)) old mid new made (Err e) h t

@@ -1,5 +1,5 @@
 -- What a maker does, and what is told of it.
-use Rattle.std.proofs.Common.{◌≡◌, ℕ, List, Result, Ok, Err, ◌∙◌, ap, subst}
+use Rattle.std.proofs.Common.{◌≡◌, ℕ, List, Result, Ok, Err, ◌∙◌, subst}
 use Rattle.std.specs.Prelude.{OnOk}
 use Rattle.muck_model.specs.declared.dbref.Dbref.{Dbref}
 use Rattle.muck_model.specs.declared.dbref.Kind.{Kind}
@@ -8,26 +8,21 @@ use Rattle.spec_live.specs.declared.fault.DbFault.{DbFault}
 use Rattle.spec_live.specs.declared.fault.DbFault.TheVariants.{NoMemory as WantsMemory}
 use Rattle.spec_live.specs.declared.object.Object.{Object}
 use Rattle.spec_live.specs.Making.{create_check}
-use Rattle.spec_live.specs.Lives.{Change, followed, ◌▸◌, reading, tell}
+use Rattle.spec_live.specs.Lives.{Change, ◌▸◌, reading, tell}
 use Rattle.spec_rights.specs.declared.act.Actor.{Actor}
 use Rattle.spec_rights.specs.Levels.{number_of}
 use Rattle.spec_rights.specs.Changing.{created_so}
 use Rattle.spec_commands.specs.Replies.{cant_be_done}
 use Rattle.spec_commands.specs.Building.{made_at, created_shown, making}
 use Rattle.muck_perm.specs.declared.guard.Guard.{Guard}
-use Rattle.muck_perm.specs.Guards.{Did, Done, Founds, on_world}
+use Rattle.muck_perm.specs.Guards.{Did, Founds, objects_of}
+use Rattle.muck_perm.proofs.Worlds.{same_as, did_both}
 use Rattle.cmd_build.specs.Told.{IsTold}
 
 -- where memory was wanted
 wanted : (f : Change) (old mid new : Guard) (result : Result (Unit {0}) NoMemory) → mid ≡ old → (new ≡ mid) × OnOk result ⊥ → Did f old new result
 wanted f old mid new (Ok u) e t = absurd t.1
-wanted f old mid new (Err x) e t = let is : new ≡ old = t.0 ∙ e in (ap (λ (g : Guard). g.db.ghost_name) is, ap (λ (g : Guard). g.board.ghost_name) is)
-
--- one change after another
-both : (f g : Change) (old mid new : Guard) (result : Result (Unit {0}) NoMemory) → Done f old mid → Did g mid new result → Did (f ▸ g) old new result
-unfolding followed
-both f g old mid new (Ok u) e t = t ∙ ap (λ (h : Guard). on_world g h) e
-both f g old mid new (Err x) e t = (t.0 ∙ ap (λ (h : Guard). h.db.ghost_name) e, t.1 ∙ ap (λ (h : Guard). h.board.ghost_name) e)
+wanted f old mid new (Err x) e t = same_as old new (t.0 ∙ e)
 
 -- that the world refused it
 refused : (d : ℕ) (old mid new : Guard) (fault : DbFault) (result : Result (Unit {0}) NoMemory) → mid ≡ old → IsTold d (Err fault) mid new result → Did (tell d cant_be_done) old new result
@@ -38,7 +33,7 @@ told : (change : ℕ → ℕ → Change) (check : Result (ℕ × ℕ) DbFault) (
     → Founds check change old mid made → IsTold d made mid new result → Did (made_at check (λ n to. change n to ▸ created_shown d n) (tell d cant_be_done)) old new result
 told change (Ok p) d old mid new (Ok x) result f t =
     let P : Dbref → Type 0 = λ z. Did (created_shown d (number_of z)) mid new result in
-    both (change p.0 p.1) (created_shown d p.0) old mid new result f.1 (subst P f.0 t)
+    did_both (change p.0 p.1) (created_shown d p.0) old mid new result f.1 (subst P f.0 t)
 told change (Ok p) d old mid new (Err fault) result f t =
     let P : DbFault → Type 0 = λ z. IsTold d (Err z) mid new result in
     wanted (change p.0 p.1 ▸ created_shown d p.0) old mid new result f.1 (subst P f.0 t)
@@ -46,7 +41,7 @@ told change (Err fault) d old mid new (Ok x) result f t = absurd f
 told change (Err fault) d old mid new (Err found) result f t = refused d old mid new found result f.1 t
 
 pub told_making : (d : ℕ) (a : Actor) (kind : Kind) (name : List ℕ) (place : Dbref) (f : Object → Object) (old mid new : Guard) (made : Result Dbref DbFault) (result : Result (Unit {0}) NoMemory)
-    → Founds (create_check kind a.user place old.db.now) (λ n to. created_so n kind name a.user to f) old mid made → IsTold d made mid new result → Did (making d a kind name place f) old new result
+    → Founds (create_check kind a.user place (objects_of old)) (λ n to. created_so n kind name a.user to f) old mid made → IsTold d made mid new result → Did (making d a kind name place f) old new result
 unfolding making reading
-told_making d a kind name place f old mid new made (Ok u) h t = told (λ n to. created_so n kind name a.user to f) (create_check kind a.user place old.db.now) d old mid new made (Ok u) h t
-told_making d a kind name place f old mid new made (Err e) h t = told (λ n to. created_so n kind name a.user to f) (create_check kind a.user place old.db.now) d old mid new made (Err e) h t
+told_making d a kind name place f old mid new made (Ok u) h t = told (λ n to. created_so n kind name a.user to f) (create_check kind a.user place (objects_of old)) d old mid new made (Ok u) h t
+told_making d a kind name place f old mid new made (Err e) h t = told (λ n to. created_so n kind name a.user to f) (create_check kind a.user place (objects_of old)) d old mid new made (Err e) h t

@@ -2,7 +2,7 @@
 use Rattle.std.proofs.Common.{ℕ, List, Option, Some, None, Result, Ok, Err, sym, subst}
 use Rattle.std.specs.Prelude.{OnOk}
 use Rattle.muck_model.specs.declared.memory.NoMemory.{NoMemory}
-use Rattle.spec_live.specs.Lives.{unchanged}
+use Rattle.spec_live.specs.Lives.{Live, unchanged}
 use Rattle.spec_rights.specs.declared.act.Actor.{Actor}
 use Rattle.spec_rights.specs.Licence.{Licensed, clearing, nobody}
 use Rattle.spec_rights.proofs.Licences.{Whole, Always, whole_quiet, quiet_unchanged}
@@ -32,6 +32,6 @@ line_open a d line = word_open a d line _ _ (looked_up build_words (first_word (
 pub plays_open : (d : ℕ) (line : List ℕ) (old new : Guard) (result : Result Outcome NoMemory) → Plays (build_line d old.actor line) old new result →
     OnOk result (Licensed old.actor (clearing (clears line) nobody) (world_of old) (world_of new))
 plays_open d line old new (Ok outcome) p =
-    let P : Guard → Type 0 = λ g. Licensed old.actor (clearing (clears line) nobody) (world_of old) (world_of g) in
-    subst P (sym p.0) (((line_open old.actor d line).law (world_of old)).law tt tt).licensed
+    let P : Live → Type 0 = λ w. Licensed old.actor (clearing (clears line) nobody) (world_of old) w in
+    subst P (sym p.0.0) (((line_open old.actor d line).law (world_of old)).law tt tt).licensed
 plays_open d line old new (Err e) p = tt

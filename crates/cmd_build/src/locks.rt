@@ -13,11 +13,8 @@ use muck_lock::{Finder, LockFault, print, read};
 use muck_match::{Found, find};
 use muck_model::{Dbref, Kind, Line, Lock, NoMemory};
 use muck_perm::{Guard, Pass, verdict};
-use muck_prop::Path;
 use spec_rights::Act;
 use std::alloc::Global;
-
-const PATH: &[u8] = b"_/lok";
 
 // What the names in a key stand for, as the player finds them.
 #[derive(Drop)]
@@ -86,7 +83,7 @@ fn lock_by(guard: &mut Guard, pass: Pass, d: u32, x: Dbref, key: &Line) -> Resul
     requires { IsLeave pass (Act.Change x) guard.old }
     ensures { Did (reading (key_read guard.old.actor.player key.now) (lock_kept d x)) guard.old guard.new result }
 {
-    let path = Path::of_text(guard.alloc(), PATH)?;
+    let path = guard.db().paths().lock.copy(guard.alloc())?;
     match printed_key(guard, key)? {
         None => guard.tell(d, b"I don't understand that key."),
         Some(text) => write_by_leave(guard, pass, d, Write::Keep(x, path, text), b"Locked."),
@@ -111,5 +108,6 @@ pub fn unlock(guard: &mut Guard, d: u32, x: Dbref) -> Result<(), NoMemory>
     ensures { Did (kept d guard.old.actor x (codes "lok") [] unlocked_reply) guard.old guard.new result }
 {
     let none = Line::of_text(guard.alloc(), b"")?;
-    keep(guard, d, x, PATH, none, b"Unlocked.")
+    let path = guard.db().paths().lock.copy(guard.alloc())?;
+    keep(guard, d, x, path, none, b"Unlocked.")
 }

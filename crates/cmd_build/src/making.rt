@@ -10,7 +10,7 @@ ghost use Rattle.spec_rights.specs.Levels.{number_of};
 ghost use Rattle.spec_commands.specs.Replies.{cant_be_done};
 ghost use Rattle.spec_commands.specs.Going.{home_at};
 ghost use Rattle.spec_commands.specs.Building.{created_shown, making, may_house, may_lead, kind_of, as_new, may_be, act_in, made, thing_made, exit_opened};
-ghost use Rattle.muck_perm.specs.Guards.{Did, Founds, IsLeave, world_of};
+ghost use Rattle.muck_perm.specs.Guards.{Did, Founds, IsLeave, objects_of, world_of};
 ghost use Rattle.cmd_build.specs.Told.{IsTold};
 
 use cmd_common::{cant_be_done, place_at, refuse};
@@ -35,7 +35,7 @@ pub fn number_of(x: Dbref) -> u32
 // The long form of the object of a number; what isn't there has none.
 fn long_name(guard: &Guard, n: u32) -> Result<Vec<u8>, NoMemory>
     requires { n < 2 ^ 31 }
-    ensures { IfOk result (λ text. text.items ≡ option_map_or (long_form n) (object_at (dbref_of n) guard.now.db.now) []) }
+    ensures { IfOk result (λ text. text.items ≡ option_map_or (long_form n) (object_at (dbref_of n) (objects_of guard.now)) []) }
 {
     match guard.db().get(Dbref(n as i32)) {
         Some(object) => long_form(guard.alloc(), n, object),
@@ -129,7 +129,7 @@ fn create(
     requires some { 1 ≤ length name }
     requires short { length name ≤ 80 }
     requires fits { may_be new (world_of guard.old) ≡ true }
-    ensures { Founds (create_check (kind_of new) guard.old.actor.user place guard.old.db.now) (λ n to. created_so n (kind_of new) name guard.old.actor.user to (as_new new)) guard.old guard.new result }
+    ensures { Founds (create_check (kind_of new) guard.old.actor.user place (objects_of guard.old)) (λ n to. created_so n (kind_of new) name guard.old.actor.user to (as_new new)) guard.old guard.new result }
 {
     match new {
         New::Room => guard.create_room(pass, name, place),

@@ -1,8 +1,7 @@
 // Messages and locks.
-ghost use Rattle.std.specs.Prelude.{◌≡◌, None, true};
-ghost use Rattle.muck_model.specs.Bytes.{text_fault};
+ghost use Rattle.std.specs.Prelude.{◌≡◌, true};
 ghost use Rattle.muck_prop.specs.declared.value.PropValue.TheVariants.{Text};
-ghost use Rattle.muck_prop.specs.Paths.{class_of, path_fault, segments_of};
+ghost use Rattle.muck_prop.specs.Paths.{class_of};
 ghost use Rattle.spec_rights.specs.declared.act.Act.{Act};
 ghost use Rattle.spec_rights.specs.Verdict.{is_guarded};
 ghost use Rattle.spec_rights.specs.Changing.{stored};
@@ -22,16 +21,13 @@ pub fn keep(
     guard: &mut Guard,
     d: u32,
     x: Dbref,
-    path: &[u8],
+    path: Path,
     text: Line,
     reply: &[u8],
 ) -> Result<(), NoMemory>
-    requires text { text_fault path.now ≡ None }
-    requires fine { path_fault path.now ≡ None }
-    requires guarded { is_guarded (class_of (segments_of path.now)) ≡ true }
-    ensures { Did (written d guard.old.actor (Act.Change x) (is_there x) (stored x (segments_of path.now) (Text text)) reply.now) guard.old guard.new result }
+    requires { is_guarded (class_of path) ≡ true }
+    ensures { Did (written d guard.old.actor (Act.Change x) (is_there x) (stored x path (Text text)) reply.now) guard.old guard.new result }
 {
-    let path = Path::of_text(guard.alloc(), path)?;
     try_write(guard, d, Write::Keep(x, path, text), reply)
 }
 
@@ -46,5 +42,6 @@ pub fn set_message(
 ) -> Result<(), NoMemory>
     ensures { Did (kept d guard.old.actor x (message_name message) text set_reply) guard.old guard.new result }
 {
-    keep(guard, d, x, message_path(message), text, b"Set.")
+    let path = message_path(guard.db().paths(), message).copy(guard.alloc())?;
+    keep(guard, d, x, path, text, b"Set.")
 }

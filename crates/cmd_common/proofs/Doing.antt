@@ -1,22 +1,18 @@
 -- Changes one after another.
-use Rattle.std.proofs.Common.{◌≡◌, ℕ, ◌+◌, ◌<◌, ◌≤◌, List, [], ◌∷◌, length, drop, get_or, refl, sym, subst, add-one, drop-cons, Result, Ok, Err}
+use Rattle.std.proofs.Common.{◌≡◌, ℕ, ◌+◌, ◌<◌, ◌≤◌, List, [], ◌∷◌, length, drop, get_or, refl, sym, subst, add-one, drop-cons, Result}
 use Rattle.std.proofs.lemmas.List.{drop_all}
 use Rattle.muck_model.specs.declared.dbref.Dbref.{Dbref}
 use Rattle.muck_model.specs.declared.memory.NoMemory.{NoMemory}
-use Rattle.spec_live.specs.Lives.{Change, followed, unchanged, reading, tell}
+use Rattle.spec_live.specs.Lives.{unchanged, reading, tell}
 use Rattle.spec_rights.specs.Levels.{name_shown}
 use Rattle.spec_commands.specs.Finding.{listed}
 use Rattle.muck_perm.specs.declared.guard.Guard.{Guard}
-use Rattle.muck_perm.specs.Guards.{Did, Done, Same, on_world}
-
-pub did_both : {X : Type 0} (f g : Change) (a b c : Guard) (r : Result X NoMemory) → Done f a b → Did g b c r → Did (followed f g) a c r
-unfolding followed
-did_both f g a b c (Ok x) p q = subst (λ m. c ≡ on_world g m) p q
-did_both f g a b c (Err e) p q = subst (λ m. Same m c) p q
+use Rattle.muck_perm.specs.Guards.{Did, Done}
+use Rattle.muck_perm.proofs.Worlds.{kept_itself, did_both}
 
 pub did_nothing : (a : Guard) → Done unchanged a a
 unfolding unchanged
-did_nothing a = refl
+did_nothing a = (refl, kept_itself a)
 
 pub listed_one : {X : Type 0} (d : ℕ) (player : Dbref) (xs : List Dbref) (i : ℕ) (e : Dbref) (a b new : Guard) (r : Result X NoMemory) → i < length xs →
     Done (reading (name_shown player (get_or xs i e)) (tell d)) a b → Did (listed d player (drop (i + 1) xs)) b new r → Did (listed d player (drop i xs)) a new r

@@ -6,7 +6,8 @@ use Rattle.spec_live.specs.Lives.{tell}
 use Rattle.spec_commands.specs.Programming.{lines_shown}
 use Rattle.muck_perm.specs.declared.guard.Guard.{Guard}
 use Rattle.muck_perm.specs.Guards.{Did, Done}
-use Rattle.cmd_common.proofs.Doing.{did_both, did_nothing}
+use Rattle.muck_perm.proofs.Worlds.{did_both}
+use Rattle.cmd_common.proofs.Doing.{did_nothing}
 
 pub shown_one : {X : Type 0} (d : ℕ) (lines : List (List ℕ)) (i : ℕ) (e : List ℕ) (a b new : Guard) (r : Result X NoMemory) → i < length lines → e ≡ get_or lines i e →
     Done (tell d e) a b → Did (lines_shown d (drop (i + 1) lines)) b new r → Did (lines_shown d (drop i lines)) a new r

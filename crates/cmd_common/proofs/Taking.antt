@@ -8,13 +8,13 @@ use Rattle.spec_commands.specs.declared.outcome.Outcome.TheVariants.{Done as Fin
 use Rattle.spec_commands.specs.declared.shape.Arguments.{Arguments}
 use Rattle.spec_commands.specs.Going.{Play}
 use Rattle.muck_perm.specs.declared.guard.Guard.{Guard}
-use Rattle.muck_perm.specs.Guards.{with_world, world_of}
+use Rattle.muck_perm.specs.Guards.{world_of}
 use Rattle.cmd_common.specs.Plays.{Plays, FindsFor}
 use Rattle.cmd_common.specs.Takes.{Takes}
 
 -- two lines that do the same there
 pub plays_same : (f g : Play) (old new : Guard) (result : Result Outcome NoMemory) → f (world_of old) ≡ g (world_of old) → Plays f old new result → Plays g old new result
-plays_same f g old new (Ok outcome) e h = (h.0 ∙ ap (λ (r : Live × Outcome). with_world r.0 old) e, h.1 ∙ ap (λ (r : Live × Outcome). r.1) e)
+plays_same f g old new (Ok outcome) e h = ((h.0.0 ∙ ap (λ (r : Live × Outcome). r.0) e, h.0.1), h.1 ∙ ap (λ (r : Live × Outcome). r.1) e)
 plays_same f g old new (Err x) e h = h
 
 -- one was found, and then the rest

@@ -1,5 +1,5 @@
 -- What a player does by a line, or by walking, is licensed.
-use Rattle.std.proofs.Common.{ℕ, false, List, sym, subst, ap, None, Result, Ok, Err, OnOk}
+use Rattle.std.proofs.Common.{ℕ, false, List, sym, subst, None, Result, Ok, Err, OnOk}
 use Rattle.muck_model.specs.declared.dbref.Dbref.{Dbref}
 use Rattle.muck_model.specs.declared.memory.NoMemory.{NoMemory}
 use Rattle.spec_live.specs.Objects.{Entry}
@@ -16,15 +16,15 @@ use Rattle.spec_commands.proofs.Gone.{tried_open}
 use Rattle.spec_commands.proofs.Gone as gone
 use Rattle.spec_commands.proofs.Permitted.{self_free, play_leading}
 use Rattle.muck_perm.specs.declared.guard.Guard.{Guard}
-use Rattle.muck_perm.specs.Guards.{world_of}
+use Rattle.muck_perm.specs.Guards.{objects_of, world_of}
 use Rattle.cmd_common.specs.Plays.{Plays}
 
 -- what keeps to the licence is licensed where a guard plays it
 plays_licensed : (p : Play) (a : Actor) (free : List Entry → Freedom) (old new : Guard) (r : Result Outcome NoMemory) →
-    Whole gone.world_of a None free Always p → Plays p old new r → OnOk r (Licensed a (free old.db.now) (world_of old) (world_of new))
+    Whole gone.world_of a None free Always p → Plays p old new r → OnOk r (Licensed a (free (objects_of old)) (world_of old) (world_of new))
 plays_licensed p a free old new (Ok outcome) e s =
-    let P : Live → Type 0 = Licensed a (free old.db.now) (world_of old) in
-    subst P (sym (ap world_of s.0)) (licensed gone.world_of a None free p e (world_of old) tt)
+    let P : Live → Type 0 = Licensed a (free (objects_of old)) (world_of old) in
+    subst P (sym s.0.0) (licensed gone.world_of a None free p e (world_of old) tt)
 plays_licensed p a free old new (Err error) e s = tt
 
 pub walk_licensed : (d : ℕ) (typed : Typed) (exit : Dbref) (line : List ℕ) (old new : Guard) (r : Result Outcome NoMemory) →
@@ -34,6 +34,6 @@ walk_licensed d typed exit line old new r =
     (whole_ends gone.world_of old.actor None (λ es. oneself old.actor) Always _ (λ w h. tried_open old.actor (oneself old.actor) d typed exit line (self_free old.actor)))
 
 pub line_licensed : (d : ℕ) (line : List ℕ) (old new : Guard) (r : Result Outcome NoMemory) →
-    Plays (play_line d old.actor line) old new r → OnOk r (Licensed old.actor (free_play old.actor line old.db.now) (world_of old) (world_of new))
+    Plays (play_line d old.actor line) old new r → OnOk r (Licensed old.actor (free_play old.actor line (objects_of old)) (world_of old) (world_of new))
 unfolding free_play
 line_licensed d line old new r = plays_licensed (play_line d old.actor line) old.actor (free_play old.actor line) old new r (play_leading old.actor None false d line).licence

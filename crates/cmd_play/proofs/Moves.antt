@@ -21,7 +21,7 @@ use Rattle.spec_commands.proofs.Gone.{quiet_both_shown, item_kind}
 use Rattle.muck_perm.specs.declared.rules.Pass.{Pass}
 use Rattle.muck_perm.specs.declared.guard.Guard.{Guard}
 use Rattle.muck_perm.specs.Verdicts.{IsVerdict}
-use Rattle.muck_perm.specs.Guards.{Makes, Done, Did, IsLeave, world_of}
+use Rattle.muck_perm.specs.Guards.{Makes, Done, Did, IsLeave, objects_of, world_of}
 
 -- Moves.
 
@@ -42,22 +42,22 @@ pub ruleset movings = (was_moved, was_refused)
 
 -- What is shown changes no object.
 
-quiet_kept : (f : Change) (old new : Guard) → Quiet f → Done f old new → new.db.now ≡ old.db.now
-quiet_kept f old new q e = ap (λ (g : Guard). g.db.now) e ∙ (q.law (world_of old)).objects
+quiet_kept : (f : Change) (old new : Guard) → Quiet f → Done f old new → objects_of new ≡ objects_of old
+quiet_kept f old new q e = ap (λ (w : Live). w.objects) e.0 ∙ (q.law (world_of old)).objects
 
-pub quietly_shown : (player : Dbref) (tail : List ℕ) (old new : Guard) (r : Result (Unit {0}) NoMemory) → Did (shown_others player tail) old new r → OnOk r (new.db.now ≡ old.db.now)
+pub quietly_shown : (player : Dbref) (tail : List ℕ) (old new : Guard) (r : Result (Unit {0}) NoMemory) → Did (shown_others player tail) old new r → OnOk r (objects_of new ≡ objects_of old)
 quietly_shown player tail old new (Ok u) e = quiet_kept _ old new (quiet_shown_others player tail) e
 quietly_shown player tail old new (Err error) e = tt
 
 -- leave that a verdict gave
-pub leave_given : (es : List Entry) (a : Actor) (act : Act) (pass : Pass) (g : Guard) → es ≡ g.db.now → a ≡ g.actor → IsVerdict (verdict es a act) a act (Ok pass) → IsLeave pass act g
+pub leave_given : (es : List Entry) (a : Actor) (act : Act) (pass : Pass) (g : Guard) → es ≡ objects_of g → a ≡ g.actor → IsVerdict (verdict es a act) a act (Ok pass) → IsLeave pass act g
 leave_given es a act pass g objects actor v = (v.1 ∙ actor, v.2, rw (sym objects, sym actor) v.0)
 
 -- leave stays after messages
 pub leave_kept : (pass : Pass) (act : Act) (d : ℕ) (a : Actor) (typed : Typed) (mine theirs : Message) (x : Dbref) (old new : Guard) → IsLeave pass act old → Done (both_shown d a typed mine theirs x) old new → IsLeave pass act new
 leave_kept pass act d a typed mine theirs x old new leave e =
-    let actor : new.actor ≡ old.actor = ap (λ (g : Guard). g.actor) e in
-    let objects : new.db.now ≡ old.db.now = quiet_kept _ old new (quiet_both_shown d a typed mine theirs x) e in
+    let actor : new.actor ≡ old.actor = e.1.0 in
+    let objects : objects_of new ≡ objects_of old = quiet_kept _ old new (quiet_both_shown d a typed mine theirs x) e in
     (leave.0 ∙ sym actor, leave.1, rw (actor, objects) leave.2)
 
 -- What is carried is at hand.

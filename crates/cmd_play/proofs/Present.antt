@@ -6,7 +6,8 @@ use Rattle.spec_live.specs.Lives.{Change}
 use Rattle.spec_commands.specs.Finding.{each}
 use Rattle.muck_perm.specs.declared.guard.Guard.{Guard}
 use Rattle.muck_perm.specs.Guards.{Did, Done}
-use Rattle.cmd_common.proofs.Doing.{did_both, did_nothing}
+use Rattle.muck_perm.proofs.Worlds.{did_both}
+use Rattle.cmd_common.proofs.Doing.{did_nothing}
 
 pub each_more : {X Y : Type 0} (go : X → Change) (xs : List X) (i : ℕ) (e : X) (a b new : Guard) (r : Result Y NoMemory) → i < length xs →
     Done (go (get_or xs i e)) a b → Did (each go (drop (i + 1) xs)) b new r → Did (each go (drop i xs)) a new r

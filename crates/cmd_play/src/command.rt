@@ -8,7 +8,7 @@ ghost use Rattle.spec_commands.specs.Finding.{looked, look_shown};
 ghost use Rattle.spec_commands.specs.Reading.{is_empty, by_table};
 ghost use Rattle.spec_commands.specs.Free.{free_play};
 ghost use Rattle.spec_commands.specs.Commands.{play_words, play_shape, line_typed, play_done, signed, play_line};
-ghost use Rattle.muck_perm.specs.Guards.{Did, world_of};
+ghost use Rattle.muck_perm.specs.Guards.{Did, objects_of, world_of};
 ghost use Rattle.cmd_common.specs.Plays.{Plays};
 ghost use Rattle.cmd_common.specs.Takes.{word_row};
 
@@ -184,7 +184,7 @@ fn do_line(guard: &mut Guard, d: u32, line: &Line) -> Result<Outcome, NoMemory>
 /// the world.
 pub fn run(guard: &mut Guard, d: u32, line: &Line) -> Result<Outcome, NoMemory>
     ensures plays { Plays (play_line d guard.old.actor line.now) guard.old guard.new result }
-    ensures licensed { OnOk result (Licensed guard.old.actor (free_play guard.old.actor line.now guard.old.db.now) (world_of guard.old) (world_of guard.new)) }
+    ensures licensed { OnOk result (Licensed guard.old.actor (free_play guard.old.actor line.now (objects_of guard.old)) (world_of guard.old) (world_of guard.new)) }
 {
     do_line(guard, d, line)
 }

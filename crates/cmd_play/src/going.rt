@@ -9,7 +9,7 @@ ghost use Rattle.spec_rights.specs.Licence.{Licensed, oneself};
 ghost use Rattle.spec_commands.specs.Replies.{cant_go, has_left, has_arrived};
 ghost use Rattle.spec_commands.specs.Finding.{shown_others, looked};
 ghost use Rattle.spec_commands.specs.Going.{home_at, link_at, movable, gone, gone_home, failed, drop_shown, led_place, led, tried, walked, went};
-ghost use Rattle.muck_perm.specs.Guards.{Did, Done, IsGiven, world_of};
+ghost use Rattle.muck_perm.specs.Guards.{Did, Done, IsGiven, objects_of, world_of};
 ghost use Rattle.cmd_common.specs.Plays.{Plays};
 
 use crate::looking::look;
@@ -94,7 +94,7 @@ fn step_through(guard: &mut Guard, pass: Pass, exit: Dbref, to: Dbref)
 #[tactic(auto, unfolding(spec_commands::specs::Replies::has_left))]
 fn show_leaving(guard: &mut Guard) -> Result<(), NoMemory>
     ensures shown { Did (shown_others guard.old.actor.player has_left) guard.old guard.new result }
-    ensures kept { OnOk result (guard.new.db.now ≡ guard.old.db.now) }
+    ensures kept { OnOk result (objects_of guard.new ≡ objects_of guard.old) }
 {
     let player = guard.actor().player;
     show_others(guard, player, b" has left.")

@@ -8,7 +8,7 @@ ghost use Rattle.spec_live.specs.Worth.{lock_text};
 ghost use Rattle.spec_commands.specs.Messages.{look_typed};
 ghost use Rattle.spec_commands.specs.Finding.{listed_under, is_seen, seen_in, room_shown, looked, is_room_at, look_shown, owner_shown, examined};
 ghost use Rattle.spec_commands.specs.Going.{inventory_shown};
-ghost use Rattle.muck_perm.specs.Guards.{Did, world_of};
+ghost use Rattle.muck_perm.specs.Guards.{Did, objects_of, world_of};
 
 use crate::messages::{message_or, show_message};
 use crate::typed::word_typed;
@@ -60,7 +60,7 @@ fn list_or(
 // Whether an object is there and hidden.
 #[tactic(auto, unfolding(spec_rights::specs::Levels::flag_at))]
 fn is_dark(guard: &Guard, x: Dbref) -> bool
-    ensures { result ≡ flag_at DARK guard.now.db.now x }
+    ensures { result ≡ flag_at DARK (objects_of guard.now) x }
 {
     match guard.db().get(x) {
         Some(object) => has_flag(DARK, object.flags()),
@@ -150,7 +150,7 @@ pub fn look_at(guard: &mut Guard, d: u32, typed: &Typed, x: Dbref) -> Result<(),
 
 // What an object holds.
 fn held_by(guard: &Guard, x: Dbref) -> Result<Vec<Dbref>, NoMemory>
-    ensures { IfOk result (λ xs. xs.items ≡ listed_in false x guard.now.db.now) }
+    ensures { IfOk result (λ xs. xs.items ≡ listed_in false x (objects_of guard.now)) }
 {
     let held = guard.db().contents(x).collect(guard.alloc())?;
     Ok(held)
@@ -177,7 +177,7 @@ pub fn inventory(guard: &mut Guard, d: u32) -> Result<(), NoMemory>
 // The owner of an object, `#-1` where it isn't there.
 #[tactic(auto, unfolding(spec_rights::specs::Levels::owner_at))]
 fn owner_at(guard: &Guard, x: Dbref) -> Dbref
-    ensures { result ≡ owner_at guard.now.db.now x }
+    ensures { result ≡ owner_at (objects_of guard.now) x }
 {
     match guard.db().get(x) {
         Some(object) => object.owner(),

@@ -54,7 +54,7 @@ fn speak(
 ) -> Result<Option<Line>, NoMemory>
     ensures { Says (with_message guard.old.actor typed.now message x) guard.old guard.new result }
 {
-    let Some(text) = guard.message(x, message_path(message)) else {
+    let Some(text) = guard.message(x, message_path(guard.db().paths(), message)) else {
         return Ok(None);
     };
     let text = text.copy(guard.alloc())?;

@@ -199,16 +199,16 @@ impl Board {
         self.tell_where(move |c| c.is_of(player), text)
     }
 
-    /// Sends a text to the connections of the players in a room but one.
+    /// Sends a text to the connections of the players in a room but these.
     #[tactic(auto, unfolding(spec_live::specs::Boards::told_others))]
     pub fn tell_others<K: Keys>(
         &mut self,
         keys: &K,
         room: Dbref,
-        but: Dbref,
+        but: &[Dbref],
         text: &[u8],
     ) -> Result<(), NoMemory>
-        ensures ok { OnOk result (self.new ≡ told_others (K.places keys.now) room but text.now self.old) }
+        ensures ok { OnOk result (self.new ≡ told_others (K.places keys.now) room but.now text.now self.old) }
         ensures rest { silent self.new ≡ silent self.old }
     {
         // Not by `tell_where`: for a test that borrows no ghost value can be picked.

@@ -1,5 +1,6 @@
 // One connection.
 ghost use Rattle.std.specs.Prelude.{◌≡◌, ◌≤◌, OnOk, OnErr, IfOk, MatchOption, length, drop, take, min, None, Some, false, [], ◌∷◌, ◌++◌};
+ghost use Rattle.std.specs.List.{list_any};
 ghost use Rattle.std.specs.Option.{option_map_or};
 ghost use Rattle.spec_live.specs.Objects.{same};
 ghost use Rattle.spec_live.specs.Output.{bytes_of, taken};
@@ -117,12 +118,12 @@ impl Connection {
         self.player.is_some()
     }
 
-    /// Whether it is that of a player in the room, but not of that one.
-    pub(crate) fn hears<K: Keys>(&self, keys: &K, room: Dbref, but: Dbref) -> bool
-        ensures { result ≡ hears (K.places keys.now) room but self.now }
+    /// Whether it is that of a player in the room, but of none of these.
+    pub(crate) fn hears<K: Keys>(&self, keys: &K, room: Dbref, but: &[Dbref]) -> bool
+        ensures { result ≡ hears (K.places keys.now) room but.now self.now }
     {
         match self.player {
-            Some(own) => own != but && is_in(keys, room, own),
+            Some(own) => !is_among(own, but) && is_in(keys, room, own),
             None => false,
         }
     }
@@ -197,6 +198,13 @@ impl Connection {
     {
         self.output.take(buf)
     }
+}
+
+// Whether a player is one of these.
+fn is_among(player: Dbref, these: &[Dbref]) -> bool
+    ensures { result ≡ list_any (same player) these.now }
+{
+    these.iter().any(|d| player == *d)
 }
 
 // Whether an object is in that room.

@@ -23,6 +23,7 @@ use crate::creation::{check_create, new_object, put_object};
 use crate::links::dbref_of;
 use crate::moves::{check_move, count_there, found, list_of, relocate};
 use crate::password::{digest_word, is_digest_of};
+use crate::paths::KnownPaths;
 use crate::recycling::{check_recycle, clear_out, vanish};
 use crate::setting::{
     Setting, check_any, check_flags, check_home, check_level, check_link, check_owner,
@@ -51,6 +52,7 @@ pub struct Db {
     lowest: u32,
     // nothing below this number is to be told of
     told: u32,
+    paths: KnownPaths,
 }
 
 impl Model for Db {
@@ -76,10 +78,12 @@ impl Db {
         ensures { IfOk result (λ db. db ≡ first_objects) }
     {
         let slots = first_slots(alloc)?;
+        let paths = KnownPaths::new(alloc)?;
         Ok(Db {
             slots,
             lowest: 0,
             told: 0,
+            paths,
         })
     }
 
@@ -89,6 +93,11 @@ impl Db {
         ensures limits { IfSome result (λ o. FitsLimits o.now) }
     {
         found(&self.slots, d)
+    }
+
+    /// The paths at which objects keep their locks and messages.
+    pub fn paths(&self) -> &KnownPaths {
+        &self.paths
     }
 
     /// One above the highest number. The world is consistent, and every object within the limits.

@@ -8,6 +8,7 @@ mod db;
 mod links;
 mod moves;
 mod password;
+mod paths;
 mod persisted;
 mod recycling;
 mod seen;
@@ -19,6 +20,7 @@ mod walks;
 
 pub use chain::Chain;
 pub use db::Db;
+pub use paths::KnownPaths;
 pub use persisted::Persisted;
 pub use seen::value_text;
 pub use spec_live::{Changed, DbFault, Mark, Object};

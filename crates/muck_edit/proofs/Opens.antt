@@ -232,14 +232,14 @@ open_after d a s line w h = by_place s.inserting refl
 
 pub edits_open : (d : ℕ) (line : List ℕ) (s state : EditState) (old new : Guard) (result : Result EditStep NoMemory) → IsOpen s (world_of old) → Edits (edited d old.actor s line) old new state result → OnOk result (IsOpen state (world_of new))
 edits_open d line s state old new (Ok step) h p =
-    let P : Guard → Type 0 = λ g. IsOpen state (world_of g) in
+    let P : Live → Type 0 = λ w. IsOpen state w in
     let Q : EditState → Type 0 = λ t. IsOpen t (edited d old.actor s line (world_of old)).0 in
-    subst P (sym p.0) (subst Q (sym p.1) (open_after d old.actor s line (world_of old) h))
+    subst P (sym p.0.0) (subst Q (sym p.1) (open_after d old.actor s line (world_of old) h))
 edits_open d line s state old new (Err e) h p = tt
 
 pub edits_licensed : (d : ℕ) (line : List ℕ) (s state : EditState) (old new : Guard) (result : Result EditStep NoMemory) → Edits (edited d old.actor s line) old new state result →
     OnOk result (Licensed old.actor (editing s.program) (world_of old) (world_of new))
 edits_licensed d line s state old new (Ok step) p =
-    let P : Guard → Type 0 = λ g. Licensed old.actor (editing s.program) (world_of old) (world_of g) in
-    subst P (sym p.0) (edited_proper d old.actor s line (world_of old)).licensed
+    let P : Live → Type 0 = λ w. Licensed old.actor (editing s.program) (world_of old) w in
+    subst P (sym p.0.0) (edited_proper d old.actor s line (world_of old)).licensed
 edits_licensed d line s state old new (Err e) p = tt

@@ -13,7 +13,7 @@ use Rattle.spec_rights.specs.Changing.{lines_kept}
 use Rattle.spec_commands.specs.Finding.{is_so}
 use Rattle.spec_commands.specs.Going.{is_program_at}
 use Rattle.muck_perm.specs.declared.guard.Guard.{Guard}
-use Rattle.muck_perm.specs.Guards.{Done, Makes, world_of}
+use Rattle.muck_perm.specs.Guards.{Done, Makes, objects_of, world_of}
 
 -- the number of what is there
 abbrev index : Dbref → List Entry → ℕ
@@ -34,8 +34,8 @@ checked_there x es h = by_number (number_in es x) h
     by_number (Some n) h = by_object n (object_in es n) h
 
 pub makes_there : (x : Dbref) (lines : List (List ℕ)) (old new : Guard) (result : Result (Unit {0}) DbFault) → is_program_at x (world_of old) ≡ true →
-    Makes (lines_kept x lines) (lines_check x old.db.now) old new result → (result ≡ Ok tt) × Done (lines_kept x lines) old new
+    Makes (lines_kept x lines) (lines_check x (objects_of old)) old new result → (result ≡ Ok tt) × Done (lines_kept x lines) old new
 unfolding is_so
 makes_there x lines old new result h m =
     let P : Result ℕ DbFault → Type 0 = λ check. Makes (lines_kept x lines) check old new result in
-    subst P (checked_there x old.db.now h) m
+    subst P (checked_there x (objects_of old) h) m

@@ -241,8 +241,7 @@ rejoins_so row es f g w v s r e apart h is =
 
 -- what a guard makes of the world that it lends is made of the whole world
 pub applied_to : (row : Row) (f g : Shown) (old new : Guard) (w v : World) (r : Result (Unit {0}) PrimFault) → Applied row f g old new r → world_of old ≡ w.live → v ≡ record w { live = world_of new } → AppliedTo row f g w v r
-applied_to (gives stack live) f g old new w v (Ok u) h start is =
-    (h.0, is ∙ ap (λ (x : Guard). record w { live = world_of x }) h.1)
+applied_to (gives stack live) f g old new w v (Ok u) h start is = (h.0, is ∙ ap (λ (x : Live). record w { live = x }) h.1)
 applied_to (gives stack live) f g old new w v (Err (FrameFault e)) h start is = absurd h
 applied_to (gives stack live) f g old new w v (Err FrameNoMemory) h start is = tt
 applied_to (refuses e) f g old new w v (Ok u) h start is = absurd h

@@ -13,8 +13,8 @@ use Rattle.spec_live.specs.Moving.{Does}
 use Rattle.spec_live.specs.Setting.{set_at, with_flags, flags_check}
 use Rattle.spec_rights.specs.Changing.{flag_values, is_flag, set_object, flag_set, flag_cleared}
 use Rattle.muck_perm.specs.declared.guard.Guard.{Guard}
-use Rattle.muck_perm.specs.Guards.{Makes, flags_at}
-use Rattle.muck_perm.proofs.Guarding.{with_objects, checked_number, at_found}
+use Rattle.muck_perm.specs.Guards.{objects_of, Makes, flags_at}
+use Rattle.muck_perm.proofs.Guarding.{with_objects, written, checked_number, at_found}
 
 -- The value of a flag.
 
@@ -100,28 +100,28 @@ unfolding object_at
 read_at x es n e = sym (ap (λ (q : Option ℕ). option_map_or (λ (o : Object). o.flags) (option_and_then (object_in es) q) no_flags) e)
 
 flagged : (h : Flags → Flags) (x : Dbref) (g : Guard) (es : List Entry) (result : Result (Unit {0}) DbFault)
-    → Does (set_at (with_flags (h (flags_at x g.db.now)))) (flags_check x (h (flags_at x g.db.now)) g.db.now) g.db.now es result
-    → Makes (set_object (λ o. with_flags (h o.flags) o) x) (flags_check x (h (flags_at x g.db.now)) g.db.now) g (with_objects es g) result
+    → Does (set_at (with_flags (h (flags_at x (objects_of g))))) (flags_check x (h (flags_at x (objects_of g))) (objects_of g)) (objects_of g) es result
+    → Makes (set_object (λ o. with_flags (h o.flags) o) x) (flags_check x (h (flags_at x (objects_of g))) (objects_of g)) g (with_objects es g) result
 unfolding flags_check
-flagged h x g es result d = by_cases (flags_check x (h (flags_at x g.db.now)) g.db.now) refl d
+flagged h x g es result d = by_cases (flags_check x (h (flags_at x (objects_of g))) (objects_of g)) refl d
   where
-    by_cases : (check : Result ℕ DbFault) → flags_check x (h (flags_at x g.db.now)) g.db.now ≡ check → Does (set_at (with_flags (h (flags_at x g.db.now)))) check g.db.now es result
+    by_cases : (check : Result ℕ DbFault) → flags_check x (h (flags_at x (objects_of g))) (objects_of g) ≡ check → Does (set_at (with_flags (h (flags_at x (objects_of g))))) check (objects_of g) es result
         → Makes (set_object (λ o. with_flags (h o.flags) o) x) check g (with_objects es g) result
     by_cases (Ok n) e d =
-        let number : number_in g.db.now x ≡ Some n = checked_number _ x g.db.now n e in
-        let read : set_at (with_flags (h (flags_at x g.db.now))) n g.db.now ≡ set_at (λ o. with_flags (h o.flags) o) n g.db.now
-        = set_read n g.db.now h _ (ap h (read_at x g.db.now n number)) in
-        (d.0, ap (λ z. with_objects z g) (d.1 ∙ (read ∙ at_found (set_at (λ o. with_flags (h o.flags) o)) x g.db.now n number)))
+        let number : number_in (objects_of g) x ≡ Some n = checked_number _ x (objects_of g) n e in
+        let read : set_at (with_flags (h (flags_at x (objects_of g)))) n (objects_of g) ≡ set_at (λ o. with_flags (h o.flags) o) n (objects_of g)
+        = set_read n (objects_of g) h _ (ap h (read_at x (objects_of g) n number)) in
+        (d.0, written g es _ (d.1 ∙ (read ∙ at_found (set_at (λ o. with_flags (h o.flags) o)) x (objects_of g) n number)))
     by_cases (Err fault) e d = (d.0, ap (λ z. with_objects z g) d.1)
 
 pub makes_flag_set : (x : Dbref) (flag : Flags) (g : Guard) (es : List Entry) (result : Result (Unit {0}) DbFault)
-    → Does (set_at (with_flags (with_flag flag.0 (flags_at x g.db.now)))) (flags_check x (with_flag flag.0 (flags_at x g.db.now)) g.db.now) g.db.now es result
-    → Makes (flag_set x flag) (flags_check x (with_flag flag.0 (flags_at x g.db.now)) g.db.now) g (with_objects es g) result
+    → Does (set_at (with_flags (with_flag flag.0 (flags_at x (objects_of g))))) (flags_check x (with_flag flag.0 (flags_at x (objects_of g))) (objects_of g)) (objects_of g) es result
+    → Makes (flag_set x flag) (flags_check x (with_flag flag.0 (flags_at x (objects_of g))) (objects_of g)) g (with_objects es g) result
 unfolding flag_set
 makes_flag_set x flag g es result d = flagged (with_flag flag.0) x g es result d
 
 pub makes_flag_cleared : (x : Dbref) (flag : Flags) (g : Guard) (es : List Entry) (result : Result (Unit {0}) DbFault)
-    → Does (set_at (with_flags (without_flag flag.0 (flags_at x g.db.now)))) (flags_check x (without_flag flag.0 (flags_at x g.db.now)) g.db.now) g.db.now es result
-    → Makes (flag_cleared x flag) (flags_check x (without_flag flag.0 (flags_at x g.db.now)) g.db.now) g (with_objects es g) result
+    → Does (set_at (with_flags (without_flag flag.0 (flags_at x (objects_of g))))) (flags_check x (without_flag flag.0 (flags_at x (objects_of g))) (objects_of g)) (objects_of g) es result
+    → Makes (flag_cleared x flag) (flags_check x (without_flag flag.0 (flags_at x (objects_of g))) (objects_of g)) g (with_objects es g) result
 unfolding flag_cleared
 makes_flag_cleared x flag g es result d = flagged (without_flag flag.0) x g es result d

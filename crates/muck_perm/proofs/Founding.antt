@@ -22,8 +22,8 @@ use Rattle.muck_db.proofs.Writes.{set_back}
 use Rattle.spec_live.specs.Lives.{Change}
 use Rattle.spec_rights.specs.Changing.{created_so}
 use Rattle.muck_perm.specs.declared.guard.Guard.{Guard}
-use Rattle.muck_perm.specs.Guards.{Founds, is_kind_at, may_lead, may_house}
-use Rattle.muck_perm.proofs.Guarding.{with_objects}
+use Rattle.muck_perm.specs.Guards.{objects_of, Founds, is_kind_at, may_lead, may_house}
+use Rattle.muck_perm.proofs.Guarding.{with_objects, written}
 
 -- The kinds after a creation.
 
@@ -128,10 +128,10 @@ level_here es fs n level m h =
 -- The guard.
 
 pub founds_refused : (kind : Kind) (name : List ℕ) (owner place : Dbref) (change : ℕ → ℕ → Change) (g : Guard) (es : List Entry) (fault : DbFault)
-    → Creates (create_check kind owner place g.db.now) kind name owner g.db.now es (Err fault) → Founds (create_check kind owner place g.db.now) change g (with_objects es g) (Err fault)
-founds_refused kind name owner place change g es fault c = by_cases (create_check kind owner place g.db.now) c
+    → Creates (create_check kind owner place (objects_of g)) kind name owner (objects_of g) es (Err fault) → Founds (create_check kind owner place (objects_of g)) change g (with_objects es g) (Err fault)
+founds_refused kind name owner place change g es fault c = by_cases (create_check kind owner place (objects_of g)) c
   where
-    by_cases : (check : Result (ℕ × ℕ) DbFault) → Creates check kind name owner g.db.now es (Err fault) → Founds check change g (with_objects es g) (Err fault)
+    by_cases : (check : Result (ℕ × ℕ) DbFault) → Creates check kind name owner (objects_of g) es (Err fault) → Founds check change g (with_objects es g) (Err fault)
     by_cases (Ok p) c = (c.0, ap (λ z. with_objects z g) c.1)
     by_cases (Err other) c = (c.0, ap (λ z. with_objects z g) c.1)
 
@@ -144,13 +144,13 @@ set_same n es = by_cases (slice_get es n) refl
     by_cases (Some x) e = set_back es n x e
 
 pub founds_plain : (kind : Kind) (name : List ℕ) (owner place : Dbref) (g : Guard) (es : List Entry) (result : Result Dbref DbFault)
-    → Creates (create_check kind owner place g.db.now) kind name owner g.db.now es result
-    → Founds (create_check kind owner place g.db.now) (λ n to. created_so n kind name owner to (λ o. o)) g (with_objects es g) result
+    → Creates (create_check kind owner place (objects_of g)) kind name owner (objects_of g) es result
+    → Founds (create_check kind owner place (objects_of g)) (λ n to. created_so n kind name owner to (λ o. o)) g (with_objects es g) result
 unfolding created_so
-founds_plain kind name owner place g es (Ok d) c = by_cases (create_check kind owner place g.db.now) c
+founds_plain kind name owner place g es (Ok d) c = by_cases (create_check kind owner place (objects_of g)) c
   where
-    by_cases : (check : Result (ℕ × ℕ) DbFault) → Creates check kind name owner g.db.now es (Ok d) → Founds check (λ n to. created_so n kind name owner to (λ o. o)) g (with_objects es g) (Ok d)
-    by_cases (Ok p) c = (c.0, ap (λ z. with_objects z g) (c.1 ∙ sym (set_same p.0 (created p.0 kind name owner p.1 g.db.now))))
+    by_cases : (check : Result (ℕ × ℕ) DbFault) → Creates check kind name owner (objects_of g) es (Ok d) → Founds check (λ n to. created_so n kind name owner to (λ o. o)) g (with_objects es g) (Ok d)
+    by_cases (Ok p) c = (c.0, written g es _ (c.1 ∙ sym (set_same p.0 (created p.0 kind name owner p.1 (objects_of g)))))
     by_cases (Err other) c = absurd c
 founds_plain kind name owner place g es (Err fault) c = founds_refused kind name owner place _ g es fault c
 
@@ -159,34 +159,34 @@ abbrev Both : (Object → Object) → Kind → List ℕ → Dbref → Result (�
 Both f kind name owner check g fs d result = (result ≡ Ok tt) × Founds check (λ n to. created_so n kind name owner to f) g (with_objects fs g) (Ok d)
 
 founds_so : (f : Object → Object) (kind : Kind) (name : List ℕ) (owner place : Dbref) (after : Dbref → List Entry → Result ℕ DbFault) (g : Guard) (es fs : List Entry) (d : Dbref) (result : Result (Unit {0}) DbFault)
-    → ((p : ℕ × ℕ) → create_check kind owner place g.db.now ≡ Ok p → after (dbref_of p.0) (created p.0 kind name owner p.1 g.db.now) ≡ Ok p.0)
-    → Creates (create_check kind owner place g.db.now) kind name owner g.db.now es (Ok d) → Does (set_at f) (after d es) es fs result
-    → Both f kind name owner (create_check kind owner place g.db.now) g fs d result
+    → ((p : ℕ × ℕ) → create_check kind owner place (objects_of g) ≡ Ok p → after (dbref_of p.0) (created p.0 kind name owner p.1 (objects_of g)) ≡ Ok p.0)
+    → Creates (create_check kind owner place (objects_of g)) kind name owner (objects_of g) es (Ok d) → Does (set_at f) (after d es) es fs result
+    → Both f kind name owner (create_check kind owner place (objects_of g)) g fs d result
 unfolding created_so
-founds_so f kind name owner place after g es fs d result passes c s = by_cases (create_check kind owner place g.db.now) refl c
+founds_so f kind name owner place after g es fs d result passes c s = by_cases (create_check kind owner place (objects_of g)) refl c
   where
-    by_cases : (check : Result (ℕ × ℕ) DbFault) → create_check kind owner place g.db.now ≡ check → Creates check kind name owner g.db.now es (Ok d) → Both f kind name owner check g fs d result
+    by_cases : (check : Result (ℕ × ℕ) DbFault) → create_check kind owner place (objects_of g) ≡ check → Creates check kind name owner (objects_of g) es (Ok d) → Both f kind name owner check g fs d result
     by_cases (Ok p) e c =
         let k : after d es ≡ Ok p.0 = ap (λ z. after z es) c.0 ∙ (ap (λ z. after (dbref_of p.0) z) c.1 ∙ passes p e) in
         let P : Result ℕ DbFault → Type 0 = λ r. Does (set_at f) r es fs result in
         let q : P (Ok p.0) = subst P k s in
-        (q.0, (c.0, ap (λ z. with_objects z g) (q.1 ∙ ap (λ z. set_at f p.0 z) c.1)))
+        (q.0, (c.0, written g fs _ (q.1 ∙ ap (λ z. set_at f p.0 z) c.1)))
     by_cases (Err other) e c = absurd c
 
-pub founds_exit : (name : List ℕ) (owner place to : Dbref) (g : Guard) (es fs : List Entry) (d : Dbref) (result : Result (Unit {0}) DbFault) → may_lead g.db.now to ≡ true
-    → Creates (create_check Exit owner place g.db.now) Exit name owner g.db.now es (Ok d) → Does (set_at (with_link to)) (link_check d to es) es fs result
-    → Both (with_link to) Exit name owner (create_check Exit owner place g.db.now) g fs d result
+pub founds_exit : (name : List ℕ) (owner place to : Dbref) (g : Guard) (es fs : List Entry) (d : Dbref) (result : Result (Unit {0}) DbFault) → may_lead (objects_of g) to ≡ true
+    → Creates (create_check Exit owner place (objects_of g)) Exit name owner (objects_of g) es (Ok d) → Does (set_at (with_link to)) (link_check d to es) es fs result
+    → Both (with_link to) Exit name owner (create_check Exit owner place (objects_of g)) g fs d result
 founds_exit name owner place to g es fs d result h c s =
-    founds_so (with_link to) Exit name owner place (λ x z. link_check x to z) g es fs d result (λ p e. link_here g.db.now _ p.0 to (made Exit name owner place g.db.now p e) h) c s
+    founds_so (with_link to) Exit name owner place (λ x z. link_check x to z) g es fs d result (λ p e. link_here (objects_of g) _ p.0 to (made Exit name owner place (objects_of g) p e) h) c s
 
-pub founds_thing : (name : List ℕ) (owner place to : Dbref) (g : Guard) (es fs : List Entry) (d : Dbref) (result : Result (Unit {0}) DbFault) → may_house g.db.now to ≡ true
-    → Creates (create_check Thing owner place g.db.now) Thing name owner g.db.now es (Ok d) → Does (set_at (with_home to)) (home_check d to es) es fs result
-    → Both (with_home to) Thing name owner (create_check Thing owner place g.db.now) g fs d result
+pub founds_thing : (name : List ℕ) (owner place to : Dbref) (g : Guard) (es fs : List Entry) (d : Dbref) (result : Result (Unit {0}) DbFault) → may_house (objects_of g) to ≡ true
+    → Creates (create_check Thing owner place (objects_of g)) Thing name owner (objects_of g) es (Ok d) → Does (set_at (with_home to)) (home_check d to es) es fs result
+    → Both (with_home to) Thing name owner (create_check Thing owner place (objects_of g)) g fs d result
 founds_thing name owner place to g es fs d result h c s =
-    founds_so (with_home to) Thing name owner place (λ x z. home_check x to z) g es fs d result (λ p e. home_here g.db.now _ p.0 to (made Thing name owner place g.db.now p e) h) c s
+    founds_so (with_home to) Thing name owner place (λ x z. home_check x to z) g es fs d result (λ p e. home_here (objects_of g) _ p.0 to (made Thing name owner place (objects_of g) p e) h) c s
 
 pub founds_program : (name : List ℕ) (owner place : Dbref) (level : ℕ) (g : Guard) (es fs : List Entry) (d : Dbref) (result : Result (Unit {0}) DbFault) → nat_lt level 4 ≡ true
-    → Creates (create_check Program owner place g.db.now) Program name owner g.db.now es (Ok d) → Does (set_at (with_level level)) (level_check d level es) es fs result
-    → Both (with_level level) Program name owner (create_check Program owner place g.db.now) g fs d result
+    → Creates (create_check Program owner place (objects_of g)) Program name owner (objects_of g) es (Ok d) → Does (set_at (with_level level)) (level_check d level es) es fs result
+    → Both (with_level level) Program name owner (create_check Program owner place (objects_of g)) g fs d result
 founds_program name owner place level g es fs d result h c s =
-    founds_so (with_level level) Program name owner place (λ x z. level_check x level z) g es fs d result (λ p e. level_here g.db.now _ p.0 level (made Program name owner place g.db.now p e) h) c s
+    founds_so (with_level level) Program name owner place (λ x z. level_check x level z) g es fs d result (λ p e. level_here (objects_of g) _ p.0 level (made Program name owner place (objects_of g) p e) h) c s

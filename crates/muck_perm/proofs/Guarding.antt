@@ -14,7 +14,7 @@ use Rattle.spec_live.specs.Recycling.{recycled, recycle_check}
 use Rattle.spec_live.specs.Lives.{on_objects}
 use Rattle.spec_rights.specs.Changing.{at_number, moved_at, moved_to, named, owned_by, linked, homed, leveled, lines_kept, stored, unstored, recycled_now, password_kept}
 use Rattle.muck_perm.specs.declared.guard.Guard.{Guard}
-use Rattle.muck_perm.specs.Guards.{Makes, Tries}
+use Rattle.muck_perm.specs.Guards.{objects_of, world_of, Kept, Makes, Tries}
 
 -- The number of what passed a check.
 
@@ -79,76 +79,80 @@ move_numbers d to es p h = move_by es (number_in es d) (number_in es to) p h
 abbrev pub with_objects : List Entry → Guard → Guard
 with_objects es g = record g { db = record g.db { now = es } }
 
+-- its objects are others now
+pub written : (g : Guard) (es fs : List Entry) → es ≡ fs → (world_of (with_objects es g) ≡ world_of (with_objects fs g)) × Kept g (with_objects es g)
+written g es fs e = (ap (λ z. world_of (with_objects z g)) e, (refl, (refl, refl)))
+
 pub at_found : (f : ℕ → List Entry → List Entry) (x : Dbref) (es : List Entry) (n : ℕ) → number_in es x ≡ Some n → f n es ≡ at_number f x es
 at_found f x es n e = sym (ap (λ o. option_map_or (λ m. f m es) o es) e)
 
 pub makes_one : (f : ℕ → List Entry → List Entry) (x : Dbref) (check : Result ℕ DbFault) (g : Guard) (es : List Entry) (result : Result (Unit {0}) DbFault)
-    → ((n : ℕ) → check ≡ Ok n → number_in g.db.now x ≡ Some n) → Does f check g.db.now es result → Makes (on_objects (at_number f x)) check g (with_objects es g) result
-makes_one f x (Ok n) g es result number d = (d.0, ap (λ z. with_objects z g) (d.1 ∙ at_found f x g.db.now n (number n refl)))
+    → ((n : ℕ) → check ≡ Ok n → number_in (objects_of g) x ≡ Some n) → Does f check (objects_of g) es result → Makes (on_objects (at_number f x)) check g (with_objects es g) result
+makes_one f x (Ok n) g es result number d = (d.0, written g es _ (d.1 ∙ at_found f x (objects_of g) n (number n refl)))
 makes_one f x (Err fault) g es result number d = (d.0, ap (λ z. with_objects z g) d.1)
 
 pub tries_one : (f : ℕ → List Entry → List Entry) (x : Dbref) (check : Result ℕ DbFault) (g : Guard) (es : List Entry) (result : Result (Unit {0}) DbFault)
-    → ((n : ℕ) → check ≡ Ok n → number_in g.db.now x ≡ Some n) → setting.Tries f check g.db.now es result → Tries (on_objects (at_number f x)) check g (with_objects es g) result
-tries_one f x (Ok n) g es (Ok u) number d = ap (λ z. with_objects z g) (d ∙ at_found f x g.db.now n (number n refl))
+    → ((n : ℕ) → check ≡ Ok n → number_in (objects_of g) x ≡ Some n) → setting.Tries f check (objects_of g) es result → Tries (on_objects (at_number f x)) check g (with_objects es g) result
+tries_one f x (Ok n) g es (Ok u) number d = written g es _ (d ∙ at_found f x (objects_of g) n (number n refl))
 tries_one f x (Ok n) g es (Err found) number d = (d.0, ap (λ z. with_objects z g) d.1)
 tries_one f x (Err fault) g es (Ok u) number d = absurd d
 tries_one f x (Err fault) g es (Err found) number d = (d.0, ap (λ z. with_objects z g) d.1)
 
 pub makes_moved : (x to : Dbref) (g : Guard) (es : List Entry) (result : Result (Unit {0}) DbFault)
-    → Moves (move_check x to g.db.now) g.db.now es result → Makes (moved_to x to) (move_check x to g.db.now) g (with_objects es g) result
+    → Moves (move_check x to (objects_of g)) (objects_of g) es result → Makes (moved_to x to) (move_check x to (objects_of g)) g (with_objects es g) result
 unfolding moved_to
-makes_moved x to g es result d = by_cases (move_check x to g.db.now) refl d
+makes_moved x to g es result d = by_cases (move_check x to (objects_of g)) refl d
   where
-    by_cases : (check : Result (ℕ × ℕ) DbFault) → move_check x to g.db.now ≡ check → Moves check g.db.now es result → Makes (moved_to x to) check g (with_objects es g) result
-    by_cases (Ok p) e d = (d.0, ap (λ z. with_objects z g) (d.1 ∙ sym (move_numbers x to g.db.now p e)))
+    by_cases : (check : Result (ℕ × ℕ) DbFault) → move_check x to (objects_of g) ≡ check → Moves check (objects_of g) es result → Makes (moved_to x to) check g (with_objects es g) result
+    by_cases (Ok p) e d = (d.0, written g es _ (d.1 ∙ sym (move_numbers x to (objects_of g) p e)))
     by_cases (Err fault) e d = (d.0, ap (λ z. with_objects z g) d.1)
 
 pub makes_named : (x : Dbref) (name : List ℕ) (g : Guard) (es : List Entry) (result : Result (Unit {0}) DbFault)
-    → Does (set_at (with_name name)) (checked any x g.db.now) g.db.now es result → Makes (named x name) (checked any x g.db.now) g (with_objects es g) result
+    → Does (set_at (with_name name)) (checked any x (objects_of g)) (objects_of g) es result → Makes (named x name) (checked any x (objects_of g)) g (with_objects es g) result
 unfolding named
-makes_named x name g es result d = makes_one (set_at (with_name name)) x _ g es result (λ n e. checked_number _ x g.db.now n e) d
+makes_named x name g es result d = makes_one (set_at (with_name name)) x _ g es result (λ n e. checked_number _ x (objects_of g) n e) d
 
 pub makes_owned : (x owner : Dbref) (g : Guard) (es : List Entry) (result : Result (Unit {0}) DbFault)
-    → Does (set_at (with_owner owner)) (owner_check x owner g.db.now) g.db.now es result → Makes (owned_by x owner) (owner_check x owner g.db.now) g (with_objects es g) result
+    → Does (set_at (with_owner owner)) (owner_check x owner (objects_of g)) (objects_of g) es result → Makes (owned_by x owner) (owner_check x owner (objects_of g)) g (with_objects es g) result
 unfolding owned_by owner_check
-makes_owned x owner g es result d = makes_one (set_at (with_owner owner)) x _ g es result (λ n e. both_number _ x owner g.db.now n e) d
+makes_owned x owner g es result d = makes_one (set_at (with_owner owner)) x _ g es result (λ n e. both_number _ x owner (objects_of g) n e) d
 
 pub makes_linked : (x to : Dbref) (g : Guard) (es : List Entry) (result : Result (Unit {0}) DbFault)
-    → Does (set_at (with_link to)) (link_check x to g.db.now) g.db.now es result → Makes (linked x to) (link_check x to g.db.now) g (with_objects es g) result
+    → Does (set_at (with_link to)) (link_check x to (objects_of g)) (objects_of g) es result → Makes (linked x to) (link_check x to (objects_of g)) g (with_objects es g) result
 unfolding linked
-makes_linked x to g es result d = makes_one (set_at (with_link to)) x _ g es result (λ n e. link_number x to g.db.now n e) d
+makes_linked x to g es result d = makes_one (set_at (with_link to)) x _ g es result (λ n e. link_number x to (objects_of g) n e) d
 
 pub makes_homed : (x to : Dbref) (g : Guard) (es : List Entry) (result : Result (Unit {0}) DbFault)
-    → Does (set_at (with_home to)) (home_check x to g.db.now) g.db.now es result → Makes (homed x to) (home_check x to g.db.now) g (with_objects es g) result
+    → Does (set_at (with_home to)) (home_check x to (objects_of g)) (objects_of g) es result → Makes (homed x to) (home_check x to (objects_of g)) g (with_objects es g) result
 unfolding homed home_check
-makes_homed x to g es result d = makes_one (set_at (with_home to)) x _ g es result (λ n e. both_number _ x to g.db.now n e) d
+makes_homed x to g es result d = makes_one (set_at (with_home to)) x _ g es result (λ n e. both_number _ x to (objects_of g) n e) d
 
 pub makes_leveled : (x : Dbref) (level : ℕ) (g : Guard) (es : List Entry) (result : Result (Unit {0}) DbFault)
-    → Does (set_at (with_level level)) (level_check x level g.db.now) g.db.now es result → Makes (leveled x level) (level_check x level g.db.now) g (with_objects es g) result
+    → Does (set_at (with_level level)) (level_check x level (objects_of g)) (objects_of g) es result → Makes (leveled x level) (level_check x level (objects_of g)) g (with_objects es g) result
 unfolding leveled level_check
-makes_leveled x level g es result d = makes_one (set_at (with_level level)) x _ g es result (λ n e. checked_number _ x g.db.now n e) d
+makes_leveled x level g es result d = makes_one (set_at (with_level level)) x _ g es result (λ n e. checked_number _ x (objects_of g) n e) d
 
 pub makes_lines : (x : Dbref) (lines : List (List ℕ)) (g : Guard) (es : List Entry) (result : Result (Unit {0}) DbFault)
-    → Does (lines_set lines) (lines_check x g.db.now) g.db.now es result → Makes (lines_kept x lines) (lines_check x g.db.now) g (with_objects es g) result
+    → Does (lines_set lines) (lines_check x (objects_of g)) (objects_of g) es result → Makes (lines_kept x lines) (lines_check x (objects_of g)) g (with_objects es g) result
 unfolding lines_kept lines_check
-makes_lines x lines g es result d = makes_one (lines_set lines) x _ g es result (λ n e. checked_number _ x g.db.now n e) d
+makes_lines x lines g es result d = makes_one (lines_set lines) x _ g es result (λ n e. checked_number _ x (objects_of g) n e) d
 
 pub makes_recycled : (x : Dbref) (g : Guard) (es : List Entry) (result : Result (Unit {0}) DbFault)
-    → Does recycled (recycle_check x g.db.now) g.db.now es result → Makes (recycled_now x) (recycle_check x g.db.now) g (with_objects es g) result
+    → Does recycled (recycle_check x (objects_of g)) (objects_of g) es result → Makes (recycled_now x) (recycle_check x (objects_of g)) g (with_objects es g) result
 unfolding recycled_now recycle_check
-makes_recycled x g es result d = makes_one recycled x _ g es result (λ n e. checked_number _ x g.db.now n e) d
+makes_recycled x g es result d = makes_one recycled x _ g es result (λ n e. checked_number _ x (objects_of g) n e) d
 
 pub makes_unstored : (x : Dbref) (path : List (List ℕ)) (g : Guard) (es : List Entry) (result : Result (Unit {0}) DbFault)
-    → Does (set_at (without_prop path)) (checked any x g.db.now) g.db.now es result → Makes (unstored x path) (checked any x g.db.now) g (with_objects es g) result
+    → Does (set_at (without_prop path)) (checked any x (objects_of g)) (objects_of g) es result → Makes (unstored x path) (checked any x (objects_of g)) g (with_objects es g) result
 unfolding unstored
-makes_unstored x path g es result d = makes_one (set_at (without_prop path)) x _ g es result (λ n e. checked_number _ x g.db.now n e) d
+makes_unstored x path g es result d = makes_one (set_at (without_prop path)) x _ g es result (λ n e. checked_number _ x (objects_of g) n e) d
 
 pub tries_stored : (x : Dbref) (path : List (List ℕ)) (value : PropValue) (g : Guard) (es : List Entry) (result : Result (Unit {0}) DbFault)
-    → setting.Tries (set_at (with_prop path value)) (checked any x g.db.now) g.db.now es result → Tries (stored x path value) (checked any x g.db.now) g (with_objects es g) result
+    → setting.Tries (set_at (with_prop path value)) (checked any x (objects_of g)) (objects_of g) es result → Tries (stored x path value) (checked any x (objects_of g)) g (with_objects es g) result
 unfolding stored
-tries_stored x path value g es result d = tries_one (set_at (with_prop path value)) x _ g es result (λ n e. checked_number _ x g.db.now n e) d
+tries_stored x path value g es result d = tries_one (set_at (with_prop path value)) x _ g es result (λ n e. checked_number _ x (objects_of g) n e) d
 
 pub tries_password : (x : Dbref) (salt : ℕ) (word : List ℕ) (g : Guard) (es : List Entry) (result : Result (Unit {0}) DbFault)
-    → setting.Tries (set_at (with_password salt word)) (password_check x g.db.now) g.db.now es result → Tries (password_kept x salt word) (password_check x g.db.now) g (with_objects es g) result
+    → setting.Tries (set_at (with_password salt word)) (password_check x (objects_of g)) (objects_of g) es result → Tries (password_kept x salt word) (password_check x (objects_of g)) g (with_objects es g) result
 unfolding password_kept password_check
-tries_password x salt word g es result d = tries_one (set_at (with_password salt word)) x _ g es result (λ n e. checked_number _ x g.db.now n e) d
+tries_password x salt word g es result d = tries_one (set_at (with_password salt word)) x _ g es result (λ n e. checked_number _ x (objects_of g) n e) d

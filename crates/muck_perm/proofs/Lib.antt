@@ -1,3 +1,4 @@
+pub mod Worlds
 pub mod Guarding
 pub mod Founding
 pub mod Flagging

@@ -17,24 +17,25 @@ use Rattle.spec_rights.specs.Verdict.{verdict, place_of}
 use Rattle.muck_perm.specs.declared.rules.Pass.{Pass}
 use Rattle.muck_perm.specs.declared.guard.Guard.{Guard}
 
--- the world that a guard has
+-- the objects that a guard lends
+abbrev pub objects_of : Guard → List Entry
+objects_of g = g.db.now
+
+-- the world that it lends
 abbrev pub world_of : Guard → Live
-world_of g = record { objects = g.db.now; board = g.board.now }
-
--- the guard with another world
-abbrev pub with_world : Live → Guard → Guard
-with_world w g = record g { db = record g.db { now = w.objects }; board = record g.board { now = w.board } }
-
-abbrev pub on_world : Change → Guard → Guard
-on_world f g = with_world (f (world_of g)) g
-
--- the world of the guard has changed so, and nothing else of it
-abbrev pub Done : Change → Guard → Guard → Type 0
-Done f old new = new ≡ on_world f old
+world_of g = record { objects = objects_of g; board = g.board.now }
 
 -- it still holds the same places
 abbrev pub Same : Guard → Guard → Type 0
 Same old new = (new.db.ghost_name ≡ old.db.ghost_name) × (new.board.ghost_name ≡ old.board.ghost_name)
+
+-- nothing of it has changed but the world
+abbrev pub Kept : Guard → Guard → Type 0
+Kept old new = (new.actor ≡ old.actor) × Same old new
+
+-- the world has changed so, and nothing else of the guard
+abbrev pub Done : Change → Guard → Guard → Type 0
+Done f old new = (world_of new ≡ f (world_of old)) × Kept old new
 
 -- the change was made, or memory was wanted
 abbrev pub Did : {X : Type 0} → Change → Guard → Guard → Result X NoMemory → Type 0
@@ -43,7 +44,7 @@ Did f old new (Err e) = Same old new
 
 -- leave for that act, by the actor that the guard has and in the world as it is
 abbrev pub IsLeave : Pass → Act → Guard → Type 0
-IsLeave pass act g = (pass.actor ≡ g.actor) × (pass.act.now ≡ act) × (verdict g.db.now g.actor act ≡ None)
+IsLeave pass act g = (pass.actor ≡ g.actor) × (pass.act.now ≡ act) × (verdict (objects_of g) g.actor act ≡ None)
 
 -- a pass for that act, by the actor that the guard has; the world may be another by now
 abbrev pub IsGiven : Pass → Act → Guard → Type 0
@@ -51,7 +52,7 @@ IsGiven pass act g = (pass.actor ≡ g.actor) × (pass.act.now ≡ act)
 
 -- x lies where the player is
 abbrev pub is_here : Dbref → Guard → Bool
-is_here x g = same (place_of g.db.now x) (place_of g.db.now g.actor.player)
+is_here x g = same (place_of (objects_of g) x) (place_of (objects_of g) g.actor.player)
 
 -- what a writer does that takes no memory: the change, or the first refusal of the world and nothing
 abbrev pub Makes : {X : Type 0} → Change → Result X DbFault → Guard → Guard → Result (Unit {0}) DbFault → Type 0

@@ -3,9 +3,9 @@ ghost use Rattle.std.specs.Prelude.{◌≡◌, ◌≤◌, IfOk, None, length, tr
 ghost use Rattle.std.specs.Option.{option_copied, option_and_then, option_map};
 ghost use Rattle.std.specs.FinMap.{get};
 ghost use Rattle.muck_model.specs.declared.dbref.Kind.{Kind};
-ghost use Rattle.muck_prop.specs.Paths.{class_of, path_fault, segments_of};
+ghost use Rattle.muck_prop.specs.Paths.{class_of};
 ghost use Rattle.spec_live.specs.Objects.{dbref_of, nothing, home, object_at};
-ghost use Rattle.spec_live.specs.Lives.{tell, tell_player, tell_others, tell_all};
+ghost use Rattle.spec_live.specs.Lives.{tell, tell_player, tell_but, tell_others, tell_all, leave, random_word, draw};
 ghost use Rattle.spec_live.specs.Flags.{with_flag, without_flag};
 ghost use Rattle.spec_live.specs.Moving.{move_check};
 ghost use Rattle.spec_live.specs.Making.{create_check};
@@ -17,7 +17,7 @@ ghost use Rattle.spec_rights.specs.Verdict.{is_guarded};
 ghost use Rattle.spec_live.specs.Worth.{message_at, lock_text};
 ghost use Rattle.spec_rights.specs.Changing.{named, owned_by, linked, homed, leveled, lines_kept, stored, unstored, moved_to, recycled_now, created_so, is_flag, flag_set, flag_cleared, password_kept, booted, tuned};
 ghost use Rattle.spec_rights.specs.Licence.{at_hand};
-ghost use Rattle.muck_perm.specs.Guards.{Did, Done, IsLeave, IsGiven, is_here, Makes, Tries, Founds, flags_at, home_in, may_lead, may_house};
+ghost use Rattle.muck_perm.specs.Guards.{objects_of, world_of, Did, Done, IsLeave, IsGiven, is_here, Makes, Tries, Founds, flags_at, home_in, may_lead, may_house};
 
 use crate::flags::{flags_at, with_flag, without_flag};
 use crate::levels::level_at;
@@ -50,7 +50,7 @@ impl<'a> Guard<'a> {
     pub fn new(alloc: Global, db: &'a mut Db, board: &'a mut Board, actor: Actor) -> Guard<'a>
         ensures db { result.db.ghost_name ≡ db.entry.ghost_name }
         ensures board { result.board.ghost_name ≡ board.entry.ghost_name }
-        ensures objects { result.db.now ≡ db.old }
+        ensures objects { objects_of result ≡ db.old }
         ensures connections { result.board.now ≡ board.old }
         ensures actor { result.actor ≡ actor }
     {
@@ -76,7 +76,7 @@ impl<'a> Guard<'a> {
 
     /// The objects.
     pub fn db(&self) -> &Db
-        ensures { result.now ≡ self.now.db.now }
+        ensures { result.now ≡ objects_of self.now }
     {
         self.db
     }
@@ -121,6 +121,14 @@ impl<'a> Guard<'a> {
     pub fn tell_others(&mut self, room: Dbref, but: Dbref, text: &[u8]) -> Result<(), NoMemory>
         ensures { Did (tell_others room but text.now) self.old self.new result }
     {
+        self.tell_but(room, &[but], text)
+    }
+
+    /// Sends a text to the players in a room but these.
+    #[tactic(auto, unfolding(spec_live::specs::Lives::tell_but))]
+    pub fn tell_but(&mut self, room: Dbref, but: &[Dbref], text: &[u8]) -> Result<(), NoMemory>
+        ensures { Did (tell_but room but.now text.now) self.old self.new result }
+    {
         self.board.tell_others(self.db, room, but, text)?;
         Ok(())
     }
@@ -133,6 +141,15 @@ impl<'a> Guard<'a> {
         self.board.tell_all(text)?;
         Ok(())
     }
+
+    /// The next random word.
+    #[tactic(auto, unfolding(spec_live::specs::Lives::draw))]
+    pub fn random(&mut self) -> u32
+        ensures word { result ≡ random_word (world_of self.old) }
+        ensures drawn { Done draw self.old self.new }
+    {
+        self.board.random()
+    }
 }
 
 impl<'a> Guard<'a> {
@@ -141,7 +158,7 @@ impl<'a> Guard<'a> {
     #[tactic(auto, using(crate::proofs::Guarding::makes_moved))]
     pub fn move_to(&mut self, pass: Pass, object: Dbref, to: Dbref) -> Result<(), DbFault>
         requires leave { IsLeave pass (Act.Move object to) self.old }
-        ensures { Makes (moved_to object to) (move_check object to self.old.db.now) self.old self.new result }
+        ensures { Makes (moved_to object to) (move_check object to (objects_of self.old)) self.old self.new result }
     {
         let _ = pass;
         self.db.move_to(object, to)
@@ -151,7 +168,7 @@ impl<'a> Guard<'a> {
     #[tactic(auto, using(crate::proofs::Guarding::makes_moved))]
     pub fn move_home(&mut self, pass: Pass, object: Dbref) -> Result<(), DbFault>
         requires leave { IsLeave pass (Act.Move object home) self.old }
-        ensures { Makes (moved_to object (home_in object self.old.db.now)) (move_check object (home_in object self.old.db.now) self.old.db.now) self.old self.new result }
+        ensures { Makes (moved_to object (home_in object (objects_of self.old))) (move_check object (home_in object (objects_of self.old)) (objects_of self.old)) self.old self.new result }
     {
         let _ = pass;
         let to = self.home_of(object);
@@ -163,7 +180,7 @@ impl<'a> Guard<'a> {
     #[tactic(auto, using(crate::proofs::Guarding::makes_moved))]
     pub fn walk(&mut self, pass: Pass, exit: Dbref, to: Dbref) -> Result<(), DbFault>
         requires leave { IsGiven pass (Act.Walk exit) self.old }
-        ensures { Makes (moved_to self.old.actor.player to) (move_check self.old.actor.player to self.old.db.now) self.old self.new result }
+        ensures { Makes (moved_to self.old.actor.player to) (move_check self.old.actor.player to (objects_of self.old)) self.old self.new result }
     {
         let _ = pass;
         self.db.move_to(self.actor.player, to)
@@ -175,7 +192,7 @@ impl<'a> Guard<'a> {
     pub fn take(&mut self, pass: Pass, object: Dbref) -> Result<(), DbFault>
         requires leave { IsGiven pass (Act.Take object) self.old }
         requires here { is_here object self.old ≡ true }
-        ensures { Makes (moved_to object self.old.actor.player) (move_check object self.old.actor.player self.old.db.now) self.old self.new result }
+        ensures { Makes (moved_to object self.old.actor.player) (move_check object self.old.actor.player (objects_of self.old)) self.old self.new result }
     {
         let _ = pass;
         self.db.move_to(object, self.actor.player)
@@ -184,7 +201,7 @@ impl<'a> Guard<'a> {
     /// Moves the player home, which is free. It is refused as a move is.
     #[tactic(auto, using(crate::proofs::Guarding::makes_moved))]
     pub fn go_home(&mut self) -> Result<(), DbFault>
-        ensures { Makes (moved_to self.old.actor.player (home_in self.old.actor.player self.old.db.now)) (move_check self.old.actor.player (home_in self.old.actor.player self.old.db.now) self.old.db.now) self.old self.new result }
+        ensures { Makes (moved_to self.old.actor.player (home_in self.old.actor.player (objects_of self.old))) (move_check self.old.actor.player (home_in self.old.actor.player (objects_of self.old)) (objects_of self.old)) self.old self.new result }
     {
         let to = self.home_of(self.actor.player);
         self.db.move_to(self.actor.player, to)
@@ -194,15 +211,15 @@ impl<'a> Guard<'a> {
     /// refused as a move is.
     #[tactic(auto, using(crate::proofs::Guarding::makes_moved))]
     pub fn put(&mut self, object: Dbref, to: Dbref) -> Result<(), DbFault>
-        requires { at_hand self.old.db.now self.old.actor object ≡ true }
-        ensures { Makes (moved_to object to) (move_check object to self.old.db.now) self.old self.new result }
+        requires { at_hand (objects_of self.old) self.old.actor object ≡ true }
+        ensures { Makes (moved_to object to) (move_check object to (objects_of self.old)) self.old self.new result }
     {
         self.db.move_to(object, to)
     }
 
     // The home of an object, `#-1` where it isn't there.
     fn home_of(&self, object: Dbref) -> Dbref
-        ensures { result ≡ home_in object self.now.db.now }
+        ensures { result ≡ home_in object (objects_of self.now) }
     {
         match self.db.get(object) {
             Some(object) => object.home(),
@@ -218,7 +235,7 @@ impl<'a> Guard<'a> {
         requires leave { IsLeave pass (Act.Rename object) self.old }
         requires some { 1 ≤ length name }
         requires short { length name ≤ 80 }
-        ensures { Makes (named object name) (checked any object self.old.db.now) self.old self.new result }
+        ensures { Makes (named object name) (checked any object (objects_of self.old)) self.old self.new result }
     {
         let _ = pass;
         self.db.set_name(object, name)
@@ -229,7 +246,7 @@ impl<'a> Guard<'a> {
     #[tactic(auto, using(crate::proofs::Guarding::makes_owned))]
     pub fn set_owner(&mut self, pass: Pass, object: Dbref, owner: Dbref) -> Result<(), DbFault>
         requires leave { IsLeave pass (Act.SetOwner object owner) self.old }
-        ensures { Makes (owned_by object owner) (owner_check object owner self.old.db.now) self.old self.new result }
+        ensures { Makes (owned_by object owner) (owner_check object owner (objects_of self.old)) self.old self.new result }
     {
         let _ = pass;
         self.db.set_owner(object, owner)
@@ -240,7 +257,7 @@ impl<'a> Guard<'a> {
     #[tactic(auto, using(crate::proofs::Guarding::makes_linked))]
     pub fn link(&mut self, pass: Pass, object: Dbref, to: Dbref) -> Result<(), DbFault>
         requires leave { IsLeave pass (Act.Link object to) self.old }
-        ensures { Makes (linked object to) (link_check object to self.old.db.now) self.old self.new result }
+        ensures { Makes (linked object to) (link_check object to (objects_of self.old)) self.old self.new result }
     {
         let _ = pass;
         self.db.set_link(object, to)
@@ -251,7 +268,7 @@ impl<'a> Guard<'a> {
     #[tactic(auto, using(crate::proofs::Guarding::makes_homed))]
     pub fn set_home(&mut self, pass: Pass, object: Dbref, to: Dbref) -> Result<(), DbFault>
         requires leave { IsLeave pass (Act.Link object to) self.old }
-        ensures { Makes (homed object to) (home_check object to self.old.db.now) self.old self.new result }
+        ensures { Makes (homed object to) (home_check object to (objects_of self.old)) self.old self.new result }
     {
         let _ = pass;
         self.db.set_home(object, to)
@@ -262,7 +279,7 @@ impl<'a> Guard<'a> {
     #[tactic(auto, using(crate::proofs::Guarding::makes_homed))]
     pub fn clear_home(&mut self, pass: Pass, object: Dbref) -> Result<(), DbFault>
         requires leave { IsLeave pass (Act.Link object nothing) self.old }
-        ensures { Makes (homed object (dbref_of 0)) (home_check object (dbref_of 0) self.old.db.now) self.old self.new result }
+        ensures { Makes (homed object (dbref_of 0)) (home_check object (dbref_of 0) (objects_of self.old)) self.old self.new result }
     {
         let _ = pass;
         self.db.set_home(object, ROOM_ZERO)
@@ -273,7 +290,7 @@ impl<'a> Guard<'a> {
     pub fn set_flag(&mut self, pass: Pass, object: Dbref, flag: Flags) -> Result<(), DbFault>
         requires leave { IsLeave pass (Act.SetFlag object flag) self.old }
         requires one { is_flag flag ≡ true }
-        ensures { Makes (flag_set object flag) (flags_check object (with_flag flag.0 (flags_at object self.old.db.now)) self.old.db.now) self.old self.new result }
+        ensures { Makes (flag_set object flag) (flags_check object (with_flag flag.0 (flags_at object (objects_of self.old))) (objects_of self.old)) self.old self.new result }
     {
         let _ = pass;
         let flags = with_flag(flag, flags_at(self.db, object));
@@ -286,7 +303,7 @@ impl<'a> Guard<'a> {
     pub fn clear_flag(&mut self, pass: Pass, object: Dbref, flag: Flags) -> Result<(), DbFault>
         requires leave { IsLeave pass (Act.SetFlag object flag) self.old }
         requires one { is_flag flag ≡ true }
-        ensures { Makes (flag_cleared object flag) (flags_check object (without_flag flag.0 (flags_at object self.old.db.now)) self.old.db.now) self.old self.new result }
+        ensures { Makes (flag_cleared object flag) (flags_check object (without_flag flag.0 (flags_at object (objects_of self.old))) (objects_of self.old)) self.old self.new result }
     {
         let _ = pass;
         let flags = without_flag(flag, flags_at(self.db, object));
@@ -298,7 +315,7 @@ impl<'a> Guard<'a> {
     #[tactic(auto, using(crate::proofs::Guarding::makes_leveled))]
     pub fn set_level(&mut self, pass: Pass, object: Dbref, level: u8) -> Result<(), DbFault>
         requires leave { IsLeave pass (Act.SetLevel object level) self.old }
-        ensures { Makes (leveled object level) (level_check object level self.old.db.now) self.old self.new result }
+        ensures { Makes (leveled object level) (level_check object level (objects_of self.old)) self.old self.new result }
     {
         let _ = pass;
         self.db.set_level(object, level)
@@ -310,7 +327,7 @@ impl<'a> Guard<'a> {
     pub fn set_lines(&mut self, pass: Pass, program: Dbref, lines: LineList) -> Result<(), DbFault>
         requires leave { IsLeave pass (Act.Edit program) self.old }
         requires few { length lines ≤ 4096 }
-        ensures { Makes (lines_kept program lines) (lines_check program self.old.db.now) self.old self.new result }
+        ensures { Makes (lines_kept program lines) (lines_check program (objects_of self.old)) self.old self.new result }
     {
         let _ = pass;
         self.db.set_lines(program, lines)
@@ -321,7 +338,7 @@ impl<'a> Guard<'a> {
     #[tactic(auto, using(crate::proofs::Guarding::makes_recycled))]
     pub fn recycle(&mut self, pass: Pass, object: Dbref) -> Result<(), DbFault>
         requires leave { IsLeave pass (Act.Recycle object) self.old }
-        ensures { Makes (recycled_now object) (recycle_check object self.old.db.now) self.old self.new result }
+        ensures { Makes (recycled_now object) (recycle_check object (objects_of self.old)) self.old self.new result }
     {
         let _ = pass;
         self.db.recycle(object)
@@ -340,7 +357,7 @@ impl<'a> Guard<'a> {
         value: PropValue,
     ) -> Result<(), DbFault>
         requires leave { IsLeave pass (Act.Write object path) self.old }
-        ensures { Tries (stored object path value) (checked any object self.old.db.now) self.old self.new result }
+        ensures { Tries (stored object path value) (checked any object (objects_of self.old)) self.old self.new result }
     {
         let _ = pass;
         self.db.put_prop(object, path, value)
@@ -350,7 +367,7 @@ impl<'a> Guard<'a> {
     #[tactic(auto, using(crate::proofs::Guarding::makes_unstored))]
     pub fn unstore(&mut self, pass: Pass, object: Dbref, path: &Path) -> Result<(), DbFault>
         requires leave { IsLeave pass (Act.Write object path.now) self.old }
-        ensures { Makes (unstored object path.now) (checked any object self.old.db.now) self.old self.new result }
+        ensures { Makes (unstored object path.now) (checked any object (objects_of self.old)) self.old self.new result }
     {
         let _ = pass;
         self.db.remove_prop(object, path)
@@ -368,7 +385,7 @@ impl<'a> Guard<'a> {
     ) -> Result<(), DbFault>
         requires leave { IsLeave pass (Act.Change object) self.old }
         requires guarded { is_guarded (class_of path) ≡ true }
-        ensures { Tries (stored object path value) (checked any object self.old.db.now) self.old self.new result }
+        ensures { Tries (stored object path value) (checked any object (objects_of self.old)) self.old self.new result }
     {
         let _ = pass;
         self.db.put_prop(object, path, value)
@@ -379,7 +396,7 @@ impl<'a> Guard<'a> {
     pub fn unstore_message(&mut self, pass: Pass, object: Dbref, path: &Path) -> Result<(), DbFault>
         requires leave { IsLeave pass (Act.Change object) self.old }
         requires guarded { is_guarded (class_of path.now) ≡ true }
-        ensures { Makes (unstored object path.now) (checked any object self.old.db.now) self.old self.new result }
+        ensures { Makes (unstored object path.now) (checked any object (objects_of self.old)) self.old self.new result }
     {
         let _ = pass;
         self.db.remove_prop(object, path)
@@ -398,7 +415,7 @@ impl<'a> Guard<'a> {
         word: &Line,
     ) -> Result<(), DbFault>
         requires leave { IsLeave pass (Act.Password player) self.old }
-        ensures { Tries (password_kept player salt word.now) (password_check player self.old.db.now) self.old self.new result }
+        ensures { Tries (password_kept player salt word.now) (password_check player (objects_of self.old)) self.old self.new result }
     {
         let _ = pass;
         self.db.set_password(self.alloc, player, salt, word)
@@ -412,6 +429,16 @@ impl<'a> Guard<'a> {
     {
         let _ = pass;
         self.board.leave_player(player);
+    }
+
+    /// One connection is to leave.
+    #[tactic(auto, unfolding(spec_live::specs::Lives::leave))]
+    pub fn leave(&mut self, pass: Pass, d: u32)
+        requires { IsLeave pass (Act.Shared 4) self.old }
+        ensures { Done (leave d) self.old self.new }
+    {
+        let _ = pass;
+        self.board.leave(d);
     }
 
     /// Sets what a wizard tunes.
@@ -433,7 +460,7 @@ impl<'a> Guard<'a> {
         requires leave { IsLeave pass (Act.NewRoom place) self.old }
         requires some { 1 ≤ length name }
         requires short { length name ≤ 80 }
-        ensures { Founds (create_check Kind.Room self.old.actor.user place self.old.db.now) (λ n to. created_so n Kind.Room name self.old.actor.user to (λ o. o)) self.old self.new result }
+        ensures { Founds (create_check Kind.Room self.old.actor.user place (objects_of self.old)) (λ n to. created_so n Kind.Room name self.old.actor.user to (λ o. o)) self.old self.new result }
     {
         let _ = pass;
         self.db
@@ -452,8 +479,8 @@ impl<'a> Guard<'a> {
         requires leave { IsLeave pass (Act.NewThing place) self.old }
         requires some { 1 ≤ length name }
         requires short { length name ≤ 80 }
-        requires home { may_house self.old.db.now home ≡ true }
-        ensures { Founds (create_check Kind.Thing self.old.actor.user place self.old.db.now) (λ n to. created_so n Kind.Thing name self.old.actor.user to (with_home home)) self.old self.new result }
+        requires home { may_house (objects_of self.old) home ≡ true }
+        ensures { Founds (create_check Kind.Thing self.old.actor.user place (objects_of self.old)) (λ n to. created_so n Kind.Thing name self.old.actor.user to (with_home home)) self.old self.new result }
     {
         let _ = pass;
         let d = self
@@ -475,8 +502,8 @@ impl<'a> Guard<'a> {
         requires leave { IsLeave pass (Act.NewExit place to) self.old }
         requires some { 1 ≤ length name }
         requires short { length name ≤ 80 }
-        requires leads { may_lead self.old.db.now to ≡ true }
-        ensures { Founds (create_check Kind.Exit self.old.actor.user place self.old.db.now) (λ n at. created_so n Kind.Exit name self.old.actor.user at (with_link to)) self.old self.new result }
+        requires leads { may_lead (objects_of self.old) to ≡ true }
+        ensures { Founds (create_check Kind.Exit self.old.actor.user place (objects_of self.old)) (λ n at. created_so n Kind.Exit name self.old.actor.user at (with_link to)) self.old self.new result }
     {
         let _ = pass;
         let d = self
@@ -492,7 +519,7 @@ impl<'a> Guard<'a> {
         requires leave { IsLeave pass Act.NewProgram self.old }
         requires some { 1 ≤ length name }
         requires short { length name ≤ 80 }
-        ensures { Founds (create_check Kind.Program self.old.actor.user place self.old.db.now) (λ n to. created_so n Kind.Program name self.old.actor.user to (with_level (min (level_at self.old.db.now self.old.actor.user) 3))) self.old self.new result }
+        ensures { Founds (create_check Kind.Program self.old.actor.user place (objects_of self.old)) (λ n to. created_so n Kind.Program name self.old.actor.user to (with_level (min (level_at (objects_of self.old) self.old.actor.user) 3))) self.old self.new result }
     {
         let _ = pass;
         let level = level_at(self.db, self.actor.user).min(3);
@@ -508,7 +535,7 @@ impl<'a> Guard<'a> {
     /// The value of a property.
     pub fn read(&self, pass: Pass, object: Dbref, path: &Path) -> Option<&PropValue>
         requires leave { IsLeave pass (Act.Read object path.now) self.now }
-        ensures { option_copied result ≡ option_and_then (λ o. get o.props path.now) (object_at object self.now.db.now) }
+        ensures { option_copied result ≡ option_and_then (λ o. get o.props path.now) (object_at object (objects_of self.now)) }
     {
         let _ = pass;
         match self.db.get(object) {
@@ -520,7 +547,7 @@ impl<'a> Guard<'a> {
     /// The source of a program.
     pub fn lines(&self, pass: Pass, program: Dbref) -> Option<&LineList>
         requires leave { IsLeave pass (Act.Change program) self.now }
-        ensures { option_copied result ≡ option_map (λ o. o.lines) (object_at program self.now.db.now) }
+        ensures { option_copied result ≡ option_map (λ o. o.lines) (object_at program (objects_of self.now)) }
     {
         let _ = pass;
         match self.db.get(program) {
@@ -531,15 +558,14 @@ impl<'a> Guard<'a> {
 
     /// The lock of an object as it is shown: its text, the decimal of an integer, or `*UNLOCKED*` where there is none.
     pub fn lock_text(&self, d: Dbref) -> Result<Line, NoMemory>
-        ensures { IfOk result (λ text. text ≡ lock_text d self.now.db.now) }
+        ensures { IfOk result (λ text. text ≡ lock_text d (objects_of self.now)) }
     {
         locks::lock_text(self.alloc, self.db, d)
     }
 
-    /// The message that an object keeps at the path of a text; what isn't a text counts as not set. It takes no memory.
-    pub fn message(&self, d: Dbref, path: &[u8]) -> Option<&Line>
-        requires { path_fault path.now ≡ None }
-        ensures { option_copied result ≡ message_at (segments_of path.now) d self.now.db.now }
+    /// The message that an object keeps at a path; what isn't a text counts as not set. It takes no memory.
+    pub fn message(&self, d: Dbref, path: &Path) -> Option<&Line>
+        ensures { option_copied result ≡ message_at path.now d (objects_of self.now) }
     {
         locks::message_at(self.db, d, path)
     }

@@ -1,22 +1,21 @@
 // Whose locks open, and what messages and locks show.
-ghost use Rattle.std.specs.Prelude.{◌≡◌, IfOk, None};
+ghost use Rattle.std.specs.Prelude.{◌≡◌, IfOk};
 ghost use Rattle.std.specs.Option.{option_copied};
-ghost use Rattle.muck_prop.specs.Paths.{path_fault, segments_of};
 ghost use Rattle.spec_live.specs.declared.object.Object.{Object};
 ghost use Rattle.spec_live.specs.Worth.{message_at, lock_of_object, kept_opens, opens_at, lock_text};
 
-use muck_db::{Db, value_text};
+use muck_db::{Db, KnownPaths, value_text};
 use muck_lock::text_opens;
 use muck_model::{Dbref, Line, NoMemory};
-use muck_prop::PropValue;
+use muck_prop::{Path, PropValue};
 use spec_live::Object;
 use std::alloc::Global;
 
 // What is kept as the lock of an object.
-fn kept_lock(object: &Object) -> Option<&PropValue>
+fn kept_lock<'a>(paths: &KnownPaths, object: &'a Object) -> Option<&'a PropValue>
     ensures { option_copied result ≡ lock_of_object object.now }
 {
-    object.props().get_bytes(b"_/lok")
+    object.props().get(&paths.lock)
 }
 
 // Whether what is kept as a lock opens for x.
@@ -37,7 +36,7 @@ pub fn opens_at(db: &Db, x: Dbref, d: Dbref) -> bool
     ensures { result ≡ opens_at db.now x d }
 {
     match db.get(d) {
-        Some(object) => match kept_lock(object) {
+        Some(object) => match kept_lock(db.paths(), object) {
             Some(kept) => kept_opens(db, x, kept),
             None => true,
         },
@@ -51,7 +50,7 @@ pub fn lock_text(alloc: Global, db: &Db, d: Dbref) -> Result<Line, NoMemory>
     ensures { IfOk result (λ text. text ≡ lock_text d db.now) }
 {
     let kept = match db.get(d) {
-        Some(object) => kept_lock(object),
+        Some(object) => kept_lock(db.paths(), object),
         None => None,
     };
     match kept {
@@ -60,13 +59,12 @@ pub fn lock_text(alloc: Global, db: &Db, d: Dbref) -> Result<Line, NoMemory>
     }
 }
 
-/// The message that an object keeps at the path of a text. It takes no memory.
+/// The message that an object keeps at a path. It takes no memory.
 #[tactic(auto, unfolding(spec_live::specs::Worth::message_at))]
-pub fn message_at<'a>(db: &'a Db, d: Dbref, path: &[u8]) -> Option<&'a Line>
-    requires { path_fault path.now ≡ None }
-    ensures { option_copied result ≡ message_at (segments_of path.now) d db.now }
+pub fn message_at<'a>(db: &'a Db, d: Dbref, path: &Path) -> Option<&'a Line>
+    ensures { option_copied result ≡ message_at path.now d db.now }
 {
-    match db.get(d)?.props().get_bytes(path) {
+    match db.get(d)?.props().get(path) {
         Some(PropValue::Text(text)) => Some(text),
         _ => None,
     }

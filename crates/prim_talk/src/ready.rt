@@ -4,7 +4,7 @@ ghost use Rattle.spec_rights.specs.Verdict.{verdict};
 ghost use Rattle.muf_model.specs.Prims.{needs_of};
 ghost use Rattle.muf_model.specs.View.{view};
 ghost use Rattle.muf_frame.specs.Shown.{Shown, flat, locked_by};
-ghost use Rattle.muck_perm.specs.Guards.{world_of};
+ghost use Rattle.muck_perm.specs.Guards.{objects_of, world_of};
 ghost use Rattle.spec_prims.specs.Asking.{fault_of, is_there, level_fault, near_fault};
 ghost use Rattle.spec_prims.specs.Shared.{first_fault};
 ghost use Rattle.prim_talk.specs.Tests.{Passes, IsFixed, fixed_fault, item_fault};
@@ -26,7 +26,7 @@ pub enum Asked {
 
 // Leave for an act.
 fn permit(guard: &Guard, act: &Act) -> Result<(), MufFault>
-    ensures { Passes (fault_of (verdict guard.now.db.now guard.now.actor act.now)) result }
+    ensures { Passes (fault_of (verdict (objects_of guard.now) guard.now.actor act.now)) result }
 {
     match verdict(guard.db(), &guard.actor(), act) {
         Ok(_) => Ok(()),
@@ -37,7 +37,7 @@ fn permit(guard: &Guard, act: &Act) -> Result<(), MufFault>
 // Whether the actor has the level of a primitive.
 #[tactic(auto, unfolding(spec_prims::specs::Asking::level_fault))]
 fn reach_level(guard: &Guard, level: u8) -> Result<(), MufFault>
-    ensures { Passes (level_fault guard.now.actor guard.now.db.now level) result }
+    ensures { Passes (level_fault guard.now.actor (objects_of guard.now) level) result }
 {
     permit(guard, &Act::Shared { level })
 }
@@ -45,7 +45,7 @@ fn reach_level(guard: &Guard, level: u8) -> Result<(), MufFault>
 // Whether the actor may name an object.
 #[tactic(auto, unfolding(spec_prims::specs::Asking::near_fault))]
 fn reach_object(guard: &Guard, object: Dbref) -> Result<(), MufFault>
-    ensures { Passes (near_fault guard.now.actor guard.now.db.now object.0) result }
+    ensures { Passes (near_fault guard.now.actor (objects_of guard.now) object.0) result }
 {
     permit(guard, &Act::Near { object })
 }
@@ -64,7 +64,7 @@ fn test_kind(need: &Need, item: &Value) -> Result<(), MufFault>
 // Whether an object is there that must be.
 #[tactic(auto, unfolding(spec_prims::specs::Asking::is_there))]
 fn test_there(need: &Need, item: &Value, guard: &Guard) -> Result<(), MufFault>
-    ensures { Passes (absent (is_there guard.now.db.now) need.now (view item.now)) result }
+    ensures { Passes (absent (is_there (objects_of guard.now)) need.now (view item.now)) result }
 {
     match item {
         Value::Ref(object) if need.there && guard.db().get(*object).is_none() => {
@@ -76,7 +76,7 @@ fn test_there(need: &Need, item: &Value, guard: &Guard) -> Result<(), MufFault>
 
 // Whether an object is near that must be.
 fn test_near(need: &Need, item: &Value, guard: &Guard) -> Result<(), MufFault>
-    ensures { Passes (distant (near_fault guard.now.actor guard.now.db.now) need.now (view item.now)) result }
+    ensures { Passes (distant (near_fault guard.now.actor (objects_of guard.now)) need.now (view item.now)) result }
 {
     match item {
         Value::Ref(object) if need.near => reach_object(guard, *object),
@@ -85,7 +85,7 @@ fn test_near(need: &Need, item: &Value, guard: &Guard) -> Result<(), MufFault>
 }
 
 fn test_item(asked: Asked, need: &Need, item: &Value, guard: &Guard) -> Result<(), MufFault>
-    ensures { Passes (item_fault asked guard.now.actor guard.now.db.now need.now (view item.now)) result }
+    ensures { Passes (item_fault asked guard.now.actor (objects_of guard.now) need.now (view item.now)) result }
 {
     match asked {
         Asked::Kind => test_kind(need, item),
@@ -96,7 +96,7 @@ fn test_item(asked: Asked, need: &Need, item: &Value, guard: &Guard) -> Result<(
 
 // A test of each item, from the top down.
 fn test_items(asked: Asked, needs: &[Need], guard: &Guard, frame: &Frame) -> Result<(), MufFault>
-    ensures { Passes (walk (item_fault asked guard.now.actor guard.now.db.now) needs.now (flat frame.now).stack) result }
+    ensures { Passes (walk (item_fault asked guard.now.actor (objects_of guard.now)) needs.now (flat frame.now).stack) result }
 {
     let mut at = 0;
     while at < needs.len() {

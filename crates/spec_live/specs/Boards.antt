@@ -85,8 +85,8 @@ told_one d text b = on_connection d (told text) b
 unfoldable pub told_player : Dbref → List ℕ → Board → Board
 told_player player text b = on_connections (told_where (is_of player) text) b
 
--- to those of the players in a room but one
-unfoldable pub told_others : (Dbref → Option Dbref) → Dbref → Dbref → List ℕ → Board → Board
+-- to those of the players in a room but these
+unfoldable pub told_others : (Dbref → Option Dbref) → Dbref → List Dbref → List ℕ → Board → Board
 told_others places room but text b = on_connections (told_where (hears places room but) text) b
 
 -- to those of all players

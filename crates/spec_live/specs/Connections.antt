@@ -1,5 +1,6 @@
 -- The connections, by rising number.
 use Rattle.std.specs.Prelude.{ℕ, Bool, true, false, not, ◌&&◌, ◌==◌, nat_lt, nat_le, if◌then◌else◌, List, [], ◌∷◌, ◌++◌, length, Option, Some, None}
+use Rattle.std.specs.List.{list_any}
 use Rattle.std.specs.Option.{option_map_or}
 use Rattle.muck_model.specs.declared.dbref.Dbref.{Dbref}
 use Rattle.muck_model.specs.declared.edit.EditState.{EditState}
@@ -80,9 +81,9 @@ lined line c = record c { waiting = c.waiting ++ line ∷ [] }
 abbrev pub is_of : Dbref → Connection → Bool
 is_of player c = option_map_or (same player) c.player false
 
--- the connection of a player in that room, but not of this one
-abbrev pub hears : (Dbref → Option Dbref) → Dbref → Dbref → Connection → Bool
-hears places room but c = option_map_or (λ p. not (same p but) && option_map_or (same room) (places p) false) c.player false
+-- the connection of a player in that room, but of none of these
+abbrev pub hears : (Dbref → Option Dbref) → Dbref → List Dbref → Connection → Bool
+hears places room but c = option_map_or (λ p. not (list_any (same p) but) && option_map_or (same room) (places p) false) c.player false
 
 abbrev pub told_where : (Connection → Bool) → List ℕ → Connection → Connection
 told_where test text c = if test c then told text c else c

@@ -1,5 +1,5 @@
 -- The part of the world that commands and programs change, and how changes are put together.
-use Rattle.std.specs.Prelude.{ℕ, Bool, if◌then◌else◌, List, [], Option}
+use Rattle.std.specs.Prelude.{ℕ, Bool, if◌then◌else◌, List, [], ◌∷◌, Option}
 use Rattle.std.specs.Option.{option_map_or, option_map}
 use Rattle.muck_model.specs.declared.dbref.Dbref.{Dbref}
 use Rattle.spec_live.specs.Objects.{Entry, nothing, object_at}
@@ -64,15 +64,27 @@ tell d text = on_board (boards.told_one d text)
 unfoldable pub tell_player : Dbref → List ℕ → Change
 tell_player player text = on_board (boards.told_player player text)
 
--- to the players in a room but one
+-- to the players in a room but these
+unfoldable pub tell_but : Dbref → List Dbref → List ℕ → Change
+tell_but room but text w = on_board (boards.told_others (λ p. place_of p w.objects) room but text) w
+
+-- to those but one
 unfoldable pub tell_others : Dbref → Dbref → List ℕ → Change
-tell_others room but text w = on_board (boards.told_others (λ p. place_of p w.objects) room but text) w
+tell_others room but text = tell_but room (but ∷ []) text
 
 unfoldable pub tell_all : List ℕ → Change
 tell_all text = on_board (boards.told_all text)
 
 unfoldable pub leave : ℕ → Change
 leave d = on_board (boards.leaving_one d)
+
+-- the next random word
+abbrev pub random_word : Live → ℕ
+random_word w = (boards.random_drawn w.board).0
+
+-- it is drawn
+unfoldable pub draw : Change
+draw = on_board (λ b. (boards.random_drawn b).1)
 
 unfoldable pub enter : ℕ → Dbref → Change
 enter d player = on_board (boards.seated_one d player)

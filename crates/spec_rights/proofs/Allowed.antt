@@ -18,9 +18,9 @@ use Rattle.muck_prop.specs.declared.path.Class.{Class}
 use Rattle.muck_prop.specs.declared.path.Class.TheVariants.{At, Tilde, Dot, Underscore, Plain}
 use Rattle.muck_prop.specs.Paths.{class_of}
 use Rattle.spec_rights.specs.declared.act.Actor.{Actor}
-use Rattle.spec_rights.specs.declared.act.Act.TheVariants.{Write, Move, Take, Link, NewRoom, NewThing, NewExit, NewProgram, Edit, Change, Rename, Password, Wizard, SetFlag, SetLevel, Recycle, SetOwner}
+use Rattle.spec_rights.specs.declared.act.Act.TheVariants.{Shared, Write, Move, Take, Link, NewRoom, NewThing, NewExit, NewProgram, Edit, Change, Rename, Password, Wizard, SetFlag, SetLevel, Recycle, SetOwner}
 use Rattle.spec_rights.specs.declared.rule.Rule.{Rule}
-use Rattle.spec_rights.specs.declared.rule.Rule.TheVariants.{P3, P4, P6, P7, P8, P9, P10, P11, P12, P13, P14, P15, P16, P17, P18, P19, P20, P21, P22}
+use Rattle.spec_rights.specs.declared.rule.Rule.TheVariants.{P1, P3, P4, P6, P7, P8, P9, P10, P11, P12, P13, P14, P15, P16, P17, P18, P19, P20, P21, P22}
 use Rattle.spec_rights.specs.Levels.{level_at, is_player_at, flag_at}
 use Rattle.spec_live.specs.Worth.{opens_at}
 use Rattle.spec_rights.specs.inner.Numbers.{denial}
@@ -220,6 +220,9 @@ password_allowed es a x e = let p = passes (nat_lt a.level 4) P17 x _ e in maste
 
 pub wizard_allowed : (es : List Entry) (a : Actor) → verdict es a Wizard ≡ None → is_master a ≡ true
 wizard_allowed es a e = let p = passes (nat_lt a.level 4) P17 a.player _ e in master_by a _ refl p.here
+
+pub master_allowed : (es : List Entry) (a : Actor) → verdict es a (Shared 4) ≡ None → is_master a ≡ true
+master_allowed es a e = let p = passes (nat_lt a.level 4) P1 a.player _ e in master_by a _ refl p.here
 
 -- Making and recycling.
 

@@ -11,14 +11,14 @@ use Rattle.spec_live.specs.Connections.{Connection, has_number, changed_in, is_o
 use Rattle.spec_live.specs.Boards.{leaving_one}
 use Rattle.spec_live.specs.Lives.{Live, leave}
 use Rattle.spec_rights.specs.declared.act.Actor.{Actor}
-use Rattle.spec_rights.specs.declared.act.Act.TheVariants.{Wizard}
+use Rattle.spec_rights.specs.declared.act.Act.TheVariants.{Shared, Wizard}
 use Rattle.spec_rights.specs.Verdict.{is_master}
 use Rattle.spec_rights.specs.Changing.{booted, tuned}
 use Rattle.spec_rights.specs.Licence.{Freedom, Open, SameTies, leave_open}
 use Rattle.spec_rights.proofs.Lookups.{row_same}
 use Rattle.spec_rights.proofs.Listing.{lists_itself}
 use Rattle.spec_rights.proofs.Licences.{judge, marks_itself, kept_same, differs_kept, Stays, Whole, itself, ties_itself, stays_by, whole_by}
-use Rattle.spec_rights.proofs.Allowed.{wizard_allowed}
+use Rattle.spec_rights.proofs.Allowed.{wizard_allowed, master_allowed}
 
 own_open : (a : Actor) (c : Connection) → c.player ≡ Some a.player → leave_open a c ≡ true
 own_open a c e = or_right (is_master a) _ (ap (λ p. option_map_or (same a.player) p false) e ∙ same_eq a.player a.player refl)
@@ -45,6 +45,25 @@ whole_leave a d free given = whole_by _ (λ w c h. record {
     tune = inl refl;
   };
   marks = marks_itself (judge a (free w.objects) w.objects) w.objects;
+})
+
+ties_master : (a : Actor) (d : ℕ) (cs : List Connection) → is_master a ≡ true → SameTies a cs (changed_in d left cs)
+ties_master a d [] h = tt
+ties_master a d (c ∷ cs) h =
+    elim (has_number d c) as (λ b. SameTies a (c ∷ cs) (cond b (left c ∷ cs) (c ∷ changed_in d left cs))) [
+      | true ↦ (refl, refl, inr (or_left (is_master a) _ h), ties_itself a cs)
+      | false ↦ (refl, refl, inl refl, ties_master a d cs h)
+    ]
+
+-- any connection leaves, by leave for the highest level
+pub stays_left : (a : Actor) (free : Freedom) (d : ℕ) → Stays a free (Some (Shared 4)) (leave d)
+unfolding leave leaving_one
+stays_left a free d = stays_by _ (λ start w s g. record {
+  rows = λ n. row_same _ (kept_same (judge a free start) (dbref_of n)) (object_at (dbref_of n) w.objects);
+  lists = lists_itself (judge a free start) w.objects;
+  marks = λ n. inl refl;
+  ties = ties_master a d w.board.connections (master_allowed w.objects a g);
+  tune = inl refl;
 })
 
 boot_one : (a : Actor) (b : Bool) (c : Connection) → is_master a ≡ true → Open (λ (leaving : Bool). leave_open a c) c.leaving (cond b (left c) c).leaving

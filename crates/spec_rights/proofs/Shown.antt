@@ -1,14 +1,12 @@
 -- Changes that only show something.
 use Rattle.std.proofs.Common.{◌≡◌, ℕ, Bool, true, false, cond, List, [], ◌∷◌, refl, ◌∙◌, ap}
 use Rattle.std.specs.Prelude.{map}
-use Rattle.rand_pcg.specs.Lcg.{Lcg}
 use Rattle.muck_model.specs.declared.dbref.Dbref.{Dbref}
 use Rattle.muck_model.specs.declared.dbref.Denial.{Denial}
 use Rattle.spec_live.specs.Connections.{Connection, has_number, changed_in, told, told_where, is_of, hears, has_player}
-use Rattle.spec_live.specs.Boards.{on_connection, told_one, told_player, told_others, told_all}
-use Rattle.spec_live.specs.Lives.{on_board, tell, tell_player, tell_others, tell_all, place_of}
+use Rattle.spec_live.specs.Boards.{on_connection, told_one, told_player, told_others, told_all, random_drawn}
+use Rattle.spec_live.specs.Lives.{on_board, tell, tell_player, tell_but, tell_others, tell_all, draw, place_of}
 use Rattle.spec_rights.specs.Asking.{refused}
-use Rattle.spec_rights.specs.Changing.{rolled}
 use Rattle.spec_rights.proofs.Licences.{tie, ties, Quiet, quiet_order, quiet_unchanged}
 use Rattle.spec_live.proofs.Keeping.{keeping}
 
@@ -40,19 +38,23 @@ pub quiet_tell_player : (player : Dbref) (text : List ℕ) → Quiet (tell_playe
 unfolding tell_player told_player
 quiet_tell_player player text = record { law = λ w. record { objects = refl; ties = ties-map (told_where (is_of player) text) (λ c. told_keeps (is_of player c) text c) w.board.connections; tune = refl } }
 
+pub quiet_tell_but : (room : Dbref) (but : List Dbref) (text : List ℕ) → Quiet (tell_but room but text)
+unfolding tell_but told_others
+quiet_tell_but room but text = record { law = λ w. record { objects = refl; ties = ties-map (told_where (hears (λ p. place_of p w.objects) room but) text) (λ c. told_keeps (hears (λ p. place_of p w.objects) room but c) text c) w.board.connections; tune = refl } }
+
 pub quiet_tell_others : (room but : Dbref) (text : List ℕ) → Quiet (tell_others room but text)
-unfolding tell_others told_others
-quiet_tell_others room but text = record { law = λ w. record { objects = refl; ties = ties-map (told_where (hears (λ p. place_of p w.objects) room but) text) (λ c. told_keeps (hears (λ p. place_of p w.objects) room but c) text c) w.board.connections; tune = refl } }
+unfolding tell_others
+quiet_tell_others room but text = quiet_tell_but room (but ∷ []) text
 
 pub quiet_tell_all : (text : List ℕ) → Quiet (tell_all text)
 unfolding tell_all told_all
 quiet_tell_all text = record { law = λ w. record { objects = refl; ties = ties-map (told_where has_player text) (λ c. told_keeps (has_player c) text c) w.board.connections; tune = refl } }
 
-pub quiet_rolled : (random : Lcg) → Quiet (rolled random)
-unfolding rolled
-quiet_rolled random = record { law = λ w. record { objects = refl; ties = refl; tune = refl } }
+pub quiet_draw : Quiet draw
+unfolding draw random_drawn
+quiet_draw = record { law = λ w. record { objects = refl; ties = refl; tune = refl } }
 
-pub ruleset showing = (quiet_unchanged, keeping, quiet_order, quiet_tell, quiet_tell_player, quiet_tell_others, quiet_tell_all, quiet_rolled)
+pub ruleset showing = (quiet_unchanged, keeping, quiet_order, quiet_tell, quiet_tell_player, quiet_tell_but, quiet_tell_others, quiet_tell_all, quiet_draw)
 
 pub quiet_refused : (d : ℕ) (denial : Denial) → Quiet (refused d denial)
 unfolding refused

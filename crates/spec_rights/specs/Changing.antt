@@ -1,7 +1,6 @@
 -- The changes of objects that an act is leave for, by the numbers that are written. What isn't there doesn't change.
 use Rattle.std.specs.Prelude.{ℕ, Bool, ◌==◌, if◌then◌else◌, List, [], ◌∷◌, Option, Some}
 use Rattle.std.specs.List.{list_any}
-use Rattle.rand_pcg.specs.Lcg.{Lcg}
 use Rattle.std.specs.Option.{option_map_or}
 use Rattle.muck_model.specs.declared.dbref.Dbref.{Dbref}
 use Rattle.muck_model.specs.declared.dbref.Flags.{Flags}
@@ -96,10 +95,3 @@ with_tune tune b = record b { tune = tune }
 
 unfoldable pub tuned : Tune → Change
 tuned tune = on_board (with_tune tune)
-
-abbrev pub with_random : Lcg → Board → Board
-with_random random b = record b { random = random }
-
--- the random numbers go on from there
-unfoldable pub rolled : Lcg → Change
-rolled random = on_board (with_random random)

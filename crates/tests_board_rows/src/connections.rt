@@ -40,7 +40,7 @@ pub fn send(
         b"flood" => flood(alloc, board, d, Words { left: text }.number()),
         b"line" => add_line(alloc, board, d, text),
         b"player" => board.tell_player(object, text),
-        b"others" => board.tell_others(db, object, other, words.left),
+        b"others" => board.tell_others(db, object, &[other], words.left),
         _ => board.tell_all(all),
     }
 }

@@ -21,11 +21,11 @@ loop-c-preserved g c =
     let tested = c.hears.ensures in
     elim c.if-hears.branch [
       | then-hears+in_ok-tell w ↦ rw w.c-items-is (record {
-        told = mapped_more (told_where (hears (g.K.Keys.places c.args.keys.now) c.args.room c.args.but) c.args.text.now) c.deref_mut-c-items.result.now c.loop-c.c-items c.loop-c.c-index c.c-item.result w.tell.new.self (omega arith) c.loop-c.invariant.told (w.in_ok-tell.ensures.ok ∙ sym (cond-true _ _ _ (sym tested ∙ w.if-hears.true)));
+        told = mapped_more (told_where (hears (g.K.Keys.places c.args.keys.now) c.args.room c.args.but.now) c.args.text.now) c.deref_mut-c-items.result.now c.loop-c.c-items c.loop-c.c-index c.c-item.result w.tell.new.self (omega arith) c.loop-c.invariant.told (w.in_ok-tell.ensures.ok ∙ sym (cond-true _ _ _ (sym tested ∙ w.if-hears.true)));
         rest = quiet_where quiet c.deref_mut-c-items.result.now c.loop-c.c-items c.loop-c.c-index c.c-item.result w.tell.new.self (omega arith) w.in_ok-tell.ensures.rest c.loop-c.invariant.rest;
       })
       | else-hears w ↦ rw w.c-items-is (record {
-        told = mapped_more (told_where (hears (g.K.Keys.places c.args.keys.now) c.args.room c.args.but) c.args.text.now) c.deref_mut-c-items.result.now c.loop-c.c-items c.loop-c.c-index c.c-item.result (get_or c.loop-c.c-items c.loop-c.c-index c.c-item.result) (omega arith) c.loop-c.invariant.told (sym (cond-false _ _ _ (sym tested ∙ w.if-hears.false)));
+        told = mapped_more (told_where (hears (g.K.Keys.places c.args.keys.now) c.args.room c.args.but.now) c.args.text.now) c.deref_mut-c-items.result.now c.loop-c.c-items c.loop-c.c-index c.c-item.result (get_or c.loop-c.c-items c.loop-c.c-index c.c-item.result) (omega arith) c.loop-c.invariant.told (sym (cond-false _ _ _ (sym tested ∙ w.if-hears.false)));
         rest = quiet_where quiet c.deref_mut-c-items.result.now c.loop-c.c-items c.loop-c.c-index c.c-item.result (get_or c.loop-c.c-items c.loop-c.c-index c.c-item.result) (omega arith) refl c.loop-c.invariant.rest;
       })
     ]
