@@ -5,7 +5,7 @@ use Rattle.std.proofs.Math.Seq.{drop-cons}
 use Rattle.muf_model.specs.declared.code.Placed.{Placed}
 use Rattle.muf_model.specs.declared.code.CodeWord.{CodeWord}
 use Rattle.muf_model.specs.declared.code.Code.{Code}
-use Rattle.muf_model.specs.Tree.{if_word, try_word, begin_word, for_word, each_word, stop, Definition, Tree}
+use Rattle.muf_model.specs.Tree.{if_word, begin_word, stop, Definition, Tree}
 use Rattle.muf_model.specs.Decode as decode
 use Rattle.muf_model.specs.Nesting.{NestedWords}
 use Rattle.muf_model.proofs.Unique.{tree_read}
@@ -48,8 +48,7 @@ StepAlike (Err r) (Ok d) = ⊥
 as_many : (code : List Placed) (ws : List CodeWord) (ds : List Definition) → WordsStand code ws ds → length ws ≡ length ds
 as_many code [] [] h = refl
 as_many code (w ∷ ws) (d ∷ ds) h = ap suc (as_many code ws ds h.1)
-as_many code [] (d ∷ ds) h = absurd h
-as_many code (w ∷ ws) [] h = absurd h
+as_many code _ _ h = absurd h
 
 after_count : (k : Known) (b : Built) (g : Growth) → BuiltFits b g → (n : Result ℕ Refusal) → StepAlike (and_then n (λ m. Ok (record { known = k; built = b; units = m }))) (and_then n (λ m. Ok (record { known = k; growth = g; units = m })))
 after_count k b g f (Ok n) = record { known = refl; built = f; units = refl }
@@ -58,8 +57,7 @@ after_count k b g f (Err r) = refl
 after_build : (k : Known) (n : Result ℕ Refusal) (m : Made) (g : Grown) → MadeAlike m g → StepAlike (and_then m (λ b. and_then n (λ m. Ok (record { known = k; built = b; units = m })))) (and_then g (λ h. and_then n (λ m. Ok (record { known = k; growth = h; units = m }))))
 after_build k n (Ok b) (Ok g) h = after_count k b g h n
 after_build k n (Err r) (Err s) h = h
-after_build k n (Ok b) (Err s) h = absurd h
-after_build k n (Err r) (Ok g) h = absurd h
+after_build k n _ _ h = absurd h
 
 after_read : (b : Built) (g : Growth) (units : ℕ) → BuiltFits b g → (r : Read)
     → StepAlike
@@ -115,14 +113,10 @@ take_refused t ts last c new (Refused r) d f h = is_refused (tree_from last (t �
 take_refused t ts last c new NoMemory d f h = is_wanting (tree_from last (t ∷ ts) d)
 
 kinds_alike : {code : List Placed} {begin : ℕ} {us : List Unfinished} {os : List Pending} {start : ℕ} → OpensFit code begin us os start → building.misfit NoWord os ≡ growth.misfit NoWord us
-kinds_alike outermost = refl
 kinds_alike (in_first {k = if_word} at h le u o) = refl
-kinds_alike (in_first {k = try_word} at h le u o) = refl
 kinds_alike (in_second {k = if_word} at h le lt f c u o) = refl
-kinds_alike (in_second {k = try_word} at h le lt f c u o) = refl
 kinds_alike (in_turn {k = begin_word} at h le u o) = refl
-kinds_alike (in_turn {k = for_word} at h le u o) = refl
-kinds_alike (in_turn {k = each_word} at h le u o) = refl
+kinds_alike _ = refl
 
 -- the code at the end stands for the tree, or is refused as it is
 abbrev EndAlike : Result Code Refusal → Result Tree Refusal → Type 0
@@ -134,15 +128,12 @@ EndAlike (Err r) (Ok tree) = ⊥
 whole_alike : (last n : ℕ) (code : List Placed) (ws : List CodeWord) (ds : List Definition) → WordsStand code ws ds → InRow code 0 ws ds (length code) → NestedWords ds → EndAlike (whole_code last n code ws) (growth.whole_tree last n ds)
 whole_alike last n code [] [] h r k = refl
 whole_alike last n code (w ∷ ws) (d ∷ ds) h r k = record { variables = refl; words = h; row = r; nested = k }
-whole_alike last n code [] (d ∷ ds) h r k = absurd h
-whole_alike last n code (w ∷ ws) [] h r k = absurd h
+whole_alike last n code _ _ h r k = absurd h
 
 -- where nothing is open, the innermost part is the word's
 starts_word : {code : List Placed} {begin : ℕ} {us : List Unfinished} {os : List Pending} {start : ℕ} → OpensFit code begin us os start → us ≡ [] → start ≡ begin
 starts_word outermost e = refl
-starts_word (in_first at h le u o) e = cc
-starts_word (in_second at h le lt f c u o) e = cc
-starts_word (in_turn at h le u o) e = cc
+starts_word _ e = cc
 
 -- between words the next one begins at the end of the code
 row_ends : (b : Built) (g : Growth) → BuiltFits b g → g.now ≡ stop → g.around ≡ [] → InRow b.code 0 b.words g.words (length b.code)
@@ -153,9 +144,7 @@ row_ends b g f now around =
 end_alike : (m : Mode) (last : ℕ) (c : Compiled) (d : Draft) (ts : List Token) → CompiledFits c d → Spelt d.known d.growth ts m → EndAlike (compiled_end m last c) (finished_in m last d)
 end_alike mode.Outside last c d ts f (between h) = rw f.known (whole_alike last d.known.variables c.built.code c.built.words d.growth.words f.built.words (row_ends c.built d.growth f.built h.now h.around) (declared_nested h.declares))
 end_alike mode.Inside last c d ts f s = ap (λ k. record { line = last; kind = k }) (kinds_alike f.built.opens)
-end_alike (mode.Naming w) last c d ts f s = refl
-end_alike (mode.Heading at) last c d ts f s = refl
-end_alike (mode.Results at) last c d ts f s = refl
+end_alike _ last c d ts f s = refl
 
 -- the end of the words
 pub ends : (last : ℕ) (c : Compiled) (d : Draft) (result : Result Code CompileFault) → CompiledFits c d → WasSpelt d → Answers (compiled_end c.known.mode last c) result → IsCode (finished last d) result

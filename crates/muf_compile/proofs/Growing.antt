@@ -1,18 +1,17 @@
 -- What each act adds to the instructions stands for what it adds to the tree.
-use Rattle.std.proofs.Common.{◌≡◌, ℕ, zero, suc, ◌+◌, ◌<◌, ◌≤◌, List, [], ◌∷◌, ◌++◌, length, Some, Bool, true, false, cond, refl, sym, ap, subst, ◌∙◌, arith, length-append}
-use Rattle.std.specs.Prelude.{slice_get, slice_set}
+use Rattle.std.proofs.Common.{◌≡◌, ℕ, zero, suc, ◌+◌, ◌<◌, ◌≤◌, List, [], ◌∷◌, ◌++◌, length, Bool, true, false, cond, refl, sym, ap, ◌∙◌, arith, length-append}
+use Rattle.std.specs.Prelude.{slice_set}
 use Rattle.std.proofs.Math.ListN.{length-set}
 use Rattle.muf_model.specs.declared.code.Offer.{Offer}
 use Rattle.muf_model.specs.declared.code.Word.{Word}
 use Rattle.muf_model.specs.declared.code.Word.TheVariants.{NextIndex, NextPair}
 use Rattle.muf_model.specs.declared.code.Closer.{Closer}
 use Rattle.muf_model.specs.declared.code.Closer.TheVariants as closer
-use Rattle.muf_model.specs.declared.code.Instr.{Instr}
 use Rattle.muf_model.specs.declared.code.Instr.TheVariants.{Plain, Unset, Close, When}
 use Rattle.muf_model.specs.declared.code.Placed.{Placed}
 use Rattle.muf_model.specs.declared.code.CodeWord.{CodeWord}
 use Rattle.muf_model.specs.Tree.{Fork, if_word, try_word, Ring, begin_word, for_word, each_word, Block, stop, word, when, fork, ring, Definition}
-use Rattle.muf_model.specs.Stands.{Stands, IsAt, fork_instr, ring_instr, hop_instr, WordsStand, WordStands, InRow}
+use Rattle.muf_model.specs.Stands.{Stands, IsAt, fork_instr, ring_instr, hop_instr, WordsStand, InRow}
 use Rattle.muf_model.proofs.Standing.{joins, Extends, stands_map, stands_kept, fork_kept, words_kept, row_kept}
 use Rattle.muf_compile.specs.declared.act.Opening.{Opening}
 use Rattle.muf_compile.specs.declared.act.Opening.TheVariants as opening
@@ -25,46 +24,8 @@ use Rattle.muf_compile.specs.inner.Built.{Built}
 use Rattle.muf_compile.specs.inner.Build as building
 use Rattle.muf_compile.specs.inner.Build.{Made, build, emitted, with_code}
 use Rattle.muf_compile.specs.inner.Fits.{From, OpensFit, outermost, in_first, in_second, in_turn, BuiltFits, MadeAlike, first_open, second_open, ring_open, hole}
-
--- lists
-get_append : (xs ys : List Placed) (i : ℕ) (x : Placed) → slice_get xs i ≡ Some x → slice_get (xs ++ ys) i ≡ Some x
-get_append [] ys i x e = cc
-get_append (a ∷ xs) ys zero x e = e
-get_append (a ∷ xs) ys (suc i) x e = get_append xs ys i x e
-
-get_end : (xs : List Placed) (y : Placed) → slice_get (xs ++ y ∷ []) (length xs) ≡ Some y
-get_end [] y = refl
-get_end (a ∷ xs) y = get_end xs y
-
-get_set_same : (xs : List Placed) (i : ℕ) (x y : Placed) → slice_get xs i ≡ Some x → slice_get (slice_set xs i y) i ≡ Some y
-get_set_same [] i x y e = cc
-get_set_same (a ∷ xs) zero x y e = refl
-get_set_same (a ∷ xs) (suc i) x y e = get_set_same xs i x y e
-
-get_set_other : (xs : List Placed) (i j : ℕ) (x y : Placed) → (i ≡ j → ⊥) → slice_get xs j ≡ Some x → slice_get (slice_set xs i y) j ≡ Some x
-get_set_other [] i j x y n e = cc
-get_set_other (a ∷ xs) zero zero x y n e = absurd (n refl)
-get_set_other (a ∷ xs) (suc i) zero x y n e = e
-get_set_other (a ∷ xs) zero (suc j) x y n e = e
-get_set_other (a ∷ xs) (suc i) (suc j) x y n e = get_set_other xs i j x y (λ h. n (ap suc h)) e
-
-extends_append : (code more : List Placed) → Extends code (code ++ more)
-extends_append code more = record { kept = λ place line i n e. get_append code more place _ e }
-
--- a write over an instruction whose target was not known
-extends_set : (code : List Placed) (at line : ℕ) (y : Placed) → IsAt code at line Unset → Extends code (slice_set code at y)
-extends_set code at line y u = record { kept = λ place row i n e. get_set_other code at place _ y (λ h. n (unset place row i h e)) e }
-  where
-    unset : (place row : ℕ) (i : Instr) → at ≡ place → IsAt code place row i → i ≡ Unset
-    unset place row i h e =
-        let p : Placed = record { line = row; instr = i } in
-        let q : Placed = record { line = line; instr = Unset } in
-        let g : Some p ≡ Some q = sym e ∙ ap (λ p. slice_get code p) (sym h) ∙ u in
-        let same : p ≡ q = cc in
-        ap (λ (x : Placed). x.instr) same
-
-extends_two : (a b c : List Placed) → Extends a b → Extends b c → Extends a c
-extends_two a b c x y = record { kept = λ place line i n e. y.kept place line i n (x.kept place line i n e) }
+use Rattle.muf_compile.proofs.Extending.{get_append, get_end, get_set_same, get_set_other, extends_append, extends_set, extends_two}
+use Rattle.muf_compile.proofs.Ends.{word_ends}
 
 module _ (code other : List Placed) (x : Extends code other) (begin : ℕ) where
   -- what is open stays open in other code that keeps the open places below a bound
@@ -77,35 +38,19 @@ module _ (code other : List Placed) (x : Extends code other) (begin : ℕ) where
   opens_kept bound holes le (in_turn {k} {line} {before} {us} {os} at {start} b within u o) =
       in_turn at (stands_kept code other x before start _ _ (λ p e. e) b) within (holes at line (omega arith) u) (opens_kept bound holes (omega arith) o)
 
--- one more word
-word_stands_last : (code : List Placed) (ws : List CodeWord) (ds : List Definition) (w : CodeWord) (d : Definition) → WordsStand code ws ds → WordStands code w d → WordsStand code (ws ++ w ∷ []) (ds ++ d ∷ [])
-word_stands_last code [] [] w d h k = (k, tt)
-word_stands_last code (v ∷ ws) (e ∷ ds) w d h k = (h.0, word_stands_last code ws ds w d h.1 k)
-word_stands_last code [] (e ∷ ds) w d h k = absurd h
-word_stands_last code (v ∷ ws) [] w d h k = absurd h
-
--- it begins where the others end, and ends behind its `;`
-row_last : (code : List Placed) (ws : List CodeWord) (ds : List Definition) (place end : ℕ) (w : CodeWord) (d : Definition) → InRow code place ws ds w.start → Stands code w.start d.body (λ p. p + 1 ≡ end) → InRow code place (ws ++ w ∷ []) (ds ++ d ∷ []) end
-row_last code [] [] place end w d h k = (sym h, subst (λ p. Stands code p d.body (λ q. q + 1 ≡ end)) (sym h) k)
-row_last code (v ∷ ws) (e ∷ ds) place end w d h k = (h.0, stands_map code e.body place _ _ (λ p r. row_last code ws ds (p + 1) end w d r k) h.1)
-row_last code [] (e ∷ ds) place end w d h k = absurd h
-row_last code (v ∷ ws) [] place end w d h k = absurd h
-
 -- the offer of a word
 words_offered : (code : List Placed) (n : ℕ) (o : Offer) (ws : List CodeWord) (ds : List Definition) → WordsStand code ws ds → WordsStand code (building.offered_in n o ws) (growth.offered_in n o ds)
 words_offered code n o [] [] h = tt
 words_offered code zero o (w ∷ ws) (d ∷ ds) h =
     (record { name = h.0.name; offer = ap (λ p. growth.widened p o) h.0.offer; variables = h.0.variables; body = h.0.body }, h.1)
 words_offered code (suc n) o (w ∷ ws) (d ∷ ds) h = (h.0, words_offered code n o ws ds h.1)
-words_offered code n o [] (d ∷ ds) h = absurd h
-words_offered code n o (w ∷ ws) [] h = absurd h
+words_offered code n o _ _ h = absurd h
 
 row_offered : (code : List Placed) (n : ℕ) (o : Offer) (ws : List CodeWord) (ds : List Definition) (place end : ℕ) → InRow code place ws ds end → InRow code place (building.offered_in n o ws) (growth.offered_in n o ds) end
 row_offered code n o [] [] place end h = h
 row_offered code zero o (w ∷ ws) (d ∷ ds) place end h = h
 row_offered code (suc n) o (w ∷ ws) (d ∷ ds) place end h = (h.0, stands_map code d.body place _ _ (λ p r. row_offered code n o ws ds (p + 1) end r) h.1)
-row_offered code n o [] (d ∷ ds) place end h = absurd h
-row_offered code n o (w ∷ ws) [] place end h = absurd h
+row_offered code n o _ _ place end h = absurd h
 
 -- A builder and a growth that fit, by their parts.
 module _ (b : Built) (g : Growth) (fit : WordsStand b.code b.words g.words) (row : InRow b.code 0 b.words g.words b.start) (named : b.title ≡ g.title) where
@@ -249,102 +194,55 @@ module _ (b : Built) (g : Growth) (fit : WordsStand b.code b.words g.words) (row
   cond_alike false x y x' y' h k = k
 
   loops_alike : {us : List Unfinished} {os : List Pending} {start : ℕ} → OpensFit b.code b.start us os start → building.in_loop os ≡ growth.in_loop us
-  loops_alike outermost = refl
   loops_alike (in_first {k = if_word} at h le u o) = refl
-  loops_alike (in_first {k = try_word} at h le u o) = refl
   loops_alike (in_second {k = if_word} at h le lt f c u o) = refl
-  loops_alike (in_second {k = try_word} at h le lt f c u o) = refl
   loops_alike (in_turn {k = begin_word} at h le u o) = refl
-  loops_alike (in_turn {k = for_word} at h le u o) = refl
-  loops_alike (in_turn {k = each_word} at h le u o) = refl
+  loops_alike _ = refl
 
   else_alike : (line : ℕ) {us : List Unfinished} {os : List Pending} {start : ℕ} → From b.code start g.now (length b.code) → start ≤ length b.code → OpensFit b.code b.start us os start → MadeAlike (building.else_code line b os) (growth.else_part line g us)
-  else_alike line items within outermost = refl
   else_alike line items within (in_first {k = if_word} at h le u o) = second_opens _ _ _ at _ _ items within h le u o if_word line
-  else_alike line items within (in_first {k = try_word} at h le u o) = refl
   else_alike line items within (in_second {k = if_word} at h le lt f c u o) = refl
-  else_alike line items within (in_second {k = try_word} at h le lt f c u o) = refl
   else_alike line items within (in_turn {k = begin_word} at h le u o) = refl
-  else_alike line items within (in_turn {k = for_word} at h le u o) = refl
-  else_alike line items within (in_turn {k = each_word} at h le u o) = refl
+  else_alike line items within _ = refl
 
   catch_alike : (line : ℕ) {us : List Unfinished} {os : List Pending} {start : ℕ} → From b.code start g.now (length b.code) → start ≤ length b.code → OpensFit b.code b.start us os start → MadeAlike (building.catch_code line b os) (growth.catch_part line g us)
-  catch_alike line items within outermost = refl
-  catch_alike line items within (in_first {k = if_word} at h le u o) = refl
   catch_alike line items within (in_first {k = try_word} at h le u o) = second_opens _ _ _ at _ _ items within h le u o try_word line
   catch_alike line items within (in_second {k = if_word} at h le lt f c u o) = refl
-  catch_alike line items within (in_second {k = try_word} at h le lt f c u o) = refl
   catch_alike line items within (in_turn {k = begin_word} at h le u o) = refl
-  catch_alike line items within (in_turn {k = for_word} at h le u o) = refl
-  catch_alike line items within (in_turn {k = each_word} at h le u o) = refl
+  catch_alike line items within _ = refl
 
   then_alike : (line : ℕ) {us : List Unfinished} {os : List Pending} {start : ℕ} → From b.code start g.now (length b.code) → start ≤ length b.code → OpensFit b.code b.start us os start → MadeAlike (building.then_code line b os) (growth.then_part line g us)
-  then_alike line items within outermost = refl
   then_alike line items within (in_first {k = if_word} at h le u o) = then_closes _ _ _ at _ _ items within h le u o
-  then_alike line items within (in_first {k = try_word} at h le u o) = refl
   then_alike line items within (in_second {k = if_word} at h le lt f c u o) = second_closes _ _ _ _ if_word at _ _ _ _ items within h le lt f c u o
-  then_alike line items within (in_second {k = try_word} at h le lt f c u o) = refl
   then_alike line items within (in_turn {k = begin_word} at h le u o) = refl
-  then_alike line items within (in_turn {k = for_word} at h le u o) = refl
-  then_alike line items within (in_turn {k = each_word} at h le u o) = refl
+  then_alike line items within _ = refl
 
   end_catch_alike : (line : ℕ) {us : List Unfinished} {os : List Pending} {start : ℕ} → From b.code start g.now (length b.code) → start ≤ length b.code → OpensFit b.code b.start us os start → MadeAlike (building.end_catch_code line b os) (growth.end_catch_part line g us)
-  end_catch_alike line items within outermost = refl
   end_catch_alike line items within (in_first {k = if_word} at h le u o) = refl
-  end_catch_alike line items within (in_first {k = try_word} at h le u o) = refl
-  end_catch_alike line items within (in_second {k = if_word} at h le lt f c u o) = refl
   end_catch_alike line items within (in_second {k = try_word} at h le lt f c u o) = second_closes _ _ _ _ try_word at _ _ _ _ items within h le lt f c u o
   end_catch_alike line items within (in_turn {k = begin_word} at h le u o) = refl
-  end_catch_alike line items within (in_turn {k = for_word} at h le u o) = refl
-  end_catch_alike line items within (in_turn {k = each_word} at h le u o) = refl
+  end_catch_alike line items within _ = refl
 
   repeat_alike : (line : ℕ) {us : List Unfinished} {os : List Pending} {start : ℕ} → From b.code start g.now (length b.code) → start ≤ length b.code → OpensFit b.code b.start us os start → MadeAlike (building.repeat_code line b os) (growth.repeat_part line g us)
-  repeat_alike line items within outermost = refl
   repeat_alike line items within (in_first {k = if_word} at h le u o) = refl
-  repeat_alike line items within (in_first {k = try_word} at h le u o) = refl
   repeat_alike line items within (in_second {k = if_word} at h le lt f c u o) = refl
-  repeat_alike line items within (in_second {k = try_word} at h le lt f c u o) = refl
   repeat_alike line items within (in_turn {k = begin_word} at h le u o) = loop_closes _ _ _ at _ _ items within h le u o begin_word line closer.Repeat
   repeat_alike line items within (in_turn {k = for_word} at h le u o) = loop_closes _ _ _ at _ _ items within h le u o for_word line closer.Repeat
   repeat_alike line items within (in_turn {k = each_word} at h le u o) = loop_closes _ _ _ at _ _ items within h le u o each_word line closer.Repeat
+  repeat_alike line items within _ = refl
 
   until_alike : (line : ℕ) {us : List Unfinished} {os : List Pending} {start : ℕ} → From b.code start g.now (length b.code) → start ≤ length b.code → OpensFit b.code b.start us os start → MadeAlike (building.until_code line b os) (growth.until_part line g us)
-  until_alike line items within outermost = refl
   until_alike line items within (in_first {k = if_word} at h le u o) = refl
-  until_alike line items within (in_first {k = try_word} at h le u o) = refl
   until_alike line items within (in_second {k = if_word} at h le lt f c u o) = refl
-  until_alike line items within (in_second {k = try_word} at h le lt f c u o) = refl
   until_alike line items within (in_turn {k = begin_word} at h le u o) = loop_closes _ _ _ at _ _ items within h le u o begin_word line closer.Until
-  until_alike line items within (in_turn {k = for_word} at h le u o) = refl
-  until_alike line items within (in_turn {k = each_word} at h le u o) = refl
-
-  -- `;`
-  word_ends : (line n : ℕ) → From b.code b.start g.now (length b.code) → MadeAlike (building.end_code line n b []) (growth.end_part line n g [])
-  word_ends line n items =
-      let y : Placed = record { line = line; instr = Close closer.Semicolon } in
-      let len : length (b.code ++ y ∷ []) ≡ length b.code + 1 = length-append b.code (y ∷ []) in
-      let x : Extends b.code (b.code ++ y ∷ []) = extends_append b.code _ in
-      record {
-        start = length b.code + 1;
-        items = sym len;
-        within = omega arith;
-        opens = outermost;
-        words =
-            word_stands_last _ b.words g.words _ _ (words_kept b.code _ x b.words g.words fit)
-            (record { name = named; offer = refl; variables = refl; body = stands_kept b.code _ x g.now b.start _ _ (λ p e. rw e (get_end b.code y)) items });
-        row = row_last _ b.words g.words 0 (length b.code + 1) _ _ (row_kept b.code _ x b.words g.words 0 b.start row) (stands_kept b.code _ x g.now b.start _ _ (λ p e. ap (λ n. n + 1) e) items);
-        title = named;
-      }
+  until_alike line items within _ = refl
 
   end_alike : (line n : ℕ) {us : List Unfinished} {os : List Pending} {start : ℕ} → From b.code start g.now (length b.code) → start ≤ length b.code → OpensFit b.code b.start us os start → MadeAlike (building.end_code line n b os) (growth.end_part line n g us)
-  end_alike line n items within outermost = word_ends line n items
+  end_alike line n items within outermost = word_ends b g fit row named line n items
   end_alike line n items within (in_first {k = if_word} at h le u o) = refl
-  end_alike line n items within (in_first {k = try_word} at h le u o) = refl
   end_alike line n items within (in_second {k = if_word} at h le lt f c u o) = refl
-  end_alike line n items within (in_second {k = try_word} at h le lt f c u o) = refl
   end_alike line n items within (in_turn {k = begin_word} at h le u o) = refl
-  end_alike line n items within (in_turn {k = for_word} at h le u o) = refl
-  end_alike line n items within (in_turn {k = each_word} at h le u o) = refl
+  end_alike line n items within _ = refl
 
   opening_alike : (line : ℕ) (w : Opening) {us : List Unfinished} {os : List Pending} {start : ℕ} → From b.code start g.now (length b.code) → start ≤ length b.code → OpensFit b.code b.start us os start
       → BuiltFits (with_code b (building.beginning w (emitted b.code line Unset) line) (building.opened w (hole (length b.code) line us) ∷ os)) (with_part g (growth.beginning w line) (growth.opened w line g.now ∷ us))

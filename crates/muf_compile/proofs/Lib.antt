@@ -1,4 +1,6 @@
 pub mod Compiling
+pub mod Ends
+pub mod Extending
 pub mod Growing
 pub mod Nesting
 pub mod Offers

@@ -12,7 +12,7 @@ use Rattle.muf_compile.specs.declared.act.Act.TheVariants.{Item, Jump}
 use Rattle.muf_compile.specs.declared.act.Reading.{Reading}
 use Rattle.muf_compile.specs.Growth.{offered_in}
 use Rattle.muf_compile.specs.Spells.{Spells, nothing, item, jump, if_then, if_else, try_catch, begin_repeat, begin_until, for_repeat, each_repeat}
-use Rattle.muf_compile.specs.Grammar.{Scope, Names, of_word, of_process, of_program, of_local, of_primitive, structure, Says, text, integer, object, address, structural, named, bindings, Header, bare, with_arguments, with_results, Opened, begun, says, own_variable, stored_variable, Declares, nothing_declared, shared_variable, local_variable, offered_to_all, offered_to_wizards, word_defined}
+use Rattle.muf_compile.specs.Grammar.{Scope, Names, of_word, structure, Says, structural, named, bindings, Header, bare, with_arguments, with_results, Opened, begun, says, own_variable, stored_variable, Declares, nothing_declared, shared_variable, local_variable, offered_to_all, offered_to_wizards, word_defined}
 
 -- what is said stands anywhere in a word, or in loops
 abbrev IsPlain : Act → Type 0
@@ -38,10 +38,7 @@ rest_plain (x ∷ xs) ys h = rest_plain xs ys h.1
 
 name_plain : {s : Scope} {name : List ℕ} {w : Word} → Names s name w → IsPlain (Item w)
 name_plain (of_word n i) = λ p f. f
-name_plain (of_process n i) = λ p f. f
-name_plain (of_program n i) = λ p f. f
-name_plain (of_local n i) = λ p f. f
-name_plain (of_primitive i) = λ p f. f
+name_plain _ = λ p f. f
 
 abbrev RowsPlain : List (List ℕ × Act) → Type 0
 RowsPlain [] = Unit {0}
@@ -56,12 +53,9 @@ structure_plain : RowsPlain structure
 structure_plain = (tt, (tt, (tt, (tt, (tt, (tt, (tt, (tt, (tt, (tt, (refl, (refl, (refl, ((λ p f. f), tt))))))))))))))
 
 said_plain : {s : Scope} {kind : TokenKind} {a : Act} → Says s kind a → IsPlain a
-said_plain text = λ p f. f
-said_plain integer = λ p f. f
-said_plain object = λ p f. f
-said_plain (address n i) = λ p f. f
 said_plain (structural row e) = row_plain structure structure_plain row _ _ e
 said_plain (named n u) = name_plain n
+said_plain _ = λ p f. f
 
 bound_plain : (line n : ℕ) → AllPlain (bindings line n)
 bound_plain line zero = tt

@@ -60,85 +60,35 @@ jumps : (b : Bool) → (line : ℕ) (w : Word) (g : Growth) (rs : List Reading) 
 jumps true line w g rs e h = (written_more g.now (word line w stop) g.around rs _ h (subst (λ l. Spells l (word line w stop) (at_line line (Jump w) ∷ [])) e (jump nothing)), refl, refl)
 jumps false line w g rs e h = tt
 
-else_written : (at : ℕ) (g : Growth) (us : List Unfinished) (rs : List Reading) → Written g.now us rs → GrownWritten g (growth.else_part at g us) (rs ++ at_line at Else ∷ [])
-else_written at g us rs h = else_of g.now us rs h
-  where
-    else_of : (now : Block) (us : List Unfinished) (rs : List Reading) → Written now us rs → GrownWritten g (growth.else_part at (record g { now = now }) us) (rs ++ at_line at Else ∷ [])
-    else_of now us rs (at_top s) = tt
-    else_of now us rs (in_if {line} xs ys w s) = rw (append_assoc xs (at_line line (Open opening.If) ∷ ys) (at_line at Else ∷ [])) (in_else xs ys [] w s nothing, refl, refl)
-    else_of now us rs (in_try xs ys w s) = tt
-    else_of now us rs (in_else xs ys vs w s r) = tt
-    else_of now us rs (in_catch xs ys vs w s r) = tt
-    else_of now us rs (in_begin xs ys w s) = tt
-    else_of now us rs (in_for xs ys w s) = tt
-    else_of now us rs (in_each xs ys w s) = tt
+-- a word that closes a part or goes on to the next one: it is refused, or closes what is open innermost
+else_written : (at : ℕ) (g : Growth) (now : Block) (us : List Unfinished) (rs : List Reading) → Written now us rs → GrownWritten g (growth.else_part at (record g { now = now }) us) (rs ++ at_line at Else ∷ [])
+else_written at g now us rs (in_if {line} xs ys w s) = rw (append_assoc xs (at_line line (Open opening.If) ∷ ys) (at_line at Else ∷ [])) (in_else xs ys [] w s nothing, refl, refl)
+else_written at g now us rs _ = tt
 
-catch_written : (at : ℕ) (g : Growth) (us : List Unfinished) (rs : List Reading) → Written g.now us rs → GrownWritten g (growth.catch_part at g us) (rs ++ at_line at Catch ∷ [])
-catch_written at g us rs h = catch_of g.now us rs h
-  where
-    catch_of : (now : Block) (us : List Unfinished) (rs : List Reading) → Written now us rs → GrownWritten g (growth.catch_part at (record g { now = now }) us) (rs ++ at_line at Catch ∷ [])
-    catch_of now us rs (at_top s) = tt
-    catch_of now us rs (in_if xs ys w s) = tt
-    catch_of now us rs (in_try {line} xs ys w s) = rw (append_assoc xs (at_line line (Open opening.Try) ∷ ys) (at_line at Catch ∷ [])) (in_catch xs ys [] w s nothing, refl, refl)
-    catch_of now us rs (in_else xs ys vs w s r) = tt
-    catch_of now us rs (in_catch xs ys vs w s r) = tt
-    catch_of now us rs (in_begin xs ys w s) = tt
-    catch_of now us rs (in_for xs ys w s) = tt
-    catch_of now us rs (in_each xs ys w s) = tt
+catch_written : (at : ℕ) (g : Growth) (now : Block) (us : List Unfinished) (rs : List Reading) → Written now us rs → GrownWritten g (growth.catch_part at (record g { now = now }) us) (rs ++ at_line at Catch ∷ [])
+catch_written at g now us rs (in_try {line} xs ys w s) = rw (append_assoc xs (at_line line (Open opening.Try) ∷ ys) (at_line at Catch ∷ [])) (in_catch xs ys [] w s nothing, refl, refl)
+catch_written at g now us rs _ = tt
 
-then_written : (at : ℕ) (g : Growth) (us : List Unfinished) (rs : List Reading) → Written g.now us rs → GrownWritten g (growth.then_part at g us) (rs ++ at_line at Then ∷ [])
-then_written at g us rs h = then_of g.now us rs h
-  where
-    then_of : (now : Block) (us : List Unfinished) (rs : List Reading) → Written now us rs → GrownWritten g (growth.then_part at (record g { now = now }) us) (rs ++ at_line at Then ∷ [])
-    then_of now us rs (at_top s) = tt
-    then_of now us rs (in_if {line} xs ys w s) = rw (append_assoc xs (at_line line (Open opening.If) ∷ ys) (at_line at Then ∷ [])) (written_more _ _ _ xs _ w (if_then at ys s nothing), refl, refl)
-    then_of now us rs (in_try xs ys w s) = tt
-    then_of now us rs (in_else {line} {mid} xs ys vs w s r) =
-        rw (append_assoc xs (at_line line (Open opening.If) ∷ (ys ++ at_line mid Else ∷ vs)) (at_line at Then ∷ []), append_assoc ys (at_line mid Else ∷ vs) (at_line at Then ∷ [])) (written_more _ _ _ xs _ w (if_else at ys vs s r nothing), refl, refl)
-    then_of now us rs (in_catch xs ys vs w s r) = tt
-    then_of now us rs (in_begin xs ys w s) = tt
-    then_of now us rs (in_for xs ys w s) = tt
-    then_of now us rs (in_each xs ys w s) = tt
+then_written : (at : ℕ) (g : Growth) (now : Block) (us : List Unfinished) (rs : List Reading) → Written now us rs → GrownWritten g (growth.then_part at (record g { now = now }) us) (rs ++ at_line at Then ∷ [])
+then_written at g now us rs (in_if {line} xs ys w s) = rw (append_assoc xs (at_line line (Open opening.If) ∷ ys) (at_line at Then ∷ [])) (written_more _ _ _ xs _ w (if_then at ys s nothing), refl, refl)
+then_written at g now us rs (in_else {line} {mid} xs ys vs w s r) =
+    rw (append_assoc xs (at_line line (Open opening.If) ∷ (ys ++ at_line mid Else ∷ vs)) (at_line at Then ∷ []), append_assoc ys (at_line mid Else ∷ vs) (at_line at Then ∷ [])) (written_more _ _ _ xs _ w (if_else at ys vs s r nothing), refl, refl)
+then_written at g now us rs _ = tt
 
-end_catch_written : (at : ℕ) (g : Growth) (us : List Unfinished) (rs : List Reading) → Written g.now us rs → GrownWritten g (growth.end_catch_part at g us) (rs ++ at_line at EndCatch ∷ [])
-end_catch_written at g us rs h = end_of g.now us rs h
-  where
-    end_of : (now : Block) (us : List Unfinished) (rs : List Reading) → Written now us rs → GrownWritten g (growth.end_catch_part at (record g { now = now }) us) (rs ++ at_line at EndCatch ∷ [])
-    end_of now us rs (at_top s) = tt
-    end_of now us rs (in_if xs ys w s) = tt
-    end_of now us rs (in_try xs ys w s) = tt
-    end_of now us rs (in_else xs ys vs w s r) = tt
-    end_of now us rs (in_catch {line} {mid} xs ys vs w s r) =
-        rw (append_assoc xs (at_line line (Open opening.Try) ∷ (ys ++ at_line mid Catch ∷ vs)) (at_line at EndCatch ∷ []), append_assoc ys (at_line mid Catch ∷ vs) (at_line at EndCatch ∷ [])) (written_more _ _ _ xs _ w (try_catch at ys vs s r nothing), refl, refl)
-    end_of now us rs (in_begin xs ys w s) = tt
-    end_of now us rs (in_for xs ys w s) = tt
-    end_of now us rs (in_each xs ys w s) = tt
+end_catch_written : (at : ℕ) (g : Growth) (now : Block) (us : List Unfinished) (rs : List Reading) → Written now us rs → GrownWritten g (growth.end_catch_part at (record g { now = now }) us) (rs ++ at_line at EndCatch ∷ [])
+end_catch_written at g now us rs (in_catch {line} {mid} xs ys vs w s r) =
+    rw (append_assoc xs (at_line line (Open opening.Try) ∷ (ys ++ at_line mid Catch ∷ vs)) (at_line at EndCatch ∷ []), append_assoc ys (at_line mid Catch ∷ vs) (at_line at EndCatch ∷ [])) (written_more _ _ _ xs _ w (try_catch at ys vs s r nothing), refl, refl)
+end_catch_written at g now us rs _ = tt
 
-repeat_written : (at : ℕ) (g : Growth) (us : List Unfinished) (rs : List Reading) → Written g.now us rs → GrownWritten g (growth.repeat_part at g us) (rs ++ at_line at Repeat ∷ [])
-repeat_written at g us rs h = repeat_of g.now us rs h
-  where
-    repeat_of : (now : Block) (us : List Unfinished) (rs : List Reading) → Written now us rs → GrownWritten g (growth.repeat_part at (record g { now = now }) us) (rs ++ at_line at Repeat ∷ [])
-    repeat_of now us rs (at_top s) = tt
-    repeat_of now us rs (in_if xs ys w s) = tt
-    repeat_of now us rs (in_try xs ys w s) = tt
-    repeat_of now us rs (in_else xs ys vs w s r) = tt
-    repeat_of now us rs (in_catch xs ys vs w s r) = tt
-    repeat_of now us rs (in_begin {line} xs ys w s) = rw (append_assoc xs (at_line line (Open opening.Begin) ∷ ys) (at_line at Repeat ∷ [])) (written_more _ _ _ xs _ w (begin_repeat ys s nothing), refl, refl)
-    repeat_of now us rs (in_for {line} xs ys w s) = rw (append_assoc xs (at_line line (Open opening.For) ∷ ys) (at_line at Repeat ∷ [])) (written_more _ _ _ xs _ w (for_repeat ys s nothing), refl, refl)
-    repeat_of now us rs (in_each {line} xs ys w s) = rw (append_assoc xs (at_line line (Open opening.Each) ∷ ys) (at_line at Repeat ∷ [])) (written_more _ _ _ xs _ w (each_repeat ys s nothing), refl, refl)
+repeat_written : (at : ℕ) (g : Growth) (now : Block) (us : List Unfinished) (rs : List Reading) → Written now us rs → GrownWritten g (growth.repeat_part at (record g { now = now }) us) (rs ++ at_line at Repeat ∷ [])
+repeat_written at g now us rs (in_begin {line} xs ys w s) = rw (append_assoc xs (at_line line (Open opening.Begin) ∷ ys) (at_line at Repeat ∷ [])) (written_more _ _ _ xs _ w (begin_repeat ys s nothing), refl, refl)
+repeat_written at g now us rs (in_for {line} xs ys w s) = rw (append_assoc xs (at_line line (Open opening.For) ∷ ys) (at_line at Repeat ∷ [])) (written_more _ _ _ xs _ w (for_repeat ys s nothing), refl, refl)
+repeat_written at g now us rs (in_each {line} xs ys w s) = rw (append_assoc xs (at_line line (Open opening.Each) ∷ ys) (at_line at Repeat ∷ [])) (written_more _ _ _ xs _ w (each_repeat ys s nothing), refl, refl)
+repeat_written at g now us rs _ = tt
 
-until_written : (at : ℕ) (g : Growth) (us : List Unfinished) (rs : List Reading) → Written g.now us rs → GrownWritten g (growth.until_part at g us) (rs ++ at_line at Until ∷ [])
-until_written at g us rs h = until_of g.now us rs h
-  where
-    until_of : (now : Block) (us : List Unfinished) (rs : List Reading) → Written now us rs → GrownWritten g (growth.until_part at (record g { now = now }) us) (rs ++ at_line at Until ∷ [])
-    until_of now us rs (at_top s) = tt
-    until_of now us rs (in_if xs ys w s) = tt
-    until_of now us rs (in_try xs ys w s) = tt
-    until_of now us rs (in_else xs ys vs w s r) = tt
-    until_of now us rs (in_catch xs ys vs w s r) = tt
-    until_of now us rs (in_begin {line} xs ys w s) = rw (append_assoc xs (at_line line (Open opening.Begin) ∷ ys) (at_line at Until ∷ [])) (written_more _ _ _ xs _ w (begin_until ys s nothing), refl, refl)
-    until_of now us rs (in_for xs ys w s) = tt
-    until_of now us rs (in_each xs ys w s) = tt
+until_written : (at : ℕ) (g : Growth) (now : Block) (us : List Unfinished) (rs : List Reading) → Written now us rs → GrownWritten g (growth.until_part at (record g { now = now }) us) (rs ++ at_line at Until ∷ [])
+until_written at g now us rs (in_begin {line} xs ys w s) = rw (append_assoc xs (at_line line (Open opening.Begin) ∷ ys) (at_line at Until ∷ [])) (written_more _ _ _ xs _ w (begin_until ys s nothing), refl, refl)
+until_written at g now us rs _ = tt
 
 -- an act among the items of a word
 abbrev pub IsInside : Act → Type 0
@@ -158,22 +108,16 @@ grow_written line (Open opening.Try) g rs i h = (in_try rs [] h nothing, refl, r
 grow_written line (Open opening.Begin) g rs i h = (in_begin rs [] h nothing, refl, refl)
 grow_written line (Open opening.For) g rs i h = (in_for rs [] h nothing, refl, refl)
 grow_written line (Open opening.Each) g rs i h = (in_each rs [] h nothing, refl, refl)
-grow_written line Else g rs i h = else_written line g g.around rs h
-grow_written line Then g rs i h = then_written line g g.around rs h
-grow_written line Catch g rs i h = catch_written line g g.around rs h
-grow_written line EndCatch g rs i h = end_catch_written line g g.around rs h
-grow_written line Repeat g rs i h = repeat_written line g g.around rs h
-grow_written line Until g rs i h = until_written line g g.around rs h
+grow_written line Else g rs i h = else_written line g g.now g.around rs h
+grow_written line Then g rs i h = then_written line g g.now g.around rs h
+grow_written line Catch g rs i h = catch_written line g g.now g.around rs h
+grow_written line EndCatch g rs i h = end_catch_written line g g.now g.around rs h
+grow_written line Repeat g rs i h = repeat_written line g g.now g.around rs h
+grow_written line Until g rs i h = until_written line g g.now g.around rs h
 grow_written line (End n) g rs i h = absurd i
 grow_written line (Offer n o) g rs i h = absurd i
 
 -- where nothing is open, the items are written in these acts
 pub all_written : (now : Block) (us : List Unfinished) (rs : List Reading) → Written now us rs → us ≡ [] → Spells false now rs
 all_written now us rs (at_top s) e = s
-all_written now us rs (in_if xs ys w s) e = cc
-all_written now us rs (in_try xs ys w s) e = cc
-all_written now us rs (in_else xs ys vs w s r) e = cc
-all_written now us rs (in_catch xs ys vs w s r) e = cc
-all_written now us rs (in_begin xs ys w s) e = cc
-all_written now us rs (in_for xs ys w s) e = cc
-all_written now us rs (in_each xs ys w s) e = cc
+all_written now us rs _ e = cc

@@ -37,7 +37,7 @@ use Rattle.muf_compile.specs.Growth.{Unfinished, Growth, Grown, grow, counted, u
 use Rattle.muf_compile.specs.Spells.{at_line, nothing}
 use Rattle.muf_compile.specs.Grammar.{IsNth, IsFree, structure, Says, text, integer, object, address, structural, named, at, Arguments, no_arguments, one_argument, Passed, none_passed, one_passed, bindings, Header, bare, with_arguments, with_results, Opened, begun, says, own_variable, stored_variable, names_of, outside, Declares, nothing_declared, shared_variable, local_variable, offered_to_all, offered_to_wizards, word_defined, IsProgram}
 use Rattle.muf_compile.proofs.Scopes.{Entered, no_names, word_more, variable_more, Owned, no_locals, local_more, as_many_owned, named_by, free, entered_last, owned_last, numbered_by, control_written, written_as}
-use Rattle.muf_compile.proofs.Sound.{Written, at_top, in_if, in_try, in_else, in_catch, in_begin, in_for, in_each, GrownWritten, IsInside, grow_written}
+use Rattle.muf_compile.proofs.Sound.{Written, at_top, GrownWritten, IsInside, grow_written}
 use Rattle.muf_compile.proofs.Titles.{bracket_yes, bracket_found}
 
 -- ---- what is written so far
@@ -134,24 +134,7 @@ module _ (k : Known) (g : Growth) (line : ℕ) (name : List ℕ) where
   declares_next ts (Some control.LVar) e h = (subst (λ x. Spelt (in_mode (mode.Naming wanted.Shared) k) g (ts ++ at line x ∷ []) (mode.Naming wanted.Shared)) (sym (control_written name control.LVar e)) (lvar line h), omega arith)
   declares_next ts (Some control.Public) e h = (subst (λ x. Spelt (in_mode (mode.Naming (wanted.Offered All)) k) g (ts ++ at line x ∷ []) (mode.Naming (wanted.Offered All))) (sym (control_written name control.Public e)) (offer_all line h), omega arith)
   declares_next ts (Some control.WizCall) e h = (subst (λ x. Spelt (in_mode (mode.Naming (wanted.Offered Wizards)) k) g (ts ++ at line x ∷ []) (mode.Naming (wanted.Offered Wizards))) (sym (control_written name control.WizCall e)) (offer_wizards line h), omega arith)
-  declares_next ts (Some control.VarStore) e h = tt
-  declares_next ts (Some control.Semicolon) e h = tt
-  declares_next ts (Some control.If) e h = tt
-  declares_next ts (Some control.Else) e h = tt
-  declares_next ts (Some control.Then) e h = tt
-  declares_next ts (Some control.Try) e h = tt
-  declares_next ts (Some control.Catch) e h = tt
-  declares_next ts (Some control.EndCatch) e h = tt
-  declares_next ts (Some control.Begin) e h = tt
-  declares_next ts (Some control.For) e h = tt
-  declares_next ts (Some control.ForEach) e h = tt
-  declares_next ts (Some control.Repeat) e h = tt
-  declares_next ts (Some control.Until) e h = tt
-  declares_next ts (Some control.While) e h = tt
-  declares_next ts (Some control.Break) e h = tt
-  declares_next ts (Some control.Continue) e h = tt
-  declares_next ts (Some control.Exit) e h = tt
-  declares_next ts None e h = tt
+  declares_next ts _ e h = tt
 
 goes_else : (g : Growth) (ts : List Token) (line : ℕ) (kind : CompileKind) (b : Bool) (r : Read) → ReadSpelt g ts r → ReadSpelt g ts (cond b (refuse line kind) r)
 goes_else g ts line kind true r h = tt
@@ -318,19 +301,9 @@ module _ (k : Known) (g : Growth) (ts us : List Token) (w : Within ts us k.names
               }),
           omega (arith, length-append {A = Definition}),
         )
-        by now parts rs (in_if xs ys w s) o = tt
-        by now parts rs (in_try xs ys w s) o = tt
-        by now parts rs (in_else xs ys zs w s r) o = tt
-        by now parts rs (in_catch xs ys zs w s r) o = tt
-        by now parts rs (in_begin xs ys w s) o = tt
-        by now parts rs (in_for xs ys w s) o = tt
-        by now parts rs (in_each xs ys w s) o = tt
+        by now parts rs _ o = tt
 
     control_next : (c : Control) → control_of name ≡ Some c → k.mode ≡ mode.Inside → ReadSpelt g ((ts ++ us) ++ at line name ∷ []) (reading.controlled line c k)
-    control_next control.Colon e m = tt
-    control_next control.LVar e m = tt
-    control_next control.Public e m = tt
-    control_next control.WizCall e m = tt
     control_next control.Var e m = rw (append_assoc ts us (at line name ∷ []), control_written name control.Var e) (own_var line w, omega arith)
     control_next control.VarStore e m = rw (append_assoc ts us (at line name ∷ []), control_written name control.VarStore e) (own_store line w, omega arith)
     control_next control.Semicolon e m = end_next e
@@ -342,13 +315,13 @@ module _ (k : Known) (g : Growth) (ts us : List Token) (w : Within ts us k.names
     control_next control.EndCatch e m = structure_next control.EndCatch _ 5 e refl m tt
     control_next control.Begin e m = structure_next control.Begin _ 6 e refl m tt
     control_next control.For e m = structure_next control.For _ 7 e refl m tt
-    control_next control.ForEach e m = tt
     control_next control.Repeat e m = structure_next control.Repeat _ 8 e refl m tt
     control_next control.Until e m = structure_next control.Until _ 9 e refl m tt
     control_next control.While e m = structure_next control.While _ 10 e refl m tt
     control_next control.Break e m = structure_next control.Break _ 11 e refl m tt
     control_next control.Continue e m = structure_next control.Continue _ 12 e refl m tt
     control_next control.Exit e m = structure_next control.Exit _ 13 e refl m tt
+    control_next _ e m = tt
 
     meant_next : (r : Option Word) → word_of name k ≡ r → k.mode ≡ mode.Inside → ReadSpelt g ((ts ++ us) ++ at line name ∷ []) (reading.meant line (usable r) k)
     meant_next None e m = tt
@@ -485,10 +458,6 @@ module _ (k : Known) (g : Growth) (ts us : List Token) (first line : ℕ) (h : H
       passes kind e n = (subst (λ mode. Spelt k g (head (us ++ at mid (codes "--") ∷ (xs ++ t ∷ []))) mode) (sym m) (results first line mid h (one_passed t p (λ f. n (sym e ∙ f)))), omega arith)
 
       by : (kind : TokenKind) → t.kind ≡ kind → ReadSpelt g (head (us ++ at mid (codes "--") ∷ (xs ++ t ∷ []))) (reading.read_result first t.line kind k)
-      by (token.Text bytes) e = passes _ e (λ f. cc)
-      by (token.Number n) e = passes _ e (λ f. cc)
-      by (token.Ref d) e = passes _ e (λ f. cc)
-      by (token.Address name) e = passes _ e (λ f. cc)
       by (token.Word name) e = test (bytes_eq name (codes "]")) refl
         where
           test : (b : Bool) → bytes_eq name (codes "]") ≡ b → ReadSpelt g (head (us ++ at mid (codes "--") ∷ (xs ++ t ∷ []))) (cond b (reading.header_end first k) (reading.acts t.line act.Wait k))
@@ -496,6 +465,7 @@ module _ (k : Known) (g : Growth) (ts us : List Token) (first line : ℕ) (h : H
               let same : t ≡ at t.line (codes "]") = ap (λ (kind : TokenKind). record { line = t.line; kind = kind }) (e ∙ ap (λ x. token.Word x) ((bytes_eq-Decides name (codes "]")).0 f)) in
               header_ends (us ++ at mid (codes "--") ∷ (xs ++ t ∷ [])) (rw same (with_results first line mid t.line h.arguments p))
           test false f = passes (token.Word name) e (λ x. let y : name ≡ codes "]" = cc in let z : bytes_eq name (codes "]") ≡ true = (bytes_eq-Decides name (codes "]")).1 y in cc)
+      by kind e = passes kind e (λ f. cc)
 
 -- ---- a word of a source
 
@@ -504,10 +474,7 @@ outside_next k g ts t h = by t.kind
   where
     by : (kind : TokenKind) → ReadSpelt g (ts ++ record { line = t.line; kind = kind } ∷ []) (reading.read_outside t.line kind k)
     by (token.Word name) = declares_next k g t.line name ts (control_of name) refl h
-    by (token.Text bytes) = tt
-    by (token.Number n) = tt
-    by (token.Ref d) = tt
-    by (token.Address name) = tt
+    by _ = tt
 
 title_read : (k : Known) (g : Growth) (ts : List Token) (first line number : ℕ) (name : List ℕ) → number ≡ length g.words → Between ts k.names k.variables k.locals g → ReadSpelt g (ts ++ at first (codes ":") ∷ at line name ∷ []) (reading.titled number first line name k)
 title_read k g ts first line number name same h = by (before_bracket name) refl
@@ -521,10 +488,7 @@ name_next k g number w t ts h = by t.kind refl
   where
     by : (kind : TokenKind) → t.kind ≡ kind → ReadSpelt g ts (reading.read_name number t.line w kind k)
     by (token.Word name) e = h name e
-    by (token.Text bytes) e = tt
-    by (token.Number n) e = tt
-    by (token.Ref d) e = tt
-    by (token.Address name) e = tt
+    by _ e = tt
 
 is_word : (t : Token) (name : List ℕ) → t.kind ≡ token.Word name → t ≡ at t.line name
 is_word t name e = ap (λ (kind : TokenKind). record { line = t.line; kind = kind }) e
@@ -550,10 +514,7 @@ read_next k g number t ts m same mode (heading {ts = xs} {us} first line h) = by
   where
     by : (kind : TokenKind) → t.kind ≡ kind → ReadSpelt g ((xs ++ at first (codes ":") ∷ at line (g.title ++ codes "[") ∷ us) ++ t ∷ []) (reading.read_argument first t.line kind k)
     by (token.Word name) e = rw (is_word t name e) (argument_next k g xs us first line h t.line name)
-    by (token.Text bytes) e = tt
-    by (token.Number n) e = tt
-    by (token.Ref d) e = tt
-    by (token.Address name) e = tt
+    by _ e = tt
 
 after_count : (k : Known) (g : Growth) (ts : List Token) (line units more : ℕ) → Spelt k g ts k.mode → length g.words ≤ units + more → (b : Bool) → (b ≡ true → units + more ≤ units_most) → DraftSpelt ts (and_then (cond b (Ok (units + more)) (refuse line TooLong)) (λ n. Ok (record { known = k; growth = g; units = n })))
 after_count k g ts line units more s h true l = record { spelt = s; words = h; units = l refl }
@@ -593,16 +554,7 @@ whole_written last ts k g h = by g.words h.declares
 
 finished_written : (last : ℕ) (ts : List Token) (d : Draft) (m : Mode) → Spelt d.known d.growth ts m → TreeWritten ts (finished_in m last d)
 finished_written last ts d m (between h) = whole_written last ts d.known d.growth h
-finished_written last ts d m (within w) = tt
-finished_written last ts d m (colon line h) = tt
-finished_written last ts d m (var line h) = tt
-finished_written last ts d m (lvar line h) = tt
-finished_written last ts d m (offer_all line h) = tt
-finished_written last ts d m (offer_wizards line h) = tt
-finished_written last ts d m (heading first line h) = tt
-finished_written last ts d m (results first line mid h p) = tt
-finished_written last ts d m (own_var line w) = tt
-finished_written last ts d m (own_store line w) = tt
+finished_written last ts d m _ = tt
 
 from_written : (last : ℕ) (ts more : List Token) (d : Draft) → IsSpelt ts d → TreeWritten (ts ++ more) (tree_from last more d)
 from_written last ts [] d s = rw (append-nil ts) (finished_written last ts d d.known.mode s.spelt)

@@ -76,11 +76,9 @@ opened opening.Each line before = turning each_word line before
 
 -- the items that a loop begins with: the test of its index or its keys
 abbrev pub beginning : Opening → ℕ → Block
-beginning opening.If line = stop
-beginning opening.Try line = stop
-beginning opening.Begin line = stop
 beginning opening.For line = word line NextIndex stop
 beginning opening.Each line = word line NextPair stop
+beginning _ line = stop
 
 abbrev pub else_part : ℕ → Growth → List Unfinished → Grown
 else_part at g (first if_word line before ∷ us) = Ok (with_part g stop (second if_word line g.now at before ∷ us))
@@ -179,9 +177,7 @@ whole_tree last variables (d ∷ ds) = Ok (record { words = d ∷ ds; variables 
 abbrev pub finished_in : Mode → ℕ → Draft → Result Tree Refusal
 finished_in mode.Outside last d = whole_tree last d.known.variables d.growth.words
 finished_in mode.Inside last d = refuse last (misfit NoWord d.growth.around)
-finished_in (mode.Naming w) last d = refuse last BadHeader
-finished_in (mode.Heading at) last d = refuse last BadHeader
-finished_in (mode.Results at) last d = refuse last BadHeader
+finished_in _ last d = refuse last BadHeader
 
 abbrev pub finished : ℕ → Draft → Result Tree Refusal
 finished last d = finished_in d.known.mode last d

@@ -86,8 +86,7 @@ usable None = None
 -- the number of the word that has this name
 abbrev pub number_in : Option Meaning → Option ℕ
 number_in (Some (meaning.Word n)) = Some n
-number_in (Some (meaning.Variable v)) = None
-number_in None = None
+number_in _ = None
 
 abbrev pub number_of : List ℕ → Known → Option ℕ
 number_of name k = number_in (lookup (bytes_eq name) k.names)
@@ -174,10 +173,7 @@ named number line (wanted.Stored at) name k = and_then (own_variable line name m
 -- a word behind a declaration
 abbrev pub read_name : ℕ → ℕ → Wanted → TokenKind → Known → Read
 read_name number line w (token.Word name) k = named number line w name k
-read_name number line w (token.Text text) k = refuse line BadHeader
-read_name number line w (token.Number n) k = refuse line BadHeader
-read_name number line w (token.Ref d) k = refuse line BadHeader
-read_name number line w (token.Address name) k = refuse line BadHeader
+read_name number line w _ k = refuse line BadHeader
 
 -- the binding of so many arguments, if any
 abbrev pub binding : ℕ → Act
@@ -197,18 +193,12 @@ argument at line name k =
 
 abbrev pub read_argument : ℕ → ℕ → TokenKind → Known → Read
 read_argument at line (token.Word name) k = argument at line name k
-read_argument at line (token.Text text) k = refuse line BadHeader
-read_argument at line (token.Number n) k = refuse line BadHeader
-read_argument at line (token.Ref d) k = refuse line BadHeader
-read_argument at line (token.Address name) k = refuse line BadHeader
+read_argument at line _ k = refuse line BadHeader
 
 -- a word of a header behind `--`: all but `]` is passed over
 abbrev pub read_result : ℕ → ℕ → TokenKind → Known → Read
 read_result at line (token.Word name) k = if bytes_eq name (codes "]") then header_end at k else acts line act.Wait k
-read_result at line (token.Text text) k = acts line act.Wait k
-read_result at line (token.Number n) k = acts line act.Wait k
-read_result at line (token.Ref d) k = acts line act.Wait k
-read_result at line (token.Address name) k = acts line act.Wait k
+read_result at line _ k = acts line act.Wait k
 
 -- a word of the structure where no word is open
 abbrev pub declaration : ℕ → Option Control → Known → Read
@@ -223,17 +213,11 @@ declaration line _ k = refuse line UnknownWord
 -- a word where no word is open
 abbrev pub read_outside : ℕ → TokenKind → Known → Read
 read_outside line (token.Word name) k = declaration line (control_of name) k
-read_outside line (token.Text text) k = refuse line UnknownWord
-read_outside line (token.Number n) k = refuse line UnknownWord
-read_outside line (token.Ref d) k = refuse line UnknownWord
-read_outside line (token.Address name) k = refuse line UnknownWord
+read_outside line _ k = refuse line UnknownWord
 
--- a word of the structure in a word; there is nothing yet that FOREACH could go over
+-- a word of the structure in a word: those that stand between words alone are no part of one, and there is nothing yet that
+-- FOREACH could go over
 abbrev pub controlled : ℕ → Control → Known → Read
-controlled line control.Colon k = refuse line BadHeader
-controlled line control.LVar k = refuse line BadHeader
-controlled line control.Public k = refuse line BadHeader
-controlled line control.WizCall k = refuse line BadHeader
 controlled line control.Var k = wants line wanted.Own k
 controlled line control.VarStore k = wants line (wanted.Stored line) k
 controlled line control.Semicolon k = acts line (act.End (length k.locals)) (record k { locals = []; mode = mode.Outside })
@@ -252,6 +236,7 @@ controlled line control.While k = acts line (act.Jump item.While) k
 controlled line control.Break k = acts line (act.Jump item.Break) k
 controlled line control.Continue k = acts line (act.Jump item.Continue) k
 controlled line control.Exit k = acts line (act.Item item.Exit) k
+controlled line _ k = refuse line BadHeader
 
 -- an item, where the word has a meaning
 abbrev pub meant : ℕ → Option Word → Known → Read

@@ -7,7 +7,7 @@ use Rattle.muf_token.specs.declared.fault.Refusal.{Refusal}
 use Rattle.muf_token.specs.declared.directive.Directive.{Directive}
 use Rattle.muf_token.specs.declared.directive.Directive.TheVariants.{Def, Define, Undef, Ifdef, Ifndef, Else, Endif, Include}
 use Rattle.muf_token.specs.declared.piece.Piece.{Piece}
-use Rattle.muf_token.specs.declared.piece.Piece.TheVariants.{Word, Text, Broken}
+use Rattle.muf_token.specs.declared.piece.Piece.TheVariants.{Word}
 use Rattle.muf_token.specs.Pieces.{Front, ended, broken, found, front}
 use Rattle.muf_token.specs.Expansion.{is_directive}
 use Rattle.muf_token.specs.Output.{refuse, and_then}
@@ -42,8 +42,7 @@ name_in line (broken at kind) = refuse at kind
 name_in line (found at (Word name) there text) =
     if is_directive name then refuse line BadDirective
     else Ok (record { line = at; name = name; behind = record { line = there; text = text } })
-name_in line (found at (Text name) there text) = refuse line BadDirective
-name_in line (found at (Broken kind) there text) = refuse line BadDirective
+name_in line (found at _ there text) = refuse line BadDirective
 
 -- the name behind the directive at this line: the next word, past white space, line ends and comments
 abbrev pub name_at : ℕ → Spot → Result Name Refusal
@@ -63,8 +62,7 @@ end_of_line spot = record spot { text = drop (position_or_len is_line_end spot.t
 -- whether a piece ends the words of a `$define`
 abbrev pub is_enddef : Piece → Bool
 is_enddef (Word word) = bytes_eq word (codes "$enddef")
-is_enddef (Text text) = false
-is_enddef (Broken kind) = false
+is_enddef _ = false
 
 abbrev pub Body : Type 0
 Body = List Piece × Spot

@@ -1,13 +1,11 @@
 -- What a word says by itself: an integer, a dbref, an address, or nothing but its name.
-use Rattle.std.specs.Prelude.{ℕ, ◌+◌, ◌-◌, ◌*◌, ◌^◌, pos, neg_ℤ, Bool, true, false, ◌&&◌, ◌==◌, nat_le, nat_lt, if◌then◌else◌, List, [], ◌∷◌, fold, Option, Some, None}
+use Rattle.std.specs.Prelude.{ℕ, ℤ, ◌+◌, ◌-◌, ◌*◌, ◌^◌, pos, neg_ℤ, Bool, true, false, ◌==◌, nat_le, nat_lt, if◌then◌else◌, List, [], ◌∷◌, fold, Option, Some, None}
 use Rattle.std.specs.List.{list_all}
+use Rattle.muck_model.specs.Decimal.{is_digit}
 use Rattle.muf_token.specs.declared.token.TokenKind.{TokenKind}
 use Rattle.muf_token.specs.declared.token.TokenKind.TheVariants.{Word, Number, Ref, Address}
 use Rattle.muf_token.specs.declared.number.Numeral.{Numeral}
 use Rattle.muf_token.specs.declared.number.Numeral.TheVariants.{No, Beyond, Is}
-
-abbrev pub is_digit : ℕ → Bool
-is_digit b = nat_le 48 b && nat_le b 57
 
 -- the amount that digits write
 abbrev pub amount_of : List ℕ → ℕ
@@ -28,15 +26,11 @@ abbrev pub integer_of : List ℕ → Numeral
 integer_of [] = No
 integer_of (b ∷ bytes) = if b == 45 then digits_of true bytes else digits_of false (b ∷ bytes)
 
-abbrev pub integer_kind : List ℕ → Numeral → Option TokenKind
-integer_kind word No = Some (Word word)
-integer_kind word Beyond = None
-integer_kind word (Is n) = Some (Number n)
-
-abbrev pub ref_kind : List ℕ → Numeral → Option TokenKind
-ref_kind word No = Some (Word word)
-ref_kind word Beyond = None
-ref_kind word (Is n) = Some (Ref (record { 0 = n }))
+-- a word that may write an integer, which says that; where it writes none, it is but a word
+abbrev pub numeral_kind : (ℤ → TokenKind) → List ℕ → Numeral → Option TokenKind
+numeral_kind said word No = Some (Word word)
+numeral_kind said word Beyond = None
+numeral_kind said word (Is n) = Some (said n)
 
 abbrev pub address_kind : List ℕ → Option TokenKind
 address_kind [] = Some (Word (39 ∷ []))
@@ -47,6 +41,6 @@ address_kind (b ∷ name) = Some (Address (b ∷ name))
 unfoldable pub kind_of : List ℕ → Option TokenKind
 kind_of [] = Some (Word [])
 kind_of (b ∷ bytes) =
-    if b == 35 then ref_kind (b ∷ bytes) (integer_of bytes)
+    if b == 35 then numeral_kind (λ n. Ref (record { 0 = n })) (b ∷ bytes) (integer_of bytes)
     else if b == 39 then address_kind bytes
-    else integer_kind (b ∷ bytes) (integer_of (b ∷ bytes))
+    else numeral_kind (λ n. Number n) (b ∷ bytes) (integer_of (b ∷ bytes))

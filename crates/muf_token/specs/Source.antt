@@ -8,9 +8,9 @@ use Rattle.muf_token.specs.declared.fault.FaultKind.TheVariants.{BadDirective, B
 use Rattle.muf_token.specs.declared.fault.Refusal.{Refusal}
 use Rattle.muf_token.specs.declared.token.Token.{Token}
 use Rattle.muf_token.specs.declared.token.TokenKind.{TokenKind}
-use Rattle.muf_token.specs.declared.token.TokenKind.TheVariants.{Ref, Word as word_kind, Text as text_kind, Number, Address}
+use Rattle.muf_token.specs.declared.token.TokenKind.TheVariants.{Ref}
 use Rattle.muf_token.specs.declared.piece.Piece.{Piece}
-use Rattle.muf_token.specs.declared.piece.Piece.TheVariants.{Word, Text, Broken}
+use Rattle.muf_token.specs.declared.piece.Piece.TheVariants.{Word}
 use Rattle.muf_token.specs.declared.directive.Directive.{Directive}
 use Rattle.muf_token.specs.declared.directive.Directive.TheVariants.{Def, Define, Undef, Ifdef, Ifndef, Else, Endif, Include}
 use Rattle.muf_token.specs.declared.branch.Branch.{Branch}
@@ -77,10 +77,7 @@ endif_at line s = and_then (without_innermost line s.branches) (λ branches. Ok 
 abbrev pub object_of : ℕ → Name → Option TokenKind → Result Dbref Refusal
 object_of line n None = refuse n.line BadNumber
 object_of line n (Some (Ref d)) = Ok d
-object_of line n (Some (Number i)) = refuse line BadDirective
-object_of line n (Some (word_kind name)) = refuse line BadDirective
-object_of line n (Some (text_kind text)) = refuse line BadDirective
-object_of line n (Some (Address name)) = refuse line BadDirective
+object_of line n (Some _) = refuse line BadDirective
 
 -- these definitions in turn, each in place of one of the same name
 abbrev pub with_all : List Definition → Definitions → Definitions
@@ -113,11 +110,7 @@ passed line (Some Ifdef) s = Ok (with_branch (record { line = line; taken = fals
 passed line (Some Ifndef) s = Ok (with_branch (record { line = line; taken = false; other = Some false }) s)
 passed line (Some Else) s = else_at line s
 passed line (Some Endif) s = endif_at line s
-passed line (Some Def) s = Ok s
-passed line (Some Define) s = Ok s
-passed line (Some Undef) s = Ok s
-passed line (Some Include) s = Ok s
-passed line None s = Ok s
+passed line _ s = Ok s
 
 -- what a piece stands for, where words are read
 abbrev pub put_out : ℕ → Piece → State → Result State Refusal
@@ -127,13 +120,11 @@ abbrev pub taken : (Dbref → Option (List Definition)) → ℕ → Piece → St
 taken lent line (Word word) s spot =
     if is_directive word then directed lent line (directive_of word) s spot
     else and_then (put_out line (Word word) s) (λ after. Ok (after, spot))
-taken lent line (Text text) s spot = and_then (put_out line (Text text) s) (λ after. Ok (after, spot))
-taken lent line (Broken kind) s spot = and_then (put_out line (Broken kind) s) (λ after. Ok (after, spot))
+taken lent line piece s spot = and_then (put_out line piece s) (λ after. Ok (after, spot))
 
 abbrev pub skipped : ℕ → Piece → State → Result State Refusal
 skipped line (Word word) s = passed line (directive_of word) s
-skipped line (Text text) s = Ok s
-skipped line (Broken kind) s = Ok s
+skipped line _ s = Ok s
 
 -- one piece of the source, with what it brings
 unfoldable pub stepped : (Dbref → Option (List Definition)) → ℕ → Piece → State → Spot → Step

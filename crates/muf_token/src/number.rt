@@ -2,7 +2,8 @@
 ghost use Rattle.std.specs.Prelude.{◌≡◌, IfOk, OnErr, ◌∷◌, ◌++◌, ◌≤◌, ◌<◌, length, min, true};
 ghost use Rattle.std.specs.List.{list_all};
 ghost use Rattle.muf_token.specs.inner.Bytes.{are_inside};
-ghost use Rattle.muf_token.specs.Numbers.{kind_of, amount_of, signed, digits_of, integer_of, is_digit};
+ghost use Rattle.muck_model.specs.Decimal.{is_digit};
+ghost use Rattle.muf_token.specs.Numbers.{kind_of, amount_of, signed, digits_of, integer_of};
 
 use crate::place::text_of;
 use crate::token::TokenKind;

@@ -45,9 +45,7 @@ is_looping (pending.If hole) = hole.looping
 is_looping (pending.Else hole) = hole.looping
 is_looping (pending.Try hole) = hole.looping
 is_looping (pending.Catch hole) = hole.looping
-is_looping (pending.Begin hole) = true
-is_looping (pending.For hole) = true
-is_looping (pending.Each hole) = true
+is_looping _ = true
 
 abbrev pub in_loop : List Pending → Bool
 in_loop [] = false
@@ -77,11 +75,9 @@ opened opening.Each = pending.Each
 
 -- the instruction that a loop begins with
 abbrev pub beginning : Opening → List Placed → ℕ → List Placed
-beginning opening.If code line = code
-beginning opening.Try code line = code
-beginning opening.Begin code line = code
 beginning opening.For code line = emitted code line (instr.Plain NextIndex)
 beginning opening.Each code line = emitted code line (instr.Plain NextPair)
+beginning _ code line = code
 
 -- a hole at the end of the code
 abbrev pub hole_at : List Placed → ℕ → Bool → Hole

@@ -42,9 +42,7 @@ whole_code last variables code (w ∷ ws) = Ok (record { placed = code; words = 
 abbrev pub compiled_end : Mode → ℕ → Compiled → Result Code Refusal
 compiled_end mode.Outside last c = whole_code last c.known.variables c.built.code c.built.words
 compiled_end mode.Inside last c = refuse last (misfit NoWord c.built.pending)
-compiled_end (mode.Naming w) last c = refuse last BadHeader
-compiled_end (mode.Heading at) last c = refuse last BadHeader
-compiled_end (mode.Results at) last c = refuse last BadHeader
+compiled_end _ last c = refuse last BadHeader
 
 abbrev pub nothing_compiled : Compiled
 nothing_compiled = record { known = nothing_known; built = record { code = []; words = []; title = []; start = 0; pending = [] }; units = 0 }
