@@ -1,10 +1,10 @@
 -- What a script makes happen, and the text that it writes.
-use Rattle.std.specs.Prelude.{ℕ, ℤ, zero, suc, ◌+◌, ◌-◌, nat_lt, if◌then◌else◌, List, [], ◌∷◌, ◌++◌, length, take, Option, Some, None, codes}
+use Rattle.std.specs.Prelude.{ℕ, ℤ, zero, suc, ◌+◌, ◌-◌, nat_lt, if◌then◌else◌, List, [], ◌∷◌, ◌++◌, length, take, drop, Option, Some, None, codes}
 use Rattle.std.specs.List.{flat_map}
 use Rattle.std.specs.Fmt.{decimal}
 use Rattle.muck_model.specs.declared.event.Entry.{Entry}
 use Rattle.muck_model.specs.declared.event.Event.{Event}
-use Rattle.muck_model.specs.declared.event.Event.TheVariants.{Opened, Input, Closed, Exec, Claim, Slice, Take, Halt}
+use Rattle.muck_model.specs.declared.event.Event.TheVariants.{Opened, Input, Closed, Exec, Claim, Slice, Take, Stored, DumpFailed, Halt}
 use Rattle.spec_events.specs.World.{World, queue_of, is_leaving}
 use Rattle.spec_events.specs.Steps.{is_lawful, effect, next_ready, next_process}
 use Rattle.spec_live.specs.Connections.{connections_most}
@@ -13,9 +13,35 @@ use Rattle.muck_script.specs.declared.act.Act.{Act}
 use Rattle.muck_script.specs.declared.act.Act.TheVariants.{Nothing, Open, Send}
 use Rattle.muck_script.specs.Lines.{lines_of}
 
+-- How a dump came out, by its number.
+pub data Dumped : Type 0 where
+  stored : ℕ → Dumped
+  failed : ℕ → Dumped
+
+abbrev pub outcome : Event → List Dumped
+outcome (Stored k) = stored k ∷ []
+outcome (DumpFailed k) = failed k ∷ []
+outcome event = []
+
+-- how the dumps among these entries came out
+abbrev pub outcomes_of : List Entry → List Dumped
+outcomes_of es = flat_map (λ (e : Entry). outcome e.event) es
+
+-- A part of a story: what happens in a world, where the dumps that are to come come out so.
+abbrev pub Part : Type 0
+Part = List Dumped → World → List Entry
+
+-- no dump is made in it
+abbrev pub plain : (World → List Entry) → Part
+plain f os w = f w
+
+-- behind these entries g goes on, with the outcomes that they left
+abbrev pub then_on : Part → List Dumped → World → List Entry → List Entry
+then_on g os w es = es ++ g (drop (length (outcomes_of es)) os) (after w es)
+
 -- what f says happens, and then what g says happens in the world that it leaves
-abbrev pub both : (World → List Entry) → (World → List Entry) → World → List Entry
-both f g w = f w ++ g (after w (f w))
+abbrev pub both : Part → Part → Part
+both f g os w = then_on g os w (f os w)
 
 -- an event, where it is lawful
 abbrev pub if_lawful : Event → World → List Entry
@@ -79,18 +105,18 @@ abbrev pub parted : ℕ → World → List Entry
 parted d w = if is_leaving d w then by_porter (Closed d) ∷ [] else []
 
 -- n connections from d on, in rising order
-unfoldable pub served : ℕ → ℕ → World → List Entry
-served zero d w = []
-served (suc n) d w = both (both (taken d) (parted d)) (served n (d + 1)) w
+unfoldable pub served : ℕ → ℕ → Part
+served zero d os w = []
+served (suc n) d os w = both (both (plain (taken d)) (plain (parted d))) (served n (d + 1)) os w
 
 -- a line of the script, with what follows it
-unfoldable pub line_story : Act → World → List Entry
-line_story act = both (both (acted act) (turns turns_most)) (served connections_most 1)
+unfoldable pub line_story : Act → Part
+line_story act = both (both (plain (acted act)) (plain (turns turns_most))) (served connections_most 1)
 
 -- the whole script; lines after the stop do nothing
-abbrev pub story : List Act → World → List Entry
-story [] w = if w.stopping then [] else by_porter Halt ∷ []
-story (act ∷ acts) w = if w.stopping then [] else both (line_story act) (story acts) w
+abbrev pub story : List Act → Part
+story [] os w = if w.stopping then [] else by_porter Halt ∷ []
+story (act ∷ acts) os w = if w.stopping then [] else both (line_story act) (story acts) os w
 
 -- a line that a connection is sent, without the byte 13 at its end
 abbrev pub shown : ℕ → List ℕ → List ℕ
@@ -111,5 +137,5 @@ text_of w [] = []
 text_of w (entry ∷ entries) = told w entry.event ++ text_of (effect w entry) entries
 
 -- what a script writes
-abbrev pub transcript : List Act → World → List ℕ
-transcript acts w = text_of w (story acts w)
+abbrev pub transcript : List Act → List Dumped → World → List ℕ
+transcript acts os w = text_of w (story acts os w)

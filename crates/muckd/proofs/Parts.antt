@@ -3,6 +3,8 @@ use Rattle.std.proofs.Common.{◌≡◌, ℕ, ◌<◌, ◌≤◌, Bool, true, fa
 use Rattle.muck_io.proofs.Appended.{appends_twice}
 use Rattle.std.proofs.lemmas.Bool.{lt-ltb, cond-true, cond-false}
 use Rattle.std.proofs.lemmas.List.{take-append-drop}
+use Rattle.std.proofs.lemmas.Grind.{flat_map-append}
+use Rattle.std.proofs.Math.Seq.{drop-append_seam}
 use Rattle.std.specs.List.{flat_map}
 use Rattle.muck_io.specs.Sink.{Appends, AppendsFront}
 use Rattle.muck_model.specs.declared.event.Entry.{Entry}
@@ -14,8 +16,8 @@ use Rattle.spec_events.specs.Histories.{History, after, now, entered, Grew, by_p
 use Rattle.spec_events.proofs.Living.{dead-happened}
 use Rattle.spec_events.proofs.Runs.{grew_nothing, grew_one, grew_on, grew_as, now-grew}
 use Rattle.muck_script.specs.Lines.{lines_of}
-use Rattle.muck_script.specs.Story.{both, if_lawful, taken, told, text_of, shown, farewell}
-use Rattle.muckd.specs.inner.Plays.{Plays, Breaks}
+use Rattle.muck_script.specs.Story.{Dumped, Part, outcome, outcomes_of, plain, then_on, both, if_lawful, taken, told, text_of, shown, farewell}
+use Rattle.muckd.specs.inner.Plays.{Says, Plays, Breaks}
 
 pub appends_nothing : (o : Option (List ℕ)) → Appends o o []
 appends_nothing None = tt
@@ -29,10 +31,12 @@ text_of-append [] fs w = refl
 text_of-append (e ∷ es) fs w = ap (λ t. told w e.event ++ t) (text_of-append es fs (effect w e)) ∙ sym (append_assoc (told w e.event) _ _)
 
 -- nothing happens
-pub plays_nothing : (f : World → List Entry) (h k : History) (o : Option (List ℕ)) → f (now h) ≡ [] → k ≡ h → (now h).dead ≡ false → Plays f h k o o
+pub plays_nothing : (f : Part) (h k : History) (o : Option (List ℕ)) → Says f (now h) [] → k ≡ h → (now h).dead ≡ false → Plays f h k o o
 plays_nothing f h k o e same alive = record {
-  history = grew_as h k [] _ (sym e) (grew_nothing h k same);
-  text = appends_as o o [] (text_of (now h) (f (now h))) (sym (ap (text_of (now h)) e)) (appends_nothing o);
+  entries = [];
+  said = e;
+  history = grew_nothing h k same;
+  text = appends_nothing o;
   alive = ap (λ (x : History). (now x).dead) same ∙ alive;
 }
 
@@ -42,11 +46,13 @@ lives_on h k event is other alive =
     ap (λ (w : World). w.dead) (now-grew h k _ (grew_one h k (by_porter event) is)) ∙ dead-happened event (now h) 0 other ∙ alive
 
 -- one event happens
-pub plays_one : (f : World → List Entry) (h k : History) (a b : Option (List ℕ)) (event : Event) (text : List ℕ) → f (now h) ≡ by_porter event ∷ [] → k ≡ entered h (by_porter event) →
+pub plays_one : (f : Part) (h k : History) (a b : Option (List ℕ)) (event : Event) (text : List ℕ) → Says f (now h) (by_porter event ∷ []) → k ≡ entered h (by_porter event) →
     is_died event ≡ false → (now h).dead ≡ false → text ≡ told (now h) event → Appends a b text → Plays f h k a b
 plays_one f h k a b event text e is other alive written app = record {
-  history = grew_as h k (by_porter event ∷ []) _ (sym e) (grew_one h k (by_porter event) is);
-  text = appends_as a b text _ (written ∙ sym (append-nil (told (now h) event)) ∙ sym (ap (text_of (now h)) e)) app;
+  entries = by_porter event ∷ [];
+  said = e;
+  history = grew_one h k (by_porter event) is;
+  text = appends_as a b text _ (written ∙ sym (append-nil (told (now h) event))) app;
   alive = lives_on h k event is other alive;
 }
 
@@ -54,12 +60,11 @@ pub no_ending : {X : Type 0} {x : X} {xs : List X} {P : Type 0} → x ∷ xs ≡
 no_ending e = cc
 
 -- one event happened, all of the part, and then the ending; a front of its text was written
-pub breaks_after : (f : World → List Entry) (ending : List Entry) (h k : History) (a b : Option (List ℕ)) (event : Event) (text : List ℕ) → f (now h) ≡ by_porter event ∷ [] →
+pub breaks_after : (f : Part) (ending : List Entry) (h k : History) (a b : Option (List ℕ)) (event : Event) (text : List ℕ) → Says f (now h) (by_porter event ∷ []) →
     Grew h k (by_porter event ∷ ending) → text ≡ told (now h) event → AppendsFront a b text → (ending ≡ [] → (now k).dead ≡ false) → Breaks f ending h k a b
 breaks_after f ending h k a b event text e is written app alive = record {
   front = by_porter event ∷ [];
-  rest = [];
-  whole = sym e;
+  whole = λ later. ([], sym (e later));
   history = is;
   told = take app.0 text;
   untold = drop app.0 text;
@@ -74,11 +79,11 @@ front_nothing o text = (0, appends_nothing o)
 
 -- an event that may be unlawful, and of which nothing is written
 pub plays_if_lawful : (event : Event) (h k : History) (o : Option (List ℕ)) (may : Bool) → told (now h) event ≡ [] → is_died event ≡ false → (now h).dead ≡ false →
-    may ≡ is_lawful (now h) (by_porter event) → k ≡ cond may (entered h (by_porter event)) h → Plays (if_lawful event) h k o o
+    may ≡ is_lawful (now h) (by_porter event) → k ≡ cond may (entered h (by_porter event)) h → Plays (plain (if_lawful event)) h k o o
 plays_if_lawful event h k o true silent other alive e is =
-    plays_one (if_lawful event) h k o o event [] (sym (ap (λ b. cond b (by_porter event ∷ []) []) e)) is other alive (sym silent) (appends_nothing o)
+    plays_one (plain (if_lawful event)) h k o o event [] (λ later. sym (ap (λ b. cond b (by_porter event ∷ []) []) e)) is other alive (sym silent) (appends_nothing o)
 plays_if_lawful event h k o false silent other alive e is =
-    plays_nothing (if_lawful event) h k o (sym (ap (λ b. cond b (by_porter event ∷ []) []) e)) is alive
+    plays_nothing (plain (if_lawful event)) h k o (λ later. sym (ap (λ b. cond b (by_porter event ∷ []) []) e)) is alive
 
 pub opened_silent : (d : ℕ) (w : World) → told w (Opened d) ≡ []
 unfolding told
@@ -108,23 +113,41 @@ pub text_parted : (d : ℕ) (w : World) (text : List ℕ) → is_leaving d w ≡
 unfolding told
 text_parted d w text leaving is = is ∙ sym (cond-true _ _ _ leaving)
 
+outcomes-append : (es fs : List Entry) (later : List Dumped) → outcomes_of (es ++ fs) ++ later ≡ outcomes_of es ++ (outcomes_of fs ++ later)
+outcomes-append es fs later =
+    ap (λ os. os ++ later) (flat_map-append (λ (e : Entry). outcome e.event) es fs) ∙ append_assoc (outcomes_of es) (outcomes_of fs) later
+
+-- behind what the first part says the second goes on, with the outcomes that are left
+goes_second : (f g : Part) (w v : World) (es fs : List Entry) (later : List Dumped) → v ≡ after w es → Says f w es → both f g (outcomes_of (es ++ fs) ++ later) w ≡ es ++ g (outcomes_of fs ++ later) v
+goes_second f g w v es fs later e p =
+    let left : List Dumped = outcomes_of fs ++ later in
+    ap (λ os. both f g os w) (outcomes-append es fs later)
+    ∙ ap (then_on g (outcomes_of es ++ left) w) (p left)
+    ∙ ap (λ os. es ++ g os (after w es)) (drop-append_seam (outcomes_of es) left)
+    ∙ ap (λ (x : World). es ++ g left x) (sym e)
+
 -- one part and then another
-pub plays_both : (f g : World → List Entry) (h k m : History) (a b c : Option (List ℕ)) → Plays f h k a b → Plays g k m b c → Plays (both f g) h m a c
+pub plays_both : (f g : Part) (h k m : History) (a b c : Option (List ℕ)) → Plays f h k a b → Plays g k m b c → Plays (both f g) h m a c
 plays_both f g h k m a b c p q =
-    let next : now k ≡ after (now h) (f (now h)) = now-grew h k _ p.history in
+    let next : now k ≡ after (now h) p.entries = now-grew h k _ p.history in
     record {
-      history = grew_on h k m _ _ p.history (grew_as k m _ _ (ap g next) q.history);
+      entries = p.entries ++ q.entries;
+      said = λ later. goes_second f g (now h) (now k) p.entries q.entries later next p.said ∙ ap (λ es. p.entries ++ es) (q.said later);
+      history = grew_on h k m _ _ p.history q.history;
       text = appends_as a c _ _
-          (ap (λ w. text_of (now h) (f (now h)) ++ text_of w (g w)) next ∙ sym (text_of-append (f (now h)) (g (after (now h) (f (now h)))) (now h)))
+          (ap (λ w. text_of (now h) p.entries ++ text_of w q.entries) next ∙ sym (text_of-append p.entries q.entries (now h)))
           (appends_twice a b c _ _ p.text q.text);
       alive = q.alive;
     }
 
-pub breaks_first : (f g : World → List Entry) (ending : List Entry) (h k : History) (a b : Option (List ℕ)) → Breaks f ending h k a b → Breaks (both f g) ending h k a b
+pub breaks_first : (f g : Part) (ending : List Entry) (h k : History) (a b : Option (List ℕ)) → Breaks f ending h k a b → Breaks (both f g) ending h k a b
 breaks_first f g ending h k a b p = record {
   front = p.front;
-  rest = p.rest ++ g (after (now h) (f (now h)));
-  whole = sym (append_assoc p.front p.rest _) ∙ ap (λ es. es ++ g (after (now h) (f (now h)))) p.whole;
+  whole = λ later.
+      let os : List Dumped = outcomes_of p.front ++ later in
+      let part = p.whole later in
+      let others : List Entry = g (drop (length (outcomes_of (f os (now h)))) os) (after (now h) (f os (now h))) in
+      (part.0 ++ others, sym (append_assoc p.front part.0 others) ∙ ap (λ es. es ++ others) part.1);
   history = p.history;
   told = p.told;
   untold = p.untold;
@@ -133,19 +156,20 @@ breaks_first f g ending h k a b p = record {
   alive = p.alive;
 }
 
-pub breaks_second : (f g : World → List Entry) (ending : List Entry) (h k m : History) (a b c : Option (List ℕ)) → Plays f h k a b → Breaks g ending k m b c → Breaks (both f g) ending h m a c
+pub breaks_second : (f g : Part) (ending : List Entry) (h k m : History) (a b c : Option (List ℕ)) → Plays f h k a b → Breaks g ending k m b c → Breaks (both f g) ending h m a c
 breaks_second f g ending h k m a b c p q =
-    let next : now k ≡ after (now h) (f (now h)) = now-grew h k _ p.history in
+    let next : now k ≡ after (now h) p.entries = now-grew h k _ p.history in
     record {
-      front = f (now h) ++ q.front;
-      rest = q.rest;
-      whole = append_assoc (f (now h)) q.front q.rest ∙ ap (λ es. f (now h) ++ es) (q.whole ∙ ap g next);
-      history = grew_as h m _ _ (sym (append_assoc (f (now h)) q.front ending)) (grew_on h k m _ _ p.history q.history);
-      told = text_of (now h) (f (now h)) ++ q.told;
+      front = p.entries ++ q.front;
+      whole = λ later.
+          let part = q.whole later in
+          (part.0, append_assoc p.entries q.front part.0 ∙ ap (λ es. p.entries ++ es) part.1 ∙ sym (goes_second f g (now h) (now k) p.entries q.front later next p.said));
+      history = grew_as h m _ _ (sym (append_assoc p.entries q.front ending)) (grew_on h k m _ _ p.history q.history);
+      told = text_of (now h) p.entries ++ q.told;
       untold = q.untold;
-      text = append_assoc (text_of (now h) (f (now h))) q.told q.untold
-          ∙ ap (λ t. text_of (now h) (f (now h)) ++ t) (q.text ∙ ap (λ w. text_of w q.front) next)
-          ∙ sym (text_of-append (f (now h)) q.front (now h));
+      text = append_assoc (text_of (now h) p.entries) q.told q.untold
+          ∙ ap (λ t. text_of (now h) p.entries ++ t) (q.text ∙ ap (λ w. text_of w q.front) next)
+          ∙ sym (text_of-append p.entries q.front (now h));
       appended = appends_twice a b c _ _ p.text q.appended;
       alive = q.alive;
     }

@@ -8,7 +8,7 @@ use Rattle.spec_events.specs.Histories.{History, now, after, Grew, by_porter}
 use Rattle.spec_events.proofs.Living.{dead-happened}
 use Rattle.spec_events.proofs.Runs.{now-grew}
 use Rattle.muck_script.specs.inner.Settling.{DiedDuring}
-use Rattle.muck_script.specs.Story.{Turn, of_line, of_process, next_turn, turn_entries, turn, turns, told, text_of}
+use Rattle.muck_script.specs.Story.{Turn, of_line, of_process, next_turn, turn_entries, turn, turns, plain, told, text_of}
 use Rattle.muckd.specs.inner.Plays.{Plays, Breaks}
 use Rattle.muckd.proofs.Parts.{appends_nothing, appends_as, no_ending}
 
@@ -49,20 +49,21 @@ front_turns (e ∷ front) rest (a_line d _ l) = a_line d front (front_turns fron
 front_turns (e ∷ front) rest (a_claim pid _ l) = a_claim pid front (front_turns front rest l)
 front_turns (e ∷ front) rest (a_slice pid _ l) = a_slice pid front (front_turns front rest l)
 
-pub plays_turns : (n : ℕ) (h k : History) (o : Option (List ℕ)) → Grew h k (turns n (now h)) → (now h).dead ≡ false → Plays (turns n) h k o o
+pub plays_turns : (n : ℕ) (h k : History) (o : Option (List ℕ)) → Grew h k (turns n (now h)) → (now h).dead ≡ false → Plays (plain (turns n)) h k o o
 plays_turns n h k o is alive = record {
+  entries = turns n (now h);
+  said = λ later. refl;
   history = is;
   text = appends_as o o [] _ (sym (turns_silent (turns n (now h)) (turns_are n (now h)) (now h))) (appends_nothing o);
   alive = ap (λ (w : World). w.dead) (now-grew h k _ is) ∙ turns_live (turns n (now h)) (turns_are n (now h)) (now h) ∙ alive;
 }
 
-pub breaks_turns : (n : ℕ) (h k : History) (o : Option (List ℕ)) → DiedDuring (turns n (now h)) h k → Breaks (turns n) (by_porter Died ∷ []) h k o o
+pub breaks_turns : (n : ℕ) (h k : History) (o : Option (List ℕ)) → DiedDuring (turns n (now h)) h k → Breaks (plain (turns n)) (by_porter Died ∷ []) h k o o
 breaks_turns n h k o d =
     let lines : AreTurns d.front = front_turns d.front d.rest (let P : List Entry → Type 0 = AreTurns in subst P (sym d.whole) (turns_are n (now h))) in
     record {
       front = d.front;
-      rest = d.rest;
-      whole = d.whole;
+      whole = λ later. (d.rest, d.whole);
       history = d.died;
       told = [];
       untold = [];

@@ -7,16 +7,17 @@ use Rattle.std.specs.Prelude.{nat_lt}
 use Rattle.muck_io.specs.Source.{HasReadAll}
 use Rattle.muck_model.specs.declared.event.Entry.{Entry}
 use Rattle.muck_model.specs.declared.event.Event.TheVariants.{Halt, Died}
-use Rattle.spec_events.specs.World.{World, starting, booted}
+use Rattle.spec_events.specs.World.{starting, booted}
 use Rattle.spec_events.specs.Histories.{History, after, now, entered, Grew, by_porter}
 use Rattle.spec_events.proofs.Runs.{grew_nothing, grew_one, grew_as, now-grew}
 use Rattle.muck_script.specs.declared.act.Act.{Act}
 use Rattle.muck_script.specs.Script.{script_of, script_most, read_part, refused_at, acts_of}
 use Rattle.muck_script.specs.Lines.{lines_of}
-use Rattle.muck_script.specs.Story.{story}
+use Rattle.muck_script.specs.Story.{Part, outcomes_of, text_of, story}
 use Rattle.muckd.specs.declared.why.Why.TheVariants.{NoMemory, WriteFault}
 use Rattle.muckd.specs.declared.playing.RunFault.{RunFault}
 use Rattle.muckd.specs.inner.Plays.{Plays, Breaks, ending_of}
+use Rattle.muckd.proofs.Parts.{appends_as}
 use Rattle.muckd.specs.Outcome.{PlayedWhole, BrokeOff, IsScriptIn, IsReadOut, IsFirstOutside, halted}
 
 -- the history in which nothing has happened yet
@@ -32,10 +33,14 @@ unfolding now
 played_whole acts h k a b tale e p is =
     let P : History → Type 0 = λ x. Plays (story acts) x k a b in
     let q : Plays (story acts) begun k a b = subst P e p in
-    record { history = is ∙ q.history.entries; text = q.text }
+    let all : tale ≡ q.entries = is ∙ q.history.entries in
+    let whole : q.entries ≡ story acts (outcomes_of q.entries) starting = sym (q.said []) ∙ ap (λ os. story acts os starting) (append-nil (outcomes_of q.entries)) in
+    let W : List Entry → Type 0 = λ es. es ≡ story acts (outcomes_of es) starting in
+    let told : tale ≡ story acts (outcomes_of tale) starting = subst W (sym all) whole in
+    record { history = told; text = appends_as a b _ _ (ap (text_of starting) (sym all ∙ told)) q.text }
 
 -- the ending of a run by its fault
-pub broke_by : (f : World → List Entry) (h k : History) (a b : Option (List ℕ)) (fault is : RunFault) → fault ≡ is → Breaks f (ending_of fault) h k a b → Breaks f (ending_of is) h k a b
+pub broke_by : (f : Part) (h k : History) (a b : Option (List ℕ)) (fault is : RunFault) → fault ≡ is → Breaks f (ending_of fault) h k a b → Breaks f (ending_of is) h k a b
 broke_by f h k a b fault is e p = let P : RunFault → Type 0 = λ x. Breaks f (ending_of x) h k a b in subst P e p
 
 pub died_off : (acts : List Act) (h k : History) (a b : Option (List ℕ)) (tale : List Entry) → h ≡ begun → Breaks (story acts) (by_porter Died ∷ []) h k a b → tale ≡ k.entries → BrokeOff starting NoMemory acts a b tale
@@ -45,7 +50,6 @@ died_off acts h k a b tale e p is =
     let q : Breaks (story acts) (by_porter Died ∷ []) begun k a b = subst P e p in
     record {
       front = q.front;
-      rest = q.rest;
       whole = q.whole;
       ending = by_porter Died ∷ [];
       ends = refl;
@@ -65,7 +69,6 @@ halted_off acts h k m a b tale e p stops is =
     let there : now k ≡ after starting q.front = now-grew begun k _ q.history ∙ ap (after starting) (append-nil q.front) in
     record {
       front = q.front;
-      rest = q.rest;
       whole = q.whole;
       ending = halted (after starting q.front);
       ends = refl;

@@ -8,7 +8,7 @@ use Rattle.spec_events.specs.World.{World}
 use Rattle.spec_events.specs.Histories.{after, by_porter}
 use Rattle.muck_script.specs.declared.act.Act.{Act}
 use Rattle.muck_script.specs.Script.{script_of}
-use Rattle.muck_script.specs.Story.{story, text_of, transcript}
+use Rattle.muck_script.specs.Story.{Dumped, outcomes_of, story, text_of, transcript}
 use Rattle.muckd.specs.declared.why.Why.{Why}
 use Rattle.muckd.specs.declared.why.Why.TheVariants.{Fine, Usage, BadScript, NoMemory, ReadFault, WriteFault}
 
@@ -50,16 +50,17 @@ EndsBy w WriteFault front ending = ending ≡ halted (after w front)
 EndsBy w NoMemory front ending = ending ≡ by_porter Died ∷ []
 EndsBy w why front ending = ⊥
 
--- The script was played whole: the tale is its story in the world w, and what was written is its transcript.
+-- The script was played whole: the tale is its story in the world w, where dumps come out as the tale says, and what was
+-- written is its transcript.
 pub record PlayedWhole (w : World) (acts : List Act) (before written : Option (List ℕ)) (tale : List Entry) : Type 0 where
-  pub history : tale ≡ story acts w
-  pub text : Appends before written (transcript acts w)
+  pub history : tale ≡ story acts (outcomes_of tale) w
+  pub text : Appends before written (transcript acts (outcomes_of tale) w)
 
--- It broke off: the tale is a front of its story and how such a run ends; and of the text of that front a front was written.
+-- It broke off: the tale is a front of its story, however the dumps behind that front would have come out, and how such a run
+-- ends; and of the text of that front a front was written.
 pub record BrokeOff (w : World) (why : Why) (acts : List Act) (before written : Option (List ℕ)) (tale : List Entry) : Type 0 where
   pub front : List Entry
-  pub rest : List Entry
-  pub whole : front ++ rest ≡ story acts w
+  pub whole : (later : List Dumped) → (rest : List Entry) × (front ++ rest ≡ story acts (outcomes_of front ++ later) w)
   pub ending : List Entry
   pub ends : EndsBy w why front ending
   pub history : tale ≡ front ++ ending
@@ -88,10 +89,10 @@ pub record IsWholeRun (w : World) (left now before written : Option (List ℕ)) 
   pub played : PlayedWhole w acts before written tale
 
 -- what was left in the source is a script, and its transcript was written
-pub record IsTranscribed (w : World) (left before written : Option (List ℕ)) : Type 0 where
+pub record IsTranscribed (w : World) (left before written : Option (List ℕ)) (tale : List Entry) : Type 0 where
   pub acts : List Act
   pub script : IsScriptIn left acts
-  pub text : Appends before written (transcript acts w)
+  pub text : Appends before written (transcript acts (outcomes_of tale) w)
 
 -- what was left in the source is a script, the source was read to its end, and the run of the script broke off
 pub record IsBrokenRun (w : World) (why : Why) (left now before written : Option (List ℕ)) (tale : List Entry) : Type 0 where

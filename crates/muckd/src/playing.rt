@@ -3,7 +3,7 @@ ghost use Rattle.std.specs.Prelude.{◌≡◌, ◌≤◌, OnOk, IsErrOf, OnErr, 
 ghost use Rattle.muck_io.specs.Faults.{Rose};
 ghost use Rattle.spec_events.specs.Histories.{now};
 ghost use Rattle.spec_live.specs.Connections.{connections_most};
-ghost use Rattle.muck_script.specs.Story.{acted, turns, turns_most, taken, parted, both, served, line_story, story};
+ghost use Rattle.muck_script.specs.Story.{acted, turns, turns_most, taken, parted, plain, both, served, line_story, story};
 ghost use Rattle.muckd.specs.inner.Plays.{PlaysOrBreaks};
 
 use muck_io::{Sink, WriteFailed, write_all};
@@ -22,7 +22,7 @@ pub enum RunFault {
 // What a line of the script asks for; nothing is written of it.
 fn act(alloc: Global, world: &mut World, act: &Act) -> Result<(), RunFault>
     requires { (now world.old).dead ≡ false }
-    ensures plays { (o : Option (List ℕ)) → PlaysOrBreaks (acted act.now) world.old world.new o o result }
+    ensures plays { (o : Option (List ℕ)) → PlaysOrBreaks (plain (acted act.now)) world.old world.new o o result }
     ensures memory { OnErr result (result ≡ Err RunFault.NoMemory) }
 {
     match act {
@@ -47,7 +47,7 @@ fn act(alloc: Global, world: &mut World, act: &Act) -> Result<(), RunFault>
 // Takes the turns of lines and processes; nothing is written of it.
 fn turn(world: &mut World) -> Result<(), RunFault>
     requires { (now world.old).dead ≡ false }
-    ensures plays { (o : Option (List ℕ)) → PlaysOrBreaks (turns turns_most) world.old world.new o o result }
+    ensures plays { (o : Option (List ℕ)) → PlaysOrBreaks (plain (turns turns_most)) world.old world.new o o result }
     ensures memory { OnErr result (result ≡ Err RunFault.NoMemory) }
 {
     match settle(world) {
@@ -66,7 +66,7 @@ fn take_queue<K: Sink>(
 ) -> Result<(), RunFault>
     requires room { 131090 ≤ length buf.old }
     requires alive { (now world.old).dead ≡ false }
-    ensures plays { PlaysOrBreaks (taken d) world.old world.new (K.written out.old) (K.written out.new) result }
+    ensures plays { PlaysOrBreaks (plain (taken d)) world.old world.new (K.written out.old) (K.written out.new) result }
     ensures fine { OnOk result (K.faults out.new ≡ K.faults out.old) }
     ensures later { K.faults out.old ≤ K.faults out.new }
     ensures write { IsErrOf result RunFault.WriteFault → Rose (K.faults out.old) (K.faults out.new) }
@@ -91,7 +91,7 @@ fn take_queue<K: Sink>(
 // Closes a connection that is leaving, and writes so.
 fn part<K: Sink>(alloc: Global, world: &mut World, d: u32, out: &mut K) -> Result<(), RunFault>
     requires { (now world.old).dead ≡ false }
-    ensures plays { PlaysOrBreaks (parted d) world.old world.new (K.written out.old) (K.written out.new) result }
+    ensures plays { PlaysOrBreaks (plain (parted d)) world.old world.new (K.written out.old) (K.written out.new) result }
     ensures fine { OnOk result (K.faults out.new ≡ K.faults out.old) }
     ensures later { K.faults out.old ≤ K.faults out.new }
     ensures write { IsErrOf result RunFault.WriteFault → Rose (K.faults out.old) (K.faults out.new) }
@@ -128,7 +128,7 @@ fn serve_one<K: Sink>(
 ) -> Result<(), RunFault>
     requires room { 131090 ≤ length buf.old }
     requires alive { (now world.old).dead ≡ false }
-    ensures plays { PlaysOrBreaks (both (taken d) (parted d)) world.old world.new (K.written out.old) (K.written out.new) result }
+    ensures plays { PlaysOrBreaks (both (plain (taken d)) (plain (parted d))) world.old world.new (K.written out.old) (K.written out.new) result }
     ensures fine { OnOk result (K.faults out.new ≡ K.faults out.old) }
     ensures later { K.faults out.old ≤ K.faults out.new }
     ensures write { IsErrOf result RunFault.WriteFault → Rose (K.faults out.old) (K.faults out.new) }
@@ -167,7 +167,7 @@ fn serve_all<K: Sink>(
 // Does what a line of the script asks for, and the turns that follow; nothing is written of it.
 fn act_and_turn(alloc: Global, world: &mut World, asked: &Act) -> Result<(), RunFault>
     requires { (now world.old).dead ≡ false }
-    ensures plays { (o : Option (List ℕ)) → PlaysOrBreaks (both (acted asked.now) (turns turns_most)) world.old world.new o o result }
+    ensures plays { (o : Option (List ℕ)) → PlaysOrBreaks (both (plain (acted asked.now)) (plain (turns turns_most))) world.old world.new o o result }
     ensures memory { OnErr result (result ≡ Err RunFault.NoMemory) }
 {
     match act(alloc, world, asked) {

@@ -45,8 +45,8 @@ pub fn muckd<S: Source, K: Sink>(
     // The first line outside the grammar has this number.
     ensures bad_script { (line : ℕ) → result.why ≡ Why.BadScript line → IsFirstOutside (S.left script.old) line }
 
-    // What was written is the transcript of the script on the starting world.
-    ensures transcript { result.why ≡ Why.Fine → IsTranscribed starting (S.left script.old) (K.written out.old) (K.written out.new) }
+    // What was written is the transcript of the script on the starting world, where dumps come out as the tale says.
+    ensures transcript { result.why ≡ Why.Fine → IsTranscribed starting (S.left script.old) (K.written out.old) (K.written out.new) result.tale.entries }
 
     // The tale is the story of that script, and the source was read to its end.
     ensures history { result.why ≡ Why.Fine → IsWholeRun starting (S.left script.old) (S.left script.new) (K.written out.old) (K.written out.new) result.tale.entries }

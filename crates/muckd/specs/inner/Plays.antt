@@ -5,23 +5,28 @@ use Rattle.muck_model.specs.declared.event.Entry.{Entry}
 use Rattle.muck_model.specs.declared.event.Event.TheVariants.{Died}
 use Rattle.spec_events.specs.World.{World}
 use Rattle.spec_events.specs.Histories.{History, now, Grew, by_porter}
-use Rattle.muck_script.specs.Story.{text_of}
+use Rattle.muck_script.specs.Story.{Dumped, Part, outcomes_of, text_of}
 use Rattle.muckd.specs.declared.playing.RunFault.{RunFault}
 use Rattle.muckd.specs.declared.playing.RunFault.TheVariants.{NoMemory, WriteFault}
 
+-- f says these entries of the world w, where the dumps among them come out as they say, and others later
+abbrev pub Says : Part → World → List Entry → Type 0
+Says f w es = (later : List Dumped) → f (outcomes_of es ++ later) w ≡ es
+
 -- The entries that f says of the world as it was happened behind the history h, which is k now, and their text was
 -- written. The world still lives.
-pub record Plays (f : World → List Entry) (h k : History) (before written : Option (List ℕ)) : Type 0 where
-  pub history : Grew h k (f (now h))
-  pub text : Appends before written (text_of (now h) (f (now h)))
+pub record Plays (f : Part) (h k : History) (before written : Option (List ℕ)) : Type 0 where
+  pub entries : List Entry
+  pub said : Says f (now h) entries
+  pub history : Grew h k entries
+  pub text : Appends before written (text_of (now h) entries)
   pub alive : (now k).dead ≡ false
 
 -- Only the first of those entries happened, and then the ending. Of the text of those that happened a front was written.
 -- Where there is no ending the world still lives.
-pub record Breaks (f : World → List Entry) (ending : List Entry) (h k : History) (before written : Option (List ℕ)) : Type 0 where
+pub record Breaks (f : Part) (ending : List Entry) (h k : History) (before written : Option (List ℕ)) : Type 0 where
   pub front : List Entry
-  pub rest : List Entry
-  pub whole : front ++ rest ≡ f (now h)
+  pub whole : (later : List Dumped) → (rest : List Entry) × (front ++ rest ≡ f (outcomes_of front ++ later) (now h))
   pub history : Grew h k (front ++ ending)
   pub told : List ℕ
   pub untold : List ℕ
@@ -35,6 +40,6 @@ ending_of NoMemory = by_porter Died ∷ []
 ending_of WriteFault = []
 
 -- a part of a run, by its answer
-abbrev pub PlaysOrBreaks : {T : Type 0} → (World → List Entry) → History → History → Option (List ℕ) → Option (List ℕ) → Result T RunFault → Type 0
+abbrev pub PlaysOrBreaks : {T : Type 0} → Part → History → History → Option (List ℕ) → Option (List ℕ) → Result T RunFault → Type 0
 PlaysOrBreaks f h k before written (Ok _) = Plays f h k before written
 PlaysOrBreaks f h k before written (Err fault) = Breaks f (ending_of fault) h k before written

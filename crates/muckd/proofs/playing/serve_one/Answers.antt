@@ -1,10 +1,10 @@
-use Rattle.muck_script.specs.Story.{taken, parted}
+use Rattle.muck_script.specs.Story.{plain, taken, parted}
 use Rattle.muckd.proofs.Parts.{breaks_first}
 use Rattle.muckd.proofs.Exits.{second_part}
 use Rattle.muckd.proofs.playing.serve_one.Goals as goal
 
 pub returns-in-Ok-clause-plays : goal.returns-in-Ok-clause-plays
-returns-in-Ok-clause-plays g c = second_part (taken c.args.d) (parted c.args.d) _ _ _ _ _ _ c.part.result c.in-Ok.ensures.plays c.part.ensures.plays
+returns-in-Ok-clause-plays g c = second_part (plain (taken c.args.d)) (plain (parted c.args.d)) _ _ _ _ _ _ c.part.result c.in-Ok.ensures.plays c.part.ensures.plays
 
 pub returns-in-Err-clause-plays : goal.returns-in-Err-clause-plays
-returns-in-Err-clause-plays g c = breaks_first (taken c.args.d) (parted c.args.d) _ _ _ _ _ c.in-Err.ensures.plays
+returns-in-Err-clause-plays g c = breaks_first (plain (taken c.args.d)) (plain (parted c.args.d)) _ _ _ _ _ c.in-Err.ensures.plays

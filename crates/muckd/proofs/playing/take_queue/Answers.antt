@@ -12,7 +12,7 @@ returns-in-Ok-write_all-clause-plays g c =
     let room : length (queue_of c.args.d (now c.args.world.now)) ≤ length c.args.buf.now = omega (arith, count, c.queued.ensures.most, c.requires.room) in
     let whole = whole_queue c.args.d c.take-count.result (length c.args.buf.now) (now c.args.world.now) c.take-count.ensures.count c.requires.alive room in
     let some : 0 < c.take-count.result = omega (arith, whole, count) in
-    plays_one _ _ _ _ _ _ _ (taken_some c.args.d _ (now c.args.world.now) whole some) (c.take-count.ensures.step ∙ cond-true _ _ _ (lt-ltb 0 _ some)) refl c.requires.alive
+    plays_one _ _ _ _ _ _ _ (λ later. taken_some c.args.d _ (now c.args.world.now) whole some) (c.take-count.ensures.step ∙ cond-true _ _ _ (lt-ltb 0 _ some)) refl c.requires.alive
     (text_taken c.args.d _ (now c.args.world.now) _ _ c.take-count.ensures.bytes (c.as_slice.ensures.value ∙ c.in-Ok.ensures)) c.in-Ok-write_all.ensures.ok
 
 pub returns-in-Ok-clause-plays : goal.returns-in-Ok-clause-plays
@@ -21,7 +21,7 @@ returns-in-Ok-clause-plays g c =
     let room : length (queue_of c.args.d (now c.args.world.now)) ≤ length c.args.buf.now = omega (arith, count, c.queued.ensures.most, c.requires.room) in
     let whole = whole_queue c.args.d c.take-count.result (length c.args.buf.now) (now c.args.world.now) c.take-count.ensures.count c.requires.alive room in
     let some : 0 < c.take-count.result = omega (arith, whole, count) in
-    breaks_after _ [] _ _ _ _ _ _ (taken_some c.args.d _ (now c.args.world.now) whole some) (grew_one _ _ _ (c.take-count.ensures.step ∙ cond-true _ _ _ (lt-ltb 0 _ some)))
+    breaks_after _ [] _ _ _ _ _ _ (λ later. taken_some c.args.d _ (now c.args.world.now) whole some) (grew_one _ _ _ (c.take-count.ensures.step ∙ cond-true _ _ _ (lt-ltb 0 _ some)))
     (text_taken c.args.d _ (now c.args.world.now) _ _ c.take-count.ensures.bytes (c.as_slice.ensures.value ∙ c.in-Ok.ensures)) c.in-Err-write_all.ensures.front
     (λ _. lives_on _ _ _ (c.take-count.ensures.step ∙ cond-true _ _ _ (lt-ltb 0 _ some)) refl c.requires.alive)
 
@@ -31,4 +31,4 @@ returns-clause-plays g c =
     let room : length (queue_of c.args.d (now c.args.world.now)) ≤ length c.args.buf.now = omega (arith, count, c.queued.ensures.most, c.requires.room) in
     let whole = whole_queue c.args.d c.take-count.result (length c.args.buf.now) (now c.args.world.now) c.take-count.ensures.count c.requires.alive room in
     let some : 0 < c.take-count.result = omega (arith, whole, count) in
-    breaks_after _ _ _ _ _ _ _ _ (taken_some c.args.d _ (now c.args.world.now) whole some) (entered_twice _ _ _ _ _ (c.take-count.ensures.step ∙ cond-true _ _ _ (lt-ltb 0 _ some)) c.died.ensures) refl (front_nothing _ _) (λ e. no_ending e)
+    breaks_after _ _ _ _ _ _ _ _ (λ later. taken_some c.args.d _ (now c.args.world.now) whole some) (entered_twice _ _ _ _ _ (c.take-count.ensures.step ∙ cond-true _ _ _ (lt-ltb 0 _ some)) c.died.ensures) refl (front_nothing _ _) (λ e. no_ending e)
