@@ -1,5 +1,5 @@
 -- The processes of a world, by rising number.
-use Rattle.std.specs.Prelude.{ℕ, ℤ, pos, ◌+ℤ◌, Bool, false, not, ◌&&◌, ◌||◌, ◌==◌, nat_lt, nat_le, int_lt, if◌then◌else◌, List, [], ◌∷◌, ◌++◌, length, map, find, Option, Some, is_some}
+use Rattle.std.specs.Prelude.{ℕ, ℤ, pos, ◌+ℤ◌, Bool, false, not, ◌&&◌, ◌||◌, ◌==◌, nat_lt, nat_le, int_lt, if◌then◌else◌, List, [], ◌∷◌, ◌++◌, length, map, find, Option}
 use Rattle.std.specs.List.{filter, reduce, count_by, list_any}
 use Rattle.std.specs.Option.{option_map, option_map_or, option_and_then}
 use Rattle.std.specs.Ordering.{int_eq}
@@ -9,14 +9,16 @@ use Rattle.spec_live.specs.Objects.{same, nothing}
 use Rattle.muf_model.specs.Source.{Source}
 use Rattle.muf_model.specs.Chains.{programs_of}
 use Rattle.muck_queue.specs.declared.process.Process.{Process}
+use Rattle.muck_queue.specs.declared.claim.Claim.{Claim}
 
--- The processes, and the last number that was given.
+-- The processes, the last number that was given, and the claims: which party has which process, also once that has ended.
 pub record Queue : Type 0 where
   pub processes : List Process
   pub last : ℤ
+  pub claims : List Claim
 
 unfoldable pub empty_queue : Queue
-empty_queue = record { processes = []; last = pos 0 }
+empty_queue = record { processes = []; last = pos 0; claims = [] }
 
 -- the last number that can be given
 unfoldable pub number_most : ℤ
@@ -30,9 +32,17 @@ has_pid pid p = int_eq p.number pid
 abbrev pub is_of : Dbref → Process → Bool
 is_of player p = same p.player player
 
+-- a claim is on the process of this number
+abbrev pub is_on : ℤ → Claim → Bool
+is_on pid c = int_eq c.number pid
+
+-- some party has claimed it
+abbrev pub is_claimed : ℤ → List Claim → Bool
+is_claimed pid cs = list_any (is_on pid) cs
+
 -- its second has come, and nobody has claimed it
-abbrev pub is_due : ℕ → Process → Bool
-is_due moment p = nat_le p.due moment && not (is_some p.claim)
+abbrev pub is_due : ℕ → List Claim → Process → Bool
+is_due moment cs p = nat_le p.due moment && not (is_claimed p.number cs)
 
 -- p is due before q, or they are due in the same second and p has the lower number
 abbrev pub is_before : Process → Process → Bool
@@ -51,9 +61,6 @@ runs program p = option_map_or (is_in program) p.running false
 
 abbrev pub has_trigger : Dbref → Process → Bool
 has_trigger trigger p = same p.trigger trigger
-
-abbrev pub claimed_by : ℕ → Process → Process
-claimed_by party p = record p { claim = Some party }
 
 abbrev pub numbered : ℤ → Process → Process
 numbered pid p = record p { number = pid }
@@ -99,11 +106,15 @@ process pid q = find (has_pid pid) q.processes
 
 -- the number of the process that is to go on next
 unfoldable pub next_due : ℕ → Queue → Option ℤ
-next_due moment q = option_map (λ p. p.number) (earliest (is_due moment) q.processes)
+next_due moment q = option_map (λ p. p.number) (earliest (is_due moment q.claims) q.processes)
 
--- the process of this number is claimed by a party
+-- a party claims the process of this number
 unfoldable pub claimed : ℤ → ℕ → Queue → Queue
-claimed pid party q = with_processes (changed_first (has_pid pid) (claimed_by party) q.processes) q
+claimed pid party q = record q { claims = q.claims ++ record { number = pid; party = party } ∷ [] }
+
+-- nobody claims it any more
+unfoldable pub released : ℤ → Queue → Queue
+released pid q = record q { claims = filter (λ c. not (is_on pid c)) q.claims }
 
 -- the process of this number stands at this state, or its state is out
 unfoldable pub standing : ℤ → Option Source → Queue → Queue
@@ -126,7 +137,7 @@ is_full player tune q =
 
 -- with a process more, behind all others, with the number after the last one that was given
 unfoldable pub added : Process → Queue → Queue
-added p q = record { processes = q.processes ++ numbered (q.last +ℤ pos 1) p ∷ []; last = q.last +ℤ pos 1 }
+added p q = record q { processes = q.processes ++ numbered (q.last +ℤ pos 1) p ∷ []; last = q.last +ℤ pos 1 }
 
 -- some process is tied to the connection d
 unfoldable pub is_tied : ℕ → Queue → Bool

@@ -1,4 +1,5 @@
 pub mod Adding
 pub mod Numbered
+pub mod Room
 pub mod Leading
 pub mod Rows

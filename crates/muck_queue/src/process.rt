@@ -2,6 +2,7 @@
 ghost use Rattle.std.specs.Prelude.{◌≡◌, if◌then◌else◌};
 ghost use Rattle.muck_queue.specs.Queues.{has_pid, is_of, is_due, is_before, is_tied_to, runs, has_trigger, without_trigger};
 
+use crate::claim::{Claim, is_claimed};
 use muck_model::{Dbref, Line};
 use muf_running::Running;
 
@@ -33,8 +34,6 @@ pub struct Process {
     pub descr: Option<u32>,
     /// How it runs.
     pub mode: Mode,
-    /// The party that has claimed it.
-    pub claim: Option<u8>,
     /// The program that runs; out of the process while a unit of it is taken.
     pub running: Option<Running>,
 }
@@ -55,10 +54,10 @@ impl Process {
     }
 
     /// Whether its second has come and nobody has claimed it.
-    pub fn is_due(&self, moment: u64) -> bool
-        ensures { result ≡ is_due moment self.now }
+    pub fn is_due(&self, moment: u64, claims: &[Claim]) -> bool
+        ensures { result ≡ is_due moment claims.now self.now }
     {
-        self.due <= moment && self.claim.is_none()
+        self.due <= moment && !is_claimed(claims, self.number)
     }
 
     /// Whether it goes on before another: it is due before it, or in the same second with a lower number.

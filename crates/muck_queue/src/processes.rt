@@ -2,8 +2,9 @@
 ghost use Rattle.std.specs.Prelude.{◌≡◌, ◌≤◌, length, find, not, map, if◌then◌else◌, Some, None};
 ghost use Rattle.std.specs.List.{count_by, list_any, position, position_or_len};
 ghost use Rattle.std.specs.Option.{option_and_then, option_map_or, option_copied};
-ghost use Rattle.muck_queue.specs.Queues.{at_state, has_pid, is_of, is_due, is_before, is_tied_to, runs, has_trigger, earliest, earlier, changed_first, without_first, without_all, claimed_by, without_trigger};
+ghost use Rattle.muck_queue.specs.Queues.{at_state, has_pid, is_of, is_due, is_before, is_tied_to, runs, has_trigger, earliest, earlier, changed_first, without_first, without_all, without_trigger};
 
+use crate::claim::Claim;
 use crate::process::Process;
 use muck_model::Dbref;
 use muf_running::Running;
@@ -55,27 +56,16 @@ fn earlier<'a>(best: Option<&'a Process>, p: &'a Process) -> &'a Process
 }
 
 /// The process that is to go on next.
-pub fn earliest(processes: &[Process], moment: u64) -> Option<&Process>
-    ensures { option_copied result ≡ earliest (is_due moment) processes.now }
+pub fn earliest<'a>(processes: &'a [Process], claims: &[Claim], moment: u64) -> Option<&'a Process>
+    ensures { option_copied result ≡ earliest (is_due moment claims.now) processes.now }
 {
     let mut best = None;
     for p in processes {
-        if p.is_due(moment) {
+        if p.is_due(moment, claims) {
             best = Some(earlier(best, p));
         }
     }
     best
-}
-
-/// A party claims the process of a number.
-pub fn claim(processes: &mut Vec<Process>, pid: i32, party: u8)
-    ensures { processes.new.items ≡ changed_first (has_pid pid) (claimed_by party) processes.old.items }
-{
-    let at = place_of(processes, pid);
-    if at < processes.len() {
-        let p = &mut processes[at];
-        p.claim = Some(party);
-    }
 }
 
 /// Takes out the state of a process, which keeps its place.

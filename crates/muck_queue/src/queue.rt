@@ -1,11 +1,12 @@
 // The processes of a world.
 ghost use Rattle.std.specs.Prelude.{◌≡◌, ◌≢◌, length, IfOk, OnOk, OnErr, Some, None};
 ghost use Rattle.std.specs.Option.{option_copied, option_map_or};
-ghost use Rattle.muck_queue.specs.Queues.{empty_queue, process, next_due, claimed, standing, state_of, without, is_full, added, is_tied, ended_tied, ended_running, trigger_cleared, number_most};
+ghost use Rattle.muck_queue.specs.Queues.{empty_queue, process, next_due, claimed, released, standing, state_of, without, is_full, added, is_tied, ended_tied, ended_running, trigger_cleared, number_most};
 ghost use Rattle.muck_queue.specs.inner.Adding.{Adds};
 ghost use Rattle.muck_queue.specs.inner.Leading.{IsNext};
 ghost use Rattle.muck_queue.specs.inner.Numbered.{IsNumbered};
 
+use crate::claim::{self, Claim};
 use crate::fault::QueueFault;
 use crate::process::Process;
 use crate::processes;
@@ -14,30 +15,34 @@ use muf_running::Running;
 use std::alloc::Global;
 use std::marker::Model;
 
-/// The processes of a world. Contracts see the processes by rising number, and the last number that was given; that their
-/// numbers rise from 1 on, and that none is above the last, is a rule of the type (`numbered`).
+/// The processes of a world. Contracts see the processes by rising number, the last number that was given, and the claims,
+/// which last until they are released, also those on processes that have ended; that the numbers of the processes rise
+/// from 1 on, and that none is above the last, is a rule of the type (`numbered`).
 ///
-/// There are as many processes as a wizard allows, at most 400. Each call costs at most a pass over them, `claim` two.
-/// Only `add` takes memory.
+/// There are as many processes as a wizard allows, at most 400. Each call costs at most a pass over them; where one is
+/// looked for that nobody has claimed, for each process that is due one over the claims, of which each party has one.
+/// Only `add` takes memory, which is for the claim on the new process too.
 #[derive(Drop)]
 pub struct Queue {
     processes: Vec<Process>,
     last: i32,
+    claims: Vec<Claim>,
 }
 
 impl Model for Queue {
     ghost use Rattle.std.specs.Coded.{codes};
     ghost use Rattle.muf_running.specs.contracts.running.Running as running;
     ghost use Rattle.muck_queue.specs.Queues.{Queue as Table};
-    ghost use Rattle.muck_queue.specs.inner.Numbered.{IsNumbered};
+    ghost use Rattle.std.specs.Prelude.{vec_capacity};
+    ghost use Rattle.muck_queue.specs.inner.Room.{Stands};
 
     ghost Value = { Table };
 
     ghost coded = { Prim.hlevel (codes, running.the_row.coded) };
 
-    ghost view = { λ q. record { processes = q.processes.items; last = q.last } };
+    ghost view = { λ q. record { processes = q.processes.items; last = q.last; claims = q.claims.items } };
 
-    ghost invariant = { λ q. IsNumbered (record { processes = q.processes.items; last = q.last }) };
+    ghost invariant = { λ q. Stands (vec_capacity q.claims) q.last q.claims.items q.processes.items };
 }
 
 impl Queue {
@@ -49,6 +54,7 @@ impl Queue {
         Queue {
             processes: Vec::new(alloc),
             last: 0,
+            claims: Vec::new(alloc),
         }
     }
 
@@ -84,7 +90,7 @@ impl Queue {
         Ok(number)
     }
 
-    // Puts a process behind all others, with the next number.
+    // Puts a process behind all others, with the next number, and makes room for the claim on it.
     #[tactic(auto, unfolding(crate::specs::Queues::added, crate::specs::Queues::number_most))]
     fn append(&mut self, process: Process) -> Result<i32, NoMemory>
         requires { self.old.last ≢ number_most }
@@ -95,6 +101,7 @@ impl Queue {
         let number = self.last + 1;
         let mut process = process;
         process.number = number;
+        self.claims.reserve(self.processes.len() + 1)?;
         self.processes.push(process)?;
         self.last = number;
         Ok(number)
@@ -105,9 +112,9 @@ impl Queue {
     #[tactic(auto, unfolding(crate::specs::Queues::next_due))]
     pub fn next_due(&self, moment: u64) -> Option<i32>
         ensures number { result ≡ next_due moment self.now }
-        ensures next { IsNext moment self.now.processes result }
+        ensures next { IsNext moment self.now.claims self.now.processes result }
     {
-        match processes::earliest(&self.processes, moment) {
+        match processes::earliest(&self.processes, &self.claims, moment) {
             Some(p) => Some(p.number),
             None => None,
         }
@@ -115,23 +122,26 @@ impl Queue {
 
     /// A party claims the process that is to go on next: it is due and claimed by nobody, and no other such process is due
     /// before it, or in the same second with a lower number. Answers its number; or `None` exactly where there is none, and
-    /// nothing has changed.
+    /// nothing has changed. The claim lasts until it is released, also where the process has ended.
+    #[tactic(auto, unfolding(crate::specs::Queues::claimed))]
     pub fn claim(&mut self, party: u8, moment: u64) -> Option<i32>
         ensures number { result ≡ next_due moment self.old }
-        ensures next { IsNext moment self.old.processes result }
+        ensures next { IsNext moment self.old.claims self.old.processes result }
         ensures state { self.new ≡ option_map_or (λ pid. claimed pid party self.old) result self.old }
     {
-        let pid = self.next_due(moment)?;
-        self.claim_one(pid, party);
-        Some(pid)
+        let Some(number) = self.next_due(moment) else {
+            return None;
+        };
+        self.claims.push_reserved(Claim { number, party });
+        Some(number)
     }
 
-    // A party claims the process of a number.
-    #[tactic(auto, unfolding(crate::specs::Queues::claimed))]
-    fn claim_one(&mut self, pid: i32, party: u8)
-        ensures { self.new ≡ claimed pid party self.old }
+    /// Nobody claims the process of a number any more; nothing has changed where nobody did.
+    #[tactic(auto, unfolding(crate::specs::Queues::released))]
+    pub fn release(&mut self, pid: i32)
+        ensures { self.new ≡ released pid self.old }
     {
-        processes::claim(&mut self.processes, pid, party);
+        claim::release(&mut self.claims, pid);
     }
 
     /// The process of a number.

@@ -1,16 +1,18 @@
 -- The process that is to go on may be claimed, and then sliced.
-use Rattle.std.proofs.Common.{◌≡◌, ℕ, ℤ, Bool, true, false, not, ◌&&◌, ◌||◌, ◌==◌, cond, List, [], ◌∷◌, refl, sym, ◌∙◌, ap, subst, arith, Option, Some, None}
-use Rattle.std.specs.Prelude.{fold}
+use Rattle.std.proofs.Common.{◌≡◌, ℕ, ℤ, Bool, true, false, not, ◌&&◌, ◌||◌, ◌==◌, cond, List, [], ◌∷◌, ◌++◌, refl, sym, ◌∙◌, ap, subst, arith, Option, Some, None}
+use Rattle.std.specs.Prelude.{fold, find, is_some}
 use Rattle.std.specs.List.{filter, reduce, list_any}
 use Rattle.std.specs.Option.{option_map}
+use Rattle.std.specs.Ordering.{int_eq}
 use Rattle.std.proofs.lemmas.Bool.{cond-false, or_right}
 use Rattle.std.proofs.lemmas.Bool.Decides.{nat_tests}
 use Rattle.std.proofs.lemmas.Cmp.{int_eq_equiv}
 use Rattle.muck_model.specs.declared.event.Event.TheVariants.{Claim, Slice}
+use Rattle.muck_queue.specs.declared.claim.Claim.{Claim as Claimed}
 use Rattle.muck_queue.specs.declared.process.Process.{Process}
-use Rattle.muck_queue.specs.Queues.{Queue, has_pid, is_due, is_before, earlier, earliest, next_due, claimed_by, changed_first, claimed}
+use Rattle.muck_queue.specs.Queues.{Queue, has_pid, is_due, is_on, is_before, earlier, earliest, next_due, claimed}
 use Rattle.spec_events.specs.World.{World, on_queue}
-use Rattle.spec_events.specs.Steps.{has_process, is_claimed_by, is_lawful, effect, next_process}
+use Rattle.spec_events.specs.Steps.{has_claim, is_there, is_lawful, effect, next_process}
 use Rattle.spec_events.specs.Sound.{IsSound}
 
 -- p is one of them
@@ -56,11 +58,11 @@ earliest_any : (test : Process → Bool) (ps : List Process) (pid : ℤ) → opt
 earliest_any test ps pid f = among_any test ps (filter test ps) pid refl f
 
 claim_may : (dead stop : Bool) (moment : ℕ) (q : Queue) (pid : ℤ) → dead ≡ false → cond (dead || stop) None (next_due moment q) ≡ Some pid →
-    cond dead false (list_any (λ p. has_pid pid p && is_due moment p) q.processes && not stop) ≡ true
+    cond dead false (list_any (λ p. has_pid pid p && is_due moment q.claims p) q.processes && not stop) ≡ true
 unfolding next_due
 claim_may true stop moment q pid a e = cc
 claim_may false true moment q pid a e = cc
-claim_may false false moment q pid a e = ap (λ b. b && true) (earliest_any (is_due moment) q.processes pid e)
+claim_may false false moment q pid a e = ap (λ b. b && true) (earliest_any (is_due moment q.claims) q.processes pid e)
 
 -- the choice of a turn may be claimed, by any party
 pub claim_lawful : (w : World) (party : ℕ) (pid : ℤ) → IsSound w → next_process w ≡ Some pid → is_lawful w (record { party = party; event = Claim pid }) ≡ true
@@ -72,17 +74,24 @@ claim_lawful w party pid h e = claim_may w.dead w.stopping w.moment w.queue pid 
 same_party : (n : ℕ) → (n == n) ≡ true
 same_party n = grind (arith, nat_tests)
 
-claimed_any : (test : Process → Bool) (pid : ℤ) (party : ℕ) (ps : List Process) → list_any (λ p. has_pid pid p && test p) ps ≡ true → list_any (λ p. has_pid pid p && is_claimed_by party p) (changed_first (has_pid pid) (claimed_by party) ps) ≡ true
-claimed_any test pid party [] = λ e. cc
-claimed_any test pid party (p ∷ ps) =
-    (elim (has_pid pid p) as (λ b. has_pid pid p ≡ b → ((b && test p) || list_any (λ p. has_pid pid p && test p) ps) ≡ true → list_any (λ p. has_pid pid p && is_claimed_by party p) (cond b (claimed_by party p ∷ ps) (p ∷ changed_first (has_pid pid) (claimed_by party) ps)) ≡ true) [
-      | true ↦ λ e a. ap (λ b. (b && (party == party)) || list_any (λ p. has_pid pid p && is_claimed_by party p) ps) e ∙ ap (λ b. b || list_any (λ p. has_pid pid p && is_claimed_by party p) ps) (same_party party)
-      | false ↦ λ e a. ap (λ b. (b && is_claimed_by party p) || list_any (λ p. has_pid pid p && is_claimed_by party p) (changed_first (has_pid pid) (claimed_by party) ps)) e ∙ claimed_any test pid party ps a
-    ]) refl
+last_any : (test : Claimed → Bool) (c : Claimed) (cs : List Claimed) → test c ≡ true → list_any test (cs ++ c ∷ []) ≡ true
+last_any test c [] e = ap (λ b. b || false) e
+last_any test c (x ∷ cs) e = or_right (test x) (list_any test (cs ++ c ∷ [])) (last_any test c cs e)
 
-slice_may : (w : World) (party : ℕ) (pid : ℤ) → w.dead ≡ false → list_any (λ p. has_pid pid p && is_due w.moment p) w.queue.processes ≡ true → cond w.dead false (has_process (is_claimed_by party) pid (on_queue (claimed pid party) w)) ≡ true
+there_any : (test : Process → Bool) (pid : ℤ) (ps : List Process) → list_any (λ p. has_pid pid p && test p) ps ≡ true → is_some (find (has_pid pid) ps) ≡ true
+there_any test pid [] = λ e. cc
+there_any test pid (p ∷ ps) =
+    elim (has_pid pid p) as (λ b. ((b && test p) || list_any (λ p. has_pid pid p && test p) ps) ≡ true → is_some (cond b (Some p) (find (has_pid pid) ps)) ≡ true) [
+      | true ↦ λ e. refl
+      | false ↦ λ e. there_any test pid ps e
+    ]
+
+slice_may : (w : World) (party : ℕ) (pid : ℤ) → w.dead ≡ false → list_any (λ p. has_pid pid p && is_due w.moment w.queue.claims p) w.queue.processes ≡ true → cond w.dead false (has_claim party pid (on_queue (claimed pid party) w) && is_there pid (on_queue (claimed pid party) w)) ≡ true
 unfolding claimed
-slice_may w party pid a e = cond-false _ _ _ a ∙ claimed_any (is_due w.moment) pid party w.queue.processes e
+slice_may w party pid a e =
+    let on : (int_eq pid pid && (party == party)) ≡ true = ap (λ b. b && (party == party)) (int_eq_equiv.refl pid) ∙ same_party party in
+    let mine = last_any (λ c. is_on pid c && (c.party == party)) (record { number = pid; party = party }) w.queue.claims on in
+    cond-false _ _ _ a ∙ ap (λ b. b && is_some (find (has_pid pid) w.queue.processes)) mine ∙ there_any (is_due w.moment w.queue.claims) pid w.queue.processes e
 
 due_of : (dead stop b : Bool) → dead ≡ false → cond dead false (b && not stop) ≡ true → b ≡ true
 due_of true stop b a e = cc

@@ -35,7 +35,7 @@ use Rattle.spec_commands.proofs.Permitted.{waited_open}
 use Rattle.spec_commands.proofs.Edited.{edited_proper}
 use Rattle.spec_commands.proofs.Sources.{edited_rewrites}
 use Rattle.muf_model.specs.Source.{Source}
-use Rattle.muck_queue.specs.Queues.{Queue}
+use Rattle.muck_queue.specs.declared.process.Process.{Process}
 use Rattle.spec_commands.proofs.Numbered.{numbers, numbers-same_ties, leavers_ties, Seats, Seating, seating_quiet, seating_order}
 use Rattle.spec_commands.proofs.Lines.{seating_at_login}
 use Rattle.spec_events.specs.World.{World, on_live}
@@ -272,10 +272,10 @@ ends_in_editor d player s line lines w told = at (is_open s (taken_out d lines w
 untouched_by : (d : ℕ) (w v : Live) → Seats d w v → Untouched w v
 untouched_by d w v s = record { objects = s.objects; tune = s.tune }
 
--- nothing but the queue is asked
-pub none_ends : (w v : World) → v.queue ≡ w.queue → ProcessesLicensed NoProcess w v
+-- nothing but the processes is asked
+pub none_ends : (w v : World) → v.queue.processes ≡ w.queue.processes → ProcessesLicensed NoProcess w v
 none_ends w v e =
-    let P : Queue → Type 0 = λ q. Lasting (λ t. ⊥) w.queue q in
+    let P : List Process → Type 0 = λ ps. Lasting (λ t. ⊥) w.queue (record w.queue { processes = ps }) in
     processes_remain (λ t. ⊥) NoProcess w v (λ p m. m) (subst P (sym e) (lasting_same (λ t. ⊥) w.queue))
 
 pub undisturbed : (may : Connection → Bool) (w : World) → Undisturbed may w w

@@ -2,7 +2,6 @@
 use Rattle.std.proofs.Common.{◌≡◌, ℕ, ℤ, pos, ◌+ℤ◌, suc, Bool, true, false, cond, List, [], ◌∷◌, ◌++◌, refl, sym, ◌∙◌, ap, subst, Option, Some, None, inl, inr, arith}
 use Rattle.std.specs.Prelude.{◌⊎◌, ◌+◌, map, find, not, slice_get}
 use Rattle.std.specs.Option.{option_map, option_map_or, option_and_then}
-use Rattle.std.specs.List.{list_any}
 use Rattle.std.specs.Ordering.{int_eq}
 use Rattle.std.proofs.lemmas.Option.{slice_get-map}
 use Rattle.muck_model.specs.declared.dbref.Dbref.{Dbref}
@@ -11,19 +10,18 @@ use Rattle.spec_live.specs.declared.mark.Mark.{Mark}
 use Rattle.spec_live.specs.declared.mark.Mark.TheVariants.{Lines, Gone}
 use Rattle.spec_live.specs.Objects.{Entry, dbref_of, mark_in}
 use Rattle.spec_live.specs.Marks.{unmarked}
-use Rattle.spec_live.specs.Lives.{Live, tell}
+use Rattle.spec_live.specs.Lives.{Live}
 use Rattle.spec_rights.specs.declared.act.Actor.{Actor}
 use Rattle.spec_rights.specs.declared.act.Act.TheVariants.{Start}
 use Rattle.spec_rights.specs.Verdict.{verdict}
 use Rattle.muf_model.specs.Tree.{Definition, Tree}
 use Rattle.muf_model.specs.Source.{Source, last_word}
-use Rattle.muf_model.specs.Chains.{programs_of}
 use Rattle.muck_library.specs.declared.flaw.Flaw.{Flaw}
 use Rattle.muck_library.specs.Library.{Library, formed}
 use Rattle.muck_library.specs.Programs.{built_tree}
 use Rattle.std.specs.Prelude.{Result, Ok, Err}
 use Rattle.muck_queue.specs.declared.process.Process.{Process}
-use Rattle.muck_queue.specs.Queues.{Queue, is_in, has_pid, has_trigger, runs, is_tied_to, without_trigger, without_all, process, added, claimed, claimed_by, changed_first, ended_tied, ended_running, trigger_cleared}
+use Rattle.muck_queue.specs.Queues.{Queue, is_in, has_pid, has_trigger, runs, is_tied_to, without_trigger, without_all, process, added, ended_tied, ended_running, trigger_cleared}
 use Rattle.muck_queue.specs.Queues as queues
 use Rattle.spec_commands.specs.declared.outcome.Outcome.{Outcome}
 use Rattle.spec_commands.specs.declared.outcome.Outcome.TheVariants.{Done, NotMine, Start as StartOutcome, Edit, Leave, Dump, Stop, Retune}
@@ -31,7 +29,7 @@ use Rattle.spec_commands.specs.declared.edit.EditStep.{EditStep}
 use Rattle.spec_commands.specs.declared.edit.EditStep.TheVariants.{Stay, Compile, Left}
 use Rattle.spec_commands.specs.Finding.{actor_of}
 use Rattle.spec_events.specs.declared.starting.Call.{Call as Started}
-use Rattle.spec_events.specs.World.{World, on_live, on_queue, with_library}
+use Rattle.spec_events.specs.World.{World, on_queue, with_library}
 use Rattle.spec_events.specs.Following.{unbuilt, followed, swept, settled}
 use Rattle.spec_events.specs.Starting.{foreground, new_process, beginning, joined, word_started, form_started, built_started, begun, start_told, start_judged, launched}
 use Rattle.spec_events.specs.declared.starting.Manner.{Manner}
@@ -135,22 +133,6 @@ clear d false p = (refl, refl)
 lasting_cleared : (may : Option Source → Type 0) (d : Dbref) (q : Queue) → Lasting may q (trigger_cleared d q)
 unfolding trigger_cleared
 lasting_cleared may d q pid = lasts_each may (λ p. cond (has_trigger d p) (without_trigger p) p) (λ p. clear d (has_trigger d p) p) pid q.processes
-
-pub lasts_claimed : (may : Option Source → Type 0) (party : ℕ) (pid at : ℤ) (ps : List Process) → Lasts may (find (has_pid at) ps) (find (has_pid at) (changed_first (has_pid pid) (claimed_by party) ps))
-lasts_claimed may party pid at [] = tt
-lasts_claimed may party pid at (p ∷ ps) = one (lasts_claimed may party pid at ps) (has_pid pid p)
-  where
-    first : (b : Bool) → Lasts may (cond b (Some p) (find (has_pid at) ps)) (cond b (Some (claimed_by party p)) (find (has_pid at) ps))
-    first true = inl refl
-    first false = lasts_same may (find (has_pid at) ps)
-
-    next : Lasts may (find (has_pid at) ps) (find (has_pid at) (changed_first (has_pid pid) (claimed_by party) ps)) → (b : Bool) → Lasts may (cond b (Some p) (find (has_pid at) ps)) (cond b (Some p) (find (has_pid at) (changed_first (has_pid pid) (claimed_by party) ps)))
-    next r true = inl refl
-    next r false = r
-
-    one : Lasts may (find (has_pid at) ps) (find (has_pid at) (changed_first (has_pid pid) (claimed_by party) ps)) → (c : Bool) → Lasts may (cond (has_pid at p) (Some p) (find (has_pid at) ps)) (find (has_pid at) (cond c (claimed_by party p ∷ ps) (p ∷ changed_first (has_pid pid) (claimed_by party) ps)))
-    one r true = first (has_pid at p)
-    one r false = next r (has_pid at p)
 
 -- What follows from a change of objects.
 

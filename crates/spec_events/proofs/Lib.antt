@@ -3,7 +3,10 @@ pub mod Told
 pub mod Endings
 pub mod Done
 pub mod Units
+mod Remaining
 pub mod Taken
+mod Judged
+mod Chained
 pub mod Living
 pub mod Reached
 pub mod Runs

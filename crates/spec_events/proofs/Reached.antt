@@ -6,7 +6,7 @@ use Rattle.std.specs.Prelude.{find, is_none, is_some, nat_lt}
 use Rattle.std.specs.Option.{option_map, option_map_or}
 use Rattle.muck_model.specs.declared.event.Entry.{Entry}
 use Rattle.muck_model.specs.declared.event.Event.{Event}
-use Rattle.muck_model.specs.declared.event.Event.TheVariants.{Opened, Input, Closed, Exec, Claim, Slice, Take, Halt, Died}
+use Rattle.muck_model.specs.declared.event.Event.TheVariants.{Opened, Input, Closed, Exec, Claim, Slice, Lost, Take, Halt, Died}
 use Rattle.muck_model.specs.declared.tune.Tune.{Tune}
 use Rattle.spec_live.specs.Objects.{Entry as Kept}
 use Rattle.spec_live.specs.Output.{bytes_of}
@@ -17,7 +17,7 @@ use Rattle.spec_commands.specs.Talk.{welcome, parted, gone_away}
 use Rattle.spec_commands.specs.Rising.{IsAbove, IsRising}
 use Rattle.spec_commands.proofs.Numbered.{numbers, rising_by, seating_quiet, seating_one}
 use Rattle.spec_commands.proofs.Lines.{quiet_parted}
-use Rattle.spec_events.specs.World.{World, connection, queue_of, is_leaving, on_live, booted, starting}
+use Rattle.spec_events.specs.World.{World, connection, queue_of, is_leaving, on_live, booted}
 use Rattle.spec_events.specs.Steps.{is_free, is_allowed, is_lawful, happened, effect, next_ready}
 use Rattle.spec_events.specs.Histories.{by_porter}
 use Rattle.spec_events.specs.Sound.{IsSound}
@@ -111,7 +111,8 @@ sound-happened (Input d line) party w other l h = sound-live (on_board (line_add
 sound-happened (Closed d) party w other l h = let v = sound-gone_away d w h in record { alive = v.alive; rising = v.rising }
 sound-happened (Exec d) party w other l h = sound-going w _ (done_going d w (connection d w) refl) h
 sound-happened (Claim pid) party w other l h = record { alive = h.alive; rising = h.rising }
-sound-happened (Slice pid) party w other l h = sound-going w _ (sliced_going pid w) h
+sound-happened (Slice pid) party w other l h = let v = sound-going w _ (sliced_going pid w) h in record { alive = v.alive; rising = v.rising }
+sound-happened (Lost pid) party w other l h = record { alive = h.alive; rising = h.rising }
 sound-happened (Take d n) party w other l h = sound-live (on_board (bytes_taken d n)) (λ v. ((seating_one d _ (λ c. refl)).law v).numbers) w h
 sound-happened Halt party w other l h = record { alive = h.alive; rising = h.rising }
 sound-happened Died party w other l h = absurd (other refl)

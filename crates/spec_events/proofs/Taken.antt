@@ -1,8 +1,6 @@
 -- Each unit of a slice changes only what is open to who acts in it.
 use Rattle.std.proofs.Common.{◌≡◌, ℕ, ℤ, zero, suc, List, [], ◌∷◌, map, refl, ◌∙◌, ap, subst, Option, Some, None}
-use Rattle.std.specs.Prelude.{All}
 use Rattle.std.specs.Option.{option_map_or}
-use Rattle.std.proofs.lemmas.List.Elements.{All-nil, All-cons}
 use Rattle.muck_model.specs.declared.dbref.Dbref.{Dbref}
 use Rattle.spec_live.specs.Lives.{Live, unchanged, tell_player}
 use Rattle.spec_rights.specs.declared.act.Actor.{Actor}
@@ -26,14 +24,13 @@ use Rattle.muck_library.specs.Library.{Library}
 use Rattle.muck_queue.specs.Queues.{standing, without}
 use Rattle.spec_events.specs.declared.starting.Agent.{Agent}
 use Rattle.spec_events.specs.World.{World}
-use Rattle.spec_events.specs.Slices.{acting, lifted, row_done, called, with_forms, deed, stands_at, ended_one, broken, program_error, Turn, on, over, went, after_deed, unit_done, limit_fault, within_limit, turn, world_of, unit_of, seat, then_more, run_of, last_world, units_of, sliced}
-use Rattle.spec_events.specs.Licences.{UnitLicensed, SliceLicensed}
+use Rattle.spec_events.specs.Slices.{acting, lifted, row_done, called, with_forms, deed, stands_at, ended_one, broken, program_error, Turn, on, over, went, after_deed, unit_done, limit_fault, within_limit, turn, world_of, unit_of, seat, then_more, run_of, last_world, sliced}
 use Rattle.spec_events.proofs.Quietly.{quietly_live, quietly_queue, quietly_library}
 use Rattle.spec_events.proofs.Told.{licensed_as}
 use Rattle.spec_events.proofs.Endings.{IsTold, told_settled}
 use Rattle.spec_events.proofs.Done.{told_by, Open, open_quietly, open_settled, Going, going_same, going_open}
 
-licensed_itself : (a : Actor) (w : Live) → Licensed a nobody w w
+pub licensed_itself : (a : Actor) (w : Live) → Licensed a nobody w w
 unfolding unchanged
 licensed_itself a w = (((whole_quiet a None (λ es. nobody) Always unchanged quiet_unchanged).law w).law tt tt).licensed
 
@@ -123,64 +120,9 @@ opens_limited : (pid : ℤ) (x : Agent) (s : Source) (w : World) (o : Option Muf
 opens_limited pid x s w (Some f) = opens_broken _ w pid x.player s.program.number f w (opens_itself _ w)
 opens_limited pid x s w None = opens_unit pid x s w (unit s) refl
 
-opens_turn : (left : ℕ) (pid : ℤ) (x : Agent) (s : Source) (w : World) → Opens (acting x s w.live.objects) w (world_of (turn left pid x s w))
+pub opens_turn : (left : ℕ) (pid : ℤ) (x : Agent) (s : Source) (w : World) → Opens (acting x s w.live.objects) w (world_of (turn left pid x s w))
 unfolding turn
 opens_turn left pid x s w = opens_limited pid x s w (limit_fault left)
-
--- Slices.
-
-module _ (pid : ℤ) where
-  licensed_more : (n : ℕ) → ((w : World) → All UnitLicensed (run_of n pid w)) → (t : Turn) → All UnitLicensed (then_more (run_of n pid) t)
-  licensed_more n h (on w) = h w
-  licensed_more n h (over w) = All-nil UnitLicensed
-
-  licensed_last : (w : World) (o : Option (Agent × Source)) → All UnitLicensed (option_map_or (λ q. unit_of q.0 q.1 w (turn zero pid q.0 q.1 w) ∷ []) o [])
-  licensed_last w None = All-nil UnitLicensed
-  licensed_last w (Some (x, s)) = All-cons UnitLicensed _ [] (opens_turn zero pid x s w).licensed (All-nil UnitLicensed)
-
-  licensed_next : (n : ℕ) (w : World) → ((v : World) → All UnitLicensed (run_of n pid v)) → (o : Option (Agent × Source)) →
-      All UnitLicensed (option_map_or (λ q. unit_of q.0 q.1 w (turn (suc n) pid q.0 q.1 w) ∷ then_more (run_of n pid) (turn (suc n) pid q.0 q.1 w)) o [])
-  licensed_next n w h None = All-nil UnitLicensed
-  licensed_next n w h (Some (x, s)) = All-cons UnitLicensed _ _ (opens_turn (suc n) pid x s w).licensed (licensed_more n h (turn (suc n) pid x s w))
-
-  units_licensed : (n : ℕ) (w : World) → All UnitLicensed (run_of n pid w)
-  unfolding run_of
-  units_licensed zero w = licensed_last w (seat pid w)
-  units_licensed (suc n) w = licensed_next n w (units_licensed n) (seat pid w)
-
-  pub slice_licensed : (w : World) → SliceLicensed (units_of pid w) w (sliced pid w)
-  unfolding sliced
-  slice_licensed w = record { units = units_licensed w.live.board.tune.m2_units w; leads = refl }
-
-  -- and the world lives on, with the same connections
-
-  going_both : (u v w : World) → Going u v → Going v w → Going u w
-  going_both u v w p q = record { numbers = q.numbers ∙ p.numbers; dead = q.dead ∙ p.dead }
-
-  going_turn : (n : ℕ) (x : Agent) (s : Source) (w : World) → Going w (world_of (turn n pid x s w))
-  going_turn n x s w = going_open (acting x s w.live.objects) nobody w _ (opens_turn n pid x s w)
-
-  going_more : (n : ℕ) → ((w : World) → Going w (last_world w (run_of n pid w))) → (t : Turn) → Going (world_of t) (last_world (world_of t) (then_more (run_of n pid) t))
-  going_more n h (on w) = h w
-  going_more n h (over w) = going_same w
-
-  going_last : (w : World) (o : Option (Agent × Source)) → Going w (last_world w (option_map_or (λ q. unit_of q.0 q.1 w (turn zero pid q.0 q.1 w) ∷ []) o []))
-  going_last w None = going_same w
-  going_last w (Some (x, s)) = going_turn zero x s w
-
-  going_next : (n : ℕ) (w : World) → ((v : World) → Going v (last_world v (run_of n pid v))) → (o : Option (Agent × Source)) →
-      Going w (last_world w (option_map_or (λ q. unit_of q.0 q.1 w (turn (suc n) pid q.0 q.1 w) ∷ then_more (run_of n pid) (turn (suc n) pid q.0 q.1 w)) o []))
-  going_next n w h None = going_same w
-  going_next n w h (Some (x, s)) = going_both w _ _ (going_turn (suc n) x s w) (going_more n h (turn (suc n) pid x s w))
-
-  going_run : (n : ℕ) (w : World) → Going w (last_world w (run_of n pid w))
-  unfolding run_of
-  going_run zero w = going_last w (seat pid w)
-  going_run (suc n) w = going_next n w (going_run n) (seat pid w)
-
-  pub sliced_going : (w : World) → Going w (sliced pid w)
-  unfolding sliced
-  sliced_going w = going_run w.live.board.tune.m2_units w
 
 -- Of what was told before a slice nothing is to be told behind it.
 
@@ -222,7 +164,7 @@ module _ (pid : ℤ) where
   told_limited x s (Some f) w h = told_broken x.player s.program.number f w h
   told_limited x s None w h = told_unit x s.program.number (unit s) w h
 
-  told_turn : (n : ℕ) (x : Agent) (s : Source) (w : World) → IsTold w.live → IsTold (world_of (turn n pid x s w)).live
+  pub told_turn : (n : ℕ) (x : Agent) (s : Source) (w : World) → IsTold w.live → IsTold (world_of (turn n pid x s w)).live
   unfolding turn
   told_turn n x s w h = told_limited x s (limit_fault n) w h
 
@@ -247,3 +189,34 @@ module _ (pid : ℤ) where
   pub told_sliced : (w : World) → IsTold w.live → IsTold (sliced pid w).live
   unfolding sliced
   told_sliced w h = told_run w.live.board.tune.m2_units w h
+
+-- The world lives on behind a slice, with the same connections.
+
+module _ (pid : ℤ) where
+  going_both : (u v w : World) → Going u v → Going v w → Going u w
+  going_both u v w p q = record { numbers = q.numbers ∙ p.numbers; dead = q.dead ∙ p.dead }
+
+  going_turn : (n : ℕ) (x : Agent) (s : Source) (w : World) → Going w (world_of (turn n pid x s w))
+  going_turn n x s w = going_open (acting x s w.live.objects) nobody w _ (opens_turn n pid x s w)
+
+  going_more : (n : ℕ) → ((w : World) → Going w (last_world w (run_of n pid w))) → (t : Turn) → Going (world_of t) (last_world (world_of t) (then_more (run_of n pid) t))
+  going_more n h (on w) = h w
+  going_more n h (over w) = going_same w
+
+  going_last : (w : World) (o : Option (Agent × Source)) → Going w (last_world w (option_map_or (λ q. unit_of q.0 q.1 w (turn zero pid q.0 q.1 w) ∷ []) o []))
+  going_last w None = going_same w
+  going_last w (Some (x, s)) = going_turn zero x s w
+
+  going_next : (n : ℕ) (w : World) → ((v : World) → Going v (last_world v (run_of n pid v))) → (o : Option (Agent × Source)) →
+      Going w (last_world w (option_map_or (λ q. unit_of q.0 q.1 w (turn (suc n) pid q.0 q.1 w) ∷ then_more (run_of n pid) (turn (suc n) pid q.0 q.1 w)) o []))
+  going_next n w h None = going_same w
+  going_next n w h (Some (x, s)) = going_both w _ _ (going_turn (suc n) x s w) (going_more n h (turn (suc n) pid x s w))
+
+  going_run : (n : ℕ) (w : World) → Going w (last_world w (run_of n pid w))
+  unfolding run_of
+  going_run zero w = going_last w (seat pid w)
+  going_run (suc n) w = going_next n w (going_run n) (seat pid w)
+
+  pub sliced_going : (w : World) → Going w (sliced pid w)
+  unfolding sliced
+  sliced_going w = going_run w.live.board.tune.m2_units w

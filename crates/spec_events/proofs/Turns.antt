@@ -1,8 +1,8 @@
 -- Each step changes only what is open.
-use Rattle.std.proofs.Common.{ℕ, ℤ, false, zero, suc, List, [], ◌∷◌, refl}
+use Rattle.std.proofs.Common.{ℕ, false, zero, suc, List, [], ◌∷◌, refl}
 use Rattle.muck_model.specs.declared.event.Entry.{Entry}
 use Rattle.muck_model.specs.declared.event.Event.{Event}
-use Rattle.muck_model.specs.declared.event.Event.TheVariants.{Opened, Input, Closed, Exec, Claim, Slice, Take}
+use Rattle.muck_model.specs.declared.event.Event.TheVariants.{Opened, Input, Closed, Exec, Slice, Take}
 use Rattle.spec_live.specs.Objects.{mark_in}
 use Rattle.spec_live.specs.Start.{first_objects}
 use Rattle.spec_live.specs.Boards.{player_in, opened, closed, line_added, bytes_taken}
@@ -11,16 +11,15 @@ use Rattle.spec_commands.specs.Talk.{gone_away}
 use Rattle.spec_rights.proofs.Shown.{quiet_one}
 use Rattle.spec_commands.proofs.Numbered.{leavers_ties}
 use Rattle.spec_commands.proofs.Lines.{quiet_parted}
-use Rattle.muck_queue.specs.Queues.{claimed}
-use Rattle.spec_events.specs.World.{World, booted, starting, connection, on_queue}
-use Rattle.spec_events.specs.Slices.{sliced}
+use Rattle.muck_queue.specs.Queues.{claimed, released}
+use Rattle.spec_events.specs.World.{World, booted, starting, connection}
 use Rattle.spec_events.specs.Steps.{effect, happened}
-use Rattle.spec_events.specs.Endings.{ProcessesLicensed, NoProcess}
 use Rattle.spec_events.specs.Licences.{Untouched, EventLicensed}
 use Rattle.spec_events.specs.Histories.{AllLicensed}
-use Rattle.spec_events.proofs.Endings.{lasts_claimed, IsTold, processes_remain, tied_remain}
+use Rattle.spec_events.proofs.Endings.{IsTold, tied_remain}
 use Rattle.spec_events.proofs.Done.{none_ends, undisturbed_quietly, turn_licensed, told_by, told_done}
-use Rattle.spec_events.proofs.Taken.{slice_licensed, told_sliced}
+use Rattle.spec_events.proofs.Taken.{told_sliced}
+use Rattle.spec_events.proofs.Chained.{slice_licensed}
 
 -- what a player does by a line is open to it, and at the login screen no object changes
 pub exec_licensed : (d : ℕ) (w : World) (party : ℕ) → IsTold w.live → EventLicensed (Exec d) w (happened w party (Exec d))
@@ -34,16 +33,11 @@ gone_away_untouched d w =
     let shown = parting.law v in
     record { objects = shown.objects; tune = shown.tune }
 
-claim_ends : (pid : ℤ) (party : ℕ) (w : World) → ProcessesLicensed NoProcess w (on_queue (claimed pid party) w)
-unfolding claimed
-claim_ends pid party w = processes_remain (λ s. ⊥) NoProcess w (on_queue (claimed pid party) w) (λ p m. m) (λ at. lasts_claimed (λ s. ⊥) party pid at w.queue.processes)
-
 event_licensed : (event : Event) (w : World) (party : ℕ) → IsTold w.live → EventLicensed event w (happened w party event)
-unfolding opened line_added bytes_taken
+unfolding opened line_added bytes_taken claimed released
 event_licensed (Exec d) w party told = exec_licensed d w party told
-event_licensed (Slice pid) w party told = slice_licensed pid w
+event_licensed (Slice pid) w party told = let s = slice_licensed pid w told in record { units = s.units; chained = s.chained; leads = s.leads; processes = s.processes }
 event_licensed (Closed d) w party told = (gone_away_untouched d w.live, tied_remain d w.queue)
-event_licensed (Claim pid) w party told = (record { objects = refl; tune = refl }, claim_ends pid party w, leavers_ties (λ c. false) w.live.board.connections w.live.board.connections refl)
 event_licensed (Opened d) w party told = (record { objects = refl; tune = refl }, none_ends w (happened w party (Opened d)) refl)
 event_licensed (Input d line) w party told = undisturbed_quietly (λ c. false) (on_board (line_added d line)) w (quiet_one d _ (λ c. refl))
 event_licensed (Take d n) w party told = undisturbed_quietly (λ c. false) (on_board (bytes_taken d n)) w (quiet_one d _ (λ c. refl))

@@ -11,7 +11,7 @@ use Rattle.muf_model.specs.Source.{Program}
 use Rattle.muf_model.specs.Chains.{callers_of}
 use Rattle.spec_prims.specs.Asking.{numbered}
 use Rattle.muck_queue.specs.declared.process.Process.{Process}
-use Rattle.muck_queue.specs.Queues.{process, runs}
+use Rattle.muck_queue.specs.Queues.{has_pid, process, runs}
 use Rattle.spec_commands.specs.Programming.{source_of}
 use Rattle.spec_events.specs.World.{World}
 
@@ -47,3 +47,8 @@ Lapsed d w v = (object_at d v.objects ≡ None) ⊎ (source_of d v ≡ source_of
 pub data MayEnd (a : Actor) (w v : Live) (p : Process) : Type 0 where
   by_actor : end_open a w.objects p ≡ true → MayEnd a w v p
   by_program : (program : Dbref) → runs program p ≡ true → Lapsed program w v → MayEnd a w v p
+
+-- in a unit of the process of this number a process may end by itself, or as a consequence for a program on its call stack
+pub data EndsIn (pid : ℤ) (w v : Live) (p : Process) : Type 0 where
+  by_itself : has_pid pid p ≡ true → EndsIn pid w v p
+  by_change : (program : Dbref) → runs program p ≡ true → Lapsed program w v → EndsIn pid w v p

@@ -1,5 +1,5 @@
 -- What a step may change.
-use Rattle.std.specs.Prelude.{◌≡◌, ℕ, All, Bool, true, false, List, ◌∷◌, Option, Some, None}
+use Rattle.std.specs.Prelude.{◌≡◌, ℕ, ℤ, All, Bool, true, false, List, [], ◌∷◌, Option, Some, None}
 use Rattle.muck_model.specs.declared.dbref.Dbref.{Dbref}
 use Rattle.muck_model.specs.declared.edit.EditState.{EditState}
 use Rattle.muck_model.specs.declared.event.Event.{Event}
@@ -12,9 +12,10 @@ use Rattle.spec_rights.specs.Licence.{Freedom, Licensed, LeaversLicensed, editin
 use Rattle.spec_commands.specs.Finding.{actor_of}
 use Rattle.spec_commands.specs.Free.{free_line}
 use Rattle.muck_queue.specs.Queues.{is_tied_to}
+use Rattle.spec_events.specs.declared.starting.Agent.{Agent}
 use Rattle.spec_events.specs.World.{World, connection}
-use Rattle.spec_events.specs.Slices.{Taken, last_world, units_of}
-use Rattle.spec_events.specs.Endings.{ProcessesLicensed, NoProcess, MayEnd}
+use Rattle.spec_events.specs.Slices.{Taken, acting, last_world, seat, units_of}
+use Rattle.spec_events.specs.Endings.{ProcessesLicensed, NoProcess, MayEnd, EndsIn}
 
 -- no object changes, and nothing that is tuned
 pub record Untouched (w v : Live) : Type 0 where
@@ -39,14 +40,30 @@ LineLicensed d (Some player) editor (line ∷ lines) w v =
     × ProcessesLicensed (MayEnd (actor_of w.live.objects player) w.live v.live) w v
 LineLicensed d player editor lines w v = Undisturbed (has_number d) w v
 
--- a unit changes only what is open to the running program, by the rights before it
-abbrev pub UnitLicensed : Taken → Type 0
-UnitLicensed t = Licensed t.actor nobody t.before.live t.after.live
+-- A unit changes only what is open to the running program, by the rights before it. Of the processes it ends its own, and
+-- such as run a program that it changed.
+abbrev pub UnitLicensed : ℤ → Taken → Type 0
+UnitLicensed pid t =
+    Licensed t.actor nobody t.before.live t.after.live × ProcessesLicensed (EndsIn pid t.before.live t.after.live) t.before t.after
 
--- the units of a slice lead to the world after it
-pub record SliceLicensed (ts : List Taken) (w v : World) : Type 0 where
-  pub units : All UnitLicensed ts
+-- A unit of the process begins in this world: at the state where the process stands in it, and by who acts there.
+pub record Begins (pid : ℤ) (w : World) (t : Taken) : Type 0 where
+  pub agent : Agent
+  pub world : t.before ≡ w
+  pub stands : seat pid w ≡ Some (agent, t.state)
+  pub acts : t.actor ≡ acting agent t.state w.live.objects
+
+-- the first unit begins in this world, and each other one where the one before it ended
+abbrev pub Chained : ℤ → World → List Taken → Type 0
+Chained pid w [] = Unit {0}
+Chained pid w (t ∷ ts) = Begins pid w t × Chained pid t.after ts
+
+-- the units of a slice lead from the world before it to the world after it
+pub record SliceLicensed (pid : ℤ) (ts : List Taken) (w v : World) : Type 0 where
+  pub units : All (UnitLicensed pid) ts
+  pub chained : Chained pid w ts
   pub leads : v.live ≡ (last_world w ts).live
+  pub processes : v.queue.processes ≡ (last_world w ts).queue.processes
 
 abbrev pub TurnLicensed : ℕ → Option Connection → World → World → Type 0
 TurnLicensed d (Some c) w v = LineLicensed d c.player c.editor c.waiting w v
@@ -56,7 +73,7 @@ TurnLicensed d None w v = Undisturbed (has_number d) w v
 -- that they are tied to.
 abbrev pub EventLicensed : Event → World → World → Type 0
 EventLicensed (Exec d) w v = TurnLicensed d (connection d w) w v
-EventLicensed (Slice pid) w v = SliceLicensed (units_of pid w) w v
+EventLicensed (Slice pid) w v = SliceLicensed pid (units_of pid w) w v
 EventLicensed (Closed d) w v = Untouched w.live v.live × ProcessesLicensed (λ p. is_tied_to d p ≡ true) w v
 EventLicensed (Opened d) w v = Untouched w.live v.live × ProcessesLicensed NoProcess w v
 EventLicensed event w v = Undisturbed (λ c. false) w v

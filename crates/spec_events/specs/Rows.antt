@@ -79,7 +79,9 @@ call_three = Literal (Object (dbref_of 3)) ∷ Primitive Call ∷ []
 abbrev pub try_three : Tree
 try_three = of_word (in_turn (Primitive Pop ∷ Literal (Int (pos 0)) ∷ []) (fork try_word 1 (in_turn call_three stop) 1 (in_turn tell_me stop) stop))
 
-rows :
+-- the rows
+unfoldable pub Rows : Type 0
+Rows =
     -- `pop 7 2 - intostr me @ swap notify`
     (shown_of (running (words (two_numbers ++ Primitive Subtract ∷ Primitive IntToStr ∷ tell_me))) ≡ shows (codes "5"))
     -- `pop pop`: the error names the program
@@ -90,5 +92,7 @@ rows :
     -- a called program tells a text; and its fault is caught by its caller
     × (shown_of (calling (words tell_me) (words call_three)) ≡ shows [])
     × (shown_of (calling (words (Primitive Pop ∷ [])) try_three) ≡ shows (codes "Stack underflow."))
-unfolding digits sent_lines queue_most lines_bytes line_sent lines_sent sent object_at number_in kind_in flags_in place_in object_in list_in changed_at first_tune early_board told_one told_player unchanged tell tell_player room_zero player_one level_at owner_at flag_at owns controls_as effective inherits level user controls controls_or empty_queue number_most is_full added standing without booted starting new_process form_at formed acting level_fault is_there near_fault first_fault shared row_done needing permitted existing programmed called program_called deed program_error swept settled turn run_of sliced
+
+pub rows : Rows
+unfolding Rows digits sent_lines queue_most lines_bytes line_sent lines_sent sent object_at number_in kind_in flags_in place_in object_in list_in changed_at first_tune early_board told_one told_player unchanged tell tell_player room_zero player_one level_at owner_at flag_at owns controls_as effective inherits level user controls controls_or empty_queue number_most is_full added standing without booted starting new_process form_at formed acting level_fault is_there near_fault first_fault shared row_done needing permitted existing programmed called program_called deed program_error swept settled turn run_of sliced
 rows = (refl, refl, refl, refl, refl, refl)

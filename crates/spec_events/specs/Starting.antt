@@ -42,7 +42,6 @@ new_process m c running = record {
   command = c.command;
   descr = m.descr;
   mode = m.mode;
-  claim = None;
   running = Some running;
 }
 

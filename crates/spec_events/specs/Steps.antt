@@ -4,12 +4,12 @@ use Rattle.std.specs.Option.{option_map, option_map_or}
 use Rattle.std.specs.List.{list_any}
 use Rattle.muck_model.specs.declared.event.Entry.{Entry}
 use Rattle.muck_model.specs.declared.event.Event.{Event}
-use Rattle.muck_model.specs.declared.event.Event.TheVariants.{Opened, Input, Closed, Exec, Claim, Slice, Take, Halt, Died}
+use Rattle.muck_model.specs.declared.event.Event.TheVariants.{Opened, Input, Closed, Exec, Claim, Slice, Lost, Take, Halt, Died}
 use Rattle.spec_live.specs.Connections.{Connection, is_ready, connections_most, takes_line, holds}
 use Rattle.spec_live.specs.Boards.{opened, line_added, bytes_taken}
 use Rattle.spec_live.specs.Lives.{on_board}
 use Rattle.muck_queue.specs.declared.process.Process.{Process}
-use Rattle.muck_queue.specs.Queues.{has_pid, is_due, next_due, claimed, is_tied, ended_tied}
+use Rattle.muck_queue.specs.Queues.{has_pid, process, is_due, is_on, next_due, claimed, released, is_tied, ended_tied}
 use Rattle.spec_commands.specs.Talk.{welcome, gone_away}
 use Rattle.spec_events.specs.World.{World, connection, unasked, on_live, on_queue, on_dumps}
 use Rattle.spec_events.specs.Lines.{done}
@@ -27,19 +27,24 @@ is_free w c = is_ready c && not (is_tied c.number w.queue)
 abbrev pub has_process : (Process → Bool) → ℤ → World → Bool
 has_process test pid w = list_any (λ p. has_pid pid p && test p) w.queue.processes
 
+-- it is there
+abbrev pub is_there : ℤ → World → Bool
+is_there pid w = is_some (process pid w.queue)
+
 -- this party has claimed it
-abbrev pub is_claimed_by : ℕ → Process → Bool
-is_claimed_by party p = option_map_or (λ n. n == party) p.claim false
+abbrev pub has_claim : ℕ → ℤ → World → Bool
+has_claim party pid w = list_any (λ c. is_on pid c && c.party == party) w.queue.claims
 
 -- Lawful in a world that isn't dead. Connections and what runs over them are the first party's alone, and so is the end of
--- the run; lines and processes are any party's. An event that nothing uses yet is lawful nowhere.
+-- the run; lines and processes are any party's. Of the events that nothing uses yet Lost alone is lawful anywhere.
 abbrev pub is_allowed : World → ℕ → Event → Bool
 is_allowed w party (Opened d) = party == 0 && is_none (connection d w) && nat_lt (length w.live.board.connections) connections_most && not w.stopping
 is_allowed w party (Input d line) = party == 0 && passes takes_line d w && not w.stopping
 is_allowed w party (Closed d) = party == 0 && is_some (connection d w)
 is_allowed w party (Exec d) = passes (is_free w) d w && not w.stopping
-is_allowed w party (Claim pid) = has_process (is_due w.moment) pid w && not w.stopping
-is_allowed w party (Slice pid) = has_process (is_claimed_by party) pid w
+is_allowed w party (Claim pid) = has_process (is_due w.moment w.queue.claims) pid w && not w.stopping
+is_allowed w party (Slice pid) = has_claim party pid w && is_there pid w
+is_allowed w party (Lost pid) = has_claim party pid w && not (is_there pid w)
 is_allowed w party (Take d n) = party == 0 && nat_lt 0 n && passes (holds n) d w
 is_allowed w party Halt = party == 0
 is_allowed w party Died = true
@@ -53,14 +58,15 @@ is_died event = false
 unfoldable pub is_lawful : World → Entry → Bool
 is_lawful w entry = if w.dead then is_died entry.event else is_allowed w entry.party entry.event
 
--- the world after an event of a party
+-- The world after an event of a party. A claim lasts until its party has taken the slice, or has learned that the process ended.
 abbrev pub happened : World → ℕ → Event → World
 happened w party (Opened d) = on_live (on_board (opened d welcome)) w
 happened w party (Input d line) = on_live (on_board (line_added d line)) w
 happened w party (Closed d) = on_dumps (unasked d) (on_queue (ended_tied d) (on_live (gone_away d) w))
 happened w party (Exec d) = done d (connection d w) w
 happened w party (Claim pid) = on_queue (claimed pid party) w
-happened w party (Slice pid) = sliced pid w
+happened w party (Slice pid) = on_queue (released pid) (sliced pid w)
+happened w party (Lost pid) = on_queue (released pid) w
 happened w party (Take d n) = on_live (on_board (bytes_taken d n)) w
 happened w party Halt = record w { stopping = true }
 happened w party Died = record w { dead = true }

@@ -4,9 +4,11 @@
 #![tactic(auto)]
 
 mod agents;
+mod rows;
 mod starting;
 mod texts;
 
 pub use agents::ends_what_runs_it;
+pub use rows::rows_hold;
 pub use starting::{Agent, Call, Manner};
 pub use texts::{error_text, flaw_text};

@@ -69,7 +69,6 @@ fn add(
         command,
         descr: u32::try_from(program.0).ok(),
         mode: Mode::Foreground,
-        claim: None,
         running: Some(running),
     };
     let added = queue.add(process, &TUNE);
@@ -83,16 +82,13 @@ fn told(out: &mut String, process: Option<&Process>) -> Result<(), NoMemory> {
         return Ok(out.push_str("none")?);
     };
     let (number, due) = (process.number, process.due);
-    let (claim, trigger) = (process.claim, process.trigger.0);
-    write!(
-        out,
-        "{number}, due {due}, claim {claim:?}, trigger #{trigger}"
-    )?;
+    let trigger = process.trigger.0;
+    write!(out, "{number}, due {due}, trigger #{trigger}")?;
     Ok(())
 }
 
-/// `queue add PLAYER DUE PROGRAM`, `due SECOND`, `claim PARTY SECOND`, `take NUMBER`, `show NUMBER`, `full PLAYER`, `tied CONNECTION`,
-/// `count`.
+/// `queue add PLAYER DUE PROGRAM`, `due SECOND`, `claim PARTY SECOND`, `release NUMBER SECOND`, `take NUMBER`, `show NUMBER`,
+/// `full PLAYER`, `tied CONNECTION`, `count`.
 pub fn queue(
     alloc: Global,
     out: &mut String,
@@ -110,6 +106,10 @@ pub fn queue(
     match verb {
         b"due" => Ok(write!(out, "{:?}", queue.next_due(u64::from(number)))?),
         b"claim" => Ok(write!(out, "{:?}", queue.claim(number, second))?),
+        b"release" => {
+            queue.release(pid);
+            Ok(write!(out, "{:?}", queue.next_due(second))?)
+        }
         b"take" => told(out, queue.take(pid).as_ref()),
         b"show" => told(out, queue.get(pid)),
         b"full" => Ok(write!(out, "{}", queue.is_full(player, &TUNE))?),

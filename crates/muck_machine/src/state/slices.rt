@@ -17,7 +17,7 @@ use muf_running::{Ran, Running, Stint};
 use spec_events::{Agent, error_text};
 
 impl State {
-    /// The units of a process, as many as any process may take, until it is over; where there is none nothing happens.
+    /// The units of a process, as many as any process may take, until it is over, and then nobody claims it any more.
     /// Each unit costs what it touches. Before and after those that run at once the process is looked for, which is a
     /// pass over at most 400.
     #[tactic(auto, unfolding(spec_events::specs::Slices::sliced))]
@@ -25,7 +25,9 @@ impl State {
         ensures { OnOk result (self.new ≡ happened self.old 0 (Event.Slice pid)) }
     {
         let limit = self.board.tune().m2_units;
-        self.take_units(pid, limit)
+        self.take_units(pid, limit)?;
+        self.queue.release(pid);
+        Ok(())
     }
 
     // The units of a process that has so many.

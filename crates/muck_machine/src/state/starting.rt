@@ -127,7 +127,6 @@ impl State {
                 command,
                 descr,
                 mode,
-                claim: None,
                 running: Some(running),
             }),
         }

@@ -1,6 +1,5 @@
 -- Worked examples, which the checker computes.
 use Rattle.std.specs.Prelude.{◌≡◌, ℕ, ℤ, pos, true, false, List, [], ◌∷◌, map, refl, codes, Some, None}
-use Rattle.std.specs.Option.{option_map}
 use Rattle.muck_model.specs.declared.tune.Tune.{Tune}
 use Rattle.spec_live.specs.Objects.{dbref_of, nothing}
 use Rattle.muf_model.specs.declared.code.Closer.TheVariants.{Semicolon}
@@ -8,7 +7,7 @@ use Rattle.muf_model.specs.Tree.{stop, closes}
 use Rattle.muf_model.specs.Source.{Program, Source, entering}
 use Rattle.muck_queue.specs.declared.process.Process.{Process}
 use Rattle.muck_queue.specs.declared.process.Mode.TheVariants.{Foreground}
-use Rattle.muck_queue.specs.Queues.{Queue, process, next_due, claimed, without, is_full, added, is_tied, ended_tied, ended_running, trigger_cleared, number_most}
+use Rattle.muck_queue.specs.Queues.{Queue, next_due, claimed, released, without, is_full, added, is_tied, ended_tied, ended_running, trigger_cleared, number_most}
 
 abbrev pub program_of : ℤ → Program
 program_of number = record { number = number; tree = record { words = []; variables = 0 } }
@@ -36,7 +35,6 @@ process_in program callers n due = record {
   command = codes "go";
   descr = None;
   mode = Foreground;
-  claim = None;
   running = Some (standing_in program callers);
 }
 
@@ -55,7 +53,7 @@ numbers q = map (λ p. p.number) q.processes
 
 -- 1 is due in second 5, 2 and 4 in second 3, and 4 numbers were given
 abbrev pub three : Queue
-three = record { processes = sample (pos 1) 5 ∷ sample (pos 2) 3 ∷ sample (pos 4) 3 ∷ []; last = pos 4 }
+three = record { processes = sample (pos 1) 5 ∷ sample (pos 2) 3 ∷ sample (pos 4) 3 ∷ []; last = pos 4; claims = [] }
 
 -- Which is claimed.
 
@@ -83,9 +81,19 @@ its_second_row : next_due 3 three ≡ Some (pos 2)
 unfolding next_due
 its_second_row = refl
 
-claimed_row : option_map (λ p. p.claim) (process (pos 2) (claimed (pos 2) 7 three)) ≡ Some (Some 7)
+-- who has what, also once it has ended
+claimed_row : (claimed (pos 2) 7 three).claims ≡ record { number = pos 2; party = 7 } ∷ []
 unfolding claimed
 claimed_row = refl
+
+ended_row : (without (pos 2) (claimed (pos 2) 7 three)).claims ≡ record { number = pos 2; party = 7 } ∷ []
+unfolding claimed without
+ended_row = refl
+
+-- until it is released
+released_row : next_due 9 (released (pos 2) (claimed (pos 4) 7 (claimed (pos 2) 7 three))) ≡ Some (pos 2)
+unfolding next_due claimed released
+released_row = refl
 
 -- Adding and taking.
 
@@ -108,7 +116,7 @@ limits most own = record {
 }
 
 abbrev pub of_two : Queue
-of_two = record { processes = sample (pos 1) 5 ∷ of_player 2 (sample (pos 2) 5) ∷ []; last = pos 2 }
+of_two = record { processes = sample (pos 1) 5 ∷ of_player 2 (sample (pos 2) 5) ∷ []; last = pos 2; claims = [] }
 
 has_room_row : is_full (dbref_of 1) (limits 3 2) of_two ≡ false
 unfolding is_full number_most
@@ -126,14 +134,14 @@ other_player_row : is_full (dbref_of 3) (limits 3 1) of_two ≡ false
 unfolding is_full number_most
 other_player_row = refl
 
-no_number_row : is_full (dbref_of 3) (limits 3 1) (record { processes = []; last = pos 2147483647 }) ≡ true
+no_number_row : is_full (dbref_of 3) (limits 3 1) (record { processes = []; last = pos 2147483647; claims = [] }) ≡ true
 unfolding is_full number_most
 no_number_row = refl
 
 -- What ends.
 
 abbrev pub ties : Queue
-ties = record { processes = tied_to 7 (sample (pos 1) 5) ∷ sample (pos 2) 5 ∷ tied_to 8 (sample (pos 3) 5) ∷ []; last = pos 3 }
+ties = record { processes = tied_to 7 (sample (pos 1) 5) ∷ sample (pos 2) 5 ∷ tied_to 8 (sample (pos 3) 5) ∷ []; last = pos 3; claims = [] }
 
 is_tied_row : is_tied 7 ties ≡ true
 unfolding is_tied
@@ -152,6 +160,7 @@ abbrev pub runners : Queue
 runners = record {
   processes = sample (pos 1) 5 ∷ process_in (pos 6) (pos 5 ∷ []) (pos 2) 5 ∷ process_in (pos 6) [] (pos 3) 5 ∷ [];
   last = pos 3;
+  claims = [];
 }
 
 ended_running_row : numbers (ended_running (dbref_of 5) runners) ≡ pos 3 ∷ []

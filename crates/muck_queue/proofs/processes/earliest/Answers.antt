@@ -12,12 +12,12 @@ loop-p-preserved c =
       | then-is_due w ↦
           ap option_copied w.best-is
           ∙ ap Some (w.earlier.ensures ∙ ap (λ o. option_map_or (λ q. earlier q c.p-item.result) o c.p-item.result) c.loop-p.invariant)
-          ∙ sym (earliest_more (is_due c.args.moment) _ _ _ c.loop-p-test.true c.p-item.is (sym c.is_due.ensures ∙ w.if-is_due.true))
+          ∙ sym (earliest_more (is_due c.args.moment c.args.claims.now) _ _ _ c.loop-p-test.true c.p-item.is (sym c.is_due.ensures ∙ w.if-is_due.true))
       | else-is_due w ↦
           ap option_copied w.best-is
           ∙ c.loop-p.invariant
-          ∙ sym (earliest_same (is_due c.args.moment) _ _ _ c.loop-p-test.true c.p-item.is (sym c.is_due.ensures ∙ w.if-is_due.false))
+          ∙ sym (earliest_same (is_due c.args.moment c.args.claims.now) _ _ _ c.loop-p-test.true c.p-item.is (sym c.is_due.ensures ∙ w.if-is_due.false))
     ]
 
 pub returns : goal.returns
-returns c = c.loop-p.invariant ∙ ap (earliest (is_due c.args.moment)) (take_all _ _ c.loop-p-test.false)
+returns c = c.loop-p.invariant ∙ ap (earliest (is_due c.args.moment c.args.claims.now)) (take_all _ _ c.loop-p-test.false)

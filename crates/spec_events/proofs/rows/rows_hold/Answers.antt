@@ -1,0 +1,5 @@
+use Rattle.spec_events.specs.Rows.{rows}
+use Rattle.spec_events.proofs.rows.rows_hold.Goals as goal
+
+pub returns : goal.returns
+returns c = record { rows = rows }
