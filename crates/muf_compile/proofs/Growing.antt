@@ -54,18 +54,22 @@ row_offered code n o _ _ place end h = absurd h
 
 -- A builder and a growth that fit, by their parts.
 module _ (b : Built) (g : Growth) (fit : WordsStand b.code b.words g.words) (row : InRow b.code 0 b.words g.words b.start) (named : b.title ≡ g.title) where
+  -- other code that keeps what stands fits the same words, with these items and this open round them
+  fits_on : (other : List Placed) → Extends b.code other → (start : ℕ) (now : Block) (us : List Unfinished) (os : List Pending) → From other start now (length other) → start ≤ length other → OpensFit other b.start us os start → BuiltFits (with_code b other os) (with_part g now us)
+  fits_on other x start now us os items within o = record {
+    start = start;
+    items = items;
+    within = within;
+    opens = o;
+    words = words_kept b.code other x b.words g.words fit;
+    row = row_kept b.code other x b.words g.words 0 b.start row;
+    title = named;
+  }
+
   -- one more item in other code, after those before it
   item_joins : (other : List Placed) → Extends b.code other → (before item : Block) (us : List Unfinished) (os : List Pending) (start at bound : ℕ) → From b.code start before at → start ≤ at → at ≤ length other → OpensFit b.code b.start us os start → start ≤ bound → ((p line : ℕ) → p < bound → IsAt b.code p line Unset → IsAt other p line Unset) → Stands other at item (λ p. p ≡ length other) → BuiltFits (with_code b other os) (with_item g before us item)
   item_joins other x before item us os start at bound h le end o small holes s =
-      record {
-        start = start;
-        items = joins other before item start at _ (stands_kept b.code other x before start _ _ (λ p e. e) h) s;
-        within = omega arith;
-        opens = opens_kept b.code other x b.start bound holes small o;
-        words = words_kept b.code other x b.words g.words fit;
-        row = row_kept b.code other x b.words g.words 0 b.start row;
-        title = named;
-      }
+      fits_on other x start _ us os (joins other before item start at _ (stands_kept b.code other x before start _ _ (λ p e. e) h) s) (omega arith) (opens_kept b.code other x b.start bound holes small o)
 
   module _ (us : List Unfinished) (os : List Pending) (start : ℕ) (items : From b.code start g.now (length b.code)) (within : start ≤ length b.code) (o : OpensFit b.code b.start us os start) where
     -- one more instruction
@@ -83,15 +87,8 @@ module _ (b : Built) (g : Growth) (fit : WordsStand b.code b.words g.words) (row
         let v : Placed = record { line = line; instr = Unset } in
         let len : length (code ++ v ∷ []) ≡ length code + 1 = length-append code (v ∷ []) in
         let y : Extends code (code ++ v ∷ []) = extends_append code _ in
-        record {
-          start = length code + 1;
-          items = sym len;
-          within = omega arith;
-          opens = in_first (length code) (stands_kept code _ y g.now start _ _ (λ p e. e) items) within (get_end code v) (opens_kept code _ y b.start start (λ p row l e. get_append code _ p _ e) (omega arith) o);
-          words = words_kept code _ y b.words g.words fit;
-          row = row_kept code _ y b.words g.words 0 b.start row;
-          title = named;
-        }
+        fits_on _ y (length code + 1) stop _ _ (sym len) (omega arith)
+        (in_first (length code) (stands_kept code _ y g.now start _ _ (λ p e. e) items) within (get_end code v) (opens_kept code _ y b.start start (λ p row l e. get_append code _ p _ e) (omega arith) o))
 
     -- a loop that begins with no test
     begin_opens : (k : Ring) (line : ℕ) → BuiltFits (with_code b (emitted b.code line Unset) (ring_open k (hole (length b.code) line us) ∷ os)) (with_part g stop (turning k line g.now ∷ us))
@@ -100,15 +97,8 @@ module _ (b : Built) (g : Growth) (fit : WordsStand b.code b.words g.words) (row
         let v : Placed = record { line = line; instr = Unset } in
         let len : length (code ++ v ∷ []) ≡ length code + 1 = length-append code (v ∷ []) in
         let y : Extends code (code ++ v ∷ []) = extends_append code _ in
-        record {
-          start = length code + 1;
-          items = sym len;
-          within = omega arith;
-          opens = in_turn {k = k} (length code) (stands_kept code _ y g.now start _ _ (λ p e. e) items) within (get_end code v) (opens_kept code _ y b.start start (λ p row l e. get_append code _ p _ e) (omega arith) o);
-          words = words_kept code _ y b.words g.words fit;
-          row = row_kept code _ y b.words g.words 0 b.start row;
-          title = named;
-        }
+        fits_on _ y (length code + 1) stop _ _ (sym len) (omega arith)
+        (in_turn {k = k} (length code) (stands_kept code _ y g.now start _ _ (λ p e. e) items) within (get_end code v) (opens_kept code _ y b.start start (λ p row l e. get_append code _ p _ e) (omega arith) o))
 
     -- FOR and FOREACH, with their test
     test_opens : (k : Ring) (line : ℕ) (w : Word) → BuiltFits (with_code b (emitted (emitted b.code line Unset) line (Plain w)) (ring_open k (hole (length b.code) line us) ∷ os)) (with_part g (word line w stop) (turning k line g.now ∷ us))
@@ -119,15 +109,8 @@ module _ (b : Built) (g : Growth) (fit : WordsStand b.code b.words g.words) (row
         let len : length (code ++ v ∷ []) ≡ length code + 1 = length-append code (v ∷ []) in
         let whole : length ((code ++ v ∷ []) ++ t ∷ []) ≡ length code + 1 + 1 = length-append (code ++ v ∷ []) (t ∷ []) ∙ ap (λ n. n + 1) len in
         let y : Extends code ((code ++ v ∷ []) ++ t ∷ []) = extends_two _ _ _ (extends_append code _) (extends_append _ _) in
-        record {
-          start = length code + 1;
-          items = (rw (← len) (get_end (code ++ v ∷ []) t), sym whole);
-          within = omega arith;
-          opens = in_turn {k = k} (length code) (stands_kept code _ y g.now start _ _ (λ p e. e) items) within (get_append (code ++ v ∷ []) _ _ _ (get_end code v)) (opens_kept code _ y b.start start (λ p row l e. get_append _ _ p _ (get_append code _ p _ e)) (omega arith) o);
-          words = words_kept code _ y b.words g.words fit;
-          row = row_kept code _ y b.words g.words 0 b.start row;
-          title = named;
-        }
+        fits_on _ y (length code + 1) (word line w stop) _ _ (rw (← len) (get_end (code ++ v ∷ []) t), sym whole) (omega arith)
+        (in_turn {k = k} (length code) (stands_kept code _ y g.now start _ _ (λ p e. e) items) within (get_append (code ++ v ∷ []) _ _ _ (get_end code v)) (opens_kept code _ y b.start start (λ p row l e. get_append _ _ p _ (get_append code _ p _ e)) (omega arith) o))
 
   module _ (us : List Unfinished) (os : List Pending) (before : Block) (at line start : ℕ) (items : From b.code (at + 1) g.now (length b.code)) (within : at + 1 ≤ length b.code) (h : From b.code start before at) (le : start ≤ at) (u : IsAt b.code at line Unset) (o : OpensFit b.code b.start us os start) where
     -- THEN with no ELSE
@@ -152,15 +135,8 @@ module _ (b : Built) (g : Growth) (fit : WordsStand b.code b.words g.words) (row
         let len : length other ≡ length code + 1 = length-set longer at i ∙ length-append code (v ∷ []) in
         let w : IsAt longer at line Unset = get_append code _ at _ u in
         let y : Extends code other = extends_two code longer other (extends_append code _) (extends_set longer at line i w) in
-        record {
-          start = length code + 1;
-          items = sym len;
-          within = omega arith;
-          opens = in_second at (stands_kept code other y before start _ _ (λ p e. e) h) le (omega arith) (get_set_same longer at _ i w) (stands_kept code other y g.now (at + 1) _ _ (λ p e. e) items) (get_set_other longer at (length code) v i (λ h. omega arith) (get_end code v)) (opens_kept code other y b.start at (λ p row l e. get_set_other longer at p _ i (λ h. omega arith) (get_append code _ p _ e)) le o);
-          words = words_kept code other y b.words g.words fit;
-          row = row_kept code other y b.words g.words 0 b.start row;
-          title = named;
-        }
+        fits_on _ y (length code + 1) stop _ _ (sym len) (omega arith)
+        (in_second at (stands_kept code other y before start _ _ (λ p e. e) h) le (omega arith) (get_set_same longer at _ i w) (stands_kept code other y g.now (at + 1) _ _ (λ p e. e) items) (get_set_other longer at (length code) v i (λ h. omega arith) (get_end code v)) (opens_kept code other y b.start at (λ p row l e. get_set_other longer at p _ i (λ h. omega arith) (get_append code _ p _ e)) le o))
 
     -- REPEAT and UNTIL
     loop_closes : (k : Ring) (last : ℕ) (c : Closer) → BuiltFits (with_code b (slice_set (emitted b.code last (Close c)) at (record { line = line; instr = ring_instr k (length b.code + 1) })) os) (with_item g before us (ring k line g.now c last stop))

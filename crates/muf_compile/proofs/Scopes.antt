@@ -3,6 +3,7 @@ use Rattle.std.proofs.Common.{◌≡◌, ℕ, zero, suc, ◌+◌, List, [], ◌�
 use Rattle.std.specs.Prelude.{Option, Some, None, is_some, option_map, find, codes}
 use Rattle.std.specs.Str.{bytes_eq}
 use Rattle.std.specs.Map.{lookup}
+use Rattle.std.specs.Option.{option_or}
 use Rattle.std.proofs.lemmas.Slice.Eq.{bytes_eq-Decides}
 use Rattle.indexmap.specs.IndexMap.{insert_entry}
 use Rattle.muf_model.specs.declared.code.VarId.{VarId}
@@ -15,7 +16,7 @@ use Rattle.muf_compile.specs.declared.control.Control.{Control}
 use Rattle.muf_compile.specs.declared.control.Control.TheVariants as control
 use Rattle.muf_compile.specs.declared.names.Meaning.{Meaning}
 use Rattle.muf_compile.specs.declared.names.Meaning.TheVariants as meaning
-use Rattle.muf_compile.specs.Names.{control_words, control_of, standing_of, or_else}
+use Rattle.muf_compile.specs.Names.{control_words, control_of, standing_of}
 use Rattle.muf_compile.specs.Reading.{Known, item_of, word_of, number_in, number_of, is_unfit, name_fault}
 use Rattle.muf_compile.specs.Grammar.{Scope, IsNth, process_names, Names, of_word, of_process, of_program, of_local, of_primitive, IsFree}
 
@@ -178,7 +179,7 @@ module _ (k : Known) (ws vs ls : List (List ℕ)) (entered : Entered k.names ws 
   scope = record { words = ws; variables = vs; locals = ls }
 
   word_in : (a : Option VarId) (b : Option Meaning) (c : Option VarId) (d : Option Primitive) → Option Word
-  word_in a b c d = or_else (option_map item.Variable a) (or_else (option_map item_of b) (or_else (option_map item.Variable c) (option_map item.Primitive d)))
+  word_in a b c d = option_or (option_map item.Variable a) (option_or (option_map item_of b) (option_or (option_map item.Variable c) (option_map item.Primitive d)))
 
   -- a word that has a meaning names it
   pub named_by : (w : Word) → word_of name k ≡ Some w → Names (record { words = ws; variables = vs; locals = ls }) name w

@@ -1,15 +1,10 @@
 -- The words that mean something in every program.
-use Rattle.std.specs.Prelude.{ℕ, Bool, if◌then◌else◌, List, [], ◌∷◌, Option, Some, None, option_map, find, codes}
+use Rattle.std.specs.Prelude.{ℕ, if◌then◌else◌, List, [], ◌∷◌, Option, Some, None, option_map, find, codes}
 use Rattle.std.specs.Str.{bytes_eq}
 use Rattle.std.specs.Borrow.{Bor}
 use Rattle.muf_model.specs.declared.code.VarId.{VarId}
 use Rattle.muf_compile.specs.declared.control.Control.{Control}
 use Rattle.muf_compile.specs.declared.control.Control.TheVariants as control
-
--- the first of two answers
-abbrev pub or_else : {A : Type 0} → Option A → Option A → Option A
-or_else (Some a) b = Some a
-or_else None b = b
 
 -- a row of a table of words
 abbrev pub word_row : Bor (List ℕ) × Control → List ℕ × Control

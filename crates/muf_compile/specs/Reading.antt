@@ -2,6 +2,7 @@
 use Rattle.std.specs.Prelude.{◌≡◌, ℕ, zero, suc, ◌+◌, Bool, true, false, ◌||◌, ◌==◌, nat_lt, if◌then◌else◌, List, [], ◌∷◌, length, Option, Some, None, is_some, option_map, Result, Ok, Err, codes}
 use Rattle.std.specs.Str.{bytes_eq}
 use Rattle.std.specs.Map.{lookup}
+use Rattle.std.specs.Option.{option_or}
 use Rattle.indexmap.specs.IndexMap.{insert_entry}
 use Rattle.muf_model.specs.declared.code.VarId.{VarId}
 use Rattle.muf_model.specs.declared.code.Offer.{Offer}
@@ -31,7 +32,7 @@ use Rattle.muf_compile.specs.declared.fault.CompileFault.TheVariants.{Refused, N
 use Rattle.muf_compile.specs.declared.fault.CompileKind.{CompileKind}
 use Rattle.muf_compile.specs.declared.fault.CompileKind.TheVariants.{UnknownWord, DoubleName, BadHeader, TooLong}
 use Rattle.muf_compile.specs.Faults.{refuse, and_then}
-use Rattle.muf_compile.specs.Names.{control_of, standing_of, or_else}
+use Rattle.muf_compile.specs.Names.{control_of, standing_of}
 
 -- the most variables of a program, and of a word
 unfoldable pub variables_most : ℕ
@@ -69,9 +70,9 @@ item_of (meaning.Variable v) = item.Variable v
 -- the process, or a primitive
 unfoldable pub word_of : List ℕ → Known → Option Word
 word_of name k =
-    or_else (option_map item.Variable (lookup (bytes_eq name) k.locals))
-    (or_else (option_map item_of (lookup (bytes_eq name) k.names))
-    (or_else (option_map item.Variable (standing_of name)) (option_map item.Primitive (named_in_any_case name))))
+    option_or (option_map item.Variable (lookup (bytes_eq name) k.locals))
+    (option_or (option_map item_of (lookup (bytes_eq name) k.names))
+    (option_or (option_map item.Variable (standing_of name)) (option_map item.Primitive (named_in_any_case name))))
 
 -- whether programs may use an item so far
 abbrev pub may_use : Word → Bool

@@ -2,9 +2,10 @@
 ghost use Rattle.std.specs.Prelude.{◌≡◌, ◌≤◌, IfOk, None, [], option_map, length, is_some};
 ghost use Rattle.std.specs.Str.{bytes_eq};
 ghost use Rattle.std.specs.Map.{lookup};
+ghost use Rattle.std.specs.Option.{option_or};
 ghost use Rattle.muck_model.specs.Bytes.{text_fault};
 ghost use Rattle.muf_model.specs.Prims.{named_in_any_case};
-ghost use Rattle.muf_compile.specs.Names.{control_of, standing_of, or_else};
+ghost use Rattle.muf_compile.specs.Names.{control_of, standing_of};
 ghost use Rattle.muf_compile.specs.Reading.{item_of, word_of, may_use, number_of, is_unfit, name_fault, wants, shared_variable, own_variable, before_bracket, titled_as, titled, offered, named, read_name, binding, header_end, argument, read_argument, read_result, declaration, read_outside, controlled, meant, plain, read_inside, read, nothing_known, Reads};
 ghost use Rattle.muf_compile.specs.inner.Knowing.{known_of};
 
@@ -23,7 +24,7 @@ const VARIABLES_MOST: usize = 64;
 
 // The item that a word stands for in every program.
 fn common_item(name: &[u8]) -> Option<Word>
-    ensures { result ≡ or_else (option_map Word.Variable (standing_of name.now)) (option_map Word.Primitive (named_in_any_case name.now)) }
+    ensures { result ≡ option_or (option_map Word.Variable (standing_of name.now)) (option_map Word.Primitive (named_in_any_case name.now)) }
 {
     if let Some(variable) = standing_of(name) {
         return Some(Word::Variable(variable));
