@@ -9,7 +9,6 @@ use Rattle.muf_model.specs.Datum.{Datum, int}
 use Rattle.muf_model.specs.Source.{zeros, fitted}
 use Rattle.muf_model.specs.View.{view}
 use Rattle.muf_model.specs.Unit.{lowest}
-use Rattle.muf_model.proofs.Views.{view_text, view_int, view_object, view_variable, view_address, view_lock, view_items, view_dict, view_mark}
 use Rattle.muf_frame.specs.declared.mark.Mark.{Mark}
 use Rattle.muf_frame.specs.declared.mark.Mark.TheVariants.{Loop, Guard, Back, Leave}
 use Rattle.muf_frame.specs.Shown.{Shown, flat, flat_mark, left}
@@ -39,7 +38,7 @@ pub ruleset list_steps = (slice_get-map, map-set, set_past)
 
 pub ruleset give_steps = (map_drop, length-map)
 
-pub ruleset data_steps = (lowest_data, left_data, view_text, view_int, length-map)
+pub ruleset data_steps = (lowest_data, left_data, length-map)
 
 pub get_drop : {A : Type 0} → (n k : ℕ) (xs : List A) → slice_get (drop n xs) k ≡ slice_get xs (n + k)
 get_drop zero k xs = let e : 0 + k ≡ k = omega arith in rw e refl
@@ -69,5 +68,3 @@ pub fitted_none : (n : ℕ) → fitted n [] ≡ zeros n
 fitted_none n = take-replicate n n (int (pos 0)) (omega arith)
 
 pub ruleset fit_steps = (fitted_parts)
-
-pub ruleset item_steps = (view_int, view_text, view_object, view_variable, view_address, view_lock, view_items, view_dict, view_mark)

@@ -4,7 +4,7 @@ use Rattle.std.specs.Arc.{arc_value}
 use Rattle.muck_model.specs.declared.dbref.Dbref.{Dbref}
 use Rattle.muf_model.specs.declared.value.Value.{Value}
 use Rattle.muf_model.specs.Datum.{data_of, pairs_of}
-use Rattle.muf_model.specs.View.{view, list_view, map_view}
+use Rattle.muf_model.specs.View.{view}
 use Rattle.muf_model.specs.Source as source
 use Rattle.muf_model.specs.Unit.{numbered, keyed}
 use Rattle.muf_model.specs.Flat.{FlatMark, loop, guard, back, leave, Flat}
@@ -31,8 +31,8 @@ pub record Shown : Type 0 where
 abbrev pub flat_turns : Turns → source.Turns
 flat_turns Plain = source.plain
 flat_turns (Indices next last step) = source.indices next last step
-flat_turns (Values of at) = source.pairs (drop at (numbered 0 (data_of (list_view (arc_value of)))))
-flat_turns (Pairs of at) = source.pairs (drop at (keyed (pairs_of (map_view (arc_value of)))))
+flat_turns (Values of at) = source.pairs (drop at (numbered 0 (data_of (arc_value of))))
+flat_turns (Pairs of at) = source.pairs (drop at (keyed (pairs_of (arc_value of))))
 
 abbrev pub flat_mark : Mark → FlatMark
 flat_mark (Loop turns again after) = loop (flat_turns turns) again after

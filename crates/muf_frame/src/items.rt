@@ -9,7 +9,6 @@ use muck_model::Dbref;
 use muf_model::{Text, Value};
 
 // The integer that a value is.
-#[tactic(auto, using(crate::proofs::Data::item_steps))]
 #[inline(always)]
 fn as_int(value: &Value) -> Option<i32>
     ensures { result ≡ as_int (view value.now) }
@@ -21,7 +20,6 @@ fn as_int(value: &Value) -> Option<i32>
 }
 
 // The object that a value is.
-#[tactic(auto, using(crate::proofs::Data::item_steps))]
 fn as_object(value: &Value) -> Option<Dbref>
     ensures { option_map (λ d. d.0) result ≡ as_object (view value.now) }
 {
@@ -32,7 +30,6 @@ fn as_object(value: &Value) -> Option<Dbref>
 }
 
 // The text that a value is.
-#[tactic(auto, using(crate::proofs::Data::item_steps))]
 fn as_text(value: &Value) -> Option<&Text>
     ensures { option_copied result ≡ as_text (view value.now) }
 {

@@ -1,5 +1,5 @@
 -- Keys and entries of dictionaries, and what putting an entry does.
-use Rattle.std.proofs.Common.{◌≡◌, ℕ, zero, suc, Bool, true, false, List, [], ◌∷◌, Some, None, if◌then◌else◌, refl, ap, sym, subst, ◌∙◌, rules, map, insert, bytes_eq, int_lt, slice_get, slice_set}
+use Rattle.std.proofs.Common.{◌≡◌, ◌≤◌, ℕ, zero, suc, Bool, true, false, List, [], ◌∷◌, Some, None, if◌then◌else◌, refl, ap, sym, subst, ◌∙◌, rules, map, insert, bytes_eq, int_lt, slice_get, slice_set, length, arith}
 use Rattle.std.specs.Prelude.{ℤ}
 use Rattle.std.specs.declared.cmp.Ordering.{Ordering}
 use Rattle.std.specs.declared.cmp.Ordering.TheVariants.{Less, Equal, Greater}
@@ -97,7 +97,7 @@ replace_cases k m x z es false true e h t = search (rules, sym e ∙ t)
 replace_cases k m x z es false false e h t = ap (λ r. (m, z) ∷ r) (h t)
 
 -- an entry in place of the one that the key has
-replaced : (k : MapKey) (x : Datum) (es : List (MapKey × Datum)) → has_key k (slice_get es (entry_place k es)) ≡ true → slice_set es (entry_place k es) (k, x) ≡ with_entry k x es
+pub replaced : (k : MapKey) (x : Datum) (es : List (MapKey × Datum)) → has_key k (slice_get es (entry_place k es)) ≡ true → slice_set es (entry_place k es) (k, x) ≡ with_entry k x es
 replaced k x [] t = search (rules, t)
 replaced k x ((m, z) ∷ es) t = replace_cases k m x z es (key_same k m) (key_below k m) refl (replaced k x es) t
 
@@ -107,14 +107,14 @@ insert_cases k m x z es false true e h n = refl
 insert_cases k m x z es false false e h n = ap (λ r. (m, z) ∷ r) (h n)
 
 -- an entry of a key that has none
-inserted : (k : MapKey) (x : Datum) (es : List (MapKey × Datum)) → has_key k (slice_get es (entry_place k es)) ≡ false → insert es (entry_place k es) (k, x) ≡ with_entry k x es
+pub inserted : (k : MapKey) (x : Datum) (es : List (MapKey × Datum)) → has_key k (slice_get es (entry_place k es)) ≡ false → insert es (entry_place k es) (k, x) ≡ with_entry k x es
 inserted k x [] n = refl
 inserted k x ((m, z) ∷ es) n = insert_cases k m x z es (key_same k m) (key_below k m) refl (inserted k x es) n
 
-map_insert : (ps : List Pair) (i : ℕ) (q : Pair) → map pair_view (insert ps i q) ≡ insert (map pair_view ps) i (pair_view q)
-map_insert ps zero q = refl
-map_insert [] (suc i) q = refl
-map_insert (p ∷ ps) (suc i) q = ap (λ r. pair_view p ∷ r) (map_insert ps i q)
+pub map_insert : {A B : Type 0} → (f : A → B) (xs : List A) (i : ℕ) (x : A) → map f (insert xs i x) ≡ insert (map f xs) i (f x)
+map_insert f xs zero x = refl
+map_insert f [] (suc i) x = refl
+map_insert f (y ∷ xs) (suc i) x = ap (λ r. f y ∷ r) (map_insert f xs i x)
 
 -- the same of pairs
 pub put_there : (ps : List Pair) (i : ℕ) (k : MapKey) (v : Value) (q : Pair) → pair_view q ≡ (k, view v) → i ≡ entry_place k (map pair_view ps) → has_key k (slice_get (map pair_view ps) i) ≡ true → map pair_view (slice_set ps i q) ≡ with_entry k (view v) (map pair_view ps)
@@ -126,7 +126,16 @@ put_there ps i k v q p e t =
 
 pub put_new : (ps : List Pair) (i : ℕ) (k : MapKey) (v : Value) (q : Pair) → pair_view q ≡ (k, view v) → i ≡ entry_place k (map pair_view ps) → has_key k (slice_get (map pair_view ps) i) ≡ false → map pair_view (insert ps i q) ≡ with_entry k (view v) (map pair_view ps)
 put_new ps i k v q p e n =
-    map_insert ps i q
+    map_insert pair_view ps i q
     ∙ ap (insert (map pair_view ps) i) p
     ∙ ap (λ j. insert (map pair_view ps) j (k, view v)) e
     ∙ inserted k (view v) (map pair_view ps) (ap (λ j. has_key k (slice_get (map pair_view ps) j)) (sym e) ∙ n)
+
+place_cases : (n m : ℕ) (b c : Bool) → n ≤ m → (if b then 0 else (if c then 0 else suc n)) ≤ suc m
+place_cases n m true c h = omega arith
+place_cases n m false true h = omega arith
+place_cases n m false false h = omega arith
+
+pub place_within : (k : MapKey) (es : List (MapKey × Datum)) → entry_place k es ≤ length es
+place_within k [] = omega arith
+place_within k ((l, x) ∷ es) = place_cases (entry_place k es) (length es) (key_same k l) (key_below k l) (place_within k es)

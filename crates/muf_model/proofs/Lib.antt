@@ -4,9 +4,9 @@ pub mod FaultTexts
 pub mod Settling
 pub mod Standing
 pub mod Nesting
+pub mod Sized
 pub mod Truth
 pub mod Unique
-pub mod Views
 mod Naming
 pub mod Places
 pub mod Chains

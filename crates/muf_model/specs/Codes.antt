@@ -5,6 +5,8 @@ use Rattle.std.specs.Coded.{Coded, code_by, coded×, coded_ℕ, coded_ℤ, coded
 use Rattle.muck_model.specs.contracts.lock.Lock as lock_type
 use Rattle.muck_model.specs.declared.lock.Lock.{Lock}
 use Rattle.muck_model.specs.declared.lock.Lock.TheVariants.{Free}
+use Rattle.muf_model.specs.contracts.value.MapKey as key_type
+use Rattle.muf_model.specs.declared.value.MapKey.{MapKey}
 use Rattle.muf_model.specs.declared.value.MapKey.TheVariants.{Number, Name}
 use Rattle.muf_model.specs.declared.code.Closer.{Closer}
 use Rattle.muf_model.specs.declared.code.Closer.TheVariants.{Semicolon, Repeat, Until}
@@ -157,6 +159,12 @@ same_datum d = ap first_datum (datum_again d [])
 abbrev pub datum_code : Coded Datum
 datum_code =
     code_by (List DatumPiece) (coded_list (code_by DatumParts (coded× coded_ℕ (coded× coded_ℤ (coded× coded_ℕ (coded× (coded_list coded_ℕ) lock_type.the_row.coded)))) datum_parts datum_piece same_datum_piece)) (λ d. datum_written d []) (λ ps. first_datum (datum_read ps)) same_datum
+
+abbrev pub values_code : Coded (List Datum)
+values_code = coded_list datum_code
+
+abbrev pub entries_code : Coded (List (MapKey × Datum))
+entries_code = coded_list (coded× key_type.the_row.coded datum_code)
 
 -- ---- blocks and ends
 

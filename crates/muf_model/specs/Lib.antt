@@ -10,6 +10,8 @@ pub mod View
 pub mod Measures
 pub mod Kinds
 pub mod Entries
+pub mod Values
+pub mod Sizes
 pub mod Answer
 pub mod Ladder
 pub mod StackRows

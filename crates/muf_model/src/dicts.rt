@@ -1,12 +1,16 @@
 // Dictionaries of values.
-ghost use Rattle.std.specs.Prelude.{◌≡◌, ◌≤◌, ◌<◌, [], ℕ, false, Some, IfOk, OnOk, OnErr, IfSome, IsTrue, map, length, slice_get};
+ghost use Rattle.std.specs.Prelude.{◌≡◌, ◌≤◌, ◌<◌, [], false, Some, IfOk, OnOk, OnErr, IfSome, IsTrue, map, length, slice_get};
 ghost use Rattle.std.specs.Option.{option_map, option_copied};
 ghost use Rattle.std.specs.Arc.{arc_value};
 ghost use Rattle.muf_model.specs.declared.value.MapKey.{MapKey as Key};
-ghost use Rattle.muf_model.specs.View.{view, pair_view, map_view};
-ghost use Rattle.muf_model.specs.Entries.{key_same, entry_of, with_entry, entry_place, has_key, Rising};
+ghost use Rattle.muf_model.specs.Datum.{dict as whole, pairs_of};
+ghost use Rattle.muf_model.specs.View.{view, pair_view};
+ghost use Rattle.muf_model.specs.Measures.{pairs_weight, pairs_nesting};
+ghost use Rattle.muf_model.specs.Entries.{key_same, entry_of, with_entry, entry_place, has_key};
+ghost use Rattle.muf_model.specs.Values.{IsValue, IsSized, Becomes};
 
-use crate::{MapKey, Pair, Value, ValueMap};
+use crate::held::size_with;
+use crate::{MapKey, Pair, Size, Value, ValueFault, ValueMap};
 use muck_model::NoMemory;
 use std::alloc::Global;
 use std::sync::Arc;
@@ -97,12 +101,27 @@ fn has_key(pairs: &[Pair], at: usize, key: &MapKey) -> bool
     }
 }
 
-// The entries with this value of a key.
-fn put_entry(pairs: &mut Vec<Pair>, key: MapKey, value: Value) -> Result<(), NoMemory>
+// The size of the values with this one of a key, which has a place.
+fn size_put(pairs: &[Pair], size: Size, at: usize, key: &MapKey, value: &Value) -> Size
+    requires place { at ≡ entry_place key.now (map pair_view pairs.now) }
+    requires sized { IsSized (whole (pairs_of (map pair_view pairs.now))) size }
+    ensures weight { result.weight ≡ pairs_weight (pairs_of (with_entry key.now (view value.now) (map pair_view pairs.now))) }
+    ensures nesting { result.nesting ≡ pairs_nesting (pairs_of (with_entry key.now (view value.now) (map pair_view pairs.now))) }
+    ensures value { IsValue (view value.now) }
+{
+    if has_key(pairs, at, key) {
+        size_with(pairs, size, at, value)
+    } else {
+        size.with(value)
+    }
+}
+
+// The entries with this value of a key, which has a place.
+fn put_entry(pairs: &mut Vec<Pair>, at: usize, key: MapKey, value: Value) -> Result<(), NoMemory>
+    requires { at ≡ entry_place key (map pair_view pairs.old.items) }
     ensures ok { OnOk result (map pair_view pairs.new.items ≡ with_entry key (view value) (map pair_view pairs.old.items)) }
     ensures err { OnErr result (pairs.new.items ≡ pairs.old.items) }
 {
-    let at = entry_place(pairs, &key);
     if has_key(pairs, at, &key) {
         pairs[at] = Pair { key, value };
         return Ok(());
@@ -114,48 +133,79 @@ fn put_entry(pairs: &mut Vec<Pair>, key: MapKey, value: Value) -> Result<(), NoM
 impl ValueMap {
     /// The empty dictionary.
     pub fn new(alloc: Global) -> Result<ValueMap, NoMemory>
-        ensures { IfOk result (λ dict. map_view dict ≡ []) }
+        ensures { IfOk result (λ dict. dict ≡ []) }
     {
-        Ok(ValueMap::of(Vec::new(alloc)))
+        Ok(ValueMap {
+            pairs: Vec::new(alloc),
+            size: Size {
+                weight: 0,
+                nesting: 0,
+            },
+        })
+    }
+
+    /// Its pairs, by rising key.
+    pub fn as_slice(&self) -> &[Pair]
+        ensures pairs { map pair_view result.now ≡ self.now }
+        ensures most { length result.now ≤ 65535 }
+    {
+        &self.pairs
+    }
+
+    /// What its values weigh together, and how deep the deepest of them is.
+    pub fn size(&self) -> Size
+        ensures sized { IsSized (whole (pairs_of self.now)) result }
+        ensures most { (result.weight ≤ 65535) × (result.nesting ≤ 63) }
+    {
+        self.size
     }
 
     /// The count of its entries.
     pub fn len(&self) -> usize
-        ensures { result ≡ length (map_view self.now) }
+        ensures { result ≡ length self.now }
     {
         self.pairs.len()
     }
 
     /// The value of a key; `None` exactly where the key has none.
     pub fn get(&self, key: &MapKey) -> Option<&Value>
-        ensures { option_map view (option_copied result) ≡ entry_of key.now (map_view self.now) }
+        ensures { option_map view (option_copied result) ≡ entry_of key.now self.now }
     {
         value_of(&self.pairs, key)
     }
 
-    /// Gives a key a value, in place of the one that it has; a new key goes before the first greater one, so that rising
-    /// keys stay so. After `NoMemory` the dictionary is as before, and key and value are dropped.
-    pub fn put(&mut self, key: MapKey, value: Value) -> Result<(), NoMemory>
-        ensures entries { OnOk result (map_view self.new ≡ with_entry key (view value) (map_view self.old)) }
-        ensures found { OnOk result (entry_of key (map_view self.new) ≡ Some (view value)) }
-        ensures others { OnOk result ((k : Key) → key_same k key ≡ false → entry_of k (map_view self.new) ≡ entry_of k (map_view self.old)) }
-        ensures rising { OnOk result (Rising (map_view self.old) → Rising (map_view self.new)) }
-        ensures err { OnErr result (map_view self.new ≡ map_view self.old) }
+    /// Gives a key a value, in place of the one that it has; a new key goes before the first greater one. `TooHeavy` comes exactly where the
+    /// dictionary would be heavier than a value may be, or nested deeper. After an error the dictionary is as before, and key and value are
+    /// dropped.
+    pub fn put(&mut self, key: MapKey, value: Value) -> Result<(), ValueFault>
+        ensures entries { Becomes (λ es. whole (pairs_of es)) (with_entry key (view value) self.old) self.old self.new result }
+        ensures found { OnOk result (entry_of key self.new ≡ Some (view value)) }
+        ensures others { OnOk result ((k : Key) → key_same k key ≡ false → entry_of k self.new ≡ entry_of k self.old) }
     {
-        put_entry(&mut self.pairs, key, value)?;
+        let at = entry_place(&self.pairs, &key);
+        let size = size_put(&self.pairs, self.size, at, &key, &value);
+        if !size.fits() {
+            return Err(ValueFault::TooHeavy);
+        }
+        put_entry(&mut self.pairs, at, key, value)?;
+        self.size = size;
         Ok(())
     }
 
     /// A dictionary of the same entries, each of whose values shares what it can with the one here.
     pub fn copy(&self, alloc: Global) -> Result<ValueMap, NoMemory>
-        ensures { IfOk result (λ dict. map_view dict ≡ map_view self.now) }
+        ensures { IfOk result (λ dict. dict ≡ self.now) }
     {
-        Ok(ValueMap::of(copy_pairs(alloc, &self.pairs)?))
+        let pairs = copy_pairs(alloc, &self.pairs)?;
+        Ok(ValueMap {
+            pairs,
+            size: self.size,
+        })
     }
 
     /// The dictionary itself where nobody else shares it, else a copy, for writing. No sharer sees what is written.
     pub fn unshare(shared: Arc<ValueMap>, alloc: Global) -> Result<ValueMap, NoMemory>
-        ensures { IfOk result (λ dict. map_view dict ≡ map_view (arc_value shared)) }
+        ensures { IfOk result (λ dict. dict ≡ arc_value shared) }
     {
         match Arc::try_unwrap(shared) {
             Ok(dict) => Ok(dict),

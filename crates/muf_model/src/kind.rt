@@ -21,7 +21,6 @@ pub enum ItemKind {
 
 impl Value {
     /// Its kind.
-    #[tactic(auto, using(crate::proofs::Views::view_steps))]
     pub fn kind(&self) -> ItemKind
         ensures { result ≡ kind_of (view self.now) }
     {

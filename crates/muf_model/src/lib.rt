@@ -4,13 +4,14 @@
 mod code;
 mod dicts;
 mod fault;
+mod held;
 mod kind;
 mod lists;
-mod measures;
 mod needs;
 mod prims;
 mod rows;
 mod shared;
+mod size;
 mod text;
 mod value;
 
@@ -21,6 +22,7 @@ pub use needs::{Many, Need, Needs, Want};
 pub use prims::{Family, Primitive, Row};
 pub use rows::rows_hold;
 pub use shared::Shared;
+pub use size::{Size, ValueFault};
 pub use text::Text;
 pub use value::{MapKey, Pair, Value, ValueList, ValueMap};
 

@@ -1,12 +1,12 @@
 // The values of a program.
-ghost use Rattle.std.specs.Prelude.{◌≡◌, ◌++◌, ◌∷◌, [], IfOk, OnErr, map, option_map, slice_get, length};
-ghost use Rattle.muf_model.specs.View.{view, pair_view, list_view, map_view};
+ghost use Rattle.std.specs.Prelude.{◌≡◌, IfOk};
+ghost use Rattle.muf_model.specs.View.{view};
 ghost use Rattle.muf_model.specs.Measures.{is_true, key_below};
 ghost use Rattle.muf_model.specs.StackRows.{truth};
 
-use crate::{Shared, Text, VarId};
+use crate::{Shared, Size, Text, VarId};
 use muck_model::{Dbref, Lock, NoMemory};
-use std::alloc::Global;
+use std::marker::Model;
 use std::sync::Arc;
 
 /// A value. Lists and dictionaries are shared, so that a copy of a value copies none of its items.
@@ -24,18 +24,73 @@ pub enum Value {
     Mark,
 }
 
-/// The values of a list, in order.
+/// The values of a list, in order. Contracts see it as their data. Its size is kept, and it is never heavier than a value may be, nor nested
+/// deeper.
 #[cycle(value)]
 #[derive(Drop)]
 pub struct ValueList {
     pub(crate) items: Vec<Value>,
+    pub(crate) size: Size,
 }
 
-/// The pairs of a dictionary, by rising key.
+impl Model for ValueList {
+    ghost use Rattle.std.specs.Prelude.{List, map};
+    ghost use Rattle.muf_model.specs.Datum.{Datum, items as list, data_of};
+    ghost use Rattle.muf_model.specs.Codes.{values_code};
+
+    ghost Value = { List Datum };
+
+    ghost coded = { values_code };
+
+    ghost use Rattle.muf_model.specs.View.{view as seen};
+    ghost use Rattle.muf_model.specs.Measures.{data_weight};
+    ghost use Rattle.muf_model.specs.Values.{IsSized};
+
+    ghost view = { λ l. map seen l.items.items };
+
+    ghost invariant = { λ l. IsSized (list (data_of (map seen l.items.items))) l.size };
+
+    ghost size = { λ ds. data_weight (data_of ds) };
+
+    ghost use Rattle.std.proofs.Common.{arith};
+    ghost use Rattle.muf_model.specs.Sizes.{values_deep};
+
+    ghost size_decreases = { λ l h. omega (arith, values_deep l.items.items) };
+}
+
+/// The pairs of a dictionary, by rising key. Contracts see it as their keys, each with the data of its value. Its size is kept, and it is never
+/// heavier than a value may be, nor nested deeper.
 #[cycle(value)]
 #[derive(Drop)]
 pub struct ValueMap {
     pub(crate) pairs: Vec<Pair>,
+    pub(crate) size: Size,
+}
+
+impl Model for ValueMap {
+    ghost use Rattle.std.specs.Prelude.{List, map};
+    ghost use Rattle.muf_model.specs.declared.value.MapKey.{MapKey};
+    ghost use Rattle.muf_model.specs.Datum.{Datum, dict, pairs_of};
+    ghost use Rattle.muf_model.specs.Codes.{entries_code};
+
+    ghost Value = { List (MapKey × Datum) };
+
+    ghost coded = { entries_code };
+
+    ghost use Rattle.muf_model.specs.View.{pair_view};
+    ghost use Rattle.muf_model.specs.Measures.{pairs_weight};
+    ghost use Rattle.muf_model.specs.Values.{IsSized};
+
+    ghost view = { λ m. map pair_view m.pairs.items };
+
+    ghost invariant = { λ m. IsSized (dict (pairs_of (map pair_view m.pairs.items))) m.size };
+
+    ghost size = { λ es. pairs_weight (pairs_of es) };
+
+    ghost use Rattle.std.proofs.Common.{arith};
+    ghost use Rattle.muf_model.specs.Sizes.{pairs_deep};
+
+    ghost size_decreases = { λ m h. omega (arith, pairs_deep m.pairs.items) };
 }
 
 /// A key with its value.
@@ -55,7 +110,6 @@ pub enum MapKey {
 
 impl Value {
     /// The integer of a truth: 1 or 0.
-    #[tactic(auto, using(crate::proofs::Views::view_int))]
     pub fn truth(yes: bool) -> Value
         ensures { view result ≡ truth yes }
     {
@@ -121,37 +175,5 @@ impl MapKey {
             MapKey::Number(n) => Ok(MapKey::Number(*n)),
             MapKey::Name(t) => Ok(MapKey::Name(t.share()?)),
         }
-    }
-}
-
-impl ValueList {
-    /// The list of these values.
-    pub fn of(items: Vec<Value>) -> ValueList
-        ensures { list_view result ≡ map view items.items }
-    {
-        ValueList { items }
-    }
-
-    /// Its values, in order.
-    pub fn as_slice(&self) -> &[Value]
-        ensures { map view result.now ≡ list_view self.now }
-    {
-        &self.items
-    }
-}
-
-impl ValueMap {
-    /// The dictionary of these pairs, which stand by rising key.
-    pub fn of(pairs: Vec<Pair>) -> ValueMap
-        ensures { map_view result ≡ map pair_view pairs.items }
-    {
-        ValueMap { pairs }
-    }
-
-    /// Its pairs, by rising key.
-    pub fn as_slice(&self) -> &[Pair]
-        ensures { map pair_view result.now ≡ map_view self.now }
-    {
-        &self.pairs
     }
 }

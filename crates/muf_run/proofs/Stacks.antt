@@ -17,13 +17,12 @@ use Rattle.muf_frame.specs.Answers.{Became}
 use Rattle.muf_frame.specs.Moves.{scope_of, with_variable}
 use Rattle.muf_frame.proofs.Data.{lowest_data, left_data}
 use Rattle.muf_frame.proofs.Ladders.{used_plain}
-use Rattle.muf_model.proofs.Views.{view_text, view_int}
 use Rattle.muf_run.specs.Machine as machine
 use Rattle.muf_run.specs.Machine.{Next, going}
 
 pub ruleset count_steps = (length-drop)
 
-pub ruleset row_steps = (used_plain, lowest_data, left_data, view_text, view_int, length-map)
+pub ruleset row_steps = (used_plain, lowest_data, left_data, length-map)
 
 none_in : (v : ℕ) (o : Option Datum) (x : Datum) (rest : List Datum) (s : Flat) → is_some o ≡ false → machine.kept_in o v x rest s ≡ machine.fault BadArgument s
 none_in v (Some old) x rest s e = cc

@@ -23,7 +23,6 @@ use prim_stack::Done;
 use std::alloc::Global;
 
 // The value that a literal stands for.
-#[tactic(auto, using(muf_frame::proofs::Data::item_steps))]
 fn constant(literal: &Literal) -> Result<Value, NoMemory>
     ensures { IfOk result (λ v. view v ≡ constant literal.now) }
 {
@@ -126,7 +125,6 @@ fn close(alloc: Global, frame: &mut Frame, closer: Closer) -> Result<Ran, NoMemo
 }
 
 // A word that pushes a value.
-#[tactic(auto, using(muf_frame::proofs::Data::item_steps))]
 fn address(alloc: Global, frame: &mut Frame, word: u32) -> Result<Ran, NoMemory>
     ensures { IfOk result (λ ran. next_of ran (flat frame.new) ≡ machine.pushed (address (flat frame.old).program word) (flat frame.old)) }
 {
@@ -150,7 +148,6 @@ fn primitive(alloc: Global, code: &Code, frame: &mut Frame, prim: Prim) -> Resul
 }
 
 // A word, with the place after it.
-#[tactic(auto, using(muf_frame::proofs::Data::item_steps))]
 #[inline(always)]
 fn word(
     alloc: Global,

@@ -2,7 +2,7 @@
 ghost use Rattle.std.specs.Prelude.{◌≡◌, ◌<◌, ◌+◌, ℕ, IfOk, slice_get, length, map, is_some, drop, option_map, option_copied, IfSome, pos};
 ghost use Rattle.std.specs.Arc.{arc_value};
 ghost use Rattle.muf_model.specs.Datum.{int, data_of, pairs_of};
-ghost use Rattle.muf_model.specs.View.{view, pair_view, list_view, map_view};
+ghost use Rattle.muf_model.specs.View.{view};
 ghost use Rattle.muf_model.specs.Unit.{numbered, keyed, key_datum};
 ghost use Rattle.muf_model.specs.Flat.{Flat};
 ghost use Rattle.muf_frame.specs.Shown.{flat, flat_turns, opened_by};
@@ -27,7 +27,6 @@ struct Pulled {
 }
 
 // What a loop over an item counts.
-#[tactic(auto, using(muf_frame::proofs::Data::item_steps))]
 fn turns_over(item: Value) -> Option<Turns>
     ensures { option_map flat_turns result ≡ machine.keys_of (view item) }
 {
@@ -39,7 +38,6 @@ fn turns_over(item: Value) -> Option<Turns>
 }
 
 // Whether a loop can go over an item.
-#[tactic(auto, using(muf_frame::proofs::Data::item_steps))]
 fn is_keyed(item: &Value) -> bool
     ensures { result ≡ is_some (machine.keys_of (view item.now)) }
 {
@@ -86,7 +84,7 @@ pub(crate) fn open_each(alloc: Global, frame: &mut Frame, after: usize) -> Resul
 // The value at a place.
 fn value_in(values: &[Value], at: usize) -> Option<&Value>
     ensures value { option_copied result ≡ slice_get values.now at }
-    ensures within { IfSome result (λ _. at < 9223372036854775807) }
+    ensures within { IfSome result (λ _. at < length values.now) }
 {
     values.get(at)
 }
@@ -94,40 +92,35 @@ fn value_in(values: &[Value], at: usize) -> Option<&Value>
 // The pair at a place.
 fn pair_in(pairs: &[Pair], at: usize) -> Option<&Pair>
     ensures value { option_copied result ≡ slice_get pairs.now at }
-    ensures within { IfSome result (λ _. at < 9223372036854775807) }
+    ensures within { IfSome result (λ _. at < length pairs.now) }
 {
     pairs.get(at)
 }
 
-// A number as a value. A list with so many values that their numbers pass 32 bits has no place in memory.
-#[tactic(auto, using(muf_frame::proofs::Data::item_steps))]
-fn number_value(number: usize) -> Result<Value, NoMemory>
-    ensures { IfOk result (λ v. view v ≡ int (pos number)) }
+// The number of a place in a list as a value.
+fn number_value(number: usize) -> Value
+    requires { number < 65536 }
+    ensures { view result ≡ int (pos number) }
 {
-    match i32::try_from(number) {
-        Ok(number) => Ok(Value::Int(number)),
-        Err(_) => Err(NoMemory),
-    }
+    Value::Int(number as i32)
 }
 
 // A value of a list, with its number.
 fn value_at(of: Arc<ValueList>, at: usize) -> Result<Option<Pulled>, NoMemory>
-    ensures { IfOk result (λ pulled. option_map pulled_data pulled ≡ pull (drop at (numbered 0 (data_of (list_view (arc_value of)))))) }
+    ensures { IfOk result (λ pulled. option_map pulled_data pulled ≡ pull (drop at (numbered 0 (data_of (arc_value of))))) }
 {
     let value = match value_in(of.as_slice(), at) {
         None => return Ok(None),
         Some(value) => value.copy()?,
     };
-    let key = number_value(at)?;
     Ok(Some(Pulled {
-        key,
+        key: number_value(at),
         value,
         turns: Turns::Values { of, at: at + 1 },
     }))
 }
 
 // A key as a value.
-#[tactic(auto, using(muf_frame::proofs::Data::item_steps))]
 fn key_value(key: &MapKey) -> Result<Value, NoMemory>
     ensures { IfOk result (λ v. view v ≡ key_datum key.now) }
 {
@@ -139,7 +132,7 @@ fn key_value(key: &MapKey) -> Result<Value, NoMemory>
 
 // A key of a dictionary, with its value.
 fn entry_at(of: Arc<ValueMap>, at: usize) -> Result<Option<Pulled>, NoMemory>
-    ensures { IfOk result (λ pulled. option_map pulled_data pulled ≡ pull (drop at (keyed (pairs_of (map_view (arc_value of)))))) }
+    ensures { IfOk result (λ pulled. option_map pulled_data pulled ≡ pull (drop at (keyed (pairs_of (arc_value of))))) }
 {
     let (key, value) = match pair_in(of.as_slice(), at) {
         None => return Ok(None),

@@ -10,7 +10,6 @@ use Rattle.muf_model.specs.Answer.{Answer, refuses, Scope, plain, makes, put, un
 use Rattle.muf_model.specs.Needs.{takes, an_int, an_object, int_or_object, numbered}
 use Rattle.muf_model.specs.Rows.{used}
 use Rattle.muf_model.specs.NumberRows.{one_int, two_ints, compared, number_of, object_of, objects_equal}
-use Rattle.muf_model.proofs.Views.{view_int, view_object}
 use Rattle.muf_model.specs.StackRows.{truth}
 use Rattle.muf_frame.specs.Answers.{int_at, object_at}
 use Rattle.muf_frame.proofs.Data.{map_drop}
@@ -63,7 +62,7 @@ compared_read f _ = refl
 pub compared_used : (f : ℤ → ℤ → Bool) (level : ℕ) (s : Scope) (stack : List Datum) → used level (takes (int_or_object ∷ int_or_object ∷ [])) (Some (plain (compared f))) s stack ≡ needing 2 s.locked stack (compare_read f (alike stack) (drop 2 stack))
 compared_used f level s stack = used_plain level int_or_object (int_or_object ∷ []) (compared f) s stack ∙ ap (needing 2 s.locked stack) (compared_read f stack)
 
-pub ruleset int_steps = (one_int_used, two_ints_used, map_drop, length-map, view_int)
+pub ruleset int_steps = (one_int_used, two_ints_used, map_drop, length-map)
 
 pub ruleset alike_steps = (alike_read)
 
@@ -106,4 +105,4 @@ objects_equal_read _ = refl
 pub objects_equal_used : (level : ℕ) (s : Scope) (stack : List Datum) → used level (takes (an_object ∷ an_object ∷ [])) (Some (plain objects_equal)) s stack ≡ needing 2 s.locked stack (equal_read (object_at 0 stack) (object_at 1 stack) (drop 2 stack))
 objects_equal_used level s stack = used_plain level an_object (an_object ∷ []) objects_equal s stack ∙ ap (needing 2 s.locked stack) (objects_equal_read stack)
 
-pub ruleset kind_steps = (number_of_used, object_of_used, objects_equal_used, map_drop, length-map, view_int, view_object)
+pub ruleset kind_steps = (number_of_used, object_of_used, objects_equal_used, map_drop, length-map)

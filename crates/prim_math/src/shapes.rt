@@ -109,7 +109,6 @@ pub(crate) fn two_truths(prim: Prim, frame: &mut Frame) -> Result<(), MufFault>
 }
 
 // The number that a value is or has.
-#[tactic(auto, using(muf_frame::proofs::Data::item_steps))]
 fn as_number(value: &Value) -> Option<i32>
     ensures { result ≡ as_number (view value.now) }
 {

@@ -10,7 +10,6 @@ use Rattle.muf_model.specs.StackRows.{is_mark, above, rotated, rotated_up, rotat
 use Rattle.muf_model.specs.declared.fault.MufFault.TheVariants.{BadType}
 use Rattle.muf_model.specs.Datum.{Datum, int}
 use Rattle.muf_model.specs.Answer.{Answer, gives, refuses, needing, Scope, unless}
-use Rattle.muf_model.proofs.Views.{view_int, view_mark}
 use Rattle.muf_frame.specs.Answers.{int_at}
 use Rattle.prim_stack.specs.Does.{mark_in}
 use Rattle.muf_frame.proofs.Data.{map_take, map_drop}
@@ -21,7 +20,7 @@ use Rattle.muf_model.specs.Needs.{an_int}
 use Rattle.muf_model.specs.Rows.{primitive}
 use Rattle.prim_stack.proofs.Counts.{counted_used}
 
-pub ruleset give_steps = (used_plain, view_int, view_mark, length-map)
+pub ruleset give_steps = (used_plain, length-map)
 
 pub ruleset count_steps = (counted_used, length-map)
 
@@ -115,4 +114,4 @@ closed_data n xs = map-append view (take n xs) (drop (n + 1) xs) ∙ ap (λ a. a
 
 pub ruleset mark_steps = (slice_get-map, length-map)
 
-pub ruleset close_steps = (closed_data, view_int)
+pub ruleset close_steps = (closed_data)

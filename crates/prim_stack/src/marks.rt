@@ -12,7 +12,6 @@ ghost use Rattle.prim_stack.specs.Does.{mark_in};
 use muf_frame::Frame;
 use muf_model::{MufFault, Value};
 
-#[tactic(auto, using(muf_frame::proofs::Data::item_steps))]
 fn is_mark(value: &Value) -> bool
     ensures { result ≡ is_mark (view value.now) }
 {

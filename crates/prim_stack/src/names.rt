@@ -16,7 +16,6 @@ use muf_frame::{Frame, PrimFault};
 use muf_model::{MufFault, Text, Value, VarId};
 
 // The variable that a value is.
-#[tactic(auto, using(muf_frame::proofs::Data::item_steps))]
 fn as_variable(value: &Value) -> Option<VarId>
     ensures { option_map (λ v. v.0) result ≡ as_variable (view value.now) }
 {
@@ -27,7 +26,6 @@ fn as_variable(value: &Value) -> Option<VarId>
 }
 
 // The program and the word of the address that a value is.
-#[tactic(auto, using(muf_frame::proofs::Data::item_steps))]
 fn as_address(value: &Value) -> Option<(Dbref, u32)>
     ensures { option_map (λ a. (a.0.0, a.1)) result ≡ as_address (view value.now) }
 {

@@ -62,7 +62,7 @@ fn test_kind(need: &Need, item: &Value) -> Result<(), MufFault>
 }
 
 // Whether an object is there that must be.
-#[tactic(auto, using(muf_model::proofs::Views::view_steps), unfolding(spec_prims::specs::Asking::is_there))]
+#[tactic(auto, unfolding(spec_prims::specs::Asking::is_there))]
 fn test_there(need: &Need, item: &Value, guard: &Guard) -> Result<(), MufFault>
     ensures { Passes (absent (is_there guard.now.db.now) need.now (view item.now)) result }
 {
@@ -75,7 +75,6 @@ fn test_there(need: &Need, item: &Value, guard: &Guard) -> Result<(), MufFault>
 }
 
 // Whether an object is near that must be.
-#[tactic(auto, using(muf_model::proofs::Views::view_steps))]
 fn test_near(need: &Need, item: &Value, guard: &Guard) -> Result<(), MufFault>
     ensures { Passes (distant (near_fault guard.now.actor guard.now.db.now) need.now (view item.now)) result }
 {

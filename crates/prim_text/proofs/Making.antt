@@ -6,11 +6,10 @@ use Rattle.muf_model.specs.declared.fault.MufFault.TheVariants.{StackFull}
 use Rattle.muf_model.specs.Datum.{Datum}
 use Rattle.muf_model.specs.Answer.{Answer, gives, refuses, Made, makes, put, fitting}
 use Rattle.std.proofs.lemmas.List.{length-map, length-drop, map-append}
-use Rattle.muf_model.proofs.Views.{view_int, view_text}
 use Rattle.muf_frame.proofs.Data.{map_drop}
 use Rattle.prim_text.proofs.Texts.{made_is_text}
 
-pub ruleset making_steps = (view_int, view_text, made_is_text)
+pub ruleset making_steps = (made_is_text)
 
 fits : (items rest : List Datum) → length items + length rest ≤ 1024 → fitting (items ++ rest) ≡ gives (items ++ rest)
 fits items rest le = cond-false _ _ _ (le-ltb 1024 (length (items ++ rest)) (omega (arith, le, length-append items rest)))

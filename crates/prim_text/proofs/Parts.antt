@@ -8,7 +8,6 @@ use Rattle.std.proofs.lemmas.List.{length-map}
 use Rattle.muf_model.specs.declared.value.Value.{Value}
 use Rattle.muf_model.specs.Answer.{makes}
 use Rattle.muf_model.specs.View.{view}
-use Rattle.muf_model.proofs.Views.{view_text}
 use Rattle.muck_model.specs.Bytes.{text_fault}
 use Rattle.muf_model.specs.Texts.{first_place, pieces, joined}
 use Rattle.muf_model.specs.TextRows.{sized, counted_texts}
@@ -50,7 +49,7 @@ next_piece made after whole sought rest at some found so_far e =
 pub last_piece : (made after whole : List Datum) (sought rest : List ℕ) → None ≡ first_place sought rest → made ++ map text (pieces sought rest) ≡ whole → after ≡ made ++ (text rest ∷ []) → after ≡ whole
 last_piece made after whole sought rest found so_far e = e ∙ ap (λ ps. made ++ map text ps) (sym (pieces_last sought rest (sym found))) ∙ so_far
 
-pub ruleset piece_steps = (view_text, map-append)
+pub ruleset piece_steps = (map-append)
 
 -- pieces with their count before them
 pub counted : (items after : List Value) (ps : List (List ℕ)) (count : Value) (n : ℕ) → map view items ≡ map text ps → n ≡ length items → view count ≡ int (pos n) → after ≡ count ∷ items → counted_texts ps ≡ makes (map view after)

@@ -2,7 +2,7 @@
 use crate::first_wrong;
 use muck_model::{Line, LineFault, NoMemory};
 use muf_frame::{Frame, Turns};
-use muf_model::{MapKey, MufFault, Text, Value, ValueList, ValueMap};
+use muf_model::{MapKey, MufFault, Text, Value, ValueFault, ValueList, ValueMap};
 use std::alloc::Global;
 use std::sync::Arc;
 
@@ -25,18 +25,23 @@ fn is_int(value: Option<&Value>, number: i32) -> bool {
     }
 }
 
+// What became of a list or dictionary that isn't near its bounds.
+fn done(answer: Result<(), ValueFault>) -> Result<(), NoMemory> {
+    answer.or(Err(NoMemory))
+}
+
 #[test]
 fn lists(rt: HostRuntime) -> Result<(), NoMemory> {
     let alloc = rt.alloc();
     let mut list = ValueList::new(alloc)?;
-    list.push(Value::Int(4))?;
-    list.push(Value::Int(5))?;
+    done(list.push(Value::Int(4)))?;
+    done(list.push(Value::Int(5)))?;
     let shared = Arc::new(alloc, list)?;
     let mut own = ValueList::unshare(shared.clone()?, alloc)?;
     if own.len() == 2 {
-        own.put(0, Value::Int(9));
+        done(own.put(0, Value::Int(9)))?;
     }
-    own.push(Value::Int(6))?;
+    done(own.push(Value::Int(6)))?;
     let holds = [
         is_int(own.get(0), 9),
         is_int(own.get(2), 6),
@@ -53,13 +58,13 @@ fn lists(rt: HostRuntime) -> Result<(), NoMemory> {
 fn dictionaries(rt: HostRuntime) -> Result<(), NoMemory> {
     let alloc = rt.alloc();
     let mut dict = ValueMap::new(alloc)?;
-    dict.put(name(alloc, b"b")?, Value::Int(1))?;
-    dict.put(MapKey::Number(5), Value::Int(2))?;
-    dict.put(name(alloc, b"a")?, Value::Int(3))?;
-    dict.put(MapKey::Number(-1), Value::Int(4))?;
+    done(dict.put(name(alloc, b"b")?, Value::Int(1)))?;
+    done(dict.put(MapKey::Number(5), Value::Int(2)))?;
+    done(dict.put(name(alloc, b"a")?, Value::Int(3)))?;
+    done(dict.put(MapKey::Number(-1), Value::Int(4)))?;
     let shared = Arc::new(alloc, dict)?;
     let mut own = ValueMap::unshare(shared.clone()?, alloc)?;
-    own.put(MapKey::Number(5), Value::Int(6))?;
+    done(own.put(MapKey::Number(5), Value::Int(6)))?;
     let value_at = |at: usize| own.as_slice().get(at).map(|pair| &pair.value);
     let holds = [
         own.len() == 4,

@@ -1,6 +1,6 @@
 // Items that are written as words of a source.
 use muck_model::{Dbref, Lock, NoMemory};
-use muf_model::{MapKey, Shared, Text, Value, ValueList, ValueMap, VarId};
+use muf_model::{MapKey, Shared, Text, Value, ValueFault, ValueList, ValueMap, VarId};
 use muf_token::{MemIncludes, TokenFault, TokenKind, TokenList, tokens};
 use std::alloc::Global;
 use std::mem::replace;
@@ -25,8 +25,9 @@ pub fn words_of(alloc: Global, source: &[u8]) -> Result<Option<TokenList>, NoMem
     }
 }
 
-// The item that a word stands for, behind these items: `list` takes them all, `dict` the last one with the key 0; `beyond` and
-// `elsewhere` are addresses, of a third word of the program and of one of another program.
+// The item that a word stands for, behind these items: `list` takes them all, `dict` the last one with the key 0, and each is a mark
+// where it would be too heavy or nested too deep; `beyond` and `elsewhere` are addresses, of a third word of the program and of one of
+// another program.
 fn item_of(alloc: Global, items: &mut Vec<Value>, kind: TokenKind) -> Result<Value, NoMemory> {
     let word = match kind {
         TokenKind::Number(n) => return Ok(Value::Int(n)),
@@ -49,14 +50,18 @@ fn item_of(alloc: Global, items: &mut Vec<Value>, kind: TokenKind) -> Result<Val
         b"dict" => {
             let mut dict = ValueMap::new(alloc)?;
             if let Some(value) = items.pop() {
-                dict.put(MapKey::Number(0), value)?;
+                match dict.put(MapKey::Number(0), value) {
+                    Ok(()) => {}
+                    Err(ValueFault::TooHeavy) => return Ok(Value::Mark),
+                    Err(ValueFault::NoMemory) => return Err(NoMemory),
+                }
             }
             Ok(Value::Dict(Arc::new(alloc, dict)?))
         }
-        b"list" => {
-            let list = ValueList::of(replace(items, Vec::new(alloc)));
-            Ok(Value::Items(Arc::new(alloc, list)?))
-        }
+        b"list" => match ValueList::of(replace(items, Vec::new(alloc))) {
+            Some(list) => Ok(Value::Items(Arc::new(alloc, list)?)),
+            None => Ok(Value::Mark),
+        },
         _ => Ok(Value::Mark),
     }
 }
@@ -94,26 +99,15 @@ pub fn item_text(alloc: Global, item: &Value) -> Result<Vec<u8>, NoMemory> {
     Ok(text.into_bytes())
 }
 
-/// Whether an item counts as true; and the weight and the nesting of a copy, each with the least bound within which it is.
+/// Whether an item counts as true; and the weight and the nesting of a copy.
 pub fn value_row(alloc: Global, words: &[u8]) -> Result<Vec<u8>, NoMemory> {
     let mut text = Vec::new(alloc);
     for item in items_of(alloc, words)? {
         let copy = item.copy()?;
         part(&mut text, if item.is_true() { b"true" } else { b"false" })?;
-        for most in 0..100 {
-            if let Some(weight) = copy.weight(most) {
-                let said = format!(in alloc; "weight {weight} within {most}")?;
-                part(&mut text, said.as_bytes())?;
-                break;
-            }
-        }
-        for most in 0..100 {
-            if let Some(nesting) = copy.nesting(most) {
-                let said = format!(in alloc; "nesting {nesting} within {most}")?;
-                part(&mut text, said.as_bytes())?;
-                break;
-            }
-        }
+        let (weight, nesting) = (copy.weight(), copy.nesting());
+        let said = format!(in alloc; "weight {weight} nesting {nesting}")?;
+        part(&mut text, said.as_bytes())?;
     }
     Ok(text)
 }

@@ -1,22 +1,20 @@
-use Rattle.std.proofs.Common.{◌≡◌, ap, sym, ◌∙◌, subst}
-use Rattle.muf_model.specs.declared.value.ValueMap.{roll-ValueMap}
-use Rattle.muf_model.specs.View.{view, map_view}
-use Rattle.muf_model.specs.Entries.{with_entry, entry_of, Rising}
-use Rattle.muf_model.proofs.Entries.{found, others, rising}
-use Rattle.muf_model.proofs.Views.{view_pairs, view_entries}
+use Rattle.std.proofs.Common.{rules, ap, ◌∙◌, map}
+use Rattle.muf_model.specs.Datum.{pairs_of}
+use Rattle.muf_model.specs.View.{view, pair_view}
+use Rattle.muf_model.specs.Measures.{pairs_weight, pairs_nesting}
+use Rattle.muf_model.specs.Entries.{entry_of, with_entry}
+use Rattle.muf_model.proofs.Entries.{found, others}
+use Rattle.muf_model.proofs.Sized.{entry_fits}
 use Rattle.muf_model.proofs.value.ValueMap.put.Goals as goal
+
+pub invariant_of-self-2 : goal.invariant_of-self-2
+invariant_of-self-2 c =
+    rw c.in_ok-put_entry.ensures.ok (entry_fits c.args.key (view c.args.value) (map pair_view c.self.inside.pairs.items) c.self.inside.size c.size_put-size.result c.self.invariant c.size_put-size.ensures.value (c.size_put-size.ensures.weight ∙ ap (λ ps. pairs_weight (pairs_of (with_entry c.args.key (view c.args.value) (map pair_view ps)))) c.deref-2.ensures.value) (c.size_put-size.ensures.nesting ∙ ap (λ ps. pairs_nesting (pairs_of (with_entry c.args.key (view c.args.value) (map pair_view ps)))) c.deref-2.ensures.value) (search (rules, c.fits.ensures, c.if-not-fits.false)))
 
 pub returns-clause-found : goal.returns-clause-found
 returns-clause-found c =
-    let e : map_view (roll-ValueMap (record { pairs = c.put_entry.new.pairs })) ≡ with_entry c.args.key (view c.args.value) (map_view c.args.self.now) = view_pairs c.put_entry.new.pairs ∙ c.in_ok-put_entry.ensures.ok ∙ ap (with_entry c.args.key (view c.args.value)) (view_entries c.args.self.now) in
-    ap (entry_of c.args.key) e ∙ found c.args.key (view c.args.value) (map_view c.args.self.now)
+    ap (entry_of c.args.key) c.in_ok-put_entry.ensures.ok ∙ found c.args.key (view c.args.value) (map pair_view c.self.inside.pairs.items)
 
 pub returns-clause-others : goal.returns-clause-others
 returns-clause-others c =
-    let e : map_view (roll-ValueMap (record { pairs = c.put_entry.new.pairs })) ≡ with_entry c.args.key (view c.args.value) (map_view c.args.self.now) = view_pairs c.put_entry.new.pairs ∙ c.in_ok-put_entry.ensures.ok ∙ ap (with_entry c.args.key (view c.args.value)) (view_entries c.args.self.now) in
-    λ k h. ap (entry_of k) e ∙ others k c.args.key (view c.args.value) (map_view c.args.self.now) h
-
-pub returns-clause-rising : goal.returns-clause-rising
-returns-clause-rising c =
-    let e : map_view (roll-ValueMap (record { pairs = c.put_entry.new.pairs })) ≡ with_entry c.args.key (view c.args.value) (map_view c.args.self.now) = view_pairs c.put_entry.new.pairs ∙ c.in_ok-put_entry.ensures.ok ∙ ap (with_entry c.args.key (view c.args.value)) (view_entries c.args.self.now) in
-    λ r. subst Rising (sym e) (rising c.args.key (view c.args.value) (map_view c.args.self.now) r)
+    λ k h. ap (entry_of k) c.in_ok-put_entry.ensures.ok ∙ others k c.args.key (view c.args.value) (map pair_view c.self.inside.pairs.items) h ∙ ap (entry_of k) c.self.view_is
