@@ -1,3 +1,3 @@
-mod Items
+mod Giving
 mod Missing
 mod Talking

@@ -9,7 +9,9 @@ ghost use Rattle.spec_prims.specs.Talk.{notified, awake, online, connected, conn
 ghost use Rattle.prim_common.specs.Applied.{Makes, items_of};
 ghost use Rattle.prim_talk.specs.Told.{told_in};
 
-use crate::items::{counted, number_item, player_at, player_item, with_count};
+use crate::items::{
+    count_connected, counted, is_place, numbers_counted, player_at, players_counted,
+};
 use muck_model::Dbref;
 use muck_perm::Guard;
 use muf_frame::{Frame, PrimFault};
@@ -49,24 +51,17 @@ pub(crate) fn awake(guard: &Guard, frame: &Frame) -> Result<Made, PrimFault>
 }
 
 /// ONLINE.
-#[tactic(auto, using(crate::proofs::Items::item_steps))]
 pub(crate) fn online(guard: &Guard) -> Result<Made, PrimFault>
     ensures { Makes (online guard.now.actor [] (world_of guard.now)) guard.now guard.now result }
 {
-    let connections = guard.board().connections().iter();
-    let players = connections
-        .filter_map(|c| player_item(c))
-        .collect(guard.alloc())?;
-    Ok(with_count(players)?)
+    Ok(players_counted(guard)?)
 }
 
 /// CONCOUNT.
 pub(crate) fn connected(guard: &Guard) -> Result<Made, PrimFault>
     ensures { Makes (connected guard.now.actor [] (world_of guard.now)) guard.now guard.now result }
 {
-    let connections = guard.board().connections().iter();
-    let count = connections.filter(|c| c.has_player()).count();
-    Ok(Made::One(counted(count)))
+    Ok(Made::One(counted(count_connected(guard))))
 }
 
 /// What CONDBREF says of its argument: nobody has that place.
@@ -74,9 +69,10 @@ pub(crate) fn outside(guard: &Guard, frame: &Frame) -> Option<MufFault>
     ensures { result ≡ outside guard.now.actor (take 1 (flat frame.now).stack) (world_of guard.now) }
 {
     let place = frame.int_at(0)?;
-    match player_at(guard, place) {
-        Some(_) => None,
-        None => Some(MufFault::BadArgument),
+    if is_place(guard, place) {
+        None
+    } else {
+        Some(MufFault::BadArgument)
     }
 }
 
@@ -88,26 +84,20 @@ pub(crate) fn connected_at(guard: &Guard, frame: &Frame) -> Result<Made, PrimFau
     let Some(place) = frame.int_at(0) else {
         return Err(PrimFault::Fault(MufFault::BadType));
     };
-    match player_at(guard, place) {
+    match player_at(guard, place)? {
         Some(player) => Ok(Made::One(Value::Ref(player))),
         None => Err(PrimFault::Fault(MufFault::BadArgument)),
     }
 }
 
 /// DESCRIPTORS.
-#[tactic(auto, using(crate::proofs::Items::item_steps))]
 pub(crate) fn descriptors(guard: &Guard, frame: &Frame) -> Result<Made, PrimFault>
     ensures { Makes (descriptors guard.now.actor (take 1 (flat frame.now).stack) (world_of guard.now)) guard.now guard.now result }
 {
     let Some(player) = frame.object_at(0) else {
         return Err(PrimFault::Fault(MufFault::BadType));
     };
-    let connections = guard.board().connections().iter();
-    let numbers = connections
-        .filter(|c| c.is_of(player))
-        .map(|c| number_item(c))
-        .collect(guard.alloc())?;
-    Ok(with_count(numbers)?)
+    Ok(numbers_counted(guard, player)?)
 }
 
 /// DESCR.

@@ -1,10 +1,10 @@
 -- The rows of the primitives that talk to players.
-use Rattle.std.specs.Prelude.{ℕ, suc, Bool, true, false, ℤ, pos, negsuc, min, List, [], ◌∷◌, length, map, reverse, slice_get, is_some, if◌then◌else◌, Option, Some, None}
+use Rattle.std.specs.Prelude.{ℕ, zero, suc, Bool, true, false, ◌&&◌, nat_le, ℤ, pos, negsuc, min, List, [], ◌∷◌, length, map, reverse, slice_get, if◌then◌else◌, Option, Some, None}
 use Rattle.std.specs.List.{filter, filter_map, count_by}
 use Rattle.std.specs.Int.{w32, cast_signed}
 use Rattle.std.specs.Option.{option_map_or}
 use Rattle.muck_model.specs.declared.dbref.Dbref.{Dbref}
-use Rattle.spec_live.specs.Connections.{Connection, is_of}
+use Rattle.spec_live.specs.Connections.{Connection, is_of, has_player}
 use Rattle.spec_live.specs.Lives.{Live, tell_player}
 use Rattle.spec_rights.specs.declared.act.Actor.{Actor}
 use Rattle.muf_model.specs.declared.fault.MufFault.{MufFault}
@@ -41,9 +41,18 @@ abbrev pub players : Live → List Dbref
 players w = filter_map (λ c. c.player) w.board.connections
 
 -- the i-th of them, from 1
+abbrev pub player_numbered : ℕ → Live → Option Dbref
+player_numbered zero w = None
+player_numbered (suc n) w = slice_get (players w) n
+
 abbrev pub player_at : ℤ → Live → Option Dbref
-player_at (pos (suc n)) w = slice_get (players w) n
-player_at i w = None
+player_at (pos n) w = player_numbered n w
+player_at (negsuc n) w = None
+
+-- there is one
+abbrev pub is_place : ℤ → Live → Bool
+is_place (pos n) w = nat_le 1 n && nat_le n (count_by has_player w.board.connections)
+is_place (negsuc n) w = false
 
 -- Rows.
 
@@ -62,7 +71,7 @@ abbrev pub online : Actor → List Datum → Live → Row
 online a items w = gives (with_count (map player_item (players w))) w
 
 abbrev pub connected : Actor → List Datum → Live → Row
-connected a items w = gives (counted (length (players w)) ∷ []) w
+connected a items w = gives (counted (count_by has_player w.board.connections) ∷ []) w
 
 -- CONDBREF: one of them by its place
 abbrev pub player_given : Option Dbref → Live → Row
@@ -75,7 +84,7 @@ connected_at a items w = refuses BadType
 
 -- where nobody has that place
 abbrev pub outside : Actor → List Datum → Live → Option MufFault
-outside a (int i ∷ []) w = if is_some (player_at i w) then None else Some BadArgument
+outside a (int i ∷ []) w = if is_place i w then None else Some BadArgument
 outside a items w = None
 
 -- DESCRIPTORS: the numbers of a player's connections, rising
