@@ -56,10 +56,11 @@ pub struct Need {
     pub near: bool,
 }
 
-/// What a primitive takes under its fixed items: `each` as often as the item on the top says, the part that is taken
-/// first standing first, and `under` below all of these.
+/// What a primitive takes under its fixed items: `each` as often as the item says that stands `at` items below the top, the part
+/// that is taken first standing first, and `under` below all of these.
 #[derive(Clone, Copy)]
 pub struct Many {
+    pub at: usize,
     pub each: &'static [Need],
     pub under: &'static [Need],
 }
@@ -123,6 +124,7 @@ macro_rules! takes {
         Some(Needs {
             fixed: &[$($fixed),*],
             many: Some(Many {
+                at: 0,
                 each: &[$($each),*],
                 under: &[$($under),*],
             }),

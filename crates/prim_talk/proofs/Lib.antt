@@ -1,2 +1,3 @@
+mod Giving
 mod Missing
-mod Walks
+mod Talking

@@ -1,22 +1,23 @@
--- Rows, by what stands on the stack.
-use Rattle.std.proofs.Common.{◌≡◌, ℕ, List, [], ◌∷◌, Option, Some, None, refl, sym, ap, ◌∙◌}
+-- Primitives without a row, and those without a rule for their arguments.
+use Rattle.std.proofs.Common.{◌≡◌, ℕ, List, Option, None, refl}
 use Rattle.spec_live.specs.Lives.{Live}
 use Rattle.spec_rights.specs.declared.act.Actor.{Actor}
-use Rattle.muf_model.specs.declared.fault.MufFault.TheVariants.{NotCompiled}
-use Rattle.muf_model.specs.declared.prims.Family.TheVariants.{Talk}
 use Rattle.muf_model.specs.declared.prims.Primitive.{Primitive}
-use Rattle.muf_model.specs.declared.prims.Primitive.TheVariants.{Notify}
+use Rattle.muf_model.specs.declared.prims.Primitive.TheVariants.{Notify, IsAwake, Online, ConCount, ConDbref, Descriptors, Descr}
 use Rattle.muf_model.specs.Datum.{Datum}
-use Rattle.muf_model.specs.Prims.{family_of}
-use Rattle.spec_prims.specs.Row.{Doing, refuses}
 use Rattle.spec_prims.specs.Talk.{talk_row}
-use Rattle.spec_prims.specs.Shared.{row_in, done_by, shared}
+use Rattle.prim_common.specs.Applied.{argued_of}
 
-no_row : (p : Primitive) → (p ≡ Notify → ⊥) → talk_row p ≡ None
-no_row Notify h = absurd (h refl)
-no_row _ h = refl
+pub no_row : (descr : Option ℕ) (p : Primitive) → (p ≡ Notify → ⊥) → (p ≡ IsAwake → ⊥) → (p ≡ Online → ⊥) → (p ≡ ConCount → ⊥) → (p ≡ ConDbref → ⊥) → (p ≡ Descriptors → ⊥) → (p ≡ Descr → ⊥) → talk_row descr p ≡ None
+no_row descr Notify a b c d e f g = absurd (a refl)
+no_row descr IsAwake a b c d e f g = absurd (b refl)
+no_row descr Online a b c d e f g = absurd (c refl)
+no_row descr ConCount a b c d e f g = absurd (d refl)
+no_row descr ConDbref a b c d e f g = absurd (e refl)
+no_row descr Descriptors a b c d e f g = absurd (f refl)
+no_row descr Descr a b c d e f g = absurd (g refl)
+no_row descr _ a b c d e f g = refl
 
-pub without_row : (p : Primitive) (a : Actor) (locked : ℕ) (stack : List Datum) (w : Live) → family_of p ≡ Talk → (p ≡ Notify → ⊥) → shared p a locked stack w ≡ refuses NotCompiled
-unfolding shared
-without_row p a locked stack w talk other =
-    ap (λ (row : Option Doing). done_by row p a locked stack w) (ap (λ family. row_in family p) talk ∙ no_row p other)
+pub no_rule : (descr : Option ℕ) (p : Primitive) (a : Actor) (items : List Datum) (w : Live) → (p ≡ ConDbref → ⊥) → argued_of (talk_row descr p) a items w ≡ None
+no_rule descr ConDbref a items w h = absurd (h refl)
+no_rule descr _ a items w h = refl

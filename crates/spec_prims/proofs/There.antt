@@ -1,11 +1,17 @@
 -- What may be used of a family has its row.
-use Rattle.std.proofs.Common.{◌≡◌, Bool, true, false, refl}
+use Rattle.std.proofs.Common.{◌≡◌, ℕ, Bool, true, false, Option, refl}
 use Rattle.std.specs.Prelude.{◌&&◌, is_some}
 use Rattle.muf_model.specs.declared.prims.Primitive.{Primitive}
-use Rattle.muf_model.specs.declared.prims.Primitive.TheVariants.{Notify}
+use Rattle.muf_model.specs.declared.prims.Primitive.TheVariants.{Notify, IsAwake, Online, ConCount, ConDbref, Descriptors, Descr}
 use Rattle.muf_model.specs.Prims.{is_there}
 use Rattle.spec_prims.specs.Talk.{talk_row, is_talk}
 
-pub talk_there : (p : Primitive) → is_some (talk_row p) ≡ is_talk p && is_there p
-talk_there Notify = refl
-talk_there _ = refl
+pub talk_there : (descr : Option ℕ) (p : Primitive) → is_some (talk_row descr p) ≡ is_talk p && is_there p
+talk_there descr Notify = refl
+talk_there descr IsAwake = refl
+talk_there descr Online = refl
+talk_there descr ConCount = refl
+talk_there descr ConDbref = refl
+talk_there descr Descriptors = refl
+talk_there descr Descr = refl
+talk_there descr _ = refl

@@ -3,3 +3,4 @@ pub mod Row
 pub mod Talk
 pub mod Shared
 pub mod Rows
+pub mod TalkRows

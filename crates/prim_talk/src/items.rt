@@ -1,0 +1,147 @@
+// Items that the primitives of talk give, and who is connected.
+ghost use Rattle.std.specs.Prelude.{◌≡◌, IfOk, map, filter, filter_map, count_by};
+ghost use Rattle.std.specs.Int.{w32, cast_signed};
+ghost use Rattle.std.specs.Option.{option_map};
+ghost use Rattle.muf_model.specs.declared.value.Value.TheVariants.{Int, Ref};
+ghost use Rattle.muf_model.specs.View.{view};
+ghost use Rattle.muck_perm.specs.Guards.{world_of};
+ghost use Rattle.spec_live.specs.Connections.{is_of, has_player};
+ghost use Rattle.spec_prims.specs.Talk.{counted, with_count, player_at, player_numbered, is_place, player_item, number_item, players};
+ghost use Rattle.prim_common.specs.Applied.{items_of};
+
+use muck_board::Connection;
+use muck_model::{Dbref, NoMemory};
+use muck_perm::Guard;
+use muf_model::Value;
+use prim_common::Made;
+
+// The most that an integer counts.
+const COUNT_MOST: usize = 2_147_483_647;
+
+/// A count, as far as integers go.
+pub(crate) fn counted(count: usize) -> Value
+    ensures { view result ≡ counted count }
+{
+    Value::Int(count.min(COUNT_MOST) as i32)
+}
+
+// Items, the first of them the deepest, and their count upon them.
+fn with_count(items: Vec<Value>) -> Result<Made, NoMemory>
+    ensures { IfOk result (λ made. items_of made ≡ with_count (map view items.items)) }
+{
+    let count = counted(items.len());
+    let mut all = items;
+    all.push(count)?;
+    all.reverse();
+    Ok(Made::Many(all))
+}
+
+// The player of a connection.
+fn player_item(connection: &Connection) -> Option<Value>
+    ensures { result ≡ option_map Ref connection.now.player }
+{
+    let player = connection.player()?;
+    Some(Value::Ref(player))
+}
+
+// The number of a connection.
+fn number_item(connection: &Connection) -> Value
+    ensures { result ≡ Int (cast_signed w32 connection.now.number) }
+{
+    Value::Int(connection.number().cast_signed())
+}
+
+// The players of the connections that have one.
+fn player_values(guard: &Guard) -> Result<Vec<Value>, NoMemory>
+    ensures { IfOk result (λ items. items.items ≡ filter_map (λ c. option_map Ref c.player) guard.now.board.now.connections) }
+{
+    let connections = guard.board().connections().iter();
+    let items = connections
+        .filter_map(|c| player_item(c))
+        .collect(guard.alloc())?;
+    Ok(items)
+}
+
+/// The players of the connections that have one, and their count upon them.
+#[tactic(auto, using(crate::proofs::Giving::shown_players))]
+pub(crate) fn players_counted(guard: &Guard) -> Result<Made, NoMemory>
+    ensures { IfOk result (λ made. items_of made ≡ with_count (map player_item (players (world_of guard.now)))) }
+{
+    let players = player_values(guard)?;
+    with_count(players)
+}
+
+// The numbers of the connections of a player.
+fn number_values(guard: &Guard, player: Dbref) -> Result<Vec<Value>, NoMemory>
+    ensures { IfOk result (λ items. items.items ≡ map (λ c. Int (cast_signed w32 c.number)) (filter (is_of player) guard.now.board.now.connections)) }
+{
+    let connections = guard.board().connections().iter();
+    let items = connections
+        .filter(|c| c.is_of(player))
+        .map(|c| number_item(c))
+        .collect(guard.alloc())?;
+    Ok(items)
+}
+
+/// The numbers of the connections of a player, and their count upon them.
+#[tactic(auto, using(crate::proofs::Giving::shown_numbers))]
+pub(crate) fn numbers_counted(guard: &Guard, player: Dbref) -> Result<Made, NoMemory>
+    ensures { IfOk result (λ made. items_of made ≡ with_count (map number_item (filter (is_of player) guard.now.board.now.connections))) }
+{
+    let numbers = number_values(guard, player)?;
+    with_count(numbers)
+}
+
+// The players of the connections that have one.
+fn players(guard: &Guard) -> Result<Vec<Dbref>, NoMemory>
+    ensures { IfOk result (λ ds. ds.items ≡ players (world_of guard.now)) }
+{
+    let connections = guard.board().connections().iter();
+    let players = connections
+        .filter_map(|c| c.player())
+        .collect(guard.alloc())?;
+    Ok(players)
+}
+
+// The player at a place among these, from 1.
+#[tactic(auto, using(crate::proofs::Giving::numbered_at))]
+fn player_numbered(guard: &Guard, place: usize) -> Result<Option<Dbref>, NoMemory>
+    ensures { IfOk result (λ d. d ≡ player_numbered place (world_of guard.now)) }
+{
+    let players = players(guard)?;
+    if place == 0 {
+        return Ok(None);
+    }
+    Ok(players.get(place - 1).copied())
+}
+
+/// The player at a place among those who are connected, from 1.
+#[tactic(auto, using(crate::proofs::Giving::player_top))]
+pub(crate) fn player_at(guard: &Guard, place: i32) -> Result<Option<Dbref>, NoMemory>
+    ensures { IfOk result (λ d. d ≡ player_at place (world_of guard.now)) }
+{
+    if place < 0 {
+        return Ok(None);
+    }
+    player_numbered(guard, place as usize)
+}
+
+/// How many connections have a player.
+pub(crate) fn count_connected(guard: &Guard) -> usize
+    ensures { result ≡ count_by has_player guard.now.board.now.connections }
+{
+    let connections = guard.board().connections().iter();
+    connections.filter(|c| c.has_player()).count()
+}
+
+/// Whether somebody has that place.
+#[tactic(auto, using(crate::proofs::Giving::place_top))]
+pub(crate) fn is_place(guard: &Guard, place: i32) -> bool
+    ensures { result ≡ is_place place (world_of guard.now) }
+{
+    if place < 0 {
+        return false;
+    }
+    let place = place as usize;
+    1 <= place && place <= count_connected(guard)
+}
