@@ -1,14 +1,18 @@
 -- Changes one after another.
-use Rattle.std.proofs.Common.{◌≡◌, ℕ, ◌+◌, ◌<◌, ◌≤◌, List, [], ◌∷◌, length, drop, get_or, refl, sym, subst, add-one, drop-cons, Result}
+use Rattle.std.proofs.Common.{◌≡◌, ℕ, ◌+◌, ◌<◌, ◌≤◌, List, [], ◌∷◌, length, drop, get_or, refl, sym, subst, add-one, drop-cons, Result, Ok, Err, MatchResult}
 use Rattle.std.proofs.lemmas.List.{drop_all}
 use Rattle.muck_model.specs.declared.dbref.Dbref.{Dbref}
 use Rattle.muck_model.specs.declared.memory.NoMemory.{NoMemory}
-use Rattle.spec_live.specs.Lives.{unchanged, reading, tell}
+use Rattle.spec_live.specs.Lives.{Change, unchanged, reading, tell}
 use Rattle.spec_rights.specs.Levels.{name_shown}
 use Rattle.spec_commands.specs.Finding.{listed}
+use Rattle.spec_commands.specs.declared.outcome.Outcome.{Outcome}
+use Rattle.spec_commands.specs.declared.outcome.Outcome.TheVariants.{Done as Finished}
+use Rattle.spec_commands.specs.Going.{ended}
 use Rattle.muck_perm.specs.declared.guard.Guard.{Guard}
 use Rattle.muck_perm.specs.Guards.{Did, Done}
 use Rattle.muck_perm.proofs.Worlds.{kept_itself, did_both}
+use Rattle.cmd_common.specs.Plays.{Plays}
 
 pub did_nothing : (a : Guard) → Done unchanged a a
 unfolding unchanged
@@ -28,3 +32,9 @@ listed_none d player xs i a h =
     let P : List Dbref → Type 0 = λ ys. Done (listed d player ys) a a in
     let e : drop i xs ≡ [] = drop_all i xs h in
     subst P (sym e) (did_nothing a)
+
+-- a change that nothing is to follow
+pub plays_done : (f : Change) (old new : Guard) (shown : Result (Unit {0}) NoMemory) (result : Result Outcome NoMemory) → Did f old new shown → MatchResult shown (λ x. result ≡ Ok Finished) (λ e. result ≡ Err e) → Plays (ended Finished f) old new result
+unfolding ended
+plays_done f old new (Ok x) result d is = subst (λ r. Plays (ended Finished f) old new r) (sym is) (d, refl)
+plays_done f old new (Err e) result d is = subst (λ r. Plays (ended Finished f) old new r) (sym is) d

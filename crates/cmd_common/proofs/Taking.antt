@@ -60,3 +60,7 @@ pub plays_taken : (seek : (Arguments → Play) → Play) (go : Guard → Argumen
 plays_taken seek go args old mid new result t p =
     let P : Guard → Type 0 = λ g. Plays (go g args) g new result in
     plays_same (go old args) (seek (go old)) old new result (sym (t.1 (go old))) (subst P t.0 p)
+
+-- one whose arguments weren't
+pub plays_untaken : (seek : (Arguments → Play) → Play) (go : Arguments → Play) (old new : Guard) (found : Result (Option Arguments) NoMemory) → Takes seek old new found → found ≡ Ok None → Plays (seek go) old new (Ok Finished)
+plays_untaken seek go old new found t is = subst (λ q. Takes seek old new q) is t go

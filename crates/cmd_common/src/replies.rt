@@ -1,5 +1,5 @@
 // What several commands reply.
-ghost use Rattle.std.specs.Prelude.{◌≡◌, ◌++◌, IfOk, map, codes, decimal};
+ghost use Rattle.std.specs.Prelude.{◌≡◌, ◌++◌, Ok, Err, IfOk, MatchResult, map, codes, decimal};
 ghost use Rattle.std.specs.Char.{to_ascii_lowercase};
 ghost use Rattle.spec_live.specs.Lives.{tell};
 ghost use Rattle.spec_rights.specs.Asking.{refused, denied_text};
@@ -9,6 +9,7 @@ ghost use Rattle.muck_perm.specs.Guards.{Did};
 
 use muck_model::{Denial, NoMemory};
 use muck_perm::Guard;
+use spec_commands::Outcome;
 
 /// What was asked can't be done, and the connection is told so.
 #[tactic(auto, unfolding(spec_commands::specs::Replies::cant_be_done))]
@@ -50,4 +51,12 @@ pub fn refuse(guard: &mut Guard, d: u32, denial: Denial) -> Result<(), NoMemory>
     let text = format!(in guard.alloc(); "Permission denied (P{rule}).")?;
     guard.tell(d, text.as_bytes())?;
     Ok(())
+}
+
+/// A command is done, and nothing is to follow it; or memory was wanted.
+pub fn done(shown: Result<(), NoMemory>) -> Result<Outcome, NoMemory>
+    ensures { MatchResult shown (λ x. result ≡ Ok Outcome.Done) (λ e. result ≡ Err e) }
+{
+    shown?;
+    Ok(Outcome::Done)
 }

@@ -8,7 +8,7 @@ use Rattle.spec_commands.specs.declared.typed.Typed.{Typed}
 use Rattle.spec_commands.specs.declared.word.Message.{Message}
 use Rattle.spec_commands.specs.Messages.{with_message}
 use Rattle.muck_perm.specs.declared.guard.Guard.{Guard}
-use Rattle.muck_perm.specs.Guards.{Did}
+use Rattle.muck_perm.specs.Guards.{Same, Did, Done}
 use Rattle.muck_perm.proofs.Worlds.{kept_after, same_after}
 use Rattle.cmd_play.specs.Speaking.{Says}
 
@@ -20,8 +20,8 @@ was_spoken a typed m x otherwise go old mid new text (Err fault) s e = same_afte
 pub was_not_there : {X : Type 0} (a : Actor) (typed : Typed) (m : Message) (x : Dbref) (otherwise : Change) (go : List ℕ → Change) (old mid new : Guard) (r : Result X NoMemory) →
     Says (with_message a typed m x) old mid (Ok None) → Did otherwise mid new r → Did (with_message a typed m x otherwise go) old new r
 was_not_there a typed m x otherwise go old mid new (Ok y) s e =
-    let there : Did otherwise old new (Ok y) = subst (λ g. Did otherwise g new (Ok y)) s.0 e in
+    let there : Done otherwise old new = subst (λ g. Done otherwise g new) s.0 e in
     (there.0 ∙ sym (s.1 otherwise go), there.1)
-was_not_there a typed m x otherwise go old mid new (Err fault) s e = subst (λ g. Did otherwise g new (Err fault)) s.0 e
+was_not_there a typed m x otherwise go old mid new (Err fault) s e = subst (λ g. Same g new) s.0 e
 
 pub ruleset saying = (was_spoken, was_not_there)

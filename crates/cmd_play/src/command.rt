@@ -1,5 +1,5 @@
 // A line of a player.
-ghost use Rattle.std.specs.Prelude.{◌≡◌, None, OnOk, map};
+ghost use Rattle.std.specs.Prelude.{◌≡◌, None, Ok, Err, MatchResult, OnOk, map};
 ghost use Rattle.muck_model.specs.Bytes.{text_fault};
 ghost use Rattle.spec_live.specs.Lives.{tell, either};
 ghost use Rattle.spec_rights.specs.Licence.{Licensed};
@@ -89,8 +89,16 @@ fn say_goodbye(guard: &mut Guard, d: u32) -> Result<(), NoMemory>
     guard.tell(d, b"Come back later!")
 }
 
+// A command that nothing is to follow.
+fn done(shown: Result<(), NoMemory>) -> Result<Outcome, NoMemory>
+    ensures { MatchResult shown (λ x. result ≡ Ok Outcome.Done) (λ e. result ≡ Err e) }
+{
+    shown?;
+    Ok(Outcome::Done)
+}
+
 // What each does. What was typed is kept for those alone that show a message.
-#[tactic(auto, unfolding(spec_commands::specs::Going::ended, spec_commands::specs::Commands::play_done))]
+#[tactic(auto, using(cmd_common::proofs::Doing::plays_done), unfolding(spec_commands::specs::Going::ended, spec_commands::specs::Commands::play_done))]
 fn perform(
     guard: &mut Guard,
     d: u32,
@@ -107,24 +115,23 @@ fn perform(
     let first = &args.first;
     let text = &args.second.text;
     match command {
-        PlayWord::Look => look_around(guard, d, &typed_of(alloc, word, rest)?, first)?,
-        PlayWord::Say => say(guard, d, &first.text)?,
-        PlayWord::Pose => pose(guard, d, &first.text)?,
-        PlayWord::Page => page(guard, d, first.object, text)?,
-        PlayWord::Whisper => whisper(guard, d, first.object, text)?,
-        PlayWord::Go => return go(guard, d, &first.text),
-        PlayWord::Get => take(guard, d, &typed_of(alloc, word, rest)?, first.object)?,
-        PlayWord::Drop => drop(guard, d, &typed_of(alloc, word, rest)?, first.object)?,
-        PlayWord::Inventory => inventory(guard, d)?,
-        PlayWord::Home => go_home(guard, d)?,
-        PlayWord::Examine => examine(guard, d, first.object)?,
-        PlayWord::Who => who(guard, d)?,
+        PlayWord::Look => done(look_around(guard, d, &typed_of(alloc, word, rest)?, first)),
+        PlayWord::Say => done(say(guard, d, &first.text)),
+        PlayWord::Pose => done(pose(guard, d, &first.text)),
+        PlayWord::Page => done(page(guard, d, first.object, text)),
+        PlayWord::Whisper => done(whisper(guard, d, first.object, text)),
+        PlayWord::Go => go(guard, d, &first.text),
+        PlayWord::Get => done(take(guard, d, &typed_of(alloc, word, rest)?, first.object)),
+        PlayWord::Drop => done(drop(guard, d, &typed_of(alloc, word, rest)?, first.object)),
+        PlayWord::Inventory => done(inventory(guard, d)),
+        PlayWord::Home => done(go_home(guard, d)),
+        PlayWord::Examine => done(examine(guard, d, first.object)),
+        PlayWord::Who => done(who(guard, d)),
         PlayWord::Quit => {
             say_goodbye(guard, d)?;
-            return Ok(Outcome::Leave);
+            Ok(Outcome::Leave)
         }
     }
-    Ok(Outcome::Done)
 }
 
 // A command with the text behind its word.
