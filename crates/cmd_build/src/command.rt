@@ -14,7 +14,7 @@ use crate::messages::set_message;
 use crate::programs::{edit, list, program, start};
 use crate::searching::find;
 use crate::writing::{link, rename, unlink};
-use cmd_common::{Write, after_word, arguments, looked_up, try_write};
+use cmd_common::{Write, after_word, arguments, done, looked_up, try_write};
 use muck_model::{Dbref, Line, NoMemory};
 use muck_perm::Guard;
 use spec_commands::{
@@ -83,7 +83,7 @@ fn shape_of(command: BuildWord) -> Shape
 }
 
 // Does what a command asks, with its arguments.
-#[tactic(auto, unfolding(spec_commands::specs::Going::ended, spec_commands::specs::Commands::build_done, spec_commands::specs::Building::teleported, spec_commands::specs::Building::recycled, spec_commands::specs::Building::chowned, spec_commands::specs::Replies::teleported_reply, spec_commands::specs::Replies::recycled_reply, spec_commands::specs::Replies::chowned_reply))]
+#[tactic(auto, using(cmd_common::proofs::Doing::plays_done), unfolding(spec_commands::specs::Going::ended, spec_commands::specs::Commands::build_done, spec_commands::specs::Building::teleported, spec_commands::specs::Building::recycled, spec_commands::specs::Building::chowned, spec_commands::specs::Replies::teleported_reply, spec_commands::specs::Replies::recycled_reply, spec_commands::specs::Replies::chowned_reply))]
 fn perform(
     guard: &mut Guard,
     d: u32,
@@ -99,30 +99,29 @@ fn perform(
     let text = args.first.text;
     let behind = args.second.text;
     match command {
-        BuildWord::Dig => make(guard, d, New::Room, text, Dbref(0))?,
-        BuildWord::Create => make_thing(guard, d, text)?,
-        BuildWord::Open => open(guard, d, text, y)?,
-        BuildWord::Action => make(guard, d, New::Exit(Dbref(-1)), text, y)?,
-        BuildWord::Link => link(guard, d, x, y)?,
-        BuildWord::Unlink => unlink(guard, d, x)?,
-        BuildWord::Name => rename(guard, d, x, behind)?,
-        BuildWord::Set(message) => set_message(guard, d, x, message, behind)?,
-        BuildWord::Lock => lock(guard, d, x, &behind)?,
-        BuildWord::Unlock => unlock(guard, d, x)?,
-        BuildWord::Teleport => try_write(guard, d, Write::Place(x, y), b"Teleported.")?,
-        BuildWord::Recycle => try_write(guard, d, Write::Recycle(x), b"Recycled.")?,
-        BuildWord::Chown => try_write(guard, d, Write::Owner(x, y), b"Owner changed.")?,
-        BuildWord::Find => find(guard, d, &text)?,
-        BuildWord::Program => return program(guard, d, text),
-        BuildWord::Edit => return edit(guard, d, x),
-        BuildWord::List => return list(guard, d, x),
-        BuildWord::Run => return start(guard, d, line, x, behind),
+        BuildWord::Dig => done(make(guard, d, New::Room, text, Dbref(0))),
+        BuildWord::Create => done(make_thing(guard, d, text)),
+        BuildWord::Open => done(open(guard, d, text, y)),
+        BuildWord::Action => done(make(guard, d, New::Exit(Dbref(-1)), text, y)),
+        BuildWord::Link => done(link(guard, d, x, y)),
+        BuildWord::Unlink => done(unlink(guard, d, x)),
+        BuildWord::Name => done(rename(guard, d, x, behind)),
+        BuildWord::Set(message) => done(set_message(guard, d, x, message, behind)),
+        BuildWord::Lock => done(lock(guard, d, x, &behind)),
+        BuildWord::Unlock => done(unlock(guard, d, x)),
+        BuildWord::Teleport => done(try_write(guard, d, Write::Place(x, y), b"Teleported.")),
+        BuildWord::Recycle => done(try_write(guard, d, Write::Recycle(x), b"Recycled.")),
+        BuildWord::Chown => done(try_write(guard, d, Write::Owner(x, y), b"Owner changed.")),
+        BuildWord::Find => done(find(guard, d, &text)),
+        BuildWord::Program => program(guard, d, text),
+        BuildWord::Edit => edit(guard, d, x),
+        BuildWord::List => list(guard, d, x),
+        BuildWord::Run => start(guard, d, line, x, behind),
     }
-    Ok(Outcome::Done)
 }
 
 // Reads a line and does what it asks.
-#[tactic(auto, using(cmd_common::proofs::Taking::plays_taken), unfolding(spec_commands::specs::Commands::build_line, spec_commands::specs::Reading::by_table, spec_commands::specs::Going::ended, spec_live::specs::Lives::unchanged))]
+#[tactic(auto, using(cmd_common::proofs::Taking::plays_taken, cmd_common::proofs::Taking::plays_untaken), unfolding(spec_commands::specs::Commands::build_line, spec_commands::specs::Reading::by_table, spec_commands::specs::Going::ended, spec_live::specs::Lives::unchanged))]
 fn play(guard: &mut Guard, d: u32, line: &Line) -> Result<Outcome, NoMemory>
     ensures { Plays (build_line d guard.old.actor line.now) guard.old guard.new result }
 {
