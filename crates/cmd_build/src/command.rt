@@ -2,7 +2,7 @@
 ghost use Rattle.std.specs.Prelude.{◌≡◌, map, OnOk};
 ghost use Rattle.spec_rights.specs.Licence.{Licensed, clearing, nobody};
 ghost use Rattle.spec_commands.specs.Free.{clears};
-ghost use Rattle.spec_commands.specs.Reading.{shaped};
+ghost use Rattle.spec_commands.specs.Reading.{shaped, with_arguments};
 ghost use Rattle.spec_commands.specs.Commands.{build_words, build_shape, build_done, build_line};
 ghost use Rattle.muck_perm.specs.Guards.{world_of};
 ghost use Rattle.cmd_common.specs.Plays.{Plays};
@@ -120,8 +120,26 @@ fn perform(
     }
 }
 
+// A command with the text behind its word.
+#[tactic(auto, using(cmd_common::proofs::Taking::plays_taken))]
+fn do_command(
+    guard: &mut Guard,
+    d: u32,
+    line: &Line,
+    command: BuildWord,
+    word: &[u8],
+    text: &Line,
+) -> Result<Outcome, NoMemory>
+    ensures { Plays (with_arguments d guard.old.actor word.now (build_shape command) text.now (build_done d guard.old.actor line.now command)) guard.old guard.new result }
+{
+    match arguments(guard, d, word, shape_of(command), text)? {
+        Some(args) => perform(guard, d, line, command, args),
+        None => Ok(Outcome::Done),
+    }
+}
+
 // Reads a line and does what it asks.
-#[tactic(auto, using(cmd_common::proofs::Taking::plays_taken, cmd_common::proofs::Taking::plays_untaken), unfolding(spec_commands::specs::Commands::build_line, spec_commands::specs::Reading::by_table, spec_commands::specs::Going::ended, spec_live::specs::Lives::unchanged))]
+#[tactic(auto, unfolding(spec_commands::specs::Commands::build_line, spec_commands::specs::Reading::by_table, spec_commands::specs::Going::ended, spec_live::specs::Lives::unchanged))]
 fn play(guard: &mut Guard, d: u32, line: &Line) -> Result<Outcome, NoMemory>
     ensures { Plays (build_line d guard.old.actor line.now) guard.old guard.new result }
 {
@@ -130,10 +148,7 @@ fn play(guard: &mut Guard, d: u32, line: &Line) -> Result<Outcome, NoMemory>
         return Ok(Outcome::NotMine);
     };
     let text = after_word(guard.alloc(), line)?;
-    match arguments(guard, d, word, shape_of(command), &text)? {
-        Some(args) => perform(guard, d, line, command, args),
-        None => Ok(Outcome::Done),
-    }
+    do_command(guard, d, line, command, word, &text)
 }
 
 /// Does a line of the player at the connection d, where its first word is one of builders; else it answers `NotMine`, and

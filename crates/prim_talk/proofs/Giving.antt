@@ -17,13 +17,12 @@ use Rattle.muf_frame.specs.Answers.{object_at}
 use Rattle.spec_prims.specs.Asking.{numbered}
 use Rattle.spec_prims.specs.Row.{gives}
 use Rattle.muf_model.specs.View.{view}
-use Rattle.muf_model.proofs.Views.{view_int, view_object}
 use Rattle.spec_prims.specs.Talk.{counted, player_item, number_item, with_count, players, player_numbered, player_at, is_place, descriptors}
 
 -- the players of connections
 joined_player : (player : Option Dbref) (values : List Value) (ds : List Dbref) → map view values ≡ map player_item ds → map view (cons_option (option_map Ref player) values) ≡ map player_item (cons_option player ds)
 joined_player None values ds e = e
-joined_player (Some d) values ds e = ap (λ x. x ∷ map view values) (view_object d) ∙ ap (λ xs. player_item d ∷ xs) e
+joined_player (Some d) values ds e = ap (λ xs. player_item d ∷ xs) e
 
 pub shown_players : (cs : List Connection) → map view (filter_map (λ c. option_map Ref c.player) cs) ≡ map player_item (filter_map (λ c. c.player) cs)
 shown_players [] = refl
@@ -32,7 +31,7 @@ shown_players (c ∷ cs) = joined_player c.player _ _ (shown_players cs)
 -- and their numbers
 pub shown_numbers : (cs : List Connection) → map view (map (λ c. Int (cast_signed w32 c.number)) cs) ≡ map number_item cs
 shown_numbers [] = refl
-shown_numbers (c ∷ cs) = ap (λ x. x ∷ map view (map (λ c. Int (cast_signed w32 c.number)) cs)) (view_int (cast_signed w32 c.number)) ∙ ap (λ xs. number_item c ∷ xs) (shown_numbers cs)
+shown_numbers (c ∷ cs) = ap (λ xs. number_item c ∷ xs) (shown_numbers cs)
 
 -- items with their count upon them
 pub shown_count : (items : List Value) (count : Value) → view count ≡ counted (length items) → map view (reverse (items ++ count ∷ [])) ≡ with_count (map view items)

@@ -1,0 +1,12 @@
+use Rattle.std.proofs.Common.{rules, ◌≡◌, None, Ok, subst}
+use Rattle.spec_commands.specs.Reading.{with_arguments}
+use Rattle.spec_commands.specs.Commands.{build_shape, build_done}
+use Rattle.cmd_common.specs.Takes.{Takes}
+use Rattle.cmd_common.proofs.Taking.{plays_untaken}
+use Rattle.cmd_build.proofs.command.do_command.Goals as goal
+
+pub returns-in-None : goal.returns-in-None
+returns-in-None c =
+    let none : c.arguments.result ≡ Ok None = search rules in
+    let sought = subst (λ shape. Takes (with_arguments c.args.d c.args.guard.now.actor c.args.word.now shape c.args.text.now) c.args.guard.now c.arguments.new.guard c.arguments.result) c.shape_of.ensures c.arguments.ensures.takes in
+    plays_untaken (with_arguments c.args.d c.args.guard.now.actor c.args.word.now (build_shape c.args.command) c.args.text.now) (build_done c.args.d c.args.guard.now.actor c.args.line.now c.args.command) c.args.guard.now c.arguments.new.guard c.arguments.result sought none
