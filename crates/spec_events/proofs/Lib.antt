@@ -3,6 +3,7 @@ pub mod Told
 pub mod Endings
 pub mod Done
 pub mod Units
+mod Untouched
 mod Remaining
 pub mod Taken
 mod Judged

@@ -13,7 +13,6 @@ use Rattle.muf_model.specs.Unit.{Outcome, goes, faulted, asks, unit, fault}
 use Rattle.muf_model.specs.Chains.{Deed, does, fails}
 use Rattle.spec_prims.specs.Row.{Row, gives, refuses}
 use Rattle.spec_prims.specs.Shared.{shared}
-use Rattle.spec_prims.proofs.Quiet.{Keeps, shared_keeps}
 use Rattle.muck_library.specs.Library.{Library}
 use Rattle.muck_queue.specs.declared.process.Process.{Process}
 use Rattle.muck_queue.specs.Queues.{Queue, at_state, changed_first, has_pid, process, standing, without, without_first}
@@ -22,6 +21,7 @@ use Rattle.spec_events.specs.World.{World}
 use Rattle.spec_events.specs.Following.{settled}
 use Rattle.spec_events.specs.Slices.{acting, lifted, row_done, called, with_forms, deed, stands_at, broken, went, after_deed, unit_done, limit_fault, within_limit, turn, world_of}
 use Rattle.spec_events.specs.Endings.{Remains, ProcessesLicensed, NoProcess, EndsIn, by_itself}
+use Rattle.spec_events.proofs.Untouched.{Keeps, shared_keeps}
 use Rattle.spec_events.proofs.Endings.{IsTold, lasting_settled, processes_remain}
 
 remains_same : (Ends : Process → Type 0) (o : Option Process) → Remains Ends o o
@@ -107,7 +107,7 @@ module _ (pid : ℤ) (w : World) where
   DeedAlone (fails f v) = v.queue ≡ w.queue
 
   alone_row : (s : Source) (row : Row) → Keeps w.live row → DeedAlone (lifted s w row)
-  alone_row s (gives stack live) h = (refl, h.objects)
+  alone_row s (gives stack live) h = (refl, h)
   alone_row s (refuses f) h = refl
 
   alone_forms : (d : Deed Library) → DeedAlone (with_forms w d)
@@ -118,7 +118,7 @@ module _ (pid : ℤ) (w : World) where
   unfolding deed row_done
   alone_deed x Call s = alone_forms (called w.live.objects (acting x s w.live.objects) s w.library)
   alone_deed x p s =
-      alone_row s (shared p (acting x s w.live.objects) (locked_of s.marks) s.stack w.live) (shared_keeps p (acting x s w.live.objects) (locked_of s.marks) s.stack w.live)
+      alone_row s (shared p (acting x s w.live.objects) x.descr (locked_of s.marks) s.stack w.live) (shared_keeps p (acting x s w.live.objects) x.descr (locked_of s.marks) s.stack w.live)
 
   -- where nothing is to be told, nothing follows
   none_follows : (v : World) → IsTold v.live → ProcessesLicensed NoProcess v (settled v)
