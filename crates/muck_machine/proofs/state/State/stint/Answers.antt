@@ -11,7 +11,7 @@ use Rattle.muck_machine.proofs.state.State.stint.Goals as goal
 pub returns-in_default : goal.returns-in_default
 returns-in_default c =
     let h = c.ranges.pid in
-    none_so c.args.pid (record { player = record { 0 = pos 0 }; trigger = record { 0 = pos 0 } }) c.args.left c.args.self.now c.lend.new.self (sym (simp to_z-of_z at c.in_default.ensures.seat)) (simp to_z-of_z at c.lend.ensures.out)
+    none_so c.args.pid (record { player = record { 0 = pos 0 }; trigger = record { 0 = pos 0 }; descr = None }) c.args.left c.args.self.now c.lend.new.self (sym (simp to_z-of_z at c.in_default.ensures.seat)) (simp to_z-of_z at c.lend.ensures.out)
 
 pub returns-then-left-eq0 : goal.returns-then-left-eq0
 returns-then-left-eq0 c =
