@@ -8,34 +8,53 @@ use muck_prop::{PropValue, read_path};
 use std::alloc::Global;
 use tests_rows::{line, lines_of, part};
 
-// The starting world with a program, #2, of this source. Room Zero has properties, of which those below `_defs` are definitions.
-fn world(alloc: Global, source: &[u8]) -> Result<Db, NoMemory> {
+// The starting world with a program, #2, of this source.
+fn with_program(alloc: Global, source: &[u8]) -> Result<Db, NoMemory> {
     let Ok(name) = Line::new(alloc, b"prog") else {
         return Err(NoMemory);
     };
+    let lines = lines_of(alloc, source, 1)?;
     let mut db = Db::starting(alloc)?;
     let _made = db.create(alloc, Kind::Program, name, Dbref(1), Dbref(0));
-    let lines = lines_of(alloc, source, 1)?;
     if lines.len() <= 4096 {
         let _set = db.set_lines(Dbref(2), lines);
     }
-    for (path, text, number) in [
-        ("_defs", "1", 0),
-        ("_defs/word", "\"hello\"", 0),
-        ("_defs/a/b", "", 5),
-        ("_defs/negative", "", -7),
-        ("_defs/deeper", "a/b a/b", 0),
-        ("_def/top", "1", 0),
-        ("a/_defs/elsewhere", "1", 0),
-    ] {
-        let value = match text {
-            "" => PropValue::Number(number),
-            text => PropValue::Text(line(alloc, text.as_bytes())?),
-        };
-        if let Ok(path) = read_path(alloc, &line(alloc, path.as_bytes())?) {
-            let _stored = db.put_prop(Dbref(0), path, value);
-        }
+    Ok(db)
+}
+
+// What a property is that holds this text, or this number where the text is empty.
+fn value_of(alloc: Global, text: &[u8], number: i32) -> Result<PropValue, NoMemory> {
+    if text.is_empty() {
+        return Ok(PropValue::Number(number));
     }
+    Ok(PropValue::Text(line(alloc, text)?))
+}
+
+// Room Zero gets a property.
+fn put(alloc: Global, db: &mut Db, path: &[u8], text: &[u8], number: i32) -> Result<(), NoMemory> {
+    let value = value_of(alloc, text, number)?;
+    let path = line(alloc, path)?;
+    if let Ok(path) = read_path(alloc, &path) {
+        let _stored = db.put_prop(Dbref(0), path, value);
+    }
+    Ok(())
+}
+
+// Room Zero gets properties, of which those below `_defs` are definitions.
+fn define(alloc: Global, db: &mut Db) -> Result<(), NoMemory> {
+    put(alloc, db, b"_defs", b"1", 0)?;
+    put(alloc, db, b"_defs/word", b"\"hello\"", 0)?;
+    put(alloc, db, b"_defs/a/b", b"", 5)?;
+    put(alloc, db, b"_defs/negative", b"", -7)?;
+    put(alloc, db, b"_defs/deeper", b"a/b a/b", 0)?;
+    put(alloc, db, b"_def/top", b"1", 0)?;
+    put(alloc, db, b"a/_defs/elsewhere", b"1", 0)
+}
+
+// The starting world with a program, #2, of this source, and with definitions.
+fn world(alloc: Global, source: &[u8]) -> Result<Db, NoMemory> {
+    let mut db = with_program(alloc, source)?;
+    define(alloc, &mut db)?;
     Ok(db)
 }
 
