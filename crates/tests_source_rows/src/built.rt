@@ -78,32 +78,62 @@ pub fn build_row(alloc: Global, rest: &[u8]) -> Result<Vec<u8>, NoMemory> {
     }
 }
 
+// The form of #2, made where it isn't there.
+fn formed_text(alloc: Global, library: &mut Library, db: &Db) -> Result<Vec<u8>, NoMemory> {
+    match library.formed(alloc, db, Dbref(2))? {
+        Some(code) => code_text(alloc, code.get()),
+        None => owned(alloc, b"none"),
+    }
+}
+
+// The form of #2 that is kept.
+fn kept_text(alloc: Global, library: &Library) -> Result<Vec<u8>, NoMemory> {
+    match library.form(Dbref(2)) {
+        Some(code) => code_text(alloc, code.get()),
+        None => owned(alloc, b"none"),
+    }
+}
+
+// #2 is built anew.
+fn rebuilt_text(alloc: Global, library: &mut Library, db: &Db) -> Result<Vec<u8>, NoMemory> {
+    match library.rebuild(alloc, db, Dbref(2))? {
+        Some(flaw) => flaw_text(alloc, BuildFault::Refused(flaw)),
+        None => owned(alloc, b"built"),
+    }
+}
+
+// What an act answers.
+fn act_text(
+    alloc: Global,
+    library: &mut Library,
+    db: &Db,
+    word: &[u8],
+) -> Result<Vec<u8>, NoMemory> {
+    match word {
+        b"form" => formed_text(alloc, library, db),
+        b"kept" => kept_text(alloc, library),
+        b"rebuild" => rebuilt_text(alloc, library, db),
+        _ => {
+            library.drop_form(Dbref(2));
+            owned(alloc, b"dropped")
+        }
+    }
+}
+
+// An act and the source behind it, in a world of its own.
+fn acted(alloc: Global, library: &mut Library, act: &[u8]) -> Result<Vec<u8>, NoMemory> {
+    let (word, source) = first_word(act);
+    let db = world(alloc, source)?;
+    act_text(alloc, library, &db, word)
+}
+
 /// What each of these acts on the form of the program #2 answers, where its source is the one behind the act: `form` is the one
 /// that is kept or made now, `kept` the one that is kept.
 pub fn forms_row(alloc: Global, acts: &[u8]) -> Result<Vec<u8>, NoMemory> {
     let mut library = Library::new(alloc);
     let mut text = Vec::new(alloc);
     for act in lines_of(alloc, acts, 1)?.as_slice() {
-        let (word, source) = first_word(act.as_slice());
-        let db = world(alloc, source)?;
-        let answer = match word {
-            b"form" => match library.formed(alloc, &db, Dbref(2))? {
-                Some(code) => code_text(alloc, code.get())?,
-                None => owned(alloc, b"none")?,
-            },
-            b"kept" => match library.form(Dbref(2)) {
-                Some(code) => code_text(alloc, code.get())?,
-                None => owned(alloc, b"none")?,
-            },
-            b"rebuild" => match library.rebuild(alloc, &db, Dbref(2))? {
-                Some(flaw) => flaw_text(alloc, BuildFault::Refused(flaw))?,
-                None => owned(alloc, b"built")?,
-            },
-            _ => {
-                library.drop_form(Dbref(2));
-                owned(alloc, b"dropped")?
-            }
-        };
+        let answer = acted(alloc, &mut library, act.as_slice())?;
         part(&mut text, answer.as_slice())?;
         text.push(b'.')?;
     }
