@@ -1,11 +1,14 @@
 -- A row that changes the world gives no more items than it takes, so that there is room for them.
-use Rattle.std.proofs.Common.{◌≡◌, ◌≤◌, ◌⊎◌, inl, ℕ, List, [], ◌∷◌, length, Option, Some, None, arith}
+use Rattle.std.proofs.Common.{◌≡◌, ◌≤◌, ◌⊎◌, inl, inr, ℕ, List, [], ◌∷◌, length, Option, Some, None, refl, arith}
+use Rattle.std.specs.Prelude.{option_map, Result, Ok, Err}
 use Rattle.spec_live.specs.Lives.{Live}
 use Rattle.spec_rights.specs.declared.act.Actor.{Actor}
 use Rattle.muf_model.specs.declared.prims.Primitive.{Primitive}
 use Rattle.muf_model.specs.declared.prims.Primitive.TheVariants.{Notify}
+use Rattle.muf_model.specs.declared.fault.MufFault.{MufFault}
 use Rattle.muf_model.specs.Datum.{Datum, text, object}
 use Rattle.spec_prims.specs.Row.{Row, gives, refuses, Doing}
+use Rattle.spec_prims.specs.ObjectRows.{Finding, finding_of, finds, given, object_row}
 use Rattle.spec_prims.specs.Talk.{notified, talk_row}
 
 -- it gives at most as many, or changes nothing
@@ -23,7 +26,18 @@ fits_notified : (a : Actor) (items : List Datum) (w : Live) → Fits items w (no
 fits_notified a (text t ∷ object d ∷ []) w = inl (omega arith)
 fits_notified a _ w = tt
 
+fits_given : (items : List Datum) (w : Live) (found : Result Datum MufFault) → Fits items w (given w found)
+fits_given items w (Ok item) = inr refl
+fits_given items w (Err f) = tt
+
+fits_found : (p : Primitive) (o : Option Finding) → IsFit (option_map (finds p) o)
+fits_found p None = tt
+fits_found p (Some find) = λ a items w. fits_given items w (find a w.objects items)
+
 -- and all of them
+
+pub fits_object : (p : Primitive) → IsFit (object_row p)
+fits_object p = fits_found p (finding_of p)
 
 pub fits_talk : (descr : Option ℕ) (p : Primitive) → IsFit (talk_row descr p)
 fits_talk descr Notify = fits_notified

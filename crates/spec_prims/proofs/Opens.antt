@@ -1,6 +1,7 @@
 -- What each row changes is open to who acts.
 use Rattle.std.proofs.Common.{◌≡◌, ℕ, Bool, true, false, cond, List, [], ◌∷◌, Option, Some, None, refl}
 use Rattle.std.specs.Option.{option_or}
+use Rattle.std.specs.Prelude.{option_map, Result, Ok, Err}
 use Rattle.spec_live.specs.Lives.{Live}
 use Rattle.spec_rights.specs.declared.act.Actor.{Actor}
 use Rattle.spec_rights.specs.declared.act.Act.{Act}
@@ -11,7 +12,7 @@ use Rattle.spec_rights.proofs.Shown.{quiet_tell_player}
 use Rattle.spec_live.specs.Lives.{unchanged}
 use Rattle.muf_model.specs.declared.fault.MufFault.{MufFault}
 use Rattle.muf_model.specs.declared.prims.Family.{Family}
-use Rattle.muf_model.specs.declared.prims.Family.TheVariants.{Talk}
+use Rattle.muf_model.specs.declared.prims.Family.TheVariants.{Object, Talk}
 use Rattle.muf_model.specs.declared.prims.Primitive.{Primitive}
 use Rattle.muf_model.specs.declared.prims.Primitive.TheVariants.{Notify}
 use Rattle.muf_model.specs.Datum.{Datum, text, object}
@@ -20,6 +21,7 @@ use Rattle.muf_model.specs.Needs.{Needs}
 use Rattle.muf_model.specs.Prims.{family_of, level_of, needs_of}
 use Rattle.spec_prims.specs.Asking.{numbered, level_fault}
 use Rattle.spec_prims.specs.Row.{Row, gives, refuses, Doing, unless, given_upon}
+use Rattle.spec_prims.specs.ObjectRows.{Finding, finding_of, finds, given, object_row}
 use Rattle.spec_prims.specs.Talk.{notified, talk_row}
 use Rattle.spec_prims.specs.Shared.{row_in, shared_row, taken, fault_by, first_fault, done_by, shared}
 
@@ -65,6 +67,17 @@ opens_notified : (a : Actor) (items : List Datum) (w : Live) → RowOpen a w (no
 opens_notified a (text t ∷ object d ∷ []) w = shows_open a w _ ((quiet_tell_player (numbered d) t).law w)
 opens_notified a _ w = tt
 
+opens_given : (a : Actor) (w : Live) (found : Result Datum MufFault) → RowOpen a w (given w found)
+opens_given a w (Ok item) = same_open a w
+opens_given a w (Err f) = tt
+
+opens_found : (p : Primitive) (o : Option Finding) → IsOpen (level_of p) (option_map (finds p) o)
+opens_found p None = tt
+opens_found p (Some find) = λ a items w level. opens_given a w (find a w.objects items)
+
+opens_object : (p : Primitive) → IsOpen (level_of p) (object_row p)
+opens_object p = opens_found p (finding_of p)
+
 opens_talk : (descr : Option ℕ) (p : Primitive) → IsOpen (level_of p) (talk_row descr p)
 opens_talk descr Notify = λ a items w level. opens_notified a items w
 opens_talk descr _ = tt
@@ -72,6 +85,7 @@ opens_talk descr _ = tt
 -- and all of them
 
 opens_in : (descr : Option ℕ) (family : Family) (p : Primitive) → IsOpen (level_of p) (row_in descr family p)
+opens_in descr Object p = opens_object p
 opens_in descr Talk p = opens_talk descr p
 opens_in descr _ p = tt
 
