@@ -4,7 +4,6 @@
 mod finding;
 mod flags;
 mod looking;
-mod reading;
 mod table;
 
 pub use table::apply;
