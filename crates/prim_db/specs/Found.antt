@@ -16,11 +16,11 @@ use Rattle.spec_prims.specs.ObjectRows.{Finding, finding_of}
 
 -- the item, or the fault; or memory is wanted
 abbrev pub Finds : Result Datum MufFault → Result Value PrimFault → Type 0
+Finds found (Err NoMemory) = Unit {0}
 Finds (Ok item) (Ok value) = view value ≡ item
 Finds (Ok item) (Err (Fault f)) = ⊥
 Finds (Err e) (Ok value) = ⊥
 Finds (Err e) (Err (Fault f)) = f ≡ e
-Finds found (Err NoMemory) = Unit {0}
 
 -- what a primitive finds in the items that it takes; one that finds nothing isn't there
 abbrev pub found_with : Option Finding → Actor → List Entry → List Datum → Result Datum MufFault
