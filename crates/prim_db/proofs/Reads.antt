@@ -66,3 +66,5 @@ module _ (p : Primitive) (g : Guard) (items : List Datum) where
 
   pub makes_none : (f : PrimFault) → Finds (found_in p g.actor g.db.now items) (Err f) → Makes row g g (Err f)
   makes_none f h = subst (λ row. Makes row g g (Err f)) (sym (does_by p (finding_of p) g.actor items (world_of g))) (none_made _ g f h)
+
+pub ruleset making = (makes_item, makes_none)

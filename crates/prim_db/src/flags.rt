@@ -19,7 +19,7 @@ fn flag_lettered(letter: u8) -> Option<u16>
     ensures some { IfSome result (λ flag. 0 < flag) }
 {
     let upper = letter.to_ascii_uppercase();
-    if LETTERS.contains(&upper) {
+    if LETTERS.iter().any(|other| *other == upper) {
         Some(flag_of(upper))
     } else {
         None

@@ -1,5 +1,5 @@
 // What is found of one object.
-ghost use Rattle.std.specs.Prelude.{◌≡◌, [], IfOk};
+ghost use Rattle.std.specs.Prelude.{◌≡◌, [], false, true, IfOk};
 ghost use Rattle.std.specs.Option.{option_map_or};
 ghost use Rattle.spec_live.specs.declared.object.Object.{Object};
 ghost use Rattle.spec_live.specs.Objects.{nothing, object_at};
@@ -12,7 +12,7 @@ ghost use Rattle.muf_model.specs.View.{view};
 ghost use Rattle.spec_prims.specs.ObjectRows.{first_of, found_of, next_of, shown, tie_by};
 ghost use Rattle.prim_db.specs.Found.{Finds};
 
-use muck_db::{Chain, Db};
+use muck_db::Db;
 use muck_lock::Keys;
 use muck_model::{Dbref, Kind, Line, NoMemory};
 use muck_perm::{Guard, level_at, long_form, owner_at};
@@ -62,12 +62,26 @@ fn place_of(db: &Db, object: Dbref) -> Dbref
     }
 }
 
-// The first of a list, or `#-1`.
-fn first_of(list: Chain<'_>) -> Dbref
-    ensures { result ≡ first_of list.entry }
+// The first of its contents, or `#-1`.
+fn first_content(db: &Db, object: Dbref) -> Dbref
+    ensures { result ≡ first_of (listed_in false object db.now) }
 {
-    let mut list = list;
-    list.next().unwrap_or(NOTHING)
+    let mut list = db.contents(object);
+    match list.next() {
+        Some(first) => first,
+        None => NOTHING,
+    }
+}
+
+// The first of its exits, or `#-1`.
+fn first_exit(db: &Db, object: Dbref) -> Dbref
+    ensures { result ≡ first_of (listed_in true object db.now) }
+{
+    let mut list = db.exits(object);
+    match list.next() {
+        Some(first) => first,
+        None => NOTHING,
+    }
 }
 
 // What stands behind an object in its list, or `#-1`.
@@ -126,8 +140,8 @@ pub(crate) fn look(prim: Prim, guard: &Guard, object: Dbref) -> Result<Value, Pr
         Prim::Name => Ok(name(alloc, db, object)?),
         Prim::Owner => Ok(Value::Ref(owner_at(db, object))),
         Prim::Location => Ok(Value::Ref(place_of(db, object))),
-        Prim::Contents => Ok(Value::Ref(first_of(db.contents(object)))),
-        Prim::Exits => Ok(Value::Ref(first_of(db.exits(object)))),
+        Prim::Contents => Ok(Value::Ref(first_content(db, object))),
+        Prim::Exits => Ok(Value::Ref(first_exit(db, object))),
         Prim::Next => Ok(Value::Ref(next_of(db, object))),
         Prim::MLevel => Ok(Value::Int(level_at(db, object) as i32)),
         Prim::GetLink => Ok(Value::Ref(tie_at(db, object))),

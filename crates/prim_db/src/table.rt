@@ -16,6 +16,7 @@ use muf_model::Prim;
 use prim_common::{Made, give, ready};
 
 // What a primitive makes of the items that it takes.
+#[tactic(auto, using(crate::proofs::Reads::making))]
 fn made(prim: Prim, guard: &mut Guard, frame: &Frame) -> Result<Made, PrimFault>
     ensures { Makes (does_of (object_row prim) guard.old.actor (take (taken prim (flat frame.now).stack) (flat frame.now).stack) (world_of guard.old)) guard.old guard.new result }
 {

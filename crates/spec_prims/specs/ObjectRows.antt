@@ -65,7 +65,7 @@ tie_by Exit o = o.link
 tie_by Room o = o.link
 tie_by Thing o = o.home
 tie_by Player o = o.home
-tie_by kind o = nothing
+tie_by other o = nothing
 
 -- what is found of an object
 abbrev pub found_of : Primitive → Dbref → List Entry → Result Datum MufFault
@@ -94,7 +94,7 @@ kind_asked IsThing = is_thing
 kind_asked IsRoom = is_room
 kind_asked IsExit = is_exit
 kind_asked IsProgram = is_program
-kind_asked p = λ kind. true
+kind_asked p = λ other. true
 
 abbrev pub is_such : (Kind → Bool) → List Entry → Datum → Bool
 is_such test es (object d) = option_map_or (λ o. test o.kind) (object_at (numbered d) es) false
