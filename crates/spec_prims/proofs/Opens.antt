@@ -1,5 +1,5 @@
 -- What each row changes is open to who acts.
-use Rattle.std.proofs.Common.{◌≡◌, ℕ, Bool, true, false, cond, List, [], ◌∷◌, Option, Some, None, refl}
+use Rattle.std.proofs.Common.{◌≡◌, ℕ, Bool, true, false, cond, List, [], ◌∷◌, take, drop, Option, Some, None, refl}
 use Rattle.std.specs.Option.{option_or}
 use Rattle.std.specs.Prelude.{option_map, Result, Ok, Err}
 use Rattle.spec_live.specs.Lives.{Live}
@@ -118,7 +118,10 @@ opens_done : (doing : Option Doing) (p : Primitive) (a : Actor) (locked : ℕ) (
 unfolding first_fault
 opens_done None p a locked stack w h = tt
 opens_done (Some doing) p a locked stack w h =
-    opens_unless _ a w _ (λ e. opens_upon _ a w _ (h a _ w (level_passes (needs_of p) (level_of p) (doing.argued a _ w) a locked stack w e)))
+    let items : List Datum = take (taken p stack) stack in
+    let rest : List Datum = drop (taken p stack) stack in
+    opens_unless (first_fault p (doing.argued a items w) a locked stack w) a w (given_upon rest (doing.does a items w))
+    (λ e. opens_upon rest a w (doing.does a items w) (h a items w (level_passes (needs_of p) (level_of p) (doing.argued a items w) a locked stack w e)))
 
 pub shared_open : (p : Primitive) (a : Actor) (descr : Option ℕ) (locked : ℕ) (stack : List Datum) (w : Live) → RowOpen a w (shared p a descr locked stack w)
 unfolding shared

@@ -1,20 +1,18 @@
 -- Worked rows of the primitives of objects.
 use Rattle.std.specs.Prelude.{◌≡◌, ℕ, true, false, pos, negsuc, List, [], ◌∷◌, codes, None, refl}
-use Rattle.muck_model.specs.declared.lock.Lock.TheVariants.{Free, Object}
 use Rattle.muf_model.specs.declared.fault.MufFault.TheVariants.{BadArgument, NoSuchObject, Denied}
 use Rattle.muf_model.specs.declared.prims.Primitive.{Primitive}
-use Rattle.muf_model.specs.declared.prims.Primitive.TheVariants.{Name, Owner, Location, Contents, Exits, Next, IsOk, IsPlayer, HasFlag, MLevel, GetLink, Controls, GetLockStr, UnparseLock, TestLock, UnparseObj, DbTop}
-use Rattle.muf_model.specs.Datum.{Datum, int, text, object, lock}
+use Rattle.muf_model.specs.declared.prims.Primitive.TheVariants.{Name, Owner, Location, Contents, Exits, Next, IsOk, IsPlayer, HasFlag, MLevel, GetLink, Controls, DbTop}
+use Rattle.muf_model.specs.Datum.{Datum, int, text, object}
 use Rattle.muf_model.specs.StackRows.{truth}
 use Rattle.spec_live.specs.Objects.{object_at, number_in, kind_in, object_in, list_in, place_in}
 use Rattle.spec_live.specs.Boards.{first_tune, early_board}
 use Rattle.spec_live.specs.Start.{room_zero, player_one, first_objects}
-use Rattle.spec_live.specs.Seen.{listed_in, long_form, flag_letters}
+use Rattle.spec_live.specs.Seen.{listed_in}
 use Rattle.spec_live.specs.Chain.{follower}
-use Rattle.spec_live.specs.Worth.{lock_text, holdings_of}
 use Rattle.spec_rights.specs.Levels.{level_at, owner_at, flag_at, controls_as, owns}
 use Rattle.spec_rights.specs.Verdict.{is_near}
-use Rattle.spec_prims.specs.Asking.{numbered, level_fault, is_there, near_fault}
+use Rattle.spec_prims.specs.Asking.{level_fault, is_there, near_fault}
 use Rattle.spec_prims.specs.Row.{Row, gives, refuses}
 use Rattle.spec_prims.specs.ObjectRows.{next_at, next_of}
 use Rattle.spec_prims.specs.Shared.{first_fault, shared}
@@ -61,10 +59,6 @@ ObjectsWorked =
     × answers GetLink (one ∷ []) room
     × answers GetLink (room ∷ []) nothing
     × answers Controls (room ∷ one ∷ []) (truth true)
-    × answers GetLockStr (room ∷ []) (text (codes "*UNLOCKED*"))
-    × answers UnparseLock (lock (Object (numbered (pos 1))) ∷ []) (text (codes "#1"))
-    × answers TestLock (lock Free ∷ one ∷ []) (truth true)
-    × answers UnparseObj (one ∷ []) (text (codes "One(#1PW)"))
     × answers DbTop [] (object (pos 2))
     -- flags, in any case; what is no flag is found out before what is near
     × answers HasFlag (text (codes "w") ∷ one ∷ []) (truth true)
@@ -76,5 +70,5 @@ ObjectsWorked =
     × (shared HasFlag (acting_at 1 7) None 0 (text (codes "WD") ∷ one ∷ []) at_first ≡ refuses BadArgument)
 
 pub objects_worked : ObjectsWorked
-unfolding ObjectsWorked first_tune early_board object_at number_in kind_in object_in list_in place_in room_zero player_one first_objects listed_in long_form flag_letters follower lock_text holdings_of level_at owner_at flag_at controls_as owns is_near level_fault is_there near_fault next_at next_of first_fault shared
-objects_worked = (refl, refl, refl, refl, refl, refl, refl, refl, refl, refl, refl, refl, refl, refl, refl, refl, refl, refl, refl, refl, refl, refl, refl, refl, refl, refl, refl, refl, refl, refl, refl, refl)
+unfolding ObjectsWorked first_tune early_board object_at number_in kind_in object_in list_in place_in room_zero player_one first_objects listed_in follower level_at owner_at flag_at controls_as owns is_near level_fault is_there near_fault next_at next_of first_fault shared
+objects_worked = (refl, refl, refl, refl, refl, refl, refl, refl, refl, refl, refl, refl, refl, refl, refl, refl, refl, refl, refl, refl, refl, refl, refl, refl, refl, refl, refl, refl)
