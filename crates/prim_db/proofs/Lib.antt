@@ -1,3 +1,3 @@
 mod Items
 mod Lists
-mod Reads
+mod Objects

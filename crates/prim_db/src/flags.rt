@@ -40,7 +40,7 @@ pub(crate) fn flag_asked(letters: &[u8]) -> Option<(bool, u16)>
 
 /// The fault that a primitive's own rule finds in its arguments.
 #[tactic(auto, using(crate::proofs::Items::flag_steps))]
-pub(crate) fn misasked(prim: Prim, frame: &Frame) -> Option<MufFault>
+pub(crate) fn argued(prim: Prim, frame: &Frame) -> Option<MufFault>
     ensures { result ≡ misasked prim (take (taken prim (flat frame.now).stack) (flat frame.now).stack) }
 {
     match prim {
