@@ -1,7 +1,7 @@
 // What each primitive finds that changes nothing, by the shape of what it takes.
-ghost use Rattle.std.specs.Prelude.{◌≡◌, take, length};
-ghost use Rattle.std.specs.Option.{option_copied};
-ghost use Rattle.spec_live.specs.Objects.{dbref_of};
+ghost use Rattle.std.specs.Prelude.{◌≡◌, false, take, length};
+ghost use Rattle.std.specs.Option.{option_copied, option_map_or};
+ghost use Rattle.spec_live.specs.Objects.{dbref_of, object_at};
 ghost use Rattle.muf_model.specs.View.{view};
 ghost use Rattle.muf_frame.specs.Shown.{Shown, flat};
 ghost use Rattle.spec_prims.specs.Shared.{taken};
@@ -46,16 +46,23 @@ fn kind_asked(prim: Prim, kind: Kind) -> bool
     }
 }
 
-// Whether an item is an object that is there, and of the kind that is asked for.
+// Whether an object is there, and of the kind that is asked for.
+fn is_kind(prim: Prim, guard: &Guard, object: Dbref) -> bool
+    ensures { result ≡ option_map_or (λ o. row.kind_asked prim o.kind) (object_at object guard.now.db.now) false }
+{
+    match guard.db().get(object) {
+        Some(object) => kind_asked(prim, object.kind()),
+        None => false,
+    }
+}
+
+// The same of an item, which may be no object.
 #[tactic(auto, using(muf_model::proofs::Views::view_steps))]
 fn is_such(prim: Prim, guard: &Guard, item: &Value) -> bool
     ensures { result ≡ row.is_such (row.kind_asked prim) guard.now.db.now (view item.now) }
 {
     match item {
-        Value::Ref(object) => match guard.db().get(*object) {
-            Some(object) => kind_asked(prim, object.kind()),
-            None => false,
-        },
+        Value::Ref(object) => is_kind(prim, guard, *object),
         _ => false,
     }
 }
