@@ -1,5 +1,6 @@
 // The flag that a text asks for.
-ghost use Rattle.std.specs.Prelude.{◌≡◌, ◌<◌, IfSome, take, option_map};
+ghost use Rattle.std.specs.Prelude.{◌≡◌, ◌<◌, ◌==◌, IfSome, take, option_map};
+ghost use Rattle.std.specs.List.{list_any};
 ghost use Rattle.std.specs.Option.{option_map_or};
 ghost use Rattle.muf_frame.specs.Shown.{Shown, flat};
 ghost use Rattle.muf_model.specs.declared.prims.Primitive.TheVariants.{HasFlag};
@@ -13,13 +14,20 @@ use spec_live::flag_of;
 /// The letters of all flags.
 const LETTERS: &[u8] = b"ABCDHJKLQSVWXZ";
 
+// Whether a letter is one of these.
+fn stands_in(letter: u8, letters: &[u8]) -> bool
+    ensures { result ≡ list_any (λ other. other == letter) letters.now }
+{
+    letters.iter().any(|other| *other == letter)
+}
+
 // The flag of a letter, in any case.
 fn flag_lettered(letter: u8) -> Option<u16>
     ensures value { result ≡ flag_lettered letter }
     ensures some { IfSome result (λ flag. 0 < flag) }
 {
     let upper = letter.to_ascii_uppercase();
-    if LETTERS.iter().any(|other| *other == upper) {
+    if stands_in(upper, LETTERS) {
         Some(flag_of(upper))
     } else {
         None
