@@ -1,7 +1,9 @@
 // What each primitive finds that changes nothing, by the shape of what it takes.
 ghost use Rattle.std.specs.Prelude.{◌≡◌, false, take, length};
 ghost use Rattle.std.specs.Option.{option_copied, option_map_or};
+ghost use Rattle.muck_lock.specs.Opens.{opens_for};
 ghost use Rattle.spec_live.specs.Objects.{dbref_of, object_at};
+ghost use Rattle.spec_live.specs.Worth.{holdings_of};
 ghost use Rattle.muf_model.specs.View.{view};
 ghost use Rattle.muf_frame.specs.Shown.{Shown, flat};
 ghost use Rattle.spec_prims.specs.Shared.{taken};
@@ -177,15 +179,23 @@ fn unparsed(guard: &Guard, frame: &Frame) -> Result<Value, PrimFault>
     }
 }
 
+// Whether a lock opens for an object.
+#[tactic(auto, unfolding(spec_live::specs::Worth::holdings_of))]
+fn is_open(lock: &Lock, guard: &Guard, object: Dbref) -> bool
+    ensures { result ≡ opens_for (holdings_of guard.now.db.now) lock.now object }
+{
+    opens(lock, guard.db(), object)
+}
+
 // TESTLOCK.
-#[tactic(auto, using(crate::proofs::Items::lock_steps), unfolding(spec_live::specs::Worth::holdings_of))]
+#[tactic(auto, using(crate::proofs::Items::lock_steps))]
 fn tested(guard: &Guard, frame: &Frame) -> Result<Value, PrimFault>
     ensures { Finds (row.tested guard.now.actor guard.now.db.now (take 2 (flat frame.now).stack)) result }
 {
     let (Some(lock), Some(object)) = (lock_at_top(frame), frame.object_at(1)) else {
         return Err(PrimFault::Fault(MufFault::BadType));
     };
-    Ok(Value::truth(opens(lock, guard.db(), object)))
+    Ok(Value::truth(is_open(lock, guard, object)))
 }
 
 // One above the highest number.
