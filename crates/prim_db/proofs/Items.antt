@@ -20,6 +20,10 @@ use Rattle.muf_model.specs.StackRows.{truth}
 use Rattle.muf_model.specs.View.{view}
 use Rattle.muf_frame.specs.Answers.{object_at, text_at}
 use Rattle.spec_prims.specs.Asking.{numbered}
+use Rattle.spec_live.specs.Lives.{Live}
+use Rattle.muf_model.specs.declared.prims.Primitive.TheVariants.{MoveTo}
+use Rattle.spec_prims.specs.Row.{Row, refuses}
+use Rattle.spec_prims.specs.ObjectWrites.{misplaced, miswritten, one_done, two_done}
 use Rattle.spec_prims.specs.ObjectRows.{seen, one_object, one_item, is_such, one_text, controlled, unparsed, tested, flag_asked, flag_found, flagged, misflagged}
 use Rattle.prim_db.specs.Found.{as_lock, lock_at_top}
 
@@ -104,3 +108,35 @@ tested_reads a es (lock l ∷ object d ∷ rest) = refl
 tested_reads a es _ = refl
 
 pub ruleset lock_steps = (unparsed_reads, tested_reads)
+
+-- What is done, by the items at the top.
+
+abbrev one_acted : (Actor → Dbref → Live → Row) → Actor → Option ℤ → Live → Row
+one_acted does a (Some x) w = does a (numbered x) w
+one_acted does a None w = refuses BadType
+
+pub one_acts : (does : Actor → Dbref → Live → Row) (a : Actor) (stack : List Datum) (w : Live) → one_done does a (take 1 stack) w ≡ one_acted does a (object_at 0 stack) w
+one_acts does a (object x ∷ rest) w = refl
+one_acts does a _ w = refl
+
+pub ruleset one_steps = (one_acts)
+
+abbrev two_acted : (Actor → Dbref → Dbref → Live → Row) → Actor → Option ℤ → Option ℤ → Live → Row
+two_acted does a (Some to) (Some x) w = does a (numbered x) (numbered to) w
+two_acted does a _ _ w = refuses BadType
+
+pub two_acts : (does : Actor → Dbref → Dbref → Live → Row) (a : Actor) (stack : List Datum) (w : Live) → two_done does a (take 2 stack) w ≡ two_acted does a (object_at 0 stack) (object_at 1 stack) w
+two_acts does a (object to ∷ object x ∷ rest) w = refl
+two_acts does a _ w = refl
+
+pub ruleset two_steps = (two_acts)
+
+abbrev misplaced_read : Option ℤ → Live → Option MufFault
+misplaced_read (Some to) w = misplaced (numbered to) w
+misplaced_read None w = None
+
+pub miswritten_reads : (stack : List Datum) (w : Live) → miswritten MoveTo (take 2 stack) w ≡ misplaced_read (object_at 0 stack) w
+miswritten_reads (object to ∷ rest) w = refl
+miswritten_reads _ w = refl
+
+pub ruleset place_steps = (miswritten_reads)

@@ -1,3 +1,4 @@
+mod Changing
 mod Items
 mod Lists
-mod Reads
+mod Objects

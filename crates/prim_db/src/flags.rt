@@ -38,19 +38,14 @@ pub(crate) fn flag_asked(letters: &[u8]) -> Option<(bool, u16)>
     }
 }
 
-/// The fault that a primitive's own rule finds in its arguments.
+/// The fault of FLAG? in what it is asked for.
 #[tactic(auto, using(crate::proofs::Items::flag_steps))]
-pub(crate) fn misasked(prim: Prim, frame: &Frame) -> Option<MufFault>
-    ensures { result ≡ misasked prim (take (taken prim (flat frame.now).stack) (flat frame.now).stack) }
+pub(crate) fn misflagged(frame: &Frame) -> Option<MufFault>
+    ensures { result ≡ misflagged (take 2 (flat frame.now).stack) }
 {
-    match prim {
-        Prim::HasFlag => {
-            let letters = frame.text_at(0)?;
-            match flag_asked(letters.as_slice()) {
-                Some(_) => None,
-                None => Some(MufFault::BadArgument),
-            }
-        }
-        _ => None,
+    let letters = frame.text_at(0)?;
+    match flag_asked(letters.as_slice()) {
+        Some(_) => None,
+        None => Some(MufFault::BadArgument),
     }
 }

@@ -33,6 +33,7 @@ use Rattle.muf_model.specs.StackRows.{truth}
 use Rattle.muf_model.specs.Prims.{family_of}
 use Rattle.spec_prims.specs.Asking.{numbered}
 use Rattle.spec_prims.specs.Row.{Row, gives, refuses, Doing}
+use Rattle.spec_prims.specs.ObjectWrites.{writes, writing_of}
 
 -- What a primitive finds, and changes nothing: an item, or why it finds none.
 abbrev pub Finding : Type 0
@@ -213,9 +214,15 @@ finds p find = record {
   does = λ a items w. given w (find a w.objects items);
 }
 
+-- one finds something, or changes objects
+abbrev pub row_by : Primitive → Option Finding → Option (Actor → List Datum → Live → Row) → Option Doing
+row_by p (Some find) o = Some (finds p find)
+row_by p None (Some does) = Some (writes p does)
+row_by p None None = None
+
 -- the row of a primitive, where there is one
 abbrev pub object_row : Primitive → Option Doing
-object_row p = option_map (finds p) (finding_of p)
+object_row p = row_by p (finding_of p) (writing_of p)
 
 abbrev pub is_object_family : Family → Bool
 is_object_family kind.Object = true
