@@ -1,5 +1,5 @@
 -- The one order of the tests that every primitive begins with.
-use Rattle.std.specs.Prelude.{ℕ, zero, suc, ◌+◌, List, [], ◌∷◌, ◌++◌, length, nat_lt, if◌then◌else◌, Bool, true, ℤ, pos, negsuc, Option, Some, None}
+use Rattle.std.specs.Prelude.{ℕ, zero, suc, ◌+◌, List, [], ◌∷◌, ◌++◌, length, drop, nat_lt, if◌then◌else◌, Bool, true, ℤ, pos, negsuc, Option, Some, None}
 use Rattle.std.specs.Option.{option_or}
 use Rattle.muf_model.specs.declared.fault.MufFault.{MufFault}
 use Rattle.muf_model.specs.declared.fault.MufFault.TheVariants.{BadType, BadArgument, NoSuchObject}
@@ -19,16 +19,20 @@ abbrev pub times : ℕ → List Need → List Need
 times zero each = []
 times (suc n) each = each ++ times n each
 
--- what each item must be, from the top down: the fixed ones, and those under them that the top of the stack counts
+-- how many the first of these items counts
+abbrev pub counted : List Datum → ℕ
+counted (int (pos n) ∷ rest) = n
+counted _ = 0
+
+-- what each item must be, from the top down: the fixed ones, and those under them that one of these counts
 abbrev with_counted : List Need → Option Many → List Datum → List Need
 with_counted fixed None stack = fixed
-with_counted fixed (Some m) (int (pos n) ∷ rest) = fixed ++ (times n m.each ++ m.under)
-with_counted fixed (Some m) _ = fixed ++ m.under
+with_counted fixed (Some m) stack = fixed ++ (times (counted (drop m.at stack)) m.each ++ m.under)
 
 abbrev pub wanted : Needs → List Datum → List Need
 wanted needs stack = with_counted needs.fixed needs.many stack
 
--- a count that is negative
+-- a count that is negative, where the first of these items counts
 abbrev pub miscounted : List Datum → Option MufFault
 miscounted (int (negsuc n) ∷ rest) = Some BadArgument
 miscounted _ = None
@@ -38,7 +42,7 @@ abbrev short_of : List Need → Option Many → ℕ → List Datum → Option Mu
 short_of fixed None locked stack = short (length fixed) locked stack
 short_of fixed (Some m) locked stack =
     option_or (short (length (fixed ++ m.under)) locked stack)
-    (option_or (miscounted stack) (short (length (with_counted fixed (Some m) stack)) locked stack))
+    (option_or (miscounted (drop m.at stack)) (short (length (with_counted fixed (Some m) stack)) locked stack))
 
 abbrev pub too_short : Needs → ℕ → List Datum → Option MufFault
 too_short needs locked stack = short_of needs.fixed needs.many locked stack

@@ -1,13 +1,14 @@
 -- What primitives need on the stack.
-use Rattle.std.specs.Prelude.{true, false, List, Option, Some, None, option_map}
+use Rattle.std.specs.Prelude.{ℕ, true, false, List, Option, Some, None, option_map}
 use Rattle.muf_model.specs.declared.needs.Want.{Want}
-use Rattle.muf_model.specs.declared.needs.Want.TheVariants.{Anything, Int, Text, Object, Variable, Address, IntOrObject, Numbered}
+use Rattle.muf_model.specs.declared.needs.Want.TheVariants.{Anything, Int, Text, Object, Variable, Address, Key, IntOrObject, Numbered}
 use Rattle.muf_model.specs.declared.needs.Need.{Need}
 use Rattle.muf_model.specs.declared.needs.Many.{Many as ManyKept}
 use Rattle.muf_model.specs.declared.needs.Needs.{Needs as NeedsKept}
 
--- what is taken as often as the item on the top says, and what below all of these
+-- how deep the item stands that counts, what is taken as often as it says, and what below all of these
 pub record Many : Type 0 where
+  pub at : ℕ
   pub each : List Need
   pub under : List Need
 
@@ -19,8 +20,12 @@ pub record Needs : Type 0 where
 abbrev pub takes : List Need → Option Needs
 takes fixed = Some (record { fixed = fixed; many = None })
 
+abbrev pub counts_at : ℕ → List Need → List Need → List Need → Option Needs
+counts_at at fixed each under = Some (record { fixed = fixed; many = Some (record { at = at; each = each; under = under }) })
+
+-- the top counts
 abbrev pub counts : List Need → List Need → List Need → Option Needs
-counts fixed each under = Some (record { fixed = fixed; many = Some (record { each = each; under = under }) })
+counts fixed each under = counts_at 0 fixed each under
 
 abbrev of_kind : Want → Need
 of_kind kind = record { kind = kind; there = false; near = false }
@@ -43,6 +48,10 @@ a_variable = of_kind Variable
 abbrev pub an_address : Need
 an_address = of_kind Address
 
+-- an integer or a text
+abbrev pub a_key : Need
+a_key = of_kind Key
+
 abbrev pub int_or_object : Need
 int_or_object = of_kind IntOrObject
 
@@ -58,7 +67,7 @@ a_near_one = record { kind = Object; there = true; near = true }
 
 -- what the tables in code stand for
 abbrev pub shown_many : ManyKept → Many
-shown_many m = record { each = m.each.now; under = m.under.now }
+shown_many m = record { at = m.at; each = m.each.now; under = m.under.now }
 
 abbrev pub shown_needs : NeedsKept → Needs
 shown_needs n = record { fixed = n.fixed.now; many = option_map shown_many n.many }

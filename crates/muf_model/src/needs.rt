@@ -56,10 +56,11 @@ pub struct Need {
     pub near: bool,
 }
 
-/// What a primitive takes under its fixed items: `each` as often as the item on the top says, the part that is taken
-/// first standing first, and `under` below all of these.
+/// What a primitive takes under its fixed items: `each` as often as the item says that stands `at` items below the top, the part
+/// that is taken first standing first, and `under` below all of these.
 #[derive(Clone, Copy)]
 pub struct Many {
+    pub at: usize,
     pub each: &'static [Need],
     pub under: &'static [Need],
 }
@@ -103,6 +104,8 @@ const VARIABLE: Need = need!(Variable);
 
 const ADDRESS: Need = need!(Address);
 
+const KEY: Need = need!(Key);
+
 const EITHER: Need = need!(IntOrObject);
 
 const NUMBERED: Need = need!(Numbered);
@@ -123,6 +126,7 @@ macro_rules! takes {
         Some(Needs {
             fixed: &[$($fixed),*],
             many: Some(Many {
+                at: 0,
                 each: &[$($each),*],
                 under: &[$($under),*],
             }),
@@ -173,5 +177,9 @@ pub(crate) const INTS_OVER_TEXT: Option<Needs> = takes!(INT, INT, TEXT);
 pub(crate) const INT_OR_OBJECT: Option<Needs> = takes!(EITHER);
 
 pub(crate) const TEXT_FOR_ONE_NEAR: Option<Needs> = takes!(TEXT, NEAR);
+
+pub(crate) const KEY_AND_TEXT_FOR_ONE_NEAR: Option<Needs> = takes!(KEY, TEXT, NEAR);
+
+pub(crate) const INT_AND_TEXTS_FOR_ONE_NEAR: Option<Needs> = takes!(INT, TEXT, TEXT, NEAR);
 
 pub(crate) const ONE_THERE: Option<Needs> = takes!(THERE);
