@@ -35,7 +35,7 @@ use Rattle.spec_events.specs.World.{World}
 use Rattle.spec_prims.specs.Asking.{numbered}
 use Rattle.spec_prims.specs.Row.{Row, gives, refuses, Doing as RowDoing}
 use Rattle.spec_prims.specs.Shared.{row_in, done_by, shared}
-use Rattle.prim_talk.specs.Applied.{Applied}
+use Rattle.prim_common.specs.Applied.{Applied}
 use Rattle.muck_perm.specs.declared.guard.Guard.{Guard}
 use Rattle.muck_perm.specs.Guards.{world_of}
 use Rattle.spec_live.specs.Lives.{Live}
@@ -209,31 +209,31 @@ need_shown (Err e) count f s shows h =
     (omega (arith, m, l, n), h.1 ∙ ap (too_few count) shows.stack)
 
 -- the row as the frame shows what it asks of
-row_seen : (p : Name) (a b : Actor) (f : Flat) (s : Source) (w : Live) → a ≡ b → Shows f s → shared p a (locked_by f.marks) f.stack w ≡ shared p b (locked_of s.marks) s.stack w
-row_seen p a b f s w same shows =
-    ap (λ (x : Actor). shared p x (locked_by f.marks) f.stack w) same
-    ∙ ap (λ (n : ℕ). shared p b n f.stack w) shows.locked
-    ∙ ap (λ (x : List Datum). shared p b (locked_of s.marks) x w) shows.stack
+row_seen : (p : Name) (a b : Actor) (descr : Option ℕ) (f : Flat) (s : Source) (w : Live) → a ≡ b → Shows f s → shared p a descr (locked_by f.marks) f.stack w ≡ shared p b descr (locked_of s.marks) s.stack w
+row_seen p a b descr f s w same shows =
+    ap (λ (x : Actor). shared p x descr (locked_by f.marks) f.stack w) same
+    ∙ ap (λ (n : ℕ). shared p b descr n f.stack w) shows.locked
+    ∙ ap (λ (x : List Datum). shared p b descr (locked_of s.marks) x w) shows.stack
 
 pub done_so : (x : Agent) (p : Name) (a : Actor) (es : List Entered) (f g : Shown) (w v : World) (s t : Source) (r : Result (Unit {0}) PrimFault) (u : Unit {0}) → a ≡ acting x s w.live.objects → Apart es (flat f) s → Shows (flat f) s →
-    AppliedTo (shared p a (locked_by (flat f).marks) (flat f).stack w.live) f g w v r → r ≡ Ok u →
+    AppliedTo (shared p a x.descr (locked_by (flat f).marks) (flat f).stack w.live) f g w v r → r ≡ Ok u →
     ((e : Flat) (r : Source) → Apart es e r → Differs e (flat g) → t ≡ passed (with_frame (flat g) r)) → row_done x p s w ≡ does t v
 unfolding row_done
 done_so x p a es f g w v s t r u same apart shows h is so =
-    let row : Row = shared p a (locked_by (flat f).marks) (flat f).stack w.live in
-    ap (lifted s w) (sym (row_seen p a (acting x s w.live.objects) (flat f) s w.live same shows)) ∙ row_does row es f g w v s t u apart shows (subst (λ q. AppliedTo row f g w v q) is h) so
+    let row : Row = shared p a x.descr (locked_by (flat f).marks) (flat f).stack w.live in
+    ap (lifted s w) (sym (row_seen p a (acting x s w.live.objects) x.descr (flat f) s w.live same shows)) ∙ row_does row es f g w v s t u apart shows (subst (λ q. AppliedTo row f g w v q) is h) so
 
 pub passes_so : (row : Row) (es : List Entered) (f g : Shown) (w v : World) (s : Source) (r : Result (Unit {0}) PrimFault) (u : Unit {0}) → Apart es (flat f) s → AppliedTo row f g w v r → r ≡ Ok u → IsAtPrimitive s.now → PassesOn es (flat g)
 passes_so row es f g w v s r u apart h is at = row_passes row es f g w v s u apart (subst (λ q. AppliedTo row f g w v q) is h) at
 
 pub fails_so : (x : Agent) (p : Name) (a : Actor) (es : List Entered) (f g : Shown) (w v : World) (s t : Source) (r : Result (Unit {0}) PrimFault) (e : MufFault) → a ≡ acting x s w.live.objects → Apart es (flat f) s → Shows (flat f) s →
-    AppliedTo (shared p a (locked_by (flat f).marks) (flat f).stack w.live) f g w v r → r ≡ Err (FrameFault e) →
+    AppliedTo (shared p a x.descr (locked_by (flat f).marks) (flat f).stack w.live) f g w v r → r ≡ Err (FrameFault e) →
     ((x : Flat) (r : Source) → Apart es x r → Differs x (flat g) → t ≡ with_frame (flat g) r) → DoneAs (row_done x p s w) s v (DoneFails t e)
 unfolding row_done
 fails_so x p a es f g w v s t r e same apart shows h is so =
-    let row : Row = shared p a (locked_by (flat f).marks) (flat f).stack w.live in
+    let row : Row = shared p a x.descr (locked_by (flat f).marks) (flat f).stack w.live in
     let known = row_fails row es f g w v s t e apart shows (subst (λ q. AppliedTo row f g w v q) is h) so in
-    (known.0, ap (lifted s w) (sym (row_seen p a (acting x s w.live.objects) (flat f) s w.live same shows)) ∙ known.1)
+    (known.0, ap (lifted s w) (sym (row_seen p a (acting x s w.live.objects) x.descr (flat f) s w.live same shows)) ∙ known.1)
 
 pub rejoins_so : (row : Row) (es : List Entered) (f g : Shown) (w v : World) (s : Source) (r : Result (Unit {0}) PrimFault) (e : MufFault) → Apart es (flat f) s → AppliedTo row f g w v r → r ≡ Err (FrameFault e) → Rejoins es (flat g)
 rejoins_so row es f g w v s r e apart h is =
@@ -251,13 +251,13 @@ applied_to (refuses e) f g old new w v (Err (FrameFault d)) h start is =
 applied_to (refuses e) f g old new w v (Err FrameNoMemory) h start is = tt
 
 -- a primitive of a family without rows
-no_row_in : (family : Family) (p : Name) → (family ≡ Talk → ⊥) → row_in family p ≡ None
-no_row_in Talk p h = absurd (h refl)
-no_row_in _ p h = refl
+no_row_in : (descr : Option ℕ) (family : Family) (p : Name) → (family ≡ Talk → ⊥) → row_in descr family p ≡ None
+no_row_in descr Talk p h = absurd (h refl)
+no_row_in descr _ p h = refl
 
-pub without_row : (p : Name) (a : Actor) (locked : ℕ) (stack : List Datum) (w : Live) → (family_of p ≡ Talk → ⊥) → shared p a locked stack w ≡ refuses NotCompiled
+pub without_row : (p : Name) (a : Actor) (descr : Option ℕ) (locked : ℕ) (stack : List Datum) (w : Live) → (family_of p ≡ Talk → ⊥) → shared p a descr locked stack w ≡ refuses NotCompiled
 unfolding shared
-without_row p a locked stack w h = ap (λ (row : Option RowDoing). done_by row p a locked stack w) (no_row_in (family_of p) p h)
+without_row p a descr locked stack w h = ap (λ (row : Option RowDoing). done_by row p a locked stack w) (no_row_in descr (family_of p) p h)
 
 -- ---- items that are dropped from the frame of a process
 

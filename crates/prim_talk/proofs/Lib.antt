@@ -1,2 +1,2 @@
 mod Missing
-mod Walks
+mod Talking

@@ -1,7 +1,6 @@
 //! The primitives that talk to players, over a world that is lent and the frame of the program that uses them.
 #![tactic(auto)]
 
-mod ready;
 mod rows;
 mod table;
 

@@ -1,18 +1,17 @@
 // The rows of the primitives of talk.
-ghost use Rattle.std.specs.Prelude.{◌≡◌};
+ghost use Rattle.std.specs.Prelude.{◌≡◌, take};
 ghost use Rattle.std.specs.Option.{option_map};
-ghost use Rattle.muf_model.specs.declared.prims.Primitive.TheVariants.{Notify};
-ghost use Rattle.muf_frame.specs.Shown.{Shown, flat, locked_by};
+ghost use Rattle.muf_frame.specs.Shown.{Shown, flat};
 ghost use Rattle.muck_perm.specs.Guards.{world_of};
-ghost use Rattle.spec_prims.specs.Shared.{shared};
-ghost use Rattle.prim_talk.specs.Applied.{Applied};
-ghost use Rattle.prim_talk.specs.Tests.{told_in};
+ghost use Rattle.spec_prims.specs.Talk.{notified};
+ghost use Rattle.prim_common.specs.Applied.{Makes};
+ghost use Rattle.prim_talk.specs.Told.{told_in};
 
-use crate::ready::ready;
 use muck_model::Dbref;
 use muck_perm::Guard;
 use muf_frame::{Frame, PrimFault};
-use muf_model::{MufFault, Prim, Text};
+use muf_model::{MufFault, Text};
+use prim_common::Made;
 
 // The player and the text above it.
 fn told(frame: &Frame) -> Option<(Dbref, &Text)>
@@ -24,15 +23,12 @@ fn told(frame: &Frame) -> Option<(Dbref, &Text)>
 }
 
 /// NOTIFY.
-#[tactic(auto, unfolding(spec_prims::specs::Shared::shared))]
-pub(crate) fn notify(guard: &mut Guard, frame: &mut Frame) -> Result<(), PrimFault>
-    ensures { Applied (shared Notify guard.old.actor (locked_by (flat frame.old).marks) (flat frame.old).stack (world_of guard.old)) frame.old frame.new guard.old guard.new result }
+pub(crate) fn notify(guard: &mut Guard, frame: &Frame) -> Result<Made, PrimFault>
+    ensures { Makes (notified guard.old.actor (take 2 (flat frame.now).stack) (world_of guard.old)) guard.old guard.new result }
 {
-    ready(Prim::Notify, guard, frame)?;
     let Some((player, text)) = told(frame) else {
         return Err(PrimFault::Fault(MufFault::BadType));
     };
     guard.tell_player(player, text.as_slice())?;
-    frame.drop_items(2);
-    Ok(())
+    Ok(Made::Nothing)
 }

@@ -1,29 +1,46 @@
 // Every primitive of talk.
-ghost use Rattle.std.specs.Prelude.{◌≡◌, is_some};
+ghost use Rattle.std.specs.Prelude.{◌≡◌, is_some, take};
 ghost use Rattle.muf_model.specs.declared.prims.Family.TheVariants.{Talk};
 ghost use Rattle.muf_model.specs.Prims.{family_of, is_there};
 ghost use Rattle.muf_frame.specs.Shown.{Shown, flat, locked_by};
 ghost use Rattle.muck_perm.specs.Guards.{world_of};
-ghost use Rattle.spec_prims.specs.Shared.{shared};
+ghost use Rattle.spec_prims.specs.Shared.{shared, taken};
 ghost use Rattle.spec_prims.specs.Talk.{talk_row};
-ghost use Rattle.prim_talk.specs.Applied.{Applied};
+ghost use Rattle.prim_common.specs.Applied.{Applied, Makes, does_of};
 
 use crate::rows;
 use muck_perm::Guard;
 use muf_frame::{Frame, PrimFault};
 use muf_model::{MufFault, Prim};
+use prim_common::{Made, give, ready};
 
-/// Uses a primitive of talk, as the actor to whom the guard lends the world: the frame and the world are as its row says,
-/// or it is refused by the fault of the row and both are unchanged. Those that may be used so far are those with a row;
-/// of the others `NotCompiled` comes. After `NoMemory` nothing is said of the frame and of the world.
-#[tactic(auto, using(crate::proofs::Missing::without_row))]
-pub fn apply(prim: Prim, guard: &mut Guard, frame: &mut Frame) -> Result<(), PrimFault>
-    requires { family_of prim ≡ Talk }
-    ensures row { Applied (shared prim guard.old.actor (locked_by (flat frame.old).marks) (flat frame.old).stack (world_of guard.old)) frame.old frame.new guard.old guard.new result }
-    ensures there { is_there prim ≡ is_some (talk_row prim) }
+// What a primitive makes of the items that it takes.
+#[tactic(auto, using(crate::proofs::Missing::no_row))]
+fn made(prim: Prim, descr: Option<u32>, guard: &mut Guard, frame: &Frame) -> Result<Made, PrimFault>
+    ensures { Makes (does_of (talk_row descr prim) guard.old.actor (take (taken prim (flat frame.now).stack) (flat frame.now).stack) (world_of guard.old)) guard.old guard.new result }
 {
     match prim {
         Prim::Notify => rows::notify(guard, frame),
         _ => Err(PrimFault::Fault(MufFault::NotCompiled)),
     }
+}
+
+/// Uses a primitive of talk, as the actor to whom the guard lends the world, in a process of that connection: the frame and
+/// the world are as its row says, or it is refused by the fault of the row and both are unchanged. Those that may be used so
+/// far are those with a row; of the others `NotCompiled` comes. After `NoMemory` nothing is said of the frame and of the
+/// world.
+pub fn apply(
+    prim: Prim,
+    guard: &mut Guard,
+    frame: &mut Frame,
+    descr: Option<u32>,
+) -> Result<(), PrimFault>
+    requires { family_of prim ≡ Talk }
+    ensures row { Applied (shared prim guard.old.actor descr (locked_by (flat frame.old).marks) (flat frame.old).stack (world_of guard.old)) frame.old frame.new guard.old guard.new result }
+    ensures there { is_there prim ≡ is_some (talk_row descr prim) }
+{
+    let taken = ready(prim, None, guard, frame)?;
+    let made = made(prim, descr, guard, frame)?;
+    give(frame, taken, made)?;
+    Ok(())
 }

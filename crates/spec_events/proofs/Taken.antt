@@ -4,10 +4,9 @@ use Rattle.std.specs.Prelude.{All}
 use Rattle.std.specs.Option.{option_map_or}
 use Rattle.std.proofs.lemmas.List.Elements.{All-nil, All-cons}
 use Rattle.muck_model.specs.declared.dbref.Dbref.{Dbref}
-use Rattle.spec_live.specs.Lives.{Live, unchanged, tell_player}
+use Rattle.spec_live.specs.Lives.{Live, tell_player}
 use Rattle.spec_rights.specs.declared.act.Actor.{Actor}
 use Rattle.spec_rights.specs.Licence.{Licensed, nobody}
-use Rattle.spec_rights.proofs.Licences.{quiet_unchanged, whole_quiet, Always}
 use Rattle.spec_rights.proofs.Shown.{quiet_tell_player}
 use Rattle.muf_model.specs.declared.fault.MufFault.{MufFault}
 use Rattle.muf_model.specs.declared.prims.Primitive.{Primitive as Name}
@@ -21,7 +20,7 @@ use Rattle.spec_rights.specs.Levels.{level, user}
 use Rattle.spec_live.specs.Objects.{Entry}
 use Rattle.spec_prims.specs.Row.{Row, gives, refuses}
 use Rattle.spec_prims.specs.Shared.{shared}
-use Rattle.spec_prims.proofs.Quiet.{Keeps, shared_keeps}
+use Rattle.spec_prims.proofs.Opens.{RowOpen, same_open, shared_open}
 use Rattle.muck_library.specs.Library.{Library}
 use Rattle.muck_queue.specs.Queues.{standing, without}
 use Rattle.spec_events.specs.declared.starting.Agent.{Agent}
@@ -29,26 +28,8 @@ use Rattle.spec_events.specs.World.{World}
 use Rattle.spec_events.specs.Slices.{acting, lifted, row_done, called, with_forms, deed, stands_at, ended_one, broken, program_error, Turn, on, over, went, after_deed, unit_done, limit_fault, within_limit, turn, world_of, unit_of, seat, then_more, run_of, last_world, units_of, sliced}
 use Rattle.spec_events.specs.Licences.{UnitLicensed, SliceLicensed}
 use Rattle.spec_events.proofs.Quietly.{quietly_live, quietly_queue, quietly_library}
-use Rattle.spec_events.proofs.Told.{licensed_as}
 use Rattle.spec_events.proofs.Endings.{IsTold, told_settled}
 use Rattle.spec_events.proofs.Done.{told_by, Open, open_quietly, open_settled, Going, going_same, going_open}
-
-licensed_itself : (a : Actor) (w : Live) → Licensed a nobody w w
-unfolding unchanged
-licensed_itself a w = (((whole_quiet a None (λ es. nobody) Always unchanged quiet_unchanged).law w).law tt tt).licensed
-
--- Rows: those that change no object, and those that do by their licence.
-
-abbrev RowOpen : Actor → Live → Row → Type 0
-RowOpen a w (gives items v) = Licensed a nobody w v
-RowOpen a w (refuses f) = Unit {0}
-
-row_keeps : (a : Actor) (w : Live) (row : Row) → Keeps w row → RowOpen a w row
-row_keeps a w (gives items v) h = licensed_as a nobody w w v (licensed_itself a w) h.objects h.ties h.tune
-row_keeps a w (refuses f) h = tt
-
-row_open : (p : Name) (a : Actor) (locked : ℕ) (s : Source) (w : Live) → RowOpen a w (shared p a locked s.stack w)
-row_open p a locked s w = row_keeps a w _ (shared_keeps p a locked s.stack w)
 
 -- A unit of a process that acts in the world w.
 
@@ -61,7 +42,7 @@ module _ (a : Actor) (w : World) where
   DeedOpens (fails f v) = Opens v
 
   opens_itself : Opens w
-  opens_itself = record { licensed = licensed_itself a w.live; alive = refl }
+  opens_itself = record { licensed = same_open a w.live; alive = refl }
 
   opens_row : (s : Source) (row : Row) → RowOpen a w.live row → DeedOpens (lifted s w row)
   opens_row s (gives stack live) h = record { licensed = h; alive = refl }
@@ -94,7 +75,7 @@ opens_deed : (x : Agent) (p : Name) (s : Source) (w : World) → DeedOpens (acti
 unfolding deed row_done
 opens_deed x Call s w = opens_forms _ w (called w.live.objects (acting x s w.live.objects) s w.library)
 opens_deed x p s w =
-    opens_row _ w s (shared p (acting x s w.live.objects) (locked_of s.marks) s.stack w.live) (row_open p (acting x s w.live.objects) (locked_of s.marks) s w.live)
+    opens_row _ w s (shared p (acting x s w.live.objects) x.descr (locked_of s.marks) s.stack w.live) (shared_open p (acting x s w.live.objects) x.descr (locked_of s.marks) s.stack w.live)
 
 -- the state at a shared primitive is in the same programs
 abbrev acting_with : Agent → Program → List Program → List Entry → Actor
@@ -199,7 +180,7 @@ told_forms w (fails f forms) h = h
 told_deed : (x : Agent) (p : Name) (s : Source) (w : World) → IsTold w.live → DeedTold (deed x p s w)
 unfolding deed row_done
 told_deed x Call s w h = told_forms w (called w.live.objects (acting x s w.live.objects) s w.library) h
-told_deed x p s w h = told_row s w (shared p (acting x s w.live.objects) (locked_of s.marks) s.stack w.live) h
+told_deed x p s w h = told_row s w (shared p (acting x s w.live.objects) x.descr (locked_of s.marks) s.stack w.live) h
 
 module _ (pid : ℤ) where
   told_broken : (player : Dbref) (program : ℤ) (f : MufFault) (w : World) → IsTold w.live → IsTold (broken pid player program f w).live

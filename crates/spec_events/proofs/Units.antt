@@ -114,7 +114,7 @@ module _ (pid : ℤ) (r : Option Source) where
   pub deed_moved : (x : Agent) (p : Name) (s : Source) (w : World) → after_deed pid x.player s (deed x p s (moved w)) ≡ after_deed pid x.player s (deed x p s w)
   unfolding deed row_done
   deed_moved x Call s w = after_forms x.player s (called w.live.objects (acting x s w.live.objects) s w.library) w
-  deed_moved x p s w = after_row x.player s (shared p (acting x s w.live.objects) (locked_of s.marks) s.stack w.live) w
+  deed_moved x p s w = after_row x.player s (shared p (acting x s w.live.objects) x.descr (locked_of s.marks) s.stack w.live) w
 
 -- What follows units that ended so, of a process in the program of this number, where so many more are left. Only its
 -- state is another one then.

@@ -63,7 +63,7 @@ lifted s w (refuses f) = fails f w
 
 -- it is done as its row says, by the running program
 unfoldable pub row_done : Agent → Name → Source → World → Deed World
-row_done x p s w = lifted s w (shared p (acting x s w.live.objects) (locked_of s.marks) s.stack w.live)
+row_done x p s w = lifted s w (shared p (acting x s w.live.objects) x.descr (locked_of s.marks) s.stack w.live)
 
 -- CALL changes nothing but the built forms. The tests that it begins with: `go` says how it goes on where they pass.
 
@@ -213,7 +213,7 @@ abbrev pub unit_of : Agent → Source → World → Turn → Taken
 unit_of x s w t = record { before = w; state = s; actor = acting x s w.live.objects; after = world_of t }
 
 abbrev pub agent_of : Process → Agent
-agent_of p = record { player = p.player; trigger = p.trigger }
+agent_of p = record { player = p.player; trigger = p.trigger; descr = p.descr }
 
 -- for whom a process acts as the world is, and where it stands
 abbrev pub seat_of : Process → Option (Agent × Source)

@@ -12,13 +12,14 @@ use crate::starting::Agent;
 use muck_queue::Process;
 
 impl Agent {
-    /// For whom this process acts: its player, and what started it.
+    /// For whom this process acts: its player, what started it, and its connection.
     pub fn of(process: &Process) -> Self
         ensures { result ≡ agent_of process.now }
     {
         Agent {
             player: process.player,
             trigger: process.trigger,
+            descr: process.descr,
         }
     }
 }

@@ -35,4 +35,6 @@ pub struct Agent {
     pub player: Dbref,
     /// What started it; `#-1` where that is gone.
     pub trigger: Dbref,
+    /// The connection to which it is tied.
+    pub descr: Option<u32>,
 }

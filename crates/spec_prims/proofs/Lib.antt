@@ -1,2 +1,3 @@
-pub mod Quiet
+pub mod Fits
+pub mod Opens
 pub mod There

@@ -12,9 +12,15 @@ pub data Row : Type 0 where
   gives : List Datum → Live → Row
   refuses : MufFault → Row
 
--- what an actor does by it with the items that it takes, the top first
-abbrev pub Doing : Type 0
-Doing = Actor → List Datum → Live → Row
+-- What an actor does by it with the items that it takes, the top first: the fault that its own rule for its arguments finds in
+-- them, where it finds one, and else what it gives.
+pub record Doing : Type 0 where
+  pub argued : Actor → List Datum → Live → Option MufFault
+  pub does : Actor → List Datum → Live → Row
+
+-- one that has no rule for its arguments
+abbrev pub unruled : (Actor → List Datum → Live → Row) → Doing
+unruled does = record { argued = λ a items w. None; does = does }
 
 -- where a test has no fault
 abbrev pub unless : Option MufFault → Row → Row

@@ -105,7 +105,7 @@ impl State {
     {
         let actor = self.actor(agent, &running)?;
         let (programs, mut frame) = running.take_apart();
-        match self.apply(prim, actor, &mut frame) {
+        match self.apply(prim, actor, agent.descr, &mut frame) {
             Ok(()) => Ok(Done::Does(passed(programs, frame))),
             Err(PrimFault::Fault(fault)) => {
                 Ok(Done::Fails(Running::rejoin(programs, frame), fault))
@@ -116,12 +116,18 @@ impl State {
 
     // The row of a primitive, by the family that it is of.
     #[tactic(auto, using(crate::proofs::Deeds::without_row))]
-    fn apply(&mut self, prim: Prim, actor: Actor, frame: &mut Frame) -> Result<(), PrimFault>
-        ensures { AppliedTo (shared prim actor (locked_by (flat frame.old).marks) (flat frame.old).stack self.old.live) frame.old frame.new self.old self.new result }
+    fn apply(
+        &mut self,
+        prim: Prim,
+        actor: Actor,
+        descr: Option<u32>,
+        frame: &mut Frame,
+    ) -> Result<(), PrimFault>
+        ensures { AppliedTo (shared prim actor descr (locked_by (flat frame.old).marks) (flat frame.old).stack self.old.live) frame.old frame.new self.old self.new result }
     {
         let mut guard = Guard::new(self.alloc, &mut self.db, &mut self.board, actor);
         match prim.family() {
-            Family::Talk => prim_talk::apply(prim, &mut guard, frame),
+            Family::Talk => prim_talk::apply(prim, &mut guard, frame, descr),
             _ => Err(PrimFault::Fault(MufFault::NotCompiled)),
         }
     }
@@ -197,7 +203,11 @@ impl State {
     fn actor(&self, agent: Agent, running: &Running) -> Result<Actor, NoMemory>
         ensures { IfOk result (λ a. a ≡ acting agent running.now self.now.live.objects) }
     {
-        let Agent { player, trigger } = agent;
+        let Agent {
+            player,
+            trigger,
+            ..
+        } = agent;
         let program = running.program();
         let callers = running.callers(self.alloc)?;
         Ok(Actor {

@@ -1,19 +1,17 @@
-// The tests that a primitive begins with.
-ghost use Rattle.std.specs.Prelude.{◌≡◌, ◌≤◌, length};
+// The tests of items.
+ghost use Rattle.std.specs.Prelude.{◌≡◌, ◌≤◌, ◌+◌, drop, length};
 ghost use Rattle.spec_rights.specs.Verdict.{verdict};
-ghost use Rattle.muf_model.specs.Prims.{needs_of};
 ghost use Rattle.muf_model.specs.View.{view};
-ghost use Rattle.muf_frame.specs.Shown.{Shown, flat, locked_by};
-ghost use Rattle.muck_perm.specs.Guards.{world_of};
+ghost use Rattle.muf_model.specs.Ladder.{walk, times, unfit, absent, distant};
+ghost use Rattle.muf_frame.specs.Shown.{Shown, flat};
 ghost use Rattle.spec_prims.specs.Asking.{fault_of, is_there, level_fault, near_fault};
-ghost use Rattle.spec_prims.specs.Shared.{first_fault};
-ghost use Rattle.prim_talk.specs.Tests.{Passes, IsFixed, fixed_fault, item_fault};
-ghost use Rattle.muf_model.specs.Ladder.{walk, unfit, absent, distant};
+ghost use Rattle.prim_common.specs.Tests.{Passes, AreShort, item_fault, all_needs};
 
+use crate::parts::{Parts, counted_len};
 use muck_model::Dbref;
 use muck_perm::{Guard, verdict};
 use muf_frame::Frame;
-use muf_model::{MufFault, Need, Prim, Value};
+use muf_model::{MufFault, Need, Value};
 use spec_rights::Act;
 
 /// What is asked of an item.
@@ -34,9 +32,9 @@ fn permit(guard: &Guard, act: &Act) -> Result<(), MufFault>
     }
 }
 
-// Whether the actor has the level of a primitive.
+/// Whether the actor has the level of a primitive.
 #[tactic(auto, unfolding(spec_prims::specs::Asking::level_fault))]
-fn reach_level(guard: &Guard, level: u8) -> Result<(), MufFault>
+pub(crate) fn reach_level(guard: &Guard, level: u8) -> Result<(), MufFault>
     ensures { Passes (level_fault guard.now.actor guard.now.db.now level) result }
 {
     permit(guard, &Act::Shared { level })
@@ -95,13 +93,20 @@ fn test_item(asked: Asked, need: &Need, item: &Value, guard: &Guard) -> Result<(
     }
 }
 
-// A test of each item, from the top down.
-fn test_items(asked: Asked, needs: &[Need], guard: &Guard, frame: &Frame) -> Result<(), MufFault>
-    ensures { Passes (walk (item_fault asked guard.now.actor guard.now.db.now) needs.now (flat frame.now).stack) result }
+// A test of each item behind so many, from the top down.
+fn test_items(
+    asked: Asked,
+    needs: &[Need],
+    from: usize,
+    guard: &Guard,
+    frame: &Frame,
+) -> Result<(), MufFault>
+    requires { length needs.now + from ≤ 274877906944 }
+    ensures { Passes (walk (item_fault asked guard.now.actor guard.now.db.now) needs.now (drop from (flat frame.now).stack)) result }
 {
     let mut at = 0;
     while at < needs.len() {
-        let Some(item) = frame.peek(at) else {
+        let Some(item) = frame.peek(at + from) else {
             return Ok(());
         };
         test_item(asked, &needs[at], item, guard)?;
@@ -110,30 +115,42 @@ fn test_items(asked: Asked, needs: &[Need], guard: &Guard, frame: &Frame) -> Res
     Ok(())
 }
 
-// Items of which none is counted by another: how many, the level that is wanted, what they are, and which of them must be
-// there and near.
-#[tactic(auto, using(crate::proofs::Walks::short_some))]
-fn test_fixed(needs: &[Need], level: u8, guard: &Guard, frame: &Frame) -> Result<(), MufFault>
-    requires { length needs.now ≤ 64 }
-    ensures { Passes (fixed_fault needs.now level guard.now.actor (locked_by (flat frame.now).marks) (flat frame.now).stack (world_of guard.now)) result }
+// The same of items that are counted.
+fn test_counted(
+    asked: Asked,
+    each: &[Need],
+    count: usize,
+    from: usize,
+    guard: &Guard,
+    frame: &Frame,
+) -> Result<(), MufFault>
+    requires { length (times count each.now) + from ≤ 274877906944 }
+    ensures { Passes (walk (item_fault asked guard.now.actor guard.now.db.now) (times count each.now) (drop from (flat frame.now).stack)) result }
 {
-    if !needs.is_empty() {
-        frame.need(needs.len())?;
+    let mut depth = from;
+    let mut left = count;
+    while left > 0 {
+        test_items(asked, each, depth, guard, frame)?;
+        depth += each.len();
+        left -= 1;
     }
-    reach_level(guard, level)?;
-    test_items(Asked::Kind, needs, guard, frame)?;
-    test_items(Asked::There, needs, guard, frame)?;
-    test_items(Asked::Near, needs, guard, frame)
+    Ok(())
 }
 
-/// The tests that a primitive begins with that has no counted part.
-pub(crate) fn ready(prim: Prim, guard: &Guard, frame: &Frame) -> Result<(), MufFault>
-    requires { IsFixed (needs_of prim) }
-    ensures { Passes (first_fault prim guard.now.actor (locked_by (flat frame.now).marks) (flat frame.now).stack (world_of guard.now)) result }
+/// The same of all items.
+#[tactic(auto, using(crate::proofs::Walks::part_steps))]
+pub(crate) fn test_parts(
+    asked: Asked,
+    parts: Parts,
+    guard: &Guard,
+    frame: &Frame,
+) -> Result<(), MufFault>
+    requires { AreShort parts }
+    ensures { Passes (walk (item_fault asked guard.now.actor guard.now.db.now) (all_needs parts) (flat frame.now).stack) result }
 {
-    let row = prim.row();
-    match row.needs {
-        Some(needs) => test_fixed(needs.fixed, row.level, guard, frame),
-        None => Err(MufFault::NotCompiled),
-    }
+    let fixed = parts.fixed.len();
+    let under = fixed + counted_len(parts);
+    test_items(asked, parts.fixed, 0, guard, frame)?;
+    test_counted(asked, parts.each, parts.count, fixed, guard, frame)?;
+    test_items(asked, parts.under, under, guard, frame)
 }

@@ -1,0 +1,6 @@
+pub mod Applying
+mod Counts
+mod Faults
+mod First
+mod Giving
+mod Walks

@@ -1,0 +1,29 @@
+use Rattle.std.proofs.Common.{rules, ◌≡◌, ◌+◌, ◌≤◌, ◌<◌, length, drop, Some, None, Ok, Err, arith}
+use Rattle.std.specs.Prelude.{slice_get}
+use Rattle.muf_frame.specs.Shown.{flat}
+use Rattle.muf_model.specs.Ladder.{walk}
+use Rattle.prim_common.specs.Tests.{item_fault}
+use Rattle.prim_common.proofs.Walks.{passed_all, failed_at, passed_at}
+use Rattle.prim_common.proofs.items.test_items.Goals as goal
+
+pub returns-in_default : goal.returns-in_default
+returns-in_default c =
+    let test = item_fault c.args.asked c.args.guard.now.actor c.args.guard.now.db.now in
+    let none : slice_get c.args.frame.now.stack (c.loop-at.at + c.args.from) ≡ None = search rules in
+    passed_all test c.args.needs.now c.args.frame.now.stack c.loop-at.at (c.loop-at.at + c.args.from) (walk test c.args.needs.now (drop c.args.from (flat c.args.frame.now).stack)) c.loop-at.invariant.1 none
+
+pub returns-in_err-test_item : goal.returns-in_err-test_item
+returns-in_err-test_item c =
+    let test = item_fault c.args.asked c.args.guard.now.actor c.args.guard.now.db.now in
+    let item : slice_get c.args.frame.now.stack (c.loop-at.at + c.args.from) ≡ Some c.in-Some.item.now = search rules in
+    let back : c.from_residual.result ≡ Err c.in_err-test_item.field-0.0 = search rules in
+    let was : c.test_item.result ≡ Err c.in_err-test_item.field-0.0 = search rules in
+    rw back (failed_at test c.args.needs.now c.args.frame.now.stack c.loop-at.at (c.loop-at.at + c.args.from) (walk test c.args.needs.now (drop c.args.from (flat c.args.frame.now).stack)) _ c.in-Some.item.now c.in_err-test_item.field-0.0 c.test_item.result c.loop-at.invariant.1 c.loop-at-test.true item c.test_item.ensures was)
+
+pub loop-at-preserved : goal.loop-at-preserved
+loop-at-preserved c =
+    let test = item_fault c.args.asked c.args.guard.now.actor c.args.guard.now.db.now in
+    let item : slice_get c.args.frame.now.stack (c.loop-at.at + c.args.from) ≡ Some c.in-Some.item.now = search rules in
+    let was : c.test_item.result ≡ Ok c.in_ok-test_item.field-0 = search rules in
+    let next : c.loop-at.at + 1 + c.args.from ≡ c.loop-at.at + c.args.from + 1 = omega arith in
+    (omega (arith, c.loop-at-test.true), rw next (passed_at test c.args.needs.now c.args.frame.now.stack c.loop-at.at (c.loop-at.at + c.args.from) (walk test c.args.needs.now (drop c.args.from (flat c.args.frame.now).stack)) _ c.in-Some.item.now c.in_ok-test_item.field-0 c.test_item.result c.loop-at.invariant.1 c.loop-at-test.true item c.test_item.ensures was))

@@ -1,0 +1,14 @@
+use Rattle.std.proofs.Common.{◌≡◌, ◌≤◌, ◌+◌, ◌-◌, length, drop}
+use Rattle.muf_frame.specs.Shown.{flat}
+use Rattle.muf_model.specs.Ladder.{walk}
+use Rattle.prim_common.specs.Tests.{item_fault}
+use Rattle.prim_common.proofs.items.test_items.Given as goal
+
+-- what was looked at so far passes
+abbrev pub invariant-loop-at : goal.invariant-loop-at
+invariant-loop-at l =
+    (l.at ≤ length l.fn.needs)
+    × (walk (item_fault l.fn.asked l.fn.guard.actor l.fn.guard.db.now) l.fn.needs (drop l.fn.from (flat l.fn.frame).stack) ≡ walk (item_fault l.fn.asked l.fn.guard.actor l.fn.guard.db.now) (drop l.at l.fn.needs) (drop (l.at + l.fn.from) (flat l.fn.frame).stack))
+
+abbrev pub decreases-loop-at : goal.decreases-loop-at
+decreases-loop-at l = length l.fn.needs - l.at

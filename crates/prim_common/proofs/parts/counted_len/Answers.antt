@@ -1,0 +1,6 @@
+use Rattle.std.proofs.Common.{◌≤◌, length, arith}
+use Rattle.prim_common.proofs.Counts.{product_most}
+use Rattle.prim_common.proofs.parts.counted_len.Goals as goal
+
+pub overflow_mul-result : goal.overflow_mul-result
+overflow_mul-result c = omega (arith, product_most c.args.parts.count (length c.args.parts.each.now) (omega arith) (omega arith))

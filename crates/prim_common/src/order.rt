@@ -1,0 +1,62 @@
+// The tests that a primitive begins with.
+ghost use Rattle.std.specs.Prelude.{◌≡◌, ◌≤◌, IfOk, Some, length};
+ghost use Rattle.muf_model.specs.Ladder.{wanted};
+ghost use Rattle.muf_model.specs.Needs.{shown_needs};
+ghost use Rattle.muf_frame.specs.Shown.{Shown, flat, locked_by};
+ghost use Rattle.muck_perm.specs.Guards.{world_of};
+ghost use Rattle.spec_prims.specs.Shared.{fault_by, first_fault, taken};
+ghost use Rattle.prim_common.specs.Tests.{Passes, AreFew};
+
+use crate::items::{Asked, reach_level, test_parts};
+use crate::parts::{test_count, wanted_parts};
+use muck_perm::Guard;
+use muf_frame::Frame;
+use muf_model::{MufFault, Needs, Prim};
+
+// How many items, the level that is wanted, what they are, which of them must be there, the primitive's own rule, and which must
+// be near.
+fn test_all(
+    needs: Needs,
+    level: u8,
+    argued: Option<MufFault>,
+    guard: &Guard,
+    frame: &Frame,
+) -> Result<usize, MufFault>
+    requires { AreFew (shown_needs needs) }
+    ensures count { IfOk result (λ n. n ≡ length (wanted (shown_needs needs) (flat frame.now).stack)) }
+    ensures there { IfOk result (λ n. n ≤ length frame.now.stack) }
+    ensures pass { Passes (fault_by (Some (shown_needs needs)) level argued guard.now.actor (locked_by (flat frame.now).marks) (flat frame.now).stack (world_of guard.now)) result }
+{
+    let parts = wanted_parts(needs, frame);
+    let count = test_count(needs, parts, frame)?;
+    reach_level(guard, level)?;
+    test_parts(Asked::Kind, parts, guard, frame)?;
+    test_parts(Asked::There, parts, guard, frame)?;
+    if let Some(fault) = argued {
+        return Err(fault);
+    }
+    test_parts(Asked::Near, parts, guard, frame)?;
+    Ok(count)
+}
+
+/// The tests that a primitive begins with, in their one order: the count of the items, the level, what they are, which of them must
+/// be there, the primitive's own rule for its arguments, and which of them must be near. `argued` is what that rule says of the
+/// items as they stand; `None` where it has no fault, or the primitive has no such rule. The answer is the fault of the first
+/// test that doesn't pass; of a primitive that isn't there yet `NotCompiled`. Where all pass it is how many items the primitive
+/// takes, and these are there. Nothing is changed.
+pub fn ready(
+    prim: Prim,
+    argued: Option<MufFault>,
+    guard: &Guard,
+    frame: &Frame,
+) -> Result<usize, MufFault>
+    ensures count { IfOk result (λ n. n ≡ taken prim (flat frame.now).stack) }
+    ensures there { IfOk result (λ n. n ≤ length frame.now.stack) }
+    ensures pass { Passes (first_fault prim argued guard.now.actor (locked_by (flat frame.now).marks) (flat frame.now).stack (world_of guard.now)) result }
+{
+    let row = prim.row();
+    match row.needs {
+        Some(needs) => test_all(needs, row.level, argued, guard, frame),
+        None => Err(MufFault::NotCompiled),
+    }
+}

@@ -1,0 +1,111 @@
+-- What each row changes is open to who acts.
+use Rattle.std.proofs.Common.{◌≡◌, ℕ, Bool, true, false, cond, List, [], ◌∷◌, Option, Some, None, refl}
+use Rattle.std.specs.Option.{option_or}
+use Rattle.spec_live.specs.Lives.{Live}
+use Rattle.spec_rights.specs.declared.act.Actor.{Actor}
+use Rattle.spec_rights.specs.declared.act.Act.{Act}
+use Rattle.spec_rights.specs.Licence.{Licensed, nobody}
+use Rattle.spec_rights.proofs.Licences.{Ended, Given, Shows, judge, itself, end_quietly, ends_quiet, quiet_unchanged}
+use Rattle.spec_rights.proofs.Rights.{same_itself}
+use Rattle.spec_rights.proofs.Shown.{quiet_tell_player}
+use Rattle.spec_live.specs.Lives.{unchanged}
+use Rattle.muf_model.specs.declared.fault.MufFault.{MufFault}
+use Rattle.muf_model.specs.declared.prims.Family.{Family}
+use Rattle.muf_model.specs.declared.prims.Family.TheVariants.{Talk}
+use Rattle.muf_model.specs.declared.prims.Primitive.{Primitive}
+use Rattle.muf_model.specs.declared.prims.Primitive.TheVariants.{Notify}
+use Rattle.muf_model.specs.Datum.{Datum, text, object}
+use Rattle.muf_model.specs.Ladder.{too_short}
+use Rattle.muf_model.specs.Needs.{Needs}
+use Rattle.muf_model.specs.Prims.{family_of, level_of, needs_of}
+use Rattle.spec_prims.specs.Asking.{numbered, level_fault}
+use Rattle.spec_prims.specs.Row.{Row, gives, refuses, Doing, unless, given_upon}
+use Rattle.spec_prims.specs.Talk.{notified, talk_row}
+use Rattle.spec_prims.specs.Shared.{row_in, shared_row, taken, fault_by, first_fault, done_by, shared}
+
+-- it is open to the actor, or nothing has changed
+abbrev pub RowOpen : Actor → Live → Row → Type 0
+RowOpen a w (gives items v) = Licensed a nobody w v
+RowOpen a w (refuses f) = Unit {0}
+
+-- by the laws of what is changed, where the act was allowed
+pub ended_open : (a : Actor) (act : Option Act) (w v : Live) → Ended itself a nobody act w v → Given act w.objects a → Licensed a nobody w v
+ended_open a act w v h given =
+    let t = h.law w.objects (same_itself w.objects) given in
+    record {
+      gone = None;
+      recycled = λ x e. absurd (cc);
+      vanished = λ x e. absurd (cc);
+      objects = t.rows;
+      lists = t.lists;
+      connections = t.ties;
+      tune = t.tune;
+    }
+
+-- where nothing changes, and where something is shown alone
+pub same_open : (a : Actor) (w : Live) → Licensed a nobody w w
+unfolding unchanged
+same_open a w = ended_open a None w w ((ends_quiet a nobody None unchanged quiet_unchanged).law w) tt
+
+pub shows_open : (a : Actor) (w v : Live) → Shows w v → Licensed a nobody w v
+unfolding unchanged
+shows_open a w v h =
+    ended_open a None w v (record {
+      law = λ start same given. end_quietly (judge a nobody start) w w v (((ends_quiet a nobody None unchanged quiet_unchanged).law w).law start same given) h;
+    }) tt
+
+-- of a primitive whose level the actor has
+abbrev pub IsOpen : ℕ → Option Doing → Type 0
+IsOpen level None = Unit {0}
+IsOpen level (Some doing) = (a : Actor) (items : List Datum) (w : Live) → level_fault a w.objects level ≡ None → RowOpen a w (doing.does a items w)
+
+-- one line for each row
+
+opens_notified : (a : Actor) (items : List Datum) (w : Live) → RowOpen a w (notified a items w)
+opens_notified a (text t ∷ object d ∷ []) w = shows_open a w _ ((quiet_tell_player (numbered d) t).law w)
+opens_notified a _ w = tt
+
+opens_talk : (descr : Option ℕ) (p : Primitive) → IsOpen (level_of p) (talk_row descr p)
+opens_talk descr Notify = λ a items w level. opens_notified a items w
+opens_talk descr _ = tt
+
+-- and all of them
+
+opens_in : (descr : Option ℕ) (family : Family) (p : Primitive) → IsOpen (level_of p) (row_in descr family p)
+opens_in descr Talk p = opens_talk descr p
+opens_in descr _ p = tt
+
+opens_if : (b : Bool) (f : MufFault) (items : List Datum) (a : Actor) (w v : Live) → Licensed a nobody w v → RowOpen a w (cond b (refuses f) (gives items v))
+opens_if true f items a w v h = tt
+opens_if false f items a w v h = h
+
+opens_upon : (rest : List Datum) (a : Actor) (w : Live) (row : Row) → RowOpen a w row → RowOpen a w (given_upon rest row)
+opens_upon rest a w (gives items v) h = opens_if _ _ _ a w v h
+opens_upon rest a w (refuses f) h = tt
+
+-- where no test has a fault, that of the level has none
+left_none : (o r : Option MufFault) → option_or o r ≡ None → o ≡ None
+left_none None r e = refl
+left_none (Some f) r e = absurd cc
+
+right_none : (o r : Option MufFault) → option_or o r ≡ None → r ≡ None
+right_none None r e = e
+right_none (Some f) r e = absurd cc
+
+level_passes : (needs : Option Needs) (level : ℕ) (argued : Option MufFault) (a : Actor) (locked : ℕ) (stack : List Datum) (w : Live) → fault_by needs level argued a locked stack w ≡ None → level_fault a w.objects level ≡ None
+level_passes None level argued a locked stack w e = absurd cc
+level_passes (Some needs) level argued a locked stack w e = left_none _ _ (right_none (too_short needs locked stack) _ (left_none _ _ e))
+
+opens_unless : (o : Option MufFault) (a : Actor) (w : Live) (row : Row) → (o ≡ None → RowOpen a w row) → RowOpen a w (unless o row)
+opens_unless None a w row h = h refl
+opens_unless (Some f) a w row h = tt
+
+opens_done : (doing : Option Doing) (p : Primitive) (a : Actor) (locked : ℕ) (stack : List Datum) (w : Live) → IsOpen (level_of p) doing → RowOpen a w (done_by doing p a locked stack w)
+unfolding first_fault
+opens_done None p a locked stack w h = tt
+opens_done (Some doing) p a locked stack w h =
+    opens_unless _ a w _ (λ e. opens_upon _ a w _ (h a _ w (level_passes (needs_of p) (level_of p) (doing.argued a _ w) a locked stack w e)))
+
+pub shared_open : (p : Primitive) (a : Actor) (descr : Option ℕ) (locked : ℕ) (stack : List Datum) (w : Live) → RowOpen a w (shared p a descr locked stack w)
+unfolding shared
+shared_open p a descr locked stack w = opens_done (shared_row descr p) p a locked stack w (opens_in descr (family_of p) p)
