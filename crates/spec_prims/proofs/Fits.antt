@@ -1,11 +1,25 @@
 -- A row that changes the world gives no more items than it takes, so that there is room for them.
+use Rattle.std.specs.Option.{option_map_or}
 use Rattle.std.proofs.Common.{◌≡◌, ◌≤◌, ◌⊎◌, inl, ℕ, List, [], ◌∷◌, length, Option, Some, None, arith}
 use Rattle.spec_live.specs.Lives.{Live}
 use Rattle.spec_rights.specs.declared.act.Actor.{Actor}
 use Rattle.muf_model.specs.declared.prims.Primitive.{Primitive}
 use Rattle.muf_model.specs.declared.prims.Primitive.TheVariants.{Notify}
 use Rattle.muf_model.specs.Datum.{Datum, text, object}
-use Rattle.spec_prims.specs.Row.{Row, gives, refuses, Doing}
+use Rattle.std.specs.Prelude.{ℤ}
+use Rattle.muck_prop.specs.declared.path.PropFault.{PropFault}
+use Rattle.muck_prop.specs.declared.value.PropValue.{PropValue}
+use Rattle.muck_prop.specs.declared.value.PropValue.TheVariants.{Text, Number}
+use Rattle.muck_prop.specs.Paths.{path_fault, segments_of}
+use Rattle.spec_live.specs.declared.object.Object.{Object}
+use Rattle.spec_live.specs.Objects.{object_at}
+use Rattle.spec_live.specs.Seen.{places_of}
+use Rattle.spec_rights.specs.declared.act.Act.TheVariants.{Read}
+use Rattle.spec_rights.specs.Verdict.{verdict}
+use Rattle.muf_model.specs.declared.fault.MufFault.{MufFault}
+use Rattle.spec_prims.specs.Asking.{numbered, fault_of}
+use Rattle.spec_prims.specs.Row.{Row, gives, refuses, Doing, unless}
+use Rattle.spec_prims.specs.PropRows.{at_path, value_of, as_item, as_text, as_number, has_below, looked, first_holder, sought, name_fault, walked, put_at, put, text_or, added, removed, property_row}
 use Rattle.spec_prims.specs.Talk.{notified, talk_row}
 
 -- it gives at most as many, or changes nothing
@@ -28,3 +42,65 @@ fits_notified a _ w = tt
 pub fits_talk : (descr : Option ℕ) (p : Primitive) → IsFit (talk_row descr p)
 fits_talk descr Notify = fits_notified
 fits_talk descr _ = tt
+
+-- what is asked before a row
+
+fits_unless : (o : Option MufFault) (items : List Datum) (w : Live) (row : Row) → Fits items w row → Fits items w (unless o row)
+fits_unless None items w row h = h
+fits_unless (Some f) items w row h = tt
+
+fits_at_path : (fault : Option PropFault) (items : List Datum) (w : Live) (row : Row) → Fits items w row → Fits items w (at_path fault row)
+fits_at_path None items w row h = h
+fits_at_path (Some f) items w row h = tt
+
+-- rows of properties
+
+fits_looked : (look : Option Object → List (List ℕ) → Datum) (a : Actor) (items : List Datum) (w : Live) → Fits items w (looked look a items w)
+fits_looked look a (text t ∷ object d ∷ []) w = fits_at_path (path_fault t) _ w _ (fits_unless _ _ w _ (inr refl))
+fits_looked look a _ w = tt
+
+fits_holder : (shown : Option PropValue → Datum) (a : Actor) (path : List (List ℕ)) (es : List Dbref) (items : List Datum) (w : Live) → Fits items w (first_holder shown a path es w)
+fits_holder shown a path [] items w = inr refl
+fits_holder shown a path (e ∷ es) items w =
+    fits_unless (fault_of (verdict w.objects a (Read e path))) items w _ (held (value_of (object_at e w.objects) path))
+  where
+    held : (o : Option PropValue) → Fits items w (option_map_or (λ value. gives (shown (Some value) ∷ object e.0 ∷ []) w) o (first_holder shown a path es w))
+    held None = fits_holder shown a path es items w
+    held (Some value) = inr refl
+
+fits_sought : (shown : Option PropValue → Datum) (a : Actor) (items : List Datum) (w : Live) → Fits items w (sought shown a items w)
+fits_sought shown a (text t ∷ object d ∷ []) w = fits_at_path (path_fault t) _ w _ (fits_holder shown a (segments_of t) (numbered d ∷ places_of w.objects (numbered d)) _ w)
+fits_sought shown a _ w = tt
+
+fits_walked : (a : Actor) (items : List Datum) (w : Live) → Fits items w (walked a items w)
+fits_walked a (text t ∷ object d ∷ []) w = fits_at_path (name_fault t) _ w _ (inr refl)
+fits_walked a _ w = tt
+
+fits_put_at : (a : Actor) (t : List ℕ) (d : ℤ) (value : PropValue) (items : List Datum) (w : Live) → Fits items w (put_at a t d value w)
+fits_put_at a t d value items w = fits_at_path (path_fault t) items w _ (fits_unless _ items w _ (inl (omega arith)))
+
+fits_put : (a : Actor) (items : List Datum) (w : Live) → Fits items w (put a items w)
+fits_put a (int n ∷ text t ∷ object d ∷ []) w = fits_put_at a t d (Number n) _ w
+fits_put a (text u ∷ text t ∷ object d ∷ []) w = fits_put_at a t d (Text u) _ w
+fits_put a _ w = tt
+
+fits_added : (a : Actor) (items : List Datum) (w : Live) → Fits items w (added a items w)
+fits_added a (int n ∷ text u ∷ text t ∷ object d ∷ []) w = fits_put_at a t d (text_or u n) _ w
+fits_added a _ w = tt
+
+fits_removed : (a : Actor) (items : List Datum) (w : Live) → Fits items w (removed a items w)
+fits_removed a (text t ∷ object d ∷ []) w = fits_at_path (path_fault t) _ w _ (fits_unless _ _ w _ (inl (omega arith)))
+fits_removed a _ w = tt
+
+pub fits_property : (p : Primitive) → IsFit (property_row p)
+fits_property GetProp = fits_looked (λ o path. as_item (value_of o path))
+fits_property GetPropStr = fits_looked (λ o path. as_text (value_of o path))
+fits_property GetPropVal = fits_looked (λ o path. as_number (value_of o path))
+fits_property IsPropDir = fits_looked has_below
+fits_property EnvProp = fits_sought as_item
+fits_property EnvPropStr = fits_sought as_text
+fits_property NextProp = fits_walked
+fits_property SetProp = fits_put
+fits_property AddProp = fits_added
+fits_property RemoveProp = fits_removed
+fits_property _ = tt

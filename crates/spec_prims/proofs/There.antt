@@ -4,8 +4,22 @@ use Rattle.std.specs.Prelude.{◌&&◌, is_some}
 use Rattle.muf_model.specs.declared.prims.Primitive.{Primitive}
 use Rattle.muf_model.specs.declared.prims.Primitive.TheVariants.{Notify}
 use Rattle.muf_model.specs.Prims.{is_there}
+use Rattle.spec_prims.specs.PropRows.{property_row, is_property}
 use Rattle.spec_prims.specs.Talk.{talk_row, is_talk}
 
 pub talk_there : (descr : Option ℕ) (p : Primitive) → is_some (talk_row descr p) ≡ is_talk p && is_there p
 talk_there descr Notify = refl
 talk_there descr _ = refl
+
+pub properties_there : (p : Primitive) → is_some (property_row p) ≡ is_property p && is_there p
+properties_there GetProp = refl
+properties_there GetPropStr = refl
+properties_there GetPropVal = refl
+properties_there SetProp = refl
+properties_there AddProp = refl
+properties_there RemoveProp = refl
+properties_there NextProp = refl
+properties_there IsPropDir = refl
+properties_there EnvProp = refl
+properties_there EnvPropStr = refl
+properties_there _ = refl
