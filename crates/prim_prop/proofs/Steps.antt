@@ -50,7 +50,7 @@ made_items row g items made e is =
 -- at a path, and by leave
 
 no_path_by : (o : Option PropFault) (row : Row) → is_some o ≡ true → at_path o row ≡ refuses BadArgument
-no_path_by None row e = absurd cc
+no_path_by None row e = absurd (cc)
 no_path_by (Some f) row e = refl
 
 pub no_path : (all row : Row) (t : List ℕ) (g : Guard) (e : PrimFault) → all ≡ at_path (path_fault t) row → IsPathed t (Err e) → Makes all g g (Err e)

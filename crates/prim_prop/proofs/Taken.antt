@@ -17,6 +17,9 @@ use Rattle.spec_prims.specs.Row.{Row, refuses}
 use Rattle.spec_prims.specs.PropRows.{at_path, seen_at, looked, first_holder, sought, written_at, put_at, put, text_or, added, removed}
 use Rattle.prim_prop.specs.Asked.{named_in, stored_by, added_by}
 
+some_is : {A : Type 0} (a b : A) → Some a ≡ Some b → a ≡ b
+some_is a b e = cc
+
 -- what stands there, by its parts
 
 abbrev both : Option (List ℕ) → Option ℤ → Option (ℤ × List ℕ)
@@ -56,20 +59,18 @@ pub ruleset named_steps = (named_none, named_alone, named_both)
 -- a text upon an object
 
 pub looked_none : (look : Option Object → List (List ℕ) → Datum) (a : Actor) (stack : List Datum) (w : Live) → named_in stack ≡ None → looked look a (take 2 stack) w ≡ refuses BadType
-looked_none look a (text t ∷ object d ∷ rest) w e = absurd cc
+looked_none look a (text t ∷ object d ∷ rest) w e = absurd (cc)
 looked_none look a [] w e = refl
 looked_none look a (x ∷ []) w e = refl
 looked_none look a (_ ∷ _ ∷ rest) w e = refl
 
 pub looked_at : (look : Option Object → List (List ℕ) → Datum) (a : Actor) (stack : List Datum) (w : Live) (d : ℤ) (t : List ℕ) → named_in stack ≡ Some (d, t) → looked look a (take 2 stack) w ≡ at_path (path_fault t) (seen_at look a (segments_of t) (numbered d) w)
 looked_at look a (text u ∷ object o ∷ rest) w d t e =
-    let first : o ≡ d = cc in
-    let second : u ≡ t = cc in
-    ap (λ n. at_path (path_fault u) (seen_at look a (segments_of u) (numbered n) w)) first ∙ ap (λ s. at_path (path_fault s) (seen_at look a (segments_of s) (numbered d) w)) second
-looked_at look a stack w d t e = absurd cc
+    ap (λ (q : ℤ × List ℕ). at_path (path_fault q.1) (seen_at look a (segments_of q.1) (numbered q.0) w)) (some_is (o, u) (d, t) e)
+looked_at look a stack w d t e = absurd (cc)
 
 pub sought_none : (shown : Option PropValue → Datum) (a : Actor) (stack : List Datum) (w : Live) → named_in stack ≡ None → sought shown a (take 2 stack) w ≡ refuses BadType
-sought_none shown a (text t ∷ object d ∷ rest) w e = absurd cc
+sought_none shown a (text t ∷ object d ∷ rest) w e = absurd (cc)
 sought_none shown a [] w e = refl
 sought_none shown a (x ∷ []) w e = refl
 sought_none shown a (_ ∷ _ ∷ rest) w e = refl
@@ -77,14 +78,11 @@ sought_none shown a (_ ∷ _ ∷ rest) w e = refl
 pub sought_at : (shown : Option PropValue → Datum) (a : Actor) (stack : List Datum) (w : Live) (d : ℤ) (t : List ℕ) → named_in stack ≡ Some (d, t) →
     sought shown a (take 2 stack) w ≡ at_path (path_fault t) (first_holder shown a (segments_of t) (numbered d ∷ places_of w.objects (numbered d)) w)
 sought_at shown a (text u ∷ object o ∷ rest) w d t e =
-    let first : o ≡ d = cc in
-    let second : u ≡ t = cc in
-    ap (λ n. at_path (path_fault u) (first_holder shown a (segments_of u) (numbered n ∷ places_of w.objects (numbered n)) w)) first
-    ∙ ap (λ s. at_path (path_fault s) (first_holder shown a (segments_of s) (numbered d ∷ places_of w.objects (numbered d)) w)) second
-sought_at shown a stack w d t e = absurd cc
+    ap (λ (q : ℤ × List ℕ). at_path (path_fault q.1) (first_holder shown a (segments_of q.1) (numbered q.0 ∷ places_of w.objects (numbered q.0)) w)) (some_is (o, u) (d, t) e)
+sought_at shown a stack w d t e = absurd (cc)
 
 pub removed_none : (a : Actor) (stack : List Datum) (w : Live) → named_in stack ≡ None → removed a (take 2 stack) w ≡ refuses BadType
-removed_none a (text t ∷ object d ∷ rest) w e = absurd cc
+removed_none a (text t ∷ object d ∷ rest) w e = absurd (cc)
 removed_none a [] w e = refl
 removed_none a (x ∷ []) w e = refl
 removed_none a (_ ∷ _ ∷ rest) w e = refl
@@ -92,24 +90,21 @@ removed_none a (_ ∷ _ ∷ rest) w e = refl
 pub removed_at : (a : Actor) (stack : List Datum) (w : Live) (d : ℤ) (t : List ℕ) → named_in stack ≡ Some (d, t) →
     removed a (take 2 stack) w ≡ at_path (path_fault t) (written_at a (segments_of t) (numbered d) (unstored (numbered d) (segments_of t)) w)
 removed_at a (text u ∷ object o ∷ rest) w d t e =
-    let first : o ≡ d = cc in
-    let second : u ≡ t = cc in
-    ap (λ n. at_path (path_fault u) (written_at a (segments_of u) (numbered n) (unstored (numbered n) (segments_of u)) w)) first
-    ∙ ap (λ s. at_path (path_fault s) (written_at a (segments_of s) (numbered d) (unstored (numbered d) (segments_of s)) w)) second
-removed_at a stack w d t e = absurd cc
+    ap (λ (q : ℤ × List ℕ). at_path (path_fault q.1) (written_at a (segments_of q.1) (numbered q.0) (unstored (numbered q.0) (segments_of q.1)) w)) (some_is (o, u) (d, t) e)
+removed_at a stack w d t e = absurd (cc)
 
 -- what is stored upon these
 
 pub put_bad : (a : Actor) (stack : List Datum) (w : Live) → stored_by stack ≡ None → put a (take 3 stack) w ≡ refuses BadType
-put_bad a (int n ∷ rest) w e = absurd cc
-put_bad a (text u ∷ rest) w e = absurd cc
+put_bad a (int n ∷ rest) w e = absurd (cc)
+put_bad a (text u ∷ rest) w e = absurd (cc)
 put_bad a [] w e = refl
 put_bad a (_ ∷ []) w e = refl
 put_bad a (_ ∷ x ∷ []) w e = refl
 put_bad a (_ ∷ x ∷ y ∷ rest) w e = refl
 
 put_under : (a : Actor) (x : Datum) (stack : List Datum) (w : Live) → named_in stack ≡ None → put a (x ∷ take 2 stack) w ≡ refuses BadType
-put_under a x (text t ∷ object d ∷ rest) w e = absurd cc
+put_under a x (text t ∷ object d ∷ rest) w e = absurd (cc)
 put_under a (int n) [] w e = refl
 put_under a (text u) [] w e = refl
 put_under a _ [] w e = refl
@@ -126,41 +121,31 @@ put_none a (x ∷ stack) w e = put_under a x stack w e
 
 pub put_so : (a : Actor) (stack : List Datum) (w : Live) (v : PropValue) (d : ℤ) (t : List ℕ) → stored_by stack ≡ Some v → named_in (drop 1 stack) ≡ Some (d, t) → put a (take 3 stack) w ≡ put_at a t d v w
 put_so a (int n ∷ text u ∷ object o ∷ rest) w v d t f e =
-    let first : o ≡ d = cc in
-    let second : u ≡ t = cc in
-    let third : Number n ≡ v = cc in
-    ap (λ i. put_at a u i (Number n) w) first ∙ ap (λ s. put_at a s d (Number n) w) second ∙ ap (λ x. put_at a t d x w) third
+    ap (λ (q : ℤ × List ℕ). put_at a q.1 q.0 (Number n) w) (some_is (o, u) (d, t) e) ∙ ap (λ x. put_at a t d x w) (some_is (Number n) v f)
 put_so a (text y ∷ text u ∷ object o ∷ rest) w v d t f e =
-    let first : o ≡ d = cc in
-    let second : u ≡ t = cc in
-    let third : Text y ≡ v = cc in
-    ap (λ i. put_at a u i (Text y) w) first ∙ ap (λ s. put_at a s d (Text y) w) second ∙ ap (λ x. put_at a t d x w) third
-put_so a stack w v d t f e = absurd cc
+    ap (λ (q : ℤ × List ℕ). put_at a q.1 q.0 (Text y) w) (some_is (o, u) (d, t) e) ∙ ap (λ x. put_at a t d x w) (some_is (Text y) v f)
+put_so a stack w v d t f e = absurd (cc)
 
 -- an integer and a text upon them
 
 pub added_bad : (a : Actor) (stack : List Datum) (w : Live) → added_by stack ≡ None → added a (take 4 stack) w ≡ refuses BadType
-added_bad a (int n ∷ text u ∷ rest) w e = absurd cc
+added_bad a (int n ∷ text u ∷ rest) w e = absurd (cc)
 added_bad a [] w e = refl
 added_bad a (int n ∷ []) w e = refl
 added_bad a (int n ∷ _ ∷ rest) w e = refl
 added_bad a (_ ∷ rest) w e = refl
 
 added_under : (a : Actor) (n : ℤ) (u : List ℕ) (stack : List Datum) (w : Live) → named_in stack ≡ None → added a (int n ∷ text u ∷ take 2 stack) w ≡ refuses BadType
-added_under a n u (text t ∷ object d ∷ rest) w e = absurd cc
+added_under a n u (text t ∷ object d ∷ rest) w e = absurd (cc)
 added_under a n u [] w e = refl
 added_under a n u (y ∷ []) w e = refl
 added_under a n u (_ ∷ _ ∷ rest) w e = refl
 
 pub added_none : (a : Actor) (stack : List Datum) (w : Live) (n : ℤ) (u : List ℕ) → added_by stack ≡ Some (n, u) → named_in (drop 2 stack) ≡ None → added a (take 4 stack) w ≡ refuses BadType
 added_none a (int m ∷ text v ∷ stack) w n u f e = added_under a m v stack w e
-added_none a stack w n u f e = absurd cc
+added_none a stack w n u f e = absurd (cc)
 
 pub added_so : (a : Actor) (stack : List Datum) (w : Live) (n : ℤ) (u : List ℕ) (d : ℤ) (t : List ℕ) → added_by stack ≡ Some (n, u) → named_in (drop 2 stack) ≡ Some (d, t) → added a (take 4 stack) w ≡ put_at a t d (text_or u n) w
 added_so a (int m ∷ text v ∷ text s ∷ object o ∷ rest) w n u d t f e =
-    let first : o ≡ d = cc in
-    let second : s ≡ t = cc in
-    let third : m ≡ n = cc in
-    let fourth : v ≡ u = cc in
-    ap (λ i. put_at a s i (text_or v m) w) first ∙ ap (λ p. put_at a p d (text_or v m) w) second ∙ ap (λ k. put_at a t d (text_or v k) w) third ∙ ap (λ x. put_at a t d (text_or x n) w) fourth
-added_so a stack w n u d t f e = absurd cc
+    ap (λ (q : ℤ × List ℕ). put_at a q.1 q.0 (text_or v m) w) (some_is (o, s) (d, t) e) ∙ ap (λ (q : ℤ × List ℕ). put_at a t d (text_or q.1 q.0) w) (some_is (m, v) (n, u) f)
+added_so a stack w n u d t f e = absurd (cc)

@@ -62,14 +62,14 @@ Rising (x ∷ xs) = AllByRecursion (Upto x) xs × Rising xs
 
 less_of : (r : Ordering) → is_lt r ≡ true → r ≡ Less
 less_of Less h = refl
-less_of Equal h = absurd cc
-less_of Greater h = absurd cc
+less_of Equal h = absurd (cc)
+less_of Greater h = absurd (cc)
 
 take_upto : (n : ℕ) (xs ys : Path) → path_cmp xs ys ≡ Less → Upto (take n xs) (take n ys)
 take_upto zero xs ys h = inr refl
-take_upto (suc n) [] [] h = absurd cc
+take_upto (suc n) [] [] h = absurd (cc)
 take_upto (suc n) [] (y ∷ ys) h = inl refl
-take_upto (suc n) (x ∷ xs) [] h = absurd cc
+take_upto (suc n) (x ∷ xs) [] h = absurd (cc)
 take_upto (suc n) (x ∷ xs) (y ∷ ys) h =
     elim (then_less (segment_cmp x y) (path_cmp xs ys) h) as (λ _. Upto (x ∷ take n xs) (y ∷ take n ys)) [
       | inl less ↦ inl (ap (λ r. ordering_then r (path_cmp (take n xs) (take n ys))) less)
@@ -122,7 +122,7 @@ not_before x c (inr e) = ap (λ p. is_lt (path_cmp c p)) e ∙ ap is_lt (tied_it
 -- ---- what is found
 
 found_after : (p : Path → Bool) (c : Path) (xs : List Path) → find p xs ≡ Some c → p c ≡ true
-found_after p c [] e = absurd cc
+found_after p c [] e = absurd (cc)
 found_after p c (x ∷ xs) e =
     elim (p x) as (λ b. p x ≡ b → cond b (Some x) (find p xs) ≡ Some c → p c ≡ true) [
       | true ↦ λ h s. let same : x ≡ c = cc in ap p (sym same) ∙ h
@@ -130,7 +130,7 @@ found_after p c (x ∷ xs) e =
     ] refl e
 
 found_upto : (p : Path → Bool) (x c : Path) (xs : List Path) → AllByRecursion (Upto x) xs → find p xs ≡ Some c → Upto x c
-found_upto p x c [] h e = absurd cc
+found_upto p x c [] h e = absurd (cc)
 found_upto p x c (y ∷ ys) (up, rest) e =
     elim (p y) as (λ b. cond b (Some y) (find p ys) ≡ Some c → Upto x c) [
       | true ↦ λ s. let same : y ≡ c = cc in subst (Upto x) same up
@@ -141,7 +141,7 @@ none_kept : (p r : Path → Bool) (xs : List Path) → find p xs ≡ None → fi
 none_kept p r [] e = refl
 none_kept p r (x ∷ xs) e =
     elim (p x) as (λ b. p x ≡ b → cond b (Some x) (find p xs) ≡ None → find p (filter r (x ∷ xs)) ≡ None) [
-      | true ↦ λ h s. absurd cc
+      | true ↦ λ h s. absurd (cc)
       | false ↦ λ h s. elim (r x) as (λ k. find p (cond k (x ∷ filter r xs) (filter r xs)) ≡ None) [
         | true ↦ ap (λ b. cond b (Some x) (find p (filter r xs))) h ∙ none_kept p r xs s
         | false ↦ none_kept p r xs s
@@ -149,7 +149,7 @@ none_kept p r (x ∷ xs) e =
     ] refl e
 
 one_kept : (p r : Path → Bool) (c : Path) (xs : List Path) → find p xs ≡ Some c → r c ≡ true → find p (filter r xs) ≡ Some c
-one_kept p r c [] e f = absurd cc
+one_kept p r c [] e f = absurd (cc)
 one_kept p r c (x ∷ xs) e f =
     elim (p x) as (λ b. p x ≡ b → cond b (Some x) (find p xs) ≡ Some c → find p (filter r (x ∷ xs)) ≡ Some c) [
       | true ↦ λ h s.
@@ -209,7 +209,7 @@ fewer_or after c (x ∷ xs) a =
     ] refl
 
 fewer : (after : Option Path) (c : Path) (xs : List Path) → find (is_after after) xs ≡ Some c → length (filter (is_after (Some c)) xs) < length (filter (is_after after) xs)
-fewer after c [] e = absurd cc
+fewer after c [] e = absurd (cc)
 fewer after c (x ∷ xs) e =
     elim (is_after after x) as (λ b. is_after after x ≡ b → cond b (Some x) (find (is_after after) xs) ≡ Some c → length (filter (is_after (Some c)) (x ∷ xs)) < length (cond b (x ∷ filter (is_after after) xs) (filter (is_after after) xs))) [
       | true ↦ λ a s.
