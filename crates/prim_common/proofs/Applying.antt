@@ -32,17 +32,17 @@ no_needs : (o : Option Needs) → false ≡ is_some o → o ≡ None
 no_needs None e = refl
 no_needs (Some needs) e = absurd cc
 
-unless_fails : {X : Type 0} (o : Option MufFault) (row : Row) (f : MufFault) → Passes {X = X} o (Err f) → unless o row ≡ refuses f
-unless_fails None row f h = absurd h
-unless_fails (Some g) row f h = ap refuses (sym h)
+unless_fails : (X : Type 0) (o : Option MufFault) (row : Row) (f : MufFault) → Passes {X = X} o (Err f) → unless o row ≡ refuses f
+unless_fails X None row f h = absurd h
+unless_fails X (Some g) row f h = ap refuses (sym h)
 
 unless_passes : {X : Type 0} (o : Option MufFault) (row : Row) (x : X) → Passes {X = X} o (Ok x) → unless o row ≡ row
 unless_passes None row x h = refl
 unless_passes (Some g) row x h = absurd h
 
-absent_fault : {X : Type 0} (o : Option MufFault) (f : MufFault) → Passes {X = X} o (Err NotCompiled) → Passes {X = X} o (Err f) → f ≡ NotCompiled
-absent_fault None f h k = absurd h
-absent_fault (Some g) f h k = k ∙ sym h
+absent_fault : (X : Type 0) (o : Option MufFault) (f : MufFault) → Passes {X = X} o (Err NotCompiled) → Passes {X = X} o (Err f) → f ≡ NotCompiled
+absent_fault X None f h k = absurd h
+absent_fault X (Some g) f h k = k ∙ sym h
 
 absent_passes : {X Y : Type 0} (o : Option MufFault) (x : X) → Passes {X = X} o (Err NotCompiled) → Passes {X = X} o (Ok x) → Y
 absent_passes None x h k = absurd h
@@ -52,15 +52,15 @@ module _ (p : Primitive) (argued : Option MufFault) (a : Actor) (locked : ℕ) (
   pub fails_first : (doing : Option Doing) (f : MufFault) (r : Result ℕ MufFault) → is_some doing ≡ is_there p → argued ≡ argued_of doing a (take (taken p stack) stack) w → Passes (first_fault p argued a locked stack w) r → r ≡ Err f →
       done_by doing p a locked stack w ≡ refuses f
   fails_first None f r there same pass is =
-      let missing : Passes {X = ℕ} (first_fault p argued a locked stack w) (Err NotCompiled) = first_none p argued a locked stack w (no_needs (needs_of p) there) in
-      ap refuses (sym (absent_fault {X = ℕ} (first_fault p argued a locked stack w) f missing (subst (Passes (first_fault p argued a locked stack w)) is pass)))
+      let missing : Passes {X = ℕ} (first_fault p argued a locked stack w) (Err NotCompiled) = first_none ℕ p argued a locked stack w (no_needs (needs_of p) there) in
+      ap refuses (sym (absent_fault ℕ (first_fault p argued a locked stack w) f missing (subst (Passes (first_fault p argued a locked stack w)) is pass)))
   fails_first (Some doing) f r there same pass is =
-      unless_fails {X = ℕ} _ _ f (subst (λ o. Passes {X = ℕ} (first_fault p o a locked stack w) (Err f)) same (subst (Passes (first_fault p argued a locked stack w)) is pass))
+      unless_fails ℕ _ _ f (subst (λ o. Passes {X = ℕ} (first_fault p o a locked stack w) (Err f)) same (subst (Passes (first_fault p argued a locked stack w)) is pass))
 
   pub gives_first : (doing : Option Doing) (n : ℕ) (r : Result ℕ MufFault) → is_some doing ≡ is_there p → argued ≡ argued_of doing a (take (taken p stack) stack) w → Passes (first_fault p argued a locked stack w) r → r ≡ Ok n → n ≡ taken p stack →
       done_by doing p a locked stack w ≡ given_upon (drop n stack) (does_of doing a (take n stack) w)
   gives_first None n r there same pass is count =
-      let missing : Passes {X = ℕ} (first_fault p argued a locked stack w) (Err NotCompiled) = first_none p argued a locked stack w (no_needs (needs_of p) there) in
+      let missing : Passes {X = ℕ} (first_fault p argued a locked stack w) (Err NotCompiled) = first_none ℕ p argued a locked stack w (no_needs (needs_of p) there) in
       absent_passes (first_fault p argued a locked stack w) n missing (subst (Passes (first_fault p argued a locked stack w)) is pass)
   gives_first (Some doing) n r there same pass is count =
       unless_passes {X = ℕ} _ _ n (subst (λ o. Passes {X = ℕ} (first_fault p o a locked stack w) (Ok n)) same (subst (Passes (first_fault p argued a locked stack w)) is pass))

@@ -4,6 +4,7 @@ use Rattle.std.specs.Prelude.{ℤ, pos, negsuc, nat_lt, ◌&&◌}
 use Rattle.std.proofs.lemmas.List.{length-append, length-map, append-nil}
 use Rattle.std.proofs.lemmas.Bool.{ltb-true}
 use Rattle.std.proofs.lemmas.Nat.{mul-le}
+use Rattle.std.proofs.Math.Nat.{zero-mul, suc-mul}
 use Rattle.std.specs.Option.{option_or}
 use Rattle.muf_model.specs.declared.needs.Need.{Need}
 use Rattle.muf_model.specs.declared.prims.Primitive.{Primitive}
@@ -21,7 +22,7 @@ use Rattle.prim_common.proofs.Faults.{or_assoc}
 
 -- the item that counts
 
-count_top : (o : Option ℤ) (n : ℕ) → o ≡ Some (pos n) → n ≡ count_of o
+pub count_top : (o : Option ℤ) (n : ℕ) → o ≡ Some (pos n) → n ≡ count_of o
 count_top o n e = ap count_of (sym e)
 
 pub ruleset count_steps = (count_top)
@@ -63,7 +64,7 @@ short_by fixed (Some m) locked stack = sym (or_assoc (short (length (fixed ++ m.
 
 -- so many items, of which there is one
 
-short_some : (n locked : ℕ) (stack : List Datum) → 0 < n → short n locked stack ≡ cond (nat_lt (length stack) (locked + n)) (Some (too_few n stack)) None
+pub short_some : (n locked : ℕ) (stack : List Datum) → 0 < n → short n locked stack ≡ cond (nat_lt (length stack) (locked + n)) (Some (too_few n stack)) None
 short_some zero locked stack h = absurd (omega (arith, h))
 short_some (suc n) locked stack h = refl
 
@@ -74,8 +75,11 @@ pub ruleset length_steps = (length-append)
 -- each so many times
 
 pub times_length : (n : ℕ) (each : List Need) → length (times n each) ≡ n * length each
-times_length zero each = refl
-times_length (suc n) each = length-append each (times n each) ∙ ap (λ k. length each + k) (times_length n each)
+times_length zero each = sym (zero-mul (length each))
+times_length (suc n) each =
+    let first : length (times (suc n) each) ≡ length each + length (times n each) = length-append each (times n each) in
+    let rest : length (times n each) ≡ n * length each = times_length n each in
+    omega (arith, first, rest, suc-mul n (length each))
 
 pub product_most : (a b : ℕ) → a ≤ 2147483647 → b ≤ 64 → a * b ≤ 137438953408
 product_most a b h k = mul-le a b 2147483647 64 h k

@@ -15,7 +15,7 @@ pub first_some : (p : Primitive) (needs : Needs) (argued : Option MufFault) (a :
 unfolding first_fault
 first_some p needs argued a locked stack w e = ap (λ (o : Option Needs). fault_by o (level_of p) argued a locked stack w) (sym e)
 
-pub first_none : {X : Type 0} (p : Primitive) (argued : Option MufFault) (a : Actor) (locked : ℕ) (stack : List Datum) (w : Live) → needs_of p ≡ None → Passes {X = X} (first_fault p argued a locked stack w) (Err NotCompiled)
+pub first_none : (X : Type 0) (p : Primitive) (argued : Option MufFault) (a : Actor) (locked : ℕ) (stack : List Datum) (w : Live) → needs_of p ≡ None → Passes {X = X} (first_fault p argued a locked stack w) (Err NotCompiled)
 unfolding first_fault
-first_none {X} p argued a locked stack w e =
+first_none X p argued a locked stack w e =
     subst (λ (o : Option Needs). Passes {X = X} (fault_by o (level_of p) argued a locked stack w) (Err NotCompiled)) (sym e) refl

@@ -1,8 +1,9 @@
 -- The items of a frame, from the top down.
 use Rattle.std.proofs.Common.{◌≡◌, ℕ, zero, suc, ◌+◌, ◌-◌, ◌<◌, ◌≤◌, List, [], ◌∷◌, ◌++◌, length, drop, map, get_or, Option, Some, None, Ok, Err, refl, sym, ap, ◌∙◌, subst, arith, add-one, drop-cons}
+use native.Mathlib.Numerals.{unary_clauses}
 use Rattle.std.specs.Prelude.{slice_get, Result}
 use Rattle.std.specs.Option.{option_or}
-use Rattle.std.proofs.lemmas.List.{length-append}
+use Rattle.std.proofs.lemmas.List.{length-append, drop-drop}
 use Rattle.muf_model.specs.declared.fault.MufFault.{MufFault}
 use Rattle.muf_model.specs.declared.needs.Need.{Need}
 use Rattle.muf_model.specs.declared.value.Value.{Value}
@@ -37,7 +38,7 @@ module _ (test : Need → Datum → Option MufFault) (ns : List Need) (xs : List
       ap (λ ms. walk test ms (drop depth (map view xs))) needs ∙ ap (λ ys. walk test (get_or ns at d ∷ drop (at + 1) ns) ys) items
 
   -- there are no more items
-  pub passed_all : whole ≡ walk test (drop at ns) (drop depth (map view xs)) → slice_get xs depth ≡ None → Passes whole (Ok tt)
+  pub passed_all : whole ≡ walk test (drop at ns) (drop depth (map view xs)) → slice_get xs depth ≡ None → Passes {X = Unit {0}} whole (Ok tt)
   passed_all h e =
       let none : whole ≡ None = h ∙ ap (walk test (drop at ns)) (none_at view xs depth e) ∙ walk_none test (drop at ns) in
       subst (λ o. Passes {X = Unit {0}} o (Ok tt)) (sym none) tt
@@ -45,7 +46,7 @@ module _ (test : Need → Datum → Option MufFault) (ns : List Need) (xs : List
   -- the item at the place fails
   pub failed_at : (d : Need) (x : Value) (f : MufFault) (r : Result (Unit {0}) MufFault) → whole ≡ walk test (drop at ns) (drop depth (map view xs)) → at < length ns → slice_get xs depth ≡ Some x → Passes (test (get_or ns at d) (view x)) r → r ≡ Err f → Passes {X = Unit {0}} whole (Err f)
   failed_at d x f r h l e fault is =
-      subst (λ o. Passes {X = Unit {0}} o (Err f)) (sym (h ∙ walk_at d x l e)) (fails (test (get_or ns at d) (view x)) _ f (subst (λ r. Passes (test (get_or ns at d) (view x)) r) is fault))
+      subst (λ o. Passes {X = Unit {0}} o (Err f)) (sym (h ∙ walk_at d x l e)) (fails (Unit {0}) (Unit {0}) (test (get_or ns at d) (view x)) _ f (subst (λ r. Passes (test (get_or ns at d) (view x)) r) is fault))
 
   -- it passes
   pub passed_at : (d : Need) (x : Value) (u : Unit {0}) (r : Result (Unit {0}) MufFault) → whole ≡ walk test (drop at ns) (drop depth (map view xs)) → at < length ns → slice_get xs depth ≡ Some x → Passes (test (get_or ns at d) (view x)) r → r ≡ Ok u → whole ≡ walk test (drop (at + 1) ns) (drop (depth + 1) (map view xs))
@@ -54,12 +55,6 @@ module _ (test : Need → Datum → Option MufFault) (ns : List Need) (xs : List
 
 -- ---- needs one behind the other
 
-drop_drop : {A : Type 0} (n m : ℕ) (xs : List A) → drop m (drop n xs) ≡ drop (n + m) xs
-drop_drop zero m xs = refl
-drop_drop (suc n) zero [] = refl
-drop_drop (suc n) (suc m) [] = refl
-drop_drop (suc n) m (x ∷ xs) = drop_drop n m xs
-
 module _ (test : Need → Datum → Option MufFault) where
   walk_append : (ns ms : List Need) (xs : List Datum) → walk test (ns ++ ms) xs ≡ option_or (walk test ns xs) (walk test ms (drop (length ns) xs))
   walk_append [] ms xs = refl
@@ -67,20 +62,20 @@ module _ (test : Need → Datum → Option MufFault) where
   walk_append (n ∷ ns) ms (x ∷ xs) = ap (option_or (test n x)) (walk_append ns ms xs) ∙ or_assoc (test n x) (walk test ns xs) (walk test ms (drop (length ns) xs))
 
   walk_behind : (ns ms : List Need) (depth : ℕ) (xs : List Datum) → walk test (ns ++ ms) (drop depth xs) ≡ option_or (walk test ns (drop depth xs)) (walk test ms (drop (depth + length ns) xs))
-  walk_behind ns ms depth xs = walk_append ns ms (drop depth xs) ∙ ap (λ ys. option_or (walk test ns (drop depth xs)) (walk test ms ys)) (drop_drop depth (length ns) xs)
+  walk_behind ns ms depth xs = walk_append ns ms (drop depth xs) ∙ ap (λ ys. option_or (walk test ns (drop depth xs)) (walk test ms ys)) (drop-drop (length ns) depth xs)
 
-  walk_parts : (fixed counted under : List Need) (xs : List Datum) → walk test (fixed ++ (counted ++ under)) xs ≡ option_or (walk test fixed xs) (option_or (walk test counted (drop (length fixed) xs)) (walk test under (drop (length fixed + length counted) xs)))
+  pub walk_parts : (fixed counted under : List Need) (xs : List Datum) → walk test (fixed ++ (counted ++ under)) xs ≡ option_or (walk test fixed xs) (option_or (walk test counted (drop (length fixed) xs)) (walk test under (drop (length fixed + length counted) xs)))
   walk_parts fixed counted under xs = walk_append fixed (counted ++ under) xs ∙ ap (option_or (walk test fixed xs)) (walk_behind counted under (length fixed) xs)
 
   -- a round of those that are counted
   round : (each : List Need) (left depth : ℕ) (xs : List Datum) → 0 < left → walk test (times left each) (drop depth xs) ≡ option_or (walk test each (drop depth xs)) (walk test (times (left - 1) each) (drop (depth + length each) xs))
   round each zero depth xs h = absurd (omega (arith, h))
-  round each (suc n) depth xs h = walk_behind each (times n each) depth xs
+  round each (suc n) depth xs h = simp unary_clauses (walk_behind each (times n each) depth xs)
 
   module _ (each : List Need) (left depth : ℕ) (xs : List Datum) (whole : Option MufFault) where
     pub failed_round : (f : MufFault) (r : Result (Unit {0}) MufFault) → whole ≡ walk test (times left each) (drop depth xs) → 0 < left → Passes (walk test each (drop depth xs)) r → r ≡ Err f → Passes {X = Unit {0}} whole (Err f)
     failed_round f r h l fault is =
-        subst (λ o. Passes {X = Unit {0}} o (Err f)) (sym (h ∙ round each left depth xs l)) (fails (walk test each (drop depth xs)) _ f (subst (λ r. Passes (walk test each (drop depth xs)) r) is fault))
+        subst (λ o. Passes {X = Unit {0}} o (Err f)) (sym (h ∙ round each left depth xs l)) (fails (Unit {0}) (Unit {0}) (walk test each (drop depth xs)) _ f (subst (λ r. Passes (walk test each (drop depth xs)) r) is fault))
 
     pub passed_round : (u : Unit {0}) (r : Result (Unit {0}) MufFault) → whole ≡ walk test (times left each) (drop depth xs) → 0 < left → Passes (walk test each (drop depth xs)) r → r ≡ Ok u → whole ≡ walk test (times (left - 1) each) (drop (depth + length each) xs)
     passed_round u r h l pass is =
@@ -88,6 +83,6 @@ module _ (test : Need → Datum → Option MufFault) where
 
 pub times_left : (n : ℕ) (each : List Need) → 0 < n → length (times n each) ≡ length each + length (times (n - 1) each)
 times_left zero each h = absurd (omega (arith, h))
-times_left (suc n) each h = length-append each (times n each)
+times_left (suc n) each h = simp unary_clauses (length-append each (times n each))
 
 pub ruleset part_steps = (walk_parts)

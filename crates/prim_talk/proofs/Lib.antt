@@ -1,2 +1,3 @@
+mod Items
 mod Missing
 mod Talking

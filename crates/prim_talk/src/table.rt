@@ -1,18 +1,29 @@
 // Every primitive of talk.
-ghost use Rattle.std.specs.Prelude.{◌≡◌, is_some, take};
+ghost use Rattle.std.specs.Prelude.{◌≡◌, is_some, take, ℕ, Option};
 ghost use Rattle.muf_model.specs.declared.prims.Family.TheVariants.{Talk};
 ghost use Rattle.muf_model.specs.Prims.{family_of, is_there};
 ghost use Rattle.muf_frame.specs.Shown.{Shown, flat, locked_by};
 ghost use Rattle.muck_perm.specs.Guards.{world_of};
 ghost use Rattle.spec_prims.specs.Shared.{shared, taken};
 ghost use Rattle.spec_prims.specs.Talk.{talk_row};
-ghost use Rattle.prim_common.specs.Applied.{Applied, Makes, does_of};
+ghost use Rattle.prim_common.specs.Applied.{Applied, Makes, argued_of, does_of};
 
 use crate::rows;
 use muck_perm::Guard;
 use muf_frame::{Frame, PrimFault};
 use muf_model::{MufFault, Prim};
 use prim_common::{Made, give, ready};
+
+// What a primitive says of its arguments, as they stand.
+#[tactic(auto, using(crate::proofs::Missing::no_rule))]
+fn argued(prim: Prim, guard: &Guard, frame: &Frame) -> Option<MufFault>
+    ensures { (descr : Option ℕ) → result ≡ argued_of (talk_row descr prim) guard.now.actor (take (taken prim (flat frame.now).stack) (flat frame.now).stack) (world_of guard.now) }
+{
+    match prim {
+        Prim::ConDbref => rows::outside(guard, frame),
+        _ => None,
+    }
+}
 
 // What a primitive makes of the items that it takes.
 #[tactic(auto, using(crate::proofs::Missing::no_row))]
@@ -21,6 +32,12 @@ fn made(prim: Prim, descr: Option<u32>, guard: &mut Guard, frame: &Frame) -> Res
 {
     match prim {
         Prim::Notify => rows::notify(guard, frame),
+        Prim::IsAwake => rows::awake(guard, frame),
+        Prim::Online => rows::online(guard),
+        Prim::ConCount => rows::connected(guard),
+        Prim::ConDbref => rows::connected_at(guard, frame),
+        Prim::Descriptors => rows::descriptors(guard, frame),
+        Prim::Descr => Ok(rows::own_connection(descr)),
         _ => Err(PrimFault::Fault(MufFault::NotCompiled)),
     }
 }
@@ -39,7 +56,8 @@ pub fn apply(
     ensures row { Applied (shared prim guard.old.actor descr (locked_by (flat frame.old).marks) (flat frame.old).stack (world_of guard.old)) frame.old frame.new guard.old guard.new result }
     ensures there { is_there prim ≡ is_some (talk_row descr prim) }
 {
-    let taken = ready(prim, None, guard, frame)?;
+    let argued = argued(prim, guard, frame);
+    let taken = ready(prim, argued, guard, frame)?;
     let made = made(prim, descr, guard, frame)?;
     give(frame, taken, made)?;
     Ok(())

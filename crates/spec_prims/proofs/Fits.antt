@@ -1,12 +1,13 @@
 -- A row that changes the world gives no more items than it takes, so that there is room for them.
-use Rattle.std.specs.Option.{option_map_or}
-use Rattle.std.proofs.Common.{◌≡◌, ◌≤◌, ◌⊎◌, inl, ℕ, List, [], ◌∷◌, length, Option, Some, None, arith}
+use Rattle.std.proofs.Common.{◌≡◌, ◌≤◌, ◌⊎◌, inl, inr, ℕ, List, [], ◌∷◌, length, Option, Some, None, refl, arith}
 use Rattle.spec_live.specs.Lives.{Live}
 use Rattle.spec_rights.specs.declared.act.Actor.{Actor}
 use Rattle.muf_model.specs.declared.prims.Primitive.{Primitive}
-use Rattle.muf_model.specs.declared.prims.Primitive.TheVariants.{Notify}
-use Rattle.muf_model.specs.Datum.{Datum, text, object}
+use Rattle.muf_model.specs.declared.prims.Primitive.TheVariants.{Notify, IsAwake, Online, ConCount, ConDbref, Descriptors, Descr, GetProp, GetPropStr, GetPropVal, SetProp, AddProp, RemoveProp, NextProp, IsPropDir, EnvProp, EnvPropStr}
+use Rattle.muck_model.specs.declared.dbref.Dbref.{Dbref}
+use Rattle.muf_model.specs.Datum.{Datum, int, text, object}
 use Rattle.std.specs.Prelude.{ℤ}
+use Rattle.std.specs.Option.{option_map_or}
 use Rattle.muck_prop.specs.declared.path.PropFault.{PropFault}
 use Rattle.muck_prop.specs.declared.value.PropValue.{PropValue}
 use Rattle.muck_prop.specs.declared.value.PropValue.TheVariants.{Text, Number}
@@ -16,11 +17,12 @@ use Rattle.spec_live.specs.Objects.{object_at}
 use Rattle.spec_live.specs.Seen.{places_of}
 use Rattle.spec_rights.specs.declared.act.Act.TheVariants.{Read}
 use Rattle.spec_rights.specs.Verdict.{verdict}
+use Rattle.spec_rights.specs.Changing.{stored, unstored}
 use Rattle.muf_model.specs.declared.fault.MufFault.{MufFault}
 use Rattle.spec_prims.specs.Asking.{numbered, fault_of}
 use Rattle.spec_prims.specs.Row.{Row, gives, refuses, Doing, unless}
 use Rattle.spec_prims.specs.PropRows.{at_path, value_of, as_item, as_text, as_number, has_below, looked, first_holder, sought, name_fault, walked, put_at, put, text_or, added, removed, property_row}
-use Rattle.spec_prims.specs.Talk.{notified, talk_row}
+use Rattle.spec_prims.specs.Talk.{notified, awake, connected_at, player_given, player_at, descriptors, talk_row}
 
 -- it gives at most as many, or changes nothing
 abbrev pub Fits : List Datum → Live → Row → Type 0
@@ -31,16 +33,38 @@ abbrev pub IsFit : Option Doing → Type 0
 IsFit None = Unit {0}
 IsFit (Some doing) = (a : Actor) (items : List Datum) (w : Live) → Fits items w (doing.does a items w)
 
--- one line for each row
+-- a line for each row
 
 fits_notified : (a : Actor) (items : List Datum) (w : Live) → Fits items w (notified a items w)
 fits_notified a (text t ∷ object d ∷ []) w = inl (omega arith)
 fits_notified a _ w = tt
 
+fits_awake : (a : Actor) (items : List Datum) (w : Live) → Fits items w (awake a items w)
+fits_awake a (object d ∷ []) w = inr refl
+fits_awake a _ w = tt
+
+fits_player : (d : Option Dbref) (items : List Datum) (w : Live) → Fits items w (player_given d w)
+fits_player (Some d) items w = inr refl
+fits_player None items w = tt
+
+fits_connected_at : (a : Actor) (items : List Datum) (w : Live) → Fits items w (connected_at a items w)
+fits_connected_at a (int i ∷ []) w = fits_player (player_at i w) (int i ∷ []) w
+fits_connected_at a _ w = tt
+
+fits_descriptors : (a : Actor) (items : List Datum) (w : Live) → Fits items w (descriptors a items w)
+fits_descriptors a (object d ∷ []) w = inr refl
+fits_descriptors a _ w = tt
+
 -- and all of them
 
 pub fits_talk : (descr : Option ℕ) (p : Primitive) → IsFit (talk_row descr p)
 fits_talk descr Notify = fits_notified
+fits_talk descr IsAwake = fits_awake
+fits_talk descr Online = λ a items w. inr refl
+fits_talk descr ConCount = λ a items w. inr refl
+fits_talk descr ConDbref = fits_connected_at
+fits_talk descr Descriptors = fits_descriptors
+fits_talk descr Descr = λ a items w. inr refl
 fits_talk descr _ = tt
 
 -- what is asked before a row
@@ -77,7 +101,8 @@ fits_walked a (text t ∷ object d ∷ []) w = fits_at_path (name_fault t) _ w _
 fits_walked a _ w = tt
 
 fits_put_at : (a : Actor) (t : List ℕ) (d : ℤ) (value : PropValue) (items : List Datum) (w : Live) → Fits items w (put_at a t d value w)
-fits_put_at a t d value items w = fits_at_path (path_fault t) items w _ (fits_unless _ items w _ (inl (omega arith)))
+fits_put_at a t d value items w =
+    fits_at_path (path_fault t) items w _ (fits_unless _ items w (gives [] (stored (numbered d) (segments_of t) value w)) (inl (omega arith)))
 
 fits_put : (a : Actor) (items : List Datum) (w : Live) → Fits items w (put a items w)
 fits_put a (int n ∷ text t ∷ object d ∷ []) w = fits_put_at a t d (Number n) _ w
@@ -89,7 +114,8 @@ fits_added a (int n ∷ text u ∷ text t ∷ object d ∷ []) w = fits_put_at a
 fits_added a _ w = tt
 
 fits_removed : (a : Actor) (items : List Datum) (w : Live) → Fits items w (removed a items w)
-fits_removed a (text t ∷ object d ∷ []) w = fits_at_path (path_fault t) _ w _ (fits_unless _ _ w _ (inl (omega arith)))
+fits_removed a (text t ∷ object d ∷ []) w =
+    fits_at_path (path_fault t) (text t ∷ object d ∷ []) w _ (fits_unless _ _ w (gives [] (unstored (numbered d) (segments_of t) w)) (inl (omega arith)))
 fits_removed a _ w = tt
 
 pub fits_property : (p : Primitive) → IsFit (property_row p)

@@ -1,5 +1,5 @@
 -- What each row changes is open to who acts.
-use Rattle.std.proofs.Common.{◌≡◌, ℕ, Bool, true, false, cond, List, [], ◌∷◌, Option, Some, None, refl}
+use Rattle.std.proofs.Common.{◌≡◌, ℕ, Bool, true, false, cond, List, [], ◌∷◌, take, drop, Option, Some, None, refl}
 use Rattle.std.specs.Option.{option_or, option_map_or}
 use Rattle.spec_live.specs.Lives.{Live}
 use Rattle.spec_rights.specs.declared.act.Actor.{Actor}
@@ -17,15 +17,25 @@ use Rattle.muf_model.specs.declared.fault.MufFault.{MufFault}
 use Rattle.muf_model.specs.declared.prims.Family.{Family}
 use Rattle.muf_model.specs.declared.prims.Family.TheVariants.{Property, Talk}
 use Rattle.muf_model.specs.declared.prims.Primitive.{Primitive}
-use Rattle.muf_model.specs.declared.prims.Primitive.TheVariants.{Notify}
-use Rattle.muf_model.specs.Datum.{Datum, text, object}
+use Rattle.muf_model.specs.declared.prims.Primitive.TheVariants.{Notify, IsAwake, Online, ConCount, ConDbref, Descriptors, Descr, GetProp, GetPropStr, GetPropVal, SetProp, AddProp, RemoveProp, NextProp, IsPropDir, EnvProp, EnvPropStr}
+use Rattle.std.specs.Prelude.{ℤ}
+use Rattle.muck_model.specs.declared.dbref.Dbref.{Dbref}
+use Rattle.muck_model.specs.declared.dbref.Denial.{Denial}
+use Rattle.muck_prop.specs.declared.path.PropFault.{PropFault}
+use Rattle.muck_prop.specs.declared.value.PropValue.{PropValue}
+use Rattle.muck_prop.specs.declared.value.PropValue.TheVariants.{Text, Number}
+use Rattle.muck_prop.specs.Paths.{path_fault, segments_of}
+use Rattle.spec_live.specs.declared.object.Object.{Object}
+use Rattle.spec_live.specs.Objects.{object_at}
+use Rattle.spec_live.specs.Seen.{places_of}
+use Rattle.muf_model.specs.Datum.{Datum, int, text, object}
 use Rattle.muf_model.specs.Ladder.{too_short}
 use Rattle.muf_model.specs.Needs.{Needs}
 use Rattle.muf_model.specs.Prims.{family_of, level_of, needs_of}
 use Rattle.spec_prims.specs.Asking.{numbered, fault_of, level_fault}
 use Rattle.spec_prims.specs.Row.{Row, gives, refuses, Doing, unless, given_upon}
 use Rattle.spec_prims.specs.PropRows.{at_path, by_leave, value_of, as_item, as_text, as_number, has_below, looked, first_holder, sought, name_fault, walked, put_at, put, text_or, added, removed, property_row}
-use Rattle.spec_prims.specs.Talk.{notified, talk_row}
+use Rattle.spec_prims.specs.Talk.{notified, awake, connected_at, player_given, player_at, descriptors, talk_row}
 use Rattle.spec_prims.specs.Shared.{row_in, shared_row, taken, fault_by, first_fault, done_by, shared}
 
 -- it is open to the actor, or nothing has changed
@@ -64,14 +74,36 @@ abbrev pub IsOpen : ℕ → Option Doing → Type 0
 IsOpen level None = Unit {0}
 IsOpen level (Some doing) = (a : Actor) (items : List Datum) (w : Live) → level_fault a w.objects level ≡ None → RowOpen a w (doing.does a items w)
 
--- one line for each row
+-- a line for each row
 
 opens_notified : (a : Actor) (items : List Datum) (w : Live) → RowOpen a w (notified a items w)
 opens_notified a (text t ∷ object d ∷ []) w = shows_open a w _ ((quiet_tell_player (numbered d) t).law w)
 opens_notified a _ w = tt
 
+opens_awake : (a : Actor) (items : List Datum) (w : Live) → RowOpen a w (awake a items w)
+opens_awake a (object d ∷ []) w = same_open a w
+opens_awake a _ w = tt
+
+opens_player : (d : Option Dbref) (a : Actor) (w : Live) → RowOpen a w (player_given d w)
+opens_player (Some d) a w = same_open a w
+opens_player None a w = tt
+
+opens_connected_at : (a : Actor) (items : List Datum) (w : Live) → RowOpen a w (connected_at a items w)
+opens_connected_at a (int i ∷ []) w = opens_player (player_at i w) a w
+opens_connected_at a _ w = tt
+
+opens_descriptors : (a : Actor) (items : List Datum) (w : Live) → RowOpen a w (descriptors a items w)
+opens_descriptors a (object d ∷ []) w = same_open a w
+opens_descriptors a _ w = tt
+
 opens_talk : (descr : Option ℕ) (p : Primitive) → IsOpen (level_of p) (talk_row descr p)
 opens_talk descr Notify = λ a items w level. opens_notified a items w
+opens_talk descr IsAwake = λ a items w level. opens_awake a items w
+opens_talk descr Online = λ a items w level. same_open a w
+opens_talk descr ConCount = λ a items w level. same_open a w
+opens_talk descr ConDbref = λ a items w level. opens_connected_at a items w
+opens_talk descr Descriptors = λ a items w level. opens_descriptors a items w
+opens_talk descr Descr = λ a items w level. same_open a w
 opens_talk descr _ = tt
 
 -- what is asked before a row
@@ -187,7 +219,10 @@ opens_done : (doing : Option Doing) (p : Primitive) (a : Actor) (locked : ℕ) (
 unfolding first_fault
 opens_done None p a locked stack w h = tt
 opens_done (Some doing) p a locked stack w h =
-    opens_unless _ a w _ (λ e. opens_upon _ a w _ (h a _ w (level_passes (needs_of p) (level_of p) (doing.argued a _ w) a locked stack w e)))
+    let items : List Datum = take (taken p stack) stack in
+    let rest : List Datum = drop (taken p stack) stack in
+    opens_unless (first_fault p (doing.argued a items w) a locked stack w) a w (given_upon rest (doing.does a items w))
+    (λ e. opens_upon rest a w (doing.does a items w) (h a items w (level_passes (needs_of p) (level_of p) (doing.argued a items w) a locked stack w e)))
 
 pub shared_open : (p : Primitive) (a : Actor) (descr : Option ℕ) (locked : ℕ) (stack : List Datum) (w : Live) → RowOpen a w (shared p a descr locked stack w)
 unfolding shared

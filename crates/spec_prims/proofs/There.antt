@@ -2,13 +2,19 @@
 use Rattle.std.proofs.Common.{◌≡◌, ℕ, Bool, true, false, Option, refl}
 use Rattle.std.specs.Prelude.{◌&&◌, is_some}
 use Rattle.muf_model.specs.declared.prims.Primitive.{Primitive}
-use Rattle.muf_model.specs.declared.prims.Primitive.TheVariants.{Notify}
+use Rattle.muf_model.specs.declared.prims.Primitive.TheVariants.{Notify, IsAwake, Online, ConCount, ConDbref, Descriptors, Descr, GetProp, GetPropStr, GetPropVal, SetProp, AddProp, RemoveProp, NextProp, IsPropDir, EnvProp, EnvPropStr}
 use Rattle.muf_model.specs.Prims.{is_there}
 use Rattle.spec_prims.specs.PropRows.{property_row, is_property}
 use Rattle.spec_prims.specs.Talk.{talk_row, is_talk}
 
 pub talk_there : (descr : Option ℕ) (p : Primitive) → is_some (talk_row descr p) ≡ is_talk p && is_there p
 talk_there descr Notify = refl
+talk_there descr IsAwake = refl
+talk_there descr Online = refl
+talk_there descr ConCount = refl
+talk_there descr ConDbref = refl
+talk_there descr Descriptors = refl
+talk_there descr Descr = refl
 talk_there descr _ = refl
 
 pub properties_there : (p : Primitive) → is_some (property_row p) ≡ is_property p && is_there p

@@ -4,4 +4,5 @@ pub mod Talk
 pub mod PropRows
 pub mod Shared
 pub mod Rows
+pub mod TalkRows
 pub mod PropWorked

@@ -7,7 +7,7 @@ use Rattle.spec_live.specs.Start.{room_zero, player_one, first_objects}
 use Rattle.spec_rights.specs.declared.act.Actor.{Actor}
 use Rattle.spec_rights.specs.Verdict.{is_near}
 use Rattle.muf_model.specs.declared.fault.MufFault.TheVariants.{StackEmpty, StackLocked, BadType, BadArgument, NoSuchObject, Denied, NotCompiled}
-use Rattle.muf_model.specs.declared.prims.Primitive.TheVariants.{Notify, IsAwake}
+use Rattle.muf_model.specs.declared.prims.Primitive.TheVariants.{Notify, Fork}
 use Rattle.muf_model.specs.declared.fault.MufFault.{MufFault}
 use Rattle.muf_model.specs.Datum.{Datum, int, text, object}
 use Rattle.muf_model.specs.Needs.{counts_at, a_text, an_int, an_object, a_near_one}
@@ -67,7 +67,7 @@ Rows =
     × (counted (hello ∷ int (pos 1) ∷ object (pos 1) ∷ object (pos 7) ∷ []) ≡ Some NoSuchObject)
     × (counted (hello ∷ int (pos 1) ∷ object (pos 7) ∷ object (pos 1) ∷ []) ≡ None)
     -- one without a row
-    × (shared IsAwake (acting_at 4 1) None 0 (told 1) at_first ≡ refuses NotCompiled)
+    × (shared Fork (acting_at 4 1) None 0 (told 1) at_first ≡ refuses NotCompiled)
 
 pub rows : Rows
 unfolding Rows first_tune early_board told_player tell_player object_at number_in kind_in object_in room_zero player_one first_objects is_near level_fault is_there near_fault first_fault shared

@@ -1,25 +1,101 @@
 -- The rows of the primitives that talk to players.
-use Rattle.std.specs.Prelude.{ℕ, Bool, true, false, List, [], ◌∷◌, Option, Some, None}
+use Rattle.std.specs.Prelude.{ℕ, suc, Bool, true, false, ℤ, pos, negsuc, min, List, [], ◌∷◌, length, map, reverse, slice_get, is_some, if◌then◌else◌, Option, Some, None}
+use Rattle.std.specs.List.{filter, filter_map, count_by}
+use Rattle.std.specs.Int.{w32, cast_signed}
+use Rattle.std.specs.Option.{option_map_or}
+use Rattle.muck_model.specs.declared.dbref.Dbref.{Dbref}
+use Rattle.spec_live.specs.Connections.{Connection, is_of}
 use Rattle.spec_live.specs.Lives.{Live, tell_player}
 use Rattle.spec_rights.specs.declared.act.Actor.{Actor}
-use Rattle.muf_model.specs.declared.fault.MufFault.TheVariants.{BadType}
+use Rattle.muf_model.specs.declared.fault.MufFault.{MufFault}
+use Rattle.muf_model.specs.declared.fault.MufFault.TheVariants.{BadType, BadArgument}
 use Rattle.muf_model.specs.declared.prims.Primitive.{Primitive}
-use Rattle.muf_model.specs.declared.prims.Primitive.TheVariants.{Notify}
+use Rattle.muf_model.specs.declared.prims.Primitive.TheVariants.{Notify, IsAwake, Online, ConCount, ConDbref, Descriptors, Descr}
 use Rattle.muf_model.specs.declared.prims.Family.{Family}
 use Rattle.muf_model.specs.declared.prims.Family.TheVariants as kind
-use Rattle.muf_model.specs.Datum.{Datum, text, object}
+use Rattle.muf_model.specs.Datum.{Datum, int, text, object}
 use Rattle.muf_model.specs.Prims.{family_of}
 use Rattle.spec_prims.specs.Asking.{numbered}
 use Rattle.spec_prims.specs.Row.{Row, gives, refuses, Doing, unruled}
+
+-- Items.
+
+-- a count, as far as integers go
+abbrev pub counted : ℕ → Datum
+counted n = int (pos (min n 2147483647))
+
+abbrev pub player_item : Dbref → Datum
+player_item d = object d.0
+
+abbrev pub number_item : Connection → Datum
+number_item c = int (cast_signed w32 c.number)
+
+-- so many items, the first of them the deepest, and their count upon them
+abbrev pub with_count : List Datum → List Datum
+with_count items = counted (length items) ∷ reverse items
+
+-- Who is connected.
+
+-- the players of the connections that have one, by rising connection
+abbrev pub players : Live → List Dbref
+players w = filter_map (λ c. c.player) w.board.connections
+
+-- the i-th of them, from 1
+abbrev pub player_at : ℤ → Live → Option Dbref
+player_at (pos (suc n)) w = slice_get (players w) n
+player_at i w = None
+
+-- Rows.
 
 -- NOTIFY: a text for all connections of a player, and for nobody where the object is none
 abbrev pub notified : Actor → List Datum → Live → Row
 notified a (text t ∷ object d ∷ []) w = gives [] (tell_player (numbered d) t w)
 notified a items w = refuses BadType
 
--- the row of a primitive, where there is one
+-- AWAKE?: how many connections a player has
+abbrev pub awake : Actor → List Datum → Live → Row
+awake a (object d ∷ []) w = gives (counted (count_by (is_of (numbered d)) w.board.connections) ∷ []) w
+awake a items w = refuses BadType
+
+-- ONLINE: the players, and CONCOUNT: how many these are
+abbrev pub online : Actor → List Datum → Live → Row
+online a items w = gives (with_count (map player_item (players w))) w
+
+abbrev pub connected : Actor → List Datum → Live → Row
+connected a items w = gives (counted (length (players w)) ∷ []) w
+
+-- CONDBREF: one of them by its place
+abbrev pub player_given : Option Dbref → Live → Row
+player_given (Some d) w = gives (player_item d ∷ []) w
+player_given None w = refuses BadArgument
+
+abbrev pub connected_at : Actor → List Datum → Live → Row
+connected_at a (int i ∷ []) w = player_given (player_at i w) w
+connected_at a items w = refuses BadType
+
+-- where nobody has that place
+abbrev pub outside : Actor → List Datum → Live → Option MufFault
+outside a (int i ∷ []) w = if is_some (player_at i w) then None else Some BadArgument
+outside a items w = None
+
+-- DESCRIPTORS: the numbers of a player's connections, rising
+abbrev pub descriptors : Actor → List Datum → Live → Row
+descriptors a (object d ∷ []) w = gives (with_count (map number_item (filter (is_of (numbered d)) w.board.connections))) w
+descriptors a items w = refuses BadType
+
+-- DESCR: the connection of the process
+abbrev pub own_connection : Option ℕ → Actor → List Datum → Live → Row
+own_connection descr a items w = gives (int (option_map_or (cast_signed w32) descr (negsuc 0)) ∷ []) w
+
+-- the row of a primitive, where there is one, in a process of that connection
 abbrev pub talk_row : Option ℕ → Primitive → Option Doing
 talk_row descr Notify = Some (unruled notified)
+talk_row descr IsAwake = Some (unruled awake)
+talk_row descr Online = Some (unruled online)
+talk_row descr ConCount = Some (unruled connected)
+talk_row descr ConDbref = Some (record { argued = outside; does = connected_at })
+talk_row descr Descriptors = Some (unruled descriptors)
+talk_row descr Descr = Some (unruled (own_connection descr))
 talk_row descr p = None
 
 abbrev pub is_talk_family : Family → Bool

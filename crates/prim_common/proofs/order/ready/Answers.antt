@@ -30,4 +30,4 @@ returns-in-Some-clause-pass c =
 pub returns-in-None-clause-pass : goal.returns-in-None-clause-pass
 returns-in-None-clause-pass c =
     let needs : needs_of c.args.prim ≡ None = ap (λ r. r.needs) (sym c.row-row.ensures) ∙ ap (option_map shown_needs) c.in-None.is in
-    first_none c.args.prim c.args.argued c.args.guard.now.actor (locked_by (flat c.args.frame.now).marks) (flat c.args.frame.now).stack (world_of c.args.guard.now) needs
+    first_none _ c.args.prim c.args.argued c.args.guard.now.actor (locked_by (flat c.args.frame.now).marks) (flat c.args.frame.now).stack (world_of c.args.guard.now) needs

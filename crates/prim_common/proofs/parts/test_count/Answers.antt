@@ -18,7 +18,7 @@ returns-in_err-test_uncounted-clause-pass c =
     let back : c.from_residual.result ≡ Err fault = search rules in
     let was : c.test_uncounted.result ≡ Err fault = search rules in
     rw back (subst (λ o. Passes {X = ℕ} o (Err fault)) (short_by fixed many locked stack)
-    (fails (uncounted fixed many locked stack) (short (length (wanted (shown_needs c.args.needs) stack)) locked stack) fault (subst (λ r. Passes (uncounted fixed many locked stack) r) was c.test_uncounted.ensures)))
+    (fails (Unit {0}) ℕ (uncounted fixed many locked stack) (short (length (wanted (shown_needs c.args.needs) stack)) locked stack) fault (subst (λ r. Passes (uncounted fixed many locked stack) r) was c.test_uncounted.ensures)))
 
 pub returns-clause-count : goal.returns-clause-count
 returns-clause-count c = subst (λ ns. IfOk c.test_all.result (λ n. n ≡ length ns)) c.requires.needs c.test_all.ensures.count

@@ -5,8 +5,8 @@ use Rattle.muf_frame.specs.Shown.{flat, locked_by}
 use Rattle.prim_common.specs.Tests.{Passes, FewCounted, uncounted}
 use Rattle.prim_common.proofs.parts.test_uncounted.Goals as goal
 
-pub test_many-requires-under : goal.test_many-requires-under
-test_many-requires-under c = (subst FewCounted (ap (option_map shown_many) c.in-Some.is) c.requires.1).1
+pub test_many-requires-clause-under : goal.test_many-requires-clause-under
+test_many-requires-clause-under c = (subst FewCounted (ap (option_map shown_many) c.in-Some.is) c.requires.1).1
 
 pub returns-in-Some : goal.returns-in-Some
 returns-in-Some c =

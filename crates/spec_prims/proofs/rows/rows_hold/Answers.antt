@@ -1,6 +1,7 @@
 use Rattle.spec_prims.specs.PropWorked.{prop_worked}
 use Rattle.spec_prims.specs.Rows.{rows}
+use Rattle.spec_prims.specs.TalkRows.{talk_rows}
 use Rattle.spec_prims.proofs.rows.rows_hold.Goals as goal
 
 pub returns : goal.returns
-returns c = record { rows = rows; properties = prop_worked }
+returns c = record { tests = rows; talk = talk_rows; properties = prop_worked }
