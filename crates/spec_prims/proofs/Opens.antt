@@ -134,15 +134,15 @@ opens_looked look a (text t ∷ object d ∷ []) w =
     opens_at_path (path_fault t) a w _ (opens_by_leave a (Read (numbered d) (segments_of t)) w (gives (look (object_at (numbered d) w.objects) (segments_of t) ∷ []) w) (λ e. same_open a w))
 opens_looked look a _ w = tt
 
+opens_held : (shown : Option PropValue → Datum) (e : Dbref) (o : Option PropValue) (later : Row) (a : Actor) (w : Live) → RowOpen a w later → RowOpen a w (option_map_or (λ value. gives (shown (Some value) ∷ object e.0 ∷ []) w) o later)
+opens_held shown e None later a w h = h
+opens_held shown e (Some value) later a w h = same_open a w
+
 opens_holder : (shown : Option PropValue → Datum) (a : Actor) (path : List (List ℕ)) (es : List Dbref) (w : Live) → RowOpen a w (first_holder shown a path es w)
 opens_holder shown a path [] w = same_open a w
 opens_holder shown a path (e ∷ es) w =
     opens_by_leave a (Read e path) w (option_map_or (λ value. gives (shown (Some value) ∷ object e.0 ∷ []) w) (value_of (object_at e w.objects) path) (first_holder shown a path es w))
-    (λ h. held (value_of (object_at e w.objects) path))
-  where
-    held : (o : Option PropValue) → RowOpen a w (option_map_or (λ value. gives (shown (Some value) ∷ object e.0 ∷ []) w) o (first_holder shown a path es w))
-    held None = opens_holder shown a path es w
-    held (Some value) = same_open a w
+    (λ h. opens_held shown e (value_of (object_at e w.objects) path) (first_holder shown a path es w) a w (opens_holder shown a path es w))
 
 opens_sought : (shown : Option PropValue → Datum) (a : Actor) (items : List Datum) (w : Live) → RowOpen a w (sought shown a items w)
 opens_sought shown a (text t ∷ object d ∷ []) w = opens_at_path (path_fault t) a w _ (opens_holder shown a (segments_of t) (numbered d ∷ places_of w.objects (numbered d)) w)
