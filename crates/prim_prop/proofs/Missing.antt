@@ -1,17 +1,11 @@
 -- Primitives without a row; and no row has a rule for its arguments, since a path is asked behind what is near.
-use Rattle.std.proofs.Common.{◌≡◌, ℕ, List, Option, None, refl, ap, ◌∙◌}
-use Rattle.std.specs.Prelude.{◌&&◌, is_some}
+use Rattle.std.proofs.Common.{◌≡◌, List, None, refl}
 use Rattle.spec_live.specs.Lives.{Live}
 use Rattle.spec_rights.specs.declared.act.Actor.{Actor}
-use Rattle.muf_model.specs.declared.prims.Family.{Family}
-use Rattle.muf_model.specs.declared.prims.Family.TheVariants.{Property}
 use Rattle.muf_model.specs.declared.prims.Primitive.{Primitive}
 use Rattle.muf_model.specs.declared.prims.Primitive.TheVariants.{GetProp, GetPropStr, GetPropVal, SetProp, AddProp, RemoveProp, NextProp, IsPropDir, EnvProp, EnvPropStr}
 use Rattle.muf_model.specs.Datum.{Datum}
-use Rattle.muf_model.specs.Prims.{family_of, is_there}
-use Rattle.spec_prims.specs.PropRows.{property_row, is_property_family}
-use Rattle.spec_prims.specs.Shared.{row_in, done_by, shared}
-use Rattle.spec_prims.proofs.There.{properties_there}
+use Rattle.spec_prims.specs.PropRows.{property_row}
 use Rattle.prim_common.specs.Applied.{argued_of}
 
 pub no_row : (p : Primitive) → (p ≡ GetProp → ⊥) → (p ≡ GetPropStr → ⊥) → (p ≡ GetPropVal → ⊥) → (p ≡ IsPropDir → ⊥) → (p ≡ EnvProp → ⊥) → (p ≡ EnvPropStr → ⊥) → (p ≡ NextProp → ⊥) → (p ≡ SetProp → ⊥) → (p ≡ AddProp → ⊥) → (p ≡ RemoveProp → ⊥) → property_row p ≡ None
@@ -39,10 +33,3 @@ no_rule SetProp a items w = refl
 no_rule AddProp a items w = refl
 no_rule RemoveProp a items w = refl
 no_rule _ a items w = refl
-
-pub shared_property : (p : Primitive) (a : Actor) (descr : Option ℕ) (locked : ℕ) (stack : List Datum) (w : Live) → family_of p ≡ Property → shared p a descr locked stack w ≡ done_by (property_row p) p a locked stack w
-unfolding shared
-shared_property p a descr locked stack w property = ap (λ (family : Family). done_by (row_in descr family p) p a locked stack w) property
-
-pub row_there : (p : Primitive) → family_of p ≡ Property → is_some (property_row p) ≡ is_there p
-row_there p property = properties_there p ∙ ap (λ (family : Family). is_property_family family && is_there p) property

@@ -61,7 +61,7 @@ pub ruleset named_steps = (named_none, named_alone, named_both)
 pub looked_none : (look : Option Object → List (List ℕ) → Datum) (a : Actor) (stack : List Datum) (w : Live) → named_in stack ≡ None → looked look a (take 2 stack) w ≡ refuses BadType
 looked_none look a (text t ∷ object d ∷ rest) w e = absurd (cc)
 looked_none look a [] w e = refl
-looked_none look a (x ∷ []) w e = refl
+looked_none look a (_ ∷ []) w e = refl
 looked_none look a (_ ∷ _ ∷ rest) w e = refl
 
 pub looked_at : (look : Option Object → List (List ℕ) → Datum) (a : Actor) (stack : List Datum) (w : Live) (d : ℤ) (t : List ℕ) → named_in stack ≡ Some (d, t) → looked look a (take 2 stack) w ≡ at_path (path_fault t) (seen_at look a (segments_of t) (numbered d) w)
@@ -72,7 +72,7 @@ looked_at look a stack w d t e = absurd (cc)
 pub sought_none : (shown : Option PropValue → Datum) (a : Actor) (stack : List Datum) (w : Live) → named_in stack ≡ None → sought shown a (take 2 stack) w ≡ refuses BadType
 sought_none shown a (text t ∷ object d ∷ rest) w e = absurd (cc)
 sought_none shown a [] w e = refl
-sought_none shown a (x ∷ []) w e = refl
+sought_none shown a (_ ∷ []) w e = refl
 sought_none shown a (_ ∷ _ ∷ rest) w e = refl
 
 pub sought_at : (shown : Option PropValue → Datum) (a : Actor) (stack : List Datum) (w : Live) (d : ℤ) (t : List ℕ) → named_in stack ≡ Some (d, t) →
@@ -84,7 +84,7 @@ sought_at shown a stack w d t e = absurd (cc)
 pub removed_none : (a : Actor) (stack : List Datum) (w : Live) → named_in stack ≡ None → removed a (take 2 stack) w ≡ refuses BadType
 removed_none a (text t ∷ object d ∷ rest) w e = absurd (cc)
 removed_none a [] w e = refl
-removed_none a (x ∷ []) w e = refl
+removed_none a (_ ∷ []) w e = refl
 removed_none a (_ ∷ _ ∷ rest) w e = refl
 
 pub removed_at : (a : Actor) (stack : List Datum) (w : Live) (d : ℤ) (t : List ℕ) → named_in stack ≡ Some (d, t) →
@@ -100,20 +100,20 @@ put_bad a (int n ∷ rest) w e = absurd (cc)
 put_bad a (text u ∷ rest) w e = absurd (cc)
 put_bad a [] w e = refl
 put_bad a (_ ∷ []) w e = refl
-put_bad a (_ ∷ x ∷ []) w e = refl
-put_bad a (_ ∷ x ∷ y ∷ rest) w e = refl
+put_bad a (_ ∷ _ ∷ []) w e = refl
+put_bad a (_ ∷ _ ∷ _ ∷ rest) w e = refl
 
 put_under : (a : Actor) (x : Datum) (stack : List Datum) (w : Live) → named_in stack ≡ None → put a (x ∷ take 2 stack) w ≡ refuses BadType
 put_under a x (text t ∷ object d ∷ rest) w e = absurd (cc)
 put_under a (int n) [] w e = refl
 put_under a (text u) [] w e = refl
 put_under a _ [] w e = refl
-put_under a (int n) (y ∷ []) w e = refl
-put_under a (text u) (y ∷ []) w e = refl
-put_under a _ (y ∷ []) w e = refl
-put_under a (int n) (y ∷ z ∷ rest) w e = refl
-put_under a (text u) (y ∷ z ∷ rest) w e = refl
-put_under a _ (y ∷ z ∷ rest) w e = refl
+put_under a (int n) (_ ∷ []) w e = refl
+put_under a (text u) (_ ∷ []) w e = refl
+put_under a _ (_ ∷ []) w e = refl
+put_under a (int n) (_ ∷ _ ∷ rest) w e = refl
+put_under a (text u) (_ ∷ _ ∷ rest) w e = refl
+put_under a _ (_ ∷ _ ∷ rest) w e = refl
 
 pub put_none : (a : Actor) (stack : List Datum) (w : Live) → named_in (drop 1 stack) ≡ None → put a (take 3 stack) w ≡ refuses BadType
 put_none a [] w e = refl
@@ -138,7 +138,7 @@ added_bad a (_ ∷ rest) w e = refl
 added_under : (a : Actor) (n : ℤ) (u : List ℕ) (stack : List Datum) (w : Live) → named_in stack ≡ None → added a (int n ∷ text u ∷ take 2 stack) w ≡ refuses BadType
 added_under a n u (text t ∷ object d ∷ rest) w e = absurd (cc)
 added_under a n u [] w e = refl
-added_under a n u (y ∷ []) w e = refl
+added_under a n u (_ ∷ []) w e = refl
 added_under a n u (_ ∷ _ ∷ rest) w e = refl
 
 pub added_none : (a : Actor) (stack : List Datum) (w : Live) (n : ℤ) (u : List ℕ) → added_by stack ≡ Some (n, u) → named_in (drop 2 stack) ≡ None → added a (take 4 stack) w ≡ refuses BadType
