@@ -61,6 +61,7 @@ pub ruleset named_steps = (named_none, named_alone, named_both)
 pub looked_none : (look : Option Object → List (List ℕ) → Datum) (a : Actor) (stack : List Datum) (w : Live) → named_in stack ≡ None → looked look a (take 2 stack) w ≡ refuses BadType
 looked_none look a (text t ∷ object d ∷ rest) w e = absurd (cc)
 looked_none look a [] w e = refl
+looked_none look a (text t ∷ []) w e = refl
 looked_none look a (_ ∷ []) w e = refl
 looked_none look a (_ ∷ _ ∷ rest) w e = refl
 
@@ -72,6 +73,7 @@ looked_at look a stack w d t e = absurd (cc)
 pub sought_none : (shown : Option PropValue → Datum) (a : Actor) (stack : List Datum) (w : Live) → named_in stack ≡ None → sought shown a (take 2 stack) w ≡ refuses BadType
 sought_none shown a (text t ∷ object d ∷ rest) w e = absurd (cc)
 sought_none shown a [] w e = refl
+sought_none shown a (text t ∷ []) w e = refl
 sought_none shown a (_ ∷ []) w e = refl
 sought_none shown a (_ ∷ _ ∷ rest) w e = refl
 
@@ -84,6 +86,7 @@ sought_at shown a stack w d t e = absurd (cc)
 pub removed_none : (a : Actor) (stack : List Datum) (w : Live) → named_in stack ≡ None → removed a (take 2 stack) w ≡ refuses BadType
 removed_none a (text t ∷ object d ∷ rest) w e = absurd (cc)
 removed_none a [] w e = refl
+removed_none a (text t ∷ []) w e = refl
 removed_none a (_ ∷ []) w e = refl
 removed_none a (_ ∷ _ ∷ rest) w e = refl
 
@@ -108,7 +111,9 @@ put_under a x (text t ∷ object d ∷ rest) w e = absurd (cc)
 put_under a (int n) [] w e = refl
 put_under a (text u) [] w e = refl
 put_under a _ [] w e = refl
+put_under a (int n) (text t ∷ []) w e = refl
 put_under a (int n) (_ ∷ []) w e = refl
+put_under a (text u) (text t ∷ []) w e = refl
 put_under a (text u) (_ ∷ []) w e = refl
 put_under a _ (_ ∷ []) w e = refl
 put_under a (int n) (_ ∷ _ ∷ rest) w e = refl
@@ -138,6 +143,7 @@ added_bad a (_ ∷ rest) w e = refl
 added_under : (a : Actor) (n : ℤ) (u : List ℕ) (stack : List Datum) (w : Live) → named_in stack ≡ None → added a (int n ∷ text u ∷ take 2 stack) w ≡ refuses BadType
 added_under a n u (text t ∷ object d ∷ rest) w e = absurd (cc)
 added_under a n u [] w e = refl
+added_under a n u (text t ∷ []) w e = refl
 added_under a n u (_ ∷ []) w e = refl
 added_under a n u (_ ∷ _ ∷ rest) w e = refl
 
