@@ -1,7 +1,7 @@
 -- What primitives need on the stack.
 use Rattle.std.specs.Prelude.{ℕ, true, false, List, Option, Some, None, option_map}
 use Rattle.muf_model.specs.declared.needs.Want.{Want}
-use Rattle.muf_model.specs.declared.needs.Want.TheVariants.{Anything, Int, Text, Object, Variable, Address, IntOrObject, Numbered}
+use Rattle.muf_model.specs.declared.needs.Want.TheVariants.{Anything, Int, Text, Object, Variable, Address, Lock, IntOrObject, Numbered}
 use Rattle.muf_model.specs.declared.needs.Need.{Need}
 use Rattle.muf_model.specs.declared.needs.Many.{Many as ManyKept}
 use Rattle.muf_model.specs.declared.needs.Needs.{Needs as NeedsKept}
@@ -47,6 +47,9 @@ a_variable = of_kind Variable
 
 abbrev pub an_address : Need
 an_address = of_kind Address
+
+abbrev pub a_lock : Need
+a_lock = of_kind Lock
 
 abbrev pub int_or_object : Need
 int_or_object = of_kind IntOrObject

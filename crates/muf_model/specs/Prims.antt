@@ -5,7 +5,7 @@ use Rattle.muf_model.specs.declared.prims.Primitive.{Primitive}
 use Rattle.muf_model.specs.declared.prims.Primitive.TheVariants.{Pop, Dup, DupTrue, Swap, Over, Rot, Rotate, Pick, Put, Nip, Tuck, DupN, LDup, PopN, Reverse, Depth, OpenMark, CloseMark, Fetch, Store, IsInt, IsString, IsDbref, IsArray, IsDictionary, IsAddress, IsLock, Execute, Abort, Add, Subtract, Multiply, Divide, Modulo, Increment, Decrement, Abs, Sign, BitOr, BitAnd, BitXor, BitShift, Equal, Unequal, Less, Greater, LessEqual, GreaterEqual, Not, And, Or, Xor, ToInt, ToDbref, DbCmp, StrCat, StrCmp, StringCmp, StrNCmp, StrLen, StrCut, MidStr, InStr, RInStr, InString, RInString, Explode, Split, RSplit, Subst, ToUpper, ToLower, StripLead, StripTail, AToI, IntToStr, CharToInt, IntToChar, ArrayMake, ArrayMakeDict, ArrayCount, ArrayGetItem, ArraySetItem, ArrayInsertItem, ArrayAppendItem, ArrayDelItem, ArrayFirst, ArrayNext, ArrayKeys, ArrayVals, ArrayExplode, ArrayJoin, Name, Owner, Location, Contents, Exits, Next, IsOk, IsPlayer, IsThing, IsRoom, IsExit, IsProgram, Match, PMatch, MoveTo, SetName, Set, HasFlag, MLevel, GetLink, SetLink, NewRoom, NewObject, NewExit, Recycle, SetOwn, Controls, GetLockStr, SetLockStr, ParseLock, UnparseLock, TestLock, UnparseObj, DbTop, GetProp, GetPropStr, GetPropVal, SetProp, AddProp, RemoveProp, NextProp, IsPropDir, EnvProp, EnvPropStr, ParseMpi, Notify, NotifyExclude, IsAwake, Online, ConCount, ConDbref, Descriptors, Descr, ConBoot, Call, Fork, Sleep, Read, Kill, Pid, IsPid, Queue, Mode, SetMode, Preempt, Foreground, Background, SysTime, Random, EventSend, EventWait, EventCount, Prog, Trig, Caller, Cmd}
 use Rattle.muf_model.specs.declared.prims.Family.{Family}
 use Rattle.muf_model.specs.declared.prims.Row.{Row as Kept}
-use Rattle.muf_model.specs.Needs.{Needs, takes, counts, any, an_int, a_text, an_object, a_variable, an_address, a_near_one, one_there, int_or_object, numbered, shown_needs}
+use Rattle.muf_model.specs.Needs.{Needs, takes, counts, any, an_int, a_text, an_object, a_variable, an_address, a_lock, a_near_one, one_there, int_or_object, numbered, shown_needs}
 use Rattle.muf_model.specs.declared.prims.Family.TheVariants as kind
 
 -- What is so of a primitive: its name in capitals, the level that a program needs to use it, what it works on, and what it
@@ -113,40 +113,40 @@ row_of ArrayKeys = row (codes "ARRAY_KEYS") 1 kind.Array None
 row_of ArrayVals = row (codes "ARRAY_VALS") 1 kind.Array None
 row_of ArrayExplode = row (codes "ARRAY_EXPLODE") 1 kind.Array None
 row_of ArrayJoin = row (codes "ARRAY_JOIN") 1 kind.Array None
-row_of Name = row (codes "NAME") 1 kind.Object None
-row_of Owner = row (codes "OWNER") 1 kind.Object None
-row_of Location = row (codes "LOCATION") 1 kind.Object None
-row_of Contents = row (codes "CONTENTS") 1 kind.Object None
-row_of Exits = row (codes "EXITS") 1 kind.Object None
-row_of Next = row (codes "NEXT") 1 kind.Object None
-row_of IsOk = row (codes "OK?") 1 kind.Object None
-row_of IsPlayer = row (codes "PLAYER?") 1 kind.Object None
-row_of IsThing = row (codes "THING?") 1 kind.Object None
-row_of IsRoom = row (codes "ROOM?") 1 kind.Object None
-row_of IsExit = row (codes "EXIT?") 1 kind.Object None
-row_of IsProgram = row (codes "PROGRAM?") 1 kind.Object None
-row_of Match = row (codes "MATCH") 1 kind.Object None
-row_of PMatch = row (codes "PMATCH") 1 kind.Object None
+row_of Name = row (codes "NAME") 1 kind.Object (takes (a_near_one ∷ []))
+row_of Owner = row (codes "OWNER") 1 kind.Object (takes (a_near_one ∷ []))
+row_of Location = row (codes "LOCATION") 1 kind.Object (takes (a_near_one ∷ []))
+row_of Contents = row (codes "CONTENTS") 1 kind.Object (takes (a_near_one ∷ []))
+row_of Exits = row (codes "EXITS") 1 kind.Object (takes (a_near_one ∷ []))
+row_of Next = row (codes "NEXT") 1 kind.Object (takes (a_near_one ∷ []))
+row_of IsOk = row (codes "OK?") 1 kind.Object (takes (any ∷ []))
+row_of IsPlayer = row (codes "PLAYER?") 1 kind.Object (takes (any ∷ []))
+row_of IsThing = row (codes "THING?") 1 kind.Object (takes (any ∷ []))
+row_of IsRoom = row (codes "ROOM?") 1 kind.Object (takes (any ∷ []))
+row_of IsExit = row (codes "EXIT?") 1 kind.Object (takes (any ∷ []))
+row_of IsProgram = row (codes "PROGRAM?") 1 kind.Object (takes (any ∷ []))
+row_of Match = row (codes "MATCH") 1 kind.Object (takes (a_text ∷ []))
+row_of PMatch = row (codes "PMATCH") 1 kind.Object (takes (a_text ∷ []))
 row_of MoveTo = row (codes "MOVETO") 1 kind.Object None
 row_of SetName = row (codes "SETNAME") 2 kind.Object None
 row_of Set = row (codes "SET") 2 kind.Object None
-row_of HasFlag = row (codes "FLAG?") 1 kind.Object None
-row_of MLevel = row (codes "MLEVEL") 1 kind.Object None
-row_of GetLink = row (codes "GETLINK") 1 kind.Object None
+row_of HasFlag = row (codes "FLAG?") 1 kind.Object (takes (a_text ∷ a_near_one ∷ []))
+row_of MLevel = row (codes "MLEVEL") 1 kind.Object (takes (a_near_one ∷ []))
+row_of GetLink = row (codes "GETLINK") 1 kind.Object (takes (a_near_one ∷ []))
 row_of SetLink = row (codes "SETLINK") 2 kind.Object None
 row_of NewRoom = row (codes "NEWROOM") 2 kind.Object None
 row_of NewObject = row (codes "NEWOBJECT") 2 kind.Object None
 row_of NewExit = row (codes "NEWEXIT") 2 kind.Object None
 row_of Recycle = row (codes "RECYCLE") 3 kind.Object None
 row_of SetOwn = row (codes "SETOWN") 2 kind.Object None
-row_of Controls = row (codes "CONTROLS") 1 kind.Object None
-row_of GetLockStr = row (codes "GETLOCKSTR") 1 kind.Object None
+row_of Controls = row (codes "CONTROLS") 1 kind.Object (takes (one_there ∷ one_there ∷ []))
+row_of GetLockStr = row (codes "GETLOCKSTR") 1 kind.Object (takes (a_near_one ∷ []))
 row_of SetLockStr = row (codes "SETLOCKSTR") 2 kind.Object None
 row_of ParseLock = row (codes "PARSELOCK") 1 kind.Object None
-row_of UnparseLock = row (codes "UNPARSELOCK") 1 kind.Object None
-row_of TestLock = row (codes "TESTLOCK") 1 kind.Object None
-row_of UnparseObj = row (codes "UNPARSEOBJ") 1 kind.Object None
-row_of DbTop = row (codes "DBTOP") 1 kind.Object None
+row_of UnparseLock = row (codes "UNPARSELOCK") 1 kind.Object (takes (a_lock ∷ []))
+row_of TestLock = row (codes "TESTLOCK") 1 kind.Object (takes (a_lock ∷ one_there ∷ []))
+row_of UnparseObj = row (codes "UNPARSEOBJ") 1 kind.Object (takes (a_near_one ∷ []))
+row_of DbTop = row (codes "DBTOP") 1 kind.Object (takes [])
 row_of GetProp = row (codes "GETPROP") 1 kind.Property None
 row_of GetPropStr = row (codes "GETPROPSTR") 1 kind.Property None
 row_of GetPropVal = row (codes "GETPROPVAL") 1 kind.Property None

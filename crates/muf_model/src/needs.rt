@@ -104,6 +104,8 @@ const VARIABLE: Need = need!(Variable);
 
 const ADDRESS: Need = need!(Address);
 
+const LOCK: Need = need!(Lock);
+
 const EITHER: Need = need!(IntOrObject);
 
 const NUMBERED: Need = need!(Numbered);
@@ -177,3 +179,11 @@ pub(crate) const INT_OR_OBJECT: Option<Needs> = takes!(EITHER);
 pub(crate) const TEXT_FOR_ONE_NEAR: Option<Needs> = takes!(TEXT, NEAR);
 
 pub(crate) const ONE_THERE: Option<Needs> = takes!(THERE);
+
+pub(crate) const ONE_NEAR: Option<Needs> = takes!(NEAR);
+
+pub(crate) const TWO_THERE: Option<Needs> = takes!(THERE, THERE);
+
+pub(crate) const A_LOCK: Option<Needs> = takes!(LOCK);
+
+pub(crate) const LOCK_FOR_ONE_THERE: Option<Needs> = takes!(LOCK, THERE);

@@ -8,6 +8,9 @@ use Rattle.muck_model.specs.declared.dbref.Dbref.{Dbref}
 use Rattle.muf_model.specs.Datum.{Datum, int, text, object}
 use Rattle.spec_prims.specs.Row.{Row, gives, refuses, Doing}
 use Rattle.spec_prims.specs.Talk.{notified, awake, connected_at, player_given, player_at, descriptors, talk_row}
+use Rattle.std.specs.Prelude.{option_map, Result, Ok, Err}
+use Rattle.muf_model.specs.declared.fault.MufFault.{MufFault}
+use Rattle.spec_prims.specs.ObjectRows.{Finding, finding_of, finds, given, object_row}
 
 -- it gives at most as many, or changes nothing
 abbrev pub Fits : List Datum → Live → Row → Type 0
@@ -39,8 +42,18 @@ fits_connected_at a _ w = tt
 fits_descriptors : (a : Actor) (items : List Datum) (w : Live) → Fits items w (descriptors a items w)
 fits_descriptors a (object d ∷ []) w = inr refl
 fits_descriptors a _ w = tt
+fits_given : (items : List Datum) (w : Live) (found : Result Datum MufFault) → Fits items w (given w found)
+fits_given items w (Ok item) = inr refl
+fits_given items w (Err f) = tt
+
+fits_found : (p : Primitive) (o : Option Finding) → IsFit (option_map (finds p) o)
+fits_found p None = tt
+fits_found p (Some find) = λ a items w. fits_given items w (find a w.objects items)
 
 -- and all of them
+
+pub fits_object : (p : Primitive) → IsFit (object_row p)
+fits_object p = fits_found p (finding_of p)
 
 pub fits_talk : (descr : Option ℕ) (p : Primitive) → IsFit (talk_row descr p)
 fits_talk descr Notify = fits_notified

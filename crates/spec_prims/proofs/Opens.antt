@@ -1,6 +1,7 @@
 -- What each row changes is open to who acts.
 use Rattle.std.proofs.Common.{◌≡◌, ℕ, Bool, true, false, cond, List, [], ◌∷◌, take, drop, Option, Some, None, refl}
 use Rattle.std.specs.Option.{option_or}
+use Rattle.std.specs.Prelude.{option_map, Result, Ok, Err}
 use Rattle.spec_live.specs.Lives.{Live}
 use Rattle.spec_rights.specs.declared.act.Actor.{Actor}
 use Rattle.spec_rights.specs.declared.act.Act.{Act}
@@ -11,7 +12,7 @@ use Rattle.spec_rights.proofs.Shown.{quiet_tell_player}
 use Rattle.spec_live.specs.Lives.{unchanged}
 use Rattle.muf_model.specs.declared.fault.MufFault.{MufFault}
 use Rattle.muf_model.specs.declared.prims.Family.{Family}
-use Rattle.muf_model.specs.declared.prims.Family.TheVariants.{Talk}
+use Rattle.muf_model.specs.declared.prims.Family.TheVariants.{Object, Talk}
 use Rattle.muf_model.specs.declared.prims.Primitive.{Primitive}
 use Rattle.muf_model.specs.declared.prims.Primitive.TheVariants.{Notify, IsAwake, Online, ConCount, ConDbref, Descriptors, Descr}
 use Rattle.muck_model.specs.declared.dbref.Dbref.{Dbref}
@@ -22,6 +23,7 @@ use Rattle.muf_model.specs.Prims.{family_of, level_of, needs_of}
 use Rattle.spec_prims.specs.Asking.{numbered, level_fault}
 use Rattle.spec_prims.specs.Row.{Row, gives, refuses, Doing, unless, given_upon}
 use Rattle.spec_prims.specs.Talk.{notified, awake, connected_at, player_given, player_at, descriptors, talk_row}
+use Rattle.spec_prims.specs.ObjectRows.{Finding, finding_of, finds, given, object_row}
 use Rattle.spec_prims.specs.Shared.{row_in, shared_row, taken, fault_by, first_fault, done_by, shared}
 
 -- it is open to the actor, or nothing has changed
@@ -81,6 +83,16 @@ opens_connected_at a _ w = tt
 opens_descriptors : (a : Actor) (items : List Datum) (w : Live) → RowOpen a w (descriptors a items w)
 opens_descriptors a (object d ∷ []) w = same_open a w
 opens_descriptors a _ w = tt
+opens_given : (a : Actor) (w : Live) (found : Result Datum MufFault) → RowOpen a w (given w found)
+opens_given a w (Ok item) = same_open a w
+opens_given a w (Err f) = tt
+
+opens_found : (p : Primitive) (o : Option Finding) → IsOpen (level_of p) (option_map (finds p) o)
+opens_found p None = tt
+opens_found p (Some find) = λ a items w level. opens_given a w (find a w.objects items)
+
+opens_object : (p : Primitive) → IsOpen (level_of p) (object_row p)
+opens_object p = opens_found p (finding_of p)
 
 opens_talk : (descr : Option ℕ) (p : Primitive) → IsOpen (level_of p) (talk_row descr p)
 opens_talk descr Notify = λ a items w level. opens_notified a items w
@@ -95,6 +107,7 @@ opens_talk descr _ = tt
 -- and all of them
 
 opens_in : (descr : Option ℕ) (family : Family) (p : Primitive) → IsOpen (level_of p) (row_in descr family p)
+opens_in descr Object p = opens_object p
 opens_in descr Talk p = opens_talk descr p
 opens_in descr _ p = tt
 

@@ -1,0 +1,9 @@
+//! The primitives of objects, over a world that is lent and the frame of the program that uses them.
+#![tactic(auto)]
+
+mod finding;
+mod flags;
+mod looking;
+mod table;
+
+pub use table::apply;

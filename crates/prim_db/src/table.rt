@@ -1,0 +1,41 @@
+// Every primitive of objects.
+ghost use Rattle.std.specs.Prelude.{◌≡◌, ℕ, Option, is_some, take};
+ghost use Rattle.muf_model.specs.declared.prims.Family.TheVariants.{Object};
+ghost use Rattle.muf_model.specs.Prims.{family_of, is_there};
+ghost use Rattle.muf_frame.specs.Shown.{Shown, flat, locked_by};
+ghost use Rattle.muck_perm.specs.Guards.{world_of};
+ghost use Rattle.spec_prims.specs.Shared.{shared, taken};
+ghost use Rattle.spec_prims.specs.ObjectRows.{object_row};
+ghost use Rattle.prim_common.specs.Applied.{Applied, Makes, does_of};
+
+use crate::finding::found;
+use crate::flags::argued;
+use muck_perm::Guard;
+use muf_frame::{Frame, PrimFault};
+use muf_model::Prim;
+use prim_common::{Made, give, ready};
+
+// What a primitive makes of the items that it takes.
+#[tactic(auto, using(crate::proofs::Objects::making))]
+fn made(prim: Prim, guard: &mut Guard, frame: &Frame) -> Result<Made, PrimFault>
+    ensures { Makes (does_of (object_row prim) guard.old.actor (take (taken prim (flat frame.now).stack) (flat frame.now).stack) (world_of guard.old)) guard.old guard.new result }
+{
+    let item = found(prim, guard, frame)?;
+    Ok(Made::One(item))
+}
+
+/// Uses a primitive of objects, as the actor to whom the guard lends the world: the frame and the world are as its row
+/// says, or it is refused by the fault of the row and both are unchanged. Those that may be used so far are those with a
+/// row; of the others `NotCompiled` comes. After `NoMemory` nothing is said of the frame and of the world.
+#[tactic(auto, using(crate::proofs::Objects::row_there))]
+pub fn apply(prim: Prim, guard: &mut Guard, frame: &mut Frame) -> Result<(), PrimFault>
+    requires { family_of prim ≡ Object }
+    ensures row { (descr : Option ℕ) → Applied (shared prim guard.old.actor descr (locked_by (flat frame.old).marks) (flat frame.old).stack (world_of guard.old)) frame.old frame.new guard.old guard.new result }
+    ensures there { is_there prim ≡ is_some (object_row prim) }
+{
+    let argued = argued(prim, frame);
+    let taken = ready(prim, argued, guard, frame)?;
+    let made = made(prim, guard, frame)?;
+    give(frame, taken, made)?;
+    Ok(())
+}
