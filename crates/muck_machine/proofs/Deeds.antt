@@ -40,7 +40,7 @@ use Rattle.muck_perm.specs.declared.guard.Guard.{Guard}
 use Rattle.muck_perm.specs.Guards.{world_of}
 use Rattle.spec_live.specs.Lives.{Live}
 use Rattle.muf_model.specs.declared.prims.Family.{Family}
-use Rattle.muf_model.specs.declared.prims.Family.TheVariants.{Object as ObjectFamily, Talk}
+use Rattle.muf_model.specs.declared.prims.Family.TheVariants.{Object as ObjectFamily, Property, Talk}
 use Rattle.muf_model.specs.declared.fault.MufFault.TheVariants.{NotCompiled}
 use Rattle.muf_frame.specs.declared.fault.PrimFault.{PrimFault}
 use Rattle.muf_frame.specs.declared.fault.PrimFault.TheVariants.{Fault as FrameFault, NoMemory as FrameNoMemory}
@@ -250,14 +250,15 @@ applied_to (refuses e) f g old new w v (Err (FrameFault d)) h start is =
 applied_to (refuses e) f g old new w v (Err FrameNoMemory) h start is = tt
 
 -- a primitive of a family without rows
-no_row_in : (descr : Option ℕ) (family : Family) (p : Name) → (family ≡ ObjectFamily → ⊥) → (family ≡ Talk → ⊥) → row_in descr family p ≡ None
-no_row_in descr ObjectFamily p g h = absurd (g refl)
-no_row_in descr Talk p g h = absurd (h refl)
-no_row_in descr _ p g h = refl
+no_row_in : (descr : Option ℕ) (family : Family) (p : Name) → (family ≡ ObjectFamily → ⊥) → (family ≡ Property → ⊥) → (family ≡ Talk → ⊥) → row_in descr family p ≡ None
+no_row_in descr ObjectFamily p g h k = absurd (g refl)
+no_row_in descr Property p g h k = absurd (h refl)
+no_row_in descr Talk p g h k = absurd (k refl)
+no_row_in descr _ p g h k = refl
 
-pub without_row : (p : Name) (a : Actor) (descr : Option ℕ) (locked : ℕ) (stack : List Datum) (w : Live) → (family_of p ≡ ObjectFamily → ⊥) → (family_of p ≡ Talk → ⊥) → shared p a descr locked stack w ≡ refuses NotCompiled
+pub without_row : (p : Name) (a : Actor) (descr : Option ℕ) (locked : ℕ) (stack : List Datum) (w : Live) → (family_of p ≡ ObjectFamily → ⊥) → (family_of p ≡ Property → ⊥) → (family_of p ≡ Talk → ⊥) → shared p a descr locked stack w ≡ refuses NotCompiled
 unfolding shared
-without_row p a descr locked stack w g h = ap (λ (row : Option RowDoing). done_by row p a locked stack w) (no_row_in descr (family_of p) p g h)
+without_row p a descr locked stack w g h k = ap (λ (row : Option RowDoing). done_by row p a locked stack w) (no_row_in descr (family_of p) p g h k)
 
 -- ---- items that are dropped from the frame of a process
 

@@ -5,7 +5,7 @@ use Rattle.muf_model.specs.declared.prims.Primitive.{Primitive}
 use Rattle.muf_model.specs.declared.prims.Primitive.TheVariants.{Pop, Dup, DupTrue, Swap, Over, Rot, Rotate, Pick, Put, Nip, Tuck, DupN, LDup, PopN, Reverse, Depth, OpenMark, CloseMark, Fetch, Store, IsInt, IsString, IsDbref, IsArray, IsDictionary, IsAddress, IsLock, Execute, Abort, Add, Subtract, Multiply, Divide, Modulo, Increment, Decrement, Abs, Sign, BitOr, BitAnd, BitXor, BitShift, Equal, Unequal, Less, Greater, LessEqual, GreaterEqual, Not, And, Or, Xor, ToInt, ToDbref, DbCmp, StrCat, StrCmp, StringCmp, StrNCmp, StrLen, StrCut, MidStr, InStr, RInStr, InString, RInString, Explode, Split, RSplit, Subst, ToUpper, ToLower, StripLead, StripTail, AToI, IntToStr, CharToInt, IntToChar, ArrayMake, ArrayMakeDict, ArrayCount, ArrayGetItem, ArraySetItem, ArrayInsertItem, ArrayAppendItem, ArrayDelItem, ArrayFirst, ArrayNext, ArrayKeys, ArrayVals, ArrayExplode, ArrayJoin, Name, Owner, Location, Contents, Exits, Next, IsOk, IsPlayer, IsThing, IsRoom, IsExit, IsProgram, Match, PMatch, MoveTo, SetName, Set, HasFlag, MLevel, GetLink, SetLink, NewRoom, NewObject, NewExit, Recycle, SetOwn, Controls, GetLockStr, SetLockStr, ParseLock, UnparseLock, TestLock, UnparseObj, DbTop, GetProp, GetPropStr, GetPropVal, SetProp, AddProp, RemoveProp, NextProp, IsPropDir, EnvProp, EnvPropStr, ParseMpi, Notify, NotifyExclude, IsAwake, Online, ConCount, ConDbref, Descriptors, Descr, ConBoot, Call, Fork, Sleep, Read, Kill, Pid, IsPid, Queue, Mode, SetMode, Preempt, Foreground, Background, SysTime, Random, EventSend, EventWait, EventCount, Prog, Trig, Caller, Cmd}
 use Rattle.muf_model.specs.declared.prims.Family.{Family}
 use Rattle.muf_model.specs.declared.prims.Row.{Row as Kept}
-use Rattle.muf_model.specs.Needs.{Needs, takes, counts, any, an_int, a_text, an_object, a_variable, an_address, a_lock, a_near_one, one_there, int_or_object, numbered, shown_needs}
+use Rattle.muf_model.specs.Needs.{Needs, takes, counts, any, an_int, a_text, an_object, a_variable, an_address, a_lock, a_key, a_near_one, one_there, int_or_object, numbered, shown_needs}
 use Rattle.muf_model.specs.declared.prims.Family.TheVariants as kind
 
 -- What is so of a primitive: its name in capitals, the level that a program needs to use it, what it works on, and what it
@@ -147,16 +147,16 @@ row_of UnparseLock = row (codes "UNPARSELOCK") 1 kind.Object (takes (a_lock ∷ 
 row_of TestLock = row (codes "TESTLOCK") 1 kind.Object (takes (a_lock ∷ one_there ∷ []))
 row_of UnparseObj = row (codes "UNPARSEOBJ") 1 kind.Object (takes (a_near_one ∷ []))
 row_of DbTop = row (codes "DBTOP") 1 kind.Object (takes [])
-row_of GetProp = row (codes "GETPROP") 1 kind.Property None
-row_of GetPropStr = row (codes "GETPROPSTR") 1 kind.Property None
-row_of GetPropVal = row (codes "GETPROPVAL") 1 kind.Property None
-row_of SetProp = row (codes "SETPROP") 1 kind.Property None
-row_of AddProp = row (codes "ADDPROP") 1 kind.Property None
-row_of RemoveProp = row (codes "REMOVE_PROP") 1 kind.Property None
-row_of NextProp = row (codes "NEXTPROP") 1 kind.Property None
-row_of IsPropDir = row (codes "PROPDIR?") 1 kind.Property None
-row_of EnvProp = row (codes "ENVPROP") 1 kind.Property None
-row_of EnvPropStr = row (codes "ENVPROPSTR") 1 kind.Property None
+row_of GetProp = row (codes "GETPROP") 1 kind.Property (takes (a_text ∷ a_near_one ∷ []))
+row_of GetPropStr = row (codes "GETPROPSTR") 1 kind.Property (takes (a_text ∷ a_near_one ∷ []))
+row_of GetPropVal = row (codes "GETPROPVAL") 1 kind.Property (takes (a_text ∷ a_near_one ∷ []))
+row_of SetProp = row (codes "SETPROP") 1 kind.Property (takes (a_key ∷ a_text ∷ a_near_one ∷ []))
+row_of AddProp = row (codes "ADDPROP") 1 kind.Property (takes (an_int ∷ a_text ∷ a_text ∷ a_near_one ∷ []))
+row_of RemoveProp = row (codes "REMOVE_PROP") 1 kind.Property (takes (a_text ∷ a_near_one ∷ []))
+row_of NextProp = row (codes "NEXTPROP") 1 kind.Property (takes (a_text ∷ a_near_one ∷ []))
+row_of IsPropDir = row (codes "PROPDIR?") 1 kind.Property (takes (a_text ∷ a_near_one ∷ []))
+row_of EnvProp = row (codes "ENVPROP") 1 kind.Property (takes (a_text ∷ a_near_one ∷ []))
+row_of EnvPropStr = row (codes "ENVPROPSTR") 1 kind.Property (takes (a_text ∷ a_near_one ∷ []))
 row_of ParseMpi = row (codes "PARSEMPI") 3 kind.Property None
 row_of Notify = row (codes "NOTIFY") 1 kind.Talk (takes (a_text ∷ a_near_one ∷ []))
 row_of NotifyExclude = row (codes "NOTIFY_EXCLUDE") 1 kind.Talk None

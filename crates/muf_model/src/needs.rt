@@ -106,6 +106,8 @@ const ADDRESS: Need = need!(Address);
 
 const LOCK: Need = need!(Lock);
 
+const KEY: Need = need!(Key);
+
 const EITHER: Need = need!(IntOrObject);
 
 const NUMBERED: Need = need!(Numbered);
@@ -177,6 +179,10 @@ pub(crate) const INTS_OVER_TEXT: Option<Needs> = takes!(INT, INT, TEXT);
 pub(crate) const INT_OR_OBJECT: Option<Needs> = takes!(EITHER);
 
 pub(crate) const TEXT_FOR_ONE_NEAR: Option<Needs> = takes!(TEXT, NEAR);
+
+pub(crate) const KEY_AND_TEXT_FOR_ONE_NEAR: Option<Needs> = takes!(KEY, TEXT, NEAR);
+
+pub(crate) const INT_AND_TEXTS_FOR_ONE_NEAR: Option<Needs> = takes!(INT, TEXT, TEXT, NEAR);
 
 pub(crate) const ONE_THERE: Option<Needs> = takes!(THERE);
 

@@ -7,10 +7,7 @@ ghost use Rattle.muf_model.specs.Rows.{is_settled};
 ghost use Rattle.muf_model.specs.Prims.{row_of, shown_row, level_of, is_local, is_there, family_of, needs_of, name_of, primitives, named, is_named, named_in_any_case};
 
 use crate::needs::{
-    A_LOCK, A_NUMBERED, A_TEXT, A_VARIABLE, AN_ADDRESS, AN_INT, COUNTED_ITEMS, INT_OR_OBJECT,
-    INT_OVER_TEXT, INT_OVER_TEXTS, INTS_OVER_TEXT, ITEM, ITEM_OVER_COUNTED, LOCK_FOR_ONE_THERE,
-    NOTHING, Needs, ONE_NEAR, ONE_THERE, TEXT_FOR_ONE_NEAR, THREE_ITEMS, THREE_TEXTS, TWO_ALIKE,
-    TWO_INTS, TWO_ITEMS, TWO_OBJECTS, TWO_TEXTS, TWO_THERE, VARIABLE_AND_ITEM,
+    AN_ADDRESS, AN_INT, A_LOCK, A_NUMBERED, A_TEXT, A_VARIABLE, COUNTED_ITEMS, INTS_OVER_TEXT, INT_AND_TEXTS_FOR_ONE_NEAR, INT_OR_OBJECT, INT_OVER_TEXT, INT_OVER_TEXTS, ITEM, ITEM_OVER_COUNTED, KEY_AND_TEXT_FOR_ONE_NEAR, LOCK_FOR_ONE_THERE, NOTHING, Needs, ONE_NEAR, ONE_THERE, TEXT_FOR_ONE_NEAR, THREE_ITEMS, THREE_TEXTS, TWO_ALIKE, TWO_INTS, TWO_ITEMS, TWO_OBJECTS, TWO_TEXTS, TWO_THERE, VARIABLE_AND_ITEM,
 };
 
 /// A primitive. Its name in programs stands in its row of the table, with its level and what it needs on the stack.
@@ -366,16 +363,16 @@ impl Primitive {
             Primitive::TestLock => row!(b"TESTLOCK", 1, Object, LOCK_FOR_ONE_THERE),
             Primitive::UnparseObj => row!(b"UNPARSEOBJ", 1, Object, ONE_NEAR),
             Primitive::DbTop => row!(b"DBTOP", 1, Object, NOTHING),
-            Primitive::GetProp => row!(b"GETPROP", 1, Property, None),
-            Primitive::GetPropStr => row!(b"GETPROPSTR", 1, Property, None),
-            Primitive::GetPropVal => row!(b"GETPROPVAL", 1, Property, None),
-            Primitive::SetProp => row!(b"SETPROP", 1, Property, None),
-            Primitive::AddProp => row!(b"ADDPROP", 1, Property, None),
-            Primitive::RemoveProp => row!(b"REMOVE_PROP", 1, Property, None),
-            Primitive::NextProp => row!(b"NEXTPROP", 1, Property, None),
-            Primitive::IsPropDir => row!(b"PROPDIR?", 1, Property, None),
-            Primitive::EnvProp => row!(b"ENVPROP", 1, Property, None),
-            Primitive::EnvPropStr => row!(b"ENVPROPSTR", 1, Property, None),
+            Primitive::GetProp => row!(b"GETPROP", 1, Property, TEXT_FOR_ONE_NEAR),
+            Primitive::GetPropStr => row!(b"GETPROPSTR", 1, Property, TEXT_FOR_ONE_NEAR),
+            Primitive::GetPropVal => row!(b"GETPROPVAL", 1, Property, TEXT_FOR_ONE_NEAR),
+            Primitive::SetProp => row!(b"SETPROP", 1, Property, KEY_AND_TEXT_FOR_ONE_NEAR),
+            Primitive::AddProp => row!(b"ADDPROP", 1, Property, INT_AND_TEXTS_FOR_ONE_NEAR),
+            Primitive::RemoveProp => row!(b"REMOVE_PROP", 1, Property, TEXT_FOR_ONE_NEAR),
+            Primitive::NextProp => row!(b"NEXTPROP", 1, Property, TEXT_FOR_ONE_NEAR),
+            Primitive::IsPropDir => row!(b"PROPDIR?", 1, Property, TEXT_FOR_ONE_NEAR),
+            Primitive::EnvProp => row!(b"ENVPROP", 1, Property, TEXT_FOR_ONE_NEAR),
+            Primitive::EnvPropStr => row!(b"ENVPROPSTR", 1, Property, TEXT_FOR_ONE_NEAR),
             Primitive::ParseMpi => row!(b"PARSEMPI", 3, Property, None),
             Primitive::Notify => row!(b"NOTIFY", 1, Talk, TEXT_FOR_ONE_NEAR),
             Primitive::NotifyExclude => row!(b"NOTIFY_EXCLUDE", 1, Talk, None),

@@ -1,12 +1,27 @@
 -- A row that changes the world gives no more items than it takes, so that there is room for them.
 use Rattle.std.proofs.Common.{◌≡◌, ◌≤◌, ◌⊎◌, inl, inr, ℕ, List, [], ◌∷◌, length, Option, Some, None, refl, arith}
-use Rattle.spec_live.specs.Lives.{Live}
+use Rattle.spec_live.specs.Lives.{Live, Change}
 use Rattle.spec_rights.specs.declared.act.Actor.{Actor}
 use Rattle.muf_model.specs.declared.prims.Primitive.{Primitive}
-use Rattle.muf_model.specs.declared.prims.Primitive.TheVariants.{Notify, IsAwake, Online, ConCount, ConDbref, Descriptors, Descr}
+use Rattle.muf_model.specs.declared.prims.Primitive.TheVariants.{Notify, IsAwake, Online, ConCount, ConDbref, Descriptors, Descr, GetProp, GetPropStr, GetPropVal, SetProp, AddProp, RemoveProp, NextProp, IsPropDir, EnvProp, EnvPropStr}
 use Rattle.muck_model.specs.declared.dbref.Dbref.{Dbref}
 use Rattle.muf_model.specs.Datum.{Datum, int, text, object}
-use Rattle.spec_prims.specs.Row.{Row, gives, refuses, Doing}
+use Rattle.std.specs.Prelude.{ℤ}
+use Rattle.std.specs.Option.{option_map_or}
+use Rattle.muck_prop.specs.declared.path.PropFault.{PropFault}
+use Rattle.muck_prop.specs.declared.value.PropValue.{PropValue}
+use Rattle.muck_prop.specs.declared.value.PropValue.TheVariants.{Text, Number}
+use Rattle.muck_prop.specs.Paths.{path_fault, path_text, segments_of}
+use Rattle.spec_live.specs.declared.object.Object.{Object}
+use Rattle.spec_live.specs.Objects.{object_at}
+use Rattle.spec_live.specs.Seen.{places_of}
+use Rattle.spec_rights.specs.declared.act.Act.TheVariants.{Read, Write}
+use Rattle.spec_rights.specs.Verdict.{verdict}
+use Rattle.spec_rights.specs.Changing.{stored, unstored}
+use Rattle.muf_model.specs.declared.fault.MufFault.{MufFault}
+use Rattle.spec_prims.specs.Asking.{numbered, fault_of}
+use Rattle.spec_prims.specs.Row.{Row, gives, refuses, Doing, unless}
+use Rattle.spec_prims.specs.PropRows.{at_path, value_of, as_item, as_text, as_number, has_below, seen_at, looked, first_holder, sought, name_fault, begins, next_read, walked, written_at, put_at, put, text_or, added, removed, property_row}
 use Rattle.spec_prims.specs.Talk.{notified, awake, connected_at, player_given, player_at, descriptors, talk_row}
 use Rattle.std.specs.Prelude.{option_map, Result, Ok, Err}
 use Rattle.muf_model.specs.declared.fault.MufFault.{MufFault}
@@ -64,3 +79,76 @@ fits_talk descr ConDbref = fits_connected_at
 fits_talk descr Descriptors = fits_descriptors
 fits_talk descr Descr = λ a items w. inr refl
 fits_talk descr _ = tt
+
+-- what is asked before a row
+
+fits_unless : (o : Option MufFault) (items : List Datum) (w : Live) (row : Row) → Fits items w row → Fits items w (unless o row)
+fits_unless None items w row h = h
+fits_unless (Some f) items w row h = tt
+
+fits_at_path : (fault : Option PropFault) (items : List Datum) (w : Live) (row : Row) → Fits items w row → Fits items w (at_path fault row)
+fits_at_path None items w row h = h
+fits_at_path (Some f) items w row h = tt
+
+-- rows of properties
+
+fits_looked : (look : Option Object → List (List ℕ) → Datum) (a : Actor) (items : List Datum) (w : Live) → Fits items w (looked look a items w)
+fits_looked look a (text t ∷ object d ∷ []) w =
+    fits_at_path (path_fault t) (text t ∷ object d ∷ []) w (seen_at look a (segments_of t) (numbered d) w)
+    (fits_unless (fault_of (verdict w.objects a (Read (numbered d) (segments_of t)))) (text t ∷ object d ∷ []) w (gives (look (object_at (numbered d) w.objects) (segments_of t) ∷ []) w) (inr refl))
+fits_looked look a _ w = tt
+
+fits_held : (shown : Option PropValue → Datum) (e : Dbref) (o : Option PropValue) (later : Row) (items : List Datum) (w : Live) → Fits items w later → Fits items w (option_map_or (λ value. gives (shown (Some value) ∷ object e.0 ∷ []) w) o later)
+fits_held shown e None later items w h = h
+fits_held shown e (Some value) later items w h = inr refl
+
+fits_holder : (shown : Option PropValue → Datum) (a : Actor) (path : List (List ℕ)) (es : List Dbref) (items : List Datum) (w : Live) → Fits items w (first_holder shown a path es w)
+fits_holder shown a path [] items w = inr refl
+fits_holder shown a path (e ∷ es) items w =
+    fits_unless (fault_of (verdict w.objects a (Read e path))) items w _
+    (fits_held shown e (value_of (object_at e w.objects) path) (first_holder shown a path es w) items w (fits_holder shown a path es items w))
+
+fits_sought : (shown : Option PropValue → Datum) (a : Actor) (items : List Datum) (w : Live) → Fits items w (sought shown a items w)
+fits_sought shown a (text t ∷ object d ∷ []) w =
+    fits_at_path (path_fault t) (text t ∷ object d ∷ []) w (first_holder shown a (segments_of t) (numbered d ∷ places_of w.objects (numbered d)) w)
+    (fits_holder shown a (segments_of t) (numbered d ∷ places_of w.objects (numbered d)) (text t ∷ object d ∷ []) w)
+fits_sought shown a _ w = tt
+
+fits_walked : (a : Actor) (items : List Datum) (w : Live) → Fits items w (walked a items w)
+fits_walked a (text t ∷ object d ∷ []) w =
+    fits_at_path (name_fault t) (text t ∷ object d ∷ []) w (gives (text (option_map_or path_text (next_read a (numbered d) (begins t) w) []) ∷ []) w) (inr refl)
+fits_walked a _ w = tt
+
+fits_written : (a : Actor) (t : List ℕ) (d : Dbref) (change : Change) (items : List Datum) (w : Live) → Fits items w (at_path (path_fault t) (written_at a (segments_of t) d change w))
+fits_written a t d change items w =
+    fits_at_path (path_fault t) items w (written_at a (segments_of t) d change w)
+    (fits_unless (fault_of (verdict w.objects a (Write d (segments_of t)))) items w (gives [] (change w)) (inl (omega arith)))
+
+fits_put_at : (a : Actor) (t : List ℕ) (d : ℤ) (value : PropValue) (items : List Datum) (w : Live) → Fits items w (put_at a t d value w)
+fits_put_at a t d value items w = fits_written a t (numbered d) (stored (numbered d) (segments_of t) value) items w
+
+fits_put : (a : Actor) (items : List Datum) (w : Live) → Fits items w (put a items w)
+fits_put a (int n ∷ text t ∷ object d ∷ []) w = fits_put_at a t d (Number n) (int n ∷ text t ∷ object d ∷ []) w
+fits_put a (text u ∷ text t ∷ object d ∷ []) w = fits_put_at a t d (Text u) (text u ∷ text t ∷ object d ∷ []) w
+fits_put a _ w = tt
+
+fits_added : (a : Actor) (items : List Datum) (w : Live) → Fits items w (added a items w)
+fits_added a (int n ∷ text u ∷ text t ∷ object d ∷ []) w = fits_put_at a t d (text_or u n) (int n ∷ text u ∷ text t ∷ object d ∷ []) w
+fits_added a _ w = tt
+
+fits_removed : (a : Actor) (items : List Datum) (w : Live) → Fits items w (removed a items w)
+fits_removed a (text t ∷ object d ∷ []) w = fits_written a t (numbered d) (unstored (numbered d) (segments_of t)) (text t ∷ object d ∷ []) w
+fits_removed a _ w = tt
+
+pub fits_property : (p : Primitive) → IsFit (property_row p)
+fits_property GetProp = fits_looked (λ o path. as_item (value_of o path))
+fits_property GetPropStr = fits_looked (λ o path. as_text (value_of o path))
+fits_property GetPropVal = fits_looked (λ o path. as_number (value_of o path))
+fits_property IsPropDir = fits_looked has_below
+fits_property EnvProp = fits_sought as_item
+fits_property EnvPropStr = fits_sought as_text
+fits_property NextProp = fits_walked
+fits_property SetProp = fits_put
+fits_property AddProp = fits_added
+fits_property RemoveProp = fits_removed
+fits_property _ = tt

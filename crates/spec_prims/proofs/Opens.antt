@@ -1,27 +1,41 @@
 -- What each row changes is open to who acts.
 use Rattle.std.proofs.Common.{◌≡◌, ℕ, Bool, true, false, cond, List, [], ◌∷◌, take, drop, Option, Some, None, refl}
-use Rattle.std.specs.Option.{option_or}
+use Rattle.std.specs.Option.{option_or, option_map_or}
 use Rattle.std.specs.Prelude.{option_map, Result, Ok, Err}
 use Rattle.spec_live.specs.Lives.{Live}
 use Rattle.spec_rights.specs.declared.act.Actor.{Actor}
 use Rattle.spec_rights.specs.declared.act.Act.{Act}
+use Rattle.spec_rights.specs.declared.act.Act.TheVariants.{Read, Write}
+use Rattle.spec_rights.specs.Verdict.{verdict}
+use Rattle.spec_rights.specs.Changing.{stored, unstored}
+use Rattle.spec_rights.proofs.Changes.{stays_stored, stays_unstored}
 use Rattle.spec_rights.specs.Licence.{Licensed, nobody}
-use Rattle.spec_rights.proofs.Licences.{Ended, Given, Shows, judge, itself, end_quietly, ends_quiet, quiet_unchanged}
+use Rattle.spec_rights.proofs.Licences.{Ended, Given, Shows, judge, itself, Stays, end_quietly, ends_quiet, ends_stays, quiet_unchanged}
 use Rattle.spec_rights.proofs.Rights.{same_itself}
 use Rattle.spec_rights.proofs.Shown.{quiet_tell_player}
-use Rattle.spec_live.specs.Lives.{unchanged}
+use Rattle.spec_live.specs.Lives.{Change, unchanged}
 use Rattle.muf_model.specs.declared.fault.MufFault.{MufFault}
 use Rattle.muf_model.specs.declared.prims.Family.{Family}
-use Rattle.muf_model.specs.declared.prims.Family.TheVariants.{Object, Talk}
+use Rattle.muf_model.specs.declared.prims.Family.TheVariants.{Object, Property, Talk}
 use Rattle.muf_model.specs.declared.prims.Primitive.{Primitive}
-use Rattle.muf_model.specs.declared.prims.Primitive.TheVariants.{Notify, IsAwake, Online, ConCount, ConDbref, Descriptors, Descr}
+use Rattle.muf_model.specs.declared.prims.Primitive.TheVariants.{Notify, IsAwake, Online, ConCount, ConDbref, Descriptors, Descr, GetProp, GetPropStr, GetPropVal, SetProp, AddProp, RemoveProp, NextProp, IsPropDir, EnvProp, EnvPropStr}
+use Rattle.std.specs.Prelude.{ℤ}
 use Rattle.muck_model.specs.declared.dbref.Dbref.{Dbref}
+use Rattle.muck_model.specs.declared.dbref.Denial.{Denial}
+use Rattle.muck_prop.specs.declared.path.PropFault.{PropFault}
+use Rattle.muck_prop.specs.declared.value.PropValue.{PropValue}
+use Rattle.muck_prop.specs.declared.value.PropValue.TheVariants.{Text, Number}
+use Rattle.muck_prop.specs.Paths.{path_fault, segments_of}
+use Rattle.spec_live.specs.declared.object.Object.{Object}
+use Rattle.spec_live.specs.Objects.{object_at}
+use Rattle.spec_live.specs.Seen.{places_of}
 use Rattle.muf_model.specs.Datum.{Datum, int, text, object}
 use Rattle.muf_model.specs.Ladder.{too_short}
 use Rattle.muf_model.specs.Needs.{Needs}
 use Rattle.muf_model.specs.Prims.{family_of, level_of, needs_of}
-use Rattle.spec_prims.specs.Asking.{numbered, level_fault}
+use Rattle.spec_prims.specs.Asking.{numbered, fault_of, level_fault}
 use Rattle.spec_prims.specs.Row.{Row, gives, refuses, Doing, unless, given_upon}
+use Rattle.spec_prims.specs.PropRows.{at_path, by_leave, value_of, as_item, as_text, as_number, has_below, looked, first_holder, sought, name_fault, walked, put_at, put, text_or, added, removed, property_row}
 use Rattle.spec_prims.specs.Talk.{notified, awake, connected_at, player_given, player_at, descriptors, talk_row}
 use Rattle.spec_prims.specs.ObjectRows.{Finding, finding_of, finds, given, object_row}
 use Rattle.spec_prims.specs.Shared.{row_in, shared_row, taken, fault_by, first_fault, done_by, shared}
@@ -104,10 +118,92 @@ opens_talk descr Descriptors = λ a items w level. opens_descriptors a items w
 opens_talk descr Descr = λ a items w level. same_open a w
 opens_talk descr _ = tt
 
+-- what is asked before a row
+
+opens_unless : (o : Option MufFault) (a : Actor) (w : Live) (row : Row) → (o ≡ None → RowOpen a w row) → RowOpen a w (unless o row)
+opens_unless None a w row h = h refl
+opens_unless (Some f) a w row h = tt
+
+no_denial : (d : Option Denial) → fault_of d ≡ None → d ≡ None
+no_denial None e = refl
+no_denial (Some d) e = absurd cc
+
+opens_by_leave : (a : Actor) (act : Act) (w : Live) (row : Row) → (verdict w.objects a act ≡ None → RowOpen a w row) → RowOpen a w (by_leave a act w row)
+opens_by_leave a act w row h = opens_unless (fault_of (verdict w.objects a act)) a w row (λ e. h (no_denial (verdict w.objects a act) e))
+
+opens_at_path : (fault : Option PropFault) (a : Actor) (w : Live) (row : Row) → RowOpen a w row → RowOpen a w (at_path fault row)
+opens_at_path None a w row h = h
+opens_at_path (Some f) a w row h = tt
+
+-- what is done by leave and changes no right
+stays_open : (a : Actor) (act : Act) (f : Change) (w : Live) → Stays a nobody (Some act) f → verdict w.objects a act ≡ None → Licensed a nobody w (f w)
+stays_open a act f w p e = ended_open a (Some act) w (f w) ((ends_stays a nobody (Some act) f p).law w) e
+
+-- rows of properties
+
+opens_looked : (look : Option Object → List (List ℕ) → Datum) (a : Actor) (items : List Datum) (w : Live) → RowOpen a w (looked look a items w)
+opens_looked look a (text t ∷ object d ∷ []) w =
+    opens_at_path (path_fault t) a w _ (opens_by_leave a (Read (numbered d) (segments_of t)) w (gives (look (object_at (numbered d) w.objects) (segments_of t) ∷ []) w) (λ e. same_open a w))
+opens_looked look a _ w = tt
+
+opens_held : (shown : Option PropValue → Datum) (e : Dbref) (o : Option PropValue) (later : Row) (a : Actor) (w : Live) → RowOpen a w later → RowOpen a w (option_map_or (λ value. gives (shown (Some value) ∷ object e.0 ∷ []) w) o later)
+opens_held shown e None later a w h = h
+opens_held shown e (Some value) later a w h = same_open a w
+
+opens_holder : (shown : Option PropValue → Datum) (a : Actor) (path : List (List ℕ)) (es : List Dbref) (w : Live) → RowOpen a w (first_holder shown a path es w)
+opens_holder shown a path [] w = same_open a w
+opens_holder shown a path (e ∷ es) w =
+    opens_by_leave a (Read e path) w (option_map_or (λ value. gives (shown (Some value) ∷ object e.0 ∷ []) w) (value_of (object_at e w.objects) path) (first_holder shown a path es w))
+    (λ h. opens_held shown e (value_of (object_at e w.objects) path) (first_holder shown a path es w) a w (opens_holder shown a path es w))
+
+opens_sought : (shown : Option PropValue → Datum) (a : Actor) (items : List Datum) (w : Live) → RowOpen a w (sought shown a items w)
+opens_sought shown a (text t ∷ object d ∷ []) w = opens_at_path (path_fault t) a w _ (opens_holder shown a (segments_of t) (numbered d ∷ places_of w.objects (numbered d)) w)
+opens_sought shown a _ w = tt
+
+opens_walked : (a : Actor) (items : List Datum) (w : Live) → RowOpen a w (walked a items w)
+opens_walked a (text t ∷ object d ∷ []) w = opens_at_path (name_fault t) a w _ (same_open a w)
+opens_walked a _ w = tt
+
+opens_put_at : (a : Actor) (t : List ℕ) (d : ℤ) (value : PropValue) (w : Live) → RowOpen a w (put_at a t d value w)
+opens_put_at a t d value w =
+    opens_at_path (path_fault t) a w _
+    (opens_by_leave a (Write (numbered d) (segments_of t)) w (gives [] (stored (numbered d) (segments_of t) value w))
+    (stays_open a (Write (numbered d) (segments_of t)) (stored (numbered d) (segments_of t) value) w (stays_stored a nobody (numbered d) (segments_of t) value)))
+
+opens_put : (a : Actor) (items : List Datum) (w : Live) → RowOpen a w (put a items w)
+opens_put a (int n ∷ text t ∷ object d ∷ []) w = opens_put_at a t d (Number n) w
+opens_put a (text u ∷ text t ∷ object d ∷ []) w = opens_put_at a t d (Text u) w
+opens_put a _ w = tt
+
+opens_added : (a : Actor) (items : List Datum) (w : Live) → RowOpen a w (added a items w)
+opens_added a (int n ∷ text u ∷ text t ∷ object d ∷ []) w = opens_put_at a t d (text_or u n) w
+opens_added a _ w = tt
+
+opens_removed : (a : Actor) (items : List Datum) (w : Live) → RowOpen a w (removed a items w)
+opens_removed a (text t ∷ object d ∷ []) w =
+    opens_at_path (path_fault t) a w _
+    (opens_by_leave a (Write (numbered d) (segments_of t)) w (gives [] (unstored (numbered d) (segments_of t) w))
+    (stays_open a (Write (numbered d) (segments_of t)) (unstored (numbered d) (segments_of t)) w (stays_unstored a nobody (numbered d) (segments_of t))))
+opens_removed a _ w = tt
+
+opens_property : (p : Primitive) → IsOpen (level_of p) (property_row p)
+opens_property GetProp = λ a items w level. opens_looked (λ o path. as_item (value_of o path)) a items w
+opens_property GetPropStr = λ a items w level. opens_looked (λ o path. as_text (value_of o path)) a items w
+opens_property GetPropVal = λ a items w level. opens_looked (λ o path. as_number (value_of o path)) a items w
+opens_property IsPropDir = λ a items w level. opens_looked has_below a items w
+opens_property EnvProp = λ a items w level. opens_sought as_item a items w
+opens_property EnvPropStr = λ a items w level. opens_sought as_text a items w
+opens_property NextProp = λ a items w level. opens_walked a items w
+opens_property SetProp = λ a items w level. opens_put a items w
+opens_property AddProp = λ a items w level. opens_added a items w
+opens_property RemoveProp = λ a items w level. opens_removed a items w
+opens_property _ = tt
+
 -- and all of them
 
 opens_in : (descr : Option ℕ) (family : Family) (p : Primitive) → IsOpen (level_of p) (row_in descr family p)
 opens_in descr Object p = opens_object p
+opens_in descr Property p = opens_property p
 opens_in descr Talk p = opens_talk descr p
 opens_in descr _ p = tt
 
@@ -131,10 +227,6 @@ right_none (Some f) r e = absurd cc
 level_passes : (needs : Option Needs) (level : ℕ) (argued : Option MufFault) (a : Actor) (locked : ℕ) (stack : List Datum) (w : Live) → fault_by needs level argued a locked stack w ≡ None → level_fault a w.objects level ≡ None
 level_passes None level argued a locked stack w e = absurd cc
 level_passes (Some needs) level argued a locked stack w e = left_none _ _ (right_none (too_short needs locked stack) _ (left_none _ _ e))
-
-opens_unless : (o : Option MufFault) (a : Actor) (w : Live) (row : Row) → (o ≡ None → RowOpen a w row) → RowOpen a w (unless o row)
-opens_unless None a w row h = h refl
-opens_unless (Some f) a w row h = tt
 
 opens_done : (doing : Option Doing) (p : Primitive) (a : Actor) (locked : ℕ) (stack : List Datum) (w : Live) → IsOpen (level_of p) doing → RowOpen a w (done_by doing p a locked stack w)
 unfolding first_fault

@@ -2,9 +2,10 @@
 use Rattle.std.proofs.Common.{◌≡◌, ℕ, Bool, true, false, Option, refl}
 use Rattle.std.specs.Prelude.{◌&&◌, is_some}
 use Rattle.muf_model.specs.declared.prims.Primitive.{Primitive}
-use Rattle.muf_model.specs.declared.prims.Primitive.TheVariants.{Name, Notify, IsAwake, Online, ConCount, ConDbref, Descriptors, Descr}
+use Rattle.muf_model.specs.declared.prims.Primitive.TheVariants.{Name, Notify, IsAwake, Online, ConCount, ConDbref, Descriptors, Descr, GetProp, GetPropStr, GetPropVal, SetProp, AddProp, RemoveProp, NextProp, IsPropDir, EnvProp, EnvPropStr}
 use Rattle.muf_model.specs.Prims.{is_there}
 use Rattle.spec_prims.specs.ObjectRows.{object_row, is_object}
+use Rattle.spec_prims.specs.PropRows.{property_row, is_property}
 use Rattle.spec_prims.specs.Talk.{talk_row, is_talk}
 
 pub talk_there : (descr : Option ℕ) (p : Primitive) → is_some (talk_row descr p) ≡ is_talk p && is_there p
@@ -20,3 +21,16 @@ talk_there descr _ = refl
 pub object_there : (p : Primitive) → is_some (object_row p) ≡ is_object p && is_there p
 object_there Name = refl
 object_there _ = refl
+
+pub properties_there : (p : Primitive) → is_some (property_row p) ≡ is_property p && is_there p
+properties_there GetProp = refl
+properties_there GetPropStr = refl
+properties_there GetPropVal = refl
+properties_there SetProp = refl
+properties_there AddProp = refl
+properties_there RemoveProp = refl
+properties_there NextProp = refl
+properties_there IsPropDir = refl
+properties_there EnvProp = refl
+properties_there EnvPropStr = refl
+properties_there _ = refl

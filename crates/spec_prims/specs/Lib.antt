@@ -2,7 +2,9 @@ pub mod Asking
 pub mod Row
 pub mod ObjectRows
 pub mod Talk
+pub mod PropRows
 pub mod Shared
 pub mod Rows
 pub mod TalkRows
 pub mod ObjectsWorked
+pub mod PropWorked

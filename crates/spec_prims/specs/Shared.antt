@@ -7,7 +7,7 @@ use Rattle.muf_model.specs.declared.fault.MufFault.{MufFault}
 use Rattle.muf_model.specs.declared.fault.MufFault.TheVariants.{NotCompiled}
 use Rattle.muf_model.specs.declared.prims.Primitive.{Primitive}
 use Rattle.muf_model.specs.declared.prims.Family.{Family}
-use Rattle.muf_model.specs.declared.prims.Family.TheVariants.{Object, Talk}
+use Rattle.muf_model.specs.declared.prims.Family.TheVariants.{Object, Property, Talk}
 use Rattle.muf_model.specs.Datum.{Datum}
 use Rattle.muf_model.specs.Needs.{Needs}
 use Rattle.muf_model.specs.Prims.{family_of, level_of, needs_of}
@@ -15,11 +15,13 @@ use Rattle.muf_model.specs.Ladder.{wanted, ladder, nearby}
 use Rattle.spec_prims.specs.Asking.{level_fault, is_there, near_fault}
 use Rattle.spec_prims.specs.Row.{Row, gives, refuses, Doing, unless, given_upon}
 use Rattle.spec_prims.specs.ObjectRows.{object_row}
+use Rattle.spec_prims.specs.PropRows.{property_row}
 use Rattle.spec_prims.specs.Talk.{talk_row}
 
 -- of the process its connection is asked, where it has one
 abbrev pub row_in : Option ℕ → Family → Primitive → Option Doing
 row_in descr Object p = object_row p
+row_in descr Property p = property_row p
 row_in descr Talk p = talk_row descr p
 row_in descr family p = None
 

@@ -1,4 +1,5 @@
 // The worked rows.
+ghost use Rattle.spec_prims.specs.PropWorked.{PropWorked};
 ghost use Rattle.spec_prims.specs.Rows.{Rows};
 ghost use Rattle.spec_prims.specs.TalkRows.{TalkRows};
 ghost use Rattle.spec_prims.specs.ObjectsWorked.{ObjectsWorked};
@@ -9,4 +10,5 @@ pub fn rows_hold()
     ensures tests { Rows }
     ensures talk { TalkRows }
     ensures objects { ObjectsWorked }
+    ensures properties { PropWorked }
 {}

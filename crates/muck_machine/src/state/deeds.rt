@@ -128,6 +128,7 @@ impl State {
         let mut guard = Guard::new(self.alloc, &mut self.db, &mut self.board, actor);
         match prim.family() {
             Family::Object => prim_db::apply(prim, &mut guard, frame),
+            Family::Property => prim_prop::apply(prim, &mut guard, frame),
             Family::Talk => prim_talk::apply(prim, &mut guard, frame, descr),
             _ => Err(PrimFault::Fault(MufFault::NotCompiled)),
         }

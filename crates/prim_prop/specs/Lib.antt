@@ -1,0 +1,4 @@
+pub mod Asked
+pub mod Looks
+pub mod Upward
+pub mod Walks

@@ -1,0 +1,52 @@
+// Every primitive of properties.
+ghost use Rattle.std.specs.Prelude.{◌≡◌, ℕ, Option, is_some, take};
+ghost use Rattle.muf_model.specs.declared.prims.Family.TheVariants.{Property};
+ghost use Rattle.muf_model.specs.Prims.{family_of, is_there};
+ghost use Rattle.muf_frame.specs.Shown.{Shown, flat, locked_by};
+ghost use Rattle.muck_perm.specs.Guards.{world_of};
+ghost use Rattle.spec_prims.specs.PropRows.{property_row};
+ghost use Rattle.spec_prims.specs.Shared.{shared, taken};
+ghost use Rattle.prim_common.specs.Applied.{Applied, Makes, does_of};
+
+use crate::looking::{Form, Look, look_at};
+use crate::seeking::seek;
+use crate::walking::walk;
+use crate::writing::{add, put, remove};
+use muck_perm::Guard;
+use muf_frame::{Frame, PrimFault};
+use muf_model::{MufFault, Prim};
+use prim_common::{Made, give, ready};
+
+// What a primitive makes of the items that it takes.
+#[tactic(auto, using(crate::proofs::Missing::no_row))]
+fn made(prim: Prim, guard: &mut Guard, frame: &Frame) -> Result<Made, PrimFault>
+    ensures { Makes (does_of (property_row prim) guard.old.actor (take (taken prim (flat frame.now).stack) (flat frame.now).stack) (world_of guard.old)) guard.old guard.new result }
+{
+    match prim {
+        Prim::GetProp => look_at(Look::Held(Form::Item), guard, frame),
+        Prim::GetPropStr => look_at(Look::Held(Form::Text), guard, frame),
+        Prim::GetPropVal => look_at(Look::Held(Form::Number), guard, frame),
+        Prim::IsPropDir => look_at(Look::Below, guard, frame),
+        Prim::EnvProp => seek(Form::Item, guard, frame),
+        Prim::EnvPropStr => seek(Form::Text, guard, frame),
+        Prim::NextProp => walk(guard, frame),
+        Prim::SetProp => put(guard, frame),
+        Prim::AddProp => add(guard, frame),
+        Prim::RemoveProp => remove(guard, frame),
+        _ => Err(PrimFault::Fault(MufFault::NotCompiled)),
+    }
+}
+
+/// Uses a primitive of properties, as the actor to whom the guard lends the world: the frame and the world are as its row
+/// says, or it is refused by the fault of the row and both are unchanged. Those that may be used so far are those with a
+/// row; of the others `NotCompiled` comes. After `NoMemory` nothing is said of the frame and of the world.
+pub fn apply(prim: Prim, guard: &mut Guard, frame: &mut Frame) -> Result<(), PrimFault>
+    requires { family_of prim ≡ Property }
+    ensures row { (descr : Option ℕ) → Applied (shared prim guard.old.actor descr (locked_by (flat frame.old).marks) (flat frame.old).stack (world_of guard.old)) frame.old frame.new guard.old guard.new result }
+    ensures there { is_there prim ≡ is_some (property_row prim) }
+{
+    let taken = ready(prim, None, guard, frame)?;
+    let made = made(prim, guard, frame)?;
+    give(frame, taken, made)?;
+    Ok(())
+}
