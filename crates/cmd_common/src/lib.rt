@@ -20,4 +20,4 @@ pub use reading::{arguments, looked_up};
 pub use replies::{bad_name, cant_be_done, done, incomplete, refuse};
 pub use showing::{list, name_and, place_at, show_lines, show_name, show_others};
 pub use sources::{copy_lines, same_lines};
-pub use writing::{Write, try_write, write_by_leave};
+pub use writing::{Write, act_of, put, try_write, write_by_leave};

@@ -35,8 +35,8 @@ pub enum Write {
     Keep(Dbref, Path, Line),
 }
 
-// The act by which it is asked.
-fn act_of(write: &Write) -> Act
+/// The act by which it is asked.
+pub fn act_of(write: &Write) -> Act
     ensures { result ≡ act_of write.now }
 {
     match write {
@@ -112,9 +112,9 @@ fn place(guard: &mut Guard, pass: Pass, x: Dbref, to: Dbref) -> Result<(), DbFau
     }
 }
 
-// Does it by leave, where the world allows it.
+/// Does it by leave, where the world allows it; else nothing has changed, and after `NoMemory`.
 #[tactic(auto, using(crate::proofs::Written::makes_done, crate::proofs::Written::tries_done))]
-fn put(guard: &mut Guard, pass: Pass, write: Write) -> Result<(), DbFault>
+pub fn put(guard: &mut Guard, pass: Pass, write: Write) -> Result<(), DbFault>
     requires leave { IsLeave pass (act_of write) guard.old }
     requires fit { IsFit write }
     ensures { IsDone (may write (world_of guard.old)) (change_of write) guard.old guard.new result }

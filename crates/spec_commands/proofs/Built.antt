@@ -80,7 +80,7 @@ ends_written a free d act may change reply p = search (permitting, ends_done_whe
 
 ruleset writing = (permitting, ends_done_where, ends_written)
 
-tied_open : (a : Actor) (free : Freedom) (x to : Dbref) → Ends itself a free (Some (Link x to)) (tied x to to)
+pub tied_open : (a : Actor) (free : Freedom) (x to : Dbref) → Ends itself a free (Some (Link x to)) (tied x to to)
 unfolding tied
 tied_open a free x to = search permitting
 
@@ -112,7 +112,7 @@ pub lock_set_open : (a : Actor) (free : Freedom) (d : ℕ) (x : Dbref) (key : Li
 unfolding lock_set
 lock_set_open a free d x key = search (writing, lock_kept_open)
 
-placed_open : (a : Actor) (free : Freedom) (x to : Dbref) → Ends itself a free (Some (Move x to)) (placed x to)
+pub placed_open : (a : Actor) (free : Freedom) (x to : Dbref) → Ends itself a free (Some (Move x to)) (placed x to)
 unfolding placed reading
 placed_open a free x to = ends_stays a free (Some (Move x to)) _ (stays_by _ (λ start w s g. at start w s g (same to home) refl))
   where
