@@ -2,23 +2,20 @@
 use Rattle.std.proofs.Common.{◌≡◌, ℕ, Bool, true, false, cond, List, [], ◌∷◌, refl, sym, ◌∙◌, ap, subst, Option, Some, None, inl, inr}
 use Rattle.spec_live.proofs.Keeping.{keeps_followed}
 use Rattle.std.specs.Prelude.{find, ◌==◌}
-use Rattle.std.specs.Option.{option_and_then, option_map_or}
-use Rattle.std.proofs.lemmas.Bool.{and_parts}
+use Rattle.std.specs.Option.{option_and_then}
 use Rattle.std.proofs.lemmas.Option.{none-some}
 use Rattle.muck_model.specs.declared.dbref.Dbref.{Dbref}
 use Rattle.muck_model.specs.declared.edit.EditState.{EditState}
 use Rattle.muck_match.specs.declared.exits.ExitHit.{ExitHit}
 use Rattle.muck_match.specs.Exits.{exit_for}
-use Rattle.spec_live.specs.declared.mark.Mark.{Mark}
-use Rattle.spec_live.specs.declared.object.Object.{Object}
-use Rattle.spec_live.specs.Objects.{Entry, dbref_of, mark_in, object_at}
+use Rattle.spec_live.specs.Objects.{Entry, mark_in}
 use Rattle.spec_live.specs.Seen.{scenery_of}
 use Rattle.spec_live.specs.Connections.{Connection, has_number, edited as edited_connection}
 use Rattle.spec_live.specs.Boards.{connection_in, player_in, leaving_one, edited_one}
 use Rattle.spec_live.specs.Lives.{Live, Change, followed, ◌▸◌, tell, leave}
 use Rattle.spec_rights.specs.declared.act.Actor.{Actor}
-use Rattle.spec_rights.specs.Licence.{Freedom, Judge, SameTies, Licensed, editing}
-use Rattle.spec_rights.proofs.Licences.{judge, MarkOpen, SameMarks, Quiet, Always, ties_same, ties_both, quiet_order, whole_quiet}
+use Rattle.spec_rights.specs.Licence.{Freedom, SameTies, Licensed, editing}
+use Rattle.spec_rights.proofs.Licences.{judge, SameMarks, Quiet, Always, ties_same, ties_both, quiet_order, whole_quiet}
 use Rattle.spec_rights.proofs.Leaving.{whole_leave}
 use Rattle.spec_rights.proofs.Shown.{quiet_one, quiet_tell}
 use Rattle.spec_commands.specs.declared.outcome.Outcome.{Outcome}
@@ -34,18 +31,18 @@ use Rattle.spec_commands.proofs.Showing.{quiet_waits}
 use Rattle.spec_commands.proofs.Permitted.{waited_open}
 use Rattle.spec_commands.proofs.Edited.{edited_proper}
 use Rattle.spec_commands.proofs.Sources.{edited_rewrites}
-use Rattle.muf_model.specs.Source.{Source}
 use Rattle.muck_queue.specs.declared.process.Process.{Process}
 use Rattle.spec_commands.proofs.Numbered.{numbers, numbers-same_ties, leavers_ties, Seats, Seating, seating_quiet, seating_order}
 use Rattle.spec_commands.proofs.Lines.{seating_at_login}
 use Rattle.spec_events.specs.World.{World, on_live}
 use Rattle.spec_events.specs.Following.{swept, settled}
 use Rattle.spec_events.specs.Lines.{with_editor, next_editor, after_edit, edited_line, in_editor, editor_on, followed_up, in_world, line_done, done}
-use Rattle.spec_events.specs.Endings.{ProcessesLicensed, NoProcess, Lapsed, MayEnd, by_program}
+use Rattle.spec_events.specs.Endings.{ProcessesLicensed, NoProcess, MayEnd, by_program}
 use Rattle.spec_events.specs.Licences.{Untouched, Undisturbed, LineLicensed, TurnLicensed}
 use Rattle.spec_events.proofs.Quietly.{Quietly, quietly_live, quietly_swept, quietly_launched, quietly_compiled}
-use Rattle.spec_events.proofs.Told.{told_at, licensed_told, licensed_as}
-use Rattle.spec_events.proofs.Endings.{Lasting, lasting_same, lasting_both, lasting_settled, lasting_up, lasting_after, runs_in, Tells, IsTold, told_settled, processes_remain}
+use Rattle.spec_events.proofs.Told.{licensed_told, licensed_as}
+use Rattle.spec_events.proofs.Endings.{Lasting, lasting_same, lasting_both, lasting_up, lasting_after, IsTold, told_settled, processes_remain}
+use Rattle.spec_events.proofs.Lapses.{IsLapsing, marks_lapse, Cut, lasting_lapse}
 
 -- what an actor may do to a world that is one already: the changes are open, and it is as dead as before
 pub record Open (a : Actor) (free : Freedom) (start : Live) (dead : Bool) (v : World) : Type 0 where
@@ -170,10 +167,6 @@ open_in_world d player line lines w own =
 
 -- Processes.
 
-objects_settled : (x : Dbref) (w : World) → object_at x (settled w).live.objects ≡ object_at x w.live.objects
-unfolding settled
-objects_settled x w = told_at x (swept 0 w.live.objects w).live.objects ∙ ap (object_at x) (quietly_swept 0 w.live.objects w).objects
-
 objects_up : (d : ℕ) (player : Dbref) (outcome : Outcome) (w : World) → (followed_up d player outcome w).live.objects ≡ w.live.objects
 unfolding leave
 objects_up d player Leave w = refl
@@ -190,14 +183,6 @@ objects_after d program Compile w = (quietly_compiled d program w).objects
 objects_after d program Stay w = refl
 objects_after d program Left w = refl
 
-lapsed_as : (x : Dbref) (w u v : Live) → object_at x v.objects ≡ object_at x u.objects → Lapsed x w u → Lapsed x w v
-lapsed_as x w u v e (inl g) = inl (e ∙ g)
-lapsed_as x w u v e (inr h) = inr (λ s. h (ap (λ (q : Option Object). option_map_or (λ o. o.lines) q []) (sym e) ∙ s))
-
--- of a program on the call stack it was told
-abbrev Cut : Live → Live → Option Source → Type 0
-Cut w v t = (x : Dbref) × (runs_in x t ≡ true) × Lapsed x w v
-
 cut_ends : (a : Actor) (w v : World) → Lasting (Cut w.live v.live) w.queue v.queue → ProcessesLicensed (MayEnd a w.live v.live) w v
 cut_ends a w v g = processes_remain (Cut w.live v.live) (MayEnd a w.live v.live) w v (λ p c. by_program c.0 c.1 c.2) g
 
@@ -210,14 +195,6 @@ nothing_edited a line es x = at (begins_with_sign line) (exit_for (scenery_of es
     at false None = refl
     at false (Some hit) = refl
 
-gone_by : (j : Judge) (x : Dbref) (old new : Option Mark) (m : Mark) (q : Option Object) → j.free.edits x ≡ false → old ≡ None → new ≡ Some m → MarkOpen j x old new q → q ≡ None
-gone_by j x old new m None c e f o = refl
-gone_by j x old new m (Some p) c e f (inl s) = absurd (none-some m (sym (s ∙ e) ∙ f))
-gone_by j x old new m (Some p) c e f (inr l) = absurd (never (sym c ∙ (and_parts _ _ l).0))
-  where
-    never : false ≡ true → ⊥
-    never e = cc
-
 ends_in_world : (d : ℕ) (player : Dbref) (line : List ℕ) (lines : List (List ℕ)) (w : World) → player_in d w.live.board ≡ Some player → IsTold w.live →
     let v = in_world d player line (on_live (waits d lines) w) in ProcessesLicensed (MayEnd (actor_of w.live.objects player) w.live v.live) w v
 unfolding in_world waits followed actor_of
@@ -229,13 +206,8 @@ ends_in_world d player line lines w own told =
     let x : World = record u { live = r.0 } in
     let v : World = followed_up d player r.1 (settled x) in
     let marks : SameMarks (judge a free w.live.objects) w.live.objects r.0.objects = (((waited_open a d lines line).law w.live).law own tt).marks in
-    let cut : Tells (Cut w.live v.live) x.live.objects = λ k m e t f. (
-      dbref_of k,
-      f,
-      lapsed_as (dbref_of k) w.live r.0 v.live (ap (object_at (dbref_of k)) (objects_up d player r.1 (settled x)) ∙ objects_settled (dbref_of k) x)
-          (inl (gone_by (judge a free w.live.objects) (dbref_of k) _ _ m (object_at (dbref_of k) r.0.objects) (nothing_edited a line w.live.objects (dbref_of k)) (told k) e (marks k))),
-    ) in
-    cut_ends a w v (lasting_both (Cut w.live v.live) w.queue (settled x).queue v.queue (lasting_settled (Cut w.live v.live) x cut) (lasting_up (Cut w.live v.live) d player r.1 (settled x)))
+    let cut : IsLapsing w.live x.live = marks_lapse a free w.live r.0 (nothing_edited a line w.live.objects) told marks in
+    cut_ends a w v (lasting_both (Cut w.live v.live) w.queue (settled x).queue v.queue (lasting_lapse w.live v.live x (objects_up d player r.1 (settled x)) cut) (lasting_up (Cut w.live v.live) d player r.1 (settled x)))
 
 ends_edited : (d : ℕ) (player : Dbref) (s : EditState) (line : List ℕ) (lines : List (List ℕ)) (w : World) → IsTold w.live →
     let v = edited_line d player s line (on_live (taken_out d lines) w) in ProcessesLicensed (MayEnd (actor_of w.live.objects player) w.live v.live) w v
@@ -246,16 +218,11 @@ ends_edited d player s line lines w told =
     let r = edited d a s line u.live in
     let x : World = record u { live = with_editor d (next_editor r.2 r.1) r.0 } in
     let v : World = after_edit d s.program r.2 (settled x) in
-    let seen : (k : ℕ) → object_at (dbref_of k) v.live.objects ≡ object_at (dbref_of k) r.0.objects = λ k. ap (object_at (dbref_of k)) (objects_after d s.program r.2 (settled x)) ∙ objects_settled (dbref_of k) x in
-    let cut : Tells (Cut w.live v.live) x.live.objects = λ k m e t f. (
-      dbref_of k,
-      f,
-      lapsed_as (dbref_of k) w.live r.0 v.live (seen k) (elim (((edited_rewrites d a s line).law u.live).marks k) [
-        | inl same ↦ absurd (none-some m (sym (same ∙ told k) ∙ e))
-        | inr other ↦ inr other
-      ]),
-    ) in
-    cut_ends a w v (lasting_both (Cut w.live v.live) w.queue (settled x).queue v.queue (lasting_settled (Cut w.live v.live) x cut) (lasting_after (Cut w.live v.live) d s.program r.2 (settled x)))
+    let cut : IsLapsing w.live x.live = λ k m e. elim (((edited_rewrites d a s line).law u.live).marks k) [
+      | inl same ↦ absurd (none-some m (sym (same ∙ told k) ∙ e))
+      | inr other ↦ inr other
+    ] in
+    cut_ends a w v (lasting_both (Cut w.live v.live) w.queue (settled x).queue v.queue (lasting_lapse w.live v.live x (objects_after d s.program r.2 (settled x)) cut) (lasting_after (Cut w.live v.live) d s.program r.2 (settled x)))
 
 ends_in_editor : (d : ℕ) (player : Dbref) (s : EditState) (line : List ℕ) (lines : List (List ℕ)) (w : World) → IsTold w.live →
     let v = in_editor d player s line (on_live (taken_out d lines) w) in ProcessesLicensed (MayEnd (actor_of w.live.objects player) w.live v.live) w v

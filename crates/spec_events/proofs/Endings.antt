@@ -39,7 +39,7 @@ use Rattle.spec_events.specs.Lines.{compiled_so, compiled, after_edit, followed_
 use Rattle.spec_events.specs.Endings.{Remains, ProcessesLicensed}
 
 -- Where it was there, a process goes on with what it runs, or might end.
-abbrev Lasts : (Option Source → Type 0) → Option Process → Option Process → Type 0
+abbrev pub Lasts : (Option Source → Type 0) → Option Process → Option Process → Type 0
 Lasts may None q = Unit {0}
 Lasts may (Some p) None = may p.running
 Lasts may (Some p) (Some q) = (q.running ≡ p.running) ⊎ may p.running
@@ -70,12 +70,12 @@ lasting_both may q r s g h pid = lasts_both may (process pid q) (process pid r) 
 -- Queues.
 
 -- Where it was there, a process is as it was, or might end.
-abbrev Stands : (Process → Type 0) → Option Process → Option Process → Type 0
+abbrev pub Stands : (Process → Type 0) → Option Process → Option Process → Type 0
 Stands Ends None q = Unit {0}
 Stands Ends (Some p) None = Ends p
 Stands Ends (Some p) (Some q) = (q ≡ p) ⊎ Ends p
 
-left_by : (Ends : Process → Type 0) (p : Process) (q : Option Process) → Ends p → Stands Ends (Some p) q
+pub left_by : (Ends : Process → Type 0) (p : Process) (q : Option Process) → Ends p → Stands Ends (Some p) q
 left_by Ends p None m = m
 left_by Ends p (Some q) m = inr m
 
@@ -271,7 +271,7 @@ remains may Ends h (Some p) (Some q) g = tt
 pub processes_remain : (may : Option Source → Type 0) (Ends : Process → Type 0) (w v : World) → ((p : Process) → may p.running → Ends p) → Lasting may w.queue v.queue → ProcessesLicensed Ends w v
 processes_remain may Ends w v h g pid = remains may Ends h (process pid w.queue) (process pid v.queue) (g pid)
 
-left_remains : (Ends : Process → Type 0) (o q : Option Process) → Stands Ends o q → Remains Ends o q
+pub left_remains : (Ends : Process → Type 0) (o q : Option Process) → Stands Ends o q → Remains Ends o q
 left_remains Ends None None g = tt
 left_remains Ends None (Some q) g = tt
 left_remains Ends (Some p) None g = g

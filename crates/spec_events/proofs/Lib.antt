@@ -1,9 +1,9 @@
 pub mod Quietly
 pub mod Told
 pub mod Endings
+mod Lapses
 pub mod Done
 pub mod Units
-mod Untouched
 mod Remaining
 pub mod Taken
 mod Judged

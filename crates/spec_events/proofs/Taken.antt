@@ -2,9 +2,9 @@
 use Rattle.std.proofs.Common.{◌≡◌, ℕ, ℤ, zero, suc, List, [], ◌∷◌, map, refl, ◌∙◌, ap, subst, Option, Some, None}
 use Rattle.std.specs.Option.{option_map_or}
 use Rattle.muck_model.specs.declared.dbref.Dbref.{Dbref}
-use Rattle.spec_live.specs.Lives.{Live, tell_player}
+use Rattle.spec_live.specs.Lives.{tell_player}
 use Rattle.spec_rights.specs.declared.act.Actor.{Actor}
-use Rattle.spec_rights.specs.Licence.{Licensed, nobody}
+use Rattle.spec_rights.specs.Licence.{nobody}
 use Rattle.spec_rights.proofs.Shown.{quiet_tell_player}
 use Rattle.muf_model.specs.declared.fault.MufFault.{MufFault}
 use Rattle.muf_model.specs.declared.prims.Primitive.{Primitive as Name}
@@ -39,10 +39,10 @@ module _ (a : Actor) (w : World) where
   DeedOpens (fails f v) = Opens v
 
   opens_itself : Opens w
-  opens_itself = record { licensed = same_open a w.live; alive = refl }
+  opens_itself = record { licensed = (same_open a w.live).licensed; alive = refl }
 
   opens_row : (s : Source) (row : Row) → RowOpen a w.live row → DeedOpens (lifted s w row)
-  opens_row s (gives stack live) h = record { licensed = h; alive = refl }
+  opens_row s (gives stack live) h = record { licensed = h.licensed; alive = refl }
   opens_row s (refuses f) h = opens_itself
 
   opens_forms : (d : Deed Library) → DeedOpens (with_forms w d)

@@ -1,4 +1,4 @@
--- What each row changes is open to who acts.
+-- What each row changes is open to who acts, and so is what is to be told of it.
 use Rattle.std.proofs.Common.{◌≡◌, ℕ, Bool, true, false, cond, List, [], ◌∷◌, take, drop, Option, Some, None, refl}
 use Rattle.std.specs.Option.{option_or, option_map_or}
 use Rattle.std.specs.Prelude.{option_map, Result, Ok, Err}
@@ -9,14 +9,14 @@ use Rattle.spec_rights.specs.declared.act.Act.TheVariants.{Read, Write}
 use Rattle.spec_rights.specs.Verdict.{verdict}
 use Rattle.spec_rights.specs.Changing.{stored, unstored}
 use Rattle.spec_rights.proofs.Changes.{stays_stored, stays_unstored}
-use Rattle.spec_rights.specs.Licence.{Licensed, nobody}
-use Rattle.spec_rights.proofs.Licences.{Ended, Given, Shows, judge, itself, Stays, end_quietly, ends_quiet, ends_stays, quiet_unchanged}
+use Rattle.spec_rights.specs.Licence.{nobody}
+use Rattle.spec_rights.proofs.Licences.{Ended, Given, Proper, Shows, judge, itself, Stays, end_quietly, ends_quiet, ends_stays, quiet_unchanged}
 use Rattle.spec_rights.proofs.Rights.{same_itself}
 use Rattle.spec_rights.proofs.Shown.{quiet_tell_player}
 use Rattle.spec_live.specs.Lives.{Change, unchanged}
 use Rattle.muf_model.specs.declared.fault.MufFault.{MufFault}
 use Rattle.muf_model.specs.declared.prims.Family.{Family}
-use Rattle.muf_model.specs.declared.prims.Family.TheVariants.{Object, Property, Talk}
+use Rattle.muf_model.specs.declared.prims.Family.TheVariants as kind
 use Rattle.muf_model.specs.declared.prims.Primitive.{Primitive}
 use Rattle.muf_model.specs.declared.prims.Primitive.TheVariants.{Notify, IsAwake, Online, ConCount, ConDbref, Descriptors, Descr, GetProp, GetPropStr, GetPropVal, SetProp, AddProp, RemoveProp, NextProp, IsPropDir, EnvProp, EnvPropStr}
 use Rattle.std.specs.Prelude.{ℤ}
@@ -42,29 +42,24 @@ use Rattle.spec_prims.specs.Shared.{row_in, shared_row, taken, fault_by, first_f
 
 -- it is open to the actor, or nothing has changed
 abbrev pub RowOpen : Actor → Live → Row → Type 0
-RowOpen a w (gives items v) = Licensed a nobody w v
+RowOpen a w (gives items v) = Proper a nobody w v
 RowOpen a w (refuses f) = Unit {0}
 
 -- by the laws of what is changed, where the act was allowed
-pub ended_open : (a : Actor) (act : Option Act) (w v : Live) → Ended itself a nobody act w v → Given act w.objects a → Licensed a nobody w v
+pub ended_open : (a : Actor) (act : Option Act) (w v : Live) → Ended itself a nobody act w v → Given act w.objects a → Proper a nobody w v
 ended_open a act w v h given =
     let t = h.law w.objects (same_itself w.objects) given in
     record {
-      gone = None;
-      recycled = λ x e. absurd (cc);
-      vanished = λ x e. absurd (cc);
-      objects = t.rows;
-      lists = t.lists;
-      connections = t.ties;
-      tune = t.tune;
+      licensed = record { gone = None; recycled = λ x e. absurd (cc); vanished = λ x e. absurd (cc); objects = t.rows; lists = t.lists; connections = t.ties; tune = t.tune };
+      marks = t.marks;
     }
 
 -- where nothing changes, and where something is shown alone
-pub same_open : (a : Actor) (w : Live) → Licensed a nobody w w
+pub same_open : (a : Actor) (w : Live) → Proper a nobody w w
 unfolding unchanged
 same_open a w = ended_open a None w w ((ends_quiet a nobody None unchanged quiet_unchanged).law w) tt
 
-pub shows_open : (a : Actor) (w v : Live) → Shows w v → Licensed a nobody w v
+pub shows_open : (a : Actor) (w v : Live) → Shows w v → Proper a nobody w v
 unfolding unchanged
 shows_open a w v h =
     ended_open a None w v (record {
@@ -97,6 +92,7 @@ opens_connected_at a _ w = tt
 opens_descriptors : (a : Actor) (items : List Datum) (w : Live) → RowOpen a w (descriptors a items w)
 opens_descriptors a (object d ∷ []) w = same_open a w
 opens_descriptors a _ w = tt
+
 opens_given : (a : Actor) (w : Live) (found : Result Datum MufFault) → RowOpen a w (given w found)
 opens_given a w (Ok item) = same_open a w
 opens_given a w (Err f) = tt
@@ -136,7 +132,7 @@ opens_at_path None a w row h = h
 opens_at_path (Some f) a w row h = tt
 
 -- what is done by leave and changes no right
-stays_open : (a : Actor) (act : Act) (f : Change) (w : Live) → Stays a nobody (Some act) f → verdict w.objects a act ≡ None → Licensed a nobody w (f w)
+stays_open : (a : Actor) (act : Act) (f : Change) (w : Live) → Stays a nobody (Some act) f → verdict w.objects a act ≡ None → Proper a nobody w (f w)
 stays_open a act f w p e = ended_open a (Some act) w (f w) ((ends_stays a nobody (Some act) f p).law w) e
 
 -- rows of properties
@@ -202,12 +198,12 @@ opens_property _ = tt
 -- and all of them
 
 opens_in : (descr : Option ℕ) (family : Family) (p : Primitive) → IsOpen (level_of p) (row_in descr family p)
-opens_in descr Object p = opens_object p
-opens_in descr Property p = opens_property p
-opens_in descr Talk p = opens_talk descr p
+opens_in descr kind.Object p = opens_object p
+opens_in descr kind.Property p = opens_property p
+opens_in descr kind.Talk p = opens_talk descr p
 opens_in descr _ p = tt
 
-opens_if : (b : Bool) (f : MufFault) (items : List Datum) (a : Actor) (w v : Live) → Licensed a nobody w v → RowOpen a w (cond b (refuses f) (gives items v))
+opens_if : (b : Bool) (f : MufFault) (items : List Datum) (a : Actor) (w v : Live) → Proper a nobody w v → RowOpen a w (cond b (refuses f) (gives items v))
 opens_if true f items a w v h = tt
 opens_if false f items a w v h = h
 
