@@ -14,7 +14,8 @@ use Rattle.muf_model.specs.Prims.{family_of, is_there}
 use Rattle.muf_frame.specs.declared.fault.PrimFault.{PrimFault}
 use Rattle.muf_frame.specs.declared.fault.PrimFault.TheVariants.{Fault, NoMemory}
 use Rattle.muck_perm.specs.declared.guard.Guard.{Guard}
-use Rattle.muck_perm.specs.Guards.{world_of}
+use Rattle.muck_perm.specs.Guards.{objects_of, world_of}
+use Rattle.muck_perm.proofs.Worlds.{kept_itself}
 use Rattle.spec_prims.specs.Row.{Row, refuses, given_upon}
 use Rattle.spec_prims.specs.ObjectRows.{Finding, finding_of, finds, given as given_row, misasked, object_row, is_object_family}
 use Rattle.spec_prims.specs.Shared.{taken, first_fault, row_in, done_by, shared}
@@ -70,7 +71,7 @@ does_by p None a items w = refl
 does_by p (Some find) a items w = refl
 
 item_made : (found : Result Datum MufFault) (g : Guard) (v : Value) → Finds found (Ok v) → Makes (given_row (world_of g) found) g g (Ok (One v))
-item_made (Ok item) g v h = (ap (λ x. x ∷ []) h, refl)
+item_made (Ok item) g v h = (ap (λ x. x ∷ []) h, refl, kept_itself g)
 item_made (Err f) g v h = absurd h
 
 none_made : (found : Result Datum MufFault) (g : Guard) (f : PrimFault) → Finds found (Err f) → Makes (given_row (world_of g) found) g g (Err f)
@@ -83,10 +84,10 @@ module _ (p : Primitive) (g : Guard) (items : List Datum) where
   abbrev row : Row
   row = does_of (object_row p) g.actor items (world_of g)
 
-  pub makes_item : (v : Value) → Finds (found_in p g.actor g.db.now items) (Ok v) → Makes row g g (Ok (One v))
+  pub makes_item : (v : Value) → Finds (found_in p g.actor (objects_of g) items) (Ok v) → Makes row g g (Ok (One v))
   makes_item v h = subst (λ row. Makes row g g (Ok (One v))) (sym (does_by p (finding_of p) g.actor items (world_of g))) (item_made _ g v h)
 
-  pub makes_none : (f : PrimFault) → Finds (found_in p g.actor g.db.now items) (Err f) → Makes row g g (Err f)
+  pub makes_none : (f : PrimFault) → Finds (found_in p g.actor (objects_of g) items) (Err f) → Makes row g g (Err f)
   makes_none f h = subst (λ row. Makes row g g (Err f)) (sym (does_by p (finding_of p) g.actor items (world_of g))) (none_made _ g f h)
 
 pub ruleset making = (makes_item, makes_none)
