@@ -26,47 +26,9 @@ abbrev pub shifted : ℤ → ℤ → ℤ
 shifted i (pos n) = if nat_lt n 32 then int_shl w32 i n else pos 0
 shifted i (negsuc n) = if nat_lt n 31 then int_shr i (suc n) else (if int_lt i (pos 0) then negsuc 0 else pos 0)
 
--- what a primitive of one integer answers
-abbrev pub int_of : Primitive → ℤ → ℤ
-int_of Increment i = int_wrapping_add w32 i (pos 1)
-int_of Decrement i = int_wrapping_sub w32 i (pos 1)
-int_of Abs i = magnitude i
-int_of Sign i = int_signum i
-int_of _ i = i
-
--- what a primitive of two integers answers, the second one on top
-abbrev pub int_of_two : Primitive → ℤ → ℤ → ℤ
-int_of_two Add i j = int_wrapping_add w32 i j
-int_of_two Subtract i j = int_wrapping_sub w32 i j
-int_of_two Multiply i j = int_wrapping_mul w32 i j
-int_of_two Divide i j = quotient i j
-int_of_two Modulo i j = remainder i j
-int_of_two BitOr i j = int_bit_or w32 i j
-int_of_two BitAnd i j = int_bit_and w32 i j
-int_of_two BitXor i j = int_bit_xor w32 i j
-int_of_two BitShift i j = shifted i j
-int_of_two _ i j = i
-
--- whether a comparison holds
-abbrev pub compares : Primitive → ℤ → ℤ → Bool
-compares Equal i j = int_eq i j
-compares Unequal i j = not (int_eq i j)
-compares Less i j = int_lt i j
-compares Greater i j = int_lt j i
-compares LessEqual i j = int_le i j
-compares GreaterEqual i j = int_le j i
-compares _ i j = false
-
 abbrev pub unlike : Bool → Bool → Bool
 unlike true b = not b
 unlike false b = b
-
--- what AND, OR and XOR answer
-abbrev pub joined : Primitive → Bool → Bool → Bool
-joined And a b = a && b
-joined Or a b = a || b
-joined Xor a b = unlike a b
-joined _ a b = a
 
 -- of one integer
 abbrev pub one_int : (ℤ → ℤ) → List Datum → Made
@@ -103,31 +65,52 @@ abbrev pub objects_equal : List Datum → Made
 objects_equal (object j ∷ object i ∷ []) = makes (truth (int_eq i j) ∷ [])
 objects_equal _ = rejects BadType
 
+-- What a primitive of numbers does, by what it takes: an integer, two integers, two integers or objects to compare, two truths, or
+-- items as they are. The second of two is on top.
+pub data NumberRow : Type 0 where
+  an_int : (ℤ → ℤ) → NumberRow
+  ints : (ℤ → ℤ → ℤ) → NumberRow
+  compares : (ℤ → ℤ → Bool) → NumberRow
+  truths : (Bool → Bool → Bool) → NumberRow
+  items : (List Datum → Made) → NumberRow
+  absent : NumberRow
+
+abbrev pub number_table : Primitive → NumberRow
+number_table Add = ints (int_wrapping_add w32)
+number_table Subtract = ints (int_wrapping_sub w32)
+number_table Multiply = ints (int_wrapping_mul w32)
+number_table Divide = ints quotient
+number_table Modulo = ints remainder
+number_table Increment = an_int (λ i. int_wrapping_add w32 i (pos 1))
+number_table Decrement = an_int (λ i. int_wrapping_sub w32 i (pos 1))
+number_table Abs = an_int magnitude
+number_table Sign = an_int int_signum
+number_table BitOr = ints (int_bit_or w32)
+number_table BitAnd = ints (int_bit_and w32)
+number_table BitXor = ints (int_bit_xor w32)
+number_table BitShift = ints shifted
+number_table Equal = compares int_eq
+number_table Unequal = compares (λ i j. not (int_eq i j))
+number_table Less = compares int_lt
+number_table Greater = compares (λ i j. int_lt j i)
+number_table LessEqual = compares int_le
+number_table GreaterEqual = compares (λ i j. int_le j i)
+number_table Not = items (judged (λ x. not (is_true x)))
+number_table And = truths (λ a b. a && b)
+number_table Or = truths (λ a b. a || b)
+number_table Xor = truths unlike
+number_table ToInt = items number_of
+number_table ToDbref = items object_of
+number_table DbCmp = items objects_equal
+number_table _ = absent
+
+abbrev pub number_deed : NumberRow → Option Deed
+number_deed (an_int f) = Some (plain (one_int f))
+number_deed (ints f) = Some (plain (two_ints f))
+number_deed (compares f) = Some (plain (compared f))
+number_deed (truths f) = Some (plain (two_truths f))
+number_deed (items f) = Some (plain f)
+number_deed absent = None
+
 abbrev pub number_row : Primitive → Option Deed
-number_row Add = Some (plain (two_ints (int_of_two Add)))
-number_row Subtract = Some (plain (two_ints (int_of_two Subtract)))
-number_row Multiply = Some (plain (two_ints (int_of_two Multiply)))
-number_row Divide = Some (plain (two_ints (int_of_two Divide)))
-number_row Modulo = Some (plain (two_ints (int_of_two Modulo)))
-number_row Increment = Some (plain (one_int (int_of Increment)))
-number_row Decrement = Some (plain (one_int (int_of Decrement)))
-number_row Abs = Some (plain (one_int (int_of Abs)))
-number_row Sign = Some (plain (one_int (int_of Sign)))
-number_row BitOr = Some (plain (two_ints (int_of_two BitOr)))
-number_row BitAnd = Some (plain (two_ints (int_of_two BitAnd)))
-number_row BitXor = Some (plain (two_ints (int_of_two BitXor)))
-number_row BitShift = Some (plain (two_ints (int_of_two BitShift)))
-number_row Equal = Some (plain (compared (compares Equal)))
-number_row Unequal = Some (plain (compared (compares Unequal)))
-number_row Less = Some (plain (compared (compares Less)))
-number_row Greater = Some (plain (compared (compares Greater)))
-number_row LessEqual = Some (plain (compared (compares LessEqual)))
-number_row GreaterEqual = Some (plain (compared (compares GreaterEqual)))
-number_row Not = Some (plain (judged (λ x. not (is_true x))))
-number_row And = Some (plain (two_truths (joined And)))
-number_row Or = Some (plain (two_truths (joined Or)))
-number_row Xor = Some (plain (two_truths (joined Xor)))
-number_row ToInt = Some (plain number_of)
-number_row ToDbref = Some (plain object_of)
-number_row DbCmp = Some (plain objects_equal)
-number_row _ = None
+number_row p = number_deed (number_table p)

@@ -291,14 +291,6 @@ act (crowded s) = fault CallsFull s
 abbrev pub unit : Source → Outcome
 unit s = act (settle s)
 
--- the shared primitive that comes next
-abbrev pub request_of : Outcome → Option Name
-request_of (asks p s) = Some p
-request_of _ = None
-
-abbrev pub next_shared : Source → Option Name
-next_shared s = request_of (unit s)
-
 -- goes on from where a unit went, unless that left a program
 abbrev pub and_then : Outcome → (Source → Outcome) → Outcome
 and_then (goes zero s) next = next s

@@ -7,7 +7,11 @@ ghost use Rattle.muf_model.specs.Rows.{is_settled};
 ghost use Rattle.muf_model.specs.Prims.{row_of, shown_row, level_of, is_local, is_there, family_of, needs_of, name_of, primitives, named, is_named, named_in_any_case};
 
 use crate::needs::{
-    AN_ADDRESS, AN_INT, A_LOCK, A_NUMBERED, A_TEXT, A_VARIABLE, COUNTED_ITEMS, INTS_OVER_TEXT, INT_AND_TEXTS_FOR_ONE_NEAR, INT_OR_OBJECT, INT_OVER_TEXT, INT_OVER_TEXTS, ITEM, ITEM_OVER_COUNTED, KEY_AND_TEXT_FOR_ONE_NEAR, LOCK_FOR_ONE_THERE, NOTHING, Needs, ONE_NEAR, ONE_THERE, TEXT_FOR_ONE_NEAR, THREE_ITEMS, THREE_TEXTS, TWO_ALIKE, TWO_INTS, TWO_ITEMS, TWO_OBJECTS, TWO_TEXTS, TWO_THERE, VARIABLE_AND_ITEM,
+    A_LOCK, A_NUMBERED, A_TEXT, A_VARIABLE, AN_ADDRESS, AN_INT, COUNTED_ITEMS,
+    INT_AND_TEXTS_FOR_ONE_NEAR, INT_OR_OBJECT, INT_OVER_TEXT, INT_OVER_TEXTS, INTS_OVER_TEXT, ITEM,
+    ITEM_OVER_COUNTED, KEY_AND_TEXT_FOR_ONE_NEAR, LOCK_FOR_ONE_THERE, NOTHING, Needs, ONE_NEAR,
+    ONE_THERE, TEXT_FOR_ONE_NEAR, THREE_ITEMS, THREE_TEXTS, TWO_ALIKE, TWO_INTS, TWO_ITEMS,
+    TWO_OBJECTS, TWO_TEXTS, TWO_THERE, VARIABLE_AND_ITEM,
 };
 
 /// A primitive. Its name in programs stands in its row of the table, with its level and what it needs on the stack.

@@ -11,22 +11,13 @@ use crate::shapes;
 use muf_frame::{Frame, PrimFault};
 use muf_model::{MufFault, Prim};
 
-// One of the primitives of numbers.
+// One of the primitives of numbers: of two integers, unless it stands here.
 #[inline(always)]
 fn answer(prim: Prim, frame: &mut Frame) -> Result<(), MufFault>
     requires { family_of prim ≡ Number }
     ensures { (words : ℕ) → Answered (primitive prim (scope_of words (flat frame.old)) (flat frame.old).stack) frame.old frame.new result }
 {
     match prim {
-        Prim::Add
-        | Prim::Subtract
-        | Prim::Multiply
-        | Prim::Divide
-        | Prim::Modulo
-        | Prim::BitOr
-        | Prim::BitAnd
-        | Prim::BitXor
-        | Prim::BitShift => shapes::two_ints(prim, frame),
         Prim::Increment | Prim::Decrement | Prim::Abs | Prim::Sign => shapes::one_int(prim, frame),
         Prim::Equal
         | Prim::Unequal
@@ -39,7 +30,7 @@ fn answer(prim: Prim, frame: &mut Frame) -> Result<(), MufFault>
         Prim::ToInt => shapes::to_int(frame),
         Prim::ToDbref => shapes::to_object(frame),
         Prim::DbCmp => shapes::objects_equal(frame),
-        _ => unreachable!(),
+        _ => shapes::two_ints(prim, frame),
     }
 }
 
