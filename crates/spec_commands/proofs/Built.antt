@@ -1,11 +1,12 @@
 -- What players build is open to them.
 use Rattle.std.proofs.Common.{◌≡◌, ℕ, Bool, true, false, cond, List, refl, subst, Option, Some, None}
 use Rattle.muck_model.proofs.Dbrefs.{eq_same}
-use Rattle.std.specs.Prelude.{Result, Ok, Err}
+use Rattle.std.specs.Prelude.{Result, Ok, Err, IfSome}
 use Rattle.muck_model.specs.declared.dbref.Dbref.{Dbref}
 use Rattle.muck_model.specs.declared.dbref.Kind.{Kind}
 use Rattle.muck_model.specs.declared.dbref.Kind.TheVariants.{Room as RoomKind, Thing as ThingKind, Exit as ExitKind}
-use Rattle.muck_prop.specs.Paths.{class_of}
+use Rattle.muck_prop.specs.declared.path.PropFault.{PropFault}
+use Rattle.muck_prop.specs.Paths.{class_of, path_fault, segments_of}
 use Rattle.spec_live.specs.declared.fault.DbFault.{DbFault}
 use Rattle.spec_live.specs.declared.object.Object.{Object}
 use Rattle.spec_live.specs.Objects.{Entry, dbref_of, nothing, home, same}
@@ -21,6 +22,7 @@ use Rattle.spec_rights.proofs.Rights.{SameRights}
 use Rattle.spec_rights.proofs.Licences.{judge, Quiet, Stay, End, Ends, itself, end_quietly, ends_quiet, ends_stays, ends_by, stays_by}
 use Rattle.spec_rights.proofs.Makings.{new_in, end_created, room_open, thing_open, exit_open}
 use Rattle.spec_rights.proofs.Places.{stays_moved, stay_moved_home}
+use Rattle.spec_rights.proofs.Changes.{ends_leveled, ends_flag_set, ends_flag_cleared}
 use Rattle.spec_rights.proofs.Permitted.{ending}
 use Rattle.spec_rights.proofs.Shown.{shown, quiet_tell}
 use Rattle.spec_commands.specs.declared.new.New.{New}
@@ -29,7 +31,11 @@ use Rattle.spec_commands.specs.Replies.{cant_be_done}
 use Rattle.spec_commands.specs.Finding.{message_path}
 use Rattle.spec_commands.specs.Going.{home_at}
 use Rattle.spec_commands.specs.Building.{made_at, created_shown, making, kind_of, as_new, act_in, made, thing_made, exit_opened, done_where, written, tied, link_set, link_cleared, name_set, kept, lock_kept, lock_set, placed, teleported, chowned, find_shown}
+use Rattle.spec_commands.specs.declared.setting.Setting.{Setting}
+use Rattle.spec_commands.specs.declared.setting.Setting.TheVariants.{Flag, NoFlag, Level}
+use Rattle.spec_commands.specs.Settings.{setting_asked, is_setting, setting_act, set_so, word_set, property_set, has_colon, path_part, value_part, assigned}
 use Rattle.spec_commands.proofs.Showing.{seeing}
+use Rattle.spec_commands.proofs.Asked.{asked_is_one}
 
 -- whatever ends as is open
 pub ruleset permitting = (ending, seeing)
@@ -130,8 +136,33 @@ pub chowned_open : (a : Actor) (free : Freedom) (d : ℕ) (x owner : Dbref) → 
 unfolding chowned
 chowned_open a free d x owner = search writing
 
+-- Settings.
+
+set_so_open : (a : Actor) (free : Freedom) (x : Dbref) (setting : Setting) → is_setting setting ≡ true → Ends itself a free (Some (setting_act x setting)) (set_so x setting)
+set_so_open a free x (Flag flag) h = ends_flag_set a free x flag h
+set_so_open a free x (NoFlag flag) h = ends_flag_cleared a free x flag h
+set_so_open a free x (Level level) h = ends_leveled a free x level
+
+word_set_open : (a : Actor) (free : Freedom) (d : ℕ) (x : Dbref) (asked : Option Setting) → IfSome asked (λ setting. is_setting setting ≡ true) → Ends itself a free None (word_set d a x asked)
+word_set_open a free d x (Some setting) h = search (writing, set_so_open)
+word_set_open a free d x None h = search writing
+
+property_set_open : (a : Actor) (free : Freedom) (d : ℕ) (x : Dbref) (path : List (List ℕ)) (value : List ℕ) (fault : Option PropFault) → Ends itself a free None (property_set d a x path value fault)
+property_set_open a free d x path value None = search writing
+property_set_open a free d x path value (Some fault) = search writing
+
+either_open : (a : Actor) (free : Freedom) (b : Bool) (f g : Change) → Ends itself a free None f → Ends itself a free None g → Ends itself a free None (cond b f g)
+either_open a free true f g p q = p
+either_open a free false f g p q = q
+
+pub assigned_open : (a : Actor) (free : Freedom) (d : ℕ) (x : Dbref) (text : List ℕ) → Ends itself a free None (assigned d a x text)
+unfolding assigned
+assigned_open a free d x text =
+    either_open a free (has_colon text) _ _ (property_set_open a free d x (segments_of (path_part text)) (value_part text) (path_fault (path_part text)))
+    (word_set_open a free d x (setting_asked text) (asked_is_one text))
+
 -- whatever builders make and write
-pub ruleset building = (made_open, thing_made_open, exit_opened_open, link_set_open, link_cleared_open, name_set_open, kept_open, lock_set_open, teleported_open, chowned_open)
+pub ruleset building = (made_open, thing_made_open, exit_opened_open, link_set_open, link_cleared_open, name_set_open, kept_open, lock_set_open, teleported_open, chowned_open, assigned_open)
 
 -- Looking things up.
 

@@ -1,4 +1,5 @@
 pub mod Trims
+pub mod Asked
 pub mod Showing
 pub mod Built
 pub mod Gone

@@ -22,7 +22,7 @@ use Rattle.spec_commands.specs.declared.word.Message.TheVariants.{Describe, Succ
 use Rattle.spec_commands.specs.declared.word.BuildWord.{BuildWord}
 use Rattle.spec_commands.specs.declared.shape.Shape.{Shape}
 use Rattle.spec_commands.specs.declared.shape.Arguments.{Arguments}
-use Rattle.spec_commands.specs.declared.word.BuildWord.TheVariants.{Dig, Create, Open, Action, Link, Unlink, Name, Set, Lock, Unlock, Teleport, Recycle, Chown, Find, Program, Edit, List as ListWord, Run}
+use Rattle.spec_commands.specs.declared.word.BuildWord.TheVariants.{Dig, Create, Open, Action, Link, Unlink, Name, Set, Lock, Unlock, Teleport, Recycle, Chown, Assign, Find, Program, Edit, List as ListWord, Run}
 use Rattle.spec_commands.specs.Finding.{message_path, look_shown, examined}
 use Rattle.spec_commands.specs.Texts.{first_word, other_words, trimmed}
 use Rattle.spec_commands.specs.Talk.{waits}
@@ -90,6 +90,7 @@ build_lawful a own free d line Unlock args = lawful_ends a own _ _ (λ now. sear
 build_lawful a own free d line Teleport args = lawful_ends a own _ _ (λ now. search building)
 build_lawful a own free d line Recycle args = lawful_done a own _ _ (recycled_open a own _ d args.first.object)
 build_lawful a own free d line Chown args = lawful_ends a own _ _ (λ now. search building)
+build_lawful a own free d line Assign args = lawful_ends a own _ _ (λ now. search building)
 build_lawful a own free d line Find args = lawful_quiet a own _ _ (quiet_find_shown d a args.first.text)
 build_lawful a own free d line Program args = lawful_play a own _ _ (λ now. search program_made_open) (mine_program_made d a args.first.text)
 build_lawful a own free d line Edit args = lawful_play a own _ _ (λ now. search program_edited_open) (mine_program_edited d a args.first.object)

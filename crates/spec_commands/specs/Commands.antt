@@ -18,7 +18,7 @@ use Rattle.spec_commands.specs.declared.word.PlayWord.{PlayWord}
 use Rattle.spec_commands.specs.declared.word.PlayWord.TheVariants.{Look, Say, Pose, Page, Whisper, Go, Get, Drop, Inventory, Home, Examine, Who, Quit}
 use Rattle.spec_commands.specs.declared.word.Message.TheVariants.{Describe, Success, OthersSuccess, Fail, OthersFail, Drop as DropMessage, OthersDrop}
 use Rattle.spec_commands.specs.declared.word.BuildWord.{BuildWord}
-use Rattle.spec_commands.specs.declared.word.BuildWord.TheVariants.{Dig, Create, Open, Action, Link, Unlink, Name, Set, Lock, Unlock, Teleport, Recycle, Chown, Find, Program, Edit, List as ListWord, Run}
+use Rattle.spec_commands.specs.declared.word.BuildWord.TheVariants.{Dig, Create, Open, Action, Link, Unlink, Name, Set, Lock, Unlock, Teleport, Recycle, Chown, Assign, Find, Program, Edit, List as ListWord, Run}
 use Rattle.spec_commands.specs.Texts.{first_word, other_words, trimmed}
 use Rattle.spec_commands.specs.Replies.{goodbye, huh, set_reply, unlocked_reply}
 pub use Rattle.spec_commands.specs.Messages.{message_name}
@@ -26,6 +26,7 @@ use Rattle.spec_commands.specs.Finding.{looked, look_shown, examined}
 use Rattle.spec_commands.specs.Talking.{said, posed, paged, whispered, who_shown}
 use Rattle.spec_commands.specs.Going.{Play, ended, gone_home, walked, went, taken, dropped, inventory_shown}
 use Rattle.spec_commands.specs.Building.{made, thing_made, exit_opened, link_set, link_cleared, name_set, kept, lock_set, teleported, recycled, chowned, find_shown}
+use Rattle.spec_commands.specs.Settings.{assigned}
 use Rattle.spec_commands.specs.Programming.{program_made, program_edited, program_listed, program_run}
 use Rattle.spec_commands.specs.Reading.{is_empty, shaped, with_arguments, by_table}
 
@@ -124,6 +125,7 @@ build_words =
     (codes "@teleport", Teleport) ∷
     (codes "@recycle", Recycle) ∷
     (codes "@chown", Chown) ∷
+    (codes "@set", Assign) ∷
     (codes "@find", Find) ∷
     (codes "@program", Program) ∷
     (codes "@edit", Edit) ∷
@@ -146,6 +148,7 @@ build_shape Unlock = shaped One Object Nothing
 build_shape Teleport = shaped Full Object Found
 build_shape Recycle = shaped One Object Nothing
 build_shape Chown = shaped Full Object Player
+build_shape Assign = shaped Full Object Text
 build_shape Find = shaped One Text Nothing
 build_shape Program = shaped One NewName Nothing
 build_shape Edit = shaped One ProgramWant Nothing
@@ -167,6 +170,7 @@ build_done d a line Unlock args = ended Done (kept d a args.first.object (codes 
 build_done d a line Teleport args = ended Done (teleported d a args.first.object args.second.object)
 build_done d a line Recycle args = ended Done (recycled d a args.first.object)
 build_done d a line Chown args = ended Done (chowned d a args.first.object args.second.object)
+build_done d a line Assign args = ended Done (assigned d a args.first.object args.second.text)
 build_done d a line Find args = ended Done (find_shown d a args.first.text)
 build_done d a line Program args = program_made d a args.first.text
 build_done d a line Edit args = program_edited d a args.first.object

@@ -5,6 +5,7 @@ pub mod Finding
 pub mod Talking
 pub mod Going
 pub mod Building
+pub mod Settings
 pub mod Programming
 pub mod Reading
 pub mod Commands

@@ -121,6 +121,12 @@ recycled_reply = codes "Recycled."
 unfoldable pub chowned_reply : List ℕ
 chowned_reply = codes "Owner changed."
 
+unfoldable pub flag_reply : List ℕ
+flag_reply = codes "Flag set."
+
+unfoldable pub property_reply : List ℕ
+property_reply = codes "Property set."
+
 unfoldable pub entering_editor : List ℕ
 entering_editor = codes "Entering editor."
 

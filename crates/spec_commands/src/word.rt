@@ -46,6 +46,7 @@ pub enum BuildWord {
     Teleport,
     Recycle,
     Chown,
+    Assign,
     Find,
     Program,
     Edit,
