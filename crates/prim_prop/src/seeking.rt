@@ -36,7 +36,6 @@ fn place_above(db: &Db, object: Dbref) -> Option<Dbref>
 }
 
 // An item upon an object.
-#[tactic(auto, using(muf_model::proofs::Views::view_steps))]
 fn held_by(alloc: Global, holder: Dbref, item: Value) -> Result<Made, NoMemory>
     ensures { IfOk result (λ made. items_of made ≡ view item ∷ object holder.0 ∷ []) }
 {

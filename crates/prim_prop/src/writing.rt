@@ -49,7 +49,6 @@ fn put_at(
 }
 
 // What the top stores: an integer or a text.
-#[tactic(auto, using(muf_model::proofs::Views::view_steps))]
 fn stored_by(alloc: Global, frame: &Frame) -> Result<Option<PropValue>, NoMemory>
     ensures { IfOk result (λ value. value ≡ stored_by (flat frame.now).stack) }
 {
