@@ -5,7 +5,7 @@ use Rattle.std.specs.Option.{option_map_or}
 use Rattle.muck_model.specs.declared.dbref.Dbref.{Dbref}
 use Rattle.muck_prop.specs.declared.path.PropFault.{PropFault}
 use Rattle.muck_prop.specs.declared.value.PropValue.{PropValue}
-use Rattle.muck_prop.specs.Paths.{path_fault, segments_of}
+use Rattle.muck_prop.specs.Paths.{path_fault, path_text, segments_of}
 use Rattle.spec_live.specs.declared.object.Object.{Object}
 use Rattle.spec_live.specs.declared.fault.DbFault.{DbFault}
 use Rattle.spec_live.specs.declared.fault.DbFault.TheVariants.{NoMemory as WantsMemory, NoSuchObject, WrongKind}
@@ -19,7 +19,7 @@ use Rattle.spec_rights.specs.Verdict.{verdict}
 use Rattle.spec_rights.specs.Changing.{stored, unstored}
 use Rattle.muf_model.specs.declared.fault.MufFault.{MufFault}
 use Rattle.muf_model.specs.declared.fault.MufFault.TheVariants.{BadArgument}
-use Rattle.muf_model.specs.Datum.{Datum, object}
+use Rattle.muf_model.specs.Datum.{Datum, text, object}
 use Rattle.muf_frame.specs.declared.fault.PrimFault.{PrimFault}
 use Rattle.muf_frame.specs.declared.fault.PrimFault.TheVariants.{Fault, NoMemory}
 use Rattle.muck_perm.specs.declared.guard.Guard.{Guard}
@@ -27,12 +27,14 @@ use Rattle.muck_perm.specs.Guards.{Same, Done, Tries, Makes as Changes, objects_
 use Rattle.muck_perm.proofs.Worlds.{kept_itself, same_as}
 use Rattle.spec_prims.specs.Asking.{numbered, fault_of}
 use Rattle.spec_prims.specs.Row.{Row, gives, refuses, unless}
-use Rattle.spec_prims.specs.PropRows.{at_path, looked, sought, removed, first_holder, put_at}
+use Rattle.spec_prims.specs.PropRows.{at_path, looked, sought, name_fault, begins, next_read, walked, removed, first_holder, put_at}
 use Rattle.prim_common.specs.declared.made.Made.{Made}
 use Rattle.prim_common.specs.declared.made.Made.TheVariants.{Nothing}
 use Rattle.prim_common.specs.Applied.{Makes, items_of}
 use Rattle.prim_prop.specs.Asked.{IsPathed, MayPass, IsWritten, named_in}
-use Rattle.prim_prop.proofs.Taken.{looked_at, sought_at, removed_at}
+use Rattle.prim_prop.specs.declared.walking.Start.{Start}
+use Rattle.prim_prop.specs.Walks.{Starts, begun}
+use Rattle.prim_prop.proofs.Taken.{looked_at, sought_at, walked_at, removed_at}
 
 -- refused, wanting memory, and made
 
@@ -56,6 +58,10 @@ pub no_path : (all row : Row) (t : List ℕ) (g : Guard) (e : PrimFault) → all
 no_path all row t g (Fault f) is h = refused all g f (is ∙ no_path_by (path_fault t) row h.0 ∙ ap refuses (sym h.1))
 no_path all row t g NoMemory is h = wants all g g (same_as g g refl)
 
+pub no_name : (all row : Row) (t : List ℕ) (g : Guard) (e : PrimFault) → all ≡ at_path (name_fault t) row → Starts t (Err e) → Makes all g g (Err e)
+no_name all row t g (Fault f) is h = refused all g f (is ∙ no_path_by (name_fault t) row h.0 ∙ ap refuses (sym h.1))
+no_name all row t g NoMemory is h = wants all g g (same_as g g refl)
+
 past_path : (t : List ℕ) (row : Row) → path_fault t ≡ None → at_path (path_fault t) row ≡ row
 past_path t row e = ap (λ o. at_path o row) e
 
@@ -78,6 +84,12 @@ pub seek_row : (shown : Option PropValue → Datum) (a : Actor) (stack : List Da
     sought shown a (take 2 stack) w ≡ first_holder shown a path (numbered d ∷ places_of w.objects (numbered d)) w
 seek_row shown a stack w d t path e fine is =
     sought_at shown a stack w d t e ∙ past_path t _ fine ∙ ap (λ (p : List (List ℕ)). first_holder shown a p (numbered d ∷ places_of w.objects (numbered d)) w) (sym is)
+
+pub walk_row : (a : Actor) (stack : List Datum) (w : Live) (d : ℤ) (t : List ℕ) (start : Start) → named_in stack ≡ Some (d, t) → Starts t (Ok start) →
+    walked a (take 2 stack) w ≡ gives (text (option_map_or path_text (next_read a (numbered d) (begun start) w) []) ∷ []) w
+walk_row a stack w d t start e from =
+    walked_at a stack w d t e ∙ ap (λ (o : Option PropFault). at_path o (gives (text (option_map_or path_text (next_read a (numbered d) (begins t) w) []) ∷ []) w)) from.0
+    ∙ ap (λ (f : List (List ℕ) × Option (List (List ℕ))). gives (text (option_map_or path_text (next_read a (numbered d) f w) []) ∷ []) w) from.1
 
 pub put_row : (a : Actor) (w : Live) (d : ℤ) (t : List ℕ) (v : PropValue) (path : List (List ℕ)) → path_fault t ≡ None → path ≡ segments_of t →
     put_at a t d v w ≡ unless (fault_of (verdict w.objects a (Write (numbered d) path))) (gives [] (stored (numbered d) path v w))
