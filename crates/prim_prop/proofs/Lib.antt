@@ -2,6 +2,5 @@ pub mod Taken
 pub mod Steps
 pub mod Missing
 pub mod Behind
-pub mod Holders
 pub mod Walks
 pub mod Fronts

@@ -5,7 +5,7 @@ use Rattle.std.specs.Option.{option_map_or}
 use Rattle.muck_model.specs.declared.dbref.Dbref.{Dbref}
 use Rattle.muck_prop.specs.declared.path.PropFault.{PropFault}
 use Rattle.muck_prop.specs.declared.value.PropValue.{PropValue}
-use Rattle.muck_prop.specs.Paths.{path_fault, segments_of}
+use Rattle.muck_prop.specs.Paths.{path_fault, path_text, segments_of}
 use Rattle.spec_live.specs.declared.object.Object.{Object}
 use Rattle.spec_live.specs.declared.fault.DbFault.{DbFault}
 use Rattle.spec_live.specs.declared.fault.DbFault.TheVariants.{NoMemory as WantsMemory, NoSuchObject, WrongKind}
@@ -19,19 +19,22 @@ use Rattle.spec_rights.specs.Verdict.{verdict}
 use Rattle.spec_rights.specs.Changing.{stored, unstored}
 use Rattle.muf_model.specs.declared.fault.MufFault.{MufFault}
 use Rattle.muf_model.specs.declared.fault.MufFault.TheVariants.{BadArgument}
-use Rattle.muf_model.specs.Datum.{Datum, object}
+use Rattle.muf_model.specs.Datum.{Datum, text, object}
 use Rattle.muf_frame.specs.declared.fault.PrimFault.{PrimFault}
 use Rattle.muf_frame.specs.declared.fault.PrimFault.TheVariants.{Fault, NoMemory}
 use Rattle.muck_perm.specs.declared.guard.Guard.{Guard}
-use Rattle.muck_perm.specs.Guards.{Same, Done, Tries, Makes as Changes, with_world, world_of}
+use Rattle.muck_perm.specs.Guards.{Same, Done, Tries, Makes as Changes, objects_of, world_of}
+use Rattle.muck_perm.proofs.Worlds.{kept_itself, same_as}
 use Rattle.spec_prims.specs.Asking.{numbered, fault_of}
 use Rattle.spec_prims.specs.Row.{Row, gives, refuses, unless}
-use Rattle.spec_prims.specs.PropRows.{at_path, looked, sought, removed, first_holder, put_at}
+use Rattle.spec_prims.specs.PropRows.{at_path, looked, sought, name_fault, begins, next_read, walked, removed, first_holder, put_at}
 use Rattle.prim_common.specs.declared.made.Made.{Made}
 use Rattle.prim_common.specs.declared.made.Made.TheVariants.{Nothing}
 use Rattle.prim_common.specs.Applied.{Makes, items_of}
 use Rattle.prim_prop.specs.Asked.{IsPathed, MayPass, IsWritten, named_in}
-use Rattle.prim_prop.proofs.Taken.{looked_at, sought_at, removed_at}
+use Rattle.prim_prop.specs.declared.walking.Start.{Start}
+use Rattle.prim_prop.specs.Walks.{Starts, begun}
+use Rattle.prim_prop.proofs.Taken.{looked_at, sought_at, walked_at, removed_at}
 
 -- refused, wanting memory, and made
 
@@ -43,9 +46,7 @@ wants (gives items w) old new h = h
 wants (refuses f) old new h = h
 
 pub made_items : (row : Row) (g : Guard) (items : List Datum) (made : Made) → row ≡ gives items (world_of g) → items_of made ≡ items → Makes row g g (Ok made)
-made_items row g items made e is =
-    let same : g ≡ with_world (world_of g) g = refl in
-    subst (λ r. Makes r g g (Ok made)) (sym e) (is, same)
+made_items row g items made e is = subst (λ r. Makes r g g (Ok made)) (sym e) (is, refl, kept_itself g)
 
 -- at a path, and by leave
 
@@ -55,14 +56,18 @@ no_path_by (Some f) row e = refl
 
 pub no_path : (all row : Row) (t : List ℕ) (g : Guard) (e : PrimFault) → all ≡ at_path (path_fault t) row → IsPathed t (Err e) → Makes all g g (Err e)
 no_path all row t g (Fault f) is h = refused all g f (is ∙ no_path_by (path_fault t) row h.0 ∙ ap refuses (sym h.1))
-no_path all row t g NoMemory is h = wants all g g (refl, refl)
+no_path all row t g NoMemory is h = wants all g g (same_as g g refl)
+
+pub no_name : (all row : Row) (t : List ℕ) (g : Guard) (e : PrimFault) → all ≡ at_path (name_fault t) row → Starts t (Err e) → Makes all g g (Err e)
+no_name all row t g (Fault f) is h = refused all g f (is ∙ no_path_by (name_fault t) row h.0 ∙ ap refuses (sym h.1))
+no_name all row t g NoMemory is h = wants all g g (same_as g g refl)
 
 past_path : (t : List ℕ) (row : Row) → path_fault t ≡ None → at_path (path_fault t) row ≡ row
 past_path t row e = ap (λ o. at_path o row) e
 
 pub no_leave : (all row : Row) (o : Option MufFault) (g : Guard) (e : PrimFault) → all ≡ unless o row → MayPass o (Err e) → Makes all g g (Err e)
 no_leave all row o g (Fault f) is h = refused all g f (is ∙ ap (λ x. unless x row) h)
-no_leave all row o g NoMemory is h = wants all g g (refl, refl)
+no_leave all row o g NoMemory is h = wants all g g (same_as g g refl)
 
 pub past_leave : (all row : Row) (o : Option MufFault) → all ≡ unless o row → o ≡ None → all ≡ row
 past_leave all row o is e = is ∙ ap (λ x. unless x row) e
@@ -80,6 +85,12 @@ pub seek_row : (shown : Option PropValue → Datum) (a : Actor) (stack : List Da
 seek_row shown a stack w d t path e fine is =
     sought_at shown a stack w d t e ∙ past_path t _ fine ∙ ap (λ (p : List (List ℕ)). first_holder shown a p (numbered d ∷ places_of w.objects (numbered d)) w) (sym is)
 
+pub walk_row : (a : Actor) (stack : List Datum) (w : Live) (d : ℤ) (t : List ℕ) (start : Start) → named_in stack ≡ Some (d, t) → Starts t (Ok start) →
+    walked a (take 2 stack) w ≡ gives (text (option_map_or path_text (next_read a (numbered d) (begun start) w) []) ∷ []) w
+walk_row a stack w d t start e from =
+    walked_at a stack w d t e ∙ ap (λ (o : Option PropFault). at_path o (gives (text (option_map_or path_text (next_read a (numbered d) (begins t) w) []) ∷ []) w)) from.0
+    ∙ ap (λ (f : List (List ℕ) × Option (List (List ℕ))). gives (text (option_map_or path_text (next_read a (numbered d) f w) []) ∷ []) w) from.1
+
 pub put_row : (a : Actor) (w : Live) (d : ℤ) (t : List ℕ) (v : PropValue) (path : List (List ℕ)) → path_fault t ≡ None → path ≡ segments_of t →
     put_at a t d v w ≡ unless (fault_of (verdict w.objects a (Write (numbered d) path))) (gives [] (stored (numbered d) path v w))
 put_row a w d t v path fine is =
@@ -93,47 +104,47 @@ remove_row a stack w d t path e fine is =
 -- what a writer has answered
 
 abbrev Still : Dbref → Change → Guard → Type 0
-Still d f old = number_in old.db.now d ≡ None → f (world_of old) ≡ world_of old
+Still d f old = number_in (objects_of old) d ≡ None → f (world_of old) ≡ world_of old
 
 still_stored : (d : Dbref) (path : List (List ℕ)) (v : PropValue) (old : Guard) → Still d (stored d path v) old
 unfolding stored
-still_stored d path v old e = ap (λ (o : Option ℕ). record (world_of old) { objects = option_map_or (λ n. set_at (with_prop path v) n old.db.now) o old.db.now }) e
+still_stored d path v old e = ap (λ (o : Option ℕ). record (world_of old) { objects = option_map_or (λ n. set_at (with_prop path v) n (objects_of old)) o (objects_of old) }) e
 
 still_unstored : (d : Dbref) (path : List (List ℕ)) (old : Guard) → Still d (unstored d path) old
 unfolding unstored
-still_unstored d path old e = ap (λ (o : Option ℕ). record (world_of old) { objects = option_map_or (λ n. set_at (without_prop path) n old.db.now) o old.db.now }) e
+still_unstored d path old e = ap (λ (o : Option ℕ). record (world_of old) { objects = option_map_or (λ n. set_at (without_prop path) n (objects_of old)) o (objects_of old) }) e
 
-same_guard : (old new : Guard) → new ≡ old → Same old new
-same_guard old new e = (ap (λ (g : Guard). g.db.ghost_name) e, ap (λ (g : Guard). g.board.ghost_name) e)
+done_itself : (f : Change) (old new : Guard) → f (world_of old) ≡ world_of old → new ≡ old → Done f old new
+done_itself f old new still e = subst (λ g. Done f old g) (sym e) (sym still, kept_itself old)
 
-nothing_made : (row : Row) (v : Live) (old new : Guard) (made : Result Made PrimFault) → row ≡ gives [] v → new ≡ with_world v old → made ≡ Ok Nothing → Makes row old new made
-nothing_made row v old new made is e m = subst (Makes row old new) (sym m) (subst (λ r. Makes r old new (Ok Nothing)) (sym is) (refl, e))
+nothing_made : (f : Change) (row : Row) (old new : Guard) (made : Result Made PrimFault) → row ≡ gives [] (f (world_of old)) → Done f old new → made ≡ Ok Nothing → Makes row old new made
+nothing_made f row old new made is e m = subst (Makes row old new) (sym m) (subst (λ r. Makes r old new (Ok Nothing)) (sym is) (refl, e.0, e.1))
 
 memory_wanted : (row : Row) (old new : Guard) (made : Result Made PrimFault) → new ≡ old → made ≡ Err NoMemory → Makes row old new made
-memory_wanted row old new made e m = subst (Makes row old new) (sym m) (wants row old new (same_guard old new e))
+memory_wanted row old new made e m = subst (Makes row old new) (sym m) (wants row old new (same_as old new e))
 
-refusal_made : (row : Row) (v : Live) (old new : Guard) (f : DbFault) (made : Result Made PrimFault) → row ≡ gives [] v → v ≡ world_of old → new ≡ old → IsWritten (Err f) made → Makes row old new made
-refusal_made row v old new WantsMemory made is still e m = memory_wanted row old new made e m
-refusal_made row v old new _ made is still e m = nothing_made row v old new made is (let same : old ≡ with_world (world_of old) old = refl in e ∙ same ∙ ap (λ u. with_world u old) (sym still)) m
+refusal_made : (f : Change) (row : Row) (old new : Guard) (fault : DbFault) (made : Result Made PrimFault) → row ≡ gives [] (f (world_of old)) → f (world_of old) ≡ world_of old → new ≡ old → IsWritten (Err fault) made → Makes row old new made
+refusal_made f row old new WantsMemory made is still e m = memory_wanted row old new made e m
+refusal_made f row old new _ made is still e m = nothing_made f row old new made is (done_itself f old new still e) m
 
-tried_so : (d : Dbref) (f : Change) (old new : Guard) (row : Row) (o : Option ℕ) (r : Result (Unit {0}) DbFault) (made : Result Made PrimFault) → Still d f old → number_in old.db.now d ≡ o → row ≡ gives [] (f (world_of old)) →
+tried_so : (d : Dbref) (f : Change) (old new : Guard) (row : Row) (o : Option ℕ) (r : Result (Unit {0}) DbFault) (made : Result Made PrimFault) → Still d f old → number_in (objects_of old) d ≡ o → row ≡ gives [] (f (world_of old)) →
     Tries f (option_map_or (λ n. if any n then Ok n else Err WrongKind) o (Err NoSuchObject)) old new r → IsWritten r made → Makes row old new made
-tried_so d f old new row (Some n) (Ok u) made still e is h m = nothing_made row (f (world_of old)) old new made is h m
+tried_so d f old new row (Some n) (Ok u) made still e is h m = nothing_made f row old new made is h m
 tried_so d f old new row (Some n) (Err g) made still e is h m = memory_wanted row old new made h.1 (subst (λ x. IsWritten (Err x) made) h.0 m)
 tried_so d f old new row None (Ok u) made still e is h m = absurd h
-tried_so d f old new row None (Err g) made still e is h m = refusal_made row (f (world_of old)) old new g made is (still e) h.1 m
+tried_so d f old new row None (Err g) made still e is h m = refusal_made f row old new g made is (still e) h.1 m
 
-changed_so : (d : Dbref) (f : Change) (old new : Guard) (row : Row) (o : Option ℕ) (r : Result (Unit {0}) DbFault) (made : Result Made PrimFault) → Still d f old → number_in old.db.now d ≡ o → row ≡ gives [] (f (world_of old)) →
+changed_so : (d : Dbref) (f : Change) (old new : Guard) (row : Row) (o : Option ℕ) (r : Result (Unit {0}) DbFault) (made : Result Made PrimFault) → Still d f old → number_in (objects_of old) d ≡ o → row ≡ gives [] (f (world_of old)) →
     Changes f (option_map_or (λ n. if any n then Ok n else Err WrongKind) o (Err NoSuchObject)) old new r → IsWritten r made → Makes row old new made
-changed_so d f old new row (Some n) r made still e is h m = nothing_made row (f (world_of old)) old new made is h.1 (subst (λ x. IsWritten x made) h.0 m)
-changed_so d f old new row None r made still e is h m = refusal_made row (f (world_of old)) old new NoSuchObject made is (still e) h.1 (subst (λ x. IsWritten x made) h.0 m)
+changed_so d f old new row (Some n) r made still e is h m = nothing_made f row old new made is h.1 (subst (λ x. IsWritten x made) h.0 m)
+changed_so d f old new row None r made still e is h m = refusal_made f row old new NoSuchObject made is (still e) h.1 (subst (λ x. IsWritten x made) h.0 m)
 
 pub stored_so : (d : Dbref) (path : List (List ℕ)) (v : PropValue) (old new : Guard) (row : Row) (r : Result (Unit {0}) DbFault) (made : Result Made PrimFault) → row ≡ gives [] (stored d path v (world_of old)) →
-    Tries (stored d path v) (checked any d old.db.now) old new r → IsWritten r made → Makes row old new made
+    Tries (stored d path v) (checked any d (objects_of old)) old new r → IsWritten r made → Makes row old new made
 unfolding checked
-stored_so d path v old new row r made is h m = tried_so d (stored d path v) old new row (number_in old.db.now d) r made (still_stored d path v old) refl is h m
+stored_so d path v old new row r made is h m = tried_so d (stored d path v) old new row (number_in (objects_of old) d) r made (still_stored d path v old) refl is h m
 
 pub unstored_so : (d : Dbref) (path : List (List ℕ)) (old new : Guard) (row : Row) (r : Result (Unit {0}) DbFault) (made : Result Made PrimFault) → row ≡ gives [] (unstored d path (world_of old)) →
-    Changes (unstored d path) (checked any d old.db.now) old new r → IsWritten r made → Makes row old new made
+    Changes (unstored d path) (checked any d (objects_of old)) old new r → IsWritten r made → Makes row old new made
 unfolding checked
-unstored_so d path old new row r made is h m = changed_so d (unstored d path) old new row (number_in old.db.now d) r made (still_unstored d path old) refl is h m
+unstored_so d path old new row r made is h m = changed_so d (unstored d path) old new row (number_in (objects_of old) d) r made (still_unstored d path old) refl is h m

@@ -1,9 +1,10 @@
 -- Rows, by what stands on the stack.
 use Rattle.std.proofs.Common.{◌≡◌, ℕ, zero, suc, ◌+◌, List, [], ◌∷◌, take, drop, Option, Some, None, refl, ap, sym, ◌∙◌, add-one}
 use Rattle.std.specs.Prelude.{ℤ, option_map}
+use Rattle.std.specs.Option.{option_map_or}
 use Rattle.muck_prop.specs.declared.value.PropValue.{PropValue}
 use Rattle.muck_prop.specs.declared.value.PropValue.TheVariants.{Text, Number}
-use Rattle.muck_prop.specs.Paths.{path_fault, segments_of}
+use Rattle.muck_prop.specs.Paths.{path_fault, path_text, segments_of}
 use Rattle.spec_live.specs.declared.object.Object.{Object}
 use Rattle.spec_live.specs.Lives.{Live}
 use Rattle.spec_live.specs.Seen.{places_of}
@@ -11,10 +12,10 @@ use Rattle.spec_rights.specs.declared.act.Actor.{Actor}
 use Rattle.spec_rights.specs.Changing.{unstored}
 use Rattle.muf_model.specs.declared.fault.MufFault.TheVariants.{BadType}
 use Rattle.muf_model.specs.Datum.{Datum, int, text, object}
-use Rattle.muf_frame.specs.Answers.{text_at, object_at}
+use Rattle.muf_frame.specs.Answers.{int_at, text_at, object_at}
 use Rattle.spec_prims.specs.Asking.{numbered}
-use Rattle.spec_prims.specs.Row.{Row, refuses}
-use Rattle.spec_prims.specs.PropRows.{at_path, seen_at, looked, first_holder, sought, written_at, put_at, put, text_or, added, removed}
+use Rattle.spec_prims.specs.Row.{Row, gives, refuses}
+use Rattle.spec_prims.specs.PropRows.{at_path, seen_at, looked, first_holder, sought, next_read, begins, name_fault, walked, written_at, put_at, put, text_or, added, removed}
 use Rattle.prim_prop.specs.Asked.{named_in, stored_by, added_by}
 
 some_is : {A : Type 0} (a b : A) → Some a ≡ Some b → a ≡ b
@@ -83,6 +84,19 @@ sought_at shown a (text u ∷ object o ∷ rest) w d t e =
     ap (λ (q : ℤ × List ℕ). at_path (path_fault q.1) (first_holder shown a (segments_of q.1) (numbered q.0 ∷ places_of w.objects (numbered q.0)) w)) (some_is (o, u) (d, t) e)
 sought_at shown a stack w d t e = absurd (cc)
 
+pub walked_none : (a : Actor) (stack : List Datum) (w : Live) → named_in stack ≡ None → walked a (take 2 stack) w ≡ refuses BadType
+walked_none a (text t ∷ object d ∷ rest) w e = absurd (cc)
+walked_none a [] w e = refl
+walked_none a (text t ∷ []) w e = refl
+walked_none a (_ ∷ []) w e = refl
+walked_none a (_ ∷ _ ∷ rest) w e = refl
+
+pub walked_at : (a : Actor) (stack : List Datum) (w : Live) (d : ℤ) (t : List ℕ) → named_in stack ≡ Some (d, t) →
+    walked a (take 2 stack) w ≡ at_path (name_fault t) (gives (text (option_map_or path_text (next_read a (numbered d) (begins t) w) []) ∷ []) w)
+walked_at a (text u ∷ object o ∷ rest) w d t e =
+    ap (λ (q : ℤ × List ℕ). at_path (name_fault q.1) (gives (text (option_map_or path_text (next_read a (numbered q.0) (begins q.1) w) []) ∷ []) w)) (some_is (o, u) (d, t) e)
+walked_at a stack w d t e = absurd (cc)
+
 pub removed_none : (a : Actor) (stack : List Datum) (w : Live) → named_in stack ≡ None → removed a (take 2 stack) w ≡ refuses BadType
 removed_none a (text t ∷ object d ∷ rest) w e = absurd (cc)
 removed_none a [] w e = refl
@@ -97,6 +111,22 @@ removed_at a (text u ∷ object o ∷ rest) w d t e =
 removed_at a stack w d t e = absurd (cc)
 
 -- what is stored upon these
+
+pub stored_int : (stack : List Datum) (n : ℤ) → int_at 0 stack ≡ Some n → stored_by stack ≡ Some (Number n)
+stored_int (int m ∷ rest) n e = ap (λ k. Some (Number k)) (some_is m n e)
+stored_int stack n e = absurd (cc)
+
+pub stored_text : (stack : List Datum) (t : List ℕ) → text_at 0 stack ≡ Some t → stored_by stack ≡ Some (Text t)
+stored_text (text u ∷ rest) t e = ap (λ k. Some (Text k)) (some_is u t e)
+stored_text stack t e = absurd (cc)
+
+pub stored_none : (stack : List Datum) → int_at 0 stack ≡ None → text_at 0 stack ≡ None → stored_by stack ≡ None
+stored_none (int m ∷ rest) e f = absurd (cc)
+stored_none (text u ∷ rest) e f = absurd (cc)
+stored_none [] e f = refl
+stored_none (_ ∷ rest) e f = refl
+
+pub ruleset stored_steps = (stored_int, stored_text, stored_none)
 
 pub put_bad : (a : Actor) (stack : List Datum) (w : Live) → stored_by stack ≡ None → put a (take 3 stack) w ≡ refuses BadType
 put_bad a (int n ∷ rest) w e = absurd (cc)

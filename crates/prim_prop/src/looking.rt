@@ -36,7 +36,6 @@ pub enum Look {
 }
 
 /// A text as an item.
-#[tactic(auto, using(muf_model::proofs::Views::view_steps))]
 pub(crate) fn text_item(alloc: Global, line: Line) -> Result<Value, NoMemory>
     ensures { IfOk result (λ v. view v ≡ text line) }
 {
@@ -44,7 +43,6 @@ pub(crate) fn text_item(alloc: Global, line: Line) -> Result<Value, NoMemory>
     Ok(Value::Str(line))
 }
 
-#[tactic(auto, using(muf_model::proofs::Views::view_steps))]
 fn as_item(alloc: Global, value: Option<&PropValue>) -> Result<Value, NoMemory>
     ensures { IfOk result (λ v. view v ≡ as_item (option_copied value.entry)) }
 {
@@ -64,7 +62,6 @@ fn as_text(alloc: Global, value: Option<&PropValue>) -> Result<Value, NoMemory>
     }
 }
 
-#[tactic(auto, using(muf_model::proofs::Views::view_steps))]
 fn as_number(value: Option<&PropValue>) -> Value
     ensures { view result ≡ as_number (option_copied value.entry) }
 {

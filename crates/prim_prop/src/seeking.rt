@@ -2,7 +2,7 @@
 ghost use Rattle.std.specs.Prelude.{◌≡◌, [], ◌∷◌, IfOk, MatchOption, take};
 ghost use Rattle.spec_live.specs.Seen.{places_of};
 ghost use Rattle.muf_frame.specs.Shown.{Shown, flat};
-ghost use Rattle.muck_perm.specs.Guards.{world_of};
+ghost use Rattle.muck_perm.specs.Guards.{objects_of, world_of};
 ghost use Rattle.spec_prims.specs.PropRows.{first_holder, sought};
 ghost use Rattle.prim_common.specs.Applied.{Makes, items_of};
 ghost use Rattle.muf_model.specs.Datum.{object};
@@ -36,7 +36,6 @@ fn place_above(db: &Db, object: Dbref) -> Option<Dbref>
 }
 
 // An item upon an object.
-#[tactic(auto, using(muf_model::proofs::Views::view_steps))]
 fn held_by(alloc: Global, holder: Dbref, item: Value) -> Result<Made, NoMemory>
     ensures { IfOk result (λ made. items_of made ≡ view item ∷ object holder.0 ∷ []) }
 {
@@ -48,7 +47,7 @@ fn held_by(alloc: Global, holder: Dbref, item: Value) -> Result<Made, NoMemory>
 
 // The first of an object and its places upward that has a value at a path, each looked at by leave.
 fn seek_from(form: Form, guard: &Guard, object: Dbref, path: &Path) -> Result<Made, PrimFault>
-    ensures { Makes (first_holder (form_of form) guard.now.actor path.now (object ∷ places_of guard.now.db.now object) (world_of guard.now)) guard.now guard.now result }
+    ensures { Makes (first_holder (form_of form) guard.now.actor path.now (object ∷ places_of (objects_of guard.now) object) (world_of guard.now)) guard.now guard.now result }
 {
     let mut next = Some(object);
     while let Some(at) = next {

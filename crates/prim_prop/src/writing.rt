@@ -12,7 +12,7 @@ use muck_model::{Dbref, NoMemory};
 use muck_perm::{Guard, verdict};
 use muck_prop::PropValue;
 use muf_frame::{Frame, PrimFault};
-use muf_model::{MufFault, Text, Value};
+use muf_model::{MufFault, Text};
 use prim_common::Made;
 use spec_live::DbFault;
 use spec_rights::Act;
@@ -49,14 +49,16 @@ fn put_at(
 }
 
 // What the top stores: an integer or a text.
-#[tactic(auto, using(muf_model::proofs::Views::view_steps))]
+#[tactic(auto, using(crate::proofs::Taken::stored_steps))]
 fn stored_by(alloc: Global, frame: &Frame) -> Result<Option<PropValue>, NoMemory>
     ensures { IfOk result (λ value. value ≡ stored_by (flat frame.now).stack) }
 {
-    match frame.peek(0) {
-        Some(Value::Int(number)) => Ok(Some(PropValue::Number(*number))),
-        Some(Value::Str(text)) => Ok(Some(PropValue::Text(text.as_line().copy(alloc)?))),
-        _ => Ok(None),
+    if let Some(number) = frame.int_at(0) {
+        return Ok(Some(PropValue::Number(number)));
+    }
+    match frame.text_at(0) {
+        Some(text) => Ok(Some(PropValue::Text(text.as_line().copy(alloc)?))),
+        None => Ok(None),
     }
 }
 

@@ -1,6 +1,6 @@
 use Rattle.std.proofs.Common.{◌≡◌, ◌∷◌, length}
 use Rattle.spec_live.specs.Seen.{places_of}
-use Rattle.muck_perm.specs.Guards.{world_of}
+use Rattle.muck_perm.specs.Guards.{objects_of, world_of}
 use Rattle.spec_prims.specs.PropRows.{first_holder}
 use Rattle.prim_prop.specs.Looks.{form_of}
 use Rattle.prim_prop.specs.Upward.{upward_from}
@@ -9,8 +9,8 @@ use Rattle.prim_prop.proofs.seeking.seek_from.Given as goal
 -- those that were looked at have no value
 abbrev pub invariant-loop-next : goal.invariant-loop-next
 invariant-loop-next l =
-    first_holder (form_of l.fn.form) l.fn.guard.actor l.fn.path (l.fn.object ∷ places_of l.fn.guard.db.now l.fn.object) (world_of l.fn.guard)
-    ≡ first_holder (form_of l.fn.form) l.fn.guard.actor l.fn.path (upward_from l.fn.guard.db.now l.next) (world_of l.fn.guard)
+    first_holder (form_of l.fn.form) l.fn.guard.actor l.fn.path (l.fn.object ∷ places_of (objects_of l.fn.guard) l.fn.object) (world_of l.fn.guard)
+    ≡ first_holder (form_of l.fn.form) l.fn.guard.actor l.fn.path (upward_from (objects_of l.fn.guard) l.next) (world_of l.fn.guard)
 
 abbrev pub decreases-loop-next : goal.decreases-loop-next
-decreases-loop-next l = length (upward_from l.fn.guard.db.now l.next)
+decreases-loop-next l = length (upward_from (objects_of l.fn.guard) l.next)
