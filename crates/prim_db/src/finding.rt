@@ -25,7 +25,6 @@ const NOTHING: Dbref = Dbref(-1);
 const AMBIGUOUS: Dbref = Dbref(-2);
 
 // Those of one object.
-#[tactic(auto, using(crate::proofs::Items::object_steps))]
 fn of_object(prim: Prim, guard: &Guard, frame: &Frame) -> Result<Value, PrimFault>
     ensures { Finds (row.one_object (row.found_of prim) guard.now.actor (objects_of guard.now) (take 1 (flat frame.now).stack)) result }
 {
@@ -70,7 +69,6 @@ fn is_such(prim: Prim, guard: &Guard, item: &Value) -> bool
 }
 
 // Those that ask what an item is.
-#[tactic(auto, using(crate::proofs::Items::item_steps))]
 fn of_item(prim: Prim, guard: &Guard, frame: &Frame) -> Result<Value, PrimFault>
     ensures { Finds (row.one_item (row.kind_asked prim) guard.now.actor (objects_of guard.now) (take 1 (flat frame.now).stack)) result }
 {
