@@ -13,6 +13,7 @@ use crate::making::{make, make_thing, open};
 use crate::messages::set_message;
 use crate::programs::{edit, list, program, start};
 use crate::searching::find;
+use crate::settings::assign;
 use crate::writing::{link, rename, unlink};
 use cmd_common::{Write, after_word, arguments, done, looked_up, try_write};
 use muck_model::{Dbref, Line, NoMemory};
@@ -21,7 +22,7 @@ use spec_commands::{
     Arguments, BuildWord, Form, Message, New, Outcome, Shape, Want, cut_word, trim,
 };
 
-static WORDS: [(&[u8], BuildWord); 24] = [
+static WORDS: [(&[u8], BuildWord); 25] = [
     (b"@dig", BuildWord::Dig),
     (b"@create", BuildWord::Create),
     (b"@open", BuildWord::Open),
@@ -41,6 +42,7 @@ static WORDS: [(&[u8], BuildWord); 24] = [
     (b"@teleport", BuildWord::Teleport),
     (b"@recycle", BuildWord::Recycle),
     (b"@chown", BuildWord::Chown),
+    (b"@set", BuildWord::Assign),
     (b"@find", BuildWord::Find),
     (b"@program", BuildWord::Program),
     (b"@edit", BuildWord::Edit),
@@ -75,6 +77,7 @@ fn shape_of(command: BuildWord) -> Shape
         BuildWord::Link => (Form::Full, Want::Found, Want::Found),
         BuildWord::Teleport => (Form::Full, Want::Object, Want::Found),
         BuildWord::Chown => (Form::Full, Want::Object, Want::Player),
+        BuildWord::Assign => (Form::Full, Want::Object, Want::Text),
         BuildWord::Name => (Form::Two, Want::Object, Want::NewName),
         BuildWord::Set(_) | BuildWord::Lock => (Form::Two, Want::Object, Want::Text),
         BuildWord::Run => (Form::Two, Want::Program, Want::Text),
@@ -112,6 +115,7 @@ fn perform(
         BuildWord::Teleport => done(try_write(guard, d, Write::Place(x, y), b"Teleported.")),
         BuildWord::Recycle => done(try_write(guard, d, Write::Recycle(x), b"Recycled.")),
         BuildWord::Chown => done(try_write(guard, d, Write::Owner(x, y), b"Owner changed.")),
+        BuildWord::Assign => done(assign(guard, d, x, &behind)),
         BuildWord::Find => done(find(guard, d, &text)),
         BuildWord::Program => program(guard, d, text),
         BuildWord::Edit => edit(guard, d, x),

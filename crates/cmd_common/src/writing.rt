@@ -1,7 +1,8 @@
 // Writing what a rule or the world may refuse.
-ghost use Rattle.std.specs.Prelude.{◌≡◌, ◌||◌};
+ghost use Rattle.std.specs.Prelude.{◌≡◌, ◌||◌, true};
 ghost use Rattle.spec_live.specs.Objects.{nothing, is_thing, is_player};
 ghost use Rattle.spec_commands.specs.Building.{has_home, done_where, written};
+ghost use Rattle.spec_commands.specs.Settings.{setting_act, is_setting};
 ghost use Rattle.muck_perm.specs.Guards.{Did, IsLeave, world_of};
 ghost use Rattle.cmd_common.specs.Writes.{act_of, may, change_of, IsFit, IsDone};
 
@@ -9,6 +10,7 @@ use crate::replies::{cant_be_done, refuse};
 use muck_model::{Dbref, Kind, Line, NoMemory};
 use muck_perm::{Guard, Pass, verdict};
 use muck_prop::{Path, PropValue};
+use spec_commands::{Setting, setting_act};
 use spec_live::DbFault;
 use spec_rights::Act;
 
@@ -33,6 +35,8 @@ pub enum Write {
     Recycle(Dbref),
     /// A message or a lock at its path, which an empty text clears.
     Keep(Dbref, Path, Line),
+    /// A flag or a level.
+    Set(Dbref, Setting),
 }
 
 /// The act by which it is asked.
@@ -59,6 +63,7 @@ pub fn act_of(write: &Write) -> Act
         },
         Write::Recycle(object) => Act::Recycle { object: *object },
         Write::Keep(object, _, _) => Act::Change { object: *object },
+        Write::Set(object, setting) => setting_act(*object, *setting),
     }
 }
 
@@ -112,6 +117,20 @@ fn place(guard: &mut Guard, pass: Pass, x: Dbref, to: Dbref) -> Result<(), DbFau
     }
 }
 
+// Sets or clears a flag, or gives a level.
+#[tactic(auto, using(crate::proofs::Written::makes_done))]
+fn set(guard: &mut Guard, pass: Pass, x: Dbref, setting: Setting) -> Result<(), DbFault>
+    requires leave { IsLeave pass (setting_act x setting) guard.old }
+    requires one { is_setting setting ≡ true }
+    ensures { IsDone (may (Write.Set x setting) (world_of guard.old)) (change_of (Write.Set x setting)) guard.old guard.new result }
+{
+    match setting {
+        Setting::Flag(flag) => guard.set_flag(pass, x, flag),
+        Setting::NoFlag(flag) => guard.clear_flag(pass, x, flag),
+        Setting::Level(level) => guard.set_level(pass, x, level),
+    }
+}
+
 /// Does it by leave, where the world allows it; else nothing has changed, and after `NoMemory`.
 #[tactic(auto, using(crate::proofs::Written::makes_done, crate::proofs::Written::tries_done))]
 pub fn put(guard: &mut Guard, pass: Pass, write: Write) -> Result<(), DbFault>
@@ -127,6 +146,7 @@ pub fn put(guard: &mut Guard, pass: Pass, write: Write) -> Result<(), DbFault>
         Write::Unlink(x) => untie(guard, pass, x),
         Write::Recycle(x) => guard.recycle(pass, x),
         Write::Keep(x, path, text) => guard.store_message(pass, x, path, PropValue::Text(text)),
+        Write::Set(x, setting) => set(guard, pass, x, setting),
     }
 }
 

@@ -138,7 +138,7 @@ chowned_open a free d x owner = search writing
 
 -- Settings.
 
-set_so_open : (a : Actor) (free : Freedom) (x : Dbref) (setting : Setting) → is_setting setting ≡ true → Ends itself a free (Some (setting_act x setting)) (set_so x setting)
+pub set_so_open : (a : Actor) (free : Freedom) (x : Dbref) (setting : Setting) → is_setting setting ≡ true → Ends itself a free (Some (setting_act x setting)) (set_so x setting)
 set_so_open a free x (Flag flag) h = ends_flag_set a free x flag h
 set_so_open a free x (NoFlag flag) h = ends_flag_cleared a free x flag h
 set_so_open a free x (Level level) h = ends_leveled a free x level

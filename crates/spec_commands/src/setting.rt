@@ -2,10 +2,11 @@
 ghost use Rattle.std.specs.Prelude.{◌≡◌, ◌==◌, IfSome, true};
 ghost use Rattle.std.specs.List.{list_any};
 ghost use Rattle.spec_rights.specs.Changing.{is_flag};
-ghost use Rattle.spec_commands.specs.Settings.{flag_lettered, level_digit, setting_asked, is_setting};
+ghost use Rattle.spec_commands.specs.Settings.{flag_lettered, level_digit, setting_asked, setting_act, is_setting};
 
-use muck_model::Flags;
+use muck_model::{Dbref, Flags};
 use spec_live::flag_of;
+use spec_rights::Act;
 
 /// What a word sets of an object.
 #[derive(Clone, Copy)]
@@ -16,6 +17,16 @@ pub enum Setting {
     NoFlag(Flags),
     /// It has this level.
     Level(u8),
+}
+
+/// The act by which it is asked for an object.
+pub fn setting_act(object: Dbref, setting: Setting) -> Act
+    ensures { result ≡ setting_act object setting }
+{
+    match setting {
+        Setting::Flag(flag) | Setting::NoFlag(flag) => Act::SetFlag { object, flag },
+        Setting::Level(level) => Act::SetLevel { object, level },
+    }
 }
 
 // The letters of all flags.

@@ -1,19 +1,28 @@
 // The words of a line.
-ghost use Rattle.std.specs.Prelude.{◌≡◌};
+ghost use Rattle.std.specs.Prelude.{◌≡◌, ◌==◌};
+ghost use Rattle.std.specs.List.{before_first, after_first};
 ghost use Rattle.spec_commands.specs.Texts.{is_space, first_word, other_words, is_alike, start_trimmed, end_trimmed, trimmed};
 
 use muck_model::count_before;
+
+/// What stands before the first sign of a text, and what stands after it.
+pub fn cut_at(text: &[u8], sign: u8) -> (&[u8], &[u8])
+    ensures first { result.0.now ≡ before_first (λ b. b == sign) text.now }
+    ensures others { result.1.now ≡ after_first (λ b. b == sign) text.now }
+{
+    let (first, rest) = text.split_at(count_before(text, sign));
+    match rest.split_first() {
+        Some((_, others)) => (first, others),
+        None => (first, rest),
+    }
+}
 
 /// What stands before the first space of a line, and what stands after it.
 pub fn cut_word(line: &[u8]) -> (&[u8], &[u8])
     ensures first { result.0.now ≡ first_word line.now }
     ensures others { result.1.now ≡ other_words line.now }
 {
-    let (word, rest) = line.split_at(count_before(line, b' '));
-    match rest.split_first() {
-        Some((_, others)) => (word, others),
-        None => (word, rest),
-    }
+    cut_at(line, b' ')
 }
 
 fn trim_start(text: &[u8]) -> &[u8]
