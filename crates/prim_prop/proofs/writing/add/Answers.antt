@@ -17,5 +17,6 @@ returns c =
     let t = c.in-Some-named.text.now in
     let kept : added_by stack ≡ Some (n, u) = search rules in
     let found : named_in (drop 2 stack) ≡ Some (d.0, t) = search rules in
-    let row = added_so g.actor stack (world_of g) n u d.0 t kept found ∙ ap (λ v. put_at g.actor t d.0 v (world_of g)) (sym c.in_ok-value.ensures) in
+    let value : text_or u n ≡ c.in_ok-value.value = search rules in
+    let row = added_so g.actor stack (world_of g) n u d.0 t kept found ∙ ap (λ v. put_at g.actor t d.0 v (world_of g)) value in
     subst (λ row. Makes row g c.put_at.new.guard c.put_at.result) (sym row) c.put_at.ensures
