@@ -9,7 +9,7 @@ use Rattle.spec_live.specs.Flags.{flag_of}
 use Rattle.spec_rights.specs.Changing.{is_flag}
 use Rattle.spec_commands.specs.declared.setting.Setting.{Setting}
 use Rattle.spec_commands.specs.declared.setting.Setting.TheVariants.{Flag, NoFlag, Level}
-use Rattle.spec_commands.specs.Settings.{flag_lettered, level_digit, setting_asked, is_setting}
+use Rattle.spec_commands.specs.Settings.{flag_lettered, setting_asked, is_setting}
 
 abbrev one : ℕ → Flags
 one value = record { 0 = value }
