@@ -1,3 +1,5 @@
+mod Changing
 mod Items
 mod Lists
 mod Objects
+mod Taken
