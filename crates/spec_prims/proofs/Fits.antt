@@ -51,6 +51,7 @@ fits_connected_at a _ w = tt
 fits_descriptors : (a : Actor) (items : List Datum) (w : Live) → Fits items w (descriptors a items w)
 fits_descriptors a (object d ∷ []) w = inr refl
 fits_descriptors a _ w = tt
+
 fits_given : (items : List Datum) (w : Live) (found : Result Datum MufFault) → Fits items w (given w found)
 fits_given items w (Ok item) = inr refl
 fits_given items w (Err f) = tt

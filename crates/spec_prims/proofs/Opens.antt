@@ -17,7 +17,7 @@ use Rattle.spec_rights.proofs.Shown.{quiet_tell_player}
 use Rattle.spec_live.specs.Lives.{Change, unchanged}
 use Rattle.muf_model.specs.declared.fault.MufFault.{MufFault}
 use Rattle.muf_model.specs.declared.prims.Family.{Family}
-use Rattle.muf_model.specs.declared.prims.Family.TheVariants.{Object, Property, Talk}
+use Rattle.muf_model.specs.declared.prims.Family.TheVariants as kind
 use Rattle.muf_model.specs.declared.prims.Primitive.{Primitive}
 use Rattle.muf_model.specs.declared.prims.Primitive.TheVariants.{Notify, IsAwake, Online, ConCount, ConDbref, Descriptors, Descr, GetProp, GetPropStr, GetPropVal, SetProp, AddProp, RemoveProp, NextProp, IsPropDir, EnvProp, EnvPropStr}
 use Rattle.std.specs.Prelude.{ℤ}
@@ -64,6 +64,7 @@ opens_connected_at a _ w = tt
 opens_descriptors : (a : Actor) (items : List Datum) (w : Live) → RowOpen a w (descriptors a items w)
 opens_descriptors a (object d ∷ []) w = same_open a w
 opens_descriptors a _ w = tt
+
 opens_given : (a : Actor) (w : Live) (found : Result Datum MufFault) → RowOpen a w (given w found)
 opens_given a w (Ok item) = same_open a w
 opens_given a w (Err f) = tt
@@ -169,9 +170,9 @@ opens_property _ = tt
 -- and all of them
 
 opens_in : (descr : Option ℕ) (family : Family) (p : Primitive) → IsOpen (level_of p) (row_in descr family p)
-opens_in descr Object p = opens_object p
-opens_in descr Property p = opens_property p
-opens_in descr Talk p = opens_talk descr p
+opens_in descr kind.Object p = opens_object p
+opens_in descr kind.Property p = opens_property p
+opens_in descr kind.Talk p = opens_talk descr p
 opens_in descr _ p = tt
 
 opens_if : (b : Bool) (f : MufFault) (items : List Datum) (a : Actor) (w v : Live) → Licensed a nobody w v → RowOpen a w (cond b (refuses f) (gives items v))
