@@ -26,7 +26,7 @@ use Rattle.spec_prims.specs.ObjectWrites.{changed, given_made, made_so, new_made
 use Rattle.prim_common.specs.Applied.{Makes}
 use Rattle.prim_common.specs.declared.made.Made.{Made}
 use Rattle.prim_common.specs.declared.made.Made.TheVariants.{Nothing, One}
-use Rattle.prim_db.specs.Changed.{Allows, IsMade, Leaves}
+use Rattle.prim_db.specs.Changed.{IsMade, Leaves}
 
 -- after want of memory nothing is said of a row
 wants_in : (row : Row) (old new : Guard) → Same old new → Makes row old new (Err NoMemory)
@@ -45,11 +45,7 @@ passes_before (Some f) row old new result e h = absurd cc
 pub fails_before : (o : Option MufFault) (row : Row) (old new : Guard) (e : MufFault) → o ≡ Some e → new ≡ old → Makes (unless o row) old new (Err (Fault e))
 fails_before o row old new e h same = subst (λ o. Makes (unless o row) old new (Err (Fault e))) (sym h) (refl, same)
 
-pub refused_before : (o : Option MufFault) (row : Row) (old new : Guard) (e : PrimFault) → Allows o (Err e) → new ≡ old → Makes (unless o row) old new (Err e)
-refused_before o row old new (Fault f) h same = fails_before o row old new f h same
-refused_before o row old new NoMemory h same = absurd h
-
-pub ruleset before = (passes_before, fails_before, refused_before)
+pub ruleset before = (passes_before, fails_before)
 
 -- leave that isn't given
 

@@ -2,4 +2,5 @@ mod Changing
 mod Items
 mod Lists
 mod Objects
+mod Rules
 mod Taken

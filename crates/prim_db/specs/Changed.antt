@@ -1,5 +1,5 @@
 -- What the code of a change answers.
-use Rattle.std.specs.Prelude.{◌≡◌, Option, Some, None, Result, Ok, Err}
+use Rattle.std.specs.Prelude.{◌≡◌, Some, Result, Ok, Err}
 use Rattle.muck_model.specs.declared.dbref.Dbref.{Dbref}
 use Rattle.spec_live.specs.declared.fault.DbFault.{DbFault}
 use Rattle.spec_live.specs.declared.fault.DbFault.TheVariants.{NoMemory as WantsMemory, WorldFull as NoRoom}
@@ -8,7 +8,6 @@ use Rattle.spec_rights.specs.Verdict.{verdict}
 use Rattle.muck_perm.specs.declared.guard.Guard.{Guard}
 use Rattle.muck_perm.specs.declared.rules.Pass.{Pass}
 use Rattle.muck_perm.specs.Guards.{IsLeave, objects_of}
-use Rattle.muf_model.specs.declared.fault.MufFault.{MufFault}
 use Rattle.muf_model.specs.declared.fault.MufFault.TheVariants.{BadArgument, WorldFull}
 use Rattle.muf_model.specs.declared.value.Value.TheVariants.{Ref}
 use Rattle.muf_frame.specs.declared.fault.PrimFault.{PrimFault}
@@ -22,12 +21,6 @@ abbrev pub Leaves : Act → Guard → Result Pass PrimFault → Type 0
 Leaves act g (Ok pass) = IsLeave pass act g
 Leaves act g (Err (Fault f)) = fault_of (verdict (objects_of g) g.actor act) ≡ Some f
 Leaves act g (Err NoMemory) = ⊥
-
--- a test that needs no memory passes, or it has this fault
-abbrev pub Allows : Option MufFault → Result (Unit {0}) PrimFault → Type 0
-Allows o (Ok u) = o ≡ None
-Allows o (Err (Fault f)) = o ≡ Some f
-Allows o (Err NoMemory) = ⊥
 
 -- the number of what was made, or why nothing was
 abbrev pub IsMade : Result Dbref DbFault → Result Made PrimFault → Type 0

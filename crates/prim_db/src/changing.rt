@@ -18,8 +18,8 @@ use spec_commands::New;
 use spec_live::DbFault;
 use spec_rights::Act;
 
-/// Leave for an act.
-pub(crate) fn leave<'a>(guard: &Guard, act: &'a Act) -> Result<Pass<'a>, PrimFault>
+// Leave for an act.
+fn leave<'a>(guard: &Guard, act: &'a Act) -> Result<Pass<'a>, PrimFault>
     ensures { Leaves act.now guard.now result }
 {
     match verdict(guard.db(), &guard.actor(), act) {
@@ -117,6 +117,7 @@ pub(crate) fn rename(guard: &mut Guard, object: Dbref, name: &Text) -> Result<Ma
 }
 
 /// The fault of a number that names no object.
+#[tactic(auto, unfolding(spec_prims::specs::Asking::is_there))]
 pub(crate) fn missing(guard: &Guard, object: Dbref) -> Option<MufFault>
     ensures { result ≡ row.missing (objects_of guard.now) object }
 {

@@ -5,12 +5,11 @@ ghost use Rattle.muck_perm.specs.Guards.{objects_of, world_of};
 ghost use Rattle.muf_model.specs.declared.prims.Primitive.TheVariants.{MoveTo, SetLink, SetOwn};
 ghost use Rattle.spec_prims.specs.ObjectWrites as row;
 ghost use Rattle.prim_common.specs.Applied.{Makes};
-ghost use Rattle.prim_db.specs.Changed.{Allows};
 
-use crate::changing::{leave, make_named, missing, rename, write};
+use crate::changing::{make_named, missing, rename, write};
 use cmd_common::{Write, home_at};
 use muck_model::Dbref;
-use muck_perm::{Guard, is_player_at};
+use muck_perm::{Guard, is_player_at, verdict};
 use muf_frame::{Frame, PrimFault};
 use muf_model::{MufFault, Prim, Text};
 use prim_common::Made;
@@ -30,14 +29,18 @@ pub(crate) fn place_missing(guard: &Guard, frame: &Frame) -> Option<MufFault>
     if to == HOME { None } else { missing(guard, to) }
 }
 
-// A place that is home, or near.
-fn reach(guard: &Guard, to: Dbref) -> Result<(), PrimFault>
-    ensures { Allows (row.place_far guard.now.actor (objects_of guard.now) to) result }
+// A place that is neither home nor near.
+#[tactic(auto, unfolding(spec_prims::specs::Asking::near_fault))]
+fn place_far(guard: &Guard, to: Dbref) -> Option<MufFault>
+    ensures { result ≡ row.place_far guard.now.actor (objects_of guard.now) to }
 {
-    if to != HOME {
-        leave(guard, &Act::Near { object: to })?;
+    if to == HOME {
+        return None;
     }
-    Ok(())
+    match verdict(guard.db(), &guard.actor(), &Act::Near { object: to }) {
+        Ok(_) => None,
+        Err(denial) => Some(MufFault::Denied(denial.rule)),
+    }
 }
 
 // MOVETO.
@@ -45,8 +48,10 @@ fn reach(guard: &Guard, to: Dbref) -> Result<(), PrimFault>
 fn move_to(guard: &mut Guard, object: Dbref, to: Dbref) -> Result<Made, PrimFault>
     ensures { Makes (row.done_to_two MoveTo guard.old.actor object to (world_of guard.old)) guard.old guard.new result }
 {
-    reach(guard, to)?;
-    write(guard, Write::Place(object, to))
+    match place_far(guard, to) {
+        Some(fault) => Err(PrimFault::Fault(fault)),
+        None => write(guard, Write::Place(object, to)),
+    }
 }
 
 // A link that leads nowhere or home, or to what is there.

@@ -1,4 +1,4 @@
--- What each row changes is open to who acts.
+-- What each row changes is open to who acts, and so is what is to be told of it.
 pub use Rattle.spec_prims.proofs.Open.{RowOpen, IsOpen, ended_open, same_open, shows_open}
 use Rattle.std.proofs.Common.{◌≡◌, ℕ, Bool, true, false, cond, List, [], ◌∷◌, take, drop, Option, Some, None, refl}
 use Rattle.std.specs.Option.{option_or, option_map_or}
@@ -10,11 +10,10 @@ use Rattle.spec_rights.specs.declared.act.Act.TheVariants.{Read, Write}
 use Rattle.spec_rights.specs.Verdict.{verdict}
 use Rattle.spec_rights.specs.Changing.{stored, unstored}
 use Rattle.spec_rights.proofs.Changes.{stays_stored, stays_unstored}
-use Rattle.spec_rights.specs.Licence.{Licensed, nobody}
-use Rattle.spec_rights.proofs.Licences.{Ended, Given, Shows, judge, itself, Stays, end_quietly, ends_quiet, ends_stays, quiet_unchanged}
-use Rattle.spec_rights.proofs.Rights.{same_itself}
+use Rattle.spec_rights.specs.Licence.{nobody}
+use Rattle.spec_rights.proofs.Licences.{Proper, Stays, ends_stays}
 use Rattle.spec_rights.proofs.Shown.{quiet_tell_player}
-use Rattle.spec_live.specs.Lives.{Change, unchanged}
+use Rattle.spec_live.specs.Lives.{Change}
 use Rattle.muf_model.specs.declared.fault.MufFault.{MufFault}
 use Rattle.muf_model.specs.declared.prims.Family.{Family}
 use Rattle.muf_model.specs.declared.prims.Family.TheVariants as kind
@@ -104,7 +103,7 @@ opens_at_path None a w row h = h
 opens_at_path (Some f) a w row h = tt
 
 -- what is done by leave and changes no right
-stays_open : (a : Actor) (act : Act) (f : Change) (w : Live) → Stays a nobody (Some act) f → verdict w.objects a act ≡ None → Licensed a nobody w (f w)
+stays_open : (a : Actor) (act : Act) (f : Change) (w : Live) → Stays a nobody (Some act) f → verdict w.objects a act ≡ None → Proper a nobody w (f w)
 stays_open a act f w p e = ended_open a (Some act) w (f w) ((ends_stays a nobody (Some act) f p).law w) e
 
 -- rows of properties
@@ -175,7 +174,7 @@ opens_in descr kind.Property p = opens_property p
 opens_in descr kind.Talk p = opens_talk descr p
 opens_in descr _ p = tt
 
-opens_if : (b : Bool) (f : MufFault) (items : List Datum) (a : Actor) (w v : Live) → Licensed a nobody w v → RowOpen a w (cond b (refuses f) (gives items v))
+opens_if : (b : Bool) (f : MufFault) (items : List Datum) (a : Actor) (w v : Live) → Proper a nobody w v → RowOpen a w (cond b (refuses f) (gives items v))
 opens_if true f items a w v h = tt
 opens_if false f items a w v h = h
 

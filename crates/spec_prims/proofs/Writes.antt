@@ -14,7 +14,7 @@ use Rattle.spec_rights.specs.declared.act.Actor.{Actor}
 use Rattle.spec_rights.specs.declared.act.Act.{Act}
 use Rattle.spec_rights.specs.declared.act.Act.TheVariants.{Link, Move, Recycle as RecycleAct, Rename, SetOwner}
 use Rattle.spec_rights.specs.Changing.{named, owned_by, recycled_now}
-use Rattle.spec_rights.specs.Licence.{Licensed, nobody, IsNew}
+use Rattle.spec_rights.specs.Licence.{nobody, IsNew}
 use Rattle.spec_rights.specs.Verdict.{verdict}
 use Rattle.spec_rights.proofs.Rights.{SameRights}
 use Rattle.spec_rights.proofs.Licences.{Ended, Ends, judge, itself, ends_stays}
@@ -142,7 +142,7 @@ opens_recycled a x w =
     let check = recycle_check x w.objects in
     opens_denied (verdict w.objects a (RecycleAct x)) a w (cond (allowed check) (gives [] (recycled_now x w)) (refuses BadArgument))
     (λ e. opens_where (allowed check) a w (gives [] (recycled_now x w))
-    (λ m. let n = checked_so check m in (recycled_proper a nobody x w n.0 e n.1).licensed))
+    (λ m. let n = checked_so check m in recycled_proper a nobody x w n.0 e n.1))
 
 -- making, where the check passes
 

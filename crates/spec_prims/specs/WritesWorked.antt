@@ -1,22 +1,21 @@
 -- Worked rows of the primitives that change objects.
 use Rattle.std.specs.Prelude.{◌≡◌, ℕ, pos, negsuc, List, [], ◌∷◌, codes, None, refl}
 use Rattle.muck_match.specs.Words.{is_same}
-use Rattle.muck_match.specs.Naming.{player_named}
-use Rattle.muck_match.specs.Scenery.{numbers}
 use Rattle.spec_live.specs.Objects.{dbref_of, object_at, number_in, kind_in, object_in, place_in, home, is_vehicle_in, fits_in, path_in}
 use Rattle.spec_live.specs.Boards.{first_tune, early_board}
+use Rattle.spec_live.specs.Chain.{has, walk}
 use Rattle.spec_live.specs.Making.{create_check, owner_judged, make_judged, may_make, free_in, objects_most}
 use Rattle.spec_live.specs.Moving.{judged, move_check}
 use Rattle.spec_live.specs.Recycling.{recycle_check}
-use Rattle.spec_live.specs.Seen.{scenery_of}
 use Rattle.spec_live.specs.Setting.{checked, checked_both, home_check, link_check, owner_check}
 use Rattle.spec_live.specs.Start.{room_zero, player_one, first_objects}
 use Rattle.spec_rights.specs.Changing.{named}
 use Rattle.spec_rights.specs.Levels.{level_at, owner_at, flag_at, controls_as, owns, is_player_at}
 use Rattle.spec_rights.specs.Verdict.{controls, controls_or, is_near}
 use Rattle.spec_commands.specs.declared.new.New.TheVariants.{Room, Thing, Exit}
-use Rattle.spec_commands.specs.Building.{is_name, is_player_name, placed, tied}
-use Rattle.muf_model.specs.declared.fault.MufFault.TheVariants.{BadType, BadArgument, NoSuchObject, Denied}
+use Rattle.spec_commands.specs.Building.{is_name, placed, tied}
+use Rattle.spec_commands.specs.Finding.{is_so}
+use Rattle.muf_model.specs.declared.fault.MufFault.TheVariants.{BadArgument, NoSuchObject, Denied}
 use Rattle.muf_model.specs.declared.prims.Primitive.{Primitive}
 use Rattle.muf_model.specs.declared.prims.Primitive.TheVariants.{MoveTo, SetLink, SetOwn, Recycle, SetName, NewRoom, NewObject, NewExit}
 use Rattle.muf_model.specs.Datum.{Datum, text, object}
@@ -93,5 +92,5 @@ WritesWorked =
     × (done NewExit (called (codes "out") room) ≡ gives (object (pos 2) ∷ []) (made_so (Exit (record { 0 = negsuc 0 })) (codes "out") (dbref_of 1) 2 0 at_first))
 
 pub writes_worked : WritesWorked
-unfolding WritesWorked first_tune early_board object_at number_in kind_in object_in place_in is_vehicle_in fits_in path_in create_check owner_judged make_judged may_make free_in objects_most judged move_check recycle_check checked checked_both home_check link_check owner_check room_zero player_one first_objects level_at owner_at flag_at controls_as owns is_player_at controls controls_or is_near is_name is_same level_fault is_there near_fault changed new_made first_fault shared
+unfolding WritesWorked has walk is_so first_tune early_board object_at number_in kind_in object_in place_in is_vehicle_in fits_in path_in create_check owner_judged make_judged may_make free_in objects_most judged move_check recycle_check checked checked_both home_check link_check owner_check room_zero player_one first_objects level_at owner_at flag_at controls_as owns is_player_at controls controls_or is_near is_name is_same level_fault is_there near_fault changed new_made first_fault shared
 writes_worked = (refl, refl, refl, refl, refl, refl, refl, refl, refl, refl, refl, refl, refl, refl, refl, refl, refl, refl, refl, refl, refl, refl, refl, refl, refl, refl, refl, refl, refl)
