@@ -1,3 +1,6 @@
+mod Granted
 mod Items
 mod Lists
 mod Objects
+mod Rules
+mod Taken
