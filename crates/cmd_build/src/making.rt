@@ -2,27 +2,20 @@
 ghost use Rattle.std.specs.Prelude.{◌≡◌, ◌<◌, ◌≤◌, ◌^◌, ◌++◌, true, IfOk, length, codes, []};
 ghost use Rattle.std.specs.Option.{option_map_or};
 ghost use Rattle.spec_live.specs.Objects.{dbref_of, object_at};
-ghost use Rattle.spec_live.specs.Making.{create_check};
 ghost use Rattle.spec_live.specs.Seen.{long_form};
 ghost use Rattle.spec_live.specs.Lives.{tell, reading};
-ghost use Rattle.spec_rights.specs.Changing.{created_so};
 ghost use Rattle.spec_rights.specs.Levels.{number_of};
 ghost use Rattle.spec_commands.specs.Replies.{cant_be_done};
-ghost use Rattle.spec_commands.specs.Going.{home_at};
-ghost use Rattle.spec_commands.specs.Building.{created_shown, making, may_house, may_lead, kind_of, as_new, may_be, act_in, made, thing_made, exit_opened};
-ghost use Rattle.muck_perm.specs.Guards.{Did, Founds, IsLeave, objects_of, world_of};
+ghost use Rattle.spec_commands.specs.Building.{created_shown, making, kind_of, as_new, may_be, act_in, made, thing_made, exit_opened};
+ghost use Rattle.muck_perm.specs.Guards.{Did, IsLeave, objects_of, world_of};
 ghost use Rattle.cmd_build.specs.Told.{IsTold};
 
-use cmd_common::{cant_be_done, place_at, refuse};
-use muck_model::{Dbref, Kind, Line, NoMemory};
+use cmd_common::{act_in, cant_be_done, create, home_at, may_be, place_at, refuse};
+use muck_model::{Dbref, Line, NoMemory};
 use muck_perm::{Guard, Pass, long_form, verdict};
 use spec_commands::New;
 use spec_live::DbFault;
 use spec_rights::Act;
-
-const NOTHING: Dbref = Dbref(-1);
-
-const HOME: Dbref = Dbref(-3);
 
 /// The number of an object that is there.
 pub fn number_of(x: Dbref) -> u32
@@ -69,75 +62,6 @@ fn tell_made(guard: &mut Guard, d: u32, made: Result<Dbref, DbFault>) -> Result<
     }
 }
 
-// Whether a thing may have its home there.
-#[tactic(auto, unfolding(spec_commands::specs::Finding::is_so))]
-fn may_house(guard: &Guard, to: Dbref) -> bool
-    ensures { result ≡ may_house to (world_of guard.now) }
-{
-    match guard.db().get(to) {
-        Some(object) => matches!(object.kind(), Kind::Room | Kind::Thing | Kind::Player),
-        None => false,
-    }
-}
-
-// Whether an exit may lead there.
-#[tactic(auto, unfolding(spec_commands::specs::Finding::is_so))]
-fn may_lead(guard: &Guard, to: Dbref) -> bool
-    ensures { result ≡ may_lead to (world_of guard.now) }
-{
-    if to == HOME || to == NOTHING {
-        return true;
-    }
-    match guard.db().get(to) {
-        Some(object) => matches!(object.kind(), Kind::Room | Kind::Program),
-        None => false,
-    }
-}
-
-// Whether the field that is set at once may be that.
-fn may_be(guard: &Guard, new: New) -> bool
-    ensures { result ≡ may_be new (world_of guard.now) }
-{
-    match new {
-        New::Room => true,
-        New::Thing(at) => may_house(guard, at),
-        New::Exit(to) => may_lead(guard, to),
-    }
-}
-
-// The act by which it is asked.
-fn act_in(place: Dbref, new: New) -> Act
-    ensures { result ≡ act_in place new }
-{
-    match new {
-        New::Room => Act::NewRoom { place },
-        New::Thing(_) => Act::NewThing { place },
-        New::Exit(link) => Act::NewExit { place, link },
-    }
-}
-
-// Makes it by leave, where the world allows it.
-#[tactic(auto, unfolding(spec_commands::specs::Finding::is_so))]
-fn create(
-    guard: &mut Guard,
-    pass: Pass,
-    new: New,
-    name: Line,
-    place: Dbref,
-) -> Result<Dbref, DbFault>
-    requires leave { IsLeave pass (act_in place new) guard.old }
-    requires some { 1 ≤ length name }
-    requires short { length name ≤ 80 }
-    requires fits { may_be new (world_of guard.old) ≡ true }
-    ensures { Founds (create_check (kind_of new) guard.old.actor.user place (objects_of guard.old)) (λ n to. created_so n (kind_of new) name guard.old.actor.user to (as_new new)) guard.old guard.new result }
-{
-    match new {
-        New::Room => guard.create_room(pass, name, place),
-        New::Thing(at) => guard.create_thing(pass, name, place, at),
-        New::Exit(to) => guard.create_exit(pass, name, place, to),
-    }
-}
-
 // Makes it by leave, and tells the connection what came of it.
 fn make_by(
     guard: &mut Guard,
@@ -174,16 +98,6 @@ pub fn make(guard: &mut Guard, d: u32, new: New, name: Line, place: Dbref) -> Re
             }
             cant_be_done(guard, d)
         }
-    }
-}
-
-// The home of an object, `#-1` where it isn't there.
-fn home_at(guard: &Guard, x: Dbref) -> Dbref
-    ensures { result ≡ home_at x (world_of guard.now) }
-{
-    match guard.db().get(x) {
-        Some(object) => object.home(),
-        None => NOTHING,
     }
 }
 

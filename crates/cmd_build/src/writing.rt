@@ -1,11 +1,9 @@
 // Links and names.
-ghost use Rattle.std.specs.Prelude.{◌≡◌, ◌≤◌, true, not, length};
-ghost use Rattle.spec_live.specs.Objects.{is_player, is_program};
-ghost use Rattle.spec_commands.specs.Finding.{is_so};
-ghost use Rattle.spec_commands.specs.Building.{is_linkable, link_set, link_cleared, may_be_called, name_set};
+ghost use Rattle.std.specs.Prelude.{◌≡◌, ◌≤◌, length};
+ghost use Rattle.spec_commands.specs.Building.{is_linkable, link_set, link_cleared, name_set};
 ghost use Rattle.muck_perm.specs.Guards.{Did, world_of};
 
-use cmd_common::{Write, bad_name, cant_be_done, is_name, is_player_name, try_write};
+use cmd_common::{Write, bad_name, cant_be_done, may_be_called, try_write};
 use muck_model::{Dbref, Kind, Line, NoMemory};
 use muck_perm::Guard;
 
@@ -40,28 +38,6 @@ pub fn unlink(guard: &mut Guard, d: u32, x: Dbref) -> Result<(), NoMemory>
         return cant_be_done(guard, d);
     }
     try_write(guard, d, Write::Unlink(x), b"Unlinked.")
-}
-
-// Whether an object is there and is a player.
-#[tactic(auto, unfolding(spec_commands::specs::Finding::is_so))]
-fn is_player(guard: &Guard, x: Dbref) -> bool
-    ensures { result ≡ is_so (λ o. is_player o.kind) x (world_of guard.now) }
-{
-    match guard.db().get(x) {
-        Some(object) => matches!(object.kind(), Kind::Player),
-        None => false,
-    }
-}
-
-// Whether an object may have this name; a player's is taken by no other.
-fn may_be_called(guard: &Guard, x: Dbref, name: &[u8]) -> bool
-    ensures { result ≡ may_be_called x name.now (world_of guard.now) }
-{
-    if is_player(guard, x) {
-        is_player_name(guard.db(), name)
-    } else {
-        is_name(name)
-    }
 }
 
 /// `@name`: gives an object another name.

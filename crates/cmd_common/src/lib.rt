@@ -3,6 +3,7 @@
 #![tactic(auto)]
 
 mod finding;
+mod making;
 mod messages;
 mod names;
 mod parts;
@@ -13,8 +14,9 @@ mod sources;
 mod writing;
 
 pub use finding::{find_object, find_one, find_player, is_object, is_program};
+pub use making::{act_in, create, home_at, may_be};
 pub use messages::message_path;
-pub use names::{is_name, is_player_name};
+pub use names::{is_name, is_player_name, may_be_called};
 pub use parts::{Parts, after_sign, after_word, parts_in};
 pub use reading::{arguments, looked_up};
 pub use replies::{bad_name, cant_be_done, done, incomplete, refuse};

@@ -1,10 +1,15 @@
 // The names that objects and players may have.
 ghost use Rattle.std.specs.Prelude.{◌≡◌, ◌≤◌, true, ◌==◌, length};
 ghost use Rattle.std.specs.List.{list_any};
-ghost use Rattle.spec_commands.specs.Building.{is_reserved, bad_start, is_name, is_player_name};
+ghost use Rattle.spec_live.specs.Objects.{is_player};
+ghost use Rattle.spec_commands.specs.Finding.{is_so};
+ghost use Rattle.spec_commands.specs.Building.{is_reserved, bad_start, is_name, is_player_name, may_be_called};
+ghost use Rattle.muck_perm.specs.Guards.{world_of};
 
 use muck_db::Db;
 use muck_match::player_named;
+use muck_model::{Dbref, Kind};
+use muck_perm::Guard;
 
 /// The longest name of an object, in bytes.
 const NAME_MOST: usize = 80;
@@ -53,4 +58,28 @@ pub fn is_player_name(db: &Db, name: &[u8]) -> bool
     ensures short { result ≡ true → length name.now ≤ 80 }
 {
     is_name(name) && !has_byte(b' ', name) && player_named(db, name).is_none()
+}
+
+// Whether an object is there and is a player.
+#[tactic(auto, unfolding(spec_commands::specs::Finding::is_so))]
+fn is_player(guard: &Guard, x: Dbref) -> bool
+    ensures { result ≡ is_so (λ o. is_player o.kind) x (world_of guard.now) }
+{
+    match guard.db().get(x) {
+        Some(object) => matches!(object.kind(), Kind::Player),
+        None => false,
+    }
+}
+
+/// Whether an object may have this name; a player's is taken by no other.
+pub fn may_be_called(guard: &Guard, x: Dbref, name: &[u8]) -> bool
+    ensures means { result ≡ may_be_called x name.now (world_of guard.now) }
+    ensures some { result ≡ true → 1 ≤ length name.now }
+    ensures short { result ≡ true → length name.now ≤ 80 }
+{
+    if is_player(guard, x) {
+        is_player_name(guard.db(), name)
+    } else {
+        is_name(name)
+    }
 }

@@ -193,3 +193,9 @@ pub(crate) const TWO_THERE: Option<Needs> = takes!(THERE, THERE);
 pub(crate) const A_LOCK: Option<Needs> = takes!(LOCK);
 
 pub(crate) const LOCK_FOR_ONE_THERE: Option<Needs> = takes!(LOCK, THERE);
+
+pub(crate) const OBJECT_FOR_ONE_NEAR: Option<Needs> = takes!(OBJECT, NEAR);
+
+pub(crate) const OBJECT_FOR_ONE_THERE: Option<Needs> = takes!(OBJECT, THERE);
+
+pub(crate) const TEXT_FOR_ONE_THERE: Option<Needs> = takes!(TEXT, THERE);

@@ -7,7 +7,12 @@ ghost use Rattle.muf_model.specs.Rows.{is_settled};
 ghost use Rattle.muf_model.specs.Prims.{row_of, shown_row, level_of, is_local, is_there, family_of, needs_of, name_of, primitives, named, is_named, named_in_any_case};
 
 use crate::needs::{
-    AN_ADDRESS, AN_INT, A_LOCK, A_NUMBERED, A_TEXT, A_VARIABLE, COUNTED_ITEMS, INTS_OVER_TEXT, INT_AND_TEXTS_FOR_ONE_NEAR, INT_OR_OBJECT, INT_OVER_TEXT, INT_OVER_TEXTS, ITEM, ITEM_OVER_COUNTED, KEY_AND_TEXT_FOR_ONE_NEAR, LOCK_FOR_ONE_THERE, NOTHING, Needs, ONE_NEAR, ONE_THERE, TEXT_FOR_ONE_NEAR, THREE_ITEMS, THREE_TEXTS, TWO_ALIKE, TWO_INTS, TWO_ITEMS, TWO_OBJECTS, TWO_TEXTS, TWO_THERE, VARIABLE_AND_ITEM,
+    A_LOCK, A_NUMBERED, A_TEXT, A_VARIABLE, AN_ADDRESS, AN_INT, COUNTED_ITEMS,
+    INT_AND_TEXTS_FOR_ONE_NEAR, INT_OR_OBJECT, INT_OVER_TEXT, INT_OVER_TEXTS, INTS_OVER_TEXT, ITEM,
+    ITEM_OVER_COUNTED, KEY_AND_TEXT_FOR_ONE_NEAR, LOCK_FOR_ONE_THERE, NOTHING, Needs,
+    OBJECT_FOR_ONE_NEAR, OBJECT_FOR_ONE_THERE, ONE_NEAR, ONE_THERE, TEXT_FOR_ONE_NEAR,
+    TEXT_FOR_ONE_THERE, THREE_ITEMS, THREE_TEXTS, TWO_ALIKE, TWO_INTS, TWO_ITEMS, TWO_OBJECTS,
+    TWO_TEXTS, TWO_THERE, VARIABLE_AND_ITEM,
 };
 
 /// A primitive. Its name in programs stands in its row of the table, with its level and what it needs on the stack.
@@ -343,18 +348,18 @@ impl Primitive {
             Primitive::IsProgram => row!(b"PROGRAM?", 1, Object, ITEM),
             Primitive::Match => row!(b"MATCH", 1, Object, A_TEXT),
             Primitive::PMatch => row!(b"PMATCH", 1, Object, A_TEXT),
-            Primitive::MoveTo => row!(b"MOVETO", 1, Object, None),
-            Primitive::SetName => row!(b"SETNAME", 2, Object, None),
+            Primitive::MoveTo => row!(b"MOVETO", 1, Object, OBJECT_FOR_ONE_NEAR),
+            Primitive::SetName => row!(b"SETNAME", 2, Object, TEXT_FOR_ONE_THERE),
             Primitive::Set => row!(b"SET", 2, Object, None),
             Primitive::HasFlag => row!(b"FLAG?", 1, Object, TEXT_FOR_ONE_NEAR),
             Primitive::MLevel => row!(b"MLEVEL", 1, Object, ONE_NEAR),
             Primitive::GetLink => row!(b"GETLINK", 1, Object, ONE_NEAR),
-            Primitive::SetLink => row!(b"SETLINK", 2, Object, None),
-            Primitive::NewRoom => row!(b"NEWROOM", 2, Object, None),
-            Primitive::NewObject => row!(b"NEWOBJECT", 2, Object, None),
-            Primitive::NewExit => row!(b"NEWEXIT", 2, Object, None),
-            Primitive::Recycle => row!(b"RECYCLE", 3, Object, None),
-            Primitive::SetOwn => row!(b"SETOWN", 2, Object, None),
+            Primitive::SetLink => row!(b"SETLINK", 2, Object, OBJECT_FOR_ONE_THERE),
+            Primitive::NewRoom => row!(b"NEWROOM", 2, Object, TEXT_FOR_ONE_THERE),
+            Primitive::NewObject => row!(b"NEWOBJECT", 2, Object, TEXT_FOR_ONE_THERE),
+            Primitive::NewExit => row!(b"NEWEXIT", 2, Object, TEXT_FOR_ONE_THERE),
+            Primitive::Recycle => row!(b"RECYCLE", 3, Object, ONE_THERE),
+            Primitive::SetOwn => row!(b"SETOWN", 2, Object, TWO_THERE),
             Primitive::Controls => row!(b"CONTROLS", 1, Object, TWO_THERE),
             Primitive::GetLockStr => row!(b"GETLOCKSTR", 1, Object, ONE_NEAR),
             Primitive::SetLockStr => row!(b"SETLOCKSTR", 2, Object, None),

@@ -1,3 +1,6 @@
+mod Changing
 mod Items
 mod Lists
 mod Objects
+mod Rules
+mod Taken

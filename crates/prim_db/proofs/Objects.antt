@@ -1,29 +1,33 @@
 -- The rows of the family.
 use Rattle.std.proofs.Common.{◌≡◌, ℕ, Bool, true, false, List, [], ◌∷◌, take, drop, Option, Some, None, Ok, Err, refl, sym, ap, subst, ◌∙◌}
 use Rattle.std.specs.Prelude.{◌&&◌, is_some, option_map, Result}
+use Rattle.std.specs.Option.{option_or}
 use Rattle.spec_live.specs.Lives.{Live}
 use Rattle.spec_rights.specs.declared.act.Actor.{Actor}
 use Rattle.muf_model.specs.declared.fault.MufFault.{MufFault}
 use Rattle.muf_model.specs.declared.prims.Family.{Family}
 use Rattle.muf_model.specs.declared.prims.Family.TheVariants.{Object}
 use Rattle.muf_model.specs.declared.prims.Primitive.{Primitive}
-use Rattle.muf_model.specs.declared.prims.Primitive.TheVariants.{HasFlag}
+use Rattle.muf_model.specs.declared.prims.Primitive.TheVariants.{MoveTo, SetLink, SetOwn, Recycle, SetName, NewRoom, NewObject, NewExit}
 use Rattle.muf_model.specs.declared.value.Value.{Value}
 use Rattle.muf_model.specs.Datum.{Datum}
 use Rattle.muf_model.specs.Prims.{family_of, is_there}
 use Rattle.muf_frame.specs.declared.fault.PrimFault.{PrimFault}
 use Rattle.muf_frame.specs.declared.fault.PrimFault.TheVariants.{Fault, NoMemory}
 use Rattle.muck_perm.specs.declared.guard.Guard.{Guard}
-use Rattle.muck_perm.specs.Guards.{world_of}
-use Rattle.spec_prims.specs.Row.{Row, refuses, given_upon}
-use Rattle.spec_prims.specs.ObjectRows.{Finding, finding_of, finds, given as given_row, misasked, object_row, is_object_family}
+use Rattle.muck_perm.specs.Guards.{objects_of, world_of}
+use Rattle.muck_perm.proofs.Worlds.{kept_itself}
+use Rattle.spec_prims.specs.Row.{Row, refuses, given_upon, Doing}
+use Rattle.spec_prims.specs.ObjectRows.{Finding, finding_of, finds, given as given_row, object_row, is_object_family}
 use Rattle.spec_prims.specs.Shared.{taken, first_fault, row_in, done_by, shared}
+use Rattle.spec_prims.specs.ObjectWrites.{writing_row}
 use Rattle.spec_prims.proofs.Fits.{Fits, fits_object}
 use Rattle.spec_prims.proofs.There.{object_there}
 use Rattle.prim_common.specs.Applied.{Makes, argued_of, does_of}
 use Rattle.prim_common.specs.declared.made.Made.TheVariants.{One}
 use Rattle.prim_common.specs.Tests.{Passes}
 use Rattle.prim_common.proofs.Applying.{fails_first, gives_first, fits_of}
+use Rattle.prim_db.proofs.Rules.{no_writing}
 use Rattle.prim_db.specs.Found.{Finds, found_in, found_with}
 
 shared_object : (p : Primitive) (a : Actor) (descr : Option ℕ) (locked : ℕ) (stack : List Datum) (w : Live) → family_of p ≡ Object → shared p a descr locked stack w ≡ done_by (object_row p) p a locked stack w
@@ -52,25 +56,14 @@ row_fits p a stack w n count =
     subst (λ k. Fits (take k stack) w (does_of (object_row p) a (take (taken p stack) stack) w)) (sym count)
     (fits_of (object_row p) a (take (taken p stack) stack) w (fits_object p))
 
--- what a primitive says of its arguments
-unasked : (p : Primitive) (items : List Datum) → is_some (finding_of p) ≡ false → misasked p items ≡ None
-unasked HasFlag items e = absurd cc
-unasked _ items e = refl
-
-argued_by : (p : Primitive) (o : Option Finding) (a : Actor) (items : List Datum) (w : Live) → finding_of p ≡ o → misasked p items ≡ argued_of (option_map (finds p) o) a items w
-argued_by p None a items w e = unasked p items (ap is_some e)
-argued_by p (Some find) a items w e = refl
-
-pub argued_object : (p : Primitive) (a : Actor) (items : List Datum) (w : Live) → misasked p items ≡ argued_of (object_row p) a items w
-argued_object p a items w = argued_by p (finding_of p) a items w refl
-
 -- it gives what it finds
-does_by : (p : Primitive) (o : Option Finding) (a : Actor) (items : List Datum) (w : Live) → does_of (option_map (finds p) o) a items w ≡ given_row w (found_with o a w.objects items)
-does_by p None a items w = refl
-does_by p (Some find) a items w = refl
+does_by : (p : Primitive) (o : Option Finding) (r : Option Doing) (a : Actor) (items : List Datum) (w : Live) → r ≡ None → does_of (option_or (option_map (finds p) o) r) a items w ≡ given_row w (found_with o a w.objects items)
+does_by p None None a items w e = refl
+does_by p None (Some doing) a items w e = absurd cc
+does_by p (Some find) r a items w e = refl
 
 item_made : (found : Result Datum MufFault) (g : Guard) (v : Value) → Finds found (Ok v) → Makes (given_row (world_of g) found) g g (Ok (One v))
-item_made (Ok item) g v h = (ap (λ x. x ∷ []) h, refl)
+item_made (Ok item) g v h = (ap (λ x. x ∷ []) h, refl, kept_itself g)
 item_made (Err f) g v h = absurd h
 
 none_made : (found : Result Datum MufFault) (g : Guard) (f : PrimFault) → Finds found (Err f) → Makes (given_row (world_of g) found) g g (Err f)
@@ -79,14 +72,17 @@ none_made (Ok item) g NoMemory h = (refl, refl)
 none_made (Err e) g (Fault f) h = (h, refl)
 none_made (Err e) g NoMemory h = (refl, refl)
 
-module _ (p : Primitive) (g : Guard) (items : List Datum) where
+module _ (p : Primitive) (g : Guard) (items : List Datum) (a : p ≡ MoveTo → ⊥) (b : p ≡ SetLink → ⊥) (c : p ≡ SetOwn → ⊥) (d : p ≡ Recycle → ⊥) (e : p ≡ SetName → ⊥) (f : p ≡ NewRoom → ⊥) (h : p ≡ NewObject → ⊥) (k : p ≡ NewExit → ⊥) where
   abbrev row : Row
   row = does_of (object_row p) g.actor items (world_of g)
 
-  pub makes_item : (v : Value) → Finds (found_in p g.actor g.db.now items) (Ok v) → Makes row g g (Ok (One v))
-  makes_item v h = subst (λ row. Makes row g g (Ok (One v))) (sym (does_by p (finding_of p) g.actor items (world_of g))) (item_made _ g v h)
+  row_is : row ≡ given_row (world_of g) (found_in p g.actor (objects_of g) items)
+  row_is = does_by p (finding_of p) (writing_row p) g.actor items (world_of g) (no_writing p a b c d e f h k)
 
-  pub makes_none : (f : PrimFault) → Finds (found_in p g.actor g.db.now items) (Err f) → Makes row g g (Err f)
-  makes_none f h = subst (λ row. Makes row g g (Err f)) (sym (does_by p (finding_of p) g.actor items (world_of g))) (none_made _ g f h)
+  pub makes_item : (v : Value) → Finds (found_in p g.actor (objects_of g) items) (Ok v) → Makes row g g (Ok (One v))
+  makes_item v l = subst (λ row. Makes row g g (Ok (One v))) (sym row_is) (item_made _ g v l)
+
+  pub makes_none : (r : PrimFault) → Finds (found_in p g.actor (objects_of g) items) (Err r) → Makes row g g (Err r)
+  makes_none r l = subst (λ row. Makes row g g (Err r)) (sym row_is) (none_made _ g r l)
 
 pub ruleset making = (makes_item, makes_none)

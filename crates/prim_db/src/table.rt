@@ -6,22 +6,39 @@ ghost use Rattle.muf_frame.specs.Shown.{Shown, flat, locked_by};
 ghost use Rattle.muck_perm.specs.Guards.{world_of};
 ghost use Rattle.spec_prims.specs.Shared.{shared, taken};
 ghost use Rattle.spec_prims.specs.ObjectRows.{object_row};
-ghost use Rattle.prim_common.specs.Applied.{Applied, Makes, does_of};
+ghost use Rattle.prim_common.specs.Applied.{Applied, Makes, argued_of, does_of};
 
 use crate::finding::found;
-use crate::flags::argued;
+use crate::{flags, writing};
 use muck_perm::Guard;
 use muf_frame::{Frame, PrimFault};
-use muf_model::Prim;
+use muf_model::{MufFault, Prim};
 use prim_common::{Made, give, ready};
+
+// What a primitive says of its arguments, as they stand.
+#[tactic(auto, using(crate::proofs::Rules::found_rule))]
+fn argued(prim: Prim, guard: &Guard, frame: &Frame) -> Option<MufFault>
+    ensures { result ≡ argued_of (object_row prim) guard.now.actor (take (taken prim (flat frame.now).stack) (flat frame.now).stack) (world_of guard.now) }
+{
+    match prim {
+        Prim::MoveTo => writing::place_missing(guard, frame),
+        _ => flags::argued(prim, frame),
+    }
+}
 
 // What a primitive makes of the items that it takes.
 #[tactic(auto, using(crate::proofs::Objects::making))]
 fn made(prim: Prim, guard: &mut Guard, frame: &Frame) -> Result<Made, PrimFault>
     ensures { Makes (does_of (object_row prim) guard.old.actor (take (taken prim (flat frame.now).stack) (flat frame.now).stack) (world_of guard.old)) guard.old guard.new result }
 {
-    let item = found(prim, guard, frame)?;
-    Ok(Made::One(item))
+    match prim {
+        Prim::MoveTo | Prim::SetLink | Prim::SetOwn => writing::two(prim, guard, frame),
+        Prim::Recycle => writing::recycle(guard, frame),
+        Prim::SetName | Prim::NewRoom | Prim::NewObject | Prim::NewExit => {
+            writing::named(prim, guard, frame)
+        }
+        _ => Ok(Made::One(found(prim, guard, frame)?)),
+    }
 }
 
 /// Uses a primitive of objects, as the actor to whom the guard lends the world: the frame and the world are as its row
@@ -33,7 +50,7 @@ pub fn apply(prim: Prim, guard: &mut Guard, frame: &mut Frame) -> Result<(), Pri
     ensures row { (descr : Option ℕ) → Applied (shared prim guard.old.actor descr (locked_by (flat frame.old).marks) (flat frame.old).stack (world_of guard.old)) frame.old frame.new guard.old guard.new result }
     ensures there { is_there prim ≡ is_some (object_row prim) }
 {
-    let argued = argued(prim, frame);
+    let argued = argued(prim, guard, frame);
     let taken = ready(prim, argued, guard, frame)?;
     let made = made(prim, guard, frame)?;
     give(frame, taken, made)?;

@@ -1,4 +1,5 @@
 -- A row that changes the world gives no more items than it takes, so that there is room for them.
+pub use Rattle.spec_prims.proofs.Fit.{Fits, IsFit}
 use Rattle.std.proofs.Common.{◌≡◌, ◌≤◌, ◌⊎◌, inl, inr, ℕ, List, [], ◌∷◌, length, Option, Some, None, refl, arith}
 use Rattle.spec_live.specs.Lives.{Live, Change}
 use Rattle.spec_rights.specs.declared.act.Actor.{Actor}
@@ -7,7 +8,7 @@ use Rattle.muf_model.specs.declared.prims.Primitive.TheVariants.{Notify, IsAwake
 use Rattle.muck_model.specs.declared.dbref.Dbref.{Dbref}
 use Rattle.muf_model.specs.Datum.{Datum, int, text, object}
 use Rattle.std.specs.Prelude.{ℤ}
-use Rattle.std.specs.Option.{option_map_or}
+use Rattle.std.specs.Option.{option_or, option_map_or}
 use Rattle.muck_prop.specs.declared.path.PropFault.{PropFault}
 use Rattle.muck_prop.specs.declared.value.PropValue.{PropValue}
 use Rattle.muck_prop.specs.declared.value.PropValue.TheVariants.{Text, Number}
@@ -26,15 +27,8 @@ use Rattle.spec_prims.specs.Talk.{notified, awake, connected_at, player_given, p
 use Rattle.std.specs.Prelude.{option_map, Result, Ok, Err}
 use Rattle.muf_model.specs.declared.fault.MufFault.{MufFault}
 use Rattle.spec_prims.specs.ObjectRows.{Finding, finding_of, finds, given, object_row}
-
--- it gives at most as many, or changes nothing
-abbrev pub Fits : List Datum → Live → Row → Type 0
-Fits taken w (gives items v) = (length items ≤ length taken) ⊎ (v ≡ w)
-Fits taken w (refuses f) = Unit {0}
-
-abbrev pub IsFit : Option Doing → Type 0
-IsFit None = Unit {0}
-IsFit (Some doing) = (a : Actor) (items : List Datum) (w : Live) → Fits items w (doing.does a items w)
+use Rattle.spec_prims.specs.ObjectWrites.{writing_row}
+use Rattle.spec_prims.proofs.Writes.{fits_writing}
 
 -- a line for each row
 
@@ -62,14 +56,14 @@ fits_given : (items : List Datum) (w : Live) (found : Result Datum MufFault) →
 fits_given items w (Ok item) = inr refl
 fits_given items w (Err f) = tt
 
-fits_found : (p : Primitive) (o : Option Finding) → IsFit (option_map (finds p) o)
-fits_found p None = tt
-fits_found p (Some find) = λ a items w. fits_given items w (find a w.objects items)
+fits_found : (p : Primitive) (o : Option Finding) (r : Option Doing) → IsFit r → IsFit (option_or (option_map (finds p) o) r)
+fits_found p None r h = h
+fits_found p (Some find) r h = λ a items w. fits_given items w (find a w.objects items)
 
 -- and all of them
 
 pub fits_object : (p : Primitive) → IsFit (object_row p)
-fits_object p = fits_found p (finding_of p)
+fits_object p = fits_found p (finding_of p) (writing_row p) (fits_writing p)
 
 pub fits_talk : (descr : Option ℕ) (p : Primitive) → IsFit (talk_row descr p)
 fits_talk descr Notify = fits_notified

@@ -1,3 +1,6 @@
+pub mod Fit
+pub mod Open
+pub mod Writes
 pub mod Fits
 pub mod Opens
 pub mod There

@@ -1,4 +1,5 @@
 -- What each row changes is open to who acts, and so is what is to be told of it.
+pub use Rattle.spec_prims.proofs.Open.{RowOpen, IsOpen, ended_open, same_open, shows_open}
 use Rattle.std.proofs.Common.{◌≡◌, ℕ, Bool, true, false, cond, List, [], ◌∷◌, take, drop, Option, Some, None, refl}
 use Rattle.std.specs.Option.{option_or, option_map_or}
 use Rattle.std.specs.Prelude.{option_map, Result, Ok, Err}
@@ -10,10 +11,9 @@ use Rattle.spec_rights.specs.Verdict.{verdict}
 use Rattle.spec_rights.specs.Changing.{stored, unstored}
 use Rattle.spec_rights.proofs.Changes.{stays_stored, stays_unstored}
 use Rattle.spec_rights.specs.Licence.{nobody}
-use Rattle.spec_rights.proofs.Licences.{Ended, Given, Proper, Shows, judge, itself, Stays, end_quietly, ends_quiet, ends_stays, quiet_unchanged}
-use Rattle.spec_rights.proofs.Rights.{same_itself}
+use Rattle.spec_rights.proofs.Licences.{Proper, Stays, ends_stays}
 use Rattle.spec_rights.proofs.Shown.{quiet_tell_player}
-use Rattle.spec_live.specs.Lives.{Change, unchanged}
+use Rattle.spec_live.specs.Lives.{Change}
 use Rattle.muf_model.specs.declared.fault.MufFault.{MufFault}
 use Rattle.muf_model.specs.declared.prims.Family.{Family}
 use Rattle.muf_model.specs.declared.prims.Family.TheVariants as kind
@@ -38,38 +38,9 @@ use Rattle.spec_prims.specs.Row.{Row, gives, refuses, Doing, unless, given_upon}
 use Rattle.spec_prims.specs.PropRows.{at_path, by_leave, value_of, as_item, as_text, as_number, has_below, looked, first_holder, sought, name_fault, walked, put_at, put, text_or, added, removed, property_row}
 use Rattle.spec_prims.specs.Talk.{notified, awake, connected_at, player_given, player_at, descriptors, talk_row}
 use Rattle.spec_prims.specs.ObjectRows.{Finding, finding_of, finds, given, object_row}
+use Rattle.spec_prims.specs.ObjectWrites.{writing_row}
+use Rattle.spec_prims.proofs.Writes.{opens_writing}
 use Rattle.spec_prims.specs.Shared.{row_in, shared_row, taken, fault_by, first_fault, done_by, shared}
-
--- it is open to the actor, or nothing has changed
-abbrev pub RowOpen : Actor → Live → Row → Type 0
-RowOpen a w (gives items v) = Proper a nobody w v
-RowOpen a w (refuses f) = Unit {0}
-
--- by the laws of what is changed, where the act was allowed
-pub ended_open : (a : Actor) (act : Option Act) (w v : Live) → Ended itself a nobody act w v → Given act w.objects a → Proper a nobody w v
-ended_open a act w v h given =
-    let t = h.law w.objects (same_itself w.objects) given in
-    record {
-      licensed = record { gone = None; recycled = λ x e. absurd (cc); vanished = λ x e. absurd (cc); objects = t.rows; lists = t.lists; connections = t.ties; tune = t.tune };
-      marks = t.marks;
-    }
-
--- where nothing changes, and where something is shown alone
-pub same_open : (a : Actor) (w : Live) → Proper a nobody w w
-unfolding unchanged
-same_open a w = ended_open a None w w ((ends_quiet a nobody None unchanged quiet_unchanged).law w) tt
-
-pub shows_open : (a : Actor) (w v : Live) → Shows w v → Proper a nobody w v
-unfolding unchanged
-shows_open a w v h =
-    ended_open a None w v (record {
-      law = λ start same given. end_quietly (judge a nobody start) w w v (((ends_quiet a nobody None unchanged quiet_unchanged).law w).law start same given) h;
-    }) tt
-
--- of a primitive whose level the actor has
-abbrev pub IsOpen : ℕ → Option Doing → Type 0
-IsOpen level None = Unit {0}
-IsOpen level (Some doing) = (a : Actor) (items : List Datum) (w : Live) → level_fault a w.objects level ≡ None → RowOpen a w (doing.does a items w)
 
 -- a line for each row
 
@@ -97,12 +68,12 @@ opens_given : (a : Actor) (w : Live) (found : Result Datum MufFault) → RowOpen
 opens_given a w (Ok item) = same_open a w
 opens_given a w (Err f) = tt
 
-opens_found : (p : Primitive) (o : Option Finding) → IsOpen (level_of p) (option_map (finds p) o)
-opens_found p None = tt
-opens_found p (Some find) = λ a items w level. opens_given a w (find a w.objects items)
+opens_found : (p : Primitive) (o : Option Finding) (r : Option Doing) → IsOpen (level_of p) r → IsOpen (level_of p) (option_or (option_map (finds p) o) r)
+opens_found p None r h = h
+opens_found p (Some find) r h = λ a items w level. opens_given a w (find a w.objects items)
 
 opens_object : (p : Primitive) → IsOpen (level_of p) (object_row p)
-opens_object p = opens_found p (finding_of p)
+opens_object p = opens_found p (finding_of p) (writing_row p) (opens_writing (level_of p) p)
 
 opens_talk : (descr : Option ℕ) (p : Primitive) → IsOpen (level_of p) (talk_row descr p)
 opens_talk descr Notify = λ a items w level. opens_notified a items w

@@ -1,5 +1,6 @@
 pub mod Asking
 pub mod Row
+pub mod ObjectWrites
 pub mod ObjectRows
 pub mod Talk
 pub mod PropRows
@@ -7,4 +8,5 @@ pub mod Shared
 pub mod Rows
 pub mod TalkRows
 pub mod ObjectsWorked
+pub mod WritesWorked
 pub mod PropWorked

@@ -1,6 +1,6 @@
 -- The rows of the primitives of objects.
 use Rattle.std.specs.Prelude.{ℕ, ◌==◌, pos, negsuc, nat_lt, if◌then◌else◌, Bool, true, false, not, List, [], ◌∷◌, length, codes, Option, Some, None, option_map, Result, Ok, Err}
-use Rattle.std.specs.Option.{option_map_or, option_and_then}
+use Rattle.std.specs.Option.{option_or, option_map_or, option_and_then}
 use Rattle.std.specs.List.{list_any}
 use Rattle.std.specs.Char.{to_ascii_uppercase}
 use Rattle.muck_model.specs.declared.dbref.Dbref.{Dbref}
@@ -33,6 +33,7 @@ use Rattle.muf_model.specs.StackRows.{truth}
 use Rattle.muf_model.specs.Prims.{family_of}
 use Rattle.spec_prims.specs.Asking.{numbered}
 use Rattle.spec_prims.specs.Row.{Row, gives, refuses, Doing}
+use Rattle.spec_prims.specs.ObjectWrites.{writing_row}
 
 -- What a primitive finds, and changes nothing: an item, or why it finds none.
 abbrev pub Finding : Type 0
@@ -213,9 +214,9 @@ finds p find = record {
   does = λ a items w. given w (find a w.objects items);
 }
 
--- the row of a primitive, where there is one
+-- the row of a primitive, where there is one: it finds something, or changes objects
 abbrev pub object_row : Primitive → Option Doing
-object_row p = option_map (finds p) (finding_of p)
+object_row p = option_or (option_map (finds p) (finding_of p)) (writing_row p)
 
 abbrev pub is_object_family : Family → Bool
 is_object_family kind.Object = true

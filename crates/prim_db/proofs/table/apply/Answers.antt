@@ -1,10 +1,9 @@
-use Rattle.std.proofs.Common.{rules, ◌≡◌, Ok, Err, sym, ◌∙◌, take}
+use Rattle.std.proofs.Common.{rules, ◌≡◌, Ok, Err}
 use Rattle.muf_frame.specs.declared.fault.PrimFault.TheVariants.{Fault}
 use Rattle.muf_frame.specs.Shown.{flat, locked_by}
 use Rattle.muck_perm.specs.Guards.{world_of}
-use Rattle.spec_prims.specs.Shared.{taken}
 use Rattle.prim_common.proofs.Applying.{refused_so, made_fault, applied_given, applied_full}
-use Rattle.prim_db.proofs.Objects.{argued_object, refused_first, row_first, row_fits, row_there}
+use Rattle.prim_db.proofs.Objects.{refused_first, row_first, row_fits, row_there}
 use Rattle.prim_db.proofs.table.apply.Goals as goal
 
 pub returns-in_err-taken-clause-row : goal.returns-in_err-taken-clause-row
@@ -12,7 +11,7 @@ returns-in_err-taken-clause-row c = λ descr.
     let f = flat c.args.frame.now in
     let g = c.args.guard.now in
     let h = c.in_err-taken.field-0.0 in
-    let argued = c.argued-argued.ensures ∙ argued_object c.args.prim g.actor (take (taken c.args.prim f.stack) f.stack) (world_of g) in
+    let argued = c.argued-argued.ensures in
     let was : c.ready.result ≡ Err h = search rules in
     let back : c.from_residual.result ≡ Err (Fault h) = search rules in
     let row = refused_first c.args.prim g.actor descr (locked_by f.marks) f.stack (world_of g) c.argued-argued.result c.ready.result c.requires argued c.ready.ensures.pass h was in
@@ -24,7 +23,7 @@ returns-in_err-made-clause-row c = λ descr.
     let g = c.args.guard.now in
     let n = c.in_ok-taken.taken in
     let h = c.in_err-made.field-0.0 in
-    let argued = c.argued-argued.ensures ∙ argued_object c.args.prim g.actor (take (taken c.args.prim f.stack) f.stack) (world_of g) in
+    let argued = c.argued-argued.ensures in
     let passed : c.ready.result ≡ Ok n = search rules in
     let was : c.made.result ≡ Err h = search rules in
     let back : c.from_residual-in_err-made.result ≡ Err h = search rules in
@@ -37,7 +36,7 @@ returns-in_err-give-clause-row c = λ descr.
     let g = c.args.guard.now in
     let n = c.in_ok-taken.taken in
     let h = c.in_err-give.field-0.0 in
-    let argued = c.argued-argued.ensures ∙ argued_object c.args.prim g.actor (take (taken c.args.prim f.stack) f.stack) (world_of g) in
+    let argued = c.argued-argued.ensures in
     let passed : c.ready.result ≡ Ok n = search rules in
     let made : c.made.result ≡ Ok c.in_ok-made.made = search rules in
     let was : c.give.result ≡ Err h = search rules in
@@ -51,7 +50,7 @@ returns-clause-row c = λ descr.
     let f = flat c.args.frame.now in
     let g = c.args.guard.now in
     let n = c.in_ok-taken.taken in
-    let argued = c.argued-argued.ensures ∙ argued_object c.args.prim g.actor (take (taken c.args.prim f.stack) f.stack) (world_of g) in
+    let argued = c.argued-argued.ensures in
     let passed : c.ready.result ≡ Ok n = search rules in
     let made : c.made.result ≡ Ok c.in_ok-made.made = search rules in
     let was : c.give.result ≡ Ok c.in_ok-give.field-0 = search rules in

@@ -1,0 +1,131 @@
+-- A change by leave, as its row has it.
+use Rattle.std.proofs.Common.{◌≡◌, ◌⊎◌, inl, inr, ℕ, Bool, true, false, cond, List, [], ◌∷◌, Option, Some, None, Ok, Err, refl, sym, ap, subst}
+use Rattle.std.specs.Prelude.{Result}
+use Rattle.muck_model.specs.declared.dbref.Dbref.{Dbref}
+use Rattle.spec_live.specs.declared.fault.DbFault.{DbFault}
+use Rattle.spec_live.specs.declared.fault.DbFault.TheVariants.{NoMemory as WantsMemory, WorldFull as NoRoom}
+use Rattle.spec_live.specs.Making.{create_check}
+use Rattle.spec_live.specs.Objects.{dbref_of}
+use Rattle.spec_live.specs.Lives.{Change}
+use Rattle.spec_rights.specs.declared.act.Act.{Act}
+use Rattle.spec_rights.specs.Verdict.{verdict}
+use Rattle.spec_commands.specs.declared.new.New.{New}
+use Rattle.spec_commands.specs.Building.{act_in, kind_of, may_be}
+use Rattle.muf_model.specs.declared.fault.MufFault.{MufFault}
+use Rattle.muf_model.specs.declared.fault.MufFault.TheVariants.{BadArgument}
+use Rattle.muf_model.specs.declared.value.Value.TheVariants.{Ref}
+use Rattle.muf_model.specs.View.{view}
+use Rattle.muf_frame.specs.declared.fault.PrimFault.{PrimFault}
+use Rattle.muf_frame.specs.declared.fault.PrimFault.TheVariants.{Fault, NoMemory}
+use Rattle.muck_perm.specs.declared.guard.Guard.{Guard}
+use Rattle.muck_perm.specs.Guards.{Same, Done, Founds, objects_of, world_of}
+use Rattle.muck_perm.proofs.Worlds.{same_as}
+use Rattle.spec_prims.specs.Asking.{fault_of}
+use Rattle.spec_prims.specs.Row.{Row, gives, refuses, unless}
+use Rattle.spec_prims.specs.ObjectWrites.{changed, given_made, made_so, new_made}
+use Rattle.prim_common.specs.Applied.{Makes}
+use Rattle.prim_common.specs.declared.made.Made.{Made}
+use Rattle.prim_common.specs.declared.made.Made.TheVariants.{Nothing, One}
+use Rattle.prim_db.specs.Changed.{IsMade, Leaves}
+
+-- after want of memory nothing is said of a row
+wants_in : (row : Row) (old new : Guard) → Same old new → Makes row old new (Err NoMemory)
+wants_in (gives items w) old new h = h
+wants_in (refuses e) old new h = h
+
+pub wants_made : (row : Row) (old new : Guard) → new ≡ old → Makes row old new (Err NoMemory)
+wants_made row old new e = wants_in row old new (same_as old new e)
+
+-- a test before a row
+
+pub passes_before : (o : Option MufFault) (row : Row) (old new : Guard) (result : Result Made PrimFault) → o ≡ None → Makes row old new result → Makes (unless o row) old new result
+passes_before None row old new result e h = h
+passes_before (Some f) row old new result e h = absurd cc
+
+pub fails_before : (o : Option MufFault) (row : Row) (old new : Guard) (e : MufFault) → o ≡ Some e → new ≡ old → Makes (unless o row) old new (Err (Fault e))
+fails_before o row old new e h same = subst (λ o. Makes (unless o row) old new (Err (Fault e))) (sym h) (refl, same)
+
+pub ruleset before = (passes_before, fails_before)
+
+-- leave that isn't given
+
+denied_before : (act : Act) (row : Row) (old new : Guard) (e : PrimFault) → new ≡ old → Leaves act old (Err e) → Makes (unless (fault_of (verdict (objects_of old) old.actor act)) row) old new (Err e)
+denied_before act row old new (Fault f) same h = fails_before _ row old new f h same
+denied_before act row old new NoMemory same h = absurd h
+
+given_before : (act : Act) (row : Row) (old new : Guard) (result : Result Made PrimFault) → verdict (objects_of old) old.actor act ≡ None → Makes row old new result →
+    Makes (unless (fault_of (verdict (objects_of old) old.actor act)) row) old new result
+given_before act row old new result v h = passes_before _ row old new result (ap fault_of v) h
+
+where_true : (may : Bool) (row other : Row) (old new : Guard) (result : Result Made PrimFault) → may ≡ true → Makes row old new result → Makes (cond may row other) old new result
+where_true true row other old new result e h = h
+where_true false row other old new result e h = absurd cc
+
+where_false : (may : Bool) (row other : Row) (old new : Guard) (result : Result Made PrimFault) → may ≡ false → Makes other old new result → Makes (cond may row other) old new result
+where_false false row other old new result e h = h
+where_false true row other old new result e h = absurd cc
+
+-- a write
+
+module _ (act : Act) (may : Bool) (f : Change) (old new : Guard) where
+  abbrev row : Row
+  row = changed old.actor act may f (world_of old)
+
+  pub denied_made : (e : PrimFault) → new ≡ old → Leaves act old (Err e) → Makes row old new (Err e)
+  unfolding changed
+  denied_made e same h = denied_before act (cond may (gives [] (f (world_of old))) (refuses BadArgument)) old new e same h
+
+  pub done_made : verdict (objects_of old) old.actor act ≡ None → may ≡ true → Done f old new → Makes row old new (Ok Nothing)
+  unfolding changed
+  done_made v m h = given_before act _ old new (Ok Nothing) v (where_true may (gives [] (f (world_of old))) (refuses BadArgument) old new (Ok Nothing) m (refl, h))
+
+  pub refused_made : verdict (objects_of old) old.actor act ≡ None → may ≡ false → new ≡ old → Makes row old new (Err (Fault BadArgument))
+  unfolding changed
+  refused_made v m same = given_before act _ old new (Err (Fault BadArgument)) v (where_false may (gives [] (f (world_of old))) (refuses BadArgument) old new (Err (Fault BadArgument)) m (refl, same))
+
+pub ruleset changing = (wants_made, denied_made, done_made, refused_made)
+
+-- what is made
+
+why_none : (change : ℕ → ℕ → Change) (fault found : DbFault) (old new : Guard) (result : Result Made PrimFault) → ((found ≡ fault) ⊎ (found ≡ WantsMemory)) → new ≡ old → IsMade (Err found) result →
+    Makes (given_made (Err fault) change (world_of old)) old new result
+why_none change fault found old new result (inr e) same h =
+    let none : result ≡ Err NoMemory = subst (λ (x : DbFault). IsMade (Err x) result) e h in
+    subst (λ r. Makes (given_made (Err fault) change (world_of old)) old new r) (sym none) (wants_made _ old new same)
+why_none change fault found old new result (inl e) same h = at fault (subst (λ (x : DbFault). IsMade (Err x) result) e h)
+  where
+    at : (fault : DbFault) → IsMade (Err fault) result → Makes (given_made (Err fault) change (world_of old)) old new result
+    at WantsMemory k = subst (λ r. Makes (given_made (Err WantsMemory) change (world_of old)) old new r) (sym k) (wants_made _ old new same)
+    at NoRoom k = subst (λ r. Makes (given_made (Err NoRoom) change (world_of old)) old new r) (sym k) (refl, same)
+    at _ k = subst (λ r. Makes (refuses BadArgument) old new r) (sym k) (refl, same)
+
+pub number_given : (check : Result (ℕ × ℕ) DbFault) (change : ℕ → ℕ → Change) (old new : Guard) (made : Result Dbref DbFault) (result : Result Made PrimFault) → Founds check change old new made → IsMade made result →
+    Makes (given_made check change (world_of old)) old new result
+number_given (Ok p) change old new (Ok object) result f h =
+    subst (λ r. Makes (given_made (Ok p) change (world_of old)) old new r) (sym h) (ap (λ (d : Dbref). view (Ref d) ∷ []) f.0, f.1)
+number_given (Ok p) change old new (Err found) result f h =
+    let none : result ≡ Err NoMemory = subst (λ (x : DbFault). IsMade (Err x) result) f.0 h in
+    subst (λ r. Makes (given_made (Ok p) change (world_of old)) old new r) (sym none) (wants_made _ old new f.1)
+number_given (Err fault) change old new (Ok object) result f h = absurd f
+number_given (Err fault) change old new (Err found) result f h = why_none change fault found old new result f.0 f.1 h
+
+module _ (new : New) (name : List ℕ) (place : Dbref) (old now : Guard) where
+  abbrev row : Row
+  row = new_made old.actor new name place (world_of old)
+
+  abbrev made : Row
+  made = given_made (create_check (kind_of new) old.actor.user place (objects_of old)) (made_so new name old.actor.user) (world_of old)
+
+  pub denied_making : (e : PrimFault) → now ≡ old → Leaves (act_in place new) old (Err e) → Makes row old now (Err e)
+  unfolding new_made
+  denied_making e same h = denied_before (act_in place new) (cond (may_be new (world_of old)) made (refuses BadArgument)) old now e same h
+
+  pub done_making : (result : Result Made PrimFault) → verdict (objects_of old) old.actor (act_in place new) ≡ None → may_be new (world_of old) ≡ true → Makes made old now result → Makes row old now result
+  unfolding new_made
+  done_making result v m h = given_before (act_in place new) _ old now result v (where_true (may_be new (world_of old)) made (refuses BadArgument) old now result m h)
+
+  pub refused_making : verdict (objects_of old) old.actor (act_in place new) ≡ None → may_be new (world_of old) ≡ false → now ≡ old → Makes row old now (Err (Fault BadArgument))
+  unfolding new_made
+  refused_making v m same = given_before (act_in place new) _ old now (Err (Fault BadArgument)) v (where_false (may_be new (world_of old)) made (refuses BadArgument) old now (Err (Fault BadArgument)) m (refl, same))
+
+pub ruleset creating = (wants_made, denied_making, done_making, refused_making)

@@ -1,0 +1,42 @@
+-- When what a row changes is open to who acts, and what is to be told of it.
+use Rattle.std.proofs.Common.{◌≡◌, ℕ, List, Option, Some, None}
+use Rattle.spec_live.specs.Lives.{Live, unchanged}
+use Rattle.spec_rights.specs.declared.act.Actor.{Actor}
+use Rattle.spec_rights.specs.declared.act.Act.{Act}
+use Rattle.spec_rights.specs.Licence.{nobody}
+use Rattle.spec_rights.proofs.Licences.{Ended, Given, Proper, Shows, judge, itself, end_quietly, ends_quiet, quiet_unchanged}
+use Rattle.spec_rights.proofs.Rights.{same_itself}
+use Rattle.muf_model.specs.Datum.{Datum}
+use Rattle.spec_prims.specs.Asking.{level_fault}
+use Rattle.spec_prims.specs.Row.{Row, gives, refuses, Doing}
+
+-- it is open to the actor, or nothing has changed
+abbrev pub RowOpen : Actor → Live → Row → Type 0
+RowOpen a w (gives items v) = Proper a nobody w v
+RowOpen a w (refuses f) = Unit {0}
+
+-- by the laws of what is changed, where the act was allowed
+pub ended_open : (a : Actor) (act : Option Act) (w v : Live) → Ended itself a nobody act w v → Given act w.objects a → Proper a nobody w v
+ended_open a act w v h given =
+    let t = h.law w.objects (same_itself w.objects) given in
+    record {
+      licensed = record { gone = None; recycled = λ x e. absurd (cc); vanished = λ x e. absurd (cc); objects = t.rows; lists = t.lists; connections = t.ties; tune = t.tune };
+      marks = t.marks;
+    }
+
+-- where nothing changes, and where something is shown alone
+pub same_open : (a : Actor) (w : Live) → Proper a nobody w w
+unfolding unchanged
+same_open a w = ended_open a None w w ((ends_quiet a nobody None unchanged quiet_unchanged).law w) tt
+
+pub shows_open : (a : Actor) (w v : Live) → Shows w v → Proper a nobody w v
+unfolding unchanged
+shows_open a w v h =
+    ended_open a None w v (record {
+      law = λ start same given. end_quietly (judge a nobody start) w w v (((ends_quiet a nobody None unchanged quiet_unchanged).law w).law start same given) h;
+    }) tt
+
+-- of a primitive whose level the actor has
+abbrev pub IsOpen : ℕ → Option Doing → Type 0
+IsOpen level None = Unit {0}
+IsOpen level (Some doing) = (a : Actor) (items : List Datum) (w : Live) → level_fault a w.objects level ≡ None → RowOpen a w (doing.does a items w)
