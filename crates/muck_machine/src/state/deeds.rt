@@ -10,10 +10,12 @@ ghost use Rattle.muf_model.specs.Answer.{too_few};
 ghost use Rattle.muf_model.specs.Decode.{tree_of};
 ghost use Rattle.muf_model.specs.Flat.{Flat};
 ghost use Rattle.muf_model.specs.Source.{Source, last_word, locked_of, passed};
+ghost use Rattle.muck_perm.specs.Guards.{world_of};
 ghost use Rattle.muf_frame.specs.Shown.{Shown, flat, locked_by};
 ghost use Rattle.muf_running.specs.Fitting.{IsAtPrimitive};
 ghost use Rattle.muf_running.specs.Lending.{Apart, Differs, with_frame};
 ghost use Rattle.spec_prims.specs.Shared.{shared};
+ghost use Rattle.prim_common.specs.Applied.{Applied};
 ghost use Rattle.muck_library.specs.Library.{formed};
 ghost use Rattle.spec_events.specs.Slices.{acting, behind, call_count, called_word, deed, form_called, is_offered, row_done, with_forms};
 ghost use Rattle.muck_machine.specs.Deeds.{asked_of, called_in, target, AppliedTo, DoneAs, Enters, IsWord, MayEnter, PassesOn, Permits};
@@ -114,8 +116,7 @@ impl State {
         }
     }
 
-    // The row of a primitive, by the family that it is of.
-    #[tactic(auto, using(crate::proofs::Deeds::without_row))]
+    // The row of a primitive: objects and board are lent to it.
     fn apply(
         &mut self,
         prim: Prim,
@@ -126,12 +127,7 @@ impl State {
         ensures { AppliedTo (shared prim actor descr (locked_by (flat frame.old).marks) (flat frame.old).stack self.old.live) frame.old frame.new self.old self.new result }
     {
         let mut guard = Guard::new(self.alloc, &mut self.db, &mut self.board, actor);
-        match prim.family() {
-            Family::Object => prim_db::apply(prim, &mut guard, frame),
-            Family::Property => prim_prop::apply(prim, &mut guard, frame),
-            Family::Talk => prim_talk::apply(prim, &mut guard, frame, descr),
-            _ => Err(PrimFault::Fault(MufFault::NotCompiled)),
-        }
+        apply_by_family(prim, &mut guard, frame, descr)
     }
 
     fn do_call(&mut self, agent: Agent, running: Running) -> Result<Done, NoMemory>
@@ -247,6 +243,24 @@ impl State {
             Some(object) if matches!(object.kind(), Kind::Program) => Ok(()),
             _ => Err(MufFault::BadType),
         }
+    }
+}
+
+// The row of a primitive, by the family that it is of.
+#[tactic(auto, using(crate::proofs::Deeds::without_row))]
+fn apply_by_family(
+    prim: Prim,
+    guard: &mut Guard,
+    frame: &mut Frame,
+    descr: Option<u32>,
+) -> Result<(), PrimFault>
+    ensures { Applied (shared prim guard.old.actor descr (locked_by (flat frame.old).marks) (flat frame.old).stack (world_of guard.old)) frame.old frame.new guard.old guard.new result }
+{
+    match prim.family() {
+        Family::Object => prim_db::apply(prim, guard, frame),
+        Family::Property => prim_prop::apply(prim, guard, frame),
+        Family::Talk => prim_talk::apply(prim, guard, frame, descr),
+        _ => Err(PrimFault::Fault(MufFault::NotCompiled)),
     }
 }
 
