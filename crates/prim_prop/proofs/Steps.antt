@@ -1,5 +1,5 @@
 -- What a row makes at each of its returns.
-use Rattle.std.proofs.Common.{◌≡◌, ℕ, List, [], ◌∷◌, take, Bool, true, false, Option, Some, None, refl, sym, ap, ◌∙◌, subst, inl, inr}
+use Rattle.std.proofs.Common.{◌≡◌, ℕ, List, [], ◌∷◌, take, true, Option, Some, None, refl, sym, ap, ◌∙◌, subst}
 use Rattle.std.specs.Prelude.{ℤ, is_some, Result, Ok, Err, if◌then◌else◌}
 use Rattle.std.specs.Option.{option_map_or}
 use Rattle.muck_model.specs.declared.dbref.Dbref.{Dbref}
@@ -9,7 +9,7 @@ use Rattle.muck_prop.specs.Paths.{path_fault, path_text, segments_of}
 use Rattle.spec_live.specs.declared.object.Object.{Object}
 use Rattle.spec_live.specs.declared.fault.DbFault.{DbFault}
 use Rattle.spec_live.specs.declared.fault.DbFault.TheVariants.{NoMemory as WantsMemory, NoSuchObject, WrongKind}
-use Rattle.spec_live.specs.Objects.{Entry, number_in, object_at}
+use Rattle.spec_live.specs.Objects.{number_in, object_at}
 use Rattle.spec_live.specs.Setting.{any, checked, set_at, with_prop, without_prop}
 use Rattle.spec_live.specs.Seen.{places_of}
 use Rattle.spec_live.specs.Lives.{Live, Change}
@@ -19,7 +19,7 @@ use Rattle.spec_rights.specs.Verdict.{verdict}
 use Rattle.spec_rights.specs.Changing.{stored, unstored}
 use Rattle.muf_model.specs.declared.fault.MufFault.{MufFault}
 use Rattle.muf_model.specs.declared.fault.MufFault.TheVariants.{BadArgument}
-use Rattle.muf_model.specs.Datum.{Datum, text, object}
+use Rattle.muf_model.specs.Datum.{Datum, text}
 use Rattle.muf_frame.specs.declared.fault.PrimFault.{PrimFault}
 use Rattle.muf_frame.specs.declared.fault.PrimFault.TheVariants.{Fault, NoMemory}
 use Rattle.muck_perm.specs.declared.guard.Guard.{Guard}
@@ -31,7 +31,7 @@ use Rattle.spec_prims.specs.PropRows.{at_path, looked, sought, name_fault, begin
 use Rattle.prim_common.specs.declared.made.Made.{Made}
 use Rattle.prim_common.specs.declared.made.Made.TheVariants.{Nothing}
 use Rattle.prim_common.specs.Applied.{Makes, items_of}
-use Rattle.prim_prop.specs.Asked.{IsPathed, MayPass, IsWritten, named_in}
+use Rattle.prim_prop.specs.Asked.{IsWritten, named_in}
 use Rattle.prim_prop.specs.declared.walking.Start.{Start}
 use Rattle.prim_prop.specs.Walks.{Starts, begun}
 use Rattle.prim_prop.proofs.Taken.{looked_at, sought_at, walked_at, removed_at}
@@ -54,20 +54,12 @@ no_path_by : (o : Option PropFault) (row : Row) → is_some o ≡ true → at_pa
 no_path_by None row e = absurd (cc)
 no_path_by (Some f) row e = refl
 
-pub no_path : (all row : Row) (t : List ℕ) (g : Guard) (e : PrimFault) → all ≡ at_path (path_fault t) row → IsPathed t (Err e) → Makes all g g (Err e)
-no_path all row t g (Fault f) is h = refused all g f (is ∙ no_path_by (path_fault t) row h.0 ∙ ap refuses (sym h.1))
-no_path all row t g NoMemory is h = wants all g g (same_as g g refl)
-
 pub no_name : (all row : Row) (t : List ℕ) (g : Guard) (e : PrimFault) → all ≡ at_path (name_fault t) row → Starts t (Err e) → Makes all g g (Err e)
 no_name all row t g (Fault f) is h = refused all g f (is ∙ no_path_by (name_fault t) row h.0 ∙ ap refuses (sym h.1))
 no_name all row t g NoMemory is h = wants all g g (same_as g g refl)
 
 past_path : (t : List ℕ) (row : Row) → path_fault t ≡ None → at_path (path_fault t) row ≡ row
 past_path t row e = ap (λ o. at_path o row) e
-
-pub no_leave : (all row : Row) (o : Option MufFault) (g : Guard) (e : PrimFault) → all ≡ unless o row → MayPass o (Err e) → Makes all g g (Err e)
-no_leave all row o g (Fault f) is h = refused all g f (is ∙ ap (λ x. unless x row) h)
-no_leave all row o g NoMemory is h = wants all g g (same_as g g refl)
 
 pub past_leave : (all row : Row) (o : Option MufFault) → all ≡ unless o row → o ≡ None → all ≡ row
 past_leave all row o is e = is ∙ ap (λ x. unless x row) e

@@ -1,6 +1,6 @@
 -- Rows, by what stands on the stack.
 use Rattle.std.proofs.Common.{◌≡◌, ℕ, zero, suc, ◌+◌, List, [], ◌∷◌, take, drop, Option, Some, None, refl, ap, sym, ◌∙◌, add-one}
-use Rattle.std.specs.Prelude.{ℤ, option_map}
+use Rattle.std.specs.Prelude.{ℤ}
 use Rattle.std.specs.Option.{option_map_or}
 use Rattle.muck_prop.specs.declared.value.PropValue.{PropValue}
 use Rattle.muck_prop.specs.declared.value.PropValue.TheVariants.{Text, Number}
@@ -10,11 +10,10 @@ use Rattle.spec_live.specs.Lives.{Live}
 use Rattle.spec_live.specs.Seen.{places_of}
 use Rattle.spec_rights.specs.declared.act.Actor.{Actor}
 use Rattle.spec_rights.specs.Changing.{unstored}
-use Rattle.muf_model.specs.declared.fault.MufFault.TheVariants.{BadType}
 use Rattle.muf_model.specs.Datum.{Datum, int, text, object}
 use Rattle.muf_frame.specs.Answers.{int_at, text_at, object_at}
 use Rattle.spec_prims.specs.Asking.{numbered}
-use Rattle.spec_prims.specs.Row.{Row, gives, refuses}
+use Rattle.spec_prims.specs.Row.{gives}
 use Rattle.spec_prims.specs.PropRows.{at_path, seen_at, looked, first_holder, sought, next_read, begins, name_fault, walked, written_at, put_at, put, text_or, added, removed}
 use Rattle.prim_prop.specs.Asked.{named_in, stored_by, added_by}
 
@@ -59,24 +58,10 @@ pub ruleset named_steps = (named_none, named_alone, named_both)
 
 -- a text upon an object
 
-pub looked_none : (look : Option Object → List (List ℕ) → Datum) (a : Actor) (stack : List Datum) (w : Live) → named_in stack ≡ None → looked look a (take 2 stack) w ≡ refuses BadType
-looked_none look a (text t ∷ object d ∷ rest) w e = absurd (cc)
-looked_none look a [] w e = refl
-looked_none look a (text t ∷ []) w e = refl
-looked_none look a (_ ∷ []) w e = refl
-looked_none look a (_ ∷ _ ∷ rest) w e = refl
-
 pub looked_at : (look : Option Object → List (List ℕ) → Datum) (a : Actor) (stack : List Datum) (w : Live) (d : ℤ) (t : List ℕ) → named_in stack ≡ Some (d, t) → looked look a (take 2 stack) w ≡ at_path (path_fault t) (seen_at look a (segments_of t) (numbered d) w)
 looked_at look a (text u ∷ object o ∷ rest) w d t e =
     ap (λ (q : ℤ × List ℕ). at_path (path_fault q.1) (seen_at look a (segments_of q.1) (numbered q.0) w)) (some_is (o, u) (d, t) e)
 looked_at look a stack w d t e = absurd (cc)
-
-pub sought_none : (shown : Option PropValue → Datum) (a : Actor) (stack : List Datum) (w : Live) → named_in stack ≡ None → sought shown a (take 2 stack) w ≡ refuses BadType
-sought_none shown a (text t ∷ object d ∷ rest) w e = absurd (cc)
-sought_none shown a [] w e = refl
-sought_none shown a (text t ∷ []) w e = refl
-sought_none shown a (_ ∷ []) w e = refl
-sought_none shown a (_ ∷ _ ∷ rest) w e = refl
 
 pub sought_at : (shown : Option PropValue → Datum) (a : Actor) (stack : List Datum) (w : Live) (d : ℤ) (t : List ℕ) → named_in stack ≡ Some (d, t) →
     sought shown a (take 2 stack) w ≡ at_path (path_fault t) (first_holder shown a (segments_of t) (numbered d ∷ places_of w.objects (numbered d)) w)
@@ -84,25 +69,11 @@ sought_at shown a (text u ∷ object o ∷ rest) w d t e =
     ap (λ (q : ℤ × List ℕ). at_path (path_fault q.1) (first_holder shown a (segments_of q.1) (numbered q.0 ∷ places_of w.objects (numbered q.0)) w)) (some_is (o, u) (d, t) e)
 sought_at shown a stack w d t e = absurd (cc)
 
-pub walked_none : (a : Actor) (stack : List Datum) (w : Live) → named_in stack ≡ None → walked a (take 2 stack) w ≡ refuses BadType
-walked_none a (text t ∷ object d ∷ rest) w e = absurd (cc)
-walked_none a [] w e = refl
-walked_none a (text t ∷ []) w e = refl
-walked_none a (_ ∷ []) w e = refl
-walked_none a (_ ∷ _ ∷ rest) w e = refl
-
 pub walked_at : (a : Actor) (stack : List Datum) (w : Live) (d : ℤ) (t : List ℕ) → named_in stack ≡ Some (d, t) →
     walked a (take 2 stack) w ≡ at_path (name_fault t) (gives (text (option_map_or path_text (next_read a (numbered d) (begins t) w) []) ∷ []) w)
 walked_at a (text u ∷ object o ∷ rest) w d t e =
     ap (λ (q : ℤ × List ℕ). at_path (name_fault q.1) (gives (text (option_map_or path_text (next_read a (numbered q.0) (begins q.1) w) []) ∷ []) w)) (some_is (o, u) (d, t) e)
 walked_at a stack w d t e = absurd (cc)
-
-pub removed_none : (a : Actor) (stack : List Datum) (w : Live) → named_in stack ≡ None → removed a (take 2 stack) w ≡ refuses BadType
-removed_none a (text t ∷ object d ∷ rest) w e = absurd (cc)
-removed_none a [] w e = refl
-removed_none a (text t ∷ []) w e = refl
-removed_none a (_ ∷ []) w e = refl
-removed_none a (_ ∷ _ ∷ rest) w e = refl
 
 pub removed_at : (a : Actor) (stack : List Datum) (w : Live) (d : ℤ) (t : List ℕ) → named_in stack ≡ Some (d, t) →
     removed a (take 2 stack) w ≡ at_path (path_fault t) (written_at a (segments_of t) (numbered d) (unstored (numbered d) (segments_of t)) w)
@@ -128,32 +99,6 @@ stored_none (_ ∷ rest) e f = refl
 
 pub ruleset stored_steps = (stored_int, stored_text, stored_none)
 
-pub put_bad : (a : Actor) (stack : List Datum) (w : Live) → stored_by stack ≡ None → put a (take 3 stack) w ≡ refuses BadType
-put_bad a (int n ∷ rest) w e = absurd (cc)
-put_bad a (text u ∷ rest) w e = absurd (cc)
-put_bad a [] w e = refl
-put_bad a (_ ∷ []) w e = refl
-put_bad a (_ ∷ _ ∷ []) w e = refl
-put_bad a (_ ∷ _ ∷ _ ∷ rest) w e = refl
-
-put_under : (a : Actor) (x : Datum) (stack : List Datum) (w : Live) → named_in stack ≡ None → put a (x ∷ take 2 stack) w ≡ refuses BadType
-put_under a x (text t ∷ object d ∷ rest) w e = absurd (cc)
-put_under a (int n) [] w e = refl
-put_under a (text u) [] w e = refl
-put_under a _ [] w e = refl
-put_under a (int n) (text t ∷ []) w e = refl
-put_under a (int n) (_ ∷ []) w e = refl
-put_under a (text u) (text t ∷ []) w e = refl
-put_under a (text u) (_ ∷ []) w e = refl
-put_under a _ (_ ∷ []) w e = refl
-put_under a (int n) (_ ∷ _ ∷ rest) w e = refl
-put_under a (text u) (_ ∷ _ ∷ rest) w e = refl
-put_under a _ (_ ∷ _ ∷ rest) w e = refl
-
-pub put_none : (a : Actor) (stack : List Datum) (w : Live) → named_in (drop 1 stack) ≡ None → put a (take 3 stack) w ≡ refuses BadType
-put_none a [] w e = refl
-put_none a (x ∷ stack) w e = put_under a x stack w e
-
 pub put_so : (a : Actor) (stack : List Datum) (w : Live) (v : PropValue) (d : ℤ) (t : List ℕ) → stored_by stack ≡ Some v → named_in (drop 1 stack) ≡ Some (d, t) → put a (take 3 stack) w ≡ put_at a t d v w
 put_so a (int n ∷ text u ∷ object o ∷ rest) w v d t f e =
     ap (λ (q : ℤ × List ℕ). put_at a q.1 q.0 (Number n) w) (some_is (o, u) (d, t) e) ∙ ap (λ x. put_at a t d x w) (some_is (Number n) v f)
@@ -162,24 +107,6 @@ put_so a (text y ∷ text u ∷ object o ∷ rest) w v d t f e =
 put_so a stack w v d t f e = absurd (cc)
 
 -- an integer and a text upon them
-
-pub added_bad : (a : Actor) (stack : List Datum) (w : Live) → added_by stack ≡ None → added a (take 4 stack) w ≡ refuses BadType
-added_bad a (int n ∷ text u ∷ rest) w e = absurd (cc)
-added_bad a [] w e = refl
-added_bad a (int n ∷ []) w e = refl
-added_bad a (int n ∷ _ ∷ rest) w e = refl
-added_bad a (_ ∷ rest) w e = refl
-
-added_under : (a : Actor) (n : ℤ) (u : List ℕ) (stack : List Datum) (w : Live) → named_in stack ≡ None → added a (int n ∷ text u ∷ take 2 stack) w ≡ refuses BadType
-added_under a n u (text t ∷ object d ∷ rest) w e = absurd (cc)
-added_under a n u [] w e = refl
-added_under a n u (text t ∷ []) w e = refl
-added_under a n u (_ ∷ []) w e = refl
-added_under a n u (_ ∷ _ ∷ rest) w e = refl
-
-pub added_none : (a : Actor) (stack : List Datum) (w : Live) (n : ℤ) (u : List ℕ) → added_by stack ≡ Some (n, u) → named_in (drop 2 stack) ≡ None → added a (take 4 stack) w ≡ refuses BadType
-added_none a (int m ∷ text v ∷ stack) w n u f e = added_under a m v stack w e
-added_none a stack w n u f e = absurd (cc)
 
 pub added_so : (a : Actor) (stack : List Datum) (w : Live) (n : ℤ) (u : List ℕ) (d : ℤ) (t : List ℕ) → added_by stack ≡ Some (n, u) → named_in (drop 2 stack) ≡ Some (d, t) → added a (take 4 stack) w ≡ put_at a t d (text_or u n) w
 added_so a (int m ∷ text v ∷ text s ∷ object o ∷ rest) w n u d t f e =

@@ -1,4 +1,4 @@
-use Rattle.std.proofs.Common.{◌≡◌, [], ◌∷◌, Some, None, ap, ◌∙◌, sym, rules}
+use Rattle.std.proofs.Common.{◌≡◌, [], ◌∷◌, Some, ap, rules}
 use Rattle.spec_live.specs.Objects.{object_at}
 use Rattle.muf_model.specs.View.{view}
 use Rattle.muf_frame.specs.Shown.{flat}
