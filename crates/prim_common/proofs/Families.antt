@@ -1,7 +1,6 @@
 -- What the `apply` of a family answers, by the row that stands there for the primitive.
-use Rattle.std.proofs.Common.{◌≡◌, ℕ, List, length, take, drop, Option, Result, Ok, Err, sym, ap, ◌∙◌, subst}
+use Rattle.std.proofs.Common.{◌≡◌, ℕ, List, take, drop, Option, Result, Ok, Err, sym, ap, ◌∙◌, subst}
 use Rattle.std.specs.Prelude.{is_some}
-use Rattle.spec_live.specs.Lives.{Live}
 use Rattle.muf_model.specs.declared.fault.MufFault.{MufFault}
 use Rattle.muf_model.specs.declared.prims.Primitive.{Primitive}
 use Rattle.muf_model.specs.Datum.{Datum}
