@@ -208,7 +208,7 @@ is_there p = is_some (needs_of p)
 
 -- the row that a row in code stands for
 abbrev pub shown_row : Kept → Row
-shown_row r = record { name = r.name.now; level = r.level; family = r.family; needs = option_map shown_needs r.needs }
+shown_row r = record { name = r.name.now; level = r.level; family = r.family; needs = option_map shown_needs r.needs.now }
 
 -- the stack and the variables alone, and no world
 abbrev pub is_local_family : Family → Bool

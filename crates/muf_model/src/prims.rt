@@ -9,9 +9,9 @@ ghost use Rattle.muf_model.specs.Prims.{row_of, shown_row, level_of, is_local, i
 use crate::needs::{
     A_LOCK, A_NUMBERED, A_TEXT, A_VARIABLE, AN_ADDRESS, AN_INT, COUNTED_ITEMS,
     INT_AND_TEXTS_FOR_ONE_NEAR, INT_OR_OBJECT, INT_OVER_TEXT, INT_OVER_TEXTS, INTS_OVER_TEXT, ITEM,
-    ITEM_OVER_COUNTED, KEY_AND_TEXT_FOR_ONE_NEAR, LOCK_FOR_ONE_THERE, NOTHING, Needs, ONE_NEAR,
-    ONE_THERE, TEXT_FOR_ONE_NEAR, THREE_ITEMS, THREE_TEXTS, TWO_ALIKE, TWO_INTS, TWO_ITEMS,
-    TWO_OBJECTS, TWO_TEXTS, TWO_THERE, VARIABLE_AND_ITEM,
+    ITEM_OVER_COUNTED, KEY_AND_TEXT_FOR_ONE_NEAR, LOCK_FOR_ONE_THERE, NOT_YET, NOTHING, Needs,
+    ONE_NEAR, ONE_THERE, TEXT_FOR_ONE_NEAR, THREE_ITEMS, THREE_TEXTS, TWO_ALIKE, TWO_INTS,
+    TWO_ITEMS, TWO_OBJECTS, TWO_TEXTS, TWO_THERE, VARIABLE_AND_ITEM,
 };
 
 /// A primitive. Its name in programs stands in its row of the table, with its level and what it needs on the stack.
@@ -208,17 +208,20 @@ pub struct Row {
     pub name: &'static [u8],
     pub level: u8,
     pub family: Family,
-    pub needs: Option<Needs>,
+    pub needs: &'static Option<Needs>,
 }
 
 // One row of the table.
 macro_rules! row {
+    ($name:literal, $level:literal, $family:ident, None) => {
+        row!($name, $level, $family, NOT_YET)
+    };
     ($name:literal, $level:literal, $family:ident, $needs:ident) => {
         Row {
             name: $name,
             level: $level,
             family: Family::$family,
-            needs: $needs,
+            needs: &$needs,
         }
     };
 }
@@ -441,7 +444,7 @@ impl Primitive {
     pub fn needs(self) -> Option<Needs>
         ensures { option_map shown_needs result ≡ needs_of self }
     {
-        self.row().needs
+        *self.row().needs
     }
 
     /// Whether programs may use it so far; a program that names another one doesn't compile.
