@@ -116,7 +116,8 @@ const THERE: Need = need!(Object, there);
 
 const NEAR: Need = need!(Object, near);
 
-// Items that are taken, the top first, and behind a `;` what the top counts, and what stands below that.
+// Items that are taken, the top first, and behind a `;` what the top counts, and what stands below that. A number before them says
+// how deep the item stands that counts, where that isn't the top.
 macro_rules! takes {
     ($($fixed:ident),*) => {
         Some(Needs {
@@ -125,10 +126,13 @@ macro_rules! takes {
         })
     };
     ($($fixed:ident),*; $($each:ident),*; $($under:ident),*) => {
+        takes!(0: $($fixed),*; $($each),*; $($under),*)
+    };
+    ($at:literal: $($fixed:ident),*; $($each:ident),*; $($under:ident),*) => {
         Some(Needs {
             fixed: &[$($fixed),*],
             many: Some(Many {
-                at: 0,
+                at: $at,
                 each: &[$($each),*],
                 under: &[$($under),*],
             }),
@@ -182,6 +186,8 @@ pub(crate) static INTS_OVER_TEXT: Option<Needs> = takes!(INT, INT, TEXT);
 pub(crate) static INT_OR_OBJECT: Option<Needs> = takes!(EITHER);
 
 pub(crate) static TEXT_FOR_ONE_NEAR: Option<Needs> = takes!(TEXT, NEAR);
+
+pub(crate) static TEXT_BUT_FOR_COUNTED: Option<Needs> = takes!(1: TEXT, INT; THERE; NEAR);
 
 pub(crate) static KEY_AND_TEXT_FOR_ONE_NEAR: Option<Needs> = takes!(KEY, TEXT, NEAR);
 

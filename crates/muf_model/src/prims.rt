@@ -10,8 +10,8 @@ use crate::needs::{
     A_LOCK, A_NUMBERED, A_TEXT, A_VARIABLE, AN_ADDRESS, AN_INT, COUNTED_ITEMS,
     INT_AND_TEXTS_FOR_ONE_NEAR, INT_OR_OBJECT, INT_OVER_TEXT, INT_OVER_TEXTS, INTS_OVER_TEXT, ITEM,
     ITEM_OVER_COUNTED, KEY_AND_TEXT_FOR_ONE_NEAR, LOCK_FOR_ONE_THERE, NOT_YET, NOTHING, Needs,
-    ONE_NEAR, ONE_THERE, TEXT_FOR_ONE_NEAR, THREE_ITEMS, THREE_TEXTS, TWO_ALIKE, TWO_INTS,
-    TWO_ITEMS, TWO_OBJECTS, TWO_TEXTS, TWO_THERE, VARIABLE_AND_ITEM,
+    ONE_NEAR, ONE_THERE, TEXT_BUT_FOR_COUNTED, TEXT_FOR_ONE_NEAR, THREE_ITEMS, THREE_TEXTS,
+    TWO_ALIKE, TWO_INTS, TWO_ITEMS, TWO_OBJECTS, TWO_TEXTS, TWO_THERE, VARIABLE_AND_ITEM,
 };
 
 /// A primitive. Its name in programs stands in its row of the table, with its level and what it needs on the stack.
@@ -382,14 +382,14 @@ impl Primitive {
             Primitive::EnvPropStr => row!(b"ENVPROPSTR", 1, Property, TEXT_FOR_ONE_NEAR),
             Primitive::ParseMpi => row!(b"PARSEMPI", 3, Property, None),
             Primitive::Notify => row!(b"NOTIFY", 1, Talk, TEXT_FOR_ONE_NEAR),
-            Primitive::NotifyExclude => row!(b"NOTIFY_EXCLUDE", 1, Talk, None),
+            Primitive::NotifyExclude => row!(b"NOTIFY_EXCLUDE", 1, Talk, TEXT_BUT_FOR_COUNTED),
             Primitive::IsAwake => row!(b"AWAKE?", 1, Talk, ONE_THERE),
             Primitive::Online => row!(b"ONLINE", 3, Talk, NOTHING),
             Primitive::ConCount => row!(b"CONCOUNT", 1, Talk, NOTHING),
             Primitive::ConDbref => row!(b"CONDBREF", 3, Talk, AN_INT),
             Primitive::Descriptors => row!(b"DESCRIPTORS", 3, Talk, ONE_THERE),
             Primitive::Descr => row!(b"DESCR", 1, Talk, NOTHING),
-            Primitive::ConBoot => row!(b"CONBOOT", 4, Talk, None),
+            Primitive::ConBoot => row!(b"CONBOOT", 4, Talk, AN_INT),
             Primitive::Call => row!(b"CALL", 1, Process, ONE_THERE),
             Primitive::Fork => row!(b"FORK", 3, Process, None),
             Primitive::Sleep => row!(b"SLEEP", 1, Process, None),
