@@ -31,14 +31,10 @@ fn make(db: &mut Db, alloc: Global, kind: Kind, place: Dbref) -> Result<Dbref, D
     db.create(alloc, kind, name, ONE, place)
 }
 
-// A world with the two rooms.
-fn two_rooms(alloc: Global) -> Result<Db, DbFault> {
-    let Ok(mut db) = Db::starting(alloc) else {
-        return Err(DbFault::NoMemory);
-    };
-    make(&mut db, alloc, Kind::Room, ROOM_ZERO)?;
-    make(&mut db, alloc, Kind::Room, ROOM_ZERO)?;
-    Ok(db)
+fn make_rooms(db: &mut Db, alloc: Global) -> Result<(), DbFault> {
+    make(db, alloc, Kind::Room, ROOM_ZERO)?;
+    make(db, alloc, Kind::Room, ROOM_ZERO)?;
+    Ok(())
 }
 
 fn make_things(db: &mut Db, alloc: Global, count: u32) -> Result<(), DbFault> {
@@ -105,15 +101,33 @@ fn found(db: &Db, name: &Line, count: u32) -> u32 {
     found
 }
 
-/// Does each so many times; answers how many objects there are then, and how many searches found someone.
-pub fn run(alloc: Global, things: u32, moves: u32, rooms: u32, searches: u32) -> Option<String> {
-    let mut db = two_rooms(alloc).ok()?;
-    make_things(&mut db, alloc, things).ok()?;
-    move_things(&mut db, things, moves).ok()?;
-    let rooms = linked_rooms(&mut db, alloc, rooms).ok()?;
-    recycle_rooms(&mut db, &rooms).ok()?;
+// Makes and recycles so many linked rooms.
+fn pass_rooms(db: &mut Db, alloc: Global, count: u32) -> Result<(), DbFault> {
+    let rooms = linked_rooms(db, alloc, count)?;
+    recycle_rooms(db, &rooms)
+}
+
+// Does each so many times but for the searches, in a world that has no two rooms yet.
+fn work(db: &mut Db, alloc: Global, things: u32, moves: u32, rooms: u32) -> Result<(), DbFault> {
+    make_rooms(db, alloc)?;
+    make_things(db, alloc, things)?;
+    move_things(db, things, moves)?;
+    pass_rooms(db, alloc, rooms)
+}
+
+// How many objects there are, and how many of so many searches find someone.
+fn counted(db: &Db, alloc: Global, searches: u32) -> Option<String> {
     let name = a_name(alloc).ok()?;
-    let found = found(&db, &name, searches);
+    let found = found(db, &name, searches);
     let objects = db.objects();
     format!(in alloc; "{objects} objects, {found} found").ok()
+}
+
+/// Does each so many times; answers how many objects there are then, and how many searches found someone.
+pub fn run(alloc: Global, things: u32, moves: u32, rooms: u32, searches: u32) -> Option<String> {
+    let mut db = Db::starting(alloc).ok()?;
+    match work(&mut db, alloc, things, moves, rooms) {
+        Ok(()) => counted(&db, alloc, searches),
+        Err(_) => None,
+    }
 }

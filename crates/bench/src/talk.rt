@@ -30,28 +30,22 @@ fn a_name(alloc: Global) -> Option<Line>
     Line::new(alloc, b"Two").ok()
 }
 
-// Room Zero with One, two more players, and so many things.
-fn crowd(alloc: Global, things: u32) -> Option<Db> {
-    let mut db = Db::starting(alloc).ok()?;
-    for _ in 0..2u32 {
+// So many more objects of a kind in Room Zero.
+fn make(db: &mut Db, alloc: Global, kind: Kind, count: u32) -> Option<()> {
+    for _ in 0..count {
         let name = a_name(alloc)?;
-        db.create(alloc, Kind::Player, name, ONE, ROOM_ZERO).ok()?;
+        db.create(alloc, kind, name, ONE, ROOM_ZERO).ok()?;
     }
-    for _ in 0..things {
-        let name = a_name(alloc)?;
-        db.create(alloc, Kind::Thing, name, ONE, ROOM_ZERO).ok()?;
-    }
-    Some(db)
+    Some(())
 }
 
 // A connection for each of the three players.
-fn seats(alloc: Global) -> Option<Board> {
-    let mut board = Board::new(alloc, 0, TUNE);
+fn seat_all(board: &mut Board) -> Option<()> {
     for d in 1..4u32 {
         board.open(d, b"hi").ok()?;
         board.seat(d, Dbref(d as i32));
     }
-    Some(board)
+    Some(())
 }
 
 // All that waits to be sent is taken; answers how many bytes.
@@ -63,31 +57,49 @@ fn taken(board: &mut Board, buf: &mut [u8]) -> u64 {
     bytes
 }
 
-// One types the line so many times; answers how many bytes were sent for it.
-fn typed(alloc: Global, db: &mut Db, board: &mut Board, line: &Line, count: u32) -> Option<u64> {
+// One types a line.
+fn typed(alloc: Global, db: &mut Db, board: &mut Board, line: &Line) -> Option<()> {
     let actor = Actor {
         level: 4,
         user: ONE,
         player: ONE,
     };
+    let mut guard = Guard::new(alloc, db, board, actor);
+    cmd_play::run(&mut guard, 1, line).ok()?;
+    Some(())
+}
+
+// One types the line so many times; answers how many bytes were sent for it.
+fn heard(alloc: Global, db: &mut Db, board: &mut Board, line: &[u8], count: u32) -> Option<u64> {
+    let line = Line::new(alloc, line).ok()?;
     let mut buf = vec![in alloc; 0u8; 65_536].ok()?;
     let mut bytes = 0u64;
     for _ in 0..count {
-        let mut guard = Guard::new(alloc, db, board, actor);
-        cmd_play::run(&mut guard, 1, line).ok()?;
+        typed(alloc, db, board, &line)?;
         bytes = bytes.saturating_add(taken(board, &mut buf));
     }
     Some(bytes)
 }
 
+// So many lines are said there, and so many looks taken.
+fn talked(alloc: Global, db: &mut Db, board: &mut Board, said: u32, looks: u32) -> Option<String> {
+    seat_all(board)?;
+    let said = heard(alloc, db, board, b"say How many are here today?", said)?;
+    let seen = heard(alloc, db, board, b"look", looks)?;
+    let bytes = said.saturating_add(seen);
+    format!(in alloc; "{bytes} bytes").ok()
+}
+
+// Room Zero gets two more players, and so many things.
+fn fill(alloc: Global, db: &mut Db, things: u32) -> Option<()> {
+    make(db, alloc, Kind::Player, 2)?;
+    make(db, alloc, Kind::Thing, things)
+}
+
 /// In a room of so many things so many lines are said, and so many looks taken; answers how many bytes the players were sent.
 pub fn run(alloc: Global, things: u32, said: u32, looks: u32) -> Option<String> {
-    let mut db = crowd(alloc, things)?;
-    let mut board = seats(alloc)?;
-    let say = Line::new(alloc, b"say How many are here today?").ok()?;
-    let look = Line::new(alloc, b"look").ok()?;
-    let heard = typed(alloc, &mut db, &mut board, &say, said)?;
-    let seen = typed(alloc, &mut db, &mut board, &look, looks)?;
-    let bytes = heard.saturating_add(seen);
-    format!(in alloc; "{bytes} bytes").ok()
+    let mut db = Db::starting(alloc).ok()?;
+    fill(alloc, &mut db, things)?;
+    let mut board = Board::new(alloc, 0, TUNE);
+    talked(alloc, &mut db, &mut board, said, looks)
 }

@@ -24,21 +24,20 @@ pub(crate) fn compiled(alloc: Global, source: &str) -> Option<Code> {
     compile(alloc, &words).ok()
 }
 
-/// A frame at the start of the last word of the code.
-pub(crate) fn started(alloc: Global, code: &Code) -> Option<Frame> {
+// A frame begins the last word of the code, and runs so many units of it.
+fn ran(alloc: Global, code: &Code, frame: &mut Frame, most: u32) -> Option<u64> {
     let word = code.words.get(code.words.len().checked_sub(1)?)?;
-    let mut frame = Frame::new(alloc, Line::new(alloc, b"").ok()?).ok()?;
     frame
         .begin(alloc, Dbref(2), code.variables, word.start, word.variables)
         .ok()?;
-    Some(frame)
+    let _local = run_local(alloc, code, frame, most).ok()?;
+    Some(frame.units())
 }
 
 /// The program `loop`, `stack` or `call` runs for so many units; answers how many it took.
 pub fn run(alloc: Global, program: &str, most: u32) -> Option<String> {
     let code = compiled(alloc, source_of(program))?;
-    let mut frame = started(alloc, &code)?;
-    let _local = run_local(alloc, &code, &mut frame, most).ok()?;
-    let units = frame.units();
+    let mut frame = Frame::new(alloc, Line::new(alloc, b"").ok()?).ok()?;
+    let units = ran(alloc, &code, &mut frame, most)?;
     format!(in alloc; "{units} units").ok()
 }

@@ -5,7 +5,7 @@ use Rattle.muf_model.specs.declared.prims.Primitive.{Primitive}
 use Rattle.muf_model.specs.declared.prims.Primitive.TheVariants.{Pop, Dup, DupTrue, Swap, Over, Rot, Rotate, Pick, Put, Nip, Tuck, DupN, LDup, PopN, Reverse, Depth, OpenMark, CloseMark, Fetch, Store, IsInt, IsString, IsDbref, IsArray, IsDictionary, IsAddress, IsLock, Execute, Abort, Add, Subtract, Multiply, Divide, Modulo, Increment, Decrement, Abs, Sign, BitOr, BitAnd, BitXor, BitShift, Equal, Unequal, Less, Greater, LessEqual, GreaterEqual, Not, And, Or, Xor, ToInt, ToDbref, DbCmp, StrCat, StrCmp, StringCmp, StrNCmp, StrLen, StrCut, MidStr, InStr, RInStr, InString, RInString, Explode, Split, RSplit, Subst, ToUpper, ToLower, StripLead, StripTail, AToI, IntToStr, CharToInt, IntToChar, ArrayMake, ArrayMakeDict, ArrayCount, ArrayGetItem, ArraySetItem, ArrayInsertItem, ArrayAppendItem, ArrayDelItem, ArrayFirst, ArrayNext, ArrayKeys, ArrayVals, ArrayExplode, ArrayJoin, Name, Owner, Location, Contents, Exits, Next, IsOk, IsPlayer, IsThing, IsRoom, IsExit, IsProgram, Match, PMatch, MoveTo, SetName, Set, HasFlag, MLevel, GetLink, SetLink, NewRoom, NewObject, NewExit, Recycle, SetOwn, Controls, GetLockStr, SetLockStr, ParseLock, UnparseLock, TestLock, UnparseObj, DbTop, GetProp, GetPropStr, GetPropVal, SetProp, AddProp, RemoveProp, NextProp, IsPropDir, EnvProp, EnvPropStr, ParseMpi, Notify, NotifyExclude, IsAwake, Online, ConCount, ConDbref, Descriptors, Descr, ConBoot, Call, Fork, Sleep, Read, Kill, Pid, IsPid, Queue, Mode, SetMode, Preempt, Foreground, Background, SysTime, Random, EventSend, EventWait, EventCount, Prog, Trig, Caller, Cmd}
 use Rattle.muf_model.specs.declared.prims.Family.{Family}
 use Rattle.muf_model.specs.declared.prims.Row.{Row as Kept}
-use Rattle.muf_model.specs.Needs.{Needs, takes, counts, any, an_int, a_text, an_object, a_variable, an_address, a_lock, a_key, a_near_one, one_there, int_or_object, numbered, shown_needs}
+use Rattle.muf_model.specs.Needs.{Needs, takes, counts, counts_at, any, an_int, a_text, an_object, a_variable, an_address, a_lock, a_key, a_near_one, one_there, int_or_object, numbered, shown_needs}
 use Rattle.muf_model.specs.declared.prims.Family.TheVariants as kind
 
 -- What is so of a primitive: its name in capitals, the level that a program needs to use it, what it works on, and what it
@@ -129,7 +129,7 @@ row_of Match = row (codes "MATCH") 1 kind.Object (takes (a_text ∷ []))
 row_of PMatch = row (codes "PMATCH") 1 kind.Object (takes (a_text ∷ []))
 row_of MoveTo = row (codes "MOVETO") 1 kind.Object (takes (an_object ∷ a_near_one ∷ []))
 row_of SetName = row (codes "SETNAME") 2 kind.Object (takes (a_text ∷ one_there ∷ []))
-row_of Set = row (codes "SET") 2 kind.Object None
+row_of Set = row (codes "SET") 2 kind.Object (takes (a_text ∷ one_there ∷ []))
 row_of HasFlag = row (codes "FLAG?") 1 kind.Object (takes (a_text ∷ a_near_one ∷ []))
 row_of MLevel = row (codes "MLEVEL") 1 kind.Object (takes (a_near_one ∷ []))
 row_of GetLink = row (codes "GETLINK") 1 kind.Object (takes (a_near_one ∷ []))
@@ -141,8 +141,8 @@ row_of Recycle = row (codes "RECYCLE") 3 kind.Object (takes (one_there ∷ []))
 row_of SetOwn = row (codes "SETOWN") 2 kind.Object (takes (one_there ∷ one_there ∷ []))
 row_of Controls = row (codes "CONTROLS") 1 kind.Object (takes (one_there ∷ one_there ∷ []))
 row_of GetLockStr = row (codes "GETLOCKSTR") 1 kind.Object (takes (a_near_one ∷ []))
-row_of SetLockStr = row (codes "SETLOCKSTR") 2 kind.Object None
-row_of ParseLock = row (codes "PARSELOCK") 1 kind.Object None
+row_of SetLockStr = row (codes "SETLOCKSTR") 2 kind.Object (takes (a_text ∷ one_there ∷ []))
+row_of ParseLock = row (codes "PARSELOCK") 1 kind.Object (takes (a_text ∷ []))
 row_of UnparseLock = row (codes "UNPARSELOCK") 1 kind.Object (takes (a_lock ∷ []))
 row_of TestLock = row (codes "TESTLOCK") 1 kind.Object (takes (a_lock ∷ one_there ∷ []))
 row_of UnparseObj = row (codes "UNPARSEOBJ") 1 kind.Object (takes (a_near_one ∷ []))
@@ -159,14 +159,14 @@ row_of EnvProp = row (codes "ENVPROP") 1 kind.Property (takes (a_text ∷ a_near
 row_of EnvPropStr = row (codes "ENVPROPSTR") 1 kind.Property (takes (a_text ∷ a_near_one ∷ []))
 row_of ParseMpi = row (codes "PARSEMPI") 3 kind.Property None
 row_of Notify = row (codes "NOTIFY") 1 kind.Talk (takes (a_text ∷ a_near_one ∷ []))
-row_of NotifyExclude = row (codes "NOTIFY_EXCLUDE") 1 kind.Talk None
+row_of NotifyExclude = row (codes "NOTIFY_EXCLUDE") 1 kind.Talk (counts_at 1 (a_text ∷ an_int ∷ []) (one_there ∷ []) (a_near_one ∷ []))
 row_of IsAwake = row (codes "AWAKE?") 1 kind.Talk (takes (one_there ∷ []))
 row_of Online = row (codes "ONLINE") 3 kind.Talk (takes [])
 row_of ConCount = row (codes "CONCOUNT") 1 kind.Talk (takes [])
 row_of ConDbref = row (codes "CONDBREF") 3 kind.Talk (takes (an_int ∷ []))
 row_of Descriptors = row (codes "DESCRIPTORS") 3 kind.Talk (takes (one_there ∷ []))
 row_of Descr = row (codes "DESCR") 1 kind.Talk (takes [])
-row_of ConBoot = row (codes "CONBOOT") 4 kind.Talk None
+row_of ConBoot = row (codes "CONBOOT") 4 kind.Talk (takes (an_int ∷ []))
 row_of Call = row (codes "CALL") 1 kind.Process (takes (one_there ∷ []))
 row_of Fork = row (codes "FORK") 3 kind.Process None
 row_of Sleep = row (codes "SLEEP") 1 kind.Process None
@@ -208,7 +208,7 @@ is_there p = is_some (needs_of p)
 
 -- the row that a row in code stands for
 abbrev pub shown_row : Kept → Row
-shown_row r = record { name = r.name.now; level = r.level; family = r.family; needs = option_map shown_needs r.needs }
+shown_row r = record { name = r.name.now; level = r.level; family = r.family; needs = option_map shown_needs r.needs.now }
 
 -- the stack and the variables alone, and no world
 abbrev pub is_local_family : Family → Bool

@@ -116,7 +116,8 @@ const THERE: Need = need!(Object, there);
 
 const NEAR: Need = need!(Object, near);
 
-// Items that are taken, the top first, and behind a `;` what the top counts, and what stands below that.
+// Items that are taken, the top first, and behind a `;` what the top counts, and what stands below that. A number before them says
+// how deep the item stands that counts, where that isn't the top.
 macro_rules! takes {
     ($($fixed:ident),*) => {
         Some(Needs {
@@ -125,10 +126,13 @@ macro_rules! takes {
         })
     };
     ($($fixed:ident),*; $($each:ident),*; $($under:ident),*) => {
+        takes!(0: $($fixed),*; $($each),*; $($under),*)
+    };
+    ($at:literal: $($fixed:ident),*; $($each:ident),*; $($under:ident),*) => {
         Some(Needs {
             fixed: &[$($fixed),*],
             many: Some(Many {
-                at: 0,
+                at: $at,
                 each: &[$($each),*],
                 under: &[$($under),*],
             }),
@@ -136,66 +140,71 @@ macro_rules! takes {
     };
 }
 
-pub(crate) const ITEM: Option<Needs> = takes!(ANY);
+// Those of a primitive that isn't there yet.
+pub(crate) static NOT_YET: Option<Needs> = None;
 
-pub(crate) const TWO_ITEMS: Option<Needs> = takes!(ANY, ANY);
+pub(crate) static ITEM: Option<Needs> = takes!(ANY);
 
-pub(crate) const THREE_ITEMS: Option<Needs> = takes!(ANY, ANY, ANY);
+pub(crate) static TWO_ITEMS: Option<Needs> = takes!(ANY, ANY);
 
-pub(crate) const AN_INT: Option<Needs> = takes!(INT);
+pub(crate) static THREE_ITEMS: Option<Needs> = takes!(ANY, ANY, ANY);
 
-pub(crate) const COUNTED_ITEMS: Option<Needs> = takes!(INT; ANY;);
+pub(crate) static AN_INT: Option<Needs> = takes!(INT);
 
-pub(crate) const ITEM_OVER_COUNTED: Option<Needs> = takes!(INT, ANY; ANY;);
+pub(crate) static COUNTED_ITEMS: Option<Needs> = takes!(INT; ANY;);
 
-pub(crate) const NOTHING: Option<Needs> = takes!();
+pub(crate) static ITEM_OVER_COUNTED: Option<Needs> = takes!(INT, ANY; ANY;);
 
-pub(crate) const A_VARIABLE: Option<Needs> = takes!(VARIABLE);
+pub(crate) static NOTHING: Option<Needs> = takes!();
 
-pub(crate) const VARIABLE_AND_ITEM: Option<Needs> = takes!(VARIABLE, ANY);
+pub(crate) static A_VARIABLE: Option<Needs> = takes!(VARIABLE);
 
-pub(crate) const AN_ADDRESS: Option<Needs> = takes!(ADDRESS);
+pub(crate) static VARIABLE_AND_ITEM: Option<Needs> = takes!(VARIABLE, ANY);
 
-pub(crate) const A_TEXT: Option<Needs> = takes!(TEXT);
+pub(crate) static AN_ADDRESS: Option<Needs> = takes!(ADDRESS);
 
-pub(crate) const TWO_INTS: Option<Needs> = takes!(INT, INT);
+pub(crate) static A_TEXT: Option<Needs> = takes!(TEXT);
 
-pub(crate) const TWO_ALIKE: Option<Needs> = takes!(EITHER, EITHER);
+pub(crate) static TWO_INTS: Option<Needs> = takes!(INT, INT);
 
-pub(crate) const A_NUMBERED: Option<Needs> = takes!(NUMBERED);
+pub(crate) static TWO_ALIKE: Option<Needs> = takes!(EITHER, EITHER);
 
-pub(crate) const TWO_OBJECTS: Option<Needs> = takes!(OBJECT, OBJECT);
+pub(crate) static A_NUMBERED: Option<Needs> = takes!(NUMBERED);
 
-pub(crate) const TWO_TEXTS: Option<Needs> = takes!(TEXT, TEXT);
+pub(crate) static TWO_OBJECTS: Option<Needs> = takes!(OBJECT, OBJECT);
 
-pub(crate) const THREE_TEXTS: Option<Needs> = takes!(TEXT, TEXT, TEXT);
+pub(crate) static TWO_TEXTS: Option<Needs> = takes!(TEXT, TEXT);
 
-pub(crate) const INT_OVER_TEXT: Option<Needs> = takes!(INT, TEXT);
+pub(crate) static THREE_TEXTS: Option<Needs> = takes!(TEXT, TEXT, TEXT);
 
-pub(crate) const INT_OVER_TEXTS: Option<Needs> = takes!(INT, TEXT, TEXT);
+pub(crate) static INT_OVER_TEXT: Option<Needs> = takes!(INT, TEXT);
 
-pub(crate) const INTS_OVER_TEXT: Option<Needs> = takes!(INT, INT, TEXT);
+pub(crate) static INT_OVER_TEXTS: Option<Needs> = takes!(INT, TEXT, TEXT);
 
-pub(crate) const INT_OR_OBJECT: Option<Needs> = takes!(EITHER);
+pub(crate) static INTS_OVER_TEXT: Option<Needs> = takes!(INT, INT, TEXT);
 
-pub(crate) const TEXT_FOR_ONE_NEAR: Option<Needs> = takes!(TEXT, NEAR);
+pub(crate) static INT_OR_OBJECT: Option<Needs> = takes!(EITHER);
 
-pub(crate) const KEY_AND_TEXT_FOR_ONE_NEAR: Option<Needs> = takes!(KEY, TEXT, NEAR);
+pub(crate) static TEXT_FOR_ONE_NEAR: Option<Needs> = takes!(TEXT, NEAR);
 
-pub(crate) const INT_AND_TEXTS_FOR_ONE_NEAR: Option<Needs> = takes!(INT, TEXT, TEXT, NEAR);
+pub(crate) static TEXT_BUT_FOR_COUNTED: Option<Needs> = takes!(1: TEXT, INT; THERE; NEAR);
 
-pub(crate) const ONE_THERE: Option<Needs> = takes!(THERE);
+pub(crate) static KEY_AND_TEXT_FOR_ONE_NEAR: Option<Needs> = takes!(KEY, TEXT, NEAR);
 
-pub(crate) const ONE_NEAR: Option<Needs> = takes!(NEAR);
+pub(crate) static INT_AND_TEXTS_FOR_ONE_NEAR: Option<Needs> = takes!(INT, TEXT, TEXT, NEAR);
 
-pub(crate) const TWO_THERE: Option<Needs> = takes!(THERE, THERE);
+pub(crate) static ONE_THERE: Option<Needs> = takes!(THERE);
 
-pub(crate) const A_LOCK: Option<Needs> = takes!(LOCK);
+pub(crate) static ONE_NEAR: Option<Needs> = takes!(NEAR);
 
-pub(crate) const LOCK_FOR_ONE_THERE: Option<Needs> = takes!(LOCK, THERE);
+pub(crate) static TWO_THERE: Option<Needs> = takes!(THERE, THERE);
 
-pub(crate) const OBJECT_FOR_ONE_NEAR: Option<Needs> = takes!(OBJECT, NEAR);
+pub(crate) static A_LOCK: Option<Needs> = takes!(LOCK);
 
-pub(crate) const OBJECT_FOR_ONE_THERE: Option<Needs> = takes!(OBJECT, THERE);
+pub(crate) static LOCK_FOR_ONE_THERE: Option<Needs> = takes!(LOCK, THERE);
 
-pub(crate) const TEXT_FOR_ONE_THERE: Option<Needs> = takes!(TEXT, THERE);
+pub(crate) static OBJECT_FOR_ONE_NEAR: Option<Needs> = takes!(OBJECT, NEAR);
+
+pub(crate) static OBJECT_FOR_ONE_THERE: Option<Needs> = takes!(OBJECT, THERE);
+
+pub(crate) static TEXT_FOR_ONE_THERE: Option<Needs> = takes!(TEXT, THERE);

@@ -9,10 +9,10 @@ ghost use Rattle.muf_model.specs.Prims.{row_of, shown_row, level_of, is_local, i
 use crate::needs::{
     A_LOCK, A_NUMBERED, A_TEXT, A_VARIABLE, AN_ADDRESS, AN_INT, COUNTED_ITEMS,
     INT_AND_TEXTS_FOR_ONE_NEAR, INT_OR_OBJECT, INT_OVER_TEXT, INT_OVER_TEXTS, INTS_OVER_TEXT, ITEM,
-    ITEM_OVER_COUNTED, KEY_AND_TEXT_FOR_ONE_NEAR, LOCK_FOR_ONE_THERE, NOTHING, Needs,
-    OBJECT_FOR_ONE_NEAR, OBJECT_FOR_ONE_THERE, ONE_NEAR, ONE_THERE, TEXT_FOR_ONE_NEAR,
-    TEXT_FOR_ONE_THERE, THREE_ITEMS, THREE_TEXTS, TWO_ALIKE, TWO_INTS, TWO_ITEMS, TWO_OBJECTS,
-    TWO_TEXTS, TWO_THERE, VARIABLE_AND_ITEM,
+    ITEM_OVER_COUNTED, KEY_AND_TEXT_FOR_ONE_NEAR, LOCK_FOR_ONE_THERE, NOT_YET, NOTHING, Needs,
+    OBJECT_FOR_ONE_NEAR, OBJECT_FOR_ONE_THERE, ONE_NEAR, ONE_THERE, TEXT_BUT_FOR_COUNTED,
+    TEXT_FOR_ONE_NEAR, TEXT_FOR_ONE_THERE, THREE_ITEMS, THREE_TEXTS, TWO_ALIKE, TWO_INTS, TWO_ITEMS,
+    TWO_OBJECTS, TWO_TEXTS, TWO_THERE, VARIABLE_AND_ITEM,
 };
 
 /// A primitive. Its name in programs stands in its row of the table, with its level and what it needs on the stack.
@@ -209,17 +209,20 @@ pub struct Row {
     pub name: &'static [u8],
     pub level: u8,
     pub family: Family,
-    pub needs: Option<Needs>,
+    pub needs: &'static Option<Needs>,
 }
 
 // One row of the table.
 macro_rules! row {
+    ($name:literal, $level:literal, $family:ident, None) => {
+        row!($name, $level, $family, NOT_YET)
+    };
     ($name:literal, $level:literal, $family:ident, $needs:ident) => {
         Row {
             name: $name,
             level: $level,
             family: Family::$family,
-            needs: $needs,
+            needs: &$needs,
         }
     };
 }
@@ -350,7 +353,7 @@ impl Primitive {
             Primitive::PMatch => row!(b"PMATCH", 1, Object, A_TEXT),
             Primitive::MoveTo => row!(b"MOVETO", 1, Object, OBJECT_FOR_ONE_NEAR),
             Primitive::SetName => row!(b"SETNAME", 2, Object, TEXT_FOR_ONE_THERE),
-            Primitive::Set => row!(b"SET", 2, Object, None),
+            Primitive::Set => row!(b"SET", 2, Object, TEXT_FOR_ONE_THERE),
             Primitive::HasFlag => row!(b"FLAG?", 1, Object, TEXT_FOR_ONE_NEAR),
             Primitive::MLevel => row!(b"MLEVEL", 1, Object, ONE_NEAR),
             Primitive::GetLink => row!(b"GETLINK", 1, Object, ONE_NEAR),
@@ -362,8 +365,8 @@ impl Primitive {
             Primitive::SetOwn => row!(b"SETOWN", 2, Object, TWO_THERE),
             Primitive::Controls => row!(b"CONTROLS", 1, Object, TWO_THERE),
             Primitive::GetLockStr => row!(b"GETLOCKSTR", 1, Object, ONE_NEAR),
-            Primitive::SetLockStr => row!(b"SETLOCKSTR", 2, Object, None),
-            Primitive::ParseLock => row!(b"PARSELOCK", 1, Object, None),
+            Primitive::SetLockStr => row!(b"SETLOCKSTR", 2, Object, TEXT_FOR_ONE_THERE),
+            Primitive::ParseLock => row!(b"PARSELOCK", 1, Object, A_TEXT),
             Primitive::UnparseLock => row!(b"UNPARSELOCK", 1, Object, A_LOCK),
             Primitive::TestLock => row!(b"TESTLOCK", 1, Object, LOCK_FOR_ONE_THERE),
             Primitive::UnparseObj => row!(b"UNPARSEOBJ", 1, Object, ONE_NEAR),
@@ -380,14 +383,14 @@ impl Primitive {
             Primitive::EnvPropStr => row!(b"ENVPROPSTR", 1, Property, TEXT_FOR_ONE_NEAR),
             Primitive::ParseMpi => row!(b"PARSEMPI", 3, Property, None),
             Primitive::Notify => row!(b"NOTIFY", 1, Talk, TEXT_FOR_ONE_NEAR),
-            Primitive::NotifyExclude => row!(b"NOTIFY_EXCLUDE", 1, Talk, None),
+            Primitive::NotifyExclude => row!(b"NOTIFY_EXCLUDE", 1, Talk, TEXT_BUT_FOR_COUNTED),
             Primitive::IsAwake => row!(b"AWAKE?", 1, Talk, ONE_THERE),
             Primitive::Online => row!(b"ONLINE", 3, Talk, NOTHING),
             Primitive::ConCount => row!(b"CONCOUNT", 1, Talk, NOTHING),
             Primitive::ConDbref => row!(b"CONDBREF", 3, Talk, AN_INT),
             Primitive::Descriptors => row!(b"DESCRIPTORS", 3, Talk, ONE_THERE),
             Primitive::Descr => row!(b"DESCR", 1, Talk, NOTHING),
-            Primitive::ConBoot => row!(b"CONBOOT", 4, Talk, None),
+            Primitive::ConBoot => row!(b"CONBOOT", 4, Talk, AN_INT),
             Primitive::Call => row!(b"CALL", 1, Process, ONE_THERE),
             Primitive::Fork => row!(b"FORK", 3, Process, None),
             Primitive::Sleep => row!(b"SLEEP", 1, Process, None),
@@ -442,7 +445,7 @@ impl Primitive {
     pub fn needs(self) -> Option<Needs>
         ensures { option_map shown_needs result ≡ needs_of self }
     {
-        self.row().needs
+        *self.row().needs
     }
 
     /// Whether programs may use it so far; a program that names another one doesn't compile.

@@ -24,6 +24,7 @@ pub enum Asked {
 }
 
 // Leave for an act.
+#[inline(always)]
 fn permit(guard: &Guard, act: &Act) -> Result<(), MufFault>
     ensures { Passes (fault_of (verdict (objects_of guard.now) guard.now.actor act.now)) result }
 {
@@ -35,6 +36,7 @@ fn permit(guard: &Guard, act: &Act) -> Result<(), MufFault>
 
 /// Whether the actor has the level of a primitive.
 #[tactic(auto, unfolding(spec_prims::specs::Asking::level_fault))]
+#[inline(always)]
 pub(crate) fn reach_level(guard: &Guard, level: u8) -> Result<(), MufFault>
     ensures { Passes (level_fault guard.now.actor (objects_of guard.now) level) result }
 {
@@ -43,6 +45,7 @@ pub(crate) fn reach_level(guard: &Guard, level: u8) -> Result<(), MufFault>
 
 // Whether the actor may name an object.
 #[tactic(auto, unfolding(spec_prims::specs::Asking::near_fault))]
+#[inline(always)]
 fn reach_object(guard: &Guard, object: Dbref) -> Result<(), MufFault>
     ensures { Passes (near_fault guard.now.actor (objects_of guard.now) object.0) result }
 {
@@ -50,6 +53,7 @@ fn reach_object(guard: &Guard, object: Dbref) -> Result<(), MufFault>
 }
 
 // Whether an item is of its kind.
+#[inline(always)]
 fn test_kind(need: &Need, item: &Value) -> Result<(), MufFault>
     ensures { Passes (unfit need.now (view item.now)) result }
 {
@@ -62,6 +66,7 @@ fn test_kind(need: &Need, item: &Value) -> Result<(), MufFault>
 
 // Whether an object is there that must be.
 #[tactic(auto, unfolding(spec_prims::specs::Asking::is_there))]
+#[inline(always)]
 fn test_there(need: &Need, item: &Value, guard: &Guard) -> Result<(), MufFault>
     ensures { Passes (absent (is_there (objects_of guard.now)) need.now (view item.now)) result }
 {
@@ -74,6 +79,7 @@ fn test_there(need: &Need, item: &Value, guard: &Guard) -> Result<(), MufFault>
 }
 
 // Whether an object is near that must be.
+#[inline(always)]
 fn test_near(need: &Need, item: &Value, guard: &Guard) -> Result<(), MufFault>
     ensures { Passes (distant (near_fault guard.now.actor (objects_of guard.now)) need.now (view item.now)) result }
 {
@@ -83,6 +89,7 @@ fn test_near(need: &Need, item: &Value, guard: &Guard) -> Result<(), MufFault>
     }
 }
 
+#[inline(always)]
 fn test_item(asked: Asked, need: &Need, item: &Value, guard: &Guard) -> Result<(), MufFault>
     ensures { Passes (item_fault asked guard.now.actor (objects_of guard.now) need.now (view item.now)) result }
 {
@@ -93,8 +100,9 @@ fn test_item(asked: Asked, need: &Need, item: &Value, guard: &Guard) -> Result<(
     }
 }
 
-// A test of each item behind so many, from the top down.
-fn test_items(
+/// A test of each item behind so many, from the top down.
+#[inline(always)]
+pub(crate) fn test_items(
     asked: Asked,
     needs: &[Need],
     from: usize,

@@ -1,21 +1,21 @@
 // The tests that a primitive begins with.
 ghost use Rattle.std.specs.Prelude.{◌≡◌, ◌≤◌, IfOk, Some, length};
 ghost use Rattle.muf_model.specs.Ladder.{wanted};
-ghost use Rattle.muf_model.specs.Needs.{shown_needs};
+ghost use Rattle.muf_model.specs.Needs.{shown_needs, takes};
 ghost use Rattle.muf_frame.specs.Shown.{Shown, flat, locked_by};
 ghost use Rattle.muck_perm.specs.Guards.{world_of};
 ghost use Rattle.spec_prims.specs.Shared.{fault_by, first_fault, taken};
 ghost use Rattle.prim_common.specs.Tests.{Passes, AreFew};
 
-use crate::items::{Asked, reach_level, test_parts};
-use crate::parts::{test_count, wanted_parts};
+use crate::items::{Asked, reach_level, test_items, test_parts};
+use crate::parts::{test_count, test_short, wanted_parts};
 use muck_perm::Guard;
 use muf_frame::Frame;
-use muf_model::{MufFault, Needs, Prim};
+use muf_model::{MufFault, Need, Needs, Prim};
 
-// How many items, the level that is wanted, what they are, which of them must be there, the primitive's own rule, and which must
-// be near.
-fn test_all(
+// Where the items are counted: how many, the level that is wanted, what they are, which of them must be there, the primitive's own
+// rule, and which must be near.
+fn test_counted(
     needs: Needs,
     level: u8,
     argued: Option<MufFault>,
@@ -37,6 +37,51 @@ fn test_all(
     }
     test_parts(Asked::Near, parts, guard, frame)?;
     Ok(count)
+}
+
+// The same where no item counts, as of most primitives: one pass over the needs for each test.
+#[inline(always)]
+fn test_fixed(
+    fixed: &[Need],
+    level: u8,
+    argued: Option<MufFault>,
+    guard: &Guard,
+    frame: &Frame,
+) -> Result<usize, MufFault>
+    requires { length fixed.now ≤ 64 }
+    ensures count { IfOk result (λ n. n ≡ length fixed.now) }
+    ensures there { IfOk result (λ n. n ≤ length frame.now.stack) }
+    ensures pass { Passes (fault_by (takes fixed.now) level argued guard.now.actor (locked_by (flat frame.now).marks) (flat frame.now).stack (world_of guard.now)) result }
+{
+    let count = fixed.len();
+    test_short(count, frame)?;
+    reach_level(guard, level)?;
+    test_items(Asked::Kind, fixed, 0, guard, frame)?;
+    test_items(Asked::There, fixed, 0, guard, frame)?;
+    if let Some(fault) = argued {
+        return Err(fault);
+    }
+    test_items(Asked::Near, fixed, 0, guard, frame)?;
+    Ok(count)
+}
+
+#[inline(always)]
+fn test_all(
+    needs: &Needs,
+    level: u8,
+    argued: Option<MufFault>,
+    guard: &Guard,
+    frame: &Frame,
+) -> Result<usize, MufFault>
+    requires { AreFew (shown_needs needs.now) }
+    ensures count { IfOk result (λ n. n ≡ length (wanted (shown_needs needs.now) (flat frame.now).stack)) }
+    ensures there { IfOk result (λ n. n ≤ length frame.now.stack) }
+    ensures pass { Passes (fault_by (Some (shown_needs needs.now)) level argued guard.now.actor (locked_by (flat frame.now).marks) (flat frame.now).stack (world_of guard.now)) result }
+{
+    match needs.many {
+        Some(_) => test_counted(*needs, level, argued, guard, frame),
+        None => test_fixed(needs.fixed, level, argued, guard, frame),
+    }
 }
 
 /// The tests that a primitive begins with, in their one order: the count of the items, the level, what they are, which of them must

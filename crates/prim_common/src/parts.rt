@@ -53,9 +53,10 @@ pub(crate) fn wanted_parts(needs: Needs, frame: &Frame) -> Parts
     }
 }
 
-// So many items above the locked part.
+/// So many items above the locked part.
 #[tactic(auto, using(crate::proofs::Counts::short_steps))]
-fn test_short(count: usize, frame: &Frame) -> Result<(), MufFault>
+#[inline(always)]
+pub(crate) fn test_short(count: usize, frame: &Frame) -> Result<(), MufFault>
     ensures there { OnOk result (count ≤ length frame.now.stack) }
     ensures pass { Passes (short count (locked_by (flat frame.now).marks) (flat frame.now).stack) result }
 {

@@ -17,7 +17,7 @@ use Rattle.muf_frame.specs.Answers.{object_at}
 use Rattle.spec_prims.specs.Asking.{numbered}
 use Rattle.spec_prims.specs.Row.{gives}
 use Rattle.muf_model.specs.View.{view}
-use Rattle.spec_prims.specs.Talk.{counted, player_item, number_item, with_count, players, player_numbered, player_at, is_place, descriptors}
+use Rattle.spec_prims.specs.Talk.{counted, player_item, number_item, with_count, players, player_numbered, player_at, seats, seat_numbered, seat_at, is_place, descriptors}
 
 -- the players of connections
 joined_player : (player : Option Dbref) (values : List Value) (ds : List Dbref) → map view values ≡ map player_item ds → map view (cons_option (option_map Ref player) values) ≡ map player_item (cons_option player ds)
@@ -48,6 +48,16 @@ numbered_at (suc n) w l = simp unary_clauses (same_path (slice_get (players w) n
   where
     same_path : (o : Option Dbref) → o ≡ o
     same_path o = refl
+
+pub seat_numbered_at : (n : ℕ) (w : Live) → 0 < n → slice_get (seats w) (n - 1) ≡ seat_numbered n w
+seat_numbered_at zero w l = absurd (omega (arith, l))
+seat_numbered_at (suc n) w l = simp unary_clauses (same_path (slice_get (seats w) n))
+  where
+    same_path : (o : Option ℕ) → o ≡ o
+    same_path o = refl
+
+pub seat_top : (i : ℤ) (n : ℕ) (w : Live) → i ≡ pos n → seat_numbered n w ≡ seat_at i w
+seat_top i n w e = ap (λ j. seat_at j w) (sym e)
 
 pub player_top : (i : ℤ) (n : ℕ) (w : Live) → i ≡ pos n → player_numbered n w ≡ player_at i w
 player_top i n w e = ap (λ j. player_at j w) (sym e)

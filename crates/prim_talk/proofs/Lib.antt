@@ -1,3 +1,4 @@
+mod Excluding
 mod Giving
 mod Missing
 mod Talking

@@ -1,17 +1,19 @@
 // Items that the primitives of talk give, and who is connected.
-ghost use Rattle.std.specs.Prelude.{◌≡◌, IfOk, map, filter, filter_map, count_by};
+ghost use Rattle.std.specs.Prelude.{◌≡◌, ◌≤◌, IfOk, map, filter, filter_map, count_by, take, drop};
 ghost use Rattle.std.specs.Int.{w32, cast_signed};
 ghost use Rattle.std.specs.Option.{option_map};
 ghost use Rattle.muf_model.specs.declared.value.Value.TheVariants.{Int, Ref};
 ghost use Rattle.muf_model.specs.View.{view};
+ghost use Rattle.muf_frame.specs.Shown.{Shown, flat};
 ghost use Rattle.muck_perm.specs.Guards.{world_of};
 ghost use Rattle.spec_live.specs.Connections.{is_of, has_player};
-ghost use Rattle.spec_prims.specs.Talk.{counted, with_count, player_at, player_numbered, is_place, player_item, number_item, players};
+ghost use Rattle.spec_prims.specs.Talk.{counted, with_count, player_at, player_numbered, is_place, player_item, number_item, players, object_in, seats, seat_numbered, seat_at};
 ghost use Rattle.prim_common.specs.Applied.{items_of};
 
 use muck_board::Connection;
 use muck_model::{Dbref, NoMemory};
 use muck_perm::Guard;
+use muf_frame::Frame;
 use muf_model::Value;
 use prim_common::Made;
 
@@ -144,4 +146,55 @@ pub(crate) fn is_place(guard: &Guard, place: i32) -> bool
     }
     let place = place as usize;
     1 <= place && place <= count_connected(guard)
+}
+
+/// The objects among so many items below the two upper ones.
+pub(crate) fn excluded(guard: &Guard, frame: &Frame, count: usize) -> Result<Vec<Dbref>, NoMemory>
+    requires { count ≤ 2147483647 }
+    ensures { IfOk result (λ ds. ds.items ≡ filter_map object_in (take count (drop 2 (flat frame.now).stack))) }
+{
+    let mut objects = Vec::new(guard.alloc());
+    let mut at = 0;
+    while at < count {
+        if let Some(object) = frame.object_at(2 + at) {
+            objects.push(object)?;
+        }
+        at += 1;
+    }
+    Ok(objects)
+}
+
+// The numbers of the connections that have a player.
+fn seats(guard: &Guard) -> Result<Vec<u32>, NoMemory>
+    ensures { IfOk result (λ ds. ds.items ≡ seats (world_of guard.now)) }
+{
+    let connections = guard.board().connections().iter();
+    let seats = connections
+        .filter(|c| c.has_player())
+        .map(|c| c.number())
+        .collect(guard.alloc())?;
+    Ok(seats)
+}
+
+// The connection at a place among these, from 1.
+#[tactic(auto, using(crate::proofs::Giving::seat_numbered_at))]
+fn seat_numbered(guard: &Guard, place: usize) -> Result<Option<u32>, NoMemory>
+    ensures { IfOk result (λ d. d ≡ seat_numbered place (world_of guard.now)) }
+{
+    let seats = seats(guard)?;
+    if place == 0 {
+        return Ok(None);
+    }
+    Ok(seats.get(place - 1).copied())
+}
+
+/// The connection at a place among those that have a player, from 1.
+#[tactic(auto, using(crate::proofs::Giving::seat_top))]
+pub(crate) fn seat_at(guard: &Guard, place: i32) -> Result<Option<u32>, NoMemory>
+    ensures { IfOk result (λ d. d ≡ seat_at place (world_of guard.now)) }
+{
+    if place < 0 {
+        return Ok(None);
+    }
+    seat_numbered(guard, place as usize)
 }

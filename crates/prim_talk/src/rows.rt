@@ -1,22 +1,30 @@
 // The rows of the primitives of talk.
-ghost use Rattle.std.specs.Prelude.{◌≡◌, [], ◌∷◌, negsuc, take};
+ghost use Rattle.std.specs.Prelude.{◌≡◌, ◌≤◌, [], ◌∷◌, negsuc, take, IfSome};
 ghost use Rattle.std.specs.Int.{w32, cast_signed};
 ghost use Rattle.std.specs.Option.{option_map, option_map_or};
+ghost use Rattle.muf_model.specs.declared.prims.Primitive.TheVariants.{NotifyExclude};
 ghost use Rattle.muf_model.specs.Datum.{int};
 ghost use Rattle.muf_frame.specs.Shown.{Shown, flat};
-ghost use Rattle.muck_perm.specs.Guards.{world_of};
-ghost use Rattle.spec_prims.specs.Talk.{notified, awake, online, connected, connected_at, outside, descriptors};
+ghost use Rattle.spec_rights.specs.declared.act.Act.TheVariants.{Shared};
+ghost use Rattle.spec_rights.specs.Verdict.{verdict};
+ghost use Rattle.muck_perm.specs.Guards.{world_of, objects_of};
+ghost use Rattle.spec_prims.specs.Asking.{fault_of};
+ghost use Rattle.spec_prims.specs.Row.{unless};
+ghost use Rattle.spec_prims.specs.Shared.{taken};
+ghost use Rattle.spec_prims.specs.Talk.{notified, notified_but, booted, booted_seat, awake, online, connected, connected_at, outside, descriptors};
 ghost use Rattle.prim_common.specs.Applied.{Makes, items_of};
-ghost use Rattle.prim_talk.specs.Told.{told_in};
+ghost use Rattle.prim_talk.specs.Told.{told_in, counted_in};
 
 use crate::items::{
-    count_connected, counted, is_place, numbers_counted, player_at, players_counted,
+    count_connected, counted, excluded, is_place, numbers_counted, player_at, players_counted,
+    seat_at,
 };
 use muck_model::Dbref;
-use muck_perm::Guard;
+use muck_perm::{Guard, verdict};
 use muf_frame::{Frame, PrimFault};
 use muf_model::{MufFault, Text, Value};
 use prim_common::Made;
+use spec_rights::Act;
 
 // The player and the text above it.
 fn told(frame: &Frame) -> Option<(Dbref, &Text)>
@@ -28,6 +36,7 @@ fn told(frame: &Frame) -> Option<(Dbref, &Text)>
 }
 
 /// NOTIFY.
+#[inline(always)]
 pub(crate) fn notify(guard: &mut Guard, frame: &Frame) -> Result<Made, PrimFault>
     ensures { Makes (notified guard.old.actor (take 2 (flat frame.now).stack) (world_of guard.old)) guard.old guard.new result }
 {
@@ -35,6 +44,34 @@ pub(crate) fn notify(guard: &mut Guard, frame: &Frame) -> Result<Made, PrimFault
         return Err(PrimFault::Fault(MufFault::BadType));
     };
     guard.tell_player(player, text.as_slice())?;
+    Ok(Made::Nothing)
+}
+
+// The text on the top, and how many are named below it.
+fn told_count(frame: &Frame) -> Option<(&Text, usize)>
+    ensures value { option_map (λ p. (p.0.now, p.1)) result ≡ counted_in (flat frame.now).stack }
+    ensures most { IfSome result (λ p. p.1 ≤ 2147483647) }
+{
+    let text = frame.text_at(0)?;
+    let count = frame.int_at(1)?;
+    if count < 0 {
+        return None;
+    }
+    Some((text, count as usize))
+}
+
+/// NOTIFY_EXCLUDE.
+pub(crate) fn notify_but(guard: &mut Guard, frame: &Frame) -> Result<Made, PrimFault>
+    ensures { Makes (notified_but guard.old.actor (take (taken NotifyExclude (flat frame.now).stack) (flat frame.now).stack) (world_of guard.old)) guard.old guard.new result }
+{
+    let Some((text, count)) = told_count(frame) else {
+        return Err(PrimFault::Fault(MufFault::BadType));
+    };
+    let Some(place) = frame.object_at(2 + count) else {
+        return Err(PrimFault::Fault(MufFault::BadType));
+    };
+    let but = excluded(guard, frame, count)?;
+    guard.tell_but(place, &but, text.as_slice())?;
     Ok(Made::Nothing)
 }
 
@@ -87,6 +124,32 @@ pub(crate) fn connected_at(guard: &Guard, frame: &Frame) -> Result<Made, PrimFau
         Some(player) => Ok(Made::One(Value::Ref(player))),
         None => Err(PrimFault::Fault(MufFault::BadArgument)),
     }
+}
+
+// One connection is to leave, by leave for the highest level.
+fn leave(guard: &mut Guard, d: Option<u32>) -> Result<Made, PrimFault>
+    ensures { Makes (unless (fault_of (verdict (objects_of guard.old) guard.old.actor (Shared 4))) (booted_seat d (world_of guard.old))) guard.old guard.new result }
+{
+    let act = Act::Shared { level: 4 };
+    match (verdict(guard.db(), &guard.actor(), &act), d) {
+        (Err(denial), _) => Err(PrimFault::Fault(MufFault::Denied(denial.rule))),
+        (Ok(_), None) => Err(PrimFault::Fault(MufFault::BadArgument)),
+        (Ok(pass), Some(d)) => {
+            guard.leave(pass, d);
+            Ok(Made::Nothing)
+        }
+    }
+}
+
+/// CONBOOT.
+pub(crate) fn boot(guard: &mut Guard, frame: &Frame) -> Result<Made, PrimFault>
+    ensures { Makes (booted guard.old.actor (take 1 (flat frame.now).stack) (world_of guard.old)) guard.old guard.new result }
+{
+    let Some(place) = frame.int_at(0) else {
+        return Err(PrimFault::Fault(MufFault::BadType));
+    };
+    let seat = seat_at(guard, place)?;
+    leave(guard, seat)
 }
 
 /// DESCRIPTORS.

@@ -20,7 +20,7 @@ fn argued(prim: Prim, guard: &Guard, frame: &Frame) -> Option<MufFault>
     ensures { (descr : Option ℕ) → result ≡ argued_of (talk_row descr prim) guard.now.actor (take (taken prim (flat frame.now).stack) (flat frame.now).stack) (world_of guard.now) }
 {
     match prim {
-        Prim::ConDbref => rows::outside(guard, frame),
+        Prim::ConDbref | Prim::ConBoot => rows::outside(guard, frame),
         _ => None,
     }
 }
@@ -32,12 +32,14 @@ fn made(prim: Prim, descr: Option<u32>, guard: &mut Guard, frame: &Frame) -> Res
 {
     match prim {
         Prim::Notify => rows::notify(guard, frame),
+        Prim::NotifyExclude => rows::notify_but(guard, frame),
         Prim::IsAwake => rows::awake(guard, frame),
         Prim::Online => rows::online(guard),
         Prim::ConCount => rows::connected(guard),
         Prim::ConDbref => rows::connected_at(guard, frame),
         Prim::Descriptors => rows::descriptors(guard, frame),
         Prim::Descr => Ok(rows::own_connection(descr)),
+        Prim::ConBoot => rows::boot(guard, frame),
         _ => Err(PrimFault::Fault(MufFault::NotCompiled)),
     }
 }

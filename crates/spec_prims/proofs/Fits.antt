@@ -4,10 +4,11 @@ use Rattle.std.proofs.Common.{◌≡◌, ◌≤◌, ◌⊎◌, inl, inr, ℕ, Li
 use Rattle.spec_live.specs.Lives.{Live, Change}
 use Rattle.spec_rights.specs.declared.act.Actor.{Actor}
 use Rattle.muf_model.specs.declared.prims.Primitive.{Primitive}
-use Rattle.muf_model.specs.declared.prims.Primitive.TheVariants.{Notify, IsAwake, Online, ConCount, ConDbref, Descriptors, Descr, GetProp, GetPropStr, GetPropVal, SetProp, AddProp, RemoveProp, NextProp, IsPropDir, EnvProp, EnvPropStr}
+use Rattle.muf_model.specs.declared.prims.Primitive.TheVariants.{Notify, NotifyExclude, IsAwake, Online, ConCount, ConDbref, Descriptors, Descr, ConBoot, GetProp, GetPropStr, GetPropVal, SetProp, AddProp, RemoveProp, NextProp, IsPropDir, EnvProp, EnvPropStr}
 use Rattle.muck_model.specs.declared.dbref.Dbref.{Dbref}
 use Rattle.muf_model.specs.Datum.{Datum, int, text, object}
-use Rattle.std.specs.Prelude.{ℤ}
+use Rattle.std.specs.Prelude.{ℤ, pos, take, drop}
+use Rattle.std.specs.List.{filter_map}
 use Rattle.std.specs.Option.{option_or, option_map_or}
 use Rattle.muck_prop.specs.declared.path.PropFault.{PropFault}
 use Rattle.muck_prop.specs.declared.value.PropValue.{PropValue}
@@ -16,25 +17,41 @@ use Rattle.muck_prop.specs.Paths.{path_fault, path_text, segments_of}
 use Rattle.spec_live.specs.declared.object.Object.{Object}
 use Rattle.spec_live.specs.Objects.{object_at}
 use Rattle.spec_live.specs.Seen.{places_of}
-use Rattle.spec_rights.specs.declared.act.Act.TheVariants.{Read, Write}
+use Rattle.spec_rights.specs.declared.act.Act.TheVariants.{Read, Write, Shared}
 use Rattle.spec_rights.specs.Verdict.{verdict}
 use Rattle.spec_rights.specs.Changing.{stored, unstored}
 use Rattle.muf_model.specs.declared.fault.MufFault.{MufFault}
 use Rattle.spec_prims.specs.Asking.{numbered, fault_of}
 use Rattle.spec_prims.specs.Row.{Row, gives, refuses, Doing, unless}
 use Rattle.spec_prims.specs.PropRows.{at_path, value_of, as_item, as_text, as_number, has_below, seen_at, looked, first_holder, sought, name_fault, begins, next_read, walked, written_at, put_at, put, text_or, added, removed, property_row}
-use Rattle.spec_prims.specs.Talk.{notified, awake, connected_at, player_given, player_at, descriptors, talk_row}
+use Rattle.spec_prims.specs.Talk.{notified, told_but, object_in, notified_but, booted_seat, booted, seat_at, awake, connected_at, player_given, player_at, descriptors, talk_row}
 use Rattle.std.specs.Prelude.{option_map, Result, Ok, Err}
 use Rattle.muf_model.specs.declared.fault.MufFault.{MufFault}
 use Rattle.spec_prims.specs.ObjectRows.{Finding, finding_of, finds, given, object_row}
 use Rattle.spec_prims.specs.ObjectWrites.{writing_row}
-use Rattle.spec_prims.proofs.Writes.{fits_writing}
+use Rattle.spec_prims.proofs.Writes.{fits_unless, fits_writing}
 
 -- a line for each row
 
 fits_notified : (a : Actor) (items : List Datum) (w : Live) → Fits items w (notified a items w)
 fits_notified a (text t ∷ object d ∷ []) w = inl (omega arith)
 fits_notified a _ w = tt
+
+fits_told_but : (t : List ℕ) (but : List Dbref) (rest items : List Datum) (w : Live) → Fits items w (told_but t but rest w)
+fits_told_but t but (object d ∷ []) items w = inl (omega arith)
+fits_told_but t but _ items w = tt
+
+fits_notified_but : (a : Actor) (items : List Datum) (w : Live) → Fits items w (notified_but a items w)
+fits_notified_but a (text t ∷ int (pos n) ∷ rest) w = fits_told_but t (filter_map object_in (take n rest)) (drop n rest) (text t ∷ int (pos n) ∷ rest) w
+fits_notified_but a _ w = tt
+
+fits_seat : (d : Option ℕ) (items : List Datum) (w : Live) → Fits items w (booted_seat d w)
+fits_seat (Some d) items w = inl (omega arith)
+fits_seat None items w = tt
+
+fits_booted : (a : Actor) (items : List Datum) (w : Live) → Fits items w (booted a items w)
+fits_booted a (int i ∷ []) w = fits_unless (fault_of (verdict w.objects a (Shared 4))) (int i ∷ []) w (booted_seat (seat_at i w) w) (fits_seat (seat_at i w) (int i ∷ []) w)
+fits_booted a _ w = tt
 
 fits_awake : (a : Actor) (items : List Datum) (w : Live) → Fits items w (awake a items w)
 fits_awake a (object d ∷ []) w = inr refl
@@ -67,19 +84,17 @@ fits_object p = fits_found p (finding_of p) (writing_row p) (fits_writing p)
 
 pub fits_talk : (descr : Option ℕ) (p : Primitive) → IsFit (talk_row descr p)
 fits_talk descr Notify = fits_notified
+fits_talk descr NotifyExclude = fits_notified_but
 fits_talk descr IsAwake = fits_awake
 fits_talk descr Online = λ a items w. inr refl
 fits_talk descr ConCount = λ a items w. inr refl
 fits_talk descr ConDbref = fits_connected_at
 fits_talk descr Descriptors = fits_descriptors
 fits_talk descr Descr = λ a items w. inr refl
+fits_talk descr ConBoot = fits_booted
 fits_talk descr _ = tt
 
 -- what is asked before a row
-
-fits_unless : (o : Option MufFault) (items : List Datum) (w : Live) (row : Row) → Fits items w row → Fits items w (unless o row)
-fits_unless None items w row h = h
-fits_unless (Some f) items w row h = tt
 
 fits_at_path : (fault : Option PropFault) (items : List Datum) (w : Live) (row : Row) → Fits items w row → Fits items w (at_path fault row)
 fits_at_path None items w row h = h

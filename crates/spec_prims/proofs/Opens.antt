@@ -6,20 +6,22 @@ use Rattle.std.specs.Prelude.{option_map, Result, Ok, Err}
 use Rattle.spec_live.specs.Lives.{Live}
 use Rattle.spec_rights.specs.declared.act.Actor.{Actor}
 use Rattle.spec_rights.specs.declared.act.Act.{Act}
-use Rattle.spec_rights.specs.declared.act.Act.TheVariants.{Read, Write}
+use Rattle.spec_rights.specs.declared.act.Act.TheVariants.{Read, Write, Shared}
 use Rattle.spec_rights.specs.Verdict.{verdict}
 use Rattle.spec_rights.specs.Changing.{stored, unstored}
 use Rattle.spec_rights.proofs.Changes.{stays_stored, stays_unstored}
 use Rattle.spec_rights.specs.Licence.{nobody}
 use Rattle.spec_rights.proofs.Licences.{Proper, Stays, ends_stays}
-use Rattle.spec_rights.proofs.Shown.{quiet_tell_player}
-use Rattle.spec_live.specs.Lives.{Change}
+use Rattle.spec_rights.proofs.Shown.{quiet_tell_player, quiet_tell_but}
+use Rattle.spec_live.specs.Lives.{Change, leave}
+use Rattle.spec_rights.proofs.Leaving.{stays_left}
 use Rattle.muf_model.specs.declared.fault.MufFault.{MufFault}
 use Rattle.muf_model.specs.declared.prims.Family.{Family}
 use Rattle.muf_model.specs.declared.prims.Family.TheVariants as kind
 use Rattle.muf_model.specs.declared.prims.Primitive.{Primitive}
-use Rattle.muf_model.specs.declared.prims.Primitive.TheVariants.{Notify, IsAwake, Online, ConCount, ConDbref, Descriptors, Descr, GetProp, GetPropStr, GetPropVal, SetProp, AddProp, RemoveProp, NextProp, IsPropDir, EnvProp, EnvPropStr}
-use Rattle.std.specs.Prelude.{ℤ}
+use Rattle.muf_model.specs.declared.prims.Primitive.TheVariants.{Notify, NotifyExclude, IsAwake, Online, ConCount, ConDbref, Descriptors, Descr, ConBoot, GetProp, GetPropStr, GetPropVal, SetProp, AddProp, RemoveProp, NextProp, IsPropDir, EnvProp, EnvPropStr}
+use Rattle.std.specs.Prelude.{ℤ, pos}
+use Rattle.std.specs.List.{filter_map}
 use Rattle.muck_model.specs.declared.dbref.Dbref.{Dbref}
 use Rattle.muck_model.specs.declared.dbref.Denial.{Denial}
 use Rattle.muck_prop.specs.declared.path.PropFault.{PropFault}
@@ -36,17 +38,55 @@ use Rattle.muf_model.specs.Prims.{family_of, level_of, needs_of}
 use Rattle.spec_prims.specs.Asking.{numbered, fault_of, level_fault}
 use Rattle.spec_prims.specs.Row.{Row, gives, refuses, Doing, unless, given_upon}
 use Rattle.spec_prims.specs.PropRows.{at_path, by_leave, value_of, as_item, as_text, as_number, has_below, looked, first_holder, sought, name_fault, walked, put_at, put, text_or, added, removed, property_row}
-use Rattle.spec_prims.specs.Talk.{notified, awake, connected_at, player_given, player_at, descriptors, talk_row}
+use Rattle.spec_prims.specs.Talk.{notified, told_but, object_in, notified_but, booted_seat, booted, seat_at, awake, connected_at, player_given, player_at, descriptors, talk_row}
 use Rattle.spec_prims.specs.ObjectRows.{Finding, finding_of, finds, given, object_row}
 use Rattle.spec_prims.specs.ObjectWrites.{writing_row}
 use Rattle.spec_prims.proofs.Writes.{opens_writing}
 use Rattle.spec_prims.specs.Shared.{row_in, shared_row, taken, fault_by, first_fault, done_by, shared}
+
+
+-- what is asked before a row
+
+opens_unless : (o : Option MufFault) (a : Actor) (w : Live) (row : Row) → (o ≡ None → RowOpen a w row) → RowOpen a w (unless o row)
+opens_unless None a w row h = h refl
+opens_unless (Some f) a w row h = tt
+
+no_denial : (d : Option Denial) → fault_of d ≡ None → d ≡ None
+no_denial None e = refl
+no_denial (Some d) e = absurd cc
+
+opens_by_leave : (a : Actor) (act : Act) (w : Live) (row : Row) → (verdict w.objects a act ≡ None → RowOpen a w row) → RowOpen a w (by_leave a act w row)
+opens_by_leave a act w row h = opens_unless (fault_of (verdict w.objects a act)) a w row (λ e. h (no_denial (verdict w.objects a act) e))
+
+opens_at_path : (fault : Option PropFault) (a : Actor) (w : Live) (row : Row) → RowOpen a w row → RowOpen a w (at_path fault row)
+opens_at_path None a w row h = h
+opens_at_path (Some f) a w row h = tt
+
+-- what is done by leave and changes no right
+stays_open : (a : Actor) (act : Act) (f : Change) (w : Live) → Stays a nobody (Some act) f → verdict w.objects a act ≡ None → Proper a nobody w (f w)
+stays_open a act f w p e = ended_open a (Some act) w (f w) ((ends_stays a nobody (Some act) f p).law w) e
 
 -- a line for each row
 
 opens_notified : (a : Actor) (items : List Datum) (w : Live) → RowOpen a w (notified a items w)
 opens_notified a (text t ∷ object d ∷ []) w = shows_open a w _ ((quiet_tell_player (numbered d) t).law w)
 opens_notified a _ w = tt
+
+opens_told_but : (a : Actor) (t : List ℕ) (but : List Dbref) (rest : List Datum) (w : Live) → RowOpen a w (told_but t but rest w)
+opens_told_but a t but (object d ∷ []) w = shows_open a w _ ((quiet_tell_but (numbered d) but t).law w)
+opens_told_but a t but _ w = tt
+
+opens_notified_but : (a : Actor) (items : List Datum) (w : Live) → RowOpen a w (notified_but a items w)
+opens_notified_but a (text t ∷ int (pos n) ∷ rest) w = opens_told_but a t (filter_map object_in (take n rest)) (drop n rest) w
+opens_notified_but a _ w = tt
+
+opens_seat : (d : Option ℕ) (a : Actor) (w : Live) → verdict w.objects a (Shared 4) ≡ None → RowOpen a w (booted_seat d w)
+opens_seat (Some d) a w given = stays_open a (Shared 4) (leave d) w (stays_left a nobody d) given
+opens_seat None a w given = tt
+
+opens_booted : (a : Actor) (items : List Datum) (w : Live) → RowOpen a w (booted a items w)
+opens_booted a (int i ∷ []) w = opens_by_leave a (Shared 4) w (booted_seat (seat_at i w) w) (opens_seat (seat_at i w) a w)
+opens_booted a _ w = tt
 
 opens_awake : (a : Actor) (items : List Datum) (w : Live) → RowOpen a w (awake a items w)
 opens_awake a (object d ∷ []) w = same_open a w
@@ -77,34 +117,15 @@ opens_object p = opens_found p (finding_of p) (writing_row p) (opens_writing (le
 
 opens_talk : (descr : Option ℕ) (p : Primitive) → IsOpen (level_of p) (talk_row descr p)
 opens_talk descr Notify = λ a items w level. opens_notified a items w
+opens_talk descr NotifyExclude = λ a items w level. opens_notified_but a items w
 opens_talk descr IsAwake = λ a items w level. opens_awake a items w
 opens_talk descr Online = λ a items w level. same_open a w
 opens_talk descr ConCount = λ a items w level. same_open a w
 opens_talk descr ConDbref = λ a items w level. opens_connected_at a items w
 opens_talk descr Descriptors = λ a items w level. opens_descriptors a items w
 opens_talk descr Descr = λ a items w level. same_open a w
+opens_talk descr ConBoot = λ a items w level. opens_booted a items w
 opens_talk descr _ = tt
-
--- what is asked before a row
-
-opens_unless : (o : Option MufFault) (a : Actor) (w : Live) (row : Row) → (o ≡ None → RowOpen a w row) → RowOpen a w (unless o row)
-opens_unless None a w row h = h refl
-opens_unless (Some f) a w row h = tt
-
-no_denial : (d : Option Denial) → fault_of d ≡ None → d ≡ None
-no_denial None e = refl
-no_denial (Some d) e = absurd cc
-
-opens_by_leave : (a : Actor) (act : Act) (w : Live) (row : Row) → (verdict w.objects a act ≡ None → RowOpen a w row) → RowOpen a w (by_leave a act w row)
-opens_by_leave a act w row h = opens_unless (fault_of (verdict w.objects a act)) a w row (λ e. h (no_denial (verdict w.objects a act) e))
-
-opens_at_path : (fault : Option PropFault) (a : Actor) (w : Live) (row : Row) → RowOpen a w row → RowOpen a w (at_path fault row)
-opens_at_path None a w row h = h
-opens_at_path (Some f) a w row h = tt
-
--- what is done by leave and changes no right
-stays_open : (a : Actor) (act : Act) (f : Change) (w : Live) → Stays a nobody (Some act) f → verdict w.objects a act ≡ None → Proper a nobody w (f w)
-stays_open a act f w p e = ended_open a (Some act) w (f w) ((ends_stays a nobody (Some act) f p).law w) e
 
 -- rows of properties
 

@@ -2,7 +2,7 @@
 use Rattle.std.proofs.Common.{◌≡◌, ℕ, Bool, true, false, Option, refl}
 use Rattle.std.specs.Prelude.{◌&&◌, is_some}
 use Rattle.muf_model.specs.declared.prims.Primitive.{Primitive}
-use Rattle.muf_model.specs.declared.prims.Primitive.TheVariants.{Name, Notify, IsAwake, Online, ConCount, ConDbref, Descriptors, Descr, GetProp, GetPropStr, GetPropVal, SetProp, AddProp, RemoveProp, NextProp, IsPropDir, EnvProp, EnvPropStr}
+use Rattle.muf_model.specs.declared.prims.Primitive.TheVariants.{Name, Notify, NotifyExclude, IsAwake, Online, ConCount, ConDbref, Descriptors, Descr, ConBoot, GetProp, GetPropStr, GetPropVal, SetProp, AddProp, RemoveProp, NextProp, IsPropDir, EnvProp, EnvPropStr}
 use Rattle.muf_model.specs.Prims.{is_there}
 use Rattle.spec_prims.specs.ObjectRows.{object_row, is_object}
 use Rattle.spec_prims.specs.PropRows.{property_row, is_property}
@@ -10,12 +10,14 @@ use Rattle.spec_prims.specs.Talk.{talk_row, is_talk}
 
 pub talk_there : (descr : Option ℕ) (p : Primitive) → is_some (talk_row descr p) ≡ is_talk p && is_there p
 talk_there descr Notify = refl
+talk_there descr NotifyExclude = refl
 talk_there descr IsAwake = refl
 talk_there descr Online = refl
 talk_there descr ConCount = refl
 talk_there descr ConDbref = refl
 talk_there descr Descriptors = refl
 talk_there descr Descr = refl
+talk_there descr ConBoot = refl
 talk_there descr _ = refl
 
 pub object_there : (p : Primitive) → is_some (object_row p) ≡ is_object p && is_there p

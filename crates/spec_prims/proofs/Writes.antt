@@ -39,7 +39,7 @@ use Rattle.spec_prims.proofs.Open.{RowOpen, IsOpen, ended_open}
 
 -- There is room.
 
-fits_unless : (o : Option MufFault) (items : List Datum) (w : Live) (row : Row) → Fits items w row → Fits items w (unless o row)
+pub fits_unless : (o : Option MufFault) (items : List Datum) (w : Live) (row : Row) → Fits items w row → Fits items w (unless o row)
 fits_unless None items w row h = h
 fits_unless (Some f) items w row h = tt
 

@@ -1,22 +1,24 @@
 -- The rows of the primitives that talk to players.
-use Rattle.std.specs.Prelude.{ℕ, zero, suc, Bool, true, false, ◌&&◌, nat_le, ℤ, pos, negsuc, min, List, [], ◌∷◌, length, map, reverse, slice_get, if◌then◌else◌, Option, Some, None}
+use Rattle.std.specs.Prelude.{ℕ, zero, suc, take, drop, Bool, true, false, ◌&&◌, nat_le, ℤ, pos, negsuc, min, List, [], ◌∷◌, length, map, reverse, slice_get, if◌then◌else◌, Option, Some, None}
 use Rattle.std.specs.List.{filter, filter_map, count_by}
 use Rattle.std.specs.Int.{w32, cast_signed}
 use Rattle.std.specs.Option.{option_map_or}
 use Rattle.muck_model.specs.declared.dbref.Dbref.{Dbref}
 use Rattle.spec_live.specs.Connections.{Connection, is_of, has_player}
-use Rattle.spec_live.specs.Lives.{Live, tell_player}
+use Rattle.spec_live.specs.Lives.{Live, tell_player, tell_but, leave}
 use Rattle.spec_rights.specs.declared.act.Actor.{Actor}
+use Rattle.spec_rights.specs.declared.act.Act.TheVariants.{Shared}
+use Rattle.spec_rights.specs.Verdict.{verdict}
 use Rattle.muf_model.specs.declared.fault.MufFault.{MufFault}
 use Rattle.muf_model.specs.declared.fault.MufFault.TheVariants.{BadType, BadArgument}
 use Rattle.muf_model.specs.declared.prims.Primitive.{Primitive}
-use Rattle.muf_model.specs.declared.prims.Primitive.TheVariants.{Notify, IsAwake, Online, ConCount, ConDbref, Descriptors, Descr}
+use Rattle.muf_model.specs.declared.prims.Primitive.TheVariants.{Notify, NotifyExclude, IsAwake, Online, ConCount, ConDbref, Descriptors, Descr, ConBoot}
 use Rattle.muf_model.specs.declared.prims.Family.{Family}
 use Rattle.muf_model.specs.declared.prims.Family.TheVariants as kind
 use Rattle.muf_model.specs.Datum.{Datum, int, text, object}
 use Rattle.muf_model.specs.Prims.{family_of}
-use Rattle.spec_prims.specs.Asking.{numbered}
-use Rattle.spec_prims.specs.Row.{Row, gives, refuses, Doing, unruled}
+use Rattle.spec_prims.specs.Asking.{numbered, fault_of}
+use Rattle.spec_prims.specs.Row.{Row, gives, refuses, Doing, unless, unruled}
 
 -- Items.
 
@@ -49,6 +51,18 @@ abbrev pub player_at : ℤ → Live → Option Dbref
 player_at (pos n) w = player_numbered n w
 player_at (negsuc n) w = None
 
+-- the numbers of the connections that have a player, rising, and the i-th of them, from 1
+abbrev pub seats : Live → List ℕ
+seats w = map (λ c. c.number) (filter has_player w.board.connections)
+
+abbrev pub seat_numbered : ℕ → Live → Option ℕ
+seat_numbered zero w = None
+seat_numbered (suc n) w = slice_get (seats w) n
+
+abbrev pub seat_at : ℤ → Live → Option ℕ
+seat_at (pos n) w = seat_numbered n w
+seat_at (negsuc n) w = None
+
 -- there is one
 abbrev pub is_place : ℤ → Live → Bool
 is_place (pos n) w = nat_le 1 n && nat_le n (count_by has_player w.board.connections)
@@ -60,6 +74,19 @@ is_place (negsuc n) w = false
 abbrev pub notified : Actor → List Datum → Live → Row
 notified a (text t ∷ object d ∷ []) w = gives [] (tell_player (numbered d) t w)
 notified a items w = refuses BadType
+
+-- NOTIFY_EXCLUDE: a text for the players in a place but those that are named, as many as the item below the text says
+abbrev pub object_in : Datum → Option Dbref
+object_in (object d) = Some (numbered d)
+object_in _ = None
+
+abbrev pub told_but : List ℕ → List Dbref → List Datum → Live → Row
+told_but t but (object d ∷ []) w = gives [] (tell_but (numbered d) but t w)
+told_but t but items w = refuses BadType
+
+abbrev pub notified_but : Actor → List Datum → Live → Row
+notified_but a (text t ∷ int (pos n) ∷ rest) w = told_but t (filter_map object_in (take n rest)) (drop n rest) w
+notified_but a items w = refuses BadType
 
 -- AWAKE?: how many connections a player has
 abbrev pub awake : Actor → List Datum → Live → Row
@@ -87,6 +114,15 @@ abbrev pub outside : Actor → List Datum → Live → Option MufFault
 outside a (int i ∷ []) w = if is_place i w then None else Some BadArgument
 outside a items w = None
 
+-- CONBOOT: one of them is to leave
+abbrev pub booted_seat : Option ℕ → Live → Row
+booted_seat (Some d) w = gives [] (leave d w)
+booted_seat None w = refuses BadArgument
+
+abbrev pub booted : Actor → List Datum → Live → Row
+booted a (int i ∷ []) w = unless (fault_of (verdict w.objects a (Shared 4))) (booted_seat (seat_at i w) w)
+booted a items w = refuses BadType
+
 -- DESCRIPTORS: the numbers of a player's connections, rising
 abbrev pub descriptors : Actor → List Datum → Live → Row
 descriptors a (object d ∷ []) w = gives (with_count (map number_item (filter (is_of (numbered d)) w.board.connections))) w
@@ -99,12 +135,14 @@ own_connection descr a items w = gives (int (option_map_or (cast_signed w32) des
 -- the row of a primitive, where there is one, in a process of that connection
 abbrev pub talk_row : Option ℕ → Primitive → Option Doing
 talk_row descr Notify = Some (unruled notified)
+talk_row descr NotifyExclude = Some (unruled notified_but)
 talk_row descr IsAwake = Some (unruled awake)
 talk_row descr Online = Some (unruled online)
 talk_row descr ConCount = Some (unruled connected)
 talk_row descr ConDbref = Some (record { argued = outside; does = connected_at })
 talk_row descr Descriptors = Some (unruled descriptors)
 talk_row descr Descr = Some (unruled (own_connection descr))
+talk_row descr ConBoot = Some (record { argued = outside; does = booted })
 talk_row descr p = None
 
 abbrev pub is_talk_family : Family → Bool

@@ -1,15 +1,15 @@
 -- Worked rows of the primitives of talk, which the checker computes.
-use Rattle.std.specs.Prelude.{◌≡◌, ℕ, ℤ, pos, negsuc, false, List, [], ◌∷◌, Option, Some, None, refl}
+use Rattle.std.specs.Prelude.{◌≡◌, ℕ, ℤ, pos, negsuc, false, List, [], ◌∷◌, codes, Option, Some, None, refl}
 use Rattle.muck_model.specs.declared.dbref.Dbref.{Dbref}
 use Rattle.spec_live.specs.Objects.{dbref_of, object_at, number_in, kind_in, object_in}
 use Rattle.spec_live.specs.Boards.{first_tune, early_board, with_connections}
 use Rattle.spec_live.specs.Connections.{Connection}
 use Rattle.spec_live.specs.Output.{no_output}
-use Rattle.spec_live.specs.Lives.{Live}
+use Rattle.spec_live.specs.Lives.{Live, tell_but, leave}
 use Rattle.spec_live.specs.Start.{room_zero, player_one, first_objects}
 use Rattle.muf_model.specs.declared.fault.MufFault.TheVariants.{BadArgument, NoSuchObject, Denied}
-use Rattle.muf_model.specs.declared.prims.Primitive.TheVariants.{IsAwake, Online, ConCount, ConDbref, Descriptors, Descr}
-use Rattle.muf_model.specs.Datum.{Datum, int, object}
+use Rattle.muf_model.specs.declared.prims.Primitive.TheVariants.{NotifyExclude, IsAwake, Online, ConCount, ConDbref, Descriptors, Descr, ConBoot}
+use Rattle.muf_model.specs.Datum.{Datum, int, text, object}
 use Rattle.spec_prims.specs.Asking.{level_fault, is_there, near_fault}
 use Rattle.spec_prims.specs.Row.{gives, refuses}
 use Rattle.spec_prims.specs.Shared.{first_fault, shared}
@@ -32,8 +32,13 @@ number n = int (pos n)
 -- the rows
 unfoldable pub TalkRows : Type 0
 TalkRows =
+    -- a text for a room but for those that are named, as many as the item below it says; a count below none, and who isn't there
+    (shared NotifyExclude (acting_at 1 1) None 0 (text (codes "x") ∷ number 1 ∷ one ∷ object (pos 0) ∷ []) crowded ≡ gives [] crowded)
+    × (shared NotifyExclude (acting_at 1 1) None 0 (text (codes "x") ∷ number 0 ∷ object (pos 0) ∷ one ∷ []) crowded ≡ gives (one ∷ []) (tell_but (dbref_of 0) [] (codes "x") crowded))
+    × (shared NotifyExclude (acting_at 1 1) None 0 (text (codes "x") ∷ int (negsuc 0) ∷ object (pos 0) ∷ []) crowded ≡ refuses BadArgument)
+    × (shared NotifyExclude (acting_at 1 1) None 0 (text (codes "x") ∷ number 1 ∷ object (pos 7) ∷ object (pos 0) ∷ []) crowded ≡ refuses NoSuchObject)
     -- the connections of a player, of a room, and of what isn't there
-    (shared IsAwake (acting_at 1 1) None 0 (one ∷ []) crowded ≡ gives (number 2 ∷ []) crowded)
+    × (shared IsAwake (acting_at 1 1) None 0 (one ∷ []) crowded ≡ gives (number 2 ∷ []) crowded)
     × (shared IsAwake (acting_at 1 1) None 0 (object (pos 0) ∷ []) crowded ≡ gives (number 0 ∷ []) crowded)
     × (shared IsAwake (acting_at 1 1) None 0 (object (pos 7) ∷ []) crowded ≡ refuses NoSuchObject)
     -- who is connected, once for each connection, and how many that is
@@ -49,7 +54,11 @@ TalkRows =
     × (shared Descriptors (acting_at 3 1) None 0 (one ∷ []) crowded ≡ gives (number 2 ∷ number 9 ∷ number 2 ∷ []) crowded)
     × (shared Descr (acting_at 1 1) (Some 9) 0 [] crowded ≡ gives (number 9 ∷ []) crowded)
     × (shared Descr (acting_at 1 1) None 0 [] crowded ≡ gives (int (negsuc 0) ∷ []) crowded)
+    -- the second connection that has a player is to leave, by leave for the highest level; there is no third
+    × (shared ConBoot (acting_at 4 1) None 0 (number 2 ∷ []) crowded ≡ gives [] (leave 9 crowded))
+    × (shared ConBoot (acting_at 4 1) None 0 (number 3 ∷ []) crowded ≡ refuses BadArgument)
+    × (shared ConBoot (acting_at 3 1) None 0 (number 2 ∷ []) crowded ≡ refuses (Denied 1))
 
 pub talk_rows : TalkRows
-unfolding TalkRows first_tune early_board object_at number_in kind_in object_in room_zero player_one first_objects level_fault is_there near_fault first_fault shared
-talk_rows = (refl, refl, refl, refl, refl, refl, refl, refl, refl, refl, refl, refl, refl)
+unfolding TalkRows tell_but first_tune early_board object_at number_in kind_in object_in room_zero player_one first_objects level_fault is_there near_fault first_fault shared
+talk_rows = (refl, refl, refl, refl, refl, refl, refl, refl, refl, refl, refl, refl, refl, refl, refl, refl, refl, refl, refl, refl)
