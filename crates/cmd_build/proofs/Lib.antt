@@ -3,3 +3,4 @@ pub mod Made
 pub mod Open
 pub mod Owned
 pub mod Entered
+mod Assigned
