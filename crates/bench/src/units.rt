@@ -16,16 +16,15 @@ fn source_of(name: &str) -> &'static str {
     }
 }
 
-/// The code of a source.
-pub(crate) fn compiled(alloc: Global, source: &str) -> Option<Code> {
+fn compiled(alloc: Global, source: &str) -> Option<Code> {
     let mut lines = Vec::new(alloc);
     lines.push(Line::new(alloc, source.as_bytes()).ok()?).ok()?;
     let words = tokens(alloc, lines.as_slice(), &MemIncludes::new(alloc).ok()?).ok()?;
     compile(alloc, &words).ok()
 }
 
-/// A frame at the start of the last word of the code.
-pub(crate) fn started(alloc: Global, code: &Code) -> Option<Frame> {
+// A frame at the start of the last word of the code.
+fn started(alloc: Global, code: &Code) -> Option<Frame> {
     let word = code.words.get(code.words.len().checked_sub(1)?)?;
     let mut frame = Frame::new(alloc, Line::new(alloc, b"").ok()?).ok()?;
     frame
