@@ -12,8 +12,7 @@ const ROOM_ZERO: Dbref = Dbref(0);
 
 const ONE: Dbref = Dbref(1);
 
-/// What a wizard tunes, as it is at first.
-pub(crate) const TUNE: Tune = Tune {
+const TUNE: Tune = Tune {
     instr_slice: 2000,
     preempt_units: 20_000,
     m1_units: 20_000,

@@ -16,8 +16,7 @@ fn source_of(name: &str) -> &'static str {
     }
 }
 
-/// The code of a source.
-pub(crate) fn compiled(alloc: Global, source: &str) -> Option<Code> {
+fn compiled(alloc: Global, source: &str) -> Option<Code> {
     let mut lines = Vec::new(alloc);
     lines.push(Line::new(alloc, source.as_bytes()).ok()?).ok()?;
     let words = tokens(alloc, lines.as_slice(), &MemIncludes::new(alloc).ok()?).ok()?;

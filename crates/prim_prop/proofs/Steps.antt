@@ -1,6 +1,6 @@
 -- What a row makes at each of its returns.
-use Rattle.std.proofs.Common.{◌≡◌, ℕ, List, [], ◌∷◌, take, true, Option, Some, None, refl, sym, ap, ◌∙◌, subst}
-use Rattle.std.specs.Prelude.{ℤ, is_some, Result, Ok, Err, if◌then◌else◌}
+use Rattle.std.proofs.Common.{◌≡◌, ℕ, List, [], ◌∷◌, take, Option, Some, None, refl, sym, ap, ◌∙◌, subst}
+use Rattle.std.specs.Prelude.{ℤ, Result, Ok, Err, if◌then◌else◌}
 use Rattle.std.specs.Option.{option_map_or}
 use Rattle.muck_model.specs.declared.dbref.Dbref.{Dbref}
 use Rattle.muck_prop.specs.declared.path.PropFault.{PropFault}
@@ -18,7 +18,6 @@ use Rattle.spec_rights.specs.declared.act.Act.TheVariants.{Read, Write}
 use Rattle.spec_rights.specs.Verdict.{verdict}
 use Rattle.spec_rights.specs.Changing.{stored, unstored}
 use Rattle.muf_model.specs.declared.fault.MufFault.{MufFault}
-use Rattle.muf_model.specs.declared.fault.MufFault.TheVariants.{BadArgument}
 use Rattle.muf_model.specs.Datum.{Datum, text}
 use Rattle.muf_frame.specs.declared.fault.PrimFault.{PrimFault}
 use Rattle.muf_frame.specs.declared.fault.PrimFault.TheVariants.{Fault, NoMemory}
@@ -27,7 +26,7 @@ use Rattle.muck_perm.specs.Guards.{Same, Done, Tries, Makes as Changes, objects_
 use Rattle.muck_perm.proofs.Worlds.{kept_itself, same_as}
 use Rattle.spec_prims.specs.Asking.{numbered, fault_of}
 use Rattle.spec_prims.specs.Row.{Row, gives, refuses, unless}
-use Rattle.spec_prims.specs.PropRows.{at_path, looked, sought, name_fault, begins, next_read, walked, removed, first_holder, put_at}
+use Rattle.spec_prims.specs.PropRows.{at_path, looked, sought, begins, next_read, walked, removed, first_holder, put_at}
 use Rattle.prim_common.specs.declared.made.Made.{Made}
 use Rattle.prim_common.specs.declared.made.Made.TheVariants.{Nothing}
 use Rattle.prim_common.specs.Applied.{Makes, items_of}
@@ -49,14 +48,6 @@ pub made_items : (row : Row) (g : Guard) (items : List Datum) (made : Made) → 
 made_items row g items made e is = subst (λ r. Makes r g g (Ok made)) (sym e) (is, refl, kept_itself g)
 
 -- at a path, and by leave
-
-no_path_by : (o : Option PropFault) (row : Row) → is_some o ≡ true → at_path o row ≡ refuses BadArgument
-no_path_by None row e = absurd (cc)
-no_path_by (Some f) row e = refl
-
-pub no_name : (all row : Row) (t : List ℕ) (g : Guard) (e : PrimFault) → all ≡ at_path (name_fault t) row → Starts t (Err e) → Makes all g g (Err e)
-no_name all row t g (Fault f) is h = refused all g f (is ∙ no_path_by (name_fault t) row h.0 ∙ ap refuses (sym h.1))
-no_name all row t g NoMemory is h = wants all g g (same_as g g refl)
 
 past_path : (t : List ℕ) (row : Row) → path_fault t ≡ None → at_path (path_fault t) row ≡ row
 past_path t row e = ap (λ o. at_path o row) e
