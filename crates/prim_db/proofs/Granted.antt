@@ -91,7 +91,7 @@ why_none : (change : ℕ → ℕ → Change) (fault found : DbFault) (old new : 
     Makes (given_made (Err fault) change (world_of old)) old new result
 why_none change fault found old new result (inr e) same h =
     let none : result ≡ Err NoMemory = subst (λ (x : DbFault). IsMade (Err x) result) e h in
-    subst (λ r. Makes (given_made (Err fault) change (world_of old)) old new r) (sym none) (wants_made _ old new same)
+    subst (λ r. Makes (given_made (Err fault) change (world_of old)) old new r) (sym none) (wants_made (given_made (Err fault) change (world_of old)) old new same)
 why_none change fault found old new result (inl e) same h = at fault (subst (λ (x : DbFault). IsMade (Err x) result) e h)
   where
     at : (fault : DbFault) → IsMade (Err fault) result → Makes (given_made (Err fault) change (world_of old)) old new result
@@ -105,7 +105,7 @@ number_given (Ok p) change old new (Ok object) result f h =
     subst (λ r. Makes (given_made (Ok p) change (world_of old)) old new r) (sym h) (ap (λ (d : Dbref). view (Ref d) ∷ []) f.0, f.1.0, f.1.1)
 number_given (Ok p) change old new (Err found) result f h =
     let none : result ≡ Err NoMemory = subst (λ (x : DbFault). IsMade (Err x) result) f.0 h in
-    subst (λ r. Makes (given_made (Ok p) change (world_of old)) old new r) (sym none) (wants_made _ old new f.1)
+    subst (λ r. Makes (given_made (Ok p) change (world_of old)) old new r) (sym none) (wants_made (given_made (Ok p) change (world_of old)) old new f.1)
 number_given (Err fault) change old new (Ok object) result f h = absurd f
 number_given (Err fault) change old new (Err found) result f h = why_none change fault found old new result f.0 f.1 h
 
