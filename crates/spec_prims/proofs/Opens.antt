@@ -44,7 +44,6 @@ use Rattle.spec_prims.specs.ObjectWrites.{writing_row}
 use Rattle.spec_prims.proofs.Writes.{opens_writing}
 use Rattle.spec_prims.specs.Shared.{row_in, shared_row, taken, fault_by, first_fault, done_by, shared}
 
-
 -- what is asked before a row
 
 opens_unless : (o : Option MufFault) (a : Actor) (w : Live) (row : Row) → (o ≡ None → RowOpen a w row) → RowOpen a w (unless o row)
