@@ -1,5 +1,5 @@
 -- A change by leave, as its row has it.
-use Rattle.std.proofs.Common.{◌≡◌, ◌⊎◌, inl, inr, ℕ, Bool, true, false, cond, List, [], ◌∷◌, codes, Option, Some, None, Ok, Err, refl, sym, ap, subst}
+use Rattle.std.proofs.Common.{◌≡◌, ◌⊎◌, inl, inr, ℕ, Bool, true, false, cond, List, [], ◌∷◌, codes, Option, Some, None, Ok, Err, refl, sym, ap, subst, ◌∙◌}
 use Rattle.std.specs.Prelude.{Result}
 use Rattle.muck_model.specs.declared.dbref.Dbref.{Dbref}
 use Rattle.muck_prop.specs.declared.value.PropValue.TheVariants.{Text}
@@ -98,8 +98,10 @@ module _ (x : Dbref) (printed : List ℕ) (old new : Guard) where
   abbrev kept : Row
   kept = gives (truth true ∷ []) (stored x (message_path (codes "lok")) (Text printed) (world_of old))
 
-  pub done_kept : (v : Value) → is_there x (world_of old) ≡ true → Done (stored x (message_path (codes "lok")) (Text printed)) old new → view v ≡ truth true → Makes (lock_kept x (Some printed) (world_of old)) old new (Ok (One v))
-  done_kept v m h t = where_true (is_there x (world_of old)) kept (refuses BadArgument) old new (Ok (One v)) m (ap (λ item. item ∷ []) t, h.0, h.1)
+  pub done_kept : (path : List (List ℕ)) (v : Value) → is_there x (world_of old) ≡ true → path ≡ message_path (codes "lok") → Done (stored x path (Text printed)) old new → view v ≡ truth true → Makes (lock_kept x (Some printed) (world_of old)) old new (Ok (One v))
+  done_kept path v m e h t =
+      where_true (is_there x (world_of old)) kept (refuses BadArgument) old new (Ok (One v)) m
+      (ap (λ item. item ∷ []) t, h.0 ∙ ap (λ place. stored x place (Text printed) (world_of old)) e, h.1)
 
   pub refused_kept : is_there x (world_of old) ≡ false → new ≡ old → Makes (lock_kept x (Some printed) (world_of old)) old new (Err (Fault BadArgument))
   refused_kept m same = where_false (is_there x (world_of old)) kept (refuses BadArgument) old new (Err (Fault BadArgument)) m (refl, same)

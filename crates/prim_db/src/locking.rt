@@ -34,7 +34,12 @@ fn keep(guard: &mut Guard, pass: Pass, object: Dbref, text: Line) -> Result<Made
 
 // Keeps a lock as it is printed, where that isn't too long.
 #[tactic(auto, using(crate::proofs::Granted::keeping))]
-fn keep_printed(guard: &mut Guard, pass: Pass, object: Dbref, lock: &Lock) -> Result<Made, PrimFault>
+fn keep_printed(
+    guard: &mut Guard,
+    pass: Pass,
+    object: Dbref,
+    lock: &Lock,
+) -> Result<Made, PrimFault>
     requires { IsLeave pass (Act.Change object) guard.old }
     ensures { Makes (row.lock_kept object (key_kept (Ok lock.now)) (world_of guard.old)) guard.old guard.new result }
 {

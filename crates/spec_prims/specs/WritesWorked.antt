@@ -1,8 +1,9 @@
 -- Worked rows of the primitives that change objects.
-use Rattle.std.specs.Prelude.{◌≡◌, ℕ, pos, negsuc, true, false, List, [], ◌∷◌, codes, None, refl}
+use Rattle.std.specs.Prelude.{◌≡◌, ℕ, pos, negsuc, true, false, List, [], ◌∷◌, codes, None, Ok, refl}
+use Rattle.muck_model.specs.declared.lock.Lock.{Lock}
+use Rattle.muck_model.specs.declared.lock.Lock.TheVariants.{Free, Object as IsObject, Not, Both}
 use Rattle.muck_model.specs.Decimal.{decimal_of}
 use Rattle.muck_model.specs.Numbers.{dbref_of as dbref_in}
-use Rattle.muck_prop.specs.declared.value.PropValue.TheVariants.{Text}
 use Rattle.muck_match.specs.Words.{is_same}
 use Rattle.muck_lock.specs.Grammar.{part_of}
 use Rattle.spec_live.specs.Objects.{dbref_of, object_at, number_in, kind_in, object_in, place_in, home, is_vehicle_in, fits_in, path_in}
@@ -14,12 +15,12 @@ use Rattle.spec_live.specs.Moving.{judged, move_check}
 use Rattle.spec_live.specs.Recycling.{recycle_check}
 use Rattle.spec_live.specs.Setting.{checked, checked_both, flags_check, holds_player, home_check, keeps_seats, level_check, link_check, owner_check}
 use Rattle.spec_live.specs.Start.{room_zero, player_one, first_objects}
-use Rattle.spec_rights.specs.Changing.{flag_cleared, flag_set, leveled, named, stored}
+use Rattle.spec_rights.specs.Changing.{flag_cleared, flag_set, leveled, named}
 use Rattle.spec_rights.specs.Levels.{level_at, owner_at, flag_at, controls_as, owns, is_player_at}
 use Rattle.spec_rights.specs.Verdict.{controls, controls_or, is_near}
 use Rattle.spec_commands.specs.declared.new.New.TheVariants.{Room, Thing, Exit}
-use Rattle.spec_commands.specs.Building.{is_name, placed, tied}
-use Rattle.spec_commands.specs.Finding.{is_so, message_path}
+use Rattle.spec_commands.specs.Building.{is_name, key_kept, placed, tied}
+use Rattle.spec_commands.specs.Finding.{is_so}
 use Rattle.spec_commands.specs.Settings.{setting_asked}
 use Rattle.muf_model.specs.declared.fault.MufFault.TheVariants.{BadArgument, NoSuchObject, Denied}
 use Rattle.muf_model.specs.declared.prims.Primitive.{Primitive}
@@ -28,7 +29,7 @@ use Rattle.muf_model.specs.Datum.{Datum, text, object}
 use Rattle.muf_model.specs.StackRows.{truth}
 use Rattle.spec_prims.specs.Asking.{level_fault, is_there, near_fault}
 use Rattle.spec_prims.specs.Row.{Row, gives, refuses}
-use Rattle.spec_prims.specs.ObjectWrites.{changed, locked_by, made_so, new_made}
+use Rattle.spec_prims.specs.ObjectWrites.{changed, lock_kept, locked_by, made_so, new_made}
 use Rattle.spec_prims.specs.Shared.{first_fault, shared}
 use Rattle.spec_prims.specs.Rows.{at_first, acting_at}
 
@@ -59,9 +60,9 @@ at_home = object (negsuc 2)
 abbrev called : List ℕ → Datum → List Datum
 called name x = text name ∷ x ∷ []
 
--- the lock of `#0` in a world where this text is kept of it
-abbrev lock_of_room : List ℕ → Row
-lock_of_room printed = gives (truth true ∷ []) (stored (dbref_of 0) (message_path (codes "lok")) (Text printed) at_first)
+-- this lock is kept of `#0`
+abbrev lock_of_room : Lock → Row
+lock_of_room lock = lock_kept (dbref_of 0) (key_kept (Ok lock)) at_first
 
 unfoldable pub WritesWorked : Type 0
 WritesWorked =
@@ -106,8 +107,8 @@ WritesWorked =
     -- leave is asked before a lock is read; the free one is the empty text, and of what is no lock nothing is kept
     × (tried 2 SetLockStr (called (codes "&") room) ≡ refuses (Denied 16))
     × (done SetLockStr (called (codes "&") room) ≡ gives (truth false ∷ []) at_first)
-    × (done SetLockStr (called (codes "(#1)&!#0") room) ≡ lock_of_room (codes "#1&!#0"))
-    × (done SetLockStr (called [] room) ≡ lock_of_room [])
+    × (done SetLockStr (called (codes "(#1)&!#0") room) ≡ lock_of_room (Both (IsObject (dbref_of 1)) (Not (IsObject (dbref_of 0)))))
+    × (done SetLockStr (called [] room) ≡ lock_of_room Free)
     -- what is made in a place: its number, and the next world
     × (tried 2 NewRoom (called (codes "me") room) ≡ refuses BadArgument)
     × (tried 2 NewRoom (called (codes "Den") room) ≡ refuses (Denied 14))
