@@ -1,4 +1,3 @@
-pub mod Keys
 pub mod Made
 pub mod Open
 pub mod Owned

@@ -3,75 +3,22 @@ ghost use Rattle.std.specs.Prelude.{◌≡◌, IfOk, None, [], codes};
 ghost use Rattle.spec_live.specs.Lives.{reading};
 ghost use Rattle.spec_rights.specs.declared.act.Act.{Act};
 ghost use Rattle.spec_commands.specs.Replies.{unlocked_reply};
-ghost use Rattle.spec_commands.specs.Building.{key_kept, key_read, lock_kept, lock_set, kept};
+ghost use Rattle.spec_commands.specs.Building.{key_read, lock_kept, lock_set, kept};
 ghost use Rattle.muck_perm.specs.Guards.{Did, IsLeave, world_of};
 
 use crate::messages::keep;
-use cmd_common::{Write, refuse, write_by_leave};
-use muck_db::Db;
-use muck_lock::{Finder, LockFault, print, read};
-use muck_match::{Found, find};
-use muck_model::{Dbref, Kind, Line, Lock, NoMemory};
+use cmd_common::{Write, print_key, read_key, refuse, write_by_leave};
+use muck_lock::LockFault;
+use muck_model::{Dbref, Line, NoMemory};
 use muck_perm::{Guard, Pass, verdict};
 use spec_rights::Act;
-use std::alloc::Global;
-
-// What the names in a key stand for, as the player finds them.
-#[derive(Drop)]
-struct KeyNames<'a> {
-    db: &'a Db,
-    player: Dbref,
-}
-
-impl<'a> Finder for KeyNames<'a> {
-    ghost use Rattle.std.specs.Prelude.{false};
-    ghost use Rattle.std.specs.Option.{option_map_or};
-    ghost use Rattle.muck_match.specs.Naming.{found as meant};
-    ghost use Rattle.spec_live.specs.Objects.{is_program, object_at};
-    ghost use Rattle.spec_live.specs.Seen.{scenery_of};
-    ghost use Rattle.spec_commands.specs.Building.{found_one};
-
-    ghost found = { λ names name. found_one (meant (scenery_of names.db.now) names.player name) };
-
-    ghost programs = { λ names x. option_map_or (λ o. is_program o.kind) (object_at x names.db.now) false };
-
-    fn find(&self, name: &Line) -> Option<Dbref> {
-        match find(self.db, self.player, name) {
-            Found::One(x) => Some(x),
-            _ => None,
-        }
-    }
-
-    fn is_program(&self, x: Dbref) -> bool {
-        match self.db.get(x) {
-            Some(object) => matches!(object.kind(), Kind::Program),
-            None => false,
-        }
-    }
-}
-
-// A lock as it is printed; `None` exactly where that is too long.
-fn printed(alloc: Global, lock: &Lock) -> Result<Option<Line>, NoMemory>
-    ensures { IfOk result (λ text. text ≡ key_kept (Ok lock.now)) }
-{
-    match print(alloc, lock) {
-        Ok(text) => Ok(Some(text)),
-        Err(LockFault::BadLock { .. }) => Ok(None),
-        Err(LockFault::NoMemory) => Err(NoMemory),
-    }
-}
 
 // The text of the lock that the player means by a key; `None` exactly where it means none, or its text is too long.
-#[tactic(auto, unfolding(spec_commands::specs::Finding::is_so))]
 fn printed_key(guard: &Guard, key: &Line) -> Result<Option<Line>, NoMemory>
     ensures { IfOk result (λ text. text ≡ key_read guard.now.actor.player key.now (world_of guard.now)) }
 {
-    let names = KeyNames {
-        db: guard.db(),
-        player: guard.actor().player,
-    };
-    match read(guard.alloc(), key, &names) {
-        Ok(lock) => printed(guard.alloc(), &lock),
+    match read_key(guard, key) {
+        Ok(lock) => print_key(guard.alloc(), &lock),
         Err(LockFault::BadLock { .. }) => Ok(None),
         Err(LockFault::NoMemory) => Err(NoMemory),
     }

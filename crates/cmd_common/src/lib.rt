@@ -3,6 +3,7 @@
 #![tactic(auto)]
 
 mod finding;
+mod keys;
 mod making;
 mod messages;
 mod names;
@@ -14,6 +15,7 @@ mod sources;
 mod writing;
 
 pub use finding::{find_object, find_one, find_player, is_object, is_program};
+pub use keys::{print_key, read_key};
 pub use making::{act_in, create, home_at, may_be};
 pub use messages::message_path;
 pub use names::{is_name, is_player_name, may_be_called};

@@ -1,19 +1,26 @@
 -- A change by leave, as its row has it.
-use Rattle.std.proofs.Common.{◌≡◌, ◌⊎◌, inl, inr, ℕ, Bool, true, false, cond, List, [], ◌∷◌, Option, Some, None, Ok, Err, refl, sym, ap, subst}
+use Rattle.std.proofs.Common.{◌≡◌, ◌⊎◌, inl, inr, ℕ, Bool, true, false, cond, List, [], ◌∷◌, codes, Option, Some, None, Ok, Err, refl, sym, ap, subst, ◌∙◌}
 use Rattle.std.specs.Prelude.{Result}
 use Rattle.muck_model.specs.declared.dbref.Dbref.{Dbref}
+use Rattle.muck_prop.specs.declared.value.PropValue.TheVariants.{Text}
+use Rattle.muck_lock.specs.Grammar.{lock_of}
 use Rattle.spec_live.specs.declared.fault.DbFault.{DbFault}
 use Rattle.spec_live.specs.declared.fault.DbFault.TheVariants.{NoMemory as WantsMemory, WorldFull as NoRoom}
 use Rattle.spec_live.specs.Making.{create_check}
 use Rattle.spec_live.specs.Objects.{dbref_of}
 use Rattle.spec_live.specs.Lives.{Change}
 use Rattle.spec_rights.specs.declared.act.Act.{Act}
+use Rattle.spec_rights.specs.declared.act.Act.TheVariants.{Change as ChangeAct}
+use Rattle.spec_rights.specs.Changing.{stored}
 use Rattle.spec_rights.specs.Verdict.{verdict}
 use Rattle.spec_commands.specs.declared.new.New.{New}
-use Rattle.spec_commands.specs.Building.{act_in, kind_of, may_be}
+use Rattle.spec_commands.specs.Building.{act_in, is_there, key_names, kind_of, may_be}
+use Rattle.spec_commands.specs.Finding.{message_path}
 use Rattle.muf_model.specs.declared.fault.MufFault.{MufFault}
 use Rattle.muf_model.specs.declared.fault.MufFault.TheVariants.{BadArgument, WorldFull}
+use Rattle.muf_model.specs.declared.value.Value.{Value}
 use Rattle.muf_model.specs.declared.value.Value.TheVariants.{Ref}
+use Rattle.muf_model.specs.StackRows.{truth}
 use Rattle.muf_model.specs.View.{view}
 use Rattle.muf_frame.specs.declared.fault.PrimFault.{PrimFault}
 use Rattle.muf_frame.specs.declared.fault.PrimFault.TheVariants.{Fault, NoMemory}
@@ -22,7 +29,7 @@ use Rattle.muck_perm.specs.Guards.{Same, Done, Founds, objects_of, world_of}
 use Rattle.muck_perm.proofs.Worlds.{same_as}
 use Rattle.spec_prims.specs.Asking.{fault_of}
 use Rattle.spec_prims.specs.Row.{Row, gives, refuses, unless}
-use Rattle.spec_prims.specs.ObjectWrites.{changed, given_made, made_so, new_made}
+use Rattle.spec_prims.specs.ObjectWrites.{changed, given_made, key_kept_of, lock_kept, locked_by, made_so, new_made}
 use Rattle.prim_common.specs.Applied.{Makes}
 use Rattle.prim_common.specs.declared.made.Made.{Made}
 use Rattle.prim_common.specs.declared.made.Made.TheVariants.{Nothing, One}
@@ -84,6 +91,39 @@ module _ (act : Act) (may : Bool) (f : Change) (old new : Guard) where
   refused_made v m same = given_before act _ old new (Err (Fault BadArgument)) v (where_false may (gives [] (f (world_of old))) (refuses BadArgument) old new (Err (Fault BadArgument)) m (refl, same))
 
 pub ruleset changing = (wants_made, denied_made, done_made, refused_made)
+
+-- a lock
+
+module _ (x : Dbref) (printed : List ℕ) (old new : Guard) where
+  abbrev kept : Row
+  kept = gives (truth true ∷ []) (stored x (message_path (codes "lok")) (Text printed) (world_of old))
+
+  pub done_kept : (path : List (List ℕ)) (v : Value) → is_there x (world_of old) ≡ true → path ≡ message_path (codes "lok") → Done (stored x path (Text printed)) old new → view v ≡ truth true → Makes (lock_kept x (Some printed) (world_of old)) old new (Ok (One v))
+  done_kept path v m e h t =
+      where_true (is_there x (world_of old)) kept (refuses BadArgument) old new (Ok (One v)) m
+      (ap (λ item. item ∷ []) t, h.0 ∙ ap (λ place. stored x place (Text printed) (world_of old)) e, h.1)
+
+  pub refused_kept : is_there x (world_of old) ≡ false → new ≡ old → Makes (lock_kept x (Some printed) (world_of old)) old new (Err (Fault BadArgument))
+  refused_kept m same = where_false (is_there x (world_of old)) kept (refuses BadArgument) old new (Err (Fault BadArgument)) m (refl, same)
+
+pub ruleset keeping = (wants_made, done_kept, refused_kept)
+
+module _ (x : Dbref) (t : List ℕ) (old new : Guard) where
+  abbrev locking_row : Row
+  locking_row = locked_by old.actor x t (world_of old)
+
+  abbrev read_row : Row
+  read_row = key_kept_of x (lock_of (key_names (world_of old) old.actor.player) t) (world_of old)
+
+  pub denied_locking : (e : PrimFault) → new ≡ old → Leaves (ChangeAct x) old (Err e) → Makes locking_row old new (Err e)
+  unfolding locked_by
+  denied_locking e same h = denied_before (ChangeAct x) read_row old new e same h
+
+  pub done_locking : (result : Result Made PrimFault) → verdict (objects_of old) old.actor (ChangeAct x) ≡ None → Makes read_row old new result → Makes locking_row old new result
+  unfolding locked_by
+  done_locking result v h = given_before (ChangeAct x) read_row old new result v h
+
+pub ruleset locking = (wants_made, denied_locking, done_locking)
 
 -- what is made
 

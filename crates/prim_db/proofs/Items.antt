@@ -6,11 +6,13 @@ use Rattle.muck_model.specs.declared.dbref.Dbref.{Dbref}
 use Rattle.muck_model.specs.declared.dbref.Kind.{Kind}
 use Rattle.muck_model.specs.declared.lock.Lock.{Lock}
 use Rattle.muck_model.specs.Bytes.{text_most}
+use Rattle.muck_lock.specs.Grammar.{lock_of}
 use Rattle.muck_lock.specs.Printed.{printed}
 use Rattle.muck_lock.specs.Opens.{opens_for}
 use Rattle.spec_live.specs.Objects.{Entry}
 use Rattle.spec_live.specs.Worth.{holdings_of}
 use Rattle.spec_rights.specs.declared.act.Actor.{Actor}
+use Rattle.spec_commands.specs.Building.{keys_in}
 use Rattle.spec_rights.specs.Levels.{controls_as, level_at, owner_at}
 use Rattle.muf_model.specs.declared.fault.MufFault.{MufFault}
 use Rattle.muf_model.specs.declared.fault.MufFault.TheVariants.{BadType, BadArgument, TextTooLong}
@@ -22,7 +24,7 @@ use Rattle.muf_frame.specs.declared.fault.PrimFault.{PrimFault}
 use Rattle.muf_frame.specs.declared.fault.PrimFault.TheVariants.{Fault}
 use Rattle.muf_frame.specs.Answers.{object_at, text_at}
 use Rattle.spec_prims.specs.Asking.{numbered}
-use Rattle.spec_prims.specs.ObjectRows.{seen, one_object, one_item, is_such, one_text, controlled, unparsed, tested, flag_asked, flag_found, flagged, misflagged}
+use Rattle.spec_prims.specs.ObjectRows.{seen, lock_read, parsed, one_object, one_item, is_such, one_text, controlled, unparsed, tested, flag_asked, flag_found, flagged, misflagged}
 use Rattle.prim_db.specs.Found.{Finds, as_lock, lock_at_top}
 
 pub object_found : (find : Dbref → List Entry → Result Datum MufFault) (a : Actor) (es : List Entry) (stack : List Datum) (d : Dbref) (r : Result Value PrimFault) → object_at 0 stack ≡ Some d.0 → Finds (find d es) r → Finds (one_object find a es (take 1 stack)) r
@@ -81,17 +83,25 @@ misflag_reads _ = refl
 
 pub ruleset flag_steps = (flag_reads, misflag_reads)
 
+abbrev key_text_read : Actor → List Entry → Option (List ℕ) → Result Datum MufFault
+key_text_read a es (Some t) = lock_read (lock_of (keys_in es a.player) t)
+key_text_read a es None = Err BadType
+
+pub parsed_reads : (a : Actor) (es : List Entry) (stack : List Datum) → parsed a es (take 1 stack) ≡ key_text_read a es (text_at 0 stack)
+parsed_reads a es (text t ∷ rest) = refl
+parsed_reads a es _ = refl
+
 pub top_read : (xs : List Value) → lock_at_top (map view xs) ≡ option_map_or (λ v. as_lock (view v)) (slice_get xs 0) None
 top_read [] = refl
 top_read (x ∷ xs) = refl
 
 pub ruleset top_steps = (top_read)
 
-abbrev lock_read : Option Lock → Result Datum MufFault
-lock_read (Some l) = if nat_lt text_most (length (printed l)) then Err TextTooLong else Ok (text (printed l))
-lock_read None = Err BadType
+abbrev printed_read : Option Lock → Result Datum MufFault
+printed_read (Some l) = if nat_lt text_most (length (printed l)) then Err TextTooLong else Ok (text (printed l))
+printed_read None = Err BadType
 
-pub unparsed_reads : (a : Actor) (es : List Entry) (stack : List Datum) → unparsed a es (take 1 stack) ≡ lock_read (lock_at_top stack)
+pub unparsed_reads : (a : Actor) (es : List Entry) (stack : List Datum) → unparsed a es (take 1 stack) ≡ printed_read (lock_at_top stack)
 unparsed_reads a es (lock l ∷ rest) = refl
 unparsed_reads a es _ = refl
 
@@ -103,4 +113,4 @@ pub tested_reads : (a : Actor) (es : List Entry) (stack : List Datum) → tested
 tested_reads a es (lock l ∷ object d ∷ rest) = refl
 tested_reads a es _ = refl
 
-pub ruleset lock_steps = (unparsed_reads, tested_reads)
+pub ruleset lock_steps = (parsed_reads, unparsed_reads, tested_reads)

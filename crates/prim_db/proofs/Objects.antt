@@ -8,7 +8,7 @@ use Rattle.muf_model.specs.declared.fault.MufFault.{MufFault}
 use Rattle.muf_model.specs.declared.prims.Family.{Family}
 use Rattle.muf_model.specs.declared.prims.Family.TheVariants.{Object}
 use Rattle.muf_model.specs.declared.prims.Primitive.{Primitive}
-use Rattle.muf_model.specs.declared.prims.Primitive.TheVariants.{MoveTo, SetLink, SetOwn, Recycle, SetName, NewRoom, NewObject, NewExit}
+use Rattle.muf_model.specs.declared.prims.Primitive.TheVariants.{MoveTo, SetLink, SetOwn, Recycle, SetName, Set, SetLockStr, NewRoom, NewObject, NewExit}
 use Rattle.muf_model.specs.declared.value.Value.{Value}
 use Rattle.muf_model.specs.Datum.{Datum}
 use Rattle.muf_model.specs.Prims.{family_of, is_there}
@@ -64,12 +64,12 @@ none_made (Ok item) g NoMemory h = (refl, refl)
 none_made (Err e) g (Fault f) h = (h, refl)
 none_made (Err e) g NoMemory h = (refl, refl)
 
-module _ (p : Primitive) (g : Guard) (items : List Datum) (a : p ≡ MoveTo → ⊥) (b : p ≡ SetLink → ⊥) (c : p ≡ SetOwn → ⊥) (d : p ≡ Recycle → ⊥) (e : p ≡ SetName → ⊥) (f : p ≡ NewRoom → ⊥) (h : p ≡ NewObject → ⊥) (k : p ≡ NewExit → ⊥) where
+module _ (p : Primitive) (g : Guard) (items : List Datum) (a : p ≡ MoveTo → ⊥) (b : p ≡ SetLink → ⊥) (c : p ≡ SetOwn → ⊥) (d : p ≡ Recycle → ⊥) (e : p ≡ SetName → ⊥) (f : p ≡ NewRoom → ⊥) (h : p ≡ NewObject → ⊥) (k : p ≡ NewExit → ⊥) (m : p ≡ Set → ⊥) (n : p ≡ SetLockStr → ⊥) where
   abbrev row : Row
   row = does_of (object_row p) g.actor items (world_of g)
 
   row_is : row ≡ given_row (world_of g) (found_in p g.actor (objects_of g) items)
-  row_is = does_by p (finding_of p) (writing_row p) g.actor items (world_of g) (no_writing p a b c d e f h k)
+  row_is = does_by p (finding_of p) (writing_row p) g.actor items (world_of g) (no_writing p a b c d e f h k m n)
 
   pub makes_item : (v : Value) → Finds (found_in p g.actor (objects_of g) items) (Ok v) → Makes row g g (Ok (One v))
   makes_item v l = subst (λ row. Makes row g g (Ok (One v))) (sym row_is) (item_made _ g v l)

@@ -6,7 +6,7 @@ use Rattle.spec_live.specs.Lives.{Live}
 use Rattle.spec_rights.specs.declared.act.Actor.{Actor}
 use Rattle.muf_model.specs.declared.fault.MufFault.{MufFault}
 use Rattle.muf_model.specs.declared.prims.Primitive.{Primitive}
-use Rattle.muf_model.specs.declared.prims.Primitive.TheVariants.{HasFlag, MoveTo, SetLink, SetOwn, Recycle, SetName, NewRoom, NewObject, NewExit}
+use Rattle.muf_model.specs.declared.prims.Primitive.TheVariants.{HasFlag, MoveTo, SetLink, SetOwn, Recycle, SetName, Set, SetLockStr, NewRoom, NewObject, NewExit}
 use Rattle.muf_model.specs.Datum.{Datum}
 use Rattle.spec_prims.specs.Row.{Doing}
 use Rattle.spec_prims.specs.ObjectRows.{Finding, finding_of, finds, misasked, object_row}
@@ -27,13 +27,15 @@ pub found_rule : (p : Primitive) (a : Actor) (items : List Datum) (w : Live) →
 found_rule p a items w h = rule_by p (finding_of p) a items w h refl
 
 -- the others change nothing
-pub no_writing : (p : Primitive) → (p ≡ MoveTo → ⊥) → (p ≡ SetLink → ⊥) → (p ≡ SetOwn → ⊥) → (p ≡ Recycle → ⊥) → (p ≡ SetName → ⊥) → (p ≡ NewRoom → ⊥) → (p ≡ NewObject → ⊥) → (p ≡ NewExit → ⊥) → writing_row p ≡ None
-no_writing MoveTo a b c d e f g h = absurd (a refl)
-no_writing SetLink a b c d e f g h = absurd (b refl)
-no_writing SetOwn a b c d e f g h = absurd (c refl)
-no_writing Recycle a b c d e f g h = absurd (d refl)
-no_writing SetName a b c d e f g h = absurd (e refl)
-no_writing NewRoom a b c d e f g h = absurd (f refl)
-no_writing NewObject a b c d e f g h = absurd (g refl)
-no_writing NewExit a b c d e f g h = absurd (h refl)
-no_writing _ a b c d e f g h = refl
+pub no_writing : (p : Primitive) → (p ≡ MoveTo → ⊥) → (p ≡ SetLink → ⊥) → (p ≡ SetOwn → ⊥) → (p ≡ Recycle → ⊥) → (p ≡ SetName → ⊥) → (p ≡ NewRoom → ⊥) → (p ≡ NewObject → ⊥) → (p ≡ NewExit → ⊥) → (p ≡ Set → ⊥) → (p ≡ SetLockStr → ⊥) → writing_row p ≡ None
+no_writing MoveTo a b c d e f g h i j = absurd (a refl)
+no_writing SetLink a b c d e f g h i j = absurd (b refl)
+no_writing SetOwn a b c d e f g h i j = absurd (c refl)
+no_writing Recycle a b c d e f g h i j = absurd (d refl)
+no_writing SetName a b c d e f g h i j = absurd (e refl)
+no_writing NewRoom a b c d e f g h i j = absurd (f refl)
+no_writing NewObject a b c d e f g h i j = absurd (g refl)
+no_writing NewExit a b c d e f g h i j = absurd (h refl)
+no_writing Set a b c d e f g h i j = absurd (i refl)
+no_writing SetLockStr a b c d e f g h i j = absurd (j refl)
+no_writing _ a b c d e f g h i j = refl

@@ -3,6 +3,7 @@ ghost use Rattle.std.specs.Prelude.{◌≡◌, ◌≤◌, length, true};
 ghost use Rattle.spec_live.specs.Making.{create_check};
 ghost use Rattle.muck_perm.specs.Guards.{IsLeave, objects_of, world_of};
 ghost use Rattle.spec_commands.specs.Building.{act_in, kind_of, may_be};
+ghost use Rattle.spec_commands.specs.Settings.{setting_asked};
 ghost use Rattle.cmd_common.specs.Writes.{IsFit, act_of, change_of, may};
 ghost use Rattle.spec_prims.specs.ObjectWrites as row;
 ghost use Rattle.prim_common.specs.Applied.{Makes};
@@ -14,12 +15,12 @@ use muck_perm::{Guard, Pass, verdict};
 use muf_frame::PrimFault;
 use muf_model::{MufFault, Text, Value};
 use prim_common::Made;
-use spec_commands::New;
+use spec_commands::{New, setting_asked};
 use spec_live::DbFault;
 use spec_rights::Act;
 
-// Leave for an act.
-fn leave<'a>(guard: &Guard, act: &'a Act) -> Result<Pass<'a>, PrimFault>
+/// Leave for an act.
+pub(crate) fn leave<'a>(guard: &Guard, act: &'a Act) -> Result<Pass<'a>, PrimFault>
     ensures { Leaves act.now guard.now result }
 {
     match verdict(guard.db(), &guard.actor(), act) {
@@ -114,6 +115,17 @@ pub(crate) fn rename(guard: &mut Guard, object: Dbref, name: &Text) -> Result<Ma
         return write(guard, Write::Name(object, line));
     }
     Err(PrimFault::Fault(MufFault::BadArgument))
+}
+
+/// Sets or clears a flag, or gives a level.
+#[tactic(auto, using(crate::proofs::Granted::changing))]
+pub(crate) fn set(guard: &mut Guard, object: Dbref, text: &Text) -> Result<Made, PrimFault>
+    ensures { Makes (row.set_by guard.old.actor object (setting_asked text.now) (world_of guard.old)) guard.old guard.new result }
+{
+    match setting_asked(text.as_slice()) {
+        Some(setting) => write(guard, Write::Set(object, setting)),
+        None => Err(PrimFault::Fault(MufFault::BadArgument)),
+    }
 }
 
 /// The fault of a number that names no object.

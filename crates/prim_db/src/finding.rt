@@ -13,12 +13,13 @@ ghost use Rattle.prim_db.specs.Found.{Finds, as_lock, found_in, lock_at_top};
 
 use crate::flags::flag_asked;
 use crate::looking::{look, text_item};
+use cmd_common::read_key;
 use muck_lock::{LockFault, opens, print};
 use muck_match::{Found, find, player};
 use muck_model::{Dbref, Kind, Lock};
 use muck_perm::{Guard, controls_as, flag_at, level_at, owner_at};
 use muf_frame::{Frame, PrimFault};
-use muf_model::{MufFault, Prim, Text, Value};
+use muf_model::{MufFault, Prim, Shared, Text, Value};
 
 const NOTHING: Dbref = Dbref(-1);
 
@@ -140,6 +141,21 @@ fn controlled(guard: &Guard, frame: &Frame) -> Result<Value, PrimFault>
     Ok(Value::truth(controls_as(db, level_at(db, owner), owner, object)))
 }
 
+// PARSELOCK.
+#[tactic(auto, using(crate::proofs::Items::lock_steps))]
+fn parsed(guard: &Guard, frame: &Frame) -> Result<Value, PrimFault>
+    ensures { Finds (row.parsed guard.now.actor (objects_of guard.now) (take 1 (flat frame.now).stack)) result }
+{
+    let Some(text) = frame.text_at(0) else {
+        return Err(PrimFault::Fault(MufFault::BadType));
+    };
+    match read_key(guard, text.as_line()) {
+        Ok(lock) => Ok(Value::Key(Shared::new(guard.alloc(), lock)?)),
+        Err(LockFault::BadLock { .. }) => Err(PrimFault::Fault(MufFault::BadArgument)),
+        Err(LockFault::NoMemory) => Err(PrimFault::NoMemory),
+    }
+}
+
 // The lock that an item is.
 fn as_lock(item: &Value) -> Option<&Lock>
     ensures { option_copied result ≡ as_lock (view item.now) }
@@ -216,6 +232,7 @@ pub(crate) fn found(prim: Prim, guard: &Guard, frame: &Frame) -> Result<Value, P
         Prim::Match | Prim::PMatch => of_text(prim, guard, frame),
         Prim::HasFlag => flagged(guard, frame),
         Prim::Controls => controlled(guard, frame),
+        Prim::ParseLock => parsed(guard, frame),
         Prim::UnparseLock => unparsed(guard, frame),
         Prim::TestLock => tested(guard, frame),
         Prim::DbTop => Ok(Value::Ref(top(guard))),

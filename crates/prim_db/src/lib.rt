@@ -4,6 +4,7 @@
 mod changing;
 mod finding;
 mod flags;
+mod locking;
 mod looking;
 mod table;
 mod writing;

@@ -34,9 +34,12 @@ fn made(prim: Prim, guard: &mut Guard, frame: &Frame) -> Result<Made, PrimFault>
     match prim {
         Prim::MoveTo | Prim::SetLink | Prim::SetOwn => writing::two(prim, guard, frame),
         Prim::Recycle => writing::recycle(guard, frame),
-        Prim::SetName | Prim::NewRoom | Prim::NewObject | Prim::NewExit => {
-            writing::named(prim, guard, frame)
-        }
+        Prim::SetName
+        | Prim::Set
+        | Prim::SetLockStr
+        | Prim::NewRoom
+        | Prim::NewObject
+        | Prim::NewExit => writing::named(prim, guard, frame),
         _ => Ok(Made::One(found(prim, guard, frame)?)),
     }
 }

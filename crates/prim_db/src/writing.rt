@@ -6,7 +6,8 @@ ghost use Rattle.muf_model.specs.declared.prims.Primitive.TheVariants.{MoveTo, S
 ghost use Rattle.spec_prims.specs.ObjectWrites as row;
 ghost use Rattle.prim_common.specs.Applied.{Makes};
 
-use crate::changing::{make_named, missing, rename, write};
+use crate::changing::{make_named, missing, rename, set, write};
+use crate::locking::set_lock;
 use cmd_common::{Write, home_at};
 use muck_model::Dbref;
 use muck_perm::{Guard, is_player_at, verdict};
@@ -125,6 +126,8 @@ fn of_text(prim: Prim, guard: &mut Guard, object: Dbref, text: &Text) -> Result<
 {
     match prim {
         Prim::SetName => rename(guard, object, text),
+        Prim::Set => set(guard, object, text),
+        Prim::SetLockStr => set_lock(guard, object, text),
         Prim::NewRoom => make_named(guard, New::Room, text, object),
         Prim::NewObject => {
             let home = home_at(guard, guard.actor().user);

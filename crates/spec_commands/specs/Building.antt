@@ -173,8 +173,11 @@ abbrev pub found_one : Found → Option Dbref
 found_one (One x) = Some x
 found_one found = None
 
+abbrev pub keys_in : List Entry → Dbref → Naming
+keys_in es player = naming (λ name. found_one (found (scenery_of es) player name)) (λ x. option_map_or (λ o. is_program o.kind) (object_at x es) false)
+
 abbrev pub key_names : Live → Dbref → Naming
-key_names w player = naming (λ name. found_one (found (scenery_of w.objects) player name)) (λ x. is_so (λ o. is_program o.kind) x w)
+key_names w player = keys_in w.objects player
 
 -- the text that is kept of a key: the lock as it is printed, where that isn't too long
 abbrev pub key_kept : Result Lock ℕ → Option (List ℕ)

@@ -1,8 +1,11 @@
 -- The rows that change objects: what each changes is open to who acts, and there is room for what it gives.
-use Rattle.std.proofs.Common.{◌≡◌, ◌≤◌, ◌⊎◌, inl, ℕ, Bool, true, false, cond, List, [], ◌∷◌, length, Option, Some, None, refl, arith}
+use Rattle.std.proofs.Common.{◌≡◌, ◌≤◌, ◌⊎◌, inl, ℕ, Bool, true, false, cond, List, [], ◌∷◌, length, codes, Option, Some, None, IfSome, refl, arith}
 use Rattle.std.specs.Prelude.{Result, Ok, Err}
 use Rattle.muck_model.specs.declared.dbref.Dbref.{Dbref}
 use Rattle.muck_model.specs.declared.dbref.Denial.{Denial}
+use Rattle.muck_model.specs.declared.lock.Lock.{Lock}
+use Rattle.muck_prop.specs.declared.value.PropValue.TheVariants.{Text}
+use Rattle.muck_lock.specs.Grammar.{lock_of}
 use Rattle.spec_live.specs.declared.fault.DbFault.{DbFault}
 use Rattle.spec_live.specs.declared.fault.DbFault.TheVariants.{WorldFull as NoRoom}
 use Rattle.spec_live.specs.Making.{create_check}
@@ -12,30 +15,34 @@ use Rattle.spec_live.specs.Setting.{owner_check}
 use Rattle.spec_live.specs.Lives.{Live, Change}
 use Rattle.spec_rights.specs.declared.act.Actor.{Actor}
 use Rattle.spec_rights.specs.declared.act.Act.{Act}
-use Rattle.spec_rights.specs.declared.act.Act.TheVariants.{Link, Move, Recycle as RecycleAct, Rename, SetOwner}
-use Rattle.spec_rights.specs.Changing.{named, owned_by, recycled_now}
+use Rattle.spec_rights.specs.declared.act.Act.TheVariants.{Change as ChangeAct, Link, Move, Recycle as RecycleAct, Rename, SetOwner}
+use Rattle.spec_rights.specs.Changing.{named, owned_by, recycled_now, stored}
 use Rattle.spec_rights.specs.Licence.{nobody, IsNew}
 use Rattle.spec_rights.specs.Verdict.{verdict}
 use Rattle.spec_rights.proofs.Rights.{SameRights}
 use Rattle.spec_rights.proofs.Licences.{Ended, Ends, judge, itself, ends_stays}
-use Rattle.spec_rights.proofs.Changes.{stays_named, ends_owned}
+use Rattle.spec_rights.proofs.Changes.{stays_named, stays_set, ends_owned}
 use Rattle.spec_rights.proofs.Makings.{new_in, end_created, room_open, thing_open, exit_open}
 use Rattle.spec_rights.proofs.Recycled.{recycled_proper}
 use Rattle.spec_commands.specs.declared.new.New.{New}
 use Rattle.spec_commands.specs.declared.new.New.TheVariants.{Room, Thing, Exit}
-use Rattle.spec_commands.specs.Building.{act_in, allowed, as_new, is_name, is_there as is_object_there, kind_of, may_be, may_be_called, may_tie, meant_place, placed, tied}
+use Rattle.spec_commands.specs.Building.{act_in, allowed, as_new, is_name, is_there as is_object_there, key_kept, key_names, kind_of, may_be, may_be_called, may_tie, meant_place, placed, tied}
+use Rattle.spec_commands.specs.Finding.{message_path}
 use Rattle.spec_commands.specs.Going.{home_at, movable}
-use Rattle.spec_commands.proofs.Built.{placed_open, tied_open}
+use Rattle.spec_commands.specs.declared.setting.Setting.{Setting}
+use Rattle.spec_commands.specs.Settings.{is_setting, may_set, set_so, setting_act, setting_asked}
+use Rattle.spec_commands.proofs.Asked.{asked_is_one}
+use Rattle.spec_commands.proofs.Built.{placed_open, set_so_open, tied_open}
 use Rattle.muf_model.specs.declared.fault.MufFault.{MufFault}
 use Rattle.muf_model.specs.declared.fault.MufFault.TheVariants.{BadArgument}
 use Rattle.muf_model.specs.declared.prims.Primitive.{Primitive}
-use Rattle.muf_model.specs.declared.prims.Primitive.TheVariants.{MoveTo, SetLink, SetOwn, Recycle, SetName, NewRoom, NewObject, NewExit}
+use Rattle.muf_model.specs.declared.prims.Primitive.TheVariants.{MoveTo, SetLink, SetOwn, Recycle, SetName, Set, SetLockStr, NewRoom, NewObject, NewExit}
 use Rattle.muf_model.specs.Datum.{Datum, text, object}
 use Rattle.spec_prims.specs.Asking.{fault_of, numbered}
 use Rattle.spec_prims.specs.Row.{Row, gives, refuses, unless, Doing}
-use Rattle.spec_prims.specs.ObjectWrites.{badly, changed, done_by_text, done_to_two, given_made, made_named, made_so, mislinked, misowned, new_made, one_done, place_far, renamed, text_done, thrown_away, two_done, writing_row}
+use Rattle.spec_prims.specs.ObjectWrites.{badly, changed, done_by_text, done_to_two, given_made, key_kept_of, lock_kept, locked_by, made_named, made_so, mislinked, misowned, new_made, one_done, place_far, renamed, set_by, text_done, thrown_away, two_done, writing_row}
 use Rattle.spec_prims.proofs.Fit.{Fits, IsFit}
-use Rattle.spec_prims.proofs.Open.{RowOpen, IsOpen, ended_open}
+use Rattle.spec_prims.proofs.Open.{RowOpen, IsOpen, ended_open, same_open}
 
 -- There is room.
 
@@ -67,6 +74,24 @@ fits_made_named a new name place item items w =
     (fits_unless (fault_of (verdict w.objects a (act_in place new))) (item ∷ items) w _
     (fits_where (may_be new w) (item ∷ items) w (given_made check (made_so new name a.user) w) (fits_given_made check (made_so new name a.user) item items w)))
 
+fits_set_by : (a : Actor) (x : Dbref) (asked : Option Setting) (items : List Datum) (w : Live) → Fits items w (set_by a x asked w)
+fits_set_by a x (Some setting) items w = fits_changed a (setting_act x setting) (may_set x setting w) (set_so x setting) items w
+fits_set_by a x None items w = tt
+
+fits_lock_kept : (x : Dbref) (printed : Option (List ℕ)) (item : Datum) (items : List Datum) (w : Live) → Fits (item ∷ items) w (lock_kept x printed w)
+fits_lock_kept x (Some printed) item items w = fits_where (is_object_there x w) (item ∷ items) w _ (inl (omega arith))
+fits_lock_kept x None item items w = tt
+
+fits_key_kept : (x : Dbref) (read : Result Lock ℕ) (item : Datum) (items : List Datum) (w : Live) → Fits (item ∷ items) w (key_kept_of x read w)
+fits_key_kept x (Ok lock) item items w = fits_lock_kept x (key_kept (Ok lock)) item items w
+fits_key_kept x (Err at) item items w = inl (omega arith)
+
+fits_locked : (a : Actor) (x : Dbref) (t : List ℕ) (item : Datum) (items : List Datum) (w : Live) → Fits (item ∷ items) w (locked_by a x t w)
+unfolding locked_by
+fits_locked a x t item items w =
+    let read : Result Lock ℕ = lock_of (key_names w a.player) t in
+    fits_unless (fault_of (verdict w.objects a (ChangeAct x))) (item ∷ items) w (key_kept_of x read w) (fits_key_kept x read item items w)
+
 -- a line for each row
 
 fits_two : (p : Primitive) (a : Actor) (x to : Dbref) (items : List Datum) (w : Live) → Fits items w (done_to_two p a x to w)
@@ -77,6 +102,8 @@ fits_two _ a x to items w = tt
 
 fits_text : (p : Primitive) (a : Actor) (x : Dbref) (t : List ℕ) (item : Datum) (items : List Datum) (w : Live) → Fits (item ∷ items) w (done_by_text p a x t w)
 fits_text SetName a x t item items w = fits_behind (badly (may_be_called x t w)) a (Rename x) (is_object_there x w) (named x t) (item ∷ items) w
+fits_text Set a x t item items w = fits_set_by a x (setting_asked t) (item ∷ items) w
+fits_text SetLockStr a x t item items w = fits_locked a x t item items w
 fits_text NewRoom a x t item items w = fits_made_named a Room t x item items w
 fits_text NewObject a x t item items w = fits_made_named a (Thing (home_at a.user w)) t x item items w
 fits_text NewExit a x t item items w = fits_made_named a (Exit nothing) t x item items w
@@ -102,6 +129,8 @@ fits_writing SetLink = fits_two_done SetLink
 fits_writing SetOwn = fits_two_done SetOwn
 fits_writing Recycle = fits_one_done
 fits_writing SetName = fits_text_done SetName
+fits_writing Set = fits_text_done Set
+fits_writing SetLockStr = fits_text_done SetLockStr
 fits_writing NewRoom = fits_text_done NewRoom
 fits_writing NewObject = fits_text_done NewObject
 fits_writing NewExit = fits_text_done NewExit
@@ -171,6 +200,30 @@ opens_made_named a new name place w =
     (opens_denied (verdict w.objects a (act_in place new)) a w (cond (may_be new w) made (refuses BadArgument))
     (λ g. opens_where (may_be new w) a w made (λ m. opens_given_made a new name place w g _ refl)))
 
+-- a flag, a level or a lock
+
+opens_set_by : (a : Actor) (x : Dbref) (asked : Option Setting) (w : Live) → IfSome asked (λ setting. is_setting setting ≡ true) → RowOpen a w (set_by a x asked w)
+opens_set_by a x (Some setting) w h = opens_changed a (setting_act x setting) (may_set x setting w) (set_so x setting) w (set_so_open a nobody x setting h)
+opens_set_by a x None w h = tt
+
+lock_ends : (a : Actor) (x : Dbref) (printed : List ℕ) → Ends itself a nobody (Some (ChangeAct x)) (stored x (message_path (codes "lok")) (Text printed))
+lock_ends a x printed = ends_stays a nobody (Some (ChangeAct x)) _ (stays_set a nobody x (message_path (codes "lok")) (Text printed) refl)
+
+opens_lock_kept : (a : Actor) (x : Dbref) (printed : Option (List ℕ)) (w : Live) → verdict w.objects a (ChangeAct x) ≡ None → RowOpen a w (lock_kept x printed w)
+opens_lock_kept a x (Some printed) w e =
+    opens_where (is_object_there x w) a w _ (λ m. ended_open a (Some (ChangeAct x)) w (stored x (message_path (codes "lok")) (Text printed) w) ((lock_ends a x printed).law w) e)
+opens_lock_kept a x None w e = tt
+
+opens_key_kept : (a : Actor) (x : Dbref) (read : Result Lock ℕ) (w : Live) → verdict w.objects a (ChangeAct x) ≡ None → RowOpen a w (key_kept_of x read w)
+opens_key_kept a x (Ok lock) w e = opens_lock_kept a x (key_kept (Ok lock)) w e
+opens_key_kept a x (Err at) w e = same_open a w
+
+opens_locked : (a : Actor) (x : Dbref) (t : List ℕ) (w : Live) → RowOpen a w (locked_by a x t w)
+unfolding locked_by
+opens_locked a x t w =
+    let read : Result Lock ℕ = lock_of (key_names w a.player) t in
+    opens_denied (verdict w.objects a (ChangeAct x)) a w (key_kept_of x read w) (λ e. opens_key_kept a x read w e)
+
 -- a line for each row
 
 opens_two : (p : Primitive) (a : Actor) (x to : Dbref) (w : Live) → RowOpen a w (done_to_two p a x to w)
@@ -181,6 +234,8 @@ opens_two _ a x to w = tt
 
 opens_text : (p : Primitive) (a : Actor) (x : Dbref) (t : List ℕ) (w : Live) → RowOpen a w (done_by_text p a x t w)
 opens_text SetName a x t w = opens_behind (badly (may_be_called x t w)) a (Rename x) (is_object_there x w) (named x t) w (ends_stays a nobody (Some (Rename x)) (named x t) (stays_named a nobody x t))
+opens_text Set a x t w = opens_set_by a x (setting_asked t) w (asked_is_one t)
+opens_text SetLockStr a x t w = opens_locked a x t w
 opens_text NewRoom a x t w = opens_made_named a Room t x w
 opens_text NewObject a x t w = opens_made_named a (Thing (home_at a.user w)) t x w
 opens_text NewExit a x t w = opens_made_named a (Exit nothing) t x w
@@ -206,6 +261,8 @@ opens_writing level SetLink = λ a items w passes. opens_two_done SetLink a item
 opens_writing level SetOwn = λ a items w passes. opens_two_done SetOwn a items w
 opens_writing level Recycle = λ a items w passes. opens_one_done a items w
 opens_writing level SetName = λ a items w passes. opens_text_done SetName a items w
+opens_writing level Set = λ a items w passes. opens_text_done Set a items w
+opens_writing level SetLockStr = λ a items w passes. opens_text_done SetLockStr a items w
 opens_writing level NewRoom = λ a items w passes. opens_text_done NewRoom a items w
 opens_writing level NewObject = λ a items w passes. opens_text_done NewObject a items w
 opens_writing level NewExit = λ a items w passes. opens_text_done NewExit a items w

@@ -6,10 +6,12 @@ use Rattle.std.specs.Char.{to_ascii_uppercase}
 use Rattle.muck_model.specs.declared.dbref.Dbref.{Dbref}
 use Rattle.muck_model.specs.declared.dbref.Kind.{Kind}
 use Rattle.muck_model.specs.declared.dbref.Kind.TheVariants.{Room, Thing, Exit, Player}
+use Rattle.muck_model.specs.declared.lock.Lock.{Lock}
 use Rattle.muck_model.specs.Bytes.{text_fault, text_most}
 use Rattle.muck_match.specs.declared.naming.Found.{Found}
 use Rattle.muck_match.specs.declared.naming.Found.TheVariants.{One, None as Nobody, Many}
 use Rattle.muck_match.specs.Naming.{found, player_named}
+use Rattle.muck_lock.specs.Grammar.{lock_of}
 use Rattle.muck_lock.specs.Printed.{printed}
 use Rattle.muck_lock.specs.Opens.{opens_for}
 use Rattle.spec_live.specs.declared.object.Object.{Object}
@@ -22,12 +24,13 @@ use Rattle.spec_live.specs.Lives.{Live}
 use Rattle.spec_rights.specs.declared.act.Actor.{Actor}
 use Rattle.spec_rights.specs.Levels.{controls_as, flag_at, level_at, number_of, owner_at}
 use Rattle.spec_rights.specs.Verdict.{place_of}
+use Rattle.spec_commands.specs.Building.{keys_in}
 use Rattle.muf_model.specs.declared.fault.MufFault.{MufFault}
 use Rattle.muf_model.specs.declared.fault.MufFault.TheVariants.{BadType, BadArgument, TextTooLong}
 use Rattle.muf_model.specs.declared.prims.Family.{Family}
 use Rattle.muf_model.specs.declared.prims.Family.TheVariants as kind
 use Rattle.muf_model.specs.declared.prims.Primitive.{Primitive}
-use Rattle.muf_model.specs.declared.prims.Primitive.TheVariants.{Name, Owner, Location, Contents, Exits, Next, IsOk, IsPlayer, IsThing, IsRoom, IsExit, IsProgram, Match, PMatch, HasFlag, MLevel, GetLink, Controls, GetLockStr, UnparseLock, TestLock, UnparseObj, DbTop}
+use Rattle.muf_model.specs.declared.prims.Primitive.TheVariants.{Name, Owner, Location, Contents, Exits, Next, IsOk, IsPlayer, IsThing, IsRoom, IsExit, IsProgram, Match, PMatch, HasFlag, MLevel, GetLink, Controls, GetLockStr, ParseLock, UnparseLock, TestLock, UnparseObj, DbTop}
 use Rattle.muf_model.specs.Datum.{Datum, int, text, object, lock}
 use Rattle.muf_model.specs.StackRows.{truth}
 use Rattle.muf_model.specs.Prims.{family_of}
@@ -130,6 +133,15 @@ controlled a es items = Err BadType
 
 -- Locks.
 
+-- the lock that the player of the actor means by a text
+abbrev pub lock_read : Result Lock ℕ → Result Datum MufFault
+lock_read (Ok l) = Ok (lock l)
+lock_read (Err at) = Err BadArgument
+
+abbrev pub parsed : Finding
+parsed a es (text t ∷ []) = lock_read (lock_of (keys_in es a.player) t)
+parsed a es items = Err BadType
+
 abbrev pub unparsed : Finding
 unparsed a es (lock l ∷ []) = if nat_lt text_most (length (printed l)) then Err TextTooLong else Ok (text (printed l))
 unparsed a es items = Err BadType
@@ -192,6 +204,7 @@ finding_of MLevel = Some (one_object (found_of MLevel))
 finding_of GetLink = Some (one_object (found_of GetLink))
 finding_of Controls = Some controlled
 finding_of GetLockStr = Some (one_object (found_of GetLockStr))
+finding_of ParseLock = Some parsed
 finding_of UnparseLock = Some unparsed
 finding_of TestLock = Some tested
 finding_of UnparseObj = Some (one_object (found_of UnparseObj))

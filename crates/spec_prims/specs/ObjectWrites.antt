@@ -1,6 +1,9 @@
 -- The rows of the primitives that change objects.
-use Rattle.std.specs.Prelude.{ℕ, ◌||◌, ◌&&◌, not, if◌then◌else◌, Bool, true, false, List, [], ◌∷◌, Option, Some, None, Result, Ok, Err}
+use Rattle.std.specs.Prelude.{ℕ, ◌||◌, ◌&&◌, not, if◌then◌else◌, Bool, true, false, List, [], ◌∷◌, codes, Option, Some, None, Result, Ok, Err}
 use Rattle.muck_model.specs.declared.dbref.Dbref.{Dbref}
+use Rattle.muck_model.specs.declared.lock.Lock.{Lock}
+use Rattle.muck_prop.specs.declared.value.PropValue.TheVariants.{Text}
+use Rattle.muck_lock.specs.Grammar.{lock_of}
 use Rattle.spec_live.specs.declared.fault.DbFault.{DbFault}
 use Rattle.spec_live.specs.declared.fault.DbFault.TheVariants.{WorldFull as NoRoom}
 use Rattle.spec_live.specs.Making.{create_check}
@@ -10,19 +13,23 @@ use Rattle.spec_live.specs.Setting.{owner_check}
 use Rattle.spec_live.specs.Lives.{Live, Change}
 use Rattle.spec_rights.specs.declared.act.Actor.{Actor}
 use Rattle.spec_rights.specs.declared.act.Act.{Act}
-use Rattle.spec_rights.specs.declared.act.Act.TheVariants.{Link, Move, Recycle as RecycleAct, Rename, SetOwner}
-use Rattle.spec_rights.specs.Changing.{created_so, named, owned_by, recycled_now}
+use Rattle.spec_rights.specs.declared.act.Act.TheVariants.{Change as ChangeAct, Link, Move, Recycle as RecycleAct, Rename, SetOwner}
+use Rattle.spec_rights.specs.Changing.{created_so, named, owned_by, recycled_now, stored}
 use Rattle.spec_rights.specs.Levels.{is_player_at}
 use Rattle.spec_rights.specs.Verdict.{verdict}
 use Rattle.spec_commands.specs.declared.new.New.{New}
 use Rattle.spec_commands.specs.declared.new.New.TheVariants.{Room, Thing, Exit}
-use Rattle.spec_commands.specs.Building.{act_in, allowed, as_new, is_name, is_there as is_object_there, kind_of, may_be, may_be_called, may_tie, meant_place, placed, tied}
+use Rattle.spec_commands.specs.Building.{act_in, allowed, as_new, is_name, is_there as is_object_there, key_kept, key_names, kind_of, may_be, may_be_called, may_tie, meant_place, placed, tied}
+use Rattle.spec_commands.specs.Finding.{message_path}
 use Rattle.spec_commands.specs.Going.{home_at, movable}
+use Rattle.spec_commands.specs.declared.setting.Setting.{Setting}
+use Rattle.spec_commands.specs.Settings.{may_set, set_so, setting_act, setting_asked}
 use Rattle.muf_model.specs.declared.fault.MufFault.{MufFault}
 use Rattle.muf_model.specs.declared.fault.MufFault.TheVariants.{BadType, BadArgument, NoSuchObject, WorldFull}
 use Rattle.muf_model.specs.declared.prims.Primitive.{Primitive}
-use Rattle.muf_model.specs.declared.prims.Primitive.TheVariants.{MoveTo, SetLink, SetOwn, Recycle, SetName, NewRoom, NewObject, NewExit}
+use Rattle.muf_model.specs.declared.prims.Primitive.TheVariants.{MoveTo, SetLink, SetOwn, Recycle, SetName, Set, SetLockStr, NewRoom, NewObject, NewExit}
 use Rattle.muf_model.specs.Datum.{Datum, text, object}
+use Rattle.muf_model.specs.StackRows.{truth}
 use Rattle.spec_prims.specs.Asking.{fault_of, is_there, near_fault, numbered}
 use Rattle.spec_prims.specs.Row.{Row, gives, refuses, unless, Doing, unruled}
 
@@ -66,7 +73,7 @@ done_to_two SetLink a x to w = unless (mislinked to w) (changed a (Link x to) (m
 done_to_two SetOwn a x to w = unless (misowned x to w) (changed a (SetOwner x to) (allowed (owner_check x to w.objects)) (owned_by x to) w)
 done_to_two p a x to w = refuses BadType
 
--- A text for an object: its name, or the name of what is made in it. The user owns what is made, the home of a thing is the
+-- A text for an object: its name, a flag or a level, its lock, or the name of what is made in it. The user owns what is made, the home of a thing is the
 -- user's, and an exit leads nowhere yet.
 
 -- it is made where the world allows it, and its number is given
@@ -89,8 +96,28 @@ renamed a x name w = unless (badly (may_be_called x name w)) (changed a (Rename 
 abbrev pub made_named : Actor → New → List ℕ → Dbref → Live → Row
 made_named a new name place w = unless (badly (is_name name)) (new_made a new name place w)
 
+-- what asks neither for a flag nor for a level is found out before leave is asked
+abbrev pub set_by : Actor → Dbref → Option Setting → Live → Row
+set_by a x (Some setting) w = changed a (setting_act x setting) (may_set x setting w) (set_so x setting) w
+set_by a x None w = refuses BadArgument
+
+-- A lock is kept as it is printed, and the free one not at all; one that is too long to be printed is refused.
+abbrev pub lock_kept : Dbref → Option (List ℕ) → Live → Row
+lock_kept x (Some printed) w = if is_object_there x w then gives (truth true ∷ []) (stored x (message_path (codes "lok")) (Text printed) w) else refuses BadArgument
+lock_kept x None w = refuses BadArgument
+
+-- nothing is kept of a text that the player means no lock by
+abbrev pub key_kept_of : Dbref → Result Lock ℕ → Live → Row
+key_kept_of x (Ok lock) w = lock_kept x (key_kept (Ok lock)) w
+key_kept_of x (Err at) w = gives (truth false ∷ []) w
+
+unfoldable pub locked_by : Actor → Dbref → List ℕ → Live → Row
+locked_by a x t w = unless (fault_of (verdict w.objects a (ChangeAct x))) (key_kept_of x (lock_of (key_names w a.player) t) w)
+
 abbrev pub done_by_text : Primitive → Actor → Dbref → List ℕ → Live → Row
 done_by_text SetName a x t w = renamed a x t w
+done_by_text Set a x t w = set_by a x (setting_asked t) w
+done_by_text SetLockStr a x t w = locked_by a x t w
 done_by_text NewRoom a x t w = made_named a Room t x w
 done_by_text NewObject a x t w = made_named a (Thing (home_at a.user w)) t x w
 done_by_text NewExit a x t w = made_named a (Exit nothing) t x w
@@ -130,6 +157,8 @@ writing_row SetLink = Some (unruled (two_done (done_to_two SetLink)))
 writing_row SetOwn = Some (unruled (two_done (done_to_two SetOwn)))
 writing_row Recycle = Some (unruled (one_done thrown_away))
 writing_row SetName = Some (unruled (text_done (done_by_text SetName)))
+writing_row Set = Some (unruled (text_done (done_by_text Set)))
+writing_row SetLockStr = Some (unruled (text_done (done_by_text SetLockStr)))
 writing_row NewRoom = Some (unruled (text_done (done_by_text NewRoom)))
 writing_row NewObject = Some (unruled (text_done (done_by_text NewObject)))
 writing_row NewExit = Some (unruled (text_done (done_by_text NewExit)))

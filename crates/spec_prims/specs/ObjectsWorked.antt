@@ -1,11 +1,15 @@
 -- Worked rows of the primitives of objects.
 use Rattle.std.specs.Prelude.{◌≡◌, ℕ, true, false, pos, negsuc, List, [], ◌∷◌, codes, None, refl}
+use Rattle.muck_model.specs.declared.lock.Lock.TheVariants.{Free, Object as IsObject, Not, Both}
+use Rattle.muck_model.specs.Decimal.{decimal_of}
+use Rattle.muck_model.specs.Numbers.{dbref_of as dbref_in}
+use Rattle.muck_lock.specs.Grammar.{part_of}
 use Rattle.muf_model.specs.declared.fault.MufFault.TheVariants.{BadArgument, NoSuchObject, Denied}
 use Rattle.muf_model.specs.declared.prims.Primitive.{Primitive}
-use Rattle.muf_model.specs.declared.prims.Primitive.TheVariants.{Name, Owner, Location, Contents, Exits, Next, IsOk, IsPlayer, HasFlag, MLevel, GetLink, Controls, DbTop}
-use Rattle.muf_model.specs.Datum.{Datum, int, text, object}
+use Rattle.muf_model.specs.declared.prims.Primitive.TheVariants.{Name, Owner, Location, Contents, Exits, Next, IsOk, IsPlayer, HasFlag, MLevel, GetLink, Controls, ParseLock, DbTop}
+use Rattle.muf_model.specs.Datum.{Datum, int, text, object, lock}
 use Rattle.muf_model.specs.StackRows.{truth}
-use Rattle.spec_live.specs.Objects.{object_at, number_in, kind_in, object_in, list_in, place_in}
+use Rattle.spec_live.specs.Objects.{dbref_of, object_at, number_in, kind_in, object_in, list_in, place_in}
 use Rattle.spec_live.specs.Boards.{first_tune, early_board}
 use Rattle.spec_live.specs.Start.{room_zero, player_one, first_objects}
 use Rattle.spec_live.specs.Seen.{listed_in}
@@ -68,7 +72,11 @@ ObjectsWorked =
     × (done HasFlag (text (codes "E") ∷ one ∷ []) ≡ refuses BadArgument)
     × (done HasFlag (text [] ∷ one ∷ []) ≡ refuses BadArgument)
     × (shared HasFlag (acting_at 1 7) None 0 (text (codes "WD") ∷ one ∷ []) at_first ≡ refuses BadArgument)
+    -- a lock that a text is read as
+    × answers ParseLock (text [] ∷ []) (lock Free)
+    × answers ParseLock (text (codes "(#1)&!#0") ∷ []) (lock (Both (IsObject (dbref_of 1)) (Not (IsObject (dbref_of 0)))))
+    × (done ParseLock (text (codes "#1|") ∷ []) ≡ refuses BadArgument)
 
 pub objects_worked : ObjectsWorked
-unfolding ObjectsWorked first_tune early_board object_at number_in kind_in object_in list_in place_in room_zero player_one first_objects listed_in follower level_at owner_at flag_at controls_as owns is_near level_fault is_there near_fault next_at next_of first_fault shared
-objects_worked = (refl, refl, refl, refl, refl, refl, refl, refl, refl, refl, refl, refl, refl, refl, refl, refl, refl, refl, refl, refl, refl, refl, refl, refl, refl, refl, refl, refl)
+unfolding ObjectsWorked first_tune early_board object_at number_in kind_in object_in list_in place_in room_zero player_one first_objects listed_in follower level_at owner_at flag_at controls_as owns is_near level_fault is_there near_fault next_at next_of first_fault shared part_of dbref_in decimal_of
+objects_worked = (refl, refl, refl, refl, refl, refl, refl, refl, refl, refl, refl, refl, refl, refl, refl, refl, refl, refl, refl, refl, refl, refl, refl, refl, refl, refl, refl, refl, refl, refl, refl)
