@@ -1,4 +1,5 @@
 pub mod Applying
+pub mod Families
 mod Counts
 mod Faults
 mod First

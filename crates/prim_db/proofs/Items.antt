@@ -1,5 +1,5 @@
 -- What is found, by the items at the top.
-use Rattle.std.proofs.Common.{◌≡◌, ℕ, ℤ, Bool, List, [], ◌∷◌, take, map, Option, Some, None, refl}
+use Rattle.std.proofs.Common.{◌≡◌, ◌∙◌, ℕ, ℤ, Bool, List, [], ◌∷◌, take, map, Option, Some, None, refl, sym, ap, subst}
 use Rattle.std.specs.Prelude.{slice_get, nat_lt, length, if◌then◌else◌, Result, Ok, Err}
 use Rattle.std.specs.Option.{option_map_or}
 use Rattle.muck_model.specs.declared.dbref.Dbref.{Dbref}
@@ -18,30 +18,30 @@ use Rattle.muf_model.specs.declared.value.Value.{Value}
 use Rattle.muf_model.specs.Datum.{Datum, text, object, lock}
 use Rattle.muf_model.specs.StackRows.{truth}
 use Rattle.muf_model.specs.View.{view}
+use Rattle.muf_frame.specs.declared.fault.PrimFault.{PrimFault}
+use Rattle.muf_frame.specs.declared.fault.PrimFault.TheVariants.{Fault}
 use Rattle.muf_frame.specs.Answers.{object_at, text_at}
 use Rattle.spec_prims.specs.Asking.{numbered}
 use Rattle.spec_prims.specs.ObjectRows.{seen, one_object, one_item, is_such, one_text, controlled, unparsed, tested, flag_asked, flag_found, flagged, misflagged}
-use Rattle.prim_db.specs.Found.{as_lock, lock_at_top}
+use Rattle.prim_db.specs.Found.{Finds, as_lock, lock_at_top}
 
-abbrev object_read : (Dbref → List Entry → Result Datum MufFault) → List Entry → Option ℤ → Result Datum MufFault
-object_read find es (Some d) = find (numbered d) es
-object_read find es None = Err BadType
+pub object_found : (find : Dbref → List Entry → Result Datum MufFault) (a : Actor) (es : List Entry) (stack : List Datum) (d : Dbref) (r : Result Value PrimFault) → object_at 0 stack ≡ Some d.0 → Finds (find d es) r → Finds (one_object find a es (take 1 stack)) r
+object_found find a es [] d r e h = absurd cc
+object_found find a es (object n ∷ rest) d r e h = (let same : n ≡ d.0 = cc in subst (λ k. Finds (find (numbered k) es) r) (sym same) h)
+object_found find a es (_ ∷ rest) d r e h = absurd cc
 
-pub object_reads : (find : Dbref → List Entry → Result Datum MufFault) (a : Actor) (es : List Entry) (stack : List Datum) → one_object find a es (take 1 stack) ≡ object_read find es (object_at 0 stack)
-object_reads find a es (object d ∷ rest) = refl
-object_reads find a es _ = refl
+pub object_missing : (find : Dbref → List Entry → Result Datum MufFault) (a : Actor) (es : List Entry) (stack : List Datum) → object_at 0 stack ≡ None → Finds (one_object find a es (take 1 stack)) (Err (Fault BadType))
+object_missing find a es [] e = refl
+object_missing find a es (object n ∷ rest) e = absurd cc
+object_missing find a es (_ ∷ rest) e = refl
 
-pub ruleset object_steps = (object_reads)
+pub item_found : (test : Kind → Bool) (a : Actor) (es : List Entry) (xs : List Value) (v r : Value) → slice_get xs 0 ≡ Some v → view r ≡ truth (is_such test es (view v)) → Finds (one_item test a es (take 1 (map view xs))) (Ok r)
+item_found test a es [] v r e h = absurd cc
+item_found test a es (x ∷ xs) v r e h = (let same : x ≡ v = cc in h ∙ ap (λ y. truth (is_such test es (view y))) (sym same))
 
-abbrev item_read : (Kind → Bool) → List Entry → Option Value → Result Datum MufFault
-item_read test es (Some v) = Ok (truth (is_such test es (view v)))
-item_read test es None = Err BadType
-
-pub item_reads : (test : Kind → Bool) (a : Actor) (es : List Entry) (xs : List Value) → one_item test a es (take 1 (map view xs)) ≡ item_read test es (slice_get xs 0)
-item_reads test a es [] = refl
-item_reads test a es (x ∷ xs) = refl
-
-pub ruleset item_steps = (item_reads)
+pub item_missing : (test : Kind → Bool) (a : Actor) (es : List Entry) (xs : List Value) → slice_get xs 0 ≡ None → Finds (one_item test a es (take 1 (map view xs))) (Err (Fault BadType))
+item_missing test a es [] e = refl
+item_missing test a es (x ∷ xs) e = absurd cc
 
 abbrev text_read : (Actor → List Entry → List ℕ → Dbref) → Actor → List Entry → Option (List ℕ) → Result Datum MufFault
 text_read find a es (Some t) = seen (find a es t)

@@ -1,4 +1,4 @@
-mod Changing
+mod Granted
 mod Items
 mod Lists
 mod Objects

@@ -1,5 +1,5 @@
 -- The rows of the family.
-use Rattle.std.proofs.Common.{◌≡◌, ℕ, Bool, true, false, List, [], ◌∷◌, take, drop, Option, Some, None, Ok, Err, refl, sym, ap, subst, ◌∙◌}
+use Rattle.std.proofs.Common.{◌≡◌, ℕ, List, [], ◌∷◌, Option, Some, None, Ok, Err, refl, sym, ap, subst, ◌∙◌}
 use Rattle.std.specs.Prelude.{◌&&◌, is_some, option_map, Result}
 use Rattle.std.specs.Option.{option_or}
 use Rattle.spec_live.specs.Lives.{Live}
@@ -14,19 +14,20 @@ use Rattle.muf_model.specs.Datum.{Datum}
 use Rattle.muf_model.specs.Prims.{family_of, is_there}
 use Rattle.muf_frame.specs.declared.fault.PrimFault.{PrimFault}
 use Rattle.muf_frame.specs.declared.fault.PrimFault.TheVariants.{Fault, NoMemory}
+use Rattle.muf_frame.specs.Shown.{Shown, flat, locked_by}
 use Rattle.muck_perm.specs.declared.guard.Guard.{Guard}
 use Rattle.muck_perm.specs.Guards.{objects_of, world_of}
 use Rattle.muck_perm.proofs.Worlds.{kept_itself}
-use Rattle.spec_prims.specs.Row.{Row, refuses, given_upon, Doing}
+use Rattle.spec_prims.specs.Row.{Row, Doing}
 use Rattle.spec_prims.specs.ObjectRows.{Finding, finding_of, finds, given as given_row, object_row, is_object_family}
-use Rattle.spec_prims.specs.Shared.{taken, first_fault, row_in, done_by, shared}
+use Rattle.spec_prims.specs.Shared.{first_fault, row_in, done_by, shared}
 use Rattle.spec_prims.specs.ObjectWrites.{writing_row}
-use Rattle.spec_prims.proofs.Fits.{Fits, fits_object}
+use Rattle.spec_prims.proofs.Fits.{fits_object}
 use Rattle.spec_prims.proofs.There.{object_there}
 use Rattle.prim_common.specs.Applied.{Makes, argued_of, does_of}
 use Rattle.prim_common.specs.declared.made.Made.TheVariants.{One}
 use Rattle.prim_common.specs.Tests.{Passes}
-use Rattle.prim_common.proofs.Applying.{fails_first, gives_first, fits_of}
+use Rattle.prim_common.proofs.Families.{Begun, taken_of}
 use Rattle.prim_db.proofs.Rules.{no_writing}
 use Rattle.prim_db.specs.Found.{Finds, found_in, found_with}
 
@@ -37,24 +38,15 @@ shared_object p a descr locked stack w object = ap (λ (family : Family). done_b
 pub row_there : (p : Primitive) → family_of p ≡ Object → is_some (object_row p) ≡ is_there p
 row_there p object = object_there p ∙ ap (λ (family : Family). is_object_family family && is_there p) object
 
--- the row behind the tests
-module _ (p : Primitive) (a : Actor) (descr : Option ℕ) (locked : ℕ) (stack : List Datum) (w : Live) (argued : Option MufFault) (r : Result ℕ MufFault) (object : family_of p ≡ Object)
-    (same : argued ≡ argued_of (object_row p) a (take (taken p stack) stack) w) (pass : Passes (first_fault p argued a locked stack w) r) where
-  pub refused_first : (h : MufFault) → r ≡ Err h → shared p a descr locked stack w ≡ refuses h
-  refused_first h is =
-      shared_object p a descr locked stack w object
-      ∙ fails_first p argued a locked stack w (object_row p) h r (row_there p object) same pass is
-
-  pub row_first : (n : ℕ) → r ≡ Ok n → n ≡ taken p stack → shared p a descr locked stack w ≡ given_upon (drop n stack) (does_of (object_row p) a (take (taken p stack) stack) w)
-  row_first n is count =
-      shared_object p a descr locked stack w object
-      ∙ gives_first p argued a locked stack w (object_row p) n r (row_there p object) same pass is count
-      ∙ ap (λ k. given_upon (drop n stack) (does_of (object_row p) a (take k stack) w)) count
-
-pub row_fits : (p : Primitive) (a : Actor) (stack : List Datum) (w : Live) (n : ℕ) → n ≡ taken p stack → Fits (take n stack) w (does_of (object_row p) a (take (taken p stack) stack) w)
-row_fits p a stack w n count =
-    subst (λ k. Fits (take k stack) w (does_of (object_row p) a (take (taken p stack) stack) w)) (sym count)
-    (fits_of (object_row p) a (take (taken p stack) stack) w (fits_object p))
+-- a test's answer and the row behind it
+pub begun : (p : Primitive) (descr : Option ℕ) (f : Shown) (g : Guard) (rule : Option MufFault) (r : Result ℕ MufFault) → family_of p ≡ Object → rule ≡ argued_of (object_row p) g.actor (taken_of p f) (world_of g) → Passes (first_fault p rule g.actor (locked_by (flat f).marks) (flat f).stack (world_of g)) r → Begun p (object_row p) descr f g rule r
+begun p descr f g rule r object same pass = record {
+  stands = shared_object p g.actor descr (locked_by (flat f).marks) (flat f).stack (world_of g) object;
+  there = row_there p object;
+  fits = fits_object p;
+  same = same;
+  pass = pass;
+}
 
 -- it gives what it finds
 does_by : (p : Primitive) (o : Option Finding) (r : Option Doing) (a : Actor) (items : List Datum) (w : Live) → r ≡ None → does_of (option_or (option_map (finds p) o) r) a items w ≡ given_row w (found_with o a w.objects items)

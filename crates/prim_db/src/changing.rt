@@ -29,7 +29,7 @@ fn leave<'a>(guard: &Guard, act: &'a Act) -> Result<Pass<'a>, PrimFault>
 }
 
 /// Writes by leave, where the world allows it.
-#[tactic(auto, using(crate::proofs::Changing::changing))]
+#[tactic(auto, using(crate::proofs::Granted::changing))]
 pub(crate) fn write(guard: &mut Guard, write: Write) -> Result<Made, PrimFault>
     requires { IsFit write }
     ensures { Makes (row.changed guard.old.actor (act_of write) (may write (world_of guard.old)) (change_of write) (world_of guard.old)) guard.old guard.new result }
@@ -56,7 +56,7 @@ fn number_made(made: Result<Dbref, DbFault>) -> Result<Made, PrimFault>
 }
 
 // Makes it by leave, where the world allows it.
-#[tactic(auto, using(crate::proofs::Changing::number_given))]
+#[tactic(auto, using(crate::proofs::Granted::number_given))]
 fn make_by(
     guard: &mut Guard,
     pass: Pass,
@@ -75,7 +75,7 @@ fn make_by(
 }
 
 // Makes it in a place, by leave.
-#[tactic(auto, using(crate::proofs::Changing::creating))]
+#[tactic(auto, using(crate::proofs::Granted::creating))]
 fn make(guard: &mut Guard, new: New, name: &Text, place: Dbref) -> Result<Made, PrimFault>
     requires some { 1 ≤ length name.now }
     requires short { length name.now ≤ 80 }

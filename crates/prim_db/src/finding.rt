@@ -4,6 +4,7 @@ ghost use Rattle.std.specs.Option.{option_copied, option_map_or};
 ghost use Rattle.muck_lock.specs.Opens.{opens_for};
 ghost use Rattle.spec_live.specs.Objects.{dbref_of, object_at};
 ghost use Rattle.spec_live.specs.Worth.{holdings_of};
+ghost use Rattle.muck_perm.specs.Guards.{objects_of};
 ghost use Rattle.muf_model.specs.View.{view};
 ghost use Rattle.muf_frame.specs.Shown.{Shown, flat};
 ghost use Rattle.spec_prims.specs.Shared.{taken};
@@ -24,9 +25,8 @@ const NOTHING: Dbref = Dbref(-1);
 const AMBIGUOUS: Dbref = Dbref(-2);
 
 // Those of one object.
-#[tactic(auto, using(crate::proofs::Items::object_steps))]
 fn of_object(prim: Prim, guard: &Guard, frame: &Frame) -> Result<Value, PrimFault>
-    ensures { Finds (row.one_object (row.found_of prim) guard.now.actor guard.now.db.now (take 1 (flat frame.now).stack)) result }
+    ensures { Finds (row.one_object (row.found_of prim) guard.now.actor (objects_of guard.now) (take 1 (flat frame.now).stack)) result }
 {
     match frame.object_at(0) {
         Some(object) => look(prim, guard, object),
@@ -50,7 +50,7 @@ fn kind_asked(prim: Prim, kind: Kind) -> bool
 
 // Whether an object is there, and of the kind that is asked for.
 fn is_kind(prim: Prim, guard: &Guard, object: Dbref) -> bool
-    ensures { result ≡ option_map_or (λ o. row.kind_asked prim o.kind) (object_at object guard.now.db.now) false }
+    ensures { result ≡ option_map_or (λ o. row.kind_asked prim o.kind) (object_at object (objects_of guard.now)) false }
 {
     match guard.db().get(object) {
         Some(object) => kind_asked(prim, object.kind()),
@@ -59,9 +59,8 @@ fn is_kind(prim: Prim, guard: &Guard, object: Dbref) -> bool
 }
 
 // The same of an item, which may be no object.
-#[tactic(auto, using(muf_model::proofs::Views::view_steps))]
 fn is_such(prim: Prim, guard: &Guard, item: &Value) -> bool
-    ensures { result ≡ row.is_such (row.kind_asked prim) guard.now.db.now (view item.now) }
+    ensures { result ≡ row.is_such (row.kind_asked prim) (objects_of guard.now) (view item.now) }
 {
     match item {
         Value::Ref(object) => is_kind(prim, guard, *object),
@@ -70,9 +69,8 @@ fn is_such(prim: Prim, guard: &Guard, item: &Value) -> bool
 }
 
 // Those that ask what an item is.
-#[tactic(auto, using(crate::proofs::Items::item_steps))]
 fn of_item(prim: Prim, guard: &Guard, frame: &Frame) -> Result<Value, PrimFault>
-    ensures { Finds (row.one_item (row.kind_asked prim) guard.now.actor guard.now.db.now (take 1 (flat frame.now).stack)) result }
+    ensures { Finds (row.one_item (row.kind_asked prim) guard.now.actor (objects_of guard.now) (take 1 (flat frame.now).stack)) result }
 {
     match frame.peek(0) {
         Some(item) => Ok(Value::truth(is_such(prim, guard, item))),
@@ -93,7 +91,7 @@ fn meant(found: Found) -> Dbref
 
 // What a text names.
 fn named(prim: Prim, guard: &Guard, text: &Text) -> Dbref
-    ensures { result ≡ row.found_by prim guard.now.actor guard.now.db.now text.now }
+    ensures { result ≡ row.found_by prim guard.now.actor (objects_of guard.now) text.now }
 {
     match prim {
         Prim::PMatch => player(guard.db(), text.as_line()).unwrap_or(NOTHING),
@@ -104,7 +102,7 @@ fn named(prim: Prim, guard: &Guard, text: &Text) -> Dbref
 // Those that find an object by a text.
 #[tactic(auto, using(crate::proofs::Items::text_steps))]
 fn of_text(prim: Prim, guard: &Guard, frame: &Frame) -> Result<Value, PrimFault>
-    ensures { Finds (row.one_text (row.found_by prim) guard.now.actor guard.now.db.now (take 1 (flat frame.now).stack)) result }
+    ensures { Finds (row.one_text (row.found_by prim) guard.now.actor (objects_of guard.now) (take 1 (flat frame.now).stack)) result }
 {
     match frame.text_at(0) {
         Some(text) => Ok(Value::Ref(named(prim, guard, text))),
@@ -115,7 +113,7 @@ fn of_text(prim: Prim, guard: &Guard, frame: &Frame) -> Result<Value, PrimFault>
 // FLAG?.
 #[tactic(auto, using(crate::proofs::Items::flag_steps))]
 fn flagged(guard: &Guard, frame: &Frame) -> Result<Value, PrimFault>
-    ensures { Finds (row.flagged guard.now.actor guard.now.db.now (take 2 (flat frame.now).stack)) result }
+    ensures { Finds (row.flagged guard.now.actor (objects_of guard.now) (take 2 (flat frame.now).stack)) result }
 {
     let (Some(letters), Some(object)) = (frame.text_at(0), frame.object_at(1)) else {
         return Err(PrimFault::Fault(MufFault::BadType));
@@ -132,7 +130,7 @@ fn flagged(guard: &Guard, frame: &Frame) -> Result<Value, PrimFault>
 // CONTROLS.
 #[tactic(auto, using(crate::proofs::Items::pair_steps))]
 fn controlled(guard: &Guard, frame: &Frame) -> Result<Value, PrimFault>
-    ensures { Finds (row.controlled guard.now.actor guard.now.db.now (take 2 (flat frame.now).stack)) result }
+    ensures { Finds (row.controlled guard.now.actor (objects_of guard.now) (take 2 (flat frame.now).stack)) result }
 {
     let (Some(object), Some(who)) = (frame.object_at(0), frame.object_at(1)) else {
         return Err(PrimFault::Fault(MufFault::BadType));
@@ -143,7 +141,6 @@ fn controlled(guard: &Guard, frame: &Frame) -> Result<Value, PrimFault>
 }
 
 // The lock that an item is.
-#[tactic(auto, using(muf_model::proofs::Views::view_steps))]
 fn as_lock(item: &Value) -> Option<&Lock>
     ensures { option_copied result ≡ as_lock (view item.now) }
 {
@@ -167,7 +164,7 @@ fn lock_at_top(frame: &Frame) -> Option<&Lock>
 // UNPARSELOCK.
 #[tactic(auto, using(crate::proofs::Items::lock_steps))]
 fn unparsed(guard: &Guard, frame: &Frame) -> Result<Value, PrimFault>
-    ensures { Finds (row.unparsed guard.now.actor guard.now.db.now (take 1 (flat frame.now).stack)) result }
+    ensures { Finds (row.unparsed guard.now.actor (objects_of guard.now) (take 1 (flat frame.now).stack)) result }
 {
     let Some(lock) = lock_at_top(frame) else {
         return Err(PrimFault::Fault(MufFault::BadType));
@@ -182,7 +179,7 @@ fn unparsed(guard: &Guard, frame: &Frame) -> Result<Value, PrimFault>
 // Whether a lock opens for an object.
 #[tactic(auto, unfolding(spec_live::specs::Worth::holdings_of))]
 fn is_open(lock: &Lock, guard: &Guard, object: Dbref) -> bool
-    ensures { result ≡ opens_for (holdings_of guard.now.db.now) lock.now object }
+    ensures { result ≡ opens_for (holdings_of (objects_of guard.now)) lock.now object }
 {
     opens(lock, guard.db(), object)
 }
@@ -190,7 +187,7 @@ fn is_open(lock: &Lock, guard: &Guard, object: Dbref) -> bool
 // TESTLOCK.
 #[tactic(auto, using(crate::proofs::Items::lock_steps))]
 fn tested(guard: &Guard, frame: &Frame) -> Result<Value, PrimFault>
-    ensures { Finds (row.tested guard.now.actor guard.now.db.now (take 2 (flat frame.now).stack)) result }
+    ensures { Finds (row.tested guard.now.actor (objects_of guard.now) (take 2 (flat frame.now).stack)) result }
 {
     let (Some(lock), Some(object)) = (lock_at_top(frame), frame.object_at(1)) else {
         return Err(PrimFault::Fault(MufFault::BadType));
@@ -200,15 +197,14 @@ fn tested(guard: &Guard, frame: &Frame) -> Result<Value, PrimFault>
 
 // One above the highest number.
 fn top(guard: &Guard) -> Dbref
-    ensures { result ≡ dbref_of (length guard.now.db.now) }
+    ensures { result ≡ dbref_of (length (objects_of guard.now)) }
 {
     Dbref(guard.db().count() as i32)
 }
 
 /// What a primitive finds in the items that it takes.
-#[tactic(auto, using(muf_model::proofs::Views::view_steps))]
 pub(crate) fn found(prim: Prim, guard: &Guard, frame: &Frame) -> Result<Value, PrimFault>
-    ensures { Finds (found_in prim guard.now.actor guard.now.db.now (take (taken prim (flat frame.now).stack) (flat frame.now).stack)) result }
+    ensures { Finds (found_in prim guard.now.actor (objects_of guard.now) (take (taken prim (flat frame.now).stack) (flat frame.now).stack)) result }
 {
     match prim {
         Prim::IsOk

@@ -7,6 +7,7 @@ ghost use Rattle.spec_live.specs.Seen.{listed_in, long_form};
 ghost use Rattle.spec_live.specs.Worth.{lock_text};
 ghost use Rattle.spec_rights.specs.Levels.{number_of};
 ghost use Rattle.spec_rights.specs.Verdict.{place_of};
+ghost use Rattle.muck_perm.specs.Guards.{objects_of};
 ghost use Rattle.muf_model.specs.Datum.{text};
 ghost use Rattle.muf_model.specs.View.{view};
 ghost use Rattle.spec_prims.specs.ObjectRows.{first_of, found_of, next_of, shown, tie_by};
@@ -24,7 +25,6 @@ use std::alloc::Global;
 const NOTHING: Dbref = Dbref(-1);
 
 // A line as an item.
-#[tactic(auto, using(muf_model::proofs::Views::view_steps))]
 pub(crate) fn text_item(alloc: Global, line: Line) -> Result<Value, NoMemory>
     ensures { IfOk result (λ v. view v ≡ text line) }
 {
@@ -130,9 +130,8 @@ fn long_form_at(alloc: Global, db: &Db, d: Dbref) -> Result<Vec<u8>, NoMemory>
 }
 
 /// What a primitive finds of an object.
-#[tactic(auto, using(muf_model::proofs::Views::view_steps))]
 pub(crate) fn look(prim: Prim, guard: &Guard, object: Dbref) -> Result<Value, PrimFault>
-    ensures { Finds (found_of prim object guard.now.db.now) result }
+    ensures { Finds (found_of prim object (objects_of guard.now)) result }
 {
     let alloc = guard.alloc();
     let db = guard.db();

@@ -44,7 +44,7 @@ fn place_far(guard: &Guard, to: Dbref) -> Option<MufFault>
 }
 
 // MOVETO.
-#[tactic(auto, using(crate::proofs::Changing::before))]
+#[tactic(auto, using(crate::proofs::Granted::before))]
 fn move_to(guard: &mut Guard, object: Dbref, to: Dbref) -> Result<Made, PrimFault>
     ensures { Makes (row.done_to_two MoveTo guard.old.actor object to (world_of guard.old)) guard.old guard.new result }
 {
@@ -65,7 +65,7 @@ fn mislinked(guard: &Guard, to: Dbref) -> Option<MufFault>
 }
 
 // SETLINK.
-#[tactic(auto, using(crate::proofs::Changing::before))]
+#[tactic(auto, using(crate::proofs::Granted::before))]
 fn link(guard: &mut Guard, object: Dbref, to: Dbref) -> Result<Made, PrimFault>
     ensures { Makes (row.done_to_two SetLink guard.old.actor object to (world_of guard.old)) guard.old guard.new result }
 {

@@ -1,58 +1,37 @@
 use Rattle.std.proofs.Common.{rules, ◌≡◌, Ok, Err}
 use Rattle.muf_frame.specs.declared.fault.PrimFault.TheVariants.{Fault}
-use Rattle.muf_frame.specs.Shown.{flat, locked_by}
-use Rattle.muck_perm.specs.Guards.{world_of}
-use Rattle.prim_common.proofs.Applying.{refused_so, made_fault, applied_given, applied_full}
-use Rattle.prim_db.proofs.Objects.{refused_first, row_first, row_fits, row_there}
+use Rattle.prim_common.proofs.Families.{untested, unmade, unroomed, given}
+use Rattle.prim_db.proofs.Objects.{begun}
 use Rattle.prim_db.proofs.table.apply.Goals as goal
 
 pub returns-in_err-taken-clause-row : goal.returns-in_err-taken-clause-row
 returns-in_err-taken-clause-row c = λ descr.
-    let f = flat c.args.frame.now in
-    let g = c.args.guard.now in
-    let h = c.in_err-taken.field-0.0 in
-    let argued = c.argued-argued.ensures in
-    let was : c.ready.result ≡ Err h = search rules in
-    let back : c.from_residual.result ≡ Err (Fault h) = search rules in
-    let row = refused_first c.args.prim g.actor descr (locked_by f.marks) f.stack (world_of g) c.argued-argued.result c.ready.result c.requires argued c.ready.ensures.pass h was in
-    rw back (refused_so _ c.args.frame.now g h row)
+    let b = begun c.args.prim descr c.args.frame.now c.args.guard.now c.argued-argued.result c.ready.result c.requires c.argued-argued.ensures c.ready.ensures.pass in
+    let was : c.ready.result ≡ Err c.in_err-taken.field-0.0 = search rules in
+    let back : c.from_residual.result ≡ Err (Fault c.in_err-taken.field-0.0) = search rules in
+    rw back (untested b c.in_err-taken.field-0.0 was)
 
 pub returns-in_err-made-clause-row : goal.returns-in_err-made-clause-row
 returns-in_err-made-clause-row c = λ descr.
-    let f = flat c.args.frame.now in
-    let g = c.args.guard.now in
-    let n = c.in_ok-taken.taken in
-    let h = c.in_err-made.field-0.0 in
-    let argued = c.argued-argued.ensures in
-    let passed : c.ready.result ≡ Ok n = search rules in
-    let was : c.made.result ≡ Err h = search rules in
-    let back : c.from_residual-in_err-made.result ≡ Err h = search rules in
-    let row = row_first c.args.prim g.actor descr (locked_by f.marks) f.stack (world_of g) c.argued-argued.result c.ready.result c.requires argued c.ready.ensures.pass n passed c.in_ok-taken.ensures.count in
-    rw back (made_fault _ _ _ c.args.frame.now g c.made.new.guard h c.made.result row c.made.ensures was)
+    let b = begun c.args.prim descr c.args.frame.now c.args.guard.now c.argued-argued.result c.ready.result c.requires c.argued-argued.ensures c.ready.ensures.pass in
+    let passed : c.ready.result ≡ Ok c.in_ok-taken.taken = search rules in
+    let was : c.made.result ≡ Err c.in_err-made.field-0.0 = search rules in
+    let back : c.from_residual-in_err-made.result ≡ Err c.in_err-made.field-0.0 = search rules in
+    rw back (unmade b c.in_ok-taken.taken passed c.in_ok-taken.ensures.count c.made.new.guard c.in_err-made.field-0.0 c.made.result c.made.ensures was)
 
 pub returns-in_err-give-clause-row : goal.returns-in_err-give-clause-row
 returns-in_err-give-clause-row c = λ descr.
-    let f = flat c.args.frame.now in
-    let g = c.args.guard.now in
-    let n = c.in_ok-taken.taken in
-    let h = c.in_err-give.field-0.0 in
-    let argued = c.argued-argued.ensures in
-    let passed : c.ready.result ≡ Ok n = search rules in
+    let b = begun c.args.prim descr c.args.frame.now c.args.guard.now c.argued-argued.result c.ready.result c.requires c.argued-argued.ensures c.ready.ensures.pass in
+    let passed : c.ready.result ≡ Ok c.in_ok-taken.taken = search rules in
     let made : c.made.result ≡ Ok c.in_ok-made.made = search rules in
-    let was : c.give.result ≡ Err h = search rules in
-    let back : c.from_residual-in_err-give.result ≡ Err (Fault h) = search rules in
-    let row = row_first c.args.prim g.actor descr (locked_by f.marks) f.stack (world_of g) c.argued-argued.result c.ready.result c.requires argued c.ready.ensures.pass n passed c.in_ok-taken.ensures.count in
-    let fits = row_fits c.args.prim g.actor f.stack (world_of g) n c.in_ok-taken.ensures.count in
-    rw back (applied_full _ _ n c.args.frame.now c.give.new.frame g c.made.new.guard c.in_ok-made.made c.made.result c.give.result h row fits c.made.ensures made c.give.ensures was)
+    let was : c.give.result ≡ Err c.in_err-give.field-0.0 = search rules in
+    let back : c.from_residual-in_err-give.result ≡ Err (Fault c.in_err-give.field-0.0) = search rules in
+    rw back (unroomed b c.in_ok-taken.taken passed c.in_ok-taken.ensures.count c.give.new.frame c.made.new.guard c.in_ok-made.made c.made.result c.give.result c.made.ensures made c.give.ensures c.in_err-give.field-0.0 was)
 
 pub returns-clause-row : goal.returns-clause-row
 returns-clause-row c = λ descr.
-    let f = flat c.args.frame.now in
-    let g = c.args.guard.now in
-    let n = c.in_ok-taken.taken in
-    let argued = c.argued-argued.ensures in
-    let passed : c.ready.result ≡ Ok n = search rules in
+    let b = begun c.args.prim descr c.args.frame.now c.args.guard.now c.argued-argued.result c.ready.result c.requires c.argued-argued.ensures c.ready.ensures.pass in
+    let passed : c.ready.result ≡ Ok c.in_ok-taken.taken = search rules in
     let made : c.made.result ≡ Ok c.in_ok-made.made = search rules in
     let was : c.give.result ≡ Ok c.in_ok-give.field-0 = search rules in
-    let row = row_first c.args.prim g.actor descr (locked_by f.marks) f.stack (world_of g) c.argued-argued.result c.ready.result c.requires argued c.ready.ensures.pass n passed c.in_ok-taken.ensures.count in
-    applied_given _ _ n c.args.frame.now c.give.new.frame g c.made.new.guard c.in_ok-made.made c.made.result c.give.result c.in_ok-give.field-0 row c.made.ensures made c.give.ensures was
+    given b c.in_ok-taken.taken passed c.in_ok-taken.ensures.count c.give.new.frame c.made.new.guard c.in_ok-made.made c.made.result c.give.result c.made.ensures made c.give.ensures c.in_ok-give.field-0 was

@@ -12,7 +12,7 @@ use Rattle.spec_rights.specs.Verdict.{verdict}
 use Rattle.spec_commands.specs.declared.new.New.{New}
 use Rattle.spec_commands.specs.Building.{act_in, kind_of, may_be}
 use Rattle.muf_model.specs.declared.fault.MufFault.{MufFault}
-use Rattle.muf_model.specs.declared.fault.MufFault.TheVariants.{BadArgument}
+use Rattle.muf_model.specs.declared.fault.MufFault.TheVariants.{BadArgument, WorldFull}
 use Rattle.muf_model.specs.declared.value.Value.TheVariants.{Ref}
 use Rattle.muf_model.specs.View.{view}
 use Rattle.muf_frame.specs.declared.fault.PrimFault.{PrimFault}
@@ -77,7 +77,7 @@ module _ (act : Act) (may : Bool) (f : Change) (old new : Guard) where
 
   pub done_made : verdict (objects_of old) old.actor act ≡ None → may ≡ true → Done f old new → Makes row old new (Ok Nothing)
   unfolding changed
-  done_made v m h = given_before act _ old new (Ok Nothing) v (where_true may (gives [] (f (world_of old))) (refuses BadArgument) old new (Ok Nothing) m (refl, h))
+  done_made v m h = given_before act _ old new (Ok Nothing) v (where_true may (gives [] (f (world_of old))) (refuses BadArgument) old new (Ok Nothing) m (refl, h.0, h.1))
 
   pub refused_made : verdict (objects_of old) old.actor act ≡ None → may ≡ false → new ≡ old → Makes row old new (Err (Fault BadArgument))
   unfolding changed
@@ -91,40 +91,40 @@ why_none : (change : ℕ → ℕ → Change) (fault found : DbFault) (old new : 
     Makes (given_made (Err fault) change (world_of old)) old new result
 why_none change fault found old new result (inr e) same h =
     let none : result ≡ Err NoMemory = subst (λ (x : DbFault). IsMade (Err x) result) e h in
-    subst (λ r. Makes (given_made (Err fault) change (world_of old)) old new r) (sym none) (wants_made _ old new same)
+    subst (λ r. Makes (given_made (Err fault) change (world_of old)) old new r) (sym none) (wants_made (given_made (Err fault) change (world_of old)) old new same)
 why_none change fault found old new result (inl e) same h = at fault (subst (λ (x : DbFault). IsMade (Err x) result) e h)
   where
     at : (fault : DbFault) → IsMade (Err fault) result → Makes (given_made (Err fault) change (world_of old)) old new result
-    at WantsMemory k = subst (λ r. Makes (given_made (Err WantsMemory) change (world_of old)) old new r) (sym k) (wants_made _ old new same)
-    at NoRoom k = subst (λ r. Makes (given_made (Err NoRoom) change (world_of old)) old new r) (sym k) (refl, same)
+    at WantsMemory k = subst (λ r. Makes (refuses BadArgument) old new r) (sym k) (wants_made (refuses BadArgument) old new same)
+    at NoRoom k = subst (λ r. Makes (refuses WorldFull) old new r) (sym k) (refl, same)
     at _ k = subst (λ r. Makes (refuses BadArgument) old new r) (sym k) (refl, same)
 
 pub number_given : (check : Result (ℕ × ℕ) DbFault) (change : ℕ → ℕ → Change) (old new : Guard) (made : Result Dbref DbFault) (result : Result Made PrimFault) → Founds check change old new made → IsMade made result →
     Makes (given_made check change (world_of old)) old new result
 number_given (Ok p) change old new (Ok object) result f h =
-    subst (λ r. Makes (given_made (Ok p) change (world_of old)) old new r) (sym h) (ap (λ (d : Dbref). view (Ref d) ∷ []) f.0, f.1)
+    subst (λ r. Makes (given_made (Ok p) change (world_of old)) old new r) (sym h) (ap (λ (d : Dbref). view (Ref d) ∷ []) f.0, f.1.0, f.1.1)
 number_given (Ok p) change old new (Err found) result f h =
     let none : result ≡ Err NoMemory = subst (λ (x : DbFault). IsMade (Err x) result) f.0 h in
-    subst (λ r. Makes (given_made (Ok p) change (world_of old)) old new r) (sym none) (wants_made _ old new f.1)
+    subst (λ r. Makes (given_made (Ok p) change (world_of old)) old new r) (sym none) (wants_made (given_made (Ok p) change (world_of old)) old new f.1)
 number_given (Err fault) change old new (Ok object) result f h = absurd f
 number_given (Err fault) change old new (Err found) result f h = why_none change fault found old new result f.0 f.1 h
 
 module _ (new : New) (name : List ℕ) (place : Dbref) (old now : Guard) where
-  abbrev row : Row
-  row = new_made old.actor new name place (world_of old)
+  abbrev making : Row
+  making = new_made old.actor new name place (world_of old)
 
   abbrev made : Row
   made = given_made (create_check (kind_of new) old.actor.user place (objects_of old)) (made_so new name old.actor.user) (world_of old)
 
-  pub denied_making : (e : PrimFault) → now ≡ old → Leaves (act_in place new) old (Err e) → Makes row old now (Err e)
+  pub denied_making : (e : PrimFault) → now ≡ old → Leaves (act_in place new) old (Err e) → Makes making old now (Err e)
   unfolding new_made
   denied_making e same h = denied_before (act_in place new) (cond (may_be new (world_of old)) made (refuses BadArgument)) old now e same h
 
-  pub done_making : (result : Result Made PrimFault) → verdict (objects_of old) old.actor (act_in place new) ≡ None → may_be new (world_of old) ≡ true → Makes made old now result → Makes row old now result
+  pub done_making : (result : Result Made PrimFault) → verdict (objects_of old) old.actor (act_in place new) ≡ None → may_be new (world_of old) ≡ true → Makes made old now result → Makes making old now result
   unfolding new_made
   done_making result v m h = given_before (act_in place new) _ old now result v (where_true (may_be new (world_of old)) made (refuses BadArgument) old now result m h)
 
-  pub refused_making : verdict (objects_of old) old.actor (act_in place new) ≡ None → may_be new (world_of old) ≡ false → now ≡ old → Makes row old now (Err (Fault BadArgument))
+  pub refused_making : verdict (objects_of old) old.actor (act_in place new) ≡ None → may_be new (world_of old) ≡ false → now ≡ old → Makes making old now (Err (Fault BadArgument))
   unfolding new_made
   refused_making v m same = given_before (act_in place new) _ old now (Err (Fault BadArgument)) v (where_false (may_be new (world_of old)) made (refuses BadArgument) old now (Err (Fault BadArgument)) m (refl, same))
 
