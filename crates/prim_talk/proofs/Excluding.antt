@@ -2,7 +2,7 @@
 use Rattle.std.proofs.Common.{◌≡◌, ◌+◌, ℕ, zero, suc, pos, negsuc, List, [], ◌∷◌, ◌++◌, length, take, drop, filter_map, slice_get, Option, Some, None, refl, sym, ap, ◌∙◌, subst, arith}
 use Rattle.std.specs.Prelude.{ℤ}
 use Rattle.std.specs.List.{cons_option}
-use Rattle.std.specs.Option.{option_and_then}
+use Rattle.std.specs.Option.{option_and_then, option_map_or}
 use Rattle.muck_model.specs.declared.dbref.Dbref.{Dbref}
 use Rattle.spec_live.specs.Lives.{Live, tell_but}
 use Rattle.spec_rights.specs.declared.act.Actor.{Actor}
@@ -36,7 +36,8 @@ next_object zero (_ ∷ xs) d e = absurd cc
 next_object (suc n) (x ∷ xs) d e = kept_behind (object_in x) _ _ _ (next_object n xs d e)
 
 next_other : (n : ℕ) (xs : List Datum) → object_at n xs ≡ None → filter_map object_in (take (suc n) xs) ≡ filter_map object_in (take n xs)
-next_other n [] e = refl
+next_other zero [] e = refl
+next_other (suc n) [] e = refl
 next_other zero (object z ∷ xs) e = absurd cc
 next_other zero (_ ∷ xs) e = refl
 next_other (suc n) (x ∷ xs) e = kept_same (object_in x) _ _ (next_other n xs e)
@@ -44,11 +45,15 @@ next_other (suc n) (x ∷ xs) e = kept_same (object_in x) _ _ (next_other n xs e
 below : (n : ℕ) (stack : List Datum) (o : Option ℤ) → object_at (2 + n) stack ≡ o → object_at n (drop 2 stack) ≡ o
 below n stack o e = ap (option_and_then as_object) (get_drop 2 n stack) ∙ e
 
-pub gathered : (n : ℕ) (stack : List Datum) (d : Dbref) (ds : List Dbref) → ds ≡ filter_map object_in (take n (drop 2 stack)) → object_at (2 + n) stack ≡ Some d.0 → ds ++ d ∷ [] ≡ filter_map object_in (take (suc n) (drop 2 stack))
-gathered n stack d ds h e = ap (λ xs. xs ++ d ∷ []) h ∙ sym (next_object n (drop 2 stack) d (below n stack _ e))
+pub gathered : (n : ℕ) (stack : List Datum) (d : Dbref) (ds : List Dbref) → ds ≡ filter_map object_in (take n (drop 2 stack)) → object_at (2 + n) stack ≡ Some d.0 → ds ++ d ∷ [] ≡ filter_map object_in (take (n + 1) (drop 2 stack))
+gathered n stack d ds h e =
+    let next : suc n ≡ n + 1 = omega arith in
+    ap (λ xs. xs ++ d ∷ []) h ∙ sym (next_object n (drop 2 stack) d (below n stack _ e)) ∙ ap (λ k. filter_map object_in (take k (drop 2 stack))) next
 
-pub passed_by : (n : ℕ) (stack : List Datum) (ds : List Dbref) → ds ≡ filter_map object_in (take n (drop 2 stack)) → object_at (2 + n) stack ≡ None → ds ≡ filter_map object_in (take (suc n) (drop 2 stack))
-passed_by n stack ds h e = h ∙ sym (next_other n (drop 2 stack) (below n stack _ e))
+pub passed_by : (n : ℕ) (stack : List Datum) (ds : List Dbref) → ds ≡ filter_map object_in (take n (drop 2 stack)) → object_at (2 + n) stack ≡ None → ds ≡ filter_map object_in (take (n + 1) (drop 2 stack))
+passed_by n stack ds h e =
+    let next : suc n ≡ n + 1 = omega arith in
+    h ∙ sym (next_other n (drop 2 stack) (below n stack _ e)) ∙ ap (λ k. filter_map object_in (take k (drop 2 stack))) next
 
 -- the row, by what stands on the stack
 
@@ -92,8 +97,8 @@ at_place n rest o e = ap (option_and_then as_object) (get_drop n 0 rest ∙ ap (
 pub row_told : (a : Actor) (stack : List Datum) (t : List ℕ) (n : ℕ) (d : Dbref) (w : Live) → counted_in stack ≡ Some (t, n) → object_at (2 + n) stack ≡ Some d.0 →
     notified_but a (take (taken NotifyExclude stack) stack) w ≡ gives [] (tell_but d (filter_map object_in (take n (drop 2 stack))) t w)
 row_told a (text u ∷ int (pos m) ∷ rest) t n d w e o =
-    let same_text : u ≡ t = cc in
-    let same_count : m ≡ n = cc in
+    let same_text : u ≡ t = ap (λ o. option_map_or (λ (p : List ℕ × ℕ). p.0) o u) e in
+    let same_count : m ≡ n = ap (λ o. option_map_or (λ (p : List ℕ × ℕ). p.1) o m) e in
     row_of_taken a u m rest w
     ∙ ap (λ k. told_but u (filter_map object_in (take k rest)) (take 1 (drop k rest)) w) same_count
     ∙ told_place u (filter_map object_in (take n rest)) (drop n rest) d w (at_place n rest _ (below n (text u ∷ int (pos m) ∷ rest) _ o))
@@ -102,7 +107,7 @@ row_told a _ t n d w e o = absurd cc
 
 pub row_nowhere : (a : Actor) (stack : List Datum) (t : List ℕ) (n : ℕ) (w : Live) → counted_in stack ≡ Some (t, n) → object_at (2 + n) stack ≡ None → notified_but a (take (taken NotifyExclude stack) stack) w ≡ refuses BadType
 row_nowhere a (text u ∷ int (pos m) ∷ rest) t n w e o =
-    let same_count : m ≡ n = cc in
+    let same_count : m ≡ n = ap (λ o. option_map_or (λ (p : List ℕ × ℕ). p.1) o m) e in
     row_of_taken a u m rest w
     ∙ ap (λ k. told_but u (filter_map object_in (take k rest)) (take 1 (drop k rest)) w) same_count
     ∙ told_nowhere u (filter_map object_in (take n rest)) (drop n rest) w (at_place n rest _ (below n (text u ∷ int (pos m) ∷ rest) _ o))

@@ -7,7 +7,7 @@ ghost use Rattle.muf_model.specs.View.{view};
 ghost use Rattle.muf_frame.specs.Shown.{Shown, flat};
 ghost use Rattle.muck_perm.specs.Guards.{world_of};
 ghost use Rattle.spec_live.specs.Connections.{is_of, has_player};
-ghost use Rattle.spec_prims.specs.Talk.{counted, with_count, player_at, player_numbered, is_place, player_item, number_item, players, object_in, seats, seat_numbered, seat_at};
+ghost use Rattle.spec_prims.specs.Talk.{counted, with_count, player_at, player_numbered, is_place, player_item, number_item, players, object_in, seated, seat_numbered, seat_at};
 ghost use Rattle.prim_common.specs.Applied.{items_of};
 
 use muck_board::Connection;
@@ -164,14 +164,21 @@ pub(crate) fn excluded(guard: &Guard, frame: &Frame, count: usize) -> Result<Vec
     Ok(objects)
 }
 
-// The numbers of the connections that have a player.
+// The number of a connection that has a player.
+fn seated(connection: &Connection) -> Option<u32>
+    ensures { result ≡ seated connection.now }
+{
+    connection.player()?;
+    Some(connection.number())
+}
+
+// The numbers of the connections that have one.
 fn seats(guard: &Guard) -> Result<Vec<u32>, NoMemory>
-    ensures { IfOk result (λ ds. ds.items ≡ seats (world_of guard.now)) }
+    ensures { IfOk result (λ ds. ds.items ≡ filter_map seated guard.now.board.now.connections) }
 {
     let connections = guard.board().connections().iter();
     let seats = connections
-        .filter(|c| c.has_player())
-        .map(|c| c.number())
+        .filter_map(|c| seated(c))
         .collect(guard.alloc())?;
     Ok(seats)
 }

@@ -2,7 +2,7 @@
 use Rattle.std.specs.Prelude.{ℕ, zero, suc, take, drop, Bool, true, false, ◌&&◌, nat_le, ℤ, pos, negsuc, min, List, [], ◌∷◌, length, map, reverse, slice_get, if◌then◌else◌, Option, Some, None}
 use Rattle.std.specs.List.{filter, filter_map, count_by}
 use Rattle.std.specs.Int.{w32, cast_signed}
-use Rattle.std.specs.Option.{option_map_or}
+use Rattle.std.specs.Option.{option_map_or, option_map}
 use Rattle.muck_model.specs.declared.dbref.Dbref.{Dbref}
 use Rattle.spec_live.specs.Connections.{Connection, is_of, has_player}
 use Rattle.spec_live.specs.Lives.{Live, tell_player, tell_but, leave}
@@ -52,8 +52,11 @@ player_at (pos n) w = player_numbered n w
 player_at (negsuc n) w = None
 
 -- the numbers of the connections that have a player, rising, and the i-th of them, from 1
+abbrev pub seated : Connection → Option ℕ
+seated c = option_map (λ d. c.number) c.player
+
 abbrev pub seats : Live → List ℕ
-seats w = map (λ c. c.number) (filter has_player w.board.connections)
+seats w = filter_map seated w.board.connections
 
 abbrev pub seat_numbered : ℕ → Live → Option ℕ
 seat_numbered zero w = None
