@@ -1,9 +1,5 @@
 -- Worked rows of the primitives that change objects.
-use Rattle.std.specs.Prelude.{◌≡◌, ℕ, pos, negsuc, true, false, List, [], ◌∷◌, codes, None, Ok, refl}
-use Rattle.muck_model.specs.declared.lock.Lock.{Lock}
-use Rattle.muck_model.specs.declared.lock.Lock.TheVariants.{Free, Object as IsObject, Not, Both}
-use Rattle.muck_model.specs.Decimal.{decimal_of}
-use Rattle.muck_model.specs.Numbers.{dbref_of as dbref_in}
+use Rattle.std.specs.Prelude.{◌≡◌, ℕ, pos, negsuc, true, false, List, [], ◌∷◌, codes, None, refl}
 use Rattle.muck_match.specs.Words.{is_same}
 use Rattle.muck_lock.specs.Grammar.{part_of}
 use Rattle.spec_live.specs.Objects.{dbref_of, object_at, number_in, kind_in, object_in, place_in, home, is_vehicle_in, fits_in, path_in}
@@ -19,7 +15,7 @@ use Rattle.spec_rights.specs.Changing.{flag_cleared, flag_set, leveled, named}
 use Rattle.spec_rights.specs.Levels.{level_at, owner_at, flag_at, controls_as, owns, is_player_at}
 use Rattle.spec_rights.specs.Verdict.{controls, controls_or, is_near}
 use Rattle.spec_commands.specs.declared.new.New.TheVariants.{Room, Thing, Exit}
-use Rattle.spec_commands.specs.Building.{is_name, key_kept, placed, tied}
+use Rattle.spec_commands.specs.Building.{is_name, placed, tied}
 use Rattle.spec_commands.specs.Finding.{is_so}
 use Rattle.spec_commands.specs.Settings.{setting_asked}
 use Rattle.muf_model.specs.declared.fault.MufFault.TheVariants.{BadArgument, NoSuchObject, Denied}
@@ -29,7 +25,7 @@ use Rattle.muf_model.specs.Datum.{Datum, text, object}
 use Rattle.muf_model.specs.StackRows.{truth}
 use Rattle.spec_prims.specs.Asking.{level_fault, is_there, near_fault}
 use Rattle.spec_prims.specs.Row.{Row, gives, refuses}
-use Rattle.spec_prims.specs.ObjectWrites.{changed, lock_kept, locked_by, made_so, new_made}
+use Rattle.spec_prims.specs.ObjectWrites.{changed, locked_by, made_so, new_made}
 use Rattle.spec_prims.specs.Shared.{first_fault, shared}
 use Rattle.spec_prims.specs.Rows.{at_first, acting_at}
 
@@ -59,10 +55,6 @@ at_home = object (negsuc 2)
 -- a name upon an object
 abbrev called : List ℕ → Datum → List Datum
 called name x = text name ∷ x ∷ []
-
--- this lock is kept of `#0`
-abbrev lock_of_room : Lock → Row
-lock_of_room lock = lock_kept (dbref_of 0) (key_kept (Ok lock)) at_first
 
 unfoldable pub WritesWorked : Type 0
 WritesWorked =
@@ -104,11 +96,9 @@ WritesWorked =
     × (done Set (called (codes "!V") room) ≡ gives [] (flag_cleared (dbref_of 0) (record { 0 = flag_of 86 }) at_first))
     × (done Set (called (codes "m2") one) ≡ gives [] (leveled (dbref_of 1) 2 at_first))
     × (done Set (called (codes "M2") room) ≡ refuses (Denied 19))
-    -- leave is asked before a lock is read; the free one is the empty text, and of what is no lock nothing is kept
+    -- leave is asked before a lock is read; of what is no lock nothing is kept
     × (tried 2 SetLockStr (called (codes "&") room) ≡ refuses (Denied 16))
     × (done SetLockStr (called (codes "&") room) ≡ gives (truth false ∷ []) at_first)
-    × (done SetLockStr (called (codes "(#1)&!#0") room) ≡ lock_of_room (Both (IsObject (dbref_of 1)) (Not (IsObject (dbref_of 0)))))
-    × (done SetLockStr (called [] room) ≡ lock_of_room Free)
     -- what is made in a place: its number, and the next world
     × (tried 2 NewRoom (called (codes "me") room) ≡ refuses BadArgument)
     × (tried 2 NewRoom (called (codes "Den") room) ≡ refuses (Denied 14))
@@ -118,5 +108,5 @@ WritesWorked =
     × (done NewExit (called (codes "out") room) ≡ gives (object (pos 2) ∷ []) (made_so (Exit (record { 0 = negsuc 0 })) (codes "out") (dbref_of 1) 2 0 at_first))
 
 pub writes_worked : WritesWorked
-unfolding WritesWorked has walk is_so first_tune early_board object_at number_in kind_in object_in place_in is_vehicle_in fits_in path_in create_check owner_judged make_judged may_make free_in objects_most judged move_check recycle_check checked checked_both home_check link_check owner_check room_zero player_one first_objects level_at owner_at flag_at controls_as owns is_player_at controls controls_or is_near is_name is_same level_fault is_there near_fault changed new_made first_fault shared flags_check keeps_seats holds_player level_check setting_asked locked_by part_of dbref_in decimal_of
-writes_worked = (refl, refl, refl, refl, refl, refl, refl, refl, refl, refl, refl, refl, refl, refl, refl, refl, refl, refl, refl, refl, refl, refl, refl, refl, refl, refl, refl, refl, refl, refl, refl, refl, refl, refl, refl, refl, refl, refl, refl, refl, refl)
+unfolding WritesWorked has walk is_so first_tune early_board object_at number_in kind_in object_in place_in is_vehicle_in fits_in path_in create_check owner_judged make_judged may_make free_in objects_most judged move_check recycle_check checked checked_both home_check link_check owner_check room_zero player_one first_objects level_at owner_at flag_at controls_as owns is_player_at controls controls_or is_near is_name is_same level_fault is_there near_fault changed new_made first_fault shared flags_check keeps_seats holds_player level_check setting_asked locked_by part_of
+writes_worked = (refl, refl, refl, refl, refl, refl, refl, refl, refl, refl, refl, refl, refl, refl, refl, refl, refl, refl, refl, refl, refl, refl, refl, refl, refl, refl, refl, refl, refl, refl, refl, refl, refl, refl, refl, refl, refl, refl, refl)
