@@ -24,7 +24,7 @@ fn compiled(alloc: Global, source: &str) -> Option<Code> {
 }
 
 // A frame begins the last word of the code, and runs so many units of it.
-fn ran(alloc: Global, code: &Code, frame: &mut Frame, most: u32) -> Option<u64> {
+fn ran(alloc: Global, code: &Code, frame: &mut Frame, most: u32) -> Option<u32> {
     let word = code.words.get(code.words.len().checked_sub(1)?)?;
     frame
         .begin(alloc, Dbref(2), code.variables, word.start, word.variables)

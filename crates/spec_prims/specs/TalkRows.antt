@@ -2,11 +2,12 @@
 use Rattle.std.specs.Prelude.{◌≡◌, ℕ, ℤ, pos, negsuc, false, List, [], ◌∷◌, codes, Option, Some, None, refl}
 use Rattle.muck_model.specs.declared.dbref.Dbref.{Dbref}
 use Rattle.spec_live.specs.Objects.{dbref_of, object_at, number_in, kind_in, object_in}
-use Rattle.spec_live.specs.Boards.{first_tune, early_board, with_connections}
+use Rattle.spec_live.specs.Boards.{told_others, first_tune, early_board, with_connections}
 use Rattle.spec_live.specs.Connections.{Connection}
 use Rattle.spec_live.specs.Output.{no_output}
 use Rattle.spec_live.specs.Lives.{Live, tell_but, leave}
 use Rattle.spec_live.specs.Start.{room_zero, player_one, first_objects}
+use Rattle.spec_rights.specs.Verdict.{is_near}
 use Rattle.muf_model.specs.declared.fault.MufFault.TheVariants.{BadArgument, NoSuchObject, Denied}
 use Rattle.muf_model.specs.declared.prims.Primitive.TheVariants.{NotifyExclude, IsAwake, Online, ConCount, ConDbref, Descriptors, Descr, ConBoot}
 use Rattle.muf_model.specs.Datum.{Datum, int, text, object}
@@ -60,5 +61,5 @@ TalkRows =
     × (shared ConBoot (acting_at 3 1) None 0 (number 2 ∷ []) crowded ≡ refuses (Denied 1))
 
 pub talk_rows : TalkRows
-unfolding TalkRows tell_but first_tune early_board object_at number_in kind_in object_in room_zero player_one first_objects level_fault is_there near_fault first_fault shared
+unfolding TalkRows tell_but told_others is_near first_tune early_board object_at number_in kind_in object_in room_zero player_one first_objects level_fault is_there near_fault first_fault shared
 talk_rows = (refl, refl, refl, refl, refl, refl, refl, refl, refl, refl, refl, refl, refl, refl, refl, refl, refl, refl, refl, refl)
