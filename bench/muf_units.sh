@@ -3,7 +3,7 @@
 # `dup 1 + swap pop`, and a loop of calls of a word that does nothing. The empty loop is compared with gforth-itc, the threaded
 # interpreter of Debian's gforth, in the same run (skipped where it is missing): turns per second, of which at least a tenth is
 # the aim. First run `rt run -- all` in crates/bench, which builds the program. The best of five runs each.
-program=$(dirname "$0")/../crates/bench/out/bench
+program=${BENCH:-$(dirname "$0")/../crates/bench/out/bench}
 units=10000000
 # Milliseconds of the best of five runs of these words.
 best() {
