@@ -13,8 +13,8 @@ fn scattered(i: u32, count: u32) -> u64
     u64::from(i) * 7919 % u64::from(count)
 }
 
-// The path of the property of this number.
-fn path_of(alloc: Global, number: u64) -> Option<Path> {
+/// The path of the property of this number.
+pub(crate) fn path_of(alloc: Global, number: u64) -> Option<Path> {
     let text = format!(in alloc; "_p{number}").ok()?;
     let text = Line::new(alloc, text.as_bytes()).ok()?;
     read_path(alloc, &text).ok()

@@ -12,7 +12,8 @@ const ROOM_ZERO: Dbref = Dbref(0);
 
 const ONE: Dbref = Dbref(1);
 
-const TUNE: Tune = Tune {
+/// What a wizard tunes, as it is at first.
+pub(crate) const TUNE: Tune = Tune {
     instr_slice: 2000,
     preempt_units: 20_000,
     m1_units: 20_000,
@@ -29,8 +30,8 @@ fn a_name(alloc: Global) -> Option<Line>
     Line::new(alloc, b"Two").ok()
 }
 
-// So many more objects of a kind in Room Zero.
-fn make(db: &mut Db, alloc: Global, kind: Kind, count: u32) -> Option<()> {
+/// So many more objects of a kind in Room Zero.
+pub(crate) fn make(db: &mut Db, alloc: Global, kind: Kind, count: u32) -> Option<()> {
     for _ in 0..count {
         let name = a_name(alloc)?;
         db.create(alloc, kind, name, ONE, ROOM_ZERO).ok()?;

@@ -16,19 +16,31 @@ fn source_of(name: &str) -> &'static str {
     }
 }
 
-fn compiled(alloc: Global, source: &str) -> Option<Code> {
+/// The code of a source of one line.
+pub(crate) fn compiled(alloc: Global, source: &str) -> Option<Code> {
     let mut lines = Vec::new(alloc);
     lines.push(Line::new(alloc, source.as_bytes()).ok()?).ok()?;
     let words = tokens(alloc, lines.as_slice(), &MemIncludes::new(alloc).ok()?).ok()?;
     compile(alloc, &words).ok()
 }
 
-// A frame begins the last word of the code, and runs so many units of it.
-fn ran(alloc: Global, code: &Code, frame: &mut Frame, most: u32) -> Option<u32> {
+/// A frame whose stack has the argument alone.
+pub(crate) fn empty_frame(alloc: Global) -> Option<Frame> {
+    let argument = Line::new(alloc, b"").ok()?;
+    Frame::new(alloc, argument).ok()
+}
+
+/// A frame begins the last word of the code.
+pub(crate) fn begin(alloc: Global, code: &Code, frame: &mut Frame) -> Option<()> {
     let word = code.words.get(code.words.len().checked_sub(1)?)?;
     frame
         .begin(alloc, Dbref(2), code.variables, word.start, word.variables)
-        .ok()?;
+        .ok()
+}
+
+// A frame begins the last word of the code, and runs so many units of it.
+fn ran(alloc: Global, code: &Code, frame: &mut Frame, most: u32) -> Option<u32> {
+    begin(alloc, code, frame)?;
     let _local = run_local(alloc, code, frame, most).ok()?;
     Some(frame.units())
 }
@@ -36,7 +48,7 @@ fn ran(alloc: Global, code: &Code, frame: &mut Frame, most: u32) -> Option<u32> 
 /// The program `loop`, `stack` or `call` runs for so many units; answers how many it took.
 pub fn run(alloc: Global, program: &str, most: u32) -> Option<String> {
     let code = compiled(alloc, source_of(program))?;
-    let mut frame = Frame::new(alloc, Line::new(alloc, b"").ok()?).ok()?;
+    let mut frame = empty_frame(alloc)?;
     let units = ran(alloc, &code, &mut frame, most)?;
     format!(in alloc; "{units} units").ok()
 }
