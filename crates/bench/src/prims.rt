@@ -1,12 +1,10 @@
 // Runs a MUF program that reads and writes properties, and moves and names an object, over a world in which Room Zero has many
 // properties.
-ghost use Rattle.std.specs.Prelude.{◌≡◌};
-
 use crate::props::path_of;
 use crate::talk::{TUNE, make};
 use crate::units::{begin, compiled, empty_frame};
 use muck_board::Board;
-use muck_db::{Db, DbFault};
+use muck_db::Db;
 use muck_model::{Dbref, Kind};
 use muck_perm::Guard;
 use muck_prop::PropValue;
@@ -128,7 +126,7 @@ fn worked(
     format!(in alloc; "{units} units").ok()
 }
 
-/// The program `put`, `get`, `move` or another runs for so many units, where Room Zero has so many properties; answers how many
+/// The program `put`, `get`, `move` or `all` runs for so many units, where Room Zero has so many properties; answers how many
 /// units these were.
 pub fn run(alloc: Global, program: &str, units: u32, properties: u32) -> Option<String> {
     let code = compiled(alloc, source_of(program))?;
