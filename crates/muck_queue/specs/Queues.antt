@@ -1,13 +1,18 @@
 -- The processes of a world, by rising number.
-use Rattle.std.specs.Prelude.{ℕ, ℤ, pos, ◌+ℤ◌, Bool, false, not, ◌&&◌, ◌||◌, ◌==◌, nat_lt, nat_le, int_lt, if◌then◌else◌, List, [], ◌∷◌, ◌++◌, length, map, find, Option}
+use Rattle.std.specs.Prelude.{ℕ, ◌+◌, min, ℤ, pos, ◌+ℤ◌, Bool, true, false, not, ◌&&◌, ◌||◌, ◌==◌, nat_lt, nat_le, int_lt, if◌then◌else◌, List, [], ◌∷◌, ◌++◌, length, map, find, drop, slice_get, Option, Some, None}
 use Rattle.std.specs.List.{filter, reduce, count_by, list_any}
 use Rattle.std.specs.Option.{option_map, option_map_or, option_and_then}
 use Rattle.std.specs.Ordering.{int_eq}
 use Rattle.muck_model.specs.declared.dbref.Dbref.{Dbref}
 use Rattle.muck_model.specs.declared.tune.Tune.{Tune}
 use Rattle.spec_live.specs.Objects.{same, nothing}
-use Rattle.muf_model.specs.Source.{Source}
+use Rattle.muf_model.specs.Datum.{Datum, text}
+use Rattle.muf_model.specs.Source.{Source, handed}
 use Rattle.muf_model.specs.Chains.{programs_of}
+use Rattle.muck_queue.specs.declared.mode.Mode.{Mode}
+use Rattle.muck_queue.specs.declared.mode.Mode.TheVariants.{Preempt, Foreground, Background}
+use Rattle.muck_queue.specs.declared.mode.Wait.{Wait}
+use Rattle.muck_queue.specs.declared.mode.Wait.TheVariants.{Nothing, ForLine, ForEvent}
 use Rattle.muck_queue.specs.declared.process.Process.{Process}
 use Rattle.muck_queue.specs.declared.claim.Claim.{Claim}
 
@@ -36,13 +41,39 @@ is_of player p = same p.player player
 abbrev pub is_on : ℤ → Claim → Bool
 is_on pid c = int_eq c.number pid
 
+-- in preempt nothing else happens until it waits or ends
+abbrev pub is_preempt : Mode → Bool
+is_preempt Preempt = true
+is_preempt mode = false
+
+-- a background process has no connection
+abbrev pub is_background : Mode → Bool
+is_background Background = true
+is_background mode = false
+
+-- it waits for a line of its connection
+abbrev pub is_for_line : Wait → Bool
+is_for_line ForLine = true
+is_for_line wait = false
+
+-- it waits for an event, and none has come
+abbrev pub is_for_event : Wait → List (List ℕ × Datum) → Bool
+is_for_event ForEvent [] = true
+is_for_event wait events = false
+
+abbrev pub is_reading : Process → Bool
+is_reading p = is_for_line p.wait
+
+abbrev pub is_awaiting : Process → Bool
+is_awaiting p = is_for_event p.wait p.events
+
 -- some party has claimed it
 abbrev pub is_claimed : ℤ → List Claim → Bool
 is_claimed pid cs = list_any (is_on pid) cs
 
--- its second has come, and nobody has claimed it
+-- its second has come, it waits for nothing, and nobody has claimed it
 abbrev pub is_due : ℕ → List Claim → Process → Bool
-is_due moment cs p = nat_le p.due moment && not (is_claimed p.number cs)
+is_due moment cs p = nat_le p.due moment && (not (is_reading p) && (not (is_awaiting p) && not (is_claimed p.number cs)))
 
 -- p is due before q, or they are due in the same second and p has the lower number
 abbrev pub is_before : Process → Process → Bool
@@ -50,6 +81,14 @@ is_before p q = nat_lt p.due q.due || (p.due == q.due && int_lt p.number q.numbe
 
 abbrev pub is_tied_to : ℕ → Process → Bool
 is_tied_to d p = option_map_or (λ c. c == d) p.descr false
+
+-- it takes the next line of that connection
+abbrev pub reads_from : ℕ → Process → Bool
+reads_from d p = is_tied_to d p && is_reading p
+
+-- it keeps that connection from anything else
+abbrev pub keeps_busy : ℕ → Process → Bool
+keeps_busy d p = is_tied_to d p && not (is_reading p)
 
 -- the program stands on the call stack: it runs, or is a caller of what runs
 abbrev pub is_in : Dbref → Source → Bool
@@ -71,6 +110,62 @@ without_trigger p = record p { trigger = nothing }
 -- at this state, or without one
 abbrev pub at_state : Option Source → Process → Process
 at_state running p = record p { running = running }
+
+-- so many more, as far as such counts go
+abbrev pub more : ℕ → ℕ → ℕ
+more n count = min (n + count) 18446744073709551615
+
+-- with so many units more, which in preempt are units of its section too
+abbrev pub counted : ℕ → Process → Process
+counted n p = record p { units = more n p.units; section = if is_preempt p.mode then more n p.section else p.section }
+
+-- it waits so, and counts its units anew when it goes on
+abbrev pub resting : Wait → Process → Process
+resting wait p = record p { wait = wait; units = 0; section = 0 }
+
+-- it sleeps until this second
+abbrev pub sleeping : ℕ → Process → Process
+sleeping due p = record (resting Nothing p) { due = due }
+
+-- In another mode. A section that begins has no units yet; in the background a process has no connection, for good.
+abbrev pub in_mode : Mode → Process → Process
+in_mode mode p = record p {
+  mode = mode;
+  descr = if is_background mode then None else p.descr;
+  section = if is_preempt p.mode then p.section else 0;
+}
+
+-- it goes on from this second, with an item more
+abbrev pub with_item : Datum → Process → Process
+with_item x p = record p { running = option_map (handed x) p.running }
+
+abbrev pub going_on : ℕ → Process → Process
+going_on moment p = record p { wait = Nothing; due = moment }
+
+-- the line for which it waited comes, and is an item for it
+abbrev pub told_line : ℕ → List ℕ → Process → Process
+told_line moment line p = with_item (text line) (going_on moment p)
+
+-- the most events that a process has
+abbrev pub events_most : ℕ
+events_most = 64
+
+-- an event comes, behind those that it has; where it waited for one it goes on from this second
+abbrev pub told_event : ℕ → List ℕ × Datum → Process → Process
+told_event moment event p = record p { events = p.events ++ event ∷ []; due = if is_awaiting p then moment else p.due }
+
+-- without its oldest event
+abbrev pub without_event : Process → Process
+without_event p = record p { events = drop 1 p.events }
+
+-- where it waited for an event, and one came, it has that: what came with it, and upon that the name
+abbrev pub given_event : Wait → List (List ℕ × Datum) → Process → Process
+given_event ForEvent (e ∷ events) p = with_item (text e.0) (with_item e.1 (record p { wait = Nothing; events = events }))
+given_event wait events p = p
+
+-- a slice of it begins at this second, and with it a section of its own
+abbrev pub woken : ℕ → Process → Process
+woken moment p = given_event p.wait p.events (record p { due = moment; section = 0 })
 
 -- Lists of processes.
 
@@ -116,9 +211,13 @@ claimed pid party q = record q { claims = q.claims ++ record { number = pid; par
 unfoldable pub released : ℤ → Queue → Queue
 released pid q = record q { claims = filter (λ c. not (is_on pid c)) q.claims }
 
+-- with a change of the process of this number, where it is there
+unfoldable pub on_process : ℤ → (Process → Process) → Queue → Queue
+on_process pid f q = with_processes (changed_first (has_pid pid) f q.processes) q
+
 -- the process of this number stands at this state, or its state is out
-unfoldable pub standing : ℤ → Option Source → Queue → Queue
-standing pid running q = with_processes (changed_first (has_pid pid) (at_state running) q.processes) q
+abbrev pub standing : ℤ → Option Source → Queue → Queue
+standing pid running q = on_process pid (at_state running) q
 
 -- the state of the process of this number, where it is there
 abbrev pub state_of : ℤ → Queue → Option Source
@@ -142,6 +241,22 @@ added p q = record q { processes = q.processes ++ numbered (q.last +ℤ pos 1) p
 -- some process is tied to the connection d
 unfoldable pub is_tied : ℕ → Queue → Bool
 is_tied d q = list_any (is_tied_to d) q.processes
+
+-- some process that is tied to the connection d doesn't wait for its line
+unfoldable pub is_busy : ℕ → Queue → Bool
+is_busy d q = list_any (keeps_busy d) q.processes
+
+-- the number of the process that takes the next line of the connection d
+unfoldable pub reader : ℕ → Queue → Option ℤ
+reader d q = option_map (λ p. p.number) (find (reads_from d) q.processes)
+
+-- the oldest event of the process of this number
+unfoldable pub oldest_event : ℤ → Queue → Option (List ℕ × Datum)
+oldest_event pid q = option_and_then (λ p. slice_get p.events 0) (process pid q)
+
+-- how many events it has
+abbrev pub events_of : ℤ → Queue → ℕ
+events_of pid q = option_map_or (λ p. length p.events) (process pid q) 0
 
 -- without the processes that are tied to the connection d
 unfoldable pub ended_tied : ℕ → Queue → Queue

@@ -3,3 +3,4 @@ pub mod Numbered
 pub mod Room
 pub mod Leading
 pub mod Rows
+pub mod Events

@@ -1,11 +1,13 @@
-// Why a process can't be added.
+// Why a process can't be added, or sent an event.
 use muck_model::NoMemory;
 
-/// Why a process can't be added.
+/// Why a process can't be added, or sent an event.
 #[derive(Clone, Copy, Debug, PartialEq, Eq)]
 pub enum QueueFault {
     /// There are as many processes as may be, in all or of this player, or no number is left.
     ProcessLimit,
+    /// The process has as many events as may wait.
+    TooManyEvents,
     /// Memory was wanted.
     NoMemory,
 }

@@ -2,12 +2,16 @@
 #![tactic(auto)]
 
 mod claim;
+mod events;
 mod fault;
+mod mode;
 mod process;
 mod processes;
 mod queue;
 
 pub use claim::Claim;
+pub use events::{Events, ProcessEvent};
 pub use fault::QueueFault;
-pub use process::{Mode, Process};
+pub use mode::{Mode, Wait};
+pub use process::Process;
 pub use queue::Queue;

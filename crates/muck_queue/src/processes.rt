@@ -1,12 +1,16 @@
 // The processes, by rising number.
-ghost use Rattle.std.specs.Prelude.{◌≡◌, ◌≤◌, length, find, not, map, if◌then◌else◌, Some, None};
+ghost use Rattle.std.specs.Prelude.{◌≡◌, ◌≤◌, OnOk, OnErr, length, find, not, map, if◌then◌else◌, slice_get, Some, None};
 ghost use Rattle.std.specs.List.{count_by, list_any, position, position_or_len};
-ghost use Rattle.std.specs.Option.{option_and_then, option_map_or, option_copied};
-ghost use Rattle.muck_queue.specs.Queues.{at_state, has_pid, is_of, is_due, is_before, is_tied_to, runs, has_trigger, earliest, earlier, changed_first, without_first, without_all, without_trigger};
+ghost use Rattle.std.specs.Option.{option_and_then, option_map, option_map_or, option_copied};
+ghost use Rattle.muck_queue.specs.Queues.{at_state, has_pid, is_of, is_due, is_before, is_tied_to, reads_from, keeps_busy, runs, has_trigger, earliest, earlier, changed_first, without_first, without_all, without_trigger, counted, resting, sleeping, in_mode, told_line, told_event, without_event, woken};
+ghost use Rattle.muck_queue.specs.inner.Events.{shown};
 
 use crate::claim::Claim;
+use crate::events::ProcessEvent;
+use crate::mode::{Mode, Wait};
 use crate::process::Process;
-use muck_model::Dbref;
+use muck_model::{Dbref, NoMemory};
+use muf_model::Text;
 use muf_running::Running;
 
 // The place of a process.
@@ -43,6 +47,20 @@ pub fn is_tied(processes: &[Process], d: u32) -> bool
     ensures { result ≡ list_any (is_tied_to d) processes.now }
 {
     processes.iter().any(|p| p.is_tied_to(d))
+}
+
+/// Whether a process that is tied to a connection doesn't wait for its line.
+pub fn is_busy(processes: &[Process], d: u32) -> bool
+    ensures { result ≡ list_any (keeps_busy d) processes.now }
+{
+    processes.iter().any(|p| p.keeps_busy(d))
+}
+
+/// The process that takes the next line of a connection.
+pub fn reader(processes: &[Process], d: u32) -> Option<&Process>
+    ensures { option_copied result ≡ find (reads_from d) processes.now }
+{
+    processes.iter().find(|p| p.reads_from(d))
 }
 
 // The earlier of two processes, of which the first may be missing.
@@ -90,6 +108,98 @@ pub fn put_back(processes: &mut Vec<Process>, pid: i32, running: Running)
         let p = &mut processes[at];
         p.running = Some(running);
     }
+}
+
+/// A process took so many units.
+pub fn count(processes: &mut Vec<Process>, pid: i32, units: u32)
+    ensures { processes.new.items ≡ changed_first (has_pid pid) (counted units) processes.old.items }
+{
+    let at = place_of(processes, pid);
+    if at < processes.len() {
+        let p = &mut processes[at];
+        p.count(units);
+    }
+}
+
+/// A process waits.
+pub fn rest(processes: &mut Vec<Process>, pid: i32, wait: Wait)
+    ensures { processes.new.items ≡ changed_first (has_pid pid) (resting wait) processes.old.items }
+{
+    let at = place_of(processes, pid);
+    if at < processes.len() {
+        let p = &mut processes[at];
+        p.rest(wait);
+    }
+}
+
+/// A process sleeps until a second.
+pub fn sleep(processes: &mut Vec<Process>, pid: i32, due: u64)
+    ensures { processes.new.items ≡ changed_first (has_pid pid) (sleeping due) processes.old.items }
+{
+    let at = place_of(processes, pid);
+    if at < processes.len() {
+        let p = &mut processes[at];
+        p.sleep(due);
+    }
+}
+
+/// A process is in another mode.
+pub fn set_mode(processes: &mut Vec<Process>, pid: i32, mode: Mode)
+    ensures { processes.new.items ≡ changed_first (has_pid pid) (in_mode mode) processes.old.items }
+{
+    let at = place_of(processes, pid);
+    if at < processes.len() {
+        let p = &mut processes[at];
+        p.set_mode(mode);
+    }
+}
+
+/// The line for which a process waited comes.
+pub fn give_line(processes: &mut Vec<Process>, pid: i32, moment: u64, line: Text)
+    ensures { processes.new.items ≡ changed_first (has_pid pid) (told_line moment line) processes.old.items }
+{
+    let at = place_of(processes, pid);
+    if at < processes.len() {
+        let p = &mut processes[at];
+        p.give_line(moment, line);
+    }
+}
+
+/// A slice of a process begins.
+pub fn wake(processes: &mut Vec<Process>, pid: i32, moment: u64)
+    ensures { processes.new.items ≡ changed_first (has_pid pid) (woken moment) processes.old.items }
+{
+    let at = place_of(processes, pid);
+    if at < processes.len() {
+        let p = &mut processes[at];
+        p.wake(moment);
+    }
+}
+
+/// An event comes for a process, where it is there. After an error nothing has changed.
+pub fn give_event(processes: &mut Vec<Process>, pid: i32, moment: u64, event: ProcessEvent) -> Result<(), NoMemory>
+    ensures ok { OnOk result (processes.new.items ≡ changed_first (has_pid pid) (told_event moment (shown event)) processes.old.items) }
+    ensures err { OnErr result (processes.new.items ≡ processes.old.items) }
+{
+    let at = place_of(processes, pid);
+    if at < processes.len() {
+        let p = &mut processes[at];
+        p.give_event(moment, event)?;
+    }
+    Ok(())
+}
+
+/// Takes out the oldest event of a process; `None`, and nothing has changed, where it has none.
+pub fn take_event(processes: &mut Vec<Process>, pid: i32) -> Option<ProcessEvent>
+    ensures event { option_map shown result ≡ option_and_then (λ p. slice_get p.events 0) (find (has_pid pid) processes.old.items) }
+    ensures rest { processes.new.items ≡ changed_first (has_pid pid) without_event processes.old.items }
+{
+    let at = place_of(processes, pid);
+    if at < processes.len() {
+        let p = &mut processes[at];
+        return p.take_event();
+    }
+    None
 }
 
 /// Takes out the process of a number.

@@ -1,16 +1,21 @@
 // The processes of a world.
-ghost use Rattle.std.specs.Prelude.{◌≡◌, ◌≢◌, length, IfOk, OnOk, OnErr, Some, None};
-ghost use Rattle.std.specs.Option.{option_copied, option_map_or};
-ghost use Rattle.muck_queue.specs.Queues.{empty_queue, process, next_due, claimed, released, standing, state_of, without, is_full, added, is_tied, ended_tied, ended_running, trigger_cleared, number_most};
-ghost use Rattle.muck_queue.specs.inner.Adding.{Adds};
+ghost use Rattle.std.specs.Prelude.{◌≡◌, ◌≢◌, length, is_some, IfOk, OnOk, OnErr, Some, None};
+ghost use Rattle.std.specs.Option.{option_copied, option_map, option_map_or};
+ghost use Rattle.muf_model.specs.View.{view};
+ghost use Rattle.muck_queue.specs.Queues.{empty_queue, process, next_due, claimed, released, on_process, standing, state_of, without, is_full, added, is_tied, is_busy, reader, oldest_event, ended_tied, ended_running, trigger_cleared, number_most, counted, resting, sleeping, in_mode, told_line, without_event, woken};
+ghost use Rattle.muck_queue.specs.inner.Adding.{Adds, Sends};
+ghost use Rattle.muck_queue.specs.inner.Events.{shown};
 ghost use Rattle.muck_queue.specs.inner.Leading.{IsNext};
 ghost use Rattle.muck_queue.specs.inner.Numbered.{IsNumbered};
 
 use crate::claim::{self, Claim};
+use crate::events::ProcessEvent;
 use crate::fault::QueueFault;
+use crate::mode::{Mode, Wait};
 use crate::process::Process;
 use crate::processes;
 use muck_model::{Dbref, NoMemory, Tune};
+use muf_model::{Text, Value};
 use muf_running::Running;
 use std::alloc::Global;
 use std::marker::Model;
@@ -153,7 +158,7 @@ impl Queue {
 
     /// Takes out the state of a process, which keeps its place and its number. `None`, and nothing has changed, where
     /// there is no such process or its state is out.
-    #[tactic(auto, unfolding(crate::specs::Queues::standing))]
+    #[tactic(auto, unfolding(crate::specs::Queues::on_process))]
     pub fn lend(&mut self, pid: i32) -> Option<Running>
         ensures running { result ≡ state_of pid self.old }
         ensures rest { self.new ≡ standing pid None self.old }
@@ -162,20 +167,113 @@ impl Queue {
     }
 
     /// The process of a number stands at this state; nothing has changed where there is no such process.
-    #[tactic(auto, unfolding(crate::specs::Queues::standing))]
+    #[tactic(auto, unfolding(crate::specs::Queues::on_process))]
     pub fn put_back(&mut self, pid: i32, running: Running)
         ensures { self.new ≡ standing pid (Some running) self.old }
     {
         processes::put_back(&mut self.processes, pid, running);
     }
 
-    /// Takes out the process of a number; `None`, and nothing has changed, where there is none.
+    /// Ends the process of a number; answers whether it was there, and where it wasn't nothing has changed.
     #[tactic(auto, unfolding(crate::specs::Queues::without))]
-    pub fn take(&mut self, pid: i32) -> Option<Process>
-        ensures process { result ≡ process pid self.old }
+    pub fn kill(&mut self, pid: i32) -> bool
+        ensures there { result ≡ is_some (process pid self.old) }
         ensures rest { self.new ≡ without pid self.old }
     {
-        processes::take(&mut self.processes, pid)
+        processes::take(&mut self.processes, pid).is_some()
+    }
+
+    /// The process of a number took so many units; where it isn't there nothing has changed, here and in the calls below.
+    #[tactic(auto, unfolding(crate::specs::Queues::on_process))]
+    pub fn count(&mut self, pid: i32, units: u32)
+        ensures { self.new ≡ on_process pid (counted units) self.old }
+    {
+        processes::count(&mut self.processes, pid, units);
+    }
+
+    /// It waits, and counts its units anew when it goes on.
+    #[tactic(auto, unfolding(crate::specs::Queues::on_process))]
+    pub fn rest(&mut self, pid: i32, wait: Wait)
+        ensures { self.new ≡ on_process pid (resting wait) self.old }
+    {
+        processes::rest(&mut self.processes, pid, wait);
+    }
+
+    /// It sleeps until this second, and counts its units anew when it goes on.
+    #[tactic(auto, unfolding(crate::specs::Queues::on_process))]
+    pub fn sleep(&mut self, pid: i32, due: u64)
+        ensures { self.new ≡ on_process pid (sleeping due) self.old }
+    {
+        processes::sleep(&mut self.processes, pid, due);
+    }
+
+    /// It is in another mode: in the background without a connection; in preempt a section begins, where it wasn't in preempt.
+    #[tactic(auto, unfolding(crate::specs::Queues::on_process))]
+    pub fn set_mode(&mut self, pid: i32, mode: Mode)
+        ensures { self.new ≡ on_process pid (in_mode mode) self.old }
+    {
+        processes::set_mode(&mut self.processes, pid, mode);
+    }
+
+    /// The line for which it waited comes, and it goes on from this second.
+    #[tactic(auto, unfolding(crate::specs::Queues::on_process))]
+    pub fn give_line(&mut self, pid: i32, moment: u64, line: Text)
+        ensures { self.new ≡ on_process pid (told_line moment line) self.old }
+    {
+        processes::give_line(&mut self.processes, pid, moment, line);
+    }
+
+    /// A slice of it begins at this second, and with it a section of its own. Where it waited for an event, and one came, it has that.
+    #[tactic(auto, unfolding(crate::specs::Queues::on_process))]
+    pub fn wake(&mut self, pid: i32, moment: u64)
+        ensures { self.new ≡ on_process pid (woken moment) self.old }
+    {
+        processes::wake(&mut self.processes, pid, moment);
+    }
+
+    /// An event comes for the process of a number, behind those that it has; where it waited for one it goes on from this
+    /// second. Answers whether the process is there. `TooManyEvents` comes exactly where it has 64. After an error, and where
+    /// the process isn't there, nothing has changed.
+    #[tactic(auto, unfolding(crate::specs::Queues::on_process))]
+    pub fn event(&mut self, pid: i32, moment: u64, name: Text, data: Value) -> Result<bool, QueueFault>
+        ensures { Sends pid moment (name, view data) self.old self.new result }
+    {
+        let Some(process) = self.get(pid) else {
+            return Ok(false);
+        };
+        if process.events.len() >= 64 {
+            return Err(QueueFault::TooManyEvents);
+        }
+        processes::give_event(&mut self.processes, pid, moment, ProcessEvent { name, data })?;
+        Ok(true)
+    }
+
+    /// Takes out the oldest event of the process of a number; `None`, and nothing has changed, where it has none.
+    #[tactic(auto, unfolding(crate::specs::Queues::on_process))]
+    pub fn take_event(&mut self, pid: i32) -> Option<ProcessEvent>
+        ensures event { option_map shown result ≡ oldest_event pid self.old }
+        ensures rest { self.new ≡ on_process pid without_event self.old }
+    {
+        processes::take_event(&mut self.processes, pid)
+    }
+
+    /// Whether a process that is tied to the connection doesn't wait for its line.
+    #[tactic(auto, unfolding(crate::specs::Queues::is_busy))]
+    pub fn is_busy(&self, d: u32) -> bool
+        ensures { result ≡ is_busy d self.now }
+    {
+        processes::is_busy(&self.processes, d)
+    }
+
+    /// The number of the process that takes the next line of the connection.
+    #[tactic(auto, unfolding(crate::specs::Queues::reader))]
+    pub fn reader(&self, d: u32) -> Option<i32>
+        ensures { result ≡ reader d self.now }
+    {
+        match processes::reader(&self.processes, d) {
+            Some(p) => Some(p.number),
+            None => None,
+        }
     }
 
     /// Whether a process is tied to the connection.

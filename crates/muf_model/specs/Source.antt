@@ -5,7 +5,7 @@ use Rattle.muf_model.specs.declared.code.Closer.{Closer}
 use Rattle.muf_model.specs.declared.code.Closer.TheVariants.{Semicolon}
 use Rattle.muf_model.specs.Datum.{Datum, int, text}
 use Rattle.muf_model.specs.Tree.{Block, word, End, closes, Definition, Tree}
-use Rattle.muf_model.specs.Answer.{Scope, owned_first, call_first}
+use Rattle.muf_model.specs.Answer.{Scope, owned_first, call_first, stack_most}
 
 -- What a loop counts. FOR has its next index, which is none where it left 32 bits, its end and its step. FOREACH has
 -- the keys that are left, each with its value.
@@ -153,6 +153,10 @@ started p d common argument = record {
   end = closes Semicolon d.last;
   marks = [];
 }
+
+-- with an item more, where there is room
+abbrev pub handed : Datum → Source → Source
+handed x s = record s { stack = if nat_lt (length s.stack) stack_most then x ∷ s.stack else s.stack }
 
 -- the word at which a program begins: its last one
 abbrev pub last_word : List Definition → Option Definition
