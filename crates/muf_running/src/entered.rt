@@ -34,3 +34,18 @@ pub(crate) fn numbers_below(alloc: Global, programs: &[Entered]) -> Result<Row<D
     }
     Ok(row)
 }
+
+// The same programs with their codes, which are shared.
+pub(crate) fn copy_entered(alloc: Global, programs: &[Entered]) -> Result<Vec<Entered>, NoMemory>
+    ensures { IfOk result (λ copies. copies.items ≡ programs.now) }
+{
+    let mut copies = Vec::with_capacity(alloc, programs.len())?;
+    let mut at = 0;
+    while at < programs.len() {
+        let program = programs[at].program;
+        let code = programs[at].code.share()?;
+        copies.push(Entered { program, code })?;
+        at += 1;
+    }
+    Ok(copies)
+}

@@ -3,17 +3,18 @@ ghost use Rattle.std.specs.Prelude.{◌≡◌, ◌<◌, ◌≤◌, IfOk, drop, l
 ghost use Rattle.std.specs.Option.{option_map};
 ghost use Rattle.muf_model.specs.Decode.{tree_of};
 ghost use Rattle.muf_model.specs.Flat.{decode, first_code};
-ghost use Rattle.muf_model.specs.Source.{calls_of, passed, entered};
+ghost use Rattle.muf_model.specs.Source.{calls_of, handed, passed, entered};
+ghost use Rattle.muf_model.specs.View.{view};
 ghost use Rattle.muf_model.specs.Stands.{TreeStands};
 ghost use Rattle.muf_model.specs.Chains.{callers_of};
 ghost use Rattle.muf_frame.specs.Shown.{flat};
 ghost use Rattle.muf_running.specs.Fitting.{codes_of, ProgramsFit, program_with, numbers_in, number_among, IsAtPrimitive};
 
 use crate::begin::start_of;
-use crate::entered::{Entered, has_program, numbers_below};
+use crate::entered::{Entered, copy_entered, has_program, numbers_below};
 use muck_model::{Dbref, NoMemory, Row};
 use muf_frame::Frame;
-use muf_model::{Code, Shared};
+use muf_model::{Code, STACK_MOST, Shared, Value};
 use std::alloc::Global;
 use std::marker::Model;
 
@@ -95,6 +96,24 @@ impl Running {
         ensures most { result ≤ 511 }
     {
         self.frame.calls()
+    }
+
+    /// An item more, where there is room.
+    pub fn hand(&mut self, item: Value)
+        ensures { self.new ≡ handed (view item) self.old }
+    {
+        if self.frame.len() < STACK_MOST {
+            self.frame.push_item(item);
+        }
+    }
+
+    /// One that stands at the same state, with a stack and variables of its own.
+    pub fn copy(&self, alloc: Global) -> Result<Running, NoMemory>
+        ensures { IfOk result (λ r. r ≡ self.now) }
+    {
+        let programs = copy_entered(alloc, &self.programs)?;
+        let frame = self.frame.copy(alloc)?;
+        Ok(Running { programs, frame })
     }
 
     /// Goes past a primitive that comes next.
