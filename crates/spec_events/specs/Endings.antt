@@ -1,17 +1,13 @@
 -- Which processes may end.
-use Rattle.std.specs.Prelude.{◌≡◌, ◌⊎◌, ℤ, Bool, true, ◌||◌, List, [], ◌∷◌, Option, Some, None}
-use Rattle.std.specs.Option.{option_map_or}
+use Rattle.std.specs.Prelude.{◌≡◌, ◌⊎◌, ℕ, ℤ, Bool, true, ◌||◌, List, Option, Some, None}
 use Rattle.muck_model.specs.declared.dbref.Dbref.{Dbref}
-use Rattle.spec_live.specs.Objects.{Entry, same, nothing, object_at}
+use Rattle.spec_live.specs.Objects.{Entry, same, object_at}
 use Rattle.spec_live.specs.Lives.{Live}
 use Rattle.spec_rights.specs.declared.act.Actor.{Actor}
 use Rattle.spec_rights.specs.Levels.{owner_at}
 use Rattle.spec_rights.specs.Verdict.{is_master}
-use Rattle.muf_model.specs.Source.{Program}
-use Rattle.muf_model.specs.Chains.{callers_of}
-use Rattle.spec_prims.specs.Asking.{numbered}
 use Rattle.muck_queue.specs.declared.process.Process.{Process}
-use Rattle.muck_queue.specs.Queues.{has_pid, process, runs}
+use Rattle.muck_queue.specs.Queues.{has_pid, process, reads_from, runs}
 use Rattle.spec_commands.specs.Programming.{source_of}
 use Rattle.spec_events.specs.World.{World}
 
@@ -27,17 +23,9 @@ ProcessesLicensed may w v = (pid : ℤ) → Remains may (process pid w.queue) (p
 abbrev pub NoProcess : Process → Type 0
 NoProcess p = ⊥
 
--- the program that was started, which stands last on the call stack
-abbrev pub last_of : Program → List Program → Program
-last_of p [] = p
-last_of p (q ∷ qs) = last_of q qs
-
-abbrev pub started_of : Process → Dbref
-started_of p = option_map_or (λ s. numbered (last_of s.program (callers_of s.marks)).number) p.running nothing
-
 -- its player or the owner of its program is the user, or the actor is at the highest level
 abbrev pub end_open : Actor → List Entry → Process → Bool
-end_open a es p = is_master a || (same p.player a.user || same (owner_at es (started_of p)) a.user)
+end_open a es p = is_master a || (same p.player a.user || same (owner_at es p.program) a.user)
 
 -- a program is gone, or its source is another
 abbrev pub Lapsed : Dbref → Live → Live → Type 0
@@ -48,7 +36,13 @@ pub data MayEnd (a : Actor) (w v : Live) (p : Process) : Type 0 where
   by_actor : end_open a w.objects p ≡ true → MayEnd a w v p
   by_program : (program : Dbref) → runs program p ≡ true → Lapsed program w v → MayEnd a w v p
 
--- in a unit of the process of this number a process may end by itself, or as a consequence for a program on its call stack
-pub data EndsIn (pid : ℤ) (w v : Live) (p : Process) : Type 0 where
-  by_itself : has_pid pid p ≡ true → EndsIn pid w v p
-  by_change : (program : Dbref) → runs program p ≡ true → Lapsed program w v → EndsIn pid w v p
+-- In a unit of the process of this number a process may end by itself, by who acts in the unit, or as a consequence for a
+-- program on its call stack.
+pub data EndsIn (pid : ℤ) (a : Actor) (w v : Live) (p : Process) : Type 0 where
+  by_itself : has_pid pid p ≡ true → EndsIn pid a w v p
+  by_actor : end_open a w.objects p ≡ true → EndsIn pid a w v p
+  by_change : (program : Dbref) → runs program p ≡ true → Lapsed program w v → EndsIn pid a w v p
+
+-- by a line of a connection a process ends that waits for it, where the line says so
+abbrev pub EndsReading : ℕ → Process → Type 0
+EndsReading d p = reads_from d p ≡ true

@@ -1,7 +1,8 @@
 pub mod World
 pub mod Following
-pub mod Slices
 pub mod Starting
+pub mod Slices
+pub mod Sections
 pub mod Lines
 pub mod Steps
 pub mod Endings

@@ -14,8 +14,10 @@ use Rattle.spec_commands.specs.Free.{free_line}
 use Rattle.muck_queue.specs.Queues.{is_tied_to}
 use Rattle.spec_events.specs.declared.starting.Agent.{Agent}
 use Rattle.spec_events.specs.World.{World, connection}
-use Rattle.spec_events.specs.Slices.{Taken, acting, last_world, seat, units_of}
-use Rattle.spec_events.specs.Endings.{ProcessesLicensed, NoProcess, MayEnd, EndsIn}
+use Rattle.muck_queue.specs.Queues.{reader}
+use Rattle.spec_events.specs.Slices.{Taken, acting, after_unit, awake, last_world, seat, units_of}
+use Rattle.spec_events.specs.Sections.{IsWhole}
+use Rattle.spec_events.specs.Endings.{ProcessesLicensed, NoProcess, MayEnd, EndsIn, EndsReading}
 
 -- no object changes, and nothing that is tuned
 pub record Untouched (w v : Live) : Type 0 where
@@ -33,18 +35,21 @@ Undisturbed may w v = Untouched w.live v.live × ProcessesLicensed NoProcess w v
 
 -- The first waiting line is done. By one of a player, what is open to that player by its rights before the line changes,
 -- and processes end that may by the player, or by the change of a source. A line of the login screen changes no object, and
--- lets no connection leave but its own.
-abbrev pub LineLicensed : ℕ → Option Dbref → Option EditState → List (List ℕ) → World → World → Type 0
-LineLicensed d (Some player) editor (line ∷ lines) w v =
+-- lets no connection leave but its own. A line for a process that reads changes nothing but that process.
+abbrev pub LineLicensed : ℕ → Option ℤ → Option Dbref → Option EditState → List (List ℕ) → World → World → Type 0
+LineLicensed d (Some pid) player editor (line ∷ lines) w v =
+    Untouched w.live v.live × ProcessesLicensed (EndsReading d) w v × LeaversLicensed (λ c. false) w.live.board.connections v.live.board.connections
+LineLicensed d None (Some player) editor (line ∷ lines) w v =
     Licensed (actor_of w.live.objects player) (free_for editor (actor_of w.live.objects player) line w.live.objects) w.live v.live
     × ProcessesLicensed (MayEnd (actor_of w.live.objects player) w.live v.live) w v
-LineLicensed d player editor lines w v = Undisturbed (has_number d) w v
+LineLicensed d reader player editor lines w v = Undisturbed (has_number d) w v
 
--- A unit changes only what is open to the running program, by the rights before it. Of the processes it ends its own, and
--- such as run a program that it changed.
+-- A unit changes only what is open to the running program, by the rights before it. Of the processes it ends its own, such as
+-- it may end by those rights, and such as run a program that it changed.
 abbrev pub UnitLicensed : ℤ → Taken → Type 0
 UnitLicensed pid t =
-    Licensed t.actor nobody t.before.live t.after.live × ProcessesLicensed (EndsIn pid t.before.live t.after.live) t.before t.after
+    Licensed t.actor nobody t.before.live (after_unit t).live
+    × ProcessesLicensed (EndsIn pid t.actor t.before.live (after_unit t).live) t.before (after_unit t)
 
 -- A unit of the process begins in this world: at the state where the process stands in it, and by who acts there.
 pub record Begins (pid : ℤ) (w : World) (t : Taken) : Type 0 where
@@ -56,17 +61,18 @@ pub record Begins (pid : ℤ) (w : World) (t : Taken) : Type 0 where
 -- the first unit begins in this world, and each other one where the one before it ended
 abbrev pub Chained : ℤ → World → List Taken → Type 0
 Chained pid w [] = Unit {0}
-Chained pid w (t ∷ ts) = Begins pid w t × Chained pid t.after ts
+Chained pid w (t ∷ ts) = Begins pid w t × Chained pid (after_unit t) ts
 
--- the units of a slice lead from the world before it to the world after it
+-- The units of a slice lead from the world before it, in which the process wakes, to the world after it; and they are whole.
 pub record SliceLicensed (pid : ℤ) (ts : List Taken) (w v : World) : Type 0 where
   pub units : All (UnitLicensed pid) ts
-  pub chained : Chained pid w ts
-  pub leads : v.live ≡ (last_world w ts).live
-  pub processes : v.queue.processes ≡ (last_world w ts).queue.processes
+  pub chained : Chained pid (awake pid w) ts
+  pub leads : v.live ≡ (last_world (awake pid w) ts).live
+  pub processes : v.queue.processes ≡ (last_world (awake pid w) ts).queue.processes
+  pub whole : IsWhole w.live.board.tune pid (awake pid w) ts
 
 abbrev pub TurnLicensed : ℕ → Option Connection → World → World → Type 0
-TurnLicensed d (Some c) w v = LineLicensed d c.player c.editor c.waiting w v
+TurnLicensed d (Some c) w v = LineLicensed d (reader d w.queue) c.player c.editor c.waiting w v
 TurnLicensed d None w v = Undisturbed (has_number d) w v
 
 -- Nothing but a line that is done and a unit that is taken changes an object. Processes end by such a line, when they run, and with the connection

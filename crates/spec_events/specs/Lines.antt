@@ -1,6 +1,8 @@
 -- A line that is done.
-use Rattle.std.specs.Prelude.{ℕ, if◌then◌else◌, List, [], ◌∷◌, ◌++◌, codes, decimal, Option, Some, None, Result, Ok, Err}
+use Rattle.std.specs.Prelude.{ℕ, ℤ, Bool, if◌then◌else◌, List, [], ◌∷◌, ◌++◌, map, codes, decimal, Option, Some, None, Result, Ok, Err}
 use Rattle.std.specs.Option.{option_map_or}
+use Rattle.std.specs.Str.{bytes_eq}
+use Rattle.std.specs.Char.{to_ascii_lowercase}
 use Rattle.muck_model.specs.declared.dbref.Dbref.{Dbref}
 use Rattle.muck_model.specs.declared.edit.EditState.{EditState}
 use Rattle.spec_live.specs.Objects.{object_at}
@@ -11,6 +13,7 @@ use Rattle.muf_model.specs.Tree.{Tree}
 use Rattle.muck_library.specs.declared.flaw.Flaw.{Flaw}
 use Rattle.muck_library.specs.Programs.{built_tree}
 use Rattle.muck_library.specs.Library.{form_kept, form_dropped}
+use Rattle.muck_queue.specs.Queues.{reader, on_process, told_line, without}
 use Rattle.spec_commands.specs.declared.outcome.Outcome.{Outcome}
 use Rattle.spec_commands.specs.declared.outcome.Outcome.TheVariants.{Start, Leave, Edit}
 use Rattle.spec_commands.specs.declared.edit.EditStep.{EditStep}
@@ -19,7 +22,7 @@ use Rattle.spec_commands.specs.Finding.{actor_of}
 use Rattle.spec_commands.specs.Commands.{played}
 use Rattle.spec_commands.specs.Editing.{editor_exited, is_open, edited}
 use Rattle.spec_commands.specs.Talk.{at_login, waits}
-use Rattle.spec_events.specs.World.{World, on_live, with_library}
+use Rattle.spec_events.specs.World.{World, on_live, on_queue, with_library}
 use Rattle.spec_events.specs.Following.{settled}
 use Rattle.spec_events.specs.Starting.{launched}
 
@@ -89,10 +92,28 @@ command None editor d line w = on_live (at_login d line) w
 command (Some player) None d line w = in_world d player line w
 command (Some player) (Some s) d line w = in_editor d player s line (on_live (with_editor d None) w)
 
+-- A process that reads takes the line; by `@Q`, in any case of letters, it ends.
+
+unfoldable pub program_aborted : List ℕ
+program_aborted = codes "Foreground program aborted."
+
+abbrev pub is_abort : List ℕ → Bool
+is_abort line = bytes_eq (map to_ascii_lowercase line) (codes "@q")
+
+unfoldable pub given_line : ℕ → ℤ → List ℕ → World → World
+given_line d pid line w =
+    if is_abort line then on_live (tell d program_aborted) (on_queue (without pid) w)
+    else on_queue (on_process pid (told_line w.moment line)) w
+
+-- the line goes to that process, where there is one, or is done
+abbrev pub line_for : Option ℤ → Option Dbref → Option EditState → ℕ → List ℕ → World → World
+line_for (Some pid) player editor d line w = given_line d pid line w
+line_for None player editor d line w = command player editor d line w
+
 -- the first waiting line of a connection is done
 abbrev pub line_done : ℕ → Option Dbref → Option EditState → List (List ℕ) → World → World
 line_done d player editor [] w = w
-line_done d player editor (line ∷ lines) w = command player editor d line (on_live (waits d lines) w)
+line_done d player editor (line ∷ lines) w = line_for (reader d w.queue) player editor d line (on_live (waits d lines) w)
 
 unfoldable pub done : ℕ → Option Connection → World → World
 done d None w = w

@@ -1,41 +1,40 @@
 -- A slice: the units of a process, one behind the other.
-use Rattle.std.specs.Prelude.{ℕ, zero, suc, ◌+◌, ℤ, Bool, true, false, ◌&&◌, nat_lt, nat_le, if◌then◌else◌, List, [], ◌∷◌, ◌++◌, length, map, find, is_some, codes, Option, Some, None}
+use Rattle.std.specs.Prelude.{ℕ, zero, suc, ◌+◌, ℤ, pos, negsuc, Bool, true, false, not, ◌&&◌, nat_lt, nat_le, if◌then◌else◌, List, [], ◌∷◌, ◌++◌, length, map, find, codes, Option, Some, None, Result, Ok, Err}
 use Rattle.std.specs.Option.{option_map, option_map_or, option_and_then}
 use Rattle.std.specs.Str.{bytes_eq}
 use Rattle.std.specs.Char.{to_ascii_lowercase}
 use Rattle.muck_model.specs.declared.dbref.Dbref.{Dbref}
-use Rattle.muck_model.specs.declared.dbref.Denial.{Denial}
-use Rattle.spec_live.specs.Objects.{Entry, is_program, object_at}
+use Rattle.muck_model.specs.declared.tune.Tune.{Tune}
+use Rattle.spec_live.specs.Objects.{Entry, nothing}
 use Rattle.std.specs.Fmt.{signed_decimal as signed_text}
 use Rattle.spec_live.specs.Lives.{tell_player}
 use Rattle.spec_rights.specs.declared.act.Actor.{Actor}
-use Rattle.spec_rights.specs.declared.act.Act.{Act}
-use Rattle.spec_rights.specs.declared.act.Act.TheVariants.{Shared, Call as CallAct}
 use Rattle.spec_rights.specs.Levels.{level, user}
-use Rattle.spec_rights.specs.Verdict.{verdict}
 use Rattle.muf_model.specs.declared.code.Offer.{Offer}
 use Rattle.muf_model.specs.declared.code.Offer.TheVariants.{Nobody, Wizards, All}
 use Rattle.muf_model.specs.declared.fault.MufFault.{MufFault}
-use Rattle.muf_model.specs.declared.fault.MufFault.TheVariants.{CallsFull, BadType, NoSuchObject, Denied, NotCompiled, NotPublic, TooManyUnits}
+use Rattle.muf_model.specs.declared.fault.MufFault.TheVariants.{CallsFull, NotCompiled, NotPublic, TooManyUnits, PreemptTooLong}
 use Rattle.muf_model.specs.declared.prims.Primitive.{Primitive as Name}
-use Rattle.muf_model.specs.declared.prims.Primitive.TheVariants.{Call}
-use Rattle.muf_model.specs.Prims.{level_of}
 use Rattle.muf_model.specs.Faults.{text_of}
-use Rattle.muf_model.specs.Datum.{Datum, text, object}
-use Rattle.muf_model.specs.Answer.{too_few}
+use Rattle.muf_model.specs.Datum.{Datum, int}
 use Rattle.muf_model.specs.Tree.{Definition, Tree}
-use Rattle.muf_model.specs.Source.{Program, Source, locked_of, calls_of, passed, last_word, entered}
+use Rattle.muf_model.specs.Source.{Program, Source, locked_of, calls_of, handed, passed, last_word, entered}
 use Rattle.muf_model.specs.Unit.{calls_most, Outcome, goes, faulted, asks, unit, fault}
-use Rattle.muf_model.specs.Chains.{callers_of, Deed, does, fails}
+use Rattle.muf_model.specs.Chains.{callers_of}
 use Rattle.spec_prims.specs.Asking.{numbered}
 use Rattle.spec_prims.specs.Row.{Row, gives, refuses}
 use Rattle.spec_prims.specs.Shared.{shared}
 use Rattle.muck_library.specs.Library.{Library, formed}
+use Rattle.muck_queue.specs.declared.mode.Mode.TheVariants.{Background}
+use Rattle.muck_queue.specs.declared.mode.Wait.TheVariants.{Nothing}
 use Rattle.muck_queue.specs.declared.process.Process.{Process}
-use Rattle.muck_queue.specs.Queues.{process, standing, without}
+use Rattle.muck_queue.specs.Queues.{process, on_process, standing, without, counted, woken, is_preempt}
+use Rattle.spec_processes.specs.declared.place.Place.{Place}
+use Rattle.spec_processes.specs.ProcessRows.{Effect, gives as effect_gives, waits, forks, enters, starts, refuses as effect_refuses, processed, is_process, later}
 use Rattle.spec_events.specs.declared.starting.Agent.{Agent}
 use Rattle.spec_events.specs.World.{World, on_live, on_queue, with_library}
 use Rattle.spec_events.specs.Following.{settled}
+use Rattle.spec_events.specs.Starting.{joined, begun}
 
 -- Who acts.
 
@@ -52,6 +51,13 @@ acting x s es = record {
 
 -- A shared primitive, in the state at it.
 
+-- What it did: it was done, and the process goes on behind it, or waits there; or it was refused. The world may have changed
+-- either way.
+pub data Deed (W : Type 0) : Type 0 where
+  does : Source → W → Deed W
+  rests : Source → W → Deed W
+  fails : MufFault → W → Deed W
+
 -- the state behind it, with this stack
 abbrev pub behind : List Datum → Source → Source
 behind stack s = passed (record s { stack = stack })
@@ -65,37 +71,7 @@ lifted s w (refuses f) = fails f w
 unfoldable pub row_done : Agent → Name → Source → World → Deed World
 row_done x p s w = lifted s w (shared p (acting x s w.live.objects) x.descr (locked_of s.marks) s.stack w.live)
 
--- CALL changes nothing but the built forms. The tests that it begins with: `go` says how it goes on where they pass.
-
-abbrev pub Doing : Type 0
-Doing = Library → Deed Library
-
--- n items above the locked part
-unfoldable pub needing : ℕ → Source → Doing → Doing
-needing n s go forms = if nat_lt (length s.stack) (locked_of s.marks + n) then fails (too_few n s.stack) forms else go forms
-
-abbrev pub permitted_by : Option Denial → Doing → Doing
-permitted_by None go forms = go forms
-permitted_by (Some denial) go forms = fails (Denied denial.rule) forms
-
--- leave for an act of the running program
-unfoldable pub permitted : List Entry → Actor → Act → Doing → Doing
-permitted es a act go forms = permitted_by (verdict es a act) go forms
-
--- an object that is there
-unfoldable pub existing : List Entry → ℤ → Doing → Doing
-existing es d go forms = if is_some (object_at (numbered d) es) then go forms else fails NoSuchObject forms
-
--- a program
-unfoldable pub programmed : List Entry → ℤ → Doing → Doing
-programmed es d go forms = if option_map_or (λ o. is_program o.kind) (object_at (numbered d) es) false then go forms else fails BadType forms
-
--- CALL: the last word of a program, or a word of it that is offered.
-
--- how many items CALL takes: two where a text is on the top
-abbrev pub call_count : List Datum → ℕ
-call_count (text t ∷ rest) = 2
-call_count items = 1
+-- CALL: the last word of a program, or a word of it that is offered. It changes nothing but the built forms.
 
 -- a word is offered to all, to programs at the highest level, or to nobody
 abbrev pub is_offered : Actor → Offer → Bool
@@ -108,42 +84,89 @@ abbrev pub called_word : Actor → Option (List ℕ) → Tree → Option Definit
 called_word a None tree = last_word tree.words
 called_word a (Some name) tree = find (λ d. bytes_eq d.name (map to_ascii_lowercase name) && is_offered a d.offer) tree.words
 
--- the word is entered, where there is room for a call
-abbrev pub word_entered : Source → Program → Option Definition → Doing
-word_entered s program None forms = fails NotPublic forms
-word_entered s program (Some d) forms = if nat_lt (calls_of s.marks) calls_most then does (entered program d s) forms else fails CallsFull forms
+-- the word is entered from the state behind CALL, where there is room for a call
+abbrev pub word_entered : Source → Program → Option Definition → World → Deed World
+word_entered s program None w = fails NotPublic w
+word_entered s program (Some d) w = if nat_lt (calls_of s.marks) calls_most then does (entered program d s) w else fails CallsFull w
 
 -- a word of the built form
-abbrev pub form_entered : Actor → Source → ℤ → Option (List ℕ) → Option Tree → Doing
-form_entered a after d name None forms = fails NotCompiled forms
-form_entered a after d name (Some tree) forms =
-    word_entered after (record { number = d; tree = tree }) (called_word a name tree) forms
+abbrev pub form_entered : Actor → Source → ℤ → Option (List ℕ) → Option Tree → World → Deed World
+form_entered a after d name None w = fails NotCompiled w
+form_entered a after d name (Some tree) w = word_entered after (record { number = d; tree = tree }) (called_word a name tree) w
 
 -- the program is built where it isn't yet
-abbrev pub form_called : Actor → Source → ℤ → Option (List ℕ) → Option Tree × Library → Deed Library
-form_called a after d name (form, forms) = form_entered a after d name form forms
+abbrev pub form_called : Actor → Source → ℤ → Option (List ℕ) → Option Tree × Library → World → Deed World
+form_called a after d name (form, library) w = form_entered a after d name form (with_library library w)
 
-unfoldable pub program_called : List Entry → Actor → Source → ℤ → Option (List ℕ) → List Datum → Doing
-program_called es a s d name rest =
-    existing es d (programmed es d (permitted es a (CallAct (numbered d))
-    (λ forms. form_called a (behind rest s) d name (formed es (numbered d) forms))))
+unfoldable pub program_called : Actor → Source → ℤ → Option (List ℕ) → World → Deed World
+program_called a after d name w = form_called a after d name (formed w.live.objects (numbered d) w.library) w
 
-abbrev pub call_items : List Entry → Actor → Source → List Datum → Doing
-call_items es a s (text t ∷ object d ∷ rest) = program_called es a s d (Some t) rest
-call_items es a s (object d ∷ rest) = program_called es a s d None rest
-call_items es a s items = λ forms. fails BadType forms
+-- FORK: a child that stands behind it with a 0, in the background, at once; the parent gets its number, or -1 where there is no
+-- room for it.
 
-unfoldable pub called : List Entry → Actor → Source → Doing
-called es a s = needing 1 s (needing (call_count s.stack) s (permitted es a (Shared (level_of Call)) (call_items es a s s.stack)))
+abbrev pub child_of : ℕ → Source → Process → Process
+child_of moment running p = record p {
+  number = pos 0;
+  due = moment;
+  descr = None;
+  mode = Background;
+  wait = Nothing;
+  units = 0;
+  section = 0;
+  events = [];
+  running = Some running;
+}
 
-abbrev pub with_forms : World → Deed Library → Deed World
-with_forms w (does t forms) = does t (with_library forms w)
-with_forms w (fails f forms) = fails f (with_library forms w)
+abbrev pub with_number : List Datum → Source → World × Result ℤ MufFault → Deed World
+with_number stack s (w, Ok n) = does (behind (int n ∷ stack) s) w
+with_number stack s (w, Err f) = does (behind (int (negsuc 0) ∷ stack) s) w
 
--- What a shared primitive does: CALL enters a program, and every other one has its row.
-unfoldable pub deed : Agent → Name → Source → World → Deed World
-deed x Call s w = with_forms w (called w.live.objects (acting x s w.live.objects) s w.library)
-deed x p s w = row_done x p s w
+abbrev pub child_joined : Option Process → List Datum → Source → World → Deed World
+child_joined None stack s w = fails NotCompiled w
+child_joined (Some p) stack s w = with_number stack s (joined (child_of w.moment (handed (int (pos 0)) (behind stack s)) p) w)
+
+unfoldable pub forked : ℤ → List Datum → Source → World → Deed World
+forked pid stack s w = child_joined (process pid w.queue) stack s w
+
+-- QUEUE: a program is started in the background, so many seconds later, by nothing.
+
+unfoldable pub queued_command : List ℕ
+queued_command = codes "Queued Event."
+
+abbrev pub with_process : List Datum → Source → World × Result ℤ MufFault → Deed World
+with_process stack s (w, Ok n) = does (behind (int n ∷ stack) s) w
+with_process stack s (w, Err f) = fails f w
+
+unfoldable pub queued : Agent → List Datum → ℤ → ℕ → List ℕ → Source → World → Deed World
+queued x stack d seconds argument s w =
+    with_process stack s (begun
+    (record { descr = None; mode = Background; due = later w.moment seconds })
+    (record { player = x.player; program = numbered d; trigger = nothing; command = queued_command; argument = argument }) w)
+
+-- What a primitive of processes does with the processes and their world.
+
+-- where it is used
+abbrev pub place_in : ℤ → Source → World → Place
+place_in pid s w = record { pid = pid; program = numbered s.program.number; caller = first_caller (callers s); moment = w.moment }
+  where
+    abbrev first_caller : List Dbref → Option Dbref
+    first_caller [] = None
+    first_caller (d ∷ ds) = Some d
+
+abbrev pub effected : ℤ → Agent → Source → World → Effect → Deed World
+effected pid x s w (effect_gives stack live queue) = does (behind stack s) (record w { live = live; queue = queue })
+effected pid x s w (waits n stack queue) = rests (behind stack s) (record w { queue = queue })
+effected pid x s w (forks stack) = forked pid stack s w
+effected pid x s w (enters stack d name) = program_called (acting x s w.live.objects) (behind stack s) d name w
+effected pid x s w (starts stack d seconds argument) = queued x stack d seconds argument s w
+effected pid x s w (effect_refuses f) = fails f w
+
+unfoldable pub process_done : ℤ → Agent → Name → Source → World → Deed World
+process_done pid x p s w = effected pid x s w (processed p (place_in pid s w) (acting x s w.live.objects) (locked_of s.marks) s.stack w.live w.queue)
+
+-- What a shared primitive does, in a world that the state of its process is out of.
+unfoldable pub deed : ℤ → Agent → Name → Source → World → Deed World
+deed pid x p s w = if is_process p then process_done pid x p s w else row_done x p s w
 
 -- A unit.
 
@@ -162,9 +185,18 @@ ended_one pid w = on_queue (without pid) w
 abbrev pub broken : ℤ → Dbref → ℤ → MufFault → World → World
 broken pid player program f w = on_live (tell_player player (program_error program f)) (ended_one pid w)
 
--- The world after a unit of a process, which goes on or is over.
+-- its state is out of the world
+abbrev pub out : ℤ → World → World
+out pid w = on_queue (standing pid None) w
+
+-- it took a unit more
+abbrev pub one_counted : ℤ → World → World
+one_counted pid w = on_queue (on_process pid (counted 1)) w
+
+-- The world after a unit of a process, which goes on, or waits, or has ended.
 pub data Turn : Type 0 where
   on : World → Turn
+  rest : World → Turn
   over : World → Turn
 
 -- where a unit went, or a fault of a shared primitive, in the program of this number
@@ -177,43 +209,59 @@ went pid player program o w = over (ended_one pid w)
 -- too. Or it was refused, and the process goes on at the nearest TRY.
 abbrev pub after_deed : ℤ → Dbref → Source → Deed World → Turn
 after_deed pid player s (does t w) = on (settled (stands_at pid t w))
+after_deed pid player s (rests t w) = rest (settled (stands_at pid t w))
 after_deed pid player s (fails f w) = went pid player s.program.number (fault f s) w
 
 abbrev pub unit_done : ℤ → Agent → ℤ → Outcome → World → Turn
-unit_done pid x program (asks p s) w = after_deed pid x.player s (deed x p s w)
+unit_done pid x program (asks p s) w = after_deed pid x.player s (deed pid x p s (out pid w))
 unit_done pid x program o w = went pid x.player program o w
 
--- the fault of a unit that would be one too many, where so many are left
-abbrev pub limit_fault : ℕ → Option MufFault
-limit_fault zero = Some TooManyUnits
-limit_fault (suc n) = None
+-- Limits.
+
+-- the most units that a process takes at this level until it waits, where there is a limit
+abbrev pub units_most : Tune → ℕ → Option ℕ
+units_most tune level = if nat_lt level 2 then Some tune.m1_units else (if nat_lt level 3 then Some tune.m2_units else None)
+
+abbrev pub are_spent : Option ℕ → ℕ → Bool
+are_spent most units = option_map_or (λ n. nat_le n units) most false
+
+-- the fault of a unit that would be one too many, for its section or else for its level
+abbrev pub limit_fault : Tune → ℕ → Agent → Option MufFault
+limit_fault tune level x =
+    if is_preempt x.mode && nat_le tune.preempt_units x.section then Some PreemptTooLong
+    else (if are_spent (units_most tune level) x.units then Some TooManyUnits else None)
 
 abbrev pub within_limit : Option MufFault → ℤ → Agent → Source → World → Turn
 within_limit (Some f) pid x s w = over (broken pid x.player s.program.number f w)
-within_limit None pid x s w = unit_done pid x s.program.number (unit s) w
+within_limit None pid x s w = unit_done pid x s.program.number (unit s) (one_counted pid w)
 
--- the next unit of a process that stands at s, where so many are left
-unfoldable pub turn : ℕ → ℤ → Agent → Source → World → Turn
-turn left pid x s w = within_limit (limit_fault left) pid x s w
+-- the next unit of a process that stands at s
+unfoldable pub turn : Tune → ℤ → Agent → Source → World → Turn
+turn tune pid x s w = within_limit (limit_fault tune (acting x s w.live.objects).level x) pid x s w
 
 -- A slice.
 
--- a unit that was taken: the world before it, where the process stood, who acted, and the world after it
+-- a unit that was taken: the world before it, where the process stood, who acted, and how it went
 pub record Taken : Type 0 where
   pub before : World
   pub state : Source
   pub actor : Actor
-  pub after : World
+  pub turn : Turn
 
 abbrev pub world_of : Turn → World
 world_of (on w) = w
+world_of (rest w) = w
 world_of (over w) = w
 
+-- the world after it
+abbrev pub after_unit : Taken → World
+after_unit t = world_of t.turn
+
 abbrev pub unit_of : Agent → Source → World → Turn → Taken
-unit_of x s w t = record { before = w; state = s; actor = acting x s w.live.objects; after = world_of t }
+unit_of x s w t = record { before = w; state = s; actor = acting x s w.live.objects; turn = t }
 
 abbrev pub agent_of : Process → Agent
-agent_of p = record { player = p.player; trigger = p.trigger; descr = p.descr }
+agent_of p = record { player = p.player; trigger = p.trigger; descr = p.descr; mode = p.mode; units = p.units; section = p.section }
 
 -- for whom a process acts as the world is, and where it stands
 abbrev pub seat_of : Process → Option (Agent × Source)
@@ -224,23 +272,43 @@ seat pid w = option_and_then seat_of (process pid w.queue)
 
 abbrev pub then_more : (World → List Taken) → Turn → List Taken
 then_more more (on w) = more w
+then_more more (rest w) = []
 then_more more (over w) = []
 
--- the units of a process that has so many left, while it is there and goes on
-unfoldable pub run_of : ℕ → ℤ → World → List Taken
-run_of zero pid w = option_map_or (λ (q : Agent × Source). unit_of q.0 q.1 w (turn zero pid q.0 q.1 w) ∷ []) (seat pid w) []
-run_of (suc n) pid w =
-    option_map_or (λ (q : Agent × Source). unit_of q.0 q.1 w (turn (suc n) pid q.0 q.1 w) ∷ then_more (run_of n pid) (turn (suc n) pid q.0 q.1 w)) (seat pid w) []
+-- the most units of a slice: those of a slice outside preempt, those of a section that begins in the last of them, and the one
+-- that is too many
+abbrev pub slice_most : Tune → ℕ
+slice_most tune = tune.instr_slice + suc tune.preempt_units
+
+-- of so many units that are left, no more are for a process outside preempt
+abbrev pub is_through : Tune → ℕ → Agent → Bool
+is_through tune left x = not (is_preempt x.mode) && nat_le left (suc tune.preempt_units)
+
+-- the unit that a process takes, and what `more` says follows it
+abbrev pub unit_then : Tune → ℤ → World → (World → List Taken) → Agent × Source → List Taken
+unit_then tune pid w more (x, s) = unit_of x s w (turn tune pid x s w) ∷ then_more more (turn tune pid x s w)
+
+abbrev pub next_unit : Tune → ℕ → ℤ → World → (World → List Taken) → Agent × Source → List Taken
+next_unit tune left pid w more (x, s) = if is_through tune left x then [] else unit_then tune pid w more (x, s)
+
+-- the units of a process, while it is there and goes on, and so many are left
+unfoldable pub run_of : Tune → ℕ → ℤ → World → List Taken
+run_of tune zero pid w = []
+run_of tune (suc n) pid w = option_map_or (next_unit tune (suc n) pid w (run_of tune n pid)) (seat pid w) []
 
 -- the world after them
 abbrev pub last_world : World → List Taken → World
 last_world w [] = w
-last_world w (t ∷ ts) = last_world t.after ts
+last_world w (t ∷ ts) = last_world (after_unit t) ts
 
--- a slice has as many units as any process may take
+-- a slice of the process begins
+abbrev pub awake : ℤ → World → World
+awake pid w = on_queue (on_process pid (woken w.moment)) w
+
+-- the units of a slice, by what is tuned as it begins
 abbrev pub units_of : ℤ → World → List Taken
-units_of pid w = run_of w.live.board.tune.m2_units pid w
+units_of pid w = run_of w.live.board.tune (slice_most w.live.board.tune) pid (awake pid w)
 
 -- what the slice of a process makes of the world
 unfoldable pub sliced : ℤ → World → World
-sliced pid w = last_world w (units_of pid w)
+sliced pid w = last_world (awake pid w) (units_of pid w)

@@ -1,9 +1,12 @@
 -- A program is started.
-use Rattle.std.specs.Prelude.{ℕ, ℤ, pos, ◌+ℤ◌, if◌then◌else◌, Option, Some, None, Result, Ok, Err}
+use Rattle.std.specs.Prelude.{ℕ, ℤ, pos, ◌+ℤ◌, if◌then◌else◌, [], Option, Some, None, Result, Ok, Err}
 use Rattle.muck_model.specs.declared.dbref.Denial.{Denial}
 use Rattle.spec_live.specs.Lives.{tell, place_at}
 use Rattle.spec_rights.specs.declared.act.Actor.{Actor}
 use Rattle.spec_rights.specs.declared.act.Act.TheVariants.{Start}
+use Rattle.muck_model.specs.declared.dbref.Dbref.{Dbref}
+use Rattle.spec_live.specs.Flags.{builder}
+use Rattle.spec_rights.specs.Levels.{flag_at}
 use Rattle.spec_rights.specs.Verdict.{verdict}
 use Rattle.spec_rights.specs.Asking.{refused}
 use Rattle.muf_model.specs.declared.fault.MufFault.{MufFault}
@@ -15,7 +18,9 @@ use Rattle.muf_running.specs.declared.begin.Occasion.{Occasion}
 use Rattle.muf_running.specs.Begins.{common_of}
 use Rattle.muck_library.specs.Library.{Library, formed}
 use Rattle.muck_queue.specs.declared.process.Process.{Process}
-use Rattle.muck_queue.specs.declared.process.Mode.TheVariants.{Foreground}
+use Rattle.muck_queue.specs.declared.mode.Mode.{Mode}
+use Rattle.muck_queue.specs.declared.mode.Mode.TheVariants.{Preempt, Foreground}
+use Rattle.muck_queue.specs.declared.mode.Wait.TheVariants.{Nothing}
 use Rattle.muck_queue.specs.Queues.{is_full, added}
 use Rattle.spec_events.specs.declared.starting.Call.{Call}
 use Rattle.spec_events.specs.declared.starting.Manner.{Manner}
@@ -29,9 +34,13 @@ occasion c w = record { player = c.player; place = place_at c.player w.live; tri
 abbrev pub beginning : Call → Tree → Definition → World → Source
 beginning c tree word w = started (record { number = c.program.0; tree = tree }) word (common_of (occasion c w)) c.argument
 
--- as a command starts it: tied to the connection d, in the foreground, and at once
-abbrev pub foreground : ℕ → World → Manner
-foreground d w = record { descr = Some d; mode = Foreground; due = w.moment }
+-- a command starts a program with flag B in preempt
+abbrev pub first_mode : Dbref → World → Mode
+first_mode program w = if flag_at builder w.live.objects program then Preempt else Foreground
+
+-- as a command starts it: tied to the connection d, and at once
+abbrev pub by_command : ℕ → Dbref → World → Manner
+by_command d program w = record { descr = Some d; mode = first_mode program w; due = w.moment }
 
 unfoldable pub new_process : Manner → Call → Source → Process
 new_process m c running = record {
@@ -40,8 +49,13 @@ new_process m c running = record {
   player = c.player;
   trigger = c.trigger;
   command = c.command;
+  program = c.program;
   descr = m.descr;
   mode = m.mode;
+  wait = Nothing;
+  units = 0;
+  section = 0;
+  events = [];
   running = Some running;
 }
 
@@ -72,7 +86,7 @@ start_told d (w, Err fault) = on_live (tell d (text_of fault)) w
 
 abbrev pub start_judged : ℕ → Call → Option Denial → World → World
 start_judged d c (Some denial) w = on_live (refused d denial) w
-start_judged d c None w = start_told d (begun (foreground d w) c w)
+start_judged d c None w = start_told d (begun (by_command d c.program w) c w)
 
 -- An actor starts a program from the connection d, by leave.
 unfoldable pub launched : ℕ → Actor → Call → World → World

@@ -1,15 +1,15 @@
 -- Which entries are lawful, and what each does.
-use Rattle.std.specs.Prelude.{◌≡◌, ℕ, ℤ, Bool, true, false, not, ◌&&◌, ◌||◌, ◌==◌, find, nat_lt, if◌then◌else◌, length, Option, None, is_some, is_none}
+use Rattle.std.specs.Prelude.{◌≡◌, ℕ, ◌+◌, ℤ, Bool, true, false, not, ◌&&◌, ◌||◌, ◌==◌, find, nat_lt, nat_le, if◌then◌else◌, length, Option, None, is_some, is_none}
 use Rattle.std.specs.Option.{option_map, option_map_or}
 use Rattle.std.specs.List.{list_any}
 use Rattle.muck_model.specs.declared.event.Entry.{Entry}
 use Rattle.muck_model.specs.declared.event.Event.{Event}
-use Rattle.muck_model.specs.declared.event.Event.TheVariants.{Opened, Input, Closed, Exec, Claim, Slice, Lost, Take, Halt, Died}
+use Rattle.muck_model.specs.declared.event.Event.TheVariants.{Opened, Input, Closed, Moment, Exec, Claim, Slice, Lost, Idle, Take, Halt, Died}
 use Rattle.spec_live.specs.Connections.{Connection, is_ready, connections_most, takes_line, holds}
 use Rattle.spec_live.specs.Boards.{opened, line_added, bytes_taken}
 use Rattle.spec_live.specs.Lives.{on_board}
 use Rattle.muck_queue.specs.declared.process.Process.{Process}
-use Rattle.muck_queue.specs.Queues.{has_pid, process, is_due, is_on, next_due, claimed, released, is_tied, ended_tied}
+use Rattle.muck_queue.specs.Queues.{has_pid, process, is_due, is_on, next_due, claimed, released, is_busy, ended_tied}
 use Rattle.spec_commands.specs.Talk.{welcome, gone_away}
 use Rattle.spec_events.specs.World.{World, connection, unasked, on_live, on_queue, on_dumps}
 use Rattle.spec_events.specs.Lines.{done}
@@ -19,9 +19,9 @@ use Rattle.spec_events.specs.Slices.{sliced}
 abbrev pub passes : (Connection → Bool) → ℕ → World → Bool
 passes test d w = option_map_or test (connection d w) false
 
--- a line waits that may be done, and no process is tied to the connection
+-- a line waits that may be done, and no process keeps the connection from it: one that is tied to it waits for the line
 abbrev pub is_free : World → Connection → Bool
-is_free w c = is_ready c && not (is_tied c.number w.queue)
+is_free w c = is_ready c && not (is_busy c.number w.queue)
 
 -- some process of that number passes
 abbrev pub has_process : (Process → Bool) → ℤ → World → Bool
@@ -35,16 +35,35 @@ is_there pid w = is_some (process pid w.queue)
 abbrev pub has_claim : ℕ → ℤ → World → Bool
 has_claim party pid w = list_any (λ c. is_on pid c && c.party == party) w.queue.claims
 
+-- a line may be done
+abbrev pub has_line : World → Bool
+has_line w = list_any (is_free w) w.live.board.connections && not w.stopping
+
+-- a process may be claimed
+abbrev pub has_due : World → Bool
+has_due w = list_any (is_due w.moment w.queue.claims) w.queue.processes && not w.stopping
+
+-- a dump is asked, or so many seconds passed since the last one began
+abbrev pub is_dump_due : World → Bool
+is_dump_due w = is_some w.dumps.asked || nat_le (w.dumps.last + w.live.board.tune.dump_interval) w.moment
+
+-- A party may idle where there is nothing for it to do: the porter and the workers, 0 to 8, where no line may be done and no
+-- process claimed, the dumper, 9, where no dump is asked or due.
+abbrev pub may_idle : World → ℕ → Bool
+may_idle w party = if nat_lt party 9 then not (has_line w) && not (has_due w) else party == 9 && not (is_dump_due w)
+
 -- Lawful in a world that isn't dead. Connections and what runs over them are the first party's alone, and so is the end of
--- the run; lines and processes are any party's. Of the events that nothing uses yet Lost alone is lawful anywhere.
+-- the run; lines and processes are any party's. Events that nothing uses yet are lawful nowhere.
 abbrev pub is_allowed : World → ℕ → Event → Bool
 is_allowed w party (Opened d) = party == 0 && is_none (connection d w) && nat_lt (length w.live.board.connections) connections_most && not w.stopping
 is_allowed w party (Input d line) = party == 0 && passes takes_line d w && not w.stopping
 is_allowed w party (Closed d) = party == 0 && is_some (connection d w)
+is_allowed w party (Moment t) = party == 0 && nat_le w.moment t
 is_allowed w party (Exec d) = passes (is_free w) d w && not w.stopping
 is_allowed w party (Claim pid) = has_process (is_due w.moment w.queue.claims) pid w && not w.stopping
 is_allowed w party (Slice pid) = has_claim party pid w && is_there pid w
 is_allowed w party (Lost pid) = has_claim party pid w && not (is_there pid w)
+is_allowed w party Idle = may_idle w party
 is_allowed w party (Take d n) = party == 0 && nat_lt 0 n && passes (holds n) d w
 is_allowed w party Halt = party == 0
 is_allowed w party Died = true
@@ -63,6 +82,7 @@ abbrev pub happened : World → ℕ → Event → World
 happened w party (Opened d) = on_live (on_board (opened d welcome)) w
 happened w party (Input d line) = on_live (on_board (line_added d line)) w
 happened w party (Closed d) = on_dumps (unasked d) (on_queue (ended_tied d) (on_live (gone_away d) w))
+happened w party (Moment t) = record w { moment = t }
 happened w party (Exec d) = done d (connection d w) w
 happened w party (Claim pid) = on_queue (claimed pid party) w
 happened w party (Slice pid) = on_queue (released pid) (sliced pid w)

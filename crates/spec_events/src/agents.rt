@@ -3,16 +3,15 @@ ghost use Rattle.std.specs.Prelude.{◌≡◌, ℤ, ℕ, true};
 ghost use Rattle.muck_model.specs.declared.dbref.Dbref.{Dbref};
 ghost use Rattle.spec_live.specs.Objects.{dbref_of};
 ghost use Rattle.muf_model.specs.Source.{Source};
-ghost use Rattle.muf_model.specs.Chains.{does};
 ghost use Rattle.spec_events.specs.World.{World};
 ghost use Rattle.spec_events.specs.Following.{is_marked, NoneIn};
-ghost use Rattle.spec_events.specs.Slices.{after_deed, agent_of, world_of};
+ghost use Rattle.spec_events.specs.Slices.{does, after_deed, agent_of, world_of};
 
 use crate::starting::Agent;
 use muck_queue::Process;
 
 impl Agent {
-    /// For whom this process acts: its player, what started it, and its connection.
+    /// For whom this process acts: its player, what started it, and its connection; and how far it is.
     pub fn of(process: &Process) -> Self
         ensures { result ≡ agent_of process.now }
     {
@@ -20,6 +19,9 @@ impl Agent {
             player: process.player,
             trigger: process.trigger,
             descr: process.descr,
+            mode: process.mode,
+            units: process.units,
+            section: process.section,
         }
     }
 }

@@ -28,7 +28,7 @@ pub struct Manner {
     pub due: u64,
 }
 
-/// For whom a process acts.
+/// For whom a process acts, and how far it is.
 #[derive(Clone, Copy, Debug, PartialEq, Eq)]
 pub struct Agent {
     /// Its player.
@@ -37,4 +37,10 @@ pub struct Agent {
     pub trigger: Dbref,
     /// The connection to which it is tied.
     pub descr: Option<u32>,
+    /// How it runs.
+    pub mode: Mode,
+    /// The units that it took since its start or its last wait.
+    pub units: u64,
+    /// In preempt, the units of its section.
+    pub section: u64,
 }

@@ -23,7 +23,7 @@ use Rattle.muf_model.specs.Ladder.{wanted}
 use Rattle.muf_model.specs.Needs.{Needs, takes, a_text, one_there}
 use Rattle.muf_model.specs.Prims.{family_of, level_of, needs_of}
 use Rattle.muf_model.specs.StackRows.{truth}
-use Rattle.muf_model.specs.TextRows.{text_most}
+use Rattle.muck_model.specs.Bytes.{text_most}
 use Rattle.muf_model.specs.Values.{fits}
 use Rattle.spec_prims.specs.Asking.{numbered, fault_of}
 use Rattle.spec_prims.specs.Shared.{fault_by}
