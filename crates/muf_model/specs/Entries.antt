@@ -3,8 +3,13 @@ use Rattle.std.specs.Prelude.{◌≡◌, ℕ, zero, suc, Bool, true, false, List
 use Rattle.std.specs.Ordering.{int_eq}
 use Rattle.muf_model.specs.declared.value.MapKey.{MapKey}
 use Rattle.muf_model.specs.declared.value.MapKey.TheVariants.{Number, Name}
-use Rattle.muf_model.specs.Datum.{Datum}
+use Rattle.muf_model.specs.Datum.{Datum, int, text}
 use Rattle.muf_model.specs.Measures.{key_below}
+
+-- a key as a value
+abbrev pub key_datum : MapKey → Datum
+key_datum (Number n) = int n
+key_datum (Name t) = text t
 
 -- whether two keys are one
 abbrev pub key_same : MapKey → MapKey → Bool

@@ -9,12 +9,11 @@ use Rattle.muf_model.specs.declared.code.Closer.TheVariants.{Semicolon, Repeat, 
 use Rattle.muf_model.specs.declared.fault.MufFault.{MufFault}
 use Rattle.muf_model.specs.declared.fault.MufFault.TheVariants.{StackEmpty, CallsFull, BadType, BadArgument, BadAddress}
 use Rattle.muf_model.specs.declared.prims.Primitive.{Primitive as Name}
-use Rattle.muf_model.specs.declared.value.MapKey.{MapKey}
-use Rattle.muf_model.specs.declared.value.MapKey.TheVariants as key
 use Rattle.muf_model.specs.Prims.{is_local}
 use Rattle.muf_model.specs.Faults.{text_of, is_final}
 use Rattle.muf_model.specs.Datum.{Datum, int, text, object, variable, address, items, dict, Data, no_data, datum, Pairs, no_pairs, pair}
 use Rattle.muf_model.specs.Measures.{is_true}
+use Rattle.muf_model.specs.Entries.{key_datum}
 use Rattle.muf_model.specs.Answer.{Answer, gives, stores, calls, refuses, variable_at, needing, fitting, too_few}
 use Rattle.muf_model.specs.StackRows.{stored}
 use Rattle.muf_model.specs.Rows.{primitive}
@@ -228,10 +227,6 @@ for_unit s body c last =
 abbrev pub numbered : ℕ → Data → List (Datum × Datum)
 numbered n no_data = []
 numbered n (datum d ds) = (int (pos n), d) ∷ numbered (suc n) ds
-
-abbrev pub key_datum : MapKey → Datum
-key_datum (key.Number n) = int n
-key_datum (key.Name t) = text t
 
 abbrev pub keyed : Pairs → List (Datum × Datum)
 keyed no_pairs = []

@@ -7,7 +7,8 @@ use Rattle.muf_model.specs.declared.value.MapKey.{MapKey}
 use Rattle.muf_model.specs.Datum.{Datum, int, data_of, pairs_of}
 use Rattle.muf_model.specs.View.{view, pair_view}
 use Rattle.muf_model.specs.Source.{pairs}
-use Rattle.muf_model.specs.Unit.{numbered, keyed, key_datum}
+use Rattle.muf_model.specs.Entries.{key_datum}
+use Rattle.muf_model.specs.Unit.{numbered, keyed}
 use Rattle.muf_model.specs.Flat.{FlatMark, loop, Flat}
 use Rattle.muf_run.specs.Machine as machine
 use Rattle.muf_run.specs.Keys.{pull, turn_with}

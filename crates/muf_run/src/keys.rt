@@ -3,7 +3,8 @@ ghost use Rattle.std.specs.Prelude.{◌≡◌, ◌<◌, ◌+◌, ℕ, IfOk, slic
 ghost use Rattle.std.specs.Arc.{arc_value};
 ghost use Rattle.muf_model.specs.Datum.{int, data_of, pairs_of};
 ghost use Rattle.muf_model.specs.View.{view};
-ghost use Rattle.muf_model.specs.Unit.{numbered, keyed, key_datum};
+ghost use Rattle.muf_model.specs.Entries.{key_datum};
+ghost use Rattle.muf_model.specs.Unit.{numbered, keyed};
 ghost use Rattle.muf_model.specs.Flat.{Flat};
 ghost use Rattle.muf_frame.specs.Shown.{flat, flat_turns, opened_by};
 ghost use Rattle.muf_run.specs.Keys.{pull, pulled_data, turn_with};
