@@ -1,17 +1,10 @@
--- A process: what a shared primitive did, the programs that it is in, and how many units are taken.
+-- A process: the programs that it is in, and how many units are taken.
 use Rattle.std.specs.Prelude.{◌≡◌, ℕ, zero, suc, drop, List, [], ◌∷◌}
-use Rattle.muf_model.specs.declared.fault.MufFault.{MufFault}
 use Rattle.muf_model.specs.declared.prims.Primitive.{Primitive as Name}
 use Rattle.muf_model.specs.declared.code.Word.TheVariants.{Primitive}
 use Rattle.muf_model.specs.Tree.{Block, word}
 use Rattle.muf_model.specs.Source.{Program, Mark, looping, trying, calling, entering, Source}
 use Rattle.muf_model.specs.Unit.{Outcome, goes, ended, faulted, asks, stuck, unit}
-
--- What a shared primitive did, from the state at it: it was done, and the state is behind it; or it was refused. The
--- world may have changed either way.
-pub data Deed (W : Type 0) : Type 0 where
-  does : Source → W → Deed W
-  fails : MufFault → W → Deed W
 
 -- the programs that a process is in below the running one, the nearest first
 abbrev pub callers_of : List Mark → List Program
