@@ -7,4 +7,4 @@ mod order;
 mod parts;
 
 pub use made::{Made, give};
-pub use order::ready;
+pub use order::{ready, ready_needing};

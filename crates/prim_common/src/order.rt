@@ -65,8 +65,9 @@ fn test_fixed(
     Ok(count)
 }
 
+/// The tests of [`ready`] for a primitive that needs this on the stack, at this level; for one whose needs depend on what is there.
 #[inline(always)]
-fn test_all(
+pub fn ready_needing(
     needs: &Needs,
     level: u8,
     argued: Option<MufFault>,
@@ -101,7 +102,7 @@ pub fn ready(
 {
     let row = prim.row();
     match row.needs {
-        Some(needs) => test_all(needs, row.level, argued, guard, frame),
+        Some(needs) => ready_needing(needs, row.level, argued, guard, frame),
         None => Err(MufFault::NotCompiled),
     }
 }

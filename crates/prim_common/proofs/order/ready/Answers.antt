@@ -10,22 +10,22 @@ use Rattle.prim_common.proofs.Counts.{needs_few}
 use Rattle.prim_common.proofs.First.{first_some, first_none}
 use Rattle.prim_common.proofs.order.ready.Goals as goal
 
-pub test_all-requires : goal.test_all-requires
-test_all-requires c =
+pub ready_needing-requires : goal.ready_needing-requires
+ready_needing-requires c =
     let needs : needs_of c.args.prim ≡ Some (shown_needs c.in-Some.needs) = ap (λ r. r.needs) (sym c.row-row.ensures) ∙ ap (option_map shown_needs) c.in-Some.is in
     needs_few c.args.prim (shown_needs c.in-Some.needs) needs
 
 pub returns-in-Some-clause-count : goal.returns-in-Some-clause-count
 returns-in-Some-clause-count c =
     let needs : needs_of c.args.prim ≡ Some (shown_needs c.in-Some.needs) = ap (λ r. r.needs) (sym c.row-row.ensures) ∙ ap (option_map shown_needs) c.in-Some.is in
-    subst (λ o. IfOk c.test_all.result (λ n. n ≡ option_map_or (λ needs. length (wanted needs (flat c.args.frame.now).stack)) o 0)) (sym needs) c.test_all.ensures.count
+    subst (λ o. IfOk c.ready_needing.result (λ n. n ≡ option_map_or (λ needs. length (wanted needs (flat c.args.frame.now).stack)) o 0)) (sym needs) c.ready_needing.ensures.count
 
 pub returns-in-Some-clause-pass : goal.returns-in-Some-clause-pass
 returns-in-Some-clause-pass c =
     let needs : needs_of c.args.prim ≡ Some (shown_needs c.in-Some.needs) = ap (λ r. r.needs) (sym c.row-row.ensures) ∙ ap (option_map shown_needs) c.in-Some.is in
     let level : c.row-row.result.level ≡ level_of c.args.prim = ap (λ r. r.level) c.row-row.ensures in
-    subst (λ o. Passes o c.test_all.result) (first_some c.args.prim (shown_needs c.in-Some.needs) c.args.argued c.args.guard.now.actor (locked_by (flat c.args.frame.now).marks) (flat c.args.frame.now).stack (world_of c.args.guard.now) needs)
-    (rw (sym level) c.test_all.ensures.pass)
+    subst (λ o. Passes o c.ready_needing.result) (first_some c.args.prim (shown_needs c.in-Some.needs) c.args.argued c.args.guard.now.actor (locked_by (flat c.args.frame.now).marks) (flat c.args.frame.now).stack (world_of c.args.guard.now) needs)
+    (rw (sym level) c.ready_needing.ensures.pass)
 
 pub returns-in-None-clause-pass : goal.returns-in-None-clause-pass
 returns-in-None-clause-pass c =
