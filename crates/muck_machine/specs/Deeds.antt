@@ -5,6 +5,7 @@ use Rattle.muck_model.specs.declared.dbref.Dbref.{Dbref}
 use Rattle.spec_live.specs.Objects.{nothing}
 use Rattle.muf_model.specs.declared.fault.MufFault.{MufFault}
 use Rattle.muf_model.specs.declared.fault.MufFault.TheVariants.{ProcessLimit}
+use Rattle.muf_model.specs.Answer.{stack_most}
 use Rattle.muf_model.specs.Flat.{Flat}
 use Rattle.muf_model.specs.Decode.{tree_of}
 use Rattle.muf_model.specs.Stands.{TreeStands}
@@ -15,13 +16,14 @@ use Rattle.muf_frame.specs.declared.fault.PrimFault.{PrimFault}
 use Rattle.muf_frame.specs.declared.fault.PrimFault.TheVariants.{Fault as FrameFault, NoMemory as FrameNoMemory}
 use Rattle.muf_frame.specs.Shown.{Shown, flat}
 use Rattle.muck_queue.specs.declared.fault.QueueFault.{QueueFault}
-use Rattle.muck_queue.specs.declared.fault.QueueFault.TheVariants.{ProcessLimit as Limit, NoMemory as Wanted}
+use Rattle.muck_queue.specs.declared.fault.QueueFault.TheVariants.{ProcessLimit as Limit, NoMemory as Wanted, TooManyEvents}
 use Rattle.muf_running.specs.declared.entered.Entered.{Entered}
 use Rattle.muf_running.specs.Fitting.{program_with, IsAtPrimitive}
 use Rattle.muf_running.specs.Lending.{Apart, Differs}
 use Rattle.spec_prims.specs.Asking.{numbered}
 use Rattle.spec_prims.specs.Row.{Row, gives, refuses}
 use Rattle.spec_processes.specs.ProcessRows.{Effect, gives as effect_gives, waits, forks, enters, starts, refuses as effect_refuses}
+use Rattle.prim_proc.specs.Applied.{HasStack, IsLeft, called_items}
 use Rattle.prim_proc.specs.declared.after.After.{After}
 use Rattle.prim_proc.specs.declared.after.After.TheVariants.{Go, Wait, Fork, Call, Queue}
 use Rattle.spec_events.specs.declared.starting.Call.{Call as Started}
@@ -47,22 +49,18 @@ AppliedTo (refuses e) f g w v (Err (FrameFault h)) = (h ≡ e) × (g ≡ f) × (
 AppliedTo row f g w v (Err FrameNoMemory) = Unit {0}
 AppliedTo row f g w v result = ⊥
 
--- The row of a primitive of processes was applied so: it goes on, or waits, or something is to follow; then for FORK the stack is
--- the row's, and for CALL and QUEUE the items still stand there.
+-- The row of a primitive of processes was applied to a frame, to the world and to its processes, or was refused. What is to follow CALL
+-- and QUEUE finds their items on the stack still.
 abbrev pub ProcessAppliedTo : Effect → Shown → Shown → World → World → Result After PrimFault → Type 0
-ProcessAppliedTo (effect_gives stack live queue) f g w v (Ok Go) = (flat g ≡ record (flat f) { stack = stack }) × (v ≡ record w { live = live; queue = queue })
-ProcessAppliedTo (waits n stack queue) f g w v (Ok Wait) = (flat g ≡ record (flat f) { stack = stack }) × (v ≡ record w { queue = queue })
-ProcessAppliedTo (forks stack) f g w v (Ok Fork) = (flat g ≡ record (flat f) { stack = stack }) × (v ≡ w)
-ProcessAppliedTo (enters stack d name) f g w v (Ok (Call program word)) = (program.0 ≡ d) × (word ≡ name) × (g ≡ f) × (v ≡ w)
-ProcessAppliedTo (starts stack d seconds argument) f g w v (Ok (Queue program delay text)) = (program.0 ≡ d) × (delay ≡ seconds) × (text ≡ argument) × (g ≡ f) × (v ≡ w)
+ProcessAppliedTo (effect_gives stack live queue) f g w v (Ok Go) = HasStack stack f g × (v ≡ record w { live = live; queue = queue })
+ProcessAppliedTo (waits n stack queue) f g w v (Ok Wait) = HasStack stack f g × (v ≡ record w { queue = queue })
+ProcessAppliedTo (forks stack) f g w v (Ok Fork) = HasStack stack f g × (length stack < stack_most) × (v ≡ w)
+ProcessAppliedTo (enters stack d name) f g w v (Ok (Call program word)) = (g ≡ f) × (v ≡ w) × (program.0 ≡ d) × (word ≡ name) × IsLeft (called_items name) stack f
+ProcessAppliedTo (starts stack d seconds argument) f g w v (Ok (Queue program delay text)) =
+    (g ≡ f) × (v ≡ w) × (program.0 ≡ d) × (delay ≡ seconds) × (text ≡ argument) × IsLeft 3 stack f
 ProcessAppliedTo (effect_refuses e) f g w v (Err (FrameFault h)) = (h ≡ e) × (g ≡ f) × (v ≡ w)
 ProcessAppliedTo effect f g w v (Err FrameNoMemory) = Unit {0}
 ProcessAppliedTo effect f g w v result = ⊥
-
--- how many items CALL takes
-abbrev pub call_items : Option (List ℕ) → ℕ
-call_items None = 1
-call_items (Some name) = 2
 
 -- how QUEUE starts a program
 abbrev pub queued_call : Dbref → ℤ → List ℕ → Started
@@ -106,6 +104,13 @@ Begins (w, Ok n) v (Ok m) = (m ≡ n) × (v ≡ w)
 Begins (w, Err f) v (Err (Fault g)) = (g ≡ f) × (v ≡ w)
 Begins r v (Err NoMemory) = Unit {0}
 Begins r v result = ⊥
+
+-- what is answered where a process is added speaks of no events
+abbrev pub IsAdding : Result ℤ QueueFault → Type 0
+IsAdding (Ok n) = Unit {0}
+IsAdding (Err Limit) = Unit {0}
+IsAdding (Err Wanted) = Unit {0}
+IsAdding (Err TooManyEvents) = ⊥
 
 -- the number of a process that was added, or the fault of one that was refused
 abbrev pub StartsAs : Result ℤ QueueFault → Result ℤ DeedFault → Type 0

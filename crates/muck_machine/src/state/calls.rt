@@ -6,7 +6,8 @@ ghost use Rattle.std.specs.Str.{bytes_eq};
 ghost use Rattle.muf_model.specs.Decode.{tree_of};
 ghost use Rattle.muf_running.specs.Fitting.{IsAtPrimitive};
 ghost use Rattle.spec_events.specs.Slices.{behind, called_word, is_offered, program_called};
-ghost use Rattle.muck_machine.specs.Deeds.{call_items, target, DoneAs, Enters, IsWord, MayEnter};
+ghost use Rattle.prim_proc.specs.Applied.{called_items};
+ghost use Rattle.muck_machine.specs.Deeds.{target, DoneAs, Enters, IsWord, MayEnter};
 
 use crate::state::State;
 use crate::state::deeds::{DeedFault, Done, behind};
@@ -37,8 +38,8 @@ impl State {
         name: Option<Text>,
     ) -> Result<Done, NoMemory>
         requires at { IsAtPrimitive running.now }
-        requires items { call_items name ≤ length running.stack }
-        ensures { IfOk result (λ done. DoneAs (program_called actor (behind (drop (call_items name) running.stack) running) program.0 name self.old) running self.new done) }
+        requires items { called_items name ≤ length running.stack }
+        ensures { IfOk result (λ done. DoneAs (program_called actor (behind (drop (called_items name) running.stack) running) program.0 name self.old) running self.new done) }
     {
         match self.find_entrance(&actor, &running, program, name.as_ref()) {
             Ok(entrance) => {
@@ -59,8 +60,8 @@ impl State {
         program: Dbref,
         name: Option<&Text>,
     ) -> Result<Entrance, DeedFault>
-        requires { call_items (option_copied name) ≤ length running.now.stack }
-        ensures { Enters (program_called actor.now (behind (drop (call_items (option_copied name.entry)) running.now.stack) running.now) program.0 (option_copied name.entry) self.old) running.now self.new result }
+        requires { called_items (option_copied name) ≤ length running.now.stack }
+        ensures { Enters (program_called actor.now (behind (drop (called_items (option_copied name.entry)) running.now.stack) running.now) program.0 (option_copied name.entry) self.old) running.now self.new result }
     {
         let Some(code) = self.library.formed(self.alloc, &self.db, program)? else {
             return Err(DeedFault::Fault(MufFault::NotCompiled));

@@ -7,7 +7,7 @@ ghost use Rattle.muf_model.specs.Faults.{text_of};
 ghost use Rattle.muf_model.specs.Stands.{TreeStands};
 ghost use Rattle.spec_events.specs.World.{on_live};
 ghost use Rattle.spec_events.specs.Starting.{begun, by_command, first_mode, form_started, joined, launched, start_told};
-ghost use Rattle.muck_machine.specs.Deeds.{Begins, StartsAs};
+ghost use Rattle.muck_machine.specs.Deeds.{Begins, IsAdding, StartsAs};
 
 use crate::state::State;
 use crate::state::deeds::DeedFault;
@@ -161,6 +161,7 @@ impl State {
 
 // What a start answers, once its process was added or refused.
 fn started(added: Result<i32, QueueFault>) -> Result<i32, DeedFault>
+    requires { IsAdding added }
     ensures { StartsAs added result }
 {
     match added {
