@@ -1,5 +1,5 @@
 -- How primitives of processes leave the mode and the section of their process.
-use Rattle.std.proofs.Common.{◌≡◌, ℕ, ◌+◌, ◌≤◌, ℤ, pos, negsuc, suc, Bool, true, false, cond, List, [], ◌∷◌, ◌++◌, length, refl, sym, ◌∙◌, ap, subst, Option, Some, None, is_none, nat_le, nat_lt}
+use Rattle.std.proofs.Common.{◌≡◌, ℕ, ◌+◌, ◌≤◌, ℤ, pos, negsuc, suc, Bool, true, false, ◌||◌, cond, List, [], ◌∷◌, ◌++◌, length, refl, sym, ◌∙◌, ap, subst, Option, Some, None, is_none, nat_le, nat_lt}
 use Rattle.std.specs.Option.{option_map}
 use Rattle.std.proofs.lemmas.Bool.{cond_both, cond-true}
 use Rattle.muck_model.specs.Bytes.{text_most}
@@ -8,6 +8,7 @@ use Rattle.spec_live.specs.Objects.{Entry}
 use Rattle.spec_live.specs.Lives.{Live}
 use Rattle.spec_rights.specs.declared.act.Actor.{Actor}
 use Rattle.muf_model.specs.declared.fault.MufFault.{MufFault}
+use Rattle.muf_model.specs.declared.fault.MufFault.TheVariants.{StackFull, CannotRead}
 use Rattle.muf_model.specs.declared.prims.Primitive.{Primitive}
 use Rattle.muf_model.specs.declared.prims.Primitive.TheVariants.{Call, Fork, Sleep, Read, Kill, Pid, IsPid, Queue as QueuePrim, Mode as ModePrim, SetMode, Preempt as PreemptPrim, Foreground as ForegroundPrim, Background as BackgroundPrim, SysTime, Random, EventSend, EventWait, EventCount, Prog, Trig, Caller, Cmd}
 use Rattle.muf_model.specs.Answer.{stack_most}
@@ -22,7 +23,7 @@ use Rattle.muck_queue.specs.inner.Numbered.{IsNumbered}
 use Rattle.muck_queue.proofs.Changed.{process_changed}
 use Rattle.spec_prims.specs.Asking.{fault_of}
 use Rattle.spec_processes.specs.declared.place.Place.{Place}
-use Rattle.spec_processes.specs.ProcessRows.{Effect, gives, waits, forks, enters, starts, refuses, Doing, unless, upon, mode_numbered, mode_set, mode_is, is_pid, set_mode, sleep, later, read, killed, kill, event_name, event_data, sent, event_send, oldest, event_wait, program_fault, call_fault, entering, call, starting, queue, process_row, done_in, needs_at, taken_at, processed}
+use Rattle.spec_processes.specs.ProcessRows.{Effect, gives, waits, forks, enters, starts, refuses, Doing, unless, fitting, upon, mode_numbered, mode_set, mode_is, is_pid, set_mode, sleep, later, read, killed, kill, event_name, event_data, sent, event_send, oldest, event_wait, program_fault, call_fault, entering, call, starting, queue, process_row, done_in, needs_at, taken_at, processed}
 use Rattle.spec_events.proofs.Modes.{Holds, Fits, Seated, fits_seated, fits_less, numbered_changed, fits_without, fits_changed}
 
 -- A process may go on so: in preempt as many units are left as its section needs for the one that is too many. Before a unit
@@ -68,10 +69,13 @@ module _ (most left : ℕ) (x : Place) (a : Actor) (w : Live) (q : Queue) (h : S
   either : (b : Bool) (d e : Effect) → Left d → Left e → Left (cond b d e)
   either b d e k l = cond_both b d e Left (λ p. k) (λ p. l)
 
+  has_room : (n : ℕ) (rest : List Datum) (e : Effect) → Left e → Left (fitting n rest e)
+  has_room n rest e k = either (nat_lt stack_most (n + length rest)) (refuses StackFull) e tt k
+
   upon_rest : (rest : List Datum) (e : Effect) → Left e → Left (upon rest e)
-  upon_rest rest (gives items v r) k = either _ _ _ tt k
-  upon_rest rest (waits n items r) k = either _ _ _ tt k
-  upon_rest rest (forks items) k = either _ _ _ tt tt
+  upon_rest rest (gives items v r) k = has_room (length items) rest (gives (items ++ rest) v r) k
+  upon_rest rest (waits n items r) k = has_room n rest (waits n (items ++ rest) r) k
+  upon_rest rest (forks items) k = has_room 1 rest (forks (items ++ rest)) tt
   upon_rest rest (enters items d name) k = tt
   upon_rest rest (starts items d seconds argument) k = tt
   upon_rest rest (refuses f) k = tt
@@ -98,7 +102,7 @@ module _ (most left : ℕ) (x : Place) (a : Actor) (w : Live) (q : Queue) (h : S
   sleeps p items = tt
 
   reads : (p : Process) (items : List Datum) → Left (read x a p items w q)
-  reads p items = either _ _ _ tt (rests (resting ForLine) (λ p. refl))
+  reads p items = either (is_background p.mode || is_none p.descr) (refuses CannotRead) (waits 1 [] (on_process x.pid (resting ForLine) q)) tt (rests (resting ForLine) (λ p. refl))
 
   kills_one : (o : Option Process) (i : ℤ) → Left (killed a o i w q)
   kills_one None i = same
@@ -108,15 +112,15 @@ module _ (most left : ℕ) (x : Place) (a : Actor) (w : Live) (q : Queue) (h : S
   kills p (int i ∷ []) = kills_one (process i q) i
   kills p items = tt
 
-  sends_to : (o : Option Process) (i : ℤ) (name : List ℕ) (data : Datum) → Left (sent x o i name data w q)
-  sends_to None i name data = same
-  sends_to (Some other) i name data =
+  sends_to : (o : Option Process) (i : ℤ) (name : List ℕ) (value : Datum) → Left (sent x o i name value w q)
+  sends_to None i name value = same
+  sends_to (Some other) i name value =
       either (nat_le events_most (length other.events)) _ _ tt
       (either (nat_lt text_most (length name)) _ _ tt
-      (either (fits data) _ _ (fits_changed (GoesOn most left) x.pid i (told_event x.moment (name, data)) q (λ p. refl) (λ p k. k) same) tt))
+      (either (fits value) _ _ (fits_changed (GoesOn most left) x.pid i (told_event x.moment (name, value)) q (λ p. refl) (λ p k. k) same) tt))
 
   sends : (p : Process) (items : List Datum) → Left (event_send x a p items w q)
-  sends p (data ∷ text s ∷ int i ∷ []) = sends_to (process i q) i (event_name s) (event_data x a p data)
+  sends p (value ∷ text s ∷ int i ∷ []) = sends_to (process i q) i (event_name s) (event_data x a p value)
   sends p items = tt
 
   takes_oldest : (events : List (List ℕ × Datum)) → Left (oldest events x w q)

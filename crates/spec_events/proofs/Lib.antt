@@ -7,6 +7,7 @@ pub mod Units
 pub mod Modes
 mod Effects
 pub mod Sections
+mod Numbers
 mod Remaining
 pub mod Taken
 mod Judged

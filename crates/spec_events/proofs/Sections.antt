@@ -1,5 +1,5 @@
 -- Sections stay whole.
-use Rattle.std.proofs.Common.{◌≡◌, ◌⊎◌, inl, inr, ℕ, zero, suc, ◌+◌, ◌<◌, ◌≤◌, ℤ, Bool, true, false, not, ◌&&◌, cond, nat_le, List, [], ◌∷◌, length, refl, sym, ◌∙◌, ap, subst, arith, Option, Some, None, Result, Ok, Err}
+use Rattle.std.proofs.Common.{◌≡◌, ◌⊎◌, inl, inr, ℕ, zero, suc, ◌+◌, ◌<◌, ◌≤◌, ℤ, Bool, true, false, not, ◌&&◌, cond, nat_le, nat_lt, List, [], ◌∷◌, length, refl, sym, ◌∙◌, ap, subst, arith, Option, Some, None, Result, Ok, Err}
 use Rattle.std.specs.Option.{option_map, option_map_or, option_and_then}
 use Rattle.std.proofs.lemmas.Bool.{cond_both, cond-true, cond-false, leb-false, leb-true, lt-leb, le-leb}
 use Rattle.muck_model.specs.declared.dbref.Dbref.{Dbref}
@@ -7,13 +7,13 @@ use Rattle.muck_model.specs.declared.tune.Tune.{Tune}
 use Rattle.spec_rights.specs.declared.act.Actor.{Actor}
 use Rattle.spec_live.specs.Lives.{tell_player}
 use Rattle.muf_model.specs.declared.fault.MufFault.{MufFault}
-use Rattle.muf_model.specs.declared.fault.MufFault.TheVariants.{PreemptTooLong, TooManyUnits}
+use Rattle.muf_model.specs.declared.fault.MufFault.TheVariants.{CallsFull, PreemptTooLong, TooManyUnits}
 use Rattle.muf_model.specs.declared.prims.Primitive.{Primitive as Name}
 use Rattle.std.specs.Prelude.{pos}
 use Rattle.muf_model.specs.Datum.{Datum, int}
 use Rattle.muf_model.specs.Tree.{Definition, Tree}
-use Rattle.muf_model.specs.Source.{Program, Source, locked_of, handed}
-use Rattle.muf_model.specs.Unit.{Outcome, goes, ended, faulted, asks, stuck, unit, fault}
+use Rattle.muf_model.specs.Source.{Program, Source, locked_of, calls_of, handed, entered}
+use Rattle.muf_model.specs.Unit.{calls_most, Outcome, goes, ended, faulted, asks, stuck, unit, fault}
 use Rattle.muck_library.specs.Library.{Library, formed}
 use Rattle.spec_prims.specs.Asking.{numbered}
 use Rattle.spec_prims.specs.Row.{Row, gives, refuses}
@@ -33,8 +33,8 @@ use Rattle.spec_events.specs.declared.starting.Agent.{Agent}
 use Rattle.spec_events.specs.World.{World, on_live, on_queue, with_library}
 use Rattle.spec_events.specs.Following.{settled}
 use Rattle.spec_events.specs.Starting.{joined, begun}
-use Rattle.spec_events.specs.Slices.{acting, Deed, does, rests, fails, lifted, row_done, behind, called_word, word_entered, form_entered, program_called, child_of, with_number, child_joined, forked, with_process, queued_command, queued, place_in, effected, process_done, deed, stands_at, ended_one, broken, out, one_counted, Turn, on, rest, over, went, after_deed, unit_done, limit_fault, are_spent, units_most, turn, Taken, unit_of, agent_of, seat_of, seat, then_more, is_through, next_unit, slice_most, run_of, awake, units_of}
-use Rattle.spec_events.specs.Sections.{IsInterruptible, Stops, LastStops, IsOverlong, IsTooLong, LastTooLong, IsWhole}
+use Rattle.spec_events.specs.Slices.{acting, Deed, does, rests, fails, lifted, row_done, behind, called_word, word_entered, form_entered, program_called, child_of, with_number, child_joined, forked, with_process, queued_command, queued, place_in, effected, process_done, deed, stands_at, ended_one, broken, out, one_counted, Turn, on, rest, over, went, after_deed, unit_done, limit_fault, are_spent, units_most, turn, Taken, unit_of, agent_of, seat_of, seat, then_more, is_through, next_unit, slice_most, run_of, last_world, world_of, awake, units_of}
+use Rattle.spec_events.specs.Sections.{IsCountable, IsInterruptible, Stops, LastStops, IsOverlong, IsTooLong, LastTooLong, IsWhole}
 use Rattle.spec_events.proofs.Modes.{Holds, Fits, Seated, fits_seated, fits_less, numbered_changed, numbered_without, fits_changed, settled_fits, settled_numbered, joined_fits, begun_fits}
 use Rattle.spec_events.proofs.Effects.{GoesOn, MayChange, goes_on, Leaves, processed_leaves}
 use Rattle.spec_events.proofs.Units.{Sits, sits, turn_limit, turn_within}
@@ -69,7 +69,7 @@ module _ (most left : ℕ) (pid : ℤ) where
 
   word_leaves : (s : Source) (p : Program) (o : Option Definition) (w : World) → May w → DeedLeaves (word_entered s p o w)
   word_leaves s p None w h = h
-  word_leaves s p (Some d) w h = cond_both _ _ _ DeedLeaves (λ e. h) (λ e. h)
+  word_leaves s p (Some d) w h = cond_both (nat_lt (calls_of s.marks) calls_most) (does (entered p d s) w) (fails CallsFull w) DeedLeaves (λ e. h) (λ e. h)
 
   form_leaves : (a : Actor) (s : Source) (d : ℤ) (name : Option (List ℕ)) (o : Option Tree) (w : World) → May w → DeedLeaves (form_entered a s d name o w)
   form_leaves a s d name None w h = h
@@ -165,10 +165,6 @@ module _ (most left : ℕ) (pid : ℤ) where
 
 -- The next unit of a process.
 
--- as many as can be counted
-abbrev pub IsCountable : Tune → Type 0
-IsCountable tune = tune.preempt_units ≤ 18446744073709551615
-
 within_section : (b c : Bool) (spent : Bool) → cond (b && c) (Some PreemptTooLong) (cond spent (Some TooManyUnits) None) ≡ None → b ≡ true → c ≡ false
 within_section true true spent h e = absurd cc
 within_section true false spent h e = refl
@@ -214,6 +210,41 @@ module _ (tune : Tune) (pid : ℤ) (small : IsCountable tune) where
   last_too_long : (b : Bool) (most section : ℕ) (spent : Bool) → (not b && nat_le 1 (suc most)) ≡ false → (b ≡ true → suc most ≤ section + 1) → cond (b && nat_le most section) (Some PreemptTooLong) (cond spent (Some TooManyUnits) None) ≡ Some PreemptTooLong
   last_too_long true most section spent h k = cond-true _ _ _ (le-leb most section (let enough = k refl in omega (arith, enough)))
   last_too_long false most section spent h k = let is : nat_le 1 (suc most) ≡ true = le-leb 1 (suc most) (omega arith) in absurd cc
+
+-- Numbers rise in each world that units lead to.
+
+module _ (tune : Tune) (pid : ℤ) where
+  any_seated : (x : Agent) (s : Source) (w : World) → IsNumbered w.queue → seat pid w ≡ Some (x, s) → Seated (MayChange 0 1) pid (one_counted pid w).queue
+  any_seated x s w h at =
+      let sit = sits pid x s w at in
+      record {
+        numbered = numbered_changed pid (counted 1) (λ p. refl) w.queue h;
+        it = counted 1 sit.it;
+        found = process_changed pid (counted 1) (λ p. refl) w.queue ∙ ap (option_map (counted 1)) sit.found;
+        holds = omega arith;
+      }
+
+  turn_numbered : (x : Agent) (s : Source) (w : World) → IsNumbered w.queue → seat pid w ≡ Some (x, s) → (o : Option MufFault) → limit_fault tune (acting x s w.live.objects).level x ≡ o → TurnLeaves 0 1 pid (turn tune pid x s w)
+  turn_numbered x s w h at None e =
+      subst (TurnLeaves 0 1 pid) (sym (turn_within tune pid x s w e)) (unit_leaves 0 1 pid x s.program.number (unit s) (one_counted pid w) (any_seated x s w h at))
+  turn_numbered x s w h at (Some f) e = subst (TurnLeaves 0 1 pid) (sym (turn_limit tune pid x s f w e)) (numbered_without pid w.queue h)
+
+  more_numbered : (n : ℕ) (t : Turn) → TurnLeaves 0 1 pid t → ((v : World) → IsNumbered v.queue → IsNumbered (last_world v (run_of tune n pid v)).queue) → IsNumbered (last_world (world_of t) (then_more (run_of tune n pid) t)).queue
+  more_numbered n (on v) h more = more v h.numbered
+  more_numbered n (rest v) h more = h
+  more_numbered n (over v) h more = h
+
+  next_numbered : (n : ℕ) (w : World) (o : Option (Agent × Source)) → IsNumbered w.queue → seat pid w ≡ o → ((v : World) → IsNumbered v.queue → IsNumbered (last_world v (run_of tune n pid v)).queue) →
+      IsNumbered (last_world w (option_map_or (next_unit tune (suc n) pid w (run_of tune n pid)) o [])).queue
+  next_numbered n w None h at more = h
+  next_numbered n w (Some (x, s)) h at more =
+      cond_both (is_through tune (suc n) x) [] _ (λ ts. IsNumbered (last_world w ts).queue) (λ e. h) (λ e.
+      more_numbered n (turn tune pid x s w) (turn_numbered x s w h at (limit_fault tune (acting x s w.live.objects).level x) refl) more)
+
+  pub run_numbered : (n : ℕ) (w : World) → IsNumbered w.queue → IsNumbered (last_world w (run_of tune n pid w)).queue
+  unfolding run_of
+  run_numbered zero w h = h
+  run_numbered (suc n) w h = next_numbered n w (seat pid w) h refl (run_numbered n)
 
 -- The units of a slice.
 

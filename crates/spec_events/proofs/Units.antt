@@ -85,11 +85,11 @@ module _ (tune : Tune) (pid : ℤ) where
 
 -- Where a process sits.
 
-record Sits (pid : ℤ) (x : Agent) (s : Source) (w : World) : Type 0 where
-  it : Process
-  found : process pid w.queue ≡ Some it
-  agent : agent_of it ≡ x
-  state : it.running ≡ Some s
+pub record Sits (pid : ℤ) (x : Agent) (s : Source) (w : World) : Type 0 where
+  pub it : Process
+  pub found : process pid w.queue ≡ Some it
+  pub agent : agent_of it ≡ x
+  pub state : it.running ≡ Some s
 
 sits_in : (pid : ℤ) (x : Agent) (s : Source) (w : World) (p : Process) (o : Option Source) → process pid w.queue ≡ Some p → p.running ≡ o → option_map {U = Agent × Source} (λ r. (agent_of p, r)) o ≡ Some (x, s) → Sits pid x s w
 sits_in pid x s w p None f r e = absurd cc
@@ -102,7 +102,7 @@ sits_by : (pid : ℤ) (x : Agent) (s : Source) (w : World) (o : Option Process) 
 sits_by pid x s w None f e = absurd cc
 sits_by pid x s w (Some p) f e = sits_in pid x s w p p.running f refl e
 
-sits : (pid : ℤ) (x : Agent) (s : Source) (w : World) → seat pid w ≡ Some (x, s) → Sits pid x s w
+pub sits : (pid : ℤ) (x : Agent) (s : Source) (w : World) → seat pid w ≡ Some (x, s) → Sits pid x s w
 sits pid x s w e = sits_by pid x s w (process pid w.queue) refl e
 
 -- it is there for the same at another state, once its units are counted
@@ -202,9 +202,9 @@ resumed_next tune pid x n left program (faulted f) w = ap (λ v. broken pid x.pl
 
 -- so many may be taken
 record May (tune : Tune) (level left m : ℕ) (x : Agent) : Type 0 where
-  left : m ≤ left
-  unbroken : m ≤ unbroken tune left x
-  unspent : m ≤ unspent tune level left x
+  by_left : m ≤ left
+  by_section : m ≤ unbroken tune left x
+  by_level : m ≤ unspent tune level left x
 
 may_of : (tune : Tune) (level left m : ℕ) (x : Agent) → m ≤ allowed tune level left x → May tune level left m x
 may_of tune level left m x h =
@@ -212,44 +212,44 @@ may_of tune level left m x h =
     let b = min-le_right left (min (unbroken tune left x) (unspent tune level left x)) in
     let c = min-le_left (unbroken tune left x) (unspent tune level left x) in
     let d = min-le_right (unbroken tune left x) (unspent tune level left x) in
-    record { left = omega (arith, a, h); unbroken = omega (arith, b, c, h); unspent = omega (arith, b, d, h) }
+    record { by_left = omega (arith, a, h); by_section = omega (arith, b, c, h); by_level = omega (arith, b, d, h) }
 
 through_not : (b : Bool) (most section left : ℕ) → 1 ≤ cond b (most - section) (left - suc most) → (not b && nat_le left (suc most)) ≡ false
 through_not true most section left h = refl
 through_not false most section left h = lt-leb left (suc most) (omega (arith, h))
 
-limit_not : (b : Bool) (most section : ℕ) (spent : Option ℕ) (units left : ℕ) → 1 ≤ cond b (most - section) (left - suc most) → 1 ≤ option_map_or (λ n. n - units) left spent →
-    cond (b && nat_le most section) (Some PreemptTooLong) (cond (are_spent spent units) (Some TooManyUnits) None) ≡ None
-limit_not true most section None units left h k = cond-false _ _ _ (lt-leb most section (omega (arith, h)))
-limit_not true most section (Some n) units left h k = cond-false _ _ _ (lt-leb most section (omega (arith, h))) ∙ cond-false _ _ _ (lt-leb n units (omega (arith, k)))
-limit_not false most section None units left h k = refl
-limit_not false most section (Some n) units left h k = cond-false _ _ _ (lt-leb n units (omega (arith, k)))
+limit_not : (b : Bool) (most section : ℕ) (spent : Option ℕ) (before left : ℕ) → 1 ≤ cond b (most - section) (left - suc most) → 1 ≤ option_map_or (λ n. n - before) spent left →
+    cond (b && nat_le most section) (Some PreemptTooLong) (cond (are_spent spent before) (Some TooManyUnits) None) ≡ None
+limit_not true most section None before left h k = cond-false _ _ _ (lt-leb most section (omega (arith, h)))
+limit_not true most section (Some n) before left h k = cond-false _ _ _ (lt-leb most section (omega (arith, h))) ∙ cond-false _ _ _ (lt-leb n before (omega (arith, k)))
+limit_not false most section None before left h k = refl
+limit_not false most section (Some n) before left h k = cond-false _ _ _ (lt-leb n before (omega (arith, k)))
 
 unbroken_less : (b : Bool) (most section left m : ℕ) → suc m ≤ cond b (most - section) (suc left - suc most) → m ≤ cond b (most - cond b (more 1 section) section) (left - suc most)
 unbroken_less true most section left m h = omega (arith, h)
 unbroken_less false most section left m h = omega (arith, h)
 
-unspent_less : (spent : Option ℕ) (units left m : ℕ) → suc m ≤ option_map_or (λ n. n - units) (suc left) spent → m ≤ option_map_or (λ n. n - more 1 units) left spent
-unspent_less None units left m h = omega (arith, h)
-unspent_less (Some n) units left m h = omega (arith, h)
+unspent_less : (spent : Option ℕ) (before left m : ℕ) → suc m ≤ option_map_or (λ n. n - before) spent (suc left) → m ≤ option_map_or (λ n. n - more 1 before) spent left
+unspent_less None before left m h = omega (arith, h)
+unspent_less (Some n) before left m h = omega (arith, h)
 
 -- after one of them so many more may be
 may_less : (tune : Tune) (level left m : ℕ) (x : Agent) → May tune level (suc left) (suc m) x → May tune level left m (counting 1 x)
 may_less tune level left m x h = record {
-  left = omega (arith, h.left);
-  unbroken = unbroken_less (is_preempt x.mode) tune.preempt_units x.section left m h.unbroken;
-  unspent = unspent_less (units_most tune level) x.units left m h.unspent;
+  by_left = omega (arith, h.by_left);
+  by_section = unbroken_less (is_preempt x.mode) tune.preempt_units x.section left m h.by_section;
+  by_level = unspent_less (units_most tune level) x.units left m h.by_level;
 }
 
 some_of : (m k : ℕ) → suc m ≤ k → 1 ≤ k
 some_of m k h = omega (arith, h)
 
 may_through : (tune : Tune) (level left m : ℕ) (x : Agent) → May tune level left (suc m) x → is_through tune left x ≡ false
-may_through tune level left m x h = through_not (is_preempt x.mode) tune.preempt_units x.section left (some_of m _ h.unbroken)
+may_through tune level left m x h = through_not (is_preempt x.mode) tune.preempt_units x.section left (some_of m _ h.by_section)
 
 may_within : (tune : Tune) (level left m : ℕ) (x : Agent) → May tune level left (suc m) x → limit_fault tune level x ≡ None
 may_within tune level left m x h =
-    limit_not (is_preempt x.mode) tune.preempt_units x.section (units_most tune level) x.units left (some_of m _ h.unbroken) (some_of m _ h.unspent)
+    limit_not (is_preempt x.mode) tune.preempt_units x.section (units_most tune level) x.units left (some_of m _ h.by_section) (some_of m _ h.by_level)
 
 -- the level of a process that is in these programs, the running one first
 abbrev level_in : List Entry → List Program → ℕ
@@ -295,7 +295,7 @@ module _ (tune : Tune) (pid : ℤ) (level : ℕ) where
       finish tune (suc n) pid w ≡ resumed tune pid x (taken (suc m) s) (suc n) s.program.number (units (suc m) s) w
   run_by zero n x s w at is may =
       run_next n zero x s w at is may (λ t e. let left : n ≡ suc n - 1 = omega arith in ap (λ r. finish tune r pid (stands_at pid t (one_counted pid w))) left)
-  run_by (suc m) zero x s w at is may = absurd (omega (arith, may.left))
+  run_by (suc m) zero x s w at is may = absurd (omega (arith, may.by_left))
   run_by (suc m) (suc n) x s w at is may =
       run_next (suc n) (suc m) x s w at is may (λ t e.
       let kept = stays s t e in
@@ -307,7 +307,7 @@ module _ (tune : Tune) (pid : ℤ) (level : ℕ) where
   run_some : (m n : ℕ) (x : Agent) (s : Source) (w : World) → seat pid w ≡ Some (x, s) → level_in w.live.objects (programs_of s) ≡ level → 0 < m → May tune level n m x →
       finish tune n pid w ≡ resumed tune pid x (taken m s) n s.program.number (units m s) w
   run_some zero n x s w at is some may = absurd (omega (arith, some))
-  run_some (suc m) zero x s w at is some may = absurd (omega (arith, may.left))
+  run_some (suc m) zero x s w at is some may = absurd (omega (arith, may.by_left))
   run_some (suc m) (suc n) x s w at is some may = run_by m n x s w at is may
 
 -- Units that are taken at once, as many as may be, change the state of the process and are counted, and nothing else.
@@ -319,9 +319,9 @@ run_law tune pid x m left s w at some most =
 
 -- Where none is allowed, none is left, or the slice is through, or the next one is one too many.
 
-is_spent : (spent : Option ℕ) (units left : ℕ) → 0 < left → option_map_or (λ n. n - units) left spent ≡ 0 → are_spent spent units ≡ true
-is_spent None units left some h = absurd (omega (arith, some, h))
-is_spent (Some n) units left some h = le-leb n units (omega (arith, h))
+is_spent : (spent : Option ℕ) (before left : ℕ) → 0 < left → option_map_or (λ n. n - before) spent left ≡ 0 → are_spent spent before ≡ true
+is_spent None before left some h = absurd (omega (arith, some, h))
+is_spent (Some n) before left some h = le-leb n before (omega (arith, h))
 
 -- which of the two limits it is
 abbrev pub limit_met : Tune → Agent → MufFault

@@ -21,7 +21,7 @@ unbroken tune left x = if is_preempt x.mode then tune.preempt_units - x.section 
 
 -- those that its level leaves it, which are all that are left where there is no limit
 abbrev pub unspent : Tune → ℕ → ℕ → Agent → ℕ
-unspent tune level left x = option_map_or (λ most. most - x.units) left (units_most tune level)
+unspent tune level left x = option_map_or (λ most. most - x.units) (units_most tune level) left
 
 -- of so many units that are left, those that it takes without being asked again
 abbrev pub allowed : Tune → ℕ → ℕ → Agent → ℕ
