@@ -250,7 +250,7 @@ impl Queue {
     }
 
     /// Takes out the oldest event of the process of a number; `None`, and nothing has changed, where it has none.
-    #[tactic(auto, unfolding(crate::specs::Queues::on_process))]
+    #[tactic(auto, unfolding(crate::specs::Queues::on_process, crate::specs::Queues::oldest_event))]
     pub fn take_event(&mut self, pid: i32) -> Option<ProcessEvent>
         ensures event { option_map shown result ≡ oldest_event pid self.old }
         ensures rest { self.new ≡ on_process pid without_event self.old }
