@@ -236,7 +236,13 @@ impl Queue {
     /// second. Answers whether the process is there. `TooManyEvents` comes exactly where it has 64. After an error, and where
     /// the process isn't there, nothing has changed.
     #[tactic(auto, unfolding(crate::specs::Queues::on_process))]
-    pub fn event(&mut self, pid: i32, moment: u64, name: Text, item: Value) -> Result<bool, QueueFault>
+    pub fn event(
+        &mut self,
+        pid: i32,
+        moment: u64,
+        name: Text,
+        item: Value,
+    ) -> Result<bool, QueueFault>
         ensures { Sends pid moment (name, view item) self.old self.new result }
     {
         let Some(process) = self.get(pid) else {
@@ -245,7 +251,12 @@ impl Queue {
         if process.events.len() >= 64 {
             return Err(QueueFault::TooManyEvents);
         }
-        processes::give_event(&mut self.processes, pid, moment, ProcessEvent { name, data: item })?;
+        processes::give_event(
+            &mut self.processes,
+            pid,
+            moment,
+            ProcessEvent { name, data: item },
+        )?;
         Ok(true)
     }
 
