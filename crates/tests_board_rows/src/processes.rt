@@ -5,8 +5,8 @@ ghost use Rattle.muf_model.specs.Decode.{tree_of};
 
 use crate::world::TUNE;
 use muck_model::{Dbref, NoMemory, Row};
-use muck_queue::{Mode, Process, Queue};
-use muf_model::{Closer, Code, CodeWord, Instr, Offer, Placed, Shared, Text};
+use muck_queue::{Events, Mode, Process, Queue, Wait};
+use muf_model::{Closer, Code, CodeWord, Instr, Offer, Placed, Shared, Text, Value};
 use muf_running::{Occasion, Running};
 use std::alloc::Global;
 use tests_rows::{Words, line};
@@ -68,7 +68,12 @@ fn add(
         trigger: program,
         command,
         descr: u32::try_from(program.0).ok(),
+        program,
         mode: Mode::Foreground,
+        wait: Wait::Nothing,
+        units: 0,
+        section: 0,
+        events: Events::new(alloc),
         running: Some(running),
     };
     let added = queue.add(process, &TUNE);
@@ -87,7 +92,7 @@ fn told(out: &mut String, process: Option<&Process>) -> Result<(), NoMemory> {
     Ok(())
 }
 
-/// `queue add PLAYER DUE PROGRAM`, `due SECOND`, `claim PARTY SECOND`, `release NUMBER SECOND`, `take NUMBER`, `show NUMBER`,
+/// `queue add PLAYER DUE PROGRAM`, `due SECOND`, `claim PARTY SECOND`, `release NUMBER SECOND`, `kill NUMBER`, `show NUMBER`,
 /// `full PLAYER`, `tied CONNECTION`, `count`.
 pub fn queue(
     alloc: Global,
@@ -110,12 +115,39 @@ pub fn queue(
             queue.release(pid);
             Ok(write!(out, "{:?}", queue.next_due(second))?)
         }
-        b"take" => told(out, queue.take(pid).as_ref()),
+        b"kill" => Ok(write!(out, "{}", queue.kill(pid))?),
         b"show" => told(out, queue.get(pid)),
         b"full" => Ok(write!(out, "{}", queue.is_full(player, &TUNE))?),
         b"tied" => Ok(write!(out, "{}", queue.is_tied(u32::from(number)))?),
         _ => Ok(write!(out, "{}", queue.len())?),
     }
+}
+
+/// `wait line NUMBER`, `event NUMBER`: what a process waits for. `send NUMBER SECOND`: an event comes. `wake NUMBER SECOND`: it goes on.
+/// `busy CONNECTION`, `reader CONNECTION`.
+pub fn wait(
+    alloc: Global,
+    out: &mut String,
+    queue: &mut Queue,
+    words: &mut Words<'_>,
+) -> Result<(), NoMemory> {
+    let verb = words.word();
+    let number = words.small();
+    let pid = i32::from(number);
+    let second = u64::from(words.number());
+    match verb {
+        b"line" => queue.rest(pid, Wait::ForLine),
+        b"event" => queue.rest(pid, Wait::ForEvent),
+        b"send" => {
+            let name = Text::new(alloc, line(alloc, b"chime")?)?;
+            let sent = queue.event(pid, second, name, Value::Int(7));
+            write!(out, "{sent:?}")?;
+        }
+        b"wake" => queue.wake(pid, second),
+        b"busy" => write!(out, "{}", queue.is_busy(u32::from(number)))?,
+        _ => write!(out, "{:?}", queue.reader(u32::from(number)))?,
+    }
+    Ok(())
 }
 
 /// `end tied CONNECTION`, `running PROGRAM`, `trigger OBJECT`: what follows where those are gone.
