@@ -1,9 +1,9 @@
 -- Which processes are there still, and which end: by a change those in a program that is gone, or whose source is another.
-use Rattle.std.proofs.Common.{◌≡◌, ℕ, ℤ, pos, ◌+ℤ◌, suc, Bool, true, false, cond, List, [], ◌∷◌, ◌++◌, refl, sym, ◌∙◌, ap, subst, Option, Some, None, arith}
+use Rattle.std.proofs.Common.{◌≡◌, ℕ, ℤ, pos, ◌+ℤ◌, suc, Bool, true, false, cond, List, [], ◌∷◌, ◌++◌, refl, sym, ◌∙◌, ap, subst, Option, Some, None, inl, inr, arith}
 use Rattle.std.specs.Prelude.{◌+◌, map, find, not, slice_get}
 use Rattle.std.specs.Option.{option_map, option_map_or, option_and_then}
 use Rattle.std.specs.Ordering.{int_eq}
-use Rattle.std.proofs.lemmas.Option.{slice_get-map}
+use Rattle.std.proofs.lemmas.Option.{none-some, slice_get-map}
 use Rattle.muck_model.specs.declared.dbref.Dbref.{Dbref}
 use Rattle.muck_model.specs.declared.dbref.Denial.{Denial}
 use Rattle.spec_live.specs.declared.mark.Mark.{Mark}
@@ -23,6 +23,7 @@ use Rattle.std.specs.Prelude.{Result, Ok, Err}
 use Rattle.muck_queue.specs.declared.process.Process.{Process}
 use Rattle.muck_queue.specs.Queues.{Queue, has_pid, has_trigger, runs, is_tied_to, without_trigger, without_all, without_first, changed_first, process, on_process, without, added, ended_tied, ended_running, trigger_cleared}
 use Rattle.muck_queue.specs.Queues as queues
+use Rattle.spec_processes.proofs.Ends.{IsSame, Stays}
 use Rattle.spec_commands.specs.declared.outcome.Outcome.{Outcome}
 use Rattle.spec_commands.specs.declared.outcome.Outcome.TheVariants.{Done, NotMine, Start as StartOutcome, Edit, Leave, Dump, Stop, Retune}
 use Rattle.spec_commands.specs.declared.edit.EditStep.{EditStep}
@@ -38,15 +39,9 @@ use Rattle.muf_model.specs.declared.fault.MufFault.TheVariants.{ProcessLimit}
 use Rattle.spec_events.specs.Lines.{compiled_so, compiled, after_edit, followed_up}
 use Rattle.spec_events.specs.Endings.{Remains, ProcessesLicensed}
 
--- What is asked of a process where it might end stays so while these stay: its number, its player, its program and its state.
-pub record Alike (p q : Process) : Type 0 where
-  pub number : q.number ≡ p.number
-  pub player : q.player ≡ p.player
-  pub program : q.program ≡ p.program
-  pub running : q.running ≡ p.running
-
+-- it might end only where it might in another way of going on
 abbrev pub IsSteady : (Process → Type 0) → Type 0
-IsSteady may = (p q : Process) → Alike p q → may q → may p
+IsSteady may = (p q : Process) → IsSame p q → may q → may p
 
 -- Where a process was there, it is there, and might end only where it might before; or it might end.
 abbrev pub Lasts : (Process → Type 0) → Option Process → Option Process → Type 0
@@ -155,12 +150,35 @@ module _ (may : Process → Type 0) (pid : ℤ) where
   unfolding on_process
   lasting_changed f q same h at = changed_at f same q.processes h at
 
+-- of the processes that are there or may end
+lasts_stays : (may Ends : Process → Type 0) → IsSteady may → ((p : Process) → Ends p → may p) → (o r : Option Process) → Stays Ends o r → Lasts may o r
+lasts_stays may Ends steady h None None s = tt
+lasts_stays may Ends steady h None (Some r) s = tt
+lasts_stays may Ends steady h (Some p) None s = h p s
+lasts_stays may Ends steady h (Some p) (Some r) (inl e) = steady p r e
+lasts_stays may Ends steady h (Some p) (Some r) (inr m) = λ k. h p m
+
+pub lasting_stays : (may Ends : Process → Type 0) → IsSteady may → ((p : Process) → Ends p → may p) → (q r : Queue) → ((pid : ℤ) → Stays Ends (process pid q) (process pid r)) → Lasting may q r
+lasting_stays may Ends steady h q r s pid = lasts_stays may Ends steady h (process pid q) (process pid r) (s pid)
+
+found_number : (pid : ℤ) (ps : List Process) (p : Process) → find (has_pid pid) ps ≡ Some p → has_pid pid p ≡ true
+found_number pid [] p = λ e. absurd (none-some p e)
+found_number pid (q ∷ ps) p =
+    (elim (has_pid pid q) as (λ b. has_pid pid q ≡ b → cond b (Some q) (find (has_pid pid) ps) ≡ Some p → has_pid pid p ≡ true) [
+      | true ↦ λ r e. let one : q ≡ p = cc in ap (has_pid pid) (sym one) ∙ r
+      | false ↦ λ r e. found_number pid ps p e
+    ]) refl
+
+-- the process of a number has that number
+pub process_number : (pid : ℤ) (q : Queue) (p : Process) → process pid q ≡ Some p → has_pid pid p ≡ true
+process_number pid q p e = found_number pid q.processes p e
+
 pub lasting_added : (may : Process → Type 0) (x : Process) (q : Queue) → Lasting may q (added x q)
 unfolding added
 lasting_added may x q pid = left_more may (queues.numbered _ x) pid q.processes
 
 cleared : (may : Process → Type 0) → IsSteady may → (d : Dbref) (p : Process) (b : Bool) → ((cond b (without_trigger p) p).number ≡ p.number) × (may (cond b (without_trigger p) p) → may p)
-cleared may steady d p true = (refl, steady p (without_trigger p) (record { number = refl; player = refl; program = refl; running = refl }))
+cleared may steady d p true = (refl, steady p (without_trigger p) (record { number = refl; program = refl; player = refl; running = refl }))
 cleared may steady d p false = (refl, λ m. m)
 
 lasting_cleared : (may : Process → Type 0) → IsSteady may → (d : Dbref) (q : Queue) → Lasting may q (trigger_cleared d q)
@@ -292,16 +310,16 @@ lasting_up may d player (Retune tune) w = lasting_same may w.queue
 
 -- What remains.
 
-remains : (may : Process → Type 0) (o q : Option Process) → Lasts may o q → Remains may o q
-remains may None None g = tt
-remains may None (Some q) g = tt
-remains may (Some p) None g = g
-remains may (Some p) (Some q) g = tt
+remains : (may Ends : Process → Type 0) → ((p : Process) → may p → Ends p) → (o q : Option Process) → Lasts may o q → Remains Ends o q
+remains may Ends h None None g = tt
+remains may Ends h None (Some q) g = tt
+remains may Ends h (Some p) None g = h p g
+remains may Ends h (Some p) (Some q) g = tt
 
-pub processes_remain : (may : Process → Type 0) (w v : World) → Lasting may w.queue v.queue → ProcessesLicensed may w v
-processes_remain may w v g pid = remains may (process pid w.queue) (process pid v.queue) (g pid)
+pub processes_remain : (may Ends : Process → Type 0) (w v : World) → ((p : Process) → may p → Ends p) → Lasting may w.queue v.queue → ProcessesLicensed Ends w v
+processes_remain may Ends w v h g pid = remains may Ends h (process pid w.queue) (process pid v.queue) (g pid)
 
 -- those that are tied to a connection may end with it
-pub tied_remain : (d : ℕ) (w v : World) → v.queue ≡ ended_tied d w.queue → ProcessesLicensed (λ p. is_tied_to d p ≡ true) w v
+pub tied_remain : (d : ℕ) (q : Queue) → Lasting (λ p. is_tied_to d p ≡ true) q (ended_tied d q)
 unfolding ended_tied
-tied_remain d w v e = let P : Queue → Type 0 = Lasting (λ p. is_tied_to d p ≡ true) w.queue in processes_remain (λ p. is_tied_to d p ≡ true) w v (subst P (sym e) (λ pid. left_without (λ p. is_tied_to d p ≡ true) (is_tied_to d) (λ p t. t) pid w.queue.processes))
+tied_remain d q pid = left_without (λ p. is_tied_to d p ≡ true) (is_tied_to d) (λ p t. t) pid q.processes

@@ -76,10 +76,10 @@ quietly_swept n (e ∷ es) w = quietly_both w _ _ (quietly_marked e.mark (dbref_
 
 -- A program that is started.
 
-abbrev BegunQuietly : World → World × Result ℤ MufFault → Type 0
+abbrev pub BegunQuietly : World → World × Result ℤ MufFault → Type 0
 BegunQuietly w r = Quietly w r.0
 
-quietly_joined : (p : Process) (w : World) → BegunQuietly w (joined p w)
+pub quietly_joined : (p : Process) (w : World) → BegunQuietly w (joined p w)
 quietly_joined p w = either (is_full p.player w.live.board.tune w.queue)
   where
     either : (b : Bool) → BegunQuietly w (cond b (w, Err ProcessLimit) (on_queue (added p) w, Ok (w.queue.last +ℤ pos 1)))

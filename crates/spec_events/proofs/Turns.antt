@@ -1,5 +1,5 @@
 -- Each step changes only what is open.
-use Rattle.std.proofs.Common.{ℕ, false, zero, suc, List, [], ◌∷◌, refl}
+use Rattle.std.proofs.Common.{◌≡◌, ℕ, true, false, zero, suc, List, [], ◌∷◌, refl}
 use Rattle.muck_model.specs.declared.event.Entry.{Entry}
 use Rattle.muck_model.specs.declared.event.Event.{Event}
 use Rattle.muck_model.specs.declared.event.Event.TheVariants.{Opened, Input, Closed, Exec, Slice, Take}
@@ -11,12 +11,12 @@ use Rattle.spec_commands.specs.Talk.{gone_away}
 use Rattle.spec_rights.proofs.Shown.{quiet_one}
 use Rattle.spec_commands.proofs.Numbered.{leavers_ties}
 use Rattle.spec_commands.proofs.Lines.{quiet_parted}
-use Rattle.muck_queue.specs.Queues.{claimed, released}
+use Rattle.muck_queue.specs.Queues.{is_tied_to, claimed, released}
 use Rattle.spec_events.specs.World.{World, booted, starting, connection}
 use Rattle.spec_events.specs.Steps.{effect, happened}
 use Rattle.spec_events.specs.Licences.{Untouched, EventLicensed}
 use Rattle.spec_events.specs.Histories.{AllLicensed}
-use Rattle.spec_events.proofs.Endings.{IsTold, tied_remain}
+use Rattle.spec_events.proofs.Endings.{IsTold, processes_remain, tied_remain}
 use Rattle.spec_events.proofs.Done.{none_ends, undisturbed_quietly, turn_licensed, told_by, told_done}
 use Rattle.spec_events.proofs.Taken.{told_sliced}
 use Rattle.spec_events.proofs.Chained.{slice_licensed}
@@ -36,8 +36,9 @@ gone_away_untouched d w =
 event_licensed : (event : Event) (w : World) (party : ℕ) → IsTold w.live → EventLicensed event w (happened w party event)
 unfolding opened line_added bytes_taken claimed released
 event_licensed (Exec d) w party told = exec_licensed d w party told
-event_licensed (Slice pid) w party told = let s = slice_licensed pid w told in record { units = s.units; chained = s.chained; leads = s.leads; processes = s.processes }
-event_licensed (Closed d) w party told = (gone_away_untouched d w.live, tied_remain d w.queue)
+event_licensed (Slice pid) w party told = let s = slice_licensed pid w told in record { units = s.units; chained = s.chained; leads = s.leads; processes = s.processes; whole = s.whole }
+event_licensed (Closed d) w party told =
+    (gone_away_untouched d w.live, processes_remain (λ p. is_tied_to d p ≡ true) (λ p. is_tied_to d p ≡ true) w (happened w party (Closed d)) (λ p m. m) (tied_remain d w.queue))
 event_licensed (Opened d) w party told = (record { objects = refl; tune = refl }, none_ends w (happened w party (Opened d)) refl)
 event_licensed (Input d line) w party told = undisturbed_quietly (λ c. false) (on_board (line_added d line)) w (quiet_one d _ (λ c. refl))
 event_licensed (Take d n) w party told = undisturbed_quietly (λ c. false) (on_board (bytes_taken d n)) w (quiet_one d _ (λ c. refl))
