@@ -6,6 +6,10 @@ pub mod Done
 mod Deeds
 pub mod Slicing
 pub mod Units
+pub mod Modes
+mod Effects
+pub mod Sections
+pub mod Numbers
 pub mod Taken
 mod Remaining
 mod Judged
