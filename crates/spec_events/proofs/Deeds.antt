@@ -111,24 +111,24 @@ module _ (may : Process → Type 0) (w : World) where
   -- any of them
   leads_effect : IsSteady may → (pid : ℤ) (x : Agent) (s : Source) → ((q : Process) → EndedBy (acting x s w.live.objects) w.live.objects q → may q) →
       (e : Effect) → Leaves (acting x s w.live.objects) w.live w.queue e → Leads (Left may w) (effected pid x s w e)
-  leads_effect steady pid x s open (gives stack live queue) h = record {
+  leads_effect steady pid x s ends (gives stack live queue) h = record {
     quietly = record { objects = h.shows.objects; ties = h.shows.ties; tune = h.shows.tune; dead = refl };
-    lasting = lasting_stays may (EndedBy (acting x s w.live.objects) w.live.objects) steady open w.queue queue h.stays;
+    lasting = lasting_stays may (EndedBy (acting x s w.live.objects) w.live.objects) steady ends w.queue queue h.stays;
   }
-  leads_effect steady pid x s open (waits n stack queue) h = record {
+  leads_effect steady pid x s ends (waits n stack queue) h = record {
     quietly = record { objects = refl; ties = refl; tune = refl; dead = refl };
-    lasting = lasting_stays may (EndedBy (acting x s w.live.objects) w.live.objects) steady open w.queue queue h.stays;
+    lasting = lasting_stays may (EndedBy (acting x s w.live.objects) w.live.objects) steady ends w.queue queue h.stays;
   }
-  leads_effect steady pid x s open (forks stack) h = leads_forked pid stack s
-  leads_effect steady pid x s open (enters stack d name) h = leads_called (acting x s w.live.objects) (behind stack s) d name
-  leads_effect steady pid x s open (starts stack d seconds argument) h = leads_queued x stack d seconds argument s
-  leads_effect steady pid x s open (refuses f) h = left_same
+  leads_effect steady pid x s ends (forks stack) h = leads_forked pid stack s
+  leads_effect steady pid x s ends (enters stack d name) h = leads_called (acting x s w.live.objects) (behind stack s) d name
+  leads_effect steady pid x s ends (starts stack d seconds argument) h = leads_queued x stack d seconds argument s
+  leads_effect steady pid x s ends (refuses f) h = left_same
 
   pub leads_done : IsSteady may → (pid : ℤ) (x : Agent) (p : Name) (s : Source) → ((q : Process) → EndedBy (acting x s w.live.objects) w.live.objects q → may q) → Leads (Left may w) (process_done pid x p s w)
   unfolding process_done
-  leads_done steady pid x p s open =
+  leads_done steady pid x p s ends =
       let a : Actor = acting x s w.live.objects in
-      leads_effect steady pid x s open (processed p (place_in pid s w) a (locked_of s.marks) s.stack w.live w.queue) (leaves p (place_in pid s w) a (locked_of s.marks) s.stack w.live w.queue)
+      leads_effect steady pid x s ends (processed p (place_in pid s w) a (locked_of s.marks) s.stack w.live w.queue) (leaves p (place_in pid s w) a (locked_of s.marks) s.stack w.live w.queue)
 
 -- what holds where any may end
 pub leads_quietly : (pid : ℤ) (x : Agent) (p : Name) (s : Source) (w : World) → Leads (Quietly w) (process_done pid x p s w)
