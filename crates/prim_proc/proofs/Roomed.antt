@@ -40,7 +40,7 @@ module _ (rest : List Datum) (x : Place) (w : Live) (q : Queue) where
   upon_roomed Draw l = has_room rest 1 _ l
   upon_roomed (Kill i) l = has_room rest 1 _ l
   upon_roomed (SetMode mode) l = has_room rest 0 _ l
-  upon_roomed (Send i name data) l = sent_upon (nat_le events_most (events_of i q)) _ l
+  upon_roomed (Send i name value) l = sent_upon (nat_le events_most (events_of i q)) _ l
   upon_roomed Receive l = oldest_upon (events_in x.pid q) l
   upon_roomed (Sleep due) l = has_room rest 0 _ l
   upon_roomed Read l = has_room rest 1 _ l
@@ -61,7 +61,7 @@ module _ (rest : List Datum) (x : Place) (w : Live) (q : Queue) where
   upon_full Receive most l = oldest_full (events_in x.pid q) l
   upon_full Nothing most l = few l most
   upon_full (SetMode mode) most l = few l most
-  upon_full (Send i name data) most l = few l most
+  upon_full (Send i name value) most l = few l most
   upon_full (Sleep due) most l = few l most
   upon_full (Enter program word) most l = few l most
   upon_full (Start program delay argument) most l = few l most

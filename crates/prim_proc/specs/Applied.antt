@@ -1,5 +1,6 @@
 -- What a primitive of processes makes of a frame, of the world that a guard lends and of the processes.
-use Rattle.std.specs.Prelude.{◌≡◌, ◌≤◌, ℕ, List, length, drop, Option, Some, None, Result, Ok, Err}
+use Rattle.std.specs.Prelude.{◌≡◌, ◌<◌, ◌≤◌, ℕ, List, length, drop, Option, Some, None, Result, Ok, Err}
+use Rattle.muf_model.specs.Answer.{stack_most}
 use Rattle.muf_model.specs.Datum.{Datum}
 use Rattle.muf_frame.specs.declared.fault.PrimFault.{PrimFault}
 use Rattle.muf_frame.specs.declared.fault.PrimFault.TheVariants.{Fault, NoMemory}
@@ -34,7 +35,7 @@ called_items (Some name) = 2
 abbrev pub Applied : Effect → Shown → Shown → Guard → Guard → Table → Table → Result After PrimFault → Type 0
 Applied (gives stack w q) f g old new was is (Ok Go) = HasStack stack f g × (world_of new ≡ w) × Kept old new × (is ≡ q)
 Applied (waits n stack q) f g old new was is (Ok Wait) = HasStack stack f g × Untouched old new × (is ≡ q)
-Applied (forks stack) f g old new was is (Ok Fork) = HasStack stack f g × Untouched old new × (is ≡ was)
+Applied (forks stack) f g old new was is (Ok Fork) = HasStack stack f g × (length stack < stack_most) × Untouched old new × (is ≡ was)
 Applied (enters stack d name) f g old new was is (Ok (Call program word)) =
     Unchanged f g old new was is × (program.0 ≡ d) × (word ≡ name) × IsLeft (called_items name) stack f
 Applied (starts stack d seconds argument) f g old new was is (Ok (Queue program delay text)) =

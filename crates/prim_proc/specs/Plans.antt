@@ -43,8 +43,8 @@ effect_of (Give item) x w q = gives (view item ∷ []) w q
 effect_of Draw x w q = gives (int (pos (random_word w / 2)) ∷ []) (draw w) q
 effect_of (Kill i) x w q = gives (int (pos 1) ∷ []) w (without i q)
 effect_of (SetMode mode) x w q = gives [] w (on_process x.pid (in_mode mode) q)
-effect_of (Send i name data) x w q =
-    if nat_le events_most (events_of i q) then refuses TooHeavy else gives [] w (on_process i (told_event x.moment (name, view data)) q)
+effect_of (Send i name value) x w q =
+    if nat_le events_most (events_of i q) then refuses TooHeavy else gives [] w (on_process i (told_event x.moment (name, view value)) q)
 effect_of Receive x w q = oldest (events_in x.pid q) x w q
 effect_of (Sleep due) x w q = waits 0 [] (on_process x.pid (sleeping due) q)
 effect_of Read x w q = waits 1 [] (on_process x.pid (resting ForLine) q)
@@ -80,9 +80,9 @@ TakesAll plan n = Unit {0}
 
 -- an event was sent, or there were too many, and nothing has changed
 abbrev pub Sent : ℤ → ℕ → List ℕ → Datum → Queue → Queue → Result (Unit {0}) PrimFault → Type 0
-Sent pid moment name data old new (Ok u) = (nat_le events_most (events_of pid old) ≡ false) × (new ≡ on_process pid (told_event moment (name, data)) old)
-Sent pid moment name data old new (Err (Fault f)) = (nat_le events_most (events_of pid old) ≡ true) × (f ≡ TooHeavy) × (new ≡ old)
-Sent pid moment name data old new (Err NoMemory) = Unit {0}
+Sent pid moment name value old new (Ok u) = (nat_le events_most (events_of pid old) ≡ false) × (new ≡ on_process pid (told_event moment (name, value)) old)
+Sent pid moment name value old new (Err (Fault f)) = (nat_le events_most (events_of pid old) ≡ true) × (f ≡ TooHeavy) × (new ≡ old)
+Sent pid moment name value old new (Err NoMemory) = Unit {0}
 
 -- the oldest of these events was given, upon the rest of the stack; or there is none, and the process waits
 abbrev pub GivenOf : List (List ℕ × Datum) → Place → List Datum → Shown → Shown → Queue → Queue → After → Type 0

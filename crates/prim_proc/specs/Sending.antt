@@ -33,9 +33,9 @@ sender_entries x a p =
 
 -- what comes with it, where that isn't too heavy
 abbrev pub DataMade : Place → Actor → Process → Datum → Result Value PrimFault → Type 0
-DataMade x a p data (Ok made) = (fits (event_data x a p data) ≡ true) × (view made ≡ event_data x a p data)
-DataMade x a p data (Err (Fault f)) = (fits (event_data x a p data) ≡ false) × (f ≡ TooHeavy)
-DataMade x a p data (Err NoMemory) = Unit {0}
+DataMade x a p value (Ok made) = (fits (event_data x a p value) ≡ true) × (view made ≡ event_data x a p value)
+DataMade x a p value (Err (Fault f)) = (fits (event_data x a p value) ≡ false) × (f ≡ TooHeavy)
+DataMade x a p value (Err NoMemory) = Unit {0}
 
 -- its name, where that isn't too long
 abbrev pub NameMade : List ℕ → Result (List ℕ) PrimFault → Type 0

@@ -9,5 +9,5 @@ started_in stack = None
 
 -- a number, the text upon it and anything upon that
 abbrev pub sent_in : List Datum → Option (ℤ × List ℕ × Datum)
-sent_in (data ∷ text t ∷ int i ∷ rest) = Some (i, t, data)
+sent_in (value ∷ text t ∷ int i ∷ rest) = Some (i, t, value)
 sent_in stack = None

@@ -19,6 +19,9 @@ Stays may (Some p) None = may p
 Stays may None (Some r) = ⊥
 Stays may None None = Unit {0}
 
+pub same_so : {p r : Process} → r.number ≡ p.number → r.program ≡ p.program → r.player ≡ p.player → r.running ≡ p.running → IsSame p r
+same_so a b c d = record { number = a; program = b; player = c; running = d }
+
 pub same_itself : (p : Process) → IsSame p p
 same_itself p = record { number = refl; program = refl; player = refl; running = refl }
 
@@ -47,11 +50,11 @@ module _ (may : Process → Type 0) where
 
     pub stays_changed : (ps : List Process) (at : ℤ) → Stays may (find (has_pid at) ps) (find (has_pid at) (changed_first (has_pid pid) f ps))
     stays_changed [] at = tt
-    stays_changed (p ∷ ps) at = here (has_pid pid p)
+    stays_changed (p ∷ ps) at = here (stays_changed ps at) (has_pid pid p)
       where
-        here : (c : Bool) → Stays may (find (has_pid at) (p ∷ ps)) (find (has_pid at) (cond c (f p ∷ ps) (p ∷ changed_first (has_pid pid) f ps)))
-        here true = changed_one p at (find (has_pid at) ps)
-        here false = behind_one p (has_pid at p) _ _ (stays_changed ps at)
+        here : Stays may (find (has_pid at) ps) (find (has_pid at) (changed_first (has_pid pid) f ps)) → (c : Bool) → Stays may (find (has_pid at) (p ∷ ps)) (find (has_pid at) (cond c (f p ∷ ps) (p ∷ changed_first (has_pid pid) f ps)))
+        here h true = changed_one p at (find (has_pid at) ps)
+        here h false = behind_one p (has_pid at p) _ _ h
 
   -- one goes that may end
   module _ (pid : ℤ) (other : Process) (h : may other) where
@@ -60,9 +63,10 @@ module _ (may : Process → Type 0) where
     gone_one p false o e = stays_itself o
 
     pub stays_without : (ps : List Process) (at : ℤ) → find (has_pid pid) ps ≡ Some other → Stays may (find (has_pid at) ps) (find (has_pid at) (without_first (has_pid pid) ps))
-    stays_without [] at e = absurd cc
-    stays_without (p ∷ ps) at = here (has_pid pid p)
+    stays_without [] at = λ e. absurd cc
+    stays_without (p ∷ ps) at = here (stays_without ps at) (has_pid pid p)
       where
-        here : (c : Bool) → cond c (Some p) (find (has_pid pid) ps) ≡ Some other → Stays may (find (has_pid at) (p ∷ ps)) (find (has_pid at) (cond c ps (p ∷ without_first (has_pid pid) ps)))
-        here true e = gone_one p (has_pid at p) (find (has_pid at) ps) e
-        here false e = behind_one p (has_pid at p) _ _ (stays_without ps at e)
+        here : (find (has_pid pid) ps ≡ Some other → Stays may (find (has_pid at) ps) (find (has_pid at) (without_first (has_pid pid) ps))) → (c : Bool) → cond c (Some p) (find (has_pid pid) ps) ≡ Some other →
+            Stays may (find (has_pid at) (p ∷ ps)) (find (has_pid at) (cond c ps (p ∷ without_first (has_pid pid) ps)))
+        here h true e = gone_one p (has_pid at p) (find (has_pid at) ps) e
+        here h false e = behind_one p (has_pid at p) _ _ (h e)
