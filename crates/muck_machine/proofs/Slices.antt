@@ -15,7 +15,7 @@ use Rattle.muf_running.specs.declared.stint.Ran.{Ran}
 use Rattle.muf_running.specs.declared.stint.Ran.TheVariants.{Going, Asking, Ended, Faulted}
 use Rattle.muf_running.specs.Stints.{RanAlike, AskedAt, Raised}
 use Rattle.muck_queue.specs.declared.process.Process.{Process}
-use Rattle.muck_queue.specs.Queues.{Queue, process, standing, counted}
+use Rattle.muck_queue.specs.Queues.{Queue, process, standing, counted, released}
 use Rattle.muck_queue.proofs.Standing.{none_standing}
 use Rattle.muck_queue.proofs.Changed.{without_changed}
 use Rattle.spec_events.specs.declared.starting.Agent.{Agent}
@@ -23,7 +23,9 @@ use Rattle.spec_events.specs.World.{World, on_live, on_queue}
 use Rattle.spec_events.specs.Following.{settled}
 use Rattle.spec_live.specs.Lives.{tell_player}
 use Rattle.spec_rights.specs.declared.act.Actor.{Actor}
-use Rattle.spec_events.specs.Slices.{Deed, acting, deed, program_error, stands_at, ended_one, broken, out, went, after_deed, Turn, on, rest, over, world_of, agent_of, seat_of, seat, is_through, limit_fault}
+use Rattle.spec_events.specs.Slices.{Deed, acting, deed, program_error, stands_at, ended_one, broken, out, went, after_deed, Turn, on, rest, over, world_of, agent_of, seat_of, seat, is_through, limit_fault, slice_most, run_of, last_world, awake, sliced}
+use Rattle.spec_events.specs.Steps.{happened}
+use Rattle.muck_model.specs.declared.event.Event.TheVariants.{Slice}
 use Rattle.spec_events.specs.Stints.{many_counted, unbroken, unspent, allowed}
 use Rattle.spec_events.proofs.Units.{finish, after_turn, finish_none, finish_zero, finish_through, finish_limit, stands_same, stands_moved, broken_moved, counted_moved, resumed, resumed_moved, run_law}
 use Rattle.muck_machine.specs.declared.state.deeds.Done.TheVariants.{Does as DoneDoes, Rests as DoneRests, Fails as DoneFails}
@@ -113,22 +115,24 @@ module _ (pid : ℤ) (x : Agent) (m u : ℕ) (s : Source) (w v : World) (ran : R
   alike_as : (r : Ran) → ran ≡ r → RanAlike r (units m s)
   alike_as r e = subst (λ y. RanAlike y (units m s)) e alike
 
-  pub going_so : (t : Source) → ran ≡ Going t → v ≡ stands_at pid t (many_counted u pid w) → Runs pid x m s w v (Some u)
-  going_so t e is =
+  pub going_so : (t : Source) (k : ℕ) → ran ≡ Going t → v ≡ stands_at pid t (many_counted u pid w) → k ≡ u → Runs pid x m s w v (Some k)
+  going_so t k e is c =
       let known = going_by pid x s.program.number (taken m s) t w (units m s) (alike_as (Going t) e) in
-      (units_are ∙ sym known.1, subst (λ y. LeadsTo true y (left_so pid x s.program.number (taken m s) (units m s) w)) (ap (λ n. stands_at pid t (many_counted n pid w)) (sym units_are) ∙ sym is) known.0)
+      (c ∙ units_are ∙ sym known.1, subst (λ y. LeadsTo true y (left_so pid x s.program.number (taken m s) (units m s) w)) (ap (λ n. stands_at pid t (many_counted n pid w)) (sym units_are) ∙ sym is) known.0)
 
-  asking_known : (p : Name) (t : Source) (b : Bool) (z : World) → ran ≡ Asking p t → z ≡ many_counted (suc u) pid w → LeadsTo b v (after_deed pid x.player t (deed pid x p t z)) →
+  asking_known : (p : Name) (t : Source) (b : Bool) (n : ℕ) (z : World) → ran ≡ Asking p t → n ≡ suc u → z ≡ many_counted n pid w → LeadsTo b v (after_deed pid x.player t (deed pid x p t z)) →
       LeadsTo b v (left_so pid x s.program.number (taken m s) (units m s) w) × (ran_units (taken m s) (units m s) ≡ suc (taken m s))
-  asking_known p t b z e is h =
+  asking_known p t b n z e c is h =
       asking_by pid x s.program.number (taken m s) p t w v b (units m s) (alike_as (Asking p t) e)
-      (subst (λ y. LeadsTo b v (after_deed pid x.player t (deed pid x p t y))) (is ∙ ap (λ n. many_counted (suc n) pid w) units_are) h)
+      (subst (λ y. LeadsTo b v (after_deed pid x.player t (deed pid x p t y))) (is ∙ ap (λ k. many_counted k pid w) (c ∙ ap suc units_are)) h)
 
-  pub asking_so : (p : Name) (t : Source) (z : World) (k : ℕ) → ran ≡ Asking p t → z ≡ many_counted (suc u) pid w → LeadsTo true v (after_deed pid x.player t (deed pid x p t z)) → k ≡ suc u → Runs pid x m s w v (Some k)
-  asking_so p t z k e is h c = let known = asking_known p t true z e is h in (c ∙ ap suc units_are ∙ sym known.1, known.0)
+  pub asking_so : (p : Name) (t : Source) (b : Bool) (n k : ℕ) (z : World) → ran ≡ Asking p t → n ≡ suc u → z ≡ many_counted n pid w → b ≡ true → LeadsTo b v (after_deed pid x.player t (deed pid x p t z)) → k ≡ suc u → Runs pid x m s w v (Some k)
+  asking_so p t b n k z e c is goes h d =
+      let known = asking_known p t true n z e c is (subst (λ y. LeadsTo y v (after_deed pid x.player t (deed pid x p t z))) goes h) in
+      (d ∙ ap suc units_are ∙ sym known.1, known.0)
 
-  pub asked_so : (p : Name) (t : Source) (z : World) → ran ≡ Asking p t → z ≡ many_counted (suc u) pid w → LeadsTo false v (after_deed pid x.player t (deed pid x p t z)) → Runs pid x m s w v None
-  asked_so p t z e is h = (asking_known p t false z e is h).0
+  pub asked_so : (p : Name) (t : Source) (b : Bool) (n : ℕ) (z : World) → ran ≡ Asking p t → n ≡ suc u → z ≡ many_counted n pid w → b ≡ false → LeadsTo b v (after_deed pid x.player t (deed pid x p t z)) → Runs pid x m s w v None
+  asked_so p t b n z e c is stops h = (asking_known p t false n z e c is (subst (λ y. LeadsTo y v (after_deed pid x.player t (deed pid x p t z))) stops h)).0
 
   pub ended_so : ran ≡ Ended → v ≡ ended_one pid w → Runs pid x m s w v None
   ended_so e is = subst (λ y. LeadsTo false y (left_so pid x s.program.number (taken m s) (units m s) w)) (sym is) (ended_by pid x s.program.number (taken m s) w (units m s) (alike_as Ended e))
@@ -223,6 +227,14 @@ module _ (tune : Tune) (pid : ℤ) (x : Agent) where
     stops_so m u e is h =
         ran_by m e ∙ ap (λ y. after_turn tune (n - ran_units (taken m s) (units m s)) pid (ran pid x (taken m s) s.program.number (units m s) y)) (sym is)
         ∙ after_off tune pid (n - ran_units (taken m s) (units m s)) v _ h
+
+-- The whole of it: the process wakes, takes its units, and then nobody claims it.
+pub slice_so : (pid : ℤ) (tune : Tune) (most : ℕ) (w u v : World) → tune ≡ w.live.board.tune → most ≡ slice_most tune → u ≡ awake pid w → v ≡ last_world u (run_of tune most pid u) → on_queue (released pid) v ≡ happened w 0 (Slice pid)
+unfolding sliced
+slice_so pid tune most w u v tuned count woke is =
+    ap (on_queue (released pid))
+    (is ∙ ap (λ n. last_world u (run_of tune n pid u)) count ∙ ap (λ t. last_world u (run_of t (slice_most t) pid u)) tuned
+    ∙ ap (λ y. last_world y (run_of w.live.board.tune (slice_most w.live.board.tune) pid y)) woke)
 
 -- A shared primitive.
 

@@ -5,7 +5,8 @@ ghost use Rattle.std.specs.Option.{option_copied};
 ghost use Rattle.std.specs.Str.{bytes_eq};
 ghost use Rattle.muf_model.specs.Decode.{tree_of};
 ghost use Rattle.muf_running.specs.Fitting.{IsAtPrimitive};
-ghost use Rattle.spec_events.specs.Slices.{behind, called_word, is_offered, program_called};
+ghost use Rattle.spec_events.specs.Slices.{behind, called_word, form_called, is_offered, program_called};
+ghost use Rattle.muck_library.specs.Library.{formed};
 ghost use Rattle.prim_proc.specs.Applied.{called_items};
 ghost use Rattle.muck_machine.specs.Deeds.{target, DoneAs, Enters, IsWord, MayEnter};
 
@@ -17,6 +18,14 @@ use muf_model::{CALLS_MOST, Code, CodeWord, MufFault, Offer, Shared, Text};
 use muf_running::Running;
 use spec_rights::Actor;
 use std::alloc::Global;
+
+// What CALL finds on the stack: a program, the name of a word where there is one, and how many items that is.
+#[derive(Drop)]
+struct Request<'a> {
+    program: Dbref,
+    name: Option<&'a Text>,
+    items: usize,
+}
 
 // A word that is to be entered, by its number among the words of its program.
 #[derive(Drop)]
@@ -30,6 +39,7 @@ struct Entrance {
 impl State {
     /// CALL of a program, of its last word or of the word of a name: its items, which stand on the stack still, go once the word is
     /// entered.
+    #[tactic(auto, unfolding(spec_events::specs::Slices::program_called))]
     pub fn do_call(
         &mut self,
         actor: Actor,
@@ -41,7 +51,12 @@ impl State {
         requires items { called_items name ≤ length running.stack }
         ensures { IfOk result (λ done. DoneAs (program_called actor (behind (drop (called_items name) running.stack) running) program.0 name self.old) running self.new done) }
     {
-        match self.find_entrance(&actor, &running, program, name.as_ref()) {
+        let asked = Request {
+            program,
+            name: name.as_ref(),
+            items: called_items(name.as_ref()),
+        };
+        match self.find_entrance(&actor, &running, asked) {
             Ok(entrance) => {
                 let next = enter(self.alloc, running, entrance)?;
                 Ok(Done::Does(next))
@@ -52,17 +67,20 @@ impl State {
     }
 
     // The word that is asked for, in the built form of its program, which is made where it isn't there yet.
-    #[tactic(auto, unfolding(spec_events::specs::Slices::program_called))]
     fn find_entrance(
         &mut self,
         actor: &Actor,
         running: &Running,
-        program: Dbref,
-        name: Option<&Text>,
+        asked: Request<'_>,
     ) -> Result<Entrance, DeedFault>
-        requires { called_items (option_copied name) ≤ length running.now.stack }
-        ensures { Enters (program_called actor.now (behind (drop (called_items (option_copied name.entry)) running.now.stack) running.now) program.0 (option_copied name.entry) self.old) running.now self.new result }
+        requires { asked.items ≤ length running.now.stack }
+        ensures { Enters (form_called actor.now (behind (drop asked.entry.items running.now.stack) running.now) asked.entry.program.0 (option_copied asked.entry.name) (formed self.old.live.objects asked.entry.program self.old.library) self.old) running.now self.new result }
     {
+        let Request {
+            program,
+            name,
+            items,
+        } = asked;
         let Some(code) = self.library.formed(self.alloc, &self.db, program)? else {
             return Err(DeedFault::Fault(MufFault::NotCompiled));
         };
@@ -76,8 +94,18 @@ impl State {
             program,
             code,
             word,
-            items: if name.is_some() { 2 } else { 1 },
+            items,
         })
+    }
+}
+
+// How many items CALL takes: the program, and the name of a word where there is one.
+fn called_items(name: Option<&Text>) -> usize
+    ensures { result ≡ called_items (option_copied name.entry) }
+{
+    match name {
+        Some(_) => 2,
+        None => 1,
     }
 }
 

@@ -31,7 +31,6 @@ use std::alloc::Global;
 impl State {
     /// A primitive of processes: the world, the processes and the frame of its own one are lent to it, and what it asks for beyond
     /// these is done.
-    #[tactic(auto, unfolding(spec_events::specs::Slices::process_done))]
     pub fn do_process(
         &mut self,
         pid: i32,
@@ -85,6 +84,7 @@ impl State {
     }
 
     // The row of a primitive of processes: objects, board and processes are lent to it.
+    #[tactic(auto, using(crate::proofs::Processes::process_applied))]
     fn apply_process(
         &mut self,
         prim: Prim,
@@ -128,7 +128,6 @@ impl State {
 
     // QUEUE: a program is started in the background, so many seconds later; its items, which stand on the stack still, give way to the
     // number of the process.
-    #[tactic(auto, unfolding(spec_events::specs::Slices::queued))]
     fn do_queue(&mut self, call: Call, delay: u32, running: Running) -> Result<Done, NoMemory>
         requires at { IsAtPrimitive running.now }
         requires items { 3 ≤ length running.stack }

@@ -49,8 +49,8 @@ impl State {
         let Some((agent, running)) = self.lend(pid) else {
             return Ok(None);
         };
-        let level = self.actor(agent, &running)?.level;
-        match next_allowance(tune, level, &agent, left) {
+        let actor = self.actor(agent, &running)?;
+        match next_allowance(tune, actor.level, &agent, left) {
             Allowance::Through => {
                 self.queue.put_back(pid, running);
                 Ok(None)
