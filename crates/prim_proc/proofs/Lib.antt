@@ -4,5 +4,8 @@ mod Carried
 mod Missing
 mod Names
 mod Needing
+mod Planned
 mod Room
 mod Roomed
+mod Sendings
+mod Taking
