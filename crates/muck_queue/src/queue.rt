@@ -236,7 +236,13 @@ impl Queue {
     /// second. Answers whether the process is there. `TooManyEvents` comes exactly where it has 64. After an error, and where
     /// the process isn't there, nothing has changed.
     #[tactic(auto, unfolding(crate::specs::Queues::on_process))]
-    pub fn event(&mut self, pid: i32, moment: u64, name: Text, item: Value) -> Result<bool, QueueFault>
+    pub fn event(
+        &mut self,
+        pid: i32,
+        moment: u64,
+        name: Text,
+        item: Value,
+    ) -> Result<bool, QueueFault>
         ensures { Sends pid moment (name, view item) self.old self.new result }
     {
         let Some(process) = self.get(pid) else {
@@ -245,12 +251,17 @@ impl Queue {
         if process.events.len() >= 64 {
             return Err(QueueFault::TooManyEvents);
         }
-        processes::give_event(&mut self.processes, pid, moment, ProcessEvent { name, data: item })?;
+        processes::give_event(
+            &mut self.processes,
+            pid,
+            moment,
+            ProcessEvent { name, data: item },
+        )?;
         Ok(true)
     }
 
     /// Takes out the oldest event of the process of a number; `None`, and nothing has changed, where it has none.
-    #[tactic(auto, unfolding(crate::specs::Queues::on_process))]
+    #[tactic(auto, unfolding(crate::specs::Queues::on_process, crate::specs::Queues::oldest_event))]
     pub fn take_event(&mut self, pid: i32) -> Option<ProcessEvent>
         ensures event { option_map shown result ≡ oldest_event pid self.old }
         ensures rest { self.new ≡ on_process pid without_event self.old }

@@ -3,9 +3,15 @@ pub mod Told
 pub mod Endings
 mod Lapses
 pub mod Done
+mod Deeds
+pub mod Slicing
 pub mod Units
-mod Remaining
+pub mod Modes
+mod Effects
+pub mod Sections
+pub mod Numbers
 pub mod Taken
+mod Remaining
 mod Judged
 mod Chained
 pub mod Living
