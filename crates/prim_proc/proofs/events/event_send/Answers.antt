@@ -1,4 +1,4 @@
-use Rattle.std.proofs.Common.{rules, ◌≡◌, List, [], length, Option, Some, Ok, Err, true, false, cond, sym, ap, ◌∙◌, subst}
+use Rattle.std.proofs.Common.{rules, ◌≡◌, List, [], length, Option, Some, Ok, Err, true, false, cond, w32, to_z, of_z, sym, ap, ◌∙◌, subst}
 use Rattle.std.specs.Prelude.{nat_le, nat_lt}
 use Rattle.muck_model.specs.Bytes.{text_most}
 use Rattle.muf_model.specs.declared.fault.MufFault.TheVariants.{TooHeavy}
@@ -21,18 +21,17 @@ returns-in_err-item c = λ w.
     let a = c.args.guard.now.actor in
     let own = c.args.own.now in
     let q = c.args.queue.now in
-    let i = c.in-Some.pid in
+    let i = to_z w32 (of_z w32 c.in-Some.pid) in
     let name = event_name c.in-Some.name.now in
     let value = event_data x a own (view c.in-Some.item.now) in
     let seen : sent_in (flat c.args.frame.now).stack ≡ Some (i, c.in-Some.name.now, view c.in-Some.item.now) = search rules in
     let here : process i q ≡ Some c.in-Some-get.other.now = search rules in
     let few : nat_le events_most (length c.in-Some-get.other.now.events) ≡ false = search rules in
-    let named : NameMade name c.event_name.result = c.event_name.ensures in
     let short : nat_lt text_most (length name) ≡ false = search rules in
     let copied : view c.in_ok-copy.field-0 ≡ view c.in-Some.item.now = search rules in
-    let was : c.event_data.result ≡ Err c.in_err-item.field-0 = search rules in
-    let back : c.from_residual-in_err-item.result ≡ Err c.in_err-item.field-0 = search rules in
-    rw back (unmade x i name w q c.in-Some-get.other.now a own (view c.in-Some.item.now) c.in_err-item.field-0 few short here _
+    let was : c.event_data.result ≡ Err c.in_err-item.field-0.0 = search rules in
+    let back : c.from_residual-in_err-item.result ≡ Err c.in_err-item.field-0.0 = search rules in
+    rw back (unmade x i name w q c.in-Some-get.other.now a own (view c.in-Some.item.now) c.in_err-item.field-0.0 few short here _
       (event_send_at x a own w q (flat c.args.frame.now).stack i c.in-Some.name.now (view c.in-Some.item.now) seen)
       (subst (DataMade x a own (view c.in-Some.item.now)) was (subst (λ v. DataMade x a own v c.event_data.result) copied c.event_data.ensures)))
 
@@ -42,7 +41,7 @@ returns c = λ w.
     let a = c.args.guard.now.actor in
     let own = c.args.own.now in
     let q = c.args.queue.now in
-    let i = c.in-Some.pid in
+    let i = to_z w32 (of_z w32 c.in-Some.pid) in
     let name = event_name c.in-Some.name.now in
     let value = event_data x a own (view c.in-Some.item.now) in
     let seen : sent_in (flat c.args.frame.now).stack ≡ Some (i, c.in-Some.name.now, view c.in-Some.item.now) = search rules in

@@ -14,5 +14,5 @@ returns c = λ x p q.
     let stack = (flat c.args.frame.now).stack in
     let named : text_at 0 stack ≡ Some c.in-Some.name.now = search rules in
     let same : c.in_ok-word.word ≡ c.in-Some.name.now = search rules in
-    subst (λ e. Plans e x w q c.enter.result) (sym (call_named x a p w q stack c.in-Some.name.now c.object_at.result named c.object_at.ensures ∙ ap (λ t. entering_at w a c.object_at.result (Some t)) (sym same)))
-    (c.enter.ensures x q)
+    subst (λ e. Plans e x w q c.enter-2.result) (sym (call_named x a p w q stack c.in-Some.name.now c.object_at-2.result named c.object_at-2.ensures ∙ ap (λ t. entering_at w a c.object_at-2.result (Some t)) (sym same)))
+    (c.enter-2.ensures x q)
