@@ -22,7 +22,7 @@ module _ (rest : List Datum) (n : ℕ) (effect : Effect) where
   has_none l = cond-true _ _ _ (lt-ltb stack_most (n + length rest) l)
 
 module _ (rest : List Datum) (x : Place) (w : Live) (q : Queue) where
-  sent_upon : (b : Bool) (r : Queue) → length rest ≤ stack_most → upon rest (cond b (refuses TooHeavy) (gives [] w r)) ≡ stacked rest (cond b (refuses TooHeavy) (gives [] w r))
+  sent_upon : (b : Bool) (r : Queue) → 0 + length rest ≤ stack_most → upon rest (cond b (refuses TooHeavy) (gives [] w r)) ≡ stacked rest (cond b (refuses TooHeavy) (gives [] w r))
   sent_upon true r l = refl
   sent_upon false r l = has_room rest 0 (gives rest w r) l
 

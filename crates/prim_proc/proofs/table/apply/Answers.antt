@@ -46,10 +46,9 @@ returns-in_err-test_room-clause-row c =
     let planned : c.plan.result ≡ Ok plan = search rules in
     let failed : c.test_room.result ≡ Err h = search rules in
     let back : c.from_residual-in_err-test_room.result ≡ Err (Fault h) = search rules in
-    let full : (stack_most < items_of plan + length (drop n (flat c.args.frame.now).stack)) × (h ≡ StackFull) = search rules in
-    let most : length (drop n (flat c.args.frame.now).stack) ≤ stack_most = search rules in
+    let full : (length (drop n (flat c.args.frame.now).stack) ≤ stack_most) × (stack_most < items_of plan + length (drop n (flat c.args.frame.now).stack)) × (h ≡ StackFull) = search rules in
     let b : Started c.args.prim c.args.place c.args.frame.now c.args.guard.now c.args.queue.now c.in-Some.own.now c.ready_at.result = record { here = here; of_family = c.requires; pass = c.ready_at.ensures.pass } in
-    rw back (unroomed_so b n passed c.in_ok-taken.ensures.count plan c.plan.result c.plan.ensures planned most full.0 h full.1)
+    rw back (unroomed_so b n passed c.in_ok-taken.ensures.count plan c.plan.result c.plan.ensures planned full.0 full.1 h full.2)
 
 pub carry_out-requires-clause-all : goal.carry_out-requires-clause-all
 carry_out-requires-clause-all c =
