@@ -1,3 +1,4 @@
 pub mod Keeping
 pub mod Followed
 pub mod Deeds
+pub mod Claims
