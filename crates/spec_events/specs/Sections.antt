@@ -1,6 +1,5 @@
 -- Sections that stay whole.
-use Rattle.std.specs.Prelude.{◌≡◌, ◌⊎◌, ◌+◌, ◌<◌, ◌≤◌, ℤ, false, List, [], ◌∷◌, length, Option, Some, None}
-use Rattle.std.specs.Option.{option_map_or}
+use Rattle.std.specs.Prelude.{◌≡◌, ◌⊎◌, ℕ, ◌+◌, ◌≤◌, ℤ, false, List, [], ◌∷◌, length, Option, Some, None}
 use Rattle.muck_model.specs.declared.tune.Tune.{Tune}
 use Rattle.muf_model.specs.Source.{Source}
 use Rattle.muf_model.specs.declared.fault.MufFault.TheVariants.{PreemptTooLong}
@@ -27,8 +26,12 @@ LastStops pid w (t ∷ []) = Stops pid t.turn
 LastStops pid w (t ∷ u ∷ ts) = LastStops pid w (u ∷ ts)
 
 -- a unit whose section had as many as it may have
+abbrev pub IsOverlong : Tune → ℕ → Option (Agent × Source) → Type 0
+IsOverlong tune level None = ⊥
+IsOverlong tune level (Some (x, s)) = limit_fault tune level x ≡ Some PreemptTooLong
+
 abbrev pub IsTooLong : Tune → ℤ → Taken → Type 0
-IsTooLong tune pid t = option_map_or (λ (q : Agent × Source). limit_fault tune t.actor.level q.0 ≡ Some PreemptTooLong) (seat pid t.before) ⊥
+IsTooLong tune pid t = IsOverlong tune t.actor.level (seat pid t.before)
 
 abbrev pub LastTooLong : Tune → ℤ → List Taken → Type 0
 LastTooLong tune pid [] = ⊥

@@ -145,13 +145,14 @@ queued x stack d seconds argument s w =
 
 -- What a primitive of processes does with the processes and their world.
 
+-- the program that called the running one
+abbrev pub nearest : List Dbref → Option Dbref
+nearest [] = None
+nearest (d ∷ ds) = Some d
+
 -- where it is used
 abbrev pub place_in : ℤ → Source → World → Place
-place_in pid s w = record { pid = pid; program = numbered s.program.number; caller = first_caller (callers s); moment = w.moment }
-  where
-    abbrev first_caller : List Dbref → Option Dbref
-    first_caller [] = None
-    first_caller (d ∷ ds) = Some d
+place_in pid s w = record { pid = pid; program = numbered s.program.number; caller = nearest (callers s); moment = w.moment }
 
 abbrev pub effected : ℤ → Agent → Source → World → Effect → Deed World
 effected pid x s w (effect_gives stack live queue) = does (behind stack s) (record w { live = live; queue = queue })
