@@ -1,19 +1,19 @@
 -- Each change of a queue keeps what a queue keeps.
-use Rattle.std.proofs.Common.{◌≡◌, ℕ, suc, ℤ, pos, ◌+◌, ◌+ℤ◌, ◌≤◌, ◌<◌, Bool, true, false, not, List, [], ◌∷◌, ◌++◌, length, Option, ap, refl, sym, ◌∙◌, arith, if◌then◌else◌}
+use Rattle.std.proofs.Common.{◌≡◌, ℕ, suc, ℤ, pos, ◌+◌, ◌+ℤ◌, ◌≤◌, ◌<◌, Bool, true, false, not, List, [], ◌∷◌, ◌++◌, length, ap, refl, sym, ◌∙◌, arith, if◌then◌else◌}
 use Rattle.std.specs.Prelude.{map, nat_le}
 use Rattle.std.specs.List.{filter}
 use Rattle.std.proofs.lemmas.Bool.{and_parts}
 use Rattle.std.proofs.lemmas.Int.{ints}
 use Rattle.muck_model.specs.declared.dbref.Dbref.{Dbref}
-use Rattle.muf_model.specs.Source.{Source}
 use Rattle.muck_queue.specs.declared.claim.Claim.{Claim}
 use Rattle.muck_queue.specs.declared.process.Process.{Process}
-use Rattle.muck_queue.specs.Queues.{at_state, changed_first, has_pid, has_trigger, is_on, numbered, without_all, without_first, without_trigger}
+use Rattle.muck_queue.specs.Queues.{changed_first, has_pid, has_trigger, is_awaiting, is_claimed, is_due, is_on, is_reading, numbered, without_all, without_first, without_trigger}
 use Rattle.muck_queue.specs.inner.Leading.{Leads}
 use Rattle.muck_queue.specs.inner.Numbered.{Rises}
 use Rattle.muck_queue.specs.inner.Room.{Stands, unclaimed}
-use Rattle.muck_queue.proofs.Numbered.{rises_added, rises_kept, rises_without, rises_standing, rises_cleared}
-use Rattle.muck_queue.proofs.Room.{unclaimed_added, unclaimed_kept, unclaimed_without, unclaimed_standing, unclaimed_cleared, unclaimed_claimed, room_left}
+use Rattle.muck_queue.proofs.Changed.{KeepsNumber}
+use Rattle.muck_queue.proofs.Numbered.{rises_added, rises_kept, rises_without, rises_changed, rises_cleared}
+use Rattle.muck_queue.proofs.Room.{unclaimed_added, unclaimed_kept, unclaimed_without, unclaimed_changed, unclaimed_cleared, unclaimed_claimed, room_left}
 
 length_more : {X : Type 0} (xs : List X) (x : X) → length (xs ++ x ∷ []) ≡ suc (length xs)
 length_more [] x = refl
@@ -44,10 +44,10 @@ pub stands_without : (pid : ℤ) (room : ℕ) (last : ℤ) (cs : List Claim) (ps
 stands_without pid room last cs ps new h e =
     rw e (stands_fewer room last cs ps _ h (rises_without (has_pid pid) (pos 0) last ps h.numbered) (unclaimed_without cs (has_pid pid) ps))
 
-pub stands_standing : (pid : ℤ) (r : Option Source) (room : ℕ) (last : ℤ) (cs : List Claim) (ps new : List Process) → Stands room last cs ps → new ≡ changed_first (has_pid pid) (at_state r) ps → Stands room last cs new
-stands_standing pid r room last cs ps new h e =
-    let same = unclaimed_standing cs (has_pid pid) r ps in
-    rw e (stands_fewer room last cs ps _ h (rises_standing (has_pid pid) r (pos 0) last ps h.numbered) (omega arith))
+pub stands_changed : (pid : ℤ) (f : Process → Process) → KeepsNumber f → (room : ℕ) (last : ℤ) (cs : List Claim) (ps new : List Process) → Stands room last cs ps → new ≡ changed_first (has_pid pid) f ps → Stands room last cs new
+stands_changed pid f k room last cs ps new h e =
+    let same = unclaimed_changed cs (has_pid pid) f k ps in
+    rw e (stands_fewer room last cs ps _ h (rises_changed (has_pid pid) f k (pos 0) last ps h.numbered) (omega arith))
 
 pub stands_cleared : (trigger : Dbref) (room : ℕ) (last : ℤ) (cs : List Claim) (ps new : List Process) → Stands room last cs ps → new ≡ map (λ p. if has_trigger trigger p then without_trigger p else p) ps → Stands room last cs new
 stands_cleared trigger room last cs ps new h e =
@@ -60,10 +60,15 @@ not_so : (b : Bool) → not b ≡ true → b ≡ false
 not_so true e = cc
 not_so false e = refl
 
+-- a process that is due is claimed by nobody
+unclaimed_due : (moment : ℕ) (cs : List Claim) (p : Process) → is_due moment cs p ≡ true → is_claimed p.number cs ≡ false
+unclaimed_due moment cs p e =
+    not_so _ (and_parts (not (is_awaiting p)) _ (and_parts (not (is_reading p)) _ (and_parts (nat_le p.due moment) _ e).1).1).1
+
 -- a claim on the process that is to go on next takes its room
 fewer_left : (moment : ℕ) (c : Claim) (cs : List Claim) (ps : List Process) (pid : ℤ) → c.number ≡ pid → Leads moment cs ps pid → suc (unclaimed (cs ++ c ∷ []) ps) ≤ unclaimed cs ps
 fewer_left moment c cs ps pid n l =
-    unclaimed_claimed c cs l.process ps (n ∙ sym l.number) (not_so _ (and_parts (nat_le l.process.due moment) _ l.due).1) l.among
+    unclaimed_claimed c cs l.process ps (n ∙ sym l.number) (unclaimed_due moment cs l.process l.due) l.among
 
 pub room_for : (moment room : ℕ) (last : ℤ) (cs : List Claim) (ps : List Process) (pid : ℤ) → Stands room last cs ps → Leads moment cs ps pid → length cs < room
 room_for moment room last cs ps pid h l =

@@ -5,4 +5,6 @@ pub mod Numbered
 pub mod Room
 pub mod Kept
 pub mod Leading
+pub mod Changed
 pub mod Standing
+pub mod Woken

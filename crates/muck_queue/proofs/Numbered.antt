@@ -1,14 +1,14 @@
 -- Each change of a queue keeps its numbers rising.
-use Rattle.std.proofs.Common.{ℤ, pos, ◌+ℤ◌, ◌≤ℤ◌, Bool, List, [], ◌∷◌, ◌++◌, Option, arith, if◌then◌else◌}
+use Rattle.std.proofs.Common.{◌≡◌, ℤ, pos, ◌+ℤ◌, ◌≤ℤ◌, ◌<ℤ◌, Bool, List, [], ◌∷◌, ◌++◌, sym, subst, arith, if◌then◌else◌}
 use Rattle.std.specs.Prelude.{map}
 use Rattle.std.specs.List.{filter}
 use Rattle.std.proofs.lemmas.Bool.{cond_both}
 use Rattle.std.proofs.lemmas.Int.{ints}
 use Rattle.muck_model.specs.declared.dbref.Dbref.{Dbref}
-use Rattle.muf_model.specs.Source.{Source}
 use Rattle.muck_queue.specs.declared.process.Process.{Process}
-use Rattle.muck_queue.specs.Queues.{numbered, at_state, has_trigger, without_trigger, changed_first, without_first}
+use Rattle.muck_queue.specs.Queues.{numbered, has_trigger, without_trigger, changed_first, without_first}
 use Rattle.muck_queue.specs.inner.Numbered.{Rises}
+use Rattle.muck_queue.proofs.Changed.{KeepsNumber}
 
 -- also from a lower number
 rises_lower : (a b last : ℤ) (ps : List Process) → a ≤ℤ b → Rises b last ps → Rises a last ps
@@ -33,12 +33,12 @@ rises_without test low last (p ∷ ps) r =
     (λ e. rises_lower low p.number last ps (omega (arith, ints)) r.1)
     (λ e. (r.0, rises_without test p.number last ps r.1))
 
-pub rises_standing : (test : Process → Bool) (r : Option Source) (low last : ℤ) (ps : List Process) → Rises low last ps → Rises low last (changed_first test (at_state r) ps)
-rises_standing test r low last [] h = h
-rises_standing test r low last (p ∷ ps) h =
-    cond_both (test p) (at_state r p ∷ ps) (p ∷ changed_first test (at_state r) ps) (Rises low last)
-    (λ e. h)
-    (λ e. (h.0, rises_standing test r p.number last ps h.1))
+pub rises_changed : (test : Process → Bool) (f : Process → Process) → KeepsNumber f → (low last : ℤ) (ps : List Process) → Rises low last ps → Rises low last (changed_first test f ps)
+rises_changed test f k low last [] h = h
+rises_changed test f k low last (p ∷ ps) h =
+    cond_both (test p) (f p ∷ ps) (p ∷ changed_first test f ps) (Rises low last)
+    (λ e. subst (λ n. (low <ℤ n) × Rises n last ps) (sym (k p)) h)
+    (λ e. (h.0, rises_changed test f k p.number last ps h.1))
 
 pub rises_cleared : (trigger : Dbref) (low last : ℤ) (ps : List Process) → Rises low last ps → Rises low last (map (λ p. if has_trigger trigger p then without_trigger p else p) ps)
 rises_cleared trigger low last [] r = r

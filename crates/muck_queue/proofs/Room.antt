@@ -1,18 +1,18 @@
 -- Each change of a queue leaves room for the claims to come.
-use Rattle.std.proofs.Common.{◌≡◌, ◌⊎◌, inl, inr, ℕ, suc, ℤ, ◌+◌, ◌≤◌, ◌≤ℤ◌, Bool, true, false, not, cond, ◌||◌, List, [], ◌∷◌, ◌++◌, length, refl, sym, ◌∙◌, ap, subst, arith, Option, if◌then◌else◌}
+use Rattle.std.proofs.Common.{◌≡◌, ◌⊎◌, inl, inr, ℕ, suc, ℤ, ◌+◌, ◌≤◌, ◌≤ℤ◌, Bool, true, false, not, cond, ◌||◌, List, [], ◌∷◌, ◌++◌, length, refl, sym, ◌∙◌, ap, subst, arith, if◌then◌else◌}
 use Rattle.std.specs.Prelude.{map}
 use Rattle.std.specs.List.{filter}
 use Rattle.std.specs.Ordering.{int_eq}
 use Rattle.std.proofs.lemmas.Bool.{cond_both}
 use Rattle.std.proofs.lemmas.Int.{ints}
 use Rattle.muck_model.specs.declared.dbref.Dbref.{Dbref}
-use Rattle.muf_model.specs.Source.{Source}
 use Rattle.muck_queue.specs.declared.claim.Claim.{Claim}
 use Rattle.muck_queue.specs.declared.process.Process.{Process}
-use Rattle.muck_queue.specs.Queues.{at_state, changed_first, has_trigger, is_claimed, is_on, without_first, without_trigger}
+use Rattle.muck_queue.specs.Queues.{changed_first, has_trigger, is_claimed, is_on, without_first, without_trigger}
 use Rattle.muck_queue.specs.inner.Leading.{IsAmong}
 use Rattle.muck_queue.specs.inner.Numbered.{Rises}
 use Rattle.muck_queue.specs.inner.Room.{unclaimed}
+use Rattle.muck_queue.proofs.Changed.{KeepsNumber}
 
 both_more : (c : Bool) (a b : ℕ) → a ≤ b → cond c a (suc a) ≤ cond c b (suc b)
 both_more true a b h = h
@@ -47,12 +47,12 @@ unclaimed_without cs test (p ∷ ps) =
     (λ e. both_more (is_claimed p.number cs) _ _ (unclaimed_without cs test ps))
 
 -- the same numbers
-pub unclaimed_standing : (cs : List Claim) (test : Process → Bool) (r : Option Source) (ps : List Process) → unclaimed cs (changed_first test (at_state r) ps) ≡ unclaimed cs ps
-unclaimed_standing cs test r [] = refl
-unclaimed_standing cs test r (p ∷ ps) =
-    cond_both (test p) (at_state r p ∷ ps) (p ∷ changed_first test (at_state r) ps) (λ qs. unclaimed cs qs ≡ unclaimed cs (p ∷ ps))
-    (λ e. refl)
-    (λ e. ap (λ n. cond (is_claimed p.number cs) n (suc n)) (unclaimed_standing cs test r ps))
+pub unclaimed_changed : (cs : List Claim) (test : Process → Bool) (f : Process → Process) → KeepsNumber f → (ps : List Process) → unclaimed cs (changed_first test f ps) ≡ unclaimed cs ps
+unclaimed_changed cs test f k [] = refl
+unclaimed_changed cs test f k (p ∷ ps) =
+    cond_both (test p) (f p ∷ ps) (p ∷ changed_first test f ps) (λ qs. unclaimed cs qs ≡ unclaimed cs (p ∷ ps))
+    (λ e. ap (λ n. cond (is_claimed n cs) (unclaimed cs ps) (suc (unclaimed cs ps))) (k p))
+    (λ e. ap (λ n. cond (is_claimed p.number cs) n (suc n)) (unclaimed_changed cs test f k ps))
 
 pub unclaimed_cleared : (cs : List Claim) (trigger : Dbref) (ps : List Process) → unclaimed cs (map (λ p. if has_trigger trigger p then without_trigger p else p) ps) ≡ unclaimed cs ps
 unclaimed_cleared cs trigger [] = refl

@@ -1,5 +1,5 @@
 -- What a frame and the codes of its programs stand for after each step.
-use Rattle.std.proofs.Common.{◌≡◌, ℕ, zero, suc, ◌+◌, ◌-◌, ◌<◌, ◌≤◌, List, [], ◌∷◌, ◌++◌, length, take, drop, map, reverse, Option, Some, None, refl, sym, ap, subst, ◌∙◌, arith}
+use Rattle.std.proofs.Common.{◌≡◌, ℕ, zero, suc, ◌+◌, ◌-◌, ◌<◌, ◌≤◌, List, [], ◌∷◌, ◌++◌, length, take, drop, map, reverse, Option, Some, None, cond, refl, sym, ap, subst, ◌∙◌, arith}
 use Rattle.std.specs.Prelude.{ℤ, slice_get, slice_set, Result, Ok, Err, MatchResult, is_some, true, ◌||◌}
 use Rattle.std.specs.Ordering.{int_eq}
 use Rattle.std.specs.List.{list_any}
@@ -13,13 +13,13 @@ use Rattle.muf_model.specs.declared.code.Code.{Code}
 use Rattle.muf_model.specs.declared.code.CodeWord.{CodeWord}
 use Rattle.muf_model.specs.declared.code.Placed.{Placed}
 use Rattle.muf_model.specs.declared.fault.MufFault.{MufFault}
-use Rattle.muf_model.specs.Answer.{too_few, variable_at}
+use Rattle.muf_model.specs.Answer.{stack_most, too_few, variable_at}
 use Rattle.muf_model.specs.Chains.{programs_of, Keeps}
 use Rattle.muf_model.specs.Datum.{Datum, mark}
 use Rattle.muf_model.specs.Decode.{tree_of, definition_at}
 use Rattle.muf_model.specs.Fits.{MarksFit, none, enters, FitsState, fit}
 use Rattle.muf_model.specs.Flat.{FlatMark, Flat, decode, first_code}
-use Rattle.muf_model.specs.Source.{Program, Mark, Owned, Source, locked_of, passed, passed_at, entered, started, last_word}
+use Rattle.muf_model.specs.Source.{Program, Mark, Owned, Source, locked_of, handed, passed, passed_at, entered, started, last_word}
 use Rattle.muf_model.specs.Stands.{Remains, TreeStands, WordStands, WordsStand}
 use Rattle.muf_model.specs.Tree.{Block, stop, word, when, fork, ring, End}
 use Rattle.muf_model.specs.Nesting.{outside, NestedBlock, NestedWords}
@@ -231,6 +231,15 @@ lent_at es f g s h differs =
     let t : Source = decode (codes_of es) f in
     let fitted : FitsState (codes_of es) g (with_frame g t) = subst (λ x. FitsState (codes_of es) x (with_frame g t)) (sym differs) (lent_fits g h.0.0.state) in
     subst (λ x. Apart es g (with_frame g x)) h.1 (same_programs es f g (with_frame g t) h.0 fitted (lent_nested g t h.0.0.nested) refl)
+
+-- an item more, where there is room
+pub handed_at : (es : List Entered) (f g : Flat) (x : Datum) → ProgramsFit es f → length f.stack < stack_most → g ≡ record f { stack = x ∷ f.stack } → ProgramsFit es g × (decode (codes_of es) g ≡ handed x (decode (codes_of es) f))
+handed_at es f g x h room e =
+    let s : Source = decode (codes_of es) f in
+    let given : Flat = record f { stack = x ∷ f.stack } in
+    let more : handed x s ≡ with_frame given s = ap (λ b. record s { stack = cond b (x ∷ s.stack) s.stack }) (lt-ltb (length s.stack) stack_most room) in
+    let at : Apart es given (with_frame given s) = lent_at es f given s (h, refl) refl in
+    subst (λ k. ProgramsFit es k × (decode (codes_of es) k ≡ handed x s)) (sym e) (at.0, at.1 ∙ sym more)
 
 -- what the frame shows
 pub shows_at : (es : List Entered) (f : Flat) (s : Source) → Apart es f s → Shows f s

@@ -5,7 +5,7 @@ ghost use Rattle.muf_model.specs.Decode.{tree_of};
 
 use crate::world::TUNE;
 use muck_model::{Dbref, NoMemory, Row};
-use muck_queue::{Mode, Process, Queue};
+use muck_queue::{Events, Mode, Process, Queue, Wait};
 use muf_model::{Closer, Code, CodeWord, Instr, Offer, Placed, Shared, Text};
 use muf_running::{Occasion, Running};
 use std::alloc::Global;
@@ -68,7 +68,12 @@ fn add(
         trigger: program,
         command,
         descr: u32::try_from(program.0).ok(),
+        program,
         mode: Mode::Foreground,
+        wait: Wait::Nothing,
+        units: 0,
+        section: 0,
+        events: Events::new(alloc),
         running: Some(running),
     };
     let added = queue.add(process, &TUNE);
@@ -87,7 +92,7 @@ fn told(out: &mut String, process: Option<&Process>) -> Result<(), NoMemory> {
     Ok(())
 }
 
-/// `queue add PLAYER DUE PROGRAM`, `due SECOND`, `claim PARTY SECOND`, `release NUMBER SECOND`, `take NUMBER`, `show NUMBER`,
+/// `queue add PLAYER DUE PROGRAM`, `due SECOND`, `claim PARTY SECOND`, `release NUMBER SECOND`, `kill NUMBER`, `show NUMBER`,
 /// `full PLAYER`, `tied CONNECTION`, `count`.
 pub fn queue(
     alloc: Global,
@@ -110,7 +115,7 @@ pub fn queue(
             queue.release(pid);
             Ok(write!(out, "{:?}", queue.next_due(second))?)
         }
-        b"take" => told(out, queue.take(pid).as_ref()),
+        b"kill" => Ok(write!(out, "{}", queue.kill(pid))?),
         b"show" => told(out, queue.get(pid)),
         b"full" => Ok(write!(out, "{}", queue.is_full(player, &TUNE))?),
         b"tied" => Ok(write!(out, "{}", queue.is_tied(u32::from(number)))?),

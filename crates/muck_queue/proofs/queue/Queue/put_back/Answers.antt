@@ -1,6 +1,7 @@
-use Rattle.std.proofs.Common.{Some}
-use Rattle.muck_queue.proofs.Kept.{stands_standing}
+use Rattle.std.proofs.Common.{Some, refl}
+use Rattle.muck_queue.specs.Queues.{at_state}
+use Rattle.muck_queue.proofs.Kept.{stands_changed}
 use Rattle.muck_queue.proofs.queue.Queue.put_back.Goals as goal
 
 pub invariant_of-self : goal.invariant_of-self
-invariant_of-self c = stands_standing _ (Some c.args.running) _ _ _ _ _ c.self.invariant c.put_back.ensures
+invariant_of-self c = stands_changed _ (at_state (Some c.args.running)) (λ p. refl) _ _ _ _ _ c.self.invariant c.put_back.ensures

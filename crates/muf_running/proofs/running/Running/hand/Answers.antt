@@ -1,0 +1,13 @@
+use Rattle.std.proofs.Common.{◌≡◌, ◌<◌, length, map, reverse, ap, ◌∙◌, arith}
+use Rattle.std.proofs.lemmas.List.{length-map}
+use Rattle.muf_model.specs.Answer.{stack_most}
+use Rattle.muf_model.specs.View.{view}
+use Rattle.muf_frame.specs.Shown.{Shown, flat}
+use Rattle.muf_running.proofs.Process.{handed_at}
+use Rattle.muf_running.proofs.running.Running.hand.Goals as goal
+
+pub invariant_of-self : goal.invariant_of-self
+invariant_of-self c =
+    let f : Shown = c.self.inside.frame in
+    let count : length (map view f.stack) ≡ length f.stack = length-map f.stack view in
+    (handed_at (reverse c.self.inside.programs.items) (flat f) (flat c.push_item.new.self) (view c.args.item) c.self.invariant (omega (arith, count, c.len.ensures.value, c.if-len-lt-STACK_MOST.true)) (ap flat c.push_item.ensures)).0
