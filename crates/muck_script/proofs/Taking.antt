@@ -18,27 +18,27 @@ use Rattle.muck_script.specs.inner.Settling.{entries_of, slice_of, DiedDuring}
 pub no_slice : (h k : History) → next_process (now h) ≡ None → k ≡ h → Grew h k (entries_of (slice_of (next_process (now h))))
 no_slice h k e is = grew_as h k [] _ (ap (λ (o : Option ℤ). entries_of (slice_of o)) (sym e)) (grew_nothing h k is)
 
--- a process that is claimed in a world that lives, and is there
-pub record MayRun (w : World) (pid : ℤ) : Type 0 where
+-- a process that a party has claimed in a world that lives, and that is there
+pub record MayRun (party : ℕ) (w : World) (pid : ℤ) : Type 0 where
   pub alive : w.dead ≡ false
-  pub claim : has_claim 0 pid w ≡ true
+  pub claim : has_claim party pid w ≡ true
   pub there : is_there pid w ≡ true
 
 both_true : (a b : Bool) → (a && b) ≡ true → (a ≡ true) × (b ≡ true)
 both_true true b e = (refl, e)
 both_true false b e = cc
 
-lawful_runs : (w : World) (pid : ℤ) → is_lawful w (by_porter (Slice pid)) ≡ true → MayRun w pid
+pub lawful_runs : (party : ℕ) (w : World) (pid : ℤ) → is_lawful w (record { party = party; event = Slice pid }) ≡ true → MayRun party w pid
 unfolding is_lawful
-lawful_runs w pid = at w.dead refl where
-  at : (dead : Bool) → w.dead ≡ dead → cond dead false (has_claim 0 pid w && is_there pid w) ≡ true → MayRun w pid
+lawful_runs party w pid = at w.dead refl where
+  at : (dead : Bool) → w.dead ≡ dead → cond dead false (has_claim party pid w && is_there pid w) ≡ true → MayRun party w pid
   at true e l = cc
-  at false e l = let all = both_true (has_claim 0 pid w) (is_there pid w) l in record { alive = e; claim = all.0; there = all.1 }
+  at false e l = let all = both_true (has_claim party pid w) (is_there pid w) l in record { alive = e; claim = all.0; there = all.1 }
 
 -- what was claimed may be sliced
-pub may_slice : (h k : History) (pid : ℤ) → next_process (now h) ≡ Some pid → k ≡ entered h (by_porter (Claim pid)) → MayRun (now k) pid
+pub may_slice : (h k : History) (pid : ℤ) → next_process (now h) ≡ Some pid → k ≡ entered h (by_porter (Claim pid)) → MayRun 0 (now k) pid
 may_slice h k pid e is =
-    lawful_runs (now k) pid
+    lawful_runs 0 (now k) pid
     (ap (λ (w : World). is_lawful w (by_porter (Slice pid))) (now-grew h k _ (grew_one h k (by_porter (Claim pid)) is))
     ∙ chosen_lawful (now h) 0 pid e)
 

@@ -9,7 +9,7 @@ use Rattle.std.specs.List.{flat_map}
 use Rattle.muck_io.specs.Sink.{Appends, AppendsFront}
 use Rattle.muck_model.specs.declared.event.Entry.{Entry}
 use Rattle.muck_model.specs.declared.event.Event.{Event}
-use Rattle.muck_model.specs.declared.event.Event.TheVariants.{Opened, Input, Closed, Moment, Take, Died}
+use Rattle.muck_model.specs.declared.event.Event.TheVariants.{Opened, Input, Closed, Take, Died}
 use Rattle.spec_events.specs.World.{World, queue_of, is_leaving}
 use Rattle.spec_events.specs.Steps.{effect, is_lawful, is_died}
 use Rattle.spec_events.specs.Histories.{History, after, now, entered, Grew, by_porter}
@@ -93,14 +93,6 @@ opened_silent d w = refl
 pub input_silent : (d : ℕ) (line : List ℕ) (w : World) → told w (Input d line) ≡ []
 unfolding told
 input_silent d line w = refl
-
-pub closed_silent : (d : ℕ) (w : World) → is_leaving d w ≡ false → told w (Closed d) ≡ []
-unfolding told
-closed_silent d w e = cond-false _ _ _ e
-
-pub moment_silent : (t : ℕ) (w : World) → told w (Moment t) ≡ []
-unfolding told
-moment_silent t w = refl
 
 -- a part that says the same of the world as it was
 pub plays_as : {T : Type 0} (f g : Part) (h k : History) (a b : Option (List ℕ)) (r : Result T RunFault) → ((os : List Dumped) → g os (now h) ≡ f os (now h)) → PlaysOrBreaks f h k a b r → PlaysOrBreaks g h k a b r
