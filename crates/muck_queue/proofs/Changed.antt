@@ -65,6 +65,14 @@ same_first pid f (q ∷ ps) p =
       | false ↦ λ s e. ap (λ xs. q ∷ xs) (same_first pid f ps p s e)
     ]
 
+unchanged_first : (pid : ℤ) (f : Process → Process) → ((p : Process) → f p ≡ p) → (ps : List Process) → changed_first (has_pid pid) f ps ≡ ps
+unchanged_first pid f k [] = refl
+unchanged_first pid f k (p ∷ ps) =
+    elim (has_pid pid p) as (λ b. cond b (f p ∷ ps) (p ∷ changed_first (has_pid pid) f ps) ≡ p ∷ ps) [
+      | true ↦ ap (λ x. x ∷ ps) (k p)
+      | false ↦ ap (λ xs. p ∷ xs) (unchanged_first pid f k ps)
+    ]
+
 missing_first : (pid : ℤ) (f : Process → Process) (ps : List Process) → find (has_pid pid) ps ≡ None → changed_first (has_pid pid) f ps ≡ ps
 missing_first pid f [] = λ s. refl
 missing_first pid f (q ∷ ps) =
@@ -99,6 +107,10 @@ without_changed pid f k q = ap (λ ps. with_processes ps q) (taken_first pid f k
 pub changed_same : (pid : ℤ) (f : Process → Process) (q : Queue) (p : Process) → process pid q ≡ Some p → f p ≡ p → on_process pid f q ≡ q
 unfolding on_process
 changed_same pid f q p s e = ap (λ ps. with_processes ps q) (same_first pid f q.processes p s e)
+
+pub unchanged : (pid : ℤ) (f : Process → Process) → ((p : Process) → f p ≡ p) → (q : Queue) → on_process pid f q ≡ q
+unfolding on_process
+unchanged pid f k q = ap (λ ps. with_processes ps q) (unchanged_first pid f k q.processes)
 
 -- nor does one of a process that isn't there
 pub changed_missing : (pid : ℤ) (f : Process → Process) (q : Queue) → process pid q ≡ None → on_process pid f q ≡ q

@@ -77,7 +77,10 @@ impl Process {
     pub fn is_due(&self, moment: u64, claims: &[Claim]) -> bool
         ensures { result ≡ is_due moment claims.now self.now }
     {
-        self.due <= moment && !self.is_reading() && !self.is_awaiting() && !is_claimed(claims, self.number)
+        self.due <= moment
+            && !self.is_reading()
+            && !self.is_awaiting()
+            && !is_claimed(claims, self.number)
     }
 
     /// Whether it goes on before another: it is due before it, or in the same second with a lower number.

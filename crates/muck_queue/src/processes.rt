@@ -177,7 +177,12 @@ pub fn wake(processes: &mut Vec<Process>, pid: i32, moment: u64)
 }
 
 /// An event comes for a process, where it is there. After an error nothing has changed.
-pub fn give_event(processes: &mut Vec<Process>, pid: i32, moment: u64, event: ProcessEvent) -> Result<(), NoMemory>
+pub fn give_event(
+    processes: &mut Vec<Process>,
+    pid: i32,
+    moment: u64,
+    event: ProcessEvent,
+) -> Result<(), NoMemory>
     ensures ok { OnOk result (processes.new.items ≡ changed_first (has_pid pid) (told_event moment (shown event)) processes.old.items) }
     ensures err { OnErr result (processes.new.items ≡ processes.old.items) }
 {

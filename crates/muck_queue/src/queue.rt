@@ -37,13 +37,14 @@ pub struct Queue {
 impl Model for Queue {
     ghost use Rattle.std.specs.Coded.{codes};
     ghost use Rattle.muf_running.specs.contracts.running.Running as running;
+    ghost use Rattle.muf_model.specs.Codes.{datum_code};
     ghost use Rattle.muck_queue.specs.Queues.{Queue as Table};
     ghost use Rattle.std.specs.Prelude.{vec_capacity};
     ghost use Rattle.muck_queue.specs.inner.Room.{Stands};
 
     ghost Value = { Table };
 
-    ghost coded = { Prim.hlevel (codes, running.the_row.coded) };
+    ghost coded = { Prim.hlevel (codes, datum_code, running.the_row.coded) };
 
     ghost view = { λ q. record { processes = q.processes.items; last = q.last; claims = q.claims.items } };
 
@@ -235,8 +236,14 @@ impl Queue {
     /// second. Answers whether the process is there. `TooManyEvents` comes exactly where it has 64. After an error, and where
     /// the process isn't there, nothing has changed.
     #[tactic(auto, unfolding(crate::specs::Queues::on_process))]
-    pub fn event(&mut self, pid: i32, moment: u64, name: Text, data: Value) -> Result<bool, QueueFault>
-        ensures { Sends pid moment (name, view data) self.old self.new result }
+    pub fn event(
+        &mut self,
+        pid: i32,
+        moment: u64,
+        name: Text,
+        item: Value,
+    ) -> Result<bool, QueueFault>
+        ensures { Sends pid moment (name, view item) self.old self.new result }
     {
         let Some(process) = self.get(pid) else {
             return Ok(false);
@@ -244,12 +251,17 @@ impl Queue {
         if process.events.len() >= 64 {
             return Err(QueueFault::TooManyEvents);
         }
-        processes::give_event(&mut self.processes, pid, moment, ProcessEvent { name, data })?;
+        processes::give_event(
+            &mut self.processes,
+            pid,
+            moment,
+            ProcessEvent { name, data: item },
+        )?;
         Ok(true)
     }
 
     /// Takes out the oldest event of the process of a number; `None`, and nothing has changed, where it has none.
-    #[tactic(auto, unfolding(crate::specs::Queues::on_process))]
+    #[tactic(auto, unfolding(crate::specs::Queues::on_process, crate::specs::Queues::oldest_event))]
     pub fn take_event(&mut self, pid: i32) -> Option<ProcessEvent>
         ensures event { option_map shown result ≡ oldest_event pid self.old }
         ensures rest { self.new ≡ on_process pid without_event self.old }

@@ -16,7 +16,7 @@ Adds p tune old new (Err TooManyEvents) = ⊥
 
 -- It has the event, where it is there; or it has too many, and nothing has changed.
 abbrev pub Sends : ℤ → ℕ → List ℕ × Datum → Queue → Queue → Result Bool QueueFault → Type 0
-Sends pid moment event old new (Ok yes) = (yes ≡ is_some (process pid old)) × (nat_le events_most (events_of pid old) ≡ false) × (new ≡ on_process pid (told_event moment event) old)
+Sends pid moment event old new (Ok there) = (there ≡ is_some (process pid old)) × (nat_le events_most (events_of pid old) ≡ false) × (new ≡ on_process pid (told_event moment event) old)
 Sends pid moment event old new (Err TooManyEvents) = (nat_le events_most (events_of pid old) ≡ true) × (new ≡ old)
 Sends pid moment event old new (Err NoMemory) = new ≡ old
 Sends pid moment event old new (Err ProcessLimit) = ⊥
