@@ -1,1 +1,2 @@
 pub mod ProcessRows
+pub mod Worked

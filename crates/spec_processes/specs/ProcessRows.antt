@@ -2,6 +2,7 @@
 use Rattle.std.specs.Prelude.{ℕ, ◌+◌, ◌/◌, min, ℤ, pos, negsuc, Bool, true, false, ◌||◌, nat_lt, nat_le, int_lt, is_some, is_none, if◌then◌else◌, List, [], ◌∷◌, ◌++◌, length, take, drop, codes, Option, Some, None}
 use Rattle.std.specs.Int.{w32, cast_signed}
 use Rattle.std.specs.Option.{option_map_or}
+use Rattle.std.specs.Ordering.{int_eq}
 use Rattle.muck_model.specs.declared.dbref.Dbref.{Dbref}
 use Rattle.spec_live.specs.Objects.{Entry, is_program, object_at}
 use Rattle.spec_live.specs.Lives.{Live, draw, random_word}
@@ -84,10 +85,10 @@ mode_number Foreground = pos 1
 mode_number Background = pos 2
 
 abbrev pub mode_numbered : ℤ → Option Mode
-mode_numbered (pos 0) = Some Preempt
-mode_numbered (pos 1) = Some Foreground
-mode_numbered (pos 2) = Some Background
-mode_numbered n = None
+mode_numbered n =
+    if int_eq n (pos 0) then Some Preempt
+    else (if int_eq n (pos 1) then Some Foreground
+    else (if int_eq n (pos 2) then Some Background else None))
 
 -- ISPID?
 abbrev pub is_pid : Doing
@@ -158,10 +159,10 @@ named key x = (Name key, x)
 
 -- what comes with an event: what was sent, and by whom
 abbrev pub event_data : Place → Actor → Process → Datum → Datum
-event_data x a p data = dict (pairs_of (
+event_data x a p value = dict (pairs_of (
     named (codes "caller_pid") (int x.pid)
     ∷ named (codes "caller_prog") (object x.program.0)
-    ∷ named (codes "data") data
+    ∷ named (codes "data") value
     ∷ named (codes "descr") (int (option_map_or (cast_signed w32) p.descr (negsuc 0)))
     ∷ named (codes "player") (object a.player.0)
     ∷ named (codes "prog_uid") (object a.user.0)
@@ -169,14 +170,14 @@ event_data x a p data = dict (pairs_of (
     ∷ []))
 
 abbrev pub sent : Place → Option Process → ℤ → List ℕ → Datum → Live → Queue → Effect
-sent x None i name data w q = gives [] w q
-sent x (Some other) i name data w q =
+sent x None i name value w q = gives [] w q
+sent x (Some other) i name value w q =
     if nat_le events_most (length other.events) then refuses TooHeavy
     else (if nat_lt text_most (length name) then refuses TextTooLong
-    else (if fits data then gives [] w (on_process i (told_event x.moment (name, data)) q) else refuses TooHeavy))
+    else (if fits value then gives [] w (on_process i (told_event x.moment (name, value)) q) else refuses TooHeavy))
 
 abbrev pub event_send : Doing
-event_send x a p (data ∷ text s ∷ int i ∷ []) w q = sent x (process i q) i (event_name s) (event_data x a p data) w q
+event_send x a p (value ∷ text s ∷ int i ∷ []) w q = sent x (process i q) i (event_name s) (event_data x a p value) w q
 event_send x a p items w q = refuses BadType
 
 -- the oldest one, or it waits for one

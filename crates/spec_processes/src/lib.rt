@@ -2,5 +2,7 @@
 #![tactic(auto)]
 
 mod place;
+mod rows;
 
 pub use place::Place;
+pub use rows::rows_hold;

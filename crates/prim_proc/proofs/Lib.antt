@@ -1,0 +1,6 @@
+mod Asked
+mod Begun
+mod Missing
+mod Needing
+mod Room
+mod Roomed

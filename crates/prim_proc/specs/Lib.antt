@@ -1,0 +1,4 @@
+pub mod Applied
+pub mod Plans
+pub mod Sending
+pub mod Taken
