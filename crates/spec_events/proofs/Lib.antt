@@ -4,6 +4,10 @@ pub mod Endings
 mod Lapses
 pub mod Done
 pub mod Units
+pub mod Modes
+mod Effects
+pub mod Sections
+mod Numbers
 mod Remaining
 pub mod Taken
 mod Judged

@@ -2,6 +2,7 @@ pub mod World
 pub mod Following
 pub mod Starting
 pub mod Slices
+pub mod Stints
 pub mod Sections
 pub mod Lines
 pub mod Steps
