@@ -7,7 +7,7 @@ use Rattle.std.specs.Ordering.{int_eq}
 use Rattle.std.proofs.lemmas.Bool.{cond-false, or_right}
 use Rattle.std.proofs.lemmas.Bool.Decides.{nat_tests}
 use Rattle.std.proofs.lemmas.Cmp.{int_eq_equiv}
-use Rattle.muck_model.specs.declared.event.Event.TheVariants.{Claim, Slice}
+use Rattle.muck_model.specs.declared.event.Event.TheVariants.{Claim, Slice, Lost}
 use Rattle.muck_queue.specs.declared.claim.Claim.{Claim as Claimed}
 use Rattle.muck_queue.specs.declared.process.Process.{Process}
 use Rattle.muck_queue.specs.Queues.{Queue, has_pid, is_due, is_on, is_before, earlier, earliest, next_due, claimed}
@@ -108,3 +108,21 @@ pub chosen_lawful : (w : World) (party : ℕ) (pid : ℤ) → next_process w ≡
 unfolding is_lawful effect next_process
 chosen_lawful w party pid e =
     slice_may w party pid (alive_of w.dead w.stopping w.moment w.queue pid e) (due_of w.dead w.stopping _ (alive_of w.dead w.stopping w.moment w.queue pid e) (claim_may w.dead w.stopping w.moment w.queue pid (alive_of w.dead w.stopping w.moment w.queue pid e) e))
+
+-- A process that a party has claimed is sliced, or it ended meanwhile, and then the claim is lost.
+
+slice_there : (dead there claim : Bool) → dead ≡ false → claim ≡ true → there ≡ true → cond dead false (claim && there) ≡ true
+slice_there true there claim a c t = cc
+slice_there false there claim a c t = ap (λ b. b && there) c ∙ t
+
+lost_gone : (dead there claim : Bool) → dead ≡ false → claim ≡ true → there ≡ false → cond dead false (claim && not there) ≡ true
+lost_gone true there claim a c t = cc
+lost_gone false there claim a c t = ap (λ b. b && not there) c ∙ ap not t
+
+pub slice_lawful : (w : World) (party : ℕ) (pid : ℤ) → w.dead ≡ false → has_claim party pid w ≡ true → is_there pid w ≡ true → is_lawful w (record { party = party; event = Slice pid }) ≡ true
+unfolding is_lawful
+slice_lawful w party pid a c t = slice_there w.dead (is_there pid w) (has_claim party pid w) a c t
+
+pub lost_lawful : (w : World) (party : ℕ) (pid : ℤ) → w.dead ≡ false → has_claim party pid w ≡ true → is_there pid w ≡ false → is_lawful w (record { party = party; event = Lost pid }) ≡ true
+unfolding is_lawful
+lost_lawful w party pid a c t = lost_gone w.dead (is_there pid w) (has_claim party pid w) a c t

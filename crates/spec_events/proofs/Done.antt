@@ -1,5 +1,5 @@
 -- A line that is done: what it changes is open, it keeps the numbers of the connections, and the world lives on.
-use Rattle.std.proofs.Common.{◌≡◌, ℕ, Bool, true, false, cond, List, [], ◌∷◌, refl, sym, ◌∙◌, ap, subst, Option, Some, None, inl, inr}
+use Rattle.std.proofs.Common.{◌≡◌, ℕ, ℤ, Bool, true, false, cond, List, [], ◌∷◌, refl, sym, ◌∙◌, ap, subst, Option, Some, None, inl, inr}
 use Rattle.spec_live.proofs.Keeping.{keeps_followed}
 use Rattle.std.specs.Prelude.{find, ◌==◌}
 use Rattle.std.specs.Option.{option_and_then}
@@ -32,17 +32,18 @@ use Rattle.spec_commands.proofs.Permitted.{waited_open}
 use Rattle.spec_commands.proofs.Edited.{edited_proper}
 use Rattle.spec_commands.proofs.Sources.{edited_rewrites}
 use Rattle.muck_queue.specs.declared.process.Process.{Process}
-use Rattle.spec_commands.proofs.Numbered.{numbers, numbers-same_ties, leavers_ties, Seats, Seating, seating_quiet, seating_order}
+use Rattle.muck_queue.specs.Queues.{reader, on_process, told_line, without}
+use Rattle.spec_commands.proofs.Numbered.{numbers, numbers-ties, numbers-same_ties, leavers_ties, Seats, Seating, seating_quiet, seating_order}
 use Rattle.spec_commands.proofs.Lines.{seating_at_login}
-use Rattle.spec_events.specs.World.{World, on_live}
+use Rattle.spec_events.specs.World.{World, on_live, on_queue}
 use Rattle.spec_events.specs.Following.{swept, settled}
-use Rattle.spec_events.specs.Lines.{with_editor, next_editor, after_edit, edited_line, in_editor, editor_on, followed_up, in_world, line_done, done}
-use Rattle.spec_events.specs.Endings.{ProcessesLicensed, NoProcess, MayEnd, by_program}
+use Rattle.spec_events.specs.Lines.{with_editor, next_editor, after_edit, edited_line, in_editor, editor_on, followed_up, in_world, program_aborted, is_abort, given_line, line_for, line_done, done}
+use Rattle.spec_events.specs.Endings.{ProcessesLicensed, NoProcess, MayEnd, by_program, EndsReading}
 use Rattle.spec_events.specs.Licences.{Untouched, Undisturbed, LineLicensed, TurnLicensed}
-use Rattle.spec_events.proofs.Quietly.{Quietly, quietly_live, quietly_swept, quietly_launched, quietly_compiled}
+use Rattle.spec_events.proofs.Quietly.{Quietly, quietly_both, quietly_live, quietly_queue, quietly_swept, quietly_launched, quietly_compiled}
 use Rattle.spec_events.proofs.Told.{licensed_told, licensed_as}
-use Rattle.spec_events.proofs.Endings.{Lasting, lasting_same, lasting_both, lasting_up, lasting_after, IsTold, told_settled, processes_remain}
-use Rattle.spec_events.proofs.Lapses.{IsLapsing, marks_lapse, Cut, lasting_lapse}
+use Rattle.spec_events.proofs.Endings.{Lasting, lasting_same, lasting_both, lasting_changed, lasting_without, lasting_up, lasting_after, process_number, IsTold, told_settled, processes_remain}
+use Rattle.spec_events.proofs.Lapses.{IsLapsing, marks_lapse, Cut, steady_cut, lasting_lapse}
 
 -- what an actor may do to a world that is one already: the changes are open, and it is as dead as before
 pub record Open (a : Actor) (free : Freedom) (start : Live) (dead : Bool) (v : World) : Type 0 where
@@ -186,6 +187,10 @@ objects_after d program Left w = refl
 cut_ends : (a : Actor) (w v : World) → Lasting (Cut w.live v.live) w.queue v.queue → ProcessesLicensed (MayEnd a w.live v.live) w v
 cut_ends a w v g = processes_remain (Cut w.live v.live) (MayEnd a w.live v.live) w v (λ p c. by_program c.0 c.1 c.2) g
 
+-- what follows a change ends such as run what lapsed
+cut_settled : (w v : Live) (u : World) → v.objects ≡ (settled u).live.objects → IsLapsing w u.live → Lasting (Cut w v) u.queue (settled u).queue
+cut_settled w v u e lapsing = lasting_lapse (Cut w v) (steady_cut w v) w v u (λ p c. c) e lapsing
+
 nothing_edited : (a : Actor) (line : List ℕ) (es : List Entry) (x : Dbref) → (free_line a line es).edits x ≡ false
 unfolding free_line free_play
 nothing_edited a line es x = at (begins_with_sign line) (exit_for (scenery_of es) a.player line)
@@ -207,7 +212,7 @@ ends_in_world d player line lines w own told =
     let v : World = followed_up d player r.1 (settled x) in
     let marks : SameMarks (judge a free w.live.objects) w.live.objects r.0.objects = (((waited_open a d lines line).law w.live).law own tt).marks in
     let cut : IsLapsing w.live x.live = marks_lapse a free w.live r.0 (nothing_edited a line w.live.objects) told marks in
-    cut_ends a w v (lasting_both (Cut w.live v.live) w.queue (settled x).queue v.queue (lasting_lapse w.live v.live x (objects_up d player r.1 (settled x)) cut) (lasting_up (Cut w.live v.live) d player r.1 (settled x)))
+    cut_ends a w v (lasting_both (Cut w.live v.live) w.queue (settled x).queue v.queue (cut_settled w.live v.live x (objects_up d player r.1 (settled x)) cut) (lasting_up (Cut w.live v.live) d player r.1 (settled x)))
 
 ends_edited : (d : ℕ) (player : Dbref) (s : EditState) (line : List ℕ) (lines : List (List ℕ)) (w : World) → IsTold w.live →
     let v = edited_line d player s line (on_live (taken_out d lines) w) in ProcessesLicensed (MayEnd (actor_of w.live.objects player) w.live v.live) w v
@@ -222,7 +227,7 @@ ends_edited d player s line lines w told =
       | inl same ↦ absurd (none-some m (sym (same ∙ told k) ∙ e))
       | inr other ↦ inr other
     ] in
-    cut_ends a w v (lasting_both (Cut w.live v.live) w.queue (settled x).queue v.queue (lasting_lapse w.live v.live x (objects_after d s.program r.2 (settled x)) cut) (lasting_after (Cut w.live v.live) d s.program r.2 (settled x)))
+    cut_ends a w v (lasting_both (Cut w.live v.live) w.queue (settled x).queue v.queue (cut_settled w.live v.live x (objects_after d s.program r.2 (settled x)) cut) (lasting_after (Cut w.live v.live) d s.program r.2 (settled x)))
 
 ends_in_editor : (d : ℕ) (player : Dbref) (s : EditState) (line : List ℕ) (lines : List (List ℕ)) (w : World) → IsTold w.live →
     let v = in_editor d player s line (on_live (taken_out d lines) w) in ProcessesLicensed (MayEnd (actor_of w.live.objects player) w.live v.live) w v
@@ -255,19 +260,68 @@ undisturbed_quietly may f w q = let s = q.law w.live in (record { objects = s.ob
 seating_line : (d : ℕ) (line : List ℕ) (lines : List (List ℕ)) → Seating d (waits d lines ▸ at_login d line)
 seating_line d line lines = keeps_followed (waits d lines) (at_login d line) (seating_order d) (seating_quiet d _ (quiet_waits d lines)) (seating_at_login d line)
 
-line_licensed : (d : ℕ) (w : World) (player : Option Dbref) (editor : Option EditState) (lines : List (List ℕ)) → player_in d w.live.board ≡ player → IsTold w.live →
-    LineLicensed d player editor lines w (line_done d player editor lines w)
+-- A line for a process that reads changes nothing but that process.
+
+given_quietly : (d : ℕ) (pid : ℤ) (line : List ℕ) (lines : List (List ℕ)) (w : World) → Quietly w (given_line d pid line (on_live (waits d lines) w))
+unfolding given_line
+given_quietly d pid line lines w = either (is_abort line)
+  where
+    u : World
+    u = on_live (waits d lines) w
+
+    waiting : Quietly w u
+    waiting = quietly_live (waits d lines) (quiet_waits d lines) w
+
+    either : (b : Bool) → Quietly w (cond b (on_live (tell d program_aborted) (on_queue (without pid) u)) (on_queue (on_process pid (told_line u.moment line)) u))
+    either true =
+        quietly_both w (on_queue (without pid) u) _ (quietly_both w u _ waiting (quietly_queue (without pid) u)) (quietly_live (tell d program_aborted) (quiet_tell d program_aborted) (on_queue (without pid) u))
+    either false = quietly_both w u _ waiting (quietly_queue (on_process pid (told_line u.moment line)) u)
+
+given_lasts : (d : ℕ) (pid : ℤ) (line : List ℕ) (w : World) → Lasting (EndsReading pid) w.queue (given_line d pid line w).queue
+unfolding given_line
+given_lasts d pid line w = either (is_abort line)
+  where
+    either : (b : Bool) → Lasting (EndsReading pid) w.queue (cond b (on_live (tell d program_aborted) (on_queue (without pid) w)) (on_queue (on_process pid (told_line w.moment line)) w)).queue
+    either true = lasting_without (EndsReading pid) pid w.queue (process_number pid w.queue)
+    either false = lasting_changed (EndsReading pid) pid (told_line w.moment line) w.queue (λ p. refl) (λ p e m. m)
+
+given_licensed : (d : ℕ) (pid : ℤ) (player : Option Dbref) (editor : Option EditState) (line : List ℕ) (lines : List (List ℕ)) (w : World) →
+    LineLicensed d (Some pid) player editor (line ∷ lines) w (given_line d pid line (on_live (waits d lines) w))
+given_licensed d pid player editor line lines w =
+    let v : World = given_line d pid line (on_live (waits d lines) w) in
+    let q = given_quietly d pid line lines w in
+    (
+      record { objects = q.objects; tune = q.tune },
+      processes_remain (EndsReading pid) (EndsReading pid) w v (λ p m. m) (given_lasts d pid line (on_live (waits d lines) w)),
+      leavers_ties (λ c. false) w.live.board.connections v.live.board.connections q.ties,
+    )
+
+-- Any line.
+
+none_waits : (d : ℕ) (w : World) (taker : Option ℤ) (player : Option Dbref) (editor : Option EditState) → LineLicensed d taker player editor [] w w
+none_waits d w (Some pid) player editor = undisturbed (has_number d) w
+none_waits d w None (Some player) editor = undisturbed (has_number d) w
+none_waits d w None None editor = undisturbed (has_number d) w
+
+line_licensed : (d : ℕ) (w : World) (taker : Option ℤ) (player : Option Dbref) (editor : Option EditState) (line : List ℕ) (lines : List (List ℕ)) → player_in d w.live.board ≡ player → IsTold w.live →
+    LineLicensed d taker player editor (line ∷ lines) w (line_for taker player editor d line (on_live (waits d lines) w))
 unfolding followed
-line_licensed d w None editor [] e told = undisturbed (has_number d) w
-line_licensed d w (Some player) editor [] e told = undisturbed (has_number d) w
-line_licensed d w None editor (line ∷ lines) e told = let s = (seating_line d line lines).law w.live in (untouched_by d w.live _ s, none_ends w (on_live (at_login d line) (on_live (waits d lines) w)) refl, s.leavers)
-line_licensed d w (Some player) None (line ∷ lines) e told = ((open_in_world d player line lines w e).licensed, ends_in_world d player line lines w e told)
-line_licensed d w (Some player) (Some s) (line ∷ lines) e told = ((open_in_editor d player s line lines w).licensed, ends_in_editor d player s line lines w told)
+line_licensed d w (Some pid) player editor line lines e told = given_licensed d pid player editor line lines w
+line_licensed d w None None editor line lines e told =
+    let s = (seating_line d line lines).law w.live in
+    (untouched_by d w.live _ s, none_ends w (on_live (at_login d line) (on_live (waits d lines) w)) refl, s.leavers)
+line_licensed d w None (Some player) None line lines e told = ((open_in_world d player line lines w e).licensed, ends_in_world d player line lines w e told)
+line_licensed d w None (Some player) (Some s) line lines e told = ((open_in_editor d player s line lines w).licensed, ends_in_editor d player s line lines w told)
+
+lines_licensed : (d : ℕ) (w : World) (player : Option Dbref) (editor : Option EditState) (lines : List (List ℕ)) → player_in d w.live.board ≡ player → IsTold w.live →
+    LineLicensed d (reader d w.queue) player editor lines w (line_done d player editor lines w)
+lines_licensed d w player editor [] e told = none_waits d w (reader d w.queue) player editor
+lines_licensed d w player editor (line ∷ lines) e told = line_licensed d w (reader d w.queue) player editor line lines e told
 
 pub turn_licensed : (d : ℕ) (w : World) (o : Option Connection) → connection_in d w.live.board ≡ o → IsTold w.live → TurnLicensed d o w (done d o w)
 unfolding done
 turn_licensed d w None e told = undisturbed (has_number d) w
-turn_licensed d w (Some c) e told = line_licensed d w c.player c.editor c.waiting (ap (λ (o : Option Connection). option_and_then (λ (k : Connection). k.player) o) e) told
+turn_licensed d w (Some c) e told = lines_licensed d w c.player c.editor c.waiting (ap (λ (o : Option Connection). option_and_then (λ (k : Connection). k.player) o) e) told
 
 -- Behind it nothing is to be told.
 
@@ -292,18 +346,23 @@ told_in_editor d player s line w h = at (is_open s w.live)
         told_by (settled x).live (after_edit d s.program r.2 (settled x)).live (objects_after d s.program r.2 (settled x)) (told_settled x)
     at false = told_by w.live (tell d editor_exited w.live) ((quiet_tell d editor_exited).law w.live).objects h
 
-told_line : (d : ℕ) (w : World) (player : Option Dbref) (editor : Option EditState) (lines : List (List ℕ)) → IsTold w.live → IsTold (line_done d player editor lines w).live
+line_told : (d : ℕ) (w : World) (taker : Option ℤ) (player : Option Dbref) (editor : Option EditState) (line : List ℕ) (lines : List (List ℕ)) → IsTold w.live →
+    IsTold (line_for taker player editor d line (on_live (waits d lines) w)).live
 unfolding followed
-told_line d w player editor [] h = h
-told_line d w None editor (line ∷ lines) h = told_by w.live (at_login d line (waits d lines w.live)) (((seating_line d line lines).law w.live).objects) h
-told_line d w (Some player) None (line ∷ lines) h = told_in_world d player line (on_live (waits d lines) w)
-told_line d w (Some player) (Some s) (line ∷ lines) h =
+line_told d w (Some pid) player editor line lines h = told_by w.live (given_line d pid line (on_live (waits d lines) w)).live (given_quietly d pid line lines w).objects h
+line_told d w None None editor line lines h = told_by w.live (at_login d line (waits d lines w.live)) (((seating_line d line lines).law w.live).objects) h
+line_told d w None (Some player) None line lines h = told_in_world d player line (on_live (waits d lines) w)
+line_told d w None (Some player) (Some s) line lines h =
     told_in_editor d player s line (on_live (taken_out d lines) w) (told_by w.live (taken_out d lines w.live) (((quiet_taken_out d lines).law w.live).objects) h)
+
+lines_told : (d : ℕ) (w : World) (player : Option Dbref) (editor : Option EditState) (lines : List (List ℕ)) → IsTold w.live → IsTold (line_done d player editor lines w).live
+lines_told d w player editor [] h = h
+lines_told d w player editor (line ∷ lines) h = line_told d w (reader d w.queue) player editor line lines h
 
 pub told_done : (d : ℕ) (w : World) (o : Option Connection) → IsTold w.live → IsTold (done d o w).live
 unfolding done
 told_done d w None h = h
-told_done d w (Some c) h = told_line d w c.player c.editor c.waiting h
+told_done d w (Some c) h = lines_told d w c.player c.editor c.waiting h
 
 -- The numbers of the connections, and that the world lives on.
 
@@ -317,17 +376,28 @@ going_open a free w v p = record { numbers = numbers-same_ties a w.live.board.co
 pub going_same : (w : World) → Going w w
 going_same w = record { numbers = refl; dead = refl }
 
+pub going_both : (u v w : World) → Going u v → Going v w → Going u w
+going_both u v w p q = record { numbers = q.numbers ∙ p.numbers; dead = q.dead ∙ p.dead }
+
+going_quietly : (w v : World) → Quietly w v → Going w v
+going_quietly w v q = record { numbers = numbers-ties w.live.board.connections v.live.board.connections q.ties; dead = q.dead }
+
 pub going_live : (d : ℕ) (f : Change) → Seating d f → (w : World) → Going w (on_live f w)
 going_live d f p w = record { numbers = (p.law w.live).numbers; dead = refl }
 
-line_going : (d : ℕ) (w : World) (player : Option Dbref) (editor : Option EditState) (lines : List (List ℕ)) → player_in d w.live.board ≡ player → Going w (line_done d player editor lines w)
+line_going : (d : ℕ) (w : World) (taker : Option ℤ) (player : Option Dbref) (editor : Option EditState) (line : List ℕ) (lines : List (List ℕ)) → player_in d w.live.board ≡ player →
+    Going w (line_for taker player editor d line (on_live (waits d lines) w))
 unfolding followed
-line_going d w player editor [] e = going_same w
-line_going d w None editor (line ∷ lines) e = going_live d (waits d lines ▸ at_login d line) (seating_line d line lines) w
-line_going d w (Some player) None (line ∷ lines) e = going_open _ _ w _ (open_in_world d player line lines w e)
-line_going d w (Some player) (Some s) (line ∷ lines) e = going_open _ _ w _ (open_in_editor d player s line lines w)
+line_going d w (Some pid) player editor line lines e = going_quietly w _ (given_quietly d pid line lines w)
+line_going d w None None editor line lines e = going_live d (waits d lines ▸ at_login d line) (seating_line d line lines) w
+line_going d w None (Some player) None line lines e = going_open _ _ w _ (open_in_world d player line lines w e)
+line_going d w None (Some player) (Some s) line lines e = going_open _ _ w _ (open_in_editor d player s line lines w)
+
+lines_going : (d : ℕ) (w : World) (player : Option Dbref) (editor : Option EditState) (lines : List (List ℕ)) → player_in d w.live.board ≡ player → Going w (line_done d player editor lines w)
+lines_going d w player editor [] e = going_same w
+lines_going d w player editor (line ∷ lines) e = line_going d w (reader d w.queue) player editor line lines e
 
 pub done_going : (d : ℕ) (w : World) (o : Option Connection) → connection_in d w.live.board ≡ o → Going w (done d o w)
 unfolding done
 done_going d w None e = going_same w
-done_going d w (Some c) e = line_going d w c.player c.editor c.waiting (ap (λ (o : Option Connection). option_and_then (λ (k : Connection). k.player) o) e)
+done_going d w (Some c) e = lines_going d w c.player c.editor c.waiting (ap (λ (o : Option Connection). option_and_then (λ (k : Connection). k.player) o) e)

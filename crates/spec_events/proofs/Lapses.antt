@@ -12,19 +12,21 @@ use Rattle.spec_rights.specs.declared.act.Actor.{Actor}
 use Rattle.spec_rights.specs.Licence.{Freedom, Judge}
 use Rattle.spec_rights.proofs.Licences.{judge, MarkOpen, SameMarks}
 use Rattle.muf_model.specs.Source.{Source}
+use Rattle.muck_queue.specs.declared.process.Process.{Process}
+use Rattle.muck_queue.specs.Queues.{is_in, runs}
 use Rattle.spec_events.specs.World.{World}
 use Rattle.spec_events.specs.Following.{swept, settled}
 use Rattle.spec_events.specs.Endings.{Lapsed}
 use Rattle.spec_events.proofs.Quietly.{quietly_swept}
 use Rattle.spec_events.proofs.Told.{told_at}
-use Rattle.spec_events.proofs.Endings.{IsTold, Lasting, lasting_settled, runs_in}
+use Rattle.spec_events.proofs.Endings.{IsTold, IsSteady, Lasting, lasting_settled}
 
 -- of whatever something is to be told, it lapsed
 abbrev pub IsLapsing : Live → Live → Type 0
 IsLapsing w v = (k : ℕ) (m : Mark) → mark_in v.objects k ≡ Some m → Lapsed (dbref_of k) w v
 
-pub told_lapse : (w : Live) → IsTold w → IsLapsing w w
-told_lapse w told k m e = absurd (none-some m (sym (told k) ∙ e))
+pub told_lapse : (w v : Live) → v.objects ≡ w.objects → IsTold w → IsLapsing w v
+told_lapse w v same told k m e = absurd (none-some m (sym (told k) ∙ ap (λ os. mark_in os k) (sym same) ∙ e))
 
 gone_by : (j : Judge) (x : Dbref) (old new : Option Mark) (m : Mark) (q : Option Object) → j.free.edits x ≡ false → old ≡ None → new ≡ Some m → MarkOpen j x old new q → q ≡ None
 gone_by j x old new m None c e f o = refl
@@ -46,14 +48,18 @@ lapsed_as : (x : Dbref) (w u v : Live) → object_at x v.objects ≡ object_at x
 lapsed_as x w u v e (inl g) = inl (e ∙ g)
 lapsed_as x w u v e (inr h) = inr (λ s. h (ap (λ (q : Option Object). option_map_or (λ o. o.lines) q []) (sym e) ∙ s))
 
--- of a program on the call stack it was told
-abbrev pub Cut : Live → Live → Option Source → Type 0
-Cut w v t = (x : Dbref) × (runs_in x t ≡ true) × Lapsed x w v
+-- a program that it runs lapsed
+abbrev pub Cut : Live → Live → Process → Type 0
+Cut w v p = (x : Dbref) × (runs x p ≡ true) × Lapsed x w v
+
+pub steady_cut : (w v : Live) → IsSteady (Cut w v)
+steady_cut w v p q same c = (c.0, ap (λ (r : Option Source). option_map_or (is_in c.0) r false) (sym same.running) ∙ c.1, c.2)
 
 -- what follows ends none but such as run what lapsed
-pub lasting_lapse : (w v : Live) (u : World) → v.objects ≡ (settled u).live.objects → IsLapsing w u.live → Lasting (Cut w v) u.queue (settled u).queue
-lasting_lapse w v u e lapsing =
-    lasting_settled (Cut w v) u (λ k m f t r. (
+pub lasting_lapse : (may : Process → Type 0) → IsSteady may → (w v : Live) (u : World) → ((p : Process) → Cut w v p → may p) → v.objects ≡ (settled u).live.objects → IsLapsing w u.live →
+    Lasting may u.queue (settled u).queue
+lasting_lapse may steady w v u cut e lapsing =
+    lasting_settled may steady u (λ k m f p r. cut p (
       dbref_of k,
       r,
       lapsed_as (dbref_of k) w u.live v (ap (object_at (dbref_of k)) e ∙ objects_settled (dbref_of k) u) (lapsing k m f),

@@ -3,13 +3,15 @@ pub mod Told
 pub mod Endings
 mod Lapses
 pub mod Done
+mod Deeds
+pub mod Slicing
 pub mod Units
 pub mod Modes
 mod Effects
 pub mod Sections
-mod Numbers
-mod Remaining
+pub mod Numbers
 pub mod Taken
+mod Remaining
 mod Judged
 mod Chained
 pub mod Living

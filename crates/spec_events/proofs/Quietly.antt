@@ -30,7 +30,7 @@ use Rattle.spec_events.specs.declared.starting.Call.{Call as Started}
 use Rattle.spec_events.specs.declared.starting.Manner.{Manner}
 use Rattle.spec_events.specs.World.{World, on_live, on_queue, with_library}
 use Rattle.spec_events.specs.Following.{followed, swept}
-use Rattle.spec_events.specs.Starting.{beginning, foreground, new_process, joined, word_started, form_started, built_started, begun, start_told, start_judged, launched}
+use Rattle.spec_events.specs.Starting.{beginning, by_command, new_process, joined, word_started, form_started, built_started, begun, start_told, start_judged, launched}
 use Rattle.spec_events.specs.Lines.{compiled_so, compiled}
 
 -- no object differs, nor who the connections are, nor what is tuned, and the world is as dead as before
@@ -76,10 +76,10 @@ quietly_swept n (e ∷ es) w = quietly_both w _ _ (quietly_marked e.mark (dbref_
 
 -- A program that is started.
 
-abbrev BegunQuietly : World → World × Result ℤ MufFault → Type 0
+abbrev pub BegunQuietly : World → World × Result ℤ MufFault → Type 0
 BegunQuietly w r = Quietly w r.0
 
-quietly_joined : (p : Process) (w : World) → BegunQuietly w (joined p w)
+pub quietly_joined : (p : Process) (w : World) → BegunQuietly w (joined p w)
 quietly_joined p w = either (is_full p.player w.live.board.tune w.queue)
   where
     either : (b : Bool) → BegunQuietly w (cond b (w, Err ProcessLimit) (on_queue (added p) w, Ok (w.queue.last +ℤ pos 1)))
@@ -107,7 +107,7 @@ quietly_told d w (v, Err fault) q = quietly_both w v _ q (quietly_live (tell d (
 
 quietly_judged : (d : ℕ) (c : Started) (o : Option Denial) (w : World) → Quietly w (start_judged d c o w)
 quietly_judged d c (Some denial) w = quietly_live (refused d denial) (quiet_refused d denial) w
-quietly_judged d c None w = quietly_told d w _ (quietly_begun (foreground d w) c w)
+quietly_judged d c None w = quietly_told d w _ (quietly_begun (by_command d c.program w) c w)
 
 pub quietly_launched : (d : ℕ) (a : Actor) (c : Started) (w : World) → Quietly w (launched d a c w)
 unfolding launched

@@ -2,11 +2,11 @@
 use Rattle.std.proofs.Common.{◌≡◌, ℕ, ◌<◌, ◌≤◌, Bool, true, false, not, ◌&&◌, ◌||◌, cond, List, [], ◌∷◌, length, refl, sym, ◌∙◌, ap, arith, Option, Some, None, ltb, ◌==◌, ◌≢◌}
 use Rattle.std.proofs.lemmas.Bool.Decides.{nat_tests}
 use Rattle.std.proofs.lemmas.Bool.{cond-true, cond-false, ltb-true, ltb-false, and_parts}
-use Rattle.std.specs.Prelude.{find, is_none, is_some, nat_lt}
+use Rattle.std.specs.Prelude.{find, is_none, is_some, nat_lt, nat_le}
 use Rattle.std.specs.Option.{option_map, option_map_or}
 use Rattle.muck_model.specs.declared.event.Entry.{Entry}
 use Rattle.muck_model.specs.declared.event.Event.{Event}
-use Rattle.muck_model.specs.declared.event.Event.TheVariants.{Opened, Input, Closed, Exec, Claim, Slice, Lost, Take, Halt, Died}
+use Rattle.muck_model.specs.declared.event.Event.TheVariants.{Opened, Input, Closed, Moment, Exec, Claim, Slice, Lost, Idle, Take, Halt, Died}
 use Rattle.muck_model.specs.declared.tune.Tune.{Tune}
 use Rattle.spec_live.specs.Objects.{Entry as Kept}
 use Rattle.spec_live.specs.Output.{bytes_of}
@@ -18,7 +18,7 @@ use Rattle.spec_commands.specs.Rising.{IsAbove, IsRising}
 use Rattle.spec_commands.proofs.Numbered.{numbers, rising_by, seating_quiet, seating_one}
 use Rattle.spec_commands.proofs.Lines.{quiet_parted}
 use Rattle.spec_events.specs.World.{World, connection, queue_of, is_leaving, on_live, booted}
-use Rattle.spec_events.specs.Steps.{is_free, is_allowed, is_lawful, happened, effect, next_ready}
+use Rattle.spec_events.specs.Steps.{is_free, may_idle, is_allowed, is_lawful, happened, effect, next_ready}
 use Rattle.spec_events.specs.Histories.{by_porter}
 use Rattle.spec_events.specs.Sound.{IsSound}
 use Rattle.spec_events.proofs.Done.{Going, done_going}
@@ -109,6 +109,7 @@ sound-happened (Opened d) party w other l h = record {
 }
 sound-happened (Input d line) party w other l h = sound-live (on_board (line_added d line)) (λ v. ((seating_one d (lined line) (λ c. refl)).law v).numbers) w h
 sound-happened (Closed d) party w other l h = let v = sound-gone_away d w h in record { alive = v.alive; rising = v.rising }
+sound-happened (Moment t) party w other l h = record { alive = h.alive; rising = h.rising }
 sound-happened (Exec d) party w other l h = sound-going w _ (done_going d w (connection d w) refl) h
 sound-happened (Claim pid) party w other l h = record { alive = h.alive; rising = h.rising }
 sound-happened (Slice pid) party w other l h = let v = sound-going w _ (sliced_going pid w) h in record { alive = v.alive; rising = v.rising }
@@ -194,6 +195,19 @@ close_lawful w d alive e = cond-false _ _ _ alive ∙ leaving_some (connection d
 pub halt_lawful : (w : World) → w.dead ≡ false → is_lawful w (by_porter Halt) ≡ true
 unfolding is_lawful
 halt_lawful w alive = cond-false _ _ _ alive
+
+-- time may go on
+pub moment_lawful : (w : World) (t : ℕ) → w.dead ≡ false → w.moment ≤ t → is_lawful w (by_porter (Moment t)) ≡ true
+unfolding is_lawful
+moment_lawful w t alive h = cond-false _ _ _ alive ∙ not_before w.moment t h
+  where
+    not_before : (m n : ℕ) → m ≤ n → nat_le m n ≡ true
+    not_before m n h = grind (arith, nat_tests)
+
+-- a party may idle exactly where there is nothing for it to do
+pub idle_lawful : (w : World) (party : ℕ) → w.dead ≡ false → is_lawful w (record { party = party; event = Idle }) ≡ may_idle w party
+unfolding is_lawful
+idle_lawful w party alive = cond-false _ _ _ alive
 
 -- memory may be wanted anywhere
 pub died_lawful : (w : World) (party : ℕ) → is_lawful w (record { party = party; event = Died }) ≡ true

@@ -1,5 +1,5 @@
 -- Each step changes only what is open.
-use Rattle.std.proofs.Common.{ℕ, false, zero, suc, List, [], ◌∷◌, refl}
+use Rattle.std.proofs.Common.{◌≡◌, ℕ, true, false, zero, suc, List, [], ◌∷◌, refl}
 use Rattle.muck_model.specs.declared.event.Entry.{Entry}
 use Rattle.muck_model.specs.declared.event.Event.{Event}
 use Rattle.muck_model.specs.declared.event.Event.TheVariants.{Opened, Input, Closed, Exec, Slice, Take}
@@ -11,15 +11,17 @@ use Rattle.spec_commands.specs.Talk.{gone_away}
 use Rattle.spec_rights.proofs.Shown.{quiet_one}
 use Rattle.spec_commands.proofs.Numbered.{leavers_ties}
 use Rattle.spec_commands.proofs.Lines.{quiet_parted}
-use Rattle.muck_queue.specs.Queues.{claimed, released}
+use Rattle.muck_queue.specs.Queues.{is_tied_to, claimed, released}
+use Rattle.muck_queue.specs.inner.Numbered.{IsNumbered}
 use Rattle.spec_events.specs.World.{World, booted, starting, connection}
 use Rattle.spec_events.specs.Steps.{effect, happened}
 use Rattle.spec_events.specs.Licences.{Untouched, EventLicensed}
 use Rattle.spec_events.specs.Histories.{AllLicensed}
-use Rattle.spec_events.proofs.Endings.{IsTold, tied_remain}
+use Rattle.spec_events.proofs.Endings.{IsTold, processes_remain, tied_remain}
 use Rattle.spec_events.proofs.Done.{none_ends, undisturbed_quietly, turn_licensed, told_by, told_done}
 use Rattle.spec_events.proofs.Taken.{told_sliced}
 use Rattle.spec_events.proofs.Chained.{slice_licensed}
+use Rattle.spec_events.proofs.Numbers.{rising_happened, rising_starting}
 
 -- what a player does by a line is open to it, and at the login screen no object changes
 pub exec_licensed : (d : ℕ) (w : World) (party : ℕ) → IsTold w.live → EventLicensed (Exec d) w (happened w party (Exec d))
@@ -33,15 +35,16 @@ gone_away_untouched d w =
     let shown = parting.law v in
     record { objects = shown.objects; tune = shown.tune }
 
-event_licensed : (event : Event) (w : World) (party : ℕ) → IsTold w.live → EventLicensed event w (happened w party event)
+event_licensed : (event : Event) (w : World) (party : ℕ) → IsTold w.live → IsNumbered w.queue → EventLicensed event w (happened w party event)
 unfolding opened line_added bytes_taken claimed released
-event_licensed (Exec d) w party told = exec_licensed d w party told
-event_licensed (Slice pid) w party told = let s = slice_licensed pid w told in record { units = s.units; chained = s.chained; leads = s.leads; processes = s.processes }
-event_licensed (Closed d) w party told = (gone_away_untouched d w.live, tied_remain d w.queue)
-event_licensed (Opened d) w party told = (record { objects = refl; tune = refl }, none_ends w (happened w party (Opened d)) refl)
-event_licensed (Input d line) w party told = undisturbed_quietly (λ c. false) (on_board (line_added d line)) w (quiet_one d _ (λ c. refl))
-event_licensed (Take d n) w party told = undisturbed_quietly (λ c. false) (on_board (bytes_taken d n)) w (quiet_one d _ (λ c. refl))
-event_licensed event w party told = (record { objects = refl; tune = refl }, none_ends w (happened w party event) refl, leavers_ties (λ c. false) w.live.board.connections w.live.board.connections refl)
+event_licensed (Exec d) w party told rising = exec_licensed d w party told
+event_licensed (Slice pid) w party told rising = let s = slice_licensed pid w told rising in record { units = s.units; chained = s.chained; leads = s.leads; processes = s.processes; whole = s.whole }
+event_licensed (Closed d) w party told rising =
+    (gone_away_untouched d w.live, processes_remain (λ p. is_tied_to d p ≡ true) (λ p. is_tied_to d p ≡ true) w (happened w party (Closed d)) (λ p m. m) (tied_remain d w.queue))
+event_licensed (Opened d) w party told rising = (record { objects = refl; tune = refl }, none_ends w (happened w party (Opened d)) refl)
+event_licensed (Input d line) w party told rising = undisturbed_quietly (λ c. false) (on_board (line_added d line)) w (quiet_one d _ (λ c. refl))
+event_licensed (Take d n) w party told rising = undisturbed_quietly (λ c. false) (on_board (bytes_taken d n)) w (quiet_one d _ (λ c. refl))
+event_licensed event w party told rising = (record { objects = refl; tune = refl }, none_ends w (happened w party event) refl, leavers_ties (λ c. false) w.live.board.connections w.live.board.connections refl)
 
 told_happened : (event : Event) (w : World) (party : ℕ) → IsTold w.live → IsTold (happened w party event).live
 told_happened (Exec d) w party h = told_done d w (connection d w) h
@@ -49,12 +52,12 @@ told_happened (Slice pid) w party h = told_sliced pid w h
 told_happened (Closed d) w party h = told_by w.live (gone_away d w.live) (gone_away_untouched d w.live).objects h
 told_happened event w party h = h
 
--- whole histories, from a world of which nothing is to be told
-pub all_licensed : (w : World) (es : List Entry) → IsTold w.live → AllLicensed w es
+-- whole histories, from a world of which nothing is to be told, and in which the numbers of the processes rise
+pub all_licensed : (w : World) (es : List Entry) → IsTold w.live → IsNumbered w.queue → AllLicensed w es
 unfolding effect
-all_licensed w [] told = tt
-all_licensed w (entry ∷ entries) told =
-    (event_licensed entry.event w entry.party told, all_licensed (effect w entry) entries (told_happened entry.event w entry.party told))
+all_licensed w [] told rising = tt
+all_licensed w (entry ∷ entries) told rising =
+    (event_licensed entry.event w entry.party told rising, all_licensed (effect w entry) entries (told_happened entry.event w entry.party told) (rising_happened entry.event w entry.party rising))
 
 told_starting : IsTold starting.live
 unfolding starting booted first_objects mark_in
@@ -64,4 +67,4 @@ told_starting (suc (suc n)) = refl
 
 -- as from the first
 pub all_licensed_starting : (es : List Entry) → AllLicensed starting es
-all_licensed_starting es = all_licensed starting es told_starting
+all_licensed_starting es = all_licensed starting es told_starting rising_starting

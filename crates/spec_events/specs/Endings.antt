@@ -1,5 +1,5 @@
 -- Which processes may end.
-use Rattle.std.specs.Prelude.{◌≡◌, ◌⊎◌, ℕ, ℤ, Bool, true, ◌||◌, List, Option, Some, None}
+use Rattle.std.specs.Prelude.{◌≡◌, ◌⊎◌, ℤ, Bool, true, ◌||◌, List, Option, Some, None}
 use Rattle.muck_model.specs.declared.dbref.Dbref.{Dbref}
 use Rattle.spec_live.specs.Objects.{Entry, same, object_at}
 use Rattle.spec_live.specs.Lives.{Live}
@@ -7,7 +7,7 @@ use Rattle.spec_rights.specs.declared.act.Actor.{Actor}
 use Rattle.spec_rights.specs.Levels.{owner_at}
 use Rattle.spec_rights.specs.Verdict.{is_master}
 use Rattle.muck_queue.specs.declared.process.Process.{Process}
-use Rattle.muck_queue.specs.Queues.{has_pid, process, reads_from, runs}
+use Rattle.muck_queue.specs.Queues.{has_pid, process, runs}
 use Rattle.spec_commands.specs.Programming.{source_of}
 use Rattle.spec_events.specs.World.{World}
 
@@ -43,6 +43,6 @@ pub data EndsIn (pid : ℤ) (a : Actor) (w v : Live) (p : Process) : Type 0 wher
   by_actor : end_open a w.objects p ≡ true → EndsIn pid a w v p
   by_change : (program : Dbref) → runs program p ≡ true → Lapsed program w v → EndsIn pid a w v p
 
--- by a line of a connection a process ends that waits for it, where the line says so
-abbrev pub EndsReading : ℕ → Process → Type 0
-EndsReading d p = reads_from d p ≡ true
+-- by a line for a process that reads that one ends, where the line says so
+abbrev pub EndsReading : ℤ → Process → Type 0
+EndsReading pid p = has_pid pid p ≡ true

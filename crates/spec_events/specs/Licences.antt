@@ -38,7 +38,7 @@ Undisturbed may w v = Untouched w.live v.live × ProcessesLicensed NoProcess w v
 -- lets no connection leave but its own. A line for a process that reads changes nothing but that process.
 abbrev pub LineLicensed : ℕ → Option ℤ → Option Dbref → Option EditState → List (List ℕ) → World → World → Type 0
 LineLicensed d (Some pid) player editor (line ∷ lines) w v =
-    Untouched w.live v.live × ProcessesLicensed (EndsReading d) w v × LeaversLicensed (λ c. false) w.live.board.connections v.live.board.connections
+    Untouched w.live v.live × ProcessesLicensed (EndsReading pid) w v × LeaversLicensed (λ c. false) w.live.board.connections v.live.board.connections
 LineLicensed d None (Some player) editor (line ∷ lines) w v =
     Licensed (actor_of w.live.objects player) (free_for editor (actor_of w.live.objects player) line w.live.objects) w.live v.live
     × ProcessesLicensed (MayEnd (actor_of w.live.objects player) w.live v.live) w v
