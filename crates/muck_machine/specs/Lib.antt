@@ -2,3 +2,4 @@ pub mod Keeping
 pub mod Followed
 pub mod Deeds
 pub mod Claims
+pub mod Limits

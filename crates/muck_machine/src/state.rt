@@ -5,12 +5,15 @@ ghost use Rattle.spec_live.specs.Lives.{tell};
 ghost use Rattle.spec_events.specs.World.{on_live};
 ghost use Rattle.spec_events.specs.Steps.{happened};
 
+mod calls;
 mod deeds;
 mod editing;
 mod following;
 mod going;
+mod limits;
 mod lines;
 mod login;
+mod processes;
 mod slices;
 mod starting;
 mod turns;
