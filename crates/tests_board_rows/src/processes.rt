@@ -6,7 +6,7 @@ ghost use Rattle.muf_model.specs.Decode.{tree_of};
 use crate::world::TUNE;
 use muck_model::{Dbref, NoMemory, Row};
 use muck_queue::{Events, Mode, Process, Queue, Wait};
-use muf_model::{Closer, Code, CodeWord, Instr, Offer, Placed, Shared, Text};
+use muf_model::{Closer, Code, CodeWord, Instr, Offer, Placed, Shared, Text, Value};
 use muf_running::{Occasion, Running};
 use std::alloc::Global;
 use tests_rows::{Words, line};
@@ -121,6 +121,33 @@ pub fn queue(
         b"tied" => Ok(write!(out, "{}", queue.is_tied(u32::from(number)))?),
         _ => Ok(write!(out, "{}", queue.len())?),
     }
+}
+
+/// `wait line NUMBER`, `event NUMBER`: what a process waits for. `send NUMBER SECOND`: an event comes. `wake NUMBER SECOND`: it goes on.
+/// `busy CONNECTION`, `reader CONNECTION`.
+pub fn wait(
+    alloc: Global,
+    out: &mut String,
+    queue: &mut Queue,
+    words: &mut Words<'_>,
+) -> Result<(), NoMemory> {
+    let verb = words.word();
+    let number = words.small();
+    let pid = i32::from(number);
+    let second = u64::from(words.number());
+    match verb {
+        b"line" => queue.rest(pid, Wait::ForLine),
+        b"event" => queue.rest(pid, Wait::ForEvent),
+        b"send" => {
+            let name = Text::new(alloc, line(alloc, b"chime")?)?;
+            let sent = queue.event(pid, second, name, Value::Int(7));
+            write!(out, "{sent:?}")?;
+        }
+        b"wake" => queue.wake(pid, second),
+        b"busy" => write!(out, "{}", queue.is_busy(u32::from(number)))?,
+        _ => write!(out, "{:?}", queue.reader(u32::from(number)))?,
+    }
+    Ok(())
 }
 
 /// `end tied CONNECTION`, `running PROGRAM`, `trigger OBJECT`: what follows where those are gone.

@@ -83,6 +83,7 @@ impl World {
             b"board" => Ok(connections::board(&mut self.board, &mut words)),
             b"ask" => connections::ask(alloc, out, &mut self.board, &mut words),
             b"queue" => processes::queue(alloc, out, &mut self.queue, &mut words),
+            b"wait" => processes::wait(alloc, out, &mut self.queue, &mut words),
             b"end" => Ok(processes::end(&mut self.queue, &mut words)),
             b"new" => self.renew(),
             _ => return Ok(false),
