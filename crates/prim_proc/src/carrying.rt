@@ -4,6 +4,7 @@ ghost use Rattle.muf_model.specs.Answer.{stack_most};
 ghost use Rattle.muf_model.specs.View.{view};
 ghost use Rattle.muf_frame.specs.Shown.{Shown, flat};
 ghost use Rattle.muck_perm.specs.Guards.{world_of};
+ghost use Rattle.prim_proc.specs.declared.after.After.TheVariants.{Go};
 ghost use Rattle.prim_proc.specs.Applied.{Applied, HasStack};
 ghost use Rattle.prim_proc.specs.Plans.{Received, Sent, TakesAll, effect_of, items_of, stacked};
 
@@ -15,22 +16,26 @@ use muf_frame::{Frame, PrimFault};
 use muf_model::{MufFault, Text, Value};
 use spec_processes::Place;
 
-// So many items are taken.
-fn take(frame: &mut Frame, taken: usize)
+// So many items are taken, and this follows.
+fn take(frame: &mut Frame, taken: usize, after: After) -> After
     requires { taken ≤ length frame.old.stack }
-    ensures { HasStack (drop taken (flat frame.old).stack) frame.old frame.new }
+    ensures stack { HasStack (drop taken (flat frame.old).stack) frame.old frame.new }
+    ensures after { result ≡ after }
 {
     frame.drop_items(taken);
+    after
 }
 
-// So many items give way to one.
-fn replace(frame: &mut Frame, taken: usize, item: Value)
+// So many items give way to one, and the process goes on.
+fn replace(frame: &mut Frame, taken: usize, item: Value) -> After
     requires there { taken ≤ length frame.old.stack }
     requires room { 1 + length (drop taken (flat frame.old).stack) ≤ stack_most }
-    ensures { HasStack (view item ∷ drop taken (flat frame.old).stack) frame.old frame.new }
+    ensures stack { HasStack (view item ∷ drop taken (flat frame.old).stack) frame.old frame.new }
+    ensures after { result ≡ Go }
 {
     frame.drop_items(taken);
     frame.push_item(item);
+    After::Go
 }
 
 // An event is sent.
@@ -87,51 +92,43 @@ pub(crate) fn carry_out(
     ensures { Applied (stacked (drop taken (flat frame.old).stack) (effect_of plan place (world_of guard.old) queue.old)) frame.old frame.new guard.old guard.new queue.old queue.new result }
 {
     match plan {
-        Plan::Nothing => take(frame, taken),
-        Plan::Give(item) => replace(frame, taken, item),
+        Plan::Nothing => Ok(take(frame, taken, After::Go)),
+        Plan::Give(item) => Ok(replace(frame, taken, item)),
         Plan::Draw => {
             let word = guard.random();
-            replace(frame, taken, Value::Int((word / 2) as i32));
+            Ok(replace(frame, taken, Value::Int((word / 2) as i32)))
         }
         Plan::Kill(pid) => {
             queue.kill(pid);
-            replace(frame, taken, Value::Int(1));
+            Ok(replace(frame, taken, Value::Int(1)))
         }
         Plan::SetMode(mode) => {
             queue.set_mode(place.pid, mode);
-            take(frame, taken);
+            Ok(take(frame, taken, After::Go))
         }
         Plan::Send { pid, name, data } => {
             send(queue, pid, place.moment, name, data)?;
-            take(frame, taken);
+            Ok(take(frame, taken, After::Go))
         }
-        Plan::Receive => return Ok(receive(place, taken, queue, frame)),
+        Plan::Receive => Ok(receive(place, taken, queue, frame)),
         Plan::Sleep(due) => {
             queue.sleep(place.pid, due);
-            take(frame, taken);
-            return Ok(After::Wait);
+            Ok(take(frame, taken, After::Wait))
         }
         Plan::Read => {
             queue.rest(place.pid, Wait::ForLine);
-            take(frame, taken);
-            return Ok(After::Wait);
+            Ok(take(frame, taken, After::Wait))
         }
-        Plan::Fork => {
-            take(frame, taken);
-            return Ok(After::Fork);
-        }
-        Plan::Enter { program, word } => return Ok(After::Call { program, word }),
+        Plan::Fork => Ok(take(frame, taken, After::Fork)),
+        Plan::Enter { program, word } => Ok(After::Call { program, word }),
         Plan::Start {
             program,
             delay,
             argument,
-        } => {
-            return Ok(After::Queue {
-                program,
-                delay,
-                argument,
-            });
-        }
+        } => Ok(After::Queue {
+            program,
+            delay,
+            argument,
+        }),
     }
-    Ok(After::Go)
 }

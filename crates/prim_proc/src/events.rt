@@ -80,6 +80,14 @@ fn sender(alloc: Global, place: Place, own: &Process, actor: Actor) -> Result<Va
     Ok(dict)
 }
 
+// A dictionary as a value.
+fn value_of(alloc: Global, dict: ValueMap) -> Result<Value, NoMemory>
+    ensures { IfOk result (λ value. view value ≡ whole (pairs_of dict)) }
+{
+    let shared = Arc::new(alloc, dict)?;
+    Ok(Value::Dict(shared))
+}
+
 // What comes with an event: what was sent, and by whom.
 fn event_data(
     place: Place,
@@ -92,18 +100,27 @@ fn event_data(
     let alloc = guard.alloc();
     let mut dict = sender(alloc, place, own, guard.actor())?;
     match dict.put(key(alloc, b"data")?, data) {
-        Ok(()) => Ok(Value::Dict(Arc::new(alloc, dict)?)),
+        Ok(()) => Ok(value_of(alloc, dict)?),
         Err(ValueFault::TooHeavy) => Err(PrimFault::Fault(MufFault::TooHeavy)),
         Err(ValueFault::NoMemory) => Err(PrimFault::NoMemory),
     }
 }
 
+// The bytes of the name of an event.
+fn event_bytes(alloc: Global, name: &[u8]) -> Result<Vec<u8>, NoMemory>
+    ensures { IfOk result (λ bytes. bytes.items ≡ event_name name.now) }
+{
+    let mut bytes = b"USER.".to_vec(alloc)?;
+    bytes.extend_from_slice(name)?;
+    Ok(bytes)
+}
+
 // The name of an event.
+#[tactic(auto, using(crate::proofs::Names::name_is_text))]
 fn event_name(alloc: Global, name: &Text) -> Result<Text, PrimFault>
     ensures { NameMade (event_name name.now) result }
 {
-    let mut bytes = b"USER.".to_vec(alloc)?;
-    bytes.extend_from_slice(name.as_slice())?;
+    let bytes = event_bytes(alloc, name.as_slice())?;
     if bytes.len() > TEXT_MOST {
         return Err(PrimFault::Fault(MufFault::TextTooLong));
     }

@@ -1,15 +1,8 @@
 -- What the primitives of processes lead to.
-use Rattle.std.proofs.Common.{◌≡◌, ℕ, ℤ, pos, Bool, true, false, cond, List, [], ◌∷◌, refl, Option, Some, None, arith}
-use Rattle.std.specs.Prelude.{not, ◌&&◌, ◌||◌, nat_lt, nat_le, Result, Ok, Err}
-use Rattle.std.specs.Option.{option_map}
-use Rattle.std.proofs.lemmas.Bool.{or_right}
-use Rattle.std.proofs.lemmas.Bool.Decides.{nat_tests}
-use Rattle.muck_model.specs.declared.dbref.Dbref.{Dbref}
-use Rattle.muck_model.specs.declared.dbref.Denial.{Denial}
-use Rattle.spec_live.specs.Objects.{Entry, nothing, same}
+use Rattle.std.proofs.Common.{◌≡◌, ℕ, ℤ, pos, Bool, true, false, cond, List, [], ◌∷◌, refl, Option, Some, None}
+use Rattle.std.specs.Prelude.{nat_lt, Result, Ok, Err}
+use Rattle.spec_live.specs.Objects.{Entry, nothing}
 use Rattle.spec_rights.specs.declared.act.Actor.{Actor}
-use Rattle.spec_rights.specs.Levels.{owner_at}
-use Rattle.spec_rights.specs.Verdict.{when, or_else}
 use Rattle.muf_model.specs.declared.fault.MufFault.{MufFault}
 use Rattle.muf_model.specs.declared.fault.MufFault.TheVariants.{CallsFull}
 use Rattle.muf_model.specs.declared.prims.Primitive.{Primitive as Name}
@@ -23,7 +16,7 @@ use Rattle.muck_queue.specs.declared.mode.Mode.TheVariants.{Background}
 use Rattle.muck_queue.specs.declared.process.Process.{Process}
 use Rattle.muck_queue.specs.Queues.{process}
 use Rattle.spec_processes.specs.ProcessRows.{Effect, gives, waits, forks, enters, starts, refuses, processed, later}
-use Rattle.spec_processes.proofs.Leaves.{EndedBy, Leaves, leaves}
+use Rattle.spec_processes.proofs.Leaves.{EndedBy, Leaves, leaves, ended_by}
 use Rattle.spec_events.specs.declared.starting.Agent.{Agent}
 use Rattle.spec_events.specs.declared.starting.Call.{Call as Started}
 use Rattle.spec_events.specs.declared.starting.Manner.{Manner}
@@ -111,40 +104,30 @@ module _ (may : Process → Type 0) (w : World) where
   -- any of them
   leads_effect : IsSteady may → (pid : ℤ) (x : Agent) (s : Source) → ((q : Process) → EndedBy (acting x s w.live.objects) w.live.objects q → may q) →
       (e : Effect) → Leaves (acting x s w.live.objects) w.live w.queue e → Leads (Left may w) (effected pid x s w e)
-  leads_effect steady pid x s open (gives stack live queue) h = record {
+  leads_effect steady pid x s ends (gives stack live queue) h = record {
     quietly = record { objects = h.shows.objects; ties = h.shows.ties; tune = h.shows.tune; dead = refl };
-    lasting = lasting_stays may (EndedBy (acting x s w.live.objects) w.live.objects) steady open w.queue queue h.stays;
+    lasting = lasting_stays may (EndedBy (acting x s w.live.objects) w.live.objects) steady ends w.queue queue h.stays;
   }
-  leads_effect steady pid x s open (waits n stack queue) h = record {
+  leads_effect steady pid x s ends (waits n stack queue) h = record {
     quietly = record { objects = refl; ties = refl; tune = refl; dead = refl };
-    lasting = lasting_stays may (EndedBy (acting x s w.live.objects) w.live.objects) steady open w.queue queue h.stays;
+    lasting = lasting_stays may (EndedBy (acting x s w.live.objects) w.live.objects) steady ends w.queue queue h.stays;
   }
-  leads_effect steady pid x s open (forks stack) h = leads_forked pid stack s
-  leads_effect steady pid x s open (enters stack d name) h = leads_called (acting x s w.live.objects) (behind stack s) d name
-  leads_effect steady pid x s open (starts stack d seconds argument) h = leads_queued x stack d seconds argument s
-  leads_effect steady pid x s open (refuses f) h = left_same
+  leads_effect steady pid x s ends (forks stack) h = leads_forked pid stack s
+  leads_effect steady pid x s ends (enters stack d name) h = leads_called (acting x s w.live.objects) (behind stack s) d name
+  leads_effect steady pid x s ends (starts stack d seconds argument) h = leads_queued x stack d seconds argument s
+  leads_effect steady pid x s ends (refuses f) h = left_same
 
   pub leads_done : IsSteady may → (pid : ℤ) (x : Agent) (p : Name) (s : Source) → ((q : Process) → EndedBy (acting x s w.live.objects) w.live.objects q → may q) → Leads (Left may w) (process_done pid x p s w)
   unfolding process_done
-  leads_done steady pid x p s open =
+  leads_done steady pid x p s ends =
       let a : Actor = acting x s w.live.objects in
-      leads_effect steady pid x s open (processed p (place_in pid s w) a (locked_of s.marks) s.stack w.live w.queue) (leaves p (place_in pid s w) a (locked_of s.marks) s.stack w.live w.queue)
+      leads_effect steady pid x s ends (processed p (place_in pid s w) a (locked_of s.marks) s.stack w.live w.queue) (leaves p (place_in pid s w) a (locked_of s.marks) s.stack w.live w.queue)
 
 -- what holds where any may end
 pub leads_quietly : (pid : ℤ) (x : Agent) (p : Name) (s : Source) (w : World) → Leads (Quietly w) (process_done pid x p s w)
 leads_quietly pid x p s w =
     leads_more (Left (λ q. Unit {0}) w) (Quietly w) (λ v h. h.quietly) (process_done pid x p s w) (leads_done (λ q. Unit {0}) w (λ q r same m. tt) pid x p s (λ q e. tt))
 
--- Whom KILL may end.
-
-not_denied : (b : Bool) (d : Dbref) (f : Dbref → Denial) → or_else (option_map f (when b d)) None ≡ None → b ≡ false
-not_denied true d f e = absurd cc
-not_denied false d f e = refl
-
-open_by : (level : ℕ) (b : Bool) → (nat_lt level 4 && not b) ≡ false → (nat_le 4 level || b) ≡ true
-open_by level true e = or_right (nat_le 4 level) true refl
-open_by level false e = grind (arith, nat_tests)
-
--- one that the rule lets end is open to the actor
+-- one that the rule of KILL lets end is open to the actor
 pub ended_open : (a : Actor) (es : List Entry) (p : Process) → EndedBy a es p → end_open a es p ≡ true
-ended_open a es p e = open_by a.level (same p.player a.user || same (owner_at es p.program) a.user) (not_denied _ p.player _ e)
+ended_open a es p e = ended_by a es p.player p.program e

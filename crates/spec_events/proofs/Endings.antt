@@ -106,11 +106,11 @@ found_moved may at p q ps qs e m r =
 
 left_without : (may : Process → Type 0) (test : Process → Bool) → ((p : Process) → test p ≡ true → may p) → (at : ℤ) (ps : List Process) → Found may at ps (without_all test ps)
 left_without may test h at [] = tt
-left_without may test h at (p ∷ ps) = either (test p) refl
+left_without may test h at (p ∷ ps) = either (left_without may test h at ps) (test p) refl
   where
-    either : (b : Bool) → test p ≡ b → Found may at (p ∷ ps) (cond (not b) (p ∷ without_all test ps) (without_all test ps))
-    either true e = found_lost may at p ps (without_all test ps) (h p e) (left_without may test h at ps)
-    either false e = found_kept may at p ps (without_all test ps) (left_without may test h at ps)
+    either : Found may at ps (without_all test ps) → (b : Bool) → test p ≡ b → Found may at (p ∷ ps) (cond (not b) (p ∷ without_all test ps) (without_all test ps))
+    either r true e = found_lost may at p ps (without_all test ps) (h p e) r
+    either r false e = found_kept may at p ps (without_all test ps) r
 
 -- each is changed in what may change
 left_each : (may : Process → Type 0) (f : Process → Process) → ((p : Process) → ((f p).number ≡ p.number) × (may (f p) → may p)) → (at : ℤ) (ps : List Process) → Found may at ps (map f ps)

@@ -66,10 +66,10 @@ module _ (pid : ℤ) (may : Process → Type 0) (steady : IsSteady may) (own : (
 
   lasting_deed : (x : Agent) (p : Name) (s : Source) (w : World) → IsTold w.live → ((q : Process) → EndedBy (acting x s w.live.objects) w.live.objects q → may q) → DeedLasts w (deed pid x p s w)
   unfolding deed row_done
-  lasting_deed x p s w told open = either (is_process p)
+  lasting_deed x p s w told ends = either (is_process p)
     where
       either : (b : Bool) → DeedLasts w (cond b (process_done pid x p s w) (row_done x p s w))
-      either true = lasting_left w (process_done pid x p s w) told (leads_done may w steady pid x p s open)
+      either true = lasting_left w (process_done pid x p s w) told (leads_done may w steady pid x p s ends)
       either false =
           let a : Actor = acting x s w.live.objects in
           lasting_row a s w (shared p a x.descr (locked_of s.marks) s.stack w.live) told (shared_open p a x.descr (locked_of s.marks) s.stack w.live)
@@ -88,30 +88,31 @@ module _ (pid : ℤ) (may : Process → Type 0) (steady : IsSteady may) (own : (
   lasting_after : (player : Dbref) (s : Source) (w : World) (d : Deed World) → Cuts w (world_of (after_deed pid player s d)) → DeedLasts w d → Lasting may w.queue (world_of (after_deed pid player s d)).queue
   lasting_after player s w (does t v) cut h = lasting_behind w t v cut h.0 h.1
   lasting_after player s w (rests t v) cut h = lasting_behind w t v cut h.0 h.1
-  lasting_after player s w (fails f v) cut h = lasting_both may w.queue v.queue _ h (lasting_went player s.program.number (fault f s) v)
+  lasting_after player s w (fails f v) cut h =
+      lasting_both may w.queue v.queue (world_of (went pid player s.program.number (fault f s) v)).queue h (lasting_went player s.program.number (fault f s) v)
 
   abbrev Opens : Actor → World → Type 0
   Opens a w = (q : Process) → EndedBy a w.live.objects q → may q
 
   lasting_unit : (x : Agent) (s : Source) (w : World) (o : Outcome) → unit s ≡ o → IsTold w.live → Opens (acting x s w.live.objects) w → Cuts w (world_of (unit_done pid x s.program.number o w)) →
       Lasting may w.queue (world_of (unit_done pid x s.program.number o w)).queue
-  lasting_unit x s w (asks p t) e told open cut =
+  lasting_unit x s w (asks p t) e told ends cut =
       let kept : Keep (programs_of s) (asks p t) = subst (Keep (programs_of s)) e (unit_keeps s) in
-      let opens : Opens (acting x t w.live.objects) w = subst (λ a. Opens a w) (sym (same_actor x s t w.live.objects kept.0)) open in
+      let opens : Opens (acting x t w.live.objects) w = subst (λ a. Opens a w) (sym (same_actor x s t w.live.objects kept.0)) ends in
       let u : World = out pid w in
       lasting_both may w.queue u.queue (world_of (after_deed pid x.player t (deed pid x p t u))).queue
       (lasting_own (at_state None) w.queue (λ q. refl))
       (lasting_after x.player t u (deed pid x p t u) cut (lasting_deed x p t u told opens))
-  lasting_unit x s w o e told open cut = lasting_went x.player s.program.number o w
+  lasting_unit x s w o e told ends cut = lasting_went x.player s.program.number o w
 
   lasting_within : (x : Agent) (s : Source) (w : World) (o : Option MufFault) → IsTold w.live → Opens (acting x s w.live.objects) w → Cuts w (world_of (within_limit o pid x s w)) →
       Lasting may w.queue (world_of (within_limit o pid x s w)).queue
-  lasting_within x s w (Some f) told open cut = lasting_gone w.queue
-  lasting_within x s w None told open cut =
+  lasting_within x s w (Some f) told ends cut = lasting_gone w.queue
+  lasting_within x s w None told ends cut =
       let u : World = one_counted pid w in
       lasting_both may w.queue u.queue (world_of (unit_done pid x s.program.number (unit s) u)).queue
       (lasting_own (counted 1) w.queue (λ p. refl))
-      (lasting_unit x s u (unit s) refl told open cut)
+      (lasting_unit x s u (unit s) refl told ends cut)
 
 -- What ends in a unit may end alike in another way of going on.
 
