@@ -1,21 +1,11 @@
 -- Whether there is something to do.
-use Rattle.std.proofs.Common.{◌≡◌, ℕ, ℤ, ◌+◌, ◌≤◌, ◌<◌, Bool, true, false, cond, not, ◌&&◌, ◌||◌, List, [], ◌∷◌, Option, Some, None, refl, sym, ap, ◌∙◌, find, nat_le, arith}
+use Rattle.std.proofs.Common.{◌≡◌, ℕ, ℤ, true, false, ◌||◌, List, [], ◌∷◌, Option, Some, None, refl, sym, ap, ◌∙◌}
 use Rattle.std.specs.Prelude.{is_some}
 use Rattle.std.specs.List.{list_any}
-use Rattle.std.proofs.lemmas.Bool.{le-leb, lt-leb}
 use Rattle.muck_queue.specs.declared.claim.Claim.{Claim}
 use Rattle.muck_queue.specs.declared.process.Process.{Process}
 use Rattle.muck_queue.specs.Queues.{is_due}
 use Rattle.muck_queue.specs.inner.Leading.{IsAmong, IsNext, NoneDue, Leads}
-
--- where the first one is sought, whether there is one
-pub any_found : {X : Type 0} (test : X → Bool) (xs : List X) → is_some (find test xs) ≡ list_any test xs
-any_found test [] = refl
-any_found test (x ∷ xs) =
-    (elim (test x) as (λ b. is_some (cond b (Some x) (find test xs)) ≡ (b || list_any test xs)) [
-      | true ↦ refl
-      | false ↦ any_found test xs
-    ])
 
 -- whether a process is due
 among_due : (moment : ℕ) (cs : List Claim) (r : Process) (ps : List Process) → IsAmong r ps → is_due moment cs r ≡ true → list_any (is_due moment cs) ps ≡ true
@@ -34,14 +24,3 @@ none_due moment cs (p ∷ ps) h = ap (λ b. b || list_any (is_due moment cs) ps)
 pub any_due : (moment : ℕ) (cs : List Claim) (ps : List Process) (next : Option ℤ) → IsNext moment cs ps next → is_some next ≡ list_any (is_due moment cs) ps
 any_due moment cs ps None h = sym (none_due moment cs ps h)
 any_due moment cs ps (Some pid) h = sym (among_due moment cs h.process ps h.among h.due)
-
--- a run that stops does nothing any more
-pub nothing_stopped : (b stopping : Bool) → stopping ≡ true → false ≡ (b && not stopping)
-nothing_stopped true stopping e = sym (ap not e)
-nothing_stopped false stopping e = refl
-
-pub as_running : (a b stopping : Bool) → stopping ≡ false → a ≡ b → a ≡ (b && not stopping)
-as_running a b stopping e is = is ∙ by b ∙ ap (λ s. b && not s) (sym e) where
-  by : (b : Bool) → b ≡ (b && true)
-  by true = refl
-  by false = refl

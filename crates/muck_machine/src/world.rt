@@ -309,8 +309,8 @@ impl World {
         ensures step { IfOk result (λ sliced. self.new ≡ entered self.old (record { party = party; event = slice_event pid sliced })) }
         ensures died { OnErr result (self.new ≡ entered self.old (record { party = party; event = Event.Died })) }
     {
-        let state = &mut self.state;
-        if state.queue.get(pid).is_none() {
+        if !self.has_process(pid) {
+            let state = &mut self.state;
             state.queue.release(pid);
             self.past.enter(Entry {
                 party,
@@ -325,6 +325,14 @@ impl World {
         };
         self.past.conclude(entry, done)?;
         Ok(Sliced::Ran)
+    }
+
+    // Whether the process is there. On a dead world nothing is said of the answer.
+    fn has_process(&self, pid: i32) -> bool
+        ensures { (now self.now).dead ≡ false → result ≡ is_there pid (now self.now) }
+    {
+        let state = &self.state;
+        state.queue.get(pid).is_some()
     }
 
     /// A party has nothing to do; `false` exactly where it has, or the world is dead, and then nothing happened. It takes no

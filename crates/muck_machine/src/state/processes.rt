@@ -1,5 +1,7 @@
 // Primitives of processes.
 ghost use Rattle.std.specs.Prelude.{◌≡◌, ◌<◌, ◌≤◌, drop, length, true, is_some, pos, IfOk, OnOk, Some, List, ℕ, ℤ};
+ghost use Rattle.muf_model.specs.declared.prims.Family.TheVariants.{Process as ProcessFamily};
+ghost use Rattle.muf_model.specs.Prims.{family_of};
 ghost use Rattle.muf_model.specs.Datum.{Datum, int};
 ghost use Rattle.muf_model.specs.Source.{Source, handed};
 ghost use Rattle.muck_queue.specs.Queues.{process};
@@ -37,7 +39,8 @@ impl State {
         prim: Prim,
         running: Running,
     ) -> Result<Done, NoMemory>
-        requires { IsAtPrimitive running.now }
+        requires at { IsAtPrimitive running.now }
+        requires family { family_of prim ≡ ProcessFamily }
         ensures { IfOk result (λ done. DoneAs (process_done pid agent prim running self.old) running self.new done) }
     {
         let actor = self.actor(agent, &running)?;
@@ -89,6 +92,7 @@ impl State {
         actor: Actor,
         frame: &mut Frame,
     ) -> Result<After, PrimFault>
+        requires { family_of prim ≡ ProcessFamily }
         ensures { ProcessAppliedTo (processed prim place actor (locked_by (flat frame.old).marks) (flat frame.old).stack self.old.live self.old.queue) frame.old frame.new self.old self.new result }
     {
         let mut guard = Guard::new(self.alloc, &mut self.db, &mut self.board, actor);

@@ -38,14 +38,15 @@ impl State {
     fn has_line(&self) -> bool
         ensures { result ≡ has_line self.now }
     {
-        !self.stopping && self.first_free().is_some()
+        self.board.connections().iter().any(|c| self.is_free(c)) && !self.stopping
     }
 
     // Whether a process may be claimed.
+    #[tactic(auto, using(crate::proofs::Idling::any_due))]
     fn has_due(&self) -> bool
         ensures { result ≡ has_due self.now }
     {
-        !self.stopping && self.queue.next_due(self.moment).is_some()
+        self.queue.next_due(self.moment).is_some() && !self.stopping
     }
 
     // Whether so many seconds passed since the last dump began that another is due.
@@ -53,8 +54,8 @@ impl State {
         ensures { result ≡ is_dump_due self.now }
     {
         let interval = u64::from(self.board.tune().dump_interval);
-        match self.dumped.checked_add(interval) {
-            Some(due) => due <= self.moment,
+        match self.moment.checked_sub(self.dumped) {
+            Some(passed) => passed >= interval,
             None => false,
         }
     }
