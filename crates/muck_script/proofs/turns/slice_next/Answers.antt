@@ -2,7 +2,7 @@ use Rattle.std.proofs.Common.{◌≡◌, ℤ, sym, ◌∙◌, ap, to_z, of_z, w3
 use Rattle.std.specs.Prelude.{is_some}
 use Rattle.spec_events.specs.Steps.{has_claim}
 use Rattle.spec_events.specs.Histories.{now}
-use Rattle.muck_script.proofs.Taking.{no_slice, may_slice}
+use Rattle.muck_script.proofs.Taking.{no_slice, may_slice, sliced}
 use Rattle.muck_script.proofs.turns.slice_next.Goals as goal
 
 pub returns-in-None-clause-some : goal.returns-in-None-clause-some
@@ -19,3 +19,7 @@ slice-requires-clause-claim c =
     let read : to_z w32 (of_z w32 c.in-Some.pid) ≡ c.in-Some.pid = search rules in
     ap (λ (pid : ℤ). has_claim 0 pid (now c.claim.new.self)) read
     ∙ (may_slice c.args.world.now _ c.in-Some.pid (sym c.claim.ensures.found ∙ c.in-Some.is) (rw c.in-Some.is at c.claim.ensures.step)).claim
+
+pub returns-in_ok-slice-in-Some-clause-world : goal.returns-in_ok-slice-in-Some-clause-world
+returns-in_ok-slice-in-Some-clause-world c =
+    sliced _ _ _ c.in-Some.pid c.in_ok-slice-in-Some.field-0 (sym c.in-Some.ensures.found) c.in-Some.ensures.step c.in_ok-slice-in-Some.ensures.ran c.in_ok-slice-in-Some.ensures.step
