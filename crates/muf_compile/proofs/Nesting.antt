@@ -50,7 +50,7 @@ row_plain (r ∷ rs) h zero name a e = let i : r.1 ≡ a = cc in subst IsPlain i
 row_plain (r ∷ rs) h (suc n) name a e = row_plain rs h.1 n name a e
 
 structure_plain : RowsPlain structure
-structure_plain = (tt, (tt, (tt, (tt, (tt, (tt, (tt, (tt, (tt, (tt, (refl, (refl, (refl, ((λ p f. f), tt))))))))))))))
+structure_plain = (tt, (tt, (tt, (tt, (tt, (tt, (tt, (tt, (tt, (tt, (tt, (refl, (refl, (refl, ((λ p f. f), tt)))))))))))))))
 
 said_plain : {s : Scope} {kind : TokenKind} {a : Act} → Says s kind a → IsPlain a
 said_plain (structural row e) = row_plain structure structure_plain row _ _ e

@@ -315,12 +315,13 @@ module _ (k : Known) (g : Growth) (ts us : List Token) (w : Within ts us k.names
     control_next control.EndCatch e m = structure_next control.EndCatch _ 5 e refl m tt
     control_next control.Begin e m = structure_next control.Begin _ 6 e refl m tt
     control_next control.For e m = structure_next control.For _ 7 e refl m tt
-    control_next control.Repeat e m = structure_next control.Repeat _ 8 e refl m tt
-    control_next control.Until e m = structure_next control.Until _ 9 e refl m tt
-    control_next control.While e m = structure_next control.While _ 10 e refl m tt
-    control_next control.Break e m = structure_next control.Break _ 11 e refl m tt
-    control_next control.Continue e m = structure_next control.Continue _ 12 e refl m tt
-    control_next control.Exit e m = structure_next control.Exit _ 13 e refl m tt
+    control_next control.ForEach e m = structure_next control.ForEach _ 8 e refl m tt
+    control_next control.Repeat e m = structure_next control.Repeat _ 9 e refl m tt
+    control_next control.Until e m = structure_next control.Until _ 10 e refl m tt
+    control_next control.While e m = structure_next control.While _ 11 e refl m tt
+    control_next control.Break e m = structure_next control.Break _ 12 e refl m tt
+    control_next control.Continue e m = structure_next control.Continue _ 13 e refl m tt
+    control_next control.Exit e m = structure_next control.Exit _ 14 e refl m tt
     control_next _ e m = tt
 
     meant_next : (r : Option Word) → word_of name k ≡ r → k.mode ≡ mode.Inside → ReadSpelt g ((ts ++ us) ++ at line name ∷ []) (reading.meant line (usable r) k)

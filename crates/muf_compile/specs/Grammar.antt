@@ -60,6 +60,7 @@ structure =
     (codes "endcatch", act.EndCatch) ∷
     (codes "begin", act.Open opening.Begin) ∷
     (codes "for", act.Open opening.For) ∷
+    (codes "foreach", act.Open opening.Each) ∷
     (codes "repeat", act.Repeat) ∷
     (codes "until", act.Until) ∷
     (codes "while", act.Jump item.While) ∷

@@ -18,7 +18,6 @@ pub mod StackRows
 pub mod NumberRows
 pub mod Texts
 pub mod TextRows
-pub mod ArrayRows
 pub mod Rows
 pub mod Source
 pub mod Unit

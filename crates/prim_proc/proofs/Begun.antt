@@ -1,20 +1,21 @@
 -- How the tests of a primitive and what it is to do come together.
-use Rattle.std.proofs.Common.{◌≡◌, ℕ, List, [], ◌∷◌, ◌++◌, length, take, drop, Bool, true, false, Option, Some, None, Result, Ok, Err, refl, sym, ap, ◌∙◌, subst}
+use Rattle.std.proofs.Common.{◌≡◌, ℕ, ◌<◌, ◌≤◌, ◌+◌, List, [], ◌∷◌, ◌++◌, length, take, drop, Bool, true, false, Option, Some, None, Result, Ok, Err, refl, sym, ap, ◌∙◌, subst}
 use Rattle.std.specs.Prelude.{is_some}
 use Rattle.spec_live.specs.Lives.{Live}
 use Rattle.spec_rights.specs.declared.act.Actor.{Actor}
 use Rattle.muf_model.specs.declared.fault.MufFault.{MufFault}
-use Rattle.muf_model.specs.declared.fault.MufFault.TheVariants.{NotCompiled}
+use Rattle.muf_model.specs.declared.fault.MufFault.TheVariants.{NotCompiled, StackFull}
 use Rattle.muf_model.specs.declared.prims.Family.TheVariants as kind
 use Rattle.muf_model.specs.declared.prims.Primitive.{Primitive}
 use Rattle.muf_model.specs.declared.prims.Primitive.TheVariants.{Call, Fork, Sleep, Read, Kill, Pid, IsPid, Queue as QueuePrim, Mode, SetMode, Preempt, Foreground, Background, SysTime, Random, EventSend, EventWait, EventCount, Prog, Trig, Caller, Cmd}
+use Rattle.muf_model.specs.Answer.{stack_most}
 use Rattle.muf_model.specs.Datum.{Datum}
 use Rattle.muf_model.specs.Prims.{family_of, level_of}
 use Rattle.muf_frame.specs.declared.fault.PrimFault.{PrimFault}
 use Rattle.muf_frame.specs.declared.fault.PrimFault.TheVariants.{Fault, NoMemory}
-use Rattle.muf_frame.specs.Shown.{Shown, flat}
+use Rattle.muf_frame.specs.Shown.{Shown, flat, locked_by}
 use Rattle.muck_perm.specs.declared.guard.Guard.{Guard}
-use Rattle.muck_perm.specs.Guards.{Same}
+use Rattle.muck_perm.specs.Guards.{Same, world_of}
 use Rattle.muck_perm.proofs.Worlds.{kept_itself, same_as}
 use Rattle.spec_prims.specs.Shared.{fault_by}
 use Rattle.prim_common.specs.Tests.{Passes}
@@ -25,7 +26,9 @@ use Rattle.spec_processes.specs.ProcessRows.{Effect, gives, waits, forks, enters
 use Rattle.prim_proc.specs.declared.after.After.{After}
 use Rattle.prim_proc.specs.declared.plan.Plan.{Plan}
 use Rattle.prim_proc.specs.Applied.{Applied}
-use Rattle.prim_proc.specs.Plans.{Plans, effect_of, does_of}
+use Rattle.prim_proc.specs.Plans.{Plans, TakesAll, effect_of, does_of, items_of, stacked}
+use Rattle.prim_proc.proofs.Asked.{takes_all}
+use Rattle.prim_proc.proofs.Roomed.{upon_roomed, upon_full}
 
 -- each primitive of processes has a row
 row_there : (p : Primitive) → family_of p ≡ kind.Process → is_some (process_row p) ≡ true
@@ -105,3 +108,49 @@ wanted_so (refuses e) f g old new was is h = h
 pub unplanned : (all effect : Effect) (rest : List Datum) (x : Place) (w : Live) (f : Shown) (g : Guard) (q : Queue) (h : PrimFault) (r : Result Plan PrimFault) → all ≡ upon rest effect → Plans effect x w q r → r ≡ Err h → Applied all f f g g q q (Err h)
 unplanned all effect rest x w f g q (Fault h) r e plans is = refused_so all f g q h (e ∙ ap (upon rest) (subst (Plans effect x w q) is plans))
 unplanned all effect rest x w f g q NoMemory r e plans is = wanted_so all f f g g q q (same_as g g refl)
+
+-- The whole of a primitive, by its tests, its plan and the room for what comes.
+
+abbrev pub whole : Primitive → Place → Shown → Guard → Queue → Effect
+whole p x f g q = processed p x g.actor (locked_by (flat f).marks) (flat f).stack (world_of g) q
+
+-- the process is there, and the tests have answered
+pub record Started (p : Primitive) (x : Place) (f : Shown) (g : Guard) (q : Queue) (own : Process) (r : Result ℕ MufFault) : Type 0 where
+  pub here : process x.pid q ≡ Some own
+  pub of_family : family_of p ≡ kind.Process
+  pub pass : Passes (fault_by (needs_at p (flat f).stack) (level_of p) None g.actor (locked_by (flat f).marks) (flat f).stack (world_of g)) r
+
+module _ {p : Primitive} {x : Place} {f : Shown} {g : Guard} {q : Queue} {own : Process} {r : Result ℕ MufFault} (b : Started p x f g q own r) where
+  -- what it does with the items that it takes
+  abbrev does : Effect
+  does = does_of (process_row p) x g.actor own (take (taken_at p (flat f).stack) (flat f).stack) (world_of g) q
+
+  pub untested_so : (h : MufFault) → r ≡ Err h → Applied (whole p x f g q) f f g g q q (Err (Fault h))
+  untested_so h is = refused_so _ f g q h (untested p x g.actor (locked_by (flat f).marks) (flat f).stack (world_of g) q own b.here b.of_family h r b.pass is)
+
+  module _ (n : ℕ) (is : r ≡ Ok n) (count : n ≡ taken_at p (flat f).stack) where
+    taken_upon : whole p x f g q ≡ upon (drop n (flat f).stack) does
+    taken_upon = passed p x g.actor (locked_by (flat f).marks) (flat f).stack (world_of g) q own b.here b.of_family n r b.pass is count
+
+    pub unplanned_so : (h : PrimFault) (o : Result Plan PrimFault) → Plans does x (world_of g) q o → o ≡ Err h → Applied (whole p x f g q) f f g g q q (Err h)
+    unplanned_so h o plans was = unplanned (whole p x f g q) does (drop n (flat f).stack) x (world_of g) f g q h o taken_upon plans was
+
+    module _ (plan : Plan) (o : Result Plan PrimFault) (plans : Plans does x (world_of g) q o) (was : o ≡ Ok plan) where
+      pub planned : effect_of plan x (world_of g) q ≡ does
+      planned = subst (Plans does x (world_of g) q) was plans
+
+      plan_upon : whole p x f g q ≡ upon (drop n (flat f).stack) (effect_of plan x (world_of g) q)
+      plan_upon = taken_upon ∙ ap (upon (drop n (flat f).stack)) (sym planned)
+
+      -- there is no room
+      pub unroomed_so : length (drop n (flat f).stack) ≤ stack_most → stack_most < items_of plan + length (drop n (flat f).stack) → (h : MufFault) → h ≡ StackFull → Applied (whole p x f g q) f f g g q q (Err (Fault h))
+      unroomed_so most less h e = refused_so _ f g q h (plan_upon ∙ upon_full (drop n (flat f).stack) x (world_of g) q plan most less ∙ ap refuses (sym e))
+
+      -- it is carried out
+      pub carried_so : items_of plan + length (drop n (flat f).stack) ≤ stack_most → (after : Shown) (new : Guard) (is : Queue) (end : Result After PrimFault) →
+          Applied (stacked (drop n (flat f).stack) (effect_of plan x (world_of g) q)) f after g new q is end → Applied (whole p x f g q) f after g new q is end
+      carried_so room after new is end h =
+          subst (λ e. Applied e f after g new q is end) (sym (plan_upon ∙ upon_roomed (drop n (flat f).stack) x (world_of g) q plan room)) h
+
+      pub all_taken : TakesAll plan n
+      all_taken = subst (TakesAll plan) (sym count) (takes_all p x g.actor own (flat f).stack (world_of g) q plan planned)

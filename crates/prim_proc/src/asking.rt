@@ -37,7 +37,7 @@ const NAMED: Needs = Needs {
 
 /// The tests that a primitive of processes begins with. The answer is the fault of the first that doesn't pass; where all pass
 /// it is how many items the primitive takes, and these are there.
-#[tactic(auto, using(crate::proofs::Needing::needing_steps))]
+#[tactic(auto, unfolding(spec_prims::specs::Shared::first_fault), using(crate::proofs::Needing::needing_steps))]
 pub(crate) fn ready_at(prim: Prim, guard: &Guard, frame: &Frame) -> Result<usize, MufFault>
     ensures count { IfOk result (λ n. n ≡ taken_at prim (flat frame.now).stack) }
     ensures there { IfOk result (λ n. n ≤ length frame.now.stack) }

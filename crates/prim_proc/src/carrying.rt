@@ -44,11 +44,11 @@ fn send(
     pid: i32,
     moment: u64,
     name: Text,
-    data: Value,
+    item: Value,
 ) -> Result<(), PrimFault>
-    ensures { Sent pid moment name (view data) queue.old queue.new result }
+    ensures { Sent pid moment name (view item) queue.old queue.new result }
 {
-    match queue.event(pid, moment, name, data) {
+    match queue.event(pid, moment, name, item) {
         Ok(_) => Ok(()),
         Err(QueueFault::NoMemory) => Err(PrimFault::NoMemory),
         Err(QueueFault::TooManyEvents | QueueFault::ProcessLimit) => {
@@ -106,8 +106,8 @@ pub(crate) fn carry_out(
             queue.set_mode(place.pid, mode);
             Ok(take(frame, taken, After::Go))
         }
-        Plan::Send { pid, name, data } => {
-            send(queue, pid, place.moment, name, data)?;
+        Plan::Send { pid, name, item } => {
+            send(queue, pid, place.moment, name, item)?;
             Ok(take(frame, taken, After::Go))
         }
         Plan::Receive => Ok(receive(place, taken, queue, frame)),

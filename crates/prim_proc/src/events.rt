@@ -93,13 +93,13 @@ fn event_data(
     place: Place,
     own: &Process,
     guard: &Guard,
-    data: Value,
+    item: Value,
 ) -> Result<Value, PrimFault>
-    ensures { DataMade place guard.now.actor own.now (view data) result }
+    ensures { DataMade place guard.now.actor own.now (view item) result }
 {
     let alloc = guard.alloc();
     let mut dict = sender(alloc, place, own, guard.actor())?;
-    match dict.put(key(alloc, b"data")?, data) {
+    match dict.put(key(alloc, b"data")?, item) {
         Ok(()) => Ok(value_of(alloc, dict)?),
         Err(ValueFault::TooHeavy) => Err(PrimFault::Fault(MufFault::TooHeavy)),
         Err(ValueFault::NoMemory) => Err(PrimFault::NoMemory),
@@ -130,12 +130,12 @@ fn event_name(alloc: Global, name: &Text) -> Result<Text, PrimFault>
 
 // The number of a process, the text upon it and what is to be sent.
 fn sent(frame: &Frame) -> Option<(i32, &Text, &Value)>
-    ensures { option_map (λ t. (t.0, (t.1.now, view t.2.now))) result ≡ sent_in (flat frame.now).stack }
+    ensures { option_map (λ t. (t.0, t.1.now, view t.2.now)) result ≡ sent_in (flat frame.now).stack }
 {
-    let data = frame.peek(0)?;
+    let item = frame.peek(0)?;
     let name = frame.text_at(1)?;
     let pid = frame.int_at(2)?;
-    Some((pid, name, data))
+    Some((pid, name, item))
 }
 
 /// EVENT_SEND.
@@ -148,7 +148,7 @@ pub(crate) fn event_send(
 ) -> Result<Plan, PrimFault>
     ensures { (w : Live) → Plans (event_send place guard.now.actor own.now (take 3 (flat frame.now).stack) w queue.now) place w queue.now result }
 {
-    let Some((pid, name, data)) = sent(frame) else {
+    let Some((pid, name, item)) = sent(frame) else {
         return Err(PrimFault::Fault(MufFault::BadType));
     };
     let Some(other) = queue.get(pid) else {
@@ -158,6 +158,6 @@ pub(crate) fn event_send(
         return Err(PrimFault::Fault(MufFault::TooHeavy));
     }
     let name = event_name(guard.alloc(), name)?;
-    let data = event_data(place, own, guard, data.copy()?)?;
-    Ok(Plan::Send { pid, name, data })
+    let item = event_data(place, own, guard, item.copy()?)?;
+    Ok(Plan::Send { pid, name, item })
 }

@@ -20,7 +20,7 @@ pub(crate) enum Plan {
     /// Going on in that mode.
     SetMode(Mode),
     /// Sending an event to the process of that number.
-    Send { pid: i32, name: Text, data: Value },
+    Send { pid: i32, name: Text, item: Value },
     /// Giving the oldest event, or waiting for one.
     Receive,
     /// Waiting until that second.

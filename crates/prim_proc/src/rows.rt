@@ -164,7 +164,7 @@ fn start(
 
 // The seconds, the program and the argument upon them.
 fn started(frame: &Frame) -> Option<(i32, Dbref, &Text)>
-    ensures { option_map (λ t. (t.0, (t.1.0, t.2.now))) result ≡ started_in (flat frame.now).stack }
+    ensures { option_map (λ t. (t.0, t.1.0, t.2.now)) result ≡ started_in (flat frame.now).stack }
 {
     let argument = frame.text_at(0)?;
     let program = frame.object_at(1)?;

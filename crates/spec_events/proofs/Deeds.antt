@@ -1,5 +1,5 @@
 -- What the primitives of processes lead to.
-use Rattle.std.proofs.Common.{◌≡◌, ℕ, ℤ, pos, Bool, true, false, cond, List, [], ◌∷◌, refl, Option, Some, None}
+use Rattle.std.proofs.Common.{◌≡◌, ℕ, ℤ, pos, Bool, true, false, cond, List, refl, Option, Some, None}
 use Rattle.std.specs.Prelude.{nat_lt, Result, Ok, Err}
 use Rattle.spec_live.specs.Objects.{Entry, nothing}
 use Rattle.spec_rights.specs.declared.act.Actor.{Actor}

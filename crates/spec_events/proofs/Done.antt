@@ -289,8 +289,7 @@ given_licensed : (d : ℕ) (pid : ℤ) (player : Option Dbref) (editor : Option 
     LineLicensed d (Some pid) player editor (line ∷ lines) w (given_line d pid line (on_live (waits d lines) w))
 given_licensed d pid player editor line lines w =
     let v : World = given_line d pid line (on_live (waits d lines) w) in
-    let q = given_quietly d pid line lines w in
-    (
+    let q = given_quietly d pid line lines w in (
       record { objects = q.objects; tune = q.tune },
       processes_remain (EndsReading pid) (EndsReading pid) w v (λ p m. m) (given_lasts d pid line (on_live (waits d lines) w)),
       leavers_ties (λ c. false) w.live.board.connections v.live.board.connections q.ties,

@@ -1,12 +1,12 @@
 -- Each unit of a slice is licensed.
-use Rattle.std.proofs.Common.{ℕ, ℤ, List, [], ◌∷◌}
+use Rattle.std.proofs.Common.{ℕ, ℤ}
 use Rattle.std.specs.Prelude.{All}
 use Rattle.std.proofs.lemmas.List.Elements.{All-nil, All-cons}
 use Rattle.muck_model.specs.declared.tune.Tune.{Tune}
 use Rattle.muf_model.specs.Source.{Source}
 use Rattle.spec_events.specs.declared.starting.Agent.{Agent}
 use Rattle.spec_events.specs.World.{World}
-use Rattle.spec_events.specs.Slices.{Taken, turn, unit_of, run_of}
+use Rattle.spec_events.specs.Slices.{turn, unit_of, run_of}
 use Rattle.spec_events.specs.Licences.{UnitLicensed}
 use Rattle.spec_events.proofs.Endings.{IsTold}
 use Rattle.spec_events.proofs.Slicing.{run_holds}

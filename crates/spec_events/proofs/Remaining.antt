@@ -1,5 +1,5 @@
 -- Which processes a unit of a process ends.
-use Rattle.std.proofs.Common.{◌≡◌, ℕ, ℤ, Bool, true, false, cond, List, refl, sym, ◌∙◌, ap, subst, Option, Some, None}
+use Rattle.std.proofs.Common.{◌≡◌, ℤ, Bool, true, false, cond, List, refl, sym, ◌∙◌, ap, subst, Option, Some, None}
 use Rattle.std.specs.Option.{option_map_or}
 use Rattle.muck_model.specs.declared.dbref.Dbref.{Dbref}
 use Rattle.muck_model.specs.declared.tune.Tune.{Tune}
@@ -21,7 +21,7 @@ use Rattle.spec_prims.specs.Row.{Row, gives, refuses}
 use Rattle.spec_prims.specs.Shared.{shared}
 use Rattle.spec_prims.proofs.Opens.{RowOpen, shared_open}
 use Rattle.muck_queue.specs.declared.process.Process.{Process}
-use Rattle.muck_queue.specs.Queues.{Queue, at_state, counted, has_pid, is_in, process, on_process, without}
+use Rattle.muck_queue.specs.Queues.{Queue, at_state, counted, has_pid, is_in, on_process, without}
 use Rattle.spec_processes.specs.ProcessRows.{is_process}
 use Rattle.spec_processes.proofs.Ends.{IsSame}
 use Rattle.spec_processes.proofs.Leaves.{EndedBy}

@@ -37,6 +37,7 @@ use Rattle.spec_events.specs.Slices.{acting, Deed, does, rests, fails, lifted, r
 use Rattle.spec_events.specs.Sections.{IsCountable, IsInterruptible, Stops, LastStops, IsOverlong, IsTooLong, LastTooLong, IsWhole}
 use Rattle.spec_events.proofs.Modes.{Holds, Fits, Seated, fits_seated, fits_less, numbered_changed, numbered_without, fits_changed, settled_fits, settled_numbered, joined_fits, begun_fits}
 use Rattle.spec_events.proofs.Effects.{GoesOn, MayChange, goes_on, Leaves, processed_leaves}
+use Rattle.spec_events.proofs.Slicing.{run_holds}
 use Rattle.spec_events.proofs.Units.{Sits, sits, turn_limit, turn_within}
 
 -- Units.
@@ -229,22 +230,16 @@ module _ (tune : Tune) (pid : ℤ) where
       subst (TurnLeaves 0 1 pid) (sym (turn_within tune pid x s w e)) (unit_leaves 0 1 pid x s.program.number (unit s) (one_counted pid w) (any_seated x s w h at))
   turn_numbered x s w h at (Some f) e = subst (TurnLeaves 0 1 pid) (sym (turn_limit tune pid x s f w e)) (numbered_without pid w.queue h)
 
-  more_numbered : (n : ℕ) (t : Turn) → TurnLeaves 0 1 pid t → ((v : World) → IsNumbered v.queue → IsNumbered (last_world v (run_of tune n pid v)).queue) → IsNumbered (last_world (world_of t) (then_more (run_of tune n pid) t)).queue
-  more_numbered n (on v) h more = more v h.numbered
-  more_numbered n (rest v) h more = h
-  more_numbered n (over v) h more = h
-
-  next_numbered : (n : ℕ) (w : World) (o : Option (Agent × Source)) → IsNumbered w.queue → seat pid w ≡ o → ((v : World) → IsNumbered v.queue → IsNumbered (last_world v (run_of tune n pid v)).queue) →
-      IsNumbered (last_world w (option_map_or (next_unit tune (suc n) pid w (run_of tune n pid)) o [])).queue
-  next_numbered n w None h at more = h
-  next_numbered n w (Some (x, s)) h at more =
-      cond_both (is_through tune (suc n) x) [] _ (λ ts. IsNumbered (last_world w ts).queue) (λ e. h) (λ e.
-      more_numbered n (turn tune pid x s w) (turn_numbered x s w h at (limit_fault tune (acting x s w.live.objects).level x) refl) more)
+  leaves_numbered : (t : Turn) → TurnLeaves 0 1 pid t → IsNumbered (world_of t).queue
+  leaves_numbered (on v) h = h.numbered
+  leaves_numbered (rest v) h = h
+  leaves_numbered (over v) h = h
 
   pub run_numbered : (n : ℕ) (w : World) → IsNumbered w.queue → IsNumbered (last_world w (run_of tune n pid w)).queue
-  unfolding run_of
-  run_numbered zero w h = h
-  run_numbered (suc n) w h = next_numbered n w (seat pid w) h refl (run_numbered n)
+  run_numbered n w =
+      run_holds tune pid (λ v ts. IsNumbered v.queue → IsNumbered (last_world v ts).queue) (λ v h. h)
+      (λ v x s ts e more h. more (leaves_numbered (turn tune pid x s v) (turn_numbered x s v h e (limit_fault tune (acting x s v.live.objects).level x) refl)))
+      n w
 
 -- The units of a slice.
 

@@ -1,5 +1,5 @@
 -- Each unit of a slice changes only what is open to who acts in it.
-use Rattle.std.proofs.Common.{◌≡◌, ℕ, ℤ, Bool, true, false, cond, List, [], ◌∷◌, map, refl, ◌∙◌, ap, subst, Option, Some, None}
+use Rattle.std.proofs.Common.{◌≡◌, ℕ, ℤ, Bool, true, false, cond, List, [], ◌∷◌, map, refl, ap, subst, Option, Some, None}
 use Rattle.muck_model.specs.declared.dbref.Dbref.{Dbref}
 use Rattle.muck_model.specs.declared.tune.Tune.{Tune}
 use Rattle.spec_live.specs.Lives.{tell_player}
@@ -22,7 +22,7 @@ use Rattle.muck_queue.specs.Queues.{standing, without}
 use Rattle.spec_processes.specs.ProcessRows.{is_process}
 use Rattle.spec_events.specs.declared.starting.Agent.{Agent}
 use Rattle.spec_events.specs.World.{World}
-use Rattle.spec_events.specs.Slices.{Taken, acting, Deed, does, rests, fails, lifted, row_done, process_done, deed, stands_at, ended_one, out, one_counted, broken, program_error, went, after_deed, unit_done, limit_fault, within_limit, turn, world_of, slice_most, run_of, last_world, awake, sliced}
+use Rattle.spec_events.specs.Slices.{acting, Deed, does, rests, fails, lifted, row_done, process_done, deed, stands_at, ended_one, out, one_counted, broken, program_error, went, after_deed, unit_done, limit_fault, within_limit, turn, world_of, slice_most, run_of, last_world, awake, sliced}
 use Rattle.spec_events.proofs.Quietly.{Quietly, quietly_live, quietly_queue}
 use Rattle.spec_events.proofs.Endings.{IsTold, told_settled}
 use Rattle.spec_events.proofs.Done.{told_by, Open, open_quietly, open_settled, Going, going_same, going_both, going_open}

@@ -83,7 +83,7 @@ WorkedRows =
     × (processed EventCount (place_of 1) (acting_at 1 1) 0 [] at_first both ≡ gives (number 1 ∷ []) at_first both)
     -- an event for one that is there, and for one that isn't
     × (processed EventSend (place_of 1) (acting_at 3 1) 0 (send_bell 2) at_first both
-      ≡ gives [] at_first (on_process (pos 2) (told_event 100 (codes "USER.bell", event_data (place_of 1) (acting_at 3 1) fore (number 5))) both))
+    ≡ gives [] at_first (on_process (pos 2) (told_event 100 (codes "USER.bell", event_data (place_of 1) (acting_at 3 1) fore (number 5))) both))
     × (processed EventSend (place_of 1) (acting_at 3 1) 0 (send_bell 3) at_first both ≡ gives [] at_first both)
     -- CALL takes two items where a text is on the top: too few of them, and none that is a program, or is there
     × (processed Call (place_of 1) (acting_at 1 1) 0 (text (codes "go") ∷ []) at_first both ≡ refuses StackEmpty)
