@@ -1,7 +1,10 @@
-use Rattle.std.proofs.Common.{◌≡◌, ℤ, sym, ◌∙◌, ap, to_z, of_z, w32, rules}
+use Rattle.std.proofs.Common.{◌≡◌, ℤ, cond, sym, ◌∙◌, ap, to_z, of_z, w32, rules}
 use Rattle.std.specs.Prelude.{is_some}
-use Rattle.spec_events.specs.Steps.{has_claim}
-use Rattle.spec_events.specs.Histories.{now}
+use Rattle.spec_events.specs.Steps.{has_claim, is_there}
+use Rattle.spec_events.specs.Histories.{now, entered, by_porter}
+use Rattle.muck_machine.specs.Claims.{slice_event}
+use Rattle.muck_machine.specs.declared.world.Sliced.{Sliced}
+use Rattle.muck_machine.specs.declared.world.Sliced.TheVariants.{Ran, Lost}
 use Rattle.muck_script.proofs.Taking.{no_slice, may_slice, sliced}
 use Rattle.muck_script.proofs.turns.slice_next.Goals as goal
 
@@ -22,4 +25,8 @@ slice-requires-clause-claim c =
 
 pub returns-in_ok-slice-in-Some-clause-world : goal.returns-in_ok-slice-in-Some-clause-world
 returns-in_ok-slice-in-Some-clause-world c =
-    sliced _ _ _ c.in-Some.pid c.in_ok-slice-in-Some.field-0 (sym c.in-Some.ensures.found) c.in-Some.ensures.step c.in_ok-slice-in-Some.ensures.ran c.in_ok-slice-in-Some.ensures.step
+    let read : to_z w32 (of_z w32 c.in-Some.pid) ≡ c.in-Some.pid = search rules in
+    let how : Sliced = c.in_ok-slice-in-Some.field-0 in
+    sliced c.args.world.now c.claim.new.self c.slice.new.self c.in-Some.pid how (sym c.in-Some.ensures.found) c.in-Some.ensures.step
+    (c.in_ok-slice-in-Some.ensures.ran ∙ ap (λ (pid : ℤ). cond (is_there pid (now c.claim.new.self)) Ran Lost) read)
+    (c.in_ok-slice-in-Some.ensures.step ∙ ap (λ (pid : ℤ). entered c.claim.new.self (by_porter (slice_event pid how))) read)
