@@ -23,5 +23,5 @@ pub returns-in-Wait-clause-plays : goal.returns-in-Wait-clause-plays
 returns-in-Wait-clause-plays g c =
     let at = c.now.ensures c.requires in
     let on : (now c.args.world.now).moment ≤ c.saturating_add-then.result = omega (arith, at, c.saturating_add-then.ensures) in
-    let is : c.saturating_add-then.result ≡ later c.in-Wait.seconds.now (now c.args.world.now) = omega (arith, at, c.saturating_add-then.ensures) in
+    let is : c.saturating_add-then.result ≡ later c.in-Wait.seconds (now c.args.world.now) = omega (arith, at, c.saturating_add-then.ensures) in
     rw c.in-Wait.is (plays_wait _ _ _ _ _ is c.requires (moment_lawful _ _ c.requires on) c.moment.ensures)

@@ -19,4 +19,4 @@ closed-requires g c = closed_where _ _ c.requires ∙ sym (c.connected.ensures c
 pub returns-in-Ok-clause-plays : goal.returns-in-Ok-clause-plays
 returns-in-Ok-clause-plays g c =
     plays_close _ _ _ _ c.requires (sym (c.leaving.ensures c.requires) ∙ c.if-leaving.false)
-    (closed_where _ _ c.requires ∙ sym (c.connected.ensures c.requires) ∙ c.if-not-connected.false) c.in-Ok.ensures
+    (closed_where _ _ c.requires ∙ sym (c.connected.ensures c.requires) ∙ c.if-not-connected.false) c.in-Ok.ensures.ok
