@@ -1,28 +1,20 @@
--- What shared primitives do, by what stands on the stack.
+-- What shared primitives do to a process.
 use Rattle.std.proofs.Common.{◌≡◌, ℕ, suc, ◌+◌, ◌-◌, ◌<◌, ◌≤◌, subst, cond, List, [], ◌∷◌, map, drop, length, Bool, true, false, Option, Some, None, refl, sym, ap, ◌∙◌, arith, ◌&&◌}
-use Rattle.std.specs.Prelude.{ℤ, slice_get, find, is_some, Result, Ok, Err, MatchResult}
+use Rattle.std.specs.Prelude.{ℤ, slice_get, find, Result, Ok, Err}
 use Rattle.std.specs.List.{position, position_from}
-use Rattle.std.specs.Option.{option_map_or, SomeIff}
+use Rattle.std.specs.Option.{SomeIff}
 use Rattle.std.proofs.lemmas.List.{length-map}
 use Rattle.std.proofs.lemmas.Iterator.Adapters.{position_from-zero}
-use Rattle.std.proofs.lemmas.Bool.{cond-true, cond-false, le-ltb}
+use Rattle.std.proofs.lemmas.Bool.{cond-true, cond-false}
 use Rattle.muck_model.specs.declared.dbref.Dbref.{Dbref}
-use Rattle.muck_model.specs.declared.dbref.Denial.{Denial}
-use Rattle.spec_live.specs.Objects.{Entry, object_at, is_program}
-use Rattle.spec_rights.specs.declared.act.Act.{Act}
-use Rattle.spec_rights.specs.declared.act.Act.TheVariants.{Shared, Call as CallAct}
-use Rattle.spec_rights.specs.Verdict.{verdict}
-use Rattle.muck_library.specs.Library.{Library, formed}
 use Rattle.muf_model.specs.declared.prims.Primitive.{Primitive as Name}
-use Rattle.muf_model.specs.declared.prims.Primitive.TheVariants.{Call}
-use Rattle.muf_model.specs.Prims.{family_of, level_of}
-use Rattle.muf_model.specs.Answer.{too_few}
+use Rattle.muf_model.specs.Prims.{family_of}
 use Rattle.muf_model.specs.View.{view}
-use Rattle.muf_model.specs.Datum.{Datum, text, object}
+use Rattle.muf_model.specs.Datum.{Datum}
 use Rattle.muf_model.specs.declared.fault.MufFault.{MufFault}
 use Rattle.muf_model.specs.Flat.{Flat}
 use Rattle.muf_model.specs.Source.{Owned, Program, Source, last_word, locked_of, passed}
-use Rattle.muf_model.specs.Chains.{Deed, does, fails, callers_of}
+use Rattle.muf_model.specs.Chains.{callers_of}
 use Rattle.muf_model.specs.declared.code.Code.{Code}
 use Rattle.muf_model.specs.declared.code.CodeWord.{CodeWord}
 use Rattle.muf_model.specs.Decode.{definition_at, tree_of}
@@ -40,7 +32,7 @@ use Rattle.muck_perm.specs.declared.guard.Guard.{Guard}
 use Rattle.muck_perm.specs.Guards.{world_of}
 use Rattle.spec_live.specs.Lives.{Live}
 use Rattle.muf_model.specs.declared.prims.Family.{Family}
-use Rattle.muf_model.specs.declared.prims.Family.TheVariants.{Object as ObjectFamily, Property, Talk}
+use Rattle.muf_model.specs.declared.prims.Family.TheVariants.{Object as ObjectFamily, Property, Talk, Process as ProcessFamily}
 use Rattle.muf_model.specs.declared.fault.MufFault.TheVariants.{NotCompiled}
 use Rattle.muf_frame.specs.declared.fault.PrimFault.{PrimFault}
 use Rattle.muf_frame.specs.declared.fault.PrimFault.TheVariants.{Fault as FrameFault, NoMemory as FrameNoMemory}
@@ -49,9 +41,10 @@ use Rattle.muf_frame.proofs.Data.{map_drop}
 use Rattle.muf_running.specs.declared.entered.Entered.{Entered}
 use Rattle.muf_running.specs.Fitting.{IsAtPrimitive}
 use Rattle.muf_running.specs.Lending.{Shows, Apart, Differs, Rejoins, with_frame}
-use Rattle.spec_events.specs.Slices.{Doing, callers, deed, lifted, row_done, call_items, call_count, program_called, called_word, is_offered, needing, permitted, permitted_by, existing, programmed, called, form_called, behind, acting}
+use Rattle.spec_processes.specs.ProcessRows.{is_process_family}
+use Rattle.spec_events.specs.Slices.{does, fails, callers, deed, process_done, lifted, row_done, called_word, is_offered, behind, acting}
 use Rattle.muck_machine.specs.declared.state.deeds.Done.TheVariants.{Fails as DoneFails}
-use Rattle.muck_machine.specs.Deeds.{asked_of, AppliedTo, DoneAs, IsWord, PassesOn, Permits}
+use Rattle.muck_machine.specs.Deeds.{AppliedTo, DoneAs, IsWord, PassesOn}
 
 -- programs of these numbers
 numbered_so : (ds : List Dbref) (ps : List Program) → map (λ d. d.0) ds ≡ map (λ p. p.number) ps → ds ≡ map (λ p. numbered p.number) ps
@@ -66,22 +59,19 @@ numbered_so (d ∷ ds) (p ∷ ps) e =
 pub callers_numbered : (ds : List Dbref) (s : Source) → map (λ d. d.0) ds ≡ map (λ p. p.number) (callers_of s.marks) → ds ≡ callers s
 callers_numbered ds s e = numbered_so ds (callers_of s.marks) e
 
--- a primitive that has a row
-pub row_deed : (x : Agent) (p : Name) (s : Source) (w : World) → (p ≡ Call → ⊥) → deed x p s w ≡ row_done x p s w
+-- a primitive of processes is done as such
+pub process_deed : (pid : ℤ) (x : Agent) (p : Name) (s : Source) (w : World) → family_of p ≡ ProcessFamily → deed pid x p s w ≡ process_done pid x p s w
 unfolding deed
-row_deed x Call s w h = absurd (h refl)
-row_deed x _ s w h = refl
+process_deed pid x p s w e = cond-true _ _ _ (ap is_process_family e)
 
-some_is : {A : Type 0} (a b : A) → Some a ≡ Some b → a ≡ b
-some_is a b e = cc
+other_family : (family : Family) → (family ≡ ProcessFamily → ⊥) → is_process_family family ≡ false
+other_family ProcessFamily h = absurd (h refl)
+other_family _ h = refl
 
--- what CALL finds is the call of a program
-pub call_asked : (es : List Entry) (a : Actor) (s : Source) (stack : List Datum) (forms : Library) (found : ℤ × (Option (List ℕ) × ℕ)) → asked_of stack ≡ Some found → call_items es a s stack forms ≡ program_called es a s found.0 found.1.0 (drop found.1.1 stack) forms
-call_asked es a s (text t ∷ object o ∷ rest) forms found e =
-    ap (λ (q : ℤ × (Option (List ℕ) × ℕ)). program_called es a s q.0 q.1.0 (drop q.1.1 (text t ∷ object o ∷ rest)) forms) (some_is (o, (Some t, 2)) found e)
-call_asked es a s (object o ∷ rest) forms found e =
-    ap (λ (q : ℤ × (Option (List ℕ) × ℕ)). program_called es a s q.0 q.1.0 (drop q.1.1 (object o ∷ rest)) forms) (some_is (o, (None, 1)) found e)
-call_asked es a s stack forms found e = absurd cc
+-- and another one as its row
+pub row_deed : (pid : ℤ) (x : Agent) (p : Name) (s : Source) (w : World) → (family_of p ≡ ProcessFamily → ⊥) → deed pid x p s w ≡ row_done x p s w
+unfolding deed
+row_deed pid x p s w h = cond-false _ _ _ (other_family (family_of p) h)
 
 -- ---- the word that is called
 
@@ -128,40 +118,30 @@ last_by (d ∷ ds) n (Some m) e h =
 pub last_place : (code : Code) (a : Actor) (r : Option ℕ) → SomeIff r (1 ≤ length code.words) (length code.words - 1) → IsWord (tree_of code).words (called_word a None (tree_of code)) r
 last_place code a r h = last_by (tree_of code).words (length code.words) r (length-map code.words (definition_at code.placed)) h
 
--- ---- the tests of CALL, where all of them pass
-
-need_passes : (n : ℕ) (s : Source) (go : Doing) (forms : Library) → locked_of s.marks + n ≤ length s.stack → needing n s go forms ≡ go forms
-unfolding needing
-need_passes n s go forms l = cond-false _ _ _ (le-ltb (length s.stack) (locked_of s.marks + n) l)
-
-leave_passes : (es : List Entry) (a : Actor) (act : Act) (go : Doing) (forms : Library) → verdict es a act ≡ None → permitted es a act go forms ≡ go forms
-unfolding permitted
-leave_passes es a act go forms h = ap (λ v. permitted_by v go forms) h
-
-pub permits_none : (v : Option Denial) (x : Unit {0}) → Permits v (Ok x) → v ≡ None
-permits_none None x h = refl
-permits_none (Some d) x h = absurd h
-
-call_passes : (es : List Entry) (a : Actor) (s : Source) (forms : Library) (d : ℤ) (name : Option (List ℕ)) (rest : List Datum) → is_some (object_at (numbered d) es) ≡ true →
-    option_map_or (λ o. is_program o.kind) (object_at (numbered d) es) false ≡ true → verdict es a (CallAct (numbered d)) ≡ None →
-    program_called es a s d name rest forms ≡ form_called a (behind rest s) d name (formed es (numbered d) forms)
-unfolding program_called existing programmed
-call_passes es a s forms d name rest there program leave =
-    cond-true _ _ _ there ∙ cond-true _ _ _ program ∙ leave_passes es a (CallAct (numbered d)) _ forms leave
-
-pub call_found : (es : List Entry) (a : Actor) (s : Source) (forms : Library) (d : ℤ) (name : Option (List ℕ)) (n : ℕ) → locked_of s.marks + 1 ≤ length s.stack → locked_of s.marks + call_count s.stack ≤ length s.stack →
-    verdict es a (Shared (level_of Call)) ≡ None → asked_of s.stack ≡ Some (d, (name, n)) → is_some (object_at (numbered d) es) ≡ true →
-    option_map_or (λ o. is_program o.kind) (object_at (numbered d) es) false ≡ true → verdict es a (CallAct (numbered d)) ≡ None →
-    called es a s forms ≡ form_called a (behind (drop n s.stack) s) d name (formed es (numbered d) forms)
-unfolding called
-call_found es a s forms d name n one all shared found there program leave =
-    need_passes 1 s _ forms one ∙ need_passes (call_count s.stack) s _ forms all ∙ leave_passes es a (Shared (level_of Call)) _ forms shared
-    ∙ call_asked es a s s.stack forms (d, (name, n)) found ∙ call_passes es a s forms d name (drop n s.stack) there program leave
-
 -- ---- a row that was applied to the frame of a process
 
+-- the frame has another stack, and nothing else of it has changed
+pub stack_differs : (stack : List Datum) (f g : Shown) → flat g ≡ record (flat f) { stack = stack } → Differs (flat f) (flat g)
+stack_differs stack f g h = subst (λ e. Differs (flat f) e) (sym h) refl
+
+-- and so has the process
+pub stack_behind : (stack : List Datum) (f g : Shown) (s : Source) → Shows (flat f) s → flat g ≡ record (flat f) { stack = stack } → behind stack s ≡ passed (with_frame (flat g) s)
+stack_behind stack f g s shows h =
+    ap (λ (c : List Datum). passed (record s { stack = stack; common = c })) (sym shows.common)
+    ∙ ap (λ (o : List Owned). passed (record s { stack = stack; common = (flat f).common; owned = o })) (sym shows.owned)
+    ∙ ap (λ (e : Flat). passed (with_frame e s)) (sym h)
+
+-- or it has the one that it had
+pub same_stack : (f g : Shown) (s : Source) → Shows (flat f) s → g ≡ f → with_frame (flat g) s ≡ s
+same_stack f g s shows h =
+    ap (λ (x : Shown). with_frame (flat x) s) h ∙ ap (λ (x : List Datum). record s { stack = x; common = (flat f).common; owned = (flat f).owned }) shows.stack
+    ∙ ap (λ (x : List Datum). record s { common = x; owned = (flat f).owned }) shows.common ∙ ap (λ (x : List Owned). record s { owned = x }) shows.owned
+
+pub same_differs : (f g : Shown) → g ≡ f → Differs (flat f) (flat g)
+same_differs f g h = subst (λ (x : Shown). Differs (flat f) (flat x)) (sym h) refl
+
 applied_differs : (row : Row) (f g : Shown) (w v : World) (u : Unit {0}) → AppliedTo row f g w v (Ok u) → Differs (flat f) (flat g)
-applied_differs (gives stack live) f g w v u h = subst (λ e. Differs (flat f) e) (sym h.0) refl
+applied_differs (gives stack live) f g w v u h = stack_differs stack f g h.0
 applied_differs (refuses e) f g w v u h = absurd h
 
 -- it goes on behind the primitive
@@ -170,11 +150,7 @@ row_passes row es f g w v s u apart h at = (flat f, s, apart, applied_differs ro
 
 -- and with the stack of the row
 row_lifted : (row : Row) (f g : Shown) (w v : World) (s : Source) (u : Unit {0}) → Shows (flat f) s → AppliedTo row f g w v (Ok u) → lifted s w row ≡ does (passed (with_frame (flat g) s)) v
-row_lifted (gives stack live) f g w v s u shows h =
-    ap (λ x. does (behind stack s) x) (sym h.1)
-    ∙ ap (λ (c : List Datum). does (passed (record s { stack = stack; common = c })) v) (sym shows.common)
-    ∙ ap (λ (o : List Owned). does (passed (record s { stack = stack; common = (flat f).common; owned = o })) v) (sym shows.owned)
-    ∙ ap (λ (e : Flat). does (passed (with_frame e s)) v) (sym h.0)
+row_lifted (gives stack live) f g w v s u shows h = ap (λ x. does (behind stack s) x) (sym h.1) ∙ ap (λ (y : Source). does y v) (stack_behind stack f g s shows h.0)
 row_lifted (refuses e) f g w v s u shows h = absurd h
 
 row_does : (row : Row) (es : List Entered) (f g : Shown) (w v : World) (s t : Source) (u : Unit {0}) → Apart es (flat f) s → Shows (flat f) s → AppliedTo row f g w v (Ok u) →
@@ -186,27 +162,14 @@ row_does row es f g w v s t u apart shows h so =
 row_rejoins : (row : Row) (es : List Entered) (f g : Shown) (w v : World) (s : Source) (e : MufFault) → Apart es (flat f) s → AppliedTo row f g w v (Err (FrameFault e)) → Rejoins es (flat g)
 row_rejoins (gives stack live) es f g w v s e apart h = absurd h
 row_rejoins (refuses d) es f g w v s e apart h =
-    (flat f, s, apart, subst (λ (x : Shown). Differs (flat f) (flat x)) (sym h.1) refl)
+    (flat f, s, apart, same_differs f g h.1)
 
 row_fails : (row : Row) (es : List Entered) (f g : Shown) (w v : World) (s t : Source) (e : MufFault) → Apart es (flat f) s → Shows (flat f) s → AppliedTo row f g w v (Err (FrameFault e)) →
     ((x : Flat) (r : Source) → Apart es x r → Differs x (flat g) → t ≡ with_frame (flat g) r) → DoneAs (lifted s w row) s v (DoneFails t e)
 row_fails (gives stack live) es f g w v s t e apart shows h so = absurd h
 row_fails (refuses d) es f g w v s t e apart shows h so =
-    let same : t ≡ with_frame (flat f) s = so (flat f) s apart (subst (λ (x : Shown). Differs (flat f) (flat x)) (sym h.1) refl) ∙ ap (λ (x : Shown). with_frame (flat x) s) h.1 in
-    let back : with_frame (flat f) s ≡ s = ap (λ (x : List Datum). record s { stack = x; common = (flat f).common; owned = (flat f).owned }) shows.stack ∙ ap (λ (x : List Datum). record s { common = x; owned = (flat f).owned }) shows.common ∙ ap (λ (x : List Owned). record s { owned = x }) shows.owned in
-    (same ∙ back, ap (λ x. fails x w) (sym h.0) ∙ ap (λ x. fails e x) (sym h.2))
-
--- what a frame needs of its items, and what the process needs
-pub need_shown : (r : Result (Unit {0}) MufFault) (count : ℕ) (f : Shown) (s : Source) → Shows (flat f) s → MatchResult r (λ _. locked_by (flat f).marks + count ≤ length f.stack) (λ e. (length f.stack < locked_by (flat f).marks + count) × (e ≡ too_few count (flat f).stack)) → MatchResult r (λ _. locked_of s.marks + count ≤ length s.stack) (λ e. (length s.stack < locked_of s.marks + count) × (e ≡ too_few count s.stack))
-need_shown (Ok x) count f s shows h =
-    let n : length s.stack ≡ length f.stack = ap length (sym shows.stack) ∙ length-map f.stack view in
-    let l : locked_by (flat f).marks ≡ locked_of s.marks = shows.locked in
-    omega (arith, h, l, n)
-need_shown (Err e) count f s shows h =
-    let n : length s.stack ≡ length f.stack = ap length (sym shows.stack) ∙ length-map f.stack view in
-    let m : length f.stack < locked_by (flat f).marks + count = h.0 in
-    let l : locked_by (flat f).marks ≡ locked_of s.marks = shows.locked in
-    (omega (arith, m, l, n), h.1 ∙ ap (too_few count) shows.stack)
+    let same : t ≡ with_frame (flat g) s = so (flat f) s apart (same_differs f g h.1) in
+    (same ∙ same_stack f g s shows h.1, ap (λ x. fails x w) (sym h.0) ∙ ap (λ x. fails e x) (sym h.2))
 
 -- the row as the frame shows what it asks of
 row_seen : (p : Name) (a b : Actor) (descr : Option ℕ) (f : Flat) (s : Source) (w : Live) → a ≡ b → Shows f s → shared p a descr (locked_by f.marks) f.stack w ≡ shared p b descr (locked_of s.marks) s.stack w

@@ -7,14 +7,21 @@ use Rattle.muf_model.specs.declared.fault.MufFault.{MufFault}
 use Rattle.muf_model.specs.declared.fault.MufFault.TheVariants.{ProcessLimit}
 use Rattle.muck_queue.specs.declared.process.Process.{Process}
 use Rattle.muck_queue.specs.declared.fault.QueueFault.{QueueFault}
-use Rattle.muck_queue.specs.declared.fault.QueueFault.TheVariants.{ProcessLimit as Limit, NoMemory as Wanted}
+use Rattle.muck_queue.specs.declared.fault.QueueFault.TheVariants.{ProcessLimit as Limit, NoMemory as Wanted, TooManyEvents}
 use Rattle.muck_queue.specs.inner.Adding.{Adds}
 use Rattle.muck_queue.specs.Queues.{Queue, is_full, added}
 use Rattle.spec_events.specs.World.{World, on_queue}
 use Rattle.spec_events.specs.Starting.{joined}
 use Rattle.muck_machine.specs.declared.state.deeds.DeedFault.{DeedFault}
 use Rattle.muck_machine.specs.declared.state.deeds.DeedFault.TheVariants.{Fault, NoMemory}
-use Rattle.muck_machine.specs.Deeds.{Begins, StartsAs}
+use Rattle.muck_machine.specs.Deeds.{Begins, IsAdding, StartsAs}
+
+-- no process is added for too many events
+pub is_adding : (p : Process) (tune : Tune) (old new : Queue) (r : Result ℤ QueueFault) → Adds p tune old new r → IsAdding r
+is_adding p tune old new (Ok n) h = tt
+is_adding p tune old new (Err Limit) h = tt
+is_adding p tune old new (Err Wanted) h = tt
+is_adding p tune old new (Err TooManyEvents) h = h
 
 -- nothing is said where memory was wanted
 wanted : (r : World × Result ℤ MufFault) (v : World) → Begins r v (Err NoMemory)
@@ -44,3 +51,4 @@ module _ (p : Process) (w : World) (q : Queue) (tune : Tune) (t : tune ≡ w.liv
   joins (Err Wanted) (Err NoMemory) h k = wanted (joined p w) (record w { queue = q })
   joins (Err Wanted) (Err (Fault f)) h k = absurd k
   joins (Err Wanted) (Ok m) h k = absurd k
+  joins (Err TooManyEvents) result h k = absurd h

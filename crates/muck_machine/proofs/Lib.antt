@@ -5,6 +5,8 @@ pub mod Coming
 pub mod Settling
 pub mod Joining
 pub mod Choosing
+pub mod Idling
 pub mod Slices
 pub mod Deeds
+pub mod Processes
 pub mod Taken

@@ -8,7 +8,8 @@ use Rattle.spec_live.specs.Boards.{Board, on_connection, editor_in, edited_one, 
 use Rattle.muck_board.specs.inner.Lines.{HasNoLine, HasLine, BoardTakesLine}
 use Rattle.spec_commands.specs.Talk.{waits}
 use Rattle.spec_events.specs.World.{World, connection}
-use Rattle.spec_events.specs.Lines.{command, in_world, done}
+use Rattle.muck_queue.specs.Queues.{reader}
+use Rattle.spec_events.specs.Lines.{command, in_world, line_for, done}
 
 -- The editor of a connection.
 
@@ -47,10 +48,10 @@ unedited_taken d player line w b n e =
 
 -- where a line waits, the line is done when it was taken
 line_by : (d : ℕ) (w : World) (b : Board) (player : Option Dbref) (line : List ℕ) (lines : List (List ℕ)) (o : Option Connection) → HasLine o player line lines → b ≡ on_connection d (λ c. record c { waiting = lines }) w.live.board →
-    done d o w ≡ command player (option_and_then (λ (c : Connection). c.editor) o) d line (record w { live = record w.live { board = b } })
+    done d o w ≡ line_for (reader d w.queue) player (option_and_then (λ (c : Connection). c.editor) o) d line (record w { live = record w.live { board = b } })
 unfolding done waits
 line_by d w b player line lines None h e = absurd h
-line_by d w b player line lines (Some c) h e = rw (h.0, h.1) (ap (λ (x : Board). command player c.editor d line (record w { live = record w.live { board = x } })) (sym e))
+line_by d w b player line lines (Some c) h e = rw (h.0, h.1) (ap (λ (x : Board). line_for (reader d w.queue) player c.editor d line (record w { live = record w.live { board = x } })) (sym e))
 
 taken_board : (d : ℕ) (b new : Board) (player : Option Dbref) (line : List ℕ) → (h : BoardTakesLine d b new (Some (player, line))) → new ≡ on_connection d (λ c. record c { waiting = h.0.0 }) b
 taken_board d b new player line h = h.1 ∙ ap (λ (cs : List Connection). with_connections cs b) h.0.2
@@ -59,9 +60,9 @@ editor_as_before : (d : ℕ) (b new : Board) (player : Option Dbref) (line : Lis
 editor_as_before d b new player line h = ap (λ (x : Board). editor_in d x) (taken_board d b new player line h) ∙ editor_kept d h.0.0 b.connections
 
 pub line_taken : (d : ℕ) (w : World) (b : Board) (player : Option Dbref) (line : List ℕ) → BoardTakesLine d w.live.board b (Some (player, line)) →
-    command player (editor_in d b) d line (record w { live = record w.live { board = b } }) ≡ done d (connection d w) w
+    line_for (reader d w.queue) player (editor_in d b) d line (record w { live = record w.live { board = b } }) ≡ done d (connection d w) w
 line_taken d w b player line h =
-    ap (λ editor. command player editor d line (record w { live = record w.live { board = b } })) (editor_as_before d w.live.board b player line h)
+    ap (λ editor. line_for (reader d w.queue) player editor d line (record w { live = record w.live { board = b } })) (editor_as_before d w.live.board b player line h)
     ∙ sym (line_by d w b player line h.0.0 (connection d w) h.0.1 (taken_board d w.live.board b player line h))
 
 -- where none waits, nothing is done

@@ -7,4 +7,4 @@ mod past;
 mod state;
 mod world;
 
-pub use world::World;
+pub use world::{Sliced, World};

@@ -5,12 +5,15 @@ ghost use Rattle.spec_live.specs.Lives.{tell};
 ghost use Rattle.spec_events.specs.World.{on_live};
 ghost use Rattle.spec_events.specs.Steps.{happened};
 
+mod calls;
 mod deeds;
 mod editing;
 mod following;
 mod going;
+mod limits;
 mod lines;
 mod login;
+mod processes;
 mod slices;
 mod starting;
 mod turns;
@@ -24,8 +27,8 @@ use muck_queue::Queue;
 use std::alloc::Global;
 use std::marker::Model;
 
-/// The objects, who is connected, the built forms of programs, the processes, the moment, and whether the run stops; and
-/// what is done to them. Contracts see it as a world that lives.
+/// The objects, who is connected, the built forms of programs, the processes, the moment, the one at which the last dump
+/// began, and whether the run stops; and what is done to them. Contracts see it as a world that lives.
 #[derive(Drop)]
 pub struct State {
     pub alloc: Global,
@@ -34,6 +37,7 @@ pub struct State {
     pub library: Library,
     pub queue: Queue,
     pub moment: u64,
+    pub dumped: u64,
     pub stopping: bool,
 }
 
@@ -50,7 +54,7 @@ impl Model for State {
 
     ghost coded = { Prim.hlevel (codes, props.the_row.coded, lock.the_row.coded, datum_code, block_code, end_code) };
 
-    ghost view = { λ s. record { live = record { objects = s.db; board = s.board }; library = s.library; queue = s.queue; moment = s.moment; dumps = no_dumps s.moment; stopping = s.stopping; dead = false } };
+    ghost view = { λ s. record { live = record { objects = s.db; board = s.board }; library = s.library; queue = s.queue; moment = s.moment; dumps = no_dumps s.dumped; stopping = s.stopping; dead = false } };
 }
 
 impl State {

@@ -2,9 +2,12 @@
 ghost use Rattle.std.specs.Prelude.{◌≡◌, ◌≤◌, IfOk, OnOk, OnErr, MatchOption, length, take, min, true, false, if◌then◌else◌, nat_lt, is_some, option_copied, [], List, ℕ};
 ghost use Rattle.std.specs.Option.{option_map_or};
 ghost use Rattle.muck_model.specs.declared.event.Event.{Event};
+ghost use Rattle.muck_queue.specs.Queues.{is_tied};
 ghost use Rattle.spec_events.specs.World.{starting, booted, connection, queue_of, is_leaving};
-ghost use Rattle.spec_events.specs.Steps.{is_lawful, next_ready, next_process};
+ghost use Rattle.spec_events.specs.Steps.{is_lawful, has_claim, is_there, next_ready, next_process};
 ghost use Rattle.spec_events.specs.Histories.{now, entered, by_porter, AllLawful};
+ghost use Rattle.muck_machine.specs.declared.world.Sliced.TheVariants.{Ran, Lost};
+ghost use Rattle.muck_machine.specs.Claims.{slice_event};
 
 use crate::origin::{Begun, Origin};
 use crate::past::Past;
@@ -59,6 +62,13 @@ impl Model for World {
     ghost invariant = { λ w. Keeps w.past w.state };
 }
 
+/// What became of a claim: the process ran for a slice, or it had ended.
+#[derive(Clone, Copy, Debug, PartialEq, Eq)]
+pub enum Sliced {
+    Ran,
+    Lost,
+}
+
 impl World {
     /// The world of these objects and parameters at this second, in which nobody is connected and nothing has happened
     /// yet; its random numbers begin with `start`.
@@ -83,6 +93,7 @@ impl World {
                 library: Library::new(alloc),
                 queue: Queue::new(alloc),
                 moment,
+                dumped: moment,
                 stopping: false,
             },
             past: Past {
@@ -289,18 +300,68 @@ impl World {
         Some(pid)
     }
 
-    /// A claimed process runs for one slice, which is to its end. After `NoMemory` the world is dead.
-    pub fn slice(&mut self, party: u8, pid: i32) -> Result<(), NoMemory>
-        requires { is_lawful (now self.old) (record { party = party; event = Event.Slice pid }) ≡ true }
-        ensures ok { OnOk result (self.new ≡ entered self.old (record { party = party; event = Event.Slice pid })) }
+    /// A process that this party has claimed runs for one slice; where it has ended since, that is learned. The claim is over
+    /// then. After `NoMemory` the world is dead.
+    pub fn slice(&mut self, party: u8, pid: i32) -> Result<Sliced, NoMemory>
+        requires alive { (now self.old).dead ≡ false }
+        requires claim { has_claim party pid (now self.old) ≡ true }
+        ensures ran { IfOk result (λ sliced. sliced ≡ (if is_there pid (now self.old) then Ran else Lost)) }
+        ensures step { IfOk result (λ sliced. self.new ≡ entered self.old (record { party = party; event = slice_event pid sliced })) }
         ensures died { OnErr result (self.new ≡ entered self.old (record { party = party; event = Event.Died })) }
     {
+        if !self.has_process(pid) {
+            let state = &mut self.state;
+            state.queue.release(pid);
+            self.past.enter(Entry {
+                party,
+                event: Event::Lost { pid },
+            });
+            return Ok(Sliced::Lost);
+        }
         let done = self.state.slice(pid);
         let entry = Entry {
             party,
             event: Event::Slice { pid },
         };
-        self.past.conclude(entry, done)
+        self.past.conclude(entry, done)?;
+        Ok(Sliced::Ran)
+    }
+
+    // Whether the process is there. On a dead world nothing is said of the answer.
+    fn has_process(&self, pid: i32) -> bool
+        ensures { (now self.now).dead ≡ false → result ≡ is_there pid (now self.now) }
+    {
+        let state = &self.state;
+        state.queue.get(pid).is_some()
+    }
+
+    /// A party has nothing to do; `false` exactly where it has, or the world is dead, and then nothing happened. It takes no
+    /// memory.
+    pub fn idle(&mut self, party: u8) -> bool
+        ensures lawful { result ≡ is_lawful (now self.old) (record { party = party; event = Event.Idle }) }
+        ensures step { self.new ≡ (if result then entered self.old (record { party = party; event = Event.Idle }) else self.old) }
+    {
+        if self.past.dead || !self.state.may_idle(party) {
+            return false;
+        }
+        self.past.enter(Entry {
+            party,
+            event: Event::Idle,
+        });
+        true
+    }
+
+    /// It is a later second, or the same one. It takes no memory.
+    pub fn moment(&mut self, t: u64)
+        requires { is_lawful (now self.old) (by_porter (Event.Moment t)) ≡ true }
+        ensures { self.new ≡ entered self.old (by_porter (Event.Moment t)) }
+    {
+        self.past.enter(Entry {
+            party: 0,
+            event: Event::Moment { t },
+        });
+        let state = &mut self.state;
+        state.moment = t;
     }
 
     /// The first bytes of a connection's queue leave it, as many as are there and fit; answers how many, and 0 exactly
@@ -356,6 +417,22 @@ impl World {
             Some(c) => c.is_leaving(),
             None => false,
         }
+    }
+
+    /// The second that it is. On a dead world nothing is said of the answer.
+    pub fn now(&self) -> u64
+        ensures { (now self.now).dead ≡ false → result ≡ (now self.now).moment }
+    {
+        let state = &self.state;
+        state.moment
+    }
+
+    /// Whether a process is tied to the connection. On a dead world nothing is said of the answer.
+    pub fn tied(&self, d: u32) -> bool
+        ensures { (now self.now).dead ≡ false → result ≡ is_tied d (now self.now).queue }
+    {
+        let state = &self.state;
+        state.queue.is_tied(d)
     }
 
     /// The count of lines that wait on the connection, and 0 where it isn't there. On a dead world nothing is said of

@@ -1,10 +1,11 @@
 // Lines that are done.
 ghost use Rattle.std.specs.Prelude.{◌≡◌, IfOk, OnOk, Some};
 ghost use Rattle.muck_model.specs.declared.event.Event.{Event};
+ghost use Rattle.muck_queue.specs.Queues.{reader};
 ghost use Rattle.spec_live.specs.Boards.{editor_in};
 ghost use Rattle.spec_commands.specs.Finding.{actor_of};
 ghost use Rattle.spec_commands.specs.Commands.{played};
-ghost use Rattle.spec_events.specs.Lines.{command, followed_up, in_world, with_editor, editor_on};
+ghost use Rattle.spec_events.specs.Lines.{command, followed_up, given_line, in_world, is_abort, line_for, with_editor, editor_on};
 ghost use Rattle.spec_events.specs.Steps.{happened};
 ghost use Rattle.spec_events.specs.World.{on_live};
 
@@ -13,19 +14,44 @@ use crate::state::State;
 use cmd_common::copy_lines;
 use muck_model::{Dbref, EditState, Line, LineList, NoMemory};
 use muck_perm::Guard;
+use muf_model::Text;
 use spec_commands::Outcome;
 use spec_events::Call;
 
 impl State {
-    /// The first waiting line of a connection is done.
+    /// The first waiting line of a connection is done. It goes to the process that reads from the connection, where there is one.
     pub fn do_line(&mut self, d: u32) -> Result<(), NoMemory>
         ensures { OnOk result (self.new ≡ happened self.old 0 (Event.Exec d)) }
     {
         match self.board.take_line(d) {
             None => Ok(()),
-            Some((None, line)) => self.at_login(d, line.as_slice()),
-            Some((Some(player), line)) => self.obey(d, player, &line),
+            Some((player, line)) => self.bring(d, player, line),
         }
+    }
+
+    // A line goes to the process that reads from its connection, or is done.
+    fn bring(&mut self, d: u32, player: Option<Dbref>, line: Line) -> Result<(), NoMemory>
+        ensures { OnOk result (self.new ≡ line_for (reader d self.old.queue) player (editor_in d self.old.live.board) d line self.old) }
+    {
+        match (self.queue.reader(d), player) {
+            (Some(pid), _) => self.give_line(d, pid, line),
+            (None, None) => self.at_login(d, line.as_slice()),
+            (None, Some(player)) => self.obey(d, player, &line),
+        }
+    }
+
+    // A process that reads takes a line, or ends by it.
+    #[tactic(auto, unfolding(spec_events::specs::Lines::given_line, spec_events::specs::Lines::program_aborted))]
+    fn give_line(&mut self, d: u32, pid: i32, line: Line) -> Result<(), NoMemory>
+        ensures { OnOk result (self.new ≡ given_line d pid line self.old) }
+    {
+        if is_abort(&line) {
+            self.queue.kill(pid);
+            return self.tell(d, b"Foreground program aborted.");
+        }
+        let text = Text::new(self.alloc, line)?;
+        self.queue.give_line(pid, self.moment, text);
+        Ok(())
     }
 
     // A line of a player, who edits a program or gives a command.
@@ -114,4 +140,11 @@ impl State {
             None => LineList::new(self.alloc),
         }
     }
+}
+
+// Whether a line ends the process that reads it.
+fn is_abort(line: &Line) -> bool
+    ensures { result ≡ is_abort line.now }
+{
+    line.as_slice().eq_ignore_ascii_case(b"@q")
 }

@@ -1,71 +1,97 @@
 // Slices: the units of a process, one behind the other.
-ghost use Rattle.std.specs.Prelude.{◌≡◌, OnOk, IfOk, None};
+ghost use Rattle.std.specs.Prelude.{◌≡◌, OnOk, IfOk};
 ghost use Rattle.muck_model.specs.declared.event.Event.{Event};
 ghost use Rattle.muf_model.specs.Chains.{StandsAt};
 ghost use Rattle.muf_model.specs.Unit.{fault};
-ghost use Rattle.muck_queue.specs.Queues.{standing};
-ghost use Rattle.spec_events.specs.World.{on_queue};
-ghost use Rattle.spec_events.specs.Slices.{after_deed, broken, deed, last_world, run_of, seat, went};
+ghost use Rattle.spec_events.specs.Slices.{after_deed, broken, deed, last_world, out, run_of, seat, went};
 ghost use Rattle.spec_events.specs.Steps.{happened};
-ghost use Rattle.muck_machine.specs.Deeds.{Stops, turn_to};
+ghost use Rattle.muck_machine.specs.Limits.{LeadsTo, Runs, Stops};
 
 use crate::state::State;
 use crate::state::deeds::Done;
-use muck_model::{Dbref, NoMemory};
+use crate::state::limits::{Allowance, next_allowance};
+use muck_model::{Dbref, NoMemory, Tune};
 use muf_model::{MufFault, Prim};
 use muf_running::{Ran, Running, Stint};
 use spec_events::{Agent, error_text};
 
 impl State {
-    /// The units of a process, as many as any process may take, until it is over, and then nobody claims it any more.
-    /// Each unit costs what it touches. Before and after those that run at once the process is looked for, which is a
-    /// pass over at most 400.
+    /// A slice of a process, which wakes, and then nobody claims it any more. It takes its units until it is over or waits, or the
+    /// slice is through, outside preempt, or one would be too many. Each unit costs what it touches. Before and after those that
+    /// run at once the process is looked for, which is a pass over at most 400.
     #[tactic(auto, unfolding(spec_events::specs::Slices::sliced))]
     pub fn slice(&mut self, pid: i32) -> Result<(), NoMemory>
         ensures { OnOk result (self.new ≡ happened self.old 0 (Event.Slice pid)) }
     {
-        let limit = self.board.tune().m2_units;
-        self.take_units(pid, limit)?;
+        let tune = self.board.tune();
+        let most = u64::from(tune.instr_slice) + u64::from(tune.preempt_units) + 1;
+        self.queue.wake(pid, self.moment);
+        self.take_units(&tune, pid, most)?;
         self.queue.release(pid);
         Ok(())
     }
 
     // The units of a process that has so many.
-    fn take_units(&mut self, pid: i32, limit: u32) -> Result<(), NoMemory>
-        ensures { OnOk result (self.new ≡ last_world self.old (run_of limit pid self.old)) }
+    fn take_units(&mut self, tune: &Tune, pid: i32, most: u64) -> Result<(), NoMemory>
+        ensures { OnOk result (self.new ≡ last_world self.old (run_of tune.now most pid self.old)) }
     {
-        let mut left = limit;
-        while let Some(units) = self.stint(pid, left)? {
+        let mut left = most;
+        while let Some(units) = self.stint(tune, pid, left)? {
             left = units;
         }
         Ok(())
     }
 
-    // Many units at once, and a shared primitive where one is asked for; answers how many are left, where it goes on.
-    fn stint(&mut self, pid: i32, left: u32) -> Result<Option<u32>, NoMemory>
-        ensures { IfOk result (λ next. Stops pid left self.old self.new next) }
+    // As many units as may be taken at once; answers how many are left, where it goes on.
+    fn stint(&mut self, tune: &Tune, pid: i32, left: u64) -> Result<Option<u64>, NoMemory>
+        ensures { IfOk result (λ next. Stops tune.now pid left self.old self.new next) }
     {
         let Some((agent, running)) = self.lend(pid) else {
             return Ok(None);
         };
-        let program = running.program();
-        if left == 0 {
-            self.end_broken(pid, agent.player, program, MufFault::TooManyUnits)?;
-            return Ok(None);
+        let level = self.actor(agent, &running)?.level;
+        match next_allowance(tune, level, &agent, left) {
+            Allowance::Through => {
+                self.queue.put_back(pid, running);
+                Ok(None)
+            }
+            Allowance::Spent(fault) => {
+                let program = running.program();
+                self.end_broken(pid, agent.player, program, fault)?;
+                Ok(None)
+            }
+            Allowance::Units(most) => {
+                let next = self.run(pid, agent, running, most)?;
+                Ok(next.map(|units| left - units))
+            }
         }
-        let Stint { ran, units } = running.run(self.alloc, left)?;
+    }
+
+    // Many units at once, and a shared primitive where one is asked for; answers how many they were, where it goes on.
+    fn run(
+        &mut self,
+        pid: i32,
+        agent: Agent,
+        running: Running,
+        most: u32,
+    ) -> Result<Option<u64>, NoMemory>
+        ensures { IfOk result (λ next. Runs pid agent most running self.old self.new next) }
+    {
+        let program = running.program();
+        let Stint { ran, units } = running.run(self.alloc, most)?;
         match ran {
             Ran::Going(next) => {
+                self.queue.count(pid, units);
                 self.queue.put_back(pid, next);
-                Ok(Some(left - units))
+                Ok(Some(u64::from(units)))
             }
             Ran::Asking(prim, at) => {
+                self.queue.count(pid, units + 1);
                 let goes_on = self.ask(pid, agent, prim, at)?;
-                let rest = left - units - 1;
-                Ok(if goes_on { Some(rest) } else { None })
+                Ok(if goes_on { Some(u64::from(units) + 1) } else { None })
             }
             Ran::Ended => {
-                self.queue.take(pid);
+                self.queue.kill(pid);
                 Ok(None)
             }
             Ran::Faulted(fault) => {
@@ -78,7 +104,7 @@ impl State {
     // For whom a process acts as the world is, and its state, which is out of it from now on.
     fn lend(&mut self, pid: i32) -> Option<(Agent, Running)>
         ensures seat { result ≡ seat pid self.old }
-        ensures out { self.new ≡ on_queue (standing pid None) self.old }
+        ensures out { self.new ≡ out pid self.old }
     {
         let agent = Agent::of(self.queue.get(pid)?);
         let running = self.queue.lend(pid)?;
@@ -94,13 +120,18 @@ impl State {
         running: Running,
     ) -> Result<bool, NoMemory>
         requires { StandsAt prim running }
-        ensures { IfOk result (λ goes_on. after_deed pid agent.player running (deed agent prim running self.old) ≡ turn_to goes_on self.new) }
+        ensures { IfOk result (λ goes_on. LeadsTo goes_on self.new (after_deed pid agent.player running (deed pid agent prim running self.old))) }
     {
-        match self.do_deed(agent, prim, running)? {
+        match self.do_deed(pid, agent, prim, running)? {
             Done::Does(next) => {
                 self.queue.put_back(pid, next);
                 self.settle();
                 Ok(true)
+            }
+            Done::Rests(next) => {
+                self.queue.put_back(pid, next);
+                self.settle();
+                Ok(false)
             }
             Done::Fails(at, fault) => self.raise(pid, agent.player, at, fault),
         }
@@ -114,7 +145,7 @@ impl State {
         running: Running,
         raised: MufFault,
     ) -> Result<bool, NoMemory>
-        ensures { IfOk result (λ goes_on. went pid player running.program.number (fault raised running) self.old ≡ turn_to goes_on self.new) }
+        ensures { IfOk result (λ goes_on. LeadsTo goes_on self.new (went pid player running.program.number (fault raised running) self.old)) }
     {
         let program = running.program();
         match running.raise(self.alloc, &raised)? {
@@ -140,7 +171,7 @@ impl State {
     ) -> Result<(), NoMemory>
         ensures { OnOk result (self.new ≡ broken pid player program.0 fault self.old) }
     {
-        self.queue.take(pid);
+        self.queue.kill(pid);
         let text = error_text(self.alloc, program, &fault)?;
         self.board.tell_player(player, text.as_slice())?;
         Ok(())

@@ -6,18 +6,19 @@ ghost use Rattle.muf_model.specs.Decode.{tree_of};
 ghost use Rattle.muf_model.specs.Faults.{text_of};
 ghost use Rattle.muf_model.specs.Stands.{TreeStands};
 ghost use Rattle.spec_events.specs.World.{on_live};
-ghost use Rattle.spec_events.specs.Starting.{begun, foreground, form_started, joined, launched, start_told};
-ghost use Rattle.muck_machine.specs.Deeds.{Begins, StartsAs};
+ghost use Rattle.spec_events.specs.Starting.{begun, by_command, first_mode, form_started, joined, launched, start_told};
+ghost use Rattle.muck_machine.specs.Deeds.{Begins, IsAdding, StartsAs};
 
 use crate::state::State;
 use crate::state::deeds::DeedFault;
 use cmd_common::refuse;
 use muck_model::{Dbref, Denial, NoMemory};
-use muck_perm::{Guard, verdict};
-use muck_queue::{Mode, Process, QueueFault};
+use muck_perm::{Guard, flag_at, verdict};
+use muck_queue::{Events, Mode, Process, QueueFault, Wait};
 use muf_model::{Code, MufFault, Shared};
 use muf_running::{Occasion, Running};
 use spec_events::{Call, Manner};
+use spec_live::BUILDER;
 use spec_rights::{Act, Actor};
 
 impl State {
@@ -45,19 +46,30 @@ impl State {
         Ok(())
     }
 
-    // Starts a program from the connection d, in the foreground; where it isn't started the connection is told why.
+    // Starts a program from the connection d; where it isn't started the connection is told why.
     fn start(&mut self, d: u32, call: Call) -> Result<(), NoMemory>
-        ensures { OnOk result (self.new ≡ start_told d (begun (foreground d self.old) call self.old)) }
+        ensures { OnOk result (self.new ≡ start_told d (begun (by_command d call.program self.old) call self.old)) }
     {
         let manner = Manner {
             descr: Some(d),
-            mode: Mode::Foreground,
+            mode: self.first_mode(call.program),
             due: self.moment,
         };
         match self.begin(manner, call) {
             Ok(_) => Ok(()),
             Err(DeedFault::Fault(fault)) => self.tell_fault(d, &fault),
             Err(DeedFault::NoMemory) => Err(NoMemory),
+        }
+    }
+
+    // A command starts a program with flag B in preempt.
+    fn first_mode(&self, program: Dbref) -> Mode
+        ensures { result ≡ first_mode program self.now }
+    {
+        if flag_at(BUILDER, &self.db, program) {
+            Mode::Preempt
+        } else {
+            Mode::Foreground
         }
     }
 
@@ -126,14 +138,19 @@ impl State {
                 trigger,
                 command,
                 descr,
+                program,
                 mode,
+                wait: Wait::Nothing,
+                units: 0,
+                section: 0,
+                events: Events::new(self.alloc),
                 running: Some(running),
             }),
         }
     }
 
-    // A process joins the others, where there is room for it.
-    fn join(&mut self, process: Process) -> Result<i32, DeedFault>
+    /// A process joins the others, where there is room for it.
+    pub fn join(&mut self, process: Process) -> Result<i32, DeedFault>
         ensures { Begins (joined process self.old) self.new result }
     {
         let tune = self.board.tune();
@@ -144,11 +161,13 @@ impl State {
 
 // What a start answers, once its process was added or refused.
 fn started(added: Result<i32, QueueFault>) -> Result<i32, DeedFault>
+    requires { IsAdding added }
     ensures { StartsAs added result }
 {
     match added {
         Ok(number) => Ok(number),
         Err(QueueFault::ProcessLimit) => Err(DeedFault::Fault(MufFault::ProcessLimit)),
         Err(QueueFault::NoMemory) => Err(DeedFault::NoMemory),
+        Err(QueueFault::TooManyEvents) => unreachable!(),
     }
 }

@@ -3,8 +3,11 @@ use Rattle.spec_events.specs.World.{World}
 use Rattle.spec_events.specs.Starting.{joined}
 use Rattle.muck_machine.specs.Deeds.{Begins}
 use Rattle.muck_machine.specs.contracts.state.State as state
-use Rattle.muck_machine.proofs.Joining.{joins}
+use Rattle.muck_machine.proofs.Joining.{is_adding, joins}
 use Rattle.muck_machine.proofs.state.State.join.Goals as goal
+
+pub started-requires : goal.started-requires
+started-requires c = is_adding c.args.process c.tune-tune.result (state.the_view c.self.inside).queue c.add-added.new.self c.add-added.result c.add-added.ensures
 
 pub returns : goal.returns
 returns c =

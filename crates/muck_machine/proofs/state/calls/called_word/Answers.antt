@@ -5,7 +5,7 @@ use Rattle.std.specs.Str.{bytes_eq}
 use Rattle.std.specs.Char.{to_ascii_lowercase}
 use Rattle.spec_events.specs.Slices.{is_offered}
 use Rattle.muck_machine.proofs.Deeds.{named_word, last_place}
-use Rattle.muck_machine.proofs.state.deeds.called_word.Goals as goal
+use Rattle.muck_machine.proofs.state.calls.called_word.Goals as goal
 
 pub returns-in_default : goal.returns-in_default
 returns-in_default c =
