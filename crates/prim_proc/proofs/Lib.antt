@@ -1,6 +1,5 @@
 mod Asked
 mod Begun
-mod Carried
 mod Missing
 mod Names
 mod Needing

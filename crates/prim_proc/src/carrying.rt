@@ -41,13 +41,7 @@ fn replace(frame: &mut Frame, taken: usize, item: Value) -> After
 }
 
 // An event is sent.
-fn send(
-    queue: &mut Queue,
-    pid: i32,
-    moment: u64,
-    name: Text,
-    item: Value,
-) -> Result<(), PrimFault>
+fn send(queue: &mut Queue, pid: i32, moment: u64, name: Text, item: Value) -> Result<(), PrimFault>
     ensures { Sent pid moment name (view item) queue.old queue.new result }
 {
     match queue.event(pid, moment, name, item) {

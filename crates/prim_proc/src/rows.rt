@@ -126,10 +126,7 @@ fn enter(guard: &Guard, program: Option<Dbref>, word: Option<Text>) -> Result<Pl
     };
     test_program(guard, program)?;
     permit(guard, &Act::Call { program })?;
-    Ok(Plan::Enter {
-        program,
-        word,
-    })
+    Ok(Plan::Enter { program, word })
 }
 
 /// CALL.
@@ -144,12 +141,7 @@ pub(crate) fn call(guard: &Guard, frame: &Frame) -> Result<Plan, PrimFault>
 }
 
 // A program is started so many seconds later, by leave to call it.
-fn start(
-    guard: &Guard,
-    program: Dbref,
-    seconds: i32,
-    argument: Text,
-) -> Result<Plan, PrimFault>
+fn start(guard: &Guard, program: Dbref, seconds: i32, argument: Text) -> Result<Plan, PrimFault>
     ensures { (x : Place) (q : Table) → Plans (starting (world_of guard.now) guard.now.actor program.0 seconds argument) x (world_of guard.now) q result }
 {
     test_program(guard, program)?;

@@ -1,6 +1,5 @@
 use Rattle.std.proofs.Common.{rules, ◌≡◌, ◌∷◌, drop, Some, None, sym, ap, ◌∙◌, subst}
 use Rattle.muf_model.specs.Datum.{text}
-use Rattle.muf_model.specs.View.{view}
 use Rattle.muf_frame.specs.Shown.{flat}
 use Rattle.muck_queue.specs.declared.mode.Wait.TheVariants.{ForEvent}
 use Rattle.muck_queue.specs.Queues.{oldest_event, on_process, resting, without_event}

@@ -1,18 +1,15 @@
-use Rattle.std.proofs.Common.{rules, ◌≡◌, List, [], length, Option, Some, Ok, Err, true, false, cond, w32, to_z, of_z, sym, ap, ◌∙◌, subst}
+use Rattle.std.proofs.Common.{rules, ◌≡◌, [], length, Some, Ok, Err, false, cond, w32, to_z, of_z, sym, ap, ◌∙◌, subst}
 use Rattle.std.specs.Prelude.{nat_le, nat_lt}
 use Rattle.muck_model.specs.Bytes.{text_most}
 use Rattle.muf_model.specs.declared.fault.MufFault.TheVariants.{TooHeavy}
-use Rattle.muf_model.specs.Datum.{Datum}
-use Rattle.muf_model.specs.Values.{fits}
 use Rattle.muf_model.specs.View.{view}
 use Rattle.muf_frame.specs.Shown.{flat}
-use Rattle.muck_queue.specs.Queues.{process, on_process, told_event, events_of, events_most}
+use Rattle.muck_queue.specs.Queues.{process, on_process, told_event, events_most}
 use Rattle.spec_processes.specs.ProcessRows.{gives, refuses, event_name, event_data}
-use Rattle.prim_proc.specs.Plans.{Plans}
-use Rattle.prim_proc.specs.Sending.{DataMade, NameMade}
+use Rattle.prim_proc.specs.Sending.{DataMade}
 use Rattle.prim_proc.specs.Taken.{sent_in}
 use Rattle.prim_proc.proofs.Taking.{event_send_at}
-use Rattle.prim_proc.proofs.Sendings.{sent_light, sent_heavy, few_events, unmade}
+use Rattle.prim_proc.proofs.Sendings.{sent_light, few_events, unmade}
 use Rattle.prim_proc.proofs.events.event_send.Goals as goal
 
 pub returns-in_err-item : goal.returns-in_err-item
@@ -32,8 +29,8 @@ returns-in_err-item c = λ w.
     let was : c.event_data.result ≡ Err c.in_err-item.field-0.0 = search rules in
     let back : c.from_residual-in_err-item.result ≡ Err c.in_err-item.field-0.0 = search rules in
     rw back (unmade x i name w q c.in-Some-get.other.now a own (view c.in-Some.item.now) c.in_err-item.field-0.0 few short here _
-      (event_send_at x a own w q (flat c.args.frame.now).stack i c.in-Some.name.now (view c.in-Some.item.now) seen)
-      (subst (DataMade x a own (view c.in-Some.item.now)) was (subst (λ v. DataMade x a own v c.event_data.result) copied c.event_data.ensures)))
+    (event_send_at x a own w q (flat c.args.frame.now).stack i c.in-Some.name.now (view c.in-Some.item.now) seen)
+    (subst (DataMade x a own (view c.in-Some.item.now)) was (subst (λ v. DataMade x a own v c.event_data.result) copied c.event_data.ensures)))
 
 pub returns : goal.returns
 returns c = λ w.

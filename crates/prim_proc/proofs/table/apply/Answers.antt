@@ -1,4 +1,4 @@
-use Rattle.std.proofs.Common.{rules, ◌≡◌, ◌≤◌, ◌<◌, ◌+◌, length, drop, Some, None, Ok, Err, arith}
+use Rattle.std.proofs.Common.{rules, ◌≡◌, ◌≤◌, ◌<◌, ◌+◌, length, drop, Some, None, Ok, Err}
 use Rattle.muf_model.specs.declared.fault.MufFault.TheVariants.{NotCompiled, StackFull}
 use Rattle.muf_model.specs.Answer.{stack_most}
 use Rattle.muf_frame.specs.declared.fault.PrimFault.TheVariants.{Fault}
