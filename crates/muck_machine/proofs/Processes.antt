@@ -48,11 +48,11 @@ process_applied (waits n stack queue) f g old new was is w v (Ok Wait) (stack_is
     (stack_is, same ∙ ap (λ (x : Live). record w { live = x; queue = is }) (kept.0 ∙ start) ∙ ap (λ (x : Table). record w { queue = x }) queue_is)
 process_applied (forks stack) f g old new was is w v (Ok Fork) (stack_is, room, kept, queue_is) start here same =
     (stack_is, room, same ∙ ap (λ (x : Live). record w { live = x; queue = is }) (kept.0 ∙ start) ∙ ap (λ (x : Table). record w { queue = x }) (queue_is ∙ here))
-process_applied (enters stack d name) f g old new was is w v (Ok (Call program word)) ((frame, kept, queue_is), program_is, word_is, left) start here same =
-    (frame, same ∙ ap (λ (x : Live). record w { live = x; queue = is }) (kept.0 ∙ start) ∙ ap (λ (x : Table). record w { queue = x }) (queue_is ∙ here), program_is, word_is, left)
+process_applied (enters stack d name) f g old new was is w v (Ok (Call program called)) ((frame, kept, queue_is), program_is, name_is, left) start here same =
+    (frame, same ∙ ap (λ (x : Live). record w { live = x; queue = is }) (kept.0 ∙ start) ∙ ap (λ (x : Table). record w { queue = x }) (queue_is ∙ here), program_is, name_is, left)
 process_applied (starts stack d seconds argument) f g old new was is w v (Ok (Queue program delay text)) ((frame, kept, queue_is), program_is, delay_is, text_is, left) start here same =
     (frame, same ∙ ap (λ (x : Live). record w { live = x; queue = is }) (kept.0 ∙ start) ∙ ap (λ (x : Table). record w { queue = x }) (queue_is ∙ here), program_is, delay_is, text_is, left)
-process_applied (refuses e) f g old new was is w v (Err (FrameFault h)) (fault_is, frame, kept, queue_is) start here same =
+process_applied (refuses e) f g old new was is w v (Err (FrameFault h)) (fault_is, (frame, kept, queue_is)) start here same =
     (fault_is, frame, same ∙ ap (λ (x : Live). record w { live = x; queue = is }) (kept.0 ∙ start) ∙ ap (λ (x : Table). record w { queue = x }) (queue_is ∙ here))
 process_applied (gives stack live queue) f g old new was is w v (Err FrameNoMemory) h start here same = tt
 process_applied (waits n stack queue) f g old new was is w v (Err FrameNoMemory) h start here same = tt
@@ -186,7 +186,7 @@ module _ (pid : ℤ) (x : Agent) (p : Name) (a : Actor) (place : Place) (es : Li
   -- CALL
 
   call_frame_by : (e : Effect) (program : Dbref) (name : Option (List ℕ)) → ProcessAppliedTo e f g w v (Ok (Call program name)) → g ≡ f
-  call_frame_by (enters stack d word) program name h = h.0
+  call_frame_by (enters stack d called) program name h = h.0
   call_frame_by _ program name h = absurd h
 
   call_frame : (program : Dbref) (name : Option (List ℕ)) → r ≡ Ok (Call program name) → g ≡ f
@@ -199,18 +199,18 @@ module _ (pid : ℤ) (x : Agent) (p : Name) (a : Actor) (place : Place) (es : Li
   call_at program name t e so at = subst (λ (y : Source). IsAtPrimitive y.now) (sym (at_with t (call_frame program name e) so)) at
 
   call_items_by : (e : Effect) (program : Dbref) (name : Option (List ℕ)) (t : Source) → t ≡ s → ProcessAppliedTo e f g w v (Ok (Call program name)) → called_items name ≤ length t.stack
-  call_items_by (enters stack d word) program name t at (frame, is, program_is, name_is, left) = subst (λ n. called_items n ≤ length t.stack) (sym name_is) (items_with (called_items word) stack t at left).0
+  call_items_by (enters stack d called) program name t at (frame, is, program_is, name_is, left) = subst (λ n. called_items n ≤ length t.stack) (sym name_is) (items_with (called_items called) stack t at left).0
   call_items_by _ program name t at h = absurd h
 
   pub call_items : (program : Dbref) (name : Option (List ℕ)) (t : Source) → r ≡ Ok (Call program name) → IsAtIt t → called_items name ≤ length t.stack
   call_items program name t e so = call_items_by effect program name t (at_with t (call_frame program name e) so) (applied_as (Ok (Call program name)) e)
 
   call_by : (e : Effect) (program : Dbref) (name : Option (List ℕ)) (t : Source) → t ≡ s → ProcessAppliedTo e f g w v (Ok (Call program name)) → effected pid x s w e ≡ program_called a (behind (drop (called_items name) t.stack) t) program.0 name v
-  call_by (enters stack d word) program name t at (frame, is, program_is, name_is, left) =
-      ap (λ y. program_called y (behind stack s) d word w) (sym actor)
-      ∙ ap (λ y. program_called a (behind stack s) y word w) (sym program_is)
-      ∙ ap (λ y. program_called a (behind y s) program.0 word w) (items_with (called_items word) stack t at left).1
-      ∙ ap (λ y. program_called a (behind (drop (called_items word) t.stack) y) program.0 word w) (sym at)
+  call_by (enters stack d called) program name t at (frame, is, program_is, name_is, left) =
+      ap (λ y. program_called y (behind stack s) d called w) (sym actor)
+      ∙ ap (λ y. program_called a (behind stack s) y called w) (sym program_is)
+      ∙ ap (λ y. program_called a (behind y s) program.0 called w) (items_with (called_items called) stack t at left).1
+      ∙ ap (λ y. program_called a (behind (drop (called_items called) t.stack) y) program.0 called w) (sym at)
       ∙ ap (λ y. program_called a (behind (drop (called_items y) t.stack) t) program.0 y w) (sym name_is)
       ∙ ap (program_called a (behind (drop (called_items name) t.stack) t) program.0 name) (sym is)
   call_by _ program name t at h = absurd h

@@ -1,5 +1,5 @@
 -- The units of a slice, many at once.
-use Rattle.std.proofs.Common.{◌≡◌, ℕ, zero, suc, ◌-◌, ◌<◌, ◌≤◌, min, Bool, true, false, cond, Option, Some, None, refl, sym, ap, ◌∙◌, subst, arith, Result, Ok, Err, IfOk}
+use Rattle.std.proofs.Common.{◌≡◌, ℕ, zero, suc, ◌-◌, ◌<◌, ◌≤◌, min, Bool, true, false, cond, Option, Some, None, refl, sym, ap, ◌∙◌, subst, arith, inl, inr, Result, Ok, Err, IfOk}
 use Rattle.std.specs.Prelude.{ℤ}
 use Rattle.std.specs.Option.{option_map, option_and_then}
 use Rattle.std.proofs.Math.Nat.{min-le_left}
@@ -22,6 +22,7 @@ use Rattle.spec_events.specs.declared.starting.Agent.{Agent}
 use Rattle.spec_events.specs.World.{World, on_live, on_queue}
 use Rattle.spec_events.specs.Following.{settled}
 use Rattle.spec_live.specs.Lives.{tell_player}
+use Rattle.spec_rights.specs.declared.act.Actor.{Actor}
 use Rattle.spec_events.specs.Slices.{Deed, acting, deed, program_error, stands_at, ended_one, broken, out, went, after_deed, Turn, on, rest, over, world_of, agent_of, seat_of, seat, is_through, limit_fault}
 use Rattle.spec_events.specs.Stints.{many_counted, unbroken, unspent, allowed}
 use Rattle.spec_events.proofs.Units.{finish, after_turn, finish_none, finish_zero, finish_through, finish_limit, stands_same, stands_moved, broken_moved, counted_moved, resumed, resumed_moved, run_law}
@@ -71,9 +72,9 @@ allowed_left tune level left x = min-le_left left (min (unbroken tune left x) (u
 pub ran_left : (tune : Tune) (level left m k : ℕ) (x : Agent) (s : Source) → 0 < m → m ≤ allowed tune level left x → k ≡ ran_units (taken m s) (units m s) → (0 < k) × (k ≤ left)
 ran_left tune level left m k x s some most is =
     let within = allowed_left tune level left x in
-    let taken = some_ran m s some in
-    let one : 1 ≤ ran_units (taken m s) (units m s) = taken.0 in
-    let all : ran_units (taken m s) (units m s) ≤ m = taken.1 in
+    let known = some_ran m s some in
+    let one : 1 ≤ ran_units (taken m s) (units m s) = known.0 in
+    let all : ran_units (taken m s) (units m s) ≤ m = known.1 in
     (omega (arith, is, one), omega (arith, is, all, most, within))
 
 -- How a run ends.
@@ -139,15 +140,7 @@ module _ (pid : ℤ) (x : Agent) (m u : ℕ) (s : Source) (w v : World) (ran : R
 
 -- What a run makes of the slice.
 
-module _ (tune : Tune) (pid : ℤ) (x : Agent) where
-  -- the world that the state is out of is as good
-  resumed_ran : (n left : ℕ) (program : ℤ) (o : Outcome) (w : World) → resumed tune pid x n left program o w ≡ after_turn tune (left - ran_units n o) pid (ran pid x n program o (out pid w))
-  resumed_ran n left program (asks p t) w = ap (λ v. after_turn tune (left - suc n) pid (after_deed pid x.player t (deed pid x p t v))) (sym (counted_moved pid None (suc n) w))
-  resumed_ran n left program (goes k t) w = sym (resumed_moved tune pid None x n left program (goes k t) w)
-  resumed_ran n left program ended w = sym (resumed_moved tune pid None x n left program ended w)
-  resumed_ran n left program stuck w = sym (resumed_moved tune pid None x n left program stuck w)
-  resumed_ran n left program (faulted f) w = sym (resumed_moved tune pid None x n left program (faulted f) w)
-
+module _ (tune : Tune) (pid : ℤ) where
   after_on : (n : ℕ) (v : World) (t : Turn) → LeadsTo true v t → after_turn tune n pid t ≡ finish tune n pid v
   after_on n v (on w) h = ap (finish tune n pid) h.world
   after_on n v (rest w) h = absurd (let e : false ≡ true = h.goes in cc)
@@ -170,6 +163,20 @@ module _ (tune : Tune) (pid : ℤ) (x : Agent) where
   pub none_so : (n : ℕ) (w v : World) → seat pid w ≡ None → v ≡ out pid w → Stops tune pid n w v None
   none_so n w v e is =
       finish_none tune pid n w e ∙ sym (is ∙ ap (λ q. record w { queue = q }) (none_standing pid w.queue (unseated (process pid w.queue) e)))
+
+  -- what it may take, by who acts once its state is out
+  pub allows_as : (n : ℕ) (x : Agent) (s : Source) (w u : World) (a : Actor) (b : Allowance) → u ≡ out pid w → a ≡ acting x s u.live.objects → Allows tune a.level n x b → Allows tune (acting x s w.live.objects).level n x b
+  allows_as n x s w u a b is same h =
+      subst (λ l. Allows tune l n x b) (ap (λ (y : Actor). y.level) (same ∙ ap (λ (y : World). acting x s y.live.objects) is)) h
+
+module _ (tune : Tune) (pid : ℤ) (x : Agent) where
+  -- the world that the state is out of is as good
+  resumed_ran : (n left : ℕ) (program : ℤ) (o : Outcome) (w : World) → resumed tune pid x n left program o w ≡ after_turn tune (left - ran_units n o) pid (ran pid x n program o (out pid w))
+  resumed_ran n left program (asks p t) w = ap (λ v. after_turn tune (left - suc n) pid (after_deed pid x.player t (deed pid x p t v))) (sym (counted_moved pid None (suc n) w))
+  resumed_ran n left program (goes k t) w = sym (resumed_moved tune pid None x n left program (goes k t) w)
+  resumed_ran n left program ended w = sym (resumed_moved tune pid None x n left program ended w)
+  resumed_ran n left program stuck w = sym (resumed_moved tune pid None x n left program stuck w)
+  resumed_ran n left program (faulted f) w = sym (resumed_moved tune pid None x n left program (faulted f) w)
 
   module _ (n : ℕ) (s : Source) (w v : World) (at : seat pid w ≡ Some (x, s)) (a : Allowance) (allows : Allows tune (acting x s w.live.objects).level n x a) where
     allowed_as : (b : Allowance) → a ≡ b → Allows tune (acting x s w.live.objects).level n x b
@@ -209,13 +216,13 @@ module _ (tune : Tune) (pid : ℤ) (x : Agent) where
         let most : k ≤ n = known.1 in
         (omega (arith, some, most),
         ran_by m e ∙ ap (λ y. after_turn tune (n - ran_units (taken m s) (units m s)) pid (ran pid x (taken m s) s.program.number (units m s) y)) (sym is)
-        ∙ after_on (n - ran_units (taken m s) (units m s)) v _ h.1 ∙ ap (λ y. finish tune (n - y) pid v) (sym h.0))
+        ∙ after_on tune pid (n - ran_units (taken m s) (units m s)) v _ h.1 ∙ ap (λ y. finish tune (n - y) pid v) (sym h.0))
 
     -- or it doesn't
     pub stops_so : (m : ℕ) (u : World) → a ≡ Units m → u ≡ out pid w → Runs pid x m s u v None → Stops tune pid n w v None
     stops_so m u e is h =
         ran_by m e ∙ ap (λ y. after_turn tune (n - ran_units (taken m s) (units m s)) pid (ran pid x (taken m s) s.program.number (units m s) y)) (sym is)
-        ∙ after_off (n - ran_units (taken m s) (units m s)) v _ h
+        ∙ after_off tune pid (n - ran_units (taken m s) (units m s)) v _ h
 
 -- A shared primitive.
 

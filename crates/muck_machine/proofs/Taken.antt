@@ -3,7 +3,7 @@ use Rattle.std.proofs.Common.{◌≡◌, ℕ, ◌≤◌, List, [], ◌∷◌, fa
 use Rattle.std.specs.Prelude.{ℤ}
 use Rattle.std.proofs.lemmas.Bool.{cond_both}
 use Rattle.muck_model.specs.declared.tune.Tune.{Tune}
-use Rattle.muck_model.specs.declared.event.Event.TheVariants.{Opened, Claim, Take}
+use Rattle.muck_model.specs.declared.event.Event.TheVariants.{Opened, Claim, Lost, Take}
 use Rattle.spec_live.specs.Objects.{Entry}
 use Rattle.spec_live.specs.Output.{taken}
 use Rattle.spec_live.specs.Connections.{Connection, has_number, changed_in}
@@ -12,7 +12,7 @@ use Rattle.spec_live.specs.Lives.{on_board}
 use Rattle.spec_commands.specs.Talk.{welcome}
 use Rattle.muck_board.proofs.Outputs.{taken_rest}
 use Rattle.muck_library.specs.Library.{Library}
-use Rattle.muck_queue.specs.Queues.{Queue, empty_queue, claimed}
+use Rattle.muck_queue.specs.Queues.{Queue, empty_queue, claimed, released}
 use Rattle.spec_events.specs.World.{World, no_dumps, booted, on_live, on_queue}
 use Rattle.spec_events.specs.Steps.{happened}
 
@@ -29,6 +29,9 @@ opened_so d = board_so (opened d welcome)
 
 pub claimed_so : (pid : ℤ) (party : ℕ) (w v : World) (q : Queue) → q ≡ claimed pid party w.queue → w ≡ v → record w { queue = q } ≡ happened v party (Claim pid)
 claimed_so pid party w v q is seen = ap (λ (x : Queue). record w { queue = x }) is ∙ ap (on_queue (claimed pid party)) seen
+
+pub lost_so : (pid : ℤ) (party : ℕ) (w v : World) (q : Queue) → q ≡ released pid w.queue → w ≡ v → record w { queue = q } ≡ happened v party (Lost pid)
+lost_so pid party w v q is seen = ap (λ (x : Queue). record w { queue = x }) is ∙ ap (on_queue (released pid)) seen
 
 -- how it begins, by its parts
 pub booted_so : (objects : List Entry) (tune : Tune) (moment start : ℕ) (board : Board) (library : Library) (queue : Queue) → board ≡ early_board start tune → library ≡ [] → queue ≡ empty_queue →

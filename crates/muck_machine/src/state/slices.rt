@@ -61,8 +61,10 @@ impl State {
                 Ok(None)
             }
             Allowance::Units(most) => {
-                let next = self.run(pid, agent, running, most)?;
-                Ok(next.map(|units| left - units))
+                let Some(units) = self.run(pid, agent, running, most)? else {
+                    return Ok(None);
+                };
+                Ok(Some(left - units))
             }
         }
     }

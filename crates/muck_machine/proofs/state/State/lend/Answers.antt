@@ -1,3 +1,10 @@
+use Rattle.muck_machine.proofs.Slices.{none_so}
+use Rattle.muck_machine.proofs.Processes.{go_done}
+use Rattle.muck_machine.proofs.Turns.{line_taken}
+use Rattle.muck_machine.proofs.Choosing.{lost_lawful}
+use Rattle.muck_machine.proofs.Joining.{is_adding}
+use Rattle.muck_machine.proofs.Taken.{lost_so}
+use Rattle.muck_machine.proofs.Idling.{any_due}
 use Rattle.std.proofs.Common.{◌≡◌, None, Option, ap, sym, ◌∙◌}
 use Rattle.std.proofs.lemmas.Int.{to_z-of_z}
 use Rattle.std.specs.Option.{option_and_then}
