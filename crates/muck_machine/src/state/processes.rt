@@ -56,11 +56,13 @@ impl State {
             Ok(After::Call { program, word }) => {
                 self.do_call(actor, Running::rejoin(programs, frame), program, word)
             }
-            Ok(After::Queue {
-                program,
-                delay,
-                argument,
-            }) => {
+            Ok(
+                After::Queue {
+                    program,
+                    delay,
+                    argument,
+                },
+            ) => {
                 let call = queued_call(self.alloc, actor.player, program, &argument)?;
                 self.do_queue(call, delay, Running::rejoin(programs, frame))
             }
@@ -152,7 +154,12 @@ impl State {
 }
 
 // The child of a process, which stands at this state with a 0.
-fn child_of(alloc: Global, moment: u64, parent: &Process, running: &Running) -> Result<Process, NoMemory>
+fn child_of(
+    alloc: Global,
+    moment: u64,
+    parent: &Process,
+    running: &Running,
+) -> Result<Process, NoMemory>
     ensures { IfOk result (λ child. child ≡ child_of moment (handed (int (pos 0)) running.now) parent.now) }
 {
     let mut state = running.copy(alloc)?;
@@ -175,7 +182,12 @@ fn child_of(alloc: Global, moment: u64, parent: &Process, running: &Running) -> 
 }
 
 // How QUEUE starts a program.
-fn queued_call(alloc: Global, player: Dbref, program: Dbref, argument: &Text) -> Result<Call, NoMemory>
+fn queued_call(
+    alloc: Global,
+    player: Dbref,
+    program: Dbref,
+    argument: &Text,
+) -> Result<Call, NoMemory>
     ensures { IfOk result (λ call. call ≡ queued_call player program.0 argument.now) }
 {
     Ok(Call {
