@@ -17,7 +17,8 @@ const SLEEPS: &str = ": main background pop 86400 sleep ;";
 const LOOPS: &str =
     ": main background atoi 1 swap 1 for pop fork not if begin repeat then repeat begin repeat ;";
 
-const FORKS: &str = ": main background \" \" split atoi var! items atoi var! count 1 items @ 1 for repeat 1 count @ 1 for pop fork kill pop repeat ;";
+const FORKS: &str =
+    ": main background \" \" split atoi var! items atoi var! count 1 items @ 1 for repeat 1 count @ 1 for pop fork kill pop repeat ;";
 
 // The starting world, in which a player may have as many processes as there may be.
 fn roomy(alloc: Global) -> Option<World> {
@@ -46,14 +47,7 @@ fn typed(alloc: Global, world: &mut World, text: &[u8]) -> Option<u32> {
 fn begun(alloc: Global, source: &str) -> Option<World> {
     let mut world = roomy(alloc)?;
     world.opened(D).ok()?;
-    for text in [
-        "connect One potrzebie",
-        "@program p",
-        "i",
-        source,
-        ".",
-        "q",
-    ] {
+    for text in ["connect One potrzebie", "@program p", "i", source, ".", "q"] {
         typed(alloc, &mut world, text.as_bytes())?;
     }
     Some(world)
