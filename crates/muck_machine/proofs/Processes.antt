@@ -1,6 +1,6 @@
 -- What primitives of processes do, by what their rows say.
 use Rattle.std.proofs.Common.{◌≡◌, ℕ, ◌+◌, ◌-◌, ◌<◌, ◌≤◌, subst, List, ◌∷◌, drop, length, Bool, true, false, Option, Some, None, refl, sym, ap, ◌∙◌, arith}
-use Rattle.std.specs.Prelude.{ℤ, pos, negsuc, is_some, Result, Ok, Err}
+use Rattle.std.specs.Prelude.{ℤ, pos, is_some, Result, Ok, Err}
 use Rattle.std.proofs.lemmas.Bool.{cond-true, lt-ltb}
 use Rattle.std.proofs.lemmas.List.{length-map}
 use Rattle.muck_model.specs.declared.dbref.Dbref.{Dbref}
@@ -25,22 +25,18 @@ use Rattle.spec_rights.specs.declared.act.Actor.{Actor}
 use Rattle.muck_queue.specs.declared.process.Process.{Process}
 use Rattle.muck_queue.specs.Queues.{Queue as Table, process}
 use Rattle.spec_processes.specs.declared.place.Place.{Place}
-use Rattle.spec_processes.specs.ProcessRows.{Effect, gives, waits, forks, enters, starts, refuses, processed, Doing, process_row, done_in, later}
+use Rattle.spec_processes.specs.ProcessRows.{Effect, gives, waits, forks, enters, starts, refuses, processed, Doing, process_row, done_in}
 use Rattle.prim_common.specs.Applied.{Untouched}
 use Rattle.prim_proc.specs.Applied.{Applied, HasStack, IsLeft, Unchanged, called_items}
 use Rattle.prim_proc.specs.declared.after.After.{After}
 use Rattle.prim_proc.specs.declared.after.After.TheVariants.{Go, Wait, Fork, Call, Queue}
 use Rattle.spec_events.specs.declared.starting.Agent.{Agent}
 use Rattle.spec_events.specs.declared.starting.Call.{Call as Started}
-use Rattle.spec_events.specs.declared.starting.Manner.{Manner}
-use Rattle.muck_queue.specs.declared.mode.Mode.TheVariants.{Background}
 use Rattle.spec_events.specs.World.{World}
-use Rattle.spec_events.specs.Starting.{begun, joined}
-use Rattle.spec_events.specs.Slices.{Deed, does, rests, fails, acting, behind, child_of, child_joined, effected, forked, place_in, process_done, program_called, queued, with_number, with_process}
+use Rattle.spec_events.specs.Slices.{Deed, does, rests, fails, acting, behind, effected, forked, place_in, process_done, program_called, queued, with_number}
 use Rattle.muck_machine.specs.declared.state.deeds.Done.{Done}
 use Rattle.muck_machine.specs.declared.state.deeds.Done.TheVariants.{Does as DoneDoes, Rests as DoneRests, Fails as DoneFails}
-use Rattle.muck_machine.specs.declared.state.deeds.DeedFault.TheVariants.{Fault as StartFault}
-use Rattle.muck_machine.specs.Deeds.{ProcessAppliedTo, Begins, DoneAs, PassesOn, queued_call, child_number}
+use Rattle.muck_machine.specs.Deeds.{ProcessAppliedTo, DoneAs, PassesOn, queued_call, child_number}
 use Rattle.muck_machine.proofs.Deeds.{stack_differs, stack_behind, same_stack, same_differs}
 
 -- what a guard makes of the world that it lends, and of the processes beside it, is made of the whole world
@@ -80,46 +76,6 @@ numbered_so stack s (w, Ok m) v n t room is same at =
     ap (λ k. does (behind (int k ∷ stack) s) w) (sym same) ∙ ap (does (behind (int n ∷ stack) s)) (sym is) ∙ ap (λ y. does y v) (sym (at ∙ handed_behind (int n) stack s room))
 numbered_so stack s (w, Err f) v n t room is same at =
     ap (λ k. does (behind (int k ∷ stack) s) w) (sym same) ∙ ap (does (behind (int n ∷ stack) s)) (sym is) ∙ ap (λ y. does y v) (sym (at ∙ handed_behind (int n) stack s room))
-
-pub forked_so : (pid : ℤ) (p child : Process) (n : ℤ) (w v : World) (r t s : Source) (stack : List Datum) → process pid w.queue ≡ Some p → child ≡ child_of w.moment (handed (int (pos 0)) r) p → n ≡ child_number (joined child w) →
-    v ≡ (joined child w).0 → t ≡ handed (int n) r → r ≡ behind stack s → length stack < stack_most → forked pid stack s w ≡ does t v
-unfolding forked
-forked_so pid p child n w v r t s stack there child_is number is at stands room =
-    ap (λ o. child_joined o stack s w) there
-    ∙ ap (λ (y : Source). with_number stack s (joined (child_of w.moment (handed (int (pos 0)) y) p) w)) (sym stands)
-    ∙ ap (λ (y : Process). with_number stack s (joined y w)) (sym child_is)
-    ∙ numbered_so stack s (joined child w) v n t room is number (at ∙ ap (handed (int n)) stands)
-
--- how a start is answered
-pub begun_as : (r : World × Result ℤ MufFault) (v : World) (n : ℤ) → Begins r v (Ok n) → r ≡ (v, Ok n)
-begun_as (w, Ok m) v n h = ap (λ (y : World). (y, Ok m)) (sym h.1) ∙ ap (λ k. (v, Ok k)) (sym h.0)
-begun_as (w, Err f) v n h = absurd h
-
-pub refused_as : (r : World × Result ℤ MufFault) (v : World) (f : MufFault) → Begins r v (Err (StartFault f)) → r ≡ (v, Err f)
-refused_as (w, Ok m) v f h = absurd h
-refused_as (w, Err e) v f h = ap (λ (y : World). (y, Err e)) (sym h.1) ∙ ap (λ k. (v, Err k)) (sym h.0)
-
-module _ (x : Agent) (d : ℤ) (seconds : ℕ) (argument : List ℕ) (stack : List Datum) (s : Source) (w v : World) (call : Started) (manner : Manner) (asked : call ≡ queued_call x.player d argument)
-    (how : manner ≡ record { descr = None; mode = Background; due = later w.moment seconds }) where
-  queued_by : (r : World × Result ℤ MufFault) → begun manner call w ≡ r → queued x stack d seconds argument s w ≡ with_process stack s r
-  unfolding queued
-  queued_by r e =
-      ap (λ (y : Started). with_process stack s (begun (record { descr = None; mode = Background; due = later w.moment seconds }) y w)) (sym asked)
-      ∙ ap (λ (y : Manner). with_process stack s (begun y call w)) (sym how) ∙ ap (with_process stack s) e
-
-  pub queued_so : (n : ℤ) (t : Source) → Begins (begun manner call w) v (Ok n) → t ≡ handed (int n) (behind stack s) → length stack < stack_most → queued x stack d seconds argument s w ≡ does t v
-  queued_so n t h at room =
-      queued_by (v, Ok n) (begun_as (begun manner call w) v n h) ∙ ap (λ y. does y v) (sym (at ∙ handed_behind (int n) stack s room))
-
-  pub unqueued_so : (f : MufFault) → Begins (begun manner call w) v (Err (StartFault f)) → queued x stack d seconds argument s w ≡ fails f v
-  unqueued_so f h = queued_by (v, Err f) (refused_as (begun manner call w) v f h)
-
--- the number of a child, and the world with it
-pub joined_so : (r : World × Result ℤ MufFault) (v : World) (n : ℤ) → Begins r v (Ok n) → (n ≡ child_number r) × (v ≡ r.0)
-joined_so r v n h = let e = begun_as r v n h in (ap child_number (sym e), ap (λ (y : World × Result ℤ MufFault). y.0) (sym e))
-
-pub unjoined_so : (r : World × Result ℤ MufFault) (v : World) (f : MufFault) → Begins r v (Err (StartFault f)) → (negsuc 0 ≡ child_number r) × (v ≡ r.0)
-unjoined_so r v f h = let e = refused_as r v f h in (ap child_number (sym e), ap (λ (y : World × Result ℤ MufFault). y.0) (sym e))
 
 -- a primitive of processes isn't used where its process isn't there
 there_in : (own : Option Process) (doing : Option Doing) (p : Name) (x : Place) (a : Actor) (locked : ℕ) (stack : List Datum) (w : Live) (q : Table) (rest : List Datum) → done_in own doing p x a locked stack w q ≡ forks rest → is_some own ≡ true

@@ -94,9 +94,11 @@ module _ (pid : ℤ) (x : Agent) (program : ℤ) where
   going_by n t w _ h = absurd h
 
   asking_by : (n : ℕ) (p : Name) (t : Source) (w v : World) (b : Bool) (o : Outcome) → RanAlike (Asking p t) o → LeadsTo b v (after_deed pid x.player t (deed pid x p t (many_counted (suc n) pid w))) → LeadsTo b v (left_so n o w) × (ran_units n o ≡ suc n)
-  asking_by n p t w v b (asks q u) h k =
-      (subst (λ y. LeadsTo b v (after_deed pid x.player y (deed pid x q y (many_counted (suc n) pid w)))) h.1
-      (subst (λ y. LeadsTo b v (after_deed pid x.player t (deed pid x y t (many_counted (suc n) pid w)))) h.0 k), refl)
+  asking_by n p t w v b (asks q u) h k = (
+    subst (λ y. LeadsTo b v (after_deed pid x.player y (deed pid x q y (many_counted (suc n) pid w)))) h.1
+        (subst (λ y. LeadsTo b v (after_deed pid x.player t (deed pid x y t (many_counted (suc n) pid w)))) h.0 k),
+    refl,
+  )
   asking_by n p t w v b _ h k = absurd h
 
   ended_by : (n : ℕ) (w : World) (o : Outcome) → RanAlike Ended o → LeadsTo false (ended_one pid w) (left_so n o w)
@@ -107,7 +109,7 @@ module _ (pid : ℤ) (x : Agent) (program : ℤ) where
   faulted_by n f w (faulted g) h = record {
     goes = refl;
     world = ap (λ v. on_live (tell_player x.player (program_error program g)) v) (ap (λ (q : Queue). record w { queue = q }) (without_changed pid (counted n) (λ p. refl) w.queue))
-            ∙ ap (λ y. broken pid x.player program y w) (sym h);
+        ∙ ap (λ y. broken pid x.player program y w) (sym h);
   }
   faulted_by n f w _ h = absurd h
 
@@ -217,10 +219,11 @@ module _ (tune : Tune) (pid : ℤ) (x : Agent) where
     goes_so m k u e is h =
         let known = left_by m k e h.0 in
         let some : 0 < k = known.0 in
-        let most : k ≤ n = known.1 in
-        (omega (arith, some, most),
-        ran_by m e ∙ ap (λ y. after_turn tune (n - ran_units (taken m s) (units m s)) pid (ran pid x (taken m s) s.program.number (units m s) y)) (sym is)
-        ∙ after_on tune pid (n - ran_units (taken m s) (units m s)) v _ h.1 ∙ ap (λ y. finish tune (n - y) pid v) (sym h.0))
+        let most : k ≤ n = known.1 in (
+          omega (arith, some, most),
+          ran_by m e ∙ ap (λ y. after_turn tune (n - ran_units (taken m s) (units m s)) pid (ran pid x (taken m s) s.program.number (units m s) y)) (sym is)
+              ∙ after_on tune pid (n - ran_units (taken m s) (units m s)) v _ h.1 ∙ ap (λ y. finish tune (n - y) pid v) (sym h.0),
+        )
 
     -- or it doesn't
     pub stops_so : (m : ℕ) (u : World) → a ≡ Units m → u ≡ out pid w → Runs pid x m s u v None → Stops tune pid n w v None

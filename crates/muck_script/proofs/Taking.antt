@@ -1,12 +1,16 @@
 -- A turn, as it is taken.
-use Rattle.std.proofs.Common.{◌≡◌, ℕ, ℤ, true, [], ◌∷◌, refl, sym, ◌∙◌, ap, Option, Some, None, Result, Ok, Err}
+use Rattle.std.proofs.Common.{◌≡◌, ℕ, ℤ, Bool, true, false, ◌&&◌, cond, [], ◌∷◌, refl, sym, ◌∙◌, ap, Option, Some, None, Result, Ok, Err}
+use Rattle.std.proofs.lemmas.Bool.{cond-true}
 use Rattle.std.specs.Prelude.{is_some, OnErr}
 use Rattle.muck_model.specs.declared.event.Event.TheVariants.{Exec, Claim, Slice, Died}
 use Rattle.spec_events.specs.World.{World}
-use Rattle.spec_events.specs.Steps.{is_lawful, next_ready, next_process}
+use Rattle.spec_events.specs.Steps.{has_claim, is_there, is_lawful, next_ready, next_process}
 use Rattle.spec_events.specs.Histories.{History, now, entered, Grew, by_porter}
 use Rattle.spec_events.proofs.Runs.{grew_nothing, grew_one, grew_on, grew_as, now-grew}
 use Rattle.spec_events.proofs.Claims.{chosen_lawful}
+use Rattle.muck_machine.specs.Claims.{slice_event}
+use Rattle.muck_machine.specs.declared.world.Sliced.{Sliced}
+use Rattle.muck_machine.specs.declared.world.Sliced.TheVariants.{Ran, Lost}
 use Rattle.muck_script.specs.Story.{Turn, of_line, chosen, next_turn}
 use Rattle.muck_script.specs.inner.Settling.{entries_of, slice_of, DiedDuring}
 
@@ -14,17 +18,37 @@ use Rattle.muck_script.specs.inner.Settling.{entries_of, slice_of, DiedDuring}
 pub no_slice : (h k : History) → next_process (now h) ≡ None → k ≡ h → Grew h k (entries_of (slice_of (next_process (now h))))
 no_slice h k e is = grew_as h k [] _ (ap (λ (o : Option ℤ). entries_of (slice_of o)) (sym e)) (grew_nothing h k is)
 
--- what was claimed may be sliced
-pub may_slice : (h k : History) (pid : ℤ) → next_process (now h) ≡ Some pid → k ≡ entered h (by_porter (Claim pid)) → is_lawful (now k) (by_porter (Slice pid)) ≡ true
-may_slice h k pid e is =
-    ap (λ (w : World). is_lawful w (by_porter (Slice pid))) (now-grew h k _ (grew_one h k (by_porter (Claim pid)) is))
-    ∙ chosen_lawful (now h) 0 pid e
+-- a process that a party has claimed in a world that lives, and that is there
+pub record MayRun (party : ℕ) (w : World) (pid : ℤ) : Type 0 where
+  pub alive : w.dead ≡ false
+  pub claim : has_claim party pid w ≡ true
+  pub there : is_there pid w ≡ true
 
-pub sliced : (h k next : History) (pid : ℤ) → next_process (now h) ≡ Some pid → k ≡ entered h (by_porter (Claim pid)) → next ≡ entered k (by_porter (Slice pid)) →
-    Grew h next (entries_of (slice_of (next_process (now h))))
-sliced h k next pid e claimed is =
+both_true : (a b : Bool) → (a && b) ≡ true → (a ≡ true) × (b ≡ true)
+both_true true b e = (refl, e)
+both_true false b e = cc
+
+pub lawful_runs : (party : ℕ) (w : World) (pid : ℤ) → is_lawful w (record { party = party; event = Slice pid }) ≡ true → MayRun party w pid
+unfolding is_lawful
+lawful_runs party w pid = at w.dead refl where
+  at : (dead : Bool) → w.dead ≡ dead → cond dead false (has_claim party pid w && is_there pid w) ≡ true → MayRun party w pid
+  at true e l = cc
+  at false e l = let all = both_true (has_claim party pid w) (is_there pid w) l in record { alive = e; claim = all.0; there = all.1 }
+
+-- what was claimed may be sliced
+pub may_slice : (h k : History) (pid : ℤ) → next_process (now h) ≡ Some pid → k ≡ entered h (by_porter (Claim pid)) → MayRun 0 (now k) pid
+may_slice h k pid e is =
+    lawful_runs 0 (now k) pid
+    (ap (λ (w : World). is_lawful w (by_porter (Slice pid))) (now-grew h k _ (grew_one h k (by_porter (Claim pid)) is))
+    ∙ chosen_lawful (now h) 0 pid e)
+
+-- it is there, since it was claimed just before
+pub sliced : (h k next : History) (pid : ℤ) (how : Sliced) → next_process (now h) ≡ Some pid → k ≡ entered h (by_porter (Claim pid)) →
+    how ≡ cond (is_there pid (now k)) Ran Lost → next ≡ entered k (by_porter (slice_event pid how)) → Grew h next (entries_of (slice_of (next_process (now h))))
+sliced h k next pid how e claimed ran is =
+    let there : how ≡ Ran = ran ∙ cond-true _ _ _ (may_slice h k pid e claimed).there in
     grew_as h next (by_porter (Claim pid) ∷ by_porter (Slice pid) ∷ []) _ (ap (λ (o : Option ℤ). entries_of (slice_of o)) (sym e))
-    (grew_on h k next _ _ (grew_one h k (by_porter (Claim pid)) claimed) (grew_one k next (by_porter (Slice pid)) is))
+    (grew_on h k next _ _ (grew_one h k (by_porter (Claim pid)) claimed) (grew_one k next (by_porter (Slice pid)) (is ∙ ap (λ s. entered k (by_porter (slice_event pid s))) there)))
 
 -- memory was wanted in the slice
 pub slice_dies : (h k next : History) (pid : ℤ) → next_process (now h) ≡ Some pid → k ≡ entered h (by_porter (Claim pid)) → next ≡ entered k (by_porter Died) →

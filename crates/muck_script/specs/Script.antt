@@ -6,7 +6,7 @@ use Rattle.std.specs.List.{list_any, list_all}
 use Rattle.muck_model.specs.Decimal.{decimal_of}
 use Rattle.spec_commands.specs.Texts.{is_space, first_word, other_words}
 use Rattle.muck_script.specs.declared.act.Act.{Act}
-use Rattle.muck_script.specs.declared.act.Act.TheVariants.{Nothing, Open, Send}
+use Rattle.muck_script.specs.declared.act.Act.TheVariants.{Nothing, Open, Send, Close, Wait}
 use Rattle.muck_script.specs.Lines.{lines_of}
 
 abbrev pub if_positive : Option ℕ → Option ℕ
@@ -16,6 +16,13 @@ if_positive (Some n) = if nat_lt 0 n then Some n else None
 -- the number of a connection, from 1 to 256
 abbrev pub number_of : List ℕ → Option ℕ
 number_of text = if_positive (decimal_of 256 text)
+
+-- the most seconds of a wait: a day
+abbrev pub wait_most : ℕ
+wait_most = 86400
+
+abbrev pub seconds_of : List ℕ → Option ℕ
+seconds_of text = decimal_of wait_most text
 
 abbrev pub is_printable : ℕ → Bool
 is_printable b = nat_le 32 b && nat_le b 126
@@ -39,6 +46,8 @@ abbrev pub asked : List ℕ → Option Act
 asked line =
     if bytes_eq (first_word line) (codes "open") then option_map Open (number_of (other_words line))
     else if bytes_eq (first_word line) (codes "send") then sending (other_words line)
+    else if bytes_eq (first_word line) (codes "close") then option_map Close (number_of (other_words line))
+    else if bytes_eq (first_word line) (codes "wait") then option_map Wait (seconds_of (other_words line))
     else None
 
 -- what a line asks for, or none where it is outside the grammar; the empty line and one that begins with # ask for nothing

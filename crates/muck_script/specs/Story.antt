@@ -1,16 +1,16 @@
 -- What a script makes happen, and the text that it writes.
-use Rattle.std.specs.Prelude.{ℕ, ℤ, zero, suc, ◌+◌, ◌-◌, nat_lt, if◌then◌else◌, List, [], ◌∷◌, ◌++◌, length, take, drop, Option, Some, None, codes}
+use Rattle.std.specs.Prelude.{ℕ, ℤ, zero, suc, ◌+◌, ◌-◌, min, nat_lt, if◌then◌else◌, List, [], ◌∷◌, ◌++◌, length, take, drop, Option, Some, None, codes}
 use Rattle.std.specs.List.{flat_map}
 use Rattle.std.specs.Fmt.{decimal}
 use Rattle.muck_model.specs.declared.event.Entry.{Entry}
 use Rattle.muck_model.specs.declared.event.Event.{Event}
-use Rattle.muck_model.specs.declared.event.Event.TheVariants.{Opened, Input, Closed, Exec, Claim, Slice, Take, Stored, DumpFailed, Halt}
+use Rattle.muck_model.specs.declared.event.Event.TheVariants.{Opened, Input, Closed, Moment, Exec, Claim, Slice, Take, Stored, DumpFailed, Halt}
 use Rattle.spec_events.specs.World.{World, queue_of, is_leaving}
 use Rattle.spec_events.specs.Steps.{is_lawful, effect, next_ready, next_process}
 use Rattle.spec_live.specs.Connections.{connections_most}
 use Rattle.spec_events.specs.Histories.{after, by_porter}
 use Rattle.muck_script.specs.declared.act.Act.{Act}
-use Rattle.muck_script.specs.declared.act.Act.TheVariants.{Nothing, Open, Send}
+use Rattle.muck_script.specs.declared.act.Act.TheVariants.{Nothing, Open, Send, Close, Wait}
 use Rattle.muck_script.specs.Lines.{lines_of}
 
 -- How a dump came out, by its number.
@@ -47,11 +47,17 @@ both f g os w = then_on g os w (f os w)
 abbrev pub if_lawful : Event → World → List Entry
 if_lawful event w = if is_lawful w (by_porter event) then by_porter event ∷ [] else []
 
+-- so many seconds later, as far as seconds go
+abbrev pub later : ℕ → World → ℕ
+later seconds w = min (w.moment + seconds) 18446744073709551615
+
 -- what a line of the script asks for
 abbrev pub acted : Act → World → List Entry
 acted Nothing w = []
 acted (Open d) w = if_lawful (Opened d) w
 acted (Send d text) w = if_lawful (Input d text) w
+acted (Close d) w = if_lawful (Closed d) w
+acted (Wait seconds) w = if_lawful (Moment (later seconds w)) w
 
 -- A turn: the first line of a connection is done, or a process runs for a slice.
 pub data Turn : Type 0 where

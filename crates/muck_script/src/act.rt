@@ -10,4 +10,8 @@ pub enum Act {
     Open(u32),
     /// That this line comes on the connection of this number.
     Send(u32, Line),
+    /// That the connection of this number goes.
+    Close(u32),
+    /// That it is so many seconds later.
+    Wait(u64),
 }

@@ -19,5 +19,8 @@ pub const SCRIPT_MOST: usize = 16_777_216;
 /// The most bytes of a line that comes on a connection.
 pub const INPUT_MOST: usize = 2048;
 
+/// The most seconds of a wait.
+pub const WAIT_MOST: u64 = 86_400;
+
 /// The most turns after a line.
 pub const TURNS_MOST: u32 = 4096;

@@ -2,9 +2,9 @@
 ghost use Rattle.std.specs.Prelude.{◌≡◌, ◌==◌, IfOk, Some};
 ghost use Rattle.std.specs.List.{list_any, list_all};
 ghost use Rattle.spec_commands.specs.Texts.{is_space};
-ghost use Rattle.muck_script.specs.Script.{act_of, asked, sending, send_to, number_of, is_printable, is_input};
+ghost use Rattle.muck_script.specs.Script.{act_of, asked, sending, send_to, number_of, seconds_of, is_printable, is_input};
 
-use crate::{Act, INPUT_MOST};
+use crate::{Act, INPUT_MOST, WAIT_MOST};
 use muck_model::{Line, LineFault, NoMemory, decimal};
 use spec_commands::cut_word;
 use std::alloc::Global;
@@ -32,6 +32,12 @@ fn asked(alloc: Global, line: &[u8]) -> Result<Option<Act>, NoMemory>
     }
     if word == b"send".as_slice() {
         return sending(alloc, rest);
+    }
+    if word == b"close".as_slice() {
+        return Ok(number_of(rest).map(Act::Close));
+    }
+    if word == b"wait".as_slice() {
+        return Ok(seconds_of(rest).map(Act::Wait));
     }
     Ok(None)
 }
@@ -88,4 +94,11 @@ fn number_of(text: &[u8]) -> Option<u32>
 {
     let n = decimal(text, 256)?;
     if n > 0 { Some(n as u32) } else { None }
+}
+
+// A count of seconds, at most a day.
+fn seconds_of(text: &[u8]) -> Option<u64>
+    ensures { result ≡ seconds_of text.now }
+{
+    decimal(text, WAIT_MOST)
 }

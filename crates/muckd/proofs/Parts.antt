@@ -1,5 +1,5 @@
 -- Lemmas on parts of a run.
-use Rattle.std.proofs.Common.{◌≡◌, ℕ, ◌<◌, ◌≤◌, Bool, true, false, cond, List, [], ◌∷◌, ◌++◌, length, take, drop, refl, sym, ◌∙◌, ap, subst, arith, append_assoc, append-nil, Option, Some, None, min}
+use Rattle.std.proofs.Common.{◌≡◌, ℕ, ◌<◌, ◌≤◌, Bool, true, false, cond, List, [], ◌∷◌, ◌++◌, length, take, drop, refl, sym, ◌∙◌, ap, subst, arith, append_assoc, append-nil, Option, Some, None, Result, Ok, Err, min}
 use Rattle.muck_io.proofs.Appended.{appends_twice}
 use Rattle.std.proofs.lemmas.Bool.{lt-ltb, cond-true, cond-false}
 use Rattle.std.proofs.lemmas.List.{take-append-drop}
@@ -17,7 +17,8 @@ use Rattle.spec_events.proofs.Living.{dead-happened}
 use Rattle.spec_events.proofs.Runs.{grew_nothing, grew_one, grew_on, grew_as, now-grew}
 use Rattle.muck_script.specs.Lines.{lines_of}
 use Rattle.muck_script.specs.Story.{Dumped, Part, outcome, outcomes_of, plain, then_on, both, if_lawful, taken, told, text_of, shown, farewell}
-use Rattle.muckd.specs.inner.Plays.{Says, Plays, Breaks}
+use Rattle.muckd.specs.declared.playing.RunFault.{RunFault}
+use Rattle.muckd.specs.inner.Plays.{Says, Plays, Breaks, PlaysOrBreaks}
 
 pub appends_nothing : (o : Option (List ℕ)) → Appends o o []
 appends_nothing None = tt
@@ -92,6 +93,20 @@ opened_silent d w = refl
 pub input_silent : (d : ℕ) (line : List ℕ) (w : World) → told w (Input d line) ≡ []
 unfolding told
 input_silent d line w = refl
+
+-- a part that says the same of the world as it was
+pub plays_as : {T : Type 0} (f g : Part) (h k : History) (a b : Option (List ℕ)) (r : Result T RunFault) → ((os : List Dumped) → g os (now h) ≡ f os (now h)) → PlaysOrBreaks f h k a b r → PlaysOrBreaks g h k a b r
+plays_as f g h k a b (Ok x) same p = record { entries = p.entries; said = λ later. same _ ∙ p.said later; history = p.history; text = p.text; alive = p.alive }
+plays_as f g h k a b (Err fault) same p = record {
+  front = p.front;
+  whole = λ later. let part = p.whole later in (part.0, part.1 ∙ sym (same _));
+  history = p.history;
+  told = p.told;
+  untold = p.untold;
+  text = p.text;
+  appended = p.appended;
+  alive = p.alive;
+}
 
 -- what is taken of a queue that isn't empty
 pub taken_some : (d n : ℕ) (w : World) → n ≡ length (queue_of d w) → 0 < n → taken d w ≡ by_porter (Take d n) ∷ []

@@ -19,31 +19,6 @@ pub enum RunFault {
     WriteFault,
 }
 
-// What a line of the script asks for; nothing is written of it.
-fn act(alloc: Global, world: &mut World, act: &Act) -> Result<(), RunFault>
-    requires { (now world.old).dead ≡ false }
-    ensures plays { (o : Option (List ℕ)) → PlaysOrBreaks (plain (acted act.now)) world.old world.new o o result }
-    ensures memory { OnErr result (result ≡ Err RunFault.NoMemory) }
-{
-    match act {
-        Act::Nothing => Ok(()),
-        Act::Open(d) => match world.opened(*d) {
-            Ok(_) => Ok(()),
-            Err(NoMemory) => Err(RunFault::NoMemory),
-        },
-        Act::Send(d, text) => match text.copy(alloc) {
-            Ok(text) => match world.input(*d, text) {
-                Ok(_) => Ok(()),
-                Err(NoMemory) => Err(RunFault::NoMemory),
-            },
-            Err(NoMemory) => {
-                world.died(0);
-                Err(RunFault::NoMemory)
-            }
-        },
-    }
-}
-
 // Takes the turns of lines and processes; nothing is written of it.
 fn turn(world: &mut World) -> Result<(), RunFault>
     requires { (now world.old).dead ≡ false }
@@ -118,6 +93,61 @@ fn part<K: Sink>(alloc: Global, world: &mut World, d: u32, out: &mut K) -> Resul
     }
 }
 
+// Closes a connection where it is there; where it is leaving that is written, and else nothing is.
+fn close<K: Sink>(alloc: Global, world: &mut World, d: u32, out: &mut K) -> Result<(), RunFault>
+    requires { (now world.old).dead ≡ false }
+    ensures plays { PlaysOrBreaks (plain (acted (Act.Close d))) world.old world.new (K.written out.old) (K.written out.new) result }
+    ensures fine { OnOk result (K.faults out.new ≡ K.faults out.old) }
+    ensures later { K.faults out.old ≤ K.faults out.new }
+    ensures write { IsErrOf result RunFault.WriteFault → Rose (K.faults out.old) (K.faults out.new) }
+    ensures memory { IsErrOf result RunFault.NoMemory → K.faults out.new ≡ K.faults out.old }
+{
+    if world.leaving(d) {
+        return part(alloc, world, d, out);
+    }
+    if !world.connected(d) {
+        return Ok(());
+    }
+    match world.closed(d) {
+        Ok(()) => Ok(()),
+        Err(NoMemory) => Err(RunFault::NoMemory),
+    }
+}
+
+// What a line of the script asks for; only where it closes a connection that is leaving anything is written of it.
+fn act<K: Sink>(alloc: Global, world: &mut World, act: &Act, out: &mut K) -> Result<(), RunFault>
+    requires { (now world.old).dead ≡ false }
+    ensures plays { PlaysOrBreaks (plain (acted act.now)) world.old world.new (K.written out.old) (K.written out.new) result }
+    ensures fine { OnOk result (K.faults out.new ≡ K.faults out.old) }
+    ensures later { K.faults out.old ≤ K.faults out.new }
+    ensures write { IsErrOf result RunFault.WriteFault → Rose (K.faults out.old) (K.faults out.new) }
+    ensures memory { IsErrOf result RunFault.NoMemory → K.faults out.new ≡ K.faults out.old }
+{
+    match act {
+        Act::Nothing => Ok(()),
+        Act::Open(d) => match world.opened(*d) {
+            Ok(_) => Ok(()),
+            Err(NoMemory) => Err(RunFault::NoMemory),
+        },
+        Act::Send(d, text) => match text.copy(alloc) {
+            Ok(text) => match world.input(*d, text) {
+                Ok(_) => Ok(()),
+                Err(NoMemory) => Err(RunFault::NoMemory),
+            },
+            Err(NoMemory) => {
+                world.died(0);
+                Err(RunFault::NoMemory)
+            }
+        },
+        Act::Close(d) => close(alloc, world, *d, out),
+        Act::Wait(seconds) => {
+            let then = world.now().saturating_add(*seconds);
+            world.moment(then);
+            Ok(())
+        }
+    }
+}
+
 // Takes and writes a connection's queue, and closes it where it is leaving.
 fn serve_one<K: Sink>(
     alloc: Global,
@@ -164,13 +194,21 @@ fn serve_all<K: Sink>(
     Ok(())
 }
 
-// Does what a line of the script asks for, and the turns that follow; nothing is written of it.
-fn act_and_turn(alloc: Global, world: &mut World, asked: &Act) -> Result<(), RunFault>
+// Does what a line of the script asks for, and the turns that follow.
+fn act_and_turn<K: Sink>(
+    alloc: Global,
+    world: &mut World,
+    asked: &Act,
+    out: &mut K,
+) -> Result<(), RunFault>
     requires { (now world.old).dead ≡ false }
-    ensures plays { (o : Option (List ℕ)) → PlaysOrBreaks (both (plain (acted asked.now)) (plain (turns turns_most))) world.old world.new o o result }
-    ensures memory { OnErr result (result ≡ Err RunFault.NoMemory) }
+    ensures plays { PlaysOrBreaks (both (plain (acted asked.now)) (plain (turns turns_most))) world.old world.new (K.written out.old) (K.written out.new) result }
+    ensures fine { OnOk result (K.faults out.new ≡ K.faults out.old) }
+    ensures later { K.faults out.old ≤ K.faults out.new }
+    ensures write { IsErrOf result RunFault.WriteFault → Rose (K.faults out.old) (K.faults out.new) }
+    ensures memory { IsErrOf result RunFault.NoMemory → K.faults out.new ≡ K.faults out.old }
 {
-    match act(alloc, world, asked) {
+    match act(alloc, world, asked, out) {
         Ok(()) => turn(world),
         Err(fault) => Err(fault),
     }
@@ -192,7 +230,7 @@ fn play_line<K: Sink>(
     ensures write { IsErrOf result RunFault.WriteFault → Rose (K.faults out.old) (K.faults out.new) }
     ensures memory { IsErrOf result RunFault.NoMemory → K.faults out.new ≡ K.faults out.old }
 {
-    match act_and_turn(alloc, world, asked) {
+    match act_and_turn(alloc, world, asked, out) {
         Ok(()) => serve_all(alloc, world, buf, out),
         Err(fault) => Err(fault),
     }

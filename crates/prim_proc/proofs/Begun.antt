@@ -1,6 +1,6 @@
 -- How the tests of a primitive and what it is to do come together.
-use Rattle.std.proofs.Common.{◌≡◌, ℕ, ◌<◌, ◌≤◌, ◌+◌, List, [], ◌∷◌, ◌++◌, length, take, drop, Bool, true, false, Option, Some, None, Result, Ok, Err, refl, sym, ap, ◌∙◌, subst}
-use Rattle.std.specs.Prelude.{is_some}
+use Rattle.std.proofs.Common.{◌≡◌, ℕ, ◌<◌, ◌≤◌, ◌+◌, List, length, take, drop, true, Option, Some, None, Result, Ok, Err, refl, sym, ap, ◌∙◌, subst}
+use Rattle.std.specs.Prelude.{◌&&◌, is_some}
 use Rattle.spec_live.specs.Lives.{Live}
 use Rattle.spec_rights.specs.declared.act.Actor.{Actor}
 use Rattle.muf_model.specs.declared.fault.MufFault.{MufFault}
@@ -10,7 +10,7 @@ use Rattle.muf_model.specs.declared.prims.Primitive.{Primitive}
 use Rattle.muf_model.specs.declared.prims.Primitive.TheVariants.{Call, Fork, Sleep, Read, Kill, Pid, IsPid, Queue as QueuePrim, Mode, SetMode, Preempt, Foreground, Background, SysTime, Random, EventSend, EventWait, EventCount, Prog, Trig, Caller, Cmd}
 use Rattle.muf_model.specs.Answer.{stack_most}
 use Rattle.muf_model.specs.Datum.{Datum}
-use Rattle.muf_model.specs.Prims.{family_of, level_of}
+use Rattle.muf_model.specs.Prims.{family_of, is_there, level_of}
 use Rattle.muf_frame.specs.declared.fault.PrimFault.{PrimFault}
 use Rattle.muf_frame.specs.declared.fault.PrimFault.TheVariants.{Fault, NoMemory}
 use Rattle.muf_frame.specs.Shown.{Shown, flat, locked_by}
@@ -22,7 +22,8 @@ use Rattle.prim_common.specs.Tests.{Passes}
 use Rattle.muck_queue.specs.declared.process.Process.{Process}
 use Rattle.muck_queue.specs.Queues.{Queue, process}
 use Rattle.spec_processes.specs.declared.place.Place.{Place}
-use Rattle.spec_processes.specs.ProcessRows.{Effect, gives, waits, forks, enters, starts, refuses, unless, upon, Doing, process_row, needs_at, taken_at, done_in, processed}
+use Rattle.spec_processes.specs.ProcessRows.{Effect, gives, waits, forks, enters, starts, refuses, unless, upon, Doing, process_row, needs_at, taken_at, is_process_family, done_in, processed}
+use Rattle.spec_processes.proofs.There.{process_there}
 use Rattle.prim_proc.specs.declared.after.After.{After}
 use Rattle.prim_proc.specs.declared.plan.Plan.{Plan}
 use Rattle.prim_proc.specs.Applied.{Applied}
@@ -154,3 +155,7 @@ module _ {p : Primitive} {x : Place} {f : Shown} {g : Guard} {q : Queue} {own : 
 
       pub all_taken : TakesAll plan n
       all_taken = subst (TakesAll plan) (sym count) (takes_all p x g.actor own (flat f).stack (world_of g) q plan planned)
+
+-- those that may be used have a row
+pub there_so : (p : Primitive) → family_of p ≡ kind.Process → is_there p ≡ is_some (process_row p)
+there_so p e = sym (process_there p ∙ ap (λ f. is_process_family f && is_there p) e)

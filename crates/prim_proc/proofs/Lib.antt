@@ -1,8 +1,10 @@
 mod Asked
 mod Begun
-mod Carried
 mod Missing
 mod Names
 mod Needing
+mod Planned
 mod Room
 mod Roomed
+mod Sendings
+mod Taking

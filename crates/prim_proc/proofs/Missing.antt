@@ -1,5 +1,5 @@
 -- Which rows are those of primitives that give an item and change nothing.
-use Rattle.std.proofs.Common.{◌≡◌, Option, None, refl}
+use Rattle.std.proofs.Common.{◌≡◌, None, refl}
 use Rattle.muf_model.specs.declared.prims.Primitive.{Primitive}
 use Rattle.muf_model.specs.declared.prims.Primitive.TheVariants.{Call, Fork, Sleep, Read, Kill, Pid, IsPid, Queue, Mode, SetMode, Preempt, Foreground, Background, SysTime, Random, EventSend, EventWait, EventCount, Prog, Trig, Caller, Cmd}
 use Rattle.spec_processes.specs.ProcessRows.{process_row}

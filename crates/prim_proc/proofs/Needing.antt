@@ -1,8 +1,8 @@
 -- What CALL needs, by what stands on the top.
-use Rattle.std.proofs.Common.{◌≡◌, ℕ, List, [], ◌∷◌, Option, Some, None, refl}
+use Rattle.std.proofs.Common.{◌≡◌, ℕ, List, [], ◌∷◌, Some, None, refl}
 use Rattle.muf_model.specs.declared.prims.Primitive.{Primitive}
 use Rattle.muf_model.specs.declared.prims.Primitive.TheVariants.{Call}
-use Rattle.muf_model.specs.Datum.{Datum, int, text, object, variable, address, lock, items, dict, mark}
+use Rattle.muf_model.specs.Datum.{Datum, text}
 use Rattle.muf_model.specs.Needs.{takes, a_text, one_there}
 use Rattle.muf_model.specs.Prims.{needs_of}
 use Rattle.muf_frame.specs.Answers.{text_at}

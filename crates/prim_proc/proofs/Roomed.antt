@@ -1,15 +1,14 @@
 -- Where there is room for what comes of a plan, and where there is none.
-use Rattle.std.proofs.Common.{◌≡◌, ℕ, ◌<◌, ◌≤◌, ◌+◌, Bool, true, false, cond, List, [], ◌∷◌, ◌++◌, length, refl, arith}
+use Rattle.std.proofs.Common.{◌≡◌, ℕ, ◌<◌, ◌≤◌, ◌+◌, Bool, true, false, cond, List, [], ◌∷◌, length, refl, arith}
 use Rattle.std.specs.Prelude.{nat_le}
 use Rattle.std.proofs.lemmas.Bool.{cond-true, cond-false, lt-ltb, le-ltb}
 use Rattle.spec_live.specs.Lives.{Live}
 use Rattle.muf_model.specs.declared.fault.MufFault.TheVariants.{StackFull, TooHeavy}
 use Rattle.muf_model.specs.Answer.{stack_most}
 use Rattle.muf_model.specs.Datum.{Datum}
-use Rattle.muf_model.specs.View.{view}
 use Rattle.muck_queue.specs.Queues.{Queue, events_of, events_most}
 use Rattle.spec_processes.specs.declared.place.Place.{Place}
-use Rattle.spec_processes.specs.ProcessRows.{Effect, gives, waits, forks, enters, starts, refuses, fitting, upon, oldest}
+use Rattle.spec_processes.specs.ProcessRows.{Effect, gives, refuses, fitting, upon, oldest}
 use Rattle.prim_proc.specs.Plans.{items_of, effect_of, events_in, stacked}
 use Rattle.prim_proc.specs.declared.plan.Plan.{Plan}
 use Rattle.prim_proc.specs.declared.plan.Plan.TheVariants.{Nothing, Give, Draw, Kill, SetMode, Send, Receive, Sleep, Read, Fork, Enter, Start}
@@ -22,7 +21,7 @@ module _ (rest : List Datum) (n : ℕ) (effect : Effect) where
   has_none l = cond-true _ _ _ (lt-ltb stack_most (n + length rest) l)
 
 module _ (rest : List Datum) (x : Place) (w : Live) (q : Queue) where
-  sent_upon : (b : Bool) (r : Queue) → length rest ≤ stack_most → upon rest (cond b (refuses TooHeavy) (gives [] w r)) ≡ stacked rest (cond b (refuses TooHeavy) (gives [] w r))
+  sent_upon : (b : Bool) (r : Queue) → 0 + length rest ≤ stack_most → upon rest (cond b (refuses TooHeavy) (gives [] w r)) ≡ stacked rest (cond b (refuses TooHeavy) (gives [] w r))
   sent_upon true r l = refl
   sent_upon false r l = has_room rest 0 (gives rest w r) l
 

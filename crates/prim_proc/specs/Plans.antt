@@ -1,8 +1,7 @@
 -- What comes of what a primitive is to do.
-use Rattle.std.specs.Prelude.{◌≡◌, ℕ, ◌/◌, ℤ, pos, Bool, true, false, nat_le, if◌then◌else◌, List, [], ◌∷◌, ◌++◌, length, Option, Some, None, Result, Ok, Err}
+use Rattle.std.specs.Prelude.{◌≡◌, ℕ, ◌/◌, ℤ, pos, true, false, nat_le, if◌then◌else◌, List, [], ◌∷◌, ◌++◌, Option, Some, None, Result, Ok, Err}
 use Rattle.std.specs.Option.{option_map_or}
 use Rattle.spec_live.specs.Lives.{Live, draw, random_word}
-use Rattle.spec_rights.specs.declared.act.Actor.{Actor}
 use Rattle.muf_model.specs.declared.fault.MufFault.TheVariants.{NotCompiled, TooHeavy}
 use Rattle.muf_model.specs.declared.prims.Primitive.{Primitive}
 use Rattle.muf_model.specs.declared.prims.Primitive.TheVariants.{Pid, Mode, SysTime, EventCount, Prog, Trig, Caller, Cmd}
@@ -12,7 +11,6 @@ use Rattle.muf_frame.specs.declared.fault.PrimFault.{PrimFault}
 use Rattle.muf_frame.specs.declared.fault.PrimFault.TheVariants.{Fault, NoMemory}
 use Rattle.muf_frame.specs.Shown.{Shown}
 use Rattle.muck_queue.specs.declared.mode.Wait.TheVariants.{ForLine, ForEvent}
-use Rattle.muck_queue.specs.declared.process.Process.{Process}
 use Rattle.muck_queue.specs.Queues.{Queue, process, on_process, without, resting, sleeping, in_mode, told_event, without_event, events_of, events_most}
 use Rattle.spec_processes.specs.declared.place.Place.{Place}
 use Rattle.spec_processes.specs.ProcessRows.{Effect, gives, waits, forks, enters, starts, refuses, Doing, oldest, process_row}

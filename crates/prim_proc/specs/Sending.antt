@@ -1,5 +1,5 @@
 -- What is made of an event that is to be sent.
-use Rattle.std.specs.Prelude.{◌≡◌, ℕ, ℤ, negsuc, nat_lt, Bool, true, false, List, [], ◌∷◌, length, codes, Option, Result, Ok, Err}
+use Rattle.std.specs.Prelude.{◌≡◌, ℕ, negsuc, nat_lt, true, false, List, [], ◌∷◌, length, codes, Option, Result, Ok, Err}
 use Rattle.std.specs.Int.{w32, cast_signed}
 use Rattle.std.specs.Option.{option_map_or}
 use Rattle.muck_model.specs.Bytes.{text_most}

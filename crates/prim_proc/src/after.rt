@@ -13,7 +13,10 @@ pub enum After {
     Fork,
     /// The word of that name is to be entered, or the last one, of this program. What CALL takes is still on the stack: the
     /// program, and upon it the name where there is one.
-    Call { program: Dbref, word: Option<Text> },
+    Call {
+        program: Dbref,
+        word: Option<Text>,
+    },
     /// The program is to be started in the background, so many seconds later. The three items that QUEUE takes are still on the
     /// stack.
     Queue {

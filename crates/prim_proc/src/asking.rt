@@ -73,7 +73,7 @@ pub(crate) fn test_program(guard: &Guard, d: Dbref) -> Result<(), MufFault>
 #[tactic(auto, using(crate::proofs::Room::room_steps))]
 pub(crate) fn test_room(count: usize, taken: usize, frame: &Frame) -> Result<(), MufFault>
     requires { taken ≤ length frame.now.stack }
-    ensures { MatchResult result (λ _. count + length (drop taken (flat frame.now).stack) ≤ stack_most) (λ f. (stack_most < count + length (drop taken (flat frame.now).stack)) × (f ≡ StackFull)) }
+    ensures { MatchResult result (λ _. count + length (drop taken (flat frame.now).stack) ≤ stack_most) (λ f. (length (drop taken (flat frame.now).stack) ≤ stack_most) × (stack_most < count + length (drop taken (flat frame.now).stack)) × (f ≡ StackFull)) }
 {
     if count > STACK_MOST - (frame.len() - taken) {
         return Err(MufFault::StackFull);

@@ -17,6 +17,7 @@ use muf_model::{MufFault, Text, Value};
 use spec_processes::Place;
 
 // So many items are taken, and this follows.
+#[tactic(auto, using(crate::proofs::Room::room_steps))]
 fn take(frame: &mut Frame, taken: usize, after: After) -> After
     requires { taken ≤ length frame.old.stack }
     ensures stack { HasStack (drop taken (flat frame.old).stack) frame.old frame.new }
@@ -27,6 +28,7 @@ fn take(frame: &mut Frame, taken: usize, after: After) -> After
 }
 
 // So many items give way to one, and the process goes on.
+#[tactic(auto, using(crate::proofs::Room::room_steps))]
 fn replace(frame: &mut Frame, taken: usize, item: Value) -> After
     requires there { taken ≤ length frame.old.stack }
     requires room { 1 + length (drop taken (flat frame.old).stack) ≤ stack_most }
@@ -39,13 +41,7 @@ fn replace(frame: &mut Frame, taken: usize, item: Value) -> After
 }
 
 // An event is sent.
-fn send(
-    queue: &mut Queue,
-    pid: i32,
-    moment: u64,
-    name: Text,
-    item: Value,
-) -> Result<(), PrimFault>
+fn send(queue: &mut Queue, pid: i32, moment: u64, name: Text, item: Value) -> Result<(), PrimFault>
     ensures { Sent pid moment name (view item) queue.old queue.new result }
 {
     match queue.event(pid, moment, name, item) {
@@ -58,6 +54,7 @@ fn send(
 }
 
 // The oldest event is given, or the process waits for one.
+#[tactic(auto, using(crate::proofs::Room::room_steps))]
 fn receive(place: Place, taken: usize, queue: &mut Queue, frame: &mut Frame) -> After
     requires there { taken ≤ length frame.old.stack }
     requires room { 2 + length (drop taken (flat frame.old).stack) ≤ stack_most }

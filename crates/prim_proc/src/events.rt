@@ -39,12 +39,7 @@ fn key(alloc: Global, name: &[u8]) -> Result<MapKey, NoMemory>
 }
 
 // An entry more, in a dictionary that has room for it.
-fn put(
-    alloc: Global,
-    dict: &mut ValueMap,
-    name: &[u8],
-    value: Value,
-) -> Result<(), NoMemory>
+fn put(alloc: Global, dict: &mut ValueMap, name: &[u8], value: Value) -> Result<(), NoMemory>
     requires text { text_fault name.now ≡ None }
     requires room { fits (whole (pairs_of (with_entry (NameKey name.now) (view value) dict.old))) ≡ true }
     ensures { IfOk result (λ _. dict.new ≡ with_entry (NameKey name.now) (view value) dict.old) }
@@ -89,12 +84,7 @@ fn value_of(alloc: Global, dict: ValueMap) -> Result<Value, NoMemory>
 }
 
 // What comes with an event: what was sent, and by whom.
-fn event_data(
-    place: Place,
-    own: &Process,
-    guard: &Guard,
-    item: Value,
-) -> Result<Value, PrimFault>
+fn event_data(place: Place, own: &Process, guard: &Guard, item: Value) -> Result<Value, PrimFault>
     ensures { DataMade place guard.now.actor own.now (view item) result }
 {
     let alloc = guard.alloc();

@@ -20,7 +20,11 @@ pub(crate) enum Plan {
     /// Going on in that mode.
     SetMode(Mode),
     /// Sending an event to the process of that number.
-    Send { pid: i32, name: Text, item: Value },
+    Send {
+        pid: i32,
+        name: Text,
+        item: Value,
+    },
     /// Giving the oldest event, or waiting for one.
     Receive,
     /// Waiting until that second.
@@ -30,7 +34,10 @@ pub(crate) enum Plan {
     /// Having a child.
     Fork,
     /// Entering a word.
-    Enter { program: Dbref, word: Option<Text> },
+    Enter {
+        program: Dbref,
+        word: Option<Text>,
+    },
     /// Starting a program.
     Start {
         program: Dbref,

@@ -9,9 +9,9 @@ ghost use Rattle.muck_perm.specs.Guards.{world_of};
 ghost use Rattle.muck_queue.specs.Queues.{Queue as Table};
 ghost use Rattle.muck_queue.specs.declared.process.Process.{Process};
 ghost use Rattle.spec_processes.specs.declared.place.Place.{Place};
-ghost use Rattle.spec_processes.specs.ProcessRows.{taken_at, mode_number, mode_numbered, is_pid, kill, sleep, read, mode_set, set_mode, entering, call, starting, queue};
+ghost use Rattle.spec_processes.specs.ProcessRows.{taken_at, mode_number, mode_numbered, is_pid, kill, sleep, read, mode_set, set_mode, call, starting, queue};
 ghost use Rattle.prim_proc.specs.Plans.{Plans};
-ghost use Rattle.prim_proc.specs.Taken.{started_in};
+ghost use Rattle.prim_proc.specs.Taken.{entering_at, started_in};
 
 use crate::asking::{permit, test_program};
 use crate::plan::Plan;
@@ -118,9 +118,12 @@ pub(crate) fn set_mode(own: &Process, frame: &Frame) -> Result<Plan, PrimFault>
 }
 
 // A word of a program is entered, by leave to call that.
-fn enter(guard: &Guard, program: Dbref, word: Option<Text>) -> Result<Plan, PrimFault>
-    ensures { (x : Place) (q : Table) → Plans (entering (world_of guard.now) guard.now.actor program.0 word) x (world_of guard.now) q result }
+fn enter(guard: &Guard, program: Option<Dbref>, word: Option<Text>) -> Result<Plan, PrimFault>
+    ensures { (x : Place) (q : Table) → Plans (entering_at (world_of guard.now) guard.now.actor program word) x (world_of guard.now) q result }
 {
+    let Some(program) = program else {
+        return Err(PrimFault::Fault(MufFault::BadType));
+    };
     test_program(guard, program)?;
     permit(guard, &Act::Call { program })?;
     Ok(Plan::Enter { program, word })
@@ -130,23 +133,15 @@ fn enter(guard: &Guard, program: Dbref, word: Option<Text>) -> Result<Plan, Prim
 pub(crate) fn call(guard: &Guard, frame: &Frame) -> Result<Plan, PrimFault>
     ensures { (x : Place) (p : Process) (q : Table) → Plans (call x guard.now.actor p (take (taken_at CallPrim (flat frame.now).stack) (flat frame.now).stack) (world_of guard.now) q) x (world_of guard.now) q result }
 {
-    let (word, at) = match frame.text_at(0) {
-        Some(name) => (Some(name.share()?), 1),
-        None => (None, 0),
+    let Some(name) = frame.text_at(0) else {
+        return enter(guard, frame.object_at(0), None);
     };
-    match frame.object_at(at) {
-        Some(program) => enter(guard, program, word),
-        None => Err(PrimFault::Fault(MufFault::BadType)),
-    }
+    let word = name.share()?;
+    enter(guard, frame.object_at(1), Some(word))
 }
 
 // A program is started so many seconds later, by leave to call it.
-fn start(
-    guard: &Guard,
-    program: Dbref,
-    seconds: i32,
-    argument: Text,
-) -> Result<Plan, PrimFault>
+fn start(guard: &Guard, program: Dbref, seconds: i32, argument: Text) -> Result<Plan, PrimFault>
     ensures { (x : Place) (q : Table) → Plans (starting (world_of guard.now) guard.now.actor program.0 seconds argument) x (world_of guard.now) q result }
 {
     test_program(guard, program)?;

@@ -1,8 +1,8 @@
 // Every primitive of processes.
-ghost use Rattle.std.specs.Prelude.{◌≡◌, List, is_some, take};
+ghost use Rattle.std.specs.Prelude.{◌≡◌, List, Some, is_some, take};
 ghost use Rattle.spec_live.specs.Lives.{Live};
 ghost use Rattle.spec_rights.specs.declared.act.Actor.{Actor};
-ghost use Rattle.muck_queue.specs.Queues.{Queue as Table};
+ghost use Rattle.muck_queue.specs.Queues.{Queue as Table, process};
 ghost use Rattle.muf_model.specs.declared.prims.Family.TheVariants as kind;
 ghost use Rattle.muf_model.specs.Datum.{Datum};
 ghost use Rattle.muf_model.specs.Prims.{family_of, is_there};
@@ -59,6 +59,7 @@ fn plan(
     guard: &Guard,
     frame: &Frame,
 ) -> Result<Plan, PrimFault>
+    requires { process place.pid queue.now ≡ Some own.now }
     ensures { Plans (does_of (process_row prim) place guard.now.actor own.now (take (taken_at prim (flat frame.now).stack) (flat frame.now).stack) (world_of guard.now) queue.now) place (world_of guard.now) queue.now result }
 {
     match prim {

@@ -1,10 +1,8 @@
 -- How primitives of processes leave the mode and the section of their process.
-use Rattle.std.proofs.Common.{◌≡◌, ℕ, ◌+◌, ◌≤◌, ℤ, pos, negsuc, suc, Bool, true, false, ◌||◌, cond, List, [], ◌∷◌, ◌++◌, length, refl, sym, ◌∙◌, ap, subst, Option, Some, None, is_none, nat_le, nat_lt}
+use Rattle.std.proofs.Common.{◌≡◌, ℕ, ◌+◌, ◌≤◌, ℤ, pos, negsuc, suc, Bool, true, ◌||◌, cond, List, [], ◌∷◌, ◌++◌, length, refl, sym, ◌∙◌, ap, subst, Option, Some, None, is_none, nat_le, nat_lt}
 use Rattle.std.specs.Option.{option_map}
 use Rattle.std.proofs.lemmas.Bool.{cond_both, cond-true}
 use Rattle.muck_model.specs.Bytes.{text_most}
-use Rattle.muck_model.specs.declared.dbref.Dbref.{Dbref}
-use Rattle.spec_live.specs.Objects.{Entry}
 use Rattle.spec_live.specs.Lives.{Live}
 use Rattle.spec_rights.specs.declared.act.Actor.{Actor}
 use Rattle.muf_model.specs.declared.fault.MufFault.{MufFault}
@@ -21,9 +19,8 @@ use Rattle.muck_queue.specs.declared.process.Process.{Process}
 use Rattle.muck_queue.specs.Queues.{Queue, process, on_process, without, is_preempt, is_background, resting, sleeping, in_mode, told_event, without_event, events_most}
 use Rattle.muck_queue.specs.inner.Numbered.{IsNumbered}
 use Rattle.muck_queue.proofs.Changed.{process_changed}
-use Rattle.spec_prims.specs.Asking.{fault_of}
 use Rattle.spec_processes.specs.declared.place.Place.{Place}
-use Rattle.spec_processes.specs.ProcessRows.{Effect, gives, waits, forks, enters, starts, refuses, Doing, unless, fitting, upon, mode_numbered, mode_set, mode_is, is_pid, set_mode, sleep, later, read, killed, kill, event_name, event_data, sent, event_send, oldest, event_wait, program_fault, call_fault, entering, call, starting, queue, process_row, done_in, needs_at, taken_at, processed}
+use Rattle.spec_processes.specs.ProcessRows.{Effect, gives, waits, forks, enters, starts, refuses, Doing, unless, fitting, upon, mode_numbered, mode_set, is_pid, set_mode, sleep, later, read, killed, kill, event_name, event_data, sent, event_send, oldest, program_fault, call_fault, entering, call, starting, queue, process_row, done_in, processed}
 use Rattle.spec_events.proofs.Modes.{Holds, Fits, Seated, fits_seated, fits_less, numbered_changed, fits_without, fits_changed}
 
 -- A process may go on so: in preempt as many units are left as its section needs for the one that is too many. Before a unit

@@ -1,5 +1,5 @@
 -- What becomes of the mode and the section of a process in changes of a queue, and of a world.
-use Rattle.std.proofs.Common.{◌≡◌, ℕ, ℤ, pos, ◌+ℤ◌, ◌≤ℤ◌, ◌<ℤ◌, zero, suc, Bool, true, false, not, cond, List, [], ◌∷◌, ◌++◌, map, refl, sym, ◌∙◌, ap, subst, arith, Option, Some, None, Result, Ok, Err}
+use Rattle.std.proofs.Common.{◌≡◌, ℕ, ℤ, pos, ◌+ℤ◌, ◌≤ℤ◌, ◌<ℤ◌, suc, Bool, true, false, not, cond, List, [], ◌∷◌, ◌++◌, map, refl, sym, ◌∙◌, ap, subst, arith, Option, Some, None, Result}
 use Rattle.std.specs.Prelude.{find}
 use Rattle.std.specs.List.{filter}
 use Rattle.std.specs.Option.{option_map, option_map_or}
@@ -11,9 +11,9 @@ use Rattle.spec_live.specs.declared.mark.Mark.{Mark}
 use Rattle.spec_live.specs.declared.mark.Mark.TheVariants.{Lines, Gone}
 use Rattle.spec_live.specs.Objects.{Entry, dbref_of}
 use Rattle.muf_model.specs.declared.fault.MufFault.{MufFault}
-use Rattle.muf_model.specs.Source.{Source, last_word}
+use Rattle.muf_model.specs.Source.{last_word}
 use Rattle.muf_model.specs.Tree.{Definition, Tree}
-use Rattle.muck_library.specs.Library.{Library, formed}
+use Rattle.muck_library.specs.Library.{formed}
 use Rattle.muck_queue.specs.declared.mode.Mode.{Mode}
 use Rattle.muck_queue.specs.declared.process.Process.{Process}
 use Rattle.muck_queue.specs.Queues.{Queue, has_pid, runs, has_trigger, without_trigger, without_first, process, on_process, without, added, ended_running, trigger_cleared, is_full}
@@ -23,9 +23,9 @@ use Rattle.muck_queue.proofs.Numbered.{rises_added, rises_kept, rises_without, r
 use Rattle.muck_queue.proofs.Changed.{KeepsNumber, process_changed, process_unchanged}
 use Rattle.spec_events.specs.declared.starting.Call.{Call}
 use Rattle.spec_events.specs.declared.starting.Manner.{Manner}
-use Rattle.spec_events.specs.World.{World, on_queue, with_library}
+use Rattle.spec_events.specs.World.{World, with_library}
 use Rattle.spec_events.specs.Following.{followed, swept, settled}
-use Rattle.spec_events.specs.Starting.{beginning, new_process, joined, word_started, form_started, built_started, begun}
+use Rattle.spec_events.specs.Starting.{beginning, new_process, joined, word_started, form_started, begun}
 
 -- how a process is, where it is there
 abbrev pub Holds : (Mode → ℕ → Type 0) → Option Process → Type 0

@@ -1,14 +1,13 @@
 -- The numbers of the processes rise in each world that a history leads to.
-use Rattle.std.proofs.Common.{◌≡◌, ℕ, ◌+◌, ℤ, pos, ◌+ℤ◌, Bool, true, false, not, cond, List, [], ◌∷◌, Option, Some, None, Result, Ok, Err, refl, arith}
+use Rattle.std.proofs.Common.{ℕ, ℤ, pos, not, List, [], ◌∷◌, Option, Some, None, Result, Ok, Err, refl, arith}
 use Rattle.std.proofs.lemmas.Bool.{cond_both}
 use Rattle.std.proofs.lemmas.Int.{ints}
 use Rattle.muck_model.specs.declared.dbref.Denial.{Denial}
 use Rattle.muck_model.specs.declared.dbref.Dbref.{Dbref}
 use Rattle.muck_model.specs.declared.edit.EditState.{EditState}
 use Rattle.muck_model.specs.declared.event.Event.{Event}
-use Rattle.muck_model.specs.declared.event.Event.TheVariants.{Opened, Input, Closed, Exec, Claim, Slice, Lost, Take, Halt, Died}
+use Rattle.muck_model.specs.declared.event.Event.TheVariants.{Closed, Exec, Claim, Slice, Lost}
 use Rattle.spec_live.specs.Connections.{Connection}
-use Rattle.spec_live.specs.Lives.{Live}
 use Rattle.spec_rights.specs.declared.act.Actor.{Actor}
 use Rattle.spec_rights.specs.declared.act.Act.TheVariants.{Start}
 use Rattle.spec_rights.specs.Verdict.{verdict}
@@ -19,7 +18,7 @@ use Rattle.muck_library.specs.declared.flaw.Flaw.{Flaw}
 use Rattle.muck_library.specs.Library.{formed}
 use Rattle.muck_library.specs.Programs.{built_tree}
 use Rattle.muck_queue.specs.declared.process.Process.{Process}
-use Rattle.muck_queue.specs.Queues.{Queue, empty_queue, is_full, is_tied_to, added, claimed, released, ended_tied, told_line, woken, reader}
+use Rattle.muck_queue.specs.Queues.{Queue, empty_queue, is_full, is_tied_to, claimed, released, ended_tied, told_line, woken, reader}
 use Rattle.muck_queue.specs.inner.Numbered.{IsNumbered}
 use Rattle.muck_queue.proofs.Numbered.{rises_kept}
 use Rattle.muck_queue.proofs.Woken.{woken_number}
@@ -33,11 +32,10 @@ use Rattle.spec_commands.specs.Finding.{actor_of}
 use Rattle.spec_commands.specs.Talk.{waits}
 use Rattle.spec_events.specs.declared.starting.Call.{Call}
 use Rattle.spec_events.specs.declared.starting.Manner.{Manner}
-use Rattle.spec_events.specs.World.{World, starting, booted, on_live, on_queue, with_library}
-use Rattle.spec_events.specs.Following.{settled}
+use Rattle.spec_events.specs.World.{World, starting, booted, on_live, with_library}
 use Rattle.spec_events.specs.Starting.{beginning, by_command, new_process, joined, word_started, form_started, begun, start_told, start_judged, launched}
 use Rattle.spec_events.specs.Lines.{with_editor, compiled_so, compiled, next_editor, after_edit, edited_line, in_editor, followed_up, in_world, command, given_line, is_abort, line_for, line_done, done}
-use Rattle.spec_events.specs.Slices.{awake, slice_most, units_of, sliced}
+use Rattle.spec_events.specs.Slices.{awake, slice_most, sliced}
 use Rattle.spec_events.specs.Steps.{happened}
 use Rattle.spec_events.proofs.Modes.{numbered_changed, numbered_without, numbered_added, settled_numbered}
 use Rattle.spec_events.proofs.Sections.{run_numbered}

@@ -1,11 +1,10 @@
 -- Sections stay whole.
 use Rattle.std.proofs.Common.{◌≡◌, ◌⊎◌, inl, inr, ℕ, zero, suc, ◌+◌, ◌<◌, ◌≤◌, ℤ, Bool, true, false, not, ◌&&◌, cond, nat_le, nat_lt, List, [], ◌∷◌, length, refl, sym, ◌∙◌, ap, subst, arith, Option, Some, None, Result, Ok, Err}
 use Rattle.std.specs.Option.{option_map, option_map_or, option_and_then}
-use Rattle.std.proofs.lemmas.Bool.{cond_both, cond-true, cond-false, leb-false, leb-true, lt-leb, le-leb}
+use Rattle.std.proofs.lemmas.Bool.{cond_both, cond-true, leb-false, le-leb}
 use Rattle.muck_model.specs.declared.dbref.Dbref.{Dbref}
 use Rattle.muck_model.specs.declared.tune.Tune.{Tune}
 use Rattle.spec_rights.specs.declared.act.Actor.{Actor}
-use Rattle.spec_live.specs.Lives.{tell_player}
 use Rattle.muf_model.specs.declared.fault.MufFault.{MufFault}
 use Rattle.muf_model.specs.declared.fault.MufFault.TheVariants.{CallsFull, PreemptTooLong, TooManyUnits}
 use Rattle.muf_model.specs.declared.prims.Primitive.{Primitive as Name}
@@ -14,31 +13,28 @@ use Rattle.muf_model.specs.Datum.{Datum, int}
 use Rattle.muf_model.specs.Tree.{Definition, Tree}
 use Rattle.muf_model.specs.Source.{Program, Source, locked_of, calls_of, handed, entered}
 use Rattle.muf_model.specs.Unit.{calls_most, Outcome, goes, ended, faulted, asks, stuck, unit, fault}
-use Rattle.muck_library.specs.Library.{Library, formed}
+use Rattle.muck_library.specs.Library.{formed}
 use Rattle.spec_prims.specs.Asking.{numbered}
 use Rattle.spec_prims.specs.Row.{Row, gives, refuses}
 use Rattle.spec_prims.specs.Shared.{shared}
 use Rattle.muck_queue.specs.declared.mode.Mode.{Mode}
 use Rattle.muck_queue.specs.declared.mode.Mode.TheVariants.{Background}
 use Rattle.spec_live.specs.Objects.{nothing}
-use Rattle.muck_queue.specs.declared.mode.Wait.{Wait}
-use Rattle.muck_queue.specs.declared.mode.Wait.TheVariants.{Nothing, ForLine, ForEvent}
 use Rattle.muck_queue.specs.declared.process.Process.{Process}
-use Rattle.muck_queue.specs.Queues.{Queue, process, on_process, standing, without, at_state, counted, more, woken, given_event, is_preempt}
+use Rattle.muck_queue.specs.Queues.{process, at_state, counted, more, woken, is_preempt}
 use Rattle.muck_queue.specs.inner.Numbered.{IsNumbered}
 use Rattle.muck_queue.proofs.Changed.{process_changed}
 use Rattle.muck_queue.proofs.Woken.{woken_number}
-use Rattle.spec_processes.specs.ProcessRows.{Effect, gives as effect_gives, waits, forks, enters, starts, refuses as effect_refuses, processed, is_process, later}
+use Rattle.spec_processes.specs.ProcessRows.{Effect, gives as effect_gives, waits, forks, enters, starts, refuses as effect_refuses, is_process, later}
 use Rattle.spec_events.specs.declared.starting.Agent.{Agent}
-use Rattle.spec_events.specs.World.{World, on_live, on_queue, with_library}
-use Rattle.spec_events.specs.Following.{settled}
+use Rattle.spec_events.specs.World.{World, with_library}
 use Rattle.spec_events.specs.Starting.{joined, begun}
-use Rattle.spec_events.specs.Slices.{acting, Deed, does, rests, fails, lifted, row_done, behind, called_word, word_entered, form_entered, program_called, child_of, with_number, child_joined, forked, with_process, queued_command, queued, place_in, effected, process_done, deed, stands_at, ended_one, broken, out, one_counted, Turn, on, rest, over, went, after_deed, unit_done, limit_fault, are_spent, units_most, turn, Taken, unit_of, agent_of, seat_of, seat, then_more, is_through, next_unit, slice_most, run_of, last_world, world_of, awake, units_of}
-use Rattle.spec_events.specs.Sections.{IsCountable, IsInterruptible, Stops, LastStops, IsOverlong, IsTooLong, LastTooLong, IsWhole}
+use Rattle.spec_events.specs.Slices.{acting, Deed, does, rests, fails, lifted, row_done, behind, called_word, word_entered, form_entered, program_called, child_of, with_number, child_joined, forked, with_process, queued_command, queued, place_in, effected, process_done, deed, stands_at, out, one_counted, Turn, on, rest, over, went, after_deed, unit_done, limit_fault, turn, Taken, unit_of, agent_of, seat_of, seat, then_more, is_through, next_unit, slice_most, run_of, last_world, world_of, awake, units_of}
+use Rattle.spec_events.specs.Sections.{IsCountable, IsInterruptible, Stops, LastStops, IsOverlong, LastTooLong, IsWhole}
 use Rattle.spec_events.proofs.Modes.{Holds, Fits, Seated, fits_seated, fits_less, numbered_changed, numbered_without, fits_changed, settled_fits, settled_numbered, joined_fits, begun_fits}
 use Rattle.spec_events.proofs.Effects.{GoesOn, MayChange, goes_on, Leaves, processed_leaves}
 use Rattle.spec_events.proofs.Slicing.{run_holds}
-use Rattle.spec_events.proofs.Units.{Sits, sits, turn_limit, turn_within}
+use Rattle.spec_events.proofs.Units.{sits, turn_limit, turn_within}
 
 -- Units.
 

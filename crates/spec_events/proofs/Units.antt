@@ -1,5 +1,5 @@
 -- What a process makes of many units at once.
-use Rattle.std.proofs.Common.{◌≡◌, ℕ, zero, suc, ◌+◌, ◌-◌, ◌<◌, ◌≤◌, min, Bool, true, false, not, ◌&&◌, cond, nat_le, List, [], ◌∷◌, map, refl, sym, ◌∙◌, ap, subst, arith, Option, Some, None}
+use Rattle.std.proofs.Common.{◌≡◌, ℕ, zero, suc, ◌-◌, ◌<◌, ◌≤◌, min, Bool, true, false, not, ◌&&◌, cond, nat_le, List, [], ◌∷◌, map, refl, sym, ◌∙◌, ap, subst, arith, Option, Some, None}
 use Rattle.std.proofs.lemmas.Bool.{cond-true, cond-false, lt-leb, le-leb, leb-false}
 use Rattle.std.proofs.Math.Nat.{min-le_left, min-le_right}
 use Rattle.std.specs.Prelude.{ℤ}
@@ -13,17 +13,17 @@ use Rattle.muf_model.specs.declared.fault.MufFault.{MufFault}
 use Rattle.muf_model.specs.declared.fault.MufFault.TheVariants.{PreemptTooLong, TooManyUnits}
 use Rattle.muf_model.specs.declared.prims.Primitive.{Primitive as Name}
 use Rattle.muf_model.specs.Source.{Program, Source}
-use Rattle.muf_model.specs.Unit.{Outcome, goes, ended, faulted, asks, stuck, unit, units, and_then, fault}
+use Rattle.muf_model.specs.Unit.{Outcome, goes, ended, faulted, asks, stuck, unit, units, and_then}
 use Rattle.muf_model.specs.Chains.{count, taken, programs_of, Keeps}
 use Rattle.muf_model.proofs.Chains.{unit_keeps}
 use Rattle.spec_prims.specs.Asking.{numbered}
 use Rattle.muck_queue.specs.declared.process.Process.{Process}
-use Rattle.muck_queue.specs.Queues.{Queue, process, standing, on_process, at_state, counted, more, is_preempt}
+use Rattle.muck_queue.specs.Queues.{process, standing, on_process, at_state, counted, more, is_preempt}
 use Rattle.muck_queue.proofs.Changed.{changed_twice, process_changed}
 use Rattle.muck_queue.proofs.Standing.{standing_twice, without_standing, standing_same}
 use Rattle.spec_events.specs.declared.starting.Agent.{Agent}
 use Rattle.spec_events.specs.World.{World, on_live, on_queue}
-use Rattle.spec_events.specs.Slices.{acting, callers, program_error, process_done, row_done, queued, deed, stands_at, ended_one, broken, out, one_counted, Turn, on, rest, over, went, after_deed, unit_done, limit_fault, are_spent, units_most, within_limit, turn, world_of, unit_of, agent_of, seat_of, seat, then_more, is_through, next_unit, run_of, last_world}
+use Rattle.spec_events.specs.Slices.{acting, program_error, process_done, row_done, queued, deed, stands_at, ended_one, broken, out, one_counted, Turn, on, rest, over, went, after_deed, unit_done, limit_fault, are_spent, units_most, within_limit, turn, world_of, agent_of, seat_of, seat, then_more, is_through, next_unit, run_of, last_world}
 use Rattle.spec_events.specs.Stints.{many_counted, counting, unbroken, unspent, allowed}
 
 -- the world after the units of a process that has so many left

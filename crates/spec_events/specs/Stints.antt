@@ -1,5 +1,5 @@
 -- Units that are taken at once.
-use Rattle.std.specs.Prelude.{ℕ, suc, ◌-◌, min, ℤ, if◌then◌else◌, Option}
+use Rattle.std.specs.Prelude.{ℕ, suc, ◌-◌, min, ℤ, if◌then◌else◌}
 use Rattle.std.specs.Option.{option_map_or}
 use Rattle.muck_model.specs.declared.tune.Tune.{Tune}
 use Rattle.muck_queue.specs.Queues.{on_process, counted, more, is_preempt}

@@ -1,5 +1,5 @@
 -- Which processes are there behind a change of a list of them.
-use Rattle.std.proofs.Common.{◌≡◌, ℤ, Bool, true, false, cond, List, [], ◌∷◌, refl, sym, ap, subst, Option, Some, None, ◌⊎◌, inl, inr}
+use Rattle.std.proofs.Common.{◌≡◌, ℤ, Bool, true, false, cond, List, [], ◌∷◌, refl, sym, subst, Option, Some, None, ◌⊎◌, inl, inr}
 use Rattle.std.specs.Prelude.{find}
 use Rattle.std.specs.Ordering.{int_eq}
 use Rattle.muck_queue.specs.declared.process.Process.{Process}

@@ -1,5 +1,5 @@
 -- What the primitives of processes do.
-use Rattle.std.specs.Prelude.{ℕ, ◌+◌, ◌/◌, min, ℤ, pos, negsuc, Bool, true, false, ◌||◌, nat_lt, nat_le, int_lt, is_some, is_none, if◌then◌else◌, List, [], ◌∷◌, ◌++◌, length, take, drop, codes, Option, Some, None}
+use Rattle.std.specs.Prelude.{ℕ, ◌+◌, ◌/◌, min, ℤ, pos, negsuc, Bool, true, false, ◌||◌, nat_lt, nat_le, is_some, is_none, if◌then◌else◌, List, [], ◌∷◌, ◌++◌, length, take, drop, codes, Option, Some, None}
 use Rattle.std.specs.Int.{w32, cast_signed}
 use Rattle.std.specs.Option.{option_map_or}
 use Rattle.std.specs.Ordering.{int_eq}
@@ -7,7 +7,6 @@ use Rattle.muck_model.specs.declared.dbref.Dbref.{Dbref}
 use Rattle.spec_live.specs.Objects.{Entry, is_program, object_at}
 use Rattle.spec_live.specs.Lives.{Live, draw, random_word}
 use Rattle.spec_rights.specs.declared.act.Actor.{Actor}
-use Rattle.spec_rights.specs.declared.act.Act.{Act}
 use Rattle.spec_rights.specs.declared.act.Act.TheVariants.{EndProcess, Call as CallAct}
 use Rattle.spec_rights.specs.Verdict.{verdict}
 use Rattle.muf_model.specs.declared.fault.MufFault.{MufFault}

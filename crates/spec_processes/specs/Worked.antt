@@ -1,5 +1,5 @@
 -- Worked rows of the primitives of processes, which the checker computes.
-use Rattle.std.specs.Prelude.{◌≡◌, ℕ, ℤ, pos, negsuc, List, [], ◌∷◌, codes, Option, Some, None, refl}
+use Rattle.std.specs.Prelude.{◌≡◌, ℕ, pos, negsuc, List, [], ◌∷◌, codes, Option, Some, None, refl}
 use Rattle.spec_live.specs.Objects.{dbref_of, object_at, number_in, kind_in, object_in}
 use Rattle.spec_live.specs.Boards.{first_tune, early_board}
 use Rattle.spec_rights.specs.Levels.{owner_at}

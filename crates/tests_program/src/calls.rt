@@ -31,10 +31,33 @@ const PROCESSES: &str = r#"1> connect One potrzebie / 1< Room Zero(#0R) / 1< Con
 2> q / 2< Editor exited. / 1: send 2 run / 2: exec / 1: send 1 run / 1: exec / 1: send 3 run / 3: exec / 3< Too many processes. / 4: claim
 5: run / 1< hello / 2< hello / 3< hello / 0: claim"#;
 
+// Who may idle: the porter and the workers where no line and no process waits for them, and the dumper where no dump is due. A process
+// that is claimed and ends is lost, and one that waits for time to pass is tied to its connection meanwhile.
+const WAITS: &str =
+    r#"1: idle 0 / 1: idle 8 / 1: idle 9 / 1: wait 1 / 0: idle 9 / 1> connect One potrzebie / 1< Room Zero(#0R) / 1< Contents:
+1< Two(#4PM2) / 1< Bob(#3P) / 1< Ann(#2PB) / 1> @program naps / 1< Created naps(#5FM3). / 1< Entering editor. / 1> i
+1< Entering insert mode. / 1> : main pop 2 sleep #1 "up" notify ; / 1> . / 1< Exiting insert mode. / 1> q / 1< Editor exited.
+1: send 1 @run naps= / 0: idle 0 / 0: idle 3 / 1: exec / 0: idle 0 / 1: tied 1 / 0: tied 2 / 1: run / 1: idle 0 / 1: tied 1 / 0: exec
+1: send 1 "hi / 0: exec / 1: idle 0 / 1: wait 1 / 0: claim / 1: wait 1 / 0: idle 8 / 1: run / 1< up / 0: tied 1 / 0: idle 0
+1: exec / 1< You say, "hi" / 1: send 1 @run naps= / 1: exec / 1: lose 1 / 0: lose 1 / 0: run / 1: idle 0 / 1: died / 0: idle 0 / 0: wait 1"#;
+
+// KILL and QUEUE by a program of another player, of level 3: a rule denies it. It may end itself.
+const ENDS: &str =
+    r#"1> connect One potrzebie / 1< Room Zero(#0R) / 1< Contents: / 1< Two(#4PM2) / 1< Bob(#3P) / 1< Ann(#2PB)
+1> @program stays / 1< Created stays(#5FM3). / 1< Entering editor. / 1> i / 1< Entering insert mode. / 1> : main background pop 9 sleep ;
+1> . / 1< Exiting insert mode. / 1> q / 1< Editor exited. / 1> @run stays= / 1> @set *Two=M3 / 1< Flag set.
+4> connect Two Two / 1< Two has connected. / 4< Room Zero / 4< Contents: / 4< Bob / 4< Ann / 4< One
+4> @program ends / 4< Created ends(#6FM3). / 4< Entering editor. / 4> i / 4< Entering insert mode. / 4> : tell me @ swap notify ;
+4> : main pop 1 1 try kill catch tell endcatch 1 #5 "x" 3 try queue catch tell endcatch "end" tell pid kill pop "not shown" tell ;
+4> . / 4< Exiting insert mode. / 4> q / 4< Editor exited.
+4> @run ends= / 4< Permission denied (P23). / 4< Permission denied (P24). / 4< end"#;
+
 #[test]
 fn answers(rt: HostRuntime) -> Result<(), Fail> {
     assert_eq!(rt; first_wrong(rt.alloc(), CONNECTIONS)?, None);
     assert_eq!(rt; first_wrong(rt.alloc(), PROCESSES)?, None);
+    assert_eq!(rt; first_wrong(rt.alloc(), WAITS)?, None);
+    assert_eq!(rt; first_wrong(rt.alloc(), ENDS)?, None);
     Ok(())
 }
 

@@ -3,7 +3,7 @@
 // taken, and a connection that is leaving goes. A row `3: exec` is a call behind its answer. Then comes what each is sent.
 use crate::close;
 use muck_db::{Db, Persisted};
-use muck_machine::World;
+use muck_machine::{Sliced, World};
 use muck_model::{Dbref, Flags, Kind, Line, NoMemory, Tune};
 use muck_script::{farewell_text, lines_text, settle};
 use spec_commands::{cut_word, trim};
@@ -11,11 +11,11 @@ use spec_live::BUILDER;
 use std::alloc::Global;
 use std::test::Fail;
 
-// A player may have two processes, and a run 100 units.
+// A player may have two processes, and one of level 2 may take 100 units.
 const TUNE: Tune = Tune {
-    instr_slice: 1,
-    preempt_units: 1,
-    m1_units: 1,
+    instr_slice: 100,
+    preempt_units: 100,
+    m1_units: 100,
     m2_units: 100,
     process_limit: 3,
     player_processes: 2,
@@ -38,13 +38,35 @@ fn town(alloc: Global) -> Result<World, Fail> {
     Ok(World::boot(alloc, from, 1_000_000, 5)?)
 }
 
-// The process that is to go on runs, as another party than the porter has it; answers its number, or 0.
+// The process that is to go on runs for a slice, as another party than the porter has it; answers its number, or 0.
 fn run(world: &mut World) -> Result<u32, NoMemory> {
     let Some(pid) = world.claim(3) else {
         return Ok(0);
     };
     world.slice(3, pid)?;
     Ok(pid.unsigned_abs())
+}
+
+// The process that is to go on is claimed, and before it runs the connection goes: whether it is lost then.
+fn lose(world: &mut World, d: u32) -> Result<bool, NoMemory> {
+    let Some(pid) = world.claim(3) else {
+        return Ok(false);
+    };
+    close(world, d)?;
+    match world.slice(3, pid)? {
+        Sliced::Ran => Ok(false),
+        Sliced::Lost => Ok(true),
+    }
+}
+
+// It is so many seconds later, where the world lives.
+fn wait(world: &mut World, seconds: u32) -> bool {
+    if world.is_dead() {
+        return false;
+    }
+    let then = world.now().saturating_add(u64::from(seconds));
+    world.moment(then);
+    true
 }
 
 // The answer of a call: a number, or 1 for yes and 0 for no.
@@ -67,6 +89,10 @@ fn call(alloc: Global, world: &mut World, row: &[u8]) -> Result<u32, Fail> {
         b"exec" => return Ok(world.exec(0)?.unwrap_or(0)),
         b"claim" => return Ok(world.claim(3).map_or(0, i32::unsigned_abs)),
         b"run" => return Ok(run(world)?),
+        b"lose" => lose(world, d)?,
+        b"wait" => wait(world, d),
+        b"idle" => world.idle(d as u8),
+        b"tied" => world.tied(d),
         b"settle" => return Ok(settle(world)?),
         _ => return Err(Fail::new("a row is no call")),
     };

@@ -62,7 +62,7 @@ impl From<NoMemory> for DeedFault {
 
 impl State {
     /// Does the shared primitive that comes next in a process.
-    #[tactic(auto, using(crate::proofs::Deeds::process_deed, crate::proofs::Deeds::row_deed))]
+    #[tactic(auto, unfolding(spec_events::specs::Slices::deed))]
     pub fn do_deed(
         &mut self,
         pid: i32,

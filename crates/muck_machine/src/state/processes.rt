@@ -31,6 +31,7 @@ use std::alloc::Global;
 impl State {
     /// A primitive of processes: the world, the processes and the frame of its own one are lent to it, and what it asks for beyond
     /// these is done.
+    #[tactic(auto, unfolding(spec_events::specs::Slices::process_done))]
     pub fn do_process(
         &mut self,
         pid: i32,
@@ -55,11 +56,13 @@ impl State {
             Ok(After::Call { program, word }) => {
                 self.do_call(actor, Running::rejoin(programs, frame), program, word)
             }
-            Ok(After::Queue {
-                program,
-                delay,
-                argument,
-            }) => {
+            Ok(
+                After::Queue {
+                    program,
+                    delay,
+                    argument,
+                },
+            ) => {
                 let call = queued_call(self.alloc, actor.player, program, &argument)?;
                 self.do_queue(call, delay, Running::rejoin(programs, frame))
             }
@@ -84,7 +87,6 @@ impl State {
     }
 
     // The row of a primitive of processes: objects, board and processes are lent to it.
-    #[tactic(auto, using(crate::proofs::Processes::process_applied))]
     fn apply_process(
         &mut self,
         prim: Prim,
@@ -128,6 +130,7 @@ impl State {
 
     // QUEUE: a program is started in the background, so many seconds later; its items, which stand on the stack still, give way to the
     // number of the process.
+    #[tactic(auto, unfolding(spec_events::specs::Slices::queued))]
     fn do_queue(&mut self, call: Call, delay: u32, running: Running) -> Result<Done, NoMemory>
         requires at { IsAtPrimitive running.now }
         requires items { 3 ≤ length running.stack }
@@ -151,7 +154,12 @@ impl State {
 }
 
 // The child of a process, which stands at this state with a 0.
-fn child_of(alloc: Global, moment: u64, parent: &Process, running: &Running) -> Result<Process, NoMemory>
+fn child_of(
+    alloc: Global,
+    moment: u64,
+    parent: &Process,
+    running: &Running,
+) -> Result<Process, NoMemory>
     ensures { IfOk result (λ child. child ≡ child_of moment (handed (int (pos 0)) running.now) parent.now) }
 {
     let mut state = running.copy(alloc)?;
@@ -174,7 +182,12 @@ fn child_of(alloc: Global, moment: u64, parent: &Process, running: &Running) -> 
 }
 
 // How QUEUE starts a program.
-fn queued_call(alloc: Global, player: Dbref, program: Dbref, argument: &Text) -> Result<Call, NoMemory>
+fn queued_call(
+    alloc: Global,
+    player: Dbref,
+    program: Dbref,
+    argument: &Text,
+) -> Result<Call, NoMemory>
     ensures { IfOk result (λ call. call ≡ queued_call player program.0 argument.now) }
 {
     Ok(Call {

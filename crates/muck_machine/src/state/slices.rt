@@ -90,7 +90,11 @@ impl State {
             Ran::Asking(prim, at) => {
                 self.queue.count(pid, units + 1);
                 let goes_on = self.ask(pid, agent, prim, at)?;
-                Ok(if goes_on { Some(u64::from(units) + 1) } else { None })
+                Ok(if goes_on {
+                    Some(u64::from(units) + 1)
+                } else {
+                    None
+                })
             }
             Ran::Ended => {
                 self.queue.kill(pid);

@@ -1,5 +1,6 @@
 // What a turn chooses.
 ghost use Rattle.std.specs.Prelude.{◌≡◌, find, option_copied};
+ghost use Rattle.std.specs.List.{list_any};
 ghost use Rattle.spec_events.specs.Steps.{has_due, has_line, is_dump_due, is_free, may_idle};
 
 use crate::state::State;
@@ -38,7 +39,14 @@ impl State {
     fn has_line(&self) -> bool
         ensures { result ≡ has_line self.now }
     {
-        self.board.connections().iter().any(|c| self.is_free(c)) && !self.stopping
+        self.is_any_free() && !self.stopping
+    }
+
+    // Whether a line waits on some connection that may be done.
+    fn is_any_free(&self) -> bool
+        ensures { result ≡ list_any (is_free self.now) self.now.live.board.connections }
+    {
+        self.board.connections().iter().any(|c| self.is_free(c))
     }
 
     // Whether a process may be claimed.

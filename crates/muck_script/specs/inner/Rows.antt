@@ -2,7 +2,7 @@
 use Rattle.std.specs.Prelude.{◌≡◌, [], ◌∷◌, ◌++◌, refl, codes, Some, None, Ok, Err, replicate}
 use Rattle.std.specs.Fmt.{digits}
 use Rattle.muck_model.specs.Decimal.{decimal_of}
-use Rattle.muck_script.specs.declared.act.Act.TheVariants.{Nothing, Open, Send}
+use Rattle.muck_script.specs.declared.act.Act.TheVariants.{Nothing, Open, Send, Close, Wait}
 use Rattle.muck_script.specs.Lines.{lines_of}
 use Rattle.spec_live.specs.Output.{sent_lines, queue_most, bytes_of, lines_bytes, line_sent, lines_sent, sent, taken, lines_taken}
 use Rattle.spec_live.specs.Boards.{early_board, opened, closed, line_added, bytes_taken, told_one, leaving_one}
@@ -14,7 +14,7 @@ use Rattle.muck_queue.specs.Queues.{empty_queue, next_due, is_tied, ended_tied}
 use Rattle.spec_events.specs.Lines.{done}
 use Rattle.spec_events.specs.Steps.{is_lawful, effect, next_ready, next_process}
 use Rattle.muck_script.specs.Script.{act_of, script_of, script_most}
-use Rattle.muck_script.specs.Story.{next_turn, turns, served, line_story, told, transcript}
+use Rattle.muck_script.specs.Story.{next_turn, turns, served, line_story, later, told, transcript}
 
 lines_row : lines_of (97 ∷ 10 ∷ 10 ∷ 98 ∷ []) ≡ (97 ∷ []) ∷ [] ∷ (98 ∷ []) ∷ []
 lines_row = refl
@@ -86,6 +86,34 @@ send_long_row : act_of (codes "send 2 " ++ replicate 2049 97) ≡ None
 unfolding act_of decimal_of
 send_long_row = refl
 
+close_row : act_of (codes "close 256") ≡ Some (Close 256)
+unfolding act_of decimal_of
+close_row = refl
+
+close_zero_row : act_of (codes "close 0") ≡ None
+unfolding act_of decimal_of
+close_zero_row = refl
+
+wait_row : act_of (codes "wait 86400") ≡ Some (Wait 86400)
+unfolding act_of decimal_of
+wait_row = refl
+
+wait_zero_row : act_of (codes "wait 0") ≡ Some (Wait 0)
+unfolding act_of decimal_of
+wait_zero_row = refl
+
+wait_above_row : act_of (codes "wait 86401") ≡ None
+unfolding act_of decimal_of
+wait_above_row = refl
+
+wait_leading_row : act_of (codes "wait 01") ≡ None
+unfolding act_of decimal_of
+wait_leading_row = refl
+
+wait_what_row : act_of (codes "wait") ≡ None
+unfolding act_of decimal_of
+wait_what_row = refl
+
 other_row : act_of (codes "OPEN 1") ≡ None
 unfolding act_of
 other_row = refl
@@ -104,3 +132,17 @@ quit_row : transcript (Open 1 ∷ Send 1 (codes "quit") ∷ []) [] starting
     ≡ codes "1< Use: connect NAME PASSWORD, WHO or QUIT." ++ 10 ∷ codes "1< Come back later!" ++ 10 ∷ codes "1 closed" ++ 10 ∷ []
 unfolding starting booted early_board opened closed line_added bytes_taken told_one leaving_one followed reading either unchanged tell leave goodbye welcome quit waits done parted empty_queue next_due is_tied ended_tied gone_away bytes_of lines_bytes line_sent lines_sent sent taken lines_taken is_lawful effect next_ready next_process next_turn at_login sent_lines queue_most turns served line_story told digits
 quit_row = refl
+
+-- nothing is written of a connection that the script closes, nor where there is none, nor of time that passes
+closed_row : transcript (Open 1 ∷ Close 1 ∷ Close 1 ∷ Wait 5 ∷ []) [] starting ≡ codes "1< Use: connect NAME PASSWORD, WHO or QUIT." ++ 10 ∷ []
+unfolding starting booted early_board opened closed line_added bytes_taken told_one leaving_one followed reading either unchanged tell leave goodbye welcome quit waits done parted empty_queue next_due is_tied ended_tied gone_away bytes_of lines_bytes line_sent lines_sent sent taken lines_taken is_lawful effect next_ready next_process next_turn at_login sent_lines queue_most turns served line_story told digits
+closed_row = refl
+
+-- it is so many seconds later, as far as seconds go
+later_row : later 5 (record starting { moment = 7 }) ≡ 12
+unfolding starting booted
+later_row = refl
+
+last_row : later 5 (record starting { moment = 18446744073709551613 }) ≡ 18446744073709551615
+unfolding starting booted
+last_row = refl

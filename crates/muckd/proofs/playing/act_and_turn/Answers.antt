@@ -1,14 +1,13 @@
-use Rattle.std.proofs.Common.{None}
 use Rattle.muckd.proofs.Parts.{breaks_first}
 use Rattle.muck_script.specs.Story.{acted, turns, turns_most, plain}
 use Rattle.muckd.proofs.Exits.{second_part}
 use Rattle.muckd.proofs.playing.act_and_turn.Goals as goal
 
 pub returns-in-Ok-clause-plays : goal.returns-in-Ok-clause-plays
-returns-in-Ok-clause-plays c = λ o. second_part (plain (acted c.args.asked.now)) (plain (turns turns_most)) _ _ _ _ _ _ c.turn.result (c.in-Ok.ensures.plays o) (c.turn.ensures.plays o)
+returns-in-Ok-clause-plays g c = second_part (plain (acted c.args.asked.now)) (plain (turns turns_most)) _ _ _ _ _ _ c.turn.result c.in-Ok.ensures.plays (c.turn.ensures.plays _)
 
 pub returns-in-Err-clause-plays : goal.returns-in-Err-clause-plays
-returns-in-Err-clause-plays c = λ o. breaks_first (plain (acted c.args.asked.now)) (plain (turns turns_most)) _ _ _ _ _ (c.in-Err.ensures.plays o)
+returns-in-Err-clause-plays g c = breaks_first (plain (acted c.args.asked.now)) (plain (turns turns_most)) _ _ _ _ _ c.in-Err.ensures.plays
 
 pub turn-requires : goal.turn-requires
-turn-requires c = (c.in-Ok.ensures.plays None).alive
+turn-requires g c = c.in-Ok.ensures.plays.alive

@@ -1,0 +1,22 @@
+use Rattle.std.proofs.Common.{◌≡◌, true, false, sym, ◌∙◌}
+use Rattle.spec_events.specs.World.{is_leaving}
+use Rattle.spec_events.specs.Steps.{is_lawful}
+use Rattle.spec_events.specs.Histories.{now, by_porter}
+use Rattle.muck_model.specs.declared.event.Event.TheVariants.{Closed}
+use Rattle.muckd.proofs.Acts.{closed_where, plays_close, plays_no_close, plays_parting}
+use Rattle.muckd.proofs.playing.close.Goals as goal
+
+pub returns-then-leaving-clause-plays : goal.returns-then-leaving-clause-plays
+returns-then-leaving-clause-plays g c =
+    plays_parting _ _ _ _ c.part.result _ c.requires (sym (c.leaving.ensures c.requires) ∙ c.if-leaving.true) c.part.ensures.plays
+
+pub returns-then-not-connected-clause-plays : goal.returns-then-not-connected-clause-plays
+returns-then-not-connected-clause-plays g c = plays_no_close _ _ _ c.requires (sym (c.connected.ensures c.requires) ∙ c.if-not-connected.true)
+
+pub closed-requires : goal.closed-requires
+closed-requires g c = closed_where _ _ c.requires ∙ sym (c.connected.ensures c.requires) ∙ c.if-not-connected.false
+
+pub returns-in-Ok-clause-plays : goal.returns-in-Ok-clause-plays
+returns-in-Ok-clause-plays g c =
+    plays_close _ _ _ _ c.requires (sym (c.leaving.ensures c.requires) ∙ c.if-leaving.false)
+    (closed_where _ _ c.requires ∙ sym (c.connected.ensures c.requires) ∙ c.if-not-connected.false) c.in-Ok.ensures.ok
