@@ -1,6 +1,6 @@
 -- What primitives of processes do, by what their rows say.
-use Rattle.std.proofs.Common.{◌≡◌, ℕ, ◌+◌, ◌-◌, ◌<◌, ◌≤◌, subst, List, ◌∷◌, drop, length, Bool, true, false, Option, Some, None, refl, sym, ap, ◌∙◌, arith}
-use Rattle.std.specs.Prelude.{ℤ, pos, negsuc, is_some, IfOk, Result, Ok, Err}
+use Rattle.std.proofs.Common.{◌≡◌, ℕ, ◌+◌, ◌-◌, ◌<◌, ◌≤◌, subst, List, [], ◌∷◌, drop, length, Bool, true, false, Option, Some, None, refl, sym, ap, ◌∙◌, arith}
+use Rattle.std.specs.Prelude.{ℤ, pos, negsuc, is_some, slice_get, IfOk, Result, Ok, Err}
 use Rattle.std.proofs.lemmas.Bool.{cond-true, lt-ltb}
 use Rattle.std.proofs.lemmas.List.{length-map}
 use Rattle.muck_model.specs.declared.dbref.Dbref.{Dbref}
@@ -36,7 +36,7 @@ use Rattle.spec_events.specs.declared.starting.Call.{Call as Started}
 use Rattle.spec_events.specs.declared.starting.Manner.{Manner}
 use Rattle.spec_events.specs.Starting.{begun, joined}
 use Rattle.spec_events.specs.World.{World}
-use Rattle.spec_events.specs.Slices.{Deed, does, rests, fails, acting, behind, child_joined, child_of, effected, forked, place_in, process_done, program_called, queued, with_number, with_process}
+use Rattle.spec_events.specs.Slices.{Deed, does, rests, fails, acting, behind, child_joined, child_of, effected, forked, nearest, place_in, process_done, program_called, queued, with_number, with_process}
 use Rattle.muck_machine.specs.declared.state.deeds.Done.{Done}
 use Rattle.muck_machine.specs.declared.state.deeds.Done.TheVariants.{Does as DoneDoes, Rests as DoneRests, Fails as DoneFails}
 use Rattle.muck_machine.specs.declared.state.deeds.DeedFault.{DeedFault}
@@ -81,6 +81,11 @@ numbered_so stack s (w, Ok m) v n t room is same at =
     ap (λ k. does (behind (int k ∷ stack) s) w) (sym same) ∙ ap (does (behind (int n ∷ stack) s)) (sym is) ∙ ap (λ y. does y v) (sym (at ∙ handed_behind (int n) stack s room))
 numbered_so stack s (w, Err f) v n t room is same at =
     ap (λ k. does (behind (int k ∷ stack) s) w) (sym same) ∙ ap (does (behind (int n ∷ stack) s)) (sym is) ∙ ap (λ y. does y v) (sym (at ∙ handed_behind (int n) stack s room))
+
+-- the program that called the running one is the first of them
+pub first_nearest : (ds : List Dbref) → slice_get ds 0 ≡ nearest ds
+first_nearest [] = refl
+first_nearest (d ∷ ds) = refl
 
 -- what is said of what was done, so is what follows from it
 pub if_done : {E : Type 0} (r : Result Done E) (P Q : Done → Type 0) → ((d : Done) → P d → Q d) → IfOk r P → IfOk r Q
@@ -219,9 +224,10 @@ module _ (pid : ℤ) (x : Agent) (p : Name) (a : Actor) (place : Place) (es : Li
   fork_by (forks stack) t n u (stack_is, room, is) so k = ap (forked pid stack s) (sym is) ∙ k s stack (behind_with stack t stack_is so) room
   fork_by _ t n u h so k = absurd h
 
-  pub fork_done : (t n : Source) (u : World) → r ≡ Ok Fork → IsBehind t → ((q : Source) (stack : List Datum) → t ≡ behind stack q → length stack < 1024 → forked pid stack q v ≡ does n u) → process_done pid x p s w ≡ does n u
+  pub fork_done : (m : ℤ) (t n : Source) (u : World) → m ≡ pid → r ≡ Ok Fork → IsBehind t → ((q : Source) (stack : List Datum) → t ≡ behind stack q → length stack < 1024 → forked m stack q v ≡ does n u) → process_done pid x p s w ≡ does n u
   unfolding process_done
-  fork_done t n u e so k = fork_by effect t n u (applied_as (Ok Fork) e) so k
+  fork_done m t n u same e so k =
+      fork_by effect t n u (applied_as (Ok Fork) e) so (subst (λ y. (q : Source) (stack : List Datum) → t ≡ behind stack q → length stack < 1024 → forked y stack q v ≡ does n u) same k)
 
   -- where the process stands at it still
 
