@@ -92,6 +92,10 @@ pub if_done : {E : Type 0} (r : Result Done E) (P Q : Done → Type 0) → ((d :
 if_done (Ok d) P Q k h = k d h
 if_done (Err e) P Q k h = h
 
+-- what holds of a value holds of the same one
+pub moved : {A : Type 0} (P : A → Type 0) (x y : A) → P x → x ≡ y → P y
+moved P x y h e = subst P e h
+
 -- a child that joined, or couldn't
 pub joined_child : (r : World × Result ℤ MufFault) (v : World) (n : ℤ) → Begins r v (Ok n) → (n ≡ child_number r) × (v ≡ r.0)
 joined_child (w, Ok m) v n h = h

@@ -5,7 +5,7 @@ use Rattle.spec_events.specs.Slices.{place_in, queued}
 use Rattle.muck_machine.specs.Deeds.{DoneAs}
 use Rattle.muf_frame.specs.declared.fault.PrimFault.TheVariants.{Fault}
 use Rattle.prim_proc.specs.declared.after.After.TheVariants.{Go, Wait, Fork, Call, Queue}
-use Rattle.muck_machine.proofs.Processes.{go_done, wait_done, fork_there, fork_done, call_at, call_items, call_done, queue_rejoins, queue_at, queue_items, queue_done, refused_done, if_done}
+use Rattle.muck_machine.proofs.Processes.{go_done, wait_done, fork_there, fork_done, call_at, call_items, call_done, queue_rejoins, queue_at, queue_items, queue_done, refused_done, if_done, moved}
 use Rattle.muck_machine.proofs.state.State.do_process.Goals as goal
 
 pub returns-in-Ok-Go : goal.returns-in-Ok-Go
@@ -74,10 +74,11 @@ pub returns-in_ok-call-in-Ok-Queue : goal.returns-in_ok-call-in-Ok-Queue
 returns-in_ok-call-in-Ok-Queue c =
     let is : c.apply_process.result ≡ Ok (Queue c.in-Ok-Queue.program c.in-Ok-Queue.delay c.in-Ok-Queue.argument) = search rules in
     let here : c.in_ok-place.place ≡ place_in c.args.pid c.args.running c.args.self.now = search rules in
-    if_done c.do_queue.result _ _ (λ done h. queue_done c.args.pid c.args.agent c.args.prim c.in_ok-actor.actor c.in_ok-place.place c.take_apart-programs.result.0 c.take_apart-programs.result.1 c.apply_process.new.frame c.args.self.now c.apply_process.new.self c.args.running c.apply_process.result c.in_ok-actor.ensures here c.take_apart-programs.ensures.apart c.take_apart-programs.ensures.shows c.apply_process.ensures c.in-Ok-Queue.program c.in-Ok-Queue.delay c.in-Ok-Queue.argument c.rejoin-in-Ok-Queue.result c.do_queue.new.self done c.in_ok-call-in-Ok-Queue.call is c.rejoin-in-Ok-Queue.ensures c.in_ok-call-in-Ok-Queue.ensures (λ y d argument e. subst (λ w. DoneAs (queued y (drop 3 c.rejoin-in-Ok-Queue.result.stack) d c.in-Ok-Queue.delay argument c.rejoin-in-Ok-Queue.result w) c.rejoin-in-Ok-Queue.result c.do_queue.new.self done) c.self.view_is (h y d argument e))) c.do_queue.ensures
+    if_done c.do_queue.result _ _ (λ done h. queue_done c.args.pid c.args.agent c.args.prim c.in_ok-actor.actor c.in_ok-place.place c.take_apart-programs.result.0 c.take_apart-programs.result.1 c.apply_process.new.frame c.args.self.now c.apply_process.new.self c.args.running c.apply_process.result c.in_ok-actor.ensures here c.take_apart-programs.ensures.apart c.take_apart-programs.ensures.shows c.apply_process.ensures c.in-Ok-Queue.program c.in-Ok-Queue.delay c.in-Ok-Queue.argument c.rejoin-in-Ok-Queue.result c.do_queue.new.self done c.in_ok-call-in-Ok-Queue.call is c.rejoin-in-Ok-Queue.ensures c.in_ok-call-in-Ok-Queue.ensures (λ y d argument e. moved (λ w. DoneAs (queued y (drop 3 c.rejoin-in-Ok-Queue.result.stack) d c.in-Ok-Queue.delay argument c.rejoin-in-Ok-Queue.result w) c.rejoin-in-Ok-Queue.result c.do_queue.new.self done) _ _ (h y d argument e) (search rules))) c.do_queue.ensures
 
 pub returns-in-Err-Fault : goal.returns-in-Err-Fault
 returns-in-Err-Fault c =
     let is : c.apply_process.result ≡ Err (Fault c.in-Err-Fault.fault) = search rules in
     let here : c.in_ok-place.place ≡ place_in c.args.pid c.args.running c.args.self.now = search rules in
-    refused_done c.args.pid c.args.agent c.args.prim c.in_ok-actor.actor c.in_ok-place.place c.take_apart-programs.result.0 c.take_apart-programs.result.1 c.apply_process.new.frame c.args.self.now c.apply_process.new.self c.args.running c.apply_process.result c.in_ok-actor.ensures here c.take_apart-programs.ensures.apart c.take_apart-programs.ensures.shows c.apply_process.ensures c.in-Err-Fault.fault c.rejoin-in-Err-Fault.result is c.rejoin-in-Err-Fault.ensures
+    let known = refused_done c.args.pid c.args.agent c.args.prim c.in_ok-actor.actor c.in_ok-place.place c.take_apart-programs.result.0 c.take_apart-programs.result.1 c.apply_process.new.frame c.args.self.now c.apply_process.new.self c.args.running c.apply_process.result c.in_ok-actor.ensures here c.take_apart-programs.ensures.apart c.take_apart-programs.ensures.shows c.apply_process.ensures c.in-Err-Fault.fault c.rejoin-in-Err-Fault.result is c.rejoin-in-Err-Fault.ensures in
+    (known.0, search (rules, known.1))
