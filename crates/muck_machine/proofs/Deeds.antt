@@ -245,3 +245,9 @@ dropped_behind count es f g s t apart shows e so =
     ∙ ap (λ (x : List Datum). passed (record s { stack = x; common = (flat f).common; owned = (flat f).owned })) (map_drop view count f.stack ∙ ap (drop count) shows.stack)
     ∙ ap (λ (x : List Datum). passed (record s { stack = drop count s.stack; common = x; owned = (flat f).owned })) shows.common
     ∙ ap (λ (x : List Owned). passed (record s { stack = drop count s.stack; owned = x })) shows.owned
+
+pub dropped_room : (count : ℕ) (f g : Shown) (s : Source) → Shows (flat f) s → g ≡ record f { stack = drop count f.stack } → length g.stack + count ≤ 1024 → length (drop count s.stack) + count ≤ 1024
+dropped_room count f g s shows e most =
+    let same : length (drop count s.stack) ≡ length g.stack =
+    ap (λ (x : List Datum). length (drop count x)) (sym shows.stack) ∙ ap length (sym (map_drop view count f.stack)) ∙ length-map (drop count f.stack) view ∙ ap (λ (x : Shown). length x.stack) (sym e) in
+    omega (arith, most, same)

@@ -1,6 +1,6 @@
 -- What primitives of processes do, by what their rows say.
-use Rattle.std.proofs.Common.{◌≡◌, ℕ, ◌+◌, ◌-◌, ◌<◌, ◌≤◌, subst, List, ◌∷◌, drop, length, Bool, true, false, Option, Some, None, refl, sym, ap, ◌∙◌, arith}
-use Rattle.std.specs.Prelude.{ℤ, pos, is_some, Result, Ok, Err}
+use Rattle.std.proofs.Common.{◌≡◌, ℕ, ◌+◌, ◌-◌, ◌<◌, ◌≤◌, subst, List, [], ◌∷◌, drop, length, Bool, true, false, Option, Some, None, refl, sym, ap, ◌∙◌, arith}
+use Rattle.std.specs.Prelude.{ℤ, pos, negsuc, is_some, slice_get, IfOk, Result, Ok, Err}
 use Rattle.std.proofs.lemmas.Bool.{cond-true, lt-ltb}
 use Rattle.std.proofs.lemmas.List.{length-map}
 use Rattle.muck_model.specs.declared.dbref.Dbref.{Dbref}
@@ -23,20 +23,25 @@ use Rattle.muck_perm.specs.Guards.{world_of}
 use Rattle.spec_live.specs.Lives.{Live}
 use Rattle.spec_rights.specs.declared.act.Actor.{Actor}
 use Rattle.muck_queue.specs.declared.process.Process.{Process}
+use Rattle.muck_queue.specs.declared.mode.Mode.TheVariants.{Background}
 use Rattle.muck_queue.specs.Queues.{Queue as Table, process}
 use Rattle.spec_processes.specs.declared.place.Place.{Place}
-use Rattle.spec_processes.specs.ProcessRows.{Effect, gives, waits, forks, enters, starts, refuses, processed, Doing, process_row, done_in}
+use Rattle.spec_processes.specs.ProcessRows.{Effect, gives, waits, forks, enters, starts, refuses, processed, Doing, process_row, done_in, later}
 use Rattle.prim_common.specs.Applied.{Untouched}
 use Rattle.prim_proc.specs.Applied.{Applied, HasStack, IsLeft, Unchanged, called_items}
 use Rattle.prim_proc.specs.declared.after.After.{After}
 use Rattle.prim_proc.specs.declared.after.After.TheVariants.{Go, Wait, Fork, Call, Queue}
 use Rattle.spec_events.specs.declared.starting.Agent.{Agent}
 use Rattle.spec_events.specs.declared.starting.Call.{Call as Started}
+use Rattle.spec_events.specs.declared.starting.Manner.{Manner}
+use Rattle.spec_events.specs.Starting.{begun, joined}
 use Rattle.spec_events.specs.World.{World}
-use Rattle.spec_events.specs.Slices.{Deed, does, rests, fails, acting, behind, effected, forked, place_in, process_done, program_called, queued, with_number}
+use Rattle.spec_events.specs.Slices.{Deed, does, rests, fails, acting, behind, child_joined, child_of, effected, forked, nearest, place_in, process_done, program_called, queued, with_number, with_process}
 use Rattle.muck_machine.specs.declared.state.deeds.Done.{Done}
 use Rattle.muck_machine.specs.declared.state.deeds.Done.TheVariants.{Does as DoneDoes, Rests as DoneRests, Fails as DoneFails}
-use Rattle.muck_machine.specs.Deeds.{ProcessAppliedTo, DoneAs, PassesOn, queued_call, child_number}
+use Rattle.muck_machine.specs.declared.state.deeds.DeedFault.{DeedFault}
+use Rattle.muck_machine.specs.declared.state.deeds.DeedFault.TheVariants.{Fault}
+use Rattle.muck_machine.specs.Deeds.{Begins, ProcessAppliedTo, DoneAs, PassesOn, queued_call, child_number}
 use Rattle.muck_machine.proofs.Deeds.{stack_differs, stack_behind, same_stack, same_differs}
 
 -- what a guard makes of the world that it lends, and of the processes beside it, is made of the whole world
@@ -76,6 +81,68 @@ numbered_so stack s (w, Ok m) v n t room is same at =
     ap (λ k. does (behind (int k ∷ stack) s) w) (sym same) ∙ ap (does (behind (int n ∷ stack) s)) (sym is) ∙ ap (λ y. does y v) (sym (at ∙ handed_behind (int n) stack s room))
 numbered_so stack s (w, Err f) v n t room is same at =
     ap (λ k. does (behind (int k ∷ stack) s) w) (sym same) ∙ ap (does (behind (int n ∷ stack) s)) (sym is) ∙ ap (λ y. does y v) (sym (at ∙ handed_behind (int n) stack s room))
+
+-- the program that called the running one is the first of them
+pub first_nearest : (ds : List Dbref) → slice_get ds 0 ≡ nearest ds
+first_nearest [] = refl
+first_nearest (d ∷ ds) = refl
+
+-- what is said of what was done, so is what follows from it
+pub if_done : {E : Type 0} (r : Result Done E) (P Q : Done → Type 0) → ((d : Done) → P d → Q d) → IfOk r P → IfOk r Q
+if_done (Ok d) P Q k h = k d h
+if_done (Err e) P Q k h = h
+
+-- what holds of a value holds of the same one
+pub moved : {A : Type 0} (P : A → Type 0) (x y : A) → P x → x ≡ y → P y
+moved P x y h e = subst P e h
+
+-- a child that joined, or couldn't
+pub joined_child : (r : World × Result ℤ MufFault) (v : World) (n : ℤ) → Begins r v (Ok n) → (n ≡ child_number r) × (v ≡ r.0)
+joined_child (w, Ok m) v n h = h
+joined_child (w, Err f) v n h = absurd h
+
+pub refused_child : (r : World × Result ℤ MufFault) (v : World) (f : MufFault) → Begins r v (Err (Fault f)) → (negsuc 0 ≡ child_number r) × (v ≡ r.0)
+refused_child (w, Ok m) v f h = absurd h
+refused_child (w, Err e) v f h = (refl, h.1)
+
+-- the child of a process that is there joins the others
+pub child_joins : (pid : ℤ) (p child : Process) (running t : Source) (w v : World) (n : ℤ) → Some p ≡ process pid w.queue → child ≡ child_of w.moment (handed (int (pos 0)) running) p →
+    n ≡ child_number (joined child w) → v ≡ (joined child w).0 → t ≡ handed (int n) running → (s : Source) (stack : List Datum) → running ≡ behind stack s → length stack < 1024 → forked pid stack s w ≡ does t v
+unfolding forked
+child_joins pid p child running t w v n there made number same so s stack at room =
+    let is : child ≡ child_of w.moment (handed (int (pos 0)) (behind stack s)) p = made ∙ ap (λ y. child_of w.moment (handed (int (pos 0)) y) p) at in
+    ap (λ o. child_joined o stack s w) (sym there)
+    ∙ numbered_so stack s (joined (child_of w.moment (handed (int (pos 0)) (behind stack s)) p) w) v n t room (same ∙ ap (λ y. (joined y w).0) is) (number ∙ ap (λ y. child_number (joined y w)) is) (so ∙ ap (handed (int n)) at)
+
+-- a process that QUEUE started gives its number, and one that it couldn't start the fault
+with_does : (stack : List Datum) (s t : Source) (r : World × Result ℤ MufFault) (v : World) (n : ℤ) → length stack < stack_most → Begins r v (Ok n) → t ≡ handed (int n) (behind stack s) → with_process stack s r ≡ does t v
+with_does stack s t (w, Ok m) v n room h at =
+    ap (λ k. does (behind (int k ∷ stack) s) w) (sym h.0) ∙ ap (does (behind (int n ∷ stack) s)) (sym h.1) ∙ ap (λ y. does y v) (sym (at ∙ handed_behind (int n) stack s room))
+with_does stack s t (w, Err f) v n room h at = absurd h
+
+with_fails : (stack : List Datum) (s : Source) (r : World × Result ℤ MufFault) (v : World) (f : MufFault) → Begins r v (Err (Fault f)) → with_process stack s r ≡ fails f v
+with_fails stack s (w, Ok m) v f h = absurd h
+with_fails stack s (w, Err e) v f h = ap (λ k. fails k w) (sym h.0) ∙ ap (fails f) (sym h.1)
+
+-- how it is to run
+abbrev queued_manner : ℕ → World → Manner
+queued_manner delay w = record { descr = None; mode = Background; due = later w.moment delay }
+
+begun_as : (delay : ℕ) (m : Manner) (c d : Started) (w v : World) (r q : Result ℤ DeedFault) → m ≡ queued_manner delay w → c ≡ d → Begins (begun m c w) v r → r ≡ q → Begins (begun (queued_manner delay w) d w) v q
+begun_as delay m c d w v r q manner call h is =
+    subst (λ y. Begins (begun (queued_manner delay w) d w) v y) is (subst (λ y. Begins (begun (queued_manner delay w) y w) v r) call (subst (λ y. Begins (begun y c w) v r) manner h))
+
+pub queue_does : (delay : ℕ) (m : Manner) (c : Started) (s t : Source) (w v : World) (r : Result ℤ DeedFault) (n : ℤ) → m ≡ queued_manner delay w → Begins (begun m c w) v r → r ≡ Ok n → length (drop 3 s.stack) + 3 ≤ 1024 →
+    t ≡ handed (int n) (behind (drop 3 s.stack) s) → (x : Agent) (d : ℤ) (argument : List ℕ) → c ≡ queued_call x.player d argument → queued x (drop 3 s.stack) d delay argument s w ≡ does t v
+unfolding queued
+queue_does delay m c s t w v r n manner h is most so x d argument call =
+    with_does (drop 3 s.stack) s t (begun (queued_manner delay w) (queued_call x.player d argument) w) v n (omega (arith, most)) (begun_as delay m c (queued_call x.player d argument) w v r (Ok n) manner call h is) so
+
+pub queue_fails : (delay : ℕ) (m : Manner) (c : Started) (s : Source) (w v : World) (r : Result ℤ DeedFault) (f : MufFault) → m ≡ queued_manner delay w → Begins (begun m c w) v r → r ≡ Err (Fault f) →
+    (x : Agent) (d : ℤ) (argument : List ℕ) → c ≡ queued_call x.player d argument → DoneAs (queued x (drop 3 s.stack) d delay argument s w) s v (DoneFails s f)
+unfolding queued
+queue_fails delay m c s w v r f manner h is x d argument call =
+    (refl, with_fails (drop 3 s.stack) s (begun (queued_manner delay w) (queued_call x.player d argument) w) v f (begun_as delay m c (queued_call x.player d argument) w v r (Err (Fault f)) manner call h is))
 
 -- a primitive of processes isn't used where its process isn't there
 there_in : (own : Option Process) (doing : Option Doing) (p : Name) (x : Place) (a : Actor) (locked : ℕ) (stack : List Datum) (w : Live) (q : Table) (rest : List Datum) → done_in own doing p x a locked stack w q ≡ forks rest → is_some own ≡ true
@@ -161,9 +228,10 @@ module _ (pid : ℤ) (x : Agent) (p : Name) (a : Actor) (place : Place) (es : Li
   fork_by (forks stack) t n u (stack_is, room, is) so k = ap (forked pid stack s) (sym is) ∙ k s stack (behind_with stack t stack_is so) room
   fork_by _ t n u h so k = absurd h
 
-  pub fork_done : (t n : Source) (u : World) → r ≡ Ok Fork → IsBehind t → ((q : Source) (stack : List Datum) → t ≡ behind stack q → length stack < 1024 → forked pid stack q v ≡ does n u) → process_done pid x p s w ≡ does n u
+  pub fork_done : (m : ℤ) (t n : Source) (u : World) → m ≡ pid → r ≡ Ok Fork → IsBehind t → ((q : Source) (stack : List Datum) → t ≡ behind stack q → length stack < 1024 → forked m stack q v ≡ does n u) → process_done pid x p s w ≡ does n u
   unfolding process_done
-  fork_done t n u e so k = fork_by effect t n u (applied_as (Ok Fork) e) so k
+  fork_done m t n u same e so k =
+      fork_by effect t n u (applied_as (Ok Fork) e) so (subst (λ y. (q : Source) (stack : List Datum) → t ≡ behind stack q → length stack < 1024 → forked y stack q v ≡ does n u) same k)
 
   -- where the process stands at it still
 

@@ -182,6 +182,7 @@ fn child_of(
 }
 
 // How QUEUE starts a program.
+#[tactic(auto, unfolding(spec_events::specs::Slices::queued_command))]
 fn queued_call(
     alloc: Global,
     player: Dbref,

@@ -1,4 +1,4 @@
-use Rattle.muck_machine.proofs.Deeds.{drops, dropped_passes, dropped_behind}
+use Rattle.muck_machine.proofs.Deeds.{drops, dropped_passes, dropped_behind, dropped_room}
 use Rattle.muck_machine.proofs.state.deeds.behind.Goals as goal
 
 pub drop_items-requires : goal.drop_items-requires
@@ -8,6 +8,10 @@ pub passed-requires : goal.passed-requires
 passed-requires c =
     dropped_passes c.args.items c.take_apart-programs.result.0 c.take_apart-programs.result.1 c.drop_items.new.self c.args.running c.take_apart-programs.ensures.apart c.requires.at c.drop_items.ensures.value
 
-pub returns : goal.returns
-returns c =
+pub returns-clause-state : goal.returns-clause-state
+returns-clause-state c =
     dropped_behind c.args.items c.take_apart-programs.result.0 c.take_apart-programs.result.1 c.drop_items.new.self c.args.running c.passed.result c.take_apart-programs.ensures.apart c.take_apart-programs.ensures.shows c.drop_items.ensures.value c.passed.ensures
+
+pub returns-clause-most : goal.returns-clause-most
+returns-clause-most c =
+    dropped_room c.args.items c.take_apart-programs.result.1 c.drop_items.new.self c.args.running c.take_apart-programs.ensures.shows c.drop_items.ensures.value c.drop_items.ensures.most
