@@ -341,7 +341,10 @@ impl World {
         ensures lawful { result ≡ is_lawful (now self.old) (record { party = party; event = Event.Idle }) }
         ensures step { self.new ≡ (if result then entered self.old (record { party = party; event = Event.Idle }) else self.old) }
     {
-        if self.past.dead || !self.state.may_idle(party) {
+        if self.past.dead {
+            return false;
+        }
+        if !self.state.may_idle(party) {
             return false;
         }
         self.past.enter(Entry {
