@@ -11,7 +11,7 @@ returns-in-Some c =
     let h = c.ranges.pid in
     caught_so c.args.pid c.args.player c.args.running.program.number c.args.raised c.args.running c.in-Some.caught c.args.self.now _
     (subst (Raised c.args.raised c.args.running) c.in-Some.is c.in_ok-caught.ensures)
-    (ap (λ q. state.the_view (record c.self.inside { queue = q })) (simp to_z-of_z at c.put_back.ensures) ∙ ap (stands_at c.args.pid c.in-Some.caught) c.self.view_is)
+    (c.match-raised-2.foo ∙ ap (λ q. state.the_view (record c.self.inside { queue = q })) (simp to_z-of_z at c.put_back.ensures) ∙ ap (stands_at c.args.pid c.in-Some.caught) c.self.view_is)
 
 pub returns-in_ok-end_broken-in-None : goal.returns-in_ok-end_broken-in-None
 returns-in_ok-end_broken-in-None c =
