@@ -129,12 +129,12 @@ module _ (pid : ℤ) (x : Agent) (m u : ℕ) (s : Source) (w v : World) (ran : R
       (subst (λ y. LeadsTo b v (after_deed pid x.player t (deed pid x p t y))) (is ∙ ap (λ k. many_counted k pid w) (c ∙ ap suc units_are)) h)
 
   pub asking_so : (p : Name) (t : Source) (b : Bool) (n k : ℕ) (z : World) → ran ≡ Asking p t → n ≡ suc u → z ≡ many_counted n pid w → b ≡ true → LeadsTo b v (after_deed pid x.player t (deed pid x p t z)) → k ≡ suc u → Runs pid x m s w v (Some k)
-  asking_so p t b n k z e c is goes h d =
-      let known = asking_known p t true n z e c is (subst (λ y. LeadsTo y v (after_deed pid x.player t (deed pid x p t z))) goes h) in
+  asking_so p t b n k z e c is on_it h d =
+      let known = asking_known p t true n z e c is (subst (λ y. LeadsTo y v (after_deed pid x.player t (deed pid x p t z))) on_it h) in
       (d ∙ ap suc units_are ∙ sym known.1, known.0)
 
   pub asked_so : (p : Name) (t : Source) (b : Bool) (n : ℕ) (z : World) → ran ≡ Asking p t → n ≡ suc u → z ≡ many_counted n pid w → b ≡ false → LeadsTo b v (after_deed pid x.player t (deed pid x p t z)) → Runs pid x m s w v None
-  asked_so p t b n z e c is stops h = (asking_known p t false n z e c is (subst (λ y. LeadsTo y v (after_deed pid x.player t (deed pid x p t z))) stops h)).0
+  asked_so p t b n z e c is off_it h = (asking_known p t false n z e c is (subst (λ y. LeadsTo y v (after_deed pid x.player t (deed pid x p t z))) off_it h)).0
 
   pub ended_so : ran ≡ Ended → v ≡ ended_one pid w → Runs pid x m s w v None
   ended_so e is = subst (λ y. LeadsTo false y (left_so pid x s.program.number (taken m s) (units m s) w)) (sym is) (ended_by pid x s.program.number (taken m s) w (units m s) (alike_as Ended e))

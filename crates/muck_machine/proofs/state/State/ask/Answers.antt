@@ -20,7 +20,7 @@ returns-in-Rests c =
     let h = c.ranges.pid in
     rested_so c.args.pid c.args.agent.player (deed c.args.pid c.args.agent c.args.prim c.args.running c.args.self.now) c.args.running c.in-Rests.next c.do_deed.new.self _
     (subst (λ d. DoneAs (deed c.args.pid c.args.agent c.args.prim c.args.running c.args.self.now) c.args.running c.do_deed.new.self d) c.in-Rests.is (simp to_z-of_z at c.in_ok-next.ensures))
-    (c.settle-in-Rests.ensures ∙ ap settled (ap (λ q. state.the_view (record c.self.inside { queue = q })) (simp to_z-of_z at c.put_back-in-Rests.ensures) ∙ ap (stands_at c.args.pid c.in-Rests.next) c.self.view_is))
+    (c.settle-in-Rests.ensures ∙ ap settled (ap (λ q. state.the_view (record c.self-in-Rests.inside { queue = q })) (simp to_z-of_z at c.put_back-in-Rests.ensures) ∙ ap (stands_at c.args.pid c.in-Rests.next) c.self-in-Rests.view_is))
 
 pub returns-in-Fails : goal.returns-in-Fails
 returns-in-Fails c =

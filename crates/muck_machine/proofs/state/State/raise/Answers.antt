@@ -1,4 +1,4 @@
-use Rattle.std.proofs.Common.{◌≡◌, ap, ◌∙◌, sym, subst}
+use Rattle.std.proofs.Common.{rules, ◌≡◌, ap, ◌∙◌, sym, subst}
 use Rattle.std.proofs.lemmas.Int.{to_z-of_z}
 use Rattle.muf_running.specs.Stints.{Raised}
 use Rattle.spec_events.specs.Slices.{stands_at, broken}
@@ -9,9 +9,9 @@ use Rattle.muck_machine.proofs.state.State.raise.Goals as goal
 pub returns-in-Some : goal.returns-in-Some
 returns-in-Some c =
     let h = c.ranges.pid in
+    let put : c.match-raised-2.self ≡ stands_at c.args.pid c.in-Some.caught c.args.self.now = search rules in
     caught_so c.args.pid c.args.player c.args.running.program.number c.args.raised c.args.running c.in-Some.caught c.args.self.now _
-    (subst (Raised c.args.raised c.args.running) c.in-Some.is c.in_ok-caught.ensures)
-    (ap (λ q. state.the_view (record c.self.inside { queue = q })) (simp to_z-of_z at c.put_back.ensures) ∙ ap (stands_at c.args.pid c.in-Some.caught) c.self.view_is)
+    (subst (Raised c.args.raised c.args.running) c.in-Some.is c.in_ok-caught.ensures) put
 
 pub returns-in_ok-end_broken-in-None : goal.returns-in_ok-end_broken-in-None
 returns-in_ok-end_broken-in-None c =

@@ -1,6 +1,7 @@
-use Rattle.std.proofs.Common.{◌≡◌, Some, None, arith, ap, ◌∙◌, sym}
+use Rattle.std.proofs.Common.{◌≡◌, Some, None, arith, ap, ◌∙◌, sym, subst}
 use Rattle.std.proofs.lemmas.Int.{to_z-of_z}
 use Rattle.spec_events.specs.Slices.{stands_at, broken}
+use Rattle.muck_machine.specs.Limits.{Runs}
 use Rattle.muck_machine.specs.contracts.state.State as state
 use Rattle.muck_machine.proofs.Slices.{none_so, allows_as, through_so, spent_so, goes_so, stops_so, left_by}
 use Rattle.muck_machine.proofs.state.State.stint.Goals as goal
@@ -31,14 +32,14 @@ returns-in_default-2 c =
     let h = c.ranges.pid in
     stops_so c.args.tune.now c.args.pid c.in-Some.agent c.args.left c.in-Some.running c.args.self.now _ (sym (simp to_z-of_z at c.in-Some.ensures.seat)) c.next_allowance.result
     (allows_as c.args.tune.now c.args.pid c.args.left c.in-Some.agent c.in-Some.running c.args.self.now c.lend.new.self c.in_ok-actor.actor c.next_allowance.result (simp to_z-of_z at c.lend.ensures.out) c.in_ok-actor.ensures c.next_allowance.ensures)
-    c.in-Units.most c.lend.new.self c.in-Units.is (simp to_z-of_z at c.lend.ensures.out) (simp to_z-of_z at c.in_default-2.ensures)
+    c.in-Units.most c.lend.new.self c.in-Units.is (simp to_z-of_z at c.lend.ensures.out) (subst (Runs c.args.pid c.in-Some.agent c.in-Units.most c.in-Some.running c.lend.new.self c.run.new.self) c.in_default-2.is (simp to_z-of_z at c.in_ok-units-in-Units.ensures))
 
 pub overflow_sub-result : goal.overflow_sub-result
 overflow_sub-result c =
     let h = c.ranges.pid in
     let known = left_by c.args.tune.now c.args.pid c.in-Some.agent c.args.left c.in-Some.running c.args.self.now c.lend.new.self (sym (simp to_z-of_z at c.in-Some.ensures.seat)) c.next_allowance.result
                 (allows_as c.args.tune.now c.args.pid c.args.left c.in-Some.agent c.in-Some.running c.args.self.now c.lend.new.self c.in_ok-actor.actor c.next_allowance.result (simp to_z-of_z at c.lend.ensures.out) c.in_ok-actor.ensures c.next_allowance.ensures)
-                c.in-Units.most c.in-Some-2.units c.in-Units.is c.in-Some-2.ensures.0 in
+                c.in-Units.most c.in-Some-2.units c.in-Units.is (subst (Runs c.args.pid c.in-Some.agent c.in-Units.most c.in-Some.running c.lend.new.self c.run.new.self) c.in-Some-2.is (simp to_z-of_z at c.in_ok-units-in-Units.ensures)).0 in
     known.1
 
 pub returns-in-Some-2 : goal.returns-in-Some-2
@@ -46,4 +47,4 @@ returns-in-Some-2 c =
     let h = c.ranges.pid in
     goes_so c.args.tune.now c.args.pid c.in-Some.agent c.args.left c.in-Some.running c.args.self.now _ (sym (simp to_z-of_z at c.in-Some.ensures.seat)) c.next_allowance.result
     (allows_as c.args.tune.now c.args.pid c.args.left c.in-Some.agent c.in-Some.running c.args.self.now c.lend.new.self c.in_ok-actor.actor c.next_allowance.result (simp to_z-of_z at c.lend.ensures.out) c.in_ok-actor.ensures c.next_allowance.ensures)
-    c.in-Units.most c.in-Some-2.units c.lend.new.self c.in-Units.is (simp to_z-of_z at c.lend.ensures.out) (simp to_z-of_z at c.in-Some-2.ensures)
+    c.in-Units.most c.in-Some-2.units c.lend.new.self c.in-Units.is (simp to_z-of_z at c.lend.ensures.out) (subst (Runs c.args.pid c.in-Some.agent c.in-Units.most c.in-Some.running c.lend.new.self c.run.new.self) c.in-Some-2.is (simp to_z-of_z at c.in_ok-units-in-Units.ensures))
