@@ -36,12 +36,14 @@ use Rattle.spec_events.specs.declared.starting.Call.{Call as Started}
 use Rattle.spec_events.specs.declared.starting.Manner.{Manner}
 use Rattle.spec_events.specs.Starting.{begun, joined}
 use Rattle.spec_events.specs.World.{World}
-use Rattle.spec_events.specs.Slices.{Deed, does, rests, fails, acting, behind, child_joined, child_of, effected, forked, nearest, place_in, process_done, program_called, queued, with_number, with_process}
+use Rattle.spec_events.specs.Slices.{Deed, does, rests, fails, acting, behind, child_joined, child_of, effected, form_called, forked, nearest, place_in, process_done, program_called, queued, with_number, with_process}
 use Rattle.muck_machine.specs.declared.state.deeds.Done.{Done}
 use Rattle.muck_machine.specs.declared.state.deeds.Done.TheVariants.{Does as DoneDoes, Rests as DoneRests, Fails as DoneFails}
 use Rattle.muck_machine.specs.declared.state.deeds.DeedFault.{DeedFault}
 use Rattle.muck_machine.specs.declared.state.deeds.DeedFault.TheVariants.{Fault}
-use Rattle.muck_machine.specs.Deeds.{Begins, ProcessAppliedTo, DoneAs, PassesOn, queued_call, child_number}
+use Rattle.muck_library.specs.Library.{formed}
+use Rattle.muck_machine.specs.declared.state.calls.Entrance.{Entrance}
+use Rattle.muck_machine.specs.Deeds.{Begins, Enters, ProcessAppliedTo, DoneAs, PassesOn, queued_call, child_number}
 use Rattle.muck_machine.proofs.Deeds.{stack_differs, stack_behind, same_stack, same_differs}
 
 -- what a guard makes of the world that it lends, and of the processes beside it, is made of the whole world
@@ -354,3 +356,11 @@ module _ (pid : ℤ) (x : Agent) (p : Name) (a : Actor) (place : Place) (es : Li
   refused_done h t e so =
       let known = refused_by effect h (applied_as (Err (FrameFault h)) e) in
       (at_with t known.0 so, known.1)
+
+-- CALL, by how many items it takes
+pub called_so : (a : Actor) (s : Source) (program : Dbref) (name : Option (List ℕ)) (items : ℕ) (w v : World) (r : Result Entrance DeedFault) → items ≡ called_items name →
+    Enters (form_called a (behind (drop items s.stack) s) program.0 name (formed w.live.objects program w.library) w) s v r →
+    Enters (program_called a (behind (drop (called_items name) s.stack) s) program.0 name w) s v r
+unfolding program_called
+called_so a s program name items w v r e h =
+    subst (λ n. Enters (form_called a (behind (drop n s.stack) s) program.0 name (formed w.live.objects program w.library) w) s v r) e h

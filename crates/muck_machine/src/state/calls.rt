@@ -39,7 +39,6 @@ struct Entrance {
 impl State {
     /// CALL of a program, of its last word or of the word of a name: its items, which stand on the stack still, go once the word is
     /// entered.
-    #[tactic(auto, unfolding(spec_events::specs::Slices::program_called))]
     pub fn do_call(
         &mut self,
         actor: Actor,
@@ -51,12 +50,7 @@ impl State {
         requires items { called_items name ≤ length running.stack }
         ensures { IfOk result (λ done. DoneAs (program_called actor (behind (drop (called_items name) running.stack) running) program.0 name self.old) running self.new done) }
     {
-        let asked = Request {
-            program,
-            name: name.as_ref(),
-            items: called_items(name.as_ref()),
-        };
-        match self.find_entrance(&actor, &running, asked) {
+        match self.call(&actor, &running, program, name.as_ref()) {
             Ok(entrance) => {
                 let next = enter(self.alloc, running, entrance)?;
                 Ok(Done::Does(next))
@@ -64,6 +58,26 @@ impl State {
             Err(DeedFault::Fault(fault)) => Ok(Done::Fails(running, fault)),
             Err(DeedFault::NoMemory) => Err(NoMemory),
         }
+    }
+
+    // CALL of a program, or of its word of a name: the word that is to be entered.
+    #[tactic(auto, using(crate::proofs::Processes::called_so))]
+    fn call(
+        &mut self,
+        actor: &Actor,
+        running: &Running,
+        program: Dbref,
+        name: Option<&Text>,
+    ) -> Result<Entrance, DeedFault>
+        requires { called_items (option_copied name) ≤ length running.now.stack }
+        ensures { Enters (program_called actor.now (behind (drop (called_items (option_copied name.entry)) running.now.stack) running.now) program.0 (option_copied name.entry) self.old) running.now self.new result }
+    {
+        let asked = Request {
+            program,
+            name,
+            items: called_items(name),
+        };
+        self.find_entrance(actor, running, asked)
     }
 
     // The word that is asked for, in the built form of its program, which is made where it isn't there yet.

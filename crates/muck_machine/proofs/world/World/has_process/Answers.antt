@@ -1,10 +1,10 @@
-use Rattle.std.proofs.Common.{◌∙◌, ap}
-use Rattle.std.specs.Prelude.{is_some}
-use Rattle.spec_events.specs.World.{World}
+use Rattle.std.proofs.Common.{◌≡◌, ◌∙◌, ap, to_z, of_z, w32, rules}
 use Rattle.spec_events.specs.Steps.{is_there}
-use Rattle.muck_queue.specs.Queues.{process}
+use Rattle.muck_machine.specs.contracts.state.State as state
 use Rattle.muck_machine.proofs.Keepings.{reads}
 use Rattle.muck_machine.proofs.world.World.has_process.Goals as goal
 
 pub returns : goal.returns
-returns c = reads (λ w. is_there c.args.pid w) _ c.self.inside.past _ _ c.self.invariant c.self.view_is (search ∙ ap (λ (w : World). is_some (process c.args.pid w.queue)) c.state.view_is)
+returns c =
+    let here : c.is_some.result ≡ is_there c.args.pid (state.the_view c.state.inside) = search rules in
+    reads (is_there c.args.pid) _ c.self.inside.past _ _ c.self.invariant c.self.view_is (here ∙ ap (is_there c.args.pid) c.state.view_is)
