@@ -38,8 +38,8 @@ pub overflow_sub-result : goal.overflow_sub-result
 overflow_sub-result c =
     let h = c.ranges.pid in
     let known = left_by c.args.tune.now c.args.pid c.in-Some.agent c.args.left c.in-Some.running c.args.self.now c.lend.new.self (sym (simp to_z-of_z at c.in-Some.ensures.seat)) c.next_allowance.result
-                (allows_as c.args.tune.now c.args.pid c.args.left c.in-Some.agent c.in-Some.running c.args.self.now c.lend.new.self c.in_ok-actor.actor c.next_allowance.result (simp to_z-of_z at c.lend.ensures.out) c.in_ok-actor.ensures c.next_allowance.ensures)
-                c.in-Units.most c.in-Some-2.units c.in-Units.is (subst (Runs c.args.pid c.in-Some.agent c.in-Units.most c.in-Some.running c.lend.new.self c.run.new.self) c.in-Some-2.is (simp to_z-of_z at c.in_ok-units-in-Units.ensures)).0 in
+    (allows_as c.args.tune.now c.args.pid c.args.left c.in-Some.agent c.in-Some.running c.args.self.now c.lend.new.self c.in_ok-actor.actor c.next_allowance.result (simp to_z-of_z at c.lend.ensures.out) c.in_ok-actor.ensures c.next_allowance.ensures)
+    c.in-Units.most c.in-Some-2.units c.in-Units.is (subst (Runs c.args.pid c.in-Some.agent c.in-Units.most c.in-Some.running c.lend.new.self c.run.new.self) c.in-Some-2.is (simp to_z-of_z at c.in_ok-units-in-Units.ensures)).0 in
     known.1
 
 pub returns-in-Some-2 : goal.returns-in-Some-2

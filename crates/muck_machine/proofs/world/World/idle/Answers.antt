@@ -15,7 +15,7 @@ returns-then-not-may_idle-clause-lawful c =
 pub invariant_of-self : goal.invariant_of-self
 invariant_of-self c =
     let may : is_lawful (now c.args.self.now) (record { party = c.args.party; event = Idle }) ≡ true =
-        sym (lawful_as c.self.inside.past _ _ _ (record { party = c.args.party; event = Idle }) c.self.invariant c.self.view_is c.if-self.false (sym c.if-not-may_idle.false ∙ c.may_idle.ensures)) in
+    sym (lawful_as c.self.inside.past _ _ _ (record { party = c.args.party; event = Idle }) c.self.invariant c.self.view_is c.if-self.false (sym c.if-not-may_idle.false ∙ c.may_idle.ensures)) in
     keeps_entered c.self.inside.past _ _ _ _ _ c.self.invariant c.self.view_is may refl c.enter.ensures refl
 
 pub returns-clause-lawful : goal.returns-clause-lawful

@@ -3,7 +3,6 @@ use Rattle.std.proofs.lemmas.Bool.{cond-true, cond-false}
 use Rattle.muck_model.specs.declared.event.Event.TheVariants.{Slice, Lost}
 use Rattle.spec_events.specs.Steps.{is_lawful, is_there}
 use Rattle.spec_events.specs.Histories.{now}
-use Rattle.muck_queue.specs.Queues.{released}
 use Rattle.muck_machine.specs.contracts.state.State as state
 use Rattle.muck_machine.proofs.Choosing.{runs_lawful, lost_lawful}
 use Rattle.muck_machine.proofs.Keepings.{keeps_entered, keeps_concluded}
@@ -16,7 +15,7 @@ invariant_of-self c =
     let there : is_there c.args.pid (now c.args.self.now) ≡ false = ap (λ n. is_there n (now c.args.self.now)) (sym back) ∙ sym (c.has_process.ensures c.requires.alive) ∙ c.if-not-has_process.true in
     let may = ap (λ pid. is_lawful (now c.args.self.now) (record { party = c.args.party; event = Lost pid })) back ∙ lost_lawful (now c.args.self.now) c.args.party c.args.pid c.requires.alive c.requires.claim there in
     keeps_entered c.self.inside.past _ _ _ _ _ c.self.invariant c.self.view_is may refl c.enter.ensures
-    (lost_so c.args.pid c.args.party (state.the_view c.state.inside) _ _ (c.release.ensures ∙ ap (λ n. released n _) back) c.state.view_is)
+    (lost_so (to_z w32 (of_z w32 c.args.pid)) c.args.party (state.the_view c.state.inside) _ _ c.release.ensures c.state.view_is)
 
 pub returns-then-not-has_process-clause-ran : goal.returns-then-not-has_process-clause-ran
 returns-then-not-has_process-clause-ran c =
@@ -26,6 +25,13 @@ returns-then-not-has_process-clause-ran c =
 
 pub invariant_of-self-2 : goal.invariant_of-self-2
 invariant_of-self-2 c =
+    let back : to_z w32 (of_z w32 c.args.pid) ≡ c.args.pid = search rules in
+    let there : is_there c.args.pid (now c.args.self.now) ≡ true = ap (λ n. is_there n (now c.args.self.now)) (sym back) ∙ sym (c.has_process.ensures c.requires.alive) ∙ c.if-not-has_process.false in
+    let may = ap (λ pid. is_lawful (now c.args.self.now) (record { party = c.args.party; event = Slice pid })) back ∙ runs_lawful (now c.args.self.now) c.args.party c.args.pid c.requires.alive c.requires.claim there in
+    keeps_concluded c.self.inside.past _ _ _ _ _ c.slice-done.result c.conclude.result c.self.invariant c.self.view_is may refl c.slice-done.ensures c.conclude.ensures.same c.conclude.ensures.past
+
+pub invariant_of-self-in_err-conclude : goal.invariant_of-self-in_err-conclude
+invariant_of-self-in_err-conclude c =
     let back : to_z w32 (of_z w32 c.args.pid) ≡ c.args.pid = search rules in
     let there : is_there c.args.pid (now c.args.self.now) ≡ true = ap (λ n. is_there n (now c.args.self.now)) (sym back) ∙ sym (c.has_process.ensures c.requires.alive) ∙ c.if-not-has_process.false in
     let may = ap (λ pid. is_lawful (now c.args.self.now) (record { party = c.args.party; event = Slice pid })) back ∙ runs_lawful (now c.args.self.now) c.args.party c.args.pid c.requires.alive c.requires.claim there in
