@@ -216,8 +216,7 @@ abbrev pub read_outside : ℕ → TokenKind → Known → Read
 read_outside line (token.Word name) k = declaration line (control_of name) k
 read_outside line _ k = refuse line UnknownWord
 
--- a word of the structure in a word: those that stand between words alone are no part of one, and there is nothing yet that
--- FOREACH could go over
+-- a word of the structure in a word: those that stand between words alone are no part of one
 abbrev pub controlled : ℕ → Control → Known → Read
 controlled line control.Var k = wants line wanted.Own k
 controlled line control.VarStore k = wants line (wanted.Stored line) k
@@ -230,7 +229,7 @@ controlled line control.Catch k = acts line act.Catch k
 controlled line control.EndCatch k = acts line act.EndCatch k
 controlled line control.Begin k = acts line (act.Open opening.Begin) k
 controlled line control.For k = acts line (act.Open opening.For) k
-controlled line control.ForEach k = refuse line UnknownWord
+controlled line control.ForEach k = acts line (act.Open opening.Each) k
 controlled line control.Repeat k = acts line act.Repeat k
 controlled line control.Until k = acts line act.Until k
 controlled line control.While k = acts line (act.Jump item.While) k

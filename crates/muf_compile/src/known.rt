@@ -467,7 +467,7 @@ impl Known {
             Control::EndCatch => Act::EndCatch,
             Control::Begin => Act::Open(Opening::Begin),
             Control::For => Act::Open(Opening::For),
-            Control::ForEach => return Err(CompileFault::at(line, CompileKind::UnknownWord)),
+            Control::ForEach => Act::Open(Opening::Each),
             Control::Repeat => Act::Repeat,
             Control::Until => Act::Until,
             Control::While => Act::Jump(Word::While),

@@ -8,8 +8,7 @@ use Rattle.muf_model.specs.declared.prims.Primitive.TheVariants.{ArrayMake, Arra
 use Rattle.muf_model.specs.declared.value.MapKey.{MapKey}
 use Rattle.muf_model.specs.declared.value.MapKey.TheVariants.{Number, Name}
 use Rattle.muf_model.specs.Datum.{Datum, int, text, object, items, dict, Data, no_data, datum, data_of, list_of, pairs_of, entries_of}
-use Rattle.muf_model.specs.Measures.{key_below}
-use Rattle.muf_model.specs.Entries.{key_same, key_datum, entry_of, with_entry}
+use Rattle.muf_model.specs.Entries.{key_datum, entry_of, with_entry, without, above, gathered}
 use Rattle.muf_model.specs.Values.{fits}
 use Rattle.muf_model.specs.Answer.{Deed, plain, Made, makes, rejects}
 use Rattle.muf_model.specs.Texts.{joined}
@@ -34,11 +33,25 @@ entries_in (items ds) = placed 0 ds
 entries_in (dict ps) = entries_of ps
 entries_in _ = []
 
+-- What is taken, the last on the top.
+
+abbrev pub one_held : (Datum → Made) → List Datum → Made
+one_held f (a ∷ []) = f a
+one_held f _ = rejects BadType
+
 -- of a list or dictionary and a key; no text is a key of a list
 abbrev pub at_key : (Datum → MapKey → Made) → Datum → Option MapKey → Made
 at_key f (items ds) (Some (Name t)) = rejects BadType
 at_key f a (Some k) = f a k
 at_key f a None = rejects BadType
+
+abbrev pub held_and_key : (Datum → MapKey → Made) → List Datum → Made
+held_and_key f (k ∷ a ∷ []) = at_key f a (key_of k)
+held_and_key f _ = rejects BadType
+
+abbrev pub item_held_and_key : (Datum → Datum → MapKey → Made) → List Datum → Made
+item_held_and_key f (k ∷ a ∷ x ∷ []) = at_key (f x) a (key_of k)
+item_held_and_key f _ = rejects BadType
 
 -- What is made.
 
@@ -73,25 +86,24 @@ list_made (n ∷ xs) = valued (items (data_of (reverse xs)))
 list_made [] = rejects BadType
 
 abbrev with_key : Option MapKey → Datum → List (MapKey × Datum) → List (MapKey × Datum)
-with_key (Some k) x es = with_entry k x es
-with_key None x es = es
+with_key (Some k) x ps = (k, x) ∷ ps
+with_key None x ps = ps
 
--- pairs of a key and a value, of which those nearer the top win
-abbrev pub gathered : List Datum → List (MapKey × Datum)
-gathered (x ∷ k ∷ below) = with_key (key_of k) x (gathered below)
-gathered _ = []
+-- the keys with their values, those nearest the top first
+abbrev pub paired : List Datum → List (MapKey × Datum)
+paired (x ∷ k ∷ below) = with_key (key_of k) x (paired below)
+paired _ = []
 
+-- of the pairs of one key, the one nearest the top wins
 abbrev pub dict_made : List Datum → Made
-dict_made (n ∷ xs) = valued (dict (pairs_of (gathered xs)))
+dict_made (n ∷ xs) = valued (dict (pairs_of (gathered (paired xs))))
 dict_made [] = rejects BadType
 
-abbrev pub counted : List Datum → Made
-counted (a ∷ []) = makes (int (pos (length (entries_in a))) ∷ [])
-counted _ = rejects BadType
+abbrev pub counted : Datum → Made
+counted a = makes (int (pos (length (entries_in a))) ∷ [])
 
-abbrev pub item_got : List Datum → Made
-item_got (k ∷ a ∷ []) = at_key (λ b l. found (entry_of l (entries_in b))) a (key_of k)
-item_got _ = rejects BadType
+abbrev pub item_got : Datum → MapKey → Made
+item_got a k = found (entry_of k (entries_in a))
 
 -- a value behind the first n of a list, which goes on with what stood there from m on
 abbrev put_between : ℕ → ℕ → Datum → List Datum → Made
@@ -106,53 +118,34 @@ abbrev pub inserted_in : Datum → Datum → MapKey → Made
 inserted_in x (items ds) (Number (pos n)) = put_between n n x (list_of ds)
 inserted_in x a k = set_in x a k
 
--- with a value, a list or dictionary, and a key
-abbrev pub with_item : (Datum → Datum → MapKey → Made) → List Datum → Made
-with_item f (k ∷ a ∷ x ∷ []) = at_key (f x) a (key_of k)
-with_item f _ = rejects BadType
+abbrev pub appended_to : Datum → Datum → Made
+appended_to (items ds) x = valued (items (data_of (list_of ds ++ x ∷ [])))
+appended_to _ x = rejects BadType
 
 abbrev pub appended : List Datum → Made
-appended (items ds ∷ x ∷ []) = valued (items (data_of (list_of ds ++ x ∷ [])))
+appended (a ∷ x ∷ []) = appended_to a x
 appended _ = rejects BadType
-
--- the entries without that of a key
-abbrev pub without : MapKey → List (MapKey × Datum) → List (MapKey × Datum)
-without k [] = []
-without k ((l, x) ∷ es) = if key_same k l then es else (l, x) ∷ without k es
 
 abbrev pub gone_from : Datum → MapKey → Made
 gone_from (items ds) (Number (pos n)) = makes (items (data_of (remove (list_of ds) n)) ∷ [])
 gone_from (dict ps) k = makes (dict (pairs_of (without k (entries_of ps))) ∷ [])
 gone_from a k = makes (a ∷ [])
 
-abbrev pub deleted : List Datum → Made
-deleted (k ∷ a ∷ []) = at_key gone_from a (key_of k)
-deleted _ = rejects BadType
+abbrev pub first : Datum → Made
+first a = first_key (entries_in a)
 
-abbrev pub first : List Datum → Made
-first (a ∷ []) = first_key (entries_in a)
-first _ = rejects BadType
+-- the least key above this one
+abbrev pub next : Datum → MapKey → Made
+next a k = first_key (above k (entries_in a))
 
--- the entries of greater keys
-abbrev pub above : MapKey → List (MapKey × Datum) → List (MapKey × Datum)
-above k [] = []
-above k ((l, x) ∷ es) = if key_below k l then (l, x) ∷ es else above k es
+abbrev pub keys : Datum → Made
+keys a = counted_values (map (λ e. key_datum e.0) (entries_in a))
 
-abbrev pub next : List Datum → Made
-next (k ∷ a ∷ []) = at_key (λ b l. first_key (above l (entries_in b))) a (key_of k)
-next _ = rejects BadType
+abbrev pub values : Datum → Made
+values a = counted_values (map (λ e. e.1) (entries_in a))
 
-abbrev pub keys : List Datum → Made
-keys (a ∷ []) = counted_values (map (λ e. key_datum e.0) (entries_in a))
-keys _ = rejects BadType
-
-abbrev pub values : List Datum → Made
-values (a ∷ []) = counted_values (map (λ e. e.1) (entries_in a))
-values _ = rejects BadType
-
-abbrev pub exploded : List Datum → Made
-exploded (a ∷ []) = makes (int (pos (length (entries_in a))) ∷ spread (entries_in a))
-exploded _ = rejects BadType
+abbrev pub exploded : Datum → Made
+exploded a = makes (int (pos (length (entries_in a))) ∷ spread (entries_in a))
 
 -- the text of a value that has one; an object's begins with `#`
 abbrev pub word_of : Datum → Option (List ℕ)
@@ -161,7 +154,7 @@ word_of (int i) = Some (signed_decimal i)
 word_of (object d) = Some (35 ∷ signed_decimal d)
 word_of _ = None
 
-abbrev onto : Option (List ℕ) → Option (List (List ℕ)) → Option (List (List ℕ))
+abbrev pub onto : Option (List ℕ) → Option (List (List ℕ)) → Option (List (List ℕ))
 onto (Some t) (Some ts) = Some (t ∷ ts)
 onto _ _ = None
 
@@ -174,23 +167,27 @@ abbrev joined_by : List ℕ → Option (List (List ℕ)) → Made
 joined_by s (Some ts) = textual.sized (joined s ts)
 joined_by s None = rejects BadType
 
+-- the texts of the values of a list or dictionary, with s between each two
+abbrev pub joined_held : List ℕ → Datum → Made
+joined_held s a = joined_by s (words_of (entries_in a))
+
 abbrev pub joins : List Datum → Made
-joins (text s ∷ a ∷ []) = joined_by s (words_of (entries_in a))
+joins (text s ∷ a ∷ []) = joined_held s a
 joins _ = rejects BadType
 
 abbrev pub array_row : Primitive → Option Deed
 array_row ArrayMake = Some (plain list_made)
 array_row ArrayMakeDict = Some (plain dict_made)
-array_row ArrayCount = Some (plain counted)
-array_row ArrayGetItem = Some (plain item_got)
-array_row ArraySetItem = Some (plain (with_item set_in))
-array_row ArrayInsertItem = Some (plain (with_item inserted_in))
+array_row ArrayCount = Some (plain (one_held counted))
+array_row ArrayGetItem = Some (plain (held_and_key item_got))
+array_row ArraySetItem = Some (plain (item_held_and_key set_in))
+array_row ArrayInsertItem = Some (plain (item_held_and_key inserted_in))
 array_row ArrayAppendItem = Some (plain appended)
-array_row ArrayDelItem = Some (plain deleted)
-array_row ArrayFirst = Some (plain first)
-array_row ArrayNext = Some (plain next)
-array_row ArrayKeys = Some (plain keys)
-array_row ArrayVals = Some (plain values)
-array_row ArrayExplode = Some (plain exploded)
+array_row ArrayDelItem = Some (plain (held_and_key gone_from))
+array_row ArrayFirst = Some (plain (one_held first))
+array_row ArrayNext = Some (plain (held_and_key next))
+array_row ArrayKeys = Some (plain (one_held keys))
+array_row ArrayVals = Some (plain (one_held values))
+array_row ArrayExplode = Some (plain (one_held exploded))
 array_row ArrayJoin = Some (plain joins)
 array_row _ = None
