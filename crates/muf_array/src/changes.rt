@@ -3,7 +3,7 @@ ghost use Rattle.std.specs.Prelude.{◌≡◌, ◌≤◌, ◌<◌, ◌++◌, ◌
 ghost use Rattle.std.specs.Arc.{arc_value};
 ghost use Rattle.muf_model.specs.Answer.{makes};
 ghost use Rattle.muf_model.specs.ArrayRows.{appended_to, gone_from};
-ghost use Rattle.muf_model.specs.Datum.{items, dict, data_of, pairs_of};
+ghost use Rattle.muf_model.specs.Datum.{items, dict as dictionary, data_of, pairs_of};
 ghost use Rattle.muf_model.specs.Entries.{with_entry};
 ghost use Rattle.muf_model.specs.View.{view};
 ghost use Rattle.muf_model.specs.Values.{fits};
@@ -92,7 +92,7 @@ fn change_list(change: Change, list: &mut ValueList, at: usize, item: Value) -> 
 
 // A key of a dictionary gets a value, where that fits.
 fn change_dict(dict: &mut ValueMap, key: MapKey, item: Value) -> Result<(), NoMemory>
-    requires { fits (dict (pairs_of (with_entry key (view item) dict.old))) ≡ true }
+    requires { fits (dictionary (pairs_of (with_entry key (view item) dict.old))) ≡ true }
     ensures { OnOk result (dict.new ≡ with_entry key (view item) dict.old) }
 {
     match dict.put(key, item) {
@@ -102,16 +102,16 @@ fn change_dict(dict: &mut ValueMap, key: MapKey, item: Value) -> Result<(), NoMe
     }
 }
 
-// A list that is shared by nobody yet, as a value.
-fn list_value(alloc: Global, list: ValueList) -> Result<Value, NoMemory>
+/// A list that is shared by nobody yet, as a value.
+pub(crate) fn list_value(alloc: Global, list: ValueList) -> Result<Value, NoMemory>
     ensures { IfOk result (λ v. view v ≡ items (data_of list)) }
 {
     Ok(Value::Items(Arc::new(alloc, list)?))
 }
 
-// A dictionary that is shared by nobody yet, as a value.
-fn dict_value(alloc: Global, map: ValueMap) -> Result<Value, NoMemory>
-    ensures { IfOk result (λ v. view v ≡ dict (pairs_of map)) }
+/// A dictionary that is shared by nobody yet, as a value.
+pub(crate) fn dict_value(alloc: Global, map: ValueMap) -> Result<Value, NoMemory>
+    ensures { IfOk result (λ v. view v ≡ dictionary (pairs_of map)) }
 {
     Ok(Value::Dict(Arc::new(alloc, map)?))
 }

@@ -3,6 +3,7 @@ ghost use Rattle.std.specs.Prelude.{◌≡◌, ◌≤◌, ◌<◌, Some, length,
 ghost use Rattle.muf_model.specs.ArrayRows.{entries_in};
 ghost use Rattle.muf_model.specs.Entries.{above};
 ghost use Rattle.muf_model.specs.View.{view};
+ghost use Rattle.muf_array.specs.declared.entries.Part.TheVariants as part;
 ghost use Rattle.muf_array.specs.Shapes.{part_of, values_in, is_held, listed, place_in, index_in};
 
 use muck_model::NoMemory;
@@ -55,7 +56,7 @@ pub(crate) fn value_ref(held: &Value, at: usize) -> Option<&Value>
 fn key_at(held: &Value, at: usize) -> Result<Value, NoMemory>
     requires there { at < length (entries_in (view held.now)) }
     requires small { at < 65536 }
-    ensures { IfOk result (λ v. slice_get (map (part_of Part::Key) (entries_in (view held.now))) at ≡ Some (view v)) }
+    ensures { IfOk result (λ v. slice_get (map (part_of part.Key) (entries_in (view held.now))) at ≡ Some (view v)) }
 {
     match held {
         Value::Items(_) => Ok(Value::Int(at as i32)),

@@ -1,5 +1,5 @@
 // Lists and dictionaries that are made of counted items.
-ghost use Rattle.std.specs.Prelude.{◌≡◌, ◌∷◌, [], ◌≤◌, ◌<◌, ◌+◌, ◌*◌, length, map, take, drop, reverse, IfOk, IfErr, option_map};
+ghost use Rattle.std.specs.Prelude.{ℕ, List, ◌≡◌, ◌∷◌, [], ◌≤◌, ◌<◌, ◌+◌, ◌*◌, length, map, take, drop, reverse, IfOk, IfErr, option_map};
 ghost use Rattle.muf_model.specs.Answer.{refuses, needing};
 ghost use Rattle.muf_model.specs.Needs.{counts, any, an_int, a_key};
 ghost use Rattle.muf_model.specs.ArrayRows as row;
@@ -11,12 +11,12 @@ ghost use Rattle.muf_frame.specs.Answers.{UsedOr, AppliedOr, int_at};
 ghost use Rattle.muf_array.specs.Shapes.{pairs_in};
 ghost use Rattle.muf_array.specs.Taken.{list_read, dict_read, by_top};
 
+use crate::changes::{dict_value, list_value};
 use crate::tops::{copy_at, key_at};
 use muck_model::NoMemory;
 use muf_frame::{Frame, PrimFault};
 use muf_model::{MufFault, Pair, Value, ValueList, ValueMap};
 use std::alloc::Global;
-use std::sync::Arc;
 
 // The count on the top, where so many items for each that it counts stand below it.
 #[tactic(auto, using(crate::proofs::Counting::count_steps))]
@@ -65,8 +65,8 @@ fn make_list(alloc: Global, frame: &mut Frame, n: usize) -> Result<(), PrimFault
     let items = copies(alloc, frame, n)?;
     match ValueList::of(items) {
         Some(list) => {
-            let list = Arc::new(alloc, list)?;
-            Ok(frame.give(n + 1, Value::Items(list))?)
+            let list = list_value(alloc, list)?;
+            Ok(frame.give(n + 1, list)?)
         }
         None => Err(PrimFault::Fault(MufFault::TooHeavy)),
     }
@@ -111,8 +111,8 @@ fn make_dictionary(alloc: Global, frame: &mut Frame, n: usize) -> Result<(), Pri
     };
     match ValueMap::of(alloc, pairs)? {
         Some(dict) => {
-            let dict = Arc::new(alloc, dict)?;
-            Ok(frame.give(n + n + 1, Value::Dict(dict))?)
+            let dict = dict_value(alloc, dict)?;
+            Ok(frame.give(n + n + 1, dict)?)
         }
         None => Err(PrimFault::Fault(MufFault::TooHeavy)),
     }

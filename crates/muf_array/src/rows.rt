@@ -85,7 +85,7 @@ fn list_item<'a>(list: &'a ValueList, at: i32) -> Option<&'a Value>
 
 // A copy of a value, or 0 for none.
 fn found(value: Option<&Value>) -> Result<Made, NoMemory>
-    ensures { IfOk result (λ made. row.found (option_map view (option_copied value)) ≡ made_of made) }
+    ensures { IfOk result (λ made. row.found (option_map view (option_copied value.entry)) ≡ made_of made) }
 {
     match value {
         Some(value) => Ok(Made::One(value.copy()?)),
