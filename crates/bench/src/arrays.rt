@@ -8,16 +8,22 @@ use std::alloc::Global;
 fn source_of(alloc: Global, name: &str, size: u32, rounds: u32) -> Option<String> {
     let body = match name {
         "append" => {
-            return format!(in alloc; ": main pop 0 array_make 1 {size} 1 for swap array_appenditem repeat ;").ok();
+            return format!(in alloc;
+                ": main pop 0 array_make 1 {size} 1 for swap array_appenditem repeat ;"
+            ).ok();
         }
         "set" => {
-            return format!(in alloc; ": main pop var v 0 array_make 1 {size} 1 for swap array_appenditem repeat v ! 0 {size} 1 - 1 for var! i 7 v @ i @ array_setitem v ! repeat ;").ok();
+            return format!(in alloc;
+                ": main pop var v 0 array_make 1 {size} 1 for swap array_appenditem repeat v ! 0 {size} 1 - 1 for var! i 7 v @ i @ array_setitem v ! repeat ;"
+            ).ok();
         }
         "explode" => "\",\" explode popn",
         "subst" => "\"b\" \",\" subst pop",
         _ => "\"b\" instr pop",
     };
-    format!(in alloc; ": main pop \"aaaaaaa,\" 1 {size} 1 for pop dup strcat repeat var! t 1 {rounds} 1 for pop t @ {body} repeat ;").ok()
+    format!(in alloc;
+        ": main pop \"aaaaaaa,\" 1 {size} 1 for pop dup strcat repeat var! t 1 {rounds} 1 for pop t @ {body} repeat ;"
+    ).ok()
 }
 
 /// The program `append` or `set` runs over so many items, or `explode`, `subst` or `instr` over a text that is doubled so many

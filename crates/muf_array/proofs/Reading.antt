@@ -1,6 +1,6 @@
 -- The entries of lists and dictionaries, by their places.
 use Rattle.std.proofs.Common.{◌≡◌, ◌∙◌, ap, sym, refl, ℕ, zero, suc, ◌+◌, ◌-◌, ◌<◌, ◌≤◌, List, [], ◌∷◌, ◌++◌, length, map, drop, reverse, Some, None, arith, inl, inr}
-use Rattle.std.specs.Prelude.{slice_get, option_map, ℤ, pos, negsuc, nat_lt, int_lt, int_le, if◌then◌else◌, Bool, true, false}
+use Rattle.std.specs.Prelude.{Option, Result, Ok, Err, IfOk, slice_get, option_map, ℤ, pos, negsuc, nat_lt, int_lt, int_le, if◌then◌else◌, Bool, true, false}
 use Rattle.std.proofs.lemmas.Bool.{cases_lt}
 use Rattle.std.proofs.lemmas.Bool.Decides.{nat_tests, Decides-int_eq}
 use Rattle.std.specs.Ordering.{int_eq}
@@ -46,6 +46,26 @@ list_again [] = refl
 list_again (d ∷ ds) = ap (λ r. d ∷ r) (list_again ds)
 
 pub ruleset entry_steps = (placed_length, placed_values, list_key, entries_again, dict_values, dict_keys, length-map, slice_get-map)
+
+pub mapped : {X E : Type 0} → (P Q : X → Type 0) (r : Result X E) → ((x : X) → P x → Q x) → IfOk r P → IfOk r Q
+mapped P Q (Ok x) f h = f x h
+mapped P Q (Err e) f h = h
+
+-- a pair at a place of a dictionary
+pub dict_value_at : (ps : List Pair) (es : List (MapKey × Datum)) (at : ℕ) (o : Option Pair) → map pair_view ps ≡ es → slice_get ps at ≡ o → option_map value_view o ≡ slice_get (map (λ e. e.1) (entries_of (pairs_of es))) at
+dict_value_at ps es at o e g =
+    sym (ap (λ l. slice_get (map (λ e. e.1) l) at) (entries_again es ∙ sym e)
+    ∙ ap (λ l. slice_get l at) (dict_values ps)
+    ∙ slice_get-map value_view ps at
+    ∙ ap (option_map value_view) g)
+
+pub dict_key_at : (ps : List Pair) (es : List (MapKey × Datum)) (at : ℕ) (p : Pair) (d : Datum) → map pair_view ps ≡ es → slice_get ps at ≡ Some p → d ≡ key_datum p.key → slice_get (map (λ e. key_datum e.0) (entries_of (pairs_of es))) at ≡ Some d
+dict_key_at ps es at p d e g h =
+    ap (λ l. slice_get (map (λ e. key_datum e.0) l) at) (entries_again es ∙ sym e)
+    ∙ ap (λ l. slice_get l at) (dict_keys ps)
+    ∙ slice_get-map (λ (q : Pair). key_datum q.key) ps at
+    ∙ ap (option_map (λ (q : Pair). key_datum q.key)) g
+    ∙ ap Some (sym h)
 
 -- ---- greater keys
 

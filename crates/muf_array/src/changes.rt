@@ -199,7 +199,7 @@ fn gone_value(alloc: Global, list: Arc<ValueList>, number: i32) -> Result<Value,
 }
 
 /// The value of a key goes from a list or dictionary, where nothing refuses it.
-#[tactic(auto, using(crate::proofs::Changing::change_steps))]
+#[tactic(auto, using(crate::proofs::Changing::gone_steps))]
 pub(crate) fn gone(alloc: Global, held: Value, key: MapKey) -> Result<Value, NoMemory>
     requires { refusal (at_held gone_from (view held) key) ≡ None }
     ensures { IfOk result (λ v. at_held gone_from (view held) key ≡ makes (view v ∷ [])) }

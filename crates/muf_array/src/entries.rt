@@ -7,7 +7,7 @@ ghost use Rattle.muf_array.specs.declared.entries.Part.TheVariants as part;
 ghost use Rattle.muf_array.specs.Shapes.{part_of, values_in, is_held, listed, place_in, index_in};
 
 use muck_model::NoMemory;
-use muf_model::{MapKey, Value, ValueList};
+use muf_model::{MapKey, Pair, Value, ValueList};
 
 /// A part of an entry.
 #[derive(Clone, Copy)]
@@ -36,6 +36,13 @@ pub(crate) fn count(held: &Value) -> usize
     }
 }
 
+// The pair at a place.
+fn pair_in(pairs: &[Pair], at: usize) -> Option<&Pair>
+    ensures { option_copied result ≡ slice_get pairs.now at }
+{
+    pairs.get(at)
+}
+
 /// The value at a place; `None` exactly from the count on.
 #[tactic(auto, using(crate::proofs::Reading::entry_steps))]
 pub(crate) fn value_ref(held: &Value, at: usize) -> Option<&Value>
@@ -43,7 +50,7 @@ pub(crate) fn value_ref(held: &Value, at: usize) -> Option<&Value>
 {
     match held {
         Value::Items(list) => list.get(at),
-        Value::Dict(dict) => match dict.as_slice().get(at) {
+        Value::Dict(dict) => match pair_in(dict.as_slice(), at) {
             Some(pair) => Some(&pair.value),
             None => None,
         },
@@ -60,7 +67,7 @@ fn key_at(held: &Value, at: usize) -> Result<Value, NoMemory>
 {
     match held {
         Value::Items(_) => Ok(Value::Int(at as i32)),
-        Value::Dict(dict) => match dict.as_slice().get(at) {
+        Value::Dict(dict) => match pair_in(dict.as_slice(), at) {
             Some(pair) => pair.key.to_value(),
             None => unreachable!(),
         },
