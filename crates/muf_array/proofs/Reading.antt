@@ -51,6 +51,11 @@ pub mapped : {X E : Type 0} → (P Q : X → Type 0) (r : Result X E) → ((x : 
 mapped P Q (Ok x) f h = f x h
 mapped P Q (Err e) f h = h
 
+pub is_there : (es : List (MapKey × Datum)) (at : ℕ) → at < length es → slice_get (map (λ e. e.1) es) at ≡ None → ⊥
+is_there [] at h g = omega (arith, h)
+is_there (e ∷ es) zero h g = let no : Some e.1 ≡ None = g in cc
+is_there (e ∷ es) (suc at) h g = is_there es at (omega (arith, h)) g
+
 -- a pair at a place of a dictionary
 pub dict_value_at : (ps : List Pair) (es : List (MapKey × Datum)) (at : ℕ) (o : Option Pair) → map pair_view ps ≡ es → slice_get ps at ≡ o → option_map value_view o ≡ slice_get (map (λ e. e.1) (entries_of (pairs_of es))) at
 dict_value_at ps es at o e g =

@@ -22,11 +22,11 @@ first_led s t (u ∷ ts) = ap (λ r. t ++ (s ++ r)) (first_led s u ts)
 
 pub join_more : (s : List ℕ) (at : ℕ) (ts : List (List ℕ)) (t : List ℕ) → slice_get ts at ≡ Some t → left_of s at ts ≡ (lead s at ++ t) ++ left_of s (at + 1) ts
 join_more s at [] t e = absurd (let no : None ≡ Some t = e in cc)
-join_more s zero (u ∷ ts) t e = let q : u ≡ t = cc in rw q (first_led s t ts)
-join_more s (suc at) (u ∷ ts) t e = led_more s at ts t e where
+join_more s zero (u ∷ ts) t e = let q : u ≡ t = cc in ap (λ v. joined s (v ∷ ts)) q ∙ first_led s t ts
+join_more s (suc at) (u ∷ ts) t e = let z : suc at + 1 ≡ suc (at + 1) = omega arith in rw z (led_more s at ts t e) where
   led_more : (s : List ℕ) (at : ℕ) (ts : List (List ℕ)) (t : List ℕ) → slice_get ts at ≡ Some t → led s (drop at ts) ≡ (s ++ t) ++ led s (drop (at + 1) ts)
   led_more s at [] t e = absurd (let no : None ≡ Some t = e in cc)
-  led_more s zero (u ∷ ts) t e = let q : u ≡ t = cc in rw q (sym (append_assoc s t (led s ts)))
+  led_more s zero (u ∷ ts) t e = let q : u ≡ t = cc in ap (λ v. s ++ (v ++ led s ts)) q ∙ sym (append_assoc s t (led s ts))
   led_more s (suc at) (u ∷ ts) t e = let z : suc at + 1 ≡ suc (at + 1) = omega arith in rw z (led_more s at ts t e)
 
 pub join_end : (s : List ℕ) (at : ℕ) (ts : List (List ℕ)) → slice_get ts at ≡ None → left_of s at ts ≡ []
@@ -65,14 +65,15 @@ words_end [] (suc at) e = refl
 words_end (x ∷ es) zero e = absurd (let no : Some x.1 ≡ None = e in cc)
 words_end (x ∷ es) (suc at) e = words_end es at e
 
+words_by : (o : Option (List ℕ)) (r : Option (List (List ℕ))) (ts : List (List ℕ)) → (is_some r ≡ true → r ≡ Some ts) → is_some (onto o r) ≡ true → onto o r ≡ Some (unwrap_or o [] ∷ ts)
+words_by (Some t) (Some us) ts i h = let q : Some us ≡ Some ts = i refl in let r : us ≡ ts = cc in ap (λ vs. Some (t ∷ vs)) r
+words_by (Some t) None ts i h = absurd (let no : false ≡ true = h in cc)
+words_by None r ts i h = absurd (let no : false ≡ true = h in cc)
+
 -- and then these are they
 pub words_are : (es : List (MapKey × Datum)) → is_some (words_of es) ≡ true → words_of es ≡ Some (map text_in (map (λ e. e.1) es))
 words_are [] h = refl
-words_are ((k, x) ∷ es) h = by (word_of x) (words_of es) refl refl h where
-  by : (o : Option (List ℕ)) (r : Option (List (List ℕ))) → word_of x ≡ o → words_of es ≡ r → is_some (onto o r) ≡ true → onto o r ≡ Some (unwrap_or o [] ∷ map text_in (map (λ e. e.1) es))
-  by (Some t) (Some ts) e f h = let q : Some ts ≡ Some (map text_in (map (λ e. e.1) es)) = sym f ∙ words_are es (ap is_some f) in let r : ts ≡ map text_in (map (λ e. e.1) es) = cc in ap (λ us. Some (t ∷ us)) r
-  by (Some t) None e f h = absurd (let no : false ≡ true = h in cc)
-  by None r e f h = absurd (let no : false ≡ true = h in cc)
+words_are ((k, x) ∷ es) h = words_by (word_of x) (words_of es) (map text_in (map (λ e. e.1) es)) (λ g. words_are es g) h
 
 pub ruleset all_steps = (length-map)
 

@@ -1,5 +1,5 @@
 // The entries of a list or dictionary, by their places.
-ghost use Rattle.std.specs.Prelude.{◌≡◌, ◌≤◌, ◌<◌, Some, length, map, drop, slice_get, IfOk, IfSome, option_map, option_copied};
+ghost use Rattle.std.specs.Prelude.{◌≡◌, ◌≤◌, ◌<◌, Some, length, map, drop, slice_get, IfOk, IfSome, IfNone, option_map, option_copied};
 ghost use Rattle.muf_model.specs.ArrayRows.{entries_in};
 ghost use Rattle.muf_model.specs.Entries.{above};
 ghost use Rattle.muf_model.specs.View.{view};
@@ -38,14 +38,15 @@ pub(crate) fn count(held: &Value) -> usize
 
 // The pair at a place.
 fn pair_in(pairs: &[Pair], at: usize) -> Option<&Pair>
-    ensures { option_copied result ≡ slice_get pairs.now at }
+    ensures value { option_copied result ≡ slice_get pairs.now at }
+    ensures none { IfNone result (length pairs.now ≤ at) }
 {
     pairs.get(at)
 }
 
-/// The value at a place; `None` exactly from the count on.
+// The value at a place; `None` exactly from the count on.
 #[tactic(auto, using(crate::proofs::Reading::entry_steps))]
-pub(crate) fn value_ref(held: &Value, at: usize) -> Option<&Value>
+fn value_ref(held: &Value, at: usize) -> Option<&Value>
     ensures { option_map view (option_copied result) ≡ slice_get (values_in (view held.now)) at }
 {
     match held {
@@ -55,6 +56,17 @@ pub(crate) fn value_ref(held: &Value, at: usize) -> Option<&Value>
             None => None,
         },
         _ => None,
+    }
+}
+
+/// The value at a place, which is there.
+pub(crate) fn value_there(held: &Value, at: usize) -> &Value
+    requires { at < length (entries_in (view held.now)) }
+    ensures { slice_get (values_in (view held.now)) at ≡ Some (view result.now) }
+{
+    match value_ref(held, at) {
+        Some(value) => value,
+        None => unreachable!(),
     }
 }
 
@@ -84,10 +96,7 @@ pub(crate) fn part_at(held: &Value, part: Part, at: usize) -> Result<Value, NoMe
 {
     match part {
         Part::Key => key_at(held, at),
-        Part::Value => match value_ref(held, at) {
-            Some(value) => value.copy(),
-            None => unreachable!(),
-        },
+        Part::Value => value_there(held, at).copy(),
     }
 }
 

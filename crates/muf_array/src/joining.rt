@@ -10,7 +10,7 @@ ghost use Rattle.std.specs.Fmt.{signed_decimal};
 ghost use Rattle.muf_array.specs.Shapes.{of_held, text_in, values_in, lead};
 ghost use Rattle.prim_text.specs.Made.{Makes};
 
-use crate::entries::{count, is_held, value_ref};
+use crate::entries::{count, is_held, value_there};
 use muck_model::{NoMemory, TEXT_MOST};
 use muf_frame::PrimFault;
 use muf_model::{MufFault, Value};
@@ -29,9 +29,10 @@ fn has_text(value: &Value) -> bool
 fn all_have_texts(held: &Value) -> bool
     ensures { result ≡ is_some (words_of (entries_in (view held.now))) }
 {
+    let count = count(held);
     let mut at = 0;
-    while let Some(value) = value_ref(held, at) {
-        if !has_text(value) {
+    while at < count {
+        if !has_text(value_there(held, at)) {
             return false;
         }
         at += 1;
@@ -96,13 +97,14 @@ fn join_texts(alloc: Global, between: &[u8], held: &Value) -> Result<Vec<u8>, No
     ensures value { IfOk result (λ made. sized made.items ≡ sized (joined between.now (map text_in (values_in (view held.now))))) }
     ensures inside { IfOk result (λ made. IsInside made.items) }
 {
+    let count = count(held);
     let mut made = Vec::new(alloc);
     let mut at = 0;
-    while let Some(value) = value_ref(held, at) {
+    while at < count {
         if made.len() > TEXT_MOST {
             return Ok(made);
         }
-        push_next(alloc, &mut made, between, at, value)?;
+        push_next(alloc, &mut made, between, at, value_there(held, at))?;
         at += 1;
     }
     Ok(made)

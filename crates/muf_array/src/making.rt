@@ -1,6 +1,6 @@
 // Lists and dictionaries that are made of counted items.
 ghost use Rattle.std.specs.Prelude.{ℕ, List, ◌≡◌, ◌∷◌, [], ◌≤◌, ◌<◌, ◌+◌, ◌*◌, length, map, take, drop, reverse, IfOk, IfErr, option_map};
-ghost use Rattle.muf_model.specs.Answer.{refuses, needing};
+ghost use Rattle.muf_model.specs.Answer.{Answer, refuses, needing};
 ghost use Rattle.muf_model.specs.Needs.{counts, any, an_int, a_key};
 ghost use Rattle.muf_model.specs.ArrayRows as row;
 ghost use Rattle.muf_model.specs.Datum.{Datum};

@@ -4,10 +4,10 @@ use Rattle.muf_model.specs.View.{view}
 use Rattle.muf_model.specs.ArrayRows.{entries_in, words_of}
 use Rattle.muf_array.proofs.joining.all_have_texts.Given as goal
 
-abbrev pub invariant-loop-value : goal.invariant-loop-value
-invariant-loop-value l =
+abbrev pub invariant-loop-at : goal.invariant-loop-at
+invariant-loop-at l =
     (l.at ≤ length (entries_in (view l.fn.held)))
     × (is_some (words_of (entries_in (view l.fn.held))) ≡ is_some (words_of (drop l.at (entries_in (view l.fn.held)))))
 
-abbrev pub decreases-loop-value : goal.decreases-loop-value
-decreases-loop-value l = length (entries_in (view l.fn.held)) - l.at
+abbrev pub decreases-loop-at : goal.decreases-loop-at
+decreases-loop-at l = length (entries_in (view l.fn.held)) - l.at
