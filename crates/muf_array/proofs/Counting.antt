@@ -1,7 +1,7 @@
 -- The rows of primitives whose top item counts others.
 use Rattle.std.proofs.Common.{◌≡◌, ◌∙◌, ap, sym, refl, ℕ, zero, suc, ◌+◌, ◌-◌, ◌*◌, ◌<◌, ◌≤◌, Bool, true, false, cond, List, [], ◌∷◌, ◌++◌, length, map, take, drop, reverse, Some, None, arith}
 use Rattle.std.specs.Prelude.{Option, ℤ, pos, negsuc, nat_lt, slice_get}
-use Rattle.std.specs.Option.{option_or}
+use Rattle.std.specs.Option.{option_or, option_and_then}
 use Rattle.std.proofs.lemmas.Bool.Decides.{nat_tests}
 use Rattle.std.proofs.lemmas.List.{length-map, append_assoc}
 use Rattle.muf_model.specs.declared.fault.MufFault.{MufFault}
@@ -169,21 +169,26 @@ counted_item n (suc at) (y ∷ stack) x p l e = let z : suc at - 1 ≡ at = omeg
   in_front (suc n) (suc at) (y ∷ xs) h = in_front n at xs (omega (arith, h))
 
 -- pairs that were read, and those that are left
-pub pairs_more : (ps : List (MapKey × Datum)) (n : ℕ) (stack : List Datum) (x k : Datum) (l : MapKey) → slice_get stack 0 ≡ Some x → slice_get stack 1 ≡ Some k → key_of k ≡ Some l → pairs_before ps (pairs_in (suc n) stack) ≡ pairs_before (ps ++ (l, x) ∷ []) (pairs_in n (drop 2 stack))
-pairs_more ps n [] x k l e f g = absurd (let no : None ≡ Some x = e in cc)
-pairs_more ps n (y ∷ []) x k l e f g = absurd (let no : None ≡ Some k = f in cc)
-pairs_more ps n (y ∷ j ∷ stack) x k l e f g =
+pub pairs_more : (ps : List (MapKey × Datum)) (n : ℕ) (stack : List Datum) (x : Datum) (l : MapKey) → slice_get stack 0 ≡ Some x → option_and_then key_of (slice_get stack 1) ≡ Some l → pairs_before ps (pairs_in (suc n) stack) ≡ pairs_before (ps ++ (l, x) ∷ []) (pairs_in n (drop 2 stack))
+pairs_more ps n [] x l e g = absurd (let no : None ≡ Some x = e in cc)
+pairs_more ps n (y ∷ []) x l e g = absurd (let no : None ≡ Some l = g in cc)
+pairs_more ps n (y ∷ j ∷ stack) x l e g =
     let p : y ≡ x = cc in
-    let q : j ≡ k = cc in
-    rw (p, q, g) (joined (pairs_in n stack)) where
-      joined : (o : Option (List (MapKey × Datum))) → pairs_before ps (pair_before (Some l) x o) ≡ pairs_before (ps ++ (l, x) ∷ []) o
-      joined (Some qs) = ap Some (sym (append_assoc ps ((l, x) ∷ []) qs))
-      joined None = refl
+    ap (λ z. pairs_before ps (pair_before (key_of j) z (pairs_in n stack))) p
+    ∙ ap (λ k. pairs_before ps (pair_before k x (pairs_in n stack))) g
+    ∙ joined ps l x (pairs_in n stack) where
+      joined : (ps : List (MapKey × Datum)) (l : MapKey) (x : Datum) (o : Option (List (MapKey × Datum))) → pairs_before ps (pair_before (Some l) x o) ≡ pairs_before (ps ++ (l, x) ∷ []) o
+      joined ps l x (Some qs) = ap Some (sym (append_assoc ps ((l, x) ∷ []) qs))
+      joined ps l x None = refl
 
-pub pairs_none : (ps : List (MapKey × Datum)) (n : ℕ) (stack : List Datum) (k : Datum) → slice_get stack 1 ≡ Some k → key_of k ≡ None → pairs_before ps (pairs_in (suc n) stack) ≡ None
-pairs_none ps n [] k f g = refl
-pairs_none ps n (y ∷ []) k f g = refl
-pairs_none ps n (y ∷ j ∷ stack) k f g = let q : j ≡ k = cc in rw (q, g) refl
+pub pairs_none : (ps : List (MapKey × Datum)) (n : ℕ) (stack : List Datum) → option_and_then key_of (slice_get stack 1) ≡ None → pairs_before ps (pairs_in (suc n) stack) ≡ None
+pairs_none ps n [] g = refl
+pairs_none ps n (y ∷ []) g = refl
+pairs_none ps n (y ∷ j ∷ stack) g = ap (λ k. pairs_before ps (pair_before k y (pairs_in n stack))) g
+
+pub none_of : {A : Type 0} → (o : Option A) → ((x : A) → o ≡ Some x → ⊥) → o ≡ None
+none_of (Some x) h = absurd (h x refl)
+none_of None h = refl
 
 pub ruleset copy_steps = (length-map)
 

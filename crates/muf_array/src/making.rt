@@ -109,10 +109,11 @@ fn make_dictionary(alloc: Global, frame: &mut Frame, n: usize) -> Result<(), Pri
     let Some(pairs) = pairs(alloc, frame, n)? else {
         return Err(PrimFault::Fault(MufFault::BadType));
     };
+    let kept = frame.len() - 1 - n - n;
     match ValueMap::of(alloc, pairs)? {
         Some(dict) => {
             let dict = dict_value(alloc, dict)?;
-            Ok(frame.give(n + n + 1, dict)?)
+            Ok(frame.give(frame.len() - kept, dict)?)
         }
         None => Err(PrimFault::Fault(MufFault::TooHeavy)),
     }
