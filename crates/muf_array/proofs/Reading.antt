@@ -13,7 +13,8 @@ use Rattle.muf_model.specs.declared.value.Pair.{Pair}
 use Rattle.muf_model.specs.Datum.{Datum, int, data_of, pairs_of, entries_of, list_of}
 use Rattle.muf_model.specs.View.{view, pair_view, value_view}
 use Rattle.muf_model.specs.Entries.{key_datum, key_same, entry_of, above}
-use Rattle.muf_model.specs.ArrayRows.{placed, spread}
+use Rattle.muf_model.specs.ArrayRows.{placed, spread, first_key}
+use Rattle.muf_model.specs.Answer.{makes}
 use Rattle.muf_model.proofs.Sized.{entries_again}
 use Rattle.muf_array.specs.Shapes.{listed, index_in}
 
@@ -136,6 +137,11 @@ got_item (negsuc n) ds = got_below n 0 ds
 pub ruleset got_steps = (got_item)
 
 pub ruleset row_steps = (placed_length, entries_again, length-map)
+
+pub first_at : (es : List (MapKey × Datum)) (at : ℕ) (k : Datum) → slice_get (map (λ e. key_datum e.0) es) at ≡ Some k → first_key (drop at es) ≡ makes (int (pos 1) ∷ k ∷ [])
+first_at [] at k g = absurd (let no : None ≡ Some k = g in cc)
+first_at (e ∷ es) zero k g = let q : key_datum e.0 ≡ k = cc in ap (λ d. makes (int (pos 1) ∷ d ∷ [])) q
+first_at (e ∷ es) (suc at) k g = first_at es at k g
 
 -- ---- parts of entries, from the last to the first
 

@@ -40,7 +40,7 @@ may_have (dict ps) k = true
 may_have _ k = false
 
 -- what a primitive makes of a list or dictionary alone
-abbrev pub row_of_held : Primitive → Datum → Made
+unfoldable pub row_of_held : Primitive → Datum → Made
 row_of_held ArrayCount = counted
 row_of_held ArrayFirst = first
 row_of_held ArrayKeys = keys

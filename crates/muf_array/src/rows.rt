@@ -127,7 +127,7 @@ pub(crate) fn next(alloc: Global, held: &Value, key: &MapKey) -> Result<Made, Pr
 }
 
 /// The primitives of a list or dictionary alone.
-#[tactic(auto, using(crate::proofs::Reading::row_steps))]
+#[tactic(auto, using(crate::proofs::Reading::row_steps), unfolding(crate::specs::Shapes::row_of_held))]
 pub(crate) fn of_held(alloc: Global, prim: Prim, held: &Value) -> Result<Made, PrimFault>
     ensures { Makes (of_held (row_of_held prim) (view held.now)) result }
 {
