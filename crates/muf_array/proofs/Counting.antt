@@ -154,8 +154,6 @@ dict_used s (mark ∷ rest) = let st = mark ∷ rest in no_count (nat_lt (length
 
 pub ruleset count_steps = (length-map)
 
-pub ruleset use_steps = (list_used, dict_used)
-
 -- ---- what is read of the stack
 
 pub counted_item : (n at : ℕ) (stack : List Datum) (x : Datum) → 0 < at → at ≤ n → slice_get stack at ≡ Some x → slice_get (take n (drop 1 stack)) (at - 1) ≡ Some x

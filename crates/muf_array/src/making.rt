@@ -73,12 +73,13 @@ fn make_list(alloc: Global, frame: &mut Frame, n: usize) -> Result<(), PrimFault
 }
 
 /// ARRAY_MAKE.
-#[tactic(auto, using(crate::proofs::Counting::use_steps))]
 pub(crate) fn list(alloc: Global, frame: &mut Frame) -> Result<(), PrimFault>
     ensures { UsedOr ArrayMake (counts (an_int ∷ []) (any ∷ []) []) row.list_made frame.old frame.new result }
 {
-    let n = count(frame, 1)?;
-    make_list(alloc, frame, n)
+    match count(frame, 1) {
+        Ok(n) => make_list(alloc, frame, n),
+        Err(refused) => Err(PrimFault::Fault(refused)),
+    }
 }
 
 // So many keys with their values under the top, the topmost first; nothing where one of them is no key.
@@ -120,10 +121,11 @@ fn make_dictionary(alloc: Global, frame: &mut Frame, n: usize) -> Result<(), Pri
 }
 
 /// ARRAY_MAKE_DICT.
-#[tactic(auto, using(crate::proofs::Counting::use_steps))]
 pub(crate) fn dictionary(alloc: Global, frame: &mut Frame) -> Result<(), PrimFault>
     ensures { UsedOr ArrayMakeDict (counts (an_int ∷ []) (any ∷ a_key ∷ []) []) row.dict_made frame.old frame.new result }
 {
-    let n = count(frame, 2)?;
-    make_dictionary(alloc, frame, n)
+    match count(frame, 2) {
+        Ok(n) => make_dictionary(alloc, frame, n),
+        Err(refused) => Err(PrimFault::Fault(refused)),
+    }
 }
