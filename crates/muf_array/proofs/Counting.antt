@@ -132,8 +132,8 @@ dict_counted n s rest =
     ∙ ap (λ k. needing 1 s.locked st (needing (suc (length ns)) s.locked st (unless k (put (suc (length ns)) (dict_made (take (suc (length ns)) st)) (drop (suc (length ns)) st))))) quiet
     ∙ ap (λ m. needing 1 s.locked st (needing (suc m) s.locked st (unless (walk unfit ns rest) (put (suc m) (dict_made (take (suc m) st)) (drop (suc m) st))))) (pair_length n)
     ∙ ap (needing 1 s.locked st)
-      (where_false (nat_lt (length st) (s.locked + suc (n + n))) (refuses (too_few (suc (n + n)) st)) _ _
-        (λ e. pairs_kinds n rest (λ ps. put (suc (n + n)) (valued (dict (pairs_of (gathered ps)))) (drop (n + n) rest)) (enough (length rest) s.locked (n + n) e)))
+    (where_false (nat_lt (length st) (s.locked + suc (n + n))) (refuses (too_few (suc (n + n)) st)) _ _
+    (λ e. pairs_kinds n rest (λ ps. put (suc (n + n)) (valued (dict (pairs_of (gathered ps)))) (drop (n + n) rest)) (enough (length rest) s.locked (n + n) e)))
     ∙ rw (two, more) (ap (λ a. needing 1 s.locked st (needing (suc (n + n)) s.locked st a)) (same_read n (pairs_in n rest) (drop (n + n) rest))) where
       same_read : (n : ℕ) (o : Option (List (MapKey × Datum))) (rest : List Datum) → by_pairs (λ ps. put (suc (n + n)) (valued (dict (pairs_of (gathered ps)))) rest) o ≡ pairs_read n o rest
       same_read n (Some ps) rest = let more : n + n + 1 ≡ suc (n + n) = omega arith in ap (λ m. put m (valued (dict (pairs_of (gathered ps)))) rest) (sym more)

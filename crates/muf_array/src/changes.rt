@@ -61,7 +61,12 @@ fn list_fault(change: Change, item: &Value, list: &ValueList, number: i32) -> Op
 
 /// Why a value can't come to a key of a list or dictionary.
 #[tactic(auto, using(crate::proofs::Changing::change_steps))]
-pub(crate) fn change_fault(change: Change, item: &Value, held: &Value, key: &MapKey) -> Option<MufFault>
+pub(crate) fn change_fault(
+    change: Change,
+    item: &Value,
+    held: &Value,
+    key: &MapKey,
+) -> Option<MufFault>
     ensures { result ≡ refusal (at_held (changed change (view item.now)) (view held.now) key.now) }
 {
     match (held, key) {

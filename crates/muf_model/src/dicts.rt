@@ -117,7 +117,12 @@ pub(crate) fn size_put(pairs: &[Pair], size: Size, at: usize, key: &MapKey, valu
 }
 
 // The entries with this value of a key, which has a place.
-pub(crate) fn put_entry(pairs: &mut Vec<Pair>, at: usize, key: MapKey, value: Value) -> Result<(), NoMemory>
+pub(crate) fn put_entry(
+    pairs: &mut Vec<Pair>,
+    at: usize,
+    key: MapKey,
+    value: Value,
+) -> Result<(), NoMemory>
     requires { at ≡ entry_place key (map pair_view pairs.old.items) }
     ensures ok { OnOk result (map pair_view pairs.new.items ≡ with_entry key (view value) (map pair_view pairs.old.items)) }
     ensures err { OnErr result (pairs.new.items ≡ pairs.old.items) }

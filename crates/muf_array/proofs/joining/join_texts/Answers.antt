@@ -23,13 +23,14 @@ loop-at-preserved c =
     let s = c.args.between.now in
     let t = text_in (view c.value_there.result.now) in
     let at = c.loop-at.at in
-    let here : slice_get ts at ≡ Some t = slice_get-map text_in vs at ∙ ap (λ o. option_map text_in o) c.value_there.ensures in
-    (omega (arith, c.count-count.ensures.value, length-map (entries_in (view c.args.held.now)) (λ e. e.1), c.loop-at-test.true),
-     c.in_ok-push_next.ensures.inside,
-     ap (λ m. m ++ left_of s (at + 1) ts) c.in_ok-push_next.ensures.value
-     ∙ append_assoc c.loop-at.made.items (lead s at ++ t) (left_of s (at + 1) ts)
-     ∙ ap (λ r. c.loop-at.made.items ++ r) (sym (join_more s at ts t here))
-     ∙ c.loop-at.invariant.2)
+    let here : slice_get ts at ≡ Some t = slice_get-map text_in vs at ∙ ap (λ o. option_map text_in o) c.value_there.ensures in (
+      omega (arith, c.count-count.ensures.value, length-map (entries_in (view c.args.held.now)) (λ e. e.1), c.loop-at-test.true),
+      c.in_ok-push_next.ensures.inside,
+      ap (λ m. m ++ left_of s (at + 1) ts) c.in_ok-push_next.ensures.value
+          ∙ append_assoc c.loop-at.made.items (lead s at ++ t) (left_of s (at + 1) ts)
+          ∙ ap (λ r. c.loop-at.made.items ++ r) (sym (join_more s at ts t here))
+          ∙ c.loop-at.invariant.2,
+    )
 
 pub returns-clause-value : goal.returns-clause-value
 returns-clause-value c =

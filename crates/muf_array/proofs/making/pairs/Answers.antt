@@ -32,10 +32,11 @@ loop-at-preserved c =
     let x = view c.in_ok-value.value in
     let m : c.args.n - at ≡ suc (c.args.n - (at + 1)) = omega (arith, c.loop-at-test.true) in
     let first : slice_get (drop (at + at + 1) st) 0 ≡ Some x = (let z : at + at + 1 + 0 ≡ at + at + 1 = omega arith in get_drop (at + at + 1) 0 st ∙ ap (slice_get st) z ∙ c.in_ok-value.ensures) in
-    let two : at + at + 1 + 2 ≡ at + 1 + (at + 1) + 1 = omega arith in
-    (omega (arith, c.loop-at-test.true),
-     c.loop-at.invariant.1
-     ∙ ap (λ j. pairs_before ps (pairs_in j (drop (at + at + 1) st))) m
-     ∙ pairs_more ps (c.args.n - (at + 1)) (drop (at + at + 1) st) x c.in-Some.key first (key_next st at ∙ sym c.in_ok-key.ensures ∙ c.in-Some.is)
-     ∙ ap (λ qs. pairs_before qs (pairs_in (c.args.n - (at + 1)) (drop 2 (drop (at + at + 1) st)))) (sym (ap (map pair_view) c.in_ok-push.ensures.items ∙ map-append pair_view c.loop-at.made.items (_ ∷ [])))
-     ∙ ap (λ r. pairs_before (map pair_view c.push.new.self.items) (pairs_in (c.args.n - (at + 1)) r)) (drop-drop 2 (at + at + 1) st ∙ ap (λ k. drop k st) two))
+    let two : at + at + 1 + 2 ≡ at + 1 + (at + 1) + 1 = omega arith in (
+      omega (arith, c.loop-at-test.true),
+      c.loop-at.invariant.1
+          ∙ ap (λ j. pairs_before ps (pairs_in j (drop (at + at + 1) st))) m
+          ∙ pairs_more ps (c.args.n - (at + 1)) (drop (at + at + 1) st) x c.in-Some.key first (key_next st at ∙ sym c.in_ok-key.ensures ∙ c.in-Some.is)
+          ∙ ap (λ qs. pairs_before qs (pairs_in (c.args.n - (at + 1)) (drop 2 (drop (at + at + 1) st)))) (sym (ap (map pair_view) c.in_ok-push.ensures.items ∙ map-append pair_view c.loop-at.made.items (_ ∷ [])))
+          ∙ ap (λ r. pairs_before (map pair_view c.push.new.self.items) (pairs_in (c.args.n - (at + 1)) r)) (drop-drop 2 (at + at + 1) st ∙ ap (λ k. drop k st) two),
+    )

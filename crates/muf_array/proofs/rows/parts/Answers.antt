@@ -13,9 +13,11 @@ loop-at-preserved c =
     let es = entries_in (view c.args.held.now) in
     let xs = map (part_of c.args.part) es in
     let x = view c.in_ok-item.item in
-    let z : c.loop-at.at - 1 + 1 ≡ c.loop-at.at = omega (arith, c.loop-at-test.true) in
-    (omega (arith, c.loop-at.invariant.0), omega (arith, c.loop-at.invariant.1),
-     ap (map view) c.in_ok-push-2.ensures.items
-     ∙ map-append view c.loop-at.items.items (c.in_ok-item.item ∷ [])
-     ∙ ap (λ r. r ++ x ∷ []) c.loop-at.invariant.2
-     ∙ ap (λ r. int (pos (length es)) ∷ r) (ap (λ k. reverse (drop k xs) ++ x ∷ []) (sym z) ∙ sym (part_more xs (c.loop-at.at - 1) x c.in_ok-item.ensures)))
+    let z : c.loop-at.at - 1 + 1 ≡ c.loop-at.at = omega (arith, c.loop-at-test.true) in (
+      omega (arith, c.loop-at.invariant.0),
+      omega (arith, c.loop-at.invariant.1),
+      ap (map view) c.in_ok-push-2.ensures.items
+          ∙ map-append view c.loop-at.items.items (c.in_ok-item.item ∷ [])
+          ∙ ap (λ r. r ++ x ∷ []) c.loop-at.invariant.2
+          ∙ ap (λ r. int (pos (length es)) ∷ r) (ap (λ k. reverse (drop k xs) ++ x ∷ []) (sym z) ∙ sym (part_more xs (c.loop-at.at - 1) x c.in_ok-item.ensures)),
+    )
