@@ -5,7 +5,6 @@
 mod compile;
 mod db;
 mod prims;
-mod processes;
 mod props;
 mod talk;
 mod units;
@@ -17,16 +16,13 @@ use std::{env, io};
 const BROKEN: &str = "broke off";
 
 /// A little of each bench.
-const LITTLE: [(&str, [&str; 4]); 9] = [
+const LITTLE: [(&str, [&str; 4]); 6] = [
     ("props", ["1000", "2", "1", ""]),
     ("compile", ["10", "2", "", ""]),
     ("units", ["loop", "1000", "", ""]),
     ("db", ["1000", "1000", "20", "2"]),
     ("talk", ["3", "2", "1", ""]),
     ("prims", ["all", "1000", "10", ""]),
-    ("processes", ["lines", "10", "10", ""]),
-    ("processes", ["slices", "10", "0", ""]),
-    ("processes", ["forks", "1000", "10", ""]),
 ];
 
 // The argument of this number, and 0 where it is none.
@@ -47,12 +43,9 @@ fn done(alloc: Global, bench: &str, words: &[&str]) -> Option<String> {
         "db" => db::run(alloc, first, second, third, fourth),
         "talk" => talk::run(alloc, first, second, third),
         "prims" => prims::run(alloc, words.first().copied().unwrap_or(""), second, third),
-        "processes" => {
-            processes::run(alloc, words.first().copied().unwrap_or(""), second, third)
-        }
         _ => String::from_str(
             alloc,
-            "a bench is props, compile, units, db, talk, prims, processes or all",
+            "a bench is props, compile, units, db, talk, prims or all",
         )
         .ok(),
     }
