@@ -2,6 +2,7 @@
 //! that takes is measured by the scripts of `bench/` at the top. `all` does a little of each.
 #![tactic(auto)]
 
+mod arrays;
 mod compile;
 mod db;
 mod prims;
@@ -16,13 +17,15 @@ use std::{env, io};
 const BROKEN: &str = "broke off";
 
 /// A little of each bench.
-const LITTLE: [(&str, [&str; 4]); 6] = [
+const LITTLE: [(&str, [&str; 4]); 8] = [
     ("props", ["1000", "2", "1", ""]),
     ("compile", ["10", "2", "", ""]),
     ("units", ["loop", "1000", "", ""]),
     ("db", ["1000", "1000", "20", "2"]),
     ("talk", ["3", "2", "1", ""]),
     ("prims", ["all", "1000", "10", ""]),
+    ("arrays", ["set", "100", "0", ""]),
+    ("arrays", ["explode", "3", "2", ""]),
 ];
 
 // The argument of this number, and 0 where it is none.
@@ -43,9 +46,10 @@ fn done(alloc: Global, bench: &str, words: &[&str]) -> Option<String> {
         "db" => db::run(alloc, first, second, third, fourth),
         "talk" => talk::run(alloc, first, second, third),
         "prims" => prims::run(alloc, words.first().copied().unwrap_or(""), second, third),
+        "arrays" => arrays::run(alloc, words.first().copied().unwrap_or(""), second, third),
         _ => String::from_str(
             alloc,
-            "a bench is props, compile, units, db, talk, prims or all",
+            "a bench is props, compile, units, db, talk, prims, arrays or all",
         )
         .ok(),
     }

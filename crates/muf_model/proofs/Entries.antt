@@ -19,7 +19,7 @@ use Rattle.muf_model.specs.View.{view, pair_view}
 use Rattle.muf_model.specs.Measures.{key_below, text_below}
 use Rattle.muf_model.specs.Entries.{key_same, entry_of, with_entry, entry_place, has_key, IsAhead, Rising}
 
-same_is : (k l : MapKey) → key_same k l ≡ true → k ≡ l
+pub same_is : (k l : MapKey) → key_same k l ≡ true → k ≡ l
 same_is (Number m) (Number n) e = ap Number ((Decides-int_eq m n).0 e)
 same_is (Number m) (Name t) e = search (rules, e)
 same_is (Name s) (Number n) e = search (rules, e)

@@ -5,6 +5,7 @@ pub mod Settling
 pub mod Standing
 pub mod Nesting
 pub mod Sized
+pub mod Edited
 pub mod Truth
 pub mod Unique
 mod Naming

@@ -16,7 +16,7 @@ use Rattle.muf_model.specs.Values.{fits, size_fits, KeysRise, RiseInData, RiseIn
 
 -- ---- what fits
 
-fitting : (w n a b : ℕ) → a ≡ 1 + w → b ≡ 1 + n → (nat_le a 65536 && nat_le b 64) ≡ (nat_lt w 65536 && nat_lt n 64)
+pub fitting : (w n a b : ℕ) → a ≡ 1 + w → b ≡ 1 + n → (nat_le a 65536 && nat_le b 64) ≡ (nat_lt w 65536 && nat_lt n 64)
 fitting w n a b e f = grind (arith, nat_tests, e, f)
 
 pub sized : (d : Datum) (size : Size) → weight d ≡ 1 + size.weight → nesting d ≡ 1 + size.nesting → KeysRise d → size_fits size ≡ true → IsSized d size
@@ -207,7 +207,7 @@ most_pairs es size s = omega (arith, pairs_length es, s.weighs, (within (dict (p
   pairs_length [] = omega arith
   pairs_length (e ∷ es) = omega (arith, weighs_one e.1, pairs_length es)
 
-entries_again : (es : List (MapKey × Datum)) → entries_of (pairs_of es) ≡ es
+pub entries_again : (es : List (MapKey × Datum)) → entries_of (pairs_of es) ≡ es
 entries_again [] = refl
 entries_again (e ∷ es) = ap (λ xs. e ∷ xs) (entries_again es)
 

@@ -49,3 +49,18 @@ entry_place k ((l, x) ∷ es) = if key_same k l then 0 else (if key_below k l th
 abbrev pub has_key : MapKey → Option (MapKey × Datum) → Bool
 has_key k (Some e) = key_same k e.0
 has_key k None = false
+
+-- the entries without that of a key
+abbrev pub without : MapKey → List (MapKey × Datum) → List (MapKey × Datum)
+without k [] = []
+without k ((l, x) ∷ es) = if key_same k l then es else (l, x) ∷ without k es
+
+-- the entries of greater keys
+abbrev pub above : MapKey → List (MapKey × Datum) → List (MapKey × Datum)
+above k [] = []
+above k ((l, x) ∷ es) = if key_below k l then (l, x) ∷ es else above k es
+
+-- pairs as entries, of which those that stand before win
+abbrev pub gathered : List (MapKey × Datum) → List (MapKey × Datum)
+gathered [] = []
+gathered ((k, x) ∷ es) = with_entry k x (gathered es)

@@ -18,6 +18,7 @@ pub mod StackRows
 pub mod NumberRows
 pub mod Texts
 pub mod TextRows
+pub mod ArrayRows
 pub mod Rows
 pub mod Source
 pub mod Unit

@@ -1,7 +1,7 @@
 -- What primitives need on the stack.
 use Rattle.std.specs.Prelude.{ℕ, true, false, List, Option, Some, None, option_map}
 use Rattle.muf_model.specs.declared.needs.Want.{Want}
-use Rattle.muf_model.specs.declared.needs.Want.TheVariants.{Anything, Int, Text, Object, Variable, Address, Lock, Key, IntOrObject, Numbered}
+use Rattle.muf_model.specs.declared.needs.Want.TheVariants.{Anything, Int, Text, Object, Variable, Address, Lock, List as ListKind, Collection, Key, IntOrObject, Numbered}
 use Rattle.muf_model.specs.declared.needs.Need.{Need}
 use Rattle.muf_model.specs.declared.needs.Many.{Many as ManyKept}
 use Rattle.muf_model.specs.declared.needs.Needs.{Needs as NeedsKept}
@@ -50,6 +50,13 @@ an_address = of_kind Address
 
 abbrev pub a_lock : Need
 a_lock = of_kind Lock
+
+abbrev pub a_list : Need
+a_list = of_kind ListKind
+
+-- a list or a dictionary
+abbrev pub a_collection : Need
+a_collection = of_kind Collection
 
 -- an integer or a text
 abbrev pub a_key : Need

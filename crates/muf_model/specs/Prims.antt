@@ -5,7 +5,7 @@ use Rattle.muf_model.specs.declared.prims.Primitive.{Primitive}
 use Rattle.muf_model.specs.declared.prims.Primitive.TheVariants.{Pop, Dup, DupTrue, Swap, Over, Rot, Rotate, Pick, Put, Nip, Tuck, DupN, LDup, PopN, Reverse, Depth, OpenMark, CloseMark, Fetch, Store, IsInt, IsString, IsDbref, IsArray, IsDictionary, IsAddress, IsLock, Execute, Abort, Add, Subtract, Multiply, Divide, Modulo, Increment, Decrement, Abs, Sign, BitOr, BitAnd, BitXor, BitShift, Equal, Unequal, Less, Greater, LessEqual, GreaterEqual, Not, And, Or, Xor, ToInt, ToDbref, DbCmp, StrCat, StrCmp, StringCmp, StrNCmp, StrLen, StrCut, MidStr, InStr, RInStr, InString, RInString, Explode, Split, RSplit, Subst, ToUpper, ToLower, StripLead, StripTail, AToI, IntToStr, CharToInt, IntToChar, ArrayMake, ArrayMakeDict, ArrayCount, ArrayGetItem, ArraySetItem, ArrayInsertItem, ArrayAppendItem, ArrayDelItem, ArrayFirst, ArrayNext, ArrayKeys, ArrayVals, ArrayExplode, ArrayJoin, Name, Owner, Location, Contents, Exits, Next, IsOk, IsPlayer, IsThing, IsRoom, IsExit, IsProgram, Match, PMatch, MoveTo, SetName, Set, HasFlag, MLevel, GetLink, SetLink, NewRoom, NewObject, NewExit, Recycle, SetOwn, Controls, GetLockStr, SetLockStr, ParseLock, UnparseLock, TestLock, UnparseObj, DbTop, GetProp, GetPropStr, GetPropVal, SetProp, AddProp, RemoveProp, NextProp, IsPropDir, EnvProp, EnvPropStr, ParseMpi, Notify, NotifyExclude, IsAwake, Online, ConCount, ConDbref, Descriptors, Descr, ConBoot, Call, Fork, Sleep, Read, Kill, Pid, IsPid, Queue, Mode, SetMode, Preempt, Foreground, Background, SysTime, Random, EventSend, EventWait, EventCount, Prog, Trig, Caller, Cmd}
 use Rattle.muf_model.specs.declared.prims.Family.{Family}
 use Rattle.muf_model.specs.declared.prims.Row.{Row as Kept}
-use Rattle.muf_model.specs.Needs.{Needs, takes, counts, counts_at, any, an_int, a_text, an_object, a_variable, an_address, a_lock, a_key, a_near_one, one_there, int_or_object, numbered, shown_needs}
+use Rattle.muf_model.specs.Needs.{Needs, takes, counts, counts_at, any, an_int, a_text, an_object, a_variable, an_address, a_lock, a_list, a_collection, a_key, a_near_one, one_there, int_or_object, numbered, shown_needs}
 use Rattle.muf_model.specs.declared.prims.Family.TheVariants as kind
 
 -- What is so of a primitive: its name in capitals, the level that a program needs to use it, what it works on, and what it
@@ -99,20 +99,20 @@ row_of AToI = row (codes "ATOI") 1 kind.Text (takes (a_text ∷ []))
 row_of IntToStr = row (codes "INTOSTR") 1 kind.Text (takes (int_or_object ∷ []))
 row_of CharToInt = row (codes "CTOI") 1 kind.Text (takes (a_text ∷ []))
 row_of IntToChar = row (codes "ITOC") 1 kind.Text (takes (an_int ∷ []))
-row_of ArrayMake = row (codes "ARRAY_MAKE") 1 kind.Array None
-row_of ArrayMakeDict = row (codes "ARRAY_MAKE_DICT") 1 kind.Array None
-row_of ArrayCount = row (codes "ARRAY_COUNT") 1 kind.Array None
-row_of ArrayGetItem = row (codes "ARRAY_GETITEM") 1 kind.Array None
-row_of ArraySetItem = row (codes "ARRAY_SETITEM") 1 kind.Array None
-row_of ArrayInsertItem = row (codes "ARRAY_INSERTITEM") 1 kind.Array None
-row_of ArrayAppendItem = row (codes "ARRAY_APPENDITEM") 1 kind.Array None
-row_of ArrayDelItem = row (codes "ARRAY_DELITEM") 1 kind.Array None
-row_of ArrayFirst = row (codes "ARRAY_FIRST") 1 kind.Array None
-row_of ArrayNext = row (codes "ARRAY_NEXT") 1 kind.Array None
-row_of ArrayKeys = row (codes "ARRAY_KEYS") 1 kind.Array None
-row_of ArrayVals = row (codes "ARRAY_VALS") 1 kind.Array None
-row_of ArrayExplode = row (codes "ARRAY_EXPLODE") 1 kind.Array None
-row_of ArrayJoin = row (codes "ARRAY_JOIN") 1 kind.Array None
+row_of ArrayMake = row (codes "ARRAY_MAKE") 1 kind.Array (counts (an_int ∷ []) (any ∷ []) [])
+row_of ArrayMakeDict = row (codes "ARRAY_MAKE_DICT") 1 kind.Array (counts (an_int ∷ []) (any ∷ a_key ∷ []) [])
+row_of ArrayCount = row (codes "ARRAY_COUNT") 1 kind.Array (takes (a_collection ∷ []))
+row_of ArrayGetItem = row (codes "ARRAY_GETITEM") 1 kind.Array (takes (a_key ∷ a_collection ∷ []))
+row_of ArraySetItem = row (codes "ARRAY_SETITEM") 1 kind.Array (takes (a_key ∷ a_collection ∷ any ∷ []))
+row_of ArrayInsertItem = row (codes "ARRAY_INSERTITEM") 1 kind.Array (takes (a_key ∷ a_collection ∷ any ∷ []))
+row_of ArrayAppendItem = row (codes "ARRAY_APPENDITEM") 1 kind.Array (takes (a_list ∷ any ∷ []))
+row_of ArrayDelItem = row (codes "ARRAY_DELITEM") 1 kind.Array (takes (a_key ∷ a_collection ∷ []))
+row_of ArrayFirst = row (codes "ARRAY_FIRST") 1 kind.Array (takes (a_collection ∷ []))
+row_of ArrayNext = row (codes "ARRAY_NEXT") 1 kind.Array (takes (a_key ∷ a_collection ∷ []))
+row_of ArrayKeys = row (codes "ARRAY_KEYS") 1 kind.Array (takes (a_collection ∷ []))
+row_of ArrayVals = row (codes "ARRAY_VALS") 1 kind.Array (takes (a_collection ∷ []))
+row_of ArrayExplode = row (codes "ARRAY_EXPLODE") 1 kind.Array (takes (a_collection ∷ []))
+row_of ArrayJoin = row (codes "ARRAY_JOIN") 1 kind.Array (takes (a_text ∷ a_collection ∷ []))
 row_of Name = row (codes "NAME") 1 kind.Object (takes (a_near_one ∷ []))
 row_of Owner = row (codes "OWNER") 1 kind.Object (takes (a_near_one ∷ []))
 row_of Location = row (codes "LOCATION") 1 kind.Object (takes (a_near_one ∷ []))

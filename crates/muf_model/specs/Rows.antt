@@ -3,7 +3,7 @@ use Rattle.std.specs.Prelude.{ℕ, List, Bool, not, ◌||◌, is_some, Option, S
 use Rattle.muf_model.specs.declared.fault.MufFault.TheVariants.{NotCompiled}
 use Rattle.muf_model.specs.declared.prims.Primitive.{Primitive}
 use Rattle.muf_model.specs.declared.prims.Family.{Family}
-use Rattle.muf_model.specs.declared.prims.Family.TheVariants.{Stack, Number, Text}
+use Rattle.muf_model.specs.declared.prims.Family.TheVariants.{Stack, Number, Text, Array}
 use Rattle.muf_model.specs.Needs.{Needs}
 use Rattle.muf_model.specs.Prims.{level_of, family_of, needs_of, is_local, is_there}
 use Rattle.muf_model.specs.Datum.{Datum}
@@ -12,11 +12,13 @@ use Rattle.muf_model.specs.Ladder.{ladder, wanted, any_level, all_there}
 use Rattle.muf_model.specs.StackRows.{stack_row}
 use Rattle.muf_model.specs.NumberRows.{number_row, unlike}
 use Rattle.muf_model.specs.TextRows.{text_row}
+use Rattle.muf_model.specs.ArrayRows.{array_row}
 
 abbrev row_in : Family → Primitive → Option Deed
 row_in Stack p = stack_row p
 row_in Number p = number_row p
 row_in Text p = text_row p
+row_in Array p = array_row p
 row_in _ p = None
 
 -- what a primitive does, where it needs no world

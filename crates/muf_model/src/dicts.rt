@@ -41,7 +41,7 @@ impl Pair {
 }
 
 // The place of a key among entries, or the one where it belongs.
-fn entry_place(pairs: &[Pair], key: &MapKey) -> usize
+pub(crate) fn entry_place(pairs: &[Pair], key: &MapKey) -> usize
     ensures place { result ≡ entry_place key.now (map pair_view pairs.now) }
     ensures most { result ≤ length pairs.now }
 {
@@ -91,7 +91,7 @@ fn pair_at(pairs: &[Pair], at: usize) -> Option<&Pair>
 }
 
 // Whether an entry of a key stands at a place.
-fn has_key(pairs: &[Pair], at: usize, key: &MapKey) -> bool
+pub(crate) fn has_key(pairs: &[Pair], at: usize, key: &MapKey) -> bool
     ensures value { result ≡ has_key key.now (slice_get (map pair_view pairs.now) at) }
     ensures there { IsTrue result → at < length pairs.now }
 {
@@ -102,7 +102,7 @@ fn has_key(pairs: &[Pair], at: usize, key: &MapKey) -> bool
 }
 
 // The size of the values with this one of a key, which has a place.
-fn size_put(pairs: &[Pair], size: Size, at: usize, key: &MapKey, value: &Value) -> Size
+pub(crate) fn size_put(pairs: &[Pair], size: Size, at: usize, key: &MapKey, value: &Value) -> Size
     requires place { at ≡ entry_place key.now (map pair_view pairs.now) }
     requires sized { IsSized (whole (pairs_of (map pair_view pairs.now))) size }
     ensures weight { result.weight ≡ pairs_weight (pairs_of (with_entry key.now (view value.now) (map pair_view pairs.now))) }
@@ -117,7 +117,12 @@ fn size_put(pairs: &[Pair], size: Size, at: usize, key: &MapKey, value: &Value) 
 }
 
 // The entries with this value of a key, which has a place.
-fn put_entry(pairs: &mut Vec<Pair>, at: usize, key: MapKey, value: Value) -> Result<(), NoMemory>
+pub(crate) fn put_entry(
+    pairs: &mut Vec<Pair>,
+    at: usize,
+    key: MapKey,
+    value: Value,
+) -> Result<(), NoMemory>
     requires { at ≡ entry_place key (map pair_view pairs.old.items) }
     ensures ok { OnOk result (map pair_view pairs.new.items ≡ with_entry key (view value) (map pair_view pairs.old.items)) }
     ensures err { OnErr result (pairs.new.items ≡ pairs.old.items) }

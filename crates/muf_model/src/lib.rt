@@ -1,6 +1,7 @@
 //! MUF: its values, primitives, faults and instructions, and what a program means.
 #![tactic(auto)]
 
+mod changes;
 mod code;
 mod dicts;
 mod fault;

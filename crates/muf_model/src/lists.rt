@@ -8,7 +8,7 @@ ghost use Rattle.muf_model.specs.View.{view};
 ghost use Rattle.muf_model.specs.Measures.{data_weight, data_nesting};
 ghost use Rattle.muf_model.specs.Values.{IsValue, IsSized, HasSize, Makes, Becomes};
 
-use crate::held::size_with;
+use crate::held::{Held, size_with};
 use crate::{Size, Value, ValueFault, ValueList};
 use muck_model::NoMemory;
 use std::alloc::Global;
@@ -54,8 +54,8 @@ fn put_value(values: &mut Vec<Value>, at: usize, value: Value)
 }
 
 // The size of these values, where a list of them isn't too heavy and not nested too deep.
-fn size_of(values: &[Value]) -> Option<Size>
-    ensures { HasSize (map view values.now) result }
+pub(crate) fn size_of<H: Held>(values: &[H]) -> Option<Size>
+    ensures { HasSize (map H.held values.now) result }
 {
     let mut size = Size {
         weight: 0,
@@ -63,7 +63,7 @@ fn size_of(values: &[Value]) -> Option<Size>
     };
     let mut at = 0;
     while at < values.len() {
-        size = size.with(&values[at]);
+        size = size.with(values[at].value());
         if !size.fits() {
             return None;
         }

@@ -106,6 +106,10 @@ const ADDRESS: Need = need!(Address);
 
 const LOCK: Need = need!(Lock);
 
+const LIST: Need = need!(List);
+
+const COLLECTION: Need = need!(Collection);
+
 const KEY: Need = need!(Key);
 
 const EITHER: Need = need!(IntOrObject);
@@ -208,6 +212,18 @@ pub(crate) static OBJECT_FOR_ONE_NEAR: Option<Needs> = takes!(OBJECT, NEAR);
 pub(crate) static OBJECT_FOR_ONE_THERE: Option<Needs> = takes!(OBJECT, THERE);
 
 pub(crate) static TEXT_FOR_ONE_THERE: Option<Needs> = takes!(TEXT, THERE);
+
+pub(crate) static COUNTED_PAIRS: Option<Needs> = takes!(INT; ANY, KEY;);
+
+pub(crate) static A_COLLECTION: Option<Needs> = takes!(COLLECTION);
+
+pub(crate) static KEY_OF_COLLECTION: Option<Needs> = takes!(KEY, COLLECTION);
+
+pub(crate) static KEY_OF_COLLECTION_FOR_ITEM: Option<Needs> = takes!(KEY, COLLECTION, ANY);
+
+pub(crate) static LIST_OVER_ITEM: Option<Needs> = takes!(LIST, ANY);
+
+pub(crate) static TEXT_OVER_COLLECTION: Option<Needs> = takes!(TEXT, COLLECTION);
 
 pub(crate) static TEXT_FOR_ONE_THERE_OVER_INT: Option<Needs> = takes!(TEXT, THERE, INT);
 

@@ -7,13 +7,14 @@ ghost use Rattle.muf_model.specs.Rows.{is_settled};
 ghost use Rattle.muf_model.specs.Prims.{row_of, shown_row, level_of, is_local, is_there, family_of, needs_of, name_of, primitives, named, is_named, named_in_any_case};
 
 use crate::needs::{
-    A_LOCK, A_NUMBERED, A_TEXT, A_VARIABLE, AN_ADDRESS, AN_INT, COUNTED_ITEMS,
-    INT_AND_TEXTS_FOR_ONE_NEAR, INT_OR_OBJECT, INT_OVER_TEXT, INT_OVER_TEXTS, INTS_OVER_TEXT, ITEM,
-    ITEM_OVER_COUNTED, ITEM_OVER_TEXT_AND_INT, KEY_AND_TEXT_FOR_ONE_NEAR, LOCK_FOR_ONE_THERE,
-    NOT_YET, NOTHING, Needs, OBJECT_FOR_ONE_NEAR, OBJECT_FOR_ONE_THERE, ONE_NEAR, ONE_THERE,
+    A_COLLECTION, A_LOCK, A_NUMBERED, A_TEXT, A_VARIABLE, AN_ADDRESS, AN_INT, COUNTED_ITEMS,
+    COUNTED_PAIRS, INT_AND_TEXTS_FOR_ONE_NEAR, INT_OR_OBJECT, INT_OVER_TEXT, INT_OVER_TEXTS,
+    INTS_OVER_TEXT, ITEM, ITEM_OVER_COUNTED, ITEM_OVER_TEXT_AND_INT, KEY_AND_TEXT_FOR_ONE_NEAR,
+    KEY_OF_COLLECTION, KEY_OF_COLLECTION_FOR_ITEM, LIST_OVER_ITEM, LOCK_FOR_ONE_THERE, NOT_YET,
+    NOTHING, Needs, OBJECT_FOR_ONE_NEAR, OBJECT_FOR_ONE_THERE, ONE_NEAR, ONE_THERE,
     TEXT_BUT_FOR_COUNTED, TEXT_FOR_ONE_NEAR, TEXT_FOR_ONE_THERE, TEXT_FOR_ONE_THERE_OVER_INT,
-    THREE_ITEMS, THREE_TEXTS, TWO_ALIKE, TWO_INTS, TWO_ITEMS, TWO_OBJECTS, TWO_TEXTS, TWO_THERE,
-    VARIABLE_AND_ITEM,
+    TEXT_OVER_COLLECTION, THREE_ITEMS, THREE_TEXTS, TWO_ALIKE, TWO_INTS, TWO_ITEMS, TWO_OBJECTS,
+    TWO_TEXTS, TWO_THERE, VARIABLE_AND_ITEM,
 };
 
 /// A primitive. Its name in programs stands in its row of the table, with its level and what it needs on the stack.
@@ -313,20 +314,25 @@ impl Primitive {
             Primitive::IntToStr => row!(b"INTOSTR", 1, Text, INT_OR_OBJECT),
             Primitive::CharToInt => row!(b"CTOI", 1, Text, A_TEXT),
             Primitive::IntToChar => row!(b"ITOC", 1, Text, AN_INT),
-            Primitive::ArrayMake => row!(b"ARRAY_MAKE", 1, Array, None),
-            Primitive::ArrayMakeDict => row!(b"ARRAY_MAKE_DICT", 1, Array, None),
-            Primitive::ArrayCount => row!(b"ARRAY_COUNT", 1, Array, None),
-            Primitive::ArrayGetItem => row!(b"ARRAY_GETITEM", 1, Array, None),
-            Primitive::ArraySetItem => row!(b"ARRAY_SETITEM", 1, Array, None),
-            Primitive::ArrayInsertItem => row!(b"ARRAY_INSERTITEM", 1, Array, None),
-            Primitive::ArrayAppendItem => row!(b"ARRAY_APPENDITEM", 1, Array, None),
-            Primitive::ArrayDelItem => row!(b"ARRAY_DELITEM", 1, Array, None),
-            Primitive::ArrayFirst => row!(b"ARRAY_FIRST", 1, Array, None),
-            Primitive::ArrayNext => row!(b"ARRAY_NEXT", 1, Array, None),
-            Primitive::ArrayKeys => row!(b"ARRAY_KEYS", 1, Array, None),
-            Primitive::ArrayVals => row!(b"ARRAY_VALS", 1, Array, None),
-            Primitive::ArrayExplode => row!(b"ARRAY_EXPLODE", 1, Array, None),
-            Primitive::ArrayJoin => row!(b"ARRAY_JOIN", 1, Array, None),
+            Primitive::ArrayMake => row!(b"ARRAY_MAKE", 1, Array, COUNTED_ITEMS),
+            Primitive::ArrayMakeDict => row!(b"ARRAY_MAKE_DICT", 1, Array, COUNTED_PAIRS),
+            Primitive::ArrayCount => row!(b"ARRAY_COUNT", 1, Array, A_COLLECTION),
+            Primitive::ArrayGetItem => row!(b"ARRAY_GETITEM", 1, Array, KEY_OF_COLLECTION),
+            Primitive::ArraySetItem => row!(b"ARRAY_SETITEM", 1, Array, KEY_OF_COLLECTION_FOR_ITEM),
+            Primitive::ArrayInsertItem => row!(
+                b"ARRAY_INSERTITEM",
+                1,
+                Array,
+                KEY_OF_COLLECTION_FOR_ITEM
+            ),
+            Primitive::ArrayAppendItem => row!(b"ARRAY_APPENDITEM", 1, Array, LIST_OVER_ITEM),
+            Primitive::ArrayDelItem => row!(b"ARRAY_DELITEM", 1, Array, KEY_OF_COLLECTION),
+            Primitive::ArrayFirst => row!(b"ARRAY_FIRST", 1, Array, A_COLLECTION),
+            Primitive::ArrayNext => row!(b"ARRAY_NEXT", 1, Array, KEY_OF_COLLECTION),
+            Primitive::ArrayKeys => row!(b"ARRAY_KEYS", 1, Array, A_COLLECTION),
+            Primitive::ArrayVals => row!(b"ARRAY_VALS", 1, Array, A_COLLECTION),
+            Primitive::ArrayExplode => row!(b"ARRAY_EXPLODE", 1, Array, A_COLLECTION),
+            Primitive::ArrayJoin => row!(b"ARRAY_JOIN", 1, Array, TEXT_OVER_COLLECTION),
             _ => self.shared_row(),
         }
     }

@@ -18,7 +18,7 @@ use crate::marks::{end_try, fault, leave_loop, leave_word, next_turn};
 use crate::ran::Ran;
 use muck_model::NoMemory;
 use muf_frame::{Frame, PrimFault};
-use muf_model::{Closer, Code, Family, Instr, Literal, MufFault, Prim, Value, Word};
+use muf_model::{Closer, Code, Family, Instr, Literal, Prim, Value, Word};
 use prim_stack::Done;
 use std::alloc::Global;
 
@@ -69,6 +69,19 @@ fn text_word(alloc: Global, code: &Code, frame: &mut Frame, prim: Prim) -> Resul
     ensures { IfOk result (λ ran. next_of ran (flat frame.new) ≡ machine.answered code.now (primitive prim (scope_of (length code.now.words) (flat frame.old)) (flat frame.old).stack) (flat frame.old)) }
 {
     match prim_text::apply(alloc, prim, frame) {
+        Ok(()) => Ok(Ran::Going(0)),
+        Err(PrimFault::Fault(refused)) => fault(alloc, frame, refused),
+        Err(PrimFault::NoMemory) => Err(NoMemory),
+    }
+}
+
+// A primitive of lists and dictionaries.
+#[tactic(auto, using(crate::proofs::Stacks::became_answered))]
+fn array_word(alloc: Global, code: &Code, frame: &mut Frame, prim: Prim) -> Result<Ran, NoMemory>
+    requires { family_of prim ≡ family.Array }
+    ensures { IfOk result (λ ran. next_of ran (flat frame.new) ≡ machine.answered code.now (primitive prim (scope_of (length code.now.words) (flat frame.old)) (flat frame.old).stack) (flat frame.old)) }
+{
+    match muf_array::apply(alloc, prim, frame) {
         Ok(()) => Ok(Ran::Going(0)),
         Err(PrimFault::Fault(refused)) => fault(alloc, frame, refused),
         Err(PrimFault::NoMemory) => Err(NoMemory),
@@ -132,7 +145,7 @@ fn address(alloc: Global, frame: &mut Frame, word: u32) -> Result<Ran, NoMemory>
     push(alloc, frame, Value::Addr { program, word })
 }
 
-// A primitive that needs no world. No row says yet what one of arrays does.
+// A primitive that needs no world.
 #[inline(always)]
 fn primitive(alloc: Global, code: &Code, frame: &mut Frame, prim: Prim) -> Result<Ran, NoMemory>
     requires { is_local prim ≡ true }
@@ -142,7 +155,7 @@ fn primitive(alloc: Global, code: &Code, frame: &mut Frame, prim: Prim) -> Resul
         Family::Stack => stack_word(alloc, code, frame, prim),
         Family::Number => number_word(alloc, code, frame, prim),
         Family::Text => text_word(alloc, code, frame, prim),
-        Family::Array => fault(alloc, frame, MufFault::NotCompiled),
+        Family::Array => array_word(alloc, code, frame, prim),
         Family::Object | Family::Property | Family::Talk | Family::Process => unreachable!(),
     }
 }

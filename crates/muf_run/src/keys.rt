@@ -3,7 +3,6 @@ ghost use Rattle.std.specs.Prelude.{◌≡◌, ◌<◌, ◌+◌, ℕ, IfOk, slic
 ghost use Rattle.std.specs.Arc.{arc_value};
 ghost use Rattle.muf_model.specs.Datum.{int, data_of, pairs_of};
 ghost use Rattle.muf_model.specs.View.{view};
-ghost use Rattle.muf_model.specs.Entries.{key_datum};
 ghost use Rattle.muf_model.specs.Unit.{numbered, keyed};
 ghost use Rattle.muf_model.specs.Flat.{Flat};
 ghost use Rattle.muf_frame.specs.Shown.{flat, flat_turns, opened_by};
@@ -15,7 +14,7 @@ use crate::marks::fault;
 use crate::ran::Ran;
 use muck_model::NoMemory;
 use muf_frame::{Frame, Mark, Turns};
-use muf_model::{MapKey, MufFault, OPEN_MOST, Pair, STACK_MOST, Value, ValueList, ValueMap};
+use muf_model::{MufFault, OPEN_MOST, Pair, STACK_MOST, Value, ValueList, ValueMap};
 use std::alloc::Global;
 use std::sync::Arc;
 
@@ -121,23 +120,13 @@ fn value_at(of: Arc<ValueList>, at: usize) -> Result<Option<Pulled>, NoMemory>
     }))
 }
 
-// A key as a value.
-fn key_value(key: &MapKey) -> Result<Value, NoMemory>
-    ensures { IfOk result (λ v. view v ≡ key_datum key.now) }
-{
-    match key {
-        MapKey::Number(number) => Ok(Value::Int(*number)),
-        MapKey::Name(name) => Ok(Value::Str(name.share()?)),
-    }
-}
-
 // A key of a dictionary, with its value.
 fn entry_at(of: Arc<ValueMap>, at: usize) -> Result<Option<Pulled>, NoMemory>
     ensures { IfOk result (λ pulled. option_map pulled_data pulled ≡ pull (drop at (keyed (pairs_of (arc_value of))))) }
 {
     let (key, value) = match pair_in(of.as_slice(), at) {
         None => return Ok(None),
-        Some(pair) => (key_value(&pair.key)?, pair.value.copy()?),
+        Some(pair) => (pair.key.to_value()?, pair.value.copy()?),
     };
     Ok(Some(Pulled {
         key,

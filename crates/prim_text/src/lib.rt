@@ -8,4 +8,5 @@ mod rows;
 mod shapes;
 mod table;
 
+pub use made::{Made, give, number, sized};
 pub use table::apply;

@@ -17,14 +17,14 @@ use std::alloc::Global;
 
 /// The item that a primitive makes, or those, of which the first comes to the top.
 #[derive(Drop)]
-pub(crate) enum Made {
+pub enum Made {
     One(Value),
     Many(Vec<Value>),
 }
 
 /// The answer that is a number.
 #[tactic(auto, using(crate::proofs::Making::making_steps))]
-pub(crate) fn number(i: i32) -> Made
+pub fn number(i: i32) -> Made
     ensures { number i ≡ made_of result }
 {
     Made::One(Value::Int(i))
@@ -32,7 +32,7 @@ pub(crate) fn number(i: i32) -> Made
 
 /// The text of these bytes, where it isn't too long.
 #[tactic(auto, using(crate::proofs::Making::making_steps))]
-pub(crate) fn sized(alloc: Global, bytes: Vec<u8>) -> Result<Made, PrimFault>
+pub fn sized(alloc: Global, bytes: Vec<u8>) -> Result<Made, PrimFault>
     requires { IsInside bytes.items }
     ensures { Makes (sized bytes.items) result }
 {
@@ -94,7 +94,7 @@ fn give_all(frame: &mut Frame, taken: usize, items: Vec<Value>) -> Result<(), Mu
 }
 
 /// So many items at the top, which are there, give way to what is made.
-pub(crate) fn give(frame: &mut Frame, taken: usize, made: Made) -> Result<(), PrimFault>
+pub fn give(frame: &mut Frame, taken: usize, made: Made) -> Result<(), PrimFault>
     requires { taken ≤ length frame.old.stack }
     ensures { AppliedOr (put taken (made_of made) (drop taken (flat frame.old).stack)) frame.old frame.new result }
 {

@@ -1,4 +1,4 @@
-// Code that no source is compiled to: a call of a word that isn't there, and a primitive that isn't there yet. Each is a
+// Code without a source: a call of a word that isn't there, and a primitive of an item of a wrong kind. Each is a
 // fault, which the TRY catches.
 use crate::first_wrong;
 use muck_model::{Dbref, Line, LineFault, NoMemory, Row};
@@ -36,7 +36,7 @@ fn frame_of(alloc: Global) -> Result<Frame, NoMemory> {
 }
 
 #[test]
-fn words_that_are_not_there(rt: HostRuntime) -> Result<(), NoMemory> {
+fn words_that_are_refused(rt: HostRuntime) -> Result<(), NoMemory> {
     let alloc = rt.alloc();
     let call = code_of(alloc, Word::Call(9))?;
     let mut faulted = frame_of(alloc)?;
@@ -55,7 +55,7 @@ fn words_that_are_not_there(rt: HostRuntime) -> Result<(), NoMemory> {
         stopped.units() == 2,
         stopped.len() == 2,
         stopped.text_at(0).is_some_and(|text| text.as_slice()
-            == b"Program not compiled.".as_slice()),
+            == b"Wrong type of argument.".as_slice()),
     ];
     assert_eq!(rt; first_wrong(&holds), None);
     Ok(())

@@ -1,0 +1,39 @@
+// Runs MUF programs over long lists and texts.
+use crate::units::{begin, compiled, empty_frame};
+use muf_run::run_local;
+use std::alloc::Global;
+
+// A list that grows item by item, or one each of whose items is set through a variable; or a text that is doubled so many times,
+// and is cut, filled in or searched in so many rounds.
+fn source_of(alloc: Global, name: &str, size: u32, rounds: u32) -> Option<String> {
+    let body = match name {
+        "append" => {
+            return format!(in alloc;
+                ": main pop 0 array_make 1 {size} 1 for swap array_appenditem repeat ;"
+            ).ok();
+        }
+        "set" => {
+            return format!(in alloc;
+                ": main pop var v 0 array_make 1 {size} 1 for swap array_appenditem repeat v ! 0 {size} 1 - 1 for var! i 7 v @ i @ array_setitem v ! repeat ;"
+            ).ok();
+        }
+        "explode" => "\",\" explode popn",
+        "subst" => "\"b\" \",\" subst pop",
+        _ => "\"b\" instr pop",
+    };
+    format!(in alloc;
+        ": main pop \"aaaaaaa,\" 1 {size} 1 for pop dup strcat repeat var! t 1 {rounds} 1 for pop t @ {body} repeat ;"
+    ).ok()
+}
+
+/// The program `append` or `set` runs over so many items, or `explode`, `subst` or `instr` over a text that is doubled so many
+/// times, in so many rounds; answers how many units it took.
+pub fn run(alloc: Global, program: &str, size: u32, rounds: u32) -> Option<String> {
+    let source = source_of(alloc, program, size, rounds)?;
+    let code = compiled(alloc, source.as_str())?;
+    let mut frame = empty_frame(alloc)?;
+    begin(alloc, &code, &mut frame)?;
+    let _local = run_local(alloc, &code, &mut frame, u32::MAX).ok()?;
+    let units = frame.units();
+    format!(in alloc; "{units} units").ok()
+}

@@ -1,0 +1,6 @@
+pub mod Reading
+pub mod Changing
+pub mod Items
+pub mod Taking
+pub mod Counting
+pub mod Texts

@@ -1,0 +1,13 @@
+//! The primitives of lists and dictionaries.
+#![tactic(auto)]
+
+mod changes;
+mod entries;
+mod joining;
+mod making;
+mod rows;
+mod shapes;
+mod table;
+mod tops;
+
+pub use table::apply;

@@ -1,0 +1,249 @@
+-- Values that come between others or go, and the places of keys.
+use Rattle.std.proofs.Common.{◌≡◌, ℕ, zero, suc, ◌+◌, ◌<◌, ◌≤◌, max, Bool, true, false, List, [], ◌∷◌, ◌++◌, length, map, drop, set, Some, None, refl, sym, ◌∙◌, ap, subst, arith, rules}
+use Rattle.std.specs.Prelude.{if◌then◌else◌, slice_get, int_lt, nat_lt, ◌&&◌}
+use Rattle.std.specs.List.{insert, remove}
+use Rattle.std.specs.Ordering.{nat_cmp, is_lt, ordering_reverse}
+use Rattle.std.specs.declared.cmp.Ordering.{Ordering}
+use Rattle.std.specs.declared.cmp.Ordering.TheVariants.{Less, Equal, Greater}
+use Rattle.std.proofs.lemmas.Bool.{lt-ltb}
+use Rattle.std.proofs.lemmas.Int.{ints}
+use Rattle.std.proofs.lemmas.List.{length-map}
+use Rattle.std.specs.Cmp.Lexicographic.{slice_cmp}
+use Rattle.std.proofs.lemmas.Cmp.{nat_list_cmp_total}
+use Rattle.muf_model.specs.declared.size.Size.{Size}
+use Rattle.muf_model.specs.declared.value.MapKey.{MapKey}
+use Rattle.muf_model.specs.declared.value.Pair.{Pair}
+use Rattle.muf_model.specs.View.{pair_view, value_view}
+use Rattle.muf_model.specs.declared.value.MapKey.TheVariants.{Number, Name}
+use Rattle.muf_model.specs.Datum.{Datum, items, dict, data_of, pairs_of}
+use Rattle.muf_model.specs.Measures.{weight, data_weight, pairs_weight, nesting, data_nesting, pairs_nesting, key_below}
+use Rattle.muf_model.specs.Entries.{key_same, with_entry, entry_place, has_key, without, above, gathered, IsAhead, Rising}
+use Rattle.muf_model.specs.Values.{fits, size_fits, RiseInData, RiseInPairs, IsValue, IsSized}
+use Rattle.muf_model.proofs.Entries.{rising, same_is}
+use Rattle.muf_model.proofs.Sized.{fitting, sized, within, weight_more, nesting_more, rise_more, entries_again, dict_weight, dict_nesting}
+
+-- ---- room
+
+pub room : (ds : List Datum) (d : Datum) (s t : Size) → IsSized (items (data_of ds)) s → t.weight ≡ s.weight + weight d → t.nesting ≡ max s.nesting (nesting d) → (at : ℕ) → size_fits t ≡ fits (items (data_of (insert ds at d)))
+room ds d s t h w n at = sym (fitting t.weight t.nesting (weight (items (data_of (insert ds at d)))) (nesting (items (data_of (insert ds at d)))) (omega (arith, weight_more at ds d, h.weighs, w)) (omega (arith, nesting_more at ds d, h.nests, n)))
+
+pub inserted_weight : (ds : List Datum) (d : Datum) (s t : Size) (at : ℕ) → IsSized (items (data_of ds)) s → t.weight ≡ s.weight + weight d → t.weight ≡ data_weight (data_of (insert ds at d))
+inserted_weight ds d s t at h w = omega (arith, weight_more at ds d, h.weighs, w)
+
+pub inserted_nesting : (ds : List Datum) (d : Datum) (s t : Size) (at : ℕ) → IsSized (items (data_of ds)) s → t.nesting ≡ max s.nesting (nesting d) → t.nesting ≡ data_nesting (data_of (insert ds at d))
+inserted_nesting ds d s t at h n = omega (arith, nesting_more at ds d, h.nests, n)
+
+pub inserted_fits : (i : ℕ) (ds : List Datum) (d : Datum) (s t : Size) → IsSized (items (data_of ds)) s → IsValue d → t.weight ≡ data_weight (data_of (insert ds i d)) → t.nesting ≡ data_nesting (data_of (insert ds i d)) → size_fits t ≡ true → IsSized (items (data_of (insert ds i d))) t
+inserted_fits i ds d s t h v w n f =
+    sized (items (data_of (insert ds i d))) t (omega (arith, w)) (omega (arith, n)) (rise_more i ds d h.is_value.rising v.rising) f
+
+-- ---- one value less
+
+pub weight_less : (i : ℕ) (ds : List Datum) (d : Datum) → i < length ds → data_weight (data_of (set ds i d)) ≡ weight d + data_weight (data_of (remove ds i))
+weight_less i [] d h = absurd (omega arith)
+weight_less zero (x ∷ ds) d h = refl
+weight_less (suc i) (x ∷ ds) d h = omega (arith, weight_less i ds d (omega arith))
+
+pub nesting_less : (i : ℕ) (ds : List Datum) (d : Datum) → i < length ds → data_nesting (data_of (set ds i d)) ≡ max (nesting d) (data_nesting (data_of (remove ds i)))
+nesting_less i [] d h = absurd (omega arith)
+nesting_less zero (x ∷ ds) d h = refl
+nesting_less (suc i) (x ∷ ds) d h = omega (arith, nesting_less i ds d (omega arith))
+
+weight_within : (i : ℕ) (ds : List Datum) → i < length ds → data_weight (data_of (remove ds i)) ≤ data_weight (data_of ds)
+weight_within i [] h = absurd (omega arith)
+weight_within zero (x ∷ ds) h = omega arith
+weight_within (suc i) (x ∷ ds) h = omega (arith, weight_within i ds (omega arith))
+
+nesting_within : (i : ℕ) (ds : List Datum) → i < length ds → data_nesting (data_of (remove ds i)) ≤ data_nesting (data_of ds)
+nesting_within i [] h = absurd (omega arith)
+nesting_within zero (x ∷ ds) h = omega arith
+nesting_within (suc i) (x ∷ ds) h = omega (arith, nesting_within i ds (omega arith))
+
+rise_less : (i : ℕ) (ds : List Datum) → i < length ds → RiseInData (data_of ds) → RiseInData (data_of (remove ds i))
+rise_less i [] h r = absurd (omega arith)
+rise_less zero (x ∷ ds) h r = r.1
+rise_less (suc i) (x ∷ ds) h r = (r.0, rise_less i ds (omega arith) r.1)
+
+small : (w n : ℕ) → w ≤ 65535 → n ≤ 63 → (nat_lt w 65536 && nat_lt n 64) ≡ true
+small w n h k = rw (lt-ltb w 65536 (omega (arith, h)), lt-ltb n 64 (omega (arith, k))) refl
+
+pub less_fits : (i : ℕ) (ds : List Datum) (s t : Size) → i < length ds → IsSized (items (data_of ds)) s → t.weight ≡ data_weight (data_of (remove ds i)) → t.nesting ≡ data_nesting (data_of (remove ds i)) → IsSized (items (data_of (remove ds i))) t
+less_fits i ds s t h z w n =
+    let l = within (items (data_of ds)) s z in
+    sized (items (data_of (remove ds i))) t (omega (arith, w)) (omega (arith, n)) (rise_less i ds h z.is_value.rising) (small t.weight t.nesting (omega (arith, w, l.0, z.weighs, weight_within i ds h)) (omega (arith, n, l.1, z.nests, nesting_within i ds h)))
+
+-- ---- the order of keys
+
+is_less : (o : Ordering) → is_lt o ≡ true → o ≡ Less
+is_less Less e = refl
+is_less Equal e = search (rules, e)
+is_less Greater e = search (rules, e)
+
+not_less : (o : Ordering) → o ≡ ordering_reverse o → is_lt o ≡ false
+not_less Less e = search (rules, e)
+not_less Equal e = refl
+not_less Greater e = refl
+
+below_further : (j k l : MapKey) → key_below j k ≡ true → key_below k l ≡ true → key_below j l ≡ true
+below_further (Number m) (Number n) (Number p) e f = grind (arith, ints, e, f)
+below_further (Number m) (Number n) (Name t) e f = refl
+below_further (Number m) (Name s) (Number p) e f = search (rules, f)
+below_further (Number m) (Name s) (Name t) e f = refl
+below_further (Name r) (Number n) l e f = search (rules, e)
+below_further (Name r) (Name s) (Number p) e f = search (rules, f)
+below_further (Name r) (Name s) (Name t) e f = ap is_lt (nat_list_cmp_total.trans r s t (is_less _ e) (is_less _ f))
+
+not_below_itself : (k : MapKey) → key_below k k ≡ false
+not_below_itself (Number n) = grind (arith, ints)
+not_below_itself (Name t) = not_less (slice_cmp nat_cmp t t) (nat_list_cmp_total.antisymm t t)
+
+apart_cases : (k l : MapKey) (b : Bool) → key_same k l ≡ b → key_below k l ≡ true → b ≡ false
+apart_cases k l true e f = search (rules, sym (subst (λ j. key_below k j ≡ false) (same_is k l e) (not_below_itself k)) ∙ f)
+apart_cases k l false e f = refl
+
+below_apart : (k l : MapKey) → key_below k l ≡ true → key_same k l ≡ false
+below_apart k l f = apart_cases k l (key_same k l) refl f
+
+ahead_further : (j l : MapKey) (es : List (MapKey × Datum)) → key_below j l ≡ true → IsAhead l es → IsAhead j es
+ahead_further j l [] e a = tt
+ahead_further j l ((m, y) ∷ es) e a = below_further j l m e a
+
+-- ---- what is gone
+
+all_above : (k : MapKey) (es : List (MapKey × Datum)) → IsAhead k es → Rising es → without k es ≡ es
+all_above k [] a r = refl
+all_above k ((l, x) ∷ es) a r =
+    ap (λ b. if b then es else (l, x) ∷ without k es) (below_apart k l a) ∙ ap (λ rest. (l, x) ∷ rest) (all_above k es (ahead_further k l es a r.0) r.1)
+
+missing_cases : (k l : MapKey) (x : Datum) (es : List (MapKey × Datum)) (b c : Bool) → key_same k l ≡ b → key_below k l ≡ c → IsAhead l es → Rising es → (has_key k (slice_get es (entry_place k es)) ≡ false → without k es ≡ es) → has_key k (slice_get ((l, x) ∷ es) (if b then 0 else (if c then 0 else suc (entry_place k es)))) ≡ false → (if b then es else (l, x) ∷ without k es) ≡ (l, x) ∷ es
+missing_cases k l x es true c e f a r h n = search (rules, sym e ∙ n)
+missing_cases k l x es false true e f a r h n = ap (λ rest. (l, x) ∷ rest) (all_above k es (ahead_further k l es f a) r)
+missing_cases k l x es false false e f a r h n = ap (λ rest. (l, x) ∷ rest) (h n)
+
+-- a key that has no value takes nothing with it
+pub without_missing : (k : MapKey) (es : List (MapKey × Datum)) → Rising es → has_key k (slice_get es (entry_place k es)) ≡ false → without k es ≡ es
+without_missing k [] r n = refl
+without_missing k ((l, x) ∷ es) r n = missing_cases k l x es (key_same k l) (key_below k l) refl refl r.0 r.1 (without_missing k es r.1) n
+
+there_cases : (k l : MapKey) (x : Datum) (es : List (MapKey × Datum)) (b c : Bool) → key_same k l ≡ b → (has_key k (slice_get es (entry_place k es)) ≡ true → without k es ≡ remove es (entry_place k es)) → has_key k (slice_get ((l, x) ∷ es) (if b then 0 else (if c then 0 else suc (entry_place k es)))) ≡ true → (if b then es else (l, x) ∷ without k es) ≡ remove ((l, x) ∷ es) (if b then 0 else (if c then 0 else suc (entry_place k es)))
+there_cases k l x es true c e h t = refl
+there_cases k l x es false true e h t = search (rules, sym e ∙ t)
+there_cases k l x es false false e h t = ap (λ rest. (l, x) ∷ rest) (h t)
+
+-- and one that has one takes the entry at its place
+pub without_there : (k : MapKey) (es : List (MapKey × Datum)) → has_key k (slice_get es (entry_place k es)) ≡ true → without k es ≡ remove es (entry_place k es)
+without_there k [] t = refl
+without_there k ((l, x) ∷ es) t = there_cases k l x es (key_same k l) (key_below k l) refl (without_there k es) t
+
+-- ---- greater keys
+
+starts_above : (k : MapKey) (es : List (MapKey × Datum)) → IsAhead k es → es ≡ above k es
+starts_above k [] a = refl
+starts_above k ((l, x) ∷ es) a = sym (ap (λ b. if b then (l, x) ∷ es else above k es) a)
+
+behind_cases : (k l : MapKey) (x : Datum) (es : List (MapKey × Datum)) (b c : Bool) → key_same k l ≡ b → key_below k l ≡ c → IsAhead l es → (has_key k (slice_get es (entry_place k es)) ≡ true → drop (entry_place k es + 1) es ≡ above k es) → has_key k (slice_get ((l, x) ∷ es) (if b then 0 else (if c then 0 else suc (entry_place k es)))) ≡ true → drop ((if b then 0 else (if c then 0 else suc (entry_place k es))) + 1) ((l, x) ∷ es) ≡ (if c then (l, x) ∷ es else above k es)
+behind_cases k l x es true true e f a h t = search (rules, sym e ∙ below_apart k l f)
+behind_cases k l x es true false e f a h t = starts_above k es (subst (λ j. IsAhead j es) (sym (same_is k l e)) a)
+behind_cases k l x es false true e f a h t = search (rules, sym e ∙ t)
+behind_cases k l x es false false e f a h t = let m : suc (entry_place k es) + 1 ≡ suc (entry_place k es + 1) = omega arith in rw m (h t)
+
+pub above_there : (k : MapKey) (es : List (MapKey × Datum)) → Rising es → has_key k (slice_get es (entry_place k es)) ≡ true → drop (entry_place k es + 1) es ≡ above k es
+above_there k [] r t = refl
+above_there k ((l, x) ∷ es) r t = behind_cases k l x es (key_same k l) (key_below k l) refl refl r.0 (above_there k es r.1) t
+
+at_cases : (k l : MapKey) (x : Datum) (es : List (MapKey × Datum)) (b c : Bool) → key_same k l ≡ b → (has_key k (slice_get es (entry_place k es)) ≡ false → drop (entry_place k es) es ≡ above k es) → has_key k (slice_get ((l, x) ∷ es) (if b then 0 else (if c then 0 else suc (entry_place k es)))) ≡ false → drop (if b then 0 else (if c then 0 else suc (entry_place k es))) ((l, x) ∷ es) ≡ (if c then (l, x) ∷ es else above k es)
+at_cases k l x es true c e h n = search (rules, sym e ∙ n)
+at_cases k l x es false true e h n = refl
+at_cases k l x es false false e h n = h n
+
+pub above_missing : (k : MapKey) (es : List (MapKey × Datum)) → has_key k (slice_get es (entry_place k es)) ≡ false → drop (entry_place k es) es ≡ above k es
+above_missing k [] n = refl
+above_missing k ((l, x) ∷ es) n = at_cases k l x es (key_same k l) (key_below k l) refl (above_missing k es) n
+
+-- ---- the same, at a place that is the key's
+
+pub gone_there : (k : MapKey) (es : List (MapKey × Datum)) (at : ℕ) → at ≡ entry_place k es → has_key k (slice_get es at) ≡ true → remove es at ≡ without k es
+gone_there k es at e t = ap (remove es) e ∙ sym (without_there k es (ap (λ i. has_key k (slice_get es i)) (sym e) ∙ t))
+
+pub gone_missing : (k : MapKey) (es : List (MapKey × Datum)) (at : ℕ) → at ≡ entry_place k es → Rising es → has_key k (slice_get es at) ≡ false → es ≡ without k es
+gone_missing k es at e r n = sym (without_missing k es r (ap (λ i. has_key k (slice_get es i)) (sym e) ∙ n))
+
+pub above_behind : (k : MapKey) (es : List (MapKey × Datum)) (at : ℕ) → at ≡ entry_place k es → Rising es → has_key k (slice_get es at) ≡ true → drop (at + 1) es ≡ above k es
+above_behind k es at e r t = ap (λ i. drop (i + 1) es) e ∙ above_there k es r (ap (λ i. has_key k (slice_get es i)) (sym e) ∙ t)
+
+pub above_at : (k : MapKey) (es : List (MapKey × Datum)) (at : ℕ) → at ≡ entry_place k es → has_key k (slice_get es at) ≡ false → drop at es ≡ above k es
+above_at k es at e n = ap (λ i. drop i es) e ∙ above_missing k es (ap (λ i. has_key k (slice_get es i)) (sym e) ∙ n)
+
+-- ---- an entry less
+
+ahead_less : (l : MapKey) (i : ℕ) (es : List (MapKey × Datum)) → i < length es → IsAhead l es → Rising es → IsAhead l (remove es i)
+ahead_less l i [] h a r = absurd (omega arith)
+ahead_less l zero ((m, y) ∷ es) h a r = ahead_further l m es a r.0
+ahead_less l (suc i) ((m, y) ∷ es) h a r = a
+
+rising_less : (i : ℕ) (es : List (MapKey × Datum)) → i < length es → Rising es → Rising (remove es i)
+rising_less i [] h r = absurd (omega arith)
+rising_less zero ((l, x) ∷ es) h r = r.1
+rising_less (suc i) ((l, x) ∷ es) h r = (ahead_less l i es (omega arith) r.0 r.1, rising_less i es (omega arith) r.1)
+
+rise_pairs_less : (i : ℕ) (es : List (MapKey × Datum)) → i < length es → RiseInPairs (pairs_of es) → RiseInPairs (pairs_of (remove es i))
+rise_pairs_less i [] h r = absurd (omega arith)
+rise_pairs_less zero (e ∷ es) h r = r.1
+rise_pairs_less (suc i) (e ∷ es) h r = (r.0, rise_pairs_less i es (omega arith) r.1)
+
+pub map_remove : {A B : Type 0} → (f : A → B) (xs : List A) (i : ℕ) → map f (remove xs i) ≡ remove (map f xs) i
+map_remove f [] zero = refl
+map_remove f [] (suc i) = refl
+map_remove f (x ∷ xs) zero = refl
+map_remove f (x ∷ xs) (suc i) = ap (λ r. f x ∷ r) (map_remove f xs i)
+
+pairs_weight_less : (i : ℕ) (ps : List Pair) → pairs_weight (pairs_of (remove (map pair_view ps) i)) ≡ data_weight (data_of (remove (map value_view ps) i))
+pairs_weight_less i ps = ap (λ es. pairs_weight (pairs_of es)) (sym (map_remove pair_view ps i)) ∙ dict_weight (remove ps i) ∙ ap (λ ds. data_weight (data_of ds)) (map_remove value_view ps i)
+
+pairs_nesting_less : (i : ℕ) (ps : List Pair) → pairs_nesting (pairs_of (remove (map pair_view ps) i)) ≡ data_nesting (data_of (remove (map value_view ps) i))
+pairs_nesting_less i ps = ap (λ es. pairs_nesting (pairs_of es)) (sym (map_remove pair_view ps i)) ∙ dict_nesting (remove ps i) ∙ ap (λ ds. data_nesting (data_of ds)) (map_remove value_view ps i)
+
+pub pair_less_fits : (i : ℕ) (ps : List Pair) (s t : Size) → i < length ps → IsSized (dict (pairs_of (map pair_view ps))) s → t.weight ≡ data_weight (data_of (remove (map value_view ps) i)) → t.nesting ≡ data_nesting (data_of (remove (map value_view ps) i)) → IsSized (dict (pairs_of (remove (map pair_view ps) i))) t
+pair_less_fits i ps s t h z w n =
+    let es = map pair_view ps in
+    let l = within (dict (pairs_of es)) s z in
+    let here : i < length es = omega (arith, h, length-map ps pair_view) in
+    let there : i < length (map value_view ps) = omega (arith, h, length-map ps value_view) in
+    let rise : Rising es = subst Rising (entries_again es) z.is_value.rising.0 in
+    sized (dict (pairs_of (remove es i))) t (omega (arith, w, pairs_weight_less i ps)) (omega (arith, n, pairs_nesting_less i ps))
+    (subst Rising (sym (entries_again (remove es i))) (rising_less i es here rise), rise_pairs_less i es here z.is_value.rising.1)
+    (small t.weight t.nesting (omega (arith, w, l.0, z.weighs, dict_weight ps, weight_within i (map value_view ps) there)) (omega (arith, n, l.1, z.nests, dict_nesting ps, nesting_within i (map value_view ps) there)))
+
+-- ---- pairs that are gathered
+
+-- pairs that are put before entries
+abbrev pub onto : List (MapKey × Datum) → List (MapKey × Datum) → List (MapKey × Datum)
+onto [] es = es
+onto ((k, x) ∷ ps) es = with_entry k x (onto ps es)
+
+pub onto_none : (ps : List (MapKey × Datum)) → onto ps [] ≡ gathered ps
+onto_none [] = refl
+onto_none ((k, x) ∷ ps) = ap (with_entry k x) (onto_none ps)
+
+pub onto_last : (ps : List (MapKey × Datum)) (k : MapKey) (x : Datum) (es : List (MapKey × Datum)) → onto (ps ++ (k, x) ∷ []) es ≡ onto ps (with_entry k x es)
+onto_last [] k x es = refl
+onto_last ((l, y) ∷ ps) k x es = ap (with_entry l y) (onto_last ps k x es)
+
+rising_gathered : (ps : List (MapKey × Datum)) → Rising (gathered ps)
+rising_gathered [] = tt
+rising_gathered ((k, x) ∷ ps) = rising k x (gathered ps) (rising_gathered ps)
+
+rise_pairs : (ps : List Pair) → RiseInData (data_of (map value_view ps)) → RiseInPairs (pairs_of (map pair_view ps))
+rise_pairs [] r = tt
+rise_pairs (p ∷ ps) r = (r.0, rise_pairs ps r.1)
+
+pub gathered_fits : (ps : List Pair) (es : List (MapKey × Datum)) (s : Size) → map pair_view ps ≡ gathered es → IsSized (items (data_of (map value_view ps))) s → IsSized (dict (pairs_of (map pair_view ps))) s
+gathered_fits ps es s e z =
+    let all = map pair_view ps in
+    let rise : Rising all = subst Rising (sym e) (rising_gathered es) in
+    record { weighs = ap (λ w. 1 + w) (dict_weight ps) ∙ z.weighs; nests = ap (λ n. 1 + n) (dict_nesting ps) ∙ z.nests; is_value = record { fitting = same_fit ps ∙ z.is_value.fitting; rising = (subst Rising (sym (entries_again all)) rise, rise_pairs ps z.is_value.rising) } } where
+      same_fit : (ps : List Pair) → fits (dict (pairs_of (map pair_view ps))) ≡ fits (items (data_of (map value_view ps)))
+      same_fit ps = rw (dict_weight ps, dict_nesting ps) refl
+
+pub gathered_unfit : (ps : List Pair) → fits (items (data_of (map value_view ps))) ≡ false → fits (dict (pairs_of (map pair_view ps))) ≡ false
+gathered_unfit ps e = rw (dict_weight ps, dict_nesting ps) e
