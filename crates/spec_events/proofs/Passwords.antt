@@ -9,7 +9,7 @@ use Rattle.muck_model.specs.declared.dbref.Dbref.{Dbref}
 use Rattle.muck_model.specs.declared.edit.EditState.{EditState}
 use Rattle.muck_model.specs.declared.event.Entry.{Entry}
 use Rattle.muck_model.specs.declared.event.Event.{Event}
-use Rattle.muck_model.specs.declared.event.Event.TheVariants.{Opened, Input, Closed, Moment, Exec, Claim, Slice, Lost, Idle, Take, Halt, Died}
+use Rattle.muck_model.specs.declared.event.Event.TheVariants.{Opened, Input, Closed, Exec, Slice, Take, Died}
 use Rattle.spec_live.specs.Objects.{nothing}
 use Rattle.spec_live.specs.Connections.{Connection, has_number, changed_in, placed, without, left, seated, newcomer}
 use Rattle.spec_live.specs.Boards.{player_in, opened, closed, line_added, bytes_taken, seated_one, leaving_one, early_board}
@@ -29,11 +29,10 @@ use Rattle.spec_commands.proofs.Lines.{quiet_parted}
 use Rattle.muck_queue.specs.Queues.{reader, without as process_without, on_process, told_line}
 use Rattle.spec_events.specs.World.{World, connection, starting, booted, on_live, on_queue}
 use Rattle.spec_events.specs.Lines.{program_aborted, is_abort, given_line, line_for, line_done, done}
-use Rattle.spec_events.specs.Slices.{Taken, after_unit, last_world, awake, sliced}
+use Rattle.spec_events.specs.Slices.{Taken, after_unit, last_world, awake, units_of}
 use Rattle.spec_events.specs.Steps.{is_died, is_allowed, is_lawful, happened, effect}
 use Rattle.spec_events.specs.Licences.{LineLicensed, TurnLicensed, UnitLicensed, Chained, SliceLicensed, EventLicensed}
 use Rattle.spec_events.specs.Histories.{after, AllLawful, AllLicensed}
-use Rattle.spec_events.specs.Sound.{IsSound}
 use Rattle.spec_events.specs.Passwords.{credentials, Proves, Stays, IsKnown, AllKnown}
 use Rattle.spec_events.proofs.Done.{player-same_ties}
 use Rattle.spec_events.proofs.Reached.{sound-effect}
@@ -277,8 +276,8 @@ gained_exec d w v g e p h = elim (g e p h) [
 
 gained : (event : Event) (party : ℕ) (w : World) → IsRising w.live.board.connections → EventLicensed event w (happened w party event) → HasGained event w (happened w party event)
 unfolding opened line_added bytes_taken
-gained (Exec d) party w r l = gained_exec d w _ (gains_done d (connection d w) w refl l)
-gained (Slice pid) party w r l = λ e p h. inl (sym (slice_kept pid e _ w _ l) ∙ h, λ x. cc)
+gained (Exec d) party w r l = gained_exec d w (happened w party (Exec d)) (gains_done d (connection d w) w refl l)
+gained (Slice pid) party w r l = λ e p h. inl (sym (slice_kept pid e (units_of pid w) w (happened w party (Slice pid)) l) ∙ h, λ x. cc)
 gained (Closed d) party w r l = λ e p h. let k = closed_found e d p w.live r h in inl (k.0, λ x. k.1 cc)
 gained (Opened d) party w r l = λ e p h. inl (placed_found e d welcome p w.live.board.connections h, λ x. cc)
 gained (Input d line) party w r l = λ e p h. inl (sym (kept_quiet e (on_board (line_added d line)) (quiet_one d _ (λ c. refl)) w.live) ∙ h, λ x. cc)
@@ -311,17 +310,18 @@ known w (entry ∷ entries) r l m d p h =
       | inr k ↦ inr (inr k)
     ]
 
+rising_starting : IsRising starting.live.board.connections
+unfolding starting booted early_board
+rising_starting = tt
+
+nobody_starts : (d : ℕ) (p : Dbref) → player_in d starting.live.board ≡ Some p → ⊥
+unfolding starting booted early_board
+nobody_starts d p h = none-some p h
+
 -- in each history from the starting world
 pub all_known_starting : (es : List Entry) → AllLawful starting es → AllKnown starting es
 all_known_starting es l d p h =
     elim (known starting es rising_starting l (all_licensed_starting es) d p h) [
-      | inl k ↦ absurd (nobody d p k.0)
+      | inl k ↦ absurd (nobody_starts d p k.0)
       | inr k ↦ k
     ]
-  where
-    rising_starting : IsRising starting.live.board.connections
-    unfolding starting booted early_board
-    rising_starting = tt
-    nobody : (d : ℕ) (p : Dbref) → player_in d starting.live.board ≡ Some p → ⊥
-    unfolding starting booted early_board
-    nobody d p h = none-some p h
