@@ -65,7 +65,7 @@ open_settled a free start dead u p =
 -- Leaving.
 
 -- a connection keeps its player
-player-same_ties : (a : Actor) (d : ℕ) (cs ds : List Connection) → SameTies a cs ds → option_and_then (λ (c : Connection). c.player) (find (has_number d) ds) ≡ option_and_then (λ (c : Connection). c.player) (find (has_number d) cs)
+pub player-same_ties : (a : Actor) (d : ℕ) (cs ds : List Connection) → SameTies a cs ds → option_and_then (λ (c : Connection). c.player) (find (has_number d) ds) ≡ option_and_then (λ (c : Connection). c.player) (find (has_number d) cs)
 player-same_ties a d [] [] t = refl
 player-same_ties a d [] (y ∷ ys) t = absurd t
 player-same_ties a d (x ∷ xs) [] t = absurd t

@@ -18,6 +18,7 @@ pub mod Living
 pub mod Reached
 pub mod Runs
 pub mod Turns
+pub mod Passwords
 pub mod Claims
 mod Errors
 mod Ending

@@ -10,4 +10,5 @@ pub mod Endings
 pub mod Licences
 pub mod Histories
 pub mod Sound
+pub mod Passwords
 pub mod Rows
