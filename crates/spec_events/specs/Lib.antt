@@ -11,3 +11,4 @@ pub mod Licences
 pub mod Histories
 pub mod Sound
 pub mod Rows
+pub mod LineRows
