@@ -1,41 +1,31 @@
 -- Lines that are neither players' nor builders': the world is as it was for keepers, who alone retune it.
-use Rattle.std.proofs.Common.{◌≡◌, ◌==◌, ℕ, Bool, true, false, cond, List, [], ◌∷◌, refl, ap, subst, Option, Some, None, Result, Ok, Err}
-use Rattle.std.specs.Prelude.{◌||◌}
+use Rattle.std.proofs.Common.{◌≡◌, ◌==◌, ℕ, Bool, true, false, cond, List, [], ◌∷◌, refl, subst, Option, Some, None, Result, Ok, Err}
 use Rattle.muck_model.specs.declared.dbref.Dbref.{Dbref}
-use Rattle.muck_model.specs.declared.dbref.Denial.{Denial}
 use Rattle.muck_model.specs.declared.tune.Tune.{Tune}
 use Rattle.muck_match.specs.declared.exits.ExitHit.{ExitHit}
-use Rattle.muck_match.specs.declared.naming.Found.{Found}
-use Rattle.muck_match.specs.declared.naming.Found.TheVariants.{One, None as Nobody, Many}
 use Rattle.muck_match.specs.Exits.{exit_for}
 use Rattle.spec_live.specs.declared.fault.DbFault.{DbFault}
-use Rattle.spec_live.specs.Objects.{Entry}
 use Rattle.spec_live.specs.Seen.{scenery_of}
-use Rattle.spec_live.specs.Lives.{Live, Change, followed, ◌▸◌, reading, either, where_so, unchanged, tell}
+use Rattle.spec_live.specs.Lives.{Live, Change, followed, ◌▸◌, reading, unchanged, tell}
+use Rattle.spec_live.proofs.Keeping.{Keeps, keeps_reading, keeps_either, keeps_where}
 use Rattle.spec_rights.specs.declared.act.Actor.{Actor}
-use Rattle.spec_rights.specs.declared.act.Act.{Act}
-use Rattle.spec_rights.specs.Verdict.{verdict, is_master}
-use Rattle.spec_rights.specs.Licence.{Freedom}
-use Rattle.spec_rights.specs.Asking.{answered, asked}
-use Rattle.spec_rights.proofs.Licences.{Whole, Always, whole_followed, whole_quiet}
+use Rattle.spec_rights.specs.Verdict.{is_master}
+use Rattle.spec_rights.proofs.Licences.{Whole, Always, keeps_asked, whole_followed, whole_quiet}
 use Rattle.spec_rights.proofs.Shown.{quiet_tell}
 use Rattle.spec_commands.specs.declared.outcome.Outcome.{Outcome}
-use Rattle.spec_commands.specs.declared.outcome.Outcome.TheVariants.{Done, NotMine, Start, Edit, Leave, Dump, Stop, Retune}
+use Rattle.spec_commands.specs.declared.outcome.Outcome.TheVariants.{Done, NotMine, Leave, Retune}
 use Rattle.spec_commands.specs.declared.word.PlayWord.{PlayWord}
 use Rattle.spec_commands.specs.declared.word.PlayWord.TheVariants.{Look, Say, Pose, Page, Whisper, Go, Get, Drop, Inventory, Home, Examine, Who, Quit}
 use Rattle.spec_commands.specs.declared.word.BuildWord.{BuildWord}
 use Rattle.spec_commands.specs.declared.word.BuildWord.TheVariants.{Dig, Create, Open, Action, Link, Unlink, Name, Set, Lock, Unlock, Teleport, Recycle, Chown, Assign, Find, Program, Edit as EditWord, List as ListWord, Run}
 use Rattle.spec_commands.specs.declared.typed.Typed.{Typed}
-use Rattle.spec_commands.specs.declared.shape.Want.{Want}
-use Rattle.spec_commands.specs.declared.shape.Want.TheVariants.{Nothing, Text, NewName, Found as FoundWant, Object, Player, Program as ProgramWant}
 use Rattle.spec_commands.specs.declared.shape.Shape.{Shape}
 use Rattle.spec_commands.specs.declared.shape.Arguments.{Arguments}
 use Rattle.spec_commands.specs.Texts.{first_word, other_words, trimmed}
 use Rattle.spec_commands.specs.Replies.{huh}
-use Rattle.spec_commands.specs.Finding.{chosen, finding, named_player, finding_player}
 use Rattle.spec_commands.specs.Going.{Play, ended, led, tried, walked, walked_some, went}
-use Rattle.spec_commands.specs.Programming.{over, program_put, program_at, program_new, program_made, program_edited, program_listed, program_run}
-use Rattle.spec_commands.specs.Reading.{looked_up, judged, sought, meant, with_fit, with_parts, with_arguments, by_command, by_table}
+use Rattle.spec_commands.specs.Programming.{program_put, program_at, program_new, program_made, program_edited, program_listed, program_run}
+use Rattle.spec_commands.specs.Reading.{looked_up, by_command, by_table}
 use Rattle.spec_commands.specs.Free.{free_line}
 use Rattle.spec_commands.specs.Talk.{waits}
 use Rattle.spec_commands.specs.Commands.{play_words, play_shape, line_typed, play_done, signed, play_line, build_words, build_shape, build_done, build_line, or_next, or_else, commanded, begins_with_sign, through, played}
@@ -43,7 +33,10 @@ use Rattle.spec_commands.proofs.Gone.{world_of, whole_ended}
 use Rattle.spec_commands.proofs.Permitted.{whole_next, played_leading}
 use Rattle.spec_commands.proofs.Showing.{quiet_waits}
 use Rattle.muck_queue.specs.Queues.{Queue}
+use Rattle.spec_admin.specs.Following.{MayFollow}
 use Rattle.spec_admin.specs.Lines.{admin_line}
+use Rattle.spec_admin.proofs.Following.{keeps_arguments, admin_follows}
+use Rattle.spec_admin.proofs.Open.{admin_leading}
 use Rattle.spec_events.specs.Lines.{by_keeper, typed}
 
 -- A command that is done retunes nothing.
@@ -53,8 +46,8 @@ IsPlain NotMine = ⊥
 IsPlain (Retune tune) = ⊥
 IsPlain outcome = Unit {0}
 
-record Plain (f : Play) : Type 0 where
-  law : (w : Live) → IsPlain (f w).1
+abbrev Plain : Play → Type 0
+Plain f = Keeps (λ (w : Live) (r : Live × Outcome). IsPlain r.1) f
 
 plain_ended : (outcome : Outcome) (f : Change) → IsPlain outcome → Plain (ended outcome f)
 unfolding ended
@@ -63,44 +56,20 @@ plain_ended outcome f h = record { law = λ w. h }
 plain_done : (f : Change) → Plain (ended Done f)
 plain_done f = plain_ended Done f tt
 
-plain_over : (d : ℕ) (text : List ℕ) → Plain (over d text)
-plain_over d text = plain_done (tell d text)
-
 plain_followed : (f : Change) (g : Play) → Plain g → Plain (followed f g)
 unfolding followed
 plain_followed f g p = record { law = λ w. p.law (f w) }
-
-plain_reading : {X : Type 0} (get : Live → X) (go : X → Play) → ((x : X) → Plain (go x)) → Plain (reading get go)
-unfolding reading
-plain_reading get go p = record { law = λ w. (p (get w)).law w }
-
-plain_either : (b : Bool) (f g : Play) → Plain f → Plain g → Plain (either b f g)
-unfolding either
-plain_either true f g p q = record { law = p.law }
-plain_either false f g p q = record { law = q.law }
-
-plain_where : (test : Live → Bool) (otherwise go : Play) → Plain otherwise → Plain go → Plain (where_so test otherwise go)
-unfolding where_so
-plain_where test otherwise go p q = plain_reading test (λ b. either b go otherwise) (λ b. plain_either b go otherwise q p)
-
-plain_asked : (a : Actor) (act : Act) (refuse : Denial → Play) (go : Play) → ((denial : Denial) → Plain (refuse denial)) → Plain go → Plain (asked a act refuse go)
-unfolding asked
-plain_asked a act refuse go p q = record { law = λ w. at w (verdict w.objects a act) }
-  where
-    at : (w : Live) (v : Option Denial) → IsPlain (answered v refuse go w).1
-    at w None = q.law w
-    at w (Some denial) = (p denial).law w
 
 -- Going.
 
 plain_led : (d : ℕ) (a : Actor) (typed : Typed) (exit : Dbref) (line : List ℕ) (to : Dbref) → Plain (led d a typed exit line to)
 unfolding led
-plain_led d a typed exit line to = plain_either _ _ _ (plain_done _) (plain_where _ _ _ (plain_done _) (plain_ended _ _ tt))
+plain_led d a typed exit line to = keeps_either _ _ _ (plain_done _) (keeps_where _ _ _ (plain_done _) (plain_ended _ _ tt))
 
 plain_walked : (d : ℕ) (a : Actor) (hit : ExitHit) (line : List ℕ) → Plain (walked d a hit line)
 unfolding walked tried
 plain_walked d a hit line =
-    plain_reading _ _ (λ typed. plain_asked a _ _ _ (λ denial. plain_done _) (plain_followed _ _ (plain_reading _ _ (λ to. plain_led d a typed hit.exit line to))))
+    keeps_reading _ _ (λ typed. keeps_asked a _ _ _ (λ denial. plain_done _) (plain_followed _ _ (keeps_reading _ _ (λ to. plain_led d a typed hit.exit line to))))
 
 plain_walked_some : (d : ℕ) (a : Actor) (line : List ℕ) (hit : Option ExitHit) → Plain (walked_some d a line hit)
 plain_walked_some d a line None = plain_done _
@@ -108,7 +77,7 @@ plain_walked_some d a line (Some hit) = plain_walked d a hit line
 
 plain_went : (d : ℕ) (a : Actor) (line : List ℕ) → Plain (went d a line)
 unfolding went
-plain_went d a line = plain_reading _ (walked_some d a line) (λ hit. plain_walked_some d a line hit)
+plain_went d a line = keeps_reading _ (walked_some d a line) (λ hit. plain_walked_some d a line hit)
 
 plain_play : (d : ℕ) (a : Actor) (typed : Typed) (command : PlayWord) (args : Arguments) → Plain (play_done d a typed command args)
 unfolding play_done
@@ -136,7 +105,7 @@ plain_program_at d a name level (Err fault) = plain_done _
 plain_program_made : (d : ℕ) (a : Actor) (name : List ℕ) → Plain (program_made d a name)
 unfolding program_made program_new
 plain_program_made d a name =
-    plain_asked a _ _ _ (λ denial. plain_done _) (plain_reading _ _ (λ level. plain_reading _ (program_at d a name level) (λ check. plain_program_at d a name level check)))
+    keeps_asked a _ _ _ (λ denial. plain_done _) (keeps_reading _ _ (λ level. keeps_reading _ (program_at d a name level) (λ check. plain_program_at d a name level check)))
 
 plain_build : (d : ℕ) (a : Actor) (line : List ℕ) (command : BuildWord) (args : Arguments) → Plain (build_done d a line command args)
 unfolding build_done program_edited program_listed program_run
@@ -156,41 +125,9 @@ plain_build d a line Chown args = plain_done _
 plain_build d a line Assign args = plain_done _
 plain_build d a line Find args = plain_done _
 plain_build d a line Program args = plain_program_made d a args.first.text
-plain_build d a line EditWord args = plain_asked a _ _ _ (λ denial. plain_done _) (plain_ended _ _ tt)
-plain_build d a line ListWord args = plain_asked a _ _ _ (λ denial. plain_done _) (plain_done _)
-plain_build d a line Run args = plain_asked a _ _ _ (λ denial. plain_done _) (plain_ended _ _ tt)
-
--- Arguments.
-
-plain_chosen : (d : ℕ) (text : List ℕ) (go : Dbref → Play) → ((x : Dbref) → Plain (go x)) → (hit : Found) → Plain (chosen (over d) text go hit)
-plain_chosen d text go p (One x) = p x
-plain_chosen d text go p Nobody = plain_over d _
-plain_chosen d text go p Many = plain_over d _
-
-plain_named_player : (d : ℕ) (text : List ℕ) (go : Dbref → Play) → ((x : Dbref) → Plain (go x)) → (hit : Option Dbref) → Plain (named_player (over d) text go hit)
-plain_named_player d text go p (Some x) = p x
-plain_named_player d text go p None = plain_over d _
-
-plain_sought : (d : ℕ) (a : Actor) (text : List ℕ) (go : Dbref → Play) → ((x : Dbref) → Plain (go x)) → Plain (sought d a text go)
-unfolding sought finding
-plain_sought d a text go p = plain_either _ _ _ (p _) (plain_reading _ (chosen (over d) text go) (plain_chosen d text go p))
-
-plain_meant : (d : ℕ) (a : Actor) (want : Want) (text : List ℕ) (go : Dbref → Play) → ((x : Dbref) → Plain (go x)) → Plain (meant d a want text go)
-unfolding judged finding_player
-plain_meant d a Nothing text go p = p _
-plain_meant d a Text text go p = p _
-plain_meant d a NewName text go p = plain_either _ _ _ (p _) (plain_over d _)
-plain_meant d a FoundWant text go p = plain_sought d a text go p
-plain_meant d a Object text go p = plain_sought d a text go p
-plain_meant d a ProgramWant text go p = plain_sought d a text go p
-plain_meant d a Player text go p = plain_reading _ (named_player (over d) text go) (plain_named_player d text go p)
-
-plain_with : (d : ℕ) (a : Actor) (word : List ℕ) (shape : Shape) (text : List ℕ) (go : Arguments → Play) → ((args : Arguments) → Plain (go args)) → Plain (with_arguments d a word shape text go)
-unfolding with_arguments with_parts with_fit
-plain_with d a word shape text go p =
-    plain_either _ _ _
-    (plain_meant d a shape.first _ _ (λ x. plain_meant d a shape.second _ _ (λ y. plain_where _ _ _ (plain_over d _) (p _))))
-    (plain_done _)
+plain_build d a line EditWord args = keeps_asked a _ _ _ (λ denial. plain_done _) (plain_ended _ _ tt)
+plain_build d a line ListWord args = keeps_asked a _ _ _ (λ denial. plain_done _) (plain_done _)
+plain_build d a line Run args = keeps_asked a _ _ _ (λ denial. plain_done _) (plain_ended _ _ tt)
 
 -- What isn't its own a line leaves as it was; and it retunes nothing.
 
@@ -226,11 +163,11 @@ leaving_or f g p q = record { law = λ w. leaves_next g w (f w).0 (f w).1 q (p.l
 leaving_found : {C : Type 0} (shape_of : C → Shape) (go : C → Arguments → Play) (d : ℕ) (a : Actor) (word text : List ℕ) (found : Option C) →
     ((command : C) (args : Arguments) → Plain (go command args)) → Leaving (by_command shape_of go d a word text found)
 leaving_found shape_of go d a word text None p = leaving_none
-leaving_found shape_of go d a word text (Some command) p = leaving_plain _ (plain_with d a word (shape_of command) text (go command) (p command))
+leaving_found shape_of go d a word text (Some command) p = leaving_plain _ (keeps_arguments d a plain_done word (shape_of command) text (go command) (p command))
 
 leaving_signed : (d : ℕ) (a : Actor) (command : PlayWord) (word text : List ℕ) → Leaving (signed d a command word text)
 unfolding signed
-leaving_signed d a command word text = leaving_plain _ (plain_with d a word (play_shape command) text _ (plain_play d a _ command))
+leaving_signed d a command word text = leaving_plain _ (keeps_arguments d a plain_done word (play_shape command) text _ (plain_play d a _ command))
 
 leaving_play : (d : ℕ) (a : Actor) (line : List ℕ) → Leaving (play_line d a line)
 unfolding play_line by_table
@@ -276,12 +213,13 @@ left_to_keepers d a line w e = left_where w (played d a line w).0 (played d a li
 -- Only a wizard's line retunes.
 
 keeper_retunes : (q : Queue) (d : ℕ) (a : Actor) (line : List ℕ) (w : Live) (tune : Tune) → (by_keeper q d a line w).1 ≡ Retune tune → is_master a ≡ true
-unfolding by_keeper or_else ended
-keeper_retunes q d a line w tune e = at (admin_line q d a line w).0 (admin_line q d a line w).1 refl e
+unfolding by_keeper or_else
+keeper_retunes q d a line w tune e = at (admin_line q d a line w).0 (admin_line q d a line w).1 ((admin_follows q d a line).law w) e
   where
-    at : (v : Live) (outcome : Outcome) → (admin_line q d a line w).1 ≡ outcome → (or_next (ended Done (tell d huh)) (v, outcome)).1 ≡ Retune tune → is_master a ≡ true
-    at v (Retune t) is e = retune_by_wizard q d a line w t is
-    at v outcome is e = absurd cc
+    at : (v : Live) (outcome : Outcome) → MayFollow a w.board.tune outcome → (or_next (ended Done (tell d huh)) (v, outcome)).1 ≡ Retune tune → is_master a ≡ true
+    unfolding ended
+    at v (Retune t) h f = h.0
+    at v outcome h f = absurd cc
 
 pub typed_retunes : (q : Queue) (d : ℕ) (a : Actor) (line : List ℕ) (w : Live) (tune : Tune) → (typed q d a line w).1 ≡ Retune tune → is_master a ≡ true
 unfolding typed or_else
