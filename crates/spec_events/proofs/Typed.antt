@@ -36,7 +36,7 @@ use Rattle.muck_queue.specs.Queues.{Queue}
 use Rattle.spec_admin.specs.Following.{MayFollow}
 use Rattle.spec_admin.specs.Lines.{admin_line}
 use Rattle.spec_admin.proofs.Following.{keeps_arguments, admin_follows}
-use Rattle.spec_admin.proofs.Open.{admin_leading}
+use Rattle.spec_admin.proofs.Permitted.{admin_leading}
 use Rattle.spec_events.specs.Lines.{by_keeper, typed}
 
 -- A command that is done retunes nothing.
