@@ -213,11 +213,10 @@ left_to_keepers d a line w e = left_where w (played d a line w).0 (played d a li
 -- Only a wizard's line retunes.
 
 keeper_retunes : (q : Queue) (d : ℕ) (a : Actor) (line : List ℕ) (w : Live) (tune : Tune) → (by_keeper q d a line w).1 ≡ Retune tune → is_master a ≡ true
-unfolding by_keeper or_else
+unfolding by_keeper or_else ended
 keeper_retunes q d a line w tune e = at (admin_line q d a line w).0 (admin_line q d a line w).1 ((admin_follows q d a line).law w) e
   where
     at : (v : Live) (outcome : Outcome) → MayFollow a w.board.tune outcome → (or_next (ended Done (tell d huh)) (v, outcome)).1 ≡ Retune tune → is_master a ≡ true
-    unfolding ended
     at v (Retune t) h f = h.0
     at v outcome h f = absurd cc
 
