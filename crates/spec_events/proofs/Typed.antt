@@ -1,5 +1,6 @@
 -- Lines that are neither players' nor builders': the world is as it was for keepers, who alone retune it.
 use Rattle.std.proofs.Common.{◌≡◌, ◌==◌, ℕ, Bool, true, false, cond, List, [], ◌∷◌, refl, subst, Option, Some, None, Result, Ok, Err}
+use Rattle.std.specs.Prelude.{codes}
 use Rattle.muck_model.specs.declared.dbref.Dbref.{Dbref}
 use Rattle.muck_model.specs.declared.tune.Tune.{Tune}
 use Rattle.muck_match.specs.declared.exits.ExitHit.{ExitHit}
@@ -174,7 +175,7 @@ unfolding play_line by_table
 leaving_play d a [] = leaving_none
 leaving_play d a (b ∷ line) = at (b == 34) (b == 58)
   where
-    at : (q r : Bool) → Leaving (cond q (signed d a Say _ (trimmed line)) (cond r (signed d a Pose _ (trimmed line))
+    at : (q r : Bool) → Leaving (cond q (signed d a Say (codes "say") (trimmed line)) (cond r (signed d a Pose (codes "pose") (trimmed line))
         (by_command play_shape (play_done d a (line_typed (b ∷ line))) d a (first_word (trimmed (b ∷ line))) (trimmed (other_words (trimmed (b ∷ line)))) (looked_up play_words (first_word (trimmed (b ∷ line)))))))
     at true r = leaving_signed d a Say _ _
     at false true = leaving_signed d a Pose _ _
