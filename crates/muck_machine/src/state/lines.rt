@@ -81,7 +81,7 @@ impl State {
     {
         let actor = actor_of(&self.db, player);
         let mut guard = Guard::new(self.alloc, &mut self.db, &mut self.board, actor);
-        let outcome = play(&mut guard, d, line)?;
+        let outcome = play(&mut guard, &mut self.queue, d, line)?;
         Ok(outcome)
     }
 
