@@ -8,6 +8,7 @@ use muck_db::Db;
 use muck_match::exit_for;
 use muck_model::{Dbref, Line, NoMemory};
 use muck_perm::{Guard, command_level};
+use muck_queue::Queue;
 use spec_commands::Outcome;
 use spec_rights::Actor;
 
@@ -24,17 +25,18 @@ pub fn actor_of(db: &Db, player: Dbref) -> Actor
 }
 
 /// Does a line of players or builders: saying and posing come first, then exits, then commands. A line that is none of
-/// these is left to another.
+/// these is left to another. The processes are as they were.
 #[tactic(auto, unfolding(spec_commands::specs::Commands::played, spec_live::specs::Lives::reading))]
-pub fn play(guard: &mut Guard, d: u32, line: &Line) -> Result<Outcome, NoMemory>
-    ensures { Plays (played d guard.old.actor line.now) guard.old guard.new result }
+pub fn play(guard: &mut Guard, queue: &mut Queue, d: u32, line: &Line) -> Result<Outcome, NoMemory>
+    ensures plays { Plays (played d guard.old.actor line.now) guard.old guard.new result }
+    ensures queue { queue.new ≡ queue.old }
 {
     if begins_with_sign(line) {
-        return command(guard, d, line);
+        return command(guard, queue, d, line);
     }
     match exit_for(guard.db(), guard.actor().player, line) {
-        Some(hit) => cmd_play::walk(guard, d, hit, line),
-        None => command(guard, d, line),
+        Some(hit) => cmd_play::walk(guard, queue, d, hit, line),
+        None => command(guard, queue, d, line),
     }
 }
 
@@ -49,11 +51,12 @@ fn begins_with_sign(line: &Line) -> bool
 
 // Does a line that no exit takes.
 #[tactic(auto, unfolding(spec_commands::specs::Commands::commanded, spec_commands::specs::Commands::or_else), using(crate::proofs::Outcomes::or_next_mine))]
-fn command(guard: &mut Guard, d: u32, line: &Line) -> Result<Outcome, NoMemory>
-    ensures { Plays (commanded d guard.old.actor line.now) guard.old guard.new result }
+fn command(guard: &mut Guard, queue: &mut Queue, d: u32, line: &Line) -> Result<Outcome, NoMemory>
+    ensures plays { Plays (commanded d guard.old.actor line.now) guard.old guard.new result }
+    ensures queue { queue.new ≡ queue.old }
 {
-    match cmd_play::run(guard, d, line)? {
-        Outcome::NotMine => cmd_build::run(guard, d, line),
+    match cmd_play::run(guard, queue, d, line)? {
+        Outcome::NotMine => cmd_build::run(guard, queue, d, line),
         outcome => Ok(outcome),
     }
 }
