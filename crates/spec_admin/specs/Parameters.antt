@@ -1,5 +1,5 @@
 -- What a wizard tunes.
-use Rattle.std.specs.Prelude.{◌≡◌, ◌≤◌, ℕ, nat_le, if◌then◌else◌, List, [], ◌∷◌, codes, find, Option, Some, None}
+use Rattle.std.specs.Prelude.{◌≤◌, ℕ, nat_le, if◌then◌else◌, List, [], ◌∷◌, codes, find, Option, Some, None}
 use Rattle.std.specs.Option.{option_and_then, option_map}
 use Rattle.std.specs.Str.{bytes_eq}
 use Rattle.muck_model.specs.declared.tune.Tune.{Tune}

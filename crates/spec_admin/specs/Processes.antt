@@ -1,6 +1,6 @@
 -- Listing and ending processes.
-use Rattle.std.specs.Prelude.{ℕ, pos, ℤ, Bool, is_none, if◌then◌else◌, List, [], ◌∷◌, length, Option, Some, None}
-use Rattle.std.specs.Option.{option_and_then, option_map_or}
+use Rattle.std.specs.Prelude.{ℕ, pos, Bool, is_none, if◌then◌else◌, List, length, Option, Some, None}
+use Rattle.std.specs.Option.{option_and_then}
 use Rattle.std.specs.List.{filter}
 use Rattle.muck_model.specs.Decimal.{decimal_of}
 use Rattle.spec_live.specs.Lives.{Live, Change, ◌▸◌, reading, tell, name_at}
