@@ -4,3 +4,6 @@ pub mod Checked
 pub mod Drawn
 pub mod Made
 pub mod Ends
+pub mod Named
+pub mod Killed
+pub mod Tuned

@@ -3,7 +3,7 @@ use Rattle.std.proofs.Common.{◌≡◌, ℕ, ◌+◌, ◌<◌, ◌≤◌, Bool,
 use Rattle.std.proofs.lemmas.List.{drop_all}
 use Rattle.std.specs.List.{filter}
 use Rattle.muck_model.specs.declared.memory.NoMemory.{NoMemory}
-use Rattle.spec_live.specs.Lives.{Live, Change, ◌▸◌, reading, tell}
+use Rattle.spec_live.specs.Lives.{Live, Change, ◌▸◌, followed, reading, unchanged, tell}
 use Rattle.spec_live.specs.Objects.{Entry}
 use Rattle.spec_rights.specs.declared.act.Actor.{Actor}
 use Rattle.spec_commands.specs.Finding.{each}
@@ -56,18 +56,18 @@ passed_over d x w ps i n p a new r h is may t =
     let P : List Process → Type 0 = λ qs. Did (shown_on d qs n) a new r in
     subst P (sym left) t
 
+told_last : (d : ℕ) (n : ℕ) (a new : Guard) (r : Result (Unit {0}) NoMemory) → Did (tell d (processes_count n)) a new r → Did (shown_on d [] n) a new r
+unfolding each followed unchanged
+told_last d n a new (Ok u) t = t
+told_last d n a new (Err e) t = t
+
 -- behind the last one their count is told
 pub listed_all : (d : ℕ) (x : Actor) (w : Live) (ps : List Process) (i n : ℕ) (a new : Guard) (r : Result (Unit {0}) NoMemory) →
     length ps ≤ i → Did (tell d (processes_count n)) a new r → Did (rest_shown d x w ps i n) a new r
 listed_all d x w ps i n a new r h t =
     let none : drop i ps ≡ [] = drop_all i ps h in
     let P : List Process → Type 0 = λ qs. Did (shown_on d (filter (may_end x w) qs) n) a new r in
-    subst P (sym none) (told r t)
-  where
-    told : (q : Result (Unit {0}) NoMemory) → Did (tell d (processes_count n)) a new q → Did (shown_on d [] n) a new q
-    unfolding each
-    told (Ok u) t = t
-    told (Err e) t = t
+    subst P (sym none) (told_last d n a new r t)
 
 -- from the first on they are all
 pub lists_all : (d : ℕ) (q : Queue) (a new : Guard) (r : Result (Unit {0}) NoMemory) →

@@ -1,6 +1,7 @@
 // What is tuned.
 ghost use Rattle.std.specs.Prelude.{◌≡◌, ◌≤◌, ◌++◌, IfOk, map};
 ghost use Rattle.spec_live.specs.Lives.{reading};
+ghost use Rattle.spec_commands.specs.Finding.{each};
 ghost use Rattle.spec_commands.specs.Going.{ended};
 ghost use Rattle.spec_commands.specs.declared.outcome.Outcome.{Outcome};
 ghost use Rattle.spec_admin.specs.Replies.{parameter_line};
@@ -130,16 +131,28 @@ fn show_parameter(
     Ok(())
 }
 
+// Shows the parameters of these rows, one a line.
+fn show_rows(
+    guard: &mut Guard,
+    d: u32,
+    tune: &Tune,
+    rows: &[(&'static [u8], Parameter)],
+) -> Result<(), NoMemory>
+    ensures { Did (each (λ row. parameter_shown d tune.now (word_row row)) rows.now) guard.old guard.new result }
+{
+    for row in rows {
+        show_parameter(guard, d, tune, row)?;
+    }
+    Ok(())
+}
+
 // Shows all parameters, one a line.
-#[tactic(auto, unfolding(spec_admin::specs::Lines::parameters_shown, spec_live::specs::Lives::reading))]
+#[tactic(auto, using(crate::proofs::Each::all_shown))]
 fn show_parameters(guard: &mut Guard, d: u32) -> Result<(), NoMemory>
     ensures { Did (parameters_shown d) guard.old guard.new result }
 {
     let tune = guard.board().tune();
-    for row in parameters() {
-        show_parameter(guard, d, &tune, row)?;
-    }
-    Ok(())
+    show_rows(guard, d, &tune, parameters())
 }
 
 // Shows all parameters to a wizard.

@@ -3,10 +3,12 @@ ghost use Rattle.std.specs.Prelude.{◌≡◌, ◌≤◌, true, None, length};
 ghost use Rattle.spec_live.specs.Setting.{password_check};
 ghost use Rattle.spec_live.specs.Lives.{◌▸◌};
 ghost use Rattle.spec_rights.specs.declared.act.Act.{Act};
+ghost use Rattle.spec_rights.specs.Changing.{password_kept};
 ghost use Rattle.spec_rights.specs.Levels.{number_of};
 ghost use Rattle.spec_rights.specs.Verdict.{verdict};
-ghost use Rattle.spec_commands.specs.Building.{allowed, created_shown};
+ghost use Rattle.spec_commands.specs.Building.{allowed, created_shown, done_where};
 ghost use Rattle.spec_admin.specs.Players.{is_password, salt_of, password_drawn, player_put, player_made, password_changed};
+ghost use Rattle.spec_admin.specs.Replies.{password_reply};
 ghost use Rattle.muck_perm.specs.Guards.{Did, IsLeave, objects_of, world_of};
 ghost use Rattle.cmd_admin.specs.Refused.{IsRefused};
 
@@ -46,8 +48,28 @@ fn is_player(guard: &Guard, x: Dbref) -> bool
     }
 }
 
+// A player gets a password by leave, under this salt.
+#[tactic(auto, using(cmd_common::proofs::Written::tries_done))]
+fn keep_password(
+    guard: &mut Guard,
+    pass: Pass,
+    x: Dbref,
+    salt: u64,
+    word: &Line,
+) -> Result<(), NoMemory>
+    requires leave { IsLeave pass (Act.Password x) guard.old }
+    requires player { allowed (password_check x (objects_of guard.old)) ≡ true }
+    ensures { Did (password_kept x salt word.now) guard.old guard.new result }
+{
+    match guard.set_password(pass, x, salt, word) {
+        Ok(()) => Ok(()),
+        Err(DbFault::NoMemory) => Err(NoMemory),
+        Err(_) => unreachable!(),
+    }
+}
+
 // A player gets a password by leave, under a salt that is drawn for it.
-#[tactic(auto, using(crate::proofs::Drawn::leave_drawn, crate::proofs::Drawn::allowed_drawn))]
+#[tactic(auto, using(crate::proofs::Drawn::leave_drawn, crate::proofs::Drawn::allowed_drawn, crate::proofs::Drawn::password_given))]
 fn give_password(guard: &mut Guard, pass: Pass, x: Dbref, word: &Line) -> Result<(), NoMemory>
     requires leave { IsLeave pass (Act.Password x) guard.old }
     requires player { allowed (password_check x (objects_of guard.old)) ≡ true }
@@ -55,11 +77,7 @@ fn give_password(guard: &mut Guard, pass: Pass, x: Dbref, word: &Line) -> Result
 {
     let first = guard.random();
     let second = guard.random();
-    match guard.set_password(pass, x, salt_of(first, second), word) {
-        Ok(()) => Ok(()),
-        Err(DbFault::NoMemory) => Err(NoMemory),
-        Err(_) => unreachable!(),
-    }
+    keep_password(guard, pass, x, salt_of(first, second), word)
 }
 
 // A new player gets its password, and the connection is told what was made.
@@ -88,6 +106,7 @@ fn tell_refused(guard: &mut Guard, d: u32, fault: DbFault) -> Result<(), NoMemor
 }
 
 // Makes a player in `#0` by leave, where the world allows one more.
+#[tactic(auto, using(crate::proofs::Made::wizard_gives, crate::proofs::Made::made_ready, crate::proofs::Made::player_made))]
 fn put_player(
     guard: &mut Guard,
     d: u32,
@@ -100,7 +119,7 @@ fn put_player(
     requires short { length name ≤ 80 }
     ensures { Did (player_put d guard.old.actor name word.now) guard.old guard.new result }
 {
-    match guard.create_program(pass, name, ROOM_ZERO) {
+    match guard.create_player(pass, name, ROOM_ZERO) {
         Ok(x) => complete(guard, d, x, word),
         Err(fault) => tell_refused(guard, d, fault),
     }

@@ -1,9 +1,9 @@
 // Listing and ending processes.
-ghost use Rattle.std.specs.Prelude.{◌≡◌, OnOk, OnErr};
+ghost use Rattle.std.specs.Prelude.{◌≡◌, IfOk, OnOk, OnErr};
 ghost use Rattle.std.specs.Option.{option_copied, option_map_or};
 ghost use Rattle.spec_live.specs.Lives.{tell};
 ghost use Rattle.muck_queue.specs.Queues.{without};
-ghost use Rattle.spec_admin.specs.Replies.{no_process, processes_count};
+ghost use Rattle.spec_admin.specs.Replies.{process_line, processes_count};
 ghost use Rattle.spec_admin.specs.Processes.{ending, may_end, process_shown, processes_shown, process_meant, kill_told, killed};
 ghost use Rattle.muck_perm.specs.Guards.{Did, world_of};
 
@@ -12,6 +12,7 @@ use muck_model::{Line, NoMemory, decimal};
 use muck_perm::{Guard, verdict};
 use muck_queue::{Process, Queue};
 use spec_rights::Act;
+use std::alloc::Global;
 
 /// The greatest number that a process can have.
 const NUMBER_MOST: u64 = 2_147_483_647;
@@ -33,18 +34,27 @@ fn may_end(guard: &Guard, process: &Process) -> bool
     verdict(guard.db(), &guard.actor(), &ending(process)).is_ok()
 }
 
-// Shows a process: its number, the program with which it was started, and its player.
-#[tactic(auto, unfolding(spec_admin::specs::Processes::process_shown, spec_admin::specs::Replies::process_line, spec_live::specs::Lives::reading))]
-fn show_process(guard: &mut Guard, d: u32, process: &Process) -> Result<(), NoMemory>
-    ensures { Did (process_shown d process.now) guard.old guard.new result }
+// A process by its number, the program with which it was started, and the name of its player.
+#[tactic(auto, unfolding(spec_admin::specs::Replies::process_line))]
+fn process_line(alloc: Global, process: &Process, name: &[u8]) -> Result<Vec<u8>, NoMemory>
+    ensures { IfOk result (λ line. line.items ≡ process_line process.now.number process.now.program.0 name.now) }
 {
     let number = process.number;
     let program = process.program.0;
-    let numbers = format!(in guard.alloc(); "{number} #{program} ")?;
-    let name = name_and(guard, process.player, b"")?;
-    let mut line = Vec::new(guard.alloc());
+    let numbers = format!(in alloc; "{number} #{program} ")?;
+    let mut line = Vec::new(alloc);
     line.extend_from_slice(numbers.as_bytes())?;
-    line.extend_from_slice(&name)?;
+    line.extend_from_slice(name)?;
+    Ok(line)
+}
+
+// Shows a process.
+#[tactic(auto, unfolding(spec_admin::specs::Processes::process_shown, spec_live::specs::Lives::reading))]
+fn show_process(guard: &mut Guard, d: u32, process: &Process) -> Result<(), NoMemory>
+    ensures { Did (process_shown d process.now) guard.old guard.new result }
+{
+    let name = name_and(guard, process.player, b"")?;
+    let line = process_line(guard.alloc(), process, &name)?;
     guard.tell(d, &line)?;
     Ok(())
 }
