@@ -1,5 +1,5 @@
 -- A process that was claimed may run, or has ended.
-use Rattle.std.proofs.Common.{◌≡◌, ℕ, Bool, true, false, cond, not, ◌&&◌, Some, refl, ◌∙◌, sym, ap}
+use Rattle.std.proofs.Common.{◌≡◌, ℕ, Bool, true, false, not, ◌&&◌, Some, refl, ◌∙◌, ap}
 use Rattle.std.specs.Prelude.{ℤ}
 use Rattle.std.proofs.lemmas.Bool.{cond-false}
 use Rattle.muck_model.specs.declared.event.Event.TheVariants.{Claim, Slice, Lost}
@@ -25,18 +25,3 @@ runs_lawful w party pid alive claim there = cond-false _ _ _ alive ∙ both_so (
 pub lost_lawful : (w : World) (party : ℕ) (pid : ℤ) → w.dead ≡ false → has_claim party pid w ≡ true → is_there pid w ≡ false → is_lawful w (record { party = party; event = Lost pid }) ≡ true
 unfolding is_lawful
 lost_lawful w party pid alive claim there = cond-false _ _ _ alive ∙ both_so (has_claim party pid w) (not (is_there pid w)) claim (ap not there)
-
-alive_by : (dead allowed : Bool) → cond dead false allowed ≡ true → (dead ≡ false) × (allowed ≡ true)
-alive_by true allowed e = absurd cc
-alive_by false allowed e = (refl, e)
-
-first_of : (a b : Bool) → (a && b) ≡ true → a ≡ true
-first_of true b e = refl
-first_of false b e = absurd cc
-
--- a process that may run is claimed, in a world that lives
-pub may_run_claimed : (w : World) (party : ℕ) (pid : ℤ) → is_lawful w (record { party = party; event = Slice pid }) ≡ true → (w.dead ≡ false) × (has_claim party pid w ≡ true)
-unfolding is_lawful
-may_run_claimed w party pid e =
-    let known = alive_by w.dead (has_claim party pid w && is_there pid w) e in
-    (known.0, first_of (has_claim party pid w) (is_there pid w) known.1)

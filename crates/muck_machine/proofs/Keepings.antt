@@ -11,7 +11,7 @@ use Rattle.muck_model.specs.declared.memory.NoMemory.{NoMemory}
 use Rattle.muck_queue.specs.Queues.{next_due}
 use Rattle.spec_events.specs.World.{World}
 use Rattle.spec_events.specs.Steps.{is_free, happened, effect, is_died, is_lawful, is_allowed, next_ready, next_process}
-use Rattle.spec_events.specs.Histories.{History, after, now, entered, AllLawful}
+use Rattle.spec_events.specs.Histories.{History, after, now, AllLawful}
 use Rattle.spec_events.specs.Sound.{IsSound}
 use Rattle.spec_events.proofs.Living.{dead-happened}
 use Rattle.spec_events.proofs.Reached.{sound-effect, died_lawful}

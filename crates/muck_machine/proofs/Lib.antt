@@ -1,12 +1,4 @@
-pub mod Outcomes
 pub mod Keepings
-pub mod Turns
 pub mod Coming
-pub mod Settling
-pub mod Joining
 pub mod Choosing
-pub mod Idling
-pub mod Slices
-pub mod Deeds
-pub mod Processes
 pub mod Taken

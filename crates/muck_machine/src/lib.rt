@@ -1,10 +1,7 @@
-//! The world and what happens to it: each public call of [`World`] is one entry of its history.
+//! The world with its history: each public call of [`World`] is one entry of it.
 #![tactic(auto)]
 
-mod commands;
-mod origin;
 mod past;
-mod state;
 mod world;
 
 pub use world::{Sliced, World};

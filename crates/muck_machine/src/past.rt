@@ -2,8 +2,8 @@
 ghost use Rattle.std.specs.Prelude.{◌≡◌, true};
 ghost use Rattle.muck_machine.specs.Keeping.{told, lost, Concludes};
 
-use crate::origin::Origin;
 use muck_model::{Entry, Event, NoMemory, Tale};
+use muck_turns::Origin;
 
 /// How a world began, each entry since, and whether memory was wanted in the midst of something.
 #[derive(Drop)]

@@ -9,14 +9,13 @@ ghost use Rattle.spec_events.specs.Histories.{now, entered, by_porter, AllLawful
 ghost use Rattle.muck_machine.specs.declared.world.Sliced.TheVariants.{Ran, Lost};
 ghost use Rattle.muck_machine.specs.Claims.{slice_event};
 
-use crate::origin::{Begun, Origin};
 use crate::past::Past;
-use crate::state::{State, WELCOME};
 use muck_board::{Board, Connection};
 use muck_db::{Db, Persisted};
 use muck_library::Library;
 use muck_model::{Entry, Event, Line, NoMemory, Tale, Tune};
 use muck_queue::Queue;
+use muck_turns::{Begun, Origin, State, WELCOME};
 use std::alloc::Global;
 use std::marker::Model;
 

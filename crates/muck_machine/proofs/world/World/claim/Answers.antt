@@ -5,7 +5,7 @@ use Rattle.spec_events.specs.World.{on_queue}
 use Rattle.spec_events.specs.Steps.{next_process}
 use Rattle.spec_events.specs.Histories.{now}
 use Rattle.spec_events.proofs.Claims.{claim_lawful}
-use Rattle.muck_machine.specs.contracts.state.State as state
+use Rattle.muck_turns.specs.contracts.state.State as state
 use Rattle.muck_machine.proofs.Keepings.{keeps_entered, dead_seen, sound_seen, process_dead, process_chosen, process_seen}
 use Rattle.muck_machine.proofs.Taken.{claimed_so}
 use Rattle.muck_machine.proofs.world.World.claim.Goals as goal

@@ -1,7 +1,7 @@
-use Rattle.std.proofs.Common.{refl, sym, ◌∙◌}
+use Rattle.std.proofs.Common.{refl, sym}
 use Rattle.spec_events.specs.Histories.{now}
 use Rattle.spec_events.proofs.Reached.{exec_lawful}
-use Rattle.muck_machine.proofs.Keepings.{keeps_concluded, sound_seen, dead_seen, alive_if_found}
+use Rattle.muck_machine.proofs.Keepings.{keeps_concluded, sound_seen, alive_if_found}
 use Rattle.muck_machine.proofs.world.World.exec.Goals as goal
 
 pub invariant_of-self : goal.invariant_of-self

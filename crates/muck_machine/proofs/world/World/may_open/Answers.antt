@@ -2,7 +2,7 @@ use Rattle.std.proofs.Common.{refl, ◌∙◌, ap, length}
 use Rattle.std.specs.Prelude.{nat_lt}
 use Rattle.muck_model.specs.declared.event.Event.TheVariants.{Opened}
 use Rattle.spec_events.specs.Steps.{is_allowed}
-use Rattle.muck_machine.specs.contracts.state.State as state
+use Rattle.muck_turns.specs.contracts.state.State as state
 use Rattle.muck_machine.proofs.Keepings.{unlawful_dead, lawful_as}
 use Rattle.muck_machine.proofs.Coming.{none_comes, one_is_there, one_comes}
 use Rattle.muck_machine.proofs.world.World.may_open.Goals as goal

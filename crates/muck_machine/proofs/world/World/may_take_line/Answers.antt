@@ -1,7 +1,7 @@
 use Rattle.std.proofs.Common.{refl, ◌∙◌, ap}
 use Rattle.muck_model.specs.declared.event.Event.TheVariants.{Input}
 use Rattle.spec_events.specs.Steps.{is_allowed}
-use Rattle.muck_machine.specs.contracts.state.State as state
+use Rattle.muck_turns.specs.contracts.state.State as state
 use Rattle.muck_machine.proofs.Keepings.{unlawful_dead, lawful_as}
 use Rattle.muck_machine.proofs.Coming.{no_line_comes, a_line_comes, nobody_is_there}
 use Rattle.muck_machine.proofs.world.World.may_take_line.Goals as goal

@@ -3,7 +3,7 @@ use Rattle.std.proofs.lemmas.Bool.{cond-true, cond-false}
 use Rattle.muck_model.specs.declared.event.Event.TheVariants.{Slice, Lost}
 use Rattle.spec_events.specs.Steps.{is_lawful, is_there}
 use Rattle.spec_events.specs.Histories.{now}
-use Rattle.muck_machine.specs.contracts.state.State as state
+use Rattle.muck_turns.specs.contracts.state.State as state
 use Rattle.muck_machine.proofs.Choosing.{runs_lawful, lost_lawful}
 use Rattle.muck_machine.proofs.Keepings.{keeps_entered, keeps_concluded}
 use Rattle.muck_machine.proofs.Taken.{lost_so}

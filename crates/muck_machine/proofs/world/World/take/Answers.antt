@@ -1,8 +1,8 @@
 use Rattle.std.proofs.Common.{refl, ◌∙◌, ap, arith, length, take, min}
-use Rattle.spec_events.specs.World.{World, queue_of}
+use Rattle.spec_events.specs.World.{queue_of}
 use Rattle.spec_events.specs.Histories.{now}
 use Rattle.spec_events.proofs.Reached.{take_lawful}
-use Rattle.muck_machine.specs.contracts.state.State as state
+use Rattle.muck_turns.specs.contracts.state.State as state
 use Rattle.muck_machine.proofs.Keepings.{keeps_entered, keeps_same, dead_seen, state_seen, reads_dead, reads_alive}
 use Rattle.muck_machine.proofs.Taken.{taken_so, none_taken}
 use Rattle.muck_machine.proofs.world.World.take.Goals as goal
