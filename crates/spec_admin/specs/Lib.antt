@@ -3,3 +3,5 @@ pub mod Replies
 pub mod Processes
 pub mod Players
 pub mod Lines
+pub mod Following
+pub mod Worked

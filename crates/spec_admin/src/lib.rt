@@ -2,6 +2,8 @@
 //! holds the laws about them.
 #![tactic(auto)]
 
+mod rows;
 mod word;
 
+pub use rows::rows_hold;
 pub use word::{AdminWord, Parameter};

@@ -1,0 +1,78 @@
+-- The process that a line ends.
+use Rattle.std.proofs.Common.{◌≡◌, ◌⊎◌, ℕ, ℤ, pos, Bool, true, false, cond, is_none, List, [], ◌∷◌, refl, sym, ◌∙◌, ap, subst, Option, Some, None, inl, inr}
+use Rattle.std.specs.Prelude.{find}
+use Rattle.std.specs.Option.{option_and_then}
+use Rattle.std.proofs.lemmas.Bool.Decides.{Decides-int_eq}
+use Rattle.muck_model.specs.declared.dbref.Denial.{Denial}
+use Rattle.muck_model.specs.Decimal.{decimal_of}
+use Rattle.spec_live.specs.Lives.{Live, tell}
+use Rattle.spec_rights.specs.declared.act.Actor.{Actor}
+use Rattle.spec_rights.specs.Verdict.{verdict}
+use Rattle.spec_rights.specs.Asking.{answered, asked, refused}
+use Rattle.spec_commands.specs.Texts.{first_word, other_words, trimmed}
+use Rattle.spec_commands.specs.Reading.{looked_up}
+use Rattle.muck_queue.specs.declared.process.Process.{Process}
+use Rattle.muck_queue.specs.Queues.{Queue, has_pid, process}
+use Rattle.spec_admin.specs.declared.word.AdminWord.{AdminWord}
+use Rattle.spec_admin.specs.declared.word.AdminWord.TheVariants.{Kill}
+use Rattle.spec_admin.specs.Replies.{killed_reply, no_process}
+use Rattle.spec_admin.specs.Processes.{ending, may_end, process_meant, end_told, kill_told, killed}
+use Rattle.spec_admin.specs.Lines.{admin_words, ended_by, line_ends}
+
+-- a process that is found by a number has it
+found_numbered : (pid : ℤ) (ps : List Process) (p : Process) → find (has_pid pid) ps ≡ Some p → p.number ≡ pid
+found_numbered pid [] p e = absurd (cc)
+found_numbered pid (r ∷ ps) p e = at (has_pid pid r) refl (found_numbered pid ps p) e
+  where
+    at : (b : Bool) → has_pid pid r ≡ b → (find (has_pid pid) ps ≡ Some p → p.number ≡ pid) → cond b (Some r) (find (has_pid pid) ps) ≡ Some p → p.number ≡ pid
+    at true is rest e = let same : r ≡ p = cc in ap (λ (x : Process). x.number) (sym same) ∙ (Decides-int_eq r.number pid).0 is
+    at false is rest e = rest e
+
+-- what a text means is there by its own number
+meant_there : (text : List ℕ) (q : Queue) (p : Process) → process_meant text q ≡ Some p → process p.number q ≡ Some p
+meant_there text q p = at (decimal_of 2147483647 text)
+  where
+    at : (n : Option ℕ) → option_and_then (λ n. process (pos n) q) n ≡ Some p → process p.number q ≡ Some p
+    at None e = absurd (cc)
+    at (Some n) e = ap (λ pid. process pid q) (found_numbered (pos n) q.processes p e) ∙ e
+
+-- what ends is meant, and may be ended
+killed_meant : (a : Actor) (q : Queue) (text : List ℕ) (w : Live) (p : Process) → killed a q text w ≡ Some p → (may_end a w p ≡ true) × (process_meant text q ≡ Some p)
+killed_meant a q text w p = at (process_meant text q)
+  where
+    here : (r : Process) (b : Bool) → may_end a w r ≡ b → cond b (Some r) None ≡ Some p → (may_end a w p ≡ true) × (Some r ≡ Some p)
+    here r true f e = let same : r ≡ p = cc in (subst (λ x. may_end a w x ≡ true) same f, ap Some same)
+    here r false f e = absurd (cc)
+
+    at : (m : Option Process) → option_and_then (λ r. cond (may_end a w r) (Some r) None) m ≡ Some p → (may_end a w p ≡ true) × (m ≡ Some p)
+    at None e = absurd (cc)
+    at (Some r) e = here r (may_end a w r) refl e
+
+-- a line ends only a process that is there, and that who types it may end
+pub line_ends_open : (a : Actor) (q : Queue) (line : List ℕ) (w : Live) (p : Process) → line_ends a q line w ≡ Some p → (may_end a w p ≡ true) × (process p.number q ≡ Some p)
+unfolding line_ends
+line_ends_open a q line w p = at (looked_up admin_words (first_word (trimmed line)))
+  where
+    text : List ℕ
+    text = trimmed (other_words (trimmed line))
+
+    at : (command : Option AdminWord) → ended_by a q text w command ≡ Some p → (may_end a w p ≡ true) × (process p.number q ≡ Some p)
+    at (Some Kill) e = let k = killed_meant a q text w p e in (k.0, meant_there text q p k.1)
+    at command e = absurd (cc)
+
+-- It is told that a process was killed exactly where one ends: else that there is none, or by which rule it may not be ended.
+abbrev pub TellsKilled : ℕ → Live → Live → Option Process → Type 0
+TellsKilled d w v (Some p) = v ≡ tell d killed_reply w
+TellsKilled d w v None = (v ≡ tell d no_process w) ⊎ ((denial : Denial) × (v ≡ refused d denial w))
+
+pub kill_tells : (d : ℕ) (a : Actor) (q : Queue) (text : List ℕ) (w : Live) → TellsKilled d w (kill_told d a q text w) (killed a q text w)
+unfolding kill_told asked
+kill_tells d a q text w = at (process_meant text q)
+  where
+    judged : (p : Process) (v : Option Denial) → TellsKilled d w (answered v (refused d) (tell d killed_reply) w) (cond (is_none v) (Some p) None)
+    judged p None = refl
+    judged p (Some denial) = inr (denial, refl)
+
+    at : (m : Option Process) → TellsKilled d w (end_told d a m w) (option_and_then (λ p. cond (may_end a w p) (Some p) None) m)
+    at None = inl refl
+    at (Some p) = judged p (verdict w.objects a (ending p))

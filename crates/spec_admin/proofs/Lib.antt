@@ -1,0 +1,5 @@
+pub mod Tuned
+pub mod Following
+pub mod Ended
+pub mod Salted
+pub mod Permitted

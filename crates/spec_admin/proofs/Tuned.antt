@@ -1,0 +1,51 @@
+-- What is tuned stays in its range.
+use Rattle.std.proofs.Common.{◌≡◌, ◌≤◌, ◌&&◌, ℕ, Bool, true, false, cond, List, refl, subst, Option, Some, None, nat_le, arith}
+use Rattle.std.specs.Option.{option_map, option_and_then}
+use Rattle.std.proofs.lemmas.Bool.Decides.{nat_tests}
+use Rattle.muck_model.specs.declared.tune.Tune.{Tune}
+use Rattle.muck_model.specs.Decimal.{is_decimal, value_from, decimal_of}
+use Rattle.spec_admin.specs.declared.word.Parameter.{Parameter}
+use Rattle.spec_admin.specs.declared.word.Parameter.TheVariants.{InstrSlice, PreemptUnits, M1Units, M2Units, ProcessLimit, PlayerProcesses, MpiCommands, DumpInterval}
+use Rattle.spec_admin.specs.Parameters.{parameter_most, parameter_of, with_parameter, parameter_named, value_for, retuned, IsInRange}
+
+-- at least 1, and at most this
+abbrev Within : ℕ → ℕ → Type 0
+Within most n = (1 ≤ n) × (n ≤ most)
+
+value_within : (most v n : ℕ) (b c d : Bool) → nat_le v most ≡ c → nat_le 1 v ≡ d → option_and_then (λ (m : ℕ). cond (nat_le 1 m) (Some m) None) (cond (b && c) (Some v) None) ≡ Some n → Within most n
+value_within most v n false c d f g e = absurd (cc)
+value_within most v n true false d f g e = absurd (cc)
+value_within most v n true true d f g e = here d g e
+  where
+    here : (d : Bool) → nat_le 1 v ≡ d → cond (nat_le 1 v) (Some v) None ≡ Some n → Within most n
+    here d g e = grind (arith, nat_tests)
+
+value_in_range : (p : Parameter) (text : List ℕ) (n : ℕ) → value_for p text ≡ Some n → Within (parameter_most p) n
+unfolding decimal_of
+value_in_range p text n e = value_within (parameter_most p) (value_from 0 text) n (is_decimal text) _ _ refl refl e
+
+-- the parameter itself, and each other one
+set_in_range : (p r : Parameter) (n : ℕ) (tune : Tune) → Within (parameter_most p) n → Within (parameter_most r) (parameter_of r tune) → Within (parameter_most r) (parameter_of r (with_parameter p n tune))
+set_in_range InstrSlice InstrSlice n tune h k = h
+set_in_range PreemptUnits PreemptUnits n tune h k = h
+set_in_range M1Units M1Units n tune h k = h
+set_in_range M2Units M2Units n tune h k = h
+set_in_range ProcessLimit ProcessLimit n tune h k = h
+set_in_range PlayerProcesses PlayerProcesses n tune h k = h
+set_in_range MpiCommands MpiCommands n tune h k = h
+set_in_range DumpInterval DumpInterval n tune h k = h
+set_in_range p r n tune h k = k
+
+pub retuned_in_range : (name text : List ℕ) (tune next : Tune) → retuned name text tune ≡ Some next → IsInRange tune → IsInRange next
+unfolding retuned
+retuned_in_range name text tune next e h = at (parameter_named name) e
+  where
+    set : (p : Parameter) (q : Option ℕ) → value_for p text ≡ q → option_map (λ n. with_parameter p n tune) q ≡ Some next → IsInRange next
+    set p None f e = absurd (cc)
+    set p (Some n) f e =
+        let same : with_parameter p n tune ≡ next = cc in
+        subst IsInRange same (λ r. set_in_range p r n tune (value_in_range p text n f) (h r))
+
+    at : (p : Option Parameter) → option_and_then (λ p. option_map (λ n. with_parameter p n tune) (value_for p text)) p ≡ Some next → IsInRange next
+    at None e = absurd (cc)
+    at (Some p) e = set p (value_for p text) refl e
