@@ -7,3 +7,4 @@ pub mod Ends
 pub mod Named
 pub mod Killed
 pub mod Tuned
+pub mod Open

@@ -1,6 +1,7 @@
 // A line of a keeper.
 ghost use Rattle.std.specs.Prelude.{◌≡◌, map, OnOk, OnErr};
 ghost use Rattle.std.specs.Option.{option_map_or};
+ghost use Rattle.spec_rights.specs.Licence.{Licensed, nobody};
 ghost use Rattle.spec_commands.specs.Reading.{with_arguments};
 ghost use Rattle.muck_queue.specs.Queues.{without};
 ghost use Rattle.spec_admin.specs.Lines.{admin_words, admin_shape, admin_done, admin_line, ended_by, after_line};
@@ -107,11 +108,9 @@ fn do_command(
     }
 }
 
-/// Does a line of the player at the connection d, where its first word is one of keepers; else it answers `NotMine`, and nothing has changed. `Retune` comes exactly
-/// where a wizard sets a parameter, `Dump` where one asks for a dump, and `Stop` where the world is to stop; who called does these. Of the processes the one ends that
-/// `@kill` names, where the player may end it. After `NoMemory` the processes are as they were.
+// Reads a line and does what it asks.
 #[tactic(auto, unfolding(spec_admin::specs::Lines::admin_line, spec_admin::specs::Lines::after_line, spec_admin::specs::Lines::line_ends, spec_commands::specs::Reading::by_table, spec_commands::specs::Going::ended, spec_live::specs::Lives::unchanged))]
-pub fn run(guard: &mut Guard, queue: &mut Queue, d: u32, line: &Line) -> Result<Outcome, NoMemory>
+fn play(guard: &mut Guard, queue: &mut Queue, d: u32, line: &Line) -> Result<Outcome, NoMemory>
     ensures plays { Plays (admin_line queue.old d guard.old.actor line.now) guard.old guard.new result }
     ensures queue { OnOk result (queue.new ≡ after_line guard.old.actor line.now (world_of guard.old) queue.old) }
     ensures kept { OnErr result (queue.new ≡ queue.old) }
@@ -122,4 +121,22 @@ pub fn run(guard: &mut Guard, queue: &mut Queue, d: u32, line: &Line) -> Result<
     };
     let text = after_word(guard.alloc(), line)?;
     do_command(guard, queue, d, command, word, &text)
+}
+
+/// Does a line of the player at the connection d, where its first word is one of keepers; else it answers `NotMine`, and nothing has changed. `Retune` comes exactly
+/// where a wizard sets a parameter, `Dump` where one asks for a dump, and `Stop` where the world is to stop; who called does these. Of the processes the one ends that
+/// `@kill` names, where the player may end it. After `NoMemory` the processes are as they were. What it changes is open to the actor.
+#[tactic(auto, using(crate::proofs::Open::plays_open))]
+pub fn run(
+    guard: &mut Guard,
+    queue: &mut Queue,
+    d: u32,
+    line: &Line,
+) -> Result<Outcome, NoMemory>
+    ensures plays { Plays (admin_line queue.old d guard.old.actor line.now) guard.old guard.new result }
+    ensures queue { OnOk result (queue.new ≡ after_line guard.old.actor line.now (world_of guard.old) queue.old) }
+    ensures kept { OnErr result (queue.new ≡ queue.old) }
+    ensures licensed { OnOk result (Licensed guard.old.actor nobody (world_of guard.old) (world_of guard.new)) }
+{
+    play(guard, queue, d, line)
 }

@@ -106,7 +106,7 @@ fn tell_refused(guard: &mut Guard, d: u32, fault: DbFault) -> Result<(), NoMemor
 }
 
 // Makes a player in `#0` by leave, where the world allows one more.
-#[tactic(auto, using(crate::proofs::Made::wizard_gives, crate::proofs::Made::made_ready, crate::proofs::Made::player_made))]
+#[tactic(auto, using(crate::proofs::Made::wizard_gives))]
 fn put_player(
     guard: &mut Guard,
     d: u32,
