@@ -69,7 +69,7 @@ TellsKilled d w v (Some p) = v ≡ tell d killed_reply w
 TellsKilled d w v None = (text : List ℕ) × (text ≡ killed_reply → ⊥) × (v ≡ tell d text w)
 
 -- the second byte of each text is another
-second : List ℕ → ℕ
+abbrev second : List ℕ → ℕ
 second [] = 0
 second (b ∷ []) = 0
 second (b ∷ c ∷ text) = c
