@@ -2,6 +2,8 @@ pub mod Quietly
 pub mod Told
 pub mod Endings
 mod Lapses
+pub mod Typed
+mod Killed
 pub mod Done
 mod Deeds
 pub mod Slicing

@@ -12,3 +12,4 @@ pub mod Histories
 pub mod Sound
 pub mod Passwords
 pub mod Rows
+pub mod LineRows

@@ -1,0 +1,10 @@
+pub mod Each
+pub mod Listed
+pub mod Checked
+pub mod Drawn
+pub mod Made
+pub mod Ends
+pub mod Named
+pub mod Killed
+pub mod Tuned
+pub mod Open
