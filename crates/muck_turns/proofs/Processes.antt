@@ -1,10 +1,11 @@
 -- What primitives of processes do, by what their rows say.
 use Rattle.std.proofs.Common.{◌≡◌, ℕ, ◌-◌, ◌<◌, ◌≤◌, subst, List, [], ◌∷◌, drop, length, true, Option, Some, None, refl, sym, ap, ◌∙◌, arith}
-use Rattle.std.specs.Prelude.{ℤ, pos, is_some, slice_get, IfOk, Result, Ok, Err}
+use Rattle.std.specs.Prelude.{ℤ, pos, negsuc, is_some, slice_get, IfOk, Result, Ok, Err}
 use Rattle.std.proofs.lemmas.Bool.{cond-true, lt-ltb}
 use Rattle.std.proofs.lemmas.List.{length-map}
 use Rattle.muck_model.specs.declared.dbref.Dbref.{Dbref}
 use Rattle.muf_model.specs.declared.fault.MufFault.{MufFault}
+use Rattle.muf_model.specs.declared.fault.MufFault.TheVariants.{ProcessLimit}
 use Rattle.muf_model.specs.declared.prims.Primitive.{Primitive as Name}
 use Rattle.muf_model.specs.Answer.{stack_most}
 use Rattle.muf_model.specs.Datum.{Datum, int}
@@ -21,7 +22,7 @@ use Rattle.muf_running.specs.Lending.{Shows, Apart, Differs, Rejoins, with_frame
 use Rattle.spec_live.specs.Lives.{Live}
 use Rattle.spec_rights.specs.declared.act.Actor.{Actor}
 use Rattle.muck_queue.specs.declared.process.Process.{Process}
-use Rattle.muck_queue.specs.Queues.{Queue as Table, process}
+use Rattle.muck_queue.specs.Queues.{Queue as Table, process, is_full}
 use Rattle.spec_processes.specs.declared.place.Place.{Place}
 use Rattle.spec_processes.specs.ProcessRows.{Effect, gives, waits, forks, enters, starts, refuses, processed, Doing, process_row, done_in}
 use Rattle.prim_proc.specs.Applied.{HasStack, IsLeft, called_items}
@@ -37,7 +38,7 @@ use Rattle.muck_turns.specs.declared.state.deeds.Done.TheVariants.{Does as DoneD
 use Rattle.muck_turns.specs.declared.state.deeds.DeedFault.{DeedFault}
 use Rattle.muck_library.specs.Library.{formed}
 use Rattle.muck_turns.specs.declared.state.calls.Entrance.{Entrance}
-use Rattle.muck_turns.specs.Deeds.{Enters, ProcessAppliedTo, DoneAs, queued_call, child_number}
+use Rattle.muck_turns.specs.Deeds.{Bears, Enters, ProcessAppliedTo, DoneAs, queued_call, child_number}
 use Rattle.muck_turns.proofs.Deeds.{stack_differs, stack_behind, same_stack, same_differs}
 
 -- with an item more, where there is room
@@ -69,14 +70,29 @@ if_done (Err e) P Q k h = h
 pub moved : {A : Type 0} (P : A → Type 0) (x y : A) → P x → x ≡ y → P y
 moved P x y h e = subst P e h
 
--- the child of a process that is there joins the others
-pub child_joins : (pid : ℤ) (p child : Process) (running t : Source) (w v : World) (n : ℤ) → Some p ≡ process pid w.queue → child ≡ child_of w.moment (handed (int (pos 0)) running) p →
-    n ≡ child_number (joined child w) → v ≡ (joined child w).0 → t ≡ handed (int n) running → (s : Source) (stack : List Datum) → running ≡ behind stack s → length stack < 1024 → forked pid stack s w ≡ does t v
+-- no child joins where there is no room for it
+pub refused_bears : (o : Option Process) (p : Process) (s : Source) (w : World) → Some p ≡ o → is_full p.player w.live.board.tune w.queue ≡ true → Bears o s w w (negsuc 0)
+refused_bears o p s w there full =
+    let e : joined (child_of w.moment (handed (int (pos 0)) s) p) w ≡ (w, Err ProcessLimit) = cond-true _ _ _ full in
+    subst (λ x. Bears x s w w (negsuc 0)) there (sym (ap child_number e), sym (ap (λ r. r.0) e))
+
+-- and else it does, or not
+pub joined_bears : (o : Option Process) (p child : Process) (s : Source) (w v : World) (n : ℤ) → Some p ≡ o → child ≡ child_of w.moment (handed (int (pos 0)) s) p →
+    n ≡ child_number (joined child w) → v ≡ (joined child w).0 → Bears o s w v n
+joined_bears o p child s w v n there made number same =
+    subst (λ x. Bears x s w v n) there (number ∙ ap (λ y. child_number (joined y w)) made, same ∙ ap (λ y. (joined y w).0) made)
+
+-- so FORK is done
+pub child_joins : (pid : ℤ) (running t : Source) (w v : World) (n : ℤ) (o : Option Process) → process pid w.queue ≡ o → Bears o running w v n → t ≡ handed (int n) running →
+    (s : Source) (stack : List Datum) → running ≡ behind stack s → length stack < 1024 → forked pid stack s w ≡ does t v
 unfolding forked
-child_joins pid p child running t w v n there made number same so s stack at room =
-    let is : child ≡ child_of w.moment (handed (int (pos 0)) (behind stack s)) p = made ∙ ap (λ y. child_of w.moment (handed (int (pos 0)) y) p) at in
-    ap (λ o. child_joined o stack s w) (sym there)
-    ∙ numbered_so stack s (joined (child_of w.moment (handed (int (pos 0)) (behind stack s)) p) w) v n t room (same ∙ ap (λ y. (joined y w).0) is) (number ∙ ap (λ y. child_number (joined y w)) is) (so ∙ ap (handed (int n)) at)
+child_joins pid running t w v n None there h so s stack at room = absurd h
+child_joins pid running t w v n (Some p) there h so s stack at room =
+    ap (λ o. child_joined o stack s w) there
+    ∙ numbered_so stack s (joined (child_of w.moment (handed (int (pos 0)) (behind stack s)) p) w) v n t room
+    (h.1 ∙ ap (λ y. (joined (child_of w.moment (handed (int (pos 0)) y) p) w).0) at)
+    (h.0 ∙ ap (λ y. child_number (joined (child_of w.moment (handed (int (pos 0)) y) p) w)) at)
+    (so ∙ ap (handed (int n)) at)
 
 -- a primitive of processes isn't used where its process isn't there
 there_in : (own : Option Process) (doing : Option Doing) (p : Name) (x : Place) (a : Actor) (locked : ℕ) (stack : List Datum) (w : Live) (q : Table) (rest : List Datum) → done_in own doing p x a locked stack w q ≡ forks rest → is_some own ≡ true
