@@ -1,55 +1,19 @@
 // Making rooms, things and exits.
-ghost use Rattle.std.specs.Prelude.{◌≡◌, ◌<◌, ◌≤◌, ◌^◌, ◌++◌, true, IfOk, length, codes, []};
-ghost use Rattle.std.specs.Option.{option_map_or};
-ghost use Rattle.spec_live.specs.Objects.{dbref_of, object_at};
-ghost use Rattle.spec_live.specs.Seen.{long_form};
-ghost use Rattle.spec_live.specs.Lives.{tell, reading};
-ghost use Rattle.spec_rights.specs.Levels.{number_of};
+ghost use Rattle.std.specs.Prelude.{◌≡◌, ◌≤◌, true, length};
+ghost use Rattle.spec_live.specs.Lives.{tell};
 ghost use Rattle.spec_commands.specs.Replies.{cant_be_done};
-ghost use Rattle.spec_commands.specs.Building.{created_shown, making, kind_of, as_new, may_be, act_in, made, thing_made, exit_opened};
-ghost use Rattle.muck_perm.specs.Guards.{Did, IsLeave, objects_of, world_of};
+ghost use Rattle.spec_commands.specs.Building.{making, kind_of, as_new, may_be, act_in, made, thing_made, exit_opened};
+ghost use Rattle.muck_perm.specs.Guards.{Did, IsLeave, world_of};
 ghost use Rattle.cmd_build.specs.Told.{IsTold};
 
-use cmd_common::{act_in, cant_be_done, create, home_at, may_be, place_at, refuse};
+use cmd_common::{
+    act_in, cant_be_done, create, home_at, may_be, number_of, place_at, refuse, show_created,
+};
 use muck_model::{Dbref, Line, NoMemory};
-use muck_perm::{Guard, Pass, long_form, verdict};
+use muck_perm::{Guard, Pass, verdict};
 use spec_commands::New;
 use spec_live::DbFault;
 use spec_rights::Act;
-
-/// The number of an object that is there.
-pub fn number_of(x: Dbref) -> u32
-    ensures number { result ≡ number_of x }
-    ensures most { result < 2 ^ 31 }
-{
-    if x.0 < 0 { 0 } else { x.0 as u32 }
-}
-
-// The long form of the object of a number; what isn't there has none.
-fn long_name(guard: &Guard, n: u32) -> Result<Vec<u8>, NoMemory>
-    requires { n < 2 ^ 31 }
-    ensures { IfOk result (λ text. text.items ≡ option_map_or (long_form n) (object_at (dbref_of n) (objects_of guard.now)) []) }
-{
-    match guard.db().get(Dbref(n as i32)) {
-        Some(object) => long_form(guard.alloc(), n, object),
-        None => Ok(Vec::new(guard.alloc())),
-    }
-}
-
-/// Tells the connection of the new object of a number.
-#[tactic(auto, unfolding(spec_commands::specs::Building::created_shown, spec_commands::specs::Replies::created_reply, spec_live::specs::Lives::reading))]
-pub fn show_created(guard: &mut Guard, d: u32, n: u32) -> Result<(), NoMemory>
-    requires { n < 2 ^ 31 }
-    ensures { Did (created_shown d n) guard.old guard.new result }
-{
-    let name = long_name(guard, n)?;
-    let mut text = Vec::new(guard.alloc());
-    text.extend_from_slice(b"Created ")?;
-    text.extend_from_slice(&name)?;
-    text.extend_from_slice(b".")?;
-    guard.tell(d, &text)?;
-    Ok(())
-}
 
 // Tells the connection what came of making an object.
 fn tell_made(guard: &mut Guard, d: u32, made: Result<Dbref, DbFault>) -> Result<(), NoMemory>

@@ -8,8 +8,7 @@ ghost use Rattle.muck_perm.specs.Guards.{Did, IsLeave, world_of};
 ghost use Rattle.cmd_common.specs.Plays.{Plays};
 ghost use Rattle.cmd_build.specs.Entering.{IsEntered};
 
-use crate::making::{number_of, show_created};
-use cmd_common::{cant_be_done, copy_lines, refuse, show_lines};
+use cmd_common::{cant_be_done, copy_lines, number_of, refuse, show_created, show_lines};
 use muck_model::{Dbref, Line, LineList, NoMemory};
 use muck_perm::{Guard, Pass, verdict};
 use spec_commands::Outcome;

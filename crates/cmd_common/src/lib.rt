@@ -22,6 +22,8 @@ pub use names::{is_name, is_player_name, may_be_called};
 pub use parts::{Parts, after_sign, after_word, parts_in};
 pub use reading::{arguments, looked_up};
 pub use replies::{bad_name, cant_be_done, done, incomplete, refuse};
-pub use showing::{list, name_and, place_at, show_lines, show_name, show_others};
+pub use showing::{
+    list, name_and, number_of, place_at, show_created, show_lines, show_name, show_others,
+};
 pub use sources::{copy_lines, same_lines};
 pub use writing::{Write, act_of, put, try_write, write_by_leave};

@@ -1,13 +1,17 @@
 // What players see of each other and of objects.
-ghost use Rattle.std.specs.Prelude.{◌≡◌, ◌++◌, IfOk};
+ghost use Rattle.std.specs.Prelude.{◌≡◌, ◌<◌, ◌^◌, ◌++◌, IfOk, [], codes};
+ghost use Rattle.std.specs.Option.{option_map_or};
+ghost use Rattle.spec_live.specs.Objects.{dbref_of, object_at};
+ghost use Rattle.spec_live.specs.Seen.{long_form};
 ghost use Rattle.spec_live.specs.Lives.{tell, reading, place_at, name_at};
-ghost use Rattle.spec_rights.specs.Levels.{name_shown};
+ghost use Rattle.spec_rights.specs.Levels.{name_shown, number_of};
 ghost use Rattle.spec_commands.specs.Finding.{shown_others, listed};
+ghost use Rattle.spec_commands.specs.Building.{created_shown};
 ghost use Rattle.spec_commands.specs.Programming.{lines_shown};
-ghost use Rattle.muck_perm.specs.Guards.{Did, world_of};
+ghost use Rattle.muck_perm.specs.Guards.{Did, objects_of, world_of};
 
 use muck_model::{Dbref, Line, NoMemory};
-use muck_perm::{Guard, name_shown};
+use muck_perm::{Guard, long_form, name_shown};
 use std::alloc::Global;
 
 /// The place of an object, `#-1` where it isn't there.
@@ -77,5 +81,39 @@ pub fn show_lines(guard: &mut Guard, d: u32, lines: &[Line]) -> Result<(), NoMem
     for line in lines {
         show_line(guard, d, line)?;
     }
+    Ok(())
+}
+
+/// The number of an object that is there.
+pub fn number_of(x: Dbref) -> u32
+    ensures number { result ≡ number_of x }
+    ensures most { result < 2 ^ 31 }
+{
+    if x.0 < 0 { 0 } else { x.0 as u32 }
+}
+
+// The long form of the object of a number; what isn't there has none.
+fn long_name(guard: &Guard, n: u32) -> Result<Vec<u8>, NoMemory>
+    requires { n < 2 ^ 31 }
+    ensures { IfOk result (λ text. text.items ≡ option_map_or (long_form n) (object_at (dbref_of n) (objects_of guard.now)) []) }
+{
+    match guard.db().get(Dbref(n as i32)) {
+        Some(object) => long_form(guard.alloc(), n, object),
+        None => Ok(Vec::new(guard.alloc())),
+    }
+}
+
+/// Tells the connection of the new object of a number.
+#[tactic(auto, unfolding(spec_commands::specs::Building::created_shown, spec_commands::specs::Replies::created_reply, spec_live::specs::Lives::reading))]
+pub fn show_created(guard: &mut Guard, d: u32, n: u32) -> Result<(), NoMemory>
+    requires { n < 2 ^ 31 }
+    ensures { Did (created_shown d n) guard.old guard.new result }
+{
+    let name = long_name(guard, n)?;
+    let mut text = Vec::new(guard.alloc());
+    text.extend_from_slice(b"Created ")?;
+    text.extend_from_slice(&name)?;
+    text.extend_from_slice(b".")?;
+    guard.tell(d, &text)?;
     Ok(())
 }

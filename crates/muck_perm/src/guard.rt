@@ -467,6 +467,19 @@ impl<'a> Guard<'a> {
             .create(self.alloc, Kind::Room, name, self.actor.user, place)
     }
 
+    /// Makes a player, which owns itself and whose home is `#0`. It has no password yet. It is refused as a room is.
+    #[tactic(auto, using(crate::proofs::Founding::founds_plain))]
+    pub fn create_player(&mut self, pass: Pass, name: Line, place: Dbref) -> Result<Dbref, DbFault>
+        requires leave { IsLeave pass Act.Wizard self.old }
+        requires some { 1 ≤ length name }
+        requires short { length name ≤ 80 }
+        ensures { Founds (create_check Kind.Player self.old.actor.user place (objects_of self.old)) (λ n to. created_so n Kind.Player name self.old.actor.user to (λ o. o)) self.old self.new result }
+    {
+        let _ = pass;
+        self.db
+            .create(self.alloc, Kind::Player, name, self.actor.user, place)
+    }
+
     /// Makes a thing that the user owns, with a home that a thing may have. It is refused as a room is.
     #[tactic(auto, using(crate::proofs::Founding::founds_refused, crate::proofs::Founding::founds_thing))]
     pub fn create_thing(

@@ -157,6 +157,13 @@ impl Queue {
         processes::find_by(&self.processes, pid)
     }
 
+    /// The processes, by rising number.
+    pub fn as_slice(&self) -> &[Process]
+        ensures { result.now ≡ self.now.processes }
+    {
+        &self.processes
+    }
+
     /// Takes out the state of a process, which keeps its place and its number. `None`, and nothing has changed, where
     /// there is no such process or its state is out.
     #[tactic(auto, unfolding(crate::specs::Queues::on_process))]

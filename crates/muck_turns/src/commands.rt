@@ -1,10 +1,7 @@
 // All commands, on a world that is lent to a player.
 ghost use Rattle.std.specs.Prelude.{◌≡◌};
-ghost use Rattle.spec_live.specs.Lives.{tell};
 ghost use Rattle.spec_commands.specs.Finding.{actor_of};
-ghost use Rattle.spec_commands.specs.Replies.{huh};
-ghost use Rattle.spec_commands.specs.Going.{ended};
-ghost use Rattle.spec_commands.specs.Commands.{build_line, or_else, commanded, begins_with_sign, played};
+ghost use Rattle.spec_commands.specs.Commands.{commanded, begins_with_sign, played};
 ghost use Rattle.cmd_common.specs.Plays.{Plays};
 
 use muck_db::Db;
@@ -26,7 +23,8 @@ pub fn actor_of(db: &Db, player: Dbref) -> Actor
     }
 }
 
-/// Does a line: saying and posing come first, then exits, then commands.
+/// Does a line of players or builders: saying and posing come first, then exits, then commands. A line that is none of
+/// these is left to another.
 #[tactic(auto, unfolding(spec_commands::specs::Commands::played, spec_live::specs::Lives::reading))]
 pub fn play(guard: &mut Guard, d: u32, line: &Line) -> Result<Outcome, NoMemory>
     ensures { Plays (played d guard.old.actor line.now) guard.old guard.new result }
@@ -55,21 +53,7 @@ fn command(guard: &mut Guard, d: u32, line: &Line) -> Result<Outcome, NoMemory>
     ensures { Plays (commanded d guard.old.actor line.now) guard.old guard.new result }
 {
     match cmd_play::run(guard, d, line)? {
-        Outcome::NotMine => build(guard, d, line),
-        outcome => Ok(outcome),
-    }
-}
-
-// Does a line that is none of a player's commands.
-#[tactic(auto, unfolding(spec_commands::specs::Commands::or_else, spec_commands::specs::Going::ended, spec_commands::specs::Replies::huh), using(crate::proofs::Outcomes::or_next_mine))]
-fn build(guard: &mut Guard, d: u32, line: &Line) -> Result<Outcome, NoMemory>
-    ensures { Plays (or_else (build_line d guard.old.actor line.now) (ended Outcome.Done (tell d huh))) guard.old guard.new result }
-{
-    match cmd_build::run(guard, d, line)? {
-        Outcome::NotMine => {
-            guard.tell(d, b"Huh?  (Type \"help\" for help.)")?;
-            Ok(Outcome::Done)
-        }
+        Outcome::NotMine => cmd_build::run(guard, d, line),
         outcome => Ok(outcome),
     }
 }

@@ -27,14 +27,14 @@ use Rattle.spec_commands.specs.Finding.{message_path, look_shown, examined}
 use Rattle.spec_commands.specs.Texts.{first_word, other_words, trimmed}
 use Rattle.spec_commands.specs.Talk.{waits}
 use Rattle.spec_commands.specs.Talking.{said, posed, paged, whispered}
-use Rattle.spec_commands.specs.Going.{Play, ended}
+use Rattle.spec_commands.specs.Going.{Play, ended, walked}
 use Rattle.spec_commands.specs.Free.{moves_word, moves_by, free_play, clears_word, clears, free_command, free_through, free_line}
 use Rattle.spec_commands.specs.Reading.{looked_up, by_command, by_table}
 use Rattle.spec_commands.specs.Commands.{play_words, play_shape, line_typed, play_done, signed, play_line, message_name, build_words, build_shape, build_done, build_line, or_next, or_else, commanded, begins_with_sign, through, played}
 use Rattle.spec_commands.proofs.Showing.{seeing, quiet_waits}
 use Rattle.spec_commands.proofs.Built.{building, link_cleared_open, quiet_find_shown}
 use Rattle.spec_commands.proofs.Programmed.{program_made_open, program_edited_open, program_listed_open, program_run_open}
-use Rattle.spec_commands.proofs.Mine.{mine_leave, mine_went, mine_program_made, mine_program_edited, mine_program_listed, mine_program_run}
+use Rattle.spec_commands.proofs.Mine.{mine_leave, mine_walked, mine_went, mine_program_made, mine_program_edited, mine_program_listed, mine_program_run}
 use Rattle.spec_commands.proofs.Lawful.{Lawful, lawful_done, lawful_quiet, lawful_ends, lawful_play, lawful_with}
 use Rattle.spec_commands.specs.declared.typed.Typed.{Typed}
 use Rattle.spec_commands.proofs.Gone.{world_of, whole_ended, walked_open, went_open, taken_open, dropped_open, recycled_open, stays_gone_home, quiet_inventory_shown}
@@ -99,10 +99,14 @@ build_lawful a own free d line Run args = lawful_play a own _ _ (λ now. search 
 
 -- A whole line.
 
--- a line keeps to the licence, also where what isn't its own is left to another
+-- a line keeps to the licence, also where what isn't its own is left to another, which is judged as this line is
 pub record Leading (a : Actor) (own : Option ℕ) (free : List Entry → Freedom) (f : Play) : Type 0 where
   pub licence : Whole world_of a own free Always f
-  pub next : (g : Play) → Whole world_of a own free Always g → Whole world_of a own free Always (or_else f g)
+  pub next : (w : Live) (g : Play) → Own own w a → Proper a (free w.objects) w (world_of (g w)) → Proper a (free w.objects) w (world_of (or_next g (f w)))
+
+pub whole_next : (a : Actor) (own : Option ℕ) (free : List Entry → Freedom) (f g : Play) → Leading a own free f → Whole world_of a own free Always g → Whole world_of a own free Always (or_else f g)
+unfolding or_else
+whole_next a own free f g p q = whole_by _ (λ w c h. p.next w g c ((q.law w).law c tt))
 
 next_kept : (g : Play) (v : Live) (outcome : Outcome) → (outcome ≡ NotMine → ⊥) → (or_next g (v, outcome)).0 ≡ v
 next_kept g v NotMine h = absurd (h refl)
@@ -110,24 +114,36 @@ next_kept g v Done h = refl
 next_kept g v Leave h = refl
 next_kept g v outcome h = refl
 
-or_mine : (a : Actor) (own : Option ℕ) (free : List Entry → Freedom) (f g : Play) → Lawful a own free f → Whole world_of a own free Always (or_else f g)
+pub leading_lawful : (a : Actor) (own : Option ℕ) (free : List Entry → Freedom) (f : Play) → Lawful a own free f → Leading a own free f
+leading_lawful a own free f p = record {
+  licence = p.licence;
+  next = λ w g c r.
+      let P : Live → Type 0 = λ v. Proper a (free w.objects) w v in
+      subst P (sym (next_kept g (f w).0 (f w).1 (p.mine.law w))) ((p.licence.law w).law c tt);
+}
+
+pub leading_none : (a : Actor) (own : Option ℕ) (free : List Entry → Freedom) → Leading a own free (ended NotMine unchanged)
+unfolding ended unchanged
+leading_none a own free = record { licence = whole_ended a own free Always NotMine unchanged (whole_quiet a own free Always unchanged quiet_unchanged); next = λ w g c r. r }
+
+next_next : (g h : Play) (v : Live) (outcome : Outcome) → or_next h (or_next g (v, outcome)) ≡ or_next (or_else g h) (v, outcome)
 unfolding or_else
-or_mine a own free f g p = whole_by _ (λ w c h.
-    let P : Live → Type 0 = λ v. Proper a (free w.objects) w v in
-    subst P (sym (next_kept g (f w).0 (f w).1 (p.mine.law w))) ((p.licence.law w).law c h))
+next_next g h v NotMine = refl
+next_next g h v Done = refl
+next_next g h v Leave = refl
+next_next g h v outcome = refl
 
-or_none : (a : Actor) (own : Option ℕ) (free : List Entry → Freedom) (g : Play) → Whole world_of a own free Always g → Whole world_of a own free Always (or_else (ended NotMine unchanged) g)
-unfolding or_else ended unchanged
-or_none a own free g p = whole_by _ (λ w. (p.law w).law)
-
-leading_lawful : (a : Actor) (own : Option ℕ) (free : List Entry → Freedom) (f : Play) → Lawful a own free f → Leading a own free f
-leading_lawful a own free f p = record { licence = p.licence; next = λ g q. or_mine a own free f g p }
-
-leading_none : (a : Actor) (own : Option ℕ) (free : List Entry → Freedom) → Leading a own free (ended NotMine unchanged)
-leading_none a own free = record { licence = whole_ended a own free Always NotMine unchanged (whole_quiet a own free Always unchanged quiet_unchanged); next = or_none a own free }
+pub leading_or : (a : Actor) (own : Option ℕ) (free : List Entry → Freedom) (f g : Play) → Leading a own free f → Leading a own free g → Leading a own free (or_else f g)
+unfolding or_else
+leading_or a own free f g p q = record {
+  licence = whole_next a own free f g p q.licence;
+  next = λ w h c r.
+      let P : Live × Outcome → Type 0 = λ y. Proper a (free w.objects) w (world_of y) in
+      subst P (sym (next_next g h (f w).0 (f w).1)) (p.next w (or_else g h) c (q.next w h c r));
+}
 
 -- a line that is looked up in a table
-leading_found : {C : Type 0} (a : Actor) (own : Option ℕ) (free : Option C → List Entry → Freedom) (shape_of : C → Shape) (go : C → Arguments → Play) (d : ℕ) (word text : List ℕ) (found : Option C) →
+pub leading_found : {C : Type 0} (a : Actor) (own : Option ℕ) (free : Option C → List Entry → Freedom) (shape_of : C → Shape) (go : C → Arguments → Play) (d : ℕ) (word text : List ℕ) (found : Option C) →
     ((command : C) (args : Arguments) → Lawful a own (free (Some command)) (go command args)) → Leading a own (free found) (by_command shape_of go d a word text found)
 leading_found a own free shape_of go d word text None p = leading_none a own (free None)
 leading_found a own free shape_of go d word text (Some command) p = leading_lawful a own (free (Some command)) _ (lawful_with a own (free (Some command)) d word (shape_of command) text (go command) (p command))
@@ -152,24 +168,37 @@ pub build_leading : (a : Actor) (own : Option ℕ) (free : List Entry → Freedo
 unfolding build_line by_table clears
 build_leading a own free d line = leading_found a own (λ word es. clearing (clears_word word) (free es)) build_shape _ d _ _ (looked_up build_words (first_word (trimmed line))) (build_lawful a own free d line)
 
-commanded_open : (a : Actor) (own : Option ℕ) (d : ℕ) (line : List ℕ) → Whole world_of a own (free_command a line) Always (commanded d a line)
+commanded_leading : (a : Actor) (own : Option ℕ) (d : ℕ) (line : List ℕ) → Leading a own (free_command a line) (commanded d a line)
 unfolding commanded
-commanded_open a own d line =
-    (play_leading a own (clears line) d line).next _ ((build_leading a own (free_play a line) d line).next _ (whole_ended a own _ Always Done _ (whole_quiet a own _ Always _ (search shown))))
+commanded_leading a own d line = leading_or a own _ _ _ (play_leading a own (clears line) d line) (build_leading a own (free_play a line) d line)
 
-through_open : (a : Actor) (own : Option ℕ) (d : ℕ) (line : List ℕ) (hit : Option ExitHit) (w : Live) → Own own w a → Proper a (free_through false hit a line w.objects) w (world_of (through d a line hit w))
-through_open a own d line (Some hit) w c =
-    ((whole_ends world_of a own (λ es. oneself a) Always _ (λ v h. walked_open a (oneself a) d hit line (self_free a))).law w).law c tt
-through_open a own d line None w c = ((commanded_open a own d line).law w).law c tt
+walked_lawful : (a : Actor) (own : Option ℕ) (d : ℕ) (hit : ExitHit) (line : List ℕ) → Lawful a own (λ es. oneself a) (walked d a hit line)
+walked_lawful a own d hit line = record { licence = whole_ends world_of a own _ Always _ (λ w h. walked_open a (oneself a) d hit line (self_free a)); mine = mine_walked d a hit line }
+
+through_leading : (a : Actor) (own : Option ℕ) (d : ℕ) (line : List ℕ) (hit : Option ExitHit) → Leading a own (free_through false hit a line) (through d a line hit)
+through_leading a own d line (Some hit) = leading_lawful a own _ _ (walked_lawful a own d hit line)
+through_leading a own d line None = commanded_leading a own d line
+
+pub played_leading : (a : Actor) (own : Option ℕ) (d : ℕ) (line : List ℕ) → Leading a own (free_line a line) (played d a line)
+unfolding played free_line reading
+played_leading a own d line = record { licence = whole_by _ (λ w c h. at w c (begins_with_sign line)); next = λ w g c r. then w g c (begins_with_sign line) r }
+  where
+    hit_in : Live → Option ExitHit
+    hit_in w = exit_for (scenery_of w.objects) a.player line
+
+    done : Bool → Play
+    done b = cond b (commanded d a line) (reading hit_in (through d a line))
+
+    at : (w : Live) → Own own w a → (b : Bool) → Proper a (free_through b (hit_in w) a line w.objects) w (world_of (done b w))
+    at w c true = ((commanded_leading a own d line).licence.law w).law c tt
+    at w c false = ((through_leading a own d line (hit_in w)).licence.law w).law c tt
+
+    then : (w : Live) (g : Play) → Own own w a → (b : Bool) → Proper a (free_through b (hit_in w) a line w.objects) w (world_of (g w)) → Proper a (free_through b (hit_in w) a line w.objects) w (world_of (or_next g (done b w)))
+    then w g c true r = (commanded_leading a own d line).next w g c r
+    then w g c false r = (through_leading a own d line (hit_in w)).next w g c r
 
 pub played_open : (a : Actor) (own : Option ℕ) (d : ℕ) (line : List ℕ) → Whole world_of a own (free_line a line) Always (played d a line)
-unfolding played free_line reading
-played_open a own d line = whole_by _ (λ w c h. at w c (begins_with_sign line))
-  where
-    at : (w : Live) → Own own w a → (b : Bool) →
-        Proper a (free_through b (exit_for (scenery_of w.objects) a.player line) a line w.objects) w (world_of (cond b (commanded d a line) (reading (λ v. exit_for (scenery_of v.objects) a.player line) (through d a line)) w))
-    at w c true = ((commanded_open a own d line).law w).law c tt
-    at w c false = through_open a own d line (exit_for (scenery_of w.objects) a.player line) w c
+played_open a own d line = (played_leading a own d line).licence
 
 -- with the lines that wait behind it
 pub waited_open : (a : Actor) (d : ℕ) (lines : List (List ℕ)) (line : List ℕ) → Whole world_of a (Some d) (free_line a line) Always (waits d lines ▸ played d a line)

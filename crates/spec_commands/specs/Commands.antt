@@ -20,7 +20,7 @@ use Rattle.spec_commands.specs.declared.word.Message.TheVariants.{Describe, Succ
 use Rattle.spec_commands.specs.declared.word.BuildWord.{BuildWord}
 use Rattle.spec_commands.specs.declared.word.BuildWord.TheVariants.{Dig, Create, Open, Action, Link, Unlink, Name, Set, Lock, Unlock, Teleport, Recycle, Chown, Assign, Find, Program, Edit, List as ListWord, Run}
 use Rattle.spec_commands.specs.Texts.{first_word, other_words, trimmed}
-use Rattle.spec_commands.specs.Replies.{goodbye, huh, set_reply, unlocked_reply}
+use Rattle.spec_commands.specs.Replies.{goodbye, set_reply, unlocked_reply}
 pub use Rattle.spec_commands.specs.Messages.{message_name}
 use Rattle.spec_commands.specs.Finding.{looked, look_shown, examined}
 use Rattle.spec_commands.specs.Talking.{said, posed, paged, whispered, who_shown}
@@ -181,7 +181,7 @@ build_done d a line Run args = program_run d a line args.first.object args.secon
 unfoldable pub build_line : ℕ → Actor → List ℕ → Play
 build_line d a line = by_table build_words build_shape (build_done d a line) d a line
 
--- All of them.
+-- Both.
 
 -- where the first says that a line isn't its own, the second does it
 abbrev pub or_next : Play → Live × Outcome → Live × Outcome
@@ -192,7 +192,7 @@ unfoldable pub or_else : Play → Play → Play
 or_else f g w = or_next g (f w)
 
 unfoldable pub commanded : ℕ → Actor → List ℕ → Play
-commanded d a line = or_else (play_line d a line) (or_else (build_line d a line) (ended Done (tell d huh)))
+commanded d a line = or_else (play_line d a line) (build_line d a line)
 
 abbrev pub begins_with_sign : List ℕ → Bool
 begins_with_sign [] = false
@@ -202,7 +202,7 @@ abbrev pub through : ℕ → Actor → List ℕ → Option ExitHit → Play
 through d a line (Some hit) = walked d a hit line
 through d a line None = commanded d a line
 
--- saying and posing come first, then exits, then commands
+-- saying and posing come first, then exits, then commands; a line that is none of these is left to another
 unfoldable pub played : ℕ → Actor → List ℕ → Play
 played d a line =
     if begins_with_sign line then commanded d a line else

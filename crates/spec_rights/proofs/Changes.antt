@@ -90,7 +90,7 @@ lists_lined : (j : Judge) (x : Dbref) (lines : List (List ℕ)) (es : List Entry
 lists_lined j x lines es = lists_number j (lines_set lines) es (λ m v k. list_change v m k (with_lines lines) es (λ e. refl)) (number_in es x)
 
 -- and what is to be told of them
-marks_set : (n : ℕ) (f : Object → Object) (es : List Entry) (q : Option ℕ) → mark_in (option_map_or (λ m. set_at f m es) q es) n ≡ mark_in es n
+pub marks_set : (n : ℕ) (f : Object → Object) (es : List Entry) (q : Option ℕ) → mark_in (option_map_or (λ m. set_at f m es) q es) n ≡ mark_in es n
 marks_set n f es None = refl
 marks_set n f es (Some m) = mark_changed m n f es
 
@@ -208,7 +208,7 @@ stays_lines a free x lines h = stays_by _ (λ start w s g.
 
 -- Passwords.
 
-kept_digest : (j : Judge) (x : Dbref) (salt : ℕ) (word : List ℕ) (o : Object) → is_master j.actor ≡ true → Kept j x o (with_password salt word o)
+pub kept_digest : (j : Judge) (x : Dbref) (salt : ℕ) (word : List ℕ) (o : Object) → is_master j.actor ≡ true → Kept j x o (with_password salt word o)
 kept_digest j x salt word o h = record {
   changed = record { kind = refl; name = inl refl; owner = inl refl; place = inl refl; link = inl refl; home = inl refl; flags = inl refl; wizard = inl refl; level = inl refl; props = λ path. inl refl; lines = inl refl; digest = inr h };
   same = refl;

@@ -9,5 +9,6 @@ pub mod Changes
 pub mod Places
 pub mod Leaving
 pub mod Makings
+pub mod Behind
 pub mod Recycled
 pub mod Permitted

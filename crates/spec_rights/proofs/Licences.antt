@@ -335,6 +335,16 @@ stays_followed a free given f g p q = keeps_after f g (λ w v u s t. record {
   law = λ start r h. let first = s.law start r h in stay_both _ _ _ _ first (t.law start (stay_rights _ start w v r first) tt);
 }) p q
 
+-- what only shows may come first, and what is given stays so
+pub stays_behind : (a : Actor) (free : Freedom) (given : Option Act) (f g : Change) → Quiet f → Stays a free given g → Stays a free given (followed f g)
+stays_behind a free given f g q p = keeps_after f g (λ w v u s t. record {
+  law = λ start r h.
+      let j = judge a free start in
+      let R : List Entry → Type 0 = λ os. SameRights start os in
+      let G : List Entry → Type 0 = λ os. Given given os a in
+      stay_both j w v u (stay_quietly j w w v (stay_itself j w) s) (t.law start (subst R (sym s.objects) r) (subst G (sym s.objects) h));
+}) q p
+
 -- what was given before an act is asked is forgotten
 pub stays_asked : (a : Actor) (free : Freedom) (given : Option Act) (act : Act) (refuse : Denial → Change) (go : Change) →
     ((d : Denial) → Stays a free None (refuse d)) → Stays a free (Some act) go → Stays a free given (asked a act refuse go)

@@ -7,7 +7,7 @@ use Rattle.std.proofs.lemmas.Bool.{cases_eq, or_right}
 use Rattle.std.proofs.lemmas.Bool.Decides.{nat_tests}
 use Rattle.muck_model.specs.declared.dbref.Dbref.{Dbref}
 use Rattle.muck_model.specs.declared.dbref.Kind.{Kind}
-use Rattle.muck_model.specs.declared.dbref.Kind.TheVariants.{Room, Thing, Exit, Program}
+use Rattle.muck_model.specs.declared.dbref.Kind.TheVariants.{Room, Thing, Exit, Player, Program}
 use Rattle.spec_live.specs.declared.object.Object.{Object}
 use Rattle.spec_live.specs.Flags.{builder, jump, link}
 use Rattle.spec_live.specs.Objects.{Entry, dbref_of, nothing, home, same, is_garbage, object_in, list_in, mark_in, number_in, object_at, changed_at, with_object, garbage}
@@ -20,16 +20,16 @@ use Rattle.spec_live.proofs.Lists.{get_changed_same, read_more}
 use Rattle.spec_live.proofs.Readers.{object_changed, object_unchanged, object_elsewhere, object_moved, object_unmoved, list_changed, list_named, mark_changed, mark_named, mark_moved}
 use Rattle.spec_live.proofs.CreationLaws.{list_more}
 use Rattle.spec_rights.specs.declared.act.Actor.{Actor}
-use Rattle.spec_rights.specs.declared.act.Act.TheVariants.{NewRoom, NewThing, NewExit, NewProgram}
+use Rattle.spec_rights.specs.declared.act.Act.TheVariants.{NewRoom, NewThing, NewExit, NewProgram, Wizard}
 use Rattle.spec_rights.specs.Levels.{level_at, flag_at}
-use Rattle.spec_rights.specs.Verdict.{verdict, controls, controls_or}
+use Rattle.spec_rights.specs.Verdict.{verdict, is_master, controls, controls_or}
 use Rattle.spec_rights.specs.Changing.{created_so}
 use Rattle.spec_rights.specs.Licence.{Freedom, Judge, IsNew, Differs, Reordered, as_before, front_open, SameLists, place_open}
 use Rattle.spec_rights.proofs.Lookups.{alive, seen_at, number_is}
 use Rattle.spec_rights.proofs.Listing.{reordered_moved}
 use Rattle.spec_rights.proofs.Rights.{SameRights, same_level}
 use Rattle.spec_rights.proofs.Licences.{judge, changed_same, mark_open, End}
-use Rattle.spec_rights.proofs.Allowed.{room_allowed, thing_allowed, exit_allowed, program_allowed}
+use Rattle.spec_rights.proofs.Allowed.{room_allowed, thing_allowed, exit_allowed, program_allowed, wizard_allowed}
 use Rattle.spec_rights.proofs.Changes.{end_objects}
 
 -- Nothing is there at the free number.
@@ -214,6 +214,10 @@ program_new : (a : Actor) (free : Freedom) (start : List Entry) (name : List ℕ
 unfolding new_object
 program_new a free start name level k t b h = record { kind = and_three _ _ _ (same_eq a.user a.user refl) b h; flags = refl; link = refl }
 
+player_new : (a : Actor) (free : Freedom) (start : List Entry) (name : List ℕ) (owner : Dbref) (k t : ℕ) → is_master a ≡ true → IsNew (judge a free start) (dbref_of k) (new_in Player name owner (λ o. o) k t)
+unfolding new_object
+player_new a free start name owner k t h = record { kind = and_three _ _ _ h refl (same_eq (dbref_of k) (dbref_of k) refl); flags = refl; link = refl }
+
 -- What is new by an act that is allowed.
 
 pub room_open : (a : Actor) (free : Freedom) (start es : List Entry) (name : List ℕ) (place : Dbref) (k t : ℕ) → SameRights start es → verdict es a (NewRoom place) ≡ None → place ≡ dbref_of t → IsNew (judge a free start) (dbref_of k) (new_in Room name a.user (λ o. o) k t)
@@ -236,3 +240,7 @@ pub program_open : (a : Actor) (free : Freedom) (start es : List Entry) (name : 
 program_open a free start es name level k t s g e =
     let h : nat_le (min (level_at es a.user) 3) (level_at start a.user) ≡ true = at_most (level_at es a.user) (level_at start a.user) (sym (same_level a.user start es s)) in
     program_new a free start name level k t (program_allowed a start es s g) (ap (λ n. nat_le n (level_at start a.user)) e ∙ h)
+
+-- a player belongs to itself, whoever is given as its owner
+pub player_open : (a : Actor) (free : Freedom) (start es : List Entry) (name : List ℕ) (owner : Dbref) (k t : ℕ) → verdict es a Wizard ≡ None → IsNew (judge a free start) (dbref_of k) (new_in Player name owner (λ o. o) k t)
+player_open a free start es name owner k t g = player_new a free start name owner k t (wizard_allowed es a g)

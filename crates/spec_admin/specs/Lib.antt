@@ -1,0 +1,5 @@
+pub mod Parameters
+pub mod Replies
+pub mod Processes
+pub mod Players
+pub mod Lines
