@@ -1,11 +1,10 @@
 -- What primitives of processes do, by what their rows say.
 use Rattle.std.proofs.Common.{◌≡◌, ℕ, ◌-◌, ◌<◌, ◌≤◌, subst, List, [], ◌∷◌, drop, length, true, Option, Some, None, refl, sym, ap, ◌∙◌, arith}
-use Rattle.std.specs.Prelude.{ℤ, pos, negsuc, is_some, slice_get, IfOk, Result, Ok, Err}
+use Rattle.std.specs.Prelude.{ℤ, pos, is_some, slice_get, IfOk, Result, Ok, Err}
 use Rattle.std.proofs.lemmas.Bool.{cond-true, lt-ltb}
 use Rattle.std.proofs.lemmas.List.{length-map}
 use Rattle.muck_model.specs.declared.dbref.Dbref.{Dbref}
 use Rattle.muf_model.specs.declared.fault.MufFault.{MufFault}
-use Rattle.muf_model.specs.declared.fault.MufFault.TheVariants.{ProcessLimit}
 use Rattle.muf_model.specs.declared.prims.Primitive.{Primitive as Name}
 use Rattle.muf_model.specs.Answer.{stack_most}
 use Rattle.muf_model.specs.Datum.{Datum, int}
@@ -22,7 +21,7 @@ use Rattle.muf_running.specs.Lending.{Shows, Apart, Differs, Rejoins, with_frame
 use Rattle.spec_live.specs.Lives.{Live}
 use Rattle.spec_rights.specs.declared.act.Actor.{Actor}
 use Rattle.muck_queue.specs.declared.process.Process.{Process}
-use Rattle.muck_queue.specs.Queues.{Queue as Table, process, is_full}
+use Rattle.muck_queue.specs.Queues.{Queue as Table, process}
 use Rattle.spec_processes.specs.declared.place.Place.{Place}
 use Rattle.spec_processes.specs.ProcessRows.{Effect, gives, waits, forks, enters, starts, refuses, processed, Doing, process_row, done_in}
 use Rattle.prim_proc.specs.Applied.{HasStack, IsLeft, called_items}
@@ -70,19 +69,7 @@ if_done (Err e) P Q k h = h
 pub moved : {A : Type 0} (P : A → Type 0) (x y : A) → P x → x ≡ y → P y
 moved P x y h e = subst P e h
 
--- no child joins where there is no room for it
-pub refused_bears : (o : Option Process) (p : Process) (s : Source) (w : World) → Some p ≡ o → is_full p.player w.live.board.tune w.queue ≡ true → Bears o s w w (negsuc 0)
-refused_bears o p s w there full =
-    let e : joined (child_of w.moment (handed (int (pos 0)) s) p) w ≡ (w, Err ProcessLimit) = cond-true _ _ _ full in
-    subst (λ x. Bears x s w w (negsuc 0)) there (sym (ap child_number e), sym (ap (λ r. r.0) e))
-
--- and else it does, or not
-pub joined_bears : (o : Option Process) (p child : Process) (s : Source) (w v : World) (n : ℤ) → Some p ≡ o → child ≡ child_of w.moment (handed (int (pos 0)) s) p →
-    n ≡ child_number (joined child w) → v ≡ (joined child w).0 → Bears o s w v n
-joined_bears o p child s w v n there made number same =
-    subst (λ x. Bears x s w v n) there (number ∙ ap (λ y. child_number (joined y w)) made, same ∙ ap (λ y. (joined y w).0) made)
-
--- so FORK is done
+-- FORK is done where a child joined, or there was no room for it
 pub child_joins : (pid : ℤ) (running t : Source) (w v : World) (n : ℤ) (o : Option Process) → process pid w.queue ≡ o → Bears o running w v n → t ≡ handed (int n) running →
     (s : Source) (stack : List Datum) → running ≡ behind stack s → length stack < 1024 → forked pid stack s w ≡ does t v
 unfolding forked
