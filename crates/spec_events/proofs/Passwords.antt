@@ -55,10 +55,12 @@ kept_changed e d f number player (c ∷ cs) = at (has_number d c) (kept_changed 
     here : (q : Bool) → option_and_then (λ (c : Connection). c.player) (cond q (Some (f c)) (find (has_number e) cs)) ≡ option_and_then (λ (c : Connection). c.player) (cond q (Some c) (find (has_number e) cs))
     here true = player c
     here false = refl
+
     there : (q : Bool) → player_found e (changed_in d f cs) ≡ player_found e cs →
         option_and_then (λ (c : Connection). c.player) (cond q (Some c) (find (has_number e) (changed_in d f cs))) ≡ option_and_then (λ (c : Connection). c.player) (cond q (Some c) (find (has_number e) cs))
     there true h = refl
     there false h = h
+
     at : (b : Bool) → player_found e (changed_in d f cs) ≡ player_found e cs → player_found e (cond b (f c ∷ cs) (c ∷ changed_in d f cs)) ≡ player_found e (c ∷ cs)
     at true h = ap (λ n. option_and_then (λ (c : Connection). c.player) (cond (n == e) (Some (f c)) (find (has_number e) cs))) (number c) ∙ here (c.number == e)
     at false h = there (c.number == e) h
@@ -76,11 +78,13 @@ seated_found e d player p (c ∷ cs) h = at (c.number == d) refl (seated_found e
         (option_and_then (λ (c : Connection). c.player) (cond q (Some c) (find (has_number e) cs)) ≡ Some p) ⊎ ((e ≡ d) × (p ≡ player))
     here true s r k = let one : p ≡ player = cc in inr (same_numbers c.number e d s r, one)
     here false s r k = inl k
+
     there : (q : Bool) → (player_found e (changed_in d (seated player) cs) ≡ Some p → (player_found e cs ≡ Some p) ⊎ ((e ≡ d) × (p ≡ player))) →
         option_and_then (λ (c : Connection). c.player) (cond q (Some c) (find (has_number e) (changed_in d (seated player) cs))) ≡ Some p →
         (option_and_then (λ (c : Connection). c.player) (cond q (Some c) (find (has_number e) cs)) ≡ Some p) ⊎ ((e ≡ d) × (p ≡ player))
     there true next k = inl k
     there false next k = next k
+
     at : (b : Bool) → (c.number == d) ≡ b → (player_found e (changed_in d (seated player) cs) ≡ Some p → (player_found e cs ≡ Some p) ⊎ ((e ≡ d) × (p ≡ player))) →
         player_found e (cond b (seated player c ∷ cs) (c ∷ changed_in d (seated player) cs)) ≡ Some p → (player_found e (c ∷ cs) ≡ Some p) ⊎ ((e ≡ d) × (p ≡ player))
     at true r next k = here (c.number == e) refl r k
@@ -97,11 +101,13 @@ placed_found e d greeting p (c ∷ cs) h = at (ltb d c.number) (placed_found e d
     new : (q : Bool) → option_and_then (λ (c : Connection). c.player) (cond q (Some (newcomer d greeting)) (find (has_number e) (c ∷ cs))) ≡ Some p → player_found e (c ∷ cs) ≡ Some p
     new true k = absurd (none-some p k)
     new false k = k
+
     there : (q : Bool) → (player_found e (placed (newcomer d greeting) cs) ≡ Some p → player_found e cs ≡ Some p) →
         option_and_then (λ (c : Connection). c.player) (cond q (Some c) (find (has_number e) (placed (newcomer d greeting) cs))) ≡ Some p →
         option_and_then (λ (c : Connection). c.player) (cond q (Some c) (find (has_number e) cs)) ≡ Some p
     there true next k = k
     there false next k = next k
+
     at : (b : Bool) → (player_found e (placed (newcomer d greeting) cs) ≡ Some p → player_found e cs ≡ Some p) →
         player_found e (cond b (newcomer d greeting ∷ c ∷ cs) (c ∷ placed (newcomer d greeting) cs)) ≡ Some p → player_found e (c ∷ cs) ≡ Some p
     at true next k = new (d == e) k
@@ -135,11 +141,13 @@ without_found e d p (c ∷ cs) r h = at (c.number == d) refl (without_found e d 
     gone s k =
         let less : c.number < e = above_found c.number e p cs r.0 k in
         (ap (λ b. option_and_then (λ (c : Connection). c.player) (cond b (Some c) (find (has_number e) cs))) (not_itself c.number e less) ∙ k, less_apart c.number d e s less)
+
     there : (q : Bool) → (c.number == e) ≡ q → (c.number == d) ≡ false → (player_found e (without d cs) ≡ Some p → (player_found e cs ≡ Some p) × (d ≢ e)) →
         option_and_then (λ (c : Connection). c.player) (cond q (Some c) (find (has_number e) (without d cs))) ≡ Some p →
         (option_and_then (λ (c : Connection). c.player) (cond q (Some c) (find (has_number e) cs)) ≡ Some p) × (d ≢ e)
     there true s r next k = (k, other_apart c.number d e r s)
     there false s r next k = next k
+
     at : (b : Bool) → (c.number == d) ≡ b → (player_found e (without d cs) ≡ Some p → (player_found e cs ≡ Some p) × (d ≢ e)) →
         player_found e (cond b cs (c ∷ without d cs)) ≡ Some p → (player_found e (c ∷ cs) ≡ Some p) × (d ≢ e)
     at true s next k = gone s k
@@ -213,6 +221,7 @@ gains_given d pid line lines w e p = at (is_abort line)
   where
     waited : player_in e (waits d lines w.live).board ≡ player_in e w.live.board
     waited = kept_quiet e (waits d lines) (quiet_waits d lines) w.live
+
     at : (b : Bool) → player_in e (cond b (on_live (tell d program_aborted) (on_queue (process_without pid) (on_live (waits d lines) w))) (on_queue (on_process pid (told_line w.moment line)) (on_live (waits d lines) w))).live.board ≡ Some p →
         (player_in e w.live.board ≡ Some p) ⊎ ((d ≡ e) × Proves e p w)
     at true h = inl (sym waited ∙ (sym (kept_quiet e (tell d program_aborted) (quiet_tell d program_aborted) (waits d lines w.live)) ∙ h))
@@ -270,9 +279,9 @@ HasGained event w v = (e : ℕ) (p : Dbref) → player_in e v.live.board ≡ Som
 
 gained_exec : (d : ℕ) (w v : World) → Gains d w v → HasGained (Exec d) w v
 gained_exec d w v g e p h = elim (g e p h) [
-      | inl k ↦ inl (k, λ x. cc)
-      | inr k ↦ inr (ap Exec k.0, k.1)
-    ]
+  | inl k ↦ inl (k, λ x. cc)
+  | inr k ↦ inr (ap Exec k.0, k.1)
+]
 
 gained : (event : Event) (party : ℕ) (w : World) → IsRising w.live.board.connections → EventLicensed event w (happened w party event) → HasGained event w (happened w party event)
 unfolding opened line_added bytes_taken
@@ -304,9 +313,9 @@ known w [] r l m d p h = inl (h, tt)
 known w (entry ∷ entries) r l m d p h =
     elim (known (effect w entry) entries (rising_effect w entry l.0 r) l.1 m.1 d p h) [
       | inl k ↦ elim (gained entry.event entry.party w r m.0 d p k.0) [
-          | inl g ↦ inl (g.0, (g.1, k.1))
-          | inr g ↦ inr (inl (g.0, g.1, k.1))
-        ]
+        | inl g ↦ inl (g.0, (g.1, k.1))
+        | inr g ↦ inr (inl (g.0, g.1, k.1))
+      ]
       | inr k ↦ inr (inr k)
     ]
 
