@@ -27,6 +27,6 @@ pub password_by : (d : ℕ) (a : Actor) (x : Dbref) (word : List ℕ) (old new :
 unfolding password_changed written asked either
 password_by d a x word old new (Ok u) short may t =
     let is : password_changed d a x word (world_of old) ≡ changes d x word (world_of old) =
-      ap (λ b. either b (asks d a x word) (tell d cant_be_done) (world_of old)) short ∙ ap (λ o. answered o (refused d) (changes d x word) (world_of old)) may in
+    ap (λ b. either b (asks d a x word) (tell d cant_be_done) (world_of old)) short ∙ ap (λ o. answered o (refused d) (changes d x word) (world_of old)) may in
     (t.0 ∙ sym is, t.1)
 password_by d a x word old new (Err e) short may t = t

@@ -47,6 +47,6 @@ pub all_shown : (d : ℕ) (tune : Tune) (rows : List (Bor (List ℕ) × Paramete
 unfolding parameters_shown reading
 all_shown d tune rows old new (Ok u) all now t =
     let shown : each (λ row. parameter_shown d tune (word_row row)) rows ≡ each (parameter_shown d (world_of old).board.tune) parameters =
-      sym (each_mapped word_row (parameter_shown d tune) rows) ∙ (ap (each (parameter_shown d tune)) all ∙ ap (λ x. each (parameter_shown d x) parameters) now) in
+    sym (each_mapped word_row (parameter_shown d tune) rows) ∙ (ap (each (parameter_shown d tune)) all ∙ ap (λ x. each (parameter_shown d x) parameters) now) in
     (t.0 ∙ ap (λ (f : Change). f (world_of old)) shown, t.1)
 all_shown d tune rows old new (Err e) all now t = t
