@@ -21,12 +21,13 @@ split_here xs i e h is =
     let more : drop i xs ≡ get_or xs i e ∷ drop (i + 1) xs = rw (add-one, drop-cons xs i e) refl in
     more ∙ ap (λ x. x ∷ drop (i + 1) xs) (sym is)
 
-pub each_one : {A : Type 0} {X : Type 0} (go : A → Change) (xs : List A) (i : ℕ) (e : A) (a b new : Guard) (r : Result X NoMemory) → i < length xs → e ≡ get_or xs i e →
-    Done (go e) a b → Did (each go (drop (i + 1) xs)) b new r → Did (each go (drop i xs)) a new r
+pub each_at : {A : Type 0} {X : Type 0} (go : A → Change) (xs : List A) (i : ℕ) (e : A) (a b new : Guard) (r : Result X NoMemory) → i < length xs →
+    Done (go (get_or xs i e)) a b → Did (each go (drop (i + 1) xs)) b new r → Did (each go (drop i xs)) a new r
 unfolding each
-each_one {A = A} go xs i e a b new r h is s t =
+each_at {A = A} go xs i e a b new r h s t =
     let P : List A → Type 0 = λ rest. Did (each go rest) a new r in
-    subst P (sym (split_here xs i e h is)) (did_both _ _ a b new r s t)
+    let more : drop i xs ≡ get_or xs i e ∷ drop (i + 1) xs = rw (add-one, drop-cons xs i e) refl in
+    subst P (sym more) (did_both _ _ a b new r s t)
 
 pub each_none : {A : Type 0} (go : A → Change) (xs : List A) (i : ℕ) (a : Guard) → length xs ≤ i → Done (each go (drop i xs)) a a
 unfolding each
