@@ -1,7 +1,7 @@
 -- The process that `@kill` ends is the one that the text behind its word means.
-use Rattle.std.proofs.Common.{◌≡◌, ℕ, List, [], ◌∷◌, Option, Some, None, Result, Ok, Err, refl, sym, ◌∙◌, ap, subst}
+use Rattle.std.proofs.Common.{◌≡◌, ℕ, List, [], ◌∷◌, Some, None, Result, Ok, Err, refl, sym, ◌∙◌, ap, subst}
 use Rattle.std.specs.Prelude.{OnOk}
-use Rattle.std.specs.Option.{option_map_or, option_and_then}
+use Rattle.std.specs.Option.{option_map_or}
 use Rattle.muck_model.specs.declared.memory.NoMemory.{NoMemory}
 use Rattle.muck_model.specs.Decimal.{decimal_of}
 use Rattle.spec_live.specs.Objects.{nothing}

@@ -1,5 +1,5 @@
 -- What `@kill` tells.
-use Rattle.std.proofs.Common.{◌≡◌, ℕ, List, Some, None, sym, ◌∙◌, ap}
+use Rattle.std.proofs.Common.{◌≡◌, ℕ, List, codes, Some, None, sym, ◌∙◌, ap}
 use Rattle.spec_live.specs.Lives.{tell}
 use Rattle.spec_rights.specs.declared.act.Actor.{Actor}
 use Rattle.spec_rights.specs.Asking.{answered, asked, refused}
@@ -13,8 +13,8 @@ use Rattle.muck_perm.specs.Guards.{Done, objects_of, world_of}
 
 -- where the process may be ended
 pub ends_told : (d : ℕ) (a : Actor) (text : List ℕ) (q : Queue) (p : Process) (old new : Guard) → process_meant text q ≡ Some p → verdict (objects_of old) a (ending p) ≡ None →
-    Done (tell d killed_reply) old new → Done (kill_told d a q text) old new
-unfolding kill_told asked
+    Done (tell d (codes "Process killed.")) old new → Done (kill_told d a q text) old new
+unfolding kill_told asked killed_reply
 ends_told d a text q p old new m v t =
     let told : kill_told d a q text (world_of old) ≡ tell d killed_reply (world_of old) =
     ap (λ o. end_told d a o (world_of old)) m ∙ ap (λ o. answered o (refused d) (tell d killed_reply) (world_of old)) v in

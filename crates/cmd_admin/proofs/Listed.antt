@@ -4,7 +4,6 @@ use Rattle.std.proofs.lemmas.List.{drop_all}
 use Rattle.std.specs.List.{filter}
 use Rattle.muck_model.specs.declared.memory.NoMemory.{NoMemory}
 use Rattle.spec_live.specs.Lives.{Live, Change, ◌▸◌, followed, reading, unchanged, tell}
-use Rattle.spec_live.specs.Objects.{Entry}
 use Rattle.spec_rights.specs.declared.act.Actor.{Actor}
 use Rattle.spec_commands.specs.Finding.{each}
 use Rattle.muck_queue.specs.declared.process.Process.{Process}

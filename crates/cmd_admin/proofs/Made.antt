@@ -1,5 +1,5 @@
 -- A player that is made, and what is told of it.
-use Rattle.std.proofs.Common.{◌≡◌, ℕ, nat_le, true, false, List, Option, Some, None, Result, Ok, Err, inl, inr, refl, sym, ◌∙◌, ap, subst, arith}
+use Rattle.std.proofs.Common.{◌≡◌, ℕ, nat_le, true, false, List, None, Result, Ok, Err, refl, sym, ◌∙◌, ap, subst, arith}
 use Rattle.std.specs.Prelude.{OnOk, nat_lt}
 use Rattle.std.proofs.lemmas.Bool.Decides.{nat_tests}
 use Rattle.muck_model.specs.declared.dbref.Dbref.{Dbref}
@@ -21,7 +21,7 @@ use Rattle.spec_commands.specs.Building.{allowed, made_at, created_shown}
 use Rattle.spec_commands.specs.Replies.{cant_be_done}
 use Rattle.spec_admin.specs.Players.{password_drawn, player_put}
 use Rattle.muck_perm.specs.declared.guard.Guard.{Guard}
-use Rattle.muck_perm.specs.Guards.{Did, Done, Founds, objects_of, world_of}
+use Rattle.muck_perm.specs.Guards.{Did, Done, Founds, objects_of}
 use Rattle.muck_perm.proofs.Worlds.{same_as, did_both}
 use Rattle.cmd_admin.specs.Refused.{IsRefused}
 use Rattle.cmd_admin.proofs.Checked.{made_checked}

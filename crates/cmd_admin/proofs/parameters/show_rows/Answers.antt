@@ -1,4 +1,4 @@
-use Rattle.std.proofs.Common.{rules, ◌≡◌, Ok, Err, sym, subst, drop}
+use Rattle.std.proofs.Common.{rules, ◌≡◌, Ok, Err, sym, subst}
 use Rattle.spec_commands.specs.Finding.{each}
 use Rattle.spec_admin.specs.Lines.{parameter_shown}
 use Rattle.muck_perm.specs.Guards.{Did}
