@@ -36,9 +36,10 @@ pub password_given : (x : Dbref) (word : List ℕ) (first second : ℕ) (a b c n
 unfolding password_drawn reading followed
 password_given x word first second a b c new (Ok u) one s two t kept =
     let drawn : world_of c ≡ draw (draw (world_of a)) = t.0 ∙ ap draw s.0 in
-    let next : second ≡ random_word (draw (world_of a)) = two ∙ ap random_word s.0 in
-    (kept.0 ∙ (ap (password_kept x (salt_of first second) word) drawn
-    ∙ (ap (λ n. password_kept x (salt_of n second) word (draw (draw (world_of a)))) one
-    ∙ ap (λ n. password_kept x (salt_of (random_word (world_of a)) n) word (draw (draw (world_of a)))) next)),
-    kept_after a c new (kept_after a b c s.1 t.1) kept.1)
+    let next : second ≡ random_word (draw (world_of a)) = two ∙ ap random_word s.0 in (
+      kept.0 ∙ (ap (password_kept x (salt_of first second) word) drawn
+          ∙ (ap (λ n. password_kept x (salt_of n second) word (draw (draw (world_of a)))) one
+          ∙ ap (λ n. password_kept x (salt_of (random_word (world_of a)) n) word (draw (draw (world_of a)))) next)),
+      kept_after a c new (kept_after a b c s.1 t.1) kept.1,
+    )
 password_given x word first second a b c new (Err e) one s two t kept = same_after a c new (same_after a b c s.1.1 t.1.1) kept

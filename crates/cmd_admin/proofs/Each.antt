@@ -21,12 +21,13 @@ split_here xs i e h is =
     let more : drop i xs ≡ get_or xs i e ∷ drop (i + 1) xs = rw (add-one, drop-cons xs i e) refl in
     more ∙ ap (λ x. x ∷ drop (i + 1) xs) (sym is)
 
-pub each_one : {A : Type 0} {X : Type 0} (go : A → Change) (xs : List A) (i : ℕ) (e : A) (a b new : Guard) (r : Result X NoMemory) → i < length xs → e ≡ get_or xs i e →
-    Done (go e) a b → Did (each go (drop (i + 1) xs)) b new r → Did (each go (drop i xs)) a new r
+pub each_at : {A : Type 0} {X : Type 0} (go : A → Change) (xs : List A) (i : ℕ) (e : A) (a b new : Guard) (r : Result X NoMemory) → i < length xs →
+    Done (go (get_or xs i e)) a b → Did (each go (drop (i + 1) xs)) b new r → Did (each go (drop i xs)) a new r
 unfolding each
-each_one {A = A} go xs i e a b new r h is s t =
+each_at {A = A} go xs i e a b new r h s t =
     let P : List A → Type 0 = λ rest. Did (each go rest) a new r in
-    subst P (sym (split_here xs i e h is)) (did_both _ _ a b new r s t)
+    let more : drop i xs ≡ get_or xs i e ∷ drop (i + 1) xs = rw (add-one, drop-cons xs i e) refl in
+    subst P (sym more) (did_both _ _ a b new r s t)
 
 pub each_none : {A : Type 0} (go : A → Change) (xs : List A) (i : ℕ) (a : Guard) → length xs ≤ i → Done (each go (drop i xs)) a a
 unfolding each
@@ -46,6 +47,6 @@ pub all_shown : (d : ℕ) (tune : Tune) (rows : List (Bor (List ℕ) × Paramete
 unfolding parameters_shown reading
 all_shown d tune rows old new (Ok u) all now t =
     let shown : each (λ row. parameter_shown d tune (word_row row)) rows ≡ each (parameter_shown d (world_of old).board.tune) parameters =
-      sym (each_mapped word_row (parameter_shown d tune) rows) ∙ (ap (each (parameter_shown d tune)) all ∙ ap (λ x. each (parameter_shown d x) parameters) now) in
+    sym (each_mapped word_row (parameter_shown d tune) rows) ∙ (ap (each (parameter_shown d tune)) all ∙ ap (λ x. each (parameter_shown d x) parameters) now) in
     (t.0 ∙ ap (λ (f : Change). f (world_of old)) shown, t.1)
 all_shown d tune rows old new (Err e) all now t = t

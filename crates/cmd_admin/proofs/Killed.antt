@@ -17,5 +17,5 @@ pub ends_told : (d : ℕ) (a : Actor) (text : List ℕ) (q : Queue) (p : Process
 unfolding kill_told asked
 ends_told d a text q p old new m v t =
     let told : kill_told d a q text (world_of old) ≡ tell d killed_reply (world_of old) =
-      ap (λ o. end_told d a o (world_of old)) m ∙ ap (λ o. answered o (refused d) (tell d killed_reply) (world_of old)) v in
+    ap (λ o. end_told d a o (world_of old)) m ∙ ap (λ o. answered o (refused d) (tell d killed_reply) (world_of old)) v in
     (t.0 ∙ sym told, t.1)

@@ -3,6 +3,7 @@ pub mod Listed
 pub mod Checked
 pub mod Drawn
 pub mod Made
+pub mod Changed
 pub mod Ends
 pub mod Named
 pub mod Killed

@@ -127,12 +127,7 @@ fn play(guard: &mut Guard, queue: &mut Queue, d: u32, line: &Line) -> Result<Out
 /// where a wizard sets a parameter, `Dump` where one asks for a dump, and `Stop` where the world is to stop; who called does these. Of the processes the one ends that
 /// `@kill` names, where the player may end it. After `NoMemory` the processes are as they were. What it changes is open to the actor.
 #[tactic(auto, using(crate::proofs::Open::plays_open))]
-pub fn run(
-    guard: &mut Guard,
-    queue: &mut Queue,
-    d: u32,
-    line: &Line,
-) -> Result<Outcome, NoMemory>
+pub fn run(guard: &mut Guard, queue: &mut Queue, d: u32, line: &Line) -> Result<Outcome, NoMemory>
     ensures plays { Plays (admin_line queue.old d guard.old.actor line.now) guard.old guard.new result }
     ensures queue { OnOk result (queue.new ≡ after_line guard.old.actor line.now (world_of guard.old) queue.old) }
     ensures kept { OnErr result (queue.new ≡ queue.old) }

@@ -38,7 +38,6 @@ fn salt_of(first: u32, second: u32) -> u64
 }
 
 // Whether an object is there and is a player.
-#[tactic(auto, using(crate::proofs::Checked::player_checked))]
 fn is_player(guard: &Guard, x: Dbref) -> bool
     ensures { result ≡ allowed (password_check x (objects_of guard.now)) }
 {

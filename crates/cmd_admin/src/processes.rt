@@ -1,14 +1,16 @@
 // Listing and ending processes.
-ghost use Rattle.std.specs.Prelude.{◌≡◌, IfOk, OnOk, OnErr};
+ghost use Rattle.std.specs.Prelude.{◌≡◌, ◌≤◌, IfOk, OnOk, OnErr};
 ghost use Rattle.std.specs.Option.{option_copied, option_map_or};
 ghost use Rattle.spec_live.specs.Lives.{tell};
+ghost use Rattle.spec_rights.specs.Verdict.{verdict};
 ghost use Rattle.muck_queue.specs.Queues.{without};
 ghost use Rattle.spec_admin.specs.Replies.{process_line, processes_count};
-ghost use Rattle.spec_admin.specs.Processes.{ending, may_end, process_shown, processes_shown, process_meant, kill_told, killed};
-ghost use Rattle.muck_perm.specs.Guards.{Did, world_of};
+ghost use Rattle.spec_admin.specs.Processes.{ending, process_shown, processes_shown, process_meant, kill_told, killed};
+ghost use Rattle.muck_perm.specs.Guards.{Did, objects_of, world_of};
+ghost use Rattle.cmd_admin.specs.Shown.{IsShown};
 
 use cmd_common::{name_and, refuse};
-use muck_model::{Line, NoMemory, decimal};
+use muck_model::{Denial, Line, NoMemory, decimal};
 use muck_perm::{Guard, verdict};
 use muck_queue::{Process, Queue};
 use spec_rights::Act;
@@ -27,11 +29,14 @@ fn ending(process: &Process) -> Act
     }
 }
 
-// Whether the actor may end a process.
-fn may_end(guard: &Guard, process: &Process) -> bool
-    ensures { result ≡ may_end guard.now.actor (world_of guard.now) process.now }
+// The denial by which the actor may not end a process.
+fn ending_denial(guard: &Guard, process: &Process) -> Option<Denial>
+    ensures { result ≡ verdict (objects_of guard.now) guard.now.actor (ending process.now) }
 {
-    verdict(guard.db(), &guard.actor(), &ending(process)).is_ok()
+    match verdict(guard.db(), &guard.actor(), &ending(process)) {
+        Ok(_) => None,
+        Err(denial) => Some(denial),
+    }
 }
 
 // A process by its number, the program with which it was started, and the name of its player.
@@ -59,6 +64,18 @@ fn show_process(guard: &mut Guard, d: u32, process: &Process) -> Result<(), NoMe
     Ok(())
 }
 
+// Shows a process, where the actor may end it; answers how many were shown.
+fn show_own(guard: &mut Guard, d: u32, process: &Process) -> Result<usize, NoMemory>
+    ensures shown { IsShown d process.now guard.old guard.new result }
+    ensures most { IfOk result (λ count. count ≤ 1) }
+{
+    if ending_denial(guard, process).is_some() {
+        return Ok(0);
+    }
+    show_process(guard, d, process)?;
+    Ok(1)
+}
+
 // Tells the connection how many processes were shown.
 #[tactic(auto, unfolding(spec_admin::specs::Replies::processes_count))]
 fn show_count(guard: &mut Guard, d: u32, count: usize) -> Result<(), NoMemory>
@@ -70,16 +87,12 @@ fn show_count(guard: &mut Guard, d: u32, count: usize) -> Result<(), NoMemory>
 }
 
 /// `@ps`: shows the processes that the actor may end, by number, and then how many they are.
-#[tactic(auto, unfolding(spec_admin::specs::Processes::processes_shown, spec_live::specs::Lives::reading))]
 pub fn list(guard: &mut Guard, queue: &Queue, d: u32) -> Result<(), NoMemory>
     ensures { Did (processes_shown d guard.old.actor queue.now) guard.old guard.new result }
 {
     let mut count = 0;
     for process in queue.as_slice() {
-        if may_end(guard, process) {
-            show_process(guard, d, process)?;
-            count += 1;
-        }
+        count += show_own(guard, d, process)?;
     }
     show_count(guard, d, count)
 }
@@ -103,9 +116,7 @@ pub fn kill(guard: &mut Guard, queue: &mut Queue, d: u32, text: &Line) -> Result
         return guard.tell(d, b"No such process.");
     };
     let number = process.number;
-    let act = ending(process);
-    let actor = guard.actor();
-    if let Err(denial) = verdict(guard.db(), &actor, &act) {
+    if let Some(denial) = ending_denial(guard, process) {
         return refuse(guard, d, denial);
     }
     guard.tell(d, b"Process killed.")?;

@@ -1,12 +1,22 @@
-use Rattle.std.proofs.Common.{Ok}
-use Rattle.cmd_admin.proofs.Each.{each_one, each_none}
+use Rattle.std.proofs.Common.{rules, ◌≡◌, Ok, Err, sym, subst, drop}
+use Rattle.spec_commands.specs.Finding.{each}
+use Rattle.spec_admin.specs.Lines.{parameter_shown}
+use Rattle.muck_perm.specs.Guards.{Did}
+use Rattle.cmd_common.specs.Takes.{word_row}
+use Rattle.cmd_admin.proofs.Each.{each_at, each_none}
 use Rattle.cmd_admin.proofs.parameters.show_rows.Goals as goal
 
 pub loop-row-init : goal.loop-row-init
 loop-row-init c = λ new r t. t
 
 pub loop-row-preserved : goal.loop-row-preserved
-loop-row-preserved c = λ new r t. c.loop-row.invariant new r (each_one _ _ _ c.row-item.result c.loop-row.guard c.show_parameter.new.guard new r c.loop-row-test.true c.row-item.is c.in_ok-show_parameter.ensures t)
+loop-row-preserved c = λ new r t. c.loop-row.invariant new r (each_at _ _ _ _ c.loop-row.guard c.show_parameter.new.guard new r c.loop-row-test.true c.in_ok-show_parameter.ensures t)
+
+pub returns-in_err-show_parameter : goal.returns-in_err-show_parameter
+returns-in_err-show_parameter c =
+    let err : c.from_residual.result ≡ Err c.in_err-show_parameter.field-0.0 = search rules in
+    subst (λ q. Did (each (λ row. parameter_shown c.args.d c.args.tune.now (word_row row)) c.args.rows.now) c.args.guard.now c.show_parameter.new.guard q) (sym err)
+    (c.loop-row.invariant c.show_parameter.new.guard (Err c.in_err-show_parameter.field-0.0) c.in_err-show_parameter.ensures)
 
 pub returns : goal.returns
 returns c = c.loop-row.invariant c.loop-row.guard (Ok tt) (each_none _ _ _ c.loop-row.guard c.loop-row-test.false)
