@@ -30,12 +30,7 @@ pub fn actor_of(db: &Db, player: Dbref) -> Actor
 /// Does a line of a player: one of players or builders, or else one of keepers, which may end a process; what is none of
 /// these is told so.
 #[tactic(auto, unfolding(spec_events::specs::Lines::typed, spec_events::specs::Lines::left_by, spec_commands::specs::Commands::or_else), using(crate::proofs::Outcomes::or_next_mine, crate::proofs::Outcomes::ended_behind_mine))]
-pub fn play(
-    guard: &mut Guard,
-    queue: &mut Queue,
-    d: u32,
-    line: &Line,
-) -> Result<Outcome, NoMemory>
+pub fn play(guard: &mut Guard, queue: &mut Queue, d: u32, line: &Line) -> Result<Outcome, NoMemory>
     ensures plays { Plays (typed queue.old d guard.old.actor line.now) guard.old guard.new result }
     ensures queue { OnOk result (queue.new ≡ left_by d guard.old.actor line.now (world_of guard.old) queue.old) }
 {
@@ -47,12 +42,7 @@ pub fn play(
 
 // Does a line that is neither a player's nor a builder's.
 #[tactic(auto, unfolding(spec_events::specs::Lines::by_keeper, spec_commands::specs::Commands::or_else, spec_commands::specs::Going::ended, spec_commands::specs::Replies::huh), using(crate::proofs::Outcomes::or_next_mine))]
-fn by_keeper(
-    guard: &mut Guard,
-    queue: &mut Queue,
-    d: u32,
-    line: &Line,
-) -> Result<Outcome, NoMemory>
+fn by_keeper(guard: &mut Guard, queue: &mut Queue, d: u32, line: &Line) -> Result<Outcome, NoMemory>
     ensures plays { Plays (by_keeper queue.old d guard.old.actor line.now) guard.old guard.new result }
     ensures queue { OnOk result (queue.new ≡ after_line guard.old.actor line.now (world_of guard.old) queue.old) }
 {
@@ -67,12 +57,7 @@ fn by_keeper(
 
 // Does a line of players or builders: saying and posing come first, then exits, then commands.
 #[tactic(auto, unfolding(spec_commands::specs::Commands::played, spec_live::specs::Lives::reading))]
-fn by_player(
-    guard: &mut Guard,
-    queue: &mut Queue,
-    d: u32,
-    line: &Line,
-) -> Result<Outcome, NoMemory>
+fn by_player(guard: &mut Guard, queue: &mut Queue, d: u32, line: &Line) -> Result<Outcome, NoMemory>
     ensures plays { Plays (played d guard.old.actor line.now) guard.old guard.new result }
     ensures queue { queue.new ≡ queue.old }
 {

@@ -18,8 +18,8 @@ mod slices;
 mod starting;
 mod turns;
 
-pub use login::WELCOME;
 use crate::dumps::Dumps;
+pub use login::WELCOME;
 use muck_board::Board;
 use muck_db::Db;
 use muck_library::Library;
