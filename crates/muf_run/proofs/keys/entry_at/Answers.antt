@@ -12,4 +12,4 @@ returns-in-None c =
 pub returns : goal.returns
 returns c =
     let e : slice_get c.as_slice.result.now c.args.at ≡ Some c.in-Some.pair.now = search (rules, c.pair_in.ensures.value, c.in-Some.is, c.in-Some.pair-is) in
-    sym (an_entry c.as_slice.result.now (arc_value c.args.of) c.args.at c.in-Some.pair.now (c.as_slice.ensures.pairs ∙ c.deref.ensures) e ∙ rw (c.in_ok-key_value-in-Some.ensures, c.in_ok-copy-in-Some.ensures) refl)
+    sym (an_entry c.as_slice.result.now (arc_value c.args.of) c.args.at c.in-Some.pair.now (c.as_slice.ensures.pairs ∙ c.deref.ensures) e ∙ rw (c.in_ok-to_value-in-Some.ensures, c.in_ok-copy-in-Some.ensures) refl)
