@@ -1,5 +1,5 @@
 -- Values that come between others or go, and the places of keys.
-use Rattle.std.proofs.Common.{◌≡◌, ℕ, zero, suc, ◌+◌, ◌<◌, ◌≤◌, max, Bool, true, false, List, [], ◌∷◌, ◌++◌, length, map, drop, set, Some, None, refl, sym, ◌∙◌, ap, subst, arith, rules}
+use Rattle.std.proofs.Common.{◌≡◌, ℕ, zero, suc, ◌+◌, ◌<◌, ◌≤◌, max, Bool, true, false, List, [], ◌∷◌, ◌++◌, length, map, drop, set, get_or, Some, None, refl, sym, ◌∙◌, ap, subst, arith, rules}
 use Rattle.std.specs.Prelude.{if◌then◌else◌, slice_get, int_lt, nat_lt, ◌&&◌}
 use Rattle.std.specs.List.{insert, remove}
 use Rattle.std.specs.Ordering.{nat_cmp, is_lt, ordering_reverse}
@@ -13,13 +13,13 @@ use Rattle.std.proofs.lemmas.Cmp.{nat_list_cmp_total}
 use Rattle.muf_model.specs.declared.size.Size.{Size}
 use Rattle.muf_model.specs.declared.value.MapKey.{MapKey}
 use Rattle.muf_model.specs.declared.value.Pair.{Pair}
-use Rattle.muf_model.specs.View.{pair_view, value_view}
+use Rattle.muf_model.specs.View.{view, pair_view, value_view}
 use Rattle.muf_model.specs.declared.value.MapKey.TheVariants.{Number, Name}
 use Rattle.muf_model.specs.Datum.{Datum, items, dict, data_of, pairs_of}
 use Rattle.muf_model.specs.Measures.{weight, data_weight, pairs_weight, nesting, data_nesting, pairs_nesting, key_below}
-use Rattle.muf_model.specs.Entries.{key_same, with_entry, entry_place, has_key, without, above, gathered, IsAhead, Rising}
+use Rattle.muf_model.specs.Entries.{key_same, entry_of, with_entry, entry_place, has_key, without, above, gathered, IsAhead, Rising}
 use Rattle.muf_model.specs.Values.{fits, size_fits, RiseInData, RiseInPairs, IsValue, IsSized}
-use Rattle.muf_model.proofs.Entries.{rising, same_is}
+use Rattle.muf_model.proofs.Entries.{rising, same_is, above as passes, place_cases}
 use Rattle.muf_model.proofs.Sized.{fitting, sized, within, weight_more, nesting_more, rise_more, entries_again, dict_weight, dict_nesting}
 
 -- ---- room
@@ -107,6 +107,76 @@ below_apart k l f = apart_cases k l (key_same k l) refl f
 ahead_further : (j l : MapKey) (es : List (MapKey × Datum)) → key_below j l ≡ true → IsAhead l es → IsAhead j es
 ahead_further j l [] e a = tt
 ahead_further j l ((m, y) ∷ es) e a = below_further j l m e a
+
+not_the_same : (k l : MapKey) → key_below l k ≡ true → key_same k l ≡ false
+not_the_same k l f = same_cases (key_same k l) refl where
+  same_cases : (b : Bool) → key_same k l ≡ b → b ≡ false
+  same_cases true e = search (rules, sym (subst (λ j. key_below l j ≡ false) (sym (same_is k l e)) (not_below_itself l)) ∙ f)
+  same_cases false e = refl
+
+not_below_back : (k l : MapKey) → key_below l k ≡ true → key_below k l ≡ false
+not_below_back k l f = back_cases (key_below k l) refl where
+  back_cases : (b : Bool) → key_below k l ≡ b → b ≡ false
+  back_cases true e = search (rules, sym (not_below_itself l) ∙ below_further l k l f e)
+  back_cases false e = refl
+
+-- ---- the place of a key
+
+below_each : (j : MapKey) (ps : List Pair) (i : ℕ) (d : Pair) → IsAhead j (map pair_view ps) → Rising (map pair_view ps) → i < length ps → key_below j (get_or ps i d).key ≡ true
+below_each j [] i d a r h = absurd (omega arith)
+below_each j (p ∷ ps) zero d a r h = a
+below_each j (p ∷ ps) (suc i) d a r h = below_each j ps i d (ahead_further j p.key (map pair_view ps) a r.0) r.1 (omega arith)
+
+-- a lower key stands before the place of a key
+pub lower_before : (k : MapKey) (ps : List Pair) (i : ℕ) (d : Pair) → Rising (map pair_view ps) → i < length ps → key_below (get_or ps i d).key k ≡ true → i < entry_place k (map pair_view ps)
+lower_before k [] i d r h e = absurd (omega arith)
+lower_before k (p ∷ ps) zero d r h e = rw (not_the_same k p.key e, not_below_back k p.key e) (omega arith)
+lower_before k (p ∷ ps) (suc i) d r h e =
+    let f : key_below p.key k ≡ true = below_further p.key (get_or ps i d).key k (below_each p.key ps i d r.0 r.1 (omega arith)) e in
+    let n : i < entry_place k (map pair_view ps) = lower_before k ps i d r.1 (omega arith) e in
+    rw (not_the_same k p.key f, not_below_back k p.key f) (omega arith)
+
+place_from : (k l : MapKey) (n : ℕ) (b c : Bool) → key_same k l ≡ b → key_below k l ≡ c → key_below l k ≡ false → (if b then 0 else (if c then 0 else suc n)) ≤ 0
+place_from k l n true c e f h = omega arith
+place_from k l n false true e f h = omega arith
+place_from k l n false false e f h = search (rules, sym (passes k l e f) ∙ h)
+
+-- and one that is no lower doesn't
+pub others_from : (k : MapKey) (ps : List Pair) (i : ℕ) (d : Pair) → i < length ps → key_below (get_or ps i d).key k ≡ false → entry_place k (map pair_view ps) ≤ i
+others_from k [] i d h e = absurd (omega arith)
+others_from k (p ∷ ps) zero d h e = place_from k p.key (entry_place k (map pair_view ps)) (key_same k p.key) (key_below k p.key) refl refl e
+others_from k (p ∷ ps) (suc i) d h e = place_cases (entry_place k (map pair_view ps)) i (key_same k p.key) (key_below k p.key) (others_from k ps i d (omega arith) e)
+
+none_above : (k : MapKey) (es : List (MapKey × Datum)) → IsAhead k es → Rising es → entry_of k es ≡ None
+none_above k [] a r = refl
+none_above k ((l, x) ∷ es) a r = rw (below_apart k l a) (none_above k es (ahead_further k l es a r.0) r.1)
+
+value_cases : (k : MapKey) (p : Pair) (ps : List Pair) (d : Pair) (b c : Bool) → key_same k p.key ≡ b → (has_key k (slice_get (map pair_view ps) (entry_place k (map pair_view ps))) ≡ true → entry_of k (map pair_view ps) ≡ Some (view (get_or ps (entry_place k (map pair_view ps)) d).value)) → has_key k (slice_get (map pair_view (p ∷ ps)) (if b then 0 else (if c then 0 else suc (entry_place k (map pair_view ps))))) ≡ true → (if b then Some (view p.value) else entry_of k (map pair_view ps)) ≡ Some (view (get_or (p ∷ ps) (if b then 0 else (if c then 0 else suc (entry_place k (map pair_view ps)))) d).value)
+value_cases k p ps d true c e h t = refl
+value_cases k p ps d false true e h t = search (rules, sym e ∙ t)
+value_cases k p ps d false false e h t = h t
+
+-- the value of a key that has one stands at its place
+value_there : (k : MapKey) (ps : List Pair) (d : Pair) → has_key k (slice_get (map pair_view ps) (entry_place k (map pair_view ps))) ≡ true → entry_of k (map pair_view ps) ≡ Some (view (get_or ps (entry_place k (map pair_view ps)) d).value)
+value_there k [] d t = search (rules, t)
+value_there k (p ∷ ps) d t = value_cases k p ps d (key_same k p.key) (key_below k p.key) refl (value_there k ps d) t
+
+none_cases : (k l : MapKey) (x : Datum) (es : List (MapKey × Datum)) (b c : Bool) → key_same k l ≡ b → key_below k l ≡ c → IsAhead l es → Rising es → (has_key k (slice_get es (entry_place k es)) ≡ false → entry_of k es ≡ None) → has_key k (slice_get ((l, x) ∷ es) (if b then 0 else (if c then 0 else suc (entry_place k es)))) ≡ false → (if b then Some x else entry_of k es) ≡ None
+none_cases k l x es true c e f a r h n = search (rules, sym e ∙ n)
+none_cases k l x es false true e f a r h n = none_above k es (ahead_further k l es f a) r
+none_cases k l x es false false e f a r h n = h n
+
+-- a key that has none has none there
+none_there : (k : MapKey) (es : List (MapKey × Datum)) → Rising es → has_key k (slice_get es (entry_place k es)) ≡ false → entry_of k es ≡ None
+none_there k [] r n = refl
+none_there k ((l, x) ∷ es) r n = none_cases k l x es (key_same k l) (key_below k l) refl refl r.0 r.1 (none_there k es r.1) n
+
+pub value_at : (k : MapKey) (ps : List Pair) (at : ℕ) (d : Pair) → at ≡ entry_place k (map pair_view ps) → has_key k (slice_get (map pair_view ps) at) ≡ true → entry_of k (map pair_view ps) ≡ Some (view (get_or ps at d).value)
+value_at k ps at d e t =
+    value_there k ps d (ap (λ i. has_key k (slice_get (map pair_view ps) i)) (sym e) ∙ t) ∙ ap (λ i. Some (view (get_or ps i d).value)) (sym e)
+
+pub none_at : (k : MapKey) (es : List (MapKey × Datum)) (at : ℕ) → at ≡ entry_place k es → Rising es → has_key k (slice_get es at) ≡ false → entry_of k es ≡ None
+none_at k es at e r n = none_there k es r (ap (λ i. has_key k (slice_get es i)) (sym e) ∙ n)
 
 -- ---- what is gone
 
@@ -213,6 +283,10 @@ pair_less_fits i ps s t h z w n =
     sized (dict (pairs_of (remove es i))) t (omega (arith, w, pairs_weight_less i ps)) (omega (arith, n, pairs_nesting_less i ps))
     (subst Rising (sym (entries_again (remove es i))) (rising_less i es here rise), rise_pairs_less i es here z.is_value.rising.1)
     (small t.weight t.nesting (omega (arith, w, l.0, z.weighs, dict_weight ps, weight_within i (map value_view ps) there)) (omega (arith, n, l.1, z.nests, dict_nesting ps, nesting_within i (map value_view ps) there)))
+
+-- the keys of a dictionary rise
+pub keys_rise : (ps qs : List Pair) (s : Size) → ps ≡ qs → IsSized (dict (pairs_of (map pair_view qs))) s → Rising (map pair_view ps)
+keys_rise ps qs s e z = subst (λ rs. Rising (map pair_view rs)) (sym e) (subst Rising (entries_again (map pair_view qs)) z.is_value.rising.0)
 
 -- ---- pairs that are gathered
 

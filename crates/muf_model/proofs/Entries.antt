@@ -40,7 +40,7 @@ text_above s t Equal e h l = search (rules, sym (ap is_eq e) ∙ is_eq-slice_cmp
 text_above s t Greater e h l = ap is_lt (nat_list_cmp_total.antisymm t s ∙ ap ordering_reverse e)
 
 -- of two keys that aren't one, one is below the other
-above : (k l : MapKey) → key_same k l ≡ false → key_below k l ≡ false → key_below l k ≡ true
+pub above : (k l : MapKey) → key_same k l ≡ false → key_below k l ≡ false → key_below l k ≡ true
 above (Number m) (Number n) h l = number_above m n (int_lt m n) (int_lt n m) refl refl h l
 above (Number m) (Name t) h l = search (rules, l)
 above (Name s) (Number n) h l = refl
@@ -131,7 +131,7 @@ put_new ps i k v q p e n =
     ∙ ap (λ j. insert (map pair_view ps) j (k, view v)) e
     ∙ inserted k (view v) (map pair_view ps) (ap (λ j. has_key k (slice_get (map pair_view ps) j)) (sym e) ∙ n)
 
-place_cases : (n m : ℕ) (b c : Bool) → n ≤ m → (if b then 0 else (if c then 0 else suc n)) ≤ suc m
+pub place_cases : (n m : ℕ) (b c : Bool) → n ≤ m → (if b then 0 else (if c then 0 else suc n)) ≤ suc m
 place_cases n m true c h = omega arith
 place_cases n m false true h = omega arith
 place_cases n m false false h = omega arith

@@ -6,7 +6,7 @@ ghost use Rattle.muf_model.specs.declared.value.MapKey.{MapKey as Key};
 ghost use Rattle.muf_model.specs.Datum.{dict as whole, pairs_of};
 ghost use Rattle.muf_model.specs.View.{view, pair_view};
 ghost use Rattle.muf_model.specs.Measures.{pairs_weight, pairs_nesting};
-ghost use Rattle.muf_model.specs.Entries.{key_same, entry_of, with_entry, entry_place, has_key};
+ghost use Rattle.muf_model.specs.Entries.{key_same, entry_of, with_entry, entry_place, has_key, Rising};
 ghost use Rattle.muf_model.specs.Values.{IsValue, IsSized, Becomes};
 
 use crate::held::size_with;
@@ -40,33 +40,23 @@ impl Pair {
     }
 }
 
-// The place of a key among entries, or the one where it belongs.
+// The place of a key among entries whose keys rise, or the one where it belongs.
 pub(crate) fn entry_place(pairs: &[Pair], key: &MapKey) -> usize
+    requires { Rising (map pair_view pairs.now) }
     ensures place { result ≡ entry_place key.now (map pair_view pairs.now) }
     ensures most { result ≤ length pairs.now }
 {
-    let mut at = 0;
-    while at < pairs.len() {
-        if key.is_same(&pairs[at].key) || key.is_below(&pairs[at].key) {
-            return at;
+    let mut low = 0;
+    let mut high = pairs.len();
+    while low < high {
+        let middle = low + (high - low) / 2;
+        if pairs[middle].key.is_below(key) {
+            low = middle + 1;
+        } else {
+            high = middle;
         }
-        at += 1;
     }
-    at
-}
-
-// The value of a key among entries.
-fn value_of<'a>(pairs: &'a [Pair], key: &MapKey) -> Option<&'a Value>
-    ensures { option_map view (option_copied result) ≡ entry_of key.now (map pair_view pairs.now) }
-{
-    let mut at = 0;
-    while at < pairs.len() {
-        if key.is_same(&pairs[at].key) {
-            return Some(&pairs[at].value);
-        }
-        at += 1;
-    }
-    None
+    low
 }
 
 // The same entries.
@@ -98,6 +88,19 @@ pub(crate) fn has_key(pairs: &[Pair], at: usize, key: &MapKey) -> bool
     match pair_at(pairs, at) {
         Some(pair) => key.is_same(&pair.key),
         None => false,
+    }
+}
+
+// The value of a key among entries whose keys rise.
+fn value_of<'a>(pairs: &'a [Pair], key: &MapKey) -> Option<&'a Value>
+    requires { Rising (map pair_view pairs.now) }
+    ensures { option_map view (option_copied result) ≡ entry_of key.now (map pair_view pairs.now) }
+{
+    let at = entry_place(pairs, key);
+    if has_key(pairs, at, key) {
+        Some(&pairs[at].value)
+    } else {
+        None
     }
 }
 

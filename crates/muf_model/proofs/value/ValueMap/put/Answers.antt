@@ -5,7 +5,11 @@ use Rattle.muf_model.specs.Measures.{pairs_weight, pairs_nesting}
 use Rattle.muf_model.specs.Entries.{entry_of, with_entry}
 use Rattle.muf_model.proofs.Entries.{found, others}
 use Rattle.muf_model.proofs.Sized.{entry_fits}
+use Rattle.muf_model.proofs.Edited.{keys_rise}
 use Rattle.muf_model.proofs.value.ValueMap.put.Goals as goal
+
+pub entry_place-at-requires : goal.entry_place-at-requires
+entry_place-at-requires c = keys_rise c.deref.result.now c.self.inside.pairs.items c.self.inside.size c.deref.ensures.value c.self.invariant
 
 pub invariant_of-self-2 : goal.invariant_of-self-2
 invariant_of-self-2 c =

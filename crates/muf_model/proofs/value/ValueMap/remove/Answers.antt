@@ -1,13 +1,16 @@
-use Rattle.std.proofs.Common.{rules, ◌≡◌, true, false, map, ap, sym, subst, ◌∙◌, arith}
+use Rattle.std.proofs.Common.{rules, ◌≡◌, true, false, map, ap, sym, refl, ◌∙◌, arith}
 use Rattle.std.specs.Prelude.{slice_get}
 use Rattle.std.specs.List.{remove}
 use Rattle.muf_model.specs.Datum.{data_of}
 use Rattle.muf_model.specs.View.{pair_view, value_view}
 use Rattle.muf_model.specs.Measures.{data_weight, data_nesting}
 use Rattle.muf_model.specs.Entries.{has_key, entry_place, without, Rising}
-use Rattle.muf_model.proofs.Sized.{within, entries_again, dict_weight, dict_nesting}
-use Rattle.muf_model.proofs.Edited.{pair_less_fits, gone_there, gone_missing}
+use Rattle.muf_model.proofs.Sized.{within, dict_weight, dict_nesting}
+use Rattle.muf_model.proofs.Edited.{keys_rise, pair_less_fits, gone_there, gone_missing}
 use Rattle.muf_model.proofs.value.ValueMap.remove.Goals as goal
+
+pub entry_place-at-requires : goal.entry_place-at-requires
+entry_place-at-requires c = keys_rise c.deref.result.now c.self.inside.pairs.items c.self.inside.size c.deref.ensures.value c.self.invariant
 
 pub size_without-size-requires-clause-weight : goal.size_without-size-requires-clause-weight
 size_without-size-requires-clause-weight c =
@@ -36,5 +39,5 @@ returns-else-has_key c =
     let es = map pair_view c.self.inside.pairs.items in
     let p : c.entry_place-at.result ≡ entry_place c.args.key.now es = c.entry_place-at.ensures.place ∙ ap (λ ps. entry_place c.args.key.now (map pair_view ps)) c.deref.ensures.value in
     let t : has_key c.args.key.now (slice_get (map pair_view c.deref-2.result.now) c.entry_place-at.result) ≡ false = search (rules, c.has_key.ensures.value, c.if-has_key.false) in
-    let r : Rising es = subst Rising (entries_again es) c.self.invariant.is_value.rising.0 in
+    let r : Rising es = keys_rise c.self.inside.pairs.items c.self.inside.pairs.items c.self.inside.size refl c.self.invariant in
     sym c.self.view_is ∙ gone_missing c.args.key.now es c.entry_place-at.result p r (ap (λ ps. has_key c.args.key.now (slice_get (map pair_view ps) c.entry_place-at.result)) (sym c.deref-2.ensures.value) ∙ t) ∙ ap (without c.args.key.now) c.self.view_is
