@@ -97,7 +97,8 @@ leads_on (suc n) code codes f g s l h nested =
       λ m k. (let one : m ≡ suc (m - 1) = omega (arith, k) in
           let less : m - 1 - n ≡ m - suc n = omega (arith, k) in
           let step : taken m s ≡ suc (taken (m - 1) u.0) = ap (λ j. taken j s) one ∙ ap (λ o. count o (taken (m - 1))) u.3 in
-          step ∙ ap suc (r.4 (m - 1) (omega (arith, k))) ∙ ap (λ j. suc n + taken j r.0) less),
+          let more : suc (n + taken (m - 1 - n) r.0) ≡ suc n + taken (m - 1 - n) r.0 = omega arith in
+          step ∙ ap suc (r.4 (m - 1) (omega (arith, k))) ∙ more ∙ ap (λ j. suc n + taken j r.0) less),
     )
 
 pub going_far : (most k n : ℕ) (code : Code) (codes : List Code) (f g : Flat) (s t : Source) → n ≤ most - k → Leads n code f g → FitsState (code ∷ codes) f t → Nested t → units most s ≡ units (most - k) t → taken most s ≡ k + taken (most - k) t → (u : Source) × FitsState (code ∷ codes) g u × Nested u × (units most s ≡ units (most - (k + n)) u) × (taken most s ≡ k + n + taken (most - (k + n)) u)
@@ -114,17 +115,6 @@ over_by P e h = subst (λ r. IfOk r P) e h
 pub mapped : {A E : Type 0} → (P Q : A → Type 0) (r : Result A E) → ((x : A) → P x → Q x) → IfOk r P → IfOk r Q
 mapped P Q (Ok x) f h = f x h
 mapped P Q (Err e) f h = h
-
--- one unit more
-pub units_step : (n k : ℕ) (t u : Source) → k < n → unit t ≡ goes 0 u → units (n - k) t ≡ units (n - (k + 1)) u
-units_step n k t u l e =
-    let m : n - k ≡ suc (n - (k + 1)) = omega (arith, l) in
-    rw (m, e) refl
-
-pub taken_step : (n k : ℕ) (t u : Source) → k < n → unit t ≡ goes 0 u → k + taken (n - k) t ≡ k + 1 + taken (n - (k + 1)) u
-taken_step n k t u l e =
-    let m : n - k ≡ suc (n - (k + 1)) = omega (arith, l) in
-    rw (m, e) (omega arith)
 
 -- the unit with which a run is over
 pub units_over : (n k : ℕ) (codes : List Code) (ran : Ran) (f : Flat) (t : Source) → k < n → (ran ≡ Going 0 → ⊥) → Nested t → EndsAlike codes (next_of ran f) (unit t) → RunsAlike codes (local_of ran) f (units (n - k) t)

@@ -1,4 +1,4 @@
-use Rattle.std.proofs.Common.{rules, ◌≡◌, ◌<◌, ◌∷◌, sym, subst, ◌∙◌, arith}
+use Rattle.std.proofs.Common.{rules, ◌≡◌, ◌<◌, ◌-◌, ◌∷◌, sym, subst, ◌∙◌, arith}
 use Rattle.muf_model.specs.Unit.{unit, units}
 use Rattle.muf_model.specs.Flat.{decode}
 use Rattle.muf_frame.specs.Shown.{flat}

@@ -22,8 +22,8 @@ unreachable-requires c =
     let ready = still_fine c.args.storing.changer v (int (pos 0)) (flat c.args.frame.now) (flat c.set_variable-let_go.new.self) c.requires.fine (c.set_variable-let_go.ensures.yes found) in
     never_bare c.args.storing.changer (flat c.set_variable-let_go.new.self) (flat c.change.new.frame) ready c.in_ok-change.ensures (ap (map view) c.in-None.ensures.none)
 
-pub returns-in-Some : goal.returns-in-Some
-returns-in-Some c =
+pub returns : goal.returns
+returns c =
     let v = c.args.storing.variable.0 in
     let found : c.set_variable-let_go.result ≡ true = c.set_variable-let_go.ensures.found 0 ∙ c.requires.there in
     let apart = c.set_variable-let_go.ensures.yes found in
