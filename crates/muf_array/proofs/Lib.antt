@@ -4,3 +4,4 @@ pub mod Items
 pub mod Taking
 pub mod Counting
 pub mod Texts
+pub mod Opening

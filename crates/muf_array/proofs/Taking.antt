@@ -107,7 +107,7 @@ append_refuses (Some a) None rest e h = let q : BadType ≡ e = cc in ap refuses
 append_refuses None x rest e h = let q : BadType ≡ e = cc in ap refuses q
 
 -- enough items stand above the locked part
-enough : (n locked : ℕ) (stack : List Datum) (a : Answer) → locked + n ≤ length stack → needing n locked stack a ≡ a
+pub enough : (n locked : ℕ) (stack : List Datum) (a : Answer) → locked + n ≤ length stack → needing n locked stack a ≡ a
 enough n locked stack a h = cond-false _ _ _ (le-ltb (length stack) (locked + n) h)
 
 pub item_fault : (f : Datum → Datum → MapKey → Made) (level : ℕ) (s : Scope) (stack : List Datum) (k : MapKey) (e : MufFault) → s.locked + 3 ≤ length stack → key_in 0 stack ≡ Some k → item_refused f k (slice_get stack 1) (slice_get stack 2) ≡ Some e → used level (takes (a_key ∷ a_collection ∷ any ∷ [])) (Some (plain (item_held_and_key f))) s stack ≡ refuses e

@@ -1,6 +1,7 @@
 //! The primitives of lists and dictionaries.
 #![tactic(auto)]
 
+mod changers;
 mod changes;
 mod entries;
 mod joining;
@@ -10,4 +11,5 @@ mod shapes;
 mod table;
 mod tops;
 
+pub use changers::Changer;
 pub use table::apply;

@@ -77,9 +77,9 @@ pub(crate) fn joins(alloc: Global, frame: &mut Frame) -> Result<(), PrimFault>
     }
 }
 
-// Why the value under a list or dictionary can't come to a key of it.
+/// Why the value under a list or dictionary can't come to a key of it.
 #[tactic(auto, using(crate::proofs::Taking::fault_steps))]
-fn top_fault(change: Change, frame: &Frame, key: &MapKey) -> Option<MufFault>
+pub(crate) fn top_fault(change: Change, frame: &Frame, key: &MapKey) -> Option<MufFault>
     ensures { result ≡ item_refused (changed change) key.now (slice_get (flat frame.now).stack 1) (slice_get (flat frame.now).stack 2) }
 {
     match (item_at(frame, 1), item_at(frame, 2)) {
@@ -130,9 +130,9 @@ pub(crate) fn change(
     change_top(alloc, change, frame, key)
 }
 
-// Why the value under a list can't come to the end of it.
+/// Why the value under a list can't come to the end of it.
 #[tactic(auto, using(crate::proofs::Taking::fault_steps))]
-fn append_top_fault(frame: &Frame) -> Option<MufFault>
+pub(crate) fn append_top_fault(frame: &Frame) -> Option<MufFault>
     ensures { result ≡ append_refused (slice_get (flat frame.now).stack 0) (slice_get (flat frame.now).stack 1) }
 {
     match (item_at(frame, 0), item_at(frame, 1)) {
@@ -170,9 +170,9 @@ pub(crate) fn append(alloc: Global, frame: &mut Frame) -> Result<(), PrimFault>
     append_top(alloc, frame)
 }
 
-// Why nothing can go from the list or dictionary under the top.
+/// Why nothing can go from the list or dictionary under the top.
 #[tactic(auto, using(crate::proofs::Taking::fault_steps))]
-fn gone_top_fault(frame: &Frame, key: &MapKey) -> Option<MufFault>
+pub(crate) fn gone_top_fault(frame: &Frame, key: &MapKey) -> Option<MufFault>
     ensures { result ≡ held_refused row.gone_from key.now (slice_get (flat frame.now).stack 1) }
 {
     match item_at(frame, 1) {

@@ -1,5 +1,5 @@
 -- A unit that goes on.
-use Rattle.std.proofs.Common.{◌≡◌, ℕ, ◌+◌, List, ◌∷◌, Some, ap, subst}
+use Rattle.std.proofs.Common.{◌≡◌, ℕ, ◌+◌, ◌≤◌, arith, List, ◌∷◌, Some, ap, subst}
 use Rattle.std.specs.Prelude.{slice_get, Result, Ok, Err, IfOk}
 use Rattle.muf_model.specs.declared.code.Instr.TheVariants.{Begin}
 use Rattle.muf_model.specs.declared.code.Placed.{Placed}
@@ -9,7 +9,9 @@ use Rattle.muf_model.specs.Unit.{unit}
 use Rattle.muf_model.specs.Flat.{Flat}
 use Rattle.muf_model.specs.Fits.{FitsState}
 use Rattle.muf_run.specs.Alike.{EndsAlike}
-use Rattle.muf_run.specs.Ends.{UnitEnds}
+use Rattle.muf_run.specs.declared.ran.Step.{Step}
+use Rattle.muf_run.specs.declared.ran.Step.TheVariants.{Went, Over}
+use Rattle.muf_run.specs.Ends.{UnitEnds, StepEnds}
 use Rattle.muf_run.specs.Machine as machine
 use Rattle.muf_run.specs.declared.ran.Ran.{Ran}
 use Rattle.muf_run.specs.declared.ran.Ran.TheVariants.{Going}
@@ -26,3 +28,8 @@ unit_goes_on code f g r e h = subst (λ r. IfOk r (λ ran. UnitEnds code f (next
 pub unit_over : {E : Type 0} → (code : Code) (f g : Flat) (r : Result Ran E) → (r ≡ Ok (Going 0) → ⊥) → IfOk r (λ ran. UnitEnds code f (next_of ran g)) → IfOk r (λ ran. (ran ≡ Going 0 → ⊥) × UnitEnds code f (next_of ran g))
 unit_over code f g (Ok ran) n h = (λ e. n (ap Ok e), h)
 unit_over code f g (Err x) n h = h
+
+-- a step that may take more
+pub step_more : (n m : ℕ) (code : Code) (f g : Flat) (step : Step) → n ≤ m → StepEnds n code f step g → StepEnds m code f step g
+step_more n m code f g (Went k) l h = (h.0, omega (arith, l, h.1), h.2)
+step_more n m code f g (Over r) l h = h

@@ -3,3 +3,4 @@ pub mod Running
 pub mod Stacks
 pub mod Turning
 pub mod GoesOn
+pub mod Overwritten

@@ -1,5 +1,5 @@
 -- Runs of units.
-use Rattle.std.proofs.Common.{◌≡◌, ℕ, zero, suc, ◌+◌, ◌-◌, ◌<◌, ◌≤◌, List, refl, sym, ap, ◌∙◌, arith}
+use Rattle.std.proofs.Common.{◌≡◌, ℕ, zero, suc, ◌+◌, ◌-◌, ◌<◌, ◌≤◌, List, ◌∷◌, refl, sym, ap, subst, ◌∙◌, arith}
 use Rattle.std.specs.Prelude.{Result, Ok, Err, IfOk}
 use Rattle.muf_model.specs.declared.code.Code.{Code}
 use Rattle.muf_model.specs.Source.{Source}
@@ -13,6 +13,7 @@ use Rattle.muf_run.specs.declared.ran.Ran.{Ran}
 use Rattle.muf_run.specs.declared.ran.Ran.TheVariants.{Going, Ended, Faulted, Shared, Stuck}
 use Rattle.muf_run.specs.Machine.{next_of, going}
 use Rattle.muf_run.specs.Alike.{EndsAlike}
+use Rattle.muf_run.specs.Ends.{Leads}
 use Rattle.muf_run.specs.Runs.{RunsAlike, count, taken, local_of, last_of}
 
 -- a unit that goes on leaves a nested state for which the frame stands
@@ -80,20 +81,40 @@ count_over codes Stuck f (faulted e) more over h = absurd h
 count_over codes Stuck f (asks p s) more over h = absurd h
 count_over codes Stuck f stuck more over h = refl
 
+-- units that go on lead to a nested state for which the frame stands, and count
+pub leads_on : (n : ℕ) (code : Code) (codes : List Code) (f g : Flat) (s : Source) → Leads n code f g → FitsState (code ∷ codes) f s → Nested s → (t : Source) × FitsState (code ∷ codes) g t × Nested t × ((m : ℕ) → n ≤ m → units m s ≡ units (m - n) t) × ((m : ℕ) → n ≤ m → taken m s ≡ n + taken (m - n) t)
+leads_on zero code codes f g s l h nested = (s, subst (λ f. FitsState (code ∷ codes) f s) (sym l) h, nested, λ m k. (let e : m - 0 ≡ m = omega arith in ap (λ j. units j s) (sym e)), λ m k. (let e : m - 0 ≡ m = omega arith in let z : taken (m - 0) s ≡ 0 + taken (m - 0) s = omega arith in ap (λ j. taken j s) (sym e) ∙ z))
+leads_on (suc n) code codes f g s l h nested =
+    let u = going_on (code ∷ codes) l.0 (unit s) (unit_nested s nested) (l.1 codes s h) in
+    let r = leads_on n code codes l.0 g u.0 l.2 u.1 u.2 in (
+      r.0,
+      r.1,
+      r.2,
+      λ m k. (let one : m ≡ suc (m - 1) = omega (arith, k) in
+          let less : m - 1 - n ≡ m - suc n = omega (arith, k) in
+          let step : units m s ≡ units (m - 1) u.0 = ap (λ j. units j s) one ∙ ap (λ o. and_then o (units (m - 1))) u.3 in
+          step ∙ r.3 (m - 1) (omega (arith, k)) ∙ ap (λ j. units j r.0) less),
+      λ m k. (let one : m ≡ suc (m - 1) = omega (arith, k) in
+          let less : m - 1 - n ≡ m - suc n = omega (arith, k) in
+          let step : taken m s ≡ suc (taken (m - 1) u.0) = ap (λ j. taken j s) one ∙ ap (λ o. count o (taken (m - 1))) u.3 in
+          let more : suc (n + taken (m - 1 - n) r.0) ≡ suc n + taken (m - 1 - n) r.0 = omega arith in
+          step ∙ ap suc (r.4 (m - 1) (omega (arith, k))) ∙ more ∙ ap (λ j. suc n + taken j r.0) less),
+    )
+
+pub going_far : (most k n : ℕ) (code : Code) (codes : List Code) (f g : Flat) (s t : Source) → n ≤ most - k → Leads n code f g → FitsState (code ∷ codes) f t → Nested t → units most s ≡ units (most - k) t → taken most s ≡ k + taken (most - k) t → (u : Source) × FitsState (code ∷ codes) g u × Nested u × (units most s ≡ units (most - (k + n)) u) × (taken most s ≡ k + n + taken (most - (k + n)) u)
+going_far most k n code codes f g s t within l h nested e d =
+    let r = leads_on n code codes f g t l h nested in
+    let less : most - k - n ≡ most - (k + n) = omega arith in
+    let sum : k + (n + taken (most - k - n) r.0) ≡ k + n + taken (most - (k + n)) r.0 = ap (λ j. k + (n + taken j r.0)) less ∙ omega arith in
+    (r.0, r.1, r.2, e ∙ r.3 (most - k) within ∙ ap (λ j. units j r.0) less, d ∙ ap (λ j. k + j) (r.4 (most - k) within) ∙ sum)
+
+-- what is known of a result, by what it was
+pub over_by : {A E : Type 0} {r : Result A E} {x : A} → (P : A → Type 0) → r ≡ Ok x → IfOk r P → P x
+over_by P e h = subst (λ r. IfOk r P) e h
+
 pub mapped : {A E : Type 0} → (P Q : A → Type 0) (r : Result A E) → ((x : A) → P x → Q x) → IfOk r P → IfOk r Q
 mapped P Q (Ok x) f h = f x h
 mapped P Q (Err e) f h = h
-
--- one unit more
-pub units_step : (n k : ℕ) (t u : Source) → k < n → unit t ≡ goes 0 u → units (n - k) t ≡ units (n - (k + 1)) u
-units_step n k t u l e =
-    let m : n - k ≡ suc (n - (k + 1)) = omega (arith, l) in
-    rw (m, e) refl
-
-pub taken_step : (n k : ℕ) (t u : Source) → k < n → unit t ≡ goes 0 u → k + taken (n - k) t ≡ k + 1 + taken (n - (k + 1)) u
-taken_step n k t u l e =
-    let m : n - k ≡ suc (n - (k + 1)) = omega (arith, l) in
-    rw (m, e) (omega arith)
 
 -- the unit with which a run is over
 pub units_over : (n k : ℕ) (codes : List Code) (ran : Ran) (f : Flat) (t : Source) → k < n → (ran ≡ Going 0 → ⊥) → Nested t → EndsAlike codes (next_of ran f) (unit t) → RunsAlike codes (local_of ran) f (units (n - k) t)

@@ -3,3 +3,4 @@ pub mod Alike
 pub mod Keys
 pub mod Runs
 pub mod Ends
+pub mod Storing

@@ -9,5 +9,6 @@ mod marks;
 mod quick;
 mod ran;
 mod run;
+mod storing;
 
 pub use run::{Local, run_local};

@@ -8,7 +8,7 @@ ghost use Rattle.muf_model.specs.Fits.{FitsState, Fits};
 ghost use Rattle.muf_frame.specs.Shown.{flat};
 ghost use Rattle.muf_run.specs.declared.ran.Ran.TheVariants.{Going};
 ghost use Rattle.muf_run.specs.Alike.{EndsAlike};
-ghost use Rattle.muf_run.specs.Ends.{UnitEnds};
+ghost use Rattle.muf_run.specs.Ends.{StepEnds};
 ghost use Rattle.muf_run.specs.Runs.{Passed, RunsAlike, taken, local_of, last_of};
 ghost use Rattle.muf_run.specs.Machine as machine;
 ghost use Rattle.muf_run.specs.Machine.{next_of, going};
@@ -16,7 +16,8 @@ ghost use Rattle.muf_run.specs.Machine.{next_of, going};
 use crate::instr::instr;
 use crate::marks::fault;
 use crate::quick::quick;
-use crate::ran::Ran;
+use crate::ran::{Ran, Step};
+use crate::storing::{changer_at, store_changed};
 use muck_model::NoMemory;
 use muf_frame::{Frame, Turns};
 use muf_model::{Code, Instr, MufFault, OPEN_MOST, Placed, Prim};
@@ -115,20 +116,59 @@ fn goes_on(ran: &Result<Ran, NoMemory>) -> bool
     }
 }
 
-// One unit. None where the process goes on in the same program, and else how the unit ended.
+// One unit.
 #[inline(always)]
-fn step(alloc: Global, code: &Code, frame: &mut Frame) -> Option<Result<Ran, NoMemory>>
-    ensures on { IfNone result (UnitEnds code.now (flat frame.old) (going 0 (flat frame.new))) }
-    ensures over { IfSome result (λ r. IfOk r (λ ran. (ran ≡ Going 0 → ⊥) × UnitEnds code.now (flat frame.old) (next_of ran (flat frame.new)))) }
+fn one_step(alloc: Global, code: &Code, frame: &mut Frame) -> Step
+    ensures { StepEnds 1 code.now (flat frame.old) result (flat frame.new) }
 {
-    if quick(code, frame) {
-        return None;
-    }
     let ran = unit(alloc, code, frame);
     if goes_on(&ran) {
-        return None;
+        Step::Went(1)
+    } else {
+        Step::Over(ran)
     }
-    Some(ran)
+}
+
+// Three units where they change a list or dictionary and store it back, and else one.
+fn changing_step(alloc: Global, code: &Code, frame: &mut Frame) -> Step
+    ensures { StepEnds 3 code.now (flat frame.old) result (flat frame.new) }
+{
+    match store_changed(alloc, code, frame) {
+        Ok(stored) => {
+            if stored {
+                Step::Went(3)
+            } else {
+                one_step(alloc, code, frame)
+            }
+        }
+        Err(wanted) => Step::Over(Err(wanted)),
+    }
+}
+
+// One unit, or some at once, of which so many are left.
+#[inline(always)]
+fn slow_step(alloc: Global, code: &Code, frame: &mut Frame, left: u32) -> Step
+    requires { 0 < left }
+    ensures { StepEnds left code.now (flat frame.old) result (flat frame.new) }
+{
+    if left >= 3 && changer_at(code, frame.place()).is_some() {
+        changing_step(alloc, code, frame)
+    } else {
+        one_step(alloc, code, frame)
+    }
+}
+
+// The next unit, or some at once, of which so many are left.
+#[inline(always)]
+fn step(alloc: Global, code: &Code, frame: &mut Frame, left: u32) -> Step
+    requires { 0 < left }
+    ensures { StepEnds left code.now (flat frame.old) result (flat frame.new) }
+{
+    if quick(code, frame) {
+        Step::Went(1)
+    } else {
+        slow_step(alloc, code, frame, left)
+    }
 }
 
 // The answer of a run whose last unit ended so.
@@ -175,9 +215,9 @@ pub fn run_local(
 {
     let mut taken = 0;
     while taken < most {
-        match step(alloc, code, frame) {
-            None => taken += 1,
-            Some(ran) => {
+        match step(alloc, code, frame, most - taken) {
+            Step::Went(units) => taken += units,
+            Step::Over(ran) => {
                 let ran = ran?;
                 return Ok(finish(frame, ran, taken));
             }
