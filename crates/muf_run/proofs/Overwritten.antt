@@ -1,5 +1,5 @@
 -- What a variable holds that is stored to, and isn't read before, makes no difference.
-use Rattle.std.proofs.Common.{◌≡◌, ℕ, zero, suc, ◌+◌, ◌-◌, ◌≤◌, ◌<◌, List, [], ◌∷◌, length, drop, Bool, true, false, cond, refl, sym, ap, subst, ◌∙◌, arith}
+use Rattle.std.proofs.Common.{◌≡◌, ℕ, zero, suc, ◌+◌, ◌-◌, ◌≤◌, ◌<◌, List, [], ◌∷◌, length, drop, Bool, true, false, refl, sym, ap, subst, ◌∙◌, arith}
 use Rattle.std.specs.Prelude.{ℤ, Option, Some, None, slice_get, slice_set, is_some, IfSome, nat_lt, if◌then◌else◌}
 use Rattle.std.specs.Ordering.{int_eq}
 use Rattle.std.proofs.lemmas.Bool.{le-ltb}
@@ -11,9 +11,8 @@ use Rattle.muf_model.specs.declared.code.Word.{Word}
 use Rattle.muf_model.specs.declared.code.Word.TheVariants.{Primitive, Variable}
 use Rattle.muf_model.specs.declared.code.Instr.TheVariants.{Plain, Begin}
 use Rattle.muf_model.specs.declared.prims.Primitive.TheVariants.{Store}
-use Rattle.muf_model.specs.Prims.{is_local}
 use Rattle.muf_model.specs.Datum.{Datum, variable}
-use Rattle.muf_model.specs.Answer.{Answer, gives, stores, refuses, Scope, variable_at, owned_first, call_first}
+use Rattle.muf_model.specs.Answer.{gives, stores, Scope, variable_at, owned_first, call_first}
 use Rattle.muf_model.specs.Needs.{a_variable, any}
 use Rattle.muf_model.specs.StackRows.{stored, storing}
 use Rattle.muf_model.specs.Rows.{primitive}

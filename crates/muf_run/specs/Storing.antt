@@ -7,7 +7,6 @@ use Rattle.muf_model.specs.declared.code.Instr.TheVariants.{Plain}
 use Rattle.muf_model.specs.declared.code.Word.{Word}
 use Rattle.muf_model.specs.declared.code.Word.TheVariants.{Primitive, Variable}
 use Rattle.muf_model.specs.declared.prims.Primitive.TheVariants.{Store}
-use Rattle.muf_model.specs.Datum.{Datum}
 use Rattle.muf_model.specs.Flat.{Flat}
 use Rattle.muf_frame.specs.Moves.{with_variable}
 use Rattle.muf_array.specs.declared.changers.Changer.{Changer}

@@ -1,4 +1,4 @@
-use Rattle.std.proofs.Common.{rules, ◌≡◌, Some, None, sym, ap, refl, ◌∙◌}
+use Rattle.std.proofs.Common.{rules, ◌≡◌, Some, None, sym, refl, ◌∙◌}
 use Rattle.std.specs.Prelude.{slice_get}
 use Rattle.std.specs.Arc.{arc_value}
 use Rattle.muf_run.proofs.Turning.{no_value, a_value}

@@ -1,4 +1,4 @@
-use Rattle.std.proofs.Common.{arith, ap, sym, subst}
+use Rattle.std.proofs.Common.{arith, subst}
 use Rattle.muf_frame.specs.Shown.{flat}
 use Rattle.muf_run.specs.Ends.{StepEnds}
 use Rattle.muf_run.proofs.GoesOn.{step_more}

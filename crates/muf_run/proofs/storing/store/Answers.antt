@@ -1,10 +1,8 @@
 use Rattle.std.proofs.Common.{◌≡◌, true, ap, sym, ◌∙◌, subst, map}
-use Rattle.std.specs.Prelude.{pos, is_some}
+use Rattle.std.specs.Prelude.{pos}
 use Rattle.muf_model.specs.View.{view}
 use Rattle.muf_model.specs.Datum.{int}
-use Rattle.muf_model.specs.Answer.{variable_at}
 use Rattle.muf_frame.specs.Shown.{flat}
-use Rattle.muf_frame.specs.Moves.{scope_of, with_variable}
 use Rattle.muf_run.specs.Storing.{Stored}
 use Rattle.muf_run.proofs.Overwritten.{still_fine, never_bare, there_still, stores_made}
 use Rattle.muf_run.proofs.storing.store.Goals as goal
