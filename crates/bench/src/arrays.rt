@@ -3,8 +3,8 @@ use crate::units::{begin, compiled, empty_frame};
 use muf_run::run_local;
 use std::alloc::Global;
 
-// A list that grows item by item, or one each of whose items is set through a variable; or a text that is doubled so many times,
-// and is cut, filled in or searched in so many rounds.
+// A list that grows item by item, or one each of whose items is set through a variable; a dictionary that gets key by key, each of
+// which is then read; or a text that is doubled so many times, and is cut, filled in or searched in so many rounds.
 fn source_of(alloc: Global, name: &str, size: u32, rounds: u32) -> Option<String> {
     let body = match name {
         "append" => {
@@ -17,6 +17,11 @@ fn source_of(alloc: Global, name: &str, size: u32, rounds: u32) -> Option<String
                 ": main pop var v 0 array_make 1 {size} 1 for swap array_appenditem repeat v ! 0 {size} 1 - 1 for var! i 7 v @ i @ array_setitem v ! repeat ;"
             ).ok();
         }
+        "keys" => {
+            return format!(in alloc;
+                ": main pop 0 array_make_dict 1 {size} 1 for swap over array_setitem repeat 1 {size} 1 for over swap array_getitem pop repeat ;"
+            ).ok();
+        }
         "explode" => "\",\" explode popn",
         "subst" => "\"b\" \",\" subst pop",
         _ => "\"b\" instr pop",
@@ -26,7 +31,7 @@ fn source_of(alloc: Global, name: &str, size: u32, rounds: u32) -> Option<String
     ).ok()
 }
 
-/// The program `append` or `set` runs over so many items, or `explode`, `subst` or `instr` over a text that is doubled so many
+/// The program `append`, `set` or `keys` runs over so many items, or `explode`, `subst` or `instr` over a text that is doubled so many
 /// times, in so many rounds; answers how many units it took.
 pub fn run(alloc: Global, program: &str, size: u32, rounds: u32) -> Option<String> {
     let source = source_of(alloc, program, size, rounds)?;

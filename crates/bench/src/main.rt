@@ -17,7 +17,7 @@ use std::{env, io};
 const BROKEN: &str = "broke off";
 
 /// A little of each bench.
-const LITTLE: [(&str, [&str; 4]); 8] = [
+const LITTLE: [(&str, [&str; 4]); 9] = [
     ("props", ["1000", "2", "1", ""]),
     ("compile", ["10", "2", "", ""]),
     ("units", ["loop", "1000", "", ""]),
@@ -25,6 +25,7 @@ const LITTLE: [(&str, [&str; 4]); 8] = [
     ("talk", ["3", "2", "1", ""]),
     ("prims", ["all", "1000", "10", ""]),
     ("arrays", ["set", "100", "0", ""]),
+    ("arrays", ["keys", "100", "0", ""]),
     ("arrays", ["explode", "3", "2", ""]),
 ];
 

@@ -5,6 +5,7 @@ use muck_board::Board;
 use muck_db::{Db, DbFault};
 use muck_model::{Dbref, Kind, Line, Tune};
 use muck_perm::Guard;
+use muck_queue::Queue;
 use spec_rights::Actor;
 use std::alloc::Global;
 
@@ -64,8 +65,9 @@ fn typed(alloc: Global, db: &mut Db, board: &mut Board, line: &Line) -> Option<(
         user: ONE,
         player: ONE,
     };
+    let mut queue = Queue::new(alloc);
     let mut guard = Guard::new(alloc, db, board, actor);
-    cmd_play::run(&mut guard, 1, line).ok()?;
+    cmd_play::run(&mut guard, &mut queue, 1, line).ok()?;
     Some(())
 }
 

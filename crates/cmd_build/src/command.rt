@@ -18,6 +18,7 @@ use crate::writing::{link, rename, unlink};
 use cmd_common::{Write, after_word, arguments, done, looked_up, try_write};
 use muck_model::{Dbref, Line, NoMemory};
 use muck_perm::Guard;
+use muck_queue::Queue;
 use spec_commands::{
     Arguments, BuildWord, Form, Message, New, Outcome, Shape, Want, cut_word, trim,
 };
@@ -157,11 +158,14 @@ fn play(guard: &mut Guard, d: u32, line: &Line) -> Result<Outcome, NoMemory>
 
 /// Does a line of the player at the connection d, where its first word is one of builders; else it answers `NotMine`, and
 /// nothing has changed. `Edit` comes exactly where the editor of a program is to be opened, and `Start` where a program is
-/// to be started. What it changes is open to the actor, who makes `#0` a home by `@unlink` alone.
+/// to be started. What it changes is open to the actor, who makes `#0` a home by `@unlink` alone, and the processes are as
+/// they were, since no command of a builder looks at them.
 #[tactic(auto, using(crate::proofs::Open::plays_open))]
-pub fn run(guard: &mut Guard, d: u32, line: &Line) -> Result<Outcome, NoMemory>
+pub fn run(guard: &mut Guard, queue: &mut Queue, d: u32, line: &Line) -> Result<Outcome, NoMemory>
     ensures plays { Plays (build_line d guard.old.actor line.now) guard.old guard.new result }
     ensures licensed { OnOk result (Licensed guard.old.actor (clearing (clears line.now) nobody) (world_of guard.old) (world_of guard.new)) }
+    ensures queue { queue.new ≡ queue.old }
 {
+    let _ = queue;
     play(guard, d, line)
 }

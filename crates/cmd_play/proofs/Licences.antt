@@ -1,18 +1,17 @@
 -- What a player does by a line, or by walking, is licensed.
 use Rattle.std.proofs.Common.{ℕ, false, List, sym, subst, None, Result, Ok, Err, OnOk}
-use Rattle.muck_model.specs.declared.dbref.Dbref.{Dbref}
 use Rattle.muck_model.specs.declared.memory.NoMemory.{NoMemory}
+use Rattle.muck_match.specs.declared.exits.ExitHit.{ExitHit}
 use Rattle.spec_live.specs.Objects.{Entry}
 use Rattle.spec_live.specs.Lives.{Live}
 use Rattle.spec_rights.specs.declared.act.Actor.{Actor}
 use Rattle.spec_rights.specs.Licence.{Freedom, Licensed, oneself}
 use Rattle.spec_rights.proofs.Licences.{Whole, Always, whole_ends, licensed}
 use Rattle.spec_commands.specs.declared.outcome.Outcome.{Outcome}
-use Rattle.spec_commands.specs.declared.typed.Typed.{Typed}
-use Rattle.spec_commands.specs.Going.{Play, tried}
+use Rattle.spec_commands.specs.Going.{Play, walked}
 use Rattle.spec_commands.specs.Free.{free_play}
 use Rattle.spec_commands.specs.Commands.{play_line}
-use Rattle.spec_commands.proofs.Gone.{tried_open}
+use Rattle.spec_commands.proofs.Gone.{walked_open}
 use Rattle.spec_commands.proofs.Gone as gone
 use Rattle.spec_commands.proofs.Permitted.{self_free, play_leading}
 use Rattle.muck_perm.specs.declared.guard.Guard.{Guard}
@@ -27,11 +26,11 @@ plays_licensed p a free old new (Ok outcome) e s =
     subst P (sym s.0.0) (licensed gone.world_of a None free p e (world_of old) tt)
 plays_licensed p a free old new (Err error) e s = tt
 
-pub walk_licensed : (d : ℕ) (typed : Typed) (exit : Dbref) (line : List ℕ) (old new : Guard) (r : Result Outcome NoMemory) →
-    Plays (tried d old.actor typed exit line) old new r → OnOk r (Licensed old.actor (oneself old.actor) (world_of old) (world_of new))
-walk_licensed d typed exit line old new r =
-    plays_licensed (tried d old.actor typed exit line) old.actor (λ es. oneself old.actor) old new r
-    (whole_ends gone.world_of old.actor None (λ es. oneself old.actor) Always _ (λ w h. tried_open old.actor (oneself old.actor) d typed exit line (self_free old.actor)))
+pub walk_licensed : (d : ℕ) (hit : ExitHit) (line : List ℕ) (old new : Guard) (r : Result Outcome NoMemory) →
+    Plays (walked d old.actor hit line) old new r → OnOk r (Licensed old.actor (oneself old.actor) (world_of old) (world_of new))
+walk_licensed d hit line old new r =
+    plays_licensed (walked d old.actor hit line) old.actor (λ es. oneself old.actor) old new r
+    (whole_ends gone.world_of old.actor None (λ es. oneself old.actor) Always _ (λ w h. walked_open old.actor (oneself old.actor) d hit line (self_free old.actor)))
 
 pub line_licensed : (d : ℕ) (line : List ℕ) (old new : Guard) (r : Result Outcome NoMemory) →
     Plays (play_line d old.actor line) old new r → OnOk r (Licensed old.actor (free_play old.actor line (objects_of old)) (world_of old) (world_of new))

@@ -20,6 +20,7 @@ use crate::typed::typed_of;
 use cmd_common::{after_sign, after_word, arguments, looked_up};
 use muck_model::{Line, NoMemory};
 use muck_perm::Guard;
+use muck_queue::Queue;
 use spec_commands::{
     Argument, Arguments, Form, Outcome, PlayWord, Shape, Typed, Want, cut_word, trim,
 };
@@ -187,11 +188,13 @@ fn do_line(guard: &mut Guard, d: u32, line: &Line) -> Result<Outcome, NoMemory>
 /// Does a line of the player at the connection `d`: what stands behind `"` is said and what stands behind `:` is posed,
 /// and another line does what its first word says. `NotMine` comes exactly where there is no such sign and the first
 /// word is none of a player's; nothing has happened then. `Leave` comes exactly for `QUIT`, and `Start` where the player
-/// goes through an exit to a program. What differs behind it is open to the actor. After `NoMemory` nothing is said of
-/// the world.
-pub fn run(guard: &mut Guard, d: u32, line: &Line) -> Result<Outcome, NoMemory>
+/// goes through an exit to a program. What differs behind it is open to the actor, and the processes are as they were,
+/// since no command of a player looks at them. After `NoMemory` nothing is said of the world.
+pub fn run(guard: &mut Guard, queue: &mut Queue, d: u32, line: &Line) -> Result<Outcome, NoMemory>
     ensures plays { Plays (play_line d guard.old.actor line.now) guard.old guard.new result }
     ensures licensed { OnOk result (Licensed guard.old.actor (free_play guard.old.actor line.now (objects_of guard.old)) (world_of guard.old) (world_of guard.new)) }
+    ensures queue { queue.new ≡ queue.old }
 {
+    let _ = queue;
     do_line(guard, d, line)
 }

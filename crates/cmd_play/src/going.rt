@@ -19,6 +19,7 @@ use cmd_common::{cant_be_done, is_program, show_others};
 use muck_match::{ExitHit, HOME, NOTHING, exit_for};
 use muck_model::{Dbref, Line, NoMemory};
 use muck_perm::{Guard, Pass, verdict};
+use muck_queue::Queue;
 use spec_commands::{Message, Outcome, Typed};
 use spec_rights::Act;
 
@@ -274,17 +275,33 @@ fn try_exit(
     }
 }
 
-/// The player walks through an exit that takes the line: where the exit's lock doesn't open, its messages of failure are
-/// shown, and else those of success, and the player goes to where it leads, or a program is to be started. It never
-/// answers `NotMine`. What differs behind it is open to the actor, which may move its player. After `NoMemory` nothing
-/// is said of the world.
+// The player walks through an exit that takes the line.
 #[tactic(auto, unfolding(spec_commands::specs::Going::walked, spec_live::specs::Lives::reading))]
-pub fn walk(guard: &mut Guard, d: u32, hit: ExitHit, line: &Line) -> Result<Outcome, NoMemory>
-    ensures plays { Plays (walked d guard.old.actor hit line.now) guard.old guard.new result }
-    ensures licensed { OnOk result (Licensed guard.old.actor (oneself guard.old.actor) (world_of guard.old) (world_of guard.new)) }
+fn take_exit(guard: &mut Guard, d: u32, hit: ExitHit, line: &Line) -> Result<Outcome, NoMemory>
+    ensures { Plays (walked d guard.old.actor hit line.now) guard.old guard.new result }
 {
     let typed = exit_typed(guard, &hit, line)?;
     try_exit(guard, d, &typed, hit.exit, line)
+}
+
+/// The player walks through an exit that takes the line: where the exit's lock doesn't open, its messages of failure are
+/// shown, and else those of success, and the player goes to where it leads, or a program is to be started. It never
+/// answers `NotMine`. What differs behind it is open to the actor, which may move its player, and the processes are as
+/// they were, since no exit looks at them. After `NoMemory` nothing is said of the world.
+#[tactic(auto, using(crate::proofs::Licences::walk_licensed))]
+pub fn walk(
+    guard: &mut Guard,
+    queue: &mut Queue,
+    d: u32,
+    hit: ExitHit,
+    line: &Line,
+) -> Result<Outcome, NoMemory>
+    ensures plays { Plays (walked d guard.old.actor hit line.now) guard.old guard.new result }
+    ensures licensed { OnOk result (Licensed guard.old.actor (oneself guard.old.actor) (world_of guard.old) (world_of guard.new)) }
+    ensures queue { queue.new ≡ queue.old }
+{
+    let _ = queue;
+    take_exit(guard, d, hit, line)
 }
 
 /// `go` and the words that an exit takes: the player walks through that exit.
@@ -293,7 +310,7 @@ pub fn go(guard: &mut Guard, d: u32, line: &Line) -> Result<Outcome, NoMemory>
     ensures { Plays (went d guard.old.actor line.now) guard.old guard.new result }
 {
     match exit_for(guard.db(), guard.actor().player, line) {
-        Some(hit) => walk(guard, d, hit, line),
+        Some(hit) => take_exit(guard, d, hit, line),
         None => {
             cant_go(guard, d)?;
             Ok(Outcome::Done)

@@ -13,7 +13,7 @@ use Rattle.spec_commands.specs.Talk.{welcome}
 use Rattle.muck_board.proofs.Outputs.{taken_rest}
 use Rattle.muck_library.specs.Library.{Library}
 use Rattle.muck_queue.specs.Queues.{Queue, empty_queue, claimed, released}
-use Rattle.spec_events.specs.World.{World, no_dumps, booted, on_live, on_queue}
+use Rattle.spec_events.specs.World.{World, Dumps, no_dumps, booted, on_live, on_queue}
 use Rattle.spec_events.specs.Steps.{happened}
 
 -- the board of a state that is seen as w is changed so
@@ -34,10 +34,10 @@ pub lost_so : (pid : ℤ) (party : ℕ) (w v : World) (q : Queue) → q ≡ rele
 lost_so pid party w v q is seen = ap (λ (x : Queue). record w { queue = x }) is ∙ ap (on_queue (released pid)) seen
 
 -- how it begins, by its parts
-pub booted_so : (objects : List Entry) (tune : Tune) (moment start : ℕ) (board : Board) (library : Library) (queue : Queue) → board ≡ early_board start tune → library ≡ [] → queue ≡ empty_queue →
-    record { live = record { objects = objects; board = board }; library = library; queue = queue; moment = moment; dumps = no_dumps moment; stopping = false; dead = false } ≡ booted objects tune moment start
+pub booted_so : (objects : List Entry) (tune : Tune) (moment start : ℕ) (board : Board) (library : Library) (queue : Queue) (dumps : Dumps) → board ≡ early_board start tune → library ≡ [] → queue ≡ empty_queue → dumps ≡ no_dumps moment →
+    record { live = record { objects = objects; board = board }; library = library; queue = queue; moment = moment; dumps = dumps; stopping = false; dead = false } ≡ booted objects tune moment start
 unfolding booted
-booted_so objects tune moment start board library queue b l q = rw (b, l, q) refl
+booted_so objects tune moment start board library queue dumps b l q n = rw (b, l, q, n) refl
 
 -- no bytes are taken
 none_in : (d : ℕ) (cs : List Connection) → changed_in d (λ c. record c { output = taken 0 c.output }) cs ≡ cs

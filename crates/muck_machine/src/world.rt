@@ -15,7 +15,7 @@ use muck_db::{Db, Persisted};
 use muck_library::Library;
 use muck_model::{Entry, Event, Line, NoMemory, Tale, Tune};
 use muck_queue::Queue;
-use muck_turns::{Begun, Origin, State, WELCOME};
+use muck_turns::{Begun, Dumps, Origin, State, WELCOME};
 use std::alloc::Global;
 use std::marker::Model;
 
@@ -92,7 +92,7 @@ impl World {
                 library: Library::new(alloc),
                 queue: Queue::new(alloc),
                 moment,
-                dumped: moment,
+                dumps: Dumps::new(moment),
                 stopping: false,
             },
             past: Past {

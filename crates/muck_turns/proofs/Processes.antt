@@ -37,7 +37,7 @@ use Rattle.muck_turns.specs.declared.state.deeds.Done.TheVariants.{Does as DoneD
 use Rattle.muck_turns.specs.declared.state.deeds.DeedFault.{DeedFault}
 use Rattle.muck_library.specs.Library.{formed}
 use Rattle.muck_turns.specs.declared.state.calls.Entrance.{Entrance}
-use Rattle.muck_turns.specs.Deeds.{Enters, ProcessAppliedTo, DoneAs, queued_call, child_number}
+use Rattle.muck_turns.specs.Deeds.{Bears, Enters, ProcessAppliedTo, DoneAs, queued_call, child_number}
 use Rattle.muck_turns.proofs.Deeds.{stack_differs, stack_behind, same_stack, same_differs}
 
 -- with an item more, where there is room
@@ -69,14 +69,17 @@ if_done (Err e) P Q k h = h
 pub moved : {A : Type 0} (P : A → Type 0) (x y : A) → P x → x ≡ y → P y
 moved P x y h e = subst P e h
 
--- the child of a process that is there joins the others
-pub child_joins : (pid : ℤ) (p child : Process) (running t : Source) (w v : World) (n : ℤ) → Some p ≡ process pid w.queue → child ≡ child_of w.moment (handed (int (pos 0)) running) p →
-    n ≡ child_number (joined child w) → v ≡ (joined child w).0 → t ≡ handed (int n) running → (s : Source) (stack : List Datum) → running ≡ behind stack s → length stack < 1024 → forked pid stack s w ≡ does t v
+-- FORK is done where a child joined, or there was no room for it
+pub child_joins : (pid : ℤ) (running t : Source) (w v : World) (n : ℤ) (o : Option Process) → process pid w.queue ≡ o → Bears o running w v n → t ≡ handed (int n) running →
+    (s : Source) (stack : List Datum) → running ≡ behind stack s → length stack < 1024 → forked pid stack s w ≡ does t v
 unfolding forked
-child_joins pid p child running t w v n there made number same so s stack at room =
-    let is : child ≡ child_of w.moment (handed (int (pos 0)) (behind stack s)) p = made ∙ ap (λ y. child_of w.moment (handed (int (pos 0)) y) p) at in
-    ap (λ o. child_joined o stack s w) (sym there)
-    ∙ numbered_so stack s (joined (child_of w.moment (handed (int (pos 0)) (behind stack s)) p) w) v n t room (same ∙ ap (λ y. (joined y w).0) is) (number ∙ ap (λ y. child_number (joined y w)) is) (so ∙ ap (handed (int n)) at)
+child_joins pid running t w v n None there h so s stack at room = absurd h
+child_joins pid running t w v n (Some p) there h so s stack at room =
+    ap (λ o. child_joined o stack s w) there
+    ∙ numbered_so stack s (joined (child_of w.moment (handed (int (pos 0)) (behind stack s)) p) w) v n t room
+    (h.1 ∙ ap (λ y. (joined (child_of w.moment (handed (int (pos 0)) y) p) w).0) at)
+    (h.0 ∙ ap (λ y. child_number (joined (child_of w.moment (handed (int (pos 0)) y) p) w)) at)
+    (so ∙ ap (handed (int n)) at)
 
 -- a primitive of processes isn't used where its process isn't there
 there_in : (own : Option Process) (doing : Option Doing) (p : Name) (x : Place) (a : Actor) (locked : ℕ) (stack : List Datum) (w : Live) (q : Table) (rest : List Datum) → done_in own doing p x a locked stack w q ≡ forks rest → is_some own ≡ true

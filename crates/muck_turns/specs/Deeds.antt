@@ -1,20 +1,22 @@
 -- What the code of slices and of shared primitives answers, by what the definitions say.
-use Rattle.std.specs.Prelude.{◌≡◌, ℕ, ◌<◌, ◌≤◌, ℤ, negsuc, List, drop, length, slice_get, Option, Some, None, Result, Ok, Err}
+use Rattle.std.specs.Prelude.{◌≡◌, ℕ, ◌<◌, ◌≤◌, ℤ, pos, negsuc, List, drop, length, slice_get, Option, Some, None, Result, Ok, Err}
 use Rattle.std.specs.Option.{option_map}
 use Rattle.muck_model.specs.declared.dbref.Dbref.{Dbref}
 use Rattle.spec_live.specs.Objects.{nothing}
 use Rattle.muf_model.specs.declared.fault.MufFault.{MufFault}
 use Rattle.muf_model.specs.declared.fault.MufFault.TheVariants.{ProcessLimit}
 use Rattle.muf_model.specs.Answer.{stack_most}
+use Rattle.muf_model.specs.Datum.{int}
 use Rattle.muf_model.specs.Flat.{Flat}
 use Rattle.muf_model.specs.Decode.{tree_of}
 use Rattle.muf_model.specs.Stands.{TreeStands}
 use Rattle.muf_model.specs.Tree.{Definition}
-use Rattle.muf_model.specs.Source.{Source, calls_of, entered}
+use Rattle.muf_model.specs.Source.{Source, calls_of, entered, handed}
 use Rattle.muf_model.specs.Unit.{calls_most}
 use Rattle.muf_frame.specs.declared.fault.PrimFault.{PrimFault}
 use Rattle.muf_frame.specs.declared.fault.PrimFault.TheVariants.{Fault as FrameFault, NoMemory as FrameNoMemory}
 use Rattle.muf_frame.specs.Shown.{Shown, flat}
+use Rattle.muck_queue.specs.declared.process.Process.{Process}
 use Rattle.muck_queue.specs.declared.fault.QueueFault.{QueueFault}
 use Rattle.muck_queue.specs.declared.fault.QueueFault.TheVariants.{ProcessLimit as Limit, NoMemory as Wanted, TooManyEvents}
 use Rattle.muf_running.specs.declared.entered.Entered.{Entered}
@@ -28,7 +30,8 @@ use Rattle.prim_proc.specs.declared.after.After.{After}
 use Rattle.prim_proc.specs.declared.after.After.TheVariants.{Go, Wait, Fork, Call, Queue}
 use Rattle.spec_events.specs.declared.starting.Call.{Call as Started}
 use Rattle.spec_events.specs.World.{World}
-use Rattle.spec_events.specs.Slices.{Deed, does, rests, fails, behind, queued_command}
+use Rattle.spec_events.specs.Starting.{joined}
+use Rattle.spec_events.specs.Slices.{Deed, does, rests, fails, behind, child_of, queued_command}
 use Rattle.muck_turns.specs.declared.state.deeds.Done.{Done}
 use Rattle.muck_turns.specs.declared.state.deeds.Done.TheVariants.{Does as DoneDoes, Rests as DoneRests, Fails as DoneFails}
 use Rattle.muck_turns.specs.declared.state.deeds.DeedFault.{DeedFault}
@@ -70,6 +73,13 @@ queued_call player d argument = record { player = player; program = numbered d; 
 abbrev pub child_number : World × Result ℤ MufFault → ℤ
 child_number (w, Ok n) = n
 child_number (w, Err f) = negsuc 0
+
+-- a child of this process joined the others, at that state and with that number; or there is no room for it
+abbrev pub Bears : Option Process → Source → World → World → ℤ → Type 0
+Bears None s w v n = ⊥
+Bears (Some p) s w v n =
+    (n ≡ child_number (joined (child_of w.moment (handed (int (pos 0)) s) p) w))
+    × (v ≡ (joined (child_of w.moment (handed (int (pos 0)) s) p) w).0)
 
 -- a frame of a process that stands at a primitive, but for its stack and its variables
 abbrev pub PassesOn : List Entered → Flat → Type 0

@@ -2,8 +2,10 @@
 #![tactic(auto)]
 
 mod commands;
+mod dumps;
 mod origin;
 mod state;
 
+pub use dumps::Dumps;
 pub use origin::{Begun, Origin};
 pub use state::{State, WELCOME};

@@ -18,6 +18,7 @@ mod slices;
 mod starting;
 mod turns;
 
+use crate::dumps::Dumps;
 pub use login::WELCOME;
 use muck_board::Board;
 use muck_db::Db;
@@ -27,8 +28,8 @@ use muck_queue::Queue;
 use std::alloc::Global;
 use std::marker::Model;
 
-/// The objects, who is connected, the built forms of programs, the processes, the moment, the one at which the last dump
-/// began, and whether the run stops; and what is done to them. Contracts see it as a world that lives.
+/// The objects, who is connected, the built forms of programs, the processes, the moment, the dumps that are asked and the
+/// moment at which the last one began, and whether the run stops; and what is done to them. Contracts see it as a world that lives.
 #[derive(Drop)]
 pub struct State {
     pub alloc: Global,
@@ -37,12 +38,12 @@ pub struct State {
     pub library: Library,
     pub queue: Queue,
     pub moment: u64,
-    pub dumped: u64,
+    pub dumps: Dumps,
     pub stopping: bool,
 }
 
 impl Model for State {
-    ghost use Rattle.spec_events.specs.World.{World, no_dumps};
+    ghost use Rattle.spec_events.specs.World.{World};
     ghost use Rattle.std.specs.Prelude.{false};
 
     ghost Value = { World };
@@ -54,7 +55,7 @@ impl Model for State {
 
     ghost coded = { Prim.hlevel (codes, props.the_row.coded, lock.the_row.coded, datum_code, block_code, end_code) };
 
-    ghost view = { λ s. record { live = record { objects = s.db; board = s.board }; library = s.library; queue = s.queue; moment = s.moment; dumps = no_dumps s.dumped; stopping = s.stopping; dead = false } };
+    ghost view = { λ s. record { live = record { objects = s.db; board = s.board }; library = s.library; queue = s.queue; moment = s.moment; dumps = s.dumps; stopping = s.stopping; dead = false } };
 }
 
 impl State {

@@ -3,6 +3,7 @@ ghost use Rattle.std.specs.Prelude.{◌≡◌, ◌↔◌, ◌⊎◌, ℕ, true, 
 ghost use Rattle.muck_io.specs.Faults.{Rose};
 ghost use Rattle.spec_events.specs.World.{starting};
 ghost use Rattle.spec_events.specs.Histories.{now, Grew, AllLawful, AllLicensed};
+ghost use Rattle.spec_events.specs.Passwords.{AllKnown};
 ghost use Rattle.muckd.specs.Words.{is_run};
 ghost use Rattle.muckd.specs.Outcome.{status_of, halted, HasRun, HasAnswered, IsWholeRun, IsTranscribed, IsBrokenRun, IsUnbegun, IsFirstOutside, IsInGrammar};
 
@@ -29,7 +30,7 @@ pub struct Done {
 ///
 /// The first cause stands: the words, then reading the script, then its grammar, then the run. Want of memory may come at
 /// any place.
-#[tactic(auto, using(spec_events::proofs::Turns::all_licensed_starting))]
+#[tactic(auto, using(spec_events::proofs::Turns::all_licensed_starting, spec_events::proofs::Passwords::all_known_starting))]
 pub fn muckd<S: Source, K: Sink>(
     alloc: Global,
     words: &[String],
@@ -57,6 +58,10 @@ pub fn muckd<S: Source, K: Sink>(
     // However the call ended, each entry of the tale changed only what is open where it stands: a line of a player what is
     // open to that player by its rights before the line, and every other entry no object and nothing that is tuned.
     ensures licensed { AllLicensed starting result.tale.entries }
+
+    // However the call ended, each connection that has a player did a line `connect NAME PASSWORD` with that player's name and a password whose
+    // digest the player had then, and hasn't closed since.
+    ensures passwords { AllKnown starting result.tale.entries }
 
     // A fault is answered only where that count rose in this call; and where it isn't answered it did not rise, so that the
     // first cause stands.

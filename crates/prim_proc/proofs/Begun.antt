@@ -27,7 +27,7 @@ use Rattle.spec_processes.proofs.There.{process_there}
 use Rattle.prim_proc.specs.declared.after.After.{After}
 use Rattle.prim_proc.specs.declared.plan.Plan.{Plan}
 use Rattle.prim_proc.specs.Applied.{Applied}
-use Rattle.prim_proc.specs.Plans.{Plans, TakesAll, effect_of, does_of, items_of, stacked}
+use Rattle.prim_proc.specs.inner.Plans.{Plans, TakesAll, effect_of, does_of, items_of, stacked}
 use Rattle.prim_proc.proofs.Asked.{takes_all}
 use Rattle.prim_proc.proofs.Roomed.{upon_roomed, upon_full}
 

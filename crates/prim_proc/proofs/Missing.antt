@@ -3,7 +3,7 @@ use Rattle.std.proofs.Common.{◌≡◌, None, refl}
 use Rattle.muf_model.specs.declared.prims.Primitive.{Primitive}
 use Rattle.muf_model.specs.declared.prims.Primitive.TheVariants.{Call, Fork, Sleep, Read, Kill, Pid, IsPid, Queue, Mode, SetMode, Preempt, Foreground, Background, SysTime, Random, EventSend, EventWait, EventCount, Prog, Trig, Caller, Cmd}
 use Rattle.spec_processes.specs.ProcessRows.{process_row}
-use Rattle.prim_proc.specs.Plans.{fact_row}
+use Rattle.prim_proc.specs.inner.Plans.{fact_row}
 
 pub no_fact : (p : Primitive) → (p ≡ Pid → ⊥) → (p ≡ Mode → ⊥) → (p ≡ SysTime → ⊥) → (p ≡ EventCount → ⊥) → (p ≡ Prog → ⊥) → (p ≡ Trig → ⊥) → (p ≡ Caller → ⊥) → (p ≡ Cmd → ⊥) → fact_row p ≡ None
 no_fact Pid a b c d e f g h = absurd (a refl)

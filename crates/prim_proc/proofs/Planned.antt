@@ -13,7 +13,7 @@ use Rattle.muck_queue.proofs.Changed.{changed_same, changed_missing}
 use Rattle.spec_processes.specs.declared.place.Place.{Place}
 use Rattle.spec_processes.specs.ProcessRows.{Doing, oldest, process_row, taken_at}
 use Rattle.prim_proc.specs.declared.plan.Plan.{Plan}
-use Rattle.prim_proc.specs.Plans.{Plans, does_of, events_in}
+use Rattle.prim_proc.specs.inner.Plans.{Plans, does_of, events_in}
 
 module _ (x : Place) (a : Actor) (own : Process) (stack : List Datum) (w : Live) (q : Queue) (o : Result Plan PrimFault) where
   abbrev PlansFor : Option Doing → Primitive → Type 0

@@ -9,7 +9,7 @@ use Rattle.muf_model.specs.Datum.{Datum}
 use Rattle.muck_queue.specs.Queues.{Queue, events_of, events_most}
 use Rattle.spec_processes.specs.declared.place.Place.{Place}
 use Rattle.spec_processes.specs.ProcessRows.{Effect, gives, refuses, fitting, upon, oldest}
-use Rattle.prim_proc.specs.Plans.{items_of, effect_of, events_in, stacked}
+use Rattle.prim_proc.specs.inner.Plans.{items_of, effect_of, events_in, stacked}
 use Rattle.prim_proc.specs.declared.plan.Plan.{Plan}
 use Rattle.prim_proc.specs.declared.plan.Plan.TheVariants.{Nothing, Give, Draw, Kill, SetMode, Send, Receive, Sleep, Read, Fork, Enter, Start}
 

@@ -14,8 +14,8 @@ use Rattle.muck_queue.specs.declared.process.Process.{Process}
 use Rattle.muck_queue.specs.Queues.{Queue, process, on_process, told_event, events_of, events_most}
 use Rattle.spec_processes.specs.declared.place.Place.{Place}
 use Rattle.spec_processes.specs.ProcessRows.{Effect, gives, refuses, event_data, sent}
-use Rattle.prim_proc.specs.Plans.{Plans}
-use Rattle.prim_proc.specs.Sending.{DataMade}
+use Rattle.prim_proc.specs.inner.Plans.{Plans}
+use Rattle.prim_proc.specs.inner.Sending.{DataMade}
 
 module _ (x : Place) (i : ℤ) (name : List ℕ) (value : Datum) (w : Live) (q : Queue) (other : Process) where
   abbrev by_tests : Bool → Bool → Bool → Effect

@@ -14,7 +14,7 @@ use Rattle.muck_queue.specs.declared.process.Process.{Process}
 use Rattle.muck_queue.specs.Queues.{Queue, process}
 use Rattle.spec_processes.specs.declared.place.Place.{Place}
 use Rattle.spec_processes.specs.ProcessRows.{mode_numbered, mode_set, set_mode, entering, call, starting, queue, event_name, event_data, sent, event_send, taken_at}
-use Rattle.prim_proc.specs.Taken.{entering_at, started_in, sent_in}
+use Rattle.prim_proc.specs.inner.Taken.{entering_at, started_in, sent_in}
 
 module _ (x : Place) (a : Actor) (p : Process) (w : Live) (q : Queue) where
   pub set_mode_at : (stack : List Datum) (i : ℤ) → int_at 0 stack ≡ Some i → set_mode x a p (take 1 stack) w q ≡ mode_set (mode_numbered i) x p w q

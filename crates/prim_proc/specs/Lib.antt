@@ -1,4 +1,2 @@
 pub mod Applied
-pub mod Plans
-pub mod Sending
-pub mod Taken
+pub mod inner

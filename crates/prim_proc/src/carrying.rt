@@ -6,7 +6,7 @@ ghost use Rattle.muf_frame.specs.Shown.{Shown, flat};
 ghost use Rattle.muck_perm.specs.Guards.{world_of};
 ghost use Rattle.prim_proc.specs.declared.after.After.TheVariants.{Go};
 ghost use Rattle.prim_proc.specs.Applied.{Applied, HasStack};
-ghost use Rattle.prim_proc.specs.Plans.{Received, Sent, TakesAll, effect_of, items_of, stacked};
+ghost use Rattle.prim_proc.specs.inner.Plans.{Received, Sent, TakesAll, effect_of, items_of, stacked};
 
 use crate::after::After;
 use crate::plan::Plan;

@@ -11,9 +11,9 @@ ghost use Rattle.muf_model.specs.View.{view};
 ghost use Rattle.muf_frame.specs.Shown.{Shown, flat};
 ghost use Rattle.muck_perm.specs.Guards.{world_of};
 ghost use Rattle.spec_processes.specs.ProcessRows.{event_name, event_send};
-ghost use Rattle.prim_proc.specs.Plans.{Plans};
-ghost use Rattle.prim_proc.specs.Sending.{DataMade, NameMade, descr_item, sender_entries};
-ghost use Rattle.prim_proc.specs.Taken.{sent_in};
+ghost use Rattle.prim_proc.specs.inner.Plans.{Plans};
+ghost use Rattle.prim_proc.specs.inner.Sending.{DataMade, NameMade, descr_item, sender_entries};
+ghost use Rattle.prim_proc.specs.inner.Taken.{sent_in};
 
 use crate::plan::Plan;
 use muck_model::{Line, NoMemory, TEXT_MOST};

@@ -1,6 +1,6 @@
 // What a primitive of processes is to do.
 ghost use Rattle.std.specs.Prelude.{◌≡◌};
-ghost use Rattle.prim_proc.specs.Plans.{items_of};
+ghost use Rattle.prim_proc.specs.inner.Plans.{items_of};
 
 use muck_model::Dbref;
 use muck_queue::Mode;

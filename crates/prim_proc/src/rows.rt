@@ -10,8 +10,8 @@ ghost use Rattle.muck_queue.specs.Queues.{Queue as Table};
 ghost use Rattle.muck_queue.specs.declared.process.Process.{Process};
 ghost use Rattle.spec_processes.specs.declared.place.Place.{Place};
 ghost use Rattle.spec_processes.specs.ProcessRows.{taken_at, mode_number, mode_numbered, is_pid, kill, sleep, read, mode_set, set_mode, call, starting, queue};
-ghost use Rattle.prim_proc.specs.Plans.{Plans};
-ghost use Rattle.prim_proc.specs.Taken.{entering_at, started_in};
+ghost use Rattle.prim_proc.specs.inner.Plans.{Plans};
+ghost use Rattle.prim_proc.specs.inner.Taken.{entering_at, started_in};
 
 use crate::asking::{permit, test_program};
 use crate::plan::Plan;

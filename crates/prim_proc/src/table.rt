@@ -10,7 +10,7 @@ ghost use Rattle.muf_frame.specs.Shown.{Shown, flat, locked_by};
 ghost use Rattle.muck_perm.specs.Guards.{world_of};
 ghost use Rattle.spec_processes.specs.ProcessRows.{process_row, processed, taken_at};
 ghost use Rattle.prim_proc.specs.Applied.{Applied};
-ghost use Rattle.prim_proc.specs.Plans.{Plans, does_of, fact_row};
+ghost use Rattle.prim_proc.specs.inner.Plans.{Plans, does_of, fact_row};
 
 use crate::after::After;
 use crate::asking::{ready_at, test_room};

@@ -1,23 +1,26 @@
 -- The process that a line ends.
-use Rattle.std.proofs.Common.{◌≡◌, ◌⊎◌, ℕ, ℤ, pos, Bool, true, false, cond, is_none, List, [], ◌∷◌, refl, sym, ◌∙◌, ap, subst, Option, Some, None, inl, inr}
+use Rattle.std.proofs.Common.{◌≡◌, ℕ, ℤ, pos, Bool, true, false, cond, is_none, arith, List, [], ◌∷◌, map, refl, sym, ◌∙◌, ap, subst, Option, Some, None}
 use Rattle.std.specs.Prelude.{find}
 use Rattle.std.specs.Option.{option_and_then}
+use Rattle.std.specs.Char.{to_ascii_lowercase}
 use Rattle.std.proofs.lemmas.Bool.Decides.{Decides-int_eq}
 use Rattle.muck_model.specs.declared.dbref.Denial.{Denial}
 use Rattle.muck_model.specs.Decimal.{decimal_of}
-use Rattle.spec_live.specs.Lives.{Live, tell}
+use Rattle.spec_live.specs.Lives.{Live, reading, either, where_so, tell}
 use Rattle.spec_rights.specs.declared.act.Actor.{Actor}
 use Rattle.spec_rights.specs.Verdict.{verdict}
-use Rattle.spec_rights.specs.Asking.{answered, asked, refused}
+use Rattle.spec_rights.specs.Asking.{answered, asked, denied_text, refused}
 use Rattle.spec_commands.specs.Texts.{first_word, other_words, trimmed}
-use Rattle.spec_commands.specs.Reading.{looked_up}
+use Rattle.spec_commands.specs.Replies.{usage}
+use Rattle.spec_commands.specs.Going.{ended}
+use Rattle.spec_commands.specs.Reading.{looked_up, incomplete, with_fit, with_parts, with_arguments, by_command, by_table}
 use Rattle.muck_queue.specs.declared.process.Process.{Process}
 use Rattle.muck_queue.specs.Queues.{Queue, has_pid, process}
 use Rattle.spec_admin.specs.declared.word.AdminWord.{AdminWord}
 use Rattle.spec_admin.specs.declared.word.AdminWord.TheVariants.{Kill}
 use Rattle.spec_admin.specs.Replies.{killed_reply, no_process}
 use Rattle.spec_admin.specs.Processes.{ending, may_end, process_meant, end_told, kill_told, killed}
-use Rattle.spec_admin.specs.Lines.{admin_words, ended_by, line_ends}
+use Rattle.spec_admin.specs.Lines.{admin_words, admin_shape, admin_done, admin_line, ended_by, line_ends}
 
 -- a process that is found by a number has it
 found_numbered : (pid : ℤ) (ps : List Process) (p : Process) → find (has_pid pid) ps ≡ Some p → p.number ≡ pid
@@ -60,19 +63,74 @@ line_ends_open a q line w p = at (looked_up admin_words (first_word (trimmed lin
     at (Some Kill) e = let k = killed_meant a q text w p e in (k.0, meant_there text q p k.1)
     at command e = absurd (cc)
 
--- It is told that a process was killed exactly where one ends: else that there is none, or by which rule it may not be ended.
+-- Where a process ends it is told that it was killed, and else another text is.
 abbrev pub TellsKilled : ℕ → Live → Live → Option Process → Type 0
 TellsKilled d w v (Some p) = v ≡ tell d killed_reply w
-TellsKilled d w v None = (v ≡ tell d no_process w) ⊎ ((denial : Denial) × (v ≡ refused d denial w))
+TellsKilled d w v None = (text : List ℕ) × (text ≡ killed_reply → ⊥) × (v ≡ tell d text w)
 
-pub kill_tells : (d : ℕ) (a : Actor) (q : Queue) (text : List ℕ) (w : Live) → TellsKilled d w (kill_told d a q text w) (killed a q text w)
-unfolding kill_told asked
+-- the second byte of each text is another
+abbrev second : List ℕ → ℕ
+second [] = 0
+second (b ∷ []) = 0
+second (b ∷ c ∷ text) = c
+
+other_none : no_process ≡ killed_reply → ⊥
+unfolding no_process killed_reply
+other_none e = let differ : 111 ≡ 114 = ap second e in omega (arith, differ)
+
+other_denied : (denial : Denial) → denied_text denial ≡ killed_reply → ⊥
+unfolding denied_text killed_reply
+other_denied denial e = let differ : 101 ≡ 114 = ap second e in omega (arith, differ)
+
+other_usage : (word : List ℕ) → usage word ≡ killed_reply → ⊥
+unfolding usage killed_reply
+other_usage word e = let differ : 115 ≡ 114 = ap second e in omega (arith, differ)
+
+kill_tells : (d : ℕ) (a : Actor) (q : Queue) (text : List ℕ) (w : Live) → TellsKilled d w (kill_told d a q text w) (killed a q text w)
+unfolding kill_told asked refused
 kill_tells d a q text w = at (process_meant text q)
   where
     judged : (p : Process) (v : Option Denial) → TellsKilled d w (answered v (refused d) (tell d killed_reply) w) (cond (is_none v) (Some p) None)
     judged p None = refl
-    judged p (Some denial) = inr (denial, refl)
+    judged p (Some denial) = (denied_text denial, other_denied denial, refl)
 
     at : (m : Option Process) → TellsKilled d w (end_told d a m w) (option_and_then (λ p. cond (may_end a w p) (Some p) None) m)
-    at None = inl refl
+    at None = (no_process, other_none, refl)
     at (Some p) = judged p (verdict w.objects a (ending p))
+
+-- what `@kill` tells by what is typed behind it
+
+kill_missing : (d : ℕ) (a : Actor) (q : Queue) (word : List ℕ) (w : Live) → (with_arguments d a word (admin_shape Kill) [] (admin_done q d a Kill) w).0 ≡ tell d (usage (map to_ascii_lowercase word)) w
+unfolding with_arguments either ended incomplete
+kill_missing d a q word w = refl
+
+kill_given : (d : ℕ) (a : Actor) (q : Queue) (word : List ℕ) (b : ℕ) (text : List ℕ) (w : Live) → (with_arguments d a word (admin_shape Kill) (b ∷ text) (admin_done q d a Kill) w).0 ≡ kill_told d a q (b ∷ text) w
+unfolding with_arguments with_parts with_fit where_so reading either ended admin_done
+kill_given d a q word b text w = refl
+
+none_meant : (q : Queue) → process_meant [] q ≡ None
+unfolding decimal_of
+none_meant q = refl
+
+kill_typed : (d : ℕ) (a : Actor) (q : Queue) (word text : List ℕ) (w : Live) → TellsKilled d w (with_arguments d a word (admin_shape Kill) text (admin_done q d a Kill) w).0 (killed a q text w)
+kill_typed d a q word [] w =
+    let P : Option Process → Type 0 = λ m. TellsKilled d w (with_arguments d a word (admin_shape Kill) [] (admin_done q d a Kill) w).0 (option_and_then (λ p. cond (may_end a w p) (Some p) None) m) in
+    subst P (sym (none_meant q)) (usage (map to_ascii_lowercase word), other_usage (map to_ascii_lowercase word), kill_missing d a q word w)
+kill_typed d a q word (b ∷ text) w =
+    let P : Live → Type 0 = λ v. TellsKilled d w v (killed a q (b ∷ text) w) in
+    subst P (sym (kill_given d a q word b text w)) (kill_tells d a q (b ∷ text) w)
+
+-- `@kill` tells that a process was killed exactly where the line ends one
+pub kill_line_tells : (d : ℕ) (a : Actor) (q : Queue) (line : List ℕ) (w : Live) → looked_up admin_words (first_word (trimmed line)) ≡ Some Kill → TellsKilled d w (admin_line q d a line w).0 (line_ends a q line w)
+unfolding admin_line by_table line_ends
+kill_line_tells d a q line w = at (looked_up admin_words (first_word (trimmed line)))
+  where
+    word : List ℕ
+    word = first_word (trimmed line)
+
+    text : List ℕ
+    text = trimmed (other_words (trimmed line))
+
+    at : (command : Option AdminWord) → command ≡ Some Kill → TellsKilled d w (by_command admin_shape (admin_done q d a) d a word text command w).0 (ended_by a q text w command)
+    at (Some Kill) e = kill_typed d a q word text w
+    at command e = absurd (cc)

@@ -2,7 +2,7 @@
 use Rattle.std.proofs.Common.{◌≡◌, ℕ, Bool, true, false, List, refl, Option, Some, None}
 use Rattle.muck_model.specs.declared.dbref.Dbref.{Dbref}
 use Rattle.muck_model.specs.declared.tune.Tune.{Tune}
-use Rattle.spec_live.specs.Lives.{Live, Change, reading, either, tell, unchanged}
+use Rattle.spec_live.specs.Lives.{Live, Change, reading, either, unchanged}
 use Rattle.spec_live.proofs.Keeping.{Keeps, keeps_either, keeps_where}
 use Rattle.spec_rights.specs.declared.act.Actor.{Actor}
 use Rattle.spec_rights.specs.declared.act.Act.TheVariants.{Wizard}
@@ -10,7 +10,7 @@ use Rattle.spec_rights.specs.Verdict.{is_master}
 use Rattle.spec_rights.proofs.Allowed.{wizard_allowed}
 use Rattle.spec_rights.proofs.Licences.{keeps_judged}
 use Rattle.spec_commands.specs.declared.outcome.Outcome.{Outcome}
-use Rattle.spec_commands.specs.declared.outcome.Outcome.TheVariants.{Done, NotMine, Dump as DumpAsked, Stop}
+use Rattle.spec_commands.specs.declared.outcome.Outcome.TheVariants.{Done, NotMine}
 use Rattle.spec_commands.specs.declared.shape.Want.{Want}
 use Rattle.spec_commands.specs.declared.shape.Want.TheVariants.{Nothing, Text, NewName, Found, Object, Player, Program}
 use Rattle.spec_commands.specs.declared.shape.Shape.{Shape}
@@ -18,7 +18,7 @@ use Rattle.spec_commands.specs.declared.shape.Arguments.{Arguments}
 use Rattle.spec_commands.specs.Texts.{first_word, other_words, trimmed}
 use Rattle.spec_commands.specs.Going.{Play, ended}
 use Rattle.spec_commands.specs.Programming.{over, over_denied}
-use Rattle.spec_commands.specs.Reading.{looked_up, is_empty, left_part, right_part, incomplete, judged, sought, meant, with_fit, with_parts, with_arguments, by_command, by_table}
+use Rattle.spec_commands.specs.Reading.{looked_up, is_empty, left_part, right_part, judged, sought, meant, with_fit, with_parts, with_arguments, by_command, by_table}
 use Rattle.spec_commands.proofs.Showing.{keeps_finding, keeps_finding_player}
 use Rattle.muck_queue.specs.Queues.{Queue}
 use Rattle.spec_admin.specs.declared.word.AdminWord.{AdminWord}

@@ -1,5 +1,5 @@
 -- What a line of a keeper does is open to who types it.
-use Rattle.std.proofs.Common.{◌≡◌, ℕ, Bool, true, List, refl, Option, Some, None}
+use Rattle.std.proofs.Common.{◌≡◌, ℕ, true, List, refl, Option, Some, None}
 use Rattle.muck_model.specs.declared.dbref.Dbref.{Dbref}
 use Rattle.muck_model.specs.declared.dbref.Denial.{Denial}
 use Rattle.muck_model.specs.declared.tune.Tune.{Tune}
@@ -22,10 +22,9 @@ use Rattle.spec_commands.specs.declared.outcome.Outcome.{Outcome}
 use Rattle.spec_commands.specs.declared.outcome.Outcome.TheVariants.{Done, NotMine, Dump as DumpAsked, Stop, Retune}
 use Rattle.spec_commands.specs.declared.shape.Arguments.{Arguments}
 use Rattle.spec_commands.specs.Texts.{first_word, other_words, trimmed}
-use Rattle.spec_commands.specs.Finding.{each}
 use Rattle.spec_commands.specs.Building.{created_shown, written, done_where}
 use Rattle.spec_commands.specs.Going.{Play, ended}
-use Rattle.spec_commands.specs.Programming.{over, over_denied}
+use Rattle.spec_commands.specs.Programming.{over_denied}
 use Rattle.spec_commands.specs.Reading.{looked_up, incomplete, by_command, by_table}
 use Rattle.spec_commands.proofs.Showing.{quiet_each}
 use Rattle.spec_commands.proofs.Built.{quiet_created_shown, player_founded}

@@ -1,25 +1,23 @@
 -- The player that is made has its password, and where none is made nothing is drawn.
-use Rattle.std.proofs.Common.{◌≡◌, ◌⊎◌, ◌<◌, ℕ, zero, suc, Bool, true, false, cond, List, [], ◌∷◌, ◌++◌, take, refl, sym, ◌∙◌, ap, subst, Option, Some, None, inl, inr, Result, Ok, Err, arith}
+use Rattle.std.proofs.Common.{◌≡◌, ◌⊎◌, ◌<◌, ℕ, zero, suc, true, cond, List, ◌++◌, take, refl, ◌∙◌, ap, Option, Some, None, inl, inr, Result, Ok, Err, arith}
 use Rattle.std.specs.Option.{option_map, option_and_then, option_map_or}
 use Rattle.std.specs.Int.{byte_at, bytes_high_first}
-use Rattle.std.specs.Str.{bytes_eq}
 use Rattle.std.proofs.lemmas.Slice.Eq.{bytes_eq-Decides}
 use Rattle.hex.specs.Hex.{IsBytes, encode_with, encode_lower, decode_of}
 use Rattle.hex.proofs.HexLemmas.{decode_of-encode_lower}
 use Rattle.muck_model.specs.declared.dbref.Dbref.{Dbref}
 use Rattle.muck_model.specs.declared.dbref.Denial.{Denial}
-use Rattle.muck_model.specs.declared.dbref.Kind.{Kind}
-use Rattle.muck_model.specs.declared.dbref.Kind.TheVariants.{Player, Garbage}
+use Rattle.muck_model.specs.declared.dbref.Kind.TheVariants.{Player}
 use Rattle.spec_live.specs.declared.fault.DbFault.{DbFault}
 use Rattle.spec_live.specs.declared.object.Object.{Object}
 use Rattle.spec_live.specs.Password.{digest_of, salt_bytes, is_salted, is_digest_of}
-use Rattle.spec_live.specs.Objects.{Entry, dbref_of, is_garbage, object_in, kind_in, number_in, object_at, changed_at, with_object}
-use Rattle.spec_live.specs.Moving.{moved, with_place}
+use Rattle.spec_live.specs.Objects.{Entry, dbref_of, is_garbage, object_in, number_in, object_at, changed_at, with_object}
+use Rattle.spec_live.specs.Moving.{with_place}
 use Rattle.spec_live.specs.Making.{grown, new_object, created, create_check}
 use Rattle.spec_live.specs.Setting.{set_at, with_password}
 use Rattle.spec_live.specs.Boards.{told_one, random_drawn}
 use Rattle.spec_live.specs.Lives.{Live, Change, ◌▸◌, followed, reading, tell, draw, random_word}
-use Rattle.spec_live.proofs.Keeping.{Keeps, keeps_either, keeps_where, keeps_reading}
+use Rattle.spec_live.proofs.Keeping.{Keeps, keeps_either, keeps_where}
 use Rattle.spec_live.proofs.Readers.{object_named, object_moved, object_changed, kind_is}
 use Rattle.spec_live.proofs.CreationLaws.{may_create, grown_long}
 use Rattle.spec_rights.specs.declared.act.Actor.{Actor}

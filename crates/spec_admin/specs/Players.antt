@@ -5,7 +5,7 @@ use Rattle.muck_model.specs.declared.dbref.Kind.TheVariants.{Player}
 use Rattle.spec_live.specs.Objects.{dbref_of}
 use Rattle.spec_live.specs.Making.{create_check}
 use Rattle.spec_live.specs.Setting.{password_check}
-use Rattle.spec_live.specs.Lives.{Live, Change, ◌▸◌, reading, either, where_so, tell, draw, random_word}
+use Rattle.spec_live.specs.Lives.{Change, ◌▸◌, reading, either, where_so, tell, draw, random_word}
 use Rattle.spec_rights.specs.declared.act.Actor.{Actor}
 use Rattle.spec_rights.specs.declared.act.Act.TheVariants.{Wizard, Password}
 use Rattle.spec_rights.specs.Asking.{asked, refused}

@@ -15,7 +15,7 @@ use Rattle.spec_live.specs.Setting.{checked, password_check}
 use Rattle.spec_live.specs.Start.{room_zero, player_one}
 use Rattle.spec_live.specs.Seen.{scenery_of, listed_in, places_of, flag_letters, long_form}
 use Rattle.spec_live.specs.Boards.{first_tune, early_board, told_one, told_all, random_drawn}
-use Rattle.spec_live.specs.Lives.{Live, followed, reading, either, unchanged, tell, tell_all, draw}
+use Rattle.spec_live.specs.Lives.{followed, reading, either, unchanged, tell, tell_all, draw}
 use Rattle.spec_rights.specs.declared.act.Actor.{Actor}
 use Rattle.spec_rights.specs.Levels.{level_at, owner_at, flag_at, owns, controls_as}
 use Rattle.spec_rights.specs.Verdict.{controls, controls_or}

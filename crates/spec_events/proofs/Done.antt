@@ -6,6 +6,7 @@ use Rattle.std.specs.Option.{option_and_then}
 use Rattle.std.proofs.lemmas.Option.{none-some}
 use Rattle.muck_model.specs.declared.dbref.Dbref.{Dbref}
 use Rattle.muck_model.specs.declared.edit.EditState.{EditState}
+use Rattle.muck_model.specs.declared.tune.Tune.{Tune}
 use Rattle.muck_match.specs.declared.exits.ExitHit.{ExitHit}
 use Rattle.muck_match.specs.Exits.{exit_for}
 use Rattle.spec_live.specs.Objects.{Entry, mark_in}
@@ -14,6 +15,8 @@ use Rattle.spec_live.specs.Connections.{Connection, has_number, edited as edited
 use Rattle.spec_live.specs.Boards.{connection_in, player_in, leaving_one, edited_one}
 use Rattle.spec_live.specs.Lives.{Live, Change, followed, ◌▸◌, tell, leave}
 use Rattle.spec_rights.specs.declared.act.Actor.{Actor}
+use Rattle.spec_rights.specs.Verdict.{is_master}
+use Rattle.spec_rights.specs.Changing.{tuned}
 use Rattle.spec_rights.specs.Licence.{Freedom, SameTies, Licensed, editing}
 use Rattle.spec_rights.proofs.Licences.{judge, SameMarks, Quiet, Always, ties_same, ties_both, quiet_order, whole_quiet}
 use Rattle.spec_rights.proofs.Leaving.{whole_leave}
@@ -24,11 +27,10 @@ use Rattle.spec_commands.specs.declared.edit.EditStep.{EditStep}
 use Rattle.spec_commands.specs.declared.edit.EditStep.TheVariants.{Stay, Compile, Left}
 use Rattle.spec_commands.specs.Finding.{actor_of}
 use Rattle.spec_commands.specs.Free.{free_play, free_through, free_line}
-use Rattle.spec_commands.specs.Commands.{begins_with_sign, played}
+use Rattle.spec_commands.specs.Commands.{begins_with_sign}
 use Rattle.spec_commands.specs.Editing.{editor_exited, is_open, edited}
 use Rattle.spec_commands.specs.Talk.{at_login, waits}
 use Rattle.spec_commands.proofs.Showing.{quiet_waits}
-use Rattle.spec_commands.proofs.Permitted.{waited_open}
 use Rattle.spec_commands.proofs.Edited.{edited_proper}
 use Rattle.spec_commands.proofs.Sources.{edited_rewrites}
 use Rattle.muck_queue.specs.declared.process.Process.{Process}
@@ -37,13 +39,15 @@ use Rattle.spec_commands.proofs.Numbered.{numbers, numbers-ties, numbers-same_ti
 use Rattle.spec_commands.proofs.Lines.{seating_at_login}
 use Rattle.spec_events.specs.World.{World, on_live, on_queue}
 use Rattle.spec_events.specs.Following.{swept, settled}
-use Rattle.spec_events.specs.Lines.{with_editor, next_editor, after_edit, edited_line, in_editor, editor_on, followed_up, in_world, program_aborted, is_abort, given_line, line_for, line_done, done}
-use Rattle.spec_events.specs.Endings.{ProcessesLicensed, NoProcess, MayEnd, by_program, EndsReading}
+use Rattle.spec_events.specs.Lines.{with_editor, next_editor, after_edit, edited_line, in_editor, editor_on, typed, left_by, followed_up, in_world, program_aborted, is_abort, given_line, line_for, line_done, done}
+use Rattle.spec_events.specs.Endings.{ProcessesLicensed, NoProcess, MayEnd, by_actor, EndsReading}
 use Rattle.spec_events.specs.Licences.{Untouched, Undisturbed, LineLicensed, TurnLicensed}
 use Rattle.spec_events.proofs.Quietly.{Quietly, quietly_both, quietly_live, quietly_queue, quietly_swept, quietly_launched, quietly_compiled}
 use Rattle.spec_events.proofs.Told.{licensed_told, licensed_as}
+use Rattle.spec_events.proofs.Typed.{typed_retunes, waited_open}
 use Rattle.spec_events.proofs.Endings.{Lasting, lasting_same, lasting_both, lasting_changed, lasting_without, lasting_up, lasting_after, process_number, IsTold, told_settled, processes_remain}
-use Rattle.spec_events.proofs.Lapses.{IsLapsing, marks_lapse, Cut, steady_cut, lasting_lapse}
+use Rattle.spec_events.proofs.Lapses.{IsLapsing, marks_lapse, by_lapse, steady_may, lasting_lapse}
+use Rattle.spec_events.proofs.Killed.{lasting_left}
 
 -- what an actor may do to a world that is one already: the changes are open, and it is as dead as before
 pub record Open (a : Actor) (free : Freedom) (start : Live) (dead : Bool) (v : World) : Type 0 where
@@ -65,7 +69,7 @@ open_settled a free start dead u p =
 -- Leaving.
 
 -- a connection keeps its player
-player-same_ties : (a : Actor) (d : ℕ) (cs ds : List Connection) → SameTies a cs ds → option_and_then (λ (c : Connection). c.player) (find (has_number d) ds) ≡ option_and_then (λ (c : Connection). c.player) (find (has_number d) cs)
+pub player-same_ties : (a : Actor) (d : ℕ) (cs ds : List Connection) → SameTies a cs ds → option_and_then (λ (c : Connection). c.player) (find (has_number d) ds) ≡ option_and_then (λ (c : Connection). c.player) (find (has_number d) cs)
 player-same_ties a d [] [] t = refl
 player-same_ties a d [] (y ∷ ys) t = absurd t
 player-same_ties a d (x ∷ xs) [] t = absurd t
@@ -142,18 +146,24 @@ open_in_editor d player s line lines w = at (is_open s (taken_out d lines w.live
 
 -- Commands.
 
+-- who may tune the world may follow
+tuned_licensed : (a : Actor) (free : Freedom) (w v : Live) (tune : Tune) → Licensed a free w v → is_master a ≡ true → Licensed a free w (tuned tune v)
+unfolding tuned
+tuned_licensed a free w v tune l h =
+    record { gone = l.gone; recycled = l.recycled; vanished = l.vanished; objects = l.objects; lists = l.lists; connections = l.connections; tune = inr h }
+
 open_followed : (d : ℕ) (player : Dbref) (a : Actor) (free : Freedom) (start : Live) (dead : Bool) (outcome : Outcome) (u : World) → player_in d start.board ≡ Some a.player →
-    Open a free start dead u → Open a free start dead (followed_up d player outcome u)
-open_followed d player a free start dead Leave u own p = record { licensed = left_licensed a d free start u.live own p.licensed; alive = p.alive }
-open_followed d player a free start dead (Edit program) u own p =
+    ((tune : Tune) → outcome ≡ Retune tune → is_master a ≡ true) → Open a free start dead u → Open a free start dead (followed_up d player outcome u)
+open_followed d player a free start dead Leave u own may p = record { licensed = left_licensed a d free start u.live own p.licensed; alive = p.alive }
+open_followed d player a free start dead (Edit program) u own may p =
     open_quietly a free start dead u _ p (quietly_live (with_editor d (Some (editor_on program u.live))) (quiet_with_editor d (Some (editor_on program u.live))) u)
-open_followed d player a free start dead (Start program trigger line arg) u own p =
+open_followed d player a free start dead (Start program trigger line arg) u own may p =
     open_quietly a free start dead u _ p (quietly_launched d (actor_of u.live.objects player) (record { player = player; program = program; trigger = trigger; command = line; argument = arg }) u)
-open_followed d player a free start dead Done u own p = p
-open_followed d player a free start dead NotMine u own p = p
-open_followed d player a free start dead Dump u own p = p
-open_followed d player a free start dead Stop u own p = p
-open_followed d player a free start dead (Retune tune) u own p = p
+open_followed d player a free start dead Done u own may p = p
+open_followed d player a free start dead NotMine u own may p = p
+open_followed d player a free start dead Dump u own may p = record { licensed = p.licensed; alive = p.alive }
+open_followed d player a free start dead Stop u own may p = record { licensed = p.licensed; alive = p.alive }
+open_followed d player a free start dead (Retune tune) u own may p = record { licensed = tuned_licensed a free start u.live tune p.licensed (may tune refl); alive = p.alive }
 
 open_in_world : (d : ℕ) (player : Dbref) (line : List ℕ) (lines : List (List ℕ)) (w : World) → player_in d w.live.board ≡ Some player →
     Open (actor_of w.live.objects player) (free_line (actor_of w.live.objects player) line w.live.objects) w.live w.dead (in_world d player line (on_live (waits d lines) w))
@@ -162,14 +172,15 @@ open_in_world d player line lines w own =
     let a : Actor = actor_of w.live.objects player in
     let free : Freedom = free_line a line w.live.objects in
     let u : World = on_live (waits d lines) w in
-    let r = played d a line u.live in
-    let l : Licensed a free w.live r.0 = (((waited_open a d lines line).law w.live).law own tt).licensed in
-    open_followed d player a free w.live w.dead r.1 _ own (open_settled a free w.live w.dead (record u { live = r.0 }) (record { licensed = l; alive = refl }))
+    let r = typed u.queue d a line u.live in
+    let l : Licensed a free w.live r.0 = (((waited_open a u.queue d lines line).law w.live).law own tt).licensed in
+    open_followed d player a free w.live w.dead r.1 _ own (typed_retunes u.queue d a line u.live)
+    (open_settled a free w.live w.dead (record u { live = r.0; queue = left_by d a line u.live u.queue }) (record { licensed = l; alive = refl }))
 
 -- Processes.
 
 objects_up : (d : ℕ) (player : Dbref) (outcome : Outcome) (w : World) → (followed_up d player outcome w).live.objects ≡ w.live.objects
-unfolding leave
+unfolding leave tuned
 objects_up d player Leave w = refl
 objects_up d player (Edit program) w = refl
 objects_up d player (Start program trigger line arg) w = (quietly_launched d (actor_of w.live.objects player) (record { player = player; program = program; trigger = trigger; command = line; argument = arg }) w).objects
@@ -184,12 +195,13 @@ objects_after d program Compile w = (quietly_compiled d program w).objects
 objects_after d program Stay w = refl
 objects_after d program Left w = refl
 
-cut_ends : (a : Actor) (w v : World) → Lasting (Cut w.live v.live) w.queue v.queue → ProcessesLicensed (MayEnd a w.live v.live) w v
-cut_ends a w v g = processes_remain (Cut w.live v.live) (MayEnd a w.live v.live) w v (λ p c. by_program c.0 c.1 c.2) g
+-- such as may end by the line end
+may_ends : (a : Actor) (w v : World) → Lasting (MayEnd a w.live v.live) w.queue v.queue → ProcessesLicensed (MayEnd a w.live v.live) w v
+may_ends a w v g = processes_remain (MayEnd a w.live v.live) (MayEnd a w.live v.live) w v (λ p m. m) g
 
 -- what follows a change ends such as run what lapsed
-cut_settled : (w v : Live) (u : World) → v.objects ≡ (settled u).live.objects → IsLapsing w u.live → Lasting (Cut w v) u.queue (settled u).queue
-cut_settled w v u e lapsing = lasting_lapse (Cut w v) (steady_cut w v) w v u (λ p c. c) e lapsing
+lapse_settled : (a : Actor) (w v : Live) (u : World) → v.objects ≡ (settled u).live.objects → IsLapsing w u.live → Lasting (MayEnd a w v) u.queue (settled u).queue
+lapse_settled a w v u e lapsing = lasting_lapse (MayEnd a w v) (steady_may a w v) w v u (by_lapse a w v) e lapsing
 
 nothing_edited : (a : Actor) (line : List ℕ) (es : List Entry) (x : Dbref) → (free_line a line es).edits x ≡ false
 unfolding free_line free_play
@@ -207,12 +219,15 @@ ends_in_world d player line lines w own told =
     let a : Actor = actor_of w.live.objects player in
     let free : Freedom = free_line a line w.live.objects in
     let u : World = on_live (waits d lines) w in
-    let r = played d a line u.live in
-    let x : World = record u { live = r.0 } in
+    let r = typed u.queue d a line u.live in
+    let x : World = record u { live = r.0; queue = left_by d a line u.live u.queue } in
     let v : World = followed_up d player r.1 (settled x) in
-    let marks : SameMarks (judge a free w.live.objects) w.live.objects r.0.objects = (((waited_open a d lines line).law w.live).law own tt).marks in
+    let may : Process → Type 0 = MayEnd a w.live v.live in
+    let marks : SameMarks (judge a free w.live.objects) w.live.objects r.0.objects = (((waited_open a u.queue d lines line).law w.live).law own tt).marks in
     let cut : IsLapsing w.live x.live = marks_lapse a free w.live r.0 (nothing_edited a line w.live.objects) told marks in
-    cut_ends a w v (lasting_both (Cut w.live v.live) w.queue (settled x).queue v.queue (cut_settled w.live v.live x (objects_up d player r.1 (settled x)) cut) (lasting_up (Cut w.live v.live) d player r.1 (settled x)))
+    may_ends a w v
+    (lasting_both may w.queue x.queue v.queue (lasting_left may a line u.live u.queue (λ p e. by_actor e) d)
+    (lasting_both may x.queue (settled x).queue v.queue (lapse_settled a w.live v.live x (objects_up d player r.1 (settled x)) cut) (lasting_up may d player r.1 (settled x))))
 
 ends_edited : (d : ℕ) (player : Dbref) (s : EditState) (line : List ℕ) (lines : List (List ℕ)) (w : World) → IsTold w.live →
     let v = edited_line d player s line (on_live (taken_out d lines) w) in ProcessesLicensed (MayEnd (actor_of w.live.objects player) w.live v.live) w v
@@ -227,7 +242,8 @@ ends_edited d player s line lines w told =
       | inl same ↦ absurd (none-some m (sym (same ∙ told k) ∙ e))
       | inr other ↦ inr other
     ] in
-    cut_ends a w v (lasting_both (Cut w.live v.live) w.queue (settled x).queue v.queue (cut_settled w.live v.live x (objects_after d s.program r.2 (settled x)) cut) (lasting_after (Cut w.live v.live) d s.program r.2 (settled x)))
+    let may : Process → Type 0 = MayEnd a w.live v.live in
+    may_ends a w v (lasting_both may w.queue (settled x).queue v.queue (lapse_settled a w.live v.live x (objects_after d s.program r.2 (settled x)) cut) (lasting_after may d s.program r.2 (settled x)))
 
 ends_in_editor : (d : ℕ) (player : Dbref) (s : EditState) (line : List ℕ) (lines : List (List ℕ)) (w : World) → IsTold w.live →
     let v = in_editor d player s line (on_live (taken_out d lines) w) in ProcessesLicensed (MayEnd (actor_of w.live.objects player) w.live v.live) w v
@@ -237,7 +253,7 @@ ends_in_editor d player s line lines w told = at (is_open s (taken_out d lines w
     at : (b : Bool) → let v = cond b (edited_line d player s line (on_live (taken_out d lines) w)) (on_live (tell d editor_exited) (on_live (taken_out d lines) w)) in
         ProcessesLicensed (MayEnd (actor_of w.live.objects player) w.live v.live) w v
     at true = ends_edited d player s line lines w told
-    at false = let v : World = on_live (tell d editor_exited) (on_live (taken_out d lines) w) in cut_ends (actor_of w.live.objects player) w v (lasting_same (Cut w.live v.live) w.queue)
+    at false = let v : World = on_live (tell d editor_exited) (on_live (taken_out d lines) w) in may_ends (actor_of w.live.objects player) w v (lasting_same (MayEnd (actor_of w.live.objects player) w.live v.live) w.queue)
 
 -- What a line does is open.
 
@@ -330,8 +346,9 @@ told_by w v e h n = ap (λ os. mark_in os n) e ∙ h n
 told_in_world : (d : ℕ) (player : Dbref) (line : List ℕ) (w : World) → IsTold (in_world d player line w).live
 unfolding in_world
 told_in_world d player line w =
-    let r = played d (actor_of w.live.objects player) line w.live in
-    let x : World = record w { live = r.0 } in
+    let a : Actor = actor_of w.live.objects player in
+    let r = typed w.queue d a line w.live in
+    let x : World = record w { live = r.0; queue = left_by d a line w.live w.queue } in
     told_by (settled x).live (followed_up d player r.1 (settled x)).live (objects_up d player r.1 (settled x)) (told_settled x)
 
 told_in_editor : (d : ℕ) (player : Dbref) (s : EditState) (line : List ℕ) (w : World) → IsTold w.live → IsTold (in_editor d player s line w).live

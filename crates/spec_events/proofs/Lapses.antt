@@ -1,14 +1,17 @@
 -- What is to be told of an object tells that its program is gone, or that its source is another, and by that alone processes end.
-use Rattle.std.proofs.Common.{◌≡◌, ℕ, true, false, [], refl, sym, ◌∙◌, ap, Option, Some, None, inl, inr}
+use Rattle.std.proofs.Common.{◌≡◌, ℕ, true, false, List, [], refl, sym, ◌∙◌, ap, Option, Some, None, inl, inr}
+use Rattle.std.specs.Prelude.{◌||◌}
 use Rattle.std.specs.Option.{option_map_or}
 use Rattle.std.proofs.lemmas.Bool.{and_parts}
 use Rattle.std.proofs.lemmas.Option.{none-some}
 use Rattle.muck_model.specs.declared.dbref.Dbref.{Dbref}
 use Rattle.spec_live.specs.declared.mark.Mark.{Mark}
 use Rattle.spec_live.specs.declared.object.Object.{Object}
-use Rattle.spec_live.specs.Objects.{dbref_of, mark_in, object_at}
+use Rattle.spec_live.specs.Objects.{Entry, dbref_of, mark_in, object_at, same}
 use Rattle.spec_live.specs.Lives.{Live}
 use Rattle.spec_rights.specs.declared.act.Actor.{Actor}
+use Rattle.spec_rights.specs.Levels.{owner_at}
+use Rattle.spec_rights.specs.Verdict.{is_master}
 use Rattle.spec_rights.specs.Licence.{Freedom, Judge}
 use Rattle.spec_rights.proofs.Licences.{judge, MarkOpen, SameMarks}
 use Rattle.muf_model.specs.Source.{Source}
@@ -16,7 +19,8 @@ use Rattle.muck_queue.specs.declared.process.Process.{Process}
 use Rattle.muck_queue.specs.Queues.{is_in, runs}
 use Rattle.spec_events.specs.World.{World}
 use Rattle.spec_events.specs.Following.{swept, settled}
-use Rattle.spec_events.specs.Endings.{Lapsed}
+use Rattle.spec_processes.proofs.Ends.{IsSame}
+use Rattle.spec_events.specs.Endings.{Lapsed, end_open, MayEnd, by_actor, by_program}
 use Rattle.spec_events.proofs.Quietly.{quietly_swept}
 use Rattle.spec_events.proofs.Told.{told_at}
 use Rattle.spec_events.proofs.Endings.{IsTold, IsSteady, Lasting, lasting_settled}
@@ -26,7 +30,7 @@ abbrev pub IsLapsing : Live → Live → Type 0
 IsLapsing w v = (k : ℕ) (m : Mark) → mark_in v.objects k ≡ Some m → Lapsed (dbref_of k) w v
 
 pub told_lapse : (w v : Live) → v.objects ≡ w.objects → IsTold w → IsLapsing w v
-told_lapse w v same told k m e = absurd (none-some m (sym (told k) ∙ ap (λ os. mark_in os k) (sym same) ∙ e))
+told_lapse w v is told k m e = absurd (none-some m (sym (told k) ∙ ap (λ os. mark_in os k) (sym is) ∙ e))
 
 gone_by : (j : Judge) (x : Dbref) (old new : Option Mark) (m : Mark) (q : Option Object) → j.free.edits x ≡ false → old ≡ None → new ≡ Some m → MarkOpen j x old new q → q ≡ None
 gone_by j x old new m None c e f o = refl
@@ -52,8 +56,17 @@ lapsed_as x w u v e (inr h) = inr (λ s. h (ap (λ (q : Option Object). option_m
 abbrev pub Cut : Live → Live → Process → Type 0
 Cut w v p = (x : Dbref) × (runs x p ≡ true) × Lapsed x w v
 
-pub steady_cut : (w v : Live) → IsSteady (Cut w v)
-steady_cut w v p q same c = (c.0, ap (λ (r : Option Source). option_map_or (is_in c.0) r false) (sym same.running) ∙ c.1, c.2)
+-- it may end by who acts, or by what lapsed, alike in another way of going on
+pub end_as : (a : Actor) (es : List Entry) (p q : Process) → IsSame p q → end_open a es p ≡ end_open a es q
+end_as a es p q s =
+    ap (λ d. is_master a || (same d a.user || same (owner_at es p.program) a.user)) (sym s.player) ∙ ap (λ d. is_master a || (same q.player a.user || same (owner_at es d) a.user)) (sym s.program)
+
+pub by_lapse : (a : Actor) (w v : Live) (p : Process) → Cut w v p → MayEnd a w v p
+by_lapse a w v p c = by_program c.0 c.1 c.2
+
+pub steady_may : (a : Actor) (w v : Live) → IsSteady (MayEnd a w v)
+steady_may a w v p q s (by_actor e) = by_actor (end_as a w.objects p q s ∙ e)
+steady_may a w v p q s (by_program x r l) = by_program x (ap (λ (t : Option Source). option_map_or (is_in x) t false) (sym s.running) ∙ r) l
 
 -- what follows ends none but such as run what lapsed
 pub lasting_lapse : (may : Process → Type 0) → IsSteady may → (w v : Live) (u : World) → ((p : Process) → Cut w v p → may p) → v.objects ≡ (settled u).live.objects → IsLapsing w u.live →

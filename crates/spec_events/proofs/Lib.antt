@@ -2,6 +2,8 @@ pub mod Quietly
 pub mod Told
 pub mod Endings
 mod Lapses
+pub mod Typed
+mod Killed
 pub mod Done
 mod Deeds
 pub mod Slicing
@@ -18,6 +20,7 @@ pub mod Living
 pub mod Reached
 pub mod Runs
 pub mod Turns
+pub mod Passwords
 pub mod Claims
 mod Errors
 mod Ending

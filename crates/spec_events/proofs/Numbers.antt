@@ -23,10 +23,9 @@ use Rattle.muck_queue.specs.inner.Numbered.{IsNumbered}
 use Rattle.muck_queue.proofs.Numbered.{rises_kept}
 use Rattle.muck_queue.proofs.Woken.{woken_number}
 use Rattle.spec_commands.specs.declared.outcome.Outcome.{Outcome}
-use Rattle.spec_commands.specs.declared.outcome.Outcome.TheVariants.{Start as StartOutcome, Edit, Leave}
+use Rattle.spec_commands.specs.declared.outcome.Outcome.TheVariants.{Start as StartOutcome, Edit, Leave, Dump, Stop, Retune}
 use Rattle.spec_commands.specs.declared.edit.EditStep.{EditStep}
 use Rattle.spec_commands.specs.declared.edit.EditStep.TheVariants.{Compile}
-use Rattle.spec_commands.specs.Commands.{played}
 use Rattle.spec_commands.specs.Editing.{is_open, edited}
 use Rattle.spec_commands.specs.Finding.{actor_of}
 use Rattle.spec_commands.specs.Talk.{waits}
@@ -34,11 +33,12 @@ use Rattle.spec_events.specs.declared.starting.Call.{Call}
 use Rattle.spec_events.specs.declared.starting.Manner.{Manner}
 use Rattle.spec_events.specs.World.{World, starting, booted, on_live, with_library}
 use Rattle.spec_events.specs.Starting.{beginning, by_command, new_process, joined, word_started, form_started, begun, start_told, start_judged, launched}
-use Rattle.spec_events.specs.Lines.{with_editor, compiled_so, compiled, next_editor, after_edit, edited_line, in_editor, followed_up, in_world, command, given_line, is_abort, line_for, line_done, done}
+use Rattle.spec_events.specs.Lines.{with_editor, compiled_so, compiled, next_editor, after_edit, edited_line, in_editor, typed, left_by, followed_up, in_world, command, given_line, is_abort, line_for, line_done, done}
 use Rattle.spec_events.specs.Slices.{awake, slice_most, sliced}
 use Rattle.spec_events.specs.Steps.{happened}
 use Rattle.spec_events.proofs.Modes.{numbered_changed, numbered_without, numbered_added, settled_numbered}
 use Rattle.spec_events.proofs.Sections.{run_numbered}
+use Rattle.spec_events.proofs.Killed.{numbered_left}
 
 -- the numbers of its processes rise
 abbrev pub Rising : World → Type 0
@@ -95,12 +95,17 @@ follows_rising : (d : ℕ) (player : Dbref) (o : Outcome) (w : World) → Rising
 follows_rising d player Leave w h = h
 follows_rising d player (Edit program) w h = h
 follows_rising d player (StartOutcome program trigger command arg) w h = launched_rising d _ _ w h
+follows_rising d player Dump w h = h
+follows_rising d player Stop w h = h
+follows_rising d player (Retune tune) w h = h
 follows_rising d player o w h = h
 
 world_rising : (d : ℕ) (player : Dbref) (line : List ℕ) (w : World) → Rising w → Rising (in_world d player line w)
 unfolding in_world
 world_rising d player line w h =
-    let r = played d (actor_of w.live.objects player) line w.live in follows_rising d player r.1 _ (settled_numbered (record w { live = r.0 }) h)
+    let a : Actor = actor_of w.live.objects player in
+    let r = typed w.queue d a line w.live in
+    follows_rising d player r.1 _ (settled_numbered (record w { live = r.0; queue = left_by d a line w.live w.queue }) (numbered_left d a line w.live w.queue h))
 
 command_rising : (player : Option Dbref) (editor : Option EditState) (d : ℕ) (line : List ℕ) (w : World) → Rising w → Rising (command player editor d line w)
 command_rising None editor d line w h = h

@@ -31,7 +31,7 @@ use Rattle.spec_events.specs.Following.{settled}
 use Rattle.spec_events.specs.Slices.{acting, Deed, does, rests, fails, lifted, row_done, process_done, deed, stands_at, out, one_counted, went, after_deed, unit_done, limit_fault, within_limit, turn, world_of}
 use Rattle.spec_events.specs.Endings.{ProcessesLicensed, end_open, EndsIn, by_itself, by_actor, by_change}
 use Rattle.spec_events.proofs.Endings.{IsTold, IsSteady, Lasting, lasting_same, lasting_both, lasting_changed, lasting_without, process_number, processes_remain}
-use Rattle.spec_events.proofs.Lapses.{IsLapsing, told_lapse, marks_lapse, Cut, lasting_lapse}
+use Rattle.spec_events.proofs.Lapses.{IsLapsing, told_lapse, marks_lapse, Cut, end_as, lasting_lapse}
 use Rattle.spec_events.proofs.Deeds.{Leads, Left, leads_done, ended_open}
 use Rattle.spec_events.proofs.Taken.{same_actor}
 
@@ -115,10 +115,6 @@ module _ (pid : ℤ) (may : Process → Type 0) (steady : IsSteady may) (own : (
       (lasting_unit x s u (unit s) refl told ends cut)
 
 -- What ends in a unit may end alike in another way of going on.
-
-end_as : (a : Actor) (es : List Entry) (p q : Process) → IsSame p q → end_open a es p ≡ end_open a es q
-end_as a es p q s =
-    ap (λ d. is_master a || (same d a.user || same (owner_at es p.program) a.user)) (sym s.player) ∙ ap (λ d. is_master a || (same q.player a.user || same (owner_at es d) a.user)) (sym s.program)
 
 steady_ends : (pid : ℤ) (a : Actor) (w v : Live) → IsSteady (EndsIn pid a w v)
 steady_ends pid a w v p q s (by_itself e) = by_itself (ap (λ n. int_eq n pid) (sym s.number) ∙ e)

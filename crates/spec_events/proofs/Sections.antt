@@ -29,8 +29,8 @@ use Rattle.spec_processes.specs.ProcessRows.{Effect, gives as effect_gives, wait
 use Rattle.spec_events.specs.declared.starting.Agent.{Agent}
 use Rattle.spec_events.specs.World.{World, with_library}
 use Rattle.spec_events.specs.Starting.{joined, begun}
-use Rattle.spec_events.specs.Slices.{acting, Deed, does, rests, fails, lifted, row_done, behind, called_word, word_entered, form_entered, program_called, child_of, with_number, child_joined, forked, with_process, queued_command, queued, place_in, effected, process_done, deed, stands_at, out, one_counted, Turn, on, rest, over, went, after_deed, unit_done, limit_fault, turn, Taken, unit_of, agent_of, seat_of, seat, then_more, is_through, next_unit, slice_most, run_of, last_world, world_of, awake, units_of}
-use Rattle.spec_events.specs.Sections.{IsCountable, IsInterruptible, Stops, LastStops, IsOverlong, LastTooLong, IsWhole}
+use Rattle.spec_events.specs.Slices.{acting, Deed, does, rests, fails, lifted, row_done, behind, called_word, word_entered, form_entered, program_called, child_of, with_number, child_joined, forked, with_process, queued_command, queued, place_in, effected, process_done, deed, stands_at, out, one_counted, Turn, on, rest, over, went, after_deed, unit_done, section_most, limit_fault, turn, Taken, unit_of, agent_of, seat_of, seat, then_more, is_through, next_unit, slice_most, run_of, last_world, world_of, awake, units_of}
+use Rattle.spec_events.specs.Sections.{IsInterruptible, Stops, LastStops, IsOverlong, LastTooLong, IsWhole}
 use Rattle.spec_events.proofs.Modes.{Holds, Fits, Seated, fits_seated, fits_less, numbered_changed, numbered_without, fits_changed, settled_fits, settled_numbered, joined_fits, begun_fits}
 use Rattle.spec_events.proofs.Effects.{GoesOn, MayChange, goes_on, Leaves, processed_leaves}
 use Rattle.spec_events.proofs.Slicing.{run_holds}
@@ -172,14 +172,14 @@ not_through true c h e = absurd cc
 not_through false c h e = h
 
 -- a unit that may be taken leaves what the section needs
-counted_may : (most section n : ℕ) (b : Bool) → most ≤ 18446744073709551615 → (b ≡ true → suc most ≤ section + suc n) → (b ≡ true → section < most) → (b ≡ false → suc most < suc n) →
-    suc most ≤ cond b (cond b (more 1 section) section) 0 + n
-counted_may most section n true l h k j = let enough = h refl in let fewer = k refl in omega (arith, l, enough, fewer)
-counted_may most section n false l h k j = let enough = j refl in omega (arith, enough)
+counted_may : (all section n : ℕ) (b : Bool) → (b ≡ true → suc (more 0 all) ≤ section + suc n) → (b ≡ true → section < more 0 all) → (b ≡ false → suc all < suc n) →
+    suc (more 0 all) ≤ cond b (cond b (more 1 section) section) 0 + n
+counted_may all section n true h k j = let enough = h refl in let fewer = k refl in omega (arith, enough, fewer)
+counted_may all section n false h k j = let enough = j refl in omega (arith, enough)
 
-module _ (tune : Tune) (pid : ℤ) (small : IsCountable tune) where
-  seated_on : (n : ℕ) (x : Agent) (s : Source) (w : World) → IsNumbered w.queue → seat pid w ≡ Some (x, s) → GoesOn tune.preempt_units (suc n) x.mode x.section → is_through tune (suc n) x ≡ false →
-      limit_fault tune (acting x s w.live.objects).level x ≡ None → Seated (MayChange tune.preempt_units n) pid (one_counted pid w).queue
+module _ (tune : Tune) (pid : ℤ) where
+  seated_on : (n : ℕ) (x : Agent) (s : Source) (w : World) → IsNumbered w.queue → seat pid w ≡ Some (x, s) → GoesOn (section_most tune) (suc n) x.mode x.section → is_through tune (suc n) x ≡ false →
+      limit_fault tune (acting x s w.live.objects).level x ≡ None → Seated (MayChange (section_most tune) n) pid (one_counted pid w).queue
   seated_on n x s w numbered at h on_it none =
       let sit = sits pid x s w at in
       let mode : sit.it.mode ≡ x.mode = ap (λ (y : Agent). y.mode) sit.agent in
@@ -188,25 +188,25 @@ module _ (tune : Tune) (pid : ℤ) (small : IsCountable tune) where
         numbered = numbered_changed pid (counted 1) (λ p. refl) w.queue numbered;
         it = counted 1 sit.it;
         found = process_changed pid (counted 1) (λ p. refl) w.queue ∙ ap (option_map (counted 1)) sit.found;
-        holds = subst (λ (m : Mode). suc tune.preempt_units ≤ cond (is_preempt m) (cond (is_preempt m) (more 1 sit.it.section) sit.it.section) 0 + n) (sym mode)
-            (subst (λ c. suc tune.preempt_units ≤ cond (is_preempt x.mode) (cond (is_preempt x.mode) (more 1 c) c) 0 + n) (sym section)
-            (counted_may tune.preempt_units x.section n (is_preempt x.mode) small h
-            (λ e. leb-false tune.preempt_units x.section (within_section (is_preempt x.mode) (nat_le tune.preempt_units x.section) _ none e))
+        holds = subst (λ (m : Mode). suc (section_most tune) ≤ cond (is_preempt m) (cond (is_preempt m) (more 1 sit.it.section) sit.it.section) 0 + n) (sym mode)
+            (subst (λ c. suc (section_most tune) ≤ cond (is_preempt x.mode) (cond (is_preempt x.mode) (more 1 c) c) 0 + n) (sym section)
+            (counted_may tune.preempt_units x.section n (is_preempt x.mode) h
+            (λ e. leb-false (section_most tune) x.section (within_section (is_preempt x.mode) (nat_le (section_most tune) x.section) _ none e))
             (λ e. leb-false (suc n) (suc tune.preempt_units) (not_through (is_preempt x.mode) (nat_le (suc n) (suc tune.preempt_units)) on_it e))));
       }
 
-  turn_leaves : (n : ℕ) (x : Agent) (s : Source) (w : World) → IsNumbered w.queue → seat pid w ≡ Some (x, s) → GoesOn tune.preempt_units (suc n) x.mode x.section → is_through tune (suc n) x ≡ false →
-      (o : Option MufFault) → limit_fault tune (acting x s w.live.objects).level x ≡ o → TurnLeaves tune.preempt_units n pid (turn tune pid x s w)
+  turn_leaves : (n : ℕ) (x : Agent) (s : Source) (w : World) → IsNumbered w.queue → seat pid w ≡ Some (x, s) → GoesOn (section_most tune) (suc n) x.mode x.section → is_through tune (suc n) x ≡ false →
+      (o : Option MufFault) → limit_fault tune (acting x s w.live.objects).level x ≡ o → TurnLeaves (section_most tune) n pid (turn tune pid x s w)
   turn_leaves n x s w numbered at h on_it None e =
-      subst (TurnLeaves tune.preempt_units n pid) (sym (turn_within tune pid x s w e))
-      (unit_leaves tune.preempt_units n pid x s.program.number (unit s) (one_counted pid w) (seated_on n x s w numbered at h on_it e))
+      subst (TurnLeaves (section_most tune) n pid) (sym (turn_within tune pid x s w e))
+      (unit_leaves (section_most tune) n pid x s.program.number (unit s) (one_counted pid w) (seated_on n x s w numbered at h on_it e))
   turn_leaves n x s w numbered at h on_it (Some f) e =
-      subst (TurnLeaves tune.preempt_units n pid) (sym (turn_limit tune pid x s f w e)) (numbered_without pid w.queue numbered)
+      subst (TurnLeaves (section_most tune) n pid) (sym (turn_limit tune pid x s f w e)) (numbered_without pid w.queue numbered)
 
   -- the last unit that is left is one too many
-  last_too_long : (b : Bool) (most section : ℕ) (spent : Bool) → (not b && nat_le 1 (suc most)) ≡ false → (b ≡ true → suc most ≤ section + 1) → cond (b && nat_le most section) (Some PreemptTooLong) (cond spent (Some TooManyUnits) None) ≡ Some PreemptTooLong
-  last_too_long true most section spent h k = cond-true _ _ _ (le-leb most section (let enough = k refl in omega (arith, enough)))
-  last_too_long false most section spent h k = let is : nat_le 1 (suc most) ≡ true = le-leb 1 (suc most) (omega arith) in absurd cc
+  last_too_long : (b : Bool) (all most section : ℕ) (spent : Bool) → (not b && nat_le 1 (suc all)) ≡ false → (b ≡ true → suc most ≤ section + 1) → cond (b && nat_le most section) (Some PreemptTooLong) (cond spent (Some TooManyUnits) None) ≡ Some PreemptTooLong
+  last_too_long true all most section spent h k = cond-true _ _ _ (le-leb most section (let enough = k refl in omega (arith, enough)))
+  last_too_long false all most section spent h k = let is : nat_le 1 (suc all) ≡ true = le-leb 1 (suc all) (omega arith) in absurd cc
 
 -- Numbers rise in each world that units lead to.
 
@@ -247,7 +247,7 @@ stops_on : (pid : ℤ) (v w : World) (t : Taken) (ts : List Taken) → t.turn �
 stops_on pid v w t [] e h = subst (Stops pid) (sym e) h
 stops_on pid v w t (u ∷ ts) e h = stops_any pid v w u ts h
 
-module _ (tune : Tune) (pid : ℤ) (small : IsCountable tune) where
+module _ (tune : Tune) (pid : ℤ) where
   -- so many units are left at most, or the last one is one too many
   abbrev Ends : ℕ → List Taken → Type 0
   Ends n ts = (length ts < n) ⊎ ((length ts ≡ n) × LastTooLong tune pid ts)
@@ -259,7 +259,7 @@ module _ (tune : Tune) (pid : ℤ) (small : IsCountable tune) where
   -- what follows a unit is so, too
   abbrev More : ℕ → Type 0
   More zero = Unit {0}
-  More (suc n) = (v : World) → Fits (GoesOn tune.preempt_units (suc n)) pid v.queue → Wholly (suc n) v (run_of tune (suc n) pid v)
+  More (suc n) = (v : World) → Fits (GoesOn (section_most tune) (suc n)) pid v.queue → Wholly (suc n) v (run_of tune (suc n) pid v)
 
   ends_more : (n : ℕ) (t : Taken) (ts : List Taken) → Ends (suc n) ts → Ends (suc (suc n)) (t ∷ ts)
   ends_more n t ts (inl l) = inl (omega (arith, l))
@@ -267,7 +267,7 @@ module _ (tune : Tune) (pid : ℤ) (small : IsCountable tune) where
   ends_more n t (u ∷ ts) (inr h) = inr (ap suc h.0, h.1)
 
   -- units behind one
-  wholly_more : (n : ℕ) (x : Agent) (s : Source) (w : World) (t : Turn) → turn tune pid x s w ≡ t → TurnLeaves tune.preempt_units (suc n) pid t → ((v : World) → Fits (GoesOn tune.preempt_units (suc n)) pid v.queue → Wholly (suc n) v (run_of tune (suc n) pid v)) →
+  wholly_more : (n : ℕ) (x : Agent) (s : Source) (w : World) (t : Turn) → turn tune pid x s w ≡ t → TurnLeaves (section_most tune) (suc n) pid t → ((v : World) → Fits (GoesOn (section_most tune) (suc n)) pid v.queue → Wholly (suc n) v (run_of tune (suc n) pid v)) →
       Wholly (suc (suc n)) w (unit_of x s w t ∷ then_more (run_of tune (suc n) pid) t)
   wholly_more n x s w (on v) e h more =
       let k = more v h in
@@ -281,20 +281,20 @@ module _ (tune : Tune) (pid : ℤ) (small : IsCountable tune) where
       subst (λ t. Wholly 1 w (unit_of x s w t ∷ then_more more t)) (sym (turn_limit tune pid x s PreemptTooLong w e))
       (record { stops = tt; ends = inr (refl, subst (IsOverlong tune (acting x s w.live.objects).level) (sym at) e) })
 
-  wholly_next : (n : ℕ) (x : Agent) (s : Source) (w : World) → IsNumbered w.queue → seat pid w ≡ Some (x, s) → GoesOn tune.preempt_units (suc n) x.mode x.section → is_through tune (suc n) x ≡ false →
+  wholly_next : (n : ℕ) (x : Agent) (s : Source) (w : World) → IsNumbered w.queue → seat pid w ≡ Some (x, s) → GoesOn (section_most tune) (suc n) x.mode x.section → is_through tune (suc n) x ≡ false →
       More n →
       Wholly (suc n) w (unit_of x s w (turn tune pid x s w) ∷ then_more (run_of tune n pid) (turn tune pid x s w))
   wholly_next zero x s w numbered at h on_it more =
-      wholly_last x s w (run_of tune 0 pid) at (last_too_long tune pid small (is_preempt x.mode) tune.preempt_units x.section _ on_it h)
+      wholly_last x s w (run_of tune 0 pid) at (last_too_long tune pid (is_preempt x.mode) tune.preempt_units (section_most tune) x.section _ on_it h)
   wholly_next (suc n) x s w numbered at h on_it more =
-      wholly_more n x s w (turn tune pid x s w) refl (turn_leaves tune pid small (suc n) x s w numbered at h on_it (limit_fault tune (acting x s w.live.objects).level x) refl) more
+      wholly_more n x s w (turn tune pid x s w) refl (turn_leaves tune pid (suc n) x s w numbered at h on_it (limit_fault tune (acting x s w.live.objects).level x) refl) more
 
   open_preempt : (b c : Bool) → (not b && c) ≡ true → b ≡ false
   open_preempt true c e = absurd cc
   open_preempt false c e = refl
 
   -- the process is seated so, or isn't
-  wholly_from : (n : ℕ) (w : World) (o : Option (Agent × Source)) → IsNumbered w.queue → seat pid w ≡ o → MayGo tune.preempt_units (suc n) pid o →
+  wholly_from : (n : ℕ) (w : World) (o : Option (Agent × Source)) → IsNumbered w.queue → seat pid w ≡ o → MayGo (section_most tune) (suc n) pid o →
       More n →
       Wholly (suc n) w (option_map_or (next_unit tune (suc n) pid w (run_of tune n pid)) o [])
   wholly_from n w None numbered at h more = record { stops = subst IsInterruptible (sym at) tt; ends = inl (omega arith) }
@@ -303,10 +303,10 @@ module _ (tune : Tune) (pid : ℤ) (small : IsCountable tune) where
       (λ e. record { stops = subst IsInterruptible (sym at) (open_preempt (is_preempt x.mode) _ e); ends = inl (omega arith) })
       (λ e. wholly_next n x s w numbered at h e more)
 
-  wholly : (n : ℕ) (w : World) → Fits (GoesOn tune.preempt_units (suc n)) pid w.queue → Wholly (suc n) w (run_of tune (suc n) pid w)
+  wholly : (n : ℕ) (w : World) → Fits (GoesOn (section_most tune) (suc n)) pid w.queue → Wholly (suc n) w (run_of tune (suc n) pid w)
   unfolding run_of
-  wholly zero w h = wholly_from zero w (seat pid w) h.numbered refl (seat_may tune.preempt_units 1 pid w h) tt
-  wholly (suc n) w h = wholly_from (suc n) w (seat pid w) h.numbered refl (seat_may tune.preempt_units (suc (suc n)) pid w h) (wholly n)
+  wholly zero w h = wholly_from zero w (seat pid w) h.numbered refl (seat_may (section_most tune) 1 pid w h) tt
+  wholly (suc n) w h = wholly_from (suc n) w (seat pid w) h.numbered refl (seat_may (section_most tune) (suc (suc n)) pid w h) (wholly n)
 
   ends_most : (n : ℕ) (ts : List Taken) → n ≡ slice_most tune → Ends n ts →
       (length ts ≤ tune.instr_slice + tune.preempt_units) ⊎ ((length ts ≡ tune.instr_slice + tune.preempt_units + 1) × LastTooLong tune pid ts)
@@ -317,15 +317,15 @@ woken_holds : (most left : ℕ) (moment : ℕ) (o : Option Process) → suc most
 woken_holds most left moment None l = tt
 woken_holds most left moment (Some p) l = λ e. omega (arith, l)
 
--- The units of a slice are whole, where the numbers of the processes rise and a section can be counted.
-pub slice_whole : (pid : ℤ) (w : World) → IsNumbered w.queue → IsCountable w.live.board.tune → IsWhole w.live.board.tune pid (awake pid w) (units_of pid w)
-slice_whole pid w numbered small =
+-- The units of a slice are whole, where the numbers of the processes rise.
+pub slice_whole : (pid : ℤ) (w : World) → IsNumbered w.queue → IsWhole w.live.board.tune pid (awake pid w) (units_of pid w)
+slice_whole pid w numbered =
     let tune = w.live.board.tune in
     let n : suc (tune.instr_slice + tune.preempt_units) ≡ slice_most tune = omega arith in
-    let begins : Fits (GoesOn tune.preempt_units (suc (tune.instr_slice + tune.preempt_units))) pid (awake pid w).queue = record {
+    let begins : Fits (GoesOn (section_most tune) (suc (tune.instr_slice + tune.preempt_units))) pid (awake pid w).queue = record {
       numbered = numbered_changed pid (woken w.moment) (woken_number w.moment) w.queue numbered;
-      holds = subst (Holds (GoesOn tune.preempt_units (suc (tune.instr_slice + tune.preempt_units)))) (sym (process_changed pid (woken w.moment) (woken_number w.moment) w.queue))
-          (woken_holds tune.preempt_units (suc (tune.instr_slice + tune.preempt_units)) w.moment (process pid w.queue) (omega arith));
+      holds = subst (Holds (GoesOn (section_most tune) (suc (tune.instr_slice + tune.preempt_units)))) (sym (process_changed pid (woken w.moment) (woken_number w.moment) w.queue))
+          (woken_holds (section_most tune) (suc (tune.instr_slice + tune.preempt_units)) w.moment (process pid w.queue) (omega arith));
     } in
-    let k = subst (λ m. Wholly tune pid small m (awake pid w) (run_of tune m pid (awake pid w))) n (wholly tune pid small (tune.instr_slice + tune.preempt_units) (awake pid w) begins) in
-    record { stops = k.stops; most = ends_most tune pid small (slice_most tune) (units_of pid w) refl k.ends }
+    let k = subst (λ m. Wholly tune pid m (awake pid w) (run_of tune m pid (awake pid w))) n (wholly tune pid (tune.instr_slice + tune.preempt_units) (awake pid w) begins) in
+    record { stops = k.stops; most = ends_most tune pid (slice_most tune) (units_of pid w) refl k.ends }

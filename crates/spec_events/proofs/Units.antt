@@ -23,7 +23,7 @@ use Rattle.muck_queue.proofs.Changed.{changed_twice, process_changed}
 use Rattle.muck_queue.proofs.Standing.{standing_twice, without_standing, standing_same}
 use Rattle.spec_events.specs.declared.starting.Agent.{Agent}
 use Rattle.spec_events.specs.World.{World, on_live, on_queue}
-use Rattle.spec_events.specs.Slices.{acting, program_error, process_done, row_done, queued, deed, stands_at, ended_one, broken, out, one_counted, Turn, on, rest, over, went, after_deed, unit_done, limit_fault, are_spent, units_most, within_limit, turn, world_of, agent_of, seat_of, seat, then_more, is_through, next_unit, run_of, last_world}
+use Rattle.spec_events.specs.Slices.{acting, program_error, process_done, row_done, queued, deed, stands_at, ended_one, broken, out, one_counted, Turn, on, rest, over, went, after_deed, unit_done, section_most, limit_fault, are_spent, units_most, within_limit, turn, world_of, agent_of, seat_of, seat, then_more, is_through, next_unit, run_of, last_world}
 use Rattle.spec_events.specs.Stints.{many_counted, counting, unbroken, unspent, allowed}
 
 -- the world after the units of a process that has so many left
@@ -214,20 +214,20 @@ may_of tune level left m x h =
     let d = min-le_right (unbroken tune left x) (unspent tune level left x) in
     record { by_left = omega (arith, a, h); by_section = omega (arith, b, c, h); by_level = omega (arith, b, d, h) }
 
-through_not : (b : Bool) (most section left : ℕ) → 1 ≤ cond b (most - section) (left - suc most) → (not b && nat_le left (suc most)) ≡ false
-through_not true most section left h = refl
-through_not false most section left h = lt-leb left (suc most) (omega (arith, h))
+through_not : (b : Bool) (all most section left : ℕ) → 1 ≤ cond b (most - section) (left - suc all) → (not b && nat_le left (suc all)) ≡ false
+through_not true all most section left h = refl
+through_not false all most section left h = lt-leb left (suc all) (omega (arith, h))
 
-limit_not : (b : Bool) (most section : ℕ) (spent : Option ℕ) (before left : ℕ) → 1 ≤ cond b (most - section) (left - suc most) → 1 ≤ option_map_or (λ n. n - before) spent left →
+limit_not : (b : Bool) (all most section : ℕ) (spent : Option ℕ) (before left : ℕ) → 1 ≤ cond b (most - section) (left - suc all) → 1 ≤ option_map_or (λ n. n - before) spent left →
     cond (b && nat_le most section) (Some PreemptTooLong) (cond (are_spent spent before) (Some TooManyUnits) None) ≡ None
-limit_not true most section None before left h k = cond-false _ _ _ (lt-leb most section (omega (arith, h)))
-limit_not true most section (Some n) before left h k = cond-false _ _ _ (lt-leb most section (omega (arith, h))) ∙ cond-false _ _ _ (lt-leb n before (omega (arith, k)))
-limit_not false most section None before left h k = refl
-limit_not false most section (Some n) before left h k = cond-false _ _ _ (lt-leb n before (omega (arith, k)))
+limit_not true all most section None before left h k = cond-false _ _ _ (lt-leb most section (omega (arith, h)))
+limit_not true all most section (Some n) before left h k = cond-false _ _ _ (lt-leb most section (omega (arith, h))) ∙ cond-false _ _ _ (lt-leb n before (omega (arith, k)))
+limit_not false all most section None before left h k = refl
+limit_not false all most section (Some n) before left h k = cond-false _ _ _ (lt-leb n before (omega (arith, k)))
 
-unbroken_less : (b : Bool) (most section left m : ℕ) → suc m ≤ cond b (most - section) (suc left - suc most) → m ≤ cond b (most - cond b (more 1 section) section) (left - suc most)
-unbroken_less true most section left m h = omega (arith, h)
-unbroken_less false most section left m h = omega (arith, h)
+unbroken_less : (b : Bool) (all most section left m : ℕ) → suc m ≤ cond b (most - section) (suc left - suc all) → m ≤ cond b (most - cond b (more 1 section) section) (left - suc all)
+unbroken_less true all most section left m h = omega (arith, h)
+unbroken_less false all most section left m h = omega (arith, h)
 
 unspent_less : (spent : Option ℕ) (before left m : ℕ) → suc m ≤ option_map_or (λ n. n - before) spent (suc left) → m ≤ option_map_or (λ n. n - more 1 before) spent left
 unspent_less None before left m h = omega (arith, h)
@@ -237,7 +237,7 @@ unspent_less (Some n) before left m h = omega (arith, h)
 may_less : (tune : Tune) (level left m : ℕ) (x : Agent) → May tune level (suc left) (suc m) x → May tune level left m (counting 1 x)
 may_less tune level left m x h = record {
   by_left = omega (arith, h.by_left);
-  by_section = unbroken_less (is_preempt x.mode) tune.preempt_units x.section left m h.by_section;
+  by_section = unbroken_less (is_preempt x.mode) tune.preempt_units (section_most tune) x.section left m h.by_section;
   by_level = unspent_less (units_most tune level) x.units left m h.by_level;
 }
 
@@ -245,11 +245,11 @@ some_of : (m k : ℕ) → suc m ≤ k → 1 ≤ k
 some_of m k h = omega (arith, h)
 
 may_through : (tune : Tune) (level left m : ℕ) (x : Agent) → May tune level left (suc m) x → is_through tune left x ≡ false
-may_through tune level left m x h = through_not (is_preempt x.mode) tune.preempt_units x.section left (some_of m _ h.by_section)
+may_through tune level left m x h = through_not (is_preempt x.mode) tune.preempt_units (section_most tune) x.section left (some_of m _ h.by_section)
 
 may_within : (tune : Tune) (level left m : ℕ) (x : Agent) → May tune level left (suc m) x → limit_fault tune level x ≡ None
 may_within tune level left m x h =
-    limit_not (is_preempt x.mode) tune.preempt_units x.section (units_most tune level) x.units left (some_of m _ h.by_section) (some_of m _ h.by_level)
+    limit_not (is_preempt x.mode) tune.preempt_units (section_most tune) x.section (units_most tune level) x.units left (some_of m _ h.by_section) (some_of m _ h.by_level)
 
 -- the level of a process that is in these programs, the running one first
 abbrev level_in : List Entry → List Program → ℕ
@@ -325,25 +325,25 @@ is_spent (Some n) before left some h = le-leb n before (omega (arith, h))
 
 -- which of the two limits it is
 abbrev pub limit_met : Tune → Agent → MufFault
-limit_met tune x = cond (is_preempt x.mode && nat_le tune.preempt_units x.section) PreemptTooLong TooManyUnits
+limit_met tune x = cond (is_preempt x.mode && nat_le (section_most tune) x.section) PreemptTooLong TooManyUnits
 
 met_by : (b c : Bool) → (c ≡ false → b ≡ true) → cond c (Some PreemptTooLong) (cond b (Some TooManyUnits) None) ≡ Some (cond c PreemptTooLong TooManyUnits)
 met_by b true h = refl
 met_by b false h = cond-true _ _ _ (h refl)
 
 -- some could be taken by the section and by the slice
-clear_by : (b : Bool) (most section left : ℕ) → (not b && nat_le left (suc most)) ≡ false → (b && nat_le most section) ≡ false → 0 < cond b (most - section) (left - suc most)
-clear_by true most section left h k = let less = leb-false most section k in omega (arith, less)
-clear_by false most section left h k = let less = leb-false left (suc most) h in omega (arith, less)
+clear_by : (b : Bool) (all most section left : ℕ) → (not b && nat_le left (suc all)) ≡ false → (b && nat_le most section) ≡ false → 0 < cond b (most - section) (left - suc all)
+clear_by true all most section left h k = let less = leb-false most section k in omega (arith, less)
+clear_by false all most section left h k = let less = leb-false left (suc all) h in omega (arith, less)
 
 none_of_three : (a b c : ℕ) → 0 < a → 0 < b → min a (min b c) ≡ 0 → c ≡ 0
 none_of_three a b c h k e = omega (arith, h, k, e)
 
 pub allowed_none : (tune : Tune) (level left : ℕ) (x : Agent) → 0 < left → is_through tune left x ≡ false → allowed tune level left x ≡ 0 → limit_fault tune level x ≡ Some (limit_met tune x)
 allowed_none tune level left x some on_it none =
-    met_by (are_spent (units_most tune level) x.units) (is_preempt x.mode && nat_le tune.preempt_units x.section) (λ e.
+    met_by (are_spent (units_most tune level) x.units) (is_preempt x.mode && nat_le (section_most tune) x.section) (λ e.
     is_spent (units_most tune level) x.units left some
-    (none_of_three left (unbroken tune left x) (unspent tune level left x) some (clear_by (is_preempt x.mode) tune.preempt_units x.section left on_it e) none))
+    (none_of_three left (unbroken tune left x) (unspent tune level left x) some (clear_by (is_preempt x.mode) tune.preempt_units (section_most tune) x.section left on_it e) none))
 
 -- so the process ends by that
 pub finish_met : (tune : Tune) (pid : ℤ) (left : ℕ) (x : Agent) (s : Source) (w : World) → seat pid w ≡ Some (x, s) → 0 < left → is_through tune left x ≡ false → allowed tune (acting x s w.live.objects).level left x ≡ 0 →

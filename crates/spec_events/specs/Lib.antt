@@ -10,4 +10,6 @@ pub mod Endings
 pub mod Licences
 pub mod Histories
 pub mod Sound
+pub mod Passwords
 pub mod Rows
+pub mod LineRows

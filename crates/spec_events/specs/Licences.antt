@@ -16,7 +16,7 @@ use Rattle.spec_events.specs.declared.starting.Agent.{Agent}
 use Rattle.spec_events.specs.World.{World, connection}
 use Rattle.muck_queue.specs.Queues.{reader}
 use Rattle.spec_events.specs.Slices.{Taken, acting, after_unit, awake, last_world, seat, units_of}
-use Rattle.spec_events.specs.Sections.{IsCountable, IsWhole}
+use Rattle.spec_events.specs.Sections.{IsWhole}
 use Rattle.spec_events.specs.Endings.{ProcessesLicensed, NoProcess, MayEnd, EndsIn, EndsReading}
 
 -- no object changes, and nothing that is tuned
@@ -69,7 +69,7 @@ pub record SliceLicensed (pid : ℤ) (ts : List Taken) (w v : World) : Type 0 wh
   pub chained : Chained pid (awake pid w) ts
   pub leads : v.live ≡ (last_world (awake pid w) ts).live
   pub processes : v.queue.processes ≡ (last_world (awake pid w) ts).queue.processes
-  pub whole : IsCountable w.live.board.tune → IsWhole w.live.board.tune pid (awake pid w) ts
+  pub whole : IsWhole w.live.board.tune pid (awake pid w) ts
 
 abbrev pub TurnLicensed : ℕ → Option Connection → World → World → Type 0
 TurnLicensed d (Some c) w v = LineLicensed d (reader d w.queue) c.player c.editor c.waiting w v

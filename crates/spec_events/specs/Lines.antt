@@ -1,5 +1,5 @@
 -- A line that is done.
-use Rattle.std.specs.Prelude.{ℕ, ℤ, Bool, if◌then◌else◌, List, [], ◌∷◌, ◌++◌, map, codes, decimal, Option, Some, None, Result, Ok, Err}
+use Rattle.std.specs.Prelude.{ℕ, ℤ, Bool, true, if◌then◌else◌, List, [], ◌∷◌, ◌++◌, map, codes, decimal, Option, Some, None, Result, Ok, Err}
 use Rattle.std.specs.Option.{option_map_or}
 use Rattle.std.specs.Str.{bytes_eq}
 use Rattle.std.specs.Char.{to_ascii_lowercase}
@@ -9,20 +9,25 @@ use Rattle.spec_live.specs.Objects.{object_at}
 use Rattle.spec_live.specs.Connections.{Connection}
 use Rattle.spec_live.specs.Boards.{edited_one}
 use Rattle.spec_live.specs.Lives.{Live, Change, on_board, tell, leave}
+use Rattle.spec_rights.specs.declared.act.Actor.{Actor}
+use Rattle.spec_rights.specs.Changing.{tuned}
 use Rattle.muf_model.specs.Tree.{Tree}
 use Rattle.muck_library.specs.declared.flaw.Flaw.{Flaw}
 use Rattle.muck_library.specs.Programs.{built_tree}
 use Rattle.muck_library.specs.Library.{form_kept, form_dropped}
-use Rattle.muck_queue.specs.Queues.{reader, on_process, told_line, without}
+use Rattle.muck_queue.specs.Queues.{Queue, reader, on_process, told_line, without}
 use Rattle.spec_commands.specs.declared.outcome.Outcome.{Outcome}
-use Rattle.spec_commands.specs.declared.outcome.Outcome.TheVariants.{Start, Leave, Edit}
+use Rattle.spec_commands.specs.declared.outcome.Outcome.TheVariants.{Done, NotMine, Start, Edit, Leave, Dump, Stop, Retune}
 use Rattle.spec_commands.specs.declared.edit.EditStep.{EditStep}
 use Rattle.spec_commands.specs.declared.edit.EditStep.TheVariants.{Compile, Left}
 use Rattle.spec_commands.specs.Finding.{actor_of}
-use Rattle.spec_commands.specs.Commands.{played}
+use Rattle.spec_commands.specs.Replies.{huh}
+use Rattle.spec_commands.specs.Going.{Play, ended}
+use Rattle.spec_commands.specs.Commands.{or_else, played}
 use Rattle.spec_commands.specs.Editing.{editor_exited, is_open, edited}
 use Rattle.spec_commands.specs.Talk.{at_login, waits}
-use Rattle.spec_events.specs.World.{World, on_live, on_queue, with_library}
+use Rattle.spec_admin.specs.Lines.{admin_line, after_line}
+use Rattle.spec_events.specs.World.{World, asked_by, on_live, on_queue, on_dumps, with_library}
 use Rattle.spec_events.specs.Following.{settled}
 use Rattle.spec_events.specs.Starting.{launched}
 
@@ -67,6 +72,23 @@ in_editor d player s line w = if is_open s w.live then edited_line d player s li
 
 -- Commands.
 
+-- by a line that is neither a player's nor a builder's: what is none of a keeper's either is told so
+unfoldable pub by_keeper : Queue → ℕ → Actor → List ℕ → Play
+by_keeper q d a line = or_else (admin_line q d a line) (ended Done (tell d huh))
+
+-- a line of a player, while these are the processes
+unfoldable pub typed : Queue → ℕ → Actor → List ℕ → Play
+typed q d a line = or_else (played d a line) (by_keeper q d a line)
+
+-- a keeper's line may end a process
+abbrev pub ended_behind : Actor → List ℕ → Queue → Live × Outcome → Queue
+ended_behind a line q (w, NotMine) = after_line a line w q
+ended_behind a line q (w, outcome) = q
+
+-- the processes behind a line
+unfoldable pub left_by : ℕ → Actor → List ℕ → Live → Queue → Queue
+left_by d a line w q = ended_behind a line q (played d a line w)
+
 -- an editor that is opened on a program has its source
 abbrev pub editor_on : Dbref → Live → EditState
 editor_on program w = record { program = program; lines = option_map_or (λ o. o.lines) (object_at program w.objects) []; inserting = None }
@@ -77,13 +99,17 @@ followed_up d player Leave w = on_live (leave d) w
 followed_up d player (Edit program) w = on_live (λ v. with_editor d (Some (editor_on program v)) v) w
 followed_up d player (Start program trigger command arg) w =
     launched d (actor_of w.live.objects player) (record { player = player; program = program; trigger = trigger; command = command; argument = arg }) w
+followed_up d player Dump w = on_dumps (asked_by d) w
+followed_up d player Stop w = record w { stopping = true }
+followed_up d player (Retune tune) w = on_live (tuned tune) w
 followed_up d player outcome w = w
 
--- a command of a player, what follows from the objects that it changed, and what is to follow it
+-- a line of a player, what follows from the objects that it changed, and what is to follow it
 unfoldable pub in_world : ℕ → Dbref → List ℕ → World → World
 in_world d player line w =
-    let r = played d (actor_of w.live.objects player) line w.live in
-    followed_up d player r.1 (settled (record w { live = r.0 }))
+    let a = actor_of w.live.objects player in
+    let r = typed w.queue d a line w.live in
+    followed_up d player r.1 (settled (record w { live = r.0; queue = left_by d a line w.live w.queue }))
 
 -- Lines go to the login screen, to the editor that is open, or are commands. An editor is taken from its connection for
 -- its line.

@@ -8,10 +8,6 @@ use Rattle.spec_events.specs.declared.starting.Agent.{Agent}
 use Rattle.spec_events.specs.World.{World}
 use Rattle.spec_events.specs.Slices.{Taken, Turn, on, rest, over, limit_fault, seat}
 
--- the units of a section can be counted, as those of each number of 32 bits can
-abbrev pub IsCountable : Tune → Type 0
-IsCountable tune = tune.preempt_units ≤ 18446744073709551615
-
 -- a process that is seated so isn't in preempt
 abbrev pub IsInterruptible : Option (Agent × Source) → Type 0
 IsInterruptible None = Unit {0}

@@ -28,7 +28,7 @@ use Rattle.muck_library.specs.Library.{Library, formed}
 use Rattle.muck_queue.specs.declared.mode.Mode.TheVariants.{Background}
 use Rattle.muck_queue.specs.declared.mode.Wait.TheVariants.{Nothing}
 use Rattle.muck_queue.specs.declared.process.Process.{Process}
-use Rattle.muck_queue.specs.Queues.{process, on_process, standing, without, counted, woken, is_preempt}
+use Rattle.muck_queue.specs.Queues.{process, on_process, standing, without, counted, woken, more, is_preempt}
 use Rattle.spec_processes.specs.declared.place.Place.{Place}
 use Rattle.spec_processes.specs.ProcessRows.{Effect, gives as effect_gives, waits, forks, enters, starts, refuses as effect_refuses, processed, is_process, later}
 use Rattle.spec_events.specs.declared.starting.Agent.{Agent}
@@ -226,10 +226,14 @@ units_most tune level = if nat_lt level 2 then Some tune.m1_units else (if nat_l
 abbrev pub are_spent : Option ℕ → ℕ → Bool
 are_spent most units = option_map_or (λ n. nat_le n units) most false
 
+-- the most units of a section, as far as such counts go
+abbrev pub section_most : Tune → ℕ
+section_most tune = more 0 tune.preempt_units
+
 -- the fault of a unit that would be one too many, for its section or else for its level
 abbrev pub limit_fault : Tune → ℕ → Agent → Option MufFault
 limit_fault tune level x =
-    if is_preempt x.mode && nat_le tune.preempt_units x.section then Some PreemptTooLong
+    if is_preempt x.mode && nat_le (section_most tune) x.section then Some PreemptTooLong
     else (if are_spent (units_most tune level) x.units then Some TooManyUnits else None)
 
 abbrev pub within_limit : Option MufFault → ℤ → Agent → Source → World → Turn

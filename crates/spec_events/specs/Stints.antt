@@ -5,7 +5,7 @@ use Rattle.muck_model.specs.declared.tune.Tune.{Tune}
 use Rattle.muck_queue.specs.Queues.{on_process, counted, more, is_preempt}
 use Rattle.spec_events.specs.declared.starting.Agent.{Agent}
 use Rattle.spec_events.specs.World.{World, on_queue}
-use Rattle.spec_events.specs.Slices.{units_most}
+use Rattle.spec_events.specs.Slices.{section_most, units_most}
 
 -- it took so many units more
 abbrev pub many_counted : ℕ → ℤ → World → World
@@ -17,7 +17,7 @@ counting n x = record x { units = more n x.units; section = if is_preempt x.mode
 
 -- the units that a process takes before its section is too long, or its slice is through
 abbrev pub unbroken : Tune → ℕ → Agent → ℕ
-unbroken tune left x = if is_preempt x.mode then tune.preempt_units - x.section else left - suc tune.preempt_units
+unbroken tune left x = if is_preempt x.mode then section_most tune - x.section else left - suc tune.preempt_units
 
 -- those that its level leaves it, which are all that are left where there is no limit
 abbrev pub unspent : Tune → ℕ → ℕ → Agent → ℕ

@@ -1,7 +1,7 @@
 -- The world as a value.
-use Rattle.std.specs.Prelude.{ℕ, Bool, false, not, ◌==◌, List, [], Option, None}
+use Rattle.std.specs.Prelude.{ℕ, Bool, false, not, ◌==◌, List, [], ◌∷◌, ◌++◌, Option, Some, None}
 use Rattle.std.specs.List.{filter}
-use Rattle.std.specs.Option.{option_map}
+use Rattle.std.specs.Option.{option_map, option_map_or}
 use Rattle.muck_model.specs.declared.tune.Tune.{Tune}
 use Rattle.spec_live.specs.Objects.{Entry}
 use Rattle.spec_live.specs.Start.{first_objects}
@@ -36,6 +36,10 @@ no_dumps moment = record { running = None; asked = None; last = moment }
 -- all of them but the connection d
 abbrev pub others_than : ℕ → List ℕ → List ℕ
 others_than d askers = filter (λ n. not (n == d)) askers
+
+-- the connection d asks for the next dump, once for all its lines that do
+abbrev pub asked_by : ℕ → Dumps → Dumps
+asked_by d dumps = record dumps { asked = Some (option_map_or (others_than d) dumps.asked [] ++ d ∷ []) }
 
 -- the connection d has gone, and nothing of a dump is shown to it any more
 abbrev pub unasked : ℕ → Dumps → Dumps

@@ -13,7 +13,7 @@ use muck_model::{Dbref, NoMemory};
 use muck_perm::Guard;
 
 impl State {
-    /// A connection goes, and the processes that are tied to it end.
+    /// A connection goes, the processes that are tied to it end, and it asks for no dump any more.
     #[tactic(auto, unfolding(spec_commands::specs::Talk::gone_away, spec_live::specs::Lives::followed, spec_live::specs::Lives::reading))]
     pub fn close(&mut self, d: u32) -> Result<(), NoMemory>
         ensures { OnOk result (self.new ≡ happened self.old 0 (Event.Closed d)) }
@@ -22,6 +22,7 @@ impl State {
         self.board.close(d);
         self.part(player)?;
         self.queue.end_tied(d);
+        self.dumps.forget(d);
         Ok(())
     }
 

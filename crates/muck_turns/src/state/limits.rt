@@ -1,6 +1,6 @@
 // How many units a process may take.
 ghost use Rattle.std.specs.Prelude.{◌≡◌, ◌≤◌, ◌<◌, true, false, IfNone, Option};
-ghost use Rattle.spec_events.specs.Slices.{are_spent, is_through, limit_fault, units_most};
+ghost use Rattle.spec_events.specs.Slices.{are_spent, is_through, limit_fault, section_most, units_most};
 ghost use Rattle.spec_events.specs.Stints.{allowed, unbroken, unspent};
 ghost use Rattle.muck_turns.specs.Limits.{Allows};
 
@@ -39,11 +39,18 @@ fn is_through(tune: &Tune, agent: &Agent, left: u64) -> bool
     !agent.mode.is_preempt() && left <= u64::from(tune.preempt_units) + 1
 }
 
+// The most units of a section.
+fn section_most(tune: &Tune) -> u64
+    ensures { result ≡ section_most tune.now }
+{
+    u64::from(tune.preempt_units)
+}
+
 // The fault of a unit that would be one too many, for its section or else for its level.
 fn limit_fault(tune: &Tune, level: u8, agent: &Agent) -> Option<MufFault>
     ensures { result ≡ limit_fault tune.now level agent.now }
 {
-    if agent.mode.is_preempt() && agent.section >= u64::from(tune.preempt_units) {
+    if agent.mode.is_preempt() && agent.section >= section_most(tune) {
         return Some(MufFault::PreemptTooLong);
     }
     if are_spent(units_most(tune, level), agent.units) {
@@ -86,7 +93,7 @@ fn unbroken(tune: &Tune, agent: &Agent, left: u64) -> u64
     ensures { result ≡ unbroken tune.now left agent.now }
 {
     if agent.mode.is_preempt() {
-        u64::from(tune.preempt_units).saturating_sub(agent.section)
+        section_most(tune).saturating_sub(agent.section)
     } else {
         left.saturating_sub(u64::from(tune.preempt_units) + 1)
     }

@@ -4,8 +4,7 @@ ghost use Rattle.muck_model.specs.declared.event.Event.{Event};
 ghost use Rattle.muck_queue.specs.Queues.{reader};
 ghost use Rattle.spec_live.specs.Boards.{editor_in};
 ghost use Rattle.spec_commands.specs.Finding.{actor_of};
-ghost use Rattle.spec_commands.specs.Commands.{played};
-ghost use Rattle.spec_events.specs.Lines.{command, followed_up, given_line, in_world, is_abort, line_for, with_editor, editor_on};
+ghost use Rattle.spec_events.specs.Lines.{command, typed, left_by, followed_up, given_line, in_world, is_abort, line_for, with_editor, editor_on};
 ghost use Rattle.spec_events.specs.Steps.{happened};
 ghost use Rattle.spec_events.specs.World.{on_live};
 
@@ -76,17 +75,17 @@ impl State {
 
     // Does the line, and answers what is to follow.
     fn play(&mut self, d: u32, player: Dbref, line: &Line) -> Result<Outcome, NoMemory>
-        ensures world { OnOk result (self.new ≡ record self.old { live = (played d (actor_of self.old.live.objects player) line.now self.old.live).0 }) }
-        ensures outcome { IfOk result (λ outcome. outcome ≡ (played d (actor_of self.old.live.objects player) line.now self.old.live).1) }
+        ensures world { OnOk result (self.new ≡ record self.old { live = (typed self.old.queue d (actor_of self.old.live.objects player) line.now self.old.live).0; queue = left_by d (actor_of self.old.live.objects player) line.now self.old.live self.old.queue }) }
+        ensures outcome { IfOk result (λ outcome. outcome ≡ (typed self.old.queue d (actor_of self.old.live.objects player) line.now self.old.live).1) }
     {
         let actor = actor_of(&self.db, player);
         let mut guard = Guard::new(self.alloc, &mut self.db, &mut self.board, actor);
-        let outcome = play(&mut guard, d, line)?;
+        let outcome = play(&mut guard, &mut self.queue, d, line)?;
         Ok(outcome)
     }
 
     // Does what is to follow a command.
-    #[tactic(auto, unfolding(spec_live::specs::Lives::leave))]
+    #[tactic(auto, unfolding(spec_live::specs::Lives::leave, spec_rights::specs::Changing::tuned, spec_live::specs::Boards::tuned))]
     fn follow_up(&mut self, d: u32, player: Dbref, outcome: Outcome) -> Result<(), NoMemory>
         ensures { OnOk result (self.new ≡ followed_up d player outcome self.old) }
     {
@@ -112,8 +111,16 @@ impl State {
                 };
                 self.launch(d, actor, call)
             }
-            Outcome::Done | Outcome::NotMine | Outcome::Dump | Outcome::Stop | Outcome::Retune(_) =>
-                Ok(()),
+            Outcome::Dump => self.dumps.ask(self.alloc, d),
+            Outcome::Stop => {
+                self.stopping = true;
+                Ok(())
+            }
+            Outcome::Retune(tune) => {
+                self.board.set_tune(tune);
+                Ok(())
+            }
+            Outcome::Done | Outcome::NotMine => Ok(()),
         }
     }
 

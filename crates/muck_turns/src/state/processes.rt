@@ -12,7 +12,7 @@ ghost use Rattle.spec_processes.specs.ProcessRows.{processed};
 ghost use Rattle.spec_events.specs.declared.starting.Agent.{Agent};
 ghost use Rattle.spec_events.specs.Starting.{joined};
 ghost use Rattle.spec_events.specs.Slices.{behind, child_of, forked, place_in, process_done, queued};
-ghost use Rattle.muck_turns.specs.Deeds.{child_number, queued_call, DoneAs, ProcessAppliedTo};
+ghost use Rattle.muck_turns.specs.Deeds.{Bears, child_number, queued_call, DoneAs, ProcessAppliedTo};
 
 use crate::state::State;
 use crate::state::deeds::{DeedFault, Done, behind, passed};
@@ -106,14 +106,27 @@ impl State {
         requires { is_some (process pid self.old.queue) ≡ true }
         ensures { IfOk result (λ next. (s : Source) (stack : List Datum) → running ≡ behind stack s → length stack < 1024 → DoneAs (forked pid stack s self.old) s self.new (Done.Does next)) }
     {
-        let Some(parent) = self.queue.get(pid) else {
-            unreachable!()
-        };
-        let child = child_of(self.alloc, self.moment, parent, &running)?;
-        let number = self.join_child(child)?;
+        let number = self.bear(pid, &running)?;
         let mut next = running;
         next.hand(Value::Int(number));
         Ok(next)
+    }
+
+    // A child of a process at that state joins the processes; answers its number, and -1 where there is no room for it. That is
+    // asked first, since a child is a copy of the whole state.
+    fn bear(&mut self, pid: i32, running: &Running) -> Result<i32, NoMemory>
+        requires { is_some (process pid self.old.queue) ≡ true }
+        ensures { IfOk result (λ n. Bears (process pid self.old.queue) running.now self.old self.new n) }
+    {
+        let Some(parent) = self.queue.get(pid) else {
+            unreachable!()
+        };
+        let tune = self.board.tune();
+        if self.queue.is_full(parent.player, &tune) {
+            return Ok(-1);
+        }
+        let child = child_of(self.alloc, self.moment, parent, running)?;
+        self.join_child(child)
     }
 
     // A child joins the processes; answers its number, and -1 where there is no room for it.

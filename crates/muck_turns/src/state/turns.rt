@@ -57,14 +57,11 @@ impl State {
         self.queue.next_due(self.moment).is_some() && !self.stopping
     }
 
-    // Whether so many seconds passed since the last dump began that another is due.
+    // Whether a dump is asked, or so many seconds passed since the last one began that another is due.
     fn is_dump_due(&self) -> bool
         ensures { result ≡ is_dump_due self.now }
     {
-        let interval = u64::from(self.board.tune().dump_interval);
-        match self.moment.checked_sub(self.dumped) {
-            Some(passed) => passed >= interval,
-            None => false,
-        }
+        let interval = self.board.tune().dump_interval;
+        self.dumps.is_due(self.moment, interval)
     }
 }

@@ -6,7 +6,7 @@ use Rattle.muck_queue.specs.Queues.{oldest_event, on_process, resting, without_e
 use Rattle.muck_queue.specs.inner.Events.{shown}
 use Rattle.prim_proc.specs.declared.after.After.TheVariants.{Go, Wait}
 use Rattle.prim_proc.specs.Applied.{HasStack}
-use Rattle.prim_proc.specs.Plans.{GivenOf}
+use Rattle.prim_proc.specs.inner.Plans.{GivenOf}
 use Rattle.prim_proc.proofs.Planned.{first_event, no_event, none_taken}
 use Rattle.prim_proc.proofs.Room.{room_steps}
 use Rattle.prim_proc.proofs.carrying.receive.Goals as goal

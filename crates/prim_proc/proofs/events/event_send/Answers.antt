@@ -6,8 +6,8 @@ use Rattle.muf_model.specs.View.{view}
 use Rattle.muf_frame.specs.Shown.{flat}
 use Rattle.muck_queue.specs.Queues.{process, on_process, told_event, events_most}
 use Rattle.spec_processes.specs.ProcessRows.{gives, refuses, event_name, event_data}
-use Rattle.prim_proc.specs.Sending.{DataMade}
-use Rattle.prim_proc.specs.Taken.{sent_in}
+use Rattle.prim_proc.specs.inner.Sending.{DataMade}
+use Rattle.prim_proc.specs.inner.Taken.{sent_in}
 use Rattle.prim_proc.proofs.Taking.{event_send_at}
 use Rattle.prim_proc.proofs.Sendings.{sent_light, few_events, unmade}
 use Rattle.prim_proc.proofs.events.event_send.Goals as goal

@@ -2,8 +2,8 @@ use Rattle.std.proofs.Common.{rules, ◌≡◌, Some, None, sym, ap, ◌∙◌, 
 use Rattle.muf_frame.specs.Answers.{text_at}
 use Rattle.muf_frame.specs.Shown.{flat}
 use Rattle.muck_perm.specs.Guards.{world_of}
-use Rattle.prim_proc.specs.Plans.{Plans}
-use Rattle.prim_proc.specs.Taken.{entering_at}
+use Rattle.prim_proc.specs.inner.Plans.{Plans}
+use Rattle.prim_proc.specs.inner.Taken.{entering_at}
 use Rattle.prim_proc.proofs.Taking.{call_bare, call_named}
 use Rattle.prim_proc.proofs.rows.call.Goals as goal
 

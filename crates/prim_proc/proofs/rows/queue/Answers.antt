@@ -2,8 +2,8 @@ use Rattle.std.proofs.Common.{rules, ◌≡◌, Some, w32, to_z, of_z, sym, ap, 
 use Rattle.muf_frame.specs.Shown.{flat}
 use Rattle.muck_perm.specs.Guards.{world_of}
 use Rattle.spec_processes.specs.ProcessRows.{starting}
-use Rattle.prim_proc.specs.Plans.{Plans}
-use Rattle.prim_proc.specs.Taken.{started_in}
+use Rattle.prim_proc.specs.inner.Plans.{Plans}
+use Rattle.prim_proc.specs.inner.Taken.{started_in}
 use Rattle.prim_proc.proofs.Taking.{queue_at}
 use Rattle.prim_proc.proofs.rows.queue.Goals as goal
 

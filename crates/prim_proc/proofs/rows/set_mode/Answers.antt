@@ -2,7 +2,7 @@ use Rattle.std.proofs.Common.{rules, ◌≡◌, Some, w32, to_z, of_z, sym, ap, 
 use Rattle.muf_frame.specs.Answers.{int_at}
 use Rattle.muf_frame.specs.Shown.{flat}
 use Rattle.spec_processes.specs.ProcessRows.{mode_set}
-use Rattle.prim_proc.specs.Plans.{Plans}
+use Rattle.prim_proc.specs.inner.Plans.{Plans}
 use Rattle.prim_proc.proofs.Taking.{set_mode_at}
 use Rattle.prim_proc.proofs.rows.set_mode.Goals as goal
 

@@ -5,7 +5,7 @@ use Rattle.muf_frame.specs.declared.fault.PrimFault.TheVariants.{Fault}
 use Rattle.muf_frame.specs.Shown.{flat, locked_by}
 use Rattle.muck_perm.specs.Guards.{world_of}
 use Rattle.muck_queue.specs.Queues.{process}
-use Rattle.prim_proc.specs.Plans.{items_of}
+use Rattle.prim_proc.specs.inner.Plans.{items_of}
 use Rattle.prim_proc.proofs.Begun.{Started, alone, refused_so, untested_so, unplanned_so, unroomed_so, carried_so, all_taken, there_so}
 use Rattle.prim_proc.proofs.table.apply.Goals as goal
 

@@ -3,7 +3,7 @@ use Rattle.muf_model.specs.declared.prims.Primitive.TheVariants as prim
 use Rattle.muf_frame.specs.Shown.{flat}
 use Rattle.muck_perm.specs.Guards.{world_of}
 use Rattle.spec_processes.specs.ProcessRows.{process_row}
-use Rattle.prim_proc.specs.Plans.{fact_row}
+use Rattle.prim_proc.specs.inner.Plans.{fact_row}
 use Rattle.prim_proc.specs.declared.plan.Plan.TheVariants.{Receive}
 use Rattle.prim_proc.proofs.Missing.{other_row}
 use Rattle.prim_proc.proofs.Planned.{by_prim, by_row, oldest_own}

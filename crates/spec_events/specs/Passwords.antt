@@ -1,0 +1,42 @@
+-- That a connection has its player by the player's password.
+use Rattle.std.specs.Prelude.{◌≡◌, ◌⊎◌, ℕ, if◌then◌else◌, List, [], ◌∷◌, codes, Option, Some, None}
+use Rattle.std.specs.Option.{option_map}
+use Rattle.muck_model.specs.declared.dbref.Dbref.{Dbref}
+use Rattle.muck_model.specs.declared.event.Entry.{Entry}
+use Rattle.muck_model.specs.declared.event.Event.TheVariants.{Exec, Closed}
+use Rattle.spec_live.specs.Boards.{player_in}
+use Rattle.spec_commands.specs.Texts.{first_word, other_words, trimmed, is_alike}
+use Rattle.spec_commands.specs.Talk.{proved}
+use Rattle.spec_events.specs.World.{World, connection}
+use Rattle.spec_events.specs.Steps.{effect}
+use Rattle.spec_events.specs.Histories.{after}
+
+-- the name and the password that `connect NAME PASSWORD` gives
+unfoldable pub credentials : List ℕ → Option (List ℕ × List ℕ)
+credentials line =
+    let rest = trimmed (other_words (trimmed line)) in
+    if is_alike (first_word (trimmed line)) (codes "connect") then Some (first_word rest, trimmed (other_words rest)) else None
+
+-- the first line that waits on the connection d gives the name of the player, and a password whose digest the player has
+pub record Proves (d : ℕ) (player : Dbref) (w : World) : Type 0 where
+  pub line : List ℕ
+  pub lines : List (List ℕ)
+  pub waits : option_map (λ c. c.waiting) (connection d w) ≡ Some (line ∷ lines)
+  pub name : List ℕ
+  pub password : List ℕ
+  pub gives : credentials line ≡ Some (name, password)
+  pub proves : proved name password w.live.objects ≡ Some player
+
+-- d closes in none of these entries
+abbrev pub Stays : ℕ → List Entry → Type 0
+Stays d [] = Unit {0}
+Stays d (entry ∷ entries) = (entry.event ≡ Closed d → ⊥) × Stays d entries
+
+-- in one of these entries, the first of them in the world w, d does a line that proves it to be that player; and it hasn't closed since
+abbrev pub IsKnown : World → List Entry → ℕ → Dbref → Type 0
+IsKnown w [] d player = ⊥
+IsKnown w (entry ∷ entries) d player = ((entry.event ≡ Exec d) × Proves d player w × Stays d entries) ⊎ IsKnown (effect w entry) entries d player
+
+-- each connection that has a player after these entries has proved to be that player
+abbrev pub AllKnown : World → List Entry → Type 0
+AllKnown w entries = (d : ℕ) (player : Dbref) → player_in d (after w entries).live.board ≡ Some player → IsKnown w entries d player
