@@ -2,6 +2,7 @@
 use Rattle.std.specs.Prelude.{◌≡◌, true, List, [], ◌∷◌, ◌++◌}
 use Rattle.muck_model.specs.declared.event.Entry.{Entry}
 use Rattle.muck_model.specs.declared.event.Event.{Event}
+use Rattle.muck_model.specs.declared.note.Note.{Note}
 use Rattle.spec_events.specs.World.{World}
 use Rattle.spec_events.specs.Steps.{Step, is_lawful, effect}
 use Rattle.spec_events.specs.Licences.{EventLicensed}
@@ -26,10 +27,11 @@ abbrev pub AllLicensed : World → List Entry → Type 0
 AllLicensed w [] = Unit {0}
 AllLicensed w (entry ∷ entries) = EventLicensed entry.event w (effect w entry) × AllLicensed (effect w entry) entries
 
--- a history: how the world began, and what happened since
+-- a history: how the world began, what happened since, and the notes of the disks that stand between
 pub record History : Type 0 where
   pub start : World
   pub entries : List Entry
+  pub notes : List Note
 
 -- the world as it is now
 unfoldable pub now : History → World
@@ -39,10 +41,15 @@ now h = after h.start h.entries
 abbrev pub entered : History → Entry → History
 entered h entry = record h { entries = h.entries ++ entry ∷ [] }
 
--- k is the history h, and then these entries
+-- and then this note
+abbrev pub noted : History → Note → History
+noted h note = record h { notes = h.notes ++ note ∷ [] }
+
+-- k is the history h, and then these entries, without a note between them
 pub record Grew (h k : History) (es : List Entry) : Type 0 where
   pub start : k.start ≡ h.start
   pub entries : k.entries ≡ h.entries ++ es
+  pub notes : k.notes ≡ h.notes
 
 -- an event of the party that does everything in a run of a script
 abbrev pub by_porter : Event → Entry

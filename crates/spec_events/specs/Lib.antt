@@ -5,6 +5,7 @@ pub mod Slices
 pub mod Stints
 pub mod Sections
 pub mod Lines
+pub mod Dumping
 pub mod Steps
 pub mod Endings
 pub mod Licences

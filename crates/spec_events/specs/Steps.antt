@@ -4,14 +4,15 @@ use Rattle.std.specs.Option.{option_map, option_map_or}
 use Rattle.std.specs.List.{list_any}
 use Rattle.muck_model.specs.declared.event.Entry.{Entry}
 use Rattle.muck_model.specs.declared.event.Event.{Event}
-use Rattle.muck_model.specs.declared.event.Event.TheVariants.{Opened, Input, Closed, Moment, Exec, Claim, Slice, Lost, Idle, Take, Halt, Died}
+use Rattle.muck_model.specs.declared.event.Event.TheVariants.{Opened, Input, Closed, Moment, Exec, Claim, Slice, Lost, Idle, Take, Cut, Stored, DumpFailed, Halt, Died}
 use Rattle.spec_live.specs.Connections.{Connection, is_ready, connections_most, takes_line, holds}
 use Rattle.spec_live.specs.Boards.{opened, line_added, bytes_taken}
 use Rattle.spec_live.specs.Lives.{on_board}
 use Rattle.muck_queue.specs.declared.process.Process.{Process}
 use Rattle.muck_queue.specs.Queues.{has_pid, process, is_due, is_on, next_due, claimed, released, is_busy, ended_tied}
 use Rattle.spec_commands.specs.Talk.{welcome, gone_away}
-use Rattle.spec_events.specs.World.{World, connection, unasked, on_live, on_queue, on_dumps}
+use Rattle.spec_events.specs.World.{World, connection, unasked, begun, over, askers_of, runs_dump, on_live, on_queue, on_dumps}
+use Rattle.spec_events.specs.Dumping.{dump_stored, dump_failed, told_each}
 use Rattle.spec_events.specs.Lines.{done}
 use Rattle.spec_events.specs.Slices.{sliced}
 
@@ -52,6 +53,15 @@ is_dump_due w = is_some w.dumps.asked || nat_le (w.dumps.last + w.live.board.tun
 abbrev pub may_idle : World → ℕ → Bool
 may_idle w party = if nat_lt party 9 then not (has_line w) && not (has_due w) else party == 9 && not (is_dump_due w)
 
+-- the porter and the dumper make dumps
+abbrev pub makes_dumps : ℕ → Bool
+makes_dumps party = party == 0 || party == 9
+
+-- One dump runs at a time. The porter makes the dumps of a script, and the last one, when it will; the dumper makes one where it
+-- is asked or due.
+abbrev pub may_cut : World → ℕ → Bool
+may_cut w party = makes_dumps party && is_none w.dumps.running && (party == 0 || is_dump_due w)
+
 -- Lawful in a world that isn't dead. Connections and what runs over them are the first party's alone, and so is the end of
 -- the run; lines and processes are any party's. Events that nothing uses yet are lawful nowhere.
 abbrev pub is_allowed : World → ℕ → Event → Bool
@@ -65,6 +75,9 @@ is_allowed w party (Slice pid) = has_claim party pid w && is_there pid w
 is_allowed w party (Lost pid) = has_claim party pid w && not (is_there pid w)
 is_allowed w party Idle = may_idle w party
 is_allowed w party (Take d n) = party == 0 && nat_lt 0 n && passes (holds n) d w
+is_allowed w party (Cut k) = may_cut w party
+is_allowed w party (Stored k) = makes_dumps party && runs_dump k w.dumps
+is_allowed w party (DumpFailed k) = makes_dumps party && runs_dump k w.dumps
 is_allowed w party Halt = party == 0
 is_allowed w party Died = true
 is_allowed w party event = false
@@ -77,7 +90,7 @@ is_died event = false
 unfoldable pub is_lawful : World → Entry → Bool
 is_lawful w entry = if w.dead then is_died entry.event else is_allowed w entry.party entry.event
 
--- The world after an event of a party. A claim lasts until its party has taken the slice, or has learned that the process ended.
+-- The world after an event of a party. Who asked for a dump is told what came of it. A claim lasts until its party has taken the slice, or has learned that the process ended.
 abbrev pub happened : World → ℕ → Event → World
 happened w party (Opened d) = on_live (on_board (opened d welcome)) w
 happened w party (Input d line) = on_live (on_board (line_added d line)) w
@@ -88,6 +101,9 @@ happened w party (Claim pid) = on_queue (claimed pid party) w
 happened w party (Slice pid) = on_queue (released pid) (sliced pid w)
 happened w party (Lost pid) = on_queue (released pid) w
 happened w party (Take d n) = on_live (on_board (bytes_taken d n)) w
+happened w party (Cut k) = on_dumps (begun k w.moment) w
+happened w party (Stored k) = on_dumps over (on_live (told_each (askers_of w.dumps) (dump_stored k)) w)
+happened w party (DumpFailed k) = on_dumps over (on_live (told_each (askers_of w.dumps) dump_failed) w)
 happened w party Halt = record w { stopping = true }
 happened w party Died = record w { dead = true }
 happened w party event = w

@@ -45,6 +45,22 @@ asked_by d dumps = record dumps { asked = Some (option_map_or (others_than d) du
 abbrev pub unasked : ℕ → Dumps → Dumps
 unasked d dumps = record dumps { running = option_map (λ r. (r.0, others_than d r.1)) dumps.running; asked = option_map (others_than d) dumps.asked }
 
+-- the dump k begins at this moment: those that ask now ask for it
+abbrev pub begun : ℕ → ℕ → Dumps → Dumps
+begun k moment dumps = record { running = Some (k, option_map_or (λ askers. askers) dumps.asked []); asked = None; last = moment }
+
+-- the dump that ran is over
+abbrev pub over : Dumps → Dumps
+over dumps = record dumps { running = None }
+
+-- who asked for the dump that runs
+abbrev pub askers_of : Dumps → List ℕ
+askers_of dumps = option_map_or (λ r. r.1) dumps.running []
+
+-- the dump that runs has this number
+abbrev pub runs_dump : ℕ → Dumps → Bool
+runs_dump k dumps = option_map_or (λ r. r.0 == k) dumps.running false
+
 -- The world of these objects at this moment, in which nobody is connected, no program is built and nothing runs, and
 -- whose random numbers begin so.
 unfoldable pub booted : List Entry → Tune → ℕ → ℕ → World

@@ -1,0 +1,2 @@
+//! The stored form of the objects of a world, and whether stored forms make a world that hangs together.
+#![tactic(auto)]
