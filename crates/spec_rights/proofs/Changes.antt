@@ -63,8 +63,8 @@ rows_lined R same x lines h es n = rows_number R same x (λ o. record o { lines 
 pub stay_objects : (j : Judge) (w v : Live) → v.board ≡ w.board → ((n : ℕ) → Row (Kept j (dbref_of n)) (object_at (dbref_of n) w.objects) (object_at (dbref_of n) v.objects)) → SameLists j w.objects v.objects → TellsLines j w.objects v.objects → Stay j w v
 stay_objects j w v b rows lists marks =
     let T : Board → Type 0 = λ t. SameTies j.actor w.board.connections t.connections in
-    let U : Board → Type 0 = λ t. Open (λ tune. is_master j.actor) w.board.tune t.tune in
-    record { rows = rows; lists = lists; marks = marks; ties = subst T (sym b) (ties_itself j.actor w.board.connections); tune = subst U (sym b) (inl refl) }
+    let U : Board → Type 0 = λ t. t.tune ≡ w.board.tune in
+    record { rows = rows; lists = lists; marks = marks; ties = subst T (sym b) (ties_itself j.actor w.board.connections); tune = subst U (sym b) refl }
 
 pub differs_row : (j : Judge) (x : Dbref) (o p : Option Object) → Row (Changed j x) o p → Differs j x o p
 differs_row j x None None r = r
@@ -75,8 +75,8 @@ differs_row j x (Some o) (Some p) r = r
 pub end_objects : (j : Judge) (w v : Live) → v.board ≡ w.board → ((n : ℕ) → Differs j (dbref_of n) (object_at (dbref_of n) w.objects) (object_at (dbref_of n) v.objects)) → SameLists j w.objects v.objects → SameMarks j w.objects v.objects → End j w v
 end_objects j w v b rows lists marks =
     let T : Board → Type 0 = λ t. SameTies j.actor w.board.connections t.connections in
-    let U : Board → Type 0 = λ t. Open (λ tune. is_master j.actor) w.board.tune t.tune in
-    record { rows = rows; lists = lists; marks = marks; ties = subst T (sym b) (ties_itself j.actor w.board.connections); tune = subst U (sym b) (inl refl) }
+    let U : Board → Type 0 = λ t. t.tune ≡ w.board.tune in
+    record { rows = rows; lists = lists; marks = marks; ties = subst T (sym b) (ties_itself j.actor w.board.connections); tune = subst U (sym b) refl }
 
 -- the lists of all are as they were
 lists_number : (j : Judge) (g : ℕ → List Entry → List Entry) (es : List Entry) → ((m : ℕ) (v : Bool) (k : ℕ) → list_in v (g m es) k ≡ list_in v es k) → (q : Option ℕ) → SameLists j es (option_map_or (λ m. g m es) q es)

@@ -1,11 +1,10 @@
--- Connections that leave, and what is tuned.
+-- Connections that leave.
 use Rattle.std.proofs.Common.{◌≡◌, ℕ, Bool, true, false, cond, List, [], ◌∷◌, refl, ◌∙◌, ap, Some, None, inl, inr}
 use Rattle.std.proofs.lemmas.Bool.{or_left, or_right}
 use Rattle.muck_model.proofs.Dbrefs.{same_eq}
 use Rattle.std.specs.Prelude.{map, find}
 use Rattle.std.specs.Option.{option_and_then, option_map_or}
 use Rattle.muck_model.specs.declared.dbref.Dbref.{Dbref}
-use Rattle.muck_model.specs.declared.tune.Tune.{Tune}
 use Rattle.spec_live.specs.Objects.{Entry, dbref_of, same, object_at}
 use Rattle.spec_live.specs.Connections.{Connection, has_number, changed_in, is_of, left}
 use Rattle.spec_live.specs.Boards.{leaving_one}
@@ -13,7 +12,7 @@ use Rattle.spec_live.specs.Lives.{Live, leave}
 use Rattle.spec_rights.specs.declared.act.Actor.{Actor}
 use Rattle.spec_rights.specs.declared.act.Act.TheVariants.{Shared, Wizard}
 use Rattle.spec_rights.specs.Verdict.{is_master}
-use Rattle.spec_rights.specs.Changing.{booted, tuned}
+use Rattle.spec_rights.specs.Changing.{booted}
 use Rattle.spec_rights.specs.Licence.{Freedom, Open, SameTies, leave_open}
 use Rattle.spec_rights.proofs.Lookups.{row_same}
 use Rattle.spec_rights.proofs.Listing.{lists_itself}
@@ -45,6 +44,7 @@ whole_leave a d free given = whole_by _ (λ w c h. record {
     tune = inl refl;
   };
   marks = marks_itself (judge a (free w.objects) w.objects) w.objects;
+  tune = refl;
 })
 
 ties_master : (a : Actor) (d : ℕ) (cs : List Connection) → is_master a ≡ true → SameTies a cs (changed_in d left cs)
@@ -63,7 +63,7 @@ stays_left a free d = stays_by _ (λ start w s g. record {
   lists = lists_itself (judge a free start) w.objects;
   marks = λ n. inl refl;
   ties = ties_master a d w.board.connections (master_allowed w.objects a g);
-  tune = inl refl;
+  tune = refl;
 })
 
 boot_one : (a : Actor) (b : Bool) (c : Connection) → is_master a ≡ true → Open (λ (leaving : Bool). leave_open a c) c.leaving (cond b (left c) c).leaving
@@ -89,15 +89,5 @@ stays_booted a free player = stays_by _ (λ start w s g. record {
   lists = lists_itself (judge a free start) w.objects;
   marks = λ n. inl refl;
   ties = ties_booted a player w.board.connections (wizard_allowed w.objects a g);
-  tune = inl refl;
-})
-
-pub stays_tuned : (a : Actor) (free : Freedom) (tune : Tune) → Stays a free (Some Wizard) (tuned tune)
-unfolding tuned
-stays_tuned a free tune = stays_by _ (λ start w s g. record {
-  rows = λ n. row_same _ (kept_same (judge a free start) (dbref_of n)) (object_at (dbref_of n) w.objects);
-  lists = lists_itself (judge a free start) w.objects;
-  marks = λ n. inl refl;
-  ties = ties_itself a w.board.connections;
-  tune = inr (wizard_allowed w.objects a g);
+  tune = refl;
 })

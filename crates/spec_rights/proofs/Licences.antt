@@ -180,7 +180,7 @@ pub record Stay (j : Judge) (w v : Live) : Type 0 where
   pub lists : SameLists j w.objects v.objects
   pub marks : TellsLines j w.objects v.objects
   pub ties : SameTies j.actor w.board.connections v.board.connections
-  pub tune : Open (λ tune. is_master j.actor) w.board.tune v.board.tune
+  pub tune : v.board.tune ≡ w.board.tune
 
 -- Worlds that differ as is open.
 pub record End (j : Judge) (w v : Live) : Type 0 where
@@ -188,7 +188,7 @@ pub record End (j : Judge) (w v : Live) : Type 0 where
   pub lists : SameLists j w.objects v.objects
   pub marks : SameMarks j w.objects v.objects
   pub ties : SameTies j.actor w.board.connections v.board.connections
-  pub tune : Open (λ tune. is_master j.actor) w.board.tune v.board.tune
+  pub tune : v.board.tune ≡ w.board.tune
 
 stay_itself : (j : Judge) (w : Live) → Stay j w w
 stay_itself j w = record {
@@ -196,7 +196,7 @@ stay_itself j w = record {
   lists = lists_itself j w.objects;
   marks = λ n. inl refl;
   ties = ties_itself j.actor w.board.connections;
-  tune = inl refl;
+  tune = refl;
 }
 
 pub stay_both : (j : Judge) (u v w : Live) → Stay j u v → Stay j v w → Stay j u w
@@ -205,7 +205,7 @@ stay_both j u v w s t = record {
   lists = lists_both j (λ n. Kept j (dbref_of n)) u.objects v.objects w.objects s.rows s.lists t.lists;
   marks = λ n. open_both (λ mark. lines_open j (dbref_of n)) _ _ _ (s.marks n) (t.marks n);
   ties = ties_both j.actor _ _ _ s.ties t.ties;
-  tune = open_both (λ tune. is_master j.actor) _ _ _ s.tune t.tune;
+  tune = t.tune ∙ s.tune;
 }
 
 -- what only shows may follow
@@ -215,7 +215,7 @@ stay_quietly j u v w t q = record {
   lists = subst (SameLists j u.objects) (sym q.objects) t.lists;
   marks = subst (TellsLines j u.objects) (sym q.objects) t.marks;
   ties = ties_both j.actor _ _ _ t.ties (ties_same j.actor v.board.connections w.board.connections q.ties);
-  tune = open_both (λ tune. is_master j.actor) _ _ _ t.tune (inl q.tune);
+  tune = q.tune ∙ t.tune;
 }
 
 pub end_quietly : (j : Judge) (u v w : Live) → End j u v → Shows v w → End j u w
@@ -224,7 +224,7 @@ end_quietly j u v w t q = record {
   lists = subst (SameLists j u.objects) (sym q.objects) t.lists;
   marks = subst (SameMarks j u.objects) (sym q.objects) t.marks;
   ties = ties_both j.actor _ _ _ t.ties (ties_same j.actor v.board.connections w.board.connections q.ties);
-  tune = open_both (λ tune. is_master j.actor) _ _ _ t.tune (inl q.tune);
+  tune = q.tune ∙ t.tune;
 }
 
 row_rights : (j : Judge) (x : Dbref) (o p : Option Object) → Row (Kept j x) o p → option_map rights o ≡ option_map rights p
@@ -279,10 +279,11 @@ abbrev pub Own : Option ℕ → Live → Actor → Type 0
 Own None w a = Unit {0}
 Own (Some d) w a = player_in d w.board ≡ Some a.player
 
--- it is licensed, and so is what is to be told
+-- it is licensed, and so is what is to be told; and nothing is tuned
 pub record Proper (a : Actor) (free : Freedom) (w v : Live) : Type 0 where
   pub licensed : Licensed a free w v
   pub marks : SameMarks (judge a free w.objects) w.objects v.objects
+  pub tune : v.board.tune ≡ w.board.tune
 
 -- keeps to the licence from a world of which something is given, at a connection of the actor's or none; what is free
 -- is judged there
@@ -374,7 +375,7 @@ ends_followed out a free given f g p q = keeps_after f g (λ w v y s t. record {
         lists = lists_both (judge a free start) (λ n. Kept (judge a free start) (dbref_of n)) _ _ _ first.rows first.lists next.lists;
         marks = marks_both (judge a free start) _ _ _ first.marks next.marks;
         ties = ties_both a _ _ _ first.ties next.ties;
-        tune = open_both (λ tune. is_master a) _ _ _ first.tune next.tune;
+        tune = next.tune ∙ first.tune;
       };
 }) p q
 
@@ -395,7 +396,7 @@ own_kept (Some d) w v a e c = player_kept d w.board.connections v.board.connecti
 pub whole_ends : {Y : Type 0} (out : Y → Live) (a : Actor) (own : Option ℕ) (free : List Entry → Freedom) (given : Live → Type 0) (f : Live → Y) → ((w : Live) → given w → Ends out a (free w.objects) None f) → Whole out a own free given f
 whole_ends out a own free given f p = whole_by f (λ w c h.
     let t = ((p w h).law w).law w.objects (same_itself w.objects) tt in
-    record { licensed = record { gone = None; recycled = λ x e. absurd (cc); vanished = λ x e. absurd (cc); objects = t.rows; lists = t.lists; connections = t.ties; tune = t.tune }; marks = t.marks })
+    record { licensed = record { gone = None; recycled = λ x e. absurd (cc); vanished = λ x e. absurd (cc); objects = t.rows; lists = t.lists; connections = t.ties; tune = inl t.tune }; marks = t.marks; tune = t.tune })
 
 pub whole_quiet : (a : Actor) (own : Option ℕ) (free : List Entry → Freedom) (given : Live → Type 0) (f : Change) → Quiet f → Whole itself a own free given f
 whole_quiet a own free given f q = whole_ends itself a own free given f (λ w h. ends_quiet a (free w.objects) None f q)
@@ -422,6 +423,7 @@ whole_followed out a own free given f g q p = keeps_after f g (λ w v y s t. rec
             tune = open_both (λ tune. is_master a) _ _ _ (inl s.tune) l.tune;
           };
           marks = subst M s.objects p.marks;
+          tune = p.tune ∙ s.tune;
         }
 
 -- and what only shows may come last
@@ -443,6 +445,7 @@ whole_quietly a own free given f g p q = keeps_after f g (λ w v u s t. record {
           tune = open_both (λ tune. is_master a) _ _ _ l.tune (inl t.tune);
         };
         marks = subst (SameMarks (judge a (free w.objects) w.objects) w.objects) (sym t.objects) p.marks;
+        tune = t.tune ∙ p.tune;
       };
 }) p q
 

@@ -425,6 +425,7 @@ nothing_recycled a free w = record {
     tune = inl refl;
   };
   marks = marks_itself (judge a free w.objects) w.objects;
+  tune = refl;
 }
   where
     same_differs : (n : ℕ) (q : Option Object) → Differs (judge a free w.objects) (dbref_of n) q q
@@ -468,6 +469,7 @@ there a free x w h d e t =
         tune = inl refl;
       };
       marks = marks_recycled (judge a free w.objects) d w.objects;
+      tune = refl;
     }
 
 -- an object is recycled where the check passes
