@@ -18,7 +18,7 @@ use Rattle.spec_dumps.proofs.Lists.{got_on}
 
 -- each note stands before an entry, or at the start
 abbrev pub ArePlaced : List Entry → List Note → Type 0
-ArePlaced h notes = (i place : ℕ) → place_of_note notes i ≡ Some place → (place ≡ 0) ⊎ (place < length h)
+ArePlaced h notes = (i place : ℕ) → place_of_note notes i ≡ Some place → ((i ≡ 0) × (place ≡ 0)) ⊎ (place < length h)
 
 pub stands_on : (test : Event → Bool) (h more : List Entry) (place : ℕ) → place < length h → stands_at test (h ++ more) place ≡ stands_at test h place
 stands_on test h more place less = ap (λ o. option_map_or (λ (e : Entry). test e.event) o false) (got_on h more place less)
@@ -60,7 +60,7 @@ front_on w mounted h more notes n s placed f = record {
   number = f.number ∙ sym (number_on mounted h more f.count f.short);
   noted = f.noted;
   acknowledged = λ i place low at stored. elim (placed i place at) [
-    | inl z ↦ (let none = last_cut_first (h ++ more) place z in omega (arith, none))
+    | inl z ↦ (let none = last_cut_first (h ++ more) place z.1 in omega (arith, none))
     | inr less ↦ (
       let known = f.acknowledged i place low at (sym (stands_on is_stored h more place less) ∙ stored) in
       let front : last_cut (take place (h ++ more)) ≡ last_cut (take place h) = ap last_cut (take-append-le place h more (omega (arith, less))) in
