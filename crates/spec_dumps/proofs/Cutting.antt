@@ -31,7 +31,7 @@ module _ {D : Type 0} (seen : D → List ℕ) (moment : D → ℕ) (images : D �
       safe = record {
         survives = survives_noted moment images f s h.start mounted h.entries h.notes e note here behind some v.safe.survives
             (λ c d left_c left_d. loads_by h.start h.start mounted h.entries (h.entries ++ e ∷ []) h.notes (h.notes ++ note ∷ []) v.last (length h.notes) (stored c d) next
-              (loads_now moment images f s h.start mounted h.entries h.notes v.last v.note v.is v.end v.safe.survives c d left_c left_d));
+            (loads_now moment images f s h.start mounted h.entries h.notes v.last v.note v.is v.end v.safe.survives c d left_c left_d));
         caused = caused_noted moment images f s h.start mounted h.entries h.notes e note here behind some v.safe.survives.placed v.safe.caused why;
         deltas = deltas_noted moment images f s h.start mounted h.entries h.notes e note here behind some v.safe.survives.placed v.safe.deltas
             (λ n c d at stores left_c left_d. absurd (no stores));
@@ -43,10 +43,13 @@ module _ {D : Type 0} (seen : D → List ℕ) (moment : D → ℕ) (images : D �
     where
       some : 0 < length h.notes
       some = omega (arith, v.end)
+
       no : is_stored e.event ≡ true → ⊥
       no is = let so = other in cc
+
       next : (x : Chosen) → IsFront h.start mounted h.entries h.notes v.last x → IsFront h.start mounted (h.entries ++ e ∷ []) (h.notes ++ note ∷ []) (length h.notes) x
       next x p = front_next moment images f s h.start mounted h.entries h.notes e note here behind some v.last x v.safe.survives.placed (sym v.end) other p
+
       usable : (l : Option LogState) → IsUsable seen moment images l f s h.start mounted h.entries h.notes v.last → IsUsable seen moment images l f s h.start mounted (h.entries ++ e ∷ []) (h.notes ++ note ∷ []) (length h.notes)
       usable None u = tt
       usable (Some l) u = (u.0, u.1, next l.chosen u.2)

@@ -62,10 +62,10 @@ front_on w mounted h more notes n s placed f = record {
   acknowledged = λ i place low at stored. elim (placed i place at) [
     | inl z ↦ (let none = last_cut_first (h ++ more) place z.1 in omega (arith, none))
     | inr less ↦ (
-      let known = f.acknowledged i place low at (sym (stands_on is_stored h more place less) ∙ stored) in
-      let front : last_cut (take place (h ++ more)) ≡ last_cut (take place h) = ap last_cut (take-append-le place h more (omega (arith, less))) in
-      omega (arith, known, front)
-    )
+        let known = f.acknowledged i place low at (sym (stands_on is_stored h more place less) ∙ stored) in
+        let front : last_cut (take place (h ++ more)) ≡ last_cut (take place h) = ap last_cut (take-append-le place h more (omega (arith, less))) in
+        omega (arith, known, front)
+        )
   ];
 }
   where

@@ -22,12 +22,12 @@ pub until_on : (clock : Note → ℕ) (notes : List Note) (note : Note) (n now :
 until_on clock notes note n now is less = elim (cases_lt (suc n) (length notes)) [
   | inl before ↦ ap (λ o. option_map_or clock o now) (got_on notes (note ∷ []) (suc n) before)
   | inr over ↦ (
-    let end : suc n ≡ length notes = omega (arith, less, over) in
-    ap (λ i. option_map_or clock (slice_get (notes ++ note ∷ []) i) now) end
-    ∙ ap (λ o. option_map_or clock o now) (got_last notes note)
-    ∙ is
-    ∙ sym (ap (λ o. option_map_or clock o now) (slice_get_past notes (suc n) over))
-  )
+      let end : suc n ≡ length notes = omega (arith, less, over) in
+      ap (λ i. option_map_or clock (slice_get (notes ++ note ∷ []) i) now) end
+      ∙ ap (λ o. option_map_or clock o now) (got_last notes note)
+      ∙ is
+      ∙ sym (ap (λ o. option_map_or clock o now) (slice_get_past notes (suc n) over))
+      )
 ]
 
 -- and that of the last one lasts until now
@@ -39,9 +39,9 @@ pub which : (notes : List Note) (note x : Note) (n : ℕ) → slice_get (notes +
 which notes note x n is = elim (cases_lt n (length notes)) [
   | inl less ↦ inl (less, sym (got_on notes (note ∷ []) n less) ∙ is)
   | inr over ↦ (
-    let end : n ≡ length notes = omega (arith, over, slice_get_within (notes ++ note ∷ []) n x is, length_last notes note) in
-    inr (end, same x (sym is ∙ ap (λ i. slice_get (notes ++ note ∷ []) i) end ∙ got_last notes note))
-  )
+      let end : n ≡ length notes = omega (arith, over, slice_get_within (notes ++ note ∷ []) n x is, length_last notes note) in
+      inr (end, same x (sym is ∙ ap (λ i. slice_get (notes ++ note ∷ []) i) end ∙ got_last notes note))
+      )
 ]
   where
     same : (x : Note) → Some x ≡ Some note → x ≡ note
@@ -51,6 +51,7 @@ place_which : (notes : List Note) (note : Note) (i place : ℕ) → place_of_not
 place_which notes note i place e = at (slice_get (notes ++ note ∷ []) i) refl e where
   same : (x : Note) (p : ℕ) → x ≡ note → Some x.entries ≡ Some p → p ≡ note.entries
   same x p is e = cc
+
   at : (o : Option Note) → slice_get (notes ++ note ∷ []) i ≡ o → option_map (λ (x : Note). x.entries) o ≡ Some place → ((i < length notes) × (place_of_note notes i ≡ Some place)) ⊎ ((i ≡ length notes) × (place ≡ note.entries))
   at None is e = cc
   at (Some x) is e = elim (which notes note x i is) [
@@ -97,13 +98,13 @@ module _ {D : Type 0} (moment : D → ℕ) (images : D → ℕ → List ℕ → 
   noted_noted : AllNoted h notes → AllNoted (h ++ e ∷ []) (notes ++ note ∷ [])
   noted_noted all place at = elim (cases_lt place (length h)) [
     | inl less ↦ (
-      let known = all place (sym (stands_on is_dump h (e ∷ []) place less) ∙ at) in
-      (known.0, known.1, place_on notes (note ∷ []) known.0 (within known.0 place known.2) ∙ known.2)
-    )
+        let known = all place (sym (stands_on is_dump h (e ∷ []) place less) ∙ at) in
+        (known.0, known.1, place_on notes (note ∷ []) known.0 (within known.0 place known.2) ∙ known.2)
+        )
     | inr over ↦ (
-      let end : place ≡ length h = omega (arith, over, stands_within is_dump (h ++ e ∷ []) place at, length_last h e) in
-      (length notes, some, ap (λ o. option_map (λ (y : Note). y.entries) o) (got_last notes note) ∙ ap Some (behind ∙ sym end))
-    )
+        let end : place ≡ length h = omega (arith, over, stands_within is_dump (h ++ e ∷ []) place at, length_last h e) in
+        (length notes, some, ap (λ o. option_map (λ (y : Note). y.entries) o) (got_last notes note) ∙ ap Some (behind ∙ sym end))
+        )
   ]
     where
       within : (i place : ℕ) → place_of_note notes i ≡ Some place → i < length notes
@@ -117,20 +118,20 @@ module _ {D : Type 0} (moment : D → ℕ) (images : D → ℕ → List ℕ → 
       | inl p ↦ loads_by w w mounted h (h ++ e ∷ []) notes (notes ++ note ∷ []) n n (stored c d) (λ y. front_noted n y v.placed p.0)
           (v.each n x t u c d p.1 t_low (omega (arith, t_high, until_on (λ (y : Note). y.first_moment) notes note n (moment f) here.0 p.0)) u_low (omega (arith, u_high, until_on (λ (y : Note). y.second_moment) notes note n (moment s) here.1 p.0)) left_c left_d)
       | inr p ↦ (
-        let first_high : t ≤ moment f = omega (arith, t_high, ap (λ i. until (λ (y : Note). y.first_moment) (notes ++ note ∷ []) i (moment f)) p.0, until_last (λ (y : Note). y.first_moment) notes note (moment f)) in
-        let second_high : u ≤ moment s = omega (arith, u_high, ap (λ i. until (λ (y : Note). y.second_moment) (notes ++ note ∷ []) i (moment s)) p.0, until_last (λ (y : Note). y.second_moment) notes note (moment s)) in
-        let t_is : t ≡ moment f = omega (arith, t_low, first_high, ap (λ (y : Note). y.first_moment) p.1, here.0) in
-        let u_is : u ≡ moment s = omega (arith, u_low, second_high, ap (λ (y : Note). y.second_moment) p.1, here.1) in
-        subst (λ i. Loads w mounted (h ++ e ∷ []) (notes ++ note ∷ []) i (stored c d)) (sym p.0) (now c d (subst (λ i. images f i c) t_is left_c) (subst (λ i. images s i d) u_is left_d))
-      )
+          let first_high : t ≤ moment f = omega (arith, t_high, ap (λ i. until (λ (y : Note). y.first_moment) (notes ++ note ∷ []) i (moment f)) p.0, until_last (λ (y : Note). y.first_moment) notes note (moment f)) in
+          let second_high : u ≤ moment s = omega (arith, u_high, ap (λ i. until (λ (y : Note). y.second_moment) (notes ++ note ∷ []) i (moment s)) p.0, until_last (λ (y : Note). y.second_moment) notes note (moment s)) in
+          let t_is : t ≡ moment f = omega (arith, t_low, first_high, ap (λ (y : Note). y.first_moment) p.1, here.0) in
+          let u_is : u ≡ moment s = omega (arith, u_low, second_high, ap (λ (y : Note). y.second_moment) p.1, here.1) in
+          subst (λ i. Loads w mounted (h ++ e ∷ []) (notes ++ note ∷ []) i (stored c d)) (sym p.0) (now c d (subst (λ i. images f i c) t_is left_c) (subst (λ i. images s i d) u_is left_d))
+          )
     ];
     rises = λ n x is. elim (which notes note x n is) [
       | inl p ↦ (
-        let known = v.rises n x p.1 in (
-          omega (arith, known.0, until_on (λ (y : Note). y.first_moment) notes note n (moment f) here.0 p.0),
-          omega (arith, known.1, until_on (λ (y : Note). y.second_moment) notes note n (moment s) here.1 p.0),
-        )
-      )
+          let known = v.rises n x p.1 in (
+            omega (arith, known.0, until_on (λ (y : Note). y.first_moment) notes note n (moment f) here.0 p.0),
+            omega (arith, known.1, until_on (λ (y : Note). y.second_moment) notes note n (moment s) here.1 p.0),
+          )
+          )
       | inr p ↦ (
         omega (arith, here.0, ap (λ (y : Note). y.first_moment) p.1, ap (λ i. until (λ (y : Note). y.first_moment) (notes ++ note ∷ []) i (moment f)) p.0, until_last (λ (y : Note). y.first_moment) notes note (moment f)),
         omega (arith, here.1, ap (λ (y : Note). y.second_moment) p.1, ap (λ i. until (λ (y : Note). y.second_moment) (notes ++ note ∷ []) i (moment s)) p.0, until_last (λ (y : Note). y.second_moment) notes note (moment s)),
@@ -150,16 +151,16 @@ module _ {D : Type 0} (moment : D → ℕ) (images : D → ℕ → List ℕ → 
   caused_noted placed v why n x before is earlier at = elim (which notes note x (suc (suc n)) is) [
     | inl p ↦ old p.0 p.1
     | inr p ↦ (
-      let early : n < length notes = omega (arith, p.0) in
-      let known = why n before p.0 (sym (got_on notes (note ∷ []) n early) ∙ earlier) (sym (stands_last is_failed h e x.entries (ap (λ (y : Note). y.entries) p.1 ∙ behind)) ∙ at) in
-      subst (λ y. HasCause w mounted (h ++ e ∷ []) (notes ++ note ∷ []) n y before) (sym p.1) known
-    )
+        let early : n < length notes = omega (arith, p.0) in
+        let known = why n before p.0 (sym (got_on notes (note ∷ []) n early) ∙ earlier) (sym (stands_last is_failed h e x.entries (ap (λ (y : Note). y.entries) p.1 ∙ behind)) ∙ at) in
+        subst (λ y. HasCause w mounted (h ++ e ∷ []) (notes ++ note ∷ []) n y before) (sym p.1) known
+        )
   ]
     where
       old : suc (suc n) < length notes → slice_get notes (suc (suc n)) ≡ Some x → HasCause w mounted (h ++ e ∷ []) (notes ++ note ∷ []) n x before
       old less there =
           let placed_x = placed (suc (suc n)) x.entries (ap (λ o. option_map (λ (y : Note). y.entries) o) there) in
-          let within : x.entries < length h = elim placed_x [ | inl z ↦ absurd (omega (arith, z.0)) | inr yes ↦ yes ] in
+          let within : x.entries < length h = elim placed_x [ inl z ↦ absurd (omega (arith, z.0)) | inr yes ↦ yes ] in
           let known = v n x before there (sym (got_on notes (note ∷ []) n (omega (arith, less))) ∙ earlier) (sym (stands_on is_failed h (e ∷ []) x.entries within) ∙ at) in
           let front : take x.entries (h ++ e ∷ []) ≡ take x.entries h = take-append-le x.entries h (e ∷ []) (omega (arith, within)) in
           record {
@@ -171,22 +172,22 @@ module _ {D : Type 0} (moment : D → ℕ) (images : D → ℕ → List ℕ → 
 
   pub deltas_noted : ArePlaced h notes → AllDeltas images f s w mounted h notes →
       ((n : ℕ) (c d : List ℕ) → suc n ≡ length notes → is_stored e.event ≡ true → images f (moment f) c → images s (moment s) d →
-        (x : Chosen) × IsFront w mounted (h ++ e ∷ []) (notes ++ note ∷ []) n x × (stored c d ≡ Ok (dumped_on x (after w (take (length h) (h ++ e ∷ [])))))) →
+      (x : Chosen) × IsFront w mounted (h ++ e ∷ []) (notes ++ note ∷ []) n x × (stored c d ≡ Ok (dumped_on x (after w (take (length h) (h ++ e ∷ [])))))) →
       AllDeltas images f s w mounted (h ++ e ∷ []) (notes ++ note ∷ [])
   deltas_noted placed v wrote n x c d is at left_c left_d = elim (which notes note x (suc n) is) [
     | inl p ↦ old p.0 p.1
     | inr p ↦ (
-      let here_x : x.entries ≡ length h = ap (λ (y : Note). y.entries) p.1 ∙ behind in
-      let known = wrote n c d p.0 (sym (stands_last is_stored h e x.entries here_x) ∙ at)
-          (subst (λ i. images f i c) (ap (λ (y : Note). y.first_moment) p.1 ∙ here.0) left_c) (subst (λ i. images s i d) (ap (λ (y : Note). y.second_moment) p.1 ∙ here.1) left_d) in
-      (known.0, known.1, known.2 ∙ ap (λ k. Ok (dumped_on known.0 (after w (take k (h ++ e ∷ []))))) (sym here_x))
-    )
+        let here_x : x.entries ≡ length h = ap (λ (y : Note). y.entries) p.1 ∙ behind in
+        let known = wrote n c d p.0 (sym (stands_last is_stored h e x.entries here_x) ∙ at)
+        (subst (λ i. images f i c) (ap (λ (y : Note). y.first_moment) p.1 ∙ here.0) left_c) (subst (λ i. images s i d) (ap (λ (y : Note). y.second_moment) p.1 ∙ here.1) left_d) in
+        (known.0, known.1, known.2 ∙ ap (λ k. Ok (dumped_on known.0 (after w (take k (h ++ e ∷ []))))) (sym here_x))
+        )
   ]
     where
       old : suc n < length notes → slice_get notes (suc n) ≡ Some x → (y : Chosen) × IsFront w mounted (h ++ e ∷ []) (notes ++ note ∷ []) n y × (stored c d ≡ Ok (dumped_on y (after w (take x.entries (h ++ e ∷ [])))))
       old less there =
           let placed_x = placed (suc n) x.entries (ap (λ o. option_map (λ (y : Note). y.entries) o) there) in
-          let within : x.entries < length h = elim placed_x [ | inl z ↦ absurd (omega (arith, z.0)) | inr yes ↦ yes ] in
+          let within : x.entries < length h = elim placed_x [ inl z ↦ absurd (omega (arith, z.0)) | inr yes ↦ yes ] in
           let known = v n x c d there (sym (stands_on is_stored h (e ∷ []) x.entries within) ∙ at) left_c left_d in
           let front : take x.entries (h ++ e ∷ []) ≡ take x.entries h = take-append-le x.entries h (e ∷ []) (omega (arith, within)) in
           (known.0, front_noted n known.0 placed (omega (arith, less)) known.1, known.2 ∙ ap (λ y. Ok (dumped_on known.0 (after w y))) (sym front))
