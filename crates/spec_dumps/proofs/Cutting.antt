@@ -9,7 +9,7 @@ use Rattle.spec_events.specs.World.{World}
 use Rattle.spec_events.specs.Histories.{History, entered, noted}
 use Rattle.spec_dumps.specs.Fronts.{is_stored, is_failed, IsFront, Loads}
 use Rattle.spec_dumps.specs.Survival.{HasCause, IsSafe}
-use Rattle.spec_dumps.specs.Holding.{IsAt, IsUsable, Keeps, Rests}
+use Rattle.spec_dumps.specs.Holding.{IsAt, IsCounted, IsUsable, Keeps, Rests}
 use Rattle.spec_dumps.proofs.Lists.{got_last, length_last}
 use Rattle.spec_dumps.proofs.Fronts.{loads_by}
 use Rattle.spec_dumps.proofs.Moving.{loads_now}
@@ -19,10 +19,10 @@ use Rattle.spec_dumps.proofs.Noting.{front_next, survives_noted, caused_noted, d
 abbrev pub FailsBy : ℕ → History → Note → Entry → Type 0
 FailsBy mounted h note e = (n : ℕ) (before : Note) → suc (suc n) ≡ length h.notes → slice_get h.notes n ≡ Some before → is_failed e.event ≡ true → HasCause h.start mounted (h.entries ++ e ∷ []) (h.notes ++ note ∷ []) n note before
 
-module _ {D : Type 0} (seen : D → List ℕ) (moment : D → ℕ) (images : D → ℕ → List ℕ → Type 0) (log : Option LogState) (f s : D) (mounted : ℕ) (h : History) (note : Note) (e : Entry) where
-  pub rests_next : Keeps seen moment images log f s mounted h → IsAt moment f s note → note.entries ≡ length h.entries → is_stored e.event ≡ false → FailsBy mounted h note e →
-      Rests seen moment images log f s mounted (entered (noted h note) e)
-  rests_next v here behind other why = record {
+module _ {D : Type 0} (seen : D → List ℕ) (moment : D → ℕ) (images : D → ℕ → List ℕ → Type 0) (faults : D → ℕ) (log : Option LogState) (f s : D) (mounted : ℕ) (h : History) (note : Note) (e : Entry) where
+  pub rests_next : Keeps seen moment images faults log f s mounted h → IsAt moment f s note → IsCounted faults f s note → note.entries ≡ length h.entries → is_stored e.event ≡ false → FailsBy mounted h note e →
+      Rests seen moment images faults log f s mounted (entered (noted h note) e)
+  rests_next v here count behind other why = record {
     keeps = record {
       last = length h.notes;
       note = note;
@@ -37,6 +37,7 @@ module _ {D : Type 0} (seen : D → List ℕ) (moment : D → ℕ) (images : D �
             (λ n c d at stores left_c left_d. absurd (no stores));
       };
       usable = usable log v.usable;
+      counted = count;
     };
     rests = here;
   }
@@ -55,11 +56,11 @@ module _ {D : Type 0} (seen : D → List ℕ) (moment : D → ℕ) (images : D �
       usable (Some l) u = (u.0, u.1, next l.chosen u.2)
 
   -- in the words of the calls
-  pub rests_on : (k : History) → k ≡ entered (noted h note) e → Keeps seen moment images log f s mounted h → IsAt moment f s note → note.entries ≡ length h.entries → is_stored e.event ≡ false → FailsBy mounted h note e →
-      Rests seen moment images log f s mounted k
-  rests_on k is v here behind other why = subst (λ x. Rests seen moment images log f s mounted x) (sym is) (rests_next v here behind other why)
+  pub rests_on : (k : History) → k ≡ entered (noted h note) e → Keeps seen moment images faults log f s mounted h → IsAt moment f s note → IsCounted faults f s note → note.entries ≡ length h.entries → is_stored e.event ≡ false → FailsBy mounted h note e →
+      Rests seen moment images faults log f s mounted k
+  rests_on k is v here count behind other why = subst (λ x. Rests seen moment images faults log f s mounted x) (sym is) (rests_next v here count behind other why)
 
-pub cut_noted : {D : Type 0} (seen : D → List ℕ) (moment : D → ℕ) (images : D → ℕ → List ℕ → Type 0) (log : Option LogState) (f s : D) (mounted : ℕ) (h k : History) (note : Note) (party n : ℕ) →
-    Keeps seen moment images log f s mounted h → k ≡ entered (noted h note) (record { party = party; event = Cut n }) → note.entries ≡ length h.entries → IsAt moment f s note → Rests seen moment images log f s mounted k
-cut_noted seen moment images log f s mounted h k note party n v is behind here =
-    rests_on seen moment images log f s mounted h note (record { party = party; event = Cut n }) k is v here behind refl (λ i before at there fails. cc)
+pub cut_noted : {D : Type 0} (seen : D → List ℕ) (moment : D → ℕ) (images : D → ℕ → List ℕ → Type 0) (faults : D → ℕ) (log : Option LogState) (f s : D) (mounted : ℕ) (h k : History) (note : Note) (party n : ℕ) →
+    Keeps seen moment images faults log f s mounted h → k ≡ entered (noted h note) (record { party = party; event = Cut n }) → note.entries ≡ length h.entries → IsAt moment f s note → IsCounted faults f s note → Rests seen moment images faults log f s mounted k
+cut_noted seen moment images faults log f s mounted h k note party n v is behind here count =
+    rests_on seen moment images faults log f s mounted h note (record { party = party; event = Cut n }) k is v here count behind refl (λ i before at there fails. cc)

@@ -4,3 +4,7 @@ pub mod Quiet
 pub mod Noting
 pub mod Moving
 pub mod Cutting
+pub mod Storing
+pub mod Failing
+pub mod Remounting
+pub mod Begun

@@ -31,13 +31,13 @@ module _ {D : Type 0} (moment : D → ℕ) (images : D → ℕ → List ℕ → 
   first_then : (v : Survives moment images f s w mounted h notes) (n : ℕ) → suc n < length notes → until (λ (x : Note). x.first_moment) notes n (moment f) ≤ moment f
   first_then v n less = at (slice_get notes (suc n)) refl where
     at : (o : Option Note) → slice_get notes (suc n) ≡ o → until (λ (x : Note). x.first_moment) notes n (moment f) ≤ moment f
-    at (Some x) there = omega (arith, v.past (suc n) x there .0, ap (λ o. option_map_or (λ (x : Note). x.first_moment) o (moment f)) there)
+    at (Some x) there = omega (arith, (v.past (suc n) x there).0, ap (λ o. option_map_or (λ (x : Note). x.first_moment) o (moment f)) there)
     at None there = omega (arith, ap (λ o. option_map_or (λ (x : Note). x.first_moment) o (moment f)) there)
 
   second_then : (v : Survives moment images f s w mounted h notes) (n : ℕ) → suc n < length notes → until (λ (x : Note). x.second_moment) notes n (moment s) ≤ moment s
   second_then v n less = at (slice_get notes (suc n)) refl where
     at : (o : Option Note) → slice_get notes (suc n) ≡ o → until (λ (x : Note). x.second_moment) notes n (moment s) ≤ moment s
-    at (Some x) there = omega (arith, v.past (suc n) x there .1, ap (λ o. option_map_or (λ (x : Note). x.second_moment) o (moment s)) there)
+    at (Some x) there = omega (arith, (v.past (suc n) x there).1, ap (λ o. option_map_or (λ (x : Note). x.second_moment) o (moment s)) there)
     at None there = omega (arith, ap (λ o. option_map_or (λ (x : Note). x.second_moment) o (moment s)) there)
 
   -- it is the last one
@@ -53,31 +53,31 @@ module _ {D : Type 0} (moment : D → ℕ) (images : D → ℕ → List ℕ → 
   survives_moved v = record {
     each = λ n x t u c d there t_low t_high u_low u_high left_c left_d. elim (cases_lt (suc n) (length notes)) [
       | inl less ↦ (
-        let t_then : t ≤ until (λ (y : Note). y.first_moment) notes n (moment f) = omega (arith, t_high, until_then (λ (y : Note). y.first_moment) notes n (moment f) (moment f') less) in
-        let u_then : u ≤ until (λ (y : Note). y.second_moment) notes n (moment s) = omega (arith, u_high, until_then (λ (y : Note). y.second_moment) notes n (moment s) (moment s') less) in
-        v.each n x t u c d there t_low t_then u_low u_then
-        (leaves.first_kept t c (omega (arith, t_then, first_then v n less)) left_c) (leaves.second_kept u d (omega (arith, u_then, second_then v n less)) left_d)
-      )
+          let t_then : t ≤ until (λ (y : Note). y.first_moment) notes n (moment f) = omega (arith, t_high, until_then (λ (y : Note). y.first_moment) notes n (moment f) (moment f') less) in
+          let u_then : u ≤ until (λ (y : Note). y.second_moment) notes n (moment s) = omega (arith, u_high, until_then (λ (y : Note). y.second_moment) notes n (moment s) (moment s') less) in
+          v.each n x t u c d there t_low t_then u_low u_then
+          (leaves.first_kept t c (omega (arith, t_then, first_then v n less)) left_c) (leaves.second_kept u d (omega (arith, u_then, second_then v n less)) left_d)
+          )
       | inr over ↦ (
-        let it = only n x there over in
-        let t_from : moment f ≤ t = omega (arith, t_low, ap (λ (y : Note). y.first_moment) it.1, here.0) in
-        let u_from : moment s ≤ u = omega (arith, u_low, ap (λ (y : Note). y.second_moment) it.1, here.1) in
-        let t_to : t ≤ moment f' = omega (arith, t_high, until_over (λ (y : Note). y.first_moment) notes n (moment f') over) in
-        let u_to : u ≤ moment s' = omega (arith, u_high, until_over (λ (y : Note). y.second_moment) notes n (moment s') over) in
-        subst (λ i. Loads w mounted h notes i (stored c d)) (sym it.0) (loads c d (leaves.each t u c d t_from t_to u_from u_to left_c left_d))
-      )
+          let it = only n x there over in
+          let t_from : moment f ≤ t = omega (arith, t_low, ap (λ (y : Note). y.first_moment) it.1, here.0) in
+          let u_from : moment s ≤ u = omega (arith, u_low, ap (λ (y : Note). y.second_moment) it.1, here.1) in
+          let t_to : t ≤ moment f' = omega (arith, t_high, until_over (λ (y : Note). y.first_moment) notes n (moment f') over) in
+          let u_to : u ≤ moment s' = omega (arith, u_high, until_over (λ (y : Note). y.second_moment) notes n (moment s') over) in
+          subst (λ i. Loads w mounted h notes i (stored c d)) (sym it.0) (loads c d (leaves.each t u c d t_from t_to u_from u_to left_c left_d))
+          )
     ];
     rises = λ n x there. elim (cases_lt (suc n) (length notes)) [
       | inl less ↦ (
-        omega (arith, v.rises n x there .0, until_then (λ (y : Note). y.first_moment) notes n (moment f) (moment f') less),
-        omega (arith, v.rises n x there .1, until_then (λ (y : Note). y.second_moment) notes n (moment s) (moment s') less),
+        omega (arith, (v.rises n x there).0, until_then (λ (y : Note). y.first_moment) notes n (moment f) (moment f') less),
+        omega (arith, (v.rises n x there).1, until_then (λ (y : Note). y.second_moment) notes n (moment s) (moment s') less),
       )
       | inr over ↦ (
-        omega (arith, v.past n x there .0, leaves.first_later, until_over (λ (y : Note). y.first_moment) notes n (moment f') over),
-        omega (arith, v.past n x there .1, leaves.second_later, until_over (λ (y : Note). y.second_moment) notes n (moment s') over),
+        omega (arith, (v.past n x there).0, leaves.first_later, until_over (λ (y : Note). y.first_moment) notes n (moment f') over),
+        omega (arith, (v.past n x there).1, leaves.second_later, until_over (λ (y : Note). y.second_moment) notes n (moment s') over),
       )
     ];
-    past = λ n x there. (omega (arith, v.past n x there .0, leaves.first_later), omega (arith, v.past n x there .1, leaves.second_later));
+    past = λ n x there. (omega (arith, (v.past n x there).0, leaves.first_later), omega (arith, (v.past n x there).1, leaves.second_later));
     noted = v.noted;
     placed = v.placed;
   }
@@ -96,5 +96,5 @@ pub loads_now : {D : Type 0} (moment : D → ℕ) (images : D → ℕ → List �
     Survives moment images f s w mounted h notes → (c d : List ℕ) → images f (moment f) c → images s (moment s) d → Loads w mounted h notes last (stored c d)
 loads_now moment images f s w mounted h notes last note is end v c d left_c left_d =
     let over : length notes ≤ suc last = omega (arith, end) in
-    v.each last note (moment f) (moment s) c d is (v.past last note is .0) (omega (arith, until_over (λ (y : Note). y.first_moment) notes last (moment f) over))
-    (v.past last note is .1) (omega (arith, until_over (λ (y : Note). y.second_moment) notes last (moment s) over)) left_c left_d
+    v.each last note (moment f) (moment s) c d is (v.past last note is).0 (omega (arith, until_over (λ (y : Note). y.first_moment) notes last (moment f) over))
+    (v.past last note is).1 (omega (arith, until_over (λ (y : Note). y.second_moment) notes last (moment s) over)) left_c left_d

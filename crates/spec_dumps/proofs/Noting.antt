@@ -47,7 +47,7 @@ which notes note x n is = elim (cases_lt n (length notes)) [
     same : (x : Note) → Some x ≡ Some note → x ≡ note
     same x e = cc
 
-place_which : (notes : List Note) (note : Note) (i place : ℕ) → place_of_note (notes ++ note ∷ []) i ≡ Some place → ((i < length notes) × (place_of_note notes i ≡ Some place)) ⊎ ((i ≡ length notes) × (place ≡ note.entries))
+pub place_which : (notes : List Note) (note : Note) (i place : ℕ) → place_of_note (notes ++ note ∷ []) i ≡ Some place → ((i < length notes) × (place_of_note notes i ≡ Some place)) ⊎ ((i ≡ length notes) × (place ≡ note.entries))
 place_which notes note i place e = at (slice_get (notes ++ note ∷ []) i) refl e where
   same : (x : Note) (p : ℕ) → x ≡ note → Some x.entries ≡ Some p → p ≡ note.entries
   same x p is e = cc

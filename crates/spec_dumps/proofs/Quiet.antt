@@ -129,7 +129,7 @@ module _ {D : Type 0} (moment : D → ℕ) (images : D → ℕ → List ℕ → 
       (subst (λ (ns : List Note). IsSafe moment images f s h.start mounted (h.entries ++ q.entries) ns) (sym q.grew.notes)
       (safe_on moment images f s h.start mounted h.notes h.entries q.entries q.none v)))
 
-module _ {D : Type 0} (seen : D → List ℕ) (moment : D → ℕ) (images : D → ℕ → List ℕ → Type 0) (log : Option LogState) (f s : D) (mounted : ℕ) where
+module _ {D : Type 0} (seen : D → List ℕ) (moment : D → ℕ) (images : D → ℕ → List ℕ → Type 0) (faults : D → ℕ) (log : Option LogState) (f s : D) (mounted : ℕ) where
   usable_on : (l : Option LogState) (w : World) (h es : List Entry) (notes : List Note) (n : ℕ) → ArePlaced h notes → IsUsable seen moment images l f s w mounted h notes n → IsUsable seen moment images l f s w mounted (h ++ es) notes n
   usable_on None w h es notes n placed u = tt
   usable_on (Some l) w h es notes n placed u = (u.0, u.1, front_on w mounted h es notes n l.chosen placed u.2)
@@ -141,7 +141,7 @@ module _ {D : Type 0} (seen : D → List ℕ) (moment : D → ℕ) (images : D �
       (subst (λ (ns : List Note). IsUsable seen moment images log f s h.start mounted (h.entries ++ q.entries) ns n) (sym q.grew.notes)
       (usable_on log h.start h.entries q.entries h.notes n placed u)))
 
-  pub keeps_quiet : (h k : History) → Quietly h k → Keeps seen moment images log f s mounted h → Keeps seen moment images log f s mounted k
+  pub keeps_quiet : (h k : History) → Quietly h k → Keeps seen moment images faults log f s mounted h → Keeps seen moment images faults log f s mounted k
   keeps_quiet h k q v = record {
     last = v.last;
     note = v.note;
@@ -149,7 +149,8 @@ module _ {D : Type 0} (seen : D → List ℕ) (moment : D → ℕ) (images : D �
     end = ap (λ (ns : List Note). length ns) q.grew.notes ∙ v.end;
     safe = safe_quiet moment images f s mounted h k q v.safe;
     usable = usable_quiet h k v.last q v.safe.survives.placed v.usable;
+    counted = v.counted;
   }
 
-  pub rests_quiet : (h k : History) → Quietly h k → Rests seen moment images log f s mounted h → Rests seen moment images log f s mounted k
+  pub rests_quiet : (h k : History) → Quietly h k → Rests seen moment images faults log f s mounted h → Rests seen moment images faults log f s mounted k
   rests_quiet h k q v = record { keeps = keeps_quiet h k q v.keeps; rests = v.rests }
