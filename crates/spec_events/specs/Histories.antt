@@ -45,7 +45,12 @@ entered h entry = record h { entries = h.entries ++ entry ∷ [] }
 abbrev pub noted : History → Note → History
 noted h note = record h { notes = h.notes ++ note ∷ [] }
 
--- k is the history h, and then these entries, without a note between them
+-- k is the history h, and then these entries
+pub record Longer (h k : History) (es : List Entry) : Type 0 where
+  pub start : k.start ≡ h.start
+  pub entries : k.entries ≡ h.entries ++ es
+
+-- and no note came with them
 pub record Grew (h k : History) (es : List Entry) : Type 0 where
   pub start : k.start ≡ h.start
   pub entries : k.entries ≡ h.entries ++ es

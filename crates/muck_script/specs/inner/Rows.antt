@@ -2,7 +2,7 @@
 use Rattle.std.specs.Prelude.{◌≡◌, [], ◌∷◌, ◌++◌, refl, codes, Some, None, Ok, Err, replicate}
 use Rattle.std.specs.Fmt.{digits}
 use Rattle.muck_model.specs.Decimal.{decimal_of}
-use Rattle.muck_script.specs.declared.act.Act.TheVariants.{Nothing, Open, Send, Close, Wait}
+use Rattle.muck_script.specs.declared.act.Act.TheVariants.{Nothing, Open, Send, Close, Wait, Dump}
 use Rattle.muck_script.specs.Lines.{lines_of}
 use Rattle.spec_live.specs.Output.{sent_lines, queue_most, bytes_of, lines_bytes, line_sent, lines_sent, sent, taken, lines_taken}
 use Rattle.spec_live.specs.Boards.{early_board, opened, closed, line_added, bytes_taken, told_one, leaving_one}
@@ -14,7 +14,7 @@ use Rattle.muck_queue.specs.Queues.{empty_queue, next_due, is_busy, reader, ende
 use Rattle.spec_events.specs.Lines.{done}
 use Rattle.spec_events.specs.Steps.{is_lawful, effect, next_ready, next_process}
 use Rattle.muck_script.specs.Script.{act_of, script_of, script_most}
-use Rattle.muck_script.specs.Story.{next_turn, turns, served, line_story, later, told, transcript}
+use Rattle.muck_script.specs.Story.{next_turn, turns, served, line_story, asked_dump, later, told, transcript}
 
 lines_row : lines_of (97 ∷ 10 ∷ 10 ∷ 98 ∷ []) ≡ (97 ∷ []) ∷ [] ∷ (98 ∷ []) ∷ []
 lines_row = refl
@@ -29,6 +29,14 @@ empty_row = refl
 comment_row : act_of (codes "# open 1") ≡ Some Nothing
 unfolding act_of
 comment_row = refl
+
+dump_row : act_of (codes "dump") ≡ Some Dump
+unfolding act_of
+dump_row = refl
+
+dump_space_row : act_of (codes "dump ") ≡ None
+unfolding act_of decimal_of
+dump_space_row = refl
 
 open_row : act_of (codes "open 256") ≡ Some (Open 256)
 unfolding act_of decimal_of

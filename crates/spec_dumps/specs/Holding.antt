@@ -1,0 +1,40 @@
+-- What whoever makes the dumps keeps of the disks, the log and the history from one dump to the next.
+use Rattle.std.specs.Prelude.{◌≡◌, ℕ, suc, ◌<◌, ◌≤◌, true, false, not, List, [], ◌++◌, length, slice_get, Option, Some, None}
+use Rattle.std.specs.List.{list_any}
+use Rattle.muck_model.specs.declared.event.Entry.{Entry}
+use Rattle.muck_model.specs.declared.note.Note.{Note}
+use Rattle.muck_log.specs.Store.{LogState, IsMounted}
+use Rattle.spec_events.specs.World.{World}
+use Rattle.spec_events.specs.Histories.{History, Grew}
+use Rattle.spec_dumps.specs.Fronts.{is_dump, IsFront, file_most}
+use Rattle.spec_dumps.specs.Survival.{IsSafe}
+
+-- k is the history h and then entries that are none of a dump, without a note
+pub record Quietly (h k : History) : Type 0 where
+  pub entries : List Entry
+  pub grew : Grew h k entries
+  pub none : list_any (λ (e : Entry). is_dump e.event) entries ≡ false
+
+-- a log that is mounted stands on the store after a front of the history that is noted by the n-th note
+abbrev pub IsUsable : {D : Type 0} → (D → List ℕ) → (D → ℕ) → (D → ℕ → List ℕ → Type 0) → Option LogState → D → D → World → ℕ → List Entry → List Note → ℕ → Type 0
+IsUsable seen moment images None first second w mounted h notes n = Unit {0}
+IsUsable seen moment images (Some log) first second w mounted h notes n =
+    IsMounted seen moment images log first second × (log.most ≡ file_most) × IsFront w mounted h notes n log.chosen
+
+-- the disks are at the moments of that note
+abbrev pub IsAt : {D : Type 0} → (D → ℕ) → D → D → Note → Type 0
+IsAt moment first second note = (note.first_moment ≡ moment first) × (note.second_moment ≡ moment second)
+
+-- From one dump to the next: what is kept of the disks, and what the log stands on, if one is mounted.
+pub record Keeps {D : Type 0} (seen : D → List ℕ) (moment : D → ℕ) (images : D → ℕ → List ℕ → Type 0) (log : Option LogState) (first second : D) (mounted : ℕ) (h : History) : Type 0 where
+  pub last : ℕ
+  pub note : Note
+  pub is : slice_get h.notes last ≡ Some note
+  pub end : length h.notes ≡ suc last
+  pub safe : IsSafe moment images first second h.start mounted h.entries h.notes
+  pub usable : IsUsable seen moment images log first second h.start mounted h.entries h.notes last
+
+-- and nothing moved the disks since the last note
+pub record Rests {D : Type 0} (seen : D → List ℕ) (moment : D → ℕ) (images : D → ℕ → List ℕ → Type 0) (log : Option LogState) (first second : D) (mounted : ℕ) (h : History) : Type 0 where
+  pub keeps : Keeps seen moment images log first second mounted h
+  pub rests : IsAt moment first second keeps.note

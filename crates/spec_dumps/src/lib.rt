@@ -1,0 +1,2 @@
+//! What the store holds of a run at any moment, whatever a crash leaves of its two files, as definitions and laws.
+#![tactic(auto)]
