@@ -18,7 +18,7 @@ use Rattle.spec_rights.specs.declared.act.Actor.{Actor}
 use Rattle.spec_rights.specs.Verdict.{is_master}
 use Rattle.spec_rights.specs.Changing.{tuned}
 use Rattle.spec_rights.specs.Licence.{Freedom, SameTies, Licensed, editing}
-use Rattle.spec_rights.proofs.Licences.{judge, SameMarks, Quiet, Always, ties_same, ties_both, quiet_order, whole_quiet}
+use Rattle.spec_rights.proofs.Licences.{Proper, judge, SameMarks, Quiet, Always, ties_same, ties_both, quiet_order, whole_quiet}
 use Rattle.spec_rights.proofs.Leaving.{whole_leave}
 use Rattle.spec_rights.proofs.Shown.{quiet_one, quiet_tell}
 use Rattle.spec_commands.specs.declared.outcome.Outcome.{Outcome}
@@ -37,6 +37,7 @@ use Rattle.muck_queue.specs.declared.process.Process.{Process}
 use Rattle.muck_queue.specs.Queues.{reader, on_process, told_line, without}
 use Rattle.spec_commands.proofs.Numbered.{numbers, numbers-ties, numbers-same_ties, leavers_ties, Seats, Seating, seating_quiet, seating_order}
 use Rattle.spec_commands.proofs.Lines.{seating_at_login}
+use Rattle.spec_admin.specs.Parameters.{IsInRange}
 use Rattle.spec_events.specs.World.{World, on_live, on_queue}
 use Rattle.spec_events.specs.Following.{swept, settled}
 use Rattle.spec_events.specs.Lines.{with_editor, next_editor, after_edit, edited_line, in_editor, editor_on, typed, left_by, followed_up, in_world, program_aborted, is_abort, given_line, line_for, line_done, done}
@@ -44,19 +45,26 @@ use Rattle.spec_events.specs.Endings.{ProcessesLicensed, NoProcess, MayEnd, by_a
 use Rattle.spec_events.specs.Licences.{Untouched, Undisturbed, LineLicensed, TurnLicensed}
 use Rattle.spec_events.proofs.Quietly.{Quietly, quietly_both, quietly_live, quietly_queue, quietly_swept, quietly_launched, quietly_compiled}
 use Rattle.spec_events.proofs.Told.{licensed_told, licensed_as}
-use Rattle.spec_events.proofs.Typed.{typed_retunes, waited_open}
+use Rattle.spec_events.proofs.Typed.{MayRetune, typed_retunes, waited_open}
 use Rattle.spec_events.proofs.Endings.{Lasting, lasting_same, lasting_both, lasting_changed, lasting_without, lasting_up, lasting_after, process_number, IsTold, told_settled, processes_remain}
 use Rattle.spec_events.proofs.Lapses.{IsLapsing, marks_lapse, by_lapse, steady_may, lasting_lapse}
 use Rattle.spec_events.proofs.Killed.{lasting_left}
 
--- what an actor may do to a world that is one already: the changes are open, and it is as dead as before
+-- what an actor may do to a world that is one already: the changes are open, what is tuned stays in its range, and the world
+-- is as dead as before
 pub record Open (a : Actor) (free : Freedom) (start : Live) (dead : Bool) (v : World) : Type 0 where
   pub licensed : Licensed a free start v.live
+  pub tuned : IsInRange start.board.tune → IsInRange v.live.board.tune
   pub alive : v.dead ≡ dead
+
+-- the same is tuned
+pub in_range_as : (w v : Live) → v.board.tune ≡ w.board.tune → IsInRange w.board.tune → IsInRange v.board.tune
+in_range_as w v e h = subst IsInRange (sym e) h
 
 pub open_quietly : (a : Actor) (free : Freedom) (start : Live) (dead : Bool) (u v : World) → Open a free start dead u → Quietly u v → Open a free start dead v
 open_quietly a free start dead u v p q = record {
   licensed = licensed_as a free start u.live v.live p.licensed q.objects q.ties q.tune;
+  tuned = λ h. in_range_as u.live v.live q.tune (p.tuned h);
   alive = q.dead ∙ p.alive;
 }
 
@@ -64,7 +72,7 @@ pub open_settled : (a : Actor) (free : Freedom) (start : Live) (dead : Bool) (u 
 unfolding settled
 open_settled a free start dead u p =
     let q = open_quietly a free start dead u _ p (quietly_swept 0 u.live.objects u) in
-    record { licensed = licensed_told a free start (swept 0 u.live.objects u).live q.licensed; alive = q.alive }
+    record { licensed = licensed_told a free start (swept 0 u.live.objects u).live q.licensed; tuned = q.tuned; alive = q.alive }
 
 -- Leaving.
 
@@ -83,6 +91,10 @@ unfolding leave leaving_one
 left_licensed a d free w v own l =
     let left : Licensed a free v (leave d v) = (((whole_leave a d (λ es. free) Always).law v).law (player-same_ties a d w.board.connections v.board.connections l.connections ∙ own) tt).licensed in
     record { gone = l.gone; recycled = l.recycled; vanished = l.vanished; objects = l.objects; lists = l.lists; connections = ties_both a _ _ _ l.connections left.connections; tune = l.tune }
+
+left_tune : (d : ℕ) (w : Live) → (leave d w).board.tune ≡ w.board.tune
+unfolding leave leaving_one
+left_tune d w = refl
 
 -- The editor.
 
@@ -122,9 +134,10 @@ open_edited d player s line lines w =
     let a : Actor = actor_of w.live.objects player in
     let u : World = on_live (taken_out d lines) w in
     let r = edited d a s line u.live in
-    let l : Licensed a (editing s.program) w.live r.0 = licensed_from a (editing s.program) d lines w.live r.0 (edited_proper d a s line u.live).licensed in
+    let proper : Proper a (editing s.program) u.live r.0 = edited_proper d a s line u.live in
+    let l : Licensed a (editing s.program) w.live r.0 = licensed_from a (editing s.program) d lines w.live r.0 proper.licensed in
     let v : World = record u { live = r.0 } in
-    let e = open_quietly a (editing s.program) w.live w.dead v (on_live (with_editor d (next_editor r.2 r.1)) v) (record { licensed = l; alive = refl }) (quietly_live _ (quiet_with_editor d (next_editor r.2 r.1)) v) in
+    let e = open_quietly a (editing s.program) w.live w.dead v (on_live (with_editor d (next_editor r.2 r.1)) v) (record { licensed = l; tuned = in_range_as w.live r.0 proper.tune; alive = refl }) (quietly_live _ (quiet_with_editor d (next_editor r.2 r.1)) v) in
     open_after a (editing s.program) w.live w.dead d s.program r.2 _ (open_settled a (editing s.program) w.live w.dead _ e)
 
 left_open : (d : ℕ) (player : Dbref) (s : EditState) (lines : List (List ℕ)) (w : World) →
@@ -133,7 +146,8 @@ unfolding followed
 left_open d player s lines w =
     let f : Change = taken_out d lines ▸ tell d editor_exited in
     let q : Quiet f = keeps_followed _ _ quiet_order (quiet_taken_out d lines) (quiet_tell d editor_exited) in
-    record { licensed = (((whole_quiet (actor_of w.live.objects player) None (λ es. editing s.program) Always f q).law w.live).law tt tt).licensed; alive = refl }
+    let proper : Proper (actor_of w.live.objects player) (editing s.program) w.live (f w.live) = ((whole_quiet (actor_of w.live.objects player) None (λ es. editing s.program) Always f q).law w.live).law tt tt in
+    record { licensed = proper.licensed; tuned = in_range_as w.live (f w.live) proper.tune; alive = refl }
 
 open_in_editor : (d : ℕ) (player : Dbref) (s : EditState) (line : List ℕ) (lines : List (List ℕ)) (w : World) →
     Open (actor_of w.live.objects player) (editing s.program) w.live w.dead (in_editor d player s line (on_live (taken_out d lines) w))
@@ -152,18 +166,22 @@ unfolding tuned
 tuned_licensed a free w v tune l h =
     record { gone = l.gone; recycled = l.recycled; vanished = l.vanished; objects = l.objects; lists = l.lists; connections = l.connections; tune = inr h }
 
+tuned_in_range : (w : Live) (tune : Tune) → IsInRange tune → IsInRange (tuned tune w).board.tune
+unfolding tuned
+tuned_in_range w tune h = h
+
 open_followed : (d : ℕ) (player : Dbref) (a : Actor) (free : Freedom) (start : Live) (dead : Bool) (outcome : Outcome) (u : World) → player_in d start.board ≡ Some a.player →
-    ((tune : Tune) → outcome ≡ Retune tune → is_master a ≡ true) → Open a free start dead u → Open a free start dead (followed_up d player outcome u)
-open_followed d player a free start dead Leave u own may p = record { licensed = left_licensed a d free start u.live own p.licensed; alive = p.alive }
+    ((tune : Tune) → outcome ≡ Retune tune → MayRetune a start tune) → Open a free start dead u → Open a free start dead (followed_up d player outcome u)
+open_followed d player a free start dead Leave u own may p = record { licensed = left_licensed a d free start u.live own p.licensed; tuned = λ h. in_range_as u.live (leave d u.live) (left_tune d u.live) (p.tuned h); alive = p.alive }
 open_followed d player a free start dead (Edit program) u own may p =
     open_quietly a free start dead u _ p (quietly_live (with_editor d (Some (editor_on program u.live))) (quiet_with_editor d (Some (editor_on program u.live))) u)
 open_followed d player a free start dead (Start program trigger line arg) u own may p =
     open_quietly a free start dead u _ p (quietly_launched d (actor_of u.live.objects player) (record { player = player; program = program; trigger = trigger; command = line; argument = arg }) u)
 open_followed d player a free start dead Done u own may p = p
 open_followed d player a free start dead NotMine u own may p = p
-open_followed d player a free start dead Dump u own may p = record { licensed = p.licensed; alive = p.alive }
-open_followed d player a free start dead Stop u own may p = record { licensed = p.licensed; alive = p.alive }
-open_followed d player a free start dead (Retune tune) u own may p = record { licensed = tuned_licensed a free start u.live tune p.licensed (may tune refl); alive = p.alive }
+open_followed d player a free start dead Dump u own may p = record { licensed = p.licensed; tuned = p.tuned; alive = p.alive }
+open_followed d player a free start dead Stop u own may p = record { licensed = p.licensed; tuned = p.tuned; alive = p.alive }
+open_followed d player a free start dead (Retune tune) u own may p = record { licensed = tuned_licensed a free start u.live tune p.licensed (may tune refl).0; tuned = λ h. tuned_in_range u.live tune ((may tune refl).1 h); alive = p.alive }
 
 open_in_world : (d : ℕ) (player : Dbref) (line : List ℕ) (lines : List (List ℕ)) (w : World) → player_in d w.live.board ≡ Some player →
     Open (actor_of w.live.objects player) (free_line (actor_of w.live.objects player) line w.live.objects) w.live w.dead (in_world d player line (on_live (waits d lines) w))
@@ -173,9 +191,9 @@ open_in_world d player line lines w own =
     let free : Freedom = free_line a line w.live.objects in
     let u : World = on_live (waits d lines) w in
     let r = typed u.queue d a line u.live in
-    let l : Licensed a free w.live r.0 = (((waited_open a u.queue d lines line).law w.live).law own tt).licensed in
+    let proper : Proper a free w.live r.0 = ((waited_open a u.queue d lines line).law w.live).law own tt in
     open_followed d player a free w.live w.dead r.1 _ own (typed_retunes u.queue d a line u.live)
-    (open_settled a free w.live w.dead (record u { live = r.0; queue = left_by d a line u.live u.queue }) (record { licensed = l; alive = refl }))
+    (open_settled a free w.live w.dead (record u { live = r.0; queue = left_by d a line u.live u.queue }) (record { licensed = proper.licensed; tuned = in_range_as w.live r.0 proper.tune; alive = refl }))
 
 -- Processes.
 
@@ -380,26 +398,27 @@ unfolding done
 told_done d w None h = h
 told_done d w (Some c) h = lines_told d w c.player c.editor c.waiting h
 
--- The numbers of the connections, and that the world lives on.
+-- The numbers of the connections, that what is tuned stays in its range, and that the world lives on.
 
 pub record Going (w v : World) : Type 0 where
   pub numbers : numbers v.live.board.connections ≡ numbers w.live.board.connections
+  pub tuned : IsInRange w.live.board.tune → IsInRange v.live.board.tune
   pub dead : v.dead ≡ w.dead
 
 pub going_open : (a : Actor) (free : Freedom) (w v : World) → Open a free w.live w.dead v → Going w v
-going_open a free w v p = record { numbers = numbers-same_ties a w.live.board.connections v.live.board.connections p.licensed.connections; dead = p.alive }
+going_open a free w v p = record { numbers = numbers-same_ties a w.live.board.connections v.live.board.connections p.licensed.connections; tuned = p.tuned; dead = p.alive }
 
 pub going_same : (w : World) → Going w w
-going_same w = record { numbers = refl; dead = refl }
+going_same w = record { numbers = refl; tuned = λ h. h; dead = refl }
 
 pub going_both : (u v w : World) → Going u v → Going v w → Going u w
-going_both u v w p q = record { numbers = q.numbers ∙ p.numbers; dead = q.dead ∙ p.dead }
+going_both u v w p q = record { numbers = q.numbers ∙ p.numbers; tuned = λ h. q.tuned (p.tuned h); dead = q.dead ∙ p.dead }
 
-going_quietly : (w v : World) → Quietly w v → Going w v
-going_quietly w v q = record { numbers = numbers-ties w.live.board.connections v.live.board.connections q.ties; dead = q.dead }
+pub going_quietly : (w v : World) → Quietly w v → Going w v
+going_quietly w v q = record { numbers = numbers-ties w.live.board.connections v.live.board.connections q.ties; tuned = in_range_as w.live v.live q.tune; dead = q.dead }
 
 pub going_live : (d : ℕ) (f : Change) → Seating d f → (w : World) → Going w (on_live f w)
-going_live d f p w = record { numbers = (p.law w.live).numbers; dead = refl }
+going_live d f p w = record { numbers = (p.law w.live).numbers; tuned = in_range_as w.live (f w.live) (p.law w.live).tune; dead = refl }
 
 line_going : (d : ℕ) (w : World) (taker : Option ℤ) (player : Option Dbref) (editor : Option EditState) (line : List ℕ) (lines : List (List ℕ)) → player_in d w.live.board ≡ player →
     Going w (line_for taker player editor d line (on_live (waits d lines) w))

@@ -9,7 +9,7 @@ use Rattle.muck_model.specs.declared.dbref.Dbref.{Dbref}
 use Rattle.muck_model.specs.declared.edit.EditState.{EditState}
 use Rattle.muck_model.specs.declared.event.Entry.{Entry}
 use Rattle.muck_model.specs.declared.event.Event.{Event}
-use Rattle.muck_model.specs.declared.event.Event.TheVariants.{Opened, Input, Closed, Exec, Slice, Take, Died}
+use Rattle.muck_model.specs.declared.event.Event.TheVariants.{Opened, Input, Closed, Exec, Slice, Take, Stored, DumpFailed, Died}
 use Rattle.spec_live.specs.Objects.{nothing}
 use Rattle.spec_live.specs.Connections.{Connection, has_number, changed_in, placed, without, left, seated, newcomer}
 use Rattle.spec_live.specs.Boards.{player_in, opened, closed, line_added, bytes_taken, seated_one, leaving_one, early_board}
@@ -27,15 +27,17 @@ use Rattle.spec_commands.specs.Rising.{IsAbove, IsRising}
 use Rattle.spec_commands.proofs.Showing.{quiet_shown_others, quiet_looked, quiet_who_shown, quiet_waits}
 use Rattle.spec_commands.proofs.Lines.{quiet_parted}
 use Rattle.muck_queue.specs.Queues.{reader, without as process_without, on_process, told_line}
-use Rattle.spec_events.specs.World.{World, connection, starting, booted, on_live, on_queue}
+use Rattle.spec_events.specs.World.{World, connection, starting, booted, askers_of, on_live, on_queue}
+use Rattle.spec_events.specs.Dumping.{dump_stored, dump_failed, told_each}
 use Rattle.spec_events.specs.Lines.{program_aborted, is_abort, given_line, line_for, line_done, done}
 use Rattle.spec_events.specs.Slices.{Taken, after_unit, last_world, awake, units_of}
 use Rattle.spec_events.specs.Steps.{is_died, is_allowed, is_lawful, happened, effect}
 use Rattle.spec_events.specs.Licences.{LineLicensed, TurnLicensed, UnitLicensed, Chained, SliceLicensed, EventLicensed}
 use Rattle.spec_events.specs.Histories.{after, AllLawful, AllLicensed}
 use Rattle.spec_events.specs.Passwords.{credentials, Proves, Stays, IsKnown, AllKnown}
+use Rattle.spec_events.proofs.Quietly.{quiet_told_each}
 use Rattle.spec_events.proofs.Done.{player-same_ties}
-use Rattle.spec_events.proofs.Reached.{sound-effect}
+use Rattle.spec_events.proofs.Reached.{rising-happened}
 use Rattle.spec_events.proofs.Turns.{all_licensed_starting}
 
 abbrev player_found : ℕ → List Connection → Option Dbref
@@ -291,20 +293,20 @@ gained (Closed d) party w r l = λ e p h. let k = closed_found e d p w.live r h 
 gained (Opened d) party w r l = λ e p h. inl (placed_found e d welcome p w.live.board.connections h, λ x. cc)
 gained (Input d line) party w r l = λ e p h. inl (sym (kept_quiet e (on_board (line_added d line)) (quiet_one d _ (λ c. refl)) w.live) ∙ h, λ x. cc)
 gained (Take d n) party w r l = λ e p h. inl (sym (kept_quiet e (on_board (bytes_taken d n)) (quiet_one d _ (λ c. refl)) w.live) ∙ h, λ x. cc)
+gained (Stored k) party w r l = λ e p h. inl (sym (kept_quiet e (told_each (askers_of w.dumps) (dump_stored k)) (quiet_told_each (askers_of w.dumps) (dump_stored k)) w.live) ∙ h, λ x. cc)
+gained (DumpFailed k) party w r l = λ e p h. inl (sym (kept_quiet e (told_each (askers_of w.dumps) dump_failed) (quiet_told_each (askers_of w.dumps) dump_failed) w.live) ∙ h, λ x. cc)
 gained event party w r l = λ e p h. inl (h, λ x. cc)
 
 -- Histories.
 
-rising_event : (event : Event) (party : ℕ) (w : World) (dead : Bool) → w.dead ≡ dead → cond dead (is_died event) (is_allowed w party event) ≡ true → is_lawful w (record { party = party; event = event }) ≡ true →
-    IsRising w.live.board.connections → IsRising (effect w (record { party = party; event = event })).live.board.connections
-unfolding effect
-rising_event Died party w dead is a l r = r
-rising_event event party w true is a l r = absurd cc
-rising_event event party w false is a l r = (sound-effect w (record { party = party; event = event }) (λ x. cc) l (record { alive = is; rising = r })).rising
+rising_event : (event : Event) (party : ℕ) (w : World) (dead : Bool) → cond dead (is_died event) (is_allowed w party event) ≡ true → IsRising w.live.board.connections → IsRising (happened w party event).live.board.connections
+rising_event Died party w dead a r = r
+rising_event event party w true a r = absurd cc
+rising_event event party w false a r = rising-happened event party w a r
 
 rising_effect : (w : World) (entry : Entry) → is_lawful w entry ≡ true → IsRising w.live.board.connections → IsRising (effect w entry).live.board.connections
-unfolding is_lawful
-rising_effect w entry l r = rising_event entry.event entry.party w w.dead refl l l r
+unfolding effect is_lawful
+rising_effect w entry l r = rising_event entry.event entry.party w w.dead l r
 
 known : (w : World) (entries : List Entry) → IsRising w.live.board.connections → AllLawful w entries → AllLicensed w entries → (d : ℕ) (p : Dbref) → player_in d (after w entries).live.board ≡ Some p →
     ((player_in d w.live.board ≡ Some p) × Stays d entries) ⊎ IsKnown w entries d p

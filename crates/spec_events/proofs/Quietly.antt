@@ -8,13 +8,13 @@ use Rattle.spec_live.specs.declared.mark.Mark.{Mark}
 use Rattle.spec_live.specs.declared.mark.Mark.TheVariants.{Lines, Gone}
 use Rattle.spec_live.specs.Objects.{Entry, dbref_of}
 use Rattle.spec_live.specs.Boards.{Board, editors_closed}
-use Rattle.spec_live.specs.Lives.{Change, tell}
+use Rattle.spec_live.specs.Lives.{Live, Change, tell}
 use Rattle.spec_live.proofs.EditorLaws.{editors_closed_kept}
 use Rattle.spec_rights.specs.declared.act.Actor.{Actor}
 use Rattle.spec_rights.specs.declared.act.Act.TheVariants.{Start}
 use Rattle.spec_rights.specs.Verdict.{verdict}
 use Rattle.spec_rights.specs.Asking.{refused}
-use Rattle.spec_rights.proofs.Licences.{Quiet, tie, ties}
+use Rattle.spec_rights.proofs.Licences.{Quiet, Shows, quiet_order, tie, ties}
 use Rattle.spec_rights.proofs.Shown.{quiet_tell, quiet_refused}
 use Rattle.muf_model.specs.declared.fault.MufFault.{MufFault}
 use Rattle.muf_model.specs.declared.fault.MufFault.TheVariants.{ProcessLimit}
@@ -32,6 +32,7 @@ use Rattle.spec_events.specs.World.{World, on_live, on_queue, with_library}
 use Rattle.spec_events.specs.Following.{followed, swept}
 use Rattle.spec_events.specs.Starting.{beginning, by_command, new_process, joined, word_started, form_started, built_started, begun, start_told, start_judged, launched}
 use Rattle.spec_events.specs.Lines.{compiled_so, compiled}
+use Rattle.spec_events.specs.Dumping.{told_each}
 
 -- no object differs, nor who the connections are, nor what is tuned, and the world is as dead as before
 pub record Quietly (w v : World) : Type 0 where
@@ -122,3 +123,13 @@ quietly_so d program (Err flaw) w = quietly_both w (with_library _ w) _ (quietly
 pub quietly_compiled : (d : ℕ) (program : Dbref) (w : World) → Quietly w (compiled d program w)
 unfolding compiled
 quietly_compiled d program w = quietly_so d program (built_tree w.live.objects program) w
+
+-- What is told of a dump.
+
+shows_told_each : (ds : List ℕ) (text : List ℕ) (w : Live) → Shows w (told_each ds text w)
+unfolding told_each
+shows_told_each [] text w = quiet_order.itself w
+shows_told_each (d ∷ ds) text w = quiet_order.both w (tell d text w) _ ((quiet_tell d text).law w) (shows_told_each ds text (tell d text w))
+
+pub quiet_told_each : (ds : List ℕ) (text : List ℕ) → Quiet (told_each ds text)
+quiet_told_each ds text = record { law = λ w. shows_told_each ds text w }

@@ -1,28 +1,35 @@
 -- Lawful entries lead from sound worlds to sound worlds.
-use Rattle.std.proofs.Common.{◌≡◌, ℕ, ◌<◌, ◌≤◌, Bool, true, false, not, ◌&&◌, ◌||◌, cond, List, [], ◌∷◌, length, refl, sym, ◌∙◌, ap, arith, Option, Some, None, ltb, ◌==◌, ◌≢◌}
+use Rattle.std.proofs.Common.{◌≡◌, ℕ, ◌<◌, ◌≤◌, lit≤, Bool, true, false, not, ◌&&◌, ◌||◌, cond, List, [], ◌∷◌, length, refl, sym, ◌∙◌, ap, arith, Option, Some, None, ltb, ◌==◌, ◌≢◌}
 use Rattle.std.proofs.lemmas.Bool.Decides.{nat_tests}
 use Rattle.std.proofs.lemmas.Bool.{cond-true, cond-false, ltb-true, ltb-false, and_parts}
 use Rattle.std.specs.Prelude.{find, is_none, is_some, nat_lt, nat_le}
 use Rattle.std.specs.Option.{option_map, option_map_or}
 use Rattle.muck_model.specs.declared.event.Entry.{Entry}
 use Rattle.muck_model.specs.declared.event.Event.{Event}
-use Rattle.muck_model.specs.declared.event.Event.TheVariants.{Opened, Input, Closed, Moment, Exec, Claim, Slice, Lost, Idle, Take, Halt, Died}
+use Rattle.muck_model.specs.declared.event.Event.TheVariants.{Opened, Input, Closed, Moment, Exec, Slice, Idle, Take, Stored, DumpFailed, Halt, Died}
 use Rattle.muck_model.specs.declared.tune.Tune.{Tune}
 use Rattle.spec_live.specs.Objects.{Entry as Kept}
+use Rattle.spec_live.specs.Start.{first_objects}
 use Rattle.spec_live.specs.Output.{bytes_of}
 use Rattle.spec_live.specs.Connections.{Connection, has_number, placed, without, newcomer, connections_most, holds, lined}
-use Rattle.spec_live.specs.Boards.{player_in, opened, closed, line_added, bytes_taken, early_board}
+use Rattle.spec_live.specs.Boards.{player_in, opened, closed, line_added, bytes_taken, first_tune, early_board}
 use Rattle.spec_live.specs.Lives.{Live, Change, followed, reading, on_board}
+use Rattle.spec_admin.specs.declared.word.Parameter.TheVariants.{InstrSlice, PreemptUnits, M1Units, M2Units, ProcessLimit, PlayerProcesses, MpiCommands, DumpInterval}
+use Rattle.spec_admin.specs.Parameters.{IsInRange}
 use Rattle.spec_commands.specs.Talk.{welcome, parted, gone_away}
 use Rattle.spec_commands.specs.Rising.{IsAbove, IsRising}
 use Rattle.spec_commands.proofs.Numbered.{numbers, rising_by, seating_quiet, seating_one}
 use Rattle.spec_commands.proofs.Lines.{quiet_parted}
-use Rattle.spec_events.specs.World.{World, connection, queue_of, is_leaving, on_live, booted}
-use Rattle.spec_events.specs.Steps.{is_free, may_idle, is_allowed, is_lawful, happened, effect, next_ready}
+use Rattle.spec_events.specs.World.{World, connection, queue_of, is_leaving, askers_of, on_live, booted, starting}
+use Rattle.spec_events.specs.Dumping.{dump_stored, dump_failed, told_each}
+use Rattle.spec_events.specs.Steps.{is_free, may_idle, is_allowed, is_lawful, is_died, happened, effect, next_ready}
 use Rattle.spec_events.specs.Histories.{by_porter}
 use Rattle.spec_events.specs.Sound.{IsSound}
-use Rattle.spec_events.proofs.Done.{Going, done_going}
+use Rattle.spec_events.proofs.Quietly.{quietly_live, quiet_told_each}
+use Rattle.spec_events.proofs.Done.{Going, in_range_as, going_quietly, going_live, done_going}
 use Rattle.spec_events.proofs.Taken.{sliced_going}
+use Rattle.spec_events.proofs.Living.{dead-happened}
+use Rattle.spec_events.proofs.Turns.{gone_away_untouched}
 
 cases_lt : (m n : ℕ) (P : Bool → Type 0) → (m < n → P true) → (n ≤ m → P false) → P (ltb m n)
 cases_lt m n P p q =
@@ -37,13 +44,6 @@ some_none x e = cc
 none_of : {X : Type 0} (o : Option X) → is_none o ≡ true → o ≡ None
 none_of None e = refl
 none_of (Some x) e = cc
-
--- a change of what is live that keeps the numbers of the connections
-sound-live : (f : Change) → ((w : Live) → numbers (f w).board.connections ≡ numbers w.board.connections) → (w : World) → IsSound w → IsSound (on_live f w)
-sound-live f keeps w h = record { alive = h.alive; rising = rising_by w.live.board.connections (f w.live).board.connections (keeps w.live) h.rising }
-
-sound-going : (w v : World) → Going w v → IsSound w → IsSound v
-sound-going w v g h = record { alive = g.dead ∙ h.alive; rising = rising_by w.live.board.connections v.live.board.connections g.numbers h.rising }
 
 -- Connections that come and go.
 
@@ -90,39 +90,59 @@ rising-placed new (c ∷ cs) = λ none h.
     (λ less. ((less, above_more new.number c.number cs less h.0), h))
     (λ le. (above-placed c.number new cs (differs c.number new.number le other) h.0, rising-placed new cs rest h.1))
 
-sound-gone_away : (d : ℕ) (w : World) → IsSound w → IsSound (on_live (gone_away d) w)
-unfolding gone_away reading followed closed
-sound-gone_away d w h =
-    let parting : Change = parted (player_in d w.live.board) in
-    let v : World = on_live (on_board (closed d)) w in
-    sound-live parting (λ v. ((seating_quiet d parting (quiet_parted (player_in d w.live.board))).law v).numbers) v (record { alive = h.alive; rising = rising-without d w.live.board.connections h.rising })
-
 no_connection : (d : ℕ) (w : World) (first stop few : Bool) → (first && is_none (connection d w) && few && not stop) ≡ true → connection d w ≡ None
 no_connection d w first stop few e = none_of (connection d w) (and_parts first _ (and_parts _ _ (and_parts _ _ e).0).0).1
 
--- an event that is allowed and isn't Died
-sound-happened : (event : Event) (party : ℕ) (w : World) → event ≢ Died → is_allowed w party event ≡ true → IsSound w → IsSound (happened w party event)
-unfolding opened closed line_added bytes_taken
-sound-happened (Opened d) party w other l h = record {
-  alive = h.alive;
-  rising = rising-placed (newcomer d welcome) w.live.board.connections (no_connection d w (party == 0) w.stopping (nat_lt (length w.live.board.connections) connections_most) l) h.rising;
-}
-sound-happened (Input d line) party w other l h = sound-live (on_board (line_added d line)) (λ v. ((seating_one d (lined line) (λ c. refl)).law v).numbers) w h
-sound-happened (Closed d) party w other l h = let v = sound-gone_away d w h in record { alive = v.alive; rising = v.rising }
-sound-happened (Moment t) party w other l h = record { alive = h.alive; rising = h.rising }
-sound-happened (Exec d) party w other l h = sound-going w _ (done_going d w (connection d w) refl) h
-sound-happened (Claim pid) party w other l h = record { alive = h.alive; rising = h.rising }
-sound-happened (Slice pid) party w other l h = let v = sound-going w _ (sliced_going pid w) h in record { alive = v.alive; rising = v.rising }
-sound-happened (Lost pid) party w other l h = record { alive = h.alive; rising = h.rising }
-sound-happened (Take d n) party w other l h = sound-live (on_board (bytes_taken d n)) (λ v. ((seating_one d _ (λ c. refl)).law v).numbers) w h
-sound-happened Halt party w other l h = record { alive = h.alive; rising = h.rising }
-sound-happened Died party w other l h = absurd (other refl)
-sound-happened event party w other l h = h
+-- What is told of a dump keeps the world as it was before.
+told-going : (ds : List ℕ) (text : List ℕ) (w : World) → Going w (on_live (told_each ds text) w)
+told-going ds text w = going_quietly w _ (quietly_live (told_each ds text) (quiet_told_each ds text) w)
+
+going-rises : (w v : World) → Going w v → IsRising w.live.board.connections → IsRising v.live.board.connections
+going-rises w v g h = rising_by w.live.board.connections v.live.board.connections g.numbers h
+
+rising-gone_away : (d : ℕ) (w : Live) → IsRising w.board.connections → IsRising (gone_away d w).board.connections
+unfolding gone_away reading followed closed
+rising-gone_away d w h =
+    let parting : Change = parted (player_in d w.board) in
+    let v : Live = on_board (closed d) w in
+    rising_by v.board.connections (parting v).board.connections ((seating_quiet d parting (quiet_parted (player_in d w.board))).law v).numbers (rising-without d w.board.connections h)
+
+-- by an event that is allowed the connections still stand by rising number
+pub rising-happened : (event : Event) (party : ℕ) (w : World) → is_allowed w party event ≡ true → IsRising w.live.board.connections → IsRising (happened w party event).live.board.connections
+unfolding opened line_added bytes_taken
+rising-happened (Opened d) party w l h =
+    rising-placed (newcomer d welcome) w.live.board.connections (no_connection d w (party == 0) w.stopping (nat_lt (length w.live.board.connections) connections_most) l) h
+rising-happened (Input d line) party w l h = going-rises w _ (going_live d (on_board (line_added d line)) (seating_one d (lined line) (λ c. refl)) w) h
+rising-happened (Closed d) party w l h = rising-gone_away d w.live h
+rising-happened (Exec d) party w l h = going-rises w _ (done_going d w (connection d w) refl) h
+rising-happened (Slice pid) party w l h = going-rises w _ (sliced_going pid w) h
+rising-happened (Take d n) party w l h = going-rises w _ (going_live d (on_board (bytes_taken d n)) (seating_one d _ (λ c. refl)) w) h
+rising-happened (Stored k) party w l h = going-rises w _ (told-going (askers_of w.dumps) (dump_stored k) w) h
+rising-happened (DumpFailed k) party w l h = going-rises w _ (told-going (askers_of w.dumps) dump_failed w) h
+rising-happened event party w l h = h
+
+-- and what is tuned is in its range: only a keeper's line tunes
+tuned-happened : (event : Event) (party : ℕ) (w : World) → IsInRange w.live.board.tune → IsInRange (happened w party event).live.board.tune
+unfolding opened line_added bytes_taken
+tuned-happened (Closed d) party w h = in_range_as w.live (gone_away d w.live) (gone_away_untouched d w.live).tune h
+tuned-happened (Exec d) party w h = (done_going d w (connection d w) refl).tuned h
+tuned-happened (Slice pid) party w h = (sliced_going pid w).tuned h
+tuned-happened (Stored k) party w h = (told-going (askers_of w.dumps) (dump_stored k) w).tuned h
+tuned-happened (DumpFailed k) party w h = (told-going (askers_of w.dumps) dump_failed w).tuned h
+tuned-happened event party w h = h
+
+other_event : (event : Event) → event ≢ Died → is_died event ≡ false
+other_event Died other = absurd (other refl)
+other_event event other = refl
 
 -- a lawful entry that isn't Died leads from a sound world to a sound world
 pub sound-effect : (w : World) (entry : Entry) → entry.event ≢ Died → is_lawful w entry ≡ true → IsSound w → IsSound (effect w entry)
 unfolding effect is_lawful
-sound-effect w entry other l h = sound-happened entry.event entry.party w other (sym (cond-false _ _ _ h.alive) ∙ l) h
+sound-effect w entry other l h = record {
+  alive = dead-happened entry.event w entry.party (other_event entry.event other) ∙ h.alive;
+  rising = rising-happened entry.event entry.party w (sym (cond-false _ _ _ h.alive) ∙ l) h.rising;
+  tuned = tuned-happened entry.event entry.party w h.tuned;
+}
 
 -- Choices that are lawful.
 
@@ -217,6 +237,22 @@ died_lawful w party = either_way w.dead where
   either_way true = refl
   either_way false = refl
 
-pub sound-booted : (objects : List Kept) (tune : Tune) (moment start : ℕ) → IsSound (booted objects tune moment start)
+pub sound-booted : (objects : List Kept) (tune : Tune) (moment start : ℕ) → IsInRange tune → IsSound (booted objects tune moment start)
 unfolding booted early_board
-sound-booted objects tune moment start = record { alive = refl; rising = tt }
+sound-booted objects tune moment start h = record { alive = refl; rising = tt; tuned = h }
+
+-- what is tuned at first is in its range
+pub first_in_range : IsInRange first_tune
+unfolding first_tune
+first_in_range InstrSlice = (lit≤ tt, lit≤ tt)
+first_in_range PreemptUnits = (lit≤ tt, lit≤ tt)
+first_in_range M1Units = (lit≤ tt, lit≤ tt)
+first_in_range M2Units = (lit≤ tt, lit≤ tt)
+first_in_range ProcessLimit = (lit≤ tt, lit≤ tt)
+first_in_range PlayerProcesses = (lit≤ tt, lit≤ tt)
+first_in_range MpiCommands = (lit≤ tt, lit≤ tt)
+first_in_range DumpInterval = (lit≤ tt, lit≤ tt)
+
+pub sound-starting : IsSound starting
+unfolding starting
+sound-starting = sound-booted first_objects first_tune 0 0 first_in_range

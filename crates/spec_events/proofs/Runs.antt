@@ -1,9 +1,10 @@
 -- Histories in parts.
 use Rattle.std.proofs.Common.{◌≡◌, List, [], ◌∷◌, ◌++◌, refl, sym, ◌∙◌, ap, subst, append_assoc, append-nil}
 use Rattle.muck_model.specs.declared.event.Entry.{Entry}
+use Rattle.muck_model.specs.declared.note.Note.{Note}
 use Rattle.spec_events.specs.World.{World}
 use Rattle.spec_events.specs.Steps.{effect}
-use Rattle.spec_events.specs.Histories.{after, Run, AllLawful, History, now, entered, Grew}
+use Rattle.spec_events.specs.Histories.{after, Run, AllLawful, History, now, entered, noted, Grew}
 
 -- some entries, and others behind them
 pub after-append : (es fs : List Entry) (w : World) → after w (es ++ fs) ≡ after (after w es) fs
@@ -21,15 +22,16 @@ run_of_lawful w (e ∷ es) h = (effect w e, record { lawful = h.0; effect = refl
 
 -- the same of histories
 pub grew_nothing : (h k : History) → k ≡ h → Grew h k []
-grew_nothing h k is = record { start = ap (λ (x : History). x.start) is; entries = ap (λ (x : History). x.entries) is ∙ sym (append-nil h.entries) }
+grew_nothing h k is = record { start = ap (λ (x : History). x.start) is; entries = ap (λ (x : History). x.entries) is ∙ sym (append-nil h.entries); notes = ap (λ (x : History). x.notes) is }
 
 pub grew_one : (h k : History) (e : Entry) → k ≡ entered h e → Grew h k (e ∷ [])
-grew_one h k e is = record { start = ap (λ (x : History). x.start) is; entries = ap (λ (x : History). x.entries) is }
+grew_one h k e is = record { start = ap (λ (x : History). x.start) is; entries = ap (λ (x : History). x.entries) is; notes = ap (λ (x : History). x.notes) is }
 
 pub grew_on : (h k m : History) (es fs : List Entry) → Grew h k es → Grew k m fs → Grew h m (es ++ fs)
 grew_on h k m es fs p q = record {
   start = q.start ∙ p.start;
   entries = q.entries ∙ ap (λ (all : List Entry). all ++ fs) p.entries ∙ append_assoc h.entries es fs;
+  notes = q.notes ∙ p.notes;
 }
 
 pub grew_as : (h k : History) (es fs : List Entry) → es ≡ fs → Grew h k es → Grew h k fs
@@ -39,3 +41,8 @@ grew_as h k es fs e g = subst (Grew h k) e g
 pub now-grew : (h k : History) (es : List Entry) → Grew h k es → now k ≡ after (now h) es
 unfolding now
 now-grew h k es g = ap (λ (w : World). after w k.entries) g.start ∙ ap (after h.start) g.entries ∙ after-append h.entries es h.start
+
+-- a note changes nothing of the world
+pub now-noted : (h : History) (note : Note) → now (noted h note) ≡ now h
+unfolding now
+now-noted h note = refl

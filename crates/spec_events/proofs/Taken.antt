@@ -25,7 +25,7 @@ use Rattle.spec_events.specs.World.{World}
 use Rattle.spec_events.specs.Slices.{acting, Deed, does, rests, fails, lifted, row_done, process_done, deed, stands_at, ended_one, out, one_counted, broken, program_error, went, after_deed, unit_done, limit_fault, within_limit, turn, world_of, slice_most, run_of, last_world, awake, sliced}
 use Rattle.spec_events.proofs.Quietly.{Quietly, quietly_live, quietly_queue}
 use Rattle.spec_events.proofs.Endings.{IsTold, told_settled}
-use Rattle.spec_events.proofs.Done.{told_by, Open, open_quietly, open_settled, Going, going_same, going_both, going_open}
+use Rattle.spec_events.proofs.Done.{told_by, in_range_as, Open, open_quietly, open_settled, Going, going_same, going_both, going_open}
 use Rattle.spec_events.proofs.Deeds.{Leads, leads_more, leads_quietly}
 use Rattle.spec_events.proofs.Slicing.{run_holds}
 
@@ -36,10 +36,10 @@ module _ (a : Actor) (w : World) where
   Opens v = Open a nobody w.live w.dead v
 
   opens_itself : Opens w
-  opens_itself = record { licensed = (same_open a w.live).licensed; alive = refl }
+  opens_itself = record { licensed = (same_open a w.live).licensed; tuned = λ h. h; alive = refl }
 
   opens_row : (s : Source) (row : Row) → RowOpen a w.live row → Leads Opens (lifted s w row)
-  opens_row s (gives stack live) h = record { licensed = h.licensed; alive = refl }
+  opens_row s (gives stack live) h = record { licensed = h.licensed; tuned = in_range_as w.live live h.tune; alive = refl }
   opens_row s (refuses f) h = opens_itself
 
   opens_quietly : (v : World) → Quietly w v → Opens v
@@ -165,7 +165,7 @@ pub told_sliced : (pid : ℤ) (w : World) → IsTold w.live → IsTold (sliced p
 unfolding sliced
 told_sliced pid w h = told_run w.live.board.tune pid (slice_most w.live.board.tune) (awake pid w) h
 
--- The world lives on behind a slice, with the same connections.
+-- The world lives on behind a slice, with the same connections, and what is tuned stays in its range.
 
 going_turn : (tune : Tune) (pid : ℤ) (x : Agent) (s : Source) (w : World) → Going w (world_of (turn tune pid x s w))
 going_turn tune pid x s w = going_open (acting x s w.live.objects) nobody w _ (opens_turn tune pid x s w)
@@ -174,7 +174,7 @@ going_run : (tune : Tune) (pid : ℤ) (n : ℕ) (w : World) → Going w (last_wo
 going_run tune pid n w = run_holds tune pid (λ v ts. Going v (last_world v ts)) going_same (λ v x s ts e rest. going_both v _ _ (going_turn tune pid x s v) rest) n w
 
 going_awake : (pid : ℤ) (w : World) → Going w (awake pid w)
-going_awake pid w = record { numbers = refl; dead = refl }
+going_awake pid w = record { numbers = refl; tuned = λ h. h; dead = refl }
 
 pub sliced_going : (pid : ℤ) (w : World) → Going w (sliced pid w)
 unfolding sliced

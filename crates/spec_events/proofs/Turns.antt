@@ -2,7 +2,7 @@
 use Rattle.std.proofs.Common.{◌≡◌, ℕ, true, false, zero, suc, List, [], ◌∷◌, refl}
 use Rattle.muck_model.specs.declared.event.Entry.{Entry}
 use Rattle.muck_model.specs.declared.event.Event.{Event}
-use Rattle.muck_model.specs.declared.event.Event.TheVariants.{Opened, Input, Closed, Exec, Slice, Take}
+use Rattle.muck_model.specs.declared.event.Event.TheVariants.{Opened, Input, Closed, Exec, Slice, Take, Stored, DumpFailed}
 use Rattle.spec_live.specs.Objects.{mark_in}
 use Rattle.spec_live.specs.Start.{first_objects}
 use Rattle.spec_live.specs.Boards.{player_in, opened, closed, line_added, bytes_taken}
@@ -13,10 +13,12 @@ use Rattle.spec_commands.proofs.Numbered.{leavers_ties}
 use Rattle.spec_commands.proofs.Lines.{quiet_parted}
 use Rattle.muck_queue.specs.Queues.{is_tied_to, claimed, released}
 use Rattle.muck_queue.specs.inner.Numbered.{IsNumbered}
-use Rattle.spec_events.specs.World.{World, booted, starting, connection}
+use Rattle.spec_events.specs.World.{World, booted, starting, connection, askers_of}
+use Rattle.spec_events.specs.Dumping.{dump_stored, dump_failed, told_each}
 use Rattle.spec_events.specs.Steps.{effect, happened}
 use Rattle.spec_events.specs.Licences.{Untouched, EventLicensed}
 use Rattle.spec_events.specs.Histories.{AllLicensed}
+use Rattle.spec_events.proofs.Quietly.{quiet_told_each}
 use Rattle.spec_events.proofs.Endings.{IsTold, processes_remain, tied_remain}
 use Rattle.spec_events.proofs.Done.{none_ends, undisturbed_quietly, turn_licensed, told_by, told_done}
 use Rattle.spec_events.proofs.Taken.{told_sliced}
@@ -27,7 +29,7 @@ use Rattle.spec_events.proofs.Numbers.{rising_happened, rising_starting}
 pub exec_licensed : (d : ℕ) (w : World) (party : ℕ) → IsTold w.live → EventLicensed (Exec d) w (happened w party (Exec d))
 exec_licensed d w party told = turn_licensed d w (connection d w) refl told
 
-gone_away_untouched : (d : ℕ) (w : Live) → Untouched w (gone_away d w)
+pub gone_away_untouched : (d : ℕ) (w : Live) → Untouched w (gone_away d w)
 unfolding gone_away reading followed closed
 gone_away_untouched d w =
     let parting = quiet_parted (player_in d w.board) in
@@ -44,12 +46,16 @@ event_licensed (Closed d) w party told rising =
 event_licensed (Opened d) w party told rising = (record { objects = refl; tune = refl }, none_ends w (happened w party (Opened d)) refl)
 event_licensed (Input d line) w party told rising = undisturbed_quietly (λ c. false) (on_board (line_added d line)) w (quiet_one d _ (λ c. refl))
 event_licensed (Take d n) w party told rising = undisturbed_quietly (λ c. false) (on_board (bytes_taken d n)) w (quiet_one d _ (λ c. refl))
+event_licensed (Stored k) w party told rising = undisturbed_quietly (λ c. false) (told_each (askers_of w.dumps) (dump_stored k)) w (quiet_told_each (askers_of w.dumps) (dump_stored k))
+event_licensed (DumpFailed k) w party told rising = undisturbed_quietly (λ c. false) (told_each (askers_of w.dumps) dump_failed) w (quiet_told_each (askers_of w.dumps) dump_failed)
 event_licensed event w party told rising = (record { objects = refl; tune = refl }, none_ends w (happened w party event) refl, leavers_ties (λ c. false) w.live.board.connections w.live.board.connections refl)
 
 told_happened : (event : Event) (w : World) (party : ℕ) → IsTold w.live → IsTold (happened w party event).live
 told_happened (Exec d) w party h = told_done d w (connection d w) h
 told_happened (Slice pid) w party h = told_sliced pid w h
 told_happened (Closed d) w party h = told_by w.live (gone_away d w.live) (gone_away_untouched d w.live).objects h
+told_happened (Stored k) w party h = told_by w.live (told_each (askers_of w.dumps) (dump_stored k) w.live) ((quiet_told_each (askers_of w.dumps) (dump_stored k)).law w.live).objects h
+told_happened (DumpFailed k) w party h = told_by w.live (told_each (askers_of w.dumps) dump_failed w.live) ((quiet_told_each (askers_of w.dumps) dump_failed).law w.live).objects h
 told_happened event w party h = h
 
 -- whole histories, from a world of which nothing is to be told, and in which the numbers of the processes rise

@@ -35,6 +35,7 @@ use Rattle.spec_commands.proofs.Permitted.{whole_next, played_leading}
 use Rattle.spec_commands.proofs.Showing.{quiet_waits}
 use Rattle.muck_queue.specs.Queues.{Queue}
 use Rattle.spec_admin.specs.Following.{MayFollow}
+use Rattle.spec_admin.specs.Parameters.{IsInRange}
 use Rattle.spec_admin.specs.Lines.{admin_line}
 use Rattle.spec_admin.proofs.Following.{keeps_arguments, admin_follows}
 use Rattle.spec_admin.proofs.Permitted.{admin_leading}
@@ -211,22 +212,28 @@ left_where w v outcome h e = absurd cc
 pub left_to_keepers : (d : ℕ) (a : Actor) (line : List ℕ) (w : Live) → (played d a line w).1 ≡ NotMine → (played d a line w).0 ≡ w
 left_to_keepers d a line w e = left_where w (played d a line w).0 (played d a line w).1 (leaves_played d a line w) e
 
--- Only a wizard's line retunes.
+-- Only a wizard's line retunes, and keeps to the ranges.
 
-keeper_retunes : (q : Queue) (d : ℕ) (a : Actor) (line : List ℕ) (w : Live) (tune : Tune) → (by_keeper q d a line w).1 ≡ Retune tune → is_master a ≡ true
+abbrev pub MayRetune : Actor → Live → Tune → Type 0
+MayRetune a w tune = (is_master a ≡ true) × (IsInRange w.board.tune → IsInRange tune)
+
+retunes_as : (a : Actor) (w : Live) (t tune : Tune) → ◌≡◌ {A = Outcome} (Retune t) (Retune tune) → MayRetune a w t → MayRetune a w tune
+retunes_as a w t tune e h = let same : t ≡ tune = cc in subst (MayRetune a w) same h
+
+keeper_retunes : (q : Queue) (d : ℕ) (a : Actor) (line : List ℕ) (w : Live) (tune : Tune) → (by_keeper q d a line w).1 ≡ Retune tune → MayRetune a w tune
 unfolding by_keeper or_else ended
 keeper_retunes q d a line w tune e = at (admin_line q d a line w).0 (admin_line q d a line w).1 ((admin_follows q d a line).law w) e
   where
-    at : (v : Live) (outcome : Outcome) → MayFollow a w.board.tune outcome → (or_next (ended Done (tell d huh)) (v, outcome)).1 ≡ Retune tune → is_master a ≡ true
-    at v (Retune t) h f = h.0
+    at : (v : Live) (outcome : Outcome) → MayFollow a w.board.tune outcome → (or_next (ended Done (tell d huh)) (v, outcome)).1 ≡ Retune tune → MayRetune a w tune
+    at v (Retune t) h f = retunes_as a w t tune f h
     at v outcome h f = absurd cc
 
-pub typed_retunes : (q : Queue) (d : ℕ) (a : Actor) (line : List ℕ) (w : Live) (tune : Tune) → (typed q d a line w).1 ≡ Retune tune → is_master a ≡ true
+pub typed_retunes : (q : Queue) (d : ℕ) (a : Actor) (line : List ℕ) (w : Live) (tune : Tune) → (typed q d a line w).1 ≡ Retune tune → MayRetune a w tune
 unfolding typed or_else
 typed_retunes q d a line w tune e = at (played d a line w).0 (played d a line w).1 (leaves_played d a line w) e
   where
-    at : (v : Live) (outcome : Outcome) → Leaves w (v, outcome) → (or_next (by_keeper q d a line) (v, outcome)).1 ≡ Retune tune → is_master a ≡ true
-    at v NotMine h e = keeper_retunes q d a line v tune e
+    at : (v : Live) (outcome : Outcome) → Leaves w (v, outcome) → (or_next (by_keeper q d a line) (v, outcome)).1 ≡ Retune tune → MayRetune a w tune
+    at v NotMine h e = subst (λ u. MayRetune a u tune) h (keeper_retunes q d a line v tune e)
     at v (Retune t) h e = absurd h
     at v outcome h e = absurd cc
 

@@ -1,7 +1,7 @@
 -- What is told of a dump, to the connections that asked for it.
 use Rattle.std.specs.Prelude.{ℕ, List, [], ◌∷◌, ◌++◌, codes}
 use Rattle.std.specs.Fmt.{decimal}
-use Rattle.spec_live.specs.Lives.{Live, Change, tell}
+use Rattle.spec_live.specs.Lives.{Change, tell}
 
 abbrev pub dump_stored : ℕ → List ℕ
 dump_stored k = codes "Dump " ++ decimal k ++ codes " stored."

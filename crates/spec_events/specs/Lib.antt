@@ -14,3 +14,4 @@ pub mod Sound
 pub mod Passwords
 pub mod Rows
 pub mod LineRows
+pub mod DumpRows

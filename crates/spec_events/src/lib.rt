@@ -1,6 +1,7 @@
 //! What the world is and what happens in it, as definitions: `specs/` holds the record of the world with its programs and
 //! processes, which entries are lawful and what each does, and whole histories; `proofs/` holds the laws about them. The
-//! code here is three small types that those definitions speak of, and what players are told of programs that go wrong.
+//! code here is three small types that those definitions speak of, and what players are told of programs that go wrong
+//! and of dumps.
 #![tactic(auto)]
 
 mod agents;
@@ -11,4 +12,4 @@ mod texts;
 pub use agents::ends_what_runs_it;
 pub use rows::rows_hold;
 pub use starting::{Agent, Call, Manner};
-pub use texts::{error_text, flaw_text};
+pub use texts::{dump_stored, error_text, flaw_text};

@@ -1,7 +1,8 @@
-// What players are told of programs that go wrong.
+// What players are told of programs that go wrong, and of dumps.
 ghost use Rattle.std.specs.Prelude.{◌≡◌, IfOk};
 ghost use Rattle.spec_events.specs.Slices.{program_error};
 ghost use Rattle.spec_events.specs.Lines.{flaw_text};
+ghost use Rattle.spec_events.specs.Dumping.{dump_stored};
 
 use muck_library::Flaw;
 use muck_model::{Dbref, NoMemory};
@@ -28,5 +29,13 @@ pub fn flaw_text(alloc: Global, flaw: Flaw) -> Result<Vec<u8>, NoMemory>
 {
     let Flaw { number, line } = flaw;
     let text = format!(in alloc; "Error {number} in line {line}.")?;
+    Ok(text.into_bytes())
+}
+
+/// What is told of a dump that is stored, by its number.
+pub fn dump_stored(alloc: Global, k: u64) -> Result<Vec<u8>, NoMemory>
+    ensures { IfOk result (λ text. text.items ≡ dump_stored k) }
+{
+    let text = format!(in alloc; "Dump {k} stored.")?;
     Ok(text.into_bytes())
 }
