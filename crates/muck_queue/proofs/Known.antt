@@ -16,7 +16,7 @@ use Rattle.muck_queue.specs.declared.process.Process.{Process}
 use Rattle.muck_queue.specs.Queues.{Queue, changed_first, earlier, earliest, has_pid, has_trigger, in_mode, is_awaiting, is_background, is_claimed, is_due, is_for_event, is_reading, is_tied_to, keeps_busy, next_due, numbered, reads_from, told_event, woken, without_all, without_event, without_first, without_trigger}
 use Rattle.muck_queue.specs.inner.Known.{Knows, fits_second, fits_ties, has_connection, is_timed}
 use Rattle.muck_queue.proofs.Woken.{woken_due, woken_descr}
-use Rattle.muck_queue.proofs.Tested.{Gives, Bars, all_given, all_changed, all_without, all_kept, all_mapped, all_added, none_any, none_found, none_filtered}
+use Rattle.muck_queue.proofs.Tested.{Gives, Bars, all_given, all_changed, all_without, all_kept, all_mapped, all_added, none_any, none_found, none_filtered, none_taken}
 
 or_true : (b : Bool) → (b || true) ≡ true
 or_true true = refl
@@ -99,6 +99,9 @@ module _ (d : ℕ) (tied : Bool) (s : ℕ) (ps : List Process) (k : Knows tied s
 
   pub none_tied : list_any (is_tied_to d) ps ≡ false
   none_tied = none_any (fits_ties false) (is_tied_to d) (untied d) ps untied_all
+
+  pub none_ended : without_all (is_tied_to d) ps ≡ ps
+  none_ended = none_taken (fits_ties false) (is_tied_to d) (untied d) ps untied_all
 
   pub none_busy : list_any (keeps_busy d) ps ≡ false
   none_busy = none_any (fits_ties false) (keeps_busy d) (λ p h. ap (λ b. b && not (is_reading p)) (untied d p h)) ps untied_all

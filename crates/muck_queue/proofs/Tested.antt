@@ -1,8 +1,8 @@
 -- Of each process of a list a test is true: what changes keep that, and what it tells.
-use Rattle.std.proofs.Common.{◌≡◌, Bool, true, false, List, [], ◌∷◌, ◌++◌, refl, sym, ◌∙◌, ap, subst, Option, None, if◌then◌else◌}
+use Rattle.std.proofs.Common.{◌≡◌, Bool, true, false, not, List, [], ◌∷◌, ◌++◌, refl, sym, ◌∙◌, ap, subst, Option, None, if◌then◌else◌}
 use Rattle.std.specs.Prelude.{◌&&◌, find, map}
 use Rattle.std.specs.List.{filter, list_all, list_any}
-use Rattle.std.proofs.lemmas.Bool.{and_parts, cond_both, cond-false}
+use Rattle.std.proofs.lemmas.Bool.{and_parts, cond_both, cond-true, cond-false}
 use Rattle.muck_queue.specs.declared.process.Process.{Process}
 use Rattle.muck_queue.specs.Queues.{changed_first, without_first}
 
@@ -82,3 +82,10 @@ none_filtered test other b [] h = refl
 none_filtered test other b (p ∷ ps) h =
     let h' = and_parts (test p) (list_all test ps) h in
     cond-false _ _ _ (b p h'.0) ∙ none_filtered test other b ps h'.1
+
+-- so without those that pass it all stay
+pub none_taken : (test other : Process → Bool) → Bars test other → (ps : List Process) → list_all test ps ≡ true → filter (λ p. not (other p)) ps ≡ ps
+none_taken test other b [] h = refl
+none_taken test other b (p ∷ ps) h =
+    let h' = and_parts (test p) (list_all test ps) h in
+    cond-true _ _ _ (ap not (b p h'.0)) ∙ ap (λ qs. p ∷ qs) (none_taken test other b ps h'.1)

@@ -351,6 +351,9 @@ impl Queue {
     pub fn end_tied(&mut self, d: u32)
         ensures { self.new ≡ ended_tied d self.old }
     {
+        if !self.tied {
+            return;
+        }
         processes::end_tied(&mut self.processes, d);
         self.tied = processes::are_tied(&self.processes);
     }
