@@ -5,3 +5,4 @@ pub mod Tied
 pub mod Parts
 pub mod Everyone
 pub mod Sound
+pub mod Round
