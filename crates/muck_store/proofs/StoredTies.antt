@@ -143,31 +143,16 @@ chains_persist es c k e at =
 
 -- Garbage.
 
+-- what is stored of an object with these lists, behind which this one stands
 abbrev form : ℕ → Object → List ℕ → List ℕ → Option ℕ → Stored
-form k o xs ys next = record {
-  dbref = dbref_of k;
-  kind = o.kind;
-  flags = o.flags;
-  level = o.level;
-  owner = o.owner;
-  place = o.place;
-  link = o.link;
-  home = o.home;
-  first_content = first_of xs;
-  first_exit = first_of ys;
-  next = link_of next;
-  name = o.name;
-  props = properties_of o.props;
-  lines = o.lines;
-  digest = o.digest;
-}
+form k o contents exits next = record (stored_of [] k (record { object = o; contents = contents; exits = exits; mark = None })) { next = link_of next }
 
 no_properties : properties_of garbage.props ≡ []
 unfolding garbage IsStrictlySortedBy
 no_properties = ap (map property_of) (entries_are [] tt)
 
 blank_form : (k : ℕ) (o : Object) (xs ys : List ℕ) (next : Option ℕ) → o ≡ garbage → xs ≡ [] → ys ≡ [] → next ≡ None → is_blank (form k o xs ys next) ≡ true
-unfolding garbage
+unfolding garbage stored_of
 blank_form k o xs ys next a b c d =
     ap (λ (z : Object). is_blank (form k z xs ys next)) a ∙ ap (λ (z : List ℕ). is_blank (form k garbage z ys next)) b ∙ ap (λ (z : List ℕ). is_blank (form k garbage [] z next)) c
     ∙ ap (λ (z : Option ℕ). is_blank (form k garbage [] [] z)) d ∙ ap (λ (z : List Property). is_blank (record (form k garbage [] [] None) { props = z })) no_properties
