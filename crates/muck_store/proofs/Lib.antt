@@ -6,3 +6,10 @@ pub mod Parts
 pub mod Everyone
 pub mod Sound
 pub mod Round
+pub mod AliveCount
+pub mod MetChains
+pub mod MetLists
+pub mod Stored
+pub mod StoredForms
+pub mod StoredTies
+pub mod StoredTree

@@ -39,7 +39,7 @@ has_owner os s = leads_to (λ n. is_player (kind_of os n)) s.owner
 
 -- only `#0`, a room, stands nowhere
 abbrev pub has_place : List Stored → ℕ → Stored → Bool
-has_place os zero s = is_room s.kind && same s.place nothing && same s.next nothing
+has_place os zero s = is_room s.kind && not (leads_to (λ n. true) s.place) && same s.next nothing
 has_place os (suc k) s = leads_to (λ p. may_stand s.kind (kind_of os p) (seats_in os p)) s.place
 
 abbrev pub has_link : List Stored → Stored → Bool
