@@ -1,1 +1,3 @@
-
+pub mod Marking
+pub mod Meeting
+pub mod Tying
