@@ -1,5 +1,5 @@
 -- Marks of none, and of one more.
-use Rattle.std.proofs.Common.{◌≡◌, ℕ, ◌+◌, ◌*◌, ◌<◌, ◌≤◌, suc, List, [], ◌∷◌, ◌++◌, ◌⊎◌, inl, inr, refl, sym, ◌∙◌, ap, subst, length, set, get_or, replicate, arith, Bool, true, false, cond, eqb, ◌||◌, length-append}
+use Rattle.std.proofs.Common.{◌≡◌, ℕ, ◌+◌, ◌<◌, ◌≤◌, List, [], ◌∷◌, ◌++◌, ◌⊎◌, inl, inr, refl, sym, ◌∙◌, ap, subst, length, set, get_or, replicate, arith, Bool, true, false, cond, eqb, ◌||◌, length-append}
 use Rattle.std.proofs.lemmas.Bool.{cases_eq, ne_eqb, eq-eqb, or_right}
 use Rattle.std.proofs.lemmas.List.{get_or-set_same, get_or-set_other, get_or-replicate}
 use Rattle.std.proofs.Math.ListN.{length-replicate, length-set}
@@ -45,9 +45,9 @@ module _ (marks : List Bool) (met : List ℕ) (d : ℕ) (within : d < length mar
   one_marked fresh = record {
     each = λ k h. each_more k (subst (λ (n : ℕ). k < n) (length-set marks d true) h) (cases_eq k d);
     count =
-      let f : Bool → ℕ = λ b. cond b 1 0 in
-      let old : f (get_or marks d false) ≡ 0 = ap f (m.each d within ∙ fresh) in
-      let sums : count_by (λ (b : Bool). b) (set marks d true) + f (get_or marks d false) ≡ count_by (λ (b : Bool). b) marks + 1 = sum_by-set f marks d true false within in
-      let was : count_by (λ (b : Bool). b) marks ≡ length met = m.count in
-      omega (arith, length-append met (d ∷ []));
+        let f : Bool → ℕ = λ b. cond b 1 0 in
+        let old : f (get_or marks d false) ≡ 0 = ap f (m.each d within ∙ fresh) in
+        let sums : count_by (λ (b : Bool). b) (set marks d true) + f (get_or marks d false) ≡ count_by (λ (b : Bool). b) marks + 1 = sum_by-set f marks d true false within in
+        let was : count_by (λ (b : Bool). b) marks ≡ length met = m.count in
+        omega (arith, length-append met (d ∷ []));
   }

@@ -1,12 +1,13 @@
 -- Lists that are met, a number at a time.
-use Rattle.std.proofs.Common.{◌≡◌, ℕ, ◌+◌, ◌-◌, ◌<◌, ◌≤◌, zero, suc, List, [], ◌∷◌, ◌++◌, Option, Some, None, refl, sym, ◌∙◌, ap, length, arith, Bool, true, false, cond, not, ◌&&◌, ◌||◌, length-append, add-one, get_or}
+use Rattle.std.proofs.Common.{◌≡◌, ℕ, ◌+◌, ◌-◌, ◌<◌, ◌≤◌, zero, suc, List, [], ◌∷◌, ◌++◌, Option, Some, None, refl, sym, ◌∙◌, ap, length, arith, Bool, true, false, cond, not, ◌&&◌, length-append, add-one, get_or, eqb}
 use Rattle.std.proofs.lemmas.Option.{slice_get-get_or, slice_get_past}
-use Rattle.std.specs.List.{slice_get}
+use Rattle.std.specs.List.{slice_get, count_by}
 use Rattle.std.specs.Option.{option_and_then, option_map_or}
 use Rattle.spec_live.specs.Chain.{has}
+use Rattle.spec_live.specs.Objects.{is_garbage}
 use Rattle.muck_codec.specs.declared.stored.Stored.{Stored}
 use Rattle.muck_store.specs.Forms.{next_at}
-use Rattle.muck_store.specs.Whole.{stands_in, chain_met, list_met, held_met, all_met}
+use Rattle.muck_store.specs.Whole.{stands_in, chain_met, list_met, held_met, all_met, is_tree}
 
 -- One list.
 
@@ -99,3 +100,17 @@ pub all_end : (n : ℕ) (os : List Stored) (i : ℕ) (met : List ℕ) → length
 unfolding all_met
 all_end zero os i met h = refl
 all_end (suc n) os i met h = ap (λ (o : Option ℕ). option_map_or (λ (q : ℕ). option_and_then (all_met n os (suc i)) (held_met os q met)) o (Some met)) (slice_get_past met i h)
+
+-- The whole.
+
+pub tree_stops : (os : List Stored) (first : List ℕ) → first ≡ 0 ∷ [] → all_met (length os) os 0 first ≡ None → false ≡ is_tree os
+unfolding is_tree
+tree_stops os first e stops =
+    sym (ap (λ (o : Option (List ℕ)). option_map_or (λ met. eqb (length met) (count_by (λ s. not (is_garbage s.kind)) os)) o false) (ap (all_met (length os) os 0) (sym e) ∙ stops))
+
+pub tree_met : (os : List Stored) (first met : List ℕ) (seen there : ℕ) → first ≡ 0 ∷ [] → all_met (length os) os 0 first ≡ Some met
+    → seen ≡ length met → there ≡ count_by (λ s. not (is_garbage s.kind)) os → eqb seen there ≡ is_tree os
+unfolding is_tree
+tree_met os first met seen there e all p q =
+    ap (λ (n : ℕ). eqb n there) p ∙ ap (λ (n : ℕ). eqb (length met) n) q
+    ∙ sym (ap (λ (o : Option (List ℕ)). option_map_or (λ l. eqb (length l) (count_by (λ s. not (is_garbage s.kind)) os)) o false) (ap (all_met (length os) os 0) (sym e) ∙ all))

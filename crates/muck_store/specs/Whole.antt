@@ -1,10 +1,10 @@
 -- Whether records, by the numbers of their objects from 0 on, make a world that hangs together.
-use Rattle.std.specs.Prelude.{ℕ, zero, suc, ◌+◌, Bool, true, false, not, ◌&&◌, ◌||◌, ◌==◌, nat_lt, if◌then◌else◌, List, [], ◌∷◌, ◌++◌, length, Option, Some, None, slice_get, bytes_eq, codes, option_and_then}
+use Rattle.std.specs.Prelude.{ℕ, zero, suc, Bool, true, false, not, ◌&&◌, ◌||◌, ◌==◌, nat_lt, if◌then◌else◌, List, [], ◌∷◌, ◌++◌, length, Option, Some, None, slice_get, bytes_eq, codes, option_and_then}
 use Rattle.std.specs.Option.{option_map_or}
-use Rattle.std.specs.List.{list_all, count_by}
+use Rattle.std.specs.List.{count_by}
 use Rattle.muck_model.specs.declared.dbref.Dbref.{Dbref}
 use Rattle.muck_model.specs.declared.dbref.Kind.{Kind}
-use Rattle.muck_model.specs.declared.dbref.Kind.TheVariants.{Room, Thing, Exit, Player, Program, Garbage}
+use Rattle.muck_model.specs.declared.dbref.Kind.TheVariants.{Thing, Player, Garbage}
 use Rattle.spec_live.specs.Flags.{has_flag, vehicle}
 use Rattle.spec_live.specs.Chain.{has}
 use Rattle.spec_live.specs.Objects.{dbref_of, index_of, nothing, home, same, is_room, is_exit, is_player, is_garbage, may_stand}

@@ -1,5 +1,5 @@
 // The numbers that were met, with marks to find them by.
-ghost use Rattle.std.specs.Prelude.{◌≡◌, ◌<◌, ◌≤◌, ◌×◌, ◌++◌, ◌∷◌, [], length, false, IfOk, OnOk, slice_index};
+ghost use Rattle.std.specs.Prelude.{◌≡◌, ◌<◌, ◌≤◌, ◌++◌, ◌∷◌, [], length, false, IfOk, OnOk, slice_index};
 ghost use Rattle.spec_live.specs.Chain.{has};
 ghost use Rattle.muck_store.specs.Marks.{IsMarked};
 

@@ -9,6 +9,7 @@ use muck_model::{Dbref, Kind};
 use spec_live::{VEHICLE, has_flag};
 
 pub const NOTHING: Dbref = Dbref(-1);
+
 pub const HOME: Dbref = Dbref(-3);
 
 // The number from 0 on.

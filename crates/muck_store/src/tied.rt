@@ -42,9 +42,7 @@ fn has_place(records: &[Stored], k: u32, stored: &Stored) -> bool
     ensures { result ≡ has_place records.now k stored.now }
 {
     if k == 0 {
-        return is_room(stored.kind)
-            && same(stored.place, NOTHING)
-            && same(stored.next, NOTHING);
+        return is_room(stored.kind) && same(stored.place, NOTHING) && same(stored.next, NOTHING);
     }
     match index_of(stored.place) {
         Some(p) => may_stand(stored.kind, kind_of(records, p), seats_in(records, p)),
