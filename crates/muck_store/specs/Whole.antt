@@ -50,7 +50,7 @@ home_for Thing os s = leads_to (λ n. may_live s.kind (kind_of os n)) s.home
 home_for Player os s = leads_to (λ n. may_live s.kind (kind_of os n)) s.home
 home_for kind os s = same s.home nothing
 
--- named as garbage is, with no object named, and in no list
+-- named as garbage is, of `#1`, with no other object named, and in no list
 abbrev pub is_loose : Stored → Bool
 is_loose s =
     bytes_eq s.name (codes "<garbage>") && same s.owner (dbref_of 1) && same s.place nothing && same s.link nothing && same s.home nothing

@@ -76,7 +76,7 @@ fn has_home(records: &[Stored], stored: &Stored) -> bool
     }
 }
 
-// Whether it is named as garbage is, and neither names an object nor is in a list.
+// Whether it is named as garbage is, `#1` owns it, it names no other object, and it is in no list.
 fn is_loose(stored: &Stored) -> bool
     ensures { result ≡ is_loose stored.now }
 {
