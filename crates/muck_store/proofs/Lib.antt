@@ -13,3 +13,6 @@ pub mod Stored
 pub mod StoredForms
 pub mod StoredTies
 pub mod StoredTree
+pub mod Marking
+pub mod Tying
+pub mod Walking

@@ -1,3 +1,4 @@
 pub mod Forms
 pub mod Hung
+pub mod Marks
 pub mod Whole

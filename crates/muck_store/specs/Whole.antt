@@ -1,10 +1,10 @@
 -- Whether records, by the numbers of their objects from 0 on, make a world that hangs together.
-use Rattle.std.specs.Prelude.{ℕ, zero, suc, ◌+◌, Bool, true, false, not, ◌&&◌, ◌||◌, ◌==◌, nat_lt, if◌then◌else◌, List, [], ◌∷◌, ◌++◌, length, Option, Some, None, slice_get, bytes_eq, codes, option_and_then}
+use Rattle.std.specs.Prelude.{ℕ, zero, suc, Bool, true, false, not, ◌&&◌, ◌||◌, ◌==◌, nat_lt, if◌then◌else◌, List, [], ◌∷◌, ◌++◌, length, Option, Some, None, slice_get, bytes_eq, codes, option_and_then}
 use Rattle.std.specs.Option.{option_map_or}
-use Rattle.std.specs.List.{list_all, count_by}
+use Rattle.std.specs.List.{count_by}
 use Rattle.muck_model.specs.declared.dbref.Dbref.{Dbref}
 use Rattle.muck_model.specs.declared.dbref.Kind.{Kind}
-use Rattle.muck_model.specs.declared.dbref.Kind.TheVariants.{Room, Thing, Exit, Player, Program, Garbage}
+use Rattle.muck_model.specs.declared.dbref.Kind.TheVariants.{Thing, Player, Garbage}
 use Rattle.spec_live.specs.Flags.{has_flag, vehicle}
 use Rattle.spec_live.specs.Chain.{has}
 use Rattle.spec_live.specs.Objects.{dbref_of, index_of, nothing, home, same, is_room, is_exit, is_player, is_garbage, may_stand}
@@ -50,12 +50,15 @@ home_for Thing os s = leads_to (λ n. may_live s.kind (kind_of os n)) s.home
 home_for Player os s = leads_to (λ n. may_live s.kind (kind_of os n)) s.home
 home_for kind os s = same s.home nothing
 
--- garbage is blank
-abbrev pub is_blank : Stored → Bool
-is_blank s =
+-- named as garbage is, of `#1`, with no other object named, and in no list
+abbrev pub is_loose : Stored → Bool
+is_loose s =
     bytes_eq s.name (codes "<garbage>") && same s.owner (dbref_of 1) && same s.place nothing && same s.link nothing && same s.home nothing
     && same s.first_content nothing && same s.first_exit nothing && same s.next nothing
-    && s.flags.0 == 0 && s.level == 0 && length s.props == 0 && length s.lines == 0 && length s.digest == 0
+
+-- garbage is blank
+abbrev pub is_blank : Stored → Bool
+is_blank s = is_loose s && s.flags.0 == 0 && s.level == 0 && length s.props == 0 && length s.lines == 0 && length s.digest == 0
 
 abbrev pub is_tied : List Stored → ℕ → Stored → Bool
 is_tied os k s = if is_garbage s.kind then is_blank s else has_owner os s && has_place os k s && has_link os s && home_for s.kind os s && has_chains os s

@@ -1,2 +1,12 @@
 //! The stored form of the objects of a world, and whether stored forms make a world that hangs together.
 #![tactic(auto)]
+
+mod kinds;
+mod met;
+mod records;
+mod tied;
+mod tree;
+mod whole;
+
+pub use kinds::{may_link, may_live, may_stand};
+pub use whole::is_whole;
