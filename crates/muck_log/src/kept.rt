@@ -141,7 +141,7 @@ fn tune_fits(tune: &Tune) -> bool
 fn all_fit(objects: &[Stored]) -> bool
     ensures { result ≡ list_all fits objects.now }
 {
-    objects.iter().all(fits)
+    objects.iter().all(|object| fits(object))
 }
 
 #[tactic(auto, unfolding(crate::specs::World::is_fine))]
