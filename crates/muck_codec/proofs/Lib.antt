@@ -1,3 +1,4 @@
+pub mod Batches
 pub mod Codes
 pub mod Fields
 pub mod Loops

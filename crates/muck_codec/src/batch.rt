@@ -1,5 +1,6 @@
 // Batches, as they are read.
-ghost use Rattle.std.specs.Prelude.{◌≡◌, ◌≤◌, ◌<◌, length, Ok, Err, Some, None};
+ghost use Rattle.std.specs.Prelude.{◌≡◌, ◌≤◌, ◌<◌, length, Ok, Err, Some, None, All, IfOk};
+ghost use Rattle.muck_codec.specs.Stored.{IsStored};
 ghost use Rattle.muck_codec.specs.Reading.{Gives, last_key};
 ghost use Rattle.muck_codec.specs.Batches.{is_above, next_at, records_at, four_at, tune_at, batch_at, whole_batch, IsBatch};
 
@@ -103,9 +104,11 @@ fn whole(alloc: Global, version: u8, bytes: &[u8]) -> Result<Batch, Unread>
 }
 
 /// The batch of this version that the bytes are, to their end. `BadRecord` comes exactly where they are none: at the
-/// first byte that no batch continues. A record whose dbref isn't above the one before is refused at its last byte.
+/// first byte that no batch continues. A record whose dbref isn't above the one before is refused at its last byte. Each
+/// record of version 1 has a spelling.
 pub fn take_batch(alloc: Global, version: u8, bytes: &[u8]) -> Result<Batch, CodecFault>
-    ensures { IsBatch version bytes.now result }
+    ensures exact { IsBatch version bytes.now result }
+    ensures stored { version ≡ 1 → IfOk result (λ batch. All IsStored batch.records) }
 {
     match whole(alloc, version, bytes) {
         Ok(batch) => Ok(batch),

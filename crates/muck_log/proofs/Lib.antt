@@ -1,4 +1,5 @@
 pub mod Appending
+pub mod Deltas
 pub mod Files
 pub mod Fronts
 pub mod Moments

@@ -10,6 +10,8 @@ use Rattle.muck_codec.specs.declared.stored.Stored.{Stored}
 use Rattle.muck_codec.specs.declared.stored.Batch.{Batch}
 use Rattle.muck_codec.specs.Spelling.{spelling}
 use Rattle.muck_codec.specs.Batches.{whole_batch}
+use Rattle.muck_store.specs.Limits.{fits}
+use Rattle.muck_store.specs.Whole.{is_whole}
 
 pub record World : Type 0 where
   pub objects : List Stored
@@ -81,17 +83,6 @@ lost = record { objects = []; tune = first_tune }
 
 -- Limits.
 
--- a hex digit in lower case
-abbrev pub is_digit : ℕ → Bool
-is_digit b = (nat_le 48 b && nat_le b 57) || (nat_le 97 b && nat_le b 102)
-
--- none, or two digits for each of the 8 bytes of the salt and the 32 of the hash
-unfoldable pub is_digest : List ℕ → Bool
-is_digest digest = length digest == 0 || (length digest == 80 && list_all is_digit digest)
-
-unfoldable pub fits : Stored → Bool
-fits o = nat_le 1 (length o.name) && (nat_le (length o.name) 80 && (nat_le o.level 3 && (nat_lt o.flags.0 16384 && (nat_le (length o.lines) 4096 && is_digest o.digest))))
-
 abbrev pub is_between : ℕ → ℕ → Bool
 is_between n most = nat_le 1 n && nat_le n most
 
@@ -99,9 +90,9 @@ unfoldable pub tune_fits : Tune → Bool
 tune_fits t = is_between t.instr_slice 20000 && (is_between t.preempt_units 20000 && (is_between t.m1_units 1000000 && (is_between t.m2_units 1000000
     && (is_between t.process_limit 400 && (is_between t.player_processes 400 && (is_between t.mpi_commands 2048 && is_between t.dump_interval 86400))))))
 
--- every value is within its limits
+-- every value is within its limits, and the world hangs together
 unfoldable pub is_fine : List Stored → Tune → Bool
-is_fine objects tune = nat_le (length objects) 100000 && (list_all fits objects && tune_fits tune)
+is_fine objects tune = nat_le (length objects) 100000 && (list_all fits objects && (tune_fits tune && is_whole objects))
 
 -- Laying.
 

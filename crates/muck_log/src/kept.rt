@@ -4,11 +4,13 @@ ghost use Rattle.std.specs.List.{flat_map, list_all};
 ghost use Rattle.muck_model.specs.Bytes.{text_fault};
 ghost use Rattle.muck_codec.specs.Spelling.{spelling};
 ghost use Rattle.muck_codec.specs.Batches.{batch_bytes, HasFewLines};
-ghost use Rattle.muck_log.specs.World.{World, room_zero, first_digest, player_one, first_tune, start, lost, is_digit, is_digest, fits, is_between, tune_fits, is_fine, placed, all_placed, laid, differs, written};
+ghost use Rattle.muck_log.specs.World.{World, room_zero, first_digest, player_one, first_tune, start, lost, is_between, tune_fits, is_fine, placed, all_placed, laid, differs, written};
+ghost use Rattle.muck_store.specs.Limits.{fits};
 ghost use Rattle.muck_log.specs.Head.{IsLaid, IsPlaced, ArePlaced};
 
 use muck_codec::{Batch, CodecFault, Stored, put_record, put_tune, take_batch};
 use muck_model::{Dbref, Flags, Kind, Line, LineFault, LineList, NoMemory, Row, Tune};
+use muck_store::{fits, is_whole};
 use spec_live::WIZARD;
 use std::alloc::Global;
 use std::marker::Model;
@@ -116,35 +118,6 @@ fn first_tune() -> Tune
     }
 }
 
-fn are_digits(bytes: &[u8]) -> bool
-    ensures { result ≡ list_all is_digit bytes.now }
-{
-    bytes
-        .iter()
-        .all(|b| (*b >= 48 && *b <= 57) || (*b >= 97 && *b <= 102))
-}
-
-#[tactic(auto, unfolding(crate::specs::World::is_digest))]
-fn is_digest(digest: &[u8]) -> bool
-    ensures { result ≡ is_digest digest.now }
-{
-    digest.is_empty() || (digest.len() == 80 && are_digits(digest))
-}
-
-// Whether every value of a record is within its limits.
-#[tactic(auto, unfolding(crate::specs::World::fits))]
-fn fits(object: &Stored) -> bool
-    ensures { result ≡ fits object.now }
-{
-    let name = object.name.as_slice().len();
-    name >= 1
-        && name <= 80
-        && object.level <= 3
-        && object.flags.0 < 16_384
-        && object.lines.len() <= 4_096
-        && is_digest(object.digest.as_slice())
-}
-
 fn is_between(n: u32, most: u32) -> bool
     ensures { result ≡ is_between n most }
 {
@@ -168,14 +141,17 @@ fn tune_fits(tune: &Tune) -> bool
 fn all_fit(objects: &[Stored]) -> bool
     ensures { result ≡ list_all fits objects.now }
 {
-    objects.iter().all(fits)
+    objects.iter().all(|object| fits(object))
 }
 
 #[tactic(auto, unfolding(crate::specs::World::is_fine))]
-fn is_fine(objects: &[Stored], tune: &Tune) -> bool
-    ensures { result ≡ is_fine objects.now tune.now }
+fn is_fine(alloc: Global, objects: &[Stored], tune: &Tune) -> Result<bool, NoMemory>
+    ensures { IfOk result (λ yes. yes ≡ is_fine objects.now tune.now) }
 {
-    objects.len() <= 100_000 && all_fit(objects) && tune_fits(tune)
+    if objects.len() > 100_000 || !all_fit(objects) || !tune_fits(tune) {
+        return Ok(false);
+    }
+    Ok(is_whole(alloc, objects)?)
 }
 
 // Puts a record in the place of its number, or at the next number; false where that can't be.
@@ -272,7 +248,7 @@ impl Kept {
             return Ok(false);
         }
         self.tune = tune;
-        Ok(is_fine(&self.objects, &self.tune))
+        Ok(is_fine(self.alloc, &self.objects, &self.tune)?)
     }
 }
 

@@ -276,9 +276,9 @@ impl Log {
     /// generation is opened. All memory is taken before the first write.
     ///
     /// `StoreFull` comes exactly where the batch would pass the limit, before any write; the log stays as it was then.
-    /// `Unfit` comes only where the batch doesn't leave a world with every value within its limits, before any write.
-    /// `DiskFault` comes only where a disk's count of faults rose. After these two the log answers `Stale` until it is
-    /// mounted again. At each moment since the call began, whatever a crash leaves of both disks loads as
+    /// `Unfit` comes only where the batch doesn't leave a world that hangs together with every value within its limits,
+    /// before any write. `DiskFault` comes only where a disk's count of faults rose. After these two the log answers
+    /// `Stale` until it is mounted again. At each moment since the call began, whatever a crash leaves of both disks loads as
     /// the world before or as the one with the batch, and after `Ok` as the latter.
     pub fn append<D: Disk>(
         &mut self,

@@ -108,16 +108,20 @@ pub place_is : (os : List Stored) (d p : ℕ) (s : Stored) → slice_get os d �
 unfolding place_at
 place_is os d p s e h = ap (λ (o : Option Stored). option_and_then (λ (x : Stored). index_of x.place) o) e ∙ ap (λ z. index_of z) h
 
-pub place_nowhere : (os : List Stored) (d : ℕ) (s : Stored) → slice_get os d ≡ Some s → s.place ≡ nothing → place_at os d ≡ None
+pub place_nowhere : (os : List Stored) (d : ℕ) (s : Stored) → slice_get os d ≡ Some s → index_of s.place ≡ None → place_at os d ≡ None
 unfolding place_at
-place_nowhere os d s e h = ap (λ (o : Option Stored). option_and_then (λ (x : Stored). index_of x.place) o) e ∙ ap (λ z. index_of z) h
+place_nowhere os d s e h = ap (λ (o : Option Stored). option_and_then (λ (x : Stored). index_of x.place) o) e ∙ h
 
-pub top_parts : (os : List Stored) → Whole os → (a : Alive os 0) → (is_room a.stored.kind ≡ true) × (a.stored.place ≡ nothing) × (a.stored.next ≡ nothing)
+nowhere_by : (o : Option ℕ) → not (option_map_or (λ n. true) o false) ≡ true → o ≡ None
+nowhere_by None h = refl
+nowhere_by (Some n) h = cc
+
+pub top_parts : (os : List Stored) → Whole os → (a : Alive os 0) → (is_room a.stored.kind ≡ true) × (index_of a.stored.place ≡ None) × (a.stored.next ≡ nothing)
 top_parts os w a =
     let s : Stored = a.stored in
-    let all = and_parts (is_room s.kind && same s.place nothing) (same s.next nothing) (alive_ties os 0 w a).place in
-    let first = and_parts (is_room s.kind) (same s.place nothing) all.0 in
-    (first.0, eq_same s.place nothing first.1, eq_same s.next nothing all.1)
+    let all = and_parts (is_room s.kind && not (leads_to (λ n. true) s.place)) (same s.next nothing) (alive_ties os 0 w a).place in
+    let first = and_parts (is_room s.kind) (not (leads_to (λ n. true) s.place)) all.0 in
+    (first.0, nowhere_by (index_of s.place) first.1, eq_same s.next nothing all.1)
 
 pub zero_place : (os : List Stored) → Whole os → place_at os 0 ≡ None
 zero_place os w = elim (cases_Bool (is_garbage (kind_of os 0))) [

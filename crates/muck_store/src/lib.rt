@@ -9,4 +9,6 @@ mod tree;
 mod whole;
 
 pub use kinds::{may_link, may_live, may_stand};
+mod limits;
+pub use limits::fits;
 pub use whole::is_whole;

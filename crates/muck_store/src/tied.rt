@@ -1,7 +1,7 @@
 // Each record by itself, with the kinds of what it names.
-ghost use Rattle.std.specs.Prelude.{◌≡◌, ◌≤◌, ◌&&◌, length};
+ghost use Rattle.std.specs.Prelude.{◌≡◌, ◌≤◌, ◌&&◌, true, not, length};
 ghost use Rattle.spec_live.specs.Objects.{dbref_of, same};
-ghost use Rattle.muck_store.specs.Whole.{all_tied, has_chains, has_link, has_owner, has_place, home_for, is_blank, is_loose, is_tied, may_name};
+ghost use Rattle.muck_store.specs.Whole.{all_tied, has_chains, has_link, has_owner, has_place, home_for, is_blank, is_loose, is_tied, leads_to, may_name};
 
 use crate::kinds::{is_exit, is_garbage, is_player, is_room, may_link, may_live, may_stand};
 use crate::records::{HOME, NOTHING, index_of, is_number, kind_of, same, seats_in};
@@ -37,12 +37,22 @@ fn has_owner(records: &[Stored], stored: &Stored) -> bool
     }
 }
 
+// Whether it is the number of no object.
+fn is_nowhere(place: Dbref) -> bool
+    ensures { result ≡ not (leads_to (λ n. true) place) }
+{
+    match index_of(place) {
+        Some(_) => false,
+        None => true,
+    }
+}
+
 // Whether it may stand where it says: only `#0`, a room, stands nowhere.
 fn has_place(records: &[Stored], k: u32, stored: &Stored) -> bool
     ensures { result ≡ has_place records.now k stored.now }
 {
     if k == 0 {
-        return is_room(stored.kind) && same(stored.place, NOTHING) && same(stored.next, NOTHING);
+        return is_room(stored.kind) && is_nowhere(stored.place) && same(stored.next, NOTHING);
     }
     match index_of(stored.place) {
         Some(p) => may_stand(stored.kind, kind_of(records, p), seats_in(records, p)),

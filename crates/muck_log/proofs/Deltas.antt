@@ -1,0 +1,259 @@
+-- Laying what is written of a whole batch gives the world that it was taken from.
+use Rattle.std.proofs.Common.{◌≡◌, ℕ, zero, suc, ◌+◌, ◌<◌, ◌≤◌, ◌^◌, Bool, true, false, cond, not, ltb, eqb, ◌&&◌, ◌||◌, List, [], ◌∷◌, ◌++◌, length, set, Option, Some, None, option_and_then, Ok, refl, sym, ap, subst, ◌∙◌, append_assoc, arith, length-append}
+use Rattle.std.specs.Prelude.{All, pos, int_lt, nat_le, nat_lt, bytes_eq, slice_get}
+use Rattle.std.specs.Option.{option_map_or}
+use Rattle.std.specs.List.{filter, list_all}
+use Rattle.std.proofs.lemmas.Bool.{and_parts, or_parts, cond-true, cond-false, leb-true, lt-ltb, le-ltb, eq-eqb}
+use Rattle.std.proofs.lemmas.List.{append-nil}
+use Rattle.std.proofs.lemmas.List.Elements.{All-head, All-tail}
+use Rattle.std.proofs.lemmas.List.Filters.{length-filter_both}
+use Rattle.std.proofs.lemmas.Option.{slice_get_past}
+use Rattle.std.proofs.lemmas.Slice.Eq.{bytes_eq-Decides}
+use Rattle.std.proofs.Math.Seq.{set-append_seam}
+use Rattle.muck_model.specs.declared.dbref.Dbref.{Dbref}
+use Rattle.muck_model.specs.declared.tune.Tune.{Tune}
+use Rattle.spec_live.specs.Objects.{Entry, dbref_of, index_of}
+use Rattle.muck_codec.specs.declared.stored.Stored.{Stored}
+use Rattle.muck_codec.specs.declared.stored.Batch.{Batch}
+use Rattle.muck_codec.specs.Batches.{is_above, whole_batch, batch_bytes}
+use Rattle.muck_codec.specs.Spelling.{spelling}
+use Rattle.muck_codec.specs.Stored.{IsStored, Run}
+use Rattle.muck_codec.proofs.Batches.{same_record, IsNextRecord, dbref_key, IsTune, whole_reads}
+use Rattle.muck_store.specs.Forms.{stored_of, stored_from, persist, world_batch}
+use Rattle.muck_store.specs.Limits.{fits}
+use Rattle.muck_store.specs.Whole.{is_whole}
+use Rattle.muck_log.specs.World.{World, is_between, tune_fits, is_fine, put_at, placed, all_placed, judged_world, laid_over, batch_if, laid, differs, written}
+use Rattle.muck_log.specs.Store.{Chosen, LogState, opens_new, target}
+use Rattle.muck_log.specs.Append.{payload_of}
+
+-- Records by their numbers from k on.
+
+abbrev pub Numbered : ℕ → List Stored → Type 0
+Numbered k [] = Unit {0}
+Numbered k (o ∷ os) = (o.dbref ≡ dbref_of k) × Numbered (suc k) os
+
+pub persist_numbered : (es : List Entry) (k : ℕ) (rest : List Entry) → Numbered k (stored_from es k rest)
+unfolding stored_from stored_of
+persist_numbered es k [] = tt
+persist_numbered es k (e ∷ rest) = (refl, persist_numbered es (suc k) rest)
+
+pub persist_length : (es : List Entry) (k : ℕ) (rest : List Entry) → length (stored_from es k rest) ≡ length rest
+unfolding stored_from
+persist_length es k [] = refl
+persist_length es k (e ∷ rest) = ap suc (persist_length es (suc k) rest)
+
+-- One record in its place.
+
+at_number : (objects : List Stored) (o : Stored) (k : ℕ) → o.dbref ≡ dbref_of k → placed o objects ≡ put_at objects o k
+unfolding placed
+at_number objects o k is = ap (λ (d : Dbref). option_and_then (put_at objects o) (index_of d)) is
+
+abbrev some : List Stored → Option (List Stored)
+some os = Some os
+
+put_last : (objects : List Stored) (o : Stored) (k : ℕ) → length objects ≡ k → put_at objects o k ≡ some (objects ++ o ∷ [])
+put_last objects o k size =
+    cond-false (ltb k (length objects)) _ _ (le-ltb k (length objects) (omega (arith, size))) ∙ cond-true (eqb k (length objects)) _ _ (eq-eqb k (length objects) (sym size))
+
+put_within : (front rest : List Stored) (r o : Stored) (k : ℕ) → length front ≡ k → put_at (front ++ r ∷ rest) o k ≡ some (front ++ o ∷ rest)
+put_within front rest r o k size =
+    cond-true (ltb k (length (front ++ r ∷ rest))) _ _ (lt-ltb k (length (front ++ r ∷ rest)) (omega (arith, size, length-append front (r ∷ rest))))
+    ∙ ap some (ap (λ n. set (front ++ r ∷ rest) n o) (sym size) ∙ set-append_seam front r rest o)
+
+-- Each record that isn't written is kept already, and no more is kept than records are there.
+
+abbrev AreKept : (Stored → Bool) → List Stored → List Stored → Type 0
+AreKept test [] kept = kept ≡ []
+AreKept test (o ∷ os) [] = (test o ≡ true) × AreKept test os []
+AreKept test (o ∷ os) (r ∷ kept) = (test o ≡ false → r ≡ o) × AreKept test os kept
+
+more_size : (front : List Stored) (o : Stored) (k : ℕ) → length front ≡ k → length (front ++ o ∷ []) ≡ suc k
+more_size front o k size = omega (arith, size, length-append front (o ∷ []))
+
+module _ (test : Stored → Bool) (front os : List Stored) (o : Stored) (k : ℕ) (size : length front ≡ k) (number : o.dbref ≡ dbref_of k) where
+  abbrev picked : Bool → List Stored
+  picked b = cond b (o ∷ filter test os) (filter test os)
+
+  last_placed : test o ≡ true → all_placed (filter test os) ((front ++ o ∷ []) ++ []) ≡ some ((front ++ o ∷ []) ++ os) → all_placed (picked (test o)) (front ++ []) ≡ some (front ++ o ∷ os)
+  unfolding all_placed
+  last_placed put others =
+      ap (λ b. all_placed (picked b) (front ++ [])) put ∙ ap (λ l. all_placed (o ∷ filter test os) l) (append-nil front)
+      ∙ ap (option_and_then (all_placed (filter test os))) (at_number front o k number ∙ put_last front o k size ∙ ap some (sym (append-nil (front ++ o ∷ []))))
+      ∙ others ∙ ap some (append_assoc front (o ∷ []) os)
+
+  next_placed : (r : Stored) (rest : List Stored) (b : Bool) → test o ≡ b → (test o ≡ false → r ≡ o) → all_placed (filter test os) ((front ++ o ∷ []) ++ rest) ≡ some ((front ++ o ∷ []) ++ os)
+      → all_placed (picked b) (front ++ r ∷ rest) ≡ some (front ++ o ∷ os)
+  unfolding all_placed
+  next_placed r rest true e same others =
+      ap (option_and_then (all_placed (filter test os))) (at_number (front ++ r ∷ rest) o k number ∙ put_within front rest r o k size ∙ ap some (sym (append_assoc front (o ∷ []) rest)))
+      ∙ others ∙ ap some (append_assoc front (o ∷ []) os)
+  next_placed r rest false e same others =
+      ap (λ x. all_placed (filter test os) (front ++ x ∷ rest)) (same e) ∙ ap (all_placed (filter test os)) (sym (append_assoc front (o ∷ []) rest))
+      ∙ others ∙ ap some (append_assoc front (o ∷ []) os)
+
+all_laid : (test : Stored → Bool) (front kept records : List Stored) (k : ℕ) → length front ≡ k → Numbered k records → AreKept test records kept → all_placed (filter test records) (front ++ kept) ≡ some (front ++ records)
+unfolding all_placed
+all_laid test front kept [] k size number are = ap (λ l. some (front ++ l)) are
+all_laid test front [] (o ∷ os) k size number are =
+    last_placed test front os o k size number.0 are.0 (all_laid test (front ++ o ∷ []) [] os (suc k) (more_size front o k size) number.1 are.1)
+all_laid test front (r ∷ kept) (o ∷ os) k size number are =
+    next_placed test front os o k size number.0 r kept (test o) refl are.0 (all_laid test (front ++ o ∷ []) kept os (suc k) (more_size front o k size) number.1 are.1)
+
+-- What is left out is kept.
+
+never : (b : Bool) → b ≡ true → b ≡ false → ⊥
+never true e f = cc
+never false e f = cc
+
+all_written : (test : Stored → Bool) → ((o : Stored) → test o ≡ true) → (records kept : List Stored) → length kept ≤ length records → AreKept test records kept
+all_written test always [] [] le = refl
+all_written test always [] (r ∷ kept) le = absurd (omega (arith, le))
+all_written test always (o ∷ os) [] le = (always o, all_written test always os [] (omega arith))
+all_written test always (o ∷ os) (r ∷ kept) le = ((λ f. absurd (never (test o) (always o) f)), all_written test always os kept (omega (arith, le)))
+
+seam : (front kept : List Stored) → slice_get (front ++ kept) (length front) ≡ slice_get kept 0
+seam [] kept = refl
+seam (x ∷ front) kept = seam front kept
+
+abbrev differs_from : Stored → Stored → Bool
+differs_from o kept = nat_lt 4096 (length kept.lines) || not (bytes_eq (spelling kept) (spelling o))
+
+differs_at : (objects : List Stored) (o : Stored) (k : ℕ) (found : Option Stored) → o.dbref ≡ dbref_of k → slice_get objects k ≡ found → differs objects o ≡ option_map_or (differs_from o) found true
+unfolding differs
+differs_at objects o k found number is =
+    ap (λ (d : Dbref). option_map_or (differs_from o) (option_and_then (slice_get objects) (index_of d)) true) number ∙ ap (λ (x : Option Stored). option_map_or (differs_from o) x true) is
+
+not_false : (b : Bool) → not b ≡ false → b ≡ true
+not_false true e = refl
+not_false false e = absurd cc
+
+equals : (o r : Stored) → IsStored r → IsStored o → differs_from o r ≡ false → r ≡ o
+equals o r one two e =
+    same_record r o one two ((bytes_eq-Decides (spelling r) (spelling o)).0 (not_false (bytes_eq (spelling r) (spelling o)) (or_parts (nat_lt 4096 (length r.lines)) (not (bytes_eq (spelling r) (spelling o))) e).1))
+
+none_kept : (objects records : List Stored) (k : ℕ) → length objects ≤ k → Numbered k records → AreKept (differs objects) records []
+none_kept objects [] k le number = refl
+none_kept objects (o ∷ os) k le number = (differs_at objects o k None number.0 (slice_get_past objects k le), none_kept objects os (suc k) (omega (arith, le)) number.1)
+
+left_out : (objects front kept records : List Stored) (k : ℕ) → objects ≡ front ++ kept → length front ≡ k → Numbered k records → All IsStored kept → All IsStored records → length kept ≤ length records → AreKept (differs objects) records kept
+left_out objects front [] records k is size number stored fine le = none_kept objects records k (omega (arith, ap length is, length-append front [], size)) number
+left_out objects front (r ∷ kept) [] k is size number stored fine le = absurd (omega (arith, le))
+left_out objects front (r ∷ kept) (o ∷ os) k is size number stored fine le =
+    let found : slice_get objects k ≡ Some r = ap (λ n. slice_get objects n) (sym size) ∙ ap (λ l. slice_get l (length front)) is ∙ seam front (r ∷ kept) in
+    (
+      (λ e. equals o r (All-head IsStored r kept stored) (All-head IsStored o os fine) (sym (differs_at objects o k (Some r) number.0 found) ∙ e)),
+      left_out objects (front ++ r ∷ []) kept os (suc k) (is ∙ sym (append_assoc front (r ∷ []) kept)) (more_size front r k size) number.1 (All-tail IsStored r kept stored) (All-tail IsStored o os fine) (omega (arith, le)),
+    )
+
+-- What is written is a batch.
+
+abbrev Below : Option Dbref → ℕ → Type 0
+Below None k = Unit {0}
+Below (Some d) k = (j : ℕ) × (d ≡ dbref_of j) × (j < k)
+
+above : (before : Option Dbref) (k : ℕ) (d : Dbref) → Below before k → d ≡ dbref_of k → is_above before d ≡ true
+above None k d below is = refl
+above (Some before) k d below is = ap (λ (x : Dbref). int_lt x.0 d.0) below.1 ∙ ap (λ (x : Dbref). int_lt (pos below.0) x.0) is ∙ lt-ltb below.0 k below.2
+
+later : (before : Option Dbref) (k : ℕ) → Below before k → Below before (suc k)
+later None k below = tt
+later (Some d) k below = (below.0, below.1, omega (arith, below.2))
+
+abbrev Rises : Option Dbref → List Stored → Type 0
+Rises before records = Run dbref_key IsNextRecord before records
+
+either : (before : Option Dbref) (b : Bool) (xs ys : List Stored) → Rises before xs → Rises before ys → Rises before (cond b xs ys)
+either before true xs ys first second = first
+either before false xs ys first second = second
+
+written_rises : (test : Stored → Bool) (before : Option Dbref) (k : ℕ) (records : List Stored) → Below before k → Numbered k records → All IsStored records → Rises before (filter test records)
+written_rises test before k [] below number stored = tt
+written_rises test before k (o ∷ os) below number stored =
+    let rest = All-tail IsStored o os stored in
+    either before (test o) (o ∷ filter test os) (filter test os)
+    ((All-head IsStored o os stored, above before k o.dbref below number.0), written_rises test (Some o.dbref) (suc k) os (k, number.0, omega arith) number.1 rest)
+    (written_rises test before (suc k) os (later before k below) number.1 rest)
+
+few : (test : Stored → Bool) (records : List Stored) → length (filter test records) ≤ length records
+few test records = omega (arith, length-filter_both test (λ o. not (test o)) (λ o. refl) records)
+
+narrow : (n most : ℕ) → is_between n most ≡ true → most < 2 ^ 32 → n < 2 ^ 32
+narrow n most e lt = omega (arith, lt, leb-true n most (and_parts (nat_le 1 n) (nat_le n most) e).1)
+
+tune_words : (t : Tune) → tune_fits t ≡ true → IsTune t
+unfolding tune_fits
+tune_words t e =
+    let a = and_parts (is_between t.instr_slice 20000) _ e in
+    let b = and_parts (is_between t.preempt_units 20000) _ a.1 in
+    let c = and_parts (is_between t.m1_units 1000000) _ b.1 in
+    let d = and_parts (is_between t.m2_units 1000000) _ c.1 in
+    let f = and_parts (is_between t.process_limit 400) _ d.1 in
+    let g = and_parts (is_between t.player_processes 400) _ f.1 in
+    let h = and_parts (is_between t.mpi_commands 2048) (is_between t.dump_interval 86400) g.1 in
+    (
+      (narrow t.instr_slice 20000 a.0 (omega arith), (narrow t.preempt_units 20000 b.0 (omega arith), (narrow t.m1_units 1000000 c.0 (omega arith), narrow t.m2_units 1000000 d.0 (omega arith)))),
+      (narrow t.process_limit 400 f.0 (omega arith), (narrow t.player_processes 400 g.0 (omega arith), (narrow t.mpi_commands 2048 h.0 (omega arith), narrow t.dump_interval 86400 h.1 (omega arith)))),
+    )
+
+record IsSmall (objects : List Stored) (tune : Tune) : Type 0 where
+  few : length objects ≤ 100000
+  words : IsTune tune
+
+fine_small : (objects : List Stored) (tune : Tune) → is_fine objects tune ≡ true → IsSmall objects tune
+unfolding is_fine
+fine_small objects tune e =
+    let a = and_parts (nat_le (length objects) 100000) _ e in
+    let b = and_parts (list_all fits objects) _ a.1 in
+    let c = and_parts (tune_fits tune) (is_whole objects) b.1 in
+    record { few = leb-true (length objects) 100000 a.0; words = tune_words tune c.0 }
+
+-- What is laid.
+
+laid_batch : (payload : List ℕ) (b : Batch) (w : World) (objects : List Stored) → whole_batch 1 payload ≡ Ok b → all_placed b.records w.objects ≡ some objects → is_fine objects b.tune ≡ true
+    → laid payload w ≡ Some (record { objects = objects; tune = b.tune })
+unfolding laid laid_over
+laid_batch payload b w objects reads places fine =
+    ap (λ r. option_and_then (λ x. laid_over x w) (batch_if r)) reads ∙ ap (option_and_then (judged_world b.tune)) places ∙ cond-true (is_fine objects b.tune) _ _ fine
+
+module _ (all : Bool) (kept : List Stored) (w : World) (es : List Entry) (tune : Tune) where
+  abbrev test : Stored → Bool
+  test o = all || differs kept o
+
+  lays_written : AreKept test (persist es) w.objects → All IsStored (persist es) → is_fine (persist es) tune ≡ true
+      → laid (batch_bytes (written all kept (persist es)) tune) w ≡ Some (record { objects = persist es; tune = tune })
+  unfolding written persist
+  lays_written are stored fine =
+      let small = fine_small (persist es) tune fine in
+      let count : length (filter test (persist es)) < 2 ^ 32 = omega (arith, small.few, few test (persist es)) in
+      let numbered = persist_numbered es 0 es in
+      let b : Batch = record { records = filter test (persist es); tune = tune } in
+      laid_batch (batch_bytes (filter test (persist es)) tune) b w (persist es)
+      (whole_reads (filter test (persist es)) tune (count, written_rises test None 0 (persist es) tt numbered stored) small.words)
+      (all_laid test [] w.objects (persist es) 0 refl numbered are) fine
+
+target_stays : (s : Chosen) → opens_new s.held ≡ false → target s ≡ s
+unfolding target
+target_stays s e = cond-false (opens_new s.held) _ _ e
+
+abbrev target_objects : Chosen → List Stored
+target_objects s = (target s).held.world.objects
+
+abbrev objects_of : Chosen → List Stored
+objects_of s = s.held.world.objects
+
+kept_by : (s : Chosen) (es : List Entry) (b : Bool) → opens_new s.held ≡ b → All IsStored (persist es) → All IsStored (objects_of s) → length (target_objects s) ≤ length es
+    → AreKept (λ o. b || differs (objects_of s) o) (persist es) (target_objects s)
+unfolding persist
+kept_by s es true e stored kept le = all_written (λ o. true || differs (objects_of s) o) (λ o. refl) (persist es) (target_objects s) (omega (arith, le, persist_length es 0 es))
+kept_by s es false e stored kept le =
+    let same : objects_of s ≡ target_objects s = ap objects_of (sym (target_stays s e)) in
+    left_out (objects_of s) [] (target_objects s) (persist es) 0 same refl (persist_numbered es 0 es) (subst (All IsStored) same kept) stored (omega (arith, le, persist_length es 0 es))
+
+-- Where each record has a spelling, and those that are kept have, and no more are kept than there are objects.
+pub delta_lays : (log : LogState) (es : List Entry) (tune : Tune) → All IsStored (persist es) → All IsStored log.chosen.held.world.objects
+    → length (target log.chosen).held.world.objects ≤ length es → is_fine (persist es) tune ≡ true
+    → laid (payload_of log (world_batch es tune)) (target log.chosen).held.world ≡ Some (record { objects = persist es; tune = tune })
+unfolding payload_of
+delta_lays log es tune stored kept le fine =
+    let opens = opens_new log.chosen.held in
+    lays_written opens (objects_of log.chosen) (target log.chosen).held.world es tune (kept_by log.chosen es opens refl stored kept le) stored fine
