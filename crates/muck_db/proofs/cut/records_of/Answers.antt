@@ -1,4 +1,4 @@
-use Rattle.std.proofs.Common.{◌≡◌, ◌++◌, ◌∙◌, ap, arith, List, drop}
+use Rattle.std.proofs.Common.{◌++◌, ◌∙◌, ap, arith, List, drop}
 use Rattle.muck_codec.specs.declared.stored.Stored.{Stored}
 use Rattle.muck_store.specs.Forms.{persist, stored_from}
 use Rattle.muck_db.specs.inner.Slots.{entries_of}

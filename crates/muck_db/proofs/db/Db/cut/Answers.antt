@@ -1,4 +1,4 @@
-use Rattle.std.proofs.Common.{◌≡◌, ◌∙◌, ap, List}
+use Rattle.std.proofs.Common.{◌∙◌, ap, List}
 use Rattle.spec_live.specs.Objects.{Entry}
 use Rattle.muck_codec.specs.declared.stored.Stored.{Stored}
 use Rattle.muck_store.specs.Forms.{world_batch}
