@@ -9,7 +9,7 @@ use Rattle.muck_model.specs.declared.dbref.Kind.TheVariants.{Room, Player, Garba
 use Rattle.muck_model.proofs.Dbrefs.{eq_same}
 use Rattle.muck_codec.specs.declared.stored.Stored.{Stored}
 use Rattle.spec_live.specs.Objects.{dbref_of, index_of, nothing, same, is_room, is_player, is_garbage, may_stand}
-use Rattle.muck_store.specs.Whole.{kind_of, seats_in, all_tied, all_met, first_at, is_tree, is_whole}
+use Rattle.muck_store.specs.Whole.{kind_of, seats_in, all_tied, all_met, first_at, is_tree, is_whole, leads_to}
 use Rattle.muck_store.proofs.Counted.{Passes}
 use Rattle.muck_store.proofs.Meeting.{StandsAt, place_at}
 use Rattle.muck_store.proofs.Tied.{Leads, leads, TiedAt, tied_from, AliveTied, alive_tied, Blank, blank_tied}

@@ -2,6 +2,7 @@
 #![tactic(auto)]
 
 mod kinds;
+mod limits;
 mod met;
 mod records;
 mod tied;
@@ -9,6 +10,5 @@ mod tree;
 mod whole;
 
 pub use kinds::{may_link, may_live, may_stand};
-mod limits;
 pub use limits::fits;
 pub use whole::is_whole;
