@@ -14,3 +14,5 @@ pub mod Leaving
 pub mod Showing
 pub mod Counting
 pub mod Settings
+pub mod Stocking
+pub mod Loading

@@ -6,6 +6,7 @@ mod chain;
 mod creation;
 mod db;
 mod links;
+mod load;
 mod moves;
 mod password;
 mod paths;

@@ -1,2 +1,4 @@
 pub mod Forms
 pub mod Whole
+pub mod Hung
+pub mod Limits
