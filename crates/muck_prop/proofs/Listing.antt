@@ -5,7 +5,7 @@ use Rattle.std.specs.List.Sorted.{IsStrictlySortedBy}
 use Rattle.std.specs.Map.{keys_of}
 use Rattle.std.specs.BTreeMap.Range.{entries_between}
 use Rattle.std.specs.declared.ops.Bound.TheVariants.{Excluded, Unbounded}
-use Rattle.std.specs.FinMap.{from_entries}
+use Rattle.std.specs.FinMap.{from_entries, entries}
 use Rattle.std.specs.Ordering.{is_lt}
 use Rattle.std.proofs.lemmas.List.{length-drop}
 use Rattle.muck_prop.specs.declared.props.Listed.{Listed}
@@ -88,6 +88,12 @@ kept_between dir (e ∷ es) kept =
       | false ↦ kept_between dir es kept.1
     ]
 
+-- every path continues the top
+pub all_below_top : (es : List (List (List ℕ) × PropValue)) → AllByRecursion IsKept es → filter (goes_on []) es ≡ es
+all_below_top [] kept = refl
+all_below_top (([], v) ∷ es) kept = let no : 0 < 0 = kept.0.path.some in absurd (omega arith)
+all_below_top ((s ∷ p, v) ∷ es) kept = ap (λ fs. (s ∷ p, v) ∷ fs) (all_below_top es kept.1)
+
 -- ---- a walk over them
 
 -- the list, and what still comes of the entries that are left, is the whole of it
@@ -115,3 +121,6 @@ listing_goes dir es e left list is h = record {
 pub listed_is : (dir : List (List ℕ)) (es : List (List (List ℕ) × PropValue)) → IsStrictlySortedBy path_cmp (keys_of es) → map (behind (length dir)) (filter (goes_on dir) es) ≡ listed_below dir (from_entries es)
 unfolding listed_below
 listed_is dir es sorted = ap (λ fs. map (behind (length dir)) (filter (goes_on dir) fs)) (sym (entries_are es sorted))
+
+pub all_is : (es : List (List (List ℕ) × PropValue)) → IsStrictlySortedBy path_cmp (keys_of es) → AllByRecursion IsKept es → map (behind 0) (filter (goes_on []) es) ≡ map (behind 0) (entries (from_entries {R = path_cmp} es))
+all_is es sorted kept = ap (map (behind 0)) (all_below_top es kept ∙ sym (entries_are es sorted))

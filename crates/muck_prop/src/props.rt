@@ -197,6 +197,15 @@ impl Props {
         Ok(list)
     }
 
+    /// All properties, each copied, in the order of their paths.
+    pub fn all(&self, alloc: Global) -> Result<Row<Listed>, NoMemory>
+        ensures { IfOk result (λ list. list ≡ mapped (behind 0) (map.entries self.now)) }
+    {
+        let top = Segments::new(alloc);
+        let list = all_below(alloc, &self.values, &top)?;
+        Ok(list)
+    }
+
     /// Removes the property of a path. It is true exactly where the path had a value.
     pub fn remove(&mut self, path: &Path) -> bool
         ensures had { result ≡ is_some (map.get self.old path.now) }
