@@ -1,5 +1,4 @@
 pub mod Forms
-pub mod Hung
 pub mod Whole
 pub mod Hung
 pub mod Limits
