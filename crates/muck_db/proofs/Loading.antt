@@ -1,9 +1,9 @@
 -- The table of stored records: its chains are theirs, and its entries are the objects that they stand for.
-use Rattle.std.proofs.Common.{◌≡◌, ℕ, ◌<◌, ◌≤◌, ◌^◌, zero, suc, List, [], ◌∷◌, Option, Some, None, ◌⊎◌, inl, inr, refl, sym, ◌∙◌, ap, subst, length, arith, Bool, true, false, ◌&&◌, cond, map}
+use Rattle.std.proofs.Common.{◌≡◌, ℕ, ◌<◌, ◌≤◌, zero, suc, List, [], ◌∷◌, Option, Some, None, inl, inr, refl, sym, ◌∙◌, ap, subst, length, arith, Bool, true, false, ◌&&◌, ◌||◌, map}
 use Rattle.std.specs.Prelude.{◌==◌, nat_le, nat_lt, if◌then◌else◌}
 use Rattle.std.specs.List.{slice_get, list_all}
 use Rattle.std.specs.Option.{option_map, option_and_then, option_map_or}
-use Rattle.std.proofs.lemmas.Bool.{and_parts}
+use Rattle.std.proofs.lemmas.Bool.{and_parts, ne_eqb}
 use Rattle.std.proofs.lemmas.Bool.Decides.{nat_tests}
 use Rattle.std.proofs.lemmas.List.Sums.{AllPass-from_list_all}
 use Rattle.std.proofs.lemmas.Option.{slice_get-map}
@@ -13,7 +13,6 @@ use Rattle.muck_store.specs.Hung.{IsHung}
 use Rattle.muck_store.specs.Limits.{is_digit, is_digest, fits}
 use Rattle.muck_store.specs.Whole.{first_at as record_first, is_whole}
 use Rattle.spec_live.specs.declared.object.Object.{Object}
-use Rattle.spec_live.specs.declared.mark.Mark.{Mark}
 use Rattle.spec_live.specs.Chain.{walk, IsChain, Ends}
 use Rattle.spec_live.specs.Consistent.{IsConsistent}
 use Rattle.spec_live.specs.Objects.{Entry, index_of, is_garbage, garbage, object_in, list_of, list_in, mark_in}
@@ -143,7 +142,9 @@ digest_within : (digest : List ℕ) → is_digest digest ≡ true → IsDigest d
 unfolding is_digest
 digest_within [] h = inl refl
 digest_within (b ∷ digest) h =
-    let parts : ((length (b ∷ digest) == 80) ≡ true) × (list_all is_digit (b ∷ digest) ≡ true) = and_parts (length (b ∷ digest) == 80) (list_all is_digit (b ∷ digest)) h in
+    let other : (length (b ∷ digest) == 0) ≡ false = ne_eqb (length (b ∷ digest)) 0 (λ q. omega (arith, q)) in
+    let both : (length (b ∷ digest) == 80 && list_all is_digit (b ∷ digest)) ≡ true = sym (ap (λ (x : Bool). x || (length (b ∷ digest) == 80 && list_all is_digit (b ∷ digest))) other) ∙ h in
+    let parts : ((length (b ∷ digest) == 80) ≡ true) × (list_all is_digit (b ∷ digest) ≡ true) = and_parts (length (b ∷ digest) == 80) (list_all is_digit (b ∷ digest)) both in
     let long : (length (b ∷ digest) == 80) ≡ true = parts.0 in
     let eighty : length (b ∷ digest) ≡ 80 = grind (arith, nat_tests) in
     inr (eighty, AllPass-from_list_all is_digit (b ∷ digest) parts.1)

@@ -7,6 +7,7 @@ use Rattle.std.specs.declared.cmp.Ordering.{Ordering}
 use Rattle.std.specs.declared.cmp.Ordering.TheVariants.{Less, Equal, Greater}
 use Rattle.std.specs.Cmp.{IsTotalOrder}
 use Rattle.std.specs.FinMap.{from_entries, insert, remove, find, from_entries_push}
+use Rattle.std.proofs.lemmas.Bool.{ne_eqb}
 use Rattle.std.proofs.lemmas.List.{map-append}
 use Rattle.std.proofs.lemmas.Option.{slice_get_read}
 use Rattle.muck_prop.specs.declared.value.PropValue.{PropValue}
@@ -50,8 +51,7 @@ new_path before (x ∷ ps) (suc i) p run at =
 -- The values.
 
 some_text : (text : List ℕ) → 1 ≤ length text → (length text == 0) ≡ false
-some_text [] h = absurd (omega arith)
-some_text (b ∷ text) h = refl
+some_text text h = ne_eqb (length text) 0 (λ q. omega (arith, q))
 
 something : (v : PropValue) → IsValue v → is_nothing v ≡ false
 something (Text text) h = some_text text h.0.0
