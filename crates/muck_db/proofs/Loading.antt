@@ -1,5 +1,5 @@
 -- The table of stored records: its chains are theirs, and its entries are the objects that they stand for.
-use Rattle.std.proofs.Common.{◌≡◌, ℕ, ◌<◌, ◌≤◌, zero, suc, List, [], ◌∷◌, Option, Some, None, inl, inr, refl, sym, ◌∙◌, ap, subst, length, arith, Bool, true, false, ◌&&◌, ◌||◌, map}
+use Rattle.std.proofs.Common.{◌≡◌, ℕ, ◌<◌, ◌≤◌, zero, suc, List, [], ◌∷◌, Option, Some, None, inl, inr, refl, sym, ◌∙◌, ap, subst, length, arith, Bool, true, false, ◌&&◌, ◌||◌}
 use Rattle.std.specs.Prelude.{◌==◌, nat_le, nat_lt, if◌then◌else◌}
 use Rattle.std.specs.List.{slice_get, list_all}
 use Rattle.std.specs.Option.{option_map, option_and_then, option_map_or}
@@ -11,7 +11,7 @@ use Rattle.muck_codec.specs.declared.stored.Stored.{Stored}
 use Rattle.muck_store.specs.Forms.{next_at as record_next, entry_of as record_entry, object_of, loaded}
 use Rattle.muck_store.specs.Hung.{IsHung}
 use Rattle.muck_store.specs.Limits.{is_digit, is_digest, fits}
-use Rattle.muck_store.specs.Whole.{first_at as record_first, is_whole}
+use Rattle.muck_store.specs.Whole.{first_at as record_first}
 use Rattle.spec_live.specs.declared.object.Object.{Object}
 use Rattle.spec_live.specs.Chain.{walk, IsChain, Ends}
 use Rattle.spec_live.specs.Consistent.{IsConsistent}
@@ -209,6 +209,3 @@ slots_kept os slots is hung fine =
       full = λ k lt. absurd (omega arith);
       unmarked = λ k lt. absurd (omega arith);
     })
-
-pub hangs : (os : List Stored) → length os ≤ 100000 → is_whole os ≡ true → IsHung os
-hangs os few whole = ?
