@@ -15,3 +15,5 @@ pub mod Showing
 pub mod Counting
 pub mod Settings
 pub mod Cutting
+pub mod Stocking
+pub mod Loading

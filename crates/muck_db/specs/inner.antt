@@ -2,3 +2,4 @@ pub mod Slots
 pub mod Limits
 pub mod Shown
 pub mod Settings
+pub mod Loading

@@ -1,6 +1,6 @@
 // The objects of the world.
-ghost use Rattle.std.specs.Prelude.{◌≡◌, ◌<◌, ◌≤◌, ◌^◌, true, false, length, IfOk, IfSome, is_ok};
-ghost use Rattle.std.specs.List.{count_by};
+ghost use Rattle.std.specs.Prelude.{◌≡◌, ◌<◌, ◌≤◌, ◌^◌, true, false, length, IfOk, IfSome, is_ok, All};
+ghost use Rattle.std.specs.List.{count_by, list_all};
 ghost use Rattle.std.specs.Option.{option_copied, option_map};
 ghost use Rattle.spec_live.specs.Objects.{object_at};
 ghost use Rattle.spec_live.specs.Making.{create_check, Creates};
@@ -13,6 +13,10 @@ ghost use Rattle.spec_live.specs.Consistent.{IsConsistent};
 ghost use Rattle.spec_live.specs.Seen.{listed_in, places_of, scenery_of};
 ghost use Rattle.muck_match.specs.Scenery.{chain, upward};
 ghost use Rattle.muck_lock.specs.Chain.{IsChain};
+ghost use Rattle.muck_codec.specs.Stored.{AreProperties};
+ghost use Rattle.muck_store.specs.Forms.{loaded};
+ghost use Rattle.muck_store.specs.Limits.{fits};
+ghost use Rattle.muck_store.specs.Whole.{is_whole};
 ghost use Rattle.muck_db.specs.inner.Limits.{FitsLimits, IsWithinLimits};
 ghost use Rattle.muck_db.specs.inner.Settings.{MaySet, with_setting};
 ghost use Rattle.muck_db.specs.inner.Shown.{is_there, after_in, first_in, next_in, Knows};
@@ -23,6 +27,7 @@ use crate::chain::Chain;
 use crate::creation::{check_create, new_object, put_object};
 use crate::cut::records_of;
 use crate::links::dbref_of;
+use crate::load::slots_of;
 use crate::moves::{check_move, count_there, found, list_of, relocate};
 use crate::password::{digest_word, is_digest_of};
 use crate::paths::KnownPaths;
@@ -35,7 +40,7 @@ use crate::slot::Slot;
 use crate::start::first_slots;
 use crate::telling::{clear_mark, marked, told_of};
 use crate::walks::{first_listed, next_listed};
-use muck_codec::Batch;
+use muck_codec::{Batch, Stored};
 use muck_model::{Dbref, Flags, Kind, Line, LineList, NoMemory, Tune};
 use muck_prop::{Path, PropValue};
 use spec_live::{Changed, DbFault, Object};
@@ -81,6 +86,24 @@ impl Db {
         ensures { IfOk result (λ db. db ≡ first_objects) }
     {
         let slots = first_slots(alloc)?;
+        let paths = KnownPaths::new(alloc)?;
+        Ok(Db {
+            slots,
+            lowest: 0,
+            told: 0,
+            paths,
+        })
+    }
+
+    /// The objects that the records of a whole world stand for. No record may be outside the limits.
+    pub fn load(alloc: Global, records: &[Stored]) -> Result<Db, NoMemory>
+        requires few { length records.now ≤ 100000 }
+        requires whole { is_whole records.now ≡ true }
+        requires fits { list_all fits records.now ≡ true }
+        requires props { All (λ s. AreProperties s.props) records.now }
+        ensures { IfOk result (λ db. db ≡ loaded records.now) }
+    {
+        let slots = slots_of(alloc, records)?;
         let paths = KnownPaths::new(alloc)?;
         Ok(Db {
             slots,

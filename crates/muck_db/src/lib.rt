@@ -7,6 +7,7 @@ mod creation;
 mod cut;
 mod db;
 mod links;
+mod load;
 mod moves;
 mod password;
 mod paths;

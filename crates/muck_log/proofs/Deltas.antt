@@ -139,8 +139,7 @@ left_out : (objects front kept records : List Stored) (k : ℕ) → objects ≡ 
 left_out objects front [] records k is size number stored fine le = none_kept objects records k (omega (arith, ap length is, length-append front [], size)) number
 left_out objects front (r ∷ kept) [] k is size number stored fine le = absurd (omega (arith, le))
 left_out objects front (r ∷ kept) (o ∷ os) k is size number stored fine le =
-    let found : slice_get objects k ≡ Some r = ap (λ n. slice_get objects n) (sym size) ∙ ap (λ l. slice_get l (length front)) is ∙ seam front (r ∷ kept) in
-    (
+    let found : slice_get objects k ≡ Some r = ap (λ n. slice_get objects n) (sym size) ∙ ap (λ l. slice_get l (length front)) is ∙ seam front (r ∷ kept) in (
       (λ e. equals o r (All-head IsStored r kept stored) (All-head IsStored o os fine) (sym (differs_at objects o k (Some r) number.0 found) ∙ e)),
       left_out objects (front ++ r ∷ []) kept os (suc k) (is ∙ sym (append_assoc front (r ∷ []) kept)) (more_size front r k size) number.1 (All-tail IsStored r kept stored) (All-tail IsStored o os fine) (omega (arith, le)),
     )
@@ -189,8 +188,7 @@ tune_words t e =
     let d = and_parts (is_between t.m2_units 1000000) _ c.1 in
     let f = and_parts (is_between t.process_limit 400) _ d.1 in
     let g = and_parts (is_between t.player_processes 400) _ f.1 in
-    let h = and_parts (is_between t.mpi_commands 2048) (is_between t.dump_interval 86400) g.1 in
-    (
+    let h = and_parts (is_between t.mpi_commands 2048) (is_between t.dump_interval 86400) g.1 in (
       (narrow t.instr_slice 20000 a.0 (omega arith), (narrow t.preempt_units 20000 b.0 (omega arith), (narrow t.m1_units 1000000 c.0 (omega arith), narrow t.m2_units 1000000 d.0 (omega arith)))),
       (narrow t.process_limit 400 f.0 (omega arith), (narrow t.player_processes 400 g.0 (omega arith), (narrow t.mpi_commands 2048 h.0 (omega arith), narrow t.dump_interval 86400 h.1 (omega arith)))),
     )

@@ -1,5 +1,5 @@
 pub mod Forms
 pub mod Hung
-pub mod Marks
 pub mod Limits
+pub mod Marks
 pub mod Whole
