@@ -14,7 +14,7 @@ use Rattle.muck_store.specs.Whole.{kind_of, seats_in, chain_met, list_met, held_
 use Rattle.muck_store.proofs.Counted.{Passes, counted}
 use Rattle.muck_store.proofs.Meeting.{Up, Reached, Held, AllHeld, all_held}
 use Rattle.muck_store.proofs.Parts.{Whole, Tree, Alive, lives, kind_at, alive_at, passes, first_none, alive_stands, zero_place, place_of, none_in_player}
-use Rattle.muck_store.proofs.Tied.{Leads}
+use Rattle.muck_store.proofs.TiedRecords.{Leads}
 
 -- `#0` isn't garbage.
 

@@ -12,7 +12,7 @@ use Rattle.spec_live.specs.Objects.{dbref_of, index_of, nothing, same, is_room, 
 use Rattle.muck_store.specs.Whole.{kind_of, seats_in, all_tied, all_met, first_at, is_tree, is_whole, leads_to}
 use Rattle.muck_store.proofs.Counted.{Passes}
 use Rattle.muck_store.proofs.Meeting.{StandsAt, place_at}
-use Rattle.muck_store.proofs.Tied.{Leads, leads, TiedAt, tied_from, AliveTied, alive_tied, Blank, blank_tied}
+use Rattle.muck_store.proofs.TiedRecords.{Leads, leads, TiedAt, tied_from, AliveTied, alive_tied, Blank, blank_tied}
 
 pub record Whole (os : List Stored) : Type 0 where
   pub player : is_player (kind_of os 1) ≡ true

@@ -26,7 +26,7 @@ use Rattle.muck_store.proofs.Loaded.{kind_loaded, place_loaded, list_loaded}
 use Rattle.muck_store.proofs.Meeting.{Listed, Held, place_at, place_stands}
 use Rattle.muck_store.proofs.Parts.{Whole, Alive, kind_at, alive_ties, tied_at, blank_at, place_none, place_is, place_of, top_parts}
 use Rattle.muck_store.proofs.Sound.{Hanging, hanging, held_in, listed_at}
-use Rattle.muck_store.proofs.Tied.{Leads, leads, TiedAt, AliveTied, Blank}
+use Rattle.muck_store.proofs.TiedRecords.{Leads, leads, TiedAt, AliveTied, Blank}
 
 -- Properties.
 

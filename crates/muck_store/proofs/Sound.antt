@@ -19,7 +19,7 @@ use Rattle.muck_store.proofs.Everyone.{zero_alive, all_reached, everyone, every_
 use Rattle.muck_store.proofs.Loaded.{IsOf, length_loaded, object_from, kind_loaded, place_loaded, seats_loaded, list_loaded}
 use Rattle.muck_store.proofs.Meeting.{StandsAt, Listed, Held, Up, AllHeld, place_at, place_stands}
 use Rattle.muck_store.proofs.Parts.{Whole, Tree, Alive, whole_parts, tree_met, kind_at, alive_at, alive_ties, blank_at, place_none, place_is, place_of, zero_place, top_parts, only_room, only_player}
-use Rattle.muck_store.proofs.Tied.{Leads, ties_loaded, blank_object}
+use Rattle.muck_store.proofs.TiedRecords.{Leads, ties_loaded, blank_object}
 
 -- whole records, and what was met
 pub record Hanging (os : List Stored) : Type 0 where

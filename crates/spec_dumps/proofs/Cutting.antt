@@ -20,26 +20,19 @@ abbrev pub FailsBy : ℕ → History → Note → Entry → Type 0
 FailsBy mounted h note e = (n : ℕ) (before : Note) → suc (suc n) ≡ length h.notes → slice_get h.notes n ≡ Some before → is_failed e.event ≡ true → HasCause h.start mounted (h.entries ++ e ∷ []) (h.notes ++ note ∷ []) n note before
 
 module _ {D : Type 0} (seen : D → List ℕ) (moment : D → ℕ) (images : D → ℕ → List ℕ → Type 0) (faults : D → ℕ) (log : Option LogState) (f s : D) (mounted : ℕ) (h : History) (note : Note) (e : Entry) where
-  pub rests_next : Keeps seen moment images faults log f s mounted h → IsAt moment f s note → IsCounted faults f s note → note.entries ≡ length h.entries → is_stored e.event ≡ false → FailsBy mounted h note e →
-      Rests seen moment images faults log f s mounted (entered (noted h note) e)
-  rests_next v here count behind other why = record {
-    keeps = record {
-      last = length h.notes;
-      note = note;
-      is = got_last h.notes note;
-      end = length_last h.notes note;
-      safe = record {
-        survives = survives_noted moment images f s h.start mounted h.entries h.notes e note here behind some v.safe.survives
-            (λ c d left_c left_d. loads_by h.start h.start mounted h.entries (h.entries ++ e ∷ []) h.notes (h.notes ++ note ∷ []) v.last (length h.notes) (stored c d) next
-            (loads_now moment images f s h.start mounted h.entries h.notes v.last v.note v.is v.end v.safe.survives c d left_c left_d));
-        caused = caused_noted moment images f s h.start mounted h.entries h.notes e note here behind some v.safe.survives.placed v.safe.caused why;
-        deltas = deltas_noted moment images f s h.start mounted h.entries h.notes e note here behind some v.safe.survives.placed v.safe.deltas
-            (λ n c d at stores left_c left_d. absurd (no stores));
-      };
-      usable = usable log v.usable;
-      counted = count;
-    };
-    rests = here;
+  next : (v : Keeps seen moment images faults log f s mounted h) → IsAt moment f s note → note.entries ≡ length h.entries → is_stored e.event ≡ false → (x : Chosen) → IsFront h.start mounted h.entries h.notes v.last x →
+      IsFront h.start mounted (h.entries ++ e ∷ []) (h.notes ++ note ∷ []) (length h.notes) x
+  next v here behind other x p = front_next moment images f s h.start mounted h.entries h.notes e note here behind (omega (arith, v.end)) v.last x v.safe.survives.placed (sym v.end) other p
+
+  pub safe_next : Keeps seen moment images faults log f s mounted h → IsAt moment f s note → note.entries ≡ length h.entries → is_stored e.event ≡ false → FailsBy mounted h note e →
+      IsSafe moment images f s h.start mounted (h.entries ++ e ∷ []) (h.notes ++ note ∷ [])
+  safe_next v here behind other why = record {
+    survives = survives_noted moment images f s h.start mounted h.entries h.notes e note here behind some v.safe.survives
+        (λ c d left_c left_d. loads_by h.start h.start mounted h.entries (h.entries ++ e ∷ []) h.notes (h.notes ++ note ∷ []) v.last (length h.notes) (stored c d) (next v here behind other)
+        (loads_now moment images f s h.start mounted h.entries h.notes v.last v.note v.is v.end v.safe.survives c d left_c left_d));
+    caused = caused_noted moment images f s h.start mounted h.entries h.notes e note here behind some v.safe.survives.placed v.safe.caused why;
+    deltas = deltas_noted moment images f s h.start mounted h.entries h.notes e note here behind some v.safe.survives.placed v.safe.deltas
+        (λ n c d at stores left_c left_d. absurd (no stores));
   }
     where
       some : 0 < length h.notes
@@ -48,12 +41,29 @@ module _ {D : Type 0} (seen : D → List ℕ) (moment : D → ℕ) (images : D �
       no : is_stored e.event ≡ true → ⊥
       no is = let so = other in cc
 
-      next : (x : Chosen) → IsFront h.start mounted h.entries h.notes v.last x → IsFront h.start mounted (h.entries ++ e ∷ []) (h.notes ++ note ∷ []) (length h.notes) x
-      next x p = front_next moment images f s h.start mounted h.entries h.notes e note here behind some v.last x v.safe.survives.placed (sym v.end) other p
+  pub usable_next : Keeps seen moment images faults log f s mounted h → IsAt moment f s note → note.entries ≡ length h.entries → is_stored e.event ≡ false →
+      IsUsable seen moment images log f s h.start mounted (h.entries ++ e ∷ []) (h.notes ++ note ∷ []) (length h.notes)
+  usable_next v here behind other = usable log v.usable (next v here behind other) where
+    usable : (l : Option LogState) → IsUsable seen moment images l f s h.start mounted h.entries h.notes v.last →
+        ((x : Chosen) → IsFront h.start mounted h.entries h.notes v.last x → IsFront h.start mounted (h.entries ++ e ∷ []) (h.notes ++ note ∷ []) (length h.notes) x) →
+        IsUsable seen moment images l f s h.start mounted (h.entries ++ e ∷ []) (h.notes ++ note ∷ []) (length h.notes)
+    usable None u on = tt
+    usable (Some l) u on = (u.0, u.1, on l.chosen u.2)
 
-      usable : (l : Option LogState) → IsUsable seen moment images l f s h.start mounted h.entries h.notes v.last → IsUsable seen moment images l f s h.start mounted (h.entries ++ e ∷ []) (h.notes ++ note ∷ []) (length h.notes)
-      usable None u = tt
-      usable (Some l) u = (u.0, u.1, next l.chosen u.2)
+  pub rests_next : Keeps seen moment images faults log f s mounted h → IsAt moment f s note → IsCounted faults f s note → note.entries ≡ length h.entries → is_stored e.event ≡ false → FailsBy mounted h note e →
+      Rests seen moment images faults log f s mounted (entered (noted h note) e)
+  rests_next v here count behind other why = record {
+    keeps = record {
+      last = length h.notes;
+      note = note;
+      is = got_last h.notes note;
+      end = length_last h.notes note;
+      safe = safe_next v here behind other why;
+      usable = usable_next v here behind other;
+      counted = count;
+    };
+    rests = here;
+  }
 
   -- in the words of the calls
   pub rests_on : (k : History) → k ≡ entered (noted h note) e → Keeps seen moment images faults log f s mounted h → IsAt moment f s note → IsCounted faults f s note → note.entries ≡ length h.entries → is_stored e.event ≡ false → FailsBy mounted h note e →

@@ -47,7 +47,7 @@ note_within notes i place e = place_within notes i (slice_get notes i) place ref
 
 noted_on : (notes more : List Note) (n m count : ℕ) → n ≤ m → IsNotedBy notes n count → IsNotedBy (notes ++ more) m count
 noted_on notes more n m zero le p = tt
-noted_on notes more n m (suc count) le p = (p.0, p.1, omega (arith, p.2.0, le), place_on notes more p.0 (note_within notes p.0 count p.2.1) ∙ p.2.1)
+noted_on notes more n m (suc count) le p = (p.0, p.1, omega (arith, p.2, le), place_on notes more p.0 (note_within notes p.0 count p.3) ∙ p.3)
 
 -- more entries
 pub front_on : (w : World) (mounted : ℕ) (h more : List Entry) (notes : List Note) (n : ℕ) (s : Chosen) → ArePlaced h notes → IsFront w mounted h notes n s → IsFront w mounted (h ++ more) notes n s

@@ -59,7 +59,7 @@ place_which notes note i place e = at (slice_get (notes ++ note ∷ []) i) refl 
     | inr p ↦ inr (p.0, same x place p.1 e)
   ]
 
-stands_within : (test : Event → Bool) (h : List Entry) (n : ℕ) → stands_at test h n ≡ true → n < length h
+pub stands_within : (test : Event → Bool) (h : List Entry) (n : ℕ) → stands_at test h n ≡ true → n < length h
 stands_within test h n e = at (slice_get h n) refl e where
   at : (o : Option Entry) → slice_get h n ≡ o → option_map_or (λ (x : Entry). test x.event) o false ≡ true → n < length h
   at None is e = cc
@@ -160,7 +160,7 @@ module _ {D : Type 0} (moment : D → ℕ) (images : D → ℕ → List ℕ → 
       old : suc (suc n) < length notes → slice_get notes (suc (suc n)) ≡ Some x → HasCause w mounted (h ++ e ∷ []) (notes ++ note ∷ []) n x before
       old less there =
           let placed_x = placed (suc (suc n)) x.entries (ap (λ o. option_map (λ (y : Note). y.entries) o) there) in
-          let within : x.entries < length h = elim placed_x [ inl z ↦ absurd (omega (arith, z.0)) | inr yes ↦ yes ] in
+          let within : x.entries < length h = elim placed_x [ inl z ↦ absurd (omega (arith, z.0)) | inr it ↦ it ] in
           let known = v n x before there (sym (got_on notes (note ∷ []) n (omega (arith, less))) ∙ earlier) (sym (stands_on is_failed h (e ∷ []) x.entries within) ∙ at) in
           let front : take x.entries (h ++ e ∷ []) ≡ take x.entries h = take-append-le x.entries h (e ∷ []) (omega (arith, within)) in
           record {
@@ -187,7 +187,7 @@ module _ {D : Type 0} (moment : D → ℕ) (images : D → ℕ → List ℕ → 
       old : suc n < length notes → slice_get notes (suc n) ≡ Some x → (y : Chosen) × IsFront w mounted (h ++ e ∷ []) (notes ++ note ∷ []) n y × (stored c d ≡ Ok (dumped_on y (after w (take x.entries (h ++ e ∷ [])))))
       old less there =
           let placed_x = placed (suc n) x.entries (ap (λ o. option_map (λ (y : Note). y.entries) o) there) in
-          let within : x.entries < length h = elim placed_x [ inl z ↦ absurd (omega (arith, z.0)) | inr yes ↦ yes ] in
+          let within : x.entries < length h = elim placed_x [ inl z ↦ absurd (omega (arith, z.0)) | inr it ↦ it ] in
           let known = v n x c d there (sym (stands_on is_stored h (e ∷ []) x.entries within) ∙ at) left_c left_d in
           let front : take x.entries (h ++ e ∷ []) ≡ take x.entries h = take-append-le x.entries h (e ∷ []) (omega (arith, within)) in
           (known.0, front_noted n known.0 placed (omega (arith, less)) known.1, known.2 ∙ ap (λ y. Ok (dumped_on known.0 (after w y))) (sym front))

@@ -21,10 +21,11 @@ use Rattle.spec_dumps.proofs.Fronts.{ArePlaced, stands_on, front_on, loads_by}
 
 any_append : (es fs : List Entry) → list_any (λ (e : Entry). is_dump e.event) es ≡ false → list_any (λ (e : Entry). is_dump e.event) fs ≡ false → list_any (λ (e : Entry). is_dump e.event) (es ++ fs) ≡ false
 any_append [] fs a b = b
-any_append (e ∷ es) fs a b = first (is_dump e.event) a where
-  first : (x : Bool) → (x || list_any (λ (e : Entry). is_dump e.event) es) ≡ false → (x || list_any (λ (e : Entry). is_dump e.event) (es ++ fs)) ≡ false
-  first true p = cc
-  first false p = any_append es fs p b
+any_append (e ∷ es) fs a b = first (is_dump e.event) a (λ p. any_append es fs p b) where
+  first : (x : Bool) → (x || list_any (λ (e : Entry). is_dump e.event) es) ≡ false → (list_any (λ (e : Entry). is_dump e.event) es ≡ false → list_any (λ (e : Entry). is_dump e.event) (es ++ fs) ≡ false) →
+      (x || list_any (λ (e : Entry). is_dump e.event) (es ++ fs)) ≡ false
+  first true p f = cc
+  first false p f = f p
 
 pub quiet_nothing : (h k : History) → k ≡ h → Quietly h k
 quiet_nothing h k is = record { entries = []; grew = grew_nothing h k is; none = refl }
@@ -46,11 +47,11 @@ quiet_on h k m p q = record {
 
 none_at : (es : List Entry) (n : ℕ) → list_any (λ (e : Entry). is_dump e.event) es ≡ false → stands_at is_dump es n ≡ false
 none_at [] n p = refl
-none_at (e ∷ es) n p = at (is_dump e.event) refl p n where
-  at : (x : Bool) → is_dump e.event ≡ x → (x || list_any (λ (e : Entry). is_dump e.event) es) ≡ false → (n : ℕ) → stands_at is_dump (e ∷ es) n ≡ false
-  at true is q n = cc
-  at false is q zero = is
-  at false is q (suc n) = none_at es n q
+none_at (e ∷ es) n p = at (is_dump e.event) refl p n (λ q i. none_at es i q) where
+  at : (x : Bool) → is_dump e.event ≡ x → (x || list_any (λ (e : Entry). is_dump e.event) es) ≡ false → (n : ℕ) → (list_any (λ (e : Entry). is_dump e.event) es ≡ false → (i : ℕ) → stands_at is_dump es i ≡ false) → stands_at is_dump (e ∷ es) n ≡ false
+  at true is q n f = cc
+  at false is q zero f = is
+  at false is q (suc n) f = f q n
 
 none_behind : (h es : List Entry) (n : ℕ) → list_any (λ (e : Entry). is_dump e.event) es ≡ false → length h ≤ n → stands_at is_dump (h ++ es) n ≡ false
 none_behind [] es n p le = none_at es n p
@@ -153,4 +154,5 @@ module _ {D : Type 0} (seen : D → List ℕ) (moment : D → ℕ) (images : D �
   }
 
   pub rests_quiet : (h k : History) → Quietly h k → Rests seen moment images faults log f s mounted h → Rests seen moment images faults log f s mounted k
+  unfolding keeps_quiet
   rests_quiet h k q v = record { keeps = keeps_quiet h k q v.keeps; rests = v.rests }

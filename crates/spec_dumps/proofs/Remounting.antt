@@ -43,6 +43,7 @@ module _ {D : Type 0} (seen : D → List ℕ) (moment : D → ℕ) (images : D �
 
   -- where it is, it stands on the world after a front of the history
   pub mounted_again : (log : LogState) → IsMountedAs seen moment images file_most log f' s' → images f' (moment f') (seen f') → images s' (moment s') (seen s') → Keeps seen moment images faults (Some log) f' s' mounted h
+  unfolding mounting_moves
   mounted_again log is left_f left_s = record {
     last = r.keeps.last;
     note = r.keeps.note;
@@ -56,8 +57,9 @@ module _ {D : Type 0} (seen : D → List ℕ) (moment : D → ℕ) (images : D �
       shown : Loads h.start mounted h.entries h.notes r.keeps.last (stored (seen f') (seen s'))
       shown = shown_loads seen moment images faults None f' s' mounted h mounting_moves left_f left_s
 
-      same : (x : Chosen) → _≡_ {A = Result Chosen Damage} (Ok x) (Ok log.chosen) → x ≡ log.chosen
-      same x e = cc
+      same : (x : Chosen) (r : Result Chosen Damage) → r ≡ Ok x → r ≡ Ok log.chosen → x ≡ log.chosen
+      same x (Ok y) e g = cc
+      same x (Err y) e g = cc
 
       front : IsFront h.start mounted h.entries h.notes r.keeps.last log.chosen
-      front = subst (IsFront h.start mounted h.entries h.notes r.keeps.last) (same shown.0 (sym shown.1 ∙ is.mounted.load)) shown.2
+      front = subst (IsFront h.start mounted h.entries h.notes r.keeps.last) (same shown.0 (stored (seen f') (seen s')) shown.1 is.mounted.load) shown.2

@@ -1,6 +1,6 @@
 -- A dump that began is written, and it is stored or fails.
 use Rattle.std.proofs.Common.{◌≡◌, ◌⊎◌, inl, inr, ℕ, ◌+◌, ◌<◌, ◌≤◌, Bool, true, false, zero, suc, List, [], ◌∷◌, ◌++◌, length, take, refl, ap, sym, ◌∙◌, subst, arith, Option, Some, None, Ok}
-use Rattle.std.specs.Prelude.{slice_get, nat_lt, if◌then◌else◌}
+use Rattle.std.specs.Prelude.{slice_get, if◌then◌else◌}
 use Rattle.std.specs.Option.{option_map, option_map_or}
 use Rattle.std.proofs.lemmas.List.{take_all, length-take, take-append-le}
 use Rattle.muck_io.specs.Faults.{Rose}
@@ -14,14 +14,14 @@ use Rattle.muck_log.specs.Store.{Chosen, LogState, LeavesBoth, IsMounted, after_
 use Rattle.muck_log.specs.Append.{LoadsEither}
 use Rattle.spec_events.specs.World.{World}
 use Rattle.spec_events.specs.Histories.{History, after, entered, noted}
-use Rattle.spec_dumps.specs.Fronts.{persisted, is_cut, is_stored, is_failed, stands_at, last_cut, number_of_cut, number_at, place_of_note, IsFront, Loads, Overflows, dumped_on, file_most}
+use Rattle.spec_dumps.specs.Fronts.{persisted, is_cut, is_stored, is_failed, stands_at, cut_behind, last_cut, number_of_cut, number_at, place_of_note, IsNotedBy, IsFront, Loads, dumped_on, file_most}
 use Rattle.spec_dumps.specs.Survival.{HasCause, IsSafe, StandsWhole}
 use Rattle.spec_dumps.specs.Holding.{IsAt, IsCounted, Keeps, Rests}
 use Rattle.spec_dumps.proofs.Lists.{got_on, got_last, length_last}
-use Rattle.spec_dumps.proofs.Fronts.{front_later, front_on, loads_by}
+use Rattle.spec_dumps.proofs.Fronts.{place_on}
 use Rattle.spec_dumps.proofs.Moving.{safe_moved}
-use Rattle.spec_dumps.proofs.Noting.{front_noted, survives_noted, caused_noted, deltas_noted, stands_last, place_which}
-use Rattle.spec_dumps.proofs.Cutting.{FailsBy, rests_next}
+use Rattle.spec_dumps.proofs.Noting.{front_noted, survives_noted, caused_noted, deltas_noted, stands_within}
+use Rattle.spec_dumps.proofs.Cutting.{safe_next, usable_next}
 
 -- The last Cut.
 
@@ -31,7 +31,7 @@ last_cut_one e is = ap (λ b. if b then 1 else 0) is
 
 last_cut_more : (e : Entry) (h : List Entry) (n : ℕ) → last_cut h ≡ suc n → last_cut (e ∷ h) ≡ suc (suc n)
 unfolding last_cut
-last_cut_more e h n is = ap (λ k. if nat_lt 0 k then suc k else (if is_cut e.event then 1 else 0)) is
+last_cut_more e h n is = ap (λ k. cut_behind k (is_cut e.event)) is
 
 -- it stands last
 pub last_cut_end : (h : List Entry) (e : Entry) → is_cut e.event ≡ true → last_cut (h ++ e ∷ []) ≡ suc (length h)
@@ -47,7 +47,7 @@ last_cut_short (e ∷ h) = at (last_cut h) (last_cut_short h) where
   one true = omega arith
   one false = omega arith
 
-  at : (n : ℕ) → n ≤ length h → (if nat_lt 0 n then suc n else (if is_cut e.event then 1 else 0)) ≤ suc (length h)
+  at : (n : ℕ) → n ≤ length h → cut_behind n (is_cut e.event) ≤ suc (length h)
   at zero le = one (is_cut e.event)
   at (suc n) le = omega (arith, le)
 
@@ -84,8 +84,9 @@ module _ {D : Type 0} (seen : D → List ℕ) (moment : D → ℕ) (images : D �
     some : 0 < length h.notes
     some = omega (arith, v.end)
 
-    begun : Rests seen moment images faults (Some log) f s mounted k
-    begun = rests_next seen moment images faults (Some log) f s mounted h note cut v here count behind refl (λ i before at there fails. cc)
+    -- the log stands on a front of it
+    log_front : IsFront h.start mounted k.entries k.notes (length h.notes) log.chosen
+    log_front = (usable_next seen moment images faults (Some log) f s mounted h note cut v here behind refl).2
 
     dumped_holds : (dumped_on log.chosen world).held.world ≡ persisted world
     unfolding after_batch
@@ -107,13 +108,13 @@ module _ {D : Type 0} (seen : D → List ℕ) (moment : D → ℕ) (images : D �
       is = got_last h.notes note;
       end = length_last h.notes note;
       safe = safe_moved moment images f s f' s' h.start mounted k.entries k.notes (length h.notes) note (got_last h.notes note) (length_last h.notes note) here
-          (LoadsEither log.chosen (dumped_on log.chosen world)) leaves loads begun.keeps.safe;
+          (LoadsEither log.chosen (dumped_on log.chosen world)) leaves loads (safe_next seen moment images faults (Some log) f s mounted h note cut v here behind refl (λ i before at there fails. cc));
       usable = tt;
       counted = (omega (arith, count.0, first_later), omega (arith, count.1, second_later));
     }
       where
         loads : (c d : List ℕ) → LoadsEither log.chosen (dumped_on log.chosen world) c d → Loads h.start mounted k.entries k.notes (length h.notes) (stored c d)
-        loads c d (inl e) = (log.chosen, e, begun.keeps.usable.2)
+        loads c d (inl e) = (log.chosen, e, log_front)
         loads c d (inr e) = (dumped_on log.chosen world, e, dumped_front (dumped_on log.chosen world) refl)
 
     -- it is stored
@@ -128,20 +129,30 @@ module _ {D : Type 0} (seen : D → List ℕ) (moment : D → ℕ) (images : D �
       some_k : 0 < length k.notes
       some_k = omega (arith, length_last h.notes note)
 
-      -- the store that was written is one of a front, also behind the note of its end
+      -- the store that was written is that front, also behind the note of its end
       stored_front : IsFront h.start mounted m.entries m.notes (length k.notes) log'.chosen
-      stored_front = front_later h.start mounted m.entries k.notes (note' ∷ []) (length h.notes) (length k.notes) log'.chosen
-          on_k (omega (arith, length_last h.notes note)) (omega (arith, length_last h.notes note)) comes
+      stored_front = record {
+        count = length k.entries;
+        short = omega (arith, length_last k.entries stored_entry);
+        world = ap (λ (x : Chosen). x.held.world) chosen ∙ dumped_holds ∙ ap (λ (es : List Entry). persisted (after h.start es)) (sym front);
+        consistent = subst (λ (es : List Entry). IsConsistent (after h.start es).live.objects) (sym front) consistent;
+        cut = ap last_cut front ∙ last_cut_end h.entries cut refl ∙ sym (length_last h.entries cut);
+        number = ap (λ (x : Chosen). x.held.number) chosen ∙ dumped_number ∙ sym numbered;
+        noted = subst (IsNotedBy m.notes (length k.notes)) (sym (length_last h.entries cut)) (
+          length h.notes,
+          some,
+          omega (arith, length_last h.notes note),
+          place_on k.notes (note' ∷ []) (length h.notes) (omega (arith, length_last h.notes note)) ∙ ap (λ o. option_map (λ (y : Note). y.entries) o) (got_last h.notes note) ∙ ap Some behind,
+        );
+        acknowledged = λ i place low at is. omega (arith, last_cut_short (take place m.entries), length-take place m.entries, stands_within is_stored m.entries place is, length_last k.entries stored_entry);
+      }
         where
-          on_k : IsFront h.start mounted m.entries k.notes (length h.notes) log'.chosen
-          on_k = front_on h.start mounted k.entries (stored_entry ∷ []) k.notes (length h.notes) log'.chosen after_it.safe.survives.placed
-              (dumped_front log'.chosen chosen)
+          front : take (length k.entries) m.entries ≡ k.entries
+          front = take-append-le (length k.entries) k.entries (stored_entry ∷ []) (omega arith) ∙ take_all (length k.entries) k.entries (omega arith)
 
-          comes : (i place : ℕ) → length h.notes < i → i ≤ length k.notes → place_of_note (k.notes ++ note' ∷ []) i ≡ Some place → stands_at is_stored m.entries place ≡ true → last_cut (take place m.entries) ≤ on_k.count
-          comes i place low high at is = elim (place_which k.notes note' i place at) [
-            | inl q ↦ absurd (omega (arith, q.0, low, length_last h.notes note))
-            | inr q ↦ omega (arith, last_cut_short (take place m.entries), length-take place m.entries, q.1, behind', length_last h.entries cut)
-          ]
+          numbered : number_at mounted m.entries (length k.entries) ≡ n
+          numbered = ap (number_at mounted m.entries) (length_last h.entries cut)
+              ∙ ap (λ o. option_map_or (λ (e : Entry). number_of_cut e.event) o mounted) (got_on k.entries (stored_entry ∷ []) (length h.entries) (omega (arith, length_last h.entries cut)) ∙ got_last h.entries cut)
 
       images_now : (c d : List ℕ) → images f' (moment f') c → images s' (moment s') d → stored c d ≡ Ok log'.chosen
       images_now c d left_c left_d = ap (λ x. stored x d) (mounted'.first_durable c left_c) ∙ ap (stored (seen f')) (mounted'.second_durable d left_d) ∙ mounted'.load
@@ -168,12 +179,15 @@ module _ {D : Type 0} (seen : D → List ℕ) (moment : D → ℕ) (images : D �
           same_world : after h.start (take (length k.entries) m.entries) ≡ world
           same_world = ap (after h.start) (take-append-le (length k.entries) k.entries (stored_entry ∷ []) (omega arith) ∙ take_all (length k.entries) k.entries (omega arith))
 
+          index : (i : ℕ) → suc i ≡ length k.notes → i ≡ length h.notes
+          index i at = omega (arith, at, length_last h.notes note)
+
           wrote : (i : ℕ) (c d : List ℕ) → suc i ≡ length k.notes → is_stored stored_entry.event ≡ true → images f' (moment f') c → images s' (moment s') d →
               (x : Chosen) × IsFront h.start mounted m.entries m.notes i x × (stored c d ≡ Ok (dumped_on x (after h.start (take (length k.entries) m.entries))))
           wrote i c d at stores left_c left_d = (
             log.chosen,
             front_noted moment images f' s' h.start mounted k.entries k.notes stored_entry note' here' behind' some_k i log.chosen after_it.safe.survives.placed (omega (arith, at))
-                (subst (λ j. IsFront h.start mounted k.entries k.notes j log.chosen) (sym (omega (arith, at, length_last h.notes note))) begun.keeps.usable.2),
+                (subst (λ j. IsFront h.start mounted k.entries k.notes j log.chosen) (sym (index i at)) log_front),
             images_now c d left_c left_d ∙ ap Ok chosen ∙ ap (λ w. Ok (dumped_on log.chosen w)) (sym same_world),
           )
 

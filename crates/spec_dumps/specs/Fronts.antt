@@ -38,10 +38,14 @@ is_dump event = is_cut event || (is_stored event || is_failed event)
 abbrev pub stands_at : (Event → Bool) → List Entry → ℕ → Bool
 stands_at test h n = option_map_or (λ (e : Entry). test e.event) (slice_get h n) false
 
+abbrev pub cut_behind : ℕ → Bool → ℕ
+cut_behind zero cut = if cut then 1 else 0
+cut_behind (suc n) cut = suc (suc n)
+
 -- how many entries there are up to the last Cut, and with it; 0 where there is none
 unfoldable pub last_cut : List Entry → ℕ
 last_cut [] = 0
-last_cut (e ∷ h) = if nat_lt 0 (last_cut h) then suc (last_cut h) else (if is_cut e.event then 1 else 0)
+last_cut (e ∷ h) = cut_behind (last_cut h) (is_cut e.event)
 
 abbrev pub number_of_cut : Event → ℕ
 number_of_cut (Cut k) = k
