@@ -8,3 +8,5 @@ pub mod Leading
 pub mod Changed
 pub mod Standing
 pub mod Woken
+pub mod Tested
+pub mod Known

@@ -1,6 +1,7 @@
 pub mod Adding
 pub mod Numbered
 pub mod Room
+pub mod Known
 pub mod Leading
 pub mod Rows
 pub mod Events

@@ -1,10 +1,11 @@
 // One process.
-ghost use Rattle.std.specs.Prelude.{◌≡◌, ◌&&◌, OnOk, OnErr, if◌then◌else◌, length, min, slice_get};
+ghost use Rattle.std.specs.Prelude.{◌≡◌, ◌&&◌, ◌||◌, OnOk, OnErr, if◌then◌else◌, length, min, slice_get};
 ghost use Rattle.std.specs.Option.{option_map};
 ghost use Rattle.muf_model.specs.Datum.{text as text_item};
 ghost use Rattle.muf_model.specs.View.{view};
 ghost use Rattle.muck_queue.specs.Queues.{has_pid, is_of, is_due, is_before, is_tied_to, is_reading, is_awaiting, reads_from, keeps_busy, runs, has_trigger, without_trigger, more, counted, resting, sleeping, in_mode, with_item, going_on, told_line, told_event, without_event, given_event, woken};
 ghost use Rattle.muck_queue.specs.inner.Events.{shown};
+ghost use Rattle.muck_queue.specs.inner.Known.{has_connection, is_timed};
 
 use crate::claim::{Claim, is_claimed};
 use crate::events::{Events, ProcessEvent};
@@ -73,6 +74,13 @@ impl Process {
         self.wait == Wait::ForEvent && self.events.len() == 0
     }
 
+    /// Whether it waits for nothing but its second.
+    pub fn is_timed(&self) -> bool
+        ensures { result ≡ is_timed self.now }
+    {
+        !self.is_reading() && !self.is_awaiting()
+    }
+
     /// Whether its second has come, it waits for nothing, and nobody has claimed it.
     pub fn is_due(&self, moment: u64, claims: &[Claim]) -> bool
         ensures { result ≡ is_due moment claims.now self.now }
@@ -88,6 +96,20 @@ impl Process {
         ensures { result ≡ is_before self.now other.now }
     {
         self.due < other.due || self.due == other.due && self.number < other.number
+    }
+
+    /// Whether it is tied to some connection.
+    pub fn has_connection(&self) -> bool
+        ensures { result ≡ has_connection self.now }
+    {
+        self.descr.is_some()
+    }
+
+    /// Whether it is tied to some connection, or others are.
+    pub fn ties_with(&self, others: bool) -> bool
+        ensures { result ≡ (others || has_connection self.now) }
+    {
+        others || self.has_connection()
     }
 
     /// Whether it is tied to that connection.

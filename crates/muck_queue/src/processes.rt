@@ -1,9 +1,10 @@
 // The processes, by rising number.
-ghost use Rattle.std.specs.Prelude.{◌≡◌, ◌≤◌, OnOk, OnErr, length, find, not, map, if◌then◌else◌, slice_get, Some, None};
-ghost use Rattle.std.specs.List.{count_by, list_any, position, position_or_len};
+ghost use Rattle.std.specs.Prelude.{◌≡◌, ◌≤◌, true, OnOk, OnErr, length, find, not, map, if◌then◌else◌, slice_get, Some, None};
+ghost use Rattle.std.specs.List.{count_by, list_all, list_any, position, position_or_len};
 ghost use Rattle.std.specs.Option.{option_and_then, option_map, option_map_or, option_copied};
 ghost use Rattle.muck_queue.specs.Queues.{at_state, has_pid, is_of, is_due, is_before, is_tied_to, reads_from, keeps_busy, runs, has_trigger, earliest, earlier, changed_first, without_first, without_all, without_trigger, counted, resting, sleeping, in_mode, told_line, told_event, without_event, woken};
 ghost use Rattle.muck_queue.specs.inner.Events.{shown};
+ghost use Rattle.muck_queue.specs.inner.Known.{fits_second, has_connection};
 
 use crate::claim::Claim;
 use crate::events::ProcessEvent;
@@ -49,6 +50,13 @@ pub fn is_tied(processes: &[Process], d: u32) -> bool
     processes.iter().any(|p| p.is_tied_to(d))
 }
 
+/// Whether some process is tied to a connection.
+pub fn are_tied(processes: &[Process]) -> bool
+    ensures { result ≡ list_any has_connection processes.now }
+{
+    processes.iter().any(|p| p.has_connection())
+}
+
 /// Whether a process that is tied to a connection doesn't wait for its line.
 pub fn is_busy(processes: &[Process], d: u32) -> bool
     ensures { result ≡ list_any (keeps_busy d) processes.now }
@@ -84,6 +92,19 @@ pub fn earliest<'a>(processes: &'a [Process], claims: &[Claim], moment: u64) -> 
         }
     }
     best
+}
+
+/// The second in which the first is due of those that wait for nothing; the last second of all where there is none.
+pub fn soonest(processes: &[Process]) -> u64
+    ensures { list_all (fits_second result) processes.now ≡ true }
+{
+    let mut soonest = u64::MAX;
+    for p in processes {
+        if p.is_timed() {
+            soonest = soonest.min(p.due);
+        }
+    }
+    soonest
 }
 
 /// Takes out the state of a process, which keeps its place.

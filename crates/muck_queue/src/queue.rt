@@ -24,14 +24,19 @@ use std::marker::Model;
 /// which last until they are released, also those on processes that have ended; that the numbers of the processes rise
 /// from 1 on, and that none is above the last, is a rule of the type (`numbered`).
 ///
-/// There are as many processes as a wizard allows, at most 400. Each call costs at most a pass over them; where one is
-/// looked for that nobody has claimed, for each process that is due one over the claims, of which each party has one.
+/// There are as many processes as a wizard allows, at most 400. Each call costs at most two passes over them; where one is
+/// looked for that nobody has claimed, for each process that is due one over the claims, of which each party has one. It
+/// costs none where no process is tied to a connection and one of a connection is asked for, or where none can be due yet.
 /// Only `add` takes memory, which is for the claim on the new process too.
 #[derive(Drop)]
 pub struct Queue {
     processes: Vec<Process>,
     last: i32,
     claims: Vec<Claim>,
+    // Where it is false, no process is tied to a connection.
+    tied: bool,
+    // No process that waits for nothing is due before this second.
+    soonest: u64,
 }
 
 impl Model for Queue {
@@ -41,6 +46,7 @@ impl Model for Queue {
     ghost use Rattle.muck_queue.specs.Queues.{Queue as Table};
     ghost use Rattle.std.specs.Prelude.{vec_capacity};
     ghost use Rattle.muck_queue.specs.inner.Room.{Stands};
+    ghost use Rattle.muck_queue.specs.inner.Known.{Knows};
 
     ghost Value = { Table };
 
@@ -48,7 +54,7 @@ impl Model for Queue {
 
     ghost view = { λ q. record { processes = q.processes.items; last = q.last; claims = q.claims.items } };
 
-    ghost invariant = { λ q. Stands (vec_capacity q.claims) q.last q.claims.items q.processes.items };
+    ghost invariant = { λ q. Stands (vec_capacity q.claims) q.last q.claims.items q.processes.items × Knows q.tied q.soonest q.processes.items };
 }
 
 impl Queue {
@@ -61,6 +67,8 @@ impl Queue {
             processes: Vec::new(alloc),
             last: 0,
             claims: Vec::new(alloc),
+            tied: false,
+            soonest: u64::MAX,
         }
     }
 
@@ -107,9 +115,13 @@ impl Queue {
         let number = self.last + 1;
         let mut process = process;
         process.number = number;
+        let tied = process.ties_with(self.tied);
+        let soonest = self.soonest.min(process.due);
         self.claims.reserve(self.processes.len() + 1)?;
         self.processes.push(process)?;
         self.last = number;
+        self.tied = tied;
+        self.soonest = soonest;
         Ok(number)
     }
 
@@ -120,6 +132,9 @@ impl Queue {
         ensures number { result ≡ next_due moment self.now }
         ensures next { IsNext moment self.now.claims self.now.processes result }
     {
+        if moment < self.soonest {
+            return None;
+        }
         match processes::earliest(&self.processes, &self.claims, moment) {
             Some(p) => Some(p.number),
             None => None,
@@ -136,10 +151,21 @@ impl Queue {
         ensures state { self.new ≡ option_map_or (λ pid. claimed pid party self.old) result self.old }
     {
         let Some(number) = self.next_due(moment) else {
+            self.look_ahead(moment);
             return None;
         };
         self.claims.push_reserved(Claim { number, party });
         Some(number)
+    }
+
+    // Finds the soonest second anew where it has come.
+    fn look_ahead(&mut self, moment: u64)
+        ensures { self.new ≡ self.old }
+    {
+        if moment < self.soonest {
+            return;
+        }
+        self.soonest = processes::soonest(&self.processes);
     }
 
     /// Nobody claims the process of a number any more; nothing has changed where nobody did.
@@ -188,7 +214,9 @@ impl Queue {
         ensures there { result ≡ is_some (process pid self.old) }
         ensures rest { self.new ≡ without pid self.old }
     {
-        processes::take(&mut self.processes, pid).is_some()
+        let ended = processes::take(&mut self.processes, pid);
+        self.tied = processes::are_tied(&self.processes);
+        ended.is_some()
     }
 
     /// The process of a number took so many units; where it isn't there nothing has changed, here and in the calls below.
@@ -205,6 +233,7 @@ impl Queue {
         ensures { self.new ≡ on_process pid (resting wait) self.old }
     {
         processes::rest(&mut self.processes, pid, wait);
+        self.soonest = 0;
     }
 
     /// It sleeps until this second, and counts its units anew when it goes on.
@@ -213,6 +242,7 @@ impl Queue {
         ensures { self.new ≡ on_process pid (sleeping due) self.old }
     {
         processes::sleep(&mut self.processes, pid, due);
+        self.soonest = self.soonest.min(due);
     }
 
     /// It is in another mode: in the background without a connection; in preempt a section begins, where it wasn't in preempt.
@@ -221,6 +251,7 @@ impl Queue {
         ensures { self.new ≡ on_process pid (in_mode mode) self.old }
     {
         processes::set_mode(&mut self.processes, pid, mode);
+        self.tied = processes::are_tied(&self.processes);
     }
 
     /// The line for which it waited comes, and it goes on from this second.
@@ -229,6 +260,7 @@ impl Queue {
         ensures { self.new ≡ on_process pid (told_line moment line) self.old }
     {
         processes::give_line(&mut self.processes, pid, moment, line);
+        self.soonest = self.soonest.min(moment);
     }
 
     /// A slice of it begins at this second, and with it a section of its own. Where it waited for an event, and one came, it has that.
@@ -237,6 +269,7 @@ impl Queue {
         ensures { self.new ≡ on_process pid (woken moment) self.old }
     {
         processes::wake(&mut self.processes, pid, moment);
+        self.soonest = self.soonest.min(moment);
     }
 
     /// An event comes for the process of a number, behind those that it has; where it waited for one it goes on from this
@@ -264,6 +297,7 @@ impl Queue {
             moment,
             ProcessEvent { name, data: item },
         )?;
+        self.soonest = self.soonest.min(moment);
         Ok(true)
     }
 
@@ -281,6 +315,9 @@ impl Queue {
     pub fn is_busy(&self, d: u32) -> bool
         ensures { result ≡ is_busy d self.now }
     {
+        if !self.tied {
+            return false;
+        }
         processes::is_busy(&self.processes, d)
     }
 
@@ -289,6 +326,9 @@ impl Queue {
     pub fn reader(&self, d: u32) -> Option<i32>
         ensures { result ≡ reader d self.now }
     {
+        if !self.tied {
+            return None;
+        }
         match processes::reader(&self.processes, d) {
             Some(p) => Some(p.number),
             None => None,
@@ -300,6 +340,9 @@ impl Queue {
     pub fn is_tied(&self, d: u32) -> bool
         ensures { result ≡ is_tied d self.now }
     {
+        if !self.tied {
+            return false;
+        }
         processes::is_tied(&self.processes, d)
     }
 
@@ -308,7 +351,11 @@ impl Queue {
     pub fn end_tied(&mut self, d: u32)
         ensures { self.new ≡ ended_tied d self.old }
     {
+        if !self.tied {
+            return;
+        }
         processes::end_tied(&mut self.processes, d);
+        self.tied = processes::are_tied(&self.processes);
     }
 
     /// The processes that run the program end, also those in which it is a caller of what runs.
@@ -317,6 +364,7 @@ impl Queue {
         ensures { self.new ≡ ended_running program self.old }
     {
         processes::end_running(&mut self.processes, program);
+        self.tied = processes::are_tied(&self.processes);
     }
 
     /// An object is gone: the processes that it started have the trigger `#-1` from now on.

@@ -1,1 +1,10 @@
-
+pub mod Lists
+pub mod Fronts
+pub mod Quiet
+pub mod Noting
+pub mod Moving
+pub mod Cutting
+pub mod Storing
+pub mod Failing
+pub mod Remounting
+pub mod Begun

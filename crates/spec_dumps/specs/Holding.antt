@@ -25,16 +25,21 @@ IsUsable seen moment images (Some log) first second w mounted h notes n =
 abbrev pub IsAt : {D : Type 0} → (D → ℕ) → D → D → Note → Type 0
 IsAt moment first second note = (note.first_moment ≡ moment first) × (note.second_moment ≡ moment second)
 
+-- and that note counts no more faults than the disks do
+abbrev pub IsCounted : {D : Type 0} → (D → ℕ) → D → D → Note → Type 0
+IsCounted faults first second note = (note.first_faults ≤ faults first) × (note.second_faults ≤ faults second)
+
 -- From one dump to the next: what is kept of the disks, and what the log stands on, if one is mounted.
-pub record Keeps {D : Type 0} (seen : D → List ℕ) (moment : D → ℕ) (images : D → ℕ → List ℕ → Type 0) (log : Option LogState) (first second : D) (mounted : ℕ) (h : History) : Type 0 where
+pub record Keeps {D : Type 0} (seen : D → List ℕ) (moment : D → ℕ) (images : D → ℕ → List ℕ → Type 0) (faults : D → ℕ) (log : Option LogState) (first second : D) (mounted : ℕ) (h : History) : Type 0 where
   pub last : ℕ
   pub note : Note
   pub is : slice_get h.notes last ≡ Some note
   pub end : length h.notes ≡ suc last
   pub safe : IsSafe moment images first second h.start mounted h.entries h.notes
   pub usable : IsUsable seen moment images log first second h.start mounted h.entries h.notes last
+  pub counted : IsCounted faults first second note
 
 -- and nothing moved the disks since the last note
-pub record Rests {D : Type 0} (seen : D → List ℕ) (moment : D → ℕ) (images : D → ℕ → List ℕ → Type 0) (log : Option LogState) (first second : D) (mounted : ℕ) (h : History) : Type 0 where
-  pub keeps : Keeps seen moment images log first second mounted h
+pub record Rests {D : Type 0} (seen : D → List ℕ) (moment : D → ℕ) (images : D → ℕ → List ℕ → Type 0) (faults : D → ℕ) (log : Option LogState) (first second : D) (mounted : ℕ) (h : History) : Type 0 where
+  pub keeps : Keeps seen moment images faults log first second mounted h
   pub rests : IsAt moment first second keeps.note

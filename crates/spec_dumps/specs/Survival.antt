@@ -26,8 +26,9 @@ pub record Survives {D : Type 0} (moment : D → ℕ) (images : D → ℕ → Li
       images first t c → images second u d → Loads w mounted h notes n (stored c d)
   pub rises : (n : ℕ) (note : Note) → slice_get notes n ≡ Some note →
       (note.first_moment ≤ until (λ (x : Note). x.first_moment) notes n (moment first)) × (note.second_moment ≤ until (λ (x : Note). x.second_moment) notes n (moment second))
+  pub past : (n : ℕ) (note : Note) → slice_get notes n ≡ Some note → (note.first_moment ≤ moment first) × (note.second_moment ≤ moment second)
   pub noted : AllNoted h notes
-  pub placed : (i place : ℕ) → place_of_note notes i ≡ Some place → (place ≡ 0) ⊎ (place < length h)
+  pub placed : (i place : ℕ) → place_of_note notes i ≡ Some place → ((i ≡ 0) × (place ≡ 0)) ⊎ (place < length h)
 
 -- Why a dump failed whose end has the n-th note: the count of faults of a disk rose since the note before that of its Cut, or its batch
 -- would pass the most bytes of a file.

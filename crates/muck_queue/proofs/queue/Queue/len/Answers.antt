@@ -5,4 +5,4 @@ use Rattle.muck_queue.proofs.queue.Queue.len.Goals as goal
 
 pub returns-clause-numbered : goal.returns-clause-numbered
 unfolding IsNumbered
-returns-clause-numbered c = subst (λ (q : Queue). IsNumbered q) c.self.view_is c.self.invariant.numbered
+returns-clause-numbered c = subst (λ (q : Queue). IsNumbered q) c.self.view_is c.self.invariant.0.numbered

@@ -1,0 +1,66 @@
+-- A note and an entry that stores nothing: the Cut of a dump, or its failure.
+use Rattle.std.proofs.Common.{◌≡◌, ℕ, ◌<◌, ◌≤◌, Bool, true, false, suc, List, [], ◌∷◌, ◌++◌, length, refl, ap, sym, ◌∙◌, subst, arith, Option, Some, None, Ok}
+use Rattle.std.specs.Prelude.{slice_get}
+use Rattle.muck_model.specs.declared.event.Entry.{Entry}
+use Rattle.muck_model.specs.declared.event.Event.TheVariants.{Cut}
+use Rattle.muck_model.specs.declared.note.Note.{Note}
+use Rattle.muck_log.specs.Store.{Chosen, LogState, stored}
+use Rattle.spec_events.specs.World.{World}
+use Rattle.spec_events.specs.Histories.{History, entered, noted}
+use Rattle.spec_dumps.specs.Fronts.{is_stored, is_failed, IsFront, Loads}
+use Rattle.spec_dumps.specs.Survival.{HasCause, IsSafe}
+use Rattle.spec_dumps.specs.Holding.{IsAt, IsCounted, IsUsable, Keeps, Rests}
+use Rattle.spec_dumps.proofs.Lists.{got_last, length_last}
+use Rattle.spec_dumps.proofs.Fronts.{loads_by}
+use Rattle.spec_dumps.proofs.Moving.{loads_now}
+use Rattle.spec_dumps.proofs.Noting.{front_next, survives_noted, caused_noted, deltas_noted}
+
+-- why the entry e fails, if it does
+abbrev pub FailsBy : ℕ → History → Note → Entry → Type 0
+FailsBy mounted h note e = (n : ℕ) (before : Note) → suc (suc n) ≡ length h.notes → slice_get h.notes n ≡ Some before → is_failed e.event ≡ true → HasCause h.start mounted (h.entries ++ e ∷ []) (h.notes ++ note ∷ []) n note before
+
+module _ {D : Type 0} (seen : D → List ℕ) (moment : D → ℕ) (images : D → ℕ → List ℕ → Type 0) (faults : D → ℕ) (log : Option LogState) (f s : D) (mounted : ℕ) (h : History) (note : Note) (e : Entry) where
+  pub rests_next : Keeps seen moment images faults log f s mounted h → IsAt moment f s note → IsCounted faults f s note → note.entries ≡ length h.entries → is_stored e.event ≡ false → FailsBy mounted h note e →
+      Rests seen moment images faults log f s mounted (entered (noted h note) e)
+  rests_next v here count behind other why = record {
+    keeps = record {
+      last = length h.notes;
+      note = note;
+      is = got_last h.notes note;
+      end = length_last h.notes note;
+      safe = record {
+        survives = survives_noted moment images f s h.start mounted h.entries h.notes e note here behind some v.safe.survives
+            (λ c d left_c left_d. loads_by h.start h.start mounted h.entries (h.entries ++ e ∷ []) h.notes (h.notes ++ note ∷ []) v.last (length h.notes) (stored c d) next
+            (loads_now moment images f s h.start mounted h.entries h.notes v.last v.note v.is v.end v.safe.survives c d left_c left_d));
+        caused = caused_noted moment images f s h.start mounted h.entries h.notes e note here behind some v.safe.survives.placed v.safe.caused why;
+        deltas = deltas_noted moment images f s h.start mounted h.entries h.notes e note here behind some v.safe.survives.placed v.safe.deltas
+            (λ n c d at stores left_c left_d. absurd (no stores));
+      };
+      usable = usable log v.usable;
+      counted = count;
+    };
+    rests = here;
+  }
+    where
+      some : 0 < length h.notes
+      some = omega (arith, v.end)
+
+      no : is_stored e.event ≡ true → ⊥
+      no is = let so = other in cc
+
+      next : (x : Chosen) → IsFront h.start mounted h.entries h.notes v.last x → IsFront h.start mounted (h.entries ++ e ∷ []) (h.notes ++ note ∷ []) (length h.notes) x
+      next x p = front_next moment images f s h.start mounted h.entries h.notes e note here behind some v.last x v.safe.survives.placed (sym v.end) other p
+
+      usable : (l : Option LogState) → IsUsable seen moment images l f s h.start mounted h.entries h.notes v.last → IsUsable seen moment images l f s h.start mounted (h.entries ++ e ∷ []) (h.notes ++ note ∷ []) (length h.notes)
+      usable None u = tt
+      usable (Some l) u = (u.0, u.1, next l.chosen u.2)
+
+  -- in the words of the calls
+  pub rests_on : (k : History) → k ≡ entered (noted h note) e → Keeps seen moment images faults log f s mounted h → IsAt moment f s note → IsCounted faults f s note → note.entries ≡ length h.entries → is_stored e.event ≡ false → FailsBy mounted h note e →
+      Rests seen moment images faults log f s mounted k
+  rests_on k is v here count behind other why = subst (λ x. Rests seen moment images faults log f s mounted x) (sym is) (rests_next v here count behind other why)
+
+pub cut_noted : {D : Type 0} (seen : D → List ℕ) (moment : D → ℕ) (images : D → ℕ → List ℕ → Type 0) (faults : D → ℕ) (log : Option LogState) (f s : D) (mounted : ℕ) (h k : History) (note : Note) (party n : ℕ) →
+    Keeps seen moment images faults log f s mounted h → k ≡ entered (noted h note) (record { party = party; event = Cut n }) → note.entries ≡ length h.entries → IsAt moment f s note → IsCounted faults f s note → Rests seen moment images faults log f s mounted k
+cut_noted seen moment images faults log f s mounted h k note party n v is behind here count =
+    rests_on seen moment images faults log f s mounted h note (record { party = party; event = Cut n }) k is v here count behind refl (λ i before at there fails. cc)
