@@ -14,3 +14,4 @@ pub mod Leaving
 pub mod Showing
 pub mod Counting
 pub mod Settings
+pub mod Cutting

@@ -60,7 +60,7 @@ member_standing slots s v p x m =
     }
 
 -- a number that has a place stands in a list
-place_standing : (slots : List Slot) → HasOrder slots → (p x : ℕ) → place_at slots x ≡ Some p → Member x (list_at (is_exit (kind_in (entries_of slots) x)) slots p)
+pub place_standing : (slots : List Slot) → HasOrder slots → (p x : ℕ) → place_at slots x ≡ Some p → Member x (list_at (is_exit (kind_in (entries_of slots) x)) slots p)
 place_standing slots s p x h = (order_chains slots s).listed (is_exit (kind_in (entries_of slots) x)) p x (record { place = h; kind = sym (is_exit-entries_of slots x) })
 
 after_is : (slots : List Slot) (d : Dbref) (x : ℕ) → number_in (entries_of slots) d ≡ Some x → behind x (listing (entries_of slots) x) ≡ walk (length slots) (next_at slots) (next_at slots x)

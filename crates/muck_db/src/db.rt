@@ -17,9 +17,11 @@ ghost use Rattle.muck_db.specs.inner.Limits.{FitsLimits, IsWithinLimits};
 ghost use Rattle.muck_db.specs.inner.Settings.{MaySet, with_setting};
 ghost use Rattle.muck_db.specs.inner.Shown.{is_there, after_in, first_in, next_in, Knows};
 ghost use Rattle.muck_model.specs.Bytes.{lines_most};
+ghost use Rattle.muck_store.specs.Forms.{world_batch};
 
 use crate::chain::Chain;
 use crate::creation::{check_create, new_object, put_object};
+use crate::cut::records_of;
 use crate::links::dbref_of;
 use crate::moves::{check_move, count_there, found, list_of, relocate};
 use crate::password::{digest_word, is_digest_of};
@@ -33,7 +35,8 @@ use crate::slot::Slot;
 use crate::start::first_slots;
 use crate::telling::{clear_mark, marked, told_of};
 use crate::walks::{first_listed, next_listed};
-use muck_model::{Dbref, Flags, Kind, Line, LineList, NoMemory};
+use muck_codec::Batch;
+use muck_model::{Dbref, Flags, Kind, Line, LineList, NoMemory, Tune};
 use muck_prop::{Path, PropValue};
 use spec_live::{Changed, DbFault, Object};
 use std::alloc::Global;
@@ -149,6 +152,18 @@ impl Db {
         ensures short { length result ≤ length self.now }
     {
         list_of(&self.slots, true, d)
+    }
+
+    /// What a dump hands to the log: the stored form of each object, and what is tuned. It copies the record of each
+    /// object, which costs as much as the world is large.
+    pub fn cut(&self, alloc: Global, tune: &Tune) -> Result<Batch, NoMemory>
+        ensures { IfOk result (λ batch. batch ≡ world_batch self.now tune.now) }
+    {
+        let records = records_of(alloc, &self.slots)?;
+        Ok(Batch {
+            records,
+            tune: *tune,
+        })
     }
 
     /// Makes an object at the lowest number of garbage, or else at the next number, in front of a list of its place. A

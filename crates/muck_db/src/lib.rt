@@ -4,6 +4,7 @@
 
 mod chain;
 mod creation;
+mod cut;
 mod db;
 mod links;
 mod moves;

@@ -89,7 +89,7 @@ pub fn number_of(slots: &Vec<Slot>, d: Dbref) -> Option<u32>
 
 // The object at a place, which is none where it is garbage.
 #[tactic(auto, unfolding(crate::specs::inner::Slots::kept_at))]
-fn object_of(slots: &Vec<Slot>, k: u32) -> Option<&Object>
+pub fn object_of(slots: &Vec<Slot>, k: u32) -> Option<&Object>
     requires { k < length slots.now.items }
     ensures { option_copied result ≡ kept_at slots.now.items k }
 {

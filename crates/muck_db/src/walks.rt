@@ -14,7 +14,7 @@ use muck_model::Dbref;
 const NOTHING: Dbref = Dbref(-1);
 
 // The object of a number that may be none.
-fn dbref_at(at: Option<u32>) -> Dbref
+pub fn dbref_at(at: Option<u32>) -> Dbref
     requires { IfSome at (λ k. k < 2 ^ 31) }
     ensures { result ≡ dbref_at at }
 {
