@@ -8,6 +8,7 @@ use Rattle.muck_model.specs.declared.event.Entry.{Entry}
 use Rattle.muck_model.specs.declared.event.Event.{Event}
 use Rattle.muck_model.specs.declared.event.Event.TheVariants.{Died}
 use Rattle.muck_model.specs.declared.memory.NoMemory.{NoMemory}
+use Rattle.muck_model.specs.declared.note.Note.{Note}
 use Rattle.muck_queue.specs.Queues.{next_due}
 use Rattle.spec_events.specs.World.{World}
 use Rattle.spec_events.specs.Steps.{is_free, happened, effect, is_died, is_lawful, is_allowed, next_ready, next_process}
@@ -17,7 +18,7 @@ use Rattle.spec_events.proofs.Living.{dead-happened}
 use Rattle.spec_events.proofs.Reached.{sound-effect, died_lawful}
 use Rattle.spec_events.proofs.Runs.{after-append, lawful-append}
 use Rattle.muck_machine.specs.declared.past.Past.{Past}
-use Rattle.muck_machine.specs.Keeping.{Keeps, history, told, lost, Concludes}
+use Rattle.muck_machine.specs.Keeping.{Keeps, history, told, remarked, lost, Concludes}
 
 one_more : (start : World) (entries : List Entry) (e : Entry) → after start (entries ++ e ∷ []) ≡ happened (after start entries) e.party e.event
 unfolding effect
@@ -40,6 +41,10 @@ keeps_told p state next e k alive may other is =
       sound = λ h. subst IsSound (sym (after-append p.tale.entries (e ∷ []) p.origin)) (sound-effect (after p.origin p.tale.entries) e (not_died e.event other) may (k.sound alive));
       lives = λ h. is ∙ ap (λ w. happened w e.party e.event) (k.lives alive) ∙ sym whole;
     }
+
+-- a note changes nothing of what is kept
+pub keeps_noted : (p : Past) (note : Note) (state : World) → Keeps p state → Keeps (remarked note p) state
+keeps_noted p note state k = record { grows = refl; lawful = k.lawful; dies = k.dies; sound = k.sound; lives = k.lives }
 
 -- memory was wanted, whatever stood before
 pub keeps_lost : (p : Past) (party : ℕ) (state next : World) → Keeps p state → Keeps (lost party p) next
@@ -66,6 +71,10 @@ dead_seen p state h k v = sym (ap (λ (x : History). (now x).dead) v) ∙ k.dies
 alive_if_lawful : (p : Past) (state : World) (h : History) (e : Entry) → Keeps p state → history p ≡ h → is_lawful (now h) e ≡ true → is_died e.event ≡ false → p.dead ≡ false
 unfolding is_lawful
 alive_if_lawful p state h e k v may other = sym (dead_seen p state h k v) ∙ alive_where (now h).dead _ _ may other
+
+pub alive_now : (w : World) (e : Entry) → is_lawful w e ≡ true → is_died e.event ≡ false → w.dead ≡ false
+unfolding is_lawful
+alive_now w e may other = alive_where w.dead _ _ may other
 
 -- an entry that is lawful now and isn't Died was entered
 pub keeps_entered : (p q : Past) (state next : World) (h : History) (e : Entry) → Keeps p state → history p ≡ h → is_lawful (now h) e ≡ true → is_died e.event ≡ false →
@@ -101,7 +110,7 @@ lawful_as p allowed state h e k v alive is =
     is ∙ ap (λ w. is_allowed w e.party e.event) (k.lives alive ∙ ap now v) ∙ sym (cond-false _ _ _ (dead_seen p state h k v ∙ alive))
 
 -- a world begins, in which nothing has happened yet
-pub keeps_begun : (p : Past) (state : World) → p.tale ≡ record { entries = []; open_ended = true } → p.dead ≡ false → IsSound p.origin → state ≡ p.origin → Keeps p state
+pub keeps_begun : (p : Past) (state : World) → p.tale ≡ record { entries = []; notes = []; open_ended = true } → p.dead ≡ false → IsSound p.origin → state ≡ p.origin → Keeps p state
 keeps_begun p state t alive sound is =
     let none : p.tale.entries ≡ [] = ap (λ (x : Told). x.entries) t in
     record {
@@ -120,6 +129,10 @@ state_seen p state h k v alive = k.lives alive ∙ ap now v
 -- a reader answers of the world as it is now
 pub reads : {X : Type 0} (f : World → X) (x : X) (p : Past) (state : World) (h : History) → Keeps p state → history p ≡ h → x ≡ f state → (now h).dead ≡ false → x ≡ f (now h)
 reads f x p state h k v is alive = is ∙ ap f (state_seen p state h k v (sym (dead_seen p state h k v) ∙ alive))
+
+-- and what is so of the state is so of it
+pub holds : (P : World → Type 0) (p : Past) (state : World) (h : History) → Keeps p state → history p ≡ h → P state → (now h).dead ≡ false → P (now h)
+holds P p state h k v is alive = subst P (state_seen p state h k v (sym (dead_seen p state h k v) ∙ alive)) is
 
 -- and of a dead one something fixed
 pub reads_dead : {X : Type 0} (f : World → X) (x : X) (p : Past) (state : World) (h : History) → Keeps p state → history p ≡ h → p.dead ≡ true → x ≡ cond (now h).dead x (f (now h))

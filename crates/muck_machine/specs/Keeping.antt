@@ -1,15 +1,17 @@
 -- What a world keeps of its history.
-use Rattle.std.specs.Prelude.{◌≡◌, ℕ, true, false, [], ◌∷◌, ◌++◌, Result, Ok, Err}
+use Rattle.std.specs.Prelude.{◌≡◌, ℕ, true, false, Result, Ok, Err}
 use Rattle.muck_model.specs.declared.event.Entry.{Entry}
 use Rattle.muck_model.specs.declared.event.Event.TheVariants.{Died}
 use Rattle.muck_model.specs.declared.memory.NoMemory.{NoMemory}
+use Rattle.muck_model.specs.declared.note.Note.{Note}
+use Rattle.muck_model.specs.Told.{with_entry, with_note}
 use Rattle.spec_events.specs.World.{World}
 use Rattle.spec_events.specs.Histories.{History, after, AllLawful}
 use Rattle.spec_events.specs.Sound.{IsSound}
 use Rattle.muck_machine.specs.declared.past.Past.{Past}
 
 abbrev pub history : Past → History
-history p = record { start = p.origin; entries = p.tale.entries }
+history p = record { start = p.origin; entries = p.tale.entries; notes = p.tale.notes }
 
 -- The tale may grow, and each entry of it is lawful where it stands. The world after it is dead or not as is kept, and as
 -- long as it isn't it is sound, and it is the state that is kept.
@@ -22,7 +24,11 @@ pub record Keeps (p : Past) (state : World) : Type 0 where
 
 -- longer by an entry
 abbrev pub told : Entry → Past → Past
-told e p = record p { tale = record { entries = p.tale.entries ++ e ∷ []; open_ended = true } }
+told e p = record p { tale = with_entry e p.tale }
+
+-- longer by a note
+abbrev pub remarked : Note → Past → Past
+remarked note p = record p { tale = with_note note p.tale }
 
 -- and by memory that a party wanted
 abbrev pub lost : ℕ → Past → Past

@@ -1,8 +1,9 @@
 // What has happened in a world.
-ghost use Rattle.std.specs.Prelude.{◌≡◌, true};
-ghost use Rattle.muck_machine.specs.Keeping.{told, lost, Concludes};
+ghost use Rattle.std.specs.Prelude.{◌≡◌, true, length};
+ghost use Rattle.muck_machine.specs.Keeping.{told, remarked, lost, Concludes};
 
-use muck_model::{Entry, Event, NoMemory, Tale};
+use muck_disk::Disk;
+use muck_model::{Entry, Event, NoMemory, Noted, Tale};
 use muck_turns::Origin;
 
 /// How a world began, each entry since, and whether memory was wanted in the midst of something.
@@ -20,6 +21,15 @@ impl Past {
         ensures { self.new ≡ told entry self.old }
     {
         self.tale.tell(&entry);
+    }
+
+    /// What both disks have counted is noted behind the entries so far; `N` names that note. It takes no memory.
+    pub fn note<N: Noted, D: Disk>(&mut self, _first: &D, _second: &D)
+        requires grows { self.old.tale.open_ended ≡ true }
+        requires named { N.note ≡ record { entries = length self.old.tale.entries; first_moment = D.moment _first.now; second_moment = D.moment _second.now; first_faults = D.faults _first.now; second_faults = D.faults _second.now } }
+        ensures { self.new ≡ remarked (record { entries = length self.old.tale.entries; first_moment = D.moment _first.now; second_moment = D.moment _second.now; first_faults = D.faults _first.now; second_faults = D.faults _second.now }) self.old }
+    {
+        self.tale.note::<N>();
     }
 
     /// Memory was wanted by a party.

@@ -3,11 +3,14 @@ ghost use Rattle.std.specs.Prelude.{◌≡◌, ◌≤◌, IfOk, OnOk, OnErr, Mat
 ghost use Rattle.std.specs.Option.{option_map_or};
 ghost use Rattle.muck_model.specs.declared.event.Event.{Event};
 ghost use Rattle.muck_queue.specs.Queues.{is_tied};
+ghost use Rattle.spec_admin.specs.Parameters.{IsInRange};
 ghost use Rattle.spec_events.specs.World.{starting, booted, connection, queue_of, is_leaving};
 ghost use Rattle.spec_events.specs.Steps.{is_lawful, has_claim, is_there, next_ready, next_process};
 ghost use Rattle.spec_events.specs.Histories.{now, entered, by_porter, AllLawful};
 ghost use Rattle.muck_machine.specs.declared.world.Sliced.TheVariants.{Ran, Lost};
 ghost use Rattle.muck_machine.specs.Claims.{slice_event};
+
+mod dumping;
 
 use crate::past::Past;
 use muck_board::{Board, Connection};
@@ -34,7 +37,7 @@ const FIRST_TUNE: Tune = Tune {
     dump_interval: 900,
 };
 
-/// The world. Contracts see it as its history: how it began, and each entry since. The world as it is now is the one
+/// The world. Contracts see it as its history: how it began, each entry since, and the notes of the disks between them. The world as it is now is the one
 /// after these entries. A dead world has lost memory in the midst of something: it takes no entry any more but `Died`.
 /// Each call enters one entry at most, which is lawful where it stands.
 #[derive(Drop)]
@@ -72,7 +75,8 @@ impl World {
     /// The world of these objects and parameters at this second, in which nobody is connected and nothing has happened
     /// yet; its random numbers begin with `start`.
     pub fn boot(alloc: Global, from: Persisted, moment: u64, start: u64) -> Result<Self, NoMemory>
-        ensures { IfOk result (λ w. w ≡ record { start = booted from.db from.tune moment start; entries = [] }) }
+        requires { IsInRange from.tune }
+        ensures { IfOk result (λ w. w ≡ record { start = booted from.db from.tune moment start; entries = []; notes = [] }) }
     {
         let Persisted { db, tune } = from;
         let begun = Begun {
@@ -106,7 +110,7 @@ impl World {
     /// Room Zero and One as they are at first, and nobody connected: nothing has happened yet.
     #[tactic(auto, unfolding(spec_events::specs::World::starting, spec_live::specs::Boards::first_tune))]
     pub fn starting(alloc: Global) -> Result<Self, NoMemory>
-        ensures { IfOk result (λ w. w ≡ record { start = starting; entries = [] }) }
+        ensures { IfOk result (λ w. w ≡ record { start = starting; entries = []; notes = [] }) }
     {
         let db = Db::starting(alloc)?;
         World::boot(

@@ -1,6 +1,7 @@
 pub mod Outcomes
 pub mod Turns
 pub mod Settling
+pub mod Dumping
 pub mod Joining
 pub mod Idling
 pub mod Slices

@@ -7,6 +7,7 @@ ghost use Rattle.spec_events.specs.Steps.{happened};
 
 mod calls;
 mod deeds;
+mod dumping;
 mod editing;
 mod following;
 mod going;
@@ -28,8 +29,8 @@ use muck_queue::Queue;
 use std::alloc::Global;
 use std::marker::Model;
 
-/// The objects, who is connected, the built forms of programs, the processes, the moment, the dumps that are asked and the
-/// moment at which the last one began, and whether the run stops; and what is done to them. Contracts see it as a world that lives.
+/// The objects, who is connected, the built forms of programs, the processes, the moment, the dump that runs and those that are
+/// asked, and whether the run stops; and what is done to them. Contracts see it as a world that lives.
 #[derive(Drop)]
 pub struct State {
     pub alloc: Global,

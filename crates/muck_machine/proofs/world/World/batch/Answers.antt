@@ -1,0 +1,25 @@
+use Rattle.std.proofs.Common.{◌≡◌, subst, IfOk}
+use Rattle.spec_live.specs.Consistent.{IsConsistent}
+use Rattle.muck_db.specs.inner.Limits.{IsWithinLimits}
+use Rattle.muck_store.specs.Forms.{world_batch}
+use Rattle.spec_events.specs.World.{World}
+use Rattle.muck_machine.proofs.Keepings.{holds, sound_seen}
+use Rattle.muck_machine.proofs.world.World.batch.Goals as goal
+
+pub returns-clause-batch : goal.returns-clause-batch
+returns-clause-batch c = λ alive.
+    let P : World → Type 0 = λ w. IfOk c.cut.result (λ batch. batch ≡ world_batch w.live.objects w.live.board.tune) in
+    holds P c.self.inside.past _ _ c.self.invariant c.self.view_is (subst P c.state.view_is (rw c.tune-tune.ensures at c.cut.ensures)) alive
+
+pub returns-clause-consistent : goal.returns-clause-consistent
+returns-clause-consistent c = λ alive.
+    let P : World → Type 0 = λ w. IsConsistent w.live.objects in
+    holds P c.self.inside.past _ _ c.self.invariant c.self.view_is (subst P c.state.view_is c.count-count.ensures.consistent) alive
+
+pub returns-clause-limits : goal.returns-clause-limits
+returns-clause-limits c = λ alive.
+    let P : World → Type 0 = λ w. IsWithinLimits w.live.objects in
+    holds P c.self.inside.past _ _ c.self.invariant c.self.view_is (subst P c.state.view_is c.count-count.ensures.limits) alive
+
+pub returns-clause-tuned : goal.returns-clause-tuned
+returns-clause-tuned c = λ alive. (sound_seen c.self.inside.past _ _ c.self.invariant c.self.view_is alive).tuned

@@ -1,0 +1,99 @@
+// Dumps of the world.
+ghost use Rattle.std.specs.Prelude.{◌≡◌, true, false, is_some, length, IfOk, OnOk, OnErr};
+ghost use Rattle.muck_model.specs.declared.event.Event.{Event};
+ghost use Rattle.spec_live.specs.Consistent.{IsConsistent};
+ghost use Rattle.muck_db.specs.inner.Limits.{IsWithinLimits};
+ghost use Rattle.muck_store.specs.Forms.{world_batch};
+ghost use Rattle.spec_admin.specs.Parameters.{IsInRange};
+ghost use Rattle.spec_events.specs.Steps.{is_lawful};
+ghost use Rattle.spec_events.specs.Histories.{now, entered, noted};
+
+use crate::world::World;
+use muck_codec::Batch;
+use muck_disk::Disk;
+use muck_model::{Entry, Event, NoMemory};
+use std::marker::Brand;
+
+impl World {
+    /// What both disks have counted is noted behind the entries so far, for contracts alone. It takes no memory.
+    pub fn note<D: Disk>(&mut self, first: &D, second: &D)
+        ensures { self.new ≡ noted self.old (record { entries = length self.old.entries; first_moment = D.moment first.now; second_moment = D.moment second.now; first_faults = D.faults first.now; second_faults = D.faults second.now }) }
+    {
+        self.past.note::<Brand, D>(first, second);
+    }
+
+    /// Whether a dump is asked. On a dead world nothing is said of the answer.
+    pub fn dump_asked(&self) -> bool
+        ensures { (now self.now).dead ≡ false → result ≡ is_some (now self.now).dumps.asked }
+    {
+        let state = &self.state;
+        state.dumps.is_asked()
+    }
+
+    /// A dump of this number begins: what it hands to the log. The world is consistent then, every object within the limits, and
+    /// what is tuned in its range. It copies the record of each object, which costs as much as the world is large. After `NoMemory`
+    /// the world is dead.
+    pub fn cut(&mut self, party: u8, k: u64) -> Result<Batch, NoMemory>
+        requires { is_lawful (now self.old) (record { party = party; event = Event.Cut k }) ≡ true }
+        ensures batch { IfOk result (λ batch. batch ≡ world_batch (now self.old).live.objects (now self.old).live.board.tune) }
+        ensures consistent { OnOk result (IsConsistent (now self.old).live.objects) }
+        ensures limits { OnOk result (IsWithinLimits (now self.old).live.objects) }
+        ensures tuned { OnOk result (IsInRange (now self.old).live.board.tune) }
+        ensures step { OnOk result (self.new ≡ entered self.old (record { party = party; event = Event.Cut k })) }
+        ensures died { OnErr result (self.new ≡ entered self.old (record { party = party; event = Event.Died })) }
+    {
+        let Ok(batch) = self.batch() else {
+            self.past.lose(party);
+            return Err(NoMemory);
+        };
+        let state = &mut self.state;
+        state.begin_dump(k);
+        self.past.enter(Entry {
+            party,
+            event: Event::Cut { k },
+        });
+        Ok(batch)
+    }
+
+    // The stored form of the world. On a dead world nothing is said of it.
+    fn batch(&self) -> Result<Batch, NoMemory>
+        ensures batch { (now self.now).dead ≡ false → IfOk result (λ batch. batch ≡ world_batch (now self.now).live.objects (now self.now).live.board.tune) }
+        ensures consistent { (now self.now).dead ≡ false → IsConsistent (now self.now).live.objects }
+        ensures limits { (now self.now).dead ≡ false → IsWithinLimits (now self.now).live.objects }
+        ensures tuned { (now self.now).dead ≡ false → IsInRange (now self.now).live.board.tune }
+    {
+        let state = &self.state;
+        // For contracts alone: it says that the world is consistent.
+        let _count = state.db.count();
+        let tune = state.board.tune();
+        state.db.cut(state.alloc, &tune)
+    }
+
+    /// The dump of this number is stored: who asked for it is told so. After `NoMemory` the world is dead.
+    pub fn stored(&mut self, party: u8, k: u64) -> Result<(), NoMemory>
+        requires { is_lawful (now self.old) (record { party = party; event = Event.Stored k }) ≡ true }
+        ensures step { OnOk result (self.new ≡ entered self.old (record { party = party; event = Event.Stored k })) }
+        ensures died { OnErr result (self.new ≡ entered self.old (record { party = party; event = Event.Died })) }
+    {
+        let done = self.state.end_dump(k, true);
+        let entry = Entry {
+            party,
+            event: Event::Stored { k },
+        };
+        self.past.conclude(entry, done)
+    }
+
+    /// The dump of this number failed: who asked for it is told so. After `NoMemory` the world is dead.
+    pub fn dump_failed(&mut self, party: u8, k: u64) -> Result<(), NoMemory>
+        requires { is_lawful (now self.old) (record { party = party; event = Event.DumpFailed k }) ≡ true }
+        ensures step { OnOk result (self.new ≡ entered self.old (record { party = party; event = Event.DumpFailed k })) }
+        ensures died { OnErr result (self.new ≡ entered self.old (record { party = party; event = Event.Died })) }
+    {
+        let done = self.state.end_dump(k, false);
+        let entry = Entry {
+            party,
+            event: Event::DumpFailed { k },
+        };
+        self.past.conclude(entry, done)
+    }
+}
