@@ -7,8 +7,9 @@ import os
 import resource
 import subprocess
 import sys
+import tempfile
 
-PROGRAM = os.environ.get("MUCKD", os.path.join(os.path.dirname(os.path.realpath(__file__)), "../dist/muckd"))
+PROGRAM = os.path.abspath(os.environ.get("MUCKD", os.path.join(os.path.dirname(os.path.realpath(__file__)), "../dist/muckd")))
 MOST = 1.2
 CONNECTED = "open 1\nsend 1 connect One potrzebie\n"
 TUNED = "send 1 @tune player_processes=400\n"
@@ -16,7 +17,8 @@ TUNED = "send 1 @tune player_processes=400\n"
 
 def run(script):
     """The transcript of a script."""
-    return subprocess.run([PROGRAM, "run", "world"], input=script.encode(), stdout=subprocess.PIPE, check=True).stdout.decode()
+    with tempfile.TemporaryDirectory() as folder:
+        return subprocess.run([PROGRAM, "run", "world"], cwd=folder, input=script.encode(), stdout=subprocess.PIPE, check=True).stdout.decode()
 
 
 def spent(script):
@@ -24,7 +26,8 @@ def spent(script):
     least = None
     for _ in range(3):
         before = resource.getrusage(resource.RUSAGE_CHILDREN).ru_utime
-        subprocess.run([PROGRAM, "run", "world"], input=script.encode(), stdout=subprocess.DEVNULL, check=True)
+        with tempfile.TemporaryDirectory() as folder:
+            subprocess.run([PROGRAM, "run", "world"], cwd=folder, input=script.encode(), stdout=subprocess.DEVNULL, check=True)
         took = resource.getrusage(resource.RUSAGE_CHILDREN).ru_utime - before
         least = took if least is None else min(least, took)
     return least

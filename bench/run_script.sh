@@ -3,8 +3,8 @@
 # 2.3, so that a run's cost grows with its lines), and the peak memory (at most 4 bytes a byte of script beyond 64 MB).
 # Needs python3, which measures a child's time and peak memory.
 here=$(cd "$(dirname "$0")/.." && pwd) || exit 1
-"$here/bin/muckd" run w </dev/null || exit 1
 work=$(mktemp -d) || exit 1
+(cd "$work" && "$here/bin/muckd" run w </dev/null) || exit 1
 trap 'rm -rf "$work"' EXIT
 for lines in 100000 200000; do
   {
@@ -20,8 +20,11 @@ for lines in (100000, 200000):
     best = None
     for _ in range(3):
         with open(f"{work}/{lines}") as script, open(os.devnull, "w") as out:
+            for ending in "ab":
+                if os.path.exists(f"{work}/w.{ending}"):
+                    os.remove(f"{work}/w.{ending}")
             begin = time.perf_counter()
-            status = subprocess.run([program, "run", "w"], stdin=script, stdout=out).returncode
+            status = subprocess.run([program, "run", "w"], cwd=work, stdin=script, stdout=out).returncode
             end = time.perf_counter()
         if status != 0:
             sys.exit(f"status {status}")
