@@ -1,11 +1,11 @@
 // A run of a script: what it makes happen in the world, and what is written of it.
-ghost use Rattle.std.specs.Prelude.{◌≡◌, ◌≤◌, OnOk, IsErrOf, OnErr, length, false, Option, List, ℕ};
+ghost use Rattle.std.specs.Prelude.{◌≡◌, ◌≤◌, ◌×◌, OnOk, IsErrOf, OnErr, length, true, false, Option, None, List, ℕ};
 ghost use Rattle.muck_io.specs.Faults.{Rose};
 ghost use Rattle.spec_events.specs.Histories.{now};
 ghost use Rattle.spec_live.specs.Connections.{connections_most};
 ghost use Rattle.muck_script.specs.Story.{acted, turns, turns_most, taken, parted, plain, both, served, asks_dump, asked_dump, line_story, lines_story};
 ghost use Rattle.spec_dumps.specs.Holding.{Quietly, Rests};
-ghost use Rattle.spec_dumps.specs.Survival.{IsSafe};
+ghost use Rattle.muckd.specs.inner.Dumps.{Held};
 ghost use Rattle.muckd.specs.inner.Plays.{PlaysOrBreaks};
 
 use crate::dumping::{Store, dump};
@@ -244,7 +244,18 @@ fn make_asked<D: Disk>(
     first: &mut D,
     second: &mut D,
     line: &Act,
-) -> Result<(), RunFault> {
+) -> Result<(), RunFault>
+    requires alive { (now world.old).dead ≡ false }
+    requires idle { (now world.old).dumps.running ≡ None }
+    requires mounted { D.tells ≡ true → (mounted : ℕ) × Rests D.seen D.moment D.images D.faults store.old.log first.old second.old mounted world.old }
+    ensures plays { (o : Option (List ℕ)) → PlaysOrBreaks (asked_dump line.now) world.old world.new o o result }
+    ensures memory { OnErr result (result ≡ Err RunFault.NoMemory) }
+    ensures idle { OnOk result ((now world.new).dumps.running ≡ None) }
+    ensures kept { (mounted : ℕ) → D.tells ≡ true → Rests D.seen D.moment D.images D.faults store.old.log first.old second.old mounted world.old
+        → Held D.seen D.moment D.images D.faults store.new.log first.new second.new mounted world.new result }
+    ensures first_later { D.faults first.old ≤ D.faults first.new }
+    ensures second_later { D.faults second.old ≤ D.faults second.new }
+{
     if asks(line) || world.dump_asked() {
         dump(alloc, world, store, first, second)?;
     }
@@ -261,7 +272,22 @@ fn play_line<K: Sink, D: Disk>(
     line: &Act,
     buf: &mut [u8],
     out: &mut K,
-) -> Result<(), RunFault> {
+) -> Result<(), RunFault>
+    requires room { 131090 ≤ length buf.old }
+    requires alive { (now world.old).dead ≡ false }
+    requires idle { (now world.old).dumps.running ≡ None }
+    requires mounted { D.tells ≡ true → (mounted : ℕ) × Rests D.seen D.moment D.images D.faults store.old.log first.old second.old mounted world.old }
+    ensures plays { PlaysOrBreaks (line_story line.now) world.old world.new (K.written out.old) (K.written out.new) result }
+    ensures fine { OnOk result (K.faults out.new ≡ K.faults out.old) }
+    ensures later { K.faults out.old ≤ K.faults out.new }
+    ensures write { IsErrOf result RunFault.WriteFault → Rose (K.faults out.old) (K.faults out.new) }
+    ensures memory { IsErrOf result RunFault.NoMemory → K.faults out.new ≡ K.faults out.old }
+    ensures idle { (result ≡ Err RunFault.NoMemory → ⊥) → (now world.new).dumps.running ≡ None }
+    ensures kept { (mounted : ℕ) → D.tells ≡ true → Rests D.seen D.moment D.images D.faults store.old.log first.old second.old mounted world.old
+        → Held D.seen D.moment D.images D.faults store.new.log first.new second.new mounted world.new result }
+    ensures first_later { D.faults first.old ≤ D.faults first.new }
+    ensures second_later { D.faults second.old ≤ D.faults second.new }
+{
     act_and_turn(alloc, world, line, out)?;
     make_asked(alloc, world, store, first, second, line)?;
     serve_all(alloc, world, buf, out)
@@ -282,7 +308,22 @@ pub fn play<K: Sink, D: Disk>(
     acts: &[Act],
     buf: &mut [u8],
     out: &mut K,
-) -> Result<(), RunFault> {
+) -> Result<(), RunFault>
+    requires room { 131090 ≤ length buf.old }
+    requires alive { (now world.old).dead ≡ false }
+    requires idle { (now world.old).dumps.running ≡ None }
+    requires mounted { D.tells ≡ true → (mounted : ℕ) × Rests D.seen D.moment D.images D.faults store.old.log first.old second.old mounted world.old }
+    ensures plays { PlaysOrBreaks (lines_story acts.now) world.old world.new (K.written out.old) (K.written out.new) result }
+    ensures fine { OnOk result (K.faults out.new ≡ K.faults out.old) }
+    ensures later { K.faults out.old ≤ K.faults out.new }
+    ensures write { IsErrOf result RunFault.WriteFault → Rose (K.faults out.old) (K.faults out.new) }
+    ensures memory { IsErrOf result RunFault.NoMemory → K.faults out.new ≡ K.faults out.old }
+    ensures idle { (result ≡ Err RunFault.NoMemory → ⊥) → (now world.new).dumps.running ≡ None }
+    ensures kept { (mounted : ℕ) → D.tells ≡ true → Rests D.seen D.moment D.images D.faults store.old.log first.old second.old mounted world.old
+        → Held D.seen D.moment D.images D.faults store.new.log first.new second.new mounted world.new result }
+    ensures first_later { D.faults first.old ≤ D.faults first.new }
+    ensures second_later { D.faults second.old ≤ D.faults second.new }
+{
     for act in acts {
         if world.is_stopping() {
             return Ok(());

@@ -1,10 +1,17 @@
 // The top call.
-ghost use Rattle.std.specs.Prelude.{◌≡◌, ◌↔◌, ◌⊎◌, ◌×◌, ◌++◌, ◌≤◌, ℕ, Bool, true, false, IfOk, vec_len, map, string_bytes, [], List, Option, Some, Ok, Err, codes};
+ghost use Rattle.std.specs.Prelude.{◌≡◌, ◌↔◌, ◌⊎◌, ◌×◌, ◌++◌, ◌≤◌, ⊥, ℕ, Bool, true, false, IfOk, IfErr, OnOk, OnErr, IsErrOf, vec_len, map, string_bytes, [], List, Option, Some, None, Ok, Err, codes};
 ghost use Rattle.muck_io.specs.Faults.{Rose};
 ghost use Rattle.muck_log.specs.Store.{Chosen, stored};
 ghost use Rattle.spec_events.specs.Histories.{now, Longer};
+ghost use Rattle.muck_log.specs.Mount.{IsMountedAs};
+ghost use Rattle.spec_dumps.specs.Fronts.{file_most};
+ghost use Rattle.spec_dumps.specs.Holding.{Rests};
+ghost use Rattle.muckd.specs.inner.Dumps.{note_of, DumpsLast};
+ghost use Rattle.muckd.specs.inner.Ends.{why_of, IsMountWhy, MayRefuse, MayEnd, IsScriptWhy, IsBootable, booted_from, unbegun_from, begun_from, EndsPlay, LastKept, HasPlayed, NeverPlayed};
+ghost use Rattle.muckd.specs.inner.Plays.{PlaysOrBreaks};
+ghost use Rattle.muck_script.specs.Story.{dumping};
 ghost use Rattle.muckd.specs.Words.{is_run, store_of};
-ghost use Rattle.muckd.specs.Outcome.{status_of, halted, HasRun, HasBegun, EndsAs, IsUnbegun, IsFirstOutside, IsInGrammar};
+ghost use Rattle.muckd.specs.Outcome.{status_of, halted, HasRead, HasRun, HasBegun, EndsAs, IsUnbegun, IsFirstOutside, IsInGrammar};
 
 use crate::command::store_of;
 use crate::dumping::{FILE_MOST, Store, dump};
@@ -85,7 +92,9 @@ pub fn muckd<S: Source, K: Sink, D: Disk>(
 }
 
 // Why a call ends whose store couldn't be mounted, or whose last dump failed.
-fn why_of(fault: LogFault) -> Why {
+fn why_of(fault: LogFault) -> Why
+    ensures { result ≡ why_of fault }
+{
     match fault {
         LogFault::NoMemory => Why::NoMemory,
         LogFault::DiskFault => Why::DiskFault,
@@ -107,7 +116,14 @@ fn file_name(alloc: Global, store: &str, ending: &str) -> Result<String, AllocEr
 }
 
 // Opens both files of the store.
-fn attach<D: Disk>(alloc: Global, store: &str, first: &mut D, second: &mut D) -> Result<(), Why> {
+fn attach<D: Disk>(alloc: Global, store: &str, first: &mut D, second: &mut D) -> Result<(), Why>
+    ensures why { OnErr result ((result ≡ Err Why.NoMemory) ⊎ (result ≡ Err Why.DiskFault)) }
+    ensures first_seen { D.tells ≡ true → D.seen first.new ≡ D.seen first.old }
+    ensures second_seen { D.tells ≡ true → D.seen second.new ≡ D.seen second.old }
+    ensures first_later { D.faults first.old ≤ D.faults first.new }
+    ensures second_later { D.faults second.old ≤ D.faults second.new }
+    ensures cause { IsErrOf result Why.DiskFault → Rose (D.faults first.old) (D.faults first.new) ⊎ Rose (D.faults second.old) (D.faults second.new) }
+{
     let (Ok(a), Ok(b)) = (file_name(alloc, store, ".a"), file_name(alloc, store, ".b")) else {
         return Err(Why::NoMemory);
     };
@@ -122,7 +138,17 @@ fn attach<D: Disk>(alloc: Global, store: &str, first: &mut D, second: &mut D) ->
 }
 
 // Opens both files and mounts the store that they hold.
-fn mount<D: Disk>(alloc: Global, store: &str, first: &mut D, second: &mut D) -> Result<Log, Why> {
+fn mount<D: Disk>(alloc: Global, store: &str, first: &mut D, second: &mut D) -> Result<Log, Why>
+    ensures log { D.tells ≡ true → IfOk result (λ log. IsMountedAs D.seen D.moment D.images file_most log first.new second.new) }
+    ensures bootable { IfOk result (λ log. IsBootable log.chosen.held.world) }
+    ensures told { D.tells ≡ true → IfErr result (IsMountWhy (D.seen first.old) (D.seen second.old)) }
+    ensures why { IfErr result MayRefuse }
+    ensures first_seen { D.tells ≡ true → D.seen first.new ≡ D.seen first.old }
+    ensures second_seen { D.tells ≡ true → D.seen second.new ≡ D.seen second.old }
+    ensures first_later { D.faults first.old ≤ D.faults first.new }
+    ensures second_later { D.faults second.old ≤ D.faults second.new }
+    ensures cause { IsErrOf result Why.DiskFault → Rose (D.faults first.old) (D.faults first.new) ⊎ Rose (D.faults second.old) (D.faults second.new) }
+{
     match attach(alloc, store, first, second) {
         Ok(()) => {}
         Err(why) => return Err(why),
@@ -134,7 +160,12 @@ fn mount<D: Disk>(alloc: Global, store: &str, first: &mut D, second: &mut D) -> 
 }
 
 // Reads the script whole.
-fn read_script<S: Source>(alloc: Global, script: &mut S) -> Result<Script, Why> {
+fn read_script<S: Source>(alloc: Global, script: &mut S) -> Result<Script, Why>
+    ensures read { IfOk result (λ acts. HasRead S.left S.faults script.old script.new acts) }
+    ensures why { IfErr result (IsScriptWhy (S.left script.old)) }
+    ensures cause { IsErrOf result Why.ReadFault → Rose (S.faults script.old) (S.faults script.new) }
+    ensures stands { (IsErrOf result Why.ReadFault → ⊥) → S.faults script.new ≡ S.faults script.old }
+{
     let bytes = match read_all(alloc, script, SCRIPT_MOST + 1) {
         Ok(bytes) => bytes,
         Err(ReadFault::Failed) => return Err(Why::ReadFault),
@@ -174,7 +205,10 @@ fn buffer(alloc: Global) -> Result<Vec<u8>, AllocError>
 }
 
 // The world of what a store holds, in which nothing has happened yet.
-fn boot(alloc: Global, kept: &Kept) -> Result<World, NoMemory> {
+fn boot(alloc: Global, kept: &Kept) -> Result<World, NoMemory>
+    requires { IsBootable kept.now }
+    ensures { IfOk result (λ w. w ≡ record { start = booted_from kept.now; entries = []; notes = [] }) }
+{
     let db = Db::load(alloc, kept.objects())?;
     let tune = kept.tune();
     World::boot(alloc, Persisted { db, tune }, 0, 0)
@@ -186,7 +220,11 @@ fn begin<D: Disk>(
     log: &Log,
     first: &D,
     second: &D,
-) -> Result<(World, Vec<u8>), NoMemory> {
+) -> Result<(World, Vec<u8>), NoMemory>
+    requires bootable { IsBootable log.now.chosen.held.world }
+    ensures room { IfOk result (λ made. 131090 ≤ vec_len made.1) }
+    ensures world { IfOk result (λ made. made.0 ≡ begun_from log.now (note_of D.moment D.faults first.now second.now (unbegun_from log.now))) }
+{
     let buf = buffer(alloc)?;
     let mut world = boot(alloc, log.kept())?;
     world.note(first, second);
@@ -203,14 +241,26 @@ fn stop(world: &mut World)
     }
 }
 
-// The last dump of a run that was played whole; why the call ends.
+// The last dump of a run; why the call ends where the run was played whole.
 fn last_dump<D: Disk>(
     alloc: Global,
     world: &mut World,
     store: &mut Store,
     first: &mut D,
     second: &mut D,
-) -> Why {
+) -> Why
+    requires alive { (now world.old).dead ≡ false }
+    requires idle { (now world.old).dumps.running ≡ None }
+    requires mounted { D.tells ≡ true → (mounted : ℕ) × Rests D.seen D.moment D.images D.faults store.old.log first.old second.old mounted world.old }
+    ensures plays { (o : Option (List ℕ)) → EndsPlay world.old world.new o result }
+    ensures last { DumpsLast world.old world.new }
+    ensures kept { (mounted : ℕ) → D.tells ≡ true → Rests D.seen D.moment D.images D.faults store.old.log first.old second.old mounted world.old
+        → LastKept D.moment D.images first.new second.new mounted world.new result }
+    ensures why { MayEnd D.tells result }
+    ensures first_later { D.faults first.old ≤ D.faults first.new }
+    ensures second_later { D.faults second.old ≤ D.faults second.new }
+    ensures cause { result ≡ Why.DiskFault → Rose (D.faults first.old) (D.faults first.new) ⊎ Rose (D.faults second.old) (D.faults second.new) }
+{
     match dump(alloc, world, store, first, second) {
         Ok(None) => Why::Fine,
         Ok(Some(fault)) => why_of(fault),
@@ -226,7 +276,17 @@ fn run_acts<K: Sink, D: Disk>(
     out: &mut K,
     first: &mut D,
     second: &mut D,
-) -> (Why, Tale) {
+) -> (Why, Tale)
+    requires mounted { D.tells ≡ true → IsMountedAs D.seen D.moment D.images file_most log first.old second.old }
+    requires bootable { IsBootable log.chosen.held.world }
+    ensures ends { NeverPlayed result.0 out.old out.new result.1.entries ⊎ HasPlayed K.written K.faults D.tells D.moment D.images log result.0 acts.now out.old out.new first.new second.new result.1.entries result.1.notes }
+    ensures why { MayEnd D.tells result.0 }
+    ensures write { result.0 ≡ Why.WriteFault → Rose (K.faults out.old) (K.faults out.new) }
+    ensures stands { (result.0 ≡ Why.WriteFault → ⊥) → K.faults out.new ≡ K.faults out.old }
+    ensures first_later { D.faults first.old ≤ D.faults first.new }
+    ensures second_later { D.faults second.old ≤ D.faults second.new }
+    ensures cause { result.0 ≡ Why.DiskFault → Rose (D.faults first.old) (D.faults first.new) ⊎ Rose (D.faults second.old) (D.faults second.new) }
+{
     let Ok((mut world, mut buf)) = begin(alloc, &log, first, second) else {
         return (Why::NoMemory, Tale::none());
     };

@@ -8,3 +8,4 @@ pub mod Storing
 pub mod Failing
 pub mod Remounting
 pub mod Begun
+pub mod Idle

@@ -50,29 +50,35 @@ use Rattle.spec_events.proofs.Endings.{Lasting, lasting_same, lasting_both, last
 use Rattle.spec_events.proofs.Lapses.{IsLapsing, marks_lapse, by_lapse, steady_may, lasting_lapse}
 use Rattle.spec_events.proofs.Killed.{lasting_left}
 
+-- whether a world is dead, and the dump that runs in it
+abbrev pub state_of : World → Bool × Option (ℕ × List ℕ)
+state_of w = (w.dead, w.dumps.running)
+
 -- what an actor may do to a world that is one already: the changes are open, what is tuned stays in its range, and the world
--- is as dead as before
-pub record Open (a : Actor) (free : Freedom) (start : Live) (dead : Bool) (v : World) : Type 0 where
+-- is as dead as before, and the same dump runs
+pub record Open (a : Actor) (free : Freedom) (start : Live) (state : Bool × Option (ℕ × List ℕ)) (v : World) : Type 0 where
   pub licensed : Licensed a free start v.live
   pub tuned : IsInRange start.board.tune → IsInRange v.live.board.tune
-  pub alive : v.dead ≡ dead
+  pub alive : v.dead ≡ state.0
+  pub running : v.dumps.running ≡ state.1
 
 -- the same is tuned
 pub in_range_as : (w v : Live) → v.board.tune ≡ w.board.tune → IsInRange w.board.tune → IsInRange v.board.tune
 in_range_as w v e h = subst IsInRange (sym e) h
 
-pub open_quietly : (a : Actor) (free : Freedom) (start : Live) (dead : Bool) (u v : World) → Open a free start dead u → Quietly u v → Open a free start dead v
-open_quietly a free start dead u v p q = record {
+pub open_quietly : (a : Actor) (free : Freedom) (start : Live) (state : Bool × Option (ℕ × List ℕ)) (u v : World) → Open a free start state u → Quietly u v → Open a free start state v
+open_quietly a free start state u v p q = record {
   licensed = licensed_as a free start u.live v.live p.licensed q.objects q.ties q.tune;
   tuned = λ h. in_range_as u.live v.live q.tune (p.tuned h);
   alive = q.dead ∙ p.alive;
+  running = q.running ∙ p.running;
 }
 
-pub open_settled : (a : Actor) (free : Freedom) (start : Live) (dead : Bool) (u : World) → Open a free start dead u → Open a free start dead (settled u)
+pub open_settled : (a : Actor) (free : Freedom) (start : Live) (state : Bool × Option (ℕ × List ℕ)) (u : World) → Open a free start state u → Open a free start state (settled u)
 unfolding settled
-open_settled a free start dead u p =
-    let q = open_quietly a free start dead u _ p (quietly_swept 0 u.live.objects u) in
-    record { licensed = licensed_told a free start (swept 0 u.live.objects u).live q.licensed; tuned = q.tuned; alive = q.alive }
+open_settled a free start state u p =
+    let q = open_quietly a free start state u _ p (quietly_swept 0 u.live.objects u) in
+    record { licensed = licensed_told a free start (swept 0 u.live.objects u).live q.licensed; tuned = q.tuned; alive = q.alive; running = q.running }
 
 -- Leaving.
 
@@ -109,10 +115,10 @@ taken_out d lines = waits d lines ▸ with_editor d None
 quiet_taken_out : (d : ℕ) (lines : List (List ℕ)) → Quiet (taken_out d lines)
 quiet_taken_out d lines = keeps_followed _ _ quiet_order (quiet_waits d lines) (quiet_with_editor d None)
 
-open_after : (a : Actor) (free : Freedom) (start : Live) (dead : Bool) (d : ℕ) (program : Dbref) (step : EditStep) (u : World) → Open a free start dead u → Open a free start dead (after_edit d program step u)
-open_after a free start dead d program Compile u p = open_quietly a free start dead u _ p (quietly_compiled d program u)
-open_after a free start dead d program Stay u p = p
-open_after a free start dead d program Left u p = p
+open_after : (a : Actor) (free : Freedom) (start : Live) (state : Bool × Option (ℕ × List ℕ)) (d : ℕ) (program : Dbref) (step : EditStep) (u : World) → Open a free start state u → Open a free start state (after_edit d program step u)
+open_after a free start state d program Compile u p = open_quietly a free start state u _ p (quietly_compiled d program u)
+open_after a free start state d program Stay u p = p
+open_after a free start state d program Left u p = p
 
 -- from a world in which only what waits differs, and an editor
 licensed_from : (a : Actor) (free : Freedom) (d : ℕ) (lines : List (List ℕ)) (w v : Live) → Licensed a free (taken_out d lines w) v → Licensed a free w v
@@ -128,7 +134,7 @@ licensed_from a free d lines w v l = record {
 }
 
 open_edited : (d : ℕ) (player : Dbref) (s : EditState) (line : List ℕ) (lines : List (List ℕ)) (w : World) →
-    Open (actor_of w.live.objects player) (editing s.program) w.live w.dead (edited_line d player s line (on_live (taken_out d lines) w))
+    Open (actor_of w.live.objects player) (editing s.program) w.live (state_of w) (edited_line d player s line (on_live (taken_out d lines) w))
 unfolding edited_line waits followed edited_one
 open_edited d player s line lines w =
     let a : Actor = actor_of w.live.objects player in
@@ -137,24 +143,24 @@ open_edited d player s line lines w =
     let proper : Proper a (editing s.program) u.live r.0 = edited_proper d a s line u.live in
     let l : Licensed a (editing s.program) w.live r.0 = licensed_from a (editing s.program) d lines w.live r.0 proper.licensed in
     let v : World = record u { live = r.0 } in
-    let e = open_quietly a (editing s.program) w.live w.dead v (on_live (with_editor d (next_editor r.2 r.1)) v) (record { licensed = l; tuned = in_range_as w.live r.0 proper.tune; alive = refl }) (quietly_live _ (quiet_with_editor d (next_editor r.2 r.1)) v) in
-    open_after a (editing s.program) w.live w.dead d s.program r.2 _ (open_settled a (editing s.program) w.live w.dead _ e)
+    let e = open_quietly a (editing s.program) w.live (state_of w) v (on_live (with_editor d (next_editor r.2 r.1)) v) (record { licensed = l; tuned = in_range_as w.live r.0 proper.tune; alive = refl; running = refl }) (quietly_live _ (quiet_with_editor d (next_editor r.2 r.1)) v) in
+    open_after a (editing s.program) w.live (state_of w) d s.program r.2 _ (open_settled a (editing s.program) w.live (state_of w) _ e)
 
 left_open : (d : ℕ) (player : Dbref) (s : EditState) (lines : List (List ℕ)) (w : World) →
-    Open (actor_of w.live.objects player) (editing s.program) w.live w.dead (on_live (tell d editor_exited) (on_live (taken_out d lines) w))
+    Open (actor_of w.live.objects player) (editing s.program) w.live (state_of w) (on_live (tell d editor_exited) (on_live (taken_out d lines) w))
 unfolding followed
 left_open d player s lines w =
     let f : Change = taken_out d lines ▸ tell d editor_exited in
     let q : Quiet f = keeps_followed _ _ quiet_order (quiet_taken_out d lines) (quiet_tell d editor_exited) in
     let proper : Proper (actor_of w.live.objects player) (editing s.program) w.live (f w.live) = ((whole_quiet (actor_of w.live.objects player) None (λ es. editing s.program) Always f q).law w.live).law tt tt in
-    record { licensed = proper.licensed; tuned = in_range_as w.live (f w.live) proper.tune; alive = refl }
+    record { licensed = proper.licensed; tuned = in_range_as w.live (f w.live) proper.tune; alive = refl; running = refl }
 
 open_in_editor : (d : ℕ) (player : Dbref) (s : EditState) (line : List ℕ) (lines : List (List ℕ)) (w : World) →
-    Open (actor_of w.live.objects player) (editing s.program) w.live w.dead (in_editor d player s line (on_live (taken_out d lines) w))
+    Open (actor_of w.live.objects player) (editing s.program) w.live (state_of w) (in_editor d player s line (on_live (taken_out d lines) w))
 unfolding in_editor
 open_in_editor d player s line lines w = at (is_open s (taken_out d lines w.live))
   where
-    at : (b : Bool) → Open (actor_of w.live.objects player) (editing s.program) w.live w.dead (cond b (edited_line d player s line (on_live (taken_out d lines) w)) (on_live (tell d editor_exited) (on_live (taken_out d lines) w)))
+    at : (b : Bool) → Open (actor_of w.live.objects player) (editing s.program) w.live (state_of w) (cond b (edited_line d player s line (on_live (taken_out d lines) w)) (on_live (tell d editor_exited) (on_live (taken_out d lines) w)))
     at true = open_edited d player s line lines w
     at false = left_open d player s lines w
 
@@ -170,21 +176,21 @@ tuned_in_range : (w : Live) (tune : Tune) → IsInRange tune → IsInRange (tune
 unfolding tuned
 tuned_in_range w tune h = h
 
-open_followed : (d : ℕ) (player : Dbref) (a : Actor) (free : Freedom) (start : Live) (dead : Bool) (outcome : Outcome) (u : World) → player_in d start.board ≡ Some a.player →
-    ((tune : Tune) → outcome ≡ Retune tune → MayRetune a start tune) → Open a free start dead u → Open a free start dead (followed_up d player outcome u)
-open_followed d player a free start dead Leave u own may p = record { licensed = left_licensed a d free start u.live own p.licensed; tuned = λ h. in_range_as u.live (leave d u.live) (left_tune d u.live) (p.tuned h); alive = p.alive }
-open_followed d player a free start dead (Edit program) u own may p =
-    open_quietly a free start dead u _ p (quietly_live (with_editor d (Some (editor_on program u.live))) (quiet_with_editor d (Some (editor_on program u.live))) u)
-open_followed d player a free start dead (Start program trigger line arg) u own may p =
-    open_quietly a free start dead u _ p (quietly_launched d (actor_of u.live.objects player) (record { player = player; program = program; trigger = trigger; command = line; argument = arg }) u)
-open_followed d player a free start dead Done u own may p = p
-open_followed d player a free start dead NotMine u own may p = p
-open_followed d player a free start dead Dump u own may p = record { licensed = p.licensed; tuned = p.tuned; alive = p.alive }
-open_followed d player a free start dead Stop u own may p = record { licensed = p.licensed; tuned = p.tuned; alive = p.alive }
-open_followed d player a free start dead (Retune tune) u own may p = record { licensed = tuned_licensed a free start u.live tune p.licensed (may tune refl).0; tuned = λ h. tuned_in_range u.live tune ((may tune refl).1 h); alive = p.alive }
+open_followed : (d : ℕ) (player : Dbref) (a : Actor) (free : Freedom) (start : Live) (state : Bool × Option (ℕ × List ℕ)) (outcome : Outcome) (u : World) → player_in d start.board ≡ Some a.player →
+    ((tune : Tune) → outcome ≡ Retune tune → MayRetune a start tune) → Open a free start state u → Open a free start state (followed_up d player outcome u)
+open_followed d player a free start state Leave u own may p = record { licensed = left_licensed a d free start u.live own p.licensed; tuned = λ h. in_range_as u.live (leave d u.live) (left_tune d u.live) (p.tuned h); alive = p.alive; running = p.running }
+open_followed d player a free start state (Edit program) u own may p =
+    open_quietly a free start state u _ p (quietly_live (with_editor d (Some (editor_on program u.live))) (quiet_with_editor d (Some (editor_on program u.live))) u)
+open_followed d player a free start state (Start program trigger line arg) u own may p =
+    open_quietly a free start state u _ p (quietly_launched d (actor_of u.live.objects player) (record { player = player; program = program; trigger = trigger; command = line; argument = arg }) u)
+open_followed d player a free start state Done u own may p = p
+open_followed d player a free start state NotMine u own may p = p
+open_followed d player a free start state Dump u own may p = record { licensed = p.licensed; tuned = p.tuned; alive = p.alive; running = p.running }
+open_followed d player a free start state Stop u own may p = record { licensed = p.licensed; tuned = p.tuned; alive = p.alive; running = p.running }
+open_followed d player a free start state (Retune tune) u own may p = record { licensed = tuned_licensed a free start u.live tune p.licensed (may tune refl).0; tuned = λ h. tuned_in_range u.live tune ((may tune refl).1 h); alive = p.alive; running = p.running }
 
 open_in_world : (d : ℕ) (player : Dbref) (line : List ℕ) (lines : List (List ℕ)) (w : World) → player_in d w.live.board ≡ Some player →
-    Open (actor_of w.live.objects player) (free_line (actor_of w.live.objects player) line w.live.objects) w.live w.dead (in_world d player line (on_live (waits d lines) w))
+    Open (actor_of w.live.objects player) (free_line (actor_of w.live.objects player) line w.live.objects) w.live (state_of w) (in_world d player line (on_live (waits d lines) w))
 unfolding in_world waits followed actor_of
 open_in_world d player line lines w own =
     let a : Actor = actor_of w.live.objects player in
@@ -192,8 +198,8 @@ open_in_world d player line lines w own =
     let u : World = on_live (waits d lines) w in
     let r = typed u.queue d a line u.live in
     let proper : Proper a free w.live r.0 = ((waited_open a u.queue d lines line).law w.live).law own tt in
-    open_followed d player a free w.live w.dead r.1 _ own (typed_retunes u.queue d a line u.live)
-    (open_settled a free w.live w.dead (record u { live = r.0; queue = left_by d a line u.live u.queue }) (record { licensed = proper.licensed; tuned = in_range_as w.live r.0 proper.tune; alive = refl }))
+    open_followed d player a free w.live (state_of w) r.1 _ own (typed_retunes u.queue d a line u.live)
+    (open_settled a free w.live (state_of w) (record u { live = r.0; queue = left_by d a line u.live u.queue }) (record { licensed = proper.licensed; tuned = in_range_as w.live r.0 proper.tune; alive = refl; running = refl }))
 
 -- Processes.
 
@@ -398,27 +404,28 @@ unfolding done
 told_done d w None h = h
 told_done d w (Some c) h = lines_told d w c.player c.editor c.waiting h
 
--- The numbers of the connections, that what is tuned stays in its range, and that the world lives on.
+-- The numbers of the connections, that what is tuned stays in its range, that the world lives on, and that the same dump runs.
 
 pub record Going (w v : World) : Type 0 where
   pub numbers : numbers v.live.board.connections ≡ numbers w.live.board.connections
   pub tuned : IsInRange w.live.board.tune → IsInRange v.live.board.tune
   pub dead : v.dead ≡ w.dead
+  pub running : v.dumps.running ≡ w.dumps.running
 
-pub going_open : (a : Actor) (free : Freedom) (w v : World) → Open a free w.live w.dead v → Going w v
-going_open a free w v p = record { numbers = numbers-same_ties a w.live.board.connections v.live.board.connections p.licensed.connections; tuned = p.tuned; dead = p.alive }
+pub going_open : (a : Actor) (free : Freedom) (w v : World) → Open a free w.live (state_of w) v → Going w v
+going_open a free w v p = record { numbers = numbers-same_ties a w.live.board.connections v.live.board.connections p.licensed.connections; tuned = p.tuned; dead = p.alive; running = p.running }
 
 pub going_same : (w : World) → Going w w
-going_same w = record { numbers = refl; tuned = λ h. h; dead = refl }
+going_same w = record { numbers = refl; tuned = λ h. h; dead = refl; running = refl }
 
 pub going_both : (u v w : World) → Going u v → Going v w → Going u w
-going_both u v w p q = record { numbers = q.numbers ∙ p.numbers; tuned = λ h. q.tuned (p.tuned h); dead = q.dead ∙ p.dead }
+going_both u v w p q = record { numbers = q.numbers ∙ p.numbers; tuned = λ h. q.tuned (p.tuned h); dead = q.dead ∙ p.dead; running = q.running ∙ p.running }
 
 pub going_quietly : (w v : World) → Quietly w v → Going w v
-going_quietly w v q = record { numbers = numbers-ties w.live.board.connections v.live.board.connections q.ties; tuned = in_range_as w.live v.live q.tune; dead = q.dead }
+going_quietly w v q = record { numbers = numbers-ties w.live.board.connections v.live.board.connections q.ties; tuned = in_range_as w.live v.live q.tune; dead = q.dead; running = q.running }
 
 pub going_live : (d : ℕ) (f : Change) → Seating d f → (w : World) → Going w (on_live f w)
-going_live d f p w = record { numbers = (p.law w.live).numbers; tuned = in_range_as w.live (f w.live) (p.law w.live).tune; dead = refl }
+going_live d f p w = record { numbers = (p.law w.live).numbers; tuned = in_range_as w.live (f w.live) (p.law w.live).tune; dead = refl; running = refl }
 
 line_going : (d : ℕ) (w : World) (taker : Option ℤ) (player : Option Dbref) (editor : Option EditState) (line : List ℕ) (lines : List (List ℕ)) → player_in d w.live.board ≡ player →
     Going w (line_for taker player editor d line (on_live (waits d lines) w))

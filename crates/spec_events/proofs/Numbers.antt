@@ -4,10 +4,12 @@ use Rattle.std.proofs.lemmas.Bool.{cond_both}
 use Rattle.std.proofs.lemmas.Int.{ints}
 use Rattle.muck_model.specs.declared.dbref.Denial.{Denial}
 use Rattle.muck_model.specs.declared.dbref.Dbref.{Dbref}
+use Rattle.muck_model.specs.declared.tune.Tune.{Tune}
 use Rattle.muck_model.specs.declared.edit.EditState.{EditState}
 use Rattle.muck_model.specs.declared.event.Event.{Event}
 use Rattle.muck_model.specs.declared.event.Event.TheVariants.{Closed, Exec, Claim, Slice, Lost}
 use Rattle.spec_live.specs.Connections.{Connection}
+use Rattle.spec_live.specs.Objects.{Entry}
 use Rattle.spec_rights.specs.declared.act.Actor.{Actor}
 use Rattle.spec_rights.specs.declared.act.Act.TheVariants.{Start}
 use Rattle.spec_rights.specs.Verdict.{verdict}
@@ -158,7 +160,12 @@ rising_happened (Slice pid) w party h = released_numbered pid (sliced pid w).que
 rising_happened (Lost pid) w party h = released_numbered pid w.queue h
 rising_happened event w party h = h
 
--- and the first world, in which nothing runs, too
+-- and those of a world that is booted, in which nothing runs, too
+pub rising_booted : (objects : List Entry) (tune : Tune) (moment start : ℕ) → Rising (booted objects tune moment start)
+unfolding booted IsNumbered empty_queue
+rising_booted objects tune moment start = omega (arith, ints)
+
+-- as the first
 pub rising_starting : Rising starting
 unfolding starting booted IsNumbered empty_queue
 rising_starting = omega (arith, ints)

@@ -6,11 +6,12 @@ use Rattle.std.proofs.lemmas.List.Elements.{All-head, All-tail}
 use Rattle.std.specs.Prelude.{All, find, codes, ltb}
 use Rattle.std.specs.Option.{option_map, option_and_then}
 use Rattle.muck_model.specs.declared.dbref.Dbref.{Dbref}
+use Rattle.muck_model.specs.declared.tune.Tune.{Tune}
 use Rattle.muck_model.specs.declared.edit.EditState.{EditState}
 use Rattle.muck_model.specs.declared.event.Entry.{Entry}
 use Rattle.muck_model.specs.declared.event.Event.{Event}
 use Rattle.muck_model.specs.declared.event.Event.TheVariants.{Opened, Input, Closed, Exec, Slice, Take, Stored, DumpFailed, Died}
-use Rattle.spec_live.specs.Objects.{nothing}
+use Rattle.spec_live.specs.Objects.{Entry as Kept, mark_in, nothing}
 use Rattle.spec_live.specs.Connections.{Connection, has_number, changed_in, placed, without, left, seated, newcomer}
 use Rattle.spec_live.specs.Boards.{player_in, opened, closed, line_added, bytes_taken, seated_one, leaving_one, early_board}
 use Rattle.spec_live.specs.Lives.{Live, Change, followed, reading, either, ◌▸◌, tell, leave, enter, on_board}
@@ -38,7 +39,7 @@ use Rattle.spec_events.specs.Passwords.{credentials, Proves, Stays, IsKnown, All
 use Rattle.spec_events.proofs.Quietly.{quiet_told_each}
 use Rattle.spec_events.proofs.Done.{player-same_ties}
 use Rattle.spec_events.proofs.Reached.{rising-happened}
-use Rattle.spec_events.proofs.Turns.{all_licensed_starting}
+use Rattle.spec_events.proofs.Turns.{all_licensed_booted, all_licensed_starting}
 
 abbrev player_found : ℕ → List Connection → Option Dbref
 player_found d cs = option_and_then (λ (c : Connection). c.player) (find (has_number d) cs)
@@ -334,5 +335,21 @@ pub all_known_starting : (es : List Entry) → AllLawful starting es → AllKnow
 all_known_starting es l d p h =
     elim (known starting es rising_starting l (all_licensed_starting es) d p h) [
       | inl k ↦ absurd (nobody_starts d p k.0)
+      | inr k ↦ k
+    ]
+
+rising_booted : (objects : List Kept) (tune : Tune) (moment start : ℕ) → IsRising (booted objects tune moment start).live.board.connections
+unfolding booted early_board
+rising_booted objects tune moment start = tt
+
+nobody_boots : (objects : List Kept) (tune : Tune) (moment start : ℕ) (d : ℕ) (p : Dbref) → player_in d (booted objects tune moment start).live.board ≡ Some p → ⊥
+unfolding booted early_board
+nobody_boots objects tune moment start d p h = none-some p h
+
+-- and from any world that was booted with objects of which nothing is to be told
+pub all_known_booted : (objects : List Kept) (tune : Tune) (moment start : ℕ) → ((n : ℕ) → mark_in objects n ≡ None) → (es : List Entry) → AllLawful (booted objects tune moment start) es → AllKnown (booted objects tune moment start) es
+all_known_booted objects tune moment start none es l d p h =
+    elim (known (booted objects tune moment start) es (rising_booted objects tune moment start) l (all_licensed_booted objects tune moment start none es) d p h) [
+      | inl k ↦ absurd (nobody_boots objects tune moment start d p k.0)
       | inr k ↦ k
     ]

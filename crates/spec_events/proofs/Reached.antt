@@ -18,7 +18,7 @@ use Rattle.spec_admin.specs.declared.word.Parameter.TheVariants.{InstrSlice, Pre
 use Rattle.spec_admin.specs.Parameters.{IsInRange}
 use Rattle.spec_commands.specs.Talk.{welcome, parted, gone_away}
 use Rattle.spec_commands.specs.Rising.{IsAbove, IsRising}
-use Rattle.spec_commands.proofs.Numbered.{numbers, rising_by, seating_quiet, seating_one}
+use Rattle.spec_commands.proofs.Numbered.{rising_by, seating_quiet, seating_one}
 use Rattle.spec_commands.proofs.Lines.{quiet_parted}
 use Rattle.spec_events.specs.World.{World, connection, queue_of, is_leaving, askers_of, on_live, booted, starting}
 use Rattle.spec_events.specs.Dumping.{dump_stored, dump_failed, told_each}

@@ -1,21 +1,18 @@
 -- Which processes a unit of a process ends.
-use Rattle.std.proofs.Common.{◌≡◌, ℤ, Bool, true, false, cond, List, refl, sym, ◌∙◌, ap, subst, Option, Some, None}
+use Rattle.std.proofs.Common.{◌≡◌, ℤ, Bool, true, false, cond, refl, sym, ◌∙◌, ap, subst, Option, Some, None}
 use Rattle.std.specs.Option.{option_map_or}
 use Rattle.muck_model.specs.declared.dbref.Dbref.{Dbref}
 use Rattle.muck_model.specs.declared.tune.Tune.{Tune}
-use Rattle.spec_live.specs.Objects.{Entry, same}
+use Rattle.spec_live.specs.Objects.{same}
 use Rattle.spec_live.specs.Lives.{Live}
 use Rattle.spec_rights.specs.declared.act.Actor.{Actor}
-use Rattle.spec_rights.specs.Levels.{owner_at}
 use Rattle.spec_rights.specs.Licence.{nobody}
-use Rattle.spec_rights.specs.Verdict.{is_master}
 use Rattle.muf_model.specs.declared.fault.MufFault.{MufFault}
 use Rattle.muf_model.specs.declared.prims.Primitive.{Primitive as Name}
 use Rattle.muf_model.specs.Source.{Source, locked_of}
 use Rattle.muf_model.specs.Unit.{Outcome, goes, faulted, asks, unit, fault}
 use Rattle.muf_model.specs.Chains.{programs_of, Keeps as Keep}
 use Rattle.muf_model.proofs.Chains.{unit_keeps}
-use Rattle.std.specs.Prelude.{◌||◌}
 use Rattle.std.specs.Ordering.{int_eq}
 use Rattle.spec_prims.specs.Row.{Row, gives, refuses}
 use Rattle.spec_prims.specs.Shared.{shared}
@@ -23,13 +20,12 @@ use Rattle.spec_prims.proofs.Opens.{RowOpen, shared_open}
 use Rattle.muck_queue.specs.declared.process.Process.{Process}
 use Rattle.muck_queue.specs.Queues.{Queue, at_state, counted, has_pid, is_in, on_process, without}
 use Rattle.spec_processes.specs.ProcessRows.{is_process}
-use Rattle.spec_processes.proofs.Ends.{IsSame}
 use Rattle.spec_processes.proofs.Leaves.{EndedBy}
 use Rattle.spec_events.specs.declared.starting.Agent.{Agent}
 use Rattle.spec_events.specs.World.{World}
 use Rattle.spec_events.specs.Following.{settled}
 use Rattle.spec_events.specs.Slices.{acting, Deed, does, rests, fails, lifted, row_done, process_done, deed, stands_at, out, one_counted, went, after_deed, unit_done, limit_fault, within_limit, turn, world_of}
-use Rattle.spec_events.specs.Endings.{ProcessesLicensed, end_open, EndsIn, by_itself, by_actor, by_change}
+use Rattle.spec_events.specs.Endings.{ProcessesLicensed, EndsIn, by_itself, by_actor, by_change}
 use Rattle.spec_events.proofs.Endings.{IsTold, IsSteady, Lasting, lasting_same, lasting_both, lasting_changed, lasting_without, process_number, processes_remain}
 use Rattle.spec_events.proofs.Lapses.{IsLapsing, told_lapse, marks_lapse, Cut, end_as, lasting_lapse}
 use Rattle.spec_events.proofs.Deeds.{Leads, Left, leads_done, ended_open}

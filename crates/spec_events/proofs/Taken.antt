@@ -25,7 +25,7 @@ use Rattle.spec_events.specs.World.{World}
 use Rattle.spec_events.specs.Slices.{acting, Deed, does, rests, fails, lifted, row_done, process_done, deed, stands_at, ended_one, out, one_counted, broken, program_error, went, after_deed, unit_done, limit_fault, within_limit, turn, world_of, slice_most, run_of, last_world, awake, sliced}
 use Rattle.spec_events.proofs.Quietly.{Quietly, quietly_live, quietly_queue}
 use Rattle.spec_events.proofs.Endings.{IsTold, told_settled}
-use Rattle.spec_events.proofs.Done.{told_by, in_range_as, Open, open_quietly, open_settled, Going, going_same, going_both, going_open}
+use Rattle.spec_events.proofs.Done.{state_of, told_by, in_range_as, Open, open_quietly, open_settled, Going, going_same, going_both, going_open}
 use Rattle.spec_events.proofs.Deeds.{Leads, leads_more, leads_quietly}
 use Rattle.spec_events.proofs.Slicing.{run_holds}
 
@@ -33,27 +33,27 @@ use Rattle.spec_events.proofs.Slicing.{run_holds}
 
 module _ (a : Actor) (w : World) where
   abbrev Opens : World → Type 0
-  Opens v = Open a nobody w.live w.dead v
+  Opens v = Open a nobody w.live (state_of w) v
 
   opens_itself : Opens w
-  opens_itself = record { licensed = (same_open a w.live).licensed; tuned = λ h. h; alive = refl }
+  opens_itself = record { licensed = (same_open a w.live).licensed; tuned = λ h. h; alive = refl; running = refl }
 
   opens_row : (s : Source) (row : Row) → RowOpen a w.live row → Leads Opens (lifted s w row)
-  opens_row s (gives stack live) h = record { licensed = h.licensed; tuned = in_range_as w.live live h.tune; alive = refl }
+  opens_row s (gives stack live) h = record { licensed = h.licensed; tuned = in_range_as w.live live h.tune; alive = refl; running = refl }
   opens_row s (refuses f) h = opens_itself
 
   opens_quietly : (v : World) → Quietly w v → Opens v
-  opens_quietly v q = open_quietly a nobody w.live w.dead w v opens_itself q
+  opens_quietly v q = open_quietly a nobody w.live (state_of w) w v opens_itself q
 
   opens_ended : (pid : ℤ) (v : World) → Opens v → Opens (ended_one pid v)
-  opens_ended pid v h = open_quietly a nobody w.live w.dead v _ h (quietly_queue (without pid) v)
+  opens_ended pid v h = open_quietly a nobody w.live (state_of w) v _ h (quietly_queue (without pid) v)
 
   opens_broken : (pid : ℤ) (player : Dbref) (program : ℤ) (f : MufFault) (v : World) → Opens v → Opens (broken pid player program f v)
   opens_broken pid player program f v h =
-      open_quietly a nobody w.live w.dead (ended_one pid v) _ (opens_ended pid v h) (quietly_live (tell_player player (program_error program f)) (quiet_tell_player player (program_error program f)) (ended_one pid v))
+      open_quietly a nobody w.live (state_of w) (ended_one pid v) _ (opens_ended pid v h) (quietly_live (tell_player player (program_error program f)) (quiet_tell_player player (program_error program f)) (ended_one pid v))
 
   opens_standing : (pid : ℤ) (t : Source) (v : World) → Opens v → Opens (stands_at pid t v)
-  opens_standing pid t v h = open_quietly a nobody w.live w.dead v _ h (quietly_queue (standing pid (Some t)) v)
+  opens_standing pid t v h = open_quietly a nobody w.live (state_of w) v _ h (quietly_queue (standing pid (Some t)) v)
 
   opens_went : (pid : ℤ) (player : Dbref) (program : ℤ) (o : Outcome) (v : World) → Opens v → Opens (world_of (went pid player program o v))
   opens_went pid player program (goes k t) v h = opens_standing pid t v h
@@ -61,8 +61,8 @@ module _ (a : Actor) (w : World) where
   opens_went pid player program _ v h = opens_ended pid v h
 
   opens_after : (pid : ℤ) (player : Dbref) (s : Source) (d : Deed World) → Leads Opens d → Opens (world_of (after_deed pid player s d))
-  opens_after pid player s (does t v) h = open_settled a nobody w.live w.dead (stands_at pid t v) (opens_standing pid t v h)
-  opens_after pid player s (rests t v) h = open_settled a nobody w.live w.dead (stands_at pid t v) (opens_standing pid t v h)
+  opens_after pid player s (does t v) h = open_settled a nobody w.live (state_of w) (stands_at pid t v) (opens_standing pid t v h)
+  opens_after pid player s (rests t v) h = open_settled a nobody w.live (state_of w) (stands_at pid t v) (opens_standing pid t v h)
   opens_after pid player s (fails f v) h = opens_went pid player s.program.number (fault f s) v h
 
 opens_deed : (pid : ℤ) (x : Agent) (p : Name) (s : Source) (w : World) → Leads (Opens (acting x s w.live.objects) w) (deed pid x p s w)
@@ -174,7 +174,7 @@ going_run : (tune : Tune) (pid : ℤ) (n : ℕ) (w : World) → Going w (last_wo
 going_run tune pid n w = run_holds tune pid (λ v ts. Going v (last_world v ts)) going_same (λ v x s ts e rest. going_both v _ _ (going_turn tune pid x s v) rest) n w
 
 going_awake : (pid : ℤ) (w : World) → Going w (awake pid w)
-going_awake pid w = record { numbers = refl; tuned = λ h. h; dead = refl }
+going_awake pid w = record { numbers = refl; tuned = λ h. h; dead = refl; running = refl }
 
 pub sliced_going : (pid : ℤ) (w : World) → Going w (sliced pid w)
 unfolding sliced

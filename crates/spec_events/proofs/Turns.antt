@@ -1,9 +1,10 @@
 -- Each step changes only what is open.
-use Rattle.std.proofs.Common.{◌≡◌, ℕ, true, false, zero, suc, List, [], ◌∷◌, refl}
+use Rattle.std.proofs.Common.{◌≡◌, ℕ, true, false, zero, suc, List, [], ◌∷◌, refl, None}
 use Rattle.muck_model.specs.declared.event.Entry.{Entry}
 use Rattle.muck_model.specs.declared.event.Event.{Event}
+use Rattle.muck_model.specs.declared.tune.Tune.{Tune}
 use Rattle.muck_model.specs.declared.event.Event.TheVariants.{Opened, Input, Closed, Exec, Slice, Take, Stored, DumpFailed}
-use Rattle.spec_live.specs.Objects.{mark_in}
+use Rattle.spec_live.specs.Objects.{Entry as Kept, mark_in}
 use Rattle.spec_live.specs.Start.{first_objects}
 use Rattle.spec_live.specs.Boards.{player_in, opened, closed, line_added, bytes_taken}
 use Rattle.spec_live.specs.Lives.{Live, followed, reading, on_board}
@@ -23,7 +24,7 @@ use Rattle.spec_events.proofs.Endings.{IsTold, processes_remain, tied_remain}
 use Rattle.spec_events.proofs.Done.{none_ends, undisturbed_quietly, turn_licensed, told_by, told_done}
 use Rattle.spec_events.proofs.Taken.{told_sliced}
 use Rattle.spec_events.proofs.Chained.{slice_licensed}
-use Rattle.spec_events.proofs.Numbers.{rising_happened, rising_starting}
+use Rattle.spec_events.proofs.Numbers.{rising_happened, rising_starting, rising_booted}
 
 -- what a player does by a line is open to it, and at the login screen no object changes
 pub exec_licensed : (d : ℕ) (w : World) (party : ℕ) → IsTold w.live → EventLicensed (Exec d) w (happened w party (Exec d))
@@ -74,3 +75,12 @@ told_starting (suc (suc n)) = refl
 -- as from the first
 pub all_licensed_starting : (es : List Entry) → AllLicensed starting es
 all_licensed_starting es = all_licensed starting es told_starting rising_starting
+
+told_booted : (objects : List Kept) (tune : Tune) (moment start : ℕ) → ((n : ℕ) → mark_in objects n ≡ None) → IsTold (booted objects tune moment start).live
+unfolding booted
+told_booted objects tune moment start none n = none n
+
+-- as from any that was booted with objects of which nothing is to be told
+pub all_licensed_booted : (objects : List Kept) (tune : Tune) (moment start : ℕ) → ((n : ℕ) → mark_in objects n ≡ None) → (es : List Entry) → AllLicensed (booted objects tune moment start) es
+all_licensed_booted objects tune moment start none es =
+    all_licensed (booted objects tune moment start) es (told_booted objects tune moment start none) (rising_booted objects tune moment start)
