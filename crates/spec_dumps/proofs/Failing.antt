@@ -9,7 +9,7 @@ use Rattle.muck_model.specs.declared.note.Note.{Note}
 use Rattle.muck_log.specs.Store.{Chosen, LogState}
 use Rattle.spec_events.specs.World.{World}
 use Rattle.spec_events.specs.Histories.{History, after, entered, noted}
-use Rattle.spec_dumps.specs.Fronts.{is_failed, IsFront, IsRefused}
+use Rattle.spec_dumps.specs.Fronts.{is_failed, IsFront, Overflows}
 use Rattle.spec_dumps.specs.Survival.{HasCause}
 use Rattle.spec_dumps.specs.Holding.{IsAt, IsCounted, Keeps, Rests}
 use Rattle.spec_dumps.proofs.Lists.{got_on, length_last}
@@ -30,7 +30,7 @@ module _ {D : Type 0} (seen : D → List ℕ) (moment : D → ℕ) (images : D �
 
   pub failed_rests : Keeps seen moment images faults log f s mounted k → (note' : Note) → IsAt moment f s note' → IsCounted faults f s note' → note'.entries ≡ length k.entries →
       (Rose before.first_faults note'.first_faults ⊎ Rose before.second_faults note'.second_faults)
-      ⊎ ((x : Chosen) × IsFront h.start mounted k.entries k.notes (length h.notes) x × IsRefused x (after h.start k.entries)) →
+      ⊎ ((x : Chosen) × IsFront h.start mounted k.entries k.notes (length h.notes) x × Overflows x (after h.start k.entries)) →
       Rests seen moment images faults log f s mounted (entered (noted k note') failed)
   failed_rests v note' here count behind cause = rests_next seen moment images faults log f s mounted k note' failed v here count behind refl why where
     some : 0 < length k.notes
@@ -50,7 +50,7 @@ module _ {D : Type 0} (seen : D → List ℕ) (moment : D → ℕ) (images : D �
               full.0,
               front_noted moment images f s h.start mounted k.entries k.notes failed note' here behind some (suc i) full.0 v.safe.survives.placed (omega (arith, at))
                   (subst (λ j. IsFront h.start mounted k.entries k.notes j full.0) (omega (arith, at, length_last h.notes note)) full.1),
-              subst (λ w. IsRefused full.0 w) (sym same_world) full.2,
+              subst (λ w. Overflows full.0 w) (sym same_world) full.2,
             )
           ];
         })

@@ -11,7 +11,7 @@ use Rattle.muck_model.specs.declared.note.Note.{Note}
 use Rattle.muck_log.specs.Store.{Chosen, stored}
 use Rattle.spec_events.specs.World.{World}
 use Rattle.spec_events.specs.Histories.{after}
-use Rattle.spec_dumps.specs.Fronts.{is_dump, is_stored, is_failed, stands_at, place_of_note, last_cut, IsFront, Loads, IsRefused, dumped_on}
+use Rattle.spec_dumps.specs.Fronts.{is_dump, is_stored, is_failed, stands_at, place_of_note, last_cut, IsFront, Loads, Overflows, dumped_on}
 use Rattle.spec_dumps.specs.Survival.{until, AllNoted, Survives, HasCause, AllCaused, AllDeltas, IsSafe}
 use Rattle.spec_dumps.specs.Holding.{IsAt}
 use Rattle.spec_dumps.proofs.Lists.{got_on, got_last, got_past, length_last}
@@ -166,7 +166,7 @@ module _ {D : Type 0} (moment : D → ℕ) (images : D → ℕ → List ℕ → 
           record {
             cause = elim known.cause [
               | inl rose ↦ inl rose
-              | inr full ↦ inr (full.0, front_noted (suc n) full.0 placed (omega (arith, less)) full.1, subst (λ y. IsRefused full.0 (after w y)) (sym front) full.2)
+              | inr full ↦ inr (full.0, front_noted (suc n) full.0 placed (omega (arith, less)) full.1, subst (λ y. Overflows full.0 (after w y)) (sym front) full.2)
             ];
           }
 

@@ -13,7 +13,7 @@ use Rattle.muck_log.specs.Store.{Chosen, LogState, stored}
 use Rattle.spec_events.specs.World.{World}
 use Rattle.spec_events.specs.Histories.{History, after, entered, Grew}
 use Rattle.spec_events.proofs.Runs.{grew_nothing, grew_one, grew_on}
-use Rattle.spec_dumps.specs.Fronts.{persisted, is_dump, is_cut, is_stored, is_failed, stands_at, place_of_note, IsFront, Loads, IsRefused, dumped_on}
+use Rattle.spec_dumps.specs.Fronts.{persisted, is_dump, is_cut, is_stored, is_failed, stands_at, place_of_note, IsFront, Loads, Overflows, dumped_on}
 use Rattle.spec_dumps.specs.Survival.{AllNoted, Survives, HasCause, AllCaused, AllDeltas, IsSafe}
 use Rattle.spec_dumps.specs.Holding.{Quietly, IsUsable, Keeps, Rests}
 use Rattle.spec_dumps.proofs.Lists.{got_on}
@@ -104,7 +104,7 @@ module _ {D : Type 0} (moment : D → ℕ) (images : D → ℕ → List ℕ → 
       record {
         cause = elim known.cause [
           | inl rose ↦ inl rose
-          | inr full ↦ inr (full.0, front_on w mounted h es notes (suc n) full.0 placed full.1, subst (λ x. IsRefused full.0 (after w x)) (sym front) full.2)
+          | inr full ↦ inr (full.0, front_on w mounted h es notes (suc n) full.0 placed full.1, subst (λ x. Overflows full.0 (after w x)) (sym front) full.2)
         ];
       }
 

@@ -1,5 +1,5 @@
 -- Fronts of a history, and the store that is the world after one.
-use Rattle.std.specs.Prelude.{◌≡◌, ◌⊎◌, All, ℕ, zero, suc, ◌+◌, ◌<◌, ◌≤◌, ◌^◌, Bool, true, false, ◌||◌, nat_lt, if◌then◌else◌, List, [], ◌∷◌, length, take, slice_get, Option, Some, None, Result, Ok}
+use Rattle.std.specs.Prelude.{◌≡◌, ℕ, zero, suc, ◌+◌, ◌<◌, ◌≤◌, ◌^◌, Bool, true, false, ◌||◌, nat_lt, if◌then◌else◌, List, [], ◌∷◌, length, take, slice_get, Option, Some, None, Result, Ok}
 use Rattle.std.specs.Option.{option_map, option_map_or}
 use Rattle.muck_model.specs.declared.event.Entry.{Entry}
 use Rattle.muck_model.specs.declared.event.Event.{Event}
@@ -7,8 +7,7 @@ use Rattle.muck_model.specs.declared.event.Event.TheVariants.{Cut, Stored, DumpF
 use Rattle.muck_model.specs.declared.note.Note.{Note}
 use Rattle.spec_live.specs.Consistent.{IsConsistent}
 use Rattle.muck_store.specs.Forms.{persist, world_batch}
-use Rattle.muck_codec.specs.Stored.{IsStored}
-use Rattle.muck_log.specs.World.{World as Kept, laid}
+use Rattle.muck_log.specs.World.{World as Kept}
 use Rattle.muck_log.specs.Store.{Chosen, Damage, LogState, target, after_batch}
 use Rattle.muck_log.specs.Append.{more_of, payload_of}
 use Rattle.spec_events.specs.World.{World}
@@ -105,12 +104,3 @@ dumped_on s w = after_batch s (dump_payload s w) (persisted w)
 -- the batch would pass the most bytes of a file
 abbrev pub Overflows : Chosen → World → Type 0
 Overflows s w = file_most < (target s).place + more_of (log_of s) (dump_payload s w)
-
--- The records of the world are none that a file can hold, or not all that the store has, or they make no world that hangs together. No world that a
--- program holds is so, which isn't proved: the log tests it before it writes.
-abbrev pub IsUnfit : Chosen → World → Type 0
-IsUnfit s w = (All IsStored (persist w.live.objects) → ⊥) ⊎ ((length (persist w.live.objects) < length s.held.world.objects) ⊎ (laid (dump_payload s w) (target s).held.world ≡ None))
-
--- the log refuses the batch
-abbrev pub IsRefused : Chosen → World → Type 0
-IsRefused s w = Overflows s w ⊎ IsUnfit s w

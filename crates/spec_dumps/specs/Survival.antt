@@ -7,7 +7,7 @@ use Rattle.muck_model.specs.declared.note.Note.{Note}
 use Rattle.muck_log.specs.Store.{Chosen, stored}
 use Rattle.spec_events.specs.World.{World}
 use Rattle.spec_events.specs.Histories.{after}
-use Rattle.spec_dumps.specs.Fronts.{is_dump, is_stored, is_failed, stands_at, place_of_note, IsFront, Loads, IsRefused, dumped_on, persisted}
+use Rattle.spec_dumps.specs.Fronts.{is_dump, is_stored, is_failed, stands_at, place_of_note, IsFront, Loads, Overflows, dumped_on, persisted}
 
 -- Until when the stretch lasts that the n-th note begins: to the next note, or to now.
 abbrev pub until : (Note → ℕ) → List Note → ℕ → ℕ → ℕ
@@ -30,11 +30,11 @@ pub record Survives {D : Type 0} (moment : D → ℕ) (images : D → ℕ → Li
   pub noted : AllNoted h notes
   pub placed : (i place : ℕ) → place_of_note notes i ≡ Some place → ((i ≡ 0) × (place ≡ 0)) ⊎ (place < length h)
 
--- Why a dump failed whose end has the n-th note: the count of faults of a disk rose since the note before that of its Cut, or the log
--- refuses its batch.
+-- Why a dump failed whose end has the n-th note: the count of faults of a disk rose since the note before that of its Cut, or its batch
+-- would pass the most bytes of a file.
 pub record HasCause (w : World) (mounted : ℕ) (h : List Entry) (notes : List Note) (n : ℕ) (note before : Note) : Type 0 where
   pub cause : (Rose before.first_faults note.first_faults ⊎ Rose before.second_faults note.second_faults)
-      ⊎ ((s : Chosen) × IsFront w mounted h notes (suc n) s × IsRefused s (after w (take note.entries h)))
+      ⊎ ((s : Chosen) × IsFront w mounted h notes (suc n) s × Overflows s (after w (take note.entries h)))
 
 -- each dump that failed has its cause
 abbrev pub AllCaused : World → ℕ → List Entry → List Note → Type 0
