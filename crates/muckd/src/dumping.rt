@@ -117,12 +117,7 @@ impl Store {
 }
 
 // The dump of a number begins: what is to be stored.
-fn begin_dump<D: Disk>(
-    world: &mut World,
-    first: &D,
-    second: &D,
-    k: u64,
-) -> Result<Batch, RunFault>
+fn begin_dump<D: Disk>(world: &mut World, first: &D, second: &D, k: u64) -> Result<Batch, RunFault>
     requires alive { (now world.old).dead ≡ false }
     requires idle { (now world.old).dumps.running ≡ None }
     ensures batch { IfOk result (λ batch. batch ≡ world_batch (now world.old).live.objects (now world.old).live.board.tune) }

@@ -1,5 +1,5 @@
 // The top call.
-ghost use Rattle.std.specs.Prelude.{◌≡◌, ◌↔◌, ◌⊎◌, ◌×◌, ◌++◌, ◌≤◌, ⊥, ℕ, Bool, true, false, IfOk, IfErr, OnOk, OnErr, IsErrOf, vec_len, map, string_bytes, [], List, Option, Some, None, Ok, Err, codes};
+ghost use Rattle.std.specs.Prelude.{◌≡◌, ◌↔◌, ◌⊎◌, ◌++◌, ◌≤◌, ℕ, Bool, true, false, IfOk, IfErr, OnOk, OnErr, IsErrOf, vec_len, map, string_bytes, [], List, Option, Some, None, Ok, Err, codes};
 ghost use Rattle.muck_io.specs.Faults.{Rose};
 ghost use Rattle.muck_log.specs.Store.{Chosen, stored};
 ghost use Rattle.spec_events.specs.Histories.{now, Longer};
@@ -7,7 +7,7 @@ ghost use Rattle.muck_log.specs.Mount.{IsMountedAs};
 ghost use Rattle.spec_dumps.specs.Fronts.{file_most};
 ghost use Rattle.spec_dumps.specs.Holding.{Rests};
 ghost use Rattle.muckd.specs.inner.Dumps.{note_of, DumpsLast};
-ghost use Rattle.muckd.specs.inner.Ends.{why_of, IsMountWhy, MayRefuse, MayEnd, IsScriptWhy, IsBootable, booted_from, unbegun_from, begun_from, EndsPlay, LastKept, HasPlayed, NeverPlayed};
+ghost use Rattle.muckd.specs.inner.Ends.{why_of, IsMountWhy, MayRefuse, MayEnd, MayEndDump, IsScriptWhy, IsBootable, booted_from, unbegun_from, begun_from, EndsPlay, LastKept, HasPlayed, NeverPlayed};
 ghost use Rattle.muckd.specs.inner.Plays.{PlaysOrBreaks};
 ghost use Rattle.muck_script.specs.Story.{dumping};
 ghost use Rattle.muckd.specs.Words.{is_run, store_of};
@@ -256,7 +256,7 @@ fn last_dump<D: Disk>(
     ensures last { DumpsLast world.old world.new }
     ensures kept { (mounted : ℕ) → D.tells ≡ true → Rests D.seen D.moment D.images D.faults store.old.log first.old second.old mounted world.old
         → LastKept D.moment D.images first.new second.new mounted world.new result }
-    ensures why { MayEnd D.tells result }
+    ensures why { MayEndDump D.tells result }
     ensures first_later { D.faults first.old ≤ D.faults first.new }
     ensures second_later { D.faults second.old ≤ D.faults second.new }
     ensures cause { result ≡ Why.DiskFault → Rose (D.faults first.old) (D.faults first.new) ⊎ Rose (D.faults second.old) (D.faults second.new) }
@@ -291,7 +291,9 @@ fn run_acts<K: Sink, D: Disk>(
         return (Why::NoMemory, Tale::none());
     };
     let mut store = Store::new(log);
-    let played = play(alloc, &mut world, &mut store, first, second, acts, &mut buf, out);
+    let played = play(
+        alloc, &mut world, &mut store, first, second, acts, &mut buf, out,
+    );
     let why = match played {
         Ok(()) => last_dump(alloc, &mut world, &mut store, first, second),
         Err(RunFault::NoMemory) => Why::NoMemory,

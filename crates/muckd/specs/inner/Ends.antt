@@ -78,7 +78,7 @@ pub record HasPlayed {K D : Type 0} (written : K → Option (List ℕ)) (breaks 
 
 -- memory was wanted before it began
 pub record NeverPlayed {K : Type 0} (why : Why) (k l : K) (tale : List Entry) : Type 0 where
-  pub why : why ≡ NoMemory
+  pub wanted : why ≡ NoMemory
   pub unbegun : IsUnbegun k l tale
 
 -- why a run ends that began
@@ -108,3 +108,12 @@ pub record LastKept {D : Type 0} (moment : D → ℕ) (images : D → ℕ → Li
   pub safe : IsSafe moment images first second h.start mounted h.entries h.notes
   pub whole : why ≡ Fine → StandsWhole moment images first second h.start h.entries
   pub full : (end more : ℕ) → why ≡ StoreFull end more → IsFull mounted h end more
+
+-- why a last dump lets a run end that was played whole
+abbrev pub MayEndDump : Bool → Why → Type 0
+MayEndDump tells Fine = Unit {0}
+MayEndDump tells NoMemory = Unit {0}
+MayEndDump tells DiskFault = Unit {0}
+MayEndDump tells (StoreFull end more) = Unit {0}
+MayEndDump tells (Damaged second at) = tells ≡ true → ⊥
+MayEndDump tells why = ⊥
