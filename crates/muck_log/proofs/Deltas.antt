@@ -7,7 +7,7 @@ use Rattle.std.proofs.lemmas.Bool.{and_parts, or_parts, cond-true, cond-false, l
 use Rattle.std.proofs.lemmas.List.{append-nil}
 use Rattle.std.proofs.lemmas.List.Elements.{All-head, All-tail}
 use Rattle.std.proofs.lemmas.List.Filters.{length-filter_both}
-use Rattle.std.proofs.lemmas.Option.{slice_get_past}
+use Rattle.std.proofs.lemmas.Option.{slice_get_past, same_Some, none-some}
 use Rattle.std.proofs.lemmas.Slice.Eq.{bytes_eq-Decides}
 use Rattle.std.proofs.Math.Seq.{set-append_seam}
 use Rattle.muck_model.specs.declared.dbref.Dbref.{Dbref}
@@ -22,7 +22,8 @@ use Rattle.muck_codec.proofs.Batches.{same_record, IsNextRecord, dbref_key, IsTu
 use Rattle.muck_store.specs.Forms.{stored_of, stored_from, persist, world_batch}
 use Rattle.muck_store.specs.Limits.{fits}
 use Rattle.muck_store.specs.Whole.{is_whole}
-use Rattle.muck_log.specs.World.{World, is_between, tune_fits, is_fine, put_at, placed, all_placed, judged_world, laid_over, batch_if, laid, differs, written}
+use Rattle.muck_log.specs.File.{begin}
+use Rattle.muck_log.specs.World.{World, start, is_between, tune_fits, is_fine, put_at, placed, all_placed, judged_world, laid_over, batch_if, laid, differs, written}
 use Rattle.muck_log.specs.Store.{Chosen, LogState, opens_new, target}
 use Rattle.muck_log.specs.Append.{payload_of}
 
@@ -179,7 +180,8 @@ few test records = omega (arith, length-filter_both test (λ o. not (test o)) (�
 narrow : (n most : ℕ) → is_between n most ≡ true → most < 2 ^ 32 → n < 2 ^ 32
 narrow n most e lt = omega (arith, lt, leb-true n most (and_parts (nat_le 1 n) (nat_le n most) e).1)
 
-tune_words : (t : Tune) → tune_fits t ≡ true → IsTune t
+-- parameters within their limits are numbers of 32 bits
+pub tune_words : (t : Tune) → tune_fits t ≡ true → IsTune t
 unfolding tune_fits
 tune_words t e =
     let a = and_parts (is_between t.instr_slice 20000) _ e in
@@ -207,27 +209,26 @@ fine_small objects tune e =
 
 -- What is laid.
 
-laid_batch : (payload : List ℕ) (b : Batch) (w : World) (objects : List Stored) → whole_batch 1 payload ≡ Ok b → all_placed b.records w.objects ≡ some objects → is_fine objects b.tune ≡ true
-    → laid payload w ≡ Some (record { objects = objects; tune = b.tune })
+laid_batch : (payload : List ℕ) (b : Batch) (w : World) (objects : List Stored) → whole_batch 1 payload ≡ Ok b → all_placed b.records w.objects ≡ some objects → laid payload w ≡ judged_world b.tune objects
 unfolding laid laid_over
-laid_batch payload b w objects reads places fine =
-    ap (λ r. option_and_then (λ x. laid_over x w) (batch_if r)) reads ∙ ap (option_and_then (judged_world b.tune)) places ∙ cond-true (is_fine objects b.tune) _ _ fine
+laid_batch payload b w objects reads places = ap (λ r. option_and_then (λ x. laid_over x w) (batch_if r)) reads ∙ ap (option_and_then (judged_world b.tune)) places
 
 module _ (all : Bool) (kept : List Stored) (w : World) (es : List Entry) (tune : Tune) where
   abbrev test : Stored → Bool
   test o = all || differs kept o
 
-  lays_written : AreKept test (persist es) w.objects → All IsStored (persist es) → is_fine (persist es) tune ≡ true
-      → laid (batch_bytes (written all kept (persist es)) tune) w ≡ Some (record { objects = persist es; tune = tune })
+  lays_written : AreKept test (persist es) w.objects → All IsStored (persist es) → length es < 2 ^ 32 → IsTune tune → laid (batch_bytes (written all kept (persist es)) tune) w ≡ judged_world tune (persist es)
   unfolding written persist
-  lays_written are stored fine =
-      let small = fine_small (persist es) tune fine in
-      let count : length (filter test (persist es)) < 2 ^ 32 = omega (arith, small.few, few test (persist es)) in
+  lays_written are stored size words =
+      let count : length (filter test (persist es)) < 2 ^ 32 = omega (arith, size, persist_length es 0 es, few test (persist es)) in
       let numbered = persist_numbered es 0 es in
       let b : Batch = record { records = filter test (persist es); tune = tune } in
       laid_batch (batch_bytes (filter test (persist es)) tune) b w (persist es)
-      (whole_reads (filter test (persist es)) tune (count, written_rises test None 0 (persist es) tt numbered stored) small.words)
-      (all_laid test [] w.objects (persist es) 0 refl numbered are) fine
+      (whole_reads (filter test (persist es)) tune (count, written_rises test None 0 (persist es) tt numbered stored) words)
+      (all_laid test [] w.objects (persist es) 0 refl numbered are)
+
+abbrev some_world : World → Option World
+some_world w = Some w
 
 target_stays : (s : Chosen) → opens_new s.held ≡ false → target s ≡ s
 unfolding target
@@ -247,11 +248,42 @@ kept_by s es false e stored kept le =
     let same : objects_of s ≡ target_objects s = ap objects_of (sym (target_stays s e)) in
     left_out (objects_of s) [] (target_objects s) (persist es) 0 same refl (persist_numbered es 0 es) (subst (All IsStored) same kept) stored (omega (arith, le, persist_length es 0 es))
 
+batch_laid : (log : LogState) (es : List Entry) (tune : Tune) → All IsStored (persist es) → All IsStored log.chosen.held.world.objects → length (target_objects log.chosen) ≤ length es → length es < 2 ^ 32 → IsTune tune
+    → laid (payload_of log (world_batch es tune)) (target log.chosen).held.world ≡ judged_world tune (persist es)
+unfolding payload_of
+batch_laid log es tune stored kept le size words =
+    let opens = opens_new log.chosen.held in
+    lays_written opens (objects_of log.chosen) (target log.chosen).held.world es tune (kept_by log.chosen es opens refl stored kept le) stored size words
+
+persist_few : (es : List Entry) → length (persist es) ≤ 100000 → length es < 2 ^ 32
+unfolding persist
+persist_few es le = omega (arith, le, persist_length es 0 es)
+
 -- Where each record has a spelling, and those that are kept have, and no more are kept than there are objects.
 pub delta_lays : (log : LogState) (es : List Entry) (tune : Tune) → All IsStored (persist es) → All IsStored log.chosen.held.world.objects
     → length (target log.chosen).held.world.objects ≤ length es → is_fine (persist es) tune ≡ true
     → laid (payload_of log (world_batch es tune)) (target log.chosen).held.world ≡ Some (record { objects = persist es; tune = tune })
-unfolding payload_of
 delta_lays log es tune stored kept le fine =
-    let opens = opens_new log.chosen.held in
-    lays_written opens (objects_of log.chosen) (target log.chosen).held.world es tune (kept_by log.chosen es opens refl stored kept le) stored fine
+    let small = fine_small (persist es) tune fine in
+    batch_laid log es tune stored kept le (persist_few es small.few) small.words ∙ cond-true (is_fine (persist es) tune) _ _ fine
+
+-- What a new generation lays over are two objects.
+
+target_starts : (s : Chosen) → opens_new s.held ≡ true → length (target_objects s) ≡ 2
+unfolding target begin start
+target_starts s e = ap (λ (x : Chosen). length (objects_of x)) (cond-true (opens_new s.held) _ _ e)
+
+target_covered : (s : Chosen) (n : ℕ) (b : Bool) → opens_new s.held ≡ b → length (objects_of s) ≤ n → 2 ≤ n → length (target_objects s) ≤ n
+target_covered s n true e le two = omega (arith, two, target_starts s e)
+target_covered s n false e le two = subst (λ (x : Chosen). length (objects_of x) ≤ n) (sym (target_stays s e)) le
+
+judged_is : (b : Bool) (made w : World) → cond b (some_world made) None ≡ some_world w → w ≡ made
+judged_is true made w e = sym (same_Some made w e)
+judged_is false made w e = absurd (none-some w e)
+
+-- Where what is written makes a world at all, it makes the one that it was taken from. The tune parameters are numbers of 32 bits.
+pub lays_whole : (log : LogState) (es : List Entry) (tune : Tune) (w : World) → All IsStored (persist es) → All IsStored log.chosen.held.world.objects → length log.chosen.held.world.objects ≤ length es → 2 ≤ length es
+    → length es < 2 ^ 32 → IsTune tune → laid (payload_of log (world_batch es tune)) (target log.chosen).held.world ≡ Some w → w ≡ record { objects = persist es; tune = tune }
+lays_whole log es tune w stored kept le two size words makes =
+    let covered = target_covered log.chosen (length es) (opens_new log.chosen.held) refl le two in
+    judged_is (is_fine (persist es) tune) (record { objects = persist es; tune = tune }) w (sym (batch_laid log es tune stored kept covered size words) ∙ makes)

@@ -1,7 +1,9 @@
 -- What `append` answers.
-use Rattle.std.specs.Prelude.{◌≡◌, ◌⊎◌, ℕ, ◌+◌, ◌<◌, ◌≤◌, ◌^◌, true, false, Some, Result, Ok, Err, List, length, if◌then◌else◌, Bool, None}
+use Rattle.std.specs.Prelude.{◌≡◌, ◌⊎◌, All, ℕ, ◌+◌, ◌<◌, ◌≤◌, ◌^◌, true, false, Some, Result, Ok, Err, List, length, if◌then◌else◌, Bool, None}
+use Rattle.muck_codec.specs.declared.stored.Stored.{Stored}
 use Rattle.muck_codec.specs.declared.stored.Batch.{Batch}
 use Rattle.muck_codec.specs.Batches.{batch_bytes}
+use Rattle.muck_codec.specs.Stored.{IsStored}
 use Rattle.muck_log.specs.World.{laid, written}
 use Rattle.muck_log.specs.File.{after_number}
 use Rattle.muck_log.specs.Store.{Chosen, Damage, LogState, target, opens_new, next_body, after_batch, framed, stored}
@@ -40,15 +42,23 @@ IsTried false old new payload = (laid payload (target old.chosen).held.world ≡
 unfoldable pub more_of : LogState → List ℕ → ℕ
 more_of log payload = 10 + length (next_body log.chosen payload)
 
+-- not every record has a spelling, or there are fewer of them than objects that are kept
+abbrev pub IsPartial : LogState → List Stored → Type 0
+IsPartial log records = (All IsStored records → ⊥) ⊎ (length records < length log.chosen.held.world.objects)
+
+-- a batch that can't be written is refused as it is; one that leaves no world leaves the log stale
+abbrev pub IsUnfit : LogState → LogState → Batch → Type 0
+IsUnfit old new batch = (IsPartial old batch.records × (new ≡ old)) ⊎ ((laid (payload_of old batch) (target old.chosen).held.world ≡ None) × (new.stale ≡ true))
+
 -- each answer, with its cause
-abbrev pub IsAppended : LogState → LogState → List ℕ → Result ℕ LogFault → Type 0
-IsAppended old new payload (Ok n) = (old.stale ≡ false) × ((target old.chosen).place + more_of old payload ≤ old.most) × (n ≡ after_number old.chosen.held.number)
-IsAppended old new payload (Err (StoreFull end more)) = (old.stale ≡ false) × (end ≡ (target old.chosen).place) × (more ≡ more_of old payload) × (old.most < end + more) × (new ≡ old)
-IsAppended old new payload (Err Unfit) = (old.stale ≡ false) × (laid payload (target old.chosen).held.world ≡ None) × (new.stale ≡ true)
-IsAppended old new payload (Err Stale) = (old.stale ≡ true) × (new ≡ old)
-IsAppended old new payload (Err DiskFault) = (old.stale ≡ false) × ((target old.chosen).place + more_of old payload ≤ old.most) × (new.stale ≡ true)
-IsAppended old new payload (Err NoMemory) = old.stale ≡ false
-IsAppended old new payload (Err (Damaged second at)) = ⊥
+abbrev pub IsAppended : LogState → LogState → Batch → Result ℕ LogFault → Type 0
+IsAppended old new batch (Ok n) = (old.stale ≡ false) × ((target old.chosen).place + more_of old (payload_of old batch) ≤ old.most) × (n ≡ after_number old.chosen.held.number)
+IsAppended old new batch (Err (StoreFull end more)) = (old.stale ≡ false) × (end ≡ (target old.chosen).place) × (more ≡ more_of old (payload_of old batch)) × (old.most < end + more) × (new ≡ old)
+IsAppended old new batch (Err Unfit) = (old.stale ≡ false) × IsUnfit old new batch
+IsAppended old new batch (Err Stale) = (old.stale ≡ true) × (new ≡ old)
+IsAppended old new batch (Err DiskFault) = (old.stale ≡ false) × ((target old.chosen).place + more_of old (payload_of old batch) ≤ old.most) × (new.stale ≡ true)
+IsAppended old new batch (Err NoMemory) = old.stale ≡ false
+IsAppended old new batch (Err (Damaged second at)) = ⊥
 
 pub record IsReady (old new : LogState) (payload : List ℕ) (ready : Ready) : Type 0 where
   pub fresh : old.stale ≡ false
@@ -63,13 +73,13 @@ pub record IsReady (old new : LogState) (payload : List ℕ) (ready : Ready) : T
   pub lays : IsLaidNext old new payload
 
 -- the refusals before any write
-abbrev pub IsRefused : LogState → LogState → List ℕ → LogFault → Type 0
-IsRefused old new payload (StoreFull end more) = (old.stale ≡ false) × (end ≡ (target old.chosen).place) × (more ≡ more_of old payload) × (old.most < end + more) × (new ≡ old)
-IsRefused old new payload Unfit = (old.stale ≡ false) × (laid payload (target old.chosen).held.world ≡ None) × (new.stale ≡ true)
-IsRefused old new payload Stale = (old.stale ≡ true) × (new ≡ old)
-IsRefused old new payload NoMemory = old.stale ≡ false
-IsRefused old new payload DiskFault = ⊥
-IsRefused old new payload (Damaged second at) = ⊥
+abbrev pub IsRefused : LogState → LogState → Batch → LogFault → Type 0
+IsRefused old new batch (StoreFull end more) = (old.stale ≡ false) × (end ≡ (target old.chosen).place) × (more ≡ more_of old (payload_of old batch)) × (old.most < end + more) × (new ≡ old)
+IsRefused old new batch Unfit = (old.stale ≡ false) × IsUnfit old new batch
+IsRefused old new batch Stale = (old.stale ≡ true) × (new ≡ old)
+IsRefused old new batch NoMemory = old.stale ≡ false
+IsRefused old new batch DiskFault = ⊥
+IsRefused old new batch (Damaged second at) = ⊥
 
 abbrev pub IsFinished : LogState → LogState → Target → ℕ → ℕ → Type 0
 IsFinished old new t number size = new ≡ record {

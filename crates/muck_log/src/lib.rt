@@ -8,6 +8,7 @@ mod kept;
 mod log;
 mod mount;
 mod reader;
+mod storable;
 mod write;
 
 pub use fault::LogFault;

@@ -1,5 +1,5 @@
 // The log of a store.
-ghost use Rattle.std.specs.Prelude.{◌≡◌, ◌⊎◌, ◌≤◌, ◌<◌, ◌+◌, ◌-◌, ◌^◌, List, ℕ, length, true, false, not, Some, Ok, IsSome, IfOk, IfErr, OnOk, OnErr, IsErrOf, if◌then◌else◌};
+ghost use Rattle.std.specs.Prelude.{◌≡◌, ◌⊎◌, ◌≤◌, ◌<◌, ◌+◌, ◌-◌, ◌^◌, List, ℕ, length, true, false, not, Some, Ok, All, IsSome, IfOk, IfErr, OnOk, OnErr, IsErrOf, if◌then◌else◌};
 ghost use Rattle.muck_disk.specs.Images.{Only};
 ghost use Rattle.muck_io.specs.Faults.{Rose};
 ghost use Rattle.muck_log.specs.Body.{body_bytes};
@@ -7,10 +7,12 @@ ghost use Rattle.muck_log.specs.World.{World, laid};
 ghost use Rattle.muck_log.specs.File.{after_number, begin};
 ghost use Rattle.muck_log.specs.Mount.{IsLoaded, IsLoadFault};
 ghost use Rattle.muck_log.specs.Store.{LeavesBoth, MayBeAt, IsMounted, LogState, target, opens_new, next_body, after_batch, stored, framed, pick, IsDone};
-ghost use Rattle.muck_log.specs.Append.{IsEither, IsAppended, IsTarget, IsTried, IsReady, IsRefused, IsFinished, IsNext, IsTouching, LoadsEither, payload_of};
+ghost use Rattle.muck_log.specs.Append.{IsEither, IsAppended, IsTarget, IsTried, IsReady, IsRefused, IsFinished, IsNext, IsTouching, LoadsEither, IsPartial, payload_of};
 ghost use Rattle.muck_codec.specs.Batches.{HasFewLines};
+ghost use Rattle.muck_codec.specs.Stored.{IsStored};
 
 use crate::reader::Reader;
+use crate::storable::are_storable;
 use crate::write::put_target;
 use crate::{Kept, LogFault};
 use muck_codec::Batch;
@@ -217,16 +219,33 @@ impl Log {
         Ok(true)
     }
 
+    // Whether a batch has a record of every object that is kept, and each of its records has a spelling.
+    fn can_take(&self, batch: &Batch) -> Result<bool, NoMemory>
+        ensures storable { IfOk result (λ yes. yes ≡ true → All IsStored batch.now.records) }
+        ensures covers { IfOk result (λ yes. yes ≡ true → length self.now.chosen.held.world.objects ≤ length batch.now.records) }
+        ensures partial { IfOk result (λ yes. yes ≡ false → IsPartial self.now batch.now.records) }
+    {
+        if batch.records.len() < self.world.objects().len() {
+            return Ok(false);
+        }
+        are_storable(self.alloc, batch.records.as_slice())
+    }
+
     // All that takes memory, and all refusals but those of the disks.
     #[tactic(auto, unfolding(crate::specs::Append::more_of, crate::specs::Append::payload_of, crate::specs::Store::next_body))]
     fn prepare(&mut self, batch: &Batch) -> Result<Ready, LogFault>
         requires few { length batch.now.records < 2 ^ 32 }
         requires lines { HasFewLines batch.now.records }
         ensures ok { IfOk result (λ ready. IsReady self.old self.new (payload_of self.old batch.now) ready) }
-        ensures err { IfErr result (λ fault. IsRefused self.old self.new (payload_of self.old batch.now) fault) }
+        ensures storable { OnOk result (All IsStored batch.now.records) }
+        ensures covers { OnOk result (length self.old.chosen.held.world.objects ≤ length batch.now.records) }
+        ensures err { IfErr result (λ fault. IsRefused self.old self.new batch.now fault) }
     {
         if self.stale {
             return Err(LogFault::Stale);
+        }
+        if !self.can_take(batch)? {
+            return Err(LogFault::Unfit);
         }
         let payload = self.world.payload(self.opens_new(), batch)?;
         let number = self.next();
@@ -272,14 +291,16 @@ impl Log {
 }
 
 impl Log {
-    /// Writes a batch of what changed, and answers its number. Records that equal what is kept are left out, unless a new
-    /// generation is opened. All memory is taken before the first write.
+    /// Writes a batch of the record of every object, by rising number from 0 on, and answers its number. Records that equal
+    /// what is kept are left out of what is written, unless a new generation is opened. All memory is taken before the
+    /// first write.
     ///
-    /// `StoreFull` comes exactly where the batch would pass the limit, before any write; the log stays as it was then.
-    /// `Unfit` comes only where the batch doesn't leave a world that hangs together with every value within its limits,
-    /// before any write. `DiskFault` comes only where a disk's count of faults rose. After these two the log answers
-    /// `Stale` until it is mounted again. At each moment since the call began, whatever a crash leaves of both disks loads as
-    /// the world before or as the one with the batch, and after `Ok` as the latter.
+    /// `StoreFull` comes exactly where such a batch would pass the limit, before any write; the log stays as it was then.
+    /// `Unfit` comes before any write too: where the batch has fewer records than objects are kept, or one that has no
+    /// spelling, and the log stays as it was; or where it doesn't leave a world that hangs together with every value
+    /// within its limits, and the log is stale. `DiskFault` comes only where a disk's count of faults rose, and leaves the
+    /// log stale. A stale log answers `Stale` until it is mounted again. At each moment since the call began, whatever a
+    /// crash leaves of both disks loads as the world before or as the one with the batch, and after `Ok` as the latter.
     pub fn append<D: Disk>(
         &mut self,
         first: &mut D,
@@ -289,7 +310,9 @@ impl Log {
         requires few { length batch.now.records < 2 ^ 32 }
         requires lines { HasFewLines batch.now.records }
         requires mounted { D.tells ≡ true → self.old.stale ≡ false → IsMounted D.seen D.moment D.images self.old first.old second.old }
-        ensures answer { IsAppended self.old self.new (payload_of self.old batch.now) result }
+        ensures answer { IsAppended self.old self.new batch.now result }
+        ensures storable { IsTouching result → All IsStored batch.now.records }
+        ensures covers { IsTouching result → length self.old.chosen.held.world.objects ≤ length batch.now.records }
         ensures chosen { OnOk result (IsNext self.old self.new (payload_of self.old batch.now)) }
         ensures mounted { D.tells ≡ true → OnOk result (IsMounted D.seen D.moment D.images self.new first.new second.new) }
         ensures any { D.tells ≡ true → self.old.stale ≡ false → (w : World) → laid (payload_of self.old batch.now) (target self.old.chosen).held.world ≡ Some w

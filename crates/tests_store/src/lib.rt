@@ -7,14 +7,16 @@ ghost use Rattle.std.specs.Prelude.{◌<◌, ◌^◌};
 mod records;
 #[cfg(test)]
 mod runs;
+mod start;
 
+use crate::start::start_records;
 use muck_codec::Batch;
 use muck_disk::Disk;
 use muck_log::{Log, LogFault};
-use muck_model::{Row, Tune};
+use muck_model::Tune;
 use std::alloc::Global;
 
-/// Mounts, and writes a batch without a record, with the tune parameters of the start: what an empty run does.
+/// Mounts, and writes a batch of the world of the start: what an empty run does.
 pub fn run_once<D: Disk>(
     alloc: Global,
     first: &mut D,
@@ -25,7 +27,7 @@ pub fn run_once<D: Disk>(
 {
     let mut log = Log::mount(alloc, first, second, most)?;
     let batch = Batch {
-        records: Row::new(alloc)?,
+        records: start_records(alloc)?,
         tune: Tune {
             instr_slice: 2_000,
             preempt_units: 20_000,
