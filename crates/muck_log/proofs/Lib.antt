@@ -10,3 +10,5 @@ pub mod Stores
 pub mod Writing
 pub mod Written
 pub mod Placing
+pub mod Fine
+pub mod Storable
