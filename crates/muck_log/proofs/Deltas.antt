@@ -25,7 +25,7 @@ use Rattle.muck_store.specs.Whole.{is_whole}
 use Rattle.muck_log.specs.File.{begin}
 use Rattle.muck_log.specs.World.{World, start, is_between, tune_fits, is_fine, put_at, placed, all_placed, judged_world, laid_over, batch_if, laid, differs, written}
 use Rattle.muck_log.specs.Store.{Chosen, LogState, opens_new, target}
-use Rattle.muck_log.specs.Append.{payload_of}
+use Rattle.muck_log.specs.Append.{IsLaidNext, payload_of}
 
 -- Records by their numbers from k on.
 
@@ -287,3 +287,19 @@ pub lays_whole : (log : LogState) (es : List Entry) (tune : Tune) (w : World) �
 lays_whole log es tune w stored kept le two size words makes =
     let covered = target_covered log.chosen (length es) (opens_new log.chosen.held) refl le two in
     judged_is (is_fine (persist es) tune) (record { objects = persist es; tune = tune }) w (sym (batch_laid log es tune stored kept covered size words) ∙ makes)
+
+persist_length_all : (es : List Entry) → length (persist es) ≡ length es
+unfolding persist
+persist_length_all es = persist_length es 0 es
+
+-- In the words of the call that writes it: what is ready to be written makes the world whose stored form was handed in.
+pub ready_whole : (old new : LogState) (batch : Batch) → IsLaidNext old new (payload_of old batch) → All IsStored batch.records → All IsStored old.chosen.held.world.objects
+    → length old.chosen.held.world.objects ≤ length batch.records → length batch.records < 2 ^ 32 → (es : List Entry) (tune : Tune) → batch ≡ world_batch es tune → tune_fits tune ≡ true → 2 ≤ length es
+    → laid (payload_of old batch) (target old.chosen).held.world ≡ Some (record { objects = persist es; tune = tune })
+ready_whole old new batch lays stored kept covers few es tune is words two =
+    let made : laid (payload_of old (world_batch es tune)) (target old.chosen).held.world ≡ Some new.chosen.held.world = ap (λ (b : Batch). laid (payload_of old b) (target old.chosen).held.world) (sym is) ∙ lays.world in
+    let size : length (persist es) ≡ length es = persist_length_all es in
+    let count : length batch.records ≡ length (persist es) = ap (λ (b : Batch). length b.records) is in
+    let all : All IsStored (persist es) = subst (λ (b : Batch). All IsStored b.records) is stored in
+    let same = lays_whole old es tune new.chosen.held.world all kept (omega (arith, covers, count, size)) two (omega (arith, few, count, size)) (tune_words tune words) made in
+    lays.world ∙ ap Some same
