@@ -301,6 +301,7 @@ impl Log {
     /// within its limits, and the log is stale. `DiskFault` comes only where a disk's count of faults rose, and leaves the
     /// log stale. A stale log answers `Stale` until it is mounted again. At each moment since the call began, whatever a
     /// crash leaves of both disks loads as the world before or as the one with the batch, and after `Ok` as the latter.
+    #[tactic(auto, using(crate::proofs::Refusing::refused_storable, crate::proofs::Refusing::refused_covers))]
     pub fn append<D: Disk>(
         &mut self,
         first: &mut D,
