@@ -12,3 +12,5 @@ pub mod Written
 pub mod Placing
 pub mod Spelled
 pub mod Refusing
+pub mod Fine
+pub mod Spellings

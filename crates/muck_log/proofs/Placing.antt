@@ -1,6 +1,9 @@
 -- Records put in their places, one after the other.
 use Rattle.muck_log.specs.Head.{IsPlaced}
-use Rattle.std.proofs.Common.{◌≡◌, Bool, true, false, List, [], ◌∷◌, ◌++◌, reverse, Option, Some, None, option_and_then, sym, ◌∙◌, ap}
+use Rattle.std.proofs.Common.{◌≡◌, Bool, true, false, List, [], ◌∷◌, ◌++◌, reverse, Option, Some, None, option_and_then, sym, ◌∙◌, ap, subst}
+use Rattle.std.specs.Prelude.{All}
+use Rattle.std.proofs.lemmas.List.Elements.{All-head, All-tail}
+use Rattle.muck_codec.specs.Stored.{IsStored}
 use Rattle.std.proofs.lemmas.List.{reverse-append}
 use Rattle.muck_codec.specs.declared.stored.Stored.{Stored}
 use Rattle.muck_log.specs.World.{placed, all_placed}
@@ -30,3 +33,9 @@ was_put false o objects later is put = absurd cc
 pub not_put : (b : Bool) (o : Stored) (objects later : List Stored) → b ≡ false → IsPlaced b o objects later → placed o objects ≡ None
 not_put false o objects later is put = put
 not_put true o objects later is put = absurd cc
+
+-- The last record, and those before it.
+pub next_stored : (left rest : List Stored) (o : Stored) → left ≡ rest ++ o ∷ [] → All IsStored (reverse left) → IsStored o × All IsStored (reverse rest)
+next_stored left rest o is all =
+    let turn : All IsStored (o ∷ reverse rest) = subst (All IsStored) (turned left rest o is) all in
+    (All-head IsStored o (reverse rest) turn, All-tail IsStored o (reverse rest) turn)

@@ -1,6 +1,6 @@
 use Rattle.std.specs.Prelude.{◌≡◌, ℕ, ◌+◌, Bool, true, false, Option, Some, None, List, option_map, Result, Ok, Err, not, ◌≤◌}
 use Rattle.muck_log.specs.Body.{Body, body_of}
-use Rattle.muck_log.specs.World.{World, laid, placed, all_placed}
+use Rattle.muck_log.specs.World.{World, laid, placed, all_placed, IsFine}
 use Rattle.muck_codec.specs.declared.stored.Stored.{Stored}
 use Rattle.muck_log.specs.File.{Reading, join, ending}
 use Rattle.muck_log.specs.declared.body.Head.{Head}
@@ -30,6 +30,11 @@ ArePlaced false os old new = all_placed os old ≡ None
 abbrev pub IsJoined : Bool → Reading → Reading → Type 0
 IsJoined true old new = (join old.place old.held old.bytes ≡ Some (record { generation = old.held.generation; number = new.held.number; count = old.held.count + 1; last = old.place; world = new.held.world })) × (new ≡ record old { held = record { generation = old.held.generation; number = new.held.number; count = old.held.count; last = old.held.last; world = new.held.world } })
 IsJoined false old new = (join old.place old.held old.bytes ≡ None) × (new.place ≡ old.place)
+
+-- what is held is a world that hangs together, unless a batch was outside the format
+abbrev pub IsFineIn : Mode → World → Type 0
+IsFineIn Broken w = Unit {0}
+IsFineIn _ w = IsFine w
 
 abbrev pub is_over : Mode → Bool
 is_over Shut = true

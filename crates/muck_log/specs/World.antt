@@ -1,5 +1,5 @@
 -- The world that a store holds: a record of each object, by its number from 0 on, and the tune parameters.
-use Rattle.std.specs.Prelude.{ℕ, Bool, true, not, ◌&&◌, ◌||◌, ◌==◌, nat_le, nat_lt, List, [], ◌∷◌, ◌++◌, length, codes, Option, Some, None, slice_get, slice_set, bytes_eq, if◌then◌else◌, option_and_then, Result, Ok, Err}
+use Rattle.std.specs.Prelude.{◌≡◌, ℕ, Bool, true, not, ◌&&◌, ◌||◌, ◌==◌, nat_le, nat_lt, List, [], ◌∷◌, ◌++◌, length, codes, Option, Some, None, slice_get, slice_set, bytes_eq, if◌then◌else◌, option_and_then, Result, Ok, Err}
 use Rattle.std.specs.Option.{option_map_or}
 use Rattle.std.specs.List.{filter, list_all}
 use Rattle.muck_model.specs.declared.dbref.Kind.TheVariants.{Room, Player}
@@ -93,6 +93,10 @@ tune_fits t = is_between t.instr_slice 20000 && (is_between t.preempt_units 2000
 -- every value is within its limits, and the world hangs together
 unfoldable pub is_fine : List Stored → Tune → Bool
 is_fine objects tune = nat_le (length objects) 100000 && (list_all fits objects && (tune_fits tune && is_whole objects))
+
+-- what a store may hold
+abbrev pub IsFine : World → Type 0
+IsFine w = is_fine w.objects w.tune ≡ true
 
 -- Laying.
 

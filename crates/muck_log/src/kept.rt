@@ -1,10 +1,11 @@
 // What is kept of a store.
-ghost use Rattle.std.specs.Prelude.{◌≡◌, ◌≤◌, ◌<◌, ◌^◌, ◌++◌, List, length, reverse, bytes_eq, ◌||◌, true, false, Some, None, IfOk, OnOk};
+ghost use Rattle.std.specs.Prelude.{◌≡◌, ◌≤◌, ◌<◌, ◌^◌, ◌++◌, List, length, reverse, bytes_eq, ◌||◌, true, false, Some, None, IfOk, OnOk, All};
 ghost use Rattle.std.specs.List.{flat_map, list_all};
 ghost use Rattle.muck_model.specs.Bytes.{text_fault};
 ghost use Rattle.muck_codec.specs.Spelling.{spelling};
+ghost use Rattle.muck_codec.specs.Stored.{IsStored};
 ghost use Rattle.muck_codec.specs.Batches.{batch_bytes, HasFewLines};
-ghost use Rattle.muck_log.specs.World.{World, room_zero, first_digest, player_one, first_tune, start, lost, is_between, tune_fits, is_fine, placed, all_placed, laid, differs, written};
+ghost use Rattle.muck_log.specs.World.{World, room_zero, first_digest, player_one, first_tune, start, lost, is_between, tune_fits, is_fine, IsFine, placed, all_placed, laid, differs, written};
 ghost use Rattle.muck_store.specs.Limits.{fits};
 ghost use Rattle.muck_log.specs.Head.{IsLaid, IsPlaced, ArePlaced};
 
@@ -15,7 +16,8 @@ use spec_live::WIZARD;
 use std::alloc::Global;
 use std::marker::Model;
 
-/// What a store holds: the record of each object, by its number from 0 on, and the tune parameters.
+/// What a store holds: the record of each object, by its number from 0 on, and the tune parameters. Each record has a
+/// spelling.
 #[derive(Drop)]
 pub struct Kept {
     alloc: Global,
@@ -24,11 +26,15 @@ pub struct Kept {
 }
 
 impl Model for Kept {
+    ghost use Rattle.std.specs.Prelude.{All};
+    ghost use Rattle.muck_codec.specs.Stored.{IsStored};
     ghost use Rattle.muck_log.specs.World.{World};
 
     ghost Value = { World };
 
     ghost view = { λ w. record { objects = w.objects.items; tune = w.tune } };
+
+    ghost invariant = { λ w. All IsStored w.objects.items };
 }
 
 // A text of these bytes, which are one.
@@ -157,7 +163,8 @@ fn is_fine(alloc: Global, objects: &[Stored], tune: &Tune) -> Result<bool, NoMem
 // Puts a record in the place of its number, or at the next number; false where that can't be.
 #[tactic(auto, unfolding(crate::specs::World::placed))]
 fn place(objects: &mut Vec<Stored>, object: Stored) -> Result<bool, NoMemory>
-    ensures { IfOk result (λ yes. IsPlaced yes object objects.old.items objects.new.items) }
+    ensures placed { IfOk result (λ yes. IsPlaced yes object objects.old.items objects.new.items) }
+    ensures stored { IsStored object → All IsStored objects.old.items → All IsStored objects.new.items }
 {
     if object.dbref.0 < 0 {
         return Ok(false);
@@ -176,7 +183,8 @@ fn place(objects: &mut Vec<Stored>, object: Stored) -> Result<bool, NoMemory>
 
 // Puts these records in their places, the last one first; false where one has none.
 fn place_all(objects: &mut Vec<Stored>, records: Vec<Stored>) -> Result<bool, NoMemory>
-    ensures { IfOk result (λ yes. ArePlaced yes (reverse records.items) objects.old.items objects.new.items) }
+    ensures placed { IfOk result (λ yes. ArePlaced yes (reverse records.items) objects.old.items objects.new.items) }
+    ensures stored { All IsStored (reverse records.items) → All IsStored objects.old.items → All IsStored objects.new.items }
 {
     let mut left = records;
     while let Some(object) = left.pop() {
@@ -221,7 +229,8 @@ impl Kept {
 
     /// The record of each object, by its number from 0 on.
     pub fn objects(&self) -> &[Stored]
-        ensures { result.now ≡ self.now.objects }
+        ensures objects { result.now ≡ self.now.objects }
+        ensures storable { All IsStored self.now.objects }
     {
         &self.objects
     }
@@ -236,7 +245,8 @@ impl Kept {
     // Lays the bytes of a batch over it; false where that can't be, and nothing is said of it then.
     #[tactic(auto, unfolding(crate::specs::World::laid, crate::specs::World::laid_over))]
     pub(crate) fn lay(&mut self, payload: &[u8]) -> Result<bool, NoMemory>
-        ensures { IfOk result (λ yes. IsLaid yes payload.now self.old self.new) }
+        ensures laid { IfOk result (λ yes. IsLaid yes payload.now self.old self.new) }
+        ensures fine { IfOk result (λ yes. yes ≡ true → IsFine self.new) }
     {
         let batch = match take_batch(self.alloc, 1, payload) {
             Ok(batch) => batch,

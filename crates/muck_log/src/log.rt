@@ -3,7 +3,7 @@ ghost use Rattle.std.specs.Prelude.{◌≡◌, ◌⊎◌, ◌≤◌, ◌<◌, �
 ghost use Rattle.muck_disk.specs.Images.{Only};
 ghost use Rattle.muck_io.specs.Faults.{Rose};
 ghost use Rattle.muck_log.specs.Body.{body_bytes};
-ghost use Rattle.muck_log.specs.World.{World, laid};
+ghost use Rattle.muck_log.specs.World.{World, IsFine, laid};
 ghost use Rattle.muck_log.specs.File.{after_number, begin};
 ghost use Rattle.muck_log.specs.Mount.{IsLoaded, IsLoadFault};
 ghost use Rattle.muck_log.specs.Store.{LeavesBoth, MayBeAt, IsMounted, LogState, target, opens_new, next_body, after_batch, stored, framed, pick, IsDone};
@@ -39,14 +39,15 @@ pub struct Log {
 }
 
 impl Model for Log {
-    ghost use Rattle.std.specs.Prelude.{◌≤◌, ◌<◌, ◌^◌};
+    ghost use Rattle.std.specs.Prelude.{◌≡◌, ◌≤◌, ◌<◌, ◌^◌, false};
     ghost use Rattle.muck_log.specs.Store.{LogState};
+    ghost use Rattle.muck_log.specs.World.{IsFine};
 
     ghost Value = { LogState };
 
     ghost view = { λ l. record { chosen = record { second = l.second; place = l.place; held = record { generation = l.generation; number = l.number; count = l.count; last = l.last; world = l.world } }; close = l.close; other_close = l.other_close; stale = l.stale; most = l.most } };
 
-    ghost invariant = { λ l. (l.count ≤ l.place) × (l.most < 2 ^ 63) × (l.generation < 2 ^ 64) };
+    ghost invariant = { λ l. (l.count ≤ l.place) × (l.most < 2 ^ 63) × (l.generation < 2 ^ 64) × (l.stale ≡ false → IsFine l.world) };
 }
 
 // Where the next batch goes.
@@ -113,7 +114,8 @@ impl Log {
         most: u64,
     ) -> Result<Log, NoMemory>
         requires { most < 2 ^ 63 }
-        ensures { IfOk result (λ log. log ≡ record { chosen = record { second = false; place = 0; held = begin 1 }; close = close; other_close = other_close; stale = false; most = most }) }
+        ensures empty { IfOk result (λ log. log ≡ record { chosen = record { second = false; place = 0; held = begin 1 }; close = close; other_close = other_close; stale = false; most = most }) }
+        ensures fine { IfOk result (λ log. IsFine log.chosen.held.world) }
     {
         let world = Kept::starting(alloc)?;
         Ok(Log {
@@ -143,6 +145,7 @@ impl Log {
         requires { most < 2 ^ 63 }
         ensures ok { IfOk result (λ log. IsLoaded reader second other_close most log) }
         ensures err { IfErr result (λ fault. IsLoadFault reader second fault) }
+        ensures fine { IfOk result (λ log. IsFine log.chosen.held.world) }
     {
         match reader.finish() {
             Err(at) => Err(LogFault::Damaged { second, at }),
@@ -165,7 +168,8 @@ impl Log {
 
     /// What the store holds. While the log is stale it means nothing.
     pub fn kept(&self) -> &Kept
-        ensures { result.now ≡ self.now.chosen.held.world }
+        ensures kept { result.now ≡ self.now.chosen.held.world }
+        ensures fine { self.now.stale ≡ false → IsFine self.now.chosen.held.world }
     {
         &self.world
     }
@@ -204,18 +208,21 @@ impl Log {
         }
     }
 
-    // Lays the payload over the world that the batch stands on; where that can't be, the log is stale.
+    // Lays the payload over the world that the batch stands on; where that can't be, the log is stale, as it is until then.
     #[tactic(auto, unfolding(crate::specs::Store::target, crate::specs::File::begin))]
     fn lay_next(&mut self, payload: &[u8]) -> Result<bool, NoMemory>
+        requires { self.old.stale ≡ false }
         ensures { IfOk result (λ yes. IsTried yes self.old self.new payload.now) }
     {
-        if self.opens_new() {
+        let opens = self.opens_new();
+        self.stale = true;
+        if opens {
             self.world = Kept::starting(self.alloc)?;
         }
         if !self.world.lay(payload)? {
-            self.stale = true;
             return Ok(false);
         }
+        self.stale = false;
         Ok(true)
     }
 
@@ -299,8 +306,9 @@ impl Log {
     /// `Unfit` comes before any write too: where the batch has fewer records than objects are kept, or one that has no
     /// spelling, and the log stays as it was; or where it doesn't leave a world that hangs together with every value
     /// within its limits, and the log is stale. `DiskFault` comes only where a disk's count of faults rose, and leaves the
-    /// log stale. A stale log answers `Stale` until it is mounted again. At each moment since the call began, whatever a
-    /// crash leaves of both disks loads as the world before or as the one with the batch, and after `Ok` as the latter.
+    /// log stale, as memory that ran out while the batch was laid may. A stale log answers `Stale` until it is mounted
+    /// again. At each moment since the call began, whatever a crash leaves of both disks loads as the world before or as
+    /// the one with the batch, and after `Ok` as the latter.
     #[tactic(auto, using(crate::proofs::Refusing::refused_storable, crate::proofs::Refusing::refused_covers))]
     pub fn append<D: Disk>(
         &mut self,

@@ -4,6 +4,7 @@ ghost use Rattle.muck_disk.specs.Images.{Only};
 ghost use Rattle.muck_io.specs.Faults.{Rose};
 ghost use Rattle.muck_log.specs.File.{gate_at, begin, run, reached, is_open};
 ghost use Rattle.muck_log.specs.Store.{LeavesOnly, LeavesBoth, must_close, pick};
+ghost use Rattle.muck_log.specs.World.{IsFine, is_fine};
 ghost use Rattle.muck_log.specs.Mount.{IsLook, IsFirst, choice, IsMountedAs, IsMountFault};
 
 use crate::body::{head_of, word_at};
@@ -204,6 +205,7 @@ impl Log {
     ) -> Result<Log, LogFault>
         requires { most < 2 ^ 63 }
         ensures ok { D.tells ≡ true → IfOk result (λ log. IsMountedAs D.seen D.moment D.images most log first.new second.new) }
+        ensures fine { IfOk result (λ log. is_fine log.chosen.held.world.objects log.chosen.held.world.tune ≡ true) }
         ensures err { D.tells ≡ true → IfErr result (λ fault. IsMountFault (D.seen first.old) (D.seen second.old) fault) }
         ensures first_attached { D.attached first.new ≡ D.attached first.old }
         ensures second_attached { D.attached second.new ≡ D.attached second.old }
@@ -249,6 +251,7 @@ fn mount_synced<D: Disk>(
     requires first_durable { D.tells ≡ true → Only (D.seen first.old) (D.images first.old (D.moment first.old)) }
     requires second_durable { D.tells ≡ true → Only (D.seen second.old) (D.images second.old (D.moment second.old)) }
     ensures ok { D.tells ≡ true → IfOk result (λ log. IsMountedAs D.seen D.moment D.images most log first.new second.new) }
+    ensures fine { IfOk result (λ log. IsFine log.chosen.held.world) }
     ensures err { D.tells ≡ true → IfErr result (λ fault. IsMountFault (D.seen first.old) (D.seen second.old) fault) }
     ensures first_attached { D.attached first.new ≡ D.attached first.old }
     ensures second_attached { D.attached second.new ≡ D.attached second.old }

@@ -1,8 +1,9 @@
 // A file, read byte by byte.
-ghost use Rattle.std.specs.Prelude.{◌≡◌, ◌≤◌, ◌<◌, ◌+◌, ◌-◌, ◌^◌, List, ℕ, length, take, OnOk, IfOk, IfErr};
+ghost use Rattle.std.specs.Prelude.{◌≡◌, ◌≤◌, ◌<◌, ◌+◌, ◌-◌, ◌^◌, List, ℕ, length, take, true, OnOk, IfOk, IfErr};
 ghost use Rattle.muck_log.specs.File.{gate_at, begin, step, run, reached, sized, judged, forgotten, join, follows};
 ghost use Rattle.muck_log.specs.declared.reader.Mode.TheVariants.{Broken};
 ghost use Rattle.muck_log.specs.Head.{IsJoined, IsParts, is_over};
+ghost use Rattle.muck_log.specs.World.{IsFine};
 ghost use Rattle.std.specs.Int.{w64, from_be_bytes};
 
 use crate::body::{Head, head_of, word_at};
@@ -37,12 +38,13 @@ pub struct Reader {
 impl Model for Reader {
     ghost use Rattle.std.specs.Prelude.{◌≤◌};
     ghost use Rattle.muck_log.specs.File.{Reading};
+    ghost use Rattle.muck_log.specs.Head.{IsFineIn};
 
     ghost Value = { Reading };
 
     ghost view = { λ r. record { place = r.place; mode = r.mode; size = r.size; bytes = r.bytes.items; held = record { generation = r.generation; number = r.number; count = r.count; last = r.last; world = r.world } } };
 
-    ghost invariant = { λ r. r.count ≤ r.place };
+    ghost invariant = { λ r. (r.count ≤ r.place) × IsFineIn r.mode r.world };
 }
 
 impl Reader {
@@ -103,7 +105,8 @@ impl Reader {
 
 impl Reader {
     fn sized(&mut self)
-        requires { length self.old.bytes ≡ 8 }
+        requires whole { length self.old.bytes ≡ 8 }
+        requires fine { IsFine self.old.held.world }
         ensures { self.new ≡ sized self.old (from_be_bytes w64 self.old.bytes) }
     {
         let size = word_at(&self.bytes, 0);
@@ -124,11 +127,13 @@ impl Reader {
             && (self.count == 0 || head.number == self.number.wrapping_add(1))
     }
 
-    // Whether the batch can be laid over the world; it is then.
+    // Whether the batch can be laid over the world; it is then. Until it is, the file is broken, so that no part of a batch
+    // is ever taken for a world.
     #[tactic(auto, unfolding(crate::specs::File::join, crate::specs::Body::body_of))]
     fn lay(&mut self) -> Result<bool, LogFault>
         ensures err { IfErr result (λ e. e ≡ LogFault.NoMemory) }
         ensures joined { IfOk result (λ yes. IsJoined yes self.old self.new) }
+        ensures fine { IfOk result (λ yes. yes ≡ true → IsFine self.new.held.world) }
     {
         let Some(head) = head_of(&self.bytes) else {
             return Ok(false);
@@ -136,9 +141,12 @@ impl Reader {
         if !self.follows(head) {
             return Ok(false);
         }
+        let mode = self.mode;
+        self.mode = Mode::Broken;
         if !self.world.lay(self.bytes.split_at(21).1)? {
             return Ok(false);
         }
+        self.mode = mode;
         self.number = head.number;
         Ok(true)
     }
@@ -239,7 +247,8 @@ impl Reader {
     // What the bytes that were read make, or the gate of the first batch that is outside the format.
     #[tactic(auto, unfolding(crate::specs::File::ending))]
     pub fn finish(self) -> Result<Parts, u64>
-        ensures { IsParts self result }
+        ensures parts { IsParts self result }
+        ensures fine { IfOk result (λ parts. IsFine parts.world) }
     {
         let close = self.mode != Mode::Shut;
         let ends = match self.mode {

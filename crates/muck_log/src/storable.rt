@@ -14,13 +14,11 @@ use std::alloc::Global;
 // What the types of these numbers say: each fits its bytes.
 fn see_byte(byte: u8)
     ensures { byte < 2 ^ 8 }
-{
-}
+{}
 
 fn see_short(short: u16)
     ensures { short < 2 ^ 16 }
-{
-}
+{}
 
 fn see_head(record: &Stored)
     ensures dbref { IsDbref record.now.dbref }

@@ -1,9 +1,14 @@
 use Rattle.std.proofs.Common.{◌≡◌, length, reverse}
+use Rattle.std.specs.Prelude.{All}
+use Rattle.muck_codec.specs.Stored.{IsStored}
 use Rattle.muck_log.specs.World.{all_placed}
 use Rattle.muck_log.proofs.kept.place_all.Given as goal
 
 abbrev pub invariant-loop-object : goal.invariant-loop-object
-invariant-loop-object l = all_placed (reverse l.left.items) l.objects.items ≡ all_placed (reverse l.fn.records.items) l.initial.objects.items
+invariant-loop-object l = record {
+  placed : all_placed (reverse l.left.items) l.objects.items ≡ all_placed (reverse l.fn.records.items) l.initial.objects.items;
+  stored : All IsStored (reverse l.fn.records.items) → All IsStored l.initial.objects.items → All IsStored (reverse l.left.items) × All IsStored l.objects.items;
+}
 
 abbrev pub decreases-loop-object : goal.decreases-loop-object
 decreases-loop-object l = length l.left.items

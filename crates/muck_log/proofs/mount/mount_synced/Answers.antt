@@ -21,7 +21,7 @@ returns-in_ok-empty-in-Empty-clause-ok g c = λ t.
     (still_only g.D.Disk.seen g.D.Disk.moment g.D.Disk.images c.args.first.now c.read_first.new.disk (c.read_first.ensures.any t) (c.requires.first_durable t) (c.read_first.ensures.seen t))
     (still_only g.D.Disk.seen g.D.Disk.moment g.D.Disk.images c.args.second.now c.read_first-2.new.disk (c.read_first-2.ensures.any t) (c.requires.second_durable t) (c.read_first-2.ensures.seen t))
     la lb (found _ c.in_ok-a.a.first c.in_ok-b.b.first (g.D.Disk.seen c.args.first.now) (g.D.Disk.seen c.args.second.now) c.in-Empty.ensures la.first lb.first)
-    c.in_ok-empty-in-Empty.ensures
+    c.in_ok-empty-in-Empty.ensures.empty
 
 pub returns-in-Err-clause-err : goal.returns-in-Err-clause-err
 returns-in-Err-clause-err g c = λ t.

@@ -1,0 +1,41 @@
+-- The records of the starting world have spellings.
+use Rattle.std.proofs.Common.{◌≡◌, List, [], ◌∷◌, ◌++◌, refl, sym, ap, subst, ◌∙◌, arith}
+use Rattle.std.specs.Prelude.{All}
+use Rattle.std.proofs.lemmas.List.Elements.{All-nil, All-cons}
+use Rattle.muck_codec.specs.declared.stored.Stored.{Stored}
+use Rattle.muck_codec.specs.Stored.{IsStored}
+use Rattle.muck_log.specs.World.{room_zero, player_one, first_digest}
+
+room_stored : IsStored room_zero
+unfolding room_zero
+room_stored = record {
+  dbref = omega arith;
+  flags = omega arith;
+  level = omega arith;
+  ties = (omega arith, (omega arith, (omega arith, omega arith)));
+  lists = (omega arith, (omega arith, omega arith));
+  name = ((omega arith, omega arith), refl);
+  props = (omega arith, tt);
+  lines = ((omega arith, omega arith), tt);
+  digest = ((omega arith, omega arith), refl);
+}
+
+player_stored : IsStored player_one
+unfolding player_one first_digest
+player_stored = record {
+  dbref = omega arith;
+  flags = omega arith;
+  level = omega arith;
+  ties = (omega arith, (omega arith, (omega arith, omega arith)));
+  lists = (omega arith, (omega arith, omega arith));
+  name = ((omega arith, omega arith), refl);
+  props = (omega arith, tt);
+  lines = ((omega arith, omega arith), tt);
+  digest = ((omega arith, omega arith), refl);
+}
+
+-- the two records, one behind the other
+pub both_stored : (none one two : List Stored) (room player : Stored) → none ≡ [] → one ≡ none ++ room ∷ [] → two ≡ one ++ player ∷ [] → room ≡ room_zero → player ≡ player_one → All IsStored two
+both_stored none one two room player empty first second is_room is_player =
+    let whole : two ≡ room_zero ∷ player_one ∷ [] = second ∙ ap (λ l. l ++ player ∷ []) (first ∙ ap (λ l. l ++ room ∷ []) empty) ∙ ap (λ o. o ∷ player ∷ []) is_room ∙ ap (λ o. room_zero ∷ o ∷ []) is_player in
+    subst (All IsStored) (sym whole) (All-cons IsStored room_zero (player_one ∷ []) room_stored (All-cons IsStored player_one [] player_stored (All-nil IsStored)))
