@@ -13,4 +13,4 @@ pub mod Placing
 pub mod Spelled
 pub mod Refusing
 pub mod Fine
-pub mod Storable
+pub mod Spellings

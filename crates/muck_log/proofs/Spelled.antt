@@ -7,7 +7,7 @@ use Rattle.std.proofs.lemmas.List.{drop_all}
 use Rattle.std.proofs.lemmas.Bool.{false≢true, leb-true, le-leb}
 use Rattle.std.proofs.lemmas.List.Elements.{All-nil, All-cons, All-head, All-tail}
 use Rattle.muck_model.specs.Bytes.{text_fault}
-use Rattle.muck_prop.specs.Paths.{IsPath, IsReadAs, path_text}
+use Rattle.muck_prop.specs.Paths.{IsPath, IsReadAs, path_text, fault_of}
 use Rattle.muck_prop.proofs.Reading.{read_is_path}
 use Rattle.muck_codec.specs.declared.stored.Stored.{Stored}
 use Rattle.muck_codec.specs.declared.stored.Property.{Property}
@@ -15,7 +15,7 @@ use Rattle.muck_codec.specs.Records.{rises}
 use Rattle.muck_codec.specs.Stored.{Run, IsDbref, IsText, IsLine, IsValue, IsProperty, AreProperties, AreLines, IsStored}
 
 pub path_by : (path : List (List ℕ)) (text : List ℕ) → text ≡ path_text path → IsText 0 4096 text → IsReadAs (path_text path) path → IsPath path
-path_by path text is one reads = read_is_path (path_text path) path (sym reads.holds) (subst (λ t. text_fault t ≡ None) is one.1) reads.fine
+path_by path text is one reads = read_is_path (path_text path) path (sym reads.holds) (subst (λ t. text_fault t ≡ None) is one.1) (subst (λ q. fault_of (path_text path) q ≡ None) reads.holds reads.fine)
 
 pub lines_run : (before : Option (List ℕ)) (lines : List (List ℕ)) → All (IsText 0 4096) lines → Run (λ line. line) IsLine before lines
 lines_run before [] all = tt

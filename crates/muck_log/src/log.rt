@@ -312,8 +312,10 @@ impl Log {
     /// `Unfit` comes before any write too: where the batch has fewer records than objects are kept, or one that has no
     /// spelling, and the log stays as it was; or where it doesn't leave a world that hangs together with every value
     /// within its limits, and the log is stale. `DiskFault` comes only where a disk's count of faults rose, and leaves the
-    /// log stale; so does want of memory while the batch is laid. A stale log answers `Stale` until it is mounted again. At each moment since the call began, whatever a
-    /// crash leaves of both disks loads as the world before or as the one with the batch, and after `Ok` as the latter.
+    /// log stale, as memory that ran out while the batch was laid may. A stale log answers `Stale` until it is mounted
+    /// again. At each moment since the call began, whatever a crash leaves of both disks loads as the world before or as
+    /// the one with the batch, and after `Ok` as the latter.
+    #[tactic(auto, using(crate::proofs::Refusing::refused_storable, crate::proofs::Refusing::refused_covers))]
     pub fn append<D: Disk>(
         &mut self,
         first: &mut D,

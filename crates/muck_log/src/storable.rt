@@ -12,12 +12,22 @@ use muck_prop::{Path, PropValue};
 use std::alloc::Global;
 
 // What the types of these numbers say: each fits its bytes.
+fn see_byte(byte: u8)
+    ensures { byte < 2 ^ 8 }
+{}
+
+fn see_short(short: u16)
+    ensures { short < 2 ^ 16 }
+{}
+
 fn see_head(record: &Stored)
     ensures dbref { IsDbref record.now.dbref }
     ensures flags { record.now.flags.0 < 2 ^ 16 }
     ensures level { record.now.level < 2 ^ 8 }
 {
-    let _head = (record.dbref.0, record.flags.0, record.level);
+    let _dbref = record.dbref.0;
+    see_short(record.flags.0);
+    see_byte(record.level);
 }
 
 fn see_ties(record: &Stored)
@@ -36,7 +46,7 @@ fn see_lists(record: &Stored)
 fn see_text(text: &Line)
     ensures { IsText 0 4096 text.now }
 {
-    let _bytes = text.as_slice();
+    let bytes = text.as_slice();
 }
 
 #[tactic(auto, using(crate::proofs::Spelled::all_left, crate::proofs::Spelled::all_next, crate::proofs::Spelled::all_ends))]

@@ -63,6 +63,7 @@ fn player_one(alloc: Global) -> Result<Stored, LogFault>
 }
 
 // Room Zero, and One in it.
+#[tactic(auto, using(crate::proofs::Both::both_few))]
 pub(crate) fn start_records(alloc: Global) -> Result<Row<Stored>, LogFault>
     ensures count { IfOk result (λ records. length records ≡ 2) }
     ensures lines { IfOk result (λ records. HasFewLines records) }

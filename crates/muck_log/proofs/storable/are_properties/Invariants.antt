@@ -4,4 +4,4 @@ use Rattle.muck_log.proofs.Spelled.{RunLeft}
 use Rattle.muck_log.proofs.storable.are_properties.Given as goal
 
 abbrev pub invariant-loop-property : goal.invariant-loop-property
-invariant-loop-property l = RunLeft (λ p. p.path) IsProperty l.properties (option_copied l.before.entry) l.property-index
+invariant-loop-property l = RunLeft (λ p. p.path) IsProperty l.properties (option_copied l.before) l.property-index

@@ -1,4 +1,4 @@
-use Rattle.muck_log.proofs.Storable.{both_stored}
+use Rattle.muck_log.proofs.Spellings.{both_stored}
 use Rattle.muck_log.proofs.kept.Kept.starting.Goals as goal
 
 pub invariant_of-result : goal.invariant_of-result
