@@ -163,7 +163,7 @@ module _ {D : Type 0} (seen : D → List ℕ) (moment : D → ℕ) (images : D �
     same_world =
         let p = same_as (now h) (effect (now h) (cut n)) (now k) (same_cut (now h) n) (now-longer h k (cut n ∷ []) (longer_noted h k (note_of moment faults f s h) (cut n) cuts)) in
         let q = same_as (now k) (effect (now k) (by_porter (DumpFailed n))) (now m) (same_failed (now k) n)
-            (now-longer k m (by_porter (DumpFailed n) ∷ []) (longer_noted k m (note_of moment faults f' s' k) (by_porter (DumpFailed n)) ends)) in
+        (now-longer k m (by_porter (DumpFailed n) ∷ []) (longer_noted k m (note_of moment faults f' s' k) (by_porter (DumpFailed n)) ends)) in
         same_as (now h) (now m) (after m.start m.entries) (same_on (now h) (now k) (now m) p q) (sym (now_is m))
 
     module _ (chosen : LogState) (mounts : log ≡ Some chosen) (batch : Batch) (same : batch ≡ world_batch (now h).live.objects (now h).live.board.tune) (end more : ℕ)
@@ -256,49 +256,44 @@ module _ {D : Type 0} (seen : D → List ℕ) (moment : D → ℕ) (images : D �
     pub written_keeps : (left : Option LogState) (r : Result (Unit {0}) LogFault) → Appended seen moment images batch log left f s f' s' r → Keeps seen moment images faults None f' s' mounted k
     written_keeps left r a = subst (λ (x : History). Keeps seen moment images faults None f' s' mounted x) (sym cuts) (written left r a)
 
-    pub dumps_stored : (left : Option LogState) (m : History) (a : Appended seen moment images batch log left f s f' s' (Ok tt)) → m ≡ entered (noted k (note_of moment faults f' s' k)) (by_porter (Stored n)) → Dumps seen moment images faults left f' s' mounted m (Ok None)
-    dumps_stored left m a ends = record {
-      safe = rests.keeps.safe;
-      rests = rests;
-      whole = λ e. whole;
-      full = λ end more e. cc;
-      fault = tt;
-    }
-      where
-        abbrev end_note : Note
-        end_note = note_of moment faults f' s' k
+    module _ (left : Option LogState) (m : History) (a : Appended seen moment images batch log left f s f' s' (Ok tt)) (ends : m ≡ entered (noted k (note_of moment faults f' s' k)) (by_porter (Stored n))) where
+      abbrev end_note : Note
+      end_note = note_of moment faults f' s' k
 
-        abbrev over : History
-        over = entered (noted begins end_note) (by_porter (Stored n))
+      abbrev over : History
+      over = entered (noted begins end_note) (by_porter (Stored n))
 
-        m_is : over ≡ m
-        m_is = ap (λ (x : History). entered (noted x end_note) (by_porter (Stored n))) (sym cuts) ∙ sym ends
+      m_is : over ≡ m
+      m_is = ap (λ (x : History). entered (noted x end_note) (by_porter (Stored n))) (sym cuts) ∙ sym ends
 
-        limit : a.answer.0.most ≡ file_most
-        limit = a.answer.2.limit ∙ v.usable.1
+      limit : a.answer.0.most ≡ file_most
+      limit = a.answer.2.limit ∙ v.usable.1
 
-        some_same : (x y : Kept) → Some x ≡ Some y → x ≡ y
-        some_same x y e = cc
+      some_same : (x y : Kept) → Some x ≡ Some y → x ≡ y
+      some_same x y e = cc
 
-        chosen : a.answer.0.chosen ≡ dumped_on log.chosen world
-        chosen =
-            a.answer.2.chosen ∙ ap (after_batch log.chosen (payload_of log batch)) (some_same a.answer.0.chosen.held.world (persisted (now h)) (sym a.answer.2.makes ∙ makes)) ∙ dumped
+      chosen : a.answer.0.chosen ≡ dumped_on log.chosen world
+      chosen =
+          a.answer.2.chosen ∙ ap (after_batch log.chosen (payload_of log batch)) (some_same a.answer.0.chosen.held.world (persisted (now h)) (sym a.answer.2.makes ∙ makes)) ∙ dumped
 
-        behind : end_note.entries ≡ length begins.entries
-        behind = ap (λ (x : History). length x.entries) cuts
+      behind : end_note.entries ≡ length begins.entries
+      behind = ap (λ (x : History). length x.entries) cuts
 
-        rests : Rests seen moment images faults left f' s' mounted m
-        rests =
-            subst (λ (l : Option LogState). Rests seen moment images faults l f' s' mounted m) (sym a.answer.1)
-            (subst (λ (x : History). Rests seen moment images faults (Some a.answer.0) f' s' mounted x) m_is
-            (stored_rests seen moment images faults f s mounted h note 0 n (here f s h) (count f s h) refl log v whole_consistent number f' s' (written left (Ok tt) a) a.answer.0 a.answer.3 limit chosen end_note (here f' s' k) (count f' s' k) behind))
+      rests : Rests seen moment images faults left f' s' mounted m
+      rests =
+          subst (λ (l : Option LogState). Rests seen moment images faults l f' s' mounted m) (sym a.answer.1)
+          (subst (λ (x : History). Rests seen moment images faults (Some a.answer.0) f' s' mounted x) m_is
+          (stored_rests seen moment images faults f s mounted h note 0 n (here f s h) (count f s h) refl log v whole_consistent number f' s' (written left (Ok tt) a) a.answer.0 a.answer.3 limit chosen end_note (here f' s' k) (count f' s' k) behind))
 
-        same_end : persisted (after h.start over.entries) ≡ persisted world
-        same_end =
-            persisted_same world (after h.start over.entries)
-            (same_as world (effect world (by_porter (Stored n))) (after h.start over.entries) (same_stored world n) (after-append begins.entries (by_porter (Stored n) ∷ []) h.start))
+      same_end : persisted (after h.start over.entries) ≡ persisted world
+      same_end =
+          persisted_same world (after h.start over.entries)
+          (same_as world (effect world (by_porter (Stored n))) (after h.start over.entries) (same_stored world n) (after-append begins.entries (by_porter (Stored n) ∷ []) h.start))
 
-        whole : StandsWhole moment images f' s' m.start m.entries
-        whole =
-            subst (λ (x : History). StandsWhole moment images f' s' x.start x.entries) m_is
-            (stored_whole seen moment images faults f s mounted h note 0 n (here f s h) (count f s h) refl log v whole_consistent number f' s' (written left (Ok tt) a) a.answer.0 a.answer.3 limit chosen end_note (here f' s' k) (count f' s' k) behind same_end)
+      whole : StandsWhole moment images f' s' m.start m.entries
+      whole =
+          subst (λ (x : History). StandsWhole moment images f' s' x.start x.entries) m_is
+          (stored_whole seen moment images faults f s mounted h note 0 n (here f s h) (count f s h) refl log v whole_consistent number f' s' (written left (Ok tt) a) a.answer.0 a.answer.3 limit chosen end_note (here f' s' k) (count f' s' k) behind same_end)
+
+      pub dumps_stored : Dumps seen moment images faults left f' s' mounted m (Ok None)
+      dumps_stored = record { safe = rests.keeps.safe; rests = rests; whole = λ e. whole; full = λ end more e. cc; fault = tt }

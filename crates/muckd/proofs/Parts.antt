@@ -172,7 +172,7 @@ breaks_first f g ending h k a b p = record {
   pending = p.pending;
   began = p.began;
   whole = λ later.
-      let os : List Dumped = outcomes_of p.front ++ p.pending ++ later in
+      let os : List Dumped = outcomes_of p.front ++ (p.pending ++ later) in
       let part = p.whole later in
       let others : List Entry = g (drop (length (outcomes_of (f os (now h)))) os) (after (now h) (f os (now h))) in
       (part.0 ++ others, sym (append_assoc p.front part.0 others) ∙ ap (λ es. es ++ others) part.1);

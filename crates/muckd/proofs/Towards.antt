@@ -38,7 +38,7 @@ breaks_as f g ending h k a b e p = record {
   front = p.front;
   pending = p.pending;
   began = p.began;
-  whole = λ later. let part = p.whole later in (part.0, part.1 ∙ e (outcomes_of p.front ++ p.pending ++ later));
+  whole = λ later. let part = p.whole later in (part.0, part.1 ∙ e (outcomes_of p.front ++ (p.pending ++ later)));
   history = p.history;
   told = p.told;
   untold = p.untold;

@@ -55,7 +55,7 @@ module _ (w : World) (note : Note) (acts : List Act) (h : History) (is : h ≡ b
         front = q.front;
         pending = q.pending;
         began = q.began;
-        whole = λ later. let part = q.whole later in (part.0, part.1 ∙ ap (story acts (outcomes_of q.front ++ q.pending ++ later)) start);
+        whole = λ later. let part = q.whole later in (part.0, part.1 ∙ ap (story acts (outcomes_of q.front ++ (q.pending ++ later))) start);
         ending = by_porter Died ∷ [];
         ends = refl;
         history = end ∙ q.history.entries;
@@ -83,7 +83,7 @@ module _ (w : World) (note : Note) (acts : List Act) (h : History) (is : h ≡ b
         front = q.front;
         pending = q.pending;
         began = q.began;
-        whole = λ later. let part = q.whole later in (part.0, part.1 ∙ ap (story acts (outcomes_of q.front ++ q.pending ++ later)) start);
+        whole = λ later. let part = q.whole later in (part.0, part.1 ∙ ap (story acts (outcomes_of q.front ++ (q.pending ++ later))) start);
         ending = halted (after w q.front) ++ dump.0;
         ends = (dump.0, refl, dump.2);
         history =

@@ -79,7 +79,7 @@ pub record BrokeOff (w : World) (why : Why) (acts : List Act) (before written : 
   pub front : List Entry
   pub pending : List Dumped
   pub began : IsPending front pending
-  pub whole : (later : List Dumped) → (rest : List Entry) × (front ++ rest ≡ story acts (outcomes_of front ++ pending ++ later) w)
+  pub whole : (later : List Dumped) → (rest : List Entry) × (front ++ rest ≡ story acts (outcomes_of front ++ (pending ++ later)) w)
   pub ending : List Entry
   pub ends : EndsBy w why front ending
   pub history : tale ≡ front ++ ending

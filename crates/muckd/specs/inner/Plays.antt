@@ -34,7 +34,7 @@ pub record Breaks (f : Part) (ending : List Entry) (h k : History) (before writt
   pub front : List Entry
   pub pending : List Dumped
   pub began : IsPending front pending
-  pub whole : (later : List Dumped) → (rest : List Entry) × (front ++ rest ≡ f (outcomes_of front ++ pending ++ later) (now h))
+  pub whole : (later : List Dumped) → (rest : List Entry) × (front ++ rest ≡ f (outcomes_of front ++ (pending ++ later)) (now h))
   pub history : Longer h k (front ++ ending)
   pub told : List ℕ
   pub untold : List ℕ

@@ -14,7 +14,7 @@ pub cut-requires : goal.cut-requires
 cut-requires g c = ap (λ (x : History). is_lawful (now x) (by_porter (Cut c.args.k))) c.note.ensures ∙ cut_lawful _ _ _ c.requires.alive c.requires.idle
 
 pub returns-in-Ok-clause-batch : goal.returns-in-Ok-clause-batch
-returns-in-Ok-clause-batch g c = at_note (λ (w : World). c.in-Ok.field-0 ≡ world_batch w.live.objects w.live.board.tune) _ _ _ c.note.ensures c.in-Ok.ensures.batch
+returns-in-Ok-clause-batch g c = at_note (λ (w : World). c.in-Ok.batch ≡ world_batch w.live.objects w.live.board.tune) _ _ _ c.note.ensures c.in-Ok.ensures.batch
 
 pub returns-in-Ok-clause-consistent : goal.returns-in-Ok-clause-consistent
 returns-in-Ok-clause-consistent g c = at_note (λ (w : World). IsConsistent w.live.objects) _ _ _ c.note.ensures c.in-Ok.ensures.consistent
