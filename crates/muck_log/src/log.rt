@@ -172,7 +172,6 @@ impl Log {
     /// What the store holds. While the log is stale it means nothing.
     pub fn kept(&self) -> &Kept
         ensures kept { result.now ≡ self.now.chosen.held.world }
-        ensures storable { All IsStored self.now.chosen.held.world.objects }
         ensures fine { self.now.stale ≡ false → IsFine self.now.chosen.held.world }
     {
         &self.world
