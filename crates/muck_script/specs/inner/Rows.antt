@@ -138,12 +138,12 @@ whole_row = refl
 -- a script of one connection
 quit_row : transcript (Open 1 ∷ Send 1 (codes "quit") ∷ []) [] starting
     ≡ codes "1< Use: connect NAME PASSWORD, WHO or QUIT." ++ 10 ∷ codes "1< Come back later!" ++ 10 ∷ codes "1 closed" ++ 10 ∷ []
-unfolding starting booted early_board opened closed line_added bytes_taken told_one leaving_one followed reading either unchanged tell leave goodbye welcome quit waits done parted empty_queue next_due is_busy reader ended_tied gone_away bytes_of lines_bytes line_sent lines_sent sent taken lines_taken is_lawful effect next_ready next_process next_turn at_login sent_lines queue_most turns served line_story told digits
+unfolding starting booted early_board opened closed line_added bytes_taken told_one leaving_one followed reading either unchanged tell leave goodbye welcome quit waits done parted empty_queue next_due is_busy reader ended_tied gone_away bytes_of lines_bytes line_sent lines_sent sent taken lines_taken is_lawful effect next_ready next_process next_turn at_login sent_lines queue_most turns served line_story told digits asked_dump
 quit_row = refl
 
 -- nothing is written of a connection that the script closes, nor where there is none, nor of time that passes
 closed_row : transcript (Open 1 ∷ Close 1 ∷ Close 1 ∷ Wait 5 ∷ []) [] starting ≡ codes "1< Use: connect NAME PASSWORD, WHO or QUIT." ++ 10 ∷ []
-unfolding starting booted early_board opened closed line_added bytes_taken told_one leaving_one followed reading either unchanged tell leave goodbye welcome quit waits done parted empty_queue next_due is_busy reader ended_tied gone_away bytes_of lines_bytes line_sent lines_sent sent taken lines_taken is_lawful effect next_ready next_process next_turn at_login sent_lines queue_most turns served line_story told digits
+unfolding starting booted early_board opened closed line_added bytes_taken told_one leaving_one followed reading either unchanged tell leave goodbye welcome quit waits done parted empty_queue next_due is_busy reader ended_tied gone_away bytes_of lines_bytes line_sent lines_sent sent taken lines_taken is_lawful effect next_ready next_process next_turn at_login sent_lines queue_most turns served line_story told digits asked_dump
 closed_row = refl
 
 -- it is so many seconds later, as far as seconds go
