@@ -5,8 +5,6 @@ pub mod Acts
 pub mod Towards
 pub mod Whole
 pub mod Answered
-pub mod Owed
 pub mod Records
-pub mod Dumpings
 pub mod Dumped
 pub mod Ending

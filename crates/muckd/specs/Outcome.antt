@@ -127,18 +127,13 @@ pub record HasHappened {S K : Type 0} (left : S → Option (List ℕ)) (faults :
   pub read : HasRead left faults s t acts
   pub run : HasRun written breaks w why acts k l tale
 
--- A run that began, with its disks: their bytes before, and what is kept of them at each moment since they were mounted.
-pub record HasBegun {S K D : Type 0} (left : S → Option (List ℕ)) (faults : S → ℕ) (written : K → Option (List ℕ)) (breaks : K → ℕ)
-    (tells : Bool) (seen : D → List ℕ) (moment : D → ℕ) (images : D → ℕ → List ℕ → Type 0) (why : Why)
-    (s t : S) (k l : K) (first second first' second' : D) (tale : List Entry) (notes : List Note) : Type 0 where
+-- A run that began, on what the disks held.
+pub record HasBegun {S K : Type 0} (left : S → Option (List ℕ)) (faults : S → ℕ) (written : K → Option (List ℕ)) (breaks : K → ℕ)
+    (tells : Bool) (a b : List ℕ) (why : Why) (s t : S) (k l : K) (tale : List Entry) : Type 0 where
   pub start : World
   pub mounted : ℕ
-  pub begins : IsStart tells (seen first) (seen second) start mounted
+  pub begins : IsStart tells a b start mounted
   pub happened : HasHappened left faults written breaks start why s t k l tale
-  pub safe : tells ≡ true → IsSafe moment images first' second' start mounted tale notes
-  pub whole : tells ≡ true → why ≡ Fine → StandsWhole moment images first' second' start tale
-  pub full : (end more : ℕ) → tells ≡ true → why ≡ StoreFull end more → (n : ℕ) × (store : Chosen) × IsFront start mounted tale notes n store
-      × (end ≡ (target store).place) × (more ≡ more_of (log_of store) (dump_payload store (after start tale))) × (file_most < end + more)
 
 -- Which of the two is so, by the answer: the run wasn't begun, or it was.
 abbrev pub EndsAs : Why → Type 0 → Type 0 → Type 0

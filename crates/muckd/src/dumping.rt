@@ -3,18 +3,14 @@ ghost use Rattle.std.specs.Prelude.{◌≡◌, ◌⊎◌, ◌≤◌, ◌<◌, �
 ghost use Rattle.muck_codec.specs.Batches.{HasFewLines};
 ghost use Rattle.muck_db.specs.inner.Limits.{IsWithinLimits};
 ghost use Rattle.muck_io.specs.Faults.{Rose};
-ghost use Rattle.muck_log.specs.File.{after_number};
-ghost use Rattle.muck_log.specs.Store.{LogState, IsMounted};
 ghost use Rattle.muck_model.specs.declared.event.Event.TheVariants.{Cut, Died};
 ghost use Rattle.muck_store.specs.Forms.{world_batch};
 ghost use Rattle.spec_admin.specs.Parameters.{IsInRange};
-ghost use Rattle.spec_dumps.specs.Fronts.{file_most};
-ghost use Rattle.spec_dumps.specs.Holding.{Keeps, Rests};
 ghost use Rattle.spec_events.specs.Histories.{History, now, entered, noted, by_porter};
 ghost use Rattle.spec_events.specs.World.{runs_dump};
 ghost use Rattle.spec_live.specs.Consistent.{IsConsistent};
 ghost use Rattle.muck_script.specs.Story.{dumping};
-ghost use Rattle.muckd.specs.inner.Dumps.{note_of, ending_event, HasRisen, IsMountingFault, Appended, Dumps, DumpsLast};
+ghost use Rattle.muckd.specs.inner.Dumps.{note_of, ending_event, IsMountedIf, DumpsLast};
 ghost use Rattle.muckd.specs.inner.Plays.{PlaysOrBreaks};
 
 use crate::playing::RunFault;
@@ -51,20 +47,14 @@ impl Store {
     }
 
     // Mounts the log again, where a fault left none.
-    #[tactic(auto, unfolding(spec_dumps::specs::Fronts::file_most))]
     fn mount<D: Disk>(
         &mut self,
         alloc: Global,
         first: &mut D,
         second: &mut D,
     ) -> Result<(), LogFault>
-        ensures some { OnOk result (IsSome self.new.log) }
-        ensures none { OnErr result (self.new.log ≡ None) }
-        ensures keeps { (mounted : ℕ) (h : History) → D.tells ≡ true → Rests D.seen D.moment D.images D.faults self.old.log first.old second.old mounted h
-            → Keeps D.seen D.moment D.images D.faults self.new.log first.new second.new mounted h }
-        ensures fault { (mounted : ℕ) (h : History) → D.tells ≡ true → Rests D.seen D.moment D.images D.faults self.old.log first.old second.old mounted h → IfErr result IsMountingFault }
-        ensures risen { (mounted : ℕ) (h : History) → D.tells ≡ true → Rests D.seen D.moment D.images D.faults self.old.log first.old second.old mounted h
-            → IsErrOf result LogFault.DiskFault → HasRisen D.faults first.new second.new h }
+        requires mounted { D.tells ≡ true → IsMountedIf D.seen D.moment D.images self.old.log first.old second.old }
+        ensures mounted { D.tells ≡ true → IsMountedIf D.seen D.moment D.images self.new.log first.new second.new }
         ensures first_later { D.faults first.old ≤ D.faults first.new }
         ensures second_later { D.faults second.old ≤ D.faults second.new }
         ensures cause { IsErrOf result LogFault.DiskFault → Rose (D.faults first.old) (D.faults first.new) ⊎ Rose (D.faults second.old) (D.faults second.new) }
@@ -76,9 +66,7 @@ impl Store {
     }
 
     // The number of the next dump.
-    fn next(&self) -> u64
-        ensures { (log : LogState) → self.now.log ≡ Some log → result ≡ after_number log.chosen.held.number }
-    {
+    fn next(&self) -> u64 {
         match &self.log {
             Some(log) => log.next(),
             None => self.number,
@@ -92,11 +80,10 @@ impl Store {
         second: &mut D,
         batch: &Batch,
     ) -> Result<(), LogFault>
-        requires some { IsSome self.old.log }
         requires few { length batch.now.records < 2 ^ 32 }
         requires lines { HasFewLines batch.now.records }
-        requires mounted { (log : LogState) → D.tells ≡ true → self.old.log ≡ Some log → IsMounted D.seen D.moment D.images log first.old second.old }
-        ensures wrote { (log : LogState) → D.tells ≡ true → self.old.log ≡ Some log → Appended D.seen D.moment D.images batch.now log self.new.log first.old second.old first.new second.new result }
+        requires mounted { D.tells ≡ true → IsMountedIf D.seen D.moment D.images self.old.log first.old second.old }
+        ensures mounted { D.tells ≡ true → IsMountedIf D.seen D.moment D.images self.new.log first.new second.new }
         ensures first_later { D.faults first.old ≤ D.faults first.new }
         ensures second_later { D.faults second.old ≤ D.faults second.new }
         ensures cause { IsErrOf result LogFault.DiskFault → Rose (D.faults first.old) (D.faults first.new) ⊎ Rose (D.faults second.old) (D.faults second.new) }
@@ -176,9 +163,6 @@ fn dump_unmounted<D: Disk>(
     ensures memory { OnErr result (result ≡ Err RunFault.NoMemory) }
     ensures idle { OnOk result ((now world.new).dumps.running ≡ None) }
     ensures same { IfOk result (λ o. o ≡ Some fault) }
-    ensures kept { (mounted : ℕ) → D.tells ≡ true → fault ≡ LogFault.DiskFault → HasRisen D.faults first.now second.now world.old
-        → Keeps D.seen D.moment D.images D.faults store.now.log first.now second.now mounted world.old
-        → Dumps D.seen D.moment D.images D.faults store.now.log first.now second.now mounted world.new result }
 {
     let k = store.next();
     begin_dump(world, first, second, k)?;
@@ -195,14 +179,12 @@ fn dump_mounted<D: Disk>(
 ) -> Result<Option<LogFault>, RunFault>
     requires alive { (now world.old).dead ≡ false }
     requires idle { (now world.old).dumps.running ≡ None }
-    requires some { IsSome store.old.log }
-    requires mounted { D.tells ≡ true → (mounted : ℕ) × Keeps D.seen D.moment D.images D.faults store.old.log first.old second.old mounted world.old }
+    requires mounted { D.tells ≡ true → IsMountedIf D.seen D.moment D.images store.old.log first.old second.old }
+    ensures mounted { D.tells ≡ true → IsMountedIf D.seen D.moment D.images store.new.log first.new second.new }
     ensures plays { (o : Option (List ℕ)) → PlaysOrBreaks dumping world.old world.new o o result }
     ensures last { DumpsLast world.old world.new }
     ensures memory { OnErr result (result ≡ Err RunFault.NoMemory) }
     ensures idle { OnOk result ((now world.new).dumps.running ≡ None) }
-    ensures kept { (mounted : ℕ) → D.tells ≡ true → Keeps D.seen D.moment D.images D.faults store.old.log first.old second.old mounted world.old
-        → Dumps D.seen D.moment D.images D.faults store.new.log first.new second.new mounted world.new result }
     ensures first_later { D.faults first.old ≤ D.faults first.new }
     ensures second_later { D.faults second.old ≤ D.faults second.new }
     ensures cause { IfOk result (λ o. o ≡ Some LogFault.DiskFault → Rose (D.faults first.old) (D.faults first.new) ⊎ Rose (D.faults second.old) (D.faults second.new)) }
@@ -236,13 +218,12 @@ pub fn dump<D: Disk>(
 ) -> Result<Option<LogFault>, RunFault>
     requires alive { (now world.old).dead ≡ false }
     requires idle { (now world.old).dumps.running ≡ None }
-    requires mounted { D.tells ≡ true → (mounted : ℕ) × Rests D.seen D.moment D.images D.faults store.old.log first.old second.old mounted world.old }
+    requires mounted { D.tells ≡ true → IsMountedIf D.seen D.moment D.images store.old.log first.old second.old }
+    ensures mounted { D.tells ≡ true → IsMountedIf D.seen D.moment D.images store.new.log first.new second.new }
     ensures plays { (o : Option (List ℕ)) → PlaysOrBreaks dumping world.old world.new o o result }
     ensures last { DumpsLast world.old world.new }
     ensures memory { OnErr result (result ≡ Err RunFault.NoMemory) }
     ensures idle { OnOk result ((now world.new).dumps.running ≡ None) }
-    ensures kept { (mounted : ℕ) → D.tells ≡ true → Rests D.seen D.moment D.images D.faults store.old.log first.old second.old mounted world.old
-        → Dumps D.seen D.moment D.images D.faults store.new.log first.new second.new mounted world.new result }
     ensures first_later { D.faults first.old ≤ D.faults first.new }
     ensures second_later { D.faults second.old ≤ D.faults second.new }
     ensures cause { IfOk result (λ o. o ≡ Some LogFault.DiskFault → Rose (D.faults first.old) (D.faults first.new) ⊎ Rose (D.faults second.old) (D.faults second.new)) }

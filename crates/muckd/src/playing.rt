@@ -4,8 +4,8 @@ ghost use Rattle.muck_io.specs.Faults.{Rose};
 ghost use Rattle.spec_events.specs.Histories.{now};
 ghost use Rattle.spec_live.specs.Connections.{connections_most};
 ghost use Rattle.muck_script.specs.Story.{acted, turns, turns_most, taken, parted, plain, both, served, asks_dump, asked_dump, line_story, lines_story};
-ghost use Rattle.spec_dumps.specs.Holding.{Quietly, Rests};
-ghost use Rattle.muckd.specs.inner.Dumps.{Held};
+ghost use Rattle.spec_dumps.specs.Holding.{Quietly};
+ghost use Rattle.muckd.specs.inner.Dumps.{IsMountedIf};
 ghost use Rattle.muckd.specs.inner.Plays.{PlaysOrBreaks};
 
 use crate::dumping::{Store, dump};
@@ -247,12 +247,11 @@ fn make_asked<D: Disk>(
 ) -> Result<(), RunFault>
     requires alive { (now world.old).dead ≡ false }
     requires idle { (now world.old).dumps.running ≡ None }
-    requires mounted { D.tells ≡ true → (mounted : ℕ) × Rests D.seen D.moment D.images D.faults store.old.log first.old second.old mounted world.old }
+    requires mounted { D.tells ≡ true → IsMountedIf D.seen D.moment D.images store.old.log first.old second.old }
+    ensures mounted { D.tells ≡ true → IsMountedIf D.seen D.moment D.images store.new.log first.new second.new }
     ensures plays { (o : Option (List ℕ)) → PlaysOrBreaks (asked_dump line.now) world.old world.new o o result }
     ensures memory { OnErr result (result ≡ Err RunFault.NoMemory) }
     ensures idle { OnOk result ((now world.new).dumps.running ≡ None) }
-    ensures kept { (mounted : ℕ) → D.tells ≡ true → Rests D.seen D.moment D.images D.faults store.old.log first.old second.old mounted world.old
-        → Held D.seen D.moment D.images D.faults store.new.log first.new second.new mounted world.new result }
     ensures first_later { D.faults first.old ≤ D.faults first.new }
     ensures second_later { D.faults second.old ≤ D.faults second.new }
 {
@@ -276,15 +275,14 @@ fn play_line<K: Sink, D: Disk>(
     requires room { 131090 ≤ length buf.old }
     requires alive { (now world.old).dead ≡ false }
     requires idle { (now world.old).dumps.running ≡ None }
-    requires mounted { D.tells ≡ true → (mounted : ℕ) × Rests D.seen D.moment D.images D.faults store.old.log first.old second.old mounted world.old }
+    requires mounted { D.tells ≡ true → IsMountedIf D.seen D.moment D.images store.old.log first.old second.old }
+    ensures mounted { D.tells ≡ true → IsMountedIf D.seen D.moment D.images store.new.log first.new second.new }
     ensures plays { PlaysOrBreaks (line_story line.now) world.old world.new (K.written out.old) (K.written out.new) result }
     ensures fine { OnOk result (K.faults out.new ≡ K.faults out.old) }
     ensures later { K.faults out.old ≤ K.faults out.new }
     ensures write { IsErrOf result RunFault.WriteFault → Rose (K.faults out.old) (K.faults out.new) }
     ensures memory { IsErrOf result RunFault.NoMemory → K.faults out.new ≡ K.faults out.old }
     ensures idle { (result ≡ Err RunFault.NoMemory → ⊥) → (now world.new).dumps.running ≡ None }
-    ensures kept { (mounted : ℕ) → D.tells ≡ true → Rests D.seen D.moment D.images D.faults store.old.log first.old second.old mounted world.old
-        → Held D.seen D.moment D.images D.faults store.new.log first.new second.new mounted world.new result }
     ensures first_later { D.faults first.old ≤ D.faults first.new }
     ensures second_later { D.faults second.old ≤ D.faults second.new }
 {
@@ -312,15 +310,14 @@ pub fn play<K: Sink, D: Disk>(
     requires room { 131090 ≤ length buf.old }
     requires alive { (now world.old).dead ≡ false }
     requires idle { (now world.old).dumps.running ≡ None }
-    requires mounted { D.tells ≡ true → (mounted : ℕ) × Rests D.seen D.moment D.images D.faults store.old.log first.old second.old mounted world.old }
+    requires mounted { D.tells ≡ true → IsMountedIf D.seen D.moment D.images store.old.log first.old second.old }
+    ensures mounted { D.tells ≡ true → IsMountedIf D.seen D.moment D.images store.new.log first.new second.new }
     ensures plays { PlaysOrBreaks (lines_story acts.now) world.old world.new (K.written out.old) (K.written out.new) result }
     ensures fine { OnOk result (K.faults out.new ≡ K.faults out.old) }
     ensures later { K.faults out.old ≤ K.faults out.new }
     ensures write { IsErrOf result RunFault.WriteFault → Rose (K.faults out.old) (K.faults out.new) }
     ensures memory { IsErrOf result RunFault.NoMemory → K.faults out.new ≡ K.faults out.old }
     ensures idle { (result ≡ Err RunFault.NoMemory → ⊥) → (now world.new).dumps.running ≡ None }
-    ensures kept { (mounted : ℕ) → D.tells ≡ true → Rests D.seen D.moment D.images D.faults store.old.log first.old second.old mounted world.old
-        → Held D.seen D.moment D.images D.faults store.new.log first.new second.new mounted world.new result }
     ensures first_later { D.faults first.old ≤ D.faults first.new }
     ensures second_later { D.faults second.old ≤ D.faults second.new }
 {

@@ -1,12 +1,11 @@
 // The top call.
 ghost use Rattle.std.specs.Prelude.{◌≡◌, ◌↔◌, ◌⊎◌, ◌++◌, ◌≤◌, ℕ, Bool, true, false, IfOk, IfErr, OnOk, OnErr, IsErrOf, vec_len, map, string_bytes, [], List, Option, Some, None, Ok, Err, codes};
 ghost use Rattle.muck_io.specs.Faults.{Rose};
-ghost use Rattle.muck_log.specs.Store.{Chosen, stored};
+ghost use Rattle.muck_log.specs.Store.{stored};
 ghost use Rattle.spec_events.specs.Histories.{now, Longer};
 ghost use Rattle.muck_log.specs.Mount.{IsMountedAs};
 ghost use Rattle.spec_dumps.specs.Fronts.{file_most};
-ghost use Rattle.spec_dumps.specs.Holding.{Rests};
-ghost use Rattle.muckd.specs.inner.Dumps.{note_of, DumpsLast};
+ghost use Rattle.muckd.specs.inner.Dumps.{note_of, DumpsLast, IsMountedIf};
 ghost use Rattle.muckd.specs.inner.Ends.{why_of, IsMountWhy, MayRefuse, MayEnd, MayEndDump, IsScriptWhy, IsBootable, booted_from, unbegun_from, begun_from, EndsPlay, LastKept, HasPlayed, NeverPlayed};
 ghost use Rattle.muckd.specs.inner.Plays.{PlaysOrBreaks};
 ghost use Rattle.muck_script.specs.Story.{dumping};
@@ -59,9 +58,9 @@ pub fn muckd<S: Source, K: Sink, D: Disk>(
     ensures bad_script { (line : ℕ) → result.why ≡ Why.BadScript line → IsFirstOutside (S.left script.old) line }
 
     // Either nothing happened, and nothing was written; or one history happened, from the world that the two files held: by the lines of
-    // the script, lawfully, and with leave. It says what was written, and what the files hold, whatever a crash leaves of them. The answer
+    // the script, lawfully, and with leave. It says what was written. The answer
     // says which of the two, but for want of memory and faults of the store, which may come before the run and in it.
-    ensures history { EndsAs result.why (IsUnbegun out.old out.new result.tale.entries) (HasBegun S.left S.faults K.written K.faults D.tells D.seen D.moment D.images result.why script.old script.new out.old out.new first.old second.old first.new second.new result.tale.entries result.tale.notes) }
+    ensures history { EndsAs result.why (IsUnbegun out.old out.new result.tale.entries) (HasBegun S.left S.faults K.written K.faults D.tells (D.seen first.old) (D.seen second.old) result.why script.old script.new out.old out.new result.tale.entries) }
 
     // A fault is answered only where that count rose in this call; and where it isn't answered it did not rise, so that the
     // first cause stands.
@@ -71,14 +70,13 @@ pub fn muckd<S: Source, K: Sink, D: Disk>(
     ensures sink_stands { (result.why ≡ Why.WriteFault → ⊥) → K.faults out.new ≡ K.faults out.old }
     ensures disk_fault { result.why ≡ Why.DiskFault → Rose (D.faults first.old) (D.faults first.new) ⊎ Rose (D.faults second.old) (D.faults second.new) }
 
-    // The two files hold no store: the first batch outside the format has its gate at that place of that file.
-    ensures damaged { (file : Bool) (at : ℕ) → D.tells ≡ true → result.why ≡ Why.Damaged file at → stored (D.seen first.old) (D.seen second.old) ≡ Err (record { second = file; at = at }) }
+    // Where nothing happened, the two files hold no store: the first batch outside the format has its gate at that place of that file.
+    ensures damaged { (file : Bool) (at : ℕ) → D.tells ≡ true → result.why ≡ Why.Damaged file at → result.tale.entries ≡ [] → stored (D.seen first.old) (D.seen second.old) ≡ Err (record { second = file; at = at }) }
 
-    // Words of `run`, a store that loads, a script inside the grammar and no count that rose: the work is done, or memory was wanted, or
-    // the last dump would pass what a file may have.
-    ensures complete { (s : Chosen) → is_run (map string_bytes words.now) ≡ true → D.tells ≡ true → stored (D.seen first.old) (D.seen second.old) ≡ Ok s → IsInGrammar (S.left script.old)
+    // Words of `run`, a script inside the grammar and no count that rose: the work is done, or memory was wanted, or the store refused.
+    ensures complete { is_run (map string_bytes words.now) ≡ true → IsInGrammar (S.left script.old)
         → (Rose (S.faults script.old) (S.faults script.new) → ⊥) → (Rose (K.faults out.old) (K.faults out.new) → ⊥) → (Rose (D.faults first.old) (D.faults first.new) → ⊥) → (Rose (D.faults second.old) (D.faults second.new) → ⊥)
-        → (result.why ≡ Why.Fine) ⊎ ((result.why ≡ Why.NoMemory) ⊎ ((end more : ℕ) × (result.why ≡ Why.StoreFull end more))) }
+        → (result.why ≡ Why.Fine) ⊎ ((result.why ≡ Why.NoMemory) ⊎ (((end more : ℕ) × (result.why ≡ Why.StoreFull end more)) ⊎ ((file : Bool) (at : ℕ) × (result.why ≡ Why.Damaged file at)))) }
 {
     let (why, tale) = match store_of(words) {
         Some(name) => run(alloc, name, script, out, first, second),
@@ -186,7 +184,17 @@ fn run<S: Source, K: Sink, D: Disk>(
     out: &mut K,
     first: &mut D,
     second: &mut D,
-) -> (Why, Tale) {
+) -> (Why, Tale)
+    ensures answers { EndsAs result.0 (IsUnbegun out.old out.new result.1.entries) (HasBegun S.left S.faults K.written K.faults D.tells (D.seen first.old) (D.seen second.old) result.0 script.old script.new out.old out.new result.1.entries) }
+    ensures usage { result.0 ≡ Why.Usage → ⊥ }
+    ensures bad_script { (line : ℕ) → result.0 ≡ Why.BadScript line → IsFirstOutside (S.left script.old) line }
+    ensures read { result.0 ≡ Why.ReadFault → Rose (S.faults script.old) (S.faults script.new) }
+    ensures write { result.0 ≡ Why.WriteFault → Rose (K.faults out.old) (K.faults out.new) }
+    ensures source { (result.0 ≡ Why.ReadFault → ⊥) → S.faults script.new ≡ S.faults script.old }
+    ensures sink { (result.0 ≡ Why.WriteFault → ⊥) → K.faults out.new ≡ K.faults out.old }
+    ensures disk { result.0 ≡ Why.DiskFault → Rose (D.faults first.old) (D.faults first.new) ⊎ Rose (D.faults second.old) (D.faults second.new) }
+    ensures damaged { (file : Bool) (at : ℕ) → D.tells ≡ true → result.0 ≡ Why.Damaged file at → result.1.entries ≡ [] → stored (D.seen first.old) (D.seen second.old) ≡ Err (record { second = file; at = at }) }
+{
     let log = match mount(alloc, name, first, second) {
         Ok(log) => log,
         Err(why) => return (why, Tale::none()),
@@ -251,12 +259,10 @@ fn last_dump<D: Disk>(
 ) -> Why
     requires alive { (now world.old).dead ≡ false }
     requires idle { (now world.old).dumps.running ≡ None }
-    requires mounted { D.tells ≡ true → (mounted : ℕ) × Rests D.seen D.moment D.images D.faults store.old.log first.old second.old mounted world.old }
+    requires mounted { D.tells ≡ true → IsMountedIf D.seen D.moment D.images store.old.log first.old second.old }
     ensures plays { (o : Option (List ℕ)) → EndsPlay world.old world.new o result }
     ensures last { DumpsLast world.old world.new }
-    ensures kept { (mounted : ℕ) → D.tells ≡ true → Rests D.seen D.moment D.images D.faults store.old.log first.old second.old mounted world.old
-        → LastKept D.moment D.images first.new second.new mounted world.new result }
-    ensures why { MayEndDump D.tells result }
+    ensures why { MayEndDump result }
     ensures first_later { D.faults first.old ≤ D.faults first.new }
     ensures second_later { D.faults second.old ≤ D.faults second.new }
     ensures cause { result ≡ Why.DiskFault → Rose (D.faults first.old) (D.faults first.new) ⊎ Rose (D.faults second.old) (D.faults second.new) }
@@ -279,8 +285,8 @@ fn run_acts<K: Sink, D: Disk>(
 ) -> (Why, Tale)
     requires mounted { D.tells ≡ true → IsMountedAs D.seen D.moment D.images file_most log first.old second.old }
     requires bootable { IsBootable log.chosen.held.world }
-    ensures ends { NeverPlayed result.0 out.old out.new result.1.entries ⊎ HasPlayed K.written K.faults D.tells D.moment D.images log result.0 acts.now out.old out.new first.new second.new result.1.entries result.1.notes }
-    ensures why { MayEnd D.tells result.0 }
+    ensures ends { NeverPlayed result.0 out.old out.new result.1.entries ⊎ HasPlayed K.written K.faults log result.0 acts.now out.old out.new result.1.entries }
+    ensures why { MayEnd result.0 }
     ensures write { result.0 ≡ Why.WriteFault → Rose (K.faults out.old) (K.faults out.new) }
     ensures stands { (result.0 ≡ Why.WriteFault → ⊥) → K.faults out.new ≡ K.faults out.old }
     ensures first_later { D.faults first.old ≤ D.faults first.new }

@@ -68,13 +68,9 @@ abbrev pub booted_from : Kept → World
 booted_from kept = booted (loaded kept.objects) kept.tune 0 0
 
 -- A run on the log that was mounted.
-pub record HasPlayed {K D : Type 0} (written : K → Option (List ℕ)) (breaks : K → ℕ) (tells : Bool) (moment : D → ℕ) (images : D → ℕ → List ℕ → Type 0) (log : LogState) (why : Why) (acts : List Act)
-    (k l : K) (first second : D) (tale : List Entry) (notes : List Note) : Type 0 where
+pub record HasPlayed {K : Type 0} (written : K → Option (List ℕ)) (breaks : K → ℕ) (log : LogState) (why : Why) (acts : List Act) (k l : K) (tale : List Entry) : Type 0 where
   pub lawful : AllLawful (booted_from log.chosen.held.world) tale
   pub run : HasRun written breaks (booted_from log.chosen.held.world) why acts k l tale
-  pub safe : tells ≡ true → IsSafe moment images first second (booted_from log.chosen.held.world) log.chosen.held.number tale notes
-  pub whole : tells ≡ true → why ≡ Fine → StandsWhole moment images first second (booted_from log.chosen.held.world) tale
-  pub full : (end more : ℕ) → tells ≡ true → why ≡ StoreFull end more → IsFull log.chosen.held.number (record { start = booted_from log.chosen.held.world; entries = tale; notes = notes }) end more
 
 -- memory was wanted before it began
 pub record NeverPlayed {K : Type 0} (why : Why) (k l : K) (tale : List Entry) : Type 0 where
@@ -82,14 +78,14 @@ pub record NeverPlayed {K : Type 0} (why : Why) (k l : K) (tale : List Entry) : 
   pub unbegun : IsUnbegun k l tale
 
 -- why a run ends that began
-abbrev pub MayEnd : Bool → Why → Type 0
-MayEnd tells Fine = Unit {0}
-MayEnd tells NoMemory = Unit {0}
-MayEnd tells WriteFault = Unit {0}
-MayEnd tells DiskFault = Unit {0}
-MayEnd tells (StoreFull end more) = Unit {0}
-MayEnd tells (Damaged second at) = tells ≡ true → ⊥
-MayEnd tells why = ⊥
+abbrev pub MayEnd : Why → Type 0
+MayEnd Fine = Unit {0}
+MayEnd NoMemory = Unit {0}
+MayEnd WriteFault = Unit {0}
+MayEnd DiskFault = Unit {0}
+MayEnd (StoreFull end more) = Unit {0}
+MayEnd (Damaged second at) = Unit {0}
+MayEnd why = ⊥
 
 -- before anything was noted, and with the note of the mounting
 abbrev pub unbegun_from : LogState → History
@@ -103,17 +99,11 @@ abbrev pub EndsPlay : History → History → Option (List ℕ) → Why → Type
 EndsPlay h k o NoMemory = Breaks dumping (by_porter Died ∷ []) h k o o
 EndsPlay h k o why = Plays dumping h k o o
 
--- What is kept of both disks behind the last dump.
-pub record LastKept {D : Type 0} (moment : D → ℕ) (images : D → ℕ → List ℕ → Type 0) (first second : D) (mounted : ℕ) (h : History) (why : Why) : Type 0 where
-  pub safe : IsSafe moment images first second h.start mounted h.entries h.notes
-  pub whole : why ≡ Fine → StandsWhole moment images first second h.start h.entries
-  pub full : (end more : ℕ) → why ≡ StoreFull end more → IsFull mounted h end more
-
 -- why a last dump lets a run end that was played whole
-abbrev pub MayEndDump : Bool → Why → Type 0
-MayEndDump tells Fine = Unit {0}
-MayEndDump tells NoMemory = Unit {0}
-MayEndDump tells DiskFault = Unit {0}
-MayEndDump tells (StoreFull end more) = Unit {0}
-MayEndDump tells (Damaged second at) = tells ≡ true → ⊥
-MayEndDump tells why = ⊥
+abbrev pub MayEndDump : Why → Type 0
+MayEndDump Fine = Unit {0}
+MayEndDump NoMemory = Unit {0}
+MayEndDump DiskFault = Unit {0}
+MayEndDump (StoreFull end more) = Unit {0}
+MayEndDump (Damaged second at) = Unit {0}
+MayEndDump why = ⊥
