@@ -10,3 +10,7 @@ pub mod Records
 pub mod Dumpings
 pub mod Dumped
 pub mod Ending
+pub mod Started
+pub mod Closing
+pub mod Played
+pub mod Called
