@@ -139,7 +139,7 @@ fn attach<D: Disk>(alloc: Global, store: &str, first: &mut D, second: &mut D) ->
 }
 
 // Opens both files and mounts the store that they hold.
-#[tactic(auto, unfolding(spec_dumps::specs::Fronts::file_most))]
+#[tactic(auto, unfolding(spec_dumps::specs::Fronts::file_most), using(crate::proofs::Started::bootable, crate::proofs::Called::opens_told, crate::proofs::Called::opens_may, crate::proofs::Called::mount_told))]
 fn mount<D: Disk>(alloc: Global, store: &str, first: &mut D, second: &mut D) -> Result<Log, Why>
     ensures log { D.tells ≡ true → IfOk result (λ log. IsMountedAs D.seen D.moment D.images file_most log first.new second.new) }
     ensures bootable { IfOk result (λ log. IsBootable log.chosen.held.world) }
@@ -217,6 +217,7 @@ fn buffer(alloc: Global) -> Result<Vec<u8>, AllocError>
 }
 
 // The world of what a store holds, in which nothing has happened yet.
+#[tactic(auto, using(crate::proofs::Started::in_range, crate::proofs::Started::properties))]
 fn boot(alloc: Global, kept: &Kept) -> Result<World, NoMemory>
     requires { IsBootable kept.now }
     ensures { IfOk result (λ w. w ≡ record { start = booted_from kept.now; entries = []; notes = [] }) }
@@ -227,6 +228,7 @@ fn boot(alloc: Global, kept: &Kept) -> Result<World, NoMemory>
 }
 
 // The world of a run that is to begin, and room for a whole queue.
+#[tactic(auto, using(crate::proofs::Started::properties))]
 fn begin<D: Disk>(
     alloc: Global,
     log: &Log,
