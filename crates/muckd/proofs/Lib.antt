@@ -10,3 +10,4 @@ pub mod Records
 pub mod Dumpings
 pub mod Dumped
 pub mod Ending
+pub mod Lining

@@ -1,5 +1,8 @@
 use Rattle.std.proofs.Common.{refl, sym, ◌∙◌, arith}
 use Rattle.muck_script.specs.Story.{lines_story}
+use Rattle.spec_dumps.proofs.Quiet.{quiet_one}
+use Rattle.spec_dumps.proofs.Idle.{idle_quiet}
+use Rattle.muckd.proofs.Lining.{held_resting, held_quiet}
 use Rattle.muckd.proofs.Towards.{towards_begins, playing_stopped, playing_goes_on, playing_halted, playing_breaks}
 use Rattle.muckd.proofs.playing.play.Goals as goal
 
@@ -43,3 +46,21 @@ returns-then-not-is_stopping-clause-plays g c =
 pub returns-else-not-is_stopping-clause-plays : goal.returns-else-not-is_stopping-clause-plays
 returns-else-not-is_stopping-clause-plays g c =
     playing_stopped _ _ _ _ _ _ c.loop-act.invariant.playing (sym (c.is_stopping-2.ensures c.loop-act.invariant.playing.alive) ∙ c.if-not-is_stopping.false)
+
+-- what is kept of the disks
+
+pub returns-in_err-play_line-clause-kept : goal.returns-in_err-play_line-clause-kept
+returns-in_err-play_line-clause-kept g c = λ mounted tells r. c.in_err-play_line.ensures.kept mounted tells (c.loop-act.invariant.rests mounted tells r)
+
+pub returns-then-is_stopping-clause-kept : goal.returns-then-is_stopping-clause-kept
+returns-then-is_stopping-clause-kept g c = λ mounted tells r. held_resting _ _ _ _ _ _ _ mounted _ _ (c.loop-act.invariant.rests mounted tells r)
+
+pub returns-then-not-is_stopping-clause-kept : goal.returns-then-not-is_stopping-clause-kept
+returns-then-not-is_stopping-clause-kept g c =
+    λ mounted tells r. held_quiet _ _ _ _ _ _ _ mounted _ _ _ (quiet_one _ _ _ refl c.halt.ensures) (c.loop-act.invariant.rests mounted tells r)
+
+pub returns-then-not-is_stopping-clause-idle : goal.returns-then-not-is_stopping-clause-idle
+returns-then-not-is_stopping-clause-idle g c = λ other. idle_quiet _ _ (quiet_one _ _ _ refl c.halt.ensures) c.loop-act.invariant.idle
+
+pub returns-else-not-is_stopping-clause-kept : goal.returns-else-not-is_stopping-clause-kept
+returns-else-not-is_stopping-clause-kept g c = λ mounted tells r. held_resting _ _ _ _ _ _ _ mounted _ _ (c.loop-act.invariant.rests mounted tells r)
