@@ -1,0 +1,17 @@
+pub mod Acts
+pub mod Inside
+pub mod Items
+pub mod Joins
+pub mod Lengths
+pub mod Maps
+pub mod Mapped
+pub mod Numbers
+pub mod Parts
+pub mod Pieces
+pub mod Places
+pub mod Positions
+pub mod Replacing
+pub mod Spelling
+pub mod Thinking
+pub mod Turns
+pub mod Worked
