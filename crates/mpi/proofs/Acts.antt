@@ -96,7 +96,7 @@ module _ {S : Type 0} (scene : Scene S) where
   -- no number is drawn below 1
   pub nothing_drawn : (n : ℤ) (s : State S) (text : List ℕ) → int_lt n (pos 1) ≡ true → text ≡ 48 ∷ [] → Thinks (diced scene n) s s (Ok text)
   unfolding diced
-  nothing_drawn n s text low e = rw low (ap (λ t. (Ok t, s)) (sym e))
+  nothing_drawn n s text low e = ap (λ b. cond b (gives (48 ∷ [])) (drawn scene n) s) low ∙ ap (λ t. (Ok t, s)) (sym e)
 
   -- a number that is drawn
   pub number_drawn : (n : ℤ) (m : Mind) (w v : S) (word : ℕ) (text : List ℕ) → int_lt n (pos 1) ≡ false → scene.powers.draws w ≡ (word, v) → text ≡ signed_decimal (rolled n word)
@@ -104,4 +104,4 @@ module _ {S : Type 0} (scene : Scene S) where
   unfolding diced
   number_drawn n m w v word text high h e =
       let drawn_is : drawn scene n (m, w) ≡ (Ok (signed_decimal (rolled n word)), (m, v)) = λ i. (Ok (signed_decimal (rolled n (h i).0)), (m, (h i).1)) in
-      rw high (drawn_is ∙ ap (λ t. (Ok t, (m, v))) (sym e))
+      ap (λ b. cond b (gives (48 ∷ [])) (drawn scene n) (m, w)) high ∙ drawn_is ∙ ap (λ t. (Ok t, (m, v))) (sym e)

@@ -52,7 +52,7 @@ items_are_texts xs h = texts_if (length xs) (items xs) (text_short xs h) (items_
 
 no_fault : (o : Option ℕ) → is_none o ≡ true → o ≡ None
 no_fault None h = refl
-no_fault (Some n) h = cc
+no_fault (Some n) h = absurd (let k : false ≡ true = h in cc)
 
 -- each of a list whose texts all are
 pub text_there : (texts : List (List ℕ)) (i : ℕ) (d : List ℕ) → list_all is_text texts ≡ true → i < length texts → text_fault (get_or texts i d) ≡ None

@@ -1,4 +1,5 @@
 pub mod Acts
+pub mod Evaluations
 pub mod Inside
 pub mod Items
 pub mod Joins

@@ -1,5 +1,5 @@
 -- What the functions of texts make of texts has the bytes that a text may have.
-use Rattle.std.proofs.Common.{◌≡◌, ℕ, ◌+◌, ◌-◌, ◌<◌, ◌≤◌, ◌^◌, zero, suc, Bool, true, false, cond, List, [], ◌∷◌, ◌++◌, length, map, take, drop, Some, None, refl, inl, inr, arith, ap, sym, ◌∙◌}
+use Rattle.std.proofs.Common.{◌≡◌, ℕ, ◌+◌, ◌-◌, ◌<◌, ◌≤◌, ◌^◌, zero, suc, Bool, true, false, cond, List, [], ◌∷◌, ◌++◌, length, map, take, drop, Some, None, refl, inl, inr, arith, ap, sym, subst, ◌∙◌}
 use Rattle.std.specs.Prelude.{not, ◌&&◌, ◌==◌, reverse, decimal, ℤ}
 use Rattle.std.specs.Char.{to_ascii_lowercase, to_ascii_uppercase}
 use Rattle.std.specs.List.{list_all, slice_split, onto_first, join_with_byte}
@@ -44,7 +44,7 @@ inside_reverse : (xs : List ℕ) → Inside xs → Inside (reverse xs)
 inside_reverse [] h = refl
 inside_reverse (x ∷ xs) h =
     let e : reverse (x ∷ xs) ≡ reverse xs ++ x ∷ [] = reverse-append (x ∷ []) xs in
-    rw e (all_append is_inside (reverse xs) (x ∷ []) (inside_reverse xs (all_tail is_inside x xs h)) (all_cons is_inside x [] (all_head is_inside x xs h) refl))
+    subst (λ ys. Inside ys) (sym e) (all_append is_inside (reverse xs) (x ∷ []) (inside_reverse xs (all_tail is_inside x xs h)) (all_cons is_inside x [] (all_head is_inside x xs h) refl))
 
 inside_past : (xs : List ℕ) → Inside xs → Inside (past_spaces xs)
 unfolding past_spaces
@@ -57,7 +57,7 @@ inside_past (x ∷ xs) h =
 
 pub inside_stripped : (xs : List ℕ) → text_fault xs ≡ None → Inside (stripped xs)
 unfolding stripped
-inside_stripped xs h = inside_reverse _ (inside_past _ (inside_reverse _ (inside_past xs (text_inside xs h))))
+inside_stripped xs h = inside_reverse (past_spaces (reverse (past_spaces xs))) (inside_past (reverse (past_spaces xs)) (inside_reverse (past_spaces xs) (inside_past xs (text_inside xs h))))
 
 -- the parts of a list, each of which may stand in a text
 abbrev all_inside : List (List ℕ) → Bool

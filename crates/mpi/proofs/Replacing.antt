@@ -1,18 +1,13 @@
 -- Texts in which one part takes the place of another.
 use Rattle.std.proofs.Common.{◌≡◌, ℕ, ◌+◌, ◌-◌, ◌<◌, ◌≤◌, zero, suc, Bool, true, false, cond, List, [], ◌∷◌, ◌++◌, length, get_or, drop, Some, None, refl, sym, subst, ap, ◌∙◌, arith, append_assoc, add-one}
 use Rattle.std.proofs.Math.Seq.{drop-cons}
-use Rattle.std.proofs.lemmas.List.{drop_all, append-nil}
+use Rattle.std.proofs.lemmas.List.{drop_all, drop-drop, append-nil}
 use Rattle.std.specs.Prelude.{Ok, Err}
 use Rattle.mpi.specs.declared.fault.MpiFault.{MpiFault}
 use Rattle.mpi.specs.Hosting.{Means}
 use Rattle.mpi.specs.Made.{is_long, text_or_long, IsGrown}
 use Rattle.mpi.specs.Values.{begins_with, replaced, substituted}
 use Rattle.mpi.proofs.Lengths.{is_short, front_long, long_fails, made_whole}
-
-drop_more : (n m : ℕ) (xs : List ℕ) → drop m (drop n xs) ≡ drop (n + m) xs
-drop_more zero m xs = ap (λ k. drop k xs) (let e : m ≡ 0 + m = omega arith in e)
-drop_more (suc n) m [] = drop_all m [] (omega arith) ∙ sym (drop_all (suc n + m) [] (omega arith))
-drop_more (suc n) m (x ∷ xs) = drop_more n m xs ∙ ap (λ k. drop k (x ∷ xs)) (let e : suc (n + m) ≡ suc n + m = omega arith in e)
 
 skipped : (old new : List ℕ) (n : ℕ) (xs : List ℕ) → replaced old new n xs ≡ replaced old new 0 (drop n xs)
 unfolding replaced
@@ -22,11 +17,11 @@ skipped old new (suc n) (x ∷ xs) = skipped old new n xs
 
 first_here : (old new : List ℕ) (b : ℕ) (more : List ℕ) → begins_with (b ∷ more) old ≡ true → replaced old new 0 (b ∷ more) ≡ new ++ replaced old new (length old - 1) more
 unfolding replaced
-first_here old new b more h = rw h refl
+first_here old new b more h = ap (λ t. cond t (new ++ replaced old new (length old - 1) more) (b ∷ replaced old new 0 more)) h
 
 first_other : (old new : List ℕ) (b : ℕ) (more : List ℕ) → begins_with (b ∷ more) old ≡ false → replaced old new 0 (b ∷ more) ≡ b ∷ replaced old new 0 more
 unfolding replaced
-first_other old new b more h = rw h refl
+first_other old new b more h = ap (λ t. cond t (new ++ replaced old new (length old - 1) more) (b ∷ replaced old new 0 more)) h
 
 -- a part that stands at a place
 pub replaced_here : (old new text : List ℕ) (at : ℕ) → at < length text → 0 < length old → begins_with (drop at text) old ≡ true
@@ -38,7 +33,7 @@ replaced_here old new text at less some h =
     ∙ first_here old new (get_or text at 0) (drop (suc at) text) there
     ∙ ap (λ xs. new ++ xs)
     (skipped old new (length old - 1) (drop (suc at) text)
-    ∙ ap (λ xs. replaced old new 0 xs) (drop_more (suc at) (length old - 1) text ∙ ap (λ k. drop k text) (let k : suc at + (length old - 1) ≡ at + length old = omega (arith, some) in k)))
+    ∙ ap (λ xs. replaced old new 0 xs) (drop-drop (length old - 1) (suc at) text ∙ ap (λ k. drop k text) (let k : suc at + (length old - 1) ≡ at + length old = omega (arith, some) in k)))
 
 -- a byte that stays
 pub replaced_other : (old new text : List ℕ) (at : ℕ) → at < length text → begins_with (drop at text) old ≡ false

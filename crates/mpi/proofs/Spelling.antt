@@ -32,10 +32,10 @@ module _ {S : Type 0} (go : List ℕ → Thought S (List ℕ)) where
   ahead out first more rest p s e = ap (λ ps. spelled go out ps s) (pieces_ahead first more ∙ (λ i. (sym e i).0 ∷ pieces (sym e i).1))
 
   fits : (out value : List ℕ) (ps : List Piece) (s : State S) → is_long (out ++ value) ≡ false → behind_piece out ps value s ≡ spelled go (out ++ value) ps s
-  fits out value ps s short = rw short refl
+  fits out value ps s short = ap (λ t. cond t (fails TooLong) (spelled go (out ++ value) ps) s) short
 
   breaks : (out value : List ℕ) (ps : List Piece) (s : State S) → is_long (out ++ value) ≡ true → behind_piece out ps value s ≡ (Err TooLong, s)
-  breaks out value ps s long = rw long refl
+  breaks out value ps s long = ap (λ t. cond t (fails TooLong) (spelled go (out ++ value) ps) s) long
 
   pub spelled_end : (out : List ℕ) (s : State S) → spelled go out (pieces []) s ≡ (Ok out, s)
   unfolding spelled pieces_up_to

@@ -80,11 +80,11 @@ module _ {S : Type 0} (go : List ℕ → Thought S (List ℕ)) where
 
   pub until_more : (wanted : Bool) (rest more : List (List ℕ)) (text value : List ℕ) (s t : State S) → rest ≡ text ∷ more → go text s ≡ (Ok value, t)
       → alike (is_true value) wanted ≡ false → until wanted go rest s ≡ until wanted go more t
-  until_more wanted rest more text value s t e h other = until_first wanted rest more text value s t e h ∙ (let k : behind_test wanted more value t ≡ until wanted go more t = rw other refl in k)
+  until_more wanted rest more text value s t e h other = until_first wanted rest more text value s t e h ∙ ap (λ b. cond b (gives (truth wanted)) (until wanted go more) t) other
 
   pub until_known : (wanted : Bool) (rest more : List (List ℕ)) (text value : List ℕ) (s t : State S) → rest ≡ text ∷ more → go text s ≡ (Ok value, t)
       → alike (is_true value) wanted ≡ true → until wanted go rest s ≡ (Ok (truth wanted), t)
-  until_known wanted rest more text value s t e h same = until_first wanted rest more text value s t e h ∙ (let k : behind_test wanted more value t ≡ (Ok (truth wanted), t) = rw same refl in k)
+  until_known wanted rest more text value s t e h same = until_first wanted rest more text value s t e h ∙ ap (λ b. cond b (gives (truth wanted)) (until wanted go more) t) same
 
   pub until_fails : (wanted : Bool) (rest more : List (List ℕ)) (text : List ℕ) (s t : State S) (f : MpiFault) → rest ≡ text ∷ more → Thinks (go text) s t (Err f)
       → Thinks (until wanted go rest) s t (Err f)
@@ -103,7 +103,7 @@ module _ {S : Type 0} (go : List ℕ → Thought S (List ℕ)) where
   turn n test body last value = if is_true value then followed (counted (go body)) (behind_body n test body) else gives last
 
   turn_true : (n : ℕ) (test body last value : List ℕ) (s : State S) → is_true value ≡ true → turn n test body last value s ≡ followed (counted (go body)) (behind_body n test body) s
-  turn_true n test body last value s h = rw h refl
+  turn_true n test body last value s h = ap (λ b. cond b (followed (counted (go body)) (behind_body n test body)) (gives last) s) h
 
   while_first : (n : ℕ) (test body last value : List ℕ) (s t : State S) → go test s ≡ (Ok value, t) → turns_while (suc n) go test body last s ≡ turn n test body last value t
   unfolding turns_while
@@ -111,7 +111,7 @@ module _ {S : Type 0} (go : List ℕ → Thought S (List ℕ)) where
 
   pub while_stops : (n : ℕ) (test body last value : List ℕ) (s t : State S) → go test s ≡ (Ok value, t) → is_true value ≡ false
       → turns_while (suc n) go test body last s ≡ (Ok last, t)
-  while_stops n test body last value s t h no = while_first n test body last value s t h ∙ (let k : turn n test body last value t ≡ (Ok last, t) = rw no refl in k)
+  while_stops n test body last value s t h no = while_first n test body last value s t h ∙ ap (λ b. cond b (followed (counted (go body)) (behind_body n test body)) (gives last) t) no
 
   pub while_turns : (n : ℕ) (test body last value text : List ℕ) (s t u : State S) (m : Mind) → go test s ≡ (Ok value, t) → is_true value ≡ true
       → OnMind one_less t.0 m (Ok tt) → go body (m, t.1) ≡ (Ok text, u) → turns_while (suc n) go test body last s ≡ turns_while n go test body text u
@@ -152,7 +152,7 @@ module _ {S : Type 0} (go : List ℕ → Thought S (List ℕ)) where
   for_first : (n : ℕ) (name body : List ℕ) (end step i : ℤ) (last : List ℕ) (s : State S) → is_within i end step ≡ true
       → turns_for (suc n) go name body end step (Some i) last s ≡ followed (counted (with_number name body i)) (behind_number n name body end step i) s
   unfolding turns_for
-  for_first n name body end step i last s yes = rw yes refl
+  for_first n name body end step i last s yes = ap (λ b. cond b (followed (counted (with_number name body i)) (behind_number n name body end step i)) (gives last) s) yes
 
   pub for_past : (n : ℕ) (name body : List ℕ) (end step : ℤ) (last : List ℕ) (s : State S) → turns_for (suc n) go name body end step None last s ≡ (Ok last, s)
   unfolding turns_for
@@ -161,7 +161,7 @@ module _ {S : Type 0} (go : List ℕ → Thought S (List ℕ)) where
   pub for_stops : (n : ℕ) (name body : List ℕ) (end step i : ℤ) (last : List ℕ) (s : State S) → is_within i end step ≡ false
       → turns_for (suc n) go name body end step (Some i) last s ≡ (Ok last, s)
   unfolding turns_for
-  for_stops n name body end step i last s no = rw no refl
+  for_stops n name body end step i last s no = ap (λ b. cond b (followed (counted (with_number name body i)) (behind_number n name body end step i)) (gives last) s) no
 
   pub for_turns : (n : ℕ) (name body : List ℕ) (end step i : ℤ) (last text : List ℕ) (s u : State S) (m : Mind) → is_within i end step ≡ true
       → OnMind one_less s.0 m (Ok tt) → go body (with_value name (signed_decimal i) m, s.1) ≡ (Ok text, u)
@@ -216,13 +216,13 @@ module _ {S : Type 0} (go : List ℕ → Thought S (List ℕ)) where
       → each_item f go name body list rest s ≡ each_item f go name body (kept_of f list item text) more u
   item_more f name body list rest more item text s u e b short =
       item_first f name body list rest more item text s u e b
-      ∙ (let k : behind_item f name body list item more text u ≡ each_item f go name body (kept_of f list item text) more u = rw short refl in k)
+      ∙ ap (λ b. cond b (fails TooLong) (each_item f go name body (kept_of f list item text) more) u) short
 
   pub item_long : (f : Function) (name body : List ℕ) (list : Option (List ℕ)) (rest more : List (List ℕ)) (item text : List ℕ) (s u : State S) → rest ≡ item ∷ more
       → go body (with_value name item s.0, s.1) ≡ (Ok text, u) → is_long (as_text (kept_of f list item text)) ≡ true → each_item f go name body list rest s ≡ (Err TooLong, u)
   item_long f name body list rest more item text s u e b long =
       item_first f name body list rest more item text s u e b
-      ∙ (let k : behind_item f name body list item more text u ≡ (Err TooLong, u) = rw long refl in k)
+      ∙ ap (λ b. cond b (fails TooLong) (each_item f go name body (kept_of f list item text) more) u) long
 
   pub item_fails : (f : Function) (name body : List ℕ) (list : Option (List ℕ)) (rest more : List (List ℕ)) (item : List ℕ) (s u : State S) (fault : MpiFault) → rest ≡ item ∷ more
       → Thinks (go body) (with_value name item s.0, s.1) u (Err fault) → Thinks (each_item f go name body list rest) s u (Err fault)

@@ -159,11 +159,13 @@ fn number_answer<H: Host>(
     ensures { Means (found_or_bad (number_answer function (scene_of H.powers place.this) values.now (H.seen host.now))) result }
 {
     let object = object_at(place, host, place.this, 0, values)?;
-    if function == Function::Ref {
-        return Ok(reference(place.alloc, object)?);
+    match function {
+        Function::Ref => Ok(reference(place.alloc, object)?),
+        _ => {
+            let other = object_at(place, host, place.this, 1, values)?;
+            Ok(truth(place.alloc, object == other)?)
+        }
     }
-    let other = object_at(place, host, place.this, 1, values)?;
-    Ok(truth(place.alloc, object == other)?)
 }
 
 // A random number up to n; none is drawn where n is below 1.

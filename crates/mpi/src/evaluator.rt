@@ -152,20 +152,20 @@ fn function<H: Host>(
     if !function.takes(texts.len()) {
         return Err(MpiFault::BadCount);
     }
-    if function.group() != Group::Lazy {
-        let values = values_of(place, host, mind, deeper, &texts)?;
-        return act(place, host, mind, function, &values);
+    if let Group::Lazy = function.group() {
+        return match function {
+            Function::Literal => Ok(Line::of_text(alloc, behind.unwrap_or(&[]))?),
+            Function::With => with_variable(place, host, mind, deeper, &texts),
+            Function::If => chosen(place, host, mind, deeper, &texts),
+            Function::And => until(place, host, mind, deeper, false, &texts),
+            Function::Or => until(place, host, mind, deeper, true, &texts),
+            Function::While => while_true(place, host, mind, deeper, &texts),
+            Function::For => for_numbers(place, host, mind, deeper, &texts),
+            _ => for_items(place, host, mind, deeper, function, &texts),
+        };
     }
-    match function {
-        Function::Literal => Ok(Line::of_text(alloc, behind.unwrap_or(&[]))?),
-        Function::With => with_variable(place, host, mind, deeper, &texts),
-        Function::If => chosen(place, host, mind, deeper, &texts),
-        Function::And => until(place, host, mind, deeper, false, &texts),
-        Function::Or => until(place, host, mind, deeper, true, &texts),
-        Function::While => while_true(place, host, mind, deeper, &texts),
-        Function::For => for_numbers(place, host, mind, deeper, &texts),
-        _ => for_items(place, host, mind, deeper, function, &texts),
-    }
+    let values = values_of(place, host, mind, deeper, &texts)?;
+    act(place, host, mind, function, &values)
 }
 
 // The values of the arguments, from left to right.
