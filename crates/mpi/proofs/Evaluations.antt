@@ -29,19 +29,19 @@ starts vars left = record { variables = vars; left = left }
 balanced_is : {S : Type 0} (scene : Scene S) (text : List ℕ) (vars : Variables) (w : S) → balances begun text ≡ true
     → evaluated scene text (starts vars 0, w) ≡ meaning scene 64 text (starts vars (scene.powers.most w), w)
 unfolding evaluated nesting_most
-balanced_is scene text vars w yes = ap (λ b. cond b (meaning scene 64 text (starts vars (scene.powers.most w), w)) (Err Unclosed, (starts vars 0, w))) yes
+balanced_is scene text vars w holds = ap (λ b. cond b (meaning scene 64 text (starts vars (scene.powers.most w), w)) (Err Unclosed, (starts vars 0, w))) holds
 
 unclosed_is : {S : Type 0} (scene : Scene S) (text : List ℕ) (vars : Variables) (w : S) → balances begun text ≡ false
     → evaluated scene text (starts vars 0, w) ≡ (Err Unclosed, (starts vars 0, w))
 unfolding evaluated
-unclosed_is scene text vars w no = ap (λ b. cond b (meaning scene nesting_most text (starts vars (scene.powers.most w), w)) (Err Unclosed, (starts vars 0, w))) no
+unclosed_is scene text vars w fails_it = ap (λ b. cond b (meaning scene nesting_most text (starts vars (scene.powers.most w), w)) (Err Unclosed, (starts vars 0, w))) fails_it
 
 -- a text that balances
 pub balanced_means : {S : Type 0} (scene : Scene S) (text : List ℕ) (vars : Variables) (w v : S) (m : Mind) (r : Result (List ℕ) MpiFault) → balances begun text ≡ true
     → Comes (meaning scene 64 text (starts vars (scene.powers.most w), w)) (m, v) r → Evaluates scene text vars w m.variables v r
-balanced_means scene text vars w v m r yes h =
-    ends (evaluated scene text (starts vars 0, w)) m v r (subst (λ x. Comes x (m, v) r) (sym (balanced_is scene text vars w yes)) h)
+balanced_means scene text vars w v m r holds h =
+    ends (evaluated scene text (starts vars 0, w)) m v r (subst (λ x. Comes x (m, v) r) (sym (balanced_is scene text vars w holds)) h)
 
 -- a text that doesn't
 pub unclosed_means : {S : Type 0} (scene : Scene S) (text : List ℕ) (vars : Variables) (w : S) → balances begun text ≡ false → Evaluates scene text vars w vars w (Err Unclosed)
-unclosed_means scene text vars w no = ends (evaluated scene text (starts vars 0, w)) (starts vars 0) w (Err Unclosed) (unclosed_is scene text vars w no)
+unclosed_means scene text vars w fails_it = ends (evaluated scene text (starts vars 0, w)) (starts vars 0) w (Err Unclosed) (unclosed_is scene text vars w fails_it)

@@ -10,7 +10,7 @@ use Rattle.std.specs.List.{list_all, position_or_len, prefix_len}
 use Rattle.std.proofs.lemmas.Bool.{le-ltb, lt-ltb, cases_lt, false≢true}
 use Rattle.std.proofs.lemmas.List.{length-take, length-drop}
 use Rattle.std.proofs.lemmas.List.Sums.{prefix_len-le-length}
-use Rattle.muck_model.specs.Bytes.{is_outside, text_most, fault_of, text_fault}
+use Rattle.muck_model.specs.Bytes.{is_outside, fault_of, text_fault}
 use Rattle.mpi.specs.Made.{Inside}
 
 abbrev pub is_inside : ℕ → Bool
@@ -61,7 +61,6 @@ all_drop p (suc n) (x ∷ xs) h =
 
 -- enough bytes and none too many are a text
 pub made_is_text : (xs : List ℕ) → Inside xs → length xs ≤ 4096 → text_fault xs ≡ None
-unfolding text_most
 made_is_text xs h le =
     let e = all_prefix is_inside xs h in
     rw (le-ltb (position_or_len is_outside xs) (length xs) (omega (arith, e)), le-ltb 4096 (length xs) le) refl
@@ -75,7 +74,6 @@ text_inside xs h =
     ]
 
 pub text_short : (xs : List ℕ) → text_fault xs ≡ None → length xs ≤ 4096
-unfolding text_most
 text_short xs h =
     elim (cases_lt 4096 (length xs)) [
       | inl long ↦ absurd (

@@ -2,7 +2,7 @@
 use Rattle.std.proofs.Common.{◌≡◌, ℕ, ◌+◌, ◌-◌, ◌<◌, ◌≤◌, zero, suc, Bool, true, false, cond, List, [], ◌∷◌, ◌++◌, length, take, drop, refl, sym, subst, ap, ◌∙◌, arith, append_assoc, length-append}
 use Rattle.std.specs.Prelude.{Result, Ok, Err, Option, Some, None, IfSome}
 use Rattle.std.proofs.lemmas.Bool.{ltb-true, ltb-false, lt-ltb, le-ltb}
-use Rattle.muck_model.specs.Bytes.{text_most, text_fault}
+use Rattle.muck_model.specs.Bytes.{text_fault}
 use Rattle.mpi.specs.declared.fault.MpiFault.{MpiFault}
 use Rattle.mpi.specs.declared.fault.MpiFault.TheVariants.{Unclosed, UnknownFunction, BadCount, BadValue, TooManyCommands, TooLong, Denied, NoMemory}
 use Rattle.mpi.specs.Gathering.{as_text, list_or_long, longer}
@@ -11,19 +11,19 @@ use Rattle.mpi.specs.Made.{Inside, is_long, text_or_long, IsGrown}
 use Rattle.mpi.proofs.Inside.{text_inside, inside_more, made_is_text, text_short}
 
 pub short_length : (xs : List ℕ) → is_long xs ≡ false → length xs ≤ 4096
-unfolding is_long text_most
+unfolding is_long
 short_length xs h = omega (arith, ltb-false 4096 (length xs) h)
 
 pub is_short : (xs : List ℕ) → length xs ≤ 4096 → is_long xs ≡ false
-unfolding is_long text_most
+unfolding is_long
 is_short xs h = le-ltb 4096 (length xs) h
 
 long_length : (xs : List ℕ) → is_long xs ≡ true → 4096 < length xs
-unfolding is_long text_most
+unfolding is_long
 long_length xs h = ltb-true 4096 (length xs) h
 
 length_long : (xs : List ℕ) → 4096 < length xs → is_long xs ≡ true
-unfolding is_long text_most
+unfolding is_long
 length_long xs h = lt-ltb 4096 (length xs) h
 
 -- what is longer than what is too long is too long

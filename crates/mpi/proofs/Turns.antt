@@ -111,12 +111,12 @@ module _ {S : Type 0} (go : List ℕ → Thought S (List ℕ)) where
 
   pub while_stops : (n : ℕ) (test body last value : List ℕ) (s t : State S) → go test s ≡ (Ok value, t) → is_true value ≡ false
       → turns_while (suc n) go test body last s ≡ (Ok last, t)
-  while_stops n test body last value s t h no = while_first n test body last value s t h ∙ ap (λ b. cond b (followed (counted (go body)) (behind_body n test body)) (gives last) t) no
+  while_stops n test body last value s t h fails_it = while_first n test body last value s t h ∙ ap (λ b. cond b (followed (counted (go body)) (behind_body n test body)) (gives last) t) fails_it
 
   pub while_turns : (n : ℕ) (test body last value text : List ℕ) (s t u : State S) (m : Mind) → go test s ≡ (Ok value, t) → is_true value ≡ true
       → OnMind one_less t.0 m (Ok tt) → go body (m, t.1) ≡ (Ok text, u) → turns_while (suc n) go test body last s ≡ turns_while n go test body text u
-  while_turns n test body last value text s t u m h yes less b =
-      while_first n test body last value s t h ∙ turn_true n test body last value t yes
+  while_turns n test body last value text s t u m h holds less b =
+      while_first n test body last value s t h ∙ turn_true n test body last value t holds
       ∙ known_first (counted (go body)) (behind_body n test body) t u text (counted_first (go body) t m less ∙ b)
 
   pub while_test_fails : (n : ℕ) (test body last : List ℕ) (s t : State S) (f : MpiFault) → Thinks (go test) s t (Err f) → Thinks (turns_while (suc n) go test body last) s t (Err f)
@@ -125,16 +125,16 @@ module _ {S : Type 0} (go : List ℕ → Thought S (List ℕ)) where
 
   pub while_count_fails : (n : ℕ) (test body last value : List ℕ) (s t : State S) (m : Mind) (f : MpiFault) → go test s ≡ (Ok value, t) → is_true value ≡ true
       → OnMind one_less t.0 m (Err f) → Thinks (turns_while (suc n) go test body last) s (m, t.1) (Err f)
-  while_count_fails n test body last value s t m f h yes less =
+  while_count_fails n test body last value s t m f h holds less =
       comes_by (turns_while (suc n) go test body last s) (followed (counted (go body)) (behind_body n test body) t) (m, t.1) (Err f)
-      (while_first n test body last value s t h ∙ turn_true n test body last value t yes)
+      (while_first n test body last value s t h ∙ turn_true n test body last value t holds)
       (then_err (counted (go body)) (behind_body n test body) t (m, t.1) f (counted_fails (go body) t m f less))
 
   pub while_body_fails : (n : ℕ) (test body last value : List ℕ) (s t u : State S) (m : Mind) (f : MpiFault) → go test s ≡ (Ok value, t) → is_true value ≡ true
       → OnMind one_less t.0 m (Ok tt) → Thinks (go body) (m, t.1) u (Err f) → Thinks (turns_while (suc n) go test body last) s u (Err f)
-  while_body_fails n test body last value s t u m f h yes less b =
+  while_body_fails n test body last value s t u m f h holds less b =
       comes_by (turns_while (suc n) go test body last s) (followed (counted (go body)) (behind_body n test body) t) u (Err f)
-      (while_first n test body last value s t h ∙ turn_true n test body last value t yes)
+      (while_first n test body last value s t h ∙ turn_true n test body last value t holds)
       (then_err (counted (go body)) (behind_body n test body) t u f (comes_by (counted (go body) t) (go body (m, t.1)) u (Err f) (counted_first (go body) t m less) b))
 
   ----------------------------------------------------------------------------------------------------------------------------
@@ -152,7 +152,7 @@ module _ {S : Type 0} (go : List ℕ → Thought S (List ℕ)) where
   for_first : (n : ℕ) (name body : List ℕ) (end step i : ℤ) (last : List ℕ) (s : State S) → is_within i end step ≡ true
       → turns_for (suc n) go name body end step (Some i) last s ≡ followed (counted (with_number name body i)) (behind_number n name body end step i) s
   unfolding turns_for
-  for_first n name body end step i last s yes = ap (λ b. cond b (followed (counted (with_number name body i)) (behind_number n name body end step i)) (gives last) s) yes
+  for_first n name body end step i last s holds = ap (λ b. cond b (followed (counted (with_number name body i)) (behind_number n name body end step i)) (gives last) s) holds
 
   pub for_past : (n : ℕ) (name body : List ℕ) (end step : ℤ) (last : List ℕ) (s : State S) → turns_for (suc n) go name body end step None last s ≡ (Ok last, s)
   unfolding turns_for
@@ -161,29 +161,29 @@ module _ {S : Type 0} (go : List ℕ → Thought S (List ℕ)) where
   pub for_stops : (n : ℕ) (name body : List ℕ) (end step i : ℤ) (last : List ℕ) (s : State S) → is_within i end step ≡ false
       → turns_for (suc n) go name body end step (Some i) last s ≡ (Ok last, s)
   unfolding turns_for
-  for_stops n name body end step i last s no = ap (λ b. cond b (followed (counted (with_number name body i)) (behind_number n name body end step i)) (gives last) s) no
+  for_stops n name body end step i last s fails_it = ap (λ b. cond b (followed (counted (with_number name body i)) (behind_number n name body end step i)) (gives last) s) fails_it
 
   pub for_turns : (n : ℕ) (name body : List ℕ) (end step i : ℤ) (last text : List ℕ) (s u : State S) (m : Mind) → is_within i end step ≡ true
       → OnMind one_less s.0 m (Ok tt) → go body (with_value name (signed_decimal i) m, s.1) ≡ (Ok text, u)
       → turns_for (suc n) go name body end step (Some i) last s ≡ turns_for n go name body end step (next_number i step) text u
-  for_turns n name body end step i last text s u m yes less b =
-      for_first n name body end step i last s yes
+  for_turns n name body end step i last text s u m holds less b =
+      for_first n name body end step i last s holds
       ∙ known_first (counted (with_number name body i)) (behind_number n name body end step i) s u text
       (counted_first (with_number name body i) s m less ∙ numbered name body i (m, s.1) ∙ b)
 
   pub for_count_fails : (n : ℕ) (name body : List ℕ) (end step i : ℤ) (last : List ℕ) (s : State S) (m : Mind) (f : MpiFault) → is_within i end step ≡ true
       → OnMind one_less s.0 m (Err f) → Thinks (turns_for (suc n) go name body end step (Some i) last) s (m, s.1) (Err f)
-  for_count_fails n name body end step i last s m f yes less =
+  for_count_fails n name body end step i last s m f holds less =
       comes_by (turns_for (suc n) go name body end step (Some i) last s) (followed (counted (with_number name body i)) (behind_number n name body end step i) s) (m, s.1) (Err f)
-      (for_first n name body end step i last s yes)
+      (for_first n name body end step i last s holds)
       (then_err (counted (with_number name body i)) (behind_number n name body end step i) s (m, s.1) f (counted_fails (with_number name body i) s m f less))
 
   pub for_body_fails : (n : ℕ) (name body : List ℕ) (end step i : ℤ) (last : List ℕ) (s u : State S) (m : Mind) (f : MpiFault) → is_within i end step ≡ true
       → OnMind one_less s.0 m (Ok tt) → Thinks (go body) (with_value name (signed_decimal i) m, s.1) u (Err f)
       → Thinks (turns_for (suc n) go name body end step (Some i) last) s u (Err f)
-  for_body_fails n name body end step i last s u m f yes less b =
+  for_body_fails n name body end step i last s u m f holds less b =
       comes_by (turns_for (suc n) go name body end step (Some i) last s) (followed (counted (with_number name body i)) (behind_number n name body end step i) s) u (Err f)
-      (for_first n name body end step i last s yes)
+      (for_first n name body end step i last s holds)
       (then_err (counted (with_number name body i)) (behind_number n name body end step i) s u f
       (comes_by (counted (with_number name body i) s) (go body (with_value name (signed_decimal i) m, s.1)) u (Err f)
       (counted_first (with_number name body i) s m less ∙ numbered name body i (m, s.1)) b))

@@ -1,6 +1,5 @@
 -- The worked texts compute.
 use Rattle.std.proofs.Common.{refl}
-use Rattle.muck_model.specs.Bytes.{text_most}
 use Rattle.muck_model.specs.Decimal.{decimal_of}
 use Rattle.muck_model.specs.Numbers.{dbref_of}
 use Rattle.mpi.specs.Variables.{given_back}
@@ -14,5 +13,5 @@ use Rattle.mpi.specs.Memory.{named_in, prop_in}
 use Rattle.mpi.specs.Worked.{Worked}
 
 pub worked : Worked
-unfolding text_most decimal_of dbref_of given_back balances part_len pieces_up_to arguments_up_to functions is_long followed sized counted keeps variable scoped is_true bare past_spaces number_read order_of stripped place_in replaced items nesting_most object_at doing diced variable_row acted each_value with_variable chosen until turns_while while_true turns_for for_numbers each_item for_items called spelled entered evaluated named_in prop_in
+unfolding decimal_of dbref_of given_back balances part_len pieces_up_to arguments_up_to functions is_long followed sized counted keeps variable scoped is_true bare past_spaces number_read order_of stripped place_in replaced items nesting_most object_at doing diced variable_row acted each_value with_variable chosen until turns_while while_true turns_for for_numbers each_item for_items called spelled entered evaluated named_in prop_in
 worked = record { row_1 = refl; row_2 = refl; row_3 = refl; row_4 = refl; row_5 = refl; row_6 = refl; row_7 = refl; row_8 = refl }

@@ -12,7 +12,7 @@ use muck_model::{Dbref, Line, NoMemory, TEXT_MOST};
 use std::alloc::Global;
 
 /// The text of these bytes, which may be too many.
-#[tactic(auto, using(crate::proofs::Inside::text_steps), unfolding(crate::specs::Made::is_long, muck_model::specs::Bytes::text_most))]
+#[tactic(auto, using(crate::proofs::Inside::text_steps), unfolding(crate::specs::Made::is_long))]
 pub(crate) fn line_of(bytes: Vec<u8>) -> Result<Line, MpiFault>
     requires { Inside bytes.items }
     ensures { Means (text_or_long bytes.items) result }
@@ -24,7 +24,7 @@ pub(crate) fn line_of(bytes: Vec<u8>) -> Result<Line, MpiFault>
 }
 
 /// Puts bytes behind a text that grows; `TooLong` exactly where it would have too many, and then nothing is put there.
-#[tactic(auto, unfolding(crate::specs::Made::is_long, muck_model::specs::Bytes::text_most))]
+#[tactic(auto, unfolding(crate::specs::Made::is_long))]
 pub(crate) fn grow(out: &mut Vec<u8>, more: &[u8]) -> Result<(), MpiFault>
     requires out { length out.old.items ≤ 4096 }
     requires more { length more.now ≤ 4096 }

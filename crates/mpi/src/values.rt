@@ -10,7 +10,7 @@ use std::alloc::Global;
 use std::cmp::Ordering;
 
 /// The argument at a place from 0; one that is left out is empty.
-#[tactic(auto, unfolding(muck_model::specs::Bytes::text_most))]
+#[tactic(auto)]
 pub(crate) fn nth(values: &[Line], at: usize) -> &[u8]
     ensures value { result.now ≡ nth at values.now }
     ensures text { text_fault result.now ≡ None }
