@@ -81,3 +81,9 @@ pub item_lacks : (item : List ℕ) (parts : List (List ℕ)) → ((k : ℕ) → 
 item_lacks item parts before =
     let e = position_or_len_is (is_item item) parts (length parts) [] (omega arith) before (λ h. absurd (omega (arith, h))) in
     ap (λ n. from_one (cond (nat_lt n (length parts)) (Some n) None)) e ∙ no_place (length parts) (length parts) (omega arith)
+
+-- a list that isn't empty is cut at each byte between
+pub items_some : (xs : List ℕ) → 0 < length xs → items xs ≡ slice_split (λ c. c == 13) xs
+unfolding items
+items_some [] h = absurd (omega (arith, h))
+items_some (x ∷ xs) h = refl
