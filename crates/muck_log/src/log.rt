@@ -5,7 +5,7 @@ ghost use Rattle.muck_io.specs.Faults.{Rose};
 ghost use Rattle.muck_log.specs.Body.{body_bytes};
 ghost use Rattle.muck_log.specs.World.{World, IsFine, laid, tune_fits};
 ghost use Rattle.muck_model.specs.declared.tune.Tune.{Tune};
-ghost use Rattle.spec_live.specs.Objects.{Entry as Kept};
+ghost use Rattle.spec_live.specs.Objects.{Entry as WorldEntry};
 ghost use Rattle.muck_store.specs.Forms.{persist, world_batch};
 ghost use Rattle.muck_log.specs.File.{after_number, begin};
 ghost use Rattle.muck_log.specs.Mount.{IsLoaded, IsLoadFault};
@@ -250,7 +250,7 @@ impl Log {
         ensures ok { IfOk result (λ ready. IsReady self.old self.new (payload_of self.old batch.now) ready) }
         ensures storable { OnOk result (All IsStored batch.now.records) }
         ensures covers { OnOk result (length self.old.chosen.held.world.objects ≤ length batch.now.records) }
-        ensures whole { OnOk result ((es : List Kept) (tune : Tune) → batch.now ≡ world_batch es tune → tune_fits tune ≡ true → 2 ≤ length es → laid (payload_of self.old batch.now) (target self.old.chosen).held.world ≡ Some (record { objects = persist es; tune = tune })) }
+        ensures whole { OnOk result ((es : List WorldEntry) (tune : Tune) → batch.now ≡ world_batch es tune → tune_fits tune ≡ true → 2 ≤ length es → laid (payload_of self.old batch.now) (target self.old.chosen).held.world ≡ Some (record { objects = persist es; tune = tune })) }
         ensures err { IfErr result (λ fault. IsRefused self.old self.new batch.now fault) }
     {
         if self.stale {
@@ -327,7 +327,7 @@ impl Log {
         ensures answer { IsAppended self.old self.new batch.now result }
         ensures storable { IsTouching result → All IsStored batch.now.records }
         ensures covers { IsTouching result → length self.old.chosen.held.world.objects ≤ length batch.now.records }
-        ensures whole { IsTouching result → (es : List Kept) (tune : Tune) → batch.now ≡ world_batch es tune → tune_fits tune ≡ true → 2 ≤ length es → laid (payload_of self.old batch.now) (target self.old.chosen).held.world ≡ Some (record { objects = persist es; tune = tune }) }
+        ensures whole { IsTouching result → (es : List WorldEntry) (tune : Tune) → batch.now ≡ world_batch es tune → tune_fits tune ≡ true → 2 ≤ length es → laid (payload_of self.old batch.now) (target self.old.chosen).held.world ≡ Some (record { objects = persist es; tune = tune }) }
         ensures chosen { OnOk result (IsNext self.old self.new (payload_of self.old batch.now)) }
         ensures mounted { D.tells ≡ true → OnOk result (IsMounted D.seen D.moment D.images self.new first.new second.new) }
         ensures any { D.tells ≡ true → self.old.stale ≡ false → (w : World) → laid (payload_of self.old batch.now) (target self.old.chosen).held.world ≡ Some w
