@@ -3,10 +3,7 @@ ghost use Rattle.std.specs.Prelude.{◌≡◌, ◌⊎◌, ◌≤◌, ◌<◌, �
 ghost use Rattle.muck_disk.specs.Images.{Only};
 ghost use Rattle.muck_io.specs.Faults.{Rose};
 ghost use Rattle.muck_log.specs.Body.{body_bytes};
-ghost use Rattle.muck_log.specs.World.{World, IsFine, laid, tune_fits};
-ghost use Rattle.muck_model.specs.declared.tune.Tune.{Tune};
-ghost use Rattle.spec_live.specs.Objects.{Entry as WorldEntry};
-ghost use Rattle.muck_store.specs.Forms.{persist, world_batch};
+ghost use Rattle.muck_log.specs.World.{World, IsFine, laid};
 ghost use Rattle.muck_log.specs.File.{after_number, begin};
 ghost use Rattle.muck_log.specs.Mount.{IsLoaded, IsLoadFault};
 ghost use Rattle.muck_log.specs.Store.{LeavesBoth, MayBeAt, IsMounted, LogState, target, opens_new, next_body, after_batch, stored, framed, pick, IsDone};
@@ -234,7 +231,6 @@ impl Log {
         ensures storable { IfOk result (λ yes. yes ≡ true → All IsStored batch.now.records) }
         ensures covers { IfOk result (λ yes. yes ≡ true → length self.now.chosen.held.world.objects ≤ length batch.now.records) }
         ensures partial { IfOk result (λ yes. yes ≡ false → IsPartial self.now batch.now.records) }
-        ensures kept { IfOk result (λ _. All IsStored self.now.chosen.held.world.objects) }
     {
         if batch.records.len() < self.world.objects().len() {
             return Ok(false);
@@ -243,14 +239,13 @@ impl Log {
     }
 
     // All that takes memory, and all refusals but those of the disks.
-    #[tactic(auto, unfolding(crate::specs::Append::more_of, crate::specs::Append::payload_of, crate::specs::Store::next_body), using(crate::proofs::Deltas::ready_whole))]
+    #[tactic(auto, unfolding(crate::specs::Append::more_of, crate::specs::Append::payload_of, crate::specs::Store::next_body))]
     fn prepare(&mut self, batch: &Batch) -> Result<Ready, LogFault>
         requires few { length batch.now.records < 2 ^ 32 }
         requires lines { HasFewLines batch.now.records }
         ensures ok { IfOk result (λ ready. IsReady self.old self.new (payload_of self.old batch.now) ready) }
         ensures storable { OnOk result (All IsStored batch.now.records) }
         ensures covers { OnOk result (length self.old.chosen.held.world.objects ≤ length batch.now.records) }
-        ensures whole { OnOk result ((es : List WorldEntry) (tune : Tune) → batch.now ≡ world_batch es tune → tune_fits tune ≡ true → 2 ≤ length es → laid (payload_of self.old batch.now) (target self.old.chosen).held.world ≡ Some (record { objects = persist es; tune = tune })) }
         ensures err { IfErr result (λ fault. IsRefused self.old self.new batch.now fault) }
     {
         if self.stale {
@@ -327,7 +322,6 @@ impl Log {
         ensures answer { IsAppended self.old self.new batch.now result }
         ensures storable { IsTouching result → All IsStored batch.now.records }
         ensures covers { IsTouching result → length self.old.chosen.held.world.objects ≤ length batch.now.records }
-        ensures whole { IsTouching result → (es : List WorldEntry) (tune : Tune) → batch.now ≡ world_batch es tune → tune_fits tune ≡ true → 2 ≤ length es → laid (payload_of self.old batch.now) (target self.old.chosen).held.world ≡ Some (record { objects = persist es; tune = tune }) }
         ensures chosen { OnOk result (IsNext self.old self.new (payload_of self.old batch.now)) }
         ensures mounted { D.tells ≡ true → OnOk result (IsMounted D.seen D.moment D.images self.new first.new second.new) }
         ensures any { D.tells ≡ true → self.old.stale ≡ false → (w : World) → laid (payload_of self.old batch.now) (target self.old.chosen).held.world ≡ Some w
