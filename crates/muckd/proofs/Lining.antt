@@ -1,5 +1,5 @@
 -- A line of a script: the dump that is asked there, and what is kept of the disks behind it.
-use Rattle.std.proofs.Common.{◌≡◌, ⊥, ℕ, Bool, true, false, ◌||◌, List, [], refl, sym, ap, ◌∙◌, Option, is_some, Result, Ok, Err}
+use Rattle.std.proofs.Common.{◌≡◌, ℕ, Bool, true, false, ◌||◌, List, [], refl, sym, ap, ◌∙◌, Option, is_some, Result, Ok, Err}
 use Rattle.std.proofs.lemmas.Bool.{cond-true, cond-false}
 use Rattle.muck_log.specs.Store.{LogState}
 use Rattle.muck_log.specs.declared.fault.LogFault.{LogFault}
@@ -10,23 +10,30 @@ use Rattle.spec_events.specs.World.{World}
 use Rattle.spec_events.specs.Histories.{History, now}
 use Rattle.spec_live.specs.Connections.{connections_most}
 use Rattle.muck_script.specs.declared.act.Act.{Act}
-use Rattle.muck_script.specs.Story.{Part, acted, turns, turns_most, plain, both, served, asks_dump, dumping, asked_dump, line_story}
+use Rattle.muck_script.specs.Story.{Dumped, Part, acted, turns, turns_most, plain, both, served, asks_dump, dumping, asked_dump, line_story}
 use Rattle.muckd.specs.declared.playing.RunFault.{RunFault}
 use Rattle.muckd.specs.declared.playing.RunFault.TheVariants.{NoMemory, WriteFault}
 use Rattle.muckd.specs.inner.Dumps.{Dumps, Held}
 use Rattle.muckd.specs.inner.Plays.{Plays, Breaks, PlaysOrBreaks}
-use Rattle.muckd.proofs.Parts.{plays_as, plays_nothing, plays_both, breaks_first, breaks_second}
+use Rattle.muckd.proofs.Parts.{plays_nothing, plays_both, breaks_first, breaks_second}
+use Rattle.muckd.proofs.Towards.{plays_as, breaks_as}
 use Rattle.muckd.proofs.Exits.{second_part}
 
 -- whether a dump is made there
-abbrev is_asked : Act → World → Bool
+abbrev pub is_asked : Act → World → Bool
 is_asked act w = asks_dump act || is_some w.dumps.asked
 
 -- The dump that is asked for is made, and nothing where none is.
 
-pub plays_asked : {T : Type 0} (act : Act) (h k : History) (o : Option (List ℕ)) (r : Result T RunFault) → is_asked act (now h) ≡ true → PlaysOrBreaks dumping h k o o r → PlaysOrBreaks (asked_dump act) h k o o r
+asked_is : (act : Act) (w : World) (os : List Dumped) → is_asked act w ≡ true → dumping os w ≡ asked_dump act os w
 unfolding asked_dump
-plays_asked act h k o r yes p = plays_as dumping (asked_dump act) h k o o r (λ os. cond-true _ _ _ yes) p
+asked_is act w os yes = sym (cond-true _ _ _ yes)
+
+pub plays_asked : (act : Act) (h k : History) (o : Option (List ℕ)) → is_asked act (now h) ≡ true → Plays dumping h k o o → Plays (asked_dump act) h k o o
+plays_asked act h k o yes p = plays_as dumping (asked_dump act) h k o o (λ os. asked_is act (now h) os yes) p
+
+pub breaks_asked : (act : Act) (ending : List Entry) (h k : History) (o : Option (List ℕ)) → is_asked act (now h) ≡ true → Breaks dumping ending h k o o → Breaks (asked_dump act) ending h k o o
+breaks_asked act ending h k o yes p = breaks_as dumping (asked_dump act) ending h k o o (λ os. asked_is act (now h) os yes) p
 
 pub plays_unasked : (act : Act) (h : History) (o : Option (List ℕ)) → is_asked act (now h) ≡ false → (now h).dead ≡ false → Plays (asked_dump act) h h o o
 unfolding asked_dump
@@ -34,10 +41,10 @@ plays_unasked act h o no alive = plays_nothing (asked_dump act) h h o (λ later.
 
 -- What a line of the script does, by its three parts.
 
-abbrev first_turns : Act → Part
+abbrev pub first_turns : Act → Part
 first_turns act = both (plain (acted act)) (plain (turns turns_most))
 
-abbrev then_asked : Act → Part
+abbrev pub then_asked : Act → Part
 then_asked act = both (first_turns act) (asked_dump act)
 
 pub line_breaks : (act : Act) (ending : List Entry) (h k : History) (a b : Option (List ℕ)) → Breaks (first_turns act) ending h k a b → Breaks (line_story act) ending h k a b

@@ -24,7 +24,7 @@ pub towards_begins : (f : Part) (h : History) (a : Option (List ℕ)) → (now h
 towards_begins f h a alive = record { finish = λ m c p. p; break = λ ending m c p. p; alive = alive }
 
 -- the same entries, said in another way
-plays_as : (f g : Part) (h k : History) (a b : Option (List ℕ)) → ((os : List Dumped) → f os (now h) ≡ g os (now h)) → Plays f h k a b → Plays g h k a b
+pub plays_as : (f g : Part) (h k : History) (a b : Option (List ℕ)) → ((os : List Dumped) → f os (now h) ≡ g os (now h)) → Plays f h k a b → Plays g h k a b
 plays_as f g h k a b e p = record {
   entries = p.entries;
   said = λ later. sym (e (outcomes_of p.entries ++ later)) ∙ p.said later;
@@ -33,7 +33,8 @@ plays_as f g h k a b e p = record {
   alive = p.alive;
 }
 
-breaks_as : (f g : Part) (ending : List Entry) (h k : History) (a b : Option (List ℕ)) → ((os : List Dumped) → f os (now h) ≡ g os (now h)) → Breaks f ending h k a b → Breaks g ending h k a b
+-- what broke off of them
+pub breaks_as : (f g : Part) (ending : List Entry) (h k : History) (a b : Option (List ℕ)) → ((os : List Dumped) → f os (now h) ≡ g os (now h)) → Breaks f ending h k a b → Breaks g ending h k a b
 breaks_as f g ending h k a b e p = record {
   front = p.front;
   pending = p.pending;

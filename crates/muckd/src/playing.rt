@@ -1,5 +1,5 @@
 // A run of a script: what it makes happen in the world, and what is written of it.
-ghost use Rattle.std.specs.Prelude.{◌≡◌, ◌≤◌, OnOk, IsErrOf, OnErr, length, true, false, Option, None, List, ℕ};
+ghost use Rattle.std.specs.Prelude.{◌≡◌, ◌≤◌, OnOk, IsErrOf, OnErr, ◌||◌, is_some, length, true, false, Option, None, List, ℕ};
 ghost use Rattle.muck_io.specs.Faults.{Rose};
 ghost use Rattle.spec_events.specs.Histories.{now};
 ghost use Rattle.spec_live.specs.Connections.{connections_most};
@@ -236,6 +236,14 @@ fn asks(line: &Act) -> bool
     }
 }
 
+// Whether a dump is to be made behind a line: it asks for one, or a connection has asked.
+fn is_due(world: &World, line: &Act) -> bool
+    requires { (now world.now).dead ≡ false }
+    ensures { result ≡ (asks_dump line.now || is_some (now world.now).dumps.asked) }
+{
+    asks(line) || world.dump_asked()
+}
+
 // Makes a dump, where the line asks for one or a connection does.
 fn make_asked<D: Disk>(
     alloc: Global,
@@ -256,9 +264,10 @@ fn make_asked<D: Disk>(
     ensures first_later { D.faults first.old ≤ D.faults first.new }
     ensures second_later { D.faults second.old ≤ D.faults second.new }
 {
-    if asks(line) || world.dump_asked() {
-        dump(alloc, world, store, first, second)?;
+    if !is_due(world, line) {
+        return Ok(());
     }
+    dump(alloc, world, store, first, second)?;
     Ok(())
 }
 

@@ -59,5 +59,5 @@ returns-clause-idle g c = λ other. idle_quiet _ _ c.serve_all.ensures.quiet c.i
 pub returns-clause-kept : goal.returns-clause-kept
 returns-clause-kept g c =
     λ mounted tells r.
-        held_quiet _ _ _ _ _ _ _ mounted _ _ _ c.serve_all.ensures.quiet
-        ((c.in_ok-make_asked.ensures.kept mounted tells (rests_quiet _ _ _ _ _ _ _ mounted _ _ c.in_ok-act_and_turn.ensures.quiet r)).rests (λ e. cc))
+    held_quiet _ _ _ _ _ _ _ mounted _ _ _ c.serve_all.ensures.quiet
+    ((c.in_ok-make_asked.ensures.kept mounted tells (rests_quiet _ _ _ _ _ _ _ mounted _ _ c.in_ok-act_and_turn.ensures.quiet r)).rests (λ e. cc))
