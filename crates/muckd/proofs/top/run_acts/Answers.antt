@@ -28,11 +28,11 @@ last_dump-requires-clause-mounted g c = λ tells.
 pub returns-in-Ok-play-clause-ends : goal.returns-in-Ok-play-clause-ends
 returns-in-Ok-play-clause-ends g c =
     inr (
-      played _ _ _ _ _ _ _ _ _ c.in-Ok.ensures.world _ _ _ _ _ _ _ _ _ c.in-Ok-play.ensures.plays c.in-Ok-play.ensures.fine c.last_dump.ensures.why c.last_dump.ensures.plays c.last_dump.ensures.last
-          (λ tells.
-          let start = rests_started _ _ _ _ _ _ _ c.requires.bootable c.in-Ok.ensures.properties (c.requires.mounted tells) _ _ c.new.ensures c.in-Ok.ensures.world in
-          c.last_dump.ensures.kept _ tells ((c.in-Ok-play.ensures.kept _ tells start).rests (λ e. cc)))
-          c.into_tale.ensures.entries c.into_tale.ensures.notes c.into_tale.ensures.lawful
+    played _ _ _ _ _ _ _ _ _ c.in-Ok.ensures.world _ _ _ _ _ _ _ _ _ c.in-Ok-play.ensures.plays c.in-Ok-play.ensures.fine c.last_dump.ensures.why c.last_dump.ensures.plays c.last_dump.ensures.last
+    (λ tells.
+    let start = rests_started _ _ _ _ _ _ _ c.requires.bootable c.in-Ok.ensures.properties (c.requires.mounted tells) _ _ c.new.ensures c.in-Ok.ensures.world in
+    c.last_dump.ensures.kept _ tells ((c.in-Ok-play.ensures.kept _ tells start).rests (λ e. cc)))
+    c.into_tale.ensures.entries c.into_tale.ensures.notes c.into_tale.ensures.lawful
     )
 
 pub returns-in-Ok-play-clause-why : goal.returns-in-Ok-play-clause-why
@@ -47,12 +47,35 @@ returns-in-Ok-play-clause-cause g c = λ e. either_since _ _ _ _ _ _ c.in-Ok-pla
 pub returns-in-Err-NoMemory-clause-ends : goal.returns-in-Err-NoMemory-clause-ends
 returns-in-Err-NoMemory-clause-ends g c =
     inr (
-      died _ _ _ _ _ _ _ _ _ c.in-Ok.ensures.world _ _ _ _ _ _ _ (broke_by _ _ _ _ _ _ _ c.in-Err-NoMemory.field-0-is c.in-Err-NoMemory.ensures.plays) (c.in-Err-NoMemory.ensures.memory (ap Err c.in-Err-NoMemory.field-0-is))
-          (λ tells.
-          let start = rests_started _ _ _ _ _ _ _ c.requires.bootable c.in-Ok.ensures.properties (c.requires.mounted tells) _ _ c.new.ensures c.in-Ok.ensures.world in
-          (c.in-Err-NoMemory.ensures.kept _ tells start).safe)
-          c.into_tale-in-Err-NoMemory.ensures.entries c.into_tale-in-Err-NoMemory.ensures.notes c.into_tale-in-Err-NoMemory.ensures.lawful
+    died _ _ _ _ _ _ _ _ _ c.in-Ok.ensures.world _ _ _ _ _ _ _ (broke_by _ _ _ _ _ _ _ c.in-Err-NoMemory.field-0-is c.in-Err-NoMemory.ensures.plays) (c.in-Err-NoMemory.ensures.memory (ap Err c.in-Err-NoMemory.field-0-is))
+    (λ tells.
+    let start = rests_started _ _ _ _ _ _ _ c.requires.bootable c.in-Ok.ensures.properties (c.requires.mounted tells) _ _ c.new.ensures c.in-Ok.ensures.world in
+    (c.in-Err-NoMemory.ensures.kept _ tells start).safe)
+    c.into_tale-in-Err-NoMemory.ensures.entries c.into_tale-in-Err-NoMemory.ensures.notes c.into_tale-in-Err-NoMemory.ensures.lawful
     )
 
 pub stop-requires : goal.stop-requires
 stop-requires g c = (broke_by _ _ _ _ _ _ _ c.in-Err-WriteFault.field-0-is c.in-Err-WriteFault.ensures.plays).alive refl
+
+pub last_dump-in-Err-WriteFault-requires-clause-alive : goal.last_dump-in-Err-WriteFault-requires-clause-alive
+last_dump-in-Err-WriteFault-requires-clause-alive g c =
+    halted_lives _ _ c.stop.ensures.halts ((broke_by _ _ _ _ _ _ _ c.in-Err-WriteFault.field-0-is c.in-Err-WriteFault.ensures.plays).alive refl)
+
+pub last_dump-in-Err-WriteFault-requires-clause-idle : goal.last_dump-in-Err-WriteFault-requires-clause-idle
+last_dump-in-Err-WriteFault-requires-clause-idle g c = idle_quiet _ _ c.stop.ensures.quiet (c.in-Err-WriteFault.ensures.idle (λ e. let is = c.in-Err-WriteFault.field-0-is in cc))
+
+pub last_dump-in-Err-WriteFault-requires-clause-mounted : goal.last_dump-in-Err-WriteFault-requires-clause-mounted
+last_dump-in-Err-WriteFault-requires-clause-mounted g c = λ tells.
+    let start = rests_started _ _ _ _ _ _ _ c.requires.bootable c.in-Ok.ensures.properties (c.requires.mounted tells) _ _ c.new.ensures c.in-Ok.ensures.world in
+    (c.args.log.chosen.held.number, rests_quiet _ _ _ _ _ _ _ _ _ _ c.stop.ensures.quiet ((c.in-Err-WriteFault.ensures.kept _ tells start).rests (λ e. let is = c.in-Err-WriteFault.field-0-is in cc)))
+
+pub returns-clause-ends : goal.returns-clause-ends
+returns-clause-ends g c =
+    inr (
+    broke _ _ _ _ _ _ _ _ _ c.in-Ok.ensures.world _ _ _ _ _ _ _ _ _ (broke_by _ _ _ _ _ _ _ c.in-Err-WriteFault.field-0-is c.in-Err-WriteFault.ensures.plays) (c.in-Err-WriteFault.ensures.write (ap Err c.in-Err-WriteFault.field-0-is))
+    c.stop.ensures.halts c.last_dump-in-Err-WriteFault.ensures.last
+    (λ tells.
+    let start = rests_started _ _ _ _ _ _ _ c.requires.bootable c.in-Ok.ensures.properties (c.requires.mounted tells) _ _ c.new.ensures c.in-Ok.ensures.world in
+    (c.last_dump-in-Err-WriteFault.ensures.kept _ tells (rests_quiet _ _ _ _ _ _ _ _ _ _ c.stop.ensures.quiet ((c.in-Err-WriteFault.ensures.kept _ tells start).rests (λ e. let is = c.in-Err-WriteFault.field-0-is in cc)))).safe)
+    c.into_tale-in-Err-WriteFault.ensures.entries c.into_tale-in-Err-WriteFault.ensures.notes c.into_tale-in-Err-WriteFault.ensures.lawful
+    )
