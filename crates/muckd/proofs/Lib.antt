@@ -5,3 +5,9 @@ pub mod Acts
 pub mod Towards
 pub mod Whole
 pub mod Answered
+pub mod Owed
+pub mod Records
+pub mod Dumpings
+pub mod Dumped
+pub mod Ending
+pub mod Lining
