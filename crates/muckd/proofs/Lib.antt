@@ -11,3 +11,7 @@ pub mod Dumpings
 pub mod Dumped
 pub mod Ending
 pub mod Lining
+pub mod Started
+pub mod Closing
+pub mod Played
+pub mod Called

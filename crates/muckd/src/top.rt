@@ -1,13 +1,14 @@
 // The top call.
-ghost use Rattle.std.specs.Prelude.{◌≡◌, ◌↔◌, ◌⊎◌, ◌++◌, ◌≤◌, ℕ, Bool, true, false, IfOk, IfErr, OnOk, OnErr, IsErrOf, vec_len, map, string_bytes, [], List, Option, Some, None, Ok, Err, codes};
+ghost use Rattle.std.specs.Prelude.{◌≡◌, ◌↔◌, ◌⊎◌, ◌++◌, ◌≤◌, ℕ, Bool, true, false, IfOk, IfErr, OnOk, IsErrOf, All, ⊥, vec_len, map, string_bytes, [], List, Option, Some, None, Ok, Err, codes};
+ghost use Rattle.muck_codec.specs.Stored.{AreProperties};
 ghost use Rattle.muck_io.specs.Faults.{Rose};
 ghost use Rattle.muck_log.specs.Store.{Chosen, stored};
 ghost use Rattle.spec_events.specs.Histories.{now, Longer};
 ghost use Rattle.muck_log.specs.Mount.{IsMountedAs};
 ghost use Rattle.spec_dumps.specs.Fronts.{file_most};
-ghost use Rattle.spec_dumps.specs.Holding.{Rests};
+ghost use Rattle.spec_dumps.specs.Holding.{Quietly, Rests};
 ghost use Rattle.muckd.specs.inner.Dumps.{note_of, DumpsLast};
-ghost use Rattle.muckd.specs.inner.Ends.{why_of, IsMountWhy, MayRefuse, MayEnd, MayEndDump, IsScriptWhy, IsBootable, booted_from, unbegun_from, begun_from, EndsPlay, LastKept, HasPlayed, NeverPlayed};
+ghost use Rattle.muckd.specs.inner.Ends.{why_of, MayNotOpen, IsMountWhy, MayRefuse, MayEnd, MayEndDump, IsScriptWhy, IsBootable, booted_from, unbegun_from, begun_from, EndsPlay, LastKept, HasPlayed, NeverPlayed};
 ghost use Rattle.muckd.specs.inner.Plays.{PlaysOrBreaks};
 ghost use Rattle.muck_script.specs.Story.{dumping};
 ghost use Rattle.muckd.specs.Words.{is_run, store_of};
@@ -117,7 +118,7 @@ fn file_name(alloc: Global, store: &str, ending: &str) -> Result<String, AllocEr
 
 // Opens both files of the store.
 fn attach<D: Disk>(alloc: Global, store: &str, first: &mut D, second: &mut D) -> Result<(), Why>
-    ensures why { OnErr result ((result ≡ Err Why.NoMemory) ⊎ (result ≡ Err Why.DiskFault)) }
+    ensures why { IfErr result MayNotOpen }
     ensures first_seen { D.tells ≡ true → D.seen first.new ≡ D.seen first.old }
     ensures second_seen { D.tells ≡ true → D.seen second.new ≡ D.seen second.old }
     ensures first_later { D.faults first.old ≤ D.faults first.new }
@@ -138,6 +139,7 @@ fn attach<D: Disk>(alloc: Global, store: &str, first: &mut D, second: &mut D) ->
 }
 
 // Opens both files and mounts the store that they hold.
+#[tactic(auto, unfolding(spec_dumps::specs::Fronts::file_most), using(crate::proofs::Started::bootable, crate::proofs::Called::opens_told, crate::proofs::Called::opens_may, crate::proofs::Called::mount_told))]
 fn mount<D: Disk>(alloc: Global, store: &str, first: &mut D, second: &mut D) -> Result<Log, Why>
     ensures log { D.tells ≡ true → IfOk result (λ log. IsMountedAs D.seen D.moment D.images file_most log first.new second.new) }
     ensures bootable { IfOk result (λ log. IsBootable log.chosen.held.world) }
@@ -186,7 +188,17 @@ fn run<S: Source, K: Sink, D: Disk>(
     out: &mut K,
     first: &mut D,
     second: &mut D,
-) -> (Why, Tale) {
+) -> (Why, Tale)
+    ensures usage { result.0 ≡ Why.Usage → ⊥ }
+    ensures bad_script { (line : ℕ) → result.0 ≡ Why.BadScript line → IsFirstOutside (S.left script.old) line }
+    ensures history { EndsAs result.0 (IsUnbegun out.old out.new result.1.entries) (HasBegun S.left S.faults K.written K.faults D.tells D.seen D.moment D.images result.0 script.old script.new out.old out.new first.old second.old first.new second.new result.1.entries result.1.notes) }
+    ensures read_fault { result.0 ≡ Why.ReadFault → Rose (S.faults script.old) (S.faults script.new) }
+    ensures write_fault { result.0 ≡ Why.WriteFault → Rose (K.faults out.old) (K.faults out.new) }
+    ensures source_stands { (result.0 ≡ Why.ReadFault → ⊥) → S.faults script.new ≡ S.faults script.old }
+    ensures sink_stands { (result.0 ≡ Why.WriteFault → ⊥) → K.faults out.new ≡ K.faults out.old }
+    ensures disk_fault { result.0 ≡ Why.DiskFault → Rose (D.faults first.old) (D.faults first.new) ⊎ Rose (D.faults second.old) (D.faults second.new) }
+    ensures damaged { (file : Bool) (at : ℕ) → D.tells ≡ true → result.0 ≡ Why.Damaged file at → stored (D.seen first.old) (D.seen second.old) ≡ Err (record { second = file; at = at }) }
+{
     let log = match mount(alloc, name, first, second) {
         Ok(log) => log,
         Err(why) => return (why, Tale::none()),
@@ -205,6 +217,7 @@ fn buffer(alloc: Global) -> Result<Vec<u8>, AllocError>
 }
 
 // The world of what a store holds, in which nothing has happened yet.
+#[tactic(auto, using(crate::proofs::Started::in_range, crate::proofs::Started::properties))]
 fn boot(alloc: Global, kept: &Kept) -> Result<World, NoMemory>
     requires { IsBootable kept.now }
     ensures { IfOk result (λ w. w ≡ record { start = booted_from kept.now; entries = []; notes = [] }) }
@@ -215,6 +228,7 @@ fn boot(alloc: Global, kept: &Kept) -> Result<World, NoMemory>
 }
 
 // The world of a run that is to begin, and room for a whole queue.
+#[tactic(auto, using(crate::proofs::Started::properties))]
 fn begin<D: Disk>(
     alloc: Global,
     log: &Log,
@@ -223,6 +237,7 @@ fn begin<D: Disk>(
 ) -> Result<(World, Vec<u8>), NoMemory>
     requires bootable { IsBootable log.now.chosen.held.world }
     ensures room { IfOk result (λ made. 131090 ≤ vec_len made.1) }
+    ensures properties { OnOk result (All (λ s. AreProperties s.props) log.now.chosen.held.world.objects) }
     ensures world { IfOk result (λ made. made.0 ≡ begun_from log.now (note_of D.moment D.faults first.now second.now (unbegun_from log.now))) }
 {
     let buf = buffer(alloc)?;
@@ -234,7 +249,8 @@ fn begin<D: Disk>(
 // The world stops, where it doesn't yet.
 fn stop(world: &mut World)
     requires { (now world.old).dead ≡ false }
-    ensures { Longer world.old world.new (halted (now world.old)) }
+    ensures halts { Longer world.old world.new (halted (now world.old)) }
+    ensures quiet { Quietly world.old world.new }
 {
     if !world.is_stopping() {
         world.halt();

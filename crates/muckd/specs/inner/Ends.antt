@@ -1,11 +1,9 @@
 -- What a run comes to, from the log that was mounted.
 use Rattle.std.specs.Prelude.{◌≡◌, ◌⊎◌, ℕ, ◌≤◌, Bool, true, false, List, [], ◌∷◌, length, Option, Some, Ok, Err}
-use Rattle.std.specs.Prelude.{All}
 use Rattle.std.specs.List.{list_all}
 use Rattle.muck_model.specs.declared.event.Entry.{Entry}
 use Rattle.muck_model.specs.declared.note.Note.{Note}
 use Rattle.muck_model.specs.declared.tune.Tune.{Tune}
-use Rattle.muck_codec.specs.Stored.{AreProperties}
 use Rattle.muck_store.specs.Forms.{loaded}
 use Rattle.muck_store.specs.Limits.{fits}
 use Rattle.muck_store.specs.Whole.{is_whole}
@@ -34,6 +32,12 @@ why_of (LogFull end more) = StoreFull end more
 why_of Unfit = Damaged false 0
 why_of Stale = Damaged false 0
 
+-- why the files weren't opened
+abbrev pub MayNotOpen : Why → Type 0
+MayNotOpen NoMemory = Unit {0}
+MayNotOpen DiskFault = Unit {0}
+MayNotOpen why = ⊥
+
 -- why no store was mounted, where the disks tell their bytes
 abbrev pub IsMountWhy : List ℕ → List ℕ → Why → Type 0
 IsMountWhy a b (Damaged second at) = stored a b ≡ Err (record { second = second; at = at })
@@ -60,7 +64,6 @@ pub record IsBootable (kept : Kept) : Type 0 where
   pub few : length kept.objects ≤ 100000
   pub whole : is_whole kept.objects ≡ true
   pub fit : list_all fits kept.objects ≡ true
-  pub properties : All (λ s. AreProperties s.props) kept.objects
   pub tuned : tune_fits kept.tune ≡ true
 
 -- the world of a kept one, in which nothing has happened yet
