@@ -225,7 +225,6 @@ module _ {D : Type 0} (seen : D → List ℕ) (moment : D → ℕ) (images : D �
   module _ (log : LogState) (f s f' s' : D) (h k : History) (n : ℕ) (v : Keeps seen moment images faults (Some log) f s mounted h) (number : n ≡ after_number log.chosen.held.number)
       (cuts : k ≡ entered (noted h (note_of moment faults f s h)) (cut n)) (consistent : IsConsistent (now h).live.objects)
       (batch : Batch) (same : batch ≡ world_batch (now h).live.objects (now h).live.board.tune)
-      (lays : laid (dump_payload log.chosen (now h)) (target log.chosen).held.world ≡ Some (persisted (now h)))
       (first_later : faults f ≤ faults f') (second_later : faults s ≤ faults s') where
     abbrev note : Note
     note = note_of moment faults f s h
@@ -242,21 +241,18 @@ module _ {D : Type 0} (seen : D → List ℕ) (moment : D → ℕ) (images : D �
     whole_consistent : IsConsistent world.live.objects
     whole_consistent = subst (λ (l : Live). IsConsistent l.objects) (sym (cut_live h n)) consistent
 
-    pub makes : laid (payload_of log batch) (target log.chosen).held.world ≡ Some (persisted (now h))
-    makes = ap (λ p. laid p (target log.chosen).held.world) payload_same_as ∙ lays
-
     dumped : after_batch log.chosen (payload_of log batch) (persisted (now h)) ≡ dumped_on log.chosen world
     dumped = dumped_is log.chosen (payload_of log batch) (now h) world (cut_live h n) payload_same_as
 
-    written : (left : Option LogState) (r : Result (Unit {0}) LogFault) → Appended seen moment images batch log left f s f' s' r → Keeps seen moment images faults None f' s' mounted begins
+    written : (left : Option LogState) (r : Result (Unit {0}) LogFault) → Appended seen moment images batch (persisted (now h)) log left f s f' s' r → Keeps seen moment images faults None f' s' mounted begins
     written left r a =
         append_moves seen moment images faults f s mounted h note 0 n (here f s h) (count f s h) refl log v whole_consistent number f' s'
-        (subst (λ x. LeavesBoth moment images f s f' s' (LoadsEither log.chosen x)) dumped (a.any (persisted (now h)) makes)) first_later second_later
+        (subst (λ x. LeavesBoth moment images f s f' s' (LoadsEither log.chosen x)) dumped a.any) first_later second_later
 
-    pub written_keeps : (left : Option LogState) (r : Result (Unit {0}) LogFault) → Appended seen moment images batch log left f s f' s' r → Keeps seen moment images faults None f' s' mounted k
+    pub written_keeps : (left : Option LogState) (r : Result (Unit {0}) LogFault) → Appended seen moment images batch (persisted (now h)) log left f s f' s' r → Keeps seen moment images faults None f' s' mounted k
     written_keeps left r a = subst (λ (x : History). Keeps seen moment images faults None f' s' mounted x) (sym cuts) (written left r a)
 
-    module _ (left : Option LogState) (m : History) (a : Appended seen moment images batch log left f s f' s' (Ok tt)) (ends : m ≡ entered (noted k (note_of moment faults f' s' k)) (by_porter (Stored n))) where
+    module _ (left : Option LogState) (m : History) (a : Appended seen moment images batch (persisted (now h)) log left f s f' s' (Ok tt)) (ends : m ≡ entered (noted k (note_of moment faults f' s' k)) (by_porter (Stored n))) where
       abbrev end_note : Note
       end_note = note_of moment faults f' s' k
 
@@ -274,7 +270,7 @@ module _ {D : Type 0} (seen : D → List ℕ) (moment : D → ℕ) (images : D �
 
       chosen : a.answer.0.chosen ≡ dumped_on log.chosen world
       chosen =
-          a.answer.2.chosen ∙ ap (after_batch log.chosen (payload_of log batch)) (some_same a.answer.0.chosen.held.world (persisted (now h)) (sym a.answer.2.makes ∙ makes)) ∙ dumped
+          a.answer.2.chosen ∙ ap (after_batch log.chosen (payload_of log batch)) (some_same a.answer.0.chosen.held.world (persisted (now h)) (sym a.answer.2.makes ∙ a.answer.4)) ∙ dumped
 
       behind : end_note.entries ≡ length begins.entries
       behind = ap (λ (x : History). length x.entries) cuts

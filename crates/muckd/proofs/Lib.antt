@@ -5,7 +5,7 @@ pub mod Acts
 pub mod Towards
 pub mod Whole
 pub mod Answered
-pub mod Owed
+pub mod Appending
 pub mod Records
 pub mod Dumpings
 pub mod Dumped

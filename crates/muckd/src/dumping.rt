@@ -1,18 +1,21 @@
 // Dumps: what the log of a run stores of its world.
-ghost use Rattle.std.specs.Prelude.{◌≡◌, ◌⊎◌, ◌≤◌, ◌<◌, ◌^◌, ℕ, true, false, length, List, Option, Some, None, IfOk, OnOk, OnErr, IfErr, IsErrOf, IsSome};
+ghost use Rattle.std.specs.Prelude.{◌≡◌, ⊥, ◌⊎◌, ◌≤◌, ◌<◌, ◌^◌, ℕ, true, false, length, List, Option, Some, None, IfOk, OnOk, OnErr, IfErr, IsErrOf, IsSome};
 ghost use Rattle.muck_codec.specs.Batches.{HasFewLines};
 ghost use Rattle.muck_db.specs.inner.Limits.{IsWithinLimits};
 ghost use Rattle.muck_io.specs.Faults.{Rose};
 ghost use Rattle.muck_log.specs.File.{after_number};
 ghost use Rattle.muck_log.specs.Store.{LogState, IsMounted};
 ghost use Rattle.muck_model.specs.declared.event.Event.TheVariants.{Cut, Died};
-ghost use Rattle.muck_store.specs.Forms.{world_batch};
+ghost use Rattle.muck_model.specs.declared.tune.Tune.{Tune};
+ghost use Rattle.muck_log.specs.World.{tune_fits};
+ghost use Rattle.muck_store.specs.Forms.{persist, world_batch};
 ghost use Rattle.spec_admin.specs.Parameters.{IsInRange};
 ghost use Rattle.spec_dumps.specs.Fronts.{file_most};
 ghost use Rattle.spec_dumps.specs.Holding.{Keeps, Rests};
 ghost use Rattle.spec_events.specs.Histories.{History, now, entered, noted, by_porter};
 ghost use Rattle.spec_events.specs.World.{runs_dump};
 ghost use Rattle.spec_live.specs.Consistent.{IsConsistent};
+ghost use Rattle.spec_live.specs.Objects.{Entry};
 ghost use Rattle.muck_script.specs.Story.{dumping};
 ghost use Rattle.muckd.specs.inner.Dumps.{note_of, ending_event, HasRisen, IsMountingFault, Appended, Dumps, DumpsLast};
 ghost use Rattle.muckd.specs.inner.Plays.{PlaysOrBreaks};
@@ -96,7 +99,8 @@ impl Store {
         requires few { length batch.now.records < 2 ^ 32 }
         requires lines { HasFewLines batch.now.records }
         requires mounted { (log : LogState) → D.tells ≡ true → self.old.log ≡ Some log → IsMounted D.seen D.moment D.images log first.old second.old }
-        ensures wrote { (log : LogState) → D.tells ≡ true → self.old.log ≡ Some log → Appended D.seen D.moment D.images batch.now log self.new.log first.old second.old first.new second.new result }
+        ensures wrote { (log : LogState) (es : List Entry) (tune : Tune) → D.tells ≡ true → self.old.log ≡ Some log → batch.now ≡ world_batch es tune → tune_fits tune ≡ true → 2 ≤ length es
+            → Appended D.seen D.moment D.images batch.now (record { objects = persist es; tune = tune }) log self.new.log first.old second.old first.new second.new result }
         ensures first_later { D.faults first.old ≤ D.faults first.new }
         ensures second_later { D.faults second.old ≤ D.faults second.new }
         ensures cause { IsErrOf result LogFault.DiskFault → Rose (D.faults first.old) (D.faults first.new) ⊎ Rose (D.faults second.old) (D.faults second.new) }
@@ -206,6 +210,7 @@ fn dump_mounted<D: Disk>(
     ensures first_later { D.faults first.old ≤ D.faults first.new }
     ensures second_later { D.faults second.old ≤ D.faults second.new }
     ensures cause { IfOk result (λ o. o ≡ Some LogFault.DiskFault → Rose (D.faults first.old) (D.faults first.new) ⊎ Rose (D.faults second.old) (D.faults second.new)) }
+    ensures apart { IfOk result (λ o. o ≡ Some LogFault.NoMemory → ⊥) }
 {
     let k = store.next();
     let batch = begin_dump(world, first, second, k)?;
@@ -214,7 +219,8 @@ fn dump_mounted<D: Disk>(
             end_dump(world, first, second, k, true)?;
             Ok(None)
         }
-        Err(LogFault::NoMemory) => {
+        // (a batch of a whole world is never unfit)
+        Err(LogFault::NoMemory | LogFault::Unfit) => {
             world.died(PORTER);
             Err(RunFault::NoMemory)
         }
@@ -246,6 +252,7 @@ pub fn dump<D: Disk>(
     ensures first_later { D.faults first.old ≤ D.faults first.new }
     ensures second_later { D.faults second.old ≤ D.faults second.new }
     ensures cause { IfOk result (λ o. o ≡ Some LogFault.DiskFault → Rose (D.faults first.old) (D.faults first.new) ⊎ Rose (D.faults second.old) (D.faults second.new)) }
+    ensures apart { IfOk result (λ o. o ≡ Some LogFault.NoMemory → ⊥) }
 {
     match store.mount(alloc, first, second) {
         Ok(()) => dump_mounted(world, store, first, second),

@@ -37,19 +37,20 @@ IsMountingFault NoMemory = Unit {0}
 IsMountingFault DiskFault = Unit {0}
 IsMountingFault fault = ⊥
 
--- What the log answers to a batch, and what is left of it.
-abbrev pub IsAnswer : {D : Type 0} → (D → List ℕ) → (D → ℕ) → (D → ℕ → List ℕ → Type 0) → Batch → LogState → Option LogState → D → D → Result (Unit {0}) LogFault → Type 0
-IsAnswer seen moment images batch log left first second (Ok x) = (next : LogState) × (left ≡ Some next) × IsNext log next (payload_of log batch) × IsMounted seen moment images next first second
-IsAnswer seen moment images batch log left first second (Err (StoreFull end more)) = (left ≡ None) × (end ≡ (target log.chosen).place) × (more ≡ more_of log (payload_of log batch)) × (log.most < end + more)
-IsAnswer seen moment images batch log left first second (Err DiskFault) = left ≡ None
-IsAnswer seen moment images batch log left first second (Err NoMemory) = left ≡ None
-IsAnswer seen moment images batch log left first second (Err Unfit) = (left ≡ None) × (laid (payload_of log batch) (target log.chosen).held.world ≡ None)
-IsAnswer seen moment images batch log left first second (Err fault) = ⊥
+-- What the log answers to the batch of a whole world that makes this one, and what is left of it.
+abbrev pub IsAnswer : {D : Type 0} → (D → List ℕ) → (D → ℕ) → (D → ℕ → List ℕ → Type 0) → Batch → Kept → LogState → Option LogState → D → D → Result (Unit {0}) LogFault → Type 0
+IsAnswer seen moment images batch made log left first second (Ok x) =
+    (next : LogState) × (left ≡ Some next) × IsNext log next (payload_of log batch) × IsMounted seen moment images next first second × (laid (payload_of log batch) (target log.chosen).held.world ≡ Some made)
+IsAnswer seen moment images batch made log left first second (Err (StoreFull end more)) = (left ≡ None) × (end ≡ (target log.chosen).place) × (more ≡ more_of log (payload_of log batch)) × (log.most < end + more)
+IsAnswer seen moment images batch made log left first second (Err DiskFault) = left ≡ None
+IsAnswer seen moment images batch made log left first second (Err NoMemory) = left ≡ None
+IsAnswer seen moment images batch made log left first second (Err Unfit) = left ≡ None
+IsAnswer seen moment images batch made log left first second (Err fault) = ⊥
 
--- What is kept of both disks while a batch is written, and what the log answers.
-pub record Appended {D : Type 0} (seen : D → List ℕ) (moment : D → ℕ) (images : D → ℕ → List ℕ → Type 0) (batch : Batch) (log : LogState) (left : Option LogState) (first second first' second' : D) (r : Result (Unit {0}) LogFault) : Type 0 where
-  pub any : (w : Kept) → laid (payload_of log batch) (target log.chosen).held.world ≡ Some w → LeavesBoth moment images first second first' second' (LoadsEither log.chosen (after_batch log.chosen (payload_of log batch) w))
-  pub answer : IsAnswer seen moment images batch log left first' second' r
+-- What is kept of both disks while such a batch is written, and what the log answers.
+pub record Appended {D : Type 0} (seen : D → List ℕ) (moment : D → ℕ) (images : D → ℕ → List ℕ → Type 0) (batch : Batch) (made : Kept) (log : LogState) (left : Option LogState) (first second first' second' : D) (r : Result (Unit {0}) LogFault) : Type 0 where
+  pub any : LeavesBoth moment images first second first' second' (LoadsEither log.chosen (after_batch log.chosen (payload_of log batch) made))
+  pub answer : IsAnswer seen moment images batch made log left first' second' r
 
 -- why a dump failed that was made on disks that tell their bytes, if it did
 abbrev pub IsDumpFault : Option LogFault → Type 0
