@@ -281,15 +281,15 @@ module _ {D : Type 0} (seen : D → List ℕ) (moment : D → ℕ) (images : D �
           (subst (λ (x : History). Rests seen moment images faults (Some a.answer.0) f' s' mounted x) m_is
           (stored_rests seen moment images faults f s mounted h note 0 n (here f s h) (count f s h) refl log v whole_consistent number f' s' (written left (Ok tt) a) a.answer.0 a.answer.3 limit chosen end_note (here f' s' k) (count f' s' k) behind))
 
-      same_end : persisted (after h.start over.entries) ≡ persisted world
-      same_end =
+      kept_end : persisted (after h.start over.entries) ≡ persisted world
+      kept_end =
           persisted_same world (after h.start over.entries)
           (same_as world (effect world (by_porter (Stored n))) (after h.start over.entries) (same_stored world n) (after-append begins.entries (by_porter (Stored n) ∷ []) h.start))
 
       whole : StandsWhole moment images f' s' m.start m.entries
       whole =
           subst (λ (x : History). StandsWhole moment images f' s' x.start x.entries) m_is
-          (stored_whole seen moment images faults f s mounted h note 0 n (here f s h) (count f s h) refl log v whole_consistent number f' s' (written left (Ok tt) a) a.answer.0 a.answer.3 limit chosen end_note (here f' s' k) (count f' s' k) behind same_end)
+          (stored_whole seen moment images faults f s mounted h note 0 n (here f s h) (count f s h) refl log v whole_consistent number f' s' (written left (Ok tt) a) a.answer.0 a.answer.3 limit chosen end_note (here f' s' k) (count f' s' k) behind kept_end)
 
       pub dumps_stored : Dumps seen moment images faults left f' s' mounted m (Ok None)
       dumps_stored = record { safe = rests.keeps.safe; rests = rests; whole = λ e. whole; full = λ end more e. cc; fault = tt }

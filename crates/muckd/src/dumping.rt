@@ -1,5 +1,5 @@
 // Dumps: what the log of a run stores of its world.
-ghost use Rattle.std.specs.Prelude.{◌≡◌, ⊥, ◌⊎◌, ◌≤◌, ◌<◌, ◌^◌, ℕ, true, false, length, List, Option, Some, None, IfOk, OnOk, OnErr, IfErr, IsErrOf, IsSome};
+ghost use Rattle.std.specs.Prelude.{◌≡◌, ◌⊎◌, ◌≤◌, ◌<◌, ◌^◌, ℕ, true, false, length, List, Option, Some, None, IfOk, OnOk, OnErr, IfErr, IsErrOf, IsSome};
 ghost use Rattle.muck_codec.specs.Batches.{HasFewLines};
 ghost use Rattle.muck_db.specs.inner.Limits.{IsWithinLimits};
 ghost use Rattle.muck_io.specs.Faults.{Rose};
