@@ -8,6 +8,7 @@ pub mod Answered
 pub mod Appending
 pub mod Records
 pub mod Dumpings
+pub mod Mounted
 pub mod Dumped
 pub mod Ending
 pub mod Lining

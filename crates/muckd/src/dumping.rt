@@ -121,7 +121,7 @@ impl Store {
 }
 
 // The dump of a number begins: what is to be stored.
-fn begin_dump<D: Disk>(world: &mut World, first: &D, second: &D, k: u64) -> Result<Batch, RunFault>
+fn begin_dump<D: Disk>(world: &mut World, first: &D, second: &D, k: u64) -> Result<Batch, NoMemory>
     requires alive { (now world.old).dead ≡ false }
     requires idle { (now world.old).dumps.running ≡ None }
     ensures batch { IfOk result (λ batch. batch ≡ world_batch (now world.old).live.objects (now world.old).live.board.tune) }
@@ -130,13 +130,9 @@ fn begin_dump<D: Disk>(world: &mut World, first: &D, second: &D, k: u64) -> Resu
     ensures tuned { OnOk result (IsInRange (now world.old).live.board.tune) }
     ensures step { OnOk result (world.new ≡ entered (noted world.old (note_of D.moment D.faults first.now second.now world.old)) (by_porter (Cut k))) }
     ensures died { OnErr result (world.new ≡ entered (noted world.old (note_of D.moment D.faults first.now second.now world.old)) (by_porter Died)) }
-    ensures memory { OnErr result (result ≡ Err RunFault.NoMemory) }
 {
     world.note(first, second);
-    match world.cut(PORTER, k) {
-        Ok(batch) => Ok(batch),
-        Err(NoMemory) => Err(RunFault::NoMemory),
-    }
+    world.cut(PORTER, k)
 }
 
 // It is over, and who asked for it is told how it came out.
@@ -146,22 +142,17 @@ fn end_dump<D: Disk>(
     second: &D,
     k: u64,
     stored: bool,
-) -> Result<(), RunFault>
+) -> Result<(), NoMemory>
     requires alive { (now world.old).dead ≡ false }
     requires runs { runs_dump k (now world.old).dumps ≡ true }
     ensures step { OnOk result (world.new ≡ entered (noted world.old (note_of D.moment D.faults first.now second.now world.old)) (by_porter (ending_event k stored))) }
     ensures died { OnErr result (world.new ≡ entered (noted world.old (note_of D.moment D.faults first.now second.now world.old)) (by_porter Died)) }
-    ensures memory { OnErr result (result ≡ Err RunFault.NoMemory) }
 {
     world.note(first, second);
-    let told = if stored {
+    if stored {
         world.stored(PORTER, k)
     } else {
         world.dump_failed(PORTER, k)
-    };
-    match told {
-        Ok(()) => Ok(()),
-        Err(NoMemory) => Err(RunFault::NoMemory),
     }
 }
 
@@ -185,9 +176,13 @@ fn dump_unmounted<D: Disk>(
         → Dumps D.seen D.moment D.images D.faults store.now.log first.now second.now mounted world.new result }
 {
     let k = store.next();
-    begin_dump(world, first, second, k)?;
-    end_dump(world, first, second, k, false)?;
-    Ok(Some(fault))
+    let Ok(_) = begin_dump(world, first, second, k) else {
+        return Err(RunFault::NoMemory);
+    };
+    match end_dump(world, first, second, k, false) {
+        Ok(()) => Ok(Some(fault)),
+        Err(NoMemory) => Err(RunFault::NoMemory),
+    }
 }
 
 // A dump to the log that is mounted.
@@ -213,21 +208,23 @@ fn dump_mounted<D: Disk>(
     ensures apart { IfOk result (λ o. o ≡ Some LogFault.NoMemory → ⊥) }
 {
     let k = store.next();
-    let batch = begin_dump(world, first, second, k)?;
+    let Ok(batch) = begin_dump(world, first, second, k) else {
+        return Err(RunFault::NoMemory);
+    };
     match store.append(first, second, &batch) {
-        Ok(()) => {
-            end_dump(world, first, second, k, true)?;
-            Ok(None)
-        }
+        Ok(()) => match end_dump(world, first, second, k, true) {
+            Ok(()) => Ok(None),
+            Err(NoMemory) => Err(RunFault::NoMemory),
+        },
         // (a batch of a whole world is never unfit)
         Err(LogFault::NoMemory | LogFault::Unfit) => {
             world.died(PORTER);
             Err(RunFault::NoMemory)
         }
-        Err(fault) => {
-            end_dump(world, first, second, k, false)?;
-            Ok(Some(fault))
-        }
+        Err(fault) => match end_dump(world, first, second, k, false) {
+            Ok(()) => Ok(Some(fault)),
+            Err(NoMemory) => Err(RunFault::NoMemory),
+        },
     }
 }
 
