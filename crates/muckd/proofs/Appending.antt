@@ -1,5 +1,5 @@
 -- What the log answers to the batch of a whole world.
-use Rattle.std.proofs.Common.{◌≡◌, ◌⊎◌, inl, inr, ⊥, ℕ, ◌≤◌, ◌<◌, true, false, ◌&&◌, List, length, refl, sym, ap, ap2, subst, ◌∙◌, arith, Option, Some, None, Result, Ok, Err, OnOk, IfOk}
+use Rattle.std.proofs.Common.{◌≡◌, ◌⊎◌, inl, inr, ℕ, ◌≤◌, Bool, true, false, ◌&&◌, List, [], ◌∷◌, length, refl, sym, ap, subst, ◌∙◌, arith, Option, Some, None, Result, Ok, Err, OnOk, IfOk}
 use Rattle.std.proofs.lemmas.Bool.{le-leb, and_parts}
 use Rattle.muck_disk.specs.Images.{Only}
 use Rattle.muck_codec.specs.declared.stored.Batch.{Batch}

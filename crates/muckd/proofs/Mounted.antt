@@ -1,6 +1,6 @@
 -- A dump to the log that is mounted, and the log that is mounted again.
-use Rattle.std.proofs.Common.{◌≡◌, ◌⊎◌, ⊥, ℕ, ◌≤◌, true, List, length, refl, sym, subst, Option, Some, None, Result, Ok, Err, IsSome}
-use Rattle.std.specs.Prelude.{is_none}
+use Rattle.std.proofs.Common.{◌≡◌, ◌⊎◌, ℕ, ◌≤◌, true, List, length, refl, sym, subst, Option, Some, None, Result, Ok, Err, IsSome}
+use Rattle.std.specs.Prelude.{is_some, not}
 use Rattle.muck_codec.specs.declared.stored.Batch.{Batch}
 use Rattle.muck_io.specs.Faults.{Rose}
 use Rattle.muck_log.specs.File.{after_number}
@@ -24,7 +24,7 @@ use Rattle.muckd.specs.inner.Dumps.{note_of, Appended, Dumps, IsMountingFault}
 use Rattle.muckd.proofs.Appending.{tune_of, two_there}
 use Rattle.muckd.proofs.Dumpings.{died_noted, died_here, dumps_died, risen, dumps_broke, dumps_full, written_keeps, dumps_stored}
 
-pub no_log : (o : Option LogState) → is_none o ≡ true → o ≡ None
+pub no_log : (o : Option LogState) → not (is_some o) ≡ true → o ≡ None
 no_log None e = refl
 no_log (Some log) e = cc
 
@@ -55,7 +55,7 @@ module _ {D : Type 0} (seen : D → List ℕ) (moment : D → ℕ) (images : D �
     mounted_there log is = (as_some log is).usable.0
 
   is_there : (x : Option LogState) → IsSome x → (log : LogState) × (x ≡ Some log)
-  is_there None e = absurd e
+  is_there None e = cc
   is_there (Some log) e = (log, refl)
 
   -- A dump began, and its batch was handed to the log.

@@ -13,14 +13,14 @@ use Rattle.muckd.proofs.dumping.begin_dump.Goals as goal
 pub cut-requires : goal.cut-requires
 cut-requires g c = ap (λ (x : History). is_lawful (now x) (by_porter (Cut c.args.k))) c.note.ensures ∙ cut_lawful _ _ _ c.requires.alive c.requires.idle
 
-pub returns-in-Ok-clause-batch : goal.returns-in-Ok-clause-batch
-returns-in-Ok-clause-batch g c = at_note (λ (w : World). c.in-Ok.batch ≡ world_batch w.live.objects w.live.board.tune) _ _ _ c.note.ensures c.in-Ok.ensures.batch
+pub returns-clause-batch : goal.returns-clause-batch
+returns-clause-batch g c = at_note (λ (w : World). c.in-Ok.batch ≡ world_batch w.live.objects w.live.board.tune) _ _ _ c.note.ensures c.in-Ok.ensures.batch
 
-pub returns-in-Ok-clause-consistent : goal.returns-in-Ok-clause-consistent
-returns-in-Ok-clause-consistent g c = at_note (λ (w : World). IsConsistent w.live.objects) _ _ _ c.note.ensures c.in-Ok.ensures.consistent
+pub returns-clause-consistent : goal.returns-clause-consistent
+returns-clause-consistent g c = at_note (λ (w : World). IsConsistent w.live.objects) _ _ _ c.note.ensures c.in-Ok.ensures.consistent
 
-pub returns-in-Ok-clause-limits : goal.returns-in-Ok-clause-limits
-returns-in-Ok-clause-limits g c = at_note (λ (w : World). IsWithinLimits w.live.objects) _ _ _ c.note.ensures c.in-Ok.ensures.limits
+pub returns-clause-limits : goal.returns-clause-limits
+returns-clause-limits g c = at_note (λ (w : World). IsWithinLimits w.live.objects) _ _ _ c.note.ensures c.in-Ok.ensures.limits
 
-pub returns-in-Ok-clause-tuned : goal.returns-in-Ok-clause-tuned
-returns-in-Ok-clause-tuned g c = at_note (λ (w : World). IsInRange w.live.board.tune) _ _ _ c.note.ensures c.in-Ok.ensures.tuned
+pub returns-clause-tuned : goal.returns-clause-tuned
+returns-clause-tuned g c = at_note (λ (w : World). IsInRange w.live.board.tune) _ _ _ c.note.ensures c.in-Ok.ensures.tuned

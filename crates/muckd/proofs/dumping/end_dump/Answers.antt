@@ -5,8 +5,8 @@ use Rattle.muckd.specs.inner.Dumps.{ending_event}
 use Rattle.muckd.proofs.Dumped.{end_lawful}
 use Rattle.muckd.proofs.dumping.end_dump.Goals as goal
 
-pub stored-told-requires : goal.stored-told-requires
-stored-told-requires g c = ap (λ (x : History). is_lawful (now x) (by_porter (ending_event c.args.k true))) c.note.ensures ∙ end_lawful _ _ _ true c.requires.alive c.requires.runs
+pub stored-requires : goal.stored-requires
+stored-requires g c = ap (λ (x : History). is_lawful (now x) (by_porter (ending_event c.args.k true))) c.note.ensures ∙ end_lawful _ _ _ true c.requires.alive c.requires.runs
 
-pub dump_failed-told-requires : goal.dump_failed-told-requires
-dump_failed-told-requires g c = ap (λ (x : History). is_lawful (now x) (by_porter (ending_event c.args.k false))) c.note.ensures ∙ end_lawful _ _ _ false c.requires.alive c.requires.runs
+pub dump_failed-requires : goal.dump_failed-requires
+dump_failed-requires g c = ap (λ (x : History). is_lawful (now x) (by_porter (ending_event c.args.k false))) c.note.ensures ∙ end_lawful _ _ _ false c.requires.alive c.requires.runs
