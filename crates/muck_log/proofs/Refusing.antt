@@ -1,9 +1,13 @@
 -- What is refused before any write.
-use Rattle.std.specs.Prelude.{◌≤◌, All, length, Err}
+use Rattle.std.specs.Prelude.{◌≡◌, ◌≤◌, All, List, length, Some, true, Err}
+use Rattle.muck_model.specs.declared.tune.Tune.{Tune}
+use Rattle.spec_live.specs.Objects.{Entry}
 use Rattle.muck_codec.specs.declared.stored.Batch.{Batch}
+use Rattle.muck_store.specs.Forms.{persist, world_batch}
 use Rattle.muck_codec.specs.Stored.{IsStored}
-use Rattle.muck_log.specs.Store.{LogState}
-use Rattle.muck_log.specs.Append.{IsRefused, IsTouching}
+use Rattle.muck_log.specs.World.{laid, tune_fits}
+use Rattle.muck_log.specs.Store.{LogState, target}
+use Rattle.muck_log.specs.Append.{IsRefused, IsTouching, payload_of}
 use Rattle.muck_log.specs.declared.fault.LogFault.{LogFault}
 use Rattle.muck_log.specs.declared.fault.LogFault.TheVariants.{NoMemory, DiskFault, Damaged, StoreFull, Unfit, Stale}
 
@@ -20,3 +24,7 @@ refused_storable old new batch fault is touched = absurd (refused_untouched old 
 
 pub refused_covers : (old new : LogState) (batch : Batch) (fault : LogFault) → IsRefused old new batch fault → IsTouching (Err fault) → length old.chosen.held.world.objects ≤ length batch.records
 refused_covers old new batch fault is touched = absurd (refused_untouched old new batch fault is touched)
+
+pub refused_whole : (old new : LogState) (batch : Batch) (fault : LogFault) → IsRefused old new batch fault → IsTouching (Err fault)
+    → (es : List Entry) (tune : Tune) → batch ≡ world_batch es tune → tune_fits tune ≡ true → 2 ≤ length es → laid (payload_of old batch) (target old.chosen).held.world ≡ Some (record { objects = persist es; tune = tune })
+refused_whole old new batch fault is touched = absurd (refused_untouched old new batch fault is touched)

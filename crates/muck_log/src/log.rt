@@ -3,7 +3,10 @@ ghost use Rattle.std.specs.Prelude.{◌≡◌, ◌⊎◌, ◌≤◌, ◌<◌, �
 ghost use Rattle.muck_disk.specs.Images.{Only};
 ghost use Rattle.muck_io.specs.Faults.{Rose};
 ghost use Rattle.muck_log.specs.Body.{body_bytes};
-ghost use Rattle.muck_log.specs.World.{World, IsFine, laid};
+ghost use Rattle.muck_log.specs.World.{World, IsFine, laid, tune_fits};
+ghost use Rattle.muck_model.specs.declared.tune.Tune.{Tune};
+ghost use Rattle.spec_live.specs.Objects.{Entry as WorldEntry};
+ghost use Rattle.muck_store.specs.Forms.{persist, world_batch};
 ghost use Rattle.muck_log.specs.File.{after_number, begin};
 ghost use Rattle.muck_log.specs.Mount.{IsLoaded, IsLoadFault};
 ghost use Rattle.muck_log.specs.Store.{LeavesBoth, MayBeAt, IsMounted, LogState, target, opens_new, next_body, after_batch, stored, framed, pick, IsDone};
@@ -231,6 +234,7 @@ impl Log {
         ensures storable { IfOk result (λ yes. yes ≡ true → All IsStored batch.now.records) }
         ensures covers { IfOk result (λ yes. yes ≡ true → length self.now.chosen.held.world.objects ≤ length batch.now.records) }
         ensures partial { IfOk result (λ yes. yes ≡ false → IsPartial self.now batch.now.records) }
+        ensures kept { OnOk result (All IsStored self.now.chosen.held.world.objects) }
     {
         if batch.records.len() < self.world.objects().len() {
             return Ok(false);
@@ -246,6 +250,7 @@ impl Log {
         ensures ok { IfOk result (λ ready. IsReady self.old self.new (payload_of self.old batch.now) ready) }
         ensures storable { OnOk result (All IsStored batch.now.records) }
         ensures covers { OnOk result (length self.old.chosen.held.world.objects ≤ length batch.now.records) }
+        ensures kept { OnOk result (All IsStored self.old.chosen.held.world.objects) }
         ensures err { IfErr result (λ fault. IsRefused self.old self.new batch.now fault) }
     {
         if self.stale {
@@ -309,7 +314,7 @@ impl Log {
     /// log stale, as memory that ran out while the batch was laid may. A stale log answers `Stale` until it is mounted
     /// again. At each moment since the call began, whatever a crash leaves of both disks loads as the world before or as
     /// the one with the batch, and after `Ok` as the latter.
-    #[tactic(auto, using(crate::proofs::Refusing::refused_storable, crate::proofs::Refusing::refused_covers))]
+    #[tactic(auto, using(crate::proofs::Refusing::refused_storable, crate::proofs::Refusing::refused_covers, crate::proofs::Refusing::refused_whole))]
     pub fn append<D: Disk>(
         &mut self,
         first: &mut D,
@@ -322,6 +327,7 @@ impl Log {
         ensures answer { IsAppended self.old self.new batch.now result }
         ensures storable { IsTouching result → All IsStored batch.now.records }
         ensures covers { IsTouching result → length self.old.chosen.held.world.objects ≤ length batch.now.records }
+        ensures whole { IsTouching result → (es : List WorldEntry) (tune : Tune) → batch.now ≡ world_batch es tune → tune_fits tune ≡ true → 2 ≤ length es → laid (payload_of self.old batch.now) (target self.old.chosen).held.world ≡ Some (record { objects = persist es; tune = tune }) }
         ensures chosen { OnOk result (IsNext self.old self.new (payload_of self.old batch.now)) }
         ensures mounted { D.tells ≡ true → OnOk result (IsMounted D.seen D.moment D.images self.new first.new second.new) }
         ensures any { D.tells ≡ true → self.old.stale ≡ false → (w : World) → laid (payload_of self.old batch.now) (target self.old.chosen).held.world ≡ Some w

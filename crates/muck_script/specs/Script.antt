@@ -6,7 +6,7 @@ use Rattle.std.specs.List.{list_any, list_all}
 use Rattle.muck_model.specs.Decimal.{decimal_of}
 use Rattle.spec_commands.specs.Texts.{is_space, first_word, other_words}
 use Rattle.muck_script.specs.declared.act.Act.{Act}
-use Rattle.muck_script.specs.declared.act.Act.TheVariants.{Nothing, Open, Send, Close, Wait}
+use Rattle.muck_script.specs.declared.act.Act.TheVariants.{Nothing, Open, Send, Close, Wait, Dump}
 use Rattle.muck_script.specs.Lines.{lines_of}
 
 abbrev pub if_positive : Option ℕ → Option ℕ
@@ -44,7 +44,8 @@ sending rest = if list_any is_space rest then send_to (other_words rest) (number
 
 abbrev pub asked : List ℕ → Option Act
 asked line =
-    if bytes_eq (first_word line) (codes "open") then option_map Open (number_of (other_words line))
+    if bytes_eq line (codes "dump") then Some Dump
+    else if bytes_eq (first_word line) (codes "open") then option_map Open (number_of (other_words line))
     else if bytes_eq (first_word line) (codes "send") then sending (other_words line)
     else if bytes_eq (first_word line) (codes "close") then option_map Close (number_of (other_words line))
     else if bytes_eq (first_word line) (codes "wait") then option_map Wait (seconds_of (other_words line))

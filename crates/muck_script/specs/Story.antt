@@ -1,16 +1,16 @@
 -- What a script makes happen, and the text that it writes.
-use Rattle.std.specs.Prelude.{ℕ, ℤ, zero, suc, ◌+◌, ◌-◌, min, nat_lt, if◌then◌else◌, List, [], ◌∷◌, ◌++◌, length, take, drop, Option, Some, None, codes}
+use Rattle.std.specs.Prelude.{ℕ, ℤ, zero, suc, ◌+◌, ◌-◌, min, nat_lt, Bool, true, false, ◌||◌, is_some, if◌then◌else◌, List, [], ◌∷◌, ◌++◌, length, take, drop, Option, Some, None, codes}
 use Rattle.std.specs.List.{flat_map}
 use Rattle.std.specs.Fmt.{decimal}
 use Rattle.muck_model.specs.declared.event.Entry.{Entry}
 use Rattle.muck_model.specs.declared.event.Event.{Event}
-use Rattle.muck_model.specs.declared.event.Event.TheVariants.{Opened, Input, Closed, Moment, Exec, Claim, Slice, Take, Stored, DumpFailed, Halt}
+use Rattle.muck_model.specs.declared.event.Event.TheVariants.{Opened, Input, Closed, Moment, Exec, Claim, Slice, Take, Cut, Stored, DumpFailed, Halt}
 use Rattle.spec_events.specs.World.{World, queue_of, is_leaving}
 use Rattle.spec_events.specs.Steps.{is_lawful, effect, next_ready, next_process}
 use Rattle.spec_live.specs.Connections.{connections_most}
 use Rattle.spec_events.specs.Histories.{after, by_porter}
 use Rattle.muck_script.specs.declared.act.Act.{Act}
-use Rattle.muck_script.specs.declared.act.Act.TheVariants.{Nothing, Open, Send, Close, Wait}
+use Rattle.muck_script.specs.declared.act.Act.TheVariants.{Nothing, Open, Send, Close, Wait, Dump}
 use Rattle.muck_script.specs.Lines.{lines_of}
 
 -- How a dump came out, by its number.
@@ -58,6 +58,7 @@ acted (Open d) w = if_lawful (Opened d) w
 acted (Send d text) w = if_lawful (Input d text) w
 acted (Close d) w = if_lawful (Closed d) w
 acted (Wait seconds) w = if_lawful (Moment (later seconds w)) w
+acted Dump w = []
 
 -- A turn: the first line of a connection is done, or a process runs for a slice.
 pub data Turn : Type 0 where
@@ -115,14 +116,43 @@ unfoldable pub served : ℕ → ℕ → Part
 served zero d os w = []
 served (suc n) d os w = both (both (plain (taken d)) (plain (parted d))) (served n (d + 1)) os w
 
--- a line of the script, with what follows it
-unfoldable pub line_story : Act → Part
-line_story act = both (both (plain (acted act)) (plain (turns turns_most))) (served connections_most 1)
+-- how the next dump comes out: it is stored, where nothing is said of it
+abbrev pub next_outcome : List Dumped → Dumped
+next_outcome [] = stored 0
+next_outcome (o ∷ os) = o
 
--- the whole script; lines after the stop do nothing
+-- a dump begins, and is over at once
+abbrev pub dump_entries : Dumped → List Entry
+dump_entries (stored k) = by_porter (Cut k) ∷ by_porter (Stored k) ∷ []
+dump_entries (failed k) = by_porter (Cut k) ∷ by_porter (DumpFailed k) ∷ []
+
+abbrev pub dumping : Part
+dumping os w = dump_entries (next_outcome os)
+
+abbrev pub asks_dump : Act → Bool
+asks_dump Dump = true
+asks_dump act = false
+
+-- the line of the script asks for a dump, or a connection has asked for one
+unfoldable pub asked_dump : Act → Part
+asked_dump act os w = if asks_dump act || is_some w.dumps.asked then dumping os w else []
+
+-- a line of the script, with what follows it: turns, a dump where one is asked, and then each queue is taken
+unfoldable pub line_story : Act → Part
+line_story act = both (both (both (plain (acted act)) (plain (turns turns_most))) (asked_dump act)) (served connections_most 1)
+
+-- the world stops, where it doesn't yet
+abbrev pub halting : World → List Entry
+halting w = if w.stopping then [] else by_porter Halt ∷ []
+
+-- the lines of the script; those after the stop do nothing
+abbrev pub lines_story : List Act → Part
+lines_story [] os w = halting w
+lines_story (act ∷ acts) os w = if w.stopping then [] else both (line_story act) (lines_story acts) os w
+
+-- the whole script, and behind it the last dump
 abbrev pub story : List Act → Part
-story [] os w = if w.stopping then [] else by_porter Halt ∷ []
-story (act ∷ acts) os w = if w.stopping then [] else both (line_story act) (story acts) os w
+story acts = both (lines_story acts) dumping
 
 -- a line that a connection is sent, without the byte 13 at its end
 abbrev pub shown : ℕ → List ℕ → List ℕ

@@ -14,4 +14,6 @@ pub enum Act {
     Close(u32),
     /// That it is so many seconds later.
     Wait(u64),
+    /// That a dump is made.
+    Dump,
 }

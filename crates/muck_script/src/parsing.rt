@@ -26,6 +26,9 @@ pub fn act_of(alloc: Global, line: &[u8]) -> Result<Option<Act>, NoMemory>
 fn asked(alloc: Global, line: &[u8]) -> Result<Option<Act>, NoMemory>
     ensures { IfOk result (λ act. act ≡ asked line.now) }
 {
+    if line == b"dump".as_slice() {
+        return Ok(Some(Act::Dump));
+    }
     let (word, rest) = cut_word(line);
     if word == b"open".as_slice() {
         return Ok(number_of(rest).map(Act::Open));

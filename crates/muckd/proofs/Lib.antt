@@ -5,3 +5,14 @@ pub mod Acts
 pub mod Towards
 pub mod Whole
 pub mod Answered
+pub mod Appending
+pub mod Records
+pub mod Dumpings
+pub mod Mounted
+pub mod Dumped
+pub mod Ending
+pub mod Lining
+pub mod Started
+pub mod Closing
+pub mod Played
+pub mod Called

@@ -9,16 +9,16 @@ use Rattle.std.specs.List.{flat_map}
 use Rattle.muck_io.specs.Sink.{Appends, AppendsFront}
 use Rattle.muck_model.specs.declared.event.Entry.{Entry}
 use Rattle.muck_model.specs.declared.event.Event.{Event}
-use Rattle.muck_model.specs.declared.event.Event.TheVariants.{Opened, Input, Closed, Take, Died}
+use Rattle.muck_model.specs.declared.event.Event.TheVariants.{Opened, Input, Closed, Take, Cut, Died}
 use Rattle.spec_events.specs.World.{World, queue_of, is_leaving}
 use Rattle.spec_events.specs.Steps.{effect, is_lawful, is_died}
-use Rattle.spec_events.specs.Histories.{History, after, now, entered, Grew, by_porter}
+use Rattle.spec_events.specs.Histories.{History, after, now, entered, Longer, by_porter}
 use Rattle.spec_events.proofs.Living.{dead-happened}
-use Rattle.spec_events.proofs.Runs.{grew_nothing, grew_one, grew_on, grew_as, now-grew}
+use Rattle.spec_events.proofs.Runs.{longer_nothing, longer_one, longer_on, longer_as, now-longer}
 use Rattle.muck_script.specs.Lines.{lines_of}
-use Rattle.muck_script.specs.Story.{Dumped, Part, outcome, outcomes_of, plain, then_on, both, if_lawful, taken, told, text_of, shown, farewell}
+use Rattle.muck_script.specs.Story.{Dumped, stored, failed, Part, outcome, outcomes_of, plain, then_on, both, if_lawful, taken, told, text_of, shown, farewell}
 use Rattle.muckd.specs.declared.playing.RunFault.{RunFault}
-use Rattle.muckd.specs.inner.Plays.{Says, Plays, Breaks, PlaysOrBreaks}
+use Rattle.muckd.specs.inner.Plays.{Says, Plays, IsPending, Breaks, PlaysOrBreaks}
 
 pub appends_nothing : (o : Option (List ℕ)) → Appends o o []
 appends_nothing None = tt
@@ -36,7 +36,7 @@ pub plays_nothing : (f : Part) (h k : History) (o : Option (List ℕ)) → Says 
 plays_nothing f h k o e same alive = record {
   entries = [];
   said = e;
-  history = grew_nothing h k same;
+  history = longer_nothing h k same;
   text = appends_nothing o;
   alive = ap (λ (x : History). (now x).dead) same ∙ alive;
 }
@@ -44,7 +44,7 @@ plays_nothing f h k o e same alive = record {
 pub lives_on : (h k : History) (event : Event) → k ≡ entered h (by_porter event) → is_died event ≡ false → (now h).dead ≡ false → (now k).dead ≡ false
 unfolding effect
 lives_on h k event is other alive =
-    ap (λ (w : World). w.dead) (now-grew h k _ (grew_one h k (by_porter event) is)) ∙ dead-happened event (now h) 0 other ∙ alive
+    ap (λ (w : World). w.dead) (now-longer h k _ (longer_one h k (by_porter event) is)) ∙ dead-happened event (now h) 0 other ∙ alive
 
 -- one event happens
 pub plays_one : (f : Part) (h k : History) (a b : Option (List ℕ)) (event : Event) (text : List ℕ) → Says f (now h) (by_porter event ∷ []) → k ≡ entered h (by_porter event) →
@@ -52,7 +52,7 @@ pub plays_one : (f : Part) (h k : History) (a b : Option (List ℕ)) (event : Ev
 plays_one f h k a b event text e is other alive written app = record {
   entries = by_porter event ∷ [];
   said = e;
-  history = grew_one h k (by_porter event) is;
+  history = longer_one h k (by_porter event) is;
   text = appends_as a b text _ (written ∙ sym (append-nil (told (now h) event))) app;
   alive = lives_on h k event is other alive;
 }
@@ -62,9 +62,11 @@ no_ending e = cc
 
 -- one event happened, all of the part, and then the ending; a front of its text was written
 pub breaks_after : (f : Part) (ending : List Entry) (h k : History) (a b : Option (List ℕ)) (event : Event) (text : List ℕ) → Says f (now h) (by_porter event ∷ []) →
-    Grew h k (by_porter event ∷ ending) → text ≡ told (now h) event → AppendsFront a b text → (ending ≡ [] → (now k).dead ≡ false) → Breaks f ending h k a b
+    Longer h k (by_porter event ∷ ending) → text ≡ told (now h) event → AppendsFront a b text → (ending ≡ [] → (now k).dead ≡ false) → Breaks f ending h k a b
 breaks_after f ending h k a b event text e is written app alive = record {
   front = by_porter event ∷ [];
+  pending = [];
+  began = tt;
   whole = λ later. ([], sym (e later));
   history = is;
   told = take app.0 text;
@@ -99,6 +101,8 @@ pub plays_as : {T : Type 0} (f g : Part) (h k : History) (a b : Option (List ℕ
 plays_as f g h k a b (Ok x) same p = record { entries = p.entries; said = λ later. same _ ∙ p.said later; history = p.history; text = p.text; alive = p.alive }
 plays_as f g h k a b (Err fault) same p = record {
   front = p.front;
+  pending = p.pending;
+  began = p.began;
   whole = λ later. let part = p.whole later in (part.0, part.1 ∙ sym (same _));
   history = p.history;
   told = p.told;
@@ -144,22 +148,31 @@ goes_second f g w v es fs later e p =
 -- one part and then another
 pub plays_both : (f g : Part) (h k m : History) (a b c : Option (List ℕ)) → Plays f h k a b → Plays g k m b c → Plays (both f g) h m a c
 plays_both f g h k m a b c p q =
-    let next : now k ≡ after (now h) p.entries = now-grew h k _ p.history in
+    let next : now k ≡ after (now h) p.entries = now-longer h k _ p.history in
     record {
       entries = p.entries ++ q.entries;
       said = λ later. goes_second f g (now h) (now k) p.entries q.entries later next p.said ∙ ap (λ es. p.entries ++ es) (q.said later);
-      history = grew_on h k m _ _ p.history q.history;
+      history = longer_on h k m _ _ p.history q.history;
       text = appends_as a c _ _
           (ap (λ w. text_of (now h) p.entries ++ text_of w q.entries) next ∙ sym (text_of-append p.entries q.entries (now h)))
           (appends_twice a b c _ _ p.text q.text);
       alive = q.alive;
     }
 
+-- a dump that began behind the last entries began behind all of them
+pending_behind : (es front : List Entry) (os : List Dumped) → IsPending front os → IsPending (es ++ front) os
+pending_behind es front [] p = tt
+pending_behind es front (stored k ∷ []) p = (es ++ p.0, ap (λ (xs : List Entry). es ++ xs) p.1 ∙ sym (append_assoc es p.0 (by_porter (Cut k) ∷ [])))
+pending_behind es front (stored k ∷ (o ∷ os)) p = absurd p
+pending_behind es front (failed k ∷ os) p = absurd p
+
 pub breaks_first : (f g : Part) (ending : List Entry) (h k : History) (a b : Option (List ℕ)) → Breaks f ending h k a b → Breaks (both f g) ending h k a b
 breaks_first f g ending h k a b p = record {
   front = p.front;
+  pending = p.pending;
+  began = p.began;
   whole = λ later.
-      let os : List Dumped = outcomes_of p.front ++ later in
+      let os : List Dumped = outcomes_of p.front ++ (p.pending ++ later) in
       let part = p.whole later in
       let others : List Entry = g (drop (length (outcomes_of (f os (now h)))) os) (after (now h) (f os (now h))) in
       (part.0 ++ others, sym (append_assoc p.front part.0 others) ∙ ap (λ es. es ++ others) part.1);
@@ -173,13 +186,15 @@ breaks_first f g ending h k a b p = record {
 
 pub breaks_second : (f g : Part) (ending : List Entry) (h k m : History) (a b c : Option (List ℕ)) → Plays f h k a b → Breaks g ending k m b c → Breaks (both f g) ending h m a c
 breaks_second f g ending h k m a b c p q =
-    let next : now k ≡ after (now h) p.entries = now-grew h k _ p.history in
+    let next : now k ≡ after (now h) p.entries = now-longer h k _ p.history in
     record {
       front = p.entries ++ q.front;
+      pending = q.pending;
+      began = pending_behind p.entries q.front q.pending q.began;
       whole = λ later.
           let part = q.whole later in
-          (part.0, append_assoc p.entries q.front part.0 ∙ ap (λ es. p.entries ++ es) part.1 ∙ sym (goes_second f g (now h) (now k) p.entries q.front later next p.said));
-      history = grew_as h m _ _ (sym (append_assoc p.entries q.front ending)) (grew_on h k m _ _ p.history q.history);
+          (part.0, append_assoc p.entries q.front part.0 ∙ ap (λ es. p.entries ++ es) part.1 ∙ sym (goes_second f g (now h) (now k) p.entries q.front (q.pending ++ later) next p.said));
+      history = longer_as h m _ _ (sym (append_assoc p.entries q.front ending)) (longer_on h k m _ _ p.history q.history);
       told = text_of (now h) p.entries ++ q.told;
       untold = q.untold;
       text = append_assoc (text_of (now h) p.entries) q.told q.untold
@@ -190,5 +205,5 @@ breaks_second f g ending h k m a b c p q =
     }
 
 -- one entry, and another behind it
-pub entered_twice : (h k m : History) (e f : Entry) → k ≡ entered h e → m ≡ entered k f → Grew h m (e ∷ f ∷ [])
-entered_twice h k m e f is then = grew_on h k m _ _ (grew_one h k e is) (grew_one k m f then)
+pub entered_twice : (h k m : History) (e f : Entry) → k ≡ entered h e → m ≡ entered k f → Longer h m (e ∷ f ∷ [])
+entered_twice h k m e f is then = longer_on h k m _ _ (longer_one h k e is) (longer_one k m f then)

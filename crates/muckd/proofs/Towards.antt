@@ -9,7 +9,7 @@ use Rattle.spec_events.specs.World.{World}
 use Rattle.spec_live.specs.Connections.{connections_most}
 use Rattle.spec_events.specs.Histories.{History, now, entered, by_porter}
 use Rattle.muck_script.specs.declared.act.Act.{Act}
-use Rattle.muck_script.specs.Story.{Dumped, Part, outcomes_of, plain, both, taken, parted, served, line_story, story, told}
+use Rattle.muck_script.specs.Story.{Dumped, Part, outcomes_of, plain, both, taken, parted, served, line_story, lines_story, told}
 use Rattle.muckd.specs.inner.Plays.{Plays, Breaks}
 use Rattle.muckd.proofs.Parts.{plays_both, plays_nothing, plays_one, appends_nothing, breaks_first, breaks_second}
 
@@ -24,7 +24,7 @@ pub towards_begins : (f : Part) (h : History) (a : Option (List ℕ)) → (now h
 towards_begins f h a alive = record { finish = λ m c p. p; break = λ ending m c p. p; alive = alive }
 
 -- the same entries, said in another way
-plays_as : (f g : Part) (h k : History) (a b : Option (List ℕ)) → ((os : List Dumped) → f os (now h) ≡ g os (now h)) → Plays f h k a b → Plays g h k a b
+pub plays_as : (f g : Part) (h k : History) (a b : Option (List ℕ)) → ((os : List Dumped) → f os (now h) ≡ g os (now h)) → Plays f h k a b → Plays g h k a b
 plays_as f g h k a b e p = record {
   entries = p.entries;
   said = λ later. sym (e (outcomes_of p.entries ++ later)) ∙ p.said later;
@@ -33,10 +33,13 @@ plays_as f g h k a b e p = record {
   alive = p.alive;
 }
 
-breaks_as : (f g : Part) (ending : List Entry) (h k : History) (a b : Option (List ℕ)) → ((os : List Dumped) → f os (now h) ≡ g os (now h)) → Breaks f ending h k a b → Breaks g ending h k a b
+-- what broke off of them
+pub breaks_as : (f g : Part) (ending : List Entry) (h k : History) (a b : Option (List ℕ)) → ((os : List Dumped) → f os (now h) ≡ g os (now h)) → Breaks f ending h k a b → Breaks g ending h k a b
 breaks_as f g ending h k a b e p = record {
   front = p.front;
-  whole = λ later. let part = p.whole later in (part.0, part.1 ∙ e (outcomes_of p.front ++ later));
+  pending = p.pending;
+  began = p.began;
+  whole = λ later. let part = p.whole later in (part.0, part.1 ∙ e (outcomes_of p.front ++ (p.pending ++ later)));
   history = p.history;
   told = p.told;
   untold = p.untold;
@@ -95,33 +98,33 @@ drop_one : (acts : List Act) (at : ℕ) (act : Act) → at < length acts → act
 drop_one acts at act less is = drop-cons acts at act less ∙ ap (λ x. x ∷ drop (suc at) acts) (sym is) ∙ rw (add-one at) refl
 
 -- once the world is stopping, nothing more happens
-stopped : (acts : List Act) (os : List Dumped) (w : World) → w.stopping ≡ true → story acts os w ≡ []
+stopped : (acts : List Act) (os : List Dumped) (w : World) → w.stopping ≡ true → lines_story acts os w ≡ []
 stopped [] os w e = cond-true _ _ _ e
 stopped (act ∷ acts) os w e = cond-true _ _ _ e
 
-pub playing_stopped : (acts rest : List Act) (h k : History) (a b : Option (List ℕ)) → Towards (story acts) (story rest) h k a b → (now k).stopping ≡ true → Plays (story acts) h k a b
-playing_stopped acts rest h k a b t e = towards_ends (story acts) (story rest) h k a b t (λ os. stopped rest os (now k) e)
+pub playing_stopped : (acts rest : List Act) (h k : History) (a b : Option (List ℕ)) → Towards (lines_story acts) (lines_story rest) h k a b → (now k).stopping ≡ true → Plays (lines_story acts) h k a b
+playing_stopped acts rest h k a b t e = towards_ends (lines_story acts) (lines_story rest) h k a b t (λ os. stopped rest os (now k) e)
 
 -- a line's story, and the story of the lines behind it
 line_first : (acts : List Act) (at : ℕ) (act : Act) (os : List Dumped) (w : World) → at < length acts → act ≡ get_or acts at act → w.stopping ≡ false →
-    both (line_story act) (story (drop (at + 1) acts)) os w ≡ story (drop at acts) os w
-line_first acts at act os w less is e = sym (cond-false _ _ _ e) ∙ ap (λ xs. story xs os w) (sym (drop_one acts at act less is))
+    both (line_story act) (lines_story (drop (at + 1) acts)) os w ≡ lines_story (drop at acts) os w
+line_first acts at act os w less is e = sym (cond-false _ _ _ e) ∙ ap (λ xs. lines_story xs os w) (sym (drop_one acts at act less is))
 
 pub playing_goes_on : (acts : List Act) (at : ℕ) (act : Act) (h k l : History) (a b c : Option (List ℕ)) → at < length acts → act ≡ get_or acts at act → (now k).stopping ≡ false →
-    Towards (story acts) (story (drop at acts)) h k a b → Plays (line_story act) k l b c → Towards (story acts) (story (drop (at + 1) acts)) h l a c
+    Towards (lines_story acts) (lines_story (drop at acts)) h k a b → Plays (line_story act) k l b c → Towards (lines_story acts) (lines_story (drop (at + 1) acts)) h l a c
 playing_goes_on acts at act h k l a b c less is e t p =
-    towards_goes_on (story acts) (story (drop at acts)) (line_story act) (story (drop (at + 1) acts)) h k l a b c t (λ os. line_first acts at act os (now k) less is e) p
+    towards_goes_on (lines_story acts) (lines_story (drop at acts)) (line_story act) (lines_story (drop (at + 1) acts)) h k l a b c t (λ os. line_first acts at act os (now k) less is e) p
 
 pub playing_breaks : (acts : List Act) (at : ℕ) (act : Act) (ending : List Entry) (h k l : History) (a b c : Option (List ℕ)) → at < length acts → act ≡ get_or acts at act → (now k).stopping ≡ false →
-    Towards (story acts) (story (drop at acts)) h k a b → Breaks (line_story act) ending k l b c → Breaks (story acts) ending h l a c
+    Towards (lines_story acts) (lines_story (drop at acts)) h k a b → Breaks (line_story act) ending k l b c → Breaks (lines_story acts) ending h l a c
 playing_breaks acts at act ending h k l a b c less is e t p =
-    towards_breaks (story acts) (story (drop at acts)) (line_story act) (story (drop (at + 1) acts)) ending h k l a b c t (λ os. line_first acts at act os (now k) less is e) p
+    towards_breaks (lines_story acts) (lines_story (drop at acts)) (line_story act) (lines_story (drop (at + 1) acts)) ending h k l a b c t (λ os. line_first acts at act os (now k) less is e) p
 
 -- the run is halted behind the last line
 pub playing_halted : (acts : List Act) (at : ℕ) (h k l : History) (a b : Option (List ℕ)) → length acts ≤ at → (now k).stopping ≡ false → l ≡ entered k (by_porter Halt) →
-    Towards (story acts) (story (drop at acts)) h k a b → Plays (story acts) h l a b
+    Towards (lines_story acts) (lines_story (drop at acts)) h k a b → Plays (lines_story acts) h l a b
 unfolding told
 playing_halted acts at h k l a b over e is t =
     let none : drop at acts ≡ [] = drop_all at acts over in
-    let same : (os : List Dumped) → story (drop at acts) os (now k) ≡ by_porter Halt ∷ [] = λ os. ap (λ xs. story xs os (now k)) none ∙ cond-false _ _ _ e in
-    t.finish l b (plays_one (story (drop at acts)) k l b b Halt [] (λ later. same later) is refl t.alive refl (appends_nothing b))
+    let same : (os : List Dumped) → lines_story (drop at acts) os (now k) ≡ by_porter Halt ∷ [] = λ os. ap (λ xs. lines_story xs os (now k)) none ∙ cond-false _ _ _ e in
+    t.finish l b (plays_one (lines_story (drop at acts)) k l b b Halt [] (λ later. same later) is refl t.alive refl (appends_nothing b))

@@ -6,7 +6,7 @@ use Rattle.spec_events.specs.World.{World}
 use Rattle.spec_events.specs.Steps.{effect}
 use Rattle.spec_events.specs.Histories.{History, now, after, Grew, by_porter}
 use Rattle.spec_events.proofs.Living.{dead-happened}
-use Rattle.spec_events.proofs.Runs.{now-grew}
+use Rattle.spec_events.proofs.Runs.{longer_grew, now-grew}
 use Rattle.muck_script.specs.inner.Settling.{DiedDuring}
 use Rattle.muck_script.specs.Story.{Turn, of_line, of_process, next_turn, turn_entries, turn, turns, plain, told, text_of}
 use Rattle.muckd.specs.inner.Plays.{Plays, Breaks}
@@ -53,7 +53,7 @@ pub plays_turns : (n : ℕ) (h k : History) (o : Option (List ℕ)) → Grew h k
 plays_turns n h k o is alive = record {
   entries = turns n (now h);
   said = λ later. refl;
-  history = is;
+  history = longer_grew h k _ is;
   text = appends_as o o [] _ (sym (turns_silent (turns n (now h)) (turns_are n (now h)) (now h))) (appends_nothing o);
   alive = ap (λ (w : World). w.dead) (now-grew h k _ is) ∙ turns_live (turns n (now h)) (turns_are n (now h)) (now h) ∙ alive;
 }
@@ -63,8 +63,10 @@ breaks_turns n h k o d =
     let lines : AreTurns d.front = front_turns d.front d.rest (let P : List Entry → Type 0 = AreTurns in subst P (sym d.whole) (turns_are n (now h))) in
     record {
       front = d.front;
+      pending = [];
+      began = tt;
       whole = λ later. (d.rest, d.whole);
-      history = d.died;
+      history = longer_grew h k _ d.died;
       told = [];
       untold = [];
       text = sym (turns_silent d.front lines (now h));

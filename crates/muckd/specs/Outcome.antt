@@ -1,16 +1,25 @@
 -- What the top call answers.
-use Rattle.std.specs.Prelude.{◌≡◌, ◌⊎◌, ℕ, ◌++◌, if◌then◌else◌, List, [], ◌∷◌, Option, Some, None, Ok, Err}
+use Rattle.std.specs.Prelude.{◌≡◌, ◌⊎◌, ◌<◌, ℕ, ◌+◌, ◌++◌, Bool, true, if◌then◌else◌, List, [], ◌∷◌, Option, Some, None, Ok, Err, codes}
 use Rattle.muck_io.specs.Sink.{Appends}
 use Rattle.muck_io.specs.Faults.{Rose}
 use Rattle.muck_model.specs.declared.event.Entry.{Entry}
-use Rattle.muck_model.specs.declared.event.Event.TheVariants.{Halt, Died}
-use Rattle.spec_events.specs.World.{World}
-use Rattle.spec_events.specs.Histories.{after, by_porter}
+use Rattle.muck_model.specs.declared.event.Event.TheVariants.{Halt, Died, Cut}
+use Rattle.muck_model.specs.declared.note.Note.{Note}
+use Rattle.muck_log.specs.World.{World as Kept}
+use Rattle.muck_log.specs.Store.{Chosen, stored as stored_in, target}
+use Rattle.muck_log.specs.Append.{more_of}
+use Rattle.muck_store.specs.Forms.{loaded}
+use Rattle.spec_dumps.specs.Fronts.{IsFront, dump_payload, log_of, file_most}
+use Rattle.spec_dumps.specs.Survival.{IsSafe, StandsWhole}
+use Rattle.spec_events.specs.World.{World, booted}
+use Rattle.spec_events.specs.Histories.{after, by_porter, AllLawful, AllLicensed}
+use Rattle.spec_events.specs.Passwords.{AllKnown}
 use Rattle.muck_script.specs.declared.act.Act.{Act}
 use Rattle.muck_script.specs.Script.{script_of}
-use Rattle.muck_script.specs.Story.{Dumped, outcomes_of, story, text_of, transcript}
+use Rattle.muck_script.specs.Story.{Dumped, outcomes_of, dump_entries, story, text_of, transcript}
+use Rattle.muckd.specs.inner.Plays.{IsPending}
 use Rattle.muckd.specs.declared.why.Why.{Why}
-use Rattle.muckd.specs.declared.why.Why.TheVariants.{Fine, Usage, BadScript, NoMemory, ReadFault, WriteFault}
+use Rattle.muckd.specs.declared.why.Why.TheVariants.{Fine, Usage, BadScript, NoMemory, ReadFault, WriteFault, DiskFault, Damaged, StoreFull}
 
 abbrev pub status_of : Why → ℕ
 status_of Fine = 0
@@ -19,6 +28,9 @@ status_of (BadScript line) = 2
 status_of NoMemory = 3
 status_of ReadFault = 4
 status_of WriteFault = 5
+status_of DiskFault = 6
+status_of (Damaged second at) = 7
+status_of (StoreFull end more) = 9
 
 -- what was left in the source is this script, where the source tells its bytes
 abbrev pub IsScriptIn : Option (List ℕ) → List Act → Type 0
@@ -44,9 +56,14 @@ IsInGrammar (Some bytes) = (acts : List Act) × (script_of bytes ≡ Ok acts)
 abbrev pub halted : World → List Entry
 halted w = if w.stopping then [] else by_porter Halt ∷ []
 
--- how the tale of a run from w ends that broke off behind these entries: a write fault halts, and want of memory is Died
+-- the last dump of a run that broke off: it was made, or memory was wanted for it
+abbrev pub IsLastDump : List Entry → Type 0
+IsLastDump es = ((o : Dumped) × (es ≡ dump_entries o)) ⊎ ((es ≡ by_porter Died ∷ []) ⊎ ((k : ℕ) × (es ≡ by_porter (Cut k) ∷ by_porter Died ∷ [])))
+
+-- How the tale of a run from w ends that broke off behind these entries: a write fault halts, and the last dump is made all the
+-- same; want of memory is Died.
 abbrev pub EndsBy : World → Why → List Entry → List Entry → Type 0
-EndsBy w WriteFault front ending = ending ≡ halted (after w front)
+EndsBy w WriteFault front ending = (dump : List Entry) × (ending ≡ halted (after w front) ++ dump) × IsLastDump dump
 EndsBy w NoMemory front ending = ending ≡ by_porter Died ∷ []
 EndsBy w why front ending = ⊥
 
@@ -57,10 +74,12 @@ pub record PlayedWhole (w : World) (acts : List Act) (before written : Option (L
   pub text : Appends before written (transcript acts (outcomes_of tale) w)
 
 -- It broke off: the tale is a front of its story, however the dumps behind that front would have come out, and how such a run
--- ends; and of the text of that front a front was written.
+-- ends; a dump that began in that front and didn't come out counts as stored. Of the text of that front a front was written.
 pub record BrokeOff (w : World) (why : Why) (acts : List Act) (before written : Option (List ℕ)) (tale : List Entry) : Type 0 where
   pub front : List Entry
-  pub whole : (later : List Dumped) → (rest : List Entry) × (front ++ rest ≡ story acts (outcomes_of front ++ later) w)
+  pub pending : List Dumped
+  pub began : IsPending front pending
+  pub whole : (later : List Dumped) → (rest : List Entry) × (front ++ rest ≡ story acts (outcomes_of front ++ (pending ++ later)) w)
   pub ending : List Entry
   pub ends : EndsBy w why front ending
   pub history : tale ≡ front ++ ending
@@ -74,32 +93,16 @@ pub record IsUnbegun {K : Type 0} (before now : K) (tale : List Entry) : Type 0 
   pub empty : tale ≡ []
   pub sink : now ≡ before
 
--- how a run of these acts in the world w ends, with the count of faults of the sink
+-- How a run of these acts in the world w ends, with the count of faults of the sink. The faults of a store are those of the last dump, of
+-- a run that was played whole.
 abbrev pub HasRun : {K : Type 0} → (K → Option (List ℕ)) → (K → ℕ) → World → Why → List Act → K → K → List Entry → Type 0
 HasRun written faults w Fine acts before now tale = PlayedWhole w acts (written before) (written now) tale × (faults now ≡ faults before)
+HasRun written faults w DiskFault acts before now tale = PlayedWhole w acts (written before) (written now) tale × (faults now ≡ faults before)
+HasRun written faults w (Damaged second at) acts before now tale = PlayedWhole w acts (written before) (written now) tale × (faults now ≡ faults before)
+HasRun written faults w (StoreFull end more) acts before now tale = PlayedWhole w acts (written before) (written now) tale × (faults now ≡ faults before)
 HasRun written faults w WriteFault acts before now tale = BrokeOff w WriteFault acts (written before) (written now) tale × Rose (faults before) (faults now)
-HasRun written faults w NoMemory acts before now tale = IsUnbegun before now tale ⊎ (BrokeOff w NoMemory acts (written before) (written now) tale × (faults now ≡ faults before))
+HasRun written faults w NoMemory acts before now tale = BrokeOff w NoMemory acts (written before) (written now) tale × (faults now ≡ faults before)
 HasRun written faults w why acts before now tale = ⊥
-
--- what was left in the source is a script, which was played whole in the world w, and the source was read to its end
-pub record IsWholeRun (w : World) (left now before written : Option (List ℕ)) (tale : List Entry) : Type 0 where
-  pub acts : List Act
-  pub script : IsScriptIn left acts
-  pub read : IsReadOut left now
-  pub played : PlayedWhole w acts before written tale
-
--- what was left in the source is a script, and its transcript was written
-pub record IsTranscribed (w : World) (left before written : Option (List ℕ)) (tale : List Entry) : Type 0 where
-  pub acts : List Act
-  pub script : IsScriptIn left acts
-  pub text : Appends before written (transcript acts (outcomes_of tale) w)
-
--- what was left in the source is a script, the source was read to its end, and the run of the script broke off
-pub record IsBrokenRun (w : World) (why : Why) (left now before written : Option (List ℕ)) (tale : List Entry) : Type 0 where
-  pub acts : List Act
-  pub script : IsScriptIn left acts
-  pub read : IsReadOut left now
-  pub broke : BrokeOff w why acts before written tale
 
 -- what a call that has read its script says of the source
 pub record HasRead {S : Type 0} (left : S → Option (List ℕ)) (faults : S → ℕ) (before now : S) (acts : List Act) : Type 0 where
@@ -107,12 +110,42 @@ pub record HasRead {S : Type 0} (left : S → Option (List ℕ)) (faults : S →
   pub read : IsReadOut (left before) (left now)
   pub fine : faults now ≡ faults before
 
--- How a call with the words of `run` ends, by its answer: what it says of the source s, of the sink k and of the tale. At
--- each answer no count rose but that of the fault that is answered.
-abbrev pub HasAnswered : {S K : Type 0} → (S → Option (List ℕ)) → (S → ℕ) → (K → Option (List ℕ)) → (K → ℕ) → World → Why → S → S → K → K → List Entry → Type 0
-HasAnswered left faults written breaks w Fine s t k l tale = (acts : List Act) × HasRead left faults s t acts × HasRun written breaks w Fine acts k l tale
-HasAnswered left faults written breaks w WriteFault s t k l tale = (acts : List Act) × HasRead left faults s t acts × HasRun written breaks w WriteFault acts k l tale
-HasAnswered left faults written breaks w NoMemory s t k l tale = (IsUnbegun k l tale × (faults t ≡ faults s)) ⊎ ((acts : List Act) × HasRead left faults s t acts × HasRun written breaks w NoMemory acts k l tale)
-HasAnswered left faults written breaks w (BadScript line) s t k l tale = IsFirstOutside (left s) line × (faults t ≡ faults s) × IsUnbegun k l tale
-HasAnswered left faults written breaks w ReadFault s t k l tale = Rose (faults s) (faults t) × IsUnbegun k l tale
-HasAnswered left faults written breaks w Usage s t k l tale = ⊥
+-- The world that the run starts from: what the two files held, with nobody connected, at the second 0. Where the disks tell their bytes,
+-- that is what these bytes hold, and the number is that of their last batch.
+pub record IsStart (tells : Bool) (a b : List ℕ) (w : World) (mounted : ℕ) : Type 0 where
+  pub kept : Kept
+  pub boots : w ≡ booted (loaded kept.objects) kept.tune 0 0
+  pub holds : tells ≡ true → (s : Chosen) × (stored_in a b ≡ Ok s) × (s.held.world ≡ kept) × (s.held.number ≡ mounted)
+
+-- What happened in a run that began in the world w: each entry was lawful where it stands, and changed only what is open there; whoever
+-- has a player gave its password; and the tale and what was written are those of the script that was read.
+pub record HasHappened {S K : Type 0} (left : S → Option (List ℕ)) (faults : S → ℕ) (written : K → Option (List ℕ)) (breaks : K → ℕ) (w : World) (why : Why) (s t : S) (k l : K) (tale : List Entry) : Type 0 where
+  pub lawful : AllLawful w tale
+  pub licensed : AllLicensed w tale
+  pub passwords : AllKnown w tale
+  pub acts : List Act
+  pub read : HasRead left faults s t acts
+  pub run : HasRun written breaks w why acts k l tale
+
+-- A run that began, with its disks: their bytes before, and what is kept of them at each moment since they were mounted.
+pub record HasBegun {S K D : Type 0} (left : S → Option (List ℕ)) (faults : S → ℕ) (written : K → Option (List ℕ)) (breaks : K → ℕ)
+    (tells : Bool) (seen : D → List ℕ) (moment : D → ℕ) (images : D → ℕ → List ℕ → Type 0) (why : Why)
+    (s t : S) (k l : K) (first second first' second' : D) (tale : List Entry) (notes : List Note) : Type 0 where
+  pub start : World
+  pub mounted : ℕ
+  pub begins : IsStart tells (seen first) (seen second) start mounted
+  pub happened : HasHappened left faults written breaks start why s t k l tale
+  pub safe : tells ≡ true → IsSafe moment images first' second' start mounted tale notes
+  pub whole : tells ≡ true → why ≡ Fine → StandsWhole moment images first' second' start tale
+  pub full : (end more : ℕ) → tells ≡ true → why ≡ StoreFull end more → (n : ℕ) × (store : Chosen) × IsFront start mounted tale notes n store
+      × (end ≡ (target store).place) × (more ≡ more_of (log_of store) (dump_payload store (after start tale))) × (file_most < end + more)
+
+-- Which of the two is so, by the answer: the run wasn't begun, or it was.
+abbrev pub EndsAs : Why → Type 0 → Type 0 → Type 0
+EndsAs Usage unbegun begun = unbegun
+EndsAs (BadScript line) unbegun begun = unbegun
+EndsAs ReadFault unbegun begun = unbegun
+EndsAs Fine unbegun begun = begun
+EndsAs WriteFault unbegun begun = begun
+EndsAs (StoreFull end more) unbegun begun = begun
+EndsAs why unbegun begun = unbegun ⊎ begun

@@ -1,13 +1,15 @@
-//! A text-world server: `muckd run STORE` reads a script and writes its transcript.
+//! A text-world server: `muckd run STORE` reads a script, runs it on the world of the store, and writes its transcript.
 #![tactic(auto)]
 
 mod command;
+mod dumping;
 mod playing;
 #[cfg(test)]
 mod tests;
 mod top;
 mod why;
 
+use muck_disk::FileDisk;
 use muck_io::{ReaderSource, WriterSink};
 use std::process::ExitCode;
 use std::{env, io};
@@ -38,6 +40,15 @@ fn main(rt: HostRuntime) -> io::Result<ExitCode> {
     };
     let mut script = ReaderSource::new(rt.reader());
     let mut out = WriterSink::new(io::writer(&rt));
-    let done = muckd(rt.alloc(), &words, &mut script, &mut out);
+    let mut first = FileDisk::new(rt);
+    let mut second = FileDisk::new(rt);
+    let done = muckd(
+        rt.alloc(),
+        &words,
+        &mut script,
+        &mut out,
+        &mut first,
+        &mut second,
+    );
     tell(rt, done.why)
 }

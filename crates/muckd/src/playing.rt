@@ -1,11 +1,15 @@
 // A run of a script: what it makes happen in the world, and what is written of it.
-ghost use Rattle.std.specs.Prelude.{◌≡◌, ◌≤◌, OnOk, IsErrOf, OnErr, length, false, Option, List, ℕ};
+ghost use Rattle.std.specs.Prelude.{◌≡◌, ◌≤◌, OnOk, IsErrOf, OnErr, ◌||◌, is_some, length, true, false, Option, None, List, ℕ};
 ghost use Rattle.muck_io.specs.Faults.{Rose};
 ghost use Rattle.spec_events.specs.Histories.{now};
 ghost use Rattle.spec_live.specs.Connections.{connections_most};
-ghost use Rattle.muck_script.specs.Story.{acted, turns, turns_most, taken, parted, plain, both, served, line_story, story};
+ghost use Rattle.muck_script.specs.Story.{acted, turns, turns_most, taken, parted, plain, both, served, asks_dump, asked_dump, line_story, lines_story};
+ghost use Rattle.spec_dumps.specs.Holding.{Quietly, Rests};
+ghost use Rattle.muckd.specs.inner.Dumps.{Held};
 ghost use Rattle.muckd.specs.inner.Plays.{PlaysOrBreaks};
 
+use crate::dumping::{Store, dump};
+use muck_disk::Disk;
 use muck_io::{Sink, WriteFailed, write_all};
 use muck_machine::World;
 use muck_model::NoMemory;
@@ -23,6 +27,7 @@ pub enum RunFault {
 fn turn(world: &mut World) -> Result<(), RunFault>
     requires { (now world.old).dead ≡ false }
     ensures plays { (o : Option (List ℕ)) → PlaysOrBreaks (plain (turns turns_most)) world.old world.new o o result }
+    ensures quiet { Quietly world.old world.new }
     ensures memory { OnErr result (result ≡ Err RunFault.NoMemory) }
 {
     match settle(world) {
@@ -42,6 +47,7 @@ fn take_queue<K: Sink>(
     requires room { 131090 ≤ length buf.old }
     requires alive { (now world.old).dead ≡ false }
     ensures plays { PlaysOrBreaks (plain (taken d)) world.old world.new (K.written out.old) (K.written out.new) result }
+    ensures quiet { Quietly world.old world.new }
     ensures fine { OnOk result (K.faults out.new ≡ K.faults out.old) }
     ensures later { K.faults out.old ≤ K.faults out.new }
     ensures write { IsErrOf result RunFault.WriteFault → Rose (K.faults out.old) (K.faults out.new) }
@@ -67,6 +73,7 @@ fn take_queue<K: Sink>(
 fn part<K: Sink>(alloc: Global, world: &mut World, d: u32, out: &mut K) -> Result<(), RunFault>
     requires { (now world.old).dead ≡ false }
     ensures plays { PlaysOrBreaks (plain (parted d)) world.old world.new (K.written out.old) (K.written out.new) result }
+    ensures quiet { Quietly world.old world.new }
     ensures fine { OnOk result (K.faults out.new ≡ K.faults out.old) }
     ensures later { K.faults out.old ≤ K.faults out.new }
     ensures write { IsErrOf result RunFault.WriteFault → Rose (K.faults out.old) (K.faults out.new) }
@@ -97,6 +104,7 @@ fn part<K: Sink>(alloc: Global, world: &mut World, d: u32, out: &mut K) -> Resul
 fn close<K: Sink>(alloc: Global, world: &mut World, d: u32, out: &mut K) -> Result<(), RunFault>
     requires { (now world.old).dead ≡ false }
     ensures plays { PlaysOrBreaks (plain (acted (Act.Close d))) world.old world.new (K.written out.old) (K.written out.new) result }
+    ensures quiet { Quietly world.old world.new }
     ensures fine { OnOk result (K.faults out.new ≡ K.faults out.old) }
     ensures later { K.faults out.old ≤ K.faults out.new }
     ensures write { IsErrOf result RunFault.WriteFault → Rose (K.faults out.old) (K.faults out.new) }
@@ -118,13 +126,14 @@ fn close<K: Sink>(alloc: Global, world: &mut World, d: u32, out: &mut K) -> Resu
 fn act<K: Sink>(alloc: Global, world: &mut World, act: &Act, out: &mut K) -> Result<(), RunFault>
     requires { (now world.old).dead ≡ false }
     ensures plays { PlaysOrBreaks (plain (acted act.now)) world.old world.new (K.written out.old) (K.written out.new) result }
+    ensures quiet { Quietly world.old world.new }
     ensures fine { OnOk result (K.faults out.new ≡ K.faults out.old) }
     ensures later { K.faults out.old ≤ K.faults out.new }
     ensures write { IsErrOf result RunFault.WriteFault → Rose (K.faults out.old) (K.faults out.new) }
     ensures memory { IsErrOf result RunFault.NoMemory → K.faults out.new ≡ K.faults out.old }
 {
     match act {
-        Act::Nothing => Ok(()),
+        Act::Nothing | Act::Dump => Ok(()),
         Act::Open(d) => match world.opened(*d) {
             Ok(_) => Ok(()),
             Err(NoMemory) => Err(RunFault::NoMemory),
@@ -159,6 +168,7 @@ fn serve_one<K: Sink>(
     requires room { 131090 ≤ length buf.old }
     requires alive { (now world.old).dead ≡ false }
     ensures plays { PlaysOrBreaks (both (plain (taken d)) (plain (parted d))) world.old world.new (K.written out.old) (K.written out.new) result }
+    ensures quiet { Quietly world.old world.new }
     ensures fine { OnOk result (K.faults out.new ≡ K.faults out.old) }
     ensures later { K.faults out.old ≤ K.faults out.new }
     ensures write { IsErrOf result RunFault.WriteFault → Rose (K.faults out.old) (K.faults out.new) }
@@ -180,6 +190,7 @@ fn serve_all<K: Sink>(
     requires room { 131090 ≤ length buf.old }
     requires alive { (now world.old).dead ≡ false }
     ensures plays { PlaysOrBreaks (served connections_most 1) world.old world.new (K.written out.old) (K.written out.new) result }
+    ensures quiet { Quietly world.old world.new }
     ensures fine { OnOk result (K.faults out.new ≡ K.faults out.old) }
     ensures later { K.faults out.old ≤ K.faults out.new }
     ensures write { IsErrOf result RunFault.WriteFault → Rose (K.faults out.old) (K.faults out.new) }
@@ -203,6 +214,7 @@ fn act_and_turn<K: Sink>(
 ) -> Result<(), RunFault>
     requires { (now world.old).dead ≡ false }
     ensures plays { PlaysOrBreaks (both (plain (acted asked.now)) (plain (turns turns_most))) world.old world.new (K.written out.old) (K.written out.new) result }
+    ensures quiet { Quietly world.old world.new }
     ensures fine { OnOk result (K.faults out.new ≡ K.faults out.old) }
     ensures later { K.faults out.old ≤ K.faults out.new }
     ensures write { IsErrOf result RunFault.WriteFault → Rose (K.faults out.old) (K.faults out.new) }
@@ -214,57 +226,118 @@ fn act_and_turn<K: Sink>(
     }
 }
 
-// Does a line of the script, and what follows it.
-fn play_line<K: Sink>(
+// Whether a line of the script asks for a dump.
+fn asks(line: &Act) -> bool
+    ensures { result ≡ asks_dump line.now }
+{
+    match line {
+        Act::Dump => true,
+        _ => false,
+    }
+}
+
+// Whether a dump is to be made behind a line: it asks for one, or a connection has asked.
+fn is_due(world: &World, line: &Act) -> bool
+    requires { (now world.now).dead ≡ false }
+    ensures { result ≡ (asks_dump line.now || is_some (now world.now).dumps.asked) }
+{
+    asks(line) || world.dump_asked()
+}
+
+// Makes a dump, where the line asks for one or a connection does.
+fn make_asked<D: Disk>(
     alloc: Global,
     world: &mut World,
-    asked: &Act,
+    store: &mut Store,
+    first: &mut D,
+    second: &mut D,
+    line: &Act,
+) -> Result<(), RunFault>
+    requires alive { (now world.old).dead ≡ false }
+    requires idle { (now world.old).dumps.running ≡ None }
+    requires mounted { D.tells ≡ true → (mounted : ℕ) × Rests D.seen D.moment D.images D.faults store.old.log first.old second.old mounted world.old }
+    ensures plays { (o : Option (List ℕ)) → PlaysOrBreaks (asked_dump line.now) world.old world.new o o result }
+    ensures memory { OnErr result (result ≡ Err RunFault.NoMemory) }
+    ensures idle { OnOk result ((now world.new).dumps.running ≡ None) }
+    ensures kept { (mounted : ℕ) → D.tells ≡ true → Rests D.seen D.moment D.images D.faults store.old.log first.old second.old mounted world.old
+        → Held D.seen D.moment D.images D.faults store.new.log first.new second.new mounted world.new result }
+    ensures first_later { D.faults first.old ≤ D.faults first.new }
+    ensures second_later { D.faults second.old ≤ D.faults second.new }
+{
+    if !is_due(world, line) {
+        return Ok(());
+    }
+    dump(alloc, world, store, first, second)?;
+    Ok(())
+}
+
+// Does a line of the script, and what follows it.
+fn play_line<K: Sink, D: Disk>(
+    alloc: Global,
+    world: &mut World,
+    store: &mut Store,
+    first: &mut D,
+    second: &mut D,
+    line: &Act,
     buf: &mut [u8],
     out: &mut K,
 ) -> Result<(), RunFault>
     requires room { 131090 ≤ length buf.old }
     requires alive { (now world.old).dead ≡ false }
-    ensures plays { PlaysOrBreaks (line_story asked.now) world.old world.new (K.written out.old) (K.written out.new) result }
+    requires idle { (now world.old).dumps.running ≡ None }
+    requires mounted { D.tells ≡ true → (mounted : ℕ) × Rests D.seen D.moment D.images D.faults store.old.log first.old second.old mounted world.old }
+    ensures plays { PlaysOrBreaks (line_story line.now) world.old world.new (K.written out.old) (K.written out.new) result }
     ensures fine { OnOk result (K.faults out.new ≡ K.faults out.old) }
     ensures later { K.faults out.old ≤ K.faults out.new }
     ensures write { IsErrOf result RunFault.WriteFault → Rose (K.faults out.old) (K.faults out.new) }
     ensures memory { IsErrOf result RunFault.NoMemory → K.faults out.new ≡ K.faults out.old }
+    ensures idle { (result ≡ Err RunFault.NoMemory → ⊥) → (now world.new).dumps.running ≡ None }
+    ensures kept { (mounted : ℕ) → D.tells ≡ true → Rests D.seen D.moment D.images D.faults store.old.log first.old second.old mounted world.old
+        → Held D.seen D.moment D.images D.faults store.new.log first.new second.new mounted world.new result }
+    ensures first_later { D.faults first.old ≤ D.faults first.new }
+    ensures second_later { D.faults second.old ≤ D.faults second.new }
 {
-    match act_and_turn(alloc, world, asked, out) {
-        Ok(()) => serve_all(alloc, world, buf, out),
-        Err(fault) => Err(fault),
-    }
+    act_and_turn(alloc, world, line, out)?;
+    make_asked(alloc, world, store, first, second, line)?;
+    serve_all(alloc, world, buf, out)
 }
 
-/// Plays a whole script into the world: what each of its lines asks for happens, the lines that wait are done and the
-/// processes run, each queue is taken and written, and behind the last line the world is halted. `buf` has room for a
-/// whole queue.
+/// Plays the lines of a script into the world: what each of them asks for happens, the lines that wait are done and the processes run,
+/// a dump is made where one is asked, each queue is taken and written, and behind the last line the world is halted. `buf` has
+/// room for a whole queue.
 ///
 /// After `NoMemory` the world is dead, and after `WriteFault` it is as the fault left it; in both cases the world's
 /// history is a front of the script's story, with `Died` behind it after `NoMemory`.
-pub fn play<K: Sink>(
+pub fn play<K: Sink, D: Disk>(
     alloc: Global,
     world: &mut World,
+    store: &mut Store,
+    first: &mut D,
+    second: &mut D,
     acts: &[Act],
     buf: &mut [u8],
     out: &mut K,
 ) -> Result<(), RunFault>
     requires room { 131090 ≤ length buf.old }
     requires alive { (now world.old).dead ≡ false }
-    ensures plays { PlaysOrBreaks (story acts.now) world.old world.new (K.written out.old) (K.written out.new) result }
+    requires idle { (now world.old).dumps.running ≡ None }
+    requires mounted { D.tells ≡ true → (mounted : ℕ) × Rests D.seen D.moment D.images D.faults store.old.log first.old second.old mounted world.old }
+    ensures plays { PlaysOrBreaks (lines_story acts.now) world.old world.new (K.written out.old) (K.written out.new) result }
     ensures fine { OnOk result (K.faults out.new ≡ K.faults out.old) }
     ensures later { K.faults out.old ≤ K.faults out.new }
     ensures write { IsErrOf result RunFault.WriteFault → Rose (K.faults out.old) (K.faults out.new) }
     ensures memory { IsErrOf result RunFault.NoMemory → K.faults out.new ≡ K.faults out.old }
+    ensures idle { (result ≡ Err RunFault.NoMemory → ⊥) → (now world.new).dumps.running ≡ None }
+    ensures kept { (mounted : ℕ) → D.tells ≡ true → Rests D.seen D.moment D.images D.faults store.old.log first.old second.old mounted world.old
+        → Held D.seen D.moment D.images D.faults store.new.log first.new second.new mounted world.new result }
+    ensures first_later { D.faults first.old ≤ D.faults first.new }
+    ensures second_later { D.faults second.old ≤ D.faults second.new }
 {
     for act in acts {
         if world.is_stopping() {
             return Ok(());
         }
-        match play_line(alloc, world, act, buf, out) {
-            Ok(()) => {}
-            Err(fault) => return Err(fault),
-        }
+        play_line(alloc, world, store, first, second, act, buf, out)?;
     }
     if !world.is_stopping() {
         world.halt();

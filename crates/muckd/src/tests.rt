@@ -1,6 +1,7 @@
 // What no clause says: the worked rows byte for byte, and what stands where each read or write fails in turn.
 use crate::top::muckd;
 use crate::why::Why;
+use muck_disk::{Disk, FailDisk, MemDisk};
 use muck_io::{MemSink, MemSource};
 use std::alloc::{AllocError, Global};
 use std::test::Fail;
@@ -36,8 +37,33 @@ fn failing(alloc: Global, at: u64) -> Result<Vec<u64>, AllocError> {
     Ok(calls)
 }
 
-// What a run of the script answers, and what it writes; the read and the write of these numbers fail, and each read
-// and write moves at most so many bytes.
+// What a run of the script on these two disks answers, and what it writes; the read and the write of these numbers fail, and
+// each read and write moves at most so many bytes.
+fn run_on<D: Disk>(
+    alloc: Global,
+    script: &str,
+    read: u64,
+    write: u64,
+    at_once: usize,
+    first: &mut D,
+    second: &mut D,
+) -> Result<(Why, Vec<u8>), Fail> {
+    let words = words_of(alloc, &["run", "w"])?;
+    let bytes = script.as_bytes().to_vec(alloc)?;
+    let mut source = MemSource::new(bytes, failing(alloc, read)?).at_most(at_once.max(1));
+    let mut sink = MemSink::new(alloc, failing(alloc, write)?).at_most(at_once.max(1));
+    let done = muckd(
+        alloc,
+        words.as_slice(),
+        &mut source,
+        &mut sink,
+        first,
+        second,
+    );
+    Ok((done.why, sink.bytes().to_vec(alloc)?))
+}
+
+// The same on a store that holds nothing yet.
 fn run(
     alloc: Global,
     script: &str,
@@ -45,12 +71,9 @@ fn run(
     write: u64,
     at_once: usize,
 ) -> Result<(Why, Vec<u8>), Fail> {
-    let words = words_of(alloc, &["run", "w"])?;
-    let bytes = script.as_bytes().to_vec(alloc)?;
-    let mut source = MemSource::new(bytes, failing(alloc, read)?).at_most(at_once.max(1));
-    let mut sink = MemSink::new(alloc, failing(alloc, write)?).at_most(at_once.max(1));
-    let done = muckd(alloc, words.as_slice(), &mut source, &mut sink);
-    Ok((done.why, sink.bytes().to_vec(alloc)?))
+    let mut first = MemDisk::new(alloc, &[])?;
+    let mut second = MemDisk::new(alloc, &[])?;
+    run_on(alloc, script, read, write, at_once, &mut first, &mut second)
 }
 
 #[test]
@@ -91,7 +114,16 @@ fn other_causes(rt: HostRuntime) -> Result<(), Fail> {
     let words = words_of(rt.alloc(), &["run"])?;
     let mut source = MemSource::new(Vec::new(rt.alloc()), Vec::new(rt.alloc()));
     let mut sink = MemSink::new(rt.alloc(), Vec::new(rt.alloc()));
-    let done = muckd(rt.alloc(), words.as_slice(), &mut source, &mut sink);
+    let mut first = MemDisk::new(rt.alloc(), &[])?;
+    let mut second = MemDisk::new(rt.alloc(), &[])?;
+    let done = muckd(
+        rt.alloc(),
+        words.as_slice(),
+        &mut source,
+        &mut sink,
+        &mut first,
+        &mut second,
+    );
     assert_eq!(rt; done.status, 1);
     assert_eq!(rt; done.why, Why::Usage);
     Ok(())
@@ -137,11 +169,73 @@ fn causes_are_shown(rt: HostRuntime) -> Result<(), Fail> {
         (Why::NoMemory, "NoMemory", 3),
         (Why::ReadFault, "ReadFault", 4),
         (Why::WriteFault, "WriteFault", 5),
+        (Why::DiskFault, "DiskFault", 6),
+        (
+            Why::Damaged {
+                second: true,
+                at: 67,
+            },
+            "Damaged 1 67",
+            7,
+        ),
+        (Why::StoreFull { end: 9, more: 8 }, "StoreFull 9 8", 9),
     ];
     for (why, text, status) in cases {
         let shown = format!(in rt.alloc(); "{why}")?;
         assert_eq!(rt; shown.as_str(), text);
         assert_eq!(rt; why.status(), status);
     }
+    Ok(())
+}
+
+#[test]
+fn an_empty_script_stores_the_first_world(rt: HostRuntime) -> Result<(), Fail> {
+    let mut first = MemDisk::new(rt.alloc(), &[])?;
+    let mut second = MemDisk::new(rt.alloc(), &[])?;
+    let (why, written) = run_on(rt.alloc(), "", 0, 0, 4096, &mut first, &mut second)?;
+    assert_eq!(rt; why, Why::Fine);
+    assert!(rt; written.is_empty());
+    // The gate, the length, the head and a batch without a record, and the closed gate behind it.
+    assert_eq!(rt; first.bytes().len(), 67);
+    assert!(rt; second.bytes().is_empty());
+    Ok(())
+}
+
+#[test]
+fn a_second_run_goes_on(rt: HostRuntime) -> Result<(), Fail> {
+    let mut first = MemDisk::new(rt.alloc(), &[])?;
+    let mut second = MemDisk::new(rt.alloc(), &[])?;
+    let dug = "open 1\nsend 1 connect One potrzebie\nsend 1 @name here=Cellar\n";
+    let (why, _) = run_on(rt.alloc(), dug, 0, 0, 4096, &mut first, &mut second)?;
+    assert_eq!(rt; why, Why::Fine);
+    let look = "open 1\nsend 1 connect One potrzebie\n";
+    let (why, written) = run_on(rt.alloc(), look, 0, 0, 4096, &mut first, &mut second)?;
+    assert_eq!(rt; why, Why::Fine);
+    let want = "1< Use: connect NAME PASSWORD, WHO or QUIT.\n1< Cellar(#0R)\n";
+    assert_eq!(rt; written.as_slice(), want.as_bytes());
+    Ok(())
+}
+
+#[test]
+fn each_disk_call_fails(rt: HostRuntime) -> Result<(), Fail> {
+    let mut fine = 0u32;
+    for at in 1..40u64 {
+        let disk = MemDisk::new(rt.alloc(), &[])?;
+        let mut first = FailDisk::new(disk, at);
+        let other = MemDisk::new(rt.alloc(), &[])?;
+        let mut second = FailDisk::new(other, 0);
+        let (why, _) = run_on(rt.alloc(), HELLO, 0, 0, 4096, &mut first, &mut second)?;
+        if why == Why::Fine {
+            fine += 1;
+        } else {
+            assert_eq!(rt; why, Why::DiskFault);
+        }
+        // Whatever was left loads.
+        let mut then = MemDisk::new(rt.alloc(), first.disk().bytes())?;
+        let mut other = MemDisk::new(rt.alloc(), second.disk().bytes())?;
+        let (why, _) = run_on(rt.alloc(), HELLO, 0, 0, 4096, &mut then, &mut other)?;
+        assert_eq!(rt; why, Why::Fine);
+    }
+    assert!(rt; fine > 0 && fine < 39);
     Ok(())
 }

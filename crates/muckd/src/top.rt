@@ -1,19 +1,30 @@
 // The top call.
-ghost use Rattle.std.specs.Prelude.{◌≡◌, ◌↔◌, ◌⊎◌, ℕ, true, false, IfOk, vec_len, map, string_bytes, [], List, Option, ◌≤◌};
+ghost use Rattle.std.specs.Prelude.{◌≡◌, ◌↔◌, ◌⊎◌, ◌++◌, ◌≤◌, ℕ, Bool, true, false, IfOk, IfErr, OnOk, IsErrOf, All, ⊥, vec_len, map, string_bytes, [], List, Option, Some, None, Ok, Err, codes};
+ghost use Rattle.muck_codec.specs.Stored.{AreProperties};
 ghost use Rattle.muck_io.specs.Faults.{Rose};
-ghost use Rattle.spec_events.specs.World.{starting};
-ghost use Rattle.spec_events.specs.Histories.{now, Grew, AllLawful, AllLicensed};
-ghost use Rattle.spec_events.specs.Passwords.{AllKnown};
-ghost use Rattle.muckd.specs.Words.{is_run};
-ghost use Rattle.muckd.specs.Outcome.{status_of, halted, HasRun, HasAnswered, IsWholeRun, IsTranscribed, IsBrokenRun, IsUnbegun, IsFirstOutside, IsInGrammar};
+ghost use Rattle.muck_log.specs.Store.{Chosen, stored};
+ghost use Rattle.spec_events.specs.Histories.{now, Longer};
+ghost use Rattle.muck_log.specs.Mount.{IsMountedAs};
+ghost use Rattle.spec_dumps.specs.Fronts.{file_most};
+ghost use Rattle.spec_dumps.specs.Holding.{Quietly, Rests};
+ghost use Rattle.muckd.specs.inner.Dumps.{note_of, DumpsLast};
+ghost use Rattle.muckd.specs.inner.Ends.{why_of, MayNotOpen, IsMountWhy, MayRefuse, MayEnd, MayEndDump, IsScriptWhy, IsBootable, booted_from, unbegun_from, begun_from, EndsPlay, LastKept, HasPlayed, NeverPlayed};
+ghost use Rattle.muckd.specs.inner.Plays.{PlaysOrBreaks};
+ghost use Rattle.muck_script.specs.Story.{dumping};
+ghost use Rattle.muckd.specs.Words.{is_run, store_of};
+ghost use Rattle.muckd.specs.Outcome.{status_of, halted, HasRead, HasRun, HasBegun, EndsAs, IsUnbegun, IsFirstOutside, IsInGrammar};
 
-use crate::command::is_run;
+use crate::command::store_of;
+use crate::dumping::{FILE_MOST, Store, dump};
 use crate::playing::{RunFault, play};
 use crate::why::Why;
+use muck_db::{Db, Persisted};
+use muck_disk::{Disk, DiskFault};
 use muck_io::{ReadFault, Sink, Source, read_all};
+use muck_log::{Kept, Log, LogFault};
 use muck_machine::World;
 use muck_model::{NoMemory, Tale};
-use muck_script::{Act, SCRIPT_MOST, ScriptFault, read};
+use muck_script::{Act, SCRIPT_MOST, Script, ScriptFault, read};
 use std::alloc::{AllocError, Global};
 
 /// How a call of [`muckd`] ended: the exit status with its cause, and what happened in the world, in order.
@@ -24,44 +35,34 @@ pub struct Done {
     pub tale: Tale,
 }
 
-/// Does all that the program does. The words `run STORE` read the script whole from the source, run it on the starting
-/// world and write its transcript to the sink; all other words are no command. STORE has 1 to 200 bytes and doesn't begin
-/// with `-`; nothing is stored as yet.
+/// Does all that the program does. The words `run STORE` open the files `STORE.a` and `STORE.b` as the two disks, mount the store that
+/// they hold, read the script whole from the source, run it on that world, write its transcript to the sink and dump the world in
+/// the end; all other words are no command. STORE has 1 to 200 bytes and doesn't begin with `-`.
 ///
-/// The first cause stands: the words, then reading the script, then its grammar, then the run. Want of memory may come at
-/// any place.
-#[tactic(auto, using(spec_events::proofs::Turns::all_licensed_starting, spec_events::proofs::Passwords::all_known_starting))]
-pub fn muckd<S: Source, K: Sink>(
+/// The first cause stands: the words, then opening and mounting, then reading the script, then its grammar, then the run, then the last
+/// dump. Want of memory may come at any place. Nothing is dumped where the run wasn't begun, and after want of memory; after a fault
+/// of the sink the last dump is made all the same.
+pub fn muckd<S: Source, K: Sink, D: Disk>(
     alloc: Global,
     words: &[String],
     script: &mut S,
     out: &mut K,
+    first: &mut D,
+    second: &mut D,
 ) -> Done
     ensures status { result.status ≡ status_of result.why }
 
-    // Exactly where the words are no command; then nothing was read.
+    // Exactly where the words are no command; then nothing was read, and no disk was touched.
     ensures usage { (result.why ≡ Why.Usage) ↔ (is_run (map string_bytes words.now) ≡ false) }
-    ensures nothing_read { result.why ≡ Why.Usage → script.new ≡ script.old }
+    ensures nothing_read { result.why ≡ Why.Usage → (script.new ≡ script.old) × (first.new ≡ first.old) × (second.new ≡ second.old) }
 
     // The first line outside the grammar has this number.
     ensures bad_script { (line : ℕ) → result.why ≡ Why.BadScript line → IsFirstOutside (S.left script.old) line }
 
-    // What was written is the transcript of the script on the starting world, where dumps come out as the tale says.
-    ensures transcript { result.why ≡ Why.Fine → IsTranscribed starting (S.left script.old) (K.written out.old) (K.written out.new) result.tale.entries }
-
-    // The tale is the story of that script, and the source was read to its end.
-    ensures history { result.why ≡ Why.Fine → IsWholeRun starting (S.left script.old) (S.left script.new) (K.written out.old) (K.written out.new) result.tale.entries }
-
-    // However the call ended, each entry of the tale is lawful where it stands.
-    ensures lawful { AllLawful starting result.tale.entries }
-
-    // However the call ended, each entry of the tale changed only what is open where it stands: a line of a player what is
-    // open to that player by its rights before the line, and every other entry no object and nothing that is tuned.
-    ensures licensed { AllLicensed starting result.tale.entries }
-
-    // However the call ended, each connection that has a player did a line `connect NAME PASSWORD` with that player's name and a password whose
-    // digest the player had then, and hasn't closed since.
-    ensures passwords { AllKnown starting result.tale.entries }
+    // Either nothing happened, and nothing was written; or one history happened, from the world that the two files held: by the lines of
+    // the script, lawfully, and with leave. It says what was written, and what the files hold, whatever a crash leaves of them. The answer
+    // says which of the two, but for want of memory and faults of the store, which may come before the run and in it.
+    ensures history { EndsAs result.why (IsUnbegun out.old out.new result.tale.entries) (HasBegun S.left S.faults K.written K.faults D.tells D.seen D.moment D.images result.why script.old script.new out.old out.new first.old second.old first.new second.new result.tale.entries result.tale.notes) }
 
     // A fault is answered only where that count rose in this call; and where it isn't answered it did not rise, so that the
     // first cause stands.
@@ -69,22 +70,20 @@ pub fn muckd<S: Source, K: Sink>(
     ensures write_fault { result.why ≡ Why.WriteFault → Rose (K.faults out.old) (K.faults out.new) }
     ensures source_stands { (result.why ≡ Why.ReadFault → ⊥) → S.faults script.new ≡ S.faults script.old }
     ensures sink_stands { (result.why ≡ Why.WriteFault → ⊥) → K.faults out.new ≡ K.faults out.old }
+    ensures disk_fault { result.why ≡ Why.DiskFault → Rose (D.faults first.old) (D.faults first.new) ⊎ Rose (D.faults second.old) (D.faults second.new) }
 
-    // Where the run isn't begun, nothing was written and nothing happened.
-    ensures nothing_done { (result.why ≡ Why.Usage) ⊎ ((result.why ≡ Why.ReadFault) ⊎ ((line : ℕ) × (result.why ≡ Why.BadScript line))) → IsUnbegun out.old out.new result.tale.entries }
+    // The two files hold no store: the first batch outside the format has its gate at that place of that file.
+    ensures damaged { (file : Bool) (at : ℕ) → D.tells ≡ true → result.why ≡ Why.Damaged file at → stored (D.seen first.old) (D.seen second.old) ≡ Err (record { second = file; at = at }) }
 
-    // Where the run broke off, what was written is a front of the transcript, and the tale is a front of the story and how
-    // such a run ends: with the porter's halt, or with Died.
-    ensures prefix_written { result.why ≡ Why.WriteFault → IsBrokenRun starting Why.WriteFault (S.left script.old) (S.left script.new) (K.written out.old) (K.written out.new) result.tale.entries }
-    ensures prefix_died { result.why ≡ Why.NoMemory → IsUnbegun out.old out.new result.tale.entries ⊎ IsBrokenRun starting Why.NoMemory (S.left script.old) (S.left script.new) (K.written out.old) (K.written out.new) result.tale.entries }
-
-    // Words of `run`, a script inside the grammar and no count that rose: the work is done, or memory was wanted.
-    ensures complete { is_run (map string_bytes words.now) ≡ true → (Rose (S.faults script.old) (S.faults script.new) → ⊥) → (Rose (K.faults out.old) (K.faults out.new) → ⊥) → IsInGrammar (S.left script.old) → (result.why ≡ Why.Fine) ⊎ (result.why ≡ Why.NoMemory) }
+    // Words of `run`, a store that loads, a script inside the grammar and no count that rose: the work is done, or memory was wanted, or
+    // the last dump would pass what a file may have.
+    ensures complete { (s : Chosen) → is_run (map string_bytes words.now) ≡ true → D.tells ≡ true → stored (D.seen first.old) (D.seen second.old) ≡ Ok s → IsInGrammar (S.left script.old)
+        → (Rose (S.faults script.old) (S.faults script.new) → ⊥) → (Rose (K.faults out.old) (K.faults out.new) → ⊥) → (Rose (D.faults first.old) (D.faults first.new) → ⊥) → (Rose (D.faults second.old) (D.faults second.new) → ⊥)
+        → (result.why ≡ Why.Fine) ⊎ ((result.why ≡ Why.NoMemory) ⊎ ((end more : ℕ) × (result.why ≡ Why.StoreFull end more))) }
 {
-    let (why, tale) = if is_run(words) {
-        run(alloc, script, out)
-    } else {
-        (Why::Usage, Tale::none())
+    let (why, tale) = match store_of(words) {
+        Some(name) => run(alloc, name, script, out, first, second),
+        None => (Why::Usage, Tale::none()),
     };
     Done {
         status: why.status(),
@@ -93,20 +92,120 @@ pub fn muckd<S: Source, K: Sink>(
     }
 }
 
-// Reads a script and runs it.
-fn run<S: Source, K: Sink>(alloc: Global, script: &mut S, out: &mut K) -> (Why, Tale)
-    ensures answers { HasAnswered S.left S.faults K.written K.faults starting result.0 script.old script.new out.old out.new result.1.entries }
-    ensures lawful { AllLawful starting result.1.entries }
+// Why a call ends whose store couldn't be mounted, or whose last dump failed.
+fn why_of(fault: LogFault) -> Why
+    ensures { result ≡ why_of fault }
+{
+    match fault {
+        LogFault::NoMemory => Why::NoMemory,
+        LogFault::DiskFault => Why::DiskFault,
+        LogFault::Damaged { second, at } => Why::Damaged { second, at },
+        LogFault::StoreFull { end, more } => Why::StoreFull { end, more },
+        // Only of files that others have written since they were mounted.
+        LogFault::Unfit | LogFault::Stale => Why::Damaged {
+            second: false,
+            at: 0,
+        },
+    }
+}
+
+// The name of a file of the store.
+fn file_name(alloc: Global, store: &str, ending: &str) -> Result<String, AllocError> {
+    let mut name = String::from_str(alloc, store)?;
+    name.push_str(ending)?;
+    Ok(name)
+}
+
+// Opens both files of the store.
+fn attach<D: Disk>(alloc: Global, store: &str, first: &mut D, second: &mut D) -> Result<(), Why>
+    ensures why { IfErr result MayNotOpen }
+    ensures first_seen { D.tells ≡ true → D.seen first.new ≡ D.seen first.old }
+    ensures second_seen { D.tells ≡ true → D.seen second.new ≡ D.seen second.old }
+    ensures first_later { D.faults first.old ≤ D.faults first.new }
+    ensures second_later { D.faults second.old ≤ D.faults second.new }
+    ensures cause { IsErrOf result Why.DiskFault → Rose (D.faults first.old) (D.faults first.new) ⊎ Rose (D.faults second.old) (D.faults second.new) }
+{
+    let (Ok(a), Ok(b)) = (file_name(alloc, store, ".a"), file_name(alloc, store, ".b")) else {
+        return Err(Why::NoMemory);
+    };
+    match first.attach(a.as_str()) {
+        Ok(()) => {}
+        Err(DiskFault) => return Err(Why::DiskFault),
+    }
+    match second.attach(b.as_str()) {
+        Ok(()) => Ok(()),
+        Err(DiskFault) => Err(Why::DiskFault),
+    }
+}
+
+// Opens both files and mounts the store that they hold.
+#[tactic(auto, unfolding(spec_dumps::specs::Fronts::file_most), using(crate::proofs::Started::bootable, crate::proofs::Called::opens_told, crate::proofs::Called::opens_may, crate::proofs::Called::mount_told))]
+fn mount<D: Disk>(alloc: Global, store: &str, first: &mut D, second: &mut D) -> Result<Log, Why>
+    ensures log { D.tells ≡ true → IfOk result (λ log. IsMountedAs D.seen D.moment D.images file_most log first.new second.new) }
+    ensures bootable { IfOk result (λ log. IsBootable log.chosen.held.world) }
+    ensures told { D.tells ≡ true → IfErr result (IsMountWhy (D.seen first.old) (D.seen second.old)) }
+    ensures why { IfErr result MayRefuse }
+    ensures first_seen { D.tells ≡ true → D.seen first.new ≡ D.seen first.old }
+    ensures second_seen { D.tells ≡ true → D.seen second.new ≡ D.seen second.old }
+    ensures first_later { D.faults first.old ≤ D.faults first.new }
+    ensures second_later { D.faults second.old ≤ D.faults second.new }
+    ensures cause { IsErrOf result Why.DiskFault → Rose (D.faults first.old) (D.faults first.new) ⊎ Rose (D.faults second.old) (D.faults second.new) }
+{
+    match attach(alloc, store, first, second) {
+        Ok(()) => {}
+        Err(why) => return Err(why),
+    }
+    match Log::mount(alloc, first, second, FILE_MOST) {
+        Ok(log) => Ok(log),
+        Err(fault) => Err(why_of(fault)),
+    }
+}
+
+// Reads the script whole.
+fn read_script<S: Source>(alloc: Global, script: &mut S) -> Result<Script, Why>
+    ensures read { IfOk result (λ acts. HasRead S.left S.faults script.old script.new acts) }
+    ensures why { IfErr result (IsScriptWhy (S.left script.old)) }
+    ensures cause { IsErrOf result Why.ReadFault → Rose (S.faults script.old) (S.faults script.new) }
+    ensures stands { (IsErrOf result Why.ReadFault → ⊥) → S.faults script.new ≡ S.faults script.old }
 {
     let bytes = match read_all(alloc, script, SCRIPT_MOST + 1) {
         Ok(bytes) => bytes,
-        Err(ReadFault::Failed) => return (Why::ReadFault, Tale::none()),
-        Err(ReadFault::NoMemory) => return (Why::NoMemory, Tale::none()),
+        Err(ReadFault::Failed) => return Err(Why::ReadFault),
+        Err(ReadFault::NoMemory) => return Err(Why::NoMemory),
     };
     match read(alloc, bytes.as_slice()) {
-        Ok(acts) => run_acts(alloc, acts.as_slice(), out),
-        Err(ScriptFault::BadScript { line }) => (Why::BadScript { line }, Tale::none()),
-        Err(ScriptFault::NoMemory) => (Why::NoMemory, Tale::none()),
+        Ok(acts) => Ok(acts),
+        Err(ScriptFault::BadScript { line }) => Err(Why::BadScript { line }),
+        Err(ScriptFault::NoMemory) => Err(Why::NoMemory),
+    }
+}
+
+// Mounts the store, reads the script and runs it.
+fn run<S: Source, K: Sink, D: Disk>(
+    alloc: Global,
+    name: &str,
+    script: &mut S,
+    out: &mut K,
+    first: &mut D,
+    second: &mut D,
+) -> (Why, Tale)
+    ensures usage { result.0 ≡ Why.Usage → ⊥ }
+    ensures bad_script { (line : ℕ) → result.0 ≡ Why.BadScript line → IsFirstOutside (S.left script.old) line }
+    ensures history { EndsAs result.0 (IsUnbegun out.old out.new result.1.entries) (HasBegun S.left S.faults K.written K.faults D.tells D.seen D.moment D.images result.0 script.old script.new out.old out.new first.old second.old first.new second.new result.1.entries result.1.notes) }
+    ensures read_fault { result.0 ≡ Why.ReadFault → Rose (S.faults script.old) (S.faults script.new) }
+    ensures write_fault { result.0 ≡ Why.WriteFault → Rose (K.faults out.old) (K.faults out.new) }
+    ensures source_stands { (result.0 ≡ Why.ReadFault → ⊥) → S.faults script.new ≡ S.faults script.old }
+    ensures sink_stands { (result.0 ≡ Why.WriteFault → ⊥) → K.faults out.new ≡ K.faults out.old }
+    ensures disk_fault { result.0 ≡ Why.DiskFault → Rose (D.faults first.old) (D.faults first.new) ⊎ Rose (D.faults second.old) (D.faults second.new) }
+    ensures damaged { (file : Bool) (at : ℕ) → D.tells ≡ true → result.0 ≡ Why.Damaged file at → stored (D.seen first.old) (D.seen second.old) ≡ Err (record { second = file; at = at }) }
+{
+    let log = match mount(alloc, name, first, second) {
+        Ok(log) => log,
+        Err(why) => return (why, Tale::none()),
+    };
+    match read_script(alloc, script) {
+        Ok(acts) => run_acts(alloc, log, acts.as_slice(), out, first, second),
+        Err(why) => (why, Tale::none()),
     }
 }
 
@@ -117,39 +216,108 @@ fn buffer(alloc: Global) -> Result<Vec<u8>, AllocError>
     vec![in alloc; 0u8; 131_090]
 }
 
+// The world of what a store holds, in which nothing has happened yet.
+#[tactic(auto, using(crate::proofs::Started::in_range, crate::proofs::Started::properties))]
+fn boot(alloc: Global, kept: &Kept) -> Result<World, NoMemory>
+    requires { IsBootable kept.now }
+    ensures { IfOk result (λ w. w ≡ record { start = booted_from kept.now; entries = []; notes = [] }) }
+{
+    let db = Db::load(alloc, kept.objects())?;
+    let tune = kept.tune();
+    World::boot(alloc, Persisted { db, tune }, 0, 0)
+}
+
 // The world of a run that is to begin, and room for a whole queue.
-fn begin(alloc: Global) -> Result<(World, Vec<u8>), NoMemory>
-    ensures { IfOk result (λ both. (both.0 ≡ record { start = starting; entries = []; notes = [] }) × (131090 ≤ vec_len both.1)) }
+#[tactic(auto, using(crate::proofs::Started::properties))]
+fn begin<D: Disk>(
+    alloc: Global,
+    log: &Log,
+    first: &D,
+    second: &D,
+) -> Result<(World, Vec<u8>), NoMemory>
+    requires bootable { IsBootable log.now.chosen.held.world }
+    ensures room { IfOk result (λ made. 131090 ≤ vec_len made.1) }
+    ensures properties { OnOk result (All (λ s. AreProperties s.props) log.now.chosen.held.world.objects) }
+    ensures world { IfOk result (λ made. made.0 ≡ begun_from log.now (note_of D.moment D.faults first.now second.now (unbegun_from log.now))) }
 {
     let buf = buffer(alloc)?;
-    let world = World::starting(alloc)?;
+    let mut world = boot(alloc, log.kept())?;
+    world.note(first, second);
     Ok((world, buf))
 }
 
 // The world stops, where it doesn't yet.
 fn stop(world: &mut World)
     requires { (now world.old).dead ≡ false }
-    ensures { Grew world.old world.new (halted (now world.old)) }
+    ensures halts { Longer world.old world.new (halted (now world.old)) }
+    ensures quiet { Quietly world.old world.new }
 {
     if !world.is_stopping() {
         world.halt();
     }
 }
 
-// Runs a script that was read on the starting world; where the sink fails the world is stopped.
-fn run_acts<K: Sink>(alloc: Global, acts: &[Act], out: &mut K) -> (Why, Tale)
-    ensures run { HasRun K.written K.faults starting result.0 acts.now out.old out.new result.1.entries }
-    ensures lawful { AllLawful starting result.1.entries }
+// The last dump of a run; why the call ends where the run was played whole.
+fn last_dump<D: Disk>(
+    alloc: Global,
+    world: &mut World,
+    store: &mut Store,
+    first: &mut D,
+    second: &mut D,
+) -> Why
+    requires alive { (now world.old).dead ≡ false }
+    requires idle { (now world.old).dumps.running ≡ None }
+    requires mounted { D.tells ≡ true → (mounted : ℕ) × Rests D.seen D.moment D.images D.faults store.old.log first.old second.old mounted world.old }
+    ensures plays { (o : Option (List ℕ)) → EndsPlay world.old world.new o result }
+    ensures last { DumpsLast world.old world.new }
+    ensures kept { (mounted : ℕ) → D.tells ≡ true → Rests D.seen D.moment D.images D.faults store.old.log first.old second.old mounted world.old
+        → LastKept D.moment D.images first.new second.new mounted world.new result }
+    ensures why { MayEndDump D.tells result }
+    ensures first_later { D.faults first.old ≤ D.faults first.new }
+    ensures second_later { D.faults second.old ≤ D.faults second.new }
+    ensures cause { result ≡ Why.DiskFault → Rose (D.faults first.old) (D.faults first.new) ⊎ Rose (D.faults second.old) (D.faults second.new) }
 {
-    let Ok((mut world, mut buf)) = begin(alloc) else {
+    match dump(alloc, world, store, first, second) {
+        Ok(None) => Why::Fine,
+        Ok(Some(fault)) => why_of(fault),
+        Err(_) => Why::NoMemory,
+    }
+}
+
+// Runs a script that was read on the world of the store, and dumps that world; where the sink fails the world is stopped.
+fn run_acts<K: Sink, D: Disk>(
+    alloc: Global,
+    log: Log,
+    acts: &[Act],
+    out: &mut K,
+    first: &mut D,
+    second: &mut D,
+) -> (Why, Tale)
+    requires mounted { D.tells ≡ true → IsMountedAs D.seen D.moment D.images file_most log first.old second.old }
+    requires bootable { IsBootable log.chosen.held.world }
+    ensures ends { NeverPlayed result.0 out.old out.new result.1.entries ⊎ HasPlayed K.written K.faults D.tells D.moment D.images log result.0 acts.now out.old out.new first.new second.new result.1.entries result.1.notes }
+    ensures why { MayEnd D.tells result.0 }
+    ensures write { result.0 ≡ Why.WriteFault → Rose (K.faults out.old) (K.faults out.new) }
+    ensures stands { (result.0 ≡ Why.WriteFault → ⊥) → K.faults out.new ≡ K.faults out.old }
+    ensures first_later { D.faults first.old ≤ D.faults first.new }
+    ensures second_later { D.faults second.old ≤ D.faults second.new }
+    ensures cause { result.0 ≡ Why.DiskFault → Rose (D.faults first.old) (D.faults first.new) ⊎ Rose (D.faults second.old) (D.faults second.new) }
+{
+    let Ok((mut world, mut buf)) = begin(alloc, &log, first, second) else {
         return (Why::NoMemory, Tale::none());
     };
-    match play(alloc, &mut world, acts, &mut buf, out) {
-        Ok(()) => (Why::Fine, world.into_tale()),
-        Err(RunFault::NoMemory) => (Why::NoMemory, world.into_tale()),
+    let mut store = Store::new(log);
+    let played = play(
+        alloc, &mut world, &mut store, first, second, acts, &mut buf, out,
+    );
+    let why = match played {
+        Ok(()) => last_dump(alloc, &mut world, &mut store, first, second),
+        Err(RunFault::NoMemory) => Why::NoMemory,
         Err(RunFault::WriteFault) => {
             stop(&mut world);
-            (Why::WriteFault, world.into_tale())
+            last_dump(alloc, &mut world, &mut store, first, second);
+            Why::WriteFault
         }
-    }
+    };
+    (why, world.into_tale())
 }

@@ -19,6 +19,12 @@ pub enum Why {
     ReadFault,
     /// The sink of the transcript failed.
     WriteFault,
+    /// A disk failed as the files were opened, as the store was mounted or in the last dump.
+    DiskFault,
+    /// The batch whose gate stands at this place of this file of the store is outside the format.
+    Damaged { second: bool, at: u64 },
+    /// The last dump would begin at `end` and has `more` bytes, which is past what a file may have.
+    StoreFull { end: u64, more: u64 },
 }
 
 impl Why {
@@ -33,6 +39,9 @@ impl Why {
             Why::NoMemory => 3,
             Why::ReadFault => 4,
             Why::WriteFault => 5,
+            Why::DiskFault => 6,
+            Why::Damaged { second: _, at: _ } => 7,
+            Why::StoreFull { end: _, more: _ } => 9,
         }
     }
 }
@@ -46,6 +55,9 @@ impl fmt::Display for Why {
             Why::NoMemory => f.write_str("NoMemory"),
             Why::ReadFault => f.write_str("ReadFault"),
             Why::WriteFault => f.write_str("WriteFault"),
+            Why::DiskFault => f.write_str("DiskFault"),
+            Why::Damaged { second, at } => write!(f, "Damaged {} {at}", u8::from(*second)),
+            Why::StoreFull { end, more } => write!(f, "StoreFull {end} {more}"),
         }
     }
 }

@@ -2,7 +2,7 @@
 use Rattle.std.specs.Prelude.{◌≡◌, [], ◌∷◌, ◌++◌, refl, codes, Some, None, Ok, Err, replicate}
 use Rattle.std.specs.Fmt.{digits}
 use Rattle.muck_model.specs.Decimal.{decimal_of}
-use Rattle.muck_script.specs.declared.act.Act.TheVariants.{Nothing, Open, Send, Close, Wait}
+use Rattle.muck_script.specs.declared.act.Act.TheVariants.{Nothing, Open, Send, Close, Wait, Dump}
 use Rattle.muck_script.specs.Lines.{lines_of}
 use Rattle.spec_live.specs.Output.{sent_lines, queue_most, bytes_of, lines_bytes, line_sent, lines_sent, sent, taken, lines_taken}
 use Rattle.spec_live.specs.Boards.{early_board, opened, closed, line_added, bytes_taken, told_one, leaving_one}
@@ -14,7 +14,7 @@ use Rattle.muck_queue.specs.Queues.{empty_queue, next_due, is_busy, reader, ende
 use Rattle.spec_events.specs.Lines.{done}
 use Rattle.spec_events.specs.Steps.{is_lawful, effect, next_ready, next_process}
 use Rattle.muck_script.specs.Script.{act_of, script_of, script_most}
-use Rattle.muck_script.specs.Story.{next_turn, turns, served, line_story, later, told, transcript}
+use Rattle.muck_script.specs.Story.{next_turn, turns, served, line_story, asked_dump, later, told, transcript}
 
 lines_row : lines_of (97 ∷ 10 ∷ 10 ∷ 98 ∷ []) ≡ (97 ∷ []) ∷ [] ∷ (98 ∷ []) ∷ []
 lines_row = refl
@@ -29,6 +29,14 @@ empty_row = refl
 comment_row : act_of (codes "# open 1") ≡ Some Nothing
 unfolding act_of
 comment_row = refl
+
+dump_row : act_of (codes "dump") ≡ Some Dump
+unfolding act_of
+dump_row = refl
+
+dump_space_row : act_of (codes "dump ") ≡ None
+unfolding act_of decimal_of
+dump_space_row = refl
 
 open_row : act_of (codes "open 256") ≡ Some (Open 256)
 unfolding act_of decimal_of
@@ -130,12 +138,12 @@ whole_row = refl
 -- a script of one connection
 quit_row : transcript (Open 1 ∷ Send 1 (codes "quit") ∷ []) [] starting
     ≡ codes "1< Use: connect NAME PASSWORD, WHO or QUIT." ++ 10 ∷ codes "1< Come back later!" ++ 10 ∷ codes "1 closed" ++ 10 ∷ []
-unfolding starting booted early_board opened closed line_added bytes_taken told_one leaving_one followed reading either unchanged tell leave goodbye welcome quit waits done parted empty_queue next_due is_busy reader ended_tied gone_away bytes_of lines_bytes line_sent lines_sent sent taken lines_taken is_lawful effect next_ready next_process next_turn at_login sent_lines queue_most turns served line_story told digits
+unfolding starting booted early_board opened closed line_added bytes_taken told_one leaving_one followed reading either unchanged tell leave goodbye welcome quit waits done parted empty_queue next_due is_busy reader ended_tied gone_away bytes_of lines_bytes line_sent lines_sent sent taken lines_taken is_lawful effect next_ready next_process next_turn at_login sent_lines queue_most turns served line_story told digits asked_dump
 quit_row = refl
 
 -- nothing is written of a connection that the script closes, nor where there is none, nor of time that passes
 closed_row : transcript (Open 1 ∷ Close 1 ∷ Close 1 ∷ Wait 5 ∷ []) [] starting ≡ codes "1< Use: connect NAME PASSWORD, WHO or QUIT." ++ 10 ∷ []
-unfolding starting booted early_board opened closed line_added bytes_taken told_one leaving_one followed reading either unchanged tell leave goodbye welcome quit waits done parted empty_queue next_due is_busy reader ended_tied gone_away bytes_of lines_bytes line_sent lines_sent sent taken lines_taken is_lawful effect next_ready next_process next_turn at_login sent_lines queue_most turns served line_story told digits
+unfolding starting booted early_board opened closed line_added bytes_taken told_one leaving_one followed reading either unchanged tell leave goodbye welcome quit waits done parted empty_queue next_due is_busy reader ended_tied gone_away bytes_of lines_bytes line_sent lines_sent sent taken lines_taken is_lawful effect next_ready next_process next_turn at_login sent_lines queue_most turns served line_story told digits asked_dump
 closed_row = refl
 
 -- it is so many seconds later, as far as seconds go

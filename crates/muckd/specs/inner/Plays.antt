@@ -2,10 +2,10 @@
 use Rattle.std.specs.Prelude.{◌≡◌, ℕ, false, List, [], ◌∷◌, ◌++◌, Option, Result, Ok, Err}
 use Rattle.muck_io.specs.Sink.{Appends}
 use Rattle.muck_model.specs.declared.event.Entry.{Entry}
-use Rattle.muck_model.specs.declared.event.Event.TheVariants.{Died}
+use Rattle.muck_model.specs.declared.event.Event.TheVariants.{Died, Cut}
 use Rattle.spec_events.specs.World.{World}
-use Rattle.spec_events.specs.Histories.{History, now, Grew, by_porter}
-use Rattle.muck_script.specs.Story.{Dumped, Part, outcomes_of, text_of}
+use Rattle.spec_events.specs.Histories.{History, now, Longer, by_porter}
+use Rattle.muck_script.specs.Story.{Dumped, stored, Part, outcomes_of, text_of}
 use Rattle.muckd.specs.declared.playing.RunFault.{RunFault}
 use Rattle.muckd.specs.declared.playing.RunFault.TheVariants.{NoMemory, WriteFault}
 
@@ -18,16 +18,24 @@ Says f w es = (later : List Dumped) → f (outcomes_of es ++ later) w ≡ es
 pub record Plays (f : Part) (h k : History) (before written : Option (List ℕ)) : Type 0 where
   pub entries : List Entry
   pub said : Says f (now h) entries
-  pub history : Grew h k entries
+  pub history : Longer h k entries
   pub text : Appends before written (text_of (now h) entries)
   pub alive : (now k).dead ≡ false
+
+-- a dump that began behind these entries, and didn't come out yet, counts as stored
+abbrev pub IsPending : List Entry → List Dumped → Type 0
+IsPending front [] = Unit {0}
+IsPending front (stored k ∷ []) = (es : List Entry) × (front ≡ es ++ by_porter (Cut k) ∷ [])
+IsPending front os = ⊥
 
 -- Only the first of those entries happened, and then the ending. Of the text of those that happened a front was written.
 -- Where there is no ending the world still lives.
 pub record Breaks (f : Part) (ending : List Entry) (h k : History) (before written : Option (List ℕ)) : Type 0 where
   pub front : List Entry
-  pub whole : (later : List Dumped) → (rest : List Entry) × (front ++ rest ≡ f (outcomes_of front ++ later) (now h))
-  pub history : Grew h k (front ++ ending)
+  pub pending : List Dumped
+  pub began : IsPending front pending
+  pub whole : (later : List Dumped) → (rest : List Entry) × (front ++ rest ≡ f (outcomes_of front ++ (pending ++ later)) (now h))
+  pub history : Longer h k (front ++ ending)
   pub told : List ℕ
   pub untold : List ℕ
   pub text : told ++ untold ≡ text_of (now h) front

@@ -2,7 +2,7 @@ use Rattle.std.proofs.Common.{◌<◌, ◌≤◌, [], length, refl, ◌∙◌, a
 use Rattle.std.proofs.lemmas.Bool.{cond-true, lt-ltb}
 use Rattle.spec_events.specs.World.{queue_of}
 use Rattle.spec_events.specs.Histories.{now}
-use Rattle.spec_events.proofs.Runs.{grew_one}
+use Rattle.spec_events.proofs.Runs.{longer_one}
 use Rattle.muckd.proofs.Parts.{plays_one, breaks_after, text_taken, taken_some, whole_queue, front_nothing, entered_twice, lives_on, no_ending}
 use Rattle.muckd.proofs.playing.take_queue.Goals as goal
 
@@ -21,7 +21,7 @@ returns-in-Ok-clause-plays g c =
     let room : length (queue_of c.args.d (now c.args.world.now)) ≤ length c.args.buf.now = omega (arith, count, c.queued.ensures.most, c.requires.room) in
     let whole = whole_queue c.args.d c.take-count.result (length c.args.buf.now) (now c.args.world.now) c.take-count.ensures.count c.requires.alive room in
     let some : 0 < c.take-count.result = omega (arith, whole, count) in
-    breaks_after _ [] _ _ _ _ _ _ (λ later. taken_some c.args.d _ (now c.args.world.now) whole some) (grew_one _ _ _ (c.take-count.ensures.step ∙ cond-true _ _ _ (lt-ltb 0 _ some)))
+    breaks_after _ [] _ _ _ _ _ _ (λ later. taken_some c.args.d _ (now c.args.world.now) whole some) (longer_one _ _ _ (c.take-count.ensures.step ∙ cond-true _ _ _ (lt-ltb 0 _ some)))
     (text_taken c.args.d _ (now c.args.world.now) _ _ c.take-count.ensures.bytes (c.as_slice.ensures.value ∙ c.in-Ok.ensures)) c.in-Err-write_all.ensures.front
     (λ _. lives_on _ _ _ (c.take-count.ensures.step ∙ cond-true _ _ _ (lt-ltb 0 _ some)) refl c.requires.alive)
 

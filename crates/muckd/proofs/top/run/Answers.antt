@@ -1,29 +1,64 @@
-use Rattle.std.proofs.Common.{ℕ, refl, sym, ◌∙◌, ap, subst, List}
-use Rattle.spec_events.specs.World.{starting}
-use Rattle.muck_script.specs.Script.{script_of}
-use Rattle.muckd.specs.Outcome.{IsFirstOutside, HasRun}
+use Rattle.std.proofs.Common.{◌≡◌, refl, ap, subst, ◌∙◌, List}
+use Rattle.muck_model.specs.declared.event.Entry.{Entry}
 use Rattle.muck_script.specs.declared.act.Act.{Act}
-use Rattle.muckd.proofs.Whole.{script_in, first_outside, read_out, read_part_most}
-use Rattle.muckd.proofs.Answered.{answered, bad_line}
+use Rattle.muckd.specs.Outcome.{HasBegun}
+use Rattle.muckd.specs.inner.Ends.{IsMountWhy, MayRefuse, IsScriptWhy, MayEnd}
+use Rattle.muckd.proofs.Called.{refused_ends, unread_ends, wanted_ends, began_ends, either_since, has_begun}
 use Rattle.muckd.proofs.top.run.Goals as goal
 
-pub returns-in-Err-BadScript-clause-answers : goal.returns-in-Err-BadScript-clause-answers
-returns-in-Err-BadScript-clause-answers g c =
-    let P : ℕ → Type 0 = IsFirstOutside (g.S.Source.left c.args.script.now) in (
-      subst P (sym c.in-Err-BadScript.line-is)
-          (first_outside _ _ _ _ _ read_part_most c.in-Ok.ensures.ok (ap script_of (sym c.as_slice.ensures.value) ∙ bad_line _ _ _ c.in-Err-BadScript.field-0-is c.in-Err-BadScript.ensures)),
-      c.in-Ok.ensures.fine,
-      record { empty = ap (λ t. t.entries) c.none-in-Err-BadScript.ensures; sink = refl },
-    )
+pub returns-in-Err-clause-usage : goal.returns-in-Err-clause-usage
+returns-in-Err-clause-usage g c = λ e. subst MayRefuse e c.in-Err.ensures.why
 
-pub returns-in-Ok-read-clause-answers : goal.returns-in-Ok-read-clause-answers
-returns-in-Ok-read-clause-answers g c =
-    let ok = ap script_of (sym c.as_slice.ensures.value) ∙ c.in-Ok-read.ensures in
-    answered _ _ _ _ _ _ _ _ _ _ starting c.run_acts.result.0
-    (record {
-      script = script_in _ _ _ _ _ read_part_most c.in-Ok.ensures.ok ok;
-      read = read_out _ _ _ _ _ read_part_most c.in-Ok.ensures.ok ok;
-      fine = c.in-Ok.ensures.fine;
-    })
-    (let P : List Act → Type 0 = λ xs. HasRun g.K.Sink.written g.K.Sink.faults starting c.run_acts.result.0 xs c.args.out.now c.run_acts.new.out c.run_acts.result.1.entries in
-    subst P c.as_slice-in-Ok-read.ensures c.run_acts.ensures.run)
+pub returns-in-Err-clause-bad_script : goal.returns-in-Err-clause-bad_script
+returns-in-Err-clause-bad_script g c = λ line e. absurd (subst MayRefuse e c.in-Err.ensures.why)
+
+pub returns-in-Err-clause-history : goal.returns-in-Err-clause-history
+returns-in-Err-clause-history g c = refused_ends _ _ _ c.in-Err.ensures.why (record { empty = ap (λ t. t.entries) c.none.ensures; sink = refl })
+
+pub returns-in-Err-clause-read_fault : goal.returns-in-Err-clause-read_fault
+returns-in-Err-clause-read_fault g c = λ e. absurd (subst MayRefuse e c.in-Err.ensures.why)
+
+pub returns-in-Err-clause-write_fault : goal.returns-in-Err-clause-write_fault
+returns-in-Err-clause-write_fault g c = λ e. absurd (subst MayRefuse e c.in-Err.ensures.why)
+
+pub returns-in-Err-clause-damaged : goal.returns-in-Err-clause-damaged
+returns-in-Err-clause-damaged g c = λ file at tells e. subst (IsMountWhy (g.D.Disk.seen c.args.first.now) (g.D.Disk.seen c.args.second.now)) e (c.in-Err.ensures.told tells)
+
+pub returns-in-Err-read_script-clause-usage : goal.returns-in-Err-read_script-clause-usage
+returns-in-Err-read_script-clause-usage g c = λ e. subst (IsScriptWhy (g.S.Source.left c.args.script.now)) e c.in-Err-read_script.ensures.why
+
+pub returns-in-Err-read_script-clause-bad_script : goal.returns-in-Err-read_script-clause-bad_script
+returns-in-Err-read_script-clause-bad_script g c = λ line e. subst (IsScriptWhy (g.S.Source.left c.args.script.now)) e c.in-Err-read_script.ensures.why
+
+pub returns-in-Err-read_script-clause-history : goal.returns-in-Err-read_script-clause-history
+returns-in-Err-read_script-clause-history g c = unread_ends _ _ _ _ c.in-Err-read_script.ensures.why (record { empty = ap (λ t. t.entries) c.none-in-Err-read_script.ensures; sink = refl })
+
+pub returns-in-Err-read_script-clause-write_fault : goal.returns-in-Err-read_script-clause-write_fault
+returns-in-Err-read_script-clause-write_fault g c = λ e. absurd (subst (IsScriptWhy (g.S.Source.left c.args.script.now)) e c.in-Err-read_script.ensures.why)
+
+pub returns-in-Err-read_script-clause-disk_fault : goal.returns-in-Err-read_script-clause-disk_fault
+returns-in-Err-read_script-clause-disk_fault g c = λ e. absurd (subst (IsScriptWhy (g.S.Source.left c.args.script.now)) e c.in-Err-read_script.ensures.why)
+
+pub returns-in-Err-read_script-clause-damaged : goal.returns-in-Err-read_script-clause-damaged
+returns-in-Err-read_script-clause-damaged g c = λ file at tells e. absurd (subst (IsScriptWhy (g.S.Source.left c.args.script.now)) e c.in-Err-read_script.ensures.why)
+
+pub returns-in-Ok-read_script-clause-usage : goal.returns-in-Ok-read_script-clause-usage
+returns-in-Ok-read_script-clause-usage g c = λ e. subst (MayEnd g.D.Disk.tells) e c.run_acts.ensures.why
+
+pub returns-in-Ok-read_script-clause-bad_script : goal.returns-in-Ok-read_script-clause-bad_script
+returns-in-Ok-read_script-clause-bad_script g c = λ line e. absurd (subst (MayEnd g.D.Disk.tells) e c.run_acts.ensures.why)
+
+pub returns-in-Ok-read_script-clause-read_fault : goal.returns-in-Ok-read_script-clause-read_fault
+returns-in-Ok-read_script-clause-read_fault g c = λ e. absurd (subst (MayEnd g.D.Disk.tells) e c.run_acts.ensures.why)
+
+pub returns-in-Ok-read_script-clause-disk_fault : goal.returns-in-Ok-read_script-clause-disk_fault
+returns-in-Ok-read_script-clause-disk_fault g c = λ e. either_since _ _ _ _ _ _ c.in-Ok.ensures.first_later c.in-Ok.ensures.second_later (c.run_acts.ensures.cause e)
+
+pub returns-in-Ok-read_script-clause-damaged : goal.returns-in-Ok-read_script-clause-damaged
+returns-in-Ok-read_script-clause-damaged g c = λ file at tells e. absurd (subst (MayEnd g.D.Disk.tells) e c.run_acts.ensures.why tells)
+
+pub returns-in-Ok-read_script-clause-history : goal.returns-in-Ok-read_script-clause-history
+returns-in-Ok-read_script-clause-history g c = elim c.run_acts.ensures.ends [
+  | inl never ↦ wanted_ends _ _ _ never.wanted never.unbegun
+  | inr played ↦ began_ends g.D.Disk.tells _ _ _ c.run_acts.ensures.why (has_begun _ _ _ _ _ _ _ _ _ _ _ _ _ _ _ _ _ _ _ _ _ _ _ c.in-Ok.ensures.log c.in-Ok.ensures.first_seen c.in-Ok.ensures.second_seen c.in-Ok-read_script.ensures.read played)
+]

@@ -1,40 +1,81 @@
-use Rattle.std.proofs.Common.{inr, refl, ◌∙◌, ap, subst, Err}
-use Rattle.spec_events.specs.Histories.{History, AllLawful}
-use Rattle.muckd.proofs.Whole.{begun_lives, played_whole, died_off, halted_off, broke_by}
+use Rattle.std.proofs.Common.{◌≡◌, inl, inr, refl, sym, ap, Err}
+use Rattle.spec_dumps.proofs.Idle.{idle_quiet}
+use Rattle.spec_dumps.proofs.Quiet.{rests_quiet}
+use Rattle.muckd.proofs.Called.{dump_may, not_write, either_since}
+use Rattle.muckd.proofs.Closing.{halted_lives}
+use Rattle.muckd.proofs.Played.{played, died, broke}
+use Rattle.muckd.proofs.Started.{begins_alive, begins_idle, rests_started}
+use Rattle.muckd.proofs.Whole.{broke_by}
 use Rattle.muckd.proofs.top.run_acts.Goals as goal
 
 pub play-requires-clause-alive : goal.play-requires-clause-alive
-play-requires-clause-alive g c = begun_lives _ c.in-Ok.ensures.0
+play-requires-clause-alive g c = begins_alive _ _ _ c.in-Ok.ensures.world
 
-pub returns-in-Ok-play-clause-run : goal.returns-in-Ok-play-clause-run
-returns-in-Ok-play-clause-run g c = (played_whole _ _ _ _ _ _ c.in-Ok.ensures.0 c.in-Ok-play.ensures.plays c.into_tale.ensures.entries, c.in-Ok-play.ensures.fine)
+pub play-requires-clause-idle : goal.play-requires-clause-idle
+play-requires-clause-idle g c = begins_idle _ _ _ c.in-Ok.ensures.world
 
-pub returns-in-Ok-play-clause-lawful : goal.returns-in-Ok-play-clause-lawful
-returns-in-Ok-play-clause-lawful g c =
-    subst (λ w. AllLawful w c.into_tale.result.entries) (c.in-Ok-play.ensures.plays.history.start ∙ ap (λ (h : History). h.start) c.in-Ok.ensures.0) c.into_tale.ensures.lawful
+pub play-requires-clause-mounted : goal.play-requires-clause-mounted
+play-requires-clause-mounted g c = λ tells. (c.args.log.chosen.held.number, rests_started _ _ _ _ _ _ _ c.requires.bootable c.in-Ok.ensures.properties (c.requires.mounted tells) _ _ c.new.ensures c.in-Ok.ensures.world)
 
-pub returns-in-Err-NoMemory-clause-run : goal.returns-in-Err-NoMemory-clause-run
-returns-in-Err-NoMemory-clause-run g c =
+pub last_dump-requires-clause-alive : goal.last_dump-requires-clause-alive
+last_dump-requires-clause-alive g c = c.in-Ok-play.ensures.plays.alive
+
+pub last_dump-requires-clause-mounted : goal.last_dump-requires-clause-mounted
+last_dump-requires-clause-mounted g c = λ tells.
+    let start = rests_started _ _ _ _ _ _ _ c.requires.bootable c.in-Ok.ensures.properties (c.requires.mounted tells) _ _ c.new.ensures c.in-Ok.ensures.world in
+    (c.args.log.chosen.held.number, (c.in-Ok-play.ensures.kept _ tells start).rests (λ e. cc))
+
+pub returns-in-Ok-play-clause-ends : goal.returns-in-Ok-play-clause-ends
+returns-in-Ok-play-clause-ends g c =
     inr (
-      died_off _ _ _ _ _ _ c.in-Ok.ensures.0 (broke_by _ _ _ _ _ _ _ c.in-Err-NoMemory.field-0-is c.in-Err-NoMemory.ensures.plays) c.into_tale-in-Err-NoMemory.ensures.entries,
-      c.in-Err-NoMemory.ensures.memory (ap Err c.in-Err-NoMemory.field-0-is),
+    played _ _ _ _ _ _ _ _ _ c.in-Ok.ensures.world _ _ _ _ _ _ _ _ _ c.in-Ok-play.ensures.plays c.in-Ok-play.ensures.fine c.last_dump.ensures.why c.last_dump.ensures.plays c.last_dump.ensures.last
+    (λ tells.
+    let start = rests_started _ _ _ _ _ _ _ c.requires.bootable c.in-Ok.ensures.properties (c.requires.mounted tells) _ _ c.new.ensures c.in-Ok.ensures.world in
+    c.last_dump.ensures.kept _ tells ((c.in-Ok-play.ensures.kept _ tells start).rests (λ e. cc)))
+    c.into_tale.ensures.entries c.into_tale.ensures.notes c.into_tale.ensures.lawful
     )
 
-pub returns-in-Err-NoMemory-clause-lawful : goal.returns-in-Err-NoMemory-clause-lawful
-returns-in-Err-NoMemory-clause-lawful g c =
-    subst (λ w. AllLawful w c.into_tale-in-Err-NoMemory.result.entries)
-    (c.in-Err-NoMemory.ensures.plays.history.start ∙ ap (λ (h : History). h.start) c.in-Ok.ensures.0) c.into_tale-in-Err-NoMemory.ensures.lawful
+pub returns-in-Ok-play-clause-why : goal.returns-in-Ok-play-clause-why
+returns-in-Ok-play-clause-why g c = dump_may _ _ c.last_dump.ensures.why
+
+pub returns-in-Ok-play-clause-write : goal.returns-in-Ok-play-clause-write
+returns-in-Ok-play-clause-write g c = λ e. absurd (not_write _ _ c.last_dump.ensures.why e)
+
+pub returns-in-Ok-play-clause-cause : goal.returns-in-Ok-play-clause-cause
+returns-in-Ok-play-clause-cause g c = λ e. either_since _ _ _ _ _ _ c.in-Ok-play.ensures.first_later c.in-Ok-play.ensures.second_later (c.last_dump.ensures.cause e)
+
+pub returns-in-Err-NoMemory-clause-ends : goal.returns-in-Err-NoMemory-clause-ends
+returns-in-Err-NoMemory-clause-ends g c =
+    inr (
+    died _ _ _ _ _ _ _ _ _ c.in-Ok.ensures.world _ _ _ _ _ _ _ (broke_by _ _ _ _ _ _ _ c.in-Err-NoMemory.field-0-is c.in-Err-NoMemory.ensures.plays) (c.in-Err-NoMemory.ensures.memory (ap Err c.in-Err-NoMemory.field-0-is))
+    (λ tells.
+    let start = rests_started _ _ _ _ _ _ _ c.requires.bootable c.in-Ok.ensures.properties (c.requires.mounted tells) _ _ c.new.ensures c.in-Ok.ensures.world in
+    (c.in-Err-NoMemory.ensures.kept _ tells start).safe)
+    c.into_tale-in-Err-NoMemory.ensures.entries c.into_tale-in-Err-NoMemory.ensures.notes c.into_tale-in-Err-NoMemory.ensures.lawful
+    )
 
 pub stop-requires : goal.stop-requires
 stop-requires g c = (broke_by _ _ _ _ _ _ _ c.in-Err-WriteFault.field-0-is c.in-Err-WriteFault.ensures.plays).alive refl
 
-pub returns-clause-run : goal.returns-clause-run
-returns-clause-run g c = (
-  halted_off _ _ _ _ _ _ _ c.in-Ok.ensures.0 (broke_by _ _ _ _ _ _ _ c.in-Err-WriteFault.field-0-is c.in-Err-WriteFault.ensures.plays) c.stop.ensures c.into_tale-in-Err-WriteFault.ensures.entries,
-  c.in-Err-WriteFault.ensures.write (ap Err c.in-Err-WriteFault.field-0-is),
-)
+pub last_dump-in-Err-WriteFault-requires-clause-alive : goal.last_dump-in-Err-WriteFault-requires-clause-alive
+last_dump-in-Err-WriteFault-requires-clause-alive g c =
+    halted_lives _ _ c.stop.ensures.halts ((broke_by _ _ _ _ _ _ _ c.in-Err-WriteFault.field-0-is c.in-Err-WriteFault.ensures.plays).alive refl)
 
-pub returns-clause-lawful : goal.returns-clause-lawful
-returns-clause-lawful g c =
-    subst (λ w. AllLawful w c.into_tale-in-Err-WriteFault.result.entries)
-    (c.stop.ensures.start ∙ c.in-Err-WriteFault.ensures.plays.history.start ∙ ap (λ (h : History). h.start) c.in-Ok.ensures.0) c.into_tale-in-Err-WriteFault.ensures.lawful
+pub last_dump-in-Err-WriteFault-requires-clause-idle : goal.last_dump-in-Err-WriteFault-requires-clause-idle
+last_dump-in-Err-WriteFault-requires-clause-idle g c = idle_quiet _ _ c.stop.ensures.quiet (c.in-Err-WriteFault.ensures.idle (λ e. let is = c.in-Err-WriteFault.field-0-is in cc))
+
+pub last_dump-in-Err-WriteFault-requires-clause-mounted : goal.last_dump-in-Err-WriteFault-requires-clause-mounted
+last_dump-in-Err-WriteFault-requires-clause-mounted g c = λ tells.
+    let start = rests_started _ _ _ _ _ _ _ c.requires.bootable c.in-Ok.ensures.properties (c.requires.mounted tells) _ _ c.new.ensures c.in-Ok.ensures.world in
+    (c.args.log.chosen.held.number, rests_quiet _ _ _ _ _ _ _ _ _ _ c.stop.ensures.quiet ((c.in-Err-WriteFault.ensures.kept _ tells start).rests (λ e. let is = c.in-Err-WriteFault.field-0-is in cc)))
+
+pub returns-clause-ends : goal.returns-clause-ends
+returns-clause-ends g c =
+    inr (
+    broke _ _ _ _ _ _ _ _ _ c.in-Ok.ensures.world _ _ _ _ _ _ _ _ _ (broke_by _ _ _ _ _ _ _ c.in-Err-WriteFault.field-0-is c.in-Err-WriteFault.ensures.plays) (c.in-Err-WriteFault.ensures.write (ap Err c.in-Err-WriteFault.field-0-is))
+    c.stop.ensures.halts c.last_dump-in-Err-WriteFault.ensures.last
+    (λ tells.
+    let start = rests_started _ _ _ _ _ _ _ c.requires.bootable c.in-Ok.ensures.properties (c.requires.mounted tells) _ _ c.new.ensures c.in-Ok.ensures.world in
+    (c.last_dump-in-Err-WriteFault.ensures.kept _ tells (rests_quiet _ _ _ _ _ _ _ _ _ _ c.stop.ensures.quiet ((c.in-Err-WriteFault.ensures.kept _ tells start).rests (λ e. let is = c.in-Err-WriteFault.field-0-is in cc)))).safe)
+    c.into_tale-in-Err-WriteFault.ensures.entries c.into_tale-in-Err-WriteFault.ensures.notes c.into_tale-in-Err-WriteFault.ensures.lawful
+    )

@@ -1,6 +1,7 @@
 use Rattle.std.proofs.Common.{subst, arith}
 use Rattle.muck_log.specs.Store.{LeavesBoth, MayBeAt, IsDone, pick, after_batch}
 use Rattle.muck_log.specs.Append.{LoadsEither, more_of, payload_of}
+use Rattle.muck_log.proofs.Deltas.{ready_whole}
 use Rattle.muck_log.proofs.Moments.{weaker_both}
 use Rattle.muck_log.proofs.Appending.{place_within, close_is, may_ready, next_after, mounted_after}
 use Rattle.muck_log.proofs.log.Log.append.Goals as goal
@@ -52,3 +53,13 @@ returns-clause-any g c = λ t fresh w e.
     (MayBeAt ready.target.second ready.target.place ready.tail.items a b) (LoadsEither c.args.self.now.chosen (after_batch c.args.self.now.chosen (payload_of c.args.self.now c.args.batch.now) w))
     (subst (λ l. LeavesBoth g.D.Disk.moment g.D.Disk.images c.args.first.now c.args.second.now c.put_target.new.first c.put_target.new.second (MayBeAt ready.target.second ready.target.place l a b)) c.deref.ensures.value (c.put_target.ensures.any t))
     (λ x y may. may_ready c.args.self.now c.prepare.new.self (payload_of c.args.self.now c.args.batch.now) ready w a b x y c.in_ok-ready.ensures.ok e (c.requires.mounted t fresh).load may)
+
+pub returns-in_default-clause-whole : goal.returns-in_default-clause-whole
+returns-in_default-clause-whole g c = λ touched es tune is words two.
+    let r = c.in_ok-ready.ensures in
+    ready_whole c.args.self.now c.prepare.new.self c.args.batch.now r.ok.lays r.storable r.kept r.covers c.requires.few es tune is words two
+
+pub returns-clause-whole : goal.returns-clause-whole
+returns-clause-whole g c = λ touched es tune is words two.
+    let r = c.in_ok-ready.ensures in
+    ready_whole c.args.self.now c.prepare.new.self c.args.batch.now r.ok.lays r.storable r.kept r.covers c.requires.few es tune is words two

@@ -1,0 +1,140 @@
+-- What a call answers, from where it ended.
+use Rattle.std.proofs.Common.{◌≡◌, ◌⊎◌, inl, inr, ⊥, ℕ, ◌≤◌, ◌<◌, Bool, true, false, List, [], ◌∷◌, refl, sym, ap, subst, ◌∙◌, arith, Option, Some, None, Result, Ok, Err}
+use Rattle.std.specs.Prelude.{◌↔◌}
+use Rattle.muck_io.specs.Faults.{Rose}
+use Rattle.muck_model.specs.declared.event.Entry.{Entry}
+use Rattle.muck_model.specs.declared.note.Note.{Note}
+use Rattle.muck_log.specs.Store.{Chosen, Damage, LogState, stored}
+use Rattle.muck_log.specs.Mount.{IsMountedAs, IsMountFault}
+use Rattle.muck_log.specs.declared.fault.LogFault.{LogFault}
+use Rattle.muck_log.specs.declared.fault.LogFault.TheVariants.{NoMemory as LogMemory, DiskFault as LogDisk, Damaged as LogDamaged, StoreFull as LogFull, Unfit, Stale}
+use Rattle.spec_dumps.specs.Fronts.{file_most}
+use Rattle.muck_script.specs.declared.act.Act.{Act}
+use Rattle.muck_script.specs.Script.{script_of}
+use Rattle.muckd.specs.Outcome.{HasRead, HasBegun, EndsAs, IsInGrammar, IsFirstOutside}
+use Rattle.muckd.specs.inner.Ends.{why_of, MayNotOpen, IsMountWhy, MayRefuse, IsScriptWhy, HasPlayed, MayEnd, MayEndDump, booted_from}
+use Rattle.muckd.specs.declared.why.Why.{Why}
+use Rattle.muckd.specs.declared.why.Why.TheVariants.{Fine, Usage, BadScript, NoMemory, ReadFault, WriteFault, DiskFault, Damaged, StoreFull}
+use Rattle.muckd.proofs.Started.{licensed_from, known_from}
+
+-- Files that aren't opened, and stores that aren't mounted.
+
+pub opens_told : (a b : List ℕ) (why : Why) → MayNotOpen why → IsMountWhy a b why
+opens_told a b NoMemory may = tt
+opens_told a b DiskFault may = tt
+opens_told a b why may = absurd may
+
+pub opens_may : (why : Why) → MayNotOpen why → MayRefuse why
+opens_may NoMemory may = tt
+opens_may DiskFault may = tt
+opens_may why may = absurd may
+
+pub mount_told : (a b : List ℕ) (fault : LogFault) → IsMountFault a b fault → IsMountWhy a b (why_of fault)
+mount_told a b LogMemory told = tt
+mount_told a b LogDisk told = tt
+mount_told a b (LogDamaged second at) told = told
+mount_told a b (LogFull end more) told = absurd told
+mount_told a b Unfit told = absurd told
+mount_told a b Stale told = absurd told
+
+-- How a call ends: it wasn't begun where no store was mounted and where no script was read.
+
+pub refused_ends : (why : Why) (U B : Type 0) → MayRefuse why → U → EndsAs why U B
+refused_ends (Damaged second at) U B may u = inl u
+refused_ends NoMemory U B may u = inl u
+refused_ends DiskFault U B may u = inl u
+refused_ends why U B may u = absurd may
+
+pub unread_ends : (left : Option (List ℕ)) (why : Why) (U B : Type 0) → IsScriptWhy left why → U → EndsAs why U B
+unread_ends left (BadScript line) U B is u = u
+unread_ends left NoMemory U B is u = inl u
+unread_ends left ReadFault U B is u = u
+unread_ends left why U B is u = absurd is
+
+pub wanted_ends : (why : Why) (U B : Type 0) → why ≡ NoMemory → U → EndsAs why U B
+wanted_ends why U B is u = subst (λ x. EndsAs x U B) (sym is) (inl u)
+
+pub began_ends : (tells : Bool) (why : Why) (U B : Type 0) → MayEnd tells why → B → EndsAs why U B
+began_ends tells Fine U B may b = b
+began_ends tells NoMemory U B may b = inr b
+began_ends tells WriteFault U B may b = b
+began_ends tells DiskFault U B may b = inr b
+began_ends tells (StoreFull end more) U B may b = b
+began_ends tells (Damaged second at) U B may b = inr b
+began_ends tells why U B may b = absurd may
+
+pub dump_may : (tells : Bool) (why : Why) → MayEndDump tells why → MayEnd tells why
+dump_may tells Fine may = tt
+dump_may tells NoMemory may = tt
+dump_may tells DiskFault may = tt
+dump_may tells (StoreFull end more) may = tt
+dump_may tells (Damaged second at) may = may
+dump_may tells why may = absurd may
+
+-- the last dump of a run doesn't hide that the sink failed
+pub not_write : (tells : Bool) (why : Why) → MayEndDump tells why → why ≡ WriteFault → ⊥
+not_write tells why may e = subst (MayEndDump tells) e may
+
+-- a count that rose after another call did since before it
+pub rose_since : (a b c : ℕ) → a ≤ b → Rose b c → Rose a c
+rose_since a b c le rose = omega (arith, le, rose)
+
+pub either_since : (a b c x y z : ℕ) → a ≤ b → x ≤ y → Rose b c ⊎ Rose y z → Rose a c ⊎ Rose x z
+either_since a b c x y z le ge rose = elim rose [
+  | inl r ↦ inl (rose_since a b c le r)
+  | inr r ↦ inr (rose_since x y z ge r)
+]
+
+-- A run that was played has begun, on the log that the files held.
+module _ {S K D : Type 0} (left : S → Option (List ℕ)) (faults : S → ℕ) (written : K → Option (List ℕ)) (breaks : K → ℕ) (tells : Bool) (seen : D → List ℕ) (moment : D → ℕ) (images : D → ℕ → List ℕ → Type 0)
+    (log : LogState) (why : Why) (acts : List Act) (s t : S) (k l : K) (first second first' second' first'' second'' : D) (tale : List Entry) (notes : List Note) where
+  pub has_begun : (tells ≡ true → IsMountedAs seen moment images file_most log first' second') → (tells ≡ true → seen first' ≡ seen first) → (tells ≡ true → seen second' ≡ seen second) → HasRead left faults s t acts
+      → HasPlayed written breaks tells moment images log why acts k l first'' second'' tale notes
+      → HasBegun left faults written breaks tells seen moment images why s t k l first second first'' second'' tale notes
+  has_begun mounted a b read p = record {
+    start = booted_from log.chosen.held.world;
+    mounted = log.chosen.held.number;
+    begins = record {
+      kept = log.chosen.held.world;
+      boots = refl;
+      holds = λ on. (log.chosen, ap (λ x. stored x (seen second)) (sym (a on)) ∙ ap (λ y. stored (seen first') y) (sym (b on)) ∙ (mounted on).mounted.load, refl, refl);
+    };
+    happened = record {
+      lawful = p.lawful;
+      licensed = licensed_from log.chosen.held.world tale;
+      passwords = known_from log.chosen.held.world tale p.lawful;
+      acts = acts;
+      read = read;
+      run = p.run;
+    };
+    safe = p.safe;
+    whole = p.whole;
+    full = p.full;
+  }
+
+-- Where nothing stood in its way, the work is done.
+
+grammar_stands : (left : Option (List ℕ)) (line : ℕ) → IsInGrammar left → IsFirstOutside left line → ⊥
+grammar_stands None line is outside = is
+grammar_stands (Some bytes) line is outside = let both = sym is.1 ∙ outside in cc
+
+pub completes : (left : Option (List ℕ)) (r : Result Chosen Damage) (s : Chosen) (why : Why) → (why ≡ Usage → ⊥) → ((line : ℕ) → why ≡ BadScript line → IsFirstOutside left line) → (why ≡ ReadFault → ⊥) → (why ≡ WriteFault → ⊥) → (why ≡ DiskFault → ⊥)
+    → ((file : Bool) (at : ℕ) → why ≡ Damaged file at → r ≡ Err (record { second = file; at = at })) → r ≡ Ok s → IsInGrammar left → (why ≡ Fine) ⊎ ((why ≡ NoMemory) ⊎ ((end more : ℕ) × (why ≡ StoreFull end more)))
+completes left r s Fine usage bad read write disk damaged ok grammar = inl refl
+completes left r s Usage usage bad read write disk damaged ok grammar = absurd (usage refl)
+completes left r s (BadScript line) usage bad read write disk damaged ok grammar = absurd (grammar_stands left line grammar (bad line refl))
+completes left r s NoMemory usage bad read write disk damaged ok grammar = inr (inl refl)
+completes left r s ReadFault usage bad read write disk damaged ok grammar = absurd (read refl)
+completes left r s WriteFault usage bad read write disk damaged ok grammar = absurd (write refl)
+completes left r s DiskFault usage bad read write disk damaged ok grammar = absurd (disk refl)
+completes left r s (Damaged file at) usage bad read write disk damaged ok grammar = let both = sym ok ∙ damaged file at refl in cc
+completes left r s (StoreFull end more) usage bad read write disk damaged ok grammar = inr (inr (end, more, refl))
+
+-- The words are no command, or they are one.
+
+pub never_usage : (why : Why) (is : Bool) → is ≡ true → (why ≡ Usage → ⊥) → (why ≡ Usage) ↔ (is ≡ false)
+never_usage why true e other = (λ u. absurd (other u), λ f. cc)
+never_usage why false e other = cc
+
+pub always_usage : (is : Bool) → is ≡ false → (Usage ≡ Usage) ↔ (is ≡ false)
+always_usage is e = (λ u. e, λ f. refl)

@@ -1,0 +1,76 @@
+-- How the last dump of a run came out, and why the run ends by it.
+use Rattle.std.proofs.Common.{◌≡◌, ⊥, ℕ, Bool, true, false, if◌then◌else◌, List, [], ◌∷◌, refl, ap, ◌∙◌, Option, Some, None, Result, Ok, Err}
+use Rattle.muck_model.specs.declared.event.Event.TheVariants.{Halt, Died}
+use Rattle.muck_log.specs.Store.{LogState}
+use Rattle.muck_log.specs.declared.fault.LogFault.{LogFault}
+use Rattle.muck_log.specs.declared.fault.LogFault.TheVariants.{NoMemory as LogMemory, DiskFault as LogDisk, Damaged as LogDamaged, StoreFull as LogFull, Unfit, Stale}
+use Rattle.spec_events.specs.World.{World}
+use Rattle.spec_events.specs.Steps.{effect}
+use Rattle.spec_events.specs.Histories.{History, after, now, Longer, by_porter}
+use Rattle.spec_events.proofs.Living.{dead-happened}
+use Rattle.spec_events.proofs.Runs.{now-longer}
+use Rattle.muck_script.specs.Story.{Part, dumping}
+use Rattle.muckd.specs.Outcome.{halted}
+use Rattle.muckd.specs.inner.Dumps.{Dumps, IsDumpFault}
+use Rattle.muckd.specs.inner.Ends.{why_of, EndsPlay, LastKept, MayEndDump}
+use Rattle.muckd.specs.inner.Plays.{Plays, Breaks, ending_of}
+use Rattle.muckd.specs.declared.playing.RunFault.{RunFault}
+use Rattle.muckd.specs.declared.playing.RunFault.TheVariants.{NoMemory as OutOfMemory, WriteFault as WriteFailed}
+use Rattle.muckd.specs.declared.why.Why.TheVariants.{Fine, NoMemory, StoreFull}
+
+-- a dump that failed was played, but for want of memory
+pub ends_by : (h k : History) (o : Option (List ℕ)) (fault : LogFault) → (fault ≡ LogMemory → ⊥) → Plays dumping h k o o → EndsPlay h k o (why_of fault)
+ends_by h k o LogMemory apart p = absurd (apart refl)
+ends_by h k o LogDisk apart p = p
+ends_by h k o (LogDamaged second at) apart p = p
+ends_by h k o (LogFull end more) apart p = p
+ends_by h k o Unfit apart p = p
+ends_by h k o Stale apart p = p
+
+pub may_end : (tells : Bool) (fault : LogFault) → (tells ≡ true → IsDumpFault (Some fault)) → MayEndDump tells (why_of fault)
+may_end tells LogMemory f = tt
+may_end tells LogDisk f = tt
+may_end tells (LogDamaged second at) f = f
+may_end tells (LogFull end more) f = tt
+may_end tells Unfit f = f
+may_end tells Stale f = f
+
+-- want of memory broke it off
+pub broke_memory : {T : Type 0} (f : Part) (h k : History) (a b : Option (List ℕ)) (fault : RunFault) → (let r : Result T RunFault = Err fault in r) ≡ Err OutOfMemory → Breaks f (ending_of fault) h k a b → Breaks f (by_porter Died ∷ []) h k a b
+broke_memory f h k a b OutOfMemory e p = p
+broke_memory f h k a b WriteFailed e p = cc
+
+not_fine : (fault : LogFault) → why_of fault ≡ Fine → ⊥
+not_fine LogMemory e = cc
+not_fine LogDisk e = cc
+not_fine (LogDamaged second at) e = cc
+not_fine (LogFull end more) e = cc
+not_fine Unfit e = cc
+not_fine Stale e = cc
+
+is_full : (fault : LogFault) (end more : ℕ) → why_of fault ≡ StoreFull end more → fault ≡ LogFull end more
+is_full LogMemory end more e = cc
+is_full LogDisk end more e = cc
+is_full (LogDamaged second at) end more e = cc
+is_full (LogFull x y) end more e = cc
+is_full Unfit end more e = cc
+is_full Stale end more e = cc
+
+module _ {D : Type 0} (seen : D → List ℕ) (moment : D → ℕ) (images : D → ℕ → List ℕ → Type 0) (faults : D → ℕ) (log : Option LogState) (first second : D) (mounted : ℕ) (h : History) where
+  pub kept_stored : Dumps seen moment images faults log first second mounted h (Ok None) → LastKept moment images first second mounted h Fine
+  kept_stored d = record { safe = d.safe; whole = λ e. d.whole refl; full = λ end more e. cc }
+
+  pub kept_failed : (fault : LogFault) → Dumps seen moment images faults log first second mounted h (Ok (Some fault)) → LastKept moment images first second mounted h (why_of fault)
+  kept_failed fault d = record { safe = d.safe; whole = λ e. absurd (not_fine fault e); full = λ end more e. d.full end more (ap Some (is_full fault end more e)) }
+
+  pub kept_broken : (fault : RunFault) → Dumps seen moment images faults log first second mounted h (Err fault) → LastKept moment images first second mounted h NoMemory
+  kept_broken fault d = record { safe = d.safe; whole = λ e. cc; full = λ end more e. cc }
+
+-- the porter's halt takes no life
+halt_lives : (w : World) (b : Bool) → w.dead ≡ false → (after w (if b then [] else by_porter Halt ∷ [])).dead ≡ false
+unfolding effect
+halt_lives w true alive = alive
+halt_lives w false alive = dead-happened Halt w 0 refl ∙ alive
+
+pub halted_lives : (h k : History) → Longer h k (halted (now h)) → (now h).dead ≡ false → (now k).dead ≡ false
+halted_lives h k is alive = ap (λ (w : World). w.dead) (now-longer h k (halted (now h)) is) ∙ halt_lives (now h) (now h).stopping alive

@@ -1,0 +1,122 @@
+-- What a run comes to, from the log that was mounted.
+use Rattle.std.specs.Prelude.{◌≡◌, ◌⊎◌, ℕ, ◌≤◌, Bool, true, false, List, [], ◌∷◌, length, Option, Some, Ok, Err}
+use Rattle.std.specs.List.{list_all}
+use Rattle.muck_model.specs.declared.event.Entry.{Entry}
+use Rattle.muck_model.specs.declared.note.Note.{Note}
+use Rattle.muck_model.specs.declared.tune.Tune.{Tune}
+use Rattle.muck_store.specs.Forms.{loaded}
+use Rattle.muck_store.specs.Limits.{fits}
+use Rattle.muck_store.specs.Whole.{is_whole}
+use Rattle.muck_log.specs.World.{World as Kept, tune_fits}
+use Rattle.muck_log.specs.Store.{LogState, stored}
+use Rattle.muck_log.specs.declared.fault.LogFault.{LogFault}
+use Rattle.muck_log.specs.declared.fault.LogFault.TheVariants.{NoMemory as LogMemory, DiskFault as LogDisk, Damaged as LogDamaged, StoreFull as LogFull, Unfit, Stale}
+use Rattle.spec_dumps.specs.Survival.{IsSafe, StandsWhole}
+use Rattle.spec_events.specs.World.{World, booted}
+use Rattle.muck_model.specs.declared.event.Event.TheVariants.{Died}
+use Rattle.spec_events.specs.Histories.{History, noted, by_porter, AllLawful}
+use Rattle.muck_script.specs.declared.act.Act.{Act}
+use Rattle.muckd.specs.Outcome.{HasRun, IsFirstOutside, IsUnbegun}
+use Rattle.muckd.specs.inner.Dumps.{IsFull}
+use Rattle.muckd.specs.inner.Plays.{Plays, Breaks}
+use Rattle.muck_script.specs.Story.{dumping}
+use Rattle.muckd.specs.declared.why.Why.{Why}
+use Rattle.muckd.specs.declared.why.Why.TheVariants.{Fine, Usage, BadScript, NoMemory, ReadFault, WriteFault, DiskFault, Damaged, StoreFull}
+
+-- why a call ends whose store couldn't be mounted, or whose last dump failed
+abbrev pub why_of : LogFault → Why
+why_of LogMemory = NoMemory
+why_of LogDisk = DiskFault
+why_of (LogDamaged second at) = Damaged second at
+why_of (LogFull end more) = StoreFull end more
+why_of Unfit = Damaged false 0
+why_of Stale = Damaged false 0
+
+-- why the files weren't opened
+abbrev pub MayNotOpen : Why → Type 0
+MayNotOpen NoMemory = Unit {0}
+MayNotOpen DiskFault = Unit {0}
+MayNotOpen why = ⊥
+
+-- why no store was mounted, where the disks tell their bytes
+abbrev pub IsMountWhy : List ℕ → List ℕ → Why → Type 0
+IsMountWhy a b (Damaged second at) = stored a b ≡ Err (record { second = second; at = at })
+IsMountWhy a b NoMemory = Unit {0}
+IsMountWhy a b DiskFault = Unit {0}
+IsMountWhy a b why = ⊥
+
+-- and where they don't
+abbrev pub MayRefuse : Why → Type 0
+MayRefuse (Damaged second at) = Unit {0}
+MayRefuse NoMemory = Unit {0}
+MayRefuse DiskFault = Unit {0}
+MayRefuse why = ⊥
+
+-- why no script was read
+abbrev pub IsScriptWhy : Option (List ℕ) → Why → Type 0
+IsScriptWhy left (BadScript line) = IsFirstOutside left line
+IsScriptWhy left NoMemory = Unit {0}
+IsScriptWhy left ReadFault = Unit {0}
+IsScriptWhy left why = ⊥
+
+-- the kept world makes objects that hang together
+pub record IsBootable (kept : Kept) : Type 0 where
+  pub few : length kept.objects ≤ 100000
+  pub whole : is_whole kept.objects ≡ true
+  pub fit : list_all fits kept.objects ≡ true
+  pub tuned : tune_fits kept.tune ≡ true
+
+-- the world of a kept one, in which nothing has happened yet
+abbrev pub booted_from : Kept → World
+booted_from kept = booted (loaded kept.objects) kept.tune 0 0
+
+-- A run on the log that was mounted.
+pub record HasPlayed {K D : Type 0} (written : K → Option (List ℕ)) (breaks : K → ℕ) (tells : Bool) (moment : D → ℕ) (images : D → ℕ → List ℕ → Type 0) (log : LogState) (why : Why) (acts : List Act)
+    (k l : K) (first second : D) (tale : List Entry) (notes : List Note) : Type 0 where
+  pub lawful : AllLawful (booted_from log.chosen.held.world) tale
+  pub run : HasRun written breaks (booted_from log.chosen.held.world) why acts k l tale
+  pub safe : tells ≡ true → IsSafe moment images first second (booted_from log.chosen.held.world) log.chosen.held.number tale notes
+  pub whole : tells ≡ true → why ≡ Fine → StandsWhole moment images first second (booted_from log.chosen.held.world) tale
+  pub full : (end more : ℕ) → tells ≡ true → why ≡ StoreFull end more → IsFull log.chosen.held.number (record { start = booted_from log.chosen.held.world; entries = tale; notes = notes }) end more
+
+-- memory was wanted before it began
+pub record NeverPlayed {K : Type 0} (why : Why) (k l : K) (tale : List Entry) : Type 0 where
+  pub wanted : why ≡ NoMemory
+  pub unbegun : IsUnbegun k l tale
+
+-- why a run ends that began
+abbrev pub MayEnd : Bool → Why → Type 0
+MayEnd tells Fine = Unit {0}
+MayEnd tells NoMemory = Unit {0}
+MayEnd tells WriteFault = Unit {0}
+MayEnd tells DiskFault = Unit {0}
+MayEnd tells (StoreFull end more) = Unit {0}
+MayEnd tells (Damaged second at) = tells ≡ true → ⊥
+MayEnd tells why = ⊥
+
+-- before anything was noted, and with the note of the mounting
+abbrev pub unbegun_from : LogState → History
+unbegun_from log = record { start = booted_from log.chosen.held.world; entries = []; notes = [] }
+
+abbrev pub begun_from : LogState → Note → History
+begun_from log note = noted (unbegun_from log) note
+
+-- the last dump of a run, by why the run ends if it was played whole
+abbrev pub EndsPlay : History → History → Option (List ℕ) → Why → Type 0
+EndsPlay h k o NoMemory = Breaks dumping (by_porter Died ∷ []) h k o o
+EndsPlay h k o why = Plays dumping h k o o
+
+-- What is kept of both disks behind the last dump.
+pub record LastKept {D : Type 0} (moment : D → ℕ) (images : D → ℕ → List ℕ → Type 0) (first second : D) (mounted : ℕ) (h : History) (why : Why) : Type 0 where
+  pub safe : IsSafe moment images first second h.start mounted h.entries h.notes
+  pub whole : why ≡ Fine → StandsWhole moment images first second h.start h.entries
+  pub full : (end more : ℕ) → why ≡ StoreFull end more → IsFull mounted h end more
+
+-- why a last dump lets a run end that was played whole
+abbrev pub MayEndDump : Bool → Why → Type 0
+MayEndDump tells Fine = Unit {0}
+MayEndDump tells NoMemory = Unit {0}
+MayEndDump tells DiskFault = Unit {0}
+MayEndDump tells (StoreFull end more) = Unit {0}
+MayEndDump tells (Damaged second at) = tells ≡ true → ⊥
+MayEndDump tells why = ⊥
