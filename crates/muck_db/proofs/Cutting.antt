@@ -1,25 +1,19 @@
 -- What a dump hands to the log, of a table.
-use Rattle.std.proofs.Common.{◌≡◌, ℕ, ◌+◌, ◌<◌, ◌≤◌, suc, List, [], ◌∷◌, ◌++◌, Option, Some, None, inl, inr, refl, sym, ◌∙◌, ap, subst, length, drop, map, arith, Bool, true, false, append_assoc, append-nil}
+use Rattle.std.proofs.Common.{◌≡◌, ℕ, ◌<◌, List, [], ◌∷◌, Option, Some, None, inl, inr, refl, sym, ◌∙◌, ap, length, map, arith, Bool, true, false}
 use Rattle.std.proofs.lemmas.Bool.{cases_eq, ne_eqb, eq-eqb}
-use Rattle.std.proofs.lemmas.List.{drop_all}
-use Rattle.std.proofs.lemmas.Option.{slice_get_cases, slice_get_within, get_or_from_slice_get}
-use Rattle.std.proofs.Math.Seq.{drop-cons}
+use Rattle.std.proofs.lemmas.Option.{slice_get_cases}
 use Rattle.std.specs.List.{slice_get}
 use Rattle.std.specs.Option.{option_map, option_map_or, option_and_then}
 use Rattle.std.specs.FinMap.{entries}
 use Rattle.muck_model.specs.declared.dbref.Dbref.{Dbref}
-use Rattle.muck_model.specs.declared.tune.Tune.{Tune}
 use Rattle.muck_prop.specs.Store.{PropMap, behind}
-use Rattle.muck_prop.specs.declared.props.Listed.{Listed}
 use Rattle.muck_prop.specs.declared.value.PropValue.{PropValue}
 use Rattle.spec_live.specs.declared.object.Object.{Object}
 use Rattle.spec_live.specs.Chain.{walk, follower, IsChain, Ends, Member}
 use Rattle.spec_live.specs.Objects.{Entry, dbref_of, garbage, is_exit, kind_in, place_in, list_of, list_in, object_in}
 use Rattle.spec_live.proofs.Chains.{walk_none, walk_next}
 use Rattle.muck_codec.specs.declared.stored.Stored.{Stored}
-use Rattle.muck_codec.specs.declared.stored.Property.{Property}
-use Rattle.muck_codec.specs.declared.stored.Batch.{Batch}
-use Rattle.muck_store.specs.Forms.{property_of, properties_of, first_of, link_of, next_in, stored_of, stored_from, persist}
+use Rattle.muck_store.specs.Forms.{property_of, properties_of, first_of, link_of, next_in, stored_of}
 use Rattle.muck_db.specs.declared.slot.Slot.{Slot}
 use Rattle.muck_db.specs.inner.Slots.{shown, object_at, kept_at, next_at, first_at, place_at, list_at, entries_of, HasOrder}
 use Rattle.muck_db.specs.inner.Shown.{dbref_at}

@@ -1,12 +1,12 @@
 -- What a dump leaves out of a table.
-use Rattle.std.proofs.Common.{◌≡◌, ℕ, ◌+◌, ◌<◌, ◌≤◌, suc, List, [], ◌∷◌, ◌++◌, Option, Some, None, inl, inr, refl, sym, ◌∙◌, ap, subst, length, get_or, take, drop, map, arith, true, false, append_assoc, append-nil}
+use Rattle.std.proofs.Common.{◌≡◌, ℕ, ◌+◌, ◌<◌, ◌≤◌, suc, List, [], ◌∷◌, ◌++◌, Option, Some, None, inl, inr, refl, sym, ◌∙◌, ap, subst, length, drop, arith, true, false, append_assoc, append-nil}
 use Rattle.std.proofs.lemmas.List.{drop_all}
 use Rattle.std.proofs.lemmas.Option.{slice_get_cases, slice_get_within, get_or_from_slice_get}
 use Rattle.std.proofs.Math.Seq.{drop-cons}
 use Rattle.std.specs.List.{slice_get}
 use Rattle.std.specs.Option.{option_map, option_and_then}
 use Rattle.spec_live.specs.declared.object.Object.{Object}
-use Rattle.spec_live.specs.Objects.{Entry, dbref_of, index_of, list_in, object_in}
+use Rattle.spec_live.specs.Objects.{Entry, index_of, list_in, object_in}
 use Rattle.muck_codec.specs.declared.stored.Stored.{Stored}
 use Rattle.muck_store.specs.Changes.{IsKept, LeavesOut, none, takes, leaves}
 use Rattle.muck_store.specs.Forms.{first_of, link_of, next_in, stored_of, stored_from, persist}
