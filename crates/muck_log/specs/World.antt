@@ -133,6 +133,6 @@ laid payload world = option_and_then (λ b. laid_over b world) (batch_if (whole_
 unfoldable pub differs : List Stored → Stored → Bool
 differs objects o = option_map_or (λ kept. nat_lt 4096 (length kept.lines) || not (bytes_eq (spelling kept) (spelling o))) (option_and_then (slice_get objects) (index_of o.dbref)) true
 
--- the records that are written: all of them, or those that differ from what is kept
-unfoldable pub written : Bool → List Stored → List Stored → List Stored
-written all objects records = filter (λ o. all || differs objects o) records
+-- the records that are written over these objects: those that differ from them
+unfoldable pub written : List Stored → List Stored → List Stored
+written objects records = filter (differs objects) records

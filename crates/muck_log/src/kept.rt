@@ -1,5 +1,5 @@
 // What is kept of a store.
-ghost use Rattle.std.specs.Prelude.{◌≡◌, ◌≤◌, ◌<◌, ◌^◌, ◌++◌, List, length, reverse, bytes_eq, ◌||◌, true, false, Some, None, IfOk, OnOk, All};
+ghost use Rattle.std.specs.Prelude.{◌≡◌, ◌≤◌, ◌<◌, ◌^◌, ◌++◌, List, length, reverse, bytes_eq, true, false, Some, None, IfOk, OnOk, All};
 ghost use Rattle.std.specs.List.{flat_map, list_all};
 ghost use Rattle.muck_model.specs.Bytes.{text_fault};
 ghost use Rattle.muck_codec.specs.Spelling.{spelling};
@@ -290,38 +290,21 @@ fn differs(alloc: Global, objects: &[Stored], object: &Stored) -> Result<bool, N
     }
 }
 
-// Whether a record is written.
-fn is_written(
-    alloc: Global,
-    all: bool,
-    objects: &[Stored],
-    object: &Stored,
-) -> Result<bool, NoMemory>
-    requires { length object.now.lines ≤ 4096 }
-    ensures { IfOk result (λ yes. yes ≡ (all || differs objects.now object.now)) }
-{
-    if all {
-        return Ok(true);
-    }
-    Ok(differs(alloc, objects, object)?)
-}
-
-// Writes the records that differ from what is kept, or all of them, and answers how many.
+// Writes the records that differ from these objects, and answers how many.
 fn put_written(
     alloc: Global,
-    all: bool,
     objects: &[Stored],
     records: &[Stored],
     out: &mut Vec<u8>,
 ) -> Result<u32, NoMemory>
     requires few { length records.now < 2 ^ 32 }
     requires lines { HasFewLines records.now }
-    ensures count { IfOk result (λ n. n ≡ length (written all objects.now records.now)) }
-    ensures bytes { OnOk result (out.new.items ≡ out.old.items ++ flat_map spelling (written all objects.now records.now)) }
+    ensures count { IfOk result (λ n. n ≡ length (written objects.now records.now)) }
+    ensures bytes { OnOk result (out.new.items ≡ out.old.items ++ flat_map spelling (written objects.now records.now)) }
 {
     let mut count = 0;
     for object in records {
-        if is_written(alloc, all, objects, object)? {
+        if differs(alloc, objects, object)? {
             put_record(alloc, object, out)?;
             count += 1;
         }
@@ -330,17 +313,16 @@ fn put_written(
 }
 
 impl Kept {
-    // The bytes of a batch: its records that differ from what is kept, or all of them.
+    // The bytes of a batch that is laid over it: its records that differ from what is kept.
     #[tactic(auto, unfolding(muck_codec::specs::Batches::batch_bytes))]
-    pub(crate) fn payload(&self, all: bool, batch: &Batch) -> Result<Vec<u8>, NoMemory>
+    pub(crate) fn payload(&self, batch: &Batch) -> Result<Vec<u8>, NoMemory>
         requires few { length batch.now.records < 2 ^ 32 }
         requires lines { HasFewLines batch.now.records }
-        ensures { IfOk result (λ v. v.items ≡ batch_bytes (written all self.now.objects batch.now.records) batch.now.tune) }
+        ensures { IfOk result (λ v. v.items ≡ batch_bytes (written self.now.objects batch.now.records) batch.now.tune) }
     {
         let mut bytes = Vec::new(self.alloc);
         let count = put_written(
             self.alloc,
-            all,
             &self.objects,
             batch.records.as_slice(),
             &mut bytes,

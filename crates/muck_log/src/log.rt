@@ -100,7 +100,8 @@ fn frame(alloc: Global, body: &[u8]) -> Result<Vec<u8>, AllocError>
 }
 
 impl Log {
-    /// Whether the next batch opens a new generation in the other file, and so has to be full. It takes no memory.
+    /// Whether the next batch opens a new generation in the other file, and so is laid over the starting world. It takes no
+    /// memory.
     #[tactic(auto, unfolding(crate::specs::Store::opens_new))]
     pub fn opens_new(&self) -> bool
         ensures { result ≡ opens_new self.now.chosen.held }
@@ -242,8 +243,21 @@ impl Log {
         are_storable(self.alloc, batch.records.as_slice())
     }
 
+    // The bytes of a batch over the world that it is laid over.
+    #[tactic(auto, unfolding(crate::specs::Append::payload_of, crate::specs::Store::target, crate::specs::File::begin))]
+    fn payload(&self, batch: &Batch) -> Result<Vec<u8>, NoMemory>
+        requires few { length batch.now.records < 2 ^ 32 }
+        requires lines { HasFewLines batch.now.records }
+        ensures { IfOk result (λ payload. payload.items ≡ payload_of self.now batch.now) }
+    {
+        if self.opens_new() {
+            return Kept::starting(self.alloc)?.payload(batch);
+        }
+        self.world.payload(batch)
+    }
+
     // All that takes memory, and all refusals but those of the disks.
-    #[tactic(auto, unfolding(crate::specs::Append::more_of, crate::specs::Append::payload_of, crate::specs::Store::next_body))]
+    #[tactic(auto, unfolding(crate::specs::Append::more_of, crate::specs::Store::next_body))]
     fn prepare(&mut self, batch: &Batch) -> Result<Ready, LogFault>
         requires few { length batch.now.records < 2 ^ 32 }
         requires lines { HasFewLines batch.now.records }
@@ -259,7 +273,7 @@ impl Log {
         if !self.can_take(batch)? {
             return Err(LogFault::Unfit);
         }
-        let payload = self.world.payload(self.opens_new(), batch)?;
+        let payload = self.payload(batch)?;
         let number = self.next();
         let target = self.target();
         let body = encode(self.alloc, target.generation, number, &payload)?;
@@ -304,8 +318,8 @@ impl Log {
 
 impl Log {
     /// Writes a batch of the record of every object, by rising number from 0 on, and answers its number. Records that equal
-    /// what is kept are left out of what is written, unless a new generation is opened. All memory is taken before the
-    /// first write.
+    /// those of the world that the batch is laid over are left out of what is written: what is kept, or the starting world
+    /// where a new generation is opened. All memory is taken before the first write.
     ///
     /// `StoreFull` comes exactly where such a batch would pass the limit, before any write; the log stays as it was then.
     /// `Unfit` comes before any write too: where the batch has fewer records than objects are kept, or one that has no

@@ -4,22 +4,21 @@ use Rattle.muck_log.proofs.kept.put_written.Goals as goal
 use Rattle.muck_log.proofs.kept.put_written.Goals.{then-branch+in_ok-put_record, else-branch}
 
 pub loop-object-init : goal.loop-object-init
-loop-object-init c = begins c.args.all c.args.objects.now c.args.out.now.items
+loop-object-init c = begins c.args.objects.now c.args.out.now.items
 
 pub overflow_add-count : goal.overflow_add-count
 overflow_add-count c =
-    omega (arith, c.requires.few, counts c.args.all c.args.objects.now c.args.records.now c.args.out.now.items c.loop-object.out.items c.loop-object.count c.loop-object.object-index c.loop-object.invariant c.loop-object-test.true)
+    omega (arith, c.requires.few, counts c.args.objects.now c.args.records.now c.args.out.now.items c.loop-object.out.items c.loop-object.count c.loop-object.object-index c.loop-object.invariant c.loop-object-test.true)
 
 pub loop-object-preserved : goal.loop-object-preserved
 loop-object-preserved c =
-    let all = c.args.all in
     let objects = c.args.objects.now in
     let records = c.args.records.now in
     let before = c.args.out.now.items in
     let at = c.loop-object in
     elim c.if-branch.branch [
-      | then-branch+in_ok-put_record w ↦ puts all objects records before at.out.items at.count at.object-index c.object-item.result c.loop-object-test.true c.object-item.is c.if-branch.count c.if-branch.out.items
-          (sym c.in_ok-is_written.ensures ∙ w.if-branch.true) w.count-is (ap (λ v. v.items) w.out-is ∙ w.in_ok-put_record.ensures) at.invariant
-      | else-branch w ↦ leaves all objects records before at.out.items at.count at.object-index c.object-item.result c.loop-object-test.true c.object-item.is c.if-branch.count c.if-branch.out.items
-          (sym c.in_ok-is_written.ensures ∙ w.if-branch.false) w.count-is (ap (λ v. v.items) w.out-is) at.invariant
+      | then-branch+in_ok-put_record w ↦ puts objects records before at.out.items at.count at.object-index c.object-item.result c.loop-object-test.true c.object-item.is c.if-branch.count c.if-branch.out.items
+          (sym c.in_ok-differs.ensures ∙ w.if-branch.true) w.count-is (ap (λ v. v.items) w.out-is ∙ w.in_ok-put_record.ensures) at.invariant
+      | else-branch w ↦ leaves objects records before at.out.items at.count at.object-index c.object-item.result c.loop-object-test.true c.object-item.is c.if-branch.count c.if-branch.out.items
+          (sym c.in_ok-differs.ensures ∙ w.if-branch.false) w.count-is (ap (λ v. v.items) w.out-is) at.invariant
     ]
