@@ -1,14 +1,12 @@
 -- Laying what is written of a whole batch gives the world that it was taken from.
-use Rattle.std.proofs.Common.{◌≡◌, ℕ, suc, ◌<◌, ◌≤◌, ◌^◌, Bool, true, false, cond, not, ltb, eqb, ◌||◌, List, [], ◌∷◌, ◌++◌, length, set, Option, Some, None, option_and_then, Ok, refl, sym, ap, subst, ◌∙◌, append_assoc, arith, length-append}
-use Rattle.std.specs.Prelude.{All, pos, int_lt, nat_le, nat_lt, bytes_eq, slice_get}
-use Rattle.std.specs.Option.{option_map_or}
+use Rattle.std.proofs.Common.{◌≡◌, ℕ, suc, ◌<◌, ◌≤◌, ◌^◌, Bool, true, false, cond, not, ltb, eqb, List, [], ◌∷◌, ◌++◌, length, set, Option, Some, None, option_and_then, Ok, refl, sym, ap, subst, ◌∙◌, append_assoc, arith, length-append}
+use Rattle.std.specs.Prelude.{All, pos, int_lt, nat_le, slice_get}
 use Rattle.std.specs.List.{filter, list_all}
-use Rattle.std.proofs.lemmas.Bool.{and_parts, or_parts, cond-true, cond-false, leb-true, lt-ltb, le-ltb, eq-eqb}
+use Rattle.std.proofs.lemmas.Bool.{and_parts, cond-true, cond-false, leb-true, lt-ltb, le-ltb, eq-eqb}
 use Rattle.std.proofs.lemmas.List.{append-nil}
 use Rattle.std.proofs.lemmas.List.Elements.{All-head, All-tail}
 use Rattle.std.proofs.lemmas.List.Filters.{length-filter_both}
 use Rattle.std.proofs.lemmas.Option.{slice_get_past, same_Some, none-some}
-use Rattle.std.proofs.lemmas.Slice.Eq.{bytes_eq-Decides}
 use Rattle.std.proofs.Math.Seq.{set-append_seam}
 use Rattle.muck_model.specs.declared.dbref.Dbref.{Dbref}
 use Rattle.muck_model.specs.declared.tune.Tune.{Tune}
@@ -16,16 +14,16 @@ use Rattle.spec_live.specs.Objects.{Entry, dbref_of, index_of}
 use Rattle.muck_codec.specs.declared.stored.Stored.{Stored}
 use Rattle.muck_codec.specs.declared.stored.Batch.{Batch}
 use Rattle.muck_codec.specs.Batches.{is_above, whole_batch, batch_bytes}
-use Rattle.muck_codec.specs.Spelling.{spelling}
 use Rattle.muck_codec.specs.Stored.{IsStored, Run}
-use Rattle.muck_codec.proofs.Batches.{same_record, IsNextRecord, dbref_key, IsTune, whole_reads}
+use Rattle.muck_codec.proofs.Batches.{IsNextRecord, dbref_key, IsTune, whole_reads}
 use Rattle.muck_store.specs.Forms.{stored_of, stored_from, persist, world_batch}
 use Rattle.muck_store.specs.Limits.{fits}
 use Rattle.muck_store.specs.Whole.{is_whole}
 use Rattle.muck_log.specs.File.{begin}
-use Rattle.muck_log.specs.World.{World, start, is_between, tune_fits, is_fine, put_at, placed, all_placed, judged_world, laid_over, batch_if, laid, differs, written}
+use Rattle.muck_log.specs.World.{World, start, is_between, tune_fits, is_fine, put_at, placed, all_placed, judged_world, laid_over, batch_if, laid, kept_of, differs, written}
 use Rattle.muck_log.specs.Store.{Chosen, LogState, opens_new, target}
 use Rattle.muck_log.specs.Append.{IsLaidNext, payload_of}
+use Rattle.muck_log.proofs.Differing.{differs_by, equals}
 use Rattle.muck_log.proofs.Spellings.{start_two, start_stored}
 
 -- Records by their numbers from k on.
@@ -107,32 +105,19 @@ seam : (front kept : List Stored) → slice_get (front ++ kept) (length front) �
 seam [] kept = refl
 seam (x ∷ front) kept = seam front kept
 
-abbrev differs_from : Stored → Stored → Bool
-differs_from o kept = nat_lt 4096 (length kept.lines) || not (bytes_eq (spelling kept) (spelling o))
-
-differs_at : (objects : List Stored) (o : Stored) (k : ℕ) (found : Option Stored) → o.dbref ≡ dbref_of k → slice_get objects k ≡ found → differs objects o ≡ option_map_or (differs_from o) found true
-unfolding differs
-differs_at objects o k found number is =
-    ap (λ (d : Dbref). option_map_or (differs_from o) (option_and_then (slice_get objects) (index_of d)) true) number ∙ ap (λ (x : Option Stored). option_map_or (differs_from o) x true) is
-
-not_false : (b : Bool) → not b ≡ false → b ≡ true
-not_false true e = refl
-not_false false e = absurd cc
-
-equals : (o r : Stored) → IsStored r → IsStored o → differs_from o r ≡ false → r ≡ o
-equals o r one two e =
-    same_record r o one two ((bytes_eq-Decides (spelling r) (spelling o)).0 (not_false (bytes_eq (spelling r) (spelling o)) (or_parts (nat_lt 4096 (length r.lines)) (not (bytes_eq (spelling r) (spelling o))) e).1))
+kept_at : (objects : List Stored) (o : Stored) (k : ℕ) → o.dbref ≡ dbref_of k → kept_of objects o ≡ slice_get objects k
+kept_at objects o k number = ap (λ (d : Dbref). option_and_then (slice_get objects) (index_of d)) number
 
 none_kept : (objects records : List Stored) (k : ℕ) → length objects ≤ k → Numbered k records → AreKept (differs objects) records []
 none_kept objects [] k le number = refl
-none_kept objects (o ∷ os) k le number = (differs_at objects o k None number.0 (slice_get_past objects k le), none_kept objects os (suc k) (omega (arith, le)) number.1)
+none_kept objects (o ∷ os) k le number = (differs_by objects o None (kept_at objects o k number.0 ∙ slice_get_past objects k le), none_kept objects os (suc k) (omega (arith, le)) number.1)
 
 left_out : (objects front kept records : List Stored) (k : ℕ) → objects ≡ front ++ kept → length front ≡ k → Numbered k records → All IsStored kept → All IsStored records → length kept ≤ length records → AreKept (differs objects) records kept
 left_out objects front [] records k is size number stored fine le = none_kept objects records k (omega (arith, ap length is, length-append front [], size)) number
 left_out objects front (r ∷ kept) [] k is size number stored fine le = absurd (omega (arith, le))
 left_out objects front (r ∷ kept) (o ∷ os) k is size number stored fine le =
     let found : slice_get objects k ≡ Some r = ap (λ n. slice_get objects n) (sym size) ∙ ap (λ l. slice_get l (length front)) is ∙ seam front (r ∷ kept) in (
-      (λ e. equals o r (All-head IsStored r kept stored) (All-head IsStored o os fine) (sym (differs_at objects o k (Some r) number.0 found) ∙ e)),
+      (λ e. equals o r (All-head IsStored r kept stored) (All-head IsStored o os fine) (sym (differs_by objects o (Some r) (kept_at objects o k number.0 ∙ found)) ∙ e)),
       left_out objects (front ++ r ∷ []) kept os (suc k) (is ∙ sym (append_assoc front (r ∷ []) kept)) (more_size front r k size) number.1 (All-tail IsStored r kept stored) (All-tail IsStored o os fine) (omega (arith, le)),
     )
 

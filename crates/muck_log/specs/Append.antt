@@ -73,6 +73,12 @@ pub record IsReady (old new : LogState) (payload : List ℕ) (ready : Ready) : T
   pub small : old.most < 2 ^ 63
   pub lays : IsLaidNext old new payload
 
+-- this is why P isn't so, unless memory ran out
+abbrev pub IsUnspelled : Type 0 → LogFault → Type 0
+IsUnspelled P NoMemory = Unit {0}
+IsUnspelled P Unfit = P → ⊥
+IsUnspelled P fault = ⊥
+
 -- the refusals before any write
 abbrev pub IsRefused : LogState → LogState → Batch → LogFault → Type 0
 IsRefused old new batch (StoreFull end more) = (old.stale ≡ false) × (end ≡ (target old.chosen).place) × (more ≡ more_of old (payload_of old batch)) × (old.most < end + more) × (new ≡ old)

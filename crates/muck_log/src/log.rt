@@ -10,12 +10,11 @@ ghost use Rattle.muck_store.specs.Forms.{persist, world_batch};
 ghost use Rattle.muck_log.specs.File.{after_number, begin};
 ghost use Rattle.muck_log.specs.Mount.{IsLoaded, IsLoadFault};
 ghost use Rattle.muck_log.specs.Store.{LeavesBoth, MayBeAt, IsMounted, LogState, target, opens_new, next_body, after_batch, stored, framed, pick, IsDone};
-ghost use Rattle.muck_log.specs.Append.{IsEither, IsAppended, IsTarget, IsTried, IsReady, IsRefused, IsFinished, IsNext, IsTouching, LoadsEither, IsPartial, payload_of};
+ghost use Rattle.muck_log.specs.Append.{IsEither, IsAppended, IsTarget, IsTried, IsReady, IsRefused, IsFinished, IsNext, IsTouching, LoadsEither, IsUnspelled, payload_of};
 ghost use Rattle.muck_codec.specs.Batches.{HasFewLines};
 ghost use Rattle.muck_codec.specs.Stored.{IsStored};
 
 use crate::reader::Reader;
-use crate::storable::are_storable;
 use crate::write::put_target;
 use crate::{Kept, LogFault};
 use muck_codec::Batch;
@@ -230,25 +229,14 @@ impl Log {
         Ok(true)
     }
 
-    // Whether a batch has a record of every object that is kept, and each of its records has a spelling.
-    fn can_take(&self, batch: &Batch) -> Result<bool, NoMemory>
-        ensures storable { IfOk result (λ yes. yes ≡ true → All IsStored batch.now.records) }
-        ensures covers { IfOk result (λ yes. yes ≡ true → length self.now.chosen.held.world.objects ≤ length batch.now.records) }
-        ensures partial { IfOk result (λ yes. yes ≡ false → IsPartial self.now batch.now.records) }
-        ensures kept { OnOk result (All IsStored self.now.chosen.held.world.objects) }
-    {
-        if batch.records.len() < self.world.objects().len() {
-            return Ok(false);
-        }
-        are_storable(self.alloc, batch.records.as_slice())
-    }
-
-    // The bytes of a batch over the world that it is laid over.
+    // The bytes of a batch over the world that it is laid over. `Unfit` where a record has no spelling.
     #[tactic(auto, unfolding(crate::specs::Append::payload_of, crate::specs::Store::target, crate::specs::File::begin))]
-    fn payload(&self, batch: &Batch) -> Result<Vec<u8>, NoMemory>
+    fn payload(&self, batch: &Batch) -> Result<Vec<u8>, LogFault>
         requires few { length batch.now.records < 2 ^ 32 }
         requires lines { HasFewLines batch.now.records }
-        ensures { IfOk result (λ payload. payload.items ≡ payload_of self.now batch.now) }
+        ensures bytes { IfOk result (λ payload. payload.items ≡ payload_of self.now batch.now) }
+        ensures storable { OnOk result (All IsStored batch.now.records) }
+        ensures err { IfErr result (IsUnspelled (All IsStored batch.now.records)) }
     {
         if self.opens_new() {
             return Kept::starting(self.alloc)?.payload(batch);
@@ -257,7 +245,7 @@ impl Log {
     }
 
     // All that takes memory, and all refusals but those of the disks.
-    #[tactic(auto, unfolding(crate::specs::Append::more_of, crate::specs::Store::next_body))]
+    #[tactic(auto, unfolding(crate::specs::Append::more_of, crate::specs::Store::next_body), using(crate::proofs::Refusing::refused_unspelled))]
     fn prepare(&mut self, batch: &Batch) -> Result<Ready, LogFault>
         requires few { length batch.now.records < 2 ^ 32 }
         requires lines { HasFewLines batch.now.records }
@@ -270,7 +258,7 @@ impl Log {
         if self.stale {
             return Err(LogFault::Stale);
         }
-        if !self.can_take(batch)? {
+        if batch.records.len() < self.world.objects().len() {
             return Err(LogFault::Unfit);
         }
         let payload = self.payload(batch)?;
