@@ -31,6 +31,14 @@ impl World {
         state.dumps.is_asked()
     }
 
+    /// One above the highest number of an object. On a dead world nothing is said of it. It takes no memory.
+    pub fn size(&self) -> u32
+        ensures { (now self.now).dead ≡ false → result ≡ length (now self.now).live.objects }
+    {
+        let state = &self.state;
+        state.db.count()
+    }
+
     /// A dump of this number begins: what it hands to the log, over what is kept already. The records leave out what is kept so.
     /// The world is consistent then, every object within the limits, and what is tuned in its range. It compares every object with
     /// what is kept, and copies only those that differ. After `NoMemory` the world is dead.
