@@ -10,7 +10,6 @@ ghost use Rattle.muck_model.specs.declared.tune.Tune.{Tune};
 ghost use Rattle.muck_log.specs.World.{tune_fits};
 ghost use Rattle.muck_store.specs.Forms.{persist, world_batch};
 ghost use Rattle.spec_admin.specs.Parameters.{IsInRange};
-ghost use Rattle.spec_dumps.specs.Fronts.{file_most};
 ghost use Rattle.spec_dumps.specs.Holding.{Keeps, Rests};
 ghost use Rattle.spec_events.specs.Histories.{History, now, entered, noted, by_porter};
 ghost use Rattle.spec_events.specs.World.{runs_dump};

@@ -1,4 +1,4 @@
-use Rattle.std.proofs.Common.{◌≡◌, None, false}
+use Rattle.std.proofs.Common.{None, false}
 use Rattle.muckd.proofs.Dumped.{cut_lives, cut_runs, dies_noted, dies_ending, plays_dump, last_noted, last_ending, last_dump, ended_idle}
 use Rattle.muckd.proofs.Dumpings.{died_noted, dumps_died}
 use Rattle.muckd.proofs.Mounted.{dies_untold, breaks_out}

@@ -1,4 +1,4 @@
-use Rattle.std.proofs.Common.{◌≡◌, Some, None, Ok, Err, refl, subst}
+use Rattle.std.proofs.Common.{Some, None, Ok, Err, refl, subst}
 use Rattle.muck_log.specs.Store.{LogState}
 use Rattle.muck_store.specs.Forms.{persist}
 use Rattle.muckd.specs.inner.Dumps.{Appended}
