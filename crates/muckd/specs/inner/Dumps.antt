@@ -5,10 +5,9 @@ use Rattle.muck_model.specs.declared.event.Event.{Event}
 use Rattle.muck_model.specs.declared.event.Event.TheVariants.{Stored, DumpFailed as Failed}
 use Rattle.muck_model.specs.declared.event.Entry.{Entry}
 use Rattle.muck_model.specs.declared.note.Note.{Note}
-use Rattle.muck_codec.specs.declared.stored.Batch.{Batch}
 use Rattle.muck_log.specs.World.{World as Kept, laid}
 use Rattle.muck_log.specs.Store.{Chosen, LogState, LeavesBoth, IsMounted, target, after_batch}
-use Rattle.muck_log.specs.Append.{IsNext, LoadsEither, more_of, payload_of}
+use Rattle.muck_log.specs.Append.{IsNext, LoadsEither, more_of}
 use Rattle.muck_log.specs.declared.fault.LogFault.{LogFault}
 use Rattle.muck_log.specs.declared.fault.LogFault.TheVariants.{NoMemory, DiskFault, Damaged, StoreFull, Unfit, Stale}
 use Rattle.spec_events.specs.Histories.{History, Longer, after}
@@ -37,20 +36,20 @@ IsMountingFault NoMemory = Unit {0}
 IsMountingFault DiskFault = Unit {0}
 IsMountingFault fault = ⊥
 
--- What the log answers to the batch of a whole world that makes this one, and what is left of it.
-abbrev pub IsAnswer : {D : Type 0} → (D → List ℕ) → (D → ℕ) → (D → ℕ → List ℕ → Type 0) → Batch → Kept → LogState → Option LogState → D → D → Result (Unit {0}) LogFault → Type 0
-IsAnswer seen moment images batch made log left first second (Ok x) =
-    (next : LogState) × (left ≡ Some next) × IsNext log next (payload_of log batch) × IsMounted seen moment images next first second × (laid (payload_of log batch) (target log.chosen).held.world ≡ Some made)
-IsAnswer seen moment images batch made log left first second (Err (StoreFull end more)) = (left ≡ None) × (end ≡ (target log.chosen).place) × (more ≡ more_of log (payload_of log batch)) × (log.most < end + more)
-IsAnswer seen moment images batch made log left first second (Err DiskFault) = left ≡ None
-IsAnswer seen moment images batch made log left first second (Err NoMemory) = left ≡ None
-IsAnswer seen moment images batch made log left first second (Err Unfit) = left ≡ None
-IsAnswer seen moment images batch made log left first second (Err fault) = ⊥
+-- What the log answers to a batch of these bytes that makes this world, and what is left of it.
+abbrev pub IsAnswer : {D : Type 0} → (D → List ℕ) → (D → ℕ) → (D → ℕ → List ℕ → Type 0) → List ℕ → Kept → LogState → Option LogState → D → D → Result (Unit {0}) LogFault → Type 0
+IsAnswer seen moment images payload made log left first second (Ok x) =
+    (next : LogState) × (left ≡ Some next) × IsNext log next payload × IsMounted seen moment images next first second × (laid payload (target log.chosen).held.world ≡ Some made)
+IsAnswer seen moment images payload made log left first second (Err (StoreFull end more)) = (left ≡ None) × (end ≡ (target log.chosen).place) × (more ≡ more_of log payload) × (log.most < end + more)
+IsAnswer seen moment images payload made log left first second (Err DiskFault) = left ≡ None
+IsAnswer seen moment images payload made log left first second (Err NoMemory) = left ≡ None
+IsAnswer seen moment images payload made log left first second (Err Unfit) = left ≡ None
+IsAnswer seen moment images payload made log left first second (Err fault) = ⊥
 
 -- What is kept of both disks while such a batch is written, and what the log answers.
-pub record Appended {D : Type 0} (seen : D → List ℕ) (moment : D → ℕ) (images : D → ℕ → List ℕ → Type 0) (batch : Batch) (made : Kept) (log : LogState) (left : Option LogState) (first second first' second' : D) (r : Result (Unit {0}) LogFault) : Type 0 where
-  pub any : LeavesBoth moment images first second first' second' (LoadsEither log.chosen (after_batch log.chosen (payload_of log batch) made))
-  pub answer : IsAnswer seen moment images batch made log left first' second' r
+pub record Appended {D : Type 0} (seen : D → List ℕ) (moment : D → ℕ) (images : D → ℕ → List ℕ → Type 0) (payload : List ℕ) (made : Kept) (log : LogState) (left : Option LogState) (first second first' second' : D) (r : Result (Unit {0}) LogFault) : Type 0 where
+  pub any : LeavesBoth moment images first second first' second' (LoadsEither log.chosen (after_batch log.chosen payload made))
+  pub answer : IsAnswer seen moment images payload made log left first' second' r
 
 -- why a dump failed that was made on disks that tell their bytes, if it did
 abbrev pub IsDumpFault : Option LogFault → Type 0

@@ -20,10 +20,10 @@ returns-in_default-clause-kept g c = λ mounted tells keeps.
 -- it began
 
 pub append-requires-clause-few : goal.append-requires-clause-few
-append-requires-clause-few g c = batch_few _ _ _ c.in-Ok.ensures.batch c.in-Ok.ensures.consistent
+append-requires-clause-few g c = batch_few _ c.in-Ok.ensures.records c.in-Ok.ensures.consistent
 
 pub append-requires-clause-lines : goal.append-requires-clause-lines
-append-requires-clause-lines g c = batch_lines _ _ _ c.in-Ok.ensures.batch c.in-Ok.ensures.limits
+append-requires-clause-lines g c = batch_lines _ c.in-Ok.ensures.records c.in-Ok.ensures.limits
 
 pub append-requires-clause-mounted : goal.append-requires-clause-mounted
 append-requires-clause-mounted g c = λ log tells is.
@@ -49,8 +49,8 @@ returns-in-Ok-end_dump-clause-idle g c = ended_idle _ _ _ _ true c.in-Ok-end_dum
 
 pub returns-in-Ok-end_dump-clause-kept : goal.returns-in-Ok-end_dump-clause-kept
 returns-in-Ok-end_dump-clause-kept g c = λ mounted tells keeps.
-    comes_out g.D.Disk.seen g.D.Disk.moment g.D.Disk.images g.D.Disk.faults mounted _ _ _ _ _ _ _ _ c.requires.some keeps c.next-k.ensures c.in-Ok.ensures.step c.in-Ok.ensures.consistent c.in-Ok.ensures.tuned _ c.in-Ok.ensures.batch c.append.ensures.first_later c.append.ensures.second_later _
-    (λ log es tune is same fit two. c.in-Ok-append.ensures.wrote log es tune tells is same fit two) _ c.in-Ok-end_dump.ensures.step
+    comes_out g.D.Disk.seen g.D.Disk.moment g.D.Disk.images g.D.Disk.faults mounted _ _ _ _ _ _ _ _ c.requires.some keeps c.next-k.ensures c.in-Ok.ensures.step c.in-Ok.ensures.consistent c.in-Ok.ensures.tuned _ c.base.ensures _ (c.size-size.ensures c.requires.alive) _ c.in-Ok.ensures.records c.in-Ok.ensures.tune c.append.ensures.first_later c.append.ensures.second_later _
+    (λ log es tune is. c.in-Ok-append.ensures.wrote log es tune tells is) _ c.in-Ok-end_dump.ensures.step
 
 -- memory was wanted for telling so
 
@@ -62,8 +62,8 @@ returns-in-Ok-append-clause-last g c = last_ending _ None _ _ _ _ c.in-Ok.ensure
 
 pub returns-in-Ok-append-clause-kept : goal.returns-in-Ok-append-clause-kept
 returns-in-Ok-append-clause-kept g c = λ mounted tells keeps.
-    dies_told g.D.Disk.seen g.D.Disk.moment g.D.Disk.images g.D.Disk.faults mounted _ _ _ _ _ _ _ _ c.requires.some keeps c.next-k.ensures c.in-Ok.ensures.step c.in-Ok.ensures.consistent c.in-Ok.ensures.tuned _ c.in-Ok.ensures.batch c.append.ensures.first_later c.append.ensures.second_later _
-    _ (λ log es tune is same fit two. c.in-Ok-append.ensures.wrote log es tune tells is same fit two) _ c.in-Err-end_dump.ensures.died
+    dies_told g.D.Disk.seen g.D.Disk.moment g.D.Disk.images g.D.Disk.faults mounted _ _ _ _ _ _ _ _ c.requires.some keeps c.next-k.ensures c.in-Ok.ensures.step c.in-Ok.ensures.consistent c.in-Ok.ensures.tuned _ c.base.ensures _ (c.size-size.ensures c.requires.alive) _ c.in-Ok.ensures.records c.in-Ok.ensures.tune c.append.ensures.first_later c.append.ensures.second_later _
+    _ (λ log es tune is. c.in-Ok-append.ensures.wrote log es tune tells is) _ c.in-Err-end_dump.ensures.died
 
 -- or for the batch
 
@@ -75,8 +75,8 @@ returns-in-NoMemory-clause-last g c = last_cut _ None _ _ _ _ c.in-Ok.ensures.st
 
 pub returns-in-NoMemory-clause-kept : goal.returns-in-NoMemory-clause-kept
 returns-in-NoMemory-clause-kept g c = λ mounted tells keeps.
-    dies_unwritten g.D.Disk.seen g.D.Disk.moment g.D.Disk.images g.D.Disk.faults mounted _ _ _ _ _ _ _ _ c.requires.some keeps c.next-k.ensures c.in-Ok.ensures.step c.in-Ok.ensures.consistent c.in-Ok.ensures.tuned _ c.in-Ok.ensures.batch c.append.ensures.first_later c.append.ensures.second_later _
-    _ (λ log es tune is same fit two. c.in-Err.ensures.wrote log es tune tells is same fit two) _ c.died.ensures
+    dies_unwritten g.D.Disk.seen g.D.Disk.moment g.D.Disk.images g.D.Disk.faults mounted _ _ _ _ _ _ _ _ c.requires.some keeps c.next-k.ensures c.in-Ok.ensures.step c.in-Ok.ensures.consistent c.in-Ok.ensures.tuned _ c.base.ensures _ (c.size-size.ensures c.requires.alive) _ c.in-Ok.ensures.records c.in-Ok.ensures.tune c.append.ensures.first_later c.append.ensures.second_later _
+    _ (λ log es tune is. c.in-Err.ensures.wrote log es tune tells is) _ c.died.ensures
 
 -- it failed
 
@@ -97,9 +97,9 @@ returns-in-Ok-end_dump-2-clause-idle g c = ended_idle _ _ _ _ false c.in-Ok-end_
 
 pub returns-in-Ok-end_dump-2-clause-kept : goal.returns-in-Ok-end_dump-2-clause-kept
 returns-in-Ok-end_dump-2-clause-kept g c = λ mounted tells keeps.
-    fails_out g.D.Disk.seen g.D.Disk.moment g.D.Disk.images g.D.Disk.faults mounted _ _ _ _ _ _ _ _ c.requires.some keeps c.next-k.ensures c.in-Ok.ensures.step c.in-Ok.ensures.consistent c.in-Ok.ensures.tuned _ c.in-Ok.ensures.batch c.append.ensures.first_later c.append.ensures.second_later _
+    fails_out g.D.Disk.seen g.D.Disk.moment g.D.Disk.images g.D.Disk.faults mounted _ _ _ _ _ _ _ _ c.requires.some keeps c.next-k.ensures c.in-Ok.ensures.step c.in-Ok.ensures.consistent c.in-Ok.ensures.tuned _ c.base.ensures _ (c.size-size.ensures c.requires.alive) _ c.in-Ok.ensures.records c.in-Ok.ensures.tune c.append.ensures.first_later c.append.ensures.second_later _
     c.in-Err.fault c.in_default-fault.not-NoMemory c.in_default-fault.not-Unfit
-    (λ log es tune is same fit two. c.in-Err.ensures.wrote log es tune tells is same fit two) (λ is. c.in-Err.ensures.cause (ap Err is)) _ c.in-Ok-end_dump-2.ensures.step
+    (λ log es tune is. c.in-Err.ensures.wrote log es tune tells is) (λ is. c.in-Err.ensures.cause (ap Err is)) _ c.in-Ok-end_dump-2.ensures.step
 
 pub returns-clause-plays : goal.returns-clause-plays
 returns-clause-plays g c = λ o. dies_ending _ o _ _ _ _ c.in-Ok.ensures.step _ c.in-Err-end_dump-2.ensures.died
@@ -109,5 +109,5 @@ returns-clause-last g c = last_ending _ None _ _ _ _ c.in-Ok.ensures.step _ c.in
 
 pub returns-clause-kept : goal.returns-clause-kept
 returns-clause-kept g c = λ mounted tells keeps.
-    dies_told g.D.Disk.seen g.D.Disk.moment g.D.Disk.images g.D.Disk.faults mounted _ _ _ _ _ _ _ _ c.requires.some keeps c.next-k.ensures c.in-Ok.ensures.step c.in-Ok.ensures.consistent c.in-Ok.ensures.tuned _ c.in-Ok.ensures.batch c.append.ensures.first_later c.append.ensures.second_later _
-    _ (λ log es tune is same fit two. c.in-Err.ensures.wrote log es tune tells is same fit two) _ c.in-Err-end_dump-2.ensures.died
+    dies_told g.D.Disk.seen g.D.Disk.moment g.D.Disk.images g.D.Disk.faults mounted _ _ _ _ _ _ _ _ c.requires.some keeps c.next-k.ensures c.in-Ok.ensures.step c.in-Ok.ensures.consistent c.in-Ok.ensures.tuned _ c.base.ensures _ (c.size-size.ensures c.requires.alive) _ c.in-Ok.ensures.records c.in-Ok.ensures.tune c.append.ensures.first_later c.append.ensures.second_later _
+    _ (λ log es tune is. c.in-Err.ensures.wrote log es tune tells is) _ c.in-Err-end_dump-2.ensures.died
