@@ -1,22 +1,40 @@
 -- How the last dump of a run came out, and why the run ends by it.
-use Rattle.std.proofs.Common.{◌≡◌, ⊥, ℕ, Bool, true, false, if◌then◌else◌, List, [], ◌∷◌, refl, ap, ◌∙◌, Option, Some, None, Result, Ok, Err}
-use Rattle.muck_model.specs.declared.event.Event.TheVariants.{Halt, Died}
+use Rattle.std.proofs.Common.{◌≡◌, ℕ, Bool, true, false, if◌then◌else◌, List, [], ◌∷◌, refl, ap, ◌∙◌, Option, Some, None, Result, Ok, Err}
+use Rattle.muck_model.specs.declared.event.Event.TheVariants.{Halt, Died, Cut, Stored, DumpFailed}
+use Rattle.muck_model.specs.declared.note.Note.{Note}
 use Rattle.muck_log.specs.Store.{LogState}
 use Rattle.muck_log.specs.declared.fault.LogFault.{LogFault}
 use Rattle.muck_log.specs.declared.fault.LogFault.TheVariants.{NoMemory as LogMemory, DiskFault as LogDisk, Damaged as LogDamaged, StoreFull as LogFull, Unfit, Stale}
 use Rattle.spec_events.specs.World.{World}
 use Rattle.spec_events.specs.Steps.{effect}
-use Rattle.spec_events.specs.Histories.{History, after, now, Longer, by_porter}
+use Rattle.spec_events.specs.Histories.{History, after, now, entered, noted, Longer, by_porter}
 use Rattle.spec_events.proofs.Living.{dead-happened}
-use Rattle.spec_events.proofs.Runs.{now-longer}
+use Rattle.spec_events.proofs.Runs.{now-longer, longer_on, longer_noted}
 use Rattle.muck_script.specs.Story.{Part, dumping}
 use Rattle.muckd.specs.Outcome.{halted}
-use Rattle.muckd.specs.inner.Dumps.{Dumps, IsDumpFault}
-use Rattle.muckd.specs.inner.Ends.{why_of, EndsPlay, LastKept, MayEndDump}
+use Rattle.muckd.specs.inner.Dumps.{Dumps, IsDumpFault, ComesOut, ending_event}
+use Rattle.muckd.specs.inner.Ends.{why_of, EndsPlay, ComesOutAs, LastKept, MayEndDump}
 use Rattle.muckd.specs.inner.Plays.{Plays, Breaks, ending_of}
 use Rattle.muckd.specs.declared.playing.RunFault.{RunFault}
 use Rattle.muckd.specs.declared.playing.RunFault.TheVariants.{NoMemory as OutOfMemory, WriteFault as WriteFailed}
 use Rattle.muckd.specs.declared.why.Why.TheVariants.{Fine, NoMemory, StoreFull}
+
+-- a dump that began came out
+
+pub came_stored : (h k m : History) (n : ℕ) (before behind : Note) → k ≡ entered (noted h before) (by_porter (Cut n)) → m ≡ entered (noted k behind) (by_porter (ending_event n true)) → ComesOut h m None
+came_stored h k m n before behind cuts ends = (n, longer_on h k m (by_porter (Cut n) ∷ []) (by_porter (Stored n) ∷ []) (longer_noted h k before _ cuts) (longer_noted k m behind _ ends))
+
+pub came_failed : (h k m : History) (n : ℕ) (before behind : Note) (fault : LogFault) → k ≡ entered (noted h before) (by_porter (Cut n)) → m ≡ entered (noted k behind) (by_porter (ending_event n false)) → ComesOut h m (Some fault)
+came_failed h k m n before behind fault cuts ends = (n, longer_on h k m (by_porter (Cut n) ∷ []) (by_porter (DumpFailed n) ∷ []) (longer_noted h k before _ cuts) (longer_noted k m behind _ ends))
+
+-- how the last dump came out, by its fault
+pub comes_failed : (h k : History) (fault : LogFault) → ComesOut h k (Some fault) → ComesOutAs h k (why_of fault)
+comes_failed h k LogMemory came = tt
+comes_failed h k LogDisk came = came
+comes_failed h k (LogDamaged second at) came = came
+comes_failed h k (LogFull end more) came = came
+comes_failed h k Unfit came = came
+comes_failed h k Stale came = came
 
 -- a dump that failed was played, but for want of memory
 pub ends_by : (h k : History) (o : Option (List ℕ)) (fault : LogFault) → (fault ≡ LogMemory → ⊥) → Plays dumping h k o o → EndsPlay h k o (why_of fault)
