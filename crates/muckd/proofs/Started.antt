@@ -30,7 +30,7 @@ use Rattle.spec_events.specs.Histories.{History, now, AllLawful, AllLicensed}
 use Rattle.spec_events.specs.Passwords.{AllKnown}
 use Rattle.spec_events.proofs.Passwords.{all_known_booted}
 use Rattle.spec_events.proofs.Turns.{all_licensed_booted}
-use Rattle.spec_live.specs.Objects.{Entry, Mark, mark_in}
+use Rattle.spec_live.specs.Objects.{Entry, mark_in}
 use Rattle.spec_live.specs.Boards.{early_board}
 use Rattle.spec_live.specs.Consistent.{IsConsistent}
 use Rattle.muck_model.specs.declared.event.Entry.{Entry as Happened}
