@@ -1,5 +1,5 @@
 -- How the last dump of a run came out, and why the run ends by it.
-use Rattle.std.proofs.Common.{◌≡◌, ⊥, ℕ, Bool, true, false, if◌then◌else◌, List, [], ◌∷◌, refl, ap, ◌∙◌, Option, Some, None, Result, Ok, Err}
+use Rattle.std.proofs.Common.{◌≡◌, ℕ, Bool, true, false, if◌then◌else◌, List, [], ◌∷◌, refl, ap, ◌∙◌, Option, Some, None, Result, Ok, Err}
 use Rattle.muck_model.specs.declared.event.Event.TheVariants.{Halt, Died}
 use Rattle.muck_log.specs.Store.{LogState}
 use Rattle.muck_log.specs.declared.fault.LogFault.{LogFault}
