@@ -7,7 +7,7 @@ use Rattle.spec_events.specs.Histories.{History, entered, noted}
 use Rattle.muckd.specs.inner.Dumps.{IsNotedOn}
 
 pub noted_still : (h k : History) → k.notes ≡ h.notes → IsNotedOn h k
-noted_still h k same = ([], same ∙ sym (append-nil h.notes))
+noted_still h k same = record { since = []; notes = same ∙ sym (append-nil h.notes) }
 
 pub noted_same : (h k : History) → k ≡ h → IsNotedOn h k
 noted_same h k is = noted_still h k (ap (λ (x : History). x.notes) is)
@@ -16,10 +16,10 @@ pub noted_one : (h k : History) (e : Entry) → k ≡ entered h e → IsNotedOn 
 noted_one h k e is = noted_still h k (ap (λ (x : History). x.notes) is)
 
 pub noted_more : (h k : History) (note : Note) (e : Entry) → k ≡ entered (noted h note) e → IsNotedOn h k
-noted_more h k note e is = (note ∷ [], ap (λ (x : History). x.notes) is)
+noted_more h k note e is = record { since = note ∷ []; notes = ap (λ (x : History). x.notes) is }
 
 pub noted_quiet : (h k : History) → Quietly h k → IsNotedOn h k
 noted_quiet h k q = noted_still h k q.grew.notes
 
 pub noted_then : (h k m : History) → IsNotedOn h k → IsNotedOn k m → IsNotedOn h m
-noted_then h k m a b = (a.0 ++ b.0, b.1 ∙ ap (λ (ns : List Note). ns ++ b.0) a.1 ∙ append_assoc h.notes a.0 b.0)
+noted_then h k m a b = record { since = a.since ++ b.since; notes = b.notes ∙ ap (λ (ns : List Note). ns ++ b.since) a.notes ∙ append_assoc h.notes a.since b.since }

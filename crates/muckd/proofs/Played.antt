@@ -37,8 +37,8 @@ module _ {K D : Type 0} (written : K → Option (List ℕ)) (breaks : K → ℕ)
   noted_at : (m : History) → IsNotedOn h m → notes ≡ m.notes → IsNotedAt moment first second notes
   noted_at m on is = record {
     note = note;
-    others = on.0;
-    noted = is ∙ on.1 ∙ ap (λ (x : History). x.notes ++ on.0) begins;
+    others = on.since;
+    noted = is ∙ on.notes ∙ ap (λ (x : History). x.notes ++ on.since) begins;
     first_moment = at.0;
     second_moment = at.1;
   }

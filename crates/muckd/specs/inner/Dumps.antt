@@ -88,5 +88,6 @@ ComesOut h k None = (n : ℕ) × Longer h k (dump_entries (stored n))
 ComesOut h k (Some fault) = (n : ℕ) × Longer h k (dump_entries (failed n))
 
 -- k has the notes of h, and others behind them
-abbrev pub IsNotedOn : History → History → Type 0
-IsNotedOn h k = (ns : List Note) × (k.notes ≡ h.notes ++ ns)
+pub record IsNotedOn (h k : History) : Type 0 where
+  pub since : List Note
+  pub notes : k.notes ≡ h.notes ++ since
