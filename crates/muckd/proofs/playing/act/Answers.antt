@@ -1,7 +1,7 @@
 use Rattle.std.proofs.Common.{◌≡◌, ◌≤◌, refl, arith}
 use Rattle.spec_events.proofs.Runs.{longer_one}
 use Rattle.muckd.proofs.Parts.{plays_if_lawful, breaks_at_once, opened_silent, input_silent}
-use Rattle.spec_dumps.proofs.Quiet.{quiet_nothing, quiet_one}
+use Rattle.spec_dumps.proofs.Quiet.{quiet_one}
 use Rattle.spec_events.specs.Histories.{now}
 use Rattle.muck_script.specs.Story.{later}
 use Rattle.muckd.proofs.Acts.{moment_lawful, plays_wait, quiet_if}

@@ -1,10 +1,6 @@
-use Rattle.std.proofs.Common.{◌≡◌, true, false, refl, sym, ◌∙◌}
+use Rattle.std.proofs.Common.{refl, sym, ◌∙◌}
 use Rattle.spec_dumps.proofs.Quiet.{quiet_nothing, quiet_one}
 use Rattle.spec_events.proofs.Runs.{longer_one}
-use Rattle.spec_events.specs.World.{is_leaving}
-use Rattle.spec_events.specs.Steps.{is_lawful}
-use Rattle.spec_events.specs.Histories.{now, by_porter}
-use Rattle.muck_model.specs.declared.event.Event.TheVariants.{Closed}
 use Rattle.muckd.proofs.Parts.{breaks_at_once}
 use Rattle.muckd.proofs.Acts.{closed_where, plays_close, plays_no_close, plays_parting}
 use Rattle.muckd.proofs.playing.close.Goals as goal

@@ -1,4 +1,4 @@
-use Rattle.std.proofs.Common.{refl, sym, ◌∙◌, arith}
+use Rattle.std.proofs.Common.{◌≡◌, refl, sym, ◌∙◌, arith, Err, rules}
 use Rattle.muck_script.specs.Story.{lines_story}
 use Rattle.spec_dumps.proofs.Quiet.{quiet_one}
 use Rattle.spec_dumps.proofs.Idle.{idle_quiet}
@@ -37,7 +37,8 @@ returns-then-is_stopping-clause-plays g c = playing_stopped _ _ _ _ _ _ c.loop-a
 
 pub returns-in_err-play_line-clause-plays : goal.returns-in_err-play_line-clause-plays
 returns-in_err-play_line-clause-plays g c =
-    playing_breaks _ _ _ _ _ _ _ _ _ _ c.loop-act-test.true c.act-item.is (sym (c.is_stopping.ensures c.loop-act.invariant.playing.alive) ∙ c.if-is_stopping.false) c.loop-act.invariant.playing c.in_err-play_line.ensures.plays
+    let err : c.from_residual.result ≡ Err c.in_err-play_line.field-0.0 = search rules in
+    rw err (playing_breaks _ _ _ _ _ _ _ _ _ _ c.loop-act-test.true c.act-item.is (sym (c.is_stopping.ensures c.loop-act.invariant.playing.alive) ∙ c.if-is_stopping.false) c.loop-act.invariant.playing c.in_err-play_line.ensures.plays)
 
 pub returns-then-not-is_stopping-clause-plays : goal.returns-then-not-is_stopping-clause-plays
 returns-then-not-is_stopping-clause-plays g c =
@@ -50,7 +51,9 @@ returns-else-not-is_stopping-clause-plays g c =
 -- what is kept of the disks
 
 pub returns-in_err-play_line-clause-kept : goal.returns-in_err-play_line-clause-kept
-returns-in_err-play_line-clause-kept g c = λ mounted tells r. c.in_err-play_line.ensures.kept mounted tells (c.loop-act.invariant.rests mounted tells r)
+returns-in_err-play_line-clause-kept g c =
+    let err : c.from_residual.result ≡ Err c.in_err-play_line.field-0.0 = search rules in
+    rw err (λ mounted tells r. c.in_err-play_line.ensures.kept mounted tells (c.loop-act.invariant.rests mounted tells r))
 
 pub returns-then-is_stopping-clause-kept : goal.returns-then-is_stopping-clause-kept
 returns-then-is_stopping-clause-kept g c = λ mounted tells r. held_resting _ _ _ _ _ _ _ mounted _ _ (c.loop-act.invariant.rests mounted tells r)
