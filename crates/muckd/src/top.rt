@@ -340,17 +340,18 @@ fn run_acts<K: Sink, D: Disk>(
         return (Why::NoMemory, Tale::none());
     };
     let mut store = Store::new(log);
-    let played = play(
+    match play(
         alloc, &mut world, &mut store, first, second, acts, &mut buf, out,
-    );
-    let why = match played {
-        Ok(()) => last_dump(alloc, &mut world, &mut store, first, second),
-        Err(RunFault::NoMemory) => Why::NoMemory,
+    ) {
+        Ok(()) => {
+            let why = last_dump(alloc, &mut world, &mut store, first, second);
+            (why, world.into_tale())
+        }
+        Err(RunFault::NoMemory) => (Why::NoMemory, world.into_tale()),
         Err(RunFault::WriteFault) => {
             stop(&mut world);
-            last_dump(alloc, &mut world, &mut store, first, second);
-            Why::WriteFault
+            let _ = last_dump(alloc, &mut world, &mut store, first, second);
+            (Why::WriteFault, world.into_tale())
         }
-    };
-    (why, world.into_tale())
+    }
 }

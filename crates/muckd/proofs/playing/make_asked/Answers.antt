@@ -1,5 +1,6 @@
-use Rattle.std.proofs.Common.{◌≡◌, sym, ◌∙◌, Err, rules}
+use Rattle.std.proofs.Common.{◌≡◌, refl, sym, ◌∙◌, Err, rules}
 use Rattle.muckd.proofs.Lining.{plays_asked, breaks_asked, plays_unasked, held_resting, held_dumped, held_died}
+use Rattle.muckd.proofs.Noted.{noted_same}
 use Rattle.muckd.proofs.playing.make_asked.Goals as goal
 
 pub returns-then-not-is_due-clause-plays : goal.returns-then-not-is_due-clause-plays
@@ -23,3 +24,8 @@ returns-clause-plays g c = λ o. plays_asked c.args.line.now _ _ o (sym c.is_due
 
 pub returns-clause-kept : goal.returns-clause-kept
 returns-clause-kept g c = λ mounted tells r. held_dumped _ _ _ _ _ _ _ mounted _ _ _ (c.in_ok-dump.ensures.kept mounted tells r)
+
+-- the notes
+
+pub returns-then-not-is_due-clause-notes : goal.returns-then-not-is_due-clause-notes
+returns-then-not-is_due-clause-notes g c = noted_same _ _ refl

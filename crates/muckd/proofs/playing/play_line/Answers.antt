@@ -2,6 +2,7 @@ use Rattle.std.proofs.Common.{◌≡◌, ◌∙◌, None, Err, rules}
 use Rattle.spec_dumps.proofs.Quiet.{rests_quiet}
 use Rattle.spec_dumps.proofs.Idle.{idle_quiet}
 use Rattle.muckd.proofs.Lining.{line_breaks, line_breaks_dumping, line_serves, held_quiet}
+use Rattle.muckd.proofs.Noted.{noted_quiet, noted_then}
 use Rattle.muckd.proofs.playing.play_line.Goals as goal
 
 -- the parts of the line
@@ -69,3 +70,14 @@ returns-clause-kept g c =
     λ mounted tells r.
     held_quiet _ _ _ _ _ _ _ mounted _ _ _ c.serve_all.ensures.quiet
     ((c.in_ok-make_asked.ensures.kept mounted tells (rests_quiet _ _ _ _ _ _ _ mounted _ _ c.in_ok-act_and_turn.ensures.quiet r)).rests (λ e. cc))
+
+-- the notes
+
+pub returns-in_err-act_and_turn-clause-notes : goal.returns-in_err-act_and_turn-clause-notes
+returns-in_err-act_and_turn-clause-notes g c = noted_quiet _ _ c.in_err-act_and_turn.ensures.quiet
+
+pub returns-in_err-make_asked-clause-notes : goal.returns-in_err-make_asked-clause-notes
+returns-in_err-make_asked-clause-notes g c = noted_then _ _ _ (noted_quiet _ _ c.in_ok-act_and_turn.ensures.quiet) c.in_err-make_asked.ensures.notes
+
+pub returns-clause-notes : goal.returns-clause-notes
+returns-clause-notes g c = noted_then _ _ _ (noted_quiet _ _ c.in_ok-act_and_turn.ensures.quiet) (noted_then _ _ _ c.in_ok-make_asked.ensures.notes (noted_quiet _ _ c.serve_all.ensures.quiet))
