@@ -1,7 +1,5 @@
-use Rattle.std.proofs.Common.{◌≡◌, inl, inr, refl, ap, subst, ◌∙◌, List}
-use Rattle.muck_model.specs.declared.event.Entry.{Entry}
-use Rattle.muck_script.specs.declared.act.Act.{Act}
-use Rattle.muckd.specs.Outcome.{HasBegun}
+use Rattle.std.proofs.Common.{◌≡◌, inl, inr, refl, sym, ap, subst}
+use Rattle.muckd.specs.Outcome.{HasRead}
 use Rattle.muckd.specs.inner.Ends.{IsMountWhy, MayRefuse, IsScriptWhy, MayEnd}
 use Rattle.muckd.proofs.Called.{refused_ends, unread_ends, wanted_ends, began_ends, either_since, holds_still, never_begun, has_begun}
 use Rattle.muckd.proofs.top.run.Goals as goal
@@ -61,7 +59,7 @@ pub returns-in-Ok-read_script-clause-history : goal.returns-in-Ok-read_script-cl
 returns-in-Ok-read_script-clause-history g c = elim c.run_acts.ensures.ends [
   | inl never ↦ wanted_ends _ _ _ never.wanted (never_begun _ _ _ _ _ _ _ _ _ _ _ _ _ _ c.in-Ok.ensures.first_file c.in-Ok.ensures.second_file never)
   | inr played ↦ began_ends g.D.Disk.tells _ _ _ c.run_acts.ensures.why
-    (has_begun _ _ _ _ _ _ _ _ _ _ _ _ _ _ _ _ _ _ _ _ _ _ _ _ _ c.in-Ok.ensures.log c.in-Ok.ensures.fine c.in-Ok.ensures.first_name c.in-Ok.ensures.second_name c.in-Ok.ensures.first_file c.in-Ok.ensures.second_file c.in-Ok-read_script.ensures.read played)
+    (has_begun _ _ _ _ _ _ _ _ _ _ _ _ _ _ _ _ _ _ _ _ _ _ _ _ _ c.in-Ok.ensures.log c.in-Ok.ensures.fine c.in-Ok.ensures.first_name c.in-Ok.ensures.second_name c.in-Ok.ensures.first_file c.in-Ok.ensures.second_file (subst (HasRead _ _ _ _) (sym c.as_slice.ensures) c.in-Ok-read_script.ensures.read) played)
 ]
 
 pub returns-in-Err-clause-loads : goal.returns-in-Err-clause-loads
@@ -74,7 +72,7 @@ pub returns-in-Err-read_script-clause-unread : goal.returns-in-Err-read_script-c
 returns-in-Err-read_script-clause-unread g c = λ file at tells e. absurd (subst (IsScriptWhy (g.S.Source.left c.args.script.now)) e c.in-Err-read_script.ensures.why)
 
 pub returns-in-Err-read_script-clause-loads : goal.returns-in-Err-read_script-clause-loads
-returns-in-Err-read_script-clause-loads g c = λ tells is. (c.in-Ok.field-0.chosen, holds_still _ _ _ _ _ _ _ (c.in-Ok.ensures.first_file tells) (c.in-Ok.ensures.second_file tells) _ (c.in-Ok.ensures.log tells).mounted.load)
+returns-in-Err-read_script-clause-loads g c = λ tells is. (c.in-Ok.log.chosen, holds_still _ _ _ _ _ _ _ (c.in-Ok.ensures.first_file tells) (c.in-Ok.ensures.second_file tells) _ (c.in-Ok.ensures.log tells).mounted.load)
 
 pub returns-in-Ok-read_script-clause-unread : goal.returns-in-Ok-read_script-clause-unread
 returns-in-Ok-read_script-clause-unread g c = λ file at tells e. absurd (subst (MayEnd g.D.Disk.tells) e c.run_acts.ensures.why tells)

@@ -10,7 +10,7 @@ use Rattle.muckd.proofs.Whole.{broke_by}
 use Rattle.muckd.proofs.top.run_acts.Goals as goal
 
 pub begin-requires : goal.begin-requires
-begin-requires g c = bootable c.args.log.chosen.held.world c.requires.fine
+begin-requires g c = record { bootable = bootable c.args.log.chosen.held.world c.requires.fine }
 
 pub play-requires-clause-alive : goal.play-requires-clause-alive
 play-requires-clause-alive g c = begins_alive c.args.log _ _ c.in-Ok.ensures.world
