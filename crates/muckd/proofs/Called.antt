@@ -1,6 +1,6 @@
 -- What a call answers, from where it ended.
 use Rattle.std.proofs.Common.{◌≡◌, ◌⊎◌, inl, inr, ℕ, ◌≤◌, ◌<◌, Bool, true, false, List, [], ◌∷◌, refl, sym, ap, subst, ◌∙◌, arith, Option, Some, None, Result, Ok, Err}
-use Rattle.std.specs.Prelude.{◌↔◌, codes, ◌++◌}
+use Rattle.std.specs.Prelude.{codes, ◌++◌, is_some}
 use Rattle.muck_io.specs.Faults.{Rose}
 use Rattle.muck_model.specs.declared.event.Entry.{Entry}
 use Rattle.muck_model.specs.declared.note.Note.{Note}
@@ -183,11 +183,6 @@ completes left r s DiskFault usage bad read write disk damaged ok grammar = absu
 completes left r s (Damaged file at) usage bad read write disk damaged ok grammar = let both = sym ok ∙ damaged file at refl in cc
 completes left r s (StoreFull end more) usage bad read write disk damaged ok grammar = inr (inr (end, more, refl))
 
--- The words are no command, or they are one.
-
-pub never_usage : (why : Why) (is : Bool) → is ≡ true → (why ≡ Usage → ⊥) → (why ≡ Usage) ↔ (is ≡ false)
-never_usage why true e other = (λ u. absurd (other u), λ f. cc)
-never_usage why false e other = cc
-
-pub always_usage : (is : Bool) → is ≡ false → (Usage ≡ Usage) ↔ (is ≡ false)
-always_usage is e = (λ u. e, λ f. refl)
+-- words without the name of a store are no command
+pub no_command : (name : Option (List ℕ)) → name ≡ None → is_some name ≡ true → ⊥
+no_command name none some = let both = sym (ap is_some none) ∙ some in cc
