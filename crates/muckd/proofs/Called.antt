@@ -1,5 +1,5 @@
 -- What a call answers, from where it ended.
-use Rattle.std.proofs.Common.{◌≡◌, ◌⊎◌, inl, inr, ℕ, ◌≤◌, ◌<◌, Bool, true, false, List, [], ◌∷◌, refl, sym, ap, subst, ◌∙◌, arith, Option, Some, None, Result, Ok, Err}
+use Rattle.std.proofs.Common.{◌≡◌, ◌⊎◌, inl, inr, ℕ, ◌≤◌, Bool, true, List, refl, sym, ap, subst, ◌∙◌, arith, Option, Some, None, Result, Ok, Err}
 use Rattle.std.specs.Prelude.{codes, ◌++◌, is_some}
 use Rattle.muck_io.specs.Faults.{Rose}
 use Rattle.muck_model.specs.declared.event.Entry.{Entry}
@@ -11,7 +11,6 @@ use Rattle.muck_log.specs.declared.fault.LogFault.{LogFault}
 use Rattle.muck_log.specs.declared.fault.LogFault.TheVariants.{NoMemory as LogMemory, DiskFault as LogDisk, Damaged as LogDamaged, StoreFull as LogFull, Unfit, Stale}
 use Rattle.spec_dumps.specs.Fronts.{file_most}
 use Rattle.muck_script.specs.declared.act.Act.{Act}
-use Rattle.muck_script.specs.Script.{script_of}
 use Rattle.muckd.specs.Outcome.{HasRead, HasBegun, IsUnbegun, IsUntouched, EndsAs, IsInGrammar, IsFirstOutside}
 use Rattle.muckd.specs.inner.Ends.{refusal_of, MayNotOpen, IsMountWhy, MayRefuse, IsScriptWhy, HasPlayed, NeverPlayed, MayEnd, MayEndDump, booted_from}
 use Rattle.muckd.specs.declared.why.Why.{Why}

@@ -1,18 +1,16 @@
 -- What a run comes to, from how it was played and how its last dump came out.
-use Rattle.std.proofs.Common.{◌≡◌, ℕ, Bool, true, List, [], ◌∷◌, ◌++◌, refl, sym, ap, subst, ◌∙◌, Option, Some}
-use Rattle.muck_io.specs.Faults.{Rose}
+use Rattle.std.proofs.Common.{◌≡◌, ℕ, Bool, List, sym, ap, subst, ◌∙◌, Option}
 use Rattle.muck_model.specs.declared.event.Entry.{Entry}
 use Rattle.muck_model.specs.declared.note.Note.{Note}
-use Rattle.muck_log.specs.Store.{LogState}
 use Rattle.spec_dumps.specs.Survival.{IsSafe, StandsWhole}
 use Rattle.spec_events.specs.World.{World}
-use Rattle.spec_events.specs.Histories.{History, now, Longer, AllLawful}
+use Rattle.spec_events.specs.Histories.{History, Longer, AllLawful}
 use Rattle.muck_script.specs.declared.act.Act.{Act}
-use Rattle.muck_script.specs.Story.{stored, failed, dump_entries, lines_story, dumping}
+use Rattle.muck_script.specs.Story.{stored, failed, dump_entries, lines_story}
 use Rattle.muckd.specs.Outcome.{HasRun, EndsStored, EndsFailed}
-use Rattle.muckd.specs.inner.Plays.{Plays, Breaks}
+use Rattle.muckd.specs.inner.Plays.{Plays}
 use Rattle.muckd.specs.inner.Dumps.{IsFull}
-use Rattle.muckd.specs.inner.Ends.{EndsPlay, ComesOutAs, LastKept, MayEndDump}
+use Rattle.muckd.specs.inner.Ends.{EndsPlay, ComesOutAs, MayEndDump}
 use Rattle.muckd.specs.declared.why.Why.{Why}
 use Rattle.muckd.specs.declared.why.Why.TheVariants.{Fine, Usage, BadScript, NoMemory, ReadFault, WriteFault, DiskFault, Damaged, StoreFull}
 use Rattle.muckd.proofs.Whole.{begun, played_whole, died_dumping}

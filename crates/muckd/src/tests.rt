@@ -205,8 +205,8 @@ fn a_run_of_no_line_is_stored(rt: HostRuntime) -> Result<(), Fail> {
         let mut cut = MemDisk::new(rt.alloc(), &first.bytes()[..size])?;
         let mut other = MemDisk::new(rt.alloc(), &[])?;
         let (why, written) = run_on(rt.alloc(), HELLO, 0, 0, 4096, &mut cut, &mut other)?;
-        assert_eq!(
-            rt; why,
+        assert_eq!(rt;
+            why,
             Why::Damaged {
                 second: false,
                 at: place,

@@ -106,10 +106,11 @@ fn refusal_of(fault: LogFault) -> Why
         LogFault::DiskFault => Why::DiskFault,
         LogFault::Damaged { second, at } => Why::Damaged { second, at },
         // Only `append` answers these.
-        LogFault::StoreFull { end: _, more: _ } | LogFault::Unfit | LogFault::Stale => Why::Damaged {
-            second: false,
-            at: 0,
-        },
+        LogFault::StoreFull { end: _, more: _ } | LogFault::Unfit | LogFault::Stale =>
+            Why::Damaged {
+                second: false,
+                at: 0,
+            },
     }
 }
 

@@ -1,9 +1,8 @@
 -- What a run comes to, from the log that was mounted.
-use Rattle.std.specs.Prelude.{◌≡◌, ◌⊎◌, ℕ, ◌≤◌, Bool, true, false, List, [], ◌∷◌, length, Option, Some, None, Ok, Err}
+use Rattle.std.specs.Prelude.{◌≡◌, ℕ, ◌≤◌, Bool, true, false, List, [], ◌∷◌, length, Option, None, Err}
 use Rattle.std.specs.List.{list_all}
 use Rattle.muck_model.specs.declared.event.Entry.{Entry}
 use Rattle.muck_model.specs.declared.note.Note.{Note}
-use Rattle.muck_model.specs.declared.tune.Tune.{Tune}
 use Rattle.muck_store.specs.Forms.{loaded}
 use Rattle.muck_store.specs.Limits.{fits}
 use Rattle.muck_store.specs.Whole.{is_whole}
@@ -21,7 +20,7 @@ use Rattle.muckd.specs.inner.Dumps.{IsFull, ComesOut}
 use Rattle.muckd.specs.inner.Plays.{Plays, Breaks}
 use Rattle.muck_script.specs.Story.{failed, dump_entries, dumping}
 use Rattle.muckd.specs.declared.why.Why.{Why}
-use Rattle.muckd.specs.declared.why.Why.TheVariants.{Fine, Usage, BadScript, NoMemory, ReadFault, WriteFault, DiskFault, Damaged, StoreFull}
+use Rattle.muckd.specs.declared.why.Why.TheVariants.{Fine, BadScript, NoMemory, ReadFault, WriteFault, DiskFault, Damaged, StoreFull}
 
 -- why a call ends whose store couldn't be mounted
 abbrev pub refusal_of : LogFault → Why

@@ -1,4 +1,4 @@
-use Rattle.std.proofs.Common.{◌≡◌, sym, ap, subst, ◌∙◌, Some}
+use Rattle.std.proofs.Common.{sym, ap, subst, ◌∙◌, Some}
 use Rattle.muckd.specs.inner.Ends.{EndsPlay, ComesOutAs, LastKept, MayEndDump}
 use Rattle.muckd.proofs.Closing.{ends_by, may_end, comes_failed, broke_memory, kept_stored, kept_failed, kept_broken}
 use Rattle.muckd.proofs.top.last_dump.Goals as goal

@@ -1,4 +1,4 @@
-use Rattle.std.proofs.Common.{◌≡◌, inl, inr, refl, sym, ap, Err}
+use Rattle.std.proofs.Common.{inr, refl, ap, Err}
 use Rattle.spec_dumps.proofs.Idle.{idle_quiet}
 use Rattle.spec_dumps.proofs.Quiet.{rests_quiet}
 use Rattle.muckd.proofs.Called.{dump_may, not_write, either_since}
