@@ -18,7 +18,7 @@ ghost use Rattle.spec_events.specs.World.{runs_dump};
 ghost use Rattle.spec_live.specs.Consistent.{IsConsistent};
 ghost use Rattle.spec_live.specs.Objects.{Entry};
 ghost use Rattle.muck_script.specs.Story.{dumping};
-ghost use Rattle.muckd.specs.inner.Dumps.{note_of, ending_event, HasRisen, IsMountingFault, Appended, Dumps, DumpsLast};
+ghost use Rattle.muckd.specs.inner.Dumps.{note_of, ending_event, HasRisen, IsMountingFault, Appended, Dumps, DumpsLast, ComesOut, IsNotedOn};
 ghost use Rattle.muckd.specs.inner.Plays.{PlaysOrBreaks};
 
 use crate::playing::RunFault;
@@ -199,6 +199,8 @@ fn dump_unmounted<D: Disk>(
     requires idle { (now world.old).dumps.running ≡ None }
     ensures plays { (o : Option (List ℕ)) → PlaysOrBreaks dumping world.old world.new o o result }
     ensures last { DumpsLast world.old world.new }
+    ensures outcome { IfOk result (ComesOut world.old world.new) }
+    ensures notes { IsNotedOn world.old world.new }
     ensures memory { OnErr result (result ≡ Err RunFault.NoMemory) }
     ensures idle { OnOk result ((now world.new).dumps.running ≡ None) }
     ensures same { IfOk result (λ o. o ≡ Some fault) }
@@ -229,6 +231,8 @@ fn dump_mounted<D: Disk>(
     requires mounted { D.tells ≡ true → (mounted : ℕ) × Keeps D.seen D.moment D.images D.faults store.old.log first.old second.old mounted world.old }
     ensures plays { (o : Option (List ℕ)) → PlaysOrBreaks dumping world.old world.new o o result }
     ensures last { DumpsLast world.old world.new }
+    ensures outcome { IfOk result (ComesOut world.old world.new) }
+    ensures notes { IsNotedOn world.old world.new }
     ensures memory { OnErr result (result ≡ Err RunFault.NoMemory) }
     ensures idle { OnOk result ((now world.new).dumps.running ≡ None) }
     ensures kept { (mounted : ℕ) → D.tells ≡ true → Keeps D.seen D.moment D.images D.faults store.old.log first.old second.old mounted world.old
@@ -276,6 +280,8 @@ pub fn dump<D: Disk>(
     requires mounted { D.tells ≡ true → (mounted : ℕ) × Rests D.seen D.moment D.images D.faults store.old.log first.old second.old mounted world.old }
     ensures plays { (o : Option (List ℕ)) → PlaysOrBreaks dumping world.old world.new o o result }
     ensures last { DumpsLast world.old world.new }
+    ensures outcome { IfOk result (ComesOut world.old world.new) }
+    ensures notes { IsNotedOn world.old world.new }
     ensures memory { OnErr result (result ≡ Err RunFault.NoMemory) }
     ensures idle { OnOk result ((now world.new).dumps.running ≡ None) }
     ensures kept { (mounted : ℕ) → D.tells ≡ true → Rests D.seen D.moment D.images D.faults store.old.log first.old second.old mounted world.old

@@ -1,5 +1,5 @@
 -- What a dump of a run comes to.
-use Rattle.std.specs.Prelude.{◌≡◌, ◌⊎◌, ℕ, suc, ◌+◌, ◌<◌, List, length, slice_get, Bool, true, false, Option, Some, None, Result, Ok, Err, OnOk, IfOk, if◌then◌else◌}
+use Rattle.std.specs.Prelude.{◌≡◌, ◌⊎◌, ℕ, suc, ◌+◌, ◌<◌, List, ◌++◌, length, slice_get, Bool, Option, Some, None, Result, Ok, Err, OnOk, IfOk, if◌then◌else◌}
 use Rattle.muck_io.specs.Faults.{Rose}
 use Rattle.muck_model.specs.declared.event.Event.{Event}
 use Rattle.muck_model.specs.declared.event.Event.TheVariants.{Stored, DumpFailed as Failed}
@@ -9,11 +9,12 @@ use Rattle.muck_log.specs.World.{World as Kept, laid}
 use Rattle.muck_log.specs.Store.{Chosen, LogState, LeavesBoth, IsMounted, target, after_batch}
 use Rattle.muck_log.specs.Append.{IsNext, LoadsEither, more_of}
 use Rattle.muck_log.specs.declared.fault.LogFault.{LogFault}
-use Rattle.muck_log.specs.declared.fault.LogFault.TheVariants.{NoMemory, DiskFault, Damaged, StoreFull, Unfit, Stale}
+use Rattle.muck_log.specs.declared.fault.LogFault.TheVariants.{NoMemory, DiskFault, StoreFull, Unfit}
 use Rattle.spec_events.specs.Histories.{History, Longer, after}
 use Rattle.spec_dumps.specs.Fronts.{IsFront, dump_payload, log_of, file_most}
 use Rattle.spec_dumps.specs.Holding.{Rests}
 use Rattle.spec_dumps.specs.Survival.{IsSafe, StandsWhole}
+use Rattle.muck_script.specs.Story.{stored, failed, dump_entries}
 use Rattle.muckd.specs.Outcome.{IsLastDump}
 use Rattle.muckd.specs.declared.playing.RunFault.{RunFault}
 use Rattle.muckd.specs.declared.playing.RunFault.TheVariants.{NoMemory as OutOfMemory}
@@ -24,7 +25,7 @@ note_of moment faults first second h = record { entries = length h.entries; firs
 
 -- how the dump k ends
 abbrev pub ending_event : ℕ → Bool → Event
-ending_event k stored = if stored then Stored k else Failed k
+ending_event k done = if done then Stored k else Failed k
 
 -- the count of faults of a disk rose since the last note
 abbrev pub HasRisen : {D : Type 0} → (D → ℕ) → D → D → History → Type 0
@@ -79,3 +80,13 @@ pub record Held {D T : Type 0} (seen : D → List ℕ) (moment : D → ℕ) (ima
 -- A dump was made, or memory was wanted for it.
 abbrev pub DumpsLast : History → History → Type 0
 DumpsLast h k = (es : List Entry) × Longer h k es × IsLastDump es
+
+-- how a dump came out, by the fault that it answers
+abbrev pub ComesOut : History → History → Option LogFault → Type 0
+ComesOut h k None = (n : ℕ) × Longer h k (dump_entries (stored n))
+ComesOut h k (Some fault) = (n : ℕ) × Longer h k (dump_entries (failed n))
+
+-- k has the notes of h, and others behind them
+pub record IsNotedOn (h k : History) : Type 0 where
+  pub since : List Note
+  pub notes : k.notes ≡ h.notes ++ since
