@@ -1,37 +1,29 @@
 -- What a dump hands to the log, of a table.
-use Rattle.std.proofs.Common.{◌≡◌, ℕ, ◌+◌, ◌<◌, ◌≤◌, suc, List, [], ◌∷◌, ◌++◌, Option, Some, None, inl, inr, refl, sym, ◌∙◌, ap, subst, length, drop, map, arith, Bool, true, false, append_assoc, append-nil}
+use Rattle.std.proofs.Common.{◌≡◌, ℕ, ◌<◌, List, [], ◌∷◌, Option, Some, None, inl, inr, refl, sym, ◌∙◌, ap, length, map, arith, Bool, true, false}
 use Rattle.std.proofs.lemmas.Bool.{cases_eq, ne_eqb, eq-eqb}
-use Rattle.std.proofs.lemmas.List.{drop_all}
-use Rattle.std.proofs.lemmas.Option.{slice_get_cases, slice_get_within, get_or_from_slice_get}
-use Rattle.std.proofs.Math.Seq.{drop-cons}
+use Rattle.std.proofs.lemmas.Option.{slice_get_cases}
 use Rattle.std.specs.List.{slice_get}
 use Rattle.std.specs.Option.{option_map, option_map_or, option_and_then}
 use Rattle.std.specs.FinMap.{entries}
 use Rattle.muck_model.specs.declared.dbref.Dbref.{Dbref}
-use Rattle.muck_model.specs.declared.tune.Tune.{Tune}
 use Rattle.muck_prop.specs.Store.{PropMap, behind}
-use Rattle.muck_prop.specs.declared.props.Listed.{Listed}
 use Rattle.muck_prop.specs.declared.value.PropValue.{PropValue}
 use Rattle.spec_live.specs.declared.object.Object.{Object}
 use Rattle.spec_live.specs.Chain.{walk, follower, IsChain, Ends, Member}
 use Rattle.spec_live.specs.Objects.{Entry, dbref_of, garbage, is_exit, kind_in, place_in, list_of, list_in, object_in}
 use Rattle.spec_live.proofs.Chains.{walk_none, walk_next}
 use Rattle.muck_codec.specs.declared.stored.Stored.{Stored}
-use Rattle.muck_codec.specs.declared.stored.Property.{Property}
-use Rattle.muck_codec.specs.declared.stored.Batch.{Batch}
-use Rattle.muck_store.specs.Forms.{property_of, properties_of, first_of, link_of, next_in, stored_of, stored_from, persist}
+use Rattle.muck_store.specs.Forms.{property_of, properties_of, first_of, link_of, next_in, stored_of}
 use Rattle.muck_db.specs.declared.slot.Slot.{Slot}
 use Rattle.muck_db.specs.inner.Slots.{shown, object_at, kept_at, next_at, first_at, place_at, list_at, entries_of, HasOrder}
 use Rattle.muck_db.specs.inner.Shown.{dbref_at}
+use Rattle.muck_db.specs.inner.Kept.{property_at}
 use Rattle.muck_db.proofs.Readers.{object_in-entries_of, list_in-entries_of, place_in-entries_of}
 use Rattle.muck_db.proofs.Linked.{chain_at}
 use Rattle.muck_db.proofs.Bridge.{order_chains}
 use Rattle.muck_db.proofs.Showing.{place_standing}
 
 -- Properties.
-
-abbrev pub property_at : Listed → Property
-property_at listed = record { path = listed.rest; value = listed.value }
 
 listed_stored : (es : List (List (List ℕ) × PropValue)) → map property_at (map (behind 0) es) ≡ map property_of es
 listed_stored [] = refl
@@ -131,49 +123,3 @@ pub record_is : (es : List Entry) (k : ℕ) (o : Object) → object_in es k ≡ 
     → option_map (stored_of es k) (slice_get es k) ≡ Some (stored_with k o (first_of (list_in false es k)) (first_of (list_in true es k)) (link_of (next_in es k)))
 unfolding object_in list_in
 record_is es k o h = record_by es k o (slice_get es k) h
-
-abbrev pub batch_of : List Stored → Tune → Batch
-batch_of records tune = record { records = records; tune = tune }
-
--- A walk over the objects.
-
-drop_here : {X : Type 0} (xs : List X) (k : ℕ) (x : X) → slice_get xs k ≡ Some x → drop k xs ≡ x ∷ drop (suc k) xs
-drop_here xs k x h = drop-cons xs k x (slice_get_within xs k x h) ∙ ap (λ y. y ∷ drop (suc k) xs) (get_or_from_slice_get xs k x x h)
-
-stored_next : (es : List Entry) (k : ℕ) (records all : List Stored) (r : Stored) (e : Entry)
-    → slice_get es k ≡ Some e → r ≡ stored_of es k e → records ++ stored_from es k (drop k es) ≡ all
-    → (records ++ r ∷ []) ++ stored_from es (suc k) (drop (suc k) es) ≡ all
-unfolding stored_from
-stored_next es k records all r e there is h =
-    append_assoc records (r ∷ []) (stored_from es (suc k) (drop (suc k) es))
-    ∙ ap (λ (z : Stored). records ++ (z ∷ stored_from es (suc k) (drop (suc k) es))) is
-    ∙ ap (λ (xs : List Entry). records ++ stored_from es k xs) (sym (drop_here es k e there))
-    ∙ h
-
--- a record more
-pub stored_more : (es : List Entry) (k : ℕ) (records all : List Stored) (r : Stored)
-    → Some r ≡ option_map (stored_of es k) (slice_get es k) → records ++ stored_from es k (drop k es) ≡ all
-    → (records ++ r ∷ []) ++ stored_from es (k + 1) (drop (k + 1) es) ≡ all
-stored_more es k records all r is h =
-    let P : ℕ → Type 0 = λ n. (records ++ r ∷ []) ++ stored_from es n (drop n es) ≡ all in
-    let one : suc k ≡ k + 1 = omega arith in
-    elim (slice_get_cases es k).1 [
-      | inl q ↦
-          let found : Some r ≡ Some (stored_of es k q.0) = is ∙ ap (λ (o : Option Entry). option_map (stored_of es k) o) q.2 in
-          let same : r ≡ stored_of es k q.0 = cc found in
-          subst P one (stored_next es k records all r q.0 q.2 same h)
-      | inr q ↦
-          let none : Some r ≡ None = is ∙ ap (λ (o : Option Entry). option_map (stored_of es k) o) q.1 in
-          absurd (cc none)
-    ]
-
-pub stored_begins : (es : List Entry) → stored_from es 0 (drop 0 es) ≡ persist es
-unfolding persist
-stored_begins es = refl
-
-pub stored_ends : (es : List Entry) (k : ℕ) (records : List Stored) → length es ≤ k → records ++ stored_from es k (drop k es) ≡ persist es → records ≡ persist es
-unfolding stored_from
-stored_ends es k records past h =
-    sym (append-nil records)
-    ∙ ap (λ (xs : List Entry). records ++ stored_from es k xs) (sym (drop_all k es past))
-    ∙ h

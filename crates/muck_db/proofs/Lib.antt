@@ -15,5 +15,6 @@ pub mod Showing
 pub mod Counting
 pub mod Settings
 pub mod Cutting
+pub mod Keeping
 pub mod Stocking
 pub mod Loading

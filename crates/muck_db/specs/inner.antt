@@ -3,3 +3,4 @@ pub mod Limits
 pub mod Shown
 pub mod Settings
 pub mod Loading
+pub mod Kept

@@ -1,10 +1,12 @@
-// What a dump hands to the log: the stored form of each object.
-ghost use Rattle.std.specs.Prelude.{◌≡◌, ◌<◌, length, map, IfOk, Some, slice_get};
-ghost use Rattle.std.specs.Option.{option_map};
+// What a dump hands to the log: the stored form of each object that isn't kept so.
+ghost use Rattle.std.specs.Prelude.{◌≡◌, ◌<◌, length, map, IfOk, Some};
 ghost use Rattle.spec_live.specs.Objects.{garbage, list_in, object_in};
-ghost use Rattle.muck_store.specs.Forms.{first_of, link_of, next_in, persist, properties_of, stored_of};
+ghost use Rattle.muck_store.specs.Changes.{LeavesOut};
+ghost use Rattle.muck_store.specs.Forms.{first_of, link_of, next_in, persist, properties_of};
+ghost use Rattle.muck_db.specs.inner.Kept.{stored_at};
 ghost use Rattle.muck_db.specs.inner.Slots.{entries_of, HasOrder};
 
+use crate::kept::is_kept;
 use crate::links::{dbref_of, first_of, next_of, place_of};
 use crate::moves::object_of;
 use crate::slot::Slot;
@@ -39,7 +41,7 @@ fn properties_of(alloc: Global, props: &Props) -> Result<Row<Property>, NoMemory
 }
 
 // The first of a list of exits, or of contents, or `#-1`.
-fn first_link(slots: &Vec<Slot>, exits: bool, k: u32) -> Dbref
+pub fn first_link(slots: &Vec<Slot>, exits: bool, k: u32) -> Dbref
     requires order { HasOrder slots.now.items }
     requires known { k < length slots.now.items }
     ensures { result ≡ first_of (list_in exits (entries_of slots.now.items) k) }
@@ -48,7 +50,7 @@ fn first_link(slots: &Vec<Slot>, exits: bool, k: u32) -> Dbref
 }
 
 // What stands behind an object in the list that it is in, or `#-1`.
-fn next_link(slots: &Vec<Slot>, k: u32) -> Dbref
+pub fn next_link(slots: &Vec<Slot>, k: u32) -> Dbref
     requires order { HasOrder slots.now.items }
     requires known { k < length slots.now.items }
     ensures { result ≡ link_of (next_in (entries_of slots.now.items) k) }
@@ -64,7 +66,7 @@ fn record_of(alloc: Global, slots: &Vec<Slot>, k: u32, object: &Object) -> Resul
     requires order { HasOrder slots.now.items }
     requires known { k < length slots.now.items }
     requires object { object_in (entries_of slots.now.items) k ≡ Some object.now }
-    ensures { IfOk result (λ stored. Some stored ≡ option_map (stored_of (entries_of slots.now.items) k) (slice_get (entries_of slots.now.items) k)) }
+    ensures { IfOk result (λ stored. Some stored ≡ stored_at (entries_of slots.now.items) k) }
 {
     let name = object.name.copy(alloc)?;
     let props = properties_of(alloc, &object.props)?;
@@ -109,31 +111,37 @@ fn garbage(alloc: Global) -> Result<Object, NoMemory>
     })
 }
 
-// What is stored of the object of a number.
+// What is stored at a number: its object, or what is kept of one that was recycled.
 #[tactic(auto, using(crate::proofs::Cutting::object_stored))]
-fn record_at(alloc: Global, slots: &Vec<Slot>, k: u32) -> Result<Stored, NoMemory>
-    requires order { HasOrder slots.now.items }
+fn object_at<'a>(slots: &'a Vec<Slot>, k: u32, blank: &'a Object) -> &'a Object
     requires known { k < length slots.now.items }
-    ensures { IfOk result (λ stored. Some stored ≡ option_map (stored_of (entries_of slots.now.items) k) (slice_get (entries_of slots.now.items) k)) }
+    requires blank { blank.now ≡ garbage }
+    ensures { object_in (entries_of slots.now.items) k ≡ Some result.now }
 {
     match object_of(slots, k) {
-        Some(object) => record_of(alloc, slots, k, object),
-        None => {
-            let object = garbage(alloc)?;
-            record_of(alloc, slots, k, &object)
-        }
+        Some(object) => object,
+        None => blank,
     }
 }
 
-// What is stored of each object.
-pub fn records_of(alloc: Global, slots: &Vec<Slot>) -> Result<Row<Stored>, NoMemory>
+// What is stored of each object that isn't kept so. No change is marked for a dump, so it passes over all objects: each is compared in place with what
+// is kept at its number, and only what differs is copied.
+pub fn records_of(
+    alloc: Global,
+    base: &[Stored],
+    slots: &Vec<Slot>,
+) -> Result<Row<Stored>, NoMemory>
     requires { HasOrder slots.now.items }
-    ensures { IfOk result (λ records. records ≡ persist (entries_of slots.now.items)) }
+    ensures { IfOk result (λ records. LeavesOut base.now (persist (entries_of slots.now.items)) records) }
 {
+    let blank = garbage(alloc)?;
     let n = slots.len() as u32;
     let mut records = Row::new(alloc)?;
     for k in 0..n {
-        records.push(record_at(alloc, slots, k)?)?;
+        let object = object_at(slots, k, &blank);
+        if !is_kept(alloc, base, slots, k, object)? {
+            records.push(record_of(alloc, slots, k, object)?)?;
+        }
     }
     Ok(records)
 }

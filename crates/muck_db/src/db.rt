@@ -14,14 +14,14 @@ ghost use Rattle.spec_live.specs.Seen.{listed_in, places_of, scenery_of};
 ghost use Rattle.muck_match.specs.Scenery.{chain, upward};
 ghost use Rattle.muck_lock.specs.Chain.{IsChain};
 ghost use Rattle.muck_codec.specs.Stored.{AreProperties};
-ghost use Rattle.muck_store.specs.Forms.{loaded};
+ghost use Rattle.muck_store.specs.Changes.{LeavesOut};
+ghost use Rattle.muck_store.specs.Forms.{loaded, persist};
 ghost use Rattle.muck_store.specs.Limits.{fits};
 ghost use Rattle.muck_store.specs.Whole.{is_whole};
 ghost use Rattle.muck_db.specs.inner.Limits.{FitsLimits, IsWithinLimits};
 ghost use Rattle.muck_db.specs.inner.Settings.{MaySet, with_setting};
 ghost use Rattle.muck_db.specs.inner.Shown.{is_there, after_in, first_in, next_in, Knows};
 ghost use Rattle.muck_model.specs.Bytes.{lines_most};
-ghost use Rattle.muck_store.specs.Forms.{world_batch};
 
 use crate::chain::Chain;
 use crate::creation::{check_create, new_object, put_object};
@@ -177,12 +177,13 @@ impl Db {
         list_of(&self.slots, true, d)
     }
 
-    /// What a dump hands to the log: the stored form of each object, and what is tuned. It copies the record of each
-    /// object, which costs as much as the world is large.
-    pub fn cut(&self, alloc: Global, tune: &Tune) -> Result<Batch, NoMemory>
-        ensures { IfOk result (λ batch. batch ≡ world_batch self.now tune.now) }
+    /// What a dump hands to the log, over what is kept already: the stored form of each object that isn't kept so, and
+    /// what is tuned. It compares every object with what is kept, and copies only those that differ.
+    pub fn cut(&self, alloc: Global, base: &[Stored], tune: &Tune) -> Result<Batch, NoMemory>
+        ensures records { IfOk result (λ batch. LeavesOut base.now (persist self.now) batch.records) }
+        ensures tune { IfOk result (λ batch. batch.tune ≡ tune.now) }
     {
-        let records = records_of(alloc, &self.slots)?;
+        let records = records_of(alloc, base, &self.slots)?;
         Ok(Batch {
             records,
             tune: *tune,

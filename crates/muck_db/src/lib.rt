@@ -6,6 +6,7 @@ mod chain;
 mod creation;
 mod cut;
 mod db;
+mod kept;
 mod links;
 mod load;
 mod moves;

@@ -1,14 +1,12 @@
 -- Laying what is written of a whole batch gives the world that it was taken from.
-use Rattle.std.proofs.Common.{◌≡◌, ℕ, zero, suc, ◌+◌, ◌<◌, ◌≤◌, ◌^◌, Bool, true, false, cond, not, ltb, eqb, ◌&&◌, ◌||◌, List, [], ◌∷◌, ◌++◌, length, set, Option, Some, None, option_and_then, Ok, refl, sym, ap, subst, ◌∙◌, append_assoc, arith, length-append}
-use Rattle.std.specs.Prelude.{All, pos, int_lt, nat_le, nat_lt, bytes_eq, slice_get}
-use Rattle.std.specs.Option.{option_map_or}
+use Rattle.std.proofs.Common.{◌≡◌, ℕ, suc, ◌<◌, ◌≤◌, ◌^◌, Bool, true, false, cond, not, ltb, eqb, List, [], ◌∷◌, ◌++◌, length, set, Option, Some, None, option_and_then, Ok, refl, sym, ap, subst, ◌∙◌, append_assoc, arith, length-append}
+use Rattle.std.specs.Prelude.{All, pos, int_lt, nat_le, slice_get}
 use Rattle.std.specs.List.{filter, list_all}
-use Rattle.std.proofs.lemmas.Bool.{and_parts, or_parts, cond-true, cond-false, leb-true, lt-ltb, le-ltb, eq-eqb}
+use Rattle.std.proofs.lemmas.Bool.{and_parts, cond-true, cond-false, leb-true, lt-ltb, le-ltb, eq-eqb}
 use Rattle.std.proofs.lemmas.List.{append-nil}
 use Rattle.std.proofs.lemmas.List.Elements.{All-head, All-tail}
 use Rattle.std.proofs.lemmas.List.Filters.{length-filter_both}
 use Rattle.std.proofs.lemmas.Option.{slice_get_past, same_Some, none-some}
-use Rattle.std.proofs.lemmas.Slice.Eq.{bytes_eq-Decides}
 use Rattle.std.proofs.Math.Seq.{set-append_seam}
 use Rattle.muck_model.specs.declared.dbref.Dbref.{Dbref}
 use Rattle.muck_model.specs.declared.tune.Tune.{Tune}
@@ -16,16 +14,17 @@ use Rattle.spec_live.specs.Objects.{Entry, dbref_of, index_of}
 use Rattle.muck_codec.specs.declared.stored.Stored.{Stored}
 use Rattle.muck_codec.specs.declared.stored.Batch.{Batch}
 use Rattle.muck_codec.specs.Batches.{is_above, whole_batch, batch_bytes}
-use Rattle.muck_codec.specs.Spelling.{spelling}
 use Rattle.muck_codec.specs.Stored.{IsStored, Run}
-use Rattle.muck_codec.proofs.Batches.{same_record, IsNextRecord, dbref_key, IsTune, whole_reads}
+use Rattle.muck_codec.proofs.Batches.{IsNextRecord, dbref_key, IsTune, whole_reads}
 use Rattle.muck_store.specs.Forms.{stored_of, stored_from, persist, world_batch}
 use Rattle.muck_store.specs.Limits.{fits}
 use Rattle.muck_store.specs.Whole.{is_whole}
 use Rattle.muck_log.specs.File.{begin}
-use Rattle.muck_log.specs.World.{World, start, is_between, tune_fits, is_fine, put_at, placed, all_placed, judged_world, laid_over, batch_if, laid, differs, written}
+use Rattle.muck_log.specs.World.{World, start, is_between, tune_fits, is_fine, put_at, placed, all_placed, judged_world, laid_over, batch_if, laid, kept_of, differs, written}
 use Rattle.muck_log.specs.Store.{Chosen, LogState, opens_new, target}
 use Rattle.muck_log.specs.Append.{IsLaidNext, payload_of}
+use Rattle.muck_log.proofs.Differing.{differs_by, equals}
+use Rattle.muck_log.proofs.Spellings.{start_two, start_stored}
 
 -- Records by their numbers from k on.
 
@@ -102,46 +101,23 @@ all_laid test front (r ∷ kept) (o ∷ os) k size number are =
 
 -- What is left out is kept.
 
-never : (b : Bool) → b ≡ true → b ≡ false → ⊥
-never true e f = cc
-never false e f = cc
-
-all_written : (test : Stored → Bool) → ((o : Stored) → test o ≡ true) → (records kept : List Stored) → length kept ≤ length records → AreKept test records kept
-all_written test always [] [] le = refl
-all_written test always [] (r ∷ kept) le = absurd (omega (arith, le))
-all_written test always (o ∷ os) [] le = (always o, all_written test always os [] (omega arith))
-all_written test always (o ∷ os) (r ∷ kept) le = ((λ f. absurd (never (test o) (always o) f)), all_written test always os kept (omega (arith, le)))
-
 seam : (front kept : List Stored) → slice_get (front ++ kept) (length front) ≡ slice_get kept 0
 seam [] kept = refl
 seam (x ∷ front) kept = seam front kept
 
-abbrev differs_from : Stored → Stored → Bool
-differs_from o kept = nat_lt 4096 (length kept.lines) || not (bytes_eq (spelling kept) (spelling o))
-
-differs_at : (objects : List Stored) (o : Stored) (k : ℕ) (found : Option Stored) → o.dbref ≡ dbref_of k → slice_get objects k ≡ found → differs objects o ≡ option_map_or (differs_from o) found true
-unfolding differs
-differs_at objects o k found number is =
-    ap (λ (d : Dbref). option_map_or (differs_from o) (option_and_then (slice_get objects) (index_of d)) true) number ∙ ap (λ (x : Option Stored). option_map_or (differs_from o) x true) is
-
-not_false : (b : Bool) → not b ≡ false → b ≡ true
-not_false true e = refl
-not_false false e = absurd cc
-
-equals : (o r : Stored) → IsStored r → IsStored o → differs_from o r ≡ false → r ≡ o
-equals o r one two e =
-    same_record r o one two ((bytes_eq-Decides (spelling r) (spelling o)).0 (not_false (bytes_eq (spelling r) (spelling o)) (or_parts (nat_lt 4096 (length r.lines)) (not (bytes_eq (spelling r) (spelling o))) e).1))
+kept_at : (objects : List Stored) (o : Stored) (k : ℕ) → o.dbref ≡ dbref_of k → kept_of objects o ≡ slice_get objects k
+kept_at objects o k number = ap (λ (d : Dbref). option_and_then (slice_get objects) (index_of d)) number
 
 none_kept : (objects records : List Stored) (k : ℕ) → length objects ≤ k → Numbered k records → AreKept (differs objects) records []
 none_kept objects [] k le number = refl
-none_kept objects (o ∷ os) k le number = (differs_at objects o k None number.0 (slice_get_past objects k le), none_kept objects os (suc k) (omega (arith, le)) number.1)
+none_kept objects (o ∷ os) k le number = (differs_by objects o None (kept_at objects o k number.0 ∙ slice_get_past objects k le), none_kept objects os (suc k) (omega (arith, le)) number.1)
 
 left_out : (objects front kept records : List Stored) (k : ℕ) → objects ≡ front ++ kept → length front ≡ k → Numbered k records → All IsStored kept → All IsStored records → length kept ≤ length records → AreKept (differs objects) records kept
 left_out objects front [] records k is size number stored fine le = none_kept objects records k (omega (arith, ap length is, length-append front [], size)) number
 left_out objects front (r ∷ kept) [] k is size number stored fine le = absurd (omega (arith, le))
 left_out objects front (r ∷ kept) (o ∷ os) k is size number stored fine le =
     let found : slice_get objects k ≡ Some r = ap (λ n. slice_get objects n) (sym size) ∙ ap (λ l. slice_get l (length front)) is ∙ seam front (r ∷ kept) in (
-      (λ e. equals o r (All-head IsStored r kept stored) (All-head IsStored o os fine) (sym (differs_at objects o k (Some r) number.0 found) ∙ e)),
+      (λ e. equals o r (All-head IsStored r kept stored) (All-head IsStored o os fine) (sym (differs_by objects o (Some r) (kept_at objects o k number.0 ∙ found)) ∙ e)),
       left_out objects (front ++ r ∷ []) kept os (suc k) (is ∙ sym (append_assoc front (r ∷ []) kept)) (more_size front r k size) number.1 (All-tail IsStored r kept stored) (All-tail IsStored o os fine) (omega (arith, le)),
     )
 
@@ -213,47 +189,49 @@ laid_batch : (payload : List ℕ) (b : Batch) (w : World) (objects : List Stored
 unfolding laid laid_over
 laid_batch payload b w objects reads places = ap (λ r. option_and_then (λ x. laid_over x w) (batch_if r)) reads ∙ ap (option_and_then (judged_world b.tune)) places
 
-module _ (all : Bool) (kept : List Stored) (w : World) (es : List Entry) (tune : Tune) where
-  abbrev test : Stored → Bool
-  test o = all || differs kept o
-
-  lays_written : AreKept test (persist es) w.objects → All IsStored (persist es) → length es < 2 ^ 32 → IsTune tune → laid (batch_bytes (written all kept (persist es)) tune) w ≡ judged_world tune (persist es)
-  unfolding written persist
-  lays_written are stored size words =
-      let count : length (filter test (persist es)) < 2 ^ 32 = omega (arith, size, persist_length es 0 es, few test (persist es)) in
-      let numbered = persist_numbered es 0 es in
-      let b : Batch = record { records = filter test (persist es); tune = tune } in
-      laid_batch (batch_bytes (filter test (persist es)) tune) b w (persist es)
-      (whole_reads (filter test (persist es)) tune (count, written_rises test None 0 (persist es) tt numbered stored) words)
-      (all_laid test [] w.objects (persist es) 0 refl numbered are)
+lays_written : (w : World) (es : List Entry) (tune : Tune) → All IsStored (persist es) → All IsStored w.objects → length w.objects ≤ length es → length es < 2 ^ 32 → IsTune tune
+    → laid (batch_bytes (written w.objects (persist es)) tune) w ≡ judged_world tune (persist es)
+unfolding written persist
+lays_written w es tune stored kept le size words =
+    let test = differs w.objects in
+    let long = persist_length es 0 es in
+    let numbered = persist_numbered es 0 es in
+    let count : length (filter test (persist es)) < 2 ^ 32 = omega (arith, size, long, few test (persist es)) in
+    let are : AreKept test (persist es) w.objects = left_out w.objects [] w.objects (persist es) 0 refl refl numbered kept stored (omega (arith, le, long)) in
+    laid_batch (batch_bytes (filter test (persist es)) tune) (record { records = filter test (persist es); tune = tune }) w (persist es)
+    (whole_reads (filter test (persist es)) tune (count, written_rises test None 0 (persist es) tt numbered stored) words)
+    (all_laid test [] w.objects (persist es) 0 refl numbered are)
 
 abbrev some_world : World → Option World
 some_world w = Some w
 
-target_stays : (s : Chosen) → opens_new s.held ≡ false → target s ≡ s
-unfolding target
-target_stays s e = cond-false (opens_new s.held) _ _ e
-
-abbrev target_objects : Chosen → List Stored
-target_objects s = (target s).held.world.objects
+-- What the next batch is laid over: what the store holds, or the starting world.
 
 abbrev objects_of : Chosen → List Stored
 objects_of s = s.held.world.objects
 
-kept_by : (s : Chosen) (es : List Entry) (b : Bool) → opens_new s.held ≡ b → All IsStored (persist es) → All IsStored (objects_of s) → length (target_objects s) ≤ length es
-    → AreKept (λ o. b || differs (objects_of s) o) (persist es) (target_objects s)
-unfolding persist
-kept_by s es true e stored kept le = all_written (λ o. true || differs (objects_of s) o) (λ o. refl) (persist es) (target_objects s) (omega (arith, le, persist_length es 0 es))
-kept_by s es false e stored kept le =
-    let same : objects_of s ≡ target_objects s = ap objects_of (sym (target_stays s e)) in
-    left_out (objects_of s) [] (target_objects s) (persist es) 0 same refl (persist_numbered es 0 es) (subst (All IsStored) same kept) stored (omega (arith, le, persist_length es 0 es))
+target_starts : (s : Chosen) → opens_new s.held ≡ true → objects_of (target s) ≡ start.objects
+unfolding target begin
+target_starts s e = ap objects_of (cond-true (opens_new s.held) _ _ e)
 
-batch_laid : (log : LogState) (es : List Entry) (tune : Tune) → All IsStored (persist es) → All IsStored log.chosen.held.world.objects → length (target_objects log.chosen) ≤ length es → length es < 2 ^ 32 → IsTune tune
+target_stays : (s : Chosen) → opens_new s.held ≡ false → objects_of (target s) ≡ objects_of s
+unfolding target
+target_stays s e = ap objects_of (cond-false (opens_new s.held) _ _ e)
+
+target_has : (P : List Stored → Type 0) (s : Chosen) (b : Bool) → opens_new s.held ≡ b → P start.objects → P (objects_of s) → P (objects_of (target s))
+target_has P s true e first here = subst P (sym (target_starts s e)) first
+target_has P s false e first here = subst P (sym (target_stays s e)) here
+
+target_stored : (s : Chosen) → All IsStored (objects_of s) → All IsStored (objects_of (target s))
+target_stored s = target_has (All IsStored) s (opens_new s.held) refl start_stored
+
+target_covered : (s : Chosen) (n : ℕ) → length (objects_of s) ≤ n → 2 ≤ n → length (objects_of (target s)) ≤ n
+target_covered s n le two = target_has (λ os. length os ≤ n) s (opens_new s.held) refl (omega (arith, two, start_two)) le
+
+batch_laid : (log : LogState) (es : List Entry) (tune : Tune) → All IsStored (persist es) → All IsStored log.chosen.held.world.objects → length (objects_of (target log.chosen)) ≤ length es → length es < 2 ^ 32 → IsTune tune
     → laid (payload_of log (world_batch es tune)) (target log.chosen).held.world ≡ judged_world tune (persist es)
 unfolding payload_of
-batch_laid log es tune stored kept le size words =
-    let opens = opens_new log.chosen.held in
-    lays_written opens (objects_of log.chosen) (target log.chosen).held.world es tune (kept_by log.chosen es opens refl stored kept le) stored size words
+batch_laid log es tune stored kept = lays_written (target log.chosen).held.world es tune stored (target_stored log.chosen kept)
 
 persist_few : (es : List Entry) → length (persist es) ≤ 100000 → length es < 2 ^ 32
 unfolding persist
@@ -267,16 +245,6 @@ delta_lays log es tune stored kept le fine =
     let small = fine_small (persist es) tune fine in
     batch_laid log es tune stored kept le (persist_few es small.few) small.words ∙ cond-true (is_fine (persist es) tune) _ _ fine
 
--- What a new generation lays over are two objects.
-
-target_starts : (s : Chosen) → opens_new s.held ≡ true → length (target_objects s) ≡ 2
-unfolding target begin start
-target_starts s e = ap (λ (x : Chosen). length (objects_of x)) (cond-true (opens_new s.held) _ _ e)
-
-target_covered : (s : Chosen) (n : ℕ) (b : Bool) → opens_new s.held ≡ b → length (objects_of s) ≤ n → 2 ≤ n → length (target_objects s) ≤ n
-target_covered s n true e le two = omega (arith, two, target_starts s e)
-target_covered s n false e le two = subst (λ (x : Chosen). length (objects_of x) ≤ n) (sym (target_stays s e)) le
-
 judged_is : (b : Bool) (made w : World) → cond b (some_world made) None ≡ some_world w → w ≡ made
 judged_is true made w e = sym (same_Some made w e)
 judged_is false made w e = absurd (none-some w e)
@@ -285,7 +253,7 @@ judged_is false made w e = absurd (none-some w e)
 pub lays_whole : (log : LogState) (es : List Entry) (tune : Tune) (w : World) → All IsStored (persist es) → All IsStored log.chosen.held.world.objects → length log.chosen.held.world.objects ≤ length es → 2 ≤ length es
     → length es < 2 ^ 32 → IsTune tune → laid (payload_of log (world_batch es tune)) (target log.chosen).held.world ≡ Some w → w ≡ record { objects = persist es; tune = tune }
 lays_whole log es tune w stored kept le two size words makes =
-    let covered = target_covered log.chosen (length es) (opens_new log.chosen.held) refl le two in
+    let covered = target_covered log.chosen (length es) le two in
     judged_is (is_fine (persist es) tune) (record { objects = persist es; tune = tune }) w (sym (batch_laid log es tune stored kept covered size words) ∙ makes)
 
 persist_length_all : (es : List Entry) → length (persist es) ≡ length es

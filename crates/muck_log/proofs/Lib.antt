@@ -1,11 +1,13 @@
 pub mod Appending
 pub mod Deltas
+pub mod Differing
 pub mod Files
 pub mod Fronts
 pub mod Moments
 pub mod Mounted
 pub mod Mounting
 pub mod Runs
+pub mod Sameness
 pub mod Stores
 pub mod Writing
 pub mod Written

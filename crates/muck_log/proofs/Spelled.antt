@@ -50,13 +50,6 @@ never : {X : Type 0} (b : Bool) → b ≡ false → b ≡ true → X
 never true is not = absurd cc
 never false is not = absurd cc
 
--- what its test says of the next one
-pub all_judged : {X : Type 0} (P : X → Type 0) (xs : List X) (i : ℕ) (x : X) (b : Bool) → i < length xs → x ≡ get_or xs i x → Decides b (P x) → b ≡ true → AllLeft P xs i → AllLeft P xs (i + 1)
-all_judged P xs i x b lt e tells is left = all_next P xs i x lt e (tells.0 is) left
-
-pub all_stops : {X : Type 0} (P : X → Type 0) (xs : List X) (i : ℕ) (x : X) (b : Bool) → i < length xs → x ≡ get_or xs i x → Decides b (P x) → b ≡ false → AllLeft P xs i → All P xs → ⊥
-all_stops P xs i x b lt e tells is left all = never b is (tells.1 (all_here P xs i x lt e left all))
-
 -- A whole run, where what is left goes on behind the last one.
 pub record RunLeft {A K : Type 0} (key : A → K) (rule : Option K → A → Type 0) (xs : List A) (before : Option K) (i : ℕ) : Type 0 where
   pub whole : Run key rule before (drop i xs) → Run key rule None xs

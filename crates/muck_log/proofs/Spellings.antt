@@ -1,10 +1,10 @@
 -- The records of the starting world have spellings.
-use Rattle.std.proofs.Common.{◌≡◌, List, [], ◌∷◌, ◌++◌, refl, sym, ap, subst, ◌∙◌, arith}
+use Rattle.std.proofs.Common.{◌≡◌, List, [], ◌∷◌, ◌++◌, length, refl, sym, ap, subst, ◌∙◌, arith}
 use Rattle.std.specs.Prelude.{All}
 use Rattle.std.proofs.lemmas.List.Elements.{All-nil, All-cons}
 use Rattle.muck_codec.specs.declared.stored.Stored.{Stored}
 use Rattle.muck_codec.specs.Stored.{IsStored}
-use Rattle.muck_log.specs.World.{room_zero, player_one, first_digest}
+use Rattle.muck_log.specs.World.{start, room_zero, player_one, first_digest}
 
 room_stored : IsStored room_zero
 unfolding room_zero
@@ -34,8 +34,17 @@ player_stored = record {
   digest = ((omega arith, omega arith), refl);
 }
 
+pub start_two : length start.objects ≡ 2
+unfolding start
+start_two = refl
+
+pub start_stored : All IsStored start.objects
+unfolding start
+start_stored = All-cons IsStored room_zero (player_one ∷ []) room_stored (All-cons IsStored player_one [] player_stored (All-nil IsStored))
+
 -- the two records, one behind the other
 pub both_stored : (none one two : List Stored) (room player : Stored) → none ≡ [] → one ≡ none ++ room ∷ [] → two ≡ one ++ player ∷ [] → room ≡ room_zero → player ≡ player_one → All IsStored two
+unfolding start
 both_stored none one two room player empty first second is_room is_player =
-    let whole : two ≡ room_zero ∷ player_one ∷ [] = second ∙ ap (λ l. l ++ player ∷ []) (first ∙ ap (λ l. l ++ room ∷ []) empty) ∙ ap (λ o. o ∷ player ∷ []) is_room ∙ ap (λ o. room_zero ∷ o ∷ []) is_player in
-    subst (All IsStored) (sym whole) (All-cons IsStored room_zero (player_one ∷ []) room_stored (All-cons IsStored player_one [] player_stored (All-nil IsStored)))
+    let whole : two ≡ start.objects = second ∙ ap (λ l. l ++ player ∷ []) (first ∙ ap (λ l. l ++ room ∷ []) empty) ∙ ap (λ o. o ∷ player ∷ []) is_room ∙ ap (λ o. room_zero ∷ o ∷ []) is_player in
+    subst (All IsStored) (sym whole) start_stored

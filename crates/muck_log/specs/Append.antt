@@ -29,9 +29,10 @@ pub record IsLaidNext (old new : LogState) (payload : List ℕ) : Type 0 where
   pub world : laid payload (target old.chosen).held.world ≡ Some new.chosen.held.world
   pub rest : new ≡ record old { chosen = record { second = old.chosen.second; place = old.chosen.place; held = record { generation = old.chosen.held.generation; number = old.chosen.held.number; count = old.chosen.held.count; last = old.chosen.held.last; world = new.chosen.held.world } } }
 
--- the bytes of a batch: its records that differ from what is kept, or all of them where it opens a new generation
+-- the bytes of a batch: its records that differ from the world that it is laid over, which is the starting one where it opens a new
+-- generation
 unfoldable pub payload_of : LogState → Batch → List ℕ
-payload_of log batch = batch_bytes (written (opens_new log.chosen.held) log.chosen.held.world.objects batch.records) batch.tune
+payload_of log batch = batch_bytes (written (target log.chosen).held.world.objects batch.records) batch.tune
 
 -- the batch is laid, or it can't be, and the log is stale
 abbrev pub IsTried : Bool → LogState → LogState → List ℕ → Type 0
@@ -71,6 +72,12 @@ pub record IsReady (old new : LogState) (payload : List ℕ) (ready : Ready) : T
   pub room : (target old.chosen).place + more_of old payload ≤ old.most
   pub small : old.most < 2 ^ 63
   pub lays : IsLaidNext old new payload
+
+-- this is why P isn't so, unless memory ran out
+abbrev pub IsUnspelled : Type 0 → LogFault → Type 0
+IsUnspelled P NoMemory = Unit {0}
+IsUnspelled P Unfit = P → ⊥
+IsUnspelled P fault = ⊥
 
 -- the refusals before any write
 abbrev pub IsRefused : LogState → LogState → Batch → LogFault → Type 0

@@ -129,10 +129,14 @@ laid payload world = option_and_then (λ b. laid_over b world) (batch_if (whole_
 
 -- What is written.
 
+-- what is kept of the object of a record
+abbrev pub kept_of : List Stored → Stored → Option Stored
+kept_of objects o = option_and_then (slice_get objects) (index_of o.dbref)
+
 -- what is kept of an object isn't this record
 unfoldable pub differs : List Stored → Stored → Bool
-differs objects o = option_map_or (λ kept. nat_lt 4096 (length kept.lines) || not (bytes_eq (spelling kept) (spelling o))) (option_and_then (slice_get objects) (index_of o.dbref)) true
+differs objects o = option_map_or (λ kept. nat_lt 4096 (length kept.lines) || not (bytes_eq (spelling kept) (spelling o))) (kept_of objects o) true
 
--- the records that are written: all of them, or those that differ from what is kept
-unfoldable pub written : Bool → List Stored → List Stored → List Stored
-written all objects records = filter (λ o. all || differs objects o) records
+-- the records that are written over these objects: those that differ from them
+unfoldable pub written : List Stored → List Stored → List Stored
+written objects records = filter (differs objects) records

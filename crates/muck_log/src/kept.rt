@@ -1,14 +1,19 @@
 // What is kept of a store.
-ghost use Rattle.std.specs.Prelude.{◌≡◌, ◌≤◌, ◌<◌, ◌^◌, ◌++◌, List, length, reverse, bytes_eq, ◌||◌, true, false, Some, None, IfOk, OnOk, All};
+ghost use Rattle.std.specs.Prelude.{◌≡◌, ◌≤◌, ◌<◌, ◌^◌, ◌++◌, List, length, reverse, true, false, Some, None, IfOk, IfErr, OnOk, All};
+ghost use Rattle.std.specs.Bool.{Decides};
 ghost use Rattle.std.specs.List.{flat_map, list_all};
 ghost use Rattle.muck_model.specs.Bytes.{text_fault};
 ghost use Rattle.muck_codec.specs.Spelling.{spelling};
 ghost use Rattle.muck_codec.specs.Stored.{IsStored};
 ghost use Rattle.muck_codec.specs.Batches.{batch_bytes, HasFewLines};
-ghost use Rattle.muck_log.specs.World.{World, room_zero, first_digest, player_one, first_tune, start, lost, is_between, tune_fits, is_fine, IsFine, placed, all_placed, laid, differs, written};
+ghost use Rattle.muck_log.specs.World.{World, room_zero, first_digest, player_one, first_tune, start, lost, is_between, tune_fits, is_fine, IsFine, placed, all_placed, laid, kept_of, differs, written};
+ghost use Rattle.muck_log.specs.Append.{IsUnspelled};
 ghost use Rattle.muck_store.specs.Limits.{fits};
 ghost use Rattle.muck_log.specs.Head.{IsLaid, IsPlaced, ArePlaced};
 
+use crate::LogFault;
+use crate::same::is_same;
+use crate::storable::is_storable;
 use muck_codec::{Batch, CodecFault, Stored, put_record, put_tune, take_batch};
 use muck_model::{Dbref, Flags, Kind, Line, LineFault, LineList, NoMemory, Row, Tune};
 use muck_store::{fits, is_whole};
@@ -262,66 +267,55 @@ impl Kept {
     }
 }
 
-// Whether two records are one, by their bytes.
-fn is_same(alloc: Global, a: &Stored, b: &Stored) -> Result<bool, NoMemory>
-    requires a { length a.now.lines ≤ 4096 }
-    requires b { length b.now.lines ≤ 4096 }
-    ensures { IfOk result (λ same. same ≡ bytes_eq (spelling a.now) (spelling b.now)) }
-{
-    let mut left = Vec::new(alloc);
-    let mut right = Vec::new(alloc);
-    put_record(alloc, a, &mut left)?;
-    put_record(alloc, b, &mut right)?;
-    Ok(left.as_slice() == right.as_slice())
-}
-
-// Whether what is kept of an object isn't this record.
-#[tactic(auto, unfolding(crate::specs::World::differs))]
-fn differs(alloc: Global, objects: &[Stored], object: &Stored) -> Result<bool, NoMemory>
-    requires { length object.now.lines ≤ 4096 }
-    ensures { IfOk result (λ yes. yes ≡ differs objects.now object.now) }
+// Whether a record is what is kept of its object.
+fn is_kept(objects: &[Stored], object: &Stored) -> bool
+    ensures { Decides result (kept_of objects.now object.now ≡ Some object.now) }
 {
     if object.dbref.0 < 0 {
-        return Ok(true);
+        return false;
     }
     match objects.get(object.dbref.0 as usize) {
-        Some(kept) if kept.lines.len() <= 4096 => Ok(!is_same(alloc, kept, object)?),
-        _ => Ok(true),
+        Some(kept) => is_same(kept, object),
+        None => false,
     }
 }
 
-// Whether a record is written.
-fn is_written(
-    alloc: Global,
-    all: bool,
-    objects: &[Stored],
-    object: &Stored,
-) -> Result<bool, NoMemory>
-    requires { length object.now.lines ≤ 4096 }
-    ensures { IfOk result (λ yes. yes ≡ (all || differs objects.now object.now)) }
+// Whether a record differs from what is kept of its object; `Unfit` where it does and has no spelling.
+#[tactic(auto, using(crate::proofs::Differing::kept_stored, crate::proofs::Differing::kept_left, crate::proofs::Differing::new_written))]
+fn is_written(alloc: Global, objects: &[Stored], object: &Stored) -> Result<bool, LogFault>
+    requires kept { All IsStored objects.now }
+    ensures written { IfOk result (λ yes. yes ≡ differs objects.now object.now) }
+    ensures storable { OnOk result (IsStored object.now) }
+    ensures err { IfErr result (IsUnspelled (IsStored object.now)) }
 {
-    if all {
-        return Ok(true);
+    if is_kept(objects, object) {
+        return Ok(false);
     }
-    Ok(differs(alloc, objects, object)?)
+    if !is_storable(alloc, object)? {
+        return Err(LogFault::Unfit);
+    }
+    Ok(true)
 }
 
-// Writes the records that differ from what is kept, or all of them, and answers how many.
+// Writes the records that differ from these objects, and answers how many; `Unfit` where one has no spelling.
+#[tactic(auto, using(crate::proofs::Refusing::unspelled_here))]
 fn put_written(
     alloc: Global,
-    all: bool,
     objects: &[Stored],
     records: &[Stored],
     out: &mut Vec<u8>,
-) -> Result<u32, NoMemory>
+) -> Result<u32, LogFault>
     requires few { length records.now < 2 ^ 32 }
     requires lines { HasFewLines records.now }
-    ensures count { IfOk result (λ n. n ≡ length (written all objects.now records.now)) }
-    ensures bytes { OnOk result (out.new.items ≡ out.old.items ++ flat_map spelling (written all objects.now records.now)) }
+    requires kept { All IsStored objects.now }
+    ensures count { IfOk result (λ n. n ≡ length (written objects.now records.now)) }
+    ensures bytes { OnOk result (out.new.items ≡ out.old.items ++ flat_map spelling (written objects.now records.now)) }
+    ensures storable { OnOk result (All IsStored records.now) }
+    ensures err { IfErr result (IsUnspelled (All IsStored records.now)) }
 {
     let mut count = 0;
     for object in records {
-        if is_written(alloc, all, objects, object)? {
+        if is_written(alloc, objects, object)? {
             put_record(alloc, object, out)?;
             count += 1;
         }
@@ -330,17 +324,19 @@ fn put_written(
 }
 
 impl Kept {
-    // The bytes of a batch: its records that differ from what is kept, or all of them.
+    // The bytes of a batch that is laid over it: its records that differ from what is kept. `Unfit` where a record has no
+    // spelling.
     #[tactic(auto, unfolding(muck_codec::specs::Batches::batch_bytes))]
-    pub(crate) fn payload(&self, all: bool, batch: &Batch) -> Result<Vec<u8>, NoMemory>
+    pub(crate) fn payload(&self, batch: &Batch) -> Result<Vec<u8>, LogFault>
         requires few { length batch.now.records < 2 ^ 32 }
         requires lines { HasFewLines batch.now.records }
-        ensures { IfOk result (λ v. v.items ≡ batch_bytes (written all self.now.objects batch.now.records) batch.now.tune) }
+        ensures bytes { IfOk result (λ v. v.items ≡ batch_bytes (written self.now.objects batch.now.records) batch.now.tune) }
+        ensures storable { OnOk result (All IsStored batch.now.records) }
+        ensures err { IfErr result (IsUnspelled (All IsStored batch.now.records)) }
     {
         let mut bytes = Vec::new(self.alloc);
         let count = put_written(
             self.alloc,
-            all,
             &self.objects,
             batch.records.as_slice(),
             &mut bytes,

@@ -8,6 +8,7 @@ mod kept;
 mod log;
 mod mount;
 mod reader;
+mod same;
 mod storable;
 mod write;
 

@@ -10,12 +10,11 @@ ghost use Rattle.muck_store.specs.Forms.{persist, world_batch};
 ghost use Rattle.muck_log.specs.File.{after_number, begin};
 ghost use Rattle.muck_log.specs.Mount.{IsLoaded, IsLoadFault};
 ghost use Rattle.muck_log.specs.Store.{LeavesBoth, MayBeAt, IsMounted, LogState, target, opens_new, next_body, after_batch, stored, framed, pick, IsDone};
-ghost use Rattle.muck_log.specs.Append.{IsEither, IsAppended, IsTarget, IsTried, IsReady, IsRefused, IsFinished, IsNext, IsTouching, LoadsEither, IsPartial, payload_of};
+ghost use Rattle.muck_log.specs.Append.{IsEither, IsAppended, IsTarget, IsTried, IsReady, IsRefused, IsFinished, IsNext, IsTouching, LoadsEither, IsUnspelled, payload_of};
 ghost use Rattle.muck_codec.specs.Batches.{HasFewLines};
 ghost use Rattle.muck_codec.specs.Stored.{IsStored};
 
 use crate::reader::Reader;
-use crate::storable::are_storable;
 use crate::write::put_target;
 use crate::{Kept, LogFault};
 use muck_codec::Batch;
@@ -100,7 +99,8 @@ fn frame(alloc: Global, body: &[u8]) -> Result<Vec<u8>, AllocError>
 }
 
 impl Log {
-    /// Whether the next batch opens a new generation in the other file, and so has to be full. It takes no memory.
+    /// Whether the next batch opens a new generation in the other file, and so is laid over the starting world. It takes no
+    /// memory.
     #[tactic(auto, unfolding(crate::specs::Store::opens_new))]
     pub fn opens_new(&self) -> bool
         ensures { result ≡ opens_new self.now.chosen.held }
@@ -229,21 +229,23 @@ impl Log {
         Ok(true)
     }
 
-    // Whether a batch has a record of every object that is kept, and each of its records has a spelling.
-    fn can_take(&self, batch: &Batch) -> Result<bool, NoMemory>
-        ensures storable { IfOk result (λ yes. yes ≡ true → All IsStored batch.now.records) }
-        ensures covers { IfOk result (λ yes. yes ≡ true → length self.now.chosen.held.world.objects ≤ length batch.now.records) }
-        ensures partial { IfOk result (λ yes. yes ≡ false → IsPartial self.now batch.now.records) }
-        ensures kept { OnOk result (All IsStored self.now.chosen.held.world.objects) }
+    // The bytes of a batch over the world that it is laid over. `Unfit` where a record has no spelling.
+    #[tactic(auto, unfolding(crate::specs::Append::payload_of, crate::specs::Store::target, crate::specs::File::begin))]
+    fn payload(&self, batch: &Batch) -> Result<Vec<u8>, LogFault>
+        requires few { length batch.now.records < 2 ^ 32 }
+        requires lines { HasFewLines batch.now.records }
+        ensures bytes { IfOk result (λ payload. payload.items ≡ payload_of self.now batch.now) }
+        ensures storable { OnOk result (All IsStored batch.now.records) }
+        ensures err { IfErr result (IsUnspelled (All IsStored batch.now.records)) }
     {
-        if batch.records.len() < self.world.objects().len() {
-            return Ok(false);
+        if self.opens_new() {
+            return Kept::starting(self.alloc)?.payload(batch);
         }
-        are_storable(self.alloc, batch.records.as_slice())
+        self.world.payload(batch)
     }
 
     // All that takes memory, and all refusals but those of the disks.
-    #[tactic(auto, unfolding(crate::specs::Append::more_of, crate::specs::Append::payload_of, crate::specs::Store::next_body))]
+    #[tactic(auto, unfolding(crate::specs::Append::more_of, crate::specs::Store::next_body), using(crate::proofs::Refusing::refused_unspelled))]
     fn prepare(&mut self, batch: &Batch) -> Result<Ready, LogFault>
         requires few { length batch.now.records < 2 ^ 32 }
         requires lines { HasFewLines batch.now.records }
@@ -256,10 +258,10 @@ impl Log {
         if self.stale {
             return Err(LogFault::Stale);
         }
-        if !self.can_take(batch)? {
+        if batch.records.len() < self.world.objects().len() {
             return Err(LogFault::Unfit);
         }
-        let payload = self.world.payload(self.opens_new(), batch)?;
+        let payload = self.payload(batch)?;
         let number = self.next();
         let target = self.target();
         let body = encode(self.alloc, target.generation, number, &payload)?;
@@ -304,8 +306,8 @@ impl Log {
 
 impl Log {
     /// Writes a batch of the record of every object, by rising number from 0 on, and answers its number. Records that equal
-    /// what is kept are left out of what is written, unless a new generation is opened. All memory is taken before the
-    /// first write.
+    /// those of the world that the batch is laid over are left out of what is written: what is kept, or the starting world
+    /// where a new generation is opened. All memory is taken before the first write.
     ///
     /// `StoreFull` comes exactly where such a batch would pass the limit, before any write; the log stays as it was then.
     /// `Unfit` comes before any write too: where the batch has fewer records than objects are kept, or one that has no

@@ -1,4 +1,4 @@
-// Whether records have a spelling, by which they are written and read again.
+// Whether a record has a spelling, by which it is written and read again.
 ghost use Rattle.std.specs.Prelude.{◌≡◌, ◌<◌, ◌^◌, true, false, None, All, IfOk, OnOk};
 ghost use Rattle.std.specs.Bool.{Decides};
 ghost use Rattle.std.specs.Option.{option_copied};
@@ -130,8 +130,9 @@ fn are_properties(alloc: Global, properties: &[Property]) -> Result<bool, NoMemo
     Ok(true)
 }
 
+// Whether a record has a spelling.
 #[tactic(auto, using(crate::proofs::Spelled::not_lines, crate::proofs::Spelled::stored_by))]
-fn is_storable(alloc: Global, record: &Stored) -> Result<bool, NoMemory>
+pub(crate) fn is_storable(alloc: Global, record: &Stored) -> Result<bool, NoMemory>
     ensures { IfOk result (λ yes. Decides yes (IsStored record.now)) }
 {
     see_head(record);
@@ -143,18 +144,4 @@ fn is_storable(alloc: Global, record: &Stored) -> Result<bool, NoMemory>
         return Ok(false);
     }
     are_properties(alloc, record.props.as_slice())
-}
-
-// Whether each record has a spelling.
-#[tactic(auto, using(crate::proofs::Spelled::all_left, crate::proofs::Spelled::all_judged, crate::proofs::Spelled::all_stops, crate::proofs::Spelled::all_ends))]
-pub(crate) fn are_storable(alloc: Global, records: &[Stored]) -> Result<bool, NoMemory>
-    ensures yes { IfOk result (λ yes. yes ≡ true → All IsStored records.now) }
-    ensures no { IfOk result (λ yes. yes ≡ false → All IsStored records.now → ⊥) }
-{
-    for record in records {
-        if !is_storable(alloc, record)? {
-            return Ok(false);
-        }
-    }
-    Ok(true)
 }

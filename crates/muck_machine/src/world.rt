@@ -127,6 +127,7 @@ impl World {
     /// The history, for contracts alone: each entry of it is lawful where it stands. It takes no memory.
     pub fn into_tale(self) -> Tale
         ensures entries { result.entries ≡ self.entries }
+        ensures notes { result.notes ≡ self.notes }
         ensures lawful { AllLawful self.start result.entries }
     {
         let World { past, .. } = self;

@@ -9,6 +9,7 @@ pub mod Round
 pub mod AliveCount
 pub mod MetChains
 pub mod MetLists
+pub mod Changing
 pub mod Stored
 pub mod StoredForms
 pub mod StoredTies

@@ -1,3 +1,4 @@
+pub mod Changes
 pub mod Forms
 pub mod Hung
 pub mod Limits

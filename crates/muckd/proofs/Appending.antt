@@ -1,15 +1,14 @@
 -- What the log answers to the batch of a whole world.
-use Rattle.std.proofs.Common.{◌≡◌, ◌⊎◌, inl, inr, ℕ, ◌≤◌, Bool, true, false, ◌&&◌, List, [], ◌∷◌, length, refl, sym, ap, subst, ◌∙◌, arith, Option, Some, None, Result, Ok, Err, OnOk, IfOk}
-use Rattle.std.proofs.lemmas.Bool.{le-leb, and_parts}
-use Rattle.muck_disk.specs.Images.{Only}
+use Rattle.std.proofs.Common.{◌≡◌, ◌⊎◌, inl, inr, ℕ, ◌≤◌, Bool, true, false, ◌&&◌, List, [], ◌∷◌, length, refl, sym, ap, subst, ◌∙◌, arith, Option, Some, None, Ok, Err}
+use Rattle.std.proofs.lemmas.Bool.{le-leb}
 use Rattle.muck_codec.specs.declared.stored.Batch.{Batch}
 use Rattle.muck_log.specs.World.{World as Kept, laid, is_between, tune_fits}
 use Rattle.muck_log.specs.Store.{Chosen, LogState, LeavesBoth, IsMounted, target, after_batch, stored}
-use Rattle.muck_log.specs.Append.{IsAppended, IsEither, IsNext, IsTouching, LoadsEither, payload_of}
+use Rattle.muck_log.specs.Append.{IsAppended, IsNext, IsTouching, LoadsEither, payload_of}
 use Rattle.muck_log.specs.declared.fault.LogFault.{LogFault}
 use Rattle.muck_log.specs.declared.fault.LogFault.TheVariants.{NoMemory, DiskFault, Damaged, StoreFull, Unfit, Stale}
 use Rattle.muck_model.specs.declared.tune.Tune.{Tune}
-use Rattle.spec_admin.specs.Parameters.{parameter_of, parameter_most, IsInRange}
+use Rattle.spec_admin.specs.Parameters.{IsInRange}
 use Rattle.spec_admin.specs.declared.word.Parameter.TheVariants.{InstrSlice, PreemptUnits, M1Units, M2Units, ProcessLimit, PlayerProcesses, MpiCommands, DumpInterval}
 use Rattle.spec_live.specs.Objects.{Entry, object_in, kind_in}
 use Rattle.spec_live.specs.Consistent.{IsConsistent}

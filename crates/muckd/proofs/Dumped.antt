@@ -1,17 +1,16 @@
 -- A dump as a part of a run: it begins, and comes out.
-use Rattle.std.proofs.Common.{◌≡◌, inl, inr, ℕ, Bool, true, false, List, [], ◌∷◌, ◌++◌, refl, sym, ap, subst, ◌∙◌, Option, Some, None}
+use Rattle.std.proofs.Common.{◌≡◌, inl, inr, ℕ, Bool, true, false, List, [], ◌∷◌, refl, ap, subst, ◌∙◌, Option, None}
 use Rattle.std.proofs.lemmas.Bool.{cond-false, eq-eqb}
 use Rattle.std.specs.Prelude.{is_none, ◌&&◌, ◌||◌, ◌==◌}
-use Rattle.muck_model.specs.declared.event.Entry.{Entry}
 use Rattle.muck_model.specs.declared.event.Event.{Event}
 use Rattle.muck_model.specs.declared.event.Event.TheVariants.{Cut, Stored, DumpFailed, Died}
 use Rattle.muck_model.specs.declared.note.Note.{Note}
-use Rattle.spec_events.specs.World.{World, Dumps, runs_dump}
+use Rattle.spec_events.specs.World.{World, runs_dump}
 use Rattle.spec_events.specs.Steps.{effect, is_lawful, is_died, makes_dumps, is_dump_due}
 use Rattle.spec_events.specs.Histories.{History, now, entered, noted, Longer, by_porter}
 use Rattle.spec_events.proofs.Living.{dead-happened}
 use Rattle.spec_events.proofs.Runs.{longer_one, longer_noted, longer_on, now-longer, now-noted}
-use Rattle.muck_script.specs.Story.{Dumped, stored, failed, dumping, told}
+use Rattle.muck_script.specs.Story.{stored, failed, dumping, told}
 use Rattle.muckd.specs.inner.Dumps.{ending_event, DumpsLast}
 use Rattle.muckd.specs.inner.Plays.{Plays, Breaks}
 use Rattle.muckd.proofs.Parts.{appends_nothing, no_ending}

@@ -1,12 +1,12 @@
 -- Each way in which a dump comes out, with what is kept of the disks.
-use Rattle.std.proofs.Common.{◌≡◌, ◌⊎◌, inl, inr, ℕ, suc, ◌+◌, ◌<◌, ◌≤◌, true, false, List, [], ◌∷◌, ◌++◌, length, refl, sym, ap, subst, ◌∙◌, arith, Option, Some, None, Result, Ok, Err}
+use Rattle.std.proofs.Common.{◌≡◌, ◌⊎◌, inl, inr, ℕ, ◌+◌, ◌<◌, ◌≤◌, List, [], ◌∷◌, ◌++◌, length, refl, sym, ap, subst, ◌∙◌, arith, Option, Some, None, Result, Ok, Err}
 use Rattle.std.specs.Prelude.{slice_get}
 use Rattle.muck_codec.specs.declared.stored.Batch.{Batch}
 use Rattle.muck_io.specs.Faults.{Rose}
 use Rattle.muck_log.specs.File.{after_number}
-use Rattle.muck_log.specs.World.{World as Kept, laid}
-use Rattle.muck_log.specs.Store.{Chosen, LogState, LeavesBoth, IsMounted, target, after_batch}
-use Rattle.muck_log.specs.Append.{IsNext, LoadsEither, more_of, payload_of}
+use Rattle.muck_log.specs.World.{World as Kept}
+use Rattle.muck_log.specs.Store.{Chosen, LogState, LeavesBoth, target, after_batch}
+use Rattle.muck_log.specs.Append.{LoadsEither, more_of, payload_of}
 use Rattle.muck_log.specs.declared.fault.LogFault.{LogFault}
 use Rattle.muck_log.specs.declared.fault.LogFault.TheVariants.{DiskFault, StoreFull}
 use Rattle.muck_model.specs.declared.event.Entry.{Entry}
@@ -16,7 +16,7 @@ use Rattle.muck_store.specs.Forms.{persist, world_batch}
 use Rattle.spec_live.specs.Consistent.{IsConsistent}
 use Rattle.spec_live.specs.Lives.{Live}
 use Rattle.spec_events.specs.World.{World, askers_of}
-use Rattle.spec_events.specs.Dumping.{dump_stored, dump_failed, told_each}
+use Rattle.spec_events.specs.Dumping.{dump_stored, dump_failed}
 use Rattle.spec_events.specs.Steps.{effect}
 use Rattle.spec_events.specs.Histories.{History, after, now, entered, noted, by_porter}
 use Rattle.spec_events.proofs.Quietly.{quiet_told_each}
@@ -30,9 +30,8 @@ use Rattle.spec_dumps.proofs.Noting.{front_noted}
 use Rattle.spec_dumps.proofs.Cutting.{rests_on, cut_noted}
 use Rattle.spec_dumps.proofs.Storing.{append_moves, stored_rests, stored_whole}
 use Rattle.spec_dumps.proofs.Failing.{failed_rests}
-use Rattle.muckd.specs.declared.playing.RunFault.{RunFault}
 use Rattle.muckd.specs.declared.playing.RunFault.TheVariants.{NoMemory}
-use Rattle.muckd.specs.inner.Dumps.{note_of, HasRisen, Appended, Dumps, IsFull, IsDumpFault}
+use Rattle.muckd.specs.inner.Dumps.{note_of, HasRisen, Appended, Dumps, IsFull}
 
 -- What the entries of a dump leave of the world.
 

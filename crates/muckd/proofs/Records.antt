@@ -1,15 +1,12 @@
 -- The records of a world within its limits can be handed to the log.
-use Rattle.std.proofs.Common.{◌≡◌, ℕ, zero, suc, ◌<◌, ◌≤◌, ◌^◌, List, [], ◌∷◌, length, Option, Some, refl, sym, ap, subst, ◌∙◌, arith}
-use Rattle.std.specs.Prelude.{All, slice_get}
-use Rattle.std.specs.Option.{option_map}
+use Rattle.std.proofs.Common.{◌≡◌, ℕ, suc, ◌<◌, ◌≤◌, ◌^◌, List, [], ◌∷◌, length, refl, sym, ap, subst, ◌∙◌, arith}
 use Rattle.std.proofs.lemmas.List.Elements.{All-nil, All-cons}
 use Rattle.muck_codec.specs.declared.stored.Stored.{Stored}
 use Rattle.muck_codec.specs.declared.stored.Batch.{Batch}
 use Rattle.muck_codec.specs.Batches.{HasFewLines}
-use Rattle.muck_db.specs.inner.Limits.{FitsLimits, IsWithinLimits}
+use Rattle.muck_db.specs.inner.Limits.{IsWithinLimits}
 use Rattle.muck_model.specs.declared.tune.Tune.{Tune}
 use Rattle.muck_store.specs.Forms.{stored_of, stored_from, persist, world_batch}
-use Rattle.spec_live.specs.declared.object.Object.{Object}
 use Rattle.spec_live.specs.Objects.{Entry, object_in}
 use Rattle.spec_live.specs.Consistent.{IsConsistent}
 

@@ -10,7 +10,6 @@ ghost use Rattle.muck_model.specs.declared.tune.Tune.{Tune};
 ghost use Rattle.muck_log.specs.World.{tune_fits};
 ghost use Rattle.muck_store.specs.Forms.{persist, world_batch};
 ghost use Rattle.spec_admin.specs.Parameters.{IsInRange};
-ghost use Rattle.spec_dumps.specs.Fronts.{file_most};
 ghost use Rattle.spec_dumps.specs.Holding.{Keeps, Rests};
 ghost use Rattle.spec_events.specs.Histories.{History, now, entered, noted, by_porter};
 ghost use Rattle.spec_events.specs.World.{runs_dump};
@@ -216,14 +215,16 @@ fn dump_mounted<D: Disk>(
             Ok(()) => Ok(None),
             Err(NoMemory) => Err(RunFault::NoMemory),
         },
-        // (a batch of a whole world is never unfit)
-        Err(LogFault::NoMemory | LogFault::Unfit) => {
-            world.died(PORTER);
-            Err(RunFault::NoMemory)
-        }
-        Err(fault) => match end_dump(world, first, second, k, false) {
-            Ok(()) => Ok(Some(fault)),
-            Err(NoMemory) => Err(RunFault::NoMemory),
+        Err(fault) => match fault {
+            // (a batch of a whole world is never unfit)
+            LogFault::NoMemory | LogFault::Unfit => {
+                world.died(PORTER);
+                Err(RunFault::NoMemory)
+            }
+            _ => match end_dump(world, first, second, k, false) {
+                Ok(()) => Ok(Some(fault)),
+                Err(NoMemory) => Err(RunFault::NoMemory),
+            },
         },
     }
 }
@@ -253,10 +254,12 @@ pub fn dump<D: Disk>(
 {
     match store.mount(alloc, first, second) {
         Ok(()) => dump_mounted(world, store, first, second),
-        Err(LogFault::NoMemory) => {
-            world.died(PORTER);
-            Err(RunFault::NoMemory)
-        }
-        Err(fault) => dump_unmounted(world, store, first, second, fault),
+        Err(fault) => match fault {
+            LogFault::NoMemory => {
+                world.died(PORTER);
+                Err(RunFault::NoMemory)
+            }
+            _ => dump_unmounted(world, store, first, second, fault),
+        },
     }
 }

@@ -93,7 +93,7 @@ file_most = 2 ^ 40
 abbrev pub log_of : Chosen → LogState
 log_of s = record { chosen = s; close = false; other_close = false; stale = false; most = file_most }
 
--- what a dump of the world w writes on the store s: the records that differ from what is stored, or all where it opens a new generation
+-- what a dump of the world w writes on the store s: the records that differ from what is stored, or from the starting world where it opens a new generation
 abbrev pub dump_payload : Chosen → World → List ℕ
 dump_payload s w = payload_of (log_of s) (world_batch w.live.objects w.live.board.tune)
 

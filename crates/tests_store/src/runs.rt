@@ -15,9 +15,6 @@ const FIRST_RUN: [u8; 67] = [
     0, 0, 8, 0, 0, 0, 3, 132, 0,
 ];
 
-// The records of Room Zero and of One, which only a new generation writes: fields of fixed size, name, counts and digest.
-const START_SIZE: usize = (36 + (2 + 9) + 8 + 2 + 2) + (36 + (2 + 3) + 8 + 2 + (2 + 80));
-
 fn is_loading(alloc: Global, bytes: &[u8]) -> Result<bool, NoMemory> {
     let mut first = MemDisk::new(alloc, bytes)?;
     let mut second = MemDisk::new(alloc, &[])?;
@@ -98,10 +95,10 @@ fn a_new_generation_after_64_batches(rt: HostRuntime) -> Result<(), Fail> {
             assert_eq!(rt; first.bytes().len(), 4_225);
         }
         if n == 65 {
-            assert_eq!(rt; second.bytes().len(), 67 + START_SIZE);
+            assert_eq!(rt; second.bytes().len(), 67);
         }
         if n == 66 {
-            assert_eq!(rt; second.bytes().len(), 133 + START_SIZE);
+            assert_eq!(rt; second.bytes().len(), 133);
         }
     }
     assert_eq!(rt; first.bytes().len(), 4_225);

@@ -3,13 +3,14 @@ ghost use Rattle.std.specs.Prelude.{◌≡◌, true, false, is_some, length, IfO
 ghost use Rattle.muck_model.specs.declared.event.Event.{Event};
 ghost use Rattle.spec_live.specs.Consistent.{IsConsistent};
 ghost use Rattle.muck_db.specs.inner.Limits.{IsWithinLimits};
-ghost use Rattle.muck_store.specs.Forms.{world_batch};
+ghost use Rattle.muck_store.specs.Changes.{LeavesOut};
+ghost use Rattle.muck_store.specs.Forms.{persist};
 ghost use Rattle.spec_admin.specs.Parameters.{IsInRange};
 ghost use Rattle.spec_events.specs.Steps.{is_lawful};
 ghost use Rattle.spec_events.specs.Histories.{now, entered, noted};
 
 use crate::world::World;
-use muck_codec::Batch;
+use muck_codec::{Batch, Stored};
 use muck_disk::Disk;
 use muck_model::{Entry, Event, NoMemory};
 use std::marker::Brand;
@@ -30,19 +31,28 @@ impl World {
         state.dumps.is_asked()
     }
 
-    /// A dump of this number begins: what it hands to the log. The world is consistent then, every object within the limits, and
-    /// what is tuned in its range. It copies the record of each object, which costs as much as the world is large. After `NoMemory`
-    /// the world is dead.
-    pub fn cut(&mut self, party: u8, k: u64) -> Result<Batch, NoMemory>
+    /// One above the highest number of an object. On a dead world nothing is said of it. It takes no memory.
+    pub fn size(&self) -> u32
+        ensures { (now self.now).dead ≡ false → result ≡ length (now self.now).live.objects }
+    {
+        let state = &self.state;
+        state.db.count()
+    }
+
+    /// A dump of this number begins: what it hands to the log, over what is kept already. The records leave out what is kept so.
+    /// The world is consistent then, every object within the limits, and what is tuned in its range. It compares every object with
+    /// what is kept, and copies only those that differ. After `NoMemory` the world is dead.
+    pub fn cut(&mut self, party: u8, k: u64, base: &[Stored]) -> Result<Batch, NoMemory>
         requires { is_lawful (now self.old) (record { party = party; event = Event.Cut k }) ≡ true }
-        ensures batch { IfOk result (λ batch. batch ≡ world_batch (now self.old).live.objects (now self.old).live.board.tune) }
+        ensures records { IfOk result (λ batch. LeavesOut base.now (persist (now self.old).live.objects) batch.records) }
+        ensures tune { IfOk result (λ batch. batch.tune ≡ (now self.old).live.board.tune) }
         ensures consistent { OnOk result (IsConsistent (now self.old).live.objects) }
         ensures limits { OnOk result (IsWithinLimits (now self.old).live.objects) }
         ensures tuned { OnOk result (IsInRange (now self.old).live.board.tune) }
         ensures step { OnOk result (self.new ≡ entered self.old (record { party = party; event = Event.Cut k })) }
         ensures died { OnErr result (self.new ≡ entered self.old (record { party = party; event = Event.Died })) }
     {
-        let Ok(batch) = self.batch() else {
+        let Ok(batch) = self.batch(base) else {
             self.past.lose(party);
             return Err(NoMemory);
         };
@@ -55,9 +65,10 @@ impl World {
         Ok(batch)
     }
 
-    // The stored form of the world. On a dead world nothing is said of it.
-    fn batch(&self) -> Result<Batch, NoMemory>
-        ensures batch { (now self.now).dead ≡ false → IfOk result (λ batch. batch ≡ world_batch (now self.now).live.objects (now self.now).live.board.tune) }
+    // The stored form of what of the world isn't kept so. On a dead world nothing is said of it.
+    fn batch(&self, base: &[Stored]) -> Result<Batch, NoMemory>
+        ensures records { (now self.now).dead ≡ false → IfOk result (λ batch. LeavesOut base.now (persist (now self.now).live.objects) batch.records) }
+        ensures tune { (now self.now).dead ≡ false → IfOk result (λ batch. batch.tune ≡ (now self.now).live.board.tune) }
         ensures consistent { (now self.now).dead ≡ false → IsConsistent (now self.now).live.objects }
         ensures limits { (now self.now).dead ≡ false → IsWithinLimits (now self.now).live.objects }
         ensures tuned { (now self.now).dead ≡ false → IsInRange (now self.now).live.board.tune }
@@ -66,7 +77,7 @@ impl World {
         // For contracts alone: it says that the world is consistent.
         let _count = state.db.count();
         let tune = state.board.tune();
-        state.db.cut(state.alloc, &tune)
+        state.db.cut(state.alloc, base, &tune)
     }
 
     /// The dump of this number is stored: who asked for it is told so. After `NoMemory` the world is dead.

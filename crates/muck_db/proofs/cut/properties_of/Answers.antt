@@ -4,7 +4,8 @@ use Rattle.std.specs.Vec.Iter.{into_iter_items}
 use Rattle.muck_prop.specs.Store.{behind}
 use Rattle.muck_prop.specs.declared.props.Listed.{Listed}
 use Rattle.muck_codec.specs.declared.stored.Property.{Property}
-use Rattle.muck_db.proofs.Cutting.{property_at, all_stored}
+use Rattle.muck_db.specs.inner.Kept.{property_at}
+use Rattle.muck_db.proofs.Cutting.{all_stored}
 use Rattle.muck_db.proofs.cut.properties_of.Goals as goal
 
 pub loop-listed-init : goal.loop-listed-init

@@ -1,7 +1,7 @@
 use Rattle.std.proofs.Common.{◌≡◌, ◌++◌, map}
 use Rattle.std.specs.Vec.Iter.{into_iter_items}
 use Rattle.muck_store.specs.Forms.{properties_of}
-use Rattle.muck_db.proofs.Cutting.{property_at}
+use Rattle.muck_db.specs.inner.Kept.{property_at}
 use Rattle.muck_db.proofs.cut.properties_of.Given as goal
 
 abbrev pub invariant-loop-listed : goal.invariant-loop-listed

@@ -1,23 +1,27 @@
-use Rattle.std.proofs.Common.{◌++◌, ◌∙◌, ap, arith, List, drop}
-use Rattle.muck_codec.specs.declared.stored.Stored.{Stored}
-use Rattle.muck_store.specs.Forms.{persist, stored_from}
+use Rattle.std.proofs.Common.{◌+◌, sym, ◌∙◌, subst, arith}
 use Rattle.muck_db.specs.inner.Slots.{entries_of}
 use Rattle.muck_db.proofs.Readers.{length-entries_of}
-use Rattle.muck_db.proofs.Cutting.{stored_begins, stored_more, stored_ends}
+use Rattle.muck_db.proofs.Keeping.{LeftOut, left_begins, left_taken, left_over, left_ends}
+use Rattle.muck_db.proofs.cut.records_of.Goals.{then-not-branch+in_ok-record_of+in_ok-push, else-not-branch}
 use Rattle.muck_db.proofs.cut.records_of.Goals as goal
 
 pub overflow_cast-n : goal.overflow_cast-n
 overflow_cast-n c = omega (arith, c.len-n.ensures, length-entries_of c.args.slots.now.items, c.requires.ordered.few)
 
 pub loop-k-init : goal.loop-k-init
-loop-k-init c =
-    ap (λ (l : List Stored). l ++ stored_from (entries_of c.args.slots.now.items) 0 (drop 0 (entries_of c.args.slots.now.items))) c.in_ok-records.ensures
-    ∙ stored_begins (entries_of c.args.slots.now.items)
+loop-k-init c = left_begins c.args.base.now (entries_of c.args.slots.now.items) c.in_ok-records.records c.in_ok-records.ensures
 
 pub loop-k-preserved : goal.loop-k-preserved
 loop-k-preserved c =
-    let more = stored_more (entries_of c.args.slots.now.items) c.loop-k.k c.loop-k.records (persist (entries_of c.args.slots.now.items)) c.in_ok-record_at.field-0 c.in_ok-record_at.ensures c.loop-k.invariant in
-    rw c.in_ok-push.ensures.ok more
+    let es = entries_of c.args.slots.now.items in
+    elim c.if-not-branch.branch [
+      | then-not-branch+in_ok-record_of+in_ok-push w ↦
+          subst (LeftOut c.args.base.now es (c.loop-k.k + 1)) (sym (w.records-is ∙ w.in_ok-push.ensures.ok))
+          (left_taken c.args.base.now es c.loop-k.k c.loop-k.records w.in_ok-record_of.field-0 w.in_ok-record_of.ensures c.loop-k.invariant)
+      | else-not-branch w ↦
+          subst (LeftOut c.args.base.now es (c.loop-k.k + 1)) (sym w.records-is)
+          (left_over c.args.base.now es c.loop-k.k c.loop-k.records (omega (arith, c.loop-k-test.true, c.len-n.ensures, length-entries_of c.args.slots.now.items)) (c.in_ok-is_kept.ensures w.if-not-branch.false) c.loop-k.invariant)
+    ]
 
 pub returns : goal.returns
-returns c = stored_ends (entries_of c.args.slots.now.items) c.loop-k.k c.loop-k.records (omega (arith, length-entries_of c.args.slots.now.items, c.len-n.ensures)) c.loop-k.invariant
+returns c = left_ends c.args.base.now (entries_of c.args.slots.now.items) c.loop-k.k c.loop-k.records (omega (arith, c.loop-k-test.false, c.len-n.ensures, length-entries_of c.args.slots.now.items)) c.loop-k.invariant

@@ -1,4 +1,4 @@
-use Rattle.std.proofs.Common.{◌≡◌, ap, ◌∙◌, true, false}
+use Rattle.std.proofs.Common.{ap, ◌∙◌, true, false}
 use Rattle.spec_events.specs.Steps.{is_lawful}
 use Rattle.spec_events.specs.Histories.{History, now, by_porter}
 use Rattle.muckd.specs.inner.Dumps.{ending_event}

@@ -10,8 +10,11 @@ pub invariant_of-self-2 : goal.invariant_of-self-2
 invariant_of-self-2 c =
     keeps_entered c.self.inside.past _ _ _ _ _ c.self.invariant c.self.view_is c.requires refl c.enter.ensures c.begin_dump.ensures
 
-pub returns-clause-batch : goal.returns-clause-batch
-returns-clause-batch c = c.in-Ok.ensures.batch (alive_now (now c.args.self.now) _ c.requires refl)
+pub returns-clause-records : goal.returns-clause-records
+returns-clause-records c = c.in-Ok.ensures.records (alive_now (now c.args.self.now) _ c.requires refl)
+
+pub returns-clause-tune : goal.returns-clause-tune
+returns-clause-tune c = c.in-Ok.ensures.tune (alive_now (now c.args.self.now) _ c.requires refl)
 
 pub returns-clause-consistent : goal.returns-clause-consistent
 returns-clause-consistent c = c.in-Ok.ensures.consistent (alive_now (now c.args.self.now) _ c.requires refl)

@@ -1,6 +1,0 @@
-use Rattle.muck_codec.specs.Stored.{IsStored}
-use Rattle.muck_log.proofs.Spelled.{AllLeft}
-use Rattle.muck_log.proofs.storable.are_storable.Given as goal
-
-abbrev pub invariant-loop-record : goal.invariant-loop-record
-invariant-loop-record l = AllLeft IsStored l.records l.record-index
