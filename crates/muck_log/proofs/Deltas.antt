@@ -1,7 +1,7 @@
--- Laying what is written of a whole batch gives the world that it was taken from.
+-- Laying what is written of a batch gives the world that it was taken from.
 use Rattle.std.proofs.Common.{◌≡◌, ℕ, suc, ◌<◌, ◌≤◌, ◌^◌, Bool, true, false, cond, not, ltb, eqb, List, [], ◌∷◌, ◌++◌, length, set, Option, Some, None, option_and_then, Ok, refl, sym, ap, subst, ◌∙◌, append_assoc, arith, length-append}
 use Rattle.std.specs.Prelude.{All, pos, int_lt, nat_le, slice_get}
-use Rattle.std.specs.List.{filter, list_all}
+use Rattle.std.specs.List.{filter}
 use Rattle.std.proofs.lemmas.Bool.{and_parts, cond-true, cond-false, leb-true, lt-ltb, le-ltb, eq-eqb}
 use Rattle.std.proofs.lemmas.List.{append-nil}
 use Rattle.std.proofs.lemmas.List.Elements.{All-head, All-tail}
@@ -16,14 +16,14 @@ use Rattle.muck_codec.specs.declared.stored.Batch.{Batch}
 use Rattle.muck_codec.specs.Batches.{is_above, whole_batch, batch_bytes}
 use Rattle.muck_codec.specs.Stored.{IsStored, Run}
 use Rattle.muck_codec.proofs.Batches.{IsNextRecord, dbref_key, IsTune, whole_reads}
+use Rattle.muck_store.proofs.Changing.{left_filter, left_whole}
+use Rattle.muck_store.specs.Changes.{IsKept, LeavesOut}
 use Rattle.muck_store.specs.Forms.{stored_of, stored_from, persist, world_batch}
-use Rattle.muck_store.specs.Limits.{fits}
-use Rattle.muck_store.specs.Whole.{is_whole}
 use Rattle.muck_log.specs.File.{begin}
 use Rattle.muck_log.specs.World.{World, start, is_between, tune_fits, is_fine, put_at, placed, all_placed, judged_world, laid_over, batch_if, laid, kept_of, differs, written}
 use Rattle.muck_log.specs.Store.{Chosen, LogState, opens_new, target}
-use Rattle.muck_log.specs.Append.{IsLaidNext, payload_of}
-use Rattle.muck_log.proofs.Differing.{differs_by, equals}
+use Rattle.muck_log.specs.Append.{IsLaidNext, base_of, payload_of}
+use Rattle.muck_log.proofs.Differing.{differs_by, equals, found_stored, kept_same}
 use Rattle.muck_log.proofs.Spellings.{start_two, start_stored}
 
 -- Records by their numbers from k on.
@@ -171,35 +171,22 @@ tune_words t e =
       (narrow t.process_limit 400 f.0 (omega arith), (narrow t.player_processes 400 g.0 (omega arith), (narrow t.mpi_commands 2048 h.0 (omega arith), narrow t.dump_interval 86400 h.1 (omega arith)))),
     )
 
-record IsSmall (objects : List Stored) (tune : Tune) : Type 0 where
-  few : length objects ≤ 100000
-  words : IsTune tune
-
-fine_small : (objects : List Stored) (tune : Tune) → is_fine objects tune ≡ true → IsSmall objects tune
-unfolding is_fine
-fine_small objects tune e =
-    let a = and_parts (nat_le (length objects) 100000) _ e in
-    let b = and_parts (list_all fits objects) _ a.1 in
-    let c = and_parts (tune_fits tune) (is_whole objects) b.1 in
-    record { few = leb-true (length objects) 100000 a.0; words = tune_words tune c.0 }
-
 -- What is laid.
 
 laid_batch : (payload : List ℕ) (b : Batch) (w : World) (objects : List Stored) → whole_batch 1 payload ≡ Ok b → all_placed b.records w.objects ≡ some objects → laid payload w ≡ judged_world b.tune objects
 unfolding laid laid_over
 laid_batch payload b w objects reads places = ap (λ r. option_and_then (λ x. laid_over x w) (batch_if r)) reads ∙ ap (option_and_then (judged_world b.tune)) places
 
-lays_written : (w : World) (es : List Entry) (tune : Tune) → All IsStored (persist es) → All IsStored w.objects → length w.objects ≤ length es → length es < 2 ^ 32 → IsTune tune
+lays_written : (w : World) (es : List Entry) (tune : Tune) → All IsStored (persist es) → All IsStored w.objects → length w.objects ≤ length es → length (written w.objects (persist es)) < 2 ^ 32 → IsTune tune
     → laid (batch_bytes (written w.objects (persist es)) tune) w ≡ judged_world tune (persist es)
 unfolding written persist
 lays_written w es tune stored kept le size words =
     let test = differs w.objects in
     let long = persist_length es 0 es in
     let numbered = persist_numbered es 0 es in
-    let count : length (filter test (persist es)) < 2 ^ 32 = omega (arith, size, long, few test (persist es)) in
     let are : AreKept test (persist es) w.objects = left_out w.objects [] w.objects (persist es) 0 refl refl numbered kept stored (omega (arith, le, long)) in
     laid_batch (batch_bytes (filter test (persist es)) tune) (record { records = filter test (persist es); tune = tune }) w (persist es)
-    (whole_reads (filter test (persist es)) tune (count, written_rises test None 0 (persist es) tt numbered stored) words)
+    (whole_reads (filter test (persist es)) tune (size, written_rises test None 0 (persist es) tt numbered stored) words)
     (all_laid test [] w.objects (persist es) 0 refl numbered are)
 
 abbrev some_world : World → Option World
@@ -228,46 +215,71 @@ target_stored s = target_has (All IsStored) s (opens_new s.held) refl start_stor
 target_covered : (s : Chosen) (n : ℕ) → length (objects_of s) ≤ n → 2 ≤ n → length (objects_of (target s)) ≤ n
 target_covered s n le two = target_has (λ os. length os ≤ n) s (opens_new s.held) refl (omega (arith, two, start_two)) le
 
-batch_laid : (log : LogState) (es : List Entry) (tune : Tune) → All IsStored (persist es) → All IsStored log.chosen.held.world.objects → length (objects_of (target log.chosen)) ≤ length es → length es < 2 ^ 32 → IsTune tune
-    → laid (payload_of log (world_batch es tune)) (target log.chosen).held.world ≡ judged_world tune (persist es)
+batch_laid : (log : LogState) (es : List Entry) (tune : Tune) → All IsStored (persist es) → All IsStored (objects_of (target log.chosen)) → length (objects_of (target log.chosen)) ≤ length es
+    → length (written (objects_of (target log.chosen)) (persist es)) < 2 ^ 32 → IsTune tune → laid (payload_of log (world_batch es tune)) (target log.chosen).held.world ≡ judged_world tune (persist es)
 unfolding payload_of
-batch_laid log es tune stored kept = lays_written (target log.chosen).held.world es tune stored (target_stored log.chosen kept)
-
-persist_few : (es : List Entry) → length (persist es) ≤ 100000 → length es < 2 ^ 32
-unfolding persist
-persist_few es le = omega (arith, le, persist_length es 0 es)
-
--- Where each record has a spelling, and those that are kept have, and no more are kept than there are objects.
-pub delta_lays : (log : LogState) (es : List Entry) (tune : Tune) → All IsStored (persist es) → All IsStored log.chosen.held.world.objects
-    → length (target log.chosen).held.world.objects ≤ length es → is_fine (persist es) tune ≡ true
-    → laid (payload_of log (world_batch es tune)) (target log.chosen).held.world ≡ Some (record { objects = persist es; tune = tune })
-delta_lays log es tune stored kept le fine =
-    let small = fine_small (persist es) tune fine in
-    batch_laid log es tune stored kept le (persist_few es small.few) small.words ∙ cond-true (is_fine (persist es) tune) _ _ fine
+batch_laid log es tune = lays_written (target log.chosen).held.world es tune
 
 judged_is : (b : Bool) (made w : World) → cond b (some_world made) None ≡ some_world w → w ≡ made
 judged_is true made w e = sym (same_Some made w e)
 judged_is false made w e = absurd (none-some w e)
 
 -- Where what is written makes a world at all, it makes the one that it was taken from. The tune parameters are numbers of 32 bits.
-pub lays_whole : (log : LogState) (es : List Entry) (tune : Tune) (w : World) → All IsStored (persist es) → All IsStored log.chosen.held.world.objects → length log.chosen.held.world.objects ≤ length es → 2 ≤ length es
-    → length es < 2 ^ 32 → IsTune tune → laid (payload_of log (world_batch es tune)) (target log.chosen).held.world ≡ Some w → w ≡ record { objects = persist es; tune = tune }
+lays_whole : (log : LogState) (es : List Entry) (tune : Tune) (w : World) → All IsStored (persist es) → All IsStored (objects_of (target log.chosen)) → length (objects_of log.chosen) ≤ length es → 2 ≤ length es
+    → length (written (objects_of (target log.chosen)) (persist es)) < 2 ^ 32 → IsTune tune → laid (payload_of log (world_batch es tune)) (target log.chosen).held.world ≡ Some w → w ≡ record { objects = persist es; tune = tune }
 lays_whole log es tune w stored kept le two size words makes =
     let covered = target_covered log.chosen (length es) le two in
     judged_is (is_fine (persist es) tune) (record { objects = persist es; tune = tune }) w (sym (batch_laid log es tune stored kept covered size words) ∙ makes)
 
-persist_length_all : (es : List Entry) → length (persist es) ≡ length es
-unfolding persist
-persist_length_all es = persist_length es 0 es
+-- A batch that leaves out what is kept.
 
--- In the words of the call that writes it: what is ready to be written makes the world whose stored form was handed in.
-pub ready_whole : (old new : LogState) (batch : Batch) → IsLaidNext old new (payload_of old batch) → All IsStored batch.records → All IsStored old.chosen.held.world.objects
-    → length old.chosen.held.world.objects ≤ length batch.records → length batch.records < 2 ^ 32 → (es : List Entry) (tune : Tune) → batch ≡ world_batch es tune → tune_fits tune ≡ true → 2 ≤ length es
+empty_keeps : (o : Stored) (at : Option ℕ) → option_and_then (slice_get []) at ≡ Some o → ⊥
+empty_keeps o None e = cc
+empty_keeps o (Some k) e = cc
+
+base_opens : (log : LogState) → opens_new log.chosen.held ≡ true → base_of log ≡ []
+unfolding base_of
+base_opens log e = cond-true (opens_new log.chosen.held) _ _ e
+
+base_stays : (log : LogState) → opens_new log.chosen.held ≡ false → base_of log ≡ objects_of log.chosen
+unfolding base_of
+base_stays log e = cond-false (opens_new log.chosen.held) _ _ e
+
+-- what it may leave out is kept in the world that it is laid over
+base_kept : (log : LogState) (o : Stored) (b : Bool) → opens_new log.chosen.held ≡ b → IsKept (base_of log) o → IsKept (objects_of (target log.chosen)) o
+base_kept log o true e kept = absurd (empty_keeps o (index_of o.dbref) (subst (λ os. IsKept os o) (base_opens log e) kept))
+base_kept log o false e kept = subst (λ os. IsKept os o) (base_stays log e ∙ sym (target_stays log.chosen e)) kept
+
+module _ (log : LogState) (es : List Entry) (records : List Stored) (kept : All IsStored (objects_of (target log.chosen))) (left : LeavesOut (base_of log) (persist es) records) where
+  -- what is written of it is what is written of all records
+  written_left : written (objects_of (target log.chosen)) records ≡ written (objects_of (target log.chosen)) (persist es)
+  unfolding written
+  written_left = left_filter (differs (objects_of (target log.chosen))) (λ o is. kept_same (objects_of (target log.chosen)) o kept (base_kept log o (opens_new log.chosen.held) refl is)) left
+
+  -- and where its records have spellings, all records have
+  stored_left : All IsStored records → All IsStored (persist es)
+  stored_left = left_whole IsStored (λ o is. found_stored (objects_of (target log.chosen)) (index_of o.dbref) o kept (base_kept log o (opens_new log.chosen.held) refl is)) left
+
+  written_few : length records < 2 ^ 32 → length (written (objects_of (target log.chosen)) (persist es)) < 2 ^ 32
+  unfolding written
+  written_few size = omega (arith, size, few (differs (objects_of (target log.chosen))) records, ap length written_left)
+
+payload_over : (log : LogState) (batch : Batch) (es : List Entry) (tune : Tune) → All IsStored (objects_of (target log.chosen)) → LeavesOut (base_of log) (persist es) batch.records → batch.tune ≡ tune
+    → payload_of log batch ≡ payload_of log (world_batch es tune)
+unfolding payload_of
+payload_over log batch es tune kept left tuned = ap (λ os. batch_bytes os batch.tune) (written_left log es batch.records kept left) ∙ ap (batch_bytes (written (objects_of (target log.chosen)) (persist es))) tuned
+
+-- A batch that leaves out what is kept is written as the whole batch of its world.
+pub left_payload : (log : LogState) (batch : Batch) (es : List Entry) (tune : Tune) → All IsStored log.chosen.held.world.objects → LeavesOut (base_of log) (persist es) batch.records → batch.tune ≡ tune
+    → payload_of log batch ≡ payload_of log (world_batch es tune)
+left_payload log batch es tune kept = payload_over log batch es tune (target_stored log.chosen kept)
+
+-- In the words of the call that writes it: what is ready to be written makes the world of which the batch was taken.
+pub ready_whole : (old new : LogState) (batch : Batch) → IsLaidNext old new (payload_of old batch) → All IsStored batch.records → All IsStored (objects_of (target old.chosen)) → length batch.records < 2 ^ 32
+    → (es : List Entry) (tune : Tune) → LeavesOut (base_of old) (persist es) batch.records → batch.tune ≡ tune → tune_fits tune ≡ true → 2 ≤ length es → length old.chosen.held.world.objects ≤ length es
     → laid (payload_of old batch) (target old.chosen).held.world ≡ Some (record { objects = persist es; tune = tune })
-ready_whole old new batch lays stored kept covers few es tune is words two =
-    let made : laid (payload_of old (world_batch es tune)) (target old.chosen).held.world ≡ Some new.chosen.held.world = ap (λ (b : Batch). laid (payload_of old b) (target old.chosen).held.world) (sym is) ∙ lays.world in
-    let size : length (persist es) ≡ length es = persist_length_all es in
-    let count : length batch.records ≡ length (persist es) = ap (λ (b : Batch). length b.records) is in
-    let all : All IsStored (persist es) = subst (λ (b : Batch). All IsStored b.records) is stored in
-    let same = lays_whole old es tune new.chosen.held.world all kept (omega (arith, covers, count, size)) two (omega (arith, few, count, size)) (tune_words tune words) made in
-    lays.world ∙ ap Some same
+ready_whole old new batch lays stored kept few es tune left tuned words two covers =
+    let made : laid (payload_of old (world_batch es tune)) (target old.chosen).held.world ≡ Some new.chosen.held.world =
+    ap (λ payload. laid payload (target old.chosen).held.world) (sym (payload_over old batch es tune kept left tuned)) ∙ lays.world in
+    let all = stored_left old es batch.records kept left stored in
+    lays.world ∙ ap Some (lays_whole old es tune new.chosen.held.world all kept covers two (written_few old es batch.records kept left few) (tune_words tune words) made)

@@ -12,6 +12,7 @@ use Rattle.muck_codec.specs.declared.stored.Stored.{Stored}
 use Rattle.muck_codec.specs.Spelling.{spelling}
 use Rattle.muck_codec.specs.Stored.{IsStored}
 use Rattle.muck_codec.proofs.Batches.{same_record}
+use Rattle.muck_store.specs.Changes.{IsKept}
 use Rattle.muck_log.specs.World.{kept_of, differs}
 
 abbrev pub differs_from : Stored → Stored → Bool
@@ -34,20 +35,21 @@ another : (o : Stored) (found : Option Stored) → IsStored o → ((r : Stored) 
 another o None is kept new = refl
 another o (Some r) is kept new = true_from_ne_false (differs_from o r) (λ e. new (ap (λ (x : Stored). Some x) (equals o r (kept r refl) is e)))
 
-found_stored : (objects : List Stored) (at : Option ℕ) (r : Stored) → All IsStored objects → option_and_then (slice_get objects) at ≡ Some r → IsStored r
+pub found_stored : (objects : List Stored) (at : Option ℕ) (r : Stored) → All IsStored objects → option_and_then (slice_get objects) at ≡ Some r → IsStored r
 found_stored objects None r all e = absurd cc
 found_stored objects (Some k) r all e = subst IsStored (get_or_from_slice_get objects k r r e) (All-get_or IsStored objects k r (slice_get_within objects k r e) all)
 
 -- In the words of the test whether a record is kept.
 
-abbrev IsKept : List Stored → Stored → Type 0
-IsKept objects o = kept_of objects o ≡ Some o
+-- what is kept as it is doesn't differ
+pub kept_same : (objects : List Stored) (o : Stored) → All IsStored objects → IsKept objects o → differs objects o ≡ false
+kept_same objects o all is = differs_by objects o (Some o) is ∙ itself o (found_stored objects (index_of o.dbref) o all is)
 
 pub kept_stored : (objects : List Stored) (o : Stored) (b : Bool) → All IsStored objects → Decides b (IsKept objects o) → b ≡ true → IsStored o
 kept_stored objects o b all tells is = found_stored objects (index_of o.dbref) o all (tells.0 is)
 
 pub kept_left : (objects : List Stored) (o : Stored) (b : Bool) → All IsStored objects → Decides b (IsKept objects o) → b ≡ true → false ≡ differs objects o
-kept_left objects o b all tells is = sym (differs_by objects o (Some o) (tells.0 is) ∙ itself o (kept_stored objects o b all tells is))
+kept_left objects o b all tells is = sym (kept_same objects o all (tells.0 is))
 
 pub new_written : (objects : List Stored) (o : Stored) (b s : Bool) → All IsStored objects → Decides b (IsKept objects o) → b ≡ false → Decides s (IsStored o) → s ≡ true → true ≡ differs objects o
 new_written objects o b s all tells other judges is =

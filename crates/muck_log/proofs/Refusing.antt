@@ -5,12 +5,13 @@ use Rattle.muck_model.specs.declared.tune.Tune.{Tune}
 use Rattle.spec_live.specs.Objects.{Entry}
 use Rattle.muck_codec.specs.declared.stored.Batch.{Batch}
 use Rattle.muck_codec.specs.declared.stored.Stored.{Stored}
-use Rattle.muck_store.specs.Forms.{persist, world_batch}
+use Rattle.muck_store.specs.Changes.{LeavesOut}
+use Rattle.muck_store.specs.Forms.{persist}
 use Rattle.muck_codec.specs.Stored.{IsStored}
 use Rattle.muck_log.proofs.Spelled.{AllLeft, all_here}
 use Rattle.muck_log.specs.World.{laid, tune_fits}
 use Rattle.muck_log.specs.Store.{LogState, target}
-use Rattle.muck_log.specs.Append.{IsRefused, IsTouching, IsUnspelled, payload_of}
+use Rattle.muck_log.specs.Append.{IsRefused, IsTouching, IsUnspelled, base_of, payload_of}
 use Rattle.muck_log.specs.declared.fault.LogFault.{LogFault}
 use Rattle.muck_log.specs.declared.fault.LogFault.TheVariants.{NoMemory, DiskFault, Damaged, StoreFull, Unfit, Stale}
 
@@ -25,11 +26,9 @@ refused_untouched old new batch Stale is touched = touched
 pub refused_storable : (old new : LogState) (batch : Batch) (fault : LogFault) → IsRefused old new batch fault → IsTouching (Err fault) → All IsStored batch.records
 refused_storable old new batch fault is touched = absurd (refused_untouched old new batch fault is touched)
 
-pub refused_covers : (old new : LogState) (batch : Batch) (fault : LogFault) → IsRefused old new batch fault → IsTouching (Err fault) → length old.chosen.held.world.objects ≤ length batch.records
-refused_covers old new batch fault is touched = absurd (refused_untouched old new batch fault is touched)
-
 pub refused_whole : (old new : LogState) (batch : Batch) (fault : LogFault) → IsRefused old new batch fault → IsTouching (Err fault)
-    → (es : List Entry) (tune : Tune) → batch ≡ world_batch es tune → tune_fits tune ≡ true → 2 ≤ length es → laid (payload_of old batch) (target old.chosen).held.world ≡ Some (record { objects = persist es; tune = tune })
+    → (es : List Entry) (tune : Tune) → LeavesOut (base_of old) (persist es) batch.records → batch.tune ≡ tune → tune_fits tune ≡ true → 2 ≤ length es
+    → length old.chosen.held.world.objects ≤ length es → laid (payload_of old batch) (target old.chosen).held.world ≡ Some (record { objects = persist es; tune = tune })
 refused_whole old new batch fault is touched = absurd (refused_untouched old new batch fault is touched)
 
 -- a batch with a record that has no spelling is refused as it is
@@ -38,7 +37,7 @@ refused_unspelled log batch NoMemory fresh is = fresh
 refused_unspelled log batch DiskFault fresh is = is
 refused_unspelled log batch (Damaged second at) fresh is = is
 refused_unspelled log batch (StoreFull end more) fresh is = absurd is
-refused_unspelled log batch Unfit fresh is = (fresh, inl (inl is, refl))
+refused_unspelled log batch Unfit fresh is = (fresh, inl (is, refl))
 refused_unspelled log batch Stale fresh is = absurd is
 
 unspelled_by : (P Q : Type 0) (fault : LogFault) → (Q → P) → IsUnspelled P fault → IsUnspelled Q fault

@@ -1,5 +1,5 @@
 -- What `append` answers.
-use Rattle.std.specs.Prelude.{◌≡◌, ◌⊎◌, All, ℕ, ◌+◌, ◌<◌, ◌≤◌, ◌^◌, true, false, Some, Result, Ok, Err, List, length, if◌then◌else◌, Bool, None}
+use Rattle.std.specs.Prelude.{◌≡◌, ◌⊎◌, All, ℕ, ◌+◌, ◌<◌, ◌≤◌, ◌^◌, true, false, Some, Result, Ok, Err, List, [], length, if◌then◌else◌, Bool, None}
 use Rattle.muck_codec.specs.declared.stored.Stored.{Stored}
 use Rattle.muck_codec.specs.declared.stored.Batch.{Batch}
 use Rattle.muck_codec.specs.Batches.{batch_bytes}
@@ -34,6 +34,10 @@ pub record IsLaidNext (old new : LogState) (payload : List ℕ) : Type 0 where
 unfoldable pub payload_of : LogState → Batch → List ℕ
 payload_of log batch = batch_bytes (written (target log.chosen).held.world.objects batch.records) batch.tune
 
+-- what a batch may leave out of the records of a world: the objects that are kept, or nothing where it opens a new generation
+unfoldable pub base_of : LogState → List Stored
+base_of log = if opens_new log.chosen.held then [] else log.chosen.held.world.objects
+
 -- the batch is laid, or it can't be, and the log is stale
 abbrev pub IsTried : Bool → LogState → LogState → List ℕ → Type 0
 IsTried true old new payload = IsLaidNext old new payload
@@ -43,13 +47,9 @@ IsTried false old new payload = (laid payload (target old.chosen).held.world ≡
 unfoldable pub more_of : LogState → List ℕ → ℕ
 more_of log payload = 10 + length (next_body log.chosen payload)
 
--- not every record has a spelling, or there are fewer of them than objects that are kept
-abbrev pub IsPartial : LogState → List Stored → Type 0
-IsPartial log records = (All IsStored records → ⊥) ⊎ (length records < length log.chosen.held.world.objects)
-
--- a batch that can't be written is refused as it is; one that leaves no world leaves the log stale
+-- a batch with a record that has no spelling is refused as it is; one that leaves no world leaves the log stale
 abbrev pub IsUnfit : LogState → LogState → Batch → Type 0
-IsUnfit old new batch = (IsPartial old batch.records × (new ≡ old)) ⊎ ((laid (payload_of old batch) (target old.chosen).held.world ≡ None) × (new.stale ≡ true))
+IsUnfit old new batch = ((All IsStored batch.records → ⊥) × (new ≡ old)) ⊎ ((laid (payload_of old batch) (target old.chosen).held.world ≡ None) × (new.stale ≡ true))
 
 -- each answer, with its cause
 abbrev pub IsAppended : LogState → LogState → Batch → Result ℕ LogFault → Type 0

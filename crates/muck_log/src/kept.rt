@@ -332,6 +332,7 @@ impl Kept {
         requires lines { HasFewLines batch.now.records }
         ensures bytes { IfOk result (λ v. v.items ≡ batch_bytes (written self.now.objects batch.now.records) batch.now.tune) }
         ensures storable { OnOk result (All IsStored batch.now.records) }
+        ensures kept { All IsStored self.now.objects }
         ensures err { IfErr result (IsUnspelled (All IsStored batch.now.records)) }
     {
         let mut bytes = Vec::new(self.alloc);

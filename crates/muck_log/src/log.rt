@@ -6,18 +6,19 @@ ghost use Rattle.muck_log.specs.Body.{body_bytes};
 ghost use Rattle.muck_log.specs.World.{World, IsFine, laid, tune_fits};
 ghost use Rattle.muck_model.specs.declared.tune.Tune.{Tune};
 ghost use Rattle.spec_live.specs.Objects.{Entry as WorldEntry};
-ghost use Rattle.muck_store.specs.Forms.{persist, world_batch};
+ghost use Rattle.muck_store.specs.Changes.{LeavesOut};
+ghost use Rattle.muck_store.specs.Forms.{persist};
 ghost use Rattle.muck_log.specs.File.{after_number, begin};
 ghost use Rattle.muck_log.specs.Mount.{IsLoaded, IsLoadFault};
 ghost use Rattle.muck_log.specs.Store.{LeavesBoth, MayBeAt, IsMounted, LogState, target, opens_new, next_body, after_batch, stored, framed, pick, IsDone};
-ghost use Rattle.muck_log.specs.Append.{IsEither, IsAppended, IsTarget, IsTried, IsReady, IsRefused, IsFinished, IsNext, IsTouching, LoadsEither, IsUnspelled, payload_of};
+ghost use Rattle.muck_log.specs.Append.{IsEither, IsAppended, IsTarget, IsTried, IsReady, IsRefused, IsFinished, IsNext, IsTouching, LoadsEither, IsUnspelled, base_of, payload_of};
 ghost use Rattle.muck_codec.specs.Batches.{HasFewLines};
 ghost use Rattle.muck_codec.specs.Stored.{IsStored};
 
 use crate::reader::Reader;
 use crate::write::put_target;
 use crate::{Kept, LogFault};
-use muck_codec::Batch;
+use muck_codec::{Batch, Stored};
 use muck_disk::Disk;
 use muck_model::NoMemory;
 use std::alloc::{AllocError, Global};
@@ -229,13 +230,28 @@ impl Log {
         Ok(true)
     }
 
-    // The bytes of a batch over the world that it is laid over. `Unfit` where a record has no spelling.
+    /// What the next batch may leave out of the records of a world: the objects that are kept, or nothing where it opens a new
+    /// generation. While the log is stale it means nothing. It takes no memory.
+    #[tactic(auto, unfolding(crate::specs::Append::base_of))]
+    pub fn base(&self) -> &[Stored]
+        ensures base { result.now ≡ base_of self.now }
+        ensures storable { All IsStored result.now }
+    {
+        if self.opens_new() {
+            return &[];
+        }
+        self.world.objects()
+    }
+
+    // The bytes of a batch over the world that it is laid over, of which each object has a spelling. `Unfit` where a record has
+    // none.
     #[tactic(auto, unfolding(crate::specs::Append::payload_of, crate::specs::Store::target, crate::specs::File::begin))]
     fn payload(&self, batch: &Batch) -> Result<Vec<u8>, LogFault>
         requires few { length batch.now.records < 2 ^ 32 }
         requires lines { HasFewLines batch.now.records }
         ensures bytes { IfOk result (λ payload. payload.items ≡ payload_of self.now batch.now) }
         ensures storable { OnOk result (All IsStored batch.now.records) }
+        ensures kept { OnOk result (All IsStored (target self.now.chosen).held.world.objects) }
         ensures err { IfErr result (IsUnspelled (All IsStored batch.now.records)) }
     {
         if self.opens_new() {
@@ -251,15 +267,11 @@ impl Log {
         requires lines { HasFewLines batch.now.records }
         ensures ok { IfOk result (λ ready. IsReady self.old self.new (payload_of self.old batch.now) ready) }
         ensures storable { OnOk result (All IsStored batch.now.records) }
-        ensures covers { OnOk result (length self.old.chosen.held.world.objects ≤ length batch.now.records) }
-        ensures kept { OnOk result (All IsStored self.old.chosen.held.world.objects) }
+        ensures kept { OnOk result (All IsStored (target self.old.chosen).held.world.objects) }
         ensures err { IfErr result (λ fault. IsRefused self.old self.new batch.now fault) }
     {
         if self.stale {
             return Err(LogFault::Stale);
-        }
-        if batch.records.len() < self.world.objects().len() {
-            return Err(LogFault::Unfit);
         }
         let payload = self.payload(batch)?;
         let number = self.next();
@@ -305,18 +317,18 @@ impl Log {
 }
 
 impl Log {
-    /// Writes a batch of the record of every object, by rising number from 0 on, and answers its number. Records that equal
-    /// those of the world that the batch is laid over are left out of what is written: what is kept, or the starting world
-    /// where a new generation is opened. All memory is taken before the first write.
+    /// Writes a batch of the records of a world, by rising number, and answers its number. The batch may leave out what
+    /// `base` keeps. Records that equal those of the world that the batch is laid over are left out of what is written:
+    /// what is kept, or the starting world where a new generation is opened. So it makes the whole world, where that has no
+    /// fewer objects than are kept. All memory is taken before the first write.
     ///
     /// `StoreFull` comes exactly where such a batch would pass the limit, before any write; the log stays as it was then.
-    /// `Unfit` comes before any write too: where the batch has fewer records than objects are kept, or one that has no
-    /// spelling, and the log stays as it was; or where it doesn't leave a world that hangs together with every value
-    /// within its limits, and the log is stale. `DiskFault` comes only where a disk's count of faults rose, and leaves the
+    /// `Unfit` comes before any write too: where a record of the batch has no spelling, and the log stays as it was; or
+    /// where the batch doesn't leave a world that hangs together with every value within its limits, and the log is stale. `DiskFault` comes only where a disk's count of faults rose, and leaves the
     /// log stale, as memory that ran out while the batch was laid may. A stale log answers `Stale` until it is mounted
     /// again. At each moment since the call began, whatever a crash leaves of both disks loads as the world before or as
     /// the one with the batch, and after `Ok` as the latter.
-    #[tactic(auto, using(crate::proofs::Refusing::refused_storable, crate::proofs::Refusing::refused_covers, crate::proofs::Refusing::refused_whole))]
+    #[tactic(auto, using(crate::proofs::Refusing::refused_storable, crate::proofs::Refusing::refused_whole))]
     pub fn append<D: Disk>(
         &mut self,
         first: &mut D,
@@ -328,8 +340,8 @@ impl Log {
         requires mounted { D.tells ≡ true → self.old.stale ≡ false → IsMounted D.seen D.moment D.images self.old first.old second.old }
         ensures answer { IsAppended self.old self.new batch.now result }
         ensures storable { IsTouching result → All IsStored batch.now.records }
-        ensures covers { IsTouching result → length self.old.chosen.held.world.objects ≤ length batch.now.records }
-        ensures whole { IsTouching result → (es : List WorldEntry) (tune : Tune) → batch.now ≡ world_batch es tune → tune_fits tune ≡ true → 2 ≤ length es → laid (payload_of self.old batch.now) (target self.old.chosen).held.world ≡ Some (record { objects = persist es; tune = tune }) }
+        ensures whole { IsTouching result → (es : List WorldEntry) (tune : Tune) → LeavesOut (base_of self.old) (persist es) batch.now.records → batch.now.tune ≡ tune → tune_fits tune ≡ true → 2 ≤ length es
+            → length self.old.chosen.held.world.objects ≤ length es → laid (payload_of self.old batch.now) (target self.old.chosen).held.world ≡ Some (record { objects = persist es; tune = tune }) }
         ensures chosen { OnOk result (IsNext self.old self.new (payload_of self.old batch.now)) }
         ensures mounted { D.tells ≡ true → OnOk result (IsMounted D.seen D.moment D.images self.new first.new second.new) }
         ensures any { D.tells ≡ true → self.old.stale ≡ false → (w : World) → laid (payload_of self.old batch.now) (target self.old.chosen).held.world ≡ Some w

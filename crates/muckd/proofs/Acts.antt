@@ -1,8 +1,12 @@
--- Lines of a script that close a connection, or let time pass.
-use Rattle.std.proofs.Common.{◌≡◌, ℕ, ◌≤◌, true, false, List, [], ◌∷◌, refl, sym, ◌∙◌, ap, Option, Result}
+-- Lines of a script that close a connection, or let time pass; and that no line does what a dump does.
+use Rattle.std.proofs.Common.{◌≡◌, ℕ, ◌≤◌, Bool, true, false, cond, List, [], refl, sym, ◌∙◌, ap, Option, Result}
 use Rattle.std.specs.Prelude.{is_some}
 use Rattle.std.proofs.lemmas.Bool.{le-leb, cond-true, cond-false}
+use Rattle.muck_model.specs.declared.event.Event.{Event}
 use Rattle.muck_model.specs.declared.event.Event.TheVariants.{Closed, Moment}
+use Rattle.spec_dumps.specs.Fronts.{is_dump}
+use Rattle.spec_dumps.specs.Holding.{Quietly}
+use Rattle.spec_dumps.proofs.Quiet.{quiet_nothing, quiet_one}
 use Rattle.spec_events.specs.World.{World, connection, is_leaving}
 use Rattle.spec_events.specs.Steps.{is_lawful}
 use Rattle.spec_events.specs.Histories.{History, now, entered, by_porter}
@@ -54,3 +58,8 @@ pub plays_parting : {T : Type 0} (h k : History) (a b : Option (List ℕ)) (r : 
 plays_parting h k a b r d alive leaving =
     plays_as (plain (parted d)) (plain (acted (Close d))) h k a b r
     (λ (os : List Dumped). cond-true _ _ _ (close_lawful (now h) d alive leaving) ∙ sym (cond-true _ _ _ leaving))
+
+-- an event that may be unlawful
+pub quiet_if : (event : Event) (h k : History) (may : Bool) → is_dump event ≡ false → k ≡ cond may (entered h (by_porter event)) h → Quietly h k
+quiet_if event h k true other is = quiet_one h k (by_porter event) other is
+quiet_if event h k false other is = quiet_nothing h k is

@@ -1,5 +1,5 @@
--- What the log answers to the batch of a whole world.
-use Rattle.std.proofs.Common.{◌≡◌, ◌⊎◌, inl, inr, ℕ, ◌≤◌, Bool, true, false, ◌&&◌, List, [], ◌∷◌, length, refl, sym, ap, subst, ◌∙◌, arith, Option, Some, None, Ok, Err}
+-- What the log answers to a batch that makes a whole world.
+use Rattle.std.proofs.Common.{◌≡◌, ◌⊎◌, inl, inr, ℕ, ◌≤◌, Bool, true, false, ◌&&◌, List, [], ◌∷◌, length, refl, sym, ap, subst, ◌∙◌, arith, Option, Some, None, Result, Ok, Err}
 use Rattle.std.proofs.lemmas.Bool.{le-leb}
 use Rattle.muck_codec.specs.declared.stored.Batch.{Batch}
 use Rattle.muck_log.specs.World.{World as Kept, laid, is_between, tune_fits}
@@ -62,22 +62,34 @@ module _ {D : Type 0} (seen : D → List ℕ) (moment : D → ℕ) (images : D �
       subst (λ (a : D). LeavesBoth moment images f s a s' (LoadsEither log.chosen x)) (sym e)
       (subst (λ (b : D). LeavesBoth moment images f s f b (LoadsEither log.chosen x)) (sym g) (stays log f s x m))
 
+  -- it wasn't even asked
+  pub refused_before : (log : LogState) (f s : D) (payload : List ℕ) (made : Kept) (left : Option LogState) → IsMounted seen moment images log f s → left ≡ None → Appended seen moment images payload made log left f s f s (Err Unfit)
+  refused_before log f s payload made left m is = record { any = stays log f s _ m; answer = is }
+
   module _ (log new : LogState) (f s f' s' : D) (batch : Batch) (made : Kept) (m : IsMounted seen moment images log f s)
-      (any : (w : Kept) → laid (payload_of log batch) (target log.chosen).held.world ≡ Some w → LeavesBoth moment images f s f' s' (LoadsEither log.chosen (after_batch log.chosen (payload_of log batch) w))) where
+      (any : (w : Kept) → laid (payload_of log batch) (target log.chosen).held.world ≡ Some w → LeavesBoth moment images f s f' s' (LoadsEither log.chosen (after_batch log.chosen (payload_of log batch) w)))
+      (payload : List ℕ) (same : payload_of log batch ≡ payload) where
+    abbrev Said : List ℕ → Option LogState → Result (Unit {0}) LogFault → Type 0
+    Said bytes left r = Appended seen moment images bytes made log left f s f' s' r
+
     abbrev Made : Type 0
     Made = laid (payload_of log batch) (target log.chosen).held.world ≡ Some made
 
-    pub appended_ok : (left : Option LogState) → left ≡ Some new → Made → IsNext log new (payload_of log batch) → IsMounted seen moment images new f' s' → Appended seen moment images batch made log left f s f' s' (Ok tt)
-    appended_ok left is makes next there = record { any = any made makes; answer = (new, is, next, there, makes) }
+    pub appended_ok : (left : Option LogState) → left ≡ Some new → Made → IsNext log new (payload_of log batch) → IsMounted seen moment images new f' s' → Said payload left (Ok tt)
+    appended_ok left is makes next there =
+        let said : Said (payload_of log batch) left (Ok tt) = record { any = any made makes; answer = (new, is, next, there, makes) } in
+        subst (λ bytes. Said bytes left (Ok tt)) same said
 
     untouched : (fault : LogFault) → (IsTouching (Err fault) → ⊥) → IsTouching (Err fault) ⊎ ((f' ≡ f) × (s' ≡ s)) → LeavesBoth moment images f s f' s' (LoadsEither log.chosen (after_batch log.chosen (payload_of log batch) made))
     untouched fault none e = elim e [ inl touched ↦ absurd (none touched) | inr same ↦ stays_as log f s f' s' _ m same.0 same.1 ]
 
-    pub appended_err : (fault : LogFault) (left : Option LogState) → left ≡ None → IsAppended log new batch (Err fault) → IsTouching (Err fault) ⊎ ((f' ≡ f) × (s' ≡ s)) → (IsTouching (Err fault) → Made) →
-        Appended seen moment images batch made log left f s f' s' (Err fault)
-    appended_err NoMemory left is said e makes = record { any = untouched NoMemory (λ t. t) e; answer = is }
-    appended_err DiskFault left is said e makes = record { any = any made (makes tt); answer = is }
-    appended_err (Damaged second at) left is said e makes = absurd said
-    appended_err (StoreFull end more) left is said e makes = record { any = untouched (StoreFull end more) (λ t. t) e; answer = (is, said.1, said.2, said.3) }
-    appended_err Unfit left is said e makes = record { any = untouched Unfit (λ t. t) e; answer = is }
-    appended_err Stale left is said e makes = let fresh = m.fresh in let stale = said.0 in cc
+    refused : (fault : LogFault) (left : Option LogState) → left ≡ None → IsAppended log new batch (Err fault) → IsTouching (Err fault) ⊎ ((f' ≡ f) × (s' ≡ s)) → (IsTouching (Err fault) → Made) → Said (payload_of log batch) left (Err fault)
+    refused NoMemory left is said e makes = record { any = untouched NoMemory (λ t. t) e; answer = is }
+    refused DiskFault left is said e makes = record { any = any made (makes tt); answer = is }
+    refused (Damaged second at) left is said e makes = absurd said
+    refused (StoreFull end more) left is said e makes = record { any = untouched (StoreFull end more) (λ t. t) e; answer = (is, said.1, said.2, said.3) }
+    refused Unfit left is said e makes = record { any = untouched Unfit (λ t. t) e; answer = is }
+    refused Stale left is said e makes = let fresh = m.fresh in let stale = said.0 in cc
+
+    pub appended_err : (fault : LogFault) (left : Option LogState) → left ≡ None → IsAppended log new batch (Err fault) → IsTouching (Err fault) ⊎ ((f' ≡ f) × (s' ≡ s)) → (IsTouching (Err fault) → Made) → Said payload left (Err fault)
+    appended_err fault left is said e makes = subst (λ bytes. Said bytes left (Err fault)) same (refused fault left is said e makes)

@@ -1,21 +1,22 @@
 -- What a call answers, from where it ended.
-use Rattle.std.proofs.Common.{◌≡◌, ◌⊎◌, inl, inr, ⊥, ℕ, ◌≤◌, ◌<◌, Bool, true, false, List, [], ◌∷◌, refl, sym, ap, subst, ◌∙◌, arith, Option, Some, None, Result, Ok, Err}
-use Rattle.std.specs.Prelude.{◌↔◌}
+use Rattle.std.proofs.Common.{◌≡◌, ◌⊎◌, inl, inr, ℕ, ◌≤◌, Bool, true, List, refl, sym, ap, subst, ◌∙◌, arith, Option, Some, None, Result, Ok, Err}
+use Rattle.std.specs.Prelude.{codes, ◌++◌, is_some}
 use Rattle.muck_io.specs.Faults.{Rose}
 use Rattle.muck_model.specs.declared.event.Entry.{Entry}
 use Rattle.muck_model.specs.declared.note.Note.{Note}
 use Rattle.muck_log.specs.Store.{Chosen, Damage, LogState, stored}
+use Rattle.muck_log.specs.World.{IsFine}
 use Rattle.muck_log.specs.Mount.{IsMountedAs, IsMountFault}
 use Rattle.muck_log.specs.declared.fault.LogFault.{LogFault}
 use Rattle.muck_log.specs.declared.fault.LogFault.TheVariants.{NoMemory as LogMemory, DiskFault as LogDisk, Damaged as LogDamaged, StoreFull as LogFull, Unfit, Stale}
 use Rattle.spec_dumps.specs.Fronts.{file_most}
 use Rattle.muck_script.specs.declared.act.Act.{Act}
-use Rattle.muck_script.specs.Script.{script_of}
-use Rattle.muckd.specs.Outcome.{HasRead, HasBegun, EndsAs, IsInGrammar, IsFirstOutside}
-use Rattle.muckd.specs.inner.Ends.{why_of, MayNotOpen, IsMountWhy, MayRefuse, IsScriptWhy, HasPlayed, MayEnd, MayEndDump, booted_from}
+use Rattle.muckd.specs.Outcome.{HasRead, HasBegun, IsUnbegun, IsUntouched, EndsAs, IsInGrammar, IsFirstOutside}
+use Rattle.muckd.specs.inner.Ends.{refusal_of, MayNotOpen, IsMountWhy, MayRefuse, IsScriptWhy, HasPlayed, NeverPlayed, MayEnd, MayEndDump, booted_from}
 use Rattle.muckd.specs.declared.why.Why.{Why}
 use Rattle.muckd.specs.declared.why.Why.TheVariants.{Fine, Usage, BadScript, NoMemory, ReadFault, WriteFault, DiskFault, Damaged, StoreFull}
 use Rattle.muckd.proofs.Started.{licensed_from, known_from}
+use Rattle.muckd.proofs.Untouched.{untouched_still, untouched_on}
 
 -- Files that aren't opened, and stores that aren't mounted.
 
@@ -29,13 +30,30 @@ opens_may NoMemory may = tt
 opens_may DiskFault may = tt
 opens_may why may = absurd may
 
-pub mount_told : (a b : List ℕ) (fault : LogFault) → IsMountFault a b fault → IsMountWhy a b (why_of fault)
+pub mount_told : (a b : List ℕ) (fault : LogFault) → IsMountFault a b fault → IsMountWhy a b (refusal_of fault)
 mount_told a b LogMemory told = tt
 mount_told a b LogDisk told = tt
 mount_told a b (LogDamaged second at) told = told
 mount_told a b (LogFull end more) told = absurd told
 mount_told a b Unfit told = absurd told
 mount_told a b Stale told = absurd told
+
+pub mount_may : (fault : LogFault) → MayRefuse (refusal_of fault)
+mount_may LogMemory = tt
+mount_may LogDisk = tt
+mount_may (LogDamaged second at) = tt
+mount_may (LogFull end more) = tt
+mount_may Unfit = tt
+mount_may Stale = tt
+
+-- only a disk that failed is answered so
+pub disk_refused : (fault : LogFault) → refusal_of fault ≡ DiskFault → fault ≡ LogDisk
+disk_refused LogMemory e = cc
+disk_refused LogDisk e = refl
+disk_refused (LogDamaged second at) e = cc
+disk_refused (LogFull end more) e = cc
+disk_refused Unfit e = cc
+disk_refused Stale e = cc
 
 -- How a call ends: it wasn't begun where no store was mounted and where no script was read.
 
@@ -85,19 +103,38 @@ either_since a b c x y z le ge rose = elim rose [
   | inr r ↦ inr (rose_since x y z ge r)
 ]
 
+-- Two files that nothing was written to hold the same store.
+module _ {D : Type 0} (seen : D → List ℕ) (moment : D → ℕ) (images : D → ℕ → List ℕ → Type 0) (first second first' second' : D) (a : IsUntouched seen moment images first first') (b : IsUntouched seen moment images second second') where
+  pub holds_still : (r : Result Chosen Damage) → stored (seen first') (seen second') ≡ r → stored (seen first) (seen second) ≡ r
+  holds_still r is = ap (λ x. stored x (seen second)) (sym a.gives) ∙ ap (λ y. stored (seen first') y) (sym b.gives) ∙ is
+
+-- memory was wanted before the run began
+module _ {K D : Type 0} (tells : Bool) (seen : D → List ℕ) (moment : D → ℕ) (images : D → ℕ → List ℕ → Type 0) (why : Why) (k l : K) (first second first' second' first'' second'' : D) (tale : List Entry) where
+  pub never_begun : (tells ≡ true → IsUntouched seen moment images first first') → (tells ≡ true → IsUntouched seen moment images second second') → NeverPlayed why k l first' second' first'' second'' tale
+      → IsUnbegun tells seen moment images k l first second first'' second'' tale
+  never_begun a b never = record {
+    empty = never.empty;
+    sink = never.sink;
+    first_file = λ on. untouched_on seen moment images first first' first'' (a on) (untouched_still seen moment images first' first'' never.first_file);
+    second_file = λ on. untouched_on seen moment images second second' second'' (b on) (untouched_still seen moment images second' second'' never.second_file);
+  }
+
 -- A run that was played has begun, on the log that the files held.
-module _ {S K D : Type 0} (left : S → Option (List ℕ)) (faults : S → ℕ) (written : K → Option (List ℕ)) (breaks : K → ℕ) (tells : Bool) (seen : D → List ℕ) (moment : D → ℕ) (images : D → ℕ → List ℕ → Type 0)
+module _ {S K D : Type 0} (left : S → Option (List ℕ)) (faults : S → ℕ) (written : K → Option (List ℕ)) (breaks : K → ℕ) (tells : Bool) (attached : D → Option (List ℕ)) (seen : D → List ℕ) (moment : D → ℕ) (images : D → ℕ → List ℕ → Type 0) (store : List ℕ)
     (log : LogState) (why : Why) (acts : List Act) (s t : S) (k l : K) (first second first' second' first'' second'' : D) (tale : List Entry) (notes : List Note) where
-  pub has_begun : (tells ≡ true → IsMountedAs seen moment images file_most log first' second') → (tells ≡ true → seen first' ≡ seen first) → (tells ≡ true → seen second' ≡ seen second) → HasRead left faults s t acts
-      → HasPlayed written breaks tells moment images log why acts k l first'' second'' tale notes
-      → HasBegun left faults written breaks tells seen moment images why s t k l first second first'' second'' tale notes
-  has_begun mounted a b read p = record {
+  pub has_begun : (tells ≡ true → IsMountedAs seen moment images file_most log first' second') → IsFine log.chosen.held.world
+      → (tells ≡ true → attached first' ≡ Some (store ++ codes ".a")) → (tells ≡ true → attached second' ≡ Some (store ++ codes ".b"))
+      → (tells ≡ true → IsUntouched seen moment images first first') → (tells ≡ true → IsUntouched seen moment images second second') → HasRead left faults s t acts
+      → HasPlayed written breaks tells moment images log why acts k l first' second' first'' second'' tale notes
+      → HasBegun left faults written breaks tells attached seen moment images (Some store) why s t k l first second first'' second'' tale notes
+  has_begun mounted fine name_a name_b a b read p = record {
     start = booted_from log.chosen.held.world;
     mounted = log.chosen.held.number;
     begins = record {
       kept = log.chosen.held.world;
+      fine = fine;
       boots = refl;
-      holds = λ on. (log.chosen, ap (λ x. stored x (seen second)) (sym (a on)) ∙ ap (λ y. stored (seen first') y) (sym (b on)) ∙ (mounted on).mounted.load, refl, refl);
+      holds = λ on. (log.chosen, holds_still seen moment images first second first' second' (a on) (b on) (Ok log.chosen) (mounted on).mounted.load, refl, refl);
     };
     happened = record {
       lawful = p.lawful;
@@ -106,6 +143,21 @@ module _ {S K D : Type 0} (left : S → Option (List ℕ)) (faults : S → ℕ) 
       acts = acts;
       read = read;
       run = p.run;
+    };
+    opened = record {
+      store = store;
+      named = refl;
+      mounted_first = first';
+      mounted_second = second';
+      first_name = name_a;
+      second_name = name_b;
+      first_file = a;
+      second_file = b;
+      note = p.noted.note;
+      others = p.noted.others;
+      noted = p.noted.noted;
+      first_moment = p.noted.first_moment;
+      second_moment = p.noted.second_moment;
     };
     safe = p.safe;
     whole = p.whole;
@@ -130,11 +182,6 @@ completes left r s DiskFault usage bad read write disk damaged ok grammar = absu
 completes left r s (Damaged file at) usage bad read write disk damaged ok grammar = let both = sym ok ∙ damaged file at refl in cc
 completes left r s (StoreFull end more) usage bad read write disk damaged ok grammar = inr (inr (end, more, refl))
 
--- The words are no command, or they are one.
-
-pub never_usage : (why : Why) (is : Bool) → is ≡ true → (why ≡ Usage → ⊥) → (why ≡ Usage) ↔ (is ≡ false)
-never_usage why true e other = (λ u. absurd (other u), λ f. cc)
-never_usage why false e other = cc
-
-pub always_usage : (is : Bool) → is ≡ false → (Usage ≡ Usage) ↔ (is ≡ false)
-always_usage is e = (λ u. e, λ f. refl)
+-- words without the name of a store are no command
+pub no_command : (name : Option (List ℕ)) → name ≡ None → is_some name ≡ true → ⊥
+no_command name none some = let both = sym (ap is_some none) ∙ some in cc

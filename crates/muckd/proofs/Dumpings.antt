@@ -243,15 +243,15 @@ module _ {D : Type 0} (seen : D → List ℕ) (moment : D → ℕ) (images : D �
     dumped : after_batch log.chosen (payload_of log batch) (persisted (now h)) ≡ dumped_on log.chosen world
     dumped = dumped_is log.chosen (payload_of log batch) (now h) world (cut_live h n) payload_same_as
 
-    written : (left : Option LogState) (r : Result (Unit {0}) LogFault) → Appended seen moment images batch (persisted (now h)) log left f s f' s' r → Keeps seen moment images faults None f' s' mounted begins
+    written : (left : Option LogState) (r : Result (Unit {0}) LogFault) → Appended seen moment images (payload_of log batch) (persisted (now h)) log left f s f' s' r → Keeps seen moment images faults None f' s' mounted begins
     written left r a =
         append_moves seen moment images faults f s mounted h note 0 n (here f s h) (count f s h) refl log v whole_consistent number f' s'
         (subst (λ x. LeavesBoth moment images f s f' s' (LoadsEither log.chosen x)) dumped a.any) first_later second_later
 
-    pub written_keeps : (left : Option LogState) (r : Result (Unit {0}) LogFault) → Appended seen moment images batch (persisted (now h)) log left f s f' s' r → Keeps seen moment images faults None f' s' mounted k
+    pub written_keeps : (left : Option LogState) (r : Result (Unit {0}) LogFault) → Appended seen moment images (payload_of log batch) (persisted (now h)) log left f s f' s' r → Keeps seen moment images faults None f' s' mounted k
     written_keeps left r a = subst (λ (x : History). Keeps seen moment images faults None f' s' mounted x) (sym cuts) (written left r a)
 
-    module _ (left : Option LogState) (m : History) (a : Appended seen moment images batch (persisted (now h)) log left f s f' s' (Ok tt)) (ends : m ≡ entered (noted k (note_of moment faults f' s' k)) (by_porter (Stored n))) where
+    module _ (left : Option LogState) (m : History) (a : Appended seen moment images (payload_of log batch) (persisted (now h)) log left f s f' s' (Ok tt)) (ends : m ≡ entered (noted k (note_of moment faults f' s' k)) (by_porter (Stored n))) where
       abbrev end_note : Note
       end_note = note_of moment faults f' s' k
 

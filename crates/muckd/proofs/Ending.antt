@@ -1,34 +1,38 @@
 -- What a run comes to, from how it was played and how its last dump came out.
-use Rattle.std.proofs.Common.{◌≡◌, ⊥, ℕ, Bool, true, List, [], ◌∷◌, refl, sym, ap, subst, ◌∙◌, Option, Some}
-use Rattle.muck_io.specs.Faults.{Rose}
+use Rattle.std.proofs.Common.{◌≡◌, ℕ, Bool, List, sym, ap, subst, ◌∙◌, Option}
 use Rattle.muck_model.specs.declared.event.Entry.{Entry}
 use Rattle.muck_model.specs.declared.note.Note.{Note}
-use Rattle.muck_log.specs.Store.{LogState}
 use Rattle.spec_dumps.specs.Survival.{IsSafe, StandsWhole}
 use Rattle.spec_events.specs.World.{World}
-use Rattle.spec_events.specs.Histories.{History, now, Longer, AllLawful}
+use Rattle.spec_events.specs.Histories.{History, Longer, AllLawful}
 use Rattle.muck_script.specs.declared.act.Act.{Act}
-use Rattle.muck_script.specs.Story.{lines_story, dumping}
-use Rattle.muckd.specs.Outcome.{HasRun}
-use Rattle.muckd.specs.inner.Plays.{Plays, Breaks}
+use Rattle.muck_script.specs.Story.{stored, failed, dump_entries, lines_story}
+use Rattle.muckd.specs.Outcome.{HasRun, EndsStored, EndsFailed}
+use Rattle.muckd.specs.inner.Plays.{Plays}
 use Rattle.muckd.specs.inner.Dumps.{IsFull}
-use Rattle.muckd.specs.inner.Ends.{EndsPlay, LastKept, MayEndDump}
+use Rattle.muckd.specs.inner.Ends.{EndsPlay, ComesOutAs, MayEndDump}
 use Rattle.muckd.specs.declared.why.Why.{Why}
 use Rattle.muckd.specs.declared.why.Why.TheVariants.{Fine, Usage, BadScript, NoMemory, ReadFault, WriteFault, DiskFault, Damaged, StoreFull}
 use Rattle.muckd.proofs.Whole.{begun, played_whole, died_dumping}
 
+pub ends_stored : (k m : History) (tale : List Entry) → tale ≡ m.entries → ((n : ℕ) × Longer k m (dump_entries (stored n))) → EndsStored tale
+ends_stored k m tale end came = (k.entries, came.0, end ∙ came.1.entries)
+
+pub ends_failed : (k m : History) (tale : List Entry) → tale ≡ m.entries → ((n : ℕ) × Longer k m (dump_entries (failed n))) → EndsFailed tale
+ends_failed k m tale end came = (k.entries, came.0, end ∙ came.1.entries)
+
 -- a run that was played whole, by its last dump
 pub has_run : {K : Type 0} (written : K → Option (List ℕ)) (breaks : K → ℕ) (tells : Bool) (w : World) (note : Note) (why : Why) (acts : List Act) (h k m : History) (before after : K) (tale : List Entry) → h ≡ begun w note → MayEndDump tells why →
-    Plays (lines_story acts) h k (written before) (written after) → ((o : Option (List ℕ)) → EndsPlay k m o why) → tale ≡ m.entries → breaks after ≡ breaks before → HasRun written breaks w why acts before after tale
-has_run written breaks tells w note Fine acts h k m before after tale is may p d end same = (played_whole w note acts h is k m _ _ tale p (d (written after)) end, same)
-has_run written breaks tells w note DiskFault acts h k m before after tale is may p d end same = (played_whole w note acts h is k m _ _ tale p (d (written after)) end, same)
-has_run written breaks tells w note (Damaged second at) acts h k m before after tale is may p d end same = (played_whole w note acts h is k m _ _ tale p (d (written after)) end, same)
-has_run written breaks tells w note (StoreFull size more) acts h k m before after tale is may p d end same = (played_whole w note acts h is k m _ _ tale p (d (written after)) end, same)
-has_run written breaks tells w note NoMemory acts h k m before after tale is may p d end same = (died_dumping w note acts h is k m _ _ tale p (d (written after)) end, same)
-has_run written breaks tells w note Usage acts h k m before after tale is may p d end same = absurd may
-has_run written breaks tells w note (BadScript line) acts h k m before after tale is may p d end same = absurd may
-has_run written breaks tells w note ReadFault acts h k m before after tale is may p d end same = absurd may
-has_run written breaks tells w note WriteFault acts h k m before after tale is may p d end same = absurd may
+    Plays (lines_story acts) h k (written before) (written after) → ((o : Option (List ℕ)) → EndsPlay k m o why) → ComesOutAs k m why → tale ≡ m.entries → breaks after ≡ breaks before → HasRun written breaks w why acts before after tale
+has_run written breaks tells w note Fine acts h k m before after tale is may p d came end same = (played_whole w note acts h is k m _ _ tale p (d (written after)) end, ends_stored k m tale end came, same)
+has_run written breaks tells w note DiskFault acts h k m before after tale is may p d came end same = (played_whole w note acts h is k m _ _ tale p (d (written after)) end, ends_failed k m tale end came, same)
+has_run written breaks tells w note (Damaged second at) acts h k m before after tale is may p d came end same = (played_whole w note acts h is k m _ _ tale p (d (written after)) end, ends_failed k m tale end came, same)
+has_run written breaks tells w note (StoreFull size more) acts h k m before after tale is may p d came end same = (played_whole w note acts h is k m _ _ tale p (d (written after)) end, ends_failed k m tale end came, same)
+has_run written breaks tells w note NoMemory acts h k m before after tale is may p d came end same = (died_dumping w note acts h is k m _ _ tale p (d (written after)) end, same)
+has_run written breaks tells w note Usage acts h k m before after tale is may p d came end same = absurd may
+has_run written breaks tells w note (BadScript line) acts h k m before after tale is may p d came end same = absurd may
+has_run written breaks tells w note ReadFault acts h k m before after tale is may p d came end same = absurd may
+has_run written breaks tells w note WriteFault acts h k m before after tale is may p d came end same = absurd may
 
 -- a run began in w, and its tale is the entries of the history m
 pub start_is : (w : World) (note : Note) (h : History) → h ≡ begun w note → h.start ≡ w

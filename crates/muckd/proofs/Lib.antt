@@ -15,4 +15,6 @@ pub mod Lining
 pub mod Started
 pub mod Closing
 pub mod Played
+pub mod Noted
+pub mod Untouched
 pub mod Called

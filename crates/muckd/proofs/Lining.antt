@@ -1,5 +1,5 @@
 -- A line of a script: the dump that is asked there, and what is kept of the disks behind it.
-use Rattle.std.proofs.Common.{◌≡◌, ℕ, Bool, true, false, ◌||◌, List, [], refl, sym, ap, ◌∙◌, Option, is_some, Result, Ok, Err}
+use Rattle.std.proofs.Common.{◌≡◌, ℕ, Bool, true, false, ◌||◌, List, refl, sym, ap, Option, is_some, Result, Ok, Err}
 use Rattle.std.proofs.lemmas.Bool.{cond-true, cond-false}
 use Rattle.muck_log.specs.Store.{LogState}
 use Rattle.muck_log.specs.declared.fault.LogFault.{LogFault}
@@ -12,7 +12,7 @@ use Rattle.spec_live.specs.Connections.{connections_most}
 use Rattle.muck_script.specs.declared.act.Act.{Act}
 use Rattle.muck_script.specs.Story.{Dumped, Part, acted, turns, turns_most, plain, both, served, asks_dump, dumping, asked_dump, line_story}
 use Rattle.muckd.specs.declared.playing.RunFault.{RunFault}
-use Rattle.muckd.specs.declared.playing.RunFault.TheVariants.{NoMemory, WriteFault}
+use Rattle.muckd.specs.declared.playing.RunFault.TheVariants.{NoMemory}
 use Rattle.muckd.specs.inner.Dumps.{Dumps, Held}
 use Rattle.muckd.specs.inner.Plays.{Plays, Breaks, PlaysOrBreaks}
 use Rattle.muckd.proofs.Parts.{plays_nothing, plays_both, breaks_first, breaks_second}
@@ -27,17 +27,17 @@ is_asked act w = asks_dump act || is_some w.dumps.asked
 
 asked_is : (act : Act) (w : World) (os : List Dumped) → is_asked act w ≡ true → dumping os w ≡ asked_dump act os w
 unfolding asked_dump
-asked_is act w os yes = sym (cond-true _ _ _ yes)
+asked_is act w os due = sym (cond-true _ _ _ due)
 
 pub plays_asked : (act : Act) (h k : History) (o : Option (List ℕ)) → is_asked act (now h) ≡ true → Plays dumping h k o o → Plays (asked_dump act) h k o o
-plays_asked act h k o yes p = plays_as dumping (asked_dump act) h k o o (λ os. asked_is act (now h) os yes) p
+plays_asked act h k o due p = plays_as dumping (asked_dump act) h k o o (λ os. asked_is act (now h) os due) p
 
 pub breaks_asked : (act : Act) (ending : List Entry) (h k : History) (o : Option (List ℕ)) → is_asked act (now h) ≡ true → Breaks dumping ending h k o o → Breaks (asked_dump act) ending h k o o
-breaks_asked act ending h k o yes p = breaks_as dumping (asked_dump act) ending h k o o (λ os. asked_is act (now h) os yes) p
+breaks_asked act ending h k o due p = breaks_as dumping (asked_dump act) ending h k o o (λ os. asked_is act (now h) os due) p
 
 pub plays_unasked : (act : Act) (h : History) (o : Option (List ℕ)) → is_asked act (now h) ≡ false → (now h).dead ≡ false → Plays (asked_dump act) h h o o
 unfolding asked_dump
-plays_unasked act h o no alive = plays_nothing (asked_dump act) h h o (λ later. cond-false _ _ _ no) refl alive
+plays_unasked act h o undue alive = plays_nothing (asked_dump act) h h o (λ later. cond-false _ _ _ undue) refl alive
 
 -- What a line of the script does, by its three parts.
 
@@ -62,13 +62,6 @@ unfolding line_story
 line_serves act h k l m a b c r p q s =
     second_part (then_asked act) (served connections_most 1) h l m a b c r (plays_both (first_turns act) (asked_dump act) h k l a b b p q) s
 
--- memory is no write fault
-pub no_write : {T X : Type 0} (fault : RunFault) → (let r : Result T RunFault = Err fault in r ≡ Err NoMemory) → (let r : Result T RunFault = Err fault in r ≡ Err WriteFault) → X
-no_write fault is e = let both = sym is ∙ e in cc
-
-fault_is : {T : Type 0} (fault : RunFault) → (let r : Result T RunFault = Err fault in r ≡ Err NoMemory) → fault ≡ NoMemory
-fault_is fault e = cc
-
 module _ {D T : Type 0} (seen : D → List ℕ) (moment : D → ℕ) (images : D → ℕ → List ℕ → Type 0) (faults : D → ℕ) (log : Option LogState) (f s : D) (mounted : ℕ) (k : History) (r : Result T RunFault) where
   -- the disks rest, whatever the answer
   pub held_resting : Rests seen moment images faults log f s mounted k → Held seen moment images faults log f s mounted k r
@@ -79,9 +72,9 @@ module _ {D T : Type 0} (seen : D → List ℕ) (moment : D → ℕ) (images : D
 
 module _ {D : Type 0} (seen : D → List ℕ) (moment : D → ℕ) (images : D → ℕ → List ℕ → Type 0) (faults : D → ℕ) (log : Option LogState) (f s : D) (mounted : ℕ) (k : History) where
   -- a dump was made
-  pub held_dumped : {T : Type 0} (o : Option LogFault) (x : T) → Dumps seen moment images faults log f s mounted k (Ok o) → Held seen moment images faults log f s mounted k (let r : Result T RunFault = Ok x in r)
+  pub held_dumped : {T : Type 0} (o : Option LogFault) (x : T) → Dumps seen moment images faults log f s mounted k (Ok o) → Held {T = T} seen moment images faults log f s mounted k (Ok x)
   held_dumped o x d = record { safe = d.safe; rests = λ other. d.rests }
 
   -- memory was wanted for it
-  pub held_died : {T : Type 0} (fault : RunFault) → Dumps seen moment images faults log f s mounted k (Err fault) → (let r : Result (Option LogFault) RunFault = Err fault in r ≡ Err NoMemory) → Held seen moment images faults log f s mounted k (let r : Result T RunFault = Err fault in r)
-  held_died fault d is = record { safe = d.safe; rests = λ other. absurd (other (ap Err (fault_is fault is))) }
+  pub held_died : {T : Type 0} (fault : RunFault) → Dumps seen moment images faults log f s mounted k (Err fault) → fault ≡ NoMemory → Held {T = T} seen moment images faults log f s mounted k (Err fault)
+  held_died fault d is = record { safe = d.safe; rests = λ other. absurd (other (ap Err is)) }

@@ -2,15 +2,18 @@
 use Rattle.std.proofs.Common.{◌≡◌, ◌⊎◌, ℕ, ◌≤◌, true, List, length, refl, sym, subst, Option, Some, None, Result, Ok, Err, IsSome, IfOk}
 use Rattle.std.specs.Prelude.{is_some, false}
 use Rattle.muck_codec.specs.declared.stored.Batch.{Batch}
+use Rattle.muck_codec.specs.declared.stored.Stored.{Stored as Record}
 use Rattle.muck_io.specs.Faults.{Rose}
 use Rattle.muck_log.specs.File.{after_number}
 use Rattle.muck_log.specs.Mount.{IsMountedAs, IsMountFault}
 use Rattle.muck_log.specs.World.{tune_fits}
 use Rattle.muck_log.specs.Store.{LogState, LeavesOnly, IsMounted, stored}
+use Rattle.muck_log.specs.Append.{base_of, payload_of}
 use Rattle.muck_log.specs.declared.fault.LogFault.{LogFault}
 use Rattle.muck_log.specs.declared.fault.LogFault.TheVariants.{NoMemory, DiskFault, Damaged, StoreFull, Unfit, Stale}
 use Rattle.muck_model.specs.declared.event.Event.TheVariants.{Cut, Stored, DumpFailed, Died}
 use Rattle.muck_model.specs.declared.tune.Tune.{Tune}
+use Rattle.muck_store.specs.Changes.{LeavesOut}
 use Rattle.muck_store.specs.Forms.{persist, world_batch}
 use Rattle.spec_admin.specs.Parameters.{IsInRange}
 use Rattle.spec_dumps.specs.Fronts.{Loads, file_most, persisted}
@@ -92,19 +95,24 @@ module _ {D : Type 0} (seen : D → List ℕ) (moment : D → ℕ) (images : D �
   module _ (o : Option LogState) (f s f' s' : D) (h k : History) (n : ℕ) (some : IsSome o) (v : Keeps seen moment images faults o f s mounted h)
       (number : (log : LogState) → o ≡ Some log → n ≡ after_number log.chosen.held.number)
       (cuts : k ≡ entered (noted h (note_of moment faults f s h)) (by_porter (Cut n))) (consistent : IsConsistent (now h).live.objects) (tuned : IsInRange (now h).live.board.tune)
-      (batch : Batch) (same : batch ≡ world_batch (now h).live.objects (now h).live.board.tune) (first_later : faults f ≤ faults f') (second_later : faults s ≤ faults s')
+      (base : List Record) (over : (log : LogState) → o ≡ Some log → base ≡ base_of log) (size : ℕ) (count : size ≡ length (now h).live.objects)
+      (batch : Batch) (left_out : LeavesOut base (persist (now h).live.objects) batch.records) (tuning : batch.tune ≡ (now h).live.board.tune) (first_later : faults f ≤ faults f') (second_later : faults s ≤ faults s')
       (left : Option LogState) where
     abbrev Wrote : Result (Unit {0}) LogFault → Type 0
-    Wrote r = (log : LogState) (es : List Entry) (tune : Tune) → o ≡ Some log → batch ≡ world_batch es tune → tune_fits tune ≡ true → 2 ≤ length es →
-        Appended seen moment images batch (record { objects = persist es; tune = tune }) log left f s f' s' r
+    Wrote r = (log : LogState) (es : List Entry) (tune : Tune) → o ≡ Some log → LeavesOut (base_of log) (persist es) batch.records → batch.tune ≡ tune → size ≡ length es → tune_fits tune ≡ true → 2 ≤ length es →
+        Appended seen moment images (payload_of log (world_batch es tune)) (record { objects = persist es; tune = tune }) log left f s f' s' r
 
-    at : (r : Result (Unit {0}) LogFault) → Wrote r → (log : LogState) → o ≡ Some log → Appended seen moment images batch (persisted (now h)) log left f s f' s' r
-    at r w log is = w log (now h).live.objects (now h).live.board.tune is same (tune_of (now h).live.board.tune tuned) (two_there (now h).live.objects consistent)
+    abbrev whole : Batch
+    whole = world_batch (now h).live.objects (now h).live.board.tune
+
+    at : (r : Result (Unit {0}) LogFault) → Wrote r → (log : LogState) → o ≡ Some log → Appended seen moment images (payload_of log whole) (persisted (now h)) log left f s f' s' r
+    at r w log is =
+        w log (now h).live.objects (now h).live.board.tune is (subst (λ os. LeavesOut os (persist (now h).live.objects) batch.records) (over log is) left_out) tuning count (tune_of (now h).live.board.tune tuned) (two_there (now h).live.objects consistent)
 
     still : (r : Result (Unit {0}) LogFault) → Wrote r → Keeps seen moment images faults None f' s' mounted k
     still r w =
         let p = is_there o some in
-        written_keeps seen moment images faults mounted p.0 f s f' s' h k n (as_some o f s h v p.0 p.1) (number p.0 p.1) cuts consistent batch same first_later second_later left r (at r w p.0 p.1)
+        written_keeps seen moment images faults mounted p.0 f s f' s' h k n (as_some o f s h v p.0 p.1) (number p.0 p.1) cuts consistent whole refl first_later second_later left r (at r w p.0 p.1)
 
     -- memory was wanted for the batch
     pub dies_unwritten : (r : Result (Unit {0}) LogFault) → Wrote r → (m : History) → m ≡ entered k (by_porter Died) → Dumps seen moment images faults left f' s' mounted m (Err OutOfMemory)
@@ -117,7 +125,7 @@ module _ {D : Type 0} (seen : D → List ℕ) (moment : D → ℕ) (images : D �
     pub comes_out : Wrote (Ok tt) → (m : History) → m ≡ entered (noted k (note_of moment faults f' s' k)) (by_porter (Stored n)) → Dumps seen moment images faults left f' s' mounted m (Ok None)
     comes_out w m ends =
         let p = is_there o some in
-        dumps_stored seen moment images faults mounted p.0 f s f' s' h k n (as_some o f s h v p.0 p.1) (number p.0 p.1) cuts consistent batch same first_later second_later left m (at (Ok tt) w p.0 p.1) ends
+        dumps_stored seen moment images faults mounted p.0 f s f' s' h k n (as_some o f s h v p.0 p.1) (number p.0 p.1) cuts consistent whole refl first_later second_later left m (at (Ok tt) w p.0 p.1) ends
 
     still_left : (r : Result (Unit {0}) LogFault) → Wrote r → left ≡ None → Keeps seen moment images faults left f' s' mounted k
     still_left r w is = subst (λ (l : Option LogState). Keeps seen moment images faults l f' s' mounted k) (sym is) (still r w)
@@ -135,7 +143,7 @@ module _ {D : Type 0} (seen : D → List ℕ) (moment : D → ℕ) (images : D �
     fails_out (StoreFull end more) wanted unfit w rose m ends =
         let p = is_there o some in
         let a = at (Err (StoreFull end more)) w p.0 p.1 in
-        dumps_full seen moment images faults mounted o left f s f' s' h k m n v cuts (still_left (Err (StoreFull end more)) w a.answer.0) ends p.0 p.1 batch same end more a.answer.1 a.answer.2 a.answer.3
+        dumps_full seen moment images faults mounted o left f s f' s' h k m n v cuts (still_left (Err (StoreFull end more)) w a.answer.0) ends p.0 p.1 whole refl end more a.answer.1 a.answer.2 a.answer.3
 
 -- the fault that is told is the one for which it failed
 some_fault : (x y : LogFault) (o : Option LogFault) → o ≡ Some x → o ≡ Some y → x ≡ y

@@ -76,6 +76,21 @@ breaks_after f ending h k a b event text e is written app alive = record {
   alive = alive;
 }
 
+-- memory was wanted before anything happened
+pub breaks_at_once : (f : Part) (h k : History) (o : Option (List ℕ)) → Longer h k (by_porter Died ∷ []) → Breaks f (by_porter Died ∷ []) h k o o
+breaks_at_once f h k o is = record {
+  front = [];
+  pending = [];
+  began = tt;
+  whole = λ later. (f later (now h), refl);
+  history = is;
+  told = [];
+  untold = [];
+  text = refl;
+  appended = appends_nothing o;
+  alive = λ e. no_ending e;
+}
+
 -- nothing of its text was written
 pub front_nothing : (o : Option (List ℕ)) (text : List ℕ) → AppendsFront o o text
 front_nothing o text = (0, appends_nothing o)

@@ -1,12 +1,12 @@
--- The records of a world within its limits can be handed to the log.
-use Rattle.std.proofs.Common.{◌≡◌, ℕ, suc, ◌<◌, ◌≤◌, ◌^◌, List, [], ◌∷◌, length, refl, sym, ap, subst, ◌∙◌, arith}
+-- The records of a world within its limits can be handed to the log, without what it keeps.
+use Rattle.std.proofs.Common.{◌≡◌, ℕ, suc, ◌<◌, ◌≤◌, ◌^◌, List, [], ◌∷◌, length, refl, ap, arith}
 use Rattle.std.proofs.lemmas.List.Elements.{All-nil, All-cons}
 use Rattle.muck_codec.specs.declared.stored.Stored.{Stored}
-use Rattle.muck_codec.specs.declared.stored.Batch.{Batch}
 use Rattle.muck_codec.specs.Batches.{HasFewLines}
 use Rattle.muck_db.specs.inner.Limits.{IsWithinLimits}
-use Rattle.muck_model.specs.declared.tune.Tune.{Tune}
-use Rattle.muck_store.specs.Forms.{stored_of, stored_from, persist, world_batch}
+use Rattle.muck_store.proofs.Changing.{left_all, left_fewer}
+use Rattle.muck_store.specs.Changes.{LeavesOut}
+use Rattle.muck_store.specs.Forms.{stored_of, stored_from, persist}
 use Rattle.spec_live.specs.Objects.{Entry, object_in}
 use Rattle.spec_live.specs.Consistent.{IsConsistent}
 
@@ -21,12 +21,10 @@ unfolding stored_from
 length_from es k [] = refl
 length_from es k (e ∷ rest) = ap suc (length_from es (suc k) rest)
 
-pub batch_lines : (batch : Batch) (es : List Entry) (tune : Tune) → batch ≡ world_batch es tune → IsWithinLimits es → HasFewLines batch.records
+pub batch_lines : {base records : List Stored} (es : List Entry) → LeavesOut base (persist es) records → IsWithinLimits es → HasFewLines records
 unfolding persist
-batch_lines batch es tune is limits = subst (λ (b : Batch). HasFewLines b.records) (sym is) (lines_from es 0 es limits)
+batch_lines es left limits = left_all (λ (o : Stored). length o.lines ≤ 4096) left (lines_from es 0 es limits)
 
-pub batch_few : (batch : Batch) (es : List Entry) (tune : Tune) → batch ≡ world_batch es tune → IsConsistent es → length batch.records < 2 ^ 32
+pub batch_few : {base records : List Stored} (es : List Entry) → LeavesOut base (persist es) records → IsConsistent es → length records < 2 ^ 32
 unfolding persist
-batch_few batch es tune is consistent =
-    let size : length batch.records ≡ length es = ap (λ (b : Batch). length b.records) is ∙ length_from es 0 es in
-    omega (arith, size, consistent.ordered.few)
+batch_few es left consistent = omega (arith, left_fewer left, length_from es 0 es, consistent.ordered.few)

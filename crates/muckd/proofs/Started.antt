@@ -1,5 +1,5 @@
 -- A run starts on the world of a log that was mounted.
-use Rattle.std.proofs.Common.{◌≡◌, inl, inr, ⊥, ℕ, ◌≤◌, Bool, true, false, ◌&&◌, List, [], ◌∷◌, length, refl, sym, ap, subst, ◌∙◌, arith, Option, Some, None}
+use Rattle.std.proofs.Common.{◌≡◌, ℕ, ◌≤◌, true, false, List, length, refl, sym, ap, subst, ◌∙◌, arith, Option, Some, None}
 use Rattle.std.proofs.lemmas.Bool.{and_parts, leb-true}
 use Rattle.std.proofs.lemmas.List.Elements.{All-weaker, recursion_from_All}
 use Rattle.std.specs.Prelude.{All, nat_le, slice_get}
@@ -9,8 +9,7 @@ use Rattle.muck_model.specs.declared.note.Note.{Note}
 use Rattle.muck_model.specs.declared.tune.Tune.{Tune}
 use Rattle.muck_codec.specs.declared.stored.Stored.{Stored}
 use Rattle.muck_codec.specs.Stored.{AreProperties, IsStored}
-use Rattle.muck_store.specs.Forms.{entry_of, loaded, persist}
-use Rattle.muck_store.specs.Hung.{IsHung}
+use Rattle.muck_store.specs.Forms.{entry_of, loaded}
 use Rattle.muck_store.specs.Limits.{fits}
 use Rattle.muck_store.specs.Whole.{is_whole}
 use Rattle.muck_store.proofs.Loaded.{get_loaded}
@@ -30,13 +29,13 @@ use Rattle.spec_events.specs.Histories.{History, now, AllLawful, AllLicensed}
 use Rattle.spec_events.specs.Passwords.{AllKnown}
 use Rattle.spec_events.proofs.Passwords.{all_known_booted}
 use Rattle.spec_events.proofs.Turns.{all_licensed_booted}
-use Rattle.spec_live.specs.Objects.{Entry, Mark, mark_in}
+use Rattle.spec_live.specs.Objects.{Entry, mark_in}
 use Rattle.spec_live.specs.Boards.{early_board}
 use Rattle.spec_live.specs.Consistent.{IsConsistent}
 use Rattle.muck_model.specs.declared.event.Entry.{Entry as Happened}
 use Rattle.muckd.specs.inner.Dumps.{note_of}
 use Rattle.muckd.specs.inner.Ends.{IsBootable, booted_from, unbegun_from, begun_from}
-use Rattle.muckd.proofs.Whole.{begun, begun_now}
+use Rattle.muckd.proofs.Whole.{begun}
 
 -- what is kept of a log that was mounted makes a world
 pub bootable : (kept : Kept) → is_fine kept.objects kept.tune ≡ true → IsBootable kept

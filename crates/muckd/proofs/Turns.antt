@@ -1,7 +1,11 @@
--- The turns after a line: nothing is written of them, and they leave the world alive.
+-- The turns after a line: nothing is written of them, they leave the world alive, and no dump is among them.
 use Rattle.std.proofs.Common.{◌≡◌, ℕ, ℤ, false, List, [], ◌∷◌, ◌++◌, refl, sym, ◌∙◌, ap, Option, Some, None, suc, zero, subst}
+use Rattle.std.specs.List.{list_any}
 use Rattle.muck_model.specs.declared.event.Entry.{Entry}
 use Rattle.muck_model.specs.declared.event.Event.TheVariants.{Exec, Claim, Slice, Died}
+use Rattle.spec_dumps.specs.Fronts.{is_dump}
+use Rattle.spec_dumps.specs.Holding.{Quietly}
+use Rattle.spec_dumps.proofs.Quiet.{quiet_grew}
 use Rattle.spec_events.specs.World.{World}
 use Rattle.spec_events.specs.Steps.{effect}
 use Rattle.spec_events.specs.Histories.{History, now, after, Grew, by_porter}
@@ -58,18 +62,37 @@ plays_turns n h k o is alive = record {
   alive = ap (λ (w : World). w.dead) (now-grew h k _ is) ∙ turns_live (turns n (now h)) (turns_are n (now h)) (now h) ∙ alive;
 }
 
+died_in_turns : (n : ℕ) (h k : History) (d : DiedDuring (turns n (now h)) h k) → AreTurns d.front
+died_in_turns n h k d = front_turns d.front d.rest (let P : List Entry → Type 0 = AreTurns in subst P (sym d.whole) (turns_are n (now h)))
+
 pub breaks_turns : (n : ℕ) (h k : History) (o : Option (List ℕ)) → DiedDuring (turns n (now h)) h k → Breaks (plain (turns n)) (by_porter Died ∷ []) h k o o
-breaks_turns n h k o d =
-    let lines : AreTurns d.front = front_turns d.front d.rest (let P : List Entry → Type 0 = AreTurns in subst P (sym d.whole) (turns_are n (now h))) in
-    record {
-      front = d.front;
-      pending = [];
-      began = tt;
-      whole = λ later. (d.rest, d.whole);
-      history = longer_grew h k _ d.died;
-      told = [];
-      untold = [];
-      text = sym (turns_silent d.front lines (now h));
-      appended = appends_nothing o;
-      alive = λ e. no_ending e;
-    }
+breaks_turns n h k o d = record {
+  front = d.front;
+  pending = [];
+  began = tt;
+  whole = λ later. (d.rest, d.whole);
+  history = longer_grew h k _ d.died;
+  told = [];
+  untold = [];
+  text = sym (turns_silent d.front (died_in_turns n h k d) (now h));
+  appended = appends_nothing o;
+  alive = λ e. no_ending e;
+}
+
+turns_quiet : (es : List Entry) → AreTurns es → list_any (λ (e : Entry). is_dump e.event) es ≡ false
+turns_quiet _ no_turn = refl
+turns_quiet _ (a_line d es l) = turns_quiet es l
+turns_quiet _ (a_claim pid es l) = turns_quiet es l
+turns_quiet _ (a_slice pid es l) = turns_quiet es l
+
+dying_quiet : (es : List Entry) → AreTurns es → list_any (λ (e : Entry). is_dump e.event) (es ++ by_porter Died ∷ []) ≡ false
+dying_quiet _ no_turn = refl
+dying_quiet _ (a_line d es l) = dying_quiet es l
+dying_quiet _ (a_claim pid es l) = dying_quiet es l
+dying_quiet _ (a_slice pid es l) = dying_quiet es l
+
+pub quiet_turns : (n : ℕ) (h k : History) → Grew h k (turns n (now h)) → Quietly h k
+quiet_turns n h k is = quiet_grew h k _ (turns_quiet (turns n (now h)) (turns_are n (now h))) is
+
+pub quiet_dying : (n : ℕ) (h k : History) → DiedDuring (turns n (now h)) h k → Quietly h k
+quiet_dying n h k d = quiet_grew h k _ (dying_quiet d.front (died_in_turns n h k d)) d.died

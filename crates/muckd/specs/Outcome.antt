@@ -5,8 +5,8 @@ use Rattle.muck_io.specs.Faults.{Rose}
 use Rattle.muck_model.specs.declared.event.Entry.{Entry}
 use Rattle.muck_model.specs.declared.event.Event.TheVariants.{Halt, Died, Cut}
 use Rattle.muck_model.specs.declared.note.Note.{Note}
-use Rattle.muck_log.specs.World.{World as Kept}
-use Rattle.muck_log.specs.Store.{Chosen, stored as stored_in, target}
+use Rattle.muck_log.specs.World.{World as Kept, IsFine}
+use Rattle.muck_log.specs.Store.{Chosen, LeavesOnly, stored as stored_in, target}
 use Rattle.muck_log.specs.Append.{more_of}
 use Rattle.muck_store.specs.Forms.{loaded}
 use Rattle.spec_dumps.specs.Fronts.{IsFront, dump_payload, log_of, file_most}
@@ -16,7 +16,7 @@ use Rattle.spec_events.specs.Histories.{after, by_porter, AllLawful, AllLicensed
 use Rattle.spec_events.specs.Passwords.{AllKnown}
 use Rattle.muck_script.specs.declared.act.Act.{Act}
 use Rattle.muck_script.specs.Script.{script_of}
-use Rattle.muck_script.specs.Story.{Dumped, outcomes_of, dump_entries, story, text_of, transcript}
+use Rattle.muck_script.specs.Story.{Dumped, stored, failed, outcomes_of, dump_entries, story, text_of, transcript}
 use Rattle.muckd.specs.inner.Plays.{IsPending}
 use Rattle.muckd.specs.declared.why.Why.{Why}
 use Rattle.muckd.specs.declared.why.Why.TheVariants.{Fine, Usage, BadScript, NoMemory, ReadFault, WriteFault, DiskFault, Damaged, StoreFull}
@@ -88,18 +88,33 @@ pub record BrokeOff (w : World) (why : Why) (acts : List Act) (before written : 
   pub text : told ++ untold ≡ text_of w front
   pub appended : Appends before written told
 
--- the run was never begun: the tale is empty, and the sink was not touched
-pub record IsUnbegun {K : Type 0} (before now : K) (tale : List Entry) : Type 0 where
+-- the last dump was stored, or it failed
+abbrev pub EndsStored : List Entry → Type 0
+EndsStored tale = (front : List Entry) × (k : ℕ) × (tale ≡ front ++ dump_entries (stored k))
+
+abbrev pub EndsFailed : List Entry → Type 0
+EndsFailed tale = (front : List Entry) × (k : ℕ) × (tale ≡ front ++ dump_entries (failed k))
+
+-- Nothing was written to a disk: it gives the bytes that it gave, and whatever a crash leaves of it at any moment since it might have
+-- left before.
+pub record IsUntouched {D : Type 0} (seen : D → List ℕ) (moment : D → ℕ) (images : D → ℕ → List ℕ → Type 0) (before now : D) : Type 0 where
+  pub gives : seen now ≡ seen before
+  pub leaves : LeavesOnly moment images before now (images before (moment before))
+
+-- The run was never begun: the tale is empty, the sink was not touched, and nothing was written to the files.
+pub record IsUnbegun {K D : Type 0} (tells : Bool) (seen : D → List ℕ) (moment : D → ℕ) (images : D → ℕ → List ℕ → Type 0) (k l : K) (first second first' second' : D) (tale : List Entry) : Type 0 where
   pub empty : tale ≡ []
-  pub sink : now ≡ before
+  pub sink : l ≡ k
+  pub first_file : tells ≡ true → IsUntouched seen moment images first first'
+  pub second_file : tells ≡ true → IsUntouched seen moment images second second'
 
 -- How a run of these acts in the world w ends, with the count of faults of the sink. The faults of a store are those of the last dump, of
 -- a run that was played whole.
 abbrev pub HasRun : {K : Type 0} → (K → Option (List ℕ)) → (K → ℕ) → World → Why → List Act → K → K → List Entry → Type 0
-HasRun written faults w Fine acts before now tale = PlayedWhole w acts (written before) (written now) tale × (faults now ≡ faults before)
-HasRun written faults w DiskFault acts before now tale = PlayedWhole w acts (written before) (written now) tale × (faults now ≡ faults before)
-HasRun written faults w (Damaged second at) acts before now tale = PlayedWhole w acts (written before) (written now) tale × (faults now ≡ faults before)
-HasRun written faults w (StoreFull end more) acts before now tale = PlayedWhole w acts (written before) (written now) tale × (faults now ≡ faults before)
+HasRun written faults w Fine acts before now tale = PlayedWhole w acts (written before) (written now) tale × EndsStored tale × (faults now ≡ faults before)
+HasRun written faults w DiskFault acts before now tale = PlayedWhole w acts (written before) (written now) tale × EndsFailed tale × (faults now ≡ faults before)
+HasRun written faults w (Damaged second at) acts before now tale = PlayedWhole w acts (written before) (written now) tale × EndsFailed tale × (faults now ≡ faults before)
+HasRun written faults w (StoreFull end more) acts before now tale = PlayedWhole w acts (written before) (written now) tale × EndsFailed tale × (faults now ≡ faults before)
 HasRun written faults w WriteFault acts before now tale = BrokeOff w WriteFault acts (written before) (written now) tale × Rose (faults before) (faults now)
 HasRun written faults w NoMemory acts before now tale = BrokeOff w NoMemory acts (written before) (written now) tale × (faults now ≡ faults before)
 HasRun written faults w why acts before now tale = ⊥
@@ -114,6 +129,7 @@ pub record HasRead {S : Type 0} (left : S → Option (List ℕ)) (faults : S →
 -- that is what these bytes hold, and the number is that of their last batch.
 pub record IsStart (tells : Bool) (a b : List ℕ) (w : World) (mounted : ℕ) : Type 0 where
   pub kept : Kept
+  pub fine : IsFine kept
   pub boots : w ≡ booted (loaded kept.objects) kept.tune 0 0
   pub holds : tells ≡ true → (s : Chosen) × (stored_in a b ≡ Ok s) × (s.held.world ≡ kept) × (s.held.number ≡ mounted)
 
@@ -127,14 +143,33 @@ pub record HasHappened {S K : Type 0} (left : S → Option (List ℕ)) (faults :
   pub read : HasRead left faults s t acts
   pub run : HasRun written breaks w why acts k l tale
 
--- A run that began, with its disks: their bytes before, and what is kept of them at each moment since they were mounted.
+-- The files STORE.a and STORE.b of this store were opened, and the store was mounted: until then nothing was written to them. The first note
+-- is that of both disks as they were there.
+pub record IsOpened {D : Type 0} (tells : Bool) (attached : D → Option (List ℕ)) (seen : D → List ℕ) (moment : D → ℕ) (images : D → ℕ → List ℕ → Type 0) (name : Option (List ℕ)) (first second : D) (notes : List Note) : Type 0 where
+  pub store : List ℕ
+  pub named : name ≡ Some store
+  pub mounted_first : D
+  pub mounted_second : D
+  pub first_name : tells ≡ true → attached mounted_first ≡ Some (store ++ codes ".a")
+  pub second_name : tells ≡ true → attached mounted_second ≡ Some (store ++ codes ".b")
+  pub first_file : tells ≡ true → IsUntouched seen moment images first mounted_first
+  pub second_file : tells ≡ true → IsUntouched seen moment images second mounted_second
+  pub note : Note
+  pub others : List Note
+  pub noted : notes ≡ note ∷ others
+  pub first_moment : note.first_moment ≡ moment mounted_first
+  pub second_moment : note.second_moment ≡ moment mounted_second
+
+-- A run that began, with its disks: their bytes before, and what is kept of them at each moment since they were mounted, which the first
+-- note tells.
 pub record HasBegun {S K D : Type 0} (left : S → Option (List ℕ)) (faults : S → ℕ) (written : K → Option (List ℕ)) (breaks : K → ℕ)
-    (tells : Bool) (seen : D → List ℕ) (moment : D → ℕ) (images : D → ℕ → List ℕ → Type 0) (why : Why)
+    (tells : Bool) (attached : D → Option (List ℕ)) (seen : D → List ℕ) (moment : D → ℕ) (images : D → ℕ → List ℕ → Type 0) (name : Option (List ℕ)) (why : Why)
     (s t : S) (k l : K) (first second first' second' : D) (tale : List Entry) (notes : List Note) : Type 0 where
   pub start : World
   pub mounted : ℕ
   pub begins : IsStart tells (seen first) (seen second) start mounted
   pub happened : HasHappened left faults written breaks start why s t k l tale
+  pub opened : IsOpened tells attached seen moment images name first second notes
   pub safe : tells ≡ true → IsSafe moment images first' second' start mounted tale notes
   pub whole : tells ≡ true → why ≡ Fine → StandsWhole moment images first' second' start tale
   pub full : (end more : ℕ) → tells ≡ true → why ≡ StoreFull end more → (n : ℕ) × (store : Chosen) × IsFront start mounted tale notes n store

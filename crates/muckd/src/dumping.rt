@@ -8,6 +8,8 @@ ghost use Rattle.muck_log.specs.Store.{LogState, IsMounted};
 ghost use Rattle.muck_model.specs.declared.event.Event.TheVariants.{Cut, Died};
 ghost use Rattle.muck_model.specs.declared.tune.Tune.{Tune};
 ghost use Rattle.muck_log.specs.World.{tune_fits};
+ghost use Rattle.muck_log.specs.Append.{base_of, payload_of};
+ghost use Rattle.muck_store.specs.Changes.{LeavesOut};
 ghost use Rattle.muck_store.specs.Forms.{persist, world_batch};
 ghost use Rattle.spec_admin.specs.Parameters.{IsInRange};
 ghost use Rattle.spec_dumps.specs.Holding.{Keeps, Rests};
@@ -16,11 +18,11 @@ ghost use Rattle.spec_events.specs.World.{runs_dump};
 ghost use Rattle.spec_live.specs.Consistent.{IsConsistent};
 ghost use Rattle.spec_live.specs.Objects.{Entry};
 ghost use Rattle.muck_script.specs.Story.{dumping};
-ghost use Rattle.muckd.specs.inner.Dumps.{note_of, ending_event, HasRisen, IsMountingFault, Appended, Dumps, DumpsLast};
+ghost use Rattle.muckd.specs.inner.Dumps.{note_of, ending_event, HasRisen, IsMountingFault, Appended, Dumps, DumpsLast, ComesOut, IsNotedOn};
 ghost use Rattle.muckd.specs.inner.Plays.{PlaysOrBreaks};
 
 use crate::playing::RunFault;
-use muck_codec::Batch;
+use muck_codec::{Batch, Stored};
 use muck_disk::Disk;
 use muck_log::{Log, LogFault};
 use muck_machine::World;
@@ -87,19 +89,39 @@ impl Store {
         }
     }
 
-    // Writes a batch. Where that fails the log has to be mounted again.
+    // What the next dump may leave out of the records of the world.
+    fn base(&self) -> &[Stored]
+        ensures { (log : LogState) → self.now.log ≡ Some log → result.now ≡ base_of log }
+    {
+        match &self.log {
+            Some(log) => log.base(),
+            None => &[],
+        }
+    }
+
+    // The log has to be mounted again, and the next dump has this number.
+    fn close(&mut self, number: u64)
+        ensures { self.new.log ≡ None }
+    {
+        self.number = number;
+        self.log = None;
+    }
+
+    // Writes a batch of a world of so many objects, which leaves out what the log keeps. Where that fails the log has to be
+    // mounted again.
     fn append<D: Disk>(
         &mut self,
         first: &mut D,
         second: &mut D,
+        size: u32,
         batch: &Batch,
     ) -> Result<(), LogFault>
         requires some { IsSome self.old.log }
         requires few { length batch.now.records < 2 ^ 32 }
         requires lines { HasFewLines batch.now.records }
         requires mounted { (log : LogState) → D.tells ≡ true → self.old.log ≡ Some log → IsMounted D.seen D.moment D.images log first.old second.old }
-        ensures wrote { (log : LogState) (es : List Entry) (tune : Tune) → D.tells ≡ true → self.old.log ≡ Some log → batch.now ≡ world_batch es tune → tune_fits tune ≡ true → 2 ≤ length es
-            → Appended D.seen D.moment D.images batch.now (record { objects = persist es; tune = tune }) log self.new.log first.old second.old first.new second.new result }
+        ensures wrote { (log : LogState) (es : List Entry) (tune : Tune) → D.tells ≡ true → self.old.log ≡ Some log → LeavesOut (base_of log) (persist es) batch.now.records → batch.now.tune ≡ tune → size ≡ length es
+            → tune_fits tune ≡ true → 2 ≤ length es → Appended D.seen D.moment D.images (payload_of log (world_batch es tune)) (record { objects = persist es; tune = tune }) log self.new.log first.old second.old first.new second.new result }
         ensures first_later { D.faults first.old ≤ D.faults first.new }
         ensures second_later { D.faults second.old ≤ D.faults second.new }
         ensures cause { IsErrOf result LogFault.DiskFault → Rose (D.faults first.old) (D.faults first.new) ⊎ Rose (D.faults second.old) (D.faults second.new) }
@@ -108,22 +130,32 @@ impl Store {
             return Err(LogFault::Stale);
         };
         let number = log.next();
+        if log.kept().objects().len() > size as usize {
+            self.close(number);
+            return Err(LogFault::Unfit);
+        }
         match log.append(first, second, batch) {
             Ok(_) => Ok(()),
             Err(fault) => {
-                self.number = number;
-                self.log = None;
+                self.close(number);
                 Err(fault)
             }
         }
     }
 }
 
-// The dump of a number begins: what is to be stored.
-fn begin_dump<D: Disk>(world: &mut World, first: &D, second: &D, k: u64) -> Result<Batch, NoMemory>
+// The dump of a number begins: what is to be stored, without what is kept already.
+fn begin_dump<D: Disk>(
+    world: &mut World,
+    first: &D,
+    second: &D,
+    k: u64,
+    base: &[Stored],
+) -> Result<Batch, NoMemory>
     requires alive { (now world.old).dead ≡ false }
     requires idle { (now world.old).dumps.running ≡ None }
-    ensures batch { IfOk result (λ batch. batch ≡ world_batch (now world.old).live.objects (now world.old).live.board.tune) }
+    ensures records { IfOk result (λ batch. LeavesOut base.now (persist (now world.old).live.objects) batch.records) }
+    ensures tune { IfOk result (λ batch. batch.tune ≡ (now world.old).live.board.tune) }
     ensures consistent { OnOk result (IsConsistent (now world.old).live.objects) }
     ensures limits { OnOk result (IsWithinLimits (now world.old).live.objects) }
     ensures tuned { OnOk result (IsInRange (now world.old).live.board.tune) }
@@ -131,7 +163,7 @@ fn begin_dump<D: Disk>(world: &mut World, first: &D, second: &D, k: u64) -> Resu
     ensures died { OnErr result (world.new ≡ entered (noted world.old (note_of D.moment D.faults first.now second.now world.old)) (by_porter Died)) }
 {
     world.note(first, second);
-    world.cut(PORTER, k)
+    world.cut(PORTER, k, base)
 }
 
 // It is over, and who asked for it is told how it came out.
@@ -167,6 +199,8 @@ fn dump_unmounted<D: Disk>(
     requires idle { (now world.old).dumps.running ≡ None }
     ensures plays { (o : Option (List ℕ)) → PlaysOrBreaks dumping world.old world.new o o result }
     ensures last { DumpsLast world.old world.new }
+    ensures outcome { IfOk result (ComesOut world.old world.new) }
+    ensures notes { IsNotedOn world.old world.new }
     ensures memory { OnErr result (result ≡ Err RunFault.NoMemory) }
     ensures idle { OnOk result ((now world.new).dumps.running ≡ None) }
     ensures same { IfOk result (λ o. o ≡ Some fault) }
@@ -175,7 +209,7 @@ fn dump_unmounted<D: Disk>(
         → Dumps D.seen D.moment D.images D.faults store.now.log first.now second.now mounted world.new result }
 {
     let k = store.next();
-    let Ok(_) = begin_dump(world, first, second, k) else {
+    let Ok(_) = begin_dump(world, first, second, k, &[]) else {
         return Err(RunFault::NoMemory);
     };
     match end_dump(world, first, second, k, false) {
@@ -197,6 +231,8 @@ fn dump_mounted<D: Disk>(
     requires mounted { D.tells ≡ true → (mounted : ℕ) × Keeps D.seen D.moment D.images D.faults store.old.log first.old second.old mounted world.old }
     ensures plays { (o : Option (List ℕ)) → PlaysOrBreaks dumping world.old world.new o o result }
     ensures last { DumpsLast world.old world.new }
+    ensures outcome { IfOk result (ComesOut world.old world.new) }
+    ensures notes { IsNotedOn world.old world.new }
     ensures memory { OnErr result (result ≡ Err RunFault.NoMemory) }
     ensures idle { OnOk result ((now world.new).dumps.running ≡ None) }
     ensures kept { (mounted : ℕ) → D.tells ≡ true → Keeps D.seen D.moment D.images D.faults store.old.log first.old second.old mounted world.old
@@ -207,16 +243,17 @@ fn dump_mounted<D: Disk>(
     ensures apart { IfOk result (λ o. o ≡ Some LogFault.NoMemory → ⊥) }
 {
     let k = store.next();
-    let Ok(batch) = begin_dump(world, first, second, k) else {
+    let size = world.size();
+    let Ok(batch) = begin_dump(world, first, second, k, store.base()) else {
         return Err(RunFault::NoMemory);
     };
-    match store.append(first, second, &batch) {
+    match store.append(first, second, size, &batch) {
         Ok(()) => match end_dump(world, first, second, k, true) {
             Ok(()) => Ok(None),
             Err(NoMemory) => Err(RunFault::NoMemory),
         },
         Err(fault) => match fault {
-            // (a batch of a whole world is never unfit)
+            // (no world has fewer objects than are kept, and a batch of one is never unfit)
             LogFault::NoMemory | LogFault::Unfit => {
                 world.died(PORTER);
                 Err(RunFault::NoMemory)
@@ -243,6 +280,8 @@ pub fn dump<D: Disk>(
     requires mounted { D.tells ≡ true → (mounted : ℕ) × Rests D.seen D.moment D.images D.faults store.old.log first.old second.old mounted world.old }
     ensures plays { (o : Option (List ℕ)) → PlaysOrBreaks dumping world.old world.new o o result }
     ensures last { DumpsLast world.old world.new }
+    ensures outcome { IfOk result (ComesOut world.old world.new) }
+    ensures notes { IsNotedOn world.old world.new }
     ensures memory { OnErr result (result ≡ Err RunFault.NoMemory) }
     ensures idle { OnOk result ((now world.new).dumps.running ≡ None) }
     ensures kept { (mounted : ℕ) → D.tells ≡ true → Rests D.seen D.moment D.images D.faults store.old.log first.old second.old mounted world.old

@@ -5,7 +5,7 @@ ghost use Rattle.spec_events.specs.Histories.{now};
 ghost use Rattle.spec_live.specs.Connections.{connections_most};
 ghost use Rattle.muck_script.specs.Story.{acted, turns, turns_most, taken, parted, plain, both, served, asks_dump, asked_dump, line_story, lines_story};
 ghost use Rattle.spec_dumps.specs.Holding.{Quietly, Rests};
-ghost use Rattle.muckd.specs.inner.Dumps.{Held};
+ghost use Rattle.muckd.specs.inner.Dumps.{Held, IsNotedOn};
 ghost use Rattle.muckd.specs.inner.Plays.{PlaysOrBreaks};
 
 use crate::dumping::{Store, dump};
@@ -257,6 +257,7 @@ fn make_asked<D: Disk>(
     requires idle { (now world.old).dumps.running ≡ None }
     requires mounted { D.tells ≡ true → (mounted : ℕ) × Rests D.seen D.moment D.images D.faults store.old.log first.old second.old mounted world.old }
     ensures plays { (o : Option (List ℕ)) → PlaysOrBreaks (asked_dump line.now) world.old world.new o o result }
+    ensures notes { IsNotedOn world.old world.new }
     ensures memory { OnErr result (result ≡ Err RunFault.NoMemory) }
     ensures idle { OnOk result ((now world.new).dumps.running ≡ None) }
     ensures kept { (mounted : ℕ) → D.tells ≡ true → Rests D.seen D.moment D.images D.faults store.old.log first.old second.old mounted world.old
@@ -287,6 +288,7 @@ fn play_line<K: Sink, D: Disk>(
     requires idle { (now world.old).dumps.running ≡ None }
     requires mounted { D.tells ≡ true → (mounted : ℕ) × Rests D.seen D.moment D.images D.faults store.old.log first.old second.old mounted world.old }
     ensures plays { PlaysOrBreaks (line_story line.now) world.old world.new (K.written out.old) (K.written out.new) result }
+    ensures notes { IsNotedOn world.old world.new }
     ensures fine { OnOk result (K.faults out.new ≡ K.faults out.old) }
     ensures later { K.faults out.old ≤ K.faults out.new }
     ensures write { IsErrOf result RunFault.WriteFault → Rose (K.faults out.old) (K.faults out.new) }
@@ -323,6 +325,7 @@ pub fn play<K: Sink, D: Disk>(
     requires idle { (now world.old).dumps.running ≡ None }
     requires mounted { D.tells ≡ true → (mounted : ℕ) × Rests D.seen D.moment D.images D.faults store.old.log first.old second.old mounted world.old }
     ensures plays { PlaysOrBreaks (lines_story acts.now) world.old world.new (K.written out.old) (K.written out.new) result }
+    ensures notes { IsNotedOn world.old world.new }
     ensures fine { OnOk result (K.faults out.new ≡ K.faults out.old) }
     ensures later { K.faults out.old ≤ K.faults out.new }
     ensures write { IsErrOf result RunFault.WriteFault → Rose (K.faults out.old) (K.faults out.new) }

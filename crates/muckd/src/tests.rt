@@ -189,15 +189,32 @@ fn causes_are_shown(rt: HostRuntime) -> Result<(), Fail> {
 }
 
 #[test]
-fn an_empty_script_stores_the_first_world(rt: HostRuntime) -> Result<(), Fail> {
+fn a_run_of_no_line_is_stored(rt: HostRuntime) -> Result<(), Fail> {
     let mut first = MemDisk::new(rt.alloc(), &[])?;
     let mut second = MemDisk::new(rt.alloc(), &[])?;
-    let (why, written) = run_on(rt.alloc(), "", 0, 0, 4096, &mut first, &mut second)?;
-    assert_eq!(rt; why, Why::Fine);
-    assert!(rt; written.is_empty());
-    // The gate, the length, the head and a batch without a record, and the closed gate behind it.
-    assert_eq!(rt; first.bytes().len(), 67);
-    assert!(rt; second.bytes().is_empty());
+    // A batch without a record between its gates, and another one behind it.
+    for size in [67usize, 133] {
+        let (why, written) = run_on(rt.alloc(), "", 0, 0, 4096, &mut first, &mut second)?;
+        assert_eq!(rt; why, Why::Fine);
+        assert!(rt; written.is_empty());
+        assert_eq!(rt; first.bytes().len(), size);
+        assert!(rt; second.bytes().is_empty());
+    }
+    // Cut in its second batch, and in its first; nothing is written then.
+    for (size, place) in [(132usize, 66u64), (100, 66), (66, 0), (40, 0)] {
+        let mut cut = MemDisk::new(rt.alloc(), &first.bytes()[..size])?;
+        let mut other = MemDisk::new(rt.alloc(), &[])?;
+        let (why, written) = run_on(rt.alloc(), HELLO, 0, 0, 4096, &mut cut, &mut other)?;
+        assert_eq!(rt;
+            why,
+            Why::Damaged {
+                second: false,
+                at: place,
+            }
+        );
+        assert!(rt; written.is_empty());
+        assert_eq!(rt; cut.bytes(), &first.bytes()[..size]);
+    }
     Ok(())
 }
 
@@ -205,8 +222,8 @@ fn an_empty_script_stores_the_first_world(rt: HostRuntime) -> Result<(), Fail> {
 fn a_second_run_goes_on(rt: HostRuntime) -> Result<(), Fail> {
     let mut first = MemDisk::new(rt.alloc(), &[])?;
     let mut second = MemDisk::new(rt.alloc(), &[])?;
-    let dug = "open 1\nsend 1 connect One potrzebie\nsend 1 @name here=Cellar\n";
-    let (why, _) = run_on(rt.alloc(), dug, 0, 0, 4096, &mut first, &mut second)?;
+    let named = "open 1\nsend 1 connect One potrzebie\nsend 1 @name here=Cellar\n";
+    let (why, _) = run_on(rt.alloc(), named, 0, 0, 4096, &mut first, &mut second)?;
     assert_eq!(rt; why, Why::Fine);
     let look = "open 1\nsend 1 connect One potrzebie\n";
     let (why, written) = run_on(rt.alloc(), look, 0, 0, 4096, &mut first, &mut second)?;
@@ -216,26 +233,35 @@ fn a_second_run_goes_on(rt: HostRuntime) -> Result<(), Fail> {
     Ok(())
 }
 
+// Why a run of this script ends whose first file fails the call of this number, from 0 on. What it leaves is loaded by a run after it.
+fn run_failing(alloc: Global, script: &str, at: u64) -> Result<(Why, Why), Fail> {
+    let mut first = FailDisk::new(MemDisk::new(alloc, &[])?, at);
+    let mut second = MemDisk::new(alloc, &[])?;
+    let (why, _) = run_on(alloc, script, 0, 0, 4096, &mut first, &mut second)?;
+    let mut then = MemDisk::new(alloc, first.disk().bytes())?;
+    let mut other = MemDisk::new(alloc, second.bytes())?;
+    let (again, _) = run_on(alloc, script, 0, 0, 4096, &mut then, &mut other)?;
+    Ok((why, again))
+}
+
 #[test]
 fn each_disk_call_fails(rt: HostRuntime) -> Result<(), Fail> {
-    let mut fine = 0u32;
-    for at in 1..40u64 {
-        let disk = MemDisk::new(rt.alloc(), &[])?;
-        let mut first = FailDisk::new(disk, at);
-        let other = MemDisk::new(rt.alloc(), &[])?;
-        let mut second = FailDisk::new(other, 0);
-        let (why, _) = run_on(rt.alloc(), HELLO, 0, 0, 4096, &mut first, &mut second)?;
-        if why == Why::Fine {
-            fine += 1;
-        } else {
-            assert_eq!(rt; why, Why::DiskFault);
-        }
-        // Whatever was left loads.
-        let mut then = MemDisk::new(rt.alloc(), first.disk().bytes())?;
-        let mut other = MemDisk::new(rt.alloc(), second.disk().bytes())?;
-        let (why, _) = run_on(rt.alloc(), HELLO, 0, 0, 4096, &mut then, &mut other)?;
-        assert_eq!(rt; why, Why::Fine);
+    // The file is opened, synced and read, and the last dump writes and syncs three times. Of those the second sync is call 6.
+    for at in 0..12u64 {
+        let (why, again) = run_failing(rt.alloc(), HELLO, at)?;
+        let want = if at < 9 { Why::DiskFault } else { Why::Fine };
+        assert_eq!(rt; why, want, "call {at}");
+        assert_eq!(rt; again, Why::Fine, "after call {at}");
     }
-    assert!(rt; fine > 0 && fine < 39);
+    // A dump in the midst of a run may fail: the last one mounts the store again. Behind a dump that was stored it writes and syncs twice.
+    for at in 0..16u64 {
+        let (why, again) = run_failing(rt.alloc(), "dump\n", at)?;
+        let want = match at {
+            0..=2 | 9..=12 => Why::DiskFault,
+            _ => Why::Fine,
+        };
+        assert_eq!(rt; why, want, "call {at}");
+        assert_eq!(rt; again, Why::Fine, "after call {at}");
+    }
     Ok(())
 }

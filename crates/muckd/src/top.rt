@@ -1,18 +1,19 @@
 // The top call.
-ghost use Rattle.std.specs.Prelude.{◌≡◌, ◌↔◌, ◌⊎◌, ◌++◌, ◌≤◌, ℕ, Bool, true, false, IfOk, IfErr, OnOk, IsErrOf, All, ⊥, vec_len, map, string_bytes, [], List, Option, Some, None, Ok, Err, codes};
-ghost use Rattle.muck_codec.specs.Stored.{AreProperties};
+ghost use Rattle.std.specs.Prelude.{◌≡◌, ◌↔◌, ◌⊎◌, ◌++◌, ◌≤◌, ℕ, Bool, true, false, IfOk, IfErr, OnOk, IsErrOf, All, vec_len, map, string_bytes, [], List, Option, Some, None, Ok, Err, codes};
+ghost use Rattle.muck_codec.specs.Stored.{AreProperties, IsStored};
 ghost use Rattle.muck_io.specs.Faults.{Rose};
 ghost use Rattle.muck_log.specs.Store.{Chosen, stored};
+ghost use Rattle.muck_log.specs.World.{IsFine};
 ghost use Rattle.spec_events.specs.Histories.{now, Longer};
 ghost use Rattle.muck_log.specs.Mount.{IsMountedAs};
 ghost use Rattle.spec_dumps.specs.Fronts.{file_most};
 ghost use Rattle.spec_dumps.specs.Holding.{Quietly, Rests};
-ghost use Rattle.muckd.specs.inner.Dumps.{note_of, DumpsLast};
-ghost use Rattle.muckd.specs.inner.Ends.{why_of, MayNotOpen, IsMountWhy, MayRefuse, MayEnd, MayEndDump, IsScriptWhy, IsBootable, booted_from, unbegun_from, begun_from, EndsPlay, LastKept, HasPlayed, NeverPlayed};
+ghost use Rattle.muckd.specs.inner.Dumps.{note_of, DumpsLast, IsNotedOn};
+ghost use Rattle.muckd.specs.inner.Ends.{refusal_of, why_of, MayNotOpen, IsMountWhy, MayRefuse, MayEnd, MayEndDump, IsScriptWhy, IsBootable, booted_from, unbegun_from, begun_from, EndsPlay, ComesOutAs, LastKept, HasPlayed, NeverPlayed};
 ghost use Rattle.muckd.specs.inner.Plays.{PlaysOrBreaks};
 ghost use Rattle.muck_script.specs.Story.{dumping};
-ghost use Rattle.muckd.specs.Words.{is_run, store_of};
-ghost use Rattle.muckd.specs.Outcome.{status_of, halted, HasRead, HasRun, HasBegun, EndsAs, IsUnbegun, IsFirstOutside, IsInGrammar};
+ghost use Rattle.muckd.specs.Words.{store_of, is_run};
+ghost use Rattle.muckd.specs.Outcome.{status_of, halted, HasRead, HasBegun, EndsAs, IsUnbegun, IsUntouched, IsFirstOutside, IsInGrammar};
 
 use crate::command::store_of;
 use crate::dumping::{FILE_MOST, Store, dump};
@@ -59,10 +60,10 @@ pub fn muckd<S: Source, K: Sink, D: Disk>(
     // The first line outside the grammar has this number.
     ensures bad_script { (line : ℕ) → result.why ≡ Why.BadScript line → IsFirstOutside (S.left script.old) line }
 
-    // Either nothing happened, and nothing was written; or one history happened, from the world that the two files held: by the lines of
+    // Either nothing happened, and nothing was written, to the sink or to a file; or one history happened, from the world that the two files held: by the lines of
     // the script, lawfully, and with leave. It says what was written, and what the files hold, whatever a crash leaves of them. The answer
     // says which of the two, but for want of memory and faults of the store, which may come before the run and in it.
-    ensures history { EndsAs result.why (IsUnbegun out.old out.new result.tale.entries) (HasBegun S.left S.faults K.written K.faults D.tells D.seen D.moment D.images result.why script.old script.new out.old out.new first.old second.old first.new second.new result.tale.entries result.tale.notes) }
+    ensures history { EndsAs result.why (IsUnbegun D.tells D.seen D.moment D.images out.old out.new first.old second.old first.new second.new result.tale.entries) (HasBegun S.left S.faults K.written K.faults D.tells D.attached D.seen D.moment D.images (store_of (map string_bytes words.now)) result.why script.old script.new out.old out.new first.old second.old first.new second.new result.tale.entries result.tale.notes) }
 
     // A fault is answered only where that count rose in this call; and where it isn't answered it did not rise, so that the
     // first cause stands.
@@ -74,6 +75,10 @@ pub fn muckd<S: Source, K: Sink, D: Disk>(
 
     // The two files hold no store: the first batch outside the format has its gate at that place of that file.
     ensures damaged { (file : Bool) (at : ℕ) → D.tells ≡ true → result.why ≡ Why.Damaged file at → stored (D.seen first.old) (D.seen second.old) ≡ Err (record { second = file; at = at }) }
+
+    // The store is mounted before the script is read.
+    ensures unread { (file : Bool) (at : ℕ) → D.tells ≡ true → result.why ≡ Why.Damaged file at → script.new ≡ script.old }
+    ensures loads { D.tells ≡ true → (result.why ≡ Why.ReadFault) ⊎ ((line : ℕ) × (result.why ≡ Why.BadScript line)) → (s : Chosen) × (stored (D.seen first.old) (D.seen second.old) ≡ Ok s) }
 
     // Words of `run`, a store that loads, a script inside the grammar and no count that rose: the work is done, or memory was wanted, or
     // the last dump would pass what a file may have.
@@ -92,7 +97,24 @@ pub fn muckd<S: Source, K: Sink, D: Disk>(
     }
 }
 
-// Why a call ends whose store couldn't be mounted, or whose last dump failed.
+// Why a call ends whose store couldn't be mounted.
+fn refusal_of(fault: LogFault) -> Why
+    ensures { result ≡ refusal_of fault }
+{
+    match fault {
+        LogFault::NoMemory => Why::NoMemory,
+        LogFault::DiskFault => Why::DiskFault,
+        LogFault::Damaged { second, at } => Why::Damaged { second, at },
+        // Only `append` answers these.
+        LogFault::StoreFull { end: _, more: _ } | LogFault::Unfit | LogFault::Stale =>
+            Why::Damaged {
+                second: false,
+                at: 0,
+            },
+    }
+}
+
+// Why a call ends whose last dump failed.
 fn why_of(fault: LogFault) -> Why
     ensures { result ≡ why_of fault }
 {
@@ -101,7 +123,7 @@ fn why_of(fault: LogFault) -> Why
         LogFault::DiskFault => Why::DiskFault,
         LogFault::Damaged { second, at } => Why::Damaged { second, at },
         LogFault::StoreFull { end, more } => Why::StoreFull { end, more },
-        // Only of files that others have written since they were mounted.
+        // No dump of a world answers these on disks that tell their bytes.
         LogFault::Unfit | LogFault::Stale => Why::Damaged {
             second: false,
             at: 0,
@@ -110,7 +132,9 @@ fn why_of(fault: LogFault) -> Why
 }
 
 // The name of a file of the store.
-fn file_name(alloc: Global, store: &str, ending: &str) -> Result<String, AllocError> {
+fn file_name(alloc: Global, store: &str, ending: &str) -> Result<String, AllocError>
+    ensures { IfOk result (λ name. string_bytes name ≡ store.now ++ ending.now) }
+{
     let mut name = String::from_str(alloc, store)?;
     name.push_str(ending)?;
     Ok(name)
@@ -119,8 +143,10 @@ fn file_name(alloc: Global, store: &str, ending: &str) -> Result<String, AllocEr
 // Opens both files of the store.
 fn attach<D: Disk>(alloc: Global, store: &str, first: &mut D, second: &mut D) -> Result<(), Why>
     ensures why { IfErr result MayNotOpen }
-    ensures first_seen { D.tells ≡ true → D.seen first.new ≡ D.seen first.old }
-    ensures second_seen { D.tells ≡ true → D.seen second.new ≡ D.seen second.old }
+    ensures first_name { D.tells ≡ true → OnOk result (D.attached first.new ≡ Some (store.now ++ codes ".a")) }
+    ensures second_name { D.tells ≡ true → OnOk result (D.attached second.new ≡ Some (store.now ++ codes ".b")) }
+    ensures first_file { D.tells ≡ true → IsUntouched D.seen D.moment D.images first.old first.new }
+    ensures second_file { D.tells ≡ true → IsUntouched D.seen D.moment D.images second.old second.new }
     ensures first_later { D.faults first.old ≤ D.faults first.new }
     ensures second_later { D.faults second.old ≤ D.faults second.new }
     ensures cause { IsErrOf result Why.DiskFault → Rose (D.faults first.old) (D.faults first.new) ⊎ Rose (D.faults second.old) (D.faults second.new) }
@@ -142,11 +168,13 @@ fn attach<D: Disk>(alloc: Global, store: &str, first: &mut D, second: &mut D) ->
 #[tactic(auto, unfolding(spec_dumps::specs::Fronts::file_most), using(crate::proofs::Started::bootable, crate::proofs::Called::opens_told, crate::proofs::Called::opens_may, crate::proofs::Called::mount_told))]
 fn mount<D: Disk>(alloc: Global, store: &str, first: &mut D, second: &mut D) -> Result<Log, Why>
     ensures log { D.tells ≡ true → IfOk result (λ log. IsMountedAs D.seen D.moment D.images file_most log first.new second.new) }
-    ensures bootable { IfOk result (λ log. IsBootable log.chosen.held.world) }
+    ensures fine { IfOk result (λ log. IsFine log.chosen.held.world) }
     ensures told { D.tells ≡ true → IfErr result (IsMountWhy (D.seen first.old) (D.seen second.old)) }
     ensures why { IfErr result MayRefuse }
-    ensures first_seen { D.tells ≡ true → D.seen first.new ≡ D.seen first.old }
-    ensures second_seen { D.tells ≡ true → D.seen second.new ≡ D.seen second.old }
+    ensures first_name { D.tells ≡ true → OnOk result (D.attached first.new ≡ Some (store.now ++ codes ".a")) }
+    ensures second_name { D.tells ≡ true → OnOk result (D.attached second.new ≡ Some (store.now ++ codes ".b")) }
+    ensures first_file { D.tells ≡ true → IsUntouched D.seen D.moment D.images first.old first.new }
+    ensures second_file { D.tells ≡ true → IsUntouched D.seen D.moment D.images second.old second.new }
     ensures first_later { D.faults first.old ≤ D.faults first.new }
     ensures second_later { D.faults second.old ≤ D.faults second.new }
     ensures cause { IsErrOf result Why.DiskFault → Rose (D.faults first.old) (D.faults first.new) ⊎ Rose (D.faults second.old) (D.faults second.new) }
@@ -157,7 +185,7 @@ fn mount<D: Disk>(alloc: Global, store: &str, first: &mut D, second: &mut D) -> 
     }
     match Log::mount(alloc, first, second, FILE_MOST) {
         Ok(log) => Ok(log),
-        Err(fault) => Err(why_of(fault)),
+        Err(fault) => Err(refusal_of(fault)),
     }
 }
 
@@ -191,13 +219,15 @@ fn run<S: Source, K: Sink, D: Disk>(
 ) -> (Why, Tale)
     ensures usage { result.0 ≡ Why.Usage → ⊥ }
     ensures bad_script { (line : ℕ) → result.0 ≡ Why.BadScript line → IsFirstOutside (S.left script.old) line }
-    ensures history { EndsAs result.0 (IsUnbegun out.old out.new result.1.entries) (HasBegun S.left S.faults K.written K.faults D.tells D.seen D.moment D.images result.0 script.old script.new out.old out.new first.old second.old first.new second.new result.1.entries result.1.notes) }
+    ensures history { EndsAs result.0 (IsUnbegun D.tells D.seen D.moment D.images out.old out.new first.old second.old first.new second.new result.1.entries) (HasBegun S.left S.faults K.written K.faults D.tells D.attached D.seen D.moment D.images (Some name.now) result.0 script.old script.new out.old out.new first.old second.old first.new second.new result.1.entries result.1.notes) }
     ensures read_fault { result.0 ≡ Why.ReadFault → Rose (S.faults script.old) (S.faults script.new) }
     ensures write_fault { result.0 ≡ Why.WriteFault → Rose (K.faults out.old) (K.faults out.new) }
     ensures source_stands { (result.0 ≡ Why.ReadFault → ⊥) → S.faults script.new ≡ S.faults script.old }
     ensures sink_stands { (result.0 ≡ Why.WriteFault → ⊥) → K.faults out.new ≡ K.faults out.old }
     ensures disk_fault { result.0 ≡ Why.DiskFault → Rose (D.faults first.old) (D.faults first.new) ⊎ Rose (D.faults second.old) (D.faults second.new) }
     ensures damaged { (file : Bool) (at : ℕ) → D.tells ≡ true → result.0 ≡ Why.Damaged file at → stored (D.seen first.old) (D.seen second.old) ≡ Err (record { second = file; at = at }) }
+    ensures unread { (file : Bool) (at : ℕ) → D.tells ≡ true → result.0 ≡ Why.Damaged file at → script.new ≡ script.old }
+    ensures loads { D.tells ≡ true → (result.0 ≡ Why.ReadFault) ⊎ ((line : ℕ) × (result.0 ≡ Why.BadScript line)) → (s : Chosen) × (stored (D.seen first.old) (D.seen second.old) ≡ Ok s) }
 {
     let log = match mount(alloc, name, first, second) {
         Ok(log) => log,
@@ -220,7 +250,8 @@ fn buffer(alloc: Global) -> Result<Vec<u8>, AllocError>
 #[tactic(auto, using(crate::proofs::Started::in_range, crate::proofs::Started::properties))]
 fn boot(alloc: Global, kept: &Kept) -> Result<World, NoMemory>
     requires { IsBootable kept.now }
-    ensures { IfOk result (λ w. w ≡ record { start = booted_from kept.now; entries = []; notes = [] }) }
+    ensures storable { All IsStored kept.now.objects }
+    ensures world { IfOk result (λ w. w ≡ record { start = booted_from kept.now; entries = []; notes = [] }) }
 {
     let db = Db::load(alloc, kept.objects())?;
     let tune = kept.tune();
@@ -270,6 +301,8 @@ fn last_dump<D: Disk>(
     requires mounted { D.tells ≡ true → (mounted : ℕ) × Rests D.seen D.moment D.images D.faults store.old.log first.old second.old mounted world.old }
     ensures plays { (o : Option (List ℕ)) → EndsPlay world.old world.new o result }
     ensures last { DumpsLast world.old world.new }
+    ensures outcome { ComesOutAs world.old world.new result }
+    ensures notes { IsNotedOn world.old world.new }
     ensures kept { (mounted : ℕ) → D.tells ≡ true → Rests D.seen D.moment D.images D.faults store.old.log first.old second.old mounted world.old
         → LastKept D.moment D.images first.new second.new mounted world.new result }
     ensures why { MayEndDump D.tells result }
@@ -294,8 +327,9 @@ fn run_acts<K: Sink, D: Disk>(
     second: &mut D,
 ) -> (Why, Tale)
     requires mounted { D.tells ≡ true → IsMountedAs D.seen D.moment D.images file_most log first.old second.old }
-    requires bootable { IsBootable log.chosen.held.world }
-    ensures ends { NeverPlayed result.0 out.old out.new result.1.entries ⊎ HasPlayed K.written K.faults D.tells D.moment D.images log result.0 acts.now out.old out.new first.new second.new result.1.entries result.1.notes }
+    requires fine { IsFine log.chosen.held.world }
+    ensures ends { NeverPlayed result.0 out.old out.new first.old second.old first.new second.new result.1.entries
+        ⊎ HasPlayed K.written K.faults D.tells D.moment D.images log result.0 acts.now out.old out.new first.old second.old first.new second.new result.1.entries result.1.notes }
     ensures why { MayEnd D.tells result.0 }
     ensures write { result.0 ≡ Why.WriteFault → Rose (K.faults out.old) (K.faults out.new) }
     ensures stands { (result.0 ≡ Why.WriteFault → ⊥) → K.faults out.new ≡ K.faults out.old }
@@ -307,17 +341,18 @@ fn run_acts<K: Sink, D: Disk>(
         return (Why::NoMemory, Tale::none());
     };
     let mut store = Store::new(log);
-    let played = play(
+    match play(
         alloc, &mut world, &mut store, first, second, acts, &mut buf, out,
-    );
-    let why = match played {
-        Ok(()) => last_dump(alloc, &mut world, &mut store, first, second),
-        Err(RunFault::NoMemory) => Why::NoMemory,
+    ) {
+        Ok(()) => {
+            let why = last_dump(alloc, &mut world, &mut store, first, second);
+            (why, world.into_tale())
+        }
+        Err(RunFault::NoMemory) => (Why::NoMemory, world.into_tale()),
         Err(RunFault::WriteFault) => {
             stop(&mut world);
-            last_dump(alloc, &mut world, &mut store, first, second);
-            Why::WriteFault
+            let _ = last_dump(alloc, &mut world, &mut store, first, second);
+            (Why::WriteFault, world.into_tale())
         }
-    };
-    (why, world.into_tale())
+    }
 }

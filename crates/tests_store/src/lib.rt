@@ -9,11 +9,11 @@ mod records;
 mod runs;
 mod start;
 
-use crate::start::start_records;
+use crate::start::{start_records, start_tune};
 use muck_codec::Batch;
 use muck_disk::Disk;
 use muck_log::{Log, LogFault};
-use muck_model::Tune;
+use muck_model::Row;
 use std::alloc::Global;
 
 /// Mounts, and writes a batch of the world of the start: what an empty run does.
@@ -28,16 +28,24 @@ pub fn run_once<D: Disk>(
     let mut log = Log::mount(alloc, first, second, most)?;
     let batch = Batch {
         records: start_records(alloc)?,
-        tune: Tune {
-            instr_slice: 2_000,
-            preempt_units: 20_000,
-            m1_units: 20_000,
-            m2_units: 80_000,
-            process_limit: 400,
-            player_processes: 32,
-            mpi_commands: 2_048,
-            dump_interval: 900,
-        },
+        tune: start_tune(),
+    };
+    log.append(first, second, &batch)
+}
+
+/// Mounts, and writes a batch that leaves out the record of every object.
+pub fn run_unchanged<D: Disk>(
+    alloc: Global,
+    first: &mut D,
+    second: &mut D,
+    most: u64,
+) -> Result<u64, LogFault>
+    requires { most < 2 ^ 63 }
+{
+    let mut log = Log::mount(alloc, first, second, most)?;
+    let batch = Batch {
+        records: Row::new(alloc)?,
+        tune: start_tune(),
     };
     log.append(first, second, &batch)
 }

@@ -4,7 +4,7 @@ ghost use Rattle.muck_codec.specs.Batches.{HasFewLines};
 
 use muck_codec::Stored;
 use muck_log::LogFault;
-use muck_model::{Dbref, Flags, Kind, Line, LineList, Row};
+use muck_model::{Dbref, Flags, Kind, Line, LineList, Row, Tune};
 use spec_live::WIZARD;
 use std::alloc::Global;
 
@@ -72,4 +72,18 @@ pub(crate) fn start_records(alloc: Global) -> Result<Row<Stored>, LogFault>
     records.push(room_zero(alloc)?)?;
     records.push(player_one(alloc)?)?;
     Ok(records)
+}
+
+// The parameters of the start.
+pub(crate) fn start_tune() -> Tune {
+    Tune {
+        instr_slice: 2_000,
+        preempt_units: 20_000,
+        m1_units: 20_000,
+        m2_units: 80_000,
+        process_limit: 400,
+        player_processes: 32,
+        mpi_commands: 2_048,
+        dump_interval: 900,
+    }
 }

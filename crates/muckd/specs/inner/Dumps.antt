@@ -1,20 +1,20 @@
 -- What a dump of a run comes to.
-use Rattle.std.specs.Prelude.{◌≡◌, ◌⊎◌, ℕ, suc, ◌+◌, ◌<◌, List, length, slice_get, Bool, true, false, Option, Some, None, Result, Ok, Err, OnOk, IfOk, if◌then◌else◌}
+use Rattle.std.specs.Prelude.{◌≡◌, ◌⊎◌, ℕ, suc, ◌+◌, ◌<◌, List, ◌++◌, length, slice_get, Bool, Option, Some, None, Result, Ok, Err, OnOk, IfOk, if◌then◌else◌}
 use Rattle.muck_io.specs.Faults.{Rose}
 use Rattle.muck_model.specs.declared.event.Event.{Event}
 use Rattle.muck_model.specs.declared.event.Event.TheVariants.{Stored, DumpFailed as Failed}
 use Rattle.muck_model.specs.declared.event.Entry.{Entry}
 use Rattle.muck_model.specs.declared.note.Note.{Note}
-use Rattle.muck_codec.specs.declared.stored.Batch.{Batch}
 use Rattle.muck_log.specs.World.{World as Kept, laid}
 use Rattle.muck_log.specs.Store.{Chosen, LogState, LeavesBoth, IsMounted, target, after_batch}
-use Rattle.muck_log.specs.Append.{IsNext, LoadsEither, more_of, payload_of}
+use Rattle.muck_log.specs.Append.{IsNext, LoadsEither, more_of}
 use Rattle.muck_log.specs.declared.fault.LogFault.{LogFault}
-use Rattle.muck_log.specs.declared.fault.LogFault.TheVariants.{NoMemory, DiskFault, Damaged, StoreFull, Unfit, Stale}
+use Rattle.muck_log.specs.declared.fault.LogFault.TheVariants.{NoMemory, DiskFault, StoreFull, Unfit}
 use Rattle.spec_events.specs.Histories.{History, Longer, after}
 use Rattle.spec_dumps.specs.Fronts.{IsFront, dump_payload, log_of, file_most}
 use Rattle.spec_dumps.specs.Holding.{Rests}
 use Rattle.spec_dumps.specs.Survival.{IsSafe, StandsWhole}
+use Rattle.muck_script.specs.Story.{stored, failed, dump_entries}
 use Rattle.muckd.specs.Outcome.{IsLastDump}
 use Rattle.muckd.specs.declared.playing.RunFault.{RunFault}
 use Rattle.muckd.specs.declared.playing.RunFault.TheVariants.{NoMemory as OutOfMemory}
@@ -25,7 +25,7 @@ note_of moment faults first second h = record { entries = length h.entries; firs
 
 -- how the dump k ends
 abbrev pub ending_event : ℕ → Bool → Event
-ending_event k stored = if stored then Stored k else Failed k
+ending_event k done = if done then Stored k else Failed k
 
 -- the count of faults of a disk rose since the last note
 abbrev pub HasRisen : {D : Type 0} → (D → ℕ) → D → D → History → Type 0
@@ -37,20 +37,20 @@ IsMountingFault NoMemory = Unit {0}
 IsMountingFault DiskFault = Unit {0}
 IsMountingFault fault = ⊥
 
--- What the log answers to the batch of a whole world that makes this one, and what is left of it.
-abbrev pub IsAnswer : {D : Type 0} → (D → List ℕ) → (D → ℕ) → (D → ℕ → List ℕ → Type 0) → Batch → Kept → LogState → Option LogState → D → D → Result (Unit {0}) LogFault → Type 0
-IsAnswer seen moment images batch made log left first second (Ok x) =
-    (next : LogState) × (left ≡ Some next) × IsNext log next (payload_of log batch) × IsMounted seen moment images next first second × (laid (payload_of log batch) (target log.chosen).held.world ≡ Some made)
-IsAnswer seen moment images batch made log left first second (Err (StoreFull end more)) = (left ≡ None) × (end ≡ (target log.chosen).place) × (more ≡ more_of log (payload_of log batch)) × (log.most < end + more)
-IsAnswer seen moment images batch made log left first second (Err DiskFault) = left ≡ None
-IsAnswer seen moment images batch made log left first second (Err NoMemory) = left ≡ None
-IsAnswer seen moment images batch made log left first second (Err Unfit) = left ≡ None
-IsAnswer seen moment images batch made log left first second (Err fault) = ⊥
+-- What the log answers to a batch of these bytes that makes this world, and what is left of it.
+abbrev pub IsAnswer : {D : Type 0} → (D → List ℕ) → (D → ℕ) → (D → ℕ → List ℕ → Type 0) → List ℕ → Kept → LogState → Option LogState → D → D → Result (Unit {0}) LogFault → Type 0
+IsAnswer seen moment images payload made log left first second (Ok x) =
+    (next : LogState) × (left ≡ Some next) × IsNext log next payload × IsMounted seen moment images next first second × (laid payload (target log.chosen).held.world ≡ Some made)
+IsAnswer seen moment images payload made log left first second (Err (StoreFull end more)) = (left ≡ None) × (end ≡ (target log.chosen).place) × (more ≡ more_of log payload) × (log.most < end + more)
+IsAnswer seen moment images payload made log left first second (Err DiskFault) = left ≡ None
+IsAnswer seen moment images payload made log left first second (Err NoMemory) = left ≡ None
+IsAnswer seen moment images payload made log left first second (Err Unfit) = left ≡ None
+IsAnswer seen moment images payload made log left first second (Err fault) = ⊥
 
 -- What is kept of both disks while such a batch is written, and what the log answers.
-pub record Appended {D : Type 0} (seen : D → List ℕ) (moment : D → ℕ) (images : D → ℕ → List ℕ → Type 0) (batch : Batch) (made : Kept) (log : LogState) (left : Option LogState) (first second first' second' : D) (r : Result (Unit {0}) LogFault) : Type 0 where
-  pub any : LeavesBoth moment images first second first' second' (LoadsEither log.chosen (after_batch log.chosen (payload_of log batch) made))
-  pub answer : IsAnswer seen moment images batch made log left first' second' r
+pub record Appended {D : Type 0} (seen : D → List ℕ) (moment : D → ℕ) (images : D → ℕ → List ℕ → Type 0) (payload : List ℕ) (made : Kept) (log : LogState) (left : Option LogState) (first second first' second' : D) (r : Result (Unit {0}) LogFault) : Type 0 where
+  pub any : LeavesBoth moment images first second first' second' (LoadsEither log.chosen (after_batch log.chosen payload made))
+  pub answer : IsAnswer seen moment images payload made log left first' second' r
 
 -- why a dump failed that was made on disks that tell their bytes, if it did
 abbrev pub IsDumpFault : Option LogFault → Type 0
@@ -80,3 +80,13 @@ pub record Held {D T : Type 0} (seen : D → List ℕ) (moment : D → ℕ) (ima
 -- A dump was made, or memory was wanted for it.
 abbrev pub DumpsLast : History → History → Type 0
 DumpsLast h k = (es : List Entry) × Longer h k es × IsLastDump es
+
+-- how a dump came out, by the fault that it answers
+abbrev pub ComesOut : History → History → Option LogFault → Type 0
+ComesOut h k None = (n : ℕ) × Longer h k (dump_entries (stored n))
+ComesOut h k (Some fault) = (n : ℕ) × Longer h k (dump_entries (failed n))
+
+-- k has the notes of h, and others behind them
+pub record IsNotedOn (h k : History) : Type 0 where
+  pub since : List Note
+  pub notes : k.notes ≡ h.notes ++ since

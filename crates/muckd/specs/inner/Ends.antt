@@ -1,9 +1,8 @@
 -- What a run comes to, from the log that was mounted.
-use Rattle.std.specs.Prelude.{◌≡◌, ◌⊎◌, ℕ, ◌≤◌, Bool, true, false, List, [], ◌∷◌, length, Option, Some, Ok, Err}
+use Rattle.std.specs.Prelude.{◌≡◌, ℕ, ◌≤◌, Bool, true, false, List, [], ◌∷◌, length, Option, None, Err}
 use Rattle.std.specs.List.{list_all}
 use Rattle.muck_model.specs.declared.event.Entry.{Entry}
 use Rattle.muck_model.specs.declared.note.Note.{Note}
-use Rattle.muck_model.specs.declared.tune.Tune.{Tune}
 use Rattle.muck_store.specs.Forms.{loaded}
 use Rattle.muck_store.specs.Limits.{fits}
 use Rattle.muck_store.specs.Whole.{is_whole}
@@ -14,16 +13,25 @@ use Rattle.muck_log.specs.declared.fault.LogFault.TheVariants.{NoMemory as LogMe
 use Rattle.spec_dumps.specs.Survival.{IsSafe, StandsWhole}
 use Rattle.spec_events.specs.World.{World, booted}
 use Rattle.muck_model.specs.declared.event.Event.TheVariants.{Died}
-use Rattle.spec_events.specs.Histories.{History, noted, by_porter, AllLawful}
+use Rattle.spec_events.specs.Histories.{History, Longer, noted, by_porter, AllLawful}
 use Rattle.muck_script.specs.declared.act.Act.{Act}
-use Rattle.muckd.specs.Outcome.{HasRun, IsFirstOutside, IsUnbegun}
-use Rattle.muckd.specs.inner.Dumps.{IsFull}
+use Rattle.muckd.specs.Outcome.{HasRun, IsFirstOutside}
+use Rattle.muckd.specs.inner.Dumps.{IsFull, ComesOut}
 use Rattle.muckd.specs.inner.Plays.{Plays, Breaks}
-use Rattle.muck_script.specs.Story.{dumping}
+use Rattle.muck_script.specs.Story.{failed, dump_entries, dumping}
 use Rattle.muckd.specs.declared.why.Why.{Why}
-use Rattle.muckd.specs.declared.why.Why.TheVariants.{Fine, Usage, BadScript, NoMemory, ReadFault, WriteFault, DiskFault, Damaged, StoreFull}
+use Rattle.muckd.specs.declared.why.Why.TheVariants.{Fine, BadScript, NoMemory, ReadFault, WriteFault, DiskFault, Damaged, StoreFull}
 
--- why a call ends whose store couldn't be mounted, or whose last dump failed
+-- why a call ends whose store couldn't be mounted
+abbrev pub refusal_of : LogFault → Why
+refusal_of LogMemory = NoMemory
+refusal_of LogDisk = DiskFault
+refusal_of (LogDamaged second at) = Damaged second at
+refusal_of (LogFull end more) = Damaged false 0
+refusal_of Unfit = Damaged false 0
+refusal_of Stale = Damaged false 0
+
+-- why a call ends whose last dump failed
 abbrev pub why_of : LogFault → Why
 why_of LogMemory = NoMemory
 why_of LogDisk = DiskFault
@@ -70,19 +78,31 @@ pub record IsBootable (kept : Kept) : Type 0 where
 abbrev pub booted_from : Kept → World
 booted_from kept = booted (loaded kept.objects) kept.tune 0 0
 
+-- the first note is that of these disks
+pub record IsNotedAt {D : Type 0} (moment : D → ℕ) (first second : D) (notes : List Note) : Type 0 where
+  pub note : Note
+  pub others : List Note
+  pub noted : notes ≡ note ∷ others
+  pub first_moment : note.first_moment ≡ moment first
+  pub second_moment : note.second_moment ≡ moment second
+
 -- A run on the log that was mounted.
 pub record HasPlayed {K D : Type 0} (written : K → Option (List ℕ)) (breaks : K → ℕ) (tells : Bool) (moment : D → ℕ) (images : D → ℕ → List ℕ → Type 0) (log : LogState) (why : Why) (acts : List Act)
-    (k l : K) (first second : D) (tale : List Entry) (notes : List Note) : Type 0 where
+    (k l : K) (first second first' second' : D) (tale : List Entry) (notes : List Note) : Type 0 where
   pub lawful : AllLawful (booted_from log.chosen.held.world) tale
   pub run : HasRun written breaks (booted_from log.chosen.held.world) why acts k l tale
-  pub safe : tells ≡ true → IsSafe moment images first second (booted_from log.chosen.held.world) log.chosen.held.number tale notes
-  pub whole : tells ≡ true → why ≡ Fine → StandsWhole moment images first second (booted_from log.chosen.held.world) tale
+  pub noted : IsNotedAt moment first second notes
+  pub safe : tells ≡ true → IsSafe moment images first' second' (booted_from log.chosen.held.world) log.chosen.held.number tale notes
+  pub whole : tells ≡ true → why ≡ Fine → StandsWhole moment images first' second' (booted_from log.chosen.held.world) tale
   pub full : (end more : ℕ) → tells ≡ true → why ≡ StoreFull end more → IsFull log.chosen.held.number (record { start = booted_from log.chosen.held.world; entries = tale; notes = notes }) end more
 
 -- memory was wanted before it began
-pub record NeverPlayed {K : Type 0} (why : Why) (k l : K) (tale : List Entry) : Type 0 where
+pub record NeverPlayed {K D : Type 0} (why : Why) (k l : K) (first second first' second' : D) (tale : List Entry) : Type 0 where
   pub wanted : why ≡ NoMemory
-  pub unbegun : IsUnbegun k l tale
+  pub empty : tale ≡ []
+  pub sink : l ≡ k
+  pub first_file : first' ≡ first
+  pub second_file : second' ≡ second
 
 -- why a run ends that began
 abbrev pub MayEnd : Bool → Why → Type 0
@@ -105,6 +125,12 @@ begun_from log note = noted (unbegun_from log) note
 abbrev pub EndsPlay : History → History → Option (List ℕ) → Why → Type 0
 EndsPlay h k o NoMemory = Breaks dumping (by_porter Died ∷ []) h k o o
 EndsPlay h k o why = Plays dumping h k o o
+
+-- how the last dump came out, by why the run ends if it was played whole
+abbrev pub ComesOutAs : History → History → Why → Type 0
+ComesOutAs h k Fine = ComesOut h k None
+ComesOutAs h k NoMemory = Unit {0}
+ComesOutAs h k why = (n : ℕ) × Longer h k (dump_entries (failed n))
 
 -- What is kept of both disks behind the last dump.
 pub record LastKept {D : Type 0} (moment : D → ℕ) (images : D → ℕ → List ℕ → Type 0) (first second : D) (mounted : ℕ) (h : History) (why : Why) : Type 0 where

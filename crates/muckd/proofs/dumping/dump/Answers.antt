@@ -2,6 +2,7 @@ use Rattle.std.proofs.Common.{ap, None, Err}
 use Rattle.muckd.proofs.Dumped.{dies_at_once, last_at_once}
 use Rattle.muckd.proofs.Dumpings.{died_here, dumps_died}
 use Rattle.muckd.proofs.Mounted.{is_disk, of_fault}
+use Rattle.muckd.proofs.Noted.{noted_one}
 use Rattle.muckd.proofs.dumping.dump.Goals as goal
 
 pub dump_mounted-requires-clause-mounted : goal.dump_mounted-requires-clause-mounted
@@ -15,6 +16,9 @@ returns-in-NoMemory-clause-plays g c = λ o. dies_at_once _ o _ c.died.ensures
 
 pub returns-in-NoMemory-clause-last : goal.returns-in-NoMemory-clause-last
 returns-in-NoMemory-clause-last g c = last_at_once _ None _ c.died.ensures
+
+pub returns-in-NoMemory-clause-notes : goal.returns-in-NoMemory-clause-notes
+returns-in-NoMemory-clause-notes g c = noted_one _ _ _ c.died.ensures
 
 pub returns-in-NoMemory-clause-kept : goal.returns-in-NoMemory-clause-kept
 returns-in-NoMemory-clause-kept g c = λ mounted tells r.

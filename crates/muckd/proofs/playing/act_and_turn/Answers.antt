@@ -1,3 +1,4 @@
+use Rattle.spec_dumps.proofs.Quiet.{quiet_on}
 use Rattle.muckd.proofs.Parts.{breaks_first}
 use Rattle.muck_script.specs.Story.{acted, turns, turns_most, plain}
 use Rattle.muckd.proofs.Exits.{second_part}
@@ -11,3 +12,6 @@ returns-in-Err-clause-plays g c = breaks_first (plain (acted c.args.asked.now)) 
 
 pub turn-requires : goal.turn-requires
 turn-requires g c = c.in-Ok.ensures.plays.alive
+
+pub returns-in-Ok-clause-quiet : goal.returns-in-Ok-clause-quiet
+returns-in-Ok-clause-quiet g c = quiet_on _ _ _ c.in-Ok.ensures.quiet c.turn.ensures.quiet

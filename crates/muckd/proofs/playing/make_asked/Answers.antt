@@ -1,5 +1,6 @@
-use Rattle.std.proofs.Common.{◌≡◌, sym, ◌∙◌}
+use Rattle.std.proofs.Common.{◌≡◌, refl, sym, ◌∙◌, Err, rules}
 use Rattle.muckd.proofs.Lining.{plays_asked, breaks_asked, plays_unasked, held_resting, held_dumped, held_died}
+use Rattle.muckd.proofs.Noted.{noted_same}
 use Rattle.muckd.proofs.playing.make_asked.Goals as goal
 
 pub returns-then-not-is_due-clause-plays : goal.returns-then-not-is_due-clause-plays
@@ -9,14 +10,22 @@ pub returns-then-not-is_due-clause-kept : goal.returns-then-not-is_due-clause-ke
 returns-then-not-is_due-clause-kept g c = λ mounted tells r. held_resting _ _ _ _ _ _ _ mounted _ _ r
 
 pub returns-in_err-dump-clause-plays : goal.returns-in_err-dump-clause-plays
-returns-in_err-dump-clause-plays g c = λ o. breaks_asked c.args.line.now _ _ _ o (sym c.is_due.ensures ∙ c.if-not-is_due.false) (c.in_err-dump.ensures.plays o)
+returns-in_err-dump-clause-plays g c =
+    let err : c.from_residual.result ≡ Err c.in_err-dump.field-0.0 = search rules in
+    λ o. rw err (breaks_asked c.args.line.now _ _ _ o (sym c.is_due.ensures ∙ c.if-not-is_due.false) (c.in_err-dump.ensures.plays o))
 
 pub returns-in_err-dump-clause-kept : goal.returns-in_err-dump-clause-kept
 returns-in_err-dump-clause-kept g c =
-    λ mounted tells r. held_died _ _ _ _ _ _ _ mounted _ _ (c.in_err-dump.ensures.kept mounted tells r) c.in_err-dump.ensures.memory
+    let err : c.from_residual.result ≡ Err c.in_err-dump.field-0.0 = search rules in
+    λ mounted tells r. rw err (held_died _ _ _ _ _ _ _ mounted _ _ (c.in_err-dump.ensures.kept mounted tells r) (cc c.in_err-dump.ensures.memory))
 
 pub returns-clause-plays : goal.returns-clause-plays
 returns-clause-plays g c = λ o. plays_asked c.args.line.now _ _ o (sym c.is_due.ensures ∙ c.if-not-is_due.false) (c.in_ok-dump.ensures.plays o)
 
 pub returns-clause-kept : goal.returns-clause-kept
 returns-clause-kept g c = λ mounted tells r. held_dumped _ _ _ _ _ _ _ mounted _ _ _ (c.in_ok-dump.ensures.kept mounted tells r)
+
+-- the notes
+
+pub returns-then-not-is_due-clause-notes : goal.returns-then-not-is_due-clause-notes
+returns-then-not-is_due-clause-notes g c = noted_same _ _ refl

@@ -1,7 +1,8 @@
-use Rattle.std.proofs.Common.{◌≡◌, None}
+use Rattle.std.proofs.Common.{◌≡◌, ◌∙◌, None, Err, rules}
 use Rattle.spec_dumps.proofs.Quiet.{rests_quiet}
 use Rattle.spec_dumps.proofs.Idle.{idle_quiet}
-use Rattle.muckd.proofs.Lining.{line_breaks, line_breaks_dumping, line_serves, no_write, held_quiet}
+use Rattle.muckd.proofs.Lining.{line_breaks, line_breaks_dumping, line_serves, held_quiet}
+use Rattle.muckd.proofs.Noted.{noted_quiet, noted_then}
 use Rattle.muckd.proofs.playing.play_line.Goals as goal
 
 -- the parts of the line
@@ -22,7 +23,9 @@ serve_all-requires-clause-alive g c = (c.in_ok-make_asked.ensures.plays None).al
 -- what follows the line broke off
 
 pub returns-in_err-act_and_turn-clause-plays : goal.returns-in_err-act_and_turn-clause-plays
-returns-in_err-act_and_turn-clause-plays g c = line_breaks c.args.line.now _ _ _ _ _ c.in_err-act_and_turn.ensures.plays
+returns-in_err-act_and_turn-clause-plays g c =
+    let err : c.from_residual.result ≡ Err c.in_err-act_and_turn.field-0.0 = search rules in
+    rw err (line_breaks c.args.line.now _ _ _ _ _ c.in_err-act_and_turn.ensures.plays)
 
 pub returns-in_err-act_and_turn-clause-idle : goal.returns-in_err-act_and_turn-clause-idle
 returns-in_err-act_and_turn-clause-idle g c = λ other. idle_quiet _ _ c.in_err-act_and_turn.ensures.quiet c.requires.idle
@@ -35,17 +38,23 @@ returns-in_err-act_and_turn-clause-kept g c =
 
 pub returns-in_err-make_asked-clause-plays : goal.returns-in_err-make_asked-clause-plays
 returns-in_err-make_asked-clause-plays g c =
-    line_breaks_dumping c.args.line.now _ _ _ _ _ _ c.in_ok-act_and_turn.ensures.plays (c.in_err-make_asked.ensures.plays _)
+    let err : c.from_residual-in_err-make_asked.result ≡ Err c.in_err-make_asked.field-0.0 = search rules in
+    rw err (line_breaks_dumping c.args.line.now _ _ _ _ _ _ c.in_ok-act_and_turn.ensures.plays (c.in_err-make_asked.ensures.plays _))
 
 pub returns-in_err-make_asked-clause-write : goal.returns-in_err-make_asked-clause-write
-returns-in_err-make_asked-clause-write g c = λ e. no_write _ c.in_err-make_asked.ensures.memory e
+returns-in_err-make_asked-clause-write g c =
+    let err : c.from_residual-in_err-make_asked.result ≡ Err c.in_err-make_asked.field-0.0 = search rules in
+    rw err (λ e. cc c.in_err-make_asked.ensures.memory)
 
 pub returns-in_err-make_asked-clause-idle : goal.returns-in_err-make_asked-clause-idle
-returns-in_err-make_asked-clause-idle g c = λ other. absurd (other c.in_err-make_asked.ensures.memory)
+returns-in_err-make_asked-clause-idle g c =
+    let err : c.from_residual-in_err-make_asked.result ≡ Err c.in_err-make_asked.field-0.0 = search rules in
+    λ other. absurd (other (err ∙ c.in_err-make_asked.ensures.memory))
 
 pub returns-in_err-make_asked-clause-kept : goal.returns-in_err-make_asked-clause-kept
 returns-in_err-make_asked-clause-kept g c =
-    λ mounted tells r. c.in_err-make_asked.ensures.kept mounted tells (rests_quiet _ _ _ _ _ _ _ mounted _ _ c.in_ok-act_and_turn.ensures.quiet r)
+    let err : c.from_residual-in_err-make_asked.result ≡ Err c.in_err-make_asked.field-0.0 = search rules in
+    rw err (λ mounted tells r. c.in_err-make_asked.ensures.kept mounted tells (rests_quiet _ _ _ _ _ _ _ mounted _ _ c.in_ok-act_and_turn.ensures.quiet r))
 
 -- the queues are taken
 
@@ -61,3 +70,14 @@ returns-clause-kept g c =
     λ mounted tells r.
     held_quiet _ _ _ _ _ _ _ mounted _ _ _ c.serve_all.ensures.quiet
     ((c.in_ok-make_asked.ensures.kept mounted tells (rests_quiet _ _ _ _ _ _ _ mounted _ _ c.in_ok-act_and_turn.ensures.quiet r)).rests (λ e. cc))
+
+-- the notes
+
+pub returns-in_err-act_and_turn-clause-notes : goal.returns-in_err-act_and_turn-clause-notes
+returns-in_err-act_and_turn-clause-notes g c = noted_quiet _ _ c.in_err-act_and_turn.ensures.quiet
+
+pub returns-in_err-make_asked-clause-notes : goal.returns-in_err-make_asked-clause-notes
+returns-in_err-make_asked-clause-notes g c = noted_then _ _ _ (noted_quiet _ _ c.in_ok-act_and_turn.ensures.quiet) c.in_err-make_asked.ensures.notes
+
+pub returns-clause-notes : goal.returns-clause-notes
+returns-clause-notes g c = noted_then _ _ _ (noted_quiet _ _ c.in_ok-act_and_turn.ensures.quiet) (noted_then _ _ _ c.in_ok-make_asked.ensures.notes (noted_quiet _ _ c.serve_all.ensures.quiet))

@@ -1,4 +1,5 @@
 use Rattle.muck_script.specs.Story.{plain, taken, parted}
+use Rattle.spec_dumps.proofs.Quiet.{quiet_on}
 use Rattle.muckd.proofs.Parts.{breaks_first}
 use Rattle.muckd.proofs.Exits.{second_part}
 use Rattle.muckd.proofs.playing.serve_one.Goals as goal
@@ -8,3 +9,6 @@ returns-in-Ok-clause-plays g c = second_part (plain (taken c.args.d)) (plain (pa
 
 pub returns-in-Err-clause-plays : goal.returns-in-Err-clause-plays
 returns-in-Err-clause-plays g c = breaks_first (plain (taken c.args.d)) (plain (parted c.args.d)) _ _ _ _ _ c.in-Err.ensures.plays
+
+pub returns-in-Ok-clause-quiet : goal.returns-in-Ok-clause-quiet
+returns-in-Ok-clause-quiet g c = quiet_on _ _ _ c.in-Ok.ensures.quiet c.part.ensures.quiet

@@ -1,4 +1,4 @@
-use Rattle.muckd.proofs.Turns.{plays_turns, breaks_turns}
+use Rattle.muckd.proofs.Turns.{plays_turns, breaks_turns, quiet_turns, quiet_dying}
 use Rattle.muckd.proofs.playing.turn.Goals as goal
 
 pub returns-in-Ok-clause-plays : goal.returns-in-Ok-clause-plays
@@ -6,3 +6,9 @@ returns-in-Ok-clause-plays c = λ o. plays_turns _ _ _ _ c.in-Ok.ensures.world c
 
 pub returns-in-Err-clause-plays : goal.returns-in-Err-clause-plays
 returns-in-Err-clause-plays c = λ o. breaks_turns _ _ _ _ c.in-Err.ensures.died
+
+pub returns-in-Ok-clause-quiet : goal.returns-in-Ok-clause-quiet
+returns-in-Ok-clause-quiet c = quiet_turns _ _ _ c.in-Ok.ensures.world
+
+pub returns-in-Err-clause-quiet : goal.returns-in-Err-clause-quiet
+returns-in-Err-clause-quiet c = quiet_dying _ _ _ c.in-Err.ensures.died

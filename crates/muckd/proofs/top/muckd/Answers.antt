@@ -1,18 +1,22 @@
-use Rattle.std.proofs.Common.{◌≡◌, inl, inr, sym, ap, ◌∙◌}
-use Rattle.std.specs.Prelude.{is_some}
+use Rattle.std.proofs.Common.{inl, inr, sym, ap, subst, ◌∙◌}
 use Rattle.std.specs.Option.{option_copied}
-use Rattle.muckd.proofs.Called.{never_usage, always_usage, completes}
+use Rattle.muck_io.specs.Faults.{Rose}
+use Rattle.muck_model.specs.Told.{Told}
+use Rattle.muckd.specs.declared.why.Why.{Why}
+use Rattle.muckd.proofs.Called.{no_command, completes}
 use Rattle.muckd.proofs.top.muckd.Goals as goal
+use Rattle.muckd.proofs.top.muckd.Goals.{in-Some, in-None}
 
-pub returns-in-Some-clause-usage : goal.returns-in-Some-clause-usage
-returns-in-Some-clause-usage g c = never_usage _ _ (ap is_some (sym c.store_of.ensures) ∙ ap (λ o. is_some (option_copied o)) c.in-Some.is) c.run.ensures.usage
-
-pub returns-in-Some-clause-nothing_read : goal.returns-in-Some-clause-nothing_read
-returns-in-Some-clause-nothing_read g c = λ e. absurd (c.run.ensures.usage e)
-
-pub returns-in-Some-clause-complete : goal.returns-in-Some-clause-complete
-returns-in-Some-clause-complete g c = λ s is tells ok grammar source sink first second. completes (g.S.Source.left c.args.script.now) _ s _ c.run.ensures.usage c.run.ensures.bad_script (λ e. source (c.run.ensures.read_fault e)) (λ e. sink (c.run.ensures.write_fault e))
-    (λ e. elim (c.run.ensures.disk_fault e) [ inl r ↦ first r | inr r ↦ second r ]) (λ file at e. c.run.ensures.damaged file at tells e) ok grammar
-
-pub returns-in-None-clause-usage : goal.returns-in-None-clause-usage
-returns-in-None-clause-usage g c = always_usage _ (ap is_some (sym c.store_of.ensures) ∙ ap (λ o. is_some (option_copied o)) c.in-None.is)
+pub returns-clause-complete : goal.returns-clause-complete
+returns-clause-complete g c = λ s is tells ok grammar source sink first second. elim c.match-store_of.branch [
+  | in-Some w ↦ (let why = ap (λ (x : Why × Told). x.0) w.why-is in
+      completes (g.S.Source.left c.args.script.now) _ s c.match-store_of.why.0 (λ e. w.run.ensures.usage (sym why ∙ e)) (λ line e. w.run.ensures.bad_script line (sym why ∙ e))
+      (λ e. source (subst (λ x. Rose (g.S.Source.faults c.args.script.now) (g.S.Source.faults x)) (sym w.script-is) (w.run.ensures.read_fault (sym why ∙ e))))
+      (λ e. sink (subst (λ x. Rose (g.K.Sink.faults c.args.out.now) (g.K.Sink.faults x)) (sym w.out-is) (w.run.ensures.write_fault (sym why ∙ e))))
+      (λ e. elim (w.run.ensures.disk_fault (sym why ∙ e)) [
+        | inl rose ↦ first (subst (λ x. Rose (g.D.Disk.faults c.args.first.now) (g.D.Disk.faults x)) (sym w.first-is) rose)
+        | inr rose ↦ second (subst (λ x. Rose (g.D.Disk.faults c.args.second.now) (g.D.Disk.faults x)) (sym w.second-is) rose)
+      ])
+      (λ file at e. w.run.ensures.damaged file at tells (sym why ∙ e)) ok grammar)
+  | in-None w ↦ absurd (no_command _ (sym c.store_of.ensures ∙ ap option_copied w.in-None.is) is)
+]

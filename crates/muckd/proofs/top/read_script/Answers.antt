@@ -1,4 +1,4 @@
-use Rattle.std.proofs.Common.{◌≡◌, ℕ, sym, ◌∙◌, ap, subst}
+use Rattle.std.proofs.Common.{ℕ, sym, ◌∙◌, ap, subst}
 use Rattle.muck_script.specs.Script.{script_of}
 use Rattle.muckd.specs.Outcome.{IsFirstOutside}
 use Rattle.muckd.proofs.Whole.{script_in, first_outside, read_out, read_part_most}

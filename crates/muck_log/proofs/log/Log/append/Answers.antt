@@ -55,11 +55,11 @@ returns-clause-any g c = λ t fresh w e.
     (λ x y may. may_ready c.args.self.now c.prepare.new.self (payload_of c.args.self.now c.args.batch.now) ready w a b x y c.in_ok-ready.ensures.ok e (c.requires.mounted t fresh).load may)
 
 pub returns-in_default-clause-whole : goal.returns-in_default-clause-whole
-returns-in_default-clause-whole g c = λ touched es tune is words two.
+returns-in_default-clause-whole g c = λ touched.
     let r = c.in_ok-ready.ensures in
-    ready_whole c.args.self.now c.prepare.new.self c.args.batch.now r.ok.lays r.storable r.kept r.covers c.requires.few es tune is words two
+    ready_whole c.args.self.now c.prepare.new.self c.args.batch.now r.ok.lays r.storable r.kept c.requires.few
 
 pub returns-clause-whole : goal.returns-clause-whole
-returns-clause-whole g c = λ touched es tune is words two.
+returns-clause-whole g c = λ touched.
     let r = c.in_ok-ready.ensures in
-    ready_whole c.args.self.now c.prepare.new.self c.args.batch.now r.ok.lays r.storable r.kept r.covers c.requires.few es tune is words two
+    ready_whole c.args.self.now c.prepare.new.self c.args.batch.now r.ok.lays r.storable r.kept c.requires.few
