@@ -9,7 +9,8 @@ use Rattle.muck_links.specs.Sessions.{Session, accepted, with_read, with_end, wi
 use Rattle.spec_events.specs.World.{World}
 use Rattle.spec_talks.specs.Talks.{Talk, begun, heard, given_out, ended_in}
 use Rattle.spec_serve.specs.Marks.{LinksNote}
-use Rattle.spec_serve.specs.Accounts.{WorkedOff, Cause, Agrees, ClosedWell, Peer, Keeps, new_peer}
+use Rattle.spec_serve.specs.Accounts.{WorkedOff, Cause, Agrees, ClosedWell}
+use Rattle.spec_serve.specs.inner.Keeping.{Peer, Keeps, new_peer}
 use Rattle.spec_serve.proofs.Marks.{passed_more, passed_first}
 
 -- what is kept is promised

@@ -13,8 +13,10 @@ use Rattle.muck_links.proofs.Keys.{altered_same, told_same}
 use Rattle.spec_events.specs.World.{World}
 use Rattle.spec_talks.specs.Talks.{Talk, talk_of, begun, ended_in}
 use Rattle.spec_serve.specs.Marks.{LinksNote}
-use Rattle.spec_serve.specs.Accounts.{Agrees, Keeps, Peer, Cause, new_peer}
-use Rattle.spec_serve.specs.Books.{Tally, with_told, Waits, HaltCause, HaltsCaused, Books}
+use Rattle.spec_serve.specs.Accounts.{Agrees, Cause}
+use Rattle.spec_serve.specs.Promises.{Tally, HaltCause, HaltsCaused}
+use Rattle.spec_serve.specs.inner.Keeping.{Keeps, Peer, new_peer}
+use Rattle.spec_serve.specs.inner.Books.{with_told, Waits, Books}
 use Rattle.spec_serve.proofs.Keys.{some_same, none_some, latest_altered, latest_else, altered_front, latest_front, altered_behind, latest_behind, latest_head}
 use Rattle.spec_serve.proofs.Pairs.{all2_altered}
 use Rattle.spec_serve.proofs.Accounting.{keeps_agrees, keeps_new, keeps_closed}

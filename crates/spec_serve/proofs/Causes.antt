@@ -12,7 +12,8 @@ use Rattle.spec_events.specs.Steps.{passes, is_lawful}
 use Rattle.spec_events.specs.Histories.{by_porter}
 use Rattle.spec_talks.specs.Talks.{Talk}
 use Rattle.spec_serve.specs.Marks.{LinksNote, noted}
-use Rattle.spec_serve.specs.Accounts.{HeardAll, WorkedOff, Cause, Peer, Keeps}
+use Rattle.spec_serve.specs.Accounts.{HeardAll, WorkedOff, Cause}
+use Rattle.spec_serve.specs.inner.Keeping.{Peer, Keeps}
 use Rattle.spec_serve.proofs.Marks.{marked, passed}
 
 all_written : (counted : LinksNote) (p : Peer) (t : Talk) (s : Session) → p.unsent ≡ [] → Keeps counted p t s → s.written ≡ t.sent

@@ -12,8 +12,10 @@ use Rattle.spec_events.specs.Histories.{after, AllLawful}
 use Rattle.spec_talks.specs.Talks.{Talk, talk_of, talks, is_open}
 use Rattle.spec_talks.proofs.Connected.{connected}
 use Rattle.spec_serve.specs.Marks.{LinksNote}
-use Rattle.spec_serve.specs.Accounts.{Peer, WorkedOff}
-use Rattle.spec_serve.specs.Books.{Tally, BooksOf, OpenWorkedOff}
+use Rattle.spec_serve.specs.Accounts.{WorkedOff}
+use Rattle.spec_serve.specs.Promises.{Tally, OpenWorkedOff}
+use Rattle.spec_serve.specs.inner.Keeping.{Peer}
+use Rattle.spec_serve.specs.inner.Books.{BooksOf}
 
 module _ (counted : LinksNote) (b : Tally) (w : World) (h : List Entry) (k : Tally) (peers : List Peer) (coming : Option ℕ)
     (nobody : w.live.board.connections ≡ []) (lawful : AllLawful w h) where

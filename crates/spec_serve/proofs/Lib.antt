@@ -7,3 +7,4 @@ pub mod Booking
 pub mod Noting
 pub mod Promising
 pub mod Connecting
+pub mod Turning

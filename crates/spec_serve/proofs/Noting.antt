@@ -5,9 +5,11 @@ use Rattle.muck_links.specs.Keyed.{latest}
 use Rattle.muck_links.specs.Sessions.{Session, number_of, accepted}
 use Rattle.spec_events.specs.World.{World}
 use Rattle.spec_talks.specs.Talks.{Talk}
-use Rattle.spec_serve.specs.Marks.{Count, counts, noted, Passed}
-use Rattle.spec_serve.specs.Accounts.{WorkedOff, Cause, ClosedWell, Agrees, Keeps, Peer}
-use Rattle.spec_serve.specs.Books.{Tally, Waits, Books}
+use Rattle.spec_serve.specs.Marks.{Count, counts, noted}
+use Rattle.spec_serve.specs.Accounts.{WorkedOff, Cause, ClosedWell, Agrees}
+use Rattle.spec_serve.specs.Promises.{Tally}
+use Rattle.spec_serve.specs.inner.Keeping.{Passed, Keeps, Peer}
+use Rattle.spec_serve.specs.inner.Books.{Waits, Books}
 use Rattle.spec_serve.proofs.Keys.{none_some, latest_front, latest_behind}
 use Rattle.spec_serve.proofs.Pairs.{all2_map}
 use Rattle.spec_serve.proofs.Marks.{noted_latest}

@@ -1,15 +1,13 @@
 -- Two lists, item by item.
 use Rattle.std.proofs.Common.{◌≡◌, ℕ, zero, suc, Bool, true, false, List, [], ◌∷◌, ◌++◌, refl, sym, ap, ◌∙◌, subst, Some}
-use Rattle.std.specs.Prelude.{◌==◌, if◌then◌else◌}
-use mathlib.Core.Option.{some, some-ne-none, some-injective}
-use lib.ListN.{get_elem?}
+use Rattle.std.specs.Prelude.{◌==◌, if◌then◌else◌, slice_get}
 use Rattle.muck_links.specs.Keyed.{altered, latest}
 use Rattle.muck_links.specs.Sessions.{Session}
 use Rattle.spec_talks.specs.Talks.{Talk, talks_with}
 use Rattle.spec_serve.specs.Pairs.{All2}
 use Rattle.spec_serve.specs.Marks.{LinksNote}
 use Rattle.spec_serve.specs.Accounts.{Agrees}
-use Rattle.spec_serve.specs.Books.{sessions_with}
+use Rattle.spec_serve.specs.Promises.{sessions_with}
 use Rattle.spec_serve.proofs.Keys.{some_same, none_some}
 
 module _ {A B : Type 0} (key : A → ℕ) (key' : B → ℕ) (R : A → B → Type 0) (same : (x : A) (y : B) → R x y → key x ≡ key' y) where
@@ -57,10 +55,10 @@ module _ {A B : Type 0} where
   all2_end R (a ∷ rest) [] x y all r = absurd all
   all2_end R (a ∷ rest) (b ∷ bs) x y all r = (all.0, all2_end R rest bs x y all.1 r)
 
-  all2_at : (R : A → B → Type 0) (xs : List A) (ys : List B) (place : ℕ) (x : A) → All2 R xs ys → get_elem? xs place ≡ some x → (y : B) × (get_elem? ys place ≡ some y) × R x y
-  all2_at R [] ys place x all at = absurd (some-ne-none x (sym at))
+  all2_at : (R : A → B → Type 0) (xs : List A) (ys : List B) (place : ℕ) (x : A) → All2 R xs ys → slice_get xs place ≡ Some x → (y : B) × (slice_get ys place ≡ Some y) × R x y
+  all2_at R [] ys place x all at = absurd (none_some x at)
   all2_at R (a ∷ rest) [] place x all at = absurd all
-  all2_at R (a ∷ rest) (b ∷ bs) zero x all at = (b, refl, subst (λ (z : A). R z b) (some-injective a x at) all.0)
+  all2_at R (a ∷ rest) (b ∷ bs) zero x all at = (b, refl, subst (λ (z : A). R z b) (some_same a x at) all.0)
   all2_at R (a ∷ rest) (b ∷ bs) (suc place) x all at = all2_at R rest bs place x all.1 at
 
 all2_with : (counted : LinksNote) (d : ℕ) (ts : List Talk) (ss : List Session) → All2 (Agrees counted) ts ss → All2 (Agrees counted) (talks_with d ts) (sessions_with d ss)
@@ -75,6 +73,6 @@ all2_with counted d (t ∷ ts) (s ∷ ss) all = from (all2_with counted d ts ss 
     from ih false is = subst (λ (u : Bool). All2 (Agrees counted) (talks_with d ts) (if u then sessions_with d ss ++ s ∷ [] else sessions_with d ss)) (sym is) ih
 
 -- The opening of d at a place belongs to the acceptance of d at the same place.
-pub by_number : (counted : LinksNote) (d place : ℕ) (ts : List Talk) (ss : List Session) (t : Talk) → All2 (Agrees counted) ts ss → get_elem? (talks_with d ts) place ≡ some t
-    → (s : Session) × (get_elem? (sessions_with d ss) place ≡ some s) × Agrees counted t s
+pub by_number : (counted : LinksNote) (d place : ℕ) (ts : List Talk) (ss : List Session) (t : Talk) → All2 (Agrees counted) ts ss → slice_get (talks_with d ts) place ≡ Some t
+    → (s : Session) × (slice_get (sessions_with d ss) place ≡ Some s) × Agrees counted t s
 by_number counted d place ts ss t all at = all2_at (Agrees counted) (talks_with d ts) (sessions_with d ss) place t (all2_with counted d ts ss all) at

@@ -1,5 +1,7 @@
 -- From the books to what is promised.
-use Rattle.std.proofs.Common.{◌≡◌, ℕ, List, ◌++◌, refl, sym, ap, ◌∙◌, subst, inl, inr, Option, Some, None}
+use Rattle.std.proofs.Common.{◌≡◌, ℕ, List, [], ◌++◌, refl, sym, ap, ◌∙◌, subst, inl, inr, Option, Some, None}
+use Rattle.std.specs.Prelude.{slice_get}
+use Rattle.std.specs.Option.{option_map_or}
 use mathlib.Core.Option.{some}
 use lib.ListN.{get_elem?}
 use Rattle.muck_links.specs.Keyed.{altered, latest}
@@ -10,15 +12,17 @@ use Rattle.muck_model.specs.declared.event.Entry.{Entry}
 use Rattle.spec_events.specs.World.{World}
 use Rattle.spec_events.specs.Histories.{AllLawful}
 use Rattle.spec_talks.specs.Parties.{party_of, worlds_at, is_halt}
-use Rattle.spec_talks.specs.Talks.{Talk, talk_of, talks}
+use Rattle.spec_talks.specs.Talks.{Talk, talk_of, talks, talks_with, sent}
 use Rattle.spec_talks.proofs.Talking.{talks_same}
 use Rattle.spec_talks.proofs.Halting.{halts_same}
 use Rattle.spec_serve.specs.Pairs.{All2}
 use Rattle.spec_serve.specs.Marks.{LinksNote}
-use Rattle.spec_serve.specs.Accounts.{Agrees, Keeps, Peer, WorkedOff}
-use Rattle.spec_serve.specs.Books.{Tally, with_told, Waits, AtMostOne, Books, Promised, PromisedOf, AllWorkedOff, OpenWorkedOff}
+use Rattle.spec_serve.specs.Accounts.{Agrees, WorkedOff}
+use Rattle.spec_serve.specs.Promises.{Tally, AtMostOne, Promised, PromisedOf, OpenWorkedOff, sessions_with}
+use Rattle.spec_serve.specs.inner.Keeping.{Keeps, Peer}
+use Rattle.spec_serve.specs.inner.Books.{with_told, Waits, Books, AllWorkedOff}
 use Rattle.spec_serve.proofs.Keys.{some_same}
-use Rattle.spec_serve.proofs.Pairs.{all2_altered}
+use Rattle.spec_serve.proofs.Pairs.{all2_altered, by_number}
 use Rattle.spec_serve.proofs.Booking.{same_number, through}
 use Rattle.spec_serve.proofs.Noting.{latest_ours}
 
@@ -55,6 +59,15 @@ pub promised_whole : (counted : LinksNote) (b : Tally) (w : World) (h h' : List 
 promised_whole counted b w h h' k lawful more own promise =
     subst (λ (ts : List Talk). Promised counted b ts (worlds_at is_halt w h') k) (sym (talks_same w h h' lawful more own))
     (subst (λ (hs : List World). Promised counted b (talks w h) hs k) (sym (halts_same w h h' lawful more own)) promise)
+
+-- The opening of d at a place belongs to its acceptance at that place, to which a front was written of the bytes that were taken for it.
+pub promised_by_number : (counted : LinksNote) (b : Tally) (w : World) (h : List Entry) (k : Tally) (promise : PromisedOf counted b w h k) (d place : ℕ) (t : Talk)
+    → slice_get (talks_with d (talks w h)) place ≡ Some t
+    → (s : Session) × (slice_get (sessions_with d promise.mine) place ≡ Some s) × Agrees counted t s × StartsWith (sent w h d place) s.written
+promised_by_number counted b w h k promise d place t at =
+    let m = by_number counted d place (talks w h) promise.mine t promise.agree at in
+    let taken : sent w h d place ≡ t.sent = ap (λ (o : Option Talk). option_map_or (λ x. x.sent) o []) at in
+    (m.0, m.1, m.2, subst (λ (bytes : List ℕ). StartsWith bytes m.0.written) (sym taken) m.2.bytes)
 
 -- Where each link that is open is worked off, so is each connection that is open.
 pub books_worked_off : (counted : LinksNote) (b : Tally) (ts : List Talk) (hs : List World) (k : Tally) (peers : List Peer) (coming : Option ℕ) (w : World)

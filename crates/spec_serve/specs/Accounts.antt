@@ -1,9 +1,8 @@
 -- The account of one link: what it carried against what the history says of its connection.
-use Rattle.std.specs.Prelude.{◌≡◌, ℕ, Bool, true, false, is_some, ◌+◌, ◌<◌, ◌≤◌, ◌⊎◌, not, ◌&&◌, List, [], ◌++◌, length, Option, Some, None}
+use Rattle.std.specs.Prelude.{◌≡◌, ℕ, true, false, ◌+◌, ◌<◌, ◌≤◌, ◌⊎◌, not, ◌&&◌, List, [], length, Option, Some, None}
 use Rattle.turn_lock.specs.Histories.{StartsWith}
 use Rattle.muck_links.specs.Lines.{lines}
 use Rattle.muck_links.specs.Sessions.{Session}
-use Rattle.muck_links.specs.inner.Cutting.{Cut, fresh, cut_lines, cut_rest}
 use Rattle.muck_model.specs.declared.event.Event.TheVariants.{Input}
 use Rattle.muck_queue.specs.Queues.{is_tied}
 use Rattle.spec_live.specs.Connections.{is_ready}
@@ -11,7 +10,7 @@ use Rattle.spec_events.specs.World.{World, queue_of, is_leaving}
 use Rattle.spec_events.specs.Steps.{passes, is_lawful}
 use Rattle.spec_events.specs.Histories.{by_porter}
 use Rattle.spec_talks.specs.Talks.{Talk}
-use Rattle.spec_serve.specs.Marks.{LinksNote, noted, Passed}
+use Rattle.spec_serve.specs.Marks.{LinksNote, noted}
 
 -- Nothing is left to do for the connection in this world: no line waits that may still be done, its queue is empty, and all
 -- that was taken was written; or a write was refused after the end, or after the note that is made once the world is stopping.
@@ -46,32 +45,3 @@ pub record Agrees (counted : LinksNote) (t : Talk) (s : Session) : Type 0 where
   pub bytes : StartsWith t.sent s.written
   pub lack : length t.sent ≤ length s.written + t.last
   pub closing : ClosedWell counted t.closed t s
-
--- What is kept of a link that is open: the lines that were cut and not entered yet with the rest, the bytes that were taken and
--- not written yet, whether it ended or failed, and whether it refused a write after its end, or after the note.
-pub record Peer : Type 0 where
-  pub number : ℕ
-  pub cut : Cut
-  pub unsent : List ℕ
-  pub ended : Bool
-  pub faulted : Bool
-  pub refused : Bool
-  pub stalled : Bool
-
--- The account of a link that is open: each line that was read was entered or is kept, and each byte that was taken was written
--- or is kept.
-pub record Keeps (counted : LinksNote) (p : Peer) (t : Talk) (s : Session) : Type 0 where
-  pub talk_number : t.number ≡ p.number
-  pub link_number : s.number ≡ p.number
-  pub not_closed : t.closed ≡ None
-  pub in_use : s.in_use ≡ true
-  pub lines : t.entered ++ p.cut.ready ≡ cut_lines fresh s.read
-  pub rest : p.cut.rest ≡ cut_rest fresh s.read
-  pub bytes : t.sent ≡ s.written ++ p.unsent
-  pub lack : length p.unsent ≤ t.last
-  pub ended : Passed p.ended p.refused s.ended s.refused
-  pub stalled : Passed (is_some counted) p.stalled (noted s.number counted) s.refused
-  pub faulted : p.faulted ≡ true → 0 < s.faults
-
-abbrev pub new_peer : ℕ → Peer
-new_peer d = record { number = d; cut = record { ready = []; rest = fresh }; unsent = []; ended = false; faulted = false; refused = false; stalled = false }

@@ -1,5 +1,5 @@
 -- Counts of refused writes that are remembered: the one at the end of a link, and those in the note of the links.
-use Rattle.std.specs.Prelude.{◌≡◌, ℕ, ◌<◌, ◌≤◌, Bool, true, false, List, map, Option, Some, None}
+use Rattle.std.specs.Prelude.{ℕ, List, map, Option}
 use Rattle.std.specs.Option.{option_map, option_and_then}
 use Rattle.muck_links.specs.Keyed.{latest}
 use Rattle.muck_links.specs.Sessions.{Session}
@@ -23,9 +23,3 @@ LinksNote = Option (List Count)
 -- what it says of the latest link of a number
 abbrev pub noted : ℕ → LinksNote → Option ℕ
 noted d counted = option_and_then (λ cs. option_map (λ c. c.refused) (latest count_of d cs)) counted
-
--- Of a count it is known whether it is marked, and whether it has passed the mark since.
-abbrev pub Passed : Bool → Bool → Option ℕ → ℕ → Type 0
-Passed false passed mark count = (mark ≡ None) × (passed ≡ false)
-Passed true false mark count = (n : ℕ) × (mark ≡ Some n) × (n ≤ count)
-Passed true true mark count = (n : ℕ) × (mark ≡ Some n) × (n < count)

@@ -10,7 +10,7 @@ use Rattle.spec_events.specs.World.{World}
 use Rattle.spec_events.specs.Steps.{is_lawful, effect}
 use Rattle.spec_events.specs.Histories.{after, AllLawful}
 use Rattle.spec_talks.specs.Parties.{party_of, worlds_at, halts, is_halt}
-use Rattle.spec_talks.proofs.Histories.{lawful_back, worlds_append, both_ways, not_first, others_own}
+use Rattle.spec_talks.proofs.Histories.{lawful_back, worlds_append, worlds_one, both_ways, not_first, others_own}
 
 -- where another party does something, the run isn't stopped
 halts_other : (w : World) (p : ℕ) (event : Event) → is_lawful w (record { party = p; event = event }) ≡ true → (p == 0) ≡ false → halts event ≡ false
@@ -34,3 +34,9 @@ halts_same w h h' l (rest, is) own =
     ap (worlds_at is_halt w) is ∙ worlds_append is_halt w h rest
     ∙ ap (λ (x : List World). worlds_at is_halt w h ++ x) (halts_none (after w h) rest (lawful_back w h rest (subst (AllLawful w) is l)) (others_own h rest (sym (ap (own_of party_of 0) is) ∙ own)))
     ∙ append-nil (worlds_at is_halt w h)
+
+-- a turn of the first party: entries of others, and then this one
+pub halts_turned : (w : World) (h h' : List Entry) (e : Entry) → AllLawful w h' → StartsWith h' h → own_of party_of 0 h' ≡ own_of party_of 0 h
+    → worlds_at is_halt w (h' ++ e ∷ []) ≡ worlds_at is_halt w h ++ (if is_halt e then after w h' ∷ [] else [])
+halts_turned w h h' e l more own =
+    worlds_one is_halt w h' e ∙ ap (λ (x : List World). x ++ (if is_halt e then after w h' ∷ [] else [])) (halts_same w h h' l more own)

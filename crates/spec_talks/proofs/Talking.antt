@@ -62,3 +62,8 @@ talks_others w h rest l none_own = talks_on_append w [] h rest ∙ talks_on_othe
 pub talks_same : (w : World) (h h' : List Entry) → AllLawful w h' → StartsWith h' h → own_of party_of 0 h' ≡ own_of party_of 0 h → talks w h' ≡ talks w h
 talks_same w h h' l (rest, is) own =
     ap (talks w) is ∙ talks_others w h rest (subst (AllLawful w) is l) (others_own h rest (sym (ap (own_of party_of 0) is) ∙ own))
+
+-- a turn of the first party: entries of others, and then this one
+pub talks_turned : (w : World) (h h' : List Entry) (e : Entry) → AllLawful w h' → StartsWith h' h → own_of party_of 0 h' ≡ own_of party_of 0 h
+    → talks w (h' ++ e ∷ []) ≡ talked (after w h') e.event (talks w h)
+talks_turned w h h' e l more own = talks_one w h' e ∙ ap (talked (after w h') e.event) (talks_same w h h' l more own)
