@@ -5,13 +5,9 @@ use Rattle.turn_lock.specs.Histories.{kept, own_of}
 use Rattle.turn_lock.proofs.Parts.{own_append}
 use Rattle.muck_model.specs.declared.event.Entry.{Entry}
 use Rattle.spec_events.specs.World.{World}
-use Rattle.spec_events.specs.Steps.{is_lawful, effect}
+use Rattle.spec_events.specs.Steps.{effect}
 use Rattle.spec_events.specs.Histories.{after, AllLawful}
 use Rattle.spec_talks.specs.Parties.{party_of, worlds_at}
-
-pub after_append : (w : World) (a b : List Entry) → after w (a ++ b) ≡ after (after w a) b
-after_append w [] b = refl
-after_append w (e ∷ es) b = after_append (effect w e) es b
 
 -- the front of a lawful history is lawful
 pub lawful_front : (w : World) (a b : List Entry) → AllLawful w (a ++ b) → AllLawful w a
@@ -22,11 +18,6 @@ lawful_front w (e ∷ es) b l = (l.0, lawful_front (effect w e) es b l.1)
 pub lawful_back : (w : World) (a b : List Entry) → AllLawful w (a ++ b) → AllLawful (after w a) b
 lawful_back w [] b l = l
 lawful_back w (e ∷ es) b l = lawful_back (effect w e) es b l.1
-
--- and a lawful history is so with a lawful entry more
-pub lawful_more : (w : World) (a : List Entry) (e : Entry) → AllLawful w a → is_lawful (after w a) e ≡ true → AllLawful w (a ++ e ∷ [])
-lawful_more w [] e l is = (is, tt)
-lawful_more w (x ∷ xs) e l is = (l.0, lawful_more (effect w x) xs e l.1 is)
 
 pub worlds_append : (test : Entry → Bool) (w : World) (a b : List Entry) → worlds_at test w (a ++ b) ≡ worlds_at test w a ++ worlds_at test (after w a) b
 worlds_append test w [] b = refl
