@@ -1,5 +1,5 @@
 -- The account of one link, step by step.
-use Rattle.std.proofs.Common.{◌≡◌, ℕ, zero, suc, ◌<◌, ◌≤◌, true, false, List, [], ◌∷◌, ◌++◌, length, take, drop, refl, sym, ap, ◌∙◌, subst, append_assoc, arith, length-append, Option, None}
+use Rattle.std.proofs.Common.{true≢false, ◌≡◌, ℕ, zero, suc, ◌<◌, ◌≤◌, true, List, [], ◌∷◌, ◌++◌, length, take, drop, refl, sym, ap, ◌∙◌, subst, append_assoc, arith, length-append, Option, None}
 use Rattle.std.specs.Prelude.{is_some}
 use Rattle.std.proofs.lemmas.List.{append-nil}
 use Rattle.muck_io.specs.Faults.{one_more}
@@ -40,11 +40,8 @@ keeps_new d = record {
   lack = omega arith;
   ended = (refl, refl);
   stalled = (refl, refl);
-  faulted = λ e. absurd (false_true e);
+  faulted = λ e. absurd (true≢false (sym e));
 }
-  where
-    false_true : false ≡ true → ⊥
-    false_true e = cc
 
 -- bytes came, and were cut
 pub keeps_read : (counted : LinksNote) (p : Peer) (t : Talk) (s : Session) (bytes : List ℕ) (c : Cut) → c ≡ fed p.cut bytes → Keeps counted p t s

@@ -1,5 +1,6 @@
 -- The books of all links, step by step.
-use Rattle.std.proofs.Common.{◌≡◌, ◌≢◌, ◌⊎◌, ℕ, zero, suc, ◌<◌, ◌≤◌, true, false, List, [], ◌∷◌, ◌++◌, length, set, refl, sym, ap, ◌∙◌, subst, inl, inr, ⊎_elim, arith, Option, Some, None}
+use Rattle.std.proofs.Common.{true≢false, ◌≡◌, ◌≢◌, ◌⊎◌, ℕ, zero, suc, ◌<◌, ◌≤◌, true, false, List, [], ◌∷◌, ◌++◌, length, set, refl, sym, ap, ◌∙◌, subst, inl, inr, ⊎_elim, arith, Option, Some, None}
+use Rattle.std.proofs.lemmas.Option.{same_Some, none-some}
 use Rattle.std.specs.List.{remove}
 use mathlib.Core.Option.{some, some-ne-none, some-injective}
 use mathlib.Core.Logic.{dite}
@@ -17,7 +18,7 @@ use Rattle.spec_serve.specs.Accounts.{Agrees, Cause}
 use Rattle.spec_serve.specs.Promises.{Tally, HaltCause, HaltsCaused}
 use Rattle.spec_serve.specs.inner.Keeping.{Keeps, Peer, new_peer}
 use Rattle.spec_serve.specs.inner.Books.{with_told, Waits, Books}
-use Rattle.spec_serve.proofs.Keys.{some_same, none_some, latest_altered, latest_else, altered_front, latest_front, altered_behind, latest_behind, latest_head}
+use Rattle.spec_serve.proofs.Keys.{latest_altered, latest_else, altered_front, latest_front, altered_behind, latest_behind, latest_head}
 use Rattle.spec_serve.proofs.Pairs.{all2_altered}
 use Rattle.spec_serve.proofs.Accounting.{keeps_agrees, keeps_new, keeps_closed}
 
@@ -123,7 +124,7 @@ books_begin b = record {
   kept = λ i p at. absurd (some-ne-none p (sym at));
   apart = λ i j p q at at' e. absurd (some-ne-none p (sym at));
   away = λ d e i p at. absurd (some-ne-none p (sym at));
-  known = λ d t l live. absurd (none_some t l);
+  known = λ d t l live. absurd (none-some t l);
   halts = λ i w at. absurd (some-ne-none w (sym at));
 }
 
@@ -169,8 +170,8 @@ books_came counted b ts hs k k' peers d is unused more bk = record {
   kept = bk.kept;
   apart = bk.apart;
   away = λ c e i p at. let m = bk.kept i p at in λ (same : p.number ≡ c).
-      true_false (sym m.4.in_use
-      ∙ ap is_open (sym (latest_front number_of d bk.mine b.told.sessions m.1 (subst (λ (n : ℕ). latest number_of n bk.mine ≡ Some m.1) (same ∙ sym (some_same d c e)) m.3)))
+      true≢false (sym m.4.in_use
+      ∙ ap is_open (sym (latest_front number_of d bk.mine b.told.sessions m.1 (subst (λ (n : ℕ). latest number_of n bk.mine ≡ Some m.1) (same ∙ sym (same_Some d c e)) m.3)))
       ∙ ap (λ (l : List Session). is_open (latest number_of d l)) (sym before) ∙ unused);
   known = bk.known;
   halts = halts_later b k k' hs more (λ over. ap (λ (x : Told). x.over) is ∙ over) bk.halts;
@@ -178,9 +179,6 @@ books_came counted b ts hs k k' peers d is unused more bk = record {
   where
     before : k.told.sessions ≡ bk.mine ++ b.told.sessions
     before = bk.whole ∙ ap (λ (l : List Session). l ++ (bk.mine ++ b.told.sessions)) bk.waits
-
-    true_false : true ≡ false → ⊥
-    true_false e = cc
 
 -- it is opened, before there is a note
 pub books_opened : (b : Tally) (ts : List Talk) (hs : List World) (k : Tally) (peers : List Peer) (d : ℕ) (p : Peer) → p ≡ new_peer d
@@ -209,7 +207,7 @@ books_opened b ts hs k peers d p is bk = record {
       (λ (y : p ≡ r). place peers (λ n z atz. bk.away d refl n z atz) i q a x ∙ sym (place peers (λ n z atz. bk.away d refl n z atz) j r a' y))
       (at_snoc peers p r j a'))
       (at_snoc peers p q i a);
-  away = λ c e i q at. absurd (none_some c e);
+  away = λ c e i q at. absurd (none-some c e);
   known = λ d' t l live. dite (ℕ_discrete d d')
       (λ here. let last = at_end peers p in (last.0, p, last.1, ap (λ (z : Peer). z.number) is ∙ here))
       (λ other. let o = bk.known d' t (sym (latest_behind talk_of d' (begun d) ts other) ∙ l) live in (o.0, o.1, at_longer peers (p ∷ []) o.0 o.1 o.2, o.3));
@@ -275,7 +273,7 @@ books_closed counted b ts hs k peers peers' coming i d p w at is gone cause bk =
           one_place i j j' o.0 o'.0 o.2 o'.2 (bk.apart o.0 o'.0 q q' o.1 o'.1 e);
       away = λ c e j q a. let o = old j q a in bk.away c e o.0 q o.1;
       known = λ d' t' l live. dite (ℕ_discrete d' d)
-          (λ here. absurd (some_closed w (ap (λ (x : Talk). x.closed) (some_same (ended_in w t) t' (sym (latest_altered talk_of d (ended_in w) (λ x. refl) ts t lt) ∙ ap (λ (n : ℕ). latest talk_of n (altered talk_of d (ended_in w) ts)) (sym here) ∙ l)) ∙ live)))
+          (λ here. absurd (some_closed w (ap (λ (x : Talk). x.closed) (same_Some (ended_in w t) t' (sym (latest_altered talk_of d (ended_in w) (λ x. refl) ts t lt) ∙ ap (λ (n : ℕ). latest talk_of n (altered talk_of d (ended_in w) ts)) (sym here) ∙ l)) ∙ live)))
           (λ other.
           let o = bk.known d' t' (sym (latest_else talk_of d d' (ended_in w) (λ e. other (sym e)) (λ x. refl) ts) ∙ l) live in
           let n = still_at peers i o.0 o.1 o.2 (λ e. other (sym o.3 ∙ ap (λ (y : Peer). y.number) (some-injective o.1 p (sym o.2 ∙ ap (λ (m : ℕ). get_elem? peers m) e ∙ at)) ∙ is)) in
@@ -303,7 +301,7 @@ books_closed counted b ts hs k peers peers' coming i d p w at is gone cause bk =
     one_place i j j' n n' (inr (a, e)) (inr (a', e')) h = omega arith
 
     some_closed : (x : World) → ◌≡◌ {A = Option World} (Some x) None → ⊥
-    some_closed x e = none_some x (sym e)
+    some_closed x e = none-some x (sym e)
 
 -- the run is stopped for a cause
 pub books_halted : (counted : LinksNote) (b : Tally) (ts : List Talk) (hs : List World) (k : Tally) (peers : List Peer) (coming : Option ℕ) (w : World) → HaltCause b k w

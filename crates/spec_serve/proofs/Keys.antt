@@ -1,39 +1,18 @@
 -- Lists of things with numbers, the latest first.
-use Rattle.std.proofs.Common.{◌≡◌, ◌≢◌, ℕ, Bool, true, false, List, [], ◌∷◌, ◌++◌, refl, sym, ap, ◌∙◌, subst, Option, Some, None, eqb-true, ne_eqb, eq-eqb}
+use Rattle.std.proofs.Common.{◌≡◌, ◌≢◌, ℕ, Bool, true, false, List, [], ◌∷◌, ◌++◌, refl, sym, ap, ◌∙◌, Option, Some, eqb-true, ne_eqb, eq-eqb}
+use Rattle.std.proofs.lemmas.Option.{none-some, same_Some}
 use Rattle.std.specs.Prelude.{◌==◌, if◌then◌else◌}
 use Rattle.muck_links.specs.Keyed.{altered, latest}
 
-pub some_same : {A : Type 0} (x y : A) → Some x ≡ Some y → x ≡ y
-some_same x y e = ap (pick x) e
-  where
-    pick : {A : Type 0} → A → Option A → A
-    pick d (Some z) = z
-    pick d None = d
-
-pub none_some : {A : Type 0} (x : A) → None ≡ Some x → ⊥
-none_some x e = subst {A = Option _} IsNothing e tt
-  where
-    IsNothing : {A : Type 0} → Option A → Type 0
-    IsNothing None = Unit {0}
-    IsNothing (Some z) = ⊥
-
 module _ {A : Type 0} (key : A → ℕ) where
-  pub latest_key : (d : ℕ) (xs : List A) (a : A) → latest key d xs ≡ Some a → key a ≡ d
-  latest_key d [] a e = absurd (none_some a e)
-  latest_key d (x ∷ xs) a e = from (latest_key d xs a) (key x == d) refl e
-    where
-      from : (latest key d xs ≡ Some a → key a ≡ d) → (t : Bool) → (key x == d) ≡ t → (if t then Some x else latest key d xs) ≡ Some a → key a ≡ d
-      from ih true is h = subst (λ (y : A). key y ≡ d) (some_same x a h) (eqb-true (key x) d is)
-      from ih false is h = ih h
-
   pub latest_altered : (d : ℕ) (f : A → A) → ((x : A) → key (f x) ≡ key x) → (xs : List A) (a : A) → latest key d xs ≡ Some a → latest key d (altered key d f xs) ≡ Some (f a)
-  latest_altered d f keeps [] a e = absurd (none_some a e)
+  latest_altered d f keeps [] a e = absurd (none-some a e)
   latest_altered d f keeps (x ∷ xs) a e = from (latest_altered d f keeps xs a) (key x == d) refl e
     where
       from : (latest key d xs ≡ Some a → latest key d (altered key d f xs) ≡ Some (f a))
           → (t : Bool) → (key x == d) ≡ t → (if t then Some x else latest key d xs) ≡ Some a
           → latest key d (if t then f x ∷ xs else x ∷ altered key d f xs) ≡ Some (f a)
-      from ih true is h = ap (λ (n : ℕ). if n == d then Some (f x) else latest key d xs) (keeps x) ∙ ap (λ (u : Bool). if u then Some (f x) else latest key d xs) is ∙ ap (λ (y : A). Some (f y)) (some_same x a h)
+      from ih true is h = ap (λ (n : ℕ). if n == d then Some (f x) else latest key d xs) (keeps x) ∙ ap (λ (u : Bool). if u then Some (f x) else latest key d xs) is ∙ ap (λ (y : A). Some (f y)) (same_Some x a h)
       from ih false is h = ap (λ (u : Bool). if u then Some x else latest key d (altered key d f xs)) is ∙ ih h
 
   pub latest_else : (d d' : ℕ) (f : A → A) → d ≢ d' → ((x : A) → key (f x) ≡ key x) → (xs : List A) → latest key d' (altered key d f xs) ≡ latest key d' xs
@@ -50,7 +29,7 @@ module _ {A : Type 0} (key : A → ℕ) where
       from ih false is = ap (λ (o : Option A). if key x == d' then Some x else o) ih
 
   pub altered_front : (d : ℕ) (f : A → A) (xs ys : List A) (a : A) → latest key d xs ≡ Some a → altered key d f (xs ++ ys) ≡ altered key d f xs ++ ys
-  altered_front d f [] ys a e = absurd (none_some a e)
+  altered_front d f [] ys a e = absurd (none-some a e)
   altered_front d f (x ∷ xs) ys a e = from (altered_front d f xs ys a) (key x == d) e
     where
       from : (latest key d xs ≡ Some a → altered key d f (xs ++ ys) ≡ altered key d f xs ++ ys)
@@ -60,7 +39,7 @@ module _ {A : Type 0} (key : A → ℕ) where
       from ih false h = ap (λ (l : List A). x ∷ l) (ih h)
 
   pub latest_front : (d : ℕ) (xs ys : List A) (a : A) → latest key d xs ≡ Some a → latest key d (xs ++ ys) ≡ Some a
-  latest_front d [] ys a e = absurd (none_some a e)
+  latest_front d [] ys a e = absurd (none-some a e)
   latest_front d (x ∷ xs) ys a e = from (latest_front d xs ys a) (key x == d) e
     where
       from : (latest key d xs ≡ Some a → latest key d (xs ++ ys) ≡ Some a) → (t : Bool) → (if t then Some x else latest key d xs) ≡ Some a → (if t then Some x else latest key d (xs ++ ys)) ≡ Some a

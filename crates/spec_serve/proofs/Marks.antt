@@ -1,5 +1,5 @@
 -- Counts of refused writes that are remembered.
-use Rattle.std.proofs.Common.{◌≡◌, ℕ, ◌+◌, ◌<◌, Bool, true, false, List, [], ◌∷◌, refl, ap, arith, Option, Some}
+use Rattle.std.proofs.Common.{◌∙◌, sym, true≢false, ◌≡◌, ℕ, ◌+◌, ◌<◌, Bool, true, false, List, [], ◌∷◌, refl, ap, arith, Option, Some}
 use Rattle.std.specs.Prelude.{◌==◌, if◌then◌else◌}
 use Rattle.std.specs.Option.{option_map}
 use Rattle.muck_links.specs.Keyed.{latest}
@@ -7,22 +7,16 @@ use Rattle.muck_links.specs.Sessions.{Session, number_of, first_count}
 use Rattle.spec_serve.specs.Marks.{count_of, counts, noted}
 use Rattle.spec_serve.specs.inner.Keeping.{Passed}
 
-false_true : false ≡ true → ⊥
-false_true e = cc
-
 -- what is marked has a mark
 pub marked : (m a : Bool) (mark : Option ℕ) (count : ℕ) → m ≡ true → Passed m a mark count → (n : ℕ) × (mark ≡ Some n)
-marked false a mark count is h = absurd (false_true is)
+marked false a mark count is h = absurd (true≢false (sym is))
 marked true false mark count is h = (h.0, h.1)
 marked true true mark count is h = (h.0, h.1)
 
 -- what has passed it is above it
 pub passed : (m a : Bool) (mark : Option ℕ) (count : ℕ) → a ≡ true → Passed m a mark count → (n : ℕ) × (mark ≡ Some n) × (n < count)
-passed false a mark count is h = absurd (both_ways a is h.1)
-  where
-    both_ways : (b : Bool) → b ≡ true → b ≡ false → ⊥
-    both_ways b x y = cc
-passed true false mark count is h = absurd (false_true is)
+passed false a mark count is h = absurd (true≢false (sym is ∙ h.1))
+passed true false mark count is h = absurd (true≢false (sym is))
 passed true true mark count is h = h
 
 -- one more passes each mark
@@ -34,10 +28,7 @@ passed_more true true mark count h = (h.0, h.1, (let e = h.2 in omega arith))
 -- the first end marks the count, and a later one leaves the mark
 pub passed_first : (m a : Bool) (mark : Option ℕ) (count : ℕ) → Passed m a mark count → Passed true a (first_count mark count) count
 passed_first false false mark count h = (count, ap (λ (o : Option ℕ). first_count o count) h.0, omega arith)
-passed_first false true mark count h = absurd (true_false h.1)
-  where
-    true_false : true ≡ false → ⊥
-    true_false e = cc
+passed_first false true mark count h = absurd (true≢false h.1)
 passed_first true false mark count h = (h.0, ap (λ (o : Option ℕ). first_count o count) h.1, h.2)
 passed_first true true mark count h = (h.0, ap (λ (o : Option ℕ). first_count o count) h.1, h.2)
 

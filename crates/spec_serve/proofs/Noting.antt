@@ -1,5 +1,6 @@
 -- The note of the links is made.
-use Rattle.std.proofs.Common.{◌≡◌, ℕ, List, ◌++◌, Bool, true, false, refl, sym, ap, ◌∙◌, arith, Option, Some, None}
+use Rattle.std.proofs.Common.{true≢false, ◌≡◌, ℕ, List, ◌++◌, Bool, true, false, refl, sym, ap, ◌∙◌, arith, Option, Some, None}
+use Rattle.std.proofs.lemmas.Option.{none-some}
 use Rattle.std.specs.Option.{option_map}
 use Rattle.muck_links.specs.Keyed.{latest}
 use Rattle.muck_links.specs.Sessions.{Session, number_of, accepted}
@@ -10,7 +11,7 @@ use Rattle.spec_serve.specs.Accounts.{WorkedOff, Cause, ClosedWell, Agrees}
 use Rattle.spec_serve.specs.Promises.{Tally}
 use Rattle.spec_serve.specs.inner.Keeping.{Passed, Keeps, Peer}
 use Rattle.spec_serve.specs.inner.Books.{Waits, Books}
-use Rattle.spec_serve.proofs.Keys.{none_some, latest_front, latest_behind}
+use Rattle.spec_serve.proofs.Keys.{latest_front, latest_behind}
 use Rattle.spec_serve.proofs.Pairs.{all2_map}
 use Rattle.spec_serve.proofs.Marks.{noted_latest}
 
@@ -19,7 +20,7 @@ use Rattle.spec_serve.proofs.Marks.{noted_latest}
 worked_noted : (cs : List Count) (w : World) (t : Talk) (s : Session) → WorkedOff None w t s → WorkedOff (Some cs) w t s
 worked_noted cs w t s (WorkedOff.done a b c) = WorkedOff.done a b c
 worked_noted cs w t s (WorkedOff.refused n a b) = WorkedOff.refused n a b
-worked_noted cs w t s (WorkedOff.stalled a n b c) = absurd (none_some n b)
+worked_noted cs w t s (WorkedOff.stalled a n b c) = absurd (none-some n b)
 
 cause_noted : (cs : List Count) (w : World) (t : Talk) (s : Session) → Cause None w t s → Cause (Some cs) w t s
 cause_noted cs w t s (Cause.faulted a) = Cause.faulted a
@@ -53,10 +54,7 @@ keeps_noted cs p t s is k = record {
   where
     from : (b : Bool) → b ≡ false → Passed true b (noted s.number (Some cs)) s.refused
     from false e = (s.refused, is, omega arith)
-    from true e = absurd (true_false e)
-      where
-        true_false : true ≡ false → ⊥
-        true_false h = cc
+    from true e = absurd (true≢false e)
 
 -- the latest link of a number is ours where it has a peer
 pub latest_ours : (d : ℕ) (coming : Option ℕ) (extra mine before : List Session) (s : Session) → Waits coming extra → ((c : ℕ) → coming ≡ Some c → ¬ (c ≡ d))

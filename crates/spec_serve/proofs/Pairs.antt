@@ -1,5 +1,6 @@
 -- Two lists, item by item.
 use Rattle.std.proofs.Common.{◌≡◌, ℕ, zero, suc, Bool, true, false, List, [], ◌∷◌, ◌++◌, refl, sym, ap, ◌∙◌, subst, Some}
+use Rattle.std.proofs.lemmas.Option.{same_Some, none-some}
 use Rattle.std.specs.Prelude.{◌==◌, if◌then◌else◌, slice_get}
 use Rattle.muck_links.specs.Keyed.{altered, latest}
 use Rattle.muck_links.specs.Sessions.{Session}
@@ -8,14 +9,13 @@ use Rattle.spec_serve.specs.Pairs.{All2}
 use Rattle.spec_serve.specs.Marks.{LinksNote}
 use Rattle.spec_serve.specs.Accounts.{Agrees}
 use Rattle.spec_serve.specs.Promises.{sessions_with}
-use Rattle.spec_serve.proofs.Keys.{some_same, none_some}
 
 module _ {A B : Type 0} (key : A → ℕ) (key' : B → ℕ) (R : A → B → Type 0) (same : (x : A) (y : B) → R x y → key x ≡ key' y) where
   -- the latest of a number is changed in both
   pub all2_altered : (d : ℕ) (f : A → A) (g : B → B) (xs : List A) (ys : List B) (a : A) (b : B) → All2 R xs ys → latest key d xs ≡ Some a → latest key' d ys ≡ Some b
       → R (f a) (g b) → All2 R (altered key d f xs) (altered key' d g ys)
-  all2_altered d f g [] ys a b all ea eb r = absurd (none_some a ea)
-  all2_altered d f g (x ∷ xs) [] a b all ea eb r = absurd (none_some b eb)
+  all2_altered d f g [] ys a b all ea eb r = absurd (none-some a ea)
+  all2_altered d f g (x ∷ xs) [] a b all ea eb r = absurd (none-some b eb)
   all2_altered d f g (x ∷ xs) (y ∷ ys) a b all ea eb r = from (λ h k. all2_altered d f g xs ys a b all.1 h k r) (key x == d) (ap (λ (n : ℕ). n == d) (sym (same x y all.0))) ea eb
     where
       from : (latest key d xs ≡ Some a → latest key' d ys ≡ Some b → All2 R (altered key d f xs) (altered key' d g ys))
@@ -23,24 +23,12 @@ module _ {A B : Type 0} (key : A → ℕ) (key' : B → ℕ) (R : A → B → Ty
           → (if t then Some x else latest key d xs) ≡ Some a → (if key' y == d then Some y else latest key' d ys) ≡ Some b
           → All2 R (if t then f x ∷ xs else x ∷ altered key d f xs) (if key' y == d then g y ∷ ys else y ∷ altered key' d g ys)
       from ih true is ha hb =
-          let b_is : y ≡ b = some_same y b (sym (ap (λ (u : Bool). if u then Some y else latest key' d ys) is) ∙ hb) in
+          let b_is : y ≡ b = same_Some y b (sym (ap (λ (u : Bool). if u then Some y else latest key' d ys) is) ∙ hb) in
           subst (λ (u : Bool). All2 R (f x ∷ xs) (if u then g y ∷ ys else y ∷ altered key' d g ys)) (sym is)
-          (subst (λ (z : A). R (f z) (g y)) (sym (some_same x a ha)) (subst (λ (z : B). R (f a) (g z)) (sym b_is) r), all.1)
+          (subst (λ (z : A). R (f z) (g y)) (sym (same_Some x a ha)) (subst (λ (z : B). R (f a) (g z)) (sym b_is) r), all.1)
       from ih false is ha hb =
           subst (λ (u : Bool). All2 R (x ∷ altered key d f xs) (if u then g y ∷ ys else y ∷ altered key' d g ys)) (sym is)
           (all.0, ih ha (sym (ap (λ (u : Bool). if u then Some y else latest key' d ys) is) ∙ hb))
-
-  -- the latest of a number stand against each other
-  pub all2_latest : (d : ℕ) (xs : List A) (ys : List B) (a : A) → All2 R xs ys → latest key d xs ≡ Some a → (b : B) × (latest key' d ys ≡ Some b) × R a b
-  all2_latest d [] ys a all e = absurd (none_some a e)
-  all2_latest d (x ∷ xs) [] a all e = absurd all
-  all2_latest d (x ∷ xs) (y ∷ ys) a all e = from (all2_latest d xs ys a all.1) (key x == d) (ap (λ (n : ℕ). n == d) (sym (same x y all.0))) e
-    where
-      from : (latest key d xs ≡ Some a → (b : B) × (latest key' d ys ≡ Some b) × R a b)
-          → (t : Bool) → (key' y == d) ≡ t → (if t then Some x else latest key d xs) ≡ Some a
-          → (b : B) × ((if key' y == d then Some y else latest key' d ys) ≡ Some b) × R a b
-      from ih true is h = (y, ap (λ (u : Bool). if u then Some y else latest key' d ys) is, subst (λ (z : A). R z y) (some_same x a h) all.0)
-      from ih false is h = let r = ih h in (r.0, ap (λ (u : Bool). if u then Some y else latest key' d ys) is ∙ r.1, r.2)
 
 module _ {A B : Type 0} where
   pub all2_map : (R S : A → B → Type 0) → ((x : A) (y : B) → R x y → S x y) → (xs : List A) (ys : List B) → All2 R xs ys → All2 S xs ys
@@ -56,9 +44,9 @@ module _ {A B : Type 0} where
   all2_end R (a ∷ rest) (b ∷ bs) x y all r = (all.0, all2_end R rest bs x y all.1 r)
 
   all2_at : (R : A → B → Type 0) (xs : List A) (ys : List B) (place : ℕ) (x : A) → All2 R xs ys → slice_get xs place ≡ Some x → (y : B) × (slice_get ys place ≡ Some y) × R x y
-  all2_at R [] ys place x all at = absurd (none_some x at)
+  all2_at R [] ys place x all at = absurd (none-some x at)
   all2_at R (a ∷ rest) [] place x all at = absurd all
-  all2_at R (a ∷ rest) (b ∷ bs) zero x all at = (b, refl, subst (λ (z : A). R z b) (some_same a x at) all.0)
+  all2_at R (a ∷ rest) (b ∷ bs) zero x all at = (b, refl, subst (λ (z : A). R z b) (same_Some a x at) all.0)
   all2_at R (a ∷ rest) (b ∷ bs) (suc place) x all at = all2_at R rest bs place x all.1 at
 
 all2_with : (counted : LinksNote) (d : ℕ) (ts : List Talk) (ss : List Session) → All2 (Agrees counted) ts ss → All2 (Agrees counted) (talks_with d ts) (sessions_with d ss)

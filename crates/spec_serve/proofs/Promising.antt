@@ -1,5 +1,6 @@
 -- From the books to what is promised.
 use Rattle.std.proofs.Common.{◌≡◌, ℕ, List, [], ◌++◌, refl, sym, ap, ◌∙◌, subst, inl, inr, Option, Some, None}
+use Rattle.std.proofs.lemmas.Option.{same_Some}
 use Rattle.std.specs.Prelude.{slice_get}
 use Rattle.std.specs.Option.{option_map_or}
 use mathlib.Core.Option.{some}
@@ -21,7 +22,6 @@ use Rattle.spec_serve.specs.Accounts.{Agrees, WorkedOff}
 use Rattle.spec_serve.specs.Promises.{Tally, AtMostOne, Promised, PromisedOf, OpenWorkedOff, sessions_with}
 use Rattle.spec_serve.specs.inner.Keeping.{Keeps, Peer}
 use Rattle.spec_serve.specs.inner.Books.{with_told, Waits, Books, AllWorkedOff}
-use Rattle.spec_serve.proofs.Keys.{some_same}
 use Rattle.spec_serve.proofs.Pairs.{all2_altered, by_number}
 use Rattle.spec_serve.proofs.Booking.{same_number, through}
 use Rattle.spec_serve.proofs.Noting.{latest_ours}
@@ -76,7 +76,7 @@ books_worked_off counted b ts hs k peers coming w worked bk d t there not_closed
     let o = bk.known d t there not_closed in
     let p = o.1 in
     let m = bk.kept o.0 p o.2 in
-    let one : m.0 ≡ t = some_same m.0 t (sym m.2 ∙ ap (λ (n : ℕ). latest talk_of n ts) o.3 ∙ there) in
+    let one : m.0 ≡ t = same_Some m.0 t (sym m.2 ∙ ap (λ (n : ℕ). latest talk_of n ts) o.3 ∙ there) in
     let ours = latest_ours p.number coming bk.extra bk.mine b.told.sessions m.1 bk.waits (λ c e same. bk.away c e o.0 p o.2 (sym same)) m.3 in (
       m.1,
       ap (λ (l : List Session). latest number_of d l) bk.whole
