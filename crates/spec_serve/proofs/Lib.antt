@@ -1,0 +1,10 @@
+pub mod Keys
+pub mod Pairs
+pub mod Marks
+pub mod Accounting
+pub mod Causes
+pub mod Booking
+pub mod Noting
+pub mod Promising
+pub mod Connecting
+pub mod Turning

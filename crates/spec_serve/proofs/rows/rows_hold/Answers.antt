@@ -1,0 +1,5 @@
+use Rattle.spec_serve.specs.Worked.{worked_rows}
+use Rattle.spec_serve.proofs.rows.rows_hold.Goals as goal
+
+pub returns : goal.returns
+returns c = worked_rows

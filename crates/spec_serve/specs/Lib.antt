@@ -1,0 +1,6 @@
+pub mod Pairs
+pub mod Marks
+pub mod Accounts
+pub mod Promises
+pub mod inner
+pub mod Worked

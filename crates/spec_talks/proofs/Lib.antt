@@ -1,0 +1,4 @@
+pub mod Histories
+pub mod Talking
+pub mod Halting
+pub mod Connected

@@ -1,0 +1,3 @@
+pub mod Parties
+pub mod Talks
+pub mod Worked
