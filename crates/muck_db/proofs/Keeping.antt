@@ -1,15 +1,18 @@
 -- What a dump leaves out of a table.
-use Rattle.std.proofs.Common.{◌≡◌, ℕ, ◌+◌, ◌<◌, ◌≤◌, suc, List, [], ◌∷◌, ◌++◌, Option, Some, None, inl, inr, refl, sym, ◌∙◌, ap, subst, length, drop, arith, true, false, append_assoc, append-nil}
+use Rattle.std.proofs.Common.{◌≡◌, ℕ, ◌+◌, ◌<◌, ◌≤◌, suc, List, [], ◌∷◌, ◌++◌, Option, Some, None, inl, inr, refl, sym, ◌∙◌, ap, subst, length, map, take, drop, arith, true, false, append_assoc, append-nil}
 use Rattle.std.proofs.lemmas.List.{drop_all}
 use Rattle.std.proofs.lemmas.Option.{slice_get_cases, slice_get_within, get_or_from_slice_get}
 use Rattle.std.proofs.Math.Seq.{drop-cons}
 use Rattle.std.specs.List.{slice_get}
 use Rattle.std.specs.Option.{option_map, option_and_then}
+use Rattle.muck_prop.specs.Store.{PropMap}
+use Rattle.muck_prop.specs.declared.value.PropValue.{PropValue}
 use Rattle.spec_live.specs.declared.object.Object.{Object}
 use Rattle.spec_live.specs.Objects.{Entry, index_of, list_in, object_in}
 use Rattle.muck_codec.specs.declared.stored.Stored.{Stored}
+use Rattle.muck_codec.specs.declared.stored.Property.{Property}
 use Rattle.muck_store.specs.Changes.{IsKept, LeavesOut, none, takes, leaves}
-use Rattle.muck_store.specs.Forms.{first_of, link_of, next_in, stored_of, stored_from, persist}
+use Rattle.muck_store.specs.Forms.{property_of, properties_of, first_of, link_of, next_in, stored_of, stored_from, persist}
 use Rattle.muck_db.specs.inner.Kept.{stored_at, HasFields, HasLinks, HasTexts}
 use Rattle.muck_db.proofs.Cutting.{stored_with, record_is}
 
@@ -87,3 +90,10 @@ left_over base es k records lt kept left rest h =
           left rest (subst (λ (all : List Stored). LeavesOut base all rest) (sym (from_here es k r is)) (leaves r (kept_here base es k r is kept) h))
       | inr q ↦ absurd (omega (arith, q.0, lt))
     ]
+
+-- A walk over the properties of an object, beside those that are kept.
+
+-- the first i of the kept ones, and what is left, are what would be stored
+pub record IsWalked (kept : List Property) (m : PropMap) (i : ℕ) (left : List (List (List ℕ) × PropValue)) : Type 0 where
+  pub whole : properties_of m ≡ take i kept ++ map property_of left
+  pub count : i + length left ≡ length kept

@@ -125,7 +125,7 @@ fn object_at<'a>(slots: &'a Vec<Slot>, k: u32, blank: &'a Object) -> &'a Object
 }
 
 // What is stored of each object that isn't kept so. No change is marked for a dump, so it passes over all objects: each is compared in place with what
-// is kept at its number, and only what differs is copied.
+// is kept at its number, which takes no memory, and only what differs is copied.
 pub fn records_of(
     alloc: Global,
     base: &[Stored],
@@ -139,7 +139,7 @@ pub fn records_of(
     let mut records = Row::new(alloc)?;
     for k in 0..n {
         let object = object_at(slots, k, &blank);
-        if !is_kept(alloc, base, slots, k, object)? {
+        if !is_kept(base, slots, k, object) {
             records.push(record_of(alloc, slots, k, object)?)?;
         }
     }

@@ -6,7 +6,9 @@ mod props;
 mod segment;
 mod segments;
 mod value;
+mod walk;
 
 pub use path::{Class, Path, PropFault, read_path};
 pub use props::{Listed, Props};
 pub use value::PropValue;
+pub use walk::Walk;

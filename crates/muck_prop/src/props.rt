@@ -14,6 +14,7 @@ ghost use Rattle.muck_prop.specs.Store.{stored, is_dir, next_child, found_child,
 use crate::path::{Path, has_barred};
 use crate::segments::Segments;
 use crate::value::PropValue;
+use crate::walk::Walk;
 use muck_model::{Line, NoMemory, Row};
 use std::alloc::Global;
 use std::collections::BTreeMap;
@@ -204,6 +205,13 @@ impl Props {
         let top = Segments::new(alloc);
         let list = all_below(alloc, &self.values, &top)?;
         Ok(list)
+    }
+
+    /// A walk over all properties, in the order of their paths. It takes no memory.
+    pub fn walk(&self) -> Walk<'_>
+        ensures { result ≡ map.entries self.now }
+    {
+        Walk::new(&self.values)
     }
 
     /// Removes the property of a path. It is true exactly where the path had a value.

@@ -1,5 +1,5 @@
 // What a property holds.
-ghost use Rattle.std.specs.Prelude.{◌≡◌, IfOk};
+ghost use Rattle.std.specs.Prelude.{◌≡◌, ◌↔◌, IfOk, true};
 ghost use Rattle.muck_prop.specs.Store.{is_nothing};
 
 use muck_model::{Line, NoMemory};
@@ -20,6 +20,22 @@ impl PropValue {
         match self {
             PropValue::Text(text) => text.as_slice().is_empty(),
             PropValue::Number(number) => *number == 0,
+        }
+    }
+
+    // Whether both are equal.
+    pub(crate) fn is_same(&self, other: &PropValue) -> bool
+        ensures { result ≡ true ↔ self.now ≡ other.now }
+    {
+        match self {
+            PropValue::Text(text) => match other {
+                PropValue::Text(other) => text == other,
+                PropValue::Number(_) => false,
+            },
+            PropValue::Number(number) => match other {
+                PropValue::Text(_) => false,
+                PropValue::Number(other) => number == other,
+            },
         }
     }
 

@@ -2,7 +2,7 @@ use Rattle.std.proofs.Common.{◌+◌, sym, ◌∙◌, subst, arith}
 use Rattle.muck_db.specs.inner.Slots.{entries_of}
 use Rattle.muck_db.proofs.Readers.{length-entries_of}
 use Rattle.muck_db.proofs.Keeping.{LeftOut, left_begins, left_taken, left_over, left_ends}
-use Rattle.muck_db.proofs.cut.records_of.Goals.{then-not-branch+in_ok-record_of+in_ok-push, else-not-branch}
+use Rattle.muck_db.proofs.cut.records_of.Goals.{then-not-is_kept+in_ok-record_of+in_ok-push, else-not-is_kept}
 use Rattle.muck_db.proofs.cut.records_of.Goals as goal
 
 pub overflow_cast-n : goal.overflow_cast-n
@@ -14,13 +14,13 @@ loop-k-init c = left_begins c.args.base.now (entries_of c.args.slots.now.items) 
 pub loop-k-preserved : goal.loop-k-preserved
 loop-k-preserved c =
     let es = entries_of c.args.slots.now.items in
-    elim c.if-not-branch.branch [
-      | then-not-branch+in_ok-record_of+in_ok-push w ↦
+    elim c.if-not-is_kept.branch [
+      | then-not-is_kept+in_ok-record_of+in_ok-push w ↦
           subst (LeftOut c.args.base.now es (c.loop-k.k + 1)) (sym (w.records-is ∙ w.in_ok-push.ensures.ok))
           (left_taken c.args.base.now es c.loop-k.k c.loop-k.records w.in_ok-record_of.field-0 w.in_ok-record_of.ensures c.loop-k.invariant)
-      | else-not-branch w ↦
+      | else-not-is_kept w ↦
           subst (LeftOut c.args.base.now es (c.loop-k.k + 1)) (sym w.records-is)
-          (left_over c.args.base.now es c.loop-k.k c.loop-k.records (omega (arith, c.loop-k-test.true, c.len-n.ensures, length-entries_of c.args.slots.now.items)) (c.in_ok-is_kept.ensures w.if-not-branch.false) c.loop-k.invariant)
+          (left_over c.args.base.now es c.loop-k.k c.loop-k.records (omega (arith, c.loop-k-test.true, c.len-n.ensures, length-entries_of c.args.slots.now.items)) (c.is_kept.ensures w.if-not-is_kept.false) c.loop-k.invariant)
     ]
 
 pub returns : goal.returns
