@@ -18,7 +18,8 @@ use Rattle.spec_events.proofs.Runs.{longer_nothing, longer_one, longer_on, longe
 use Rattle.muck_script.specs.Lines.{lines_of}
 use Rattle.muck_script.specs.Story.{Dumped, stored, failed, Part, outcome, outcomes_of, plain, then_on, both, if_lawful, taken, told, text_of, shown, farewell}
 use Rattle.muckd.specs.declared.playing.RunFault.{RunFault}
-use Rattle.muckd.specs.inner.Plays.{Says, Plays, IsPending, Breaks, PlaysOrBreaks}
+use Rattle.muckd.specs.Outcome.{IsPending}
+use Rattle.muckd.specs.inner.Plays.{Says, Plays, Breaks, PlaysOrBreaks}
 
 pub appends_nothing : (o : Option (List ℕ)) → Appends o o []
 appends_nothing None = tt

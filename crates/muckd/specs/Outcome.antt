@@ -17,7 +17,6 @@ use Rattle.spec_events.specs.Passwords.{AllKnown}
 use Rattle.muck_script.specs.declared.act.Act.{Act}
 use Rattle.muck_script.specs.Script.{script_of}
 use Rattle.muck_script.specs.Story.{Dumped, stored, failed, outcomes_of, dump_entries, story, text_of, transcript}
-use Rattle.muckd.specs.inner.Plays.{IsPending}
 use Rattle.muckd.specs.declared.why.Why.{Why}
 use Rattle.muckd.specs.declared.why.Why.TheVariants.{Fine, Usage, BadScript, NoMemory, ReadFault, WriteFault, DiskFault, Damaged, StoreFull}
 
@@ -72,6 +71,12 @@ EndsBy w why front ending = ⊥
 pub record PlayedWhole (w : World) (acts : List Act) (before written : Option (List ℕ)) (tale : List Entry) : Type 0 where
   pub history : tale ≡ story acts (outcomes_of tale) w
   pub text : Appends before written (transcript acts (outcomes_of tale) w)
+
+-- a dump that began behind these entries, and didn't come out yet, counts as stored
+abbrev pub IsPending : List Entry → List Dumped → Type 0
+IsPending front [] = Unit {0}
+IsPending front (stored k ∷ []) = (es : List Entry) × (front ≡ es ++ by_porter (Cut k) ∷ [])
+IsPending front os = ⊥
 
 -- It broke off: the tale is a front of its story, however the dumps behind that front would have come out, and how such a run
 -- ends; a dump that began in that front and didn't come out counts as stored. Of the text of that front a front was written.

@@ -188,6 +188,11 @@ fn causes_are_shown(rt: HostRuntime) -> Result<(), Fail> {
     Ok(())
 }
 
+// The first bytes, as many as are there of so many.
+fn front(bytes: &[u8], n: usize) -> &[u8] {
+    bytes.split_at(n.min(bytes.len())).0
+}
+
 #[test]
 fn a_run_of_no_line_is_stored(rt: HostRuntime) -> Result<(), Fail> {
     let mut first = MemDisk::new(rt.alloc(), &[])?;
@@ -202,7 +207,8 @@ fn a_run_of_no_line_is_stored(rt: HostRuntime) -> Result<(), Fail> {
     }
     // Cut in its second batch, and in its first; nothing is written then.
     for (size, place) in [(132usize, 66u64), (100, 66), (66, 0), (40, 0)] {
-        let mut cut = MemDisk::new(rt.alloc(), &first.bytes()[..size])?;
+        let part = front(first.bytes(), size);
+        let mut cut = MemDisk::new(rt.alloc(), part)?;
         let mut other = MemDisk::new(rt.alloc(), &[])?;
         let (why, written) = run_on(rt.alloc(), HELLO, 0, 0, 4096, &mut cut, &mut other)?;
         assert_eq!(rt;
@@ -213,7 +219,7 @@ fn a_run_of_no_line_is_stored(rt: HostRuntime) -> Result<(), Fail> {
             }
         );
         assert!(rt; written.is_empty());
-        assert_eq!(rt; cut.bytes(), &first.bytes()[..size]);
+        assert_eq!(rt; cut.bytes(), part);
     }
     Ok(())
 }
@@ -236,10 +242,10 @@ fn a_second_run_goes_on(rt: HostRuntime) -> Result<(), Fail> {
 // Why a run of this script ends whose first file fails the call of this number, from 0 on. What it leaves is loaded by a run after it.
 fn run_failing(alloc: Global, script: &str, at: u64) -> Result<(Why, Why), Fail> {
     let mut first = FailDisk::new(MemDisk::new(alloc, &[])?, at);
-    let mut second = MemDisk::new(alloc, &[])?;
+    let mut second = FailDisk::new(MemDisk::new(alloc, &[])?, 1_000);
     let (why, _) = run_on(alloc, script, 0, 0, 4096, &mut first, &mut second)?;
     let mut then = MemDisk::new(alloc, first.disk().bytes())?;
-    let mut other = MemDisk::new(alloc, second.bytes())?;
+    let mut other = MemDisk::new(alloc, second.disk().bytes())?;
     let (again, _) = run_on(alloc, script, 0, 0, 4096, &mut then, &mut other)?;
     Ok((why, again))
 }

@@ -60,9 +60,10 @@ pub fn muckd<S: Source, K: Sink, D: Disk>(
     // The first line outside the grammar has this number.
     ensures bad_script { (line : ℕ) → result.why ≡ Why.BadScript line → IsFirstOutside (S.left script.old) line }
 
-    // Either nothing happened, and nothing was written, to the sink or to a file; or one history happened, from the world that the two files held: by the lines of
-    // the script, lawfully, and with leave. It says what was written, and what the files hold, whatever a crash leaves of them. The answer
-    // says which of the two, but for want of memory and faults of the store, which may come before the run and in it.
+    // Either nothing happened, and nothing was written, to the sink or to a file; or one history happened, from the world that the two files
+    // held: by the lines of the script, lawfully, and with leave. It says what was written, how the last dump came out, and what the files
+    // hold, whatever a crash leaves of them. The answer says which of the two, but for want of memory and faults of the store, which may
+    // come before the run and in it.
     ensures history { EndsAs result.why (IsUnbegun D.tells D.seen D.moment D.images out.old out.new first.old second.old first.new second.new result.tale.entries) (HasBegun S.left S.faults K.written K.faults D.tells D.attached D.seen D.moment D.images (store_of (map string_bytes words.now)) result.why script.old script.new out.old out.new first.old second.old first.new second.new result.tale.entries result.tale.notes) }
 
     // A fault is answered only where that count rose in this call; and where it isn't answered it did not rise, so that the

@@ -2,10 +2,11 @@
 use Rattle.std.specs.Prelude.{◌≡◌, ℕ, false, List, [], ◌∷◌, ◌++◌, Option, Result, Ok, Err}
 use Rattle.muck_io.specs.Sink.{Appends}
 use Rattle.muck_model.specs.declared.event.Entry.{Entry}
-use Rattle.muck_model.specs.declared.event.Event.TheVariants.{Died, Cut}
+use Rattle.muck_model.specs.declared.event.Event.TheVariants.{Died}
 use Rattle.spec_events.specs.World.{World}
 use Rattle.spec_events.specs.Histories.{History, now, Longer, by_porter}
-use Rattle.muck_script.specs.Story.{Dumped, stored, Part, outcomes_of, text_of}
+use Rattle.muck_script.specs.Story.{Dumped, Part, outcomes_of, text_of}
+use Rattle.muckd.specs.Outcome.{IsPending}
 use Rattle.muckd.specs.declared.playing.RunFault.{RunFault}
 use Rattle.muckd.specs.declared.playing.RunFault.TheVariants.{NoMemory, WriteFault}
 
@@ -21,12 +22,6 @@ pub record Plays (f : Part) (h k : History) (before written : Option (List ℕ))
   pub history : Longer h k entries
   pub text : Appends before written (text_of (now h) entries)
   pub alive : (now k).dead ≡ false
-
--- a dump that began behind these entries, and didn't come out yet, counts as stored
-abbrev pub IsPending : List Entry → List Dumped → Type 0
-IsPending front [] = Unit {0}
-IsPending front (stored k ∷ []) = (es : List Entry) × (front ≡ es ++ by_porter (Cut k) ∷ [])
-IsPending front os = ⊥
 
 -- Only the first of those entries happened, and then the ending. Of the text of those that happened a front was written.
 -- Where there is no ending the world still lives.
