@@ -1,8 +1,8 @@
 #!/usr/bin/env python3
-"""What the store costs, through dist/muckd or the program that MUCKD names, in a world of 100,000 objects, or of as many as the first word says: mounting it, a dump of 100 objects
-that changed, a dump of none, a full dump (one that opens a new generation), and mounting 64 batches; each against the same in a world of half as many objects. Times are of the
-processor, user and system, in seconds, the least of three runs; bytes are those that a dump writes. The exit status is 1 where twice the objects take more than 2.3 times as long, or
-the dump of 100 takes more than a tenth of the time or of the bytes of the full one."""
+"""What the store costs, through dist/muckd or the program that MUCKD names, in a world of 100,000 objects, or of as many as the first word says: mounting it, mounting 64 batches, a
+dump of 100 objects that changed, a dump of none, and a full one, which opens a new generation; each against the same in a world of half as many objects. Times are of the processor,
+user and system, in seconds, the least of nine runs, on a machine that does nothing else; bytes are those that a dump writes. The exit status is 1 where twice the objects take more than 2.3 times as long, or the dump
+of 100 takes more than a tenth of the time or of the bytes of the full one."""
 import dataclasses
 import os
 import resource
@@ -18,16 +18,17 @@ from files import NOTHING, ONE, ROOM, ROOM_ZERO, THING, Record, batch, places
 PROGRAM = os.path.abspath(os.environ.get("MUCKD", os.path.join(HERE, "../dist/muckd")))
 LOGIN = "open 1\nsend 1 connect One potrzebie\n"
 CHANGED = 100
-DUMPS = 4
+DUMPS = 60
+RUNS = 9
 MOST = 2.3
 SHARE = 0.1
 
 
-def world(objects):
+def world(objects, number=1):
     """A batch of Room Zero, One, a room, and things in that room, up to so many objects."""
     room = Record(2, ROOM, b"Hall", place=0, first_content=3)
     things = [Record(n, THING, b"thing %d" % n, place=2, home=2, next=n + 1 if n + 1 < objects else NOTHING) for n in range(3, objects)]
-    return batch(1, 1, [ROOM_ZERO, dataclasses.replace(ONE, next=2), room, *things])
+    return batch(1, number, [ROOM_ZERO, dataclasses.replace(ONE, next=2), room, *things])
 
 
 def named(word, objects):
@@ -39,7 +40,7 @@ def named(word, objects):
 def spent(data, script):
     """The processor seconds of a run on this store, and its files behind it."""
     least, files = None, None
-    for _ in range(3):
+    for _ in range(RUNS):
         with tempfile.TemporaryDirectory() as folder:
             with open(os.path.join(folder, "w.a"), "wb") as file:
                 file.write(data)
@@ -64,24 +65,26 @@ def last_batch(data):
 def measured(objects):
     """Seconds by what they are of, and the bytes of a small dump and of a full one."""
     one = world(objects)
-    # (each run ends with a dump of its own, which is one of nothing where nothing changed since the one before)
+    many = one + b"".join(batch(1, n) for n in range(2, 64))
+    # the world as the last batch of its file, behind so many of the starting world
+    behind = {count: b"".join(batch(1, n) for n in range(1, count)) + world(objects, count) for count in (63, 64)}
     rounds = [named(f"round {n}", objects) for n in range(DUMPS)]
+    # each run ends with a dump of its own: of nothing, where nothing has changed since the one before
     once, _ = spent(one + b"\x00", LOGIN)
     nothing = (spent(one + b"\x00", LOGIN + "dump\n" * DUMPS)[0] - once) / DUMPS
     without, _ = spent(one + b"\x00", LOGIN + "".join(rounds))
     with_dumps, _ = spent(one + b"\x00", LOGIN + "dump\n".join(rounds) + "dump\n")
-    _, files = spent(one + b"\x00", LOGIN + rounds[0])
-    many = one + b"".join(batch(1, n) for n in range(2, 64))
-    before, _ = spent(many + b"\x00", LOGIN)
-    behind, full = spent(many + batch(1, 64) + b"\x00", LOGIN)
-    a_batch = (before - once) / 62
+    _, small = spent(one + b"\x00", LOGIN + rounds[0])
+    before, _ = spent(behind[63] + b"\x00", LOGIN)
+    opening, full = spent(behind[64] + b"\x00", LOGIN)
+    batches, _ = spent(many + b"\x00", LOGIN)
     return {
         "mount": once - nothing,
-        "mount of 64 batches": before + a_batch - nothing,
+        "mount of 64 batches": batches - nothing + (batches - once) / 62,
         f"dump of {CHANGED}": (with_dumps - without) / DUMPS,
         "dump of nothing": nothing,
-        "full dump": behind - before - a_batch + nothing,
-    }, last_batch(files[0]), last_batch(full[1])
+        "full dump": opening - before + nothing,
+    }, last_batch(small[0]), last_batch(full[1])
 
 
 def main(words):
@@ -91,7 +94,7 @@ def main(words):
     bad = False
     for what, took in whole.items():
         ratio = took / max(half[what], 1e-6)
-        print(f"{what}: {took:.3f} s, {ratio:.2f} times that of half as many objects (at most {MOST})")
+        print(f"{what}: {took:.4f} s, {ratio:.2f} times that of half as many objects (at most {MOST})")
         bad |= ratio > MOST
     share = whole[f"dump of {CHANGED}"] / whole["full dump"]
     print(f"a dump of {CHANGED} writes {small_bytes} bytes, {small_bytes / full_bytes:.5f} of those of the full one, and takes {share:.3f} of its time (at most {SHARE} each)")
