@@ -253,9 +253,9 @@ module _ {S : Type 0} (go : List ℕ → Thought S (List ℕ)) where
       let k = kept_of keep list item text in
       item_first keep name body list rest more item text s u e b
       ∙ (elim (is_long (as_text k)) as (λ t. cond t (Err TooLong) (Ok k) ≡ Ok new → cond t (fails TooLong) (each_item keep go name body k more) u ≡ each_item keep go name body new more u) [
-          | true ↦ λ h. absurd (let e : Err TooLong ≡ Ok new = h in cc)
-          | false ↦ λ h. let same : k ≡ new = let e : Ok k ≡ Ok new = h in cc in ap (λ x. each_item keep go name body x more u) same
-        ] h)
+        | true ↦ λ h. absurd (let e : Err TooLong ≡ Ok new = h in cc)
+        | false ↦ λ h. let same : k ≡ new = let e : Ok k ≡ Ok new = h in cc in ap (λ x. each_item keep go name body x more u) same
+      ] h)
 
   pub item_long : (keep : Keep) (name body : List ℕ) (list : Option (List ℕ)) (rest more : List (List ℕ)) (item text : List ℕ) (s u : State S) (f : MpiFault) → rest ≡ item ∷ more
       → text_with go name item body s ≡ (Ok text, u) → Means (list_or_long (kept_of keep list item text)) (Err f) → Thinks (each_item keep go name body list rest) s u (Err f)

@@ -232,7 +232,15 @@ fn call<H: Host>(
             act(place, host, mind, group, called.function, &values)
         }
         How::Lazy(way) => {
-            lazily(place, host, mind, nesting - 1, way, called.behind, &called.texts)
+            lazily(
+                place,
+                host,
+                mind,
+                nesting - 1,
+                way,
+                called.behind,
+                &called.texts,
+            )
         }
     }
 }
@@ -355,7 +363,15 @@ fn in_scope<H: Host>(
     let values = values_of(place, host, mind, deeper, texts_before(texts, at))?;
     let name = own(place.alloc, &values, 0)?;
     let old = mind.own_value(place.alloc, &name)?;
-    let answer = bodies(place, host, mind, deeper, scope, &values, text_at(texts, at));
+    let answer = bodies(
+        place,
+        host,
+        mind,
+        deeper,
+        scope,
+        &values,
+        text_at(texts, at),
+    );
     mind.give_back(name, old)?;
     answer
 }
@@ -382,7 +398,16 @@ fn bodies<H: Host>(
             text_with(place, host, mind, deeper, name, value, body)
         }
         Scope::Numbers => turns_for(place, host, mind, deeper, name, range_of(values), body),
-        Scope::Items(keep) => each_item(place, host, mind, deeper, keep, name, nth(values, 1), body),
+        Scope::Items(keep) => each_item(
+            place,
+            host,
+            mind,
+            deeper,
+            keep,
+            name,
+            nth(values, 1),
+            body,
+        ),
     }
 }
 

@@ -274,10 +274,25 @@ impl Function {
             Function::Member => row!(b"lmember", 2, Some(2), How::First(Group::Text)),
             Function::Sublist => row!(b"sublist", 3, Some(3), How::First(Group::Text)),
             Function::For => row!(b"for", 5, Some(5), How::Lazy(Way::With(Scope::Numbers))),
-            Function::Foreach => row!(b"foreach", 3, Some(3), How::Lazy(Way::With(Scope::Items(Keep::Last)))),
+            Function::Foreach => row!(
+                b"foreach",
+                3,
+                Some(3),
+                How::Lazy(Way::With(Scope::Items(Keep::Last)))
+            ),
             Function::While => row!(b"while", 2, Some(2), How::Lazy(Way::While)),
-            Function::Parse => row!(b"parse", 3, Some(3), How::Lazy(Way::With(Scope::Items(Keep::Texts)))),
-            Function::Filter => row!(b"filter", 3, Some(3), How::Lazy(Way::With(Scope::Items(Keep::Items)))),
+            Function::Parse => row!(
+                b"parse",
+                3,
+                Some(3),
+                How::Lazy(Way::With(Scope::Items(Keep::Texts)))
+            ),
+            Function::Filter => row!(
+                b"filter",
+                3,
+                Some(3),
+                How::Lazy(Way::With(Scope::Items(Keep::Items)))
+            ),
             Function::Name => row!(b"name", 0, Some(1), How::First(Group::Ask)),
             Function::Ref => row!(b"ref", 0, Some(1), How::First(Group::Reference)),
             Function::Loc => row!(b"loc", 0, Some(1), How::First(Group::Ask)),

@@ -5,7 +5,7 @@ use Rattle.mpi.proofs.Acts.{ask_lacks, ask_answers, text_made}
 use Rattle.mpi.proofs.acting.act.Goals as goal
 
 pub returns-in_err-ask-in-Ask-clause-thinks : goal.returns-in_err-ask-in-Ask-clause-thinks
-returns-in_err-ask-in-Ask-clause-thinks g c = 
+returns-in_err-ask-in-Ask-clause-thinks g c =
     let back : c.from_residual-in_err-ask-in-Ask.result ≡ Err c.in_err-ask-in-Ask.field-0.0 = search rules in
     rw back (subst (λ k. Thinks (acted_by k c.args.function (scene_of g.H.Host.powers c.args.place.this) c.args.values.now) (c.args.mind.now, g.H.Host.seen c.args.host.now) (c.args.mind.now, g.H.Host.seen c.args.host.now) (Err c.in_err-ask-in-Ask.field-0.0)) (sym c.in-Ask.is) (ask_lacks (scene_of g.H.Host.powers c.args.place.this) c.args.function c.args.values.now (c.args.mind.now, g.H.Host.seen c.args.host.now) c.in_err-ask-in-Ask.field-0.0 c.in_err-ask-in-Ask.ensures))
 

@@ -48,8 +48,8 @@ decreases-text-loop-first g l = length l.rest
 abbrev pub invariant-text-loop-first : goal.invariant-text-loop-first
 invariant-text-loop-first g l = record {
   whole :
-    meaning (scene_of g.H.Host.powers l.place.this) l.nesting l.text (l.initial.mind, g.H.Host.seen l.initial.host)
-    ≡ spelled (entered (scene_of g.H.Host.powers l.place.this) l.nesting) l.out.items (pieces l.rest) (l.mind, g.H.Host.seen l.host);
+      meaning (scene_of g.H.Host.powers l.place.this) l.nesting l.text (l.initial.mind, g.H.Host.seen l.initial.host)
+      ≡ spelled (entered (scene_of g.H.Host.powers l.place.this) l.nesting) l.out.items (pieces l.rest) (l.mind, g.H.Host.seen l.host);
   inside : Inside l.out.items;
   short : length l.out.items ≤ 4096;
   rest : text_fault l.rest ≡ None;
@@ -60,8 +60,8 @@ invariant-text-loop-first g l = record {
 abbrev pub invariant-values_of-loop-each : goal.invariant-values_of-loop-each
 invariant-values_of-loop-each g l = record {
   whole :
-    each_value (meaning (scene_of g.H.Host.powers l.place.this) l.deeper) [] (map (λ x. x.now) l.texts) (l.initial.mind, g.H.Host.seen l.initial.host)
-    ≡ each_value (meaning (scene_of g.H.Host.powers l.place.this) l.deeper) l.values.items (drop l.each-index (map (λ x. x.now) l.texts)) (l.mind, g.H.Host.seen l.host);
+      each_value (meaning (scene_of g.H.Host.powers l.place.this) l.deeper) [] (map (λ x. x.now) l.texts) (l.initial.mind, g.H.Host.seen l.initial.host)
+      ≡ each_value (meaning (scene_of g.H.Host.powers l.place.this) l.deeper) l.values.items (drop l.each-index (map (λ x. x.now) l.texts)) (l.mind, g.H.Host.seen l.host);
   same : g.H.Host.same l.initial.host l.host;
 }
 
@@ -69,8 +69,8 @@ invariant-values_of-loop-each g l = record {
 abbrev pub invariant-until-loop-each : goal.invariant-until-loop-each
 invariant-until-loop-each g l = record {
   whole :
-    until l.wanted (meaning (scene_of g.H.Host.powers l.place.this) l.deeper) (map (λ x. x.now) l.texts) (l.initial.mind, g.H.Host.seen l.initial.host)
-    ≡ until l.wanted (meaning (scene_of g.H.Host.powers l.place.this) l.deeper) (drop l.each-index (map (λ x. x.now) l.texts)) (l.mind, g.H.Host.seen l.host);
+      until l.wanted (meaning (scene_of g.H.Host.powers l.place.this) l.deeper) (map (λ x. x.now) l.texts) (l.initial.mind, g.H.Host.seen l.initial.host)
+      ≡ until l.wanted (meaning (scene_of g.H.Host.powers l.place.this) l.deeper) (drop l.each-index (map (λ x. x.now) l.texts)) (l.mind, g.H.Host.seen l.host);
   same : g.H.Host.same l.initial.host l.host;
 }
 
@@ -78,16 +78,16 @@ invariant-until-loop-each g l = record {
 abbrev pub invariant-while_true-loop-turn : goal.invariant-while_true-loop-turn
 invariant-while_true-loop-turn g l = record {
   whole :
-    while_true (meaning (scene_of g.H.Host.powers l.place.this) l.deeper) (map (λ x. x.now) l.texts) (l.initial.mind, g.H.Host.seen l.initial.host)
-    ≡ turns_while (l.turns - l._turn) (meaning (scene_of g.H.Host.powers l.place.this) l.deeper) (nth 0 (map (λ x. x.now) l.texts)) (nth 1 (map (λ x. x.now) l.texts)) l.last (l.mind, g.H.Host.seen l.host);
+      while_true (meaning (scene_of g.H.Host.powers l.place.this) l.deeper) (map (λ x. x.now) l.texts) (l.initial.mind, g.H.Host.seen l.initial.host)
+      ≡ turns_while (l.turns - l._turn) (meaning (scene_of g.H.Host.powers l.place.this) l.deeper) (nth 0 (map (λ x. x.now) l.texts)) (nth 1 (map (λ x. x.now) l.texts)) l.last (l.mind, g.H.Host.seen l.host);
   same : g.H.Host.same l.initial.host l.host;
 }
 
 abbrev pub invariant-turns_for-loop-turn : goal.invariant-turns_for-loop-turn
 invariant-turns_for-loop-turn g l = record {
   whole :
-    turns_for (suc l.initial.mind.left) (meaning (scene_of g.H.Host.powers l.place.this) l.deeper) l.name l.body l.range.end l.range.step (Some l.range.from) [] (l.initial.mind, g.H.Host.seen l.initial.host)
-    ≡ turns_for (l.turns - l._turn) (meaning (scene_of g.H.Host.powers l.place.this) l.deeper) l.name l.body l.range.end l.range.step l.next l.last (l.mind, g.H.Host.seen l.host);
+      turns_for (suc l.initial.mind.left) (meaning (scene_of g.H.Host.powers l.place.this) l.deeper) l.name l.body l.range.end l.range.step (Some l.range.from) [] (l.initial.mind, g.H.Host.seen l.initial.host)
+      ≡ turns_for (l.turns - l._turn) (meaning (scene_of g.H.Host.powers l.place.this) l.deeper) l.name l.body l.range.end l.range.step l.next l.last (l.mind, g.H.Host.seen l.host);
   same : g.H.Host.same l.initial.host l.host;
 }
 
@@ -95,8 +95,8 @@ invariant-turns_for-loop-turn g l = record {
 abbrev pub invariant-each_item-loop-item : goal.invariant-each_item-loop-item
 invariant-each_item-loop-item g l = record {
   whole :
-    each_item l.keep (meaning (scene_of g.H.Host.powers l.place.this) l.deeper) l.name l.body None (items l.list) (l.initial.mind, g.H.Host.seen l.initial.host)
-    ≡ each_item l.keep (meaning (scene_of g.H.Host.powers l.place.this) l.deeper) l.name l.body (option_map (λ bytes. bytes.items) l.gathered) (drop l.item-index (map (λ x. x.now) l.item-items)) (l.mind, g.H.Host.seen l.host);
+      each_item l.keep (meaning (scene_of g.H.Host.powers l.place.this) l.deeper) l.name l.body None (items l.list) (l.initial.mind, g.H.Host.seen l.initial.host)
+      ≡ each_item l.keep (meaning (scene_of g.H.Host.powers l.place.this) l.deeper) l.name l.body (option_map (λ bytes. bytes.items) l.gathered) (drop l.item-index (map (λ x. x.now) l.item-items)) (l.mind, g.H.Host.seen l.host);
   gathered : IfSome l.gathered (λ bytes. text_fault bytes.items ≡ None);
   same : g.H.Host.same l.initial.host l.host;
 }

@@ -6,7 +6,7 @@ use Rattle.mpi.proofs.lists.listed.Goals.{then-at-gt0+in_ok-push, else-at-gt0}
 use Rattle.mpi.proofs.lists.listed.Goals as goal
 
 pub loop-at-preserved : goal.loop-at-preserved
-loop-at-preserved c = 
+loop-at-preserved c =
     let l = c.loop-at in
     let parts = map (λ x. x.now) c.args.parts.now in
     let part = (get_or c.args.parts.now c.loop-at.at (record { ref_ptr = (0, 0); now = [] })).now in

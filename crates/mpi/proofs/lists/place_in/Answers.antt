@@ -6,7 +6,7 @@ use Rattle.mpi.proofs.Places.{place_next}
 use Rattle.mpi.proofs.lists.place_in.Goals as goal
 
 pub loop-at-preserved : goal.loop-at-preserved
-loop-at-preserved c = 
+loop-at-preserved c =
     let text = c.args.text.now in
     let part = c.args.part.now in
     let at = c.loop-at.at in

@@ -7,7 +7,7 @@ use Rattle.mpi.proofs.rows.list_of.Goals.{then-at-gt0+in_ok-push, else-at-gt0}
 use Rattle.mpi.proofs.rows.list_of.Goals as goal
 
 pub loop-at-preserved : goal.loop-at-preserved
-loop-at-preserved c = 
+loop-at-preserved c =
     let l = c.loop-at in
     let parts = c.args.values.now in
     let part = c.index-values-at.result in

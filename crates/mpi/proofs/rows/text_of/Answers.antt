@@ -5,6 +5,6 @@ use Rattle.mpi.proofs.Replacing.{whole_made}
 use Rattle.mpi.proofs.rows.text_of.Goals as goal
 
 pub returns-in_ok-of_text-in_default : goal.returns-in_ok-of_text-in_default
-returns-in_ok-of_text-in_default c = 
+returns-in_ok-of_text-in_default c =
     let is : text_of c.args.function c.args.values.now ≡ Some [] = search rules in
     ap found_text is ∙ whole_made [] [] refl (omega arith) ∙ ap Ok (sym c.in_ok-of_text-in_default.ensures)
