@@ -1,19 +1,18 @@
 -- What functions make of their arguments, once these are evaluated.
-use Rattle.std.proofs.Common.{◌≡◌, ℕ, Bool, true, false, cond, List, [], ◌∷◌, refl, sym, subst, ap, ◌∙◌}
+use Rattle.std.proofs.Common.{◌≡◌, ℕ, true, false, cond, List, [], ◌∷◌, refl, sym, subst, ap, ◌∙◌}
 use Rattle.std.specs.Prelude.{Result, Ok, Err, Option, Some, None, ℤ, pos, int_lt}
 use Rattle.std.specs.Fmt.{signed_decimal}
 use Rattle.mpi.specs.declared.fault.MpiFault.{MpiFault}
 use Rattle.mpi.specs.declared.fault.MpiFault.TheVariants.{Unclosed, UnknownFunction, BadCount, BadValue, TooManyCommands, TooLong, Denied, NoMemory}
 use Rattle.mpi.specs.declared.functions.Function.{Function}
-use Rattle.mpi.specs.declared.functions.Group.{Group}
 use Rattle.mpi.specs.declared.functions.Group.TheVariants as group
 use Rattle.mpi.specs.declared.host.Ask.{Ask}
 use Rattle.mpi.specs.declared.host.Deed.{Deed}
 use Rattle.mpi.specs.declared.mind.Mind.{Mind}
-use Rattle.mpi.specs.Hosting.{Powers, Means, Meant}
+use Rattle.mpi.specs.Hosting.{Means, Meant}
 use Rattle.mpi.specs.Made.{found_text}
-use Rattle.mpi.specs.Thoughts.{State, Thought, Comes, Thinks, followed, found, found_or_bad, answers, sized, gives, carried}
-use Rattle.mpi.specs.Values.{nth, text_of, test_of, truth, computed, rolled, number_of}
+use Rattle.mpi.specs.Thoughts.{State, Thinks, followed, found, found_or_bad, answers, sized, gives}
+use Rattle.mpi.specs.Values.{text_of, rolled}
 use Rattle.mpi.specs.Meaning.{Scene, acted_by, doing, done, diced, drawn, deed_of, ask_of, given_by}
 use Rattle.mpi.proofs.Thinking.{then_ok, then_err, known, comes_by}
 

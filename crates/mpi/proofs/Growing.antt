@@ -1,5 +1,5 @@
 -- Texts that grew are texts.
-use Rattle.std.proofs.Common.{◌≡◌, ℕ, ◌≤◌, false, List, [], ◌∷◌, ◌++◌, length, Ok, None, subst, sym, ap, ◌∙◌}
+use Rattle.std.proofs.Common.{◌≡◌, ℕ, ◌≤◌, List, ◌++◌, length, Ok, None, subst, sym}
 use Rattle.muck_model.specs.Bytes.{text_fault}
 use Rattle.mpi.specs.Made.{Inside, IsGrown}
 use Rattle.mpi.proofs.Inside.{inside_more, made_is_text}

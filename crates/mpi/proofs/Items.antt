@@ -1,11 +1,11 @@
 -- The items of a text are texts, and so is each of a list whose texts all are.
-use Rattle.std.proofs.Common.{◌≡◌, ℕ, ◌+◌, ◌<◌, ◌≤◌, zero, suc, Bool, true, false, cond, List, [], ◌∷◌, length, get_or, map, Some, None, refl, inl, inr, arith, ap, sym, ◌∙◌, nat_le, nat_lt}
-use Rattle.std.specs.Prelude.{Option, is_none, ◌&&◌, ◌==◌, bytes_eq}
-use Rattle.std.specs.List.{list_all, slice_split, onto_first, position, position_or_len}
+use Rattle.std.proofs.Common.{◌≡◌, ℕ, ◌+◌, ◌<◌, ◌≤◌, zero, suc, Bool, true, false, cond, List, [], ◌∷◌, length, get_or, Some, None, refl, arith, ap, ◌∙◌, nat_lt}
+use Rattle.std.specs.Prelude.{Option, is_none, ◌==◌, bytes_eq}
+use Rattle.std.specs.List.{list_all, slice_split, onto_first}
 use Rattle.std.proofs.lemmas.Bool.{le-ltb, lt-ltb, ltb-true}
 use Rattle.std.proofs.lemmas.List.Sums.{position_or_len_is}
 use Rattle.muck_model.specs.Bytes.{text_fault}
-use Rattle.mpi.specs.Made.{Inside, is_text}
+use Rattle.mpi.specs.Made.{is_text}
 use Rattle.mpi.specs.Values.{items, from_one, place_of_item}
 use Rattle.mpi.proofs.Inside.{is_inside, all_head, all_tail, all_cons, text_inside, text_short, made_is_text}
 use Rattle.mpi.proofs.Parts.{items_inside}

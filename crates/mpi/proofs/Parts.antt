@@ -1,13 +1,13 @@
 -- What the functions of texts make of texts has the bytes that a text may have.
-use Rattle.std.proofs.Common.{◌≡◌, ℕ, ◌+◌, ◌-◌, ◌<◌, ◌≤◌, ◌^◌, zero, suc, Bool, true, false, cond, List, [], ◌∷◌, ◌++◌, length, map, take, drop, Some, None, refl, inl, inr, arith, ap, sym, subst, ◌∙◌}
-use Rattle.std.specs.Prelude.{not, ◌&&◌, ◌==◌, reverse, decimal, ℤ}
+use Rattle.std.proofs.Common.{◌≡◌, ℕ, ◌+◌, ◌-◌, Bool, true, false, cond, List, [], ◌∷◌, ◌++◌, map, take, drop, None, refl, inl, inr, arith, sym, subst}
+use Rattle.std.specs.Prelude.{◌==◌, reverse, ℤ}
 use Rattle.std.specs.Char.{to_ascii_lowercase, to_ascii_uppercase}
 use Rattle.std.specs.List.{list_all, slice_split, onto_first, join_with_byte}
-use Rattle.std.proofs.lemmas.Bool.{le-ltb, lt-ltb, cases_lt, false≢true}
+use Rattle.std.proofs.lemmas.Bool.{le-ltb, lt-ltb, cases_lt}
 use Rattle.std.proofs.lemmas.List.{reverse-append}
-use Rattle.muck_model.specs.Bytes.{is_outside, text_fault}
+use Rattle.muck_model.specs.Bytes.{text_fault}
 use Rattle.mpi.specs.Made.{Inside}
-use Rattle.mpi.specs.Values.{past_spaces, stripped, items, cut, above, sublist, lowered}
+use Rattle.mpi.specs.Values.{past_spaces, stripped, items, cut, above, sublist}
 use Rattle.mpi.proofs.Inside.{is_inside, all_head, all_tail, all_cons, all_take, all_drop, all_append, text_inside, inside-decimal}
 
 lowered_byte : (b : ℕ) → is_inside b ≡ true → is_inside (to_ascii_lowercase b) ≡ true

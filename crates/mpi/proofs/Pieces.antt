@@ -1,10 +1,10 @@
 -- More room than a text needs for its pieces or arguments changes nothing.
-use Rattle.std.proofs.Common.{◌≡◌, ℕ, ◌+◌, ◌<◌, ◌≤◌, zero, suc, Bool, true, false, cond, List, [], ◌∷◌, ◌++◌, length, take, drop, refl, sym, ap, ◌∙◌, arith, nat_lt, append_assoc}
+use Rattle.std.proofs.Common.{◌≡◌, ℕ, ◌<◌, ◌≤◌, zero, suc, Bool, true, false, cond, List, [], ◌∷◌, ◌++◌, length, take, drop, refl, sym, ap, ◌∙◌, arith, nat_lt, append_assoc}
 use Rattle.std.specs.Prelude.{◌==◌}
 use Rattle.std.proofs.lemmas.List.{length-drop}
 use Rattle.std.proofs.lemmas.Bool.{ltb-true, lt-ltb}
 use Rattle.mpi.proofs.Inside.{text_short, part_is_text, rest_is_text}
-use Rattle.mpi.specs.Brackets.{begun, part_len, part, behind_part, arguments_up_to, arguments, Piece, byte, escaped, call_ahead, first_piece, pieces_up_to, pieces}
+use Rattle.mpi.specs.Brackets.{begun, part_len, part, behind_part, arguments_up_to, arguments, byte, escaped, call_ahead, first_piece, pieces_up_to, pieces}
 
 behind_shorter : (w : ℕ) (text : List ℕ) (n : ℕ) → part_len w begun text < length text → length text ≤ suc n → length (behind_part w text) ≤ n
 behind_shorter w text n h le = omega (arith, h, le, length-drop (suc (part_len w begun text)) text)

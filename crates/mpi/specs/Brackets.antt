@@ -1,5 +1,5 @@
 -- The bracket grammar: where a text balances, its pieces, and the arguments between commas.
-use Rattle.std.specs.Prelude.{◌≡◌, ℕ, ◌+◌, ◌-◌, zero, suc, Bool, true, false, not, ◌&&◌, ◌==◌, nat_lt, if◌then◌else◌, List, [], ◌∷◌, length, take, drop, None}
+use Rattle.std.specs.Prelude.{◌≡◌, ℕ, ◌+◌, ◌-◌, zero, suc, Bool, false, not, ◌&&◌, ◌==◌, nat_lt, if◌then◌else◌, List, [], ◌∷◌, length, take, drop, None}
 use Rattle.muck_model.specs.Bytes.{is_outside, text_fault}
 use Rattle.mpi.specs.declared.brackets.Scan.{Scan}
 use Rattle.mpi.specs.declared.brackets.Ahead.{Ahead}

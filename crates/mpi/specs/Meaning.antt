@@ -1,7 +1,7 @@
 -- What a text means: its pieces, from left to right; a function evaluates its arguments, which are texts, one nesting deeper.
-use Rattle.std.specs.Prelude.{◌≡◌, ℕ, ◌+◌, ◌-◌, zero, suc, Bool, true, false, not, ◌==◌, nat_lt, if◌then◌else◌, List, [], ◌∷◌, ◌++◌, map, length, take, drop, Option, Some, None, option_map, bytes_eq, slice_get, codes, Result, Ok, Err, ℤ, pos, negsuc, int_lt, int_le, ◌+ℤ◌}
+use Rattle.std.specs.Prelude.{◌≡◌, ℕ, zero, suc, Bool, true, false, not, ◌==◌, if◌then◌else◌, List, [], ◌∷◌, ◌++◌, length, take, drop, Option, Some, None, option_map, bytes_eq, slice_get, codes, Result, Ok, Err, ℤ, pos, negsuc, int_lt, int_le, ◌+ℤ◌}
 use Rattle.std.specs.List.{before_first, position}
-use Rattle.std.specs.Option.{unwrap_or, option_and_then}
+use Rattle.std.specs.Option.{option_and_then}
 use Rattle.std.specs.Fmt.{signed_decimal}
 use Rattle.std.specs.Ordering.{int_eq}
 use Rattle.std.specs.Int.{w32, int_wrapping_add, int_wrapping_sub}
@@ -32,7 +32,7 @@ use Rattle.mpi.specs.Hosting.{Powers, Means, IfMemory}
 use Rattle.mpi.specs.Variables.{Variables}
 use Rattle.mpi.specs.Made.{is_long}
 use Rattle.mpi.specs.Gathering.{as_text, kept_of}
-use Rattle.mpi.specs.Thoughts.{State, Thought, gives, fails, followed, found, answers, sized, counted, keeps, variable, scoped, with_value, on_mind}
+use Rattle.mpi.specs.Thoughts.{Thought, gives, fails, followed, found, answers, sized, counted, keeps, variable, scoped, with_value, on_mind}
 use Rattle.mpi.specs.Values.{nth, alike, is_true, truth, number_of, lowered, test_of, computed, text_of, items, rolled}
 
 -- what else a text is evaluated with: the host's powers, and the object that carries it

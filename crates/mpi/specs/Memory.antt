@@ -1,5 +1,5 @@
 -- What a host in memory answers and changes.
-use Rattle.std.specs.Prelude.{ℕ, ◌+◌, ◌%◌, ◌==◌, Bool, true, false, ◌&&◌, if◌then◌else◌, List, [], ◌∷◌, ◌++◌, Option, Some, None, option_map, Result, Ok, Err, pos, negsuc, slice_get, reverse, find, bytes_eq, codes, int_lt, nat_abs}
+use Rattle.std.specs.Prelude.{ℕ, ◌+◌, ◌%◌, ◌==◌, Bool, false, ◌&&◌, if◌then◌else◌, List, [], ◌∷◌, ◌++◌, Option, Some, None, option_map, Result, Ok, pos, negsuc, slice_get, bytes_eq, codes, int_lt, nat_abs}
 use Rattle.std.specs.List.{fold}
 use Rattle.std.specs.Option.{unwrap_or, option_and_then}
 use Rattle.std.specs.Ordering.{int_eq}

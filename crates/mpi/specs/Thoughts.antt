@@ -5,7 +5,7 @@ use Rattle.mpi.specs.declared.fault.MpiFault.{MpiFault}
 use Rattle.mpi.specs.declared.fault.MpiFault.TheVariants.{BadValue, TooManyCommands, NoMemory}
 use Rattle.mpi.specs.declared.mind.Mind.{Mind}
 use Rattle.mpi.specs.Made.{text_or_long}
-use Rattle.mpi.specs.Variables.{Variables, given_back}
+use Rattle.mpi.specs.Variables.{given_back}
 
 abbrev pub State : Type 0 → Type 0
 State S = Mind × S

@@ -1,5 +1,5 @@
 -- Texts with what they mean, for a player `One` in a room, and an object without properties that carries them.
-use Rattle.std.specs.Prelude.{◌≡◌, ℕ, List, [], ◌∷◌, ◌++◌, Result, Ok, Err, codes, pos}
+use Rattle.std.specs.Prelude.{◌≡◌, ℕ, List, [], ◌∷◌, Result, Ok, Err, codes, pos}
 use Rattle.std.specs.FinMap as map
 use Rattle.muck_model.specs.Numbers.{numbered}
 use Rattle.mpi.specs.declared.fault.MpiFault.{MpiFault}

@@ -1,4 +1,4 @@
-use Rattle.std.proofs.Common.{rules, arith, tests, refl, sym, subst, ap, ◌∙◌, ◌≡◌, ◌+◌, ◌-◌, ◌<◌, ◌≤◌, [], ◌∷◌, ◌++◌, suc, None, Some, Ok, Err, true, false, length, take, drop, get_or, map, option_map, below_more, add-one}
+use Rattle.std.proofs.Common.{rules, sym, subst, ◌≡◌, Err}
 use Rattle.mpi.specs.Meaning.{scene_of, acted_by}
 use Rattle.mpi.specs.Thoughts.{Thinks}
 use Rattle.mpi.proofs.Acts.{ask_lacks, ask_answers, text_made}

@@ -1,4 +1,4 @@
-use Rattle.std.proofs.Common.{rules, arith, tests, refl, sym, subst, ap, ◌∙◌, ◌≡◌, ◌+◌, ◌-◌, ◌<◌, ◌≤◌, [], ◌∷◌, ◌++◌, suc, None, Some, Ok, Err, true, false, length, take, drop, get_or, map, option_map, below_more, add-one}
+use Rattle.std.proofs.Common.{rules, ◌≡◌, Err}
 use Rattle.mpi.specs.Meaning.{scene_of}
 use Rattle.mpi.proofs.Acts.{deed_done, deed_fails, deed_lacks}
 use Rattle.mpi.proofs.acting.does.Goals as goal

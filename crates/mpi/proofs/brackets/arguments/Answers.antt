@@ -1,4 +1,4 @@
-use Rattle.std.proofs.Common.{rules, arith, tests, refl, sym, subst, ap, ◌∙◌, ◌≡◌, ◌+◌, ◌-◌, ◌<◌, ◌≤◌, [], ◌∷◌, ◌++◌, suc, None, Some, Ok, Err, true, false, length, take, drop, get_or, map, option_map, below_more, add-one}
+use Rattle.std.proofs.Common.{arith, sym, subst, ap, ◌∙◌, ◌≡◌, ◌<◌, [], ◌∷◌, ◌++◌, suc, None, true, length, take, map}
 use Rattle.std.proofs.Common.{ℕ, List, Bor}
 use Rattle.std.specs.List.{list_all}
 use Rattle.std.proofs.lemmas.List.{map-append}

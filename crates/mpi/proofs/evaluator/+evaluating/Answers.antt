@@ -1,9 +1,9 @@
-use Rattle.std.proofs.Common.{rules, arith, tests, refl, sym, subst, ap, ◌∙◌, ◌≡◌, ◌+◌, ◌-◌, ◌<◌, ◌≤◌, [], ◌∷◌, ◌++◌, suc, None, Some, Ok, Err, true, false, length, take, drop, get_or, map, option_map, below_more, add-one}
-use Rattle.muck_model.specs.Bytes.{is_outside, text_fault}
+use Rattle.std.proofs.Common.{rules, arith, refl, sym, subst, ap, ◌∙◌, ◌≡◌, ◌+◌, ◌-◌, ◌≤◌, [], ◌∷◌, ◌++◌, suc, None, Some, Ok, Err, true, false, length, take, drop, get_or, map, option_map}
+use Rattle.muck_model.specs.Bytes.{text_fault}
 use Rattle.mpi.specs.Brackets.{pieces, seen_piece, IsPart}
 use Rattle.mpi.specs.Hosting.{Means}
-use Rattle.mpi.specs.Made.{Inside, is_long, text_or_long, is_text}
-use Rattle.mpi.specs.Meaning.{scene_of, meaning, entered, spelled, variable_in, acted_by, lazily, texts_of, branch_at, each_value, until, while_true, turns_while, bodies, before_body, turns_for, text_with, next_number, each_item}
+use Rattle.mpi.specs.Made.{Inside, is_long, is_text}
+use Rattle.mpi.specs.Meaning.{scene_of, meaning, entered, spelled, acted_by, each_value, until, while_true, turns_while, bodies, before_body, turns_for, text_with, next_number, each_item}
 use Rattle.mpi.proofs.Inside.{inside_more, inside_byte, text_inside}
 use Rattle.mpi.proofs.Lengths.{short_length}
 use Rattle.mpi.proofs.Replacing.{whole_made}
@@ -15,7 +15,7 @@ use Rattle.mpi.specs.Functions.{row_of}
 use Rattle.mpi.specs.Thoughts.{Thinks, given_back_in}
 use Rattle.mpi.proofs.Calls.{too_deep, none_left, entered_is, variable_comes, prepared_fails, prepared_comes, first_fails, first_comes, lazy_comes, literal_comes, if_fails, if_comes, all_comes, any_comes, while_comes, with_comes, turns_begin, once_comes, numbers_come, items_come}
 use Rattle.mpi.specs.Gathering.{as_text, kept_of, list_or_long}
-use Rattle.mpi.specs.Values.{nth, alike, is_true, items}
+use Rattle.mpi.specs.Values.{nth, is_true, items}
 use Rattle.mpi.proofs.Mapped.{next_mapped, none_mapped, mapped_text}
 use Rattle.mpi.proofs.Turns.{value_end, value_more, value_fails, until_end, until_more, until_known, until_fails, while_stops, while_turns, while_test_fails, while_count_fails, while_body_fails, while_ends, scope_fails, scope_comes, with_is, for_stops, for_turns, for_count_fails, for_body_fails, for_ends, item_end, item_more, item_long, item_fails}
 use Rattle.std.specs.FinMap.{get}

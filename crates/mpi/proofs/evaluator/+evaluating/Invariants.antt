@@ -1,9 +1,8 @@
 use Rattle.std.proofs.Common.{◌≡◌, ◌+◌, ◌-◌, ◌*◌, ◌≤◌, suc, [], length, map, drop}
-use Rattle.std.specs.Prelude.{None, Some, true, option_map, IfSome}
-use Rattle.std.specs.List.{list_all}
+use Rattle.std.specs.Prelude.{None, Some, option_map, IfSome}
 use Rattle.muck_model.specs.Bytes.{text_fault}
 use Rattle.mpi.specs.Brackets.{pieces}
-use Rattle.mpi.specs.Made.{Inside, is_text}
+use Rattle.mpi.specs.Made.{Inside}
 use Rattle.mpi.specs.Values.{nth, items}
 use Rattle.mpi.specs.Meaning.{scene_of, meaning, entered, spelled, each_value, until, while_true, turns_while, turns_for, each_item}
 use Rattle.mpi.proofs.evaluator.+evaluating.Given as goal

@@ -1,6 +1,5 @@
-use Rattle.std.proofs.Common.{rules, arith, tests, refl, sym, subst, ap, ◌∙◌, ◌≡◌, ◌+◌, ◌-◌, ◌<◌, ◌≤◌, [], ◌∷◌, ◌++◌, suc, None, Some, Ok, Err, true, false, length, take, drop, get_or, map, option_map, below_more, add-one}
+use Rattle.std.proofs.Common.{sym, subst, ◌≡◌, None}
 use Rattle.muck_model.specs.Bytes.{text_fault}
-use Rattle.mpi.specs.Values.{nth}
 use Rattle.mpi.proofs.Mapped.{nth_past, mapped_text}
 use Rattle.mpi.proofs.evaluator.text_at.Goals as goal
 

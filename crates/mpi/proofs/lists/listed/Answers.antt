@@ -1,4 +1,4 @@
-use Rattle.std.proofs.Common.{rules, arith, tests, refl, sym, subst, ap, ◌∙◌, ◌≡◌, ◌+◌, ◌-◌, ◌<◌, ◌≤◌, [], ◌∷◌, ◌++◌, suc, None, Some, Ok, Err, true, false, length, take, drop, get_or, map, option_map, below_more, add-one}
+use Rattle.std.proofs.Common.{arith, sym, ap, ◌∙◌, [], ◌∷◌, ◌++◌, get_or, map}
 use Rattle.std.proofs.Common.{append_assoc}
 use Rattle.std.proofs.lemmas.List.{length-map, get_or-map}
 use Rattle.mpi.proofs.Joins.{join_more, join_first}

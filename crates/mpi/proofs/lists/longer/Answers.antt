@@ -1,4 +1,4 @@
-use Rattle.std.proofs.Common.{rules, arith, tests, refl, sym, subst, ap, ◌∙◌, ◌≡◌, ◌+◌, ◌-◌, ◌<◌, ◌≤◌, [], ◌∷◌, ◌++◌, suc, None, Some, Ok, Err, true, false, length, take, drop, get_or, map, option_map, below_more, add-one}
+use Rattle.std.proofs.Common.{rules, refl, ◌≡◌, [], ◌∷◌, None}
 use Rattle.mpi.proofs.Growing.{grown_inside, grown_text}
 use Rattle.mpi.proofs.Inside.{text_inside}
 use Rattle.muck_model.specs.Bytes.{text_fault}

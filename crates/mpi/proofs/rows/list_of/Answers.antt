@@ -1,4 +1,4 @@
-use Rattle.std.proofs.Common.{rules, arith, tests, refl, sym, subst, ap, ◌∙◌, ◌≡◌, ◌+◌, ◌-◌, ◌<◌, ◌≤◌, [], ◌∷◌, ◌++◌, suc, None, Some, Ok, Err, true, false, length, take, drop, get_or, map, option_map, below_more, add-one}
+use Rattle.std.proofs.Common.{arith, refl, sym, subst, ap, ◌∙◌, [], ◌∷◌, ◌++◌}
 use Rattle.std.proofs.Common.{append_assoc}
 use Rattle.mpi.specs.Made.{Inside}
 use Rattle.mpi.proofs.Inside.{inside_more, text_inside}

@@ -1,7 +1,6 @@
-use Rattle.std.proofs.Common.{rules, arith, tests, refl, sym, subst, ap, ◌∙◌, ◌≡◌, ◌+◌, ◌-◌, ◌<◌, ◌≤◌, [], ◌∷◌, ◌++◌, suc, None, Some, Ok, Err, true, false, length, take, drop, get_or, map, option_map, below_more, add-one}
+use Rattle.std.proofs.Common.{rules, subst, ap, ◌∙◌, ◌≡◌, map}
 use Rattle.std.specs.Result.{IfOk}
-use Rattle.mpi.specs.Values.{listed, cut, sublist}
-use Rattle.std.proofs.lemmas.List.{take-map}
+use Rattle.mpi.specs.Values.{listed, cut}
 use Rattle.mpi.proofs.Mapped.{cut_mapped}
 use Rattle.mpi.proofs.rows.sublist.Goals as goal
 

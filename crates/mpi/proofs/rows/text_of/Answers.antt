@@ -1,4 +1,4 @@
-use Rattle.std.proofs.Common.{rules, arith, tests, refl, sym, subst, ap, ◌∙◌, ◌≡◌, ◌+◌, ◌-◌, ◌<◌, ◌≤◌, [], ◌∷◌, ◌++◌, suc, None, Some, Ok, Err, true, false, length, take, drop, get_or, map, option_map, below_more, add-one}
+use Rattle.std.proofs.Common.{rules, arith, refl, sym, ap, ◌∙◌, ◌≡◌, [], Some, Ok}
 use Rattle.mpi.specs.Made.{found_text}
 use Rattle.mpi.specs.Values.{text_of}
 use Rattle.mpi.proofs.Replacing.{whole_made}
