@@ -1,0 +1,11 @@
+pub mod Variables
+pub mod Brackets
+pub mod Functions
+pub mod Hosting
+pub mod Made
+pub mod Thoughts
+pub mod Values
+pub mod Gathering
+pub mod Meaning
+pub mod Memory
+pub mod Worked
