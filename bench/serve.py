@@ -10,12 +10,14 @@ clock, and of the client and the server together, on a machine that does nothing
 - idle: 256 connections of players who do nothing: memory of the program, and its processor time in a second;
 - dump: a hundred of all objects have changed; while they are stored another player says texts and waits for each answer: the longest wait.
 """
+import contextlib
 import dataclasses
 import os
 import re
 import resource
 import select
 import shutil
+import signal
 import socket
 import subprocess
 import sys
@@ -114,8 +116,10 @@ class Game:
         return (int(fields[11]) + int(fields[12])) / os.sysconf("SC_CLK_TCK")
 
     def stop(self):
-        if self.process and self.process.poll() is None:
-            self.process.kill()
+        """Ends the program, and what it has started."""
+        if self.process:
+            with contextlib.suppress(ProcessLookupError):
+                os.killpg(self.process.pid, signal.SIGKILL)
             self.process.wait()
 
 
@@ -124,7 +128,7 @@ class Muckd(Game):
     dug = r"#(\d+)R"
 
     def start(self, workers=4):
-        self.process = subprocess.Popen([PROGRAM, "serve", "w", str(self.port), str(workers)], cwd=self.folder, stdin=subprocess.DEVNULL)
+        self.process = subprocess.Popen([PROGRAM, "serve", "w", str(self.port), str(workers)], cwd=self.folder, stdin=subprocess.DEVNULL, start_new_session=True)
         return self
 
     def fill(self, objects):
@@ -167,7 +171,7 @@ class TinyMux(Game):
                 file.write(text + "\n" + "\n".join(self.told) + "\n")
         with open(os.path.join(self.folder, "said"), "wb") as said:
             self.process = subprocess.Popen(["bin/netmux", "-c", "netmux.conf", "-p", "netmux.pid", "-e", "."], cwd=self.folder, stdin=subprocess.DEVNULL, stdout=said, stderr=said,
-                                            env={**os.environ, "LD_LIBRARY_PATH": "bin"})
+                                            start_new_session=True, env={**os.environ, "LD_LIBRARY_PATH": "bin"})
         return self
 
     def fill(self, objects):
