@@ -65,9 +65,8 @@ loose_notes h = take 1 h.notes ++ notes_from (length h.entries) (drop 1 h.notes)
 unfoldable pub loose_count : History → Option (List Count)
 loose_count h = counted_from (length h.entries) h.counted
 
--- no note stands behind all entries but that of the mounting, which is there
-pub record IsSettled (h : History) : Type 0 where
-  pub mounting : Note
+-- this note is that of the mounting, and none stands behind all entries
+pub record IsSettled (mounting : Note) (h : History) : Type 0 where
   pub notes : loose_notes h ≡ mounting ∷ []
   pub counted : loose_count h ≡ None
 
