@@ -25,10 +25,11 @@ use Rattle.muck_store.specs.Forms.{stored_of, stored_from, persist, world_batch}
 use Rattle.muck_store.specs.Limits.{fits}
 use Rattle.muck_store.specs.Whole.{is_whole}
 use Rattle.muck_log.specs.File.{begin}
-use Rattle.muck_log.specs.World.{World, start, is_between, tune_fits, is_fine, put_at, placed, all_placed, judged_world, laid_over, batch_if, laid, kept_of, differs, written}
+use Rattle.muck_log.specs.World.{World, IsFine, start, is_between, tune_fits, is_fine, put_at, placed, all_placed, judged_world, laid_over, batch_if, laid, kept_of, differs, written}
 use Rattle.muck_log.specs.Store.{Chosen, LogState, opens_new, target}
-use Rattle.muck_log.specs.Append.{IsLaidNext, base_of, payload_of}
+use Rattle.muck_log.specs.Append.{IsLaidNext, MakesWorld, base_of, payload_of}
 use Rattle.muck_log.proofs.Differing.{differs_by, equals, found_stored, kept_same}
+use Rattle.muck_log.proofs.Fine.{start_fine}
 use Rattle.muck_log.proofs.Spellings.{start_two, start_stored}
 
 -- Records by their numbers from k on.
@@ -311,3 +312,32 @@ fit_makes log batch es tune kept stored few left tuned fine two covers =
     ap (λ payload. laid payload (target log.chosen).held.world) (payload_over log batch es tune there left tuned)
     ∙ batch_laid log es tune all there (target_covered log.chosen (length es) covers two) (written_few log es batch.records there left few) (tune_words tune (fine_tune es tune fine))
     ∙ cond-true (is_fine (persist es) tune) _ _ fine
+
+-- A batch without a record makes the world that it is laid over, with its own parameters.
+
+retuned : (objects : List Stored) (old tune : Tune) → is_fine objects old ≡ true → tune_fits tune ≡ true → is_fine objects tune ≡ true
+unfolding is_fine
+retuned objects old tune fine tuned =
+    let a = and_parts (nat_le (length objects) 100000) _ fine in
+    let b = and_parts (list_all fits objects) _ a.1 in
+    let c = and_parts (tune_fits old) (is_whole objects) b.1 in
+    and_from (nat_le (length objects) 100000) _ a.0 (and_from (list_all fits objects) _ b.0 (and_from (tune_fits tune) (is_whole objects) tuned c.1))
+
+lays_nothing : (w : World) (tune : Tune) → is_fine w.objects w.tune ≡ true → tune_fits tune ≡ true → laid (batch_bytes [] tune) w ≡ Some (record { objects = w.objects; tune = tune })
+unfolding all_placed
+lays_nothing w tune fine tuned =
+    laid_batch (batch_bytes [] tune) (record { records = []; tune = tune }) w w.objects (whole_reads [] tune (omega arith, tt) (tune_words tune tuned)) refl
+    ∙ cond-true (is_fine w.objects tune) _ _ (retuned w.objects w.tune tune fine tuned)
+
+target_fine : (s : Chosen) (b : Bool) → opens_new s.held ≡ b → IsFine s.held.world → IsFine (target s).held.world
+unfolding target begin
+target_fine s true e fine = subst (λ (t : Chosen). IsFine t.held.world) (sym (cond-true (opens_new s.held) _ _ e)) start_fine
+target_fine s false e fine = subst (λ (t : Chosen). IsFine t.held.world) (sym (cond-false (opens_new s.held) _ _ e)) fine
+
+pub nothing_makes : (log : LogState) (batch : Batch) → IsFine log.chosen.held.world → batch.records ≡ [] → tune_fits batch.tune ≡ true → MakesWorld log batch
+unfolding payload_of written
+nothing_makes log batch fine none tuned =
+    let w = (target log.chosen).held.world in (
+      record { objects = w.objects; tune = batch.tune },
+      ap (λ records. laid (batch_bytes (filter (differs w.objects) records) batch.tune) w) none ∙ lays_nothing w batch.tune (target_fine log.chosen (opens_new log.chosen.held) refl fine) tuned,
+    )
