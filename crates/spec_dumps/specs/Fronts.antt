@@ -47,6 +47,10 @@ unfoldable pub last_cut : List Entry → ℕ
 last_cut [] = 0
 last_cut (e ∷ h) = cut_behind (last_cut h) (is_cut e.event)
 
+-- the world as it was behind the last Cut, or at the start where there is none
+abbrev pub at_cut : World → List Entry → World
+at_cut w h = after w (take (last_cut h) h)
+
 abbrev pub number_of_cut : Event → ℕ
 number_of_cut (Cut k) = k
 number_of_cut event = 0
