@@ -12,7 +12,7 @@ use Rattle.spec_events.specs.Histories.{History, after, now}
 use Rattle.spec_events.proofs.Done.{done_going}
 use Rattle.spec_events.proofs.Taken.{sliced_going}
 use Rattle.spec_events.proofs.Runs.{now-grew}
-use Rattle.spec_dumps.specs.Fronts.{is_dump}
+use Rattle.spec_events.specs.Logged.{is_dump}
 use Rattle.spec_dumps.specs.Holding.{Quietly}
 
 -- its number

@@ -8,7 +8,8 @@ use Rattle.spec_live.specs.Consistent.{IsConsistent}
 use Rattle.muck_log.specs.Store.{Chosen, LogState, IsMounted}
 use Rattle.spec_events.specs.World.{World}
 use Rattle.spec_events.specs.Histories.{History, Grew}
-use Rattle.spec_dumps.specs.Fronts.{is_dump, last_cut, at_cut, number_at, IsFront, Overflows, dumped_on, file_most}
+use Rattle.spec_events.specs.Logged.{is_dump}
+use Rattle.spec_dumps.specs.Fronts.{last_cut, at_cut, number_at, IsFront, Overflows, dumped_on, file_most}
 use Rattle.spec_dumps.specs.Survival.{IsSafe}
 
 -- k is the history h and then entries that are none of a dump, without a note
