@@ -162,10 +162,10 @@ module _ {D : Type 0} (seen : D → List ℕ) (moment : D → ℕ) (images : D �
 -- What was written, and why it wasn't, is of the last Cut.
 
 module _ (mounted : ℕ) (h k : History) (q : Quietly h k) (placed : ArePlaced h.entries h.notes) where
-  same_cut : at_cut k.start k.entries ≡ at_cut h.start h.entries
+  pub same_cut : at_cut k.start k.entries ≡ at_cut h.start h.entries
   same_cut = ap (λ (w : World). at_cut w k.entries) q.grew.start ∙ ap (at_cut h.start) q.grew.entries ∙ at_cut_quiet h.start h.entries q.entries q.none
 
-  same_number : number_at mounted k.entries (last_cut k.entries) ≡ number_at mounted h.entries (last_cut h.entries)
+  pub same_number : number_at mounted k.entries (last_cut k.entries) ≡ number_at mounted h.entries (last_cut h.entries)
   same_number =
       ap (λ (es : List Entry). number_at mounted es (last_cut es)) q.grew.entries
       ∙ ap (number_at mounted (h.entries ++ q.entries)) (last_cut_quiet h.entries q.entries q.none)
