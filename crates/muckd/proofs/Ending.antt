@@ -12,7 +12,7 @@ use Rattle.muckd.specs.inner.Plays.{Plays}
 use Rattle.muckd.specs.inner.Dumps.{IsFull}
 use Rattle.muckd.specs.inner.Ends.{EndsPlay, ComesOutAs, MayEndDump}
 use Rattle.muckd.specs.declared.why.Why.{Why}
-use Rattle.muckd.specs.declared.why.Why.TheVariants.{Fine, Usage, BadScript, NoMemory, ReadFault, WriteFault, DiskFault, Damaged, StoreFull}
+use Rattle.muckd.specs.declared.why.Why.TheVariants.{Fine, Usage, BadScript, NoMemory, ReadFault, WriteFault, DiskFault, Damaged, ListenFault, StoreFull, Spent}
 use Rattle.muckd.proofs.Whole.{begun, played_whole, died_dumping}
 
 pub ends_stored : (k m : History) (tale : List Entry) → tale ≡ m.entries → ((n : ℕ) × Longer k m (dump_entries (stored n))) → EndsStored tale
@@ -32,6 +32,8 @@ has_run written breaks tells w note NoMemory acts h k m before after tale is may
 has_run written breaks tells w note Usage acts h k m before after tale is may p d came end same = absurd may
 has_run written breaks tells w note (BadScript line) acts h k m before after tale is may p d came end same = absurd may
 has_run written breaks tells w note ReadFault acts h k m before after tale is may p d came end same = absurd may
+has_run written breaks tells w note ListenFault acts h k m before after tale is may p d came end same = absurd may
+has_run written breaks tells w note (Spent turns) acts h k m before after tale is may p d came end same = absurd may
 has_run written breaks tells w note WriteFault acts h k m before after tale is may p d came end same = absurd may
 
 -- a run began in w, and its tale is the entries of the history m

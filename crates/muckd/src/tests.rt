@@ -1,5 +1,5 @@
 // What no clause says: the worked rows byte for byte, and what stands where each read or write fails in turn.
-use crate::top::muckd;
+use crate::top::by_script;
 use crate::why::Why;
 use muck_disk::{Disk, FailDisk, MemDisk};
 use muck_io::{MemSink, MemSource};
@@ -52,7 +52,7 @@ fn run_on<D: Disk>(
     let bytes = script.as_bytes().to_vec(alloc)?;
     let mut source = MemSource::new(bytes, failing(alloc, read)?).at_most(at_once.max(1));
     let mut sink = MemSink::new(alloc, failing(alloc, write)?).at_most(at_once.max(1));
-    let done = muckd(
+    let done = by_script(
         alloc,
         words.as_slice(),
         &mut source,
@@ -116,7 +116,7 @@ fn other_causes(rt: HostRuntime) -> Result<(), Fail> {
     let mut sink = MemSink::new(rt.alloc(), Vec::new(rt.alloc()));
     let mut first = MemDisk::new(rt.alloc(), &[])?;
     let mut second = MemDisk::new(rt.alloc(), &[])?;
-    let done = muckd(
+    let done = by_script(
         rt.alloc(),
         words.as_slice(),
         &mut source,
@@ -178,7 +178,15 @@ fn causes_are_shown(rt: HostRuntime) -> Result<(), Fail> {
             "Damaged 1 67",
             7,
         ),
+        (Why::ListenFault, "ListenFault", 8),
         (Why::StoreFull { end: 9, more: 8 }, "StoreFull 9 8", 9),
+        (
+            Why::Spent {
+                turns: 4_611_686_018_427_387_904,
+            },
+            "Spent 4611686018427387904",
+            10,
+        ),
     ];
     for (why, text, status) in cases {
         let shown = format!(in rt.alloc(); "{why}")?;
