@@ -139,8 +139,8 @@ module _ {S K D : Type 0} (left : S → Option (List ℕ)) (faults : S → ℕ) 
     };
     happened = record {
       lawful = p.lawful;
-      licensed = licensed_from log.chosen.held.world tale;
-      passwords = known_from log.chosen.held.world tale p.lawful;
+      licensed = licensed_from 0 log.chosen.held.world tale;
+      passwords = known_from 0 log.chosen.held.world tale p.lawful;
       acts = acts;
       read = read;
       run = p.run;

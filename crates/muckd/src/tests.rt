@@ -129,6 +129,44 @@ fn other_causes(rt: HostRuntime) -> Result<(), Fail> {
     Ok(())
 }
 
+// What these words answer, with an empty script on an empty store, and what is written.
+fn answer(alloc: Global, words: &[&str]) -> Result<(Why, Vec<u8>), Fail> {
+    let words = words_of(alloc, words)?;
+    let mut source = MemSource::new(Vec::new(alloc), Vec::new(alloc));
+    let mut sink = MemSink::new(alloc, Vec::new(alloc));
+    let mut first = MemDisk::new(alloc, &[])?;
+    let mut second = MemDisk::new(alloc, &[])?;
+    let done = by_script(
+        alloc,
+        words.as_slice(),
+        &mut source,
+        &mut sink,
+        &mut first,
+        &mut second,
+    );
+    Ok((done.why, sink.bytes().to_vec(alloc)?))
+}
+
+#[test]
+fn drills(rt: HostRuntime) -> Result<(), Fail> {
+    let cases = [
+        ("1", "drill 1: 4 objects, 7 lines, 155 bytes\n"),
+        ("2", "drill 2: 6 objects, 12 lines, 248 bytes\n"),
+        ("10", "drill 10: 22 objects, 52 lines, 1008 bytes\n"),
+    ];
+    for (count, want) in cases {
+        let (why, written) = answer(rt.alloc(), &["drill", count])?;
+        assert_eq!(rt; why, Why::Fine);
+        assert_eq!(rt; written.as_slice(), want.as_bytes());
+    }
+    for count in ["0", "01", "1001", "+1", ""] {
+        let (why, written) = answer(rt.alloc(), &["drill", count])?;
+        assert_eq!(rt; why, Why::Usage);
+        assert!(rt; written.is_empty());
+    }
+    Ok(())
+}
+
 #[test]
 fn each_read_fails(rt: HostRuntime) -> Result<(), Fail> {
     // Ten bytes a read: the script's 57 bytes want six reads, and a seventh finds the end.

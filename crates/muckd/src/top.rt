@@ -9,7 +9,7 @@ ghost use Rattle.muck_log.specs.Mount.{IsMountedAs};
 ghost use Rattle.spec_dumps.specs.Fronts.{file_most};
 ghost use Rattle.spec_dumps.specs.Holding.{Quietly, Rests};
 ghost use Rattle.muckd.specs.inner.Dumps.{note_of, DumpsLast, IsNotedOn};
-ghost use Rattle.muckd.specs.inner.Ends.{refusal_of, why_of, MayNotOpen, IsMountWhy, MayRefuse, MayEnd, MayEndDump, IsScriptWhy, IsBootable, booted_from, unbegun_from, begun_from, EndsPlay, ComesOutAs, LastKept, HasPlayed, NeverPlayed};
+ghost use Rattle.muckd.specs.inner.Ends.{refusal_of, why_of, MayNotOpen, IsMountWhy, MayRefuse, MayEnd, MayEndDump, IsScriptWhy, IsBootable, booted_at, unbegun_at, begun_at, EndsPlay, ComesOutAs, LastKept, HasPlayed, NeverPlayed};
 ghost use Rattle.muckd.specs.inner.Plays.{PlaysOrBreaks};
 ghost use Rattle.muck_script.specs.Story.{dumping};
 ghost use Rattle.muckd.specs.Words.{run, drill, command_of, seen_command, is_scripted};
@@ -280,16 +280,16 @@ fn run<S: Source, K: Sink, D: Disk>(
     }
 }
 
-// The world of what a store holds, in which nothing has happened yet.
+// The world of what a store holds at this second, which its random numbers begin with too; nothing has happened in it yet.
 #[tactic(auto, using(crate::proofs::Started::in_range, crate::proofs::Started::properties))]
-fn boot(alloc: Global, kept: &Kept) -> Result<World, NoMemory>
+fn boot(alloc: Global, kept: &Kept, began: u64) -> Result<World, NoMemory>
     requires { IsBootable kept.now }
     ensures storable { All IsStored kept.now.objects }
-    ensures world { IfOk result (λ w. w ≡ record { start = booted_from kept.now; entries = []; notes = [] }) }
+    ensures world { IfOk result (λ w. w ≡ record { start = booted_at began kept.now; entries = []; notes = [] }) }
 {
     let db = Db::load(alloc, kept.objects())?;
     let tune = kept.tune();
-    World::boot(alloc, Persisted { db, tune }, 0, 0)
+    World::boot(alloc, Persisted { db, tune }, began, began)
 }
 
 // The world of a run that is to begin, and room for a whole queue.
@@ -303,10 +303,10 @@ fn begin<D: Disk>(
     requires bootable { IsBootable log.now.chosen.held.world }
     ensures room { IfOk result (λ made. 131090 ≤ vec_len made.1) }
     ensures properties { OnOk result (All (λ s. AreProperties s.props) log.now.chosen.held.world.objects) }
-    ensures world { IfOk result (λ made. made.0 ≡ begun_from log.now (note_of D.moment D.faults first.now second.now (unbegun_from log.now))) }
+    ensures world { IfOk result (λ made. made.0 ≡ begun_at 0 log.now (note_of D.moment D.faults first.now second.now (unbegun_at 0 log.now))) }
 {
     let buf = buffer(alloc)?;
-    let mut world = boot(alloc, log.kept())?;
+    let mut world = boot(alloc, log.kept(), 0)?;
     world.note(first, second);
     Ok((world, buf))
 }
