@@ -7,7 +7,8 @@ use Rattle.muck_model.specs.declared.note.Note.{Note}
 use Rattle.muck_log.specs.Store.{Chosen, LogState, stored}
 use Rattle.spec_events.specs.World.{World}
 use Rattle.spec_events.specs.Histories.{History, entered, noted}
-use Rattle.spec_dumps.specs.Fronts.{is_stored, is_failed, IsFront, Loads}
+use Rattle.spec_events.specs.Logged.{is_stored, is_failed}
+use Rattle.spec_dumps.specs.Fronts.{IsFront, Loads}
 use Rattle.spec_dumps.specs.Survival.{HasCause, IsSafe}
 use Rattle.spec_dumps.specs.Holding.{IsAt, IsCounted, IsUsable, Keeps, Rests}
 use Rattle.spec_dumps.proofs.Lists.{got_last, length_last}

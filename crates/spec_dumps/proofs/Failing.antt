@@ -9,7 +9,8 @@ use Rattle.muck_model.specs.declared.note.Note.{Note}
 use Rattle.muck_log.specs.Store.{Chosen, LogState}
 use Rattle.spec_events.specs.World.{World}
 use Rattle.spec_events.specs.Histories.{History, after, entered, noted}
-use Rattle.spec_dumps.specs.Fronts.{is_failed, IsFront, Overflows}
+use Rattle.spec_events.specs.Logged.{is_failed}
+use Rattle.spec_dumps.specs.Fronts.{IsFront, Overflows}
 use Rattle.spec_dumps.specs.Survival.{HasCause}
 use Rattle.spec_dumps.specs.Holding.{IsAt, IsCounted, Keeps, Rests}
 use Rattle.spec_dumps.proofs.Lists.{got_on, length_last}

@@ -13,7 +13,8 @@ use Rattle.muck_log.specs.Store.{Chosen, Damage}
 use Rattle.std.specs.Prelude.{Result}
 use Rattle.spec_events.specs.World.{World}
 use Rattle.spec_events.specs.Histories.{after}
-use Rattle.spec_dumps.specs.Fronts.{persisted, is_stored, stands_at, last_cut, number_of_cut, number_at, place_of_note, IsNotedBy, IsFront, Loads}
+use Rattle.spec_events.specs.Logged.{is_stored}
+use Rattle.spec_dumps.specs.Fronts.{persisted, stands_at, last_cut, number_of_cut, number_at, place_of_note, IsNotedBy, IsFront, Loads}
 use Rattle.spec_dumps.proofs.Lists.{got_on}
 
 -- each note stands before an entry, or at the start

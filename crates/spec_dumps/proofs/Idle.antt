@@ -11,7 +11,7 @@ use Rattle.spec_events.specs.Histories.{History, after, now}
 use Rattle.spec_events.proofs.Done.{done_going}
 use Rattle.spec_events.proofs.Taken.{sliced_going}
 use Rattle.spec_events.proofs.Runs.{now-grew}
-use Rattle.spec_dumps.specs.Fronts.{is_dump}
+use Rattle.spec_events.specs.Logged.{is_dump}
 use Rattle.spec_dumps.specs.Holding.{Quietly}
 
 idle_happened : (event : Event) (w : World) (party : ℕ) → is_dump event ≡ false → w.dumps.running ≡ None → (happened w party event).dumps.running ≡ None

@@ -11,7 +11,8 @@ use Rattle.muck_model.specs.declared.note.Note.{Note}
 use Rattle.muck_log.specs.Store.{Chosen, stored}
 use Rattle.spec_events.specs.World.{World}
 use Rattle.spec_events.specs.Histories.{after}
-use Rattle.spec_dumps.specs.Fronts.{is_dump, is_stored, is_failed, stands_at, place_of_note, last_cut, IsFront, Loads, Overflows, dumped_on}
+use Rattle.spec_events.specs.Logged.{is_dump, is_stored, is_failed}
+use Rattle.spec_dumps.specs.Fronts.{stands_at, place_of_note, last_cut, IsFront, Loads, Overflows, dumped_on}
 use Rattle.spec_dumps.specs.Survival.{until, AllNoted, Survives, HasCause, AllCaused, AllDeltas, IsSafe}
 use Rattle.spec_dumps.specs.Holding.{IsAt}
 use Rattle.spec_dumps.proofs.Lists.{got_on, got_last, got_past, length_last}

@@ -13,7 +13,8 @@ use Rattle.muck_log.specs.Store.{Chosen, LogState, stored}
 use Rattle.spec_events.specs.World.{World}
 use Rattle.spec_events.specs.Histories.{History, after, entered, Grew}
 use Rattle.spec_events.proofs.Runs.{grew_nothing, grew_one, grew_on}
-use Rattle.spec_dumps.specs.Fronts.{persisted, is_dump, is_cut, is_stored, is_failed, stands_at, place_of_note, IsFront, Loads, Overflows, dumped_on}
+use Rattle.spec_events.specs.Logged.{is_dump, is_cut, is_stored, is_failed}
+use Rattle.spec_dumps.specs.Fronts.{persisted, stands_at, place_of_note, IsFront, Loads, Overflows, dumped_on}
 use Rattle.spec_dumps.specs.Survival.{AllNoted, Survives, HasCause, AllCaused, AllDeltas, IsSafe}
 use Rattle.spec_dumps.specs.Holding.{Quietly, IsUsable, Keeps, Rests}
 use Rattle.spec_dumps.proofs.Lists.{got_on}

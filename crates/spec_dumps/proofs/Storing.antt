@@ -14,7 +14,8 @@ use Rattle.muck_log.specs.Store.{Chosen, LogState, LeavesBoth, IsMounted, after_
 use Rattle.muck_log.specs.Append.{LoadsEither}
 use Rattle.spec_events.specs.World.{World}
 use Rattle.spec_events.specs.Histories.{History, after, entered, noted}
-use Rattle.spec_dumps.specs.Fronts.{persisted, is_cut, is_stored, is_failed, stands_at, cut_behind, last_cut, number_of_cut, number_at, place_of_note, IsNotedBy, IsFront, Loads, dumped_on, file_most}
+use Rattle.spec_events.specs.Logged.{is_cut, is_stored, is_failed}
+use Rattle.spec_dumps.specs.Fronts.{persisted, stands_at, cut_behind, last_cut, number_of_cut, number_at, place_of_note, IsNotedBy, IsFront, Loads, dumped_on, file_most}
 use Rattle.spec_dumps.specs.Survival.{HasCause, IsSafe, StandsWhole}
 use Rattle.spec_dumps.specs.Holding.{IsAt, IsCounted, Keeps, Rests}
 use Rattle.spec_dumps.proofs.Lists.{got_on, got_last, length_last}

@@ -6,7 +6,8 @@ use Rattle.muck_model.specs.declared.note.Note.{Note}
 use Rattle.muck_log.specs.Store.{LogState, IsMounted}
 use Rattle.spec_events.specs.World.{World}
 use Rattle.spec_events.specs.Histories.{History, Grew}
-use Rattle.spec_dumps.specs.Fronts.{is_dump, IsFront, file_most}
+use Rattle.spec_events.specs.Logged.{is_dump}
+use Rattle.spec_dumps.specs.Fronts.{IsFront, file_most}
 use Rattle.spec_dumps.specs.Survival.{IsSafe}
 
 -- k is the history h and then entries that are none of a dump, without a note

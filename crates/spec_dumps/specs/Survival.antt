@@ -7,7 +7,8 @@ use Rattle.muck_model.specs.declared.note.Note.{Note}
 use Rattle.muck_log.specs.Store.{Chosen, stored}
 use Rattle.spec_events.specs.World.{World}
 use Rattle.spec_events.specs.Histories.{after}
-use Rattle.spec_dumps.specs.Fronts.{is_dump, is_stored, is_failed, stands_at, place_of_note, IsFront, Loads, Overflows, dumped_on, persisted}
+use Rattle.spec_events.specs.Logged.{is_dump, is_stored, is_failed}
+use Rattle.spec_dumps.specs.Fronts.{stands_at, place_of_note, IsFront, Loads, Overflows, dumped_on, persisted}
 
 -- Until when the stretch lasts that the n-th note begins: to the next note, or to now.
 abbrev pub until : (Note → ℕ) → List Note → ℕ → ℕ → ℕ
