@@ -7,7 +7,7 @@ use Rattle.spec_events.specs.World.{World, starting}
 use Rattle.spec_events.specs.Histories.{History, after, now, AllLawful}
 use Rattle.muck_script.specs.declared.act.Act.{Act}
 use Rattle.muck_script.specs.Story.{Dumped, stored, failed, next_outcome, dump_entries, outcomes_of, told, text_of, lines_story, story, transcript}
-use Rattle.muckd.specs.Drill.{round, rounds, summary, drill_script, drill_text, IsDrilled, HasDrilled}
+use Rattle.muckd.specs.Drill.{round, rounds, summary, objects_in, drill_script, drill_text, IsDrilled, HasDrilled}
 use Rattle.muckd.specs.inner.Drills.{fresh, IsPlayedAs, IsDrilledAs}
 use Rattle.muckd.specs.inner.Plays.{Plays}
 use Rattle.muckd.specs.declared.why.Why.TheVariants.{Fine, WriteFault}
@@ -79,14 +79,14 @@ module _ (acts : List Act) (h k : History) (bytes : List ℕ) (is : h ≡ fresh)
   }
 
 -- the summary of what was played
-pub drilled_as : (n size : ℕ) (h : History) (bytes text : List ℕ) → IsPlayedAs (drill_script n) h bytes → size ≡ length (now h).live.objects → text ≡ summary n size bytes → IsDrilledAs n h text
+pub drilled_as : (n size : ℕ) (h : History) (bytes text : List ℕ) → IsPlayedAs (drill_script n) h bytes → size ≡ objects_in (now h) → text ≡ summary n size bytes → IsDrilledAs n h text
 unfolding now
 drilled_as n size h bytes text p counts is = record {
   start = p.start;
   story = p.story;
   text =
-      is ∙ ap (λ x. summary n x bytes) (counts ∙ ap (λ (w : World). length (after w h.entries).live.objects) p.start)
-      ∙ ap (λ x. summary n (length (after starting h.entries).live.objects) x) p.text;
+      is ∙ ap (λ x. summary n x bytes) (counts ∙ ap (λ (w : World). objects_in (after w h.entries)) p.start)
+      ∙ ap (λ x. summary n (objects_in (after starting h.entries)) x) p.text;
 }
 
 -- Its tale, and what was written.

@@ -1,10 +1,11 @@
 -- A drill: a fixed script on the starting world, and what is written of it.
-use Rattle.std.specs.Prelude.{◌≡◌, ℕ, zero, suc, List, [], ◌∷◌, ◌++◌, length, codes, Option}
+use Rattle.std.specs.Prelude.{◌≡◌, ℕ, zero, suc, not, List, [], ◌∷◌, ◌++◌, length, codes, Option}
 use Rattle.std.specs.Fmt.{decimal}
-use Rattle.std.specs.List.{filter}
+use Rattle.std.specs.List.{filter, count_by}
 use Rattle.muck_io.specs.Sink.{Appends, AppendsFront}
 use Rattle.muck_io.specs.Faults.{Rose}
 use Rattle.muck_model.specs.declared.event.Entry.{Entry}
+use Rattle.spec_live.specs.Objects.{is_garbage}
 use Rattle.spec_events.specs.World.{World, starting}
 use Rattle.spec_events.specs.Histories.{after, AllLawful}
 use Rattle.muck_script.specs.declared.act.Act.{Act}
@@ -44,9 +45,13 @@ pub record IsDrilled (n : ℕ) (tale : List Entry) : Type 0 where
   pub lawful : AllLawful starting tale
   pub story : tale ≡ lines_story (drill_script n) (outcomes_of tale) starting
 
+-- how many objects there are, without garbage
+abbrev pub objects_in : World → ℕ
+objects_in w = count_by (λ e. not (is_garbage e.object.kind)) w.live.objects
+
 -- what is written of it
 abbrev pub drill_text : ℕ → List Entry → List ℕ
-drill_text n tale = summary n (length (after starting tale).live.objects) (transcript (drill_script n) (outcomes_of tale) starting)
+drill_text n tale = summary n (objects_in (after starting tale)) (transcript (drill_script n) (outcomes_of tale) starting)
 
 -- What a drill comes to, by the answer, with the count of faults of the sink: its summary was written, or a front of it, or nothing.
 abbrev pub HasDrilled : {K : Type 0} → (K → Option (List ℕ)) → (K → ℕ) → ℕ → Why → K → K → List Entry → Type 0

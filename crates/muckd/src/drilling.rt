@@ -132,7 +132,7 @@ fn count_lines(text: &[u8]) -> usize
 
 // What is written of a drill.
 #[tactic(auto, unfolding(crate::specs::Drill::summary))]
-fn summary(alloc: Global, count: u16, objects: u32, text: &[u8]) -> Result<String, AllocError>
+fn summary(alloc: Global, count: u16, objects: usize, text: &[u8]) -> Result<String, AllocError>
     ensures { IfOk result (λ t. string_bytes t ≡ summary count objects text.now) }
 {
     let lines = count_lines(text);
@@ -176,7 +176,7 @@ fn drilled(alloc: Global, count: u16, world: &mut World) -> Result<String, NoMem
     ensures { IfOk result (λ text. IsDrilledAs count world.new (string_bytes text)) }
 {
     let transcript = play_drill(alloc, count, world)?;
-    let text = summary(alloc, count, world.size(), transcript.bytes())?;
+    let text = summary(alloc, count, world.objects(), transcript.bytes())?;
     Ok(text)
 }
 

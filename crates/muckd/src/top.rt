@@ -285,7 +285,7 @@ fn run<S: Source, K: Sink, D: Disk>(
 fn boot(alloc: Global, kept: &Kept, began: u64) -> Result<World, NoMemory>
     requires { IsBootable kept.now }
     ensures storable { All IsStored kept.now.objects }
-    ensures world { IfOk result (λ w. w ≡ record { start = booted_at began kept.now; entries = []; notes = [] }) }
+    ensures world { IfOk result (λ w. w ≡ record { start = booted_at began kept.now; entries = []; notes = []; counted = None }) }
 {
     let db = Db::load(alloc, kept.objects())?;
     let tune = kept.tune();

@@ -1,16 +1,16 @@
 -- A drill that was played.
-use Rattle.std.specs.Prelude.{◌≡◌, ℕ, false, List, [], length}
+use Rattle.std.specs.Prelude.{◌≡◌, ℕ, false, List, [], length, None}
 use Rattle.spec_events.specs.World.{starting}
 use Rattle.spec_events.specs.Histories.{History, now, after}
 use Rattle.muck_script.specs.declared.act.Act.{Act}
 use Rattle.muck_script.specs.Story.{outcomes_of, lines_story, text_of, transcript}
-use Rattle.muckd.specs.Drill.{summary, drill_script, drill_text}
+use Rattle.muckd.specs.Drill.{drill_script, drill_text}
 use Rattle.muckd.specs.declared.why.Why.{Why}
 use Rattle.muckd.specs.declared.why.Why.TheVariants.{Fine, NoMemory, WriteFault}
 
 -- the starting world, in which nothing has happened
 abbrev pub fresh : History
-fresh = record { start = starting; entries = []; notes = [] }
+fresh = record { start = starting; entries = []; notes = []; counted = None }
 
 -- these acts were played into the starting world, and this text was written of it
 pub record IsPlayedAs (acts : List Act) (h : History) (text : List ℕ) : Type 0 where

@@ -15,7 +15,7 @@ use Rattle.spec_events.specs.World.{World, booted}
 use Rattle.muck_model.specs.declared.event.Event.TheVariants.{Died}
 use Rattle.spec_events.specs.Histories.{History, Longer, noted, by_porter, AllLawful}
 use Rattle.muck_script.specs.declared.act.Act.{Act}
-use Rattle.muckd.specs.Outcome.{HasRun, IsFirstOutside}
+use Rattle.muckd.specs.Outcome.{HasRun, IsFirstOutside, IsTooLarge}
 use Rattle.muckd.specs.inner.Dumps.{IsFull, ComesOut}
 use Rattle.muckd.specs.inner.Plays.{Plays, Breaks}
 use Rattle.muck_script.specs.Story.{failed, dump_entries, dumping}
@@ -98,7 +98,7 @@ pub record HasPlayed {K D : Type 0} (written : K → Option (List ℕ)) (breaks 
   pub noted : IsNotedAt moment first second notes
   pub safe : tells ≡ true → IsSafe moment images first' second' (booted_from log.chosen.held.world) log.chosen.held.number tale notes
   pub whole : tells ≡ true → why ≡ Fine → StandsWhole moment images first' second' (booted_from log.chosen.held.world) tale
-  pub full : (end more : ℕ) → tells ≡ true → why ≡ StoreFull end more → IsFull log.chosen.held.number (record { start = booted_from log.chosen.held.world; entries = tale; notes = notes }) end more
+  pub full : (end more : ℕ) → tells ≡ true → why ≡ StoreFull end more → IsTooLarge (booted_from log.chosen.held.world) log.chosen.held.number tale notes end more
 
 -- memory was wanted before it began
 pub record NeverPlayed {K D : Type 0} (why : Why) (k l : K) (first second first' second' : D) (tale : List Entry) : Type 0 where
@@ -120,7 +120,7 @@ MayEnd tells why = ⊥
 
 -- before anything was noted, and with the note of the mounting
 abbrev pub unbegun_at : ℕ → LogState → History
-unbegun_at began log = record { start = booted_at began log.chosen.held.world; entries = []; notes = [] }
+unbegun_at began log = record { start = booted_at began log.chosen.held.world; entries = []; notes = []; counted = None }
 
 abbrev pub begun_at : ℕ → LogState → Note → History
 begun_at began log note = noted (unbegun_at began log) note
