@@ -292,8 +292,25 @@ fn boot(alloc: Global, kept: &Kept, began: u64) -> Result<World, NoMemory>
     World::boot(alloc, Persisted { db, tune }, began, began)
 }
 
-// The world of a run that is to begin, and room for a whole queue.
+// The world of a log that was mounted, which is to begin at this second, with the note of the mounting.
 #[tactic(auto, using(crate::proofs::Started::properties))]
+fn awake<D: Disk>(
+    alloc: Global,
+    log: &Log,
+    first: &D,
+    second: &D,
+    began: u64,
+) -> Result<World, NoMemory>
+    requires bootable { IsBootable log.now.chosen.held.world }
+    ensures properties { OnOk result (All (λ s. AreProperties s.props) log.now.chosen.held.world.objects) }
+    ensures world { IfOk result (λ w. w ≡ begun_at began log.now (note_of D.moment D.faults first.now second.now (unbegun_at began log.now))) }
+{
+    let mut world = boot(alloc, log.kept(), began)?;
+    world.note(first, second);
+    Ok(world)
+}
+
+// The world of a run that is to begin, and room for a whole queue.
 fn begin<D: Disk>(
     alloc: Global,
     log: &Log,
@@ -306,8 +323,7 @@ fn begin<D: Disk>(
     ensures world { IfOk result (λ made. made.0 ≡ begun_at 0 log.now (note_of D.moment D.faults first.now second.now (unbegun_at 0 log.now))) }
 {
     let buf = buffer(alloc)?;
-    let mut world = boot(alloc, log.kept(), 0)?;
-    world.note(first, second);
+    let world = awake(alloc, log, first, second, 0)?;
     Ok((world, buf))
 }
 
