@@ -156,19 +156,13 @@ module _ (party : ℕ) (me : Chair) where
       left = left;
       lists = same_later me.0 now_me.0 later_me.0 w.lists (waited_lists now_me.0 later_me.0 waited);
       seen = seen_later me.0.seen now_me.0.seen later_me.0.seen w.seen waited.0;
-      formed = subst (λ (ls : List Logged). is_formed ls) (sym waited.1) formed_now;
+      formed = subst (λ (ls : List Logged). IsWellFormed party (events_of ls)) (sym waited.1) (well_formed party (events_of now_me.0.own) (stage_for task) w.stage);
       notes = subst NoNotes (sym waited.1) w.notes;
       counts = subst NoCounts (sym waited.1) w.counts;
       fine = λ e. cc;
       dead = λ e. cc;
       spent = λ e. many;
     }
-      where
-        abbrev is_formed : List Logged → Type 0
-        is_formed ls = IsWellFormed party (events_of ls)
-
-        formed_now : is_formed now_me.0.own
-        formed_now = well_formed party (events_of now_me.0.own) (stage_for task) w.stage
 
 -- a claim is the last thing that the seat has seen
 pub held_claim : (party : ℕ) (pid : ℤ) (v v' : Sight) (event : Event) → event ≡ Claim pid → Turned v v' (bare_item (by party event)) → IsHeld party (Slice pid) v'
