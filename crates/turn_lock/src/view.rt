@@ -32,6 +32,16 @@ pub enum Place {
     Gone,
 }
 
+/// What is kept of a seat that was taken in. No value of it is ever made.
+pub struct Taken<E> {
+    /// Whose seat it was.
+    pub party: u8,
+    /// Its party's own entries.
+    pub own: LinkedList<E>,
+    /// The history, as far as it had seen it.
+    pub seen: LinkedList<E>,
+}
+
 /// What a seat knows. No value of it is ever made.
 pub struct View<E, B> {
     /// Whose seat it is.
@@ -46,8 +56,8 @@ pub struct View<E, B> {
     pub own: LinkedList<E>,
     /// The parties that were given seats. Only the first seat has any.
     pub given: LinkedList<u8>,
-    /// The parties whose seats were taken in, with their entries. Only the first seat has any.
-    pub joined: LinkedList<(u8, LinkedList<E>)>,
+    /// The seats that were taken in. Only the first seat has any.
+    pub joined: LinkedList<Taken<E>>,
 }
 
 /// What holds of the lock between any two steps: the words are the next ticket and the ticket that is served, and the slot has the
@@ -61,7 +71,7 @@ impl<T: Story> TableRule<Option<T>, View<T::Entry, T::Start>, First<T>> for Law<
     ghost use Rattle.turn_lock.specs.inner.Turns.{Kept};
     ghost use Rattle.turn_lock.specs.declared.view.Place.TheVariants.{Idle};
 
-    ghost holds = { λ _. Kept T.history T.party T.start };
+    ghost holds = { λ _. Kept T.history T.party T.start T.allowed };
 
     ghost first = { λ k. record { party = 0; root = T.start k.shared.key ∷ []; place = Idle; seen = []; own = []; given = []; joined = [] } };
 }
@@ -85,7 +95,7 @@ pub(crate) struct Look<T> {
 impl<T: Story> Play<Option<T>, View<T::Entry, T::Start>> for Look<T> {
     ghost use Rattle.turn_lock.specs.inner.Turns.{looked};
 
-    ghost then = { looked T.history T.party T.start };
+    ghost then = { looked T.history T.party T.start T.allowed };
 }
 
 // The turn is passed on.
@@ -96,7 +106,7 @@ pub(crate) struct Pass<T> {
 impl<T: Story> Play<Option<T>, View<T::Entry, T::Start>> for Pass<T> {
     ghost use Rattle.turn_lock.specs.inner.Turns.{passed};
 
-    ghost then = { passed T.history T.party T.start };
+    ghost then = { passed T.history T.party T.start T.allowed };
 }
 
 // Names a party, for contracts alone.
