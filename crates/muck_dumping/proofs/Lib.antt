@@ -6,3 +6,4 @@ pub mod Mounting
 pub mod Pending
 pub mod Writing
 pub mod Ending
+pub mod AtOnce
