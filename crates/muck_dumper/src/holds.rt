@@ -221,7 +221,7 @@ pub(crate) fn makes<W: Wait, D: Disk, R: Rest>(
             rt, turn, seat, store, first, second, pending.number, true, rest,
         ),
         Err(fault) => match fault {
-            LogFault::NoMemory | LogFault::Unfit => Err(dies(rt, turn, seat, first, second, rest)),
+            LogFault::NoMemory => Err(dies(rt, turn, seat, first, second, rest)),
             _ => {
                 ends(
                     rt, turn, seat, store, first, second, pending.number, false, rest,

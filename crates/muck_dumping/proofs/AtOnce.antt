@@ -5,7 +5,7 @@ use Rattle.muck_model.specs.declared.event.Event.TheVariants.{Cut, Stored, DumpF
 use Rattle.muck_model.specs.declared.note.Note.{Note}
 use Rattle.muck_log.specs.Store.{LogState, IsMounted}
 use Rattle.muck_log.specs.declared.fault.LogFault.{LogFault}
-use Rattle.muck_log.specs.declared.fault.LogFault.TheVariants.{NoMemory, DiskFault, Damaged, StoreFull, Unfit, Stale}
+use Rattle.muck_log.specs.declared.fault.LogFault.TheVariants.{NoMemory, DiskFault, Damaged, StoreFull, Stale}
 use Rattle.spec_events.specs.World.{World}
 use Rattle.spec_events.specs.Steps.{makes_dumps, may_cut, is_dump_due}
 use Rattle.spec_events.specs.Histories.{History, entered, noted}
@@ -52,13 +52,12 @@ pending_unmounted seen moment images faults log f s mounted h p none v =
     (unwritten seen moment images faults mounted h p f s (subst (λ (l : Option LogState). IsPending seen moment images faults l f s mounted h p) none v))
 
 -- a fault that isn't want of memory is told as a failure, under which the log answered
-pub fault_ends : (fault : LogFault) → (fault ≡ NoMemory → ⊥) → (fault ≡ Unfit → ⊥) → ((on : Bool) (at : ℕ) → fault ≡ Damaged on at → ⊥) → EndsAs (Err fault) false
-fault_ends NoMemory wanted unfit damaged = absurd (wanted refl)
-fault_ends Unfit wanted unfit damaged = absurd (unfit refl)
-fault_ends (Damaged on at) wanted unfit damaged = absurd (damaged on at refl)
-fault_ends DiskFault wanted unfit damaged = tt
-fault_ends Stale wanted unfit damaged = tt
-fault_ends (StoreFull end more) wanted unfit damaged = tt
+pub fault_ends : (fault : LogFault) → (fault ≡ NoMemory → ⊥) → ((on : Bool) (at : ℕ) → fault ≡ Damaged on at → ⊥) → EndsAs (Err fault) false
+fault_ends NoMemory wanted damaged = absurd (wanted refl)
+fault_ends (Damaged on at) wanted damaged = absurd (damaged on at refl)
+fault_ends DiskFault wanted damaged = tt
+fault_ends Stale wanted damaged = tt
+fault_ends (StoreFull end more) wanted damaged = tt
 
 -- no log answers that it is damaged
 pub never_damaged : {D : Type 0} (seen : D → List ℕ) (moment : D → ℕ) (images : D → ℕ → List ℕ → Type 0) (faults : D → ℕ) (log : Option LogState) (f s : D) (mounted : ℕ) (h : History) (fault : LogFault) →

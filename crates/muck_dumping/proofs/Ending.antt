@@ -6,7 +6,7 @@ use Rattle.muck_model.specs.declared.note.Note.{Note}
 use Rattle.muck_log.specs.Store.{Chosen, LogState, target}
 use Rattle.muck_log.specs.Append.{more_of}
 use Rattle.muck_log.specs.declared.fault.LogFault.{LogFault}
-use Rattle.muck_log.specs.declared.fault.LogFault.TheVariants.{NoMemory, DiskFault, Damaged, StoreFull, Unfit, Stale}
+use Rattle.muck_log.specs.declared.fault.LogFault.TheVariants.{NoMemory, DiskFault, Damaged, StoreFull, Stale}
 use Rattle.spec_events.specs.World.{World}
 use Rattle.spec_events.specs.Steps.{effect}
 use Rattle.spec_events.specs.Histories.{History, now, after, entered, noted}
@@ -50,7 +50,6 @@ module _ {D : Type 0} (seen : D → List ℕ) (moment : D → ℕ) (images : D �
       (stored_rests seen moment images faults f s mounted h v l.0 l.2 l.3 l.4 note (refl, refl) (omega arith, omega arith) refl party n)
   ends_so party n (Ok x) false v l e = absurd e
   ends_so party n (Err NoMemory) done v l e = absurd e
-  ends_so party n (Err Unfit) done v l e = absurd e
   ends_so party n (Err (Damaged on place)) done v l e = absurd e
   ends_so party n (Err DiskFault) true v l e = absurd e
   ends_so party n (Err DiskFault) false v l e = fails_so party n l.0 v l.1
@@ -124,7 +123,6 @@ module _ {D : Type 0} (seen : D → List ℕ) (moment : D → ℕ) (images : D �
 
         caused : (x : LogFault) → (x ≡ Stale → ⊥) → EndsAs (Err x) false → IsDumpFault (Some x)
         caused NoMemory fresh e = absurd e
-        caused Unfit fresh e = absurd e
         caused (Damaged on place) fresh e = absurd e
         caused DiskFault fresh e = tt
         caused Stale fresh e = absurd (fresh refl)

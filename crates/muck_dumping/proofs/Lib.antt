@@ -2,6 +2,7 @@ pub mod Steps
 pub mod Kept
 pub mod Appending
 pub mod Records
+pub mod Fitting
 pub mod Mounting
 pub mod Pending
 pub mod Writing

@@ -10,7 +10,7 @@ use Rattle.muck_log.specs.World.{World as Kept, laid, tune_fits}
 use Rattle.muck_log.specs.Store.{Chosen, LogState, LeavesBoth, target, after_batch}
 use Rattle.muck_log.specs.Append.{LoadsEither, base_of, more_of, payload_of}
 use Rattle.muck_log.specs.declared.fault.LogFault.{LogFault}
-use Rattle.muck_log.specs.declared.fault.LogFault.TheVariants.{NoMemory, DiskFault, Damaged, StoreFull, Unfit, Stale}
+use Rattle.muck_log.specs.declared.fault.LogFault.TheVariants.{NoMemory, DiskFault, Damaged, StoreFull, Stale}
 use Rattle.muck_store.specs.Forms.{persist, world_batch}
 use Rattle.spec_events.specs.World.{World}
 use Rattle.spec_events.specs.Histories.{History}
@@ -58,7 +58,6 @@ module _ {D : Type 0} (seen : D → List ℕ) (moment : D → ℕ) (images : D �
           dumped_it seen moment images faults f s mounted h log v.rests v.batch.consistent (v.number log refl) next.chosen (b.answer.2.chosen ∙ ap (after_batch log.chosen payload) made ∙ dumped_is log world),
         )
     left_as (Err NoMemory) is b = b.answer
-    left_as (Err Unfit) is b = b.answer
     left_as (Err DiskFault) is b = (b.answer, rose_since (cause is))
     left_as (Err (StoreFull end more)) is b = (
       b.answer.0,
@@ -87,7 +86,6 @@ module _ {D : Type 0} (seen : D → List ℕ) (moment : D → ℕ) (images : D �
     at : (x : Result (Unit {0}) LogFault) → IsLeft seen moment images faults log f s mounted h x → IsLeft seen moment images faults log f s mounted k x
     at (Ok x) l = (l.0, l.1, l.2, l.3, dumped_quiet mounted h k q v.keeps.safe.survives.placed l.0.chosen l.4)
     at (Err NoMemory) l = l
-    at (Err Unfit) l = l
     at (Err DiskFault) l = (l.0, fails_quiet mounted h k q v.keeps.safe.survives.placed (faults f) (faults s) l.1)
     at (Err Stale) l = (l.0, fails_quiet mounted h k q v.keeps.safe.survives.placed (faults f) (faults s) l.1)
     at (Err (StoreFull end more)) l = (

@@ -84,7 +84,7 @@ pub fn write<D: Disk>(
     ensures second_later { D.faults second.old ≤ D.faults second.new }
     ensures cause { IsErrOf result LogFault.DiskFault → Rose (D.faults first.old) (D.faults first.new) ⊎ Rose (D.faults second.old) (D.faults second.new) }
 {
-    store.append(first, second, pending.size, &pending.batch)
+    store.append(first, second, pending)
 }
 
 /// The dump of this number ends in the world: a note, and that it is stored, or that it failed. Who asked for it is told. After `NoMemory` the world

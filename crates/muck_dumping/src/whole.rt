@@ -63,8 +63,7 @@ fn dump_mounted<D: Disk>(
             Ok(None)
         }
         Err(fault) => match fault {
-            // (no world has fewer objects than are kept, and a batch of one is never unfit)
-            LogFault::NoMemory | LogFault::Unfit => {
+            LogFault::NoMemory => {
                 world.died(party);
                 Err(NoMemory)
             }
