@@ -1,12 +1,5 @@
-use Rattle.muck_dumping.proofs.Records.{batch_few, batch_lines}
 use Rattle.muck_dumping.proofs.Writing.{written_by, stale_unmounted}
 use Rattle.muck_dumping.proofs.parts.write.Goals as goal
-
-pub append-requires-clause-few : goal.append-requires-clause-few
-append-requires-clause-few g c = let b = c.requires.batch in batch_few b.0 b.2.records b.2.consistent
-
-pub append-requires-clause-lines : goal.append-requires-clause-lines
-append-requires-clause-lines g c = let b = c.requires.batch in batch_lines b.0 b.2.records b.2.limits
 
 pub returns-clause-written : goal.returns-clause-written
 returns-clause-written g c = λ mounted h tells v.
