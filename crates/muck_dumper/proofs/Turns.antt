@@ -72,8 +72,7 @@ module _ (me : Chair) (v : Sight) (h k : History) (event : Event) (r : Rests 9 m
   step_made me' own all free idle seen' same mine =
       let i = its_item in
       let l = i.it in
-      let mine_so : (e : Logged) → logged k ≡ v.seen ++ e ∷ [] → e.entry.party ≡ v.party → me'.0.own ≡ v.own ++ e ∷ [] = λ e whole whose. mine_of e whole whose in
-      let both = rests_turned 9 me v me' h k l r waited seen own all i.more (ap (λ (e : Entry). e.party) i.entry) i.orderly free idle seen' same mine_so in
+      let both = rests_turned 9 me v me' h k l r waited seen own all i.more (ap (λ (e : Entry). e.party) i.entry) i.orderly free idle seen' same mine in
       let known : history_seen me'.0 ≡ k = given_known me' k both.0.begun (start_given ∙ sym same.1) i.placed seen' in
       let s : Step event me me' = record {
         rests = both.0;
@@ -87,20 +86,6 @@ module _ (me : Chair) (v : Sight) (h k : History) (event : Event) (r : Rests 9 m
         last = (me.0.own, l, both.1.own, i.entry);
       } in
       (s, refl, known)
-    where
-      mine_of : (e : Logged) → logged k ≡ v.seen ++ e ∷ [] → e.entry.party ≡ v.party → me'.0.own ≡ v.own ++ e ∷ []
-      mine_of e whole whose = mine e whole whose (orderly_as e whole)
-        where
-          last_of : (a : List Logged) (x y : Logged) → a ++ x ∷ [] ≡ a ++ y ∷ [] → x ≡ y
-          last_of [] x y same = cc
-          last_of (z ∷ zs) x y same = last_of zs x y (ap tail same)
-            where
-              tail : List Logged → List Logged
-              tail [] = []
-              tail (q ∷ qs) = qs
-
-          orderly_as : (e : Logged) → logged k ≡ v.seen ++ e ∷ [] → IsOrderly e
-          orderly_as e whole = subst IsOrderly (last_of v.seen its_item.it e (sym (given_seen v h k its_item.it its_item.more seen) ∙ whole)) its_item.orderly
 
 -- From stage to stage.
 
