@@ -7,3 +7,4 @@ pub mod Mounting
 pub mod Pending
 pub mod Writing
 pub mod Ending
+pub mod AtOnce
