@@ -5,10 +5,6 @@ pub mod Acts
 pub mod Towards
 pub mod Whole
 pub mod Answered
-pub mod Appending
-pub mod Records
-pub mod Dumpings
-pub mod Mounted
 pub mod Dumped
 pub mod Ending
 pub mod Lining
@@ -18,3 +14,4 @@ pub mod Played
 pub mod Noted
 pub mod Untouched
 pub mod Called
+pub mod Drilled

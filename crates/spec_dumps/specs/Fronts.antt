@@ -1,5 +1,5 @@
 -- Fronts of a history, and the store that is the world after one.
-use Rattle.std.specs.Prelude.{◌≡◌, ℕ, zero, suc, ◌+◌, ◌<◌, ◌≤◌, ◌^◌, Bool, true, false, nat_lt, if◌then◌else◌, List, [], ◌∷◌, length, take, slice_get, Option, Some, None, Result, Ok}
+use Rattle.std.specs.Prelude.{◌≡◌, ℕ, zero, suc, ◌+◌, ◌<◌, ◌≤◌, ◌^◌, Bool, true, false, if◌then◌else◌, List, [], ◌∷◌, length, take, slice_get, Option, Some, Result, Ok}
 use Rattle.std.specs.Option.{option_map, option_map_or}
 use Rattle.muck_model.specs.declared.event.Entry.{Entry}
 use Rattle.muck_model.specs.declared.event.Event.{Event}
@@ -30,6 +30,10 @@ cut_behind (suc n) cut = suc (suc n)
 unfoldable pub last_cut : List Entry → ℕ
 last_cut [] = 0
 last_cut (e ∷ h) = cut_behind (last_cut h) (is_cut e.event)
+
+-- the world as it was behind the last Cut, or at the start where there is none
+abbrev pub at_cut : World → List Entry → World
+at_cut w h = after w (take (last_cut h) h)
 
 abbrev pub number_of_cut : Event → ℕ
 number_of_cut (Cut k) = k

@@ -1,0 +1,10 @@
+pub mod Steps
+pub mod Kept
+pub mod Appending
+pub mod Records
+pub mod Fitting
+pub mod Mounting
+pub mod Waiting
+pub mod Writing
+pub mod Ending
+pub mod AtOnce
