@@ -21,7 +21,7 @@ use Rattle.muck_machine.specs.Seats.{Sight, Chair, AllOrderly, Rests, Left, Wait
 use Rattle.muck_machine.proofs.Seating.{left_rests}
 use Rattle.muck_dumping.specs.inner.Dumps.{by}
 use Rattle.muck_dumping.specs.inner.Between.{IsReady, IsPending, IsWritten}
-use Rattle.muck_dumping.proofs.Waiting.{ready_quiet, pending_quiet}
+use Rattle.muck_dumping.proofs.Beginning.{ready_quiet, pending_quiet}
 use Rattle.muck_dumping.proofs.Steps.{cut_runs}
 use Rattle.muck_dumper.specs.declared.dumper.Why.{Why}
 use Rattle.muck_dumper.specs.declared.dumper.Why.TheVariants.{Fine, NoMemory, Spent}

@@ -21,7 +21,7 @@ use Rattle.spec_dumps.proofs.Failing.{failed_rests}
 use Rattle.muck_dumping.specs.inner.Dumps.{note_of, by, ending_event, Dumps, IsFull, IsDumpFault}
 use Rattle.muck_dumping.specs.inner.Between.{IsWritten, IsLeft, IsFullAtCut, EndsAs}
 use Rattle.muck_dumping.proofs.Kept.{SameKept, same_stored, same_failed, same_as, persisted_same, payload_same}
-use Rattle.muck_dumping.proofs.Waiting.{died_noted}
+use Rattle.muck_dumping.proofs.Beginning.{died_noted}
 use Rattle.muck_dumping.proofs.Steps.{at_cut_now, now_is}
 
 module _ {D : Type 0} (seen : D → List ℕ) (moment : D → ℕ) (images : D → ℕ → List ℕ → Type 0) (faults : D → ℕ) (log : Option LogState) (f s : D) (mounted : ℕ) (h : History) where

@@ -3,7 +3,7 @@ use Rattle.muck_dumping.specs.inner.Dumps.{Dies}
 use Rattle.muck_dumping.proofs.AtOnce.{of_some}
 use Rattle.muck_dumping.proofs.Ending.{dumps_dead}
 use Rattle.muck_dumping.proofs.Mounting.{is_disk}
-use Rattle.muck_dumping.proofs.Waiting.{died_here}
+use Rattle.muck_dumping.proofs.Beginning.{died_here}
 use Rattle.muck_dumping.proofs.whole.dump.Goals as goal
 
 pub dump_mounted-requires-clause-mounted : goal.dump_mounted-requires-clause-mounted
