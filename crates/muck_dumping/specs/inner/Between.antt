@@ -32,13 +32,13 @@ abbrev pub base_in : Option LogState → List Stored
 base_in log = option_map_or base_of log []
 
 -- the batch is that of a world of these objects and parameters, which can be stored
-pub record IsBatchOf (base : List Stored) (objects : List Object) (parameters : Tune) (p : Pending) : Type 0 where
+pub record IsBatchOf (base : List Stored) (objects : List Object) (tune : Tune) (p : Pending) : Type 0 where
   pub records : LeavesOut base (persist objects) p.batch.records
-  pub tune : p.batch.tune ≡ parameters
+  pub tuning : p.batch.tune ≡ tune
   pub size : p.size ≡ length objects
   pub consistent : IsConsistent objects
   pub limits : IsWithinLimits objects
-  pub tuned : IsInRange parameters
+  pub tuned : IsInRange tune
 
 -- the same of a world
 abbrev pub IsBatchOfWorld : List Stored → World → Pending → Type 0
