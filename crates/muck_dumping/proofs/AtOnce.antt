@@ -1,6 +1,6 @@
 -- A dump that is made at once.
 use Rattle.std.proofs.Common.{◌≡◌, ◌⊎◌, ℕ, Bool, true, false, ◌&&◌, List, refl, sym, ap, ◌∙◌, subst, Option, Some, None, Result, Ok, Err}
-use Rattle.std.specs.Prelude.{is_none, ◌||◌, ◌==◌}
+use Rattle.std.specs.Prelude.{is_none, ◌||◌, ◌==◌, IsSome}
 use Rattle.muck_model.specs.declared.event.Event.TheVariants.{Cut, Stored, DumpFailed, Died}
 use Rattle.muck_model.specs.declared.note.Note.{Note}
 use Rattle.muck_log.specs.Store.{LogState, IsMounted}
@@ -22,11 +22,11 @@ first_true false b e = cc
 
 -- who may begin a dump makes dumps
 pub may_makes : (w : World) (party : ℕ) → may_cut w party ≡ true → makes_dumps party ≡ true
-may_makes w party may = first_true (makes_dumps party) (is_none w.dumps.running && (party == 0 || is_dump_due w)) may
+may_makes w party may = first_true (makes_dumps party) (is_none w.dumps.running) (first_true (makes_dumps party && is_none w.dumps.running) (party == 0 || is_dump_due w) may)
 
 -- What happened.
 
-module _ {E : Type 0} (party : ℕ) (h k m : History) (a b : Note) (n : ℕ) (cuts : k ≡ entered (noted h a) (by party (Cut n))) where
+module _ (E : Type 0) (party : ℕ) (h k m : History) (a b : Note) (n : ℕ) (cuts : k ≡ entered (noted h a) (by party (Cut n))) where
   pub dumped_stored : m ≡ entered (noted k b) (by party (Stored n)) → HasDumped party {E = E} h m (Ok None)
   dumped_stored ends = (n, a, b, ends ∙ ap (λ (x : History). entered (noted x b) (by party (Stored n))) cuts)
 
@@ -69,8 +69,6 @@ pub disk_unmounted : {D E : Type 0} (seen : D → List ℕ) (moment : D → ℕ)
     Dumps {E = E} seen moment images faults log f s mounted m (Ok (Some DiskFault)) → Dumps {E = E} seen moment images faults log f s mounted m (Ok (Some fault))
 disk_unmounted {E = E} seen moment images faults log f s mounted m fault is d = subst (λ (x : LogFault). Dumps {E = E} seen moment images faults log f s mounted m (Ok (Some x))) (sym is) d
 
-none_in : {X : Type 0} (o : Option X) (x : X) → o ≡ None → o ≡ Some x → ⊥
-none_in o x e g = cc
-
-pub of_some : {P : Type 0} (x y : LogFault) (o : Option LogFault) → o ≡ Some x → o ≡ Some y → (x ≡ y → P) → P
-of_some x y o e g f = f (let it : ◌≡◌ {A = LogFault} x y = cc in it)
+pub some_not_none : (o : Option LogState) → IsSome o → o ≡ None → ⊥
+some_not_none None some e = cc
+some_not_none (Some log) some e = cc

@@ -59,16 +59,17 @@ module _ {D : Type 0} (seen : D → List ℕ) (moment : D → ℕ) (images : D �
         )
     left_as (Err NoMemory) is b = b.answer
     left_as (Err DiskFault) is b = (b.answer, rose_since (cause is))
-    left_as (Err (StoreFull end more)) is b = (
-      b.answer.0,
-      v.rests.keeps.last,
-      log.chosen,
-      v.rests.keeps.end,
-      v.rests.keeps.usable.2,
-      b.answer.1,
-      b.answer.2 ∙ more_is log payload ∙ ap (more_of (log_of log.chosen)) (payload_is log world),
-      subst (λ i. i < end + more) v.rests.keeps.usable.1 b.answer.3,
-    )
+    left_as (Err (StoreFull end more)) is b =
+        let full : IsFullAtCut mounted h end more = (
+          v.rests.keeps.last,
+          log.chosen,
+          v.rests.keeps.end,
+          v.rests.keeps.usable.2,
+          b.answer.1,
+          b.answer.2 ∙ more_is log payload ∙ ap (more_of (log_of log.chosen)) (payload_is log world),
+          subst (λ i. i < end + more) v.rests.keeps.usable.1 b.answer.3,
+        ) in
+        (b.answer.0, full)
     left_as (Err (Damaged on place)) is b = absurd b.answer
     left_as (Err Stale) is b = absurd b.answer
 
@@ -88,16 +89,17 @@ module _ {D : Type 0} (seen : D → List ℕ) (moment : D → ℕ) (images : D �
     at (Err NoMemory) l = l
     at (Err DiskFault) l = (l.0, fails_quiet mounted h k q v.keeps.safe.survives.placed (faults f) (faults s) l.1)
     at (Err Stale) l = (l.0, fails_quiet mounted h k q v.keeps.safe.survives.placed (faults f) (faults s) l.1)
-    at (Err (StoreFull end more)) l = (
-      l.0,
-      l.1.0,
-      l.1.1,
-      ap (λ (ns : List Note). length ns) q.grew.notes ∙ l.1.2,
-      front_quiet mounted h k q v.keeps.safe.survives.placed l.1.0 l.1.1 l.1.3,
-      l.1.4,
-      l.1.5 ∙ ap (λ (w : World). more_of (log_of l.1.1) (dump_payload l.1.1 w)) (sym (same_cut mounted h k q v.keeps.safe.survives.placed)),
-      l.1.6,
-    )
+    at (Err (StoreFull end more)) l =
+        let full : IsFullAtCut mounted k end more = (
+          l.1.0,
+          l.1.1,
+          ap (λ (ns : List Note). length ns) q.grew.notes ∙ l.1.2,
+          front_quiet mounted h k q v.keeps.safe.survives.placed l.1.0 l.1.1 l.1.3,
+          l.1.4,
+          l.1.5 ∙ ap (λ (w : World). more_of (log_of l.1.1) (dump_payload l.1.1 w)) (sym (same_cut mounted h k q v.keeps.safe.survives.placed)),
+          l.1.6,
+        ) in
+        (l.0, full)
     at (Err (Damaged on place)) l = l
 
 -- What the store answers to it, whether a log is mounted or not.
@@ -123,14 +125,14 @@ module _ {D : Type 0} (seen : D → List ℕ) (moment : D → ℕ) (images : D �
   written_by (Some log) v wrote stale none first_later second_later cause =
       let w : World = at_cut h.start h.entries in
       written seen moment images faults mounted h p log f s f' s' v left r
-      (wrote log w.live.objects w.live.board.tune refl v.batch.records v.batch.tune v.batch.size (tune_of w.live.board.tune v.batch.tuned) (two_there w.live.objects v.batch.consistent)) first_later second_later cause
+      (wrote log w.live.objects w.live.board.tune refl v.batch.records v.batch.tuning v.batch.size (tune_of w.live.board.tune v.batch.tuned) (two_there w.live.objects v.batch.consistent)) first_later second_later cause
 
   -- `Stale` says that no log was mounted
   pub stale_unmounted : (o : Option LogState) → IsPending seen moment images faults o f s mounted h p → Wrote o → r ≡ Err Stale → o ≡ None
   stale_unmounted None v wrote is = refl
   stale_unmounted (Some log) v wrote is =
       let w : World = at_cut h.start h.entries in
-      let a = wrote log w.live.objects w.live.board.tune refl v.batch.records v.batch.tune v.batch.size (tune_of w.live.board.tune v.batch.tuned) (two_there w.live.objects v.batch.consistent) in
+      let a = wrote log w.live.objects w.live.board.tune refl v.batch.records v.batch.tuning v.batch.size (tune_of w.live.board.tune v.batch.tuned) (two_there w.live.objects v.batch.consistent) in
       absurd (stale_never r is a.answer)
     where
       stale_never : (x : Result (Unit {0}) LogFault) → x ≡ Err Stale → IsAnswer seen moment images (payload_of log (world_batch (at_cut h.start h.entries).live.objects (at_cut h.start h.entries).live.board.tune)) (persisted (at_cut h.start h.entries)) log left f' s' x → ⊥

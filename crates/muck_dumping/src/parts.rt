@@ -56,7 +56,9 @@ pub fn begin<D: Disk>(
     let number = store.next();
     let size = world.size();
     world.note(first, second);
-    let batch = world.cut(party, number, store.base())?;
+    let Ok(batch) = world.cut(party, number, store.base()) else {
+        return Err(NoMemory);
+    };
     Ok(Pending {
         number,
         size,

@@ -132,7 +132,7 @@ impl Builder {
     }
 
     // Whether a loop is open.
-    #[tactic(auto, using(crate::proofs::Waitings::last_first))]
+    #[tactic(auto, using(crate::proofs::Pendings::last_first))]
     fn in_loop(&self) -> bool
         ensures { result ≡ building.in_loop self.now.pending }
     {
@@ -328,7 +328,7 @@ impl Builder {
     }
 
     /// Why the present word can't end here.
-    #[tactic(auto, using(crate::proofs::Waitings::last_misfit))]
+    #[tactic(auto, using(crate::proofs::Pendings::last_misfit))]
     pub fn open_kind(&self) -> CompileKind
         ensures { result ≡ building.misfit CompileKind.NoWord self.now.pending }
     {

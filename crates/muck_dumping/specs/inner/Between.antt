@@ -34,7 +34,7 @@ base_in log = option_map_or base_of log []
 -- the batch is that of a world of these objects and parameters, which can be stored
 pub record IsBatchOf (base : List Stored) (objects : List Object) (tune : Tune) (p : Pending) : Type 0 where
   pub records : LeavesOut base (persist objects) p.batch.records
-  pub tune : p.batch.tune ≡ tune
+  pub tuning : p.batch.tune ≡ tune
   pub size : p.size ≡ length objects
   pub consistent : IsConsistent objects
   pub limits : IsWithinLimits objects

@@ -1,6 +1,5 @@
 use Rattle.std.proofs.Common.{ap, Err}
 use Rattle.muck_dumping.specs.inner.Dumps.{Dies}
-use Rattle.muck_dumping.proofs.AtOnce.{of_some}
 use Rattle.muck_dumping.proofs.Ending.{dumps_dead}
 use Rattle.muck_dumping.proofs.Mounting.{is_disk}
 use Rattle.muck_dumping.proofs.Beginning.{died_here}
