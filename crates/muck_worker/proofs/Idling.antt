@@ -9,7 +9,7 @@ use Rattle.spec_live.specs.Connections.{Connection}
 use Rattle.muck_queue.specs.declared.process.Process.{Process}
 use Rattle.muck_queue.specs.Queues.{Queue, is_due, earlier, earliest, next_due}
 use Rattle.spec_events.specs.World.{World}
-use Rattle.spec_events.specs.Steps.{is_free, has_line, has_due, may_idle, is_lawful, next_ready, next_process}
+use Rattle.spec_events.specs.Steps.{is_free, has_line, has_due, is_dump_due, may_idle, is_lawful, next_ready, next_process}
 use Rattle.muck_worker.specs.inner.Deeds.{by}
 
 found_none : {X : Type 0} (test : X → Bool) (xs : List X) → find test xs ≡ None → list_any test xs ≡ false
@@ -62,6 +62,6 @@ pub idle_lawful : (w : World) (party : ℕ) → party < 9 → w.dead ≡ false �
 unfolding is_lawful
 idle_lawful w party few alive line due =
     cond-false _ _ _ alive
-    ∙ ap (λ b. cond b (not (has_line w) && not (has_due w)) _) (lt-ltb party 9 few)
+    ∙ ap (λ b. cond b (not (has_line w) && not (has_due w)) (party == 9 && not (is_dump_due w))) (lt-ltb party 9 few)
     ∙ ap (λ b. not b && not (has_due w)) (no_line w alive line)
     ∙ ap (λ b. not b) (no_due w alive due)

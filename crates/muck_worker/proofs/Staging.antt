@@ -1,6 +1,5 @@
 -- What a worker may do.
-use Rattle.std.proofs.Common.{◌≡◌, ℕ, ℤ, ◌<◌, true, cond, refl, sym, ◌∙◌, ap, Some}
-use Rattle.std.specs.Prelude.{int_eq}
+use Rattle.std.proofs.Common.{◌≡◌, ℕ, ℤ, ◌<◌, true, cond, int_eq, refl, sym, ◌∙◌, ap, Option, Some, None}
 use Rattle.std.proofs.lemmas.Cmp.{int_eq_equiv}
 use Rattle.muck_model.specs.declared.event.Event.{Event}
 use Rattle.muck_model.specs.declared.event.Event.TheVariants.{Exec, Claim, Slice as SliceEvent, Lost, Idle, StopSeen, Died}
@@ -18,7 +17,7 @@ module _ (party : ℕ) (first : 0 < party) (last : party < 9) where
   pub did_exec : (d : ℕ) → DidAs party Work Went (Exec d)
   did_exec d = (worker_is party Stage.unbound (Exec d) first last, tt, refl)
 
-  pub did_claim : (pid : ℤ) → DidAs party Work (Claimed pid) (Claim pid)
+  pub did_claim : (pid : ℤ) → DidAs party Work (Claimed (Slice pid)) (Claim pid)
   did_claim pid = (worker_is party Stage.unbound (Claim pid) first last, refl, refl)
 
   pub did_idle : DidAs party Work Idled Idle
@@ -31,8 +30,8 @@ module _ (party : ℕ) (first : 0 < party) (last : party < 9) where
   did_end = (worker_is party Stage.unbound StopSeen first last, refl, refl)
 
   pub did_slice : (pid : ℤ) (s : Sliced) → DidAs party (Slice pid) Went (slice_event pid s)
-  did_slice pid Ran = (worker_is party (Stage.claimed pid) (SliceEvent pid) first last ∙ ap (λ b. cond b (Some Stage.unbound) _) (int_eq_equiv.refl pid), tt, refl)
-  did_slice pid Gone = (worker_is party (Stage.claimed pid) (Lost pid) first last ∙ ap (λ b. cond b (Some Stage.unbound) _) (int_eq_equiv.refl pid), tt, refl)
+  did_slice pid Ran = (worker_is party (Stage.claimed pid) (SliceEvent pid) first last ∙ ap (λ b. cond {A = Option Stage} b (Some Stage.unbound) None) (int_eq_equiv.refl pid), tt, refl)
+  did_slice pid Gone = (worker_is party (Stage.claimed pid) (Lost pid) first last ∙ ap (λ b. cond {A = Option Stage} b (Some Stage.unbound) None) (int_eq_equiv.refl pid), tt, refl)
 
 pub did_die : (party : ℕ) (task : Task) → DidAs party task Failed Died
 did_die party Work = (refl, refl, refl)

@@ -2,7 +2,7 @@
 ghost use Rattle.std.specs.Prelude.{◌≡◌, ◌<◌, ℕ, None, true, false};
 ghost use Rattle.muck_model.specs.declared.event.Event.{Event};
 ghost use Rattle.spec_events.specs.Histories.{now, entered};
-ghost use Rattle.spec_events.specs.Steps.{has_claim, next_ready};
+ghost use Rattle.spec_events.specs.Steps.{has_claim, next_ready, next_process};
 ghost use Rattle.muck_worker.specs.inner.Deeds.{by, DidAs, IsOpen};
 
 use muck_machine::{Sliced, World};
@@ -26,8 +26,8 @@ pub enum Did {
     Went,
     /// There was nothing to do.
     Idled,
-    /// This process was claimed.
-    Claimed(i32),
+    /// A process was claimed, and this is to be done with it.
+    Claimed(Task),
     /// There was nothing to do, and the run is stopping.
     Stops,
     /// It has seen that the run is stopping.
@@ -50,6 +50,21 @@ fn slices(world: &mut World, party: u8, pid: i32) -> Did
     }
 }
 
+// There is nothing to do.
+fn idles(world: &mut World, party: u8) -> Did
+    requires alive { (now world.old).dead ≡ false }
+    requires worker { (0 < party) × (party < 9) }
+    requires no_line { next_ready (now world.old) ≡ None }
+    requires no_process { next_process (now world.old) ≡ None }
+    ensures { (event : Event) × (world.new ≡ entered world.old (by party event)) × DidAs party Task.Work result event }
+{
+    let stops = world.is_stopping();
+    if !world.idle(party) {
+        unreachable!()
+    }
+    if stops { Did::Stops } else { Did::Idled }
+}
+
 // A process is claimed, or there is nothing to do.
 fn claims(world: &mut World, party: u8) -> Did
     requires alive { (now world.old).dead ≡ false }
@@ -57,14 +72,10 @@ fn claims(world: &mut World, party: u8) -> Did
     requires no_line { next_ready (now world.old) ≡ None }
     ensures { (event : Event) × (world.new ≡ entered world.old (by party event)) × DidAs party Task.Work result event }
 {
-    if let Some(pid) = world.claim(party) {
-        return Did::Claimed(pid);
+    match world.claim(party) {
+        Some(pid) => Did::Claimed(Task::Slice(pid)),
+        None => idles(world, party),
     }
-    let stops = world.is_stopping();
-    if !world.idle(party) {
-        unreachable!()
-    }
-    if stops { Did::Stops } else { Did::Idled }
 }
 
 // A line is done, or a process is claimed, or there is nothing to do.

@@ -73,7 +73,7 @@ pub fn worker<W: Wait, G: Gate, R: Rest>(
                 rest.rest();
                 task = Task::Work;
             }
-            Ok(Did::Claimed(pid)) => task = Task::Slice(pid),
+            Ok(Did::Claimed(next)) => task = next,
             Ok(Did::Stops) => {
                 gate.pass(place::BEFORE_END);
                 task = Task::End;

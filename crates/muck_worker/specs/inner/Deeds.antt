@@ -29,14 +29,20 @@ stage_for End = Stage.unbound
 abbrev pub stage_after : Did → Stage
 stage_after Went = Stage.unbound
 stage_after Idled = Stage.unbound
-stage_after (Claimed pid) = Stage.claimed pid
+stage_after (Claimed task) = stage_for task
 stage_after Stops = Stage.unbound
 stage_after Over = Stage.stopped
 stage_after Failed = Stage.ended
 
+-- the process of what is to be done was claimed
+abbrev pub IsClaimed : Task → Event → Type 0
+IsClaimed (Slice pid) event = event ≡ Claim pid
+IsClaimed Work event = ⊥
+IsClaimed End event = ⊥
+
 -- by which event, where that matters
 abbrev pub IsSaid : Did → Event → Type 0
-IsSaid (Claimed pid) event = event ≡ Claim pid
+IsSaid (Claimed task) event = IsClaimed task event
 IsSaid Over event = event ≡ StopSeen
 IsSaid Failed event = event ≡ Died
 IsSaid Went event = Unit {0}

@@ -3,13 +3,13 @@ use Rattle.spec_events.specs.Logged.{bare_item}
 use Rattle.spec_events.proofs.Logging.{orderly_bare}
 use Rattle.muck_machine.proofs.Seating.{held_settled, one_bare, given_seen, given_root, rests_turned, left_told}
 use Rattle.muck_worker.specs.inner.Deeds.{by}
-use Rattle.muck_worker.proofs.Working.{open_held, bare_orderly}
+use Rattle.muck_worker.proofs.Going.{open_held, bare_orderly}
 use Rattle.muck_worker.proofs.working.worker_turn.Goals as goal
 
-pub works-requires-clause-claim : goal.works-requires-clause-claim
-works-requires-clause-claim g c =
+pub works-did-requires-clause-claim : goal.works-did-requires-clause-claim
+works-did-requires-clause-claim g c =
     let state = c.in_ok-held.ensures.state in
-    open_held c.args.party c.args.task c.args.seat.now.me c.hold.new.seat.me.0 c.in_ok-held.held.state c.requires.rests c.in_ok-held.ensures.kept state.0 c.in_ok-held.ensures.mine c.is_dead-_dead.ensures.lawful c.requires.claim
+    open_held c.args.party c.args.task c.args.seat.now.me c.hold.new.seat.me.0 c.in_ok-held.held.state c.requires.rests c.in_ok-held.ensures.kept state.0 c.in_ok-held.ensures.mine c.is_dead-dead.ensures.lawful c.requires.claim
 
 pub give-requires-clause-entry : goal.give-requires-clause-entry
 give-requires-clause-entry g c =

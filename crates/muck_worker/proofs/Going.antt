@@ -23,7 +23,7 @@ use Rattle.muck_worker.specs.declared.deeds.Task.TheVariants.{Work, Slice, End}
 use Rattle.muck_worker.specs.declared.deeds.Did.{Did}
 use Rattle.muck_worker.specs.declared.deeds.Did.TheVariants.{Over, Failed}
 use Rattle.muck_worker.specs.Working.{WorkerReady, WorkerDone}
-use Rattle.muck_worker.specs.inner.Deeds.{by, stage_for, stage_after, DidAs, IsOpen, IsHeld, Works}
+use Rattle.muck_worker.specs.inner.Deeds.{by, stage_for, stage_after, IsClaimed, DidAs, IsOpen, IsHeld, Works}
 
 -- A claim that is held.
 
@@ -169,5 +169,10 @@ module _ (party : ℕ) (me : Chair) where
     }
 
 -- a claim is the last thing that the seat has seen
-pub held_claim : (party : ℕ) (pid : ℤ) (v v' : Sight) (event : Event) → event ≡ Claim pid → Turned v v' (bare_item (by party event)) → IsHeld party (Slice pid) v'
+held_claim : (party : ℕ) (pid : ℤ) (v v' : Sight) (event : Event) → event ≡ Claim pid → Turned v v' (bare_item (by party event)) → IsHeld party (Slice pid) v'
 held_claim party pid v v' event is t = (v.seen ++ t.others, t.seen ∙ ap (λ (e : Event). (v.seen ++ t.others) ++ bare_item (by party e) ∷ []) is)
+
+pub held_next : (party : ℕ) (next : Task) (v v' : Sight) (event : Event) → IsClaimed next event → Turned v v' (bare_item (by party event)) → IsHeld party next v'
+held_next party Work v v' event said t = tt
+held_next party End v v' event said t = tt
+held_next party (Slice pid) v v' event said t = held_claim party pid v v' event said t
