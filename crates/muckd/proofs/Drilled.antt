@@ -1,13 +1,18 @@
 -- A drill, from how its script was played.
 use Rattle.std.proofs.Common.{◌≡◌, ℕ, ◌+◌, ◌≤◌, suc, List, [], ◌∷◌, ◌++◌, length, drop, refl, sym, ◌∙◌, ap, subst, arith, append-nil, append_assoc, add-one, Option, Some, None}
+use Rattle.std.specs.Prelude.{codes}
+use Rattle.std.specs.Fmt.{decimal}
+use Rattle.std.specs.List.{filter}
 use Rattle.muck_io.specs.Sink.{Appends, AppendsFront}
 use Rattle.muck_io.specs.Faults.{Rose}
 use Rattle.muck_model.specs.declared.event.Entry.{Entry}
 use Rattle.spec_events.specs.World.{World, starting}
 use Rattle.spec_events.specs.Histories.{History, after, now, AllLawful}
 use Rattle.muck_script.specs.declared.act.Act.{Act}
+use Rattle.muck_script.specs.declared.act.Act.TheVariants.{Send}
+use Rattle.muck_script.specs.Lines.{is_line_feed}
 use Rattle.muck_script.specs.Story.{Dumped, stored, failed, next_outcome, dump_entries, outcomes_of, told, text_of, lines_story, story, transcript}
-use Rattle.muckd.specs.Drill.{round, rounds, summary, objects_in, drill_script, drill_text, IsDrilled, HasDrilled}
+use Rattle.muckd.specs.Drill.{describing, round, rounds, summary, objects_in, drill_script, drill_text, IsDrilled, HasDrilled}
 use Rattle.muckd.specs.inner.Drills.{fresh, IsPlayedAs, IsDrilledAs}
 use Rattle.muckd.specs.inner.Plays.{Plays}
 use Rattle.muckd.specs.declared.why.Why.TheVariants.{Fine, WriteFault}
@@ -23,6 +28,32 @@ five a b c d e f p q r s t is1 is2 is3 is4 is5 =
     ∙ ap (λ x. (x ++ s ∷ []) ++ t ∷ []) (append_assoc a (p ∷ q ∷ []) (r ∷ []))
     ∙ ap (λ x. x ++ t ∷ []) (append_assoc a (p ∷ q ∷ r ∷ []) (s ∷ []))
     ∙ append_assoc a (p ∷ q ∷ r ∷ s ∷ []) (t ∷ [])
+
+pub round_pushed : (a b c d e f : List Act) (i : ℕ) (text : List ℕ) → text ≡ describing i
+    → b ≡ a ++ Send 1 (codes "@dig Room " ++ decimal i) ∷ [] → c ≡ b ++ Send 1 (codes "@create thing " ++ decimal i) ∷ [] → d ≡ c ++ Send 1 text ∷ []
+    → e ≡ d ++ Send 1 (codes "look thing " ++ decimal i) ∷ [] → f ≡ e ++ Send 1 (codes "drop thing " ++ decimal i) ∷ [] → f ≡ a ++ round i
+unfolding round
+round_pushed a b c d e f i text is to_b to_c to_d to_e to_f = five a b c d e f _ _ _ _ _ to_b to_c (to_d ∙ ap (λ x. c ++ Send 1 x ∷ []) is) to_e to_f
+
+-- texts that are pushed piece by piece
+pub described : (a b c d e : List ℕ) (i : ℕ) → a ≡ [] → b ≡ a ++ codes "@describe thing " ++ decimal i → c ≡ b ++ codes "=A thing of {add:" ++ decimal i → d ≡ c ++ codes "," ++ decimal i → e ≡ d ++ codes "}." → e ≡ describing i
+unfolding describing
+described a b c d e i is_a is_b is_c is_d is_e =
+    is_e
+    ∙ ap (λ q. q ++ codes "}.")
+      (is_d ∙ ap (λ q. q ++ codes "," ++ decimal i) (is_c ∙ ap (λ q. q ++ codes "=A thing of {add:" ++ decimal i) (is_b ∙ ap (λ q. q ++ codes "@describe thing " ++ decimal i) is_a)))
+
+pub summed : (a b c d e f : List ℕ) (n objects : ℕ) (shown : List ℕ) (lines bytes : ℕ) → lines ≡ length (filter is_line_feed shown) → bytes ≡ length shown → a ≡ []
+    → b ≡ a ++ codes "drill " ++ decimal n → c ≡ b ++ codes ": " ++ decimal objects → d ≡ c ++ codes " objects, " ++ decimal lines → e ≡ d ++ codes " lines, " ++ decimal bytes → f ≡ e ++ (codes " bytes" ++ 10 ∷ []) → f ≡ summary n objects shown
+unfolding summary
+summed a b c d e f n objects shown lines bytes is_lines is_bytes is_a is_b is_c is_d is_e is_f =
+    is_f
+    ∙ ap (λ q. q ++ (codes " bytes" ++ 10 ∷ []))
+      (is_e ∙ ap (λ k. d ++ codes " lines, " ++ decimal k) is_bytes
+      ∙ ap (λ q. q ++ codes " lines, " ++ decimal (length shown))
+        (is_d ∙ ap (λ k. c ++ codes " objects, " ++ decimal k) is_lines
+        ∙ ap (λ q. q ++ codes " objects, " ++ decimal (length (filter is_line_feed shown)))
+          (is_c ∙ ap (λ q. q ++ codes ": " ++ decimal objects) (is_b ∙ ap (λ q. q ++ codes "drill " ++ decimal n) is_a))))
 
 pub rounds_begin : (a b : List Act) → b ≡ a → b ≡ a ++ rounds 0
 unfolding rounds

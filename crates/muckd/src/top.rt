@@ -128,7 +128,7 @@ fn obey<S: Source, K: Sink, D: Disk>(
 {
     match command {
         Some(Command::Run(name)) => run(alloc, name, script, out, first, second),
-        Some(Command::Drill(rounds)) => drill(alloc, rounds, out),
+        Some(Command::Drill(rounds)) => drill(alloc, u64::from(rounds), out),
         Some(Command::Serve {
             store: _,
             port: _,
