@@ -103,11 +103,19 @@ module _ (acts : List Act) (h k : History) (bytes : List ℕ) (is : h ≡ fresh)
   played_as = record {
     start = p.history.start ∙ ap (λ (x : History). x.start) is;
     story = entries ∙ whole ∙ ap (λ es. lines_story acts (outcomes_of es) starting) (sym entries);
-    text =
+    told =
         written ∙ ap (text_of starting) whole ∙ sym (transcript_lines acts (outcomes_of p.entries) starting)
         ∙ ap (λ es. transcript acts (outcomes_of es) starting) (sym entries);
     alive = p.alive;
   }
+
+-- the same as the calls have it
+pub played_by : (n : ℕ) (acts : List Act) (h k : History) (a b : Option (List ℕ)) (bytes : List ℕ) → acts ≡ drill_script n → h ≡ fresh → a ≡ Some [] → b ≡ Some bytes → Plays (lines_story acts) h k a b → IsPlayedAs (drill_script n) k bytes
+played_by n acts h k a b bytes is_acts is_h is_a is_b p =
+    played_as (drill_script n) h k bytes is_h
+    (subst (λ (x : List Act). Plays (lines_story x) h k (Some []) (Some bytes)) is_acts
+    (subst (λ (x : Option (List ℕ)). Plays (lines_story acts) h k x (Some bytes)) is_a
+    (subst (λ (x : Option (List ℕ)). Plays (lines_story acts) h k a x) is_b p)))
 
 -- the summary of what was played
 pub drilled_as : (n size : ℕ) (h : History) (bytes text : List ℕ) → IsPlayedAs (drill_script n) h bytes → size ≡ objects_in (now h) → text ≡ summary n size bytes → IsDrilledAs n h text
@@ -115,9 +123,9 @@ unfolding now
 drilled_as n size h bytes text p counts is = record {
   start = p.start;
   story = p.story;
-  text =
+  written =
       is ∙ ap (λ x. summary n x bytes) (counts ∙ ap (λ (w : World). objects_in (after w h.entries)) p.start)
-      ∙ ap (λ x. summary n (objects_in (after starting h.entries)) x) p.text;
+      ∙ ap (λ x. summary n (objects_in (after starting h.entries)) x) p.told;
 }
 
 -- Its tale, and what was written.
@@ -130,7 +138,7 @@ module _ (n : ℕ) (h : History) (text : List ℕ) (tale : List Entry) (d : IsDr
   }
 
   pub text_is : text ≡ drill_text n tale
-  text_is = d.text ∙ ap (drill_text n) (sym ends)
+  text_is = d.written ∙ ap (drill_text n) (sym ends)
 
   module _ {K : Type 0} (written : K → Option (List ℕ)) (faults : K → ℕ) (before now : K) where
     pub drilled_fine : Appends (written before) (written now) text → faults now ≡ faults before → HasDrilled written faults n Fine before now tale
