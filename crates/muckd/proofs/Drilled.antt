@@ -1,12 +1,12 @@
 -- A drill, from how its script was played.
-use Rattle.std.proofs.Common.{◌≡◌, ℕ, ◌+◌, ◌≤◌, suc, List, [], ◌∷◌, ◌++◌, length, drop, refl, sym, ◌∙◌, ap, subst, arith, append-nil, append_assoc, add-one, Option, Some, None}
+use Rattle.std.proofs.Common.{◌≡◌, ℕ, false, ◌+◌, ◌≤◌, suc, List, [], ◌∷◌, ◌++◌, length, drop, refl, sym, ◌∙◌, ap, subst, arith, append-nil, append_assoc, add-one, Option, Some, None}
 use Rattle.std.specs.Prelude.{codes}
 use Rattle.std.specs.Fmt.{decimal}
 use Rattle.std.specs.List.{filter}
 use Rattle.muck_io.specs.Sink.{Appends, AppendsFront}
 use Rattle.muck_io.specs.Faults.{Rose}
 use Rattle.muck_model.specs.declared.event.Entry.{Entry}
-use Rattle.spec_events.specs.World.{World, starting}
+use Rattle.spec_events.specs.World.{World, starting, booted}
 use Rattle.spec_events.specs.Histories.{History, after, now, AllLawful}
 use Rattle.muck_script.specs.declared.act.Act.{Act}
 use Rattle.muck_script.specs.declared.act.Act.TheVariants.{Send}
@@ -41,7 +41,7 @@ unfolding describing
 described a b c d e i is_a is_b is_c is_d is_e =
     is_e
     ∙ ap (λ q. q ++ codes "}.")
-      (is_d ∙ ap (λ q. q ++ codes "," ++ decimal i) (is_c ∙ ap (λ q. q ++ codes "=A thing of {add:" ++ decimal i) (is_b ∙ ap (λ q. q ++ codes "@describe thing " ++ decimal i) is_a)))
+    (is_d ∙ ap (λ q. q ++ codes "," ++ decimal i) (is_c ∙ ap (λ q. q ++ codes "=A thing of {add:" ++ decimal i) (is_b ∙ ap (λ q. q ++ codes "@describe thing " ++ decimal i) is_a)))
 
 pub summed : (a b c d e f : List ℕ) (n objects : ℕ) (shown : List ℕ) (lines bytes : ℕ) → lines ≡ length (filter is_line_feed shown) → bytes ≡ length shown → a ≡ []
     → b ≡ a ++ codes "drill " ++ decimal n → c ≡ b ++ codes ": " ++ decimal objects → d ≡ c ++ codes " objects, " ++ decimal lines → e ≡ d ++ codes " lines, " ++ decimal bytes → f ≡ e ++ (codes " bytes" ++ 10 ∷ []) → f ≡ summary n objects shown
@@ -49,11 +49,11 @@ unfolding summary
 summed a b c d e f n objects shown lines bytes is_lines is_bytes is_a is_b is_c is_d is_e is_f =
     is_f
     ∙ ap (λ q. q ++ (codes " bytes" ++ 10 ∷ []))
-      (is_e ∙ ap (λ k. d ++ codes " lines, " ++ decimal k) is_bytes
-      ∙ ap (λ q. q ++ codes " lines, " ++ decimal (length shown))
-        (is_d ∙ ap (λ k. c ++ codes " objects, " ++ decimal k) is_lines
-        ∙ ap (λ q. q ++ codes " objects, " ++ decimal (length (filter is_line_feed shown)))
-          (is_c ∙ ap (λ q. q ++ codes ": " ++ decimal objects) (is_b ∙ ap (λ q. q ++ codes "drill " ++ decimal n) is_a))))
+    (is_e ∙ ap (λ k. d ++ codes " lines, " ++ decimal k) is_bytes
+    ∙ ap (λ q. q ++ codes " lines, " ++ decimal (length shown))
+    (is_d ∙ ap (λ k. c ++ codes " objects, " ++ decimal k) is_lines
+    ∙ ap (λ q. q ++ codes " objects, " ++ decimal (length (filter is_line_feed shown)))
+    (is_c ∙ ap (λ q. q ++ codes ": " ++ decimal objects) (is_b ∙ ap (λ q. q ++ codes "drill " ++ decimal n) is_a))))
 
 pub rounds_begin : (a b : List Act) → b ≡ a → b ≡ a ++ rounds 0
 unfolding rounds
@@ -68,6 +68,15 @@ rounds_go_on a b c n e f = f ∙ ap (λ x. x ++ round (n + 1)) e ∙ append_asso
 
 pub rounds_end : (a b : List Act) (n count : ℕ) → b ≡ a ++ rounds n → n ≤ count → count ≤ n → b ≡ a ++ rounds count
 rounds_end a b n count e le ge = let same : n ≡ count = omega (arith, le, ge) in e ∙ ap (λ x. a ++ rounds x) same
+
+-- the starting world lives, and no dump runs in it
+pub fresh_alive : (h : History) → h ≡ fresh → (now h).dead ≡ false
+unfolding now starting booted
+fresh_alive h is = ap (λ (x : History). (now x).dead) is
+
+pub fresh_idle : (h : History) → h ≡ fresh → (now h).dumps.running ≡ None
+unfolding now starting booted
+fresh_idle h is = ap (λ (x : History). (now x).dumps.running) is
 
 -- Nothing is written of a dump.
 

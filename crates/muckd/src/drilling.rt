@@ -115,12 +115,7 @@ fn push_send(alloc: Global, acts: &mut Vec<Act>, text: &[u8]) -> Result<(), NoMe
 }
 
 // A line that ends with a number is sent.
-fn push_numbered(
-    alloc: Global,
-    acts: &mut Vec<Act>,
-    lead: &[u8],
-    n: u64,
-) -> Result<(), NoMemory>
+fn push_numbered(alloc: Global, acts: &mut Vec<Act>, lead: &[u8], n: u64) -> Result<(), NoMemory>
     ensures { OnOk result (acts.new.items ≡ acts.old.items ++ Send 1 (lead.now ++ decimal n) ∷ []) }
 {
     let text = numbered(alloc, lead, n)?;
@@ -168,12 +163,7 @@ fn count_lines(text: &[u8]) -> usize
 }
 
 // What is written of a drill.
-fn summary(
-    alloc: Global,
-    count: u64,
-    objects: usize,
-    shown: &[u8],
-) -> Result<Vec<u8>, NoMemory>
+fn summary(alloc: Global, count: u64, objects: usize, shown: &[u8]) -> Result<Vec<u8>, NoMemory>
     ensures { IfOk result (λ text. text.items ≡ summary count objects shown.now) }
 {
     let mut text = Vec::new(alloc);
@@ -221,7 +211,8 @@ fn drilled(alloc: Global, count: u64, world: &mut World) -> Result<Vec<u8>, NoMe
     ensures { IfOk result (λ text. IsDrilledAs count world.new text.items) }
 {
     let transcript = play_drill(alloc, count, world)?;
-    summary(alloc, count, world.objects(), transcript.bytes())
+    let text = summary(alloc, count, world.objects(), transcript.bytes())?;
+    Ok(text)
 }
 
 /// A drill of so many rounds: the script is played into the starting world, which no disk holds, and a summary of it is written.

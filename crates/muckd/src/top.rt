@@ -129,11 +129,13 @@ fn obey<S: Source, K: Sink, D: Disk>(
     match command {
         Some(Command::Run(name)) => run(alloc, name, script, out, first, second),
         Some(Command::Drill(rounds)) => drill(alloc, u64::from(rounds), out),
-        Some(Command::Serve {
-            store: _,
-            port: _,
-            workers: _,
-        }) => (Why::Usage, Tale::none()),
+        Some(
+            Command::Serve {
+                store: _,
+                port: _,
+                workers: _,
+            },
+        ) => (Why::Usage, Tale::none()),
         None => (Why::Usage, Tale::none()),
     }
 }
