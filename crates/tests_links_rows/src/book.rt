@@ -39,6 +39,8 @@ impl Story for Book {
     ghost history = { λ book. book.tale.entries };
 
     ghost party = { λ entry. entry.party };
+
+    ghost allowed = { λ _. Unit {0} };
 }
 
 /// An entry of this party more.

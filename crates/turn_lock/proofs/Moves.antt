@@ -12,7 +12,7 @@ use Rattle.turn_lock.specs.declared.view.View.{View}
 use Rattle.turn_lock.specs.declared.view.Place.{Place}
 use Rattle.turn_lock.specs.declared.view.Place.TheVariants.{Idle, Waits, Holds, Told, Gone}
 use Rattle.turn_lock.proofs.Parts.{parted_set, parted_pass, parted_begin, parted_split, parted_join}
-use Rattle.turn_lock.specs.Histories.{own_of, Has, IsKnown, StartsWith}
+use Rattle.turn_lock.specs.Histories.{own_of, Has, IsKnown, StartsWith, AllOf}
 use Rattle.turn_lock.specs.inner.Turns.{total, told, told_of, live, live_of, Rooted, spent_view, left_after, newcomer, taken_in, HasTicket, Stands, Fits, Each, Apart, InSlot, Kept, drew, looked, passed}
 
 module _ {A : Type 0} (f : A → ℕ) where
@@ -102,7 +102,7 @@ module _ {E : Type 0} where
 abbrev drawn_place : ℕ → Place
 drawn_place n = if nat_lt n (2 ^ 62) then Waits n else Told
 
-module _ {T E B : Type 0} (history : T → List E) (party : E → ℕ) (start : T → B) where
+module _ {T E B : Type 0} (history : T → List E) (party : E → ℕ) (start : T → B) (allowed : E → Type 0) where
   abbrev any : Step (Option T)
   any = step 0 0 0 0 none
 
@@ -175,9 +175,9 @@ module _ {T E B : Type 0} (history : T → List E) (party : E → ℕ) (start : 
       pick ((n, Some z) ∷ zs) = z
       pick ((n, None) ∷ zs) = x
 
-  draws_with : (id : ℕ) (me : Sit) (s : State (Option T) (View E B)) → me.0.place ≡ Idle → (k : Kept history party start s) → get_elem? s.views id ≡ some me.0
+  draws_with : (id : ℕ) (me : Sit) (s : State (Option T) (View E B)) → me.0.place ≡ Idle → (k : Kept history party start allowed s) → get_elem? s.views id ≡ some me.0
       → (p : Place) → ((n : ℕ) → HasTicket p n → n ≡ k.ticket) → Stands (k.ticket + 1) k.serving k.log k.log p → k.ticket + 1 ≤ 2 ^ 62 + (total told_of s.views + told p) → live p ≡ 1
-      → Kept history party start (stepped s 0 ((slice_index s.words 0 + 1) % 2 ^ 64) id me.1 record { party = me.0.party; root = me.0.root; place = p; seen = k.log; own = me.0.own; given = me.0.given; joined = me.0.joined } keeps)
+      → Kept history party start allowed (stepped s 0 ((slice_index s.words 0 + 1) % 2 ^ 64) id me.1 record { party = me.0.party; root = me.0.root; place = p; seen = k.log; own = me.0.own; given = me.0.given; joined = me.0.joined } keeps)
   draws_with id me s idle k at p mine stands room alive =
       let w : View E B = record { party = me.0.party; root = me.0.root; place = p; seen = k.log; own = me.0.own; given = me.0.given; joined = me.0.joined } in
       let few = k.few in
@@ -206,10 +206,11 @@ module _ {T E B : Type 0} (history : T → List E) (party : E → ℕ) (start : 
             (λ j n u away atj hu hw. let f = k.each j u atj in let b = below k.ticket k.serving k.log u.seen u.place n f.1 hu in let e = mine n hw in absurd (omega arith));
         rooted = rooted_set s.views id me.0 w at (alive ∙ sym (ap live idle)) refl refl k.rooted;
         parted = parted_set party k.begin k.log s.views id me.0 w at (alive ∙ sym (ap live idle)) refl refl refl (λ n h. h) refl k.parted;
+        lawful = k.lawful;
       }
 
   pub draws : (slots id : ℕ) (me : Sit) → me.0.place ≡ Idle
-      → Allows (Kept history party start) slots id me 0 (λ n. (n + 1) % 2 ^ 64) (drew history party start any me)
+      → Allows (Kept history party start allowed) slots id me 0 (λ n. (n + 1) % 2 ^ 64) (drew history party start any me)
   draws slots id me idle s k count at small =
       let seen = (k.each id me.0 at).0 in
       let found : slice_index s.words 0 ≡ k.ticket = ap (λ (ws : List ℕ). slice_index ws 0) k.words in
@@ -231,13 +232,13 @@ module _ {T E B : Type 0} (history : T → List E) (party : E → ℕ) (start : 
         ((seen, refl, refl, refl, refl, refl), refl, (λ e. ap Waits (sym found)), (λ l. absurd (omega arith))),
       ))
 
-  same_words : (s : State (Option T) (View E B)) (k : Kept history party start s) → slice_set s.words 1 (slice_index s.words 1) ≡ k.ticket ∷ k.serving ∷ []
+  same_words : (s : State (Option T) (View E B)) (k : Kept history party start allowed s) → slice_set s.words 1 (slice_index s.words 1) ≡ k.ticket ∷ k.serving ∷ []
   same_words s k = ap (λ (ws : List ℕ). slice_set ws 1 (slice_index ws 1)) k.words
 
   -- a look that changes nothing but what was seen
-  peeks : (id : ℕ) (me : Sit) (s : State (Option T) (View E B)) (k : Kept history party start s) → get_elem? s.views id ≡ some me.0
+  peeks : (id : ℕ) (me : Sit) (s : State (Option T) (View E B)) (k : Kept history party start allowed s) → get_elem? s.views id ≡ some me.0
       → Stands k.ticket k.serving k.log k.log me.0.place
-      → Kept history party start (stepped s 1 (slice_index s.words 1) id me.1 record { party = me.0.party; root = me.0.root; place = me.0.place; seen = k.log; own = me.0.own; given = me.0.given; joined = me.0.joined } keeps)
+      → Kept history party start allowed (stepped s 1 (slice_index s.words 1) id me.1 record { party = me.0.party; root = me.0.root; place = me.0.place; seen = k.log; own = me.0.own; given = me.0.given; joined = me.0.joined } keeps)
   peeks id me s k at stands =
       let w : View E B = record { party = me.0.party; root = me.0.root; place = me.0.place; seen = k.log; own = me.0.own; given = me.0.given; joined = me.0.joined } in
       let t = total_set told_of s.views id me.0 w at in
@@ -260,12 +261,13 @@ module _ {T E B : Type 0} (history : T → List E) (party : E → ℕ) (start : 
         apart = apart_set s.views id w k.apart (λ j n u away atj hu hw. absurd (away (k.apart j id n u me.0 atj at hu hw)));
         rooted = rooted_set s.views id me.0 w at refl refl refl k.rooted;
         parted = parted_set party k.begin k.log s.views id me.0 w at refl refl refl refl (λ n h. h) refl k.parted;
+        lawful = k.lawful;
       }
 
   -- the seat whose ticket is served takes the slot
-  takes_turn : (id : ℕ) (me : Sit) (s : State (Option T) (View E B)) (k : Kept history party start s) → get_elem? s.views id ≡ some me.0 → (n : ℕ) → me.0.place ≡ Waits n → me.1 ≡ [] → n ≡ k.serving
+  takes_turn : (id : ℕ) (me : Sit) (s : State (Option T) (View E B)) (k : Kept history party start allowed s) → get_elem? s.views id ≡ some me.0 → (n : ℕ) → me.0.place ≡ Waits n → me.1 ≡ [] → n ≡ k.serving
       → (x : T) × (get_elem? s.homes 0 ≡ some (some (Some x))) × (history x ≡ k.log) × (start x ≡ k.begin)
-      × Kept history party start (stepped s 1 (slice_index s.words 1) id me.1 record { party = me.0.party; root = me.0.root; place = Holds n; seen = k.log; own = me.0.own; given = me.0.given; joined = me.0.joined } (takes 0 (Some x)))
+      × Kept history party start allowed (stepped s 1 (slice_index s.words 1) id me.1 record { party = me.0.party; root = me.0.root; place = Holds n; seen = k.log; own = me.0.own; given = me.0.given; joined = me.0.joined } (takes 0 (Some x)))
   takes_turn id me s k at n waits empty is = from k.slot refl k.in_slot
     where
       w : View E B
@@ -279,7 +281,7 @@ module _ {T E B : Type 0} (history : T → List E) (party : E → ℕ) (start : 
 
       from : (slot : Maybe (Option T)) → k.slot ≡ slot → InSlot history party start k.begin k.log s.views slot
           → (x : T) × (get_elem? s.homes 0 ≡ some (some (Some x))) × (history x ≡ k.log) × (start x ≡ k.begin)
-          × Kept history party start (stepped s 1 (slice_index s.words 1) id me.1 record { party = me.0.party; root = me.0.root; place = Holds n; seen = k.log; own = me.0.own; given = me.0.given; joined = me.0.joined } (takes 0 (Some x)))
+          × Kept history party start allowed (stepped s 1 (slice_index s.words 1) id me.1 record { party = me.0.party; root = me.0.root; place = Holds n; seen = k.log; own = me.0.own; given = me.0.given; joined = me.0.joined } (takes 0 (Some x)))
       from (some y) e (x, is_x, carries, begins_so) =
           let there : s.homes ≡ some (Some x) ∷ [] = k.homes ∙ ap (λ (h : Maybe (Option T)). h ∷ []) (e ∙ ap some is_x) in
           let t = total_set told_of s.views id me.0 w at in
@@ -307,6 +309,7 @@ module _ {T E B : Type 0} (history : T → List E) (party : E → ℕ) (start : 
               apart = apart_set s.views id w k.apart (λ j m u away atj hu hw. absurd (away (k.apart j id m u me.0 atj at hu (subst (λ (q : Place). HasTicket q m) (sym waits) hw))));
               rooted = rooted_set s.views id me.0 w at (sym (ap live waits)) refl refl k.rooted;
               parted = parted_set party k.begin k.log s.views id me.0 w at (sym (ap live waits)) refl refl refl (λ n h. h) refl k.parted;
+              lawful = k.lawful;
             },
           )
       from none e (i, u, m, ati, has) =
@@ -316,7 +319,7 @@ module _ {T E B : Type 0} (history : T → List E) (party : E → ℕ) (start : 
           absurd (waits_holds me.0.place n m waits (ap (λ (z : View E B). z.place) (sym same) ∙ has))
 
   pub looks : (slots id : ℕ) (me : Sit) (n : ℕ) → (me.0.place ≡ Waits n) → me.1 ≡ []
-      → Allows (Kept history party start) slots id me 1 (λ m. m) (looked history party start any me)
+      → Allows (Kept history party start allowed) slots id me 1 (λ m. m) (looked history party start allowed any me)
   looks slots id me n waits empty s k count at small =
       let seen = (k.each id me.0 at).0 in
       let found : slice_index s.words 1 ≡ k.serving = ap (λ (ws : List ℕ). slice_index ws 1) k.words in
@@ -328,6 +331,7 @@ module _ {T E B : Type 0} (history : T → List E) (party : E → ℕ) (start : 
         got.4,
         (
           (seen, refl, refl, refl, refl, refl),
+          k.lawful,
           k.counted ∙ sym found,
           (λ done. absurd (subst (λ (q : Place). HasTicket q n) (sym waits ∙ done) refl)),
           (λ m waits' empty'. let e : m ≡ n = one_ticket me.0.place m n waits' waits in (
@@ -343,6 +347,7 @@ module _ {T E B : Type 0} (history : T → List E) (party : E → ℕ) (start : 
         peeks id me s k at (look_stands k.ticket k.serving k.log me.0.seen me.0.place n waits (k.each id me.0 at).1),
         (
           (seen, refl, refl, refl, refl, refl),
+          k.lawful,
           k.counted ∙ sym found,
           (λ done. absurd (subst (λ (q : Place). HasTicket q n) (sym waits ∙ done) refl)),
           (λ m waits' empty'. let e : m ≡ n = one_ticket me.0.place m n waits' waits in
@@ -351,7 +356,7 @@ module _ {T E B : Type 0} (history : T → List E) (party : E → ℕ) (start : 
       ))
 
   pub looks_on : (slots id : ℕ) (me : Sit) → me.0.place ≡ Told
-      → Allows (Kept history party start) slots id me 1 (λ m. m) (looked history party start any me)
+      → Allows (Kept history party start allowed) slots id me 1 (λ m. m) (looked history party start allowed any me)
   looks_on slots id me done s k count at small =
       let seen = (k.each id me.0 at).0 in
       let found : slice_index s.words 1 ≡ k.serving = ap (λ (ws : List ℕ). slice_index ws 1) k.words in (
@@ -359,7 +364,7 @@ module _ {T E B : Type 0} (history : T → List E) (party : E → ℕ) (start : 
         keeps,
         tt,
         peeks id me s k at (subst (Stands k.ticket k.serving k.log k.log) (sym done) tt),
-        ((seen, refl, refl, refl, refl, refl), k.counted ∙ sym found, (λ d. (d, refl)), (λ n waits. absurd (subst (λ (q : Place). HasTicket q n) (sym waits ∙ done) refl))),
+        ((seen, refl, refl, refl, refl, refl), k.lawful, k.counted ∙ sym found, (λ d. (d, refl)), (λ n waits. absurd (subst (λ (q : Place). HasTicket q n) (sym waits ∙ done) refl))),
       )
 
   -- who waits still waits once the turn is over
@@ -383,9 +388,9 @@ module _ {T E B : Type 0} (history : T → List E) (party : E → ℕ) (start : 
       head_or [] d = d
       head_or (z ∷ zs) d = z
 
-  pub passes : (slots id : ℕ) (me : Sit) (n : ℕ) (x : T) (e : E) → me.0.place ≡ Holds n → me.1 ≡ (0, Some x) ∷ [] → history x ≡ me.0.seen ++ e ∷ [] → start x ∷ [] ≡ me.0.root → party e ≡ me.0.party
-      → Allows (Kept history party start) slots id me 1 (λ m. (m + 1) % 2 ^ 64) (passed history party start any me)
-  passes slots id me n x e holds carries is root whose s k count at small =
+  pub passes : (slots id : ℕ) (me : Sit) (n : ℕ) (x : T) (e : E) → me.0.place ≡ Holds n → me.1 ≡ (0, Some x) ∷ [] → history x ≡ me.0.seen ++ e ∷ [] → start x ∷ [] ≡ me.0.root → party e ≡ me.0.party → allowed e
+      → Allows (Kept history party start allowed) slots id me 1 (λ m. (m + 1) % 2 ^ 64) (passed history party start allowed any me)
+  passes slots id me n x e holds carries is root whose may s k count at small =
       let mine : (n ≡ k.serving) × (n < k.ticket) × (n < 2 ^ 62) × (me.0.seen ≡ k.log) = subst (Stands k.ticket k.serving k.log me.0.seen) holds (k.each id me.0 at).1 in
       let same = mine.0 in
       let low = mine.2 in
@@ -426,15 +431,16 @@ module _ {T E B : Type 0} (history : T → List E) (party : E → ℕ) (start : 
           apart = apart_set s.views id w k.apart (λ j m u away atj hu hw. absurd hw);
           rooted = rooted_set s.views id me.0 w at (sym (ap live holds)) refl refl k.rooted;
           parted = parted_pass party k.begin k.log s.views id me.0 e at (ap live holds) whose w refl refl refl refl refl refl k.parted;
+          lawful = λ i d ati. ⊎_elim (λ (y : get_elem? k.log i ≡ some d). k.lawful i d y) (λ (y : e ≡ d). subst allowed y may) (at_snoc k.log e d i ati);
         },
-        (λ m y d holds' carries' is' root' whose'. (
+        (λ m y d holds' carries' is' root' whose' may'. (
           ap (λ (z : E). record { party = me.0.party; root = me.0.root; place = Idle; seen = me.0.seen ++ z ∷ []; own = me.0.own ++ z ∷ []; given = me.0.given; joined = me.0.joined })
               (last_same me.0.seen e d (sym is ∙ ap history (state_same x y (sym carries ∙ carries')) ∙ is')),
           ap rest carries,
         )),
       )
 
-  pub begins : (start_state : T) (views : View E B) (slots : List (Option T)) → slots ≡ Some start_state ∷ [] → history start_state ≡ [] → views.party ≡ 0 → views.root ≡ start start_state ∷ [] → views.own ≡ [] → views.place ≡ Idle → views.seen ≡ [] → views.given ≡ [] → views.joined ≡ [] → Kept history party start (opening (0 ∷ 0 ∷ []) slots views)
+  pub begins : (start_state : T) (views : View E B) (slots : List (Option T)) → slots ≡ Some start_state ∷ [] → history start_state ≡ [] → views.party ≡ 0 → views.root ≡ start start_state ∷ [] → views.own ≡ [] → views.place ≡ Idle → views.seen ≡ [] → views.given ≡ [] → views.joined ≡ [] → Kept history party start allowed (opening (0 ∷ 0 ∷ []) slots views)
   begins start_state v slots is none_yet is_zero rooted_at unowned idle unseen ungiven unjoined =
       record {
         begin = start start_state;
@@ -453,6 +459,7 @@ module _ {T E B : Type 0} (history : T → List E) (party : E → ℕ) (start : 
         apart = two;
         rooted = (v, refl, ap live idle, (let g = ap length ungiven in omega arith), (let g = ap length ungiven in let j = ap length unjoined in let l : live_of v ≡ 1 = ap live idle in omega arith));
         parted = parted_begin party (start start_state) v is_zero (ap live idle) rooted_at unowned unjoined;
+        lawful = λ i e at. absurd (some-ne-none e (sym at));
       }
     where
       one : Each 0 0 [] (v ∷ [])
@@ -467,7 +474,7 @@ module _ {T E B : Type 0} (history : T → List E) (party : E → ℕ) (start : 
 pub carried_again : {S : Type 0} (c : List (ℕ × S)) (x : S) → c ≡ (0, x) ∷ [] → c ≡ (0, x) ∷ rest c
 carried_again c x e = e ∙ ap (λ l. (0, x) ∷ l) (sym (ap rest e))
 
-module _ {T E B : Type 0} (history : T → List E) (party : E → ℕ) (start : T → B) where
+module _ {T E B : Type 0} (history : T → List E) (party : E → ℕ) (start : T → B) (allowed : E → Type 0) where
   -- a new seat stands behind the others
   total_end : {A : Type 0} (f : A → ℕ) (xs : List A) (a : A) → total f (xs ++ a ∷ []) ≡ total f xs + f a
   total_end f [] a = omega arith
@@ -494,7 +501,7 @@ module _ {T E B : Type 0} (history : T → List E) (party : E → ℕ) (start : 
       (λ (x : w ≡ v). absurd (none_has n (subst (λ (z : View E B). HasTicket z.place n) (sym x) hi)))
       (at_end views w v i ei)
 
-  pub splits : (p : ℕ) (v : View E B) → v.place ≡ Idle → length v.given < 9 → ¬ (p ≡ 0) → ¬ (Has v.given p) → Splits (Kept history party start) 0 v (left_after p v) (newcomer p v)
+  pub splits : (p : ℕ) (v : View E B) → v.place ≡ Idle → length v.given < 9 → ¬ (p ≡ 0) → ¬ (Has v.given p) → Splits (Kept history party start allowed) 0 v (left_after p v) (newcomer p v)
   splits p v idle room not0 fresh s k at =
       let w : View E B = left_after p v in
       let new : View E B = newcomer p v in
@@ -526,7 +533,7 @@ module _ {T E B : Type 0} (history : T → List E) (party : E → ℕ) (start : 
         served = k.served;
         drawn = omega arith;
         few = omega arith;
-        in_slot = slot_longer k.begin k.log (set s.views 0 w) k.slot new (slot_stays history party start k.begin k.log s.views k.slot 0 v w at refl k.in_slot);
+        in_slot = slot_longer k.begin k.log (set s.views 0 w) k.slot new (slot_stays history party start allowed k.begin k.log s.views k.slot 0 v w at refl k.in_slot);
         each = each_end k.ticket k.serving k.log (set s.views 0 w) new
             (each_set k.ticket k.serving k.log s.views 0 w (λ j u away atj. k.each j u atj) f)
             (f.0, tt);
@@ -534,6 +541,7 @@ module _ {T E B : Type 0} (history : T → List E) (party : E → ℕ) (start : 
             (apart_set s.views 0 w k.apart (λ j n u away atj hu hw. absurd (away (k.apart j 0 n u v atj at hu hw))));
         rooted = (w, at_longer (set s.views 0 w) (new ∷ []) 0 w (set_there s.views 0 v w at), up, omega arith, omega arith);
         parted = parted_split party k.begin k.log s.views p v at up not0 fresh k.parted;
+        lawful = k.lawful;
       }
 
   pub quiet : (p : Place) → (p ≡ Idle) ⊎ (p ≡ Told) → ((n : ℕ) → ¬ HasTicket p n) × (live p ≡ 1)
@@ -546,7 +554,7 @@ module _ {T E B : Type 0} (history : T → List E) (party : E → ℕ) (start : 
 
   -- a spent seat has no ticket
   pub joins : (v : View E B) (other : ℕ) (w : View E B) → (v.place ≡ Idle) ⊎ (v.place ≡ Told) → ((n : ℕ) → ¬ HasTicket w.place n) → live_of w ≡ 1
-      → Joins (Kept history party start) 0 v other w (taken_in v w) spent_view
+      → Joins (Kept history party start allowed) 0 v other w (taken_in v w) spent_view
   joins v other w idle done alive s k at away ato =
       let both : View E B = taken_in v w in
       let mid = set s.views 0 both in
@@ -585,12 +593,13 @@ module _ {T E B : Type 0} (history : T → List E) (party : E → ℕ) (start : 
         served = k.served;
         drawn = omega arith;
         few = omega arith;
-        in_slot = slot_kept history party start k.begin k.log mid k.slot other w spent_view ato (λ n e. done n (subst (λ (q : Place). HasTicket q n) (sym e) refl))
-            (slot_stays history party start k.begin k.log s.views k.slot 0 v both at refl k.in_slot);
+        in_slot = slot_kept history party start allowed k.begin k.log mid k.slot other w spent_view ato (λ n e. done n (subst (λ (q : Place). HasTicket q n) (sym e) refl))
+            (slot_stays history party start allowed k.begin k.log s.views k.slot 0 v both at refl k.in_slot);
         each = each_set k.ticket k.serving k.log mid other spent_view (λ i u away1 ati. each1 i u ati) ((k.log, refl), tt);
         apart = apart_set mid other spent_view apart1 (λ i n u away1 ati hu hw. absurd hw);
         rooted = (both, set_else mid other 0 spent_view (λ e. away (sym e)) ∙ set_there s.views 0 v both at, up, omega arith, omega arith);
         parted = parted_join party k.begin k.log s.views v other w at up away there alive k.parted;
+        lawful = k.lawful;
       }
 
   two_live : (views : List (View E B)) (i : ℕ) (v u : View E B) → get_elem? views 0 ≡ some v → get_elem? views i ≡ some u → ¬ (i ≡ 0) → live_of v + live_of u ≤ total live_of views
@@ -605,7 +614,7 @@ module _ {T E B : Type 0} (history : T → List E) (party : E → ℕ) (start : 
       in_total (z ∷ zs) (suc n) y at = let q = in_total zs n y at in omega arith
 
   -- with all seats taken in the slot is at home
-  pub at_home : (s : State (Option T) (View E B)) (k : Kept history party start s) (v : View E B) → get_elem? s.views 0 ≡ some v → (v.place ≡ Idle) ⊎ (v.place ≡ Told) → length v.joined ≡ length v.given
+  pub at_home : (s : State (Option T) (View E B)) (k : Kept history party start allowed s) (v : View E B) → get_elem? s.views 0 ≡ some v → (v.place ≡ Idle) ⊎ (v.place ≡ Told) → length v.joined ≡ length v.given
       → (x : T) × (get_elem? s.homes 0 ≡ some (some (Some x))) × (history x ≡ k.log) × (start x ≡ k.begin)
   at_home s k v at idle all = from k.slot refl k.in_slot
     where
@@ -628,14 +637,14 @@ module _ {T E B : Type 0} (history : T → List E) (party : E → ℕ) (start : 
           (λ here. absurd ((quiet v.place idle).0 n (subst (λ (q : Place). HasTicket q n) (sym (ap (λ (z : View E B). z.place) (some-injective v u (sym at ∙ sym (ap (λ (m : ℕ). get_elem? s.views m) here) ∙ ati)) ∙ has)) refl)))
           (λ away. let two = two_live s.views i v u at ati away in absurd (omega arith))
 
-  pub splits_at : (p id : ℕ) (v : View E B) → id ≡ 0 → v.place ≡ Idle → length v.given < 9 → ¬ (p ≡ 0) → ¬ (Has v.given p) → Splits (Kept history party start) id v (left_after p v) (newcomer p v)
-  splits_at p id v first idle room not0 fresh = subst (λ (i : ℕ). Splits (Kept history party start) i v (left_after p v) (newcomer p v)) (sym first) (splits p v idle room not0 fresh)
+  pub splits_at : (p id : ℕ) (v : View E B) → id ≡ 0 → v.place ≡ Idle → length v.given < 9 → ¬ (p ≡ 0) → ¬ (Has v.given p) → Splits (Kept history party start allowed) id v (left_after p v) (newcomer p v)
+  splits_at p id v first idle room not0 fresh = subst (λ (i : ℕ). Splits (Kept history party start allowed) i v (left_after p v) (newcomer p v)) (sym first) (splits p v idle room not0 fresh)
 
   pub joins_at : (id : ℕ) (v : View E B) (other : ℕ) (w : View E B) → id ≡ 0 → (v.place ≡ Idle) ⊎ (v.place ≡ Told) → (w.place ≡ Idle) ⊎ (w.place ≡ Told)
-      → Joins (Kept history party start) id v other w (taken_in v w) spent_view
+      → Joins (Kept history party start allowed) id v other w (taken_in v w) spent_view
   joins_at id v other w first idle done =
       let q = quiet w.place done in
-      subst (λ (i : ℕ). Joins (Kept history party start) i v other w (taken_in v w) spent_view) (sym first) (joins v other w idle q.0 q.1)
+      subst (λ (i : ℕ). Joins (Kept history party start allowed) i v other w (taken_in v w) spent_view) (sym first) (joins v other w idle q.0 q.1)
 
   -- what stands in the slot once the table is closed
   pub record Whole (x : T) (v : View E B) : Type 0 where
@@ -644,8 +653,9 @@ module _ {T E B : Type 0} (history : T → List E) (party : E → ℕ) (start : 
     pub own : v.own ≡ own_of party v.party (history x)
     pub joined : (i : ℕ) (y : ℕ × List E) → get_elem? v.joined i ≡ some y → Has v.given y.0 × (y.1 ≡ own_of party y.0 (history x))
     pub known : (i : ℕ) (e : E) → get_elem? (history x) i ≡ some e → IsKnown v.given (party e)
+    pub allowed_all : AllOf allowed (history x)
 
-  pub closes : (id : ℕ) (v : View E B) (ws : List ℕ) (xs : List (Option T)) → Final (Seen (Kept history party start) id v) ws xs → id ≡ 0 → (v.place ≡ Idle) ⊎ (v.place ≡ Told) → length v.joined ≡ length v.given
+  pub closes : (id : ℕ) (v : View E B) (ws : List ℕ) (xs : List (Option T)) → Final (Seen (Kept history party start allowed) id v) ws xs → id ≡ 0 → (v.place ≡ Idle) ⊎ (v.place ≡ Told) → length v.joined ≡ length v.given
       → (x : T) × (get_elem? xs 0 ≡ some (Some x)) × Whole x v
   closes id v ws xs (s, (k, at), same_ws, long, there) first idle all =
       let at0 : get_elem? s.views 0 ≡ some v = subst (λ (i : ℕ). get_elem? s.views i ≡ some v) first at in
@@ -661,6 +671,7 @@ module _ {T E B : Type 0} (history : T → List E) (party : E → ℕ) (start : 
           joined = λ i y ati. let t = k.parted.taken i y (ap (λ (u : View E B). get_elem? u.joined i) same ∙ ati) in
               (subst (λ (u : View E B). Has u.given y.0) same t.0, t.1 ∙ ap (λ (l : List E). own_of party y.0 l) (sym home.2));
           known = λ i e ati. subst (λ (u : View E B). IsKnown u.given (party e)) same (k.parted.known i e (sym (ap (λ (l : List E). get_elem? l i) home.2) ∙ ati));
+          allowed_all = subst (λ (l : List E). AllOf allowed l) (sym home.2) k.lawful;
         },
       )
 

@@ -16,6 +16,10 @@ abbrev pub own_of : {E : Type 0} → (E → ℕ) → ℕ → List E → List E
 own_of party p [] = []
 own_of party p (e ∷ es) = kept (party e == p) e (own_of party p es)
 
+-- each entry
+abbrev pub AllOf : {E : Type 0} → (E → Type 0) → List E → Type 0
+AllOf {E} allowed log = (i : ℕ) (e : E) → get_elem? log i ≡ some e → allowed e
+
 -- somewhere in the list
 abbrev pub Has : {A : Type 0} → List A → A → Type 0
 Has xs x = (i : ℕ) × (get_elem? xs i ≡ some x)

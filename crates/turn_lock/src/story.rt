@@ -18,4 +18,7 @@ pub trait Story {
 
     /// Whose an entry is.
     ghost party: { Self.Entry → ℕ };
+
+    /// What may stand in the history, whoever made it.
+    ghost allowed: { Self.Entry → Type 0 };
 }

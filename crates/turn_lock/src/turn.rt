@@ -2,7 +2,7 @@
 ghost use Rattle.std.specs.Prelude.{◌≡◌, ◌++◌, ◌≤◌, ◌<◌, ◌^◌, ◌+◌, ◌⊎◌, ℕ, List, [], ◌∷◌, IfOk, OnOk, OnErr, IfErr, length, Some};
 ghost use lib.ListN.{get_elem?};
 ghost use mathlib.Core.Option.{some};
-ghost use Rattle.turn_lock.specs.Histories.{StartsWith, own_of, Has, IsKnown};
+ghost use Rattle.turn_lock.specs.Histories.{StartsWith, own_of, AllOf, Has, IsKnown};
 ghost use Rattle.turn_lock.specs.inner.Turns.{Same, left_after, newcomer, taken_in};
 ghost use Rattle.turn_lock.specs.declared.view.Place.TheVariants.{Idle as AtRest, Holds as HasTurn, Waits as Wanted, Told as Done};
 
@@ -56,6 +56,9 @@ impl<T: Story> Turn<T> {
         ensures mine { OnOk result (seat.new.me.0.own ≡ own_of T.party seat.new.me.0.party seat.new.me.0.seen) }
         ensures out { OnOk result (seat.new.me.1 ≡ (0, None) ∷ []) }
 
+        // What was seen is allowed.
+        ensures allowed { AllOf T.allowed seat.new.me.0.seen }
+
         // All turns were had by then.
         ensures spent { IfErr result (λ spent. (spent.turns ≡ 2 ^ 62) × (2 ^ 62 ≤ length seat.new.me.0.seen)) }
         ensures told { OnErr result ((seat.new.me.0.place ≡ Done) × (seat.new.me.1 ≡ [])) }
@@ -78,6 +81,7 @@ impl<T: Story> Turn<T> {
         requires drawn { seat.old.me.0.place ≡ Wanted ticket }
         ensures own { (seat.new.table_id ≡ seat.old.table_id) × (seat.new.id ≡ seat.old.id) × Same T.history T.party T.start seat.old.me seat.new.me }
         ensures counted { length seat.new.me.0.seen ≡ ticket }
+        ensures allowed { AllOf T.allowed seat.new.me.0.seen }
         ensures turn { (seat.new.me.0.place ≡ HasTurn ticket) × ((x : T) × (seat.new.me.1 ≡ (0, Some x) ∷ []) × (T.history x ≡ seat.new.me.0.seen) × (T.start x ∷ [] ≡ seat.new.me.0.root)) × (seat.new.me.0.own ≡ own_of T.party seat.new.me.0.party seat.new.me.0.seen) }
     {
         let table = &self.table;
@@ -96,6 +100,7 @@ impl<T: Story> Turn<T> {
         requires told { seat.old.me.0.place ≡ Done }
         ensures own { (seat.new.table_id ≡ seat.old.table_id) × (seat.new.id ≡ seat.old.id) × Same T.history T.party T.start seat.old.me seat.new.me }
         ensures spent { 2 ^ 62 ≤ length seat.new.me.0.seen }
+        ensures allowed { AllOf T.allowed seat.new.me.0.seen }
         ensures told { (seat.new.me.0.place ≡ Done) × (seat.new.me.1 ≡ seat.old.me.1) }
     {
         let table = &self.table;
@@ -112,13 +117,13 @@ impl<T: Story> Turn<T> {
     pub fn give(&self, seat: &mut TurnSeat<T>, held: Held<T>)
         requires own { (seat.old.table_id ≡ self.now.table.shared.table_id) × (seat.old.me.1 ≡ (0, None) ∷ []) }
         requires turn { (n : ℕ) × (seat.old.me.0.place ≡ HasTurn n) }
-        requires entry { (e : T.Entry) × (T.history held.state ≡ seat.old.me.0.seen ++ e ∷ []) × (T.party e ≡ seat.old.me.0.party) }
+        requires entry { (e : T.Entry) × (T.history held.state ≡ seat.old.me.0.seen ++ e ∷ []) × (T.party e ≡ seat.old.me.0.party) × T.allowed e }
         requires start { T.start held.state ∷ [] ≡ seat.old.me.0.root }
         ensures own { (seat.new.table_id ≡ seat.old.table_id) × (seat.new.id ≡ seat.old.id) × (seat.new.me.1 ≡ []) }
         ensures idle { seat.new.me.0.place ≡ AtRest }
         ensures seen { seat.new.me.0.seen ≡ T.history held.state }
         ensures same { (seat.new.me.0.party ≡ seat.old.me.0.party) × (seat.new.me.0.root ≡ seat.old.me.0.root) × (seat.new.me.0.given ≡ seat.old.me.0.given) × (seat.new.me.0.joined ≡ seat.old.me.0.joined) }
-        ensures mine { (e : T.Entry) → T.history held.state ≡ seat.old.me.0.seen ++ e ∷ [] → T.party e ≡ seat.old.me.0.party → seat.new.me.0.own ≡ seat.old.me.0.own ++ e ∷ [] }
+        ensures mine { (e : T.Entry) → T.history held.state ≡ seat.old.me.0.seen ++ e ∷ [] → T.party e ≡ seat.old.me.0.party → T.allowed e → seat.new.me.0.own ≡ seat.old.me.0.own ++ e ∷ [] }
     {
         let Held { state } = held;
         let before = self.table.shared.exchange(seat, 0, Some(state));
@@ -190,6 +195,7 @@ impl<T: Story> Turn<T> {
         ensures own { seat.me.0.own ≡ own_of T.party seat.me.0.party (T.history result) }
         ensures joined { (i : ℕ) (x : ℕ × List T.Entry) → get_elem? seat.me.0.joined i ≡ some x → Has seat.me.0.given x.0 × (x.1 ≡ own_of T.party x.0 (T.history result)) }
         ensures known { (i : ℕ) (e : T.Entry) → get_elem? (T.history result) i ≡ some e → IsKnown seat.me.0.given (T.party e) }
+        ensures allowed { AllOf T.allowed (T.history result) }
     {
         let Turn { table } = self;
         let mut closed = table.close_with(seat);

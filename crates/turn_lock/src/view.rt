@@ -61,7 +61,7 @@ impl<T: Story> TableRule<Option<T>, View<T::Entry, T::Start>, First<T>> for Law<
     ghost use Rattle.turn_lock.specs.inner.Turns.{Kept};
     ghost use Rattle.turn_lock.specs.declared.view.Place.TheVariants.{Idle};
 
-    ghost holds = { λ _. Kept T.history T.party T.start };
+    ghost holds = { λ _. Kept T.history T.party T.start T.allowed };
 
     ghost first = { λ k. record { party = 0; root = T.start k.shared.key ∷ []; place = Idle; seen = []; own = []; given = []; joined = [] } };
 }
@@ -85,7 +85,7 @@ pub(crate) struct Look<T> {
 impl<T: Story> Play<Option<T>, View<T::Entry, T::Start>> for Look<T> {
     ghost use Rattle.turn_lock.specs.inner.Turns.{looked};
 
-    ghost then = { looked T.history T.party T.start };
+    ghost then = { looked T.history T.party T.start T.allowed };
 }
 
 // The turn is passed on.
@@ -96,7 +96,7 @@ pub(crate) struct Pass<T> {
 impl<T: Story> Play<Option<T>, View<T::Entry, T::Start>> for Pass<T> {
     ghost use Rattle.turn_lock.specs.inner.Turns.{passed};
 
-    ghost then = { passed T.history T.party T.start };
+    ghost then = { passed T.history T.party T.start T.allowed };
 }
 
 // Names a party, for contracts alone.

@@ -3,7 +3,7 @@ use Rattle.std.specs.Prelude.{◌≡◌, ℕ, ◌+◌, ◌<◌, ◌≤◌, ◌^�
 use mathlib.Core.Option.{Option as Maybe, some, none}
 use lib.ListN.{get_elem?}
 use Rattle.atomic_table.specs.Table.{State, Me, Step}
-use Rattle.turn_lock.specs.Histories.{StartsWith, own_of, Has, IsKnown}
+use Rattle.turn_lock.specs.Histories.{StartsWith, own_of, AllOf, Has, IsKnown}
 use Rattle.turn_lock.specs.declared.view.View.{View}
 use Rattle.turn_lock.specs.declared.view.Place.{Place}
 use Rattle.turn_lock.specs.declared.view.Place.TheVariants.{Idle, Waits, Holds, Told, Gone}
@@ -87,6 +87,17 @@ module _ {T E B : Type 0} (history : T → List E) (party : E → ℕ) (start : 
   InSlot begin log views (some y) = (x : T) × (y ≡ Some x) × (history x ≡ log) × (start x ≡ begin)
   InSlot begin log views none = (i : ℕ) × (v : View E B) × (n : ℕ) × (get_elem? views i ≡ some v) × (v.place ≡ Holds n)
 
+  abbrev pub Sat : Type 0
+  Sat = Me (Option T) (View E B)
+
+  abbrev pub Same : Sat → Sat → Type 0
+  Same v w = StartsWith w.0.seen v.0.seen × (w.0.own ≡ v.0.own) × (w.0.party ≡ v.0.party) × (w.0.given ≡ v.0.given) × (w.0.joined ≡ v.0.joined) × (w.0.root ≡ v.0.root)
+
+  -- a ticket, or the word that all are spent
+  abbrev pub drew : Step (Option T) → Sat → ℕ → Sat → Type 0
+  drew st v found w = Same v w × (w.1 ≡ v.1) × (found < 2 ^ 62 → w.0.place ≡ Waits found) × (2 ^ 62 ≤ found → w.0.place ≡ Told)
+
+module _ {T E B : Type 0} (history : T → List E) (party : E → ℕ) (start : T → B) (allowed : E → Type 0) where
   pub record Kept (s : State (Option T) (View E B)) : Type 0 where
     pub begin : B
     pub ticket : ℕ
@@ -99,32 +110,23 @@ module _ {T E B : Type 0} (history : T → List E) (party : E → ℕ) (start : 
     pub served : serving ≤ ticket
     pub drawn : ticket ≤ 2 ^ 62 + total told_of s.views
     pub few : length s.views ≤ 10
-    pub in_slot : InSlot begin log s.views slot
+    pub in_slot : InSlot history party start begin log s.views slot
     pub each : Each ticket serving log s.views
     pub apart : Apart s.views
     pub rooted : Rooted s.views
     pub parted : Parted party begin log s.views
-
-  abbrev pub Sat : Type 0
-  Sat = Me (Option T) (View E B)
-
-  abbrev pub Same : Sat → Sat → Type 0
-  Same v w = StartsWith w.0.seen v.0.seen × (w.0.own ≡ v.0.own) × (w.0.party ≡ v.0.party) × (w.0.given ≡ v.0.given) × (w.0.joined ≡ v.0.joined) × (w.0.root ≡ v.0.root)
-
-  -- a ticket, or the word that all are spent
-  abbrev pub drew : Step (Option T) → Sat → ℕ → Sat → Type 0
-  drew st v found w = Same v w × (w.1 ≡ v.1) × (found < 2 ^ 62 → w.0.place ≡ Waits found) × (2 ^ 62 ≤ found → w.0.place ≡ Told)
+    pub lawful : AllOf allowed log
 
   -- the turn with its state, or one has to wait on
-  abbrev pub looked : Step (Option T) → Sat → ℕ → Sat → Type 0
-  looked st v found w = Same v w × (length w.0.seen ≡ found) × (v.0.place ≡ Told → (w.0.place ≡ Told) × (w.1 ≡ v.1))
+  abbrev pub looked : Step (Option T) → Me (Option T) (View E B) → ℕ → Me (Option T) (View E B) → Type 0
+  looked st v found w = Same history party start v w × AllOf allowed w.0.seen × (length w.0.seen ≡ found) × (v.0.place ≡ Told → (w.0.place ≡ Told) × (w.1 ≡ v.1))
       × ((n : ℕ) → v.0.place ≡ Waits n → v.1 ≡ []
       → (found ≡ n → (w.0.place ≡ Holds n) × ((x : T) × (w.1 ≡ (0, Some x) ∷ []) × (history x ≡ w.0.seen) × (start x ∷ [] ≡ w.0.root)) × (w.0.own ≡ own_of party w.0.party w.0.seen))
       × (¬ (found ≡ n) → (w.0.place ≡ Waits n) × (w.1 ≡ [])))
 
   -- the turn is over, and the history has one entry more
-  abbrev pub passed : Step (Option T) → Sat → ℕ → Sat → Type 0
-  passed st v found w = (n : ℕ) (x : T) (e : E) → v.0.place ≡ Holds n → v.1 ≡ (0, Some x) ∷ [] → history x ≡ v.0.seen ++ e ∷ [] → start x ∷ [] ≡ v.0.root → party e ≡ v.0.party
+  abbrev pub passed : Step (Option T) → Me (Option T) (View E B) → ℕ → Me (Option T) (View E B) → Type 0
+  passed st v found w = (n : ℕ) (x : T) (e : E) → v.0.place ≡ Holds n → v.1 ≡ (0, Some x) ∷ [] → history x ≡ v.0.seen ++ e ∷ [] → start x ∷ [] ≡ v.0.root → party e ≡ v.0.party → allowed e
       → (w.0 ≡ record { party = v.0.party; root = v.0.root; place = Idle; seen = v.0.seen ++ e ∷ []; own = v.0.own ++ e ∷ []; given = v.0.given; joined = v.0.joined }) × (w.1 ≡ [])
 
 module _ {E B : Type 0} where

@@ -8,7 +8,7 @@ split_seat-requires g c =
     let named = c.requires.named in (
       search rules,
       search rules,
-      splits_at g.T.Story.history g.T.Story.party g.T.Story.start g.N.PartyNamed.party _ c.args.seat.now.me.0 c.requires.own.1 c.requires.idle.0 c.requires.idle.1
+      splits_at g.T.Story.history g.T.Story.party g.T.Story.start g.T.Story.allowed g.N.PartyNamed.party _ c.args.seat.now.me.0 c.requires.own.1 c.requires.idle.0 c.requires.idle.1
           (λ e. c.requires.fresh.0 (sym named ∙ e))
           (λ h. c.requires.fresh.1 (subst (λ n. Has c.args.seat.now.me.0.given n) named h)),
     )
