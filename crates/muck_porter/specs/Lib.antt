@@ -1,0 +1,6 @@
+pub mod Notes
+pub mod Kept
+pub mod Deeds
+pub mod Turns
+pub mod Moves
+pub mod Porter
