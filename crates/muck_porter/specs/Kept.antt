@@ -70,16 +70,19 @@ pub data IsFree (own : List Logged) : Type 0 where
   timed : IsAt Stage.timed own → IsFree own
 
 -- A seat of the porter at rest, and whether the note of the links was made.
-pub record Ready (noted : Bool) (me : Chair) : Type 0 where
+pub record Resting (noted : Bool) (me : Chair) : Type 0 where
   pub rests : Rests 0 me
-  pub free : IsFree me.0.own
   pub noted : noted ≡ is_some (note_in me.0.own)
 
--- the same at once behind a moment
+-- where nothing binds it
+pub record Ready (noted : Bool) (me : Chair) : Type 0 where
+  pub resting : Resting noted me
+  pub free : IsFree me.0.own
+
+-- at once behind a moment
 pub record ReadyTimed (noted : Bool) (me : Chair) : Type 0 where
-  pub rests : Rests 0 me
+  pub resting : Resting noted me
   pub timed : IsAt Stage.timed me.0.own
-  pub noted : noted ≡ is_some (note_in me.0.own)
 
 -- what stands of its seat at any return
 pub record Over (me : Chair) : Type 0 where
