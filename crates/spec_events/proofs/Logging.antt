@@ -1,8 +1,6 @@
 -- The items of a history.
 use Rattle.std.proofs.Common.{◌≡◌, ℕ, zero, suc, ◌+◌, ◌<◌, ◌≤◌, Bool, true, false, ◌==◌, cond, List, [], ◌∷◌, ◌++◌, length, map, take, drop, refl, sym, ap, ◌∙◌, subst, append_assoc, append-nil, length-append, arith, Option, Some, None, nat_le}
 use Rattle.std.specs.List.{filter}
-use mathlib.Core.Option.{some}
-use lib.ListN.{get_elem?}
 use Rattle.std.proofs.lemmas.Bool.Decides.{nat_tests}
 use Rattle.std.proofs.lemmas.Bool.{cond-true, cond-false}
 use Rattle.muck_model.specs.declared.event.Entry.{Entry}
@@ -12,7 +10,7 @@ use Rattle.spec_events.specs.declared.logged.Count.{Count}
 use Rattle.spec_events.specs.declared.logged.Logged.{Logged}
 use Rattle.spec_events.specs.World.{World}
 use Rattle.spec_events.specs.Histories.{History, entered, noted, links_noted}
-use Rattle.spec_events.specs.Logged.{is_dump, notes_at, notes_from, counted_at, counted_from, item_at, items_from, logged, loose_notes, loose_count, IsSettled, bare_item, noted_item, counted_item, entries_of, events_of, notes_of, placed_count, count_from, history_of, ArePlaced, IsCountPlaced, IsPlaced, IsOrderly}
+use Rattle.spec_events.specs.Logged.{is_dump, notes_at, notes_from, counted_at, counted_from, item_at, items_from, logged, loose_notes, loose_count, IsSettled, bare_item, noted_item, counted_item, entries_of, events_of, notes_of, NoNotes, NoCounts, placed_count, count_from, history_of, ArePlaced, IsCountPlaced, IsPlaced, IsOrderly}
 
 length_one : (es : List Entry) (e : Entry) → length (es ++ e ∷ []) ≡ suc (length es)
 length_one es e = omega (arith, length-append es (e ∷ []))
@@ -447,6 +445,18 @@ notes_append [] b = refl
 notes_append (l ∷ ls) b = ap (λ (ns : List Note). l.notes ++ ns) (notes_append ls b) ∙ sym (append_assoc l.notes (notes_of ls) (notes_of b))
 
 -- where no item has a note of the links, the history has none
-pub no_count : (n : ℕ) (ls : List Logged) → ((i : ℕ) (l : Logged) → get_elem? ls i ≡ some l → l.counted ≡ None) → count_from n ls ≡ None
+pub no_count : (n : ℕ) (ls : List Logged) → NoCounts ls → count_from n ls ≡ None
 no_count n [] none = refl
-no_count n (l ∷ ls) none = ap (λ (o : Option (List Count)). placed_count n o (count_from (suc n) ls)) (none 0 l refl) ∙ no_count (suc n) ls (λ i x at. none (suc i) x at)
+no_count n (l ∷ ls) none = ap (λ (o : Option (List Count)). placed_count n o (count_from (suc n) ls)) none.0 ∙ no_count (suc n) ls none.1
+
+pub no_counts_one : (ls : List Logged) (l : Logged) → NoCounts ls → l.counted ≡ None → NoCounts (ls ++ l ∷ [])
+no_counts_one [] l none last = (last, tt)
+no_counts_one (x ∷ xs) l none last = (none.0, no_counts_one xs l none.1 last)
+
+pub no_notes_one : (ls : List Logged) (l : Logged) → NoNotes ls → l.notes ≡ [] → NoNotes (ls ++ l ∷ [])
+no_notes_one [] l none last = (last, tt)
+no_notes_one (x ∷ xs) l none last = (none.0, no_notes_one xs l none.1 last)
+
+pub no_notes : (ls : List Logged) → NoNotes ls → notes_of ls ≡ []
+no_notes [] none = refl
+no_notes (l ∷ ls) none = ap (λ (ns : List Note). ns ++ notes_of ls) none.0 ∙ no_notes ls none.1

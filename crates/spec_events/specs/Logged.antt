@@ -100,6 +100,15 @@ abbrev pub notes_of : List Logged → List Note
 notes_of [] = []
 notes_of (l ∷ ls) = l.notes ++ notes_of ls
 
+-- no item has a note of the disks, or of the links
+abbrev pub NoNotes : List Logged → Type 0
+NoNotes [] = Unit {0}
+NoNotes (l ∷ ls) = (l.notes ≡ []) × NoNotes ls
+
+abbrev pub NoCounts : List Logged → Type 0
+NoCounts [] = Unit {0}
+NoCounts (l ∷ ls) = (l.counted ≡ None) × NoCounts ls
+
 -- the first note of the links, with its place behind so many entries
 abbrev pub placed_count : ℕ → Option (List Count) → Option (ℕ × List Count) → Option (ℕ × List Count)
 placed_count n (Some counts) later = Some (n, counts)
