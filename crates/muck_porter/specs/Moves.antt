@@ -54,8 +54,8 @@ Loses noted k k' peers = (v : Sight) (b : Tally) (coming : Option ℕ) (n : ℕ)
     → BooksAt b v (tally k n) peers coming → PromisedIn b v v.seen (tally k' n)
 
 -- a last entry, by which nothing changes for links
-abbrev pub LastEntry : Sight → Sight → Type 0
-LastEntry v v' = (b k : Tally) → PromisedIn b v v.seen k → KeptBy b v' k
+abbrev pub LastEntry : Tally → Sight → Sight → Type 0
+LastEntry k v v' = (b : Tally) → PromisedIn b v v.seen k → KeptBy b v' k
 
 -- the porter's claim stands in the world that its seat has seen
 abbrev pub HasClaimed : ℤ → Sight → Type 0

@@ -1,9 +1,10 @@
 // Links are served: each whose connection wants something gets one hold a round.
-ghost use Rattle.std.specs.Prelude.{◌≡◌, ◌≤◌, ◌<◌, ◌+◌, ◌^◌, ℕ, IfOk, OnOk, OnErr, IfErr, length, true};
+ghost use Rattle.std.specs.Prelude.{◌≡◌, ◌<◌, ℕ, IfOk, OnOk, OnErr, IfErr, length, true};
+ghost use Rattle.std.specs.List.{remove};
 ghost use Rattle.muck_machine.specs.Seats.{SameLists};
 ghost use Rattle.muck_porter.specs.Kept.{tally, Ready, ReadyTimed, Over};
-ghost use Rattle.muck_porter.specs.Moves.{CarriesOn, EndsAll, LastEntry, TendsPeer};
-ghost use Rattle.muck_porter.specs.Rounds.{IsServed, Nearer, IsSpent};
+ghost use Rattle.muck_porter.specs.Moves.{CarriesOn, EndsAll, LastEntry};
+ghost use Rattle.muck_porter.specs.Rounds.{IsServed, Nearer, IsSpent, WroteAt, ClosedAt};
 
 use crate::deeds::{Deed, Did, Served};
 use crate::holds::{deed_turn, serve_turn};
@@ -36,7 +37,7 @@ pub fn dies<W: Wait, L: Links, C: Clock, R: Rest>(
     requires ready { Ready noted.old seat.old.me }
     ensures own { (seat.new.table_id ≡ seat.old.table_id) × (seat.new.id ≡ seat.old.id) }
     ensures lists { SameLists seat.old.me.0 seat.new.me.0 }
-    ensures last { LastEntry (L.told links.now) seat.old.me.0 seat.new.me.0 }
+    ensures last { (n : ℕ) → LastEntry (tally (L.told links.now) n) seat.old.me.0 seat.new.me.0 }
     ensures over { Over seat.new.me }
     ensures spent { IsSpent result seat.new.me.0 }
 {
@@ -51,7 +52,7 @@ fn writes<L: Links>(links: &mut L, noted: bool, peers: &mut Vec<Peer>, at: usize
     requires { at < length peers.old.items }
     ensures tells { L.tells links.new ≡ L.tells links.old }
     ensures listening { L.listening links.new ≡ L.listening links.old }
-    ensures wrote { L.tells links.old ≡ true → TendsAt at noted (L.told links.old) (L.told links.new) peers.old.items peers.new.items }
+    ensures wrote { L.tells links.old ≡ true → WroteAt at noted (L.told links.old) (L.told links.new) peers.old.items peers.new.items }
     ensures count { length peers.new.items ≡ length peers.old.items }
 {
     let peer = &mut peers[at];
@@ -63,7 +64,7 @@ fn lets_go<L: Links>(links: &mut L, peers: &mut Vec<Peer>, at: usize)
     requires { at < length peers.old.items }
     ensures tells { L.tells links.new ≡ L.tells links.old }
     ensures listening { L.listening links.new ≡ L.listening links.old }
-    ensures told { L.tells links.old ≡ true → ClosesAt at (L.told links.old) (L.told links.new) peers.old.items }
+    ensures told { L.tells links.old ≡ true → ClosedAt at (L.told links.old) (L.told links.new) peers.old.items }
     ensures gone { peers.new.items ≡ remove peers.old.items at }
 {
     let peer = peers.remove(at);
