@@ -17,7 +17,7 @@ module _ {D : Type 0} (seen : D → List ℕ) (moment : D → ℕ) (images : D �
     (is : IsMounted seen moment images log f s) (limit : log.most ≡ file_most) (holds : log.chosen.held.world ≡ persisted w) (consistent : IsConsistent w.live.objects)
     (at : note.entries ≡ 0) (here : IsAt moment f s note) (count : IsCounted faults f s note) where
   abbrev begun : History
-  begun = record { start = w; entries = []; notes = note ∷ [] }
+  begun = record { start = w; entries = []; notes = note ∷ []; counted = None }
 
   none_cut : last_cut [] ≡ 0
   unfolding last_cut
