@@ -13,7 +13,7 @@ use Rattle.spec_talks.specs.Counts.{counts}
 use Rattle.spec_serve.specs.Marks.{LinksNote}
 use Rattle.muck_machine.specs.declared.world.World.{World as State}
 use Rattle.muck_machine.specs.Beginnings.{beginning, begun}
-use Rattle.muck_machine.specs.Seats.{Sight, Chair, AllOrderly, Waited, SameLists, Turned}
+use Rattle.muck_machine.specs.Seats.{Sight, Chair, AllOrderly, Waited, SameLists}
 
 -- The note of the links is made in a hold, where the world is stopping and there is none yet, or not.
 pub data Marked (noted noted' : Bool) (k : Told) (w : World) (counted : LinksNote) : Type 0 where
@@ -43,10 +43,13 @@ pub record PorterTurn (noted noted' : Bool) (k : Told) (v v' : Sight) (w : World
   pub start : World
   pub mounting : Note
   pub root : v.root ≡ begun start mounting ∷ []
+  pub others : List Logged
   pub item : Logged
-  pub turned : Turned v v' item
-  pub lawful : AllLawful start (entries_of (v.seen ++ turned.others))
-  pub world : w ≡ after start (entries_of (v.seen ++ turned.others))
-  pub still : own_of logged_by 0 (v.seen ++ turned.others) ≡ own_of logged_by 0 v.seen
+  pub seen : v'.seen ≡ (v.seen ++ others) ++ item ∷ []
+  pub own : v'.own ≡ v.own ++ item ∷ []
+  pub lists : SameLists v v'
+  pub lawful : AllLawful start (entries_of (v.seen ++ others))
+  pub world : w ≡ after start (entries_of (v.seen ++ others))
+  pub still : own_of logged_by 0 (v.seen ++ others) ≡ own_of logged_by 0 v.seen
   pub entry : item.entry ≡ by_porter event
   pub marked : Marked noted noted' k w item.counted

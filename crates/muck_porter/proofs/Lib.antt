@@ -1,0 +1,5 @@
+pub mod Items
+pub mod Stages
+pub mod Turning
+pub mod Carrying
+pub mod Doing
