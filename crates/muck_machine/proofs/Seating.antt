@@ -172,12 +172,12 @@ pub rests_turned : (whose : ℕ) (me : Chair) (v : Sight) (me' : Chair) (h k : H
     → OneMore h k l → l.entry.party ≡ whose → IsOrderly l
     → me'.1 ≡ [] → me'.0.place ≡ Idle → me'.0.seen ≡ logged k
     → (me'.0.party ≡ v.party) × (me'.0.root ≡ v.root) × (me'.0.given ≡ v.given) × (me'.0.joined ≡ v.joined)
-    → ((e : Logged) → logged k ≡ v.seen ++ e ∷ [] → e.entry.party ≡ v.party → me'.0.own ≡ v.own ++ e ∷ [])
+    → ((e : Logged) → logged k ≡ v.seen ++ e ∷ [] → e.entry.party ≡ v.party → IsOrderly e → me'.0.own ≡ v.own ++ e ∷ [])
     → Rests whose me' × Turned me.0 me'.0 l
 rests_turned whose me v me' h k l r waited seen own all one by orderly free idle seen' same mine =
     let party : v.party ≡ whose = waited.2 ∙ r.party in
     let longer : logged k ≡ v.seen ++ l ∷ [] = given_seen v h k l one seen in
-    let own' : me'.0.own ≡ v.own ++ l ∷ [] = mine l longer (by ∙ sym party) in
+    let own' : me'.0.own ≡ v.own ++ l ∷ [] = mine l longer (by ∙ sym party) orderly in
     let whole : me'.0.seen ≡ v.seen ++ l ∷ [] = seen' ∙ longer in
     let known : v.own ≡ own_of logged_by whose v.seen = own ∙ ap (λ (n : ℕ). own_of logged_by n v.seen) party in
     (record {

@@ -30,6 +30,8 @@ impl Story for World {
     ghost history = { logged };
 
     ghost party = { logged_by };
+
+    ghost allowed = { IsOrderly };
 }
 
 impl World {
@@ -43,7 +45,8 @@ impl World {
             return false;
         }
         let state = &self.state;
-        if !state.stopping {
+        let stopping = state.stopping;
+        if !stopping {
             return false;
         }
         self.past.enter(Entry {
