@@ -1,16 +1,19 @@
 -- The steps of one link.
 use Rattle.std.proofs.Common.{◌≡◌, ℕ, ◌≤◌, Bool, true, false, List, [], ◌∷◌, take, drop, length, refl, sym, ap, ◌∙◌, subst, arith}
-use Rattle.std.specs.Prelude.{nat_lt, is_some, Result, Ok, Err, OnErr, OnOk}
-use Rattle.std.proofs.lemmas.Bool.{ltb-true, ltb-false}
+use Rattle.std.specs.Prelude.{nat_lt, min, ◌<◌, if◌then◌else◌, not, ◌&&◌, is_some, Result, Ok, Err, OnErr}
+use Rattle.std.proofs.lemmas.Bool.{ltb-true, ltb-false, lt-ltb}
 use Rattle.std.proofs.lemmas.List.{length-drop, length-take, length-take-le}
 use Rattle.muck_links.specs.inner.Cutting.{Cut, Rest, fed}
 use Rattle.muck_links.specs.Sessions.{Session, Told, on_session, with_read, with_end, with_fault, with_written, with_refusal}
 use Rattle.muck_model.specs.declared.event.Event.TheVariants.{Input, Take}
+use Rattle.spec_live.specs.Connections.{is_ready}
 use Rattle.spec_events.specs.World.{World, queue_of}
+use Rattle.spec_events.specs.Steps.{passes}
 use Rattle.spec_serve.specs.Marks.{LinksNote}
 use Rattle.spec_serve.specs.inner.Keeping.{Peer, Keeps}
 use Rattle.spec_serve.proofs.Accounting.{keeps_read, keeps_end, keeps_fault, keeps_written, keeps_refusal, agrees_read}
-use Rattle.muck_peer.specs.Moves.{LinkStep, LinkLoss, PeerStep}
+use Rattle.spec_serve.proofs.Causes.{worked_done}
+use Rattle.muck_peer.specs.Moves.{LinkStep, LinkLoss, PeerStep, IsWorkedOff}
 
 -- Calls of the links.
 
@@ -95,3 +98,27 @@ was_false b e t = both b e t
 pub on_err : {A E : Type 0} (r : Result A E) (P : Type 0) → P → OnErr r P
 on_err (Ok x) P h = tt
 on_err (Err e) P h = h
+
+-- What is worked off.
+
+pub off_stopping : (p : Peer) (w : World) → w.stopping ≡ true → length (queue_of p.number w) ≤ 0 → p.unsent ≡ [] → IsWorkedOff p w
+off_stopping p w stopping queue none_kept counted = worked_done counted p w (from (passes is_ready p.number w) w.stopping stopping) queue none_kept
+  where
+    from : (a b : Bool) → b ≡ true → (a && not b) ≡ false
+    from true b e = ap not e
+    from false b e = refl
+
+pub off_idle : (p : Peer) (w : World) → passes is_ready p.number w ≡ false → length (queue_of p.number w) ≤ 0 → p.unsent ≡ [] → IsWorkedOff p w
+off_idle p w idle queue none_kept counted = worked_done counted p w (ap (λ (b : Bool). b && not w.stopping) idle) queue none_kept
+
+pub was_not : (b : Bool) → not b ≡ true → b ≡ false
+was_not true e = absurd cc
+was_not false e = refl
+
+-- bytes were taken where some waited and there was room
+pub took_count : (dead : Bool) (n a b : ℕ) → dead ≡ false → n ≡ (if dead then 0 else min a b) → 0 < a → 0 < b → 0 < n
+took_count true n a b alive is some room = absurd cc
+took_count false n a b alive is some room = omega arith
+
+pub took_some : {A : Type 0} (n : ℕ) (old new : A) → 0 < n → (if nat_lt 0 n then new else old) ≡ new
+took_some n old new some = ap (λ (b : Bool). if b then new else old) (lt-ltb 0 n some)

@@ -3,3 +3,6 @@ pub mod Stages
 pub mod Turning
 pub mod Carrying
 pub mod Doing
+pub mod Quiet
+pub mod Serving
+pub mod Rounds
