@@ -44,14 +44,14 @@ use Rattle.muck_porter.specs.Moves.{MayHalt, LastEntry}
 use Rattle.muck_porter.proofs.Items.{note_append, some_is, entries_own}
 
 -- the world of the beginning
-same_world : (u w : World) (m m' : Note) → ◌≡◌ {A = List Beginning} (begun u m ∷ []) (begun w m' ∷ []) → u ≡ w
+pub same_world : (u w : World) (m m' : Note) → ◌≡◌ {A = List Beginning} (begun u m ∷ []) (begun w m' ∷ []) → u ≡ w
 same_world u w m m' e = ap head_world e
   where
     head_world : List Beginning → World
     head_world [] = u
     head_world (b ∷ bs) = b.world
 
-set_again : {A : Type 0} (xs : List A) (i : ℕ) (a : A) → get_elem? xs i ≡ some a → set xs i a ≡ xs
+pub set_again : {A : Type 0} (xs : List A) (i : ℕ) (a : A) → get_elem? xs i ≡ some a → set xs i a ≡ xs
 set_again [] i a e = refl
 set_again (x ∷ xs) zero a e = ap (λ y. y ∷ xs) (sym (same x a e))
   where

@@ -11,7 +11,7 @@ use Rattle.turn_lock.specs.Histories.{own_of}
 use Rattle.muck_links.specs.Sessions.{Told, on_session, shut, accepted, is_used}
 use Rattle.muck_links.specs.Keyed.{latest}
 use Rattle.muck_model.specs.declared.event.Event.{Event}
-use Rattle.muck_model.specs.declared.event.Event.TheVariants.{Opened, Input, Closed, Moment, Exec, Claim, Slice, Lost, Idle, Take, Halt, StopSeen, Died}
+use Rattle.muck_model.specs.declared.event.Event.TheVariants.{Moment, Died}
 use Rattle.muck_model.specs.declared.note.Note.{Note}
 use Rattle.spec_events.specs.declared.logged.Logged.{Logged}
 use Rattle.spec_events.specs.World.{World}
@@ -30,10 +30,13 @@ use Rattle.muck_machine.specs.Beginnings.{begun}
 use Rattle.muck_machine.specs.Seats.{Sight, Chair, Rests, Left, Waited}
 use Rattle.muck_machine.proofs.Seating.{left_rests}
 use Rattle.muck_peer.specs.Moves.{LinkStep, LinkLoss, PeerStep, HasCause}
+use Rattle.muck_porter.specs.declared.deeds.Deed.{Deed}
+use Rattle.muck_porter.specs.declared.deeds.Deed.TheVariants.{Open, Slice, Time, Stop, Leave, Die}
 use Rattle.muck_porter.specs.declared.deeds.Did.{Did}
+use Rattle.muck_porter.specs.declared.deeds.Did.TheVariants.{Done, Timed, Dead}
 use Rattle.muck_porter.specs.Notes.{note_in}
 use Rattle.muck_porter.specs.Kept.{tally, BooksIn, BooksAt, PromisedIn, KeptBy, Stopped, EndsWithStop, IsAt, IsFree, Resting, Ready, ReadyTimed, Over}
-use Rattle.muck_porter.specs.Deeds.{AllOff, IsMoment}
+use Rattle.muck_porter.specs.Deeds.{IsMoment, DidAs}
 use Rattle.muck_porter.specs.Turns.{PorterTurn}
 use Rattle.muck_porter.specs.Moves.{Carries, CarriesOn, Ends, EndsAll, TendsPeer, LosesPeer, Tends, Loses, LastEntry, MayHalt, Halts}
 use Rattle.muck_porter.specs.Rounds.{WroteAt, ClosedAt, HasLeft}
@@ -180,3 +183,41 @@ pub remove_length : {A : Type 0} (xs : List A) (i : ℕ) → i < length xs → l
 remove_length [] i lt = absurd (omega arith)
 remove_length (x ∷ xs) zero lt = omega arith
 remove_length (x ∷ xs) (suc i) lt = let h = remove_length xs i (omega arith) in omega arith
+
+pub peer_closed : (ps : List Peer) (i : ℕ) (p p' : Peer) → p' ≡ p → set ps i p' ≡ set ps i p
+peer_closed ps i p p' same = ap (set ps i) same
+
+-- Memory was wanted outside of the world.
+module _ (noted noted' : Bool) (k : Told) (me me' : Chair) (w : World) (event : Event) (r : Rests 0 me') (turn : PorterTurn noted noted' k me.0 me'.0 w event) (known : noted ≡ is_some (note_in me.0.own)) where
+  die_is : (did : Did) (ps : List Peer) → DidAs Die did noted' ps w event → event ≡ Died
+  die_is Dead ps is = is
+  die_is Done ps is = absurd is
+  die_is Timed ps is = absurd is
+
+  pub die_last : (n : ℕ) (did : Did) (ps : List Peer) → DidAs Die did noted' ps w event → LastEntry (tally k n) me.0 me'.0
+  die_last n did ps is = died_last noted noted' k me me' w event r turn known n (die_is did ps is)
+
+  pub die_over : IsFree me.0.own → (did : Did) (ps : List Peer) → DidAs Die did noted' ps w event → Over me'
+  die_over free did ps is = died_over noted noted' k me me' w event r turn known free (die_is did ps is)
+
+  -- a deed for which memory was wanted
+  pub dead_did : (deed : Deed) (did : Did) (ps : List Peer) → did ≡ Dead → DidAs deed did noted' ps w event → event ≡ Died
+  dead_did (Open d) did ps is x = subst (λ (y : Did). DidAs (Open d) y noted' ps w event) is x
+  dead_did (Slice pid) did ps is x = subst (λ (y : Did). DidAs (Slice pid) y noted' ps w event) is x
+  dead_did Time did ps is x = subst (λ (y : Did). DidAs Time y noted' ps w event) is x
+  dead_did Stop did ps is x = subst (λ (y : Did). DidAs Stop y noted' ps w event) is x
+  dead_did Leave did ps is x = subst (λ (y : Did). DidAs Leave y noted' ps w event) is x
+  dead_did Die did ps is x = subst (λ (y : Did). DidAs Die y noted' ps w event) is x
+
+pub wrote_at : (i : ℕ) (noted : Bool) (k k' : Told) (ps : List Peer) (p p' : Peer) → get_elem? ps i ≡ some p → ((counted : LinksNote) → is_some counted ≡ noted → LinkStep counted p p' k k') → WroteAt i noted k k' ps (set ps i p')
+wrote_at i noted k k' ps p p' at step q there =
+    (p', refl, (λ counted marks. subst (λ (x : Peer). LinkStep counted x p' k k') (some-injective p q (sym at ∙ there)) (step counted marks)))
+
+pub closed_at : (i : ℕ) (k k' : Told) (ps : List Peer) (p : Peer) → get_elem? ps i ≡ some p → k' ≡ on_session p.number shut k → ClosedAt i k k' ps
+closed_at i k k' ps p at told q there = told ∙ ap (λ (x : Peer). on_session x.number shut k) (some-injective p q (sym at ∙ there))
+
+pub over_ready : (noted : Bool) (me : Chair) → Ready noted me → Over me
+over_ready noted me r = over_free me r.resting.rests r.free
+
+pub over_timed : (noted : Bool) (me : Chair) → ReadyTimed noted me → Over me
+over_timed noted me t = over_ready noted me (timed_ready noted me t)

@@ -24,7 +24,7 @@ use Rattle.muck_porter.specs.Moves.{CarriesOn, EndsAll}
 use Rattle.muck_porter.specs.Rounds.{WroteAt, ClosedAt, Nearer}
 use Rattle.muck_porter.proofs.Stages.{stage_free}
 use Rattle.muck_porter.proofs.Carrying.{turn_noted, carries_peer, carries_closed, set_again}
-use Rattle.muck_porter.proofs.Doing.{set_there, set_length, remove_length, at_below, linked_books, turn_resting, moment_ready, moment_carries, died_ends, died_over}
+use Rattle.muck_porter.proofs.Doing.{set_there, set_length, remove_length, at_below, linked_books, turn_resting, moment_ready, moment_carries, died_ends, died_over, over_free}
 
 peer_free : (own own' : List Logged) (item : Logged) (p p' : Peer) (w : World) (event : Event) → own' ≡ own ++ item ∷ [] → item.entry ≡ by_porter event → IsFree own → PeerStep p p' w event → IsFree own'
 peer_free own own' item p p' w event is entry free (PeerStep.heard line more e ready same) = IsFree.unbound (stage_free own own' item is (Input p.number line) Stage.unbound (entry ∙ ap by_porter e) free refl refl)
@@ -111,3 +111,13 @@ module _ (noted noted' : Bool) (k : Told) (me me' : Chair) (w : World) (event : 
 
   pub dead_over : served ≡ ServedDead → Over me'
   dead_over is = died_over noted noted' k me me' w event r turn ready.resting.noted ready.free (subst (λ (y : Served). ServedAs y ps ps1 w event) is did)
+
+  -- the seat may be taken in, whatever was done
+  pub went_over : (i : ℕ) → served ≡ ServedOne i → Over me'
+  went_over i is = over_free me' r (went_ready i is).free
+
+  pub closed_over : (i : ℕ) → served ≡ ClosedOne i → Over me'
+  closed_over i is = over_free me' r (closed_ready i is).free
+
+  pub nobody_over : served ≡ Nobody → Over me'
+  nobody_over is = over_free me' r (IsFree.timed (nobody_ready is).timed)

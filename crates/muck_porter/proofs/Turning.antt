@@ -1,21 +1,30 @@
 -- One turn of the porter, as its seat sees it.
-use Rattle.std.proofs.Common.{true≢false, ◌≡◌, ◌⊎◌, ℕ, Bool, true, false, List, [], ◌∷◌, ◌++◌, refl, sym, ap, ◌∙◌, subst, append_assoc, Option, Some, None}
-use Rattle.turn_lock.specs.Histories.{own_of}
+use Rattle.std.proofs.Common.{true≢false, ◌≡◌, ◌⊎◌, ℕ, ℤ, ◌==◌, arith, Bool, true, false, List, [], ◌∷◌, ◌++◌, refl, sym, ap, ◌∙◌, subst, append_assoc, Option, Some, None}
+use Rattle.std.proofs.lemmas.Bool.Decides.{nat_tests}
+use Rattle.turn_lock.specs.Histories.{own_of, kept}
 use Rattle.turn_lock.specs.declared.view.Place.TheVariants.{Idle, Told as Spent}
 use Rattle.muck_links.specs.Sessions.{Told}
 use Rattle.muck_model.specs.declared.event.Entry.{Entry}
 use Rattle.muck_model.specs.declared.event.Event.{Event}
+use Rattle.muck_model.specs.declared.event.Event.TheVariants.{Claim}
 use Rattle.muck_model.specs.declared.note.Note.{Note}
 use Rattle.spec_events.specs.declared.logged.Logged.{Logged}
 use Rattle.spec_events.specs.World.{World}
 use Rattle.spec_events.specs.Histories.{History, now, after, AllLawful, entered, by_porter, links_noted}
 use Rattle.spec_events.specs.Logged.{NoCounts, is_dump, logged, logged_by, entries_of, bare_item, counted_item, IsSettled, IsPlaced, IsOrderly}
 use Rattle.spec_events.proofs.Logging.{entries_logged, entries_append, orderly_bare, orderly_counted}
+use Rattle.spec_events.specs.Steps.{has_claim}
+use Rattle.spec_claims.specs.Claims.{AreOthers}
+use Rattle.spec_claims.proofs.Staying.{claim_stays}
 use Rattle.spec_talks.specs.Counts.{counts}
 use Rattle.muck_machine.specs.Beginnings.{beginning, begun}
 use Rattle.muck_machine.specs.Seats.{Sight, Chair, OneMore, AllOrderly, Rests, Left, Waited, SameLists}
-use Rattle.muck_machine.proofs.Seating.{one_bare, one_counted, held_settled, held_start, given_seen, given_root, rests_turned, left_rests, left_told, waited_lists, not_counted}
+use Rattle.muck_machine.proofs.Seating.{one_bare, one_counted, held_settled, held_start, given_seen, given_root, rests_turned, others_none, not_counted}
+use Rattle.muck_porter.specs.declared.deeds.Deed.{Deed}
+use Rattle.muck_porter.specs.declared.deeds.Deed.TheVariants.{Open, Slice, Time, Stop, Leave, Die}
 use Rattle.muck_porter.specs.Kept.{Resting}
+use Rattle.muck_porter.specs.Deeds.{ClaimOf}
+use Rattle.muck_porter.specs.Moves.{HasClaimed, ClaimAt}
 use Rattle.muck_porter.specs.Turns.{Marked, MarkedIn, Given, PorterTurn}
 use Rattle.muck_porter.proofs.Items.{note_none, some_is}
 
@@ -106,3 +115,50 @@ module _ (noted noted' : Bool) (k : Told) (me me1 : Chair) (h' h2 : History) (ev
           marked = i.marked;
         },
       )
+
+-- What the porter claimed last is its own still.
+
+others_are : (ls : List Logged) → own_of logged_by 0 ls ≡ [] → AreOthers 0 (entries_of ls)
+others_are [] none = tt
+others_are (l ∷ ls) none = from (l.entry.party == 0) refl none (others_are ls)
+  where
+    some_none : (ls : List Logged) → ◌≡◌ {A = List Logged} (l ∷ ls) [] → ⊥
+    some_none ls e = cc
+
+    other : (n : ℕ) → (n == 0) ≡ false → ¬ (n ≡ 0)
+    other n is same = grind (arith, nat_tests)
+
+    from : (t : Bool) → (l.entry.party == 0) ≡ t → kept t l (own_of logged_by 0 ls) ≡ [] → (own_of logged_by 0 ls ≡ [] → AreOthers 0 (entries_of ls)) → (¬ (l.entry.party ≡ 0)) × AreOthers 0 (entries_of ls)
+    from true is e ih = absurd (some_none (own_of logged_by 0 ls) e)
+    from false is e ih = (other l.entry.party is, ih e)
+
+claim_still : (u : World) (pid : ℤ) (v : Sight) (others : List Logged) → HasClaimed pid v → AllLawful u (entries_of (v.seen ++ others)) → own_of logged_by 0 others ≡ [] → has_claim 0 pid (after u (entries_of (v.seen ++ others))) ≡ true
+claim_still u pid v others claimed lawful none =
+    let whole : entries_of (v.seen ++ others) ≡ entries_of claimed.0 ++ by_porter (Claim pid) ∷ entries_of others =
+        ap (λ (ls : List Logged). entries_of (ls ++ others)) claimed.2
+        ∙ ap entries_of (append_assoc claimed.0 (claimed.1 ∷ []) others)
+        ∙ entries_append claimed.0 (claimed.1 ∷ others)
+        ∙ ap (λ (e : Entry). entries_of claimed.0 ++ e ∷ entries_of others) claimed.3 in
+    subst (λ (es : List Entry). has_claim 0 pid (after u es) ≡ true) (sym whole)
+    (claim_stays u (entries_of claimed.0) 0 pid (entries_of others) (subst (AllLawful u) whole lawful) (others_are others none))
+
+pub claim_held : (noted noted' : Bool) (k : Told) (me me1 : Chair) (h' : History) (deed : Deed) → Resting noted me → Given noted noted' k me me1 h' → ClaimAt deed me.0 → ClaimOf deed (now h')
+unfolding now
+claim_held noted noted' k me me1 h' (Slice pid) r g claimed =
+    let w = g.waited in
+    let start : g.given.start ≡ r.rests.begun.world = held_start 0 me me1.0 g.given r.rests w g.root in
+    let entries : g.given.entries ≡ entries_of (me.0.seen ++ w.0.0) = sym (entries_logged g.given) ∙ ap entries_of (g.seen ∙ w.0.1) in
+    let known : own_of logged_by 0 (me.0.seen ++ w.0.0) ≡ own_of logged_by 0 me.0.seen =
+        ap (own_of logged_by 0) (sym w.0.1) ∙ ap (λ (n : ℕ). own_of logged_by n me1.0.seen) (sym (w.2 ∙ r.rests.party)) ∙ sym g.known ∙ w.1 ∙ r.rests.own in
+    subst (λ (x : World). has_claim 0 pid x ≡ true) (sym (same g.marked))
+    (subst (λ (es : List Entry). has_claim 0 pid (after g.given.start es) ≡ true) (sym entries)
+    (claim_still g.given.start pid me.0 w.0.0 claimed (subst (AllLawful g.given.start) entries g.lawful) (others_none 0 me.0.seen w.0.0 known)))
+  where
+    same : MarkedIn noted noted' k g.given h' → after h'.start h'.entries ≡ after g.given.start g.given.entries
+    same (MarkedIn.kept a stays b) = ap (λ (x : History). after x.start x.entries) stays
+    same (MarkedIn.made a b c d made) = ap (λ (x : History). after x.start x.entries) made
+claim_held noted noted' k me me1 h' (Open d) r g claimed = tt
+claim_held noted noted' k me me1 h' Time r g claimed = tt
+claim_held noted noted' k me me1 h' Stop r g claimed = tt
+claim_held noted noted' k me me1 h' Leave r g claimed = tt
+claim_held noted noted' k me me1 h' Die r g claimed = tt

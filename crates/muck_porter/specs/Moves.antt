@@ -1,14 +1,14 @@
 -- How the books go over from step to step.
-use Rattle.std.specs.Prelude.{◌≡◌, ℕ, ℤ, Bool, true, ◌≤◌, ◌⊎◌, List, [], ◌∷◌, slice_set, is_some, Option, Some, None}
+use Rattle.std.specs.Prelude.{◌≡◌, ℕ, ℤ, Bool, true, ◌≤◌, ◌⊎◌, List, [], ◌∷◌, ◌++◌, slice_set, is_some, Option, Some, None}
 use mathlib.Core.Option.{some}
 use lib.ListN.{get_elem?}
 use Rattle.muck_io.specs.Faults.{Rose}
 use Rattle.muck_links.specs.Sessions.{Told}
+use Rattle.muck_model.specs.declared.event.Event.TheVariants.{Claim}
 use Rattle.muck_model.specs.declared.note.Note.{Note}
 use Rattle.spec_events.specs.World.{World}
-use Rattle.spec_events.specs.Steps.{has_claim}
-use Rattle.spec_events.specs.Histories.{after}
-use Rattle.spec_events.specs.Logged.{entries_of}
+use Rattle.spec_events.specs.declared.logged.Logged.{Logged}
+use Rattle.spec_events.specs.Histories.{by_porter}
 use Rattle.spec_serve.specs.Promises.{Tally}
 use Rattle.spec_serve.specs.inner.Keeping.{Peer, new_peer}
 use Rattle.muck_machine.specs.Beginnings.{begun}
@@ -57,9 +57,9 @@ Loses noted k k' peers = (v : Sight) (b : Tally) (coming : Option ℕ) (n : ℕ)
 abbrev pub LastEntry : Tally → Sight → Sight → Type 0
 LastEntry k v v' = (b : Tally) → PromisedIn b v v.seen k → KeptBy b v' k
 
--- the porter's claim stands in the world that its seat has seen
+-- the last that the seat has seen is the porter's claim
 abbrev pub HasClaimed : ℤ → Sight → Type 0
-HasClaimed pid v = (w : World) (mounting : Note) → v.root ≡ begun w mounting ∷ [] → has_claim 0 pid (after w (entries_of v.seen)) ≡ true
+HasClaimed pid v = (front : List Logged) × (item : Logged) × (v.seen ≡ front ++ item ∷ []) × (item.entry ≡ by_porter (Claim pid))
 
 abbrev pub ClaimAt : Deed → Sight → Type 0
 ClaimAt (Slice pid) v = HasClaimed pid v
