@@ -71,8 +71,12 @@ impl Peer {
             unreachable!()
         };
         match world.input(self.number, line) {
-            Ok(true) => Chose::Went,
-            Ok(false) => unreachable!(),
+            Ok(yes) => {
+                if yes {
+                    return Chose::Went;
+                }
+                unreachable!()
+            }
             Err(NoMemory) => Chose::Dead,
         }
     }

@@ -1,6 +1,6 @@
 -- What the porter does, against its books.
 use Rattle.std.proofs.Common.{true≢false, ◌≡◌, ◌⊎◌, ℕ, zero, suc, ◌+◌, ◌<◌, ◌≤◌, Bool, true, false, List, [], ◌∷◌, ◌++◌, length, set, refl, sym, ap, ◌∙◌, subst, inl, inr, ⊎_elim, arith, Option, Some, None}
-use Rattle.std.specs.Prelude.{is_some}
+use Rattle.std.specs.Prelude.{is_some, if◌then◌else◌}
 use Rattle.std.specs.List.{remove}
 use Rattle.std.proofs.lemmas.Bool.{cases_lt}
 use mathlib.Core.Option.{some, some-ne-none, some-injective}
@@ -221,3 +221,23 @@ over_ready noted me r = over_free me r.resting.rests r.free
 
 pub over_timed : (noted : Bool) (me : Chair) → ReadyTimed noted me → Over me
 over_timed noted me t = over_ready noted me (timed_ready noted me t)
+
+-- a call of the links, and then an end
+pub told_ends : (v v' : Sight) (K K' : Tally) (peers : List Peer) (coming coming' : Option ℕ) → Carries v v K K' peers peers coming coming' → Ends v v' K' K' peers coming' → Ends v v' K K' peers coming
+told_ends v v' K K' peers coming coming' first second b bk = second b (first b bk)
+
+pub carried_on : (v v1 v2 : Sight) (K K1 K2 : Tally) (ps ps1 ps2 : List Peer) → CarriesOn v v1 K K1 ps ps1 → CarriesOn v1 v2 K1 K2 ps1 ps2 → CarriesOn v v2 K K2 ps ps2
+carried_on v v1 v2 K K1 K2 ps ps1 ps2 first second coming b bk = second coming b (first coming b bk)
+
+pub carried_end : (v v1 v2 : Sight) (K K1 K2 : Tally) (ps ps1 : List Peer) → CarriesOn v v1 K K1 ps ps1 → EndsAll v1 v2 K1 K2 ps1 → EndsAll v v2 K K2 ps
+carried_end v v1 v2 K K1 K2 ps ps1 first second coming b bk = second coming b (first coming b bk)
+
+-- the count of faults in listening by another name
+pub listened : (v v' : Sight) (k k' : Told) (n n' : ℕ) (ps ps' : List Peer) → n' ≡ n → CarriesOn v v' (tally k n) (tally k' n) ps ps' → CarriesOn v v' (tally k n) (tally k' n') ps ps'
+listened v v' k k' n n' ps ps' same carries coming b bk = subst (λ (m : ℕ). BooksAt b v' (tally k' m) ps' coming) (sym same) (carries coming b bk)
+
+pub did_so : {A : Type 0} (answer : Bool) (old new : A) → answer ≡ true → (if answer then new else old) ≡ new
+did_so answer old new is = ap (λ (b : Bool). if b then new else old) is
+
+pub did_not : {A : Type 0} (answer : Bool) (old new : A) → answer ≡ false → (if answer then new else old) ≡ old
+did_not answer old new is = ap (λ (b : Bool). if b then new else old) is

@@ -4,5 +4,5 @@ pub mod Turning
 pub mod Carrying
 pub mod Doing
 pub mod Quiet
-pub mod Serving
-pub mod Rounds
+pub mod OneServed
+pub mod InRounds

@@ -1,5 +1,5 @@
 -- What the parts of a round leave.
-use Rattle.std.specs.Prelude.{◌≡◌, ℕ, Bool, true, ◌≤◌, ◌<◌, ◌+◌, ◌^◌, List, length, slice_set, is_some, Option, Some, None}
+use Rattle.std.specs.Prelude.{◌≡◌, ℕ, Bool, true, false, ◌≤◌, ◌<◌, ◌+◌, ◌^◌, List, length, slice_set, is_some, Option, Some, None}
 use Rattle.std.specs.List.{remove}
 use mathlib.Core.Option.{some}
 use lib.ListN.{get_elem?}
@@ -59,3 +59,8 @@ abbrev pub Went : Round → Sight → Sight → Tally → Tally → List Peer �
 Went Left v v' k k' peers peers' coming coming' = (b : Tally) → BooksAt b v k peers coming → KeptBy b v' k' × Stopped v' k'
 Went Busy v v' k k' peers peers' coming coming' = Carries v v' k k' peers peers' coming coming'
 Went Idle v v' k k' peers peers' coming coming' = Carries v v' k k' peers peers' coming coming'
+
+abbrev pub is_left : Round → Bool
+is_left Left = true
+is_left Busy = false
+is_left Idle = false

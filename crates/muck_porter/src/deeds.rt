@@ -7,7 +7,7 @@ ghost use Rattle.muck_peer.specs.Moves.{Clocked, IsUntimed};
 ghost use Rattle.muck_porter.specs.Deeds.{AllOff, ServedAs, ServedFrom, WorkedAs, DidAs, ClaimOf};
 
 use muck_io::Clock;
-use muck_machine::{Sliced, World};
+use muck_machine::World;
 use muck_model::NoMemory;
 use muck_peer::{Chose, Peer, tells_time};
 
@@ -149,10 +149,13 @@ pub fn works<C: Clock>(world: &mut World, clock: &mut C, peers: &Vec<Peer>) -> W
         }
         return Worked::Idle;
     }
-    match world.exec(0) {
-        Ok(Some(_)) => Worked::Done,
-        Ok(None) => claims(world, clock),
-        Err(NoMemory) => Worked::Dead,
+    let found = match world.exec(0) {
+        Ok(found) => found,
+        Err(NoMemory) => return Worked::Dead,
+    };
+    match found {
+        Some(_) => Worked::Done,
+        None => claims(world, clock),
     }
 }
 
@@ -161,14 +164,15 @@ fn opens<C: Clock>(world: &mut World, clock: &mut C, d: u32) -> Did
     requires { (now world.old).dead ≡ false }
     ensures { (event : Event) × (world.new ≡ entered world.old (by_porter event)) × DidAs (Deed.Open d) result false [] (now world.old) event × Clocked (C.answers clock.old) (C.answers clock.new) (now world.old) event }
 {
-    match world.opened(d) {
-        Ok(true) => Did::Done,
-        Ok(false) => {
-            tells_time(world, clock);
-            Did::Timed
-        }
-        Err(NoMemory) => Did::Dead,
+    let opened = match world.opened(d) {
+        Ok(opened) => opened,
+        Err(NoMemory) => return Did::Dead,
+    };
+    if opened {
+        return Did::Done;
     }
+    tells_time(world, clock);
+    Did::Timed
 }
 
 // The claimed process runs, or it has ended.
@@ -178,8 +182,7 @@ fn slices(world: &mut World, pid: i32) -> Did
     ensures { (event : Event) × (world.new ≡ entered world.old (by_porter event)) × DidAs (Deed.Slice pid) result false [] (now world.old) event × IsUntimed event }
 {
     match world.slice(0, pid) {
-        Ok(Sliced::Ran) => Did::Done,
-        Ok(Sliced::Lost) => Did::Done,
+        Ok(_) => Did::Done,
         Err(NoMemory) => Did::Dead,
     }
 }
@@ -189,7 +192,15 @@ fn leaves<C: Clock>(world: &mut World, clock: &mut C, peers: &Vec<Peer>) -> Did
     requires { (now world.old).dead ≡ false }
     ensures { (event : Event) × (world.new ≡ entered world.old (by_porter event)) × DidAs Deed.Leave result false peers.now.items (now world.old) event × Clocked (C.answers clock.old) (C.answers clock.new) (now world.old) event }
 {
-    if world.is_stopping() && all_worked_off(peers, world) && world.stopped(0) {
+    if !world.is_stopping() {
+        tells_time(world, clock);
+        return Did::Timed;
+    }
+    if !all_worked_off(peers, world) {
+        tells_time(world, clock);
+        return Did::Timed;
+    }
+    if world.stopped(0) {
         return Did::Done;
     }
     tells_time(world, clock);
@@ -226,19 +237,22 @@ pub fn does<C: Clock>(
     }
     match *deed {
         Deed::Open(d) => {
-            if !noted {
-                return opens(world, clock, d);
+            if noted {
+                tells_time(world, clock);
+                return Did::Timed;
             }
+            opens(world, clock, d)
         }
-        Deed::Slice(pid) => return slices(world, pid),
-        Deed::Time => {}
-        Deed::Stop => return halts(world, clock),
-        Deed::Leave => return leaves(world, clock, peers),
+        Deed::Slice(pid) => slices(world, pid),
+        Deed::Time => {
+            tells_time(world, clock);
+            Did::Timed
+        }
+        Deed::Stop => halts(world, clock),
+        Deed::Leave => leaves(world, clock, peers),
         Deed::Die => {
             world.died(0);
-            return Did::Dead;
+            Did::Dead
         }
     }
-    tells_time(world, clock);
-    Did::Timed
 }

@@ -1,10 +1,10 @@
 // The porter.
-ghost use Rattle.std.specs.Prelude.{◌≡◌, ◌≤◌, ◌⊎◌, ℕ, IfOk, IfErr, OnErr, true};
+ghost use Rattle.std.specs.Prelude.{◌≡◌, ◌≤◌, ◌||◌, IfOk, IfErr, OnErr, true};
 ghost use Rattle.muck_io.specs.Faults.{Rose};
 ghost use Rattle.muck_machine.specs.Seats.{SameLists};
 ghost use Rattle.muck_porter.specs.Kept.{tally, Ready, Over};
 ghost use Rattle.muck_porter.specs.Moves.{Ends, number_in, IsNew};
-ghost use Rattle.muck_porter.specs.Rounds.{IsSpent, IsRound, Went};
+ghost use Rattle.muck_porter.specs.Rounds.{IsSpent, IsRound, Went, is_left};
 ghost use Rattle.muck_porter.specs.Porter.{PorterReady, PorterDone};
 
 use crate::rounds::{Round, attends, welcomes};
@@ -44,6 +44,35 @@ struct Gone {
 
 fn room(alloc: Global) -> Result<Vec<u8>, AllocError> {
     vec![in alloc; 0u8; ROOM]
+}
+
+fn either(first: bool, second: bool) -> bool
+    ensures { result ≡ (first || second) }
+{
+    first || second
+}
+
+fn has_left(round: &Round) -> bool
+    ensures { result ≡ is_left round.now }
+{
+    match *round {
+        Round::Left => true,
+        Round::Busy => false,
+        Round::Idle => false,
+    }
+}
+
+// Rests behind a round that did nothing.
+fn pauses<R: Rest>(rest: &R, round: &Round, moved: bool) {
+    match *round {
+        Round::Idle => {
+            if !moved {
+                rest.rest();
+            }
+        }
+        Round::Busy => {}
+        Round::Left => {}
+    }
 }
 
 // One round.
@@ -124,23 +153,14 @@ fn goes_on<W: Wait, L: Links, C: Clock, G: Gate, R: Rest>(
                     round,
                     moved,
                 } = gone;
-                if fell {
-                    broke = true;
-                }
-                match round {
-                    Round::Busy => {}
-                    Round::Idle => {
-                        if !moved {
-                            rest.rest();
-                        }
+                broke = either(broke, fell);
+                if has_left(&round) {
+                    if broke {
+                        return Why::ListenFault;
                     }
-                    Round::Left => {
-                        if broke {
-                            return Why::ListenFault;
-                        }
-                        return Why::Fine;
-                    }
+                    return Why::Fine;
                 }
+                pauses(rest, &round, moved);
                 coming = next;
             }
             Err(Fault::NoMemory) => return Why::NoMemory,

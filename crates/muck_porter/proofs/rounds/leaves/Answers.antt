@@ -2,7 +2,7 @@ use Rattle.std.proofs.Common.{true≢false, refl, sym, ap, ◌∙◌}
 use Rattle.muck_porter.specs.Kept.{tally}
 use Rattle.muck_porter.proofs.Stages.{formed_free}
 use Rattle.muck_porter.proofs.Doing.{over_waited, ends_waited, over_ready, dead_did, died_ends, died_over}
-use Rattle.muck_porter.proofs.Rounds.{leave_later, leave_late, leave_last, leave_over, leave_left}
+use Rattle.muck_porter.proofs.InRounds.{leave_later, leave_late, leave_last, leave_over, leave_left}
 use Rattle.muck_porter.specs.declared.deeds.Deed.TheVariants.{Leave}
 use Rattle.muck_porter.proofs.rounds.leaves.Goals as goal
 

@@ -5,7 +5,7 @@ use Rattle.muck_porter.specs.Deeds.{DidAs}
 use Rattle.muck_porter.specs.Moves.{Carries}
 use Rattle.muck_porter.proofs.Stages.{formed_free}
 use Rattle.muck_porter.proofs.Doing.{over_waited, ends_waited, ends_last, over_ready, dead_did, died_ends, died_over}
-use Rattle.muck_porter.proofs.Rounds.{open_ready, open_carries, open_late, open_later}
+use Rattle.muck_porter.proofs.InRounds.{open_ready, open_carries, open_late, open_later}
 use Rattle.muck_porter.specs.declared.deeds.Deed.TheVariants.{Open}
 use Rattle.muck_porter.proofs.rounds.opens.Goals as goal
 

@@ -3,7 +3,7 @@ use Rattle.spec_events.specs.Own.{Stage}
 use Rattle.muck_porter.specs.Kept.{tally}
 use Rattle.muck_porter.proofs.Stages.{formed_at}
 use Rattle.muck_porter.proofs.Doing.{over_waited, ends_waited, over_ready, dead_did, died_ends}
-use Rattle.muck_porter.proofs.Rounds.{slice_ready, slice_carries, slice_over, slice_never}
+use Rattle.muck_porter.proofs.InRounds.{slice_ready, slice_carries, slice_over, slice_never}
 use Rattle.muck_porter.specs.declared.deeds.Deed.TheVariants.{Slice}
 use Rattle.muck_porter.proofs.rounds.runs.Goals as goal
 

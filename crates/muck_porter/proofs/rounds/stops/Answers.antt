@@ -2,7 +2,7 @@ use Rattle.std.proofs.Common.{refl, sym, ap, ◌∙◌}
 use Rattle.muck_porter.specs.Kept.{tally}
 use Rattle.muck_porter.proofs.Stages.{formed_free}
 use Rattle.muck_porter.proofs.Doing.{over_waited, ends_waited, over_ready, dead_did, died_ends, died_over}
-use Rattle.muck_porter.proofs.Rounds.{stop_ready, stop_halts, stop_late, stop_later}
+use Rattle.muck_porter.proofs.InRounds.{stop_ready, stop_halts, stop_late, stop_later}
 use Rattle.muck_porter.specs.declared.deeds.Deed.TheVariants.{Stop}
 use Rattle.muck_porter.proofs.rounds.stops.Goals as goal
 

@@ -1,7 +1,7 @@
 use Rattle.std.proofs.Common.{refl, sym, ap, ◌∙◌}
 use Rattle.muck_porter.proofs.Stages.{formed_free}
-use Rattle.muck_porter.proofs.Doing.{over_waited, ends_waited}
-use Rattle.muck_porter.proofs.Serving.{went_below, closed_below, went_nearer, closed_nearer, went_ready, went_carries, closed_ready, closed_carries, nobody_ready, nobody_carries, dead_ends, dead_over, went_over, closed_over, nobody_over}
+use Rattle.muck_porter.proofs.Doing.{over_waited, ends_waited, listened}
+use Rattle.muck_porter.proofs.OneServed.{went_below, closed_below, went_nearer, closed_nearer, went_ready, went_carries, closed_ready, closed_carries, nobody_ready, nobody_carries, dead_ends, dead_over, went_over, closed_over, nobody_over}
 use Rattle.muck_porter.proofs.serving.serve_one.Goals as goal
 
 pub writes-requires : goal.writes-requires
@@ -23,7 +23,8 @@ returns-in-Ok-Went-clause-place g c =
 pub returns-in-Ok-Went-clause-ok : goal.returns-in-Ok-Went-clause-ok
 returns-in-Ok-Went-clause-ok g c t =
     let ok = c.in-Ok-Went.ensures.ok in
-    went_carries _ _ _ c.args.seat.now.me c.serve_turn.new.seat.me ok.1.0 ok.1.1 ok.0 ok.1.2 c.requires.ready _ _ _ ok.1.3 c.in-Ok-Went.at _ _ _ c.in-Ok-Went.field-0-is (c.writes.ensures.wrote t)
+    listened _ _ _ _ _ _ _ _ c.writes.ensures.listening
+    (went_carries _ _ _ c.args.seat.now.me c.serve_turn.new.seat.me ok.1.0 ok.1.1 ok.0 ok.1.2 c.requires.ready _ _ _ ok.1.3 c.in-Ok-Went.at _ _ _ c.in-Ok-Went.field-0-is (c.writes.ensures.wrote t))
 
 pub returns-in-Ok-Went-clause-over : goal.returns-in-Ok-Went-clause-over
 returns-in-Ok-Went-clause-over g c =
@@ -43,7 +44,8 @@ returns-in-Ok-Closed-clause-place g c =
 pub returns-in-Ok-Closed-clause-ok : goal.returns-in-Ok-Closed-clause-ok
 returns-in-Ok-Closed-clause-ok g c t =
     let ok = c.in-Ok-Closed.ensures.ok in
-    closed_carries _ _ _ c.args.seat.now.me c.serve_turn.new.seat.me ok.1.0 ok.1.1 ok.0 ok.1.2 c.requires.ready _ _ _ ok.1.3 c.in-Ok-Closed.at _ _ _ c.in-Ok-Closed.field-0-is (c.lets_go.ensures.told t) c.lets_go.ensures.gone
+    listened _ _ _ _ _ _ _ _ c.lets_go.ensures.listening
+    (closed_carries _ _ _ c.args.seat.now.me c.serve_turn.new.seat.me ok.1.0 ok.1.1 ok.0 ok.1.2 c.requires.ready _ _ _ ok.1.3 c.in-Ok-Closed.at _ _ _ c.in-Ok-Closed.field-0-is (c.lets_go.ensures.told t) c.lets_go.ensures.gone)
 
 pub returns-in-Ok-Closed-clause-over : goal.returns-in-Ok-Closed-clause-over
 returns-in-Ok-Closed-clause-over g c =

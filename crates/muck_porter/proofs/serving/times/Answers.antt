@@ -2,7 +2,7 @@ use Rattle.std.proofs.Common.{refl, sym, ap, ◌∙◌, subst}
 use Rattle.muck_porter.specs.Kept.{tally}
 use Rattle.muck_porter.proofs.Stages.{formed_free}
 use Rattle.muck_porter.proofs.Doing.{over_waited, ends_waited, over_timed, dead_did, died_ends, died_over}
-use Rattle.muck_porter.proofs.Rounds.{time_never, time_ready, time_carries}
+use Rattle.muck_porter.proofs.InRounds.{time_never, time_ready, time_carries}
 use Rattle.muck_porter.specs.declared.deeds.Deed.TheVariants.{Time}
 use Rattle.muck_porter.proofs.serving.times.Goals as goal
 

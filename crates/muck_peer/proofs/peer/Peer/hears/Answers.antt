@@ -4,7 +4,7 @@ use Rattle.muck_links.specs.Sessions.{on_session}
 use Rattle.spec_serve.specs.Marks.{LinksNote}
 use Rattle.spec_serve.specs.inner.Keeping.{Peer}
 use Rattle.muck_peer.specs.Moves.{LinkLoss}
-use Rattle.muck_peer.proofs.Steps.{on_err, link_same, link_read, link_end, link_fault, link_lost}
+use Rattle.muck_peer.proofs.Stepping.{on_err, link_same, link_read, link_end, link_fault, link_lost}
 use Rattle.muck_peer.proofs.peer.Peer.hears.Goals as goal
 
 pub returns-in_ok-feed-in-Got-clause-ok : goal.returns-in_ok-feed-in-Got-clause-ok

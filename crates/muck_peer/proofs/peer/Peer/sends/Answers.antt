@@ -1,7 +1,7 @@
 use Rattle.std.proofs.Common.{ap, sym, ◌∙◌, refl, take, drop}
 use Rattle.std.proofs.lemmas.List.{drop-drop}
 use Rattle.muck_links.specs.Sessions.{on_session, with_written}
-use Rattle.muck_peer.proofs.Steps.{link_written, link_fault, link_refused}
+use Rattle.muck_peer.proofs.Stepping.{link_written, link_fault, link_refused}
 use Rattle.muck_peer.proofs.peer.Peer.sends.Goals as goal
 
 pub returns-in-Put-clause-step : goal.returns-in-Put-clause-step
