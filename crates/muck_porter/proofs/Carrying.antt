@@ -126,7 +126,7 @@ module _ (noted noted' : Bool) (k : Told) (v v' : Sight) (w : World) (event : Ev
             (with_note (counts k.sessions) (subst (λ (o : LinksNote). Promised o b ts hs (tally k n)) (none_before was) p))
 
     -- how an entry leads from books to books, with the note that there is then
-    pub Moves : Tally → Tally → Tally → List Peer → List Peer → Option ℕ → Option ℕ → Type 0
+    abbrev pub Moves : Tally → Tally → Tally → List Peer → List Peer → Option ℕ → Option ℕ → Type 0
     Moves b K K' peers peers' coming coming' = (u : World) (seen h : List Entry) → Placed w u seen h
         → BooksOf (note_in v'.own) b u seen K peers coming → BooksOf (note_in v'.own) b u (h ++ by_porter event ∷ []) K' peers' coming'
 

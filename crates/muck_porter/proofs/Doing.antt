@@ -148,7 +148,7 @@ module _ (noted noted' : Bool) (k : Told) (me me' : Chair) (w : World) (event : 
   died_over free is = over_at me' Stage.ended r (stage_died me.0.own me'.0.own turn.item turn.own (turn.entry ∙ ap by_porter is) free)
 
   pub turn_resting : Resting noted' me'
-  turn_resting = record { rests = r; noted = turn_noted noted noted' k me.0 me'.0 w event turn known }
+  turn_resting = record { rests = r; known = turn_noted noted noted' k me.0 me'.0 w event turn known }
 
   -- a moment was entered
   pub moment_ready : IsFree me.0.own → IsMoment event → ReadyTimed noted' me'

@@ -42,8 +42,8 @@ use Rattle.muck_porter.specs.Moves.{Carries, CarriesOn, Ends, EndsAll, LastEntry
 use Rattle.muck_porter.specs.declared.rounds.Round.{Round}
 use Rattle.muck_porter.specs.declared.rounds.Round.TheVariants.{Busy, Idle as WentIdle, Left}
 use Rattle.muck_porter.specs.Rounds.{HasLeft, IsRound, RoundCarries, Went, is_left}
-use Rattle.muck_porter.specs.declared.porter.Why.{Why}
-use Rattle.muck_porter.specs.declared.porter.Why.TheVariants.{Fine, ListenFault, NoMemory as WhyNoMemory, Spent as WhySpent}
+use Rattle.muck_porter.specs.declared.porting.Why.{Why}
+use Rattle.muck_porter.specs.declared.porting.Why.TheVariants.{Fine, ListenFault, NoMemory as WhyNoMemory, Spent as WhySpent}
 use Rattle.muck_porter.specs.Porter.{PorterReady, HasStopped}
 use Rattle.muck_porter.proofs.Stages.{stage_item, stage_free, formed_at, same_claim}
 use Rattle.muck_porter.proofs.Carrying.{IsQuiet, quiet_moment, quiet_stop, same_world, turn_noted, carries_quiet, carries_opened, carries_halted, promised_in, kept_now}
@@ -99,54 +99,54 @@ module _ (noted noted' : Bool) (k : Told) (me me' : Chair) (w : World) (event : 
     stop_ready is d =
         let e : event ≡ Halt = subst (λ (x : Did). DidAs Stop x noted' ps w event) is d in
         record {
-          resting = turn_resting noted noted' k me me' w event r turn ready.resting.noted;
+          resting = turn_resting noted noted' k me me' w event r turn ready.resting.known;
           free = IsFree.unbound (stage_free me.0.own me'.0.own turn.item turn.own Halt Stage.unbound (turn.entry ∙ ap by_porter e) ready.free refl refl);
         }
 
     pub stop_halts : (n : ℕ) → did ≡ Done → DidAs Stop did noted' ps w event → Halts me.0 me'.0 (tally k n) ps
     stop_halts n is d b coming may bk =
-        carries_halted noted noted' k me.0 me'.0 w event turn ready.resting.noted b n ps coming (subst (λ (x : Did). DidAs Stop x noted' ps w event) is d) may bk
+        carries_halted noted noted' k me.0 me'.0 w event turn ready.resting.known b n ps coming (subst (λ (x : Did). DidAs Stop x noted' ps w event) is d) may bk
 
     pub stop_late : (n : ℕ) → did ≡ Timed → DidAs Stop did noted' ps w event → Halts me.0 me'.0 (tally k n) ps
     stop_late n is d b coming may bk =
-        moment_carries noted noted' k me me' w event r turn ready.resting.noted n ps coming (subst (λ (x : Did). DidAs Stop x noted' ps w event) is d) b bk
+        moment_carries noted noted' k me me' w event r turn ready.resting.known n ps coming (subst (λ (x : Did). DidAs Stop x noted' ps w event) is d) b bk
 
     pub stop_later : did ≡ Timed → DidAs Stop did noted' ps w event → Ready noted' me'
-    stop_later is d = timed_ready noted' me' (moment_ready noted noted' k me me' w event r turn ready.resting.noted ready.free (subst (λ (x : Did). DidAs Stop x noted' ps w event) is d))
+    stop_later is d = timed_ready noted' me' (moment_ready noted noted' k me me' w event r turn ready.resting.known ready.free (subst (λ (x : Did). DidAs Stop x noted' ps w event) is d))
 
     -- a connection is opened
     pub open_ready : (d : ℕ) → did ≡ Done → DidAs (Open d) did noted' ps w event → Ready noted' me'
     open_ready d is x =
         let e : (event ≡ Opened d) × (noted' ≡ false) = subst (λ (y : Did). DidAs (Open d) y noted' ps w event) is x in
         record {
-          resting = turn_resting noted noted' k me me' w event r turn ready.resting.noted;
+          resting = turn_resting noted noted' k me me' w event r turn ready.resting.known;
           free = IsFree.unbound (stage_free me.0.own me'.0.own turn.item turn.own (Opened d) Stage.unbound (turn.entry ∙ ap by_porter e.0) ready.free refl refl);
         }
 
     pub open_carries : (n d : ℕ) (p : Peer) → did ≡ Done → DidAs (Open d) did noted' ps w event → p ≡ new_peer d → Carries me.0 me'.0 (tally k n) (tally k n) ps (ps ++ p ∷ []) (Some d) None
     open_carries n d p is x new b bk =
         let e : (event ≡ Opened d) × (noted' ≡ false) = subst (λ (y : Did). DidAs (Open d) y noted' ps w event) is x in
-        carries_opened noted noted' k me.0 me'.0 w event turn ready.resting.noted b n ps d p e.0 e.1 new bk
+        carries_opened noted noted' k me.0 me'.0 w event turn ready.resting.known b n ps d p e.0 e.1 new bk
 
     pub open_late : (n d : ℕ) (coming : Option ℕ) → did ≡ Timed → DidAs (Open d) did noted' ps w event → Carries me.0 me'.0 (tally k n) (tally k n) ps ps coming coming
-    open_late n d coming is x b bk = moment_carries noted noted' k me me' w event r turn ready.resting.noted n ps coming (subst (λ (y : Did). DidAs (Open d) y noted' ps w event) is x) b bk
+    open_late n d coming is x b bk = moment_carries noted noted' k me me' w event r turn ready.resting.known n ps coming (subst (λ (y : Did). DidAs (Open d) y noted' ps w event) is x) b bk
 
     pub open_later : (d : ℕ) → did ≡ Timed → DidAs (Open d) did noted' ps w event → Ready noted' me'
-    open_later d is x = timed_ready noted' me' (moment_ready noted noted' k me me' w event r turn ready.resting.noted ready.free (subst (λ (y : Did). DidAs (Open d) y noted' ps w event) is x))
+    open_later d is x = timed_ready noted' me' (moment_ready noted noted' k me me' w event r turn ready.resting.known ready.free (subst (λ (y : Did). DidAs (Open d) y noted' ps w event) is x))
 
     -- time goes on
     pub time_ready : did ≡ Timed → DidAs Time did noted' ps w event → ReadyTimed noted' me'
-    time_ready is x = moment_ready noted noted' k me me' w event r turn ready.resting.noted ready.free (subst (λ (y : Did). DidAs Time y noted' ps w event) is x)
+    time_ready is x = moment_ready noted noted' k me me' w event r turn ready.resting.known ready.free (subst (λ (y : Did). DidAs Time y noted' ps w event) is x)
 
     pub time_carries : (n : ℕ) → did ≡ Timed → DidAs Time did noted' ps w event → CarriesOn me.0 me'.0 (tally k n) (tally k n) ps ps
-    time_carries n is x coming b bk = moment_carries noted noted' k me me' w event r turn ready.resting.noted n ps coming (subst (λ (y : Did). DidAs Time y noted' ps w event) is x) b bk
+    time_carries n is x coming b bk = moment_carries noted noted' k me me' w event r turn ready.resting.known n ps coming (subst (λ (y : Did). DidAs Time y noted' ps w event) is x) b bk
 
     -- the porter leaves
     pub leave_later : did ≡ Timed → DidAs Leave did noted' ps w event → Ready noted' me'
-    leave_later is x = timed_ready noted' me' (moment_ready noted noted' k me me' w event r turn ready.resting.noted ready.free (subst (λ (y : Did). DidAs Leave y noted' ps w event) is x))
+    leave_later is x = timed_ready noted' me' (moment_ready noted noted' k me me' w event r turn ready.resting.known ready.free (subst (λ (y : Did). DidAs Leave y noted' ps w event) is x))
 
     pub leave_late : (n : ℕ) → did ≡ Timed → DidAs Leave did noted' ps w event → CarriesOn me.0 me'.0 (tally k n) (tally k n) ps ps
-    leave_late n is x coming b bk = moment_carries noted noted' k me me' w event r turn ready.resting.noted n ps coming (subst (λ (y : Did). DidAs Leave y noted' ps w event) is x) b bk
+    leave_late n is x coming b bk = moment_carries noted noted' k me me' w event r turn ready.resting.known n ps coming (subst (λ (y : Did). DidAs Leave y noted' ps w event) is x) b bk
 
     left_as : did ≡ Done → DidAs Leave did noted' ps w event → (event ≡ StopSeen) × (w.stopping ≡ true) × AllOff w ps
     left_as is x = subst (λ (y : Did). DidAs Leave y noted' ps w event) is x
@@ -160,7 +160,7 @@ module _ (noted noted' : Bool) (k : Told) (me me' : Chair) (w : World) (event : 
     pub leave_left : (n : ℕ) → did ≡ Done → DidAs Leave did noted' ps w event → HasLeft me.0 me'.0 (tally k n) (tally k n) ps
     leave_left n is x b coming bk =
         let l = left_as is x in
-        let bk' = quiet_carries noted noted' k me me' w event r turn ready.resting.noted n ps coming (subst IsQuiet (sym l.0) quiet_stop) b bk in
+        let bk' = quiet_carries noted noted' k me me' w event r turn ready.resting.known n ps coming (subst IsQuiet (sym l.0) quiet_stop) b bk in
         (
           kept_now b me'.0 (tally k n) r.own (promised_in b me'.0 (tally k n) ps coming bk'),
           record {
@@ -168,6 +168,7 @@ module _ (noted noted' : Bool) (k : Told) (me me' : Chair) (w : World) (event : 
             last = turn.item;
             entry = turn.entry ∙ ap by_porter l.0;
             seen = turn.seen;
+            own = r.own;
             stopping = λ u m root. ap (λ (z : World). z.stopping) (sym (at_world u m root)) ∙ l.1;
             worked = λ u m root. subst (λ (z : World). OpenWorkedOff (note_in me'.0.own) z (talks u (entries_of me'.0.seen)) (tally k n)) (at_world u m root)
                 (books_worked_off (note_in me'.0.own) b (talks u (entries_of me'.0.seen)) (worlds_at is_halt u (entries_of me'.0.seen)) (tally k n) ps coming w
@@ -185,11 +186,11 @@ module _ (noted noted' : Bool) (k : Told) (me me' : Chair) (w : World) (event : 
       where
         from : (event ≡ SliceEvent pid) ⊎ (event ≡ Lost pid) → Ready noted' me'
         from (inl e) = record {
-          resting = turn_resting noted noted' k me me' w event r turn resting.noted;
+          resting = turn_resting noted noted' k me me' w event r turn resting.known;
           free = IsFree.unbound (stage_item me.0.own me'.0.own turn.item (SliceEvent pid) (Stage.claimed pid) Stage.unbound turn.own (turn.entry ∙ ap by_porter e) at (same_claim pid));
         }
         from (inr e) = record {
-          resting = turn_resting noted noted' k me me' w event r turn resting.noted;
+          resting = turn_resting noted noted' k me me' w event r turn resting.known;
           free = IsFree.unbound (stage_item me.0.own me'.0.own turn.item (Lost pid) (Stage.claimed pid) Stage.unbound turn.own (turn.entry ∙ ap by_porter e) at (same_claim pid));
         }
 
@@ -197,8 +198,8 @@ module _ (noted noted' : Bool) (k : Told) (me me' : Chair) (w : World) (event : 
     slice_carries n pid is x coming = from (subst (λ (y : Did). DidAs (Slice pid) y noted' ps w event) is x)
       where
         from : (event ≡ SliceEvent pid) ⊎ (event ≡ Lost pid) → Carries me.0 me'.0 (tally k n) (tally k n) ps ps coming coming
-        from (inl e) = quiet_carries noted noted' k me me' w event r turn resting.noted n ps coming (subst IsQuiet (sym e) (record { halts = refl; talked = λ v ts. refl }))
-        from (inr e) = quiet_carries noted noted' k me me' w event r turn resting.noted n ps coming (subst IsQuiet (sym e) (record { halts = refl; talked = λ v ts. refl }))
+        from (inl e) = quiet_carries noted noted' k me me' w event r turn resting.known n ps coming (subst IsQuiet (sym e) (record { halts = refl; talked = λ v ts. refl }))
+        from (inr e) = quiet_carries noted noted' k me me' w event r turn resting.known n ps coming (subst IsQuiet (sym e) (record { halts = refl; talked = λ v ts. refl }))
 
     pub slice_over : (pid : ℤ) → IsAt (Stage.claimed pid) me.0.own → event ≡ Died → Over me'
     slice_over pid at is = over_at me' Stage.ended r (stage_item me.0.own me'.0.own turn.item Died (Stage.claimed pid) Stage.ended turn.own (turn.entry ∙ ap by_porter is) at refl)
@@ -209,13 +210,13 @@ module _ (noted noted' : Bool) (k : Told) (me me' : Chair) (w : World) (event : 
     free_before = IsFree.timed timed.timed
 
     resting' : Resting noted' me'
-    resting' = turn_resting noted noted' k me me' w event r turn timed.resting.noted
+    resting' = turn_resting noted noted' k me me' w event r turn timed.resting.known
 
     work_stage : (e : Event) (later : Stage) → event ≡ e → next 0 Stage.timed e ≡ Some later → IsAt later me'.0.own
     work_stage e later is may = stage_item me.0.own me'.0.own turn.item e Stage.timed later turn.own (turn.entry ∙ ap by_porter is) timed.timed may
 
     work_quiet : (n : ℕ) → IsQuiet event → CarriesOn me.0 me'.0 (tally k n) (tally k n) ps ps
-    work_quiet n q coming = quiet_carries noted noted' k me me' w event r turn timed.resting.noted n ps coming q
+    work_quiet n q coming = quiet_carries noted noted' k me me' w event r turn timed.resting.known n ps coming q
 
     pub exec_ready : worked ≡ WorkedDone → WorkedAs worked event → Ready noted' me'
     exec_ready is x =
@@ -241,7 +242,7 @@ module _ (noted noted' : Bool) (k : Told) (me me' : Chair) (w : World) (event : 
 
     idle_by : (event ≡ IdleEvent) ⊎ IsMoment event → Ready noted' me'
     idle_by (inl e) = record { resting = resting'; free = IsFree.unbound (work_stage IdleEvent Stage.unbound e refl) }
-    idle_by (inr e) = timed_ready noted' me' (moment_ready noted noted' k me me' w event r turn timed.resting.noted free_before e)
+    idle_by (inr e) = timed_ready noted' me' (moment_ready noted noted' k me me' w event r turn timed.resting.known free_before e)
 
     idle_quiet : (event ≡ IdleEvent) ⊎ IsMoment event → IsQuiet event
     idle_quiet (inl e) = subst IsQuiet (sym e) (record { halts = refl; talked = λ v ts. refl })
@@ -260,10 +261,10 @@ module _ (noted noted' : Bool) (k : Told) (me me' : Chair) (w : World) (event : 
     off_carries n is x = work_quiet n (idle_quiet (inr (subst (λ (y : Worked). WorkedAs y event) is x)))
 
     pub work_ends : (n : ℕ) → worked ≡ WorkedDead → WorkedAs worked event → EndsAll me.0 me'.0 (tally k n) (tally k n) ps
-    work_ends n is x coming = died_ends noted noted' k me me' w event r turn timed.resting.noted n ps coming (subst (λ (y : Worked). WorkedAs y event) is x)
+    work_ends n is x coming = died_ends noted noted' k me me' w event r turn timed.resting.known n ps coming (subst (λ (y : Worked). WorkedAs y event) is x)
 
     pub work_over : worked ≡ WorkedDead → WorkedAs worked event → Over me'
-    work_over is x = died_over noted noted' k me me' w event r turn timed.resting.noted free_before (subst (λ (y : Worked). WorkedAs y event) is x)
+    work_over is x = died_over noted noted' k me me' w event r turn timed.resting.known free_before (subst (λ (y : Worked). WorkedAs y event) is x)
 
 pub time_never : (did : Did) (noted : Bool) (ps : List Peer) (w : World) (event : Event) → did ≡ Done → DidAs Time did noted ps w event → ⊥
 time_never did noted ps w event is x = subst (λ (y : Did). DidAs Time y noted ps w event) is x
@@ -358,7 +359,7 @@ own_fresh me r = r.rests.own ∙ ap (own_of logged_by 0) r.seen
 
 pub ready_fresh : (me : Chair) → PorterReady me → Ready false me
 ready_fresh me r = record {
-  resting = record { rests = r.rests; noted = ap (λ (ls : List Logged). is_some (note_in ls)) (sym (own_fresh me r)) };
+  resting = record { rests = r.rests; known = ap (λ (ls : List Logged). is_some (note_in ls)) (sym (own_fresh me r)) };
   free = free_fresh me.0.own (own_fresh me r);
 }
 

@@ -6,3 +6,4 @@ pub mod Doing
 pub mod Quiet
 pub mod OneServed
 pub mod InRounds
+pub mod Whole

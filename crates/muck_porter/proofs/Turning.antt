@@ -34,7 +34,7 @@ pub none_yet : (noted : Bool) (me : Chair) (v : Sight) (h : History) → Resting
     → AllOrderly v.seen → IsPlaced h → noted ≡ false → h.counted ≡ None
 none_yet noted me v h r waited seen root known orderly placed is =
     not_counted r.rests.begun.mounting h (held_settled 0 me v h r.rests waited root) placed (subst AllOrderly (sym seen) orderly)
-    (subst (λ (ls : List Logged). NoCounts ls) own (note_none me.0.own (some_is _ (sym is ∙ r.noted))))
+    (subst (λ (ls : List Logged). NoCounts ls) own (note_none me.0.own (some_is _ (sym is ∙ r.known))))
   where
     own : me.0.own ≡ own_of logged_by 0 (logged h)
     own = sym waited.1 ∙ known ∙ ap (λ (n : ℕ). own_of logged_by n v.seen) (waited.2 ∙ r.rests.party) ∙ ap (own_of logged_by 0) (sym seen)

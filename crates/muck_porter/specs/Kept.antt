@@ -51,6 +51,7 @@ pub record Stopped (v : Sight) (k : Tally) : Type 0 where
   pub last : Logged
   pub entry : last.entry ≡ by_porter StopSeen
   pub seen : v.seen ≡ before ++ last ∷ []
+  pub own : v.own ≡ own_of logged_by 0 v.seen
   pub stopping : (w : World) (mounting : Note) → v.root ≡ begun w mounting ∷ [] → (after w (entries_of before)).stopping ≡ true
   pub worked : (w : World) (mounting : Note) → v.root ≡ begun w mounting ∷ []
       → OpenWorkedOff (note_in v.own) (after w (entries_of before)) (talks w (entries_of v.seen)) k
@@ -72,7 +73,7 @@ pub data IsFree (own : List Logged) : Type 0 where
 -- A seat of the porter at rest, and whether the note of the links was made.
 pub record Resting (noted : Bool) (me : Chair) : Type 0 where
   pub rests : Rests 0 me
-  pub noted : noted ≡ is_some (note_in me.0.own)
+  pub known : noted ≡ is_some (note_in me.0.own)
 
 -- where nothing binds it
 pub record Ready (noted : Bool) (me : Chair) : Type 0 where

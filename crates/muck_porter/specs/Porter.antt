@@ -6,8 +6,8 @@ use Rattle.spec_events.specs.World.{World}
 use Rattle.spec_serve.specs.Promises.{Tally}
 use Rattle.muck_machine.specs.Beginnings.{begun}
 use Rattle.muck_machine.specs.Seats.{Chair, Rests, SameLists}
-use Rattle.muck_porter.specs.declared.porter.Why.{Why}
-use Rattle.muck_porter.specs.declared.porter.Why.TheVariants.{Fine, ListenFault, Spent}
+use Rattle.muck_porter.specs.declared.porting.Why.{Why}
+use Rattle.muck_porter.specs.declared.porting.Why.TheVariants.{Fine, ListenFault, Spent}
 use Rattle.muck_porter.specs.Kept.{KeptBy, Stopped, EndsWithStop, Over}
 
 -- The seat of party 0 at rest, which has seen nothing yet of a history that begins where nobody is connected.

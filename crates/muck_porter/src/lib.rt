@@ -3,9 +3,9 @@
 
 mod deeds;
 mod holds;
-mod porter;
+mod porting;
 mod rounds;
 mod serving;
 mod tending;
 
-pub use porter::{Why, porter};
+pub use porting::{Why, porter};

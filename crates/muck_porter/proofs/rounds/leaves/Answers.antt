@@ -36,12 +36,12 @@ returns-in-Ok-Timed-clause-over g c =
 pub returns-in-Ok-Dead-clause-err : goal.returns-in-Ok-Dead-clause-err
 returns-in-Ok-Dead-clause-err g c n coming =
     let ok = c.in-Ok-Dead.ensures.ok in
-    died_ends _ _ _ c.args.seat.now.me c.deed_turn.new.seat.me ok.1.0 ok.1.1 ok.0 ok.1.2 c.requires.ready.resting.noted n c.args.peers.now.items coming (dead_did _ _ _ c.args.seat.now.me c.deed_turn.new.seat.me ok.1.0 ok.1.1 ok.0 ok.1.2 c.requires.ready.resting.noted Leave _ _ c.in-Ok-Dead.field-0-is ok.1.3)
+    died_ends _ _ _ c.args.seat.now.me c.deed_turn.new.seat.me ok.1.0 ok.1.1 ok.0 ok.1.2 c.requires.ready.resting.known n c.args.peers.now.items coming (dead_did _ _ _ c.args.seat.now.me c.deed_turn.new.seat.me ok.1.0 ok.1.1 ok.0 ok.1.2 c.requires.ready.resting.known Leave _ _ c.in-Ok-Dead.field-0-is ok.1.3)
 
 pub returns-in-Ok-Dead-clause-over : goal.returns-in-Ok-Dead-clause-over
 returns-in-Ok-Dead-clause-over g c =
     let ok = c.in-Ok-Dead.ensures.ok in
-    died_over _ _ _ c.args.seat.now.me c.deed_turn.new.seat.me ok.1.0 ok.1.1 ok.0 ok.1.2 c.requires.ready.resting.noted c.requires.ready.free (dead_did _ _ _ c.args.seat.now.me c.deed_turn.new.seat.me ok.1.0 ok.1.1 ok.0 ok.1.2 c.requires.ready.resting.noted Leave _ _ c.in-Ok-Dead.field-0-is ok.1.3)
+    died_over _ _ _ c.args.seat.now.me c.deed_turn.new.seat.me ok.1.0 ok.1.1 ok.0 ok.1.2 c.requires.ready.resting.known c.requires.ready.free (dead_did _ _ _ c.args.seat.now.me c.deed_turn.new.seat.me ok.1.0 ok.1.1 ok.0 ok.1.2 c.requires.ready.resting.known Leave _ _ c.in-Ok-Dead.field-0-is ok.1.3)
 
 pub returns-in-Err-clause-err : goal.returns-in-Err-clause-err
 returns-in-Err-clause-err g c n coming = ends_waited c.args.seat.now.me c.deed_turn.new.seat.me (tally (g.L.Links.told c.args.links.now) n) c.args.peers.now.items coming c.requires.ready.resting.rests c.in-Err.ensures.waited.0

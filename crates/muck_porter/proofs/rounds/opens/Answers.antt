@@ -48,12 +48,12 @@ returns-in-Ok-Timed-clause-ok g c n =
 pub returns-in-Ok-Dead-clause-err : goal.returns-in-Ok-Dead-clause-err
 returns-in-Ok-Dead-clause-err g c n =
     let ok = c.in-Ok-Dead.ensures.ok in
-    died_ends _ _ _ c.args.seat.now.me c.deed_turn.new.seat.me ok.1.0 ok.1.1 ok.0 ok.1.2 c.requires.ready.resting.noted n c.args.peers.now.items (Some c.args.peer.number) (dead_did _ _ _ c.args.seat.now.me c.deed_turn.new.seat.me ok.1.0 ok.1.1 ok.0 ok.1.2 c.requires.ready.resting.noted (Open c.number.result) _ _ c.in-Ok-Dead.field-0-is ok.1.3)
+    died_ends _ _ _ c.args.seat.now.me c.deed_turn.new.seat.me ok.1.0 ok.1.1 ok.0 ok.1.2 c.requires.ready.resting.known n c.args.peers.now.items (Some c.args.peer.number) (dead_did _ _ _ c.args.seat.now.me c.deed_turn.new.seat.me ok.1.0 ok.1.1 ok.0 ok.1.2 c.requires.ready.resting.known (Open c.number.result) _ _ c.in-Ok-Dead.field-0-is ok.1.3)
 
 pub returns-in-Ok-Dead-clause-over : goal.returns-in-Ok-Dead-clause-over
 returns-in-Ok-Dead-clause-over g c =
     let ok = c.in-Ok-Dead.ensures.ok in
-    died_over _ _ _ c.args.seat.now.me c.deed_turn.new.seat.me ok.1.0 ok.1.1 ok.0 ok.1.2 c.requires.ready.resting.noted c.requires.ready.free (dead_did _ _ _ c.args.seat.now.me c.deed_turn.new.seat.me ok.1.0 ok.1.1 ok.0 ok.1.2 c.requires.ready.resting.noted (Open c.number.result) _ _ c.in-Ok-Dead.field-0-is ok.1.3)
+    died_over _ _ _ c.args.seat.now.me c.deed_turn.new.seat.me ok.1.0 ok.1.1 ok.0 ok.1.2 c.requires.ready.resting.known c.requires.ready.free (dead_did _ _ _ c.args.seat.now.me c.deed_turn.new.seat.me ok.1.0 ok.1.1 ok.0 ok.1.2 c.requires.ready.resting.known (Open c.number.result) _ _ c.in-Ok-Dead.field-0-is ok.1.3)
 
 pub returns-in-Err-deed_turn-clause-err : goal.returns-in-Err-deed_turn-clause-err
 returns-in-Err-deed_turn-clause-err g c n = ends_waited c.args.seat.now.me c.deed_turn.new.seat.me (tally (g.L.Links.told c.args.links.now) n) c.args.peers.now.items (Some c.args.peer.number) c.requires.ready.resting.rests c.in-Err-deed_turn.ensures.waited.0

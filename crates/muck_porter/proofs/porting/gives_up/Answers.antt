@@ -1,7 +1,7 @@
 use Rattle.std.proofs.Common.{◌⊎◌, inl, inr, refl, sym, ap, ◌∙◌, arith}
-use Rattle.muck_porter.specs.declared.porter.Why.TheVariants.{NoMemory, Spent}
+use Rattle.muck_porter.specs.declared.porting.Why.TheVariants.{NoMemory, Spent}
 use Rattle.muck_porter.proofs.InRounds.{ready_fresh, kept_fresh, not_stopped}
-use Rattle.muck_porter.proofs.porter.gives_up.Goals as goal
+use Rattle.muck_porter.proofs.porting.gives_up.Goals as goal
 
 pub dies-requires-clause-ready : goal.dies-requires-clause-ready
 dies-requires-clause-ready g c = ready_fresh c.args.seat.now.me c.requires.ready

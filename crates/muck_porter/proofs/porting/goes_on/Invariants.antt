@@ -3,7 +3,7 @@ use Rattle.muck_io.specs.Faults.{Rose}
 use Rattle.muck_machine.specs.Seats.{SameLists}
 use Rattle.muck_porter.specs.Kept.{tally, BooksAt, Ready}
 use Rattle.muck_porter.specs.Moves.{number_in, IsNew}
-use Rattle.muck_porter.proofs.porter.goes_on.Given as goal
+use Rattle.muck_porter.proofs.porting.goes_on.Given as goal
 
 abbrev pub invariant-loop : goal.invariant-loop
 invariant-loop g l = record {

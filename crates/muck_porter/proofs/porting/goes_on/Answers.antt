@@ -1,7 +1,7 @@
 use Rattle.std.proofs.Common.{true≢false, ◌⊎◌, inl, inr, refl, sym, ap, ◌∙◌, arith}
-use Rattle.muck_porter.specs.declared.porter.Why.TheVariants.{NoMemory, Spent}
+use Rattle.muck_porter.specs.declared.porting.Why.TheVariants.{NoMemory, Spent}
 use Rattle.muck_porter.proofs.InRounds.{stays_ready, stays_carried, left_last, left_kept, broke_on, ready_fresh, books_start, not_stopped}
-use Rattle.muck_porter.proofs.porter.goes_on.Goals as goal
+use Rattle.muck_porter.proofs.porting.goes_on.Goals as goal
 
 pub loop-init : goal.loop-init
 loop-init g c = record {

@@ -1,6 +1,6 @@
 use Rattle.std.proofs.Common.{refl, sym, ap, ◌∙◌, arith}
 use Rattle.muck_porter.proofs.InRounds.{round_went}
-use Rattle.muck_porter.proofs.porter.goes_round.Goals as goal
+use Rattle.muck_porter.proofs.porting.goes_round.Goals as goal
 
 pub returns-in-Ok-attends-clause-ok : goal.returns-in-Ok-attends-clause-ok
 returns-in-Ok-attends-clause-ok g c t =
