@@ -1,6 +1,6 @@
 -- The parts of a round.
-use Rattle.std.proofs.Common.{true≢false, ◌≡◌, ◌⊎◌, ℕ, ℤ, ◌+◌, ◌<◌, ◌≤◌, Bool, true, false, List, [], ◌∷◌, ◌++◌, length, refl, sym, ap, ◌∙◌, subst, inl, inr, arith, Option, Some, None}
-use Rattle.std.specs.Prelude.{is_some, ◌||◌}
+use Rattle.std.proofs.Common.{true≢false, ◌≡◌, ◌⊎◌, ℕ, ℤ, ◌+◌, ◌<◌, ◌≤◌, Bool, true, false, List, [], ◌∷◌, ◌++◌, length, refl, sym, ap, ◌∙◌, subst, inl, inr, arith, eqb-true, Option, Some, None}
+use Rattle.std.specs.Prelude.{is_some, ◌||◌, ◌==◌}
 use mathlib.Core.Option.{some}
 use lib.ListN.{get_elem?}
 use Rattle.muck_io.specs.Faults.{Rose}
@@ -38,7 +38,7 @@ use Rattle.muck_porter.specs.Notes.{note_in}
 use Rattle.muck_porter.specs.Kept.{tally, BooksIn, BooksAt, PromisedIn, KeptBy, Stopped, EndsWithStop, IsAt, IsFree, Resting, Ready, ReadyTimed, Over}
 use Rattle.muck_porter.specs.Deeds.{AllOff, IsMoment, WorkedAs, DidAs}
 use Rattle.muck_porter.specs.Turns.{PorterTurn}
-use Rattle.muck_porter.specs.Moves.{Carries, CarriesOn, Ends, EndsAll, LastEntry, MayHalt, Halts, Tends, Loses, HasClaimed}
+use Rattle.muck_porter.specs.Moves.{Carries, CarriesOn, Ends, EndsAll, LastEntry, MayHalt, Halts, Tends, Loses, HasClaimed, number_in}
 use Rattle.muck_porter.specs.declared.rounds.Round.{Round}
 use Rattle.muck_porter.specs.declared.rounds.Round.TheVariants.{Busy, Idle as WentIdle, Left}
 use Rattle.muck_porter.specs.Rounds.{HasLeft, IsRound, RoundCarries, Went, is_left}
@@ -298,22 +298,23 @@ halts_broke v v' k k' n n' peers coming begun_so same more rose halts b bk u m r
     halts b coming (λ x. inl (risen b.listening n n' l rose)) (told_same_on v k k' n n' peers coming same more b bk) u m root
 
 -- an empty list, as it is tested
-pub empty_of : {A : Type 0} (xs : List A) (b : Bool) → b ≡ true → (b ≡ true → xs ≡ []) → xs ≡ []
-empty_of xs b is empty = empty is
+pub empty_of : {A : Type 0} (xs : List A) (b : Bool) → b ≡ true → b ≡ (length xs == 0) → xs ≡ []
+empty_of [] b is e = refl
+empty_of (x ∷ xs) b is e = let none = eqb-true (length (x ∷ xs)) 0 (sym e ∙ is) in absurd (omega arith)
 
 pub carried_left : (v v1 v2 : Sight) (K K1 K2 : Tally) (ps ps1 : List Peer) → CarriesOn v v1 K K1 ps ps1 → HasLeft v1 v2 K1 K2 ps1 → HasLeft v v2 K K2 ps
 carried_left v v1 v2 K K1 K2 ps ps1 first second b coming bk = second b coming (first coming b bk)
 
 -- a round, behind what came before it
 pub round_on : (round : Round) (v v1 v2 : Sight) (K K1 K2 : Tally) (ps ps1 ps2 : List Peer) → CarriesOn v v1 K K1 ps ps1 → RoundCarries round v1 v2 K1 K2 ps1 ps2 → RoundCarries round v v2 K K2 ps ps2
-round_on Left v v1 v2 K K1 K2 ps ps1 ps2 first second b coming bk = second b coming (first coming b bk)
-round_on Busy v v1 v2 K K1 K2 ps ps1 ps2 first second coming b bk = second coming b (first coming b bk)
-round_on WentIdle v v1 v2 K K1 K2 ps ps1 ps2 first second coming b bk = second coming b (first coming b bk)
+round_on Left v v1 v2 K K1 K2 ps ps1 ps2 first second = λ b coming bk. second b coming (first coming b bk)
+round_on Busy v v1 v2 K K1 K2 ps ps1 ps2 first second = λ coming b bk. second coming b (first coming b bk)
+round_on WentIdle v v1 v2 K K1 K2 ps ps1 ps2 first second = λ coming b bk. second coming b (first coming b bk)
 
 pub round_went : (round : Round) (v v1 v2 : Sight) (K K1 K2 : Tally) (ps ps1 ps2 : List Peer) (coming coming' : Option ℕ) → Carries v v1 K K1 ps ps1 coming coming' → RoundCarries round v1 v2 K1 K2 ps1 ps2 → Went round v v2 K K2 ps ps2 coming coming'
-round_went Left v v1 v2 K K1 K2 ps ps1 ps2 coming coming' first second b bk = second b coming' (first b bk)
-round_went Busy v v1 v2 K K1 K2 ps ps1 ps2 coming coming' first second b bk = second coming' b (first b bk)
-round_went WentIdle v v1 v2 K K1 K2 ps ps1 ps2 coming coming' first second b bk = second coming' b (first b bk)
+round_went Left v v1 v2 K K1 K2 ps ps1 ps2 coming coming' first second = λ b bk. second b coming' (first b bk)
+round_went Busy v v1 v2 K K1 K2 ps ps1 ps2 coming coming' first second = λ b bk. second coming' b (first b bk)
+round_went WentIdle v v1 v2 K K1 K2 ps ps1 ps2 coming coming' first second = λ b bk. second coming' b (first b bk)
 
 -- links that are tended
 pub tended : (noted : Bool) (v : Sight) (k k' : Told) (n n' : ℕ) (ps ps' : List Peer) → noted ≡ is_some (note_in v.own) → n' ≡ n → Tends noted k k' ps ps' → CarriesOn v v (tally k n) (tally k' n') ps ps'
@@ -325,24 +326,24 @@ tending_lost noted v v' k k' n n' ps known same lost last coming b bk = last b (
 -- Rounds.
 
 pub stays_ready : (round : Round) (noted : Bool) (me : Chair) → is_left round ≡ false → IsRound round noted me → Ready noted me
-stays_ready Left noted me is r = cc
+stays_ready Left noted me is r = absurd (true≢false is)
 stays_ready Busy noted me is r = r
 stays_ready WentIdle noted me is r = r
 
 pub stays_carried : (round : Round) (v v' : Sight) (K K' : Tally) (ps ps' : List Peer) (coming coming' : Option ℕ) → is_left round ≡ false → Went round v v' K K' ps ps' coming coming' → Carries v v' K K' ps ps' coming coming'
-stays_carried Left v v' K K' ps ps' coming coming' is w = cc
+stays_carried Left v v' K K' ps ps' coming coming' is w = absurd (true≢false is)
 stays_carried Busy v v' K K' ps ps' coming coming' is w = w
 stays_carried WentIdle v v' K K' ps ps' coming coming' is w = w
 
 pub left_last : (round : Round) (noted : Bool) (me : Chair) → is_left round ≡ true → IsRound round noted me → EndsWithStop me.0.own
 left_last Left noted me is r = r
-left_last Busy noted me is r = cc
-left_last WentIdle noted me is r = cc
+left_last Busy noted me is r = absurd (true≢false (sym is))
+left_last WentIdle noted me is r = absurd (true≢false (sym is))
 
 pub left_kept : (round : Round) (v v' : Sight) (K K' : Tally) (ps ps' : List Peer) (coming coming' : Option ℕ) → is_left round ≡ true → Went round v v' K K' ps ps' coming coming' → (b : Tally) → BooksAt b v K ps coming → KeptBy b v' K' × Stopped v' K'
 left_kept Left v v' K K' ps ps' coming coming' is w = w
-left_kept Busy v v' K K' ps ps' coming coming' is w = cc
-left_kept WentIdle v v' K K' ps ps' coming coming' is w = cc
+left_kept Busy v v' K K' ps ps' coming coming' is w = absurd (true≢false (sym is))
+left_kept WentIdle v v' K K' ps ps' coming coming' is w = absurd (true≢false (sym is))
 
 pub broke_on : (first second : Bool) (a n m : ℕ) → a ≤ n → n ≤ m → (first ≡ true → Rose a n) → (second ≡ true → Rose n m) → (first || second) ≡ true → Rose a m
 broke_on true second a n m l1 l2 f s is = let r = f refl in omega arith
@@ -389,10 +390,10 @@ untimed_slice pid WasLost w answers = refl
 
 -- Deeds, whatever they don't depend on.
 
-pub open_did : (did : Did) (d : ℕ) (noted : Bool) (ps : List Peer) (w : World) (event : Event) → noted ≡ false → DidAs (Open d) did false [] w event → DidAs (Open d) did noted ps w event
-open_did Dead d noted ps w event is x = x
-open_did Done d noted ps w event is x = (x.0, is)
-open_did Timed d noted ps w event is x = x
+pub open_did : (did : Did) (d : ℕ) (noted : Bool) (ps : List Peer) (w : World) (event : Event) → DidAs (Open d) did noted [] w event → DidAs (Open d) did noted ps w event
+open_did Dead d noted ps w event x = x
+open_did Done d noted ps w event x = x
+open_did Timed d noted ps w event x = x
 
 pub slice_did : (did : Did) (pid : ℤ) (noted : Bool) (ps : List Peer) (w : World) (event : Event) → DidAs (Slice pid) did false [] w event → DidAs (Slice pid) did noted ps w event
 slice_did Dead pid noted ps w event x = x
@@ -416,3 +417,11 @@ died_did Time noted ps w = refl
 died_did Stop noted ps w = refl
 died_did Leave noted ps w = refl
 died_did Die noted ps w = refl
+
+-- The link that comes, by another name.
+
+pub comes_as : (v v' : Sight) (K K' : Tally) (ps ps' : List Peer) (o o' : Option Peer) (coming : Option ℕ) → o ≡ o' → Carries v v' K K' ps ps' (number_in o') coming → Carries v v' K K' ps ps' (number_in o) coming
+comes_as v v' K K' ps ps' o o' coming is = subst (λ (x : Option Peer). Carries v v' K K' ps ps' (number_in x) coming) (sym is)
+
+pub ends_as : (v v' : Sight) (K K' : Tally) (ps : List Peer) (o o' : Option Peer) → o ≡ o' → Ends v v' K K' ps (number_in o') → Ends v v' K K' ps (number_in o)
+ends_as v v' K K' ps o o' is = subst (λ (x : Option Peer). Ends v v' K K' ps (number_in x)) (sym is)

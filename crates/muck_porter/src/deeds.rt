@@ -118,19 +118,27 @@ pub fn serves<C: Clock>(
     }
 }
 
-// A process is claimed, or there is nothing to do.
-fn claims<C: Clock>(world: &mut World, clock: &mut C) -> Worked
+// There is nothing to do.
+fn idles<C: Clock>(world: &mut World, clock: &mut C) -> Worked
     requires { (now world.old).dead ≡ false }
     ensures { (event : Event) × (world.new ≡ entered world.old (by_porter event)) × WorkedAs result event × Clocked (C.answers clock.old) (C.answers clock.new) (now world.old) event }
 {
-    if let Some(pid) = world.claim(0) {
-        return Worked::Claimed(pid);
-    }
     if world.idle(0) {
         return Worked::Idle;
     }
     tells_time(world, clock);
     Worked::Idle
+}
+
+// A process is claimed, or there is nothing to do.
+fn claims<C: Clock>(world: &mut World, clock: &mut C) -> Worked
+    requires { (now world.old).dead ≡ false }
+    ensures { (event : Event) × (world.new ≡ entered world.old (by_porter event)) × WorkedAs result event × Clocked (C.answers clock.old) (C.answers clock.new) (now world.old) event }
+{
+    match world.claim(0) {
+        Some(pid) => Worked::Claimed(pid),
+        None => idles(world, clock),
+    }
 }
 
 /// One entry of a turn of work.
@@ -159,11 +167,15 @@ pub fn works<C: Clock>(world: &mut World, clock: &mut C, peers: &Vec<Peer>) -> W
     }
 }
 
-// A connection is opened, where it may.
-fn opens<C: Clock>(world: &mut World, clock: &mut C, d: u32) -> Did
+// A connection is opened, where it may, and not once the note of the links was made.
+fn opens<C: Clock>(world: &mut World, clock: &mut C, d: u32, noted: bool) -> Did
     requires { (now world.old).dead ≡ false }
-    ensures { (event : Event) × (world.new ≡ entered world.old (by_porter event)) × DidAs (Deed.Open d) result false [] (now world.old) event × Clocked (C.answers clock.old) (C.answers clock.new) (now world.old) event }
+    ensures { (event : Event) × (world.new ≡ entered world.old (by_porter event)) × DidAs (Deed.Open d) result noted [] (now world.old) event × Clocked (C.answers clock.old) (C.answers clock.new) (now world.old) event }
 {
+    if noted {
+        tells_time(world, clock);
+        return Did::Timed;
+    }
     let opened = match world.opened(d) {
         Ok(opened) => opened,
         Err(NoMemory) => return Did::Dead,
@@ -236,13 +248,7 @@ pub fn does<C: Clock>(
         return Did::Dead;
     }
     match *deed {
-        Deed::Open(d) => {
-            if noted {
-                tells_time(world, clock);
-                return Did::Timed;
-            }
-            opens(world, clock, d)
-        }
+        Deed::Open(d) => opens(world, clock, d, noted),
         Deed::Slice(pid) => slices(world, pid),
         Deed::Time => {
             tells_time(world, clock);

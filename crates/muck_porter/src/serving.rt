@@ -1,5 +1,5 @@
 // Links are served: each whose connection wants something gets one hold a round.
-ghost use Rattle.std.specs.Prelude.{◌≡◌, ◌<◌, ℕ, IfOk, OnOk, OnErr, IfErr, length, true};
+ghost use Rattle.std.specs.Prelude.{◌≡◌, ◌<◌, ◌+◌, ℕ, IfOk, OnOk, OnErr, IfErr, length, true};
 ghost use Rattle.std.specs.List.{remove};
 ghost use Rattle.muck_machine.specs.Seats.{SameLists};
 ghost use Rattle.muck_porter.specs.Kept.{tally, Ready, ReadyTimed, Over};
@@ -47,16 +47,20 @@ pub fn dies<W: Wait, L: Links, C: Clock, R: Rest>(
     }
 }
 
-// What is kept of a link is written, at once behind its hold.
-fn writes<L: Links>(links: &mut L, noted: bool, peers: &mut Vec<Peer>, at: usize)
+// What is kept of a link is written, at once behind its hold. Answers the place behind it.
+fn writes<L: Links>(links: &mut L, noted: bool, peers: &mut Vec<Peer>, at: usize) -> usize
     requires { at < length peers.old.items }
     ensures tells { L.tells links.new ≡ L.tells links.old }
     ensures listening { L.listening links.new ≡ L.listening links.old }
     ensures wrote { L.tells links.old ≡ true → WroteAt at noted (L.told links.old) (L.told links.new) peers.old.items peers.new.items }
     ensures count { length peers.new.items ≡ length peers.old.items }
+    ensures behind { result ≡ at + 1 }
 {
+    let count = peers.len();
     let peer = &mut peers[at];
     peer.sends_some(links, noted);
+    prove!(at < count);
+    at + 1
 }
 
 // A link is closed, and nothing more is kept of it.
@@ -99,8 +103,8 @@ fn serve_one<W: Wait, L: Links, C: Clock, R: Rest>(
 {
     match serve_turn(rt, turn, seat, links, clock, rest, noted, peers, from) {
         Ok(Served::Went(at)) => {
-            writes(links, *noted, peers, at);
-            Ok(Some(at + 1))
+            let next = writes(links, *noted, peers, at);
+            Ok(Some(next))
         }
         Ok(Served::Closed(at)) => {
             lets_go(links, peers, at);

@@ -7,7 +7,7 @@ pub returns-then-not-is_stopping : goal.returns-then-not-is_stopping
 returns-then-not-is_stopping g c = let t = c.tells_time.ensures in (Moment t.0, t.1, (t.0, refl), t.2)
 
 pub returns-then-not-all_worked_off : goal.returns-then-not-all_worked_off
-returns-then-not-all_worked_off g c = let t = c.tells_time.ensures in (Moment t.0, t.1, (t.0, refl), t.2)
+returns-then-not-all_worked_off g c = let t = c.tells_time-then-not-all_worked_off.ensures in (Moment t.0, t.1, (t.0, refl), t.2)
 
 pub returns-then-stopped : goal.returns-then-stopped
 returns-then-stopped g c =

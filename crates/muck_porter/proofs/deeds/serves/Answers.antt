@@ -4,8 +4,8 @@ use Rattle.muck_model.specs.declared.event.Event.TheVariants.{Moment}
 use Rattle.muck_porter.proofs.Doing.{peer_closed}
 use Rattle.muck_porter.proofs.deeds.serves.Goals as goal
 
-pub returns-then-at-clause-step : goal.returns-then-at-clause-step
-returns-then-at-clause-step g c = let t = c.tells_time.ensures in (Moment t.0, t.1, ((t.0, refl), refl), t.2)
+pub returns-then-at-len-clause-step : goal.returns-then-at-len-clause-step
+returns-then-at-len-clause-step g c = let t = c.tells_time.ensures in (Moment t.0, t.1, ((t.0, refl), refl), t.2)
 
 pub returns-in-Went-clause-step : goal.returns-in-Went-clause-step
 returns-in-Went-clause-step g c =

@@ -30,5 +30,5 @@ returns-in-Ok-clause-ok g c =
 pub returns-in-Err-clause-lists : goal.returns-in-Err-clause-lists
 returns-in-Err-clause-lists g c = let w = c.in-Err.ensures.waited.0 in (w.5, w.3, w.4)
 
-pub does-requires : goal.does-requires
-does-requires g c = claim_held c.args.noted.now c.begins.new.noted (g.L.Links.told c.args.links.now) c.args.seat.now.me c.begins.new.seat.me c.in-Ok.held.state c.args.deed.now c.requires.ready c.in-Ok.ensures.ok c.requires.claim
+pub does-did-requires : goal.does-did-requires
+does-did-requires g c = claim_held c.args.noted.now c.begins.new.noted (g.L.Links.told c.args.links.now) c.args.seat.now.me c.begins.new.seat.me c.in-Ok.held.state c.args.deed.now c.requires.ready c.in-Ok.ensures.ok c.requires.claim

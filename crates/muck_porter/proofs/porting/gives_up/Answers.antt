@@ -20,8 +20,8 @@ returns-in-NoMemory-clause-done g c =
       spent = λ f. cc;
     }
 
-pub returns-in-Spent-clause-done : goal.returns-in-Spent-clause-done
-returns-in-Spent-clause-done g c =
+pub returns-clause-done : goal.returns-clause-done
+returns-clause-done g c =
     let s = c.in-Spent.ensures in
     record {
       lists = s.lists;

@@ -1,4 +1,6 @@
-use Rattle.std.proofs.Common.{true≢false, ◌⊎◌, inl, inr, refl, sym, ap, ◌∙◌, arith}
+use Rattle.std.proofs.Common.{true≢false, refl, sym, ap, ◌∙◌, subst, arith}
+use Rattle.muck_porter.specs.declared.serving.Fault.{Fault}
+use Rattle.muck_porter.specs.Rounds.{IsSpent}
 use Rattle.muck_porter.specs.declared.porting.Why.TheVariants.{NoMemory, Spent}
 use Rattle.muck_porter.proofs.InRounds.{stays_ready, stays_carried, left_last, left_kept, broke_on, ready_fresh, books_start, not_stopped}
 use Rattle.muck_porter.proofs.porting.goes_on.Goals as goal
@@ -27,7 +29,7 @@ loop-preserved g c =
       ready = stays_ready _ _ _ stays s.ready;
       tells = s.tells ∙ inv.tells;
       later = omega arith;
-      broke = λ b. broke_on c.loop.broke c.in-Ok.gone.broke _ _ _ inv.later s.later inv.broke s.broke (sym c.either.ensures ∙ b);
+      broke = λ b. broke_on c.loop.broke c.in-Ok.gone.broke _ _ _ inv.later s.later inv.broke s.broke (sym c.either-broke.ensures ∙ b);
       fresh = s.fresh;
       lists = (s.lists.0 ∙ inv.lists.0, s.lists.1 ∙ inv.lists.1, s.lists.2 ∙ inv.lists.2);
       books = λ t. stays_carried _ _ _ _ _ _ _ _ _ stays (s.ok (inv.tells ∙ t)) _ (inv.books t);
@@ -46,7 +48,7 @@ returns-then-broke-clause-done g c =
       kept = λ t. (left_kept _ _ _ _ _ _ _ _ _ left (s.ok (inv.tells ∙ t)) _ (inv.books t)).0;
       last = λ h. left_last _ _ _ left s.ready;
       stopped = λ h t. (left_kept _ _ _ _ _ _ _ _ _ left (s.ok (inv.tells ∙ t)) _ (inv.books t)).1;
-      fault = λ f. broke_on c.loop.broke c.in-Ok.gone.broke _ _ _ inv.later s.later inv.broke s.broke (sym c.either.ensures ∙ c.if-broke.true);
+      fault = λ f. broke_on c.loop.broke c.in-Ok.gone.broke _ _ _ inv.later s.later inv.broke s.broke (sym c.either-broke.ensures ∙ c.if-broke.true);
       later = omega arith;
       spent = λ f. cc;
     }
@@ -100,5 +102,5 @@ returns-in-Err-Spent-clause-done g c =
       stopped = λ h t. absurd (not_stopped Spent refl h);
       fault = λ f. cc;
       later = omega arith;
-      spent = λ f. s.spent;
+      spent = λ f. subst (λ (x : Fault). IsSpent x c.goes_round.new.seat.me.0) c.in-Err-Spent.field-0-is s.spent;
     }

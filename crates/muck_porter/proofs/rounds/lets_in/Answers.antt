@@ -39,13 +39,13 @@ returns-in-Err-stops-clause-err g c t =
 
 pub returns-in-Ok-stops-2-clause-ok : goal.returns-in-Ok-stops-2-clause-ok
 returns-in-Ok-stops-2-clause-ok g c t =
-    halts_broke c.args.seat.now.me.0 c.stops-2.new.seat.me.0 _ _ _ _ c.args.peers.now.items None c.in-Ok-stops-2.ensures.lists.0 (c.in-Fault.ensures.told t) c.in-Fault.ensures.later (c.in-Fault.ensures.fault refl) (c.in-Ok-stops-2.ensures.ok _)
+    halts_broke c.args.seat.now.me.0 c.stops-in-Fault.new.seat.me.0 _ _ _ _ c.args.peers.now.items None c.in-Ok-stops-2.ensures.lists.0 (c.in-Fault.ensures.told t) c.in-Fault.ensures.later (c.in-Fault.ensures.fault refl) (c.in-Ok-stops-2.ensures.ok _)
 
 pub returns-in-Err-stops-2-clause-err : goal.returns-in-Err-stops-2-clause-err
 returns-in-Err-stops-2-clause-err g c t =
-    told_ends c.args.seat.now.me.0 c.stops-2.new.seat.me.0 _ _ c.args.peers.now.items None None (told_same_on c.args.seat.now.me.0 _ _ _ _ c.args.peers.now.items None (c.in-Fault.ensures.told t) c.in-Fault.ensures.later) (c.in-Err-stops-2.ensures.err _ None)
+    told_ends c.args.seat.now.me.0 c.stops-in-Fault.new.seat.me.0 _ _ c.args.peers.now.items None None (told_same_on c.args.seat.now.me.0 _ _ _ _ c.args.peers.now.items None (c.in-Fault.ensures.told t) c.in-Fault.ensures.later) (c.in-Err-stops-2.ensures.err _ None)
 
 pub returns-in-NoMemory-clause-err : goal.returns-in-NoMemory-clause-err
 returns-in-NoMemory-clause-err g c t =
-    told_ends c.args.seat.now.me.0 c.dies-2.new.seat.me.0 _ _ c.args.peers.now.items None None (told_same_on c.args.seat.now.me.0 _ _ _ _ c.args.peers.now.items None (c.in-NoMemory.ensures.told t) c.in-NoMemory.ensures.later)
-    (ends_last c.args.seat.now.me.0 c.dies-2.new.seat.me.0 _ c.args.peers.now.items None (c.dies-2.ensures.last _))
+    told_ends c.args.seat.now.me.0 c.dies-in-NoMemory.new.seat.me.0 _ _ c.args.peers.now.items None None (told_same_on c.args.seat.now.me.0 _ _ _ _ c.args.peers.now.items None (c.in-NoMemory.ensures.told t) c.in-NoMemory.ensures.later)
+    (ends_last c.args.seat.now.me.0 c.dies-in-NoMemory.new.seat.me.0 _ c.args.peers.now.items None (c.dies-in-NoMemory.ensures.last _))

@@ -1,5 +1,7 @@
-use Rattle.std.proofs.Common.{refl, sym, ap, ◌∙◌}
-use Rattle.muck_porter.specs.Kept.{tally, IsFree}
+use Rattle.std.proofs.Common.{◌≡◌, ℤ, to_z, of_z, w32, rules, refl, sym, ap, ◌∙◌, subst}
+use Rattle.spec_events.specs.Own.{Stage}
+use Rattle.muck_porter.specs.Moves.{HasClaimed}
+use Rattle.muck_porter.specs.Kept.{tally, IsAt, IsFree}
 use Rattle.muck_porter.proofs.Stages.{formed_free}
 use Rattle.muck_porter.proofs.Doing.{over_waited, ends_waited, over_ready, carried_on, carried_end}
 use Rattle.muck_porter.proofs.InRounds.{exec_ready, exec_carries, claim_resting, claim_stage, claim_made, claim_carries, idle_ready, idle_carries, off_ready, off_carries, work_ends, work_over}
@@ -54,20 +56,28 @@ pub runs-requires-clause-ready : goal.runs-requires-clause-ready
 runs-requires-clause-ready g c = let ok = c.in-Ok-Claimed.ensures.ok in claim_resting _ _ _ c.args.seat.now.me c.work_turn.new.seat.me ok.1.0 ok.1.1 ok.0 ok.1.2 c.requires.ready c.args.peers.now.items c.in-Ok-Claimed.field-0
 
 pub runs-requires-clause-stage : goal.runs-requires-clause-stage
-runs-requires-clause-stage g c = let ok = c.in-Ok-Claimed.ensures.ok in claim_stage _ _ _ c.args.seat.now.me c.work_turn.new.seat.me ok.1.0 ok.1.1 ok.0 ok.1.2 c.requires.ready c.args.peers.now.items _ c.in-Ok-Claimed.pid c.in-Ok-Claimed.field-0-is ok.1.3
+runs-requires-clause-stage g c =
+    let ok = c.in-Ok-Claimed.ensures.ok in
+    let read : to_z w32 (of_z w32 c.in-Ok-Claimed.pid) ≡ c.in-Ok-Claimed.pid = search rules in
+    subst (λ (pid : ℤ). IsAt (Stage.claimed pid) c.work_turn.new.seat.me.0.own) (sym read)
+    (claim_stage _ _ _ c.args.seat.now.me c.work_turn.new.seat.me ok.1.0 ok.1.1 ok.0 ok.1.2 c.requires.ready c.args.peers.now.items _ c.in-Ok-Claimed.pid c.in-Ok-Claimed.field-0-is ok.1.3)
 
 pub runs-requires-clause-claim : goal.runs-requires-clause-claim
-runs-requires-clause-claim g c = let ok = c.in-Ok-Claimed.ensures.ok in claim_made _ _ _ c.args.seat.now.me c.work_turn.new.seat.me ok.1.0 ok.1.1 ok.0 ok.1.2 c.requires.ready c.args.peers.now.items _ c.in-Ok-Claimed.pid c.in-Ok-Claimed.field-0-is ok.1.3
-
-pub returns-in-Ok-runs-clause-ok : goal.returns-in-Ok-runs-clause-ok
-returns-in-Ok-runs-clause-ok g c n =
+runs-requires-clause-claim g c =
     let ok = c.in-Ok-Claimed.ensures.ok in
-    carried_on _ _ _ _ _ _ _ _ _ (claim_carries _ _ _ c.args.seat.now.me c.work_turn.new.seat.me ok.1.0 ok.1.1 ok.0 ok.1.2 c.requires.ready c.args.peers.now.items _ n c.in-Ok-Claimed.pid c.in-Ok-Claimed.field-0-is ok.1.3) (c.in-Ok-runs.ensures.ok n)
+    let read : to_z w32 (of_z w32 c.in-Ok-Claimed.pid) ≡ c.in-Ok-Claimed.pid = search rules in
+    subst (λ (pid : ℤ). HasClaimed pid c.work_turn.new.seat.me.0) (sym read)
+    (claim_made _ _ _ c.args.seat.now.me c.work_turn.new.seat.me ok.1.0 ok.1.1 ok.0 ok.1.2 c.requires.ready c.args.peers.now.items _ c.in-Ok-Claimed.pid c.in-Ok-Claimed.field-0-is ok.1.3)
 
-pub returns-in-Err-clause-err : goal.returns-in-Err-clause-err
-returns-in-Err-clause-err g c n =
+pub returns-in-Ok-clause-ok : goal.returns-in-Ok-clause-ok
+returns-in-Ok-clause-ok g c n =
     let ok = c.in-Ok-Claimed.ensures.ok in
-    carried_end _ _ _ _ _ _ _ _ (claim_carries _ _ _ c.args.seat.now.me c.work_turn.new.seat.me ok.1.0 ok.1.1 ok.0 ok.1.2 c.requires.ready c.args.peers.now.items _ n c.in-Ok-Claimed.pid c.in-Ok-Claimed.field-0-is ok.1.3) (c.in-Err.ensures.err n)
+    carried_on _ _ _ _ _ _ _ _ _ (claim_carries _ _ _ c.args.seat.now.me c.work_turn.new.seat.me ok.1.0 ok.1.1 ok.0 ok.1.2 c.requires.ready c.args.peers.now.items _ n c.in-Ok-Claimed.pid c.in-Ok-Claimed.field-0-is ok.1.3) (c.in-Ok.ensures.ok n)
+
+pub returns-in-Err-runs-clause-err : goal.returns-in-Err-runs-clause-err
+returns-in-Err-runs-clause-err g c n =
+    let ok = c.in-Ok-Claimed.ensures.ok in
+    carried_end _ _ _ _ _ _ _ _ (claim_carries _ _ _ c.args.seat.now.me c.work_turn.new.seat.me ok.1.0 ok.1.1 ok.0 ok.1.2 c.requires.ready c.args.peers.now.items _ n c.in-Ok-Claimed.pid c.in-Ok-Claimed.field-0-is ok.1.3) (c.in-Err-runs.ensures.err n)
 
 pub returns-in-Ok-Dead-clause-err : goal.returns-in-Ok-Dead-clause-err
 returns-in-Ok-Dead-clause-err g c n =
@@ -79,11 +89,11 @@ returns-in-Ok-Dead-clause-over g c =
     let ok = c.in-Ok-Dead.ensures.ok in
     work_over _ _ _ c.args.seat.now.me c.work_turn.new.seat.me ok.1.0 ok.1.1 ok.0 ok.1.2 c.requires.ready c.args.peers.now.items _ c.in-Ok-Dead.field-0-is ok.1.3
 
-pub returns-in-Err-work_turn-clause-err : goal.returns-in-Err-work_turn-clause-err
-returns-in-Err-work_turn-clause-err g c n coming = ends_waited c.args.seat.now.me c.work_turn.new.seat.me (tally (g.L.Links.told c.args.links.now) n) c.args.peers.now.items coming c.requires.ready.resting.rests c.in-Err-work_turn.ensures.waited.0
+pub returns-in-Err-clause-err : goal.returns-in-Err-clause-err
+returns-in-Err-clause-err g c n coming = ends_waited c.args.seat.now.me c.work_turn.new.seat.me (tally (g.L.Links.told c.args.links.now) n) c.args.peers.now.items coming c.requires.ready.resting.rests c.in-Err.ensures.waited.0
 
-pub returns-in-Err-work_turn-clause-over : goal.returns-in-Err-work_turn-clause-over
-returns-in-Err-work_turn-clause-over g c = over_waited c.args.seat.now.me c.work_turn.new.seat.me c.in-Err-work_turn.ensures.left.0 c.in-Err-work_turn.ensures.waited.0 (formed_free c.args.seat.now.me.0.own (IsFree.timed c.requires.ready.timed))
+pub returns-in-Err-clause-over : goal.returns-in-Err-clause-over
+returns-in-Err-clause-over g c = over_waited c.args.seat.now.me c.work_turn.new.seat.me c.in-Err.ensures.left.0 c.in-Err.ensures.waited.0 (formed_free c.args.seat.now.me.0.own (IsFree.timed c.requires.ready.timed))
 
-pub returns-in-Err-work_turn-clause-spent : goal.returns-in-Err-work_turn-clause-spent
-returns-in-Err-work_turn-clause-spent g c = c.in-Err-work_turn.ensures.left.1
+pub returns-in-Err-clause-spent : goal.returns-in-Err-clause-spent
+returns-in-Err-clause-spent g c = c.in-Err.ensures.left.1

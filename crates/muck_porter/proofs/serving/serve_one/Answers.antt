@@ -1,11 +1,12 @@
-use Rattle.std.proofs.Common.{refl, sym, ap, ◌∙◌}
+use Rattle.std.proofs.Common.{ℕ, Some, refl, sym, ap, ◌∙◌, subst}
+use Rattle.muck_porter.specs.Rounds.{Nearer}
 use Rattle.muck_porter.proofs.Stages.{formed_free}
 use Rattle.muck_porter.proofs.Doing.{over_waited, ends_waited, listened}
 use Rattle.muck_porter.proofs.OneServed.{went_below, closed_below, went_nearer, closed_nearer, went_ready, went_carries, closed_ready, closed_carries, nobody_ready, nobody_carries, dead_ends, dead_over, went_over, closed_over, nobody_over}
 use Rattle.muck_porter.proofs.serving.serve_one.Goals as goal
 
-pub writes-requires : goal.writes-requires
-writes-requires g c = let ok = c.in-Ok-Went.ensures.ok in went_below _ c.in-Ok-Went.at _ _ _ _ c.in-Ok-Went.field-0-is ok.1.3
+pub writes-next-requires : goal.writes-next-requires
+writes-next-requires g c = let ok = c.in-Ok-Went.ensures.ok in went_below _ c.in-Ok-Went.at _ _ _ _ c.in-Ok-Went.field-0-is ok.1.3
 
 pub lets_go-requires : goal.lets_go-requires
 lets_go-requires g c = let ok = c.in-Ok-Closed.ensures.ok in closed_below _ c.in-Ok-Closed.at _ _ _ _ c.in-Ok-Closed.field-0-is ok.1.3
@@ -18,13 +19,14 @@ returns-in-Ok-Went-clause-ready g c =
 pub returns-in-Ok-Went-clause-place : goal.returns-in-Ok-Went-clause-place
 returns-in-Ok-Went-clause-place g c =
     let ok = c.in-Ok-Went.ensures.ok in
-    went_nearer _ c.in-Ok-Went.at c.args.from _ _ _ _ _ c.in-Ok-Went.field-0-is ok.1.3 c.in-Ok-Went.ensures.place c.writes.ensures.count
+    subst (λ (n : ℕ). Nearer (Some n) c.args.from c.args.peers.now.items c.writes-next.new.peers.items) (sym c.writes-next.ensures.behind)
+    (went_nearer _ c.in-Ok-Went.at c.args.from _ _ _ _ _ c.in-Ok-Went.field-0-is ok.1.3 c.in-Ok-Went.ensures.place c.writes-next.ensures.count)
 
 pub returns-in-Ok-Went-clause-ok : goal.returns-in-Ok-Went-clause-ok
 returns-in-Ok-Went-clause-ok g c t =
     let ok = c.in-Ok-Went.ensures.ok in
-    listened _ _ _ _ _ _ _ _ c.writes.ensures.listening
-    (went_carries _ _ _ c.args.seat.now.me c.serve_turn.new.seat.me ok.1.0 ok.1.1 ok.0 ok.1.2 c.requires.ready _ _ _ ok.1.3 c.in-Ok-Went.at _ _ _ c.in-Ok-Went.field-0-is (c.writes.ensures.wrote t))
+    listened _ _ _ _ _ _ _ _ c.writes-next.ensures.listening
+    (went_carries _ _ _ c.args.seat.now.me c.serve_turn.new.seat.me ok.1.0 ok.1.1 ok.0 ok.1.2 c.requires.ready _ _ _ ok.1.3 c.in-Ok-Went.at _ _ _ c.in-Ok-Went.field-0-is (c.writes-next.ensures.wrote t))
 
 pub returns-in-Ok-Went-clause-over : goal.returns-in-Ok-Went-clause-over
 returns-in-Ok-Went-clause-over g c =
