@@ -28,7 +28,7 @@ returns-in-Slice g c =
 
 pub returns-in-Time : goal.returns-in-Time
 returns-in-Time g c =
-    let t = c.tells_time-in-Time.ensures in
+    let t = c.tells_time.ensures in
     (Moment t.0, t.1, subst (λ (d : Deed). DidAs d Timed c.args.noted c.args.peers.now.items (now c.args.world.now) (Moment t.0)) (sym c.in-Time.is) (t.0, refl), t.2)
 
 pub returns-in-Stop : goal.returns-in-Stop

@@ -1,4 +1,4 @@
-use Rattle.std.proofs.Common.{Some, None, refl, sym, ap, ◌∙◌}
+use Rattle.std.proofs.Common.{◌≡◌, ◌==◌, ℕ, length, vec_len, rules, Some, None, refl, sym, ap, ◌∙◌}
 use Rattle.muck_porter.specs.Kept.{tally}
 use Rattle.muck_porter.proofs.Doing.{over_ready, ends_last, told_ends}
 use Rattle.muck_porter.proofs.InRounds.{told_same_on, told_over, told_came, came_as, came_carries, halts_over, halts_broke, empty_of}
@@ -31,7 +31,8 @@ returns-then-not-is_empty-clause-ok g c t = told_over c.args.seat.now.me.0 _ _ _
 
 pub returns-in-Ok-stops-clause-ok : goal.returns-in-Ok-stops-clause-ok
 returns-in-Ok-stops-clause-ok g c t =
-    halts_over c.args.seat.now.me.0 c.stops.new.seat.me.0 _ _ _ _ c.args.peers.now.items None (c.in-Ended.ensures.told t) c.in-Ended.ensures.later (empty_of _ c.is_empty.result c.if-not-is_empty.false c.is_empty.ensures) (c.in-Ok-stops.ensures.ok _)
+    let count : vec_len c.args.peers.now ≡ length c.args.peers.now.items = search rules in
+    halts_over c.args.seat.now.me.0 c.stops.new.seat.me.0 _ _ _ _ c.args.peers.now.items None (c.in-Ended.ensures.told t) c.in-Ended.ensures.later (empty_of c.args.peers.now.items c.is_empty.result c.if-not-is_empty.false (c.is_empty.ensures ∙ ap (λ (n : ℕ). n == 0) count)) (c.in-Ok-stops.ensures.ok _)
 
 pub returns-in-Err-stops-clause-err : goal.returns-in-Err-stops-clause-err
 returns-in-Err-stops-clause-err g c t =
