@@ -111,7 +111,13 @@ impl Peer {
         ensures listening { L.listening links.new ≡ L.listening links.old }
         ensures step { L.tells links.old ≡ true → (counted : LinksNote) → is_some counted ≡ noted → LinkStep counted self.old self.new (L.told links.old) (L.told links.new) }
     {
-        let bytes = self.buffer.as_slice().split_at(self.len).0.split_at(self.at).1;
+        let bytes = self
+            .buffer
+            .as_slice()
+            .split_at(self.len)
+            .0
+            .split_at(self.at)
+            .1;
         match links.write(self.number, bytes) {
             LinkWrite::Put(n) => {
                 self.at += n;

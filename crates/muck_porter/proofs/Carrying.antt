@@ -244,12 +244,11 @@ module _ (noted noted' : Bool) (k : Told) (v v' : Sight) (w : World) (event : Ev
         placed_only : (u : World) (m : Note) → v'.root ≡ begun u m ∷ []
             → AllLawful u (entries_of (v.seen ++ turn.others)) × StartsWith (entries_of (v.seen ++ turn.others)) (entries_of v.seen)
             × (own_of party_of 0 (entries_of (v.seen ++ turn.others)) ≡ own_of party_of 0 (entries_of v.seen))
-        placed_only u m root =
-            (
-              subst (λ (x : World). AllLawful x (entries_of (v.seen ++ turn.others))) (same_world turn.start u turn.mounting m (sym turn.root ∙ root_before u m root)) turn.lawful,
-              (entries_of turn.others, entries_append v.seen turn.others),
-              entries_own 0 (v.seen ++ turn.others) ∙ ap entries_of turn.still ∙ sym (entries_own 0 v.seen),
-            )
+        placed_only u m root = (
+          subst (λ (x : World). AllLawful x (entries_of (v.seen ++ turn.others))) (same_world turn.start u turn.mounting m (sym turn.root ∙ root_before u m root)) turn.lawful,
+          (entries_of turn.others, entries_append v.seen turn.others),
+          entries_own 0 (v.seen ++ turn.others) ∙ ap entries_of turn.still ∙ sym (entries_own 0 v.seen),
+        )
 
         no_more : (u : World) (h : List Entry)
             → AllLawful u h × StartsWith h (entries_of v.seen) × (own_of party_of 0 h ≡ own_of party_of 0 (entries_of v.seen))

@@ -160,8 +160,7 @@ module _ (noted noted' : Bool) (k : Told) (me me' : Chair) (w : World) (event : 
     pub leave_left : (n : ℕ) → did ≡ Done → DidAs Leave did noted' ps w event → HasLeft me.0 me'.0 (tally k n) (tally k n) ps
     leave_left n is x b coming bk =
         let l = left_as is x in
-        let bk' = quiet_carries noted noted' k me me' w event r turn ready.resting.known n ps coming (subst IsQuiet (sym l.0) quiet_stop) b bk in
-        (
+        let bk' = quiet_carries noted noted' k me me' w event r turn ready.resting.known n ps coming (subst IsQuiet (sym l.0) quiet_stop) b bk in (
           kept_now b me'.0 (tally k n) r.own (promised_in b me'.0 (tally k n) ps coming bk'),
           record {
             before = me.0.seen ++ turn.others;

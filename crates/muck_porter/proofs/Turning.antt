@@ -96,8 +96,7 @@ module _ (noted noted' : Bool) (k : Told) (me me1 : Chair) (h' h2 : History) (ev
       let whole : me2.0.seen ≡ me1.0.seen ++ i.item ∷ [] = seen2 ∙ given_seen me1.0 g.given h2 i.item i.one g.seen in
       let own2 : me2.0.own ≡ me1.0.own ++ i.item ∷ [] = mine i.item (given_seen me1.0 g.given h2 i.item i.one g.seen) (by ∙ sym party) i.orderly in
       let start : g.given.start ≡ r.rests.begun.world = held_start 0 me me1.0 g.given r.rests w g.root in
-      let entries : g.given.entries ≡ entries_of (me.0.seen ++ w.0.0) = sym (entries_logged g.given) ∙ ap entries_of (g.seen ∙ w.0.1) in
-      (
+      let entries : g.given.entries ≡ entries_of (me.0.seen ++ w.0.0) = sym (entries_logged g.given) ∙ ap entries_of (g.seen ∙ w.0.1) in (
         (rests_turned 0 me me1.0 me2 g.given h2 i.item r.rests w g.seen g.known g.orderly i.one by i.orderly free idle seen2 same mine).0,
         record {
           start = r.rests.begun.world;
@@ -135,10 +134,10 @@ others_are (l ∷ ls) none = from (l.entry.party == 0) refl none (others_are ls)
 claim_still : (u : World) (pid : ℤ) (v : Sight) (others : List Logged) → HasClaimed pid v → AllLawful u (entries_of (v.seen ++ others)) → own_of logged_by 0 others ≡ [] → has_claim 0 pid (after u (entries_of (v.seen ++ others))) ≡ true
 claim_still u pid v others claimed lawful none =
     let whole : entries_of (v.seen ++ others) ≡ entries_of claimed.0 ++ by_porter (Claim pid) ∷ entries_of others =
-        ap (λ (ls : List Logged). entries_of (ls ++ others)) claimed.2
-        ∙ ap entries_of (append_assoc claimed.0 (claimed.1 ∷ []) others)
-        ∙ entries_append claimed.0 (claimed.1 ∷ others)
-        ∙ ap (λ (e : Entry). entries_of claimed.0 ++ e ∷ entries_of others) claimed.3 in
+    ap (λ (ls : List Logged). entries_of (ls ++ others)) claimed.2
+    ∙ ap entries_of (append_assoc claimed.0 (claimed.1 ∷ []) others)
+    ∙ entries_append claimed.0 (claimed.1 ∷ others)
+    ∙ ap (λ (e : Entry). entries_of claimed.0 ++ e ∷ entries_of others) claimed.3 in
     subst (λ (es : List Entry). has_claim 0 pid (after u es) ≡ true) (sym whole)
     (claim_stays u (entries_of claimed.0) 0 pid (entries_of others) (subst (AllLawful u) whole lawful) (others_are others none))
 
@@ -149,7 +148,7 @@ claim_held noted noted' k me me1 h' (Slice pid) r g claimed =
     let start : g.given.start ≡ r.rests.begun.world = held_start 0 me me1.0 g.given r.rests w g.root in
     let entries : g.given.entries ≡ entries_of (me.0.seen ++ w.0.0) = sym (entries_logged g.given) ∙ ap entries_of (g.seen ∙ w.0.1) in
     let known : own_of logged_by 0 (me.0.seen ++ w.0.0) ≡ own_of logged_by 0 me.0.seen =
-        ap (own_of logged_by 0) (sym w.0.1) ∙ ap (λ (n : ℕ). own_of logged_by n me1.0.seen) (sym (w.2 ∙ r.rests.party)) ∙ sym g.known ∙ w.1 ∙ r.rests.own in
+    ap (own_of logged_by 0) (sym w.0.1) ∙ ap (λ (n : ℕ). own_of logged_by n me1.0.seen) (sym (w.2 ∙ r.rests.party)) ∙ sym g.known ∙ w.1 ∙ r.rests.own in
     subst (λ (x : World). has_claim 0 pid x ≡ true) (sym (same g.marked))
     (subst (λ (es : List Entry). has_claim 0 pid (after g.given.start es) ≡ true) (sym entries)
     (claim_still g.given.start pid me.0 w.0.0 claimed (subst (AllLawful g.given.start) entries g.lawful) (others_none 0 me.0.seen w.0.0 known)))

@@ -57,9 +57,8 @@ kept_whole b v k w m ls root more own lawful kept_by =
 -- Where the porter has seen the stop, each connection that is open is worked off in the world in which it entered that.
 pub stopped_whole : (v : Sight) (k : Tally) (w : World) (m : Note) (ls : List Logged) → v.root ≡ begun w m ∷ [] → StartsWith ls v.seen → v.own ≡ own_of logged_by 0 ls → AllLawful w (entries_of ls)
     → (s : Stopped v k) → ((after w (entries_of s.before)).stopping ≡ true) × OpenWorkedOff (note_in v.own) (after w (entries_of s.before)) (talks w (entries_of ls)) k
-stopped_whole v k w m ls root more own lawful s =
-    (
-      s.stopping w m root,
-      subst (λ (ts : List Talk). OpenWorkedOff (note_in v.own) (after w (entries_of s.before)) ts k)
+stopped_whole v k w m ls root more own lawful s = (
+  s.stopping w m root,
+  subst (λ (ts : List Talk). OpenWorkedOff (note_in v.own) (after w (entries_of s.before)) ts k)
       (sym (talks_same w (entries_of v.seen) (entries_of ls) lawful (entries_start ls v.seen more) (same_own ls v.seen (sym own ∙ s.own)))) (s.worked w m root),
-    )
+)

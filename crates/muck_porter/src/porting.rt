@@ -105,7 +105,9 @@ fn goes_round<W: Wait, L: Links, C: Clock, G: Gate, R: Rest>(
     ensures over { Over seat.new.me }
     ensures spent { IfErr result (λ fault. IsSpent fault seat.new.me.0) }
 {
-    let came = match welcomes(rt, alloc, turn, seat, links, clock, rest, noted, peers, coming) {
+    let came = match welcomes(
+        rt, alloc, turn, seat, links, clock, rest, noted, peers, coming,
+    ) {
         Ok(came) => came,
         Err(fault) => return Err(fault),
     };
@@ -214,7 +216,17 @@ pub fn porter<W: Wait, L: Links, C: Clock, G: Gate, R: Rest>(
     match room(alloc) {
         Ok(bytes) => {
             let mut bytes = bytes;
-            goes_on(rt, alloc, turn, seat, links, clock, gate, rest, bytes.as_mut_slice())
+            goes_on(
+                rt,
+                alloc,
+                turn,
+                seat,
+                links,
+                clock,
+                gate,
+                rest,
+                bytes.as_mut_slice(),
+            )
         }
         Err(_) => gives_up(rt, alloc, turn, seat, links, clock, rest),
     }

@@ -44,7 +44,17 @@ fn stops<W: Wait, L: Links, C: Clock, R: Rest>(
     ensures over { Over seat.new.me }
     ensures spent { IfErr result (λ fault. IsSpent fault seat.new.me.0) }
 {
-    match deed_turn(rt, turn, seat, links, clock, rest, noted, peers, &Deed::Stop) {
+    match deed_turn(
+        rt,
+        turn,
+        seat,
+        links,
+        clock,
+        rest,
+        noted,
+        peers,
+        &Deed::Stop,
+    ) {
         Ok(Did::Done) => Ok(()),
         Ok(Did::Timed) => Ok(()),
         Ok(Did::Dead) => Err(Fault::NoMemory),
@@ -328,7 +338,17 @@ fn leaves<W: Wait, L: Links, C: Clock, R: Rest>(
     ensures over { Over seat.new.me }
     ensures spent { IfErr result (λ fault. IsSpent fault seat.new.me.0) }
 {
-    match deed_turn(rt, turn, seat, links, clock, rest, noted, peers, &Deed::Leave) {
+    match deed_turn(
+        rt,
+        turn,
+        seat,
+        links,
+        clock,
+        rest,
+        noted,
+        peers,
+        &Deed::Leave,
+    ) {
         Ok(Did::Done) => Ok(true),
         Ok(Did::Timed) => Ok(false),
         Ok(Did::Dead) => Err(Fault::NoMemory),

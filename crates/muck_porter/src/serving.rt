@@ -137,7 +137,17 @@ fn times<W: Wait, L: Links, C: Clock, R: Rest>(
     ensures over { Over seat.new.me }
     ensures spent { IfErr result (λ fault. IsSpent fault seat.new.me.0) }
 {
-    match deed_turn(rt, turn, seat, links, clock, rest, noted, peers, &Deed::Time) {
+    match deed_turn(
+        rt,
+        turn,
+        seat,
+        links,
+        clock,
+        rest,
+        noted,
+        peers,
+        &Deed::Time,
+    ) {
         Ok(Did::Done) => unreachable!(),
         Ok(Did::Timed) => Ok(()),
         Ok(Did::Dead) => Err(Fault::NoMemory),

@@ -14,6 +14,9 @@ idles-requires g c = ap (λ (h : History). (now h).dead) c.in-None.ensures.step 
 
 pub returns-in-None : goal.returns-in-None
 returns-in-None g c =
-    let e = c.idles.ensures in
-    (e.0, e.1 ∙ ap (λ (h : History). entered h (by_porter e.0)) c.in-None.ensures.step, e.2,
-      subst (λ (h : History). Clocked (g.C.Clock.answers c.args.clock.now) (g.C.Clock.answers c.idles.new.clock) (now h) e.0) c.in-None.ensures.step e.3)
+    let e = c.idles.ensures in (
+      e.0,
+      e.1 ∙ ap (λ (h : History). entered h (by_porter e.0)) c.in-None.ensures.step,
+      e.2,
+      subst (λ (h : History). Clocked (g.C.Clock.answers c.args.clock.now) (g.C.Clock.answers c.idles.new.clock) (now h) e.0) c.in-None.ensures.step e.3,
+    )

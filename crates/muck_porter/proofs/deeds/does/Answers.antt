@@ -14,17 +14,25 @@ returns-then-is_dead g c = (Died, c.died.ensures, died_did c.args.deed.now c.arg
 
 pub returns-in-Open : goal.returns-in-Open
 returns-in-Open g c =
-    let e = c.opens.ensures in
-    (e.0, e.1, subst (λ (d : Deed). DidAs d c.opens.result c.args.noted c.args.peers.now.items (now c.args.world.now) e.0) (sym c.in-Open.is)
-      (open_did c.opens.result c.in-Open.d c.args.noted c.args.peers.now.items (now c.args.world.now) e.0 e.2), e.3)
+    let e = c.opens.ensures in (
+      e.0,
+      e.1,
+      subst (λ (d : Deed). DidAs d c.opens.result c.args.noted c.args.peers.now.items (now c.args.world.now) e.0) (sym c.in-Open.is)
+          (open_did c.opens.result c.in-Open.d c.args.noted c.args.peers.now.items (now c.args.world.now) e.0 e.2),
+      e.3,
+    )
 
 pub returns-in-Slice : goal.returns-in-Slice
 returns-in-Slice g c =
     let e = c.slices.ensures in
-    let read : to_z w32 (of_z w32 c.in-Slice.pid) ≡ c.in-Slice.pid = search rules in
-    (e.0, e.1, subst (λ (d : Deed). DidAs d c.slices.result c.args.noted c.args.peers.now.items (now c.args.world.now) e.0) (sym c.in-Slice.is)
-      (slice_did c.slices.result c.in-Slice.pid c.args.noted c.args.peers.now.items (now c.args.world.now) e.0
-      (subst (λ (pid : ℤ). DidAs (Slice pid) c.slices.result false [] (now c.args.world.now) e.0) read e.2)), e.3 (now c.args.world.now) (g.C.Clock.answers c.args.clock.now))
+    let read : to_z w32 (of_z w32 c.in-Slice.pid) ≡ c.in-Slice.pid = search rules in (
+      e.0,
+      e.1,
+      subst (λ (d : Deed). DidAs d c.slices.result c.args.noted c.args.peers.now.items (now c.args.world.now) e.0) (sym c.in-Slice.is)
+          (slice_did c.slices.result c.in-Slice.pid c.args.noted c.args.peers.now.items (now c.args.world.now) e.0
+          (subst (λ (pid : ℤ). DidAs (Slice pid) c.slices.result false [] (now c.args.world.now) e.0) read e.2)),
+      e.3 (now c.args.world.now) (g.C.Clock.answers c.args.clock.now),
+    )
 
 pub returns-in-Time : goal.returns-in-Time
 returns-in-Time g c =
@@ -33,15 +41,23 @@ returns-in-Time g c =
 
 pub returns-in-Stop : goal.returns-in-Stop
 returns-in-Stop g c =
-    let e = c.halts.ensures in
-    (e.0, e.1, subst (λ (d : Deed). DidAs d c.halts.result c.args.noted c.args.peers.now.items (now c.args.world.now) e.0) (sym c.in-Stop.is)
-      (stop_did c.halts.result c.args.noted c.args.peers.now.items (now c.args.world.now) e.0 e.2), e.3)
+    let e = c.halts.ensures in (
+      e.0,
+      e.1,
+      subst (λ (d : Deed). DidAs d c.halts.result c.args.noted c.args.peers.now.items (now c.args.world.now) e.0) (sym c.in-Stop.is)
+          (stop_did c.halts.result c.args.noted c.args.peers.now.items (now c.args.world.now) e.0 e.2),
+      e.3,
+    )
 
 pub returns-in-Leave : goal.returns-in-Leave
 returns-in-Leave g c =
-    let e = c.leaves.ensures in
-    (e.0, e.1, subst (λ (d : Deed). DidAs d c.leaves.result c.args.noted c.args.peers.now.items (now c.args.world.now) e.0) (sym c.in-Leave.is)
-      (leave_did c.leaves.result c.args.noted c.args.peers.now.items (now c.args.world.now) e.0 e.2), e.3)
+    let e = c.leaves.ensures in (
+      e.0,
+      e.1,
+      subst (λ (d : Deed). DidAs d c.leaves.result c.args.noted c.args.peers.now.items (now c.args.world.now) e.0) (sym c.in-Leave.is)
+          (leave_did c.leaves.result c.args.noted c.args.peers.now.items (now c.args.world.now) e.0 e.2),
+      e.3,
+    )
 
 pub returns-in-Die : goal.returns-in-Die
 returns-in-Die g c = (Died, c.died-in-Die.ensures, subst (λ (d : Deed). DidAs d Dead c.args.noted c.args.peers.now.items (now c.args.world.now) Died) (sym c.in-Die.is) refl, refl)

@@ -14,6 +14,9 @@ tells_time-requires g c = ap (λ (h : History). (now h).dead) (c.idle.ensures.st
 pub returns : goal.returns
 returns g c =
     let t = c.tells_time.ensures in
-    let same = c.idle.ensures.step ∙ did_not c.idle.result _ _ c.if-idle.false in
-    (Moment t.0, t.1 ∙ ap (λ (h : History). entered h (by_porter (Moment t.0))) same, inr (t.0, refl),
-      subst (λ (h : History). Clocked (g.C.Clock.answers c.args.clock.now) (g.C.Clock.answers c.tells_time.new.clock) (now h) (Moment t.0)) same t.2)
+    let same = c.idle.ensures.step ∙ did_not c.idle.result _ _ c.if-idle.false in (
+      Moment t.0,
+      t.1 ∙ ap (λ (h : History). entered h (by_porter (Moment t.0))) same,
+      inr (t.0, refl),
+      subst (λ (h : History). Clocked (g.C.Clock.answers c.args.clock.now) (g.C.Clock.answers c.tells_time.new.clock) (now h) (Moment t.0)) same t.2,
+    )

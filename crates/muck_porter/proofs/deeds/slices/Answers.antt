@@ -12,6 +12,9 @@ slice-requires-clause-claim c =
 
 pub returns-in-Ok : goal.returns-in-Ok
 returns-in-Ok c =
-    let read : to_z w32 (of_z w32 c.args.pid) ≡ c.args.pid = search rules in
-    (slice_event c.args.pid c.in-Ok.field-0, c.in-Ok.ensures.step ∙ ap (λ (pid : ℤ). entered c.args.world.now (by_porter (slice_event pid c.in-Ok.field-0))) read,
-      sliced_as c.args.pid c.in-Ok.field-0, untimed_slice c.args.pid c.in-Ok.field-0)
+    let read : to_z w32 (of_z w32 c.args.pid) ≡ c.args.pid = search rules in (
+      slice_event c.args.pid c.in-Ok.field-0,
+      c.in-Ok.ensures.step ∙ ap (λ (pid : ℤ). entered c.args.world.now (by_porter (slice_event pid c.in-Ok.field-0))) read,
+      sliced_as c.args.pid c.in-Ok.field-0,
+      untimed_slice c.args.pid c.in-Ok.field-0,
+    )

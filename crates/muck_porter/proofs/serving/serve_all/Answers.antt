@@ -41,7 +41,7 @@ returns-in-Err-times-clause-err g c t = let inv = c.loop-from.invariant in carri
 pub loop-from-smaller : goal.loop-from-smaller
 loop-from-smaller g c =
     let p : length c.serve_one.new.peers.items + c.loop-from.from < length c.loop-from.peers.items + c.in-Ok-Some.next =
-        subst (λ (o : Option ℕ). Nearer o c.loop-from.from c.loop-from.peers.items c.serve_one.new.peers.items) c.in-Ok-Some.field-0-is c.in-Ok-Some.ensures.place in
+    subst (λ (o : Option ℕ). Nearer o c.loop-from.from c.loop-from.peers.items c.serve_one.new.peers.items) c.in-Ok-Some.field-0-is c.in-Ok-Some.ensures.place in
     let t = c.loop-from-test.true in
     omega arith
 

@@ -6,4 +6,4 @@ use Rattle.muck_porter.proofs.serving.writes.Goals as goal
 pub returns-clause-wrote : goal.returns-clause-wrote
 returns-clause-wrote g c t =
     wrote_at c.args.at c.args.noted _ _ c.args.peers.now.items c.index_mut-peer.result.now c.sends_some.new.self
-        (at_index c.args.peers.now.items c.args.at c.index_mut-peer.result.now (search rules) c.index_mut-peer.ensures.value) (c.sends_some.ensures.step t)
+    (at_index c.args.peers.now.items c.args.at c.index_mut-peer.result.now (search rules) c.index_mut-peer.ensures.value) (c.sends_some.ensures.step t)

@@ -19,4 +19,4 @@ pub returns-in-Err-clause-err : goal.returns-in-Err-clause-err
 returns-in-Err-clause-err g c t =
     let inv = c.loop-at.invariant in
     loses_more c.args.noted _ _ _ c.args.peers.now.items c.loop-at.peers.items c.loop-at.at c.index_mut-peer.result.now
-        (at_index c.loop-at.peers.items c.loop-at.at c.index_mut-peer.result.now (search rules) c.index_mut-peer.ensures.value) (inv.2 t) (c.in-Err.ensures.err (inv.0 ∙ t))
+    (at_index c.loop-at.peers.items c.loop-at.at c.index_mut-peer.result.now (search rules) c.index_mut-peer.ensures.value) (inv.2 t) (c.in-Err.ensures.err (inv.0 ∙ t))

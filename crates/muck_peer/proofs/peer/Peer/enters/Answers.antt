@@ -7,11 +7,12 @@ use Rattle.muck_peer.proofs.Stepping.{step_heard, did_so}
 use Rattle.muck_peer.proofs.peer.Peer.enters.Goals as goal
 
 pub returns-then-yes : goal.returns-then-yes
-returns-then-yes c =
-    (Input c.self.inside.number c.in-Some.line,
-      c.in-Ok.ensures.step ∙ did_so c.in-Ok.yes c.args.world.now (entered c.args.world.now (by_porter (Input c.self.inside.number c.in-Some.line))) c.if-yes.true,
-      step_heard _ _ _ (now c.args.world.now) c.in-Some.line c.next_line.new.self c.self.view_is c.in-Some.ensures.0 c.in-Some.ensures.1 refl,
-      (λ w answers. refl))
+returns-then-yes c = (
+  Input c.self.inside.number c.in-Some.line,
+  c.in-Ok.ensures.step ∙ did_so c.in-Ok.yes c.args.world.now (entered c.args.world.now (by_porter (Input c.self.inside.number c.in-Some.line))) c.if-yes.true,
+  step_heard _ _ _ (now c.args.world.now) c.in-Some.line c.next_line.new.self c.self.view_is c.in-Some.ensures.0 c.in-Some.ensures.1 refl,
+  (λ w answers. refl),
+)
 
 pub unreachable-requires-in-Ok : goal.unreachable-requires-in-Ok
 unreachable-requires-in-Ok c =

@@ -23,5 +23,5 @@ returns-in-Fault-clause-ok g c t counted = link_fault counted _ _ _ _ _ c.self.v
 pub returns-in_err-feed-in-Got-clause-err : goal.returns-in_err-feed-in-Got-clause-err
 returns-in_err-feed-in-Got-clause-err g c =
     let lost : g.L.Links.tells c.args.links.now ≡ true → (counted : LinksNote) → LinkLoss counted c.args.self.now (g.L.Links.told c.args.links.now) (g.L.Links.told c.read.new.self) =
-        λ t counted. link_lost counted _ _ _ _ (take c.in-Got.n c.read.new.buf) c.self.view_is (c.in-Got.ensures.told t) in
+    λ t counted. link_lost counted _ _ _ _ (take c.in-Got.n c.read.new.buf) c.self.view_is (c.in-Got.ensures.told t) in
     on_err _ _ lost
