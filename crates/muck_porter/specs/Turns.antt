@@ -1,5 +1,5 @@
 -- One turn of the porter, as its seat sees it.
-use Rattle.std.specs.Prelude.{◌≡◌, ℕ, Bool, true, false, List, [], ◌∷◌, ◌++◌, Option, Some, None}
+use Rattle.std.specs.Prelude.{◌≡◌, ℕ, Bool, true, false, List, [], ◌∷◌, ◌++◌, Some, None}
 use Rattle.turn_lock.specs.Histories.{own_of}
 use Rattle.turn_lock.specs.declared.view.Place.TheVariants.{Holds}
 use Rattle.muck_links.specs.Sessions.{Told}
@@ -8,10 +8,9 @@ use Rattle.muck_model.specs.declared.note.Note.{Note}
 use Rattle.spec_events.specs.declared.logged.Logged.{Logged}
 use Rattle.spec_events.specs.World.{World}
 use Rattle.spec_events.specs.Histories.{History, now, after, AllLawful, by_porter, links_noted}
-use Rattle.spec_events.specs.Logged.{logged, logged_by, entries_of, IsPlaced}
+use Rattle.spec_events.specs.Logged.{logged, logged_by, entries_of}
 use Rattle.spec_talks.specs.Counts.{counts}
 use Rattle.spec_serve.specs.Marks.{LinksNote}
-use Rattle.muck_machine.specs.declared.world.World.{World as State}
 use Rattle.muck_machine.specs.Beginnings.{beginning, begun}
 use Rattle.muck_machine.specs.Seats.{Sight, Chair, AllOrderly, Waited, SameLists}
 
