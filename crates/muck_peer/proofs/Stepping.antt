@@ -4,13 +4,13 @@ use Rattle.std.specs.Prelude.{nat_lt, min, ◌<◌, if◌then◌else◌, not, �
 use Rattle.std.proofs.lemmas.Bool.{ltb-true, ltb-false, lt-ltb}
 use Rattle.std.proofs.lemmas.List.{length-drop, length-take, length-take-le}
 use Rattle.muck_links.specs.inner.Cutting.{Cut, Rest, fed}
-use Rattle.muck_links.specs.Sessions.{Session, Told, on_session, with_read, with_end, with_fault, with_written, with_refusal}
+use Rattle.muck_links.specs.Sessions.{Told, on_session, with_read, with_end, with_fault, with_written, with_refusal}
 use Rattle.muck_model.specs.declared.event.Event.TheVariants.{Input, Take}
 use Rattle.spec_live.specs.Connections.{is_ready}
 use Rattle.spec_events.specs.World.{World, queue_of}
 use Rattle.spec_events.specs.Steps.{passes}
 use Rattle.spec_serve.specs.Marks.{LinksNote}
-use Rattle.spec_serve.specs.inner.Keeping.{Peer, Keeps}
+use Rattle.spec_serve.specs.inner.Keeping.{Peer}
 use Rattle.spec_serve.proofs.Accounting.{keeps_read, keeps_end, keeps_fault, keeps_written, keeps_refusal, agrees_read}
 use Rattle.spec_serve.proofs.Causes.{worked_done}
 use Rattle.muck_peer.specs.Moves.{LinkStep, LinkLoss, PeerStep, IsWorkedOff}

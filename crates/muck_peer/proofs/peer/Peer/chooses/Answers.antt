@@ -1,7 +1,6 @@
-use Rattle.std.proofs.Common.{ap, sym, ◌∙◌, refl}
+use Rattle.std.proofs.Common.{refl}
 use Rattle.muck_model.specs.declared.event.Event.TheVariants.{Moment}
 use Rattle.spec_events.specs.Histories.{now}
-use Rattle.spec_serve.specs.inner.Keeping.{Peer}
 use Rattle.muck_peer.specs.Moves.{PeerStep}
 use Rattle.muck_peer.proofs.Stepping.{stable, was_false}
 use Rattle.muck_peer.proofs.peer.Peer.chooses.Goals as goal

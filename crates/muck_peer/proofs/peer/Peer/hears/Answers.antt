@@ -1,4 +1,4 @@
-use Rattle.std.proofs.Common.{◌≡◌, true, take, ap, sym, ◌∙◌, refl}
+use Rattle.std.proofs.Common.{◌≡◌, true, take, ap, ◌∙◌, refl}
 use Rattle.muck_links.specs.inner.Cutting.{fed}
 use Rattle.muck_links.specs.Sessions.{on_session}
 use Rattle.spec_serve.specs.Marks.{LinksNote}

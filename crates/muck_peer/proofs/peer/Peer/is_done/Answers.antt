@@ -1,5 +1,4 @@
 use Rattle.std.proofs.Common.{ap, sym, ◌∙◌, arith, length}
-use Rattle.std.proofs.lemmas.Bool.{not-true}
 use Rattle.spec_live.specs.Connections.{is_ready}
 use Rattle.spec_events.specs.World.{queue_of}
 use Rattle.spec_events.specs.Steps.{passes}
