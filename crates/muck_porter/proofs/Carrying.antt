@@ -1,16 +1,15 @@
 -- How a turn carries the books over.
-use Rattle.std.proofs.Common.{true≢false, ◌≡◌, ◌⊎◌, ℕ, zero, suc, ◌≤◌, Bool, true, false, List, [], ◌∷◌, ◌++◌, set, take, refl, sym, ap, ◌∙◌, subst, append_assoc, inl, inr, arith, Option, Some, None}
+use Rattle.std.proofs.Common.{◌≡◌, ℕ, zero, suc, ◌≤◌, Bool, false, List, [], ◌∷◌, ◌++◌, set, take, refl, sym, ap, ◌∙◌, subst, inl, inr, arith, Option, Some, None}
 use Rattle.std.specs.Prelude.{is_some, if◌then◌else◌}
 use Rattle.std.specs.List.{remove}
 use Rattle.std.proofs.lemmas.List.{append-nil}
 use mathlib.Core.Option.{some}
 use lib.ListN.{get_elem?}
 use Rattle.turn_lock.specs.Histories.{StartsWith, own_of}
-use Rattle.muck_io.specs.Faults.{Rose}
-use Rattle.muck_links.specs.Sessions.{Session, Told, on_session, shut}
+use Rattle.muck_links.specs.Sessions.{Told, on_session, shut}
 use Rattle.muck_model.specs.declared.event.Entry.{Entry}
 use Rattle.muck_model.specs.declared.event.Event.{Event}
-use Rattle.muck_model.specs.declared.event.Event.TheVariants.{Opened, Input, Closed, Moment, Exec, Claim, Slice, Lost, Idle, Take, Halt, StopSeen, Died}
+use Rattle.muck_model.specs.declared.event.Event.TheVariants.{Opened, Input, Closed, Moment, Take, Halt, StopSeen, Died}
 use Rattle.muck_model.specs.declared.note.Note.{Note}
 use Rattle.spec_events.specs.declared.logged.Count.{Count}
 use Rattle.spec_events.specs.declared.logged.Logged.{Logged}
@@ -26,8 +25,8 @@ use Rattle.spec_talks.proofs.Halting.{halts_turned}
 use Rattle.spec_serve.specs.Marks.{LinksNote}
 use Rattle.spec_serve.specs.Accounts.{Cause, Agrees}
 use Rattle.spec_serve.specs.Promises.{Tally, HaltCause, Promised, PromisedOf}
-use Rattle.spec_serve.specs.inner.Keeping.{Peer, Keeps, new_peer}
-use Rattle.spec_serve.specs.inner.Books.{with_told, BooksOf}
+use Rattle.spec_serve.specs.inner.Keeping.{Peer, new_peer}
+use Rattle.spec_serve.specs.inner.Books.{BooksOf}
 use Rattle.spec_serve.proofs.Noting.{books_noted, agrees_noted}
 use Rattle.spec_serve.proofs.Pairs.{all2_map}
 use Rattle.spec_serve.proofs.Promising.{books_promised}
@@ -35,10 +34,10 @@ use Rattle.spec_serve.proofs.Connecting.{nobody_there}
 use Rattle.spec_serve.proofs.Turning.{turn_others, turn_quiet, turn_heard, turn_taken, turn_opened, turn_closed, turn_halted}
 use Rattle.muck_machine.specs.declared.beginning.Beginning.{Beginning}
 use Rattle.muck_machine.specs.Beginnings.{begun}
-use Rattle.muck_machine.specs.Seats.{Sight, Waited, SameLists}
+use Rattle.muck_machine.specs.Seats.{Sight, Waited}
 use Rattle.muck_peer.specs.Moves.{PeerStep, HasCause, Clocked}
 use Rattle.muck_porter.specs.Notes.{first_note, note_in}
-use Rattle.muck_porter.specs.Kept.{tally, Account, account, BooksIn, BooksAt, PromisedIn, KeptBy}
+use Rattle.muck_porter.specs.Kept.{tally, Account, account, BooksAt, PromisedIn, KeptBy}
 use Rattle.muck_porter.specs.Turns.{Marked, PorterTurn}
 use Rattle.muck_porter.specs.Moves.{MayHalt, LastEntry}
 use Rattle.muck_porter.specs.Times.{Timely}

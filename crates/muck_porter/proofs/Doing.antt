@@ -1,5 +1,5 @@
 -- What the porter does, against its books.
-use Rattle.std.proofs.Common.{true≢false, ◌≡◌, ◌⊎◌, ℕ, zero, suc, ◌+◌, ◌<◌, ◌≤◌, Bool, true, false, List, [], ◌∷◌, ◌++◌, length, set, refl, sym, ap, ◌∙◌, subst, inl, inr, ⊎_elim, arith, Option, Some, None}
+use Rattle.std.proofs.Common.{◌≡◌, ℕ, zero, suc, ◌+◌, ◌<◌, ◌≤◌, Bool, true, false, List, [], ◌∷◌, length, set, refl, sym, ap, ◌∙◌, subst, ⊎_elim, arith, Option}
 use Rattle.std.specs.Prelude.{is_some, if◌then◌else◌}
 use Rattle.std.specs.List.{remove}
 use Rattle.std.proofs.lemmas.Bool.{cases_lt}
@@ -7,41 +7,37 @@ use mathlib.Core.Option.{some, some-ne-none, some-injective}
 use mathlib.Core.Logic.{dite}
 use native.Mathlib.Decide.{ℕ_discrete}
 use lib.ListN.{get_elem?}
-use Rattle.turn_lock.specs.Histories.{own_of}
-use Rattle.muck_links.specs.Sessions.{Told, on_session, shut, accepted, is_used}
-use Rattle.muck_links.specs.Keyed.{latest}
+use Rattle.muck_links.specs.Sessions.{Told, on_session, shut}
 use Rattle.muck_model.specs.declared.event.Event.{Event}
-use Rattle.muck_model.specs.declared.event.Event.TheVariants.{Moment, Died}
-use Rattle.muck_model.specs.declared.note.Note.{Note}
+use Rattle.muck_model.specs.declared.event.Event.TheVariants.{Died}
 use Rattle.spec_events.specs.declared.logged.Logged.{Logged}
 use Rattle.spec_events.specs.World.{World}
-use Rattle.spec_events.specs.Histories.{after, by_porter}
-use Rattle.spec_events.specs.Logged.{is_dump, logged_by, entries_of, events_of}
+use Rattle.spec_events.specs.Histories.{by_porter}
+use Rattle.spec_events.specs.Logged.{entries_of, events_of}
 use Rattle.spec_events.specs.Own.{Stage, IsWellFormed}
 use Rattle.spec_talks.specs.Parties.{worlds_at, is_halt}
 use Rattle.spec_talks.specs.Talks.{talks}
 use Rattle.spec_serve.specs.Marks.{LinksNote}
-use Rattle.spec_serve.specs.Promises.{Tally, PromisedOf}
-use Rattle.spec_serve.specs.inner.Keeping.{Peer, new_peer}
+use Rattle.spec_serve.specs.Promises.{PromisedOf}
+use Rattle.spec_serve.specs.inner.Keeping.{Peer}
 use Rattle.spec_serve.specs.inner.Books.{BooksOf}
-use Rattle.spec_serve.proofs.Booking.{books_begin, books_linked, books_still, books_came}
-use Rattle.spec_serve.proofs.Promising.{books_lost, books_worked_off}
-use Rattle.muck_machine.specs.Beginnings.{begun}
+use Rattle.spec_serve.proofs.Booking.{books_linked}
+use Rattle.spec_serve.proofs.Promising.{books_lost}
 use Rattle.muck_machine.specs.Seats.{Sight, Chair, Rests, Left, Waited}
 use Rattle.muck_machine.proofs.Seating.{left_rests}
-use Rattle.muck_peer.specs.Moves.{LinkStep, LinkLoss, PeerStep, HasCause}
+use Rattle.muck_peer.specs.Moves.{LinkStep, LinkLoss}
 use Rattle.muck_porter.specs.declared.deeds.Deed.{Deed}
 use Rattle.muck_porter.specs.declared.deeds.Deed.TheVariants.{Open, Slice, Time, Stop, Leave, Die}
 use Rattle.muck_porter.specs.declared.deeds.Did.{Did}
 use Rattle.muck_porter.specs.declared.deeds.Did.TheVariants.{Done, Timed, Dead}
 use Rattle.muck_porter.specs.Notes.{note_in}
-use Rattle.muck_porter.specs.Kept.{tally, Account, account, BooksIn, BooksAt, PromisedIn, KeptBy, Stopped, EndsWithStop, IsAt, IsFree, Resting, Ready, ReadyTimed, Over}
+use Rattle.muck_porter.specs.Kept.{tally, Account, account, BooksAt, PromisedIn, KeptBy, IsAt, IsFree, Resting, Ready, ReadyTimed, Over}
 use Rattle.muck_porter.specs.Deeds.{IsMoment, DidAs}
 use Rattle.muck_porter.specs.Turns.{PorterTurn}
-use Rattle.muck_porter.specs.Moves.{Carries, CarriesOn, Ends, EndsAll, TendsPeer, LosesPeer, Tends, Loses, LastEntry, MayHalt, Halts}
-use Rattle.muck_porter.specs.Rounds.{WroteAt, ClosedAt, HasLeft}
-use Rattle.muck_porter.proofs.Stages.{stage_item, stage_free, stage_moment, stage_died, formed_at, formed_free}
-use Rattle.muck_porter.proofs.Carrying.{IsQuiet, quiet_moment, quiet_died, quiet_stop, turn_noted, turn_books, carries_quiet, carries_peer, carries_closed, carries_opened, carries_halted, last_entry, promised_in, kept_now, kept_waited}
+use Rattle.muck_porter.specs.Moves.{Carries, CarriesOn, Ends, EndsAll, TendsPeer, LosesPeer, Tends, Loses, LastEntry}
+use Rattle.muck_porter.specs.Rounds.{WroteAt, ClosedAt}
+use Rattle.muck_porter.proofs.Stages.{stage_moment, stage_died, formed_at, formed_free}
+use Rattle.muck_porter.proofs.Carrying.{IsQuiet, quiet_moment, quiet_died, turn_noted, carries_quiet, last_entry, promised_in, kept_waited}
 
 -- Places in a list.
 

@@ -1,25 +1,22 @@
 -- The parts of a round.
-use Rattle.std.proofs.Common.{true≢false, ◌≡◌, ◌⊎◌, ℕ, ℤ, ◌+◌, ◌<◌, ◌≤◌, Bool, true, false, List, [], ◌∷◌, ◌++◌, length, refl, sym, ap, ◌∙◌, subst, inl, inr, arith, eqb-true, Option, Some, None}
+use Rattle.std.proofs.Common.{true≢false, ◌≡◌, ◌⊎◌, ℕ, ℤ, ◌≤◌, Bool, true, false, List, [], ◌∷◌, ◌++◌, length, refl, sym, ap, ◌∙◌, subst, inl, inr, arith, eqb-true, Option, Some, None}
 use Rattle.std.specs.Prelude.{is_some, ◌||◌, ◌==◌}
-use mathlib.Core.Option.{some}
-use lib.ListN.{get_elem?}
 use Rattle.muck_io.specs.Faults.{Rose}
 use Rattle.muck_links.specs.Sessions.{Told, accepted, is_used}
 use Rattle.muck_model.specs.declared.event.Event.{Event}
-use Rattle.muck_model.specs.declared.event.Event.TheVariants.{Opened, Moment, Exec, Claim, Slice as SliceEvent, Lost, Idle as IdleEvent, Halt, StopSeen, Died}
+use Rattle.muck_model.specs.declared.event.Event.TheVariants.{Opened, Exec, Claim, Slice as SliceEvent, Lost, Idle as IdleEvent, Halt, StopSeen, Died}
 use Rattle.muck_model.specs.declared.note.Note.{Note}
 use Rattle.spec_events.specs.World.{World}
 use Rattle.spec_events.specs.Histories.{after, by_porter}
-use Rattle.spec_events.specs.Logged.{logged_by, entries_of, events_of}
+use Rattle.spec_events.specs.Logged.{logged_by, entries_of}
 use Rattle.spec_events.specs.declared.logged.Logged.{Logged}
 use Rattle.spec_events.specs.Own.{Stage, next, stage_of}
 use Rattle.turn_lock.specs.Histories.{own_of}
 use Rattle.spec_talks.specs.Parties.{worlds_at, is_halt}
 use Rattle.spec_talks.specs.Talks.{talks}
-use Rattle.spec_serve.specs.Marks.{LinksNote}
 use Rattle.spec_serve.specs.Promises.{Tally, OpenWorkedOff}
 use Rattle.spec_serve.specs.inner.Keeping.{Peer, new_peer}
-use Rattle.spec_serve.specs.inner.Books.{Books, BooksOf}
+use Rattle.spec_serve.specs.inner.Books.{BooksOf}
 use Rattle.spec_serve.proofs.Booking.{books_begin, books_still, books_came}
 use Rattle.spec_serve.proofs.Promising.{books_worked_off}
 use Rattle.muck_machine.specs.declared.world.Sliced.{Sliced}
@@ -36,19 +33,19 @@ use Rattle.muck_porter.specs.declared.deeds.Worked.{Worked}
 use Rattle.muck_porter.specs.declared.deeds.Worked.TheVariants.{Done as WorkedDone, Claimed, Idle, Ready as WorkedReady, Dead as WorkedDead}
 use Rattle.muck_porter.specs.Notes.{note_in}
 use Rattle.muck_porter.specs.Times.{Timely}
-use Rattle.muck_porter.specs.Kept.{tally, Account, account, BooksIn, BooksAt, PromisedIn, KeptBy, Stopped, EndsWithStop, IsAt, IsFree, Resting, Ready, ReadyTimed, Over}
+use Rattle.muck_porter.specs.Kept.{tally, Account, account, BooksAt, PromisedIn, KeptBy, Stopped, EndsWithStop, IsAt, IsFree, Resting, Ready, ReadyTimed, Over}
 use Rattle.muck_porter.specs.Deeds.{AllOff, IsMoment, WorkedAs, DidAs}
 use Rattle.muck_porter.specs.Turns.{PorterTurn}
-use Rattle.muck_porter.specs.Moves.{Carries, CarriesOn, Ends, EndsAll, LastEntry, MayHalt, Halts, Tends, Loses, HasClaimed, number_in}
+use Rattle.muck_porter.specs.Moves.{Carries, CarriesOn, Ends, EndsAll, LastEntry, Halts, Tends, Loses, HasClaimed, number_in}
 use Rattle.muck_porter.specs.declared.rounds.Round.{Round}
 use Rattle.muck_porter.specs.declared.rounds.Round.TheVariants.{Busy, Idle as WentIdle, Left}
 use Rattle.muck_porter.specs.Rounds.{HasLeft, IsRound, RoundCarries, Went, is_left}
 use Rattle.muck_porter.specs.declared.porting.Why.{Why}
 use Rattle.muck_porter.specs.declared.porting.Why.TheVariants.{Fine, ListenFault, NoMemory as WhyNoMemory, Spent as WhySpent}
 use Rattle.muck_porter.specs.Porter.{PorterReady, HasStopped}
-use Rattle.muck_porter.proofs.Stages.{stage_item, stage_free, formed_at, same_claim}
-use Rattle.muck_porter.proofs.Carrying.{IsQuiet, quiet_moment, quiet_stop, same_world, turn_noted, carries_quiet, carries_opened, carries_halted, promised_in, kept_now}
-use Rattle.muck_porter.proofs.Doing.{over_at, turn_resting, moment_ready, moment_carries, quiet_carries, died_ends, died_last, died_over, timed_ready}
+use Rattle.muck_porter.proofs.Stages.{stage_item, stage_free, same_claim}
+use Rattle.muck_porter.proofs.Carrying.{IsQuiet, quiet_moment, quiet_stop, same_world, carries_opened, carries_halted, promised_in, kept_now}
+use Rattle.muck_porter.proofs.Doing.{over_at, turn_resting, moment_ready, moment_carries, quiet_carries, died_ends, died_over, timed_ready}
 
 -- where a link may come
 

@@ -1,6 +1,5 @@
 -- One link is served.
-use Rattle.std.proofs.Common.{◌≡◌, ℕ, ◌+◌, ◌<◌, ◌≤◌, Bool, true, false, List, [], ◌∷◌, ◌++◌, length, set, refl, sym, ap, ◌∙◌, subst, arith, Option, Some, None}
-use Rattle.std.specs.Prelude.{is_some}
+use Rattle.std.proofs.Common.{◌≡◌, ℕ, ◌+◌, ◌<◌, ◌≤◌, Bool, List, [], ◌∷◌, ◌++◌, length, refl, sym, ap, ◌∙◌, subst, arith, Option, Some}
 use Rattle.std.specs.List.{remove}
 use mathlib.Core.Option.{some}
 use lib.ListN.{get_elem?}
@@ -17,7 +16,7 @@ use Rattle.muck_peer.specs.Moves.{PeerStep}
 use Rattle.muck_porter.specs.declared.deeds.Served.{Served}
 use Rattle.muck_porter.specs.declared.deeds.Served.TheVariants.{Went as ServedOne, Closed as ClosedOne, Nobody, Dead as ServedDead}
 use Rattle.muck_porter.specs.Notes.{note_in}
-use Rattle.muck_porter.specs.Kept.{account, BooksAt, IsAt, IsFree, Ready, ReadyTimed, Over}
+use Rattle.muck_porter.specs.Kept.{account, BooksAt, IsFree, Ready, ReadyTimed, Over}
 use Rattle.muck_porter.specs.Deeds.{ServedAs, ServedFrom}
 use Rattle.muck_porter.specs.Turns.{PorterTurn}
 use Rattle.muck_porter.specs.Moves.{CarriesOn, EndsAll}

@@ -1,5 +1,5 @@
 -- What the porter enters is no dump.
-use Rattle.std.proofs.Common.{◌≡◌, ◌⊎◌, inl, inr, ℕ, Bool, true, false, List, refl, sym, ap, ◌∙◌}
+use Rattle.std.proofs.Common.{◌≡◌, inl, inr, Bool, false, List, ap}
 use Rattle.muck_model.specs.declared.event.Event.{Event}
 use Rattle.spec_events.specs.World.{World}
 use Rattle.spec_events.specs.Logged.{is_dump}

@@ -1,8 +1,8 @@
 -- One turn of the porter, as its seat sees it.
-use Rattle.std.proofs.Common.{true≢false, ◌≡◌, ◌⊎◌, ℕ, ℤ, ◌==◌, arith, Bool, true, false, List, [], ◌∷◌, ◌++◌, refl, sym, ap, ◌∙◌, subst, append_assoc, Option, Some, None}
+use Rattle.std.proofs.Common.{true≢false, ◌≡◌, ℕ, ℤ, ◌==◌, arith, Bool, true, false, List, [], ◌∷◌, ◌++◌, refl, sym, ap, ◌∙◌, subst, append_assoc, Option, None}
 use Rattle.std.proofs.lemmas.Bool.Decides.{nat_tests}
 use Rattle.turn_lock.specs.Histories.{own_of, kept}
-use Rattle.turn_lock.specs.declared.view.Place.TheVariants.{Idle, Told as Spent}
+use Rattle.turn_lock.specs.declared.view.Place.TheVariants.{Idle}
 use Rattle.muck_links.specs.Sessions.{Told}
 use Rattle.muck_model.specs.declared.event.Entry.{Entry}
 use Rattle.muck_model.specs.declared.event.Event.{Event}
@@ -10,15 +10,15 @@ use Rattle.muck_model.specs.declared.event.Event.TheVariants.{Claim}
 use Rattle.muck_model.specs.declared.note.Note.{Note}
 use Rattle.spec_events.specs.declared.logged.Logged.{Logged}
 use Rattle.spec_events.specs.World.{World}
-use Rattle.spec_events.specs.Histories.{History, now, after, AllLawful, entered, by_porter, links_noted}
+use Rattle.spec_events.specs.Histories.{History, now, after, AllLawful, entered, by_porter}
 use Rattle.spec_events.specs.Logged.{NoCounts, is_dump, logged, logged_by, entries_of, bare_item, counted_item, IsSettled, IsPlaced, IsOrderly}
 use Rattle.spec_events.proofs.Logging.{entries_logged, entries_append, orderly_bare, orderly_counted}
 use Rattle.spec_events.specs.Steps.{has_claim}
 use Rattle.spec_claims.specs.Claims.{AreOthers}
 use Rattle.spec_claims.proofs.Staying.{claim_stays}
 use Rattle.spec_talks.specs.Counts.{counts}
-use Rattle.muck_machine.specs.Beginnings.{beginning, begun}
-use Rattle.muck_machine.specs.Seats.{Sight, Chair, OneMore, AllOrderly, Rests, Left, Waited, SameLists}
+use Rattle.muck_machine.specs.Beginnings.{beginning}
+use Rattle.muck_machine.specs.Seats.{Sight, Chair, OneMore, AllOrderly, Rests, Waited}
 use Rattle.muck_machine.proofs.Seating.{one_bare, one_counted, held_settled, held_start, given_seen, given_root, rests_turned, others_none, not_counted}
 use Rattle.muck_peer.specs.Moves.{Clocked}
 use Rattle.muck_porter.specs.declared.deeds.Deed.{Deed}

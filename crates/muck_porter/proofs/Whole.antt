@@ -1,15 +1,14 @@
 -- From what the porter leaves to the whole history, once the lock is closed.
-use Rattle.std.proofs.Common.{◌≡◌, ℕ, suc, arith, Bool, true, false, List, [], ◌∷◌, ◌++◌, refl, sym, ap, ◌∙◌, subst, append_assoc, Option, Some, None}
+use Rattle.std.proofs.Common.{◌≡◌, ℕ, suc, arith, Bool, true, false, List, [], ◌∷◌, ◌++◌, refl, sym, ap, ◌∙◌, subst, append_assoc}
 use Rattle.std.specs.Prelude.{◌==◌}
 use Rattle.std.specs.Option.{option_map}
 use Rattle.std.proofs.lemmas.Bool.Decides.{nat_tests}
 use Rattle.turn_lock.specs.Histories.{StartsWith, own_of, kept}
-use Rattle.muck_model.specs.declared.event.Entry.{Entry}
 use Rattle.muck_model.specs.declared.note.Note.{Note}
 use Rattle.spec_events.specs.declared.logged.Logged.{Logged}
 use Rattle.spec_events.specs.World.{World}
 use Rattle.spec_events.specs.Histories.{after, AllLawful}
-use Rattle.spec_events.specs.Logged.{logged_by, entries_of, IsOrderly, count_from}
+use Rattle.spec_events.specs.Logged.{logged_by, entries_of, count_from}
 use Rattle.spec_events.proofs.Logging.{entries_append}
 use Rattle.spec_talks.specs.Parties.{party_of}
 use Rattle.spec_talks.specs.Talks.{Talk, talks}

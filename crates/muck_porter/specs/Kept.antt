@@ -1,7 +1,5 @@
 -- What the porter keeps of all links over what its seat has seen, and what of it stands when it returns.
 use Rattle.std.specs.Prelude.{◌≡◌, ℕ, Bool, true, ◌≤◌, List, [], ◌∷◌, ◌++◌, is_some, Option, Some}
-use mathlib.Core.Option.{some}
-use lib.ListN.{get_elem?}
 use Rattle.turn_lock.specs.Histories.{StartsWith, own_of}
 use Rattle.muck_links.specs.Sessions.{Told}
 use Rattle.muck_model.specs.declared.event.Entry.{Entry}

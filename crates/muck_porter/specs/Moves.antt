@@ -5,13 +5,10 @@ use lib.ListN.{get_elem?}
 use Rattle.muck_io.specs.Faults.{Rose}
 use Rattle.muck_links.specs.Sessions.{Told}
 use Rattle.muck_model.specs.declared.event.Event.TheVariants.{Claim}
-use Rattle.muck_model.specs.declared.note.Note.{Note}
-use Rattle.spec_events.specs.World.{World}
 use Rattle.spec_events.specs.declared.logged.Logged.{Logged}
 use Rattle.spec_events.specs.Histories.{by_porter}
 use Rattle.spec_serve.specs.Promises.{Tally}
 use Rattle.spec_serve.specs.inner.Keeping.{Peer, new_peer}
-use Rattle.muck_machine.specs.Beginnings.{begun}
 use Rattle.muck_machine.specs.Seats.{Sight}
 use Rattle.muck_porter.specs.declared.deeds.Deed.{Deed}
 use Rattle.muck_porter.specs.declared.deeds.Deed.TheVariants.{Slice}

@@ -1,6 +1,5 @@
 -- What the parts of a round leave.
 use Rattle.std.specs.Prelude.{◌≡◌, ℕ, Bool, true, false, ◌≤◌, ◌<◌, ◌+◌, ◌^◌, List, length, slice_set, is_some, Option, Some, None}
-use Rattle.std.specs.List.{remove}
 use mathlib.Core.Option.{some}
 use lib.ListN.{get_elem?}
 use Rattle.muck_links.specs.Sessions.{Told, on_session, shut}

@@ -8,7 +8,7 @@ use Rattle.muck_model.specs.declared.note.Note.{Note}
 use Rattle.spec_events.specs.declared.logged.Logged.{Logged}
 use Rattle.spec_events.specs.World.{World}
 use Rattle.spec_events.specs.Histories.{History, now, after, AllLawful, by_porter, links_noted}
-use Rattle.spec_events.specs.Logged.{logged, logged_by, entries_of, IsPlaced}
+use Rattle.spec_events.specs.Logged.{logged, logged_by, entries_of}
 use Rattle.spec_talks.specs.Counts.{counts}
 use Rattle.spec_serve.specs.Marks.{LinksNote}
 use Rattle.muck_peer.specs.Moves.{Clocked}

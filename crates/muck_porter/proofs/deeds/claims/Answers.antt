@@ -1,4 +1,4 @@
-use Rattle.std.proofs.Common.{◌≡◌, ℤ, to_z, of_z, w32, rules, refl, sym, ap, ◌∙◌, subst}
+use Rattle.std.proofs.Common.{◌≡◌, to_z, of_z, w32, rules, refl, sym, ap, ◌∙◌, subst}
 use Rattle.muck_model.specs.declared.event.Event.TheVariants.{Claim}
 use Rattle.spec_events.specs.Histories.{History, now, entered, by_porter}
 use Rattle.muck_peer.specs.Moves.{Clocked}

@@ -1,4 +1,4 @@
-use Rattle.std.proofs.Common.{refl, sym, ap, ◌∙◌}
+use Rattle.std.proofs.Common.{refl}
 use Rattle.muck_model.specs.declared.event.Event.TheVariants.{Moment, Halt}
 use Rattle.muck_porter.proofs.deeds.halts.Goals as goal
 

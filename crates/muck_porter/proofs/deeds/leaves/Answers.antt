@@ -1,6 +1,6 @@
-use Rattle.std.proofs.Common.{refl, sym, ap, ◌∙◌}
+use Rattle.std.proofs.Common.{refl, sym, ◌∙◌}
 use Rattle.muck_model.specs.declared.event.Event.TheVariants.{Moment, StopSeen}
-use Rattle.muck_porter.proofs.Doing.{did_so, did_not}
+use Rattle.muck_porter.proofs.Doing.{did_so}
 use Rattle.muck_porter.proofs.deeds.leaves.Goals as goal
 
 pub returns-then-not-is_stopping : goal.returns-then-not-is_stopping

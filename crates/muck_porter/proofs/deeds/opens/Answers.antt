@@ -1,4 +1,4 @@
-use Rattle.std.proofs.Common.{refl, sym, ap, ◌∙◌}
+use Rattle.std.proofs.Common.{refl, ◌∙◌}
 use Rattle.muck_model.specs.declared.event.Event.TheVariants.{Opened}
 use Rattle.muck_porter.proofs.Doing.{did_so}
 use Rattle.muck_porter.proofs.deeds.opens.Goals as goal

@@ -1,4 +1,4 @@
-use Rattle.std.proofs.Common.{rules, refl, sym, ap, ◌∙◌}
+use Rattle.std.proofs.Common.{rules, refl}
 use Rattle.atomic_table.proofs.Lists.{at_index}
 use Rattle.muck_model.specs.declared.event.Event.TheVariants.{Moment}
 use Rattle.muck_porter.proofs.Doing.{peer_closed}

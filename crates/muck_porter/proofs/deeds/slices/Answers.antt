@@ -1,4 +1,4 @@
-use Rattle.std.proofs.Common.{◌≡◌, ℤ, to_z, of_z, w32, rules, ◌⊎◌, inl, inr, refl, sym, ap, ◌∙◌}
+use Rattle.std.proofs.Common.{◌≡◌, ℤ, to_z, of_z, w32, rules, ap, ◌∙◌}
 use Rattle.spec_events.specs.Steps.{has_claim}
 use Rattle.spec_events.specs.Histories.{now, entered, by_porter}
 use Rattle.muck_machine.specs.Claims.{slice_event}

@@ -1,5 +1,5 @@
-use Rattle.std.proofs.Common.{◌⊎◌, inl, inr, refl, sym, ap, ◌∙◌}
-use Rattle.muck_model.specs.declared.event.Event.TheVariants.{Moment, Exec, Died}
+use Rattle.std.proofs.Common.{inr, refl}
+use Rattle.muck_model.specs.declared.event.Event.TheVariants.{Moment, Died}
 use Rattle.muck_porter.proofs.deeds.works.Goals as goal
 
 pub returns-then-is_dead : goal.returns-then-is_dead

@@ -1,4 +1,3 @@
-use Rattle.std.proofs.Common.{refl, sym, ap, ◌∙◌}
 use Rattle.muck_machine.proofs.Seating.{left_told}
 use Rattle.muck_porter.proofs.Turning.{none_yet}
 use Rattle.muck_porter.proofs.holds.begins.Goals as goal

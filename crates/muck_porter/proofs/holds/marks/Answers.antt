@@ -1,4 +1,4 @@
-use Rattle.std.proofs.Common.{true≢false, refl, sym, ap, ◌∙◌}
+use Rattle.std.proofs.Common.{true≢false, refl, sym, ◌∙◌}
 use Rattle.muck_porter.specs.Turns.{MarkedIn}
 use Rattle.muck_porter.proofs.holds.marks.Goals as goal
 

@@ -1,4 +1,4 @@
-use Rattle.std.proofs.Common.{refl, sym, ap, ◌∙◌}
+use Rattle.std.proofs.Common.{◌∙◌}
 use Rattle.spec_events.specs.Histories.{now}
 use Rattle.muck_porter.proofs.Turning.{turn_entry, turn_start, turn_made}
 use Rattle.muck_porter.proofs.Quiet.{worked_quiet}

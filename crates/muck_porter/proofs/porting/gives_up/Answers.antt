@@ -1,4 +1,4 @@
-use Rattle.std.proofs.Common.{◌⊎◌, inl, inr, refl, sym, ap, ◌∙◌, arith}
+use Rattle.std.proofs.Common.{refl, arith}
 use Rattle.muck_porter.specs.declared.porting.Why.TheVariants.{NoMemory, Spent}
 use Rattle.muck_porter.proofs.InRounds.{ready_fresh, kept_fresh, not_stopped}
 use Rattle.muck_porter.proofs.porting.gives_up.Goals as goal

@@ -1,4 +1,4 @@
-use Rattle.std.proofs.Common.{true≢false, refl, sym, ap, ◌∙◌, subst, arith}
+use Rattle.std.proofs.Common.{true≢false, refl, sym, ◌∙◌, subst, arith}
 use Rattle.muck_porter.specs.declared.serving.Fault.{Fault}
 use Rattle.muck_porter.specs.Rounds.{IsSpent}
 use Rattle.muck_porter.specs.declared.porting.Why.TheVariants.{NoMemory, Spent}

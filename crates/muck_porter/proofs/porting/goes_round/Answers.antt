@@ -1,4 +1,4 @@
-use Rattle.std.proofs.Common.{refl, sym, ap, ◌∙◌, arith}
+use Rattle.std.proofs.Common.{◌∙◌}
 use Rattle.muck_porter.proofs.InRounds.{round_went}
 use Rattle.muck_porter.proofs.porting.goes_round.Goals as goal
 

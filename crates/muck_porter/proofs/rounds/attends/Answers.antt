@@ -1,4 +1,4 @@
-use Rattle.std.proofs.Common.{refl, sym, ap, ◌∙◌, subst}
+use Rattle.std.proofs.Common.{◌∙◌}
 use Rattle.muck_porter.proofs.Doing.{carried_on, carried_end}
 use Rattle.muck_porter.proofs.InRounds.{round_on, tended, tending_lost}
 use Rattle.muck_porter.proofs.rounds.attends.Goals as goal

@@ -1,4 +1,3 @@
-use Rattle.std.proofs.Common.{refl, sym, ap, ◌∙◌}
 use Rattle.muck_porter.proofs.Doing.{carried_on, carried_end}
 use Rattle.muck_porter.proofs.InRounds.{carried_left}
 use Rattle.muck_porter.proofs.rounds.ends_round.Goals as goal

@@ -1,4 +1,4 @@
-use Rattle.std.proofs.Common.{◌≡◌, ◌==◌, ℕ, length, vec_len, rules, Some, None, refl, sym, ap, ◌∙◌}
+use Rattle.std.proofs.Common.{◌≡◌, ◌==◌, ℕ, length, vec_len, rules, Some, None, refl, ap, ◌∙◌}
 use Rattle.muck_porter.proofs.Doing.{over_ready, ends_last, told_ends}
 use Rattle.muck_porter.proofs.InRounds.{told_same_on, told_over, told_came, came_as, came_carries, halts_over, halts_broke, empty_of}
 use Rattle.muck_porter.proofs.rounds.lets_in.Goals as goal

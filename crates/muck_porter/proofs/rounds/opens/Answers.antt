@@ -1,4 +1,4 @@
-use Rattle.std.proofs.Common.{List, ◌++◌, ◌∷◌, [], Some, None, refl, sym, ap, ◌∙◌, subst}
+use Rattle.std.proofs.Common.{List, ◌++◌, ◌∷◌, [], Some, None, sym, ap, ◌∙◌, subst}
 use Rattle.spec_serve.specs.inner.Keeping.{Peer, new_peer}
 use Rattle.muck_porter.specs.Kept.{account}
 use Rattle.muck_porter.specs.Deeds.{DidAs}

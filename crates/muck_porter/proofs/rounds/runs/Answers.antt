@@ -1,4 +1,4 @@
-use Rattle.std.proofs.Common.{◌≡◌, ℤ, to_z, of_z, w32, rules, refl, sym, ap, ◌∙◌, subst}
+use Rattle.std.proofs.Common.{◌≡◌, ℤ, to_z, of_z, w32, rules, sym, subst}
 use Rattle.muck_porter.specs.Deeds.{DidAs}
 use Rattle.muck_porter.specs.Moves.{HasClaimed}
 use Rattle.spec_events.specs.Own.{Stage}

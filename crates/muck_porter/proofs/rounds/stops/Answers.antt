@@ -1,4 +1,3 @@
-use Rattle.std.proofs.Common.{refl, sym, ap, ◌∙◌}
 use Rattle.muck_porter.proofs.Stages.{formed_free}
 use Rattle.muck_porter.proofs.Doing.{over_waited, ends_waited, over_ready, dead_did, died_ends, died_over}
 use Rattle.muck_porter.proofs.InRounds.{stop_ready, stop_halts, stop_late, stop_later}

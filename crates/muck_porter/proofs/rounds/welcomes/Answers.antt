@@ -1,4 +1,4 @@
-use Rattle.std.proofs.Common.{Some, None, refl, sym, ap, ◌∙◌}
+use Rattle.std.proofs.Common.{Some, None}
 use Rattle.muck_porter.proofs.InRounds.{comes_as, ends_as}
 use Rattle.muck_porter.proofs.rounds.welcomes.Goals as goal
 

@@ -1,4 +1,4 @@
-use Rattle.std.proofs.Common.{◌≡◌, ℤ, to_z, of_z, w32, rules, refl, sym, ap, ◌∙◌, subst}
+use Rattle.std.proofs.Common.{◌≡◌, ℤ, to_z, of_z, w32, rules, sym, subst}
 use Rattle.spec_events.specs.Own.{Stage}
 use Rattle.muck_porter.specs.Moves.{HasClaimed}
 use Rattle.muck_porter.specs.Kept.{IsAt, IsFree}

@@ -1,4 +1,3 @@
-use Rattle.std.proofs.Common.{sym, ap, ◌∙◌}
 use Rattle.muck_porter.proofs.Doing.{die_last, die_over, last_waited, over_waited}
 use Rattle.muck_porter.proofs.Stages.{formed_free}
 use Rattle.muck_porter.proofs.serving.dies.Goals as goal

@@ -1,4 +1,4 @@
-use Rattle.std.proofs.Common.{rules, refl, sym, ap, ◌∙◌}
+use Rattle.std.proofs.Common.{rules, ap, ◌∙◌}
 use Rattle.muck_links.specs.Sessions.{on_session, shut}
 use Rattle.atomic_table.proofs.Lists.{at_index}
 use Rattle.muck_porter.proofs.Doing.{closed_at}

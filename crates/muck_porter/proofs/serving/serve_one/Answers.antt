@@ -1,4 +1,4 @@
-use Rattle.std.proofs.Common.{ℕ, Some, refl, sym, ap, ◌∙◌, subst}
+use Rattle.std.proofs.Common.{ℕ, Some, sym, subst}
 use Rattle.muck_porter.specs.Rounds.{Nearer}
 use Rattle.muck_porter.proofs.Stages.{formed_free}
 use Rattle.muck_porter.proofs.Doing.{over_waited, ends_waited, listened}

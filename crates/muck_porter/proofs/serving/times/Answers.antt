@@ -1,4 +1,3 @@
-use Rattle.std.proofs.Common.{refl, sym, ap, ◌∙◌, subst}
 use Rattle.muck_porter.proofs.Stages.{formed_free}
 use Rattle.muck_porter.proofs.Doing.{over_waited, ends_waited, over_timed, dead_did, died_ends, died_over}
 use Rattle.muck_porter.proofs.InRounds.{time_never, time_ready, time_carries}

@@ -1,4 +1,4 @@
-use Rattle.std.proofs.Common.{rules, refl, sym, ap, ◌∙◌}
+use Rattle.std.proofs.Common.{rules}
 use Rattle.muck_porter.proofs.Doing.{wrote_at}
 use Rattle.atomic_table.proofs.Lists.{at_index}
 use Rattle.muck_porter.proofs.serving.writes.Goals as goal

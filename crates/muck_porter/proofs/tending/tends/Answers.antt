@@ -1,4 +1,4 @@
-use Rattle.std.proofs.Common.{sym, ap, ◌∙◌}
+use Rattle.std.proofs.Common.{◌∙◌}
 use Rattle.muck_porter.proofs.Doing.{tends_both, loses_both}
 use Rattle.muck_porter.proofs.tending.tends.Goals as goal
 

@@ -1,4 +1,4 @@
-use Rattle.std.proofs.Common.{rules, refl, sym, ap, ◌∙◌}
+use Rattle.std.proofs.Common.{rules, refl, ◌∙◌}
 use Rattle.atomic_table.proofs.Lists.{at_index}
 use Rattle.muck_porter.proofs.Doing.{tends_more, loses_more}
 use Rattle.muck_porter.proofs.tending.tends_all.Goals as goal
