@@ -8,12 +8,13 @@ use native.Mathlib.Decide.{dec_le, ℕ_discrete}
 use lib.ListN.{get_elem?}
 use Rattle.atomic_table.specs.Table.{State, Me, keeps, takes, gives, Step, step, Allows, stepped, put_back, rest, opening, Splits, Joins, Final, Seen}
 use Rattle.atomic_table.proofs.Lists.{at_set, set_else, at_snoc, at_longer}
+use Rattle.turn_lock.specs.declared.view.Taken.{Taken}
 use Rattle.turn_lock.specs.declared.view.View.{View}
 use Rattle.turn_lock.specs.declared.view.Place.{Place}
 use Rattle.turn_lock.specs.declared.view.Place.TheVariants.{Idle, Waits, Holds, Told, Gone}
 use Rattle.turn_lock.proofs.Parts.{parted_set, parted_pass, parted_begin, parted_split, parted_join}
 use Rattle.turn_lock.specs.Histories.{own_of, Has, IsKnown, StartsWith, AllOf}
-use Rattle.turn_lock.specs.inner.Turns.{total, told, told_of, live, live_of, Rooted, spent_view, left_after, newcomer, taken_in, HasTicket, Stands, Fits, Each, Apart, InSlot, Kept, drew, looked, passed}
+use Rattle.turn_lock.specs.inner.Turns.{total, told, told_of, live, live_of, Rooted, spent_view, left_after, newcomer, kept_of, taken_in, HasTicket, Stands, Fits, Each, Apart, InSlot, Kept, drew, looked, passed}
 
 module _ {A : Type 0} (f : A → ℕ) where
   total_set : (xs : List A) (i : ℕ) (v w : A) → get_elem? xs i ≡ some v → total f (set xs i w) + f v ≡ total f xs + f w
@@ -574,7 +575,7 @@ module _ {T E B : Type 0} (history : T → List E) (party : E → ℕ) (start : 
       let t' = total_set told_of mid other w spent_view ato in
       let u = total_set live_of s.views 0 v both at in
       let u' = total_set live_of mid other w spent_view ato in
-      let n : length (v.joined ++ (w.party, w.own) ∷ []) ≡ length v.joined + 1 = length-append v.joined ((w.party, w.own) ∷ []) in
+      let n : length (v.joined ++ kept_of w ∷ []) ≡ length v.joined + 1 = length-append v.joined (kept_of w ∷ []) in
       let few_told = told_le w.place in
       let drawn = k.drawn in
       let few = k.few in
@@ -598,7 +599,7 @@ module _ {T E B : Type 0} (history : T → List E) (party : E → ℕ) (start : 
         each = each_set k.ticket k.serving k.log mid other spent_view (λ i u away1 ati. each1 i u ati) ((k.log, refl), tt);
         apart = apart_set mid other spent_view apart1 (λ i n u away1 ati hu hw. absurd hw);
         rooted = (both, set_else mid other 0 spent_view (λ e. away (sym e)) ∙ set_there s.views 0 v both at, up, omega arith, omega arith);
-        parted = parted_join party k.begin k.log s.views v other w at up away there alive k.parted;
+        parted = parted_join party k.begin k.log s.views v other w at up away there alive f'.0 k.parted;
         lawful = k.lawful;
       }
 
@@ -651,7 +652,7 @@ module _ {T E B : Type 0} (history : T → List E) (party : E → ℕ) (start : 
     pub seen : StartsWith (history x) v.seen
     pub began : start x ∷ [] ≡ v.root
     pub own : v.own ≡ own_of party v.party (history x)
-    pub joined : (i : ℕ) (y : ℕ × List E) → get_elem? v.joined i ≡ some y → Has v.given y.0 × (y.1 ≡ own_of party y.0 (history x))
+    pub joined : (i : ℕ) (y : Taken E) → get_elem? v.joined i ≡ some y → Has v.given y.party × (y.own ≡ own_of party y.party (history x)) × StartsWith (history x) y.seen
     pub known : (i : ℕ) (e : E) → get_elem? (history x) i ≡ some e → IsKnown v.given (party e)
     pub allowed_all : AllOf allowed (history x)
 
@@ -669,7 +670,7 @@ module _ {T E B : Type 0} (history : T → List E) (party : E → ℕ) (start : 
           began = ap (λ (b : B). b ∷ []) home.3 ∙ sym (k.parted.begun 0 v at0 up);
           own = k.parted.mine 0 v at0 up ∙ ap (λ (l : List E). own_of party v.party l) (sym home.2);
           joined = λ i y ati. let t = k.parted.taken i y (ap (λ (u : View E B). get_elem? u.joined i) same ∙ ati) in
-              (subst (λ (u : View E B). Has u.given y.0) same t.0, t.1 ∙ ap (λ (l : List E). own_of party y.0 l) (sym home.2));
+              (subst (λ (u : View E B). Has u.given y.party) same t.0, t.1 ∙ ap (λ (l : List E). own_of party y.party l) (sym home.2), subst (λ (l : List E). StartsWith l y.seen) (sym home.2) t.2);
           known = λ i e ati. subst (λ (u : View E B). IsKnown u.given (party e)) same (k.parted.known i e (sym (ap (λ (l : List E). get_elem? l i) home.2) ∙ ati));
           allowed_all = subst (λ (l : List E). AllOf allowed l) (sym home.2) k.lawful;
         },

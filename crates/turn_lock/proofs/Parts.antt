@@ -1,5 +1,5 @@
 -- Whose each entry is, from step to step.
-use Rattle.std.proofs.Common.{◌≡◌, ◌≢◌, ℕ, zero, suc, List, [], ◌∷◌, ◌++◌, length, set, Bool, true, false, refl, sym, ap, ◌∙◌, subst, inl, inr, ⊎_elim, arith, eq-eqb, ne_eqb}
+use Rattle.std.proofs.Common.{◌≡◌, ◌≢◌, ℕ, zero, suc, List, [], ◌∷◌, ◌++◌, length, set, Bool, true, false, refl, sym, ap, ◌∙◌, subst, inl, inr, ⊎_elim, arith, append_assoc, eq-eqb, ne_eqb}
 use Rattle.std.specs.Prelude.{◌==◌}
 use Rattle.std.proofs.lemmas.List.{append-nil}
 use mathlib.Core.Option.{some, some-ne-none, some-injective}
@@ -7,9 +7,10 @@ use mathlib.Core.Logic.{dite}
 use native.Mathlib.Decide.{ℕ_discrete}
 use lib.ListN.{get_elem?}
 use Rattle.atomic_table.proofs.Lists.{at_set, set_else, at_snoc, at_longer}
+use Rattle.turn_lock.specs.declared.view.Taken.{Taken}
 use Rattle.turn_lock.specs.declared.view.View.{View}
-use Rattle.turn_lock.specs.Histories.{kept, own_of, Has, IsKnown}
-use Rattle.turn_lock.specs.inner.Turns.{live_of, Parted, left_after, newcomer, taken_in, spent_view}
+use Rattle.turn_lock.specs.Histories.{StartsWith, kept, own_of, Has, IsKnown}
+use Rattle.turn_lock.specs.inner.Turns.{live_of, Parted, left_after, newcomer, kept_of, taken_in, spent_view}
 
 module _ {E : Type 0} (party : E → ℕ) where
   kept_append : (b : Bool) (e : E) (xs ys : List E) → kept b e xs ++ ys ≡ kept b e (xs ++ ys)
@@ -37,6 +38,10 @@ module _ {E : Type 0} (party : E → ℕ) where
   own_none p [] none_is = refl
   own_none p (e ∷ es) none_is =
       ap (λ (b : Bool). kept b e (own_of party p es)) (ne_eqb (party e) p (none_is 0 e refl)) ∙ own_none p es (λ i d at. none_is (suc i) d at)
+
+-- a front of a history is one of a longer one
+still_front : {E : Type 0} (log seen : List E) (e : E) → StartsWith log seen → StartsWith (log ++ e ∷ []) seen
+still_front log seen e (more, is) = (more ++ e ∷ [], ap (λ l. l ++ e ∷ []) is ∙ append_assoc seen more (e ∷ []))
 
 pub has_more : {A : Type 0} (xs ys : List A) (x : A) → Has xs x → Has (xs ++ ys) x
 has_more xs ys x (i, at) = (i, at_longer xs ys i x at)
@@ -117,10 +122,11 @@ module _ {E B : Type 0} (party : E → ℕ) where
             let a = before views id v w at like i u ati in
             known_map k.first.given f.given u.party g (subst (λ (n : ℕ). IsKnown k.first.given n) (sym a.2.party) (k.named i a.0 a.1 (sym a.2.live ∙ up)));
         taken = λ i x ati.
-            let t = k.taken i x (sym (ap (λ (xs : List (ℕ × List E)). get_elem? xs i) j) ∙ ati) in (
-              g x.0 t.0,
+            let t = k.taken i x (sym (ap (λ (xs : List (Taken E)). get_elem? xs i) j) ∙ ati) in (
+              g x.party t.0,
               t.1,
-              (λ i' u ati' up. let a = before views id v w at like i' u ati' in λ e. t.2 i' a.0 a.1 (sym a.2.live ∙ up) (sym a.2.party ∙ e)),
+              t.2,
+              (λ i' u ati' up. let a = before views id v w at like i' u ati' in λ e. t.3 i' a.0 a.1 (sym a.2.live ∙ up) (sym a.2.party ∙ e)),
             );
         known = λ i e ati. known_map k.first.given f.given (party e) g (k.known i e ati);
       }
@@ -166,10 +172,11 @@ module _ {E B : Type 0} (party : E → ℕ) where
             let a = before views id v w at like i u ati in
             subst (λ (xs : List ℕ). IsKnown xs u.party) (sym g) (subst (λ (n : ℕ). IsKnown k.first.given n) (sym a.2.party) (k.named i a.0 a.1 (sym a.2.live ∙ up)));
         taken = λ i x ati.
-            let t = k.taken i x (sym (ap (λ (xs : List (ℕ × List E)). get_elem? xs i) j) ∙ ati) in (
-              subst (λ (xs : List ℕ). Has xs x.0) (sym g) t.0,
-              (t.1 ∙ sym (own_still party x.0 log e (λ is. t.2 id v at alive (sym whose ∙ is)))),
-              (λ i' u ati' up. let a = before views id v w at like i' u ati' in λ same. t.2 i' a.0 a.1 (sym a.2.live ∙ up) (sym a.2.party ∙ same)),
+            let t = k.taken i x (sym (ap (λ (xs : List (Taken E)). get_elem? xs i) j) ∙ ati) in (
+              subst (λ (xs : List ℕ). Has xs x.party) (sym g) t.0,
+              (t.1 ∙ sym (own_still party x.party log e (λ is. t.3 id v at alive (sym whose ∙ is)))),
+              still_front log x.seen e t.2,
+              (λ i' u ati' up. let a = before views id v w at like i' u ati' in λ same. t.3 i' a.0 a.1 (sym a.2.live ∙ up) (sym a.2.party ∙ same)),
             );
         known = λ i d ati. subst (λ (xs : List ℕ). IsKnown xs (party d)) (sym g) (⊎_elim
             (λ (x : get_elem? log i ≡ some d). k.known i d x)
@@ -187,7 +194,7 @@ module _ {E B : Type 0} (party : E → ℕ) where
     mine = λ i u at up. subst (λ (y : View E B). y.own ≡ []) (one i u at) own;
     lone = lone;
     named = λ i u at up. subst (λ (y : View E B). IsKnown v.given y.party) (one i u at) (inl is_zero);
-    taken = λ i x at. absurd (some-ne-none x (sym (sym (ap (λ (xs : List (ℕ × List E)). get_elem? xs i) joined) ∙ at)));
+    taken = λ i x at. absurd (some-ne-none x (sym (sym (ap (λ (xs : List (Taken E)). get_elem? xs i) joined) ∙ at)));
     known = λ i e at. absurd (some-ne-none e (sym at));
   }
     where
@@ -205,7 +212,7 @@ module _ {E B : Type 0} (party : E → ℕ) where
       → new.root ≡ begin ∷ [] → new.own ≡ [] → Has k.first.given new.party
       → ((i : ℕ) (e : E) → get_elem? log i ≡ some e → ¬ (party e ≡ new.party))
       → ((i : ℕ) (v : View E B) → get_elem? views i ≡ some v → live_of v ≡ 1 → ¬ (v.party ≡ new.party))
-      → ((i : ℕ) (x : ℕ × List E) → get_elem? k.first.joined i ≡ some x → ¬ (new.party ≡ x.0))
+      → ((i : ℕ) (x : Taken E) → get_elem? k.first.joined i ≡ some x → ¬ (new.party ≡ x.party))
       → Parted party begin log (views ++ new ∷ [])
   parted_add begin log views new k root own given silent alone apart = record {
     first = k.first;
@@ -237,9 +244,10 @@ module _ {E B : Type 0} (party : E → ℕ) where
     taken = λ i x ati. let t = k.taken i x ati in (
       t.0,
       t.1,
+      t.2,
       (λ j u atj up. ⊎_elim
-          (λ (y : get_elem? views j ≡ some u). t.2 j u y up)
-          (λ (y : new ≡ u). λ (e : u.party ≡ x.0). apart i x ati (ap (λ (z : View E B). z.party) y ∙ e))
+          (λ (y : get_elem? views j ≡ some u). t.3 j u y up)
+          (λ (y : new ≡ u). λ (e : u.party ≡ x.party). apart i x ati (ap (λ (z : View E B). z.party) y ∙ e))
           (at_snoc views new u j atj)),
     );
     known = k.known;
@@ -265,7 +273,7 @@ module _ {E B : Type 0} (party : E → ℕ) where
     mine = λ i u ati up. k.mine i u (old i u ati up) up;
     lone = λ i j u v ati atj ui uj e. k.lone i j u v (old i u ati ui) (old j v atj uj) ui uj e;
     named = λ i u ati up. k.named i u (old i u ati up) up;
-    taken = λ i x ati. let t = k.taken i x ati in (t.0, t.1, (λ j u atj up. t.2 j u (old j u atj up) up));
+    taken = λ i x ati. let t = k.taken i x ati in (t.0, t.1, t.2, (λ j u atj up. t.3 j u (old j u atj up) up));
     known = k.known;
   }
     where
@@ -276,11 +284,11 @@ module _ {E B : Type 0} (party : E → ℕ) where
           (at_set views id i w u ati)
 
   -- the first seat keeps the entries of a party that has no seat any more
-  pub parted_keep : (begin : B) (log : List E) (views : List (View E B)) (v w : View E B) (p : ℕ) (es : List E) → get_elem? views 0 ≡ some v
-      → live_of w ≡ live_of v → w.party ≡ v.party → w.root ≡ v.root → w.own ≡ v.own → w.given ≡ v.given → w.joined ≡ v.joined ++ (p, es) ∷ []
-      → Has v.given p → es ≡ own_of party p log → ((j : ℕ) (u : View E B) → get_elem? views j ≡ some u → live_of u ≡ 1 → ¬ (u.party ≡ p))
+  pub parted_keep : (begin : B) (log : List E) (views : List (View E B)) (v w : View E B) (n : Taken E) → get_elem? views 0 ≡ some v
+      → live_of w ≡ live_of v → w.party ≡ v.party → w.root ≡ v.root → w.own ≡ v.own → w.given ≡ v.given → w.joined ≡ v.joined ++ n ∷ []
+      → Has v.given n.party → n.own ≡ own_of party n.party log → StartsWith log n.seen → ((j : ℕ) (u : View E B) → get_elem? views j ≡ some u → live_of u ≡ 1 → ¬ (u.party ≡ n.party))
       → Parted party begin log views → Parted party begin log (set views 0 w)
-  parted_keep begin log views v w p es at lives parties roots owns gives joins given is none_has k = record {
+  parted_keep begin log views v w n at lives parties roots owns gives joins given is front none_has k = record {
     first = w;
     at0 = set_there views 0 v w at;
     zero = parties ∙ sym (ap (λ (u : View E B). u.party) same) ∙ k.zero;
@@ -304,16 +312,18 @@ module _ {E B : Type 0} (party : E → ℕ) where
     taken = λ i x ati. ⊎_elim
         (λ (y : get_elem? v.joined i ≡ some x).
         let t = k.taken i x (ap (λ (u : View E B). get_elem? u.joined i) same ∙ y) in (
-          subst (λ (xs : List ℕ). Has xs x.0) same_given t.0,
+          subst (λ (xs : List ℕ). Has xs x.party) same_given t.0,
           t.1,
-          (λ j u atj up. let a = before views 0 v w at like j u atj in λ (e : u.party ≡ x.0). t.2 j a.0 a.1 (sym a.2.live ∙ up) (sym a.2.party ∙ e)),
+          t.2,
+          (λ j u atj up. let a = before views 0 v w at like j u atj in λ (e : u.party ≡ x.party). t.3 j a.0 a.1 (sym a.2.live ∙ up) (sym a.2.party ∙ e)),
         ))
-        (λ (y : (p, es) ≡ x). (
-          subst (λ (z : ℕ × List E). Has w.given z.0) y (subst (λ (xs : List ℕ). Has xs p) (sym gives) given),
-          subst (λ (z : ℕ × List E). z.1 ≡ own_of party z.0 log) y is,
-          (λ j u atj up. let a = before views 0 v w at like j u atj in λ (e : u.party ≡ x.0). none_has j a.0 a.1 (sym a.2.live ∙ up) (sym a.2.party ∙ e ∙ sym (ap (λ (z : ℕ × List E). z.0) y))),
+        (λ (y : n ≡ x). (
+          subst (λ (z : Taken E). Has w.given z.party) y (subst (λ (xs : List ℕ). Has xs n.party) (sym gives) given),
+          subst (λ (z : Taken E). z.own ≡ own_of party z.party log) y is,
+          subst (λ (z : Taken E). StartsWith log z.seen) y front,
+          (λ j u atj up. let a = before views 0 v w at like j u atj in λ (e : u.party ≡ x.party). none_has j a.0 a.1 (sym a.2.live ∙ up) (sym a.2.party ∙ e ∙ sym (ap (λ (z : Taken E). z.party) y))),
         ))
-        (at_snoc v.joined (p, es) x i (sym (ap (λ (xs : List (ℕ × List E)). get_elem? xs i) joins) ∙ ati));
+        (at_snoc v.joined n x i (sym (ap (λ (xs : List (Taken E)). get_elem? xs i) joins) ∙ ati));
     known = λ i e ati. subst (λ (xs : List ℕ). IsKnown xs (party e)) same_given (k.known i e ati);
   }
     where
@@ -349,9 +359,9 @@ module _ {E B : Type 0} (party : E → ℕ) where
 
   -- a seat is taken in
   pub parted_join : (begin : B) (log : List E) (views : List (View E B)) (v : View E B) (other : ℕ) (w : View E B) → get_elem? views 0 ≡ some v → live_of v ≡ 1
-      → other ≢ 0 → get_elem? views other ≡ some w → live_of w ≡ 1
+      → other ≢ 0 → get_elem? views other ≡ some w → live_of w ≡ 1 → StartsWith log w.seen
       → Parted party begin log views → Parted party begin log (set (set views 0 (taken_in v w)) other spent_view)
-  parted_join begin log views v other w at alive away ato up k =
+  parted_join begin log views v other w at alive away ato up front k =
       let gone : ¬ (live_of (spent_view {E = E} {B = B}) ≡ 1) = λ e. absurd (omega arith) in
       let k' = parted_spend begin log views other spent_view away gone k in
       let same : k.first ≡ v = some-injective k.first v (sym k.at0 ∙ at) in
@@ -361,8 +371,8 @@ module _ {E B : Type 0} (party : E → ℕ) where
       (λ (h : Has k.first.given w.party). subst (λ (u : View E B). Has u.given w.party) same h)
       known in
       subst (λ (l : List (View E B)). Parted party begin log l) (set_swap views other 0 spent_view (taken_in v w) away)
-      (parted_keep begin log (set views other spent_view) v (taken_in v w) w.party w.own (set_else views other 0 spent_view (λ e. away (sym e)) ∙ at)
-      refl refl refl refl refl refl given (k.mine other w ato up)
+      (parted_keep begin log (set views other spent_view) v (taken_in v w) (kept_of w) (set_else views other 0 spent_view (λ e. away (sym e)) ∙ at)
+      refl refl refl refl refl refl given (k.mine other w ato up) front
       (λ j u atj uj e. ⊎_elim
       (λ (x : (j ≡ other) × (spent_view ≡ u)). gone (ap live_of x.1 ∙ uj))
       (λ (x : (j ≢ other) × (get_elem? views j ≡ some u)). x.0 (k.lone j other u w x.1 ato uj up e))

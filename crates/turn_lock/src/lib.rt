@@ -11,4 +11,4 @@ mod view;
 
 pub use story::Story;
 pub use turn::{Held, Spent, Turn};
-pub use view::{First, Free, Law, Place, TurnSeat, View};
+pub use view::{First, Free, Law, Place, Taken, TurnSeat, View};

@@ -4,6 +4,7 @@ ghost use lib.ListN.{get_elem?};
 ghost use mathlib.Core.Option.{some};
 ghost use Rattle.turn_lock.specs.Histories.{StartsWith, own_of, AllOf, Has, IsKnown};
 ghost use Rattle.turn_lock.specs.inner.Turns.{Same, left_after, newcomer, taken_in};
+ghost use Rattle.turn_lock.specs.declared.view.Taken.{Taken};
 ghost use Rattle.turn_lock.specs.declared.view.Place.TheVariants.{Idle as AtRest, Holds as HasTurn, Waits as Wanted, Told as Done};
 
 use crate::Story;
@@ -193,7 +194,7 @@ impl<T: Story> Turn<T> {
         ensures seen { StartsWith (T.history result) seat.me.0.seen }
         ensures start { T.start result ∷ [] ≡ seat.me.0.root }
         ensures own { seat.me.0.own ≡ own_of T.party seat.me.0.party (T.history result) }
-        ensures joined { (i : ℕ) (x : ℕ × List T.Entry) → get_elem? seat.me.0.joined i ≡ some x → Has seat.me.0.given x.0 × (x.1 ≡ own_of T.party x.0 (T.history result)) }
+        ensures joined { (i : ℕ) (x : Taken T.Entry) → get_elem? seat.me.0.joined i ≡ some x → Has seat.me.0.given x.party × (x.own ≡ own_of T.party x.party (T.history result)) × StartsWith (T.history result) x.seen }
         ensures known { (i : ℕ) (e : T.Entry) → get_elem? (T.history result) i ≡ some e → IsKnown seat.me.0.given (T.party e) }
         ensures allowed { AllOf T.allowed (T.history result) }
     {

@@ -32,6 +32,16 @@ pub enum Place {
     Gone,
 }
 
+/// What is kept of a seat that was taken in. No value of it is ever made.
+pub struct Taken<E> {
+    /// Whose seat it was.
+    pub party: u8,
+    /// Its party's own entries.
+    pub own: LinkedList<E>,
+    /// The history, as far as it had seen it.
+    pub seen: LinkedList<E>,
+}
+
 /// What a seat knows. No value of it is ever made.
 pub struct View<E, B> {
     /// Whose seat it is.
@@ -46,8 +56,8 @@ pub struct View<E, B> {
     pub own: LinkedList<E>,
     /// The parties that were given seats. Only the first seat has any.
     pub given: LinkedList<u8>,
-    /// The parties whose seats were taken in, with their entries. Only the first seat has any.
-    pub joined: LinkedList<(u8, LinkedList<E>)>,
+    /// The seats that were taken in. Only the first seat has any.
+    pub joined: LinkedList<Taken<E>>,
 }
 
 /// What holds of the lock between any two steps: the words are the next ticket and the ticket that is served, and the slot has the

@@ -4,6 +4,7 @@ use mathlib.Core.Option.{Option as Maybe, some, none}
 use lib.ListN.{get_elem?}
 use Rattle.atomic_table.specs.Table.{State, Me, Step}
 use Rattle.turn_lock.specs.Histories.{StartsWith, own_of, AllOf, Has, IsKnown}
+use Rattle.turn_lock.specs.declared.view.Taken.{Taken}
 use Rattle.turn_lock.specs.declared.view.View.{View}
 use Rattle.turn_lock.specs.declared.view.Place.{Place}
 use Rattle.turn_lock.specs.declared.view.Place.TheVariants.{Idle, Waits, Holds, Told, Gone}
@@ -77,8 +78,8 @@ module _ {E B : Type 0} (party : E → ℕ) where
     pub mine : (i : ℕ) (v : View E B) → get_elem? views i ≡ some v → live_of v ≡ 1 → v.own ≡ own_of party v.party log
     pub lone : (i j : ℕ) (v w : View E B) → get_elem? views i ≡ some v → get_elem? views j ≡ some w → live_of v ≡ 1 → live_of w ≡ 1 → v.party ≡ w.party → i ≡ j
     pub named : (i : ℕ) (v : View E B) → get_elem? views i ≡ some v → live_of v ≡ 1 → IsKnown first.given v.party
-    pub taken : (i : ℕ) (x : ℕ × List E) → get_elem? first.joined i ≡ some x
-        → Has first.given x.0 × (x.1 ≡ own_of party x.0 log) × ((j : ℕ) (v : View E B) → get_elem? views j ≡ some v → live_of v ≡ 1 → ¬ (v.party ≡ x.0))
+    pub taken : (i : ℕ) (x : Taken E) → get_elem? first.joined i ≡ some x
+        → Has first.given x.party × (x.own ≡ own_of party x.party log) × StartsWith log x.seen × ((j : ℕ) (v : View E B) → get_elem? views j ≡ some v → live_of v ≡ 1 → ¬ (v.party ≡ x.party))
     pub known : (i : ℕ) (e : E) → get_elem? log i ≡ some e → IsKnown first.given (party e)
 
 module _ {T E B : Type 0} (history : T → List E) (party : E → ℕ) (start : T → B) where
@@ -139,5 +140,8 @@ module _ {E B : Type 0} where
   abbrev pub newcomer : ℕ → View E B → View E B
   newcomer p v = record { party = p; root = v.root; place = Idle; seen = v.seen; own = []; given = []; joined = [] }
 
+  abbrev pub kept_of : View E B → Taken E
+  kept_of w = record { party = w.party; own = w.own; seen = w.seen }
+
   abbrev pub taken_in : View E B → View E B → View E B
-  taken_in v w = record { party = v.party; root = v.root; place = v.place; seen = v.seen; own = v.own; given = v.given; joined = v.joined ++ (w.party, w.own) ∷ [] }
+  taken_in v w = record { party = v.party; root = v.root; place = v.place; seen = v.seen; own = v.own; given = v.given; joined = v.joined ++ kept_of w ∷ [] }
