@@ -1,7 +1,10 @@
 //! The world with its history: each public call of [`World`] is one entry of it.
 #![tactic(auto)]
 
+mod beginning;
+mod counting;
 mod past;
 mod world;
 
+pub use beginning::Beginning;
 pub use world::{Sliced, World};

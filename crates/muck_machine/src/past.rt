@@ -1,16 +1,20 @@
 // What has happened in a world.
 ghost use Rattle.std.specs.Prelude.{◌≡◌, true, length};
-ghost use Rattle.muck_machine.specs.Keeping.{told, remarked, lost, Concludes};
+ghost use Rattle.muck_machine.specs.Keeping.{told, remarked, counted_at_end, lost, Concludes};
+ghost use Rattle.spec_talks.specs.Counts.{counts};
 
+use crate::counting::{Counted, Counting};
 use muck_disk::Disk;
+use muck_links::Links;
 use muck_model::{Entry, Event, NoMemory, Noted, Tale};
 use muck_turns::Origin;
 
-/// How a world began, each entry since, and whether memory was wanted in the midst of something.
+/// How a world began, each entry since, the notes between, and whether memory was wanted in the midst of something.
 #[derive(Drop)]
 pub struct Past {
     pub origin: Origin,
     pub tale: Tale,
+    pub counting: Counting,
     pub dead: bool,
 }
 
@@ -30,6 +34,14 @@ impl Past {
         ensures { self.new ≡ remarked (record { entries = length self.old.tale.entries; first_moment = D.moment _first.now; second_moment = D.moment _second.now; first_faults = D.faults _first.now; second_faults = D.faults _second.now }) self.old }
     {
         self.tale.note::<N>();
+    }
+
+    /// What each link had refused is noted behind the entries so far; `N` names that note. It takes no memory.
+    pub fn note_links<N: Counted, L: Links>(&mut self, _links: &L)
+        requires { N.counted ≡ (length self.old.tale.entries, counts (L.told _links.now).sessions) }
+        ensures { self.new ≡ counted_at_end (counts (L.told _links.now).sessions) self.old }
+    {
+        self.counting.note::<N>();
     }
 
     /// Memory was wanted by a party.

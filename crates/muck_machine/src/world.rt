@@ -1,5 +1,5 @@
 // The world with its history.
-ghost use Rattle.std.specs.Prelude.{◌≡◌, ◌≤◌, IfOk, OnOk, OnErr, MatchOption, length, take, min, true, false, if◌then◌else◌, nat_lt, is_some, option_copied, [], List, ℕ};
+ghost use Rattle.std.specs.Prelude.{◌≡◌, ◌≤◌, IfOk, OnOk, OnErr, MatchOption, length, take, min, true, false, if◌then◌else◌, nat_lt, is_some, option_copied, [], List, ℕ, None};
 ghost use Rattle.std.specs.Option.{option_map_or};
 ghost use Rattle.muck_model.specs.declared.event.Event.{Event};
 ghost use Rattle.muck_queue.specs.Queues.{is_tied};
@@ -7,11 +7,14 @@ ghost use Rattle.spec_admin.specs.Parameters.{IsInRange};
 ghost use Rattle.spec_events.specs.World.{starting, booted, connection, queue_of, is_leaving};
 ghost use Rattle.spec_events.specs.Steps.{is_lawful, has_claim, is_there, next_ready, next_process};
 ghost use Rattle.spec_events.specs.Histories.{now, entered, by_porter, AllLawful};
+ghost use Rattle.spec_events.specs.Logged.{IsPlaced};
 ghost use Rattle.muck_machine.specs.declared.world.Sliced.TheVariants.{Ran, Lost};
 ghost use Rattle.muck_machine.specs.Claims.{slice_event};
 
 mod dumping;
+mod sharing;
 
+use crate::counting::Counting;
 use crate::past::Past;
 use muck_board::{Board, Connection};
 use muck_db::{Db, Persisted};
@@ -76,7 +79,7 @@ impl World {
     /// yet; its random numbers begin with `start`.
     pub fn boot(alloc: Global, from: Persisted, moment: u64, start: u64) -> Result<Self, NoMemory>
         requires { IsInRange from.tune }
-        ensures { IfOk result (λ w. w ≡ record { start = booted from.db from.tune moment start; entries = []; notes = [] }) }
+        ensures { IfOk result (λ w. w ≡ record { start = booted from.db from.tune moment start; entries = []; notes = []; counted = None }) }
     {
         let Persisted { db, tune } = from;
         let begun = Begun {
@@ -87,6 +90,7 @@ impl World {
         };
         let origin = Origin::new(alloc, &begun)?;
         let tale = Tale::new(alloc)?;
+        let counting = Counting::new(alloc)?;
         let Begun { db, tune, .. } = begun;
         Ok(World {
             state: State {
@@ -102,6 +106,7 @@ impl World {
             past: Past {
                 origin,
                 tale,
+                counting,
                 dead: false,
             },
         })
@@ -110,7 +115,7 @@ impl World {
     /// Room Zero and One as they are at first, and nobody connected: nothing has happened yet.
     #[tactic(auto, unfolding(spec_events::specs::World::starting, spec_live::specs::Boards::first_tune))]
     pub fn starting(alloc: Global) -> Result<Self, NoMemory>
-        ensures { IfOk result (λ w. w ≡ record { start = starting; entries = []; notes = [] }) }
+        ensures { IfOk result (λ w. w ≡ record { start = starting; entries = []; notes = []; counted = None }) }
     {
         let db = Db::starting(alloc)?;
         World::boot(
@@ -134,11 +139,13 @@ impl World {
         past.tale
     }
 
-    /// Whether memory was wanted, after which no entry but `Died` is lawful. Each entry so far was lawful where it stands.
+    /// Whether memory was wanted, after which no entry but `Died` is lawful. Each entry so far was lawful where it stands, and each note
+    /// has the place behind the entries that stood there then.
     #[tactic(auto, unfolding(spec_events::specs::Histories::now))]
     pub fn is_dead(&self) -> bool
         ensures dead { result ≡ (now self.now).dead }
         ensures lawful { AllLawful self.now.start self.now.entries }
+        ensures placed { IsPlaced self.now }
     {
         self.past.dead
     }
@@ -163,8 +170,8 @@ impl World {
         state.stopping = true;
     }
 
-    // Whether a connection of this number may come.
-    fn may_open(&self, d: u32) -> bool
+    /// Whether a connection of this number may come.
+    pub fn may_open(&self, d: u32) -> bool
         ensures { result ≡ is_lawful (now self.now) (by_porter (Event.Opened d)) }
     {
         if self.past.dead {
@@ -180,8 +187,8 @@ impl World {
         }
     }
 
-    // Whether a line may come on this connection.
-    fn may_take_line(&self, d: u32) -> bool
+    /// Whether a line may come on this connection.
+    pub fn may_hear(&self, d: u32) -> bool
         ensures { (line : List ℕ) → result ≡ is_lawful (now self.now) (by_porter (Event.Input d line)) }
     {
         if self.past.dead {
@@ -195,6 +202,17 @@ impl World {
             Some(c) => c.takes_line(),
             None => false,
         }
+    }
+
+    /// Whether the connection of this number may go.
+    pub fn may_close(&self, d: u32) -> bool
+        ensures { result ≡ is_lawful (now self.now) (by_porter (Event.Closed d)) }
+    {
+        if self.past.dead {
+            return false;
+        }
+        let state = &self.state;
+        state.board.connection(d).is_some()
     }
 
     /// A connection comes; `false` exactly where it may not, and then nothing happened. After `NoMemory` the world is
@@ -224,7 +242,7 @@ impl World {
         ensures step { IfOk result (λ yes. self.new ≡ (if yes then entered self.old (by_porter (Event.Input d line)) else self.old)) }
         ensures died { OnErr result (self.new ≡ entered self.old (by_porter Event.Died)) }
     {
-        if !self.may_take_line(d) {
+        if !self.may_hear(d) {
             return Ok(false);
         }
         let done = self.state.hear(d, &line);

@@ -86,6 +86,13 @@ impl Dumps {
         Some(dump.askers)
     }
 
+    /// Whether a dump runs.
+    pub fn is_running(&self) -> bool
+        ensures { result ≡ is_some self.now.running }
+    {
+        self.running.is_some()
+    }
+
     /// Whether a dump is asked.
     pub fn is_asked(&self) -> bool
         ensures { result ≡ is_some self.now.asked }

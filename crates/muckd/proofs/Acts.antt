@@ -4,7 +4,7 @@ use Rattle.std.specs.Prelude.{is_some}
 use Rattle.std.proofs.lemmas.Bool.{le-leb, cond-true, cond-false}
 use Rattle.muck_model.specs.declared.event.Event.{Event}
 use Rattle.muck_model.specs.declared.event.Event.TheVariants.{Closed, Moment}
-use Rattle.spec_dumps.specs.Fronts.{is_dump}
+use Rattle.spec_events.specs.Logged.{is_dump}
 use Rattle.spec_dumps.specs.Holding.{Quietly}
 use Rattle.spec_dumps.proofs.Quiet.{quiet_nothing, quiet_one}
 use Rattle.spec_events.specs.World.{World, connection, is_leaving}

@@ -3,7 +3,7 @@ use Rattle.std.proofs.Common.{◌≡◌, ℕ, ℤ, false, List, [], ◌∷◌, �
 use Rattle.std.specs.List.{list_any}
 use Rattle.muck_model.specs.declared.event.Entry.{Entry}
 use Rattle.muck_model.specs.declared.event.Event.TheVariants.{Exec, Claim, Slice, Died}
-use Rattle.spec_dumps.specs.Fronts.{is_dump}
+use Rattle.spec_events.specs.Logged.{is_dump}
 use Rattle.spec_dumps.specs.Holding.{Quietly}
 use Rattle.spec_dumps.proofs.Quiet.{quiet_grew}
 use Rattle.spec_events.specs.World.{World}

@@ -7,7 +7,8 @@ use Rattle.muck_disk.specs.Images.{Only}
 use Rattle.muck_log.specs.Store.{Chosen, LogState, IsMounted, stored}
 use Rattle.spec_events.specs.World.{World}
 use Rattle.spec_events.specs.Histories.{History, after}
-use Rattle.spec_dumps.specs.Fronts.{persisted, last_cut, place_of_note, stands_at, is_dump, is_stored, is_failed, IsFront, Loads, file_most}
+use Rattle.spec_events.specs.Logged.{is_dump, is_stored, is_failed}
+use Rattle.spec_dumps.specs.Fronts.{persisted, last_cut, place_of_note, stands_at, IsFront, Loads, file_most}
 use Rattle.spec_dumps.specs.Survival.{until, IsSafe}
 use Rattle.spec_dumps.specs.Holding.{IsAt, IsCounted, Keeps, Rests}
 use Rattle.spec_dumps.proofs.Fronts.{last_cut_first}
@@ -16,7 +17,7 @@ module _ {D : Type 0} (seen : D → List ℕ) (moment : D → ℕ) (images : D �
     (is : IsMounted seen moment images log f s) (limit : log.most ≡ file_most) (holds : log.chosen.held.world ≡ persisted w) (consistent : IsConsistent w.live.objects)
     (at : note.entries ≡ 0) (here : IsAt moment f s note) (count : IsCounted faults f s note) where
   abbrev begun : History
-  begun = record { start = w; entries = []; notes = note ∷ [] }
+  begun = record { start = w; entries = []; notes = note ∷ []; counted = None }
 
   none_cut : last_cut [] ≡ 0
   unfolding last_cut

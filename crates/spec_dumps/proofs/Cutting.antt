@@ -1,13 +1,16 @@
 -- A note and an entry that stores nothing: the Cut of a dump, or its failure.
 use Rattle.std.proofs.Common.{◌≡◌, ℕ, ◌<◌, ◌≤◌, Bool, true, false, suc, List, [], ◌∷◌, ◌++◌, length, refl, ap, sym, ◌∙◌, subst, arith, Option, Some, None, Ok}
-use Rattle.std.specs.Prelude.{slice_get}
+use Rattle.std.specs.Prelude.{slice_get, take, if◌then◌else◌}
+use Rattle.std.specs.Option.{option_map_or}
+use Rattle.std.proofs.lemmas.List.{take_all}
 use Rattle.muck_model.specs.declared.event.Entry.{Entry}
 use Rattle.muck_model.specs.declared.event.Event.TheVariants.{Cut}
 use Rattle.muck_model.specs.declared.note.Note.{Note}
 use Rattle.muck_log.specs.Store.{Chosen, LogState, stored}
 use Rattle.spec_events.specs.World.{World}
-use Rattle.spec_events.specs.Histories.{History, entered, noted}
-use Rattle.spec_dumps.specs.Fronts.{is_stored, is_failed, IsFront, Loads}
+use Rattle.spec_events.specs.Histories.{History, after, entered, noted}
+use Rattle.spec_events.specs.Logged.{is_cut, is_stored, is_failed}
+use Rattle.spec_dumps.specs.Fronts.{cut_behind, last_cut, at_cut, number_of_cut, number_at, IsFront, Loads}
 use Rattle.spec_dumps.specs.Survival.{HasCause, IsSafe}
 use Rattle.spec_dumps.specs.Holding.{IsAt, IsCounted, IsUsable, Keeps, Rests}
 use Rattle.spec_dumps.proofs.Lists.{got_last, length_last}
@@ -74,3 +77,29 @@ pub cut_noted : {D : Type 0} (seen : D → List ℕ) (moment : D → ℕ) (image
     Keeps seen moment images faults log f s mounted h → k ≡ entered (noted h note) (record { party = party; event = Cut n }) → note.entries ≡ length h.entries → IsAt moment f s note → IsCounted faults f s note → Rests seen moment images faults log f s mounted k
 cut_noted seen moment images faults log f s mounted h k note party n v is behind here count =
     rests_on seen moment images faults log f s mounted h note (record { party = party; event = Cut n }) k is v here count behind refl (λ i before at there fails. cc)
+
+-- The Cut that stands last.
+
+last_cut_one : (e : Entry) → is_cut e.event ≡ true → last_cut (e ∷ []) ≡ 1
+unfolding last_cut
+last_cut_one e is = ap (λ b. if b then 1 else 0) is
+
+last_cut_more : (e : Entry) (h : List Entry) (n : ℕ) → last_cut h ≡ suc n → last_cut (e ∷ h) ≡ suc (suc n)
+unfolding last_cut
+last_cut_more e h n is = ap (λ k. cut_behind k (is_cut e.event)) is
+
+last_cut_end : (h : List Entry) (e : Entry) → is_cut e.event ≡ true → last_cut (h ++ e ∷ []) ≡ suc (length h)
+last_cut_end [] e is = last_cut_one e is
+last_cut_end (x ∷ h) e is = last_cut_more x (h ++ e ∷ []) (length h) (last_cut_end h e is)
+
+-- the world at it is the one as it is
+pub at_cut_end : (w : World) (h : List Entry) (party n : ℕ) → at_cut w (h ++ record { party = party; event = Cut n } ∷ []) ≡ after w (h ++ record { party = party; event = Cut n } ∷ [])
+at_cut_end w h party n =
+    let cut : Entry = record { party = party; event = Cut n } in
+    ap (after w) (take_all (last_cut (h ++ cut ∷ [])) (h ++ cut ∷ []) (omega (arith, last_cut_end h cut refl, length_last h cut)))
+
+-- and it has its number
+pub number_end : (mounted : ℕ) (h : List Entry) (party n : ℕ) → number_at mounted (h ++ record { party = party; event = Cut n } ∷ []) (last_cut (h ++ record { party = party; event = Cut n } ∷ [])) ≡ n
+number_end mounted h party n =
+    let cut : Entry = record { party = party; event = Cut n } in
+    ap (number_at mounted (h ++ cut ∷ [])) (last_cut_end h cut refl) ∙ ap (λ o. option_map_or (λ (e : Entry). number_of_cut e.event) o mounted) (got_last h cut)

@@ -1,6 +1,7 @@
 -- Fronts of a history that goes on.
 use Rattle.std.proofs.Common.{◌≡◌, ◌⊎◌, inl, inr, ℕ, ◌+◌, ◌<◌, ◌≤◌, Bool, true, false, zero, suc, List, [], ◌∷◌, ◌++◌, length, take, refl, ap, sym, ◌∙◌, subst, arith, Option, Some, None, Ok}
-use Rattle.std.specs.Prelude.{slice_get}
+use Rattle.std.specs.Prelude.{slice_get, ◌||◌, if◌then◌else◌}
+use Rattle.std.specs.List.{list_any}
 use Rattle.std.specs.Option.{option_map, option_map_or}
 use Rattle.std.proofs.lemmas.List.{length-append, take-append-le}
 use Rattle.std.proofs.lemmas.Option.{slice_get_within}
@@ -13,7 +14,8 @@ use Rattle.muck_log.specs.Store.{Chosen, Damage}
 use Rattle.std.specs.Prelude.{Result}
 use Rattle.spec_events.specs.World.{World}
 use Rattle.spec_events.specs.Histories.{after}
-use Rattle.spec_dumps.specs.Fronts.{persisted, is_stored, stands_at, last_cut, number_of_cut, number_at, place_of_note, IsNotedBy, IsFront, Loads}
+use Rattle.spec_events.specs.Logged.{is_cut, is_dump, is_stored, is_failed}
+use Rattle.spec_dumps.specs.Fronts.{persisted, stands_at, at_cut, cut_behind, last_cut, number_of_cut, number_at, place_of_note, IsNotedBy, IsFront, Loads}
 use Rattle.spec_dumps.proofs.Lists.{got_on}
 
 -- each note stands before an entry, or at the start
@@ -31,7 +33,81 @@ last_cut_none = refl
 pub last_cut_first : (h : List Entry) (place : ℕ) → place ≡ 0 → last_cut (take place h) ≡ 0
 last_cut_first h place z = ap (λ p. last_cut (take p h)) z ∙ last_cut_none
 
-number_on : (mounted : ℕ) (h more : List Entry) (count : ℕ) → count ≤ length h → number_at mounted (h ++ more) count ≡ number_at mounted h count
+-- The last Cut is one of the entries.
+
+one_short : (b : Bool) → (if b then 1 else 0) ≤ 1
+one_short true = omega arith
+one_short false = omega arith
+
+pub last_cut_short : (h : List Entry) → last_cut h ≤ length h
+unfolding last_cut
+last_cut_short [] = omega arith
+last_cut_short (e ∷ h) = at (last_cut h) (last_cut_short h) where
+  at : (n : ℕ) → n ≤ length h → cut_behind n (is_cut e.event) ≤ suc (length h)
+  at zero le = omega (arith, one_short (is_cut e.event))
+  at (suc n) le = omega (arith, le)
+
+-- what is behind it leaves it
+pub last_cut_taken : (h : List Entry) → last_cut (take (last_cut h) h) ≡ last_cut h
+unfolding last_cut
+last_cut_taken [] = refl
+last_cut_taken (e ∷ h) = at (last_cut h) refl (last_cut_taken h) where
+  one : (b : Bool) → is_cut e.event ≡ b → last_cut (take (if b then 1 else 0) (e ∷ h)) ≡ (if b then 1 else 0)
+  one true is = ap (λ b. if b then 1 else 0) is
+  one false is = refl
+
+  at : (n : ℕ) → last_cut h ≡ n → last_cut (take (last_cut h) h) ≡ last_cut h → last_cut (take (cut_behind n (is_cut e.event)) (e ∷ h)) ≡ cut_behind n (is_cut e.event)
+  at zero is taken = one (is_cut e.event) refl
+  at (suc n) is taken = ap (λ k. cut_behind k (is_cut e.event)) (ap (λ k. last_cut (take k h)) (sym is) ∙ taken ∙ is)
+
+-- and no front has a later one
+pub last_cut_front : (h : List Entry) (n : ℕ) → last_cut (take n h) ≤ last_cut h
+unfolding last_cut
+last_cut_front h zero = omega arith
+last_cut_front [] (suc n) = omega arith
+last_cut_front (e ∷ h) (suc n) = at (last_cut (take n h)) (last_cut h) (is_cut e.event) (last_cut_front h n) where
+  at : (a b : ℕ) (cut : Bool) → a ≤ b → cut_behind a cut ≤ cut_behind b cut
+  at zero zero cut le = omega arith
+  at zero (suc b) cut le = omega (arith, one_short cut)
+  at (suc a) zero cut le = absurd (omega (arith, le))
+  at (suc a) (suc b) cut le = omega (arith, le)
+
+-- a Cut stands there
+pub last_cut_stands : (h : List Entry) (n : ℕ) → last_cut h ≡ suc n → stands_at is_cut h n ≡ true
+unfolding last_cut
+last_cut_stands [] n is = absurd (omega (arith, is))
+last_cut_stands (e ∷ h) n is = at (last_cut h) refl n is (last_cut_stands h) where
+  one : (b : Bool) (i : ℕ) → is_cut e.event ≡ b → (if b then 1 else 0) ≡ suc i → stands_at is_cut (e ∷ h) i ≡ true
+  one true zero is same = is
+  one true (suc i) is same = absurd (omega (arith, same))
+  one false i is same = absurd (omega (arith, same))
+
+  at : (k : ℕ) → last_cut h ≡ k → (i : ℕ) → cut_behind k (is_cut e.event) ≡ suc i → ((j : ℕ) → last_cut h ≡ suc j → stands_at is_cut h j ≡ true) → stands_at is_cut (e ∷ h) i ≡ true
+  at zero is i same stands = one (is_cut e.event) i refl same
+  at (suc k) is zero same stands = absurd (omega (arith, same))
+  at (suc k) is (suc i) same stands = stands i (is ∙ (let it : suc k ≡ suc i = omega (arith, same) in it))
+
+-- entries that are none of a dump leave it
+none_cut : (event : Event) → is_dump event ≡ false → is_cut event ≡ false
+none_cut event none = at (is_cut event) (is_stored event || is_failed event) none where
+  at : (a b : Bool) → (a || b) ≡ false → a ≡ false
+  at true b e = cc
+  at false b e = refl
+
+pub last_cut_quiet : (h es : List Entry) → list_any (λ (e : Entry). is_dump e.event) es ≡ false → last_cut (h ++ es) ≡ last_cut h
+unfolding last_cut
+last_cut_quiet [] [] none = refl
+last_cut_quiet [] (e ∷ es) none = at (is_dump e.event) refl none where
+  at : (b : Bool) → is_dump e.event ≡ b → (b || list_any (λ (x : Entry). is_dump x.event) es) ≡ false → last_cut (e ∷ es) ≡ 0
+  at true is p = cc
+  at false is p = ap (λ k. cut_behind k (is_cut e.event)) (last_cut_quiet [] es p) ∙ ap (λ b. if b then 1 else 0) (none_cut e.event is)
+last_cut_quiet (e ∷ h) es none = ap (λ k. cut_behind k (is_cut e.event)) (last_cut_quiet h es none)
+
+-- nor the world behind it
+pub at_cut_quiet : (w : World) (h es : List Entry) → list_any (λ (e : Entry). is_dump e.event) es ≡ false → at_cut w (h ++ es) ≡ at_cut w h
+at_cut_quiet w h es none = ap (λ n. after w (take n (h ++ es))) (last_cut_quiet h es none) ∙ ap (after w) (take-append-le (last_cut h) h es (last_cut_short h))
+
+pub number_on : (mounted : ℕ) (h more : List Entry) (count : ℕ) → count ≤ length h → number_at mounted (h ++ more) count ≡ number_at mounted h count
 number_on mounted h more zero less = refl
 number_on mounted h more (suc count) less = ap (λ o. option_map_or (λ (e : Entry). number_of_cut e.event) o mounted) (got_on h more count (omega (arith, less)))
 
@@ -45,7 +121,7 @@ place_within notes i (Some note) place is e = slice_get_within notes i note is
 pub note_within : (notes : List Note) (i place : ℕ) → place_of_note notes i ≡ Some place → i < length notes
 note_within notes i place e = place_within notes i (slice_get notes i) place refl e
 
-noted_on : (notes more : List Note) (n m count : ℕ) → n ≤ m → IsNotedBy notes n count → IsNotedBy (notes ++ more) m count
+pub noted_on : (notes more : List Note) (n m count : ℕ) → n ≤ m → IsNotedBy notes n count → IsNotedBy (notes ++ more) m count
 noted_on notes more n m zero le p = tt
 noted_on notes more n m (suc count) le p = (p.0, p.1, omega (arith, p.2, le), place_on notes more p.0 (note_within notes p.0 count p.3) ∙ p.3)
 

@@ -1,38 +1,47 @@
--- Where no dump runs, none does after entries that are none of a dump.
+-- Which dump runs, if one does, isn't changed by entries that are none of a dump.
 use Rattle.std.proofs.Common.{◌≡◌, ℕ, Bool, true, false, ◌||◌, List, [], ◌∷◌, refl, ap, sym, ◌∙◌, Option, Some, None}
+use Rattle.std.specs.Prelude.{◌==◌}
 use Rattle.std.specs.List.{list_any}
-use Rattle.std.specs.Option.{option_map}
+use Rattle.std.specs.Option.{option_map, option_map_or}
 use Rattle.muck_model.specs.declared.event.Entry.{Entry}
 use Rattle.muck_model.specs.declared.event.Event.{Event}
 use Rattle.muck_model.specs.declared.event.Event.TheVariants.{Opened, Input, Closed, Moment, Exec, Planned, Claim, Slice, Commit, Lost, Idle, Take, Cut, Stored, DumpFailed, Halt, StopSeen, Died}
-use Rattle.spec_events.specs.World.{World, connection, others_than}
+use Rattle.spec_events.specs.World.{World, connection, others_than, runs_dump}
 use Rattle.spec_events.specs.Steps.{effect, happened}
 use Rattle.spec_events.specs.Histories.{History, after, now}
 use Rattle.spec_events.proofs.Done.{done_going}
 use Rattle.spec_events.proofs.Taken.{sliced_going}
 use Rattle.spec_events.proofs.Runs.{now-grew}
-use Rattle.spec_dumps.specs.Fronts.{is_dump}
+use Rattle.spec_events.specs.Logged.{is_dump}
 use Rattle.spec_dumps.specs.Holding.{Quietly}
 
-idle_happened : (event : Event) (w : World) (party : ℕ) → is_dump event ≡ false → w.dumps.running ≡ None → (happened w party event).dumps.running ≡ None
-idle_happened (Opened d) w party e h = h
-idle_happened (Input d line) w party e h = h
-idle_happened (Closed d) w party e h = ap (λ (o : Option (ℕ × List ℕ)). option_map (λ r. (r.0, others_than d r.1)) o) h
-idle_happened (Moment t) w party e h = h
-idle_happened (Exec d) w party e h = (done_going d w (connection d w) refl).running ∙ h
-idle_happened (Planned d) w party e h = h
-idle_happened (Claim pid) w party e h = h
-idle_happened (Slice pid) w party e h = (sliced_going pid w).running ∙ h
-idle_happened (Commit pid) w party e h = h
-idle_happened (Lost pid) w party e h = h
-idle_happened Idle w party e h = h
-idle_happened (Take d n) w party e h = h
-idle_happened (Cut k) w party e h = cc
-idle_happened (Stored k) w party e h = cc
-idle_happened (DumpFailed k) w party e h = cc
-idle_happened Halt w party e h = h
-idle_happened StopSeen w party e h = h
-idle_happened Died w party e h = h
+-- its number
+abbrev number_of : Option (ℕ × List ℕ) → Option ℕ
+number_of o = option_map (λ r. r.0) o
+
+fewer_askers : (d : ℕ) (o : Option (ℕ × List ℕ)) → number_of (option_map (λ r. (r.0, others_than d r.1)) o) ≡ number_of o
+fewer_askers d None = refl
+fewer_askers d (Some r) = refl
+
+number_happened : (event : Event) (w : World) (party : ℕ) → is_dump event ≡ false → number_of (happened w party event).dumps.running ≡ number_of w.dumps.running
+number_happened (Opened d) w party e = refl
+number_happened (Input d line) w party e = refl
+number_happened (Closed d) w party e = fewer_askers d w.dumps.running
+number_happened (Moment t) w party e = refl
+number_happened (Exec d) w party e = ap number_of (done_going d w (connection d w) refl).running
+number_happened (Planned d) w party e = refl
+number_happened (Claim pid) w party e = refl
+number_happened (Slice pid) w party e = ap number_of (sliced_going pid w).running
+number_happened (Commit pid) w party e = refl
+number_happened (Lost pid) w party e = refl
+number_happened Idle w party e = refl
+number_happened (Take d n) w party e = refl
+number_happened (Cut k) w party e = cc
+number_happened (Stored k) w party e = cc
+number_happened (DumpFailed k) w party e = cc
+number_happened Halt w party e = refl
+number_happened StopSeen w party e = refl
+number_happened Died w party e = refl
 
 none_first : (a b : Bool) → (a || b) ≡ false → a ≡ false
 none_first true b e = cc
@@ -42,12 +51,29 @@ none_later : (a b : Bool) → (a || b) ≡ false → b ≡ false
 none_later true b e = cc
 none_later false b e = e
 
-idle_after : (es : List Entry) (w : World) → list_any (λ (e : Entry). is_dump e.event) es ≡ false → w.dumps.running ≡ None → (after w es).dumps.running ≡ None
+number_after : (es : List Entry) (w : World) → list_any (λ (e : Entry). is_dump e.event) es ≡ false → number_of (after w es).dumps.running ≡ number_of w.dumps.running
 unfolding effect
-idle_after [] w none h = h
-idle_after (e ∷ es) w none h =
-    idle_after es (effect w e) (none_later (is_dump e.event) (list_any (λ (x : Entry). is_dump x.event) es) none)
-    (idle_happened e.event w e.party (none_first (is_dump e.event) (list_any (λ (x : Entry). is_dump x.event) es) none) h)
+number_after [] w none = refl
+number_after (e ∷ es) w none =
+    number_after es (effect w e) (none_later (is_dump e.event) (list_any (λ (x : Entry). is_dump x.event) es) none)
+    ∙ number_happened e.event w e.party (none_first (is_dump e.event) (list_any (λ (x : Entry). is_dump x.event) es) none)
 
+number_quiet : (h k : History) → Quietly h k → number_of (now k).dumps.running ≡ number_of (now h).dumps.running
+number_quiet h k q = ap (λ (w : World). number_of w.dumps.running) (now-grew h k q.entries q.grew) ∙ number_after q.entries (now h) q.none
+
+none_runs : (o : Option (ℕ × List ℕ)) → number_of o ≡ None → o ≡ None
+none_runs None e = refl
+none_runs (Some r) e = cc
+
+-- none runs
 pub idle_quiet : (h k : History) → Quietly h k → (now h).dumps.running ≡ None → (now k).dumps.running ≡ None
-idle_quiet h k q none = ap (λ (w : World). w.dumps.running) (now-grew h k q.entries q.grew) ∙ idle_after q.entries (now h) q.none none
+idle_quiet h k q none = none_runs (now k).dumps.running (number_quiet h k q ∙ ap number_of none)
+
+runs_by : (n : ℕ) (o : Option (ℕ × List ℕ)) → option_map_or (λ r. r.0 == n) o false ≡ option_map_or (λ i. i == n) (number_of o) false
+runs_by n None = refl
+runs_by n (Some r) = refl
+
+-- or this one
+pub runs_quiet : (h k : History) (n : ℕ) → Quietly h k → runs_dump n (now h).dumps ≡ true → runs_dump n (now k).dumps ≡ true
+runs_quiet h k n q runs =
+    runs_by n (now k).dumps.running ∙ ap (λ o. option_map_or (λ i. i == n) o false) (number_quiet h k q) ∙ sym (runs_by n (now h).dumps.running) ∙ runs

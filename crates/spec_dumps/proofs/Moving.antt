@@ -6,7 +6,7 @@ use Rattle.std.proofs.lemmas.Option.{slice_get_within, slice_get_past, slice_get
 use Rattle.std.proofs.lemmas.Bool.{cases_lt}
 use Rattle.muck_model.specs.declared.event.Entry.{Entry}
 use Rattle.muck_model.specs.declared.note.Note.{Note}
-use Rattle.muck_log.specs.Store.{Chosen, LeavesBoth, stored}
+use Rattle.muck_log.specs.Store.{Chosen, LeavesOnly, LeavesBoth, stored}
 use Rattle.spec_events.specs.World.{World}
 use Rattle.spec_dumps.specs.Fronts.{IsFront, Loads}
 use Rattle.spec_dumps.specs.Survival.{until, Survives, AllDeltas, IsSafe}
@@ -98,3 +98,60 @@ loads_now moment images f s w mounted h notes last note is end v c d left_c left
     let over : length notes ≤ suc last = omega (arith, end) in
     v.each last note (moment f) (moment s) c d is (v.past last note is).0 (omega (arith, until_over (λ (y : Note). y.first_moment) notes last (moment f) over))
     (v.past last note is).1 (omega (arith, until_over (λ (y : Note). y.second_moment) notes last (moment s) over)) left_c left_d
+
+-- Calls that leave only what could be left before, whenever the last note was.
+
+until_by : (clock : Note → ℕ) (notes : List Note) (n now : ℕ) → ((x : Note) → slice_get notes (suc n) ≡ Some x → clock x ≤ now) → until clock notes n now ≤ now
+until_by clock notes n now past = at (slice_get notes (suc n)) refl where
+  at : (o : Option Note) → slice_get notes (suc n) ≡ o → until clock notes n now ≤ now
+  at (Some x) there = omega (arith, past x there, ap (λ o. option_map_or clock o now) there)
+  at None there = omega (arith, ap (λ o. option_map_or clock o now) there)
+
+module _ {D : Type 0} (moment : D → ℕ) (images : D → ℕ → List ℕ → Type 0) (f f' : D) (clock : Note → ℕ) (notes : List Note) (a : LeavesOnly moment images f f' (images f (moment f))) (past : (n : ℕ) (x : Note) → slice_get notes n ≡ Some x → clock x ≤ moment f) where
+  -- what a crash leaves at a moment of a stretch was left at one of it before
+  left_before : (n low t : ℕ) (c : List ℕ) → low ≤ t → low ≤ moment f → t ≤ until clock notes n (moment f') → images f' t c → (t' : ℕ) × (low ≤ t') × (t' ≤ until clock notes n (moment f)) × images f t' c
+  left_before n low t c ge over_low le left = elim (cases_lt (suc n) (length notes)) [
+    | inl less ↦ (
+        let same = until_then clock notes n (moment f) (moment f') less in
+        let then : until clock notes n (moment f) ≤ moment f = until_by clock notes n (moment f) (past (suc n)) in
+        (t, ge, omega (arith, le, same), a.kept t c (omega (arith, le, same, then)) left)
+        )
+    | inr over ↦ elim (cases_lt (moment f) t) [
+      | inl new ↦ (moment f, over_low, omega (arith, until_over clock notes n (moment f) over), a.each t c (omega (arith, new)) (omega (arith, le, until_over clock notes n (moment f') over)) left)
+      | inr old ↦ (t, ge, omega (arith, old, until_over clock notes n (moment f) over), a.kept t c old left)
+    ]
+  ]
+
+  rises_still : (n : ℕ) (x : Note) → slice_get notes n ≡ Some x → clock x ≤ until clock notes n (moment f) → clock x ≤ until clock notes n (moment f')
+  rises_still n x there le = elim (cases_lt (suc n) (length notes)) [
+    | inl less ↦ omega (arith, le, until_then clock notes n (moment f) (moment f') less)
+    | inr over ↦ omega (arith, past n x there, a.later, until_over clock notes n (moment f') over)
+  ]
+
+pub safe_kept : {D : Type 0} (moment : D → ℕ) (images : D → ℕ → List ℕ → Type 0) (f s f' s' : D) (w : World) (mounted : ℕ) (h : List Entry) (notes : List Note) →
+    LeavesOnly moment images f f' (images f (moment f)) → LeavesOnly moment images s s' (images s (moment s)) → IsSafe moment images f s w mounted h notes → IsSafe moment images f' s' w mounted h notes
+safe_kept moment images f s f' s' w mounted h notes a b v = record {
+  survives = record {
+    each = λ n x t u c d there t_low t_high u_low u_high left_c left_d.
+        let first = left_before moment images f f' (λ (y : Note). y.first_moment) notes a first_past n x.first_moment t c t_low (v.survives.past n x there).0 t_high left_c in
+        let second = left_before moment images s s' (λ (y : Note). y.second_moment) notes b second_past n x.second_moment u d u_low (v.survives.past n x there).1 u_high left_d in
+        v.survives.each n x first.0 second.0 c d there first.1 first.2 second.1 second.2 first.3 second.3;
+    rises = λ n x there. (
+      rises_still moment images f f' (λ (y : Note). y.first_moment) notes a first_past n x there (v.survives.rises n x there).0,
+      rises_still moment images s s' (λ (y : Note). y.second_moment) notes b second_past n x there (v.survives.rises n x there).1,
+    );
+    past = λ n x there. (omega (arith, (v.survives.past n x there).0, a.later), omega (arith, (v.survives.past n x there).1, b.later));
+    noted = v.survives.noted;
+    placed = v.survives.placed;
+  };
+  caused = v.caused;
+  deltas = λ n x c d there at left_c left_d.
+      let then = v.survives.past (suc n) x there in
+      v.deltas n x c d there at (a.kept x.first_moment c then.0 left_c) (b.kept x.second_moment d then.1 left_d);
+}
+  where
+    first_past : (n : ℕ) (x : Note) → slice_get notes n ≡ Some x → x.first_moment ≤ moment f
+    first_past n x there = (v.survives.past n x there).0
+
+    second_past : (n : ℕ) (x : Note) → slice_get notes n ≡ Some x → x.second_moment ≤ moment s
+    second_past n x there = (v.survives.past n x there).1

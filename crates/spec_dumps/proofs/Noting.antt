@@ -2,7 +2,7 @@
 use Rattle.std.proofs.Common.{◌≡◌, ◌⊎◌, inl, inr, ℕ, ◌+◌, ◌<◌, ◌≤◌, Bool, true, false, zero, suc, List, [], ◌∷◌, ◌++◌, length, take, refl, ap, sym, ◌∙◌, subst, arith, Option, Some, None, Ok}
 use Rattle.std.specs.Prelude.{slice_get}
 use Rattle.std.specs.Option.{option_map, option_map_or}
-use Rattle.std.proofs.lemmas.List.{length-append, take-append-le}
+use Rattle.std.proofs.lemmas.List.{length-append, take_all, take-append-le}
 use Rattle.std.proofs.lemmas.Option.{slice_get_within, slice_get_past}
 use Rattle.std.proofs.lemmas.Bool.{cases_lt}
 use Rattle.muck_model.specs.declared.event.Entry.{Entry}
@@ -11,7 +11,8 @@ use Rattle.muck_model.specs.declared.note.Note.{Note}
 use Rattle.muck_log.specs.Store.{Chosen, stored}
 use Rattle.spec_events.specs.World.{World}
 use Rattle.spec_events.specs.Histories.{after}
-use Rattle.spec_dumps.specs.Fronts.{is_dump, is_stored, is_failed, stands_at, place_of_note, last_cut, IsFront, Loads, Overflows, dumped_on}
+use Rattle.spec_events.specs.Logged.{is_dump, is_stored, is_failed}
+use Rattle.spec_dumps.specs.Fronts.{stands_at, at_cut, place_of_note, last_cut, IsFront, Loads, Overflows, dumped_on}
 use Rattle.spec_dumps.specs.Survival.{until, AllNoted, Survives, HasCause, AllCaused, AllDeltas, IsSafe}
 use Rattle.spec_dumps.specs.Holding.{IsAt}
 use Rattle.spec_dumps.proofs.Lists.{got_on, got_last, got_past, length_last}
@@ -166,13 +167,13 @@ module _ {D : Type 0} (moment : D → ℕ) (images : D → ℕ → List ℕ → 
           record {
             cause = elim known.cause [
               | inl rose ↦ inl rose
-              | inr full ↦ inr (full.0, front_noted (suc n) full.0 placed (omega (arith, less)) full.1, subst (λ y. Overflows full.0 (after w y)) (sym front) full.2)
+              | inr full ↦ inr (full.0, front_noted (suc n) full.0 placed (omega (arith, less)) full.1, subst (λ y. Overflows full.0 (at_cut w y)) (sym front) full.2)
             ];
           }
 
   pub deltas_noted : ArePlaced h notes → AllDeltas images f s w mounted h notes →
       ((n : ℕ) (c d : List ℕ) → suc n ≡ length notes → is_stored e.event ≡ true → images f (moment f) c → images s (moment s) d →
-      (x : Chosen) × IsFront w mounted (h ++ e ∷ []) (notes ++ note ∷ []) n x × (stored c d ≡ Ok (dumped_on x (after w (take (length h) (h ++ e ∷ [])))))) →
+      (x : Chosen) × IsFront w mounted (h ++ e ∷ []) (notes ++ note ∷ []) n x × (stored c d ≡ Ok (dumped_on x (at_cut w h)))) →
       AllDeltas images f s w mounted (h ++ e ∷ []) (notes ++ note ∷ [])
   deltas_noted placed v wrote n x c d is at left_c left_d = elim (which notes note x (suc n) is) [
     | inl p ↦ old p.0 p.1
@@ -180,14 +181,17 @@ module _ {D : Type 0} (moment : D → ℕ) (images : D → ℕ → List ℕ → 
         let here_x : x.entries ≡ length h = ap (λ (y : Note). y.entries) p.1 ∙ behind in
         let known = wrote n c d p.0 (sym (stands_last is_stored h e x.entries here_x) ∙ at)
         (subst (λ i. images f i c) (ap (λ (y : Note). y.first_moment) p.1 ∙ here.0) left_c) (subst (λ i. images s i d) (ap (λ (y : Note). y.second_moment) p.1 ∙ here.1) left_d) in
-        (known.0, known.1, known.2 ∙ ap (λ k. Ok (dumped_on known.0 (after w (take k (h ++ e ∷ []))))) (sym here_x))
+        (known.0, known.1, known.2 ∙ ap (λ k. Ok (dumped_on known.0 (at_cut w k))) (sym (front x here_x)))
         )
   ]
     where
-      old : suc n < length notes → slice_get notes (suc n) ≡ Some x → (y : Chosen) × IsFront w mounted (h ++ e ∷ []) (notes ++ note ∷ []) n y × (stored c d ≡ Ok (dumped_on y (after w (take x.entries (h ++ e ∷ [])))))
+      front : (x : Note) → x.entries ≡ length h → take x.entries (h ++ e ∷ []) ≡ h
+      front x is = ap (λ k. take k (h ++ e ∷ [])) is ∙ take-append-le (length h) h (e ∷ []) (omega arith) ∙ take_all (length h) h (omega arith)
+
+      old : suc n < length notes → slice_get notes (suc n) ≡ Some x → (y : Chosen) × IsFront w mounted (h ++ e ∷ []) (notes ++ note ∷ []) n y × (stored c d ≡ Ok (dumped_on y (at_cut w (take x.entries (h ++ e ∷ [])))))
       old less there =
           let placed_x = placed (suc n) x.entries (ap (λ o. option_map (λ (y : Note). y.entries) o) there) in
           let within : x.entries < length h = elim placed_x [ inl z ↦ absurd (omega (arith, z.0)) | inr it ↦ it ] in
           let known = v n x c d there (sym (stands_on is_stored h (e ∷ []) x.entries within) ∙ at) left_c left_d in
           let front : take x.entries (h ++ e ∷ []) ≡ take x.entries h = take-append-le x.entries h (e ∷ []) (omega (arith, within)) in
-          (known.0, front_noted n known.0 placed (omega (arith, less)) known.1, known.2 ∙ ap (λ y. Ok (dumped_on known.0 (after w y))) (sym front))
+          (known.0, front_noted n known.0 placed (omega (arith, less)) known.1, known.2 ∙ ap (λ y. Ok (dumped_on known.0 (at_cut w y))) (sym front))

@@ -9,15 +9,17 @@ use Rattle.muck_model.specs.declared.event.Entry.{Entry}
 use Rattle.muck_model.specs.declared.event.Event.{Event}
 use Rattle.muck_model.specs.declared.event.Event.TheVariants.{Stored, DumpFailed, Cut}
 use Rattle.muck_model.specs.declared.note.Note.{Note}
+use Rattle.spec_live.specs.Consistent.{IsConsistent}
 use Rattle.muck_log.specs.Store.{Chosen, LogState, stored}
 use Rattle.spec_events.specs.World.{World}
 use Rattle.spec_events.specs.Histories.{History, after, entered, Grew}
 use Rattle.spec_events.proofs.Runs.{grew_nothing, grew_one, grew_on}
-use Rattle.spec_dumps.specs.Fronts.{persisted, is_dump, is_cut, is_stored, is_failed, stands_at, place_of_note, IsFront, Loads, Overflows, dumped_on}
+use Rattle.spec_events.specs.Logged.{is_dump, is_cut, is_stored, is_failed}
+use Rattle.spec_dumps.specs.Fronts.{persisted, stands_at, at_cut, last_cut, number_at, place_of_note, IsFront, Loads, Overflows, dumped_on}
 use Rattle.spec_dumps.specs.Survival.{AllNoted, Survives, HasCause, AllCaused, AllDeltas, IsSafe}
-use Rattle.spec_dumps.specs.Holding.{Quietly, IsUsable, Keeps, Rests}
+use Rattle.spec_dumps.specs.Holding.{Quietly, IsUsable, Keeps, Rests, IsDumped, Fails}
 use Rattle.spec_dumps.proofs.Lists.{got_on}
-use Rattle.spec_dumps.proofs.Fronts.{ArePlaced, stands_on, front_on, loads_by}
+use Rattle.spec_dumps.proofs.Fronts.{ArePlaced, stands_on, front_on, loads_by, last_cut_quiet, last_cut_short, at_cut_quiet, number_on}
 
 any_append : (es fs : List Entry) → list_any (λ (e : Entry). is_dump e.event) es ≡ false → list_any (λ (e : Entry). is_dump e.event) fs ≡ false → list_any (λ (e : Entry). is_dump e.event) (es ++ fs) ≡ false
 any_append [] fs a b = b
@@ -104,7 +106,7 @@ module _ {D : Type 0} (moment : D → ℕ) (images : D → ℕ → List ℕ → 
       record {
         cause = elim known.cause [
           | inl rose ↦ inl rose
-          | inr full ↦ inr (full.0, front_on w mounted h es notes (suc n) full.0 placed full.1, subst (λ x. Overflows full.0 (after w x)) (sym front) full.2)
+          | inr full ↦ inr (full.0, front_on w mounted h es notes (suc n) full.0 placed full.1, subst (λ x. Overflows full.0 (at_cut w x)) (sym front) full.2)
         ];
       }
 
@@ -113,7 +115,7 @@ module _ {D : Type 0} (moment : D → ℕ) (images : D → ℕ → List ℕ → 
       let less = within is_stored h es note.entries stored_dump none at in
       let known = v n note c d is (sym (stands_on is_stored h es note.entries less) ∙ at) left_c left_d in
       let front : take note.entries (h ++ es) ≡ take note.entries h = take-append-le note.entries h es (omega (arith, less)) in
-      (known.0, front_on w mounted h es notes n known.0 placed known.1, known.2 ∙ ap (λ x. Ok (dumped_on known.0 (after w x))) (sym front))
+      (known.0, front_on w mounted h es notes n known.0 placed known.1, known.2 ∙ ap (λ x. Ok (dumped_on known.0 (at_cut w x))) (sym front))
 
   pub safe_on : (h es : List Entry) → list_any (λ (e : Entry). is_dump e.event) es ≡ false → IsSafe moment images f s w mounted h notes → IsSafe moment images f s w mounted (h ++ es) notes
   safe_on h es none v = record {
@@ -156,3 +158,41 @@ module _ {D : Type 0} (seen : D → List ℕ) (moment : D → ℕ) (images : D �
   pub rests_quiet : (h k : History) → Quietly h k → Rests seen moment images faults log f s mounted h → Rests seen moment images faults log f s mounted k
   unfolding keeps_quiet
   rests_quiet h k q v = record { keeps = keeps_quiet h k q v.keeps; rests = v.rests }
+
+-- What was written, and why it wasn't, is of the last Cut.
+
+module _ (mounted : ℕ) (h k : History) (q : Quietly h k) (placed : ArePlaced h.entries h.notes) where
+  pub same_cut : at_cut k.start k.entries ≡ at_cut h.start h.entries
+  same_cut = ap (λ (w : World). at_cut w k.entries) q.grew.start ∙ ap (at_cut h.start) q.grew.entries ∙ at_cut_quiet h.start h.entries q.entries q.none
+
+  pub same_number : number_at mounted k.entries (last_cut k.entries) ≡ number_at mounted h.entries (last_cut h.entries)
+  same_number =
+      ap (λ (es : List Entry). number_at mounted es (last_cut es)) q.grew.entries
+      ∙ ap (number_at mounted (h.entries ++ q.entries)) (last_cut_quiet h.entries q.entries q.none)
+      ∙ number_on mounted h.entries q.entries (last_cut h.entries) (last_cut_short h.entries)
+
+  pub front_quiet : (n : ℕ) (x : Chosen) → IsFront h.start mounted h.entries h.notes n x → IsFront k.start mounted k.entries k.notes n x
+  front_quiet n x p =
+      subst (λ (w : World). IsFront w mounted k.entries k.notes n x) (sym q.grew.start)
+      (subst (λ (es : List Entry). IsFront h.start mounted es k.notes n x) (sym q.grew.entries)
+      (subst (λ (ns : List Note). IsFront h.start mounted (h.entries ++ q.entries) ns n x) (sym q.grew.notes)
+      (front_on h.start mounted h.entries q.entries h.notes n x placed p)))
+
+  pub dumped_quiet : (x : Chosen) → IsDumped mounted h x → IsDumped mounted k x
+  dumped_quiet x d = record {
+    last = d.last;
+    end = ap (λ (ns : List Note). length ns) q.grew.notes ∙ d.end;
+    before = d.before;
+    front = front_quiet d.last d.before d.front;
+    is = d.is ∙ ap (dumped_on d.before) (sym same_cut);
+    number = same_number ∙ d.number;
+    consistent = subst (λ (w : World). IsConsistent w.live.objects) (sym same_cut) d.consistent;
+  }
+
+  pub fails_quiet : (a b : ℕ) → Fails mounted h a b → Fails mounted k a b
+  fails_quiet a b fails n before end there =
+      let lengths : length k.notes ≡ length h.notes = ap (λ (ns : List Note). length ns) q.grew.notes in
+      elim (fails n before (end ∙ lengths) (ap (λ (ns : List Note). slice_get ns n) (sym q.grew.notes) ∙ there)) [
+        | inl rose ↦ inl rose
+        | inr full ↦ inr (full.0, front_quiet (suc n) full.0 full.1, subst (λ (w : World). Overflows full.0 w) (sym same_cut) full.2)
+      ]

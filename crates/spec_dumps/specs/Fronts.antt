@@ -1,9 +1,9 @@
 -- Fronts of a history, and the store that is the world after one.
-use Rattle.std.specs.Prelude.{◌≡◌, ℕ, zero, suc, ◌+◌, ◌<◌, ◌≤◌, ◌^◌, Bool, true, false, ◌||◌, nat_lt, if◌then◌else◌, List, [], ◌∷◌, length, take, slice_get, Option, Some, None, Result, Ok}
+use Rattle.std.specs.Prelude.{◌≡◌, ℕ, zero, suc, ◌+◌, ◌<◌, ◌≤◌, ◌^◌, Bool, true, false, nat_lt, if◌then◌else◌, List, [], ◌∷◌, length, take, slice_get, Option, Some, None, Result, Ok}
 use Rattle.std.specs.Option.{option_map, option_map_or}
 use Rattle.muck_model.specs.declared.event.Entry.{Entry}
 use Rattle.muck_model.specs.declared.event.Event.{Event}
-use Rattle.muck_model.specs.declared.event.Event.TheVariants.{Cut, Stored, DumpFailed}
+use Rattle.muck_model.specs.declared.event.Event.TheVariants.{Cut}
 use Rattle.muck_model.specs.declared.note.Note.{Note}
 use Rattle.spec_live.specs.Consistent.{IsConsistent}
 use Rattle.muck_store.specs.Forms.{persist, world_batch}
@@ -12,27 +12,11 @@ use Rattle.muck_log.specs.Store.{Chosen, Damage, LogState, target, after_batch}
 use Rattle.muck_log.specs.Append.{more_of, payload_of}
 use Rattle.spec_events.specs.World.{World}
 use Rattle.spec_events.specs.Histories.{after}
+use Rattle.spec_events.specs.Logged.{is_cut, is_stored}
 
 -- what a dump stores of a world
 abbrev pub persisted : World → Kept
 persisted w = record { objects = persist w.live.objects; tune = w.live.board.tune }
-
--- Entries of dumps.
-
-abbrev pub is_cut : Event → Bool
-is_cut (Cut k) = true
-is_cut event = false
-
-abbrev pub is_stored : Event → Bool
-is_stored (Stored k) = true
-is_stored event = false
-
-abbrev pub is_failed : Event → Bool
-is_failed (DumpFailed k) = true
-is_failed event = false
-
-abbrev pub is_dump : Event → Bool
-is_dump event = is_cut event || (is_stored event || is_failed event)
 
 -- an entry of that kind stands behind n others
 abbrev pub stands_at : (Event → Bool) → List Entry → ℕ → Bool
@@ -46,6 +30,10 @@ cut_behind (suc n) cut = suc (suc n)
 unfoldable pub last_cut : List Entry → ℕ
 last_cut [] = 0
 last_cut (e ∷ h) = cut_behind (last_cut h) (is_cut e.event)
+
+-- the world as it was behind the last Cut, or at the start where there is none
+abbrev pub at_cut : World → List Entry → World
+at_cut w h = after w (take (last_cut h) h)
 
 abbrev pub number_of_cut : Event → ℕ
 number_of_cut (Cut k) = k

@@ -1,12 +1,15 @@
 -- What whoever makes the dumps keeps of the disks, the log and the history from one dump to the next.
-use Rattle.std.specs.Prelude.{◌≡◌, ℕ, suc, ◌<◌, ◌≤◌, true, false, not, List, [], ◌++◌, length, slice_get, Option, Some, None}
+use Rattle.std.specs.Prelude.{◌≡◌, ◌⊎◌, ℕ, suc, ◌<◌, ◌≤◌, true, false, not, List, [], ◌++◌, length, slice_get, Option, Some, None}
 use Rattle.std.specs.List.{list_any}
 use Rattle.muck_model.specs.declared.event.Entry.{Entry}
 use Rattle.muck_model.specs.declared.note.Note.{Note}
-use Rattle.muck_log.specs.Store.{LogState, IsMounted}
+use Rattle.muck_io.specs.Faults.{Rose}
+use Rattle.spec_live.specs.Consistent.{IsConsistent}
+use Rattle.muck_log.specs.Store.{Chosen, LogState, IsMounted}
 use Rattle.spec_events.specs.World.{World}
 use Rattle.spec_events.specs.Histories.{History, Grew}
-use Rattle.spec_dumps.specs.Fronts.{is_dump, IsFront, file_most}
+use Rattle.spec_events.specs.Logged.{is_dump}
+use Rattle.spec_dumps.specs.Fronts.{last_cut, at_cut, number_at, IsFront, Overflows, dumped_on, file_most}
 use Rattle.spec_dumps.specs.Survival.{IsSafe}
 
 -- k is the history h and then entries that are none of a dump, without a note
@@ -43,3 +46,22 @@ pub record Keeps {D : Type 0} (seen : D → List ℕ) (moment : D → ℕ) (imag
 pub record Rests {D : Type 0} (seen : D → List ℕ) (moment : D → ℕ) (images : D → ℕ → List ℕ → Type 0) (faults : D → ℕ) (log : Option LogState) (first second : D) (mounted : ℕ) (h : History) : Type 0 where
   pub keeps : Keeps seen moment images faults log first second mounted h
   pub rests : IsAt moment first second keeps.note
+
+-- Between the Cut of a dump and its end, where other entries may stand.
+
+-- The store x is one after a front of the history with one dump more, that of the last Cut, whose number it has.
+pub record IsDumped (mounted : ℕ) (h : History) (x : Chosen) : Type 0 where
+  pub last : ℕ
+  pub end : length h.notes ≡ suc last
+  pub before : Chosen
+  pub front : IsFront h.start mounted h.entries h.notes last before
+  pub is : x ≡ dumped_on before (at_cut h.start h.entries)
+  pub number : number_at mounted h.entries (last_cut h.entries) ≡ x.held.number
+  pub consistent : IsConsistent (at_cut h.start h.entries).live.objects
+
+-- Why the dump fails whose Cut has the last note, where the disks count so many faults: one of both counts rose since the note before that
+-- one, or its batch would pass the most bytes of a file.
+abbrev pub Fails : ℕ → History → ℕ → ℕ → Type 0
+Fails mounted h first_faults second_faults = (n : ℕ) (before : Note) → suc (suc n) ≡ length h.notes → slice_get h.notes n ≡ Some before →
+    (Rose before.first_faults first_faults ⊎ Rose before.second_faults second_faults)
+    ⊎ ((x : Chosen) × IsFront h.start mounted h.entries h.notes (suc n) x × Overflows x (at_cut h.start h.entries))

@@ -7,7 +7,8 @@ use Rattle.muck_model.specs.declared.note.Note.{Note}
 use Rattle.muck_log.specs.Store.{Chosen, stored}
 use Rattle.spec_events.specs.World.{World}
 use Rattle.spec_events.specs.Histories.{after}
-use Rattle.spec_dumps.specs.Fronts.{is_dump, is_stored, is_failed, stands_at, place_of_note, IsFront, Loads, Overflows, dumped_on, persisted}
+use Rattle.spec_events.specs.Logged.{is_dump, is_stored, is_failed}
+use Rattle.spec_dumps.specs.Fronts.{stands_at, at_cut, place_of_note, IsFront, Loads, Overflows, dumped_on, persisted}
 
 -- Until when the stretch lasts that the n-th note begins: to the next note, or to now.
 abbrev pub until : (Note → ℕ) → List Note → ℕ → ℕ → ℕ
@@ -30,22 +31,23 @@ pub record Survives {D : Type 0} (moment : D → ℕ) (images : D → ℕ → Li
   pub noted : AllNoted h notes
   pub placed : (i place : ℕ) → place_of_note notes i ≡ Some place → ((i ≡ 0) × (place ≡ 0)) ⊎ (place < length h)
 
--- Why a dump failed whose end has the n-th note: the count of faults of a disk rose since the note before that of its Cut, or its batch
--- would pass the most bytes of a file.
+-- Why a dump failed whose end has the n-th note: the count of faults of a disk rose since the note before that of its Cut, or its batch,
+-- which is of the world at its Cut, would pass the most bytes of a file.
 pub record HasCause (w : World) (mounted : ℕ) (h : List Entry) (notes : List Note) (n : ℕ) (note before : Note) : Type 0 where
   pub cause : (Rose before.first_faults note.first_faults ⊎ Rose before.second_faults note.second_faults)
-      ⊎ ((s : Chosen) × IsFront w mounted h notes (suc n) s × Overflows s (after w (take note.entries h)))
+      ⊎ ((s : Chosen) × IsFront w mounted h notes (suc n) s × Overflows s (at_cut w (take note.entries h)))
 
 -- each dump that failed has its cause
 abbrev pub AllCaused : World → ℕ → List Entry → List Note → Type 0
 AllCaused w mounted h notes = (n : ℕ) (note before : Note) → slice_get notes (suc (suc n)) ≡ Some note → slice_get notes n ≡ Some before →
     stands_at is_failed h note.entries ≡ true → HasCause w mounted h notes n note before
 
--- Each dump that was stored wrote just what differed: the store before it, and the one since its end, which has the n-th note.
+-- Each dump that was stored wrote just what differed of the world at its Cut: the store before it, and the one since its end, which has the
+-- n-th note.
 abbrev pub AllDeltas : {D : Type 0} → (D → ℕ → List ℕ → Type 0) → D → D → World → ℕ → List Entry → List Note → Type 0
 AllDeltas images first second w mounted h notes = (n : ℕ) (note : Note) (c d : List ℕ) → slice_get notes (suc n) ≡ Some note → stands_at is_stored h note.entries ≡ true →
     images first note.first_moment c → images second note.second_moment d →
-    (s : Chosen) × IsFront w mounted h notes n s × (stored c d ≡ Ok (dumped_on s (after w (take note.entries h))))
+    (s : Chosen) × IsFront w mounted h notes n s × (stored c d ≡ Ok (dumped_on s (at_cut w (take note.entries h))))
 
 -- All that is kept of the disks at any moment of a run.
 pub record IsSafe {D : Type 0} (moment : D → ℕ) (images : D → ℕ → List ℕ → Type 0) (first second : D) (w : World) (mounted : ℕ) (h : List Entry) (notes : List Note) : Type 0 where

@@ -1,8 +1,9 @@
 -- Whole histories.
-use Rattle.std.specs.Prelude.{◌≡◌, true, List, [], ◌∷◌, ◌++◌}
+use Rattle.std.specs.Prelude.{◌≡◌, ℕ, true, List, [], ◌∷◌, ◌++◌, length, Option, Some}
 use Rattle.muck_model.specs.declared.event.Entry.{Entry}
 use Rattle.muck_model.specs.declared.event.Event.{Event}
 use Rattle.muck_model.specs.declared.note.Note.{Note}
+use Rattle.spec_events.specs.declared.logged.Count.{Count}
 use Rattle.spec_events.specs.World.{World}
 use Rattle.spec_events.specs.Steps.{Step, is_lawful, effect}
 use Rattle.spec_events.specs.Licences.{EventLicensed}
@@ -27,11 +28,13 @@ abbrev pub AllLicensed : World → List Entry → Type 0
 AllLicensed w [] = Unit {0}
 AllLicensed w (entry ∷ entries) = EventLicensed entry.event w (effect w entry) × AllLicensed (effect w entry) entries
 
--- a history: how the world began, what happened since, and the notes of the disks that stand between
+-- A history: how the world began, what happened since, the notes of the disks that stand between, and the note of the links: how
+-- many entries stand before it, and its counts.
 pub record History : Type 0 where
   pub start : World
   pub entries : List Entry
   pub notes : List Note
+  pub counted : Option (ℕ × List Count)
 
 -- the world as it is now
 unfoldable pub now : History → World
@@ -44,6 +47,10 @@ entered h entry = record h { entries = h.entries ++ entry ∷ [] }
 -- and then this note
 abbrev pub noted : History → Note → History
 noted h note = record h { notes = h.notes ++ note ∷ [] }
+
+-- and then the note of the links
+abbrev pub links_noted : History → List Count → History
+links_noted h counts = record h { counted = Some (length h.entries, counts) }
 
 -- k is the history h, and then these entries
 pub record Longer (h k : History) (es : List Entry) : Type 0 where

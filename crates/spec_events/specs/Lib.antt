@@ -10,6 +10,8 @@ pub mod Steps
 pub mod Endings
 pub mod Licences
 pub mod Histories
+pub mod Logged
+pub mod Own
 pub mod Sound
 pub mod Passwords
 pub mod Rows

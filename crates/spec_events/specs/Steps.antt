@@ -4,7 +4,7 @@ use Rattle.std.specs.Option.{option_map, option_map_or}
 use Rattle.std.specs.List.{list_any}
 use Rattle.muck_model.specs.declared.event.Entry.{Entry}
 use Rattle.muck_model.specs.declared.event.Event.{Event}
-use Rattle.muck_model.specs.declared.event.Event.TheVariants.{Opened, Input, Closed, Moment, Exec, Claim, Slice, Lost, Idle, Take, Cut, Stored, DumpFailed, Halt, Died}
+use Rattle.muck_model.specs.declared.event.Event.TheVariants.{Opened, Input, Closed, Moment, Exec, Claim, Slice, Lost, Idle, Take, Cut, Stored, DumpFailed, Halt, StopSeen, Died}
 use Rattle.spec_live.specs.Connections.{Connection, is_ready, connections_most, takes_line, holds}
 use Rattle.spec_live.specs.Boards.{opened, line_added, bytes_taken}
 use Rattle.spec_live.specs.Lives.{on_board}
@@ -63,7 +63,8 @@ abbrev pub may_cut : World → ℕ → Bool
 may_cut w party = makes_dumps party && is_none w.dumps.running && (party == 0 || is_dump_due w)
 
 -- Lawful in a world that isn't dead. Connections and what runs over them are the first party's alone, and so is the end of
--- the run; lines and processes are any party's. Events that nothing uses yet are lawful nowhere.
+-- the run; lines and processes are any party's, and any may see that the world is stopping. Events that nothing uses yet are
+-- lawful nowhere.
 abbrev pub is_allowed : World → ℕ → Event → Bool
 is_allowed w party (Opened d) = party == 0 && is_none (connection d w) && nat_lt (length w.live.board.connections) connections_most && not w.stopping
 is_allowed w party (Input d line) = party == 0 && passes takes_line d w && not w.stopping
@@ -79,6 +80,7 @@ is_allowed w party (Cut k) = may_cut w party
 is_allowed w party (Stored k) = makes_dumps party && runs_dump k w.dumps
 is_allowed w party (DumpFailed k) = makes_dumps party && runs_dump k w.dumps
 is_allowed w party Halt = party == 0
+is_allowed w party StopSeen = w.stopping
 is_allowed w party Died = true
 is_allowed w party event = false
 

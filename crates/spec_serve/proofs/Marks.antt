@@ -4,7 +4,8 @@ use Rattle.std.specs.Prelude.{◌==◌, if◌then◌else◌}
 use Rattle.std.specs.Option.{option_map}
 use Rattle.muck_links.specs.Keyed.{latest}
 use Rattle.muck_links.specs.Sessions.{Session, number_of, first_count}
-use Rattle.spec_serve.specs.Marks.{count_of, counts, noted}
+use Rattle.spec_talks.specs.Counts.{count_of, counts}
+use Rattle.spec_serve.specs.Marks.{noted}
 use Rattle.spec_serve.specs.inner.Keeping.{Passed}
 
 -- what is marked has a mark

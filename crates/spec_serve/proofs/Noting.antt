@@ -6,7 +6,9 @@ use Rattle.muck_links.specs.Keyed.{latest}
 use Rattle.muck_links.specs.Sessions.{Session, number_of, accepted}
 use Rattle.spec_events.specs.World.{World}
 use Rattle.spec_talks.specs.Talks.{Talk}
-use Rattle.spec_serve.specs.Marks.{Count, counts, noted}
+use Rattle.spec_events.specs.declared.logged.Count.{Count}
+use Rattle.spec_talks.specs.Counts.{counts}
+use Rattle.spec_serve.specs.Marks.{noted}
 use Rattle.spec_serve.specs.Accounts.{WorkedOff, Cause, ClosedWell, Agrees}
 use Rattle.spec_serve.specs.Promises.{Tally}
 use Rattle.spec_serve.specs.inner.Keeping.{Passed, Keeps, Peer}

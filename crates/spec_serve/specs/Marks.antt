@@ -1,20 +1,9 @@
 -- Counts of refused writes that are remembered: the one at the end of a link, and those in the note of the links.
-use Rattle.std.specs.Prelude.{ℕ, List, map, Option}
+use Rattle.std.specs.Prelude.{ℕ, List, Option}
 use Rattle.std.specs.Option.{option_map, option_and_then}
 use Rattle.muck_links.specs.Keyed.{latest}
-use Rattle.muck_links.specs.Sessions.{Session}
-
--- how many writes a link had refused
-pub record Count : Type 0 where
-  pub number : ℕ
-  pub refused : ℕ
-
-abbrev pub count_of : Count → ℕ
-count_of c = c.number
-
--- the count of each acceptance, the latest first
-abbrev pub counts : List Session → List Count
-counts ss = map (λ s. record { number = s.number; refused = s.refused }) ss
+use Rattle.spec_events.specs.declared.logged.Count.{Count}
+use Rattle.spec_talks.specs.Counts.{count_of}
 
 -- The note of the links: the counts as it was made, once it is. It is made before the porter's first entry on a stopping world.
 abbrev pub LinksNote : Type 0

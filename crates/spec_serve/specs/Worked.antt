@@ -4,7 +4,8 @@ use Rattle.std.specs.Prelude.{◌≡◌, ℕ, ◌+◌, ◌≤◌, List, [], ◌�
 use Rattle.muck_links.specs.Lines.{lines, line_most}
 use Rattle.muck_links.specs.Sessions.{Session, accepted}
 use Rattle.spec_talks.specs.Talks.{Talk, begun}
-use Rattle.spec_serve.specs.Marks.{counts, noted}
+use Rattle.spec_talks.specs.Counts.{counts}
+use Rattle.spec_serve.specs.Marks.{noted}
 use Rattle.spec_serve.specs.Accounts.{Agrees}
 
 -- two lines and a half were read and the first one was entered; ten bytes were taken, the last six at once, and seven written

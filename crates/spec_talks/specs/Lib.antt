@@ -1,3 +1,4 @@
+pub mod Counts
 pub mod Parties
 pub mod Talks
 pub mod Worked

@@ -57,8 +57,8 @@ impl State {
         self.queue.next_due(self.moment).is_some() && !self.stopping
     }
 
-    // Whether a dump is asked, or so many seconds passed since the last one began that another is due.
-    fn is_dump_due(&self) -> bool
+    /// Whether a dump is asked, or so many seconds passed since the last one began that another is due.
+    pub fn is_dump_due(&self) -> bool
         ensures { result ≡ is_dump_due self.now }
     {
         let interval = self.board.tune().dump_interval;

@@ -4,7 +4,7 @@ use Rattle.spec_events.specs.Steps.{is_allowed}
 use Rattle.muck_turns.specs.contracts.state.State as state
 use Rattle.muck_machine.proofs.Keepings.{unlawful_dead, lawful_as}
 use Rattle.muck_machine.proofs.Coming.{no_line_comes, a_line_comes, nobody_is_there}
-use Rattle.muck_machine.proofs.world.World.may_take_line.Goals as goal
+use Rattle.muck_machine.proofs.world.World.may_hear.Goals as goal
 
 pub returns-then-self : goal.returns-then-self
 returns-then-self c = λ line. unlawful_dead c.self.inside.past _ _ _ c.self.invariant c.self.view_is c.if-self.true refl

@@ -1,0 +1,91 @@
+-- A dump begins, and is pending until it is written.
+use Rattle.std.proofs.Common.{◌≡◌, ◌⊎◌, inl, inr, ℕ, suc, ◌<◌, ◌≤◌, true, false, List, [], ◌∷◌, ◌++◌, length, refl, sym, ap, ◌∙◌, subst, arith, Option, Some, None}
+use Rattle.std.specs.Prelude.{slice_get}
+use Rattle.muck_model.specs.declared.event.Event.TheVariants.{Cut, Died}
+use Rattle.muck_model.specs.declared.note.Note.{Note}
+use Rattle.spec_live.specs.Lives.{Live}
+use Rattle.muck_log.specs.File.{after_number}
+use Rattle.muck_log.specs.Store.{LogState, IsMounted}
+use Rattle.spec_events.specs.World.{World}
+use Rattle.spec_events.specs.Histories.{History, now, entered, noted}
+use Rattle.spec_dumps.specs.Fronts.{at_cut, last_cut, number_at}
+use Rattle.spec_dumps.specs.Survival.{IsSafe}
+use Rattle.spec_dumps.specs.Holding.{IsCounted, Quietly, Keeps, Rests, Fails}
+use Rattle.spec_dumps.proofs.Lists.{got_on, got_last, length_last}
+use Rattle.spec_dumps.proofs.Quiet.{quiet_one, safe_quiet, keeps_quiet, rests_quiet, same_cut, same_number, fails_quiet}
+use Rattle.spec_dumps.proofs.Cutting.{rests_on, cut_noted, number_end}
+use Rattle.muck_dumping.specs.declared.parts.Pending.{Pending}
+use Rattle.muck_dumping.specs.inner.Dumps.{note_of, by, HasRisen}
+use Rattle.muck_dumping.specs.inner.Between.{IsReady, IsBatchOf, IsBatchOfWorld, base_in, IsPending}
+use Rattle.muck_dumping.proofs.Steps.{cut_live}
+
+same_note : (x y : Note) → Some x ≡ Some y → x ≡ y
+same_note x y e = cc
+
+module _ {D : Type 0} (seen : D → List ℕ) (moment : D → ℕ) (images : D → ℕ → List ℕ → Type 0) (faults : D → ℕ) (log : Option LogState) (f s : D) (mounted : ℕ) where
+  -- Memory was wanted, behind a note or without one.
+
+  pub died_noted : (h k : History) (party : ℕ) → Keeps seen moment images faults log f s mounted h → k ≡ entered (noted h (note_of moment faults f s h)) (by party Died) → IsSafe moment images f s k.start mounted k.entries k.notes
+  died_noted h k party v is =
+      (rests_on seen moment images faults log f s mounted h (note_of moment faults f s h) (by party Died) k is v (refl, refl) (omega arith, omega arith) refl refl (λ n before there got fails. cc)).keeps.safe
+
+  pub died_here : (h k : History) (party : ℕ) → Keeps seen moment images faults log f s mounted h → k ≡ entered h (by party Died) → IsSafe moment images f s k.start mounted k.entries k.notes
+  died_here h k party v is = safe_quiet moment images f s mounted h k (quiet_one h k (by party Died) refl is) v.safe
+
+  pub mounted_there : (h : History) → Keeps seen moment images faults log f s mounted h → (x : LogState) → log ≡ Some x → IsMounted seen moment images x f s
+  mounted_there h v x is = (subst (λ (l : Option LogState). Keeps seen moment images faults l f s mounted h) is v).usable.0
+
+  -- It begins.
+  module _ (h : History) (party n : ℕ) (p : Pending) (ready : IsReady seen moment images faults log f s mounted h) (batch : IsBatchOfWorld (base_in log) (now h) p)
+      (number : (x : LogState) → log ≡ Some x → n ≡ after_number x.chosen.held.number) where
+    abbrev note : Note
+    note = note_of moment faults f s h
+
+    abbrev begun : History
+    begun = entered (noted h note) (by party (Cut n))
+
+    -- the note before that of the Cut was the last one
+    before_is : (i : ℕ) (before : Note) → suc (suc i) ≡ length begun.notes → slice_get begun.notes i ≡ Some before → (slice_get h.notes i ≡ Some before) × (length h.notes ≡ suc i)
+    before_is i before end there =
+        let last : length h.notes ≡ suc i = omega (arith, end, length_last h.notes note) in
+        (sym (got_on h.notes (note ∷ []) i (omega (arith, last))) ∙ there, last)
+
+    counts : (i : ℕ) (before : Note) → suc (suc i) ≡ length begun.notes → slice_get begun.notes i ≡ Some before → IsCounted faults f s before
+    counts i before end there =
+        let it = before_is i before end there in
+        let at : i ≡ ready.keeps.last = omega (arith, it.1, ready.keeps.end) in
+        subst (λ (x : Note). IsCounted faults f s x) (same_note ready.keeps.note before (sym ready.keeps.is ∙ ap (slice_get h.notes) (sym at) ∙ it.0)) ready.keeps.counted
+
+    pub pending_begun : IsPending seen moment images faults log f s mounted begun p
+    pending_begun = record {
+      rests = cut_noted seen moment images faults log f s mounted h begun note party n ready.keeps refl refl (refl, refl) (omega arith, omega arith);
+      number = λ x is. number_end mounted h.entries party n ∙ number x is;
+      batch = subst (λ (l : Live). IsBatchOf (base_in log) l.objects l.board.tune p) (sym (cut_live h begun note party n refl)) batch;
+      counted = counts;
+      fails = λ is i before end there. let it = before_is i before end there in inl (ready.risen is i before it.0 it.1);
+    }
+
+    pub pending_as : (k : History) → k ≡ begun → IsPending seen moment images faults log f s mounted k p
+    pending_as k is = subst (λ (x : History). IsPending seen moment images faults log f s mounted x p) (sym is) pending_begun
+
+  -- It stays so while others go on.
+  module _ (h k : History) (q : Quietly h k) where
+    notes_on : length k.notes ≡ length h.notes
+    notes_on = ap (λ (ns : List Note). length ns) q.grew.notes
+
+    pub risen_quiet : HasRisen faults f s h → HasRisen faults f s k
+    risen_quiet rose n note is end = rose n note (ap (λ (ns : List Note). slice_get ns n) (sym q.grew.notes) ∙ is) (sym notes_on ∙ end)
+
+    pub ready_quiet : IsReady seen moment images faults log f s mounted h → IsReady seen moment images faults log f s mounted k
+    ready_quiet v = record { keeps = keeps_quiet seen moment images faults log f s mounted h k q v.keeps; risen = λ is. risen_quiet (v.risen is) }
+
+    pub pending_quiet : (p : Pending) → IsPending seen moment images faults log f s mounted h p → IsPending seen moment images faults log f s mounted k p
+    pending_quiet p v =
+        let placed = v.rests.keeps.safe.survives.placed in
+        record {
+          rests = rests_quiet seen moment images faults log f s mounted h k q v.rests;
+          number = λ x is. same_number mounted h k q placed ∙ v.number x is;
+          batch = subst (λ (w : World). IsBatchOfWorld (base_in log) w p) (sym (same_cut mounted h k q placed)) v.batch;
+          counted = λ n before end there. v.counted n before (end ∙ notes_on) (ap (λ (ns : List Note). slice_get ns n) (sym q.grew.notes) ∙ there);
+          fails = λ is. fails_quiet mounted h k q placed (faults f) (faults s) (v.fails is);
+        }

@@ -1,0 +1,103 @@
+-- The batch of a dump that is pending is written, or it can't be.
+use Rattle.std.proofs.Common.{◌≡◌, ◌⊎◌, inl, inr, ℕ, suc, ◌+◌, ◌<◌, ◌≤◌, true, false, List, [], ◌∷◌, ◌++◌, length, refl, sym, ap, ◌∙◌, subst, arith, Option, Some, None, Result, Ok, Err}
+use Rattle.std.specs.Prelude.{slice_get}
+use Rattle.muck_io.specs.Faults.{Rose}
+use Rattle.muck_model.specs.declared.note.Note.{Note}
+use Rattle.muck_log.specs.World.{World as Kept, laid}
+use Rattle.muck_log.specs.Store.{Chosen, LogState, LeavesBoth, target, after_batch}
+use Rattle.muck_log.specs.Append.{LoadsEither, more_of, payload_of}
+use Rattle.muck_log.specs.declared.fault.LogFault.{LogFault}
+use Rattle.muck_log.specs.declared.fault.LogFault.TheVariants.{NoMemory, DiskFault, Damaged, StoreFull, Unfit, Stale}
+use Rattle.muck_store.specs.Forms.{world_batch}
+use Rattle.spec_events.specs.World.{World}
+use Rattle.spec_events.specs.Histories.{History}
+use Rattle.spec_dumps.specs.Fronts.{at_cut, dumped_on, dump_payload, log_of, file_most, persisted}
+use Rattle.spec_dumps.specs.Holding.{Quietly, Keeps, Fails}
+use Rattle.spec_dumps.proofs.Quiet.{keeps_quiet, same_cut, front_quiet, dumped_quiet, fails_quiet}
+use Rattle.spec_dumps.proofs.Storing.{append_moves, dumped_it}
+use Rattle.muck_dumping.specs.declared.parts.Pending.{Pending}
+use Rattle.muck_dumping.specs.inner.Dumps.{Appended}
+use Rattle.muck_dumping.specs.inner.Between.{IsPending, IsLeft, IsWritten, IsFullAtCut}
+use Rattle.muck_dumping.proofs.Kept.{payload_is, more_is, dumped_is}
+
+same_kept : (x y : Kept) → Some x ≡ Some y → x ≡ y
+same_kept x y e = cc
+
+module _ {D : Type 0} (seen : D → List ℕ) (moment : D → ℕ) (images : D → ℕ → List ℕ → Type 0) (faults : D → ℕ) (mounted : ℕ) (h : History) (p : Pending) where
+  module _ (log : LogState) (f s f' s' : D) (v : IsPending seen moment images faults (Some log) f s mounted h p) (left : Option LogState) (r : Result (Unit {0}) LogFault)
+      (a : Appended seen moment images (payload_of log (world_batch (at_cut h.start h.entries).live.objects (at_cut h.start h.entries).live.board.tune)) (persisted (at_cut h.start h.entries)) log left f s f' s' r)
+      (first_later : faults f ≤ faults f') (second_later : faults s ≤ faults s') (cause : r ≡ Err DiskFault → Rose (faults f) (faults f') ⊎ Rose (faults s) (faults s')) where
+    abbrev world : World
+    world = at_cut h.start h.entries
+
+    abbrev payload : List ℕ
+    payload = payload_of log (world_batch world.live.objects world.live.board.tune)
+
+    keeps : Keeps seen moment images faults None f' s' mounted h
+    keeps =
+        append_moves seen moment images faults f s mounted h log v.rests v.batch.consistent (v.number log refl) f' s'
+        (subst (λ (x : Chosen). LeavesBoth moment images f s f' s' (LoadsEither log.chosen x)) (dumped_is log world) a.any) first_later second_later
+
+    rose_since : Rose (faults f) (faults f') ⊎ Rose (faults s) (faults s') → Fails mounted h (faults f') (faults s')
+    rose_since rose n before end there =
+        let count = v.counted n before end there in
+        inl (elim rose [ inl x ↦ inl (omega (arith, x, count.0)) | inr x ↦ inr (omega (arith, x, count.1)) ])
+
+    left_as : (x : Result (Unit {0}) LogFault) → r ≡ x → Appended seen moment images payload (persisted world) log left f s f' s' x → IsLeft seen moment images faults left f' s' mounted h x
+    left_as (Ok x) is b =
+        let next = b.answer.0 in
+        let made = same_kept next.chosen.held.world (persisted world) (sym b.answer.2.makes ∙ b.answer.4) in (
+          next,
+          b.answer.1,
+          b.answer.3,
+          b.answer.2.limit ∙ v.rests.keeps.usable.1,
+          dumped_it seen moment images faults f s mounted h log v.rests v.batch.consistent (v.number log refl) next.chosen (b.answer.2.chosen ∙ ap (after_batch log.chosen payload) made ∙ dumped_is log world),
+        )
+    left_as (Err NoMemory) is b = b.answer
+    left_as (Err Unfit) is b = b.answer
+    left_as (Err DiskFault) is b = (b.answer, rose_since (cause is))
+    left_as (Err (StoreFull end more)) is b = (
+      b.answer.0,
+      v.rests.keeps.last,
+      log.chosen,
+      v.rests.keeps.end,
+      v.rests.keeps.usable.2,
+      b.answer.1,
+      b.answer.2 ∙ more_is log payload ∙ ap (more_of (log_of log.chosen)) (payload_is log world),
+      subst (λ i. i < end + more) v.rests.keeps.usable.1 b.answer.3,
+    )
+    left_as (Err (Damaged on place)) is b = absurd b.answer
+    left_as (Err Stale) is b = absurd b.answer
+
+    pub written : IsWritten seen moment images faults left f' s' mounted h r
+    written = record { keeps = keeps; left = left_as r refl a }
+
+  -- a log that is mounted isn't stale
+  pub answers_fresh : (log : LogState) (f s f' s' : D) (left : Option LogState) (made : Kept) (bytes : List ℕ) → Appended seen moment images bytes made log left f s f' s' (Err Stale) → ⊥
+  answers_fresh log f s f' s' left made bytes a = a.answer
+
+  -- where none is mounted
+  pub unwritten : (f s : D) → IsPending seen moment images faults None f s mounted h p → IsWritten seen moment images faults None f s mounted h (Err Stale)
+  unwritten f s v = record { keeps = v.rests.keeps; left = (refl, v.fails refl) }
+
+-- It stays so while others go on.
+module _ {D : Type 0} (seen : D → List ℕ) (moment : D → ℕ) (images : D → ℕ → List ℕ → Type 0) (faults : D → ℕ) (log : Option LogState) (f s : D) (mounted : ℕ) (h k : History) (q : Quietly h k) where
+  pub written_quiet : (r : Result (Unit {0}) LogFault) → IsWritten seen moment images faults log f s mounted h r → IsWritten seen moment images faults log f s mounted k r
+  written_quiet r v = record { keeps = keeps_quiet seen moment images faults None f s mounted h k q v.keeps; left = at r v.left } where
+    at : (x : Result (Unit {0}) LogFault) → IsLeft seen moment images faults log f s mounted h x → IsLeft seen moment images faults log f s mounted k x
+    at (Ok x) l = (l.0, l.1, l.2, l.3, dumped_quiet mounted h k q v.keeps.safe.survives.placed l.0.chosen l.4)
+    at (Err NoMemory) l = l
+    at (Err Unfit) l = l
+    at (Err DiskFault) l = (l.0, fails_quiet mounted h k q v.keeps.safe.survives.placed (faults f) (faults s) l.1)
+    at (Err Stale) l = (l.0, fails_quiet mounted h k q v.keeps.safe.survives.placed (faults f) (faults s) l.1)
+    at (Err (StoreFull end more)) l = (
+      l.0,
+      l.1.0,
+      l.1.1,
+      ap (λ (ns : List Note). length ns) q.grew.notes ∙ l.1.2,
+      front_quiet mounted h k q v.keeps.safe.survives.placed l.1.0 l.1.1 l.1.3,
+      l.1.4,
+      l.1.5 ∙ ap (λ (w : World). more_of (log_of l.1.1) (dump_payload l.1.1 w)) (sym (same_cut mounted h k q v.keeps.safe.survives.placed)),
+      l.1.6,
+    )
+    at (Err (Damaged on place)) l = l

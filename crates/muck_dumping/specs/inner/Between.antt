@@ -1,0 +1,83 @@
+-- What is kept between the parts of a dump. Each of it stays where the history goes on with entries that are none of a dump.
+use Rattle.std.specs.Prelude.{◌≡◌, ℕ, suc, ◌+◌, ◌<◌, ◌≤◌, List, [], length, slice_get, Option, Some, None, Result, Ok, Err, Bool, true, false}
+use Rattle.std.specs.Option.{option_map_or}
+use Rattle.muck_model.specs.declared.note.Note.{Note}
+use Rattle.muck_model.specs.declared.tune.Tune.{Tune}
+use Rattle.muck_codec.specs.declared.stored.Stored.{Stored}
+use Rattle.muck_db.specs.inner.Limits.{IsWithinLimits}
+use Rattle.spec_admin.specs.Parameters.{IsInRange}
+use Rattle.spec_live.specs.Objects.{Entry as Object}
+use Rattle.spec_live.specs.Consistent.{IsConsistent}
+use Rattle.muck_store.specs.Changes.{LeavesOut}
+use Rattle.muck_store.specs.Forms.{persist}
+use Rattle.muck_log.specs.File.{after_number}
+use Rattle.muck_log.specs.Store.{Chosen, LogState, IsMounted, target}
+use Rattle.muck_log.specs.Append.{base_of, more_of}
+use Rattle.muck_log.specs.declared.fault.LogFault.{LogFault}
+use Rattle.muck_log.specs.declared.fault.LogFault.TheVariants.{NoMemory, DiskFault, Damaged, StoreFull, Unfit, Stale}
+use Rattle.spec_events.specs.World.{World}
+use Rattle.spec_events.specs.Histories.{History}
+use Rattle.spec_dumps.specs.Fronts.{IsFront, at_cut, last_cut, number_at, dump_payload, log_of, file_most}
+use Rattle.spec_dumps.specs.Holding.{IsCounted, Keeps, Rests, IsDumped, Fails}
+use Rattle.muck_dumping.specs.declared.parts.Pending.{Pending}
+use Rattle.muck_dumping.specs.inner.Dumps.{HasRisen}
+
+-- From one dump to the next: where no log is mounted, a count of faults rose since the last note, for which it couldn't be.
+pub record IsReady {D : Type 0} (seen : D → List ℕ) (moment : D → ℕ) (images : D → ℕ → List ℕ → Type 0) (faults : D → ℕ) (log : Option LogState) (first second : D) (mounted : ℕ) (h : History) : Type 0 where
+  pub keeps : Keeps seen moment images faults log first second mounted h
+  pub risen : log ≡ None → HasRisen faults first second h
+
+-- what the batch of a dump may leave out
+abbrev pub base_in : Option LogState → List Stored
+base_in log = option_map_or base_of log []
+
+-- the batch is that of a world of these objects and parameters, which can be stored
+pub record IsBatchOf (base : List Stored) (objects : List Object) (tune : Tune) (p : Pending) : Type 0 where
+  pub records : LeavesOut base (persist objects) p.batch.records
+  pub tune : p.batch.tune ≡ tune
+  pub size : p.size ≡ length objects
+  pub consistent : IsConsistent objects
+  pub limits : IsWithinLimits objects
+  pub tuned : IsInRange tune
+
+-- the same of a world
+abbrev pub IsBatchOfWorld : List Stored → World → Pending → Type 0
+IsBatchOfWorld base w p = IsBatchOf base w.live.objects w.live.board.tune p
+
+-- A dump is pending: its Cut is the last one, with the last note; the disks are as they stood then; and its batch is that of the world at
+-- its Cut. Where no log is mounted it is to fail.
+pub record IsPending {D : Type 0} (seen : D → List ℕ) (moment : D → ℕ) (images : D → ℕ → List ℕ → Type 0) (faults : D → ℕ) (log : Option LogState) (first second : D) (mounted : ℕ) (h : History) (p : Pending) : Type 0 where
+  pub rests : Rests seen moment images faults log first second mounted h
+  pub number : (x : LogState) → log ≡ Some x → number_at mounted h.entries (last_cut h.entries) ≡ after_number x.chosen.held.number
+  pub batch : IsBatchOfWorld (base_in log) (at_cut h.start h.entries) p
+  pub counted : (n : ℕ) (before : Note) → suc (suc n) ≡ length h.notes → slice_get h.notes n ≡ Some before → IsCounted faults first second before
+  pub fails : log ≡ None → Fails mounted h (faults first) (faults second)
+
+-- the batch of the world at the last Cut is too large for its file, on the store after a front of the history
+abbrev pub IsFullAtCut : ℕ → History → ℕ → ℕ → Type 0
+IsFullAtCut mounted h end more = (n : ℕ) × (store : Chosen) × (length h.notes ≡ suc n) × IsFront h.start mounted h.entries h.notes n store
+    × (end ≡ (target store).place) × (more ≡ more_of (log_of store) (dump_payload store (at_cut h.start h.entries))) × (file_most < end + more)
+
+-- what is left of the log, by what it answered to the batch
+abbrev pub IsLeft : {D : Type 0} → (D → List ℕ) → (D → ℕ) → (D → ℕ → List ℕ → Type 0) → (D → ℕ) → Option LogState → D → D → ℕ → History → Result (Unit {0}) LogFault → Type 0
+IsLeft seen moment images faults log first second mounted h (Ok x) =
+    (next : LogState) × (log ≡ Some next) × IsMounted seen moment images next first second × (next.most ≡ file_most) × IsDumped mounted h next.chosen
+IsLeft seen moment images faults log first second mounted h (Err NoMemory) = log ≡ None
+IsLeft seen moment images faults log first second mounted h (Err Unfit) = log ≡ None
+IsLeft seen moment images faults log first second mounted h (Err DiskFault) = (log ≡ None) × Fails mounted h (faults first) (faults second)
+IsLeft seen moment images faults log first second mounted h (Err Stale) = (log ≡ None) × Fails mounted h (faults first) (faults second)
+IsLeft seen moment images faults log first second mounted h (Err (StoreFull end more)) = (log ≡ None) × IsFullAtCut mounted h end more
+IsLeft seen moment images faults log first second mounted h (Err (Damaged on place)) = ⊥
+
+-- The batch of the dump whose Cut is the last one was handed to the log: what is kept of the disks, whatever came of it.
+pub record IsWritten {D : Type 0} (seen : D → List ℕ) (moment : D → ℕ) (images : D → ℕ → List ℕ → Type 0) (faults : D → ℕ) (log : Option LogState) (first second : D) (mounted : ℕ) (h : History) (r : Result (Unit {0}) LogFault) : Type 0 where
+  pub keeps : Keeps seen moment images faults None first second mounted h
+  pub left : IsLeft seen moment images faults log first second mounted h r
+
+-- this is how the dump has to end
+abbrev pub EndsAs : Result (Unit {0}) LogFault → Bool → Type 0
+EndsAs (Ok x) true = Unit {0}
+EndsAs (Err DiskFault) false = Unit {0}
+EndsAs (Err Stale) false = Unit {0}
+EndsAs (Err (StoreFull end more)) false = Unit {0}
+EndsAs r done = ⊥

@@ -1,0 +1,116 @@
+// The three parts of a dump.
+ghost use Rattle.std.specs.Prelude.{◌≡◌, ◌⊎◌, ◌≤◌, ℕ, true, false, List, Option, Some, None, IfOk, OnOk, OnErr, IsErrOf, IsSome, Result};
+ghost use Rattle.muck_io.specs.Faults.{Rose};
+ghost use Rattle.muck_log.specs.File.{after_number};
+ghost use Rattle.muck_log.specs.Store.{LogState, IsMounted};
+ghost use Rattle.muck_log.specs.declared.fault.LogFault.{LogFault as Fault};
+ghost use Rattle.muck_model.specs.declared.event.Event.TheVariants.{Cut, Died};
+ghost use Rattle.muck_model.specs.declared.tune.Tune.{Tune};
+ghost use Rattle.spec_live.specs.Objects.{Entry as Object};
+ghost use Rattle.spec_dumps.specs.Fronts.{at_cut, persisted};
+ghost use Rattle.spec_dumps.specs.Holding.{Keeps, Rests};
+ghost use Rattle.spec_dumps.specs.Survival.{IsSafe, StandsWhole};
+ghost use Rattle.spec_events.specs.World.{runs_dump};
+ghost use Rattle.spec_events.specs.Steps.{makes_dumps, may_cut};
+ghost use Rattle.spec_events.specs.Histories.{History, now, after, entered, noted};
+ghost use Rattle.muck_dumping.specs.inner.Dumps.{note_of, by, ending_event};
+ghost use Rattle.muck_dumping.specs.inner.Between.{IsReady, IsBatchOf, IsBatchOfWorld, base_in, IsPending, IsWritten, EndsAs};
+
+use crate::store::Store;
+use muck_codec::Batch;
+use muck_disk::Disk;
+use muck_log::LogFault;
+use muck_machine::World;
+use muck_model::NoMemory;
+
+/// A dump that began: its number, and what the log is handed.
+#[derive(Drop)]
+pub struct Pending {
+    pub number: u64,
+    // One above the highest number of an object, and what of them differs from what is kept.
+    pub size: u32,
+    pub batch: Batch,
+}
+
+/// A dump begins in the world: a note, and its Cut. The world may go on then, and its batch is to be written, where a log is mounted. It copies what
+/// differs from what the log keeps, all where none is mounted. After `NoMemory` the world is dead.
+pub fn begin<D: Disk>(
+    world: &mut World,
+    party: u8,
+    store: &Store,
+    first: &D,
+    second: &D,
+) -> Result<Pending, NoMemory>
+    requires alive { (now world.old).dead ≡ false }
+    requires may { may_cut (now world.old) party ≡ true }
+    ensures step { IfOk result (λ p. world.new ≡ entered (noted world.old (note_of D.moment D.faults first.now second.now world.old)) (by party (Cut p.number))) }
+    ensures died { OnErr result (world.new ≡ entered (noted world.old (note_of D.moment D.faults first.now second.now world.old)) (by party Died)) }
+    ensures batch { IfOk result (λ p. IsBatchOfWorld (base_in store.now.log) (now world.old) p) }
+
+    // Then a dump of the world at its Cut is pending.
+    ensures pending { (mounted : ℕ) → D.tells ≡ true → IsReady D.seen D.moment D.images D.faults store.now.log first.now second.now mounted world.old
+        → IfOk result (λ p. IsPending D.seen D.moment D.images D.faults store.now.log first.now second.now mounted world.new p) }
+    ensures safe { (mounted : ℕ) → D.tells ≡ true → Keeps D.seen D.moment D.images D.faults store.now.log first.now second.now mounted world.old
+        → OnErr result (IsSafe D.moment D.images first.now second.now world.new.start mounted world.new.entries world.new.notes) }
+{
+    let number = store.next();
+    let size = world.size();
+    world.note(first, second);
+    let batch = world.cut(party, number, store.base())?;
+    Ok(Pending {
+        number,
+        size,
+        batch,
+    })
+}
+
+/// Its batch is written, without the world. Where that fails the log has to be mounted again; `Stale` says that it had to be before, and then
+/// nothing was done.
+pub fn write<D: Disk>(
+    store: &mut Store,
+    first: &mut D,
+    second: &mut D,
+    pending: &Pending,
+) -> Result<(), LogFault>
+    requires batch { (objects : List Object) × (tune : Tune) × IsBatchOf (base_in store.old.log) objects tune pending.now }
+    requires mounted { (log : LogState) → D.tells ≡ true → store.old.log ≡ Some log → IsMounted D.seen D.moment D.images log first.old second.old }
+    ensures some { OnOk result (IsSome store.new.log) }
+    ensures none { OnErr result (store.new.log ≡ None) }
+    ensures written { (mounted : ℕ) (h : History) → D.tells ≡ true → IsPending D.seen D.moment D.images D.faults store.old.log first.old second.old mounted h pending.now
+        → IsWritten D.seen D.moment D.images D.faults store.new.log first.new second.new mounted h result }
+    ensures first_later { D.faults first.old ≤ D.faults first.new }
+    ensures second_later { D.faults second.old ≤ D.faults second.new }
+    ensures cause { IsErrOf result LogFault.DiskFault → Rose (D.faults first.old) (D.faults first.new) ⊎ Rose (D.faults second.old) (D.faults second.new) }
+{
+    store.append(first, second, pending.size, &pending.batch)
+}
+
+/// The dump of this number ends in the world: a note, and that it is stored, or that it failed. Who asked for it is told. After `NoMemory` the world
+/// is dead.
+pub fn end<D: Disk>(
+    world: &mut World,
+    party: u8,
+    first: &D,
+    second: &D,
+    number: u64,
+    stored: bool,
+) -> Result<(), NoMemory>
+    requires alive { (now world.old).dead ≡ false }
+    requires makes { makes_dumps party ≡ true }
+    requires runs { runs_dump number (now world.old).dumps ≡ true }
+    ensures step { OnOk result (world.new ≡ entered (noted world.old (note_of D.moment D.faults first.now second.now world.old)) (by party (ending_event number stored))) }
+    ensures died { OnErr result (world.new ≡ entered (noted world.old (note_of D.moment D.faults first.now second.now world.old)) (by party Died)) }
+
+    // It is told as it was.
+    ensures rests { (mounted : ℕ) (log : Option LogState) (r : Result (Unit {0}) Fault) → D.tells ≡ true → IsWritten D.seen D.moment D.images D.faults log first.now second.now mounted world.old r → EndsAs r stored
+        → OnOk result (Rests D.seen D.moment D.images D.faults log first.now second.now mounted world.new) }
+    ensures safe { (mounted : ℕ) (log : Option LogState) (r : Result (Unit {0}) Fault) → D.tells ≡ true → IsWritten D.seen D.moment D.images D.faults log first.now second.now mounted world.old r
+        → OnErr result (IsSafe D.moment D.images first.now second.now world.new.start mounted world.new.entries world.new.notes) }
+{
+    world.note(first, second);
+    if stored {
+        world.stored(party, number)
+    } else {
+        world.dump_failed(party, number)
+    }
+}

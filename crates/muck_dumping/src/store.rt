@@ -1,0 +1,138 @@
+// The log of a store, and the number that its next dump has.
+ghost use Rattle.std.specs.Prelude.{◌≡◌, ◌⊎◌, ◌≤◌, ◌<◌, ◌^◌, ℕ, true, false, length, List, Option, Some, None, IfOk, OnOk, OnErr, IfErr, IsErrOf, IsSome};
+ghost use Rattle.muck_codec.specs.Batches.{HasFewLines};
+ghost use Rattle.muck_io.specs.Faults.{Rose};
+ghost use Rattle.muck_log.specs.File.{after_number};
+ghost use Rattle.muck_log.specs.Store.{LogState, IsMounted};
+ghost use Rattle.muck_model.specs.declared.tune.Tune.{Tune};
+ghost use Rattle.muck_log.specs.World.{tune_fits};
+ghost use Rattle.muck_log.specs.Append.{base_of, payload_of};
+ghost use Rattle.muck_store.specs.Changes.{LeavesOut};
+ghost use Rattle.muck_store.specs.Forms.{persist, world_batch};
+ghost use Rattle.spec_dumps.specs.Holding.{Keeps};
+ghost use Rattle.spec_events.specs.Histories.{History};
+ghost use Rattle.spec_live.specs.Objects.{Entry};
+ghost use Rattle.muck_dumping.specs.inner.Dumps.{HasRisen, IsMountingFault, Appended};
+ghost use Rattle.muck_dumping.specs.inner.Between.{IsReady, base_in};
+
+use muck_codec::{Batch, Stored};
+use muck_disk::Disk;
+use muck_log::{Log, LogFault};
+use std::alloc::Global;
+
+/// The most bytes of a file of the store.
+pub const FILE_MOST: u64 = 1 << 40;
+
+/// The store of a world: its log, where it is mounted, and the number that the next dump has where it isn't.
+#[derive(Drop)]
+pub struct Store {
+    pub log: Option<Log>,
+    pub number: u64,
+}
+
+impl Store {
+    /// The store of a log that was mounted.
+    pub fn new(log: Log) -> Store
+        ensures { result.log ≡ Some log }
+    {
+        let number = log.next();
+        Store {
+            log: Some(log),
+            number,
+        }
+    }
+
+    /// Mounts the log again, where a fault left none. It may be tried as often as one likes, at any time between two dumps.
+    #[tactic(auto, unfolding(spec_dumps::specs::Fronts::file_most))]
+    pub fn mount<D: Disk>(
+        &mut self,
+        alloc: Global,
+        first: &mut D,
+        second: &mut D,
+    ) -> Result<(), LogFault>
+        ensures some { OnOk result (IsSome self.new.log) }
+        ensures none { OnErr result (self.new.log ≡ None) }
+
+        // Nothing is lost by it. What the disks show is no damaged store; it can't be mounted where a count of faults rose since the last note, or
+        // memory is wanted.
+        ensures keeps { (mounted : ℕ) (h : History) → D.tells ≡ true → Keeps D.seen D.moment D.images D.faults self.old.log first.old second.old mounted h
+            → Keeps D.seen D.moment D.images D.faults self.new.log first.new second.new mounted h }
+        ensures fault { (mounted : ℕ) (h : History) → D.tells ≡ true → Keeps D.seen D.moment D.images D.faults self.old.log first.old second.old mounted h → IfErr result IsMountingFault }
+        ensures risen { (mounted : ℕ) (h : History) → D.tells ≡ true → Keeps D.seen D.moment D.images D.faults self.old.log first.old second.old mounted h
+            → IsErrOf result LogFault.DiskFault → HasRisen D.faults first.new second.new h }
+        ensures first_later { D.faults first.old ≤ D.faults first.new }
+        ensures second_later { D.faults second.old ≤ D.faults second.new }
+        ensures cause { IsErrOf result LogFault.DiskFault → Rose (D.faults first.old) (D.faults first.new) ⊎ Rose (D.faults second.old) (D.faults second.new) }
+    {
+        if self.log.is_none() {
+            self.log = Some(Log::mount(alloc, first, second, FILE_MOST)?);
+        }
+        Ok(())
+    }
+
+    // The number of the next dump.
+    pub(crate) fn next(&self) -> u64
+        ensures { (log : LogState) → self.now.log ≡ Some log → result ≡ after_number log.chosen.held.number }
+    {
+        match &self.log {
+            Some(log) => log.next(),
+            None => self.number,
+        }
+    }
+
+    // What the next dump may leave out of the records of the world.
+    pub(crate) fn base(&self) -> &[Stored]
+        ensures { result.now ≡ base_in self.now.log }
+    {
+        match &self.log {
+            Some(log) => log.base(),
+            None => &[],
+        }
+    }
+
+    // The log has to be mounted again, and the next dump has this number.
+    fn close(&mut self, number: u64)
+        ensures { self.new.log ≡ None }
+    {
+        self.number = number;
+        self.log = None;
+    }
+
+    // Writes a batch of a world of so many objects, which leaves out what the log keeps. Where that fails the log has to be
+    // mounted again.
+    pub(crate) fn append<D: Disk>(
+        &mut self,
+        first: &mut D,
+        second: &mut D,
+        size: u32,
+        batch: &Batch,
+    ) -> Result<(), LogFault>
+        requires few { length batch.now.records < 2 ^ 32 }
+        requires lines { HasFewLines batch.now.records }
+        requires mounted { (log : LogState) → D.tells ≡ true → self.old.log ≡ Some log → IsMounted D.seen D.moment D.images log first.old second.old }
+        ensures some { OnOk result (IsSome self.new.log) }
+        ensures none { OnErr result (self.new.log ≡ None) }
+        ensures wrote { (log : LogState) (es : List Entry) (tune : Tune) → D.tells ≡ true → self.old.log ≡ Some log → LeavesOut (base_of log) (persist es) batch.now.records → batch.now.tune ≡ tune → size ≡ length es
+            → tune_fits tune ≡ true → 2 ≤ length es → Appended D.seen D.moment D.images (payload_of log (world_batch es tune)) (record { objects = persist es; tune = tune }) log self.new.log first.old second.old first.new second.new result }
+        ensures stale { self.old.log ≡ None → (result ≡ Err LogFault.Stale) × ((first.new ≡ first.old) × (second.new ≡ second.old)) }
+        ensures first_later { D.faults first.old ≤ D.faults first.new }
+        ensures second_later { D.faults second.old ≤ D.faults second.new }
+        ensures cause { IsErrOf result LogFault.DiskFault → Rose (D.faults first.old) (D.faults first.new) ⊎ Rose (D.faults second.old) (D.faults second.new) }
+    {
+        let Some(log) = &mut self.log else {
+            return Err(LogFault::Stale);
+        };
+        let number = log.next();
+        if log.kept().objects().len() > size as usize {
+            self.close(number);
+            return Err(LogFault::Unfit);
+        }
+        match log.append(first, second, batch) {
+            Ok(_) => Ok(()),
+            Err(fault) => {
+                self.close(number);
+                Err(fault)
+            }
+        }
+    }
+}

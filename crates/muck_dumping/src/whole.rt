@@ -1,0 +1,110 @@
+// A dump that is made at once.
+ghost use Rattle.std.specs.Prelude.{◌≡◌, ◌⊎◌, ◌≤◌, ℕ, true, false, Option, Some, None, IfOk, OnOk};
+ghost use Rattle.muck_io.specs.Faults.{Rose};
+ghost use Rattle.spec_dumps.specs.Holding.{Keeps};
+ghost use Rattle.spec_events.specs.Histories.{now};
+ghost use Rattle.spec_events.specs.Steps.{may_cut};
+ghost use Rattle.muck_dumping.specs.inner.Dumps.{Dumps, HasDumped};
+
+use crate::parts::{begin, end, write};
+use crate::store::Store;
+use muck_disk::Disk;
+use muck_log::LogFault;
+use muck_machine::World;
+use muck_model::NoMemory;
+use std::alloc::Global;
+
+// A dump for which no log could be mounted.
+fn dump_unmounted<D: Disk>(
+    world: &mut World,
+    party: u8,
+    store: &Store,
+    first: &D,
+    second: &D,
+    fault: LogFault,
+) -> Result<Option<LogFault>, NoMemory>
+    requires alive { (now world.old).dead ≡ false }
+    requires may { may_cut (now world.old) party ≡ true }
+    requires unmounted { store.now.log ≡ None }
+    ensures happened { HasDumped party world.old world.new result }
+    ensures same { IfOk result (λ o. o ≡ Some fault) }
+    ensures kept { (mounted : ℕ) → D.tells ≡ true → fault ≡ LogFault.DiskFault → IsReady D.seen D.moment D.images D.faults store.now.log first.now second.now mounted world.old
+        → Dumps D.seen D.moment D.images D.faults store.now.log first.now second.now mounted world.new result }
+{
+    let pending = begin(world, party, store, first, second)?;
+    end(world, party, first, second, pending.number, false)?;
+    Ok(Some(fault))
+}
+
+// A dump to the log that is mounted.
+fn dump_mounted<D: Disk>(
+    world: &mut World,
+    party: u8,
+    store: &mut Store,
+    first: &mut D,
+    second: &mut D,
+) -> Result<Option<LogFault>, NoMemory>
+    requires alive { (now world.old).dead ≡ false }
+    requires may { may_cut (now world.old) party ≡ true }
+    requires some { IsSome store.old.log }
+    requires mounted { D.tells ≡ true → (mounted : ℕ) × Keeps D.seen D.moment D.images D.faults store.old.log first.old second.old mounted world.old }
+    ensures happened { HasDumped party world.old world.new result }
+    ensures kept { (mounted : ℕ) → D.tells ≡ true → Keeps D.seen D.moment D.images D.faults store.old.log first.old second.old mounted world.old
+        → Dumps D.seen D.moment D.images D.faults store.new.log first.new second.new mounted world.new result }
+    ensures first_later { D.faults first.old ≤ D.faults first.new }
+    ensures second_later { D.faults second.old ≤ D.faults second.new }
+    ensures cause { IfOk result (λ o. o ≡ Some LogFault.DiskFault → Rose (D.faults first.old) (D.faults first.new) ⊎ Rose (D.faults second.old) (D.faults second.new)) }
+    ensures apart { IfOk result (λ o. o ≡ Some LogFault.NoMemory → ⊥) }
+{
+    let pending = begin(world, party, store, first, second)?;
+    match write(store, first, second, &pending) {
+        Ok(()) => {
+            end(world, party, first, second, pending.number, true)?;
+            Ok(None)
+        }
+        Err(fault) => match fault {
+            // (no world has fewer objects than are kept, and a batch of one is never unfit)
+            LogFault::NoMemory | LogFault::Unfit => {
+                world.died(party);
+                Err(NoMemory)
+            }
+            _ => {
+                end(world, party, first, second, pending.number, false)?;
+                Ok(Some(fault))
+            }
+        },
+    }
+}
+
+/// Makes a dump of the world at once, with no other entry between its parts; answers the fault for which it failed, and none where it was stored. The log
+/// is mounted again before, where it isn't. After `NoMemory` the world is dead.
+pub fn dump<D: Disk>(
+    alloc: Global,
+    world: &mut World,
+    party: u8,
+    store: &mut Store,
+    first: &mut D,
+    second: &mut D,
+) -> Result<Option<LogFault>, NoMemory>
+    requires alive { (now world.old).dead ≡ false }
+    requires may { may_cut (now world.old) party ≡ true }
+    requires mounted { D.tells ≡ true → (mounted : ℕ) × Keeps D.seen D.moment D.images D.faults store.old.log first.old second.old mounted world.old }
+    ensures happened { HasDumped party world.old world.new result }
+    ensures kept { (mounted : ℕ) → D.tells ≡ true → Keeps D.seen D.moment D.images D.faults store.old.log first.old second.old mounted world.old
+        → Dumps D.seen D.moment D.images D.faults store.new.log first.new second.new mounted world.new result }
+    ensures first_later { D.faults first.old ≤ D.faults first.new }
+    ensures second_later { D.faults second.old ≤ D.faults second.new }
+    ensures cause { IfOk result (λ o. o ≡ Some LogFault.DiskFault → Rose (D.faults first.old) (D.faults first.new) ⊎ Rose (D.faults second.old) (D.faults second.new)) }
+    ensures apart { IfOk result (λ o. o ≡ Some LogFault.NoMemory → ⊥) }
+{
+    match store.mount(alloc, first, second) {
+        Ok(()) => dump_mounted(world, party, store, first, second),
+        Err(fault) => match fault {
+            LogFault::NoMemory => {
+                world.died(party);
+                Err(NoMemory)
+            }
+            _ => dump_unmounted(world, party, store, first, second, fault),
+        },
+    }
+}
