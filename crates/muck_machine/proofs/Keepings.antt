@@ -10,15 +10,18 @@ use Rattle.muck_model.specs.declared.event.Event.TheVariants.{Died}
 use Rattle.muck_model.specs.declared.memory.NoMemory.{NoMemory}
 use Rattle.muck_model.specs.declared.note.Note.{Note}
 use Rattle.muck_queue.specs.Queues.{next_due}
+use Rattle.spec_events.specs.declared.logged.Count.{Count}
 use Rattle.spec_events.specs.World.{World}
 use Rattle.spec_events.specs.Steps.{is_free, happened, effect, is_died, is_lawful, is_allowed, next_ready, next_process}
 use Rattle.spec_events.specs.Histories.{History, after, now, AllLawful}
+use Rattle.spec_events.specs.Logged.{ArePlaced, IsCountPlaced, IsPlaced}
 use Rattle.spec_events.specs.Sound.{IsSound}
 use Rattle.spec_events.proofs.Living.{dead-happened}
 use Rattle.spec_events.proofs.Reached.{sound-effect, died_lawful}
 use Rattle.spec_events.proofs.Runs.{after-append, lawful-append}
+use Rattle.spec_events.proofs.Logging.{placed_entered, placed_noted, placed_linked}
 use Rattle.muck_machine.specs.declared.past.Past.{Past}
-use Rattle.muck_machine.specs.Keeping.{Keeps, history, told, remarked, lost, Concludes}
+use Rattle.muck_machine.specs.Keeping.{Keeps, history, told, remarked, counted_at_end, lost, Concludes}
 
 one_more : (start : World) (entries : List Entry) (e : Entry) → after start (entries ++ e ∷ []) ≡ happened (after start entries) e.party e.event
 unfolding effect
@@ -37,20 +40,26 @@ keeps_told p state next e k alive may other is =
     record {
       grows = refl;
       lawful = lawful-append p.tale.entries (e ∷ []) p.origin k.lawful (may, tt);
+      placed = placed_entered (history p) e k.placed;
       dies = ap (λ (w : World). w.dead) whole ∙ dead-happened e.event (after p.origin p.tale.entries) e.party other ∙ k.dies;
       sound = λ h. subst IsSound (sym (after-append p.tale.entries (e ∷ []) p.origin)) (sound-effect (after p.origin p.tale.entries) e (not_died e.event other) may (k.sound alive));
       lives = λ h. is ∙ ap (λ w. happened w e.party e.event) (k.lives alive) ∙ sym whole;
     }
 
 -- a note changes nothing of what is kept
-pub keeps_noted : (p : Past) (note : Note) (state : World) → Keeps p state → Keeps (remarked note p) state
-keeps_noted p note state k = record { grows = refl; lawful = k.lawful; dies = k.dies; sound = k.sound; lives = k.lives }
+pub keeps_noted : (p : Past) (note : Note) (state : World) → note.entries ≡ length p.tale.entries → Keeps p state → Keeps (remarked note p) state
+keeps_noted p note state at k = record { grows = refl; lawful = k.lawful; placed = placed_noted (history p) note at k.placed; dies = k.dies; sound = k.sound; lives = k.lives }
+
+-- nor does that of the links
+pub keeps_linked : (p : Past) (cs : List Count) (state : World) → Keeps p state → Keeps (counted_at_end cs p) state
+keeps_linked p cs state k = record { grows = k.grows; lawful = k.lawful; placed = placed_linked (history p) cs k.placed; dies = k.dies; sound = k.sound; lives = k.lives }
 
 -- memory was wanted, whatever stood before
 pub keeps_lost : (p : Past) (party : ℕ) (state next : World) → Keeps p state → Keeps (lost party p) next
 keeps_lost p party state next k = record {
   grows = refl;
   lawful = lawful-append p.tale.entries (record { party = party; event = Died } ∷ []) p.origin k.lawful (died_lawful (after p.origin p.tale.entries) party, tt);
+  placed = placed_entered (history p) (record { party = party; event = Died }) k.placed;
   dies = ap (λ (w : World). w.dead) (one_more p.origin p.tale.entries (record { party = party; event = Died }));
   sound = λ h. cc;
   lives = λ h. cc;
@@ -98,6 +107,10 @@ sound_seen p state h k v alive = subst (λ (x : History). IsSound (now x)) v (k.
 pub lawful_seen : (p : Past) (state : World) (h : History) → Keeps p state → history p ≡ h → AllLawful h.start h.entries
 lawful_seen p state h k v = subst (λ (x : History). AllLawful x.start x.entries) v k.lawful
 
+-- and each note has its place
+pub placed_seen : (p : Past) (state : World) (h : History) → Keeps p state → history p ≡ h → IsPlaced h
+placed_seen p state h k v = subst IsPlaced v k.placed
+
 -- in a dead world only Died is lawful
 pub unlawful_dead : (p : Past) (state : World) (h : History) (e : Entry) → Keeps p state → history p ≡ h → p.dead ≡ true → is_died e.event ≡ false → false ≡ is_lawful (now h) e
 unfolding is_lawful
@@ -110,12 +123,14 @@ lawful_as p allowed state h e k v alive is =
     is ∙ ap (λ w. is_allowed w e.party e.event) (k.lives alive ∙ ap now v) ∙ sym (cond-false _ _ _ (dead_seen p state h k v ∙ alive))
 
 -- a world begins, in which nothing has happened yet
-pub keeps_begun : (p : Past) (state : World) → p.tale ≡ record { entries = []; notes = []; open_ended = true } → p.dead ≡ false → IsSound p.origin → state ≡ p.origin → Keeps p state
-keeps_begun p state t alive sound is =
+pub keeps_begun : (p : Past) (state : World) → p.tale ≡ record { entries = []; notes = []; open_ended = true } → p.counting ≡ None → p.dead ≡ false → IsSound p.origin → state ≡ p.origin → Keeps p state
+keeps_begun p state t uncounted alive sound is =
     let none : p.tale.entries ≡ [] = ap (λ (x : Told). x.entries) t in
+    let unnoted : p.tale.notes ≡ [] = ap (λ (x : Told). x.notes) t in
     record {
       grows = ap (λ (x : Told). x.open_ended) t;
       lawful = subst (AllLawful p.origin) (sym none) tt;
+      placed = record { notes = subst (ArePlaced 0 (length p.tale.entries)) (sym unnoted) tt; counted = subst (IsCountPlaced (length p.tale.entries)) (sym uncounted) tt };
       dies = ap (λ (es : List Entry). (after p.origin es).dead) none ∙ sound.alive ∙ sym alive;
       sound = λ h. subst (λ (es : List Entry). IsSound (after p.origin es)) (sym none) sound;
       lives = λ h. is ∙ sym (ap (after p.origin) none);
@@ -180,4 +195,4 @@ alive_if_found w d e = alive w.dead _ e where
 
 -- nothing happened, and the state is as it was
 pub keeps_same : (p : Past) (state next : World) → Keeps p state → next ≡ state → Keeps p next
-keeps_same p state next k e = record { grows = k.grows; lawful = k.lawful; dies = k.dies; sound = k.sound; lives = λ h. e ∙ k.lives h }
+keeps_same p state next k e = record { grows = k.grows; lawful = k.lawful; placed = k.placed; dies = k.dies; sound = k.sound; lives = λ h. e ∙ k.lives h }

@@ -2,3 +2,4 @@ pub mod Keepings
 pub mod Coming
 pub mod Choosing
 pub mod Taken
+pub mod Seating

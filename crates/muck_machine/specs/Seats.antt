@@ -7,10 +7,11 @@ use Rattle.turn_lock.specs.Histories.{StartsWith, own_of}
 use Rattle.turn_lock.specs.declared.view.View.{View}
 use Rattle.turn_lock.specs.declared.view.Place.TheVariants.{Idle, Told}
 use Rattle.spec_events.specs.declared.logged.Logged.{Logged}
-use Rattle.spec_events.specs.Logged.{logged_by, IsOrderly}
+use Rattle.spec_events.specs.Histories.{History}
+use Rattle.spec_events.specs.Logged.{logged, logged_by, IsOrderly}
 use Rattle.muck_machine.specs.declared.world.World.{World as State}
 use Rattle.muck_machine.specs.declared.beginning.Beginning.{Beginning}
-use Rattle.muck_machine.specs.Beginnings.{IsBegun}
+use Rattle.muck_machine.specs.Beginnings.{beginning, IsBegun}
 
 -- what a seat has seen
 abbrev pub Sight : Type 0
@@ -19,6 +20,11 @@ Sight = View Logged Beginning
 -- a seat as its party holds it
 abbrev pub Chair : Type 0
 Chair = Me (Option State) Sight
+
+-- the one history is longer than the other by this item, and begins as it does
+pub record OneMore (h k : History) (l : Logged) : Type 0 where
+  pub logged : logged k ≡ logged h ++ l ∷ []
+  pub beginning : beginning k ≡ beginning h
 
 -- each item may stand in the history
 abbrev pub AllOrderly : List Logged → Type 0

@@ -19,6 +19,8 @@ mod Chained
 pub mod Living
 pub mod Reached
 pub mod Runs
+pub mod Logging
+pub mod Owning
 pub mod Turns
 pub mod Passwords
 pub mod Claims

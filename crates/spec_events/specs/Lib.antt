@@ -12,6 +12,7 @@ pub mod Licences
 pub mod Histories
 pub mod Logged
 pub mod Own
+pub mod OwnRows
 pub mod Sound
 pub mod Passwords
 pub mod Rows

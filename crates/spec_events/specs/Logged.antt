@@ -65,9 +65,8 @@ loose_notes h = take 1 h.notes ++ notes_from (length h.entries) (drop 1 h.notes)
 unfoldable pub loose_count : History → Option (List Count)
 loose_count h = counted_from (length h.entries) h.counted
 
--- no note stands behind all entries but that of the mounting, which is there
-pub record IsSettled (h : History) : Type 0 where
-  pub mounting : Note
+-- this note is that of the mounting, and none stands behind all entries
+pub record IsSettled (mounting : Note) (h : History) : Type 0 where
   pub notes : loose_notes h ≡ mounting ∷ []
   pub counted : loose_count h ≡ None
 
@@ -100,6 +99,15 @@ events_of ls = map (λ (l : Logged). l.entry.event) ls
 abbrev pub notes_of : List Logged → List Note
 notes_of [] = []
 notes_of (l ∷ ls) = l.notes ++ notes_of ls
+
+-- no item has a note of the disks, or of the links
+abbrev pub NoNotes : List Logged → Type 0
+NoNotes [] = Unit {0}
+NoNotes (l ∷ ls) = (l.notes ≡ []) × NoNotes ls
+
+abbrev pub NoCounts : List Logged → Type 0
+NoCounts [] = Unit {0}
+NoCounts (l ∷ ls) = (l.counted ≡ None) × NoCounts ls
 
 -- the first note of the links, with its place behind so many entries
 abbrev pub placed_count : ℕ → Option (List Count) → Option (ℕ × List Count) → Option (ℕ × List Count)

@@ -1,6 +1,7 @@
 -- What a party's own entries look like.
-use Rattle.std.specs.Prelude.{◌≡◌, ℕ, ℤ, Bool, true, false, int_eq, ◌==◌, nat_lt, if◌then◌else◌, List, [], ◌∷◌, Option, Some, None, is_some}
+use Rattle.std.specs.Prelude.{◌≡◌, ℕ, ℤ, true, ◌==◌, nat_lt, if◌then◌else◌, List, [], ◌∷◌, Option, Some, None, is_some}
 use Rattle.std.specs.Option.{option_and_then}
+use Rattle.std.specs.Ordering.{int_eq}
 use Rattle.muck_model.specs.declared.event.Event.{Event}
 use Rattle.muck_model.specs.declared.event.Event.TheVariants.{Opened, Input, Closed, Moment, Exec, Claim, Slice, Lost, Idle, Take, Cut, Stored, DumpFailed, Halt, StopSeen, Died}
 
@@ -55,9 +56,9 @@ claim_may pid event = None
 
 -- a dump that began is stored at once, or has failed
 abbrev pub dump_may : ℕ → Stage → Event → Option Stage
-dump_may k then (Stored n) = if n == k then Some then else None
-dump_may k then (DumpFailed n) = if n == k then Some then else None
-dump_may k then event = None
+dump_may k after (Stored n) = if n == k then Some after else None
+dump_may k after (DumpFailed n) = if n == k then Some after else None
+dump_may k after event = None
 
 abbrev pub last_may : Event → Option Stage
 last_may (Cut k) = Some (Stage.dumping k)

@@ -1,7 +1,8 @@
-// The worked slices, lines and dumps.
+// The worked slices, lines, dumps and own entries.
 ghost use Rattle.spec_events.specs.Rows.{Rows};
 ghost use Rattle.spec_events.specs.LineRows.{LineRows};
 ghost use Rattle.spec_events.specs.DumpRows.{DumpRows};
+ghost use Rattle.spec_events.specs.OwnRows.{OwnRows};
 
 /// The worked rows of this crate hold. It does nothing: its clause is the rows.
 #[tactic(auto)]
@@ -9,4 +10,5 @@ pub fn rows_hold()
     ensures rows { Rows }
     ensures lines { LineRows }
     ensures dumps { DumpRows }
+    ensures own { OwnRows }
 {}

@@ -1,9 +1,9 @@
 // The world, where several parties share it.
-ghost use Rattle.std.specs.Prelude.{◌≡◌, false, if◌then◌else◌, is_some};
+ghost use Rattle.std.specs.Prelude.{◌≡◌, false, if◌then◌else◌, is_some, not};
 ghost use Rattle.std.specs.List.{count_by};
 ghost use Rattle.muck_model.specs.declared.event.Event.{Event};
 ghost use Rattle.spec_live.specs.Connections.{is_ready};
-ghost use Rattle.muck_db.specs.inner.Shown.{is_there};
+ghost use Rattle.spec_live.specs.Objects.{is_garbage};
 ghost use Rattle.spec_events.specs.Steps.{is_lawful, passes, is_dump_due};
 ghost use Rattle.spec_events.specs.Histories.{now, entered, links_noted};
 ghost use Rattle.spec_talks.specs.Counts.{counts};
@@ -88,7 +88,7 @@ impl World {
 
     /// How many objects there are, without garbage. On a dead world nothing is said of the answer. It looks at every number.
     pub fn objects(&self) -> usize
-        ensures { (now self.now).dead ≡ false → result ≡ count_by is_there (now self.now).live.objects }
+        ensures { (now self.now).dead ≡ false → result ≡ count_by (λ e. not (is_garbage e.object.kind)) (now self.now).live.objects }
     {
         let state = &self.state;
         state.db.objects()

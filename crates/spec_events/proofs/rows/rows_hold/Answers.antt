@@ -1,7 +1,8 @@
 use Rattle.spec_events.specs.Rows.{rows}
 use Rattle.spec_events.specs.LineRows.{line_rows}
 use Rattle.spec_events.specs.DumpRows.{dump_rows}
+use Rattle.spec_events.specs.OwnRows.{own_rows}
 use Rattle.spec_events.proofs.rows.rows_hold.Goals as goal
 
 pub returns : goal.returns
-returns c = record { rows = rows; lines = line_rows; dumps = dump_rows }
+returns c = record { rows = rows; lines = line_rows; dumps = dump_rows; own = own_rows }
