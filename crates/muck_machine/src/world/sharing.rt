@@ -30,6 +30,8 @@ impl Story for World {
     ghost history = { logged };
 
     ghost party = { logged_by };
+
+    ghost allowed = { IsOrderly };
 }
 
 impl World {
