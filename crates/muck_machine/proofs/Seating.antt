@@ -108,9 +108,10 @@ others_quiet [] all none = (refl, refl)
 others_quiet (l ∷ ls) all none =
     let two = not_first 9 l ls none in
     let one = all 0 l refl in
-    let rest = others_quiet ls (λ i x at. all (suc i) x at) two.1 in
-    (ap (λ (b : Bool). b || list_any (λ (e : Entry). is_dump e.event) (entries_of ls)) (quiet (is_dump l.entry.event) (λ dump. two.0 (one.dumps dump))) ∙ rest.0,
-     ap (λ (ns : List Note). ns ++ notes_of ls) (one.notes two.0) ∙ rest.1)
+    let rest = others_quiet ls (λ i x at. all (suc i) x at) two.1 in (
+      ap (λ (b : Bool). b || list_any (λ (e : Entry). is_dump e.event) (entries_of ls)) (quiet (is_dump l.entry.event) (λ dump. two.0 (one.dumps dump))) ∙ rest.0,
+      ap (λ (ns : List Note). ns ++ notes_of ls) (one.notes two.0) ∙ rest.1,
+    )
   where
     quiet : (b : Bool) → (b ≡ true → ⊥) → b ≡ false
     quiet true h = absurd (h refl)
@@ -172,28 +173,29 @@ pub rests_turned : (whose : ℕ) (me : Chair) (v : Sight) (me' : Chair) (h k : H
     → OneMore h k l → l.entry.party ≡ whose → IsOrderly l
     → me'.1 ≡ [] → me'.0.place ≡ Idle → me'.0.seen ≡ logged k
     → (me'.0.party ≡ v.party) × (me'.0.root ≡ v.root) × (me'.0.given ≡ v.given) × (me'.0.joined ≡ v.joined)
-    → ((e : Logged) → logged k ≡ v.seen ++ e ∷ [] → e.entry.party ≡ v.party → me'.0.own ≡ v.own ++ e ∷ [])
+    → ((e : Logged) → logged k ≡ v.seen ++ e ∷ [] → e.entry.party ≡ v.party → IsOrderly e → me'.0.own ≡ v.own ++ e ∷ [])
     → Rests whose me' × Turned me.0 me'.0 l
 rests_turned whose me v me' h k l r waited seen own all one by orderly free idle seen' same mine =
     let party : v.party ≡ whose = waited.2 ∙ r.party in
     let longer : logged k ≡ v.seen ++ l ∷ [] = given_seen v h k l one seen in
-    let own' : me'.0.own ≡ v.own ++ l ∷ [] = mine l longer (by ∙ sym party) in
+    let own' : me'.0.own ≡ v.own ++ l ∷ [] = mine l longer (by ∙ sym party) orderly in
     let whole : me'.0.seen ≡ v.seen ++ l ∷ [] = seen' ∙ longer in
-    let known : v.own ≡ own_of logged_by whose v.seen = own ∙ ap (λ (n : ℕ). own_of logged_by n v.seen) party in
-    (record {
-      free = free;
-      idle = idle;
-      party = same.0 ∙ party;
-      own = own' ∙ ap (λ (ls : List Logged). ls ++ l ∷ []) known ∙ sym (own_mine logged_by whose v.seen l by) ∙ ap (own_of logged_by whose) (sym whole);
-      orderly = subst AllOrderly (sym whole) (orderly_one v.seen l all orderly);
-      begun = subst IsBegun (sym (same.1 ∙ waited.5)) r.begun;
-    },
-    record {
-      others = waited.0.0;
-      seen = whole ∙ ap (λ (ls : List Logged). ls ++ l ∷ []) waited.0.1;
-      own = own' ∙ ap (λ (ls : List Logged). ls ++ l ∷ []) waited.1;
-      lists = (same.1 ∙ waited.5, same.2 ∙ waited.3, same.3 ∙ waited.4);
-    })
+    let known : v.own ≡ own_of logged_by whose v.seen = own ∙ ap (λ (n : ℕ). own_of logged_by n v.seen) party in (
+      record {
+        free = free;
+        idle = idle;
+        party = same.0 ∙ party;
+        own = own' ∙ ap (λ (ls : List Logged). ls ++ l ∷ []) known ∙ sym (own_mine logged_by whose v.seen l by) ∙ ap (own_of logged_by whose) (sym whole);
+        orderly = subst AllOrderly (sym whole) (orderly_one v.seen l all orderly);
+        begun = subst IsBegun (sym (same.1 ∙ waited.5)) r.begun;
+      },
+      record {
+        others = waited.0.0;
+        seen = whole ∙ ap (λ (ls : List Logged). ls ++ l ∷ []) waited.0.1;
+        own = own' ∙ ap (λ (ls : List Logged). ls ++ l ∷ []) waited.1;
+        lists = (same.1 ∙ waited.5, same.2 ∙ waited.3, same.3 ∙ waited.4);
+      },
+    )
 
 -- who rests may be taken in, and so may who was told that no turn is left
 pub left_rests : (whose : ℕ) (me : Chair) → Rests whose me → Left whose me

@@ -43,42 +43,42 @@ use Rattle.spec_events.specs.Following.{swept, settled}
 use Rattle.spec_events.specs.Lines.{with_editor, next_editor, after_edit, edited_line, in_editor, editor_on, typed, left_by, followed_up, in_world, program_aborted, is_abort, given_line, line_for, line_done, done}
 use Rattle.spec_events.specs.Endings.{ProcessesLicensed, NoProcess, MayEnd, by_actor, EndsReading}
 use Rattle.spec_events.specs.Licences.{Untouched, Undisturbed, LineLicensed, TurnLicensed}
-use Rattle.spec_events.proofs.Quietly.{Quietly, quietly_both, quietly_live, quietly_queue, quietly_swept, quietly_launched, quietly_compiled}
+use Rattle.spec_events.proofs.Quietly.{Still, still_of, Quietly, quietly_both, quietly_live, quietly_queue, quietly_swept, quietly_launched, quietly_compiled}
 use Rattle.spec_events.proofs.Told.{licensed_told, licensed_as}
 use Rattle.spec_events.proofs.Typed.{MayRetune, typed_retunes, waited_open}
 use Rattle.spec_events.proofs.Endings.{Lasting, lasting_same, lasting_both, lasting_changed, lasting_without, lasting_up, lasting_after, process_number, IsTold, told_settled, processes_remain}
 use Rattle.spec_events.proofs.Lapses.{IsLapsing, marks_lapse, by_lapse, steady_may, lasting_lapse}
 use Rattle.spec_events.proofs.Killed.{lasting_left}
 
--- whether a world is dead, and the dump that runs in it
-abbrev pub state_of : World → Bool × Option (ℕ × List ℕ)
-state_of w = (w.dead, w.dumps.running)
+-- whether a world is dead, the dump that runs in it, and the second
+abbrev pub state_of : World → Bool × Still
+state_of w = (w.dead, still_of w)
 
 -- what an actor may do to a world that is one already: the changes are open, what is tuned stays in its range, and the world
--- is as dead as before, and the same dump runs
-pub record Open (a : Actor) (free : Freedom) (start : Live) (state : Bool × Option (ℕ × List ℕ)) (v : World) : Type 0 where
+-- is as dead as before, the same dump runs, and it is the same second
+pub record Open (a : Actor) (free : Freedom) (start : Live) (state : Bool × Still) (v : World) : Type 0 where
   pub licensed : Licensed a free start v.live
   pub tuned : IsInRange start.board.tune → IsInRange v.live.board.tune
   pub alive : v.dead ≡ state.0
-  pub running : v.dumps.running ≡ state.1
+  pub still : still_of v ≡ state.1
 
 -- the same is tuned
 pub in_range_as : (w v : Live) → v.board.tune ≡ w.board.tune → IsInRange w.board.tune → IsInRange v.board.tune
 in_range_as w v e h = subst IsInRange (sym e) h
 
-pub open_quietly : (a : Actor) (free : Freedom) (start : Live) (state : Bool × Option (ℕ × List ℕ)) (u v : World) → Open a free start state u → Quietly u v → Open a free start state v
+pub open_quietly : (a : Actor) (free : Freedom) (start : Live) (state : Bool × Still) (u v : World) → Open a free start state u → Quietly u v → Open a free start state v
 open_quietly a free start state u v p q = record {
   licensed = licensed_as a free start u.live v.live p.licensed q.objects q.ties q.tune;
   tuned = λ h. in_range_as u.live v.live q.tune (p.tuned h);
   alive = q.dead ∙ p.alive;
-  running = q.running ∙ p.running;
+  still = q.still ∙ p.still;
 }
 
-pub open_settled : (a : Actor) (free : Freedom) (start : Live) (state : Bool × Option (ℕ × List ℕ)) (u : World) → Open a free start state u → Open a free start state (settled u)
+pub open_settled : (a : Actor) (free : Freedom) (start : Live) (state : Bool × Still) (u : World) → Open a free start state u → Open a free start state (settled u)
 unfolding settled
 open_settled a free start state u p =
     let q = open_quietly a free start state u _ p (quietly_swept 0 u.live.objects u) in
-    record { licensed = licensed_told a free start (swept 0 u.live.objects u).live q.licensed; tuned = q.tuned; alive = q.alive; running = q.running }
+    record { licensed = licensed_told a free start (swept 0 u.live.objects u).live q.licensed; tuned = q.tuned; alive = q.alive; still = q.still }
 
 -- Leaving.
 
@@ -115,7 +115,7 @@ taken_out d lines = waits d lines ▸ with_editor d None
 quiet_taken_out : (d : ℕ) (lines : List (List ℕ)) → Quiet (taken_out d lines)
 quiet_taken_out d lines = keeps_followed _ _ quiet_order (quiet_waits d lines) (quiet_with_editor d None)
 
-open_after : (a : Actor) (free : Freedom) (start : Live) (state : Bool × Option (ℕ × List ℕ)) (d : ℕ) (program : Dbref) (step : EditStep) (u : World) → Open a free start state u → Open a free start state (after_edit d program step u)
+open_after : (a : Actor) (free : Freedom) (start : Live) (state : Bool × Still) (d : ℕ) (program : Dbref) (step : EditStep) (u : World) → Open a free start state u → Open a free start state (after_edit d program step u)
 open_after a free start state d program Compile u p = open_quietly a free start state u _ p (quietly_compiled d program u)
 open_after a free start state d program Stay u p = p
 open_after a free start state d program Left u p = p
@@ -143,7 +143,7 @@ open_edited d player s line lines w =
     let proper : Proper a (editing s.program) u.live r.0 = edited_proper d a s line u.live in
     let l : Licensed a (editing s.program) w.live r.0 = licensed_from a (editing s.program) d lines w.live r.0 proper.licensed in
     let v : World = record u { live = r.0 } in
-    let e = open_quietly a (editing s.program) w.live (state_of w) v (on_live (with_editor d (next_editor r.2 r.1)) v) (record { licensed = l; tuned = in_range_as w.live r.0 proper.tune; alive = refl; running = refl }) (quietly_live _ (quiet_with_editor d (next_editor r.2 r.1)) v) in
+    let e = open_quietly a (editing s.program) w.live (state_of w) v (on_live (with_editor d (next_editor r.2 r.1)) v) (record { licensed = l; tuned = in_range_as w.live r.0 proper.tune; alive = refl; still = refl }) (quietly_live _ (quiet_with_editor d (next_editor r.2 r.1)) v) in
     open_after a (editing s.program) w.live (state_of w) d s.program r.2 _ (open_settled a (editing s.program) w.live (state_of w) _ e)
 
 left_open : (d : ℕ) (player : Dbref) (s : EditState) (lines : List (List ℕ)) (w : World) →
@@ -153,7 +153,7 @@ left_open d player s lines w =
     let f : Change = taken_out d lines ▸ tell d editor_exited in
     let q : Quiet f = keeps_followed _ _ quiet_order (quiet_taken_out d lines) (quiet_tell d editor_exited) in
     let proper : Proper (actor_of w.live.objects player) (editing s.program) w.live (f w.live) = ((whole_quiet (actor_of w.live.objects player) None (λ es. editing s.program) Always f q).law w.live).law tt tt in
-    record { licensed = proper.licensed; tuned = in_range_as w.live (f w.live) proper.tune; alive = refl; running = refl }
+    record { licensed = proper.licensed; tuned = in_range_as w.live (f w.live) proper.tune; alive = refl; still = refl }
 
 open_in_editor : (d : ℕ) (player : Dbref) (s : EditState) (line : List ℕ) (lines : List (List ℕ)) (w : World) →
     Open (actor_of w.live.objects player) (editing s.program) w.live (state_of w) (in_editor d player s line (on_live (taken_out d lines) w))
@@ -176,18 +176,18 @@ tuned_in_range : (w : Live) (tune : Tune) → IsInRange tune → IsInRange (tune
 unfolding tuned
 tuned_in_range w tune h = h
 
-open_followed : (d : ℕ) (player : Dbref) (a : Actor) (free : Freedom) (start : Live) (state : Bool × Option (ℕ × List ℕ)) (outcome : Outcome) (u : World) → player_in d start.board ≡ Some a.player →
+open_followed : (d : ℕ) (player : Dbref) (a : Actor) (free : Freedom) (start : Live) (state : Bool × Still) (outcome : Outcome) (u : World) → player_in d start.board ≡ Some a.player →
     ((tune : Tune) → outcome ≡ Retune tune → MayRetune a start tune) → Open a free start state u → Open a free start state (followed_up d player outcome u)
-open_followed d player a free start state Leave u own may p = record { licensed = left_licensed a d free start u.live own p.licensed; tuned = λ h. in_range_as u.live (leave d u.live) (left_tune d u.live) (p.tuned h); alive = p.alive; running = p.running }
+open_followed d player a free start state Leave u own may p = record { licensed = left_licensed a d free start u.live own p.licensed; tuned = λ h. in_range_as u.live (leave d u.live) (left_tune d u.live) (p.tuned h); alive = p.alive; still = p.still }
 open_followed d player a free start state (Edit program) u own may p =
     open_quietly a free start state u _ p (quietly_live (with_editor d (Some (editor_on program u.live))) (quiet_with_editor d (Some (editor_on program u.live))) u)
 open_followed d player a free start state (Start program trigger line arg) u own may p =
     open_quietly a free start state u _ p (quietly_launched d (actor_of u.live.objects player) (record { player = player; program = program; trigger = trigger; command = line; argument = arg }) u)
 open_followed d player a free start state Done u own may p = p
 open_followed d player a free start state NotMine u own may p = p
-open_followed d player a free start state Dump u own may p = record { licensed = p.licensed; tuned = p.tuned; alive = p.alive; running = p.running }
-open_followed d player a free start state Stop u own may p = record { licensed = p.licensed; tuned = p.tuned; alive = p.alive; running = p.running }
-open_followed d player a free start state (Retune tune) u own may p = record { licensed = tuned_licensed a free start u.live tune p.licensed (may tune refl).0; tuned = λ h. tuned_in_range u.live tune ((may tune refl).1 h); alive = p.alive; running = p.running }
+open_followed d player a free start state Dump u own may p = record { licensed = p.licensed; tuned = p.tuned; alive = p.alive; still = p.still }
+open_followed d player a free start state Stop u own may p = record { licensed = p.licensed; tuned = p.tuned; alive = p.alive; still = p.still }
+open_followed d player a free start state (Retune tune) u own may p = record { licensed = tuned_licensed a free start u.live tune p.licensed (may tune refl).0; tuned = λ h. tuned_in_range u.live tune ((may tune refl).1 h); alive = p.alive; still = p.still }
 
 open_in_world : (d : ℕ) (player : Dbref) (line : List ℕ) (lines : List (List ℕ)) (w : World) → player_in d w.live.board ≡ Some player →
     Open (actor_of w.live.objects player) (free_line (actor_of w.live.objects player) line w.live.objects) w.live (state_of w) (in_world d player line (on_live (waits d lines) w))
@@ -199,7 +199,7 @@ open_in_world d player line lines w own =
     let r = typed u.queue d a line u.live in
     let proper : Proper a free w.live r.0 = ((waited_open a u.queue d lines line).law w.live).law own tt in
     open_followed d player a free w.live (state_of w) r.1 _ own (typed_retunes u.queue d a line u.live)
-    (open_settled a free w.live (state_of w) (record u { live = r.0; queue = left_by d a line u.live u.queue }) (record { licensed = proper.licensed; tuned = in_range_as w.live r.0 proper.tune; alive = refl; running = refl }))
+    (open_settled a free w.live (state_of w) (record u { live = r.0; queue = left_by d a line u.live u.queue }) (record { licensed = proper.licensed; tuned = in_range_as w.live r.0 proper.tune; alive = refl; still = refl }))
 
 -- Processes.
 
@@ -411,21 +411,22 @@ pub record Going (w v : World) : Type 0 where
   pub tuned : IsInRange w.live.board.tune → IsInRange v.live.board.tune
   pub dead : v.dead ≡ w.dead
   pub running : v.dumps.running ≡ w.dumps.running
+  pub moment : v.moment ≡ w.moment
 
 pub going_open : (a : Actor) (free : Freedom) (w v : World) → Open a free w.live (state_of w) v → Going w v
-going_open a free w v p = record { numbers = numbers-same_ties a w.live.board.connections v.live.board.connections p.licensed.connections; tuned = p.tuned; dead = p.alive; running = p.running }
+going_open a free w v p = record { numbers = numbers-same_ties a w.live.board.connections v.live.board.connections p.licensed.connections; tuned = p.tuned; dead = p.alive; running = ap (λ (x : Still). x.0) p.still; moment = ap (λ (x : Still). x.1) p.still }
 
 pub going_same : (w : World) → Going w w
-going_same w = record { numbers = refl; tuned = λ h. h; dead = refl; running = refl }
+going_same w = record { numbers = refl; tuned = λ h. h; dead = refl; running = refl; moment = refl }
 
 pub going_both : (u v w : World) → Going u v → Going v w → Going u w
-going_both u v w p q = record { numbers = q.numbers ∙ p.numbers; tuned = λ h. q.tuned (p.tuned h); dead = q.dead ∙ p.dead; running = q.running ∙ p.running }
+going_both u v w p q = record { numbers = q.numbers ∙ p.numbers; tuned = λ h. q.tuned (p.tuned h); dead = q.dead ∙ p.dead; running = q.running ∙ p.running; moment = q.moment ∙ p.moment }
 
 pub going_quietly : (w v : World) → Quietly w v → Going w v
-going_quietly w v q = record { numbers = numbers-ties w.live.board.connections v.live.board.connections q.ties; tuned = in_range_as w.live v.live q.tune; dead = q.dead; running = q.running }
+going_quietly w v q = record { numbers = numbers-ties w.live.board.connections v.live.board.connections q.ties; tuned = in_range_as w.live v.live q.tune; dead = q.dead; running = ap (λ (x : Still). x.0) q.still; moment = ap (λ (x : Still). x.1) q.still }
 
 pub going_live : (d : ℕ) (f : Change) → Seating d f → (w : World) → Going w (on_live f w)
-going_live d f p w = record { numbers = (p.law w.live).numbers; tuned = in_range_as w.live (f w.live) (p.law w.live).tune; dead = refl; running = refl }
+going_live d f p w = record { numbers = (p.law w.live).numbers; tuned = in_range_as w.live (f w.live) (p.law w.live).tune; dead = refl; running = refl; moment = refl }
 
 line_going : (d : ℕ) (w : World) (taker : Option ℤ) (player : Option Dbref) (editor : Option EditState) (line : List ℕ) (lines : List (List ℕ)) → player_in d w.live.board ≡ player →
     Going w (line_for taker player editor d line (on_live (waits d lines) w))

@@ -107,14 +107,14 @@ placed_split n most [] h = refl
 placed_split n most (x ∷ xs) h =
     within_or (suc n) x.entries
     (λ less.
-        let is : x.entries ≡ n = omega (arith, h.0) in
-        let rest = placed_split n most xs (subst (λ (m : ℕ). ArePlaced m most xs) is h.2) in
-        ap (λ (l : List Note). l ++ notes_from (suc n) (x ∷ xs)) (cond-true _ _ _ (is_at x n is))
-        ∙ ap (λ (l : List Note). (x ∷ notes_at n xs) ++ l) (cond-false _ _ _ (not_from x (suc n) less))
-        ∙ ap (λ (l : List Note). x ∷ l) rest)
+    let is : x.entries ≡ n = omega (arith, h.0) in
+    let rest = placed_split n most xs (subst (λ (m : ℕ). ArePlaced m most xs) is h.2) in
+    ap (λ (l : List Note). l ++ notes_from (suc n) (x ∷ xs)) (cond-true _ _ _ (is_at x n is))
+    ∙ ap (λ (l : List Note). (x ∷ notes_at n xs) ++ l) (cond-false _ _ _ (not_from x (suc n) less))
+    ∙ ap (λ (l : List Note). x ∷ l) rest)
     (λ later.
-        ap (λ (l : List Note). l ++ notes_from (suc n) (x ∷ xs)) (at_none n x.entries most (x ∷ xs) later (omega arith, h.1, h.2))
-        ∙ from_all (suc n) x.entries most (x ∷ xs) later (omega arith, h.1, h.2))
+    ap (λ (l : List Note). l ++ notes_from (suc n) (x ∷ xs)) (at_none n x.entries most (x ∷ xs) later (omega arith, h.1, h.2))
+    ∙ from_all (suc n) x.entries most (x ∷ xs) later (omega arith, h.1, h.2))
 
 placed_from : (k a most : ℕ) (xs : List Note) → a ≤ k → ArePlaced a most xs → ArePlaced k most (notes_from k xs)
 placed_from k a most [] less h = tt
@@ -264,8 +264,8 @@ logged_with_note m h x e s is =
     let k = settled m h s in
     let rest : drop 1 (h.notes ++ x ∷ []) ≡ drop 1 h.notes ++ x ∷ [] = ap (λ (l : List Note). drop 1 (l ++ x ∷ [])) k.first in
     let one : notes_at (length h.entries) (drop 1 (h.notes ++ x ∷ [])) ≡ x ∷ [] =
-        ap (notes_at (length h.entries)) rest ∙ at_one (length h.entries) (drop 1 h.notes) x is
-        ∙ ap (λ (l : List Note). l ++ x ∷ []) (none_at (length h.entries) (drop 1 h.notes) k.none) in
+    ap (notes_at (length h.entries)) rest ∙ at_one (length h.entries) (drop 1 h.notes) x is
+    ∙ ap (λ (l : List Note). l ++ x ∷ []) (none_at (length h.entries) (drop 1 h.notes) k.none) in
     logged_entered (noted h x) e
     ∙ ap (λ (l : List Logged). l ++ item_at (length h.entries) (drop 1 (h.notes ++ x ∷ [])) h.counted e ∷ []) (logged_noted h x (omega (arith, is)))
     ∙ ap (λ (l : List Note). let item : Logged = record { entry = e; notes = l; counted = counted_at (length h.entries) h.counted } in logged h ++ item ∷ []) one
@@ -356,7 +356,7 @@ notes_items n most notes counted (e ∷ es) h =
     append_assoc (notes_at n notes) (notes_of (items_from (suc n) notes counted es)) (notes_from (n + length (e ∷ es)) notes)
     ∙ ap (λ (l : List Logged). notes_at n notes ++ (notes_of l ++ notes_from (n + length (e ∷ es)) notes)) (sym (items_later (suc n) (suc n) notes counted es (omega arith)))
     ∙ ap (λ (l : List Note). notes_at n notes ++ (notes_of (items_from (suc n) rest counted es) ++ l))
-        (ap (λ (m : ℕ). notes_from m notes) more ∙ sym (from_from (suc n) (suc n + length es) notes (omega arith)))
+    (ap (λ (m : ℕ). notes_from m notes) more ∙ sym (from_from (suc n) (suc n + length es) notes (omega arith)))
     ∙ ap (λ (l : List Note). notes_at n notes ++ l) (notes_items (suc n) most rest counted es (placed_from (suc n) n most notes (omega arith) h))
     ∙ placed_split n most notes h
 
@@ -393,15 +393,15 @@ rebuilt m h s p =
     let k = settled m h s in
     let placed : ArePlaced m.entries (length h.entries) (drop 1 h.notes) = (subst (ArePlaced 0 (length h.entries)) k.first p.notes).2 in
     let whole : notes_of (items_from 0 (drop 1 h.notes) h.counted h.entries) ≡ drop 1 h.notes =
-        sym (append-nil _)
-        ∙ ap (λ (l : List Note). notes_of (items_from 0 (drop 1 h.notes) h.counted h.entries) ++ l) (sym (ap (λ (n : ℕ). notes_from n (drop 1 h.notes)) (end (length h.entries)) ∙ k.none))
-        ∙ notes_items 0 (length h.entries) (drop 1 h.notes) h.counted h.entries (placed_less 0 m.entries (length h.entries) (drop 1 h.notes) (omega arith) placed) in
+    sym (append-nil _)
+    ∙ ap (λ (l : List Note). notes_of (items_from 0 (drop 1 h.notes) h.counted h.entries) ++ l) (sym (ap (λ (n : ℕ). notes_from n (drop 1 h.notes)) (end (length h.entries)) ∙ k.none))
+    ∙ notes_items 0 (length h.entries) (drop 1 h.notes) h.counted h.entries (placed_less 0 m.entries (length h.entries) (drop 1 h.notes) (omega arith) placed) in
     ap (λ (es : List Entry). let x : History = record { start = h.start; entries = es; notes = m ∷ notes_of (items_from 0 (drop 1 h.notes) h.counted h.entries); counted = count_from 0 (items_from 0 (drop 1 h.notes) h.counted h.entries) } in x)
     (entries_items 0 (drop 1 h.notes) h.counted h.entries)
     ∙ ap (λ (ns : List Note). let x : History = record { start = h.start; entries = h.entries; notes = m ∷ ns; counted = count_from 0 (items_from 0 (drop 1 h.notes) h.counted h.entries) } in x) whole
     ∙ ap (λ (ns : List Note). let x : History = record { start = h.start; entries = h.entries; notes = ns; counted = count_from 0 (items_from 0 (drop 1 h.notes) h.counted h.entries) } in x) (sym k.first)
     ∙ ap (λ (o : Option (ℕ × List Count)). let x : History = record { start = h.start; entries = h.entries; notes = h.notes; counted = o } in x)
-        (count_items 0 (drop 1 h.notes) h.counted h.entries (λ c is. (omega arith, within c (sym (ap (counted_from (length h.entries)) is) ∙ k.counted))))
+    (count_items 0 (drop 1 h.notes) h.counted h.entries (λ c is. (omega arith, within c (sym (ap (counted_from (length h.entries)) is) ∙ k.counted))))
   where
     end : (n : ℕ) → 0 + n ≡ n
     end n = omega arith

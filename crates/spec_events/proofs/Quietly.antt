@@ -34,28 +34,36 @@ use Rattle.spec_events.specs.Starting.{beginning, by_command, new_process, joine
 use Rattle.spec_events.specs.Lines.{compiled_so, compiled}
 use Rattle.spec_events.specs.Dumping.{told_each}
 
--- no object differs, nor who the connections are, nor what is tuned, the world is as dead as before, and the same dump runs
+-- the dump that runs, and the second: neither changes as lines are done and processes run
+abbrev pub Still : Type 0
+Still = Option (ℕ × List ℕ) × ℕ
+
+abbrev pub still_of : World → Still
+still_of w = (w.dumps.running, w.moment)
+
+-- no object differs, nor who the connections are, nor what is tuned, the world is as dead as before, the same dump runs, and it is the
+-- same second
 pub record Quietly (w v : World) : Type 0 where
   pub objects : v.live.objects ≡ w.live.objects
   pub ties : ties v.live.board.connections ≡ ties w.live.board.connections
   pub tune : v.live.board.tune ≡ w.live.board.tune
   pub dead : v.dead ≡ w.dead
-  pub running : v.dumps.running ≡ w.dumps.running
+  pub still : still_of v ≡ still_of w
 
 pub quietly_same : (w : World) → Quietly w w
-quietly_same w = record { objects = refl; ties = refl; tune = refl; dead = refl; running = refl }
+quietly_same w = record { objects = refl; ties = refl; tune = refl; dead = refl; still = refl }
 
 pub quietly_both : (u v w : World) → Quietly u v → Quietly v w → Quietly u w
-quietly_both u v w p q = record { objects = q.objects ∙ p.objects; ties = q.ties ∙ p.ties; tune = q.tune ∙ p.tune; dead = q.dead ∙ p.dead; running = q.running ∙ p.running }
+quietly_both u v w p q = record { objects = q.objects ∙ p.objects; ties = q.ties ∙ p.ties; tune = q.tune ∙ p.tune; dead = q.dead ∙ p.dead; still = q.still ∙ p.still }
 
 pub quietly_live : (f : Change) → Quiet f → (w : World) → Quietly w (on_live f w)
-quietly_live f q w = let s = q.law w.live in record { objects = s.objects; ties = s.ties; tune = s.tune; dead = refl; running = refl }
+quietly_live f q w = let s = q.law w.live in record { objects = s.objects; ties = s.ties; tune = s.tune; dead = refl; still = refl }
 
 pub quietly_queue : (f : Queue → Queue) (w : World) → Quietly w (on_queue f w)
-quietly_queue f w = record { objects = refl; ties = refl; tune = refl; dead = refl; running = refl }
+quietly_queue f w = record { objects = refl; ties = refl; tune = refl; dead = refl; still = refl }
 
 pub quietly_library : (library : Library) (w : World) → Quietly w (with_library library w)
-quietly_library library w = record { objects = refl; ties = refl; tune = refl; dead = refl; running = refl }
+quietly_library library w = record { objects = refl; ties = refl; tune = refl; dead = refl; still = refl }
 
 -- What follows from a change of objects.
 
@@ -64,8 +72,8 @@ unfolding editors_closed
 closed_tune d b = refl
 
 quietly_followed : (m : Mark) (d : Dbref) (w : World) → Quietly w (followed m d w)
-quietly_followed Lines d w = record { objects = refl; ties = refl; tune = refl; dead = refl; running = refl }
-quietly_followed Gone d w = record { objects = refl; ties = editors_closed_kept tie (λ c. refl) d w.live.board; tune = closed_tune d w.live.board; dead = refl; running = refl }
+quietly_followed Lines d w = record { objects = refl; ties = refl; tune = refl; dead = refl; still = refl }
+quietly_followed Gone d w = record { objects = refl; ties = editors_closed_kept tie (λ c. refl) d w.live.board; tune = closed_tune d w.live.board; dead = refl; still = refl }
 
 quietly_marked : (o : Option Mark) (d : Dbref) (w : World) → Quietly w (option_map_or (λ m. followed m d w) o w)
 quietly_marked None d w = quietly_same w

@@ -36,10 +36,10 @@ module _ (a : Actor) (w : World) where
   Opens v = Open a nobody w.live (state_of w) v
 
   opens_itself : Opens w
-  opens_itself = record { licensed = (same_open a w.live).licensed; tuned = λ h. h; alive = refl; running = refl }
+  opens_itself = record { licensed = (same_open a w.live).licensed; tuned = λ h. h; alive = refl; still = refl }
 
   opens_row : (s : Source) (row : Row) → RowOpen a w.live row → Leads Opens (lifted s w row)
-  opens_row s (gives stack live) h = record { licensed = h.licensed; tuned = in_range_as w.live live h.tune; alive = refl; running = refl }
+  opens_row s (gives stack live) h = record { licensed = h.licensed; tuned = in_range_as w.live live h.tune; alive = refl; still = refl }
   opens_row s (refuses f) h = opens_itself
 
   opens_quietly : (v : World) → Quietly w v → Opens v
@@ -174,7 +174,7 @@ going_run : (tune : Tune) (pid : ℤ) (n : ℕ) (w : World) → Going w (last_wo
 going_run tune pid n w = run_holds tune pid (λ v ts. Going v (last_world v ts)) going_same (λ v x s ts e rest. going_both v _ _ (going_turn tune pid x s v) rest) n w
 
 going_awake : (pid : ℤ) (w : World) → Going w (awake pid w)
-going_awake pid w = record { numbers = refl; tuned = λ h. h; dead = refl; running = refl }
+going_awake pid w = record { numbers = refl; tuned = λ h. h; dead = refl; running = refl; moment = refl }
 
 pub sliced_going : (pid : ℤ) (w : World) → Going w (sliced pid w)
 unfolding sliced

@@ -2,6 +2,9 @@
 use Rattle.std.specs.Prelude.{◌≡◌, ℤ, true, false, pos, List, [], ◌∷◌, codes, refl, is_some}
 use Rattle.muck_model.specs.declared.event.Event.{Event}
 use Rattle.muck_model.specs.declared.event.Event.TheVariants.{Opened, Input, Closed, Moment, Exec, Claim, Slice, Lost, Idle, Take, Cut, Stored, DumpFailed, Halt, StopSeen, Died}
+use Rattle.spec_events.specs.World.{booted, starting}
+use Rattle.spec_events.specs.Steps.{is_lawful, effect}
+use Rattle.spec_events.specs.Histories.{by_porter}
 use Rattle.spec_events.specs.Own.{stage_of, IsWellFormed}
 
 unfoldable pub OwnRows : Type 0
@@ -32,7 +35,11 @@ OwnRows =
     × (is_some (stage_of 3 (Died ∷ Died ∷ [])) ≡ false)
     × (is_some (stage_of 3 (Died ∷ Idle ∷ [])) ≡ false)
     × (is_some (stage_of 10 (Idle ∷ [])) ≡ false)
+    -- any party sees the stop once the world is stopping
+    × (is_lawful starting (record { party = 3; event = StopSeen }) ≡ false)
+    × (is_lawful (effect starting (by_porter Halt)) (record { party = 3; event = StopSeen }) ≡ true)
+    × (is_lawful (effect (effect starting (by_porter Halt)) (by_porter Died)) (by_porter StopSeen) ≡ false)
 
 pub own_rows : OwnRows
-unfolding OwnRows stage_of
-own_rows = (refl, refl, refl, refl, refl, refl, refl, refl, refl, refl, refl, refl, refl, refl, refl, refl, refl, refl, refl, refl, refl, refl)
+unfolding OwnRows stage_of booted starting is_lawful effect
+own_rows = (refl, refl, refl, refl, refl, refl, refl, refl, refl, refl, refl, refl, refl, refl, refl, refl, refl, refl, refl, refl, refl, refl, refl, refl, refl)

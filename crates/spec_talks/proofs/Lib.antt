@@ -1,4 +1,6 @@
 pub mod Histories
 pub mod Talking
 pub mod Halting
+pub mod Moments
+pub mod Items
 pub mod Connected

@@ -45,7 +45,8 @@ impl World {
             return false;
         }
         let state = &self.state;
-        if !state.stopping {
+        let stopping = state.stopping;
+        if !stopping {
             return false;
         }
         self.past.enter(Entry {
