@@ -1,6 +1,6 @@
 -- What a call answers, from where it ended.
 use Rattle.std.proofs.Common.{◌≡◌, ◌⊎◌, inl, inr, ℕ, ◌≤◌, Bool, true, List, refl, sym, ap, subst, ◌∙◌, arith, Option, Some, None, Result, Ok, Err}
-use Rattle.std.specs.Prelude.{codes, ◌++◌, is_some}
+use Rattle.std.specs.Prelude.{codes, ◌++◌}
 use Rattle.muck_io.specs.Faults.{Rose}
 use Rattle.muck_model.specs.declared.event.Entry.{Entry}
 use Rattle.muck_model.specs.declared.note.Note.{Note}
@@ -11,10 +11,11 @@ use Rattle.muck_log.specs.declared.fault.LogFault.{LogFault}
 use Rattle.muck_log.specs.declared.fault.LogFault.TheVariants.{NoMemory as LogMemory, DiskFault as LogDisk, Damaged as LogDamaged, StoreFull as LogFull, Unfit, Stale}
 use Rattle.spec_dumps.specs.Fronts.{file_most}
 use Rattle.muck_script.specs.declared.act.Act.{Act}
+use Rattle.muckd.specs.Words.{Command, run, serve, drill}
 use Rattle.muckd.specs.Outcome.{HasRead, HasBegun, IsUnbegun, IsUntouched, EndsAs, IsInGrammar, IsFirstOutside}
 use Rattle.muckd.specs.inner.Ends.{refusal_of, MayNotOpen, IsMountWhy, MayRefuse, IsScriptWhy, HasPlayed, NeverPlayed, MayEnd, MayEndDump, booted_from}
 use Rattle.muckd.specs.declared.why.Why.{Why}
-use Rattle.muckd.specs.declared.why.Why.TheVariants.{Fine, Usage, BadScript, NoMemory, ReadFault, WriteFault, DiskFault, Damaged, StoreFull}
+use Rattle.muckd.specs.declared.why.Why.TheVariants.{Fine, Usage, BadScript, NoMemory, ReadFault, WriteFault, DiskFault, Damaged, ListenFault, StoreFull, Spent}
 use Rattle.muckd.proofs.Started.{licensed_from, known_from}
 use Rattle.muckd.proofs.Untouched.{untouched_still, untouched_on}
 
@@ -126,7 +127,7 @@ module _ {S K D : Type 0} (left : S → Option (List ℕ)) (faults : S → ℕ) 
       → (tells ≡ true → attached first' ≡ Some (store ++ codes ".a")) → (tells ≡ true → attached second' ≡ Some (store ++ codes ".b"))
       → (tells ≡ true → IsUntouched seen moment images first first') → (tells ≡ true → IsUntouched seen moment images second second') → HasRead left faults s t acts
       → HasPlayed written breaks tells moment images log why acts k l first' second' first'' second'' tale notes
-      → HasBegun left faults written breaks tells attached seen moment images (Some store) why s t k l first second first'' second'' tale notes
+      → HasBegun left faults written breaks tells attached seen moment images store why s t k l first second first'' second'' tale notes
   has_begun mounted fine name_a name_b a b read p = record {
     start = booted_from log.chosen.held.world;
     mounted = log.chosen.held.number;
@@ -138,15 +139,13 @@ module _ {S K D : Type 0} (left : S → Option (List ℕ)) (faults : S → ℕ) 
     };
     happened = record {
       lawful = p.lawful;
-      licensed = licensed_from log.chosen.held.world tale;
-      passwords = known_from log.chosen.held.world tale p.lawful;
+      licensed = licensed_from 0 log.chosen.held.world tale;
+      passwords = known_from 0 log.chosen.held.world tale p.lawful;
       acts = acts;
       read = read;
       run = p.run;
     };
     opened = record {
-      store = store;
-      named = refl;
       mounted_first = first';
       mounted_second = second';
       first_name = name_a;
@@ -170,18 +169,23 @@ grammar_stands : (left : Option (List ℕ)) (line : ℕ) → IsInGrammar left �
 grammar_stands None line is outside = is
 grammar_stands (Some bytes) line is outside = let both = sym is.1 ∙ outside in cc
 
-pub completes : (left : Option (List ℕ)) (r : Result Chosen Damage) (s : Chosen) (why : Why) → (why ≡ Usage → ⊥) → ((line : ℕ) → why ≡ BadScript line → IsFirstOutside left line) → (why ≡ ReadFault → ⊥) → (why ≡ WriteFault → ⊥) → (why ≡ DiskFault → ⊥)
+pub completes : (left : Option (List ℕ)) (r : Result Chosen Damage) (s : Chosen) (U B : Type 0) (why : Why) → EndsAs why U B → (why ≡ Usage → ⊥) → ((line : ℕ) → why ≡ BadScript line → IsFirstOutside left line) → (why ≡ ReadFault → ⊥) → (why ≡ WriteFault → ⊥) → (why ≡ DiskFault → ⊥)
     → ((file : Bool) (at : ℕ) → why ≡ Damaged file at → r ≡ Err (record { second = file; at = at })) → r ≡ Ok s → IsInGrammar left → (why ≡ Fine) ⊎ ((why ≡ NoMemory) ⊎ ((end more : ℕ) × (why ≡ StoreFull end more)))
-completes left r s Fine usage bad read write disk damaged ok grammar = inl refl
-completes left r s Usage usage bad read write disk damaged ok grammar = absurd (usage refl)
-completes left r s (BadScript line) usage bad read write disk damaged ok grammar = absurd (grammar_stands left line grammar (bad line refl))
-completes left r s NoMemory usage bad read write disk damaged ok grammar = inr (inl refl)
-completes left r s ReadFault usage bad read write disk damaged ok grammar = absurd (read refl)
-completes left r s WriteFault usage bad read write disk damaged ok grammar = absurd (write refl)
-completes left r s DiskFault usage bad read write disk damaged ok grammar = absurd (disk refl)
-completes left r s (Damaged file at) usage bad read write disk damaged ok grammar = let both = sym ok ∙ damaged file at refl in cc
-completes left r s (StoreFull end more) usage bad read write disk damaged ok grammar = inr (inr (end, more, refl))
+completes left r s U B Fine ends usage bad read write disk damaged ok grammar = inl refl
+completes left r s U B Usage ends usage bad read write disk damaged ok grammar = absurd (usage refl)
+completes left r s U B (BadScript line) ends usage bad read write disk damaged ok grammar = absurd (grammar_stands left line grammar (bad line refl))
+completes left r s U B NoMemory ends usage bad read write disk damaged ok grammar = inr (inl refl)
+completes left r s U B ReadFault ends usage bad read write disk damaged ok grammar = absurd (read refl)
+completes left r s U B WriteFault ends usage bad read write disk damaged ok grammar = absurd (write refl)
+completes left r s U B DiskFault ends usage bad read write disk damaged ok grammar = absurd (disk refl)
+completes left r s U B (Damaged file at) ends usage bad read write disk damaged ok grammar = let both = sym ok ∙ damaged file at refl in cc
+completes left r s U B ListenFault ends usage bad read write disk damaged ok grammar = absurd ends
+completes left r s U B (Spent turns) ends usage bad read write disk damaged ok grammar = absurd ends
+completes left r s U B (StoreFull end more) ends usage bad read write disk damaged ok grammar = inr (inr (end, more, refl))
 
--- words without the name of a store are no command
-pub no_command : (name : Option (List ℕ)) → name ≡ None → is_some name ≡ true → ⊥
-no_command name none some = let both = sym (ap is_some none) ∙ some in cc
+-- the words of another command
+pub other_store : (a b : List ℕ) → Some (run a) ≡ Some (run b) → a ≡ b
+other_store a b e = cc
+
+pub other_count : (a b : ℕ) → Some (drill a) ≡ Some (drill b) → a ≡ b
+other_count a b e = cc

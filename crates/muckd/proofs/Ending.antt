@@ -7,12 +7,12 @@ use Rattle.spec_events.specs.World.{World}
 use Rattle.spec_events.specs.Histories.{History, Longer, AllLawful}
 use Rattle.muck_script.specs.declared.act.Act.{Act}
 use Rattle.muck_script.specs.Story.{stored, failed, dump_entries, lines_story}
-use Rattle.muckd.specs.Outcome.{HasRun, EndsStored, EndsFailed}
+use Rattle.muckd.specs.Outcome.{HasRun, EndsStored, EndsFailed, IsTooLarge}
 use Rattle.muckd.specs.inner.Plays.{Plays}
 use Rattle.muckd.specs.inner.Dumps.{IsFull}
 use Rattle.muckd.specs.inner.Ends.{EndsPlay, ComesOutAs, MayEndDump}
 use Rattle.muckd.specs.declared.why.Why.{Why}
-use Rattle.muckd.specs.declared.why.Why.TheVariants.{Fine, Usage, BadScript, NoMemory, ReadFault, WriteFault, DiskFault, Damaged, StoreFull}
+use Rattle.muckd.specs.declared.why.Why.TheVariants.{Fine, Usage, BadScript, NoMemory, ReadFault, WriteFault, DiskFault, Damaged, ListenFault, StoreFull, Spent}
 use Rattle.muckd.proofs.Whole.{begun, played_whole, died_dumping}
 
 pub ends_stored : (k m : History) (tale : List Entry) → tale ≡ m.entries → ((n : ℕ) × Longer k m (dump_entries (stored n))) → EndsStored tale
@@ -32,6 +32,8 @@ has_run written breaks tells w note NoMemory acts h k m before after tale is may
 has_run written breaks tells w note Usage acts h k m before after tale is may p d came end same = absurd may
 has_run written breaks tells w note (BadScript line) acts h k m before after tale is may p d came end same = absurd may
 has_run written breaks tells w note ReadFault acts h k m before after tale is may p d came end same = absurd may
+has_run written breaks tells w note ListenFault acts h k m before after tale is may p d came end same = absurd may
+has_run written breaks tells w note (Spent turns) acts h k m before after tale is may p d came end same = absurd may
 has_run written breaks tells w note WriteFault acts h k m before after tale is may p d came end same = absurd may
 
 -- a run began in w, and its tale is the entries of the history m
@@ -53,10 +55,8 @@ module _ {D : Type 0} (moment : D → ℕ) (images : D → ℕ → List ℕ → 
       subst (λ (x : World). StandsWhole moment images f s x tale) starts
       (subst (λ (es : List Entry). StandsWhole moment images f s m.start es) (sym ends) v)
 
-  pub full_from : (end more : ℕ) → IsFull mounted m end more → IsFull mounted (record { start = w; entries = tale; notes = notes }) end more
-  full_from end more v = subst (λ (x : History). IsFull mounted x end more) same v where
-    same : m ≡ record { start = w; entries = tale; notes = notes }
-    same =
-        ap (λ (x : World). let h : History = record { start = x; entries = m.entries; notes = m.notes } in h) starts
-        ∙ ap (λ (es : List Entry). let h : History = record { start = w; entries = es; notes = m.notes } in h) (sym ends)
-        ∙ ap (λ (ns : List Note). let h : History = record { start = w; entries = tale; notes = ns } in h) (sym noted)
+  pub full_from : (end more : ℕ) → IsFull mounted m end more → IsTooLarge w mounted tale notes end more
+  full_from end more v =
+      subst (λ (x : World). IsTooLarge x mounted tale notes end more) starts
+      (subst (λ (es : List Entry). IsTooLarge m.start mounted es notes end more) (sym ends)
+      (subst (λ (ns : List Note). IsTooLarge m.start mounted m.entries ns end more) (sym noted) v))

@@ -18,3 +18,4 @@ pub mod Played
 pub mod Noted
 pub mod Untouched
 pub mod Called
+pub mod Drilled

@@ -28,7 +28,7 @@ appends_nothing (Some w) = ap Some (sym (append-nil w))
 pub appends_as : (a b : Option (List ℕ)) (x y : List ℕ) → x ≡ y → Appends a b x → Appends a b y
 appends_as a b x y e p = let P : List ℕ → Type 0 = Appends a b in subst P e p
 
-text_of-append : (es fs : List Entry) (w : World) → text_of w (es ++ fs) ≡ text_of w es ++ text_of (after w es) fs
+pub text_of-append : (es fs : List Entry) (w : World) → text_of w (es ++ fs) ≡ text_of w es ++ text_of (after w es) fs
 text_of-append [] fs w = refl
 text_of-append (e ∷ es) fs w = ap (λ t. told w e.event ++ t) (text_of-append es fs (effect w e)) ∙ sym (append_assoc (told w e.event) _ _)
 

@@ -12,14 +12,14 @@ use Rattle.muck_script.specs.declared.act.Act.{Act}
 use Rattle.muck_script.specs.Story.{lines_story}
 use Rattle.muckd.specs.Outcome.{halted}
 use Rattle.muckd.specs.inner.Dumps.{DumpsLast, IsNotedOn}
-use Rattle.muckd.specs.inner.Ends.{HasPlayed, IsNotedAt, EndsPlay, ComesOutAs, LastKept, MayEndDump, booted_from, begun_from}
+use Rattle.muckd.specs.inner.Ends.{HasPlayed, IsNotedAt, EndsPlay, ComesOutAs, LastKept, MayEndDump, booted_from, begun_at}
 use Rattle.muckd.specs.inner.Plays.{Plays, Breaks}
 use Rattle.muckd.specs.declared.why.Why.{Why}
 use Rattle.muckd.specs.declared.why.Why.TheVariants.{NoMemory, WriteFault}
 use Rattle.muckd.proofs.Ending.{has_run, start_is, lawful_from, safe_from, whole_from, full_from}
 use Rattle.muckd.proofs.Whole.{died_playing, halted_off}
 
-module _ {K D : Type 0} (written : K → Option (List ℕ)) (breaks : K → ℕ) (tells : Bool) (moment : D → ℕ) (images : D → ℕ → List ℕ → Type 0) (log : LogState) (note : Note) (acts : List Act) (h : History) (begins : h ≡ begun_from log note) (before after : K)
+module _ {K D : Type 0} (written : K → Option (List ℕ)) (breaks : K → ℕ) (tells : Bool) (moment : D → ℕ) (images : D → ℕ → List ℕ → Type 0) (log : LogState) (note : Note) (acts : List Act) (h : History) (begins : h ≡ begun_at 0 log note) (before after : K)
     (first second first' second' : D) (at : (note.first_moment ≡ moment first) × (note.second_moment ≡ moment second)) (tale : List Entry) (notes : List Note) where
   abbrev start : World
   start = booted_from log.chosen.held.world

@@ -34,7 +34,7 @@ use Rattle.spec_live.specs.Boards.{early_board}
 use Rattle.spec_live.specs.Consistent.{IsConsistent}
 use Rattle.muck_model.specs.declared.event.Entry.{Entry as Happened}
 use Rattle.muckd.specs.inner.Dumps.{note_of}
-use Rattle.muckd.specs.inner.Ends.{IsBootable, booted_from, unbegun_from, begun_from}
+use Rattle.muckd.specs.inner.Ends.{IsBootable, booted_at, unbegun_at, begun_at}
 use Rattle.muckd.proofs.Whole.{begun}
 
 -- what is kept of a log that was mounted makes a world
@@ -86,40 +86,40 @@ unmarked os n = ap (λ (o : Option Entry). option_and_then (λ (e : Entry). e.ma
     by_cases (Some s) = refl
 
 -- a run of such a world keeps to its licences, and its players are known
-pub licensed_from : (kept : Kept) (es : List Happened) → AllLicensed (booted_from kept) es
-licensed_from kept es = all_licensed_booted (loaded kept.objects) kept.tune 0 0 (unmarked kept.objects) es
+pub licensed_from : (began : ℕ) (kept : Kept) (es : List Happened) → AllLicensed (booted_at began kept) es
+licensed_from began kept es = all_licensed_booted (loaded kept.objects) kept.tune began began (unmarked kept.objects) es
 
-pub known_from : (kept : Kept) (es : List Happened) → AllLawful (booted_from kept) es → AllKnown (booted_from kept) es
-known_from kept es lawful = all_known_booted (loaded kept.objects) kept.tune 0 0 (unmarked kept.objects) es lawful
+pub known_from : (began : ℕ) (kept : Kept) (es : List Happened) → AllLawful (booted_at began kept) es → AllKnown (booted_at began kept) es
+known_from began kept es lawful = all_known_booted (loaded kept.objects) kept.tune began began (unmarked kept.objects) es lawful
 
 -- what a dump would store of that world is what was kept
-pub held_again : (kept : Kept) → IsBootable kept → All (λ s. AreProperties s.props) kept.objects → kept ≡ persisted (booted_from kept)
+pub held_again : (began : ℕ) (kept : Kept) → IsBootable kept → All (λ s. AreProperties s.props) kept.objects → kept ≡ persisted (booted_at began kept)
 unfolding booted early_board
-held_again kept is props =
+held_again began kept is props =
     ap (λ (os : List Stored). let k : Kept = record { objects = os; tune = kept.tune } in k)
     (sym (persist_loaded kept.objects is.few is.whole (recursion_from_All (λ s. AreProperties s.props) kept.objects props)))
 
-pub hangs : (kept : Kept) → IsBootable kept → IsConsistent (booted_from kept).live.objects
+pub hangs : (began : ℕ) (kept : Kept) → IsBootable kept → IsConsistent (booted_at began kept).live.objects
 unfolding booted
-hangs kept is = (whole_hangs kept.objects is.few is.whole).world
+hangs began kept is = (whole_hangs kept.objects is.few is.whole).world
 
 -- the world of a run that begins lives, and no dump runs
-pub begins_alive : (log : LogState) (note : Note) (h : History) → h ≡ begun_from log note → (now h).dead ≡ false
+pub begins_alive : (began : ℕ) (log : LogState) (note : Note) (h : History) → h ≡ begun_at began log note → (now h).dead ≡ false
 unfolding now booted
-begins_alive log note h is = ap (λ (x : History). (now x).dead) is
+begins_alive began log note h is = ap (λ (x : History). (now x).dead) is
 
-pub begins_idle : (log : LogState) (note : Note) (h : History) → h ≡ begun_from log note → (now h).dumps.running ≡ None
+pub begins_idle : (began : ℕ) (log : LogState) (note : Note) (h : History) → h ≡ begun_at began log note → (now h).dumps.running ≡ None
 unfolding now booted
-begins_idle log note h is = ap (λ (x : History). (now x).dumps.running) is
+begins_idle began log note h is = ap (λ (x : History). (now x).dumps.running) is
 
-module _ {D : Type 0} (seen : D → List ℕ) (moment : D → ℕ) (images : D → ℕ → List ℕ → Type 0) (faults : D → ℕ) (log : LogState) (f s : D) (is : IsBootable log.chosen.held.world) (props : All (λ x. AreProperties x.props) log.chosen.held.world.objects) (on : IsMountedAs seen moment images file_most log f s) where
-  rests_there : Rests seen moment images faults (Some log) f s log.chosen.held.number (begun (booted_from log.chosen.held.world) (note_of moment faults f s (unbegun_from log)))
+module _ {D : Type 0} (began : ℕ) (seen : D → List ℕ) (moment : D → ℕ) (images : D → ℕ → List ℕ → Type 0) (faults : D → ℕ) (log : LogState) (f s : D) (is : IsBootable log.chosen.held.world) (props : All (λ x. AreProperties x.props) log.chosen.held.world.objects) (on : IsMountedAs seen moment images file_most log f s) where
+  rests_there : Rests seen moment images faults (Some log) f s log.chosen.held.number (begun (booted_at began log.chosen.held.world) (note_of moment faults f s (unbegun_at began log)))
   rests_there =
-      rests_begun seen moment images faults log f s (booted_from log.chosen.held.world) (note_of moment faults f s (unbegun_from log)) on.mounted on.limit (held_again log.chosen.held.world is props)
-      (hangs log.chosen.held.world is) refl (refl, refl) (omega arith, omega arith)
+      rests_begun seen moment images faults log f s (booted_at began log.chosen.held.world) (note_of moment faults f s (unbegun_at began log)) on.mounted on.limit (held_again began log.chosen.held.world is props)
+      (hangs began log.chosen.held.world is) refl (refl, refl) (omega arith, omega arith)
 
   -- a run that begins rests on the log
-  pub rests_started : (held : Option LogState) (h : History) → held ≡ Some log → h ≡ begun_from log (note_of moment faults f s (unbegun_from log)) → Rests seen moment images faults held f s log.chosen.held.number h
+  pub rests_started : (held : Option LogState) (h : History) → held ≡ Some log → h ≡ begun_at began log (note_of moment faults f s (unbegun_at began log)) → Rests seen moment images faults held f s log.chosen.held.number h
   rests_started held h kept begins =
       subst (λ (l : Option LogState). Rests seen moment images faults l f s log.chosen.held.number h) (sym kept)
       (subst (λ (x : History). Rests seen moment images faults (Some log) f s log.chosen.held.number x) (sym begins) rests_there)

@@ -24,7 +24,7 @@ use Rattle.muckd.specs.Outcome.{PlayedWhole, BrokeOff, IsScriptIn, IsReadOut, Is
 
 -- a run begins in this world, with the note of the mounting
 abbrev pub begun : World → Note → History
-begun w note = record { start = w; entries = []; notes = note ∷ [] }
+begun w note = record { start = w; entries = []; notes = note ∷ []; counted = None }
 
 pub begun_now : (h : History) (w : World) (note : Note) → h ≡ begun w note → now h ≡ w
 unfolding now

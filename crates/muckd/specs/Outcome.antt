@@ -18,7 +18,7 @@ use Rattle.muck_script.specs.declared.act.Act.{Act}
 use Rattle.muck_script.specs.Script.{script_of}
 use Rattle.muck_script.specs.Story.{Dumped, stored, failed, outcomes_of, dump_entries, story, text_of, transcript}
 use Rattle.muckd.specs.declared.why.Why.{Why}
-use Rattle.muckd.specs.declared.why.Why.TheVariants.{Fine, Usage, BadScript, NoMemory, ReadFault, WriteFault, DiskFault, Damaged, StoreFull}
+use Rattle.muckd.specs.declared.why.Why.TheVariants.{Fine, Usage, BadScript, NoMemory, ReadFault, WriteFault, DiskFault, Damaged, ListenFault, StoreFull, Spent}
 
 abbrev pub status_of : Why → ℕ
 status_of Fine = 0
@@ -29,7 +29,9 @@ status_of ReadFault = 4
 status_of WriteFault = 5
 status_of DiskFault = 6
 status_of (Damaged second at) = 7
+status_of ListenFault = 8
 status_of (StoreFull end more) = 9
+status_of (Spent turns) = 10
 
 -- what was left in the source is this script, where the source tells its bytes
 abbrev pub IsScriptIn : Option (List ℕ) → List Act → Type 0
@@ -130,12 +132,12 @@ pub record HasRead {S : Type 0} (left : S → Option (List ℕ)) (faults : S →
   pub read : IsReadOut (left before) (left now)
   pub fine : faults now ≡ faults before
 
--- The world that the run starts from: what the two files held, with nobody connected, at the second 0. Where the disks tell their bytes,
--- that is what these bytes hold, and the number is that of their last batch.
-pub record IsStart (tells : Bool) (a b : List ℕ) (w : World) (mounted : ℕ) : Type 0 where
+-- The world that the run starts from: what the two files held, with nobody connected, at this second, which its random numbers begin
+-- with too. Where the disks tell their bytes, that is what these bytes hold, and the number is that of their last batch.
+pub record IsStart (tells : Bool) (a b : List ℕ) (began : ℕ) (w : World) (mounted : ℕ) : Type 0 where
   pub kept : Kept
   pub fine : IsFine kept
-  pub boots : w ≡ booted (loaded kept.objects) kept.tune 0 0
+  pub boots : w ≡ booted (loaded kept.objects) kept.tune began began
   pub holds : tells ≡ true → (s : Chosen) × (stored_in a b ≡ Ok s) × (s.held.world ≡ kept) × (s.held.number ≡ mounted)
 
 -- What happened in a run that began in the world w: each entry was lawful where it stands, and changed only what is open there; whoever
@@ -150,9 +152,7 @@ pub record HasHappened {S K : Type 0} (left : S → Option (List ℕ)) (faults :
 
 -- The files STORE.a and STORE.b of this store were opened, and the store was mounted: until then nothing was written to them. The first note
 -- is that of both disks as they were there.
-pub record IsOpened {D : Type 0} (tells : Bool) (attached : D → Option (List ℕ)) (seen : D → List ℕ) (moment : D → ℕ) (images : D → ℕ → List ℕ → Type 0) (name : Option (List ℕ)) (first second : D) (notes : List Note) : Type 0 where
-  pub store : List ℕ
-  pub named : name ≡ Some store
+pub record IsOpened {D : Type 0} (tells : Bool) (attached : D → Option (List ℕ)) (seen : D → List ℕ) (moment : D → ℕ) (images : D → ℕ → List ℕ → Type 0) (store : List ℕ) (first second : D) (notes : List Note) : Type 0 where
   pub mounted_first : D
   pub mounted_second : D
   pub first_name : tells ≡ true → attached mounted_first ≡ Some (store ++ codes ".a")
@@ -165,22 +165,27 @@ pub record IsOpened {D : Type 0} (tells : Bool) (attached : D → Option (List �
   pub first_moment : note.first_moment ≡ moment mounted_first
   pub second_moment : note.second_moment ≡ moment mounted_second
 
+-- The batch of a world after this history would end past the most bytes of a file, on the store after a front of the history that is
+-- noted by then: it would begin at `end`, and has so many bytes more.
+abbrev pub IsTooLarge : World → ℕ → List Entry → List Note → ℕ → ℕ → Type 0
+IsTooLarge w mounted tale notes end more = (n : ℕ) × (store : Chosen) × IsFront w mounted tale notes n store
+    × (end ≡ (target store).place) × (more ≡ more_of (log_of store) (dump_payload store (after w tale))) × (file_most < end + more)
+
 -- A run that began, with its disks: their bytes before, and what is kept of them at each moment since they were mounted, which the first
 -- note tells.
 pub record HasBegun {S K D : Type 0} (left : S → Option (List ℕ)) (faults : S → ℕ) (written : K → Option (List ℕ)) (breaks : K → ℕ)
-    (tells : Bool) (attached : D → Option (List ℕ)) (seen : D → List ℕ) (moment : D → ℕ) (images : D → ℕ → List ℕ → Type 0) (name : Option (List ℕ)) (why : Why)
+    (tells : Bool) (attached : D → Option (List ℕ)) (seen : D → List ℕ) (moment : D → ℕ) (images : D → ℕ → List ℕ → Type 0) (store : List ℕ) (why : Why)
     (s t : S) (k l : K) (first second first' second' : D) (tale : List Entry) (notes : List Note) : Type 0 where
   pub start : World
   pub mounted : ℕ
-  pub begins : IsStart tells (seen first) (seen second) start mounted
+  pub begins : IsStart tells (seen first) (seen second) 0 start mounted
   pub happened : HasHappened left faults written breaks start why s t k l tale
-  pub opened : IsOpened tells attached seen moment images name first second notes
+  pub opened : IsOpened tells attached seen moment images store first second notes
   pub safe : tells ≡ true → IsSafe moment images first' second' start mounted tale notes
   pub whole : tells ≡ true → why ≡ Fine → StandsWhole moment images first' second' start tale
-  pub full : (end more : ℕ) → tells ≡ true → why ≡ StoreFull end more → (n : ℕ) × (store : Chosen) × IsFront start mounted tale notes n store
-      × (end ≡ (target store).place) × (more ≡ more_of (log_of store) (dump_payload store (after start tale))) × (file_most < end + more)
+  pub full : (end more : ℕ) → tells ≡ true → why ≡ StoreFull end more → IsTooLarge start mounted tale notes end more
 
--- Which of the two is so, by the answer: the run wasn't begun, or it was.
+-- Which of the two is so, by the answer: the run wasn't begun, or it was. What ends a server alone is no answer.
 abbrev pub EndsAs : Why → Type 0 → Type 0 → Type 0
 EndsAs Usage unbegun begun = unbegun
 EndsAs (BadScript line) unbegun begun = unbegun
@@ -188,4 +193,6 @@ EndsAs ReadFault unbegun begun = unbegun
 EndsAs Fine unbegun begun = begun
 EndsAs WriteFault unbegun begun = begun
 EndsAs (StoreFull end more) unbegun begun = begun
+EndsAs ListenFault unbegun begun = ⊥
+EndsAs (Spent turns) unbegun begun = ⊥
 EndsAs why unbegun begun = unbegun ⊎ begun

@@ -1,3 +1,4 @@
 pub mod Plays
 pub mod Dumps
 pub mod Ends
+pub mod Drills

@@ -1,7 +1,9 @@
 //! A text-world server: `muckd run STORE` reads a script, runs it on the world of the store, and writes its transcript.
+//! `muckd drill N` runs a fixed script on the starting world, and writes how many objects, lines and bytes came of it.
 #![tactic(auto)]
 
 mod command;
+mod drilling;
 mod dumping;
 mod playing;
 #[cfg(test)]
@@ -13,7 +15,7 @@ use muck_disk::FileDisk;
 use muck_io::{ReaderSource, WriterSink};
 use std::process::ExitCode;
 use std::{env, io};
-use top::muckd;
+use top::by_script;
 use why::Why;
 
 // The words behind the program's name.
@@ -42,7 +44,7 @@ fn main(rt: HostRuntime) -> io::Result<ExitCode> {
     let mut out = WriterSink::new(io::writer(&rt));
     let mut first = FileDisk::new(rt);
     let mut second = FileDisk::new(rt);
-    let done = muckd(
+    let done = by_script(
         rt.alloc(),
         &words,
         &mut script,

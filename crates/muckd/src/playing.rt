@@ -1,5 +1,5 @@
 // A run of a script: what it makes happen in the world, and what is written of it.
-ghost use Rattle.std.specs.Prelude.{◌≡◌, ◌≤◌, OnOk, IsErrOf, OnErr, ◌||◌, is_some, length, true, false, Option, None, List, ℕ};
+ghost use Rattle.std.specs.Prelude.{◌≡◌, ◌≤◌, IfOk, OnOk, IsErrOf, OnErr, ◌||◌, is_some, length, vec_len, true, false, Option, None, List, ℕ};
 ghost use Rattle.muck_io.specs.Faults.{Rose};
 ghost use Rattle.spec_events.specs.Histories.{now};
 ghost use Rattle.spec_live.specs.Connections.{connections_most};
@@ -14,13 +14,20 @@ use muck_io::{Sink, WriteFailed, write_all};
 use muck_machine::World;
 use muck_model::NoMemory;
 use muck_script::{Act, farewell_text, lines_text, settle};
-use std::alloc::Global;
+use std::alloc::{AllocError, Global};
 
 /// Why a run broke off.
 #[derive(Clone, Copy, Debug, PartialEq, Eq)]
 pub enum RunFault {
     NoMemory,
     WriteFault,
+}
+
+/// Room for a whole queue.
+pub fn buffer(alloc: Global) -> Result<Vec<u8>, AllocError>
+    ensures { IfOk result (λ buf. 131090 ≤ vec_len buf) }
+{
+    vec![in alloc; 0u8; 131_090]
 }
 
 // Takes the turns of lines and processes; nothing is written of it.

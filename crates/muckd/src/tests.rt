@@ -1,5 +1,5 @@
 // What no clause says: the worked rows byte for byte, and what stands where each read or write fails in turn.
-use crate::top::muckd;
+use crate::top::by_script;
 use crate::why::Why;
 use muck_disk::{Disk, FailDisk, MemDisk};
 use muck_io::{MemSink, MemSource};
@@ -52,7 +52,7 @@ fn run_on<D: Disk>(
     let bytes = script.as_bytes().to_vec(alloc)?;
     let mut source = MemSource::new(bytes, failing(alloc, read)?).at_most(at_once.max(1));
     let mut sink = MemSink::new(alloc, failing(alloc, write)?).at_most(at_once.max(1));
-    let done = muckd(
+    let done = by_script(
         alloc,
         words.as_slice(),
         &mut source,
@@ -116,7 +116,7 @@ fn other_causes(rt: HostRuntime) -> Result<(), Fail> {
     let mut sink = MemSink::new(rt.alloc(), Vec::new(rt.alloc()));
     let mut first = MemDisk::new(rt.alloc(), &[])?;
     let mut second = MemDisk::new(rt.alloc(), &[])?;
-    let done = muckd(
+    let done = by_script(
         rt.alloc(),
         words.as_slice(),
         &mut source,
@@ -126,6 +126,44 @@ fn other_causes(rt: HostRuntime) -> Result<(), Fail> {
     );
     assert_eq!(rt; done.status, 1);
     assert_eq!(rt; done.why, Why::Usage);
+    Ok(())
+}
+
+// What these words answer, with an empty script on an empty store, and what is written.
+fn answer(alloc: Global, words: &[&str]) -> Result<(Why, Vec<u8>), Fail> {
+    let words = words_of(alloc, words)?;
+    let mut source = MemSource::new(Vec::new(alloc), Vec::new(alloc));
+    let mut sink = MemSink::new(alloc, Vec::new(alloc));
+    let mut first = MemDisk::new(alloc, &[])?;
+    let mut second = MemDisk::new(alloc, &[])?;
+    let done = by_script(
+        alloc,
+        words.as_slice(),
+        &mut source,
+        &mut sink,
+        &mut first,
+        &mut second,
+    );
+    Ok((done.why, sink.bytes().to_vec(alloc)?))
+}
+
+#[test]
+fn drills(rt: HostRuntime) -> Result<(), Fail> {
+    let cases = [
+        ("1", "drill 1: 4 objects, 7 lines, 155 bytes\n"),
+        ("2", "drill 2: 6 objects, 12 lines, 248 bytes\n"),
+        ("10", "drill 10: 22 objects, 52 lines, 1008 bytes\n"),
+    ];
+    for (count, want) in cases {
+        let (why, written) = answer(rt.alloc(), &["drill", count])?;
+        assert_eq!(rt; why, Why::Fine);
+        assert_eq!(rt; written.as_slice(), want.as_bytes());
+    }
+    for count in ["0", "01", "1001", "+1", ""] {
+        let (why, written) = answer(rt.alloc(), &["drill", count])?;
+        assert_eq!(rt; why, Why::Usage);
+        assert!(rt; written.is_empty());
+    }
     Ok(())
 }
 
@@ -178,7 +216,15 @@ fn causes_are_shown(rt: HostRuntime) -> Result<(), Fail> {
             "Damaged 1 67",
             7,
         ),
+        (Why::ListenFault, "ListenFault", 8),
         (Why::StoreFull { end: 9, more: 8 }, "StoreFull 9 8", 9),
+        (
+            Why::Spent {
+                turns: 4_611_686_018_427_387_904,
+            },
+            "Spent 4611686018427387904",
+            10,
+        ),
     ];
     for (why, text, status) in cases {
         let shown = format!(in rt.alloc(); "{why}")?;

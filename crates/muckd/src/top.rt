@@ -9,15 +9,18 @@ ghost use Rattle.muck_log.specs.Mount.{IsMountedAs};
 ghost use Rattle.spec_dumps.specs.Fronts.{file_most};
 ghost use Rattle.spec_dumps.specs.Holding.{Quietly, Rests};
 ghost use Rattle.muckd.specs.inner.Dumps.{note_of, DumpsLast, IsNotedOn};
-ghost use Rattle.muckd.specs.inner.Ends.{refusal_of, why_of, MayNotOpen, IsMountWhy, MayRefuse, MayEnd, MayEndDump, IsScriptWhy, IsBootable, booted_from, unbegun_from, begun_from, EndsPlay, ComesOutAs, LastKept, HasPlayed, NeverPlayed};
+ghost use Rattle.muckd.specs.inner.Ends.{refusal_of, why_of, MayNotOpen, IsMountWhy, MayRefuse, MayEnd, MayEndDump, IsScriptWhy, IsBootable, booted_at, unbegun_at, begun_at, EndsPlay, ComesOutAs, LastKept, HasPlayed, NeverPlayed};
 ghost use Rattle.muckd.specs.inner.Plays.{PlaysOrBreaks};
 ghost use Rattle.muck_script.specs.Story.{dumping};
-ghost use Rattle.muckd.specs.Words.{store_of, is_run};
+ghost use Rattle.muckd.specs.Words.{run, drill, command_of, seen_command, is_scripted};
+ghost use Rattle.std.specs.Option.{option_map};
+ghost use Rattle.muckd.specs.Drill.{HasDrilled};
 ghost use Rattle.muckd.specs.Outcome.{status_of, halted, HasRead, HasBegun, EndsAs, IsUnbegun, IsUntouched, IsFirstOutside, IsInGrammar};
 
-use crate::command::store_of;
+use crate::command::{Command, command_of};
+use crate::drilling::drill;
 use crate::dumping::{FILE_MOST, Store, dump};
-use crate::playing::{RunFault, play};
+use crate::playing::{RunFault, buffer, play};
 use crate::why::Why;
 use muck_db::{Db, Persisted};
 use muck_disk::{Disk, DiskFault};
@@ -28,7 +31,7 @@ use muck_model::{NoMemory, Tale};
 use muck_script::{Act, SCRIPT_MOST, Script, ScriptFault, read};
 use std::alloc::{AllocError, Global};
 
-/// How a call of [`muckd`] ended: the exit status with its cause, and what happened in the world, in order.
+/// How a call of [`by_script`] ended: the exit status with its cause, and what happened in the world, in order.
 #[derive(Drop)]
 pub struct Done {
     pub status: u8,
@@ -36,14 +39,16 @@ pub struct Done {
     pub tale: Tale,
 }
 
-/// Does all that the program does. The words `run STORE` open the files `STORE.a` and `STORE.b` as the two disks, mount the store that
-/// they hold, read the script whole from the source, run it on that world, write its transcript to the sink and dump the world in
-/// the end; all other words are no command. STORE has 1 to 200 bytes and doesn't begin with `-`.
+/// Does all that a script does, and waits for nobody. The words `run STORE` open the files `STORE.a` and `STORE.b` as the two disks, mount
+/// the store that they hold, read the script whole from the source, run it on that world, write its transcript to the sink and dump the
+/// world in the end. The words `drill N` play a fixed script on the starting world and write a summary of it. No other words are a
+/// command here, those of `serve` neither. STORE has 1 to 200 bytes and doesn't begin with `-`; N is 1 to 1000, in decimal without sign
+/// or leading zeros.
 ///
 /// The first cause stands: the words, then opening and mounting, then reading the script, then its grammar, then the run, then the last
 /// dump. Want of memory may come at any place. Nothing is dumped where the run wasn't begun, and after want of memory; after a fault
 /// of the sink the last dump is made all the same.
-pub fn muckd<S: Source, K: Sink, D: Disk>(
+pub fn by_script<S: Source, K: Sink, D: Disk>(
     alloc: Global,
     words: &[String],
     script: &mut S,
@@ -53,18 +58,21 @@ pub fn muckd<S: Source, K: Sink, D: Disk>(
 ) -> Done
     ensures status { result.status ≡ status_of result.why }
 
-    // Exactly where the words are no command; then nothing was read, and no disk was touched.
-    ensures usage { (result.why ≡ Why.Usage) ↔ (is_run (map string_bytes words.now) ≡ false) }
-    ensures nothing_read { result.why ≡ Why.Usage → (script.new ≡ script.old) × (first.new ≡ first.old) × (second.new ≡ second.old) }
+    // Exactly where the words are no command of a script; then nothing was read or written, and no disk was touched.
+    ensures usage { (result.why ≡ Why.Usage) ↔ (is_scripted (command_of (map string_bytes words.now)) ≡ false) }
+    ensures untouched { result.why ≡ Why.Usage → (script.new ≡ script.old) × (out.new ≡ out.old) × (first.new ≡ first.old) × (second.new ≡ second.old) × (result.tale.entries ≡ []) }
 
     // The first line outside the grammar has this number.
     ensures bad_script { (line : ℕ) → result.why ≡ Why.BadScript line → IsFirstOutside (S.left script.old) line }
 
-    // Either nothing happened, and nothing was written, to the sink or to a file; or one history happened, from the world that the two files
-    // held: by the lines of the script, lawfully, and with leave. It says what was written, how the last dump came out, and what the files
-    // hold, whatever a crash leaves of them. The answer says which of the two, but for want of memory and faults of the store, which may
-    // come before the run and in it.
-    ensures history { EndsAs result.why (IsUnbegun D.tells D.seen D.moment D.images out.old out.new first.old second.old first.new second.new result.tale.entries) (HasBegun S.left S.faults K.written K.faults D.tells D.attached D.seen D.moment D.images (store_of (map string_bytes words.now)) result.why script.old script.new out.old out.new first.old second.old first.new second.new result.tale.entries result.tale.notes) }
+    // With the words of `run`, either nothing happened, and nothing was written, to the sink or to a file; or one history happened, from
+    // the world that the two files held: by the lines of the script, lawfully, and with leave. It says what was written, how the last dump
+    // came out, and what the files hold, whatever a crash leaves of them. The answer says which of the two, but for want of memory and
+    // faults of the store, which may come before the run and in it.
+    ensures run { (store : List ℕ) → command_of (map string_bytes words.now) ≡ Some (run store) → EndsAs result.why (IsUnbegun D.tells D.seen D.moment D.images out.old out.new first.old second.old first.new second.new result.tale.entries) (HasBegun S.left S.faults K.written K.faults D.tells D.attached D.seen D.moment D.images store result.why script.old script.new out.old out.new first.old second.old first.new second.new result.tale.entries result.tale.notes) }
+
+    // With those of `drill`, its summary was written, and nothing was read or touched besides.
+    ensures drill { (n : ℕ) → command_of (map string_bytes words.now) ≡ Some (drill n) → HasDrilled K.written K.faults n result.why out.old out.new result.tale.entries × (script.new ≡ script.old) × (first.new ≡ first.old) × (second.new ≡ second.old) }
 
     // A fault is answered only where that count rose in this call; and where it isn't answered it did not rise, so that the
     // first cause stands.
@@ -83,18 +91,50 @@ pub fn muckd<S: Source, K: Sink, D: Disk>(
 
     // Words of `run`, a store that loads, a script inside the grammar and no count that rose: the work is done, or memory was wanted, or
     // the last dump would pass what a file may have.
-    ensures complete { (s : Chosen) → is_run (map string_bytes words.now) ≡ true → D.tells ≡ true → stored (D.seen first.old) (D.seen second.old) ≡ Ok s → IsInGrammar (S.left script.old)
+    ensures complete { (store : List ℕ) (s : Chosen) → command_of (map string_bytes words.now) ≡ Some (run store) → D.tells ≡ true → stored (D.seen first.old) (D.seen second.old) ≡ Ok s → IsInGrammar (S.left script.old)
         → (Rose (S.faults script.old) (S.faults script.new) → ⊥) → (Rose (K.faults out.old) (K.faults out.new) → ⊥) → (Rose (D.faults first.old) (D.faults first.new) → ⊥) → (Rose (D.faults second.old) (D.faults second.new) → ⊥)
         → (result.why ≡ Why.Fine) ⊎ ((result.why ≡ Why.NoMemory) ⊎ ((end more : ℕ) × (result.why ≡ Why.StoreFull end more))) }
 {
-    let (why, tale) = match store_of(words) {
-        Some(name) => run(alloc, name, script, out, first, second),
-        None => (Why::Usage, Tale::none()),
-    };
+    let (why, tale) = obey(alloc, command_of(words), script, out, first, second);
     Done {
         status: why.status(),
         why,
         tale,
+    }
+}
+
+// What a command of a script does, and why it ends.
+fn obey<S: Source, K: Sink, D: Disk>(
+    alloc: Global,
+    command: Option<Command<'_>>,
+    script: &mut S,
+    out: &mut K,
+    first: &mut D,
+    second: &mut D,
+) -> (Why, Tale)
+    ensures usage { (result.0 ≡ Why.Usage) ↔ (is_scripted (option_map seen_command command) ≡ false) }
+    ensures untouched { result.0 ≡ Why.Usage → (script.new ≡ script.old) × (out.new ≡ out.old) × (first.new ≡ first.old) × (second.new ≡ second.old) × (result.1.entries ≡ []) }
+    ensures bad_script { (line : ℕ) → result.0 ≡ Why.BadScript line → IsFirstOutside (S.left script.old) line }
+    ensures run { (store : List ℕ) → option_map seen_command command ≡ Some (run store) → EndsAs result.0 (IsUnbegun D.tells D.seen D.moment D.images out.old out.new first.old second.old first.new second.new result.1.entries) (HasBegun S.left S.faults K.written K.faults D.tells D.attached D.seen D.moment D.images store result.0 script.old script.new out.old out.new first.old second.old first.new second.new result.1.entries result.1.notes) }
+    ensures drill { (n : ℕ) → option_map seen_command command ≡ Some (drill n) → HasDrilled K.written K.faults n result.0 out.old out.new result.1.entries × (script.new ≡ script.old) × (first.new ≡ first.old) × (second.new ≡ second.old) }
+    ensures read_fault { result.0 ≡ Why.ReadFault → Rose (S.faults script.old) (S.faults script.new) }
+    ensures write_fault { result.0 ≡ Why.WriteFault → Rose (K.faults out.old) (K.faults out.new) }
+    ensures source_stands { (result.0 ≡ Why.ReadFault → ⊥) → S.faults script.new ≡ S.faults script.old }
+    ensures sink_stands { (result.0 ≡ Why.WriteFault → ⊥) → K.faults out.new ≡ K.faults out.old }
+    ensures disk_fault { result.0 ≡ Why.DiskFault → Rose (D.faults first.old) (D.faults first.new) ⊎ Rose (D.faults second.old) (D.faults second.new) }
+    ensures damaged { (file : Bool) (at : ℕ) → D.tells ≡ true → result.0 ≡ Why.Damaged file at → stored (D.seen first.old) (D.seen second.old) ≡ Err (record { second = file; at = at }) }
+    ensures unread { (file : Bool) (at : ℕ) → D.tells ≡ true → result.0 ≡ Why.Damaged file at → script.new ≡ script.old }
+    ensures loads { D.tells ≡ true → (result.0 ≡ Why.ReadFault) ⊎ ((line : ℕ) × (result.0 ≡ Why.BadScript line)) → (s : Chosen) × (stored (D.seen first.old) (D.seen second.old) ≡ Ok s) }
+{
+    match command {
+        Some(Command::Run(name)) => run(alloc, name, script, out, first, second),
+        Some(Command::Drill(rounds)) => drill(alloc, rounds, out),
+        Some(Command::Serve {
+            store: _,
+            port: _,
+            workers: _,
+        }) => (Why::Usage, Tale::none()),
+        None => (Why::Usage, Tale::none()),
     }
 }
 
@@ -220,7 +260,7 @@ fn run<S: Source, K: Sink, D: Disk>(
 ) -> (Why, Tale)
     ensures usage { result.0 ≡ Why.Usage → ⊥ }
     ensures bad_script { (line : ℕ) → result.0 ≡ Why.BadScript line → IsFirstOutside (S.left script.old) line }
-    ensures history { EndsAs result.0 (IsUnbegun D.tells D.seen D.moment D.images out.old out.new first.old second.old first.new second.new result.1.entries) (HasBegun S.left S.faults K.written K.faults D.tells D.attached D.seen D.moment D.images (Some name.now) result.0 script.old script.new out.old out.new first.old second.old first.new second.new result.1.entries result.1.notes) }
+    ensures history { EndsAs result.0 (IsUnbegun D.tells D.seen D.moment D.images out.old out.new first.old second.old first.new second.new result.1.entries) (HasBegun S.left S.faults K.written K.faults D.tells D.attached D.seen D.moment D.images name.now result.0 script.old script.new out.old out.new first.old second.old first.new second.new result.1.entries result.1.notes) }
     ensures read_fault { result.0 ≡ Why.ReadFault → Rose (S.faults script.old) (S.faults script.new) }
     ensures write_fault { result.0 ≡ Why.WriteFault → Rose (K.faults out.old) (K.faults out.new) }
     ensures source_stands { (result.0 ≡ Why.ReadFault → ⊥) → S.faults script.new ≡ S.faults script.old }
@@ -240,27 +280,37 @@ fn run<S: Source, K: Sink, D: Disk>(
     }
 }
 
-// Room for a whole queue.
-fn buffer(alloc: Global) -> Result<Vec<u8>, AllocError>
-    ensures { IfOk result (λ buf. 131090 ≤ vec_len buf) }
-{
-    vec![in alloc; 0u8; 131_090]
-}
-
-// The world of what a store holds, in which nothing has happened yet.
+// The world of what a store holds at this second, which its random numbers begin with too; nothing has happened in it yet.
 #[tactic(auto, using(crate::proofs::Started::in_range, crate::proofs::Started::properties))]
-fn boot(alloc: Global, kept: &Kept) -> Result<World, NoMemory>
+fn boot(alloc: Global, kept: &Kept, began: u64) -> Result<World, NoMemory>
     requires { IsBootable kept.now }
     ensures storable { All IsStored kept.now.objects }
-    ensures world { IfOk result (λ w. w ≡ record { start = booted_from kept.now; entries = []; notes = [] }) }
+    ensures world { IfOk result (λ w. w ≡ record { start = booted_at began kept.now; entries = []; notes = []; counted = None }) }
 {
     let db = Db::load(alloc, kept.objects())?;
     let tune = kept.tune();
-    World::boot(alloc, Persisted { db, tune }, 0, 0)
+    World::boot(alloc, Persisted { db, tune }, began, began)
+}
+
+// The world of a log that was mounted, which is to begin at this second, with the note of the mounting.
+#[tactic(auto, using(crate::proofs::Started::properties))]
+fn awake<D: Disk>(
+    alloc: Global,
+    log: &Log,
+    first: &D,
+    second: &D,
+    began: u64,
+) -> Result<World, NoMemory>
+    requires bootable { IsBootable log.now.chosen.held.world }
+    ensures properties { OnOk result (All (λ s. AreProperties s.props) log.now.chosen.held.world.objects) }
+    ensures world { IfOk result (λ w. w ≡ begun_at began log.now (note_of D.moment D.faults first.now second.now (unbegun_at began log.now))) }
+{
+    let mut world = boot(alloc, log.kept(), began)?;
+    world.note(first, second);
+    Ok(world)
 }
 
 // The world of a run that is to begin, and room for a whole queue.
-#[tactic(auto, using(crate::proofs::Started::properties))]
 fn begin<D: Disk>(
     alloc: Global,
     log: &Log,
@@ -270,11 +320,10 @@ fn begin<D: Disk>(
     requires bootable { IsBootable log.now.chosen.held.world }
     ensures room { IfOk result (λ made. 131090 ≤ vec_len made.1) }
     ensures properties { OnOk result (All (λ s. AreProperties s.props) log.now.chosen.held.world.objects) }
-    ensures world { IfOk result (λ made. made.0 ≡ begun_from log.now (note_of D.moment D.faults first.now second.now (unbegun_from log.now))) }
+    ensures world { IfOk result (λ made. made.0 ≡ begun_at 0 log.now (note_of D.moment D.faults first.now second.now (unbegun_at 0 log.now))) }
 {
     let buf = buffer(alloc)?;
-    let mut world = boot(alloc, log.kept())?;
-    world.note(first, second);
+    let world = awake(alloc, log, first, second, 0)?;
     Ok((world, buf))
 }
 

@@ -23,8 +23,12 @@ pub enum Why {
     DiskFault,
     /// The batch whose gate stands at this place of this file of the store is outside the format.
     Damaged { second: bool, at: u64 },
+    /// Listening failed.
+    ListenFault,
     /// The last dump would begin at `end` and has `more` bytes, which is past what a file may have.
     StoreFull { end: u64, more: u64 },
+    /// So many turns were taken, and there are no more.
+    Spent { turns: u64 },
 }
 
 impl Why {
@@ -41,7 +45,9 @@ impl Why {
             Why::WriteFault => 5,
             Why::DiskFault => 6,
             Why::Damaged { second: _, at: _ } => 7,
+            Why::ListenFault => 8,
             Why::StoreFull { end: _, more: _ } => 9,
+            Why::Spent { turns: _ } => 10,
         }
     }
 }
@@ -57,7 +63,9 @@ impl fmt::Display for Why {
             Why::WriteFault => f.write_str("WriteFault"),
             Why::DiskFault => f.write_str("DiskFault"),
             Why::Damaged { second, at } => write!(f, "Damaged {} {at}", u8::from(*second)),
+            Why::ListenFault => f.write_str("ListenFault"),
             Why::StoreFull { end, more } => write!(f, "StoreFull {end} {more}"),
+            Why::Spent { turns } => write!(f, "Spent {turns}"),
         }
     }
 }

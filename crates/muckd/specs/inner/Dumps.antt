@@ -15,7 +15,7 @@ use Rattle.spec_dumps.specs.Fronts.{IsFront, dump_payload, log_of, file_most}
 use Rattle.spec_dumps.specs.Holding.{Rests}
 use Rattle.spec_dumps.specs.Survival.{IsSafe, StandsWhole}
 use Rattle.muck_script.specs.Story.{stored, failed, dump_entries}
-use Rattle.muckd.specs.Outcome.{IsLastDump}
+use Rattle.muckd.specs.Outcome.{IsLastDump, IsTooLarge}
 use Rattle.muckd.specs.declared.playing.RunFault.{RunFault}
 use Rattle.muckd.specs.declared.playing.RunFault.TheVariants.{NoMemory as OutOfMemory}
 
@@ -61,8 +61,7 @@ IsDumpFault (Some fault) = ⊥
 
 -- the batch that is too large is one of the world as it is now, on the store after a front of its history
 abbrev pub IsFull : ℕ → History → ℕ → ℕ → Type 0
-IsFull mounted h end more = (n : ℕ) × (store : Chosen) × IsFront h.start mounted h.entries h.notes n store
-    × (end ≡ (target store).place) × (more ≡ more_of (log_of store) (dump_payload store (after h.start h.entries))) × (file_most < end + more)
+IsFull mounted h end more = IsTooLarge h.start mounted h.entries h.notes end more
 
 -- What is kept of both disks behind a dump, by its answer.
 pub record Dumps {D : Type 0} (seen : D → List ℕ) (moment : D → ℕ) (images : D → ℕ → List ℕ → Type 0) (faults : D → ℕ) (log : Option LogState) (first second : D) (mounted : ℕ) (h : History) (r : Result (Option LogFault) RunFault) : Type 0 where

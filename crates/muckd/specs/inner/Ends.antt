@@ -15,7 +15,7 @@ use Rattle.spec_events.specs.World.{World, booted}
 use Rattle.muck_model.specs.declared.event.Event.TheVariants.{Died}
 use Rattle.spec_events.specs.Histories.{History, Longer, noted, by_porter, AllLawful}
 use Rattle.muck_script.specs.declared.act.Act.{Act}
-use Rattle.muckd.specs.Outcome.{HasRun, IsFirstOutside}
+use Rattle.muckd.specs.Outcome.{HasRun, IsFirstOutside, IsTooLarge}
 use Rattle.muckd.specs.inner.Dumps.{IsFull, ComesOut}
 use Rattle.muckd.specs.inner.Plays.{Plays, Breaks}
 use Rattle.muck_script.specs.Story.{failed, dump_entries, dumping}
@@ -74,9 +74,13 @@ pub record IsBootable (kept : Kept) : Type 0 where
   pub fit : list_all fits kept.objects ≡ true
   pub tuned : tune_fits kept.tune ≡ true
 
--- the world of a kept one, in which nothing has happened yet
+-- the world of a kept one at this second, which its random numbers begin with too; nothing has happened in it yet
+abbrev pub booted_at : ℕ → Kept → World
+booted_at began kept = booted (loaded kept.objects) kept.tune began began
+
+-- a script begins at the second 0
 abbrev pub booted_from : Kept → World
-booted_from kept = booted (loaded kept.objects) kept.tune 0 0
+booted_from kept = booted_at 0 kept
 
 -- the first note is that of these disks
 pub record IsNotedAt {D : Type 0} (moment : D → ℕ) (first second : D) (notes : List Note) : Type 0 where
@@ -94,7 +98,7 @@ pub record HasPlayed {K D : Type 0} (written : K → Option (List ℕ)) (breaks 
   pub noted : IsNotedAt moment first second notes
   pub safe : tells ≡ true → IsSafe moment images first' second' (booted_from log.chosen.held.world) log.chosen.held.number tale notes
   pub whole : tells ≡ true → why ≡ Fine → StandsWhole moment images first' second' (booted_from log.chosen.held.world) tale
-  pub full : (end more : ℕ) → tells ≡ true → why ≡ StoreFull end more → IsFull log.chosen.held.number (record { start = booted_from log.chosen.held.world; entries = tale; notes = notes }) end more
+  pub full : (end more : ℕ) → tells ≡ true → why ≡ StoreFull end more → IsTooLarge (booted_from log.chosen.held.world) log.chosen.held.number tale notes end more
 
 -- memory was wanted before it began
 pub record NeverPlayed {K D : Type 0} (why : Why) (k l : K) (first second first' second' : D) (tale : List Entry) : Type 0 where
@@ -115,11 +119,11 @@ MayEnd tells (Damaged second at) = tells ≡ true → ⊥
 MayEnd tells why = ⊥
 
 -- before anything was noted, and with the note of the mounting
-abbrev pub unbegun_from : LogState → History
-unbegun_from log = record { start = booted_from log.chosen.held.world; entries = []; notes = [] }
+abbrev pub unbegun_at : ℕ → LogState → History
+unbegun_at began log = record { start = booted_at began log.chosen.held.world; entries = []; notes = []; counted = None }
 
-abbrev pub begun_from : LogState → Note → History
-begun_from log note = noted (unbegun_from log) note
+abbrev pub begun_at : ℕ → LogState → Note → History
+begun_at began log note = noted (unbegun_at began log) note
 
 -- the last dump of a run, by why the run ends if it was played whole
 abbrev pub EndsPlay : History → History → Option (List ℕ) → Why → Type 0

@@ -13,20 +13,20 @@ pub begin-requires : goal.begin-requires
 begin-requires g c = record { bootable = bootable c.args.log.chosen.held.world c.requires.fine }
 
 pub play-requires-clause-alive : goal.play-requires-clause-alive
-play-requires-clause-alive g c = begins_alive c.args.log _ _ c.in-Ok.ensures.world
+play-requires-clause-alive g c = begins_alive 0 c.args.log _ _ c.in-Ok.ensures.world
 
 pub play-requires-clause-idle : goal.play-requires-clause-idle
-play-requires-clause-idle g c = begins_idle c.args.log _ _ c.in-Ok.ensures.world
+play-requires-clause-idle g c = begins_idle 0 c.args.log _ _ c.in-Ok.ensures.world
 
 pub play-requires-clause-mounted : goal.play-requires-clause-mounted
-play-requires-clause-mounted g c = λ tells. (c.args.log.chosen.held.number, rests_started _ _ _ _ _ _ _ (bootable _ c.requires.fine) c.in-Ok.ensures.properties (c.requires.mounted tells) _ _ c.new-store.ensures c.in-Ok.ensures.world)
+play-requires-clause-mounted g c = λ tells. (c.args.log.chosen.held.number, rests_started 0 _ _ _ _ _ _ _ (bootable _ c.requires.fine) c.in-Ok.ensures.properties (c.requires.mounted tells) _ _ c.new-store.ensures c.in-Ok.ensures.world)
 
 pub last_dump-why-requires-clause-alive : goal.last_dump-why-requires-clause-alive
 last_dump-why-requires-clause-alive g c = c.in-Ok-play.ensures.plays.alive
 
 pub last_dump-why-requires-clause-mounted : goal.last_dump-why-requires-clause-mounted
 last_dump-why-requires-clause-mounted g c = λ tells.
-    let start = rests_started _ _ _ _ _ _ _ (bootable _ c.requires.fine) c.in-Ok.ensures.properties (c.requires.mounted tells) _ _ c.new-store.ensures c.in-Ok.ensures.world in
+    let start = rests_started 0 _ _ _ _ _ _ _ (bootable _ c.requires.fine) c.in-Ok.ensures.properties (c.requires.mounted tells) _ _ c.new-store.ensures c.in-Ok.ensures.world in
     (c.args.log.chosen.held.number, (c.in-Ok-play.ensures.kept _ tells start).rests (λ e. cc))
 
 pub returns-in-Ok-play-clause-ends : goal.returns-in-Ok-play-clause-ends
@@ -35,7 +35,7 @@ returns-in-Ok-play-clause-ends g c =
     played _ _ _ _ _ _ _ _ _ c.in-Ok.ensures.world _ _ _ _ _ _ (refl, refl) _ _ _ _ _ c.in-Ok-play.ensures.plays c.in-Ok-play.ensures.fine c.last_dump-why.ensures.why c.last_dump-why.ensures.plays c.last_dump-why.ensures.outcome c.last_dump-why.ensures.last
     (noted_then _ _ _ c.in-Ok-play.ensures.notes c.last_dump-why.ensures.notes)
     (λ tells.
-    let start = rests_started _ _ _ _ _ _ _ (bootable _ c.requires.fine) c.in-Ok.ensures.properties (c.requires.mounted tells) _ _ c.new-store.ensures c.in-Ok.ensures.world in
+    let start = rests_started 0 _ _ _ _ _ _ _ (bootable _ c.requires.fine) c.in-Ok.ensures.properties (c.requires.mounted tells) _ _ c.new-store.ensures c.in-Ok.ensures.world in
     c.last_dump-why.ensures.kept _ tells ((c.in-Ok-play.ensures.kept _ tells start).rests (λ e. cc)))
     c.into_tale.ensures.entries c.into_tale.ensures.notes c.into_tale.ensures.lawful
     )
@@ -55,7 +55,7 @@ returns-in-Err-NoMemory-clause-ends g c =
     died _ _ _ _ _ _ _ _ _ c.in-Ok.ensures.world _ _ _ _ _ _ (refl, refl) _ _ _ (broke_by _ _ _ _ _ _ _ c.in-Err-NoMemory.field-0-is c.in-Err-NoMemory.ensures.plays) (c.in-Err-NoMemory.ensures.memory (ap Err c.in-Err-NoMemory.field-0-is))
     c.in-Err-NoMemory.ensures.notes
     (λ tells.
-    let start = rests_started _ _ _ _ _ _ _ (bootable _ c.requires.fine) c.in-Ok.ensures.properties (c.requires.mounted tells) _ _ c.new-store.ensures c.in-Ok.ensures.world in
+    let start = rests_started 0 _ _ _ _ _ _ _ (bootable _ c.requires.fine) c.in-Ok.ensures.properties (c.requires.mounted tells) _ _ c.new-store.ensures c.in-Ok.ensures.world in
     (c.in-Err-NoMemory.ensures.kept _ tells start).safe)
     c.into_tale-in-Err-NoMemory.ensures.entries c.into_tale-in-Err-NoMemory.ensures.notes c.into_tale-in-Err-NoMemory.ensures.lawful
     )
@@ -72,7 +72,7 @@ last_dump-requires-clause-idle g c = idle_quiet _ _ c.stop.ensures.quiet (c.in-E
 
 pub last_dump-requires-clause-mounted : goal.last_dump-requires-clause-mounted
 last_dump-requires-clause-mounted g c = λ tells.
-    let start = rests_started _ _ _ _ _ _ _ (bootable _ c.requires.fine) c.in-Ok.ensures.properties (c.requires.mounted tells) _ _ c.new-store.ensures c.in-Ok.ensures.world in
+    let start = rests_started 0 _ _ _ _ _ _ _ (bootable _ c.requires.fine) c.in-Ok.ensures.properties (c.requires.mounted tells) _ _ c.new-store.ensures c.in-Ok.ensures.world in
     (c.args.log.chosen.held.number, rests_quiet _ _ _ _ _ _ _ _ _ _ c.stop.ensures.quiet ((c.in-Err-WriteFault.ensures.kept _ tells start).rests (λ e. let is = c.in-Err-WriteFault.field-0-is in cc)))
 
 pub returns-clause-ends : goal.returns-clause-ends
@@ -82,7 +82,7 @@ returns-clause-ends g c =
     c.stop.ensures.halts c.last_dump.ensures.last
     (noted_then _ _ _ c.in-Err-WriteFault.ensures.notes (noted_then _ _ _ (noted_quiet _ _ c.stop.ensures.quiet) c.last_dump.ensures.notes))
     (λ tells.
-    let start = rests_started _ _ _ _ _ _ _ (bootable _ c.requires.fine) c.in-Ok.ensures.properties (c.requires.mounted tells) _ _ c.new-store.ensures c.in-Ok.ensures.world in
+    let start = rests_started 0 _ _ _ _ _ _ _ (bootable _ c.requires.fine) c.in-Ok.ensures.properties (c.requires.mounted tells) _ _ c.new-store.ensures c.in-Ok.ensures.world in
     (c.last_dump.ensures.kept _ tells (rests_quiet _ _ _ _ _ _ _ _ _ _ c.stop.ensures.quiet ((c.in-Err-WriteFault.ensures.kept _ tells start).rests (λ e. let is = c.in-Err-WriteFault.field-0-is in cc)))).safe)
     c.into_tale-in-Err-WriteFault.ensures.entries c.into_tale-in-Err-WriteFault.ensures.notes c.into_tale-in-Err-WriteFault.ensures.lawful
     )

@@ -1,0 +1,3 @@
+pub mod Idling
+pub mod Staging
+pub mod Working

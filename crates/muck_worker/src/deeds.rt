@@ -1,0 +1,110 @@
+// What a worker does in a hold: one entry.
+ghost use Rattle.std.specs.Prelude.{◌≡◌, ◌<◌, ℕ, None, true, false};
+ghost use Rattle.muck_model.specs.declared.event.Event.{Event};
+ghost use Rattle.spec_events.specs.Histories.{now, entered};
+ghost use Rattle.spec_events.specs.Steps.{has_claim, next_ready};
+ghost use Rattle.muck_worker.specs.inner.Deeds.{by, DidAs, IsOpen};
+
+use muck_machine::{Sliced, World};
+use muck_model::NoMemory;
+
+/// What a worker has to do in its next turn.
+#[derive(Clone, Copy)]
+pub enum Task {
+    /// A line, or a process, if there is any.
+    Work,
+    /// A slice of the process that it has claimed.
+    Slice(i32),
+    /// It is to end.
+    End,
+}
+
+/// What it did.
+#[derive(Drop)]
+pub enum Did {
+    /// A line was done, or a slice.
+    Went,
+    /// There was nothing to do.
+    Idled,
+    /// This process was claimed.
+    Claimed(i32),
+    /// There was nothing to do, and the run is stopping.
+    Stops,
+    /// It has seen that the run is stopping.
+    Over,
+    /// Memory was wanted.
+    Failed,
+}
+
+// The claimed process runs for a slice, or it has ended.
+fn slices(world: &mut World, party: u8, pid: i32) -> Did
+    requires alive { (now world.old).dead ≡ false }
+    requires worker { (0 < party) × (party < 9) }
+    requires claim { has_claim party pid (now world.old) ≡ true }
+    ensures { (event : Event) × (world.new ≡ entered world.old (by party event)) × DidAs party (Task.Slice pid) result event }
+{
+    match world.slice(party, pid) {
+        Ok(Sliced::Ran) => Did::Went,
+        Ok(Sliced::Lost) => Did::Went,
+        Err(NoMemory) => Did::Failed,
+    }
+}
+
+// A process is claimed, or there is nothing to do.
+fn claims(world: &mut World, party: u8) -> Did
+    requires alive { (now world.old).dead ≡ false }
+    requires worker { (0 < party) × (party < 9) }
+    requires no_line { next_ready (now world.old) ≡ None }
+    ensures { (event : Event) × (world.new ≡ entered world.old (by party event)) × DidAs party Task.Work result event }
+{
+    if let Some(pid) = world.claim(party) {
+        return Did::Claimed(pid);
+    }
+    let stops = world.is_stopping();
+    if !world.idle(party) {
+        unreachable!()
+    }
+    if stops { Did::Stops } else { Did::Idled }
+}
+
+// A line is done, or a process is claimed, or there is nothing to do.
+fn serves(world: &mut World, party: u8) -> Did
+    requires alive { (now world.old).dead ≡ false }
+    requires worker { (0 < party) × (party < 9) }
+    ensures { (event : Event) × (world.new ≡ entered world.old (by party event)) × DidAs party Task.Work result event }
+{
+    match world.exec(party) {
+        Ok(Some(_)) => Did::Went,
+        Ok(None) => claims(world, party),
+        Err(NoMemory) => Did::Failed,
+    }
+}
+
+// It has seen the stop; or else it works on.
+fn ends(world: &mut World, party: u8) -> Did
+    requires alive { (now world.old).dead ≡ false }
+    requires worker { (0 < party) × (party < 9) }
+    ensures { (event : Event) × (world.new ≡ entered world.old (by party event)) × DidAs party Task.End result event }
+{
+    if world.stopped(party) {
+        return Did::Over;
+    }
+    serves(world, party)
+}
+
+/// One entry of a worker.
+pub fn works(world: &mut World, party: u8, task: Task) -> Did
+    requires worker { (0 < party) × (party < 9) }
+    requires claim { IsOpen party task (now world.old) }
+    ensures { (event : Event) × (world.new ≡ entered world.old (by party event)) × DidAs party task result event }
+{
+    if world.is_dead() {
+        world.died(party);
+        return Did::Failed;
+    }
+    match task {
+        Task::Work => serves(world, party),
+        Task::Slice(pid) => slices(world, party, pid),
+        Task::End => ends(world, party),
+    }
+}

@@ -1,0 +1,202 @@
+// The drill: a fixed script on the starting world, of which a summary is written.
+ghost use Rattle.std.specs.Prelude.{◌≡◌, ◌≤◌, ◌++◌, ◌∷◌, [], IfOk, OnOk, string_bytes, length};
+ghost use Rattle.std.specs.List.{filter};
+ghost use Rattle.muck_io.specs.Faults.{Rose};
+ghost use Rattle.muck_script.specs.declared.act.Act.TheVariants.{Send};
+ghost use Rattle.muck_script.specs.Lines.{is_line_feed};
+ghost use Rattle.muckd.specs.Drill.{round, rounds, drill_script, summary, HasDrilled};
+ghost use Rattle.muckd.specs.inner.Drills.{fresh, IsPlayedAs, IsDrilledAs, MayDrill};
+
+use crate::dumping::Store;
+use crate::playing::{RunFault, buffer, play};
+use crate::why::Why;
+use muck_disk::{Disk, DiskFault};
+use muck_io::{MemSink, Sink, WriteFailed, write_all};
+use muck_machine::World;
+use muck_model::{Line, NoMemory, Tale};
+use muck_script::Act;
+use std::alloc::{AllocError, Global};
+
+// No disk: in a drill no dump is asked, and one that were would fail.
+#[derive(Drop)]
+struct Nowhere {
+    faults: u64,
+}
+
+impl Nowhere {
+    fn fault(&mut self) -> DiskFault
+        ensures rose { Rose self.old.faults self.new.faults }
+        ensures later { self.old.faults ≤ self.new.faults }
+    {
+        self.faults = self.faults.saturating_add(1);
+        DiskFault
+    }
+}
+
+impl Disk for Nowhere {
+    ghost use Rattle.std.specs.Prelude.{[], false, Option, None};
+
+    ghost tells = { false };
+
+    ghost attached = { λ _. None };
+
+    ghost seen = { λ _. [] };
+
+    ghost moment = { λ _. 0 };
+
+    ghost images = { λ _ _ _. Unit {0} };
+
+    ghost faults = { λ d. d.faults };
+
+    ghost seen_left = { λ _ _. tt };
+
+    fn attach(&mut self, _name: &str) -> Result<(), DiskFault> {
+        Err(self.fault())
+    }
+
+    fn size(&mut self) -> Result<u64, DiskFault> {
+        Err(self.fault())
+    }
+
+    fn read(&mut self, _at: u64, _buf: &mut [u8]) -> Result<usize, DiskFault> {
+        Err(self.fault())
+    }
+
+    fn write_at(&mut self, _at: u64, _bytes: &[u8]) -> Result<(), DiskFault> {
+        Err(self.fault())
+    }
+
+    fn sync(&mut self) -> Result<(), DiskFault> {
+        Err(self.fault())
+    }
+}
+
+// This text is sent on the connection 1.
+fn push_send(alloc: Global, acts: &mut Vec<Act>, text: String) -> Result<(), NoMemory>
+    ensures { OnOk result (acts.new.items ≡ acts.old.items ++ Send 1 (string_bytes text) ∷ []) }
+{
+    let Ok(line) = Line::new(alloc, text.as_bytes()) else {
+        return Err(NoMemory);
+    };
+    acts.push(Act::Send(1, line))?;
+    Ok(())
+}
+
+#[tactic(auto, unfolding(crate::specs::Drill::round))]
+fn push_round(alloc: Global, acts: &mut Vec<Act>, i: u16) -> Result<(), NoMemory>
+    ensures { OnOk result (acts.new.items ≡ acts.old.items ++ round i) }
+{
+    push_send(alloc, acts, format!(in alloc; "@dig Room {i}")?)?;
+    push_send(alloc, acts, format!(in alloc; "@create thing {i}")?)?;
+    push_send(
+        alloc,
+        acts,
+        format!(in alloc; "@describe thing {i}=A thing of {{add:{i},{i}}}.")?,
+    )?;
+    push_send(alloc, acts, format!(in alloc; "look thing {i}")?)?;
+    push_send(alloc, acts, format!(in alloc; "drop thing {i}")?)?;
+    Ok(())
+}
+
+fn push_rounds(alloc: Global, acts: &mut Vec<Act>, count: u16) -> Result<(), NoMemory>
+    ensures { OnOk result (acts.new.items ≡ acts.old.items ++ rounds count) }
+{
+    for done in 0..count {
+        push_round(alloc, acts, done + 1)?;
+    }
+    Ok(())
+}
+
+// The script of a drill of so many rounds.
+fn drill_script(alloc: Global, count: u16) -> Result<Vec<Act>, NoMemory>
+    ensures { IfOk result (λ acts. acts.items ≡ drill_script count) }
+{
+    let mut acts = Vec::new(alloc);
+    acts.push(Act::Open(1))?;
+    push_send(
+        alloc,
+        &mut acts,
+        String::from_str(alloc, "connect One potrzebie")?,
+    )?;
+    push_rounds(alloc, &mut acts, count)?;
+    acts.push(Act::Wait(1))?;
+    Ok(acts)
+}
+
+// How many lines a text has that end.
+fn count_lines(text: &[u8]) -> usize
+    ensures { result ≡ length (filter is_line_feed text.now) }
+{
+    text.iter().filter(|b| **b == b'\n').count()
+}
+
+// What is written of a drill.
+#[tactic(auto, unfolding(crate::specs::Drill::summary))]
+fn summary(alloc: Global, count: u16, objects: usize, text: &[u8]) -> Result<String, AllocError>
+    ensures { IfOk result (λ t. string_bytes t ≡ summary count objects text.now) }
+{
+    let lines = count_lines(text);
+    let bytes = text.len();
+    format!(in alloc; "drill {count}: {objects} objects, {lines} lines, {bytes} bytes\n")
+}
+
+// Plays the script of a drill into the starting world; answers the transcript.
+fn play_drill(alloc: Global, count: u16, world: &mut World) -> Result<MemSink, NoMemory>
+    requires { world.old ≡ fresh }
+    ensures { IfOk result (λ sink. IsPlayedAs (drill_script count) world.new sink.bytes) }
+{
+    let acts = drill_script(alloc, count)?;
+    let mut buf = buffer(alloc)?;
+    let mut transcript = MemSink::new(alloc, Vec::new(alloc));
+    let mut store = Store {
+        log: None,
+        number: 0,
+    };
+    let mut first = Nowhere { faults: 0 };
+    let mut second = Nowhere { faults: 0 };
+    match play(
+        alloc,
+        world,
+        &mut store,
+        &mut first,
+        &mut second,
+        acts.as_slice(),
+        &mut buf,
+        &mut transcript,
+    ) {
+        Ok(()) => Ok(transcript),
+        // (the sink keeps bytes in memory, and fails where that is refused)
+        Err(RunFault::NoMemory | RunFault::WriteFault) => Err(NoMemory),
+    }
+}
+
+// Plays a drill, and makes its summary.
+fn drilled(alloc: Global, count: u16, world: &mut World) -> Result<String, NoMemory>
+    requires { world.old ≡ fresh }
+    ensures { IfOk result (λ text. IsDrilledAs count world.new (string_bytes text)) }
+{
+    let transcript = play_drill(alloc, count, world)?;
+    let text = summary(alloc, count, world.objects(), transcript.bytes())?;
+    Ok(text)
+}
+
+/// A drill of so many rounds: the script is played into the starting world, which no disk holds, and a summary of it is written.
+/// After want of memory nothing was written.
+pub fn drill<K: Sink>(alloc: Global, count: u16, out: &mut K) -> (Why, Tale)
+    ensures history { HasDrilled K.written K.faults count result.0 out.old out.new result.1.entries }
+    ensures why { MayDrill result.0 }
+    ensures write { result.0 ≡ Why.WriteFault → Rose (K.faults out.old) (K.faults out.new) }
+    ensures stands { (result.0 ≡ Why.WriteFault → ⊥) → K.faults out.new ≡ K.faults out.old }
+{
+    let Ok(mut world) = World::starting(alloc) else {
+        return (Why::NoMemory, Tale::none());
+    };
+    let Ok(text) = drilled(alloc, count, &mut world) else {
+        world.died(0);
+        return (Why::NoMemory, world.into_tale());
+    };
+    match write_all(out, text.as_bytes()) {
+        Ok(()) => (Why::Fine, world.into_tale()),
+        Err(WriteFailed) => (Why::WriteFault, world.into_tale()),
+    }
+}
