@@ -3,7 +3,7 @@
 
 mod beside;
 mod seats;
-mod stand;
+mod serving;
 mod why;
 
 pub use why::Why;

@@ -1,10 +1,10 @@
 // The seats of the workers.
-ghost use Rattle.std.specs.Prelude.{◌≡◌, ◌⊎◌, ◌<◌, ◌≤◌, ℕ, [], length, vec_capacity};
+ghost use Rattle.std.specs.Prelude.{◌≡◌, ◌⊎◌, ◌<◌, ◌≤◌, ℕ, [], length, vec_capacity, IfOk};
 ghost use Rattle.turn_lock.specs.declared.view.Place.TheVariants.{Idle, Told};
 ghost use Rattle.muck_server.specs.inner.Parts.{AreDealt, AreOver, given_to, all_in};
 
-use crate::stand::WorkerWhy;
 use muck_machine::World;
+use muck_worker::Why;
 use std::alloc::{AllocError, Global};
 use turn_lock::{Turn, TurnSeat};
 
@@ -13,7 +13,7 @@ use turn_lock::{Turn, TurnSeat};
 pub struct Part {
     pub seat: TurnSeat<World>,
     pub party: u8,
-    pub why: WorkerWhy,
+    pub why: Why,
 }
 
 /// The parts of all workers.
@@ -47,7 +47,7 @@ pub fn deal(turn: &Turn<World>, seat: &mut TurnSeat<World>, parts: &mut Parts, w
         let part = Part {
             seat: turn.split(seat, party),
             party,
-            why: WorkerWhy::Fine,
+            why: Why::Fine,
         };
         let Ok(()) = parts.all.push(part) else {
             unreachable!()

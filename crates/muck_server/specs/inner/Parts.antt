@@ -1,62 +1,19 @@
 -- The seats of a server as they are given out and taken in, and what its parts are given and leave.
 use Rattle.std.specs.Prelude.{◌≡◌, ◌⊎◌, ℕ, zero, suc, ◌<◌, ◌≤◌, ◌^◌, Bool, true, All, List, [], ◌∷◌, ◌++◌, length, slice_get, slice_index_or, Option, Some, None}
 use Rattle.atomic_table.specs.Seated.{TableId}
-use Rattle.muck_io.specs.Faults.{Rose}
-use Rattle.muck_links.specs.Sessions.{Told as LinksTold}
 use Rattle.muck_log.specs.Store.{LogState}
-use Rattle.muck_model.specs.declared.event.Event.TheVariants.{StopSeen}
-use Rattle.muck_model.specs.declared.note.Note.{Note}
-use Rattle.spec_dumps.specs.Holding.{Keeps}
-use Rattle.spec_events.specs.declared.logged.Logged.{Logged}
-use Rattle.spec_events.specs.World.{World}
-use Rattle.spec_events.specs.Histories.{now, after}
-use Rattle.spec_events.specs.Logged.{entries_of, events_of, history_of}
-use Rattle.spec_events.specs.Own.{IsWellFormed}
-use Rattle.spec_serve.specs.Promises.{Tally}
 use Rattle.turn_lock.specs.inner.Turns.{left_after, newcomer, taken_in}
 use Rattle.turn_lock.specs.declared.view.Place.TheVariants.{Idle, Told}
-use Rattle.muck_machine.specs.Beginnings.{begun}
-use Rattle.muck_machine.specs.Seats.{Sight, Chair, Rests, Left, SameLists}
+use Rattle.muck_worker.specs.Working.{WorkerReady, WorkerDone}
+use Rattle.muck_dumping.specs.inner.Between.{IsReady as HasLog}
+use Rattle.muck_dumper.specs.Dumping.{history_seen, DumperReady}
+use Rattle.muck_machine.specs.Seats.{Sight, Chair}
 use Rattle.muck_server.specs.declared.seats.Part.{Part}
-use Rattle.muck_server.specs.declared.stand.PorterWhy.{PorterWhy}
-use Rattle.muck_server.specs.declared.stand.PorterWhy.TheVariants as porter
-use Rattle.muck_server.specs.declared.stand.WorkerWhy.{WorkerWhy}
-use Rattle.muck_server.specs.declared.stand.WorkerWhy.TheVariants as worker
-use Rattle.muck_server.specs.declared.stand.DumperWhy.{DumperWhy}
-use Rattle.muck_server.specs.declared.stand.DumperWhy.TheVariants as dumper
 
--- Stand-ins.
-
-abbrev pub tally : LinksTold → ℕ → Tally
-tally told listening = record { told = told; listening = listening }
-
-abbrev pub PorterReady : Chair → Type 0
-PorterReady me = Rests 0 me × (me.0.seen ≡ [])
-
-pub record PorterDone (why : PorterWhy) (tells : Bool) (b k : Tally) (answers : Option (List ℕ)) (me me' : Chair) : Type 0 where
-  pub lists : SameLists me.0 me'.0
-  pub left : Left 0 me'
-  pub formed : IsWellFormed 0 (events_of me'.0.own)
-
-abbrev pub WorkerReady : ℕ → Chair → Type 0
-WorkerReady p me = Rests p me × (me.0.own ≡ [])
-
-pub record WorkerDone (why : WorkerWhy) (p : ℕ) (me me' : Chair) : Type 0 where
-  pub lists : SameLists me.0 me'.0
-  pub left : Left p me'
-  pub formed : IsWellFormed p (events_of me'.0.own)
-  pub last : why ≡ worker.Fine → (front : List Logged) × (l : Logged) × (me'.0.own ≡ front ++ l ∷ []) × (l.entry.event ≡ StopSeen)
-  pub spent : why ≡ worker.Spent → 2 ^ 62 ≤ length me'.0.seen
-
-pub record DumperReady {D : Type 0} (tells : Bool) (seen : D → List ℕ) (moment : D → ℕ) (images : D → ℕ → List ℕ → Type 0) (faults : D → ℕ) (log : Option LogState) (first second : D) (me : Chair) : Type 0 where
-  pub rests : Rests 9 me
-  pub none : me.0.own ≡ []
-  pub unseen : me.0.seen ≡ []
-
-pub record DumperDone {D : Type 0} (tells : Bool) (seen : D → List ℕ) (moment : D → ℕ) (images : D → ℕ → List ℕ → Type 0) (faults : D → ℕ) (why : DumperWhy) (log log' : Option LogState) (first second first' second' : D) (me me' : Chair) : Type 0 where
-  pub lists : SameLists me.0 me'.0
-  pub left : Left 9 me'
-  pub formed : IsWellFormed 9 (events_of me'.0.own)
+-- The seat of the dumper may begin, with the store and the disks.
+pub record IsAble {D : Type 0} (tells : Bool) (seen : D → List ℕ) (moment : D → ℕ) (images : D → ℕ → List ℕ → Type 0) (faults : D → ℕ) (log : Option LogState) (first second : D) (me : Chair) : Type 0 where
+  pub ready : DumperReady me
+  pub mounted : tells ≡ true → (mounted : ℕ) × HasLog seen moment images faults log first second mounted (history_seen me.0)
 
 -- Seats as they are given out.
 
@@ -67,8 +24,8 @@ given_to (suc n) v = left_after (suc n) (given_to n v)
 
 -- the part of this party, which has done nothing yet
 pub record IsDealt (table : TableId) (party : ℕ) (v : Sight) (p : Part) : Type 0 where
-  pub table : p.seat.table_id ≡ table
-  pub party : p.party ≡ party
+  pub lock : p.seat.table_id ≡ table
+  pub number : p.party ≡ party
   pub me : p.seat.me ≡ (newcomer party v, [])
 
 -- a part for each party up to this one
