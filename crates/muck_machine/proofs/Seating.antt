@@ -1,10 +1,10 @@
 -- Turns of a party at a seat.
-use Rattle.std.proofs.Common.{◌≡◌, ℕ, ◌+◌, ◌<◌, ◌≤◌, ◌⊎◌, inl, inr, suc, zero, Bool, true, false, ◌||◌, ◌==◌, cond, List, [], ◌∷◌, ◌++◌, length, refl, sym, ap, ◌∙◌, subst, append_assoc, arith, Option, Some, None}
+use Rattle.std.proofs.Common.{◌≡◌, ℕ, ◌+◌, inl, inr, suc, zero, Bool, true, false, ◌||◌, ◌==◌, List, [], ◌∷◌, ◌++◌, length, refl, sym, ap, ◌∙◌, subst, arith, Option, None}
 use Rattle.std.specs.List.{list_any}
 use Rattle.std.proofs.lemmas.Bool.Decides.{nat_tests}
 use mathlib.Core.Option.{some}
 use lib.ListN.{get_elem?}
-use Rattle.turn_lock.specs.Histories.{StartsWith, kept, own_of}
+use Rattle.turn_lock.specs.Histories.{kept, own_of}
 use Rattle.turn_lock.specs.declared.view.Place.TheVariants.{Idle, Told}
 use Rattle.turn_lock.proofs.Parts.{own_append, own_mine}
 use Rattle.muck_model.specs.declared.event.Entry.{Entry}
@@ -13,7 +13,7 @@ use Rattle.spec_events.specs.declared.logged.Count.{Count}
 use Rattle.spec_events.specs.declared.logged.Logged.{Logged}
 use Rattle.spec_events.specs.World.{World}
 use Rattle.spec_events.specs.Histories.{History, entered, noted, links_noted}
-use Rattle.spec_events.specs.Logged.{is_dump, logged, loose_notes, loose_count, IsSettled, bare_item, noted_item, counted_item, logged_by, entries_of, notes_of, NoCounts, history_of, count_from, IsPlaced, IsOrderly}
+use Rattle.spec_events.specs.Logged.{is_dump, logged, loose_count, IsSettled, bare_item, noted_item, counted_item, logged_by, entries_of, notes_of, NoCounts, IsPlaced, IsOrderly}
 use Rattle.spec_events.proofs.Logging.{logged_bare, logged_with_note, logged_with_counts, settled_bare, settled_with_note, settled_with_counts, rebuilt, no_count}
 use Rattle.muck_machine.specs.declared.beginning.Beginning.{Beginning}
 use Rattle.muck_machine.specs.Beginnings.{beginning, begun, IsBegun}

@@ -38,7 +38,7 @@ use Rattle.muck_library.specs.Programs.{built_tree}
 use Rattle.muck_library.specs.Library.{Library, formed}
 use Rattle.muck_queue.specs.declared.mode.Mode.TheVariants.{Background}
 use Rattle.muck_queue.specs.declared.process.Process.{Process}
-use Rattle.muck_queue.specs.Queues.{Queue, process, on_process, without, added, is_full, reader, ended_running, trigger_cleared}
+use Rattle.muck_queue.specs.Queues.{Queue, process, on_process, without, added, is_full, reader, ended_running, trigger_cleared, told_line}
 use Rattle.spec_processes.specs.ProcessRows.{Effect, gives, waits as pauses, forks, enters, starts, refuses, is_process, processed, later}
 use Rattle.spec_processes.proofs.Leaves.{Leaves, leaves}
 use Rattle.spec_events.specs.declared.starting.Agent.{Agent}
@@ -47,10 +47,15 @@ use Rattle.spec_events.specs.declared.starting.Manner.{Manner}
 use Rattle.spec_events.specs.World.{World, on_live, on_queue, with_library}
 use Rattle.spec_events.specs.Following.{followed, swept, settled}
 use Rattle.spec_events.specs.Starting.{beginning, by_command, new_process, joined, word_started, form_started, built_started, begun, start_told, start_judged, launched}
-use Rattle.spec_events.specs.Lines.{with_editor, next_editor, compiled_so, compiled, after_edit, edited_line, in_editor, ended_behind, left_by, typed, followed_up, in_world, command, given_line, is_abort, line_for, line_done, done}
+use Rattle.spec_events.specs.Lines.{with_editor, next_editor, compiled_so, compiled, after_edit, edited_line, in_editor, ended_behind, left_by, typed, followed_up, in_world, command, program_aborted, given_line, is_abort, line_for, line_done, done}
 use Rattle.spec_events.specs.Slices.{acting, Deed, does, rests, fails, behind, lifted, row_done, called_word, word_entered, form_entered, form_called, program_called, child_of, with_number, child_joined, forked, queued_command, with_process, queued, place_in, effected, process_done, deed, stands_at, out, one_counted, went, after_deed, unit_done, limit_fault, within_limit, turn, world_of, slice_most, run_of, last_world, awake, sliced}
-use Rattle.spec_events.proofs.Deeds.{Leads}
 use Rattle.spec_events.proofs.Slicing.{run_holds}
+
+-- a deed leads to a world of which that is so
+abbrev Leads : (World → Type 0) → Deed World → Type 0
+Leads P (does t v) = P v
+Leads P (rests t v) = P v
+Leads P (fails f v) = P v
 
 -- both have the same claims
 abbrev pub Same : World → World → Type 0
@@ -144,11 +149,10 @@ same_in_editor d player s line w = either (is_open s w.live)
     either false = refl
 
 same_after_line : (a : Actor) (line : List ℕ) (w : Live) (q : Queue) → (after_line a line w q).claims ≡ q.claims
-unfolding after_line
+unfolding after_line without
 same_after_line a line w q = at (line_ends a q line w)
   where
     at : (o : Option Process) → (option_map_or (λ (p : Process). without p.number q) o q).claims ≡ q.claims
-    unfolding without
     at None = refl
     at (Some p) = refl
 
@@ -191,7 +195,11 @@ same_command (Some player) (Some s) d line w = same_in_editor d player s line (o
 
 same_given : (d : ℕ) (pid : ℤ) (line : List ℕ) (w : World) → Same w (given_line d pid line w)
 unfolding given_line without on_process
-same_given d pid line w = elim (is_abort line) as (λ (b : Bool). (cond b _ _).queue.claims ≡ w.queue.claims) [ true ↦ refl | false ↦ refl ]
+same_given d pid line w = either (is_abort line)
+  where
+    either : (b : Bool) → Same w (cond b (on_live (tell d program_aborted) (on_queue (without pid) w)) (on_queue (on_process pid (told_line w.moment line)) w))
+    either true = refl
+    either false = refl
 
 same_line_for : (taker : Option ℤ) (player : Option Dbref) (editor : Option EditState) (d : ℕ) (line : List ℕ) (w : World) → Same w (line_for taker player editor d line w)
 same_line_for (Some pid) player editor d line w = same_given d pid line w

@@ -1,5 +1,5 @@
 -- A claim stays until its party has taken the slice, or has learned that the process ended.
-use Rattle.std.proofs.Common.{◌≡◌, ℕ, ℤ, Bool, true, false, not, ◌&&◌, ◌||◌, ◌==◌, cond, List, [], ◌∷◌, ◌++◌, refl, sym, ◌∙◌, ap, subst, arith, Option, Some, None}
+use Rattle.std.proofs.Common.{◌≡◌, ℕ, ℤ, Bool, true, false, not, ◌&&◌, ◌||◌, ◌==◌, cond, nat_le, List, [], ◌∷◌, ◌++◌, refl, sym, ◌∙◌, ap, subst, arith, Option, Some, None}
 use Rattle.std.specs.List.{filter, list_any}
 use Rattle.std.specs.Ordering.{int_eq}
 use Rattle.std.proofs.lemmas.Bool.Decides.{nat_tests}
@@ -22,11 +22,11 @@ use Rattle.spec_claims.proofs.Kept.{same_done, same_sliced}
 
 any_filter : {X : Type 0} (u t : X → Bool) (cs : List X) → list_any (λ c. u c && t c) cs ≡ list_any t (filter u cs)
 any_filter u t [] = refl
-any_filter u t (c ∷ cs) = at (u c) refl
+any_filter u t (c ∷ cs) = at (u c) refl (any_filter u t cs)
   where
-    at : (b : Bool) → u c ≡ b → ((u c && t c) || list_any (λ x. u x && t x) cs) ≡ list_any t (cond (u c) (c ∷ filter u cs) (filter u cs))
-    at true is = ap (λ b. (b && t c) || list_any (λ x. u x && t x) cs) is ∙ ap (λ b. t c || b) (any_filter u t cs) ∙ ap (λ b. list_any t (cond b (c ∷ filter u cs) (filter u cs))) (sym is)
-    at false is = ap (λ b. (b && t c) || list_any (λ x. u x && t x) cs) is ∙ any_filter u t cs ∙ ap (λ b. list_any t (cond b (c ∷ filter u cs) (filter u cs))) (sym is)
+    at : (b : Bool) → u c ≡ b → list_any (λ x. u x && t x) cs ≡ list_any t (filter u cs) → ((u c && t c) || list_any (λ x. u x && t x) cs) ≡ list_any t (cond (u c) (c ∷ filter u cs) (filter u cs))
+    at true is rest = ap (λ b. (b && t c) || list_any (λ x. u x && t x) cs) is ∙ ap (λ b. t c || b) rest ∙ ap (λ b. list_any t (cond b (c ∷ filter u cs) (filter u cs))) (sym is)
+    at false is rest = ap (λ b. (b && t c) || list_any (λ x. u x && t x) cs) is ∙ rest ∙ ap (λ b. list_any t (cond b (c ∷ filter u cs) (filter u cs))) (sym is)
 
 none_kept : {X : Type 0} (u : X → Bool) (cs : List X) → list_any u cs ≡ false → filter u cs ≡ []
 none_kept u [] e = refl
@@ -55,15 +55,12 @@ filter_last u (x ∷ xs) c = at (u x) (filter_last u xs c)
 -- what passes the one test passes the other
 filter_both : {X : Type 0} (u t : X → Bool) (cs : List X) → ((c : X) → u c ≡ true → t c ≡ true) → filter u (filter t cs) ≡ filter u cs
 filter_both u t [] only = refl
-filter_both u t (c ∷ cs) only = at (t c) refl (u c) refl
+filter_both u t (c ∷ cs) only = at (t c) refl (u c) refl (filter_both u t cs only)
   where
-    rest : filter u (filter t cs) ≡ filter u cs
-    rest = filter_both u t cs only
-
-    at : (b : Bool) → t c ≡ b → (a : Bool) → u c ≡ a → filter u (cond (t c) (c ∷ filter t cs) (filter t cs)) ≡ cond (u c) (c ∷ filter u cs) (filter u cs)
-    at true is a known = ap (λ b. filter u (cond b (c ∷ filter t cs) (filter t cs))) is ∙ ap (λ ys. cond (u c) (c ∷ ys) ys) rest
-    at false is true known = let must = only c known in cc
-    at false is false known = ap (λ b. filter u (cond b (c ∷ filter t cs) (filter t cs))) is ∙ rest ∙ ap (λ b. cond b (c ∷ filter u cs) (filter u cs)) (sym known)
+    at : (b : Bool) → t c ≡ b → (a : Bool) → u c ≡ a → filter u (filter t cs) ≡ filter u cs → filter u (cond (t c) (c ∷ filter t cs) (filter t cs)) ≡ cond (u c) (c ∷ filter u cs) (filter u cs)
+    at true is a known rest = ap (λ b. filter u (cond b (c ∷ filter t cs) (filter t cs))) is ∙ ap (λ ys. cond (u c) (c ∷ ys) ys) rest
+    at false is true known rest = let must = only c known in cc
+    at false is false known rest = ap (λ b. filter u (cond b (c ∷ filter t cs) (filter t cs))) is ∙ rest ∙ ap (λ b. cond b (c ∷ filter u cs) (filter u cs)) (sym known)
 
 -- Numbers.
 
@@ -107,7 +104,7 @@ unclaimed moment cs pid (p ∷ ps) e = at (has_pid pid p) refl (is_due moment cs
 
     at : (a : Bool) → has_pid pid p ≡ a → (b : Bool) → is_due moment cs p ≡ b → ((a && b) || list_any (λ p. has_pid pid p && is_due moment cs p) ps) ≡ true →
         (list_any (λ p. has_pid pid p && is_due moment cs p) ps ≡ true → is_claimed pid cs ≡ false) → is_claimed pid cs ≡ false
-    at true has true due e f = ap (λ n. is_claimed n cs) (sym (same_number p.number pid has)) ∙ free _ _ _ (is_claimed p.number cs) due
+    at true has true due e f = ap (λ n. is_claimed n cs) (sym (same_number p.number pid has)) ∙ free (nat_le p.due moment) (not (is_reading p)) (not (is_awaiting p)) (is_claimed p.number cs) due
     at true has false due e f = f e
     at false has b due e f = f e
 
@@ -196,5 +193,6 @@ sole_stays party pid (e ∷ es) w sole lawful others =
 pub claim_stays : (w : World) (front : List Entry) (party : ℕ) (pid : ℤ) (es : List Entry) → AllLawful w (front ++ record { party = party; event = Claim pid } ∷ es) → AreOthers party es →
     has_claim party pid (after w (front ++ record { party = party; event = Claim pid } ∷ es)) ≡ true
 claim_stays w [] party pid es lawful others =
-    sole_claim party pid _ (sole_stays party pid es _ (claim_entered w party pid lawful.0) lawful.1 others)
+    let v : World = effect w (record { party = party; event = Claim pid }) in
+    sole_claim party pid (after v es) (sole_stays party pid es v (claim_entered w party pid lawful.0) lawful.1 others)
 claim_stays w (e ∷ front) party pid es lawful others = claim_stays (effect w e) front party pid es lawful.1 others

@@ -1,5 +1,5 @@
 -- The items of a history.
-use Rattle.std.proofs.Common.{◌≡◌, ℕ, zero, suc, ◌+◌, ◌<◌, ◌≤◌, Bool, true, false, ◌==◌, cond, List, [], ◌∷◌, ◌++◌, length, map, take, drop, refl, sym, ap, ◌∙◌, subst, append_assoc, append-nil, length-append, arith, Option, Some, None, nat_le}
+use Rattle.std.proofs.Common.{◌≡◌, ℕ, suc, ◌+◌, ◌<◌, ◌≤◌, Bool, true, false, ◌==◌, cond, List, [], ◌∷◌, ◌++◌, length, take, drop, refl, sym, ap, ◌∙◌, subst, append_assoc, append-nil, length-append, arith, Option, Some, None, nat_le}
 use Rattle.std.specs.List.{filter}
 use Rattle.std.proofs.lemmas.Bool.Decides.{nat_tests}
 use Rattle.std.proofs.lemmas.Bool.{cond-true, cond-false}
@@ -8,7 +8,6 @@ use Rattle.muck_model.specs.declared.event.Event.{Event}
 use Rattle.muck_model.specs.declared.note.Note.{Note}
 use Rattle.spec_events.specs.declared.logged.Count.{Count}
 use Rattle.spec_events.specs.declared.logged.Logged.{Logged}
-use Rattle.spec_events.specs.World.{World}
 use Rattle.spec_events.specs.Histories.{History, entered, noted, links_noted}
 use Rattle.spec_events.specs.Logged.{is_dump, notes_at, notes_from, counted_at, counted_from, item_at, items_from, logged, loose_notes, loose_count, IsSettled, bare_item, noted_item, counted_item, entries_of, events_of, notes_of, NoNotes, NoCounts, placed_count, count_from, history_of, ArePlaced, IsCountPlaced, IsPlaced, IsOrderly}
 

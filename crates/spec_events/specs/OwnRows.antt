@@ -1,6 +1,5 @@
 -- Worked own entries, which the checker computes.
-use Rattle.std.specs.Prelude.{◌≡◌, ℤ, true, false, pos, List, [], ◌∷◌, codes, refl, is_some}
-use Rattle.muck_model.specs.declared.event.Event.{Event}
+use Rattle.std.specs.Prelude.{◌≡◌, true, false, pos, [], ◌∷◌, codes, refl, is_some}
 use Rattle.muck_model.specs.declared.event.Event.TheVariants.{Opened, Input, Closed, Moment, Exec, Claim, Slice, Lost, Idle, Take, Cut, Stored, DumpFailed, Halt, StopSeen, Died}
 use Rattle.spec_events.specs.World.{booted, starting}
 use Rattle.spec_events.specs.Steps.{is_lawful, effect}

@@ -2,7 +2,6 @@
 use Rattle.std.proofs.Common.{◌≡◌, ℕ, Bool, true, false, List, [], ◌∷◌, refl, ap, ◌∙◌}
 use Rattle.std.specs.Prelude.{◌==◌}
 use Rattle.turn_lock.specs.Histories.{kept, own_of}
-use Rattle.muck_model.specs.declared.event.Entry.{Entry}
 use Rattle.spec_events.specs.declared.logged.Logged.{Logged}
 use Rattle.spec_events.specs.Logged.{logged_by, entries_of}
 use Rattle.spec_talks.specs.Parties.{party_of}
