@@ -7,11 +7,11 @@ ghost use Rattle.muck_model.specs.declared.tune.Tune.{Tune};
 ghost use Rattle.spec_live.specs.Objects.{Entry as Object};
 ghost use Rattle.spec_dumps.specs.Holding.{Keeps, Rests as HasRests};
 ghost use Rattle.spec_dumps.specs.Survival.{IsSafe};
-ghost use Rattle.spec_events.specs.Histories.{History, now};
+ghost use Rattle.spec_events.specs.Histories.{History, now, entered};
 ghost use Rattle.spec_events.specs.Own.{Stage, died_next};
 ghost use Rattle.spec_events.specs.World.{runs_dump};
 ghost use Rattle.muck_machine.specs.Seats.{Rests, Left, Waited};
-ghost use Rattle.muck_dumping.specs.inner.Dumps.{ending_event};
+ghost use Rattle.muck_dumping.specs.inner.Dumps.{by, ending_event};
 ghost use Rattle.muck_dumping.specs.inner.Between.{IsReady, IsBatchOf, base_in, IsPending, IsWritten, EndsAs};
 ghost use Rattle.muck_dumper.specs.Dumping.{history_seen};
 ghost use Rattle.muck_dumper.specs.inner.Steps.{event_of, KeptBy, Step, Stops, Settles, Watches};
@@ -100,7 +100,7 @@ fn die_turn<W: Wait, R: Rest>(
     requires own { seat.old.table_id ≡ turn.now.table.shared.table_id }
     requires rests { Rests 9 seat.old.me }
     ensures own { (seat.new.table_id ≡ seat.old.table_id) × (seat.new.id ≡ seat.old.id) }
-    ensures ok { OnOk result (Step Died seat.old.me seat.new.me) }
+    ensures ok { OnOk result ((s : Step Died seat.old.me seat.new.me) × (history_seen seat.new.me.0 ≡ entered s.world (by 9 Died))) }
     ensures err { OnErr result (Left 9 seat.new.me × Waited seat.old.me.0 seat.new.me.0 × (2 ^ 62 ≤ length seat.new.me.0.seen)) }
 {
     let held = turn.hold(rt, seat, rest)?;
@@ -221,7 +221,7 @@ pub(crate) fn makes<W: Wait, D: Disk, R: Rest>(
             rt, turn, seat, store, first, second, pending.number, true, rest,
         ),
         Err(fault) => match fault {
-            LogFault::NoMemory | LogFault::Unfit => Err(dies(rt, turn, seat, first, second, rest)),
+            LogFault::NoMemory => Err(dies(rt, turn, seat, first, second, rest)),
             _ => {
                 ends(
                     rt, turn, seat, store, first, second, pending.number, false, rest,

@@ -6,7 +6,7 @@ use Rattle.muck_log.specs.World.{World as Kept, laid, is_between, tune_fits}
 use Rattle.muck_log.specs.Store.{Chosen, LogState, LeavesBoth, IsMounted, target, after_batch, stored}
 use Rattle.muck_log.specs.Append.{IsAppended, IsNext, IsTouching, LoadsEither, payload_of}
 use Rattle.muck_log.specs.declared.fault.LogFault.{LogFault}
-use Rattle.muck_log.specs.declared.fault.LogFault.TheVariants.{NoMemory, DiskFault, Damaged, StoreFull, Unfit, Stale}
+use Rattle.muck_log.specs.declared.fault.LogFault.TheVariants.{NoMemory, DiskFault, Damaged, StoreFull, Stale}
 use Rattle.muck_model.specs.declared.tune.Tune.{Tune}
 use Rattle.spec_admin.specs.Parameters.{IsInRange}
 use Rattle.spec_admin.specs.declared.word.Parameter.TheVariants.{InstrSlice, PreemptUnits, M1Units, M2Units, ProcessLimit, PlayerProcesses, MpiCommands, DumpInterval}
@@ -63,7 +63,7 @@ module _ {D : Type 0} (seen : D → List ℕ) (moment : D → ℕ) (images : D �
       (subst (λ (b : D). LeavesBoth moment images f s f b (LoadsEither log.chosen x)) (sym g) (stays log f s x m))
 
   -- it wasn't even asked
-  pub refused_before : (log : LogState) (f s : D) (payload : List ℕ) (made : Kept) (left : Option LogState) → IsMounted seen moment images log f s → left ≡ None → Appended seen moment images payload made log left f s f s (Err Unfit)
+  pub refused_before : (log : LogState) (f s : D) (payload : List ℕ) (made : Kept) (left : Option LogState) → IsMounted seen moment images log f s → left ≡ None → Appended seen moment images payload made log left f s f s (Err NoMemory)
   refused_before log f s payload made left m is = record { any = stays log f s _ m; answer = is }
 
   module _ (log new : LogState) (f s f' s' : D) (batch : Batch) (made : Kept) (m : IsMounted seen moment images log f s)
@@ -88,7 +88,6 @@ module _ {D : Type 0} (seen : D → List ℕ) (moment : D → ℕ) (images : D �
     refused DiskFault left is said e makes = record { any = any made (makes tt); answer = is }
     refused (Damaged second at) left is said e makes = absurd said
     refused (StoreFull end more) left is said e makes = record { any = untouched (StoreFull end more) (λ t. t) e; answer = (is, said.1, said.2, said.3) }
-    refused Unfit left is said e makes = record { any = untouched Unfit (λ t. t) e; answer = is }
     refused Stale left is said e makes = let fresh = m.fresh in let stale = said.0 in cc
 
     pub appended_err : (fault : LogFault) (left : Option LogState) → left ≡ None → IsAppended log new batch (Err fault) → IsTouching (Err fault) ⊎ ((f' ≡ f) × (s' ≡ s)) → (IsTouching (Err fault) → Made) → Said payload left (Err fault)

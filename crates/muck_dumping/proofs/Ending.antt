@@ -1,12 +1,12 @@
 -- A dump ends: it is told as it was.
 use Rattle.std.proofs.Common.{◌≡◌, ◌⊎◌, inl, inr, ℕ, suc, ◌+◌, ◌<◌, ◌≤◌, Bool, true, false, List, [], ◌∷◌, ◌++◌, length, refl, sym, ap, ◌∙◌, subst, arith, Option, Some, None, Result, Ok, Err}
-use Rattle.std.specs.Prelude.{slice_get}
+use Rattle.std.specs.Prelude.{slice_get, OnOk, OnErr}
 use Rattle.muck_model.specs.declared.event.Event.TheVariants.{Cut, Stored, DumpFailed, Died}
 use Rattle.muck_model.specs.declared.note.Note.{Note}
 use Rattle.muck_log.specs.Store.{Chosen, LogState, target}
 use Rattle.muck_log.specs.Append.{more_of}
 use Rattle.muck_log.specs.declared.fault.LogFault.{LogFault}
-use Rattle.muck_log.specs.declared.fault.LogFault.TheVariants.{NoMemory, DiskFault, Damaged, StoreFull, Unfit, Stale}
+use Rattle.muck_log.specs.declared.fault.LogFault.TheVariants.{NoMemory, DiskFault, Damaged, StoreFull, Stale}
 use Rattle.spec_events.specs.World.{World}
 use Rattle.spec_events.specs.Steps.{effect}
 use Rattle.spec_events.specs.Histories.{History, now, after, entered, noted}
@@ -21,8 +21,17 @@ use Rattle.spec_dumps.proofs.Failing.{failed_rests}
 use Rattle.muck_dumping.specs.inner.Dumps.{note_of, by, ending_event, Dumps, IsFull, IsDumpFault}
 use Rattle.muck_dumping.specs.inner.Between.{IsWritten, IsLeft, IsFullAtCut, EndsAs}
 use Rattle.muck_dumping.proofs.Kept.{SameKept, same_stored, same_failed, same_as, persisted_same, payload_same}
-use Rattle.muck_dumping.proofs.Pending.{died_noted}
+use Rattle.muck_dumping.proofs.Beginning.{died_noted}
 use Rattle.muck_dumping.proofs.Steps.{at_cut_now, now_is}
+
+-- what is so by the answer
+pub on_ok : {A E P Q : Type 0} (r : Result A E) → OnOk r P → (P → Q) → OnOk r Q
+on_ok (Ok x) p f = f p
+on_ok (Err e) p f = tt
+
+pub on_err : {A E P Q : Type 0} (r : Result A E) → OnErr r P → (P → Q) → OnErr r Q
+on_err (Ok x) p f = tt
+on_err (Err e) p f = f p
 
 module _ {D : Type 0} (seen : D → List ℕ) (moment : D → ℕ) (images : D → ℕ → List ℕ → Type 0) (faults : D → ℕ) (log : Option LogState) (f s : D) (mounted : ℕ) (h : History) where
   abbrev note : Note
@@ -50,7 +59,6 @@ module _ {D : Type 0} (seen : D → List ℕ) (moment : D → ℕ) (images : D �
       (stored_rests seen moment images faults f s mounted h v l.0 l.2 l.3 l.4 note (refl, refl) (omega arith, omega arith) refl party n)
   ends_so party n (Ok x) false v l e = absurd e
   ends_so party n (Err NoMemory) done v l e = absurd e
-  ends_so party n (Err Unfit) done v l e = absurd e
   ends_so party n (Err (Damaged on place)) done v l e = absurd e
   ends_so party n (Err DiskFault) true v l e = absurd e
   ends_so party n (Err DiskFault) false v l e = fails_so party n l.0 v l.1
@@ -124,7 +132,6 @@ module _ {D : Type 0} (seen : D → List ℕ) (moment : D → ℕ) (images : D �
 
         caused : (x : LogFault) → (x ≡ Stale → ⊥) → EndsAs (Err x) false → IsDumpFault (Some x)
         caused NoMemory fresh e = absurd e
-        caused Unfit fresh e = absurd e
         caused (Damaged on place) fresh e = absurd e
         caused DiskFault fresh e = tt
         caused Stale fresh e = absurd (fresh refl)

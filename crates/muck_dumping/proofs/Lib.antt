@@ -2,7 +2,9 @@ pub mod Steps
 pub mod Kept
 pub mod Appending
 pub mod Records
+pub mod Fitting
 pub mod Mounting
-pub mod Pending
+pub mod Beginning
 pub mod Writing
 pub mod Ending
+pub mod AtOnce

@@ -6,7 +6,7 @@ use Rattle.muck_model.specs.declared.note.Note.{Note}
 use Rattle.muck_log.specs.Mount.{IsMountedAs, IsMountFault}
 use Rattle.muck_log.specs.Store.{LogState, LeavesOnly, IsMounted, stored}
 use Rattle.muck_log.specs.declared.fault.LogFault.{LogFault}
-use Rattle.muck_log.specs.declared.fault.LogFault.TheVariants.{NoMemory, DiskFault, Damaged, StoreFull, Unfit, Stale}
+use Rattle.muck_log.specs.declared.fault.LogFault.TheVariants.{NoMemory, DiskFault, Damaged, StoreFull, Stale}
 use Rattle.spec_dumps.specs.Fronts.{Loads, file_most}
 use Rattle.spec_dumps.specs.Holding.{Keeps}
 use Rattle.spec_dumps.proofs.Remounting.{mounting_moves, mounted_again, shown_loads}
@@ -66,7 +66,6 @@ module _ {D : Type 0} (seen : D → List ℕ) (moment : D → ℕ) (images : D �
       let shown : Loads h.start mounted h.entries h.notes r.last (stored (seen f) (seen s)) = shown_loads seen moment images faults o f s mounted h r left_f left_s in
       never_both (stored (seen f) (seen s)) shown.0 _ shown.1 said
   mounting_fault o f s h r left_f left_s (StoreFull end more) said = said
-  mounting_fault o f s h r left_f left_s Unfit said = said
   mounting_fault o f s h r left_f left_s Stale said = said
 
   -- with a log that is mounted a dump may begin
@@ -82,5 +81,4 @@ is_disk NoMemory wanted f = absurd (wanted refl)
 is_disk DiskFault wanted f = refl
 is_disk (Damaged second place) wanted f = absurd f
 is_disk (StoreFull end more) wanted f = absurd f
-is_disk Unfit wanted f = absurd f
 is_disk Stale wanted f = absurd f

@@ -1,14 +1,17 @@
 -- The batch of a dump that is pending is written, or it can't be.
 use Rattle.std.proofs.Common.{◌≡◌, ◌⊎◌, inl, inr, ℕ, suc, ◌+◌, ◌<◌, ◌≤◌, true, false, List, [], ◌∷◌, ◌++◌, length, refl, sym, ap, ◌∙◌, subst, arith, Option, Some, None, Result, Ok, Err}
-use Rattle.std.specs.Prelude.{slice_get}
+use Rattle.std.specs.Prelude.{slice_get, OnErr}
 use Rattle.muck_io.specs.Faults.{Rose}
 use Rattle.muck_model.specs.declared.note.Note.{Note}
-use Rattle.muck_log.specs.World.{World as Kept, laid}
+use Rattle.muck_model.specs.declared.tune.Tune.{Tune}
+use Rattle.spec_live.specs.Objects.{Entry as Object}
+use Rattle.muck_store.specs.Changes.{LeavesOut}
+use Rattle.muck_log.specs.World.{World as Kept, laid, tune_fits}
 use Rattle.muck_log.specs.Store.{Chosen, LogState, LeavesBoth, target, after_batch}
-use Rattle.muck_log.specs.Append.{LoadsEither, more_of, payload_of}
+use Rattle.muck_log.specs.Append.{LoadsEither, base_of, more_of, payload_of}
 use Rattle.muck_log.specs.declared.fault.LogFault.{LogFault}
-use Rattle.muck_log.specs.declared.fault.LogFault.TheVariants.{NoMemory, DiskFault, Damaged, StoreFull, Unfit, Stale}
-use Rattle.muck_store.specs.Forms.{world_batch}
+use Rattle.muck_log.specs.declared.fault.LogFault.TheVariants.{NoMemory, DiskFault, Damaged, StoreFull, Stale}
+use Rattle.muck_store.specs.Forms.{persist, world_batch}
 use Rattle.spec_events.specs.World.{World}
 use Rattle.spec_events.specs.Histories.{History}
 use Rattle.spec_dumps.specs.Fronts.{at_cut, dumped_on, dump_payload, log_of, file_most, persisted}
@@ -16,8 +19,9 @@ use Rattle.spec_dumps.specs.Holding.{Quietly, Keeps, Fails}
 use Rattle.spec_dumps.proofs.Quiet.{keeps_quiet, same_cut, front_quiet, dumped_quiet, fails_quiet}
 use Rattle.spec_dumps.proofs.Storing.{append_moves, dumped_it}
 use Rattle.muck_dumping.specs.declared.parts.Pending.{Pending}
-use Rattle.muck_dumping.specs.inner.Dumps.{Appended}
+use Rattle.muck_dumping.specs.inner.Dumps.{Appended, IsAnswer}
 use Rattle.muck_dumping.specs.inner.Between.{IsPending, IsLeft, IsWritten, IsFullAtCut}
+use Rattle.muck_dumping.proofs.Appending.{tune_of, two_there}
 use Rattle.muck_dumping.proofs.Kept.{payload_is, more_is, dumped_is}
 
 same_kept : (x y : Kept) → Some x ≡ Some y → x ≡ y
@@ -54,27 +58,23 @@ module _ {D : Type 0} (seen : D → List ℕ) (moment : D → ℕ) (images : D �
           dumped_it seen moment images faults f s mounted h log v.rests v.batch.consistent (v.number log refl) next.chosen (b.answer.2.chosen ∙ ap (after_batch log.chosen payload) made ∙ dumped_is log world),
         )
     left_as (Err NoMemory) is b = b.answer
-    left_as (Err Unfit) is b = b.answer
     left_as (Err DiskFault) is b = (b.answer, rose_since (cause is))
-    left_as (Err (StoreFull end more)) is b = (
-      b.answer.0,
-      v.rests.keeps.last,
-      log.chosen,
-      v.rests.keeps.end,
-      v.rests.keeps.usable.2,
-      b.answer.1,
-      b.answer.2 ∙ more_is log payload ∙ ap (more_of (log_of log.chosen)) (payload_is log world),
-      subst (λ i. i < end + more) v.rests.keeps.usable.1 b.answer.3,
-    )
+    left_as (Err (StoreFull end more)) is b =
+        let full : IsFullAtCut mounted h end more = (
+          v.rests.keeps.last,
+          log.chosen,
+          v.rests.keeps.end,
+          v.rests.keeps.usable.2,
+          b.answer.1,
+          b.answer.2 ∙ more_is log payload ∙ ap (more_of (log_of log.chosen)) (payload_is log world),
+          subst (λ i. i < end + more) v.rests.keeps.usable.1 b.answer.3,
+        ) in
+        (b.answer.0, full)
     left_as (Err (Damaged on place)) is b = absurd b.answer
     left_as (Err Stale) is b = absurd b.answer
 
     pub written : IsWritten seen moment images faults left f' s' mounted h r
     written = record { keeps = keeps; left = left_as r refl a }
-
-  -- a log that is mounted isn't stale
-  pub answers_fresh : (log : LogState) (f s f' s' : D) (left : Option LogState) (made : Kept) (bytes : List ℕ) → Appended seen moment images bytes made log left f s f' s' (Err Stale) → ⊥
-  answers_fresh log f s f' s' left made bytes a = a.answer
 
   -- where none is mounted
   pub unwritten : (f s : D) → IsPending seen moment images faults None f s mounted h p → IsWritten seen moment images faults None f s mounted h (Err Stale)
@@ -87,17 +87,53 @@ module _ {D : Type 0} (seen : D → List ℕ) (moment : D → ℕ) (images : D �
     at : (x : Result (Unit {0}) LogFault) → IsLeft seen moment images faults log f s mounted h x → IsLeft seen moment images faults log f s mounted k x
     at (Ok x) l = (l.0, l.1, l.2, l.3, dumped_quiet mounted h k q v.keeps.safe.survives.placed l.0.chosen l.4)
     at (Err NoMemory) l = l
-    at (Err Unfit) l = l
     at (Err DiskFault) l = (l.0, fails_quiet mounted h k q v.keeps.safe.survives.placed (faults f) (faults s) l.1)
     at (Err Stale) l = (l.0, fails_quiet mounted h k q v.keeps.safe.survives.placed (faults f) (faults s) l.1)
-    at (Err (StoreFull end more)) l = (
-      l.0,
-      l.1.0,
-      l.1.1,
-      ap (λ (ns : List Note). length ns) q.grew.notes ∙ l.1.2,
-      front_quiet mounted h k q v.keeps.safe.survives.placed l.1.0 l.1.1 l.1.3,
-      l.1.4,
-      l.1.5 ∙ ap (λ (w : World). more_of (log_of l.1.1) (dump_payload l.1.1 w)) (sym (same_cut mounted h k q v.keeps.safe.survives.placed)),
-      l.1.6,
-    )
+    at (Err (StoreFull end more)) l =
+        let full : IsFullAtCut mounted k end more = (
+          l.1.0,
+          l.1.1,
+          ap (λ (ns : List Note). length ns) q.grew.notes ∙ l.1.2,
+          front_quiet mounted h k q v.keeps.safe.survives.placed l.1.0 l.1.1 l.1.3,
+          l.1.4,
+          l.1.5 ∙ ap (λ (w : World). more_of (log_of l.1.1) (dump_payload l.1.1 w)) (sym (same_cut mounted h k q v.keeps.safe.survives.placed)),
+          l.1.6,
+        ) in
+        (l.0, full)
     at (Err (Damaged on place)) l = l
+
+-- What the store answers to it, whether a log is mounted or not.
+module _ {D : Type 0} (seen : D → List ℕ) (moment : D → ℕ) (images : D → ℕ → List ℕ → Type 0) (faults : D → ℕ) (mounted : ℕ) (h : History) (p : Pending) (f s f' s' : D) (left : Option LogState) (r : Result (Unit {0}) LogFault) where
+  abbrev Wrote : Option LogState → Type 0
+  Wrote o = (log : LogState) (es : List Object) (tune : Tune) → o ≡ Some log → LeavesOut (base_of log) (persist es) p.batch.records → p.batch.tune ≡ tune → p.size ≡ length es → tune_fits tune ≡ true → 2 ≤ length es →
+      Appended seen moment images (payload_of log (world_batch es tune)) (record { objects = persist es; tune = tune }) log left f s f' s' r
+
+  none_left : (x : Result (Unit {0}) LogFault) → x ≡ Err Stale → OnErr x (left ≡ None) → left ≡ None
+  none_left (Ok y) e n = cc
+  none_left (Err fault) e n = n
+
+  stays_unwritten : IsPending seen moment images faults None f s mounted h p → r ≡ Err Stale → f' ≡ f → s' ≡ s → OnErr r (left ≡ None) → IsWritten seen moment images faults left f' s' mounted h r
+  stays_unwritten v is first second none =
+      subst (λ (x : Result (Unit {0}) LogFault). IsWritten seen moment images faults left f' s' mounted h x) (sym is)
+      (subst (λ (o : Option LogState). IsWritten seen moment images faults o f' s' mounted h (Err Stale)) (sym (none_left r is none))
+      (subst (λ (a : D). IsWritten seen moment images faults None a s' mounted h (Err Stale)) (sym first)
+      (subst (λ (b : D). IsWritten seen moment images faults None f b mounted h (Err Stale)) (sym second) (unwritten seen moment images faults mounted h p f s v))))
+
+  pub written_by : (o : Option LogState) → IsPending seen moment images faults o f s mounted h p → Wrote o → (o ≡ None → (r ≡ Err Stale) × ((f' ≡ f) × (s' ≡ s))) → OnErr r (left ≡ None) →
+      faults f ≤ faults f' → faults s ≤ faults s' → (r ≡ Err DiskFault → Rose (faults f) (faults f') ⊎ Rose (faults s) (faults s')) → IsWritten seen moment images faults left f' s' mounted h r
+  written_by None v wrote stale none first_later second_later cause = let it = stale refl in stays_unwritten v it.0 it.1.0 it.1.1 none
+  written_by (Some log) v wrote stale none first_later second_later cause =
+      let w : World = at_cut h.start h.entries in
+      written seen moment images faults mounted h p log f s f' s' v left r
+      (wrote log w.live.objects w.live.board.tune refl v.batch.records v.batch.tuning v.batch.size (tune_of w.live.board.tune v.batch.tuned) (two_there w.live.objects v.batch.consistent)) first_later second_later cause
+
+  -- `Stale` says that no log was mounted
+  pub stale_unmounted : (o : Option LogState) → IsPending seen moment images faults o f s mounted h p → Wrote o → r ≡ Err Stale → o ≡ None
+  stale_unmounted None v wrote is = refl
+  stale_unmounted (Some log) v wrote is =
+      let w : World = at_cut h.start h.entries in
+      let a = wrote log w.live.objects w.live.board.tune refl v.batch.records v.batch.tuning v.batch.size (tune_of w.live.board.tune v.batch.tuned) (two_there w.live.objects v.batch.consistent) in
+      absurd (stale_never r is a.answer)
+    where
+      stale_never : (x : Result (Unit {0}) LogFault) → x ≡ Err Stale → IsAnswer seen moment images (payload_of log (world_batch (at_cut h.start h.entries).live.objects (at_cut h.start h.entries).live.board.tune)) (persisted (at_cut h.start h.entries)) log left f' s' x → ⊥
+      stale_never x e a = subst (λ (y : Result (Unit {0}) LogFault). IsAnswer seen moment images (payload_of log (world_batch (at_cut h.start h.entries).live.objects (at_cut h.start h.entries).live.board.tune)) (persisted (at_cut h.start h.entries)) log left f' s' y) e a

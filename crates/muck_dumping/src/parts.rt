@@ -56,7 +56,9 @@ pub fn begin<D: Disk>(
     let number = store.next();
     let size = world.size();
     world.note(first, second);
-    let batch = world.cut(party, number, store.base())?;
+    let Ok(batch) = world.cut(party, number, store.base()) else {
+        return Err(NoMemory);
+    };
     Ok(Pending {
         number,
         size,
@@ -78,11 +80,13 @@ pub fn write<D: Disk>(
     ensures none { OnErr result (store.new.log ≡ None) }
     ensures written { (mounted : ℕ) (h : History) → D.tells ≡ true → IsPending D.seen D.moment D.images D.faults store.old.log first.old second.old mounted h pending.now
         → IsWritten D.seen D.moment D.images D.faults store.new.log first.new second.new mounted h result }
+    ensures stale { (mounted : ℕ) (h : History) → D.tells ≡ true → IsPending D.seen D.moment D.images D.faults store.old.log first.old second.old mounted h pending.now
+        → IsErrOf result LogFault.Stale → store.old.log ≡ None }
     ensures first_later { D.faults first.old ≤ D.faults first.new }
     ensures second_later { D.faults second.old ≤ D.faults second.new }
     ensures cause { IsErrOf result LogFault.DiskFault → Rose (D.faults first.old) (D.faults first.new) ⊎ Rose (D.faults second.old) (D.faults second.new) }
 {
-    store.append(first, second, pending.size, &pending.batch)
+    store.append(first, second, pending)
 }
 
 /// The dump of this number ends in the world: a note, and that it is stored, or that it failed. Who asked for it is told. After `NoMemory` the world

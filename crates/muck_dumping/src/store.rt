@@ -1,6 +1,6 @@
 // The log of a store, and the number that its next dump has.
-ghost use Rattle.std.specs.Prelude.{◌≡◌, ◌⊎◌, ◌≤◌, ◌<◌, ◌^◌, ℕ, true, false, length, List, Option, Some, None, IfOk, OnOk, OnErr, IfErr, IsErrOf, IsSome};
-ghost use Rattle.muck_codec.specs.Batches.{HasFewLines};
+ghost use Rattle.std.specs.Prelude.{◌≡◌, ◌⊎◌, ◌≤◌, ℕ, true, false, length, List, Option, Some, None, All, OnOk, OnErr, IfErr, IsErrOf, IsSome};
+ghost use Rattle.muck_codec.specs.Stored.{IsStored};
 ghost use Rattle.muck_io.specs.Faults.{Rose};
 ghost use Rattle.muck_log.specs.File.{after_number};
 ghost use Rattle.muck_log.specs.Store.{LogState, IsMounted};
@@ -13,9 +13,10 @@ ghost use Rattle.spec_dumps.specs.Holding.{Keeps};
 ghost use Rattle.spec_events.specs.Histories.{History};
 ghost use Rattle.spec_live.specs.Objects.{Entry};
 ghost use Rattle.muck_dumping.specs.inner.Dumps.{HasRisen, IsMountingFault, Appended};
-ghost use Rattle.muck_dumping.specs.inner.Between.{IsReady, base_in};
+ghost use Rattle.muck_dumping.specs.inner.Between.{IsReady, IsBatchOf, base_in};
 
-use muck_codec::{Batch, Stored};
+use crate::parts::Pending;
+use muck_codec::Stored;
 use muck_disk::Disk;
 use muck_log::{Log, LogFault};
 use std::alloc::Global;
@@ -28,6 +29,20 @@ pub const FILE_MOST: u64 = 1 << 40;
 pub struct Store {
     pub log: Option<Log>,
     pub number: u64,
+}
+
+// Whether the log may be handed the batch. No world has fewer objects than are kept, and each of its records has a spelling; so it may, unless
+// memory is wanted to see that.
+fn may_take(log: &Log, pending: &Pending) -> bool
+    ensures covers { result ≡ true → length log.now.chosen.held.world.objects ≤ pending.now.size }
+    ensures storable { result ≡ true → All IsStored pending.now.batch.records }
+    ensures kept { All IsStored log.now.chosen.held.world.objects }
+{
+    let kept = log.kept().objects();
+    if kept.len() > pending.size as usize {
+        return false;
+    }
+    matches!(log.is_storable(&pending.batch), Ok(true))
 }
 
 impl Store {
@@ -98,21 +113,19 @@ impl Store {
         self.log = None;
     }
 
-    // Writes a batch of a world of so many objects, which leaves out what the log keeps. Where that fails the log has to be
-    // mounted again.
+    // Writes the batch of a dump that began, which leaves out what the log keeps. Where that fails the log has to be mounted
+    // again.
     pub(crate) fn append<D: Disk>(
         &mut self,
         first: &mut D,
         second: &mut D,
-        size: u32,
-        batch: &Batch,
+        pending: &Pending,
     ) -> Result<(), LogFault>
-        requires few { length batch.now.records < 2 ^ 32 }
-        requires lines { HasFewLines batch.now.records }
+        requires batch { (objects : List Entry) × (tune : Tune) × IsBatchOf (base_in self.old.log) objects tune pending.now }
         requires mounted { (log : LogState) → D.tells ≡ true → self.old.log ≡ Some log → IsMounted D.seen D.moment D.images log first.old second.old }
         ensures some { OnOk result (IsSome self.new.log) }
         ensures none { OnErr result (self.new.log ≡ None) }
-        ensures wrote { (log : LogState) (es : List Entry) (tune : Tune) → D.tells ≡ true → self.old.log ≡ Some log → LeavesOut (base_of log) (persist es) batch.now.records → batch.now.tune ≡ tune → size ≡ length es
+        ensures wrote { (log : LogState) (es : List Entry) (tune : Tune) → D.tells ≡ true → self.old.log ≡ Some log → LeavesOut (base_of log) (persist es) pending.now.batch.records → pending.now.batch.tune ≡ tune → pending.now.size ≡ length es
             → tune_fits tune ≡ true → 2 ≤ length es → Appended D.seen D.moment D.images (payload_of log (world_batch es tune)) (record { objects = persist es; tune = tune }) log self.new.log first.old second.old first.new second.new result }
         ensures stale { self.old.log ≡ None → (result ≡ Err LogFault.Stale) × ((first.new ≡ first.old) × (second.new ≡ second.old)) }
         ensures first_later { D.faults first.old ≤ D.faults first.new }
@@ -123,11 +136,11 @@ impl Store {
             return Err(LogFault::Stale);
         };
         let number = log.next();
-        if log.kept().objects().len() > size as usize {
+        if !may_take(log, pending) {
             self.close(number);
-            return Err(LogFault::Unfit);
+            return Err(LogFault::NoMemory);
         }
-        match log.append(first, second, batch) {
+        match log.append(first, second, &pending.batch) {
             Ok(_) => Ok(()),
             Err(fault) => {
                 self.close(number);

@@ -1,10 +1,11 @@
 // A dump that is made at once.
-ghost use Rattle.std.specs.Prelude.{◌≡◌, ◌⊎◌, ◌≤◌, ℕ, true, false, Option, Some, None, IfOk, OnOk};
+ghost use Rattle.std.specs.Prelude.{◌≡◌, ◌⊎◌, ◌≤◌, ℕ, true, false, Option, Some, None, IfOk, OnOk, IsSome};
 ghost use Rattle.muck_io.specs.Faults.{Rose};
 ghost use Rattle.spec_dumps.specs.Holding.{Keeps};
 ghost use Rattle.spec_events.specs.Histories.{now};
 ghost use Rattle.spec_events.specs.Steps.{may_cut};
 ghost use Rattle.muck_dumping.specs.inner.Dumps.{Dumps, HasDumped};
+ghost use Rattle.muck_dumping.specs.inner.Between.{IsReady};
 
 use crate::parts::{begin, end, write};
 use crate::store::Store;
@@ -31,9 +32,13 @@ fn dump_unmounted<D: Disk>(
     ensures kept { (mounted : ℕ) → D.tells ≡ true → fault ≡ LogFault.DiskFault → IsReady D.seen D.moment D.images D.faults store.now.log first.now second.now mounted world.old
         → Dumps D.seen D.moment D.images D.faults store.now.log first.now second.now mounted world.new result }
 {
-    let pending = begin(world, party, store, first, second)?;
-    end(world, party, first, second, pending.number, false)?;
-    Ok(Some(fault))
+    let Ok(pending) = begin(world, party, store, first, second) else {
+        return Err(NoMemory);
+    };
+    match end(world, party, first, second, pending.number, false) {
+        Ok(()) => Ok(Some(fault)),
+        Err(NoMemory) => Err(NoMemory),
+    }
 }
 
 // A dump to the log that is mounted.
@@ -56,22 +61,23 @@ fn dump_mounted<D: Disk>(
     ensures cause { IfOk result (λ o. o ≡ Some LogFault.DiskFault → Rose (D.faults first.old) (D.faults first.new) ⊎ Rose (D.faults second.old) (D.faults second.new)) }
     ensures apart { IfOk result (λ o. o ≡ Some LogFault.NoMemory → ⊥) }
 {
-    let pending = begin(world, party, store, first, second)?;
+    let Ok(pending) = begin(world, party, store, first, second) else {
+        return Err(NoMemory);
+    };
     match write(store, first, second, &pending) {
-        Ok(()) => {
-            end(world, party, first, second, pending.number, true)?;
-            Ok(None)
-        }
+        Ok(()) => match end(world, party, first, second, pending.number, true) {
+            Ok(()) => Ok(None),
+            Err(NoMemory) => Err(NoMemory),
+        },
         Err(fault) => match fault {
-            // (no world has fewer objects than are kept, and a batch of one is never unfit)
-            LogFault::NoMemory | LogFault::Unfit => {
+            LogFault::NoMemory => {
                 world.died(party);
                 Err(NoMemory)
             }
-            _ => {
-                end(world, party, first, second, pending.number, false)?;
-                Ok(Some(fault))
-            }
+            _ => match end(world, party, first, second, pending.number, false) {
+                Ok(()) => Ok(Some(fault)),
+                Err(NoMemory) => Err(NoMemory),
+            },
         },
     }
 }

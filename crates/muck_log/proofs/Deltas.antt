@@ -1,8 +1,8 @@
 -- Laying what is written of a batch gives the world that it was taken from.
 use Rattle.std.proofs.Common.{◌≡◌, ℕ, suc, ◌<◌, ◌≤◌, ◌^◌, Bool, true, false, cond, not, ltb, eqb, List, [], ◌∷◌, ◌++◌, length, set, Option, Some, None, option_and_then, Ok, refl, sym, ap, subst, ◌∙◌, append_assoc, arith, length-append}
 use Rattle.std.specs.Prelude.{All, pos, int_lt, nat_le, slice_get}
-use Rattle.std.specs.List.{filter}
-use Rattle.std.proofs.lemmas.Bool.{and_parts, cond-true, cond-false, leb-true, lt-ltb, le-ltb, eq-eqb}
+use Rattle.std.specs.List.{filter, list_all}
+use Rattle.std.proofs.lemmas.Bool.{and_parts, and_from, le-leb, cond-true, cond-false, leb-true, lt-ltb, le-ltb, eq-eqb}
 use Rattle.std.proofs.lemmas.List.{append-nil}
 use Rattle.std.proofs.lemmas.List.Elements.{All-head, All-tail}
 use Rattle.std.proofs.lemmas.List.Filters.{length-filter_both}
@@ -10,6 +10,7 @@ use Rattle.std.proofs.lemmas.Option.{slice_get_past, same_Some, none-some}
 use Rattle.std.proofs.Math.Seq.{set-append_seam}
 use Rattle.muck_model.specs.declared.dbref.Dbref.{Dbref}
 use Rattle.muck_model.specs.declared.tune.Tune.{Tune}
+use Rattle.spec_live.specs.Consistent.{IsConsistent}
 use Rattle.spec_live.specs.Objects.{Entry, dbref_of, index_of}
 use Rattle.muck_codec.specs.declared.stored.Stored.{Stored}
 use Rattle.muck_codec.specs.declared.stored.Batch.{Batch}
@@ -17,13 +18,18 @@ use Rattle.muck_codec.specs.Batches.{is_above, whole_batch, batch_bytes}
 use Rattle.muck_codec.specs.Stored.{IsStored, Run}
 use Rattle.muck_codec.proofs.Batches.{IsNextRecord, dbref_key, IsTune, whole_reads}
 use Rattle.muck_store.proofs.Changing.{left_filter, left_whole}
+use Rattle.muck_store.proofs.Stored.{consistent_whole}
+use Rattle.muck_store.proofs.StoredForms.{length_persist}
 use Rattle.muck_store.specs.Changes.{IsKept, LeavesOut}
 use Rattle.muck_store.specs.Forms.{stored_of, stored_from, persist, world_batch}
+use Rattle.muck_store.specs.Limits.{fits}
+use Rattle.muck_store.specs.Whole.{is_whole}
 use Rattle.muck_log.specs.File.{begin}
-use Rattle.muck_log.specs.World.{World, start, is_between, tune_fits, is_fine, put_at, placed, all_placed, judged_world, laid_over, batch_if, laid, kept_of, differs, written}
+use Rattle.muck_log.specs.World.{World, IsFine, start, is_between, tune_fits, is_fine, put_at, placed, all_placed, judged_world, laid_over, batch_if, laid, kept_of, differs, written}
 use Rattle.muck_log.specs.Store.{Chosen, LogState, opens_new, target}
-use Rattle.muck_log.specs.Append.{IsLaidNext, base_of, payload_of}
+use Rattle.muck_log.specs.Append.{IsLaidNext, MakesWorld, base_of, payload_of}
 use Rattle.muck_log.proofs.Differing.{differs_by, equals, found_stored, kept_same}
+use Rattle.muck_log.proofs.Fine.{start_fine}
 use Rattle.muck_log.proofs.Spellings.{start_two, start_stored}
 
 -- Records by their numbers from k on.
@@ -283,3 +289,55 @@ ready_whole old new batch lays stored kept few es tune left tuned words two cove
     ap (λ payload. laid payload (target old.chosen).held.world) (sym (payload_over old batch es tune kept left tuned)) ∙ lays.world in
     let all = stored_left old es batch.records kept left stored in
     lays.world ∙ ap Some (lays_whole old es tune new.chosen.held.world all kept covers two (written_few old es batch.records kept left few) (tune_words tune words) made)
+
+fine_tune : (es : List Entry) (tune : Tune) → is_fine (persist es) tune ≡ true → tune_fits tune ≡ true
+unfolding is_fine
+fine_tune es tune fine = (and_parts (tune_fits tune) _ (and_parts (list_all fits (persist es)) _ (and_parts (nat_le (length (persist es)) 100000) _ fine).1).1).0
+
+-- A consistent world may be stored.
+pub fine_world : (es : List Entry) (tune : Tune) → IsConsistent es → list_all fits (persist es) ≡ true → tune_fits tune ≡ true → is_fine (persist es) tune ≡ true
+unfolding is_fine
+fine_world es tune consistent limits tuned =
+    and_from (nat_le (length (persist es)) 100000) _ (le-leb (length (persist es)) 100000 (omega (arith, consistent.ordered.few, length_persist es)))
+    (and_from (list_all fits (persist es)) _ limits (and_from (tune_fits tune) (is_whole (persist es)) tuned (consistent_whole es consistent)))
+
+-- In the words of its caller: the batch of a world that hangs together with every value within its limits makes that world, where it
+-- has no fewer objects than are kept.
+pub fit_makes : (log : LogState) (batch : Batch) (es : List Entry) (tune : Tune) → All IsStored log.chosen.held.world.objects → All IsStored batch.records → length batch.records < 2 ^ 32
+    → LeavesOut (base_of log) (persist es) batch.records → batch.tune ≡ tune → is_fine (persist es) tune ≡ true → 2 ≤ length es → length log.chosen.held.world.objects ≤ length es
+    → laid (payload_of log batch) (target log.chosen).held.world ≡ Some (record { objects = persist es; tune = tune })
+fit_makes log batch es tune kept stored few left tuned fine two covers =
+    let there = target_stored log.chosen kept in
+    let all = stored_left log es batch.records there left stored in
+    ap (λ payload. laid payload (target log.chosen).held.world) (payload_over log batch es tune there left tuned)
+    ∙ batch_laid log es tune all there (target_covered log.chosen (length es) covers two) (written_few log es batch.records there left few) (tune_words tune (fine_tune es tune fine))
+    ∙ cond-true (is_fine (persist es) tune) _ _ fine
+
+-- A batch without a record makes the world that it is laid over, with its own parameters.
+
+retuned : (objects : List Stored) (old tune : Tune) → is_fine objects old ≡ true → tune_fits tune ≡ true → is_fine objects tune ≡ true
+unfolding is_fine
+retuned objects old tune fine tuned =
+    let a = and_parts (nat_le (length objects) 100000) _ fine in
+    let b = and_parts (list_all fits objects) _ a.1 in
+    let c = and_parts (tune_fits old) (is_whole objects) b.1 in
+    and_from (nat_le (length objects) 100000) _ a.0 (and_from (list_all fits objects) _ b.0 (and_from (tune_fits tune) (is_whole objects) tuned c.1))
+
+lays_nothing : (w : World) (tune : Tune) → is_fine w.objects w.tune ≡ true → tune_fits tune ≡ true → laid (batch_bytes [] tune) w ≡ Some (record { objects = w.objects; tune = tune })
+unfolding all_placed
+lays_nothing w tune fine tuned =
+    laid_batch (batch_bytes [] tune) (record { records = []; tune = tune }) w w.objects (whole_reads [] tune (omega arith, tt) (tune_words tune tuned)) refl
+    ∙ cond-true (is_fine w.objects tune) _ _ (retuned w.objects w.tune tune fine tuned)
+
+target_fine : (s : Chosen) (b : Bool) → opens_new s.held ≡ b → IsFine s.held.world → IsFine (target s).held.world
+unfolding target begin
+target_fine s true e fine = subst (λ (t : Chosen). IsFine t.held.world) (sym (cond-true (opens_new s.held) _ _ e)) start_fine
+target_fine s false e fine = subst (λ (t : Chosen). IsFine t.held.world) (sym (cond-false (opens_new s.held) _ _ e)) fine
+
+pub nothing_makes : (log : LogState) (batch : Batch) → IsFine log.chosen.held.world → batch.records ≡ [] → tune_fits batch.tune ≡ true → MakesWorld log batch
+unfolding payload_of written
+nothing_makes log batch fine none tuned =
+    let w = (target log.chosen).held.world in (
+      record { objects = w.objects; tune = batch.tune },
+      ap (λ records. laid (batch_bytes (filter (differs w.objects) records) batch.tune) w) none ∙ lays_nothing w batch.tune (target_fine log.chosen (opens_new log.chosen.held) refl fine) tuned,
+    )

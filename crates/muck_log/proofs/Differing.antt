@@ -3,7 +3,7 @@ use Rattle.std.proofs.Common.{◌≡◌, ℕ, Bool, true, false, not, ◌||◌, 
 use Rattle.std.specs.Prelude.{All, nat_lt, bytes_eq, slice_get}
 use Rattle.std.specs.Bool.{Decides}
 use Rattle.std.specs.Option.{option_map_or}
-use Rattle.std.proofs.lemmas.Bool.{or_parts, or_from, not-false, not_from_true, true_from_ne_false, both_ways, le-ltb}
+use Rattle.std.proofs.lemmas.Bool.{or_parts, or_from, not-false, not_from_true, true_from_ne_false, false≢true, le-ltb}
 use Rattle.std.proofs.lemmas.List.Elements.{All-get_or}
 use Rattle.std.proofs.lemmas.Option.{slice_get_within, get_or_from_slice_get}
 use Rattle.std.proofs.lemmas.Slice.Eq.{bytes_eq-Decides}
@@ -45,12 +45,6 @@ found_stored objects (Some k) r all e = subst IsStored (get_or_from_slice_get ob
 pub kept_same : (objects : List Stored) (o : Stored) → All IsStored objects → IsKept objects o → differs objects o ≡ false
 kept_same objects o all is = differs_by objects o (Some o) is ∙ itself o (found_stored objects (index_of o.dbref) o all is)
 
-pub kept_stored : (objects : List Stored) (o : Stored) (b : Bool) → All IsStored objects → Decides b (IsKept objects o) → b ≡ true → IsStored o
-kept_stored objects o b all tells is = found_stored objects (index_of o.dbref) o all (tells.0 is)
-
-pub kept_left : (objects : List Stored) (o : Stored) (b : Bool) → All IsStored objects → Decides b (IsKept objects o) → b ≡ true → false ≡ differs objects o
-kept_left objects o b all tells is = sym (kept_same objects o all (tells.0 is))
-
-pub new_written : (objects : List Stored) (o : Stored) (b s : Bool) → All IsStored objects → Decides b (IsKept objects o) → b ≡ false → Decides s (IsStored o) → s ≡ true → true ≡ differs objects o
-new_written objects o b s all tells other judges is =
-    sym (differs_by objects o (kept_of objects o) refl ∙ another o (kept_of objects o) (judges.0 is) (λ r. found_stored objects (index_of o.dbref) r all) (λ e. both_ways b other (tells.1 e)))
+pub kept_differs : (objects : List Stored) (o : Stored) (b : Bool) → All IsStored objects → IsStored o → Decides b (IsKept objects o) → not b ≡ differs objects o
+kept_differs objects o true all is tells = sym (kept_same objects o all (tells.0 refl))
+kept_differs objects o false all is tells = sym (differs_by objects o (kept_of objects o) refl ∙ another o (kept_of objects o) is (λ r. found_stored objects (index_of o.dbref) r all) (λ e. false≢true (tells.1 e)))

@@ -6,7 +6,7 @@ use Rattle.muck_log.specs.File.{Opened, Reading, begin, gate_at, run, ending, is
 use Rattle.muck_log.specs.Store.{stored, picked, loaded, must_close, pick, LeavesOnly, LogState}
 use Rattle.muck_log.specs.Mount.{IsFirst, IsLook, IsChoice, IsLoaded, IsLoadFault, IsMountFault, IsMountedAs, choice}
 use Rattle.muck_log.specs.declared.fault.LogFault.{LogFault}
-use Rattle.muck_log.specs.declared.fault.LogFault.TheVariants.{NoMemory, DiskFault, Damaged as DamagedAt, StoreFull, Unfit, Stale}
+use Rattle.muck_log.specs.declared.fault.LogFault.TheVariants.{NoMemory, DiskFault, Damaged as DamagedAt, StoreFull, Stale}
 use Rattle.muck_log.specs.Head.{is_shut, is_over}
 use Rattle.muck_log.specs.declared.mount.First.{First}
 use Rattle.muck_log.specs.declared.mount.First.TheVariants.{Shut, Bad, Open}
@@ -154,7 +154,6 @@ load_fault a b at g reading (DamagedAt second place) is reads l = load_err a b a
 load_fault a b at g reading NoMemory is reads l = tt
 load_fault a b at g reading DiskFault is reads l = absurd l
 load_fault a b at g reading (StoreFull end more) is reads l = absurd l
-load_fault a b at g reading Unfit is reads l = absurd l
 load_fault a b at g reading Stale is reads l = absurd l
 
 pub found : (ch : Choice) (a b : First) (x y : List ℕ) → ch ≡ choice a b → IsFirst a x → IsFirst b y → IsChoice ch x y

@@ -5,7 +5,7 @@ use Rattle.std.specs.Bool.{Decides}
 use Rattle.std.proofs.Math.Seq.{drop-cons}
 use Rattle.std.proofs.lemmas.List.{drop_all}
 use Rattle.std.proofs.lemmas.Bool.{false≢true, leb-true, le-leb}
-use Rattle.std.proofs.lemmas.List.Elements.{All-nil, All-cons, All-head, All-tail}
+use Rattle.std.proofs.lemmas.List.Elements.{All-nil, All-cons, All-head, All-tail, All-get_or}
 use Rattle.muck_model.specs.Bytes.{text_fault}
 use Rattle.muck_prop.specs.Paths.{IsPath, IsReadAs, path_text, fault_of}
 use Rattle.muck_prop.proofs.Reading.{read_is_path}
@@ -40,15 +40,21 @@ all_next P xs i x lt e is left =
       part = λ a. All-tail P x (drop (i + 1) xs) (subst (All P) next (left.part a));
     }
 
-pub all_here : {X : Type 0} (P : X → Type 0) (xs : List X) (i : ℕ) (x : X) → i < length xs → x ≡ get_or xs i x → AllLeft P xs i → All P xs → P x
-all_here P xs i x lt e left all = All-head P x (drop (i + 1) xs) (subst (All P) (drop_at xs i x lt e) (left.part all))
-
 pub all_ends : {X : Type 0} (P : X → Type 0) (xs : List X) (i : ℕ) → length xs ≤ i → AllLeft P xs i → All P xs
 all_ends P xs i past left = left.whole (subst (All P) (sym (drop_all i xs past)) (All-nil P))
 
 never : {X : Type 0} (b : Bool) → b ≡ false → b ≡ true → X
 never true is not = absurd cc
 never false is not = absurd cc
+
+pub all_at : {X : Type 0} (P : X → Type 0) (xs : List X) (i : ℕ) (x : X) → i < length xs → x ≡ get_or xs i x → All P xs → P x
+all_at P xs i x lt e all = subst P (sym e) (All-get_or P xs i x lt all)
+
+pub all_not : {X : Type 0} (P : X → Type 0) (xs : List X) (i : ℕ) (x : X) (b : Bool) → i < length xs → x ≡ get_or xs i x → Decides b (P x) → b ≡ false → Decides false (All P xs)
+all_not P xs i x b lt e tells is = ((λ f. absurd (false≢true f)), (λ all. never b is (tells.1 (all_at P xs i x lt e all))))
+
+pub all_are : {X : Type 0} (P : X → Type 0) (xs : List X) (i : ℕ) → length xs ≤ i → AllLeft P xs i → Decides true (All P xs)
+all_are P xs i past left = ((λ e. all_ends P xs i past left), (λ all. refl))
 
 -- A whole run, where what is left goes on behind the last one.
 pub record RunLeft {A K : Type 0} (key : A → K) (rule : Option K → A → Type 0) (xs : List A) (before : Option K) (i : ℕ) : Type 0 where

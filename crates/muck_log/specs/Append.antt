@@ -1,16 +1,15 @@
 -- What `append` answers.
-use Rattle.std.specs.Prelude.{◌≡◌, ◌⊎◌, All, ℕ, ◌+◌, ◌<◌, ◌≤◌, ◌^◌, true, false, Some, Result, Ok, Err, List, [], length, if◌then◌else◌, Bool, None}
+use Rattle.std.specs.Prelude.{◌≡◌, ◌⊎◌, ℕ, ◌+◌, ◌<◌, ◌≤◌, ◌^◌, true, false, Some, Result, Ok, Err, List, [], length, if◌then◌else◌}
 use Rattle.muck_codec.specs.declared.stored.Stored.{Stored}
 use Rattle.muck_codec.specs.declared.stored.Batch.{Batch}
 use Rattle.muck_codec.specs.Batches.{batch_bytes}
-use Rattle.muck_codec.specs.Stored.{IsStored}
-use Rattle.muck_log.specs.World.{laid, written}
+use Rattle.muck_log.specs.World.{World, laid, written}
 use Rattle.muck_log.specs.File.{after_number}
 use Rattle.muck_log.specs.Store.{Chosen, Damage, LogState, target, opens_new, next_body, after_batch, framed, stored}
 use Rattle.muck_log.specs.declared.log.Target.{Target}
 use Rattle.muck_log.specs.declared.log.Ready.{Ready}
 use Rattle.muck_log.specs.declared.fault.LogFault.{LogFault}
-use Rattle.muck_log.specs.declared.fault.LogFault.TheVariants.{NoMemory, DiskFault, Damaged, StoreFull, Unfit, Stale}
+use Rattle.muck_log.specs.declared.fault.LogFault.TheVariants.{NoMemory, DiskFault, Damaged, StoreFull, Stale}
 
 -- the store as it was, or with the batch
 abbrev pub IsEither : Chosen → Chosen → Result Chosen Damage → Type 0
@@ -38,24 +37,18 @@ payload_of log batch = batch_bytes (written (target log.chosen).held.world.objec
 unfoldable pub base_of : LogState → List Stored
 base_of log = if opens_new log.chosen.held then [] else log.chosen.held.world.objects
 
--- the batch is laid, or it can't be, and the log is stale
-abbrev pub IsTried : Bool → LogState → LogState → List ℕ → Type 0
-IsTried true old new payload = IsLaidNext old new payload
-IsTried false old new payload = (laid payload (target old.chosen).held.world ≡ None) × (new.stale ≡ true)
+-- the batch, laid over the world on which it stands, makes a world that hangs together with every value within its limits
+abbrev pub MakesWorld : LogState → Batch → Type 0
+MakesWorld log batch = (w : World) × (laid (payload_of log batch) (target log.chosen).held.world ≡ Some w)
 
 -- how many bytes the batch takes: gate, length, body and closed gate
 unfoldable pub more_of : LogState → List ℕ → ℕ
 more_of log payload = 10 + length (next_body log.chosen payload)
 
--- a batch with a record that has no spelling is refused as it is; one that leaves no world leaves the log stale
-abbrev pub IsUnfit : LogState → LogState → Batch → Type 0
-IsUnfit old new batch = ((All IsStored batch.records → ⊥) × (new ≡ old)) ⊎ ((laid (payload_of old batch) (target old.chosen).held.world ≡ None) × (new.stale ≡ true))
-
 -- each answer, with its cause
 abbrev pub IsAppended : LogState → LogState → Batch → Result ℕ LogFault → Type 0
 IsAppended old new batch (Ok n) = (old.stale ≡ false) × ((target old.chosen).place + more_of old (payload_of old batch) ≤ old.most) × (n ≡ after_number old.chosen.held.number)
 IsAppended old new batch (Err (StoreFull end more)) = (old.stale ≡ false) × (end ≡ (target old.chosen).place) × (more ≡ more_of old (payload_of old batch)) × (old.most < end + more) × (new ≡ old)
-IsAppended old new batch (Err Unfit) = (old.stale ≡ false) × IsUnfit old new batch
 IsAppended old new batch (Err Stale) = (old.stale ≡ true) × (new ≡ old)
 IsAppended old new batch (Err DiskFault) = (old.stale ≡ false) × ((target old.chosen).place + more_of old (payload_of old batch) ≤ old.most) × (new.stale ≡ true)
 IsAppended old new batch (Err NoMemory) = old.stale ≡ false
@@ -73,16 +66,9 @@ pub record IsReady (old new : LogState) (payload : List ℕ) (ready : Ready) : T
   pub small : old.most < 2 ^ 63
   pub lays : IsLaidNext old new payload
 
--- this is why P isn't so, unless memory ran out
-abbrev pub IsUnspelled : Type 0 → LogFault → Type 0
-IsUnspelled P NoMemory = Unit {0}
-IsUnspelled P Unfit = P → ⊥
-IsUnspelled P fault = ⊥
-
 -- the refusals before any write
 abbrev pub IsRefused : LogState → LogState → Batch → LogFault → Type 0
 IsRefused old new batch (StoreFull end more) = (old.stale ≡ false) × (end ≡ (target old.chosen).place) × (more ≡ more_of old (payload_of old batch)) × (old.most < end + more) × (new ≡ old)
-IsRefused old new batch Unfit = (old.stale ≡ false) × IsUnfit old new batch
 IsRefused old new batch Stale = (old.stale ≡ true) × (new ≡ old)
 IsRefused old new batch NoMemory = old.stale ≡ false
 IsRefused old new batch DiskFault = ⊥

@@ -1,6 +1,6 @@
 use Rattle.std.specs.Prelude.{◌≡◌, ℕ, ◌+◌, Bool, true, false, Option, Some, None, List, option_map, Result, Ok, Err, not, ◌≤◌}
 use Rattle.muck_log.specs.Body.{Body, body_of}
-use Rattle.muck_log.specs.World.{World, laid, placed, all_placed, IsFine}
+use Rattle.muck_log.specs.World.{World, laid, placed, all_placed, judged_world, IsFine}
 use Rattle.muck_codec.specs.declared.stored.Stored.{Stored}
 use Rattle.muck_log.specs.File.{Reading, join, ending}
 use Rattle.muck_log.specs.declared.body.Head.{Head}
@@ -16,6 +16,11 @@ head_in bytes = option_map (λ (b : Body). record { generation = b.generation; n
 abbrev pub IsLaid : Bool → List ℕ → World → World → Type 0
 IsLaid true payload old new = laid payload old ≡ Some new
 IsLaid false payload old new = laid payload old ≡ None
+
+-- the records and the parameters are in their places, where such a world may be; or it can't be laid
+abbrev pub IsPut : Bool → List ℕ → World → World → Type 0
+IsPut true payload old new = laid payload old ≡ judged_world new.tune new.objects
+IsPut false payload old new = laid payload old ≡ None
 
 -- the record is in its place, or has none
 abbrev pub IsPlaced : Bool → Stored → List Stored → List Stored → Type 0

@@ -4,7 +4,7 @@ use Rattle.muck_log.specs.File.{Reading, begin, gate_at, run, ending, is_open, h
 use Rattle.muck_log.specs.Store.{LogState, IsMounted, stored, loaded, must_close, pick}
 use Rattle.muck_log.specs.Head.{is_shut}
 use Rattle.muck_log.specs.declared.fault.LogFault.{LogFault}
-use Rattle.muck_log.specs.declared.fault.LogFault.TheVariants.{NoMemory, DiskFault, Damaged as DamagedAt, StoreFull, Unfit, Stale}
+use Rattle.muck_log.specs.declared.fault.LogFault.TheVariants.{NoMemory, DiskFault, Damaged as DamagedAt, StoreFull, Stale}
 use Rattle.muck_log.specs.declared.mount.First.{First}
 use Rattle.muck_log.specs.declared.mount.First.TheVariants.{Shut, Bad, Open}
 use Rattle.muck_log.specs.declared.mount.Look.{Look}
@@ -48,7 +48,6 @@ IsLoadFault reading at (DamagedAt second place) = (ending reading ≡ Err place)
 IsLoadFault reading at NoMemory = Unit {0}
 IsLoadFault reading at DiskFault = ⊥
 IsLoadFault reading at (StoreFull end more) = ⊥
-IsLoadFault reading at Unfit = ⊥
 IsLoadFault reading at Stale = ⊥
 
 -- the refusals of `mount`
@@ -57,7 +56,6 @@ IsMountFault a b (DamagedAt second place) = stored a b ≡ Err (record { second 
 IsMountFault a b NoMemory = Unit {0}
 IsMountFault a b DiskFault = Unit {0}
 IsMountFault a b (StoreFull end more) = ⊥
-IsMountFault a b Unfit = ⊥
 IsMountFault a b Stale = ⊥
 
 -- a log that is mounted

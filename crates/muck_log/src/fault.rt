@@ -15,9 +15,7 @@ pub enum LogFault {
     Damaged { second: bool, at: u64 },
     /// The batch would begin at `end` and has `more` bytes, which is past the limit.
     StoreFull { end: u64, more: u64 },
-    /// The batch doesn't leave a world with every value within its limits.
-    Unfit,
-    /// A call of a disk failed before, or a batch was unfit: the log has to be mounted again.
+    /// A call of a disk failed before, or memory ran out while a batch was laid: the log has to be mounted again.
     Stale,
     NoMemory,
 }

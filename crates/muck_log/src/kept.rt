@@ -7,13 +7,10 @@ ghost use Rattle.muck_codec.specs.Spelling.{spelling};
 ghost use Rattle.muck_codec.specs.Stored.{IsStored};
 ghost use Rattle.muck_codec.specs.Batches.{batch_bytes, HasFewLines};
 ghost use Rattle.muck_log.specs.World.{World, room_zero, first_digest, player_one, first_tune, start, lost, is_between, tune_fits, is_fine, IsFine, placed, all_placed, laid, kept_of, differs, written};
-ghost use Rattle.muck_log.specs.Append.{IsUnspelled};
 ghost use Rattle.muck_store.specs.Limits.{fits};
-ghost use Rattle.muck_log.specs.Head.{IsLaid, IsPlaced, ArePlaced};
+ghost use Rattle.muck_log.specs.Head.{IsLaid, IsPut, IsPlaced, ArePlaced};
 
-use crate::LogFault;
 use crate::same::is_same;
-use crate::storable::is_storable;
 use muck_codec::{Batch, CodecFault, Stored, put_record, put_tune, take_batch};
 use muck_model::{Dbref, Flags, Kind, Line, LineFault, LineList, NoMemory, Row, Tune};
 use muck_store::{fits, is_whole};
@@ -247,11 +244,11 @@ impl Kept {
         self.tune
     }
 
-    // Lays the bytes of a batch over it; false where that can't be, and nothing is said of it then.
+    // Puts the records and the parameters of a batch over it, which is read from its bytes; false where that can't be, and
+    // nothing is said of it then.
     #[tactic(auto, unfolding(crate::specs::World::laid, crate::specs::World::laid_over))]
-    pub(crate) fn lay(&mut self, payload: &[u8]) -> Result<bool, NoMemory>
-        ensures laid { IfOk result (λ yes. IsLaid yes payload.now self.old self.new) }
-        ensures fine { IfOk result (λ yes. yes ≡ true → IsFine self.new) }
+    fn put(&mut self, payload: &[u8]) -> Result<bool, NoMemory>
+        ensures { IfOk result (λ yes. IsPut yes payload.now self.old self.new) }
     {
         let batch = match take_batch(self.alloc, 1, payload) {
             Ok(batch) => batch,
@@ -263,7 +260,30 @@ impl Kept {
             return Ok(false);
         }
         self.tune = tune;
+        Ok(true)
+    }
+
+    // Lays the bytes of a batch over it; false where that can't be, and nothing is said of it then.
+    pub(crate) fn lay(&mut self, payload: &[u8]) -> Result<bool, NoMemory>
+        ensures laid { IfOk result (λ yes. IsLaid yes payload.now self.old self.new) }
+        ensures fine { IfOk result (λ yes. yes ≡ true → IsFine self.new) }
+    {
+        if !self.put(payload)? {
+            return Ok(false);
+        }
         Ok(is_fine(self.alloc, &self.objects, &self.tune)?)
+    }
+
+    // Lays the bytes of a batch over it that are known to make a world. Nothing of the world is judged.
+    pub(crate) fn lay_known(&mut self, payload: &[u8]) -> Result<(), NoMemory>
+        requires { (w : World) × (laid payload.now self.old ≡ Some w) }
+        ensures laid { OnOk result (laid payload.now self.old ≡ Some self.new) }
+        ensures fine { OnOk result (IsFine self.new) }
+    {
+        if !self.put(payload)? {
+            unreachable!();
+        }
+        Ok(())
     }
 }
 
@@ -280,42 +300,33 @@ fn is_kept(objects: &[Stored], object: &Stored) -> bool
     }
 }
 
-// Whether a record differs from what is kept of its object; `Unfit` where it does and has no spelling.
-#[tactic(auto, using(crate::proofs::Differing::kept_stored, crate::proofs::Differing::kept_left, crate::proofs::Differing::new_written))]
-fn is_written(alloc: Global, objects: &[Stored], object: &Stored) -> Result<bool, LogFault>
+// Whether a record differs from what is kept of its object.
+#[tactic(auto, using(crate::proofs::Differing::kept_differs))]
+fn is_written(objects: &[Stored], object: &Stored) -> bool
     requires kept { All IsStored objects.now }
-    ensures written { IfOk result (λ yes. yes ≡ differs objects.now object.now) }
-    ensures storable { OnOk result (IsStored object.now) }
-    ensures err { IfErr result (IsUnspelled (IsStored object.now)) }
+    requires storable { IsStored object.now }
+    ensures { result ≡ differs objects.now object.now }
 {
-    if is_kept(objects, object) {
-        return Ok(false);
-    }
-    if !is_storable(alloc, object)? {
-        return Err(LogFault::Unfit);
-    }
-    Ok(true)
+    !is_kept(objects, object)
 }
 
-// Writes the records that differ from these objects, and answers how many; `Unfit` where one has no spelling.
-#[tactic(auto, using(crate::proofs::Refusing::unspelled_here))]
+// Writes the records that differ from these objects, and answers how many.
 fn put_written(
     alloc: Global,
     objects: &[Stored],
     records: &[Stored],
     out: &mut Vec<u8>,
-) -> Result<u32, LogFault>
+) -> Result<u32, NoMemory>
     requires few { length records.now < 2 ^ 32 }
     requires lines { HasFewLines records.now }
     requires kept { All IsStored objects.now }
+    requires storable { All IsStored records.now }
     ensures count { IfOk result (λ n. n ≡ length (written objects.now records.now)) }
     ensures bytes { OnOk result (out.new.items ≡ out.old.items ++ flat_map spelling (written objects.now records.now)) }
-    ensures storable { OnOk result (All IsStored records.now) }
-    ensures err { IfErr result (IsUnspelled (All IsStored records.now)) }
 {
     let mut count = 0;
     for object in records {
-        if is_written(alloc, objects, object)? {
+        if is_written(objects, object) {
             put_record(alloc, object, out)?;
             count += 1;
         }
@@ -324,16 +335,14 @@ fn put_written(
 }
 
 impl Kept {
-    // The bytes of a batch that is laid over it: its records that differ from what is kept. `Unfit` where a record has no
-    // spelling.
+    // The bytes of a batch that is laid over it: its records that differ from what is kept.
     #[tactic(auto, unfolding(muck_codec::specs::Batches::batch_bytes))]
-    pub(crate) fn payload(&self, batch: &Batch) -> Result<Vec<u8>, LogFault>
+    pub(crate) fn payload(&self, batch: &Batch) -> Result<Vec<u8>, NoMemory>
         requires few { length batch.now.records < 2 ^ 32 }
         requires lines { HasFewLines batch.now.records }
+        requires storable { All IsStored batch.now.records }
         ensures bytes { IfOk result (λ v. v.items ≡ batch_bytes (written self.now.objects batch.now.records) batch.now.tune) }
-        ensures storable { OnOk result (All IsStored batch.now.records) }
         ensures kept { All IsStored self.now.objects }
-        ensures err { IfErr result (IsUnspelled (All IsStored batch.now.records)) }
     {
         let mut bytes = Vec::new(self.alloc);
         let count = put_written(

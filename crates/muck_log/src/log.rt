@@ -11,11 +11,13 @@ ghost use Rattle.muck_store.specs.Forms.{persist};
 ghost use Rattle.muck_log.specs.File.{after_number, begin};
 ghost use Rattle.muck_log.specs.Mount.{IsLoaded, IsLoadFault};
 ghost use Rattle.muck_log.specs.Store.{LeavesBoth, MayBeAt, IsMounted, LogState, target, opens_new, next_body, after_batch, stored, framed, pick, IsDone};
-ghost use Rattle.muck_log.specs.Append.{IsEither, IsAppended, IsTarget, IsTried, IsReady, IsRefused, IsFinished, IsNext, IsTouching, LoadsEither, IsUnspelled, base_of, payload_of};
+ghost use Rattle.muck_log.specs.Append.{IsEither, IsAppended, IsLaidNext, IsTarget, IsReady, IsRefused, IsFinished, IsNext, IsTouching, LoadsEither, MakesWorld, base_of, payload_of};
 ghost use Rattle.muck_codec.specs.Batches.{HasFewLines};
 ghost use Rattle.muck_codec.specs.Stored.{IsStored};
+ghost use Rattle.std.specs.Bool.{Decides};
 
 use crate::reader::Reader;
+use crate::storable::are_storable;
 use crate::write::put_target;
 use crate::{Kept, LogFault};
 use muck_codec::{Batch, Stored};
@@ -212,22 +214,22 @@ impl Log {
         }
     }
 
-    // Lays the payload over the world that the batch stands on; where that can't be, the log is stale, as it is until then.
+    // Lays the payload over the world that the batch stands on, with which it makes a world. The log is stale until that is
+    // done.
     #[tactic(auto, unfolding(crate::specs::Store::target, crate::specs::File::begin))]
-    fn lay_next(&mut self, payload: &[u8]) -> Result<bool, NoMemory>
-        requires { self.old.stale ≡ false }
-        ensures { IfOk result (λ yes. IsTried yes self.old self.new payload.now) }
+    fn lay_next(&mut self, payload: &[u8]) -> Result<(), NoMemory>
+        requires fresh { self.old.stale ≡ false }
+        requires makes { (w : World) × (laid payload.now (target self.old.chosen).held.world ≡ Some w) }
+        ensures { OnOk result (IsLaidNext self.old self.new payload.now) }
     {
         let opens = self.opens_new();
         self.stale = true;
         if opens {
             self.world = Kept::starting(self.alloc)?;
         }
-        if !self.world.lay(payload)? {
-            return Ok(false);
-        }
+        self.world.lay_known(payload)?;
         self.stale = false;
-        Ok(true)
+        Ok(())
     }
 
     /// What the next batch may leave out of the records of a world: the objects that are kept, or nothing where it opens a new
@@ -243,16 +245,21 @@ impl Log {
         self.world.objects()
     }
 
-    // The bytes of a batch over the world that it is laid over, of which each object has a spelling. `Unfit` where a record has
-    // none.
+    /// Whether each record of a batch has a spelling, so that `append` may be called with it.
+    pub fn is_storable(&self, batch: &Batch) -> Result<bool, NoMemory>
+        ensures { IfOk result (λ yes. Decides yes (All IsStored batch.now.records)) }
+    {
+        are_storable(self.alloc, batch.records.as_slice())
+    }
+
+    // The bytes of a batch over the world that it is laid over, of which each object has a spelling.
     #[tactic(auto, unfolding(crate::specs::Append::payload_of, crate::specs::Store::target, crate::specs::File::begin))]
-    fn payload(&self, batch: &Batch) -> Result<Vec<u8>, LogFault>
+    fn payload(&self, batch: &Batch) -> Result<Vec<u8>, NoMemory>
         requires few { length batch.now.records < 2 ^ 32 }
         requires lines { HasFewLines batch.now.records }
+        requires storable { All IsStored batch.now.records }
         ensures bytes { IfOk result (λ payload. payload.items ≡ payload_of self.now batch.now) }
-        ensures storable { OnOk result (All IsStored batch.now.records) }
         ensures kept { OnOk result (All IsStored (target self.now.chosen).held.world.objects) }
-        ensures err { IfErr result (IsUnspelled (All IsStored batch.now.records)) }
     {
         if self.opens_new() {
             return Kept::starting(self.alloc)?.payload(batch);
@@ -261,12 +268,13 @@ impl Log {
     }
 
     // All that takes memory, and all refusals but those of the disks.
-    #[tactic(auto, unfolding(crate::specs::Append::more_of, crate::specs::Store::next_body), using(crate::proofs::Refusing::refused_unspelled))]
+    #[tactic(auto, unfolding(crate::specs::Append::more_of, crate::specs::Store::next_body))]
     fn prepare(&mut self, batch: &Batch) -> Result<Ready, LogFault>
         requires few { length batch.now.records < 2 ^ 32 }
         requires lines { HasFewLines batch.now.records }
+        requires storable { All IsStored batch.now.records }
+        requires makes { self.old.stale ≡ false → MakesWorld self.old batch.now }
         ensures ok { IfOk result (λ ready. IsReady self.old self.new (payload_of self.old batch.now) ready) }
-        ensures storable { OnOk result (All IsStored batch.now.records) }
         ensures kept { OnOk result (All IsStored (target self.old.chosen).held.world.objects) }
         ensures err { IfErr result (λ fault. IsRefused self.old self.new batch.now fault) }
     {
@@ -286,9 +294,7 @@ impl Log {
             });
         }
         let tail = frame(self.alloc, &body)?;
-        if !self.lay_next(&payload)? {
-            return Err(LogFault::Unfit);
-        }
+        self.lay_next(&payload)?;
         Ok(Ready {
             target,
             number,
@@ -322,13 +328,16 @@ impl Log {
     /// what is kept, or the starting world where a new generation is opened. So it makes the whole world, where that has no
     /// fewer objects than are kept. All memory is taken before the first write.
     ///
+    /// The caller has seen that each record of the batch has a spelling (`is_storable` tells), and that the batch, laid
+    /// over that world, makes one that hangs together with every value within its limits. It isn't judged again here: the
+    /// batch of a consistent world makes one (`fit_makes`).
+    ///
     /// `StoreFull` comes exactly where such a batch would pass the limit, before any write; the log stays as it was then.
-    /// `Unfit` comes before any write too: where a record of the batch has no spelling, and the log stays as it was; or
-    /// where the batch doesn't leave a world that hangs together with every value within its limits, and the log is stale. `DiskFault` comes only where a disk's count of faults rose, and leaves the
-    /// log stale, as memory that ran out while the batch was laid may. A stale log answers `Stale` until it is mounted
-    /// again. At each moment since the call began, whatever a crash leaves of both disks loads as the world before or as
-    /// the one with the batch, and after `Ok` as the latter.
-    #[tactic(auto, using(crate::proofs::Refusing::refused_storable, crate::proofs::Refusing::refused_whole))]
+    /// `DiskFault` comes only where a disk's count of faults rose, and leaves the log stale, as memory that ran out while
+    /// the batch was laid may. A stale log answers `Stale` until it is mounted again. At each moment since the call began,
+    /// whatever a crash leaves of both disks loads as the world before or as the one with the batch, and after `Ok` as the
+    /// latter.
+    #[tactic(auto, using(crate::proofs::Refusing::refused_whole))]
     pub fn append<D: Disk>(
         &mut self,
         first: &mut D,
@@ -337,9 +346,10 @@ impl Log {
     ) -> Result<u64, LogFault>
         requires few { length batch.now.records < 2 ^ 32 }
         requires lines { HasFewLines batch.now.records }
+        requires storable { All IsStored batch.now.records }
+        requires makes { self.old.stale ≡ false → MakesWorld self.old batch.now }
         requires mounted { D.tells ≡ true → self.old.stale ≡ false → IsMounted D.seen D.moment D.images self.old first.old second.old }
         ensures answer { IsAppended self.old self.new batch.now result }
-        ensures storable { IsTouching result → All IsStored batch.now.records }
         ensures whole { IsTouching result → (es : List WorldEntry) (tune : Tune) → LeavesOut (base_of self.old) (persist es) batch.now.records → batch.now.tune ≡ tune → tune_fits tune ≡ true → 2 ≤ length es
             → length self.old.chosen.held.world.objects ≤ length es → laid (payload_of self.old batch.now) (target self.old.chosen).held.world ≡ Some (record { objects = persist es; tune = tune }) }
         ensures chosen { OnOk result (IsNext self.old self.new (payload_of self.old batch.now)) }

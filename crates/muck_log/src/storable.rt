@@ -132,7 +132,7 @@ fn are_properties(alloc: Global, properties: &[Property]) -> Result<bool, NoMemo
 
 // Whether a record has a spelling.
 #[tactic(auto, using(crate::proofs::Spelled::not_lines, crate::proofs::Spelled::stored_by))]
-pub(crate) fn is_storable(alloc: Global, record: &Stored) -> Result<bool, NoMemory>
+fn is_storable(alloc: Global, record: &Stored) -> Result<bool, NoMemory>
     ensures { IfOk result (λ yes. Decides yes (IsStored record.now)) }
 {
     see_head(record);
@@ -144,4 +144,17 @@ pub(crate) fn is_storable(alloc: Global, record: &Stored) -> Result<bool, NoMemo
         return Ok(false);
     }
     are_properties(alloc, record.props.as_slice())
+}
+
+// Whether each record has a spelling.
+#[tactic(auto, using(crate::proofs::Spelled::all_left, crate::proofs::Spelled::all_not, crate::proofs::Spelled::all_are))]
+pub(crate) fn are_storable(alloc: Global, records: &[Stored]) -> Result<bool, NoMemory>
+    ensures { IfOk result (λ yes. Decides yes (All IsStored records.now)) }
+{
+    for object in records {
+        if !is_storable(alloc, object)? {
+            return Ok(false);
+        }
+    }
+    Ok(true)
 }

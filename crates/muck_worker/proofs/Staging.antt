@@ -16,25 +16,25 @@ use Rattle.muck_worker.specs.inner.Deeds.{stage_for, DidAs}
 
 module _ (party : ℕ) (first : 0 < party) (last : party < 9) where
   pub did_exec : (d : ℕ) → DidAs party Work Went (Exec d)
-  did_exec d = (worker_is party Stage.unbound (Exec d) first last, tt)
+  did_exec d = (worker_is party Stage.unbound (Exec d) first last, tt, refl)
 
   pub did_claim : (pid : ℤ) → DidAs party Work (Claimed pid) (Claim pid)
-  did_claim pid = (worker_is party Stage.unbound (Claim pid) first last, refl)
+  did_claim pid = (worker_is party Stage.unbound (Claim pid) first last, refl, refl)
 
   pub did_idle : DidAs party Work Idled Idle
-  did_idle = (worker_is party Stage.unbound Idle first last, tt)
+  did_idle = (worker_is party Stage.unbound Idle first last, tt, refl)
 
   pub did_stop : DidAs party Work Stops Idle
-  did_stop = (worker_is party Stage.unbound Idle first last, tt)
+  did_stop = (worker_is party Stage.unbound Idle first last, tt, refl)
 
   pub did_end : DidAs party End Over StopSeen
-  did_end = (worker_is party Stage.unbound StopSeen first last, refl)
+  did_end = (worker_is party Stage.unbound StopSeen first last, refl, refl)
 
   pub did_slice : (pid : ℤ) (s : Sliced) → DidAs party (Slice pid) Went (slice_event pid s)
-  did_slice pid Ran = (worker_is party (Stage.claimed pid) (SliceEvent pid) first last ∙ ap (λ b. cond b (Some Stage.unbound) _) (int_eq_equiv.refl pid), tt)
-  did_slice pid Gone = (worker_is party (Stage.claimed pid) (Lost pid) first last ∙ ap (λ b. cond b (Some Stage.unbound) _) (int_eq_equiv.refl pid), tt)
+  did_slice pid Ran = (worker_is party (Stage.claimed pid) (SliceEvent pid) first last ∙ ap (λ b. cond b (Some Stage.unbound) _) (int_eq_equiv.refl pid), tt, refl)
+  did_slice pid Gone = (worker_is party (Stage.claimed pid) (Lost pid) first last ∙ ap (λ b. cond b (Some Stage.unbound) _) (int_eq_equiv.refl pid), tt, refl)
 
 pub did_die : (party : ℕ) (task : Task) → DidAs party task Failed Died
-did_die party Work = (refl, refl)
-did_die party (Slice pid) = (refl, refl)
-did_die party End = (refl, refl)
+did_die party Work = (refl, refl, refl)
+did_die party (Slice pid) = (refl, refl, refl)
+did_die party End = (refl, refl, refl)

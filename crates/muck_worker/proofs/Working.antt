@@ -9,9 +9,9 @@ use Rattle.spec_events.specs.declared.logged.Logged.{Logged}
 use Rattle.spec_events.specs.World.{World}
 use Rattle.spec_events.specs.Histories.{History, now, after, AllLawful}
 use Rattle.spec_events.specs.Steps.{has_claim}
-use Rattle.spec_events.specs.Logged.{logged, logged_by, bare_item, entries_of, events_of, NoNotes, NoCounts}
+use Rattle.spec_events.specs.Logged.{is_dump, logged, logged_by, bare_item, entries_of, events_of, NoNotes, NoCounts, IsOrderly}
 use Rattle.spec_events.specs.Own.{Stage, next, stage_of, IsWellFormed}
-use Rattle.spec_events.proofs.Logging.{entries_logged, entries_append, events_append, no_notes_one, no_counts_one}
+use Rattle.spec_events.proofs.Logging.{entries_logged, entries_append, events_append, no_notes_one, no_counts_one, orderly_bare}
 use Rattle.spec_events.proofs.Owning.{stage_more, well_formed}
 use Rattle.spec_claims.specs.Claims.{AreOthers}
 use Rattle.spec_claims.proofs.Staying.{claim_stays}
@@ -66,6 +66,10 @@ open_held party (Slice pid) me v h rests waited seen own lawful held =
     in
     ap (has_claim party pid) (is_now h ∙ ap (after h.start) whole)
     ∙ claim_stays h.start (entries_of held.0) party pid (entries_of rest) (subst (AllLawful h.start) whole lawful) others
+
+-- what is no dump may be anybody's
+pub bare_orderly : (party : ℕ) (event : Event) → is_dump event ≡ false → IsOrderly (bare_item (by party event))
+bare_orderly party event other = orderly_bare (by party event) (λ dump. absurd (let both : ◌≡◌ {A = Bool} true false = sym dump ∙ other in cc))
 
 -- The list of a seat grows.
 
@@ -156,19 +160,13 @@ module _ (party : ℕ) (me : Chair) where
       left = left;
       lists = same_later me.0 now_me.0 later_me.0 w.lists (waited_lists now_me.0 later_me.0 waited);
       seen = seen_later me.0.seen now_me.0.seen later_me.0.seen w.seen waited.0;
-      formed = subst (λ (ls : List Logged). is_formed ls) (sym waited.1) formed_now;
+      formed = subst (λ (ls : List Logged). IsWellFormed party (events_of ls)) (sym waited.1) (well_formed party (events_of now_me.0.own) (stage_for task) w.stage);
       notes = subst NoNotes (sym waited.1) w.notes;
       counts = subst NoCounts (sym waited.1) w.counts;
       fine = λ e. cc;
       dead = λ e. cc;
       spent = λ e. many;
     }
-      where
-        abbrev is_formed : List Logged → Type 0
-        is_formed ls = IsWellFormed party (events_of ls)
-
-        formed_now : is_formed now_me.0.own
-        formed_now = well_formed party (events_of now_me.0.own) (stage_for task) w.stage
 
 -- a claim is the last thing that the seat has seen
 pub held_claim : (party : ℕ) (pid : ℤ) (v v' : Sight) (event : Event) → event ≡ Claim pid → Turned v v' (bare_item (by party event)) → IsHeld party (Slice pid) v'

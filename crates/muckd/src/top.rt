@@ -147,7 +147,7 @@ fn refusal_of(fault: LogFault) -> Why
         LogFault::DiskFault => Why::DiskFault,
         LogFault::Damaged { second, at } => Why::Damaged { second, at },
         // Only `append` answers these.
-        LogFault::StoreFull { end: _, more: _ } | LogFault::Unfit | LogFault::Stale =>
+        LogFault::StoreFull { end: _, more: _ } | LogFault::Stale =>
             Why::Damaged {
                 second: false,
                 at: 0,
@@ -165,7 +165,7 @@ fn why_of(fault: LogFault) -> Why
         LogFault::Damaged { second, at } => Why::Damaged { second, at },
         LogFault::StoreFull { end, more } => Why::StoreFull { end, more },
         // No dump of a world answers these on disks that tell their bytes.
-        LogFault::Unfit | LogFault::Stale => Why::Damaged {
+        LogFault::Stale => Why::Damaged {
             second: false,
             at: 0,
         },

@@ -1,5 +1,5 @@
 -- A claim stays until its party has taken the slice, or has learned that the process ended.
-use Rattle.std.proofs.Common.{◌≡◌, ℕ, ℤ, Bool, true, false, not, ◌&&◌, ◌||◌, ◌==◌, cond, nat_le, List, [], ◌∷◌, ◌++◌, refl, sym, ◌∙◌, ap, subst, arith, Option, Some, None}
+use Rattle.std.proofs.Common.{◌≡◌, ℕ, ℤ, Bool, true, false, not, ◌&&◌, ◌||◌, ◌==◌, cond, nat_le, List, [], ◌∷◌, ◌++◌, refl, sym, ◌∙◌, ap, subst, arith}
 use Rattle.std.specs.List.{filter, list_any}
 use Rattle.std.specs.Ordering.{int_eq}
 use Rattle.std.proofs.lemmas.Bool.Decides.{nat_tests}
@@ -12,7 +12,7 @@ use Rattle.muck_queue.specs.declared.claim.Claim.{Claim as Claimed}
 use Rattle.muck_queue.specs.declared.process.Process.{Process}
 use Rattle.muck_queue.specs.Queues.{is_due, is_claimed, is_on, has_pid, claimed, released, ended_tied, is_reading, is_awaiting}
 use Rattle.spec_events.specs.World.{World, connection}
-use Rattle.spec_events.specs.Steps.{has_claim, is_there, is_lawful, is_allowed, is_died, happened, effect}
+use Rattle.spec_events.specs.Steps.{has_claim, is_lawful, is_allowed, is_died, happened, effect}
 use Rattle.spec_events.specs.Slices.{sliced}
 use Rattle.spec_events.specs.Histories.{after, AllLawful}
 use Rattle.spec_claims.specs.Claims.{IsSole, AreOthers}

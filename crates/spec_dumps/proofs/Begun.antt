@@ -1,17 +1,15 @@
 -- A run begins: the store was mounted, and noted.
-use Rattle.std.proofs.Common.{◌≡◌, ◌⊎◌, inl, ℕ, ◌<◌, ◌≤◌, Bool, true, false, zero, suc, List, [], ◌∷◌, length, take, refl, ap, sym, ◌∙◌, subst, arith, Option, Some, None, Ok}
+use Rattle.std.proofs.Common.{◌≡◌, ◌⊎◌, inl, ℕ, ◌<◌, ◌≤◌, true, zero, suc, List, [], ◌∷◌, refl, ap, ◌∙◌, subst, arith, Some, None}
 use Rattle.std.specs.Prelude.{slice_get}
 use Rattle.spec_live.specs.Consistent.{IsConsistent}
 use Rattle.muck_model.specs.declared.note.Note.{Note}
-use Rattle.muck_disk.specs.Images.{Only}
-use Rattle.muck_log.specs.Store.{Chosen, LogState, IsMounted, stored}
+use Rattle.muck_log.specs.Store.{LogState, IsMounted, stored}
 use Rattle.spec_events.specs.World.{World}
-use Rattle.spec_events.specs.Histories.{History, after}
+use Rattle.spec_events.specs.Histories.{History}
 use Rattle.spec_events.specs.Logged.{is_dump, is_stored, is_failed}
 use Rattle.spec_dumps.specs.Fronts.{persisted, last_cut, place_of_note, stands_at, IsFront, Loads, file_most}
-use Rattle.spec_dumps.specs.Survival.{until, IsSafe}
-use Rattle.spec_dumps.specs.Holding.{IsAt, IsCounted, Keeps, Rests}
-use Rattle.spec_dumps.proofs.Fronts.{last_cut_first}
+use Rattle.spec_dumps.specs.Survival.{until}
+use Rattle.spec_dumps.specs.Holding.{IsAt, IsCounted, Rests}
 
 module _ {D : Type 0} (seen : D → List ℕ) (moment : D → ℕ) (images : D → ℕ → List ℕ → Type 0) (faults : D → ℕ) (log : LogState) (f s : D) (w : World) (note : Note)
     (is : IsMounted seen moment images log f s) (limit : log.most ≡ file_most) (holds : log.chosen.held.world ≡ persisted w) (consistent : IsConsistent w.live.objects)

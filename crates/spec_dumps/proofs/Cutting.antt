@@ -1,6 +1,6 @@
 -- A note and an entry that stores nothing: the Cut of a dump, or its failure.
-use Rattle.std.proofs.Common.{◌≡◌, ℕ, ◌<◌, ◌≤◌, Bool, true, false, suc, List, [], ◌∷◌, ◌++◌, length, refl, ap, sym, ◌∙◌, subst, arith, Option, Some, None, Ok}
-use Rattle.std.specs.Prelude.{slice_get, take, if◌then◌else◌}
+use Rattle.std.proofs.Common.{◌≡◌, ℕ, ◌<◌, true, false, suc, List, [], ◌∷◌, ◌++◌, length, refl, ap, sym, ◌∙◌, subst, arith, Option, Some, None}
+use Rattle.std.specs.Prelude.{slice_get, if◌then◌else◌}
 use Rattle.std.specs.Option.{option_map_or}
 use Rattle.std.proofs.lemmas.List.{take_all}
 use Rattle.muck_model.specs.declared.event.Entry.{Entry}
@@ -10,7 +10,7 @@ use Rattle.muck_log.specs.Store.{Chosen, LogState, stored}
 use Rattle.spec_events.specs.World.{World}
 use Rattle.spec_events.specs.Histories.{History, after, entered, noted}
 use Rattle.spec_events.specs.Logged.{is_cut, is_stored, is_failed}
-use Rattle.spec_dumps.specs.Fronts.{cut_behind, last_cut, at_cut, number_of_cut, number_at, IsFront, Loads}
+use Rattle.spec_dumps.specs.Fronts.{cut_behind, last_cut, at_cut, number_of_cut, number_at, IsFront}
 use Rattle.spec_dumps.specs.Survival.{HasCause, IsSafe}
 use Rattle.spec_dumps.specs.Holding.{IsAt, IsCounted, IsUsable, Keeps, Rests}
 use Rattle.spec_dumps.proofs.Lists.{got_last, length_last}

@@ -1,15 +1,12 @@
 -- A dump that began fails.
-use Rattle.std.proofs.Common.{◌≡◌, ◌⊎◌, inl, inr, ℕ, ◌<◌, ◌≤◌, true, false, suc, List, [], ◌∷◌, ◌++◌, length, take, refl, ap, sym, ◌∙◌, subst, arith, Option, Some, None}
-use Rattle.std.specs.Prelude.{slice_get}
+use Rattle.std.proofs.Common.{◌≡◌, inl, inr, ℕ, ◌<◌, suc, List, [], ◌∷◌, ◌++◌, length, take, refl, sym, ◌∙◌, subst, arith, Option}
 use Rattle.std.proofs.lemmas.List.{take_all, take-append-le}
 use Rattle.muck_model.specs.declared.event.Entry.{Entry}
 use Rattle.muck_model.specs.declared.event.Event.TheVariants.{DumpFailed}
 use Rattle.muck_model.specs.declared.note.Note.{Note}
 use Rattle.muck_log.specs.Store.{LogState}
-use Rattle.spec_events.specs.World.{World}
 use Rattle.spec_events.specs.Histories.{History, entered, noted}
 use Rattle.spec_dumps.specs.Fronts.{at_cut, Overflows}
-use Rattle.spec_dumps.specs.Survival.{HasCause}
 use Rattle.spec_dumps.specs.Holding.{IsAt, IsCounted, Keeps, Rests, Fails}
 use Rattle.spec_dumps.proofs.Noting.{front_noted}
 use Rattle.spec_dumps.proofs.Cutting.{FailsBy, rests_next}

@@ -1,5 +1,5 @@
 -- Fronts of a history that goes on.
-use Rattle.std.proofs.Common.{◌≡◌, ◌⊎◌, inl, inr, ℕ, ◌+◌, ◌<◌, ◌≤◌, Bool, true, false, zero, suc, List, [], ◌∷◌, ◌++◌, length, take, refl, ap, sym, ◌∙◌, subst, arith, Option, Some, None, Ok}
+use Rattle.std.proofs.Common.{◌≡◌, ◌⊎◌, inl, inr, ℕ, ◌<◌, ◌≤◌, Bool, true, false, zero, suc, List, [], ◌∷◌, ◌++◌, length, take, refl, ap, sym, ◌∙◌, subst, arith, Option, Some, None}
 use Rattle.std.specs.Prelude.{slice_get, ◌||◌, if◌then◌else◌}
 use Rattle.std.specs.List.{list_any}
 use Rattle.std.specs.Option.{option_map, option_map_or}
@@ -97,10 +97,10 @@ none_cut event none = at (is_cut event) (is_stored event || is_failed event) non
 pub last_cut_quiet : (h es : List Entry) → list_any (λ (e : Entry). is_dump e.event) es ≡ false → last_cut (h ++ es) ≡ last_cut h
 unfolding last_cut
 last_cut_quiet [] [] none = refl
-last_cut_quiet [] (e ∷ es) none = at (is_dump e.event) refl none where
-  at : (b : Bool) → is_dump e.event ≡ b → (b || list_any (λ (x : Entry). is_dump x.event) es) ≡ false → last_cut (e ∷ es) ≡ 0
-  at true is p = cc
-  at false is p = ap (λ k. cut_behind k (is_cut e.event)) (last_cut_quiet [] es p) ∙ ap (λ b. if b then 1 else 0) (none_cut e.event is)
+last_cut_quiet [] (e ∷ es) none = at (is_dump e.event) refl none (last_cut_quiet [] es) where
+  at : (b : Bool) → is_dump e.event ≡ b → (b || list_any (λ (x : Entry). is_dump x.event) es) ≡ false → (list_any (λ (x : Entry). is_dump x.event) es ≡ false → last_cut es ≡ 0) → last_cut (e ∷ es) ≡ 0
+  at true is p rest = cc
+  at false is p rest = ap (λ k. cut_behind k (is_cut e.event)) (rest p) ∙ ap (λ b. if b then 1 else 0) (none_cut e.event is)
 last_cut_quiet (e ∷ h) es none = ap (λ k. cut_behind k (is_cut e.event)) (last_cut_quiet h es none)
 
 -- nor the world behind it

@@ -1,15 +1,15 @@
 -- A call moves the disks, right behind a note.
-use Rattle.std.proofs.Common.{◌≡◌, ◌⊎◌, inl, inr, ℕ, ◌<◌, ◌≤◌, suc, List, [], ◌∷◌, ◌++◌, length, refl, ap, sym, ◌∙◌, subst, arith, Option, Some, None, Ok}
+use Rattle.std.proofs.Common.{◌≡◌, inl, inr, ℕ, ◌<◌, ◌≤◌, suc, List, length, refl, ap, sym, ◌∙◌, subst, arith, Option, Some, None}
 use Rattle.std.specs.Prelude.{slice_get}
 use Rattle.std.specs.Option.{option_map_or}
 use Rattle.std.proofs.lemmas.Option.{slice_get_within, slice_get_past, slice_get-get_or}
 use Rattle.std.proofs.lemmas.Bool.{cases_lt}
 use Rattle.muck_model.specs.declared.event.Entry.{Entry}
 use Rattle.muck_model.specs.declared.note.Note.{Note}
-use Rattle.muck_log.specs.Store.{Chosen, LeavesOnly, LeavesBoth, stored}
+use Rattle.muck_log.specs.Store.{LeavesOnly, LeavesBoth, stored}
 use Rattle.spec_events.specs.World.{World}
-use Rattle.spec_dumps.specs.Fronts.{IsFront, Loads}
-use Rattle.spec_dumps.specs.Survival.{until, Survives, AllDeltas, IsSafe}
+use Rattle.spec_dumps.specs.Fronts.{Loads}
+use Rattle.spec_dumps.specs.Survival.{until, Survives, IsSafe}
 use Rattle.spec_dumps.specs.Holding.{IsAt}
 
 -- the stretch of a note that isn't the last one doesn't last until now

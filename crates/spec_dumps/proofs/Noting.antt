@@ -1,8 +1,8 @@
 -- A note at the present moment, and the entry behind it.
-use Rattle.std.proofs.Common.{◌≡◌, ◌⊎◌, inl, inr, ℕ, ◌+◌, ◌<◌, ◌≤◌, Bool, true, false, zero, suc, List, [], ◌∷◌, ◌++◌, length, take, refl, ap, sym, ◌∙◌, subst, arith, Option, Some, None, Ok}
+use Rattle.std.proofs.Common.{◌≡◌, ◌⊎◌, inl, inr, ℕ, ◌<◌, ◌≤◌, Bool, true, false, suc, List, [], ◌∷◌, ◌++◌, length, take, refl, ap, sym, ◌∙◌, subst, arith, Option, Some, None, Ok}
 use Rattle.std.specs.Prelude.{slice_get}
 use Rattle.std.specs.Option.{option_map, option_map_or}
-use Rattle.std.proofs.lemmas.List.{length-append, take_all, take-append-le}
+use Rattle.std.proofs.lemmas.List.{take_all, take-append-le}
 use Rattle.std.proofs.lemmas.Option.{slice_get_within, slice_get_past}
 use Rattle.std.proofs.lemmas.Bool.{cases_lt}
 use Rattle.muck_model.specs.declared.event.Entry.{Entry}
@@ -10,10 +10,9 @@ use Rattle.muck_model.specs.declared.event.Event.{Event}
 use Rattle.muck_model.specs.declared.note.Note.{Note}
 use Rattle.muck_log.specs.Store.{Chosen, stored}
 use Rattle.spec_events.specs.World.{World}
-use Rattle.spec_events.specs.Histories.{after}
 use Rattle.spec_events.specs.Logged.{is_dump, is_stored, is_failed}
-use Rattle.spec_dumps.specs.Fronts.{stands_at, at_cut, place_of_note, last_cut, IsFront, Loads, Overflows, dumped_on}
-use Rattle.spec_dumps.specs.Survival.{until, AllNoted, Survives, HasCause, AllCaused, AllDeltas, IsSafe}
+use Rattle.spec_dumps.specs.Fronts.{stands_at, at_cut, place_of_note, IsFront, Loads, Overflows, dumped_on}
+use Rattle.spec_dumps.specs.Survival.{until, AllNoted, Survives, HasCause, AllCaused, AllDeltas}
 use Rattle.spec_dumps.specs.Holding.{IsAt}
 use Rattle.spec_dumps.proofs.Lists.{got_on, got_last, got_past, length_last}
 use Rattle.spec_dumps.proofs.Fronts.{ArePlaced, stands_on, place_on, note_within, front_on, front_later, front_beside, loads_by}

@@ -1,5 +1,5 @@
 -- Histories that go on without a dump.
-use Rattle.std.proofs.Common.{◌≡◌, ◌⊎◌, inl, inr, ℕ, ◌+◌, ◌<◌, ◌≤◌, Bool, true, false, ◌||◌, zero, suc, List, [], ◌∷◌, ◌++◌, length, take, refl, ap, sym, ◌∙◌, subst, arith, Option, Some, None, Ok}
+use Rattle.std.proofs.Common.{◌≡◌, inl, inr, ℕ, ◌<◌, ◌≤◌, Bool, true, false, ◌||◌, zero, suc, List, [], ◌∷◌, ◌++◌, length, take, refl, ap, sym, ◌∙◌, subst, arith, Option, Some, None, Ok}
 use Rattle.std.specs.Prelude.{slice_get}
 use Rattle.std.specs.List.{list_any}
 use Rattle.std.specs.Option.{option_map_or}
@@ -7,18 +7,17 @@ use Rattle.std.proofs.lemmas.List.{length-append, take-append-le}
 use Rattle.std.proofs.lemmas.Bool.{cases_lt}
 use Rattle.muck_model.specs.declared.event.Entry.{Entry}
 use Rattle.muck_model.specs.declared.event.Event.{Event}
-use Rattle.muck_model.specs.declared.event.Event.TheVariants.{Stored, DumpFailed, Cut}
+use Rattle.muck_model.specs.declared.event.Event.TheVariants.{Stored, DumpFailed}
 use Rattle.muck_model.specs.declared.note.Note.{Note}
 use Rattle.spec_live.specs.Consistent.{IsConsistent}
 use Rattle.muck_log.specs.Store.{Chosen, LogState, stored}
 use Rattle.spec_events.specs.World.{World}
-use Rattle.spec_events.specs.Histories.{History, after, entered, Grew}
+use Rattle.spec_events.specs.Histories.{History, entered, Grew}
 use Rattle.spec_events.proofs.Runs.{grew_nothing, grew_one, grew_on}
-use Rattle.spec_events.specs.Logged.{is_dump, is_cut, is_stored, is_failed}
-use Rattle.spec_dumps.specs.Fronts.{persisted, stands_at, at_cut, last_cut, number_at, place_of_note, IsFront, Loads, Overflows, dumped_on}
-use Rattle.spec_dumps.specs.Survival.{AllNoted, Survives, HasCause, AllCaused, AllDeltas, IsSafe}
+use Rattle.spec_events.specs.Logged.{is_dump, is_stored, is_failed}
+use Rattle.spec_dumps.specs.Fronts.{stands_at, at_cut, last_cut, number_at, IsFront, Overflows, dumped_on}
+use Rattle.spec_dumps.specs.Survival.{Survives, AllCaused, AllDeltas, IsSafe}
 use Rattle.spec_dumps.specs.Holding.{Quietly, IsUsable, Keeps, Rests, IsDumped, Fails}
-use Rattle.spec_dumps.proofs.Lists.{got_on}
 use Rattle.spec_dumps.proofs.Fronts.{ArePlaced, stands_on, front_on, loads_by, last_cut_quiet, last_cut_short, at_cut_quiet, number_on}
 
 any_append : (es fs : List Entry) → list_any (λ (e : Entry). is_dump e.event) es ≡ false → list_any (λ (e : Entry). is_dump e.event) fs ≡ false → list_any (λ (e : Entry). is_dump e.event) (es ++ fs) ≡ false

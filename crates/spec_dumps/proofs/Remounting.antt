@@ -1,9 +1,7 @@
 -- The log is mounted again, behind a dump that failed.
-use Rattle.std.proofs.Common.{◌≡◌, ℕ, ◌<◌, ◌≤◌, suc, List, length, refl, ap, sym, ◌∙◌, subst, arith, Option, Some, None, Result, Ok, Err}
-use Rattle.std.specs.Prelude.{slice_get}
-use Rattle.muck_log.specs.Store.{Chosen, Damage, LogState, LeavesOnly, IsMounted, stored}
+use Rattle.std.proofs.Common.{◌≡◌, ℕ, ◌≤◌, List, subst, arith, Option, Some, None, Result, Ok, Err}
+use Rattle.muck_log.specs.Store.{Chosen, Damage, LogState, LeavesOnly, stored}
 use Rattle.muck_log.specs.Mount.{IsMountedAs}
-use Rattle.spec_events.specs.World.{World}
 use Rattle.spec_events.specs.Histories.{History}
 use Rattle.spec_dumps.specs.Fronts.{IsFront, Loads, file_most}
 use Rattle.spec_dumps.specs.Holding.{Keeps}

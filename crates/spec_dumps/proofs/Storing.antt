@@ -1,6 +1,5 @@
 -- A dump that began is written, and it is stored.
-use Rattle.std.proofs.Common.{◌≡◌, ◌⊎◌, inl, inr, ℕ, ◌+◌, ◌<◌, ◌≤◌, Bool, true, false, ◌||◌, zero, suc, List, [], ◌∷◌, ◌++◌, length, take, refl, ap, sym, ◌∙◌, subst, arith, Option, Some, None, Ok}
-use Rattle.std.specs.Prelude.{slice_get}
+use Rattle.std.proofs.Common.{◌≡◌, inl, inr, ℕ, ◌<◌, ◌≤◌, true, ◌||◌, zero, suc, List, [], ◌∷◌, length, take, refl, ap, sym, ◌∙◌, subst, arith, Some, None, Ok}
 use Rattle.std.proofs.lemmas.List.{take-append-le}
 use Rattle.muck_model.specs.declared.event.Entry.{Entry}
 use Rattle.muck_model.specs.declared.event.Event.{Event}
@@ -13,7 +12,7 @@ use Rattle.muck_log.specs.Append.{LoadsEither}
 use Rattle.spec_events.specs.World.{World}
 use Rattle.spec_events.specs.Histories.{History, after, entered, noted}
 use Rattle.spec_events.specs.Logged.{is_cut, is_stored, is_failed}
-use Rattle.spec_dumps.specs.Fronts.{persisted, stands_at, last_cut, at_cut, number_at, IsNotedBy, IsFront, Loads, dumped_on, file_most}
+use Rattle.spec_dumps.specs.Fronts.{persisted, last_cut, at_cut, number_at, IsNotedBy, IsFront, Loads, dumped_on, file_most}
 use Rattle.spec_dumps.specs.Survival.{AllNoted, StandsWhole}
 use Rattle.spec_dumps.specs.Holding.{IsAt, IsCounted, Keeps, Rests, IsDumped}
 use Rattle.spec_dumps.proofs.Lists.{got_last, length_last}

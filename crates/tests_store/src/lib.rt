@@ -9,32 +9,15 @@ mod records;
 mod runs;
 mod start;
 
-use crate::start::{start_records, start_tune};
+use crate::start::start_tune;
 use muck_codec::Batch;
 use muck_disk::Disk;
 use muck_log::{Log, LogFault};
 use muck_model::Row;
 use std::alloc::Global;
 
-/// Mounts, and writes a batch of the world of the start: what an empty run does.
+/// Mounts, and writes a batch that leaves out the record of every object: what an empty run does.
 pub fn run_once<D: Disk>(
-    alloc: Global,
-    first: &mut D,
-    second: &mut D,
-    most: u64,
-) -> Result<u64, LogFault>
-    requires { most < 2 ^ 63 }
-{
-    let mut log = Log::mount(alloc, first, second, most)?;
-    let batch = Batch {
-        records: start_records(alloc)?,
-        tune: start_tune(),
-    };
-    log.append(first, second, &batch)
-}
-
-/// Mounts, and writes a batch that leaves out the record of every object.
-pub fn run_unchanged<D: Disk>(
     alloc: Global,
     first: &mut D,
     second: &mut D,

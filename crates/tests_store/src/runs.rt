@@ -1,5 +1,5 @@
 // Runs that change nothing.
-use crate::{run_once, run_unchanged};
+use crate::run_once;
 use muck_disk::{FailDisk, MemDisk};
 use muck_log::{Log, LogFault};
 use muck_model::NoMemory;
@@ -61,20 +61,18 @@ fn two_runs_byte_for_byte(rt: HostRuntime) -> Result<(), Fail> {
     Ok(())
 }
 
-// The records of what is kept may be left out, and the same is written.
+// What the next batch may leave out: the objects that are kept, or nothing where it opens a new generation.
 #[test]
-fn a_batch_without_what_is_kept(rt: HostRuntime) -> Result<(), Fail> {
+fn the_base_of_a_batch(rt: HostRuntime) -> Result<(), Fail> {
     let alloc = rt.alloc();
     let mut first = MemDisk::new(alloc, &[])?;
     let mut second = MemDisk::new(alloc, &[])?;
-    assert_eq!(rt; run_unchanged(alloc, &mut first, &mut second, MOST)?, 1);
-    assert!(rt; first.bytes() == FIRST_RUN.as_slice());
+    assert_eq!(rt; run_once(alloc, &mut first, &mut second, MOST)?, 1);
     let log = Log::mount(alloc, &mut first, &mut second, MOST)?;
     assert_eq!(rt; log.base().len(), 2);
     for n in 2..65 {
-        assert_eq!(rt; run_unchanged(alloc, &mut first, &mut second, MOST)?, n);
+        assert_eq!(rt; run_once(alloc, &mut first, &mut second, MOST)?, n);
     }
-    assert_eq!(rt; first.bytes().len(), 4_225);
     let log = Log::mount(alloc, &mut first, &mut second, MOST)?;
     assert_eq!(rt; log.base().len(), 0);
     Ok(())

@@ -7,6 +7,7 @@ use Rattle.muck_model.specs.declared.event.Event.TheVariants.{Idle, Cut, StopSee
 use Rattle.muck_model.specs.declared.note.Note.{Note}
 use Rattle.muck_log.specs.Store.{LogState}
 use Rattle.spec_events.specs.declared.logged.Logged.{Logged}
+use Rattle.spec_events.specs.World.{runs_dump}
 use Rattle.spec_events.specs.Histories.{History, now, entered, noted}
 use Rattle.spec_events.specs.Logged.{events_of, NoCounts}
 use Rattle.spec_events.specs.Own.{Stage, stage_of}
@@ -36,12 +37,12 @@ pub data MadeBy (event : Event) (h k : History) : Type 0 where
 -- what it has kept by that, from the history h to k
 abbrev pub KeptBy : {D : Type 0} → Bool → (D → List ℕ) → (D → ℕ) → (D → ℕ → List ℕ → Type 0) → (D → ℕ) → Option LogState → D → D → Did → History → History → Type 0
 KeptBy tells seen moment images faults log first second (Began p) h k =
-    IsBatchOfWorld (base_in log) (now h) p
+    (runs_dump p.number (now k).dumps ≡ true) × IsBatchOfWorld (base_in log) (now h) p
     × ((mounted : ℕ) → tells ≡ true → IsReady seen moment images faults log first second mounted h → IsPending seen moment images faults log first second mounted k p)
 KeptBy tells seen moment images faults log first second Failed h k =
     (mounted : ℕ) → tells ≡ true → Keeps seen moment images faults log first second mounted h → IsSafe moment images first second k.start mounted k.entries k.notes
-KeptBy tells seen moment images faults log first second Idled h k = Unit {0}
-KeptBy tells seen moment images faults log first second Over h k = Unit {0}
+KeptBy tells seen moment images faults log first second Idled h k = k ≡ entered h (by 9 Idle)
+KeptBy tells seen moment images faults log first second Over h k = k ≡ entered h (by 9 StopSeen)
 
 -- One turn of the dumper: others' entries, none of a dump, and then this one, made in this world.
 pub record Step (event : Event) (me me' : Chair) : Type 0 where

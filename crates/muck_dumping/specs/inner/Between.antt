@@ -14,7 +14,7 @@ use Rattle.muck_log.specs.File.{after_number}
 use Rattle.muck_log.specs.Store.{Chosen, LogState, IsMounted, target}
 use Rattle.muck_log.specs.Append.{base_of, more_of}
 use Rattle.muck_log.specs.declared.fault.LogFault.{LogFault}
-use Rattle.muck_log.specs.declared.fault.LogFault.TheVariants.{NoMemory, DiskFault, Damaged, StoreFull, Unfit, Stale}
+use Rattle.muck_log.specs.declared.fault.LogFault.TheVariants.{NoMemory, DiskFault, Damaged, StoreFull, Stale}
 use Rattle.spec_events.specs.World.{World}
 use Rattle.spec_events.specs.Histories.{History}
 use Rattle.spec_dumps.specs.Fronts.{IsFront, at_cut, last_cut, number_at, dump_payload, log_of, file_most}
@@ -34,7 +34,7 @@ base_in log = option_map_or base_of log []
 -- the batch is that of a world of these objects and parameters, which can be stored
 pub record IsBatchOf (base : List Stored) (objects : List Object) (tune : Tune) (p : Pending) : Type 0 where
   pub records : LeavesOut base (persist objects) p.batch.records
-  pub tune : p.batch.tune ≡ tune
+  pub tuning : p.batch.tune ≡ tune
   pub size : p.size ≡ length objects
   pub consistent : IsConsistent objects
   pub limits : IsWithinLimits objects
@@ -63,7 +63,6 @@ abbrev pub IsLeft : {D : Type 0} → (D → List ℕ) → (D → ℕ) → (D →
 IsLeft seen moment images faults log first second mounted h (Ok x) =
     (next : LogState) × (log ≡ Some next) × IsMounted seen moment images next first second × (next.most ≡ file_most) × IsDumped mounted h next.chosen
 IsLeft seen moment images faults log first second mounted h (Err NoMemory) = log ≡ None
-IsLeft seen moment images faults log first second mounted h (Err Unfit) = log ≡ None
 IsLeft seen moment images faults log first second mounted h (Err DiskFault) = (log ≡ None) × Fails mounted h (faults first) (faults second)
 IsLeft seen moment images faults log first second mounted h (Err Stale) = (log ≡ None) × Fails mounted h (faults first) (faults second)
 IsLeft seen moment images faults log first second mounted h (Err (StoreFull end more)) = (log ≡ None) × IsFullAtCut mounted h end more

@@ -9,7 +9,7 @@ use Rattle.muck_log.specs.World.{World as Kept, laid}
 use Rattle.muck_log.specs.Store.{Chosen, LogState, LeavesBoth, IsMounted, target, after_batch}
 use Rattle.muck_log.specs.Append.{IsNext, LoadsEither, more_of}
 use Rattle.muck_log.specs.declared.fault.LogFault.{LogFault}
-use Rattle.muck_log.specs.declared.fault.LogFault.TheVariants.{NoMemory, DiskFault, StoreFull, Unfit}
+use Rattle.muck_log.specs.declared.fault.LogFault.TheVariants.{NoMemory, DiskFault, StoreFull}
 use Rattle.spec_events.specs.Histories.{History, after, entered, noted}
 use Rattle.spec_dumps.specs.Fronts.{IsFront, dump_payload, log_of, file_most}
 use Rattle.spec_dumps.specs.Holding.{Rests}
@@ -44,7 +44,6 @@ IsAnswer seen moment images payload made log left first second (Ok x) =
 IsAnswer seen moment images payload made log left first second (Err (StoreFull end more)) = (left ≡ None) × (end ≡ (target log.chosen).place) × (more ≡ more_of log payload) × (log.most < end + more)
 IsAnswer seen moment images payload made log left first second (Err DiskFault) = left ≡ None
 IsAnswer seen moment images payload made log left first second (Err NoMemory) = left ≡ None
-IsAnswer seen moment images payload made log left first second (Err Unfit) = left ≡ None
 IsAnswer seen moment images payload made log left first second (Err fault) = ⊥
 
 -- What is kept of both disks while such a batch is written, and what the log answers.

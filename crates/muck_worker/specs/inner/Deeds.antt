@@ -1,5 +1,5 @@
 -- What a worker does in a turn, and what it knows between turns.
-use Rattle.std.specs.Prelude.{◌≡◌, ℕ, ℤ, true, List, [], ◌∷◌, ◌++◌, Option, Some}
+use Rattle.std.specs.Prelude.{◌≡◌, ℕ, ℤ, true, false, List, [], ◌∷◌, ◌++◌, Option, Some}
 use Rattle.turn_lock.specs.Histories.{StartsWith}
 use Rattle.muck_model.specs.declared.event.Entry.{Entry}
 use Rattle.muck_model.specs.declared.event.Event.{Event}
@@ -7,7 +7,7 @@ use Rattle.muck_model.specs.declared.event.Event.TheVariants.{Claim, StopSeen, D
 use Rattle.spec_events.specs.declared.logged.Logged.{Logged}
 use Rattle.spec_events.specs.World.{World}
 use Rattle.spec_events.specs.Steps.{has_claim}
-use Rattle.spec_events.specs.Logged.{bare_item, events_of, NoNotes, NoCounts}
+use Rattle.spec_events.specs.Logged.{is_dump, bare_item, events_of, NoNotes, NoCounts}
 use Rattle.spec_events.specs.Own.{Stage, next, stage_of}
 use Rattle.muck_machine.specs.Seats.{Sight, Chair, Rests, SameLists}
 use Rattle.muck_worker.specs.declared.deeds.Task.{Task}
@@ -43,9 +43,9 @@ IsSaid Went event = Unit {0}
 IsSaid Idled event = Unit {0}
 IsSaid Stops event = Unit {0}
 
--- it did so, and may
+-- it did so, and may, and it is no dump
 abbrev pub DidAs : ℕ → Task → Did → Event → Type 0
-DidAs party task did event = (next party (stage_for task) event ≡ Some (stage_after did)) × IsSaid did event
+DidAs party task did event = (next party (stage_for task) event ≡ Some (stage_after did)) × IsSaid did event × (is_dump event ≡ false)
 
 -- what is to be sliced is claimed
 abbrev pub IsOpen : ℕ → Task → World → Type 0

@@ -1,31 +1,44 @@
 use Rattle.std.proofs.Common.{◌≡◌, ◌≤◌, ℕ, List, length, Some, Ok, Err, refl, ap, subst, arith}
-use Rattle.std.specs.List.{All}
-use Rattle.muck_codec.specs.declared.stored.Stored.{Stored}
-use Rattle.muck_codec.specs.Stored.{IsStored}
 use Rattle.muck_log.specs.World.{World}
 use Rattle.muck_log.specs.Store.{LogState}
 use Rattle.muck_log.specs.Append.{base_of, payload_of}
-use Rattle.muck_log.specs.declared.fault.LogFault.TheVariants.{Unfit}
+use Rattle.muck_log.specs.declared.fault.LogFault.TheVariants.{NoMemory}
 use Rattle.muck_log.proofs.Deltas.{left_payload}
 use Rattle.muck_store.specs.Changes.{LeavesOut}
 use Rattle.muck_store.specs.Forms.{persist, world_batch}
 use Rattle.muck_dumping.specs.inner.Dumps.{Appended}
 use Rattle.muck_dumping.proofs.Appending.{appended_ok, appended_err, refused_before}
+use Rattle.muck_dumping.proofs.Fitting.{makes_world, has_few, has_lines}
 use Rattle.muck_dumping.proofs.Mounting.{one_log}
 use Rattle.muck_dumping.proofs.store.Store.append.Goals as goal
 
-covered : (objects : List Stored) (w v : World) (size n : ℕ) → objects ≡ w.objects → w ≡ v → size ≡ n → length objects ≤ size → length v.objects ≤ n
-covered objects w v size n is same count le = omega (arith, ap length is, ap (λ (x : World). length x.objects) same, count, le)
+covered : (n size count : ℕ) → size ≡ count → n ≤ size → n ≤ count
+covered n size count is le = omega (arith, is, le)
+
+-- what the log asks of its caller
+
+pub append-requires-clause-few : goal.append-requires-clause-few
+append-requires-clause-few g c = has_few _ _ c.requires.batch
+
+pub append-requires-clause-lines : goal.append-requires-clause-lines
+append-requires-clause-lines g c = has_lines _ _ c.requires.batch
+
+pub append-requires-clause-storable : goal.append-requires-clause-storable
+append-requires-clause-storable g c = c.may_take.ensures.storable c.if-not-may_take.false
+
+pub append-requires-clause-makes : goal.append-requires-clause-makes
+append-requires-clause-makes g c = λ fresh.
+    makes_world c.args.self.now.log c.in-Some.log c.args.pending.now c.in-Some.is c.requires.batch c.may_take.ensures.kept (c.may_take.ensures.storable c.if-not-may_take.false) (c.may_take.ensures.covers c.if-not-may_take.false)
 
 pub append-requires-clause-mounted : goal.append-requires-clause-mounted
 append-requires-clause-mounted g c = λ tells fresh. c.requires.mounted c.in-Some.log tells c.in-Some.is
 
--- a world with fewer objects than are kept
+-- memory was wanted to see that it may be handed the batch
 
-pub returns-then-objects-size-clause-wrote : goal.returns-then-objects-size-clause-wrote
-returns-then-objects-size-clause-wrote g c = λ log es tune tells is left tuned count fit two.
+pub returns-then-not-may_take-clause-wrote : goal.returns-then-not-may_take-clause-wrote
+returns-then-not-may_take-clause-wrote g c = λ log es tune tells is left tuned count fit two.
     let made : World = record { objects = persist es; tune = tune } in
-    let P : LogState → Type 0 = λ l. Appended g.D.Disk.seen g.D.Disk.moment g.D.Disk.images (payload_of log (world_batch es tune)) made l c.close.new.self.log c.args.first.now c.args.second.now c.args.first.now c.args.second.now (Err Unfit) in
+    let P : LogState → Type 0 = λ l. Appended g.D.Disk.seen g.D.Disk.moment g.D.Disk.images (payload_of log (world_batch es tune)) made l c.close.new.self.log c.args.first.now c.args.second.now c.args.first.now c.args.second.now (Err NoMemory) in
     subst P (one_log c.args.self.now.log c.in-Some.log log c.in-Some.is is)
     (refused_before g.D.Disk.seen g.D.Disk.moment g.D.Disk.images c.in-Some.log c.args.first.now c.args.second.now (payload_of log (world_batch es tune)) made c.close.new.self.log (c.requires.mounted c.in-Some.log tells c.in-Some.is) c.close.ensures)
 
@@ -35,20 +48,23 @@ pub returns-in-Ok-clause-wrote : goal.returns-in-Ok-clause-wrote
 returns-in-Ok-clause-wrote g c = λ log es tune tells is left_out tuned count fit two.
     let m = c.requires.mounted c.in-Some.log tells c.in-Some.is in
     let made : World = record { objects = persist es; tune = tune } in
-    let P : LogState → Type 0 = λ l. LeavesOut (base_of l) (persist es) c.args.batch.now.records → Appended g.D.Disk.seen g.D.Disk.moment g.D.Disk.images (payload_of l (world_batch es tune)) made l (Some c.append.new.self) c.args.first.now c.args.second.now c.append.new.first c.append.new.second (Ok tt) in
+    let P : LogState → Type 0 = λ l. LeavesOut (base_of l) (persist es) c.args.pending.now.batch.records → Appended g.D.Disk.seen g.D.Disk.moment g.D.Disk.images (payload_of l (world_batch es tune)) made l (Some c.append.new.self) c.args.first.now c.args.second.now c.append.new.first c.append.new.second (Ok tt) in
     subst P (one_log c.args.self.now.log c.in-Some.log log c.in-Some.is is)
-    (λ left. appended_ok g.D.Disk.seen g.D.Disk.moment g.D.Disk.images c.in-Some.log c.append.new.self c.args.first.now c.args.second.now c.append.new.first c.append.new.second c.args.batch.now made m
-    (c.in-Ok.ensures.any tells m.fresh) (payload_of c.in-Some.log (world_batch es tune)) (left_payload c.in-Some.log c.args.batch.now es tune (subst (λ (w : World). All IsStored w.objects) c.kept.ensures.kept c.objects.ensures.storable) left tuned)
-    (Some c.append.new.self) refl (c.in-Ok.ensures.whole tt es tune left tuned fit two (covered c.objects.result.now c.kept.result.now c.in-Some.log.chosen.held.world _ _ c.objects.ensures.objects c.kept.ensures.kept count c.if-objects-size.false)) c.in-Ok.ensures.chosen (c.in-Ok.ensures.mounted tells))
+    (λ left. appended_ok g.D.Disk.seen g.D.Disk.moment g.D.Disk.images c.in-Some.log c.append.new.self c.args.first.now c.args.second.now c.append.new.first c.append.new.second c.args.pending.now.batch made m
+    (c.in-Ok.ensures.any tells m.fresh) (payload_of c.in-Some.log (world_batch es tune)) (left_payload c.in-Some.log c.args.pending.now.batch es tune c.may_take.ensures.kept left tuned)
+    (Some c.append.new.self) refl
+    (c.in-Ok.ensures.whole tt es tune left tuned fit two (covered (length c.in-Some.log.chosen.held.world.objects) c.args.pending.now.size (length es) count (c.may_take.ensures.covers c.if-not-may_take.false)))
+    c.in-Ok.ensures.chosen (c.in-Ok.ensures.mounted tells))
     left_out
 
 pub returns-in-Err-clause-wrote : goal.returns-in-Err-clause-wrote
 returns-in-Err-clause-wrote g c = λ log es tune tells is left_out tuned count fit two.
     let m = c.requires.mounted c.in-Some.log tells c.in-Some.is in
     let made : World = record { objects = persist es; tune = tune } in
-    let P : LogState → Type 0 = λ l. LeavesOut (base_of l) (persist es) c.args.batch.now.records → Appended g.D.Disk.seen g.D.Disk.moment g.D.Disk.images (payload_of l (world_batch es tune)) made l (c.close-in-Err.new.self.log) c.args.first.now c.args.second.now c.append.new.first c.append.new.second (Err c.in-Err.fault) in
+    let P : LogState → Type 0 = λ l. LeavesOut (base_of l) (persist es) c.args.pending.now.batch.records → Appended g.D.Disk.seen g.D.Disk.moment g.D.Disk.images (payload_of l (world_batch es tune)) made l (c.close-in-Err.new.self.log) c.args.first.now c.args.second.now c.append.new.first c.append.new.second (Err c.in-Err.fault) in
     subst P (one_log c.args.self.now.log c.in-Some.log log c.in-Some.is is)
-    (λ left. appended_err g.D.Disk.seen g.D.Disk.moment g.D.Disk.images c.in-Some.log c.append.new.self c.args.first.now c.args.second.now c.append.new.first c.append.new.second c.args.batch.now made m
-    (c.in-Err.ensures.any tells m.fresh) (payload_of c.in-Some.log (world_batch es tune)) (left_payload c.in-Some.log c.args.batch.now es tune (subst (λ (w : World). All IsStored w.objects) c.kept.ensures.kept c.objects.ensures.storable) left tuned)
-    c.in-Err.fault c.close-in-Err.new.self.log c.close-in-Err.ensures c.in-Err.ensures.answer c.in-Err.ensures.untouched (λ t. c.in-Err.ensures.whole t es tune left tuned fit two (covered c.objects.result.now c.kept.result.now c.in-Some.log.chosen.held.world _ _ c.objects.ensures.objects c.kept.ensures.kept count c.if-objects-size.false)))
+    (λ left. appended_err g.D.Disk.seen g.D.Disk.moment g.D.Disk.images c.in-Some.log c.append.new.self c.args.first.now c.args.second.now c.append.new.first c.append.new.second c.args.pending.now.batch made m
+    (c.in-Err.ensures.any tells m.fresh) (payload_of c.in-Some.log (world_batch es tune)) (left_payload c.in-Some.log c.args.pending.now.batch es tune c.may_take.ensures.kept left tuned)
+    c.in-Err.fault c.close-in-Err.new.self.log c.close-in-Err.ensures c.in-Err.ensures.answer c.in-Err.ensures.untouched
+    (λ t. c.in-Err.ensures.whole t es tune left tuned fit two (covered (length c.in-Some.log.chosen.held.world.objects) c.args.pending.now.size (length es) count (c.may_take.ensures.covers c.if-not-may_take.false))))
     left_out

@@ -57,9 +57,9 @@ returns-clause-any g c = λ t fresh w e.
 pub returns-in_default-clause-whole : goal.returns-in_default-clause-whole
 returns-in_default-clause-whole g c = λ touched.
     let r = c.in_ok-ready.ensures in
-    ready_whole c.args.self.now c.prepare.new.self c.args.batch.now r.ok.lays r.storable r.kept c.requires.few
+    ready_whole c.args.self.now c.prepare.new.self c.args.batch.now r.ok.lays c.requires.storable r.kept c.requires.few
 
 pub returns-clause-whole : goal.returns-clause-whole
 returns-clause-whole g c = λ touched.
     let r = c.in_ok-ready.ensures in
-    ready_whole c.args.self.now c.prepare.new.self c.args.batch.now r.ok.lays r.storable r.kept c.requires.few
+    ready_whole c.args.self.now c.prepare.new.self c.args.batch.now r.ok.lays c.requires.storable r.kept c.requires.few
