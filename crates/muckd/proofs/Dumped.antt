@@ -1,6 +1,6 @@
 -- A dump as a part of a run: it begins, and comes out.
 use Rattle.std.proofs.Common.{◌≡◌, inl, inr, ℕ, Bool, true, false, List, [], ◌∷◌, refl, ap, ◌∙◌, Option, Some, None, Result, Ok, Err}
-use Rattle.std.specs.Prelude.{is_none, ◌&&◌, ◌||◌, ◌==◌}
+use Rattle.std.specs.Prelude.{is_none, ◌&&◌}
 use Rattle.muck_model.specs.declared.event.Event.{Event}
 use Rattle.muck_model.specs.declared.event.Event.TheVariants.{Cut, Stored, DumpFailed, Died}
 use Rattle.muck_model.specs.declared.note.Note.{Note}
@@ -8,12 +8,12 @@ use Rattle.muck_model.specs.declared.memory.NoMemory.{NoMemory as Wanted}
 use Rattle.muck_log.specs.Store.{LogState}
 use Rattle.muck_log.specs.declared.fault.LogFault.{LogFault}
 use Rattle.spec_events.specs.World.{World}
-use Rattle.spec_events.specs.Steps.{effect, is_died, makes_dumps, may_cut, is_dump_due}
+use Rattle.spec_events.specs.Steps.{effect, is_died}
 use Rattle.spec_events.specs.Histories.{History, now, entered, noted, Longer, by_porter}
 use Rattle.spec_events.proofs.Living.{dead-happened}
 use Rattle.spec_events.proofs.Runs.{longer_one, longer_noted, longer_on, now-longer}
 use Rattle.muck_script.specs.Story.{stored, failed, dumping, told}
-use Rattle.muck_dumping.specs.inner.Dumps.{Dies, HasDumped}
+use Rattle.muck_dumping.specs.inner.Dumps.{Dies, HasDumped, first as died_first, begun as died_begun, cut as died_cut, ending as died_ending}
 use Rattle.muck_dumping.proofs.Steps.{ended_idle}
 use Rattle.muckd.specs.declared.playing.RunFault.{RunFault}
 use Rattle.muckd.specs.inner.Dumps.{ending_event, Dumps, DumpsLast, ComesOut, IsNotedOn}
@@ -119,20 +119,20 @@ plays_made h m o None d alive = plays_dump h o (cut_behind h d.1 d.0) m d.1 d.0 
 plays_made h m o (Some fault) d alive = plays_dump h o (cut_behind h d.1 d.0) m d.1 d.0 refl d.2 false d.3 alive
 
 pub breaks_made : (h m : History) (o : Option (List ℕ)) → Dies 0 h m → Breaks dumping (by_porter Died ∷ []) h m o o
-breaks_made h m o (first is) = dies_at_once h o m is
-breaks_made h m o (begun a is) = dies_noted h o m a is
-breaks_made h m o (cut n a is) = dies_cut h o (cut_behind h a n) m a n refl is
-breaks_made h m o (ending n a b is) = dies_ending h o (cut_behind h a n) m a n refl b is
+breaks_made h m o (died_first is) = dies_at_once h o m is
+breaks_made h m o (died_begun a is) = dies_noted h o m a is
+breaks_made h m o (died_cut n a is) = dies_cut h o (cut_behind h a n) m a n refl is
+breaks_made h m o (died_ending n a b is) = dies_ending h o (cut_behind h a n) m a n refl b is
 
 pub last_made : (h m : History) (x : Option LogFault) → HasDumped 0 {E = Wanted} h m (Ok x) → DumpsLast h m
 last_made h m None d = last_dump h None (cut_behind h d.1 d.0) m d.1 d.0 refl d.2 true d.3
 last_made h m (Some fault) d = last_dump h None (cut_behind h d.1 d.0) m d.1 d.0 refl d.2 false d.3
 
 pub last_dead : (h m : History) → Dies 0 h m → DumpsLast h m
-last_dead h m (first is) = last_at_once h None m is
-last_dead h m (begun a is) = last_noted h None m a is
-last_dead h m (cut n a is) = last_cut h None (cut_behind h a n) m a n refl is
-last_dead h m (ending n a b is) = last_ending h None (cut_behind h a n) m a n refl b is
+last_dead h m (died_first is) = last_at_once h None m is
+last_dead h m (died_begun a is) = last_noted h None m a is
+last_dead h m (died_cut n a is) = last_cut h None (cut_behind h a n) m a n refl is
+last_dead h m (died_ending n a b is) = last_ending h None (cut_behind h a n) m a n refl b is
 
 pub came_made : (h m : History) (x : Option LogFault) → HasDumped 0 {E = Wanted} h m (Ok x) → ComesOut h m x
 came_made h m None d = came_stored h (cut_behind h d.1 d.0) m d.0 d.1 d.2 refl d.3
@@ -143,18 +143,18 @@ noted_made h m None d = noted_then h (cut_behind h d.1 d.0) m (noted_more h _ d.
 noted_made h m (Some fault) d = noted_then h (cut_behind h d.1 d.0) m (noted_more h _ d.1 _ refl) (noted_more (cut_behind h d.1 d.0) m d.2 _ d.3)
 
 pub noted_dead : (h m : History) → Dies 0 h m → IsNotedOn h m
-noted_dead h m (first is) = noted_one h m _ is
-noted_dead h m (begun a is) = noted_more h m a _ is
-noted_dead h m (cut n a is) = noted_then h (cut_behind h a n) m (noted_more h _ a _ refl) (noted_one (cut_behind h a n) m _ is)
-noted_dead h m (ending n a b is) = noted_then h (cut_behind h a n) m (noted_more h _ a _ refl) (noted_more (cut_behind h a n) m b _ is)
+noted_dead h m (died_first is) = noted_one h m _ is
+noted_dead h m (died_begun a is) = noted_more h m a _ is
+noted_dead h m (died_cut n a is) = noted_then h (cut_behind h a n) m (noted_more h _ a _ refl) (noted_one (cut_behind h a n) m _ is)
+noted_dead h m (died_ending n a b is) = noted_then h (cut_behind h a n) m (noted_more h _ a _ refl) (noted_more (cut_behind h a n) m b _ is)
 
 pub idle_made : (h m : History) (x : Option LogFault) → HasDumped 0 {E = Wanted} h m (Ok x) → (now m).dumps.running ≡ None
 idle_made h m None d = ended_idle (cut_behind h d.1 d.0) m d.2 0 d.0 true d.3
 idle_made h m (Some fault) d = ended_idle (cut_behind h d.1 d.0) m d.2 0 d.0 false d.3
 
 -- the porter may begin one where none runs
-pub porter_cuts : (w : World) → w.dumps.running ≡ None → may_cut w 0 ≡ true
-porter_cuts w idle = ap (λ o. makes_dumps 0 && is_none o && (0 == 0 || is_dump_due w)) idle
+pub porter_cuts : {A : Type 0} (running : Option A) → running ≡ None → (is_none running && true) ≡ true
+porter_cuts running idle = ap (λ o. is_none o && true) idle
 
 -- What is kept is the same, whatever want of memory is called.
 

@@ -9,12 +9,11 @@ ghost use Rattle.muckd.specs.inner.Plays.{PlaysOrBreaks};
 
 use crate::playing::RunFault;
 use muck_disk::Disk;
+pub use muck_dumping::{FILE_MOST, Store};
 use muck_log::LogFault;
 use muck_machine::World;
 use muck_model::NoMemory;
 use std::alloc::Global;
-
-pub use muck_dumping::{FILE_MOST, Store};
 
 // The party that makes the dumps of a script.
 const PORTER: u8 = 0;

@@ -149,11 +149,10 @@ fn refusal_of(fault: LogFault) -> Why
         LogFault::DiskFault => Why::DiskFault,
         LogFault::Damaged { second, at } => Why::Damaged { second, at },
         // Only `append` answers these.
-        LogFault::StoreFull { end: _, more: _ } | LogFault::Stale =>
-            Why::Damaged {
-                second: false,
-                at: 0,
-            },
+        LogFault::StoreFull { end: _, more: _ } | LogFault::Stale => Why::Damaged {
+            second: false,
+            at: 0,
+        },
     }
 }
 

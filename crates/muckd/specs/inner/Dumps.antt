@@ -11,7 +11,6 @@ use Rattle.muck_script.specs.Story.{stored, failed, dump_entries}
 use Rattle.muckd.specs.Outcome.{IsLastDump}
 use Rattle.muckd.specs.declared.playing.RunFault.{RunFault}
 use Rattle.muckd.specs.declared.playing.RunFault.TheVariants.{NoMemory as OutOfMemory}
-
 -- what is said of a dump that is made at once, whoever makes it
 pub use Rattle.muck_dumping.specs.inner.Dumps.{note_of, ending_event, IsDumpFault, IsFull, Dumps}
 
