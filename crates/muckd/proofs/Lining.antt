@@ -72,7 +72,7 @@ module _ {D T : Type 0} (seen : D → List ℕ) (moment : D → ℕ) (images : D
 
 module _ {D : Type 0} (seen : D → List ℕ) (moment : D → ℕ) (images : D → ℕ → List ℕ → Type 0) (faults : D → ℕ) (log : Option LogState) (f s : D) (mounted : ℕ) (k : History) where
   -- a dump was made
-  pub held_dumped : {T : Type 0} (o : Option LogFault) (x : T) → Dumps seen moment images faults log f s mounted k (Ok o) → Held {T = T} seen moment images faults log f s mounted k (Ok x)
+  pub held_dumped : {T : Type 0} (o : Option LogFault) (x : T) → Dumps {E = RunFault} seen moment images faults log f s mounted k (Ok o) → Held {T = T} seen moment images faults log f s mounted k (Ok x)
   held_dumped o x d = record { safe = d.safe; rests = λ other. d.rests }
 
   -- memory was wanted for it
