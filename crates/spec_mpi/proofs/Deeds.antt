@@ -1,0 +1,117 @@
+-- What a deed changes, and what a random word does.
+use Rattle.std.proofs.Common.{◌≡◌, ℕ, zero, suc, Bool, true, false, cond, List, [], ◌∷◌, Option, Some, None, refl, sym, ◌∙◌, ap}
+use Rattle.std.specs.Prelude.{map, slice_get, slice_set}
+use Rattle.std.specs.Option.{option_map_or}
+use Rattle.muck_model.specs.declared.dbref.Dbref.{Dbref}
+use Rattle.muck_model.specs.declared.dbref.Denial.{Denial}
+use Rattle.muck_prop.specs.declared.value.PropValue.{PropValue}
+use Rattle.muck_prop.specs.declared.value.PropValue.TheVariants.{Text}
+use Rattle.spec_live.specs.declared.object.Object.{Object}
+use Rattle.spec_live.specs.Objects.{Entry, object_at, number_in, changed_at}
+use Rattle.spec_live.specs.Setting.{set_at, with_prop, without_prop}
+use Rattle.spec_live.specs.Connections.{Connection, told, told_where, is_of, hears}
+use Rattle.spec_live.specs.Boards.{told_player, told_others, random_drawn}
+use Rattle.spec_live.specs.Lives.{Live, Change, tell_player, tell_but, tell_others, draw, place_of}
+use Rattle.spec_live.proofs.Keeping.{Order}
+use Rattle.spec_rights.specs.declared.act.Act.TheVariants.{Write}
+use Rattle.spec_rights.specs.Verdict.{verdict}
+use Rattle.spec_rights.specs.Changing.{at_number, stored, unstored}
+use Rattle.mpi.specs.declared.fault.MpiFault.TheVariants.{BadValue, Denied}
+use Rattle.mpi.specs.declared.host.Deed.{Deed}
+use Rattle.mpi.specs.declared.host.Deed.TheVariants as deed
+use Rattle.spec_mpi.specs.Stages.{Stage}
+use Rattle.spec_mpi.specs.Telling.{path_in, at_path, by_leave}
+use Rattle.spec_mpi.specs.Doing.{refused, changed, written, does_in}
+use Rattle.spec_mpi.specs.Touching.{without_props, without_output, TouchesNotes}
+
+-- A deed is refused, changes a property by leave, or tells.
+
+-- what is so of a world and itself, and of each change by leave, is so of what is written
+pub written_law : (R : Stage → Stage → Type 0) (s : Stage) (d : Dbref) (text : List ℕ) (f : List (List ℕ) → Change) → R s s →
+    ((p : List (List ℕ)) → verdict s.live.objects s.actor (Write d p) ≡ None → R s (record s { live = f p s.live })) → R s (written d text f s).1
+unfolding written
+written_law R s d text f same go = at_object (object_at d s.live.objects)
+  where
+    at_verdict : (p : List (List ℕ)) (v : Option Denial) → verdict s.live.objects s.actor (Write d p) ≡ v → R s (option_map_or (λ (denial : Denial). refused s (Denied denial.rule)) v (changed (f p) s)).1
+    at_verdict p None e = go p e
+    at_verdict p (Some denial) e = same
+
+    at_read : (path : Option (List (List ℕ))) → R s (option_map_or (λ (p : List (List ℕ)). by_leave (refused s) s.live.objects s.actor (Write d p) (changed (f p) s)) path (refused s BadValue)).1
+    at_read None = same
+    at_read (Some p) = at_verdict p (verdict s.live.objects s.actor (Write d p)) refl
+
+    at_object : (o : Option Object) → R s (option_map_or (λ (o : Object). at_path (refused s) (λ p. by_leave (refused s) s.live.objects s.actor (Write d p) (changed (f p) s)) text) o (refused s BadValue)).1
+    at_object None = same
+    at_object (Some o) = at_read (path_in text)
+
+-- what is so of a world and itself, of each property that is written by leave and of all that is told
+pub does_law : (R : Stage → Stage → Type 0) (s : Stage) → R s s →
+    ((d : Dbref) (p : List (List ℕ)) (value : PropValue) → verdict s.live.objects s.actor (Write d p) ≡ None → R s (record s { live = stored d p value s.live })) →
+    ((d : Dbref) (p : List (List ℕ)) → verdict s.live.objects s.actor (Write d p) ≡ None → R s (record s { live = unstored d p s.live })) →
+    ((d : Dbref) (text : List ℕ) → R s (record s { live = tell_player d text s.live })) →
+    ((room but : Dbref) (text : List ℕ) → R s (record s { live = tell_others room but text s.live })) →
+    (d : Deed) → R s (does_in d s).1
+does_law R s same store unstore one others (deed.Store text path d) = written_law R s d path (λ p. stored d p (Text text)) same (λ p. store d p (Text text))
+does_law R s same store unstore one others (deed.DelProp path d) = written_law R s d path (λ p. unstored d p) same (λ p. unstore d p)
+does_law R s same store unstore one others (deed.Tell text d) = one d text
+does_law R s same store unstore one others (deed.Otell text d) = others d s.actor.player text
+
+-- What is touched.
+
+pub touching_order : Order TouchesNotes
+touching_order = record {
+  itself = λ w. record { objects = refl; connections = refl; tune = refl };
+  both = λ u v w r s. record { objects = s.objects ∙ r.objects; connections = s.connections ∙ r.connections; tune = s.tune ∙ r.tune };
+}
+
+-- a change at one place that the view g doesn't see
+map_set : {X Y : Type 0} (g : X → Y) (xs : List X) (n : ℕ) (x y : X) → slice_get xs n ≡ Some x → g y ≡ g x → map g (slice_set xs n y) ≡ map g xs
+map_set g [] n x y e h = refl
+map_set g (z ∷ zs) zero x y e h = let same : z ≡ x = cc in ap (λ v. v ∷ map g zs) (h ∙ ap g (sym same))
+map_set g (z ∷ zs) (suc n) x y e h = ap (λ vs. g z ∷ vs) (map_set g zs n x y e h)
+
+map_changed : {X Y : Type 0} (g : X → Y) (f : X → X) → ((x : X) → g (f x) ≡ g x) → (n : ℕ) (xs : List X) → map g (changed_at n f xs) ≡ map g xs
+unfolding changed_at
+map_changed {X} {Y} g f h n xs = at (slice_get xs n) refl
+  where
+    at : (q : Option X) → slice_get xs n ≡ q → map g (option_map_or (λ x. slice_set xs n (f x)) q xs) ≡ map g xs
+    at None e = refl
+    at (Some x) e = map_set g xs n x (f x) e (h x)
+
+map_told : (test : Connection → Bool) (text : List ℕ) (cs : List Connection) → map without_output (map (told_where test text) cs) ≡ map without_output cs
+map_told test text [] = refl
+map_told test text (c ∷ cs) =
+    elim (test c) as (λ b. ◌≡◌ {A = List Connection} (without_output (cond b (told text c) c) ∷ map without_output (map (told_where test text) cs)) (without_output c ∷ map without_output cs)) [
+      | true ↦ ap (λ ds. without_output c ∷ ds) (map_told test text cs)
+      | false ↦ ap (λ ds. without_output c ∷ ds) (map_told test text cs)
+    ]
+
+noted : (f : Object → Object) → ((e : Entry) → without_props (record e { object = f e.object }) ≡ without_props e) → (n : ℕ) (es : List Entry) → map without_props (set_at f n es) ≡ map without_props es
+noted f h n es = map_changed without_props (λ e. record e { object = f e.object }) h n es
+
+noted_at : (f : Object → Object) → ((e : Entry) → without_props (record e { object = f e.object }) ≡ without_props e) → (x : Dbref) (es : List Entry) → map without_props (at_number (set_at f) x es) ≡ map without_props es
+noted_at f h x es = at (number_in es x)
+  where
+    at : (q : Option ℕ) → map without_props (option_map_or (λ n. set_at f n es) q es) ≡ map without_props es
+    at None = refl
+    at (Some n) = noted f h n es
+
+pub touching_stored : (x : Dbref) (path : List (List ℕ)) (value : PropValue) (w : Live) → TouchesNotes w (stored x path value w)
+unfolding stored
+touching_stored x path value w = record { objects = noted_at (with_prop path value) (λ e. refl) x w.objects; connections = refl; tune = refl }
+
+pub touching_unstored : (x : Dbref) (path : List (List ℕ)) (w : Live) → TouchesNotes w (unstored x path w)
+unfolding unstored
+touching_unstored x path w = record { objects = noted_at (without_prop path) (λ e. refl) x w.objects; connections = refl; tune = refl }
+
+pub touching_one : (player : Dbref) (text : List ℕ) (w : Live) → TouchesNotes w (tell_player player text w)
+unfolding tell_player told_player
+touching_one player text w = record { objects = refl; connections = map_told (is_of player) text w.board.connections; tune = refl }
+
+pub touching_others : (room but : Dbref) (text : List ℕ) (w : Live) → TouchesNotes w (tell_others room but text w)
+unfolding tell_others tell_but told_others
+touching_others room but text w = record { objects = refl; connections = map_told (hears (λ p. place_of p w.objects) room (but ∷ [])) text w.board.connections; tune = refl }
+
+pub touching_draw : (w : Live) → TouchesNotes w (draw w)
+unfolding draw random_drawn
+touching_draw w = record { objects = refl; connections = refl; tune = refl }

@@ -1,0 +1,4 @@
+pub mod Sound
+pub mod Deeds
+pub mod Leave
+pub mod Working

@@ -1,0 +1,8 @@
+// The worked rows.
+ghost use Rattle.spec_mpi.specs.Worked.{Worked};
+
+/// The worked rows of this crate hold. It does nothing: its clause is the rows.
+#[tactic(auto, using(crate::proofs::Working::worked))]
+pub fn rows_hold()
+    ensures rows { Worked }
+{}
