@@ -1,8 +1,0 @@
-//! The dumper: it makes the dumps of a world that several parties share, and writes them while others go on.
-#![tactic(auto)]
-
-mod deeds;
-mod dumper;
-mod holds;
-
-pub use dumper::{Why, dumper};

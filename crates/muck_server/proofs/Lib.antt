@@ -1,3 +1,0 @@
-pub mod Seating
-pub mod Closing
-pub mod Ending
