@@ -2,7 +2,7 @@
 #![tactic(auto)]
 
 mod deeds;
-mod dumper;
 mod holds;
+mod running;
 
-pub use dumper::{Why, dumper};
+pub use running::{Why, dumper};
