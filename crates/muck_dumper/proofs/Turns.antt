@@ -16,7 +16,7 @@ use Rattle.muck_machine.specs.Seats.{Sight, Chair, OneMore, AllOrderly, Rests, W
 use Rattle.muck_machine.proofs.Seating.{held_settled, one_bare, one_noted, given_seen, given_root, rests_turned}
 use Rattle.muck_dumping.specs.inner.Dumps.{by}
 use Rattle.muck_dumper.specs.Dumping.{history_seen, EndsWith}
-use Rattle.muck_dumper.specs.inner.Steps.{MadeBy, Step, Moves}
+use Rattle.muck_dumper.specs.inner.Steps.{MadeBy, bare, with_note, Step, Moves}
 use Rattle.muck_dumper.proofs.Knowing.{held_quiet, given_known}
 
 -- The item of an entry.

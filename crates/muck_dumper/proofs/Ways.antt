@@ -23,8 +23,8 @@ use Rattle.muck_dumping.specs.inner.Dumps.{by}
 use Rattle.muck_dumping.specs.inner.Between.{IsReady, IsPending, IsWritten}
 use Rattle.muck_dumping.proofs.Beginning.{ready_quiet, pending_quiet}
 use Rattle.muck_dumping.proofs.Steps.{cut_runs}
-use Rattle.muck_dumper.specs.declared.running.Why.{Why}
-use Rattle.muck_dumper.specs.declared.running.Why.TheVariants.{Fine, NoMemory, Spent}
+use Rattle.muck_dumper.specs.declared.dumping.Why.{Why}
+use Rattle.muck_dumper.specs.declared.dumping.Why.TheVariants.{Fine, NoMemory, Spent}
 use Rattle.muck_dumper.specs.declared.holds.Fault.{Fault}
 use Rattle.muck_dumper.specs.declared.holds.Fault.TheVariants.{NoMemory as Wanted, Spent as AllHad}
 use Rattle.muck_dumper.specs.Dumping.{history_from, history_seen, IsKnown, EndsWith, DumperReady, DumperDone}

@@ -14,8 +14,8 @@ use Rattle.muck_machine.specs.declared.beginning.Beginning.{Beginning}
 use Rattle.muck_machine.specs.Seats.{Sight, Chair, AllOrderly, Rests, Left, SameLists}
 use Rattle.muck_dumping.specs.inner.Dumps.{by}
 use Rattle.muck_dumping.specs.inner.Between.{IsReady}
-use Rattle.muck_dumper.specs.declared.running.Why.{Why}
-use Rattle.muck_dumper.specs.declared.running.Why.TheVariants.{Fine, NoMemory, Spent}
+use Rattle.muck_dumper.specs.declared.dumping.Why.{Why}
+use Rattle.muck_dumper.specs.declared.dumping.Why.TheVariants.{Fine, NoMemory, Spent}
 
 -- the history that a seat has seen: it began so, and has these items
 abbrev pub history_from : List Beginning → List Logged → History

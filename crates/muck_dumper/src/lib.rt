@@ -2,7 +2,7 @@
 #![tactic(auto)]
 
 mod deeds;
+mod dumping;
 mod holds;
-mod running;
 
-pub use running::{Why, dumper};
+pub use dumping::{Why, dumper};

@@ -3,7 +3,7 @@ use Rattle.spec_events.specs.Own.{Stage}
 use Rattle.muck_dumping.specs.inner.Between.{IsReady}
 use Rattle.muck_dumper.specs.Dumping.{history_seen}
 use Rattle.muck_dumper.specs.inner.Steps.{Watches}
-use Rattle.muck_dumper.proofs.running.dumper.Given as goal
+use Rattle.muck_dumper.proofs.dumping.dumper.Given as goal
 
 abbrev pub invariant-loop : goal.invariant-loop
 invariant-loop g l =
