@@ -1,5 +1,6 @@
 -- What is kept of dumps from turn to turn.
-use Rattle.std.proofs.Common.{◌≡◌, ℕ, ◌≤◌, ◌^◌, Bool, true, false, List, [], ◌∷◌, ◌++◌, length, refl, sym, ◌∙◌, ap, subst, append-nil, Option, Some, None, Result, Ok, Err}
+use Rattle.std.proofs.Common.{◌≡◌, ℕ, ◌≤◌, ◌^◌, Bool, true, false, ◌==◌, cond, List, [], ◌∷◌, ◌++◌, length, refl, sym, ◌∙◌, ap, subst, arith, append-nil, Option, Some, None, Result, Ok, Err}
+use Rattle.std.proofs.lemmas.Bool.Decides.{nat_tests}
 use Rattle.turn_lock.specs.Histories.{own_of}
 use Rattle.muck_model.specs.declared.event.Event.{Event}
 use Rattle.muck_model.specs.declared.event.Event.TheVariants.{Idle, Cut, StopSeen, Died}
@@ -12,14 +13,14 @@ use Rattle.spec_events.specs.Own.{Stage, next, stage_of, died_next}
 use Rattle.spec_events.specs.World.{runs_dump}
 use Rattle.spec_events.proofs.Owning.{well_formed}
 use Rattle.spec_dumps.specs.Survival.{IsSafe}
-use Rattle.spec_dumps.specs.Holding.{Quietly, Keeps}
+use Rattle.spec_dumps.specs.Holding.{Quietly, Keeps, Rests as HasRests}
 use Rattle.spec_dumps.proofs.Quiet.{quiet_one, safe_quiet, keeps_quiet}
 use Rattle.spec_dumps.proofs.Idle.{idle_quiet, runs_quiet}
 use Rattle.muck_machine.specs.declared.beginning.Beginning.{Beginning}
 use Rattle.muck_dumping.specs.declared.parts.Pending.{Pending}
 use Rattle.muck_machine.specs.Seats.{Sight, Chair, AllOrderly, Rests, Left, Waited}
 use Rattle.muck_machine.proofs.Seating.{left_rests}
-use Rattle.muck_dumping.specs.inner.Dumps.{by}
+use Rattle.muck_dumping.specs.inner.Dumps.{by, ending_event}
 use Rattle.muck_dumping.specs.inner.Between.{IsReady, IsPending, IsWritten}
 use Rattle.muck_dumping.proofs.Beginning.{ready_quiet, pending_quiet}
 use Rattle.muck_dumping.proofs.Steps.{cut_runs}
@@ -28,7 +29,7 @@ use Rattle.muck_dumper.specs.declared.dumping.Why.TheVariants.{Fine, NoMemory, S
 use Rattle.muck_dumper.specs.declared.holds.Fault.{Fault}
 use Rattle.muck_dumper.specs.declared.holds.Fault.TheVariants.{NoMemory as Wanted, Spent as AllHad}
 use Rattle.muck_dumper.specs.Dumping.{history_from, history_seen, IsKnown, EndsWith, DumperReady, DumperDone}
-use Rattle.muck_dumper.specs.inner.Steps.{MadeBy, Step, Moves, StopsBy, Stops, Watches}
+use Rattle.muck_dumper.specs.inner.Steps.{MadeBy, Step, Moves, StopsBy, Stops, Settles, Watches}
 use Rattle.muck_dumper.proofs.Knowing.{rests_known}
 use Rattle.muck_dumper.proofs.Turns.{moves_step, moves_on, moves_same}
 
@@ -158,7 +159,7 @@ module _ {D : Type 0} (tells : Bool) (seen : D → List ℕ) (moment : D → ℕ
             let moves = moves_on Stage.unbound Stage.unbound Stage.stopped me0 me me' w.moves (moves_step Stage.unbound Stage.stopped StopSeen me me' t refl) in
             let q = bare_quiet StopSeen t.world (history_seen me'.0) refl is in
             let ready : (mounted : ℕ) → tells ≡ true → Begins mounted → IsReady seen moment images faults log f s mounted (history_seen me'.0) =
-                λ mounted on b. ready_quiet seen moment images faults log f s mounted t.world (history_seen me'.0) q (ready_quiet seen moment images faults log f s mounted (history_seen me.0) t.world t.quiet (w.ready mounted on b))
+            λ mounted on b. ready_quiet seen moment images faults log f s mounted t.world (history_seen me'.0) q (ready_quiet seen moment images faults log f s mounted (history_seen me.0) t.world t.quiet (w.ready mounted on b))
             in
             record {
               left = left_rests 9 me' t.rests;
@@ -273,4 +274,23 @@ stops_behind tells moment images f s fault a b P Q x y z moves leads t = record 
   known = t.known;
   knows = t.knows;
   safe = λ mounted on p. t.safe mounted on (leads mounted on p);
+}
+
+eq_self : (n : ℕ) → (n == n) ≡ true
+eq_self n = grind (arith, nat_tests)
+
+-- how a dump that runs may end
+ends_next : (n : ℕ) (b : Bool) → next 9 (Stage.dumping n) (ending_event n b) ≡ Some Stage.unbound
+ends_next n true = ap (λ b. cond {A = Option Stage} b (Some Stage.unbound) None) (eq_self n)
+ends_next n false = ap (λ b. cond {A = Option Stage} b (Some Stage.unbound) None) (eq_self n)
+
+-- a dump has ended
+pub settles_ended : {D : Type 0} (tells : Bool) (seen : D → List ℕ) (moment : D → ℕ) (images : D → ℕ → List ℕ → Type 0) (faults : D → ℕ) (log : Option LogState) (f s : D) (n : ℕ) (stored : Bool) (P : ℕ → Type 0) (me me' : Chair) →
+    Step (ending_event n stored) me me' → (now (history_seen me'.0)).dumps.running ≡ None → ((mounted : ℕ) → tells ≡ true → P mounted → HasRests seen moment images faults log f s mounted (history_seen me'.0)) →
+    Settles tells seen moment images faults log f s (Stage.dumping n) P me me'
+settles_ended tells seen moment images faults log f s n stored P me me' t idle kept = record {
+  rests = t.rests;
+  moves = moves_step (Stage.dumping n) Stage.unbound (ending_event n stored) me me' t (ends_next n stored);
+  idle = idle;
+  kept = kept;
 }

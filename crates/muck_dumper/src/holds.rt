@@ -218,13 +218,29 @@ pub(crate) fn makes<W: Wait, D: Disk, R: Rest>(
 {
     match write(store, first, second, &pending) {
         Ok(()) => ends(
-            rt, turn, seat, store, first, second, pending.number, true, rest,
+            rt,
+            turn,
+            seat,
+            store,
+            first,
+            second,
+            pending.number,
+            true,
+            rest,
         ),
         Err(fault) => match fault {
             LogFault::NoMemory => Err(dies(rt, turn, seat, first, second, rest)),
             _ => {
                 ends(
-                    rt, turn, seat, store, first, second, pending.number, false, rest,
+                    rt,
+                    turn,
+                    seat,
+                    store,
+                    first,
+                    second,
+                    pending.number,
+                    false,
+                    rest,
                 )?;
                 mounts(rt, alloc, turn, seat, store, first, second, rest)
             }

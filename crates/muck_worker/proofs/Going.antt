@@ -54,15 +54,15 @@ open_held party (Slice pid) me v h rests waited seen own lawful held =
     let entry : Entry = by party (Claim pid) in
     let rest : List Logged = waited.0.0 in
     let mine : own_of logged_by party (me.0.seen ++ rest) ≡ own_of logged_by party me.0.seen =
-        ap (own_of logged_by party) (sym waited.0.1) ∙ ap (λ (p : ℕ). own_of logged_by p v.seen) (sym (waited.2 ∙ rests.party)) ∙ sym own ∙ waited.1 ∙ rests.own
+    ap (own_of logged_by party) (sym waited.0.1) ∙ ap (λ (p : ℕ). own_of logged_by p v.seen) (sym (waited.2 ∙ rests.party)) ∙ sym own ∙ waited.1 ∙ rests.own
     in
     let others : AreOthers party (entries_of rest) = others_are party rest (others_none party me.0.seen rest mine) in
     let whole : h.entries ≡ entries_of held.0 ++ entry ∷ entries_of rest =
-        sym (entries_logged h)
-        ∙ ap entries_of (seen ∙ waited.0.1 ∙ ap (λ (ls : List Logged). ls ++ rest) held.1)
-        ∙ entries_append (held.0 ++ bare_item entry ∷ []) rest
-        ∙ ap (λ (es : List Entry). es ++ entries_of rest) (entries_append held.0 (bare_item entry ∷ []))
-        ∙ append_assoc (entries_of held.0) (entry ∷ []) (entries_of rest)
+    sym (entries_logged h)
+    ∙ ap entries_of (seen ∙ waited.0.1 ∙ ap (λ (ls : List Logged). ls ++ rest) held.1)
+    ∙ entries_append (held.0 ++ bare_item entry ∷ []) rest
+    ∙ ap (λ (es : List Entry). es ++ entries_of rest) (entries_append held.0 (bare_item entry ∷ []))
+    ∙ append_assoc (entries_of held.0) (entry ∷ []) (entries_of rest)
     in
     ap (has_claim party pid) (is_now h ∙ ap (after h.start) whole)
     ∙ claim_stays h.start (entries_of held.0) party pid (entries_of rest) (subst (AllLawful h.start) whole lawful) others

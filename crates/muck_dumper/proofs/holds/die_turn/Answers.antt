@@ -22,6 +22,6 @@ pub returns-clause-ok : goal.returns-clause-ok
 returns-clause-ok g c =
     let state = c.in_ok-held.ensures.state in
     let it = step_made c.args.seat.now.me c.hold.new.seat.me.0 c.in_ok-held.held.state c.died.new.self Died c.requires.rests c.in_ok-held.ensures.kept state.0 state.1 c.is_dead-dead.ensures.placed (MadeBy.bare c.died.ensures)
-        c.give.new.seat.me c.in_ok-held.ensures.mine c.in_ok-held.ensures.allowed c.give.ensures.own.2 c.give.ensures.idle c.give.ensures.seen c.give.ensures.same c.give.ensures.mine
+    c.give.new.seat.me c.in_ok-held.ensures.mine c.in_ok-held.ensures.allowed c.give.ensures.own.2 c.give.ensures.idle c.give.ensures.seen c.give.ensures.same c.give.ensures.mine
     in
     (it.0, it.2 ∙ c.died.ensures ∙ ap (λ (h : History). entered h (by 9 Died)) (sym it.1))

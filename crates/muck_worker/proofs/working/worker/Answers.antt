@@ -30,9 +30,12 @@ loop-preserved-in-Ok-Claimed g c =
     let inv = c.loop.invariant in
     let ok = c.in-Ok-Claimed.ensures.ok in
     let own = c.in-Ok-Claimed.ensures.own in
-    let did = subst (λ (x : Did). DidAs c.args.party c.loop.task x ok.1.0) c.in-Ok-Claimed.field-0-is ok.1.2 in
-    (own.0 ∙ inv.0, own.1 ∙ inv.1, works_on c.args.party c.args.seat.now.me c.loop.task c.loop.seat.me c.worker_turn.new.seat.me inv.2 ok.1.0 ok.1.1 c.in-Ok-Claimed.next ok.0 did.0
-    (held_next c.args.party c.in-Ok-Claimed.next c.loop.seat.me.0 c.worker_turn.new.seat.me.0 ok.1.0 did.1 ok.1.1))
+    let did = subst (λ (x : Did). DidAs c.args.party c.loop.task x ok.1.0) c.in-Ok-Claimed.field-0-is ok.1.2 in (
+      own.0 ∙ inv.0,
+      own.1 ∙ inv.1,
+      works_on c.args.party c.args.seat.now.me c.loop.task c.loop.seat.me c.worker_turn.new.seat.me inv.2 ok.1.0 ok.1.1 c.in-Ok-Claimed.next ok.0 did.0
+          (held_next c.args.party c.in-Ok-Claimed.next c.loop.seat.me.0 c.worker_turn.new.seat.me.0 ok.1.0 did.1 ok.1.1),
+    )
 
 pub loop-preserved : goal.loop-preserved
 loop-preserved g c =

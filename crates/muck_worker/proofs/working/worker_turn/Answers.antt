@@ -48,5 +48,5 @@ returns-clause-ok g c =
     let one = one_bare rests.begun.mounting h k (by p event.0) settled event.1 in
     let orderly = bare_orderly p event.0 event.2.2 in
     let both = rests_turned p c.args.seat.now.me c.hold.new.seat.me.0 c.give.new.seat.me h k (bare_item (by p event.0)) rests kept state.0 c.in_ok-held.ensures.mine c.in_ok-held.ensures.allowed one refl orderly
-        c.give.ensures.own.2 c.give.ensures.idle c.give.ensures.seen c.give.ensures.same c.give.ensures.mine in
+    c.give.ensures.own.2 c.give.ensures.idle c.give.ensures.seen c.give.ensures.same c.give.ensures.mine in
     (both.0, (event.0, both.1, event.2))
