@@ -1,3 +1,4 @@
 pub mod Knowing
 pub mod Turns
 pub mod Ways
+pub mod Due

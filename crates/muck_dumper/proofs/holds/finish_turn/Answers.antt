@@ -23,7 +23,7 @@ give-requires-clause-start g c =
     start_given c.args.seat.now.me c.hold.new.seat.me.0 c.in_ok-held.held.state c.finishes-told.new.world (if c.finishes-told.result then ending_event c.args.number c.args.stored else Died) c.requires.rests c.in_ok-held.ensures.kept state.0 state.1 c.is_dead-dead.ensures.placed c.finishes-told.ensures.made
 
 pub finishes-told-requires : goal.finishes-told-requires
-finishes-told-requires g c = runs_quiet (history_seen c.args.seat.now.me.0) c.in_ok-held.held.state c.args.number (held_quiet c.args.seat.now.me c.hold.new.seat.me.0 c.in_ok-held.held.state c.requires.rests c.in_ok-held.ensures.kept c.in_ok-held.ensures.state.0 c.in_ok-held.ensures.state.1 c.in_ok-held.ensures.mine c.in_ok-held.ensures.allowed c.is_dead-dead.ensures.placed) c.requires.runs
+finishes-told-requires g c = record { runs = runs_quiet (history_seen c.args.seat.now.me.0) c.in_ok-held.held.state c.args.number (held_quiet c.args.seat.now.me c.hold.new.seat.me.0 c.in_ok-held.held.state c.requires.rests c.in_ok-held.ensures.kept c.in_ok-held.ensures.state.0 c.in_ok-held.ensures.state.1 c.in_ok-held.ensures.mine c.in_ok-held.ensures.allowed c.is_dead-dead.ensures.placed) c.requires.runs }
 
 pub returns-clause-ok : goal.returns-clause-ok
 returns-clause-ok g c =
