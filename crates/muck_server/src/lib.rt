@@ -2,6 +2,7 @@
 #![tactic(auto)]
 
 mod beside;
+mod finishing;
 mod seats;
 mod serving;
 mod why;
