@@ -283,11 +283,13 @@ module _ (m : Note) (world : History) (f : IsFresh m world) (v : Chair) (begins 
   ready_parts table parts few dealt i d lt =
       let p = slice_index_or parts i d in
       let one = dealt.each i p (got_index parts i d lt) in
-      let count = dealt.count in
-      (one.lock, record {
-        first = subst (λ (q : ℕ). 0 < q) (sym one.number) (omega arith);
-        last = subst (λ (q : ℕ). q < 9) (sym one.number) (omega (arith, lt, count, few));
-        rests = rests_new p.party m world p.seat.me f (ap (λ (c : Chair). c.1) one.me) (ap (λ (c : Chair). c.0.place) one.me) (ap (λ (c : Chair). c.0.party) one.me ∙ sym one.number)
-            (ap (λ (c : Chair). c.0.seen) one.me ∙ begins.unseen) (ap (λ (c : Chair). c.0.own) one.me) (ap (λ (c : Chair). c.0.root) one.me ∙ begins.root);
-        fresh = ap (λ (c : Chair). c.0.own) one.me;
-      })
+      let count = dealt.count in (
+        one.lock,
+        record {
+          first = subst (λ (q : ℕ). 0 < q) (sym one.number) (omega arith);
+          last = subst (λ (q : ℕ). q < 9) (sym one.number) (omega (arith, lt, count, few));
+          rests = rests_new p.party m world p.seat.me f (ap (λ (c : Chair). c.1) one.me) (ap (λ (c : Chair). c.0.place) one.me) (ap (λ (c : Chair). c.0.party) one.me ∙ sym one.number)
+              (ap (λ (c : Chair). c.0.seen) one.me ∙ begins.unseen) (ap (λ (c : Chair). c.0.own) one.me) (ap (λ (c : Chair). c.0.root) one.me ∙ begins.root);
+          fresh = ap (λ (c : Chair). c.0.own) one.me;
+        },
+      )

@@ -93,7 +93,6 @@ module _ {D : Type 0} (tells : Bool) (seen : D → List ℕ) (moment : D → ℕ
     (e2 : s2 ≡ (left_after 9 (given_to workers v0.0), v0.1)) (eo : o ≡ (newcomer 9 (given_to workers v0.0), [])) (dealt : AreDealt table workers v0.0 parts)
     (pd : PorterDone pw shows b k s2 sp) (dd : DumperDone tells seen moment images faults dw log log' f s f' s' o o') (wd : AreDone parts parts')
     (ended : IsEndOf way pw dw parts') (ee : e ≡ (all_in parts' (taken_in sp.0 o'.0), sp.1)) (shut : Shut e.0 h) (placed : IsPlaced h) (lawful : AllLawful h.start h.entries) where
-
   -- the first seat
   same : SameButJoined e.0 sp.0
   same = subst (λ (u : Sight). SameButJoined u sp.0) (sym (ap (λ (c : Chair). c.0) ee))
@@ -267,17 +266,19 @@ module _ {D : Type 0} (tells : Bool) (seen : D → List ℕ) (moment : D → ℕ
       let kept = pd.kept x in
       let whole : StartsWith (logged h) kept.front = (let a = seen0 in let c = kept.seen in (c.0 ++ a.0, a.1 ∙ ap (λ (ls : List Logged). ls ++ a.0) c.1 ∙ append_assoc kept.front c.0 a.0)) in
       promised_whole (note_in sp.0.own) b h.start (entries_of kept.front) h.entries k lawful
-          (entries_of whole.0, sym (entries_logged h) ∙ ap entries_of whole.1 ∙ entries_append kept.front whole.0)
-          (ap (own_of party_of 0) (sym (entries_logged h)) ∙ own_entries_of 0 (logged h) ∙ ap entries_of (sym own0 ∙ kept.own) ∙ sym (own_entries_of 0 kept.front))
-          (kept.promised h.start m root9)
+      (entries_of whole.0, sym (entries_logged h) ∙ ap entries_of whole.1 ∙ entries_append kept.front whole.0)
+      (ap (own_of party_of 0) (sym (entries_logged h)) ∙ own_entries_of 0 (logged h) ∙ ap entries_of (sym own0 ∙ kept.own) ∙ sym (own_entries_of 0 kept.front))
+      (kept.promised h.start m root9)
 
   off : shows ≡ true → HasStopped way → LeavesWorkedOff (note_in sp.0.own) h.start h.entries k
   off x stop =
       let q = pd.stopped (all_stopped stop).porter_too x in
-      let seen_is : entries_of sp.0.seen ≡ entries_of q.before ++ by_porter StopSeen ∷ [] = ap entries_of q.seen ∙ entries_append q.before (q.last ∷ []) ∙ ap (λ (y : Entry). entries_of q.before ++ y ∷ []) q.entry in
-      (entries_of q.before, entries_of seen0.0,
-       sym (entries_logged h) ∙ ap entries_of seen0.1 ∙ entries_append sp.0.seen seen0.0 ∙ ap (λ (es : List Entry). es ++ entries_of seen0.0) seen_is ∙ append_assoc (entries_of q.before) (by_porter StopSeen ∷ []) (entries_of seen0.0),
-       subst (λ (es : List Entry). OpenWorkedOff (note_in sp.0.own) (after h.start (entries_of q.before)) (talks h.start es) k) seen_is (q.worked h.start m root9))
+      let seen_is : entries_of sp.0.seen ≡ entries_of q.before ++ by_porter StopSeen ∷ [] = ap entries_of q.seen ∙ entries_append q.before (q.last ∷ []) ∙ ap (λ (y : Entry). entries_of q.before ++ y ∷ []) q.entry in (
+        entries_of q.before,
+        entries_of seen0.0,
+        sym (entries_logged h) ∙ ap entries_of seen0.1 ∙ entries_append sp.0.seen seen0.0 ∙ ap (λ (es : List Entry). es ++ entries_of seen0.0) seen_is ∙ append_assoc (entries_of q.before) (by_porter StopSeen ∷ []) (entries_of seen0.0),
+        subst (λ (es : List Entry). OpenWorkedOff (note_in sp.0.own) (after h.start (entries_of q.before)) (talks h.start es) k) seen_is (q.worked h.start m root9),
+      )
 
   pub has_run : HasRun tells seen moment images faults shows b k workers way log log' f s f' s' world h
   has_run = record {

@@ -22,15 +22,17 @@ pub split-other-requires-clause-idle : goal.split-other-requires-clause-idle
 split-other-requires-clause-idle g c =
     let v = c.in_ok-turn.seat.me.0 in
     let me = c.deal.ensures.first in
-    let many = given_count c.args.workers v c.in_ok-turn.ensures.alone.0 in
-    (ap (λ (m : Chair). m.0.place) me ∙ given_place c.args.workers v ∙ c.in_ok-turn.ensures.party.1,
-     subst (λ (ps : List ℕ). length ps < 9) (sym (ap (λ (m : Chair). m.0.given) me)) (omega (arith, many, c.requires.few)))
+    let many = given_count c.args.workers v c.in_ok-turn.ensures.alone.0 in (
+      ap (λ (m : Chair). m.0.place) me ∙ given_place c.args.workers v ∙ c.in_ok-turn.ensures.party.1,
+      subst (λ (ps : List ℕ). length ps < 9) (sym (ap (λ (m : Chair). m.0.given) me)) (omega (arith, many, c.requires.few)),
+    )
 
 pub split-other-requires-clause-fresh : goal.split-other-requires-clause-fresh
 split-other-requires-clause-fresh g c =
-    let v = c.in_ok-turn.seat.me.0 in
-    ((λ e. omega (arith, e)),
-     (λ h. let low = given_low c.args.workers v 9 c.in_ok-turn.ensures.alone.0 (subst (λ (m : Chair). Has m.0.given 9) c.deal.ensures.first h) in omega (arith, low.1, c.requires.few)))
+    let v = c.in_ok-turn.seat.me.0 in (
+      (λ e. omega (arith, e)),
+      (λ h. let low = given_low c.args.workers v 9 c.in_ok-turn.ensures.alone.0 (subst (λ (m : Chair). Has m.0.given 9) c.deal.ensures.first h) in omega (arith, low.1, c.requires.few)),
+    )
 
 pub all_beside-porter-requires-clause-porter : goal.all_beside-porter-requires-clause-porter
 all_beside-porter-requires-clause-porter g c κs within =
@@ -61,11 +63,12 @@ take_in-requires-clause-parts g c =
     c.in_ok-turn.ensures.seat.0 c.deal.ensures.parts c.all_beside-porter.ensures.workers
 
 pub close-world-requires-clause-own : goal.close-world-requires-clause-own
-close-world-requires-clause-own g c =
-    (c.take_in.ensures.own.0 ∙ c.join.ensures.own.0 ∙ c.all_beside-porter.ensures.own.0 ∙ c.split-other.ensures.own.0 ∙ c.deal.ensures.own.0 ∙ c.in_ok-turn.ensures.seat.0,
-     c.take_in.ensures.own.1,
-     last_place c.all_beside-porter.new.parts.all.items c.all_beside-porter.new.seat.me c.take_in.new.seat.me c.all_beside-porter.new.other.me.0
-         (c.take_in.ensures.taken ∙ ap (λ (m : Chair). (all_in c.all_beside-porter.new.parts.all.items m.0, m.1)) c.join.ensures.taken) c.all_beside-porter.ensures.porter.over.left.over)
+close-world-requires-clause-own g c = (
+  c.take_in.ensures.own.0 ∙ c.join.ensures.own.0 ∙ c.all_beside-porter.ensures.own.0 ∙ c.split-other.ensures.own.0 ∙ c.deal.ensures.own.0 ∙ c.in_ok-turn.ensures.seat.0,
+  c.take_in.ensures.own.1,
+  last_place c.all_beside-porter.new.parts.all.items c.all_beside-porter.new.seat.me c.take_in.new.seat.me c.all_beside-porter.new.other.me.0
+      (c.take_in.ensures.taken ∙ ap (λ (m : Chair). (all_in c.all_beside-porter.new.parts.all.items m.0, m.1)) c.join.ensures.taken) c.all_beside-porter.ensures.porter.over.left.over,
+)
 
 pub close-world-requires-clause-all : goal.close-world-requires-clause-all
 close-world-requires-clause-all g c =
