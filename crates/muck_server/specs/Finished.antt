@@ -20,7 +20,6 @@ why_of fault.NoMemory = NoMemory
 why_of fault.DiskFault = DiskFault
 why_of (fault.Damaged second at) = Damaged second at
 why_of (fault.StoreFull end more) = StoreFull end more
-why_of fault.Unfit = Damaged false 0
 why_of fault.Stale = Damaged false 0
 
 abbrev pub why_from : Result (Option LogFault) Wanting → Why

@@ -26,8 +26,8 @@ fn why_of(fault: LogFault) -> Why
         LogFault::DiskFault => Why::DiskFault,
         LogFault::Damaged { second, at } => Why::Damaged { second, at },
         LogFault::StoreFull { end, more } => Why::StoreFull { end, more },
-        // No dump of a world answers these on disks that tell their bytes.
-        LogFault::Unfit | LogFault::Stale => Why::Damaged {
+        // No dump of a world answers this on disks that tell their bytes.
+        LogFault::Stale => Why::Damaged {
             second: false,
             at: 0,
         },
