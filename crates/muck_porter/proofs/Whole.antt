@@ -14,12 +14,13 @@ use Rattle.spec_talks.specs.Parties.{party_of}
 use Rattle.spec_talks.specs.Talks.{Talk, talks}
 use Rattle.spec_talks.proofs.Talking.{talks_same}
 use Rattle.spec_serve.specs.Marks.{LinksNote}
-use Rattle.spec_serve.specs.Promises.{Tally, PromisedOf, OpenWorkedOff}
+use Rattle.spec_serve.specs.Promises.{Tally, OpenWorkedOff}
 use Rattle.spec_serve.proofs.Promising.{promised_whole}
 use Rattle.muck_machine.specs.Beginnings.{begun}
 use Rattle.muck_machine.specs.Seats.{Sight, AllOrderly}
 use Rattle.muck_porter.specs.Notes.{first_note, note_in}
-use Rattle.muck_porter.specs.Kept.{KeptBy, Stopped}
+use Rattle.muck_porter.specs.Kept.{Account, PromisedNow, KeptBy, Stopped}
+use Rattle.muck_porter.proofs.Timing.{timely_same}
 use Rattle.muck_porter.proofs.Items.{note_count, entries_own}
 
 -- the note of the links of a history in order is that of the porter's own items
@@ -44,14 +45,19 @@ entries_start ls seen more = (entries_of more.0, ap entries_of more.1 ∙ entrie
 same_own : (ls front : List Logged) → own_of logged_by 0 ls ≡ own_of logged_by 0 front → own_of party_of 0 (entries_of ls) ≡ own_of party_of 0 (entries_of front)
 same_own ls front is = entries_own 0 ls ∙ ap entries_of is ∙ sym (entries_own 0 front)
 
--- What is promised of all links, of the whole history.
-pub kept_whole : (b : Tally) (v : Sight) (k : Tally) (w : World) (m : Note) (ls : List Logged) → v.root ≡ begun w m ∷ [] → StartsWith ls v.seen → v.own ≡ own_of logged_by 0 ls → AllLawful w (entries_of ls)
-    → KeptBy b v k → PromisedOf (note_in v.own) b w (entries_of ls) k
+-- What is promised of all links, and of the moments, of the whole history.
+pub kept_whole : (b : Account) (v : Sight) (k : Account) (w : World) (m : Note) (ls : List Logged) → v.root ≡ begun w m ∷ [] → StartsWith ls v.seen → v.own ≡ own_of logged_by 0 ls → AllLawful w (entries_of ls)
+    → KeptBy b v k → PromisedNow (note_in v.own) b w (entries_of ls) k
 kept_whole b v k w m ls root more own lawful kept_by =
     let longer : StartsWith ls kept_by.front =
     (kept_by.seen.0 ++ more.0, more.1 ∙ ap (λ (x : List Logged). x ++ more.0) kept_by.seen.1 ∙ append_assoc kept_by.front kept_by.seen.0 more.0) in
-    promised_whole (note_in v.own) b w (entries_of kept_by.front) (entries_of ls) k lawful (entries_start ls kept_by.front longer)
-    (same_own ls kept_by.front (sym own ∙ kept_by.own)) (kept_by.promised w m root)
+    let before = kept_by.promised w m root in
+    let starts = entries_start ls kept_by.front longer in
+    let same = same_own ls kept_by.front (sym own ∙ kept_by.own) in
+    record {
+      links = promised_whole (note_in v.own) b.links w (entries_of kept_by.front) (entries_of ls) k.links lawful starts same before.links;
+      timely = timely_same b.answers k.answers w (entries_of kept_by.front) (entries_of ls) lawful starts same before.timely;
+    }
 
 -- Where the porter has seen the stop, each connection that is open is worked off in the world in which it entered that.
 pub stopped_whole : (v : Sight) (k : Tally) (w : World) (m : Note) (ls : List Logged) → v.root ≡ begun w m ∷ [] → StartsWith ls v.seen → v.own ≡ own_of logged_by 0 ls → AllLawful w (entries_of ls)

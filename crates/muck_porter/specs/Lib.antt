@@ -1,4 +1,5 @@
 pub mod Notes
+pub mod Times
 pub mod Kept
 pub mod Deeds
 pub mod Turns

@@ -3,12 +3,11 @@ use Rattle.std.specs.Prelude.{◌≡◌, Bool, true, ◌≤◌, ◌^◌, ◌⊎�
 use Rattle.muck_io.specs.Faults.{Rose}
 use Rattle.muck_model.specs.declared.note.Note.{Note}
 use Rattle.spec_events.specs.World.{World}
-use Rattle.spec_serve.specs.Promises.{Tally}
 use Rattle.muck_machine.specs.Beginnings.{begun}
 use Rattle.muck_machine.specs.Seats.{Chair, Rests, SameLists}
 use Rattle.muck_porter.specs.declared.porting.Why.{Why}
 use Rattle.muck_porter.specs.declared.porting.Why.TheVariants.{Fine, ListenFault, Spent}
-use Rattle.muck_porter.specs.Kept.{KeptBy, Stopped, EndsWithStop, Over}
+use Rattle.muck_porter.specs.Kept.{Account, KeptBy, Stopped, EndsWithStop, Over}
 
 -- The seat of party 0 at rest, which has seen nothing yet of a history that begins where nobody is connected.
 pub record PorterReady (me : Chair) : Type 0 where
@@ -21,7 +20,7 @@ abbrev pub HasStopped : Why → Type 0
 HasStopped why = (why ≡ Fine) ⊎ (why ≡ ListenFault)
 
 -- What stands when it returns: `b` is what the links told before, and `k` what they tell now.
-pub record PorterDone (why : Why) (tells : Bool) (b k : Tally) (me me' : Chair) : Type 0 where
+pub record PorterDone (why : Why) (tells : Bool) (b k : Account) (me me' : Chair) : Type 0 where
   pub lists : SameLists me.0 me'.0
   -- its own entries are as they may be, and the seat may be taken in
   pub over : Over me'
@@ -29,9 +28,9 @@ pub record PorterDone (why : Why) (tells : Bool) (b k : Tally) (me me' : Chair) 
   pub kept : tells ≡ true → KeptBy b me'.0 k
   -- where it has seen the stop its last entry says so, and each connection that is open is worked off there
   pub last : HasStopped why → EndsWithStop me'.0.own
-  pub stopped : HasStopped why → tells ≡ true → Stopped me'.0 k
+  pub stopped : HasStopped why → tells ≡ true → Stopped me'.0 k.links
   -- a fault in listening was counted
-  pub fault : why ≡ ListenFault → Rose b.listening k.listening
-  pub later : b.listening ≤ k.listening
+  pub fault : why ≡ ListenFault → Rose b.links.listening k.links.listening
+  pub later : b.links.listening ≤ k.links.listening
   -- all turns were had
   pub spent : why ≡ Spent → 2 ^ 62 ≤ length me'.0.seen

@@ -2,7 +2,7 @@
 ghost use Rattle.std.specs.Prelude.{◌≡◌, ◌≤◌, ◌||◌, IfOk, IfErr, OnErr, true};
 ghost use Rattle.muck_io.specs.Faults.{Rose};
 ghost use Rattle.muck_machine.specs.Seats.{SameLists};
-ghost use Rattle.muck_porter.specs.Kept.{tally, Ready, Over};
+ghost use Rattle.muck_porter.specs.Kept.{account, Ready, Over};
 ghost use Rattle.muck_porter.specs.Moves.{Ends, number_in, IsNew};
 ghost use Rattle.muck_porter.specs.Rounds.{IsSpent, IsRound, Went, is_left};
 ghost use Rattle.muck_porter.specs.Porter.{PorterReady, PorterDone};
@@ -100,8 +100,8 @@ fn goes_round<W: Wait, L: Links, C: Clock, G: Gate, R: Rest>(
     ensures ready { IfOk result (λ g. IsRound g.round noted.new seat.new.me) }
     ensures broke { IfOk result (λ g. g.broke ≡ true → Rose (L.listening links.old) (L.listening links.new)) }
     ensures fresh { IfOk result (λ g. IsNew g.coming) }
-    ensures ok { IfOk result (λ g. L.tells links.old ≡ true → Went g.round seat.old.me.0 seat.new.me.0 (tally (L.told links.old) (L.listening links.old)) (tally (L.told links.new) (L.listening links.new)) peers.old.items peers.new.items (number_in coming) (number_in g.coming)) }
-    ensures err { OnErr result (L.tells links.old ≡ true → Ends seat.old.me.0 seat.new.me.0 (tally (L.told links.old) (L.listening links.old)) (tally (L.told links.new) (L.listening links.new)) peers.old.items (number_in coming)) }
+    ensures ok { IfOk result (λ g. L.tells links.old ≡ true → Went g.round seat.old.me.0 seat.new.me.0 (account (L.told links.old) (L.listening links.old) (C.answers clock.old)) (account (L.told links.new) (L.listening links.new) (C.answers clock.new)) peers.old.items peers.new.items (number_in coming) (number_in g.coming)) }
+    ensures err { OnErr result (L.tells links.old ≡ true → Ends seat.old.me.0 seat.new.me.0 (account (L.told links.old) (L.listening links.old) (C.answers clock.old)) (account (L.told links.new) (L.listening links.new) (C.answers clock.new)) peers.old.items (number_in coming)) }
     ensures over { Over seat.new.me }
     ensures spent { IfErr result (λ fault. IsSpent fault seat.new.me.0) }
 {
@@ -138,7 +138,7 @@ fn goes_on<W: Wait, L: Links, C: Clock, G: Gate, R: Rest>(
     requires ready { PorterReady seat.old.me }
     ensures own { (seat.new.table_id ≡ seat.old.table_id) × (seat.new.id ≡ seat.old.id) }
     ensures tells { L.tells links.new ≡ L.tells links.old }
-    ensures done { PorterDone result (L.tells links.old) (tally (L.told links.old) (L.listening links.old)) (tally (L.told links.new) (L.listening links.new)) seat.old.me seat.new.me }
+    ensures done { PorterDone result (L.tells links.old) (account (L.told links.old) (L.listening links.old) (C.answers clock.old)) (account (L.told links.new) (L.listening links.new) (C.answers clock.new)) seat.old.me seat.new.me }
 {
     let mut peers = Vec::new(alloc);
     let mut coming = None;
@@ -185,7 +185,7 @@ fn gives_up<W: Wait, L: Links, C: Clock, R: Rest>(
     requires own { seat.old.table_id ≡ turn.now.table.shared.table_id }
     requires ready { PorterReady seat.old.me }
     ensures own { (seat.new.table_id ≡ seat.old.table_id) × (seat.new.id ≡ seat.old.id) }
-    ensures done { PorterDone result (L.tells links.now) (tally (L.told links.now) (L.listening links.now)) (tally (L.told links.now) (L.listening links.now)) seat.old.me seat.new.me }
+    ensures done { PorterDone result (L.tells links.now) (account (L.told links.now) (L.listening links.now) (C.answers clock.old)) (account (L.told links.now) (L.listening links.now) (C.answers clock.new)) seat.old.me seat.new.me }
 {
     let mut noted = false;
     let peers = Vec::new(alloc);
@@ -211,7 +211,7 @@ pub fn porter<W: Wait, L: Links, C: Clock, G: Gate, R: Rest>(
     requires ready { PorterReady seat.old.me }
     ensures own { (seat.new.table_id ≡ seat.old.table_id) × (seat.new.id ≡ seat.old.id) }
     ensures tells { L.tells links.new ≡ L.tells links.old }
-    ensures done { PorterDone result (L.tells links.old) (tally (L.told links.old) (L.listening links.old)) (tally (L.told links.new) (L.listening links.new)) seat.old.me seat.new.me }
+    ensures done { PorterDone result (L.tells links.old) (account (L.told links.old) (L.listening links.old) (C.answers clock.old)) (account (L.told links.new) (L.listening links.new) (C.answers clock.new)) seat.old.me seat.new.me }
 {
     match room(alloc) {
         Ok(bytes) => {

@@ -43,6 +43,7 @@ use Rattle.muck_dumper.specs.declared.dumping.Why.TheVariants as dumper
 use Rattle.muck_worker.specs.Working.{WorkerDone}
 use Rattle.muck_worker.specs.declared.working.Why.TheVariants as worker
 use Rattle.muck_porter.specs.Notes.{note_in}
+use Rattle.muck_porter.specs.Kept.{Account}
 use Rattle.muck_porter.specs.Porter.{PorterDone, HasStopped as PorterStopped}
 use Rattle.muck_porter.specs.declared.porting.Why.{Why as PorterWhy}
 use Rattle.muck_porter.specs.declared.porting.Why.TheVariants as porter
@@ -87,7 +88,7 @@ spent_of h seen front most =
     count [] = refl
     count (l ∷ ls) = ap suc (count ls)
 
-module _ {D : Type 0} (tells : Bool) (seen : D → List ℕ) (moment : D → ℕ) (images : D → ℕ → List ℕ → Type 0) (faults : D → ℕ) (shows : Bool) (b k : Tally) (workers : ℕ) (way : Way) (pw : PorterWhy) (dw : DumperWhy)
+module _ {D : Type 0} (tells : Bool) (seen : D → List ℕ) (moment : D → ℕ) (images : D → ℕ → List ℕ → Type 0) (faults : D → ℕ) (shows : Bool) (b k : Account) (workers : ℕ) (way : Way) (pw : PorterWhy) (dw : DumperWhy)
     (log log' : Option LogState) (f s f' s' : D) (world h : History) (m : Note) (fresh : IsFresh m world) (few : workers < 9)
     (parts parts' : List Part) (table : TableId) (v0 s2 sp o o' e : Chair) (begins : Begins v0 world)
     (e2 : s2 ≡ (left_after 9 (given_to workers v0.0), v0.1)) (eo : o ≡ (newcomer 9 (given_to workers v0.0), [])) (dealt : AreDealt table workers v0.0 parts)
@@ -261,26 +262,26 @@ module _ {D : Type 0} (tells : Bool) (seen : D → List ℕ) (moment : D → ℕ
 
   -- What the links carried.
 
-  promise : shows ≡ true → PromisedOf (note_in sp.0.own) b h.start h.entries k
+  promise : shows ≡ true → PromisedOf (note_in sp.0.own) b.links h.start h.entries k.links
   promise x =
       let kept = pd.kept x in
       let whole : StartsWith (logged h) kept.front = (let a = seen0 in let c = kept.seen in (c.0 ++ a.0, a.1 ∙ ap (λ (ls : List Logged). ls ++ a.0) c.1 ∙ append_assoc kept.front c.0 a.0)) in
-      promised_whole (note_in sp.0.own) b h.start (entries_of kept.front) h.entries k lawful
+      promised_whole (note_in sp.0.own) b.links h.start (entries_of kept.front) h.entries k.links lawful
       (entries_of whole.0, sym (entries_logged h) ∙ ap entries_of whole.1 ∙ entries_append kept.front whole.0)
       (ap (own_of party_of 0) (sym (entries_logged h)) ∙ own_entries_of 0 (logged h) ∙ ap entries_of (sym own0 ∙ kept.own) ∙ sym (own_entries_of 0 kept.front))
-      (kept.promised h.start m root9)
+      (kept.promised h.start m root9).links
 
-  off : shows ≡ true → HasStopped way → LeavesWorkedOff (note_in sp.0.own) h.start h.entries k
+  off : shows ≡ true → HasStopped way → LeavesWorkedOff (note_in sp.0.own) h.start h.entries k.links
   off x stop =
       let q = pd.stopped (all_stopped stop).porter_too x in
       let seen_is : entries_of sp.0.seen ≡ entries_of q.before ++ by_porter StopSeen ∷ [] = ap entries_of q.seen ∙ entries_append q.before (q.last ∷ []) ∙ ap (λ (y : Entry). entries_of q.before ++ y ∷ []) q.entry in (
         entries_of q.before,
         entries_of seen0.0,
         sym (entries_logged h) ∙ ap entries_of seen0.1 ∙ entries_append sp.0.seen seen0.0 ∙ ap (λ (es : List Entry). es ++ entries_of seen0.0) seen_is ∙ append_assoc (entries_of q.before) (by_porter StopSeen ∷ []) (entries_of seen0.0),
-        subst (λ (es : List Entry). OpenWorkedOff (note_in sp.0.own) (after h.start (entries_of q.before)) (talks h.start es) k) seen_is (q.worked h.start m root9),
+        subst (λ (es : List Entry). OpenWorkedOff (note_in sp.0.own) (after h.start (entries_of q.before)) (talks h.start es) k.links) seen_is (q.worked h.start m root9),
       )
 
-  pub has_run : HasRun tells seen moment images faults shows b k workers way log log' f s f' s' world h
+  pub has_run : HasRun tells seen moment images faults shows b.links k.links workers way log log' f s f' s' world h
   has_run = record {
     start = start0;
     since = notes_of (logged h);

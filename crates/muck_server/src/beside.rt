@@ -1,7 +1,7 @@
 // The parts of a server beside each other.
 ghost use Rattle.std.specs.Prelude.{◌≡◌, All, true};
 ghost use Rattle.muck_dumper.specs.Dumping.{DumperDone};
-ghost use Rattle.muck_porter.specs.Kept.{tally};
+ghost use Rattle.muck_porter.specs.Kept.{account};
 ghost use Rattle.muck_porter.specs.Porter.{PorterReady, PorterDone};
 ghost use Rattle.muck_server.specs.inner.Parts.{IsAble, IsReady, IsDone, AreDone};
 
@@ -120,7 +120,7 @@ pub fn all_beside<
     requires workers { All (λ p. IsReady turn.now.table.shared.table_id p) parts.old.all.items }
     ensures own { (seat.new.table_id ≡ seat.old.table_id) × (seat.new.id ≡ seat.old.id) × (other.new.table_id ≡ other.old.table_id) }
     ensures tells { L.tells links.new ≡ L.tells links.old }
-    ensures porter { PorterDone result.0 (L.tells links.old) (tally (L.told links.old) (L.listening links.old)) (tally (L.told links.new) (L.listening links.new)) seat.old.me seat.new.me }
+    ensures porter { PorterDone result.0 (L.tells links.old) (account (L.told links.old) (L.listening links.old) (C.answers clock.old)) (account (L.told links.new) (L.listening links.new) (C.answers clock.new)) seat.old.me seat.new.me }
     ensures dumper { DumperDone D.tells D.seen D.moment D.images D.faults result.1 store.old.log store.new.log first.old second.old first.new second.new other.old.me other.new.me }
     ensures workers { AreDone parts.old.all.items parts.new.all.items }
 {
@@ -128,7 +128,7 @@ pub fn all_beside<
         rt,
         &mut ||
             requires { (seat.now.table_id ≡ turn.now.table.shared.table_id) × PorterReady seat.now.me }
-            ensures { (seat.exit.now.table_id ≡ seat.entry.now.table_id) × (seat.exit.now.id ≡ seat.entry.now.id) × (L.tells links.exit.now ≡ L.tells links.entry.now) × PorterDone result (L.tells links.entry.now) (tally (L.told links.entry.now) (L.listening links.entry.now)) (tally (L.told links.exit.now) (L.listening links.exit.now)) seat.entry.now.me seat.exit.now.me }
+            ensures { (seat.exit.now.table_id ≡ seat.entry.now.table_id) × (seat.exit.now.id ≡ seat.entry.now.id) × (L.tells links.exit.now ≡ L.tells links.entry.now) × PorterDone result (L.tells links.entry.now) (account (L.told links.entry.now) (L.listening links.entry.now) (C.answers clock.entry.now)) (account (L.told links.exit.now) (L.listening links.exit.now) (C.answers clock.exit.now)) seat.entry.now.me seat.exit.now.me }
         { porter(rt, alloc, turn, seat, links, clock, gate, rest) },
         &mut ||
             requires { (other.now.table_id ≡ turn.now.table.shared.table_id) × IsAble D.tells D.seen D.moment D.images D.faults store.now.log first.now second.now other.now.me × All (λ p. IsReady turn.now.table.shared.table_id p) parts.now.all.items }

@@ -24,7 +24,7 @@ pub returns-in-Ok-clause-ok : goal.returns-in-Ok-clause-ok
 returns-in-Ok-clause-ok g c =
     let s = c.works-worked.ensures in
     let t = turn_made c.args.noted.now c.begins.new.noted (g.L.Links.told c.args.links.now) c.args.seat.now.me c.begins.new.seat.me c.in-Ok.held.state c.works-worked.new.world s.0 c.requires.ready c.in-Ok.ensures.ok (worked_quiet _ s.0 s.2) s.1
-    c.give.new.seat.me c.give.ensures.own.2 c.give.ensures.idle c.give.ensures.seen c.give.ensures.same c.give.ensures.mine in
+    _ _ s.3 c.give.new.seat.me c.give.ensures.own.2 c.give.ensures.idle c.give.ensures.seen c.give.ensures.same c.give.ensures.mine in
     (t.0, (now c.in-Ok.held.state, s.0, t.1, s.2))
 
 pub returns-in-Err-clause-lists : goal.returns-in-Err-clause-lists

@@ -12,7 +12,7 @@ returns-in-NoMemory-clause-done g c =
     record {
       lists = s.lists;
       over = s.over;
-      kept = λ t. kept_fresh _ c.args.seat.now.me c.dies.new.seat.me.0 c.requires.ready (s.last _);
+      kept = λ t. kept_fresh _ _ c.args.seat.now.me c.dies.new.seat.me.0 c.requires.ready (s.last _);
       last = λ h. absurd (not_stopped NoMemory refl h);
       stopped = λ h t. absurd (not_stopped NoMemory refl h);
       fault = λ f. cc;
@@ -26,7 +26,7 @@ returns-clause-done g c =
     record {
       lists = s.lists;
       over = s.over;
-      kept = λ t. kept_fresh _ c.args.seat.now.me c.dies.new.seat.me.0 c.requires.ready (s.last _);
+      kept = λ t. kept_fresh _ _ c.args.seat.now.me c.dies.new.seat.me.0 c.requires.ready (s.last _);
       last = λ h. absurd (not_stopped Spent refl h);
       stopped = λ h t. absurd (not_stopped Spent refl h);
       fault = λ f. cc;

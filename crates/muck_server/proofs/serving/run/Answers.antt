@@ -3,6 +3,7 @@ use Rattle.turn_lock.specs.Histories.{Has}
 use Rattle.turn_lock.specs.inner.Turns.{left_after, newcomer, taken_in}
 use Rattle.spec_events.specs.Histories.{History}
 use Rattle.muck_machine.specs.Seats.{Sight, Chair}
+use Rattle.muck_porter.specs.Kept.{account}
 use Rattle.muck_server.specs.declared.seats.Part.{Part}
 use Rattle.muck_server.specs.inner.Parts.{given_to, all_in}
 use Rattle.muck_server.specs.inner.Runs.{IsEndOf}
@@ -89,7 +90,8 @@ returns-clause-ran g c =
       known = c.close-world.ensures.known;
       allowed = c.close-world.ensures.allowed;
     } in
-    has_run g.D.Disk.tells g.D.Disk.seen g.D.Disk.moment g.D.Disk.images g.D.Disk.faults (g.L.Links.tells c.args.links.now) _ _
+    has_run g.D.Disk.tells g.D.Disk.seen g.D.Disk.moment g.D.Disk.images g.D.Disk.faults (g.L.Links.tells c.args.links.now)
+    (account (g.L.Links.told c.args.links.now) (g.L.Links.listening c.args.links.now) (g.C.Clock.answers c.args.clock.now)) (account (g.L.Links.told c.all_beside-porter.new.links) (g.L.Links.listening c.all_beside-porter.new.links) (g.C.Clock.answers c.all_beside-porter.new.clock))
     c.args.workers c.way_of-ended.result c.all_beside-porter.result.0 c.all_beside-porter.result.1
     c.args.store.now.log c.all_beside-porter.new.store.log c.args.first.now c.args.second.now c.all_beside-porter.new.first c.all_beside-porter.new.second c.args.world c.close-world.result
     c.requires.fresh.0 c.requires.fresh.1 c.requires.few c.deal.new.parts.all.items c.all_beside-porter.new.parts.all.items c.in_ok-turn.seat.table_id
