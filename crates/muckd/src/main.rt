@@ -1,4 +1,5 @@
 //! A text-world server: `muckd run STORE` reads a script, runs it on the world of the store, and writes its transcript.
+//! `muckd serve STORE PORT WORKERS` serves that world to all who come, until it is stopped.
 //! `muckd drill N` runs a fixed script on the starting world, and writes how many objects, lines and bytes came of it.
 #![tactic(auto)]
 
@@ -12,10 +13,11 @@ mod top;
 mod why;
 
 use muck_disk::FileDisk;
-use muck_io::{ReaderSource, WriterSink};
+use muck_io::{OpenGate, ReaderSource, SystemClock, WriterSink, YieldRest};
+use muck_links::MioLinks;
 use std::process::ExitCode;
 use std::{env, io};
-use top::by_script;
+use top::muckd;
 use why::Why;
 
 // The words behind the program's name.
@@ -44,13 +46,20 @@ fn main(rt: HostRuntime) -> io::Result<ExitCode> {
     let mut out = WriterSink::new(io::writer(&rt));
     let mut first = FileDisk::new(rt);
     let mut second = FileDisk::new(rt);
-    let done = by_script(
+    let mut links = MioLinks::new(rt.alloc(), rt);
+    let mut clock = SystemClock::new(rt);
+    let done = muckd(
+        &rt,
         rt.alloc(),
         &words,
         &mut script,
         &mut out,
+        &mut links,
+        &mut clock,
         &mut first,
         &mut second,
+        &OpenGate,
+        &YieldRest,
     );
     tell(rt, done.why)
 }

@@ -12,7 +12,8 @@ ghost use Rattle.muckd.specs.inner.Dumps.{note_of, DumpsLast, IsNotedOn};
 ghost use Rattle.muckd.specs.inner.Ends.{refusal_of, why_of, MayNotOpen, IsMountWhy, MayRefuse, MayEnd, MayEndDump, IsScriptWhy, IsBootable, booted_at, unbegun_at, begun_at, EndsPlay, ComesOutAs, LastKept, HasPlayed, NeverPlayed};
 ghost use Rattle.muckd.specs.inner.Plays.{PlaysOrBreaks};
 ghost use Rattle.muck_script.specs.Story.{dumping};
-ghost use Rattle.muckd.specs.Words.{run, drill, command_of, seen_command, is_scripted};
+ghost use Rattle.muckd.specs.Serving.{why_served, IsUnserved, HasServed, ServesAs};
+ghost use Rattle.muckd.specs.Words.{run, drill, serve, command_of, seen_command, is_scripted};
 ghost use Rattle.std.specs.Option.{option_map};
 ghost use Rattle.muckd.specs.Drill.{HasDrilled};
 ghost use Rattle.muckd.specs.Outcome.{status_of, halted, HasRead, HasBegun, EndsAs, IsUnbegun, IsUntouched, IsFirstOutside, IsInGrammar};
@@ -24,12 +25,16 @@ use crate::playing::{RunFault, buffer, play};
 use crate::why::Why;
 use muck_db::{Db, Persisted};
 use muck_disk::{Disk, DiskFault};
-use muck_io::{ReadFault, Sink, Source, read_all};
+use muck_io::{Clock, Gate, ReadFault, Rest, Sink, Source, read_all};
+use muck_links::Links;
 use muck_log::{Kept, Log, LogFault};
 use muck_machine::World;
 use muck_model::{NoMemory, Tale};
+use muck_server::{Why as Ended, serve};
 use muck_script::{Act, SCRIPT_MOST, Script, ScriptFault, read};
 use std::alloc::{AllocError, Global};
+use std::sync::Wait;
+use std::thread::Threads;
 
 /// How a call of [`by_script`] ended: the exit status with its cause, and what happened in the world, in order.
 #[derive(Drop)]
@@ -101,6 +106,125 @@ pub fn by_script<S: Source, K: Sink, D: Disk>(
         why,
         tale,
     }
+}
+
+/// Does all that the program does. The words of a script do what [`by_script`] says. The words `serve STORE PORT WORKERS` open and mount the store,
+/// listen on the port, and serve the world to all who come, by a porter, so many workers and a dumper beside each other, until it is
+/// stopped; then the world is dumped. PORT is 1 to 65535 and WORKERS 1 to 8, in decimal without sign or leading zeros.
+pub fn muckd<
+    T: Threads + Wait + Sync,
+    S: Source,
+    K: Sink,
+    L: Links + Send,
+    C: Clock + Send,
+    D: Disk + Send,
+    G: Gate + Sync,
+    R: Rest + Sync,
+>(
+    rt: &T,
+    alloc: Global,
+    words: &[String],
+    script: &mut S,
+    out: &mut K,
+    links: &mut L,
+    clock: &mut C,
+    first: &mut D,
+    second: &mut D,
+    gate: &G,
+    rest: &R,
+) -> Done
+    ensures status { result.status ≡ status_of result.why }
+
+    // Exactly where the words are no command; then nothing was read or written, and nothing was touched.
+    ensures usage { (result.why ≡ Why.Usage) ↔ (command_of (map string_bytes words.now) ≡ None) }
+
+    // What a script does, and a drill.
+    ensures run { (store : List ℕ) → command_of (map string_bytes words.now) ≡ Some (run store) → EndsAs result.why (IsUnbegun D.tells D.seen D.moment D.images out.old out.new first.old second.old first.new second.new result.tale.entries) (HasBegun S.left S.faults K.written K.faults D.tells D.attached D.seen D.moment D.images store result.why script.old script.new out.old out.new first.old second.old first.new second.new result.tale.entries result.tale.notes) }
+    ensures drill { (n : ℕ) → command_of (map string_bytes words.now) ≡ Some (drill n) → HasDrilled K.written K.faults n result.why out.old out.new result.tale.entries × (script.new ≡ script.old) × (first.new ≡ first.old) × (second.new ≡ second.old) }
+
+    // They touch neither links nor clock, and a server neither source nor sink.
+    ensures apart { is_scripted (command_of (map string_bytes words.now)) ≡ true → (links.new ≡ links.old) × (clock.new ≡ clock.old) }
+
+    // With the words of `serve`, either nothing happened, and nothing was written to a file; or one history happened, from the world that the
+    // two files held, to which all parties added. The answer says which of the two, but for want of memory and faults of the store.
+    ensures serve { (store : List ℕ) (port workers : ℕ) → command_of (map string_bytes words.now) ≡ Some (serve store port workers)
+        → ServesAs result.why (IsUnserved (L.tells links.old) L.told D.tells D.seen D.moment D.images links.old links.new first.old second.old first.new second.new result.tale.entries) (HasServed (L.tells links.old) L.told L.listening C.answers D.tells D.attached D.seen D.moment D.images store workers result.why links.old links.new clock.old first.old second.old first.new second.new result.tale.entries result.tale.notes)
+        × (script.new ≡ script.old) × (out.new ≡ out.old) }
+
+    // A fault is answered only where that count rose in this call.
+    ensures disk_fault { result.why ≡ Why.DiskFault → Rose (D.faults first.old) (D.faults first.new) ⊎ Rose (D.faults second.old) (D.faults second.new) }
+{
+    match command_of(words) {
+        Some(Command::Serve {
+            store,
+            port,
+            workers,
+        }) => {
+            let (why, tale) = serve_store(
+                rt, alloc, store, port, workers, links, clock, first, second, gate, rest,
+            );
+            Done {
+                status: why.status(),
+                why,
+                tale,
+            }
+        }
+        _ => by_script(alloc, words, script, out, first, second),
+    }
+}
+
+// Why a server ended, as the call answers it.
+fn why_served(why: Ended) -> Why
+    ensures { result ≡ why_served why }
+{
+    match why {
+        Ended::Fine => Why::Fine,
+        Ended::NoMemory => Why::NoMemory,
+        Ended::DiskFault => Why::DiskFault,
+        Ended::Damaged { second, at } => Why::Damaged { second, at },
+        Ended::ListenFault => Why::ListenFault,
+        Ended::StoreFull { end, more } => Why::StoreFull { end, more },
+        Ended::Spent { turns } => Why::Spent { turns },
+    }
+}
+
+// Mounts the store, and serves its world from the clock's second on.
+fn serve_store<
+    T: Threads + Wait + Sync,
+    L: Links + Send,
+    C: Clock + Send,
+    D: Disk + Send,
+    G: Gate + Sync,
+    R: Rest + Sync,
+>(
+    rt: &T,
+    alloc: Global,
+    name: &str,
+    port: u16,
+    workers: u8,
+    links: &mut L,
+    clock: &mut C,
+    first: &mut D,
+    second: &mut D,
+    gate: &G,
+    rest: &R,
+) -> (Why, Tale)
+    requires { workers ≤ 8 }
+    ensures served { ServesAs result.0 (IsUnserved (L.tells links.old) L.told D.tells D.seen D.moment D.images links.old links.new first.old second.old first.new second.new result.1.entries) (HasServed (L.tells links.old) L.told L.listening C.answers D.tells D.attached D.seen D.moment D.images name.now workers result.0 links.old links.new clock.old first.old second.old first.new second.new result.1.entries result.1.notes) }
+    ensures disk_fault { result.0 ≡ Why.DiskFault → Rose (D.faults first.old) (D.faults first.new) ⊎ Rose (D.faults second.old) (D.faults second.new) }
+{
+    let log = match mount(alloc, name, first, second) {
+        Ok(log) => log,
+        Err(why) => return (why, Tale::none()),
+    };
+    let began = clock.now();
+    let Ok(world) = awake(alloc, &log, first, second, began) else {
+        return (Why::NoMemory, Tale::none());
+    };
+    let (why, tale) = serve(
+        rt, alloc, world, log, links, clock, first, second, gate, rest, workers, port,
+    );
+    (why_served(why), tale)
 }
 
 // What a command of a script does, and why it ends.
