@@ -35,7 +35,7 @@ closed_noted : (cs : List Count) (o : Option World) (t : Talk) (s : Session) →
 closed_noted cs None t s h = tt
 closed_noted cs (Some w) t s h = cause_noted cs w t s h
 
-agrees_noted : (cs : List Count) (t : Talk) (s : Session) → Agrees None t s → Agrees (Some cs) t s
+pub agrees_noted : (cs : List Count) (t : Talk) (s : Session) → Agrees None t s → Agrees (Some cs) t s
 agrees_noted cs t s a = record { number = a.number; lines = a.lines; bytes = a.bytes; lack = a.lack; closing = closed_noted cs t.closed t s a.closing }
 
 -- an open link's count is noted, and it has refused no write since

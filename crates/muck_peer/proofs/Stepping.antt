@@ -1,0 +1,128 @@
+-- The steps of one link.
+use Rattle.std.proofs.Common.{◌≡◌, ℕ, ◌≤◌, Bool, true, false, List, [], ◌∷◌, take, drop, length, refl, sym, ap, ◌∙◌, subst, arith}
+use Rattle.std.specs.Prelude.{nat_lt, min, ◌<◌, if◌then◌else◌, not, ◌&&◌, is_some, Result, Ok, Err, OnErr}
+use Rattle.std.proofs.lemmas.Bool.{ltb-true, ltb-false, lt-ltb}
+use Rattle.std.proofs.lemmas.List.{length-drop, length-take, length-take-le}
+use Rattle.muck_links.specs.inner.Cutting.{Cut, Rest, fed}
+use Rattle.muck_links.specs.Sessions.{Session, Told, on_session, with_read, with_end, with_fault, with_written, with_refusal}
+use Rattle.muck_model.specs.declared.event.Event.TheVariants.{Input, Take}
+use Rattle.spec_live.specs.Connections.{is_ready}
+use Rattle.spec_events.specs.World.{World, queue_of}
+use Rattle.spec_events.specs.Steps.{passes}
+use Rattle.spec_serve.specs.Marks.{LinksNote}
+use Rattle.spec_serve.specs.inner.Keeping.{Peer, Keeps}
+use Rattle.spec_serve.proofs.Accounting.{keeps_read, keeps_end, keeps_fault, keeps_written, keeps_refusal, agrees_read}
+use Rattle.spec_serve.proofs.Causes.{worked_done}
+use Rattle.muck_peer.specs.Moves.{LinkStep, LinkLoss, PeerStep, IsWorkedOff}
+
+-- Calls of the links.
+
+pub link_same : (counted : LinksNote) (p : Peer) (k k' : Told) → k' ≡ on_session p.number (λ s. s) k → LinkStep counted p p k k'
+link_same counted p k k' is = record { change = λ s. s; told = is; link = λ s. refl; number = refl; keeps = λ t s h. h }
+
+pub link_read : (counted : LinksNote) (v p p' : Peer) (k k' : Told) (bytes : List ℕ) (c : Cut) → v ≡ p → k' ≡ on_session v.number (with_read bytes) k → c ≡ fed v.cut bytes → p' ≡ record v { cut = c }
+    → LinkStep counted p p' k k'
+link_read counted v p p' k k' bytes c view is cut same = subst (λ (q : Peer). LinkStep counted q p' k k') view (subst (λ (q : Peer). LinkStep counted v q k k') (sym same)
+    (record { change = with_read bytes; told = is; link = λ s. refl; number = refl; keeps = λ t s h. keeps_read counted v t s bytes c cut h }))
+
+pub link_end : (counted : LinksNote) (v p p' : Peer) (k k' : Told) → v ≡ p → k' ≡ on_session v.number with_end k → p' ≡ record v { ended = true } → LinkStep counted p p' k k'
+link_end counted v p p' k k' view is same = subst (λ (q : Peer). LinkStep counted q p' k k') view (subst (λ (q : Peer). LinkStep counted v q k k') (sym same)
+    (record { change = with_end; told = is; link = λ s. refl; number = refl; keeps = λ t s h. keeps_end counted v t s h }))
+
+pub link_fault : (counted : LinksNote) (v p p' : Peer) (k k' : Told) → v ≡ p → k' ≡ on_session v.number with_fault k → p' ≡ record v { faulted = true } → LinkStep counted p p' k k'
+link_fault counted v p p' k k' view is same = subst (λ (q : Peer). LinkStep counted q p' k k') view (subst (λ (q : Peer). LinkStep counted v q k k') (sym same)
+    (record { change = with_fault; told = is; link = λ s. refl; number = refl; keeps = λ t s h. keeps_fault counted v t s h }))
+
+pub link_written : (counted : LinksNote) (v p p' : Peer) (k k' : Told) (n : ℕ) → v ≡ p → k' ≡ on_session v.number (with_written (take n v.unsent)) k → p' ≡ record v { unsent = drop n v.unsent }
+    → LinkStep counted p p' k k'
+link_written counted v p p' k k' n view is same = subst (λ (q : Peer). LinkStep counted q p' k k') view (subst (λ (q : Peer). LinkStep counted v q k k') (sym same)
+    (record { change = with_written (take n v.unsent); told = is; link = λ s. refl; number = refl; keeps = λ t s h. keeps_written counted v t s n h }))
+
+pub link_refused : (counted : LinksNote) (noted : Bool) (v p p' : Peer) (k k' : Told) → is_some counted ≡ noted → v ≡ p → k' ≡ on_session v.number with_refusal k
+    → p' ≡ record v { refused = v.ended; stalled = noted } → LinkStep counted p p' k k'
+link_refused counted noted v p p' k k' marks view is same =
+    subst (λ (q : Peer). LinkStep counted q p' k k') view (subst (λ (q : Peer). LinkStep counted v q k k') (sym (same ∙ ap (λ (b : Bool). let q : Peer = record v { refused = v.ended; stalled = b } in q) (sym marks)))
+    (record { change = with_refusal; told = is; link = λ s. refl; number = refl; keeps = λ t s h. keeps_refusal counted v t s h }))
+
+pub link_lost : (counted : LinksNote) (v p : Peer) (k k' : Told) (bytes : List ℕ) → v ≡ p → k' ≡ on_session v.number (with_read bytes) k → LinkLoss counted p k k'
+link_lost counted v p k k' bytes view is = subst (λ (q : Peer). LinkLoss counted q k k') view (record { change = with_read bytes; told = is; agrees = λ t s h. agrees_read counted v t s bytes h })
+
+-- Bytes that are kept.
+
+pub some_unsent : (at len : ℕ) (b : List ℕ) → nat_lt at len ≡ true → len ≤ length b → drop at (take len b) ≡ [] → ⊥
+some_unsent at len b t le e =
+    let lt = ltb-true at len t in
+    let n = length-drop at (take len b) in
+    let m = length-take-le len b le in
+    let z = ap length e in
+    absurd (omega arith)
+
+pub none_unsent : (at len : ℕ) (b : List ℕ) → (drop at (take len b) ≡ [] → ⊥) → nat_lt at len ≡ true
+none_unsent at len b some = from (nat_lt at len) refl
+  where
+    from : (t : Bool) → nat_lt at len ≡ t → nat_lt at len ≡ true
+    from true e = e
+    from false e =
+        let le = ltb-false at len e in
+        let n = length-drop at (take len b) in
+        let m = length-take len b in
+        absurd (some (nothing (drop at (take len b)) (omega arith)))
+      where
+        nothing : (xs : List ℕ) → length xs ≤ 0 → xs ≡ []
+        nothing [] h = refl
+        nothing (x ∷ xs) h = absurd (omega arith)
+
+-- Entries.
+
+pub step_taken : (v p p' : Peer) (w : World) (n : ℕ) → v ≡ p → p.unsent ≡ [] → p' ≡ record v { unsent = take n (queue_of v.number w) } → PeerStep p p' w (Take v.number n)
+step_taken v p p' w n view none_kept same =
+    subst (λ (q : Peer). PeerStep q p' w (Take v.number n)) view (PeerStep.taken n refl (ap (λ (q : Peer). q.unsent) view ∙ none_kept) same)
+
+pub step_heard : (v p p' : Peer) (w : World) (line : List ℕ) (c : Cut) → v ≡ p → v.cut.ready ≡ line ∷ c.ready → c.rest ≡ v.cut.rest → p' ≡ record v { cut = c } → PeerStep p p' w (Input v.number line)
+step_heard v p p' w line c view ready rest same =
+    subst (λ (q : Peer). PeerStep q p' w (Input v.number line)) view
+    (PeerStep.heard line c.ready refl ready (same ∙ ap (λ (r : Rest). let q : Peer = record v { cut = record { ready = c.ready; rest = r } } in q) rest))
+
+-- Tests.
+
+pub stable : {A : Type 0} (xs : List A) → ((xs ≡ [] → ⊥) → ⊥) → xs ≡ []
+stable [] h = refl
+stable (x ∷ xs) h = absurd (h (λ e. cc))
+
+pub was_false : (b : Bool) → b ≡ false → b ≡ true → ⊥
+was_false b e t = both b e t
+  where
+    both : (x : Bool) → x ≡ false → x ≡ true → ⊥
+    both x p q = cc
+
+pub on_err : {A E : Type 0} (r : Result A E) (P : Type 0) → P → OnErr r P
+on_err (Ok x) P h = tt
+on_err (Err e) P h = h
+
+-- What is worked off.
+
+pub off_stopping : (p : Peer) (w : World) → w.stopping ≡ true → length (queue_of p.number w) ≤ 0 → p.unsent ≡ [] → IsWorkedOff p w
+off_stopping p w stopping queue none_kept counted = worked_done counted p w (from (passes is_ready p.number w) w.stopping stopping) queue none_kept
+  where
+    from : (a b : Bool) → b ≡ true → (a && not b) ≡ false
+    from true b e = ap not e
+    from false b e = refl
+
+pub off_idle : (p : Peer) (w : World) → passes is_ready p.number w ≡ false → length (queue_of p.number w) ≤ 0 → p.unsent ≡ [] → IsWorkedOff p w
+off_idle p w idle queue none_kept counted = worked_done counted p w (ap (λ (b : Bool). b && not w.stopping) idle) queue none_kept
+
+pub was_not : (b : Bool) → not b ≡ true → b ≡ false
+was_not true e = absurd cc
+was_not false e = refl
+
+-- bytes were taken where some waited and there was room
+pub took_count : (dead : Bool) (n a b : ℕ) → dead ≡ false → n ≡ (if dead then 0 else min a b) → 0 < a → 0 < b → 0 < n
+took_count true n a b alive is some room = absurd cc
+took_count false n a b alive is some room = omega arith
+
+pub took_some : {A : Type 0} (n : ℕ) (old new : A) → 0 < n → (if nat_lt 0 n then new else old) ≡ new
+took_some n old new some = ap (λ (b : Bool). if b then new else old) (lt-ltb 0 n some)
+
+-- what was done, as it is answered
+pub did_so : {A : Type 0} (answer : Bool) (old new : A) → answer ≡ true → (if answer then new else old) ≡ new
+did_so answer old new is = ap (λ (b : Bool). if b then new else old) is

@@ -1,0 +1,22 @@
+use Rattle.std.proofs.Common.{ap, sym, ◌∙◌, refl}
+use Rattle.muck_model.specs.declared.event.Event.TheVariants.{Moment}
+use Rattle.spec_events.specs.Histories.{now}
+use Rattle.spec_serve.specs.inner.Keeping.{Peer}
+use Rattle.muck_peer.specs.Moves.{PeerStep}
+use Rattle.muck_peer.proofs.Stepping.{stable, was_false}
+use Rattle.muck_peer.proofs.peer.Peer.chooses.Goals as goal
+
+pub takes-requires-clause-none : goal.takes-requires-clause-none
+takes-requires-clause-none g c = stable _ (λ some. was_false c.has_unsent.result c.if-not-has_unsent.true (c.has_unsent.ensures.1 some))
+
+pub returns : goal.returns
+returns g c = let t = c.tells_time.ensures in (Moment t.0, t.1, PeerStep.timed t.0 refl refl, t.2)
+
+pub returns-then-may_close-2 : goal.returns-then-may_close-2
+returns-then-may_close-2 g c = let e = c.closes.ensures in (e.0, e.1, e.2, e.3 (now c.args.world.now) (g.C.Clock.answers c.args.clock.now))
+
+pub returns-then-queued-gt0 : goal.returns-then-queued-gt0
+returns-then-queued-gt0 g c = let e = c.takes.ensures in (e.0, e.1, e.2, e.3 (now c.args.world.now) (g.C.Clock.answers c.args.clock.now))
+
+pub returns-then-may_hear : goal.returns-then-may_hear
+returns-then-may_hear g c = let e = c.enters.ensures in (e.0, e.1, e.2, e.3 (now c.args.world.now) (g.C.Clock.answers c.args.clock.now))

@@ -1,0 +1,167 @@
+// What is kept of a link, and its calls.
+ghost use Rattle.std.specs.Prelude.{◌≡◌, ◌≢◌, ◌≤◌, ◌<◌, ◌↔◌, [], ℕ, IsTrue, IfOk, OnOk, OnErr, length, true, is_some};
+ghost use Rattle.spec_serve.specs.Marks.{LinksNote};
+ghost use Rattle.spec_serve.specs.inner.Keeping.{new_peer};
+ghost use Rattle.muck_peer.specs.Moves.{LinkStep, LinkLoss};
+
+use muck_links::{LineCutter, LinkRead, LinkWrite, Links};
+use muck_model::NoMemory;
+use std::alloc::Global;
+use std::marker::Model;
+
+/// As many bytes as a connection's queue has at most: so what was taken at once goes out in one write.
+const ROOM: usize = 131_090;
+
+/// A link that is open: its cutter, the bytes that were taken and not written yet, and what it answered.
+#[derive(Drop)]
+pub struct Peer {
+    pub(crate) number: u32,
+    pub(crate) cutter: LineCutter,
+    pub(crate) buffer: Vec<u8>,
+    pub(crate) at: usize,
+    pub(crate) len: usize,
+    // Whether a read answered the end.
+    pub(crate) ended: bool,
+    // Whether a read or a write failed.
+    pub(crate) faulted: bool,
+    // Whether a write was refused after the end.
+    pub(crate) refused: bool,
+    // Whether a write was refused after the note of the links.
+    pub(crate) stalled: bool,
+}
+
+impl Model for Peer {
+    ghost use Rattle.std.specs.Prelude.{◌≤◌, ◌<◌, drop, take, length};
+    ghost use Rattle.spec_serve.specs.inner.Keeping.{Peer as Link};
+
+    ghost Value = { Link };
+
+    ghost view = { λ p. record { number = p.number; cut = p.cutter; unsent = drop p.at (take p.len p.buffer.items); ended = p.ended; faulted = p.faulted; refused = p.refused; stalled = p.stalled } };
+
+    ghost invariant = { λ p. (p.at ≤ p.len) × (p.len ≤ length p.buffer.items) × (0 < length p.buffer.items) };
+}
+
+fn room(alloc: Global) -> Result<Vec<u8>, NoMemory>
+    ensures { IfOk result (λ v. 0 < length v.items) }
+{
+    let v = vec![in alloc; 0u8; ROOM]?;
+    Ok(v)
+}
+
+impl Peer {
+    /// A link that came, from which nothing was read.
+    pub fn new(alloc: Global, number: u32) -> Result<Peer, NoMemory>
+        ensures { IfOk result (λ p. p ≡ new_peer number) }
+    {
+        let buffer = room(alloc)?;
+        Ok(Peer {
+            number,
+            cutter: LineCutter::new(alloc)?,
+            buffer,
+            at: 0,
+            len: 0,
+            ended: false,
+            faulted: false,
+            refused: false,
+            stalled: false,
+        })
+    }
+
+    /// The number of the link and of its connection.
+    pub fn number(&self) -> u32
+        ensures { result ≡ self.now.number }
+    {
+        self.number
+    }
+
+    /// Whether bytes were taken and not written yet.
+    pub(crate) fn has_unsent(&self) -> bool
+        ensures { IsTrue result ↔ (self.now.unsent ≢ []) }
+    {
+        self.at < self.len
+    }
+
+    // Reads once; answers whether anything came. After `NoMemory` what was read is lost.
+    fn hears<L: Links>(&mut self, links: &mut L, room: &mut [u8]) -> Result<bool, NoMemory>
+        ensures tells { L.tells links.new ≡ L.tells links.old }
+        ensures listening { L.listening links.new ≡ L.listening links.old }
+        ensures ok { OnOk result (L.tells links.old ≡ true → (counted : LinksNote) → LinkStep counted self.old self.new (L.told links.old) (L.told links.new)) }
+        ensures err { OnErr result (L.tells links.old ≡ true → (counted : LinksNote) → LinkLoss counted self.old (L.told links.old) (L.told links.new)) }
+    {
+        match links.read(self.number, room) {
+            LinkRead::Got(n) => {
+                self.cutter.feed(room.split_at(n).0)?;
+                Ok(true)
+            }
+            LinkRead::End => {
+                self.ended = true;
+                Ok(true)
+            }
+            LinkRead::NotYet => Ok(false),
+            LinkRead::Fault => {
+                self.faulted = true;
+                Ok(true)
+            }
+        }
+    }
+
+    // Writes once what is kept; answers whether anything went. `noted` tells whether the note of the links was made.
+    fn sends<L: Links>(&mut self, links: &mut L, noted: bool) -> bool
+        ensures tells { L.tells links.new ≡ L.tells links.old }
+        ensures listening { L.listening links.new ≡ L.listening links.old }
+        ensures step { L.tells links.old ≡ true → (counted : LinksNote) → is_some counted ≡ noted → LinkStep counted self.old self.new (L.told links.old) (L.told links.new) }
+    {
+        let bytes = self
+            .buffer
+            .as_slice()
+            .split_at(self.len)
+            .0
+            .split_at(self.at)
+            .1;
+        match links.write(self.number, bytes) {
+            LinkWrite::Put(n) => {
+                self.at += n;
+                n > 0
+            }
+            LinkWrite::NotYet => {
+                self.refused = self.ended;
+                self.stalled = noted;
+                false
+            }
+            LinkWrite::Fault => {
+                self.faulted = true;
+                true
+            }
+        }
+    }
+
+    /// Reads once, where no whole line is kept and the link neither ended nor failed; answers whether anything came. After
+    /// `NoMemory` what was read is lost.
+    pub fn hears_some<L: Links>(&mut self, links: &mut L, room: &mut [u8]) -> Result<bool, NoMemory>
+        ensures tells { L.tells links.new ≡ L.tells links.old }
+        ensures listening { L.listening links.new ≡ L.listening links.old }
+        ensures ok { OnOk result (L.tells links.old ≡ true → (counted : LinksNote) → LinkStep counted self.old self.new (L.told links.old) (L.told links.new)) }
+        ensures err { OnErr result (L.tells links.old ≡ true → (counted : LinksNote) → LinkLoss counted self.old (L.told links.old) (L.told links.new)) }
+    {
+        if self.ended || self.faulted || self.cutter.has_line() {
+            return Ok(false);
+        }
+        match self.hears(links, room) {
+            Ok(came) => Ok(came),
+            Err(e) => Err(e),
+        }
+    }
+
+    /// Writes once what is kept, unless the link failed; answers whether anything went. `noted` tells whether the note of the links
+    /// was made. It takes no memory.
+    pub fn sends_some<L: Links>(&mut self, links: &mut L, noted: bool) -> bool
+        ensures tells { L.tells links.new ≡ L.tells links.old }
+        ensures listening { L.listening links.new ≡ L.listening links.old }
+        ensures step { L.tells links.old ≡ true → (counted : LinksNote) → is_some counted ≡ noted → LinkStep counted self.old self.new (L.told links.old) (L.told links.new) }
+    {
+        if self.faulted || !self.has_unsent() {
+            return false;
+        }
+        self.sends(links, noted)
+    }
+}

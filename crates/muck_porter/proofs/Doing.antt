@@ -1,0 +1,243 @@
+-- What the porter does, against its books.
+use Rattle.std.proofs.Common.{true≢false, ◌≡◌, ◌⊎◌, ℕ, zero, suc, ◌+◌, ◌<◌, ◌≤◌, Bool, true, false, List, [], ◌∷◌, ◌++◌, length, set, refl, sym, ap, ◌∙◌, subst, inl, inr, ⊎_elim, arith, Option, Some, None}
+use Rattle.std.specs.Prelude.{is_some, if◌then◌else◌}
+use Rattle.std.specs.List.{remove}
+use Rattle.std.proofs.lemmas.Bool.{cases_lt}
+use mathlib.Core.Option.{some, some-ne-none, some-injective}
+use mathlib.Core.Logic.{dite}
+use native.Mathlib.Decide.{ℕ_discrete}
+use lib.ListN.{get_elem?}
+use Rattle.turn_lock.specs.Histories.{own_of}
+use Rattle.muck_links.specs.Sessions.{Told, on_session, shut, accepted, is_used}
+use Rattle.muck_links.specs.Keyed.{latest}
+use Rattle.muck_model.specs.declared.event.Event.{Event}
+use Rattle.muck_model.specs.declared.event.Event.TheVariants.{Moment, Died}
+use Rattle.muck_model.specs.declared.note.Note.{Note}
+use Rattle.spec_events.specs.declared.logged.Logged.{Logged}
+use Rattle.spec_events.specs.World.{World}
+use Rattle.spec_events.specs.Histories.{after, by_porter}
+use Rattle.spec_events.specs.Logged.{is_dump, logged_by, entries_of, events_of}
+use Rattle.spec_events.specs.Own.{Stage, IsWellFormed}
+use Rattle.spec_talks.specs.Parties.{worlds_at, is_halt}
+use Rattle.spec_talks.specs.Talks.{talks}
+use Rattle.spec_serve.specs.Marks.{LinksNote}
+use Rattle.spec_serve.specs.Promises.{Tally, PromisedOf}
+use Rattle.spec_serve.specs.inner.Keeping.{Peer, new_peer}
+use Rattle.spec_serve.specs.inner.Books.{BooksOf}
+use Rattle.spec_serve.proofs.Booking.{books_begin, books_linked, books_still, books_came}
+use Rattle.spec_serve.proofs.Promising.{books_lost, books_worked_off}
+use Rattle.muck_machine.specs.Beginnings.{begun}
+use Rattle.muck_machine.specs.Seats.{Sight, Chair, Rests, Left, Waited}
+use Rattle.muck_machine.proofs.Seating.{left_rests}
+use Rattle.muck_peer.specs.Moves.{LinkStep, LinkLoss, PeerStep, HasCause}
+use Rattle.muck_porter.specs.declared.deeds.Deed.{Deed}
+use Rattle.muck_porter.specs.declared.deeds.Deed.TheVariants.{Open, Slice, Time, Stop, Leave, Die}
+use Rattle.muck_porter.specs.declared.deeds.Did.{Did}
+use Rattle.muck_porter.specs.declared.deeds.Did.TheVariants.{Done, Timed, Dead}
+use Rattle.muck_porter.specs.Notes.{note_in}
+use Rattle.muck_porter.specs.Kept.{tally, BooksIn, BooksAt, PromisedIn, KeptBy, Stopped, EndsWithStop, IsAt, IsFree, Resting, Ready, ReadyTimed, Over}
+use Rattle.muck_porter.specs.Deeds.{IsMoment, DidAs}
+use Rattle.muck_porter.specs.Turns.{PorterTurn}
+use Rattle.muck_porter.specs.Moves.{Carries, CarriesOn, Ends, EndsAll, TendsPeer, LosesPeer, Tends, Loses, LastEntry, MayHalt, Halts}
+use Rattle.muck_porter.specs.Rounds.{WroteAt, ClosedAt, HasLeft}
+use Rattle.muck_porter.proofs.Stages.{stage_item, stage_free, stage_moment, stage_died, formed_at, formed_free}
+use Rattle.muck_porter.proofs.Carrying.{IsQuiet, quiet_moment, quiet_died, quiet_stop, turn_noted, turn_books, carries_quiet, carries_peer, carries_closed, carries_opened, carries_halted, last_entry, promised_in, kept_now, kept_waited}
+
+-- Places in a list.
+
+pub set_there : {A : Type 0} (xs : List A) (i : ℕ) (v w : A) → get_elem? xs i ≡ some v → get_elem? (set xs i w) i ≡ some w
+set_there [] i v w at = absurd (some-ne-none v (sym at))
+set_there (x ∷ xs) zero v w at = refl
+set_there (x ∷ xs) (suc i) v w at = set_there xs i v w at
+
+pub set_set : {A : Type 0} (xs : List A) (i : ℕ) (v w : A) → set (set xs i v) i w ≡ set xs i w
+set_set [] i v w = refl
+set_set (x ∷ xs) zero v w = refl
+set_set (x ∷ xs) (suc i) v w = ap (λ l. x ∷ l) (set_set xs i v w)
+
+pub remove_set : {A : Type 0} (xs : List A) (i : ℕ) (v : A) → remove (set xs i v) i ≡ remove xs i
+remove_set [] i v = refl
+remove_set (x ∷ xs) zero v = refl
+remove_set (x ∷ xs) (suc i) v = ap (λ l. x ∷ l) (remove_set xs i v)
+
+pub set_length : {A : Type 0} (xs : List A) (i : ℕ) (v : A) → length (set xs i v) ≡ length xs
+set_length [] i v = refl
+set_length (x ∷ xs) zero v = refl
+set_length (x ∷ xs) (suc i) v = ap suc (set_length xs i v)
+
+pub at_below : {A : Type 0} (xs : List A) (i : ℕ) (a : A) → get_elem? xs i ≡ some a → i < length xs
+at_below [] i a e = absurd (some-ne-none a (sym e))
+at_below (x ∷ xs) zero a e = omega arith
+at_below (x ∷ xs) (suc i) a e = let h = at_below xs i a e in omega arith
+
+-- Calls of the links.
+
+pub linked_books : (b : Tally) (v : Sight) (k k' : Told) (n : ℕ) (peers : List Peer) (coming : Option ℕ) (i : ℕ) (p p' : Peer) → get_elem? peers i ≡ some p → LinkStep (note_in v.own) p p' k k'
+    → BooksAt b v (tally k n) peers coming → BooksAt b v (tally k' n) (set peers i p') coming
+linked_books b v k k' n peers coming i p p' at step bk u m root =
+    let bi = bk u m root in
+    record {
+      nobody = bi.nobody;
+      later = bi.later;
+      books = subst (λ (x : Told). BooksOf (note_in v.own) b u (entries_of v.seen) (tally x n) (set peers i p') coming) (sym step.told)
+          (books_linked (note_in v.own) b (talks u (entries_of v.seen)) (worlds_at is_halt u (entries_of v.seen)) (tally k n) peers coming i p p' step.change at step.number step.link step.keeps bi.books);
+    }
+
+pub lost_books : (b : Tally) (v : Sight) (k k' : Told) (n : ℕ) (peers : List Peer) (coming : Option ℕ) (i : ℕ) (p : Peer) → get_elem? peers i ≡ some p → LinkLoss (note_in v.own) p k k'
+    → BooksAt b v (tally k n) peers coming → PromisedIn b v v.seen (tally k' n)
+lost_books b v k k' n peers coming i p at loss bk u m root =
+    let bi = bk u m root in
+    subst (λ (x : Told). PromisedAs x) (sym loss.told)
+    (books_lost (note_in v.own) b (talks u (entries_of v.seen)) (worlds_at is_halt u (entries_of v.seen)) (tally k n) peers coming i p loss.change at loss.agrees bi.books)
+  where
+    PromisedAs : Told → Type 0
+    PromisedAs x = PromisedOf (note_in v.own) b u (entries_of v.seen) (tally x n)
+
+-- what is kept of a link is written, and it is read
+pub tends_both : (noted : Bool) (k k1 k2 : Told) (p p1 p2 : Peer) → ((counted : LinksNote) → is_some counted ≡ noted → LinkStep counted p p1 k k1) → ((counted : LinksNote) → LinkStep counted p1 p2 k1 k2)
+    → TendsPeer noted k k2 p p2
+tends_both noted k k1 k2 p p1 p2 first second v b peers coming i n known at bk =
+    subst (λ (ps : List Peer). BooksAt b v (tally k2 n) ps coming) (set_set peers i p1 p2)
+    (linked_books b v k1 k2 n (set peers i p1) coming i p1 p2 (set_there peers i p p1 at) (second (note_in v.own))
+    (linked_books b v k k1 n peers coming i p p1 at (first (note_in v.own) known) bk))
+
+pub loses_both : (noted : Bool) (k k1 k2 : Told) (p p1 : Peer) → ((counted : LinksNote) → is_some counted ≡ noted → LinkStep counted p p1 k k1) → ((counted : LinksNote) → LinkLoss counted p1 k1 k2)
+    → LosesPeer noted k k2 p
+loses_both noted k k1 k2 p p1 first second v b peers coming i n known at bk =
+    lost_books b v k1 k2 n (set peers i p1) coming i p1 (set_there peers i p p1 at) (second (note_in v.own))
+    (linked_books b v k k1 n peers coming i p p1 at (first (note_in v.own) known) bk)
+
+pub tends_more : (noted : Bool) (k k1 k2 : Told) (ps ps1 ps2 : List Peer) (i : ℕ) (p p' : Peer) → get_elem? ps1 i ≡ some p → ps2 ≡ set ps1 i p' → Tends noted k k1 ps ps1 → TendsPeer noted k1 k2 p p' → Tends noted k k2 ps ps2
+tends_more noted k k1 k2 ps ps1 ps2 i p p' at same first second v b coming n known bk =
+    subst (λ (l : List Peer). BooksAt b v (tally k2 n) l coming) (sym same) (second v b ps1 coming i n known at (first v b coming n known bk))
+
+pub loses_more : (noted : Bool) (k k1 k2 : Told) (ps ps1 : List Peer) (i : ℕ) (p : Peer) → get_elem? ps1 i ≡ some p → Tends noted k k1 ps ps1 → LosesPeer noted k1 k2 p → Loses noted k k2 ps
+loses_more noted k k1 k2 ps ps1 i p at first second v b coming n known bk = second v b ps1 coming i n known at (first v b coming n known bk)
+
+-- Where a turn ends.
+
+pub over_at : (me : Chair) (stage : Stage) → Rests 0 me → IsAt stage me.0.own → Over me
+over_at me stage r at = record { left = left_rests 0 me r; formed = formed_at me.0.own stage at }
+
+pub over_free : (me : Chair) → Rests 0 me → IsFree me.0.own → Over me
+over_free me r free = record { left = left_rests 0 me r; formed = formed_free me.0.own free }
+
+pub over_waited : (me me' : Chair) → Left 0 me' → Waited me.0 me'.0 → IsWellFormed 0 (events_of me.0.own) → Over me'
+over_waited me me' left waited formed = record { left = left; formed = subst (λ (ls : List Logged). IsWellFormed 0 (events_of ls)) (sym waited.1) formed }
+
+-- all turns were had
+pub ends_waited : (me me' : Chair) (K : Tally) (peers : List Peer) (coming : Option ℕ) → Rests 0 me → Waited me.0 me'.0 → Ends me.0 me'.0 K K peers coming
+ends_waited me me' K peers coming r waited b bk = kept_waited b me.0 me'.0 K r.own waited (promised_in b me.0 K peers coming bk)
+
+pub last_waited : (me me' : Chair) (K : Tally) → Rests 0 me → Waited me.0 me'.0 → LastEntry K me.0 me'.0
+last_waited me me' K r waited b promise = kept_waited b me.0 me'.0 K r.own waited promise
+
+-- what is promised ends so
+pub ends_last : (v v' : Sight) (K : Tally) (peers : List Peer) (coming : Option ℕ) → LastEntry K v v' → Ends v v' K K peers coming
+ends_last v v' K peers coming last b bk = last b (promised_in b v K peers coming bk)
+
+module _ (noted noted' : Bool) (k : Told) (me me' : Chair) (w : World) (event : Event) (r : Rests 0 me') (turn : PorterTurn noted noted' k me.0 me'.0 w event) (known : noted ≡ is_some (note_in me.0.own)) where
+  -- memory was wanted
+  pub died_last : (n : ℕ) → event ≡ Died → LastEntry (tally k n) me.0 me'.0
+  died_last n is = last_entry noted noted' k me.0 me'.0 w event turn known n (subst IsQuiet (sym is) quiet_died) r.own
+
+  pub died_ends : (n : ℕ) (peers : List Peer) (coming : Option ℕ) → event ≡ Died → Ends me.0 me'.0 (tally k n) (tally k n) peers coming
+  died_ends n peers coming is = ends_last me.0 me'.0 (tally k n) peers coming (died_last n is)
+
+  pub died_over : IsFree me.0.own → event ≡ Died → Over me'
+  died_over free is = over_at me' Stage.ended r (stage_died me.0.own me'.0.own turn.item turn.own (turn.entry ∙ ap by_porter is) free)
+
+  pub turn_resting : Resting noted' me'
+  turn_resting = record { rests = r; known = turn_noted noted noted' k me.0 me'.0 w event turn known }
+
+  -- a moment was entered
+  pub moment_ready : IsFree me.0.own → IsMoment event → ReadyTimed noted' me'
+  moment_ready free is = record { resting = turn_resting; timed = stage_moment me.0.own me'.0.own turn.item turn.own is.0 (turn.entry ∙ ap by_porter is.1) free }
+
+  pub moment_carries : (n : ℕ) (peers : List Peer) (coming : Option ℕ) → IsMoment event → Carries me.0 me'.0 (tally k n) (tally k n) peers peers coming coming
+  moment_carries n peers coming is b bk = carries_quiet noted noted' k me.0 me'.0 w event turn known b n peers coming (subst IsQuiet (sym is.1) (quiet_moment is.0)) bk
+
+  -- any entry that no link sees
+  pub quiet_carries : (n : ℕ) (peers : List Peer) (coming : Option ℕ) → IsQuiet event → Carries me.0 me'.0 (tally k n) (tally k n) peers peers coming coming
+  quiet_carries n peers coming q b bk = carries_quiet noted noted' k me.0 me'.0 w event turn known b n peers coming q bk
+
+  -- an entry after which nothing binds the porter
+  pub free_ready : (e : Event) → event ≡ e → IsAt Stage.unbound me'.0.own → Ready noted' me'
+  free_ready e is at = record { resting = turn_resting; free = IsFree.unbound at }
+
+pub timed_ready : (noted : Bool) (me : Chair) → ReadyTimed noted me → Ready noted me
+timed_ready noted me t = record { resting = t.resting; free = IsFree.timed t.timed }
+
+-- Lists.
+
+pub one_more : {A : Type 0} (P : A → Type 0) (xs : List A) (n : ℕ) (x : A) → get_elem? xs n ≡ some x → P x
+    → ((i : ℕ) (a : A) → i < n → get_elem? xs i ≡ some a → P a) → (i : ℕ) (a : A) → i < n + 1 → get_elem? xs i ≡ some a → P a
+one_more P xs n x there here below i a lt at = dite (ℕ_discrete i n)
+    (λ e. subst P (some-injective x a (sym there ∙ sym (ap (λ m. get_elem? xs m) e) ∙ at)) here)
+    (λ ne. below i a (less i n ne lt) at)
+  where
+    less : (i n : ℕ) → ¬ (i ≡ n) → i < n + 1 → i < n
+    less i n ne lt = ⊎_elim (λ (h : i < n). h) (λ (h : n ≤ i). absurd (ne (omega arith))) (cases_lt i n)
+
+pub remove_length : {A : Type 0} (xs : List A) (i : ℕ) → i < length xs → length (remove xs i) + 1 ≡ length xs
+remove_length [] i lt = absurd (omega arith)
+remove_length (x ∷ xs) zero lt = omega arith
+remove_length (x ∷ xs) (suc i) lt = let h = remove_length xs i (omega arith) in omega arith
+
+pub peer_closed : (ps : List Peer) (i : ℕ) (p p' : Peer) → p' ≡ p → set ps i p' ≡ set ps i p
+peer_closed ps i p p' same = ap (set ps i) same
+
+-- Memory was wanted outside of the world.
+module _ (noted noted' : Bool) (k : Told) (me me' : Chair) (w : World) (event : Event) (r : Rests 0 me') (turn : PorterTurn noted noted' k me.0 me'.0 w event) (known : noted ≡ is_some (note_in me.0.own)) where
+  die_is : (did : Did) (ps : List Peer) → DidAs Die did noted' ps w event → event ≡ Died
+  die_is Dead ps is = is
+  die_is Done ps is = absurd is
+  die_is Timed ps is = absurd is
+
+  pub die_last : (n : ℕ) (did : Did) (ps : List Peer) → DidAs Die did noted' ps w event → LastEntry (tally k n) me.0 me'.0
+  die_last n did ps is = died_last noted noted' k me me' w event r turn known n (die_is did ps is)
+
+  pub die_over : IsFree me.0.own → (did : Did) (ps : List Peer) → DidAs Die did noted' ps w event → Over me'
+  die_over free did ps is = died_over noted noted' k me me' w event r turn known free (die_is did ps is)
+
+  -- a deed for which memory was wanted
+  pub dead_did : (deed : Deed) (did : Did) (ps : List Peer) → did ≡ Dead → DidAs deed did noted' ps w event → event ≡ Died
+  dead_did (Open d) did ps is x = subst (λ (y : Did). DidAs (Open d) y noted' ps w event) is x
+  dead_did (Slice pid) did ps is x = subst (λ (y : Did). DidAs (Slice pid) y noted' ps w event) is x
+  dead_did Time did ps is x = subst (λ (y : Did). DidAs Time y noted' ps w event) is x
+  dead_did Stop did ps is x = subst (λ (y : Did). DidAs Stop y noted' ps w event) is x
+  dead_did Leave did ps is x = subst (λ (y : Did). DidAs Leave y noted' ps w event) is x
+  dead_did Die did ps is x = subst (λ (y : Did). DidAs Die y noted' ps w event) is x
+
+pub wrote_at : (i : ℕ) (noted : Bool) (k k' : Told) (ps : List Peer) (p p' : Peer) → get_elem? ps i ≡ some p → ((counted : LinksNote) → is_some counted ≡ noted → LinkStep counted p p' k k') → WroteAt i noted k k' ps (set ps i p')
+wrote_at i noted k k' ps p p' at step q there =
+    (p', refl, (λ counted marks. subst (λ (x : Peer). LinkStep counted x p' k k') (some-injective p q (sym at ∙ there)) (step counted marks)))
+
+pub closed_at : (i : ℕ) (k k' : Told) (ps : List Peer) (p : Peer) → get_elem? ps i ≡ some p → k' ≡ on_session p.number shut k → ClosedAt i k k' ps
+closed_at i k k' ps p at told q there = told ∙ ap (λ (x : Peer). on_session x.number shut k) (some-injective p q (sym at ∙ there))
+
+pub over_ready : (noted : Bool) (me : Chair) → Ready noted me → Over me
+over_ready noted me r = over_free me r.resting.rests r.free
+
+pub over_timed : (noted : Bool) (me : Chair) → ReadyTimed noted me → Over me
+over_timed noted me t = over_ready noted me (timed_ready noted me t)
+
+-- a call of the links, and then an end
+pub told_ends : (v v' : Sight) (K K' : Tally) (peers : List Peer) (coming coming' : Option ℕ) → Carries v v K K' peers peers coming coming' → Ends v v' K' K' peers coming' → Ends v v' K K' peers coming
+told_ends v v' K K' peers coming coming' first second b bk = second b (first b bk)
+
+pub carried_on : (v v1 v2 : Sight) (K K1 K2 : Tally) (ps ps1 ps2 : List Peer) → CarriesOn v v1 K K1 ps ps1 → CarriesOn v1 v2 K1 K2 ps1 ps2 → CarriesOn v v2 K K2 ps ps2
+carried_on v v1 v2 K K1 K2 ps ps1 ps2 first second coming b bk = second coming b (first coming b bk)
+
+pub carried_end : (v v1 v2 : Sight) (K K1 K2 : Tally) (ps ps1 : List Peer) → CarriesOn v v1 K K1 ps ps1 → EndsAll v1 v2 K1 K2 ps1 → EndsAll v v2 K K2 ps
+carried_end v v1 v2 K K1 K2 ps ps1 first second coming b bk = second coming b (first coming b bk)
+
+-- the count of faults in listening by another name
+pub listened : (v v' : Sight) (k k' : Told) (n n' : ℕ) (ps ps' : List Peer) → n' ≡ n → CarriesOn v v' (tally k n) (tally k' n) ps ps' → CarriesOn v v' (tally k n) (tally k' n') ps ps'
+listened v v' k k' n n' ps ps' same carries coming b bk = subst (λ (m : ℕ). BooksAt b v' (tally k' m) ps' coming) (sym same) (carries coming b bk)
+
+pub did_so : {A : Type 0} (answer : Bool) (old new : A) → answer ≡ true → (if answer then new else old) ≡ new
+did_so answer old new is = ap (λ (b : Bool). if b then new else old) is
+
+pub did_not : {A : Type 0} (answer : Bool) (old new : A) → answer ≡ false → (if answer then new else old) ≡ old
+did_not answer old new is = ap (λ (b : Bool). if b then new else old) is

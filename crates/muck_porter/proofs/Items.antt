@@ -1,0 +1,58 @@
+-- Items of a history.
+use Rattle.std.proofs.Common.{◌≡◌, ℕ, suc, Bool, true, false, List, [], ◌∷◌, ◌++◌, refl, sym, ap, ◌∙◌, Option, Some, None}
+use Rattle.std.specs.Prelude.{is_some, ◌==◌}
+use Rattle.std.specs.Option.{option_map}
+use Rattle.turn_lock.specs.Histories.{kept, own_of}
+use Rattle.muck_model.specs.declared.event.Entry.{Entry}
+use Rattle.spec_events.specs.declared.logged.Count.{Count}
+use Rattle.spec_events.specs.declared.logged.Logged.{Logged}
+use Rattle.spec_events.specs.Logged.{logged_by, entries_of, NoCounts, placed_count, count_from}
+use Rattle.spec_talks.specs.Parties.{party_of}
+use Rattle.spec_serve.specs.Marks.{LinksNote}
+use Rattle.muck_porter.specs.Notes.{first_note, note_in}
+
+-- The note of the links.
+
+pub note_append : (a b : List Logged) → note_in (a ++ b) ≡ first_note (note_in a) (note_in b)
+note_append [] b = refl
+note_append (l ∷ ls) b = from l.counted (note_append ls b)
+  where
+    from : (o : LinksNote) → note_in (ls ++ b) ≡ first_note (note_in ls) (note_in b) → first_note o (note_in (ls ++ b)) ≡ first_note (first_note o (note_in ls)) (note_in b)
+    from None e = e
+    from (Some cs) e = refl
+
+-- where there is none, no item has one
+pub note_none : (ls : List Logged) → note_in ls ≡ None → NoCounts ls
+note_none [] e = tt
+note_none (l ∷ ls) e = from l.counted refl e (note_none ls)
+  where
+    some_none : (cs : List Count) → ◌≡◌ {A = LinksNote} (Some cs) None → ⊥
+    some_none cs e = cc
+
+    from : (o : LinksNote) → l.counted ≡ o → first_note o (note_in ls) ≡ None → (note_in ls ≡ None → NoCounts ls) → (l.counted ≡ None) × NoCounts ls
+    from None is e ih = (is, ih e)
+    from (Some cs) is e ih = absurd (some_none cs e)
+
+pub some_is : (o : LinksNote) → false ≡ is_some o → o ≡ None
+some_is None e = refl
+some_is (Some cs) e = cc
+
+-- the note of a history, by its items
+pub note_count : (n : ℕ) (ls : List Logged) → option_map (λ c. c.1) (count_from n ls) ≡ note_in ls
+note_count n [] = refl
+note_count n (l ∷ ls) = from l.counted (note_count (suc n) ls)
+  where
+    from : (o : LinksNote) → option_map (λ c. c.1) (count_from (suc n) ls) ≡ note_in ls → option_map (λ c. c.1) (placed_count n o (count_from (suc n) ls)) ≡ first_note o (note_in ls)
+    from None e = e
+    from (Some cs) e = refl
+
+-- Entries.
+
+-- the entries of a party are those of its items
+pub entries_own : (p : ℕ) (ls : List Logged) → own_of party_of p (entries_of ls) ≡ entries_of (own_of logged_by p ls)
+entries_own p [] = refl
+entries_own p (l ∷ ls) = from (l.entry.party == p) (entries_own p ls)
+  where
+    from : (t : Bool) → own_of party_of p (entries_of ls) ≡ entries_of (own_of logged_by p ls) → kept t l.entry (own_of party_of p (entries_of ls)) ≡ entries_of (kept t l (own_of logged_by p ls))
+    from true e = ap (λ (es : List Entry). l.entry ∷ es) e
+    from false e = e

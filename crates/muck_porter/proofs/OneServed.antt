@@ -1,0 +1,123 @@
+-- One link is served.
+use Rattle.std.proofs.Common.{◌≡◌, ℕ, ◌+◌, ◌<◌, ◌≤◌, Bool, true, false, List, [], ◌∷◌, ◌++◌, length, set, refl, sym, ap, ◌∙◌, subst, arith, Option, Some, None}
+use Rattle.std.specs.Prelude.{is_some}
+use Rattle.std.specs.List.{remove}
+use mathlib.Core.Option.{some}
+use lib.ListN.{get_elem?}
+use Rattle.muck_links.specs.Sessions.{Told}
+use Rattle.muck_model.specs.declared.event.Event.{Event}
+use Rattle.muck_model.specs.declared.event.Event.TheVariants.{Input, Closed, Take, Moment}
+use Rattle.spec_events.specs.declared.logged.Logged.{Logged}
+use Rattle.spec_events.specs.World.{World}
+use Rattle.spec_events.specs.Histories.{by_porter}
+use Rattle.spec_events.specs.Own.{Stage}
+use Rattle.spec_serve.specs.inner.Keeping.{Peer}
+use Rattle.muck_machine.specs.Seats.{Chair, Rests}
+use Rattle.muck_peer.specs.Moves.{PeerStep}
+use Rattle.muck_porter.specs.declared.deeds.Served.{Served}
+use Rattle.muck_porter.specs.declared.deeds.Served.TheVariants.{Went as ServedOne, Closed as ClosedOne, Nobody, Dead as ServedDead}
+use Rattle.muck_porter.specs.Notes.{note_in}
+use Rattle.muck_porter.specs.Kept.{tally, BooksAt, IsAt, IsFree, Ready, ReadyTimed, Over}
+use Rattle.muck_porter.specs.Deeds.{ServedAs, ServedFrom}
+use Rattle.muck_porter.specs.Turns.{PorterTurn}
+use Rattle.muck_porter.specs.Moves.{CarriesOn, EndsAll}
+use Rattle.muck_porter.specs.Rounds.{WroteAt, ClosedAt, Nearer}
+use Rattle.muck_porter.proofs.Stages.{stage_free}
+use Rattle.muck_porter.proofs.Carrying.{turn_noted, carries_peer, carries_closed, set_again}
+use Rattle.muck_porter.proofs.Doing.{set_there, set_length, remove_length, at_below, linked_books, turn_resting, moment_ready, moment_carries, died_ends, died_over, over_free}
+
+peer_free : (own own' : List Logged) (item : Logged) (p p' : Peer) (w : World) (event : Event) → own' ≡ own ++ item ∷ [] → item.entry ≡ by_porter event → IsFree own → PeerStep p p' w event → IsFree own'
+peer_free own own' item p p' w event is entry free (PeerStep.heard line more e ready same) = IsFree.unbound (stage_free own own' item is (Input p.number line) Stage.unbound (entry ∙ ap by_porter e) free refl refl)
+peer_free own own' item p p' w event is entry free (PeerStep.taken n e none same) = IsFree.unbound (stage_free own own' item is (Take p.number n) Stage.unbound (entry ∙ ap by_porter e) free refl refl)
+peer_free own own' item p p' w event is entry free (PeerStep.timed t e same) = IsFree.timed (stage_free own own' item is (Moment t) Stage.timed (entry ∙ ap by_porter e) free refl refl)
+
+-- where the link stands
+pub went_below : (served : Served) (i : ℕ) (ps ps1 : List Peer) (w : World) (event : Event) → served ≡ ServedOne i → ServedAs served ps ps1 w event → i < length ps1
+went_below served i ps ps1 w event is s =
+    let x : ServedAs (ServedOne i) ps ps1 w event = subst (λ (y : Served). ServedAs y ps ps1 w event) is s in
+    let lt = at_below ps i x.0 x.2 in
+    let n = ap length x.3 ∙ set_length ps i x.1 in
+    omega arith
+
+pub closed_below : (served : Served) (i : ℕ) (ps ps1 : List Peer) (w : World) (event : Event) → served ≡ ClosedOne i → ServedAs served ps ps1 w event → i < length ps1
+closed_below served i ps ps1 w event is s =
+    let x : ServedAs (ClosedOne i) ps ps1 w event = subst (λ (y : Served). ServedAs y ps ps1 w event) is s in
+    let lt = at_below ps i x.0 x.1 in
+    let n = ap length x.2 ∙ set_length ps i x.0 in
+    omega arith
+
+pub went_nearer : (served : Served) (i from : ℕ) (ps ps1 ps2 : List Peer) (w : World) (event : Event) → served ≡ ServedOne i → ServedAs served ps ps1 w event → ServedFrom from served → length ps2 ≡ length ps1 → Nearer (Some (i + 1)) from ps ps2
+went_nearer served i from ps ps1 ps2 w event is s place count =
+    let x : ServedAs (ServedOne i) ps ps1 w event = subst (λ (y : Served). ServedAs y ps ps1 w event) is s in
+    let n = ap length x.3 ∙ set_length ps i x.1 in
+    let f : from ≤ i = subst (ServedFrom from) is place in
+    omega arith
+
+pub closed_nearer : (served : Served) (i from : ℕ) (ps ps1 ps2 : List Peer) (w : World) (event : Event) → served ≡ ClosedOne i → ServedAs served ps ps1 w event → ServedFrom from served → ps2 ≡ remove ps1 i → Nearer (Some i) from ps ps2
+closed_nearer served i from ps ps1 ps2 w event is s place gone =
+    let x : ServedAs (ClosedOne i) ps ps1 w event = subst (λ (y : Served). ServedAs y ps ps1 w event) is s in
+    let n = ap length x.2 ∙ set_length ps i x.0 in
+    let lt = closed_below served i ps ps1 w event is s in
+    let r = remove_length ps1 i lt in
+    let g = ap length gone in
+    let f : from ≤ i = subst (ServedFrom from) is place in
+    omega arith
+
+module _ (noted noted' : Bool) (k : Told) (me me' : Chair) (w : World) (event : Event) (r : Rests 0 me') (turn : PorterTurn noted noted' k me.0 me'.0 w event) (ready : Ready noted me)
+    (served : Served) (ps ps1 : List Peer) (did : ServedAs served ps ps1 w event) where
+  pub went_ready : (i : ℕ) → served ≡ ServedOne i → Ready noted' me'
+  went_ready i is =
+      let x : ServedAs (ServedOne i) ps ps1 w event = subst (λ (y : Served). ServedAs y ps ps1 w event) is did in
+      record { resting = turn_resting noted noted' k me me' w event r turn ready.resting.known; free = peer_free me.0.own me'.0.own turn.item x.0 x.1 w event turn.own turn.entry ready.free x.4 }
+
+  pub went_carries : (i : ℕ) (k' : Told) (n : ℕ) (ps2 : List Peer) → served ≡ ServedOne i → WroteAt i noted' k k' ps1 ps2 → CarriesOn me.0 me'.0 (tally k n) (tally k' n) ps ps2
+  went_carries i k' n ps2 is wrote coming b bk =
+      let x : ServedAs (ServedOne i) ps ps1 w event = subst (λ (y : Served). ServedAs y ps ps1 w event) is did in
+      let there : get_elem? ps1 i ≡ some x.1 = ap (λ (l : List Peer). get_elem? l i) x.3 ∙ set_there ps i x.0 x.1 x.2 in
+      let o = wrote x.1 there in
+      subst (λ (l : List Peer). BooksAt b me'.0 (tally k' n) l coming) (sym o.1)
+      (linked_books b me'.0 k k' n ps1 coming i x.1 o.0 there (o.2 (note_in me'.0.own) (sym (turn_noted noted noted' k me.0 me'.0 w event turn ready.resting.known)))
+      (subst (λ (l : List Peer). BooksAt b me'.0 (tally k n) l coming) (sym x.3)
+      (carries_peer noted noted' k me.0 me'.0 w event turn ready.resting.known b n ps coming i x.0 x.1 x.2 x.4 bk)))
+
+  pub closed_ready : (i : ℕ) → served ≡ ClosedOne i → Ready noted' me'
+  closed_ready i is =
+      let x : ServedAs (ClosedOne i) ps ps1 w event = subst (λ (y : Served). ServedAs y ps ps1 w event) is did in
+      record {
+        resting = turn_resting noted noted' k me me' w event r turn ready.resting.known;
+        free = IsFree.unbound (stage_free me.0.own me'.0.own turn.item turn.own (Closed x.0.number) Stage.unbound (turn.entry ∙ ap by_porter x.3) ready.free refl refl);
+      }
+
+  pub closed_carries : (i : ℕ) (k' : Told) (n : ℕ) (ps2 : List Peer) → served ≡ ClosedOne i → ClosedAt i k k' ps1 → ps2 ≡ remove ps1 i → CarriesOn me.0 me'.0 (tally k n) (tally k' n) ps ps2
+  closed_carries i k' n ps2 is told gone coming b bk =
+      let x : ServedAs (ClosedOne i) ps ps1 w event = subst (λ (y : Served). ServedAs y ps ps1 w event) is did in
+      let same : ps1 ≡ ps = x.2 ∙ set_again ps i x.0 x.1 in
+      subst (λ (l : List Peer). BooksAt b me'.0 (tally k' n) l coming) (sym (gone ∙ ap (λ (l : List Peer). remove l i) same))
+      (carries_closed noted noted' k me.0 me'.0 w event turn ready.resting.known b n k' ps coming i x.0 x.1 x.3 x.4
+      (told x.0 (ap (λ (l : List Peer). get_elem? l i) same ∙ x.1)) bk)
+
+  pub nobody_ready : served ≡ Nobody → ReadyTimed noted' me'
+  nobody_ready is =
+      let x : ServedAs Nobody ps ps1 w event = subst (λ (y : Served). ServedAs y ps ps1 w event) is did in
+      moment_ready noted noted' k me me' w event r turn ready.resting.known ready.free x.0
+
+  pub nobody_carries : (n : ℕ) → served ≡ Nobody → CarriesOn me.0 me'.0 (tally k n) (tally k n) ps ps1
+  nobody_carries n is coming b bk =
+      let x : ServedAs Nobody ps ps1 w event = subst (λ (y : Served). ServedAs y ps ps1 w event) is did in
+      subst (λ (l : List Peer). BooksAt b me'.0 (tally k n) l coming) (sym x.1) (moment_carries noted noted' k me me' w event r turn ready.resting.known n ps coming x.0 b bk)
+
+  pub dead_ends : (n : ℕ) → served ≡ ServedDead → EndsAll me.0 me'.0 (tally k n) (tally k n) ps
+  dead_ends n is coming = died_ends noted noted' k me me' w event r turn ready.resting.known n ps coming (subst (λ (y : Served). ServedAs y ps ps1 w event) is did)
+
+  pub dead_over : served ≡ ServedDead → Over me'
+  dead_over is = died_over noted noted' k me me' w event r turn ready.resting.known ready.free (subst (λ (y : Served). ServedAs y ps ps1 w event) is did)
+
+  -- the seat may be taken in, whatever was done
+  pub went_over : (i : ℕ) → served ≡ ServedOne i → Over me'
+  went_over i is = over_free me' r (went_ready i is).free
+
+  pub closed_over : (i : ℕ) → served ≡ ClosedOne i → Over me'
+  closed_over i is = over_free me' r (closed_ready i is).free
+
+  pub nobody_over : served ≡ Nobody → Over me'
+  nobody_over is = over_free me' r (IsFree.timed (nobody_ready is).timed)

@@ -1,0 +1,64 @@
+-- From what the porter leaves to the whole history, once the lock is closed.
+use Rattle.std.proofs.Common.{◌≡◌, ℕ, suc, arith, Bool, true, false, List, [], ◌∷◌, ◌++◌, refl, sym, ap, ◌∙◌, subst, append_assoc, Option, Some, None}
+use Rattle.std.specs.Prelude.{◌==◌}
+use Rattle.std.specs.Option.{option_map}
+use Rattle.std.proofs.lemmas.Bool.Decides.{nat_tests}
+use Rattle.turn_lock.specs.Histories.{StartsWith, own_of, kept}
+use Rattle.muck_model.specs.declared.event.Entry.{Entry}
+use Rattle.muck_model.specs.declared.note.Note.{Note}
+use Rattle.spec_events.specs.declared.logged.Logged.{Logged}
+use Rattle.spec_events.specs.World.{World}
+use Rattle.spec_events.specs.Histories.{after, AllLawful}
+use Rattle.spec_events.specs.Logged.{logged_by, entries_of, IsOrderly, count_from}
+use Rattle.spec_events.proofs.Logging.{entries_append}
+use Rattle.spec_talks.specs.Parties.{party_of}
+use Rattle.spec_talks.specs.Talks.{Talk, talks}
+use Rattle.spec_talks.proofs.Talking.{talks_same}
+use Rattle.spec_serve.specs.Marks.{LinksNote}
+use Rattle.spec_serve.specs.Promises.{Tally, PromisedOf, OpenWorkedOff}
+use Rattle.spec_serve.proofs.Promising.{promised_whole}
+use Rattle.muck_machine.specs.Beginnings.{begun}
+use Rattle.muck_machine.specs.Seats.{Sight, AllOrderly}
+use Rattle.muck_porter.specs.Notes.{first_note, note_in}
+use Rattle.muck_porter.specs.Kept.{KeptBy, Stopped}
+use Rattle.muck_porter.proofs.Items.{note_count, entries_own}
+
+-- the note of the links of a history in order is that of the porter's own items
+pub note_own : (ls : List Logged) → AllOrderly ls → note_in ls ≡ note_in (own_of logged_by 0 ls)
+note_own [] all = refl
+note_own (l ∷ ls) all = from (l.entry.party == 0) refl (note_own ls (λ i x at. all (suc i) x at))
+  where
+    other : (n : ℕ) → (n == 0) ≡ false → ¬ (n ≡ 0)
+    other n is same = grind (arith, nat_tests)
+
+    from : (t : Bool) → (l.entry.party == 0) ≡ t → note_in ls ≡ note_in (own_of logged_by 0 ls) → first_note l.counted (note_in ls) ≡ note_in (kept t l (own_of logged_by 0 ls))
+    from true is ih = ap (first_note l.counted) ih
+    from false is ih = ap (λ (o : LinksNote). first_note o (note_in ls)) ((all 0 l refl).counted (other l.entry.party is)) ∙ ih
+
+-- and it is the one of the history that they make
+pub note_whole : (ls : List Logged) → AllOrderly ls → option_map (λ c. c.1) (count_from 0 ls) ≡ note_in (own_of logged_by 0 ls)
+note_whole ls all = note_count 0 ls ∙ note_own ls all
+
+entries_start : (ls seen : List Logged) → StartsWith ls seen → StartsWith (entries_of ls) (entries_of seen)
+entries_start ls seen more = (entries_of more.0, ap entries_of more.1 ∙ entries_append seen more.0)
+
+same_own : (ls front : List Logged) → own_of logged_by 0 ls ≡ own_of logged_by 0 front → own_of party_of 0 (entries_of ls) ≡ own_of party_of 0 (entries_of front)
+same_own ls front is = entries_own 0 ls ∙ ap entries_of is ∙ sym (entries_own 0 front)
+
+-- What is promised of all links, of the whole history.
+pub kept_whole : (b : Tally) (v : Sight) (k : Tally) (w : World) (m : Note) (ls : List Logged) → v.root ≡ begun w m ∷ [] → StartsWith ls v.seen → v.own ≡ own_of logged_by 0 ls → AllLawful w (entries_of ls)
+    → KeptBy b v k → PromisedOf (note_in v.own) b w (entries_of ls) k
+kept_whole b v k w m ls root more own lawful kept_by =
+    let longer : StartsWith ls kept_by.front =
+    (kept_by.seen.0 ++ more.0, more.1 ∙ ap (λ (x : List Logged). x ++ more.0) kept_by.seen.1 ∙ append_assoc kept_by.front kept_by.seen.0 more.0) in
+    promised_whole (note_in v.own) b w (entries_of kept_by.front) (entries_of ls) k lawful (entries_start ls kept_by.front longer)
+    (same_own ls kept_by.front (sym own ∙ kept_by.own)) (kept_by.promised w m root)
+
+-- Where the porter has seen the stop, each connection that is open is worked off in the world in which it entered that.
+pub stopped_whole : (v : Sight) (k : Tally) (w : World) (m : Note) (ls : List Logged) → v.root ≡ begun w m ∷ [] → StartsWith ls v.seen → v.own ≡ own_of logged_by 0 ls → AllLawful w (entries_of ls)
+    → (s : Stopped v k) → ((after w (entries_of s.before)).stopping ≡ true) × OpenWorkedOff (note_in v.own) (after w (entries_of s.before)) (talks w (entries_of ls)) k
+stopped_whole v k w m ls root more own lawful s = (
+  s.stopping w m root,
+  subst (λ (ts : List Talk). OpenWorkedOff (note_in v.own) (after w (entries_of s.before)) ts k)
+      (sym (talks_same w (entries_of v.seen) (entries_of ls) lawful (entries_start ls v.seen more) (same_own ls v.seen (sym own ∙ s.own)))) (s.worked w m root),
+)

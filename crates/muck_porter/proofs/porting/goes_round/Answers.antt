@@ -1,0 +1,10 @@
+use Rattle.std.proofs.Common.{refl, sym, ap, ◌∙◌, arith}
+use Rattle.muck_porter.proofs.InRounds.{round_went}
+use Rattle.muck_porter.proofs.porting.goes_round.Goals as goal
+
+pub returns-in-Ok-attends-clause-ok : goal.returns-in-Ok-attends-clause-ok
+returns-in-Ok-attends-clause-ok g c t =
+    round_went c.in-Ok-attends.attended.round _ _ _ _ _ _ _ _ _ _ _ (c.in-Ok.ensures.ok t) (c.in-Ok-attends.ensures.ok (c.in-Ok.ensures.tells ∙ t))
+
+pub returns-in-Err-attends-clause-err : goal.returns-in-Err-attends-clause-err
+returns-in-Err-attends-clause-err g c t b bk = c.in-Err-attends.ensures.err (c.in-Ok.ensures.tells ∙ t) _ b (c.in-Ok.ensures.ok t b bk)

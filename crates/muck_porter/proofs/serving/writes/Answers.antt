@@ -1,0 +1,9 @@
+use Rattle.std.proofs.Common.{rules, refl, sym, ap, ◌∙◌}
+use Rattle.muck_porter.proofs.Doing.{wrote_at}
+use Rattle.atomic_table.proofs.Lists.{at_index}
+use Rattle.muck_porter.proofs.serving.writes.Goals as goal
+
+pub returns-clause-wrote : goal.returns-clause-wrote
+returns-clause-wrote g c t =
+    wrote_at c.args.at c.args.noted _ _ c.args.peers.now.items c.index_mut-peer.result.now c.sends_some.new.self
+    (at_index c.args.peers.now.items c.args.at c.index_mut-peer.result.now (search rules) c.index_mut-peer.ensures.value) (c.sends_some.ensures.step t)

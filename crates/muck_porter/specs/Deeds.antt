@@ -1,0 +1,63 @@
+-- What the porter does in a hold.
+use Rattle.std.specs.Prelude.{◌≡◌, ℕ, ℤ, Bool, true, false, ◌≤◌, ◌⊎◌, List, slice_set}
+use mathlib.Core.Option.{some}
+use lib.ListN.{get_elem?}
+use Rattle.muck_model.specs.declared.event.Event.{Event}
+use Rattle.muck_model.specs.declared.event.Event.TheVariants.{Opened, Closed as ClosedEvent, Moment, Exec, Claim, Slice as SliceEvent, Lost, Idle as IdleEvent, Halt, StopSeen, Died}
+use Rattle.spec_events.specs.World.{World}
+use Rattle.spec_events.specs.Steps.{has_claim}
+use Rattle.spec_serve.specs.inner.Keeping.{Peer}
+use Rattle.muck_peer.specs.Moves.{IsWorkedOff, HasCause, PeerStep}
+use Rattle.muck_porter.specs.declared.deeds.Deed.{Deed}
+use Rattle.muck_porter.specs.declared.deeds.Deed.TheVariants.{Open, Slice, Time, Stop, Leave, Die}
+use Rattle.muck_porter.specs.declared.deeds.Did.{Did}
+use Rattle.muck_porter.specs.declared.deeds.Did.TheVariants.{Done, Timed, Dead}
+use Rattle.muck_porter.specs.declared.deeds.Served.{Served}
+use Rattle.muck_porter.specs.declared.deeds.Served.TheVariants.{Went as ServedOne, Closed as ClosedOne, Nobody, Dead as ServedDead}
+use Rattle.muck_porter.specs.declared.deeds.Worked.{Worked}
+use Rattle.muck_porter.specs.declared.deeds.Worked.TheVariants.{Done as WorkedDone, Claimed, Idle, Ready, Dead as WorkedDead}
+
+-- each link that is open is worked off in this world
+abbrev pub AllOff : World → List Peer → Type 0
+AllOff w peers = (i : ℕ) (p : Peer) → get_elem? peers i ≡ some p → IsWorkedOff p w
+
+abbrev pub IsMoment : Event → Type 0
+IsMoment event = (t : ℕ) × (event ≡ Moment t)
+
+-- one peer is served, or none wants anything
+abbrev pub ServedAs : Served → List Peer → List Peer → World → Event → Type 0
+ServedAs (ServedOne i) ps ps' w event = (p : Peer) × (p' : Peer) × (get_elem? ps i ≡ some p) × (ps' ≡ slice_set ps i p') × PeerStep p p' w event
+ServedAs (ClosedOne i) ps ps' w event = (p : Peer) × (get_elem? ps i ≡ some p) × (ps' ≡ slice_set ps i p) × (event ≡ ClosedEvent p.number) × HasCause p w
+ServedAs Nobody ps ps' w event = IsMoment event × (ps' ≡ ps)
+ServedAs ServedDead ps ps' w event = event ≡ Died
+
+-- it is one from this place on
+abbrev pub ServedFrom : ℕ → Served → Type 0
+ServedFrom from (ServedOne i) = from ≤ i
+ServedFrom from (ClosedOne i) = from ≤ i
+ServedFrom from answer = Unit {0}
+
+-- a turn of work: a line is done, a process is claimed, or there is nothing to do
+abbrev pub WorkedAs : Worked → Event → Type 0
+WorkedAs WorkedDone event = (d : ℕ) × (event ≡ Exec d)
+WorkedAs (Claimed pid) event = event ≡ Claim pid
+WorkedAs Idle event = (event ≡ IdleEvent) ⊎ IsMoment event
+WorkedAs Ready event = IsMoment event
+WorkedAs WorkedDead event = event ≡ Died
+
+-- any other deed: it is done, or a moment is entered
+abbrev pub DidAs : Deed → Did → Bool → List Peer → World → Event → Type 0
+DidAs deed Dead noted peers w event = event ≡ Died
+DidAs (Open d) Done noted peers w event = (event ≡ Opened d) × (noted ≡ false)
+DidAs (Slice pid) Done noted peers w event = (event ≡ SliceEvent pid) ⊎ (event ≡ Lost pid)
+DidAs (Slice pid) Timed noted peers w event = ⊥
+DidAs Stop Done noted peers w event = event ≡ Halt
+DidAs Leave Done noted peers w event = (event ≡ StopSeen) × (w.stopping ≡ true) × AllOff w peers
+DidAs Time Done noted peers w event = ⊥
+DidAs Die answer noted peers w event = ⊥
+DidAs deed Timed noted peers w event = IsMoment event
+
+-- what is sliced is claimed by the porter
+abbrev pub ClaimOf : Deed → World → Type 0
+ClaimOf (Slice pid) w = has_claim 0 pid w ≡ true
+ClaimOf deed w = Unit {0}

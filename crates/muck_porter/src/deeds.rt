@@ -1,0 +1,264 @@
+// What the porter does in a hold: each deed makes one entry.
+ghost use Rattle.std.specs.Prelude.{◌≡◌, ◌≤◌, ℕ, [], true, false};
+ghost use Rattle.muck_model.specs.declared.event.Event.{Event};
+ghost use Rattle.spec_events.specs.Histories.{now, entered, by_porter};
+ghost use Rattle.spec_events.specs.Steps.{has_claim};
+ghost use Rattle.muck_peer.specs.Moves.{Clocked, IsUntimed};
+ghost use Rattle.muck_porter.specs.Deeds.{AllOff, ServedAs, ServedFrom, WorkedAs, DidAs, ClaimOf};
+
+use muck_io::Clock;
+use muck_machine::World;
+use muck_model::NoMemory;
+use muck_peer::{Chose, Peer, tells_time};
+
+/// A deed that isn't for one peer, nor work.
+#[derive(Drop)]
+pub enum Deed {
+    /// The connection of a link that came is opened.
+    Open(u32),
+    /// The process that was claimed runs for a slice.
+    Slice(i32),
+    /// Time goes on.
+    Time,
+    /// The run is stopped.
+    Stop,
+    /// The porter has seen the stop.
+    Leave,
+    /// Memory was wanted outside of the world.
+    Die,
+}
+
+/// What became of a deed.
+#[derive(Drop)]
+pub enum Did {
+    Done,
+    /// It may not be done now: a moment was entered.
+    Timed,
+    /// Memory was wanted.
+    Dead,
+}
+
+/// Which peer was served.
+#[derive(Drop)]
+pub enum Served {
+    Went(usize),
+    Closed(usize),
+    /// None wants anything: a moment was entered.
+    Nobody,
+    /// Memory was wanted.
+    Dead,
+}
+
+/// What a turn of work did.
+#[derive(Drop)]
+pub enum Worked {
+    /// A line was done.
+    Done,
+    /// A process was claimed.
+    Claimed(i32),
+    /// There was nothing to do.
+    Idle,
+    /// The run is stopping, and each link that is open is worked off.
+    Ready,
+    /// Memory was wanted.
+    Dead,
+}
+
+fn all_worked_off(peers: &Vec<Peer>, world: &World) -> bool
+    requires { (now world.now).dead ≡ false }
+    ensures { result ≡ true → AllOff (now world.now) peers.now.items }
+{
+    for p in peers.as_slice() {
+        if !p.is_worked_off(world) {
+            return false;
+        }
+    }
+    true
+}
+
+// The first peer from a place on that wants something; their count where none does.
+fn finds(peers: &Vec<Peer>, from: usize, world: &World) -> usize
+    requires { (now world.now).dead ≡ false }
+    ensures { from ≤ result }
+{
+    let mut at = from;
+    while at < peers.len() {
+        if peers[at].wants(world) {
+            return at;
+        }
+        at += 1;
+    }
+    at
+}
+
+/// One entry, for the first peer from a place on that wants something.
+pub fn serves<C: Clock>(
+    world: &mut World,
+    clock: &mut C,
+    peers: &mut Vec<Peer>,
+    from: usize,
+) -> Served
+    ensures step { (event : Event) × (world.new ≡ entered world.old (by_porter event)) × ServedAs result peers.old.items peers.new.items (now world.old) event × Clocked (C.answers clock.old) (C.answers clock.new) (now world.old) event }
+    ensures place { ServedFrom from result }
+{
+    if world.is_dead() {
+        world.died(0);
+        return Served::Dead;
+    }
+    let at = finds(peers, from, world);
+    if at >= peers.len() {
+        tells_time(world, clock);
+        return Served::Nobody;
+    }
+    let peer = &mut peers[at];
+    match peer.chooses(world, clock) {
+        Chose::Went => Served::Went(at),
+        Chose::Closed => Served::Closed(at),
+        Chose::Dead => Served::Dead,
+    }
+}
+
+// There is nothing to do.
+fn idles<C: Clock>(world: &mut World, clock: &mut C) -> Worked
+    requires { (now world.old).dead ≡ false }
+    ensures { (event : Event) × (world.new ≡ entered world.old (by_porter event)) × WorkedAs result event × Clocked (C.answers clock.old) (C.answers clock.new) (now world.old) event }
+{
+    if world.idle(0) {
+        return Worked::Idle;
+    }
+    tells_time(world, clock);
+    Worked::Idle
+}
+
+// A process is claimed, or there is nothing to do.
+fn claims<C: Clock>(world: &mut World, clock: &mut C) -> Worked
+    requires { (now world.old).dead ≡ false }
+    ensures { (event : Event) × (world.new ≡ entered world.old (by_porter event)) × WorkedAs result event × Clocked (C.answers clock.old) (C.answers clock.new) (now world.old) event }
+{
+    match world.claim(0) {
+        Some(pid) => Worked::Claimed(pid),
+        None => idles(world, clock),
+    }
+}
+
+/// One entry of a turn of work.
+pub fn works<C: Clock>(world: &mut World, clock: &mut C, peers: &Vec<Peer>) -> Worked
+    ensures { (event : Event) × (world.new ≡ entered world.old (by_porter event)) × WorkedAs result event × Clocked (C.answers clock.old) (C.answers clock.new) (now world.old) event }
+{
+    if world.is_dead() {
+        world.died(0);
+        return Worked::Dead;
+    }
+    if world.is_stopping() {
+        let ready = all_worked_off(peers, world);
+        tells_time(world, clock);
+        if ready {
+            return Worked::Ready;
+        }
+        return Worked::Idle;
+    }
+    let found = match world.exec(0) {
+        Ok(found) => found,
+        Err(NoMemory) => return Worked::Dead,
+    };
+    match found {
+        Some(_) => Worked::Done,
+        None => claims(world, clock),
+    }
+}
+
+// A connection is opened, where it may, and not once the note of the links was made.
+fn opens<C: Clock>(world: &mut World, clock: &mut C, d: u32, noted: bool) -> Did
+    requires { (now world.old).dead ≡ false }
+    ensures { (event : Event) × (world.new ≡ entered world.old (by_porter event)) × DidAs (Deed.Open d) result noted [] (now world.old) event × Clocked (C.answers clock.old) (C.answers clock.new) (now world.old) event }
+{
+    if noted {
+        tells_time(world, clock);
+        return Did::Timed;
+    }
+    let opened = match world.opened(d) {
+        Ok(opened) => opened,
+        Err(NoMemory) => return Did::Dead,
+    };
+    if opened {
+        return Did::Done;
+    }
+    tells_time(world, clock);
+    Did::Timed
+}
+
+// The claimed process runs, or it has ended.
+fn slices(world: &mut World, pid: i32) -> Did
+    requires alive { (now world.old).dead ≡ false }
+    requires claim { has_claim 0 pid (now world.old) ≡ true }
+    ensures { (event : Event) × (world.new ≡ entered world.old (by_porter event)) × DidAs (Deed.Slice pid) result false [] (now world.old) event × IsUntimed event }
+{
+    match world.slice(0, pid) {
+        Ok(_) => Did::Done,
+        Err(NoMemory) => Did::Dead,
+    }
+}
+
+// The porter has seen the stop, where all is worked off.
+fn leaves<C: Clock>(world: &mut World, clock: &mut C, peers: &Vec<Peer>) -> Did
+    requires { (now world.old).dead ≡ false }
+    ensures { (event : Event) × (world.new ≡ entered world.old (by_porter event)) × DidAs Deed.Leave result false peers.now.items (now world.old) event × Clocked (C.answers clock.old) (C.answers clock.new) (now world.old) event }
+{
+    if !world.is_stopping() {
+        tells_time(world, clock);
+        return Did::Timed;
+    }
+    if !all_worked_off(peers, world) {
+        tells_time(world, clock);
+        return Did::Timed;
+    }
+    if world.stopped(0) {
+        return Did::Done;
+    }
+    tells_time(world, clock);
+    Did::Timed
+}
+
+// The run is stopped, where it isn't yet.
+fn halts<C: Clock>(world: &mut World, clock: &mut C) -> Did
+    requires { (now world.old).dead ≡ false }
+    ensures { (event : Event) × (world.new ≡ entered world.old (by_porter event)) × DidAs Deed.Stop result false [] (now world.old) event × Clocked (C.answers clock.old) (C.answers clock.new) (now world.old) event }
+{
+    if !world.is_stopping() {
+        world.halt();
+        return Did::Done;
+    }
+    tells_time(world, clock);
+    Did::Timed
+}
+
+/// One entry of any other deed. `noted` tells whether the note of the links was made.
+pub fn does<C: Clock>(
+    deed: &Deed,
+    world: &mut World,
+    clock: &mut C,
+    peers: &Vec<Peer>,
+    noted: bool,
+) -> Did
+    requires { ClaimOf deed.now (now world.old) }
+    ensures { (event : Event) × (world.new ≡ entered world.old (by_porter event)) × DidAs deed.now result noted peers.now.items (now world.old) event × Clocked (C.answers clock.old) (C.answers clock.new) (now world.old) event }
+{
+    if world.is_dead() {
+        world.died(0);
+        return Did::Dead;
+    }
+    match *deed {
+        Deed::Open(d) => opens(world, clock, d, noted),
+        Deed::Slice(pid) => slices(world, pid),
+        Deed::Time => {
+            tells_time(world, clock);
+            Did::Timed
+        }
+        Deed::Stop => halts(world, clock),
+        Deed::Leave => leaves(world, clock, peers),
+        Deed::Die => {
+            world.died(0);
+            Did::Dead
+        }
+    }
+}
