@@ -8,7 +8,7 @@ use Rattle.muck_log.specs.Store.{Chosen, Damage, LogState, stored}
 use Rattle.muck_log.specs.World.{IsFine}
 use Rattle.muck_log.specs.Mount.{IsMountedAs, IsMountFault}
 use Rattle.muck_log.specs.declared.fault.LogFault.{LogFault}
-use Rattle.muck_log.specs.declared.fault.LogFault.TheVariants.{NoMemory as LogMemory, DiskFault as LogDisk, Damaged as LogDamaged, StoreFull as LogFull, Stale}
+use Rattle.muck_log.specs.declared.fault.LogFault.TheVariants.{NoMemory as LogMemory, DiskFault as LogDisk, Damaged as LogDamaged, StoreFull as LogFull, Unfit, Stale}
 use Rattle.spec_dumps.specs.Fronts.{file_most}
 use Rattle.muck_script.specs.declared.act.Act.{Act}
 use Rattle.muckd.specs.Words.{Command, run, serve, drill}
@@ -36,6 +36,7 @@ mount_told a b LogMemory told = tt
 mount_told a b LogDisk told = tt
 mount_told a b (LogDamaged second at) told = told
 mount_told a b (LogFull end more) told = absurd told
+mount_told a b Unfit told = absurd told
 mount_told a b Stale told = absurd told
 
 pub mount_may : (fault : LogFault) → MayRefuse (refusal_of fault)
@@ -43,6 +44,7 @@ mount_may LogMemory = tt
 mount_may LogDisk = tt
 mount_may (LogDamaged second at) = tt
 mount_may (LogFull end more) = tt
+mount_may Unfit = tt
 mount_may Stale = tt
 
 -- only a disk that failed is answered so
@@ -51,6 +53,7 @@ disk_refused LogMemory e = cc
 disk_refused LogDisk e = refl
 disk_refused (LogDamaged second at) e = cc
 disk_refused (LogFull end more) e = cc
+disk_refused Unfit e = cc
 disk_refused Stale e = cc
 
 -- How a call ends: it wasn't begun where no store was mounted and where no script was read.

@@ -4,7 +4,7 @@ use Rattle.muck_model.specs.declared.event.Event.TheVariants.{Halt, Died, Cut, S
 use Rattle.muck_model.specs.declared.note.Note.{Note}
 use Rattle.muck_log.specs.Store.{LogState}
 use Rattle.muck_log.specs.declared.fault.LogFault.{LogFault}
-use Rattle.muck_log.specs.declared.fault.LogFault.TheVariants.{NoMemory as LogMemory, DiskFault as LogDisk, Damaged as LogDamaged, StoreFull as LogFull, Stale}
+use Rattle.muck_log.specs.declared.fault.LogFault.TheVariants.{NoMemory as LogMemory, DiskFault as LogDisk, Damaged as LogDamaged, StoreFull as LogFull, Unfit, Stale}
 use Rattle.spec_events.specs.World.{World}
 use Rattle.spec_events.specs.Steps.{effect}
 use Rattle.spec_events.specs.Histories.{History, after, now, entered, noted, Longer, by_porter}
@@ -33,6 +33,7 @@ comes_by h k LogMemory came = tt
 comes_by h k LogDisk came = came
 comes_by h k (LogDamaged second at) came = came
 comes_by h k (LogFull end more) came = came
+comes_by h k Unfit came = came
 comes_by h k Stale came = came
 
 pub comes_failed : (h k : History) (o : Option LogFault) (fault : LogFault) → o ≡ Some fault → ComesOut h k o → ComesOutAs h k (why_of fault)
@@ -47,6 +48,7 @@ ends_by h k o LogMemory apart p = absurd (apart refl)
 ends_by h k o LogDisk apart p = p
 ends_by h k o (LogDamaged second at) apart p = p
 ends_by h k o (LogFull end more) apart p = p
+ends_by h k o Unfit apart p = p
 ends_by h k o Stale apart p = p
 
 may_answer : (tells : Bool) (fault : LogFault) → (tells ≡ true → IsDumpFault (Some fault)) → MayEndDump tells (why_of fault)
@@ -54,6 +56,7 @@ may_answer tells LogMemory f = tt
 may_answer tells LogDisk f = tt
 may_answer tells (LogDamaged second at) f = f
 may_answer tells (LogFull end more) f = tt
+may_answer tells Unfit f = f
 may_answer tells Stale f = f
 
 pub may_end : (tells : Bool) (o : Option LogFault) (fault : LogFault) → o ≡ Some fault → (tells ≡ true → IsDumpFault o) → MayEndDump tells (why_of fault)
@@ -69,6 +72,7 @@ not_fine LogMemory e = cc
 not_fine LogDisk e = cc
 not_fine (LogDamaged second at) e = cc
 not_fine (LogFull end more) e = cc
+not_fine Unfit e = cc
 not_fine Stale e = cc
 
 is_full : (fault : LogFault) (end more : ℕ) → why_of fault ≡ StoreFull end more → fault ≡ LogFull end more
@@ -76,6 +80,7 @@ is_full LogMemory end more e = cc
 is_full LogDisk end more e = cc
 is_full (LogDamaged second at) end more e = cc
 is_full (LogFull x y) end more e = cc
+is_full Unfit end more e = cc
 is_full Stale end more e = cc
 
 module _ {D : Type 0} (seen : D → List ℕ) (moment : D → ℕ) (images : D → ℕ → List ℕ → Type 0) (faults : D → ℕ) (log : Option LogState) (first second : D) (mounted : ℕ) (h : History) where

@@ -1,13 +1,18 @@
 -- A drill, from how its script was played.
-use Rattle.std.proofs.Common.{◌≡◌, ℕ, ◌+◌, ◌≤◌, suc, List, [], ◌∷◌, ◌++◌, length, drop, refl, sym, ◌∙◌, ap, subst, arith, append-nil, append_assoc, add-one, Option, Some, None}
+use Rattle.std.proofs.Common.{◌≡◌, ℕ, false, ◌+◌, ◌≤◌, suc, List, [], ◌∷◌, ◌++◌, length, drop, refl, sym, ◌∙◌, ap, subst, arith, append-nil, append_assoc, add-one, Option, Some, None}
+use Rattle.std.specs.Prelude.{codes}
+use Rattle.std.specs.Fmt.{decimal}
+use Rattle.std.specs.List.{filter}
 use Rattle.muck_io.specs.Sink.{Appends, AppendsFront}
 use Rattle.muck_io.specs.Faults.{Rose}
 use Rattle.muck_model.specs.declared.event.Entry.{Entry}
-use Rattle.spec_events.specs.World.{World, starting}
+use Rattle.spec_events.specs.World.{World, starting, booted}
 use Rattle.spec_events.specs.Histories.{History, after, now, AllLawful}
 use Rattle.muck_script.specs.declared.act.Act.{Act}
+use Rattle.muck_script.specs.declared.act.Act.TheVariants.{Send}
+use Rattle.muck_script.specs.Lines.{is_line_feed}
 use Rattle.muck_script.specs.Story.{Dumped, stored, failed, next_outcome, dump_entries, outcomes_of, told, text_of, lines_story, story, transcript}
-use Rattle.muckd.specs.Drill.{round, rounds, summary, objects_in, drill_script, drill_text, IsDrilled, HasDrilled}
+use Rattle.muckd.specs.Drill.{describing, round, rounds, summary, objects_in, drill_script, drill_text, IsDrilled, HasDrilled}
 use Rattle.muckd.specs.inner.Drills.{fresh, IsPlayedAs, IsDrilledAs}
 use Rattle.muckd.specs.inner.Plays.{Plays}
 use Rattle.muckd.specs.declared.why.Why.TheVariants.{Fine, WriteFault}
@@ -24,6 +29,32 @@ five a b c d e f p q r s t is1 is2 is3 is4 is5 =
     ∙ ap (λ x. x ++ t ∷ []) (append_assoc a (p ∷ q ∷ r ∷ []) (s ∷ []))
     ∙ append_assoc a (p ∷ q ∷ r ∷ s ∷ []) (t ∷ [])
 
+pub round_pushed : (a b c d e f : List Act) (i : ℕ) (text : List ℕ) → text ≡ describing i
+    → b ≡ a ++ Send 1 (codes "@dig Room " ++ decimal i) ∷ [] → c ≡ b ++ Send 1 (codes "@create thing " ++ decimal i) ∷ [] → d ≡ c ++ Send 1 text ∷ []
+    → e ≡ d ++ Send 1 (codes "look thing " ++ decimal i) ∷ [] → f ≡ e ++ Send 1 (codes "drop thing " ++ decimal i) ∷ [] → f ≡ a ++ round i
+unfolding round
+round_pushed a b c d e f i text is to_b to_c to_d to_e to_f = five a b c d e f _ _ _ _ _ to_b to_c (to_d ∙ ap (λ x. c ++ Send 1 x ∷ []) is) to_e to_f
+
+-- texts that are pushed piece by piece
+pub described : (a b c d e : List ℕ) (i : ℕ) → a ≡ [] → b ≡ a ++ codes "@describe thing " ++ decimal i → c ≡ b ++ codes "=A thing of {add:" ++ decimal i → d ≡ c ++ codes "," ++ decimal i → e ≡ d ++ codes "}." → e ≡ describing i
+unfolding describing
+described a b c d e i is_a is_b is_c is_d is_e =
+    is_e
+    ∙ ap (λ q. q ++ codes "}.")
+    (is_d ∙ ap (λ q. q ++ codes "," ++ decimal i) (is_c ∙ ap (λ q. q ++ codes "=A thing of {add:" ++ decimal i) (is_b ∙ ap (λ q. q ++ codes "@describe thing " ++ decimal i) is_a)))
+
+pub summed : (a b c d e f : List ℕ) (n objects : ℕ) (shown : List ℕ) (lines bytes : ℕ) → lines ≡ length (filter is_line_feed shown) → bytes ≡ length shown → a ≡ []
+    → b ≡ a ++ codes "drill " ++ decimal n → c ≡ b ++ codes ": " ++ decimal objects → d ≡ c ++ codes " objects, " ++ decimal lines → e ≡ d ++ codes " lines, " ++ decimal bytes → f ≡ e ++ (codes " bytes" ++ 10 ∷ []) → f ≡ summary n objects shown
+unfolding summary
+summed a b c d e f n objects shown lines bytes is_lines is_bytes is_a is_b is_c is_d is_e is_f =
+    is_f
+    ∙ ap (λ q. q ++ (codes " bytes" ++ 10 ∷ []))
+    (is_e ∙ ap (λ k. d ++ codes " lines, " ++ decimal k) is_bytes
+    ∙ ap (λ q. q ++ codes " lines, " ++ decimal (length shown))
+    (is_d ∙ ap (λ k. c ++ codes " objects, " ++ decimal k) is_lines
+    ∙ ap (λ q. q ++ codes " objects, " ++ decimal (length (filter is_line_feed shown)))
+    (is_c ∙ ap (λ q. q ++ codes ": " ++ decimal objects) (is_b ∙ ap (λ q. q ++ codes "drill " ++ decimal n) is_a))))
+
 pub rounds_begin : (a b : List Act) → b ≡ a → b ≡ a ++ rounds 0
 unfolding rounds
 rounds_begin a b e = e ∙ sym (append-nil a)
@@ -37,6 +68,15 @@ rounds_go_on a b c n e f = f ∙ ap (λ x. x ++ round (n + 1)) e ∙ append_asso
 
 pub rounds_end : (a b : List Act) (n count : ℕ) → b ≡ a ++ rounds n → n ≤ count → count ≤ n → b ≡ a ++ rounds count
 rounds_end a b n count e le ge = let same : n ≡ count = omega (arith, le, ge) in e ∙ ap (λ x. a ++ rounds x) same
+
+-- the starting world lives, and no dump runs in it
+pub fresh_alive : (h : History) → h ≡ fresh → (now h).dead ≡ false
+unfolding now starting booted
+fresh_alive h is = ap (λ (x : History). (now x).dead) is
+
+pub fresh_idle : (h : History) → h ≡ fresh → (now h).dumps.running ≡ None
+unfolding now starting booted
+fresh_idle h is = ap (λ (x : History). (now x).dumps.running) is
 
 -- Nothing is written of a dump.
 
@@ -72,11 +112,19 @@ module _ (acts : List Act) (h k : History) (bytes : List ℕ) (is : h ≡ fresh)
   played_as = record {
     start = p.history.start ∙ ap (λ (x : History). x.start) is;
     story = entries ∙ whole ∙ ap (λ es. lines_story acts (outcomes_of es) starting) (sym entries);
-    text =
+    told =
         written ∙ ap (text_of starting) whole ∙ sym (transcript_lines acts (outcomes_of p.entries) starting)
         ∙ ap (λ es. transcript acts (outcomes_of es) starting) (sym entries);
     alive = p.alive;
   }
+
+-- the same as the calls have it
+pub played_by : (n : ℕ) (acts : List Act) (h k : History) (a b : Option (List ℕ)) (bytes : List ℕ) → acts ≡ drill_script n → h ≡ fresh → a ≡ Some [] → b ≡ Some bytes → Plays (lines_story acts) h k a b → IsPlayedAs (drill_script n) k bytes
+played_by n acts h k a b bytes is_acts is_h is_a is_b p =
+    played_as (drill_script n) h k bytes is_h
+    (subst (λ (x : List Act). Plays (lines_story x) h k (Some []) (Some bytes)) is_acts
+    (subst (λ (x : Option (List ℕ)). Plays (lines_story acts) h k x (Some bytes)) is_a
+    (subst (λ (x : Option (List ℕ)). Plays (lines_story acts) h k a x) is_b p)))
 
 -- the summary of what was played
 pub drilled_as : (n size : ℕ) (h : History) (bytes text : List ℕ) → IsPlayedAs (drill_script n) h bytes → size ≡ objects_in (now h) → text ≡ summary n size bytes → IsDrilledAs n h text
@@ -84,9 +132,9 @@ unfolding now
 drilled_as n size h bytes text p counts is = record {
   start = p.start;
   story = p.story;
-  text =
+  written =
       is ∙ ap (λ x. summary n x bytes) (counts ∙ ap (λ (w : World). objects_in (after w h.entries)) p.start)
-      ∙ ap (λ x. summary n (objects_in (after starting h.entries)) x) p.text;
+      ∙ ap (λ x. summary n (objects_in (after starting h.entries)) x) p.told;
 }
 
 -- Its tale, and what was written.
@@ -99,7 +147,7 @@ module _ (n : ℕ) (h : History) (text : List ℕ) (tale : List Entry) (d : IsDr
   }
 
   pub text_is : text ≡ drill_text n tale
-  text_is = d.text ∙ ap (drill_text n) (sym ends)
+  text_is = d.written ∙ ap (drill_text n) (sym ends)
 
   module _ {K : Type 0} (written : K → Option (List ℕ)) (faults : K → ℕ) (before now : K) where
     pub drilled_fine : Appends (written before) (written now) text → faults now ≡ faults before → HasDrilled written faults n Fine before now tale

@@ -5,6 +5,10 @@ pub mod Acts
 pub mod Towards
 pub mod Whole
 pub mod Answered
+pub mod Appending
+pub mod Records
+pub mod Dumpings
+pub mod Mounted
 pub mod Dumped
 pub mod Ending
 pub mod Lining

@@ -15,12 +15,16 @@ use Rattle.muck_script.specs.Story.{outcomes_of, lines_story, transcript}
 use Rattle.muckd.specs.declared.why.Why.{Why}
 use Rattle.muckd.specs.declared.why.Why.TheVariants.{Fine, NoMemory, WriteFault}
 
+-- how the thing of this number is described
+unfoldable pub describing : ℕ → List ℕ
+describing i = codes "@describe thing " ++ decimal i ++ codes "=A thing of {add:" ++ decimal i ++ codes "," ++ decimal i ++ codes "}."
+
 -- the round of this number: a room and a thing are made, and the thing is described, looked at and dropped
 unfoldable pub round : ℕ → List Act
 round i =
     Send 1 (codes "@dig Room " ++ decimal i)
     ∷ Send 1 (codes "@create thing " ++ decimal i)
-    ∷ Send 1 (codes "@describe thing " ++ decimal i ++ codes "=A thing of {add:" ++ decimal i ++ codes "," ++ decimal i ++ codes "}.")
+    ∷ Send 1 (describing i)
     ∷ Send 1 (codes "look thing " ++ decimal i)
     ∷ Send 1 (codes "drop thing " ++ decimal i)
     ∷ []
@@ -38,7 +42,7 @@ drill_script n = Open 1 ∷ Send 1 (codes "connect One potrzebie") ∷ (rounds n
 unfoldable pub summary : ℕ → ℕ → List ℕ → List ℕ
 summary n objects text =
     codes "drill " ++ decimal n ++ codes ": " ++ decimal objects ++ codes " objects, "
-    ++ decimal (length (filter is_line_feed text)) ++ codes " lines, " ++ decimal (length text) ++ codes " bytes" ++ 10 ∷ []
+    ++ decimal (length (filter is_line_feed text)) ++ codes " lines, " ++ decimal (length text) ++ (codes " bytes" ++ 10 ∷ [])
 
 -- The tale of a drill that was played whole: the story of its script in the starting world, where dumps come out as the tale says.
 pub record IsDrilled (n : ℕ) (tale : List Entry) : Type 0 where

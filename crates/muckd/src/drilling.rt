@@ -1,21 +1,23 @@
 // The drill: a fixed script on the starting world, of which a summary is written.
-ghost use Rattle.std.specs.Prelude.{◌≡◌, ◌≤◌, ◌++◌, ◌∷◌, [], IfOk, OnOk, string_bytes, length};
+ghost use Rattle.std.specs.Prelude.{◌≡◌, ◌≤◌, ◌++◌, ◌∷◌, [], IfOk, OnOk, length};
+ghost use Rattle.std.specs.Fmt.{decimal};
 ghost use Rattle.std.specs.List.{filter};
 ghost use Rattle.muck_io.specs.Faults.{Rose};
 ghost use Rattle.muck_script.specs.declared.act.Act.TheVariants.{Send};
 ghost use Rattle.muck_script.specs.Lines.{is_line_feed};
-ghost use Rattle.muckd.specs.Drill.{round, rounds, drill_script, summary, HasDrilled};
+ghost use Rattle.muckd.specs.Drill.{describing, round, rounds, drill_script, summary, HasDrilled};
 ghost use Rattle.muckd.specs.inner.Drills.{fresh, IsPlayedAs, IsDrilledAs, MayDrill};
 
 use crate::dumping::Store;
 use crate::playing::{RunFault, buffer, play};
 use crate::why::Why;
+use itoa::Buffer;
 use muck_disk::{Disk, DiskFault};
 use muck_io::{MemSink, Sink, WriteFailed, write_all};
 use muck_machine::World;
 use muck_model::{Line, NoMemory, Tale};
 use muck_script::Act;
-use std::alloc::{AllocError, Global};
+use std::alloc::Global;
 
 // No disk: in a drill no dump is asked, and one that were would fail.
 #[derive(Drop)]
@@ -71,34 +73,68 @@ impl Disk for Nowhere {
     }
 }
 
-// This text is sent on the connection 1.
-fn push_send(alloc: Global, acts: &mut Vec<Act>, text: String) -> Result<(), NoMemory>
-    ensures { OnOk result (acts.new.items ≡ acts.old.items ++ Send 1 (string_bytes text) ∷ []) }
+// Some bytes, and a number behind them.
+fn push_number(text: &mut Vec<u8>, lead: &[u8], n: u64) -> Result<(), NoMemory>
+    ensures { OnOk result (text.new.items ≡ text.old.items ++ lead.now ++ decimal n) }
 {
-    let Ok(line) = Line::new(alloc, text.as_bytes()) else {
+    let mut buffer = Buffer::new();
+    text.extend_from_slice(lead)?;
+    text.extend_from_slice(buffer.format(n).as_bytes())?;
+    Ok(())
+}
+
+fn numbered(alloc: Global, lead: &[u8], n: u64) -> Result<Vec<u8>, NoMemory>
+    ensures { IfOk result (λ text. text.items ≡ lead.now ++ decimal n) }
+{
+    let mut text = Vec::new(alloc);
+    push_number(&mut text, lead, n)?;
+    Ok(text)
+}
+
+// How the thing of this number is described.
+fn describing(alloc: Global, n: u64) -> Result<Vec<u8>, NoMemory>
+    ensures { IfOk result (λ text. text.items ≡ describing n) }
+{
+    let mut text = Vec::new(alloc);
+    push_number(&mut text, b"@describe thing ", n)?;
+    push_number(&mut text, b"=A thing of {add:", n)?;
+    push_number(&mut text, b",", n)?;
+    text.extend_from_slice(b"}.")?;
+    Ok(text)
+}
+
+// This text is sent on the connection 1.
+fn push_send(alloc: Global, acts: &mut Vec<Act>, text: &[u8]) -> Result<(), NoMemory>
+    ensures { OnOk result (acts.new.items ≡ acts.old.items ++ Send 1 text.now ∷ []) }
+{
+    let Ok(line) = Line::new(alloc, text) else {
         return Err(NoMemory);
     };
     acts.push(Act::Send(1, line))?;
     Ok(())
 }
 
-#[tactic(auto, unfolding(crate::specs::Drill::round))]
-fn push_round(alloc: Global, acts: &mut Vec<Act>, i: u16) -> Result<(), NoMemory>
+// A line that ends with a number is sent.
+fn push_numbered(alloc: Global, acts: &mut Vec<Act>, lead: &[u8], n: u64) -> Result<(), NoMemory>
+    ensures { OnOk result (acts.new.items ≡ acts.old.items ++ Send 1 (lead.now ++ decimal n) ∷ []) }
+{
+    let text = numbered(alloc, lead, n)?;
+    push_send(alloc, acts, &text)
+}
+
+fn push_round(alloc: Global, acts: &mut Vec<Act>, i: u64) -> Result<(), NoMemory>
     ensures { OnOk result (acts.new.items ≡ acts.old.items ++ round i) }
 {
-    push_send(alloc, acts, format!(in alloc; "@dig Room {i}")?)?;
-    push_send(alloc, acts, format!(in alloc; "@create thing {i}")?)?;
-    push_send(
-        alloc,
-        acts,
-        format!(in alloc; "@describe thing {i}=A thing of {{add:{i},{i}}}.")?,
-    )?;
-    push_send(alloc, acts, format!(in alloc; "look thing {i}")?)?;
-    push_send(alloc, acts, format!(in alloc; "drop thing {i}")?)?;
+    push_numbered(alloc, acts, b"@dig Room ", i)?;
+    push_numbered(alloc, acts, b"@create thing ", i)?;
+    let text = describing(alloc, i)?;
+    push_send(alloc, acts, &text)?;
+    push_numbered(alloc, acts, b"look thing ", i)?;
+    push_numbered(alloc, acts, b"drop thing ", i)?;
     Ok(())
 }
 
-fn push_rounds(alloc: Global, acts: &mut Vec<Act>, count: u16) -> Result<(), NoMemory>
+fn push_rounds(alloc: Global, acts: &mut Vec<Act>, count: u64) -> Result<(), NoMemory>
     ensures { OnOk result (acts.new.items ≡ acts.old.items ++ rounds count) }
 {
     for done in 0..count {
@@ -108,16 +144,12 @@ fn push_rounds(alloc: Global, acts: &mut Vec<Act>, count: u16) -> Result<(), NoM
 }
 
 // The script of a drill of so many rounds.
-fn drill_script(alloc: Global, count: u16) -> Result<Vec<Act>, NoMemory>
+fn drill_script(alloc: Global, count: u64) -> Result<Vec<Act>, NoMemory>
     ensures { IfOk result (λ acts. acts.items ≡ drill_script count) }
 {
     let mut acts = Vec::new(alloc);
     acts.push(Act::Open(1))?;
-    push_send(
-        alloc,
-        &mut acts,
-        String::from_str(alloc, "connect One potrzebie")?,
-    )?;
+    push_send(alloc, &mut acts, b"connect One potrzebie")?;
     push_rounds(alloc, &mut acts, count)?;
     acts.push(Act::Wait(1))?;
     Ok(acts)
@@ -131,17 +163,20 @@ fn count_lines(text: &[u8]) -> usize
 }
 
 // What is written of a drill.
-#[tactic(auto, unfolding(crate::specs::Drill::summary))]
-fn summary(alloc: Global, count: u16, objects: usize, text: &[u8]) -> Result<String, AllocError>
-    ensures { IfOk result (λ t. string_bytes t ≡ summary count objects text.now) }
+fn summary(alloc: Global, count: u64, objects: usize, shown: &[u8]) -> Result<Vec<u8>, NoMemory>
+    ensures { IfOk result (λ text. text.items ≡ summary count objects shown.now) }
 {
-    let lines = count_lines(text);
-    let bytes = text.len();
-    format!(in alloc; "drill {count}: {objects} objects, {lines} lines, {bytes} bytes\n")
+    let mut text = Vec::new(alloc);
+    push_number(&mut text, b"drill ", count)?;
+    push_number(&mut text, b": ", objects as u64)?;
+    push_number(&mut text, b" objects, ", count_lines(shown) as u64)?;
+    push_number(&mut text, b" lines, ", shown.len() as u64)?;
+    text.extend_from_slice(b" bytes\n")?;
+    Ok(text)
 }
 
 // Plays the script of a drill into the starting world; answers the transcript.
-fn play_drill(alloc: Global, count: u16, world: &mut World) -> Result<MemSink, NoMemory>
+fn play_drill(alloc: Global, count: u64, world: &mut World) -> Result<MemSink, NoMemory>
     requires { world.old ≡ fresh }
     ensures { IfOk result (λ sink. IsPlayedAs (drill_script count) world.new sink.bytes) }
 {
@@ -171,9 +206,9 @@ fn play_drill(alloc: Global, count: u16, world: &mut World) -> Result<MemSink, N
 }
 
 // Plays a drill, and makes its summary.
-fn drilled(alloc: Global, count: u16, world: &mut World) -> Result<String, NoMemory>
+fn drilled(alloc: Global, count: u64, world: &mut World) -> Result<Vec<u8>, NoMemory>
     requires { world.old ≡ fresh }
-    ensures { IfOk result (λ text. IsDrilledAs count world.new (string_bytes text)) }
+    ensures { IfOk result (λ text. IsDrilledAs count world.new text.items) }
 {
     let transcript = play_drill(alloc, count, world)?;
     let text = summary(alloc, count, world.objects(), transcript.bytes())?;
@@ -182,7 +217,7 @@ fn drilled(alloc: Global, count: u16, world: &mut World) -> Result<String, NoMem
 
 /// A drill of so many rounds: the script is played into the starting world, which no disk holds, and a summary of it is written.
 /// After want of memory nothing was written.
-pub fn drill<K: Sink>(alloc: Global, count: u16, out: &mut K) -> (Why, Tale)
+pub fn drill<K: Sink>(alloc: Global, count: u64, out: &mut K) -> (Why, Tale)
     ensures history { HasDrilled K.written K.faults count result.0 out.old out.new result.1.entries }
     ensures why { MayDrill result.0 }
     ensures write { result.0 ≡ Why.WriteFault → Rose (K.faults out.old) (K.faults out.new) }
@@ -195,7 +230,7 @@ pub fn drill<K: Sink>(alloc: Global, count: u16, out: &mut K) -> (Why, Tale)
         world.died(0);
         return (Why::NoMemory, world.into_tale());
     };
-    match write_all(out, text.as_bytes()) {
+    match write_all(out, text.as_slice()) {
         Ok(()) => (Why::Fine, world.into_tale()),
         Err(WriteFailed) => (Why::WriteFault, world.into_tale()),
     }

@@ -112,11 +112,11 @@ fn obey<S: Source, K: Sink, D: Disk>(
     first: &mut D,
     second: &mut D,
 ) -> (Why, Tale)
-    ensures usage { (result.0 ≡ Why.Usage) ↔ (is_scripted (option_map seen_command command) ≡ false) }
+    ensures usage { (result.0 ≡ Why.Usage) ↔ (is_scripted (option_map seen_command command.entry) ≡ false) }
     ensures untouched { result.0 ≡ Why.Usage → (script.new ≡ script.old) × (out.new ≡ out.old) × (first.new ≡ first.old) × (second.new ≡ second.old) × (result.1.entries ≡ []) }
     ensures bad_script { (line : ℕ) → result.0 ≡ Why.BadScript line → IsFirstOutside (S.left script.old) line }
-    ensures run { (store : List ℕ) → option_map seen_command command ≡ Some (run store) → EndsAs result.0 (IsUnbegun D.tells D.seen D.moment D.images out.old out.new first.old second.old first.new second.new result.1.entries) (HasBegun S.left S.faults K.written K.faults D.tells D.attached D.seen D.moment D.images store result.0 script.old script.new out.old out.new first.old second.old first.new second.new result.1.entries result.1.notes) }
-    ensures drill { (n : ℕ) → option_map seen_command command ≡ Some (drill n) → HasDrilled K.written K.faults n result.0 out.old out.new result.1.entries × (script.new ≡ script.old) × (first.new ≡ first.old) × (second.new ≡ second.old) }
+    ensures run { (store : List ℕ) → option_map seen_command command.entry ≡ Some (run store) → EndsAs result.0 (IsUnbegun D.tells D.seen D.moment D.images out.old out.new first.old second.old first.new second.new result.1.entries) (HasBegun S.left S.faults K.written K.faults D.tells D.attached D.seen D.moment D.images store result.0 script.old script.new out.old out.new first.old second.old first.new second.new result.1.entries result.1.notes) }
+    ensures drill { (n : ℕ) → option_map seen_command command.entry ≡ Some (drill n) → HasDrilled K.written K.faults n result.0 out.old out.new result.1.entries × (script.new ≡ script.old) × (first.new ≡ first.old) × (second.new ≡ second.old) }
     ensures read_fault { result.0 ≡ Why.ReadFault → Rose (S.faults script.old) (S.faults script.new) }
     ensures write_fault { result.0 ≡ Why.WriteFault → Rose (K.faults out.old) (K.faults out.new) }
     ensures source_stands { (result.0 ≡ Why.ReadFault → ⊥) → S.faults script.new ≡ S.faults script.old }
@@ -128,12 +128,14 @@ fn obey<S: Source, K: Sink, D: Disk>(
 {
     match command {
         Some(Command::Run(name)) => run(alloc, name, script, out, first, second),
-        Some(Command::Drill(rounds)) => drill(alloc, rounds, out),
-        Some(Command::Serve {
-            store: _,
-            port: _,
-            workers: _,
-        }) => (Why::Usage, Tale::none()),
+        Some(Command::Drill(rounds)) => drill(alloc, u64::from(rounds), out),
+        Some(
+            Command::Serve {
+                store: _,
+                port: _,
+                workers: _,
+            },
+        ) => (Why::Usage, Tale::none()),
         None => (Why::Usage, Tale::none()),
     }
 }
@@ -147,7 +149,7 @@ fn refusal_of(fault: LogFault) -> Why
         LogFault::DiskFault => Why::DiskFault,
         LogFault::Damaged { second, at } => Why::Damaged { second, at },
         // Only `append` answers these.
-        LogFault::StoreFull { end: _, more: _ } | LogFault::Stale =>
+        LogFault::StoreFull { end: _, more: _ } | LogFault::Unfit | LogFault::Stale =>
             Why::Damaged {
                 second: false,
                 at: 0,
@@ -165,7 +167,7 @@ fn why_of(fault: LogFault) -> Why
         LogFault::Damaged { second, at } => Why::Damaged { second, at },
         LogFault::StoreFull { end, more } => Why::StoreFull { end, more },
         // No dump of a world answers these on disks that tell their bytes.
-        LogFault::Stale => Why::Damaged {
+        LogFault::Unfit | LogFault::Stale => Why::Damaged {
             second: false,
             at: 0,
         },

@@ -16,14 +16,14 @@ fresh = record { start = starting; entries = []; notes = []; counted = None }
 pub record IsPlayedAs (acts : List Act) (h : History) (text : List ℕ) : Type 0 where
   pub start : h.start ≡ starting
   pub story : h.entries ≡ lines_story acts (outcomes_of h.entries) starting
-  pub text : text ≡ transcript acts (outcomes_of h.entries) starting
+  pub told : text ≡ transcript acts (outcomes_of h.entries) starting
   pub alive : (now h).dead ≡ false
 
 -- and that is its summary
 pub record IsDrilledAs (n : ℕ) (h : History) (text : List ℕ) : Type 0 where
   pub start : h.start ≡ starting
   pub story : h.entries ≡ lines_story (drill_script n) (outcomes_of h.entries) starting
-  pub text : text ≡ drill_text n h.entries
+  pub written : text ≡ drill_text n h.entries
 
 -- why a drill ends
 abbrev pub MayDrill : Why → Type 0

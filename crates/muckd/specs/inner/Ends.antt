@@ -9,7 +9,7 @@ use Rattle.muck_store.specs.Whole.{is_whole}
 use Rattle.muck_log.specs.World.{World as Kept, tune_fits}
 use Rattle.muck_log.specs.Store.{LogState, stored}
 use Rattle.muck_log.specs.declared.fault.LogFault.{LogFault}
-use Rattle.muck_log.specs.declared.fault.LogFault.TheVariants.{NoMemory as LogMemory, DiskFault as LogDisk, Damaged as LogDamaged, StoreFull as LogFull, Stale}
+use Rattle.muck_log.specs.declared.fault.LogFault.TheVariants.{NoMemory as LogMemory, DiskFault as LogDisk, Damaged as LogDamaged, StoreFull as LogFull, Unfit, Stale}
 use Rattle.spec_dumps.specs.Survival.{IsSafe, StandsWhole}
 use Rattle.spec_events.specs.World.{World, booted}
 use Rattle.muck_model.specs.declared.event.Event.TheVariants.{Died}
@@ -28,6 +28,7 @@ refusal_of LogMemory = NoMemory
 refusal_of LogDisk = DiskFault
 refusal_of (LogDamaged second at) = Damaged second at
 refusal_of (LogFull end more) = Damaged false 0
+refusal_of Unfit = Damaged false 0
 refusal_of Stale = Damaged false 0
 
 -- why a call ends whose last dump failed
@@ -36,6 +37,7 @@ why_of LogMemory = NoMemory
 why_of LogDisk = DiskFault
 why_of (LogDamaged second at) = Damaged second at
 why_of (LogFull end more) = StoreFull end more
+why_of Unfit = Damaged false 0
 why_of Stale = Damaged false 0
 
 -- why the files weren't opened

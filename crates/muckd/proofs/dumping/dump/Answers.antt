@@ -1,41 +1,36 @@
-use Rattle.std.proofs.Common.{None}
-use Rattle.muckd.proofs.Dumped.{plays_made, breaks_made, last_made, last_dead, came_made, noted_made, noted_dead, idle_made, porter_cuts, dumps_ok, dumps_err}
+use Rattle.std.proofs.Common.{ap, None, Err}
+use Rattle.muckd.proofs.Dumped.{dies_at_once, last_at_once}
+use Rattle.muckd.proofs.Dumpings.{died_here, dumps_died}
+use Rattle.muckd.proofs.Mounted.{is_disk, of_fault}
+use Rattle.muckd.proofs.Noted.{noted_one}
 use Rattle.muckd.proofs.dumping.dump.Goals as goal
 
-pub dump-requires-clause-may : goal.dump-requires-clause-may
-dump-requires-clause-may g c = porter_cuts _ c.requires.idle
-
-pub dump-requires-clause-mounted : goal.dump-requires-clause-mounted
-dump-requires-clause-mounted g c = λ tells. let there = c.requires.mounted tells in (there.0, there.1.keeps)
-
-pub returns-in-Ok-clause-plays : goal.returns-in-Ok-clause-plays
-returns-in-Ok-clause-plays g c = λ o. plays_made _ _ o _ c.in-Ok.ensures.happened c.requires.alive
-
-pub returns-in-Ok-clause-last : goal.returns-in-Ok-clause-last
-returns-in-Ok-clause-last g c = last_made _ _ _ c.in-Ok.ensures.happened
-
-pub returns-in-Ok-clause-outcome : goal.returns-in-Ok-clause-outcome
-returns-in-Ok-clause-outcome g c = came_made _ _ _ c.in-Ok.ensures.happened
-
-pub returns-in-Ok-clause-notes : goal.returns-in-Ok-clause-notes
-returns-in-Ok-clause-notes g c = noted_made _ _ _ c.in-Ok.ensures.happened
-
-pub returns-in-Ok-clause-idle : goal.returns-in-Ok-clause-idle
-returns-in-Ok-clause-idle g c = idle_made _ _ _ c.in-Ok.ensures.happened
+pub dump_mounted-requires-clause-mounted : goal.dump_mounted-requires-clause-mounted
+dump_mounted-requires-clause-mounted g c = λ tells. let there = c.requires.mounted tells in (there.0, c.mount.ensures.keeps there.0 c.args.world.now tells there.1)
 
 pub returns-in-Ok-clause-kept : goal.returns-in-Ok-clause-kept
-returns-in-Ok-clause-kept g c = λ mounted tells r.
-    dumps_ok g.D.Disk.seen g.D.Disk.moment g.D.Disk.images g.D.Disk.faults _ _ _ mounted _ _ (c.in-Ok.ensures.kept mounted tells r.keeps)
+returns-in-Ok-clause-kept g c = λ mounted tells r. c.dump_mounted.ensures.kept mounted tells (c.mount.ensures.keeps mounted c.args.world.now tells r)
 
-pub returns-in-Err-clause-plays : goal.returns-in-Err-clause-plays
-returns-in-Err-clause-plays g c = λ o. breaks_made _ _ o c.in-Err.ensures.happened
+pub returns-in-NoMemory-clause-plays : goal.returns-in-NoMemory-clause-plays
+returns-in-NoMemory-clause-plays g c = λ o. dies_at_once _ o _ c.died.ensures
 
-pub returns-in-Err-clause-last : goal.returns-in-Err-clause-last
-returns-in-Err-clause-last g c = last_dead _ _ c.in-Err.ensures.happened
+pub returns-in-NoMemory-clause-last : goal.returns-in-NoMemory-clause-last
+returns-in-NoMemory-clause-last g c = last_at_once _ None _ c.died.ensures
 
-pub returns-in-Err-clause-notes : goal.returns-in-Err-clause-notes
-returns-in-Err-clause-notes g c = noted_dead _ _ c.in-Err.ensures.happened
+pub returns-in-NoMemory-clause-notes : goal.returns-in-NoMemory-clause-notes
+returns-in-NoMemory-clause-notes g c = noted_one _ _ _ c.died.ensures
 
-pub returns-in-Err-clause-kept : goal.returns-in-Err-clause-kept
-returns-in-Err-clause-kept g c = λ mounted tells r.
-    dumps_err g.D.Disk.seen g.D.Disk.moment g.D.Disk.images g.D.Disk.faults _ _ _ mounted _ _ _ (c.in-Err.ensures.kept mounted tells r.keeps)
+pub returns-in-NoMemory-clause-kept : goal.returns-in-NoMemory-clause-kept
+returns-in-NoMemory-clause-kept g c = λ mounted tells r.
+    dumps_died g.D.Disk.seen g.D.Disk.moment g.D.Disk.images g.D.Disk.faults mounted _ _ _ _ (died_here g.D.Disk.seen g.D.Disk.moment g.D.Disk.images g.D.Disk.faults mounted _ _ _ _ _ (c.mount.ensures.keeps mounted c.args.world.now tells r) c.died.ensures)
+
+pub returns-in_default-clause-kept : goal.returns-in_default-clause-kept
+returns-in_default-clause-kept g c = λ mounted tells r.
+    let is = is_disk c.in-Err.fault c.in_default.not-NoMemory (c.in-Err.ensures.fault mounted c.args.world.now tells r) in
+    c.dump_unmounted.ensures.kept mounted tells is (c.in-Err.ensures.risen mounted c.args.world.now tells r (ap Err is)) (c.mount.ensures.keeps mounted c.args.world.now tells r)
+
+pub returns-in_default-clause-cause : goal.returns-in_default-clause-cause
+returns-in_default-clause-cause g c = of_fault c.dump_unmounted.result c.in-Err.fault _ _ c.dump_unmounted.ensures.same (λ is. c.in-Err.ensures.cause (ap Err is))
+
+pub returns-in_default-clause-apart : goal.returns-in_default-clause-apart
+returns-in_default-clause-apart g c = of_fault c.dump_unmounted.result c.in-Err.fault _ _ c.dump_unmounted.ensures.same c.in_default.not-NoMemory

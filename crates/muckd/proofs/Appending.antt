@@ -1,0 +1,95 @@
+-- What the log answers to a batch that makes a whole world.
+use Rattle.std.proofs.Common.{◌≡◌, ◌⊎◌, inl, inr, ℕ, ◌≤◌, Bool, true, false, ◌&&◌, List, [], ◌∷◌, length, refl, sym, ap, subst, ◌∙◌, arith, Option, Some, None, Result, Ok, Err}
+use Rattle.std.proofs.lemmas.Bool.{le-leb}
+use Rattle.muck_codec.specs.declared.stored.Batch.{Batch}
+use Rattle.muck_log.specs.World.{World as Kept, laid, is_between, tune_fits}
+use Rattle.muck_log.specs.Store.{Chosen, LogState, LeavesBoth, IsMounted, target, after_batch, stored}
+use Rattle.muck_log.specs.Append.{IsAppended, IsNext, IsTouching, LoadsEither, payload_of}
+use Rattle.muck_log.specs.declared.fault.LogFault.{LogFault}
+use Rattle.muck_log.specs.declared.fault.LogFault.TheVariants.{NoMemory, DiskFault, Damaged, StoreFull, Unfit, Stale}
+use Rattle.muck_model.specs.declared.tune.Tune.{Tune}
+use Rattle.spec_admin.specs.Parameters.{IsInRange}
+use Rattle.spec_admin.specs.declared.word.Parameter.TheVariants.{InstrSlice, PreemptUnits, M1Units, M2Units, ProcessLimit, PlayerProcesses, MpiCommands, DumpInterval}
+use Rattle.spec_live.specs.Objects.{Entry, object_in, kind_in}
+use Rattle.spec_live.specs.Consistent.{IsConsistent}
+use Rattle.muckd.specs.inner.Dumps.{Appended}
+
+-- What is tuned can be stored.
+
+both : (a b : Bool) → a ≡ true → b ≡ true → (a && b) ≡ true
+both true true p q = refl
+both true false p q = q
+both false b p q = p
+
+between : (n most : ℕ) → (1 ≤ n) × (n ≤ most) → is_between n most ≡ true
+between n most p = both _ _ (le-leb 1 n p.0) (le-leb n most p.1)
+
+pub tune_of : (t : Tune) → IsInRange t → tune_fits t ≡ true
+unfolding tune_fits
+tune_of t p =
+    both _ _ (between _ _ (p InstrSlice)) (both _ _ (between _ _ (p PreemptUnits)) (both _ _ (between _ _ (p M1Units)) (both _ _ (between _ _ (p M2Units))
+    (both _ _ (between _ _ (p ProcessLimit)) (both _ _ (between _ _ (p PlayerProcesses)) (both _ _ (between _ _ (p MpiCommands)) (between _ _ (p DumpInterval))))))))
+
+-- a consistent world has Room Zero and One
+pub two_there : (es : List Entry) → IsConsistent es → 2 ≤ length es
+unfolding kind_in object_in
+two_there [] is = let first = is.first in cc
+two_there (e ∷ []) is = let first = is.first in cc
+two_there (e ∷ f ∷ es) is = omega arith
+
+module _ {D : Type 0} (seen : D → List ℕ) (moment : D → ℕ) (images : D → ℕ → List ℕ → Type 0) where
+  -- nothing was called: what a crash leaves loads as the store that was mounted
+  stays : (log : LogState) (f s : D) (x : Chosen) → IsMounted seen moment images log f s → LeavesBoth moment images f s f s (LoadsEither log.chosen x)
+  stays log f s x m = record {
+    first_later = omega arith;
+    second_later = omega arith;
+    first_kept = λ t c low left. left;
+    second_kept = λ t c low left. left;
+    each = λ t u c d t_low t_high u_low u_high left_c left_d. inl (loads c d (at t c t_low t_high left_c) (at_second u d u_low u_high left_d));
+  }
+    where
+      at : (t : ℕ) (c : List ℕ) → moment f ≤ t → t ≤ moment f → images f t c → images f (moment f) c
+      at t c low high left = let same : t ≡ moment f = omega arith in rw (← same) left
+
+      at_second : (t : ℕ) (c : List ℕ) → moment s ≤ t → t ≤ moment s → images s t c → images s (moment s) c
+      at_second t c low high left = let same : t ≡ moment s = omega arith in rw (← same) left
+
+      loads : (c d : List ℕ) → images f (moment f) c → images s (moment s) d → stored c d ≡ Ok log.chosen
+      loads c d left_c left_d = ap (λ x. stored x d) (m.first_durable c left_c) ∙ ap (λ y. stored (seen f) y) (m.second_durable d left_d) ∙ m.load
+
+  stays_as : (log : LogState) (f s f' s' : D) (x : Chosen) → IsMounted seen moment images log f s → f' ≡ f → s' ≡ s → LeavesBoth moment images f s f' s' (LoadsEither log.chosen x)
+  stays_as log f s f' s' x m e g =
+      subst (λ (a : D). LeavesBoth moment images f s a s' (LoadsEither log.chosen x)) (sym e)
+      (subst (λ (b : D). LeavesBoth moment images f s f b (LoadsEither log.chosen x)) (sym g) (stays log f s x m))
+
+  -- it wasn't even asked
+  pub refused_before : (log : LogState) (f s : D) (payload : List ℕ) (made : Kept) (left : Option LogState) → IsMounted seen moment images log f s → left ≡ None → Appended seen moment images payload made log left f s f s (Err Unfit)
+  refused_before log f s payload made left m is = record { any = stays log f s _ m; answer = is }
+
+  module _ (log new : LogState) (f s f' s' : D) (batch : Batch) (made : Kept) (m : IsMounted seen moment images log f s)
+      (any : (w : Kept) → laid (payload_of log batch) (target log.chosen).held.world ≡ Some w → LeavesBoth moment images f s f' s' (LoadsEither log.chosen (after_batch log.chosen (payload_of log batch) w)))
+      (payload : List ℕ) (same : payload_of log batch ≡ payload) where
+    abbrev Said : List ℕ → Option LogState → Result (Unit {0}) LogFault → Type 0
+    Said bytes left r = Appended seen moment images bytes made log left f s f' s' r
+
+    abbrev Made : Type 0
+    Made = laid (payload_of log batch) (target log.chosen).held.world ≡ Some made
+
+    pub appended_ok : (left : Option LogState) → left ≡ Some new → Made → IsNext log new (payload_of log batch) → IsMounted seen moment images new f' s' → Said payload left (Ok tt)
+    appended_ok left is makes next there =
+        let said : Said (payload_of log batch) left (Ok tt) = record { any = any made makes; answer = (new, is, next, there, makes) } in
+        subst (λ bytes. Said bytes left (Ok tt)) same said
+
+    untouched : (fault : LogFault) → (IsTouching (Err fault) → ⊥) → IsTouching (Err fault) ⊎ ((f' ≡ f) × (s' ≡ s)) → LeavesBoth moment images f s f' s' (LoadsEither log.chosen (after_batch log.chosen (payload_of log batch) made))
+    untouched fault none e = elim e [ inl touched ↦ absurd (none touched) | inr same ↦ stays_as log f s f' s' _ m same.0 same.1 ]
+
+    refused : (fault : LogFault) (left : Option LogState) → left ≡ None → IsAppended log new batch (Err fault) → IsTouching (Err fault) ⊎ ((f' ≡ f) × (s' ≡ s)) → (IsTouching (Err fault) → Made) → Said (payload_of log batch) left (Err fault)
+    refused NoMemory left is said e makes = record { any = untouched NoMemory (λ t. t) e; answer = is }
+    refused DiskFault left is said e makes = record { any = any made (makes tt); answer = is }
+    refused (Damaged second at) left is said e makes = absurd said
+    refused (StoreFull end more) left is said e makes = record { any = untouched (StoreFull end more) (λ t. t) e; answer = (is, said.1, said.2, said.3) }
+    refused Unfit left is said e makes = record { any = untouched Unfit (λ t. t) e; answer = is }
+    refused Stale left is said e makes = let fresh = m.fresh in let stale = said.0 in cc
+
+    pub appended_err : (fault : LogFault) (left : Option LogState) → left ≡ None → IsAppended log new batch (Err fault) → IsTouching (Err fault) ⊎ ((f' ≡ f) × (s' ≡ s)) → (IsTouching (Err fault) → Made) → Said payload left (Err fault)
+    appended_err fault left is said e makes = subst (λ bytes. Said bytes left (Err fault)) same (refused fault left is said e makes)
