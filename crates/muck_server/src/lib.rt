@@ -6,4 +6,6 @@ mod seats;
 mod serving;
 mod why;
 
+pub use seats::{Parts, room};
+pub use serving::{Way, run};
 pub use why::Why;

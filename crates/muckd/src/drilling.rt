@@ -8,7 +8,7 @@ ghost use Rattle.muck_script.specs.Lines.{is_line_feed};
 ghost use Rattle.muckd.specs.Drill.{describing, round, rounds, drill_script, summary, HasDrilled};
 ghost use Rattle.muckd.specs.inner.Drills.{fresh, IsPlayedAs, IsDrilledAs, MayDrill};
 
-use crate::dumping::Store;
+use muck_dumping::Store;
 use crate::playing::{RunFault, buffer, play};
 use crate::why::Why;
 use itoa::Buffer;

@@ -4,8 +4,9 @@
 
 mod command;
 mod drilling;
-mod dumping;
+
 mod playing;
+mod serving;
 #[cfg(test)]
 mod tests;
 mod top;
@@ -15,6 +16,8 @@ use muck_disk::FileDisk;
 use muck_io::{ReaderSource, WriterSink};
 use std::process::ExitCode;
 use std::{env, io};
+use command::{Command, command_of};
+use serving::serve;
 use top::by_script;
 use why::Why;
 
@@ -44,6 +47,15 @@ fn main(rt: HostRuntime) -> io::Result<ExitCode> {
     let mut out = WriterSink::new(io::writer(&rt));
     let mut first = FileDisk::new(rt);
     let mut second = FileDisk::new(rt);
+    if let Some(Command::Serve {
+        store,
+        port,
+        workers,
+    }) = command_of(&words)
+    {
+        let why = serve(&rt, rt, store, port, workers, &mut first, &mut second);
+        return tell(rt, why);
+    }
     let done = by_script(
         rt.alloc(),
         &words,

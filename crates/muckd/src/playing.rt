@@ -8,7 +8,7 @@ ghost use Rattle.spec_dumps.specs.Holding.{Quietly, Rests};
 ghost use Rattle.muckd.specs.inner.Dumps.{Held, IsNotedOn};
 ghost use Rattle.muckd.specs.inner.Plays.{PlaysOrBreaks};
 
-use crate::dumping::{Store, dump};
+use muck_dumping::{Store, dump};
 use muck_disk::Disk;
 use muck_io::{Sink, WriteFailed, write_all};
 use muck_machine::World;
@@ -275,7 +275,9 @@ fn make_asked<D: Disk>(
     if !is_due(world, line) {
         return Ok(());
     }
-    dump(alloc, world, store, first, second)?;
+    if dump(alloc, world, 0, store, first, second).is_err() {
+        return Err(RunFault::NoMemory);
+    }
     Ok(())
 }
 

@@ -19,7 +19,7 @@ ghost use Rattle.muckd.specs.Outcome.{status_of, halted, HasRead, HasBegun, Ends
 
 use crate::command::{Command, command_of};
 use crate::drilling::drill;
-use crate::dumping::{FILE_MOST, Store, dump};
+use muck_dumping::{FILE_MOST, Store, dump};
 use crate::playing::{RunFault, buffer, play};
 use crate::why::Why;
 use muck_db::{Db, Persisted};
@@ -141,7 +141,7 @@ fn obey<S: Source, K: Sink, D: Disk>(
 }
 
 // Why a call ends whose store couldn't be mounted.
-fn refusal_of(fault: LogFault) -> Why
+pub fn refusal_of(fault: LogFault) -> Why
     ensures { result ≡ refusal_of fault }
 {
     match fault {
@@ -149,7 +149,7 @@ fn refusal_of(fault: LogFault) -> Why
         LogFault::DiskFault => Why::DiskFault,
         LogFault::Damaged { second, at } => Why::Damaged { second, at },
         // Only `append` answers these.
-        LogFault::StoreFull { end: _, more: _ } | LogFault::Unfit | LogFault::Stale =>
+        LogFault::StoreFull { end: _, more: _ } | LogFault::Stale =>
             Why::Damaged {
                 second: false,
                 at: 0,
@@ -158,7 +158,7 @@ fn refusal_of(fault: LogFault) -> Why
 }
 
 // Why a call ends whose last dump failed.
-fn why_of(fault: LogFault) -> Why
+pub fn why_of(fault: LogFault) -> Why
     ensures { result ≡ why_of fault }
 {
     match fault {
@@ -167,7 +167,7 @@ fn why_of(fault: LogFault) -> Why
         LogFault::Damaged { second, at } => Why::Damaged { second, at },
         LogFault::StoreFull { end, more } => Why::StoreFull { end, more },
         // No dump of a world answers these on disks that tell their bytes.
-        LogFault::Unfit | LogFault::Stale => Why::Damaged {
+        LogFault::Stale => Why::Damaged {
             second: false,
             at: 0,
         },
@@ -209,7 +209,7 @@ fn attach<D: Disk>(alloc: Global, store: &str, first: &mut D, second: &mut D) ->
 
 // Opens both files and mounts the store that they hold.
 #[tactic(auto, unfolding(spec_dumps::specs::Fronts::file_most), using(crate::proofs::Started::bootable, crate::proofs::Called::opens_told, crate::proofs::Called::opens_may, crate::proofs::Called::mount_told))]
-fn mount<D: Disk>(alloc: Global, store: &str, first: &mut D, second: &mut D) -> Result<Log, Why>
+pub fn mount<D: Disk>(alloc: Global, store: &str, first: &mut D, second: &mut D) -> Result<Log, Why>
     ensures log { D.tells ≡ true → IfOk result (λ log. IsMountedAs D.seen D.moment D.images file_most log first.new second.new) }
     ensures fine { IfOk result (λ log. IsFine log.chosen.held.world) }
     ensures told { D.tells ≡ true → IfErr result (IsMountWhy (D.seen first.old) (D.seen second.old)) }
@@ -296,7 +296,7 @@ fn boot(alloc: Global, kept: &Kept, began: u64) -> Result<World, NoMemory>
 
 // The world of a log that was mounted, which is to begin at this second, with the note of the mounting.
 #[tactic(auto, using(crate::proofs::Started::properties))]
-fn awake<D: Disk>(
+pub fn awake<D: Disk>(
     alloc: Global,
     log: &Log,
     first: &D,
@@ -362,7 +362,7 @@ fn last_dump<D: Disk>(
     ensures second_later { D.faults second.old ≤ D.faults second.new }
     ensures cause { result ≡ Why.DiskFault → Rose (D.faults first.old) (D.faults first.new) ⊎ Rose (D.faults second.old) (D.faults second.new) }
 {
-    match dump(alloc, world, store, first, second) {
+    match dump(alloc, world, 0, store, first, second) {
         Ok(None) => Why::Fine,
         Ok(Some(fault)) => why_of(fault),
         Err(_) => Why::NoMemory,
