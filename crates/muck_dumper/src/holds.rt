@@ -19,7 +19,7 @@ ghost use Rattle.muck_dumper.specs.inner.Steps.{event_of, KeptBy, Step, Stops, S
 use crate::deeds::{DUMPER, Did, finishes, watches};
 use muck_disk::Disk;
 use muck_dumping::{Pending, Store, write};
-use muck_io::Rest;
+use muck_io::{Rest, YieldRest};
 use muck_log::LogFault;
 use muck_machine::World;
 use std::alloc::Global;
@@ -50,7 +50,7 @@ pub(crate) fn watch_turn<W: Wait, D: Disk, R: Rest>(
     ensures ok { IfOk result (λ did. (s : Step (event_of did) seat.old.me seat.new.me) × KeptBy D.tells D.seen D.moment D.images D.faults store.now.log first.now second.now did s.world (history_seen seat.new.me.0)) }
     ensures err { OnErr result (Left 9 seat.new.me × Waited seat.old.me.0 seat.new.me.0 × (2 ^ 62 ≤ length seat.new.me.0.seen)) }
 {
-    let held = turn.hold(rt, seat, rest)?;
+    let held = turn.hold(rt, seat, &YieldRest)?;
     let mut held = held;
     // For contracts alone: each note stands in its place.
     let _dead = held.state.is_dead();
@@ -82,7 +82,7 @@ fn finish_turn<W: Wait, D: Disk, R: Rest>(
         → IfOk result (λ told. told ≡ false → IsSafe D.moment D.images first.now second.now (history_seen seat.new.me.0).start mounted (history_seen seat.new.me.0).entries (history_seen seat.new.me.0).notes) }
     ensures err { OnErr result (Left 9 seat.new.me × Waited seat.old.me.0 seat.new.me.0 × (2 ^ 62 ≤ length seat.new.me.0.seen)) }
 {
-    let held = turn.hold(rt, seat, rest)?;
+    let held = turn.hold(rt, seat, &YieldRest)?;
     let mut held = held;
     let _dead = held.state.is_dead();
     let told = finishes(&mut held.state, first, second, number, stored);
@@ -103,7 +103,7 @@ fn die_turn<W: Wait, R: Rest>(
     ensures ok { OnOk result ((s : Step Died seat.old.me seat.new.me) × (history_seen seat.new.me.0 ≡ entered s.world (by 9 Died))) }
     ensures err { OnErr result (Left 9 seat.new.me × Waited seat.old.me.0 seat.new.me.0 × (2 ^ 62 ≤ length seat.new.me.0.seen)) }
 {
-    let held = turn.hold(rt, seat, rest)?;
+    let held = turn.hold(rt, seat, &YieldRest)?;
     let mut held = held;
     let _dead = held.state.is_dead();
     held.state.died(DUMPER);

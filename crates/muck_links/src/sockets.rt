@@ -24,6 +24,9 @@ const ROUNDS_AWAKE: u32 = 64;
 // How many milliseconds a round waits in which nothing happens.
 const NAP_MILLIS: u64 = 1;
 
+// The most links that are open at once; further ones wait at the door.
+const LINKS_MOST: usize = 256;
+
 // What a closed link still sent is read away at most so often: else the system would drop what was written to it last.
 const READS_AWAY: usize = 16;
 
@@ -204,7 +207,7 @@ impl<N: Net> Links for MioLinks<N> {
         let Some(door) = &mut self.door else {
             return Accepted::NotYet;
         };
-        if !door.pending {
+        if !door.pending || self.sockets.len() >= LINKS_MOST {
             return Accepted::NotYet;
         }
         match door.listener.accept() {

@@ -101,12 +101,6 @@ impl Peer {
         if self.may_leave(world) {
             return true;
         }
-        if self.may_end(world) {
-            return true;
-        }
-        if !world.is_stopping() {
-            return false;
-        }
-        self.is_worked_off(world)
+        self.may_end(world)
     }
 }

@@ -5,6 +5,7 @@
 mod command;
 mod drilling;
 
+mod napping;
 mod playing;
 mod serving;
 #[cfg(test)]

@@ -1,9 +1,10 @@
 // A world is served, for running only: no contract is written here.
+use crate::napping::NapRest;
 use crate::top::{awake, mount, why_of};
 use crate::why::Why;
 use muck_disk::FileDisk;
 use muck_dumping::{Store, dump};
-use muck_io::{Clock, OpenGate, Rest, SystemClock, YieldRest};
+use muck_io::{Clock, OpenGate, SystemClock};
 use muck_links::{Links, Listened, MioLinks};
 use muck_server::{Way, room, run};
 use std::sync::Wait;
@@ -30,6 +31,7 @@ pub fn serve<W: Threads + Wait + Sync>(
     };
     let mut store = Store::new(log);
     let mut links = MioLinks::new(alloc, rt);
+    let nap = NapRest::new(rt);
     let mut way = Way::Deaf;
     match links.listen(port) {
         Listened::Ready => {
@@ -38,7 +40,7 @@ pub fn serve<W: Threads + Wait + Sync>(
             };
             match run(
                 threads, alloc, world, parts, workers, &mut store, &mut links, &mut clock, first,
-                second, &OpenGate, &YieldRest,
+                second, &OpenGate, &nap,
             ) {
                 Ok((w, left)) => {
                     way = w;
@@ -49,6 +51,9 @@ pub fn serve<W: Threads + Wait + Sync>(
         }
         Listened::Fault => world.halt(),
         Listened::NoMemory => return Why::NoMemory,
+    }
+    for d in 0..256 {
+        links.close(d);
     }
     let why = match way {
         Way::Stopped => Why::Fine,
