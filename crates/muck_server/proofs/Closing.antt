@@ -81,12 +81,12 @@ done_own p h =
 
 pub own_has : (p : ℕ) (ls : List Logged) (l : Logged) → Has (own_of logged_by p ls) l → Has ls l
 own_has p [] l h = h
-own_has p (x ∷ xs) l h = from (x.entry.party == p) h
+own_has p (x ∷ xs) l h = from (own_has p xs l) (x.entry.party == p) h
   where
-    from : (b : Bool) → Has (kept b x (own_of logged_by p xs)) l → Has (x ∷ xs) l
-    from true (zero, at) = (0, at)
-    from true (suc i, at) = let r = own_has p xs l (i, at) in (suc r.0, r.1)
-    from false r = let q = own_has p xs l r in (suc q.0, q.1)
+    from : (Has (own_of logged_by p xs) l → Has xs l) → (b : Bool) → Has (kept b x (own_of logged_by p xs)) l → Has (x ∷ xs) l
+    from ih true (zero, at) = (0, at)
+    from ih true (suc i, at) = let r = ih (i, at) in (suc r.0, r.1)
+    from ih false r = let q = ih r in (suc q.0, q.1)
 
 pub has_end : {X : Type 0} (xs : List X) (x : X) → Has (xs ++ x ∷ []) x
 has_end [] x = (0, refl)
@@ -260,6 +260,7 @@ module _ (m : Note) (world : History) (f : IsFresh m world) (v : Chair) (begins 
 
   pub ready_dumper : {D : Type 0} (tells : Bool) (seen : D → List ℕ) (moment : D → ℕ) (images : D → ℕ → List ℕ → Type 0) (faults : D → ℕ) (log : Option LogState) (a b : D) (me : Chair)
       → me ≡ (newcomer 9 (given_to n v.0), []) → (tells ≡ true → (mounted : ℕ) × HasLog seen moment images faults log a b mounted world) → IsAble tells seen moment images faults log a b me
+  unfolding now
   ready_dumper tells seen moment images faults log a b me is mounts = record {
     ready = record {
       rests = rests_new 9 m world me f (ap (λ (c : Chair). c.1) is) (ap (λ (c : Chair). c.0.place) is) (ap (λ (c : Chair). c.0.party) is) (ap (λ (c : Chair). c.0.seen) is ∙ given_seen) (ap (λ (c : Chair). c.0.own) is) root;
@@ -276,18 +277,19 @@ module _ (m : Note) (world : History) (f : IsFresh m world) (v : Chair) (begins 
       seen_history = ap (λ (bs : List Beginning). history_from bs me.0.seen) root ∙ ap (history_from (beginning world ∷ [])) (ap (λ (c : Chair). c.0.seen) is ∙ given_seen) ∙ fresh_history m world f
 
       now_idle : (now world).dumps.running ≡ None
-      unfolding now
       now_idle = ap (λ (es : List Entry). (after world.start es).dumps.running) f.entries ∙ f.idle
 
   pub ready_parts : (table : TableId) (parts : List Part) → n < 9 → AreDealt table n v.0 parts → All (λ p. IsReady table p) parts
   ready_parts table parts few dealt i d lt =
       let p = slice_index_or parts i d in
       let one = dealt.each i p (got_index parts i d lt) in
-      let count = dealt.count in
-      (one.lock, record {
-        first = subst (λ (q : ℕ). 0 < q) (sym one.number) (omega arith);
-        last = subst (λ (q : ℕ). q < 9) (sym one.number) (omega (arith, lt, count, few));
-        rests = rests_new p.party m world p.seat.me f (ap (λ (c : Chair). c.1) one.me) (ap (λ (c : Chair). c.0.place) one.me) (ap (λ (c : Chair). c.0.party) one.me ∙ sym one.number)
-            (ap (λ (c : Chair). c.0.seen) one.me ∙ begins.unseen) (ap (λ (c : Chair). c.0.own) one.me) (ap (λ (c : Chair). c.0.root) one.me ∙ begins.root);
-        fresh = ap (λ (c : Chair). c.0.own) one.me;
-      })
+      let count = dealt.count in (
+        one.lock,
+        record {
+          first = subst (λ (q : ℕ). 0 < q) (sym one.number) (omega arith);
+          last = subst (λ (q : ℕ). q < 9) (sym one.number) (omega (arith, lt, count, few));
+          rests = rests_new p.party m world p.seat.me f (ap (λ (c : Chair). c.1) one.me) (ap (λ (c : Chair). c.0.place) one.me) (ap (λ (c : Chair). c.0.party) one.me ∙ sym one.number)
+              (ap (λ (c : Chair). c.0.seen) one.me ∙ begins.unseen) (ap (λ (c : Chair). c.0.own) one.me) (ap (λ (c : Chair). c.0.root) one.me ∙ begins.root);
+          fresh = ap (λ (c : Chair). c.0.own) one.me;
+        },
+      )

@@ -8,6 +8,8 @@ use lib.ListN.{get_elem?}
 use Rattle.atomic_table.specs.Seated.{TableId}
 use Rattle.turn_lock.specs.Histories.{StartsWith, own_of, Has, AllOf, IsKnown}
 use Rattle.turn_lock.specs.declared.view.Taken.{Taken}
+use Rattle.turn_lock.specs.declared.view.Place.{Place}
+use Rattle.turn_lock.specs.declared.view.Place.TheVariants.{Idle, Told}
 use Rattle.turn_lock.specs.inner.Turns.{kept_of, left_after, newcomer, taken_in}
 use Rattle.muck_io.specs.Faults.{Rose}
 use Rattle.muck_log.specs.Store.{LogState}
@@ -32,7 +34,7 @@ use Rattle.spec_serve.specs.Promises.{Tally, PromisedOf, OpenWorkedOff}
 use Rattle.spec_serve.proofs.Promising.{promised_whole}
 use Rattle.muck_machine.specs.declared.beginning.Beginning.{Beginning}
 use Rattle.muck_machine.specs.Beginnings.{beginning, begun}
-use Rattle.muck_machine.specs.Seats.{Sight, Chair, AllOrderly}
+use Rattle.muck_machine.specs.Seats.{Sight, Chair, AllOrderly, SameLists}
 use Rattle.muck_machine.proofs.Seating.{settled_begun, others_none, others_quiet, orderly_back}
 use Rattle.muck_dumping.specs.inner.Between.{IsReady as HasLog}
 use Rattle.muck_dumper.specs.Dumping.{history_from, history_seen, DumperDone}
@@ -48,10 +50,10 @@ use Rattle.muck_server.specs.declared.seats.Part.{Part}
 use Rattle.muck_server.specs.declared.serving.Way.{Way}
 use Rattle.muck_server.specs.declared.serving.Way.TheVariants.{Stopped, Deaf, Wanted, Alone, Spent}
 use Rattle.muck_server.specs.Shared.{IsParty, IsShared, done_by, EndsStopped, LeavesWorkedOff}
-use Rattle.muck_server.specs.inner.Parts.{given_to, AreDealt, all_in, IsDone, AreDone}
+use Rattle.muck_server.specs.inner.Parts.{given_to, AreDealt, AreOver, all_in, IsDone, AreDone}
 use Rattle.muck_server.specs.inner.Runs.{IsFresh, SomeWorker, AllFine, IsEndOf, HasStopped, HasRun}
-use Rattle.muck_server.proofs.Seating.{given_low}
-use Rattle.muck_server.proofs.Closing.{own_entries_of, done_own, own_has, has_end, has_entry, entry_at, longer_than, died_at, got_there, WasDone, done_at, SameButJoined, in_same, in_has, in_kept, Begins, given_same, fresh_begun, fresh_history}
+use Rattle.muck_server.proofs.Seating.{given_low, given_count}
+use Rattle.muck_server.proofs.Closing.{own_entries_of, done_own, own_has, has_end, has_entry, entry_at, longer_than, died_at, got_there, WasDone, done_at, SameButJoined, in_same, in_count, in_has, in_kept, Begins, given_same, fresh_begun, fresh_history}
 
 -- What the lock says of a world that is closed, and of the first seat.
 pub record Shut (v : Sight) (h : History) : Type 0 where
@@ -91,7 +93,6 @@ module _ {D : Type 0} (tells : Bool) (seen : D → List ℕ) (moment : D → ℕ
     (e2 : s2 ≡ (left_after 9 (given_to workers v0.0), v0.1)) (eo : o ≡ (newcomer 9 (given_to workers v0.0), [])) (dealt : AreDealt table workers v0.0 parts)
     (pd : PorterDone pw shows b k s2 sp) (dd : DumperDone tells seen moment images faults dw log log' f s f' s' o o') (wd : AreDone parts parts')
     (ended : IsEndOf way pw dw parts') (ee : e ≡ (all_in parts' (taken_in sp.0 o'.0), sp.1)) (shut : Shut e.0 h) (placed : IsPlaced h) (lawful : AllLawful h.start h.entries) where
-
   -- the first seat
   same : SameButJoined e.0 sp.0
   same = subst (λ (u : Sight). SameButJoined u sp.0) (sym (ap (λ (c : Chair). c.0) ee))
@@ -141,7 +142,7 @@ module _ {D : Type 0} (tells : Bool) (seen : D → List ℕ) (moment : D → ℕ
   -- a worker's
   pub record Worked (i : ℕ) (p' : Part) : Type 0 where
     pub own : p'.seat.me.0.own ≡ own_of logged_by (suc i) (logged h)
-    pub seen : StartsWith (logged h) p'.seat.me.0.seen
+    pub saw : StartsWith (logged h) p'.seat.me.0.seen
     pub part : Part
     pub done : WorkerDone p'.why (suc i) part.seat.me p'.seat.me
 
@@ -151,7 +152,7 @@ module _ {D : Type 0} (tells : Bool) (seen : D → List ℕ) (moment : D → ℕ
       let there : Has e.0.joined (kept_of p'.seat.me.0) = subst (λ (u : Sight). Has u.joined (kept_of p'.seat.me.0)) (sym (ap (λ (c : Chair). c.0) ee)) (in_kept parts' (taken_in sp.0 o'.0) i p' at) in
       let facts = shut.joined there.0 (kept_of p'.seat.me.0) there.1 in
       let done : WorkerDone p'.why (suc i) was.part.seat.me p'.seat.me = subst (λ (n : ℕ). WorkerDone p'.why n was.part.seat.me p'.seat.me) was.dealt.number was.done.2 in
-      record { own = facts.1 ∙ ap (λ (p : ℕ). own_of logged_by p (logged h)) done.left.party; seen = facts.2; part = was.part; done = done }
+      record { own = facts.1 ∙ ap (λ (p : ℕ). own_of logged_by p (logged h)) done.left.party; saw = facts.2; part = was.part; done = done }
 
   -- whose each entry is
   parties : (i : ℕ) (x : Entry) → slice_get h.entries i ≡ Some x → IsParty workers x.party
@@ -222,7 +223,7 @@ module _ {D : Type 0} (tells : Bool) (seen : D → List ℕ) (moment : D → ℕ
       from : (pw ≡ porter.Spent) ⊎ ((dw ≡ dumper.Spent) ⊎ SomeWorker worker.Spent parts') → 2 ^ 62 ≤ length h.entries
       from (inl p) = spent_of h sp.0.seen seen0 (pd.spent p)
       from (inr (inl d)) = spent_of h o'.0.seen seen9 (dd.spent d)
-      from (inr (inr (i, p', at, why))) = let one = worked i p' at in spent_of h p'.seat.me.0.seen one.seen (one.done.spent why)
+      from (inr (inr (i, p', at, why))) = let one = worked i p' at in spent_of h p'.seat.me.0.seen one.saw (one.done.spent why)
 
   -- What others made since the dumper's last turn is no dump.
 
@@ -265,17 +266,19 @@ module _ {D : Type 0} (tells : Bool) (seen : D → List ℕ) (moment : D → ℕ
       let kept = pd.kept x in
       let whole : StartsWith (logged h) kept.front = (let a = seen0 in let c = kept.seen in (c.0 ++ a.0, a.1 ∙ ap (λ (ls : List Logged). ls ++ a.0) c.1 ∙ append_assoc kept.front c.0 a.0)) in
       promised_whole (note_in sp.0.own) b h.start (entries_of kept.front) h.entries k lawful
-          (entries_of whole.0, sym (entries_logged h) ∙ ap entries_of whole.1 ∙ entries_append kept.front whole.0)
-          (ap (own_of party_of 0) (sym (entries_logged h)) ∙ own_entries_of 0 (logged h) ∙ ap entries_of (sym own0 ∙ kept.own) ∙ sym (own_entries_of 0 kept.front))
-          (kept.promised h.start m root9)
+      (entries_of whole.0, sym (entries_logged h) ∙ ap entries_of whole.1 ∙ entries_append kept.front whole.0)
+      (ap (own_of party_of 0) (sym (entries_logged h)) ∙ own_entries_of 0 (logged h) ∙ ap entries_of (sym own0 ∙ kept.own) ∙ sym (own_entries_of 0 kept.front))
+      (kept.promised h.start m root9)
 
   off : shows ≡ true → HasStopped way → LeavesWorkedOff (note_in sp.0.own) h.start h.entries k
   off x stop =
       let q = pd.stopped (all_stopped stop).porter_too x in
-      let seen_is : entries_of sp.0.seen ≡ entries_of q.before ++ by_porter StopSeen ∷ [] = ap entries_of q.seen ∙ entries_append q.before (q.last ∷ []) ∙ ap (λ (y : Entry). entries_of q.before ++ y ∷ []) q.entry in
-      (entries_of q.before, entries_of seen0.0,
-       sym (entries_logged h) ∙ ap entries_of seen0.1 ∙ entries_append sp.0.seen seen0.0 ∙ ap (λ (es : List Entry). es ++ entries_of seen0.0) seen_is ∙ append_assoc (entries_of q.before) (by_porter StopSeen ∷ []) (entries_of seen0.0),
-       subst (λ (es : List Entry). OpenWorkedOff (note_in sp.0.own) (after h.start (entries_of q.before)) (talks h.start es) k) seen_is (q.worked h.start m root9))
+      let seen_is : entries_of sp.0.seen ≡ entries_of q.before ++ by_porter StopSeen ∷ [] = ap entries_of q.seen ∙ entries_append q.before (q.last ∷ []) ∙ ap (λ (y : Entry). entries_of q.before ++ y ∷ []) q.entry in (
+        entries_of q.before,
+        entries_of seen0.0,
+        sym (entries_logged h) ∙ ap entries_of seen0.1 ∙ entries_append sp.0.seen seen0.0 ∙ ap (λ (es : List Entry). es ++ entries_of seen0.0) seen_is ∙ append_assoc (entries_of q.before) (by_porter StopSeen ∷ []) (entries_of seen0.0),
+        subst (λ (es : List Entry). OpenWorkedOff (note_in sp.0.own) (after h.start (entries_of q.before)) (talks h.start es) k) seen_is (q.worked h.start m root9),
+      )
 
   pub has_run : HasRun tells seen moment images faults shows b k workers way log log' f s f' s' world h
   has_run = record {
@@ -300,3 +303,29 @@ module _ {D : Type 0} (tells : Bool) (seen : D → List ℕ) (moment : D → ℕ
     first_later = dd.first_later;
     second_later = dd.second_later;
   }
+
+-- all workers' seats may be taken in
+pub over_done : (table lock : TableId) (n : ℕ) (v : Sight) (parts parts' : List Part) → table ≡ lock → AreDealt table n v parts → AreDone parts parts' → AreOver lock parts'
+over_done table lock n v parts parts' is dealt done i p' at =
+    let was = done_at table n v parts parts' dealt done i p' at in
+    (was.done.1 ∙ was.dealt.lock ∙ is, was.done.2.left.free, was.done.2.left.over)
+
+-- then all seats are taken in
+pub all_taken : (workers : ℕ) (parts parts' : List Part) (table : TableId) (v0 s2 sp e : Chair) (o' : Sight) → v0.0.given ≡ [] → v0.0.joined ≡ [] → s2 ≡ (left_after 9 (given_to workers v0.0), v0.1)
+    → AreDealt table workers v0.0 parts → AreDone parts parts' → SameLists s2.0 sp.0 → e ≡ (all_in parts' (taken_in sp.0 o'), sp.1) → length e.0.joined ≡ length e.0.given
+all_taken workers parts parts' table v0 s2 sp e o' ungiven unjoined e2 dealt done lists ee =
+    let whole : e.0 ≡ all_in parts' (taken_in sp.0 o') = ap (λ (c : Chair). c.0) ee in
+    let j1 = ap (λ (u : Sight). length u.joined) whole in
+    let j2 = in_count parts' (taken_in sp.0 o') in
+    let j3 = length-append sp.0.joined (kept_of o' ∷ []) in
+    let j4 : length sp.0.joined ≡ 0 = ap length (lists.2 ∙ ap (λ (c : Chair). c.0.joined) e2 ∙ ap (λ (u : Sight). u.joined) (given_same workers v0.0) ∙ unjoined) in
+    let g1 = ap length (ap (λ (u : Sight). u.given) whole ∙ (in_same parts' (taken_in sp.0 o')).given ∙ lists.1 ∙ ap (λ (c : Chair). c.0.given) e2) in
+    let g2 = length-append (given_to workers v0.0).given (9 ∷ []) in
+    let g3 = given_count workers v0.0 ungiven in
+    let p1 = done.same in
+    let p2 = dealt.count in
+    omega (arith, j1, j2, j3, j4, g1, g2, g3, p1, p2)
+
+-- as it stands then
+pub last_place : (parts' : List Part) (sp e : Chair) (o' : Sight) → e ≡ (all_in parts' (taken_in sp.0 o'), sp.1) → (sp.0.place ≡ Idle) ⊎ (sp.0.place ≡ Told) → (e.0.place ≡ Idle) ⊎ (e.0.place ≡ Told)
+last_place parts' sp e o' ee over = subst (λ (p : Place). (p ≡ Idle) ⊎ (p ≡ Told)) (sym (ap (λ (c : Chair). c.0.place) ee ∙ (in_same parts' (taken_in sp.0 o')).place)) over

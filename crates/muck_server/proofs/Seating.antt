@@ -60,8 +60,9 @@ pub dealt_one : (table : TableId) (n : ℕ) (v : Sight) (parts : List Part) (p :
 dealt_one table n v parts p dealt one = record {
   count = (let l = length-append parts (p ∷ []) in let c = dealt.count in omega (arith, l, c));
   each = λ i q at. elim (place_snoc parts p q i at) [
-    inl e ↦ subst (λ (m : ℕ). IsDealt table (suc m) v q) (sym (e.0 ∙ dealt.count)) (subst (IsDealt table (suc n) v) e.1 one)
-    | inr there ↦ dealt.each i q there ];
+    | inl e ↦ subst (λ (m : ℕ). IsDealt table (suc m) v q) (sym (e.0 ∙ dealt.count)) (subst (IsDealt table (suc n) v) e.1 one)
+    | inr there ↦ dealt.each i q there
+  ];
 }
 
 pub dealt_none : (table : TableId) (v : Sight) (parts : List Part) → parts ≡ [] → AreDealt table 0 v parts

@@ -1,3 +1,4 @@
 pub mod Shared
+pub mod Finished
 pub mod Served
 pub mod inner

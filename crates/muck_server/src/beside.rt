@@ -58,12 +58,7 @@ fn work_all<W: Threads + Wait + Sync, G: Gate + Sync, R: Rest + Sync>(
 }
 
 // The dumper beside all workers.
-fn dump_beside<
-    W: Threads + Wait + Sync,
-    D: Disk + Send,
-    G: Gate + Sync,
-    R: Rest + Sync,
->(
+fn dump_beside<W: Threads + Wait + Sync, D: Disk + Send, G: Gate + Sync, R: Rest + Sync>(
     rt: &W,
     alloc: Global,
     turn: &Turn<World>,
@@ -138,6 +133,10 @@ pub fn all_beside<
         &mut ||
             requires { (other.now.table_id ≡ turn.now.table.shared.table_id) × IsAble D.tells D.seen D.moment D.images D.faults store.now.log first.now second.now other.now.me × All (λ p. IsReady turn.now.table.shared.table_id p) parts.now.all.items }
             ensures { (other.exit.now.table_id ≡ other.entry.now.table_id) × (other.exit.now.id ≡ other.entry.now.id) × DumperDone D.tells D.seen D.moment D.images D.faults result store.entry.now.log store.exit.now.log first.entry.now second.entry.now first.exit.now second.exit.now other.entry.now.me other.exit.now.me × AreDone parts.entry.now.all.items parts.exit.now.all.items }
-        { dump_beside(rt, alloc, turn, other, parts, store, first, second, gate, rest) },
+        {
+            dump_beside(
+                rt, alloc, turn, other, parts, store, first, second, gate, rest,
+            )
+        },
     )
 }

@@ -2,10 +2,13 @@
 #![tactic(auto)]
 
 mod beside;
+mod finishing;
 mod seats;
 mod serving;
+mod whole;
 mod why;
 
 pub use seats::{Parts, room};
 pub use serving::{Way, run};
+pub use whole::serve_links;
 pub use why::Why;

@@ -1,14 +1,26 @@
 // A world is served, for running only: no contract is written here.
 use crate::napping::NapRest;
-use crate::top::{awake, mount, why_of};
+use crate::top::{awake, mount};
 use crate::why::Why;
 use muck_disk::FileDisk;
 use muck_dumping::{Store, dump};
 use muck_io::{Clock, OpenGate, SystemClock};
 use muck_links::{Links, Listened, MioLinks};
-use muck_server::{Way, room, run};
+use muck_server::{Why as Ending, room, serve_links};
 use std::sync::Wait;
 use std::thread::Threads;
+
+fn why_of(ending: Ending) -> Why {
+    match ending {
+        Ending::Fine => Why::Fine,
+        Ending::NoMemory => Why::NoMemory,
+        Ending::DiskFault => Why::DiskFault,
+        Ending::Damaged { second, at } => Why::Damaged { second, at },
+        Ending::ListenFault => Why::ListenFault,
+        Ending::StoreFull { end, more } => Why::StoreFull { end, more },
+        Ending::Spent { turns } => Why::Spent { turns },
+    }
+}
 
 pub fn serve<W: Threads + Wait + Sync>(
     threads: &W,
@@ -29,43 +41,32 @@ pub fn serve<W: Threads + Wait + Sync>(
     let Ok(mut world) = awake(alloc, &log, first, second, began) else {
         return Why::NoMemory;
     };
-    let mut store = Store::new(log);
     let mut links = MioLinks::new(alloc, rt);
     let nap = NapRest::new(rt);
-    let mut way = Way::Deaf;
     match links.listen(port) {
         Listened::Ready => {
             let Ok(parts) = room(alloc, workers) else {
                 return Why::NoMemory;
             };
-            match run(
-                threads, alloc, world, parts, workers, &mut store, &mut links, &mut clock, first,
-                second, &OpenGate, &nap,
-            ) {
-                Ok((w, left)) => {
-                    way = w;
-                    world = left;
-                }
-                Err(_) => return Why::NoMemory,
+            let served = serve_links(
+                threads, alloc, world, parts, workers, log, &mut links, &mut clock, first, second,
+                &OpenGate, &nap,
+            );
+            // So that nothing that was written is lost.
+            for d in 0..256 {
+                links.close(d);
+            }
+            match served {
+                Some((why, _)) => why_of(why),
+                None => Why::NoMemory,
             }
         }
-        Listened::Fault => world.halt(),
-        Listened::NoMemory => return Why::NoMemory,
+        Listened::Fault => {
+            world.halt();
+            let mut store = Store::new(log);
+            let _ = dump(alloc, &mut world, 0, &mut store, first, second);
+            Why::ListenFault
+        }
+        Listened::NoMemory => Why::NoMemory,
     }
-    for d in 0..256 {
-        links.close(d);
-    }
-    let why = match way {
-        Way::Stopped => Why::Fine,
-        Way::Deaf => Why::ListenFault,
-        Way::Wanted => return Why::NoMemory,
-        Way::Alone => Why::NoMemory,
-        Way::Spent => Why::Spent { turns: 1 << 62 },
-    };
-    let last = match dump(alloc, &mut world, 0, &mut store, first, second) {
-        Ok(None) => Why::Fine,
-        Ok(Some(fault)) => why_of(fault),
-        Err(_) => return Why::NoMemory,
-    };
-    if why.status() == 0 { last } else { why }
 }

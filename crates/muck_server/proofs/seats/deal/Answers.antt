@@ -16,16 +16,18 @@ pub split-requires-clause-idle : goal.split-requires-clause-idle
 split-requires-clause-idle c =
     let me = c.loop-number.invariant.me in
     let count = ap (λ (m : Chair). m.0.given) me in
-    let many = given_count c.loop-number.number c.args.seat.now.me.0 c.requires.idle.1 in
-    (ap (λ (m : Chair). m.0.place) me ∙ given_place c.loop-number.number c.args.seat.now.me.0 ∙ c.requires.idle.0,
-     subst (λ (ps : List ℕ). length ps < 9) (sym count) (omega (arith, many, c.loop-number-test.true, c.requires.few)))
+    let many = given_count c.loop-number.number c.args.seat.now.me.0 c.requires.idle.1 in (
+      ap (λ (m : Chair). m.0.place) me ∙ given_place c.loop-number.number c.args.seat.now.me.0 ∙ c.requires.idle.0,
+      subst (λ (ps : List ℕ). length ps < 9) (sym count) (omega (arith, many, c.loop-number-test.true, c.requires.few)),
+    )
 
 pub split-requires-clause-fresh : goal.split-requires-clause-fresh
 split-requires-clause-fresh c =
     let n = c.loop-number.number in
-    let v = c.args.seat.now.me.0 in
-    ((λ e. omega (arith, e)),
-     (λ h. let low = given_low n v (n + 1) c.requires.idle.1 (subst (λ (m : Chair). Has m.0.given (n + 1)) c.loop-number.invariant.me h) in omega (arith, low.1)))
+    let v = c.args.seat.now.me.0 in (
+      (λ e. omega (arith, e)),
+      (λ h. let low = given_low n v (n + 1) c.requires.idle.1 (subst (λ (m : Chair). Has m.0.given (n + 1)) c.loop-number.invariant.me h) in omega (arith, low.1)),
+    )
 
 pub unreachable-requires : goal.unreachable-requires
 unreachable-requires c = false_true (c.in_default.ensures.succeeds (omega (arith, c.loop-number.invariant.dealt.count, c.loop-number.invariant.room, c.loop-number-test.true)))

@@ -1,11 +1,8 @@
 use Rattle.std.proofs.Common.{ap, sym, ◌∙◌}
 use Rattle.spec_events.specs.Histories.{now}
 use Rattle.spec_serve.specs.inner.Keeping.{Peer}
-use Rattle.spec_serve.proofs.Causes.{cause_fault, cause_stopped}
+use Rattle.spec_serve.proofs.Causes.{cause_fault}
 use Rattle.muck_peer.proofs.peer.Peer.may_close.Goals as goal
 
 pub returns-then-self : goal.returns-then-self
 returns-then-self c e counted = cause_fault counted c.args.self.now _ (ap (λ (p : Peer). p.faulted) (sym c.self.view_is) ∙ c.if-self.true)
-
-pub returns : goal.returns
-returns c e counted = cause_stopped counted c.args.self.now (now c.args.world.now) (sym (c.is_stopping.ensures c.requires) ∙ c.if-not-is_stopping.false) (c.is_worked_off.ensures e counted)
