@@ -1,0 +1,4 @@
+pub mod Letters
+pub mod Paths
+pub mod Steps
+pub mod Hearing
