@@ -113,7 +113,7 @@ quiet_listed_under d player head otherwise (x ∷ xs) p = keeps_followed _ _ qui
 
 pub stays_room_shown : (a : Actor) (free : Freedom) (given : Option Act) (d : ℕ) (typed : Typed) (room : Dbref) → Stays a free given (room_shown d a typed room)
 unfolding room_shown
-stays_room_shown a free given d typed room = search (staying, stays_message_shown, quiet_listed_under)
+stays_room_shown a free given d typed room = search (staying, stays_message_shown, quiet_listed_under) depth 9
 
 pub stays_looked : (a : Actor) (free : Freedom) (given : Option Act) (d : ℕ) (typed : Typed) → Stays a free given (looked d a typed)
 unfolding looked
