@@ -58,7 +58,7 @@ makes_world o log p is has kept stored covers =
     let left : LeavesOut (base_of log) (persist objects) p.batch.records = subst (λ (x : Option LogState). LeavesOut (base_in x) (persist objects) p.batch.records) is b.records in (
       record { objects = persist objects; tune = tune },
       fit_makes log p.batch objects tune kept stored (batch_few objects left b.consistent) left b.tuning (fine_world objects tune b.consistent (persist_fits objects b.limits) (tune_of tune b.tuned)) (two_there objects b.consistent)
-      (omega (arith, covers, b.size)),
+          (omega (arith, covers, b.size)),
     )
 
 -- and it is short enough to be written
