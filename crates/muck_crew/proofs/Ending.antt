@@ -43,7 +43,9 @@ use Rattle.muck_dumper.specs.declared.dumping.Why.TheVariants as dumper
 use Rattle.muck_worker.specs.Working.{WorkerDone}
 use Rattle.muck_worker.specs.declared.working.Why.TheVariants as worker
 use Rattle.muck_porter.specs.Notes.{note_in}
-use Rattle.muck_porter.specs.Kept.{Account}
+use Rattle.muck_porter.specs.Kept.{Account, KeptBy}
+use Rattle.muck_porter.specs.Times.{Timely}
+use Rattle.muck_porter.proofs.Timing.{timely_same}
 use Rattle.muck_porter.specs.Porter.{PorterDone, HasStopped as PorterStopped}
 use Rattle.muck_porter.specs.declared.porting.Why.{Why as PorterWhy}
 use Rattle.muck_porter.specs.declared.porting.Why.TheVariants as porter
@@ -262,14 +264,29 @@ module _ {D : Type 0} (tells : Bool) (seen : D → List ℕ) (moment : D → ℕ
 
   -- What the links carried.
 
+  -- the front that the porter vouches for, as a front of the whole, in which it did nothing more
+  record Fronted (front : List Logged) : Type 0 where
+    pub begins_so : StartsWith h.entries (entries_of front)
+    pub no_more : own_of party_of 0 h.entries ≡ own_of party_of 0 (entries_of front)
+
+  fronted : (kept : KeptBy b sp.0 k) → Fronted kept.front
+  fronted kept =
+      let whole : StartsWith (logged h) kept.front = (let a = seen0 in let c = kept.seen in (c.0 ++ a.0, a.1 ∙ ap (λ (ls : List Logged). ls ++ a.0) c.1 ∙ append_assoc kept.front c.0 a.0)) in record {
+        begins_so = (entries_of whole.0, sym (entries_logged h) ∙ ap entries_of whole.1 ∙ entries_append kept.front whole.0);
+        no_more = ap (own_of party_of 0) (sym (entries_logged h)) ∙ own_entries_of 0 (logged h) ∙ ap entries_of (sym own0 ∙ kept.own) ∙ sym (own_entries_of 0 kept.front);
+      }
+
   promise : shows ≡ true → PromisedOf (note_in sp.0.own) b.links h.start h.entries k.links
   promise x =
       let kept = pd.kept x in
-      let whole : StartsWith (logged h) kept.front = (let a = seen0 in let c = kept.seen in (c.0 ++ a.0, a.1 ∙ ap (λ (ls : List Logged). ls ++ a.0) c.1 ∙ append_assoc kept.front c.0 a.0)) in
-      promised_whole (note_in sp.0.own) b.links h.start (entries_of kept.front) h.entries k.links lawful
-      (entries_of whole.0, sym (entries_logged h) ∙ ap entries_of whole.1 ∙ entries_append kept.front whole.0)
-      (ap (own_of party_of 0) (sym (entries_logged h)) ∙ own_entries_of 0 (logged h) ∙ ap entries_of (sym own0 ∙ kept.own) ∙ sym (own_entries_of 0 kept.front))
-      (kept.promised h.start m root9).links
+      let f0 = fronted kept in
+      promised_whole (note_in sp.0.own) b.links h.start (entries_of kept.front) h.entries k.links lawful f0.begins_so f0.no_more (kept.promised h.start m root9).links
+
+  by_clock : shows ≡ true → Timely b.answers k.answers h.start h.entries
+  by_clock x =
+      let kept = pd.kept x in
+      let f0 = fronted kept in
+      timely_same b.answers k.answers h.start (entries_of kept.front) h.entries lawful f0.begins_so f0.no_more (kept.promised h.start m root9).timely
 
   off : shows ≡ true → HasStopped way → LeavesWorkedOff (note_in sp.0.own) h.start h.entries k.links
   off x stop =
@@ -281,7 +298,7 @@ module _ {D : Type 0} (tells : Bool) (seen : D → List ℕ) (moment : D → ℕ
         subst (λ (es : List Entry). OpenWorkedOff (note_in sp.0.own) (after h.start (entries_of q.before)) (talks h.start es) k.links) seen_is (q.worked h.start m root9),
       )
 
-  pub has_run : HasRun tells seen moment images faults shows b.links k.links workers way log log' f s f' s' world h
+  pub has_run : HasRun tells seen moment images faults shows b k workers way log log' f s f' s' world h
   has_run = record {
     start = start0;
     since = notes_of (logged h);
@@ -291,6 +308,7 @@ module _ {D : Type 0} (tells : Bool) (seen : D → List ℕ) (moment : D → ℕ
     shared = record { known = parties; own = owns };
     counted = note_in sp.0.own;
     promised = promise;
+    timely = by_clock;
     worked_off = off;
     last = lasts;
     fault = λ is. let x = subst (λ (y : Way). IsEndOf y pw dw parts') is ended in pd.fault x.0;

@@ -9,7 +9,7 @@ use crate::seats::{Part, Parts};
 use muck_disk::Disk;
 use muck_dumper::{Why as DumperWhy, dumper};
 use muck_dumping::Store;
-use muck_io::{Clock, Gate, Rest};
+use muck_io::{Clock, Gate, Rest, YieldRest};
 use muck_links::Links;
 use muck_machine::World;
 use muck_porter::{Why as PorterWhy, porter};
@@ -91,7 +91,7 @@ fn dump_beside<W: Threads + Wait + Sync, D: Disk + Send, G: Gate + Sync, R: Rest
     why
 }
 
-/// The porter beside the dumper and all workers.
+/// The porter beside the dumper and all workers. The porter never naps, so that links are served at once: it leaves the processor to others.
 pub fn all_beside<
     W: Threads + Wait + Sync,
     L: Links + Send,
@@ -129,7 +129,7 @@ pub fn all_beside<
         &mut ||
             requires { (seat.now.table_id ≡ turn.now.table.shared.table_id) × PorterReady seat.now.me }
             ensures { (seat.exit.now.table_id ≡ seat.entry.now.table_id) × (seat.exit.now.id ≡ seat.entry.now.id) × (L.tells links.exit.now ≡ L.tells links.entry.now) × PorterDone result (L.tells links.entry.now) (account (L.told links.entry.now) (L.listening links.entry.now) (C.answers clock.entry.now)) (account (L.told links.exit.now) (L.listening links.exit.now) (C.answers clock.exit.now)) seat.entry.now.me seat.exit.now.me }
-        { porter(rt, alloc, turn, seat, links, clock, gate, rest) },
+        { porter(rt, alloc, turn, seat, links, clock, gate, &YieldRest) },
         &mut ||
             requires { (other.now.table_id ≡ turn.now.table.shared.table_id) × IsAble D.tells D.seen D.moment D.images D.faults store.now.log first.now second.now other.now.me × All (λ p. IsReady turn.now.table.shared.table_id p) parts.now.all.items }
             ensures { (other.exit.now.table_id ≡ other.entry.now.table_id) × (other.exit.now.id ≡ other.entry.now.id) × DumperDone D.tells D.seen D.moment D.images D.faults result store.entry.now.log store.exit.now.log first.entry.now second.entry.now first.exit.now second.exit.now other.entry.now.me other.exit.now.me × AreDone parts.entry.now.all.items parts.exit.now.all.items }
