@@ -129,8 +129,9 @@ module _ {D : Type 0} (tells : Bool) (seen : D → List ℕ) (moment : D → ℕ
     module _ (log : Option LogState) (f s : D) (first_later : faults f0 ≤ faults f) (second_later : faults s0 ≤ faults s) where
       -- In the midst of a dump.
       module _ (me me' : Chair) (from : Stage) (P : ℕ → Type 0) (before : Moves Stage.unbound from me0 me) (leads : (mounted : ℕ) → tells ≡ true → Begins mounted → P mounted) where
-        pub done_wanted : Stops tells moment images f s Wanted from P me me' → Done NoMemory log f s me'
-        done_wanted t =
+        pub done_wanted : (fault : Fault) → fault ≡ Wanted → Stops tells moment images f s fault from P me me' → Done NoMemory log f s me'
+        done_wanted fault is stops =
+            let t = subst (λ (x : Fault). Stops tells moment images f s x from P me me') is stops in
             let moves = moves_on Stage.unbound from t.to me0 me me' before t.moves in
             record {
               left = t.left;
@@ -150,8 +151,9 @@ module _ {D : Type 0} (tells : Bool) (seen : D → List ℕ) (moment : D → ℕ
               second_later = second_later;
             }
 
-        pub done_all_had : Stops tells moment images f s AllHad from P me me' → Done Spent log f s me'
-        done_all_had t =
+        pub done_all_had : (fault : Fault) → fault ≡ AllHad → Stops tells moment images f s fault from P me me' → Done Spent log f s me'
+        done_all_had fault is stops =
+            let t = subst (λ (x : Fault). Stops tells moment images f s x from P me me') is stops in
             let moves = moves_on Stage.unbound from t.to me0 me me' before t.moves in
             record {
               left = t.left;

@@ -48,7 +48,7 @@ loop-preserved g c =
     let did = subst (λ (x : Did). Watched g.D.Disk.tells g.D.Disk.seen g.D.Disk.moment g.D.Disk.images g.D.Disk.faults c.loop.store.log c.loop.first c.loop.second x c.loop.seat.me c.watch_turn.new.seat.me) c.in-Ok-Began.field-0-is c.in-Ok-Began.ensures.ok in (
       own'.0 ∙ own.0 ∙ inv.0,
       own'.1 ∙ own.1 ∙ inv.1,
-      watches_made g.D.Disk.tells g.D.Disk.seen g.D.Disk.moment g.D.Disk.images g.D.Disk.faults c.loop.store.log c.loop.first c.loop.second Stage.unbound (λ mounted. IsReady g.D.Disk.seen g.D.Disk.moment g.D.Disk.images g.D.Disk.faults c.args.store.now.log c.args.first.now c.args.second.now mounted (history_seen c.args.seat.now.me.0)) c.args.seat.now.me c.loop.seat.me c.watch_turn.new.seat.me inv.2 c.in-Ok-Began.pending did.0 did.1 c.makes.new.store.log c.makes.new.first c.makes.new.second c.makes.new.seat.me c.in-Ok-makes.ensures.ok,
+      watches_made g.D.Disk.tells g.D.Disk.seen g.D.Disk.moment g.D.Disk.images g.D.Disk.faults c.loop.store.log c.loop.first c.loop.second Stage.unbound (λ mounted. IsReady g.D.Disk.seen g.D.Disk.moment g.D.Disk.images g.D.Disk.faults c.args.store.now.log c.args.first.now c.args.second.now mounted (history_seen c.args.seat.now.me.0)) c.args.seat.now.me c.loop.seat.me c.watch_turn.new.seat.me inv.2 c.in-Ok-Began.pending did.0 did.1 c.makes.new.store.log c.makes.new.first c.makes.new.second c.makes.new.seat.me c.in-Ok.ensures.ok,
       omega (arith, inv.3, c.makes.ensures.first_later),
       omega (arith, inv.4, c.makes.ensures.second_later),
     )
@@ -62,7 +62,7 @@ returns-in-Err-NoMemory-clause-done g c =
     (λ mounted. IsPending g.D.Disk.seen g.D.Disk.moment g.D.Disk.images g.D.Disk.faults c.loop.store.log c.loop.first c.loop.second mounted (history_seen c.watch_turn.new.seat.me.0) c.in-Ok-Began.pending)
     (moves_begun g.D.Disk.tells g.D.Disk.seen g.D.Disk.moment g.D.Disk.images g.D.Disk.faults c.loop.store.log c.loop.first c.loop.second Stage.unbound (λ mounted. IsReady g.D.Disk.seen g.D.Disk.moment g.D.Disk.images g.D.Disk.faults c.args.store.now.log c.args.first.now c.args.second.now mounted (history_seen c.args.seat.now.me.0)) c.args.seat.now.me c.loop.seat.me c.watch_turn.new.seat.me inv.2 c.in-Ok-Began.pending did.0 did.1)
     (pending_then g.D.Disk.tells g.D.Disk.seen g.D.Disk.moment g.D.Disk.images g.D.Disk.faults c.loop.store.log c.loop.first c.loop.second Stage.unbound (λ mounted. IsReady g.D.Disk.seen g.D.Disk.moment g.D.Disk.images g.D.Disk.faults c.args.store.now.log c.args.first.now c.args.second.now mounted (history_seen c.args.seat.now.me.0)) c.args.seat.now.me c.loop.seat.me c.watch_turn.new.seat.me inv.2 c.in-Ok-Began.pending did.0 did.1)
-    c.in-Err-NoMemory.ensures.err
+    _ c.in-Err-NoMemory.field-0-is c.in-Err-NoMemory.ensures.err
 
 pub returns-in-Err-Spent-clause-done : goal.returns-in-Err-Spent-clause-done
 returns-in-Err-Spent-clause-done g c =
@@ -73,7 +73,7 @@ returns-in-Err-Spent-clause-done g c =
     (λ mounted. IsPending g.D.Disk.seen g.D.Disk.moment g.D.Disk.images g.D.Disk.faults c.loop.store.log c.loop.first c.loop.second mounted (history_seen c.watch_turn.new.seat.me.0) c.in-Ok-Began.pending)
     (moves_begun g.D.Disk.tells g.D.Disk.seen g.D.Disk.moment g.D.Disk.images g.D.Disk.faults c.loop.store.log c.loop.first c.loop.second Stage.unbound (λ mounted. IsReady g.D.Disk.seen g.D.Disk.moment g.D.Disk.images g.D.Disk.faults c.args.store.now.log c.args.first.now c.args.second.now mounted (history_seen c.args.seat.now.me.0)) c.args.seat.now.me c.loop.seat.me c.watch_turn.new.seat.me inv.2 c.in-Ok-Began.pending did.0 did.1)
     (pending_then g.D.Disk.tells g.D.Disk.seen g.D.Disk.moment g.D.Disk.images g.D.Disk.faults c.loop.store.log c.loop.first c.loop.second Stage.unbound (λ mounted. IsReady g.D.Disk.seen g.D.Disk.moment g.D.Disk.images g.D.Disk.faults c.args.store.now.log c.args.first.now c.args.second.now mounted (history_seen c.args.seat.now.me.0)) c.args.seat.now.me c.loop.seat.me c.watch_turn.new.seat.me inv.2 c.in-Ok-Began.pending did.0 did.1)
-    c.in-Err-Spent.ensures.err
+    _ c.in-Err-Spent.field-0-is c.in-Err-Spent.ensures.err
 
 pub returns-in-Ok-Over-clause-done : goal.returns-in-Ok-Over-clause-done
 returns-in-Ok-Over-clause-done g c =

@@ -1,4 +1,5 @@
 use Rattle.std.proofs.Common.{◌≡◌, refl}
+use Rattle.std.proofs.lemmas.Result.{err_from_is_err_and}
 use Rattle.spec_events.specs.Own.{Stage}
 use Rattle.muck_dumping.specs.inner.Between.{IsWritten}
 use Rattle.muck_dumper.specs.Dumping.{history_seen}
@@ -6,7 +7,9 @@ use Rattle.muck_dumper.proofs.Making.{watches_after, stops_after}
 use Rattle.muck_dumper.proofs.holds.fails.Goals as goal
 
 pub returns-in_err-ends-clause-err : goal.returns-in_err-ends-clause-err
-returns-in_err-ends-clause-err g c = λ r e. c.in_err-ends.ensures.err r e
+returns-in_err-ends-clause-err g c = λ r e.
+    let p = err_from_is_err_and c.from_residual.result c.from_residual.ensures.1 in
+    rw (p.1, p.2) (c.in_err-ends.ensures.err r e)
 
 pub returns-clause-ok : goal.returns-clause-ok
 returns-clause-ok g c = λ r e.
