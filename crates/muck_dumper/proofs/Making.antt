@@ -19,7 +19,7 @@ if_err (Err e) P Q p f = f e p
 
 -- As which answer a fault is told that isn't want of memory: on disks that tell their bytes no log answers that it is damaged, and elsewhere
 -- nothing is said of it.
-pub told_as : LogFault → LogFault
+abbrev pub told_as : LogFault → LogFault
 told_as (Damaged on place) = DiskFault
 told_as NoMemory = NoMemory
 told_as DiskFault = DiskFault

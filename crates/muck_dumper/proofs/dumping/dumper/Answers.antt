@@ -15,8 +15,10 @@ pub loop-preserved-in-Ok-Idled : goal.loop-preserved-in-Ok-Idled
 loop-preserved-in-Ok-Idled g c =
     let inv = c.loop.invariant in
     let own = c.in-Ok-Idled.ensures.own in
+    let table = own.0 ∙ inv.0 in
+    let id = own.1 ∙ inv.1 in
     let did = subst (λ (x : Did). Watched g.D.Disk.tells g.D.Disk.seen g.D.Disk.moment g.D.Disk.images g.D.Disk.faults c.loop.store.log c.loop.first c.loop.second x c.loop.seat.me c.watch_turn.new.seat.me) c.in-Ok-Idled.field-0-is c.in-Ok-Idled.ensures.ok in
-    (own.0 ∙ inv.0, own.1 ∙ inv.1, watches_idled g.D.Disk.tells g.D.Disk.seen g.D.Disk.moment g.D.Disk.images g.D.Disk.faults c.loop.store.log c.loop.first c.loop.second Stage.unbound (λ mounted. IsReady g.D.Disk.seen g.D.Disk.moment g.D.Disk.images g.D.Disk.faults c.args.store.now.log c.args.first.now c.args.second.now mounted (history_seen c.args.seat.now.me.0)) c.args.seat.now.me c.loop.seat.me c.watch_turn.new.seat.me inv.2 did.0 did.1, inv.3, inv.4)
+    (table, id, watches_idled g.D.Disk.tells g.D.Disk.seen g.D.Disk.moment g.D.Disk.images g.D.Disk.faults c.loop.store.log c.loop.first c.loop.second Stage.unbound (λ mounted. IsReady g.D.Disk.seen g.D.Disk.moment g.D.Disk.images g.D.Disk.faults c.args.store.now.log c.args.first.now c.args.second.now mounted (history_seen c.args.seat.now.me.0)) c.args.seat.now.me c.loop.seat.me c.watch_turn.new.seat.me inv.2 did.0 did.1, inv.3, inv.4)
 
 pub makes-requires-clause-rests : goal.makes-requires-clause-rests
 makes-requires-clause-rests g c =
@@ -45,9 +47,11 @@ loop-preserved g c =
     let inv = c.loop.invariant in
     let own = c.in-Ok-Began.ensures.own in
     let own' = c.makes.ensures.own in
+    let table = own'.0 ∙ own.0 ∙ inv.0 in
+    let id = own'.1 ∙ own.1 ∙ inv.1 in
     let did = subst (λ (x : Did). Watched g.D.Disk.tells g.D.Disk.seen g.D.Disk.moment g.D.Disk.images g.D.Disk.faults c.loop.store.log c.loop.first c.loop.second x c.loop.seat.me c.watch_turn.new.seat.me) c.in-Ok-Began.field-0-is c.in-Ok-Began.ensures.ok in (
-      own'.0 ∙ own.0 ∙ inv.0,
-      own'.1 ∙ own.1 ∙ inv.1,
+      table,
+      id,
       watches_made g.D.Disk.tells g.D.Disk.seen g.D.Disk.moment g.D.Disk.images g.D.Disk.faults c.loop.store.log c.loop.first c.loop.second Stage.unbound (λ mounted. IsReady g.D.Disk.seen g.D.Disk.moment g.D.Disk.images g.D.Disk.faults c.args.store.now.log c.args.first.now c.args.second.now mounted (history_seen c.args.seat.now.me.0)) c.args.seat.now.me c.loop.seat.me c.watch_turn.new.seat.me inv.2 c.in-Ok-Began.pending did.0 did.1 c.makes.new.store.log c.makes.new.first c.makes.new.second c.makes.new.seat.me c.in-Ok.ensures.ok,
       omega (arith, inv.3, c.makes.ensures.first_later),
       omega (arith, inv.4, c.makes.ensures.second_later),

@@ -1,10 +1,14 @@
-use Rattle.std.proofs.Common.{◌≡◌, refl}
+use Rattle.std.proofs.Common.{Err}
 use Rattle.std.proofs.lemmas.Result.{err_from_is_err_and}
+use Rattle.muck_log.specs.declared.fault.LogFault.TheVariants.{DiskFault}
 use Rattle.spec_events.specs.Own.{Stage}
 use Rattle.muck_dumping.specs.inner.Between.{IsWritten}
 use Rattle.muck_dumper.specs.Dumping.{history_seen}
 use Rattle.muck_dumper.proofs.Making.{watches_after, stops_after}
 use Rattle.muck_dumper.proofs.holds.fails.Goals as goal
+
+pub mounts-requires-clause-rests : goal.mounts-requires-clause-rests
+mounts-requires-clause-rests g c = (c.in_ok-ends.ensures.ok (Err DiskFault) tt).rests
 
 pub returns-in_err-ends-clause-err : goal.returns-in_err-ends-clause-err
 returns-in_err-ends-clause-err g c = λ r e.

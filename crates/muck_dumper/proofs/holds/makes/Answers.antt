@@ -44,8 +44,8 @@ returns-in-NoMemory-clause-err g c =
     c.args.seat.now.me c.dies.new.seat.me (λ mounted on p. (c.in-Err.ensures.written mounted (history_seen c.args.seat.now.me.0) on p).keeps)
     (c.dies.ensures.stops None (Stage.dumping c.args.pending.number) refl)
 
-pub returns-in_default-clause-ok : goal.returns-in_default-clause-ok
-returns-in_default-clause-ok g c =
+pub returns-clause-ok : goal.returns-clause-ok
+returns-clause-ok g c =
     on_ok c.fails.result (c.fails.ensures.ok (Err (told_as c.in-Err.fault)) (told_ends c.in-Err.fault c.in_default.not-NoMemory)) (λ t.
     watches_before g.D.Disk.tells g.D.Disk.seen g.D.Disk.moment g.D.Disk.images g.D.Disk.faults c.fails.new.store.log c.fails.new.first c.fails.new.second (Stage.dumping c.args.pending.number)
     (λ mounted. IsPending g.D.Disk.seen g.D.Disk.moment g.D.Disk.images g.D.Disk.faults c.args.store.now.log c.args.first.now c.args.second.now mounted (history_seen c.args.seat.now.me.0) c.args.pending)
@@ -53,8 +53,8 @@ returns-in_default-clause-ok g c =
     c.args.seat.now.me c.fails.new.seat.me (λ mounted on p.
     told_written g.D.Disk.seen g.D.Disk.moment g.D.Disk.images g.D.Disk.faults c.write.new.store.log c.write.new.first c.write.new.second mounted (history_seen c.args.seat.now.me.0) c.in-Err.fault (c.in-Err.ensures.written mounted (history_seen c.args.seat.now.me.0) on p)) t)
 
-pub returns-in_default-clause-err : goal.returns-in_default-clause-err
-returns-in_default-clause-err g c =
+pub returns-clause-err : goal.returns-clause-err
+returns-clause-err g c =
     if_err c.fails.result
     (λ fault. Stops g.D.Disk.tells g.D.Disk.moment g.D.Disk.images c.fails.new.first c.fails.new.second fault (Stage.dumping c.args.pending.number) (λ mounted. IsWritten g.D.Disk.seen g.D.Disk.moment g.D.Disk.images g.D.Disk.faults c.write.new.store.log c.write.new.first c.write.new.second mounted (history_seen c.args.seat.now.me.0) (Err (told_as c.in-Err.fault))) c.args.seat.now.me c.fails.new.seat.me)
     (λ fault. Stops g.D.Disk.tells g.D.Disk.moment g.D.Disk.images c.fails.new.first c.fails.new.second fault (Stage.dumping c.args.pending.number) (λ mounted. IsPending g.D.Disk.seen g.D.Disk.moment g.D.Disk.images g.D.Disk.faults c.args.store.now.log c.args.first.now c.args.second.now mounted (history_seen c.args.seat.now.me.0) c.args.pending) c.args.seat.now.me c.fails.new.seat.me)
