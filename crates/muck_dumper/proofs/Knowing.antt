@@ -1,21 +1,18 @@
 -- The history that the dumper's seat knows, and what others enter meanwhile.
-use Rattle.std.proofs.Common.{◌≡◌, ℕ, Bool, true, false, List, [], ◌∷◌, ◌++◌, refl, sym, ◌∙◌, ap, subst, append-nil, append_assoc, Option}
-use Rattle.std.specs.List.{list_any}
+use Rattle.std.proofs.Common.{◌≡◌, ℕ, List, [], ◌∷◌, ◌++◌, refl, sym, ◌∙◌, ap, subst, append-nil}
 use Rattle.turn_lock.specs.Histories.{StartsWith, own_of}
-use Rattle.muck_model.specs.declared.event.Entry.{Entry}
 use Rattle.muck_model.specs.declared.note.Note.{Note}
-use Rattle.spec_events.specs.declared.logged.Count.{Count}
 use Rattle.spec_events.specs.declared.logged.Logged.{Logged}
 use Rattle.spec_events.specs.World.{World}
 use Rattle.spec_events.specs.Histories.{History, Grew}
-use Rattle.spec_events.specs.Logged.{is_dump, logged, logged_by, entries_of, notes_of, count_from, history_of, IsSettled, IsPlaced}
+use Rattle.spec_events.specs.Logged.{logged, logged_by, entries_of, notes_of, history_of, IsSettled, IsPlaced}
 use Rattle.spec_events.proofs.Logging.{rebuilt, entries_append, notes_append}
 use Rattle.spec_dumps.specs.Holding.{Quietly}
 use Rattle.spec_dumps.proofs.Quiet.{quiet_grew}
 use Rattle.muck_machine.specs.declared.beginning.Beginning.{Beginning}
 use Rattle.muck_machine.specs.Beginnings.{beginning, begun, IsBegun}
 use Rattle.muck_machine.specs.Seats.{Sight, Chair, AllOrderly, Rests, Waited}
-use Rattle.muck_machine.proofs.Seating.{orderly_back, others_none, others_quiet, held_settled, held_start, settled_begun}
+use Rattle.muck_machine.proofs.Seating.{orderly_back, others_none, others_quiet, settled_begun}
 use Rattle.muck_dumper.specs.Dumping.{history_from, history_seen, IsKnown}
 
 -- a history that goes on with others' items

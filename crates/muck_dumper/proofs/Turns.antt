@@ -1,21 +1,21 @@
 -- A turn of the dumper at its seat.
-use Rattle.std.proofs.Common.{◌≡◌, ℕ, ◌≤◌, ◌^◌, ◌⊎◌, inl, inr, Bool, true, false, List, [], ◌∷◌, ◌++◌, length, refl, sym, ◌∙◌, ap, subst, append_assoc, Option, Some, None}
+use Rattle.std.proofs.Common.{◌≡◌, List, [], ◌∷◌, ◌++◌, length, refl, sym, ◌∙◌, ap, subst, append_assoc, Some, None}
 use Rattle.turn_lock.specs.Histories.{StartsWith, own_of}
-use Rattle.turn_lock.specs.declared.view.Place.TheVariants.{Idle as AtRest, Told}
+use Rattle.turn_lock.specs.declared.view.Place.TheVariants.{Idle as AtRest}
 use Rattle.muck_model.specs.declared.event.Entry.{Entry}
 use Rattle.muck_model.specs.declared.event.Event.{Event}
 use Rattle.muck_model.specs.declared.note.Note.{Note}
 use Rattle.spec_events.specs.declared.logged.Logged.{Logged}
 use Rattle.spec_events.specs.Histories.{History, entered, noted}
-use Rattle.spec_events.specs.Logged.{is_dump, logged, logged_by, bare_item, noted_item, events_of, NoCounts, IsSettled, IsPlaced, IsOrderly}
+use Rattle.spec_events.specs.Logged.{logged, logged_by, bare_item, noted_item, events_of, NoCounts, IsSettled, IsPlaced, IsOrderly}
 use Rattle.spec_events.specs.Own.{Stage, next, stage_of}
 use Rattle.spec_events.proofs.Logging.{placed_entered, placed_noted, events_append, no_counts_one, orderly_noted, orderly_bare}
 use Rattle.spec_events.proofs.Owning.{stage_more}
 use Rattle.muck_machine.specs.Beginnings.{beginning}
-use Rattle.muck_machine.specs.Seats.{Sight, Chair, OneMore, AllOrderly, Rests, Waited, SameLists, Turned}
+use Rattle.muck_machine.specs.Seats.{Sight, Chair, OneMore, AllOrderly, Rests, Waited}
 use Rattle.muck_machine.proofs.Seating.{held_settled, one_bare, one_noted, given_seen, given_root, rests_turned}
 use Rattle.muck_dumping.specs.inner.Dumps.{by}
-use Rattle.muck_dumper.specs.Dumping.{history_seen, EndsWith}
+use Rattle.muck_dumper.specs.Dumping.{history_seen}
 use Rattle.muck_dumper.specs.inner.Steps.{MadeBy, bare, with_note, Step, Moves}
 use Rattle.muck_dumper.proofs.Knowing.{held_quiet, given_known}
 

@@ -1,15 +1,13 @@
 -- What is kept of dumps from turn to turn.
-use Rattle.std.proofs.Common.{◌≡◌, ℕ, ◌≤◌, ◌^◌, Bool, true, false, ◌==◌, cond, List, [], ◌∷◌, ◌++◌, length, refl, sym, ◌∙◌, ap, subst, arith, append-nil, Option, Some, None, IsSome}
+use Rattle.std.proofs.Common.{◌≡◌, ℕ, ◌≤◌, ◌^◌, Bool, true, false, ◌==◌, cond, List, [], length, refl, sym, ◌∙◌, ap, subst, arith, append-nil, Option, Some, None, IsSome}
 use Rattle.std.proofs.lemmas.Bool.Decides.{nat_tests}
-use Rattle.turn_lock.specs.Histories.{own_of}
 use Rattle.muck_model.specs.declared.event.Event.{Event}
 use Rattle.muck_model.specs.declared.event.Event.TheVariants.{Idle, Cut, StopSeen, Died}
 use Rattle.muck_log.specs.Store.{LogState}
 use Rattle.spec_events.specs.declared.logged.Logged.{Logged}
-use Rattle.spec_events.specs.Histories.{History, now, entered, noted}
-use Rattle.spec_events.specs.Logged.{is_dump, logged_by, events_of, NoCounts}
+use Rattle.spec_events.specs.Histories.{History, now, entered}
+use Rattle.spec_events.specs.Logged.{is_dump, events_of, NoCounts}
 use Rattle.spec_events.specs.Own.{Stage, next, stage_of, died_next}
-use Rattle.spec_events.specs.World.{runs_dump}
 use Rattle.spec_events.proofs.Owning.{well_formed}
 use Rattle.spec_dumps.specs.Survival.{IsSafe}
 use Rattle.spec_dumps.specs.Holding.{Quietly, Keeps, Rests as HasRests}
@@ -17,7 +15,7 @@ use Rattle.spec_dumps.proofs.Quiet.{quiet_one, safe_quiet, keeps_quiet}
 use Rattle.spec_dumps.proofs.Idle.{idle_quiet}
 use Rattle.muck_machine.specs.declared.beginning.Beginning.{Beginning}
 use Rattle.muck_dumping.specs.declared.parts.Pending.{Pending}
-use Rattle.muck_machine.specs.Seats.{Sight, Chair, AllOrderly, Rests, Left, Waited}
+use Rattle.muck_machine.specs.Seats.{Chair, Rests, Left, Waited}
 use Rattle.muck_machine.proofs.Seating.{left_rests}
 use Rattle.muck_dumping.specs.inner.Dumps.{by, ending_event}
 use Rattle.muck_dumping.specs.inner.Between.{IsReady, IsPending}
@@ -27,9 +25,9 @@ use Rattle.muck_dumper.specs.declared.dumping.Why.{Why}
 use Rattle.muck_dumper.specs.declared.dumping.Why.TheVariants.{Fine, NoMemory, Spent}
 use Rattle.muck_dumper.specs.declared.holds.Fault.{Fault}
 use Rattle.muck_dumper.specs.declared.holds.Fault.TheVariants.{NoMemory as Wanted, Spent as AllHad}
-use Rattle.muck_dumper.specs.Dumping.{history_from, history_seen, IsKnown, EndsWith, DumperReady, DumperDone}
+use Rattle.muck_dumper.specs.Dumping.{history_from, history_seen, IsKnown, DumperReady, DumperDone}
 use Rattle.muck_dumper.specs.declared.deeds.Did.TheVariants.{Began}
-use Rattle.muck_dumper.specs.inner.Steps.{MadeBy, KeptBy, Step, Moves, StopsBy, Stops, Settles, Watches}
+use Rattle.muck_dumper.specs.inner.Steps.{KeptBy, Step, Moves, Stops, Settles, Watches}
 use Rattle.muck_dumper.proofs.Knowing.{rests_known}
 use Rattle.muck_dumper.proofs.Turns.{moves_step, moves_on, moves_same}
 

@@ -1,4 +1,4 @@
-use Rattle.std.proofs.Common.{◌≡◌, refl, sym, ◌∙◌, ap, subst}
+use Rattle.std.proofs.Common.{refl, sym, ◌∙◌, ap, subst}
 use Rattle.muck_model.specs.declared.event.Event.TheVariants.{Idle, Cut, Died}
 use Rattle.spec_dumps.specs.Holding.{Keeps}
 use Rattle.spec_events.specs.Steps.{is_lawful}

@@ -1,4 +1,4 @@
-use Rattle.std.proofs.Common.{◌≡◌, refl, ◌∙◌, subst, arith}
+use Rattle.std.proofs.Common.{refl, ◌∙◌, subst, arith}
 use Rattle.spec_events.specs.Own.{Stage}
 use Rattle.spec_events.specs.Histories.{now}
 use Rattle.muck_dumping.specs.inner.Between.{IsReady, IsPending}

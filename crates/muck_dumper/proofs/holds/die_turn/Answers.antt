@@ -1,10 +1,8 @@
-use Rattle.std.proofs.Common.{◌≡◌, true, false, if◌then◌else◌, refl, sym, ◌∙◌, ap, subst}
-use Rattle.muck_model.specs.declared.event.Event.{Event}
+use Rattle.std.proofs.Common.{sym, ◌∙◌, ap}
 use Rattle.muck_model.specs.declared.event.Event.TheVariants.{Died}
-use Rattle.spec_events.specs.Histories.{History, now, entered}
-use Rattle.muck_dumping.specs.inner.Dumps.{by, ending_event}
+use Rattle.spec_events.specs.Histories.{History, entered}
+use Rattle.muck_dumping.specs.inner.Dumps.{by}
 use Rattle.muck_dumper.specs.inner.Steps.{MadeBy}
-use Rattle.muck_dumper.proofs.Knowing.{held_quiet}
 use Rattle.muck_dumper.proofs.Turns.{entry_given, start_given, step_made}
 use Rattle.muck_dumper.proofs.holds.die_turn.Goals as goal
 

@@ -1,5 +1,3 @@
-use Rattle.std.proofs.Common.{◌≡◌, true, false, refl, sym, ◌∙◌, ap, subst, Ok, Err, None}
-use Rattle.spec_events.specs.Own.{Stage}
 use Rattle.spec_dumps.specs.Holding.{Keeps}
 use Rattle.muck_dumper.specs.Dumping.{history_seen}
 use Rattle.muck_dumper.proofs.Ways.{stops_dead, stops_spent, dies_safe}

@@ -1,8 +1,7 @@
-use Rattle.std.proofs.Common.{◌≡◌, true, false, if◌then◌else◌, refl, sym, ◌∙◌, ap, subst}
-use Rattle.muck_model.specs.declared.event.Event.{Event}
+use Rattle.std.proofs.Common.{if◌then◌else◌, sym, ◌∙◌, ap, subst}
 use Rattle.muck_model.specs.declared.event.Event.TheVariants.{Died}
-use Rattle.spec_events.specs.Histories.{History, now, entered}
-use Rattle.muck_dumping.specs.inner.Dumps.{by, ending_event}
+use Rattle.spec_events.specs.Histories.{History, now}
+use Rattle.muck_dumping.specs.inner.Dumps.{ending_event}
 use Rattle.spec_dumps.specs.Survival.{IsSafe}
 use Rattle.spec_dumps.specs.Holding.{Rests}
 use Rattle.spec_dumps.proofs.Idle.{runs_quiet}

@@ -1,4 +1,4 @@
-use Rattle.std.proofs.Common.{◌≡◌, refl, ap, Err}
+use Rattle.std.proofs.Common.{refl, ap, Err}
 use Rattle.spec_events.specs.Own.{Stage}
 use Rattle.spec_dumps.specs.Holding.{Keeps}
 use Rattle.muck_dumping.proofs.Mounting.{ready_mounted, is_disk}

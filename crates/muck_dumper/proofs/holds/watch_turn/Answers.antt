@@ -1,8 +1,5 @@
-use Rattle.std.proofs.Common.{◌≡◌, true, false, if◌then◌else◌, refl, sym, ◌∙◌, ap, subst}
-use Rattle.muck_model.specs.declared.event.Event.{Event}
-use Rattle.muck_model.specs.declared.event.Event.TheVariants.{Died}
-use Rattle.spec_events.specs.Histories.{History, now, entered}
-use Rattle.muck_dumping.specs.inner.Dumps.{by, ending_event}
+use Rattle.std.proofs.Common.{sym, subst}
+use Rattle.spec_events.specs.Histories.{History}
 use Rattle.spec_dumps.proofs.Idle.{idle_quiet}
 use Rattle.muck_dumper.specs.Dumping.{history_seen}
 use Rattle.muck_dumper.specs.inner.Steps.{event_of, KeptBy}
