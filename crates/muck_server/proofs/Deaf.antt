@@ -105,10 +105,10 @@ module _ (before later : Account) (w : World) (same : later.links.told.sessions 
 
   worked_off : LeavesWorkedOff None w tale later.links
   unfolding talks
-  worked_off = (by_porter Halt ∷ [], [], refl, λ d t there open. absurd (none_some t there))
+  worked_off = (by_porter Halt ∷ [], [], refl, λ d t there still. absurd (none_some t there))
 
 timely : (a : Option (List ℕ)) (w : World) → Timely a a w tale
-timely a w = (a, refl, a, refl, refl)
+timely a w = (a, refl, (a, refl, refl))
 
 module _ {D : Type 0} (shows tells : Bool) (before later : Account) (seen : D → List ℕ) (moment : D → ℕ) (images : D → ℕ → List ℕ → Type 0) (faults : D → ℕ) (workers mounted : ℕ) (mounting : Note) (log : Option LogState) (first second first' second' : D)
     (world : History) (fresh : IsFresh mounting world) (mount : tells ≡ true → HasLog seen moment images faults log first second mounted world)

@@ -91,7 +91,7 @@ pub tells_died : (p : ℕ) → TellsNothing (by p Died)
 tells_died p = record { silent = λ w ts. refl; goes_on = refl; untimed = λ w a. refl }
 
 pub last_tells_nothing : (es : List Entry) → IsLast es → AllTellNothing es
-last_tells_nothing es (inl (k, done, is)) = subst AllTellNothing (sym is) (tells_cut k, tells_ending k done, tt)
+last_tells_nothing es (inl (k, done, is)) = subst AllTellNothing (sym is) (tells_cut k, (tells_ending k done, tt))
   where
     tells_cut : (k : ℕ) → TellsNothing (by_porter (Cut k))
     tells_cut k = record { silent = λ w ts. refl; goes_on = refl; untimed = λ w a. refl }
@@ -100,7 +100,7 @@ last_tells_nothing es (inl (k, done, is)) = subst AllTellNothing (sym is) (tells
     tells_ending k true = record { silent = λ w ts. refl; goes_on = refl; untimed = λ w a. refl }
     tells_ending k false = record { silent = λ w ts. refl; goes_on = refl; untimed = λ w a. refl }
 last_tells_nothing es (inr (inl is)) = subst AllTellNothing (sym is) (tells_died 0, tt)
-last_tells_nothing es (inr (inr (k, is))) = subst AllTellNothing (sym is) (record { silent = λ w ts. refl; goes_on = refl; untimed = λ w a. refl }, tells_died 0, tt)
+last_tells_nothing es (inr (inr (k, is))) = subst AllTellNothing (sym is) (record { silent = λ w ts. refl; goes_on = refl; untimed = λ w a. refl }, (tells_died 0, tt))
 
 -- a world in which memory was wanted is dead
 pub dead_behind : (w : World) (front : List Entry) (p : ℕ) → (after w (front ++ by p Died ∷ [])).dead ≡ true

@@ -5,3 +5,4 @@ pub mod Ended
 pub mod Disks
 pub mod Served
 pub mod Deaf
+pub mod Called

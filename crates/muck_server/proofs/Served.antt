@@ -87,7 +87,7 @@ module _ {D : Type 0} (shows tells : Bool) (before later : Account) (seen : D �
     ended_deaf : deaf ≡ true → Rose before.links.listening later.links.listening → HasEnded workers before.links.listening later.links.listening k.start why k.entries
     ended_deaf is rose =
         subst (λ (x : Why). HasEnded workers before.links.listening later.links.listening k.start x k.entries) (sym (dump.is ∙ ap (λ (b : Bool). why_by b dump.answer) is))
-        (rose, h.entries, made.entries, made.behind.longer.entries, stopped, is_last dump.answer made.entries made.by_answer)
+        (rose, (h.entries, made.entries, made.behind.longer.entries, stopped, is_last dump.answer made.entries made.by_answer))
 
     ended_heard : deaf ≡ false → ((party : ℕ) → IsParty workers party → EndsStopped party h.entries) → HasEnded workers before.links.listening later.links.listening k.start why k.entries
     ended_heard is last =

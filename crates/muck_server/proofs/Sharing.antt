@@ -65,9 +65,9 @@ shared_one workers p tale event is formed s = record {
 
 pub at_more : (workers p : ℕ) (tale : List Entry) (event : Event) (stage later : Stage) → IsParty workers p → next p stage event ≡ Some later → At workers p stage tale → At workers p later (tale ++ by p event ∷ [])
 at_more workers p tale event stage later is may a =
-    let then = stage_more p (done_by p tale) event stage later a.stage_is may in record {
-      shared = shared_one workers p tale event is (well_formed p (done_by p tale ++ event ∷ []) later then) a.shared;
-      stage_is = ap (stage_of p) (done_same p tale event) ∙ then;
+    let goes = stage_more p (done_by p tale) event stage later a.stage_is may in record {
+      shared = shared_one workers p tale event is (well_formed p (done_by p tale ++ event ∷ []) later goes) a.shared;
+      stage_is = ap (stage_of p) (done_same p tale event) ∙ goes;
     }
 
 -- nothing was done yet

@@ -21,7 +21,16 @@ use std::alloc::Global;
 use std::sync::Wait;
 use std::thread::Threads;
 
-// Nobody can be let in: the world is halted, the first party sees that, and makes the last dump.
+// The world is halted, and the first party sees that.
+fn halt(world: &mut World)
+    requires { (now world.old).dead ≡ false }
+    ensures { world.new ≡ halted world.old }
+{
+    world.halt();
+    let _sees = world.stopped(0);
+}
+
+// Nobody can be let in: the world is halted, and the first party makes the last dump.
 fn stop<D: Disk>(alloc: Global, world: &mut World, log: Log, first: &mut D, second: &mut D)
     requires alive { (now world.old).dead ≡ false }
     requires fresh { (mounting : Note) × IsFresh mounting world.old }
@@ -29,8 +38,7 @@ fn stop<D: Disk>(alloc: Global, world: &mut World, log: Log, first: &mut D, seco
     ensures { HasDump D.tells D.seen D.moment D.images D.faults true (Some log) first.old second.old first.new second.new (halted world.old) world.new Why.ListenFault }
 {
     let mut store = Store::new(log);
-    world.halt();
-    let _sees = world.stopped(0);
+    halt(world);
     let _answer = dump(alloc, world, 0, &mut store, first, second);
 }
 
