@@ -76,10 +76,10 @@ pub fn serve<
         ⊎ IsServed (L.tells links.old) D.tells (account (L.told links.old) (L.listening links.old) (C.answers clock.old)) (account (L.told links.new) (L.listening links.new) (C.answers clock.new)) D.moment D.images D.faults workers result.0 world.start mounted mounting first.old second.old first.new second.new result.1.entries result.1.notes }
 {
     if world.is_dead() {
-        return (Why::NoMemory, Tale::none());
+        return (Why::NoMemory, world.into_tale());
     }
     let Ok(parts) = room(alloc, workers) else {
-        return (Why::NoMemory, Tale::none());
+        return (Why::NoMemory, world.into_tale());
     };
     match links.listen(port) {
         Listened::Ready => match serve_links(
@@ -93,6 +93,6 @@ pub fn serve<
             stop(alloc, &mut world, log, first, second);
             (Why::ListenFault, world.into_tale())
         }
-        Listened::NoMemory => (Why::NoMemory, Tale::none()),
+        Listened::NoMemory => (Why::NoMemory, world.into_tale()),
     }
 }
