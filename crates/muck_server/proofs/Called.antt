@@ -44,7 +44,7 @@ module _ {D : Type 0} (tells : Bool) (seen : D → List ℕ) (moment : D → ℕ
       let m = mount on in (
         m.0,
         subst (λ (x : Option LogState). Keeps seen moment images faults x first second m.0 k) (sym log_is)
-        (subst (λ (x : History). Keeps seen moment images faults log first second m.0 x) (sym is) (keeps_halted seen moment images faults log first second m.0 h m.1)),
+            (subst (λ (x : History). Keeps seen moment images faults log first second m.0 x) (sym is) (keeps_halted seen moment images faults log first second m.0 h m.1)),
       )
 
   pub dump_then : (log' : Option LogState) (first' second' : D) (m : History) (answer : Result (Option LogFault) Wanting) → HasDumped 0 k m answer

@@ -1,5 +1,5 @@
 -- Where listening fails at once: the world is halted, the first party sees that, and makes the last dump.
-use Rattle.std.proofs.Common.{◌≡◌, inl, inr, ℕ, zero, suc, ◌≤◌, Bool, true, false, cond, ◌&&◌, List, [], ◌∷◌, ◌++◌, refl, sym, ap, ◌∙◌, subst, arith, Option, Some, None}
+use Rattle.std.proofs.Common.{◌≡◌, inl, ℕ, Bool, true, false, cond, ◌&&◌, List, [], ◌∷◌, ◌++◌, refl, sym, ap, ◌∙◌, subst, arith, Option, Some, None}
 use Rattle.std.specs.Prelude.{is_none}
 use Rattle.muck_io.specs.Faults.{Rose}
 use Rattle.muck_links.specs.Sessions.{Told, ListenAs}
@@ -28,8 +28,7 @@ use Rattle.muck_crew.specs.declared.why.Why.TheVariants.{ListenFault}
 use Rattle.muck_crew.specs.inner.Runs.{IsFresh}
 use Rattle.muck_server.specs.inner.{halted}
 use Rattle.muck_server.specs.Served.{IsServed}
-use Rattle.muck_server.proofs.Behind.{Heard}
-use Rattle.muck_server.proofs.Sharing.{At, at_first, at_more, first_is}
+use Rattle.muck_server.proofs.Sharing.{at_first, at_more, first_is}
 use Rattle.muck_server.proofs.Served.{Known, serves_deaf}
 use Rattle.muck_server.proofs.Dumped.{made_of}
 

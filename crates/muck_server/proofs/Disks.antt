@@ -1,5 +1,5 @@
 -- What is kept of both disks, by the answer.
-use Rattle.std.proofs.Common.{◌≡◌, ◌⊎◌, inl, inr, ℕ, ◌≤◌, Bool, true, false, List, [], ◌∷◌, refl, sym, ap, ◌∙◌, subst, Option, Some, None, Result, Ok, Err}
+use Rattle.std.proofs.Common.{◌≡◌, ◌⊎◌, inl, inr, ℕ, ◌≤◌, Bool, true, false, List, refl, sym, ◌∙◌, subst, Option, Some, None, Result, Ok, Err}
 use Rattle.std.specs.Prelude.{IfOk}
 use Rattle.muck_io.specs.Faults.{Rose}
 use Rattle.muck_log.specs.Store.{LogState}
@@ -10,9 +10,9 @@ use Rattle.spec_dumps.specs.Holding.{Keeps}
 use Rattle.spec_dumps.specs.Survival.{IsSafe, StandsWhole}
 use Rattle.spec_events.specs.Histories.{History}
 use Rattle.muck_dumping.specs.inner.Dumps.{Dumps, IsFull, IsDumpFault}
-use Rattle.muck_crew.specs.Finished.{why_of, why_by, HasDump}
+use Rattle.muck_crew.specs.Finished.{why_by, HasDump}
 use Rattle.muck_crew.specs.declared.why.Why.{Why}
-use Rattle.muck_crew.specs.declared.why.Why.TheVariants.{Fine, NoMemory, DiskFault, Damaged, ListenFault, StoreFull, Spent}
+use Rattle.muck_crew.specs.declared.why.Why.TheVariants.{Fine, NoMemory, DiskFault, Damaged, StoreFull, Spent}
 use Rattle.muck_server.proofs.Behind.{rose_since}
 
 -- Which answers come of which last dump.

@@ -4,7 +4,6 @@ use Rattle.std.specs.Prelude.{if◌then◌else◌}
 use Rattle.std.proofs.lemmas.List.{append-nil}
 use Rattle.muck_log.specs.declared.fault.LogFault.{LogFault}
 use Rattle.muck_model.specs.declared.event.Entry.{Entry}
-use Rattle.muck_model.specs.declared.event.Event.{Event}
 use Rattle.muck_model.specs.declared.event.Event.TheVariants.{Cut, Stored, DumpFailed, Died}
 use Rattle.muck_model.specs.declared.memory.NoMemory.{NoMemory as Wanting}
 use Rattle.muck_model.specs.declared.note.Note.{Note}

@@ -1,5 +1,5 @@
 -- How a run ended, by its answer.
-use Rattle.std.proofs.Common.{◌≡◌, ◌⊎◌, inl, inr, ℕ, Bool, true, false, List, [], ◌∷◌, ◌++◌, refl, sym, ap, ◌∙◌, subst, append_assoc, Option, Some, None, Result, Ok, Err}
+use Rattle.std.proofs.Common.{◌≡◌, ◌⊎◌, inl, inr, ℕ, Bool, true, false, List, [], ◌∷◌, ◌++◌, refl, sym, ap, ◌∙◌, append_assoc, Option, Some, None, Result, Ok, Err}
 use Rattle.std.specs.Prelude.{IfOk}
 use Rattle.muck_log.specs.declared.fault.LogFault.{LogFault}
 use Rattle.muck_log.specs.declared.fault.LogFault.TheVariants as fault
@@ -10,8 +10,6 @@ use Rattle.spec_events.specs.World.{World}
 use Rattle.spec_events.specs.Histories.{after, by_porter}
 use Rattle.muck_crew.specs.Shared.{IsParty, EndsStopped}
 use Rattle.muck_crew.specs.Finished.{why_of, why_from}
-use Rattle.muck_crew.specs.declared.why.Why.{Why}
-use Rattle.muck_crew.specs.declared.why.Why.TheVariants.{Fine, NoMemory, DiskFault, Damaged, ListenFault, StoreFull, Spent}
 use Rattle.muck_server.specs.Served.{last_dump, Closes, HasEnded}
 use Rattle.muck_server.proofs.Dumped.{LastBy, dead_behind}
 

@@ -1,5 +1,5 @@
 -- What a run comes to, from what all its parts left and how it ended.
-use Rattle.std.proofs.Common.{◌≡◌, ◌⊎◌, inl, inr, ℕ, ◌≤◌, ◌^◌, Bool, true, false, List, [], ◌∷◌, ◌++◌, refl, sym, ap, ◌∙◌, subst, Option, Some, None}
+use Rattle.std.proofs.Common.{◌≡◌, ◌⊎◌, inl, inr, ℕ, ◌≤◌, ◌^◌, Bool, true, false, List, [], ◌∷◌, ◌++◌, refl, sym, ap, ◌∙◌, subst, Option}
 use Rattle.muck_io.specs.Faults.{Rose}
 use Rattle.muck_log.specs.Store.{LogState}
 use Rattle.muck_model.specs.declared.event.Entry.{Entry}
@@ -9,7 +9,7 @@ use Rattle.spec_dumps.specs.Holding.{Keeps}
 use Rattle.spec_dumps.specs.Survival.{IsSafe}
 use Rattle.spec_dumps.proofs.Quiet.{quiet_one, safe_quiet}
 use Rattle.spec_events.specs.World.{World}
-use Rattle.spec_events.specs.Histories.{History, now, after, entered, AllLawful}
+use Rattle.spec_events.specs.Histories.{History, now, entered, AllLawful}
 use Rattle.spec_events.specs.Own.{Stage}
 use Rattle.spec_talks.proofs.Histories.{both_ways}
 use Rattle.spec_serve.specs.Marks.{LinksNote}
@@ -22,10 +22,10 @@ use Rattle.muck_crew.specs.Finished.{why_by, HasDump, IsFinish}
 use Rattle.muck_crew.specs.declared.serving.Way.{Way}
 use Rattle.muck_crew.specs.declared.serving.Way.TheVariants as ends
 use Rattle.muck_crew.specs.declared.why.Why.{Why}
-use Rattle.muck_crew.specs.declared.why.Why.TheVariants.{Fine, NoMemory, DiskFault, Damaged, ListenFault, StoreFull, Spent}
+use Rattle.muck_crew.specs.declared.why.Why.TheVariants.{NoMemory, Spent}
 use Rattle.muck_crew.specs.inner.Runs.{IsFresh, HasRun, HasStopped as AllStopped}
 use Rattle.muck_crew.specs.inner.Wholes.{HasServed}
-use Rattle.muck_server.specs.Served.{IsCarried, IsServed, HasEnded, HasStopped}
+use Rattle.muck_server.specs.Served.{IsServed, HasEnded, HasStopped}
 use Rattle.spec_serve.proofs.Promising.{promised_by_number}
 use Rattle.muck_server.proofs.Behind.{Heard, heard_behind, rose_since, promised_since}
 use Rattle.muck_server.proofs.Sharing.{at_more, first_is, dumper_is, porter_stopped, dumper_stopped, last_shared}

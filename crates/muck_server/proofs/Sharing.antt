@@ -1,5 +1,5 @@
 -- Who did what, where a party does one thing more.
-use Rattle.std.proofs.Common.{◌≡◌, ◌⊎◌, inl, inr, ℕ, zero, suc, ◌≤◌, Bool, true, false, List, [], ◌∷◌, ◌++◌, map, refl, sym, ap, ◌∙◌, subst, arith, append_assoc, eq-eqb, eqb-true, Option, Some, None}
+use Rattle.std.proofs.Common.{◌≡◌, inl, inr, ℕ, zero, suc, Bool, true, false, List, [], ◌∷◌, ◌++◌, map, refl, sym, ap, ◌∙◌, subst, arith, append_assoc, eq-eqb, eqb-true, Option, Some, None}
 use Rattle.std.specs.Prelude.{◌==◌, if◌then◌else◌, slice_get, is_some}
 use Rattle.std.specs.Option.{option_and_then}
 use Rattle.std.proofs.lemmas.List.{append-nil}
@@ -7,9 +7,9 @@ use Rattle.turn_lock.specs.Histories.{kept, own_of}
 use Rattle.turn_lock.proofs.Parts.{own_append}
 use Rattle.muck_model.specs.declared.event.Entry.{Entry}
 use Rattle.muck_model.specs.declared.event.Event.{Event}
-use Rattle.muck_model.specs.declared.event.Event.TheVariants.{Cut, Stored, DumpFailed, Halt, StopSeen, Died}
+use Rattle.muck_model.specs.declared.event.Event.TheVariants.{Cut, Stored, DumpFailed, StopSeen, Died}
 use Rattle.spec_events.specs.Histories.{by_porter}
-use Rattle.spec_events.specs.Own.{Stage, next, porter_next, dumper_next, stage_of, IsWellFormed}
+use Rattle.spec_events.specs.Own.{Stage, next, stage_of, IsWellFormed}
 use Rattle.spec_events.proofs.Owning.{stage_one, stage_more, well_formed}
 use Rattle.spec_talks.specs.Parties.{party_of}
 use Rattle.spec_talks.proofs.Histories.{both_ways}
