@@ -1,0 +1,98 @@
+// A call of a server.
+ghost use Rattle.std.specs.Prelude.{◌≡◌, ◌⊎◌, ◌<◌, ℕ, true, false, Some};
+ghost use Rattle.muck_dumping.specs.inner.Between.{IsReady as HasLog};
+ghost use Rattle.muck_model.specs.declared.note.Note.{Note};
+ghost use Rattle.muck_porter.specs.Kept.{account};
+ghost use Rattle.spec_events.specs.Histories.{now};
+ghost use Rattle.muck_crew.specs.Finished.{HasDump};
+ghost use Rattle.muck_crew.specs.inner.Runs.{IsFresh};
+ghost use Rattle.muck_server.specs.inner.{halted};
+ghost use Rattle.muck_server.specs.Served.{IsUnserved, IsServed};
+
+use muck_crew::{Why, room, serve_links};
+use muck_disk::Disk;
+use muck_dumping::{Store, dump};
+use muck_io::{Clock, Gate, Rest};
+use muck_links::{Links, Listened};
+use muck_log::Log;
+use muck_machine::World;
+use muck_model::Tale;
+use std::alloc::Global;
+use std::sync::Wait;
+use std::thread::Threads;
+
+// The world is halted, and the first party sees that.
+fn halt(world: &mut World)
+    requires { (now world.old).dead ≡ false }
+    ensures { world.new ≡ halted world.old }
+{
+    world.halt();
+    let _sees = world.stopped(0);
+}
+
+// Nobody can be let in: the world is halted, and the first party makes the last dump.
+fn stop<D: Disk>(alloc: Global, world: &mut World, log: Log, first: &mut D, second: &mut D)
+    requires alive { (now world.old).dead ≡ false }
+    requires fresh { (mounting : Note) × IsFresh mounting world.old }
+    requires mounted { D.tells ≡ true → (mounted : ℕ) × HasLog D.seen D.moment D.images D.faults (Some log) first.old second.old mounted world.old }
+    ensures { HasDump D.tells D.seen D.moment D.images D.faults true (Some log) first.old second.old first.new second.new (halted world.old) world.new Why.ListenFault }
+{
+    let mut store = Store::new(log);
+    halt(world);
+    let _answer = dump(alloc, world, 0, &mut store, first, second);
+}
+
+/// Listens on the port, and serves the world to all who come, by a porter, so many workers and a dumper beside each other, until it is stopped; then the world is
+/// dumped. Nothing has happened in the world yet but that the log was mounted, from these two disks. Where listening fails at once no thread is started: the run is
+/// stopped, and the world is dumped.
+pub fn serve<
+    W: Threads + Wait + Sync,
+    L: Links + Send,
+    C: Clock + Send,
+    D: Disk + Send,
+    G: Gate + Sync,
+    R: Rest + Sync,
+>(
+    rt: &W,
+    alloc: Global,
+    world: World,
+    log: Log,
+    links: &mut L,
+    clock: &mut C,
+    first: &mut D,
+    second: &mut D,
+    gate: &G,
+    rest: &R,
+    workers: u8,
+    port: u16,
+) -> (Why, Tale)
+    requires few { workers < 9 }
+    requires fresh { (mounting : Note) × IsFresh mounting world }
+    requires mounted { D.tells ≡ true → (mounted : ℕ) × HasLog D.seen D.moment D.images D.faults (Some log) first.old second.old mounted world }
+
+    // Either nothing happened, for want of memory, or one history did, to which all parties added.
+    ensures served { (mounted : ℕ) (mounting : Note) → IsFresh mounting world → (D.tells ≡ true → HasLog D.seen D.moment D.images D.faults (Some log) first.old second.old mounted world)
+        → IsUnserved (L.tells links.old) (account (L.told links.old) (L.listening links.old) (C.answers clock.old)) (account (L.told links.new) (L.listening links.new) (C.answers clock.new)) result.0 first.old second.old first.new second.new result.1.entries
+        ⊎ IsServed (L.tells links.old) D.tells (account (L.told links.old) (L.listening links.old) (C.answers clock.old)) (account (L.told links.new) (L.listening links.new) (C.answers clock.new)) D.moment D.images D.faults workers result.0 world.start mounted mounting first.old second.old first.new second.new result.1.entries result.1.notes }
+{
+    if world.is_dead() {
+        return (Why::NoMemory, world.into_tale());
+    }
+    let Ok(parts) = room(alloc, workers) else {
+        return (Why::NoMemory, world.into_tale());
+    };
+    match links.listen(port) {
+        Listened::Ready => match serve_links(
+            rt, alloc, world, parts, workers, log, links, clock, first, second, gate, rest,
+        ) {
+            Some((why, world)) => (why, world.into_tale()),
+            None => (Why::NoMemory, Tale::none()),
+        },
+        Listened::Fault => {
+            let mut world = world;
+            stop(alloc, &mut world, log, first, second);
+            (Why::ListenFault, world.into_tale())
+        }
+        Listened::NoMemory => (Why::NoMemory, world.into_tale()),
+    }
+}
