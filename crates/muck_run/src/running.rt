@@ -1,5 +1,5 @@
 // A script is read, and run on the world of a store.
-ghost use Rattle.std.specs.Prelude.{◌≡◌, ◌⊎◌, ◌≤◌, ℕ, Bool, true, IfOk, IfErr, OnOk, IsErrOf, All, vec_len, List, Option, None, Ok, Err};
+ghost use Rattle.std.specs.Prelude.{◌≡◌, ◌⊎◌, ◌≤◌, ℕ, Bool, true, false, IfOk, IfErr, OnOk, IsErrOf, All, vec_len, List, Option, None, Ok, Err};
 ghost use Rattle.muck_codec.specs.Stored.{AreProperties};
 ghost use Rattle.muck_io.specs.Faults.{Rose};
 ghost use Rattle.muck_log.specs.Store.{Chosen, stored};
