@@ -3,20 +3,14 @@
 #![tactic(auto)]
 
 mod command;
-mod drilling;
-mod dumping;
-mod playing;
-#[cfg(test)]
-mod tests;
 mod top;
-mod why;
 
 use muck_disk::FileDisk;
 use muck_io::{ReaderSource, WriterSink};
+use muck_run::Why;
 use std::process::ExitCode;
 use std::{env, io};
 use top::by_script;
-use why::Why;
 
 // The words behind the program's name.
 fn words(rt: HostRuntime) -> io::Result<Vec<String>> {
