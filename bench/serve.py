@@ -138,13 +138,14 @@ class Muckd(Game):
         return self
 
     def fill(self, objects):
-        """A store of so many objects, of which all but three are things in a hall of their own."""
+        """A store of so many objects, of which all but three are things in a hall of their own; two are left out for the player and the room that are made later."""
+        stored = objects - 2
         hall = Record(2, ROOM, b"Hall", place=0, first_content=3)
-        things = [Record(n, THING, b"thing %d" % n, place=2, home=2, next=n + 1 if n + 1 < objects else NOTHING) for n in range(3, objects)]
+        things = [Record(n, THING, b"thing %d" % n, place=2, home=2, next=n + 1 if n + 1 < stored else NOTHING) for n in range(3, stored)]
         with open(os.path.join(self.folder, "w.a"), "wb") as file:
             file.write(batch(1, 1, [ROOM_ZERO, dataclasses.replace(ONE, next=2), hall, *things]) + b"\x00")
         self.start()
-        return [3 + (objects - 3) // CHANGED * n for n in range(CHANGED)]
+        return [3 + (stored - 3) // CHANGED * n for n in range(CHANGED)]
 
     def dump(self, client, probe):
         """Asks for a dump, and calls `probe` until it is stored."""
