@@ -1,14 +1,17 @@
 #!/usr/bin/env python3
-"""What the server costs, by sockets on this machine, through dist/muckd or the program that MUCKD names; and beside it the same of TinyMUX (Debian's package tinymux), where it
-is installed. `serve.py OBJECTS` takes so many objects for the dumps (100,000 where no number is given), and a second word divides all counts: `serve.py 2000 20` is a quick look. Times are by the
-clock, and of the client and the server together, on a machine that does nothing else: each is the round trip through both. What is measured, a line each:
+"""What the server costs, by sockets on this machine, through dist/muckd or the program that MUCKD names, and beside it the same of TinyMUX (Debian's package tinymux) where it
+is installed: `bench/serve.py` prints a table, and on standard error each figure as it comes. `serve.py OBJECTS` takes so many objects for the dumps (100,000 where no number is given), and a
+second word divides all counts: `serve.py 2000 20` is a quick look. Times are by the clock, and of the client and the server together, on a machine that does nothing else: each is the
+round trip through both. A thread that waits for its turn leaves the processor to others, so where other programs want it the figures are theirs: `chrt -r 1 bench/serve.py`, as root, comes
+before those. What is measured:
 
 - say: one player, alone in its room, says a text and waits until it is answered;
-- lines: eight players, each in a room of its own, send all their lines at once, and read what comes; with one worker and with four;
+- lines: eight players, each in a room of its own, send all their lines at once, and read what comes; with one worker and with four (TinyMUX has no number of them);
 - heard: a hundred players in a room; from one's line until all have heard it;
 - logins: one after the other, up to what a player sees when it has come in;
-- idle: 256 connections of players who do nothing: memory of the program, and its processor time in a second;
-- dump: a hundred of all objects have changed; while they are stored another player says texts and waits for each answer: the longest wait.
+- idle: 256 connections of players who do nothing: memory of the program, and its processor time;
+- dump: a hundred of all objects have changed; while they are stored another player says texts and waits for each answer: the longest wait of each of seven dumps, beside the longest wait
+  while none is made. TinyMUX tells nobody when a dump is over: there it is the longest wait within a second of the command.
 """
 import contextlib
 import dataclasses
@@ -35,6 +38,7 @@ MUX = "/usr/lib/tinymux/game/bin"
 MUX_DATA = "/usr/share/tinymux/game"
 PATIENCE = 120
 CHANGED = 100
+DUMPS = 7
 
 
 def free_port():
@@ -135,13 +139,14 @@ class Muckd(Game):
         return self
 
     def fill(self, objects):
-        """A store of so many objects, of which all but three are things in a hall of their own."""
+        """A store of so many objects, of which all but three are things in a hall of their own; two are left out for the player and the room that are made later."""
+        stored = objects - 2
         hall = Record(2, ROOM, b"Hall", place=0, first_content=3)
-        things = [Record(n, THING, b"thing %d" % n, place=2, home=2, next=n + 1 if n + 1 < objects else NOTHING) for n in range(3, objects)]
+        things = [Record(n, THING, b"thing %d" % n, place=2, home=2, next=n + 1 if n + 1 < stored else NOTHING) for n in range(3, stored)]
         with open(os.path.join(self.folder, "w.a"), "wb") as file:
             file.write(batch(1, 1, [ROOM_ZERO, dataclasses.replace(ONE, next=2), hall, *things]) + b"\x00")
         self.start()
-        return [3 + (objects - 3) // CHANGED * n for n in range(CHANGED)]
+        return [3 + (stored - 3) // CHANGED * n for n in range(CHANGED)]
 
     def dump(self, client, probe):
         """Asks for a dump, and calls `probe` until it is stored."""
@@ -198,8 +203,9 @@ class TinyMux(Game):
 
 
 def spread(times):
+    """The times in which half of all are over, and 99 of 100."""
     times = sorted(times)
-    return f"half within {times[len(times) // 2] * 1e6:.0f} us, 99 of 100 within {times[len(times) * 99 // 100] * 1e6:.0f} us"
+    return [times[len(times) // 2], times[len(times) * 99 // 100]]
 
 
 def timed(act):
@@ -227,12 +233,18 @@ def lines(game, count, workers):
             writer.start()
         left = {client.socket: count for client in clients}
         while left:
-            for ready in select.select(list(left), [], [], PATIENCE)[0]:
-                left[ready] -= ready.recv(1 << 18).count(b"\n")
+            come = select.select(list(left), [], [], PATIENCE)[0]
+            if not come:
+                raise OSError(f"{sum(left.values())} lines aren't answered")
+            for ready in come:
+                came = ready.recv(1 << 18)
+                if not came:
+                    raise OSError("the connection ended")
+                left[ready] -= came.count(b"\n")
                 if left[ready] <= 0:
                     del left[ready]
 
-    return f"{8 * count / timed(all_of_them):.0f} a second"
+    return [8 * count / timed(all_of_them)]
 
 
 def heard(game, count):
@@ -273,7 +285,7 @@ def logins(game, count):
         client.socket.close()
 
     once()
-    return f"{count / timed(lambda: [once() for _ in range(count)]):.0f} a second"
+    return [count / timed(lambda: [once() for _ in range(count)])]
 
 
 def idle(game, seconds):
@@ -288,7 +300,8 @@ def idle(game, seconds):
     began = game.processor()
     time.sleep(seconds)
     many = (game.processor() - began) / seconds
-    return f"{after:.1f} MB with {len(clients)} connections, {before:.1f} with one; {many * 100:.1f} % of a processor, {alone * 100:.1f} % with one"
+    assert len(clients) == 256
+    return [before, after, alone * 100, many * 100]
 
 
 def dump(game, objects):
@@ -299,15 +312,67 @@ def dump(game, objects):
     keeper.does(f"@teleport *Ann=#{room}")
     other = game.comes_in("Ann")
     quiet, waits, took = [], [], []
-    for turn in range(7):
+    for turn in range(DUMPS):
         keeper.does("\r\n".join(f"@name #{number}=thing {turn} {number}" for number in numbers))
-        quiet += [timed(lambda: other.says(f"q{turn} {n}.")) for n in range(200)]
+        quiet.append(max(timed(lambda: other.says(f"q{turn} {n}.")) for n in range(200)))
         during = []
         took.append(game.dump(keeper, lambda: during.append(timed(lambda: other.says(f"d{turn} {len(during)}.")))))
         waits.append(max(during))
-    waits.sort()
-    length = f"; a dump takes {sorted(took)[3] * 1e3:.1f} ms up to its answer" if took[0] is not None else ""
-    return f"{waits[3] * 1e3:.1f} ms at most in half of 7 dumps, {waits[-1] * 1e3:.1f} ms in all; with no dump {max(quiet) * 1e3:.1f} ms{length}"
+    half = DUMPS // 2
+    length = sorted(took)[half] if None not in took else None
+    return [sorted(waits)[half], max(waits), sorted(quiet)[half], max(quiet), length]
+
+
+def micros(seconds):
+    return f"{seconds * 1e6:,.0f} us"
+
+
+def millis(seconds):
+    return f"{seconds * 1e3:.1f} ms"
+
+
+def rate(number):
+    return f"{number:,.0f}"
+
+
+def megabytes(number):
+    return f"{number:.1f} MB"
+
+
+def percent(number):
+    return f"{number:.1f} %"
+
+
+def rows_of(objects, less):
+    """What is measured, of whom, and what each figure says and how it is written."""
+    both = (Muckd, TinyMux)
+    return [
+        (lambda game: say(game, 4000 // less), both, [("say: half are answered within", micros), ("99 of 100", micros)]),
+        (lambda game: lines(game, 10_000 // less, 1), both, [("lines a second, one worker", rate)]),
+        (lambda game: lines(game, 10_000 // less, 4), (Muckd,), [("lines a second, four workers", rate)]),
+        (lambda game: heard(game, 400 // less), both, [("heard by a hundred: half within", micros), ("99 of 100", micros)]),
+        (lambda game: logins(game, 400 // less), both, [("logins a second", rate)]),
+        (lambda game: idle(game, max(1, 5 // less)), both, [("memory with one connection", megabytes), ("with 256 that are idle", megabytes), ("processor with one", percent), ("with 256", percent)]),
+        (lambda game: dump(game, objects), both, [(f"longest wait while {CHANGED} of {objects:,} objects are dumped: half of {DUMPS} dumps", millis), ("all", millis), ("with no dump: half", millis),
+                                                  ("all", millis), ("up to `Dump N stored.`: half within", millis)]),
+    ]
+
+
+def measured(kind, measure, count):
+    """The figures, or why there are none, which ends no other measure."""
+    with tempfile.TemporaryDirectory() as folder:
+        game = kind(folder)
+        try:
+            return measure(game)
+        except (OSError, TypeError, IndexError) as fault:
+            print(f"{kind.name}: {fault!r}", file=sys.stderr, flush=True)
+            return ["failed"] * count
+        finally:
+            game.stop()
+
+
+def written(figure, how):
+    return "-" if figure is None else figure if isinstance(figure, str) else how(figure)
 
 
 def main(words):
@@ -315,26 +380,18 @@ def main(words):
     less = int(words[1]) if words[1:] else 1
     resource.setrlimit(resource.RLIMIT_NOFILE, (min(4096, resource.getrlimit(resource.RLIMIT_NOFILE)[1]),) * 2)
     games = [Muckd] + ([TinyMux] if os.path.exists(f"{MUX}/netmux") else [])
+    table = [["", *(kind.name for kind in games)], ["---", *("--:" for _ in games)]]
+    for measure, those, figures in rows_of(objects, less):
+        columns = [measured(kind, measure, len(figures)) if kind in those else [None] * len(figures) for kind in games]
+        for (what, how), *values in zip(figures, *columns):
+            table.append([what, *(written(value, how) for value in values)])
+            print(": ".join(table[-1]), file=sys.stderr, flush=True)
     if games == [Muckd]:
-        print("TinyMUX isn't installed, and is left out")
-    rows = [
-        ("say", lambda game: say(game, 4000 // less), games),
-        ("lines, one worker", lambda game: lines(game, 10_000 // less, 1), games),
-        ("lines, four workers", lambda game: lines(game, 10_000 // less, 4), [Muckd]),
-        ("heard by a hundred", lambda game: heard(game, 400 // less), games),
-        ("logins", lambda game: logins(game, 400 // less), games),
-        ("idle", lambda game: idle(game, max(1, 5 // less)), games),
-        (f"the longest wait while {CHANGED} of {objects} objects are dumped", lambda game: dump(game, objects), games),
-    ]
-    for what, measure, those in rows:
-        for kind in those:
-            with tempfile.TemporaryDirectory() as folder:
-                game = kind(folder)
-                try:
-                    print(f"{what}: {game.name}: {measure(game)}", flush=True)
-                finally:
-                    game.stop()
-    return 0
+        print("(TinyMUX isn't installed.)")
+    print(f"({os.cpu_count()} processors, load {os.getloadavg()[0]:.1f} in the end)")
+    for row in table:
+        print("| " + " | ".join(row) + " |")
+    return 1 if any("failed" in row for row in table) else 0
 
 
 if __name__ == "__main__":

@@ -1,0 +1,17 @@
+// The rest of a thread that has nothing to do.
+use muck_io::Rest;
+use std::rt::Clock;
+use std::thread;
+use std::time::Duration;
+
+/// Sleeps for a millisecond.
+#[derive(Drop)]
+pub struct NapRest<C: Clock + Drop> {
+    pub clock: C,
+}
+
+impl<C: Clock + Drop> Rest for NapRest<C> {
+    fn rest(&self) {
+        let _ = thread::sleep(&self.clock, Duration::from_millis(1));
+    }
+}
