@@ -15,3 +15,4 @@ pub mod Noted
 pub mod Untouched
 pub mod Called
 pub mod Drilled
+pub mod Served
