@@ -1,82 +1,36 @@
 -- What a call for `serve` comes to, from what the server says.
-use Rattle.std.proofs.Common.{◌≡◌, ◌⊎◌, inl, inr, ℕ, ◌≤◌, ◌^◌, Bool, true, List, length, refl, sym, ap, subst, ◌∙◌, Option, Some, None, Ok}
-use Rattle.std.specs.Prelude.{codes, max, All, ◌++◌, [], ◌∷◌}
+use Rattle.std.proofs.Common.{◌≡◌, ◌⊎◌, inl, inr, ℕ, ◌≤◌, ◌^◌, Bool, true, false, List, length, refl, sym, ap, subst, ◌∙◌, Option, Some, None, Ok}
+use Rattle.std.specs.Prelude.{codes, All, ◌++◌, [], ◌∷◌}
 use Rattle.muck_codec.specs.Stored.{AreProperties}
 use Rattle.muck_io.specs.Faults.{Rose}
-use Rattle.muck_io.specs.inner.Clock.{Answers, next_answer as told_next, later_answers as told_later}
+use Rattle.muck_io.specs.inner.Clock.{Answers}
 use Rattle.muck_links.specs.Sessions.{Told}
 use Rattle.muck_model.specs.declared.event.Entry.{Entry}
-use Rattle.muck_model.specs.declared.event.Event.{Event}
-use Rattle.muck_model.specs.declared.event.Event.TheVariants.{Moment}
 use Rattle.muck_model.specs.declared.note.Note.{Note}
 use Rattle.muck_log.specs.Store.{LogState}
 use Rattle.muck_log.specs.World.{IsFine}
 use Rattle.muck_log.specs.Mount.{IsMountedAs}
 use Rattle.spec_dumps.specs.Fronts.{file_most}
 use Rattle.spec_events.specs.World.{World, booted}
-use Rattle.spec_events.specs.Steps.{effect}
 use Rattle.spec_events.specs.Histories.{History}
 use Rattle.spec_live.specs.Boards.{early_board}
 use Rattle.muck_dumping.specs.inner.Between.{IsReady as HasLog}
-use Rattle.muck_peer.specs.Moves.{Clocked}
 use Rattle.muck_porter.specs.Kept.{Account, account}
-use Rattle.muck_porter.specs.Times.{Timely}
 use Rattle.muck_crew.specs.inner.Runs.{IsFresh}
 use Rattle.muck_server.specs.Served.{IsServed, IsUnserved as Never, HasEnded}
 use Rattle.muck_crew.specs.declared.why.Why.{Why as Ended}
 use Rattle.muck_crew.specs.declared.why.Why.TheVariants as ended
+use Rattle.muckd.specs.Words.{Command, run, drill, serve, is_scripted}
 use Rattle.muckd.specs.Drill.{HasDrilled}
 use Rattle.muckd.specs.Outcome.{IsUntouched, EndsAs}
 use Rattle.muckd.specs.inner.Dumps.{note_of}
-use Rattle.muckd.specs.Serving.{why_served, tally_of, next_answer, later_answers, answers_behind, IsTimed, AreTimed, IsUnserved, HasServed, ServesAs}
+use Rattle.muckd.specs.Serving.{is_served, why_served, tally_of, IsUnserved, HasServed, ServesAs}
 use Rattle.muckd.specs.inner.Ends.{MayRefuse, IsBootable, booted_at, unbegun_at, begun_at}
 use Rattle.muckd.specs.declared.why.Why.{Why}
-use Rattle.muckd.specs.declared.why.Why.TheVariants.{Fine, NoMemory, DiskFault, Damaged, ListenFault, StoreFull, Spent}
+use Rattle.muckd.specs.declared.why.Why.TheVariants.{Fine, Usage, BadScript, NoMemory, ReadFault, WriteFault, DiskFault, Damaged, ListenFault, StoreFull, Spent}
 use Rattle.muckd.proofs.Called.{holds_still, either_since}
 use Rattle.muckd.proofs.Started.{rests_started, licensed_from, known_from}
 use Rattle.muckd.proofs.Untouched.{untouched_still, untouched_on}
-
--- What a clock answers that tells its answers.
-
-next_is : (given : List ℕ) → told_next given ≡ next_answer given
-next_is [] = refl
-next_is (a ∷ more) = refl
-
-later_is : (given : List ℕ) → told_later given ≡ later_answers given
-later_is [] = refl
-later_is (a ∷ []) = refl
-later_is (a ∷ b ∷ more) = refl
-
--- the first answer
-pub clock_is : (before after : Option (List ℕ)) (began : ℕ) → Answers before after began → (given : List ℕ) → before ≡ Some given → began ≡ next_answer given
-clock_is before after began a given e = let b = subst (λ x. Answers x after began) e a in b.0 ∙ next_is given
-
--- and what is left behind it
-pub clock_left : (before after : Option (List ℕ)) (began : ℕ) → Answers before after began → (given : List ℕ) → before ≡ Some given → after ≡ Some (later_answers given)
-clock_left before after began a given e = let b = subst (λ x. Answers x after began) e a in b.1 ∙ ap Some (later_is given)
-
--- one entry of a world
-record Told1 (given : List ℕ) (between : Option (List ℕ)) (w : World) (event : Event) : Type 0 where
-  pub timed : IsTimed given w event
-  pub left : between ≡ Some (answers_behind event given)
-
-told_one : (given : List ℕ) (between : Option (List ℕ)) (w : World) (event : Event) → Clocked (Some given) between w event → Told1 given between w event
-told_one given between w (Moment t) c = record {
-    timed = subst (λ x. t ≡ max x w.moment) (c.1.0 ∙ next_is given) c.2;
-    left = c.1.1 ∙ ap Some (later_is given);
-  }
-told_one given between w event c = record { timed = tt; left = c }
-
--- the moments of a history
-pub timed_on : (given : List ℕ) (now : Option (List ℕ)) (w : World) (es : List Entry) → Timely (Some given) now w es → AreTimed given w es
-timed_on given now w [] t = tt
-timed_on given now w (e ∷ es) t =
-    let one = told_one given t.0 w e.event t.1 in
-    (one.timed, timed_on (answers_behind e.event given) now (effect w e) es (subst (λ x. Timely x now (effect w e) es) one.left t.2))
-
-pub timed_from : (before between now : Option (List ℕ)) (began : ℕ) (w : World) (es : List Entry) → Answers before between began → Timely between now w es → (given : List ℕ) → before ≡ Some given → AreTimed (later_answers given) w es
-timed_from before between now began w es a t given e =
-    timed_on (later_answers given) now w es (subst (λ x. Timely x now w es) (clock_left before between began a given e) t)
 
 -- The answers of the server, as the call gives them.
 
@@ -154,7 +108,7 @@ module _ {L C D : Type 0} (shows : Bool) (told : L → Told) (listening : L → 
   Began = IsUnserved shows told tells seen moment images l l' first second first'' second'' tale
 
   Served : Type 0
-  Served = HasServed shows told listening answers tells attached seen moment images store workers (why_served cause) l l' c first second first'' second'' tale notes
+  Served = HasServed shows told listening answers tells attached seen moment images store workers (why_served cause) l l' c c'' first second first'' second'' tale notes
 
   has_served : (tells ≡ true → IsMountedAs seen moment images file_most log first' second') → IsFine log.chosen.held.world
       → (tells ≡ true → attached first' ≡ Some (store ++ codes ".a")) → (tells ≡ true → attached second' ≡ Some (store ++ codes ".b"))
@@ -172,7 +126,8 @@ module _ {L C D : Type 0} (shows : Bool) (told : L → Told) (listening : L → 
       boots = refl;
       holds = λ on. (log.chosen, holds_still seen moment images first second first' second' (a on) (b on) (Ok log.chosen) (mounted on).mounted.load, refl, refl);
     };
-    clock = clock_is (answers c) (answers c') began clock;
+    coming = answers c';
+    clock = clock;
     opened = record {
       mounted_first = first';
       mounted_second = second';
@@ -192,7 +147,7 @@ module _ {L C D : Type 0} (shows : Bool) (told : L → Told) (listening : L → 
     shared = s.shared;
     counted = s.counted;
     carried = s.carried;
-    timely = λ on. timed_from (answers c) (answers c') (answers c'') began (booted_at began log.chosen.held.world) tale clock (s.timely on);
+    timely = s.timely;
     cause = cause;
     answered = refl;
     ended = s.ended;
@@ -254,13 +209,13 @@ module _ {L C D : Type 0} (shows : Bool) (told : L → Told) (listening : L → 
 
 module _ {L C D : Type 0} (shows : Bool) (told : L → Told) (listening : L → ℕ) (answers : C → Option (List ℕ))
     (tells : Bool) (attached : D → Option (List ℕ)) (seen : D → List ℕ) (moment : D → ℕ) (images : D → ℕ → List ℕ → Type 0) (store : List ℕ) (workers : ℕ)
-    (why : Why) (l l' : L) (c : C) (first second first' second' : D) (tale : List Entry) (notes : List Note) (U : Type 0)
-    (ends : ServesAs why U (HasServed shows told listening answers tells attached seen moment images store workers why l l' c first second first' second' tale notes)) where
+    (why : Why) (l l' : L) (c c' : C) (first second first' second' : D) (tale : List Entry) (notes : List Note) (U : Type 0)
+    (ends : ServesAs why U (HasServed shows told listening answers tells attached seen moment images store workers why l l' c c' first second first' second' tale notes)) where
   ended_so : (cause is : Ended) (w : World) → HasEnded workers (listening l) (listening l') w cause tale → cause ≡ is → HasEnded workers (listening l) (listening l') w is tale
   ended_so cause is w h e = subst (λ (x : Ended). HasEnded workers (listening l) (listening l') w x tale) e h
 
   S : Type 0
-  S = HasServed shows told listening answers tells attached seen moment images store workers why l l' c first second first' second' tale notes
+  S = HasServed shows told listening answers tells attached seen moment images store workers why l l' c c' first second first' second' tale notes
 
   pub listening_failed : why ≡ ListenFault → Rose (listening l) (listening l')
   listening_failed e =
@@ -291,12 +246,44 @@ MayScript ListenFault = ⊥
 MayScript (Spent turns) = ⊥
 MayScript why = Unit {0}
 
-ends_scripted : (why : Why) (U B : Type 0) → EndsAs why U B → MayScript why
+pub ends_scripted : (why : Why) (U B : Type 0) → EndsAs why U B → MayScript why
 ends_scripted ListenFault U B ends = ends
 ends_scripted (Spent turns) U B ends = ends
 ends_scripted why U B ends = tt
 
-drilled_scripted : {K : Type 0} (written : K → Option (List ℕ)) (faults : K → ℕ) (n : ℕ) (why : Why) (before now : K) (tale : List Entry) → HasDrilled written faults n why before now tale → MayScript why
+pub drilled_scripted : {K : Type 0} (written : K → Option (List ℕ)) (faults : K → ℕ) (n : ℕ) (why : Why) (before now : K) (tale : List Entry) → HasDrilled written faults n why before now tale → MayScript why
 drilled_scripted written faults n ListenFault before now tale ends = ends
 drilled_scripted written faults n (Spent turns) before now tale ends = ends
 drilled_scripted written faults n why before now tale ends = tt
+
+-- whatever the command is that isn't a server's
+pub scripted_may : (command : Option Command) (why : Why) → is_served command ≡ false → (command ≡ None → why ≡ Usage) → ((store : List ℕ) → command ≡ Some (run store) → MayScript why) → ((n : ℕ) → command ≡ Some (drill n) → MayScript why) → MayScript why
+scripted_may None why is usage runs drills = subst MayScript (sym (usage refl)) tt
+scripted_may (Some (run store)) why is usage runs drills = runs store refl
+scripted_may (Some (drill n)) why is usage runs drills = drills n refl
+scripted_may (Some (serve store port workers)) why is usage runs drills = cc
+
+pub unscripted : (command : Option Command) → is_served command ≡ false → is_scripted command ≡ false → command ≡ None
+unscripted None is no = refl
+unscripted (Some (run store)) is no = cc
+unscripted (Some (drill n)) is no = cc
+unscripted (Some (serve store port workers)) is no = cc
+
+-- And a server ends otherwise than by those of a script alone.
+
+abbrev pub MayServe : Why → Type 0
+MayServe Usage = ⊥
+MayServe (BadScript line) = ⊥
+MayServe ReadFault = ⊥
+MayServe WriteFault = ⊥
+MayServe why = Unit {0}
+
+pub serves_may : (why : Why) (U S : Type 0) → ServesAs why U S → MayServe why
+serves_may Usage U S ends = ends
+serves_may (BadScript line) U S ends = ends
+serves_may ReadFault U S ends = ends
+serves_may WriteFault U S ends = ends
+serves_may why U S ends = tt
+
+pub other_port : (a b : List ℕ) (p q m n : ℕ) → Some (serve a p m) ≡ Some (serve b q n) → (a ≡ b) × (m ≡ n)
+other_port a b p q m n e = (cc, cc)

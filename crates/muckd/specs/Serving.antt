@@ -1,17 +1,16 @@
 -- What a call for `serve` comes to.
-use Rattle.std.specs.Prelude.{◌≡◌, ◌⊎◌, ℕ, max, Bool, true, false, List, [], ◌∷◌, Option, Some}
+use Rattle.std.specs.Prelude.{◌≡◌, ◌⊎◌, ℕ, Bool, true, false, List, [], Option, Some}
+use Rattle.muck_io.specs.inner.Clock.{Answers}
 use Rattle.muck_links.specs.Sessions.{Told}
 use Rattle.muck_model.specs.declared.event.Entry.{Entry}
-use Rattle.muck_model.specs.declared.event.Event.{Event}
-use Rattle.muck_model.specs.declared.event.Event.TheVariants.{Moment}
 use Rattle.muck_model.specs.declared.note.Note.{Note}
 use Rattle.spec_dumps.specs.Survival.{IsSafe, StandsWhole}
 use Rattle.spec_events.specs.World.{World}
-use Rattle.spec_events.specs.Steps.{effect}
 use Rattle.spec_events.specs.Histories.{AllLawful, AllLicensed}
 use Rattle.spec_events.specs.Passwords.{AllKnown}
 use Rattle.spec_serve.specs.Marks.{LinksNote}
 use Rattle.spec_serve.specs.Promises.{Tally}
+use Rattle.muck_porter.specs.Times.{Timely}
 use Rattle.muck_crew.specs.Shared.{IsShared, LeavesWorkedOff}
 use Rattle.muck_server.specs.Served.{IsCarried, HasStopped, HasEnded}
 use Rattle.muck_crew.specs.declared.why.Why.{Why as Ended}
@@ -40,34 +39,6 @@ why_served (ended.Spent turns) = Spent turns
 abbrev pub tally_of : {L : Type 0} → (L → Told) → (L → ℕ) → L → Tally
 tally_of told listening links = record { told = told links; listening = listening links }
 
--- What a clock answers that tells the answers that it is going to give.
-
--- the next one, or 0 where there is none
-abbrev pub next_answer : List ℕ → ℕ
-next_answer [] = 0
-next_answer (answer ∷ answers) = answer
-
--- those behind it; the last one is given again and again
-abbrev pub later_answers : List ℕ → List ℕ
-later_answers [] = []
-later_answers (answer ∷ []) = answer ∷ []
-later_answers (answer ∷ next ∷ answers) = next ∷ answers
-
--- those behind an event: only for a moment a clock is asked
-abbrev pub answers_behind : Event → List ℕ → List ℕ
-answers_behind (Moment t) answers = later_answers answers
-answers_behind event answers = answers
-
--- the second of a moment is the greater of the clock's next answer and the second of the world
-abbrev pub IsTimed : List ℕ → World → Event → Type 0
-IsTimed answers w (Moment t) = t ≡ max (next_answer answers) w.moment
-IsTimed answers w event = Unit {0}
-
--- so is each moment of these entries, in the world in which it was entered
-abbrev pub AreTimed : List ℕ → World → List Entry → Type 0
-AreTimed answers w [] = Unit {0}
-AreTimed answers w (e ∷ es) = IsTimed answers w e.event × AreTimed (answers_behind e.event answers) (effect w e) es
-
 -- It never began: nothing happened, nobody was let in (`shows` says that the links tell what they carry), and nothing was written to the
 -- files.
 pub record IsUnserved {L D : Type 0} (shows : Bool) (told : L → Told) (tells : Bool) (seen : D → List ℕ) (moment : D → ℕ) (images : D → ℕ → List ℕ → Type 0)
@@ -79,16 +50,17 @@ pub record IsUnserved {L D : Type 0} (shows : Bool) (told : L → Told) (tells :
 
 -- A server began, on the world that the two files held, at the second that the clock answered first. One history happened, to which all
 -- parties added: each entry was lawful where it stands, and changed only what is open there; and whoever has a player gave its password.
--- Each party did what it may, what the links carried is what that history says of each connection, and its moments are what the clock
--- answered from then on. Of the disks is kept what is kept of a run.
+-- Each party did what it may, and what the links carried is what that history says of each connection. Each moment is the greater of what the
+-- clock, which had the answers `coming` from then on, answers next, and of the second before it. Of the disks is kept what is kept of a run.
 pub record HasServed {L C D : Type 0} (shows : Bool) (told : L → Told) (listening : L → ℕ) (answers : C → Option (List ℕ))
     (tells : Bool) (attached : D → Option (List ℕ)) (seen : D → List ℕ) (moment : D → ℕ) (images : D → ℕ → List ℕ → Type 0) (store : List ℕ) (workers : ℕ) (why : Why)
-    (l l' : L) (c : C) (first second first' second' : D) (tale : List Entry) (notes : List Note) : Type 0 where
+    (l l' : L) (c c' : C) (first second first' second' : D) (tale : List Entry) (notes : List Note) : Type 0 where
   pub start : World
   pub began : ℕ
   pub mounted : ℕ
   pub begins : IsStart tells (seen first) (seen second) began start mounted
-  pub clock : (given : List ℕ) → answers c ≡ Some given → began ≡ next_answer given
+  pub coming : Option (List ℕ)
+  pub clock : Answers (answers c) coming began
   pub opened : IsOpened tells attached seen moment images store first second notes
   pub lawful : AllLawful start tale
   pub licensed : AllLicensed start tale
@@ -96,7 +68,7 @@ pub record HasServed {L C D : Type 0} (shows : Bool) (told : L → Told) (listen
   pub shared : IsShared workers tale
   pub counted : LinksNote
   pub carried : shows ≡ true → IsCarried counted (tally_of told listening l) (tally_of told listening l') start tale
-  pub timely : shows ≡ true → (given : List ℕ) → answers c ≡ Some given → AreTimed (later_answers given) start tale
+  pub timely : shows ≡ true → Timely coming (answers c') start tale
   pub cause : Ended
   pub answered : why ≡ why_served cause
   pub ended : HasEnded workers (listening l) (listening l') start cause tale
