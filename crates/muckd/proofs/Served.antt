@@ -107,15 +107,15 @@ module _ {L C D : Type 0} (shows : Bool) (told : L → Told) (listening : L → 
   Began : Type 0
   Began = IsUnserved shows told tells seen moment images l l' first second first'' second'' tale
 
-  Served : Type 0
-  Served = HasServed shows told listening answers tells attached seen moment images store workers (why_served cause) l l' c c'' first second first'' second'' tale notes
+  Served : Why → Type 0
+  Served why = HasServed shows told listening answers tells attached seen moment images store workers why l l' c c'' first second first'' second'' tale notes
 
   has_served : (tells ≡ true → IsMountedAs seen moment images file_most log first' second') → IsFine log.chosen.held.world
       → (tells ≡ true → attached first' ≡ Some (store ++ codes ".a")) → (tells ≡ true → attached second' ≡ Some (store ++ codes ".b"))
       → (tells ≡ true → IsUntouched seen moment images first first') → (tells ≡ true → IsUntouched seen moment images second second')
       → Answers (answers c) (answers c') began → (mounting.first_moment ≡ moment first') × (mounting.second_moment ≡ moment second')
       → IsServed shows tells (account_of l c') (account_of l' c'') moment images faults workers cause (booted_at began log.chosen.held.world) log.chosen.held.number mounting first' second' first'' second'' tale notes
-      → Served
+      → Served (why_served cause)
   has_served mounted fine name_a name_b a b clock at s = record {
     start = booted_at began log.chosen.held.world;
     began = began;
@@ -173,13 +173,15 @@ module _ {L C D : Type 0} (shows : Bool) (told : L → Told) (listening : L → 
       → Answers (answers c) (answers c') began → (mounting.first_moment ≡ moment first') × (mounting.second_moment ≡ moment second') → (w : World) → w ≡ booted_at began log.chosen.held.world
       → Never shows (account_of l c') (account_of l' c'') cause first' second' first'' second'' tale
           ⊎ IsServed shows tells (account_of l c') (account_of l' c'') moment images faults workers cause w log.chosen.held.number mounting first' second' first'' second'' tale notes
-      → ServesAs (why_served cause) Began Served
-  server_ends mounted fine name_a name_b a b clock at w is r = elim r [
-    | inl n ↦ subst (λ (x : Ended). ServesAs (why_served x) Began Served) (sym n.wanted) (inl (never_served a b n))
-    | inr s ↦ served_ends cause Began Served
-        (has_served mounted fine name_a name_b a b clock at
-        (subst (λ (x : World). IsServed shows tells (account_of l c') (account_of l' c'') moment images faults workers cause x log.chosen.held.number mounting first' second' first'' second'' tale notes) is s))
-  ]
+      → (why : Why) → why ≡ why_served cause → ServesAs why Began (Served why)
+  server_ends mounted fine name_a name_b a b clock at w is r why answered =
+      subst (λ (x : Why). ServesAs x Began (Served x)) (sym answered)
+      (elim r [
+        | inl n ↦ subst (λ (x : Ended). ServesAs (why_served x) Began (Served (why_served cause))) (sym n.wanted) (inl (never_served a b n))
+        | inr s ↦ served_ends cause Began (Served (why_served cause))
+            (has_served mounted fine name_a name_b a b clock at
+            (subst (λ (x : World). IsServed shows tells (account_of l c') (account_of l' c'') moment images faults workers cause x log.chosen.held.number mounting first' second' first'' second'' tale notes) is s))
+      ])
 
   -- a disk failed since the store was mounted
   pub disk_failed : (w : World) (mounted : ℕ)
