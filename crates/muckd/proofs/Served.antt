@@ -183,24 +183,23 @@ module _ {L C D : Type 0} (shows : Bool) (told : L → Told) (listening : L → 
             (subst (λ (x : World). IsServed shows tells (account_of l c') (account_of l' c'') moment images faults workers cause x log.chosen.held.number mounting first' second' first'' second'' tale notes) is s))
       ])
 
+-- What the server itself says of the disks, by its answer.
+
+module _ {D : Type 0} (shows tells : Bool) (before now : Account) (moment : D → ℕ) (images : D → ℕ → List ℕ → Type 0) (faults : D → ℕ) (first first' : D) (second second' : D) (workers : ℕ) (cause : Ended)
+    (w : World) (mounted : ℕ) (mounting : Note) (tale : List Entry) (notes : List Note)
+    (r : Never shows before now cause first second first' second' tale ⊎ IsServed shows tells before now moment images faults workers cause w mounted mounting first second first' second' tale notes) where
   -- a disk failed since the store was mounted
-  pub disk_failed : (w : World) (mounted : ℕ)
-      → Never shows (account_of l c') (account_of l' c'') cause first' second' first'' second'' tale
-          ⊎ IsServed shows tells (account_of l c') (account_of l' c'') moment images faults workers cause w mounted mounting first' second' first'' second'' tale notes
-      → faults first ≤ faults first' → faults second ≤ faults second' → why_served cause ≡ DiskFault → Rose (faults first) (faults first'') ⊎ Rose (faults second) (faults second'')
-  disk_failed w mounted r le ge e =
+  pub disk_failed : (a b : ℕ) → a ≤ faults first → b ≤ faults second → why_served cause ≡ DiskFault → Rose a (faults first') ⊎ Rose b (faults second')
+  disk_failed a b le ge e =
       let is = cause_is cause ended.DiskFault DiskFault e refl in
       elim r [
         | inl n ↦ let both = sym n.wanted ∙ is in cc
-        | inr s ↦ either_since _ _ _ _ _ _ le ge (s.failed is)
+        | inr s ↦ either_since a (faults first) (faults first') b (faults second) (faults second') le ge (s.failed is)
       ]
 
   -- a store that was mounted isn't damaged
-  pub not_damaged : (w : World) (mounted : ℕ)
-      → Never shows (account_of l c') (account_of l' c'') cause first' second' first'' second'' tale
-          ⊎ IsServed shows tells (account_of l c') (account_of l' c'') moment images faults workers cause w mounted mounting first' second' first'' second'' tale notes
-      → (file : Bool) (at : ℕ) → tells ≡ true → why_served cause ≡ Damaged file at → ⊥
-  not_damaged w mounted r file at on e =
+  pub not_damaged : (file : Bool) (at : ℕ) → tells ≡ true → why_served cause ≡ Damaged file at → ⊥
+  not_damaged file at on e =
       let is = cause_is cause (ended.Damaged file at) (Damaged file at) e refl in
       elim r [
         | inl n ↦ let both = sym n.wanted ∙ is in cc
