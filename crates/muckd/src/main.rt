@@ -1,30 +1,16 @@
 //! A text-world server: `muckd run STORE` reads a script, runs it on the world of the store, and writes its transcript.
-//! `muckd serve STORE PORT WORKERS` serves that world to all who come, until it is stopped.
 //! `muckd drill N` runs a fixed script on the starting world, and writes how many objects, lines and bytes came of it.
 #![tactic(auto)]
 
 mod command;
-mod drilling;
-mod dumping;
-mod napping;
-mod playing;
-mod serving;
-#[cfg(test)]
-mod tests;
 mod top;
-mod why;
 
 use muck_disk::FileDisk;
-use muck_io::{OpenGate, ReaderSource, SystemClock, WriterSink};
-use muck_links::{Links, MioLinks};
-use napping::NapRest;
+use muck_io::{ReaderSource, WriterSink};
+use muck_run::Why;
 use std::process::ExitCode;
 use std::{env, io};
-use top::muckd;
-use why::Why;
-
-// Links have lower numbers than this.
-const LINKS_MOST: u32 = 256;
+use top::by_script;
 
 // The words behind the program's name.
 fn words(rt: HostRuntime) -> io::Result<Vec<String>> {
@@ -52,24 +38,13 @@ fn main(rt: HostRuntime) -> io::Result<ExitCode> {
     let mut out = WriterSink::new(io::writer(&rt));
     let mut first = FileDisk::new(rt);
     let mut second = FileDisk::new(rt);
-    let mut links = MioLinks::new(rt.alloc(), rt);
-    let mut clock = SystemClock::new(rt);
-    let done = muckd(
-        &rt,
+    let done = by_script(
         rt.alloc(),
         &words,
         &mut script,
         &mut out,
-        &mut links,
-        &mut clock,
         &mut first,
         &mut second,
-        &OpenGate,
-        &NapRest::new(rt),
     );
-    // So that nothing that was written is lost.
-    for d in 0..LINKS_MOST {
-        links.close(d);
-    }
     tell(rt, done.why)
 }

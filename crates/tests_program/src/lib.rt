@@ -1,5 +1,5 @@
 //! Tests of what no script reaches: a world with other players and narrower limits, calls that are answered by that they may
-//! not be made, and several processes at once. All that can be typed into the program is tested by `tests/scripts`. The code
+//! not be made, several processes at once, and runs of which a write or a call of a file fails. All that can be typed into the program is tested by `tests/scripts`. The code
 //! here is the one function that the tests share.
 #![tactic(auto)]
 
@@ -10,6 +10,8 @@ ghost use Rattle.spec_events.specs.Histories.{now, entered, by_porter};
 
 #[cfg(test)]
 mod calls;
+#[cfg(test)]
+mod faults;
 #[cfg(test)]
 mod players;
 #[cfg(test)]

@@ -1,0 +1,160 @@
+-- What a call answers, from where it ended.
+use Rattle.std.proofs.Common.{◌≡◌, ◌⊎◌, inl, inr, ℕ, ◌≤◌, Bool, true, List, refl, sym, ap, subst, ◌∙◌, arith, Option, Some, None, Result, Ok, Err}
+use Rattle.std.specs.Prelude.{codes, ◌++◌}
+use Rattle.muck_io.specs.Faults.{Rose}
+use Rattle.muck_model.specs.declared.event.Entry.{Entry}
+use Rattle.muck_model.specs.declared.note.Note.{Note}
+use Rattle.muck_log.specs.Store.{Chosen, Damage, LogState, stored}
+use Rattle.muck_log.specs.World.{IsFine}
+use Rattle.muck_log.specs.Mount.{IsMountedAs, IsMountFault}
+use Rattle.muck_log.specs.declared.fault.LogFault.{LogFault}
+use Rattle.muck_log.specs.declared.fault.LogFault.TheVariants.{NoMemory as LogMemory, DiskFault as LogDisk, Damaged as LogDamaged, StoreFull as LogFull, Stale}
+use Rattle.spec_dumps.specs.Fronts.{file_most}
+use Rattle.muck_script.specs.declared.act.Act.{Act}
+use Rattle.muck_run.specs.Outcome.{HasRead, HasBegun, IsUnbegun, IsUntouched, EndsAs, IsInGrammar, IsFirstOutside}
+use Rattle.muck_run.specs.inner.Ends.{refusal_of, MayNotOpen, IsMountWhy, MayRefuse, IsScriptWhy, HasPlayed, NeverPlayed, MayEnd, MayEndDump, booted_from}
+use Rattle.muck_run.specs.declared.why.Why.{Why}
+use Rattle.muck_run.specs.declared.why.Why.TheVariants.{Fine, Usage, BadScript, NoMemory, ReadFault, WriteFault, DiskFault, Damaged, ListenFault, StoreFull, Spent}
+use Rattle.muck_run.proofs.Started.{licensed_from, known_from}
+use Rattle.muck_run.proofs.Untouched.{untouched_still, untouched_on}
+
+-- Files that aren't opened, and stores that aren't mounted.
+
+pub opens_told : (a b : List ℕ) (why : Why) → MayNotOpen why → IsMountWhy a b why
+opens_told a b NoMemory may = tt
+opens_told a b DiskFault may = tt
+opens_told a b why may = absurd may
+
+pub opens_may : (why : Why) → MayNotOpen why → MayRefuse why
+opens_may NoMemory may = tt
+opens_may DiskFault may = tt
+opens_may why may = absurd may
+
+pub mount_told : (a b : List ℕ) (fault : LogFault) → IsMountFault a b fault → IsMountWhy a b (refusal_of fault)
+mount_told a b LogMemory told = tt
+mount_told a b LogDisk told = tt
+mount_told a b (LogDamaged second at) told = told
+mount_told a b (LogFull end more) told = absurd told
+mount_told a b Stale told = absurd told
+
+pub mount_may : (fault : LogFault) → MayRefuse (refusal_of fault)
+mount_may LogMemory = tt
+mount_may LogDisk = tt
+mount_may (LogDamaged second at) = tt
+mount_may (LogFull end more) = tt
+mount_may Stale = tt
+
+-- only a disk that failed is answered so
+pub disk_refused : (fault : LogFault) → refusal_of fault ≡ DiskFault → fault ≡ LogDisk
+disk_refused LogMemory e = cc
+disk_refused LogDisk e = refl
+disk_refused (LogDamaged second at) e = cc
+disk_refused (LogFull end more) e = cc
+disk_refused Stale e = cc
+
+-- How a call ends: it wasn't begun where no store was mounted and where no script was read.
+
+pub refused_ends : (why : Why) (U B : Type 0) → MayRefuse why → U → EndsAs why U B
+refused_ends (Damaged second at) U B may u = inl u
+refused_ends NoMemory U B may u = inl u
+refused_ends DiskFault U B may u = inl u
+refused_ends why U B may u = absurd may
+
+pub unread_ends : (left : Option (List ℕ)) (why : Why) (U B : Type 0) → IsScriptWhy left why → U → EndsAs why U B
+unread_ends left (BadScript line) U B is u = u
+unread_ends left NoMemory U B is u = inl u
+unread_ends left ReadFault U B is u = u
+unread_ends left why U B is u = absurd is
+
+pub wanted_ends : (why : Why) (U B : Type 0) → why ≡ NoMemory → U → EndsAs why U B
+wanted_ends why U B is u = subst (λ x. EndsAs x U B) (sym is) (inl u)
+
+pub began_ends : (tells : Bool) (why : Why) (U B : Type 0) → MayEnd tells why → B → EndsAs why U B
+began_ends tells Fine U B may b = b
+began_ends tells NoMemory U B may b = inr b
+began_ends tells WriteFault U B may b = b
+began_ends tells DiskFault U B may b = inr b
+began_ends tells (StoreFull end more) U B may b = b
+began_ends tells (Damaged second at) U B may b = inr b
+began_ends tells why U B may b = absurd may
+
+pub dump_may : (tells : Bool) (why : Why) → MayEndDump tells why → MayEnd tells why
+dump_may tells Fine may = tt
+dump_may tells NoMemory may = tt
+dump_may tells DiskFault may = tt
+dump_may tells (StoreFull end more) may = tt
+dump_may tells (Damaged second at) may = may
+dump_may tells why may = absurd may
+
+-- the last dump of a run doesn't hide that the sink failed
+pub not_write : (tells : Bool) (why : Why) → MayEndDump tells why → why ≡ WriteFault → ⊥
+not_write tells why may e = subst (MayEndDump tells) e may
+
+-- a count that rose after another call did since before it
+pub rose_since : (a b c : ℕ) → a ≤ b → Rose b c → Rose a c
+rose_since a b c le rose = omega (arith, le, rose)
+
+pub either_since : (a b c x y z : ℕ) → a ≤ b → x ≤ y → Rose b c ⊎ Rose y z → Rose a c ⊎ Rose x z
+either_since a b c x y z le ge rose = elim rose [
+  | inl r ↦ inl (rose_since a b c le r)
+  | inr r ↦ inr (rose_since x y z ge r)
+]
+
+-- Two files that nothing was written to hold the same store.
+module _ {D : Type 0} (seen : D → List ℕ) (moment : D → ℕ) (images : D → ℕ → List ℕ → Type 0) (first second first' second' : D) (a : IsUntouched seen moment images first first') (b : IsUntouched seen moment images second second') where
+  pub holds_still : (r : Result Chosen Damage) → stored (seen first') (seen second') ≡ r → stored (seen first) (seen second) ≡ r
+  holds_still r is = ap (λ x. stored x (seen second)) (sym a.gives) ∙ ap (λ y. stored (seen first') y) (sym b.gives) ∙ is
+
+-- memory was wanted before the run began
+module _ {K D : Type 0} (tells : Bool) (seen : D → List ℕ) (moment : D → ℕ) (images : D → ℕ → List ℕ → Type 0) (why : Why) (k l : K) (first second first' second' first'' second'' : D) (tale : List Entry) where
+  pub never_begun : (tells ≡ true → IsUntouched seen moment images first first') → (tells ≡ true → IsUntouched seen moment images second second') → NeverPlayed why k l first' second' first'' second'' tale
+      → IsUnbegun tells seen moment images k l first second first'' second'' tale
+  never_begun a b never = record {
+    empty = never.empty;
+    sink = never.sink;
+    first_file = λ on. untouched_on seen moment images first first' first'' (a on) (untouched_still seen moment images first' first'' never.first_file);
+    second_file = λ on. untouched_on seen moment images second second' second'' (b on) (untouched_still seen moment images second' second'' never.second_file);
+  }
+
+-- A run that was played has begun, on the log that the files held.
+module _ {S K D : Type 0} (left : S → Option (List ℕ)) (faults : S → ℕ) (written : K → Option (List ℕ)) (breaks : K → ℕ) (tells : Bool) (attached : D → Option (List ℕ)) (seen : D → List ℕ) (moment : D → ℕ) (images : D → ℕ → List ℕ → Type 0) (store : List ℕ)
+    (log : LogState) (why : Why) (acts : List Act) (s t : S) (k l : K) (first second first' second' first'' second'' : D) (tale : List Entry) (notes : List Note) where
+  pub has_begun : (tells ≡ true → IsMountedAs seen moment images file_most log first' second') → IsFine log.chosen.held.world
+      → (tells ≡ true → attached first' ≡ Some (store ++ codes ".a")) → (tells ≡ true → attached second' ≡ Some (store ++ codes ".b"))
+      → (tells ≡ true → IsUntouched seen moment images first first') → (tells ≡ true → IsUntouched seen moment images second second') → HasRead left faults s t acts
+      → HasPlayed written breaks tells moment images log why acts k l first' second' first'' second'' tale notes
+      → HasBegun left faults written breaks tells attached seen moment images store why s t k l first second first'' second'' tale notes
+  has_begun mounted fine name_a name_b a b read p = record {
+    start = booted_from log.chosen.held.world;
+    mounted = log.chosen.held.number;
+    begins = record {
+      kept = log.chosen.held.world;
+      fine = fine;
+      boots = refl;
+      holds = λ on. (log.chosen, holds_still seen moment images first second first' second' (a on) (b on) (Ok log.chosen) (mounted on).mounted.load, refl, refl);
+    };
+    happened = record {
+      lawful = p.lawful;
+      licensed = licensed_from 0 log.chosen.held.world tale;
+      passwords = known_from 0 log.chosen.held.world tale p.lawful;
+      acts = acts;
+      read = read;
+      run = p.run;
+    };
+    opened = record {
+      mounted_first = first';
+      mounted_second = second';
+      first_name = name_a;
+      second_name = name_b;
+      first_file = a;
+      second_file = b;
+      note = p.noted.note;
+      others = p.noted.others;
+      noted = p.noted.noted;
+      first_moment = p.noted.first_moment;
+      second_moment = p.noted.second_moment;
+    };
+    safe = p.safe;
+    whole = p.whole;
+    full = p.full;
+  }

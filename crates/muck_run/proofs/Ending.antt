@@ -1,0 +1,62 @@
+-- What a run comes to, from how it was played and how its last dump came out.
+use Rattle.std.proofs.Common.{◌≡◌, ℕ, Bool, List, sym, ap, subst, ◌∙◌, Option}
+use Rattle.muck_model.specs.declared.event.Entry.{Entry}
+use Rattle.muck_model.specs.declared.note.Note.{Note}
+use Rattle.spec_dumps.specs.Survival.{IsSafe, StandsWhole}
+use Rattle.spec_events.specs.World.{World}
+use Rattle.spec_events.specs.Histories.{History, Longer, AllLawful}
+use Rattle.muck_script.specs.declared.act.Act.{Act}
+use Rattle.muck_script.specs.Story.{stored, failed, dump_entries, lines_story}
+use Rattle.muck_run.specs.Outcome.{HasRun, EndsStored, EndsFailed, IsTooLarge}
+use Rattle.muck_run.specs.inner.Plays.{Plays}
+use Rattle.muck_run.specs.inner.Dumps.{IsFull}
+use Rattle.muck_run.specs.inner.Ends.{EndsPlay, ComesOutAs, MayEndDump}
+use Rattle.muck_run.specs.declared.why.Why.{Why}
+use Rattle.muck_run.specs.declared.why.Why.TheVariants.{Fine, Usage, BadScript, NoMemory, ReadFault, WriteFault, DiskFault, Damaged, ListenFault, StoreFull, Spent}
+use Rattle.muck_run.proofs.Whole.{begun, played_whole, died_dumping}
+
+pub ends_stored : (k m : History) (tale : List Entry) → tale ≡ m.entries → ((n : ℕ) × Longer k m (dump_entries (stored n))) → EndsStored tale
+ends_stored k m tale end came = (k.entries, came.0, end ∙ came.1.entries)
+
+pub ends_failed : (k m : History) (tale : List Entry) → tale ≡ m.entries → ((n : ℕ) × Longer k m (dump_entries (failed n))) → EndsFailed tale
+ends_failed k m tale end came = (k.entries, came.0, end ∙ came.1.entries)
+
+-- a run that was played whole, by its last dump
+pub has_run : {K : Type 0} (written : K → Option (List ℕ)) (breaks : K → ℕ) (tells : Bool) (w : World) (note : Note) (why : Why) (acts : List Act) (h k m : History) (before after : K) (tale : List Entry) → h ≡ begun w note → MayEndDump tells why →
+    Plays (lines_story acts) h k (written before) (written after) → ((o : Option (List ℕ)) → EndsPlay k m o why) → ComesOutAs k m why → tale ≡ m.entries → breaks after ≡ breaks before → HasRun written breaks w why acts before after tale
+has_run written breaks tells w note Fine acts h k m before after tale is may p d came end same = (played_whole w note acts h is k m _ _ tale p (d (written after)) end, ends_stored k m tale end came, same)
+has_run written breaks tells w note DiskFault acts h k m before after tale is may p d came end same = (played_whole w note acts h is k m _ _ tale p (d (written after)) end, ends_failed k m tale end came, same)
+has_run written breaks tells w note (Damaged second at) acts h k m before after tale is may p d came end same = (played_whole w note acts h is k m _ _ tale p (d (written after)) end, ends_failed k m tale end came, same)
+has_run written breaks tells w note (StoreFull size more) acts h k m before after tale is may p d came end same = (played_whole w note acts h is k m _ _ tale p (d (written after)) end, ends_failed k m tale end came, same)
+has_run written breaks tells w note NoMemory acts h k m before after tale is may p d came end same = (died_dumping w note acts h is k m _ _ tale p (d (written after)) end, same)
+has_run written breaks tells w note Usage acts h k m before after tale is may p d came end same = absurd may
+has_run written breaks tells w note (BadScript line) acts h k m before after tale is may p d came end same = absurd may
+has_run written breaks tells w note ReadFault acts h k m before after tale is may p d came end same = absurd may
+has_run written breaks tells w note ListenFault acts h k m before after tale is may p d came end same = absurd may
+has_run written breaks tells w note (Spent turns) acts h k m before after tale is may p d came end same = absurd may
+has_run written breaks tells w note WriteFault acts h k m before after tale is may p d came end same = absurd may
+
+-- a run began in w, and its tale is the entries of the history m
+pub start_is : (w : World) (note : Note) (h : History) → h ≡ begun w note → h.start ≡ w
+start_is w note h e = ap (λ (x : History). x.start) e
+
+pub lawful_from : (w v : World) (tale : List Entry) → v ≡ w → AllLawful v tale → AllLawful w tale
+lawful_from w v tale e l = subst (λ (x : World). AllLawful x tale) e l
+
+module _ {D : Type 0} (moment : D → ℕ) (images : D → ℕ → List ℕ → Type 0) (f s : D) (mounted : ℕ) (w : World) (m : History) (tale : List Entry) (notes : List Note) (starts : m.start ≡ w) (ends : tale ≡ m.entries) (noted : notes ≡ m.notes) where
+  pub safe_from : IsSafe moment images f s m.start mounted m.entries m.notes → IsSafe moment images f s w mounted tale notes
+  safe_from v =
+      subst (λ (x : World). IsSafe moment images f s x mounted tale notes) starts
+      (subst (λ (es : List Entry). IsSafe moment images f s m.start mounted es notes) (sym ends)
+      (subst (λ (ns : List Note). IsSafe moment images f s m.start mounted m.entries ns) (sym noted) v))
+
+  pub whole_from : StandsWhole moment images f s m.start m.entries → StandsWhole moment images f s w tale
+  whole_from v =
+      subst (λ (x : World). StandsWhole moment images f s x tale) starts
+      (subst (λ (es : List Entry). StandsWhole moment images f s m.start es) (sym ends) v)
+
+  pub full_from : (end more : ℕ) → IsFull mounted m end more → IsTooLarge w mounted tale notes end more
+  full_from end more v =
+      subst (λ (x : World). IsTooLarge x mounted tale notes end more) starts
+      (subst (λ (es : List Entry). IsTooLarge m.start mounted es notes end more) (sym ends)
+      (subst (λ (ns : List Note). IsTooLarge m.start mounted m.entries ns end more) (sym noted) v))

@@ -1,0 +1,17 @@
+pub mod Parts
+pub mod Exits
+pub mod Turns
+pub mod Acts
+pub mod Towards
+pub mod Whole
+pub mod Answered
+pub mod Dumped
+pub mod Ending
+pub mod Lining
+pub mod Started
+pub mod Closing
+pub mod Played
+pub mod Noted
+pub mod Untouched
+pub mod Called
+pub mod Drilled

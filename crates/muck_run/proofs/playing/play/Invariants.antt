@@ -1,0 +1,19 @@
+use Rattle.std.proofs.Common.{◌≡◌, ℕ, ◌≤◌, true, None, drop}
+use Rattle.spec_dumps.specs.Holding.{Rests}
+use Rattle.spec_events.specs.Histories.{now}
+use Rattle.muck_script.specs.Story.{lines_story}
+use Rattle.muck_run.specs.inner.Dumps.{IsNotedOn}
+use Rattle.muck_run.proofs.Towards.{Towards}
+use Rattle.muck_run.proofs.playing.play.Given as goal
+
+abbrev pub invariant-loop-act : goal.invariant-loop-act
+invariant-loop-act g l = record {
+  playing : Towards (lines_story l.acts) (lines_story (drop l.act-index l.acts)) l.fn.world l.world (g.K.Sink.written l.fn.out) (g.K.Sink.written l.out);
+  notes : IsNotedOn l.fn.world l.world;
+  fine : g.K.Sink.faults l.out ≡ g.K.Sink.faults l.fn.out;
+  idle : (now l.world).dumps.running ≡ None;
+  rests : (mounted : ℕ) → g.D.Disk.tells ≡ true → Rests g.D.Disk.seen g.D.Disk.moment g.D.Disk.images g.D.Disk.faults l.fn.store.log l.fn.first l.fn.second mounted l.fn.world
+      → Rests g.D.Disk.seen g.D.Disk.moment g.D.Disk.images g.D.Disk.faults l.store.log l.first l.second mounted l.world;
+  first_later : g.D.Disk.faults l.fn.first ≤ g.D.Disk.faults l.first;
+  second_later : g.D.Disk.faults l.fn.second ≤ g.D.Disk.faults l.second;
+}

@@ -1,6 +1,0 @@
-use Rattle.std.proofs.Common.{refl}
-use Rattle.muckd.proofs.Drilled.{described}
-use Rattle.muckd.proofs.drilling.describing.Goals as goal
-
-pub returns : goal.returns
-returns c = described _ _ _ _ _ c.args.n c.new-text.ensures.items c.in_ok-push_number.ensures c.in_ok-push_number-2.ensures c.in_ok-push_number-3.ensures c.in_ok-extend_from_slice.ensures.items
