@@ -1,16 +1,24 @@
 //! A text-world server: `muckd run STORE` reads a script, runs it on the world of the store, and writes its transcript.
+//! `muckd serve STORE PORT WORKERS` serves that world to all who come, until it is stopped.
 //! `muckd drill N` runs a fixed script on the starting world, and writes how many objects, lines and bytes came of it.
 #![tactic(auto)]
 
 mod command;
+mod napping;
+mod serving;
 mod top;
 
 use muck_disk::FileDisk;
-use muck_io::{ReaderSource, WriterSink};
+use muck_io::{OpenGate, ReaderSource, SystemClock, WriterSink};
+use muck_links::{Links, MioLinks};
 use muck_run::Why;
+use napping::NapRest;
 use std::process::ExitCode;
 use std::{env, io};
-use top::by_script;
+use top::muckd;
+
+// Links have lower numbers than this.
+const LINKS_MOST: u32 = 256;
 
 // The words behind the program's name.
 fn words(rt: HostRuntime) -> io::Result<Vec<String>> {
@@ -38,13 +46,24 @@ fn main(rt: HostRuntime) -> io::Result<ExitCode> {
     let mut out = WriterSink::new(io::writer(&rt));
     let mut first = FileDisk::new(rt);
     let mut second = FileDisk::new(rt);
-    let done = by_script(
+    let mut links = MioLinks::new(rt.alloc(), rt);
+    let mut clock = SystemClock::new(rt);
+    let done = muckd(
+        &rt,
         rt.alloc(),
         &words,
         &mut script,
         &mut out,
+        &mut links,
+        &mut clock,
         &mut first,
         &mut second,
+        &OpenGate,
+        &NapRest::new(rt),
     );
+    // So that nothing that was written is lost.
+    for d in 0..LINKS_MOST {
+        links.close(d);
+    }
     tell(rt, done.why)
 }

@@ -4,11 +4,11 @@ use Rattle.muckd.proofs.Called.{completes}
 use Rattle.muckd.proofs.top.by_script.Goals as goal
 
 pub returns-clause-drill : goal.returns-clause-drill
-returns-clause-drill g c = λ n is. c.obey-why.ensures.drill n (c.command_of.ensures ∙ is)
+returns-clause-drill g c = λ n is. c.obey-why.ensures.drill n (c.command_of.ensures.command ∙ is)
 
 pub returns-clause-complete : goal.returns-clause-complete
 returns-clause-complete g c = λ store s is tells ok grammar source sink first second.
-    let runs = c.command_of.ensures ∙ is in
+    let runs = c.command_of.ensures.command ∙ is in
     completes (g.S.Source.left c.args.script.now) _ s _ _ c.obey-why.result.0 (c.obey-why.ensures.run store runs) (λ e. let both = sym (ap is_scripted runs) ∙ c.obey-why.ensures.usage.0 e in cc)
     c.obey-why.ensures.bad_script (λ e. source (c.obey-why.ensures.read_fault e)) (λ e. sink (c.obey-why.ensures.write_fault e))
     (λ e. elim (c.obey-why.ensures.disk_fault e) [

@@ -1,0 +1,290 @@
+-- What a call for `serve` comes to, from what the server says.
+use Rattle.std.proofs.Common.{◌≡◌, ◌⊎◌, inl, inr, ℕ, ◌≤◌, ◌^◌, Bool, true, false, List, length, refl, sym, ap, subst, ◌∙◌, Option, Some, None, Ok}
+use Rattle.std.specs.Prelude.{codes, All, ◌++◌, [], ◌∷◌}
+use Rattle.muck_codec.specs.Stored.{AreProperties}
+use Rattle.muck_io.specs.Faults.{Rose}
+use Rattle.muck_io.specs.inner.Clock.{Answers}
+use Rattle.muck_links.specs.Sessions.{Told}
+use Rattle.muck_model.specs.declared.event.Entry.{Entry}
+use Rattle.muck_model.specs.declared.note.Note.{Note}
+use Rattle.muck_log.specs.Store.{LogState}
+use Rattle.muck_log.specs.World.{IsFine}
+use Rattle.muck_log.specs.Mount.{IsMountedAs}
+use Rattle.spec_dumps.specs.Fronts.{file_most}
+use Rattle.spec_events.specs.World.{World, booted}
+use Rattle.spec_events.specs.Histories.{History}
+use Rattle.spec_live.specs.Boards.{early_board}
+use Rattle.muck_dumping.specs.inner.Between.{IsReady as HasLog}
+use Rattle.muck_porter.specs.Kept.{Account, account}
+use Rattle.muck_crew.specs.inner.Runs.{IsFresh}
+use Rattle.muck_server.specs.Served.{IsServed, IsUnserved as Never, HasEnded}
+use Rattle.muck_crew.specs.declared.why.Why.{Why as Ended}
+use Rattle.muck_crew.specs.declared.why.Why.TheVariants as ended
+use Rattle.muckd.specs.Words.{Command, run, drill, serve, is_scripted}
+use Rattle.muck_run.specs.Drill.{HasDrilled}
+use Rattle.muck_run.specs.Outcome.{IsUntouched, EndsAs}
+use Rattle.muck_run.specs.inner.Dumps.{note_of}
+use Rattle.muckd.specs.Serving.{is_served, why_served, tally_of, IsUnserved, HasServed, ServesAs}
+use Rattle.muck_run.specs.inner.Ends.{MayRefuse, IsBootable, booted_at, unbegun_at, begun_at}
+use Rattle.muck_run.specs.declared.why.Why.{Why}
+use Rattle.muck_run.specs.declared.why.Why.TheVariants.{Fine, Usage, BadScript, NoMemory, ReadFault, WriteFault, DiskFault, Damaged, ListenFault, StoreFull, Spent}
+use Rattle.muck_run.proofs.Called.{holds_still, either_since}
+use Rattle.muck_run.proofs.Started.{rests_started, licensed_from, known_from}
+use Rattle.muck_run.proofs.Untouched.{untouched_still, untouched_on}
+
+-- The answers of the server, as the call gives them.
+
+server_why : Why → Option Ended
+server_why Fine = Some ended.Fine
+server_why NoMemory = Some ended.NoMemory
+server_why DiskFault = Some ended.DiskFault
+server_why (Damaged second at) = Some (ended.Damaged second at)
+server_why ListenFault = Some ended.ListenFault
+server_why (StoreFull end more) = Some (ended.StoreFull end more)
+server_why (Spent turns) = Some (ended.Spent turns)
+server_why why = None
+
+why_again : (cause : Ended) → server_why (why_served cause) ≡ Some cause
+why_again ended.Fine = refl
+why_again ended.NoMemory = refl
+why_again ended.DiskFault = refl
+why_again (ended.Damaged second at) = refl
+why_again ended.ListenFault = refl
+why_again (ended.StoreFull end more) = refl
+why_again (ended.Spent turns) = refl
+
+-- the server's own answer, by that of the call
+pub cause_is : (cause is : Ended) (why : Why) → why_served cause ≡ why → server_why why ≡ Some is → cause ≡ is
+cause_is cause is why e back = let both = sym (why_again cause) ∙ ap server_why e ∙ back in cc
+
+pub served_ends : (cause : Ended) (U S : Type 0) → S → ServesAs (why_served cause) U S
+served_ends ended.Fine U S s = s
+served_ends ended.NoMemory U S s = inr s
+served_ends ended.DiskFault U S s = inr s
+served_ends (ended.Damaged second at) U S s = inr s
+served_ends ended.ListenFault U S s = s
+served_ends (ended.StoreFull end more) U S s = s
+served_ends (ended.Spent turns) U S s = s
+
+pub refused_serving : (why : Why) (U S : Type 0) → MayRefuse why → U → ServesAs why U S
+refused_serving (Damaged second at) U S may u = inl u
+refused_serving NoMemory U S may u = inl u
+refused_serving DiskFault U S may u = inl u
+refused_serving why U S may u = absurd may
+
+-- The world of a server that begins.
+
+module _ (began : ℕ) (log : LogState) (note : Note) (h : History) (is : h ≡ begun_at began log note) where
+  pub fresh_begun : IsFresh note h
+  unfolding booted early_board
+  fresh_begun = record {
+    entries = ap (λ (x : History). x.entries) is;
+    notes = ap (λ (x : History). x.notes) is;
+    counted = ap (λ (x : History). x.counted) is;
+    nobody = ap (λ (x : History). x.start.live.board.connections) is;
+    idle = ap (λ (x : History). x.start.dumps.running) is;
+  }
+
+  pub start_begun : h.start ≡ booted_at began log.chosen.held.world
+  start_begun = ap (λ (x : History). x.start) is
+
+-- the log stands on the disks from which it was mounted
+pub ready_begun : {D : Type 0} (began : ℕ) (seen : D → List ℕ) (moment : D → ℕ) (images : D → ℕ → List ℕ → Type 0) (faults : D → ℕ) (log : LogState) (f s : D) → IsBootable log.chosen.held.world
+    → All (λ x. AreProperties x.props) log.chosen.held.world.objects → IsMountedAs seen moment images file_most log f s → (h : History) → h ≡ begun_at began log (note_of moment faults f s (unbegun_at began log))
+    → HasLog seen moment images faults (Some log) f s log.chosen.held.number h
+ready_begun began seen moment images faults log f s boots props mounted h is = record {
+    keeps = (rests_started began seen moment images faults log f s boots props mounted (Some log) h refl is).keeps;
+    risen = λ none. let none' = none in cc;
+  }
+
+module _ {L C D : Type 0} (shows : Bool) (told : L → Told) (listening : L → ℕ) (answers : C → Option (List ℕ))
+    (tells : Bool) (attached : D → Option (List ℕ)) (seen : D → List ℕ) (moment : D → ℕ) (images : D → ℕ → List ℕ → Type 0) (faults : D → ℕ) (store : List ℕ) (workers : ℕ)
+    (log : LogState) (began : ℕ) (mounting : Note) (cause : Ended) (l l' : L) (c c' c'' : C) (first second first' second' first'' second'' : D) (tale : List Entry) (notes : List Note) where
+  -- what links and clock tell
+  account_of : L → C → Account
+  account_of links clock = account (told links) (listening links) (answers clock)
+
+  Began : Type 0
+  Began = IsUnserved shows told tells seen moment images l l' first second first'' second'' tale
+
+  Served : Why → Type 0
+  Served why = HasServed shows told listening answers tells attached seen moment images store workers why l l' c c'' first second first'' second'' tale notes
+
+  has_served : (tells ≡ true → IsMountedAs seen moment images file_most log first' second') → IsFine log.chosen.held.world
+      → (tells ≡ true → attached first' ≡ Some (store ++ codes ".a")) → (tells ≡ true → attached second' ≡ Some (store ++ codes ".b"))
+      → (tells ≡ true → IsUntouched seen moment images first first') → (tells ≡ true → IsUntouched seen moment images second second')
+      → Answers (answers c) (answers c') began → (mounting.first_moment ≡ moment first') × (mounting.second_moment ≡ moment second')
+      → IsServed shows tells (account_of l c') (account_of l' c'') moment images faults workers cause (booted_at began log.chosen.held.world) log.chosen.held.number mounting first' second' first'' second'' tale notes
+      → Served (why_served cause)
+  has_served mounted fine name_a name_b a b clock at s = record {
+    start = booted_at began log.chosen.held.world;
+    began = began;
+    mounted = log.chosen.held.number;
+    begins = record {
+      kept = log.chosen.held.world;
+      fine = fine;
+      boots = refl;
+      holds = λ on. (log.chosen, holds_still seen moment images first second first' second' (a on) (b on) (Ok log.chosen) (mounted on).mounted.load, refl, refl);
+    };
+    coming = answers c';
+    clock = clock;
+    opened = record {
+      mounted_first = first';
+      mounted_second = second';
+      first_name = name_a;
+      second_name = name_b;
+      first_file = a;
+      second_file = b;
+      note = mounting;
+      others = s.since;
+      noted = s.noted;
+      first_moment = at.0;
+      second_moment = at.1;
+    };
+    lawful = s.lawful;
+    licensed = licensed_from began log.chosen.held.world tale;
+    passwords = known_from began log.chosen.held.world tale s.lawful;
+    shared = s.shared;
+    counted = s.counted;
+    carried = s.carried;
+    timely = s.timely;
+    cause = cause;
+    answered = refl;
+    ended = s.ended;
+    worked_off = s.worked_off;
+    safe = s.safe;
+    whole = λ on e. s.whole on (cause_is cause ended.Fine Fine e refl);
+    full = λ end more on e. s.full end more on (cause_is cause (ended.StoreFull end more) (StoreFull end more) e refl);
+  }
+
+  never_served : (tells ≡ true → IsUntouched seen moment images first first') → (tells ≡ true → IsUntouched seen moment images second second')
+      → Never shows (account_of l c') (account_of l' c'') cause first' second' first'' second'' tale → Began
+  never_served a b n = record {
+    empty = n.empty;
+    nobody = n.nobody;
+    first_file = λ on. untouched_on seen moment images first first' first'' (a on) (untouched_still seen moment images first' first'' n.first_file);
+    second_file = λ on. untouched_on seen moment images second second' second'' (b on) (untouched_still seen moment images second' second'' n.second_file);
+  }
+
+  -- which of the two, by the answer
+  pub server_ends : (tells ≡ true → IsMountedAs seen moment images file_most log first' second') → IsFine log.chosen.held.world
+      → (tells ≡ true → attached first' ≡ Some (store ++ codes ".a")) → (tells ≡ true → attached second' ≡ Some (store ++ codes ".b"))
+      → (tells ≡ true → IsUntouched seen moment images first first') → (tells ≡ true → IsUntouched seen moment images second second')
+      → Answers (answers c) (answers c') began → (mounting.first_moment ≡ moment first') × (mounting.second_moment ≡ moment second') → (w : World) → w ≡ booted_at began log.chosen.held.world
+      → Never shows (account_of l c') (account_of l' c'') cause first' second' first'' second'' tale
+          ⊎ IsServed shows tells (account_of l c') (account_of l' c'') moment images faults workers cause w log.chosen.held.number mounting first' second' first'' second'' tale notes
+      → (why : Why) → why ≡ why_served cause → ServesAs why Began (Served why)
+  server_ends mounted fine name_a name_b a b clock at w is r why answered =
+      subst (λ (x : Why). ServesAs x Began (Served x)) (sym answered)
+      (elim r [
+        | inl n ↦ subst (λ (x : Ended). ServesAs (why_served x) Began (Served (why_served cause))) (sym n.wanted) (inl (never_served a b n))
+        | inr s ↦ served_ends cause Began (Served (why_served cause))
+            (has_served mounted fine name_a name_b a b clock at
+            (subst (λ (x : World). IsServed shows tells (account_of l c') (account_of l' c'') moment images faults workers cause x log.chosen.held.number mounting first' second' first'' second'' tale notes) is s))
+      ])
+
+-- What the server itself says of the disks, by its answer.
+
+module _ {D : Type 0} (shows tells : Bool) (before now : Account) (moment : D → ℕ) (images : D → ℕ → List ℕ → Type 0) (faults : D → ℕ) (first first' : D) (second second' : D) (workers : ℕ) (cause : Ended)
+    (w : World) (mounted : ℕ) (mounting : Note) (tale : List Entry) (notes : List Note)
+    (r : Never shows before now cause first second first' second' tale ⊎ IsServed shows tells before now moment images faults workers cause w mounted mounting first second first' second' tale notes) where
+  -- a disk failed since the store was mounted
+  pub disk_failed : (a b : ℕ) → a ≤ faults first → b ≤ faults second → why_served cause ≡ DiskFault → Rose a (faults first') ⊎ Rose b (faults second')
+  disk_failed a b le ge e =
+      let is = cause_is cause ended.DiskFault DiskFault e refl in
+      elim r [
+        | inl n ↦ let both = sym n.wanted ∙ is in cc
+        | inr s ↦ either_since a (faults first) (faults first') b (faults second) (faults second') le ge (s.failed is)
+      ]
+
+  -- a store that was mounted isn't damaged
+  pub not_damaged : (file : Bool) (at : ℕ) → tells ≡ true → why_served cause ≡ Damaged file at → ⊥
+  not_damaged file at on e =
+      let is = cause_is cause (ended.Damaged file at) (Damaged file at) e refl in
+      elim r [
+        | inl n ↦ let both = sym n.wanted ∙ is in cc
+        | inr s ↦ s.undamaged file at on is
+      ]
+
+-- What the answer of a server tells.
+
+module _ {L C D : Type 0} (shows : Bool) (told : L → Told) (listening : L → ℕ) (answers : C → Option (List ℕ))
+    (tells : Bool) (attached : D → Option (List ℕ)) (seen : D → List ℕ) (moment : D → ℕ) (images : D → ℕ → List ℕ → Type 0) (store : List ℕ) (workers : ℕ)
+    (why : Why) (l l' : L) (c c' : C) (first second first' second' : D) (tale : List Entry) (notes : List Note) (U : Type 0)
+    (ends : ServesAs why U (HasServed shows told listening answers tells attached seen moment images store workers why l l' c c' first second first' second' tale notes)) where
+  ended_so : (cause is : Ended) (w : World) → HasEnded workers (listening l) (listening l') w cause tale → cause ≡ is → HasEnded workers (listening l) (listening l') w is tale
+  ended_so cause is w h e = subst (λ (x : Ended). HasEnded workers (listening l) (listening l') w x tale) e h
+
+  S : Type 0
+  S = HasServed shows told listening answers tells attached seen moment images store workers why l l' c c' first second first' second' tale notes
+
+  pub listening_failed : why ≡ ListenFault → Rose (listening l) (listening l')
+  listening_failed e =
+      let s : S = subst (λ (x : Why). ServesAs x U S) e ends in
+      (ended_so s.cause ended.ListenFault s.start s.ended (cause_is s.cause ended.ListenFault ListenFault (sym s.answered ∙ e) refl)).0
+
+  pub all_spent : (turns : ℕ) → why ≡ Spent turns → (turns ≡ 2 ^ 62) × (2 ^ 62 ≤ length tale)
+  all_spent turns e =
+      let s : S = subst (λ (x : Why). ServesAs x U S) e ends in
+      ended_so s.cause (ended.Spent turns) s.start s.ended (cause_is s.cause (ended.Spent turns) (Spent turns) (sym s.answered ∙ e) refl)
+
+-- where nothing stood in its way
+pub serves_all : (why : Why) (U S : Type 0) → ServesAs why U S → (why ≡ DiskFault → ⊥) → (why ≡ ListenFault → ⊥) → ((file : Bool) (at : ℕ) → why ≡ Damaged file at → ⊥)
+    → (why ≡ Fine) ⊎ ((why ≡ NoMemory) ⊎ (((end more : ℕ) × (why ≡ StoreFull end more)) ⊎ ((turns : ℕ) × (why ≡ Spent turns))))
+serves_all Fine U S ends disk listen damaged = inl refl
+serves_all NoMemory U S ends disk listen damaged = inr (inl refl)
+serves_all (StoreFull end more) U S ends disk listen damaged = inr (inr (inl (end, more, refl)))
+serves_all (Spent turns) U S ends disk listen damaged = inr (inr (inr (turns, refl)))
+serves_all DiskFault U S ends disk listen damaged = absurd (disk refl)
+serves_all ListenFault U S ends disk listen damaged = absurd (listen refl)
+serves_all (Damaged file at) U S ends disk listen damaged = absurd (damaged file at refl)
+serves_all why U S ends disk listen damaged = absurd ends
+
+-- A script and a drill end otherwise than by the answers of a server alone.
+
+abbrev pub MayScript : Why → Type 0
+MayScript ListenFault = ⊥
+MayScript (Spent turns) = ⊥
+MayScript why = Unit {0}
+
+pub ends_scripted : (why : Why) (U B : Type 0) → EndsAs why U B → MayScript why
+ends_scripted ListenFault U B ends = ends
+ends_scripted (Spent turns) U B ends = ends
+ends_scripted why U B ends = tt
+
+pub drilled_scripted : {K : Type 0} (written : K → Option (List ℕ)) (faults : K → ℕ) (n : ℕ) (why : Why) (before now : K) (tale : List Entry) → HasDrilled written faults n why before now tale → MayScript why
+drilled_scripted written faults n ListenFault before now tale ends = ends
+drilled_scripted written faults n (Spent turns) before now tale ends = ends
+drilled_scripted written faults n why before now tale ends = tt
+
+-- whatever the command is that isn't a server's
+pub scripted_may : (command : Option Command) (why : Why) → is_served command ≡ false → (command ≡ None → why ≡ Usage) → ((store : List ℕ) → command ≡ Some (run store) → MayScript why) → ((n : ℕ) → command ≡ Some (drill n) → MayScript why) → MayScript why
+scripted_may None why is usage runs drills = subst MayScript (sym (usage refl)) tt
+scripted_may (Some (run store)) why is usage runs drills = runs store refl
+scripted_may (Some (drill n)) why is usage runs drills = drills n refl
+scripted_may (Some (serve store port workers)) why is usage runs drills = cc
+
+pub unscripted : (command : Option Command) → is_served command ≡ false → is_scripted command ≡ false → command ≡ None
+unscripted None is no = refl
+unscripted (Some (run store)) is no = cc
+unscripted (Some (drill n)) is no = cc
+unscripted (Some (serve store port workers)) is no = cc
+
+-- And a server ends otherwise than by those of a script alone.
+
+abbrev pub MayServe : Why → Type 0
+MayServe Usage = ⊥
+MayServe (BadScript line) = ⊥
+MayServe ReadFault = ⊥
+MayServe WriteFault = ⊥
+MayServe why = Unit {0}
+
+pub serves_may : (why : Why) (U S : Type 0) → ServesAs why U S → MayServe why
+serves_may Usage U S ends = ends
+serves_may (BadScript line) U S ends = ends
+serves_may ReadFault U S ends = ends
+serves_may WriteFault U S ends = ends
+serves_may why U S ends = tt
+
+pub other_port : (a b : List ℕ) (p q m n : ℕ) → Some (serve a p m) ≡ Some (serve b q n) → (a ≡ b) × (m ≡ n)
+other_port a b p q m n e = (cc, cc)

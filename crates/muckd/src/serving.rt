@@ -1,0 +1,70 @@
+// A world is served.
+ghost use Rattle.std.specs.Prelude.{◌≡◌, ◌⊎◌, ◌≤◌, ℕ, Bool, true, List, Ok, Err};
+ghost use Rattle.muck_io.specs.Faults.{Rose};
+ghost use Rattle.muck_log.specs.Store.{stored};
+ghost use Rattle.muckd.specs.Serving.{why_served, IsUnserved, HasServed, ServesAs};
+
+use muck_disk::Disk;
+use muck_io::{Clock, Gate, Rest};
+use muck_links::Links;
+use muck_model::Tale;
+use muck_run::{Why, awake, mount};
+use muck_server::{Why as Ended, serve};
+use std::alloc::Global;
+use std::sync::Wait;
+use std::thread::Threads;
+
+// Why a server ended, as the call answers it.
+fn why_served(why: Ended) -> Why
+    ensures { result ≡ why_served why }
+{
+    match why {
+        Ended::Fine => Why::Fine,
+        Ended::NoMemory => Why::NoMemory,
+        Ended::DiskFault => Why::DiskFault,
+        Ended::Damaged { second, at } => Why::Damaged { second, at },
+        Ended::ListenFault => Why::ListenFault,
+        Ended::StoreFull { end, more } => Why::StoreFull { end, more },
+        Ended::Spent { turns } => Why::Spent { turns },
+    }
+}
+
+/// Mounts the store, and serves its world from the clock's second on, until it is stopped.
+pub fn serve_store<
+    T: Threads + Wait + Sync,
+    L: Links + Send,
+    C: Clock + Send,
+    D: Disk + Send,
+    G: Gate + Sync,
+    R: Rest + Sync,
+>(
+    rt: &T,
+    alloc: Global,
+    store: &str,
+    port: u16,
+    workers: u8,
+    links: &mut L,
+    clock: &mut C,
+    first: &mut D,
+    second: &mut D,
+    gate: &G,
+    rest: &R,
+) -> (Why, Tale)
+    requires few { workers ≤ 8 }
+    ensures served { ServesAs result.0 (IsUnserved (L.tells links.old) L.told D.tells D.seen D.moment D.images links.old links.new first.old second.old first.new second.new result.1.entries) (HasServed (L.tells links.old) L.told L.listening C.answers D.tells D.attached D.seen D.moment D.images store.now workers result.0 links.old links.new clock.old clock.new first.old second.old first.new second.new result.1.entries result.1.notes) }
+    ensures disk_fault { result.0 ≡ Why.DiskFault → Rose (D.faults first.old) (D.faults first.new) ⊎ Rose (D.faults second.old) (D.faults second.new) }
+    ensures damaged { (file : Bool) (at : ℕ) → D.tells ≡ true → result.0 ≡ Why.Damaged file at → stored (D.seen first.old) (D.seen second.old) ≡ Err (record { second = file; at = at }) }
+{
+    let log = match mount(alloc, store, first, second) {
+        Ok(log) => log,
+        Err(why) => return (why, Tale::none()),
+    };
+    let began = clock.now();
+    let Ok(world) = awake(alloc, &log, first, second, began) else {
+        return (Why::NoMemory, Tale::none());
+    };
+    let (why, tale) = serve(
+        rt, alloc, world, log, links, clock, first, second, gate, rest, workers, port,
+    );
+    (why_served(why), tale)
+}
