@@ -1,5 +1,5 @@
 // The top call.
-ghost use Rattle.std.specs.Prelude.{◌≡◌, ◌↔◌, ◌⊎◌, ℕ, Bool, true, false, map, string_bytes, [], Option, Some, Ok, Err};
+ghost use Rattle.std.specs.Prelude.{◌≡◌, ◌↔◌, ◌⊎◌, ℕ, Bool, true, false, map, string_bytes, [], List, Option, Some, Ok, Err};
 ghost use Rattle.muck_io.specs.Faults.{Rose};
 ghost use Rattle.muck_log.specs.Store.{Chosen, stored};
 ghost use Rattle.muckd.specs.Words.{run, drill, command_of, seen_command, is_scripted};
