@@ -1,0 +1,4 @@
+pub mod Seating
+pub mod Closing
+pub mod Ending
+pub mod Lasting

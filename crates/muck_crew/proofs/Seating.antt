@@ -1,0 +1,103 @@
+-- Seats as they are given out and taken in.
+use Rattle.std.proofs.Common.{◌≡◌, ◌⊎◌, Bool, true, false, inl, inr, ℕ, zero, suc, ◌+◌, ◌<◌, ◌≤◌, List, [], ◌∷◌, ◌++◌, length, refl, sym, ap, ◌∙◌, subst, arith, append_assoc, length-append, Some, None}
+use Rattle.std.specs.Prelude.{slice_get}
+use Rattle.std.proofs.lemmas.Option.{same_Some}
+use mathlib.Core.Option.{some, some-ne-none, some-injective}
+use lib.ListN.{get_elem?}
+use Rattle.atomic_table.specs.Seated.{TableId}
+use Rattle.turn_lock.specs.Histories.{Has}
+use Rattle.turn_lock.specs.declared.view.Taken.{Taken}
+use Rattle.turn_lock.specs.declared.view.Place.TheVariants.{Idle, Told}
+use Rattle.turn_lock.specs.inner.Turns.{kept_of, left_after, newcomer, taken_in}
+use Rattle.spec_events.specs.declared.logged.Logged.{Logged}
+use Rattle.muck_machine.specs.Seats.{Sight, Chair}
+use Rattle.muck_crew.specs.declared.seats.Part.{Part}
+use Rattle.muck_crew.specs.inner.Parts.{given_to, IsDealt, AreDealt, IsOver, AreOver, all_in}
+
+-- Lists by place.
+
+pub false_true : ◌≡◌ {A = Bool} false true → ⊥
+false_true e = cc
+
+none_some : {X : Type 0} (x : X) → None ≡ Some x → ⊥
+none_some x e = cc
+
+-- of a list with one more, an item is the last one, or stands before it
+pub place_snoc : {X : Type 0} (xs : List X) (x y : X) (i : ℕ) → slice_get (xs ++ x ∷ []) i ≡ Some y → ((i ≡ length xs) × (x ≡ y)) ⊎ (slice_get xs i ≡ Some y)
+place_snoc [] x y zero at = inl (refl, same_Some x y at)
+place_snoc [] x y (suc i) at = absurd (none_some y at)
+place_snoc (z ∷ zs) x y zero at = inr at
+place_snoc (z ∷ zs) x y (suc i) at = elim (place_snoc zs x y i at) [ inl e ↦ inl (ap suc e.0, e.1) | inr e ↦ inr e ]
+
+pub got_before : {X : Type 0} (xs : List X) (x y : X) (i : ℕ) → slice_get xs i ≡ Some y → slice_get (xs ++ x ∷ []) i ≡ Some y
+got_before [] x y i at = absurd (none_some y at)
+got_before (z ∷ zs) x y zero at = at
+got_before (z ∷ zs) x y (suc i) at = got_before zs x y i at
+
+pub got_last : {X : Type 0} (xs : List X) (x : X) → slice_get (xs ++ x ∷ []) (length xs) ≡ Some x
+got_last [] x = refl
+got_last (z ∷ zs) x = got_last zs x
+
+-- Given out.
+
+-- no party up to this one has a seat yet but those that were given one
+pub given_low : (n : ℕ) (v : Sight) (p : ℕ) → v.given ≡ [] → Has (given_to n v).given p → (0 < p) × (p ≤ n)
+given_low zero v p none (i, at) = absurd (some-ne-none p (sym (sym (ap (λ (ps : List ℕ). get_elem? ps i) none) ∙ at)))
+given_low (suc n) v p none (i, at) = elim (last_or (given_to n v).given (suc n) p i at) [ inl e ↦ (omega (arith, e), omega (arith, e)) | inr h ↦ (let low = given_low n v p none h in (low.0, omega (arith, low.1))) ]
+  where
+    last_or : (ps : List ℕ) (q r : ℕ) (j : ℕ) → get_elem? (ps ++ q ∷ []) j ≡ some r → (q ≡ r) ⊎ Has ps r
+    last_or [] q r zero e = inl (some-injective q r e)
+    last_or [] q r (suc j) e = absurd (some-ne-none r (sym e))
+    last_or (x ∷ xs) q r zero e = inr (0, e)
+    last_or (x ∷ xs) q r (suc j) e = elim (last_or xs q r j e) [ inl s ↦ inl s | inr h ↦ inr (suc h.0, h.1) ]
+
+pub given_count : (n : ℕ) (v : Sight) → v.given ≡ [] → length (given_to n v).given ≡ n
+given_count zero v none = ap length none
+given_count (suc n) v none = let ih = given_count n v none in let l = length-append (given_to n v).given (suc n ∷ []) in omega (arith, ih, l)
+
+-- one part more
+pub dealt_one : (table : TableId) (n : ℕ) (v : Sight) (parts : List Part) (p : Part) → AreDealt table n v parts → IsDealt table (suc n) v p → AreDealt table (suc n) v (parts ++ p ∷ [])
+dealt_one table n v parts p dealt one = record {
+  count = (let l = length-append parts (p ∷ []) in let c = dealt.count in omega (arith, l, c));
+  each = λ i q at. elim (place_snoc parts p q i at) [
+    | inl e ↦ subst (λ (m : ℕ). IsDealt table (suc m) v q) (sym (e.0 ∙ dealt.count)) (subst (IsDealt table (suc n) v) e.1 one)
+    | inr there ↦ dealt.each i q there
+  ];
+}
+
+pub dealt_none : (table : TableId) (v : Sight) (parts : List Part) → parts ≡ [] → AreDealt table 0 v parts
+dealt_none table v parts none = record {
+  count = ap length none;
+  each = λ i q at. absurd (none_some q (sym (ap (λ (ps : List Part). slice_get ps i) none) ∙ at));
+}
+
+-- Taken in.
+
+pub in_last : (ps : List Part) (p : Part) (v : Sight) → all_in (ps ++ p ∷ []) v ≡ all_in ps (taken_in v p.seat.me.0)
+in_last [] p v = refl
+in_last (q ∷ qs) p v = ap (λ (u : Sight). taken_in u q.seat.me.0) (in_last qs p v)
+
+pub over_front : (table : TableId) (ps : List Part) (p : Part) → AreOver table (ps ++ p ∷ []) → AreOver table ps × IsOver table p
+over_front table ps p over = ((λ i q at. over i q (got_before ps p q i at)), over (length ps) p (got_last ps p))
+
+-- With the next number as it is counted.
+
+pub given_next : (n k : ℕ) (v : Sight) → k ≡ suc n → given_to k v ≡ left_after k (given_to n v)
+given_next n k v is = subst (λ (m : ℕ). given_to m v ≡ left_after m (given_to n v)) (sym is) refl
+
+pub dealt_next : (table : TableId) (n k : ℕ) (v : Sight) (parts parts' : List Part) (p : Part) → k ≡ suc n → AreDealt table n v parts → IsDealt table k v p → parts' ≡ parts ++ p ∷ [] → AreDealt table k v parts'
+dealt_next table n k v parts parts' p is dealt one longer =
+    subst (λ (ps : List Part). AreDealt table k v ps) (sym longer)
+    (subst (λ (m : ℕ). AreDealt table m v (parts ++ p ∷ [])) (sym is) (dealt_one table n v parts p dealt (subst (λ (m : ℕ). IsDealt table m v p) is one)))
+
+pub given_place : (n : ℕ) (v : Sight) → (given_to n v).place ≡ v.place
+given_place zero v = refl
+given_place (suc n) v = given_place n v
+
+pub newcomer_given : (n p : ℕ) (v : Sight) → newcomer p (given_to n v) ≡ newcomer p v
+newcomer_given zero p v = refl
+newcomer_given (suc n) p v = newcomer_given n p v
+
+-- one part less
+pub in_next : (all rest : List Part) (p : Part) (v v' : Sight) → all ≡ rest ++ p ∷ [] → v' ≡ taken_in v p.seat.me.0 → all_in rest v' ≡ all_in all v
+in_next all rest p v v' is taken = ap (all_in rest) taken ∙ sym (in_last rest p v) ∙ ap (λ (ps : List Part). all_in ps v) (sym is)

@@ -1,0 +1,6 @@
+use Rattle.spec_events.specs.Histories.{now}
+use Rattle.muck_crew.proofs.Lasting.{may_last}
+use Rattle.muck_crew.proofs.finishing.last_dump.Goals as goal
+
+pub dump-answer-requires-clause-may : goal.dump-answer-requires-clause-may
+dump-answer-requires-clause-may g c = may_last (now c.args.world.now) c.requires.idle

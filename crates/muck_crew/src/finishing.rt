@@ -1,0 +1,98 @@
+// The end of a run: the last dump.
+ghost use Rattle.std.specs.Prelude.{◌≡◌, ℕ, true, false, None};
+ghost use Rattle.spec_dumps.specs.Holding.{Keeps};
+ghost use Rattle.spec_events.specs.Histories.{now};
+ghost use Rattle.muck_crew.specs.inner.Runs.{HasStopped};
+ghost use Rattle.muck_crew.specs.Finished.{why_of, why_by, HasDump, IsFinish};
+
+use crate::serving::Way;
+use crate::why::Why;
+use muck_disk::Disk;
+use muck_dumping::{Store, dump};
+use muck_log::LogFault;
+use muck_machine::World;
+use muck_model::NoMemory;
+use std::alloc::Global;
+
+// How many turns there are.
+const MOST: u64 = 1 << 62;
+
+// Why a run ends whose last dump failed.
+fn why_of(fault: LogFault) -> Why
+    ensures { result ≡ why_of fault }
+{
+    match fault {
+        LogFault::NoMemory => Why::NoMemory,
+        LogFault::DiskFault => Why::DiskFault,
+        LogFault::Damaged { second, at } => Why::Damaged { second, at },
+        LogFault::StoreFull { end, more } => Why::StoreFull { end, more },
+        // No dump of a world answers this on disks that tell their bytes.
+        LogFault::Stale => Why::Damaged {
+            second: false,
+            at: 0,
+        },
+    }
+}
+
+// Why a run ends that was stopped, by how the last dump came out.
+fn why_by(deaf: bool, answer: Result<Option<LogFault>, NoMemory>) -> Why
+    ensures { result ≡ why_by deaf answer }
+{
+    if deaf {
+        return Why::ListenFault;
+    }
+    match answer {
+        Ok(None) => Why::Fine,
+        Ok(Some(fault)) => why_of(fault),
+        Err(NoMemory) => Why::NoMemory,
+    }
+}
+
+// The last dump, in a world that isn't dead.
+fn last_dump<D: Disk>(
+    alloc: Global,
+    deaf: bool,
+    world: &mut World,
+    store: &mut Store,
+    first: &mut D,
+    second: &mut D,
+) -> Why
+    requires alive { (now world.old).dead ≡ false }
+    requires idle { (now world.old).dumps.running ≡ None }
+    requires mounted { D.tells ≡ true → (mounted : ℕ) × Keeps D.seen D.moment D.images D.faults store.old.log first.old second.old mounted world.old }
+    ensures { HasDump D.tells D.seen D.moment D.images D.faults deaf store.old.log first.old second.old first.new second.new world.old world.new result }
+{
+    let answer = dump(alloc, world, 0, store, first, second);
+    why_by(deaf, answer)
+}
+
+/// What a run comes to, once all parts have returned: where all have seen the stop, the last dump is made by the first party.
+pub fn finish<D: Disk>(
+    alloc: Global,
+    way: Way,
+    world: &mut World,
+    store: &mut Store,
+    first: &mut D,
+    second: &mut D,
+) -> Why
+    requires idle { HasStopped way → (now world.old).dumps.running ≡ None }
+    requires mounted { HasStopped way → D.tells ≡ true → (mounted : ℕ) × Keeps D.seen D.moment D.images D.faults store.old.log first.old second.old mounted world.old }
+    ensures { IsFinish D.tells D.seen D.moment D.images D.faults way store.old.log first.old second.old first.new second.new world.old world.new result }
+{
+    if world.is_dead() {
+        return Why::NoMemory;
+    }
+    match way {
+        Way::Stopped => last_dump(alloc, false, world, store, first, second),
+        Way::Deaf => last_dump(alloc, true, world, store, first, second),
+        Way::Wanted => {
+            world.died(9);
+            Why::NoMemory
+        }
+        Way::Alone => {
+            world.died(9);
+            Why::NoMemory
+        }
+        Way::Spent => Why::Spent { turns: MOST },
+    }
+}

@@ -1,0 +1,5 @@
+pub mod Knowing
+pub mod Turns
+pub mod Ways
+pub mod Due
+pub mod Making

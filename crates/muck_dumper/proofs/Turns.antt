@@ -1,0 +1,117 @@
+-- A turn of the dumper at its seat.
+use Rattle.std.proofs.Common.{◌≡◌, List, [], ◌∷◌, ◌++◌, length, refl, sym, ◌∙◌, ap, subst, append_assoc, Some, None}
+use Rattle.turn_lock.specs.Histories.{StartsWith, own_of}
+use Rattle.turn_lock.specs.declared.view.Place.TheVariants.{Idle as AtRest}
+use Rattle.muck_model.specs.declared.event.Entry.{Entry}
+use Rattle.muck_model.specs.declared.event.Event.{Event}
+use Rattle.muck_model.specs.declared.note.Note.{Note}
+use Rattle.spec_events.specs.declared.logged.Logged.{Logged}
+use Rattle.spec_events.specs.Histories.{History, entered, noted}
+use Rattle.spec_events.specs.Logged.{logged, logged_by, bare_item, noted_item, events_of, NoCounts, IsSettled, IsPlaced, IsOrderly}
+use Rattle.spec_events.specs.Own.{Stage, next, stage_of}
+use Rattle.spec_events.proofs.Logging.{placed_entered, placed_noted, events_append, no_counts_one, orderly_noted, orderly_bare}
+use Rattle.spec_events.proofs.Owning.{stage_more}
+use Rattle.muck_machine.specs.Beginnings.{beginning}
+use Rattle.muck_machine.specs.Seats.{Sight, Chair, OneMore, AllOrderly, Rests, Waited}
+use Rattle.muck_machine.proofs.Seating.{held_settled, one_bare, one_noted, given_seen, given_root, rests_turned}
+use Rattle.muck_dumping.specs.inner.Dumps.{by}
+use Rattle.muck_dumper.specs.Dumping.{history_seen}
+use Rattle.muck_dumper.specs.inner.Steps.{MadeBy, bare, with_note, Step, Moves}
+use Rattle.muck_dumper.proofs.Knowing.{held_quiet, given_known}
+
+-- The item of an entry.
+
+pub record Item (event : Event) (h k : History) : Type 0 where
+  pub it : Logged
+  pub entry : it.entry ≡ by 9 event
+  pub counted : it.counted ≡ None
+  pub orderly : IsOrderly it
+  pub more : OneMore h k it
+  pub placed : IsPlaced k
+
+item_bare : (m : Note) (h k : History) (event : Event) → IsSettled m h → IsPlaced h → k ≡ entered h (by 9 event) → Item event h k
+item_bare m h k event settled placed is = record {
+  it = bare_item (by 9 event);
+  entry = refl;
+  counted = refl;
+  orderly = orderly_bare (by 9 event) (λ dump. refl);
+  more = one_bare m h k (by 9 event) settled is;
+  placed = subst IsPlaced (sym is) (placed_entered h (by 9 event) placed);
+}
+
+item_noted : (m : Note) (h k : History) (event : Event) (x : Note) → IsSettled m h → IsPlaced h → x.entries ≡ length h.entries → k ≡ entered (noted h x) (by 9 event) → Item event h k
+item_noted m h k event x settled placed at is = record {
+  it = noted_item x (by 9 event);
+  entry = refl;
+  counted = refl;
+  orderly = orderly_noted x (by 9 event) refl;
+  more = one_noted m h k x (by 9 event) settled at is;
+  placed = subst IsPlaced (sym is) (placed_entered (noted h x) (by 9 event) (placed_noted h x at placed));
+}
+
+pub item_made : (m : Note) (h k : History) (event : Event) → IsSettled m h → IsPlaced h → MadeBy event h k → Item event h k
+item_made m h k event settled placed (bare is) = item_bare m h k event settled placed is
+item_made m h k event settled placed (with_note x at is) = item_noted m h k event x settled placed at is
+
+-- The world as it was given, and as it is given back.
+module _ (me : Chair) (v : Sight) (h k : History) (event : Event) (r : Rests 9 me) (waited : Waited me.0 v) (seen : logged h ≡ v.seen) (root : beginning h ∷ [] ≡ v.root) (placed : IsPlaced h) (made : MadeBy event h k) where
+  pub its_item : Item event h k
+  its_item = item_made r.begun.mounting h k event (held_settled 9 me v h r waited root) placed made
+
+  pub entry_given : (l : Logged) × (logged k ≡ v.seen ++ l ∷ []) × (logged_by l ≡ v.party) × IsOrderly l
+  entry_given = (its_item.it, given_seen v h k its_item.it its_item.more seen, ap (λ (e : Entry). e.party) its_item.entry ∙ sym (waited.2 ∙ r.party), its_item.orderly)
+
+  pub start_given : beginning k ∷ [] ≡ v.root
+  start_given = given_root v h k its_item.it its_item.more root
+
+  -- behind the turn
+  pub step_made : (me' : Chair) → v.own ≡ own_of logged_by v.party v.seen → AllOrderly v.seen → me'.1 ≡ [] → me'.0.place ≡ AtRest → me'.0.seen ≡ logged k →
+      (me'.0.party ≡ v.party) × (me'.0.root ≡ v.root) × (me'.0.given ≡ v.given) × (me'.0.joined ≡ v.joined) →
+      ((e : Logged) → logged k ≡ v.seen ++ e ∷ [] → e.entry.party ≡ v.party → IsOrderly e → me'.0.own ≡ v.own ++ e ∷ []) →
+      (s : Step event me me') × (s.world ≡ h) × (history_seen me'.0 ≡ k)
+  step_made me' own all free idle seen' same mine =
+      let i = its_item in
+      let l = i.it in
+      let both = rests_turned 9 me v me' h k l r waited seen own all i.more (ap (λ (e : Entry). e.party) i.entry) i.orderly free idle seen' same mine in
+      let known : history_seen me'.0 ≡ k = given_known me' k both.0.begun (start_given ∙ sym same.1) i.placed seen' in
+      let s : Step event me me' = record {
+        rests = both.0;
+        world = h;
+        quiet = held_quiet me v h r waited seen root own all placed;
+        made = subst (MadeBy event h) (sym known) made;
+        lists = both.1.lists;
+        sight = (both.1.others ++ l ∷ [], both.1.seen ∙ append_assoc me.0.seen both.1.others (l ∷ []));
+        events = ap events_of both.1.own ∙ events_append me.0.own (l ∷ []) ∙ ap (λ (e : Event). events_of me.0.own ++ e ∷ []) (ap (λ (e : Entry). e.event) i.entry);
+        counts = λ none. subst NoCounts (sym both.1.own) (no_counts_one me.0.own l none i.counted);
+        last = (me.0.own, l, both.1.own, i.entry);
+      } in
+      (s, refl, known)
+
+-- From stage to stage.
+
+seen_later : (a b c : List Logged) → StartsWith b a → StartsWith c b → StartsWith c a
+seen_later a b c p q = (p.0 ++ q.0, q.1 ∙ ap (λ (ls : List Logged). ls ++ q.0) p.1 ∙ append_assoc a p.0 q.0)
+
+pub moves_step : (from to : Stage) (event : Event) (me me' : Chair) → Step event me me' → next 9 from event ≡ Some to → Moves from to me me'
+moves_step from to event me me' s may = record {
+  lists = s.lists;
+  sight = s.sight;
+  stage = λ known. ap (stage_of 9) s.events ∙ stage_more 9 (events_of me.0.own) event from to known may;
+  counts = s.counts;
+}
+
+pub moves_on : (a b c : Stage) (x y z : Chair) → Moves a b x y → Moves b c y z → Moves a c x z
+moves_on a b c x y z p q = record {
+  lists = (q.lists.0 ∙ p.lists.0, q.lists.1 ∙ p.lists.1, q.lists.2 ∙ p.lists.2);
+  sight = seen_later x.0.seen y.0.seen z.0.seen p.sight q.sight;
+  stage = λ known. q.stage (p.stage known);
+  counts = λ none. q.counts (p.counts none);
+}
+
+pub moves_same : (a : Stage) (x y : Chair) → Waited x.0 y.0 → Moves a a x y
+moves_same a x y waited = record {
+  lists = (waited.5, waited.3, waited.4);
+  sight = waited.0;
+  stage = λ known. ap (λ (ls : List Logged). stage_of 9 (events_of ls)) waited.1 ∙ known;
+  counts = λ none. subst NoCounts (sym waited.1) none;
+}

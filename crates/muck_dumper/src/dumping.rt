@@ -1,0 +1,67 @@
+// The dumper.
+ghost use Rattle.std.specs.Prelude.{◌≡◌, ℕ, true};
+ghost use Rattle.muck_dumping.specs.inner.Between.{IsReady};
+ghost use Rattle.muck_dumper.specs.Dumping.{history_seen, DumperReady, DumperDone};
+
+use crate::deeds::Did;
+use crate::holds::{Fault, makes, watch_turn};
+use muck_disk::Disk;
+use muck_dumping::Store;
+use muck_io::{Gate, Rest, place};
+use muck_machine::World;
+use std::alloc::Global;
+use std::sync::Wait;
+use turn_lock::{Turn, TurnSeat};
+
+/// Why the dumper ended.
+#[derive(Clone, Copy, Debug, PartialEq, Eq)]
+pub enum Why {
+    /// The run was stopped, and it has seen that.
+    Fine,
+    /// Memory was wanted, by it or by another.
+    NoMemory,
+    /// All turns were had.
+    Spent,
+}
+
+/// The dumper makes a dump where one is asked or due, until the run is stopped, and else it idles and rests. Its batch is written while others go
+/// on, behind the gate. Where a dump failed the log is mounted again at once; where it can't be, the next dump fails, and then it is tried again. Once the
+/// run is stopping no dump is begun any more; its last entry says that it has seen the stop, but after want of memory or turns.
+pub fn dumper<W: Wait, D: Disk, G: Gate, R: Rest>(
+    rt: &W,
+    alloc: Global,
+    turn: &Turn<World>,
+    seat: &mut TurnSeat<World>,
+    store: &mut Store,
+    first: &mut D,
+    second: &mut D,
+    gate: &G,
+    rest: &R,
+) -> Why
+    requires own { seat.old.table_id ≡ turn.now.table.shared.table_id }
+    requires ready { DumperReady seat.old.me }
+    requires mounted { D.tells ≡ true → (mounted : ℕ) × IsReady D.seen D.moment D.images D.faults store.old.log first.old second.old mounted (history_seen seat.old.me.0) }
+    ensures own { (seat.new.table_id ≡ seat.old.table_id) × (seat.new.id ≡ seat.old.id) }
+    ensures done { DumperDone D.tells D.seen D.moment D.images D.faults result store.old.log store.new.log first.old second.old first.new second.new seat.old.me seat.new.me }
+{
+    for _ in rt.forever() {
+        match watch_turn(rt, turn, seat, store, first, second) {
+            Ok(Did::Idled) => rest.rest(),
+            Ok(Did::Began(pending)) => {
+                gate.pass(place::BEFORE_DUMP);
+                match makes(rt, alloc, turn, seat, store, first, second, pending) {
+                    Ok(()) => {}
+                    Err(Fault::NoMemory) => return Why::NoMemory,
+                    Err(Fault::Spent) => return Why::Spent,
+                }
+            }
+            Ok(Did::Over) => {
+                gate.pass(place::BEFORE_END);
+                return Why::Fine;
+            }
+            Ok(Did::Failed) => return Why::NoMemory,
+            Err(_) => return Why::Spent,
+        }
+    }
+    unreachable!()
+}

@@ -1,0 +1,241 @@
+// The dumper at the lock.
+ghost use Rattle.std.specs.Prelude.{◌≡◌, ◌≤◌, ◌^◌, ℕ, true, false, List, Some, None, Option, Result, IfOk, OnOk, OnErr, IfErr, length, if◌then◌else◌};
+ghost use Rattle.muck_log.specs.Store.{LogState};
+ghost use Rattle.muck_log.specs.declared.fault.LogFault.{LogFault as Answer};
+ghost use Rattle.muck_model.specs.declared.event.Event.TheVariants.{Died};
+ghost use Rattle.muck_model.specs.declared.tune.Tune.{Tune};
+ghost use Rattle.spec_live.specs.Objects.{Entry as Object};
+ghost use Rattle.spec_dumps.specs.Holding.{Keeps, Rests as HasRests};
+ghost use Rattle.spec_dumps.specs.Survival.{IsSafe};
+ghost use Rattle.spec_events.specs.Histories.{History, now, entered};
+ghost use Rattle.spec_events.specs.Own.{Stage, died_next};
+ghost use Rattle.spec_events.specs.World.{runs_dump};
+ghost use Rattle.muck_machine.specs.Seats.{Rests, Left, Waited};
+ghost use Rattle.muck_dumping.specs.inner.Dumps.{by, ending_event};
+ghost use Rattle.muck_dumping.specs.inner.Between.{IsReady, IsBatchOf, base_in, IsPending, IsWritten, EndsAs};
+ghost use Rattle.muck_dumper.specs.Dumping.{history_seen};
+ghost use Rattle.muck_dumper.specs.inner.Steps.{Step, Stops, Settles, Watches, Watched};
+
+use crate::deeds::{DUMPER, Did, finishes, watches};
+use muck_disk::Disk;
+use muck_dumping::{Pending, Store, write};
+use muck_io::YieldRest;
+use muck_log::LogFault;
+use muck_machine::World;
+use std::alloc::Global;
+use std::sync::Wait;
+use turn_lock::{Spent, Turn, TurnSeat};
+
+/// Why the dumper stopped in the midst of something.
+#[derive(Drop)]
+pub enum Fault {
+    NoMemory,
+    Spent,
+}
+
+// A turn where no dump runs.
+pub(crate) fn watch_turn<W: Wait, D: Disk>(
+    rt: &W,
+    turn: &Turn<World>,
+    seat: &mut TurnSeat<World>,
+    store: &Store,
+    first: &D,
+    second: &D,
+) -> Result<Did, Spent>
+    requires own { seat.old.table_id ≡ turn.now.table.shared.table_id }
+    requires rests { Rests 9 seat.old.me }
+    requires idle { (now (history_seen seat.old.me.0)).dumps.running ≡ None }
+    ensures own { (seat.new.table_id ≡ seat.old.table_id) × (seat.new.id ≡ seat.old.id) }
+    ensures ok { IfOk result (λ did. Watched D.tells D.seen D.moment D.images D.faults store.now.log first.now second.now did seat.old.me seat.new.me) }
+    ensures err { OnErr result (Left 9 seat.new.me × Waited seat.old.me.0 seat.new.me.0 × (2 ^ 62 ≤ length seat.new.me.0.seen)) }
+{
+    let held = turn.hold(rt, seat, &YieldRest)?;
+    let mut held = held;
+    // For contracts alone: each note stands in its place.
+    let _dead = held.state.is_dead();
+    let did = watches(&mut held.state, store, first, second);
+    turn.give(seat, held);
+    Ok(did)
+}
+
+// A turn in which a dump ends.
+fn finish_turn<W: Wait, D: Disk>(
+    rt: &W,
+    turn: &Turn<World>,
+    seat: &mut TurnSeat<World>,
+    first: &D,
+    second: &D,
+    number: u64,
+    stored: bool,
+) -> Result<bool, Spent>
+    requires own { seat.old.table_id ≡ turn.now.table.shared.table_id }
+    requires rests { Rests 9 seat.old.me }
+    requires runs { runs_dump number (now (history_seen seat.old.me.0)).dumps ≡ true }
+    ensures own { (seat.new.table_id ≡ seat.old.table_id) × (seat.new.id ≡ seat.old.id) }
+    ensures ok { IfOk result (λ told. Step (if told then ending_event number stored else Died) seat.old.me seat.new.me) }
+    ensures idle { IfOk result (λ told. told ≡ true → (now (history_seen seat.new.me.0)).dumps.running ≡ None) }
+    ensures rests { (mounted : ℕ) (log : Option LogState) (r : Result (Unit {0}) Answer) → D.tells ≡ true → IsWritten D.seen D.moment D.images D.faults log first.now second.now mounted (history_seen seat.old.me.0) r → EndsAs r stored
+        → IfOk result (λ told. told ≡ true → HasRests D.seen D.moment D.images D.faults log first.now second.now mounted (history_seen seat.new.me.0)) }
+    ensures safe { (mounted : ℕ) (log : Option LogState) (r : Result (Unit {0}) Answer) → D.tells ≡ true → IsWritten D.seen D.moment D.images D.faults log first.now second.now mounted (history_seen seat.old.me.0) r
+        → IfOk result (λ told. told ≡ false → IsSafe D.moment D.images first.now second.now (history_seen seat.new.me.0).start mounted (history_seen seat.new.me.0).entries (history_seen seat.new.me.0).notes) }
+    ensures err { OnErr result (Left 9 seat.new.me × Waited seat.old.me.0 seat.new.me.0 × (2 ^ 62 ≤ length seat.new.me.0.seen)) }
+{
+    let held = turn.hold(rt, seat, &YieldRest)?;
+    let mut held = held;
+    let _dead = held.state.is_dead();
+    let told = finishes(&mut held.state, first, second, number, stored);
+    turn.give(seat, held);
+    Ok(told)
+}
+
+// A turn in which it tells that memory was wanted outside of the world.
+fn die_turn<W: Wait>(rt: &W, turn: &Turn<World>, seat: &mut TurnSeat<World>) -> Result<(), Spent>
+    requires own { seat.old.table_id ≡ turn.now.table.shared.table_id }
+    requires rests { Rests 9 seat.old.me }
+    ensures own { (seat.new.table_id ≡ seat.old.table_id) × (seat.new.id ≡ seat.old.id) }
+    ensures ok { OnOk result ((s : Step Died seat.old.me seat.new.me) × (history_seen seat.new.me.0 ≡ entered s.world (by 9 Died))) }
+    ensures err { OnErr result (Left 9 seat.new.me × Waited seat.old.me.0 seat.new.me.0 × (2 ^ 62 ≤ length seat.new.me.0.seen)) }
+{
+    let held = turn.hold(rt, seat, &YieldRest)?;
+    let mut held = held;
+    let _dead = held.state.is_dead();
+    held.state.died(DUMPER);
+    turn.give(seat, held);
+    Ok(())
+}
+
+// Memory was wanted outside of the world, and the dumper says so there.
+fn dies<W: Wait, D: Disk>(
+    rt: &W,
+    turn: &Turn<World>,
+    seat: &mut TurnSeat<World>,
+    first: &D,
+    second: &D,
+) -> Fault
+    requires own { seat.old.table_id ≡ turn.now.table.shared.table_id }
+    requires rests { Rests 9 seat.old.me }
+    ensures own { (seat.new.table_id ≡ seat.old.table_id) × (seat.new.id ≡ seat.old.id) }
+    ensures stops { (log : Option LogState) (from : Stage) → died_next from ≡ Some Stage.ended
+        → Stops D.tells D.moment D.images first.now second.now result from (λ mounted. Keeps D.seen D.moment D.images D.faults log first.now second.now mounted (history_seen seat.old.me.0)) seat.old.me seat.new.me }
+{
+    match die_turn(rt, turn, seat) {
+        Ok(()) => Fault::NoMemory,
+        Err(_) => Fault::Spent,
+    }
+}
+
+// The dump that was handed to the log ends.
+fn ends<W: Wait, D: Disk>(
+    rt: &W,
+    turn: &Turn<World>,
+    seat: &mut TurnSeat<World>,
+    store: &Store,
+    first: &D,
+    second: &D,
+    number: u64,
+    stored: bool,
+) -> Result<(), Fault>
+    requires own { seat.old.table_id ≡ turn.now.table.shared.table_id }
+    requires rests { Rests 9 seat.old.me }
+    requires runs { runs_dump number (now (history_seen seat.old.me.0)).dumps ≡ true }
+    ensures own { (seat.new.table_id ≡ seat.old.table_id) × (seat.new.id ≡ seat.old.id) }
+    ensures ok { (r : Result (Unit {0}) Answer) → EndsAs r stored → OnOk result (Settles D.tells D.seen D.moment D.images D.faults store.now.log first.now second.now (Stage.dumping number)
+        (λ mounted. IsWritten D.seen D.moment D.images D.faults store.now.log first.now second.now mounted (history_seen seat.old.me.0) r) seat.old.me seat.new.me) }
+    ensures err { (r : Result (Unit {0}) Answer) → EndsAs r stored → IfErr result (λ fault. Stops D.tells D.moment D.images first.now second.now fault (Stage.dumping number)
+        (λ mounted. IsWritten D.seen D.moment D.images D.faults store.now.log first.now second.now mounted (history_seen seat.old.me.0) r) seat.old.me seat.new.me) }
+{
+    match finish_turn(rt, turn, seat, first, second, number, stored) {
+        Ok(true) => Ok(()),
+        Ok(false) => Err(Fault::NoMemory),
+        Err(_) => Err(Fault::Spent),
+    }
+}
+
+// The log is mounted again, behind a dump that failed. Where a disk fails at that it is tried behind the next one.
+fn mounts<W: Wait, D: Disk>(
+    rt: &W,
+    alloc: Global,
+    turn: &Turn<World>,
+    seat: &mut TurnSeat<World>,
+    store: &mut Store,
+    first: &mut D,
+    second: &mut D,
+) -> Result<(), Fault>
+    requires own { seat.old.table_id ≡ turn.now.table.shared.table_id }
+    requires rests { Rests 9 seat.old.me }
+    ensures own { (seat.new.table_id ≡ seat.old.table_id) × (seat.new.id ≡ seat.old.id) }
+    ensures same { OnOk result (seat.new.me ≡ seat.old.me) }
+    ensures ready { (mounted : ℕ) (h : History) → D.tells ≡ true → Keeps D.seen D.moment D.images D.faults store.old.log first.old second.old mounted h
+        → OnOk result (IsReady D.seen D.moment D.images D.faults store.new.log first.new second.new mounted h) }
+    ensures err { IfErr result (λ fault. Stops D.tells D.moment D.images first.new second.new fault Stage.unbound
+        (λ mounted. Keeps D.seen D.moment D.images D.faults store.old.log first.old second.old mounted (history_seen seat.old.me.0)) seat.old.me seat.new.me) }
+    ensures first_later { D.faults first.old ≤ D.faults first.new }
+    ensures second_later { D.faults second.old ≤ D.faults second.new }
+{
+    match store.mount(alloc, first, second) {
+        Ok(()) => Ok(()),
+        Err(fault) => match fault {
+            LogFault::NoMemory => Err(dies(rt, turn, seat, first, second)),
+            _ => Ok(()),
+        },
+    }
+}
+
+// The dump ends as one that failed, and the log is mounted again.
+fn fails<W: Wait, D: Disk>(
+    rt: &W,
+    alloc: Global,
+    turn: &Turn<World>,
+    seat: &mut TurnSeat<World>,
+    store: &mut Store,
+    first: &mut D,
+    second: &mut D,
+    number: u64,
+) -> Result<(), Fault>
+    requires own { seat.old.table_id ≡ turn.now.table.shared.table_id }
+    requires rests { Rests 9 seat.old.me }
+    requires runs { runs_dump number (now (history_seen seat.old.me.0)).dumps ≡ true }
+    ensures own { (seat.new.table_id ≡ seat.old.table_id) × (seat.new.id ≡ seat.old.id) }
+    ensures ok { (r : Result (Unit {0}) Answer) → EndsAs r false → OnOk result (Watches D.tells D.seen D.moment D.images D.faults store.new.log first.new second.new (Stage.dumping number)
+        (λ mounted. IsWritten D.seen D.moment D.images D.faults store.old.log first.old second.old mounted (history_seen seat.old.me.0) r) seat.old.me seat.new.me) }
+    ensures err { (r : Result (Unit {0}) Answer) → EndsAs r false → IfErr result (λ fault. Stops D.tells D.moment D.images first.new second.new fault (Stage.dumping number)
+        (λ mounted. IsWritten D.seen D.moment D.images D.faults store.old.log first.old second.old mounted (history_seen seat.old.me.0) r) seat.old.me seat.new.me) }
+    ensures first_later { D.faults first.old ≤ D.faults first.new }
+    ensures second_later { D.faults second.old ≤ D.faults second.new }
+{
+    ends(rt, turn, seat, store, first, second, number, false)?;
+    mounts(rt, alloc, turn, seat, store, first, second)
+}
+
+/// The batch of a dump that began is written, while others go on, and the dump ends. Where it failed the log is mounted again.
+pub(crate) fn makes<W: Wait, D: Disk>(
+    rt: &W,
+    alloc: Global,
+    turn: &Turn<World>,
+    seat: &mut TurnSeat<World>,
+    store: &mut Store,
+    first: &mut D,
+    second: &mut D,
+    pending: Pending,
+) -> Result<(), Fault>
+    requires own { seat.old.table_id ≡ turn.now.table.shared.table_id }
+    requires rests { Rests 9 seat.old.me }
+    requires runs { runs_dump pending.number (now (history_seen seat.old.me.0)).dumps ≡ true }
+    requires batch { (objects : List Object) × (tune : Tune) × IsBatchOf (base_in store.old.log) objects tune pending }
+    requires mounted { D.tells ≡ true → (mounted : ℕ) × IsPending D.seen D.moment D.images D.faults store.old.log first.old second.old mounted (history_seen seat.old.me.0) pending }
+    ensures own { (seat.new.table_id ≡ seat.old.table_id) × (seat.new.id ≡ seat.old.id) }
+    ensures ok { OnOk result (Watches D.tells D.seen D.moment D.images D.faults store.new.log first.new second.new (Stage.dumping pending.number)
+        (λ mounted. IsPending D.seen D.moment D.images D.faults store.old.log first.old second.old mounted (history_seen seat.old.me.0) pending) seat.old.me seat.new.me) }
+    ensures err { IfErr result (λ fault. Stops D.tells D.moment D.images first.new second.new fault (Stage.dumping pending.number)
+        (λ mounted. IsPending D.seen D.moment D.images D.faults store.old.log first.old second.old mounted (history_seen seat.old.me.0) pending) seat.old.me seat.new.me) }
+    ensures first_later { D.faults first.old ≤ D.faults first.new }
+    ensures second_later { D.faults second.old ≤ D.faults second.new }
+{
+    match write(store, first, second, &pending) {
+        Ok(()) => ends(rt, turn, seat, store, first, second, pending.number, true),
+        Err(fault) => match fault {
+            LogFault::NoMemory => Err(dies(rt, turn, seat, first, second)),
+            _ => fails(rt, alloc, turn, seat, store, first, second, pending.number),
+        },
+    }
+}

@@ -1,0 +1,8 @@
+//! The dumper: it makes the dumps of a world that several parties share, and writes them while others go on.
+#![tactic(auto)]
+
+mod deeds;
+mod dumping;
+mod holds;
+
+pub use dumping::{Why, dumper};
