@@ -1,6 +1,6 @@
 -- What a call for `serve` comes to, from what the server says.
-use Rattle.std.proofs.Common.{◌≡◌, ◌⊎◌, inl, inr, ℕ, ◌≤◌, ◌^◌, Bool, true, false, List, length, refl, sym, ap, subst, ◌∙◌, Option, Some, None, Ok}
-use Rattle.std.specs.Prelude.{codes, All, ◌++◌, [], ◌∷◌}
+use Rattle.std.proofs.Common.{◌≡◌, ◌⊎◌, inl, inr, ℕ, ◌≤◌, Bool, true, false, List, refl, sym, ap, subst, ◌∙◌, Option, Some, None, Ok}
+use Rattle.std.specs.Prelude.{codes, All, ◌++◌}
 use Rattle.muck_codec.specs.Stored.{AreProperties}
 use Rattle.muck_io.specs.Faults.{Rose}
 use Rattle.muck_io.specs.inner.Clock.{Answers}
@@ -24,10 +24,10 @@ use Rattle.muckd.specs.Words.{Command, run, drill, serve, is_scripted}
 use Rattle.muck_run.specs.Drill.{HasDrilled}
 use Rattle.muck_run.specs.Outcome.{IsUntouched, EndsAs}
 use Rattle.muck_run.specs.inner.Dumps.{note_of}
-use Rattle.muckd.specs.Serving.{is_served, why_served, tally_of, IsUnserved, HasServed, ServesAs}
-use Rattle.muck_run.specs.inner.Ends.{MayRefuse, IsBootable, booted_at, unbegun_at, begun_at}
+use Rattle.muckd.specs.Serving.{why_served, IsUnserved, HasServed, ServesAs}
+use Rattle.muck_run.specs.inner.Ends.{IsBootable, booted_at, unbegun_at, begun_at}
 use Rattle.muck_run.specs.declared.why.Why.{Why}
-use Rattle.muck_run.specs.declared.why.Why.TheVariants.{Fine, Usage, BadScript, NoMemory, ReadFault, WriteFault, DiskFault, Damaged, ListenFault, StoreFull, Spent}
+use Rattle.muck_run.specs.declared.why.Why.TheVariants.{Fine, Usage, NoMemory, DiskFault, Damaged, ListenFault, StoreFull, Spent}
 use Rattle.muck_run.proofs.Called.{holds_still, either_since}
 use Rattle.muck_run.proofs.Started.{rests_started, licensed_from, known_from}
 use Rattle.muck_run.proofs.Untouched.{untouched_still, untouched_on}
@@ -87,9 +87,9 @@ pub ready_begun : {D : Type 0} (began : ℕ) (seen : D → List ℕ) (moment : D
     → All (λ x. AreProperties x.props) log.chosen.held.world.objects → IsMountedAs seen moment images file_most log f s → (h : History) → h ≡ begun_at began log (note_of moment faults f s (unbegun_at began log))
     → HasLog seen moment images faults (Some log) f s log.chosen.held.number h
 ready_begun began seen moment images faults log f s boots props mounted h is = record {
-    keeps = (rests_started began seen moment images faults log f s boots props mounted (Some log) h refl is).keeps;
-    risen = λ none. let none' = none in cc;
-  }
+  keeps = (rests_started began seen moment images faults log f s boots props mounted (Some log) h refl is).keeps;
+  risen = λ none. let none' = none in cc;
+}
 
 module _ {L C D : Type 0} (shows : Bool) (told : L → Told) (listening : L → ℕ) (answers : C → Option (List ℕ))
     (tells : Bool) (attached : D → Option (List ℕ)) (seen : D → List ℕ) (moment : D → ℕ) (images : D → ℕ → List ℕ → Type 0) (faults : D → ℕ) (store : List ℕ) (workers : ℕ)
@@ -166,7 +166,7 @@ module _ {L C D : Type 0} (shows : Bool) (told : L → Told) (listening : L → 
       → (tells ≡ true → IsUntouched seen moment images first first') → (tells ≡ true → IsUntouched seen moment images second second')
       → Answers (answers c) (answers c') began → (mounting.first_moment ≡ moment first') × (mounting.second_moment ≡ moment second') → (w : World) → w ≡ booted_at began log.chosen.held.world
       → Never shows (account_of l c') (account_of l' c'') cause first' second' first'' second'' tale
-          ⊎ IsServed shows tells (account_of l c') (account_of l' c'') moment images faults workers cause w log.chosen.held.number mounting first' second' first'' second'' tale notes
+      ⊎ IsServed shows tells (account_of l c') (account_of l' c'') moment images faults workers cause w log.chosen.held.number mounting first' second' first'' second'' tale notes
       → (why : Why) → why ≡ why_served cause → ServesAs why Unserved (Served why)
   server_ends mounted fine name_a name_b a b clock at w is r why answered =
       subst (λ (x : Why). ServesAs x Unserved (Served x)) (sym answered)
@@ -209,7 +209,7 @@ module _ {L C D : Type 0} (shows : Bool) (told : L → Told) (listening : L → 
   pub listening_failed : why ≡ ListenFault → Rose (listening l) (listening l')
   listening_failed e =
       let s : HasServed shows told listening answers tells attached seen moment images store workers why l l' c c' first second first' second' tale notes =
-          subst (λ (x : Why). ServesAs x U (HasServed shows told listening answers tells attached seen moment images store workers why l l' c c' first second first' second' tale notes)) e ends in
+      subst (λ (x : Why). ServesAs x U (HasServed shows told listening answers tells attached seen moment images store workers why l l' c c' first second first' second' tale notes)) e ends in
       (subst (λ (x : Ended). HasEnded workers (listening l) (listening l') s.start x tale) (cause_is s.cause ended.ListenFault ListenFault (sym s.answered ∙ e) refl) s.ended).0
 
 -- where nothing stood in its way
