@@ -1,6 +1,6 @@
 -- What a call for `serve` comes to, from what the server says.
-use Rattle.std.proofs.Common.{◌≡◌, ◌⊎◌, inl, inr, ℕ, ◌≤◌, ◌^◌, Bool, true, false, List, length, refl, sym, ap, subst, ◌∙◌, Option, Some, None, Ok}
-use Rattle.std.specs.Prelude.{codes, All, ◌++◌, [], ◌∷◌}
+use Rattle.std.proofs.Common.{◌≡◌, ◌⊎◌, inl, inr, ℕ, ◌≤◌, Bool, true, false, List, refl, sym, ap, subst, ◌∙◌, Option, Some, None, Ok}
+use Rattle.std.specs.Prelude.{codes, All, ◌++◌}
 use Rattle.muck_codec.specs.Stored.{AreProperties}
 use Rattle.muck_io.specs.Faults.{Rose}
 use Rattle.muck_io.specs.inner.Clock.{Answers}
@@ -24,17 +24,17 @@ use Rattle.muckd.specs.Words.{Command, run, drill, serve, is_scripted}
 use Rattle.muck_run.specs.Drill.{HasDrilled}
 use Rattle.muck_run.specs.Outcome.{IsUntouched, EndsAs}
 use Rattle.muck_run.specs.inner.Dumps.{note_of}
-use Rattle.muckd.specs.Serving.{is_served, why_served, tally_of, IsUnserved, HasServed, ServesAs}
-use Rattle.muck_run.specs.inner.Ends.{MayRefuse, IsBootable, booted_at, unbegun_at, begun_at}
+use Rattle.muckd.specs.Serving.{why_served, IsUnserved, HasServed, ServesAs}
+use Rattle.muck_run.specs.inner.Ends.{IsBootable, booted_at, unbegun_at, begun_at}
 use Rattle.muck_run.specs.declared.why.Why.{Why}
-use Rattle.muck_run.specs.declared.why.Why.TheVariants.{Fine, Usage, BadScript, NoMemory, ReadFault, WriteFault, DiskFault, Damaged, ListenFault, StoreFull, Spent}
+use Rattle.muck_run.specs.declared.why.Why.TheVariants.{Fine, Usage, NoMemory, DiskFault, Damaged, ListenFault, StoreFull, Spent}
 use Rattle.muck_run.proofs.Called.{holds_still, either_since}
 use Rattle.muck_run.proofs.Started.{rests_started, licensed_from, known_from}
 use Rattle.muck_run.proofs.Untouched.{untouched_still, untouched_on}
 
 -- The answers of the server, as the call gives them.
 
-server_why : Why → Option Ended
+abbrev pub server_why : Why → Option Ended
 server_why Fine = Some ended.Fine
 server_why NoMemory = Some ended.NoMemory
 server_why DiskFault = Some ended.DiskFault
@@ -66,12 +66,6 @@ served_ends ended.ListenFault U S s = s
 served_ends (ended.StoreFull end more) U S s = s
 served_ends (ended.Spent turns) U S s = s
 
-pub refused_serving : (why : Why) (U S : Type 0) → MayRefuse why → U → ServesAs why U S
-refused_serving (Damaged second at) U S may u = inl u
-refused_serving NoMemory U S may u = inl u
-refused_serving DiskFault U S may u = inl u
-refused_serving why U S may u = absurd may
-
 -- The world of a server that begins.
 
 module _ (began : ℕ) (log : LogState) (note : Note) (h : History) (is : h ≡ begun_at began log note) where
@@ -93,21 +87,21 @@ pub ready_begun : {D : Type 0} (began : ℕ) (seen : D → List ℕ) (moment : D
     → All (λ x. AreProperties x.props) log.chosen.held.world.objects → IsMountedAs seen moment images file_most log f s → (h : History) → h ≡ begun_at began log (note_of moment faults f s (unbegun_at began log))
     → HasLog seen moment images faults (Some log) f s log.chosen.held.number h
 ready_begun began seen moment images faults log f s boots props mounted h is = record {
-    keeps = (rests_started began seen moment images faults log f s boots props mounted (Some log) h refl is).keeps;
-    risen = λ none. let none' = none in cc;
-  }
+  keeps = (rests_started began seen moment images faults log f s boots props mounted (Some log) h refl is).keeps;
+  risen = λ none. let none' = none in cc;
+}
 
 module _ {L C D : Type 0} (shows : Bool) (told : L → Told) (listening : L → ℕ) (answers : C → Option (List ℕ))
     (tells : Bool) (attached : D → Option (List ℕ)) (seen : D → List ℕ) (moment : D → ℕ) (images : D → ℕ → List ℕ → Type 0) (faults : D → ℕ) (store : List ℕ) (workers : ℕ)
     (log : LogState) (began : ℕ) (mounting : Note) (cause : Ended) (l l' : L) (c c' c'' : C) (first second first' second' first'' second'' : D) (tale : List Entry) (notes : List Note) where
   -- what links and clock tell
-  account_of : L → C → Account
+  abbrev pub account_of : L → C → Account
   account_of links clock = account (told links) (listening links) (answers clock)
 
-  Began : Type 0
-  Began = IsUnserved shows told tells seen moment images l l' first second first'' second'' tale
+  abbrev pub Unserved : Type 0
+  Unserved = IsUnserved shows told tells seen moment images l l' first second first'' second'' tale
 
-  Served : Why → Type 0
+  abbrev pub Served : Why → Type 0
   Served why = HasServed shows told listening answers tells attached seen moment images store workers why l l' c c'' first second first'' second'' tale notes
 
   has_served : (tells ≡ true → IsMountedAs seen moment images file_most log first' second') → IsFine log.chosen.held.world
@@ -158,7 +152,7 @@ module _ {L C D : Type 0} (shows : Bool) (told : L → Told) (listening : L → 
   }
 
   never_served : (tells ≡ true → IsUntouched seen moment images first first') → (tells ≡ true → IsUntouched seen moment images second second')
-      → Never shows (account_of l c') (account_of l' c'') cause first' second' first'' second'' tale → Began
+      → Never shows (account_of l c') (account_of l' c'') cause first' second' first'' second'' tale → Unserved
   never_served a b n = record {
     empty = n.empty;
     nobody = n.nobody;
@@ -172,13 +166,13 @@ module _ {L C D : Type 0} (shows : Bool) (told : L → Told) (listening : L → 
       → (tells ≡ true → IsUntouched seen moment images first first') → (tells ≡ true → IsUntouched seen moment images second second')
       → Answers (answers c) (answers c') began → (mounting.first_moment ≡ moment first') × (mounting.second_moment ≡ moment second') → (w : World) → w ≡ booted_at began log.chosen.held.world
       → Never shows (account_of l c') (account_of l' c'') cause first' second' first'' second'' tale
-          ⊎ IsServed shows tells (account_of l c') (account_of l' c'') moment images faults workers cause w log.chosen.held.number mounting first' second' first'' second'' tale notes
-      → (why : Why) → why ≡ why_served cause → ServesAs why Began (Served why)
+      ⊎ IsServed shows tells (account_of l c') (account_of l' c'') moment images faults workers cause w log.chosen.held.number mounting first' second' first'' second'' tale notes
+      → (why : Why) → why ≡ why_served cause → ServesAs why Unserved (Served why)
   server_ends mounted fine name_a name_b a b clock at w is r why answered =
-      subst (λ (x : Why). ServesAs x Began (Served x)) (sym answered)
+      subst (λ (x : Why). ServesAs x Unserved (Served x)) (sym answered)
       (elim r [
-        | inl n ↦ subst (λ (x : Ended). ServesAs (why_served x) Began (Served (why_served cause))) (sym n.wanted) (inl (never_served a b n))
-        | inr s ↦ served_ends cause Began (Served (why_served cause))
+        | inl n ↦ subst (λ (x : Ended). ServesAs (why_served x) Unserved (Served (why_served cause))) (sym n.wanted) (inl (never_served a b n))
+        | inr s ↦ served_ends cause Unserved (Served (why_served cause))
             (has_served mounted fine name_a name_b a b clock at
             (subst (λ (x : World). IsServed shows tells (account_of l c') (account_of l' c'') moment images faults workers cause x log.chosen.held.number mounting first' second' first'' second'' tale notes) is s))
       ])
@@ -212,21 +206,11 @@ module _ {L C D : Type 0} (shows : Bool) (told : L → Told) (listening : L → 
     (tells : Bool) (attached : D → Option (List ℕ)) (seen : D → List ℕ) (moment : D → ℕ) (images : D → ℕ → List ℕ → Type 0) (store : List ℕ) (workers : ℕ)
     (why : Why) (l l' : L) (c c' : C) (first second first' second' : D) (tale : List Entry) (notes : List Note) (U : Type 0)
     (ends : ServesAs why U (HasServed shows told listening answers tells attached seen moment images store workers why l l' c c' first second first' second' tale notes)) where
-  ended_so : (cause is : Ended) (w : World) → HasEnded workers (listening l) (listening l') w cause tale → cause ≡ is → HasEnded workers (listening l) (listening l') w is tale
-  ended_so cause is w h e = subst (λ (x : Ended). HasEnded workers (listening l) (listening l') w x tale) e h
-
-  S : Type 0
-  S = HasServed shows told listening answers tells attached seen moment images store workers why l l' c c' first second first' second' tale notes
-
   pub listening_failed : why ≡ ListenFault → Rose (listening l) (listening l')
   listening_failed e =
-      let s : S = subst (λ (x : Why). ServesAs x U S) e ends in
-      (ended_so s.cause ended.ListenFault s.start s.ended (cause_is s.cause ended.ListenFault ListenFault (sym s.answered ∙ e) refl)).0
-
-  pub all_spent : (turns : ℕ) → why ≡ Spent turns → (turns ≡ 2 ^ 62) × (2 ^ 62 ≤ length tale)
-  all_spent turns e =
-      let s : S = subst (λ (x : Why). ServesAs x U S) e ends in
-      ended_so s.cause (ended.Spent turns) s.start s.ended (cause_is s.cause (ended.Spent turns) (Spent turns) (sym s.answered ∙ e) refl)
+      let s : HasServed shows told listening answers tells attached seen moment images store workers why l l' c c' first second first' second' tale notes =
+      subst (λ (x : Why). ServesAs x U (HasServed shows told listening answers tells attached seen moment images store workers why l l' c c' first second first' second' tale notes)) e ends in
+      (subst (λ (x : Ended). HasEnded workers (listening l) (listening l') s.start x tale) (cause_is s.cause ended.ListenFault ListenFault (sym s.answered ∙ e) refl) s.ended).0
 
 -- where nothing stood in its way
 pub serves_all : (why : Why) (U S : Type 0) → ServesAs why U S → (why ≡ DiskFault → ⊥) → (why ≡ ListenFault → ⊥) → ((file : Bool) (at : ℕ) → why ≡ Damaged file at → ⊥)
@@ -257,34 +241,9 @@ drilled_scripted written faults n ListenFault before now tale ends = ends
 drilled_scripted written faults n (Spent turns) before now tale ends = ends
 drilled_scripted written faults n why before now tale ends = tt
 
--- whatever the command is that isn't a server's
-pub scripted_may : (command : Option Command) (why : Why) → is_served command ≡ false → (command ≡ None → why ≡ Usage) → ((store : List ℕ) → command ≡ Some (run store) → MayScript why) → ((n : ℕ) → command ≡ Some (drill n) → MayScript why) → MayScript why
-scripted_may None why is usage runs drills = subst MayScript (sym (usage refl)) tt
-scripted_may (Some (run store)) why is usage runs drills = runs store refl
-scripted_may (Some (drill n)) why is usage runs drills = drills n refl
-scripted_may (Some (serve store port workers)) why is usage runs drills = cc
-
-pub unscripted : (command : Option Command) → is_served command ≡ false → is_scripted command ≡ false → command ≡ None
-unscripted None is no = refl
-unscripted (Some (run store)) is no = cc
-unscripted (Some (drill n)) is no = cc
-unscripted (Some (serve store port workers)) is no = cc
-
--- And a server ends otherwise than by those of a script alone.
-
-abbrev pub MayServe : Why → Type 0
-MayServe Usage = ⊥
-MayServe (BadScript line) = ⊥
-MayServe ReadFault = ⊥
-MayServe WriteFault = ⊥
-MayServe why = Unit {0}
-
-pub serves_may : (why : Why) (U S : Type 0) → ServesAs why U S → MayServe why
-serves_may Usage U S ends = ends
-serves_may (BadScript line) U S ends = ends
-serves_may ReadFault U S ends = ends
-serves_may WriteFault U S ends = ends
-serves_may why U S ends = tt
-
-pub other_port : (a b : List ℕ) (p q m n : ℕ) → Some (serve a p m) ≡ Some (serve b q n) → (a ≡ b) × (m ≡ n)
-other_port a b p q m n e = (cc, cc)
+-- whatever the command is
+pub scripted_may : (command : Option Command) (why : Why) → (is_scripted command ≡ false → why ≡ Usage) → ((store : List ℕ) → command ≡ Some (run store) → MayScript why) → ((n : ℕ) → command ≡ Some (drill n) → MayScript why) → MayScript why
+scripted_may None why usage runs drills = subst MayScript (sym (usage refl)) tt
+scripted_may (Some (run store)) why usage runs drills = runs store refl
+scripted_may (Some (drill n)) why usage runs drills = drills n refl
+scripted_may (Some (serve store port workers)) why usage runs drills = subst MayScript (sym (usage refl)) tt

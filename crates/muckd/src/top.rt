@@ -177,11 +177,13 @@ pub fn muckd<
         → (result.why ≡ Why.Fine) ⊎ ((result.why ≡ Why.NoMemory) ⊎ (((end more : ℕ) × (result.why ≡ Why.StoreFull end more)) ⊎ ((turns : ℕ) × (result.why ≡ Why.Spent turns)))) }
 {
     match command_of(words) {
-        Some(Command::Serve {
-            store,
-            port,
-            workers,
-        }) => {
+        Some(
+            Command::Serve {
+                store,
+                port,
+                workers,
+            },
+        ) => {
             let (why, tale) = serve_store(
                 rt, alloc, store, port, workers, links, clock, first, second, gate, rest,
             );

@@ -10,11 +10,11 @@ awake-requires g c = record { bootable = bootable c.in-Ok.log.chosen.held.world 
 
 pub serve-why-requires-clause-fresh : goal.serve-why-requires-clause-fresh
 serve-why-requires-clause-fresh g c κs within =
-    (note_of g.D.Disk.moment g.D.Disk.faults c.mount.new.first c.mount.new.second (unbegun_at c.now-began.result c.in-Ok.log), fresh_begun _ _ _ _ c.in-Ok-awake.ensures.world)
+    (note_of g.D.Disk.moment g.D.Disk.faults c.mount.new.first c.mount.new.second (unbegun_at c.now-began.result c.in-Ok.log), fresh_begun c.now-began.result c.in-Ok.log (note_of g.D.Disk.moment g.D.Disk.faults c.mount.new.first c.mount.new.second (unbegun_at c.now-began.result c.in-Ok.log)) c.in-Ok-awake.world c.in-Ok-awake.ensures.world)
 
 pub serve-why-requires-clause-mounted : goal.serve-why-requires-clause-mounted
 serve-why-requires-clause-mounted g c κs within = λ tells.
-    (c.in-Ok.log.chosen.held.number, ready_begun c.now-began.result _ _ _ _ _ _ _ (bootable c.in-Ok.log.chosen.held.world c.in-Ok.ensures.fine) c.in-Ok-awake.ensures.properties (c.in-Ok.ensures.log tells) _ c.in-Ok-awake.ensures.world)
+    (c.in-Ok.log.chosen.held.number, ready_begun c.now-began.result g.D.Disk.seen g.D.Disk.moment g.D.Disk.images g.D.Disk.faults c.in-Ok.log c.mount.new.first c.mount.new.second (bootable c.in-Ok.log.chosen.held.world c.in-Ok.ensures.fine) c.in-Ok-awake.ensures.properties (c.in-Ok.ensures.log tells) c.in-Ok-awake.world c.in-Ok-awake.ensures.world)
 
 pub returns-clause-served : goal.returns-clause-served
 returns-clause-served g c =
@@ -24,9 +24,9 @@ returns-clause-served g c =
     c.in-Ok.log c.now-began.result note c.serve-why.result.0 c.args.links.now c.serve-why.new.links c.args.clock.now c.now-began.new.self c.serve-why.new.clock c.args.first.now c.args.second.now c.mount.new.first c.mount.new.second c.serve-why.new.first c.serve-why.new.second
     c.serve-why.result.1.entries c.serve-why.result.1.notes
     c.in-Ok.ensures.log c.in-Ok.ensures.fine c.in-Ok.ensures.first_name c.in-Ok.ensures.second_name c.in-Ok.ensures.first_file c.in-Ok.ensures.second_file c.now-began.ensures (refl, refl)
-    c.in-Ok-awake.world.start (start_begun _ _ _ _ c.in-Ok-awake.ensures.world)
-    (c.serve-why.ensures.served c.in-Ok.log.chosen.held.number note (fresh_begun _ _ _ _ c.in-Ok-awake.ensures.world)
-    (λ tells. ready_begun c.now-began.result _ _ _ _ _ _ _ boots c.in-Ok-awake.ensures.properties (c.in-Ok.ensures.log tells) _ c.in-Ok-awake.ensures.world))
+    c.in-Ok-awake.world.start (start_begun c.now-began.result c.in-Ok.log note c.in-Ok-awake.world c.in-Ok-awake.ensures.world)
+    (c.serve-why.ensures.served c.in-Ok.log.chosen.held.number note (fresh_begun c.now-began.result c.in-Ok.log note c.in-Ok-awake.world c.in-Ok-awake.ensures.world)
+    (λ tells. ready_begun c.now-began.result g.D.Disk.seen g.D.Disk.moment g.D.Disk.images g.D.Disk.faults c.in-Ok.log c.mount.new.first c.mount.new.second boots c.in-Ok-awake.ensures.properties (c.in-Ok.ensures.log tells) c.in-Ok-awake.world c.in-Ok-awake.ensures.world))
     c.why_served.result c.why_served.ensures
 
 pub returns-clause-disk_fault : goal.returns-clause-disk_fault
@@ -34,8 +34,8 @@ returns-clause-disk_fault g c = λ e.
     let note = note_of g.D.Disk.moment g.D.Disk.faults c.mount.new.first c.mount.new.second (unbegun_at c.now-began.result c.in-Ok.log) in
     let boots = bootable c.in-Ok.log.chosen.held.world c.in-Ok.ensures.fine in
     disk_failed _ _ _ _ _ _ _ _ _ _ _ _ _ _ _ _ _ _
-    (c.serve-why.ensures.served c.in-Ok.log.chosen.held.number note (fresh_begun _ _ _ _ c.in-Ok-awake.ensures.world)
-    (λ tells. ready_begun c.now-began.result _ _ _ _ _ _ _ boots c.in-Ok-awake.ensures.properties (c.in-Ok.ensures.log tells) _ c.in-Ok-awake.ensures.world))
+    (c.serve-why.ensures.served c.in-Ok.log.chosen.held.number note (fresh_begun c.now-began.result c.in-Ok.log note c.in-Ok-awake.world c.in-Ok-awake.ensures.world)
+    (λ tells. ready_begun c.now-began.result g.D.Disk.seen g.D.Disk.moment g.D.Disk.images g.D.Disk.faults c.in-Ok.log c.mount.new.first c.mount.new.second boots c.in-Ok-awake.ensures.properties (c.in-Ok.ensures.log tells) c.in-Ok-awake.world c.in-Ok-awake.ensures.world))
     _ _ c.in-Ok.ensures.first_later c.in-Ok.ensures.second_later (sym c.why_served.ensures ∙ e)
 
 pub returns-clause-damaged : goal.returns-clause-damaged
@@ -44,6 +44,6 @@ returns-clause-damaged g c = λ file at tells e.
     let boots = bootable c.in-Ok.log.chosen.held.world c.in-Ok.ensures.fine in
     absurd
     (not_damaged _ _ _ _ _ _ _ _ _ _ _ _ _ _ _ _ _ _
-    (c.serve-why.ensures.served c.in-Ok.log.chosen.held.number note (fresh_begun _ _ _ _ c.in-Ok-awake.ensures.world)
-    (λ tells. ready_begun c.now-began.result _ _ _ _ _ _ _ boots c.in-Ok-awake.ensures.properties (c.in-Ok.ensures.log tells) _ c.in-Ok-awake.ensures.world))
+    (c.serve-why.ensures.served c.in-Ok.log.chosen.held.number note (fresh_begun c.now-began.result c.in-Ok.log note c.in-Ok-awake.world c.in-Ok-awake.ensures.world)
+    (λ tells. ready_begun c.now-began.result g.D.Disk.seen g.D.Disk.moment g.D.Disk.images g.D.Disk.faults c.in-Ok.log c.mount.new.first c.mount.new.second boots c.in-Ok-awake.ensures.properties (c.in-Ok.ensures.log tells) c.in-Ok-awake.world c.in-Ok-awake.ensures.world))
     file at tells (sym c.why_served.ensures ∙ e))
