@@ -46,7 +46,7 @@ pub record HasDump {D : Type 0} (tells : Bool) (seen : D → List ℕ) (moment :
 -- How the world h, which is k now, came to its end, by how all parts ended.
 pub data IsFinish {D : Type 0} (tells : Bool) (seen : D → List ℕ) (moment : D → ℕ) (images : D → ℕ → List ℕ → Type 0) (faults : D → ℕ) (way : Way) (log : Option LogState) (first second first' second' : D) (h k : History) (why : Why) : Type 0 where
   dead : (now h).dead ≡ true → k ≡ h → why ≡ NoMemory → first' ≡ first → second' ≡ second → IsFinish tells seen moment images faults way log first second first' second' h k why
-  wanted : (way ≡ ends.Wanted) ⊎ (way ≡ ends.Alone) → k ≡ entered h (by 9 Died) → why ≡ NoMemory → first' ≡ first → second' ≡ second → IsFinish tells seen moment images faults way log first second first' second' h k why
+  wanted : (now h).dead ≡ false → (way ≡ ends.Wanted) ⊎ (way ≡ ends.Alone) → k ≡ entered h (by 9 Died) → why ≡ NoMemory → first' ≡ first → second' ≡ second → IsFinish tells seen moment images faults way log first second first' second' h k why
   spent : way ≡ ends.Spent → k ≡ h → why ≡ Spent (2 ^ 62) → first' ≡ first → second' ≡ second → IsFinish tells seen moment images faults way log first second first' second' h k why
   stopped : way ≡ ends.Stopped → HasDump tells seen moment images faults false log first second first' second' h k why → IsFinish tells seen moment images faults way log first second first' second' h k why
   deaf : way ≡ ends.Deaf → HasDump tells seen moment images faults true log first second first' second' h k why → IsFinish tells seen moment images faults way log first second first' second' h k why

@@ -1,5 +1,5 @@
 // All parts of a server over one world, until the run is over.
-ghost use Rattle.std.specs.Prelude.{◌≡◌, ◌<◌, ◌≤◌, ℕ, List, [], true, IfOk, vec_capacity};
+ghost use Rattle.std.specs.Prelude.{◌≡◌, ◌<◌, ◌≤◌, ℕ, List, [], true, IfOk, OnErr, vec_capacity};
 ghost use Rattle.muck_dumping.specs.inner.Between.{IsReady as HasLog};
 ghost use Rattle.muck_model.specs.declared.note.Note.{Note};
 ghost use Rattle.muck_porter.specs.Kept.{account};
@@ -98,6 +98,7 @@ pub fn run<
     requires fresh { (mounting : Note) × IsFresh mounting world }
     requires mounted { D.tells ≡ true → (mounted : ℕ) × HasLog D.seen D.moment D.images D.faults store.old.log first.old second.old mounted world }
     ensures tells { L.tells links.new ≡ L.tells links.old }
+    ensures none { OnErr result ((links.new ≡ links.old) × (clock.new ≡ clock.old) × (first.new ≡ first.old) × (second.new ≡ second.old)) }
     ensures ran { IfOk result (λ r. HasRun D.tells D.seen D.moment D.images D.faults (L.tells links.old) (account (L.told links.old) (L.listening links.old) (C.answers clock.old)) (account (L.told links.new) (L.listening links.new) (C.answers clock.new)) workers r.0 store.old.log store.new.log first.old second.old first.new second.new world r.1) }
 {
     let (turn, seat) = Turn::new(alloc, world)?;

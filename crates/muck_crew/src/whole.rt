@@ -1,5 +1,5 @@
 // A whole run of a server, with its last dump.
-ghost use Rattle.std.specs.Prelude.{◌≡◌, ◌<◌, ◌≤◌, ℕ, [], true, Some, IfSome, vec_capacity};
+ghost use Rattle.std.specs.Prelude.{◌≡◌, ◌<◌, ◌≤◌, ℕ, [], true, Some, IfSome, IfNone, vec_capacity};
 ghost use Rattle.muck_dumping.specs.inner.Between.{IsReady as HasLog};
 ghost use Rattle.muck_model.specs.declared.note.Note.{Note};
 ghost use Rattle.muck_porter.specs.Kept.{account};
@@ -48,6 +48,7 @@ pub fn serve_links<
     requires fresh { (mounting : Note) × IsFresh mounting world }
     requires mounted { D.tells ≡ true → (mounted : ℕ) × HasLog D.seen D.moment D.images D.faults (Some log) first.old second.old mounted world }
     ensures tells { L.tells links.new ≡ L.tells links.old }
+    ensures none { IfNone result ((links.new ≡ links.old) × (clock.new ≡ clock.old) × (first.new ≡ first.old) × (second.new ≡ second.old)) }
     ensures served { IfSome result (λ r. HasServed D.tells D.seen D.moment D.images D.faults (L.tells links.old) (account (L.told links.old) (L.listening links.old) (C.answers clock.old)) (account (L.told links.new) (L.listening links.new) (C.answers clock.new)) workers r.0 (Some log) first.old second.old first.new second.new world r.1) }
 {
     let mut store = Store::new(log);
