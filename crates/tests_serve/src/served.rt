@@ -34,12 +34,29 @@ fn counting(alloc: Global, seconds: u32) -> Result<ListClock, NoMemory> {
     Ok(ListClock::new(answers))
 }
 
+/// Both disks of a server.
+#[derive(Drop)]
+struct Disks {
+    first: FailDisk,
+    second: FailDisk,
+}
+
+// Disks that hold nothing; the first one fails the call of this number.
+fn empty(alloc: Global, fails: u32) -> Result<Disks, NoMemory> {
+    let first = MemDisk::new(alloc, &[])?;
+    let second = MemDisk::new(alloc, &[])?;
+    Ok(Disks {
+        first: FailDisk::new(first, u64::from(fails)),
+        second: FailDisk::new(second, u64::MAX),
+    })
+}
+
 // Serves the starting world, and dumps it in the end.
 #[tactic(auto, using(muck_run::proofs::Started::bootable, crate::proofs::Begun::fresh_begun, crate::proofs::Begun::ready_begun))]
 fn play<W: Threads + Wait + Clock + Sync + Copy>(
     rt: W,
     alloc: Global,
-    wanted: Wanted,
+    workers: u8,
     links: &mut ScriptLinks,
     clock: &mut ListClock,
     first: &mut FailDisk,
@@ -60,7 +77,7 @@ fn play<W: Threads + Wait + Clock + Sync + Copy>(
         second,
         &OpenGate,
         &NapRest { clock: rt },
-        wanted.workers.min(8),
+        workers.min(8),
         4201,
     );
     Ok(why)
@@ -78,28 +95,15 @@ fn add_sent(out: &mut String, bytes: &[u8]) -> Result<(), NoMemory> {
     Ok(())
 }
 
-/// Adds what comes of a server for these links.
-pub fn tell<W: Threads + Wait + Clock + Sync + Copy>(
-    rt: W,
-    alloc: Global,
-    wanted: Wanted,
-    links: ScriptLinks,
+// Adds why a server ended, how many bytes are stored, and what its links were sent.
+fn add_ended(
     out: &mut String,
+    why: Result<Why, NoMemory>,
+    stored: usize,
+    links: &ScriptLinks,
 ) -> Result<(), NoMemory> {
-    let mut links = links;
-    let mut clock = counting(alloc, wanted.seconds)?;
-    let mut first = FailDisk::new(MemDisk::new(alloc, &[])?, u64::from(wanted.fails));
-    let mut second = FailDisk::new(MemDisk::new(alloc, &[])?, u64::MAX);
-    let why = play(
-        rt,
-        alloc,
-        wanted,
-        &mut links,
-        &mut clock,
-        &mut first,
-        &mut second,
-    )?;
-    write!(out, "{why:?}, {} bytes", first.disk().bytes().len())?;
+    let why = why?;
+    write!(out, "{why:?}, {stored} bytes")?;
     for d in 0..LINKS {
         if let Some(bytes) = links.written(d) {
             write!(out, "; {d}< ")?;
@@ -107,4 +111,26 @@ pub fn tell<W: Threads + Wait + Clock + Sync + Copy>(
         }
     }
     Ok(())
+}
+
+/// Adds what comes of a server for these links.
+pub fn tell<W: Threads + Wait + Clock + Sync + Copy>(
+    rt: W,
+    alloc: Global,
+    wanted: Wanted,
+    links: &mut ScriptLinks,
+    out: &mut String,
+) -> Result<(), NoMemory> {
+    let mut clock = counting(alloc, wanted.seconds)?;
+    let mut disks = empty(alloc, wanted.fails)?;
+    let why = play(
+        rt,
+        alloc,
+        wanted.workers,
+        links,
+        &mut clock,
+        &mut disks.first,
+        &mut disks.second,
+    );
+    add_ended(out, why, disks.first.disk().bytes().len(), links)
 }

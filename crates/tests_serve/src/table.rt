@@ -30,6 +30,17 @@ impl<W: Threads + Wait + Clock + Sync + Copy> Table<W> {
         }
     }
 
+    // Adds what comes of a server with so many workers.
+    fn serve(&self, out: &mut String, workers: u8) -> Result<(), NoMemory> {
+        let wanted = Wanted {
+            workers,
+            seconds: self.seconds,
+            fails: self.fails,
+        };
+        let mut played = links(self.alloc, &self.steps)?;
+        tell(self.rt, self.alloc, wanted, &mut played, out)
+    }
+
     // Adds what is made of a row by this word; answers whether the word is one of these rows.
     fn add(&mut self, out: &mut String, word: &[u8], rest: &[u8]) -> Result<bool, NoMemory> {
         let mut words = Words { left: rest };
@@ -41,20 +52,7 @@ impl<W: Threads + Wait + Clock + Sync + Copy> Table<W> {
             }
             b"clock" => self.seconds = words.number(),
             b"fail-disk" => self.fails = words.number(),
-            b"serve" => {
-                let wanted = Wanted {
-                    workers: words.small(),
-                    seconds: self.seconds,
-                    fails: self.fails,
-                };
-                tell(
-                    self.rt,
-                    self.alloc,
-                    wanted,
-                    links(self.alloc, &self.steps)?,
-                    out,
-                )?;
-            }
+            b"serve" => self.serve(out, words.small())?,
             _ => return Ok(false),
         }
         Ok(true)
