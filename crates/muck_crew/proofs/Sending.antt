@@ -5,8 +5,13 @@ use denote.Hole.Fix.{holes}
 use denote.Hole.FixSend.{Sends, Syncs, fix_send, fix_sync}
 use denote.Model.Local.{Parts, rows}
 use denote.Model.Marks as knotted
-use denote.Param.Send.{IsSend, IsSync, sendable}
-use Rattle.std.proofs.Crossing.{crosses}
+use mir.Syntax.{Lifetime}
+use base.Fml.{Lft}
+use denote.Ref.{MutRef, ShrRef}
+use denote.Param.Send.{IsSend, IsSync, mut_send, sendable}
+use Rattle.std.proofs.Crossing.{crosses, sync}
+use Rattle.std.specs.contracts.alloc.Global as Heap
+use Rattle.std.specs.contracts.option.Option.{the_row as OptionOf}
 use Rattle.muck_model.specs.contracts.lock.Lock as Lock
 use Rattle.muck_model.proofs.boxed.Boxed.TheSendSync as boxed
 use Rattle.muck_model.proofs.line.Line.TheSendSync as line
@@ -39,6 +44,16 @@ use Rattle.muck_turns.proofs.dumps.Dumps.TheSendSync as dumps
 use Rattle.muck_turns.specs.contracts.state.State as State
 use Rattle.muck_machine.proofs.past.Past.TheSendSync as past
 use Rattle.muck_machine.specs.contracts.world.World as World
+use Rattle.muck_machine.specs.contracts.world.sharing.WorldStory.TheImpl as story
+use Rattle.muck_machine.specs.contracts.beginning.Beginning as Beginning
+use Rattle.spec_events.specs.contracts.logged.Logged as Logged
+use Rattle.atomic_table.specs.contracts.shared.Seat as Seat
+use Rattle.atomic_table.proofs.shared.Seat.TheSendSync as seat
+use Rattle.turn_lock.specs.contracts.view.View as View
+use Rattle.turn_lock.specs.contracts.turn.Turn as Turn
+use Rattle.turn_lock.proofs.turn.Turn.TheSendSync as turn
+use Rattle.muck_dumping.specs.contracts.store.Store as Store
+use Rattle.muck_dumping.proofs.store.Store.TheSendSync as store
 
 -- Locks.
 
@@ -162,5 +177,24 @@ queue_send = let p = process_send in search (of_frames, claim.the_send) depth 20
 state_send : IsSend State.the_row
 state_send = let q = queue_send in search (sendable, crosses, db.the_send, board.the_send, library.the_send, dumps.the_send) depth 20
 
-pub world_send : IsSend World.the_row
+world_send : IsSend World.the_row
 world_send = let s = state_send in search (sendable, crosses, past.the_field_send) depth 20
+
+-- What the parts of a server are lent: the lock, a seat of it each, the store of the dumps, and the allocator.
+
+pub turn_sync : IsSync (Turn.the_row World.the_row Logged.the_row Beginning.the_row story.ghosts)
+turn_sync = let w = world_send in search (sendable, turn.the_sync) depth 20
+
+pub seat_send : IsSend (Seat.the_row (OptionOf World.the_row) (View.the_row Logged.the_row Beginning.the_row))
+seat_send = let w = world_send in search (sendable, seat.the_send) depth 20
+
+pub seat_lent : (ℓ : Lifetime) (κ : Lft) → IsSend (MutRef ℓ κ (Seat.the_row (OptionOf World.the_row) (View.the_row Logged.the_row Beginning.the_row)))
+seat_lent ℓ κ = mut_send ℓ κ _ seat_send
+
+pub store_lent : (ℓ : Lifetime) (κ : Lft) → IsSend (MutRef ℓ κ Store.the_row)
+store_lent = search (sendable, store.the_send)
+
+pub heap_lent : (ℓ : Lifetime) (κ : Lft) → IsSend (ShrRef ℓ κ Heap.the_row)
+heap_lent = search (sendable, sync)
+
+pub ruleset lent = (sendable, turn_sync, seat_lent, store_lent, heap_lent)
