@@ -1,4 +1,4 @@
-use Rattle.std.proofs.Common.{◌≡◌, sym, subst, Option}
+use Rattle.std.proofs.Common.{sym, subst, Option}
 use Rattle.muck_log.specs.Store.{LogState}
 use Rattle.muck_dumping.specs.inner.Between.{IsReady as HasLog}
 use Rattle.muck_crew.proofs.whole.serve_links.Goals as goal
