@@ -1,59 +1,38 @@
 -- What the whole history says, once all seats are taken in and the lock is closed.
 use Rattle.std.proofs.Common.{◌≡◌, ◌⊎◌, inl, inr, ℕ, zero, suc, ◌+◌, ◌<◌, ◌≤◌, ◌^◌, ◌==◌, Bool, true, false, List, [], ◌∷◌, ◌++◌, length, map, refl, sym, ap, ◌∙◌, subst, arith, append_assoc, length-append, Option, Some, None}
 use Rattle.std.specs.Prelude.{slice_get, slice_index_or, All, take, drop}
-use Rattle.std.specs.List.{list_any}
-use Rattle.std.proofs.lemmas.List.{append-nil}
 use Rattle.std.proofs.lemmas.Option.{same_Some}
 use mathlib.Core.Option.{some, some-ne-none, some-injective}
 use lib.ListN.{get_elem?}
 use Rattle.atomic_table.specs.Seated.{TableId}
-use Rattle.turn_lock.specs.Histories.{StartsWith, kept, own_of, Has, AllOf, IsKnown}
+use Rattle.turn_lock.specs.Histories.{StartsWith, kept, own_of, Has}
 use Rattle.turn_lock.specs.declared.view.Taken.{Taken}
-use Rattle.turn_lock.specs.declared.view.Place.TheVariants.{Idle, Told}
-use Rattle.turn_lock.specs.inner.Turns.{kept_of, left_after, newcomer, taken_in}
+use Rattle.turn_lock.specs.declared.view.Place.TheVariants.{Idle}
+use Rattle.turn_lock.specs.inner.Turns.{kept_of, left_after, newcomer}
 use Rattle.turn_lock.proofs.Parts.{has_more}
-use Rattle.muck_io.specs.Faults.{Rose}
 use Rattle.muck_log.specs.Store.{LogState}
 use Rattle.muck_model.specs.declared.event.Entry.{Entry}
 use Rattle.muck_model.specs.declared.event.Event.{Event}
-use Rattle.muck_model.specs.declared.event.Event.TheVariants.{StopSeen, Died}
+use Rattle.muck_model.specs.declared.event.Event.TheVariants.{Died}
 use Rattle.muck_model.specs.declared.note.Note.{Note}
-use Rattle.spec_dumps.specs.Survival.{IsSafe}
-use Rattle.spec_dumps.specs.Holding.{Quietly, Keeps}
-use Rattle.spec_dumps.proofs.Quiet.{safe_quiet, keeps_quiet}
-use Rattle.spec_dumps.proofs.Idle.{idle_quiet}
 use Rattle.spec_events.specs.declared.logged.Logged.{Logged}
 use Rattle.spec_events.specs.World.{World}
 use Rattle.spec_events.specs.Steps.{is_died, is_lawful, effect, happened}
-use Rattle.spec_events.specs.Histories.{History, now, after, AllLawful, by_porter}
-use Rattle.spec_events.specs.Logged.{is_dump, logged, loose_notes, loose_count, logged_by, entry_of, entries_of, events_of, notes_of, notes_from, counted_from, count_from, items_from, history_of, IsSettled, IsPlaced, IsOrderly, bare_item}
-use Rattle.spec_events.proofs.Logging.{entries_logged, entries_append, events_append, notes_append, rebuilt}
+use Rattle.spec_events.specs.Histories.{History, now, after, AllLawful}
+use Rattle.spec_events.specs.Logged.{logged, loose_notes, loose_count, logged_by, entry_of, entries_of, events_of, notes_from, counted_from, items_from}
+use Rattle.spec_events.proofs.Logging.{entries_logged}
 use Rattle.spec_talks.specs.Parties.{party_of}
-use Rattle.spec_talks.specs.Talks.{talks}
-use Rattle.spec_serve.specs.Marks.{LinksNote}
-use Rattle.spec_serve.specs.Promises.{Tally, PromisedOf, OpenWorkedOff}
-use Rattle.spec_serve.proofs.Promising.{promised_whole}
 use Rattle.muck_machine.specs.declared.beginning.Beginning.{Beginning}
-use Rattle.muck_machine.specs.Beginnings.{beginning, begun, IsBegun}
+use Rattle.muck_machine.specs.Beginnings.{beginning, begun}
 use Rattle.muck_machine.specs.Seats.{Sight, Chair, Rests, AllOrderly}
-use Rattle.muck_machine.proofs.Seating.{settled_begun, begun_settled, others_none, others_quiet, orderly_back}
+use Rattle.muck_machine.proofs.Seating.{begun_settled}
 use Rattle.muck_dumping.specs.inner.Between.{IsReady as HasLog}
-use Rattle.muck_dumper.specs.Dumping.{history_from, history_seen, EndsWith, DumperReady, DumperDone}
-use Rattle.muck_dumper.specs.declared.dumping.Why.{Why as DumperWhy}
-use Rattle.muck_dumper.specs.declared.dumping.Why.TheVariants as dumper
-use Rattle.muck_worker.specs.Working.{WorkerReady, WorkerDone}
-use Rattle.muck_worker.specs.declared.working.Why.TheVariants as worker
-use Rattle.muck_porter.specs.Notes.{note_in}
-use Rattle.muck_porter.specs.Kept.{EndsWithStop}
-use Rattle.muck_porter.specs.Porter.{PorterReady, PorterDone}
-use Rattle.muck_porter.specs.declared.porting.Why.{Why as PorterWhy}
+use Rattle.muck_dumper.specs.Dumping.{history_from, history_seen}
+use Rattle.muck_porter.specs.Porter.{PorterReady}
 use Rattle.muck_crew.specs.declared.seats.Part.{Part}
-use Rattle.muck_crew.specs.declared.serving.Way.{Way}
-use Rattle.muck_crew.specs.declared.serving.Way.TheVariants.{Stopped, Deaf, Wanted, Alone, Spent}
-use Rattle.muck_crew.specs.Shared.{IsParty, IsShared, done_by, EndsStopped, LeavesWorkedOff}
-use Rattle.muck_crew.specs.inner.Parts.{IsAble, given_to, IsDealt, AreDealt, IsOver, AreOver, all_in, IsReady, IsDone, AreDone}
-use Rattle.muck_crew.specs.inner.Runs.{IsFresh, SomeWorker, AllFine, IsEndOf, HasStopped, HasRun}
-use Rattle.muck_crew.proofs.Seating.{given_low}
+use Rattle.muck_crew.specs.Shared.{done_by}
+use Rattle.muck_crew.specs.inner.Parts.{IsAble, given_to, IsDealt, AreDealt, all_in, IsReady, IsDone, AreDone}
+use Rattle.muck_crew.specs.inner.Runs.{IsFresh}
 
 none_some : {X : Type 0} (x : X) → None ≡ Some x → ⊥
 none_some x e = cc

@@ -1,7 +1,6 @@
 -- What all parts left of the world, once the lock is closed.
-use Rattle.std.proofs.Common.{◌≡◌, ◌⊎◌, inl, inr, ℕ, zero, suc, ◌+◌, ◌<◌, ◌≤◌, ◌^◌, Bool, true, false, List, [], ◌∷◌, ◌++◌, length, map, refl, sym, ap, ◌∙◌, subst, arith, append_assoc, length-append, Option, Some, None}
-use Rattle.std.specs.Prelude.{slice_get, slice_index_or}
-use Rattle.std.specs.List.{list_any}
+use Rattle.std.proofs.Common.{◌≡◌, ◌⊎◌, inl, inr, ℕ, zero, suc, ◌<◌, ◌≤◌, ◌^◌, Bool, true, List, [], ◌∷◌, ◌++◌, length, refl, sym, ap, ◌∙◌, subst, arith, append_assoc, length-append, Option, Some}
+use Rattle.std.specs.Prelude.{slice_get}
 use Rattle.std.proofs.lemmas.List.{append-nil}
 use mathlib.Core.Option.{some, some-ne-none, some-injective}
 use lib.ListN.{get_elem?}
@@ -11,26 +10,23 @@ use Rattle.turn_lock.specs.declared.view.Taken.{Taken}
 use Rattle.turn_lock.specs.declared.view.Place.{Place}
 use Rattle.turn_lock.specs.declared.view.Place.TheVariants.{Idle, Told}
 use Rattle.turn_lock.specs.inner.Turns.{kept_of, left_after, newcomer, taken_in}
-use Rattle.muck_io.specs.Faults.{Rose}
 use Rattle.muck_log.specs.Store.{LogState}
 use Rattle.muck_model.specs.declared.event.Entry.{Entry}
 use Rattle.muck_model.specs.declared.event.Event.{Event}
 use Rattle.muck_model.specs.declared.event.Event.TheVariants.{StopSeen, Died}
 use Rattle.muck_model.specs.declared.note.Note.{Note}
-use Rattle.spec_dumps.specs.Survival.{IsSafe}
-use Rattle.spec_dumps.specs.Holding.{Quietly, Keeps}
+use Rattle.spec_dumps.specs.Holding.{Quietly}
 use Rattle.spec_dumps.proofs.Quiet.{safe_quiet, keeps_quiet}
 use Rattle.spec_dumps.proofs.Idle.{idle_quiet}
 use Rattle.spec_events.specs.declared.logged.Logged.{Logged}
 use Rattle.spec_events.specs.World.{World}
 use Rattle.spec_events.specs.Histories.{History, now, after, AllLawful, by_porter}
-use Rattle.spec_events.specs.Logged.{is_dump, logged, logged_by, entry_of, entries_of, events_of, notes_of, IsSettled, IsPlaced, IsOrderly, bare_item}
+use Rattle.spec_events.specs.Logged.{logged, logged_by, entries_of, events_of, notes_of, IsSettled, IsPlaced, IsOrderly, bare_item}
 use Rattle.spec_events.specs.Own.{IsWellFormed}
 use Rattle.spec_events.proofs.Logging.{entries_logged, entries_append, events_append, notes_append, rebuilt}
 use Rattle.spec_talks.specs.Parties.{party_of}
 use Rattle.spec_talks.specs.Talks.{talks}
-use Rattle.spec_serve.specs.Marks.{LinksNote}
-use Rattle.spec_serve.specs.Promises.{Tally, PromisedOf, OpenWorkedOff}
+use Rattle.spec_serve.specs.Promises.{PromisedOf, OpenWorkedOff}
 use Rattle.spec_serve.proofs.Promising.{promised_whole}
 use Rattle.muck_machine.specs.declared.beginning.Beginning.{Beginning}
 use Rattle.muck_machine.specs.Beginnings.{beginning, begun}
@@ -51,12 +47,12 @@ use Rattle.muck_porter.specs.declared.porting.Why.{Why as PorterWhy}
 use Rattle.muck_porter.specs.declared.porting.Why.TheVariants as porter
 use Rattle.muck_crew.specs.declared.seats.Part.{Part}
 use Rattle.muck_crew.specs.declared.serving.Way.{Way}
-use Rattle.muck_crew.specs.declared.serving.Way.TheVariants.{Stopped, Deaf, Wanted, Alone, Spent}
-use Rattle.muck_crew.specs.Shared.{IsParty, IsShared, done_by, EndsStopped, LeavesWorkedOff}
-use Rattle.muck_crew.specs.inner.Parts.{given_to, AreDealt, AreOver, all_in, IsDone, AreDone}
+use Rattle.muck_crew.specs.declared.serving.Way.TheVariants.{Wanted, Spent}
+use Rattle.muck_crew.specs.Shared.{IsParty, done_by, EndsStopped, LeavesWorkedOff}
+use Rattle.muck_crew.specs.inner.Parts.{given_to, AreDealt, AreOver, all_in, AreDone}
 use Rattle.muck_crew.specs.inner.Runs.{IsFresh, SomeWorker, AllFine, IsEndOf, HasStopped, HasRun}
 use Rattle.muck_crew.proofs.Seating.{given_low, given_count}
-use Rattle.muck_crew.proofs.Closing.{own_entries_of, done_own, own_has, has_end, has_entry, entry_at, longer_than, died_at, got_there, WasDone, done_at, SameButJoined, in_same, in_count, in_has, in_kept, Begins, given_same, fresh_begun, fresh_history}
+use Rattle.muck_crew.proofs.Closing.{own_entries_of, done_own, own_has, has_end, has_entry, entry_at, longer_than, died_at, got_there, done_at, SameButJoined, in_same, in_count, in_has, in_kept, Begins, given_same, fresh_begun, fresh_history}
 
 -- What the lock says of a world that is closed, and of the first seat.
 pub record Shut (v : Sight) (h : History) : Type 0 where

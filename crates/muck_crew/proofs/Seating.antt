@@ -1,16 +1,13 @@
 -- Seats as they are given out and taken in.
-use Rattle.std.proofs.Common.{◌≡◌, ◌⊎◌, Bool, true, false, inl, inr, ℕ, zero, suc, ◌+◌, ◌<◌, ◌≤◌, List, [], ◌∷◌, ◌++◌, length, refl, sym, ap, ◌∙◌, subst, arith, append_assoc, length-append, Some, None}
+use Rattle.std.proofs.Common.{◌≡◌, ◌⊎◌, Bool, true, false, inl, inr, ℕ, zero, suc, ◌<◌, ◌≤◌, List, [], ◌∷◌, ◌++◌, length, refl, sym, ap, ◌∙◌, subst, arith, length-append, Some, None}
 use Rattle.std.specs.Prelude.{slice_get}
 use Rattle.std.proofs.lemmas.Option.{same_Some}
 use mathlib.Core.Option.{some, some-ne-none, some-injective}
 use lib.ListN.{get_elem?}
 use Rattle.atomic_table.specs.Seated.{TableId}
 use Rattle.turn_lock.specs.Histories.{Has}
-use Rattle.turn_lock.specs.declared.view.Taken.{Taken}
-use Rattle.turn_lock.specs.declared.view.Place.TheVariants.{Idle, Told}
-use Rattle.turn_lock.specs.inner.Turns.{kept_of, left_after, newcomer, taken_in}
-use Rattle.spec_events.specs.declared.logged.Logged.{Logged}
-use Rattle.muck_machine.specs.Seats.{Sight, Chair}
+use Rattle.turn_lock.specs.inner.Turns.{left_after, newcomer, taken_in}
+use Rattle.muck_machine.specs.Seats.{Sight}
 use Rattle.muck_crew.specs.declared.seats.Part.{Part}
 use Rattle.muck_crew.specs.inner.Parts.{given_to, IsDealt, AreDealt, IsOver, AreOver, all_in}
 

@@ -1,5 +1,5 @@
 -- How a run ends, once all parts have returned: the last dump.
-use Rattle.std.specs.Prelude.{◌≡◌, ◌⊎◌, ℕ, ◌≤◌, ◌^◌, Bool, true, false, List, Option, Some, None, Result, Ok, Err, IfOk}
+use Rattle.std.specs.Prelude.{◌≡◌, ◌⊎◌, ℕ, ◌^◌, Bool, true, false, List, Option, Some, None, Result, Ok, Err, IfOk}
 use Rattle.muck_io.specs.Faults.{Rose}
 use Rattle.muck_log.specs.Store.{LogState}
 use Rattle.muck_log.specs.declared.fault.LogFault.{LogFault}

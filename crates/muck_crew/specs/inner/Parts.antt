@@ -1,5 +1,5 @@
 -- The seats of a server as they are given out and taken in, and what its parts are given and leave.
-use Rattle.std.specs.Prelude.{◌≡◌, ◌⊎◌, ℕ, zero, suc, ◌<◌, ◌≤◌, ◌^◌, Bool, true, All, List, [], ◌∷◌, ◌++◌, length, slice_get, slice_index_or, Option, Some, None}
+use Rattle.std.specs.Prelude.{◌≡◌, ◌⊎◌, ℕ, zero, suc, ◌<◌, Bool, true, List, [], ◌∷◌, length, slice_get, slice_index_or, Option, Some}
 use Rattle.atomic_table.specs.Seated.{TableId}
 use Rattle.muck_log.specs.Store.{LogState}
 use Rattle.turn_lock.specs.inner.Turns.{left_after, newcomer, taken_in}

@@ -1,9 +1,8 @@
-use Rattle.std.proofs.Common.{◌≡◌, ◌⊎◌, ℕ, List, refl, sym, ap, ◌∙◌, subst, arith}
-use Rattle.std.proofs.lemmas.List.{nil_from_length}
+use Rattle.std.proofs.Common.{◌≡◌, ◌⊎◌, List, refl, sym, ap, ◌∙◌, subst}
 use Rattle.turn_lock.specs.declared.view.Place.TheVariants.{Idle, Told}
-use Rattle.muck_machine.specs.Seats.{Sight, Chair}
+use Rattle.muck_machine.specs.Seats.{Chair}
 use Rattle.muck_crew.specs.declared.seats.Part.{Part}
-use Rattle.muck_crew.specs.inner.Parts.{AreOver, all_in}
+use Rattle.muck_crew.specs.inner.Parts.{AreOver}
 use Rattle.muck_crew.proofs.Seating.{in_next, over_front}
 use Rattle.muck_crew.proofs.seats.take_in.Goals as goal
 

@@ -1,8 +1,8 @@
-use Rattle.std.proofs.Common.{◌≡◌, ℕ, ◌<◌, List, [], ◌∷◌, length, refl, sym, ap, ◌∙◌, subst, arith}
+use Rattle.std.proofs.Common.{◌≡◌, ℕ, ◌<◌, List, [], ◌∷◌, length, sym, ap, ◌∙◌, subst, arith}
 use Rattle.turn_lock.specs.Histories.{Has}
-use Rattle.turn_lock.specs.inner.Turns.{left_after, newcomer, taken_in}
+use Rattle.turn_lock.specs.inner.Turns.{left_after, newcomer}
 use Rattle.spec_events.specs.Histories.{History}
-use Rattle.muck_machine.specs.Seats.{Sight, Chair}
+use Rattle.muck_machine.specs.Seats.{Chair}
 use Rattle.muck_porter.specs.Kept.{account}
 use Rattle.muck_crew.specs.declared.seats.Part.{Part}
 use Rattle.muck_crew.specs.inner.Parts.{given_to, all_in}

@@ -1,4 +1,10 @@
+use Rattle.std.proofs.Common.{sym, subst, Option}
+use Rattle.muck_log.specs.Store.{LogState}
+use Rattle.muck_dumping.specs.inner.Between.{IsReady as HasLog}
 use Rattle.muck_crew.proofs.whole.serve_links.Goals as goal
 
 pub finish-why-requires-clause-mounted : goal.finish-why-requires-clause-mounted
-finish-why-requires-clause-mounted g c stop tells = let log = c.requires.mounted tells in (log.0, c.in-Ok.ensures.ran.ready stop log.0 tells log.1)
+finish-why-requires-clause-mounted g c stop tells =
+    let log = c.requires.mounted tells in
+    let there = subst (λ (o : Option LogState). HasLog g.D.Disk.seen g.D.Disk.moment g.D.Disk.images g.D.Disk.faults o c.args.first.now c.args.second.now log.0 c.args.world) (sym c.new-store.ensures) log.1 in
+    (log.0, c.in-Ok.ensures.ran.ready stop log.0 tells there)
