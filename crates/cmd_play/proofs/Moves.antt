@@ -68,7 +68,7 @@ here_kept pass d a typed mine theirs x y old new leave e =
     let objects : map without_props (objects_of new) ≡ map without_props (objects_of old) = ap (λ (w : Live). map without_props w.objects) e.0 ∙ notes.objects in
     let mine : place_of (objects_of new) y ≡ place_of (objects_of old) y = place_same (objects_of old) (objects_of new) objects y in
     let theirs : place_of (objects_of new) new.actor.player ≡ place_of (objects_of old) old.actor.player =
-        place_same (objects_of old) (objects_of new) objects new.actor.player ∙ ap (λ (b : Actor). place_of (objects_of old) b.player) e.1.0 in
+    place_same (objects_of old) (objects_of new) objects new.actor.player ∙ ap (λ (b : Actor). place_of (objects_of old) b.player) e.1.0 in
     ap (λ (p : Dbref). same p (place_of (objects_of new) new.actor.player)) mine ∙ ap (λ (p : Dbref). same (place_of (objects_of old) y) p) theirs ∙ take_allowed (objects_of old) old.actor y leave.2
 
 -- What is carried is at hand.

@@ -3,7 +3,7 @@ use Rattle.std.proofs.Common.{ℕ, Bool, true, false, List, [], ◌∷◌, Optio
 use Rattle.muck_model.specs.declared.dbref.Dbref.{Dbref}
 use Rattle.spec_live.specs.Lives.{tell}
 use Rattle.spec_rights.proofs.Licences.{Quiet, quiet_unchanged}
-use Rattle.spec_rights.proofs.Shown.{shown, quiet_tell}
+use Rattle.spec_rights.proofs.Shown.{quiet_tell}
 use Rattle.spec_commands.specs.Replies.{goodbye, has_disconnected}
 use Rattle.spec_live.proofs.Keeping.{keeps_followed, keeps_reading, keeps_either}
 use Rattle.spec_commands.specs.Talk.{welcome, refused_login, let_in, logged_in, connecting, quit, at_login, parting, parted}

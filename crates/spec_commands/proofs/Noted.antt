@@ -1,5 +1,5 @@
 -- What players see by messages touches notes alone: properties, what waits to be sent and the state of the random numbers.
-use Rattle.std.proofs.Common.{◌≡◌, ℕ, zero, suc, Bool, true, false, cond, List, [], ◌∷◌, refl, sym, ◌∙◌, ap, Option, Some, None}
+use Rattle.std.proofs.Common.{◌≡◌, ℕ, zero, suc, true, false, cond, List, [], ◌∷◌, refl, sym, ◌∙◌, ap, Option, Some, None}
 use Rattle.std.specs.Prelude.{map, slice_get}
 use Rattle.std.specs.Option.{option_map, option_map_or, option_and_then}
 use Rattle.std.specs.FinMap as props
@@ -10,9 +10,9 @@ use Rattle.spec_live.specs.Objects.{Entry, nothing, is_garbage, index_of, object
 use Rattle.spec_rights.specs.Verdict.{place_of}
 use Rattle.muck_model.specs.declared.dbref.Dbref.{Dbref}
 use Rattle.spec_live.specs.Connections.{Connection, has_number, changed_in, told}
-use Rattle.spec_live.specs.Boards.{on_connection, told_one}
-use Rattle.spec_live.specs.Lives.{Live, Change, on_board, unchanged, tell, tell_others}
-use Rattle.spec_live.proofs.Keeping.{Keeps, Order, keeping, keeps_followed, keeps_reading, keeps_unchanged}
+use Rattle.spec_live.specs.Boards.{told_one}
+use Rattle.spec_live.specs.Lives.{Change, unchanged, tell, tell_others}
+use Rattle.spec_live.proofs.Keeping.{Keeps, keeping, keeps_followed, keeps_reading, keeps_unchanged}
 use Rattle.spec_rights.specs.declared.act.Actor.{Actor}
 use Rattle.spec_mpi.specs.Messages.{heard, variables_of, shown, spoken as said_of}
 use Rattle.spec_mpi.specs.Touching.{without_props, without_output, TouchesNotes}
@@ -49,9 +49,11 @@ ruleset noting = (keeping, touching_order, notes_unchanged, notes_tell, notes_te
 
 notes_spoken : (a : Actor) (x : Dbref) (how : List ℕ) (typed : Typed) (text : List ℕ) (go : List ℕ → Change) → ((t : List ℕ) → Notes (go t)) → Notes (spoken a x how typed text go)
 unfolding spoken said_of
-notes_spoken a x how typed text go q = record { law = λ w.
-    let said = heard a x text (variables_of how typed.word typed.rest) w in
-    touching_order.both w said.1 _ (heard_touches a x text (variables_of how typed.word typed.rest) w) ((q (shown said.0)).law said.1) }
+notes_spoken a x how typed text go q = record {
+  law = λ w.
+      let said = heard a x text (variables_of how typed.word typed.rest) w in
+      touching_order.both w said.1 _ (heard_touches a x text (variables_of how typed.word typed.rest) w) ((q (shown said.0)).law said.1);
+}
 
 notes_spoken_some : (a : Actor) (typed : Typed) (m : Message) (x : Dbref) (otherwise : Change) (go : List ℕ → Change) (message : Option (List ℕ)) → Notes otherwise → ((t : List ℕ) → Notes (go t)) → Notes (spoken_some a typed m x otherwise go message)
 notes_spoken_some a typed m x otherwise go (Some text) p q = notes_spoken a x (message_how m) typed text go q
