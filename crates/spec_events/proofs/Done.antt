@@ -35,14 +35,14 @@ use Rattle.spec_commands.proofs.Edited.{edited_proper}
 use Rattle.spec_commands.proofs.Sources.{edited_rewrites}
 use Rattle.muck_queue.specs.declared.process.Process.{Process}
 use Rattle.muck_queue.specs.Queues.{reader, on_process, told_line, without}
-use Rattle.spec_commands.proofs.Numbered.{numbers, numbers-ties, numbers-same_ties, leavers_ties, Seats, Seating, seating_quiet, seating_order}
+use Rattle.spec_commands.proofs.Numbered.{numbers, numbers-ties, numbers-same_ties, leavers_ties, Seating, seating_quiet, seating_order}
 use Rattle.spec_commands.proofs.Lines.{seating_at_login}
 use Rattle.spec_admin.specs.Parameters.{IsInRange}
 use Rattle.spec_events.specs.World.{World, on_live, on_queue}
 use Rattle.spec_events.specs.Following.{swept, settled}
 use Rattle.spec_events.specs.Lines.{with_editor, next_editor, after_edit, edited_line, in_editor, editor_on, typed, left_by, followed_up, in_world, program_aborted, is_abort, given_line, line_for, line_done, done}
 use Rattle.spec_events.specs.Endings.{ProcessesLicensed, NoProcess, MayEnd, by_actor, EndsReading}
-use Rattle.spec_events.specs.Licences.{Untouched, Undisturbed, LineLicensed, TurnLicensed}
+use Rattle.spec_events.specs.Licences.{Undisturbed, LineLicensed, TurnLicensed}
 use Rattle.spec_events.proofs.Quietly.{Still, still_of, Quietly, quietly_both, quietly_live, quietly_queue, quietly_swept, quietly_launched, quietly_compiled}
 use Rattle.spec_events.proofs.Told.{licensed_told, licensed_as}
 use Rattle.spec_events.proofs.Typed.{MayRetune, typed_retunes, waited_open}

@@ -3,10 +3,9 @@ use Rattle.std.proofs.Common.{◌≡◌, ℕ, Bool, true, false, cond, zero, suc
 use Rattle.std.specs.Prelude.{codes, map, slice_get}
 use Rattle.std.specs.Option.{option_and_then}
 use Rattle.muck_model.specs.declared.dbref.Dbref.{Dbref}
-use Rattle.spec_live.specs.declared.mark.Mark.{Mark}
 use Rattle.spec_live.specs.Objects.{Entry, mark_in}
 use Rattle.spec_live.specs.Boards.{leaving_one}
-use Rattle.spec_live.specs.Lives.{Live, Change, followed, reading, either, ◌▸◌, tell, leave, enter, on_board}
+use Rattle.spec_live.specs.Lives.{Live, Change, followed, reading, either, ◌▸◌, tell, leave, enter}
 use Rattle.spec_live.proofs.Keeping.{Keeps, keeps_followed}
 use Rattle.spec_rights.specs.declared.act.Actor.{Actor}
 use Rattle.spec_rights.specs.Licence.{Licensed, nobody}

@@ -14,14 +14,13 @@ use Rattle.muck_model.specs.declared.event.Event.TheVariants.{Opened, Input, Clo
 use Rattle.spec_live.specs.Objects.{Entry as Kept, mark_in, nothing}
 use Rattle.spec_live.specs.Connections.{Connection, has_number, changed_in, placed, without, left, seated, newcomer}
 use Rattle.spec_live.specs.Boards.{player_in, opened, closed, line_added, bytes_taken, seated_one, leaving_one, early_board}
-use Rattle.spec_live.specs.Lives.{Live, Change, followed, reading, either, ◌▸◌, tell, leave, enter, on_board}
+use Rattle.spec_live.specs.Lives.{Live, Change, followed, reading, either, tell, leave, enter, on_board}
 use Rattle.spec_rights.specs.declared.act.Actor.{Actor}
 use Rattle.spec_rights.proofs.Licences.{Quiet, ties_same}
-use Rattle.spec_rights.proofs.Shown.{shown, quiet_tell, quiet_one}
+use Rattle.spec_rights.proofs.Shown.{quiet_tell, quiet_one}
 use Rattle.spec_commands.specs.Texts.{first_word, other_words, trimmed, is_alike}
-use Rattle.spec_commands.specs.Replies.{goodbye, has_connected}
-use Rattle.spec_commands.specs.Messages.{look_typed}
-use Rattle.spec_commands.specs.Finding.{actor_of, shown_others, looked}
+use Rattle.spec_commands.specs.Replies.{goodbye}
+use Rattle.spec_commands.specs.Finding.{actor_of}
 use Rattle.spec_commands.specs.Talking.{who_shown}
 use Rattle.spec_commands.specs.Talk.{welcome, refused_login, proved, let_in, logged_in, connecting, quit, at_login, waits, parted, gone_away}
 use Rattle.spec_commands.specs.Rising.{IsAbove, IsRising}
