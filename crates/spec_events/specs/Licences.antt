@@ -8,6 +8,8 @@ use Rattle.spec_live.specs.Objects.{Entry}
 use Rattle.spec_live.specs.Connections.{Connection, has_number}
 use Rattle.spec_live.specs.Lives.{Live}
 use Rattle.spec_rights.specs.declared.act.Actor.{Actor}
+use Rattle.muf_model.specs.Unit.{Outcome, asks, unit}
+use Rattle.spec_prims.specs.Formulas.{answers_for}
 use Rattle.spec_rights.specs.Licence.{Freedom, Licensed, LeaversLicensed, editing, nobody}
 use Rattle.spec_commands.specs.Finding.{actor_of}
 use Rattle.spec_commands.specs.Free.{free_line}
@@ -44,11 +46,19 @@ LineLicensed d None (Some player) editor (line ∷ lines) w v =
     × ProcessesLicensed (MayEnd (actor_of w.live.objects player) w.live v.live) w v
 LineLicensed d reader player editor lines w v = Undisturbed (has_number d) w v
 
--- A unit changes only what is open to the running program, by the rights before it. Of the processes it ends its own, such as
--- it may end by those rights, and such as run a program that it changed.
+-- who answers for what a unit changes: the running program, but where the unit is a formula its player, by the player's own rights
+abbrev pub answers_at : Outcome → Actor → List Entry → Actor
+answers_at (asks p s) a es = answers_for p a es
+answers_at o a es = a
+
+abbrev pub answering : Taken → Actor
+answering t = answers_at (unit t.state) t.actor t.before.live.objects
+
+-- A unit changes only what is open to whom answers for it, by the rights before it. Of the processes it ends its own, such as
+-- the running program may end by those rights, and such as run a program that it changed.
 abbrev pub UnitLicensed : ℤ → Taken → Type 0
 UnitLicensed pid t =
-    Licensed t.actor nobody t.before.live (after_unit t).live
+    Licensed (answering t) nobody t.before.live (after_unit t).live
     × ProcessesLicensed (EndsIn pid t.actor t.before.live (after_unit t).live) t.before (after_unit t)
 
 -- A unit of the process begins in this world: at the state where the process stands in it, and by who acts there.
