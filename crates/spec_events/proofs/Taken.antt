@@ -139,7 +139,7 @@ mark_shown es n = ap (λ o. option_and_then (λ (e : Entry). e.mark) o) (slice_g
     at None = refl
     at (Some e) = refl
 
-told_touched : (w v : Live) → TouchesNotes w v → IsTold w → IsTold v
+pub told_touched : (w v : Live) → TouchesNotes w v → IsTold w → IsTold v
 told_touched w v t h n = sym (mark_shown v.objects n) ∙ ap (λ es. mark_in es n) t.objects ∙ mark_shown w.objects n ∙ h n
 
 told_row : (a : Actor) (s : Source) (w : World) (row : Row) → RowOpen a w.live row → IsTold w.live → DeedTold (lifted s w row)

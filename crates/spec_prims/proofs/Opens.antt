@@ -217,7 +217,7 @@ opens_parse a (int i ∷ text how ∷ text formula ∷ object this ∷ []) w =
     opens_answered done.0 b w done.1 (opens_heard b (numbered this) formula vars w) (heard_touches b (numbered this) formula vars w)
 opens_parse a _ w = tt
 
-formula_is : (p : Primitive) → is_formula p ≡ true → p ≡ ParseMpi
+pub formula_is : (p : Primitive) → is_formula p ≡ true → p ≡ ParseMpi
 formula_is ParseMpi e = refl
 formula_is _ e = absurd cc
 
