@@ -7,6 +7,7 @@ use Rattle.spec_live.specs.declared.mark.Mark.{Mark}
 use Rattle.spec_live.specs.Objects.{Entry, dbref_of, mark_in}
 use Rattle.spec_live.specs.Marks.{unmarked}
 use Rattle.spec_live.specs.Lives.{Live}
+use Rattle.spec_rights.specs.declared.act.Actor.{Actor}
 use Rattle.muf_model.specs.declared.fault.MufFault.{MufFault}
 use Rattle.muf_model.specs.declared.prims.Primitive.{Primitive as Name}
 use Rattle.muf_model.specs.declared.prims.Primitive.TheVariants.{ParseMpi}
@@ -74,12 +75,14 @@ notes_row s w (gives stack live) h told = h
 notes_row s w (refuses f) h told = touching_order.itself w.live
 notes_row s w (breaks f live) h told = h
 
+notes_formula : (pid : ℤ) (x : Agent) (s : Source) (w : World) (told : IsTold w.live) → DeedNotes w.live told (deed pid x ParseMpi s w)
+unfolding deed row_done
+notes_formula pid x s w told =
+    let a : Actor = acting x s w.live.objects in
+    notes_row s w (shared ParseMpi a x.descr (locked_of s.marks) s.stack w.live) (formula_touches a x.descr (locked_of s.marks) s.stack w.live) told
+
 notes_deed : (pid : ℤ) (x : Agent) (p : Name) (s : Source) (w : World) (told : IsTold w.live) → is_formula p ≡ true → DeedNotes w.live told (deed pid x p s w)
-notes_deed pid x p s w told is = subst (λ (q : Name). DeedNotes w.live told (deed pid x q s w)) (sym (formula_is p is)) formula
-  where
-    formula : DeedNotes w.live told (deed pid x ParseMpi s w)
-    unfolding deed row_done
-    formula = notes_row s w (shared ParseMpi (acting x s w.live.objects) x.descr (locked_of s.marks) s.stack w.live) (formula_touches (acting x s w.live.objects) x.descr (locked_of s.marks) s.stack w.live) told
+notes_deed pid x p s w told is = subst (λ (q : Name). DeedNotes w.live told (deed pid x q s w)) (sym (formula_is p is)) (notes_formula pid x s w told)
 
 notes_unit : (pid : ℤ) (x : Agent) (program : ℤ) (o : Outcome) (w : World) → IsTold w.live → NotesAt o w.live (world_of (unit_done pid x program o w)).live
 notes_unit pid x program (asks p t) w told = λ is. notes_after w.live told pid x.player t (deed pid x p t (out pid w)) (notes_deed pid x p t (out pid w) told is)
