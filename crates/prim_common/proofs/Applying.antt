@@ -83,7 +83,7 @@ untouched_as old new e = (ap (λ (g : Guard). world_of g) e, (ap (λ (g : Guard)
 makes_fault : (rest : List Datum) (row : Row) (f : Shown) (old new : Guard) (h : PrimFault) → Makes row old new (Err h) → Applied (given_upon rest row) f f old new (Err h)
 makes_fault rest (gives items w) f old new (Fault h) m = absurd m
 makes_fault rest (refuses e) f old new (Fault h) m = (m.0, refl, untouched_as old new m.1)
-makes_fault rest (breaks e w) f old new (Fault h) m = (m.0, refl, m.1.0, m.1.1)
+makes_fault rest (breaks e w) f old new (Fault h) m = (m.0, refl, m.1, m.2)
 makes_fault rest row f old new NoMemory m = row_wants (given_upon rest row) f f old new (same row m)
   where
     same : (row : Row) → Makes row old new (Err NoMemory) → Same old new
