@@ -17,11 +17,16 @@ use Rattle.spec_commands.specs.declared.typed.Typed.{Typed}
 use Rattle.spec_commands.specs.declared.word.Message.{Message}
 use Rattle.spec_commands.specs.Going.{may_move, is_carried, both_shown}
 use Rattle.spec_commands.proofs.Showing.{quiet_shown_others}
-use Rattle.spec_commands.proofs.Gone.{quiet_both_shown, item_kind}
+use Rattle.std.specs.Prelude.{map}
+use Rattle.spec_rights.specs.declared.act.Act.TheVariants.{Take}
+use Rattle.spec_rights.proofs.Allowed.{take_allowed}
+use Rattle.spec_mpi.specs.Touching.{without_props}
+use Rattle.spec_commands.proofs.Noted.{notes_both_shown, place_same}
+use Rattle.spec_commands.proofs.Gone.{item_kind}
 use Rattle.muck_perm.specs.declared.rules.Pass.{Pass}
 use Rattle.muck_perm.specs.declared.guard.Guard.{Guard}
 use Rattle.muck_perm.specs.Verdicts.{IsVerdict}
-use Rattle.muck_perm.specs.Guards.{Makes, Done, Did, IsLeave, objects_of, world_of}
+use Rattle.muck_perm.specs.Guards.{Makes, Done, Did, IsLeave, IsGiven, is_here, objects_of, world_of}
 
 -- Moves.
 
@@ -53,12 +58,18 @@ quietly_shown player tail old new (Err error) e = tt
 pub leave_given : (es : List Entry) (a : Actor) (act : Act) (pass : Pass) (g : Guard) → es ≡ objects_of g → a ≡ g.actor → IsVerdict (verdict es a act) a act (Ok pass) → IsLeave pass act g
 leave_given es a act pass g objects actor v = (v.1 ∙ actor, v.2, rw (sym objects, sym actor) v.0)
 
--- leave stays after messages
-pub leave_kept : (pass : Pass) (act : Act) (d : ℕ) (a : Actor) (typed : Typed) (mine theirs : Message) (x : Dbref) (old new : Guard) → IsLeave pass act old → Done (both_shown d a typed mine theirs x) old new → IsLeave pass act new
-leave_kept pass act d a typed mine theirs x old new leave e =
-    let actor : new.actor ≡ old.actor = e.1.0 in
-    let objects : objects_of new ≡ objects_of old = quiet_kept _ old new (quiet_both_shown d a typed mine theirs x) e in
-    (leave.0 ∙ sym actor, leave.1, rw (actor, objects) leave.2)
+-- after messages a pass is for the same actor, and what is taken lies where the player is
+pub pass_kept : (pass : Pass) (act : Act) (d : ℕ) (a : Actor) (typed : Typed) (mine theirs : Message) (x : Dbref) (old new : Guard) → IsLeave pass act old → Done (both_shown d a typed mine theirs x) old new → IsGiven pass act new
+pass_kept pass act d a typed mine theirs x old new leave e = (leave.0 ∙ sym e.1.0, leave.1)
+
+pub here_kept : (pass : Pass) (d : ℕ) (a : Actor) (typed : Typed) (mine theirs : Message) (x y : Dbref) (old new : Guard) → IsLeave pass (Take y) old → Done (both_shown d a typed mine theirs x) old new → is_here y new ≡ true
+here_kept pass d a typed mine theirs x y old new leave e =
+    let notes = (notes_both_shown d a typed mine theirs x).law (world_of old) in
+    let objects : map without_props (objects_of new) ≡ map without_props (objects_of old) = ap (λ (w : Live). map without_props w.objects) e.0 ∙ notes.objects in
+    let mine : place_of (objects_of new) y ≡ place_of (objects_of old) y = place_same (objects_of old) (objects_of new) objects y in
+    let theirs : place_of (objects_of new) new.actor.player ≡ place_of (objects_of old) old.actor.player =
+    place_same (objects_of old) (objects_of new) objects new.actor.player ∙ ap (λ (b : Actor). place_of (objects_of old) b.player) e.1.0 in
+    ap (λ (p : Dbref). same p (place_of (objects_of new) new.actor.player)) mine ∙ ap (λ (p : Dbref). same (place_of (objects_of old) y) p) theirs ∙ take_allowed (objects_of old) old.actor y leave.2
 
 -- What is carried is at hand.
 

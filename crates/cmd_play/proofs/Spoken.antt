@@ -6,11 +6,20 @@ use Rattle.spec_live.specs.Lives.{Change}
 use Rattle.spec_rights.specs.declared.act.Actor.{Actor}
 use Rattle.spec_commands.specs.declared.typed.Typed.{Typed}
 use Rattle.spec_commands.specs.declared.word.Message.{Message}
-use Rattle.spec_commands.specs.Messages.{with_message}
+use Rattle.std.specs.Prelude.{IfOk}
+use Rattle.std.proofs.Common.{◌≡◌, ap}
+use Rattle.spec_mpi.specs.Messages.{spoken as said_of}
+use Rattle.spec_commands.specs.Messages.{spoken, with_message}
 use Rattle.muck_perm.specs.declared.guard.Guard.{Guard}
-use Rattle.muck_perm.specs.Guards.{Same, Did, Done}
+use Rattle.muck_perm.specs.Guards.{Same, Did, Done, world_of}
 use Rattle.muck_perm.proofs.Worlds.{kept_after, same_after}
-use Rattle.cmd_play.specs.Speaking.{Says}
+use Rattle.cmd_play.specs.Speaking.{Speaks, Says}
+
+pub was_said : (a : Actor) (x : Dbref) (how : List ℕ) (typed : Typed) (text : List ℕ) (old new : Guard) (r : Result (List ℕ) NoMemory) →
+    IfOk r (λ line. line ≡ (said_of a x how typed.word typed.rest text (world_of old)).0) → Did (λ w. (said_of a x how typed.word typed.rest text w).1) old new r → Speaks (spoken a x how typed text) old new r
+unfolding spoken
+was_said a x how typed text old new (Ok line) e h = (h.1, λ go. ap (λ t. go t (said_of a x how typed.word typed.rest text (world_of old)).1) (sym e) ∙ ap (go line) (sym h.0))
+was_said a x how typed text old new (Err fault) e h = h
 
 pub was_spoken : {X : Type 0} (a : Actor) (typed : Typed) (m : Message) (x : Dbref) (otherwise : Change) (go : List ℕ → Change) (old mid new : Guard) (text : List ℕ) (r : Result X NoMemory) →
     Says (with_message a typed m x) old mid (Ok (Some text)) → Did (go text) mid new r → Did (with_message a typed m x otherwise go) old new r

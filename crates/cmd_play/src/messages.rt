@@ -1,5 +1,6 @@
 // The messages of objects, and the one way by which they reach anybody.
-ghost use Rattle.std.specs.Prelude.{◌≡◌, ◌∷◌};
+ghost use Rattle.std.specs.Prelude.{◌≡◌, ◌∷◌, None};
+ghost use Rattle.muck_model.specs.Bytes.{text_fault};
 ghost use Rattle.spec_commands.specs.Messages.{message_how, spoken, with_message};
 ghost use Rattle.spec_commands.specs.Finding.{shown_others, message_or, message_shown, message_to_others};
 ghost use Rattle.spec_commands.specs.Going.{both_shown};
@@ -13,7 +14,8 @@ use spec_commands::{Message, Typed};
 
 // How a message is called where it is spoken.
 fn how_of(message: Message) -> &'static [u8]
-    ensures { result.now ≡ message_how message }
+    ensures how { result.now ≡ message_how message }
+    ensures text { text_fault result.now ≡ None }
 {
     match message {
         Message::Describe => b"(@desc)",
@@ -26,8 +28,8 @@ fn how_of(message: Message) -> &'static [u8]
     }
 }
 
-// A text that an object carries is spoken by the rights of the actor. It is spoken as it stands.
-#[tactic(auto, unfolding(spec_commands::specs::Messages::spoken))]
+// A text that an object carries is spoken by the rights of the actor.
+#[tactic(auto, using(crate::proofs::Spoken::was_said))]
 fn spoken(
     guard: &mut Guard,
     x: Dbref,
@@ -35,13 +37,10 @@ fn spoken(
     typed: &Typed,
     text: Line,
 ) -> Result<Line, NoMemory>
+    requires { text_fault how.now ≡ None }
     ensures { Speaks (spoken guard.old.actor x how.now typed.now text) guard.old guard.new result }
 {
-    let _ = guard.actor();
-    let _ = x;
-    let _ = how;
-    let _ = typed;
-    Ok(text)
+    muck_mpi::speak(guard, x, how, &typed.word, &typed.rest, &text)
 }
 
 // A message of an object is spoken once, where it has one.

@@ -6,7 +6,7 @@ ghost use Rattle.spec_rights.specs.declared.act.Act.TheVariants.{Take as TakeIt}
 ghost use Rattle.spec_rights.specs.Asking.{asked, refused};
 ghost use Rattle.spec_commands.specs.Replies.{taken_reply, dropped_reply};
 ghost use Rattle.spec_commands.specs.Going.{moving, succeeded, drop_shown, is_item, not_taken, taken, is_carried, drop_place, dropped};
-ghost use Rattle.muck_perm.specs.Guards.{Did, IsLeave, world_of};
+ghost use Rattle.muck_perm.specs.Guards.{Did, IsGiven, is_here, world_of};
 
 use crate::going::{fail, link_at};
 use crate::looking::is_room;
@@ -63,7 +63,8 @@ fn not_taken(
 // The player has leave to take it; the world may refuse it.
 #[tactic(auto, using(crate::proofs::Moves::movings), unfolding(spec_commands::specs::Going::moving, spec_commands::specs::Finding::where_so, spec_live::specs::Lives::reading, spec_live::specs::Lives::either, spec_live::specs::Lives::followed, spec_commands::specs::Replies::taken_reply))]
 fn pick_up(guard: &mut Guard, d: u32, pass: Pass, x: Dbref) -> Result<(), NoMemory>
-    requires { IsLeave pass (TakeIt x) guard.old }
+    requires given { IsGiven pass (TakeIt x) guard.old }
+    requires here { is_here x guard.old ≡ true }
     ensures { Did (moving d x guard.old.actor.player (tell d taken_reply)) guard.old guard.new result }
 {
     match guard.take(pass, x) {

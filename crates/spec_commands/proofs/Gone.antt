@@ -1,7 +1,7 @@
 -- How players go, take, drop and recycle is open to them.
 use Rattle.std.proofs.Common.{◌≡◌, ℕ, true, false, List, refl, sym, ◌∙◌, ap, Option, Some, None}
 use Rattle.std.specs.Prelude.{Result, Ok, Err, ◌&&◌, ◌||◌}
-use Rattle.spec_live.proofs.Keeping.{keeps_where}
+use Rattle.spec_live.proofs.Keeping.{keeps_where, keeps_either}
 use Rattle.std.proofs.lemmas.Bool.{and_from, and_parts, or_left, or_right}
 use Rattle.std.specs.Option.{option_map_or}
 use Rattle.muck_model.specs.declared.dbref.Dbref.{Dbref}
@@ -20,7 +20,7 @@ use Rattle.spec_rights.specs.declared.act.Act.TheVariants.{Take, Recycle}
 use Rattle.spec_rights.specs.Verdict.{verdict, place_of}
 use Rattle.spec_rights.specs.Changing.{recycled_now}
 use Rattle.spec_rights.specs.Licence.{Freedom, at_hand, at_hand_kind}
-use Rattle.spec_rights.proofs.Licences.{Quiet, Stays, Ends, Whole, Always, itself, whole_ends, whole_asked, whole_quiet, whole_quietly, whole_by, ends_by}
+use Rattle.spec_rights.proofs.Licences.{Quiet, Stays, Ends, Whole, Always, itself, whole_ends, whole_asked, whole_quiet, whole_quietly, whole_by, ends_by, ends_stays}
 use Rattle.spec_rights.proofs.Recycled.{recycled_proper}
 use Rattle.spec_rights.proofs.Allowed.{take_allowed}
 use Rattle.spec_rights.proofs.Permitted.{staying, ending}
@@ -32,7 +32,7 @@ use Rattle.spec_commands.specs.declared.word.Message.{Message}
 use Rattle.spec_commands.specs.Finding.{is_so}
 use Rattle.spec_commands.specs.Going.{ended, moving, gone, gone_home, both_shown, succeeded, failed, drop_shown, led, tried, walked, walked_some, went, is_item, not_taken, taken, is_carried, drop_place, dropped, inventory_shown}
 use Rattle.spec_commands.specs.Building.{allowed, written, done_where, recycled}
-use Rattle.spec_commands.proofs.Showing.{seeing, whole_where}
+use Rattle.spec_commands.proofs.Showing.{seeing, hearing, whole_where}
 
 -- The answer of a command is its world and its outcome.
 abbrev pub world_of : Live × Outcome → Live
@@ -48,33 +48,33 @@ whole_ended a own free given outcome f p = whole_by _ (λ w. (p.law w).law)
 
 -- Going.
 
-stays_moving : (a : Actor) (free : Freedom) (given : Option Act) (d : ℕ) (x to : Dbref) (go : Change) → free.moves x ≡ true → Quiet go → Stays a free given (moving d x to go)
+stays_moving : (a : Actor) (free : Freedom) (given : Option Act) (d : ℕ) (x to : Dbref) (go : Change) → free.moves x ≡ true → Stays a free None go → Stays a free given (moving d x to go)
 unfolding moving
 stays_moving a free given d x to go h q = search (staying, keeps_where)
 
-stays_gone : (a : Actor) (free : Freedom) (given : Option Act) (d : ℕ) (typed : Typed) (to : Dbref) (seen : Change) → free.moves a.player ≡ true → Quiet seen → Stays a free given (gone d a typed to seen)
+stays_gone : (a : Actor) (free : Freedom) (given : Option Act) (d : ℕ) (typed : Typed) (to : Dbref) (seen : Change) → free.moves a.player ≡ true → Stays a free None seen → Stays a free given (gone d a typed to seen)
 unfolding gone
-stays_gone a free given d typed to seen h q = search (staying, seeing) depth 8
+stays_gone a free given d typed to seen h q = search hearing depth 8
 
 pub stays_gone_home : (a : Actor) (free : Freedom) (given : Option Act) (d : ℕ) → free.moves a.player ≡ true → Stays a free given (gone_home d a)
 unfolding gone_home
 stays_gone_home a free given d h = search (staying, stays_gone)
 
-pub quiet_both_shown : (d : ℕ) (a : Actor) (typed : Typed) (mine theirs : Message) (x : Dbref) → Quiet (both_shown d a typed mine theirs x)
+pub stays_both_shown : (a : Actor) (free : Freedom) (given : Option Act) (d : ℕ) (typed : Typed) (mine theirs : Message) (x : Dbref) → Stays a free given (both_shown d a typed mine theirs x)
 unfolding both_shown
-quiet_both_shown d a typed mine theirs x = search seeing
+stays_both_shown a free given d typed mine theirs x = search hearing
 
-quiet_failed : (d : ℕ) (a : Actor) (typed : Typed) (otherwise : List ℕ) (x : Dbref) → Quiet (failed d a typed otherwise x)
+stays_failed : (a : Actor) (free : Freedom) (given : Option Act) (d : ℕ) (typed : Typed) (otherwise : List ℕ) (x : Dbref) → Stays a free given (failed d a typed otherwise x)
 unfolding failed
-quiet_failed d a typed otherwise x = search seeing
+stays_failed a free given d typed otherwise x = search hearing
 
 ends_led : (a : Actor) (free : Freedom) (given : Option Act) (d : ℕ) (typed : Typed) (exit : Dbref) (line : List ℕ) (to : Dbref) → free.moves a.player ≡ true → Ends world_of a free given (led d a typed exit line to)
 unfolding led
-ends_led a free given d typed exit line to h = search (ending, seeing, quiet_both_shown, ends_ended, stays_gone) depth 9
+ends_led a free given d typed exit line to h = search (ending, seeing, stays_both_shown, ends_ended, stays_gone) depth 9
 
 pub tried_open : (a : Actor) (free : Freedom) (d : ℕ) (typed : Typed) (exit : Dbref) (line : List ℕ) → free.moves a.player ≡ true → Ends world_of a free None (tried d a typed exit line)
 unfolding tried
-tried_open a free d typed exit line h = search (ending, ends_ended, quiet_failed, quiet_both_shown, ends_led)
+tried_open a free d typed exit line h = search (ending, ends_ended, stays_failed, stays_both_shown, ends_led)
 
 pub walked_open : (a : Actor) (free : Freedom) (d : ℕ) (hit : ExitHit) (line : List ℕ) → free.moves a.player ≡ true → Ends world_of a free None (walked d a hit line)
 unfolding walked
@@ -121,10 +121,10 @@ unfolding is_so
 carried_at player x w e = e
 
 taking : (a : Actor) (free : Freedom) (d : ℕ) (typed : Typed) (x : Dbref) → free.moves x ≡ true → Ends itself a free None (succeeded d a typed x ▸ moving d x a.player (tell d taken_reply))
-taking a free d typed x h = search (ending, seeing, quiet_both_shown, stays_moving)
+taking a free d typed x h = search (ending, seeing, stays_both_shown, stays_moving)
 
-quiet_not_taken : (d : ℕ) (a : Actor) (typed : Typed) (x : Dbref) (denial : Denial) → Quiet (not_taken d a typed x denial)
-quiet_not_taken d a typed x denial = search (seeing, quiet_failed)
+stays_not_taken : (a : Actor) (free : Freedom) (given : Option Act) (d : ℕ) (typed : Typed) (x : Dbref) (denial : Denial) → Stays a free given (not_taken d a typed x denial)
+stays_not_taken a free given d typed x denial = search (staying, stays_failed, keeps_either)
 
 -- what is at hand is free
 abbrev pub HandFree : Actor → (List Entry → Freedom) → Type 0
@@ -134,13 +134,13 @@ pub taken_open : (a : Actor) (own : Option ℕ) (free : List Entry → Freedom) 
 unfolding taken
 taken_open a own free d typed x hands =
     whole_where itself a own free Always (is_item x) _ _ (whole_quiet a own free Always _ (search shown))
-    (whole_asked itself a own free _ (Take x) _ _ (λ denial. whole_quiet a own free Always _ (quiet_not_taken d a typed x denial))
+    (whole_asked itself a own free _ (Take x) _ _ (λ denial. whole_ends itself a own free Always _ (λ w h. ends_stays a (free w.objects) None _ (stays_not_taken a (free w.objects) None d typed x denial)))
     (whole_ends itself a own free _ _ (λ w h.
     taking a (free w.objects) d typed x (hands w.objects x (here_at_hand w.objects a x (object_at x w.objects) refl (item_at x w h.0.1) (take_allowed w.objects a x h.1))))))
 
 dropping : (a : Actor) (free : Freedom) (d : ℕ) (typed : Typed) (x : Dbref) → free.moves x ≡ true →
     Ends itself a free None (reading (drop_place a.player) (λ to. moving d x to (tell d dropped_reply ▸ drop_shown d a typed x)))
-dropping a free d typed x h = search (ending, seeing, quiet_both_shown, stays_moving) depth 7
+dropping a free d typed x h = search (ending, seeing, stays_both_shown, stays_moving) depth 7
 
 pub dropped_open : (a : Actor) (own : Option ℕ) (free : List Entry → Freedom) (d : ℕ) (typed : Typed) (x : Dbref) → HandFree a free → Whole itself a own free Always (dropped d a typed x)
 unfolding dropped

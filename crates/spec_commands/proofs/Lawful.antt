@@ -7,7 +7,7 @@ use Rattle.spec_live.specs.Objects.{Entry}
 use Rattle.spec_live.specs.Lives.{Live, Change, reading, either, tell}
 use Rattle.spec_rights.specs.declared.act.Actor.{Actor}
 use Rattle.spec_rights.specs.Licence.{Freedom}
-use Rattle.spec_rights.proofs.Licences.{Quiet, Ends, Whole, Always, itself, whole_ends, whole_quiet}
+use Rattle.spec_rights.proofs.Licences.{Quiet, Stays, Ends, Whole, Always, itself, whole_ends, whole_quiet, ends_stays}
 use Rattle.spec_live.proofs.Keeping.{keeps_reading, keeps_either}
 use Rattle.spec_rights.proofs.Shown.{shown}
 use Rattle.spec_commands.specs.declared.outcome.Outcome.TheVariants.{Done}
@@ -32,6 +32,9 @@ lawful_done a own free f p = record { licence = whole_ended a own free Always Do
 
 pub lawful_quiet : (a : Actor) (own : Option ℕ) (free : List Entry → Freedom) (f : Change) → Quiet f → Lawful a own free (ended Done f)
 lawful_quiet a own free f q = lawful_done a own free f (whole_quiet a own free Always f q)
+
+pub lawful_stays : (a : Actor) (own : Option ℕ) (free : List Entry → Freedom) (f : Change) → ((now : Freedom) → Stays a now None f) → Lawful a own free (ended Done f)
+lawful_stays a own free f p = lawful_done a own free f (whole_ends itself a own free Always f (λ w h. ends_stays a (free w.objects) None f (p (free w.objects))))
 
 pub lawful_ends : (a : Actor) (own : Option ℕ) (free : List Entry → Freedom) (f : Change) → ((now : Freedom) → Ends itself a now None f) → Lawful a own free (ended Done f)
 lawful_ends a own free f p = lawful_done a own free f (whole_ends itself a own free Always f (λ w h. p (free w.objects)))

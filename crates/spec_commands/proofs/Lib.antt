@@ -1,6 +1,7 @@
 pub mod Trims
 pub mod Asked
 pub mod Showing
+pub mod Noted
 pub mod Built
 pub mod Gone
 pub mod Programmed

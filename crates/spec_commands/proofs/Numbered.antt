@@ -2,6 +2,8 @@
 use Rattle.std.proofs.Common.{◌≡◌, ℕ, ◌<◌, Bool, true, false, cond, List, [], ◌∷◌, refl, ◌∙◌, ap, subst, Option, inl, inr}
 use Rattle.std.specs.Prelude.{map, ◌==◌}
 use Rattle.muck_model.specs.declared.dbref.Dbref.{Dbref}
+use Rattle.spec_live.specs.Objects.{Entry}
+use Rattle.spec_mpi.specs.Touching.{without_props, without_output, TouchesNotes}
 use Rattle.spec_live.specs.Connections.{Connection, has_number, changed_in, left, seated}
 use Rattle.spec_live.specs.Boards.{on_connection, leaving_one, seated_one}
 use Rattle.spec_live.proofs.Keeping.{Keeps, Order, keeps_more}
@@ -94,9 +96,9 @@ leavers_changed_in d f keeps (c ∷ cs) = at (has_number d c) refl (leavers_chan
     at true e h = (keeps c, inr e, leavers_ties (has_number d) cs cs refl)
     at false e h = (refl, inl refl, h)
 
--- Worlds of which only the connections differ, which keep their numbers, and of which only d may begin to leave.
+-- Worlds of which only properties and the connections differ, which keep their numbers, and of which only d may begin to leave.
 pub record Seats (d : ℕ) (w v : Live) : Type 0 where
-  pub objects : v.objects ≡ w.objects
+  pub objects : map without_props v.objects ≡ map without_props w.objects
   pub tune : v.board.tune ≡ w.board.tune
   pub numbers : numbers v.board.connections ≡ numbers w.board.connections
   pub leavers : LeaversLicensed (has_number d) w.board.connections v.board.connections
@@ -112,10 +114,28 @@ seating_order d = record {
 
 pub seating_quiet : (d : ℕ) (f : Change) → Quiet f → Seating d f
 seating_quiet d f q = keeps_more f (λ w v s. record {
-  objects = s.objects;
+  objects = ap (λ (es : List Entry). map without_props es) s.objects;
   tune = s.tune;
   numbers = numbers-ties w.board.connections v.board.connections s.ties;
   leavers = leavers_ties (has_number d) w.board.connections v.board.connections s.ties;
+}) q
+
+-- what differs in notes alone
+mute_ties : (cs ds : List Connection) → map without_output ds ≡ map without_output cs → ties ds ≡ ties cs
+mute_ties [] [] e = refl
+mute_ties [] (d ∷ ds) e = absurd cc
+mute_ties (c ∷ cs) [] e = absurd cc
+mute_ties (c ∷ cs) (d ∷ ds) e =
+    let head : without_output d ≡ without_output c = cc in
+    let rest : map without_output ds ≡ map without_output cs = cc in
+    ap (λ (x : Connection). tie x ∷ ties ds) head ∙ ap (λ ts. tie c ∷ ts) (mute_ties cs ds rest)
+
+pub seating_notes : (d : ℕ) (f : Change) → Keeps TouchesNotes f → Seating d f
+seating_notes d f q = keeps_more f (λ w v s. let same = mute_ties w.board.connections v.board.connections s.connections in record {
+  objects = s.objects;
+  tune = s.tune;
+  numbers = numbers-ties w.board.connections v.board.connections same;
+  leavers = leavers_ties (has_number d) w.board.connections v.board.connections same;
 }) q
 
 pub seating_one : (d : ℕ) (f : Connection → Connection) → ((c : Connection) → (f c).number ≡ c.number) → Seating d (on_board (on_connection d f))

@@ -31,11 +31,12 @@ use Rattle.spec_commands.specs.Going.{Play, ended, walked}
 use Rattle.spec_commands.specs.Free.{moves_word, moves_by, free_play, clears_word, clears, free_command, free_through, free_line}
 use Rattle.spec_commands.specs.Reading.{looked_up, by_command, by_table}
 use Rattle.spec_commands.specs.Commands.{play_words, play_shape, line_typed, play_done, signed, play_line, message_name, build_words, build_shape, build_done, build_line, or_next, or_else, commanded, begins_with_sign, through, played}
-use Rattle.spec_commands.proofs.Showing.{seeing, quiet_waits}
+use Rattle.spec_commands.proofs.Showing.{seeing, hearing, quiet_waits}
+use Rattle.spec_live.proofs.Keeping.{keeps_either}
 use Rattle.spec_commands.proofs.Built.{building, link_cleared_open, quiet_find_shown}
 use Rattle.spec_commands.proofs.Programmed.{program_made_open, program_edited_open, program_listed_open, program_run_open}
 use Rattle.spec_commands.proofs.Mine.{mine_leave, mine_walked, mine_went, mine_program_made, mine_program_edited, mine_program_listed, mine_program_run}
-use Rattle.spec_commands.proofs.Lawful.{Lawful, lawful_done, lawful_quiet, lawful_ends, lawful_play, lawful_with}
+use Rattle.spec_commands.proofs.Lawful.{Lawful, lawful_done, lawful_quiet, lawful_stays, lawful_ends, lawful_play, lawful_with}
 use Rattle.spec_commands.specs.declared.typed.Typed.{Typed}
 use Rattle.spec_commands.proofs.Gone.{world_of, whole_ended, walked_open, went_open, taken_open, dropped_open, recycled_open, stays_gone_home, quiet_inventory_shown}
 
@@ -50,7 +51,7 @@ WordFree may command a es = clearing may (moving (moves_word (Some command) a es
 
 pub play_lawful : (a : Actor) (own : Option ℕ) (may : Bool) (d : ℕ) (typed : Typed) (command : PlayWord) (args : Arguments) → Lawful a own (WordFree may command a) (play_done d a typed command args)
 unfolding play_done look_shown examined said posed paged whispered
-play_lawful a own may d typed Look args = lawful_quiet a own _ _ (search seeing)
+play_lawful a own may d typed Look args = lawful_stays a own _ _ (λ free. search (hearing, keeps_either))
 play_lawful a own may d typed Say args = lawful_quiet a own _ _ (search seeing)
 play_lawful a own may d typed Pose args = lawful_quiet a own _ _ (search seeing)
 play_lawful a own may d typed Page args = lawful_quiet a own _ _ (search seeing)

@@ -1,4 +1,4 @@
--- What players say, see and find changes nothing that is judged.
+-- What players say, see and find changes nothing that is judged, and what messages change is open to who acts.
 use Rattle.std.proofs.Common.{◌≡◌, ℕ, Bool, true, false, List, [], ◌∷◌, refl, Option, Some, None}
 use Rattle.muck_model.specs.declared.dbref.Dbref.{Dbref}
 use Rattle.muck_match.specs.declared.naming.Found.{Found}
@@ -8,7 +8,11 @@ use Rattle.spec_live.specs.Lives.{Live, Change, either, tell}
 use Rattle.spec_rights.specs.declared.act.Actor.{Actor}
 use Rattle.spec_rights.specs.Licence.{Freedom}
 use Rattle.spec_rights.proofs.Shown.{shown, quiet_one}
-use Rattle.spec_rights.proofs.Licences.{Quiet, Whole, whole_told, quiet_unchanged, quiet_order, whole_by}
+use Rattle.spec_rights.specs.declared.act.Act.{Act}
+use Rattle.spec_rights.proofs.Permitted.{staying}
+use Rattle.spec_rights.proofs.Licences.{Quiet, Stays, Whole, whole_told, quiet_unchanged, quiet_order, whole_by, stays_by, stays_quiet, stay_both, stay_rights}
+use Rattle.spec_mpi.specs.Messages.{heard, variables_of, shown as shown_of, spoken as said_of}
+use Rattle.spec_mpi.proofs.Leave.{stays_heard}
 use Rattle.spec_commands.specs.declared.typed.Typed.{Typed}
 use Rattle.spec_commands.specs.declared.word.Message.{Message}
 use Rattle.spec_commands.specs.Messages.{message_how, spoken, spoken_some, with_message}
@@ -62,35 +66,38 @@ pub ruleset finds = (keeps_where, keeps_finding, keeps_finding_player, keeps_fin
 
 -- Messages.
 
--- what is spoken changes nothing but what is done with it
-quiet_spoken : (a : Actor) (x : Dbref) (how : List ℕ) (typed : Typed) (text : List ℕ) (go : List ℕ → Change) → ((t : List ℕ) → Quiet (go t)) → Quiet (spoken a x how typed text go)
-unfolding spoken
-quiet_spoken a x how typed text go q = q text
+-- what is spoken changes what its player may change by it, and then what is done with it
+stays_spoken : (a : Actor) (free : Freedom) (given : Option Act) (x : Dbref) (how : List ℕ) (typed : Typed) (text : List ℕ) (go : List ℕ → Change) → ((t : List ℕ) → Stays a free None (go t)) → Stays a free given (spoken a x how typed text go)
+unfolding spoken said_of
+stays_spoken a free given x how typed text go q = stays_by _ (λ start w r h.
+    let said = heard a x text (variables_of how typed.word typed.rest) w in
+    let first = ((stays_heard a free x text (variables_of how typed.word typed.rest)).law w).law start r tt in
+    stay_both _ _ _ _ first (((q (shown_of said.0)).law said.1).law start (stay_rights _ start w said.1 r first) tt))
 
-quiet_spoken_some : (a : Actor) (typed : Typed) (m : Message) (x : Dbref) (otherwise : Change) (go : List ℕ → Change) (message : Option (List ℕ)) → Quiet otherwise → ((t : List ℕ) → Quiet (go t)) →
-    Quiet (spoken_some a typed m x otherwise go message)
-quiet_spoken_some a typed m x otherwise go (Some text) p q = quiet_spoken a x (message_how m) typed text go q
-quiet_spoken_some a typed m x otherwise go None p q = p
+stays_spoken_some : (a : Actor) (free : Freedom) (given : Option Act) (typed : Typed) (m : Message) (x : Dbref) (otherwise : Change) (go : List ℕ → Change) (message : Option (List ℕ)) → Quiet otherwise → ((t : List ℕ) → Quiet (go t)) →
+    Stays a free given (spoken_some a typed m x otherwise go message)
+stays_spoken_some a free given typed m x otherwise go (Some text) p q = stays_spoken a free given x (message_how m) typed text go (λ t. stays_quiet a free None (go t) (q t))
+stays_spoken_some a free given typed m x otherwise go None p q = stays_quiet a free given otherwise p
 
-pub quiet_with_message : (a : Actor) (typed : Typed) (m : Message) (x : Dbref) (otherwise : Change) (go : List ℕ → Change) → Quiet otherwise → ((t : List ℕ) → Quiet (go t)) → Quiet (with_message a typed m x otherwise go)
+pub stays_with_message : (a : Actor) (free : Freedom) (given : Option Act) (typed : Typed) (m : Message) (x : Dbref) (otherwise : Change) (go : List ℕ → Change) → Quiet otherwise → ((t : List ℕ) → Quiet (go t)) → Stays a free given (with_message a typed m x otherwise go)
 unfolding with_message
-quiet_with_message a typed m x otherwise go p q = keeps_reading _ (spoken_some a typed m x otherwise go) (λ message. quiet_spoken_some a typed m x otherwise go message p q)
+stays_with_message a free given typed m x otherwise go p q = keeps_reading _ (spoken_some a typed m x otherwise go) (λ message. stays_spoken_some a free given typed m x otherwise go message p q)
 
 pub quiet_shown_others : (player : Dbref) (tail : List ℕ) → Quiet (shown_others player tail)
 unfolding shown_others
 quiet_shown_others player tail = search shown
 
-pub quiet_message_or : (d : ℕ) (a : Actor) (typed : Typed) (otherwise : List ℕ) (m : Message) (x : Dbref) → Quiet (message_or d a typed otherwise m x)
+pub stays_message_or : (a : Actor) (free : Freedom) (given : Option Act) (d : ℕ) (typed : Typed) (otherwise : List ℕ) (m : Message) (x : Dbref) → Stays a free given (message_or d a typed otherwise m x)
 unfolding message_or
-quiet_message_or d a typed otherwise m x = search (shown, quiet_with_message)
+stays_message_or a free given d typed otherwise m x = search (shown, stays_with_message)
 
-pub quiet_message_shown : (d : ℕ) (a : Actor) (typed : Typed) (m : Message) (x : Dbref) → Quiet (message_shown d a typed m x)
+pub stays_message_shown : (a : Actor) (free : Freedom) (given : Option Act) (d : ℕ) (typed : Typed) (m : Message) (x : Dbref) → Stays a free given (message_shown d a typed m x)
 unfolding message_shown
-quiet_message_shown d a typed m x = search (shown, quiet_with_message)
+stays_message_shown a free given d typed m x = search (shown, stays_with_message)
 
-pub quiet_message_to_others : (a : Actor) (typed : Typed) (m : Message) (x : Dbref) → Quiet (message_to_others a typed m x)
+pub stays_message_to_others : (a : Actor) (free : Freedom) (given : Option Act) (typed : Typed) (m : Message) (x : Dbref) → Stays a free given (message_to_others a typed m x)
 unfolding message_to_others
-quiet_message_to_others a typed m x = search (shown, quiet_with_message, quiet_shown_others)
+stays_message_to_others a free given typed m x = search (shown, stays_with_message, quiet_shown_others)
 
 -- Looking.
 
@@ -104,13 +111,13 @@ unfolding listed_under
 quiet_listed_under d player head otherwise [] p = p
 quiet_listed_under d player head otherwise (x ∷ xs) p = keeps_followed _ _ quiet_order (search shown) (quiet_listed d player (x ∷ xs))
 
-pub quiet_room_shown : (d : ℕ) (a : Actor) (typed : Typed) (room : Dbref) → Quiet (room_shown d a typed room)
+pub stays_room_shown : (a : Actor) (free : Freedom) (given : Option Act) (d : ℕ) (typed : Typed) (room : Dbref) → Stays a free given (room_shown d a typed room)
 unfolding room_shown
-quiet_room_shown d a typed room = search (shown, quiet_message_shown, quiet_listed_under)
+stays_room_shown a free given d typed room = search (staying, stays_message_shown, quiet_listed_under) depth 9
 
-pub quiet_looked : (d : ℕ) (a : Actor) (typed : Typed) → Quiet (looked d a typed)
+pub stays_looked : (a : Actor) (free : Freedom) (given : Option Act) (d : ℕ) (typed : Typed) → Stays a free given (looked d a typed)
 unfolding looked
-quiet_looked d a typed = search (shown, quiet_room_shown)
+stays_looked a free given d typed = search (staying, stays_room_shown)
 
 pub quiet_owner_shown : (d : ℕ) (x : Dbref) → Quiet (owner_shown d x)
 unfolding owner_shown
@@ -136,4 +143,7 @@ unfolding waits
 quiet_waits d lines = quiet_one d (λ c. record c { waiting = lines }) (λ c. refl)
 
 -- whatever players see
-pub ruleset seeing = (shown, finds, quiet_shown_others, quiet_message_or, quiet_message_shown, quiet_message_to_others, quiet_listed, quiet_listed_under, quiet_room_shown, quiet_looked, quiet_owner_shown, quiet_said_to, quiet_who_shown, quiet_waits)
+pub ruleset seeing = (shown, finds, quiet_shown_others, quiet_listed, quiet_listed_under, quiet_owner_shown, quiet_said_to, quiet_who_shown, quiet_waits)
+
+-- and what they see by messages, which may change something
+pub ruleset hearing = (seeing, staying, stays_message_or, stays_message_shown, stays_message_to_others, stays_room_shown, stays_looked)

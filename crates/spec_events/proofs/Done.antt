@@ -35,20 +35,21 @@ use Rattle.spec_commands.proofs.Edited.{edited_proper}
 use Rattle.spec_commands.proofs.Sources.{edited_rewrites}
 use Rattle.muck_queue.specs.declared.process.Process.{Process}
 use Rattle.muck_queue.specs.Queues.{reader, on_process, told_line, without}
-use Rattle.spec_commands.proofs.Numbered.{numbers, numbers-ties, numbers-same_ties, leavers_ties, Seats, Seating, seating_quiet, seating_order}
+use Rattle.spec_commands.proofs.Numbered.{numbers, numbers-ties, numbers-same_ties, leavers_ties, Seating, seating_quiet, seating_order}
 use Rattle.spec_commands.proofs.Lines.{seating_at_login}
 use Rattle.spec_admin.specs.Parameters.{IsInRange}
 use Rattle.spec_events.specs.World.{World, on_live, on_queue}
 use Rattle.spec_events.specs.Following.{swept, settled}
 use Rattle.spec_events.specs.Lines.{with_editor, next_editor, after_edit, edited_line, in_editor, editor_on, typed, left_by, followed_up, in_world, program_aborted, is_abort, given_line, line_for, line_done, done}
 use Rattle.spec_events.specs.Endings.{ProcessesLicensed, NoProcess, MayEnd, by_actor, EndsReading}
-use Rattle.spec_events.specs.Licences.{Untouched, Undisturbed, LineLicensed, TurnLicensed}
+use Rattle.spec_events.specs.Licences.{Undisturbed, LineLicensed, TurnLicensed}
 use Rattle.spec_events.proofs.Quietly.{Still, still_of, Quietly, quietly_both, quietly_live, quietly_queue, quietly_swept, quietly_launched, quietly_compiled}
 use Rattle.spec_events.proofs.Told.{licensed_told, licensed_as}
 use Rattle.spec_events.proofs.Typed.{MayRetune, typed_retunes, waited_open}
 use Rattle.spec_events.proofs.Endings.{Lasting, lasting_same, lasting_both, lasting_changed, lasting_without, lasting_up, lasting_after, process_number, IsTold, told_settled, processes_remain}
 use Rattle.spec_events.proofs.Lapses.{IsLapsing, marks_lapse, by_lapse, steady_may, lasting_lapse}
 use Rattle.spec_events.proofs.Killed.{lasting_left}
+use Rattle.spec_events.proofs.Login.{screen_at_login, told_notes}
 
 -- whether a world is dead, the dump that runs in it, and the second
 abbrev pub state_of : World → Bool × Still
@@ -281,9 +282,6 @@ ends_in_editor d player s line lines w told = at (is_open s (taken_out d lines w
 
 -- What a line does is open.
 
-untouched_by : (d : ℕ) (w v : Live) → Seats d w v → Untouched w v
-untouched_by d w v s = record { objects = s.objects; tune = s.tune }
-
 -- nothing but the processes is asked
 pub none_ends : (w v : World) → v.queue.processes ≡ w.queue.processes → ProcessesLicensed NoProcess w v
 none_ends w v e =
@@ -299,6 +297,16 @@ undisturbed_quietly may f w q = let s = q.law w.live in (record { objects = s.ob
 
 seating_line : (d : ℕ) (line : List ℕ) (lines : List (List ℕ)) → Seating d (waits d lines ▸ at_login d line)
 seating_line d line lines = keeps_followed (waits d lines) (at_login d line) (seating_order d) (seating_quiet d _ (quiet_waits d lines)) (seating_at_login d line)
+
+login_licensed : (d : ℕ) (editor : Option EditState) (line : List ℕ) (lines : List (List ℕ)) (w : World) →
+    LineLicensed d None None editor (line ∷ lines) w (on_live (at_login d line) (on_live (waits d lines) w))
+unfolding waits followed
+login_licensed d editor line lines w =
+    let v : World = on_live (at_login d line) (on_live (waits d lines) w) in
+    elim (screen_at_login d line (waits d lines w.live)) [
+      | inl same ↦ inl (record { objects = same.objects; tune = same.tune }, none_ends w v refl, ((seating_line d line lines).law w.live).leavers)
+      | inr found ↦ inr (record { player = found.0; licensed = found.1; notes = found.2; processes = none_ends w v refl })
+    ]
 
 -- A line for a process that reads changes nothing but that process.
 
@@ -346,9 +354,7 @@ line_licensed : (d : ℕ) (w : World) (taker : Option ℤ) (player : Option Dbre
     LineLicensed d taker player editor (line ∷ lines) w (line_for taker player editor d line (on_live (waits d lines) w))
 unfolding followed
 line_licensed d w (Some pid) player editor line lines e told = given_licensed d pid player editor line lines w
-line_licensed d w None None editor line lines e told =
-    let s = (seating_line d line lines).law w.live in
-    (untouched_by d w.live _ s, none_ends w (on_live (at_login d line) (on_live (waits d lines) w)) refl, s.leavers)
+line_licensed d w None None editor line lines e told = login_licensed d editor line lines w
 line_licensed d w None (Some player) None line lines e told = ((open_in_world d player line lines w e).licensed, ends_in_world d player line lines w e told)
 line_licensed d w None (Some player) (Some s) line lines e told = ((open_in_editor d player s line lines w).licensed, ends_in_editor d player s line lines w told)
 
@@ -390,7 +396,7 @@ line_told : (d : ℕ) (w : World) (taker : Option ℤ) (player : Option Dbref) (
     IsTold (line_for taker player editor d line (on_live (waits d lines) w)).live
 unfolding followed
 line_told d w (Some pid) player editor line lines h = told_by w.live (given_line d pid line (on_live (waits d lines) w)).live (given_quietly d pid line lines w).objects h
-line_told d w None None editor line lines h = told_by w.live (at_login d line (waits d lines w.live)) (((seating_line d line lines).law w.live).objects) h
+line_told d w None None editor line lines h = told_notes w.live (at_login d line (waits d lines w.live)) (((seating_line d line lines).law w.live).objects) h
 line_told d w None (Some player) None line lines h = told_in_world d player line (on_live (waits d lines) w)
 line_told d w None (Some player) (Some s) line lines h =
     told_in_editor d player s line (on_live (taken_out d lines) w) (told_by w.live (taken_out d lines w.live) (((quiet_taken_out d lines).law w.live).objects) h)

@@ -4,6 +4,7 @@ pub mod Endings
 mod Lapses
 pub mod Typed
 mod Killed
+mod Login
 pub mod Done
 mod Deeds
 pub mod Slicing

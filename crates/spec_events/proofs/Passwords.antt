@@ -14,18 +14,17 @@ use Rattle.muck_model.specs.declared.event.Event.TheVariants.{Opened, Input, Clo
 use Rattle.spec_live.specs.Objects.{Entry as Kept, mark_in, nothing}
 use Rattle.spec_live.specs.Connections.{Connection, has_number, changed_in, placed, without, left, seated, newcomer}
 use Rattle.spec_live.specs.Boards.{player_in, opened, closed, line_added, bytes_taken, seated_one, leaving_one, early_board}
-use Rattle.spec_live.specs.Lives.{Live, Change, followed, reading, either, ◌▸◌, tell, leave, enter, on_board}
+use Rattle.spec_live.specs.Lives.{Live, Change, followed, reading, either, tell, leave, enter, on_board}
 use Rattle.spec_rights.specs.declared.act.Actor.{Actor}
 use Rattle.spec_rights.proofs.Licences.{Quiet, ties_same}
-use Rattle.spec_rights.proofs.Shown.{shown, quiet_tell, quiet_one}
+use Rattle.spec_rights.proofs.Shown.{quiet_tell, quiet_one}
 use Rattle.spec_commands.specs.Texts.{first_word, other_words, trimmed, is_alike}
-use Rattle.spec_commands.specs.Replies.{goodbye, has_connected}
-use Rattle.spec_commands.specs.Messages.{look_typed}
-use Rattle.spec_commands.specs.Finding.{actor_of, shown_others, looked}
+use Rattle.spec_commands.specs.Replies.{goodbye}
+use Rattle.spec_commands.specs.Finding.{actor_of}
 use Rattle.spec_commands.specs.Talking.{who_shown}
 use Rattle.spec_commands.specs.Talk.{welcome, refused_login, proved, let_in, logged_in, connecting, quit, at_login, waits, parted, gone_away}
 use Rattle.spec_commands.specs.Rising.{IsAbove, IsRising}
-use Rattle.spec_commands.proofs.Showing.{quiet_shown_others, quiet_looked, quiet_who_shown, quiet_waits}
+use Rattle.spec_commands.proofs.Showing.{quiet_who_shown, quiet_waits}
 use Rattle.spec_commands.proofs.Lines.{quiet_parted}
 use Rattle.muck_queue.specs.Queues.{reader, without as process_without, on_process, told_line}
 use Rattle.spec_events.specs.World.{World, connection, starting, booted, askers_of, on_live, on_queue}
@@ -37,6 +36,7 @@ use Rattle.spec_events.specs.Licences.{LineLicensed, TurnLicensed, UnitLicensed,
 use Rattle.spec_events.specs.Histories.{after, AllLawful, AllLicensed}
 use Rattle.spec_events.specs.Passwords.{credentials, Proves, Stays, IsKnown, AllKnown}
 use Rattle.spec_events.proofs.Quietly.{quiet_told_each}
+use Rattle.spec_events.proofs.Login.{greeted, greeted_open}
 use Rattle.spec_events.proofs.Done.{player-same_ties}
 use Rattle.spec_events.proofs.Reached.{rising-happened}
 use Rattle.spec_events.proofs.Turns.{all_licensed_booted, all_licensed_starting}
@@ -170,17 +170,13 @@ unfolding quit followed leave leaving_one
 gives_quit d given w e p h =
     inl (sym (kept_quiet e (tell d goodbye) (quiet_tell d goodbye) w) ∙ (sym (kept_changed e d left (λ c. refl) (λ c. refl) (tell d goodbye w).board.connections) ∙ h))
 
--- what a player sees who has connected
-abbrev greeted : ℕ → Dbref → Change
-greeted d player = reading (λ w. actor_of w.objects player) (λ a. shown_others player has_connected ▸ looked d a look_typed)
-
-quiet_greeted : (d : ℕ) (player : Dbref) → Quiet (greeted d player)
-quiet_greeted d player = search (shown, quiet_shown_others, quiet_looked)
+kept_greeted : (e d : ℕ) (player : Dbref) (a : Actor) (w : Live) → player_in e (greeted d player a w).board ≡ player_in e w.board
+kept_greeted e d player a w = player-same_ties a e w.board.connections (greeted d player a w).board.connections (greeted_open d player a w).connections
 
 gives_entered : (d : ℕ) (name word : List ℕ) (player : Dbref) (w : Live) → proved name word w.objects ≡ Some player → Gives d (Some (name, word)) w (let_in d (Some player) w)
-unfolding followed enter seated_one
+unfolding followed reading enter seated_one
 gives_entered d name word player w is e p h =
-    elim (seated_found e d player p w.board.connections (sym (kept_quiet e (greeted d player) (quiet_greeted d player) (enter d player w)) ∙ h)) [
+    elim (seated_found e d player p w.board.connections (sym (kept_greeted e d player (actor_of w.objects player) (enter d player w)) ∙ h)) [
       | inl k ↦ inl k
       | inr k ↦ inr (k.0, (name, word), refl, is ∙ ap Some (sym k.1))
     ]

@@ -1,16 +1,18 @@
 -- What a step may change.
-use Rattle.std.specs.Prelude.{◌≡◌, ℕ, ℤ, All, Bool, true, false, List, [], ◌∷◌, Option, Some, None}
+use Rattle.std.specs.Prelude.{◌≡◌, ◌⊎◌, ℕ, ℤ, All, Bool, true, false, List, [], ◌∷◌, Option, Some, None}
 use Rattle.muck_model.specs.declared.dbref.Dbref.{Dbref}
 use Rattle.muck_model.specs.declared.edit.EditState.{EditState}
 use Rattle.muck_model.specs.declared.event.Event.{Event}
 use Rattle.muck_model.specs.declared.event.Event.TheVariants.{Opened, Exec, Slice, Closed}
 use Rattle.spec_live.specs.Objects.{Entry}
 use Rattle.spec_live.specs.Connections.{Connection, has_number}
-use Rattle.spec_live.specs.Lives.{Live}
+use Rattle.spec_live.specs.Lives.{Live, enter}
 use Rattle.spec_rights.specs.declared.act.Actor.{Actor}
 use Rattle.spec_rights.specs.Licence.{Freedom, Licensed, LeaversLicensed, editing, nobody}
+use Rattle.spec_mpi.specs.Touching.{TouchesNotes}
 use Rattle.spec_commands.specs.Finding.{actor_of}
 use Rattle.spec_commands.specs.Free.{free_line}
+use Rattle.spec_commands.specs.Talk.{waits}
 use Rattle.muck_queue.specs.Queues.{is_tied_to}
 use Rattle.spec_events.specs.declared.starting.Agent.{Agent}
 use Rattle.spec_events.specs.World.{World, connection}
@@ -33,15 +35,24 @@ free_for None a line es = free_line a line es
 abbrev pub Undisturbed : (Connection → Bool) → World → World → Type 0
 Undisturbed may w v = Untouched w.live v.live × ProcessesLicensed NoProcess w v × LeaversLicensed may w.live.board.connections v.live.board.connections
 
+-- A player is let in by a line, behind which these wait. It looks around, and what it sees may change something by formulas: notes alone,
+-- and what is open to that player by its own rights. No process ends.
+pub record LetsIn (d : ℕ) (lines : List (List ℕ)) (w v : World) : Type 0 where
+  pub player : Dbref
+  pub licensed : Licensed (actor_of w.live.objects player) nobody (enter d player (waits d lines w.live)) v.live
+  pub notes : TouchesNotes (enter d player (waits d lines w.live)) v.live
+  pub processes : ProcessesLicensed NoProcess w v
+
 -- The first waiting line is done. By one of a player, what is open to that player by its rights before the line changes,
--- and processes end that may by the player, or by the change of a source. A line of the login screen changes no object, and
--- lets no connection leave but its own. A line for a process that reads changes nothing but that process.
+-- and processes end that may by the player, or by the change of a source. A line of the login screen lets a player in, or changes no
+-- object, and lets no connection leave but its own. A line for a process that reads changes nothing but that process.
 abbrev pub LineLicensed : ℕ → Option ℤ → Option Dbref → Option EditState → List (List ℕ) → World → World → Type 0
 LineLicensed d (Some pid) player editor (line ∷ lines) w v =
     Untouched w.live v.live × ProcessesLicensed (EndsReading pid) w v × LeaversLicensed (λ c. false) w.live.board.connections v.live.board.connections
 LineLicensed d None (Some player) editor (line ∷ lines) w v =
     Licensed (actor_of w.live.objects player) (free_for editor (actor_of w.live.objects player) line w.live.objects) w.live v.live
     × ProcessesLicensed (MayEnd (actor_of w.live.objects player) w.live v.live) w v
+LineLicensed d None None editor (line ∷ lines) w v = Undisturbed (has_number d) w v ⊎ LetsIn d lines w v
 LineLicensed d reader player editor lines w v = Undisturbed (has_number d) w v
 
 -- A unit changes only what is open to the running program, by the rights before it. Of the processes it ends its own, such as
