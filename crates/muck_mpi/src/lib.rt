@@ -9,4 +9,4 @@ mod signs;
 mod speaker;
 mod texts;
 
-pub use speaker::{hear, speak};
+pub use speaker::{hear, speak, variables};

@@ -131,9 +131,9 @@ fn shown_line(alloc: Global, answer: Result<Line, MpiFault>) -> Result<Line, NoM
     }
 }
 
-// The variables of a message.
+/// The variables of a message: how it is called where it is spoken, and what was typed.
 #[tactic(auto, unfolding(spec_mpi::specs::Messages::variables_of))]
-fn variables(alloc: Global, how: &[u8], cmd: &Line, arg: &Line) -> Result<VarMap, NoMemory>
+pub fn variables(alloc: Global, how: &[u8], cmd: &Line, arg: &Line) -> Result<VarMap, NoMemory>
     requires { text_fault how.now ≡ None }
     ensures { IfOk result (λ vars. vars ≡ variables_of how.now cmd.now arg.now) }
 {

@@ -24,7 +24,7 @@ use Rattle.spec_rights.specs.declared.act.Actor.{Actor}
 use Rattle.spec_events.specs.declared.starting.Agent.{Agent}
 use Rattle.spec_events.specs.World.{World}
 use Rattle.spec_prims.specs.Asking.{numbered}
-use Rattle.spec_prims.specs.Row.{Row, gives, refuses, Doing as RowDoing}
+use Rattle.spec_prims.specs.Row.{Row, gives, refuses, breaks, Doing as RowDoing}
 use Rattle.spec_prims.specs.Shared.{row_in, done_by, shared}
 use Rattle.spec_live.specs.Lives.{Live}
 use Rattle.muf_model.specs.declared.prims.Family.{Family}
@@ -124,6 +124,7 @@ same_differs f g h = subst (λ (x : Shown). Differs (flat f) (flat x)) (sym h) r
 applied_differs : (row : Row) (f g : Shown) (w v : World) (u : Unit {0}) → AppliedTo row f g w v (Ok u) → Differs (flat f) (flat g)
 applied_differs (gives stack live) f g w v u h = stack_differs stack f g h.0
 applied_differs (refuses e) f g w v u h = absurd h
+applied_differs (breaks e live) f g w v u h = absurd h
 
 -- it goes on behind the primitive
 row_passes : (row : Row) (es : List Entered) (f g : Shown) (w v : World) (s : Source) (u : Unit {0}) → Apart es (flat f) s → AppliedTo row f g w v (Ok u) → IsAtPrimitive s.now → PassesOn es (flat g)
@@ -133,6 +134,7 @@ row_passes row es f g w v s u apart h at = (flat f, s, apart, applied_differs ro
 row_lifted : (row : Row) (f g : Shown) (w v : World) (s : Source) (u : Unit {0}) → Shows (flat f) s → AppliedTo row f g w v (Ok u) → lifted s w row ≡ does (passed (with_frame (flat g) s)) v
 row_lifted (gives stack live) f g w v s u shows h = ap (λ x. does (behind stack s) x) (sym h.1) ∙ ap (λ (y : Source). does y v) (stack_behind stack f g s shows h.0)
 row_lifted (refuses e) f g w v s u shows h = absurd h
+row_lifted (breaks e live) f g w v s u shows h = absurd h
 
 row_does : (row : Row) (es : List Entered) (f g : Shown) (w v : World) (s t : Source) (u : Unit {0}) → Apart es (flat f) s → Shows (flat f) s → AppliedTo row f g w v (Ok u) →
     ((e : Flat) (r : Source) → Apart es e r → Differs e (flat g) → t ≡ passed (with_frame (flat g) r)) → lifted s w row ≡ does t v
@@ -144,6 +146,8 @@ row_rejoins : (row : Row) (es : List Entered) (f g : Shown) (w v : World) (s : S
 row_rejoins (gives stack live) es f g w v s e apart h = absurd h
 row_rejoins (refuses d) es f g w v s e apart h =
     (flat f, s, apart, same_differs f g h.1)
+row_rejoins (breaks d live) es f g w v s e apart h =
+    (flat f, s, apart, same_differs f g h.1)
 
 row_fails : (row : Row) (es : List Entered) (f g : Shown) (w v : World) (s t : Source) (e : MufFault) → Apart es (flat f) s → Shows (flat f) s → AppliedTo row f g w v (Err (FrameFault e)) →
     ((x : Flat) (r : Source) → Apart es x r → Differs x (flat g) → t ≡ with_frame (flat g) r) → DoneAs (lifted s w row) s v (DoneFails t e)
@@ -151,6 +155,9 @@ row_fails (gives stack live) es f g w v s t e apart shows h so = absurd h
 row_fails (refuses d) es f g w v s t e apart shows h so =
     let same : t ≡ with_frame (flat g) s = so (flat f) s apart (same_differs f g h.1) in
     (same ∙ same_stack f g s shows h.1, ap (λ x. fails x w) (sym h.0) ∙ ap (λ x. fails e x) (sym h.2))
+row_fails (breaks d live) es f g w v s t e apart shows h so =
+    let same : t ≡ with_frame (flat g) s = so (flat f) s apart (same_differs f g h.1) in
+    (same ∙ same_stack f g s shows h.1, ap (λ x. fails x (record w { live = live })) (sym h.0) ∙ ap (λ x. fails e x) (sym h.2))
 
 -- the row as the frame shows what it asks of
 row_seen : (p : Name) (a b : Actor) (descr : Option ℕ) (f : Flat) (s : Source) (w : Live) → a ≡ b → Shows f s → shared p a descr (locked_by f.marks) f.stack w ≡ shared p b descr (locked_of s.marks) s.stack w

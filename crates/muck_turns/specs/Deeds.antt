@@ -23,7 +23,7 @@ use Rattle.muf_running.specs.declared.entered.Entered.{Entered}
 use Rattle.muf_running.specs.Fitting.{program_with, IsAtPrimitive}
 use Rattle.muf_running.specs.Lending.{Apart, Differs}
 use Rattle.spec_prims.specs.Asking.{numbered}
-use Rattle.spec_prims.specs.Row.{Row, gives, refuses}
+use Rattle.spec_prims.specs.Row.{Row, gives, refuses, breaks}
 use Rattle.spec_processes.specs.ProcessRows.{Effect, gives as effect_gives, waits, forks, enters, starts, refuses as effect_refuses}
 use Rattle.prim_proc.specs.Applied.{HasStack, IsLeft, called_items}
 use Rattle.prim_proc.specs.declared.after.After.{After}
@@ -44,11 +44,12 @@ DoneAs deed s w (DoneDoes t) = deed ≡ does t w
 DoneAs deed s w (DoneRests t) = deed ≡ rests t w
 DoneAs deed s w (DoneFails t f) = (t ≡ s) × (deed ≡ fails f w)
 
--- a row was applied to a frame and to the world, or was refused, and then both are as they were; after want of memory
--- nothing is said of them
+-- a row was applied to a frame and to the world, or was refused, and then both are as they were, or broke off, and then the frame
+-- is; after want of memory nothing is said of them
 abbrev pub AppliedTo : Row → Shown → Shown → World → World → Result (Unit {0}) PrimFault → Type 0
 AppliedTo (gives stack live) f g w v (Ok x) = (flat g ≡ record (flat f) { stack = stack }) × (v ≡ record w { live = live })
 AppliedTo (refuses e) f g w v (Err (FrameFault h)) = (h ≡ e) × (g ≡ f) × (v ≡ w)
+AppliedTo (breaks e live) f g w v (Err (FrameFault h)) = (h ≡ e) × (g ≡ f) × (v ≡ record w { live = live })
 AppliedTo row f g w v (Err FrameNoMemory) = Unit {0}
 AppliedTo row f g w v result = ⊥
 

@@ -9,7 +9,7 @@ use Rattle.muf_model.specs.Needs.{Needs, takes, counts, counts_at, any, an_int, 
 use Rattle.muf_model.specs.declared.prims.Family.TheVariants as kind
 
 -- What is so of a primitive: its name in capitals, the level that a program needs to use it, what it works on, and what it
--- needs on the stack. One without needs isn't there yet.
+-- needs on the stack. One without needs can't be used.
 pub record Row : Type 0 where
   pub name : List ℕ
   pub level : ℕ
@@ -157,7 +157,7 @@ row_of NextProp = row (codes "NEXTPROP") 1 kind.Property (takes (a_text ∷ a_ne
 row_of IsPropDir = row (codes "PROPDIR?") 1 kind.Property (takes (a_text ∷ a_near_one ∷ []))
 row_of EnvProp = row (codes "ENVPROP") 1 kind.Property (takes (a_text ∷ a_near_one ∷ []))
 row_of EnvPropStr = row (codes "ENVPROPSTR") 1 kind.Property (takes (a_text ∷ a_near_one ∷ []))
-row_of ParseMpi = row (codes "PARSEMPI") 3 kind.Property None
+row_of ParseMpi = row (codes "PARSEMPI") 3 kind.Property (takes (an_int ∷ a_text ∷ a_text ∷ one_there ∷ []))
 row_of Notify = row (codes "NOTIFY") 1 kind.Talk (takes (a_text ∷ a_near_one ∷ []))
 row_of NotifyExclude = row (codes "NOTIFY_EXCLUDE") 1 kind.Talk (counts_at 1 (a_text ∷ an_int ∷ []) (one_there ∷ []) (a_near_one ∷ []))
 row_of IsAwake = row (codes "AWAKE?") 1 kind.Talk (takes (one_there ∷ []))
@@ -202,7 +202,7 @@ family_of p = (row_of p).family
 abbrev pub needs_of : Primitive → Option Needs
 needs_of p = (row_of p).needs
 
--- whether programs may use it so far
+-- whether programs may use it
 abbrev pub is_there : Primitive → Bool
 is_there p = is_some (needs_of p)
 

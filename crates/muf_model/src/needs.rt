@@ -144,9 +144,6 @@ macro_rules! takes {
     };
 }
 
-// Those of a primitive that isn't there yet.
-pub(crate) static NOT_YET: Option<Needs> = None;
-
 pub(crate) static ITEM: Option<Needs> = takes!(ANY);
 
 pub(crate) static TWO_ITEMS: Option<Needs> = takes!(ANY, ANY);
@@ -196,6 +193,8 @@ pub(crate) static TEXT_BUT_FOR_COUNTED: Option<Needs> = takes!(1: TEXT, INT; THE
 pub(crate) static KEY_AND_TEXT_FOR_ONE_NEAR: Option<Needs> = takes!(KEY, TEXT, NEAR);
 
 pub(crate) static INT_AND_TEXTS_FOR_ONE_NEAR: Option<Needs> = takes!(INT, TEXT, TEXT, NEAR);
+
+pub(crate) static INT_AND_TEXTS_FOR_ONE_THERE: Option<Needs> = takes!(INT, TEXT, TEXT, THERE);
 
 pub(crate) static ONE_THERE: Option<Needs> = takes!(THERE);
 

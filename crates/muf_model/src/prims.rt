@@ -8,13 +8,13 @@ ghost use Rattle.muf_model.specs.Prims.{row_of, shown_row, level_of, is_local, i
 
 use crate::needs::{
     A_COLLECTION, A_LOCK, A_NUMBERED, A_TEXT, A_VARIABLE, AN_ADDRESS, AN_INT, COUNTED_ITEMS,
-    COUNTED_PAIRS, INT_AND_TEXTS_FOR_ONE_NEAR, INT_OR_OBJECT, INT_OVER_TEXT, INT_OVER_TEXTS,
-    INTS_OVER_TEXT, ITEM, ITEM_OVER_COUNTED, ITEM_OVER_TEXT_AND_INT, KEY_AND_TEXT_FOR_ONE_NEAR,
-    KEY_OF_COLLECTION, KEY_OF_COLLECTION_FOR_ITEM, LIST_OVER_ITEM, LOCK_FOR_ONE_THERE, NOT_YET,
-    NOTHING, Needs, OBJECT_FOR_ONE_NEAR, OBJECT_FOR_ONE_THERE, ONE_NEAR, ONE_THERE,
-    TEXT_BUT_FOR_COUNTED, TEXT_FOR_ONE_NEAR, TEXT_FOR_ONE_THERE, TEXT_FOR_ONE_THERE_OVER_INT,
-    TEXT_OVER_COLLECTION, THREE_ITEMS, THREE_TEXTS, TWO_ALIKE, TWO_INTS, TWO_ITEMS, TWO_OBJECTS,
-    TWO_TEXTS, TWO_THERE, VARIABLE_AND_ITEM,
+    COUNTED_PAIRS, INT_AND_TEXTS_FOR_ONE_NEAR, INT_AND_TEXTS_FOR_ONE_THERE, INT_OR_OBJECT,
+    INT_OVER_TEXT, INT_OVER_TEXTS, INTS_OVER_TEXT, ITEM, ITEM_OVER_COUNTED, ITEM_OVER_TEXT_AND_INT,
+    KEY_AND_TEXT_FOR_ONE_NEAR, KEY_OF_COLLECTION, KEY_OF_COLLECTION_FOR_ITEM, LIST_OVER_ITEM,
+    LOCK_FOR_ONE_THERE, NOTHING, Needs, OBJECT_FOR_ONE_NEAR, OBJECT_FOR_ONE_THERE, ONE_NEAR,
+    ONE_THERE, TEXT_BUT_FOR_COUNTED, TEXT_FOR_ONE_NEAR, TEXT_FOR_ONE_THERE,
+    TEXT_FOR_ONE_THERE_OVER_INT, TEXT_OVER_COLLECTION, THREE_ITEMS, THREE_TEXTS, TWO_ALIKE,
+    TWO_INTS, TWO_ITEMS, TWO_OBJECTS, TWO_TEXTS, TWO_THERE, VARIABLE_AND_ITEM,
 };
 
 /// A primitive. Its name in programs stands in its row of the table, with its level and what it needs on the stack.
@@ -205,7 +205,7 @@ pub enum Family {
 }
 
 /// What is so of a primitive: its name in capitals, the level that a program needs to use it, what it works on, and what
-/// it needs on the stack. One without needs isn't there yet.
+/// it needs on the stack. One without needs can't be used.
 #[derive(Clone, Copy)]
 pub struct Row {
     pub name: &'static [u8],
@@ -216,9 +216,6 @@ pub struct Row {
 
 // One row of the table.
 macro_rules! row {
-    ($name:literal, $level:literal, $family:ident, None) => {
-        row!($name, $level, $family, NOT_YET)
-    };
     ($name:literal, $level:literal, $family:ident, $needs:ident) => {
         Row {
             name: $name,
@@ -388,7 +385,7 @@ impl Primitive {
             Primitive::IsPropDir => row!(b"PROPDIR?", 1, Property, TEXT_FOR_ONE_NEAR),
             Primitive::EnvProp => row!(b"ENVPROP", 1, Property, TEXT_FOR_ONE_NEAR),
             Primitive::EnvPropStr => row!(b"ENVPROPSTR", 1, Property, TEXT_FOR_ONE_NEAR),
-            Primitive::ParseMpi => row!(b"PARSEMPI", 3, Property, None),
+            Primitive::ParseMpi => row!(b"PARSEMPI", 3, Property, INT_AND_TEXTS_FOR_ONE_THERE),
             Primitive::Notify => row!(b"NOTIFY", 1, Talk, TEXT_FOR_ONE_NEAR),
             Primitive::NotifyExclude => row!(b"NOTIFY_EXCLUDE", 1, Talk, TEXT_BUT_FOR_COUNTED),
             Primitive::IsAwake => row!(b"AWAKE?", 1, Talk, ONE_THERE),
@@ -448,14 +445,14 @@ impl Primitive {
         )
     }
 
-    /// What it needs on the stack; `None` exactly where it isn't there yet.
+    /// What it needs on the stack; `None` exactly where it can't be used.
     pub fn needs(self) -> Option<Needs>
         ensures { option_map shown_needs result ≡ needs_of self }
     {
         *self.row().needs
     }
 
-    /// Whether programs may use it so far; a program that names another one doesn't compile.
+    /// Whether programs may use it; a program that names another one doesn't compile.
     pub fn is_there(self) -> bool
         ensures { result ≡ is_there self }
     {

@@ -19,7 +19,7 @@ use Rattle.muf_frame.specs.Shown.{Shown, flat}
 use Rattle.muck_perm.specs.declared.guard.Guard.{Guard}
 use Rattle.muck_perm.specs.Guards.{Same, world_of}
 use Rattle.muck_perm.proofs.Worlds.{kept_itself, same_as}
-use Rattle.spec_prims.specs.Row.{Row, gives, refuses, Doing, unless, given_upon}
+use Rattle.spec_prims.specs.Row.{Row, gives, refuses, breaks, Doing, unless, given_upon}
 use Rattle.spec_prims.specs.Shared.{taken, first_fault, done_by}
 use Rattle.spec_prims.proofs.Fits.{Fits, IsFit}
 use Rattle.prim_common.specs.Applied.{Untouched, Applied, Makes, Given, items_of, argued_of, does_of}
@@ -75,6 +75,7 @@ refused_so row f g h e = subst (λ r. Applied r f f g g (Err (Fault h))) (sym e)
 row_wants : (row : Row) (f g : Shown) (old new : Guard) → Same old new → Applied row f g old new (Err NoMemory)
 row_wants (gives items w) f g old new h = h
 row_wants (refuses e) f g old new h = h
+row_wants (breaks e w) f g old new h = h
 
 untouched_as : (old new : Guard) → new ≡ old → Untouched old new
 untouched_as old new e = (ap (λ (g : Guard). world_of g) e, (ap (λ (g : Guard). g.actor) e, same_as old new e))
@@ -82,11 +83,13 @@ untouched_as old new e = (ap (λ (g : Guard). world_of g) e, (ap (λ (g : Guard)
 makes_fault : (rest : List Datum) (row : Row) (f : Shown) (old new : Guard) (h : PrimFault) → Makes row old new (Err h) → Applied (given_upon rest row) f f old new (Err h)
 makes_fault rest (gives items w) f old new (Fault h) m = absurd m
 makes_fault rest (refuses e) f old new (Fault h) m = (m.0, refl, untouched_as old new m.1)
+makes_fault rest (breaks e w) f old new (Fault h) m = (m.0, refl, m.1, m.2)
 makes_fault rest row f old new NoMemory m = row_wants (given_upon rest row) f f old new (same row m)
   where
     same : (row : Row) → Makes row old new (Err NoMemory) → Same old new
     same (gives items w) m = m
     same (refuses e) m = m
+    same (breaks e w) m = m
 
 pub made_fault : (all row : Row) (rest : List Datum) (f : Shown) (old new : Guard) (h : PrimFault) (r : Result Made PrimFault) → all ≡ given_upon rest row → Makes row old new r → r ≡ Err h → Applied all f f old new (Err h)
 made_fault all row rest f old new h r e m is =
@@ -98,6 +101,7 @@ made_given (gives items w) n f g old new made r x m k is =
     let room : given_upon (drop n (flat f).stack) (gives items w) ≡ gives (items ++ drop n (flat f).stack) w = cond-false _ _ _ (le-ltb stack_most (length (items ++ drop n (flat f).stack)) given.0) in
     subst (λ q. Applied q f g old new (Ok x)) (sym room) (given.1, m.1, m.2)
 made_given (refuses e) n f g old new made r x m k is = absurd m
+made_given (breaks e w) n f g old new made r x m k is = absurd m
 
 pub applied_given : (all row : Row) (n : ℕ) (f g : Shown) (old new : Guard) (made : Made) (q : Result Made PrimFault) (r : Result (Unit {0}) MufFault) (x : Unit {0}) →
     all ≡ given_upon (drop n (flat f).stack) row → Makes row old new q → q ≡ Ok made → Given n (items_of made) f g r → r ≡ Ok x → Applied all f g old new (Ok x)
@@ -116,6 +120,7 @@ made_full (gives items w) n f g old new made h fits m k =
         absurd (omega (arith, few, more, least))
     stays (inr same) more = (m.1 ∙ same, m.2)
 made_full (refuses e) n f g old new made h fits m k = absurd m
+made_full (breaks e w) n f g old new made h fits m k = absurd m
 
 pub applied_full : (all row : Row) (n : ℕ) (f g : Shown) (old new : Guard) (made : Made) (q : Result Made PrimFault) (r : Result (Unit {0}) MufFault) (h : MufFault) →
     all ≡ given_upon (drop n (flat f).stack) row → Fits (take n (flat f).stack) (world_of old) row → Makes row old new q → q ≡ Ok made → Given n (items_of made) f g r → r ≡ Err h → Applied all f g old new (Err (Fault h))

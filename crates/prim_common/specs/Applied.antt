@@ -12,7 +12,7 @@ use Rattle.muf_frame.specs.declared.fault.PrimFault.TheVariants.{Fault, NoMemory
 use Rattle.muf_frame.specs.Shown.{Shown, flat}
 use Rattle.muck_perm.specs.declared.guard.Guard.{Guard}
 use Rattle.muck_perm.specs.Guards.{Same, Kept, world_of}
-use Rattle.spec_prims.specs.Row.{Row, gives, refuses, Doing}
+use Rattle.spec_prims.specs.Row.{Row, gives, refuses, breaks, Doing}
 use Rattle.prim_common.specs.declared.made.Made.{Made}
 use Rattle.prim_common.specs.declared.made.Made.TheVariants.{Nothing, One, Many}
 
@@ -20,13 +20,16 @@ use Rattle.prim_common.specs.declared.made.Made.TheVariants.{Nothing, One, Many}
 abbrev pub Untouched : Guard → Guard → Type 0
 Untouched old new = (world_of new ≡ world_of old) × Kept old new
 
--- The frame has the stack of the row and the guard its world; or the row refuses, and both are as they were. After want
--- of memory nothing is said of them, but that the guard holds the same places.
+-- The frame has the stack of the row and the guard its world; or the row refuses, and both are as they were; or it breaks off,
+-- the frame is as it was and the guard has its world. After want of memory nothing is said of them, but that the guard holds the
+-- same places.
 abbrev pub Applied : Row → Shown → Shown → Guard → Guard → Result (Unit {0}) PrimFault → Type 0
 Applied (gives stack w) f g old new (Ok x) = (flat g ≡ record (flat f) { stack = stack }) × (world_of new ≡ w) × Kept old new
 Applied (gives stack w) f g old new (Err (Fault h)) = ⊥
 Applied (refuses e) f g old new (Ok x) = ⊥
 Applied (refuses e) f g old new (Err (Fault h)) = (h ≡ e) × (g ≡ f) × Untouched old new
+Applied (breaks e w) f g old new (Ok x) = ⊥
+Applied (breaks e w) f g old new (Err (Fault h)) = (h ≡ e) × (g ≡ f) × (world_of new ≡ w) × Kept old new
 Applied row f g old new (Err NoMemory) = Same old new
 
 -- the items that are made, the top first
@@ -35,12 +38,15 @@ items_of Nothing = []
 items_of (One item) = view item ∷ []
 items_of (Many items) = map view items.items
 
--- the items of the row are made, and the guard has its world; or the row refuses, and nothing has changed
+-- the items of the row are made, and the guard has its world; or the row refuses, and nothing has changed; or it breaks off, and
+-- the guard has its world
 abbrev pub Makes : Row → Guard → Guard → Result Made PrimFault → Type 0
 Makes (gives items w) old new (Ok made) = (items_of made ≡ items) × (world_of new ≡ w) × Kept old new
 Makes (gives items w) old new (Err (Fault h)) = ⊥
 Makes (refuses e) old new (Ok made) = ⊥
 Makes (refuses e) old new (Err (Fault h)) = (h ≡ e) × (new ≡ old)
+Makes (breaks e w) old new (Ok made) = ⊥
+Makes (breaks e w) old new (Err (Fault h)) = (h ≡ e) × (world_of new ≡ w) × Kept old new
 Makes row old new (Err NoMemory) = Same old new
 
 -- these items stand in place of so many at the top, where there is room

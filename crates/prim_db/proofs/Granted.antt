@@ -28,7 +28,7 @@ use Rattle.muck_perm.specs.declared.guard.Guard.{Guard}
 use Rattle.muck_perm.specs.Guards.{Same, Done, Founds, objects_of, world_of}
 use Rattle.muck_perm.proofs.Worlds.{same_as}
 use Rattle.spec_prims.specs.Asking.{fault_of}
-use Rattle.spec_prims.specs.Row.{Row, gives, refuses, unless}
+use Rattle.spec_prims.specs.Row.{Row, gives, refuses, breaks, unless}
 use Rattle.spec_prims.specs.ObjectWrites.{changed, given_made, key_kept_of, lock_kept, locked_by, made_so, new_made}
 use Rattle.prim_common.specs.Applied.{Makes}
 use Rattle.prim_common.specs.declared.made.Made.{Made}
@@ -39,6 +39,7 @@ use Rattle.prim_db.specs.Changed.{IsMade, Leaves}
 wants_in : (row : Row) (old new : Guard) → Same old new → Makes row old new (Err NoMemory)
 wants_in (gives items w) old new h = h
 wants_in (refuses e) old new h = h
+wants_in (breaks e w) old new h = h
 
 pub wants_made : (row : Row) (old new : Guard) → new ≡ old → Makes row old new (Err NoMemory)
 wants_made row old new e = wants_in row old new (same_as old new e)

@@ -4,3 +4,4 @@ pub mod Missing
 pub mod Behind
 pub mod Walks
 pub mod Fronts
+pub mod Parsing

@@ -2,6 +2,7 @@
 #![tactic(auto)]
 
 mod asked;
+mod formulas;
 mod looking;
 mod seeking;
 mod table;

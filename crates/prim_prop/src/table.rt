@@ -8,6 +8,7 @@ ghost use Rattle.spec_prims.specs.PropRows.{property_row};
 ghost use Rattle.spec_prims.specs.Shared.{shared, taken};
 ghost use Rattle.prim_common.specs.Applied.{Applied, Makes, does_of};
 
+use crate::formulas::parse;
 use crate::looking::{Form, Look, look_at};
 use crate::seeking::seek;
 use crate::walking::walk;
@@ -33,13 +34,15 @@ fn made(prim: Prim, guard: &mut Guard, frame: &Frame) -> Result<Made, PrimFault>
         Prim::SetProp => put(guard, frame),
         Prim::AddProp => add(guard, frame),
         Prim::RemoveProp => remove(guard, frame),
+        Prim::ParseMpi => parse(guard, frame),
         _ => Err(PrimFault::Fault(MufFault::NotCompiled)),
     }
 }
 
 /// Uses a primitive of properties, as the actor to whom the guard lends the world: the frame and the world are as its row
-/// says, or it is refused by the fault of the row and both are unchanged. Those that may be used so far are those with a
-/// row; of the others `NotCompiled` comes. After `NoMemory` nothing is said of the frame and of the world.
+/// says, or it is refused by the fault of the row and both are unchanged; but where a formula breaks off, what it changed before
+/// stays. Those that may be used are those with a row; of the others `NotCompiled` comes. After `NoMemory` nothing is said of the
+/// frame and of the world.
 pub fn apply(prim: Prim, guard: &mut Guard, frame: &mut Frame) -> Result<(), PrimFault>
     requires { family_of prim ≡ Property }
     ensures row { (descr : Option ℕ) → Applied (shared prim guard.old.actor descr (locked_by (flat frame.old).marks) (flat frame.old).stack (world_of guard.old)) frame.old frame.new guard.old guard.new result }

@@ -75,8 +75,8 @@ pub(crate) fn put(guard: &mut Guard, frame: &Frame) -> Result<Made, PrimFault>
     put_at(guard, object, text, value)
 }
 
-// An integer, and a text under it.
-fn added_by(frame: &Frame) -> Option<(i32, &Text)>
+/// An integer, and a text under it.
+pub(crate) fn added_by(frame: &Frame) -> Option<(i32, &Text)>
     ensures { option_map (λ p. (p.0, p.1.now)) result ≡ added_by (flat frame.now).stack }
 {
     let number = frame.int_at(0)?;

@@ -31,7 +31,7 @@ use Rattle.muf_model.specs.Tree.{Definition, Tree}
 use Rattle.muf_model.specs.Source.{Program, Source, last_word, locked_of, calls_of, handed, entered}
 use Rattle.muf_model.specs.Unit.{Outcome, goes, faulted, asks, unit, fault, calls_most}
 use Rattle.spec_prims.specs.Asking.{numbered}
-use Rattle.spec_prims.specs.Row.{Row, gives as row_gives, refuses as row_refuses}
+use Rattle.spec_prims.specs.Row.{Row, gives as row_gives, refuses as row_refuses, breaks as row_breaks}
 use Rattle.spec_prims.specs.Shared.{shared}
 use Rattle.muck_library.specs.declared.flaw.Flaw.{Flaw}
 use Rattle.muck_library.specs.Programs.{built_tree}
@@ -276,6 +276,7 @@ module _ (w : World) where
   deed_lifted : (s : Source) (row : Row) → LeadsSame (lifted s w row)
   deed_lifted s (row_gives stack live) = refl
   deed_lifted s (row_refuses f) = refl
+  deed_lifted s (row_breaks f live) = refl
 
   deed_any : (pid : ℤ) (x : Agent) (p : Name) (s : Source) → LeadsSame (deed pid x p s w)
   unfolding deed row_done

@@ -10,11 +10,12 @@ use Rattle.spec_events.specs.Slices.{turn, unit_of, run_of}
 use Rattle.spec_events.specs.Licences.{UnitLicensed}
 use Rattle.spec_events.proofs.Endings.{IsTold}
 use Rattle.spec_events.proofs.Slicing.{run_holds}
+use Rattle.spec_events.proofs.Formulas.{notes_turn}
 use Rattle.spec_events.proofs.Remaining.{leaves_turn}
 use Rattle.spec_events.proofs.Taken.{opens_turn, told_turn}
 
 unit_licensed : (tune : Tune) (pid : ℤ) (x : Agent) (s : Source) (w : World) → IsTold w.live → UnitLicensed pid (unit_of x s w (turn tune pid x s w))
-unit_licensed tune pid x s w told = ((opens_turn tune pid x s w).licensed, leaves_turn tune pid x s w told)
+unit_licensed tune pid x s w told = ((opens_turn tune pid x s w).licensed, leaves_turn tune pid x s w told, notes_turn tune pid x s w told)
 
 pub units_licensed : (tune : Tune) (pid : ℤ) (n : ℕ) (w : World) → IsTold w.live → All (UnitLicensed pid) (run_of tune n pid w)
 units_licensed tune pid n w =

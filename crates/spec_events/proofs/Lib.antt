@@ -15,6 +15,7 @@ pub mod Sections
 pub mod Numbers
 pub mod Taken
 mod Remaining
+mod Formulas
 mod Judged
 mod Chained
 pub mod Living

@@ -32,7 +32,7 @@ use Rattle.spec_events.specs.Dumping.{dump_stored, dump_failed, told_each}
 use Rattle.spec_events.specs.Lines.{program_aborted, is_abort, given_line, line_for, line_done, done}
 use Rattle.spec_events.specs.Slices.{Taken, after_unit, last_world, awake, units_of}
 use Rattle.spec_events.specs.Steps.{is_died, is_allowed, is_lawful, happened, effect}
-use Rattle.spec_events.specs.Licences.{LineLicensed, TurnLicensed, UnitLicensed, Chained, SliceLicensed, EventLicensed}
+use Rattle.spec_events.specs.Licences.{LineLicensed, TurnLicensed, UnitLicensed, answering, Chained, SliceLicensed, EventLicensed}
 use Rattle.spec_events.specs.Histories.{after, AllLawful, AllLicensed}
 use Rattle.spec_events.specs.Passwords.{credentials, Proves, Stays, IsKnown, AllKnown}
 use Rattle.spec_events.proofs.Quietly.{quiet_told_each}
@@ -258,7 +258,7 @@ chain_kept pid e w [] us cs = refl
 chain_kept pid e w (t ∷ ts) us cs =
     let u : UnitLicensed pid t = All-head (UnitLicensed pid) t ts us in
     chain_kept pid e (after_unit t) ts (All-tail (UnitLicensed pid) t ts us) cs.1
-    ∙ (player-same_ties t.actor e t.before.live.board.connections (after_unit t).live.board.connections u.0.connections ∙ ap (λ (v : World). player_in e v.live.board) cs.0.world)
+    ∙ (player-same_ties (answering t) e t.before.live.board.connections (after_unit t).live.board.connections u.0.connections ∙ ap (λ (v : World). player_in e v.live.board) cs.0.world)
 
 slice_kept : (pid : ℤ) (e : ℕ) (ts : List Taken) (w v : World) → SliceLicensed pid ts w v → player_in e v.live.board ≡ player_in e w.live.board
 slice_kept pid e ts w v s = ap (λ (l : Live). player_in e l.board) s.leads ∙ chain_kept pid e (awake pid w) ts s.units s.chained

@@ -14,8 +14,9 @@ use Rattle.muf_model.specs.Unit.{Outcome, goes, faulted, asks, unit, fault}
 use Rattle.muf_model.specs.Chains.{programs_of, Keeps as Keep}
 use Rattle.muf_model.proofs.Chains.{unit_keeps}
 use Rattle.std.specs.Ordering.{int_eq}
-use Rattle.spec_prims.specs.Row.{Row, gives, refuses}
+use Rattle.spec_prims.specs.Row.{Row, gives, refuses, breaks}
 use Rattle.spec_prims.specs.Shared.{shared}
+use Rattle.spec_prims.specs.Formulas.{answers_for}
 use Rattle.spec_prims.proofs.Opens.{RowOpen, shared_open}
 use Rattle.muck_queue.specs.declared.process.Process.{Process}
 use Rattle.muck_queue.specs.Queues.{Queue, at_state, counted, has_pid, is_in, on_process, without}
@@ -54,6 +55,7 @@ module _ (pid : ℤ) (may : Process → Type 0) (steady : IsSteady may) (own : (
   lasting_row : (a : Actor) (s : Source) (w : World) (row : Row) → IsTold w.live → RowOpen a w.live row → DeedLasts w (lifted s w row)
   lasting_row a s w (gives stack live) told h = (lasting_same may w.queue, marks_lapse a nobody w.live live (λ x. refl) told h.marks)
   lasting_row a s w (refuses f) told h = lasting_same may w.queue
+  lasting_row a s w (breaks f live) told h = lasting_same may w.queue
 
   lasting_left : (w : World) (d : Deed World) → IsTold w.live → Leads (Left may w) d → DeedLasts w d
   lasting_left w (does t v) told h = (h.lasting, told_lapse w.live v.live h.quietly.objects told)
@@ -68,7 +70,7 @@ module _ (pid : ℤ) (may : Process → Type 0) (steady : IsSteady may) (own : (
       either true = lasting_left w (process_done pid x p s w) told (leads_done may w steady pid x p s ends)
       either false =
           let a : Actor = acting x s w.live.objects in
-          lasting_row a s w (shared p a x.descr (locked_of s.marks) s.stack w.live) told (shared_open p a x.descr (locked_of s.marks) s.stack w.live)
+          lasting_row (answers_for p a w.live.objects) s w (shared p a x.descr (locked_of s.marks) s.stack w.live) told (shared_open p a x.descr (locked_of s.marks) s.stack w.live)
 
   -- what follows ends such as run what lapsed
   abbrev Cuts : World → World → Type 0

@@ -15,7 +15,7 @@ use Rattle.muf_model.specs.Source.{Program, Source, locked_of, calls_of, handed,
 use Rattle.muf_model.specs.Unit.{calls_most, Outcome, goes, ended, faulted, asks, stuck, unit, fault}
 use Rattle.muck_library.specs.Library.{formed}
 use Rattle.spec_prims.specs.Asking.{numbered}
-use Rattle.spec_prims.specs.Row.{Row, gives, refuses}
+use Rattle.spec_prims.specs.Row.{Row, gives, refuses, breaks}
 use Rattle.spec_prims.specs.Shared.{shared}
 use Rattle.muck_queue.specs.declared.mode.Mode.{Mode}
 use Rattle.muck_queue.specs.declared.mode.Mode.TheVariants.{Background}
@@ -63,6 +63,7 @@ module _ (most left : ℕ) (pid : ℤ) where
   lifted_leaves : (s : Source) (w : World) (r : Row) → May w → DeedLeaves (lifted s w r)
   lifted_leaves s w (gives stack live) h = h
   lifted_leaves s w (refuses f) h = h
+  lifted_leaves s w (breaks f live) h = h
 
   word_leaves : (s : Source) (p : Program) (o : Option Definition) (w : World) → May w → DeedLeaves (word_entered s p o w)
   word_leaves s p None w h = h

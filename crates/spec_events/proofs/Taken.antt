@@ -1,8 +1,8 @@
 -- Each unit of a slice changes only what is open to who acts in it.
-use Rattle.std.proofs.Common.{◌≡◌, ℕ, ℤ, Bool, true, false, cond, List, [], ◌∷◌, map, refl, ap, subst, Option, Some, None}
+use Rattle.std.proofs.Common.{◌≡◌, ℕ, ℤ, Bool, true, false, cond, List, [], ◌∷◌, map, refl, sym, ap, ◌∙◌, subst, Option, Some, None}
 use Rattle.muck_model.specs.declared.dbref.Dbref.{Dbref}
 use Rattle.muck_model.specs.declared.tune.Tune.{Tune}
-use Rattle.spec_live.specs.Lives.{tell_player}
+use Rattle.spec_live.specs.Lives.{Live, tell_player}
 use Rattle.spec_rights.specs.declared.act.Actor.{Actor}
 use Rattle.spec_rights.specs.Licence.{nobody}
 use Rattle.spec_rights.proofs.Shown.{quiet_tell_player}
@@ -14,14 +14,20 @@ use Rattle.muf_model.specs.Chains.{programs_of, Keeps as Keep}
 use Rattle.muf_model.proofs.Chains.{unit_keeps}
 use Rattle.spec_prims.specs.Asking.{numbered}
 use Rattle.spec_rights.specs.Levels.{level, user}
-use Rattle.spec_live.specs.Objects.{Entry}
-use Rattle.spec_prims.specs.Row.{Row, gives, refuses}
+use Rattle.std.specs.Prelude.{slice_get}
+use Rattle.std.specs.Option.{option_map, option_and_then}
+use Rattle.std.proofs.lemmas.Option.{slice_get-map}
+use Rattle.spec_live.specs.Objects.{Entry, mark_in}
+use Rattle.spec_prims.specs.Row.{Row, gives, refuses, breaks}
 use Rattle.spec_prims.specs.Shared.{shared}
+use Rattle.spec_mpi.specs.Touching.{TouchesNotes, without_props}
+use Rattle.spec_prims.specs.Formulas.{answers_for}
 use Rattle.spec_prims.proofs.Opens.{RowOpen, same_open, shared_open}
 use Rattle.muck_queue.specs.Queues.{standing, without}
 use Rattle.spec_processes.specs.ProcessRows.{is_process}
 use Rattle.spec_events.specs.declared.starting.Agent.{Agent}
 use Rattle.spec_events.specs.World.{World}
+use Rattle.spec_events.specs.Licences.{answers_at}
 use Rattle.spec_events.specs.Slices.{acting, Deed, does, rests, fails, lifted, row_done, process_done, deed, stands_at, ended_one, out, one_counted, broken, program_error, went, after_deed, unit_done, limit_fault, within_limit, turn, world_of, slice_most, run_of, last_world, awake, sliced}
 use Rattle.spec_events.proofs.Quietly.{Quietly, quietly_live, quietly_queue}
 use Rattle.spec_events.proofs.Endings.{IsTold, told_settled}
@@ -41,6 +47,7 @@ module _ (a : Actor) (w : World) where
   opens_row : (s : Source) (row : Row) → RowOpen a w.live row → Leads Opens (lifted s w row)
   opens_row s (gives stack live) h = record { licensed = h.licensed; tuned = in_range_as w.live live h.tune; alive = refl; still = refl }
   opens_row s (refuses f) h = opens_itself
+  opens_row s (breaks f live) h = record { licensed = h.0.licensed; tuned = in_range_as w.live live h.0.tune; alive = refl; still = refl }
 
   opens_quietly : (v : World) → Quietly w v → Opens v
   opens_quietly v q = open_quietly a nobody w.live (state_of w) w v opens_itself q
@@ -65,16 +72,20 @@ module _ (a : Actor) (w : World) where
   opens_after pid player s (rests t v) h = open_settled a nobody w.live (state_of w) (stands_at pid t v) (opens_standing pid t v h)
   opens_after pid player s (fails f v) h = opens_went pid player s.program.number (fault f s) v h
 
-opens_deed : (pid : ℤ) (x : Agent) (p : Name) (s : Source) (w : World) → Leads (Opens (acting x s w.live.objects) w) (deed pid x p s w)
+opens_deed : (pid : ℤ) (x : Agent) (p : Name) (s : Source) (w : World) → Leads (Opens (answers_for p (acting x s w.live.objects) w.live.objects) w) (deed pid x p s w)
 unfolding deed row_done
 opens_deed pid x p s w = either (is_process p)
   where
-    either : (b : Bool) → Leads (Opens (acting x s w.live.objects) w) (cond b (process_done pid x p s w) (row_done x p s w))
-    either true =
-        leads_more (Quietly w) (Opens (acting x s w.live.objects) w) (opens_quietly (acting x s w.live.objects) w) (process_done pid x p s w) (leads_quietly pid x p s w)
+    a : Actor
+    a = acting x s w.live.objects
+
+    by : Actor
+    by = answers_for p a w.live.objects
+
+    either : (b : Bool) → Leads (Opens by w) (cond b (process_done pid x p s w) (row_done x p s w))
+    either true = leads_more (Quietly w) (Opens by w) (opens_quietly by w) (process_done pid x p s w) (leads_quietly pid x p s w)
     either false =
-        let a : Actor = acting x s w.live.objects in
-        opens_row a w s (shared p a x.descr (locked_of s.marks) s.stack w.live) (shared_open p a x.descr (locked_of s.marks) s.stack w.live)
+        opens_row by w s (shared p a x.descr (locked_of s.marks) s.stack w.live) (shared_open p a x.descr (locked_of s.marks) s.stack w.live)
 
 -- the state at a shared primitive is in the same programs
 abbrev acting_with : Agent → Program → List Program → List Entry → Actor
@@ -92,19 +103,23 @@ pub same_actor : (x : Agent) (s t : Source) (es : List Entry) → programs_of t 
 unfolding acting
 same_actor x s t es e = ap (λ ps. acting_in x ps s.program es) e
 
-opens_unit : (pid : ℤ) (x : Agent) (s : Source) (w : World) (o : Outcome) → unit s ≡ o → Opens (acting x s w.live.objects) w (world_of (unit_done pid x s.program.number o w))
+opens_unit : (pid : ℤ) (x : Agent) (s : Source) (w : World) (o : Outcome) → unit s ≡ o → Opens (answers_at o (acting x s w.live.objects) w.live.objects) w (world_of (unit_done pid x s.program.number o w))
 opens_unit pid x s w (asks p t) e =
     let kept : Keep (programs_of s) (asks p t) = subst (Keep (programs_of s)) e (unit_keeps s) in
     let d : Deed World = deed pid x p t (out pid w) in
-    subst (λ a. Opens a w (world_of (after_deed pid x.player t d))) (same_actor x s t w.live.objects kept.0)
-    (opens_after (acting x t w.live.objects) w pid x.player t d (opens_deed pid x p t (out pid w)))
+    subst (λ a. Opens (answers_for p a w.live.objects) w (world_of (after_deed pid x.player t d))) (same_actor x s t w.live.objects kept.0)
+    (opens_after (answers_for p (acting x t w.live.objects) w.live.objects) w pid x.player t d (opens_deed pid x p t (out pid w)))
 opens_unit pid x s w o e = opens_went (acting x s w.live.objects) w pid x.player s.program.number o w (opens_itself _ w)
 
-opens_limited : (pid : ℤ) (x : Agent) (s : Source) (w : World) (o : Option MufFault) → Opens (acting x s w.live.objects) w (world_of (within_limit o pid x s w))
+-- who answers for the next unit of a process that stands there
+abbrev answers_next : Agent → Source → World → Actor
+answers_next x s w = answers_at (unit s) (acting x s w.live.objects) w.live.objects
+
+opens_limited : (pid : ℤ) (x : Agent) (s : Source) (w : World) (o : Option MufFault) → Opens (answers_next x s w) w (world_of (within_limit o pid x s w))
 opens_limited pid x s w (Some f) = opens_broken _ w pid x.player s.program.number f w (opens_itself _ w)
 opens_limited pid x s w None = opens_unit pid x s (one_counted pid w) (unit s) refl
 
-pub opens_turn : (tune : Tune) (pid : ℤ) (x : Agent) (s : Source) (w : World) → Opens (acting x s w.live.objects) w (world_of (turn tune pid x s w))
+pub opens_turn : (tune : Tune) (pid : ℤ) (x : Agent) (s : Source) (w : World) → Opens (answers_next x s w) w (world_of (turn tune pid x s w))
 unfolding turn
 opens_turn tune pid x s w = opens_limited pid x s w (limit_fault tune (acting x s w.live.objects).level x)
 
@@ -115,9 +130,22 @@ DeedTold (does t v) = Unit {0}
 DeedTold (rests t v) = Unit {0}
 DeedTold (fails f v) = IsTold v.live
 
-told_row : (s : Source) (w : World) (row : Row) → IsTold w.live → DeedTold (lifted s w row)
-told_row s w (gives stack live) h = tt
-told_row s w (refuses f) h = h
+-- what touches notes alone leaves nothing to be told
+mark_shown : (es : List Entry) (n : ℕ) → mark_in (map without_props es) n ≡ mark_in es n
+unfolding mark_in
+mark_shown es n = ap (λ o. option_and_then (λ (e : Entry). e.mark) o) (slice_get-map without_props es n) ∙ at (slice_get es n)
+  where
+    at : (o : Option Entry) → option_and_then (λ (e : Entry). e.mark) (option_map without_props o) ≡ option_and_then (λ (e : Entry). e.mark) o
+    at None = refl
+    at (Some e) = refl
+
+pub told_touched : (w v : Live) → TouchesNotes w v → IsTold w → IsTold v
+told_touched w v t h n = sym (mark_shown v.objects n) ∙ ap (λ es. mark_in es n) t.objects ∙ mark_shown w.objects n ∙ h n
+
+told_row : (a : Actor) (s : Source) (w : World) (row : Row) → RowOpen a w.live row → IsTold w.live → DeedTold (lifted s w row)
+told_row a s w (gives stack live) r h = tt
+told_row a s w (refuses f) r h = h
+told_row a s w (breaks f live) r h = told_touched w.live live r.1 h
 
 told_quietly : (w : World) (d : Deed World) → IsTold w.live → Leads (Quietly w) d → DeedTold d
 told_quietly w (does t v) h q = tt
@@ -130,7 +158,9 @@ told_deed pid x p s w h = either (is_process p)
   where
     either : (b : Bool) → DeedTold (cond b (process_done pid x p s w) (row_done x p s w))
     either true = told_quietly w (process_done pid x p s w) h (leads_quietly pid x p s w)
-    either false = told_row s w (shared p (acting x s w.live.objects) x.descr (locked_of s.marks) s.stack w.live) h
+    either false =
+        let a : Actor = acting x s w.live.objects in
+        told_row (answers_for p a w.live.objects) s w (shared p a x.descr (locked_of s.marks) s.stack w.live) (shared_open p a x.descr (locked_of s.marks) s.stack w.live) h
 
 module _ (pid : ℤ) where
   told_broken : (player : Dbref) (program : ℤ) (f : MufFault) (w : World) → IsTold w.live → IsTold (broken pid player program f w).live
@@ -168,7 +198,7 @@ told_sliced pid w h = told_run w.live.board.tune pid (slice_most w.live.board.tu
 -- The world lives on behind a slice, with the same connections, and what is tuned stays in its range.
 
 going_turn : (tune : Tune) (pid : ℤ) (x : Agent) (s : Source) (w : World) → Going w (world_of (turn tune pid x s w))
-going_turn tune pid x s w = going_open (acting x s w.live.objects) nobody w _ (opens_turn tune pid x s w)
+going_turn tune pid x s w = going_open (answers_next x s w) nobody w _ (opens_turn tune pid x s w)
 
 going_run : (tune : Tune) (pid : ℤ) (n : ℕ) (w : World) → Going w (last_world w (run_of tune n pid w))
 going_run tune pid n w = run_holds tune pid (λ v ts. Going v (last_world v ts)) going_same (λ v x s ts e rest. going_both v _ _ (going_turn tune pid x s v) rest) n w

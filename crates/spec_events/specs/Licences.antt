@@ -8,6 +8,8 @@ use Rattle.spec_live.specs.Objects.{Entry}
 use Rattle.spec_live.specs.Connections.{Connection, has_number}
 use Rattle.spec_live.specs.Lives.{Live, enter}
 use Rattle.spec_rights.specs.declared.act.Actor.{Actor}
+use Rattle.muf_model.specs.Unit.{Outcome, asks, unit}
+use Rattle.spec_prims.specs.Formulas.{answers_for, is_formula}
 use Rattle.spec_rights.specs.Licence.{Freedom, Licensed, LeaversLicensed, editing, nobody}
 use Rattle.spec_mpi.specs.Touching.{TouchesNotes}
 use Rattle.spec_commands.specs.Finding.{actor_of}
@@ -55,12 +57,26 @@ LineLicensed d None (Some player) editor (line ∷ lines) w v =
 LineLicensed d None None editor (line ∷ lines) w v = Undisturbed (has_number d) w v ⊎ LetsIn d lines w v
 LineLicensed d reader player editor lines w v = Undisturbed (has_number d) w v
 
--- A unit changes only what is open to the running program, by the rights before it. Of the processes it ends its own, such as
--- it may end by those rights, and such as run a program that it changed.
+-- who answers for what a unit changes: the running program, but where the unit is a formula its player, by the player's own rights
+abbrev pub answers_at : Outcome → Actor → List Entry → Actor
+answers_at (asks p s) a es = answers_for p a es
+answers_at o a es = a
+
+abbrev pub answering : Taken → Actor
+answering t = answers_at (unit t.state) t.actor t.before.live.objects
+
+-- a formula changes properties, what waits to be sent and the state of the random numbers alone
+abbrev pub NotesAt : Outcome → Live → Live → Type 0
+NotesAt (asks p s) w v = is_formula p ≡ true → TouchesNotes w v
+NotesAt o w v = Unit {0}
+
+-- A unit changes only what is open to whom answers for it, by the rights before it; and where it is a formula, notes alone. Of the
+-- processes it ends its own, such as the running program may end by those rights, and such as run a program that it changed.
 abbrev pub UnitLicensed : ℤ → Taken → Type 0
 UnitLicensed pid t =
-    Licensed t.actor nobody t.before.live (after_unit t).live
+    Licensed (answering t) nobody t.before.live (after_unit t).live
     × ProcessesLicensed (EndsIn pid t.actor t.before.live (after_unit t).live) t.before (after_unit t)
+    × NotesAt (unit t.state) t.before.live (after_unit t).live
 
 -- A unit of the process begins in this world: at the state where the process stands in it, and by who acts there.
 pub record Begins (pid : ℤ) (w : World) (t : Taken) : Type 0 where

@@ -22,7 +22,7 @@ use Rattle.muf_model.specs.Source.{Program, Source, locked_of, calls_of, handed,
 use Rattle.muf_model.specs.Unit.{calls_most, Outcome, goes, faulted, asks, unit, fault}
 use Rattle.muf_model.specs.Chains.{callers_of}
 use Rattle.spec_prims.specs.Asking.{numbered}
-use Rattle.spec_prims.specs.Row.{Row, gives, refuses}
+use Rattle.spec_prims.specs.Row.{Row, gives, refuses, breaks}
 use Rattle.spec_prims.specs.Shared.{shared}
 use Rattle.muck_library.specs.Library.{Library, formed}
 use Rattle.muck_queue.specs.declared.mode.Mode.TheVariants.{Background}
@@ -66,6 +66,7 @@ behind stack s = passed (record s { stack = stack })
 abbrev pub lifted : Source → World → Row → Deed World
 lifted s w (gives stack live) = does (behind stack s) (record w { live = live })
 lifted s w (refuses f) = fails f w
+lifted s w (breaks f live) = fails f (record w { live = live })
 
 -- it is done as its row says, by the running program
 unfoldable pub row_done : Agent → Name → Source → World → Deed World

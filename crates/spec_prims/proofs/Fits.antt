@@ -4,7 +4,7 @@ use Rattle.std.proofs.Common.{◌≡◌, ◌≤◌, ◌⊎◌, inl, inr, ℕ, Li
 use Rattle.spec_live.specs.Lives.{Live, Change}
 use Rattle.spec_rights.specs.declared.act.Actor.{Actor}
 use Rattle.muf_model.specs.declared.prims.Primitive.{Primitive}
-use Rattle.muf_model.specs.declared.prims.Primitive.TheVariants.{Notify, NotifyExclude, IsAwake, Online, ConCount, ConDbref, Descriptors, Descr, ConBoot, GetProp, GetPropStr, GetPropVal, SetProp, AddProp, RemoveProp, NextProp, IsPropDir, EnvProp, EnvPropStr}
+use Rattle.muf_model.specs.declared.prims.Primitive.TheVariants.{Notify, NotifyExclude, IsAwake, Online, ConCount, ConDbref, Descriptors, Descr, ConBoot, GetProp, GetPropStr, GetPropVal, SetProp, AddProp, RemoveProp, NextProp, IsPropDir, EnvProp, EnvPropStr, ParseMpi}
 use Rattle.muck_model.specs.declared.dbref.Dbref.{Dbref}
 use Rattle.muf_model.specs.Datum.{Datum, int, text, object}
 use Rattle.std.specs.Prelude.{ℤ, pos, take, drop}
@@ -24,6 +24,10 @@ use Rattle.muf_model.specs.declared.fault.MufFault.{MufFault}
 use Rattle.spec_prims.specs.Asking.{numbered, fault_of}
 use Rattle.spec_prims.specs.Row.{Row, gives, refuses, Doing, unless}
 use Rattle.spec_prims.specs.PropRows.{at_path, value_of, as_item, as_text, as_number, has_below, seen_at, looked, first_holder, sought, name_fault, begins, next_read, walked, written_at, put_at, put, text_or, added, removed, property_row}
+use Rattle.spec_commands.specs.Finding.{actor_of}
+use Rattle.spec_mpi.specs.Telling.{Answer}
+use Rattle.spec_mpi.specs.Messages.{heard, variables_of}
+use Rattle.spec_prims.specs.Formulas.{answered, parsed, parse_done}
 use Rattle.spec_prims.specs.Talk.{notified, told_but, object_in, notified_but, booted_seat, booted, seat_at, awake, connected_at, player_given, player_at, descriptors, talk_row}
 use Rattle.std.specs.Prelude.{option_map, Result, Ok, Err}
 use Rattle.muf_model.specs.declared.fault.MufFault.{MufFault}
@@ -150,6 +154,17 @@ fits_removed : (a : Actor) (items : List Datum) (w : Live) → Fits items w (rem
 fits_removed a (text t ∷ object d ∷ []) w = fits_written a t (numbered d) (unstored (numbered d) (segments_of t)) (text t ∷ object d ∷ []) w
 fits_removed a _ w = tt
 
+fits_answered : (answer : Answer) (items : List Datum) (w v : Live) → length items ≡ 4 → Fits items w (answered answer v)
+fits_answered (Ok value) items w v e = inl (omega (arith, e))
+fits_answered (Err fault) items w v e = tt
+
+fits_parse : (a : Actor) (items : List Datum) (w : Live) → Fits items w (parse_done a items w)
+unfolding parsed
+fits_parse a (int i ∷ text how ∷ text formula ∷ object this ∷ []) w =
+    let done = heard (actor_of w.objects a.player) (numbered this) formula (variables_of how [] []) w in
+    fits_answered done.0 (int i ∷ text how ∷ text formula ∷ object this ∷ []) w done.1 refl
+fits_parse a _ w = tt
+
 pub fits_property : (p : Primitive) → IsFit (property_row p)
 fits_property GetProp = fits_looked (λ o path. as_item (value_of o path))
 fits_property GetPropStr = fits_looked (λ o path. as_text (value_of o path))
@@ -161,4 +176,5 @@ fits_property NextProp = fits_walked
 fits_property SetProp = fits_put
 fits_property AddProp = fits_added
 fits_property RemoveProp = fits_removed
+fits_property ParseMpi = fits_parse
 fits_property _ = tt

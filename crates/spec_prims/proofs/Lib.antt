@@ -4,3 +4,4 @@ pub mod Writes
 pub mod Fits
 pub mod Opens
 pub mod There
+pub mod Touches

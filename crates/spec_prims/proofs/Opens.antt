@@ -1,6 +1,6 @@
 -- What each row changes is open to who acts, and so is what is to be told of it.
-pub use Rattle.spec_prims.proofs.Open.{RowOpen, IsOpen, ended_open, same_open, shows_open}
-use Rattle.std.proofs.Common.{◌≡◌, ℕ, Bool, true, false, cond, List, [], ◌∷◌, take, drop, Option, Some, None, refl}
+pub use Rattle.spec_prims.proofs.Open.{RowOpen, IsOpen, IsOpenTo, ended_open, same_open, shows_open}
+use Rattle.std.proofs.Common.{◌≡◌, ℕ, Bool, true, false, cond, List, [], ◌∷◌, take, drop, Option, Some, None, refl, sym, subst}
 use Rattle.std.specs.Option.{option_or, option_map_or}
 use Rattle.std.specs.Prelude.{option_map, Result, Ok, Err}
 use Rattle.spec_live.specs.Lives.{Live}
@@ -19,7 +19,7 @@ use Rattle.muf_model.specs.declared.fault.MufFault.{MufFault}
 use Rattle.muf_model.specs.declared.prims.Family.{Family}
 use Rattle.muf_model.specs.declared.prims.Family.TheVariants as kind
 use Rattle.muf_model.specs.declared.prims.Primitive.{Primitive}
-use Rattle.muf_model.specs.declared.prims.Primitive.TheVariants.{Notify, NotifyExclude, IsAwake, Online, ConCount, ConDbref, Descriptors, Descr, ConBoot, GetProp, GetPropStr, GetPropVal, SetProp, AddProp, RemoveProp, NextProp, IsPropDir, EnvProp, EnvPropStr}
+use Rattle.muf_model.specs.declared.prims.Primitive.TheVariants.{Notify, NotifyExclude, IsAwake, Online, ConCount, ConDbref, Descriptors, Descr, ConBoot, GetProp, GetPropStr, GetPropVal, SetProp, AddProp, RemoveProp, NextProp, IsPropDir, EnvProp, EnvPropStr, ParseMpi}
 use Rattle.std.specs.Prelude.{ℤ, pos}
 use Rattle.std.specs.List.{filter_map}
 use Rattle.muck_model.specs.declared.dbref.Dbref.{Dbref}
@@ -29,15 +29,22 @@ use Rattle.muck_prop.specs.declared.value.PropValue.{PropValue}
 use Rattle.muck_prop.specs.declared.value.PropValue.TheVariants.{Text, Number}
 use Rattle.muck_prop.specs.Paths.{path_fault, segments_of}
 use Rattle.spec_live.specs.declared.object.Object.{Object}
-use Rattle.spec_live.specs.Objects.{object_at}
+use Rattle.spec_live.specs.Objects.{Entry, object_at}
 use Rattle.spec_live.specs.Seen.{places_of}
 use Rattle.muf_model.specs.Datum.{Datum, int, text, object}
 use Rattle.muf_model.specs.Ladder.{too_short}
 use Rattle.muf_model.specs.Needs.{Needs}
 use Rattle.muf_model.specs.Prims.{family_of, level_of, needs_of}
 use Rattle.spec_prims.specs.Asking.{numbered, fault_of, level_fault}
-use Rattle.spec_prims.specs.Row.{Row, gives, refuses, Doing, unless, given_upon}
+use Rattle.spec_prims.specs.Row.{Row, gives, refuses, breaks, Doing, unless, given_upon}
 use Rattle.spec_prims.specs.PropRows.{at_path, by_leave, value_of, as_item, as_text, as_number, has_below, looked, first_holder, sought, name_fault, walked, put_at, put, text_or, added, removed, property_row}
+use Rattle.spec_commands.specs.Finding.{actor_of}
+use Rattle.mpi.specs.Variables.{Variables}
+use Rattle.spec_mpi.specs.Telling.{Answer}
+use Rattle.spec_mpi.specs.Messages.{heard, variables_of}
+use Rattle.spec_mpi.specs.Touching.{TouchesNotes}
+use Rattle.spec_mpi.proofs.Leave.{stays_heard, heard_touches}
+use Rattle.spec_prims.specs.Formulas.{answered, parsed, parse_done, is_formula, answers_for}
 use Rattle.spec_prims.specs.Talk.{notified, told_but, object_in, notified_but, booted_seat, booted, seat_at, awake, connected_at, player_given, player_at, descriptors, talk_row}
 use Rattle.spec_prims.specs.ObjectRows.{Finding, finding_of, finds, given, object_row}
 use Rattle.spec_prims.specs.ObjectWrites.{writing_row}
@@ -173,26 +180,54 @@ opens_removed a (text t ∷ object d ∷ []) w =
     (stays_open a (Write (numbered d) (segments_of t)) (unstored (numbered d) (segments_of t)) w (stays_unstored a nobody (numbered d) (segments_of t))))
 opens_removed a _ w = tt
 
-opens_property : (p : Primitive) → IsOpen (level_of p) (property_row p)
-opens_property GetProp = λ a items w level. opens_looked (λ o path. as_item (value_of o path)) a items w
-opens_property GetPropStr = λ a items w level. opens_looked (λ o path. as_text (value_of o path)) a items w
-opens_property GetPropVal = λ a items w level. opens_looked (λ o path. as_number (value_of o path)) a items w
-opens_property IsPropDir = λ a items w level. opens_looked has_below a items w
-opens_property EnvProp = λ a items w level. opens_sought as_item a items w
-opens_property EnvPropStr = λ a items w level. opens_sought as_text a items w
-opens_property NextProp = λ a items w level. opens_walked a items w
-opens_property SetProp = λ a items w level. opens_put a items w
-opens_property AddProp = λ a items w level. opens_added a items w
-opens_property RemoveProp = λ a items w level. opens_removed a items w
-opens_property _ = tt
+opens_property : (p : Primitive) → is_formula p ≡ false → IsOpen (level_of p) (property_row p)
+opens_property GetProp = λ e a items w level. opens_looked (λ o path. as_item (value_of o path)) a items w
+opens_property GetPropStr = λ e a items w level. opens_looked (λ o path. as_text (value_of o path)) a items w
+opens_property GetPropVal = λ e a items w level. opens_looked (λ o path. as_number (value_of o path)) a items w
+opens_property IsPropDir = λ e a items w level. opens_looked has_below a items w
+opens_property EnvProp = λ e a items w level. opens_sought as_item a items w
+opens_property EnvPropStr = λ e a items w level. opens_sought as_text a items w
+opens_property NextProp = λ e a items w level. opens_walked a items w
+opens_property SetProp = λ e a items w level. opens_put a items w
+opens_property AddProp = λ e a items w level. opens_added a items w
+opens_property RemoveProp = λ e a items w level. opens_removed a items w
+opens_property ParseMpi = λ e. absurd cc
+opens_property _ = λ e. tt
+
+-- A formula: what it changes is open to the player.
+
+abbrev player_acts : Actor → List Entry → Actor
+player_acts a es = actor_of es a.player
+
+opens_answered : (answer : Answer) (a : Actor) (w v : Live) → Proper a nobody w v → TouchesNotes w v → RowOpen a w (answered answer v)
+opens_answered (Ok value) a w v p t = p
+opens_answered (Err fault) a w v p t = (p, t)
+
+opens_heard : (a : Actor) (this : Dbref) (formula : List ℕ) (vars : Variables) (w : Live) → Proper a nobody w (heard a this formula vars w).1
+opens_heard a this formula vars w =
+    let f : Change = λ v. (heard a this formula vars v).1 in
+    ended_open a None w (f w) ((ends_stays a nobody None f (stays_heard a nobody this formula vars)).law w) tt
+
+opens_parse : (a : Actor) (items : List Datum) (w : Live) → RowOpen (player_acts a w.objects) w (parse_done a items w)
+unfolding parsed
+opens_parse a (int i ∷ text how ∷ text formula ∷ object this ∷ []) w =
+    let b : Actor = player_acts a w.objects in
+    let vars : Variables = variables_of how [] [] in
+    let done = heard b (numbered this) formula vars w in
+    opens_answered done.0 b w done.1 (opens_heard b (numbered this) formula vars w) (heard_touches b (numbered this) formula vars w)
+opens_parse a _ w = tt
+
+pub formula_is : (p : Primitive) → is_formula p ≡ true → p ≡ ParseMpi
+formula_is ParseMpi e = refl
+formula_is _ e = absurd cc
 
 -- and all of them
 
-opens_in : (descr : Option ℕ) (family : Family) (p : Primitive) → IsOpen (level_of p) (row_in descr family p)
-opens_in descr kind.Object p = opens_object p
-opens_in descr kind.Property p = opens_property p
-opens_in descr kind.Talk p = opens_talk descr p
-opens_in descr _ p = tt
+opens_in : (descr : Option ℕ) (family : Family) (p : Primitive) → is_formula p ≡ false → IsOpen (level_of p) (row_in descr family p)
+opens_in descr kind.Object p e = opens_object p
+opens_in descr kind.Property p e = opens_property p e
+opens_in descr kind.Talk p e = opens_talk descr p
+opens_in descr _ p e = tt
 
 opens_if : (b : Bool) (f : MufFault) (items : List Datum) (a : Actor) (w v : Live) → Proper a nobody w v → RowOpen a w (cond b (refuses f) (gives items v))
 opens_if true f items a w v h = tt
@@ -201,6 +236,7 @@ opens_if false f items a w v h = h
 opens_upon : (rest : List Datum) (a : Actor) (w : Live) (row : Row) → RowOpen a w row → RowOpen a w (given_upon rest row)
 opens_upon rest a w (gives items v) h = opens_if _ _ _ a w v h
 opens_upon rest a w (refuses f) h = tt
+opens_upon rest a w (breaks f v) h = h
 
 -- where no test has a fault, that of the level has none
 left_none : (o r : Option MufFault) → option_or o r ≡ None → o ≡ None
@@ -215,15 +251,22 @@ level_passes : (needs : Option Needs) (level : ℕ) (argued : Option MufFault) (
 level_passes None level argued a locked stack w e = absurd cc
 level_passes (Some needs) level argued a locked stack w e = left_none _ _ (right_none (too_short needs locked stack) _ (left_none _ _ e))
 
-opens_done : (doing : Option Doing) (p : Primitive) (a : Actor) (locked : ℕ) (stack : List Datum) (w : Live) → IsOpen (level_of p) doing → RowOpen a w (done_by doing p a locked stack w)
+opens_done : (who : Actor → List Entry → Actor) (doing : Option Doing) (p : Primitive) (a : Actor) (locked : ℕ) (stack : List Datum) (w : Live) → IsOpenTo who (level_of p) doing → RowOpen (who a w.objects) w (done_by doing p a locked stack w)
 unfolding first_fault
-opens_done None p a locked stack w h = tt
-opens_done (Some doing) p a locked stack w h =
+opens_done who None p a locked stack w h = tt
+opens_done who (Some doing) p a locked stack w h =
     let items : List Datum = take (taken p stack) stack in
     let rest : List Datum = drop (taken p stack) stack in
-    opens_unless (first_fault p (doing.argued a items w) a locked stack w) a w (given_upon rest (doing.does a items w))
-    (λ e. opens_upon rest a w (doing.does a items w) (h a items w (level_passes (needs_of p) (level_of p) (doing.argued a items w) a locked stack w e)))
+    opens_unless (first_fault p (doing.argued a items w) a locked stack w) (who a w.objects) w (given_upon rest (doing.does a items w))
+    (λ e. opens_upon rest (who a w.objects) w (doing.does a items w) (h a items w (level_passes (needs_of p) (level_of p) (doing.argued a items w) a locked stack w e)))
 
-pub shared_open : (p : Primitive) (a : Actor) (descr : Option ℕ) (locked : ℕ) (stack : List Datum) (w : Live) → RowOpen a w (shared p a descr locked stack w)
+-- to whoever answers for it
+pub shared_open : (p : Primitive) (a : Actor) (descr : Option ℕ) (locked : ℕ) (stack : List Datum) (w : Live) → RowOpen (answers_for p a w.objects) w (shared p a descr locked stack w)
 unfolding shared
-shared_open p a descr locked stack w = opens_done (shared_row descr p) p a locked stack w (opens_in descr (family_of p) p)
+shared_open p a descr locked stack w = either (is_formula p) refl
+  where
+    either : (b : Bool) → is_formula p ≡ b → RowOpen (cond b (actor_of w.objects a.player) a) w (done_by (shared_row descr p) p a locked stack w)
+    either true e =
+        let formula : IsOpenTo player_acts (level_of ParseMpi) (shared_row descr ParseMpi) = λ a items w level. opens_parse a items w in
+        opens_done player_acts (shared_row descr p) p a locked stack w (subst (λ (q : Primitive). IsOpenTo player_acts (level_of q) (shared_row descr q)) (sym (formula_is p e)) formula)
+    either false e = opens_done (λ a es. a) (shared_row descr p) p a locked stack w (opens_in descr (family_of p) p e)

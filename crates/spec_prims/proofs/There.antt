@@ -2,7 +2,7 @@
 use Rattle.std.proofs.Common.{◌≡◌, ℕ, Bool, true, false, Option, refl}
 use Rattle.std.specs.Prelude.{◌&&◌, is_some}
 use Rattle.muf_model.specs.declared.prims.Primitive.{Primitive}
-use Rattle.muf_model.specs.declared.prims.Primitive.TheVariants.{Name, Notify, NotifyExclude, IsAwake, Online, ConCount, ConDbref, Descriptors, Descr, ConBoot, GetProp, GetPropStr, GetPropVal, SetProp, AddProp, RemoveProp, NextProp, IsPropDir, EnvProp, EnvPropStr}
+use Rattle.muf_model.specs.declared.prims.Primitive.TheVariants.{Name, Notify, NotifyExclude, IsAwake, Online, ConCount, ConDbref, Descriptors, Descr, ConBoot, GetProp, GetPropStr, GetPropVal, SetProp, AddProp, RemoveProp, NextProp, IsPropDir, EnvProp, EnvPropStr, ParseMpi}
 use Rattle.muf_model.specs.Prims.{is_there}
 use Rattle.spec_prims.specs.ObjectRows.{object_row, is_object}
 use Rattle.spec_prims.specs.PropRows.{property_row, is_property}
@@ -35,4 +35,5 @@ properties_there NextProp = refl
 properties_there IsPropDir = refl
 properties_there EnvProp = refl
 properties_there EnvPropStr = refl
+properties_there ParseMpi = refl
 properties_there _ = refl

@@ -1,5 +1,6 @@
 pub mod Asking
 pub mod Row
+pub mod Formulas
 pub mod ObjectWrites
 pub mod ObjectRows
 pub mod Talk

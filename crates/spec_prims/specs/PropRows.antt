@@ -1,4 +1,4 @@
--- The rows of the primitives of properties. Each asks first that its text writes a path, and then for leave.
+-- The rows of the primitives of properties. Each but that of formulas asks first that its text writes a path, and then for leave.
 use Rattle.std.specs.Prelude.{ℕ, ℤ, pos, negsuc, Bool, true, false, not, is_none, ◌-◌, ◌==◌, if◌then◌else◌, List, [], ◌∷◌, length, take, Option, Some, None}
 use Rattle.std.specs.Option.{option_map_or, option_and_then}
 use Rattle.std.specs.List.{filter, list_all, suffix_len}
@@ -23,12 +23,13 @@ use Rattle.muf_model.specs.declared.fault.MufFault.TheVariants.{BadType, BadArgu
 use Rattle.muf_model.specs.declared.prims.Primitive.{Primitive}
 use Rattle.muf_model.specs.declared.prims.Family.{Family}
 use Rattle.muf_model.specs.declared.prims.Family.TheVariants as kind
-use Rattle.muf_model.specs.declared.prims.Primitive.TheVariants.{GetProp, GetPropStr, GetPropVal, SetProp, AddProp, RemoveProp, NextProp, IsPropDir, EnvProp, EnvPropStr}
+use Rattle.muf_model.specs.declared.prims.Primitive.TheVariants.{GetProp, GetPropStr, GetPropVal, SetProp, AddProp, RemoveProp, NextProp, IsPropDir, EnvProp, EnvPropStr, ParseMpi}
 use Rattle.muf_model.specs.Datum.{Datum, int, text, object}
 use Rattle.muf_model.specs.Prims.{family_of}
 use Rattle.muf_model.specs.StackRows.{truth}
 use Rattle.spec_prims.specs.Asking.{numbered, fault_of}
 use Rattle.spec_prims.specs.Row.{Row, gives, refuses, Doing, unless, unruled}
+use Rattle.spec_prims.specs.Formulas.{parse_done}
 
 -- what is done at a path, where the text that should write it has no fault
 abbrev pub at_path : Option PropFault → Row → Row
@@ -150,6 +151,7 @@ property_row NextProp = Some (unruled walked)
 property_row SetProp = Some (unruled put)
 property_row AddProp = Some (unruled added)
 property_row RemoveProp = Some (unruled removed)
+property_row ParseMpi = Some (unruled parse_done)
 property_row p = None
 
 abbrev pub is_property_family : Family → Bool

@@ -7,10 +7,12 @@ use Rattle.muf_model.specs.declared.fault.MufFault.TheVariants.{StackFull}
 use Rattle.muf_model.specs.Datum.{Datum}
 use Rattle.muf_model.specs.Answer.{stack_most}
 
--- It gives these items, the top first, and leaves this world; or it is refused, and nothing has changed.
+-- It gives these items, the top first, and leaves this world; or it is refused, and nothing has changed; or it breaks off by a
+-- fault behind what it changed, and leaves this world.
 pub data Row : Type 0 where
   gives : List Datum → Live → Row
   refuses : MufFault → Row
+  breaks : MufFault → Live → Row
 
 -- What an actor does by it with the items that it takes, the top first: the fault that its own rule for its arguments finds in
 -- them, where it finds one, and else what it gives.
@@ -31,3 +33,4 @@ unless (Some f) row = refuses f
 abbrev pub given_upon : List Datum → Row → Row
 given_upon rest (gives items w) = if nat_lt stack_most (length (items ++ rest)) then refuses StackFull else gives (items ++ rest) w
 given_upon rest (refuses f) = refuses f
+given_upon rest (breaks f w) = breaks f w
