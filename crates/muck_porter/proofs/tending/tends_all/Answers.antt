@@ -4,7 +4,7 @@ use Rattle.muck_porter.proofs.Doing.{tends_more, loses_more}
 use Rattle.muck_porter.proofs.tending.tends_all.Goals as goal
 
 pub loop-at-init : goal.loop-at-init
-loop-at-init g c = (refl, refl, (λ t v b coming n a known bk. bk))
+loop-at-init g c = (refl, refl, (λ t v b coming n known bk. bk))
 
 pub loop-at-preserved : goal.loop-at-preserved
 loop-at-preserved g c =
