@@ -1,6 +1,7 @@
 use Rattle.std.proofs.Common.{◌≡◌, ◌==◌, ℕ, length, vec_len, rules, Some, None, refl, ap, ◌∙◌}
 use Rattle.muck_porter.proofs.Doing.{over_ready, ends_last, told_ends}
 use Rattle.muck_porter.proofs.InRounds.{told_same_on, told_over, told_came, came_as, came_carries, halts_over, halts_broke, empty_of}
+use Rattle.muck_links.specs.Sessions.{Told}
 use Rattle.muck_porter.proofs.rounds.lets_in.Goals as goal
 
 pub returns-in-Ok-clause-over : goal.returns-in-Ok-clause-over
@@ -49,3 +50,39 @@ pub returns-in-NoMemory-clause-err : goal.returns-in-NoMemory-clause-err
 returns-in-NoMemory-clause-err g c t =
     told_ends c.args.seat.now.me.0 c.dies-in-NoMemory.new.seat.me.0 _ _ _ c.args.peers.now.items None None (told_same_on c.args.seat.now.me.0 _ _ _ _ c.args.peers.now.items None (c.in-NoMemory.ensures.told t) c.in-NoMemory.ensures.later)
     (ends_last c.args.seat.now.me.0 c.dies-in-NoMemory.new.seat.me.0 _ _ c.args.peers.now.items None (c.dies-in-NoMemory.ensures.last _))
+
+pub returns-in-Ok-clause-time : goal.returns-in-Ok-clause-time
+returns-in-Ok-clause-time g c before t = t
+
+pub returns-in-NotYet-clause-time : goal.returns-in-NotYet-clause-time
+returns-in-NotYet-clause-time g c before t = t
+
+pub returns-then-not-is_empty-clause-time : goal.returns-then-not-is_empty-clause-time
+returns-then-not-is_empty-clause-time g c before t = t
+
+pub returns-in-Ok-clause-ports : goal.returns-in-Ok-clause-ports
+returns-in-Ok-clause-ports g c t = ap (λ (x : Told). x.ports) (c.in-Got.ensures.told t).0
+
+pub returns-in-Err-clause-ports : goal.returns-in-Err-clause-ports
+returns-in-Err-clause-ports g c t = ap (λ (x : Told). x.ports) (c.in-Got.ensures.told t).0
+
+pub returns-in-NotYet-clause-ports : goal.returns-in-NotYet-clause-ports
+returns-in-NotYet-clause-ports g c t = ap (λ (x : Told). x.ports) (c.in-NotYet.ensures.told t)
+
+pub returns-then-not-is_empty-clause-ports : goal.returns-then-not-is_empty-clause-ports
+returns-then-not-is_empty-clause-ports g c t = ap (λ (x : Told). x.ports) (c.in-Ended.ensures.told t)
+
+pub returns-in-Ok-stops-clause-ports : goal.returns-in-Ok-stops-clause-ports
+returns-in-Ok-stops-clause-ports g c t = ap (λ (x : Told). x.ports) (c.in-Ended.ensures.told t)
+
+pub returns-in-Err-stops-clause-ports : goal.returns-in-Err-stops-clause-ports
+returns-in-Err-stops-clause-ports g c t = ap (λ (x : Told). x.ports) (c.in-Ended.ensures.told t)
+
+pub returns-in-Ok-stops-2-clause-ports : goal.returns-in-Ok-stops-2-clause-ports
+returns-in-Ok-stops-2-clause-ports g c t = ap (λ (x : Told). x.ports) (c.in-Fault.ensures.told t)
+
+pub returns-in-Err-stops-2-clause-ports : goal.returns-in-Err-stops-2-clause-ports
+returns-in-Err-stops-2-clause-ports g c t = ap (λ (x : Told). x.ports) (c.in-Fault.ensures.told t)
+
+pub returns-in-NoMemory-clause-ports : goal.returns-in-NoMemory-clause-ports
+returns-in-NoMemory-clause-ports g c t = ap (λ (x : Told). x.ports) (c.in-NoMemory.ensures.told t)

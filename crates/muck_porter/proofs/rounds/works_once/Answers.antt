@@ -97,3 +97,9 @@ returns-in-Err-clause-over g c = over_waited c.args.seat.now.me c.work_turn.new.
 
 pub returns-in-Err-clause-spent : goal.returns-in-Err-clause-spent
 returns-in-Err-clause-spent g c = c.in-Err.ensures.left.1
+
+pub returns-in-Ok-clause-time : goal.returns-in-Ok-clause-time
+returns-in-Ok-clause-time g c before t = c.in-Ok.ensures.time before (c.in-Ok-Claimed.ensures.time before t)
+
+pub returns-in-Err-runs-clause-time : goal.returns-in-Err-runs-clause-time
+returns-in-Err-runs-clause-time g c before t = c.in-Err-runs.ensures.time before (c.in-Ok-Claimed.ensures.time before t)
