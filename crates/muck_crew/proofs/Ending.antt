@@ -27,7 +27,6 @@ use Rattle.spec_events.proofs.Logging.{entries_logged, entries_append, events_ap
 use Rattle.spec_talks.specs.Parties.{party_of}
 use Rattle.spec_talks.specs.Talks.{talks}
 use Rattle.spec_serve.specs.Promises.{PromisedOf, OpenWorkedOff}
-use Rattle.spec_serve.proofs.Promising.{promised_whole}
 use Rattle.muck_machine.specs.declared.beginning.Beginning.{Beginning}
 use Rattle.muck_machine.specs.Beginnings.{beginning, begun}
 use Rattle.muck_machine.specs.Seats.{Sight, Chair, AllOrderly, SameLists}
@@ -39,9 +38,9 @@ use Rattle.muck_dumper.specs.declared.dumping.Why.TheVariants as dumper
 use Rattle.muck_worker.specs.Working.{WorkerDone}
 use Rattle.muck_worker.specs.declared.working.Why.TheVariants as worker
 use Rattle.muck_porter.specs.Notes.{note_in}
-use Rattle.muck_porter.specs.Kept.{Account, KeptBy}
+use Rattle.muck_porter.specs.Kept.{Account}
 use Rattle.muck_porter.specs.Times.{Timely}
-use Rattle.muck_porter.proofs.Timing.{timely_same}
+use Rattle.muck_porter.proofs.Whole.{kept_whole, timed_whole}
 use Rattle.muck_porter.specs.Porter.{PorterDone, HasStopped as PorterStopped}
 use Rattle.muck_porter.specs.declared.porting.Why.{Why as PorterWhy}
 use Rattle.muck_porter.specs.declared.porting.Why.TheVariants as porter
@@ -260,29 +259,16 @@ module _ {D : Type 0} (tells : Bool) (seen : D → List ℕ) (moment : D → ℕ
 
   -- What the links carried.
 
-  -- the front that the porter vouches for, as a front of the whole, in which it did nothing more
-  record Fronted (front : List Logged) : Type 0 where
-    pub begins_so : StartsWith h.entries (entries_of front)
-    pub no_more : own_of party_of 0 h.entries ≡ own_of party_of 0 (entries_of front)
-
-  fronted : (kept : KeptBy b sp.0 k) → Fronted kept.front
-  fronted kept =
-      let whole : StartsWith (logged h) kept.front = (let a = seen0 in let c = kept.seen in (c.0 ++ a.0, a.1 ∙ ap (λ (ls : List Logged). ls ++ a.0) c.1 ∙ append_assoc kept.front c.0 a.0)) in record {
-        begins_so = (entries_of whole.0, sym (entries_logged h) ∙ ap entries_of whole.1 ∙ entries_append kept.front whole.0);
-        no_more = ap (own_of party_of 0) (sym (entries_logged h)) ∙ own_entries_of 0 (logged h) ∙ ap entries_of (sym own0 ∙ kept.own) ∙ sym (own_entries_of 0 kept.front);
-      }
+  lawful_logged : AllLawful h.start (entries_of (logged h))
+  lawful_logged = subst (AllLawful h.start) (sym (entries_logged h)) lawful
 
   promise : shows ≡ true → PromisedOf (note_in sp.0.own) b.links h.start h.entries k.links
   promise x =
-      let kept = pd.kept x in
-      let f0 = fronted kept in
-      promised_whole (note_in sp.0.own) b.links h.start (entries_of kept.front) h.entries k.links lawful f0.begins_so f0.no_more (kept.promised h.start m root9).links
+      subst (λ (es : List Entry). PromisedOf (note_in sp.0.own) b.links h.start es k.links) (entries_logged h)
+      (kept_whole b.links sp.0 k.links h.start m (logged h) root9 seen0 own0 lawful_logged (pd.kept x))
 
-  by_clock : shows ≡ true → Timely b.answers k.answers h.start h.entries
-  by_clock x =
-      let kept = pd.kept x in
-      let f0 = fronted kept in
-      timely_same b.answers k.answers h.start (entries_of kept.front) h.entries lawful f0.begins_so f0.no_more (kept.promised h.start m root9).timely
+  by_clock : Timely b.answers k.answers h.start h.entries
+  by_clock = subst (Timely b.answers k.answers h.start) (entries_logged h) (timed_whole b.answers k.answers sp.0 h.start m (logged h) root9 seen0 own0 lawful_logged pd.timed)
 
   off : shows ≡ true → HasStopped way → LeavesWorkedOff (note_in sp.0.own) h.start h.entries k.links
   off x stop =
@@ -304,6 +290,7 @@ module _ {D : Type 0} (tells : Bool) (seen : D → List ℕ) (moment : D → ℕ
     shared = record { known = parties; own = owns };
     counted = note_in sp.0.own;
     promised = promise;
+    ports = pd.ports;
     timely = by_clock;
     worked_off = off;
     last = lasts;

@@ -14,7 +14,7 @@ use Rattle.muck_crew.specs.declared.serving.Way.TheVariants as ends
 use Rattle.muck_crew.specs.declared.why.Why.{Why}
 use Rattle.muck_crew.specs.declared.why.Why.TheVariants.{Fine, NoMemory, DiskFault, Damaged, ListenFault, StoreFull, Spent}
 
--- why a run ends whose last dump failed
+-- why a run ends whose last dump failed; no dump on disks that tell their bytes fails since its log is stale
 abbrev pub why_of : LogFault → Why
 why_of fault.NoMemory = NoMemory
 why_of fault.DiskFault = DiskFault

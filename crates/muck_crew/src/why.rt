@@ -9,7 +9,8 @@ pub enum Why {
     NoMemory,
     /// A disk failed in the last dump.
     DiskFault,
-    /// The files hold no store any more, as the last dump found: the batch whose gate stands at this place of this file is outside the format.
+    /// The files hold no store any more, as the last dump found: the batch whose gate stands at this place of this file is outside the format. Also that its
+    /// log was stale, at place 0 of the first file. Neither comes of disks that tell their bytes.
     Damaged { second: bool, at: u64 },
     /// Listening failed.
     ListenFault,

@@ -32,25 +32,14 @@ use Rattle.spec_serve.proofs.Pairs.{all2_map}
 use Rattle.spec_serve.proofs.Promising.{books_promised}
 use Rattle.spec_serve.proofs.Connecting.{nobody_there}
 use Rattle.spec_serve.proofs.Turning.{turn_others, turn_quiet, turn_heard, turn_taken, turn_opened, turn_closed, turn_halted}
-use Rattle.muck_machine.specs.declared.beginning.Beginning.{Beginning}
 use Rattle.muck_machine.specs.Beginnings.{begun}
 use Rattle.muck_machine.specs.Seats.{Sight, Waited}
-use Rattle.muck_peer.specs.Moves.{PeerStep, HasCause, Clocked}
+use Rattle.muck_peer.specs.Moves.{PeerStep, HasCause}
 use Rattle.muck_porter.specs.Notes.{first_note, note_in}
-use Rattle.muck_porter.specs.Kept.{tally, Account, account, BooksAt, PromisedIn, KeptBy}
+use Rattle.muck_porter.specs.Kept.{tally, BooksAt, PromisedIn, KeptBy}
 use Rattle.muck_porter.specs.Turns.{Marked, PorterTurn}
 use Rattle.muck_porter.specs.Moves.{MayHalt, LastEntry}
-use Rattle.muck_porter.specs.Times.{Timely}
-use Rattle.muck_porter.proofs.Timing.{timely_turned}
-use Rattle.muck_porter.proofs.Items.{note_append, some_is, entries_own}
-
--- the world of the beginning
-pub same_world : (u w : World) (m m' : Note) → ◌≡◌ {A = List Beginning} (begun u m ∷ []) (begun w m' ∷ []) → u ≡ w
-same_world u w m m' e = ap head_world e
-  where
-    head_world : List Beginning → World
-    head_world [] = u
-    head_world (b ∷ bs) = b.world
+use Rattle.muck_porter.proofs.Items.{same_world, note_append, some_is, entries_own}
 
 pub set_again : {A : Type 0} (xs : List A) (i : ℕ) (a : A) → get_elem? xs i ≡ some a → set xs i a ≡ xs
 set_again [] i a e = refl
@@ -86,7 +75,7 @@ pub record Placed (w u : World) (seen h : List Entry) : Type 0 where
   pub world : w ≡ after u h
   pub nobody : u.live.board.connections ≡ []
 
-module _ (noted noted' : Bool) (k : Told) (a a' : Option (List ℕ)) (v v' : Sight) (w : World) (event : Event) (turn : PorterTurn noted noted' k a a' v v' w event) where
+module _ (noted noted' : Bool) (k : Told) (v v' : Sight) (w : World) (event : Event) (turn : PorterTurn noted noted' k v v' w event) where
   -- what the seat's own items say of the note of the links
   note_after : note_in v'.own ≡ first_note (note_in v.own) turn.item.counted
   note_after = ap note_in turn.own ∙ note_append v.own (turn.item ∷ []) ∙ ap (first_note (note_in v.own)) (first_none turn.item.counted)
@@ -149,8 +138,8 @@ module _ (noted noted' : Bool) (k : Told) (a a' : Option (List ℕ)) (v v' : Sig
     entries_after : entries_of v'.seen ≡ entries_of (v.seen ++ turn.others) ++ by_porter event ∷ []
     entries_after = ap entries_of turn.seen ∙ entries_append (v.seen ++ turn.others) (turn.item ∷ []) ∙ ap (λ (e : Entry). entries_of (v.seen ++ turn.others) ++ e ∷ []) turn.entry
 
-    pub turn_books : (b : Account) (n : ℕ) (K' : Tally) (peers peers' : List Peer) (coming coming' : Option ℕ) → n ≤ K'.listening → (b.links.listening ≤ n → Moves b.links (tally k n) K' peers peers' coming coming')
-        → BooksAt b v (account k n a) peers coming → BooksAt b v' (record { links = K'; answers = a' }) peers' coming'
+    pub turn_books : (b : Tally) (n : ℕ) (K' : Tally) (peers peers' : List Peer) (coming coming' : Option ℕ) → n ≤ K'.listening → (b.listening ≤ n → Moves b (tally k n) K' peers peers' coming coming')
+        → BooksAt b v (tally k n) peers coming → BooksAt b v' K' peers' coming'
     turn_books b n K' peers peers' coming coming' more moves bk u m root =
         let bi = bk u m (root_before u m root) in
         let l1 = bi.later in
@@ -158,10 +147,8 @@ module _ (noted noted' : Bool) (k : Told) (a a' : Option (List ℕ)) (v v' : Sig
         record {
           nobody = bi.nobody;
           later = omega arith;
-          books = subst (λ (es : List Entry). BooksOf (note_in v'.own) b.links u es K' peers' coming') (sym entries_after)
-              (moves l1 u (entries_of v.seen) (entries_of (v.seen ++ turn.others)) pl (books_marked b.links n peers coming u (entries_of v.seen) bi.books));
-          timely = subst (λ (es : List Entry). Timely b.answers a' u es) (sym entries_after)
-              (timely_turned b.answers a a' u (entries_of v.seen) (entries_of (v.seen ++ turn.others)) event pl.lawful pl.more pl.own (subst (λ (x : World). Clocked a a' x event) pl.world turn.clocked) bi.timely);
+          books = subst (λ (es : List Entry). BooksOf (note_in v'.own) b u es K' peers' coming') (sym entries_after)
+              (moves l1 u (entries_of v.seen) (entries_of (v.seen ++ turn.others)) pl (books_marked b n peers coming u (entries_of v.seen) bi.books));
         }
 
     -- The entries.
@@ -171,66 +158,66 @@ module _ (noted noted' : Bool) (k : Told) (a a' : Option (List ℕ)) (v v' : Sig
     same_event b K K' peers peers' coming coming' u h e is bk = subst (λ (x : Event). BooksOf (note_in v'.own) b u (h ++ by_porter x ∷ []) K' peers' coming') (sym is) bk
 
     -- one that no link sees
-    pub carries_quiet : (b : Account) (n : ℕ) (peers : List Peer) (coming : Option ℕ) → IsQuiet event → BooksAt b v (account k n a) peers coming → BooksAt b v' (account k n a') peers coming
+    pub carries_quiet : (b : Tally) (n : ℕ) (peers : List Peer) (coming : Option ℕ) → IsQuiet event → BooksAt b v (tally k n) peers coming → BooksAt b v' (tally k n) peers coming
     carries_quiet b n peers coming q bk =
         turn_books b n (tally k n) peers peers coming coming (omega arith)
-        (λ l u seen h p x. turn_quiet u seen h p.lawful p.more p.own (note_in v'.own) b.links (tally k n) peers coming event q.halts q.talked x) bk
+        (λ l u seen h p x. turn_quiet u seen h p.lawful p.more p.own (note_in v'.own) b (tally k n) peers coming event q.halts q.talked x) bk
 
     -- one for a link
-    pub carries_peer : (b : Account) (n : ℕ) (peers : List Peer) (coming : Option ℕ) (i : ℕ) (p p' : Peer) → get_elem? peers i ≡ some p → PeerStep p p' w event
-        → BooksAt b v (account k n a) peers coming → BooksAt b v' (account k n a') (set peers i p') coming
+    pub carries_peer : (b : Tally) (n : ℕ) (peers : List Peer) (coming : Option ℕ) (i : ℕ) (p p' : Peer) → get_elem? peers i ≡ some p → PeerStep p p' w event
+        → BooksAt b v (tally k n) peers coming → BooksAt b v' (tally k n) (set peers i p') coming
     carries_peer b n peers coming i p p' at (PeerStep.heard line more is ready same) bk =
         turn_books b n (tally k n) peers (set peers i p') coming coming (omega arith)
-        (λ l u seen h pl x. same_event b.links (tally k n) (tally k n) peers (set peers i p') coming coming u h (Input p.number line) is
-        (subst (λ (q : Peer). BooksOf (note_in v'.own) b.links u (h ++ by_porter (Input p.number line) ∷ []) (tally k n) (set peers i q) coming) (sym same)
-        (turn_heard u seen h pl.lawful pl.more pl.own (note_in v'.own) b.links (tally k n) peers coming i p line more at ready x))) bk
+        (λ l u seen h pl x. same_event b (tally k n) (tally k n) peers (set peers i p') coming coming u h (Input p.number line) is
+        (subst (λ (q : Peer). BooksOf (note_in v'.own) b u (h ++ by_porter (Input p.number line) ∷ []) (tally k n) (set peers i q) coming) (sym same)
+        (turn_heard u seen h pl.lawful pl.more pl.own (note_in v'.own) b (tally k n) peers coming i p line more at ready x))) bk
     carries_peer b n peers coming i p p' at (PeerStep.taken m is none_kept same) bk =
         turn_books b n (tally k n) peers (set peers i p') coming coming (omega arith)
-        (λ l u seen h pl x. same_event b.links (tally k n) (tally k n) peers (set peers i p') coming coming u h (Take p.number m) is
-        (subst (λ (q : Peer). BooksOf (note_in v'.own) b.links u (h ++ by_porter (Take p.number m) ∷ []) (tally k n) (set peers i q) coming)
+        (λ l u seen h pl x. same_event b (tally k n) (tally k n) peers (set peers i p') coming coming u h (Take p.number m) is
+        (subst (λ (q : Peer). BooksOf (note_in v'.own) b u (h ++ by_porter (Take p.number m) ∷ []) (tally k n) (set peers i q) coming)
         (sym (same ∙ ap (λ (x : World). let q : Peer = record p { unsent = take m (queue_of p.number x) } in q) pl.world))
-        (turn_taken u seen h pl.lawful pl.more pl.own (note_in v'.own) b.links (tally k n) peers coming i p m at none_kept x))) bk
+        (turn_taken u seen h pl.lawful pl.more pl.own (note_in v'.own) b (tally k n) peers coming i p m at none_kept x))) bk
     carries_peer b n peers coming i p p' at (PeerStep.timed t is same) bk =
-        subst (λ (ps : List Peer). BooksAt b v' (account k n a') ps coming) (sym (ap (set peers i) same ∙ set_again peers i p at))
+        subst (λ (ps : List Peer). BooksAt b v' (tally k n) ps coming) (sym (ap (set peers i) same ∙ set_again peers i p at))
         (carries_quiet b n peers coming (subst IsQuiet (sym is) (quiet_moment t)) bk)
 
     -- a connection is closed, and then its link
-    pub carries_closed : (b : Account) (n : ℕ) (k' : Told) (peers : List Peer) (coming : Option ℕ) (i : ℕ) (p : Peer) → get_elem? peers i ≡ some p → event ≡ Closed p.number → HasCause p w
-        → k' ≡ on_session p.number shut k → BooksAt b v (account k n a) peers coming → BooksAt b v' (account k' n a') (remove peers i) coming
+    pub carries_closed : (b : Tally) (n : ℕ) (k' : Told) (peers : List Peer) (coming : Option ℕ) (i : ℕ) (p : Peer) → get_elem? peers i ≡ some p → event ≡ Closed p.number → HasCause p w
+        → k' ≡ on_session p.number shut k → BooksAt b v (tally k n) peers coming → BooksAt b v' (tally k' n) (remove peers i) coming
     carries_closed b n k' peers coming i p at is cause told bk =
         turn_books b n (tally k' n) peers (remove peers i) coming coming (omega arith)
-        (λ l u seen h pl x. same_event b.links (tally k n) (tally k' n) peers (remove peers i) coming coming u h (Closed p.number) is
-        (subst (λ (x : Told). BooksOf (note_in v'.own) b.links u (h ++ by_porter (Closed p.number) ∷ []) (tally x n) (remove peers i) coming) (sym told)
-        (turn_closed u seen h pl.lawful pl.more pl.own (note_in v'.own) b.links (tally k n) peers coming i p at
+        (λ l u seen h pl x. same_event b (tally k n) (tally k' n) peers (remove peers i) coming coming u h (Closed p.number) is
+        (subst (λ (x : Told). BooksOf (note_in v'.own) b u (h ++ by_porter (Closed p.number) ∷ []) (tally x n) (remove peers i) coming) (sym told)
+        (turn_closed u seen h pl.lawful pl.more pl.own (note_in v'.own) b (tally k n) peers coming i p at
         (λ t s y. subst (λ (z : World). Cause (note_in v'.own) z t s) pl.world (cause (note_in v'.own) t s y)) x))) bk
 
     -- the link that came is opened, before there is a note
-    pub carries_opened : (b : Account) (n : ℕ) (peers : List Peer) (d : ℕ) (p : Peer) → event ≡ Opened d → noted' ≡ false → p ≡ new_peer d
-        → BooksAt b v (account k n a) peers (Some d) → BooksAt b v' (account k n a') (peers ++ p ∷ []) None
+    pub carries_opened : (b : Tally) (n : ℕ) (peers : List Peer) (d : ℕ) (p : Peer) → event ≡ Opened d → noted' ≡ false → p ≡ new_peer d
+        → BooksAt b v (tally k n) peers (Some d) → BooksAt b v' (tally k n) (peers ++ p ∷ []) None
     carries_opened b n peers d p is none new bk =
         let without : note_in v'.own ≡ None = some_is (note_in v'.own) (sym none ∙ turn_noted) in
         turn_books b n (tally k n) peers (peers ++ p ∷ []) (Some d) None (omega arith)
-        (λ l u seen h pl x. same_event b.links (tally k n) (tally k n) peers (peers ++ p ∷ []) (Some d) None u h (Opened d) is
-        (subst (λ (o : LinksNote). BooksOf o b.links u (h ++ by_porter (Opened d) ∷ []) (tally k n) (peers ++ p ∷ []) None) (sym without)
-        (subst (λ (q : Peer). BooksOf None b.links u (h ++ by_porter (Opened d) ∷ []) (tally k n) (peers ++ q ∷ []) None) (sym new)
-        (turn_opened u seen h pl.lawful pl.more pl.own b.links (tally k n) peers d (subst (λ (o : LinksNote). BooksOf o b.links u seen (tally k n) peers (Some d)) without x))))) bk
+        (λ l u seen h pl x. same_event b (tally k n) (tally k n) peers (peers ++ p ∷ []) (Some d) None u h (Opened d) is
+        (subst (λ (o : LinksNote). BooksOf o b u (h ++ by_porter (Opened d) ∷ []) (tally k n) (peers ++ p ∷ []) None) (sym without)
+        (subst (λ (q : Peer). BooksOf None b u (h ++ by_porter (Opened d) ∷ []) (tally k n) (peers ++ q ∷ []) None) (sym new)
+        (turn_opened u seen h pl.lawful pl.more pl.own b (tally k n) peers d (subst (λ (o : LinksNote). BooksOf o b u seen (tally k n) peers (Some d)) without x))))) bk
 
     -- the run is stopped for a cause
-    pub carries_halted : (b : Account) (n : ℕ) (peers : List Peer) (coming : Option ℕ) → event ≡ Halt → (b.links.listening ≤ n → MayHalt b.links (tally k n) peers)
-        → BooksAt b v (account k n a) peers coming → BooksAt b v' (account k n a') peers coming
+    pub carries_halted : (b : Tally) (n : ℕ) (peers : List Peer) (coming : Option ℕ) → event ≡ Halt → (b.listening ≤ n → MayHalt b (tally k n) peers)
+        → BooksAt b v (tally k n) peers coming → BooksAt b v' (tally k n) peers coming
     carries_halted b n peers coming is may bk =
         turn_books b n (tally k n) peers peers coming coming (omega arith)
-        (λ l u seen h pl x. same_event b.links (tally k n) (tally k n) peers peers coming coming u h Halt is
-        (turn_halted u seen h pl.lawful pl.more pl.own (note_in v'.own) b.links (tally k n) peers coming
-        (cause u seen h pl (may l) (turn_others u seen h pl.lawful pl.more pl.own (note_in v'.own) b.links (tally k n) peers coming x)) x)) bk
+        (λ l u seen h pl x. same_event b (tally k n) (tally k n) peers peers coming coming u h Halt is
+        (turn_halted u seen h pl.lawful pl.more pl.own (note_in v'.own) b (tally k n) peers coming
+        (cause u seen h pl (may l) (turn_others u seen h pl.lawful pl.more pl.own (note_in v'.own) b (tally k n) peers coming x)) x)) bk
       where
-        cause : (u : World) (seen h : List Entry) → Placed w u seen h → MayHalt b.links (tally k n) peers → BooksOf (note_in v'.own) b.links u h (tally k n) peers coming → HaltCause b.links (tally k n) (after u h)
+        cause : (u : World) (seen h : List Entry) → Placed w u seen h → MayHalt b (tally k n) peers → BooksOf (note_in v'.own) b u h (tally k n) peers coming → HaltCause b (tally k n) (after u h)
         cause u seen h pl (inl rose) x = inl rose
         cause u seen h pl (inr (over, none)) x =
-            inr (over, nobody_there (note_in v'.own) b.links u h (tally k n) peers coming pl.nobody pl.lawful (subst (λ (ps : List Peer). BooksOf (note_in v'.own) b.links u h (tally k n) ps coming) none x))
+            inr (over, nobody_there (note_in v'.own) b u h (tally k n) peers coming pl.nobody pl.lawful (subst (λ (ps : List Peer). BooksOf (note_in v'.own) b u h (tally k n) ps coming) none x))
 
     -- A last entry, that no link sees.
-    pub last_entry : (n : ℕ) → IsQuiet event → v'.own ≡ own_of logged_by 0 v'.seen → LastEntry (account k n a) (account k n a') v v'
+    pub last_entry : (n : ℕ) → IsQuiet event → v'.own ≡ own_of logged_by 0 v'.seen → LastEntry (tally k n) (tally k n) v v'
     last_entry n q own b promise = record {
       front = v'.seen;
       seen = ([], sym (append-nil v'.seen));
@@ -238,22 +225,13 @@ module _ (noted noted' : Bool) (k : Told) (a a' : Option (List ℕ)) (v v' : Sig
       promised = λ u m root.
           let pl = placed_only u m root in
           let h = entries_of (v.seen ++ turn.others) in
-          let before = promise u m (root_before u m root) in
-          record {
-            links =
-                subst (λ (es : List Entry). PromisedOf (note_in v'.own) b.links u es (tally k n)) (sym entries_after)
-                (subst (λ (ts : List Talk). Promised (note_in v'.own) b.links ts (worlds_at is_halt u (h ++ by_porter event ∷ [])) (tally k n))
-                (sym (talks_turned u (entries_of v.seen) h (by_porter event) pl.0 pl.1 pl.2 ∙ q.talked (after u h) (talks u (entries_of v.seen))))
-                (subst (λ (hs : List World). Promised (note_in v'.own) b.links (talks u (entries_of v.seen)) hs (tally k n)) (sym (no_more u h pl))
-                (promised_marked b.links n (talks u (entries_of v.seen)) (worlds_at is_halt u (entries_of v.seen)) before.links)));
-            timely = subst (λ (es : List Entry). Timely b.answers a' u es) (sym entries_after)
-                (timely_turned b.answers a a' u (entries_of v.seen) h event pl.0 pl.1 pl.2 (subst (λ (x : World). Clocked a a' x event) (world_there u m root) turn.clocked) before.timely);
-          };
+          subst (λ (es : List Entry). PromisedOf (note_in v'.own) b u es (tally k n)) (sym entries_after)
+          (subst (λ (ts : List Talk). Promised (note_in v'.own) b ts (worlds_at is_halt u (h ++ by_porter event ∷ [])) (tally k n))
+          (sym (talks_turned u (entries_of v.seen) h (by_porter event) pl.0 pl.1 pl.2 ∙ q.talked (after u h) (talks u (entries_of v.seen))))
+          (subst (λ (hs : List World). Promised (note_in v'.own) b (talks u (entries_of v.seen)) hs (tally k n)) (sym (no_more u h pl))
+          (promised_marked b n (talks u (entries_of v.seen)) (worlds_at is_halt u (entries_of v.seen)) (promise u m (root_before u m root)))));
     }
       where
-        world_there : (u : World) (m : Note) → v'.root ≡ begun u m ∷ [] → w ≡ after u (entries_of (v.seen ++ turn.others))
-        world_there u m root = turn.world ∙ ap (λ (x : World). after x (entries_of (v.seen ++ turn.others))) (same_world turn.start u turn.mounting m (sym turn.root ∙ root_before u m root))
-
         placed_only : (u : World) (m : Note) → v'.root ≡ begun u m ∷ []
             → AllLawful u (entries_of (v.seen ++ turn.others)) × StartsWith (entries_of (v.seen ++ turn.others)) (entries_of v.seen)
             × (own_of party_of 0 (entries_of (v.seen ++ turn.others)) ≡ own_of party_of 0 (entries_of v.seen))
@@ -272,28 +250,18 @@ module _ (noted noted' : Bool) (k : Told) (a a' : Option (List ℕ)) (v v' : Sig
             ∙ append-nil (worlds_at is_halt u (entries_of v.seen))
 
 -- What is kept is promised.
-pub promised_in : (b : Account) (v : Sight) (K : Account) (peers : List Peer) (coming : Option ℕ) → BooksAt b v K peers coming → PromisedIn b v v.seen K
-promised_in b v K peers coming bk u m root =
-    let bi = bk u m root in
-    record {
-      links = books_promised (note_in v.own) b.links (talks u (entries_of v.seen)) (worlds_at is_halt u (entries_of v.seen)) K.links peers coming bi.books;
-      timely = bi.timely;
-    }
+pub promised_in : (b : Tally) (v : Sight) (K : Tally) (peers : List Peer) (coming : Option ℕ) → BooksAt b v K peers coming → PromisedIn b v v.seen K
+promised_in b v K peers coming bk u m root = books_promised (note_in v.own) b (talks u (entries_of v.seen)) (worlds_at is_halt u (entries_of v.seen)) K peers coming (bk u m root).books
 
 -- at a seat that knows its own
-pub kept_now : (b : Account) (v : Sight) (K : Account) → v.own ≡ own_of logged_by 0 v.seen → PromisedIn b v v.seen K → KeptBy b v K
+pub kept_now : (b : Tally) (v : Sight) (K : Tally) → v.own ≡ own_of logged_by 0 v.seen → PromisedIn b v v.seen K → KeptBy b v K
 kept_now b v K own promise = record { front = v.seen; seen = ([], sym (append-nil v.seen)); own = own; promised = promise }
 
 -- at a seat that has only waited since
-pub kept_waited : (b : Account) (v v' : Sight) (K : Account) → v.own ≡ own_of logged_by 0 v.seen → Waited v v' → PromisedIn b v v.seen K → KeptBy b v' K
+pub kept_waited : (b : Tally) (v v' : Sight) (K : Tally) → v.own ≡ own_of logged_by 0 v.seen → Waited v v' → PromisedIn b v v.seen K → KeptBy b v' K
 kept_waited b v v' K own waited promise = record {
   front = v.seen;
   seen = waited.0;
   own = waited.1 ∙ own;
-  promised = λ u m root.
-      let before = promise u m (sym waited.5 ∙ root) in
-      record {
-        links = subst (λ (ls : List Logged). PromisedOf (note_in ls) b.links u (entries_of v.seen) K.links) (sym waited.1) before.links;
-        timely = before.timely;
-      };
+  promised = λ u m root. subst (λ (ls : List Logged). PromisedOf (note_in ls) b u (entries_of v.seen) K) (sym waited.1) (promise u m (sym waited.5 ∙ root));
 }

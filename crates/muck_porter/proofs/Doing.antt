@@ -1,5 +1,5 @@
 -- What the porter does, against its books.
-use Rattle.std.proofs.Common.{◌≡◌, ℕ, zero, suc, ◌+◌, ◌<◌, ◌≤◌, Bool, true, false, List, [], ◌∷◌, length, set, refl, sym, ap, ◌∙◌, subst, ⊎_elim, arith, Option}
+use Rattle.std.proofs.Common.{◌≡◌, ℕ, zero, suc, ◌+◌, ◌<◌, ◌≤◌, Bool, true, false, List, [], ◌∷◌, length, set, refl, sym, ap, ◌∙◌, subst, ⊎_elim, arith, Option, Some, None}
 use Rattle.std.specs.Prelude.{is_some, if◌then◌else◌}
 use Rattle.std.specs.List.{remove}
 use Rattle.std.proofs.lemmas.Bool.{cases_lt}
@@ -18,7 +18,7 @@ use Rattle.spec_events.specs.Own.{Stage, IsWellFormed}
 use Rattle.spec_talks.specs.Parties.{worlds_at, is_halt}
 use Rattle.spec_talks.specs.Talks.{talks}
 use Rattle.spec_serve.specs.Marks.{LinksNote}
-use Rattle.spec_serve.specs.Promises.{PromisedOf}
+use Rattle.spec_serve.specs.Promises.{Tally, PromisedOf}
 use Rattle.spec_serve.specs.inner.Keeping.{Peer}
 use Rattle.spec_serve.specs.inner.Books.{BooksOf}
 use Rattle.spec_serve.proofs.Booking.{books_linked}
@@ -31,7 +31,7 @@ use Rattle.muck_porter.specs.declared.deeds.Deed.TheVariants.{Open, Slice, Time,
 use Rattle.muck_porter.specs.declared.deeds.Did.{Did}
 use Rattle.muck_porter.specs.declared.deeds.Did.TheVariants.{Done, Timed, Dead}
 use Rattle.muck_porter.specs.Notes.{note_in}
-use Rattle.muck_porter.specs.Kept.{tally, Account, account, BooksAt, PromisedIn, KeptBy, IsAt, IsFree, Resting, Ready, ReadyTimed, Over}
+use Rattle.muck_porter.specs.Kept.{tally, BooksAt, PromisedIn, KeptBy, IsAt, IsFree, Resting, Ready, ReadyTimed, Over}
 use Rattle.muck_porter.specs.Deeds.{IsMoment, DidAs}
 use Rattle.muck_porter.specs.Turns.{PorterTurn}
 use Rattle.muck_porter.specs.Moves.{Carries, CarriesOn, Ends, EndsAll, TendsPeer, LosesPeer, Tends, Loses, LastEntry}
@@ -68,48 +68,49 @@ at_below (x ∷ xs) (suc i) a e = let h = at_below xs i a e in omega arith
 
 -- Calls of the links.
 
-pub linked_books : (b : Account) (v : Sight) (k k' : Told) (n : ℕ) (a : Option (List ℕ)) (peers : List Peer) (coming : Option ℕ) (i : ℕ) (p p' : Peer) → get_elem? peers i ≡ some p → LinkStep (note_in v.own) p p' k k'
-    → BooksAt b v (account k n a) peers coming → BooksAt b v (account k' n a) (set peers i p') coming
-linked_books b v k k' n a peers coming i p p' at step bk u m root =
+pub linked_books : (b : Tally) (v : Sight) (k k' : Told) (n : ℕ) (peers : List Peer) (coming : Option ℕ) (i : ℕ) (p p' : Peer) → get_elem? peers i ≡ some p → LinkStep (note_in v.own) p p' k k'
+    → BooksAt b v (tally k n) peers coming → BooksAt b v (tally k' n) (set peers i p') coming
+linked_books b v k k' n peers coming i p p' at step bk u m root =
     let bi = bk u m root in
     record {
       nobody = bi.nobody;
       later = bi.later;
-      books = subst (λ (x : Told). BooksOf (note_in v.own) b.links u (entries_of v.seen) (tally x n) (set peers i p') coming) (sym step.told)
-          (books_linked (note_in v.own) b.links (talks u (entries_of v.seen)) (worlds_at is_halt u (entries_of v.seen)) (tally k n) peers coming i p p' step.change at step.number step.link step.keeps bi.books);
-      timely = bi.timely;
+      books = subst (λ (x : Told). BooksOf (note_in v.own) b u (entries_of v.seen) (tally x n) (set peers i p') coming) (sym step.told)
+          (books_linked (note_in v.own) b (talks u (entries_of v.seen)) (worlds_at is_halt u (entries_of v.seen)) (tally k n) peers coming i p p' step.change at step.number step.link step.keeps bi.books);
     }
 
-pub lost_books : (b : Account) (v : Sight) (k k' : Told) (n : ℕ) (a : Option (List ℕ)) (peers : List Peer) (coming : Option ℕ) (i : ℕ) (p : Peer) → get_elem? peers i ≡ some p → LinkLoss (note_in v.own) p k k'
-    → BooksAt b v (account k n a) peers coming → PromisedIn b v v.seen (account k' n a)
-lost_books b v k k' n a peers coming i p at loss bk u m root =
-    let bi = bk u m root in
-    record {
-      links = subst (λ (x : Told). PromisedOf (note_in v.own) b.links u (entries_of v.seen) (tally x n)) (sym loss.told)
-          (books_lost (note_in v.own) b.links (talks u (entries_of v.seen)) (worlds_at is_halt u (entries_of v.seen)) (tally k n) peers coming i p loss.change at loss.agrees bi.books);
-      timely = bi.timely;
-    }
+pub lost_books : (b : Tally) (v : Sight) (k k' : Told) (n : ℕ) (peers : List Peer) (coming : Option ℕ) (i : ℕ) (p : Peer) → get_elem? peers i ≡ some p → LinkLoss (note_in v.own) p k k'
+    → BooksAt b v (tally k n) peers coming → PromisedIn b v v.seen (tally k' n)
+lost_books b v k k' n peers coming i p at loss bk u m root =
+    subst (λ (x : Told). PromisedOf (note_in v.own) b u (entries_of v.seen) (tally x n)) (sym loss.told)
+    (books_lost (note_in v.own) b (talks u (entries_of v.seen)) (worlds_at is_halt u (entries_of v.seen)) (tally k n) peers coming i p loss.change at loss.agrees (bk u m root).books)
+
+-- no call for a link asks to listen
+
+pub ports_stepped : (noted : Bool) (k k' : Told) (p p' : Peer) → ((counted : LinksNote) → is_some counted ≡ noted → LinkStep counted p p' k k') → k'.ports ≡ k.ports
+ports_stepped true k k' p p' step = ap (λ (x : Told). x.ports) (step (Some []) refl).told
+ports_stepped false k k' p p' step = ap (λ (x : Told). x.ports) (step None refl).told
 
 -- what is kept of a link is written, and it is read
 pub tends_both : (noted : Bool) (k k1 k2 : Told) (p p1 p2 : Peer) → ((counted : LinksNote) → is_some counted ≡ noted → LinkStep counted p p1 k k1) → ((counted : LinksNote) → LinkStep counted p1 p2 k1 k2)
     → TendsPeer noted k k2 p p2
-tends_both noted k k1 k2 p p1 p2 first second v b peers coming i n a known at bk =
-    subst (λ (ps : List Peer). BooksAt b v (account k2 n a) ps coming) (set_set peers i p1 p2)
-    (linked_books b v k1 k2 n a (set peers i p1) coming i p1 p2 (set_there peers i p p1 at) (second (note_in v.own))
-    (linked_books b v k k1 n a peers coming i p p1 at (first (note_in v.own) known) bk))
+tends_both noted k k1 k2 p p1 p2 first second v b peers coming i n known at bk =
+    subst (λ (ps : List Peer). BooksAt b v (tally k2 n) ps coming) (set_set peers i p1 p2)
+    (linked_books b v k1 k2 n (set peers i p1) coming i p1 p2 (set_there peers i p p1 at) (second (note_in v.own))
+    (linked_books b v k k1 n peers coming i p p1 at (first (note_in v.own) known) bk))
 
 pub loses_both : (noted : Bool) (k k1 k2 : Told) (p p1 : Peer) → ((counted : LinksNote) → is_some counted ≡ noted → LinkStep counted p p1 k k1) → ((counted : LinksNote) → LinkLoss counted p1 k1 k2)
     → LosesPeer noted k k2 p
-loses_both noted k k1 k2 p p1 first second v b peers coming i n a known at bk =
-    lost_books b v k1 k2 n a (set peers i p1) coming i p1 (set_there peers i p p1 at) (second (note_in v.own))
-    (linked_books b v k k1 n a peers coming i p p1 at (first (note_in v.own) known) bk)
+loses_both noted k k1 k2 p p1 first second v b peers coming i n known at bk =
+    lost_books b v k1 k2 n (set peers i p1) coming i p1 (set_there peers i p p1 at) (second (note_in v.own))
+    (linked_books b v k k1 n peers coming i p p1 at (first (note_in v.own) known) bk)
 
 pub tends_more : (noted : Bool) (k k1 k2 : Told) (ps ps1 ps2 : List Peer) (i : ℕ) (p p' : Peer) → get_elem? ps1 i ≡ some p → ps2 ≡ set ps1 i p' → Tends noted k k1 ps ps1 → TendsPeer noted k1 k2 p p' → Tends noted k k2 ps ps2
-tends_more noted k k1 k2 ps ps1 ps2 i p p' at same first second v b coming n a known bk =
-    subst (λ (l : List Peer). BooksAt b v (account k2 n a) l coming) (sym same) (second v b ps1 coming i n a known at (first v b coming n a known bk))
+tends_more noted k k1 k2 ps ps1 ps2 i p p' at same first second v b coming n known bk =
+    subst (λ (l : List Peer). BooksAt b v (tally k2 n) l coming) (sym same) (second v b ps1 coming i n known at (first v b coming n known bk))
 
 pub loses_more : (noted : Bool) (k k1 k2 : Told) (ps ps1 : List Peer) (i : ℕ) (p : Peer) → get_elem? ps1 i ≡ some p → Tends noted k k1 ps ps1 → LosesPeer noted k1 k2 p → Loses noted k k2 ps
-loses_more noted k k1 k2 ps ps1 i p at first second v b coming n a known bk = second v b ps1 coming i n a known at (first v b coming n a known bk)
+loses_more noted k k1 k2 ps ps1 i p at first second v b coming n known bk = second v b ps1 coming i n known at (first v b coming n known bk)
 
 -- Where a turn ends.
 
@@ -123,41 +124,40 @@ pub over_waited : (me me' : Chair) → Left 0 me' → Waited me.0 me'.0 → IsWe
 over_waited me me' left waited formed = record { left = left; formed = subst (λ (ls : List Logged). IsWellFormed 0 (events_of ls)) (sym waited.1) formed }
 
 -- all turns were had
-pub last_waited : (me me' : Chair) (k : Told) (n : ℕ) (a a' : Option (List ℕ)) → Rests 0 me → Waited me.0 me'.0 → a' ≡ a → LastEntry (account k n a) (account k n a') me.0 me'.0
-last_waited me me' k n a a' r waited same b promise =
-    subst (λ (x : Option (List ℕ)). KeptBy b me'.0 (account k n x)) (sym same) (kept_waited b me.0 me'.0 (account k n a) r.own waited promise)
+pub last_waited : (me me' : Chair) (k : Told) (n : ℕ) → Rests 0 me → Waited me.0 me'.0 → LastEntry (tally k n) (tally k n) me.0 me'.0
+last_waited me me' k n r waited b promise = kept_waited b me.0 me'.0 (tally k n) r.own waited promise
 
 -- what is promised ends so
-pub ends_last : (v v' : Sight) (K K' : Account) (peers : List Peer) (coming : Option ℕ) → LastEntry K K' v v' → Ends v v' K K' peers coming
+pub ends_last : (v v' : Sight) (K K' : Tally) (peers : List Peer) (coming : Option ℕ) → LastEntry K K' v v' → Ends v v' K K' peers coming
 ends_last v v' K K' peers coming last b bk = last b (promised_in b v K peers coming bk)
 
-pub ends_waited : (me me' : Chair) (k : Told) (n : ℕ) (a a' : Option (List ℕ)) (peers : List Peer) (coming : Option ℕ) → Rests 0 me → Waited me.0 me'.0 → a' ≡ a → Ends me.0 me'.0 (account k n a) (account k n a') peers coming
-ends_waited me me' k n a a' peers coming r waited same = ends_last me.0 me'.0 (account k n a) (account k n a') peers coming (last_waited me me' k n a a' r waited same)
+pub ends_waited : (me me' : Chair) (k : Told) (n : ℕ) (peers : List Peer) (coming : Option ℕ) → Rests 0 me → Waited me.0 me'.0 → Ends me.0 me'.0 (tally k n) (tally k n) peers coming
+ends_waited me me' k n peers coming r waited = ends_last me.0 me'.0 (tally k n) (tally k n) peers coming (last_waited me me' k n r waited)
 
-module _ (noted noted' : Bool) (k : Told) (a a' : Option (List ℕ)) (me me' : Chair) (w : World) (event : Event) (r : Rests 0 me') (turn : PorterTurn noted noted' k a a' me.0 me'.0 w event) (known : noted ≡ is_some (note_in me.0.own)) where
+module _ (noted noted' : Bool) (k : Told) (me me' : Chair) (w : World) (event : Event) (r : Rests 0 me') (turn : PorterTurn noted noted' k me.0 me'.0 w event) (known : noted ≡ is_some (note_in me.0.own)) where
   -- memory was wanted
-  pub died_last : (n : ℕ) → event ≡ Died → LastEntry (account k n a) (account k n a') me.0 me'.0
-  died_last n is = last_entry noted noted' k a a' me.0 me'.0 w event turn known n (subst IsQuiet (sym is) quiet_died) r.own
+  pub died_last : (n : ℕ) → event ≡ Died → LastEntry (tally k n) (tally k n) me.0 me'.0
+  died_last n is = last_entry noted noted' k me.0 me'.0 w event turn known n (subst IsQuiet (sym is) quiet_died) r.own
 
-  pub died_ends : (n : ℕ) (peers : List Peer) (coming : Option ℕ) → event ≡ Died → Ends me.0 me'.0 (account k n a) (account k n a') peers coming
-  died_ends n peers coming is = ends_last me.0 me'.0 (account k n a) (account k n a') peers coming (died_last n is)
+  pub died_ends : (n : ℕ) (peers : List Peer) (coming : Option ℕ) → event ≡ Died → Ends me.0 me'.0 (tally k n) (tally k n) peers coming
+  died_ends n peers coming is = ends_last me.0 me'.0 (tally k n) (tally k n) peers coming (died_last n is)
 
   pub died_over : IsFree me.0.own → event ≡ Died → Over me'
   died_over free is = over_at me' Stage.ended r (stage_died me.0.own me'.0.own turn.item turn.own (turn.entry ∙ ap by_porter is) free)
 
   pub turn_resting : Resting noted' me'
-  turn_resting = record { rests = r; known = turn_noted noted noted' k a a' me.0 me'.0 w event turn known }
+  turn_resting = record { rests = r; known = turn_noted noted noted' k me.0 me'.0 w event turn known }
 
   -- a moment was entered
   pub moment_ready : IsFree me.0.own → IsMoment event → ReadyTimed noted' me'
   moment_ready free is = record { resting = turn_resting; timed = stage_moment me.0.own me'.0.own turn.item turn.own is.0 (turn.entry ∙ ap by_porter is.1) free }
 
-  pub moment_carries : (n : ℕ) (peers : List Peer) (coming : Option ℕ) → IsMoment event → Carries me.0 me'.0 (account k n a) (account k n a') peers peers coming coming
-  moment_carries n peers coming is b bk = carries_quiet noted noted' k a a' me.0 me'.0 w event turn known b n peers coming (subst IsQuiet (sym is.1) (quiet_moment is.0)) bk
+  pub moment_carries : (n : ℕ) (peers : List Peer) (coming : Option ℕ) → IsMoment event → Carries me.0 me'.0 (tally k n) (tally k n) peers peers coming coming
+  moment_carries n peers coming is b bk = carries_quiet noted noted' k me.0 me'.0 w event turn known b n peers coming (subst IsQuiet (sym is.1) (quiet_moment is.0)) bk
 
   -- any entry that no link sees
-  pub quiet_carries : (n : ℕ) (peers : List Peer) (coming : Option ℕ) → IsQuiet event → Carries me.0 me'.0 (account k n a) (account k n a') peers peers coming coming
-  quiet_carries n peers coming q b bk = carries_quiet noted noted' k a a' me.0 me'.0 w event turn known b n peers coming q bk
+  pub quiet_carries : (n : ℕ) (peers : List Peer) (coming : Option ℕ) → IsQuiet event → Carries me.0 me'.0 (tally k n) (tally k n) peers peers coming coming
+  quiet_carries n peers coming q b bk = carries_quiet noted noted' k me.0 me'.0 w event turn known b n peers coming q bk
 
   -- an entry after which nothing binds the porter
   pub free_ready : (e : Event) → event ≡ e → IsAt Stage.unbound me'.0.own → Ready noted' me'
@@ -186,17 +186,17 @@ pub peer_closed : (ps : List Peer) (i : ℕ) (p p' : Peer) → p' ≡ p → set 
 peer_closed ps i p p' same = ap (set ps i) same
 
 -- Memory was wanted outside of the world.
-module _ (noted noted' : Bool) (k : Told) (a a' : Option (List ℕ)) (me me' : Chair) (w : World) (event : Event) (r : Rests 0 me') (turn : PorterTurn noted noted' k a a' me.0 me'.0 w event) (known : noted ≡ is_some (note_in me.0.own)) where
+module _ (noted noted' : Bool) (k : Told) (me me' : Chair) (w : World) (event : Event) (r : Rests 0 me') (turn : PorterTurn noted noted' k me.0 me'.0 w event) (known : noted ≡ is_some (note_in me.0.own)) where
   die_is : (did : Did) (ps : List Peer) → DidAs Die did noted' ps w event → event ≡ Died
   die_is Dead ps is = is
   die_is Done ps is = absurd is
   die_is Timed ps is = absurd is
 
-  pub die_last : (n : ℕ) (did : Did) (ps : List Peer) → DidAs Die did noted' ps w event → LastEntry (account k n a) (account k n a') me.0 me'.0
-  die_last n did ps is = died_last noted noted' k a a' me me' w event r turn known n (die_is did ps is)
+  pub die_last : (n : ℕ) (did : Did) (ps : List Peer) → DidAs Die did noted' ps w event → LastEntry (tally k n) (tally k n) me.0 me'.0
+  die_last n did ps is = died_last noted noted' k me me' w event r turn known n (die_is did ps is)
 
   pub die_over : IsFree me.0.own → (did : Did) (ps : List Peer) → DidAs Die did noted' ps w event → Over me'
-  die_over free did ps is = died_over noted noted' k a a' me me' w event r turn known free (die_is did ps is)
+  die_over free did ps is = died_over noted noted' k me me' w event r turn known free (die_is did ps is)
 
   -- a deed for which memory was wanted
   pub dead_did : (deed : Deed) (did : Did) (ps : List Peer) → did ≡ Dead → DidAs deed did noted' ps w event → event ≡ Died
@@ -221,18 +221,18 @@ pub over_timed : (noted : Bool) (me : Chair) → ReadyTimed noted me → Over me
 over_timed noted me t = over_ready noted me (timed_ready noted me t)
 
 -- a call of the links, and then an end
-pub told_ends : (v v' : Sight) (K K' K'' : Account) (peers : List Peer) (coming coming' : Option ℕ) → Carries v v K K' peers peers coming coming' → Ends v v' K' K'' peers coming' → Ends v v' K K'' peers coming
+pub told_ends : (v v' : Sight) (K K' K'' : Tally) (peers : List Peer) (coming coming' : Option ℕ) → Carries v v K K' peers peers coming coming' → Ends v v' K' K'' peers coming' → Ends v v' K K'' peers coming
 told_ends v v' K K' K'' peers coming coming' first second b bk = second b (first b bk)
 
-pub carried_on : (v v1 v2 : Sight) (K K1 K2 : Account) (ps ps1 ps2 : List Peer) → CarriesOn v v1 K K1 ps ps1 → CarriesOn v1 v2 K1 K2 ps1 ps2 → CarriesOn v v2 K K2 ps ps2
+pub carried_on : (v v1 v2 : Sight) (K K1 K2 : Tally) (ps ps1 ps2 : List Peer) → CarriesOn v v1 K K1 ps ps1 → CarriesOn v1 v2 K1 K2 ps1 ps2 → CarriesOn v v2 K K2 ps ps2
 carried_on v v1 v2 K K1 K2 ps ps1 ps2 first second coming b bk = second coming b (first coming b bk)
 
-pub carried_end : (v v1 v2 : Sight) (K K1 K2 : Account) (ps ps1 : List Peer) → CarriesOn v v1 K K1 ps ps1 → EndsAll v1 v2 K1 K2 ps1 → EndsAll v v2 K K2 ps
+pub carried_end : (v v1 v2 : Sight) (K K1 K2 : Tally) (ps ps1 : List Peer) → CarriesOn v v1 K K1 ps ps1 → EndsAll v1 v2 K1 K2 ps1 → EndsAll v v2 K K2 ps
 carried_end v v1 v2 K K1 K2 ps ps1 first second coming b bk = second coming b (first coming b bk)
 
 -- the count of faults in listening by another name
-pub listened : (v v' : Sight) (k k' : Told) (n n' : ℕ) (a a' : Option (List ℕ)) (ps ps' : List Peer) → n' ≡ n → CarriesOn v v' (account k n a) (account k' n a') ps ps' → CarriesOn v v' (account k n a) (account k' n' a') ps ps'
-listened v v' k k' n n' a a' ps ps' same carries coming b bk = subst (λ (m : ℕ). BooksAt b v' (account k' m a') ps' coming) (sym same) (carries coming b bk)
+pub listened : (v v' : Sight) (k k' : Told) (n n' : ℕ) (ps ps' : List Peer) → n' ≡ n → CarriesOn v v' (tally k n) (tally k' n) ps ps' → CarriesOn v v' (tally k n) (tally k' n') ps ps'
+listened v v' k k' n n' ps ps' same carries coming b bk = subst (λ (m : ℕ). BooksAt b v' (tally k' m) ps' coming) (sym same) (carries coming b bk)
 
 pub did_so : {A : Type 0} (answer : Bool) (old new : A) → answer ≡ true → (if answer then new else old) ≡ new
 did_so answer old new is = ap (λ (b : Bool). if b then new else old) is

@@ -4,12 +4,24 @@ use Rattle.std.specs.Prelude.{is_some, ◌==◌}
 use Rattle.std.specs.Option.{option_map}
 use Rattle.turn_lock.specs.Histories.{kept, own_of}
 use Rattle.muck_model.specs.declared.event.Entry.{Entry}
+use Rattle.muck_model.specs.declared.note.Note.{Note}
 use Rattle.spec_events.specs.declared.logged.Count.{Count}
 use Rattle.spec_events.specs.declared.logged.Logged.{Logged}
+use Rattle.spec_events.specs.World.{World}
 use Rattle.spec_events.specs.Logged.{logged_by, entries_of, NoCounts, placed_count, count_from}
 use Rattle.spec_talks.specs.Parties.{party_of}
 use Rattle.spec_serve.specs.Marks.{LinksNote}
+use Rattle.muck_machine.specs.declared.beginning.Beginning.{Beginning}
+use Rattle.muck_machine.specs.Beginnings.{begun}
 use Rattle.muck_porter.specs.Notes.{first_note, note_in}
+
+-- the world of the beginning
+pub same_world : (u w : World) (m m' : Note) → ◌≡◌ {A = List Beginning} (begun u m ∷ []) (begun w m' ∷ []) → u ≡ w
+same_world u w m m' e = ap head_world e
+  where
+    head_world : List Beginning → World
+    head_world [] = u
+    head_world (b ∷ bs) = b.world
 
 -- The note of the links.
 

@@ -16,7 +16,7 @@ use Rattle.muck_peer.specs.Moves.{PeerStep}
 use Rattle.muck_porter.specs.declared.deeds.Served.{Served}
 use Rattle.muck_porter.specs.declared.deeds.Served.TheVariants.{Went as ServedOne, Closed as ClosedOne, Nobody, Dead as ServedDead}
 use Rattle.muck_porter.specs.Notes.{note_in}
-use Rattle.muck_porter.specs.Kept.{account, BooksAt, IsFree, Ready, ReadyTimed, Over}
+use Rattle.muck_porter.specs.Kept.{tally, BooksAt, IsFree, Ready, ReadyTimed, Over}
 use Rattle.muck_porter.specs.Deeds.{ServedAs, ServedFrom}
 use Rattle.muck_porter.specs.Turns.{PorterTurn}
 use Rattle.muck_porter.specs.Moves.{CarriesOn, EndsAll}
@@ -62,54 +62,54 @@ closed_nearer served i from ps ps1 ps2 w event is s place gone =
     let f : from ≤ i = subst (ServedFrom from) is place in
     omega arith
 
-module _ (noted noted' : Bool) (k : Told) (a a' : Option (List ℕ)) (me me' : Chair) (w : World) (event : Event) (r : Rests 0 me') (turn : PorterTurn noted noted' k a a' me.0 me'.0 w event) (ready : Ready noted me)
+module _ (noted noted' : Bool) (k : Told) (me me' : Chair) (w : World) (event : Event) (r : Rests 0 me') (turn : PorterTurn noted noted' k me.0 me'.0 w event) (ready : Ready noted me)
     (served : Served) (ps ps1 : List Peer) (did : ServedAs served ps ps1 w event) where
   pub went_ready : (i : ℕ) → served ≡ ServedOne i → Ready noted' me'
   went_ready i is =
       let x : ServedAs (ServedOne i) ps ps1 w event = subst (λ (y : Served). ServedAs y ps ps1 w event) is did in
-      record { resting = turn_resting noted noted' k a a' me me' w event r turn ready.resting.known; free = peer_free me.0.own me'.0.own turn.item x.0 x.1 w event turn.own turn.entry ready.free x.4 }
+      record { resting = turn_resting noted noted' k me me' w event r turn ready.resting.known; free = peer_free me.0.own me'.0.own turn.item x.0 x.1 w event turn.own turn.entry ready.free x.4 }
 
-  pub went_carries : (i : ℕ) (k' : Told) (n : ℕ) (ps2 : List Peer) → served ≡ ServedOne i → WroteAt i noted' k k' ps1 ps2 → CarriesOn me.0 me'.0 (account k n a) (account k' n a') ps ps2
+  pub went_carries : (i : ℕ) (k' : Told) (n : ℕ) (ps2 : List Peer) → served ≡ ServedOne i → WroteAt i noted' k k' ps1 ps2 → CarriesOn me.0 me'.0 (tally k n) (tally k' n) ps ps2
   went_carries i k' n ps2 is wrote coming b bk =
       let x : ServedAs (ServedOne i) ps ps1 w event = subst (λ (y : Served). ServedAs y ps ps1 w event) is did in
       let there : get_elem? ps1 i ≡ some x.1 = ap (λ (l : List Peer). get_elem? l i) x.3 ∙ set_there ps i x.0 x.1 x.2 in
       let o = wrote x.1 there in
-      subst (λ (l : List Peer). BooksAt b me'.0 (account k' n a') l coming) (sym o.1)
-      (linked_books b me'.0 k k' n a' ps1 coming i x.1 o.0 there (o.2 (note_in me'.0.own) (sym (turn_noted noted noted' k a a' me.0 me'.0 w event turn ready.resting.known)))
-      (subst (λ (l : List Peer). BooksAt b me'.0 (account k n a') l coming) (sym x.3)
-      (carries_peer noted noted' k a a' me.0 me'.0 w event turn ready.resting.known b n ps coming i x.0 x.1 x.2 x.4 bk)))
+      subst (λ (l : List Peer). BooksAt b me'.0 (tally k' n) l coming) (sym o.1)
+      (linked_books b me'.0 k k' n ps1 coming i x.1 o.0 there (o.2 (note_in me'.0.own) (sym (turn_noted noted noted' k me.0 me'.0 w event turn ready.resting.known)))
+      (subst (λ (l : List Peer). BooksAt b me'.0 (tally k n) l coming) (sym x.3)
+      (carries_peer noted noted' k me.0 me'.0 w event turn ready.resting.known b n ps coming i x.0 x.1 x.2 x.4 bk)))
 
   pub closed_ready : (i : ℕ) → served ≡ ClosedOne i → Ready noted' me'
   closed_ready i is =
       let x : ServedAs (ClosedOne i) ps ps1 w event = subst (λ (y : Served). ServedAs y ps ps1 w event) is did in
       record {
-        resting = turn_resting noted noted' k a a' me me' w event r turn ready.resting.known;
+        resting = turn_resting noted noted' k me me' w event r turn ready.resting.known;
         free = IsFree.unbound (stage_free me.0.own me'.0.own turn.item turn.own (Closed x.0.number) Stage.unbound (turn.entry ∙ ap by_porter x.3) ready.free refl refl);
       }
 
-  pub closed_carries : (i : ℕ) (k' : Told) (n : ℕ) (ps2 : List Peer) → served ≡ ClosedOne i → ClosedAt i k k' ps1 → ps2 ≡ remove ps1 i → CarriesOn me.0 me'.0 (account k n a) (account k' n a') ps ps2
+  pub closed_carries : (i : ℕ) (k' : Told) (n : ℕ) (ps2 : List Peer) → served ≡ ClosedOne i → ClosedAt i k k' ps1 → ps2 ≡ remove ps1 i → CarriesOn me.0 me'.0 (tally k n) (tally k' n) ps ps2
   closed_carries i k' n ps2 is told gone coming b bk =
       let x : ServedAs (ClosedOne i) ps ps1 w event = subst (λ (y : Served). ServedAs y ps ps1 w event) is did in
       let same : ps1 ≡ ps = x.2 ∙ set_again ps i x.0 x.1 in
-      subst (λ (l : List Peer). BooksAt b me'.0 (account k' n a') l coming) (sym (gone ∙ ap (λ (l : List Peer). remove l i) same))
-      (carries_closed noted noted' k a a' me.0 me'.0 w event turn ready.resting.known b n k' ps coming i x.0 x.1 x.3 x.4
+      subst (λ (l : List Peer). BooksAt b me'.0 (tally k' n) l coming) (sym (gone ∙ ap (λ (l : List Peer). remove l i) same))
+      (carries_closed noted noted' k me.0 me'.0 w event turn ready.resting.known b n k' ps coming i x.0 x.1 x.3 x.4
       (told x.0 (ap (λ (l : List Peer). get_elem? l i) same ∙ x.1)) bk)
 
   pub nobody_ready : served ≡ Nobody → ReadyTimed noted' me'
   nobody_ready is =
       let x : ServedAs Nobody ps ps1 w event = subst (λ (y : Served). ServedAs y ps ps1 w event) is did in
-      moment_ready noted noted' k a a' me me' w event r turn ready.resting.known ready.free x.0
+      moment_ready noted noted' k me me' w event r turn ready.resting.known ready.free x.0
 
-  pub nobody_carries : (n : ℕ) → served ≡ Nobody → CarriesOn me.0 me'.0 (account k n a) (account k n a') ps ps1
+  pub nobody_carries : (n : ℕ) → served ≡ Nobody → CarriesOn me.0 me'.0 (tally k n) (tally k n) ps ps1
   nobody_carries n is coming b bk =
       let x : ServedAs Nobody ps ps1 w event = subst (λ (y : Served). ServedAs y ps ps1 w event) is did in
-      subst (λ (l : List Peer). BooksAt b me'.0 (account k n a') l coming) (sym x.1) (moment_carries noted noted' k a a' me me' w event r turn ready.resting.known n ps coming x.0 b bk)
+      subst (λ (l : List Peer). BooksAt b me'.0 (tally k n) l coming) (sym x.1) (moment_carries noted noted' k me me' w event r turn ready.resting.known n ps coming x.0 b bk)
 
-  pub dead_ends : (n : ℕ) → served ≡ ServedDead → EndsAll me.0 me'.0 (account k n a) (account k n a') ps
-  dead_ends n is coming = died_ends noted noted' k a a' me me' w event r turn ready.resting.known n ps coming (subst (λ (y : Served). ServedAs y ps ps1 w event) is did)
+  pub dead_ends : (n : ℕ) → served ≡ ServedDead → EndsAll me.0 me'.0 (tally k n) (tally k n) ps
+  dead_ends n is coming = died_ends noted noted' k me me' w event r turn ready.resting.known n ps coming (subst (λ (y : Served). ServedAs y ps ps1 w event) is did)
 
   pub dead_over : served ≡ ServedDead → Over me'
-  dead_over is = died_over noted noted' k a a' me me' w event r turn ready.resting.known ready.free (subst (λ (y : Served). ServedAs y ps ps1 w event) is did)
+  dead_over is = died_over noted noted' k me me' w event r turn ready.resting.known ready.free (subst (λ (y : Served). ServedAs y ps ps1 w event) is did)
 
   -- the seat may be taken in, whatever was done
   pub went_over : (i : ℕ) → served ≡ ServedOne i → Over me'

@@ -20,7 +20,6 @@ use Rattle.spec_talks.specs.Counts.{counts}
 use Rattle.muck_machine.specs.Beginnings.{beginning}
 use Rattle.muck_machine.specs.Seats.{Sight, Chair, OneMore, AllOrderly, Rests, Waited}
 use Rattle.muck_machine.proofs.Seating.{one_bare, one_counted, held_settled, held_start, given_seen, given_root, rests_turned, others_none, not_counted}
-use Rattle.muck_peer.specs.Moves.{Clocked}
 use Rattle.muck_porter.specs.declared.deeds.Deed.{Deed}
 use Rattle.muck_porter.specs.declared.deeds.Deed.TheVariants.{Open, Slice, Time, Stop, Leave, Die}
 use Rattle.muck_porter.specs.Kept.{Resting}
@@ -85,12 +84,12 @@ module _ (noted noted' : Bool) (k : Told) (me me1 : Chair) (h' h2 : History) (ev
   turn_start = let i = turn_item in given_root me1.0 g.given h2 i.item i.one g.root
 
   -- Then the seat rests again, one turn further.
-  pub turn_made : (a a' : Option (List ℕ)) → Clocked a a' (now h') event → (me2 : Chair) → me2.1 ≡ [] → me2.0.place ≡ Idle → me2.0.seen ≡ logged h2
+  pub turn_made : (me2 : Chair) → me2.1 ≡ [] → me2.0.place ≡ Idle → me2.0.seen ≡ logged h2
       → (me2.0.party ≡ me1.0.party) × (me2.0.root ≡ me1.0.root) × (me2.0.given ≡ me1.0.given) × (me2.0.joined ≡ me1.0.joined)
       → ((e : Logged) → logged h2 ≡ me1.0.seen ++ e ∷ [] → logged_by e ≡ me1.0.party → IsOrderly e → me2.0.own ≡ me1.0.own ++ e ∷ [])
-      → Rests 0 me2 × PorterTurn noted noted' k a a' me.0 me2.0 (now h') event
+      → Rests 0 me2 × PorterTurn noted noted' k me.0 me2.0 (now h') event
   unfolding now
-  turn_made a a' clocked me2 free idle seen2 same mine =
+  turn_made me2 free idle seen2 same mine =
       let i = turn_item in
       let w = g.waited in
       let by : logged_by i.item ≡ 0 = ap (λ (e : Entry). e.party) i.entry in
@@ -113,7 +112,6 @@ module _ (noted noted' : Bool) (k : Told) (me me1 : Chair) (h' h2 : History) (ev
           still = ap (own_of logged_by 0) (sym w.0.1) ∙ ap (λ (n : ℕ). own_of logged_by n me1.0.seen) (sym party) ∙ sym g.known ∙ w.1 ∙ r.rests.own;
           entry = i.entry;
           marked = i.marked;
-          clocked = clocked;
         },
       )
 

@@ -1,5 +1,5 @@
 -- From what the porter leaves to the whole history, once the lock is closed.
-use Rattle.std.proofs.Common.{◌≡◌, ℕ, suc, arith, Bool, true, false, List, [], ◌∷◌, ◌++◌, refl, sym, ap, ◌∙◌, subst, append_assoc}
+use Rattle.std.proofs.Common.{◌≡◌, ℕ, suc, arith, Bool, true, false, List, [], ◌∷◌, ◌++◌, refl, sym, ap, ◌∙◌, subst, append_assoc, Option}
 use Rattle.std.specs.Prelude.{◌==◌}
 use Rattle.std.specs.Option.{option_map}
 use Rattle.std.proofs.lemmas.Bool.Decides.{nat_tests}
@@ -14,12 +14,13 @@ use Rattle.spec_talks.specs.Parties.{party_of}
 use Rattle.spec_talks.specs.Talks.{Talk, talks}
 use Rattle.spec_talks.proofs.Talking.{talks_same}
 use Rattle.spec_serve.specs.Marks.{LinksNote}
-use Rattle.spec_serve.specs.Promises.{Tally, OpenWorkedOff}
+use Rattle.spec_serve.specs.Promises.{Tally, PromisedOf, OpenWorkedOff}
 use Rattle.spec_serve.proofs.Promising.{promised_whole}
 use Rattle.muck_machine.specs.Beginnings.{begun}
 use Rattle.muck_machine.specs.Seats.{Sight, AllOrderly}
 use Rattle.muck_porter.specs.Notes.{first_note, note_in}
-use Rattle.muck_porter.specs.Kept.{Account, PromisedNow, KeptBy, Stopped}
+use Rattle.muck_porter.specs.Kept.{KeptBy, Stopped}
+use Rattle.muck_porter.specs.Times.{Timely, TimedBy}
 use Rattle.muck_porter.proofs.Timing.{timely_same}
 use Rattle.muck_porter.proofs.Items.{note_count, entries_own}
 
@@ -45,19 +46,30 @@ entries_start ls seen more = (entries_of more.0, ap entries_of more.1 ∙ entrie
 same_own : (ls front : List Logged) → own_of logged_by 0 ls ≡ own_of logged_by 0 front → own_of party_of 0 (entries_of ls) ≡ own_of party_of 0 (entries_of front)
 same_own ls front is = entries_own 0 ls ∙ ap entries_of is ∙ sym (entries_own 0 front)
 
--- What is promised of all links, and of the moments, of the whole history.
-pub kept_whole : (b : Account) (v : Sight) (k : Account) (w : World) (m : Note) (ls : List Logged) → v.root ≡ begun w m ∷ [] → StartsWith ls v.seen → v.own ≡ own_of logged_by 0 ls → AllLawful w (entries_of ls)
-    → KeptBy b v k → PromisedNow (note_in v.own) b w (entries_of ls) k
+-- The front that the porter vouches for, as a front of the whole, in which it did nothing more.
+record Fronted (front ls : List Logged) : Type 0 where
+  pub begins_so : StartsWith (entries_of ls) (entries_of front)
+  pub no_more : own_of party_of 0 (entries_of ls) ≡ own_of party_of 0 (entries_of front)
+
+fronted : (v : Sight) (front ls : List Logged) → StartsWith v.seen front → v.own ≡ own_of logged_by 0 front → StartsWith ls v.seen → v.own ≡ own_of logged_by 0 ls → Fronted front ls
+fronted v front ls seen mine more own = record {
+  begins_so = entries_start ls front (seen.0 ++ more.0, more.1 ∙ ap (λ (x : List Logged). x ++ more.0) seen.1 ∙ append_assoc front seen.0 more.0);
+  no_more = same_own ls front (sym own ∙ mine);
+}
+
+-- What is promised of all links, of the whole history.
+pub kept_whole : (b : Tally) (v : Sight) (k : Tally) (w : World) (m : Note) (ls : List Logged) → v.root ≡ begun w m ∷ [] → StartsWith ls v.seen → v.own ≡ own_of logged_by 0 ls → AllLawful w (entries_of ls)
+    → KeptBy b v k → PromisedOf (note_in v.own) b w (entries_of ls) k
 kept_whole b v k w m ls root more own lawful kept_by =
-    let longer : StartsWith ls kept_by.front =
-    (kept_by.seen.0 ++ more.0, more.1 ∙ ap (λ (x : List Logged). x ++ more.0) kept_by.seen.1 ∙ append_assoc kept_by.front kept_by.seen.0 more.0) in
-    let before = kept_by.promised w m root in
-    let starts = entries_start ls kept_by.front longer in
-    let same = same_own ls kept_by.front (sym own ∙ kept_by.own) in
-    record {
-      links = promised_whole (note_in v.own) b.links w (entries_of kept_by.front) (entries_of ls) k.links lawful starts same before.links;
-      timely = timely_same b.answers k.answers w (entries_of kept_by.front) (entries_of ls) lawful starts same before.timely;
-    }
+    let f = fronted v kept_by.front ls kept_by.seen kept_by.own more own in
+    promised_whole (note_in v.own) b w (entries_of kept_by.front) (entries_of ls) k lawful f.begins_so f.no_more (kept_by.promised w m root)
+
+-- Each moment of the whole history is the clock's.
+pub timed_whole : (before now : Option (List ℕ)) (v : Sight) (w : World) (m : Note) (ls : List Logged) → v.root ≡ begun w m ∷ [] → StartsWith ls v.seen → v.own ≡ own_of logged_by 0 ls → AllLawful w (entries_of ls)
+    → TimedBy before now v → Timely before now w (entries_of ls)
+timed_whole before now v w m ls root more own lawful timed_by =
+    let f = fronted v timed_by.front ls timed_by.seen timed_by.own more own in
+    timely_same before now w (entries_of timed_by.front) (entries_of ls) lawful f.begins_so f.no_more (timed_by.timely w m root)
 
 -- Where the porter has seen the stop, each connection that is open is worked off in the world in which it entered that.
 pub stopped_whole : (v : Sight) (k : Tally) (w : World) (m : Note) (ls : List Logged) → v.root ≡ begun w m ∷ [] → StartsWith ls v.seen → v.own ≡ own_of logged_by 0 ls → AllLawful w (entries_of ls)

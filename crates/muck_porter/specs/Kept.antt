@@ -2,7 +2,6 @@
 use Rattle.std.specs.Prelude.{◌≡◌, ℕ, Bool, true, ◌≤◌, List, [], ◌∷◌, ◌++◌, is_some, Option, Some}
 use Rattle.turn_lock.specs.Histories.{StartsWith, own_of}
 use Rattle.muck_links.specs.Sessions.{Told}
-use Rattle.muck_model.specs.declared.event.Entry.{Entry}
 use Rattle.muck_model.specs.declared.note.Note.{Note}
 use Rattle.muck_model.specs.declared.event.Event.TheVariants.{StopSeen}
 use Rattle.spec_events.specs.declared.logged.Logged.{Logged}
@@ -11,14 +10,12 @@ use Rattle.spec_events.specs.Histories.{after, by_porter}
 use Rattle.spec_events.specs.Logged.{logged_by, entries_of, events_of}
 use Rattle.spec_events.specs.Own.{Stage, stage_of, IsWellFormed}
 use Rattle.spec_talks.specs.Talks.{talks}
-use Rattle.spec_serve.specs.Marks.{LinksNote}
 use Rattle.spec_serve.specs.Promises.{Tally, PromisedOf, OpenWorkedOff}
 use Rattle.spec_serve.specs.inner.Keeping.{Peer}
 use Rattle.spec_serve.specs.inner.Books.{BooksOf}
 use Rattle.muck_machine.specs.Beginnings.{begun}
 use Rattle.muck_machine.specs.Seats.{Sight, Chair, Rests, Left}
 use Rattle.muck_porter.specs.Notes.{note_in}
-use Rattle.muck_porter.specs.Times.{Timely}
 
 abbrev pub tally : Told → ℕ → Tally
 tally told listening = record { told = told; listening = listening }
@@ -33,27 +30,21 @@ account told listening answers = record { links = tally told listening; answers 
 
 -- The books of all links, over what the seat has seen of a history that begins in this world, in which nobody is connected. The note
 -- of the links is the seat's own.
-pub record BooksIn (b : Account) (v : Sight) (k : Account) (peers : List Peer) (coming : Option ℕ) (w : World) : Type 0 where
+pub record BooksIn (b : Tally) (v : Sight) (k : Tally) (peers : List Peer) (coming : Option ℕ) (w : World) : Type 0 where
   pub nobody : w.live.board.connections ≡ []
-  pub later : b.links.listening ≤ k.links.listening
-  pub books : BooksOf (note_in v.own) b.links w (entries_of v.seen) k.links peers coming
-  pub timely : Timely b.answers k.answers w (entries_of v.seen)
+  pub later : b.listening ≤ k.listening
+  pub books : BooksOf (note_in v.own) b w (entries_of v.seen) k peers coming
 
 -- in the world with which the seat began
-abbrev pub BooksAt : Account → Sight → Account → List Peer → Option ℕ → Type 0
+abbrev pub BooksAt : Tally → Sight → Tally → List Peer → Option ℕ → Type 0
 BooksAt b v k peers coming = (w : World) (mounting : Note) → v.root ≡ begun w mounting ∷ [] → BooksIn b v k peers coming w
 
--- what is promised of all links, and that each moment is the greater of the clock's next answer and the second before it
-pub record PromisedNow (counted : LinksNote) (b : Account) (w : World) (h : List Entry) (k : Account) : Type 0 where
-  pub links : PromisedOf counted b.links w h k.links
-  pub timely : Timely b.answers k.answers w h
-
--- the same of these items
-abbrev pub PromisedIn : Account → Sight → List Logged → Account → Type 0
-PromisedIn b v front k = (w : World) (mounting : Note) → v.root ≡ begun w mounting ∷ [] → PromisedNow (note_in v.own) b w (entries_of front) k
+-- what is promised of all links, of these items
+abbrev pub PromisedIn : Tally → Sight → List Logged → Tally → Type 0
+PromisedIn b v front k = (w : World) (mounting : Note) → v.root ≡ begun w mounting ∷ [] → PromisedOf (note_in v.own) b w (entries_of front) k
 
 -- What stands when the porter returns: of some front of what its seat has seen, which has all its own entries, all is promised.
-pub record KeptBy (b : Account) (v : Sight) (k : Account) : Type 0 where
+pub record KeptBy (b : Tally) (v : Sight) (k : Tally) : Type 0 where
   pub front : List Logged
   pub seen : StartsWith v.seen front
   pub own : v.own ≡ own_of logged_by 0 front

@@ -4,6 +4,7 @@ use mathlib.Core.Option.{some}
 use lib.ListN.{get_elem?}
 use Rattle.muck_links.specs.Sessions.{Told, on_session, shut}
 use Rattle.spec_serve.specs.Marks.{LinksNote}
+use Rattle.spec_serve.specs.Promises.{Tally}
 use Rattle.spec_serve.specs.inner.Keeping.{Peer}
 use Rattle.muck_peer.specs.Moves.{LinkStep}
 use Rattle.muck_machine.specs.Seats.{Sight, Chair}
@@ -11,7 +12,7 @@ use Rattle.muck_porter.specs.declared.serving.Fault.{Fault}
 use Rattle.muck_porter.specs.declared.serving.Fault.TheVariants.{NoMemory, Spent}
 use Rattle.muck_porter.specs.declared.rounds.Round.{Round}
 use Rattle.muck_porter.specs.declared.rounds.Round.TheVariants.{Busy, Idle, Left}
-use Rattle.muck_porter.specs.Kept.{Account, Ready, ReadyTimed, BooksAt, KeptBy, Stopped, EndsWithStop}
+use Rattle.muck_porter.specs.Kept.{Ready, ReadyTimed, BooksAt, KeptBy, Stopped, EndsWithStop}
 use Rattle.muck_porter.specs.Moves.{Carries, CarriesOn}
 
 -- only where all turns were had
@@ -39,22 +40,22 @@ abbrev pub ClosedAt : ℕ → Told → Told → List Peer → Type 0
 ClosedAt i k k' peers = (p : Peer) → get_elem? peers i ≡ some p → k' ≡ on_session p.number shut k
 
 -- Where the porter has left, what is promised stands, and each connection that is open is worked off.
-abbrev pub HasLeft : Sight → Sight → Account → Account → List Peer → Type 0
-HasLeft v v' k k' peers = (b : Account) (coming : Option ℕ) → BooksAt b v k peers coming → KeptBy b v' k' × Stopped v' k'.links
+abbrev pub HasLeft : Sight → Sight → Tally → Tally → List Peer → Type 0
+HasLeft v v' k k' peers = (b : Tally) (coming : Option ℕ) → BooksAt b v k peers coming → KeptBy b v' k' × Stopped v' k'
 
 abbrev pub IsRound : Round → Bool → Chair → Type 0
 IsRound Left noted me = EndsWithStop me.0.own
 IsRound Busy noted me = Ready noted me
 IsRound Idle noted me = Ready noted me
 
-abbrev pub RoundCarries : Round → Sight → Sight → Account → Account → List Peer → List Peer → Type 0
+abbrev pub RoundCarries : Round → Sight → Sight → Tally → Tally → List Peer → List Peer → Type 0
 RoundCarries Left v v' k k' peers peers' = HasLeft v v' k k' peers
 RoundCarries Busy v v' k k' peers peers' = CarriesOn v v' k k' peers peers'
 RoundCarries Idle v v' k k' peers peers' = CarriesOn v v' k k' peers peers'
 
 -- the same where a link may come
-abbrev pub Went : Round → Sight → Sight → Account → Account → List Peer → List Peer → Option ℕ → Option ℕ → Type 0
-Went Left v v' k k' peers peers' coming coming' = (b : Account) → BooksAt b v k peers coming → KeptBy b v' k' × Stopped v' k'.links
+abbrev pub Went : Round → Sight → Sight → Tally → Tally → List Peer → List Peer → Option ℕ → Option ℕ → Type 0
+Went Left v v' k k' peers peers' coming coming' = (b : Tally) → BooksAt b v k peers coming → KeptBy b v' k' × Stopped v' k'
 Went Busy v v' k k' peers peers' coming coming' = Carries v v' k k' peers peers' coming coming'
 Went Idle v v' k k' peers peers' coming coming' = Carries v v' k k' peers peers' coming coming'
 

@@ -11,7 +11,6 @@ use Rattle.spec_events.specs.Histories.{History, now, after, AllLawful, by_porte
 use Rattle.spec_events.specs.Logged.{logged, logged_by, entries_of}
 use Rattle.spec_talks.specs.Counts.{counts}
 use Rattle.spec_serve.specs.Marks.{LinksNote}
-use Rattle.muck_peer.specs.Moves.{Clocked}
 use Rattle.muck_machine.specs.Beginnings.{beginning, begun}
 use Rattle.muck_machine.specs.Seats.{Sight, Chair, AllOrderly, Waited, SameLists}
 
@@ -39,7 +38,7 @@ pub record Given (noted noted' : Bool) (k : Told) (me me' : Chair) (h' : History
   pub marked : MarkedIn noted noted' k given h'
 
 -- One turn: others' items since, and then this entry, made in this world, with the note of the links where it was made.
-pub record PorterTurn (noted noted' : Bool) (k : Told) (a a' : Option (List ℕ)) (v v' : Sight) (w : World) (event : Event) : Type 0 where
+pub record PorterTurn (noted noted' : Bool) (k : Told) (v v' : Sight) (w : World) (event : Event) : Type 0 where
   pub start : World
   pub mounting : Note
   pub root : v.root ≡ begun start mounting ∷ []
@@ -53,4 +52,3 @@ pub record PorterTurn (noted noted' : Bool) (k : Told) (a a' : Option (List ℕ)
   pub still : own_of logged_by 0 (v.seen ++ others) ≡ own_of logged_by 0 v.seen
   pub entry : item.entry ≡ by_porter event
   pub marked : Marked noted noted' k w item.counted
-  pub clocked : Clocked a a' w event

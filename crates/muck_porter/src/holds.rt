@@ -9,6 +9,7 @@ ghost use Rattle.muck_porter.specs.Kept.{Resting};
 ghost use Rattle.muck_porter.specs.Turns.{MarkedIn, Given, PorterTurn};
 ghost use Rattle.muck_porter.specs.Deeds.{ServedAs, ServedFrom, WorkedAs, DidAs};
 ghost use Rattle.muck_porter.specs.Moves.{ClaimAt};
+ghost use Rattle.muck_porter.specs.Times.{ByClock};
 
 use crate::deeds::{Deed, Did, Served, Worked, does, serves, works};
 use muck_io::{Clock, Rest};
@@ -79,9 +80,10 @@ pub fn serve_turn<W: Wait, L: Links, C: Clock, R: Rest>(
     requires ready { Resting noted.old seat.old.me }
     ensures own { (seat.new.table_id ≡ seat.old.table_id) × (seat.new.id ≡ seat.old.id) }
     ensures lists { SameLists seat.old.me.0 seat.new.me.0 }
-    ensures ok { IfOk result (λ served. Rests 0 seat.new.me × ((w : Value) × (event : Event) × PorterTurn noted.old noted.new (L.told links.now) (C.answers clock.old) (C.answers clock.new) seat.old.me.0 seat.new.me.0 w event × ServedAs served peers.old.items peers.new.items w event)) }
+    ensures time { ByClock seat.old.me.0 seat.new.me.0 (C.answers clock.old) (C.answers clock.new) }
+    ensures ok { IfOk result (λ served. Rests 0 seat.new.me × ((w : Value) × (event : Event) × PorterTurn noted.old noted.new (L.told links.now) seat.old.me.0 seat.new.me.0 w event × ServedAs served peers.old.items peers.new.items w event)) }
     ensures place { IfOk result (λ served. ServedFrom from served) }
-    ensures waited { OnErr result (Waited seat.old.me.0 seat.new.me.0 × (noted.new ≡ noted.old) × (peers.new ≡ peers.old) × (C.answers clock.new ≡ C.answers clock.old)) }
+    ensures waited { OnErr result (Waited seat.old.me.0 seat.new.me.0 × (noted.new ≡ noted.old) × (peers.new ≡ peers.old)) }
     ensures left { OnErr result (Left 0 seat.new.me × (2 ^ 62 ≤ length seat.new.me.0.seen)) }
 {
     match begins(rt, turn, seat, links, rest, noted) {
@@ -110,8 +112,9 @@ pub fn work_turn<W: Wait, L: Links, C: Clock, R: Rest>(
     requires ready { Resting noted.old seat.old.me }
     ensures own { (seat.new.table_id ≡ seat.old.table_id) × (seat.new.id ≡ seat.old.id) }
     ensures lists { SameLists seat.old.me.0 seat.new.me.0 }
-    ensures ok { IfOk result (λ worked. Rests 0 seat.new.me × ((w : Value) × (event : Event) × PorterTurn noted.old noted.new (L.told links.now) (C.answers clock.old) (C.answers clock.new) seat.old.me.0 seat.new.me.0 w event × WorkedAs worked event)) }
-    ensures waited { OnErr result (Waited seat.old.me.0 seat.new.me.0 × (noted.new ≡ noted.old) × (C.answers clock.new ≡ C.answers clock.old)) }
+    ensures time { ByClock seat.old.me.0 seat.new.me.0 (C.answers clock.old) (C.answers clock.new) }
+    ensures ok { IfOk result (λ worked. Rests 0 seat.new.me × ((w : Value) × (event : Event) × PorterTurn noted.old noted.new (L.told links.now) seat.old.me.0 seat.new.me.0 w event × WorkedAs worked event)) }
+    ensures waited { OnErr result (Waited seat.old.me.0 seat.new.me.0 × (noted.new ≡ noted.old)) }
     ensures left { OnErr result (Left 0 seat.new.me × (2 ^ 62 ≤ length seat.new.me.0.seen)) }
 {
     match begins(rt, turn, seat, links, rest, noted) {
@@ -142,8 +145,9 @@ pub fn deed_turn<W: Wait, L: Links, C: Clock, R: Rest>(
     requires claim { ClaimAt deed.now seat.old.me.0 }
     ensures own { (seat.new.table_id ≡ seat.old.table_id) × (seat.new.id ≡ seat.old.id) }
     ensures lists { SameLists seat.old.me.0 seat.new.me.0 }
-    ensures ok { IfOk result (λ did. Rests 0 seat.new.me × ((w : Value) × (event : Event) × PorterTurn noted.old noted.new (L.told links.now) (C.answers clock.old) (C.answers clock.new) seat.old.me.0 seat.new.me.0 w event × DidAs deed.now did noted.new peers.now.items w event)) }
-    ensures waited { OnErr result (Waited seat.old.me.0 seat.new.me.0 × (noted.new ≡ noted.old) × (C.answers clock.new ≡ C.answers clock.old)) }
+    ensures time { ByClock seat.old.me.0 seat.new.me.0 (C.answers clock.old) (C.answers clock.new) }
+    ensures ok { IfOk result (λ did. Rests 0 seat.new.me × ((w : Value) × (event : Event) × PorterTurn noted.old noted.new (L.told links.now) seat.old.me.0 seat.new.me.0 w event × DidAs deed.now did noted.new peers.now.items w event)) }
+    ensures waited { OnErr result (Waited seat.old.me.0 seat.new.me.0 × (noted.new ≡ noted.old)) }
     ensures left { OnErr result (Left 0 seat.new.me × (2 ^ 62 ≤ length seat.new.me.0.seen)) }
 {
     match begins(rt, turn, seat, links, rest, noted) {

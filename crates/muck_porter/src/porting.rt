@@ -2,10 +2,11 @@
 ghost use Rattle.std.specs.Prelude.{◌≡◌, ◌≤◌, ◌||◌, IfOk, IfErr, OnErr, true};
 ghost use Rattle.muck_io.specs.Faults.{Rose};
 ghost use Rattle.muck_machine.specs.Seats.{SameLists};
-ghost use Rattle.muck_porter.specs.Kept.{account, Ready, Over};
+ghost use Rattle.muck_porter.specs.Kept.{tally, account, Ready, Over};
 ghost use Rattle.muck_porter.specs.Moves.{Ends, number_in, IsNew};
 ghost use Rattle.muck_porter.specs.Rounds.{IsSpent, IsRound, Went, is_left};
 ghost use Rattle.muck_porter.specs.Porter.{PorterReady, PorterDone};
+ghost use Rattle.muck_porter.specs.Times.{ByClock};
 
 use crate::rounds::{Round, attends, welcomes};
 use crate::serving::{Fault, dies};
@@ -95,13 +96,15 @@ fn goes_round<W: Wait, L: Links, C: Clock, G: Gate, R: Rest>(
     requires fresh { IsNew coming }
     ensures own { (seat.new.table_id ≡ seat.old.table_id) × (seat.new.id ≡ seat.old.id) }
     ensures lists { SameLists seat.old.me.0 seat.new.me.0 }
+    ensures time { ByClock seat.old.me.0 seat.new.me.0 (C.answers clock.old) (C.answers clock.new) }
     ensures tells { L.tells links.new ≡ L.tells links.old }
     ensures later { L.listening links.old ≤ L.listening links.new }
+    ensures ports { L.tells links.old ≡ true → (L.told links.new).ports ≡ (L.told links.old).ports }
     ensures ready { IfOk result (λ g. IsRound g.round noted.new seat.new.me) }
     ensures broke { IfOk result (λ g. g.broke ≡ true → Rose (L.listening links.old) (L.listening links.new)) }
     ensures fresh { IfOk result (λ g. IsNew g.coming) }
-    ensures ok { IfOk result (λ g. L.tells links.old ≡ true → Went g.round seat.old.me.0 seat.new.me.0 (account (L.told links.old) (L.listening links.old) (C.answers clock.old)) (account (L.told links.new) (L.listening links.new) (C.answers clock.new)) peers.old.items peers.new.items (number_in coming) (number_in g.coming)) }
-    ensures err { OnErr result (L.tells links.old ≡ true → Ends seat.old.me.0 seat.new.me.0 (account (L.told links.old) (L.listening links.old) (C.answers clock.old)) (account (L.told links.new) (L.listening links.new) (C.answers clock.new)) peers.old.items (number_in coming)) }
+    ensures ok { IfOk result (λ g. L.tells links.old ≡ true → Went g.round seat.old.me.0 seat.new.me.0 (tally (L.told links.old) (L.listening links.old)) (tally (L.told links.new) (L.listening links.new)) peers.old.items peers.new.items (number_in coming) (number_in g.coming)) }
+    ensures err { OnErr result (L.tells links.old ≡ true → Ends seat.old.me.0 seat.new.me.0 (tally (L.told links.old) (L.listening links.old)) (tally (L.told links.new) (L.listening links.new)) peers.old.items (number_in coming)) }
     ensures over { Over seat.new.me }
     ensures spent { IfErr result (λ fault. IsSpent fault seat.new.me.0) }
 {

@@ -3,9 +3,10 @@ ghost use Rattle.std.specs.Prelude.{◌≡◌, ◌≤◌, ℕ, IfOk, OnOk, OnErr
 ghost use Rattle.muck_io.specs.Faults.{Rose};
 ghost use Rattle.muck_machine.specs.Seats.{SameLists};
 ghost use Rattle.spec_events.specs.Own.{Stage};
-ghost use Rattle.muck_porter.specs.Kept.{account, IsAt, Resting, Ready, ReadyTimed, Over, EndsWithStop};
+ghost use Rattle.muck_porter.specs.Kept.{tally, IsAt, Resting, Ready, ReadyTimed, Over, EndsWithStop};
 ghost use Rattle.muck_porter.specs.Moves.{Carries, CarriesOn, Ends, EndsAll, Halts, number_in, IsNew, HasClaimed};
 ghost use Rattle.muck_porter.specs.Rounds.{IsSpent, HasLeft, IsRound, RoundCarries};
+ghost use Rattle.muck_porter.specs.Times.{ByClock};
 
 use crate::deeds::{Deed, Did, Worked};
 use crate::holds::{deed_turn, work_turn};
@@ -38,9 +39,10 @@ fn stops<W: Wait, L: Links, C: Clock, R: Rest>(
     requires ready { Ready noted.old seat.old.me }
     ensures own { (seat.new.table_id ≡ seat.old.table_id) × (seat.new.id ≡ seat.old.id) }
     ensures lists { SameLists seat.old.me.0 seat.new.me.0 }
+    ensures time { ByClock seat.old.me.0 seat.new.me.0 (C.answers clock.old) (C.answers clock.new) }
     ensures ready { OnOk result (Ready noted.new seat.new.me) }
-    ensures ok { OnOk result ((n : ℕ) → Halts seat.old.me.0 seat.new.me.0 (account (L.told links.now) n (C.answers clock.old)) (account (L.told links.now) n (C.answers clock.new)) peers.now.items) }
-    ensures err { OnErr result ((n : ℕ) → EndsAll seat.old.me.0 seat.new.me.0 (account (L.told links.now) n (C.answers clock.old)) (account (L.told links.now) n (C.answers clock.new)) peers.now.items) }
+    ensures ok { OnOk result ((n : ℕ) → Halts seat.old.me.0 seat.new.me.0 (tally (L.told links.now) n) (tally (L.told links.now) n) peers.now.items) }
+    ensures err { OnErr result ((n : ℕ) → EndsAll seat.old.me.0 seat.new.me.0 (tally (L.told links.now) n) (tally (L.told links.now) n) peers.now.items) }
     ensures over { Over seat.new.me }
     ensures spent { IfErr result (λ fault. IsSpent fault seat.new.me.0) }
 {
@@ -85,13 +87,15 @@ fn lets_in<W: Wait, L: Links, C: Clock, R: Rest>(
     requires ready { Ready noted.old seat.old.me }
     ensures own { (seat.new.table_id ≡ seat.old.table_id) × (seat.new.id ≡ seat.old.id) }
     ensures lists { SameLists seat.old.me.0 seat.new.me.0 }
+    ensures time { ByClock seat.old.me.0 seat.new.me.0 (C.answers clock.old) (C.answers clock.new) }
     ensures tells { L.tells links.new ≡ L.tells links.old }
     ensures later { L.listening links.old ≤ L.listening links.new }
+    ensures ports { L.tells links.old ≡ true → (L.told links.new).ports ≡ (L.told links.old).ports }
     ensures ready { OnOk result (Ready noted.new seat.new.me) }
     ensures broke { IfOk result (λ came. came.broke ≡ true → Rose (L.listening links.old) (L.listening links.new)) }
     ensures fresh { IfOk result (λ came. IsNew came.peer) }
-    ensures ok { IfOk result (λ came. L.tells links.old ≡ true → Carries seat.old.me.0 seat.new.me.0 (account (L.told links.old) (L.listening links.old) (C.answers clock.old)) (account (L.told links.new) (L.listening links.new) (C.answers clock.new)) peers.now.items peers.now.items None (number_in came.peer)) }
-    ensures err { OnErr result (L.tells links.old ≡ true → Ends seat.old.me.0 seat.new.me.0 (account (L.told links.old) (L.listening links.old) (C.answers clock.old)) (account (L.told links.new) (L.listening links.new) (C.answers clock.new)) peers.now.items None) }
+    ensures ok { IfOk result (λ came. L.tells links.old ≡ true → Carries seat.old.me.0 seat.new.me.0 (tally (L.told links.old) (L.listening links.old)) (tally (L.told links.new) (L.listening links.new)) peers.now.items peers.now.items None (number_in came.peer)) }
+    ensures err { OnErr result (L.tells links.old ≡ true → Ends seat.old.me.0 seat.new.me.0 (tally (L.told links.old) (L.listening links.old)) (tally (L.told links.new) (L.listening links.new)) peers.now.items None) }
     ensures over { Over seat.new.me }
     ensures spent { IfErr result (λ fault. IsSpent fault seat.new.me.0) }
 {
@@ -150,10 +154,11 @@ fn opens<W: Wait, L: Links, C: Clock, R: Rest>(
     requires fresh { IsNew (Some peer) }
     ensures own { (seat.new.table_id ≡ seat.old.table_id) × (seat.new.id ≡ seat.old.id) }
     ensures lists { SameLists seat.old.me.0 seat.new.me.0 }
+    ensures time { ByClock seat.old.me.0 seat.new.me.0 (C.answers clock.old) (C.answers clock.new) }
     ensures ready { OnOk result (Ready noted.new seat.new.me) }
     ensures fresh { IfOk result (λ left. IsNew left) }
-    ensures ok { IfOk result (λ left. (n : ℕ) → Carries seat.old.me.0 seat.new.me.0 (account (L.told links.now) n (C.answers clock.old)) (account (L.told links.now) n (C.answers clock.new)) peers.old.items peers.new.items (number_in (Some peer)) (number_in left)) }
-    ensures err { OnErr result ((n : ℕ) → Ends seat.old.me.0 seat.new.me.0 (account (L.told links.now) n (C.answers clock.old)) (account (L.told links.now) n (C.answers clock.new)) peers.old.items (number_in (Some peer))) }
+    ensures ok { IfOk result (λ left. (n : ℕ) → Carries seat.old.me.0 seat.new.me.0 (tally (L.told links.now) n) (tally (L.told links.now) n) peers.old.items peers.new.items (number_in (Some peer)) (number_in left)) }
+    ensures err { OnErr result ((n : ℕ) → Ends seat.old.me.0 seat.new.me.0 (tally (L.told links.now) n) (tally (L.told links.now) n) peers.old.items (number_in (Some peer))) }
     ensures over { Over seat.new.me }
     ensures spent { IfErr result (λ fault. IsSpent fault seat.new.me.0) }
 {
@@ -192,13 +197,15 @@ pub fn welcomes<W: Wait, L: Links, C: Clock, R: Rest>(
     requires fresh { IsNew coming }
     ensures own { (seat.new.table_id ≡ seat.old.table_id) × (seat.new.id ≡ seat.old.id) }
     ensures lists { SameLists seat.old.me.0 seat.new.me.0 }
+    ensures time { ByClock seat.old.me.0 seat.new.me.0 (C.answers clock.old) (C.answers clock.new) }
     ensures tells { L.tells links.new ≡ L.tells links.old }
     ensures later { L.listening links.old ≤ L.listening links.new }
+    ensures ports { L.tells links.old ≡ true → (L.told links.new).ports ≡ (L.told links.old).ports }
     ensures ready { OnOk result (Ready noted.new seat.new.me) }
     ensures broke { IfOk result (λ came. came.broke ≡ true → Rose (L.listening links.old) (L.listening links.new)) }
     ensures fresh { IfOk result (λ came. IsNew came.peer) }
-    ensures ok { IfOk result (λ came. L.tells links.old ≡ true → Carries seat.old.me.0 seat.new.me.0 (account (L.told links.old) (L.listening links.old) (C.answers clock.old)) (account (L.told links.new) (L.listening links.new) (C.answers clock.new)) peers.old.items peers.new.items (number_in coming) (number_in came.peer)) }
-    ensures err { OnErr result (L.tells links.old ≡ true → Ends seat.old.me.0 seat.new.me.0 (account (L.told links.old) (L.listening links.old) (C.answers clock.old)) (account (L.told links.new) (L.listening links.new) (C.answers clock.new)) peers.old.items (number_in coming)) }
+    ensures ok { IfOk result (λ came. L.tells links.old ≡ true → Carries seat.old.me.0 seat.new.me.0 (tally (L.told links.old) (L.listening links.old)) (tally (L.told links.new) (L.listening links.new)) peers.old.items peers.new.items (number_in coming) (number_in came.peer)) }
+    ensures err { OnErr result (L.tells links.old ≡ true → Ends seat.old.me.0 seat.new.me.0 (tally (L.told links.old) (L.listening links.old)) (tally (L.told links.new) (L.listening links.new)) peers.old.items (number_in coming)) }
     ensures over { Over seat.new.me }
     ensures spent { IfErr result (λ fault. IsSpent fault seat.new.me.0) }
 {
@@ -262,9 +269,10 @@ fn works_once<W: Wait, L: Links, C: Clock, R: Rest>(
     requires ready { ReadyTimed noted.old seat.old.me }
     ensures own { (seat.new.table_id ≡ seat.old.table_id) × (seat.new.id ≡ seat.old.id) }
     ensures lists { SameLists seat.old.me.0 seat.new.me.0 }
+    ensures time { ByClock seat.old.me.0 seat.new.me.0 (C.answers clock.old) (C.answers clock.new) }
     ensures ready { OnOk result (Ready noted.new seat.new.me) }
-    ensures ok { OnOk result ((n : ℕ) → CarriesOn seat.old.me.0 seat.new.me.0 (account (L.told links.now) n (C.answers clock.old)) (account (L.told links.now) n (C.answers clock.new)) peers.now.items peers.now.items) }
-    ensures err { OnErr result ((n : ℕ) → EndsAll seat.old.me.0 seat.new.me.0 (account (L.told links.now) n (C.answers clock.old)) (account (L.told links.now) n (C.answers clock.new)) peers.now.items) }
+    ensures ok { OnOk result ((n : ℕ) → CarriesOn seat.old.me.0 seat.new.me.0 (tally (L.told links.now) n) (tally (L.told links.now) n) peers.now.items peers.now.items) }
+    ensures err { OnErr result ((n : ℕ) → EndsAll seat.old.me.0 seat.new.me.0 (tally (L.told links.now) n) (tally (L.told links.now) n) peers.now.items) }
     ensures over { Over seat.new.me }
     ensures spent { IfErr result (λ fault. IsSpent fault seat.new.me.0) }
 {
@@ -301,9 +309,10 @@ fn runs<W: Wait, L: Links, C: Clock, R: Rest>(
     requires claim { HasClaimed pid seat.old.me.0 }
     ensures own { (seat.new.table_id ≡ seat.old.table_id) × (seat.new.id ≡ seat.old.id) }
     ensures lists { SameLists seat.old.me.0 seat.new.me.0 }
+    ensures time { ByClock seat.old.me.0 seat.new.me.0 (C.answers clock.old) (C.answers clock.new) }
     ensures ready { OnOk result (Ready noted.new seat.new.me) }
-    ensures ok { OnOk result ((n : ℕ) → CarriesOn seat.old.me.0 seat.new.me.0 (account (L.told links.now) n (C.answers clock.old)) (account (L.told links.now) n (C.answers clock.new)) peers.now.items peers.now.items) }
-    ensures err { OnErr result ((n : ℕ) → EndsAll seat.old.me.0 seat.new.me.0 (account (L.told links.now) n (C.answers clock.old)) (account (L.told links.now) n (C.answers clock.new)) peers.now.items) }
+    ensures ok { OnOk result ((n : ℕ) → CarriesOn seat.old.me.0 seat.new.me.0 (tally (L.told links.now) n) (tally (L.told links.now) n) peers.now.items peers.now.items) }
+    ensures err { OnErr result ((n : ℕ) → EndsAll seat.old.me.0 seat.new.me.0 (tally (L.told links.now) n) (tally (L.told links.now) n) peers.now.items) }
     ensures over { Over seat.new.me }
     ensures spent { IfErr result (λ fault. IsSpent fault seat.new.me.0) }
 {
@@ -331,10 +340,11 @@ fn leaves<W: Wait, L: Links, C: Clock, R: Rest>(
     requires ready { Ready noted.old seat.old.me }
     ensures own { (seat.new.table_id ≡ seat.old.table_id) × (seat.new.id ≡ seat.old.id) }
     ensures lists { SameLists seat.old.me.0 seat.new.me.0 }
+    ensures time { ByClock seat.old.me.0 seat.new.me.0 (C.answers clock.old) (C.answers clock.new) }
     ensures ready { IfOk result (λ left. left ≡ false → Ready noted.new seat.new.me) }
-    ensures ok { IfOk result (λ left. left ≡ false → (n : ℕ) → CarriesOn seat.old.me.0 seat.new.me.0 (account (L.told links.now) n (C.answers clock.old)) (account (L.told links.now) n (C.answers clock.new)) peers.now.items peers.now.items) }
-    ensures left { IfOk result (λ left. left ≡ true → EndsWithStop seat.new.me.0.own × ((n : ℕ) → HasLeft seat.old.me.0 seat.new.me.0 (account (L.told links.now) n (C.answers clock.old)) (account (L.told links.now) n (C.answers clock.new)) peers.now.items)) }
-    ensures err { OnErr result ((n : ℕ) → EndsAll seat.old.me.0 seat.new.me.0 (account (L.told links.now) n (C.answers clock.old)) (account (L.told links.now) n (C.answers clock.new)) peers.now.items) }
+    ensures ok { IfOk result (λ left. left ≡ false → (n : ℕ) → CarriesOn seat.old.me.0 seat.new.me.0 (tally (L.told links.now) n) (tally (L.told links.now) n) peers.now.items peers.now.items) }
+    ensures left { IfOk result (λ left. left ≡ true → EndsWithStop seat.new.me.0.own × ((n : ℕ) → HasLeft seat.old.me.0 seat.new.me.0 (tally (L.told links.now) n) (tally (L.told links.now) n) peers.now.items)) }
+    ensures err { OnErr result ((n : ℕ) → EndsAll seat.old.me.0 seat.new.me.0 (tally (L.told links.now) n) (tally (L.told links.now) n) peers.now.items) }
     ensures over { Over seat.new.me }
     ensures spent { IfErr result (λ fault. IsSpent fault seat.new.me.0) }
 {
@@ -383,9 +393,10 @@ fn ends_round<W: Wait, L: Links, C: Clock, G: Gate, R: Rest>(
     requires ready { ReadyTimed noted.old seat.old.me }
     ensures own { (seat.new.table_id ≡ seat.old.table_id) × (seat.new.id ≡ seat.old.id) }
     ensures lists { SameLists seat.old.me.0 seat.new.me.0 }
+    ensures time { ByClock seat.old.me.0 seat.new.me.0 (C.answers clock.old) (C.answers clock.new) }
     ensures ready { IfOk result (λ round. IsRound round noted.new seat.new.me) }
-    ensures ok { IfOk result (λ round. (n : ℕ) → RoundCarries round seat.old.me.0 seat.new.me.0 (account (L.told links.now) n (C.answers clock.old)) (account (L.told links.now) n (C.answers clock.new)) peers.now.items peers.now.items) }
-    ensures err { OnErr result ((n : ℕ) → EndsAll seat.old.me.0 seat.new.me.0 (account (L.told links.now) n (C.answers clock.old)) (account (L.told links.now) n (C.answers clock.new)) peers.now.items) }
+    ensures ok { IfOk result (λ round. (n : ℕ) → RoundCarries round seat.old.me.0 seat.new.me.0 (tally (L.told links.now) n) (tally (L.told links.now) n) peers.now.items peers.now.items) }
+    ensures err { OnErr result ((n : ℕ) → EndsAll seat.old.me.0 seat.new.me.0 (tally (L.told links.now) n) (tally (L.told links.now) n) peers.now.items) }
     ensures over { Over seat.new.me }
     ensures spent { IfErr result (λ fault. IsSpent fault seat.new.me.0) }
 {
@@ -428,11 +439,13 @@ pub fn attends<W: Wait, L: Links, C: Clock, G: Gate, R: Rest>(
     requires ready { Ready noted.old seat.old.me }
     ensures own { (seat.new.table_id ≡ seat.old.table_id) × (seat.new.id ≡ seat.old.id) }
     ensures lists { SameLists seat.old.me.0 seat.new.me.0 }
+    ensures time { ByClock seat.old.me.0 seat.new.me.0 (C.answers clock.old) (C.answers clock.new) }
     ensures tells { L.tells links.new ≡ L.tells links.old }
     ensures listening { L.listening links.new ≡ L.listening links.old }
+    ensures ports { L.tells links.old ≡ true → (L.told links.new).ports ≡ (L.told links.old).ports }
     ensures ready { IfOk result (λ a. IsRound a.round noted.new seat.new.me) }
-    ensures ok { IfOk result (λ a. L.tells links.old ≡ true → RoundCarries a.round seat.old.me.0 seat.new.me.0 (account (L.told links.old) (L.listening links.old) (C.answers clock.old)) (account (L.told links.new) (L.listening links.new) (C.answers clock.new)) peers.old.items peers.new.items) }
-    ensures err { OnErr result (L.tells links.old ≡ true → EndsAll seat.old.me.0 seat.new.me.0 (account (L.told links.old) (L.listening links.old) (C.answers clock.old)) (account (L.told links.new) (L.listening links.new) (C.answers clock.new)) peers.old.items) }
+    ensures ok { IfOk result (λ a. L.tells links.old ≡ true → RoundCarries a.round seat.old.me.0 seat.new.me.0 (tally (L.told links.old) (L.listening links.old)) (tally (L.told links.new) (L.listening links.new)) peers.old.items peers.new.items) }
+    ensures err { OnErr result (L.tells links.old ≡ true → EndsAll seat.old.me.0 seat.new.me.0 (tally (L.told links.old) (L.listening links.old)) (tally (L.told links.new) (L.listening links.new)) peers.old.items) }
     ensures over { Over seat.new.me }
     ensures spent { IfErr result (λ fault. IsSpent fault seat.new.me.0) }
 {

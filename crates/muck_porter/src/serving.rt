@@ -2,9 +2,10 @@
 ghost use Rattle.std.specs.Prelude.{◌≡◌, ◌<◌, ◌+◌, ℕ, IfOk, OnOk, OnErr, IfErr, length, true};
 ghost use Rattle.std.specs.List.{remove};
 ghost use Rattle.muck_machine.specs.Seats.{SameLists};
-ghost use Rattle.muck_porter.specs.Kept.{account, Ready, ReadyTimed, Over};
+ghost use Rattle.muck_porter.specs.Kept.{tally, Ready, ReadyTimed, Over};
 ghost use Rattle.muck_porter.specs.Moves.{CarriesOn, EndsAll, LastEntry};
 ghost use Rattle.muck_porter.specs.Rounds.{IsServed, Nearer, IsSpent, WroteAt, ClosedAt};
+ghost use Rattle.muck_porter.specs.Times.{ByClock};
 
 use crate::deeds::{Deed, Did, Served};
 use crate::holds::{deed_turn, serve_turn};
@@ -37,7 +38,8 @@ pub fn dies<W: Wait, L: Links, C: Clock, R: Rest>(
     requires ready { Ready noted.old seat.old.me }
     ensures own { (seat.new.table_id ≡ seat.old.table_id) × (seat.new.id ≡ seat.old.id) }
     ensures lists { SameLists seat.old.me.0 seat.new.me.0 }
-    ensures last { (n : ℕ) → LastEntry (account (L.told links.now) n (C.answers clock.old)) (account (L.told links.now) n (C.answers clock.new)) seat.old.me.0 seat.new.me.0 }
+    ensures time { ByClock seat.old.me.0 seat.new.me.0 (C.answers clock.old) (C.answers clock.new) }
+    ensures last { (n : ℕ) → LastEntry (tally (L.told links.now) n) (tally (L.told links.now) n) seat.old.me.0 seat.new.me.0 }
     ensures over { Over seat.new.me }
     ensures spent { IsSpent result seat.new.me.0 }
 {
@@ -52,6 +54,7 @@ fn writes<L: Links>(links: &mut L, noted: bool, peers: &mut Vec<Peer>, at: usize
     requires { at < length peers.old.items }
     ensures tells { L.tells links.new ≡ L.tells links.old }
     ensures listening { L.listening links.new ≡ L.listening links.old }
+    ensures ports { L.tells links.old ≡ true → (L.told links.new).ports ≡ (L.told links.old).ports }
     ensures wrote { L.tells links.old ≡ true → WroteAt at noted (L.told links.old) (L.told links.new) peers.old.items peers.new.items }
     ensures count { length peers.new.items ≡ length peers.old.items }
     ensures behind { result ≡ at + 1 }
@@ -68,6 +71,7 @@ fn lets_go<L: Links>(links: &mut L, peers: &mut Vec<Peer>, at: usize)
     requires { at < length peers.old.items }
     ensures tells { L.tells links.new ≡ L.tells links.old }
     ensures listening { L.listening links.new ≡ L.listening links.old }
+    ensures ports { L.tells links.old ≡ true → (L.told links.new).ports ≡ (L.told links.old).ports }
     ensures told { L.tells links.old ≡ true → ClosedAt at (L.told links.old) (L.told links.new) peers.old.items }
     ensures gone { peers.new.items ≡ remove peers.old.items at }
 {
@@ -92,12 +96,14 @@ fn serve_one<W: Wait, L: Links, C: Clock, R: Rest>(
     requires ready { Ready noted.old seat.old.me }
     ensures own { (seat.new.table_id ≡ seat.old.table_id) × (seat.new.id ≡ seat.old.id) }
     ensures lists { SameLists seat.old.me.0 seat.new.me.0 }
+    ensures time { ByClock seat.old.me.0 seat.new.me.0 (C.answers clock.old) (C.answers clock.new) }
     ensures tells { L.tells links.new ≡ L.tells links.old }
     ensures listening { L.listening links.new ≡ L.listening links.old }
+    ensures ports { L.tells links.old ≡ true → (L.told links.new).ports ≡ (L.told links.old).ports }
     ensures ready { IfOk result (λ next. IsServed next noted.new seat.new.me) }
     ensures place { IfOk result (λ next. Nearer next from peers.old.items peers.new.items) }
-    ensures ok { OnOk result (L.tells links.old ≡ true → CarriesOn seat.old.me.0 seat.new.me.0 (account (L.told links.old) (L.listening links.old) (C.answers clock.old)) (account (L.told links.new) (L.listening links.new) (C.answers clock.new)) peers.old.items peers.new.items) }
-    ensures err { OnErr result (L.tells links.old ≡ true → EndsAll seat.old.me.0 seat.new.me.0 (account (L.told links.old) (L.listening links.old) (C.answers clock.old)) (account (L.told links.new) (L.listening links.new) (C.answers clock.new)) peers.old.items) }
+    ensures ok { OnOk result (L.tells links.old ≡ true → CarriesOn seat.old.me.0 seat.new.me.0 (tally (L.told links.old) (L.listening links.old)) (tally (L.told links.new) (L.listening links.new)) peers.old.items peers.new.items) }
+    ensures err { OnErr result (L.tells links.old ≡ true → EndsAll seat.old.me.0 seat.new.me.0 (tally (L.told links.old) (L.listening links.old)) (tally (L.told links.new) (L.listening links.new)) peers.old.items) }
     ensures over { Over seat.new.me }
     ensures spent { IfErr result (λ fault. IsSpent fault seat.new.me.0) }
 {
@@ -131,9 +137,10 @@ fn times<W: Wait, L: Links, C: Clock, R: Rest>(
     requires ready { Ready noted.old seat.old.me }
     ensures own { (seat.new.table_id ≡ seat.old.table_id) × (seat.new.id ≡ seat.old.id) }
     ensures lists { SameLists seat.old.me.0 seat.new.me.0 }
+    ensures time { ByClock seat.old.me.0 seat.new.me.0 (C.answers clock.old) (C.answers clock.new) }
     ensures ready { OnOk result (ReadyTimed noted.new seat.new.me) }
-    ensures ok { OnOk result ((n : ℕ) → CarriesOn seat.old.me.0 seat.new.me.0 (account (L.told links.now) n (C.answers clock.old)) (account (L.told links.now) n (C.answers clock.new)) peers.now.items peers.now.items) }
-    ensures err { OnErr result ((n : ℕ) → EndsAll seat.old.me.0 seat.new.me.0 (account (L.told links.now) n (C.answers clock.old)) (account (L.told links.now) n (C.answers clock.new)) peers.now.items) }
+    ensures ok { OnOk result ((n : ℕ) → CarriesOn seat.old.me.0 seat.new.me.0 (tally (L.told links.now) n) (tally (L.told links.now) n) peers.now.items peers.now.items) }
+    ensures err { OnErr result ((n : ℕ) → EndsAll seat.old.me.0 seat.new.me.0 (tally (L.told links.now) n) (tally (L.told links.now) n) peers.now.items) }
     ensures over { Over seat.new.me }
     ensures spent { IfErr result (λ fault. IsSpent fault seat.new.me.0) }
 {
@@ -170,11 +177,13 @@ pub fn serve_all<W: Wait, L: Links, C: Clock, R: Rest>(
     requires ready { Ready noted.old seat.old.me }
     ensures own { (seat.new.table_id ≡ seat.old.table_id) × (seat.new.id ≡ seat.old.id) }
     ensures lists { SameLists seat.old.me.0 seat.new.me.0 }
+    ensures time { ByClock seat.old.me.0 seat.new.me.0 (C.answers clock.old) (C.answers clock.new) }
     ensures tells { L.tells links.new ≡ L.tells links.old }
     ensures listening { L.listening links.new ≡ L.listening links.old }
+    ensures ports { L.tells links.old ≡ true → (L.told links.new).ports ≡ (L.told links.old).ports }
     ensures ready { OnOk result (ReadyTimed noted.new seat.new.me) }
-    ensures ok { OnOk result (L.tells links.old ≡ true → CarriesOn seat.old.me.0 seat.new.me.0 (account (L.told links.old) (L.listening links.old) (C.answers clock.old)) (account (L.told links.new) (L.listening links.new) (C.answers clock.new)) peers.old.items peers.new.items) }
-    ensures err { OnErr result (L.tells links.old ≡ true → EndsAll seat.old.me.0 seat.new.me.0 (account (L.told links.old) (L.listening links.old) (C.answers clock.old)) (account (L.told links.new) (L.listening links.new) (C.answers clock.new)) peers.old.items) }
+    ensures ok { OnOk result (L.tells links.old ≡ true → CarriesOn seat.old.me.0 seat.new.me.0 (tally (L.told links.old) (L.listening links.old)) (tally (L.told links.new) (L.listening links.new)) peers.old.items peers.new.items) }
+    ensures err { OnErr result (L.tells links.old ≡ true → EndsAll seat.old.me.0 seat.new.me.0 (tally (L.told links.old) (L.listening links.old)) (tally (L.told links.new) (L.listening links.new)) peers.old.items) }
     ensures over { Over seat.new.me }
     ensures spent { IfErr result (λ fault. IsSpent fault seat.new.me.0) }
 {

@@ -15,6 +15,7 @@ fn tends<L: Links>(
 ) -> Result<bool, NoMemory>
     ensures tells { L.tells links.new ≡ L.tells links.old }
     ensures listening { L.listening links.new ≡ L.listening links.old }
+    ensures ports { L.tells links.old ≡ true → (L.told links.new).ports ≡ (L.told links.old).ports }
     ensures ok { OnOk result (L.tells links.old ≡ true → TendsPeer noted (L.told links.old) (L.told links.new) peer.old peer.new) }
     ensures err { OnErr result (L.tells links.old ≡ true → LosesPeer noted (L.told links.old) (L.told links.new) peer.old) }
 {
@@ -34,6 +35,7 @@ pub fn tends_all<L: Links>(
 ) -> Result<bool, NoMemory>
     ensures tells { L.tells links.new ≡ L.tells links.old }
     ensures listening { L.listening links.new ≡ L.listening links.old }
+    ensures ports { L.tells links.old ≡ true → (L.told links.new).ports ≡ (L.told links.old).ports }
     ensures ok { OnOk result (L.tells links.old ≡ true → Tends noted (L.told links.old) (L.told links.new) peers.old.items peers.new.items) }
     ensures err { OnErr result (L.tells links.old ≡ true → Loses noted (L.told links.old) (L.told links.new) peers.old.items) }
 {

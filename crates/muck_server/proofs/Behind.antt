@@ -58,14 +58,14 @@ worked_behind counted w h es k (front, rest, is, off) = (front, rest ++ es, ap (
 -- What links and clock told, against a history; and where it was stopped, that each connection is worked off.
 pub record Heard (shows : Bool) (before now : Account) (stopped : Type 0) (counted : LinksNote) (w : World) (tale : List Entry) : Type 0 where
   pub promised : shows ≡ true → PromisedOf counted before.links w tale now.links
-  pub timely : shows ≡ true → Timely before.answers now.answers w tale
+  pub timely : Timely before.answers now.answers w tale
   pub worked_off : shows ≡ true → stopped → LeavesWorkedOff counted w tale now.links
 
 module _ (shows : Bool) (before now : Account) (stopped : Type 0) (counted : LinksNote) (w : World) where
   pub heard_behind : (h es : List Entry) → AllTellNothing es → Heard shows before now stopped counted w h → Heard shows before now stopped counted w (h ++ es)
   heard_behind h es all x = record {
     promised = λ on. promised_behind counted before.links w h es now.links all (x.promised on);
-    timely = λ on. timely_behind before.answers now.answers w h es all (x.timely on);
+    timely = timely_behind before.answers now.answers w h es all x.timely;
     worked_off = λ on stop. worked_behind counted w h es now.links (x.worked_off on stop);
   }
 

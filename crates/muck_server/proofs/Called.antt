@@ -65,33 +65,35 @@ module _ {D : Type 0} (tells : Bool) (seen : D → List ℕ) (moment : D → ℕ
   }
 
 -- nothing happened
-pub never : {D S : Type 0} (shows : Bool) (before later : Account) (first second first' second' : D) (tale : List Entry) → tale ≡ [] → (shows ≡ true → later.links.told.sessions ≡ before.links.told.sessions)
-    → first' ≡ first → second' ≡ second → IsUnserved shows before later NoMemory first second first' second' tale ⊎ S
-never shows before later first second first' second' tale empty nobody first_is second_is = inl (record { wanted = refl; empty = empty; nobody = nobody; first_file = first_is; second_file = second_is })
+pub never : {D S : Type 0} (shows : Bool) (before later : Account) (port : ℕ) (first second first' second' : D) (tale : List Entry) → tale ≡ [] → (shows ≡ true → later.links.told.sessions ≡ before.links.told.sessions)
+    → (shows ≡ true → (later.links.told.ports ≡ before.links.told.ports) ⊎ (later.links.told.ports ≡ port ∷ before.links.told.ports)) → later.answers ≡ before.answers
+    → first' ≡ first → second' ≡ second → IsUnserved shows before later port NoMemory first second first' second' tale ⊎ S
+never shows before later port first second first' second' tale empty nobody ports clock first_is second_is =
+    inl (record { wanted = refl; empty = empty; nobody = nobody; ports = ports; clock = clock; first_file = first_is; second_file = second_is })
 
 -- One history happened, which is the tale.
-module _ {D : Type 0} (shows tells : Bool) (before later : Account) (seen : D → List ℕ) (moment : D → ℕ) (images : D → ℕ → List ℕ → Type 0) (faults : D → ℕ) (workers mounted : ℕ) (mounting : Note) (log : Option LogState) (first second first' second' : D)
+module _ {D : Type 0} (shows tells : Bool) (before later : Account) (seen : D → List ℕ) (moment : D → ℕ) (images : D → ℕ → List ℕ → Type 0) (faults : D → ℕ) (workers port mounted : ℕ) (mounting : Note) (log : Option LogState) (first second first' second' : D)
     (world k : History) (tale : List Entry) (notes : List Note) (tale_is : tale ≡ k.entries) (notes_is : notes ≡ k.notes) (lawful : AllLawful k.start tale) (fresh : IsFresh mounting world)
     (mount : tells ≡ true → HasLog seen moment images faults log first second mounted world) where
   lawful_all : AllLawful k.start k.entries
   lawful_all = subst (AllLawful k.start) tale_is lawful
 
-  told : (why : Why) → IsServed shows tells before later moment images faults workers why world.start mounted mounting first second first' second' k.entries k.notes → IsServed shows tells before later moment images faults workers why world.start mounted mounting first second first' second' tale notes
+  told : (why : Why) → IsServed shows tells before later moment images faults workers port why world.start mounted mounting first second first' second' k.entries k.notes → IsServed shows tells before later moment images faults workers port why world.start mounted mounting first second first' second' tale notes
   told why x =
-      subst (λ (es : List Entry). IsServed shows tells before later moment images faults workers why world.start mounted mounting first second first' second' es notes) (sym tale_is)
-      (subst (λ (ns : List Note). IsServed shows tells before later moment images faults workers why world.start mounted mounting first second first' second' k.entries ns) (sym notes_is) x)
+      subst (λ (es : List Entry). IsServed shows tells before later moment images faults workers port why world.start mounted mounting first second first' second' es notes) (sym tale_is)
+      (subst (λ (ns : List Note). IsServed shows tells before later moment images faults workers port why world.start mounted mounting first second first' second' k.entries ns) (sym notes_is) x)
 
   -- all parts served
-  pub call_served : {U : Type 0} (shows' : Bool) (listened : Account) (why : Why) → shows' ≡ shows → (shows ≡ true → listened.links.told.sessions ≡ before.links.told.sessions) → before.links.listening ≤ listened.links.listening
+  pub call_served : {U : Type 0} (shows' : Bool) (listened : Account) (why : Why) → shows' ≡ shows → (shows ≡ true → listened.links.told.sessions ≡ before.links.told.sessions) → (shows ≡ true → listened.links.told.ports ≡ port ∷ before.links.told.ports) → before.links.listening ≤ listened.links.listening
       → listened.answers ≡ before.answers → HasServed tells seen moment images faults shows' listened later workers why log first second first' second' world k
-      → U ⊎ IsServed shows tells before later moment images faults workers why world.start mounted mounting first second first' second' tale notes
-  call_served shows' listened why shows_is same since_before clock x =
-      inr (told why (served_whole shows tells before later seen moment images faults workers mounted mounting first second log listened world fresh mount same since_before clock why first' second' k lawful_all
+      → U ⊎ IsServed shows tells before later moment images faults workers port why world.start mounted mounting first second first' second' tale notes
+  call_served shows' listened why shows_is same ports since_before clock x =
+      inr (told why (served_whole shows tells before later seen moment images faults workers port mounted mounting first second log listened world fresh mount same ports since_before clock why first' second' k lawful_all
       (subst (λ (b : Bool). HasServed tells seen moment images faults b listened later workers why log first second first' second' world k) shows_is x)))
 
   -- listening failed
-  pub call_deaf : {U : Type 0} → (shows ≡ true → later.links.told.sessions ≡ before.links.told.sessions) → Rose before.links.listening later.links.listening → later.answers ≡ before.answers
+  pub call_deaf : {U : Type 0} → (shows ≡ true → later.links.told.sessions ≡ before.links.told.sessions) → (shows ≡ true → later.links.told.ports ≡ port ∷ before.links.told.ports) → Rose before.links.listening later.links.listening → later.answers ≡ before.answers
       → HasDump tells seen moment images faults true log first second first' second' (halted world) k ListenFault
-      → U ⊎ IsServed shows tells before later moment images faults workers ListenFault world.start mounted mounting first second first' second' tale notes
-  call_deaf same rose clock dump =
-      inr (told ListenFault (served_deaf shows tells before later seen moment images faults workers mounted mounting log first second first' second' world fresh mount same rose clock k lawful_all dump))
+      → U ⊎ IsServed shows tells before later moment images faults workers port ListenFault world.start mounted mounting first second first' second' tale notes
+  call_deaf same ports rose clock dump =
+      inr (told ListenFault (served_deaf shows tells before later seen moment images faults workers port mounted mounting log first second first' second' world fresh mount same ports rose clock k lawful_all dump))

@@ -38,6 +38,12 @@ same_sessions port old new listened.NoMemory is = ap (λ (t : Told). t.sessions)
 same_sessions port old new listened.Ready is = ap (λ (t : Told). t.sessions) is
 same_sessions port old new listened.Fault is = ap (λ (t : Told). t.sessions) is
 
+-- and tells the port, but for want of memory
+pub told_port : (port : ℕ) (old new : Told) (answer : Listened) → (answer ≡ listened.NoMemory → ⊥) → ListenAs port old new answer → new.ports ≡ port ∷ old.ports
+told_port port old new listened.NoMemory heard is = absurd (heard refl)
+told_port port old new listened.Ready heard is = ap (λ (t : Told). t.ports) is
+told_port port old new listened.Fault heard is = ap (λ (t : Told). t.ports) is
+
 -- The world as it is halted.
 
 now_entered : (h : History) (e : Entry) → now (entered h e) ≡ effect (now h) e
@@ -109,27 +115,28 @@ module _ (before later : Account) (w : World) (same : later.links.told.sessions 
 timely : (a : Option (List ℕ)) (w : World) → Timely a a w tale
 timely a w = (a, refl, (a, refl, refl))
 
-module _ {D : Type 0} (shows tells : Bool) (before later : Account) (seen : D → List ℕ) (moment : D → ℕ) (images : D → ℕ → List ℕ → Type 0) (faults : D → ℕ) (workers mounted : ℕ) (mounting : Note) (log : Option LogState) (first second first' second' : D)
+module _ {D : Type 0} (shows tells : Bool) (before later : Account) (seen : D → List ℕ) (moment : D → ℕ) (images : D → ℕ → List ℕ → Type 0) (faults : D → ℕ) (workers port mounted : ℕ) (mounting : Note) (log : Option LogState) (first second first' second' : D)
     (world : History) (fresh : IsFresh mounting world) (mount : tells ≡ true → HasLog seen moment images faults log first second mounted world)
-    (same : shows ≡ true → later.links.told.sessions ≡ before.links.told.sessions) (rose : Rose before.links.listening later.links.listening) (clock : later.answers ≡ before.answers) where
-  known : Known shows tells before later seen moment images faults workers mounted mounting first second ListenFault (halted world)
+    (same : shows ≡ true → later.links.told.sessions ≡ before.links.told.sessions) (ports : shows ≡ true → later.links.told.ports ≡ port ∷ before.links.told.ports) (rose : Rose before.links.listening later.links.listening) (clock : later.answers ≡ before.answers) where
+  known : Known shows tells before later seen moment images faults workers port mounted mounting first second ListenFault (halted world)
   known =
       let es : (halted world).entries ≡ tale = tale_is mounting world fresh in record {
         counted = None;
         since = [];
         noted = fresh.notes;
         shared = subst (IsShared workers) (sym es) (shared workers);
+        ports = ports;
         heard = record {
           promised = λ on. subst (λ (x : List Entry). PromisedOf None before.links world.start x later.links) (sym es) (promised before later world.start (same on) rose);
-          timely = λ on. subst (λ (x : List Entry). Timely before.answers later.answers world.start x) (sym es) (subst (λ (a : Option (List ℕ)). Timely before.answers a world.start tale) (sym clock) (timely before.answers world.start));
+          timely = subst (λ (x : List Entry). Timely before.answers later.answers world.start x) (sym es) (subst (λ (a : Option (List ℕ)). Timely before.answers a world.start tale) (sym clock) (timely before.answers world.start));
           worked_off = λ on stop. subst (λ (x : List Entry). LeavesWorkedOff None world.start x later.links) (sym es) (worked_off before later world.start (same on) rose);
         };
       }
 
   pub served_deaf : (k : History) → AllLawful k.start k.entries → HasDump tells seen moment images faults true log first second first' second' (halted world) k ListenFault
-      → IsServed shows tells before later moment images faults workers ListenFault world.start mounted mounting first second first' second' k.entries k.notes
+      → IsServed shows tells before later moment images faults workers port ListenFault world.start mounted mounting first second first' second' k.entries k.notes
   served_deaf k lawful dump =
-      subst (λ (w : World). IsServed shows tells before later moment images faults workers ListenFault w mounted mounting first second first' second' k.entries k.notes) (made_of dump.answer (halted world) k dump.made).behind.longer.start
-      (serves_deaf shows tells before later seen moment images faults workers mounted mounting first second true ListenFault log first second first' second' (halted world) k known
+      subst (λ (w : World). IsServed shows tells before later moment images faults workers port ListenFault w mounted mounting first second first' second' k.entries k.notes) (made_of dump.answer (halted world) k dump.made).behind.longer.start
+      (serves_deaf shows tells before later seen moment images faults workers port mounted mounting first second true ListenFault log first second first' second' (halted world) k known
       (subst (EndsStopped 0) (sym (tale_is mounting world fresh)) stopped) dump
       (λ on. keeps_halted seen moment images faults log first second mounted world (mount on)) (omega arith) (omega arith) lawful refl rose)

@@ -33,10 +33,10 @@ use Rattle.muck_server.proofs.Dumped.{Made, made_of, is_last, last_tells_nothing
 use Rattle.muck_server.proofs.Ended.{ended_by}
 use Rattle.muck_server.proofs.Disks.{OnDisks, on_dumped, on_undumped}
 
-module _ {D : Type 0} (shows tells : Bool) (before later : Account) (seen : D → List ℕ) (moment : D → ℕ) (images : D → ℕ → List ℕ → Type 0) (faults : D → ℕ) (workers mounted : ℕ) (mounting : Note) (first second : D) where
+module _ {D : Type 0} (shows tells : Bool) (before later : Account) (seen : D → List ℕ) (moment : D → ℕ) (images : D → ℕ → List ℕ → Type 0) (faults : D → ℕ) (workers port mounted : ℕ) (mounting : Note) (first second : D) where
   -- the history k came to this, and this is what both disks are now
   abbrev pub Serves : Why → D → D → History → Type 0
-  Serves why first' second' k = IsServed shows tells before later moment images faults workers why k.start mounted mounting first second first' second' k.entries k.notes
+  Serves why first' second' k = IsServed shows tells before later moment images faults workers port why k.start mounted mounting first second first' second' k.entries k.notes
 
   -- What is known of a history of the run, beside how it ended and what is kept of the disks.
   pub record Known (why : Why) (h : History) : Type 0 where
@@ -44,6 +44,7 @@ module _ {D : Type 0} (shows tells : Bool) (before later : Account) (seen : D �
     pub since : List Note
     pub noted : h.notes ≡ mounting ∷ since
     pub shared : IsShared workers h.entries
+    pub ports : shows ≡ true → later.links.told.ports ≡ port ∷ before.links.told.ports
     pub heard : Heard shows before later (HasStopped why) counted h.start h.entries
 
   pub serves : (why : Why) (first' second' : D) (k : History) → Known why k → AllLawful k.start k.entries → HasEnded workers before.links.listening later.links.listening k.start why k.entries
@@ -55,6 +56,7 @@ module _ {D : Type 0} (shows tells : Bool) (before later : Account) (seen : D �
     lawful = lawful;
     shared = known.shared;
     carried = λ on. (let p = known.heard.promised on in record { promised = p; by_number = promised_by_number known.counted before.links k.start k.entries later.links p });
+    ports = known.ports;
     timely = known.heard.timely;
     worked_off = known.heard.worked_off;
     ended = ended;
@@ -78,6 +80,7 @@ module _ {D : Type 0} (shows tells : Bool) (before later : Account) (seen : D �
           since = known.since ++ made.behind.since;
           noted = made.behind.noted ∙ ap (λ (ns : List Note). ns ++ made.behind.since) known.noted;
           shared = subst (IsShared workers) (sym es) (last_shared workers h.entries (porter_stopped workers h.entries known.shared stopped) made.entries last);
+          ports = known.ports;
           heard =
               subst (λ (w : World). Heard shows before later (HasStopped why) known.counted w k.entries) (sym made.behind.longer.start)
               (subst (λ (x : List Entry). Heard shows before later (HasStopped why) known.counted h.start x) (sym es)
@@ -113,7 +116,7 @@ module _ {D : Type 0} (shows tells : Bool) (before later : Account) (seen : D �
 
   -- What all parts left, and how it ended.
   module _ (log : Option LogState) (listened : Account) (world : History) (fresh : IsFresh mounting world) (mount : tells ≡ true → HasLog seen moment images faults log first second mounted world)
-      (same : shows ≡ true → listened.links.told.sessions ≡ before.links.told.sessions) (since_before : before.links.listening ≤ listened.links.listening) (clock : listened.answers ≡ before.answers) where
+      (same : shows ≡ true → listened.links.told.sessions ≡ before.links.told.sessions) (ports : shows ≡ true → listened.links.told.ports ≡ port ∷ before.links.told.ports) (since_before : before.links.listening ≤ listened.links.listening) (clock : listened.answers ≡ before.answers) where
     module _ (way : Way) (log1 : Option LogState) (first1 second1 : D) (h : History) (run : HasRun tells seen moment images faults shows listened later workers way log log1 first second first1 second1 world h) where
       known_run : (why : Why) → (HasStopped why → AllStopped way) → Known why h
       known_run why stops = record {
@@ -121,9 +124,10 @@ module _ {D : Type 0} (shows tells : Bool) (before later : Account) (seen : D �
         since = run.since;
         noted = run.noted ∙ ap (λ (ns : List Note). ns ++ run.since) fresh.notes;
         shared = run.shared;
+        ports = λ on. run.ports on ∙ ports on;
         heard = record {
           promised = λ on. promised_since run.counted before.links listened.links h.start h.entries later.links (same on) since_before (run.promised on);
-          timely = λ on. subst (λ (a : Option (List ℕ)). Timely a later.answers h.start h.entries) clock (run.timely on);
+          timely = subst (λ (a : Option (List ℕ)). Timely a later.answers h.start h.entries) clock run.timely;
           worked_off = λ on stop. run.worked_off on (stops stop);
         };
       }
@@ -147,6 +151,7 @@ module _ {D : Type 0} (shows tells : Bool) (before later : Account) (seen : D �
             since = known.since;
             noted = known.noted;
             shared = (at_more workers 9 h.entries Died Stage.stopped Stage.ended (dumper_is workers) refl (dumper_stopped workers h.entries run.shared (run.alone is))).shared;
+            ports = known.ports;
             heard = heard_behind shows before later (HasStopped NoMemory) known.counted h.start h.entries (by 9 Died ∷ []) (tells_died 9, tt) known.heard;
           }) lawful (dead_behind h.start h.entries 9)
           (on_undumped tells moment images faults NoMemory mounted first second first1 second1 k tt (λ on. safe_quiet moment images first1 second1 mounted h k (quiet_one h k (by 9 Died) refl refl) (safe_run on)))
@@ -185,8 +190,8 @@ module _ {D : Type 0} (shows tells : Bool) (before later : Account) (seen : D �
 
     -- in the world with which it began
     pub served_whole : (why : Why) (first' second' : D) (k : History) → AllLawful k.start k.entries → HasServed tells seen moment images faults shows listened later workers why log first second first' second' world k
-        → IsServed shows tells before later moment images faults workers why world.start mounted mounting first second first' second' k.entries k.notes
+        → IsServed shows tells before later moment images faults workers port why world.start mounted mounting first second first' second' k.entries k.notes
     served_whole why first' second' k lawful x =
-        subst (λ (w : World). IsServed shows tells before later moment images faults workers why w mounted mounting first second first' second' k.entries k.notes)
+        subst (λ (w : World). IsServed shows tells before later moment images faults workers port why w mounted mounting first second first' second' k.entries k.notes)
         (start_finish x.way x.log1 x.first1 x.second1 first' second' x.h k why x.finish ∙ x.run.start)
         (serves_run x.way x.log1 x.first1 x.second1 x.h x.run why first' second' k lawful x.finish)

@@ -68,18 +68,21 @@ HasStopped NoMemory = ⊥
 HasStopped (Spent turns) = ⊥
 HasStopped why = Unit {0}
 
--- It never began: memory was wanted, nothing happened, nobody was let in, and the files weren't touched.
-pub record IsUnserved {D : Type 0} (shows : Bool) (before now : Account) (why : Why) (first second first' second' : D) (tale : List Entry) : Type 0 where
+-- It never began: memory was wanted, nothing happened, nobody was let in, the clock wasn't asked, and the files weren't touched. The links were asked to listen on no port, or
+-- once, on this one.
+pub record IsUnserved {D : Type 0} (shows : Bool) (before now : Account) (port : ℕ) (why : Why) (first second first' second' : D) (tale : List Entry) : Type 0 where
   pub wanted : why ≡ NoMemory
   pub empty : tale ≡ []
   pub nobody : shows ≡ true → now.links.told.sessions ≡ before.links.told.sessions
+  pub ports : shows ≡ true → (now.links.told.ports ≡ before.links.told.ports) ⊎ (now.links.told.ports ≡ port ∷ before.links.told.ports)
+  pub clock : now.answers ≡ before.answers
   pub first_file : first' ≡ first
   pub second_file : second' ≡ second
 
--- One history happened in the world w, to which all parties added: each entry was lawful where it stands. What the links carried is what that
--- history says of each connection; each of its moments is the clock's next answer, or the second before it where that is later; and of the disks is kept
--- what is kept of a run. `before` and `now` are what links and clock tell, where the links tell what they carry (`shows`).
-pub record IsServed {D : Type 0} (shows tells : Bool) (before now : Account) (moment : D → ℕ) (images : D → ℕ → List ℕ → Type 0) (faults : D → ℕ) (workers : ℕ) (why : Why)
+-- One history happened in the world w, to which all parties added: each entry was lawful where it stands. The links were asked once to listen, on this port; what they
+-- carried is what that history says of each connection; each of its moments is the clock's next answer, or the second before it where that is later; and of the disks is
+-- kept what is kept of a run. `before` and `now` are what links and clock tell, the links where they tell what they carry (`shows`).
+pub record IsServed {D : Type 0} (shows tells : Bool) (before now : Account) (moment : D → ℕ) (images : D → ℕ → List ℕ → Type 0) (faults : D → ℕ) (workers port : ℕ) (why : Why)
     (w : World) (mounted : ℕ) (mounting : Note) (first second first' second' : D) (tale : List Entry) (notes : List Note) : Type 0 where
   pub counted : LinksNote
   pub since : List Note
@@ -87,7 +90,8 @@ pub record IsServed {D : Type 0} (shows tells : Bool) (before now : Account) (mo
   pub lawful : AllLawful w tale
   pub shared : IsShared workers tale
   pub carried : shows ≡ true → IsCarried counted before.links now.links w tale
-  pub timely : shows ≡ true → Timely before.answers now.answers w tale
+  pub ports : shows ≡ true → now.links.told.ports ≡ port ∷ before.links.told.ports
+  pub timely : Timely before.answers now.answers w tale
   pub worked_off : shows ≡ true → HasStopped why → LeavesWorkedOff counted w tale now.links
   pub ended : HasEnded workers before.links.listening now.links.listening w why tale
   pub safe : tells ≡ true → IsSafe moment images first' second' w mounted tale notes

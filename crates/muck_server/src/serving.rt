@@ -72,8 +72,8 @@ pub fn serve<
 
     // Either nothing happened, for want of memory, or one history did, to which all parties added.
     ensures served { (mounted : ℕ) (mounting : Note) → IsFresh mounting world → (D.tells ≡ true → HasLog D.seen D.moment D.images D.faults (Some log) first.old second.old mounted world)
-        → IsUnserved (L.tells links.old) (account (L.told links.old) (L.listening links.old) (C.answers clock.old)) (account (L.told links.new) (L.listening links.new) (C.answers clock.new)) result.0 first.old second.old first.new second.new result.1.entries
-        ⊎ IsServed (L.tells links.old) D.tells (account (L.told links.old) (L.listening links.old) (C.answers clock.old)) (account (L.told links.new) (L.listening links.new) (C.answers clock.new)) D.moment D.images D.faults workers result.0 world.start mounted mounting first.old second.old first.new second.new result.1.entries result.1.notes }
+        → IsUnserved (L.tells links.old) (account (L.told links.old) (L.listening links.old) (C.answers clock.old)) (account (L.told links.new) (L.listening links.new) (C.answers clock.new)) port result.0 first.old second.old first.new second.new result.1.entries
+        ⊎ IsServed (L.tells links.old) D.tells (account (L.told links.old) (L.listening links.old) (C.answers clock.old)) (account (L.told links.new) (L.listening links.new) (C.answers clock.new)) D.moment D.images D.faults workers port result.0 world.start mounted mounting first.old second.old first.new second.new result.1.entries result.1.notes }
 {
     if world.is_dead() {
         return (Why::NoMemory, world.into_tale());

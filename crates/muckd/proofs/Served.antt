@@ -92,23 +92,23 @@ ready_begun began seen moment images faults log f s boots props mounted h is = r
 }
 
 module _ {L C D : Type 0} (shows : Bool) (told : L → Told) (listening : L → ℕ) (answers : C → Option (List ℕ))
-    (tells : Bool) (attached : D → Option (List ℕ)) (seen : D → List ℕ) (moment : D → ℕ) (images : D → ℕ → List ℕ → Type 0) (faults : D → ℕ) (store : List ℕ) (workers : ℕ)
+    (tells : Bool) (attached : D → Option (List ℕ)) (seen : D → List ℕ) (moment : D → ℕ) (images : D → ℕ → List ℕ → Type 0) (faults : D → ℕ) (store : List ℕ) (port workers : ℕ)
     (log : LogState) (began : ℕ) (mounting : Note) (cause : Ended) (l l' : L) (c c' c'' : C) (first second first' second' first'' second'' : D) (tale : List Entry) (notes : List Note) where
   -- what links and clock tell
   abbrev pub account_of : L → C → Account
   account_of links clock = account (told links) (listening links) (answers clock)
 
   abbrev pub Unserved : Type 0
-  Unserved = IsUnserved shows told tells seen moment images l l' first second first'' second'' tale
+  Unserved = IsUnserved shows told tells seen moment images port l l' first second first'' second'' tale
 
   abbrev pub Served : Why → Type 0
-  Served why = HasServed shows told listening answers tells attached seen moment images store workers why l l' c c'' first second first'' second'' tale notes
+  Served why = HasServed shows told listening answers tells attached seen moment images store port workers why l l' c c'' first second first'' second'' tale notes
 
   has_served : (tells ≡ true → IsMountedAs seen moment images file_most log first' second') → IsFine log.chosen.held.world
       → (tells ≡ true → attached first' ≡ Some (store ++ codes ".a")) → (tells ≡ true → attached second' ≡ Some (store ++ codes ".b"))
       → (tells ≡ true → IsUntouched seen moment images first first') → (tells ≡ true → IsUntouched seen moment images second second')
       → Answers (answers c) (answers c') began → (mounting.first_moment ≡ moment first') × (mounting.second_moment ≡ moment second')
-      → IsServed shows tells (account_of l c') (account_of l' c'') moment images faults workers cause (booted_at began log.chosen.held.world) log.chosen.held.number mounting first' second' first'' second'' tale notes
+      → IsServed shows tells (account_of l c') (account_of l' c'') moment images faults workers port cause (booted_at began log.chosen.held.world) log.chosen.held.number mounting first' second' first'' second'' tale notes
       → Served (why_served cause)
   has_served mounted fine name_a name_b a b clock at s = record {
     start = booted_at began log.chosen.held.world;
@@ -141,6 +141,7 @@ module _ {L C D : Type 0} (shows : Bool) (told : L → Told) (listening : L → 
     shared = s.shared;
     counted = s.counted;
     carried = s.carried;
+    ports = s.ports;
     timely = s.timely;
     cause = cause;
     answered = refl;
@@ -152,10 +153,11 @@ module _ {L C D : Type 0} (shows : Bool) (told : L → Told) (listening : L → 
   }
 
   never_served : (tells ≡ true → IsUntouched seen moment images first first') → (tells ≡ true → IsUntouched seen moment images second second')
-      → Never shows (account_of l c') (account_of l' c'') cause first' second' first'' second'' tale → Unserved
+      → Never shows (account_of l c') (account_of l' c'') port cause first' second' first'' second'' tale → Unserved
   never_served a b n = record {
     empty = n.empty;
     nobody = n.nobody;
+    ports = n.ports;
     first_file = λ on. untouched_on seen moment images first first' first'' (a on) (untouched_still seen moment images first' first'' n.first_file);
     second_file = λ on. untouched_on seen moment images second second' second'' (b on) (untouched_still seen moment images second' second'' n.second_file);
   }
@@ -165,8 +167,8 @@ module _ {L C D : Type 0} (shows : Bool) (told : L → Told) (listening : L → 
       → (tells ≡ true → attached first' ≡ Some (store ++ codes ".a")) → (tells ≡ true → attached second' ≡ Some (store ++ codes ".b"))
       → (tells ≡ true → IsUntouched seen moment images first first') → (tells ≡ true → IsUntouched seen moment images second second')
       → Answers (answers c) (answers c') began → (mounting.first_moment ≡ moment first') × (mounting.second_moment ≡ moment second') → (w : World) → w ≡ booted_at began log.chosen.held.world
-      → Never shows (account_of l c') (account_of l' c'') cause first' second' first'' second'' tale
-      ⊎ IsServed shows tells (account_of l c') (account_of l' c'') moment images faults workers cause w log.chosen.held.number mounting first' second' first'' second'' tale notes
+      → Never shows (account_of l c') (account_of l' c'') port cause first' second' first'' second'' tale
+      ⊎ IsServed shows tells (account_of l c') (account_of l' c'') moment images faults workers port cause w log.chosen.held.number mounting first' second' first'' second'' tale notes
       → (why : Why) → why ≡ why_served cause → ServesAs why Unserved (Served why)
   server_ends mounted fine name_a name_b a b clock at w is r why answered =
       subst (λ (x : Why). ServesAs x Unserved (Served x)) (sym answered)
@@ -174,14 +176,14 @@ module _ {L C D : Type 0} (shows : Bool) (told : L → Told) (listening : L → 
         | inl n ↦ subst (λ (x : Ended). ServesAs (why_served x) Unserved (Served (why_served cause))) (sym n.wanted) (inl (never_served a b n))
         | inr s ↦ served_ends cause Unserved (Served (why_served cause))
             (has_served mounted fine name_a name_b a b clock at
-            (subst (λ (x : World). IsServed shows tells (account_of l c') (account_of l' c'') moment images faults workers cause x log.chosen.held.number mounting first' second' first'' second'' tale notes) is s))
+            (subst (λ (x : World). IsServed shows tells (account_of l c') (account_of l' c'') moment images faults workers port cause x log.chosen.held.number mounting first' second' first'' second'' tale notes) is s))
       ])
 
 -- What the server itself says of the disks, by its answer.
 
-module _ {D : Type 0} (shows tells : Bool) (before now : Account) (moment : D → ℕ) (images : D → ℕ → List ℕ → Type 0) (faults : D → ℕ) (first first' : D) (second second' : D) (workers : ℕ) (cause : Ended)
+module _ {D : Type 0} (shows tells : Bool) (before now : Account) (moment : D → ℕ) (images : D → ℕ → List ℕ → Type 0) (faults : D → ℕ) (first first' : D) (second second' : D) (workers port : ℕ) (cause : Ended)
     (w : World) (mounted : ℕ) (mounting : Note) (tale : List Entry) (notes : List Note)
-    (r : Never shows before now cause first second first' second' tale ⊎ IsServed shows tells before now moment images faults workers cause w mounted mounting first second first' second' tale notes) where
+    (r : Never shows before now port cause first second first' second' tale ⊎ IsServed shows tells before now moment images faults workers port cause w mounted mounting first second first' second' tale notes) where
   -- a disk failed since the store was mounted
   pub disk_failed : (a b : ℕ) → a ≤ faults first → b ≤ faults second → why_served cause ≡ DiskFault → Rose a (faults first') ⊎ Rose b (faults second')
   disk_failed a b le ge e =
@@ -203,13 +205,13 @@ module _ {D : Type 0} (shows tells : Bool) (before now : Account) (moment : D �
 -- What the answer of a server tells.
 
 module _ {L C D : Type 0} (shows : Bool) (told : L → Told) (listening : L → ℕ) (answers : C → Option (List ℕ))
-    (tells : Bool) (attached : D → Option (List ℕ)) (seen : D → List ℕ) (moment : D → ℕ) (images : D → ℕ → List ℕ → Type 0) (store : List ℕ) (workers : ℕ)
+    (tells : Bool) (attached : D → Option (List ℕ)) (seen : D → List ℕ) (moment : D → ℕ) (images : D → ℕ → List ℕ → Type 0) (store : List ℕ) (port workers : ℕ)
     (why : Why) (l l' : L) (c c' : C) (first second first' second' : D) (tale : List Entry) (notes : List Note) (U : Type 0)
-    (ends : ServesAs why U (HasServed shows told listening answers tells attached seen moment images store workers why l l' c c' first second first' second' tale notes)) where
+    (ends : ServesAs why U (HasServed shows told listening answers tells attached seen moment images store port workers why l l' c c' first second first' second' tale notes)) where
   pub listening_failed : why ≡ ListenFault → Rose (listening l) (listening l')
   listening_failed e =
-      let s : HasServed shows told listening answers tells attached seen moment images store workers why l l' c c' first second first' second' tale notes =
-      subst (λ (x : Why). ServesAs x U (HasServed shows told listening answers tells attached seen moment images store workers why l l' c c' first second first' second' tale notes)) e ends in
+      let s : HasServed shows told listening answers tells attached seen moment images store port workers why l l' c c' first second first' second' tale notes =
+      subst (λ (x : Why). ServesAs x U (HasServed shows told listening answers tells attached seen moment images store port workers why l l' c c' first second first' second' tale notes)) e ends in
       (subst (λ (x : Ended). HasEnded workers (listening l) (listening l') s.start x tale) (cause_is s.cause ended.ListenFault ListenFault (sym s.answered ∙ e) refl) s.ended).0
 
 -- where nothing stood in its way

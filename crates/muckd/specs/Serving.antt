@@ -1,5 +1,5 @@
 -- What a call for `serve` comes to.
-use Rattle.std.specs.Prelude.{◌≡◌, ◌⊎◌, ℕ, Bool, true, false, List, [], Option, Some}
+use Rattle.std.specs.Prelude.{◌≡◌, ◌⊎◌, ℕ, Bool, true, false, List, [], ◌∷◌, Option, Some}
 use Rattle.muck_io.specs.inner.Clock.{Answers}
 use Rattle.muck_links.specs.Sessions.{Told}
 use Rattle.muck_model.specs.declared.event.Entry.{Entry}
@@ -40,20 +40,22 @@ abbrev pub tally_of : {L : Type 0} → (L → Told) → (L → ℕ) → L → Ta
 tally_of told listening links = record { told = told links; listening = listening links }
 
 -- It never began: nothing happened, nobody was let in (`shows` says that the links tell what they carry), and nothing was written to the
--- files.
+-- files. The links were asked to listen on no port, or once, on this one.
 pub record IsUnserved {L D : Type 0} (shows : Bool) (told : L → Told) (tells : Bool) (seen : D → List ℕ) (moment : D → ℕ) (images : D → ℕ → List ℕ → Type 0)
-    (l l' : L) (first second first' second' : D) (tale : List Entry) : Type 0 where
+    (port : ℕ) (l l' : L) (first second first' second' : D) (tale : List Entry) : Type 0 where
   pub empty : tale ≡ []
   pub nobody : shows ≡ true → (told l').sessions ≡ (told l).sessions
+  pub ports : shows ≡ true → ((told l').ports ≡ (told l).ports) ⊎ ((told l').ports ≡ port ∷ (told l).ports)
   pub first_file : tells ≡ true → IsUntouched seen moment images first first'
   pub second_file : tells ≡ true → IsUntouched seen moment images second second'
 
 -- A server began, on the world that the two files held, at the second that the clock answered first. One history happened, to which all
 -- parties added: each entry was lawful where it stands, and changed only what is open there; and whoever has a player gave its password.
--- Each party did what it may, and what the links carried is what that history says of each connection. Each moment is the greater of what the
--- clock, which had the answers `coming` from then on, answers next, and of the second before it. Of the disks is kept what is kept of a run.
+-- Each party did what it may. The links were asked to listen once, on this port, and what they carried is what that history says of each connection.
+-- Each moment is the greater of what the clock, which had the answers `coming` from then on, answers next, and of the second before it. Of the disks is kept
+-- what is kept of a run.
 pub record HasServed {L C D : Type 0} (shows : Bool) (told : L → Told) (listening : L → ℕ) (answers : C → Option (List ℕ))
-    (tells : Bool) (attached : D → Option (List ℕ)) (seen : D → List ℕ) (moment : D → ℕ) (images : D → ℕ → List ℕ → Type 0) (store : List ℕ) (workers : ℕ) (why : Why)
+    (tells : Bool) (attached : D → Option (List ℕ)) (seen : D → List ℕ) (moment : D → ℕ) (images : D → ℕ → List ℕ → Type 0) (store : List ℕ) (port workers : ℕ) (why : Why)
     (l l' : L) (c c' : C) (first second first' second' : D) (tale : List Entry) (notes : List Note) : Type 0 where
   pub start : World
   pub began : ℕ
@@ -68,7 +70,8 @@ pub record HasServed {L C D : Type 0} (shows : Bool) (told : L → Told) (listen
   pub shared : IsShared workers tale
   pub counted : LinksNote
   pub carried : shows ≡ true → IsCarried counted (tally_of told listening l) (tally_of told listening l') start tale
-  pub timely : shows ≡ true → Timely coming (answers c') start tale
+  pub ports : shows ≡ true → (told l').ports ≡ port ∷ (told l).ports
+  pub timely : Timely coming (answers c') start tale
   pub cause : Ended
   pub answered : why ≡ why_served cause
   pub ended : HasEnded workers (listening l) (listening l') start cause tale

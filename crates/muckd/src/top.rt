@@ -140,7 +140,7 @@ pub fn muckd<
     // world that the two files held, at the clock's second: all parties added to it, lawfully, and with leave. It says what the links carried,
     // how the last dump came out, and what the files hold, whatever a crash leaves of them. The answer says which of the two, but for want of
     // memory and faults of the store.
-    ensures serve { (store : List ℕ) (port workers : ℕ) → command_of (map string_bytes words.now) ≡ Some (serve store port workers) → ServesAs result.why (IsUnserved (L.tells links.old) L.told D.tells D.seen D.moment D.images links.old links.new first.old second.old first.new second.new result.tale.entries) (HasServed (L.tells links.old) L.told L.listening C.answers D.tells D.attached D.seen D.moment D.images store workers result.why links.old links.new clock.old clock.new first.old second.old first.new second.new result.tale.entries result.tale.notes) }
+    ensures serve { (store : List ℕ) (port workers : ℕ) → command_of (map string_bytes words.now) ≡ Some (serve store port workers) → ServesAs result.why (IsUnserved (L.tells links.old) L.told D.tells D.seen D.moment D.images port links.old links.new first.old second.old first.new second.new result.tale.entries) (HasServed (L.tells links.old) L.told L.listening C.answers D.tells D.attached D.seen D.moment D.images store port workers result.why links.old links.new clock.old clock.new first.old second.old first.new second.new result.tale.entries result.tale.notes) }
 
     // The first line outside the grammar has this number.
     ensures bad_script { (line : ℕ) → result.why ≡ Why.BadScript line → IsFirstOutside (S.left script.old) line }

@@ -61,8 +61,8 @@ abbrev pub HasStopped : Way → Type 0
 HasStopped way = (way ≡ Stopped) ⊎ (way ≡ Deaf)
 
 -- What all parts left: h is the history of the world once each has returned, and `world` was what it began with. Each entry was lawful, and of one of
--- the parties, and what each of them did is well formed; what the links carried is what the history says, and its moments are what the clock answered; of the disks
--- is kept what is kept of a run; and how it ended.
+-- the parties, and what each of them did is well formed; its moments are what the clock answered; what the links carried is what the history says, and they were asked to
+-- listen on no port; of the disks is kept what is kept of a run; and how it ended.
 pub record HasRun {D : Type 0} (tells : Bool) (seen : D → List ℕ) (moment : D → ℕ) (images : D → ℕ → List ℕ → Type 0) (faults : D → ℕ) (shows : Bool) (before after : Account) (workers : ℕ) (way : Way)
     (log log' : Option LogState) (first second first' second' : D) (world h : History) : Type 0 where
   pub start : h.start ≡ world.start
@@ -73,7 +73,8 @@ pub record HasRun {D : Type 0} (tells : Bool) (seen : D → List ℕ) (moment : 
   pub shared : IsShared workers h.entries
   pub counted : LinksNote
   pub promised : shows ≡ true → PromisedOf counted before.links h.start h.entries after.links
-  pub timely : shows ≡ true → Timely before.answers after.answers h.start h.entries
+  pub ports : shows ≡ true → after.links.told.ports ≡ before.links.told.ports
+  pub timely : Timely before.answers after.answers h.start h.entries
   pub worked_off : shows ≡ true → HasStopped way → LeavesWorkedOff counted h.start h.entries after.links
   pub last : HasStopped way → (party : ℕ) → IsParty workers party → EndsStopped party h.entries
   pub fault : way ≡ Deaf → Rose before.links.listening after.links.listening

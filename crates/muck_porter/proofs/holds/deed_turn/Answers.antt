@@ -1,5 +1,6 @@
 use Rattle.std.proofs.Common.{◌∙◌}
 use Rattle.spec_events.specs.Histories.{now}
+use Rattle.muck_porter.proofs.Timing.{timed_waited, timed_turned}
 use Rattle.muck_porter.proofs.Turning.{turn_entry, turn_start, turn_made, claim_held}
 use Rattle.muck_porter.proofs.Quiet.{did_quiet}
 use Rattle.muck_porter.proofs.holds.deed_turn.Goals as goal
@@ -24,7 +25,7 @@ pub returns-in-Ok-clause-ok : goal.returns-in-Ok-clause-ok
 returns-in-Ok-clause-ok g c =
     let s = c.does-did.ensures in
     let t = turn_made c.args.noted.now c.begins.new.noted (g.L.Links.told c.args.links.now) c.args.seat.now.me c.begins.new.seat.me c.in-Ok.held.state c.does-did.new.world s.0 c.requires.ready c.in-Ok.ensures.ok (did_quiet _ _ _ _ _ s.0 s.2) s.1
-    _ _ s.3 c.give.new.seat.me c.give.ensures.own.2 c.give.ensures.idle c.give.ensures.seen c.give.ensures.same c.give.ensures.mine in
+    c.give.new.seat.me c.give.ensures.own.2 c.give.ensures.idle c.give.ensures.seen c.give.ensures.same c.give.ensures.mine in
     (t.0, (now c.in-Ok.held.state, s.0, t.1, s.2))
 
 pub returns-in-Err-clause-lists : goal.returns-in-Err-clause-lists
@@ -32,3 +33,13 @@ returns-in-Err-clause-lists g c = let w = c.in-Err.ensures.waited.0 in (w.5, w.3
 
 pub does-did-requires : goal.does-did-requires
 does-did-requires g c = claim_held c.args.noted.now c.begins.new.noted (g.L.Links.told c.args.links.now) c.args.seat.now.me c.begins.new.seat.me c.in-Ok.held.state c.args.deed.now c.requires.ready c.in-Ok.ensures.ok c.requires.claim
+
+pub returns-in-Ok-clause-time : goal.returns-in-Ok-clause-time
+returns-in-Ok-clause-time g c =
+    let s = c.does-did.ensures in
+    let t = turn_made c.args.noted.now c.begins.new.noted (g.L.Links.told c.args.links.now) c.args.seat.now.me c.begins.new.seat.me c.in-Ok.held.state c.does-did.new.world s.0 c.requires.ready c.in-Ok.ensures.ok (did_quiet _ _ _ _ _ s.0 s.2) s.1
+    c.give.new.seat.me c.give.ensures.own.2 c.give.ensures.idle c.give.ensures.seen c.give.ensures.same c.give.ensures.mine in
+    timed_turned c.args.noted.now c.begins.new.noted (g.L.Links.told c.args.links.now) _ _ c.args.seat.now.me c.give.new.seat.me (now c.in-Ok.held.state) s.0 c.requires.ready.rests t.0 t.1 s.3
+
+pub returns-in-Err-clause-time : goal.returns-in-Err-clause-time
+returns-in-Err-clause-time g c = timed_waited _ _ _ c.in-Err.ensures.waited.0

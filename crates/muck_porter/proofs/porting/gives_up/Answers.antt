@@ -1,6 +1,6 @@
 use Rattle.std.proofs.Common.{refl, arith}
 use Rattle.muck_porter.specs.declared.porting.Why.TheVariants.{NoMemory, Spent}
-use Rattle.muck_porter.proofs.InRounds.{ready_fresh, kept_fresh, not_stopped}
+use Rattle.muck_porter.proofs.InRounds.{ready_fresh, timed_start, kept_fresh, not_stopped}
 use Rattle.muck_porter.proofs.porting.gives_up.Goals as goal
 
 pub dies-requires-clause-ready : goal.dies-requires-clause-ready
@@ -11,6 +11,8 @@ returns-in-NoMemory-clause-done g c =
     let s = c.in-NoMemory.ensures in
     record {
       lists = s.lists;
+      timed = s.time _ (timed_start _ c.args.seat.now.me c.requires.ready);
+      ports = λ t. refl;
       over = s.over;
       kept = λ t. kept_fresh _ _ c.args.seat.now.me c.dies.new.seat.me.0 c.requires.ready (s.last _);
       last = λ h. absurd (not_stopped NoMemory refl h);
@@ -25,6 +27,8 @@ returns-clause-done g c =
     let s = c.in-Spent.ensures in
     record {
       lists = s.lists;
+      timed = s.time _ (timed_start _ c.args.seat.now.me c.requires.ready);
+      ports = λ t. refl;
       over = s.over;
       kept = λ t. kept_fresh _ _ c.args.seat.now.me c.dies.new.seat.me.0 c.requires.ready (s.last _);
       last = λ h. absurd (not_stopped Spent refl h);

@@ -2,7 +2,7 @@ use Rattle.std.proofs.Common.{true≢false, refl, sym, ◌∙◌, subst, arith}
 use Rattle.muck_porter.specs.declared.serving.Fault.{Fault}
 use Rattle.muck_porter.specs.Rounds.{IsSpent}
 use Rattle.muck_porter.specs.declared.porting.Why.TheVariants.{NoMemory, Spent}
-use Rattle.muck_porter.proofs.InRounds.{stays_ready, stays_carried, left_last, left_kept, broke_on, ready_fresh, books_start, not_stopped}
+use Rattle.muck_porter.proofs.InRounds.{stays_ready, stays_carried, left_last, left_kept, broke_on, ready_fresh, books_start, timed_start, not_stopped}
 use Rattle.muck_porter.proofs.porting.goes_on.Goals as goal
 
 pub loop-init : goal.loop-init
@@ -14,6 +14,8 @@ loop-init g c = record {
   broke = λ b. absurd (true≢false (sym b));
   fresh = tt;
   lists = (refl, refl, refl);
+  timed = timed_start _ c.args.seat.now.me c.requires.ready;
+  ports = λ t. refl;
   books = λ t. books_start _ c.args.seat.now.me _ c.requires.ready c.new-peers.ensures.items;
 }
 
@@ -32,6 +34,8 @@ loop-preserved g c =
       broke = λ b. broke_on c.loop.broke c.in-Ok.gone.broke _ _ _ inv.later s.later inv.broke s.broke (sym c.either-broke.ensures ∙ b);
       fresh = s.fresh;
       lists = (s.lists.0 ∙ inv.lists.0, s.lists.1 ∙ inv.lists.1, s.lists.2 ∙ inv.lists.2);
+      timed = s.time _ inv.timed;
+      ports = λ t. s.ports (inv.tells ∙ t) ∙ inv.ports t;
       books = λ t. stays_carried _ _ _ _ _ _ _ _ _ stays (s.ok (inv.tells ∙ t)) _ (inv.books t);
     }
 
@@ -44,6 +48,8 @@ returns-then-broke-clause-done g c =
     let l2 = s.later in
     record {
       lists = (s.lists.0 ∙ inv.lists.0, s.lists.1 ∙ inv.lists.1, s.lists.2 ∙ inv.lists.2);
+      timed = s.time _ inv.timed;
+      ports = λ t. s.ports (inv.tells ∙ t) ∙ inv.ports t;
       over = s.over;
       kept = λ t. (left_kept _ _ _ _ _ _ _ _ _ left (s.ok (inv.tells ∙ t)) _ (inv.books t)).0;
       last = λ h. left_last _ _ _ left s.ready;
@@ -62,6 +68,8 @@ returns-then-has_left-clause-done g c =
     let l2 = s.later in
     record {
       lists = (s.lists.0 ∙ inv.lists.0, s.lists.1 ∙ inv.lists.1, s.lists.2 ∙ inv.lists.2);
+      timed = s.time _ inv.timed;
+      ports = λ t. s.ports (inv.tells ∙ t) ∙ inv.ports t;
       over = s.over;
       kept = λ t. (left_kept _ _ _ _ _ _ _ _ _ left (s.ok (inv.tells ∙ t)) _ (inv.books t)).0;
       last = λ h. left_last _ _ _ left s.ready;
@@ -79,6 +87,8 @@ returns-in-Err-NoMemory-clause-done g c =
     let l2 = s.later in
     record {
       lists = (s.lists.0 ∙ inv.lists.0, s.lists.1 ∙ inv.lists.1, s.lists.2 ∙ inv.lists.2);
+      timed = s.time _ inv.timed;
+      ports = λ t. s.ports (inv.tells ∙ t) ∙ inv.ports t;
       over = s.over;
       kept = λ t. s.err (inv.tells ∙ t) _ (inv.books t);
       last = λ h. absurd (not_stopped NoMemory refl h);
@@ -96,6 +106,8 @@ returns-in-Err-Spent-clause-done g c =
     let l2 = s.later in
     record {
       lists = (s.lists.0 ∙ inv.lists.0, s.lists.1 ∙ inv.lists.1, s.lists.2 ∙ inv.lists.2);
+      timed = s.time _ inv.timed;
+      ports = λ t. s.ports (inv.tells ∙ t) ∙ inv.ports t;
       over = s.over;
       kept = λ t. s.err (inv.tells ∙ t) _ (inv.books t);
       last = λ h. absurd (not_stopped Spent refl h);

@@ -16,3 +16,12 @@ returns-in-Ok-false-clause-ready g c = c.in-Ok-false.ensures.ready c.in-Ok-false
 
 pub returns-in-Err-leaves-clause-err : goal.returns-in-Err-leaves-clause-err
 returns-in-Err-leaves-clause-err g c n = carried_end _ _ _ _ _ _ _ _ (c.in-Ok-Ready.ensures.ok n) (c.in-Err-leaves.ensures.err n)
+
+pub returns-in-Ok-true-clause-time : goal.returns-in-Ok-true-clause-time
+returns-in-Ok-true-clause-time g c before t = c.in-Ok-true.ensures.time before (c.in-Ok-Ready.ensures.time before t)
+
+pub returns-in-Ok-false-clause-time : goal.returns-in-Ok-false-clause-time
+returns-in-Ok-false-clause-time g c before t = c.in-Ok-false.ensures.time before (c.in-Ok-Ready.ensures.time before t)
+
+pub returns-in-Err-leaves-clause-time : goal.returns-in-Err-leaves-clause-time
+returns-in-Err-leaves-clause-time g c before t = c.in-Err-leaves.ensures.time before (c.in-Ok-Ready.ensures.time before t)

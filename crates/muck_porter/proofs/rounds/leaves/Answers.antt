@@ -7,42 +7,42 @@ use Rattle.muck_porter.proofs.rounds.leaves.Goals as goal
 pub returns-in-Ok-Done-clause-left : goal.returns-in-Ok-Done-clause-left
 returns-in-Ok-Done-clause-left g c t =
     let ok = c.in-Ok-Done.ensures.ok in (
-      leave_last _ _ _ _ _ c.args.seat.now.me c.deed_turn.new.seat.me ok.1.0 ok.1.1 ok.0 ok.1.2 c.requires.ready _ _ c.in-Ok-Done.field-0-is ok.1.3,
-      (λ n. leave_left _ _ _ _ _ c.args.seat.now.me c.deed_turn.new.seat.me ok.1.0 ok.1.1 ok.0 ok.1.2 c.requires.ready _ _ n c.in-Ok-Done.field-0-is ok.1.3),
+      leave_last _ _ _ c.args.seat.now.me c.deed_turn.new.seat.me ok.1.0 ok.1.1 ok.0 ok.1.2 c.requires.ready _ _ c.in-Ok-Done.field-0-is ok.1.3,
+      (λ n. leave_left _ _ _ c.args.seat.now.me c.deed_turn.new.seat.me ok.1.0 ok.1.1 ok.0 ok.1.2 c.requires.ready _ _ n c.in-Ok-Done.field-0-is ok.1.3),
     )
 
 pub returns-in-Ok-Done-clause-over : goal.returns-in-Ok-Done-clause-over
 returns-in-Ok-Done-clause-over g c =
     let ok = c.in-Ok-Done.ensures.ok in
-    leave_over _ _ _ _ _ c.args.seat.now.me c.deed_turn.new.seat.me ok.1.0 ok.1.1 ok.0 ok.1.2 c.requires.ready _ _ c.in-Ok-Done.field-0-is ok.1.3
+    leave_over _ _ _ c.args.seat.now.me c.deed_turn.new.seat.me ok.1.0 ok.1.1 ok.0 ok.1.2 c.requires.ready _ _ c.in-Ok-Done.field-0-is ok.1.3
 
 pub returns-in-Ok-Timed-clause-ready : goal.returns-in-Ok-Timed-clause-ready
 returns-in-Ok-Timed-clause-ready g c t =
     let ok = c.in-Ok-Timed.ensures.ok in
-    leave_later _ _ _ _ _ c.args.seat.now.me c.deed_turn.new.seat.me ok.1.0 ok.1.1 ok.0 ok.1.2 c.requires.ready _ _ c.in-Ok-Timed.field-0-is ok.1.3
+    leave_later _ _ _ c.args.seat.now.me c.deed_turn.new.seat.me ok.1.0 ok.1.1 ok.0 ok.1.2 c.requires.ready _ _ c.in-Ok-Timed.field-0-is ok.1.3
 
 pub returns-in-Ok-Timed-clause-ok : goal.returns-in-Ok-Timed-clause-ok
 returns-in-Ok-Timed-clause-ok g c t n =
     let ok = c.in-Ok-Timed.ensures.ok in
-    leave_late _ _ _ _ _ c.args.seat.now.me c.deed_turn.new.seat.me ok.1.0 ok.1.1 ok.0 ok.1.2 c.requires.ready _ _ n c.in-Ok-Timed.field-0-is ok.1.3
+    leave_late _ _ _ c.args.seat.now.me c.deed_turn.new.seat.me ok.1.0 ok.1.1 ok.0 ok.1.2 c.requires.ready _ _ n c.in-Ok-Timed.field-0-is ok.1.3
 
 pub returns-in-Ok-Timed-clause-over : goal.returns-in-Ok-Timed-clause-over
 returns-in-Ok-Timed-clause-over g c =
     let ok = c.in-Ok-Timed.ensures.ok in
-    over_ready _ _ (leave_later _ _ _ _ _ c.args.seat.now.me c.deed_turn.new.seat.me ok.1.0 ok.1.1 ok.0 ok.1.2 c.requires.ready _ _ c.in-Ok-Timed.field-0-is ok.1.3)
+    over_ready _ _ (leave_later _ _ _ c.args.seat.now.me c.deed_turn.new.seat.me ok.1.0 ok.1.1 ok.0 ok.1.2 c.requires.ready _ _ c.in-Ok-Timed.field-0-is ok.1.3)
 
 pub returns-in-Ok-Dead-clause-err : goal.returns-in-Ok-Dead-clause-err
 returns-in-Ok-Dead-clause-err g c n coming =
     let ok = c.in-Ok-Dead.ensures.ok in
-    died_ends _ _ _ _ _ c.args.seat.now.me c.deed_turn.new.seat.me ok.1.0 ok.1.1 ok.0 ok.1.2 c.requires.ready.resting.known n c.args.peers.now.items coming (dead_did _ _ _ _ _ c.args.seat.now.me c.deed_turn.new.seat.me ok.1.0 ok.1.1 ok.0 ok.1.2 c.requires.ready.resting.known Leave _ _ c.in-Ok-Dead.field-0-is ok.1.3)
+    died_ends _ _ _ c.args.seat.now.me c.deed_turn.new.seat.me ok.1.0 ok.1.1 ok.0 ok.1.2 c.requires.ready.resting.known n c.args.peers.now.items coming (dead_did _ _ _ c.args.seat.now.me c.deed_turn.new.seat.me ok.1.0 ok.1.1 ok.0 ok.1.2 c.requires.ready.resting.known Leave _ _ c.in-Ok-Dead.field-0-is ok.1.3)
 
 pub returns-in-Ok-Dead-clause-over : goal.returns-in-Ok-Dead-clause-over
 returns-in-Ok-Dead-clause-over g c =
     let ok = c.in-Ok-Dead.ensures.ok in
-    died_over _ _ _ _ _ c.args.seat.now.me c.deed_turn.new.seat.me ok.1.0 ok.1.1 ok.0 ok.1.2 c.requires.ready.resting.known c.requires.ready.free (dead_did _ _ _ _ _ c.args.seat.now.me c.deed_turn.new.seat.me ok.1.0 ok.1.1 ok.0 ok.1.2 c.requires.ready.resting.known Leave _ _ c.in-Ok-Dead.field-0-is ok.1.3)
+    died_over _ _ _ c.args.seat.now.me c.deed_turn.new.seat.me ok.1.0 ok.1.1 ok.0 ok.1.2 c.requires.ready.resting.known c.requires.ready.free (dead_did _ _ _ c.args.seat.now.me c.deed_turn.new.seat.me ok.1.0 ok.1.1 ok.0 ok.1.2 c.requires.ready.resting.known Leave _ _ c.in-Ok-Dead.field-0-is ok.1.3)
 
 pub returns-in-Err-clause-err : goal.returns-in-Err-clause-err
-returns-in-Err-clause-err g c n coming = ends_waited c.args.seat.now.me c.deed_turn.new.seat.me (g.L.Links.told c.args.links.now) n _ _ c.args.peers.now.items coming c.requires.ready.resting.rests c.in-Err.ensures.waited.0 c.in-Err.ensures.waited.2
+returns-in-Err-clause-err g c n coming = ends_waited c.args.seat.now.me c.deed_turn.new.seat.me (g.L.Links.told c.args.links.now) n c.args.peers.now.items coming c.requires.ready.resting.rests c.in-Err.ensures.waited.0
 
 pub returns-in-Err-clause-over : goal.returns-in-Err-clause-over
 returns-in-Err-clause-over g c = over_waited c.args.seat.now.me c.deed_turn.new.seat.me c.in-Err.ensures.left.0 c.in-Err.ensures.waited.0 (formed_free c.args.seat.now.me.0.own c.requires.ready.free)

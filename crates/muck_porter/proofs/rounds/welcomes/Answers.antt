@@ -22,3 +22,12 @@ returns-in-Ok-opens-clause-ok g c t = comes_as _ _ _ _ _ _ c.args.coming (Some c
 
 pub returns-in-Err-opens-clause-err : goal.returns-in-Err-opens-clause-err
 returns-in-Err-opens-clause-err g c t = ends_as _ _ _ _ _ c.args.coming (Some c.in-Some.peer) c.in-Some.is (c.in-Err-opens.ensures.err _)
+
+pub returns-then-noted-clause-time : goal.returns-then-noted-clause-time
+returns-then-noted-clause-time g c before t = t
+
+pub returns-then-noted-2-clause-time : goal.returns-then-noted-2-clause-time
+returns-then-noted-2-clause-time g c before t = t
+
+pub returns-then-len-ge-LINKS_MOST-clause-time : goal.returns-then-len-ge-LINKS_MOST-clause-time
+returns-then-len-ge-LINKS_MOST-clause-time g c before t = t

@@ -11,6 +11,8 @@ loop-from-init g c = record {
   listening = refl;
   carried = λ t coming b bk. bk;
   lists = (refl, refl, refl);
+  time = λ before t. t;
+  ports = λ t. refl;
 }
 
 pub loop-from-preserved : goal.loop-from-preserved
@@ -24,6 +26,8 @@ loop-from-preserved g c =
       listening = s.listening ∙ inv.listening;
       carried = λ t. carried_on _ _ _ _ _ _ _ _ _ (inv.carried t) (s.ok (inv.tells ∙ t));
       lists = (s.lists.0 ∙ inv.lists.0, s.lists.1 ∙ inv.lists.1, s.lists.2 ∙ inv.lists.2);
+      time = λ before t. s.time before (inv.time before t);
+      ports = λ t. s.ports (inv.tells ∙ t) ∙ inv.ports t;
     }
 
 pub returns-in-Ok-None-clause-ok : goal.returns-in-Ok-None-clause-ok
@@ -47,3 +51,21 @@ loop-from-smaller g c =
 
 pub returns-in-Ok-None-clause-ready : goal.returns-in-Ok-None-clause-ready
 returns-in-Ok-None-clause-ready g c = subst (λ (o : Option ℕ). IsServed o c.serve_one.new.noted c.serve_one.new.seat.me) c.in-Ok-None.field-0-is c.in-Ok-None.ensures.ready
+
+pub returns-in-Ok-None-clause-time : goal.returns-in-Ok-None-clause-time
+returns-in-Ok-None-clause-time g c before t = c.in-Ok-None.ensures.time before (c.loop-from.invariant.time before t)
+
+pub returns-in-Err-clause-time : goal.returns-in-Err-clause-time
+returns-in-Err-clause-time g c before t = c.in-Err.ensures.time before (c.loop-from.invariant.time before t)
+
+pub returns-in-Ok-clause-time : goal.returns-in-Ok-clause-time
+returns-in-Ok-clause-time g c before t = c.in-Ok.ensures.time before (c.loop-from.invariant.time before t)
+
+pub returns-in-Err-times-clause-time : goal.returns-in-Err-times-clause-time
+returns-in-Err-times-clause-time g c before t = c.in-Err-times.ensures.time before (c.loop-from.invariant.time before t)
+
+pub returns-in-Ok-None-clause-ports : goal.returns-in-Ok-None-clause-ports
+returns-in-Ok-None-clause-ports g c t = let inv = c.loop-from.invariant in c.in-Ok-None.ensures.ports (inv.tells ∙ t) ∙ inv.ports t
+
+pub returns-in-Err-clause-ports : goal.returns-in-Err-clause-ports
+returns-in-Err-clause-ports g c t = let inv = c.loop-from.invariant in c.in-Err.ensures.ports (inv.tells ∙ t) ∙ inv.ports t

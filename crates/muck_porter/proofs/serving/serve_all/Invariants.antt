@@ -1,7 +1,8 @@
 use Rattle.std.proofs.Common.{◌≡◌, ◌-◌, true, vec_len}
 use Rattle.muck_machine.specs.Seats.{SameLists}
-use Rattle.muck_porter.specs.Kept.{account, Ready}
+use Rattle.muck_porter.specs.Kept.{tally, Ready}
 use Rattle.muck_porter.specs.Moves.{CarriesOn}
+use Rattle.muck_porter.specs.Times.{ByClock}
 use Rattle.muck_porter.proofs.serving.serve_all.Given as goal
 
 abbrev pub invariant-loop-from : goal.invariant-loop-from
@@ -10,8 +11,10 @@ invariant-loop-from g l = record {
   ready : Ready l.noted l.seat.me;
   tells : g.L.Links.tells l.links ≡ g.L.Links.tells l.initial.links;
   listening : g.L.Links.listening l.links ≡ g.L.Links.listening l.initial.links;
-  carried : g.L.Links.tells l.initial.links ≡ true → CarriesOn l.initial.seat.me.0 l.seat.me.0 (account (g.L.Links.told l.initial.links) (g.L.Links.listening l.initial.links) (g.C.Clock.answers l.initial.clock)) (account (g.L.Links.told l.links) (g.L.Links.listening l.links) (g.C.Clock.answers l.clock)) l.initial.peers.items l.peers.items;
+  carried : g.L.Links.tells l.initial.links ≡ true → CarriesOn l.initial.seat.me.0 l.seat.me.0 (tally (g.L.Links.told l.initial.links) (g.L.Links.listening l.initial.links)) (tally (g.L.Links.told l.links) (g.L.Links.listening l.links)) l.initial.peers.items l.peers.items;
   lists : SameLists l.initial.seat.me.0 l.seat.me.0;
+  time : ByClock l.initial.seat.me.0 l.seat.me.0 (g.C.Clock.answers l.initial.clock) (g.C.Clock.answers l.clock);
+  ports : g.L.Links.tells l.initial.links ≡ true → (g.L.Links.told l.links).ports ≡ (g.L.Links.told l.initial.links).ports;
 }
 
 abbrev pub decreases-loop-from : goal.decreases-loop-from

@@ -14,7 +14,7 @@ lets_go-requires g c = let ok = c.in-Ok-Closed.ensures.ok in closed_below _ c.in
 pub returns-in-Ok-Went-clause-ready : goal.returns-in-Ok-Went-clause-ready
 returns-in-Ok-Went-clause-ready g c =
     let ok = c.in-Ok-Went.ensures.ok in
-    went_ready _ _ _ _ _ c.args.seat.now.me c.serve_turn.new.seat.me ok.1.0 ok.1.1 ok.0 ok.1.2 c.requires.ready _ _ _ ok.1.3 c.in-Ok-Went.at c.in-Ok-Went.field-0-is
+    went_ready _ _ _ c.args.seat.now.me c.serve_turn.new.seat.me ok.1.0 ok.1.1 ok.0 ok.1.2 c.requires.ready _ _ _ ok.1.3 c.in-Ok-Went.at c.in-Ok-Went.field-0-is
 
 pub returns-in-Ok-Went-clause-place : goal.returns-in-Ok-Went-clause-place
 returns-in-Ok-Went-clause-place g c =
@@ -25,18 +25,18 @@ returns-in-Ok-Went-clause-place g c =
 pub returns-in-Ok-Went-clause-ok : goal.returns-in-Ok-Went-clause-ok
 returns-in-Ok-Went-clause-ok g c t =
     let ok = c.in-Ok-Went.ensures.ok in
-    listened _ _ _ _ _ _ _ _ _ _ c.writes-next.ensures.listening
-    (went_carries _ _ _ _ _ c.args.seat.now.me c.serve_turn.new.seat.me ok.1.0 ok.1.1 ok.0 ok.1.2 c.requires.ready _ _ _ ok.1.3 c.in-Ok-Went.at _ _ _ c.in-Ok-Went.field-0-is (c.writes-next.ensures.wrote t))
+    listened _ _ _ _ _ _ _ _ c.writes-next.ensures.listening
+    (went_carries _ _ _ c.args.seat.now.me c.serve_turn.new.seat.me ok.1.0 ok.1.1 ok.0 ok.1.2 c.requires.ready _ _ _ ok.1.3 c.in-Ok-Went.at _ _ _ c.in-Ok-Went.field-0-is (c.writes-next.ensures.wrote t))
 
 pub returns-in-Ok-Went-clause-over : goal.returns-in-Ok-Went-clause-over
 returns-in-Ok-Went-clause-over g c =
     let ok = c.in-Ok-Went.ensures.ok in
-    went_over _ _ _ _ _ c.args.seat.now.me c.serve_turn.new.seat.me ok.1.0 ok.1.1 ok.0 ok.1.2 c.requires.ready _ _ _ ok.1.3 c.in-Ok-Went.at c.in-Ok-Went.field-0-is
+    went_over _ _ _ c.args.seat.now.me c.serve_turn.new.seat.me ok.1.0 ok.1.1 ok.0 ok.1.2 c.requires.ready _ _ _ ok.1.3 c.in-Ok-Went.at c.in-Ok-Went.field-0-is
 
 pub returns-in-Ok-Closed-clause-ready : goal.returns-in-Ok-Closed-clause-ready
 returns-in-Ok-Closed-clause-ready g c =
     let ok = c.in-Ok-Closed.ensures.ok in
-    closed_ready _ _ _ _ _ c.args.seat.now.me c.serve_turn.new.seat.me ok.1.0 ok.1.1 ok.0 ok.1.2 c.requires.ready _ _ _ ok.1.3 c.in-Ok-Closed.at c.in-Ok-Closed.field-0-is
+    closed_ready _ _ _ c.args.seat.now.me c.serve_turn.new.seat.me ok.1.0 ok.1.1 ok.0 ok.1.2 c.requires.ready _ _ _ ok.1.3 c.in-Ok-Closed.at c.in-Ok-Closed.field-0-is
 
 pub returns-in-Ok-Closed-clause-place : goal.returns-in-Ok-Closed-clause-place
 returns-in-Ok-Closed-clause-place g c =
@@ -46,41 +46,41 @@ returns-in-Ok-Closed-clause-place g c =
 pub returns-in-Ok-Closed-clause-ok : goal.returns-in-Ok-Closed-clause-ok
 returns-in-Ok-Closed-clause-ok g c t =
     let ok = c.in-Ok-Closed.ensures.ok in
-    listened _ _ _ _ _ _ _ _ _ _ c.lets_go.ensures.listening
-    (closed_carries _ _ _ _ _ c.args.seat.now.me c.serve_turn.new.seat.me ok.1.0 ok.1.1 ok.0 ok.1.2 c.requires.ready _ _ _ ok.1.3 c.in-Ok-Closed.at _ _ _ c.in-Ok-Closed.field-0-is (c.lets_go.ensures.told t) c.lets_go.ensures.gone)
+    listened _ _ _ _ _ _ _ _ c.lets_go.ensures.listening
+    (closed_carries _ _ _ c.args.seat.now.me c.serve_turn.new.seat.me ok.1.0 ok.1.1 ok.0 ok.1.2 c.requires.ready _ _ _ ok.1.3 c.in-Ok-Closed.at _ _ _ c.in-Ok-Closed.field-0-is (c.lets_go.ensures.told t) c.lets_go.ensures.gone)
 
 pub returns-in-Ok-Closed-clause-over : goal.returns-in-Ok-Closed-clause-over
 returns-in-Ok-Closed-clause-over g c =
     let ok = c.in-Ok-Closed.ensures.ok in
-    closed_over _ _ _ _ _ c.args.seat.now.me c.serve_turn.new.seat.me ok.1.0 ok.1.1 ok.0 ok.1.2 c.requires.ready _ _ _ ok.1.3 c.in-Ok-Closed.at c.in-Ok-Closed.field-0-is
+    closed_over _ _ _ c.args.seat.now.me c.serve_turn.new.seat.me ok.1.0 ok.1.1 ok.0 ok.1.2 c.requires.ready _ _ _ ok.1.3 c.in-Ok-Closed.at c.in-Ok-Closed.field-0-is
 
 pub returns-in-Ok-Nobody-clause-ready : goal.returns-in-Ok-Nobody-clause-ready
 returns-in-Ok-Nobody-clause-ready g c =
     let ok = c.in-Ok-Nobody.ensures.ok in
-    nobody_ready _ _ _ _ _ c.args.seat.now.me c.serve_turn.new.seat.me ok.1.0 ok.1.1 ok.0 ok.1.2 c.requires.ready _ _ _ ok.1.3 c.in-Ok-Nobody.field-0-is
+    nobody_ready _ _ _ c.args.seat.now.me c.serve_turn.new.seat.me ok.1.0 ok.1.1 ok.0 ok.1.2 c.requires.ready _ _ _ ok.1.3 c.in-Ok-Nobody.field-0-is
 
 pub returns-in-Ok-Nobody-clause-ok : goal.returns-in-Ok-Nobody-clause-ok
 returns-in-Ok-Nobody-clause-ok g c t =
     let ok = c.in-Ok-Nobody.ensures.ok in
-    nobody_carries _ _ _ _ _ c.args.seat.now.me c.serve_turn.new.seat.me ok.1.0 ok.1.1 ok.0 ok.1.2 c.requires.ready _ _ _ ok.1.3 _ c.in-Ok-Nobody.field-0-is
+    nobody_carries _ _ _ c.args.seat.now.me c.serve_turn.new.seat.me ok.1.0 ok.1.1 ok.0 ok.1.2 c.requires.ready _ _ _ ok.1.3 _ c.in-Ok-Nobody.field-0-is
 
 pub returns-in-Ok-Nobody-clause-over : goal.returns-in-Ok-Nobody-clause-over
 returns-in-Ok-Nobody-clause-over g c =
     let ok = c.in-Ok-Nobody.ensures.ok in
-    nobody_over _ _ _ _ _ c.args.seat.now.me c.serve_turn.new.seat.me ok.1.0 ok.1.1 ok.0 ok.1.2 c.requires.ready _ _ _ ok.1.3 c.in-Ok-Nobody.field-0-is
+    nobody_over _ _ _ c.args.seat.now.me c.serve_turn.new.seat.me ok.1.0 ok.1.1 ok.0 ok.1.2 c.requires.ready _ _ _ ok.1.3 c.in-Ok-Nobody.field-0-is
 
 pub returns-in-Ok-Dead-clause-err : goal.returns-in-Ok-Dead-clause-err
 returns-in-Ok-Dead-clause-err g c t =
     let ok = c.in-Ok-Dead.ensures.ok in
-    dead_ends _ _ _ _ _ c.args.seat.now.me c.serve_turn.new.seat.me ok.1.0 ok.1.1 ok.0 ok.1.2 c.requires.ready _ _ _ ok.1.3 _ c.in-Ok-Dead.field-0-is
+    dead_ends _ _ _ c.args.seat.now.me c.serve_turn.new.seat.me ok.1.0 ok.1.1 ok.0 ok.1.2 c.requires.ready _ _ _ ok.1.3 _ c.in-Ok-Dead.field-0-is
 
 pub returns-in-Ok-Dead-clause-over : goal.returns-in-Ok-Dead-clause-over
 returns-in-Ok-Dead-clause-over g c =
     let ok = c.in-Ok-Dead.ensures.ok in
-    dead_over _ _ _ _ _ c.args.seat.now.me c.serve_turn.new.seat.me ok.1.0 ok.1.1 ok.0 ok.1.2 c.requires.ready _ _ _ ok.1.3 c.in-Ok-Dead.field-0-is
+    dead_over _ _ _ c.args.seat.now.me c.serve_turn.new.seat.me ok.1.0 ok.1.1 ok.0 ok.1.2 c.requires.ready _ _ _ ok.1.3 c.in-Ok-Dead.field-0-is
 
 pub returns-in-Err-clause-err : goal.returns-in-Err-clause-err
-returns-in-Err-clause-err g c t coming = ends_waited c.args.seat.now.me c.serve_turn.new.seat.me _ _ _ _ c.args.peers.now.items coming c.requires.ready.resting.rests c.in-Err.ensures.waited.0 c.in-Err.ensures.waited.3
+returns-in-Err-clause-err g c t coming = ends_waited c.args.seat.now.me c.serve_turn.new.seat.me _ _ c.args.peers.now.items coming c.requires.ready.resting.rests c.in-Err.ensures.waited.0
 
 pub returns-in-Err-clause-over : goal.returns-in-Err-clause-over
 returns-in-Err-clause-over g c = over_waited c.args.seat.now.me c.serve_turn.new.seat.me c.in-Err.ensures.left.0 c.in-Err.ensures.waited.0 (formed_free c.args.seat.now.me.0.own c.requires.ready.free)

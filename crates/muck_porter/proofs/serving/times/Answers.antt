@@ -10,30 +10,30 @@ unreachable-requires g c = let ok = c.in-Ok-Done.ensures.ok in time_never _ _ _ 
 pub returns-in-Ok-Timed-clause-ready : goal.returns-in-Ok-Timed-clause-ready
 returns-in-Ok-Timed-clause-ready g c =
     let ok = c.in-Ok-Timed.ensures.ok in
-    time_ready _ _ _ _ _ c.args.seat.now.me c.deed_turn.new.seat.me ok.1.0 ok.1.1 ok.0 ok.1.2 c.requires.ready _ _ c.in-Ok-Timed.field-0-is ok.1.3
+    time_ready _ _ _ c.args.seat.now.me c.deed_turn.new.seat.me ok.1.0 ok.1.1 ok.0 ok.1.2 c.requires.ready _ _ c.in-Ok-Timed.field-0-is ok.1.3
 
 pub returns-in-Ok-Timed-clause-ok : goal.returns-in-Ok-Timed-clause-ok
 returns-in-Ok-Timed-clause-ok g c n =
     let ok = c.in-Ok-Timed.ensures.ok in
-    time_carries _ _ _ _ _ c.args.seat.now.me c.deed_turn.new.seat.me ok.1.0 ok.1.1 ok.0 ok.1.2 c.requires.ready _ _ n c.in-Ok-Timed.field-0-is ok.1.3
+    time_carries _ _ _ c.args.seat.now.me c.deed_turn.new.seat.me ok.1.0 ok.1.1 ok.0 ok.1.2 c.requires.ready _ _ n c.in-Ok-Timed.field-0-is ok.1.3
 
 pub returns-in-Ok-Timed-clause-over : goal.returns-in-Ok-Timed-clause-over
 returns-in-Ok-Timed-clause-over g c =
     let ok = c.in-Ok-Timed.ensures.ok in
-    over_timed _ _ (time_ready _ _ _ _ _ c.args.seat.now.me c.deed_turn.new.seat.me ok.1.0 ok.1.1 ok.0 ok.1.2 c.requires.ready _ _ c.in-Ok-Timed.field-0-is ok.1.3)
+    over_timed _ _ (time_ready _ _ _ c.args.seat.now.me c.deed_turn.new.seat.me ok.1.0 ok.1.1 ok.0 ok.1.2 c.requires.ready _ _ c.in-Ok-Timed.field-0-is ok.1.3)
 
 pub returns-in-Ok-Dead-clause-err : goal.returns-in-Ok-Dead-clause-err
 returns-in-Ok-Dead-clause-err g c n coming =
     let ok = c.in-Ok-Dead.ensures.ok in
-    died_ends _ _ _ _ _ c.args.seat.now.me c.deed_turn.new.seat.me ok.1.0 ok.1.1 ok.0 ok.1.2 c.requires.ready.resting.known n c.args.peers.now.items coming (dead_did _ _ _ _ _ c.args.seat.now.me c.deed_turn.new.seat.me ok.1.0 ok.1.1 ok.0 ok.1.2 c.requires.ready.resting.known Time _ _ c.in-Ok-Dead.field-0-is ok.1.3)
+    died_ends _ _ _ c.args.seat.now.me c.deed_turn.new.seat.me ok.1.0 ok.1.1 ok.0 ok.1.2 c.requires.ready.resting.known n c.args.peers.now.items coming (dead_did _ _ _ c.args.seat.now.me c.deed_turn.new.seat.me ok.1.0 ok.1.1 ok.0 ok.1.2 c.requires.ready.resting.known Time _ _ c.in-Ok-Dead.field-0-is ok.1.3)
 
 pub returns-in-Ok-Dead-clause-over : goal.returns-in-Ok-Dead-clause-over
 returns-in-Ok-Dead-clause-over g c =
     let ok = c.in-Ok-Dead.ensures.ok in
-    died_over _ _ _ _ _ c.args.seat.now.me c.deed_turn.new.seat.me ok.1.0 ok.1.1 ok.0 ok.1.2 c.requires.ready.resting.known c.requires.ready.free (dead_did _ _ _ _ _ c.args.seat.now.me c.deed_turn.new.seat.me ok.1.0 ok.1.1 ok.0 ok.1.2 c.requires.ready.resting.known Time _ _ c.in-Ok-Dead.field-0-is ok.1.3)
+    died_over _ _ _ c.args.seat.now.me c.deed_turn.new.seat.me ok.1.0 ok.1.1 ok.0 ok.1.2 c.requires.ready.resting.known c.requires.ready.free (dead_did _ _ _ c.args.seat.now.me c.deed_turn.new.seat.me ok.1.0 ok.1.1 ok.0 ok.1.2 c.requires.ready.resting.known Time _ _ c.in-Ok-Dead.field-0-is ok.1.3)
 
 pub returns-in-Err-clause-err : goal.returns-in-Err-clause-err
-returns-in-Err-clause-err g c n coming = ends_waited c.args.seat.now.me c.deed_turn.new.seat.me (g.L.Links.told c.args.links.now) n _ _ c.args.peers.now.items coming c.requires.ready.resting.rests c.in-Err.ensures.waited.0 c.in-Err.ensures.waited.2
+returns-in-Err-clause-err g c n coming = ends_waited c.args.seat.now.me c.deed_turn.new.seat.me (g.L.Links.told c.args.links.now) n c.args.peers.now.items coming c.requires.ready.resting.rests c.in-Err.ensures.waited.0
 
 pub returns-in-Err-clause-over : goal.returns-in-Err-clause-over
 returns-in-Err-clause-over g c = over_waited c.args.seat.now.me c.deed_turn.new.seat.me c.in-Err.ensures.left.0 c.in-Err.ensures.waited.0 (formed_free c.args.seat.now.me.0.own c.requires.ready.free)

@@ -20,7 +20,7 @@ pub returns-clause-served : goal.returns-clause-served
 returns-clause-served g c =
     let note = note_of g.D.Disk.moment g.D.Disk.faults c.mount.new.first c.mount.new.second (unbegun_at c.now-began.result c.in-Ok.log) in
     let boots = bootable c.in-Ok.log.chosen.held.world c.in-Ok.ensures.fine in
-    server_ends (g.L.Links.tells c.args.links.now) g.L.Links.told g.L.Links.listening g.C.Clock.answers g.D.Disk.tells g.D.Disk.attached g.D.Disk.seen g.D.Disk.moment g.D.Disk.images g.D.Disk.faults c.args.store.now c.args.workers
+    server_ends (g.L.Links.tells c.args.links.now) g.L.Links.told g.L.Links.listening g.C.Clock.answers g.D.Disk.tells g.D.Disk.attached g.D.Disk.seen g.D.Disk.moment g.D.Disk.images g.D.Disk.faults c.args.store.now c.args.port c.args.workers
     c.in-Ok.log c.now-began.result note c.serve-why.result.0 c.args.links.now c.serve-why.new.links c.args.clock.now c.now-began.new.self c.serve-why.new.clock c.args.first.now c.args.second.now c.mount.new.first c.mount.new.second c.serve-why.new.first c.serve-why.new.second
     c.serve-why.result.1.entries c.serve-why.result.1.notes
     c.in-Ok.ensures.log c.in-Ok.ensures.fine c.in-Ok.ensures.first_name c.in-Ok.ensures.second_name c.in-Ok.ensures.first_file c.in-Ok.ensures.second_file c.now-began.ensures (refl, refl)
@@ -33,7 +33,7 @@ pub returns-clause-disk_fault : goal.returns-clause-disk_fault
 returns-clause-disk_fault g c = λ e.
     let note = note_of g.D.Disk.moment g.D.Disk.faults c.mount.new.first c.mount.new.second (unbegun_at c.now-began.result c.in-Ok.log) in
     let boots = bootable c.in-Ok.log.chosen.held.world c.in-Ok.ensures.fine in
-    disk_failed _ _ _ _ _ _ _ _ _ _ _ _ _ _ _ _ _ _
+    disk_failed _ _ _ _ _ _ _ _ _ _ _ _ _ _ _ _ _ _ _
     (c.serve-why.ensures.served c.in-Ok.log.chosen.held.number note (fresh_begun c.now-began.result c.in-Ok.log note c.in-Ok-awake.world c.in-Ok-awake.ensures.world)
     (λ tells. ready_begun c.now-began.result g.D.Disk.seen g.D.Disk.moment g.D.Disk.images g.D.Disk.faults c.in-Ok.log c.mount.new.first c.mount.new.second boots c.in-Ok-awake.ensures.properties (c.in-Ok.ensures.log tells) c.in-Ok-awake.world c.in-Ok-awake.ensures.world))
     _ _ c.in-Ok.ensures.first_later c.in-Ok.ensures.second_later (sym c.why_served.ensures ∙ e)
@@ -43,7 +43,7 @@ returns-clause-damaged g c = λ file at tells e.
     let note = note_of g.D.Disk.moment g.D.Disk.faults c.mount.new.first c.mount.new.second (unbegun_at c.now-began.result c.in-Ok.log) in
     let boots = bootable c.in-Ok.log.chosen.held.world c.in-Ok.ensures.fine in
     absurd
-    (not_damaged _ _ _ _ _ _ _ _ _ _ _ _ _ _ _ _ _ _
+    (not_damaged _ _ _ _ _ _ _ _ _ _ _ _ _ _ _ _ _ _ _
     (c.serve-why.ensures.served c.in-Ok.log.chosen.held.number note (fresh_begun c.now-began.result c.in-Ok.log note c.in-Ok-awake.world c.in-Ok-awake.ensures.world)
     (λ tells. ready_begun c.now-began.result g.D.Disk.seen g.D.Disk.moment g.D.Disk.images g.D.Disk.faults c.in-Ok.log c.mount.new.first c.mount.new.second boots c.in-Ok-awake.ensures.properties (c.in-Ok.ensures.log tells) c.in-Ok-awake.world c.in-Ok-awake.ensures.world))
     file at tells (sym c.why_served.ensures ∙ e))

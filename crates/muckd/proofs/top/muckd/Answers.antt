@@ -11,7 +11,7 @@ returns-in-Some-Serve-clause-complete_serve g c = λ s served tells ok listen fi
       | inl rose ↦ first rose
       | inr rose ↦ second rose
     ])
-    (λ e. listen (listening_failed (g.L.Links.tells c.args.links.now) g.L.Links.told g.L.Links.listening g.C.Clock.answers g.D.Disk.tells g.D.Disk.attached g.D.Disk.seen g.D.Disk.moment g.D.Disk.images c.in-Some-Serve.store.now c.in-Some-Serve.workers
+    (λ e. listen (listening_failed (g.L.Links.tells c.args.links.now) g.L.Links.told g.L.Links.listening g.C.Clock.answers g.D.Disk.tells g.D.Disk.attached g.D.Disk.seen g.D.Disk.moment g.D.Disk.images c.in-Some-Serve.store.now c.in-Some-Serve.port c.in-Some-Serve.workers
     c.serve_store-why.result.0 c.args.links.now c.serve_store-why.new.links c.args.clock.now c.serve_store-why.new.clock c.args.first.now c.args.second.now c.serve_store-why.new.first c.serve_store-why.new.second
     c.serve_store-why.result.1.entries c.serve_store-why.result.1.notes _ c.serve_store-why.ensures.served e))
     (λ file at e. let both = sym ok ∙ c.serve_store-why.ensures.damaged file at tells e in cc)
