@@ -14,6 +14,8 @@ use Rattle.muck_script.specs.Lines.{is_line_feed}
 use Rattle.muck_script.specs.Story.{Dumped, stored, failed, next_outcome, dump_entries, outcomes_of, told, text_of, lines_story, story, transcript}
 use Rattle.muck_run.specs.Drill.{describing, round, rounds, summary, objects_in, drill_script, drill_text, IsDrilled, HasDrilled}
 use Rattle.muck_run.specs.inner.Drills.{fresh, IsPlayedAs, IsDrilledAs}
+use Rattle.spec_live.specs.Boards.{early_board}
+use Rattle.muck_run.specs.inner.Opens.{all_within, Opens}
 use Rattle.muck_run.specs.inner.Plays.{Plays}
 use Rattle.muck_run.specs.declared.why.Why.TheVariants.{Fine, WriteFault}
 use Rattle.muck_run.proofs.Parts.{text_of-append}
@@ -73,6 +75,10 @@ rounds_end a b n count e le ge = let same : n ≡ count = omega (arith, le, ge) 
 pub fresh_alive : (h : History) → h ≡ fresh → (now h).dead ≡ false
 unfolding now starting booted
 fresh_alive h is = ap (λ (x : History). (now x).dead) is
+
+pub fresh_opens : (h : History) → h ≡ fresh → Opens 0 h
+unfolding starting booted early_board
+fresh_opens h is = record { nobody = ap (λ (x : History). x.start.live.board.connections) is; opened = ap (λ (x : History). all_within 0 x.entries) is }
 
 pub fresh_idle : (h : History) → h ≡ fresh → (now h).dumps.running ≡ None
 unfolding now starting booted

@@ -2,6 +2,7 @@ pub mod Parts
 pub mod Exits
 pub mod Turns
 pub mod Acts
+pub mod Opening
 pub mod Towards
 pub mod Whole
 pub mod Answered

@@ -34,6 +34,8 @@ use Rattle.spec_live.specs.Boards.{early_board}
 use Rattle.spec_live.specs.Consistent.{IsConsistent}
 use Rattle.muck_model.specs.declared.event.Entry.{Entry as Happened}
 use Rattle.muck_run.specs.inner.Dumps.{note_of}
+use Rattle.spec_live.specs.Boards.{early_board}
+use Rattle.muck_run.specs.inner.Opens.{all_within, Opens}
 use Rattle.muck_run.specs.inner.Ends.{IsBootable, booted_at, unbegun_at, begun_at}
 use Rattle.muck_run.proofs.Whole.{begun}
 
@@ -107,6 +109,10 @@ hangs began kept is = (whole_hangs kept.objects is.few is.whole).world
 pub begins_alive : (began : ℕ) (log : LogState) (note : Note) (h : History) → h ≡ begun_at began log note → (now h).dead ≡ false
 unfolding now booted
 begins_alive began log note h is = ap (λ (x : History). (now x).dead) is
+
+pub begins_opens : (began : ℕ) (log : LogState) (note : Note) (h : History) → h ≡ begun_at began log note → Opens 0 h
+unfolding booted early_board
+begins_opens began log note h is = record { nobody = ap (λ (x : History). x.start.live.board.connections) is; opened = ap (λ (x : History). all_within 0 x.entries) is }
 
 pub begins_idle : (began : ℕ) (log : LogState) (note : Note) (h : History) → h ≡ begun_at began log note → (now h).dumps.running ≡ None
 unfolding now booted

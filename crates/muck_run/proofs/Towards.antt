@@ -1,16 +1,18 @@
 -- A run that is on its way.
+use Rattle.std.specs.Prelude.{is_some}
 use Rattle.std.proofs.Common.{◌≡◌, ℕ, ◌+◌, ◌<◌, ◌≤◌, true, false, List, [], ◌∷◌, ◌++◌, length, drop, get_or, refl, sym, ◌∙◌, ap, arith, Option, suc, zero, add-one}
 use Rattle.std.proofs.lemmas.Bool.{cond-true, cond-false}
 use Rattle.std.proofs.Math.Seq.{drop-cons}
 use Rattle.std.proofs.lemmas.List.{drop_all}
 use Rattle.muck_model.specs.declared.event.Entry.{Entry}
 use Rattle.muck_model.specs.declared.event.Event.TheVariants.{Halt}
-use Rattle.spec_events.specs.World.{World}
+use Rattle.spec_events.specs.World.{World, connection}
 use Rattle.spec_live.specs.Connections.{connections_most}
 use Rattle.spec_events.specs.Histories.{History, now, entered, by_porter}
 use Rattle.muck_script.specs.declared.act.Act.{Act}
 use Rattle.muck_script.specs.Story.{Dumped, Part, outcomes_of, plain, both, taken, parted, served, line_story, lines_story, told}
 use Rattle.muck_run.specs.inner.Plays.{Plays, Breaks}
+use Rattle.muck_run.proofs.Opening.{served_nothing}
 use Rattle.muck_run.proofs.Parts.{plays_both, plays_nothing, plays_one, appends_nothing, breaks_first, breaks_second}
 
 -- What does the rest from here does the whole from the start, and what breaks off the rest breaks off the whole. The
@@ -64,7 +66,7 @@ towards_breaks whole rest first others ending h k l a b c t e p = t.break ending
 towards_ends : (whole rest : Part) (h k : History) (a b : Option (List ℕ)) → Towards whole rest h k a b → ((os : List Dumped) → rest os (now k) ≡ []) → Plays whole h k a b
 towards_ends whole rest h k a b t e = t.finish k b (plays_nothing rest k k b (λ later. e later) refl t.alive)
 
--- the connections that are left to serve
+-- the connections that are left to serve; those that aren't there need nothing
 pub record IsServing (whole : Part) (d : ℕ) (h k : History) (a b : Option (List ℕ)) : Type 0 where
   pub left : ℕ
   pub all : left + d ≡ 257
@@ -87,12 +89,10 @@ serving_breaks whole d ending h k l a b c s less p = goes s.left s.all s.towards
   goes zero e t = absurd (omega arith)
   goes (suc n) e t = towards_breaks whole (served (suc n) d) (both (plain (taken d)) (plain (parted d))) (served n (d + 1)) ending h k l a b c t (λ os. refl) p
 
-pub serving_ends : (whole : Part) (d : ℕ) (h k : History) (a b : Option (List ℕ)) → IsServing whole d h k a b → 257 ≤ d → Plays whole h k a b
-unfolding served
-serving_ends whole d h k a b s over =
+pub serving_ends : (whole : Part) (d : ℕ) (h k : History) (a b : Option (List ℕ)) → IsServing whole d h k a b → ((n : ℕ) → d ≤ n → n < 257 → is_some (connection n (now k)) ≡ false) → Plays whole h k a b
+serving_ends whole d h k a b s none =
     let all = s.all in
-    let z : s.left ≡ 0 = omega arith in
-    towards_ends whole (served s.left d) h k a b s.towards (λ os. ap (λ n. served n d os (now k)) z)
+    towards_ends whole (served s.left d) h k a b s.towards (λ os. served_nothing s.left d os (now k) (λ n from below. none n from (omega arith)))
 
 drop_one : (acts : List Act) (at : ℕ) (act : Act) → at < length acts → act ≡ get_or acts at act → drop at acts ≡ act ∷ drop (at + 1) acts
 drop_one acts at act less is = drop-cons acts at act less ∙ ap (λ x. x ∷ drop (suc at) acts) (sym is) ∙ rw (add-one at) refl

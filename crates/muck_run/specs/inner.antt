@@ -2,3 +2,4 @@ pub mod Plays
 pub mod Dumps
 pub mod Ends
 pub mod Drills
+pub mod Opens

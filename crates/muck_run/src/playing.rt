@@ -1,11 +1,13 @@
 // A run of a script: what it makes happen in the world, and what is written of it.
-ghost use Rattle.std.specs.Prelude.{◌≡◌, ◌≤◌, IfOk, OnOk, IsErrOf, OnErr, ◌||◌, is_some, length, vec_len, true, false, Option, None, List, ℕ};
+ghost use Rattle.std.specs.Prelude.{◌≡◌, ◌<◌, ◌≤◌, IfOk, OnOk, IsErrOf, OnErr, ◌||◌, is_some, length, vec_len, true, false, Option, None, List, ℕ};
 ghost use Rattle.muck_io.specs.Faults.{Rose};
 ghost use Rattle.spec_events.specs.Histories.{now};
 ghost use Rattle.spec_live.specs.Connections.{connections_most};
 ghost use Rattle.muck_script.specs.Story.{acted, turns, turns_most, taken, parted, plain, both, served, asks_dump, asked_dump, line_story, lines_story};
 ghost use Rattle.spec_dumps.specs.Holding.{Quietly, Rests};
+ghost use Rattle.spec_events.specs.World.{connection};
 ghost use Rattle.muck_run.specs.inner.Dumps.{Held, IsNotedOn};
+ghost use Rattle.muck_run.specs.inner.Opens.{asks_within, Opens};
 ghost use Rattle.muck_run.specs.inner.Plays.{PlaysOrBreaks};
 
 use crate::dumping::{Store, dump};
@@ -187,15 +189,25 @@ fn serve_one<K: Sink>(
     }
 }
 
-// Serves each connection in rising order.
+// Nobody is there above the greatest number that a line has asked for. (The world tells that what happened in it was lawful.)
+fn nobody_above(world: &World, most: u32)
+    requires opened { Opens most world.now }
+    ensures { (d : ℕ) → most < d → is_some (connection d (now world.now)) ≡ false }
+{
+    let _ = world.is_dead();
+}
+
+// Serves each connection in rising order; none is above `most`.
 fn serve_all<K: Sink>(
     alloc: Global,
     world: &mut World,
+    most: u32,
     buf: &mut [u8],
     out: &mut K,
 ) -> Result<(), RunFault>
     requires room { 131090 ≤ length buf.old }
     requires alive { (now world.old).dead ≡ false }
+    requires opened { Opens most world.old }
     ensures plays { PlaysOrBreaks (served connections_most 1) world.old world.new (K.written out.old) (K.written out.new) result }
     ensures quiet { Quietly world.old world.new }
     ensures fine { OnOk result (K.faults out.new ≡ K.faults out.old) }
@@ -203,12 +215,13 @@ fn serve_all<K: Sink>(
     ensures write { IsErrOf result RunFault.WriteFault → Rose (K.faults out.old) (K.faults out.new) }
     ensures memory { IsErrOf result RunFault.NoMemory → K.faults out.new ≡ K.faults out.old }
 {
-    for d in 1..257u32 {
+    for d in 1..most.min(256) + 1 {
         match serve_one(alloc, world, d, buf, out) {
             Ok(()) => {}
             Err(fault) => return Err(fault),
         }
     }
+    nobody_above(world, most);
     Ok(())
 }
 
@@ -230,6 +243,17 @@ fn act_and_turn<K: Sink>(
     match act(alloc, world, asked, out) {
         Ok(()) => turn(world),
         Err(fault) => Err(fault),
+    }
+}
+
+// The greatest number of a connection that the lines so far have asked for, with this line.
+fn greatest(most: u32, line: &Act) -> u32
+    ensures later { most ≤ result }
+    ensures within { asks_within result line.now ≡ true }
+{
+    match line {
+        Act::Open(d) => most.max(*d),
+        _ => most,
     }
 }
 
@@ -279,7 +303,7 @@ fn make_asked<D: Disk>(
     Ok(())
 }
 
-// Does a line of the script, and what follows it.
+// Does a line of the script, and what follows it; no connection is above `most`.
 fn play_line<K: Sink, D: Disk>(
     alloc: Global,
     world: &mut World,
@@ -287,6 +311,7 @@ fn play_line<K: Sink, D: Disk>(
     first: &mut D,
     second: &mut D,
     line: &Act,
+    most: u32,
     buf: &mut [u8],
     out: &mut K,
 ) -> Result<(), RunFault>
@@ -294,6 +319,8 @@ fn play_line<K: Sink, D: Disk>(
     requires alive { (now world.old).dead ≡ false }
     requires idle { (now world.old).dumps.running ≡ None }
     requires mounted { D.tells ≡ true → (mounted : ℕ) × Rests D.seen D.moment D.images D.faults store.old.log first.old second.old mounted world.old }
+    requires opened { Opens most world.old }
+    requires asks { asks_within most line.now ≡ true }
     ensures plays { PlaysOrBreaks (line_story line.now) world.old world.new (K.written out.old) (K.written out.new) result }
     ensures notes { IsNotedOn world.old world.new }
     ensures fine { OnOk result (K.faults out.new ≡ K.faults out.old) }
@@ -305,10 +332,11 @@ fn play_line<K: Sink, D: Disk>(
         → Held D.seen D.moment D.images D.faults store.new.log first.new second.new mounted world.new result }
     ensures first_later { D.faults first.old ≤ D.faults first.new }
     ensures second_later { D.faults second.old ≤ D.faults second.new }
+    ensures opened { OnOk result (Opens most world.new) }
 {
     act_and_turn(alloc, world, line, out)?;
     make_asked(alloc, world, store, first, second, line)?;
-    serve_all(alloc, world, buf, out)
+    serve_all(alloc, world, most, buf, out)
 }
 
 /// Plays the lines of a script into the world: what each of them asks for happens, the lines that wait are done and the processes run,
@@ -331,6 +359,7 @@ pub fn play<K: Sink, D: Disk>(
     requires alive { (now world.old).dead ≡ false }
     requires idle { (now world.old).dumps.running ≡ None }
     requires mounted { D.tells ≡ true → (mounted : ℕ) × Rests D.seen D.moment D.images D.faults store.old.log first.old second.old mounted world.old }
+    requires opened { Opens 0 world.old }
     ensures plays { PlaysOrBreaks (lines_story acts.now) world.old world.new (K.written out.old) (K.written out.new) result }
     ensures notes { IsNotedOn world.old world.new }
     ensures fine { OnOk result (K.faults out.new ≡ K.faults out.old) }
@@ -343,11 +372,13 @@ pub fn play<K: Sink, D: Disk>(
     ensures first_later { D.faults first.old ≤ D.faults first.new }
     ensures second_later { D.faults second.old ≤ D.faults second.new }
 {
+    let mut most = 0;
     for act in acts {
         if world.is_stopping() {
             return Ok(());
         }
-        play_line(alloc, world, store, first, second, act, buf, out)?;
+        most = greatest(most, act);
+        play_line(alloc, world, store, first, second, act, most, buf, out)?;
     }
     if !world.is_stopping() {
         world.halt();

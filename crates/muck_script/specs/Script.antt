@@ -1,10 +1,11 @@
 -- The grammar of a script.
-use Rattle.std.specs.Prelude.{ℕ, ◌+◌, Bool, ◌&&◌, ◌==◌, nat_lt, nat_le, if◌then◌else◌, List, [], ◌∷◌, length, take, Option, Some, None, Result, Ok, Err, codes}
+use Rattle.std.specs.Prelude.{ℕ, ◌+◌, ◌==◌, nat_lt, if◌then◌else◌, List, [], ◌∷◌, ◌++◌, length, take, Option, Some, None, Result, Ok, Err, codes}
 use Rattle.std.specs.Option.{option_map}
 use Rattle.std.specs.Str.{bytes_eq}
-use Rattle.std.specs.List.{list_any, list_all}
+use Rattle.std.specs.List.{list_any, slice_get}
 use Rattle.muck_model.specs.Decimal.{decimal_of}
 use Rattle.spec_commands.specs.Texts.{is_space, first_word, other_words}
+use Rattle.muck_links.specs.Lines.{lines}
 use Rattle.muck_script.specs.declared.act.Act.{Act}
 use Rattle.muck_script.specs.declared.act.Act.TheVariants.{Nothing, Open, Send, Close, Wait, Dump}
 use Rattle.muck_script.specs.Lines.{lines_of}
@@ -24,23 +25,18 @@ wait_most = 86400
 abbrev pub seconds_of : List ℕ → Option ℕ
 seconds_of text = decimal_of wait_most text
 
-abbrev pub is_printable : ℕ → Bool
-is_printable b = nat_le 32 b && nat_le b 126
+-- the line that comes where a link carries this text and byte 10; there is none where the text ends inside a telnet command
+abbrev pub line_of : List ℕ → Option (List ℕ)
+line_of text = slice_get (lines (text ++ 10 ∷ [])) 0
 
--- the most bytes of a line that comes on a connection
-abbrev pub input_most : ℕ
-input_most = 2048
-
-abbrev pub is_input : List ℕ → Bool
-is_input text = list_all is_printable text && nat_le (length text) input_most
-
-abbrev pub send_to : List ℕ → Option ℕ → Option Act
-send_to text None = None
-send_to text (Some d) = if is_input text then Some (Send d text) else None
+-- that line comes on the connection; where there is none, nothing is asked
+abbrev pub sent : Option (List ℕ) → ℕ → Act
+sent None d = Nothing
+sent (Some line) d = Send d line
 
 -- a number, one space, and the text
 abbrev pub sending : List ℕ → Option Act
-sending rest = if list_any is_space rest then send_to (other_words rest) (number_of (first_word rest)) else None
+sending rest = if list_any is_space rest then option_map (sent (line_of (other_words rest))) (number_of (first_word rest)) else None
 
 abbrev pub asked : List ℕ → Option Act
 asked line =

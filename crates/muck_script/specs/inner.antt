@@ -1,3 +1,4 @@
+pub mod Plain
 pub mod Reading
 pub mod Settling
 pub mod Rows

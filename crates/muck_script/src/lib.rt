@@ -5,6 +5,7 @@ mod act;
 mod lines;
 mod parsing;
 mod script;
+mod sending;
 mod shown;
 mod turns;
 

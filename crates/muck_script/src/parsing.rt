@@ -1,11 +1,12 @@
 // What one line of a script asks for.
-ghost use Rattle.std.specs.Prelude.{◌≡◌, ◌==◌, IfOk, Some};
-ghost use Rattle.std.specs.List.{list_any, list_all};
+ghost use Rattle.std.specs.Prelude.{◌≡◌, ◌==◌, IfOk};
+ghost use Rattle.std.specs.List.{list_any};
 ghost use Rattle.spec_commands.specs.Texts.{is_space};
-ghost use Rattle.muck_script.specs.Script.{act_of, asked, sending, send_to, number_of, seconds_of, is_printable, is_input};
+ghost use Rattle.muck_script.specs.Script.{act_of, asked, sending, line_of, sent, number_of, seconds_of};
 
-use crate::{Act, INPUT_MOST, WAIT_MOST};
-use muck_model::{Line, LineFault, NoMemory, decimal};
+use crate::sending::line_of;
+use crate::{Act, WAIT_MOST};
+use muck_model::{NoMemory, decimal};
 use spec_commands::cut_word;
 use std::alloc::Global;
 
@@ -55,40 +56,24 @@ fn sending(alloc: Global, rest: &[u8]) -> Result<Option<Act>, NoMemory>
     let (number, text) = cut_word(rest);
     match number_of(number) {
         None => Ok(None),
-        Some(d) => send_to(alloc, text, d),
+        Some(d) => Ok(Some(sent(alloc, text, d)?)),
     }
 }
 
-fn send_to(alloc: Global, text: &[u8], d: u32) -> Result<Option<Act>, NoMemory>
-    ensures { IfOk result (λ act. act ≡ send_to text.now (Some d)) }
+// That the line of this text comes.
+fn sent(alloc: Global, text: &[u8], d: u32) -> Result<Act, NoMemory>
+    ensures { IfOk result (λ act. act ≡ sent (line_of text.now) d) }
 {
-    if !is_input(text) {
-        return Ok(None);
-    }
-    match Line::new(alloc, text) {
-        Ok(line) => Ok(Some(Act::Send(d, line))),
-        Err(LineFault::NotLine { at: _ }) => Ok(None),
-        Err(LineFault::NoMemory) => Err(NoMemory),
-    }
+    Ok(match line_of(alloc, text)? {
+        Some(line) => Act::Send(d, line),
+        None => Act::Nothing,
+    })
 }
 
 fn has_space(text: &[u8]) -> bool
     ensures { result ≡ list_any is_space text.now }
 {
     text.iter().any(|b| *b == b' ')
-}
-
-fn are_printable(text: &[u8]) -> bool
-    ensures { result ≡ list_all is_printable text.now }
-{
-    text.iter().all(|b| *b >= 32 && *b <= 126)
-}
-
-// Whether a text may come on a connection.
-fn is_input(text: &[u8]) -> bool
-    ensures { result ≡ is_input text.now }
-{
-    are_printable(text) && text.len() <= INPUT_MOST
 }
 
 // The number of a connection, from 1 to 256.

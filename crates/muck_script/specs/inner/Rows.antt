@@ -3,6 +3,7 @@ use Rattle.std.specs.Prelude.{◌≡◌, [], ◌∷◌, ◌++◌, refl, codes, S
 use Rattle.std.specs.Fmt.{digits}
 use Rattle.muck_model.specs.Decimal.{decimal_of}
 use Rattle.muck_script.specs.declared.act.Act.TheVariants.{Nothing, Open, Send, Close, Wait, Dump}
+use Rattle.muck_links.specs.Lines.{line_most, lines}
 use Rattle.muck_script.specs.Lines.{lines_of}
 use Rattle.spec_live.specs.Output.{sent_lines, queue_most, bytes_of, lines_bytes, line_sent, lines_sent, sent, taken, lines_taken}
 use Rattle.spec_live.specs.Boards.{early_board, opened, closed, line_added, bytes_taken, told_one, leaving_one}
@@ -67,31 +68,46 @@ unfolding act_of decimal_of
 open_what_row = refl
 
 send_row : act_of (codes "send 1 \"hi  you ") ≡ Some (Send 1 (codes "\"hi  you "))
-unfolding act_of decimal_of
+unfolding act_of decimal_of lines line_most
 send_row = refl
 
 send_empty_row : act_of (codes "send 1 ") ≡ Some (Send 1 [])
-unfolding act_of decimal_of
+unfolding act_of decimal_of lines line_most
 send_empty_row = refl
 
 send_nothing_row : act_of (codes "send 1") ≡ None
 unfolding act_of decimal_of
 send_nothing_row = refl
 
-send_tab_row : act_of (codes "send 1 a" ++ 9 ∷ codes "b") ≡ None
-unfolding act_of decimal_of
+-- bytes that aren't shown are dropped, and telnet commands
+send_tab_row : act_of (codes "send 1 a" ++ 9 ∷ codes "b" ++ 200 ∷ 127 ∷ codes "c" ++ 13 ∷ []) ≡ Some (Send 1 (codes "abc"))
+unfolding act_of decimal_of lines line_most
 send_tab_row = refl
 
-send_return_row : act_of (codes "send 1 a" ++ 13 ∷ []) ≡ None
-unfolding act_of decimal_of
-send_return_row = refl
+send_telnet_row : act_of (codes "send 1 a" ++ 255 ∷ 253 ∷ 3 ∷ codes "b" ++ 255 ∷ 250 ∷ codes "no" ++ 255 ∷ 240 ∷ codes "c" ++ 255 ∷ 255 ∷ codes "d") ≡ Some (Send 1 (codes "abcd"))
+unfolding act_of decimal_of lines line_most
+send_telnet_row = refl
+
+-- a text that ends inside a telnet command has no line
+send_inside_row : act_of (codes "send 1 look" ++ 255 ∷ []) ≡ Some Nothing
+unfolding act_of decimal_of lines line_most
+send_inside_row = refl
+
+send_inside_choice_row : act_of (codes "send 1 look" ++ 255 ∷ 253 ∷ []) ≡ Some Nothing
+unfolding act_of decimal_of lines line_most
+send_inside_choice_row = refl
+
+send_inside_long_row : act_of (codes "send 1 look" ++ 255 ∷ 250 ∷ codes "no" ++ 255 ∷ []) ≡ Some Nothing
+unfolding act_of decimal_of lines line_most
+send_inside_long_row = refl
 
 send_full_row : act_of (codes "send 2 " ++ replicate 2048 97) ≡ Some (Send 2 (replicate 2048 97))
-unfolding act_of decimal_of
+unfolding act_of decimal_of lines line_most
 send_full_row = refl
 
-send_long_row : act_of (codes "send 2 " ++ replicate 2049 97) ≡ None
-unfolding act_of decimal_of
+-- what passes 2,048 bytes is cut
+send_long_row : act_of (codes "send 2 " ++ replicate 2048 97 ++ 9 ∷ codes "b") ≡ Some (Send 2 (replicate 2048 97))
+unfolding act_of decimal_of lines line_most
 send_long_row = refl
 
 close_row : act_of (codes "close 256") ≡ Some (Close 256)

@@ -3,6 +3,7 @@ use Rattle.muck_script.specs.Story.{lines_story}
 use Rattle.spec_dumps.proofs.Quiet.{quiet_one}
 use Rattle.spec_dumps.proofs.Idle.{idle_quiet}
 use Rattle.muck_run.proofs.Lining.{held_resting, held_quiet}
+use Rattle.muck_run.proofs.Opening.{opens_more}
 use Rattle.muck_run.proofs.Noted.{noted_same, noted_one, noted_then}
 use Rattle.muck_run.proofs.Towards.{towards_begins, playing_stopped, playing_goes_on, playing_halted, playing_breaks}
 use Rattle.muck_run.proofs.playing.play.Goals as goal
@@ -10,6 +11,7 @@ use Rattle.muck_run.proofs.playing.play.Goals as goal
 pub loop-act-init : goal.loop-act-init
 loop-act-init g c = record {
   playing = towards_begins (lines_story c.args.acts.now) _ _ c.requires.alive;
+  opened = c.requires.opened;
   notes = noted_same _ _ refl;
   fine = refl;
   idle = c.requires.idle;
@@ -21,12 +23,16 @@ loop-act-init g c = record {
 pub play_line-requires-clause-alive : goal.play_line-requires-clause-alive
 play_line-requires-clause-alive g c = c.loop-act.invariant.playing.alive
 
+pub play_line-requires-clause-opened : goal.play_line-requires-clause-opened
+play_line-requires-clause-opened g c = opens_more _ _ _ c.greatest.ensures.later c.loop-act.invariant.opened
+
 pub play_line-requires-clause-mounted : goal.play_line-requires-clause-mounted
 play_line-requires-clause-mounted g c = λ tells. let r = c.requires.mounted tells in (r.0, c.loop-act.invariant.rests r.0 tells r.1)
 
 pub loop-act-preserved : goal.loop-act-preserved
 loop-act-preserved g c = record {
   playing = playing_goes_on _ _ _ _ _ _ _ _ _ c.loop-act-test.true c.act-item.is (sym (c.is_stopping.ensures c.loop-act.invariant.playing.alive) ∙ c.if-is_stopping.false) c.loop-act.invariant.playing c.in_ok-play_line.ensures.plays;
+  opened = c.in_ok-play_line.ensures.opened;
   notes = noted_then _ _ _ c.loop-act.invariant.notes c.in_ok-play_line.ensures.notes;
   fine = c.in_ok-play_line.ensures.fine ∙ c.loop-act.invariant.fine;
   idle = c.in_ok-play_line.ensures.idle (λ e. cc);

@@ -3,12 +3,14 @@ use Rattle.spec_dumps.specs.Holding.{Rests}
 use Rattle.spec_events.specs.Histories.{now}
 use Rattle.muck_script.specs.Story.{lines_story}
 use Rattle.muck_run.specs.inner.Dumps.{IsNotedOn}
+use Rattle.muck_run.specs.inner.Opens.{Opens}
 use Rattle.muck_run.proofs.Towards.{Towards}
 use Rattle.muck_run.proofs.playing.play.Given as goal
 
 abbrev pub invariant-loop-act : goal.invariant-loop-act
 invariant-loop-act g l = record {
   playing : Towards (lines_story l.acts) (lines_story (drop l.act-index l.acts)) l.fn.world l.world (g.K.Sink.written l.fn.out) (g.K.Sink.written l.out);
+  opened : Opens l.most l.world;
   notes : IsNotedOn l.fn.world l.world;
   fine : g.K.Sink.faults l.out ≡ g.K.Sink.faults l.fn.out;
   idle : (now l.world).dumps.running ≡ None;

@@ -1,7 +1,10 @@
 use Rattle.std.proofs.Common.{◌≡◌, ◌∙◌, None, Err, rules}
+use Rattle.spec_live.specs.Connections.{connections_most}
+use Rattle.muck_script.specs.Story.{turns_most}
 use Rattle.spec_dumps.proofs.Quiet.{rests_quiet}
 use Rattle.spec_dumps.proofs.Idle.{idle_quiet}
 use Rattle.muck_run.proofs.Lining.{line_breaks, line_breaks_dumping, line_serves, held_quiet}
+use Rattle.muck_run.proofs.Opening.{opens_plays, opens_if, turned_within, asked_within, served_within}
 use Rattle.muck_run.proofs.Noted.{noted_quiet, noted_then}
 use Rattle.muck_run.proofs.playing.play_line.Goals as goal
 
@@ -19,6 +22,11 @@ make_asked-requires-clause-mounted g c =
 
 pub serve_all-requires-clause-alive : goal.serve_all-requires-clause-alive
 serve_all-requires-clause-alive g c = (c.in_ok-make_asked.ensures.plays None).alive
+
+pub serve_all-requires-clause-opened : goal.serve_all-requires-clause-opened
+serve_all-requires-clause-opened g c =
+    opens_plays _ _ _ _ _ _ (asked_within c.args.most c.args.line.now) (c.in_ok-make_asked.ensures.plays None)
+    (opens_plays _ _ _ _ _ _ (turned_within c.args.most c.args.line.now turns_most c.requires.asks) c.in_ok-act_and_turn.ensures.plays c.requires.opened)
 
 -- what follows the line broke off
 
@@ -81,3 +89,9 @@ returns-in_err-make_asked-clause-notes g c = noted_then _ _ _ (noted_quiet _ _ c
 
 pub returns-clause-notes : goal.returns-clause-notes
 returns-clause-notes g c = noted_then _ _ _ (noted_quiet _ _ c.in_ok-act_and_turn.ensures.quiet) (noted_then _ _ _ c.in_ok-make_asked.ensures.notes (noted_quiet _ _ c.serve_all.ensures.quiet))
+
+pub returns-clause-opened : goal.returns-clause-opened
+returns-clause-opened g c =
+    opens_if _ _ _ _ _ _ c.serve_all.result (served_within c.args.most connections_most 1) c.serve_all.ensures.plays
+    (opens_plays _ _ _ _ _ _ (asked_within c.args.most c.args.line.now) (c.in_ok-make_asked.ensures.plays None)
+    (opens_plays _ _ _ _ _ _ (turned_within c.args.most c.args.line.now turns_most c.requires.asks) c.in_ok-act_and_turn.ensures.plays c.requires.opened))

@@ -1,20 +1,22 @@
 use Rattle.std.proofs.Common.{refl, ◌∙◌}
 use Rattle.spec_dumps.proofs.Quiet.{quiet_nothing, quiet_on}
+use Rattle.muck_run.proofs.Opening.{one_within, opens_plays, above_min}
 use Rattle.muck_run.proofs.Towards.{serving_begins, serving_goes_on, serving_ends, serving_breaks}
 use Rattle.muck_run.proofs.playing.serve_all.Goals as goal
 
 pub loop-d-init : goal.loop-d-init
-loop-d-init g c = record { serving = serving_begins _ _ c.requires.alive; quiet = quiet_nothing _ _ refl; fine = refl }
+loop-d-init g c = record { serving = serving_begins _ _ c.requires.alive; quiet = quiet_nothing _ _ refl; opened = c.requires.opened; fine = refl }
 
 pub loop-d-preserved : goal.loop-d-preserved
 loop-d-preserved g c = record {
   serving = serving_goes_on _ _ _ _ _ _ _ _ c.loop-d.invariant.serving c.loop-d-test.true c.in-Ok.ensures.plays;
   quiet = quiet_on _ _ _ c.loop-d.invariant.quiet c.in-Ok.ensures.quiet;
+  opened = opens_plays _ _ _ _ _ _ (one_within c.args.most c.loop-d.d) c.in-Ok.ensures.plays c.loop-d.invariant.opened;
   fine = c.in-Ok.ensures.fine ∙ c.loop-d.invariant.fine;
 }
 
 pub returns-clause-plays : goal.returns-clause-plays
-returns-clause-plays g c = serving_ends _ _ _ _ _ _ c.loop-d.invariant.serving c.loop-d-test.false
+returns-clause-plays g c = serving_ends _ _ _ _ _ _ c.loop-d.invariant.serving (λ n from below. c.nobody_above.ensures n (above_min c.args.most _ n c.loop-d-test.false from below))
 
 pub returns-in-Err-clause-plays : goal.returns-in-Err-clause-plays
 returns-in-Err-clause-plays g c = serving_breaks _ _ _ _ _ _ _ _ _ c.loop-d.invariant.serving c.loop-d-test.true c.in-Err.ensures.plays

@@ -5,7 +5,7 @@ use Rattle.muck_run.proofs.Called.{dump_may, not_write, either_since}
 use Rattle.muck_run.proofs.Closing.{halted_lives}
 use Rattle.muck_run.proofs.Noted.{noted_then, noted_quiet}
 use Rattle.muck_run.proofs.Played.{played, died, broke}
-use Rattle.muck_run.proofs.Started.{bootable, begins_alive, begins_idle, rests_started}
+use Rattle.muck_run.proofs.Started.{bootable, begins_alive, begins_idle, begins_opens, rests_started}
 use Rattle.muck_run.proofs.Whole.{broke_by}
 use Rattle.muck_run.proofs.running.run_acts.Goals as goal
 
@@ -17,6 +17,9 @@ play-requires-clause-alive g c = begins_alive 0 c.args.log _ _ c.in-Ok.ensures.w
 
 pub play-requires-clause-idle : goal.play-requires-clause-idle
 play-requires-clause-idle g c = begins_idle 0 c.args.log _ _ c.in-Ok.ensures.world
+
+pub play-requires-clause-opened : goal.play-requires-clause-opened
+play-requires-clause-opened g c = begins_opens 0 c.args.log _ _ c.in-Ok.ensures.world
 
 pub play-requires-clause-mounted : goal.play-requires-clause-mounted
 play-requires-clause-mounted g c = λ tells. (c.args.log.chosen.held.number, rests_started 0 _ _ _ _ _ _ _ (bootable _ c.requires.fine) c.in-Ok.ensures.properties (c.requires.mounted tells) _ _ c.new-store.ensures c.in-Ok.ensures.world)
