@@ -36,10 +36,13 @@ fn play<W: Threads + Wait + Sync, D: Disk + Send, R: Rest + Sync>(
     first: &mut D,
     second: &mut D,
 ) -> Result<Why, NoMemory> {
-    let Ok(log) = mount(alloc, "w", first, second) else {
+    let log = match mount(alloc, "w", first, second) {
+        Ok(log) => log,
+        Err(_) => return Err(NoMemory),
+    };
+    let Ok(world) = awake(alloc, &log, first, second, 0) else {
         return Err(NoMemory);
     };
-    let world = awake(alloc, &log, first, second, 0)?;
     let (why, _) = serve(
         rt,
         alloc,
