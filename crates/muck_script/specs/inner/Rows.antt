@@ -148,7 +148,7 @@ unfolding act_of decimal_of script_most
 script_row = refl
 
 whole_row : script_of (codes "open 1" ++ 10 ∷ 10 ∷ codes "send 1 x") ≡ Ok (Open 1 ∷ Nothing ∷ Send 1 (codes "x") ∷ [])
-unfolding act_of decimal_of script_most
+unfolding act_of decimal_of script_most lines line_most
 whole_row = refl
 
 -- a script of one connection
