@@ -1,6 +1,6 @@
 -- No connection is there above the greatest number that a line has asked for.
 use Rattle.std.proofs.Common.{◌≡◌, ℕ, zero, suc, ◌<◌, ◌≤◌, ◌+◌, Bool, true, false, ◌&&◌, cond, List, [], ◌∷◌, ◌++◌, length, refl, sym, ap, ◌∙◌, arith, Option, Some, None, Result, Ok, Err}
-use Rattle.std.specs.Prelude.{OnOk, is_some, nat_le, nat_lt, min, ◌==◌}
+use Rattle.std.specs.Prelude.{OnOk, is_some, nat_le, nat_lt, min, ◌==◌, ◌||◌}
 use Rattle.std.specs.List.{list_all}
 use Rattle.std.specs.Option.{option_map_or}
 use Rattle.std.proofs.lemmas.List.Folds.{list_all-append}
@@ -9,7 +9,8 @@ use Rattle.muck_links.specs.Keyed.{altered, latest}
 use Rattle.muck_model.specs.declared.event.Entry.{Entry}
 use Rattle.muck_model.specs.declared.event.Event.{Event}
 use Rattle.muck_model.specs.declared.event.Event.TheVariants.{Opened, Input, Closed, Take, Moment}
-use Rattle.spec_live.specs.Connections.{Connection, bytes_of}
+use Rattle.spec_live.specs.Connections.{Connection}
+use Rattle.spec_live.specs.Output.{bytes_of}
 use Rattle.spec_events.specs.World.{World, connection, queue_of, is_leaving}
 use Rattle.spec_events.specs.Steps.{is_lawful, effect}
 use Rattle.spec_events.specs.Histories.{History, now, after, by_porter, AllLawful}
@@ -56,12 +57,12 @@ acted_within most Dump e os w = refl
 turns_within : (most n : ℕ) (w : World) → all_within most (turns n w) ≡ true
 unfolding turns
 turns_within most zero w = refl
-turns_within most (suc n) w = from (next_turn w)
+turns_within most (suc n) w = from (next_turn w) (λ t. turns_within most n (after w (turn_entries t)))
   where
-    from : (o : Option Turn) → all_within most (turn o (λ t. turns n (after w (turn_entries t)))) ≡ true
-    from None = refl
-    from (Some (of_line d)) = turns_within most n _
-    from (Some (of_process pid)) = turns_within most n _
+    from : (o : Option Turn) → ((t : Turn) → all_within most (turns n (after w (turn_entries t))) ≡ true) → all_within most (turn o (λ t. turns n (after w (turn_entries t)))) ≡ true
+    from None others = refl
+    from (Some (of_line d)) others = others (of_line d)
+    from (Some (of_process pid)) others = others (of_process pid)
 
 pub turned_within : (most : ℕ) (act : Act) (n : ℕ) → asks_within most act ≡ true → IsWithin most (both (plain (acted act)) (plain (turns n)))
 turned_within most act n e = both_within most (plain (acted act)) (plain (turns n)) (acted_within most act e) (λ os w. turns_within most n w)
