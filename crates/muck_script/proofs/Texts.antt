@@ -1,5 +1,5 @@
 -- What comes of a text that is sent.
-use Rattle.std.proofs.Common.{◌≡◌, ℕ, ◌≤◌, Bool, true, false, not, cond, List, [], ◌∷◌, ◌++◌, length, take, map, refl, sym, ◌∙◌, ap, arith, Option, Some, None, ltb}
+use Rattle.std.proofs.Common.{◌≡◌, ℕ, Bool, true, false, not, cond, List, [], ◌∷◌, ◌++◌, length, take, map, refl, sym, ◌∙◌, ap, arith, Option, Some, None, ltb}
 use Rattle.std.specs.Prelude.{◌==◌, MatchOption}
 use Rattle.std.proofs.lemmas.Bool.{cond-true, cond-false, le-ltb, leb-true, and_parts}
 use Rattle.std.proofs.lemmas.Bool.Decides.{nat_tests}
@@ -8,7 +8,7 @@ use Rattle.std.specs.List.{position, position_or_len, list_all, slice_get}
 use Rattle.muck_model.specs.Bytes.{is_outside, fault_of, text_fault}
 use Rattle.muck_links.specs.declared.cutter.Mode.TheVariants.{Plain, Command}
 use Rattle.muck_links.specs.Lines.{is_shown, bare, onto_first, pieces, only_shown, line_most, text as shown_text, lines}
-use Rattle.muck_links.specs.inner.Cutting.{Cut, fresh, cut_rest, cut_lines, fed}
+use Rattle.muck_links.specs.inner.Cutting.{Cut, fresh, fed}
 use Rattle.muck_links.proofs.Cuts.{lines_append, cut_is_lines}
 use Rattle.muck_script.specs.Script.{line_of}
 use Rattle.muck_script.specs.inner.Plain.{is_plain}
