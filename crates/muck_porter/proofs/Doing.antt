@@ -31,7 +31,7 @@ use Rattle.muck_porter.specs.declared.deeds.Deed.TheVariants.{Open, Slice, Time,
 use Rattle.muck_porter.specs.declared.deeds.Did.{Did}
 use Rattle.muck_porter.specs.declared.deeds.Did.TheVariants.{Done, Timed, Dead}
 use Rattle.muck_porter.specs.Notes.{note_in}
-use Rattle.muck_porter.specs.Kept.{tally, BooksAt, PromisedIn, KeptBy, IsAt, IsFree, Resting, Ready, ReadyTimed, Over}
+use Rattle.muck_porter.specs.Kept.{tally, BooksAt, PromisedIn, IsAt, IsFree, Resting, Ready, ReadyTimed, Over}
 use Rattle.muck_porter.specs.Deeds.{IsMoment, DidAs}
 use Rattle.muck_porter.specs.Turns.{PorterTurn}
 use Rattle.muck_porter.specs.Moves.{Carries, CarriesOn, Ends, EndsAll, TendsPeer, LosesPeer, Tends, Loses, LastEntry}

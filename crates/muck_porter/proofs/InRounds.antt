@@ -43,9 +43,10 @@ use Rattle.muck_porter.specs.Rounds.{HasLeft, IsRound, RoundCarries, Went, is_le
 use Rattle.muck_porter.specs.declared.porting.Why.{Why}
 use Rattle.muck_porter.specs.declared.porting.Why.TheVariants.{Fine, ListenFault, NoMemory as WhyNoMemory, Spent as WhySpent}
 use Rattle.muck_porter.specs.Porter.{PorterReady, HasStopped}
+use Rattle.muck_porter.proofs.Items.{same_world}
 use Rattle.muck_porter.proofs.Timing.{timed_fresh}
 use Rattle.muck_porter.proofs.Stages.{stage_item, stage_free, same_claim}
-use Rattle.muck_porter.proofs.Carrying.{IsQuiet, quiet_moment, quiet_stop, same_world, carries_opened, carries_halted, promised_in, kept_now}
+use Rattle.muck_porter.proofs.Carrying.{IsQuiet, quiet_moment, quiet_stop, carries_opened, carries_halted, promised_in, kept_now}
 use Rattle.muck_porter.proofs.Doing.{over_at, turn_resting, moment_ready, moment_carries, quiet_carries, died_ends, died_over, timed_ready}
 
 -- where a link may come
@@ -63,11 +64,11 @@ told_still b v K K' peers coming same more over bk u m root =
 
 pub told_same_on : (v : Sight) (k k' : Told) (n n' : ℕ) (peers : List Peer) (coming : Option ℕ) → k' ≡ k → n ≤ n' → Carries v v (tally k n) (tally k' n') peers peers coming coming
 told_same_on v k k' n n' peers coming same more b bk =
-    told_still b v (tally k n) (tally k' n') a peers coming (ap (λ (x : Told). x.sessions) same) more (λ o. ap (λ (x : Told). x.over) same ∙ o) bk
+    told_still b v (tally k n) (tally k' n') peers coming (ap (λ (x : Told). x.sessions) same) more (λ o. ap (λ (x : Told). x.over) same ∙ o) bk
 
 pub told_over : (v : Sight) (k k' : Told) (n n' : ℕ) (peers : List Peer) (coming : Option ℕ) → k' ≡ record k { over = true } → n ≤ n' → Carries v v (tally k n) (tally k' n') peers peers coming coming
 told_over v k k' n n' peers coming is more b bk =
-    told_still b v (tally k n) (tally k' n') a peers coming (ap (λ (x : Told). x.sessions) is) more (λ o. ap (λ (x : Told). x.over) is) bk
+    told_still b v (tally k n) (tally k' n') peers coming (ap (λ (x : Told). x.sessions) is) more (λ o. ap (λ (x : Told). x.over) is) bk
 
 pub told_came : (v : Sight) (k k' : Told) (n n' : ℕ) (peers : List Peer) (d : ℕ) → (k' ≡ record k { sessions = accepted d ∷ k.sessions }) × (is_used d k.sessions ≡ false) → n ≤ n' → Carries v v (tally k n) (tally k' n') peers peers None (Some d)
 told_came v k k' n n' peers d came more b bk u m root =

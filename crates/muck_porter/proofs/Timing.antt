@@ -12,7 +12,7 @@ use Rattle.spec_events.specs.declared.logged.Logged.{Logged}
 use Rattle.spec_events.specs.World.{World}
 use Rattle.spec_events.specs.Steps.{is_lawful, effect}
 use Rattle.spec_events.specs.Histories.{after, AllLawful, by_porter}
-use Rattle.spec_events.specs.Logged.{logged_by, entries_of}
+use Rattle.spec_events.specs.Logged.{entries_of}
 use Rattle.spec_events.proofs.Logging.{entries_append}
 use Rattle.spec_talks.specs.Parties.{party_of}
 use Rattle.spec_talks.proofs.Histories.{lawful_back, both_ways, allowed_one, not_first, others_own}

@@ -1,5 +1,5 @@
 -- One turn of the porter, as its seat sees it.
-use Rattle.std.proofs.Common.{true≢false, ◌≡◌, ℕ, ℤ, ◌==◌, arith, Bool, true, false, List, [], ◌∷◌, ◌++◌, refl, sym, ap, ◌∙◌, subst, append_assoc, Option, None}
+use Rattle.std.proofs.Common.{true≢false, ◌≡◌, ℕ, ℤ, ◌==◌, arith, Bool, true, false, List, [], ◌∷◌, ◌++◌, refl, sym, ap, ◌∙◌, subst, append_assoc, None}
 use Rattle.std.proofs.lemmas.Bool.Decides.{nat_tests}
 use Rattle.turn_lock.specs.Histories.{own_of, kept}
 use Rattle.turn_lock.specs.declared.view.Place.TheVariants.{Idle}

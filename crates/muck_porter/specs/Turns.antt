@@ -1,5 +1,5 @@
 -- One turn of the porter, as its seat sees it.
-use Rattle.std.specs.Prelude.{◌≡◌, ℕ, Bool, true, false, List, [], ◌∷◌, ◌++◌, Option, Some, None}
+use Rattle.std.specs.Prelude.{◌≡◌, ℕ, Bool, true, false, List, [], ◌∷◌, ◌++◌, Some, None}
 use Rattle.turn_lock.specs.Histories.{own_of}
 use Rattle.turn_lock.specs.declared.view.Place.TheVariants.{Holds}
 use Rattle.muck_links.specs.Sessions.{Told}
