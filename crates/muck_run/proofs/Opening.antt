@@ -194,5 +194,10 @@ served_nothing (suc n) d os w none =
     ap (then_on (served n (d + 1)) os w) (one_nothing d os w (none_of (connection d w) (none d (omega arith) (omega arith))))
     ∙ served_nothing n (d + 1) os w (λ m le less. none m (omega arith) (omega arith))
 
-pub above_min : (most d m : ℕ) → min most 256 + 1 ≤ d → d ≤ m → m < 257 → most < m
-above_min most d m over le less = grind (arith, nat_tests)
+-- Which connections are asked.
+
+pub end_within : (most last d : ℕ) → last ≡ min most 256 → d < last + 1 → d < 257
+end_within most last d e less = grind (arith, nat_tests)
+
+pub above_last : (most last d m : ℕ) → last ≡ min most 256 → last + 1 ≤ d → d ≤ m → m < 257 → most < m
+above_last most last d m e over le less = grind (arith, nat_tests)

@@ -24,7 +24,7 @@ pub play_line-requires-clause-alive : goal.play_line-requires-clause-alive
 play_line-requires-clause-alive g c = c.loop-act.invariant.playing.alive
 
 pub play_line-requires-clause-opened : goal.play_line-requires-clause-opened
-play_line-requires-clause-opened g c = opens_more _ _ _ c.greatest.ensures.later c.loop-act.invariant.opened
+play_line-requires-clause-opened g c = opens_more _ _ _ c.greatest-most.ensures.later c.loop-act.invariant.opened
 
 pub play_line-requires-clause-mounted : goal.play_line-requires-clause-mounted
 play_line-requires-clause-mounted g c = λ tells. let r = c.requires.mounted tells in (r.0, c.loop-act.invariant.rests r.0 tells r.1)
