@@ -1,5 +1,5 @@
 -- What a call answers, from where it ended.
-use Rattle.std.proofs.Common.{◌≡◌, ◌⊎◌, inl, inr, ℕ, ◌≤◌, Bool, true, List, refl, sym, ap, subst, ◌∙◌, arith, Option, Some, None, Result, Ok, Err}
+use Rattle.std.proofs.Common.{◌≡◌, ◌⊎◌, inl, inr, ℕ, ◌≤◌, Bool, true, List, refl, sym, ap, subst, ◌∙◌, arith, Option, Some, Result, Ok}
 use Rattle.std.specs.Prelude.{codes, ◌++◌}
 use Rattle.muck_io.specs.Faults.{Rose}
 use Rattle.muck_model.specs.declared.event.Entry.{Entry}
@@ -11,10 +11,10 @@ use Rattle.muck_log.specs.declared.fault.LogFault.{LogFault}
 use Rattle.muck_log.specs.declared.fault.LogFault.TheVariants.{NoMemory as LogMemory, DiskFault as LogDisk, Damaged as LogDamaged, StoreFull as LogFull, Stale}
 use Rattle.spec_dumps.specs.Fronts.{file_most}
 use Rattle.muck_script.specs.declared.act.Act.{Act}
-use Rattle.muck_run.specs.Outcome.{HasRead, HasBegun, IsUnbegun, IsUntouched, EndsAs, IsInGrammar, IsFirstOutside}
+use Rattle.muck_run.specs.Outcome.{HasRead, HasBegun, IsUnbegun, IsUntouched, EndsAs}
 use Rattle.muck_run.specs.inner.Ends.{refusal_of, MayNotOpen, IsMountWhy, MayRefuse, IsScriptWhy, HasPlayed, NeverPlayed, MayEnd, MayEndDump, booted_from}
 use Rattle.muck_run.specs.declared.why.Why.{Why}
-use Rattle.muck_run.specs.declared.why.Why.TheVariants.{Fine, Usage, BadScript, NoMemory, ReadFault, WriteFault, DiskFault, Damaged, ListenFault, StoreFull, Spent}
+use Rattle.muck_run.specs.declared.why.Why.TheVariants.{Fine, BadScript, NoMemory, ReadFault, WriteFault, DiskFault, Damaged, StoreFull}
 use Rattle.muck_run.proofs.Started.{licensed_from, known_from}
 use Rattle.muck_run.proofs.Untouched.{untouched_still, untouched_on}
 

@@ -1,5 +1,5 @@
 -- A drill, from how its script was played.
-use Rattle.std.proofs.Common.{◌≡◌, ℕ, false, ◌+◌, ◌≤◌, suc, List, [], ◌∷◌, ◌++◌, length, drop, refl, sym, ◌∙◌, ap, subst, arith, append-nil, append_assoc, add-one, Option, Some, None}
+use Rattle.std.proofs.Common.{◌≡◌, ℕ, false, ◌+◌, ◌≤◌, List, [], ◌∷◌, ◌++◌, length, drop, refl, sym, ◌∙◌, ap, subst, arith, append-nil, append_assoc, add-one, Option, Some, None}
 use Rattle.std.specs.Prelude.{codes}
 use Rattle.std.specs.Fmt.{decimal}
 use Rattle.std.specs.List.{filter}
@@ -11,7 +11,7 @@ use Rattle.spec_events.specs.Histories.{History, after, now, AllLawful}
 use Rattle.muck_script.specs.declared.act.Act.{Act}
 use Rattle.muck_script.specs.declared.act.Act.TheVariants.{Send}
 use Rattle.muck_script.specs.Lines.{is_line_feed}
-use Rattle.muck_script.specs.Story.{Dumped, stored, failed, next_outcome, dump_entries, outcomes_of, told, text_of, lines_story, story, transcript}
+use Rattle.muck_script.specs.Story.{Dumped, stored, failed, next_outcome, dump_entries, outcomes_of, told, text_of, lines_story, transcript}
 use Rattle.muck_run.specs.Drill.{describing, round, rounds, summary, objects_in, drill_script, drill_text, IsDrilled, HasDrilled}
 use Rattle.muck_run.specs.inner.Drills.{fresh, IsPlayedAs, IsDrilledAs}
 use Rattle.spec_live.specs.Boards.{early_board}

@@ -1,9 +1,9 @@
 -- A drill that was played.
-use Rattle.std.specs.Prelude.{◌≡◌, ℕ, false, List, [], length, None}
+use Rattle.std.specs.Prelude.{◌≡◌, ℕ, false, List, [], None}
 use Rattle.spec_events.specs.World.{starting}
-use Rattle.spec_events.specs.Histories.{History, now, after}
+use Rattle.spec_events.specs.Histories.{History, now}
 use Rattle.muck_script.specs.declared.act.Act.{Act}
-use Rattle.muck_script.specs.Story.{outcomes_of, lines_story, text_of, transcript}
+use Rattle.muck_script.specs.Story.{outcomes_of, lines_story, transcript}
 use Rattle.muck_run.specs.Drill.{drill_script, drill_text}
 use Rattle.muck_run.specs.declared.why.Why.{Why}
 use Rattle.muck_run.specs.declared.why.Why.TheVariants.{Fine, NoMemory, WriteFault}

@@ -1,4 +1,3 @@
-use Rattle.std.proofs.Common.{refl}
 use Rattle.muck_run.proofs.Drilled.{described}
 use Rattle.muck_run.proofs.drilling.describing.Goals as goal
 

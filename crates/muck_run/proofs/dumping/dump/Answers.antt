@@ -1,4 +1,3 @@
-use Rattle.std.proofs.Common.{None}
 use Rattle.muck_run.proofs.Dumped.{plays_made, breaks_made, last_made, last_dead, came_made, noted_made, noted_dead, idle_made, porter_cuts, dumps_ok, dumps_err}
 use Rattle.muck_run.proofs.dumping.dump.Goals as goal
 
