@@ -1,5 +1,5 @@
 -- What a call says, from what the calls in it say.
-use Rattle.std.proofs.Common.{◌≡◌, ◌⊎◌, inl, inr, ℕ, ◌≤◌, Bool, true, false, List, [], ◌∷◌, refl, sym, ap, ◌∙◌, subst, Option, Some, Result}
+use Rattle.std.proofs.Common.{◌≡◌, ◌⊎◌, ℕ, ◌≤◌, Bool, true, false, List, ◌∷◌, refl, sym, ap, ◌∙◌, subst, Option, Some, Result}
 use Rattle.std.specs.Prelude.{if◌then◌else◌, IfOk}
 use Rattle.muck_io.specs.Faults.{Rose}
 use Rattle.muck_log.specs.Store.{LogState}
@@ -17,11 +17,11 @@ use Rattle.muck_dumping.specs.inner.Dumps.{HasDumped, Dumps}
 use Rattle.muck_porter.specs.Kept.{Account}
 use Rattle.muck_crew.specs.Finished.{HasDump}
 use Rattle.muck_crew.specs.declared.why.Why.{Why}
-use Rattle.muck_crew.specs.declared.why.Why.TheVariants.{NoMemory, ListenFault}
+use Rattle.muck_crew.specs.declared.why.Why.TheVariants.{ListenFault}
 use Rattle.muck_crew.specs.inner.Runs.{IsFresh}
 use Rattle.muck_crew.specs.inner.Wholes.{HasServed}
 use Rattle.muck_server.specs.inner.{halted}
-use Rattle.muck_server.specs.Served.{IsUnserved, IsServed}
+use Rattle.muck_server.specs.Served.{IsServed}
 use Rattle.muck_server.proofs.Served.{served_whole}
 use Rattle.muck_server.proofs.Deaf.{sees_stop, seen_alive, may_last, keeps_halted, served_deaf}
 
@@ -64,13 +64,6 @@ module _ {D : Type 0} (tells : Bool) (seen : D → List ℕ) (moment : D → ℕ
     apart = apart;
   }
 
--- nothing happened
-pub never : {D S : Type 0} (shows : Bool) (before later : Account) (port : ℕ) (first second first' second' : D) (tale : List Entry) → tale ≡ [] → (shows ≡ true → later.links.told.sessions ≡ before.links.told.sessions)
-    → (shows ≡ true → (later.links.told.ports ≡ before.links.told.ports) ⊎ (later.links.told.ports ≡ port ∷ before.links.told.ports)) → later.answers ≡ before.answers
-    → first' ≡ first → second' ≡ second → IsUnserved shows before later port NoMemory first second first' second' tale ⊎ S
-never shows before later port first second first' second' tale empty nobody ports clock first_is second_is =
-    inl (record { wanted = refl; empty = empty; nobody = nobody; ports = ports; clock = clock; first_file = first_is; second_file = second_is })
-
 -- One history happened, which is the tale.
 module _ {D : Type 0} (shows tells : Bool) (before later : Account) (seen : D → List ℕ) (moment : D → ℕ) (images : D → ℕ → List ℕ → Type 0) (faults : D → ℕ) (workers port mounted : ℕ) (mounting : Note) (log : Option LogState) (first second first' second' : D)
     (world k : History) (tale : List Entry) (notes : List Note) (tale_is : tale ≡ k.entries) (notes_is : notes ≡ k.notes) (lawful : AllLawful k.start tale) (fresh : IsFresh mounting world)
@@ -84,16 +77,16 @@ module _ {D : Type 0} (shows tells : Bool) (before later : Account) (seen : D �
       (subst (λ (ns : List Note). IsServed shows tells before later moment images faults workers port why world.start mounted mounting first second first' second' k.entries ns) (sym notes_is) x)
 
   -- all parts served
-  pub call_served : {U : Type 0} (shows' : Bool) (listened : Account) (why : Why) → shows' ≡ shows → (shows ≡ true → listened.links.told.sessions ≡ before.links.told.sessions) → (shows ≡ true → listened.links.told.ports ≡ port ∷ before.links.told.ports) → before.links.listening ≤ listened.links.listening
+  pub call_served : (shows' : Bool) (listened : Account) (why : Why) → shows' ≡ shows → (shows ≡ true → listened.links.told.sessions ≡ before.links.told.sessions) → (shows ≡ true → listened.links.told.ports ≡ port ∷ before.links.told.ports) → before.links.listening ≤ listened.links.listening
       → listened.answers ≡ before.answers → HasServed tells seen moment images faults shows' listened later workers why log first second first' second' world k
-      → U ⊎ IsServed shows tells before later moment images faults workers port why world.start mounted mounting first second first' second' tale notes
+      → IsServed shows tells before later moment images faults workers port why world.start mounted mounting first second first' second' tale notes
   call_served shows' listened why shows_is same ports since_before clock x =
-      inr (told why (served_whole shows tells before later seen moment images faults workers port mounted mounting first second log listened world fresh mount same ports since_before clock why first' second' k lawful_all
-      (subst (λ (b : Bool). HasServed tells seen moment images faults b listened later workers why log first second first' second' world k) shows_is x)))
+      told why (served_whole shows tells before later seen moment images faults workers port mounted mounting first second log listened world fresh mount same ports since_before clock why first' second' k lawful_all
+      (subst (λ (b : Bool). HasServed tells seen moment images faults b listened later workers why log first second first' second' world k) shows_is x))
 
   -- listening failed
-  pub call_deaf : {U : Type 0} → (shows ≡ true → later.links.told.sessions ≡ before.links.told.sessions) → (shows ≡ true → later.links.told.ports ≡ port ∷ before.links.told.ports) → Rose before.links.listening later.links.listening → later.answers ≡ before.answers
+  pub call_deaf : (shows ≡ true → later.links.told.sessions ≡ before.links.told.sessions) → (shows ≡ true → later.links.told.ports ≡ port ∷ before.links.told.ports) → Rose before.links.listening later.links.listening → later.answers ≡ before.answers
       → HasDump tells seen moment images faults true log first second first' second' (halted world) k ListenFault
-      → U ⊎ IsServed shows tells before later moment images faults workers port ListenFault world.start mounted mounting first second first' second' tale notes
+      → IsServed shows tells before later moment images faults workers port ListenFault world.start mounted mounting first second first' second' tale notes
   call_deaf same ports rose clock dump =
-      inr (told ListenFault (served_deaf shows tells before later seen moment images faults workers port mounted mounting log first second first' second' world fresh mount same ports rose clock k lawful_all dump))
+      told ListenFault (served_deaf shows tells before later seen moment images faults workers port mounted mounting log first second first' second' world fresh mount same ports rose clock k lawful_all dump)
