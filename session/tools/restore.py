@@ -37,4 +37,4 @@ while True:
             kept.is_built(crate); n += 1; done.add(crate.name)
     if "--watch" not in sys.argv:
         print(n, "of", sum(not c.is_program for c in crates)); break
-    time.sleep(8)
+    time.sleep(25)
