@@ -1,13 +1,15 @@
 -- Texts in which one part takes the place of another.
-use Rattle.std.proofs.Common.{◌≡◌, ℕ, ◌+◌, ◌-◌, ◌<◌, ◌≤◌, zero, suc, Bool, true, false, cond, List, [], ◌∷◌, ◌++◌, length, get_or, drop, refl, sym, ap, ◌∙◌, arith, append_assoc, add-one}
-use Rattle.std.proofs.Math.Seq.{drop-cons}
-use Rattle.std.proofs.lemmas.List.{drop_all, drop-drop, length-drop, append-nil}
-use Rattle.std.specs.Prelude.{Ok, Err, ◌&&◌, ◌==◌}
+use Rattle.std.proofs.Common.{◌≡◌, ℕ, ◌+◌, ◌-◌, ◌<◌, ◌≤◌, zero, suc, Bool, true, false, cond, List, [], ◌∷◌, ◌++◌, length, take, drop, Some, None, refl, sym, ap, subst, ◌∙◌, arith, append_assoc, ⊎_elim}
+use Rattle.std.proofs.lemmas.Bool.{cases_Bool}
+use Rattle.std.proofs.lemmas.List.{append-nil}
+use Rattle.std.specs.Prelude.{Ok, Err, Option, ◌&&◌, ◌==◌}
+use Rattle.std.specs.Option.{option_map}
 use Rattle.mpi.specs.declared.fault.MpiFault.{MpiFault}
 use Rattle.mpi.specs.Hosting.{Means}
 use Rattle.mpi.specs.Made.{is_long, text_or_long, IsGrown}
-use Rattle.mpi.specs.Values.{begins_with, replaced, substituted}
+use Rattle.mpi.specs.Values.{begins_with, place_in, replaced, substituted}
 use Rattle.mpi.proofs.Lengths.{is_short, front_long, long_fails, made_whole}
+use Rattle.mpi.proofs.Places.{place_end, place_first, place_other}
 
 and_right : (a b : Bool) → a && b ≡ true → b ≡ true
 and_right true b h = h
@@ -27,42 +29,71 @@ first_other : (old new : List ℕ) (b : ℕ) (more : List ℕ) → begins_with (
 unfolding replaced
 first_other old new b more h = ap (λ t. cond t (new ++ replaced old new (length old - 1) more) (b ∷ replaced old new 0 more)) h
 
--- a part that stands at a place
-pub replaced_here : (old new text : List ℕ) (at : ℕ) → at < length text → 0 < length old → begins_with (drop at text) old ≡ true
-    → replaced old new 0 (drop at text) ≡ new ++ replaced old new 0 (drop (at + length old) text)
-replaced_here old new text at less some h =
-    let e = drop-cons text at 0 less in
-    let there : begins_with (get_or text at 0 ∷ drop (suc at) text) old ≡ true = ap (λ xs. begins_with xs old) (sym e) ∙ h in
-    ap (λ xs. replaced old new 0 xs) e
-    ∙ first_here old new (get_or text at 0) (drop (suc at) text) there
-    ∙ ap (λ xs. new ++ xs)
-    (skipped old new (length old - 1) (drop (suc at) text)
-    ∙ ap (λ xs. replaced old new 0 xs) (drop-drop (length old - 1) (suc at) text ∙ ap (λ k. drop k text) (let k : suc at + (length old - 1) ≡ at + length old = omega (arith, some) in k)))
+-- what stands before the first place stays, and the part there is replaced
+begun_at : (old new : List ℕ) (b : ℕ) (more : List ℕ) → 0 < length old → begins_with (b ∷ more) old ≡ true
+    → replaced old new 0 (b ∷ more) ≡ take 0 (b ∷ more) ++ (new ++ replaced old new 0 (drop (0 + length old) (b ∷ more)))
+begun_at old new b more some h =
+    let is : suc (length old - 1) ≡ 0 + length old = omega (arith, some) in
+    first_here old new b more h ∙ ap (λ xs. new ++ xs) (skipped old new (length old - 1) more ∙ ap (λ n. replaced old new 0 (drop n (b ∷ more))) is)
 
--- a byte that stays
-pub replaced_other : (old new text : List ℕ) (at : ℕ) → at < length text → begins_with (drop at text) old ≡ false
-    → replaced old new 0 (drop at text) ≡ get_or text at 0 ∷ replaced old new 0 (drop (at + 1) text)
-replaced_other old new text at less h =
-    let e = drop-cons text at 0 less in
-    let there : begins_with (get_or text at 0 ∷ drop (suc at) text) old ≡ false = ap (λ xs. begins_with xs old) (sym e) ∙ h in
-    ap (λ xs. replaced old new 0 xs) e
-    ∙ first_other old new (get_or text at 0) (drop (suc at) text) there
-    ∙ ap (λ k. get_or text at 0 ∷ replaced old new 0 (drop k text)) (sym (add-one at))
+further_at : (old new : List ℕ) (b : ℕ) (more : List ℕ) (k : ℕ) (o : Option ℕ)
+    → ((j : ℕ) → o ≡ Some j → replaced old new 0 more ≡ take j more ++ (new ++ replaced old new 0 (drop (j + length old) more)))
+    → option_map suc o ≡ Some k → b ∷ replaced old new 0 more ≡ take k (b ∷ more) ++ (new ++ replaced old new 0 (drop (k + length old) (b ∷ more)))
+further_at old new b more k None h e = absurd (let f : None ≡ Some k = e in cc)
+further_at old new b more k (Some j) h e =
+    let f : Some (suc j) ≡ Some k = e in
+    let is : suc j ≡ k = cc in
+    let step : suc (j + length old) ≡ suc j + length old = omega arith in
+    subst (λ n. b ∷ replaced old new 0 more ≡ take n (b ∷ more) ++ (new ++ replaced old new 0 (drop (n + length old) (b ∷ more)))) is
+    (ap (λ xs. b ∷ xs) (h j refl) ∙ ap (λ n. b ∷ (take j more ++ (new ++ replaced old new 0 (drop n (b ∷ more))))) step)
 
--- what was made, and what the rest becomes, are the whole
-pub whole_here : (whole out old new text : List ℕ) (at : ℕ) → whole ≡ out ++ replaced old new 0 (drop at text) → at < length text → 0 < length old
-    → begins_with (drop at text) old ≡ true → whole ≡ (out ++ new) ++ replaced old new 0 (drop (at + length old) text)
-whole_here whole out old new text at e less some h =
-    e ∙ ap (λ xs. out ++ xs) (replaced_here old new text at less some h) ∙ sym (append_assoc out new (replaced old new 0 (drop (at + length old) text)))
+replaced_at : (old new text : List ℕ) (k : ℕ) → 0 < length old → place_in text old ≡ Some k
+    → replaced old new 0 text ≡ take k text ++ (new ++ replaced old new 0 (drop (k + length old) text))
+replaced_at old new [] k some h = absurd (let e : None ≡ Some k = sym (place_end old (λ none. omega (arith, some, none))) ∙ h in cc)
+replaced_at old new (b ∷ more) k some h =
+    ⊎_elim
+    (λ here.
+    let f : Some 0 ≡ Some k = sym (place_first b more old here) ∙ h in
+    let is : 0 ≡ k = cc in
+    subst (λ n. replaced old new 0 (b ∷ more) ≡ take n (b ∷ more) ++ (new ++ replaced old new 0 (drop (n + length old) (b ∷ more)))) is (begun_at old new b more some here))
+    (λ other. first_other old new b more other ∙ further_at old new b more k (place_in more old) (λ j e. replaced_at old new more j some e) (sym (place_other b more old other) ∙ h))
+    (cases_Bool (begins_with (b ∷ more) old))
 
-pub whole_other : (whole out old new text : List ℕ) (at : ℕ) → whole ≡ out ++ replaced old new 0 (drop at text) → at < length text
-    → begins_with (drop at text) old ≡ false → whole ≡ (out ++ get_or text at 0 ∷ []) ++ replaced old new 0 (drop (at + 1) text)
-whole_other whole out old new text at e less h =
-    e ∙ ap (λ xs. out ++ xs) (replaced_other old new text at less h) ∙ sym (append_assoc out (get_or text at 0 ∷ []) (replaced old new 0 (drop (at + 1) text)))
+-- a text in which the part stands nowhere stays
+not_mapped : (o : Option ℕ) → option_map suc o ≡ None → o ≡ None
+not_mapped None h = refl
+not_mapped (Some n) h = absurd (let e : Some (suc n) ≡ None = h in cc)
 
-pub whole_end : (whole out old new text : List ℕ) (at : ℕ) → whole ≡ out ++ replaced old new 0 (drop at text) → length text ≤ at → whole ≡ out
+replaced_end : (old new : List ℕ) → replaced old new 0 [] ≡ []
 unfolding replaced
-whole_end whole out old new text at e past = e ∙ ap (λ xs. out ++ replaced old new 0 xs) (drop_all at text past) ∙ append-nil out
+replaced_end old new = refl
+
+replaced_nowhere : (old new text : List ℕ) → place_in text old ≡ None → replaced old new 0 text ≡ text
+replaced_nowhere old new [] h = replaced_end old new
+replaced_nowhere old new (b ∷ more) h =
+    ⊎_elim
+    (λ here. absurd (let e : Some 0 ≡ None = sym (place_first b more old here) ∙ h in cc))
+    (λ other. first_other old new b more other ∙ ap (λ xs. b ∷ xs) (replaced_nowhere old new more (not_mapped (place_in more old) (sym (place_other b more old other) ∙ h))))
+    (cases_Bool (begins_with (b ∷ more) old))
+
+-- what was made, a part that stays, the new one, and what the rest becomes, are the whole
+pub whole_front : (whole out old new rest front behind : List ℕ) (k : ℕ) → whole ≡ out ++ replaced old new 0 rest → 0 < length old → place_in rest old ≡ Some k
+    → front ≡ take k rest → behind ≡ drop (k + length old) rest → whole ≡ (out ++ front) ++ (new ++ replaced old new 0 behind)
+whole_front whole out old new rest front behind k e some h f g =
+    e ∙ ap (λ xs. out ++ xs) (replaced_at old new rest k some h)
+    ∙ sym (append_assoc out (take k rest) (new ++ replaced old new 0 (drop (k + length old) rest)))
+    ∙ ap (λ xs. (out ++ xs) ++ (new ++ replaced old new 0 (drop (k + length old) rest))) (sym f)
+    ∙ ap (λ xs. (out ++ front) ++ (new ++ replaced old new 0 xs)) (sym g)
+
+pub whole_new : (whole out front made new more : List ℕ) → whole ≡ (out ++ front) ++ (new ++ more) → made ≡ out ++ front → whole ≡ (made ++ new) ++ more
+whole_new whole out front made new more e is = e ∙ ap (λ xs. xs ++ (new ++ more)) (sym is) ∙ sym (append_assoc made new more)
+
+-- what was made and the rest are the whole
+pub whole_rest : (whole out old new rest : List ℕ) → whole ≡ out ++ replaced old new 0 rest → place_in rest old ≡ None → whole ≡ out ++ rest
+whole_rest whole out old new rest e h = e ∙ ap (λ xs. out ++ xs) (replaced_nowhere old new rest h)
+
+pub whole_end : (whole out : List ℕ) → whole ≡ out → whole ≡ out ++ []
+whole_end whole out e = e ∙ sym (append-nil out)
 
 -- a front that is too long
 pub whole_long : (whole out more rest new : List ℕ) (f : MpiFault) → whole ≡ (out ++ more) ++ rest → IsGrown out more new (Err f) → Means (text_or_long whole) (Err f)
@@ -88,5 +119,20 @@ begun_within [] (y ∷ ys) h = absurd (let e : false ≡ true = h in cc)
 begun_within (x ∷ xs) (y ∷ ys) h = omega (arith, begun_within xs ys (and_right (y == x) (begins_with xs ys) h))
 
 -- a part that stands at a place ends within the text
-pub starts_within : (text old : List ℕ) (at : ℕ) → at < length text → begins_with (drop at text) old ≡ true → at + length old ≤ length text
-starts_within text old at less h = omega (arith, less, begun_within (drop at text) old h, length-drop at text)
+further_fits : (more part : List ℕ) (k : ℕ) (o : Option ℕ) → ((j : ℕ) → o ≡ Some j → j + length part ≤ length more) → option_map suc o ≡ Some k → k + length part ≤ suc (length more)
+further_fits more part k None h e = absurd (let f : None ≡ Some k = e in cc)
+further_fits more part k (Some j) h e =
+    let f : Some (suc j) ≡ Some k = e in
+    let is : suc j ≡ k = cc in
+    omega (arith, is, h j refl)
+
+pub place_fits : (text part : List ℕ) (k : ℕ) → 0 < length part → place_in text part ≡ Some k → k + length part ≤ length text
+place_fits [] part k some h = absurd (let e : None ≡ Some k = sym (place_end part (λ none. omega (arith, some, none))) ∙ h in cc)
+place_fits (b ∷ more) part k some h =
+    ⊎_elim
+    (λ here.
+    let f : Some 0 ≡ Some k = sym (place_first b more part here) ∙ h in
+    let is : 0 ≡ k = cc in
+    omega (arith, is, begun_within (b ∷ more) part here))
+    (λ other. further_fits more part k (place_in more part) (λ j e. place_fits more part j some e) (sym (place_other b more part other) ∙ h))
+    (cases_Bool (begins_with (b ∷ more) part))

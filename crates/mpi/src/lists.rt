@@ -1,5 +1,5 @@
 // Parts of texts, and texts as lists.
-ghost use Rattle.std.specs.Prelude.{◌≡◌, ◌≤◌, None, IfOk, IfSome, length, option_map, map as mapped};
+ghost use Rattle.std.specs.Prelude.{◌≡◌, ◌≤◌, ◌+◌, None, IfOk, IfSome, length, take, drop, option_map, map as mapped};
 ghost use Rattle.std.specs.Option.{option_copied};
 ghost use Rattle.muck_model.specs.Bytes.{text_fault};
 ghost use Rattle.mpi.specs.Made.{Inside, text_or_long};
@@ -11,6 +11,7 @@ use crate::fault::MpiFault;
 use crate::functions::Keep;
 use crate::texts::grow;
 use crate::values::{is_true, nth, number_of};
+use memchr::memmem;
 use muck_model::{Line, NoMemory};
 use std::alloc::Global;
 
@@ -53,21 +54,12 @@ pub(crate) fn stripped(text: &[u8]) -> &[u8]
 }
 
 // How many bytes stand before the first place where a text stands in another.
-#[tactic(auto, using(crate::proofs::Places::place_steps), unfolding(crate::specs::Values::place_in))]
+#[tactic(auto, using(crate::proofs::Places::place_steps))]
 fn place_in(text: &[u8], part: &[u8]) -> Option<usize>
     ensures value { result ≡ place_in text.now part.now }
     ensures within { IfSome result (λ n. n ≤ length text.now) }
 {
-    for at in 0..text.len() {
-        if text[at..].starts_with(part) {
-            return Some(at);
-        }
-    }
-    if part.is_empty() {
-        Some(text.len())
-    } else {
-        None
-    }
+    memmem::find(text, part)
 }
 
 /// The first place of a part in a text, from 1, or 0; `None` exactly where the part is empty.
@@ -83,7 +75,18 @@ pub(crate) fn found_in(text: &[u8], part: &[u8]) -> Option<usize>
     }
 }
 
+// What stands before so many bytes at a place, and behind them.
+fn around(text: &[u8], at: usize, count: usize) -> (&[u8], &[u8])
+    requires { at + count ≤ length text.now }
+    ensures front { result.0.now ≡ take at text.now }
+    ensures behind { result.1.now ≡ drop (at + count) text.now }
+    ensures shorter { length result.1.now + (at + count) ≡ length text.now }
+{
+    (text.split_at(at).0, text.split_at(at + count).1)
+}
+
 /// The text with `new` in place of each `old`, from left to right; `TooLong` exactly where that is too long.
+#[tactic(auto, using(crate::proofs::Inside::text_steps))]
 pub(crate) fn substituted(
     alloc: Global,
     text: &[u8],
@@ -98,16 +101,14 @@ pub(crate) fn substituted(
         return Ok(Line::of_text(alloc, text)?);
     }
     let mut out = Vec::new(alloc);
-    let mut at = 0;
-    while at < text.len() {
-        if text[at..].starts_with(old) {
-            grow(&mut out, new)?;
-            at += old.len();
-        } else {
-            grow(&mut out, &[text[at]])?;
-            at += 1;
-        }
+    let mut rest = text;
+    while let Some(at) = place_in(rest, old) {
+        let (front, behind) = around(rest, at, old.len());
+        grow(&mut out, front)?;
+        grow(&mut out, new)?;
+        rest = behind;
     }
+    grow(&mut out, rest)?;
     Ok(Line::of_text_vec(out))
 }
 
