@@ -8,6 +8,7 @@ mod looking;
 mod messages;
 mod taking;
 mod talking;
+mod texts;
 mod typed;
 
 pub use command::run;

@@ -7,6 +7,7 @@ ghost use Rattle.spec_commands.specs.Going.{both_shown};
 ghost use Rattle.muck_perm.specs.Guards.{Did};
 ghost use Rattle.cmd_play.specs.Speaking.{Speaks, Says};
 
+use crate::texts::joined;
 use cmd_common::{message_path, show_others};
 use muck_model::{Dbref, Line, NoMemory};
 use muck_perm::Guard;
@@ -100,9 +101,7 @@ pub fn show_message(
 fn show_behind_name(guard: &mut Guard, text: &Line) -> Result<(), NoMemory>
     ensures { Did (shown_others guard.old.actor.player (32 ∷ text.now)) guard.old guard.new result }
 {
-    let mut tail = Vec::new(guard.alloc());
-    tail.push(b' ')?;
-    tail.extend_from_slice(text.as_slice())?;
+    let tail = joined(guard.alloc(), b" ", text.as_slice())?;
     let player = guard.actor().player;
     show_others(guard, player, &tail)
 }

@@ -1,28 +1,19 @@
 // What players say, and who hears it.
-ghost use Rattle.std.specs.Prelude.{◌≡◌, ◌++◌, IfOk};
+ghost use Rattle.std.specs.Prelude.{◌≡◌, IfOk};
 ghost use Rattle.spec_live.specs.Lives.{tell, name_at};
 ghost use Rattle.spec_commands.specs.Replies.{you_say_to, says_to, connected_count};
 ghost use Rattle.spec_commands.specs.Finding.{each};
 ghost use Rattle.spec_commands.specs.Talking.{said, pose_tail, posed, said_to, paged, is_company, whispered, presence, presences, presence_shown, who_shown};
 ghost use Rattle.muck_perm.specs.Guards.{Did, world_of};
 
+use crate::texts::{around, joined};
+use crate::typed::name_of;
 use cmd_common::{cant_be_done, name_and, place_at, show_others};
 use muck_board::{Board, Connection};
 use muck_model::{Dbref, Kind, Line, NoMemory};
 use muck_perm::Guard;
 use spec_commands::Presence;
 use std::alloc::Global;
-
-// A text between two others.
-fn around(alloc: Global, before: &[u8], text: &[u8], after: &[u8]) -> Result<Vec<u8>, NoMemory>
-    ensures { IfOk result (λ v. v.items ≡ (before.now ++ text.now) ++ after.now) }
-{
-    let mut whole = Vec::new(alloc);
-    whole.extend_from_slice(before)?;
-    whole.extend_from_slice(text)?;
-    whole.extend_from_slice(after)?;
-    Ok(whole)
-}
 
 /// The player says something: it sees its own words, and the others where it is see them with its name.
 #[tactic(auto, unfolding(spec_live::specs::Lives::followed, spec_commands::specs::Talking::said, spec_commands::specs::Replies::you_say, spec_commands::specs::Replies::says))]
@@ -40,13 +31,10 @@ pub fn say(guard: &mut Guard, d: u32, text: &Line) -> Result<(), NoMemory>
 fn pose_tail(alloc: Global, text: &[u8]) -> Result<Vec<u8>, NoMemory>
     ensures { IfOk result (λ tail. tail.items ≡ pose_tail text.now) }
 {
-    let mut tail = Vec::new(alloc);
     match text.first() {
-        Some(first) if *first != b'\'' => tail.push(b' ')?,
-        _ => {}
+        Some(first) if *first != b'\'' => joined(alloc, b" ", text),
+        _ => joined(alloc, b"", text),
     }
-    tail.extend_from_slice(text)?;
-    Ok(tail)
 }
 
 /// The player does something: it and the others where it is see its name, and the text behind it.
@@ -68,8 +56,7 @@ fn you_say_to(guard: &Guard, verb: &[u8], text: &[u8], to: Dbref) -> Result<Vec<
     ensures { IfOk result (λ v. v.items ≡ you_say_to verb.now text.now (name_at to (world_of guard.now))) }
 {
     let head = around(guard.alloc(), b"You ", verb, b", \"")?;
-    let name = name_and(guard, to, b"")?;
-    let tail = around(guard.alloc(), b"\" to ", &name, b".")?;
+    let tail = around(guard.alloc(), b"\" to ", name_of(guard, to), b".")?;
     around(guard.alloc(), &head, text, &tail)
 }
 

@@ -53,8 +53,8 @@ fn front(bytes: &[u8], count: usize) -> &[u8]
     bytes
 }
 
-// The name of an object; what isn't there has none.
-fn name_of<'a>(guard: &'a Guard<'_>, x: Dbref) -> &'a [u8]
+/// The name of an object; what isn't there has none.
+pub fn name_of<'a>(guard: &'a Guard<'_>, x: Dbref) -> &'a [u8]
     ensures name { result.now ≡ name_at x (world_of guard.now) }
     ensures text { text_fault result.now ≡ None }
 {
