@@ -1,5 +1,5 @@
--- Each unit of a slice changes only what is open to who acts in it.
-use Rattle.std.proofs.Common.{◌≡◌, ℕ, ℤ, Bool, true, false, cond, List, [], ◌∷◌, map, refl, sym, ap, ◌∙◌, subst, Option, Some, None}
+-- Each unit of a slice changes only what is open to who answers for it.
+use Rattle.std.proofs.Common.{◌≡◌, ℕ, ℤ, Bool, true, false, cond, List, [], ◌∷◌, map, refl, ap, subst, Option, Some, None}
 use Rattle.muck_model.specs.declared.dbref.Dbref.{Dbref}
 use Rattle.muck_model.specs.declared.tune.Tune.{Tune}
 use Rattle.spec_live.specs.Lives.{Live, tell_player}
@@ -14,13 +14,10 @@ use Rattle.muf_model.specs.Chains.{programs_of, Keeps as Keep}
 use Rattle.muf_model.proofs.Chains.{unit_keeps}
 use Rattle.spec_prims.specs.Asking.{numbered}
 use Rattle.spec_rights.specs.Levels.{level, user}
-use Rattle.std.specs.Prelude.{slice_get}
-use Rattle.std.specs.Option.{option_map, option_and_then}
-use Rattle.std.proofs.lemmas.Option.{slice_get-map}
-use Rattle.spec_live.specs.Objects.{Entry, mark_in}
+use Rattle.spec_live.specs.Objects.{Entry}
 use Rattle.spec_prims.specs.Row.{Row, gives, refuses, breaks}
 use Rattle.spec_prims.specs.Shared.{shared}
-use Rattle.spec_mpi.specs.Touching.{TouchesNotes, without_props}
+use Rattle.spec_mpi.specs.Touching.{TouchesNotes}
 use Rattle.spec_prims.specs.Formulas.{answers_for}
 use Rattle.spec_prims.proofs.Opens.{RowOpen, same_open, shared_open}
 use Rattle.muck_queue.specs.Queues.{standing, without}
@@ -31,6 +28,7 @@ use Rattle.spec_events.specs.Licences.{answers_at}
 use Rattle.spec_events.specs.Slices.{acting, Deed, does, rests, fails, lifted, row_done, process_done, deed, stands_at, ended_one, out, one_counted, broken, program_error, went, after_deed, unit_done, limit_fault, within_limit, turn, world_of, slice_most, run_of, last_world, awake, sliced}
 use Rattle.spec_events.proofs.Quietly.{Quietly, quietly_live, quietly_queue}
 use Rattle.spec_events.proofs.Endings.{IsTold, told_settled}
+use Rattle.spec_events.proofs.Login.{told_notes}
 use Rattle.spec_events.proofs.Done.{state_of, told_by, in_range_as, Open, open_quietly, open_settled, Going, going_same, going_both, going_open}
 use Rattle.spec_events.proofs.Deeds.{Leads, leads_more, leads_quietly}
 use Rattle.spec_events.proofs.Slicing.{run_holds}
@@ -131,16 +129,8 @@ DeedTold (rests t v) = Unit {0}
 DeedTold (fails f v) = IsTold v.live
 
 -- what touches notes alone leaves nothing to be told
-mark_shown : (es : List Entry) (n : ℕ) → mark_in (map without_props es) n ≡ mark_in es n
-unfolding mark_in
-mark_shown es n = ap (λ o. option_and_then (λ (e : Entry). e.mark) o) (slice_get-map without_props es n) ∙ at (slice_get es n)
-  where
-    at : (o : Option Entry) → option_and_then (λ (e : Entry). e.mark) (option_map without_props o) ≡ option_and_then (λ (e : Entry). e.mark) o
-    at None = refl
-    at (Some e) = refl
-
 pub told_touched : (w v : Live) → TouchesNotes w v → IsTold w → IsTold v
-told_touched w v t h n = sym (mark_shown v.objects n) ∙ ap (λ es. mark_in es n) t.objects ∙ mark_shown w.objects n ∙ h n
+told_touched w v t h = told_notes w v t.objects h
 
 told_row : (a : Actor) (s : Source) (w : World) (row : Row) → RowOpen a w.live row → IsTold w.live → DeedTold (lifted s w row)
 told_row a s w (gives stack live) r h = tt

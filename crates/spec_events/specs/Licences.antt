@@ -70,7 +70,7 @@ abbrev pub NotesAt : Outcome → Live → Live → Type 0
 NotesAt (asks p s) w v = is_formula p ≡ true → TouchesNotes w v
 NotesAt o w v = Unit {0}
 
--- A unit changes only what is open to whom answers for it, by the rights before it; and where it is a formula, notes alone. Of the
+-- A unit changes only what is open to who answers for it, by the rights before it; and where it is a formula, notes alone. Of the
 -- processes it ends its own, such as the running program may end by those rights, and such as run a program that it changed.
 abbrev pub UnitLicensed : ℤ → Taken → Type 0
 UnitLicensed pid t =
