@@ -1,7 +1,7 @@
 // The brackets of a text: where it balances, its pieces, and the arguments of a function.
 ghost use Rattle.std.specs.Prelude.{◌≡◌, ◌+◌, ◌<◌, ◌≤◌, ◌^◌, suc, None, true, false, IfOk, length, drop, map as mapped};
 ghost use Rattle.std.specs.List.{list_all};
-ghost use Rattle.muck_model.specs.Bytes.{is_outside, text_fault};
+ghost use Rattle.muck_model.specs.Bytes.{is_outside, text_fault, text_most};
 ghost use Rattle.mpi.specs.Made.{is_text};
 ghost use Rattle.mpi.specs.Brackets.{IsPart, begun, passed, is_free, part_len, balances, first_piece, escaped, call_ahead, seen_ahead, arguments, meant};
 
@@ -57,7 +57,7 @@ const BEGUN: Scan = Scan {
 /// Whether each `{` of the text has its `}`.
 #[tactic(auto, unfolding(crate::specs::Brackets::balances))]
 pub(crate) fn balances(text: &[u8]) -> bool
-    requires { length text.now ≤ 4096 }
+    requires { length text.now ≤ text_most }
     ensures { result ≡ balances begun text.now }
 {
     let mut scan = BEGUN;
@@ -73,7 +73,7 @@ pub(crate) fn balances(text: &[u8]) -> bool
 // How many bytes stand before the first free one like that.
 #[tactic(auto, unfolding(crate::specs::Brackets::part_len))]
 fn part_len(wanted: u8, text: &[u8]) -> usize
-    requires { length text.now ≤ 4096 }
+    requires { length text.now ≤ text_most }
     ensures value { result ≡ part_len wanted begun text.now }
     ensures within { result ≤ length text.now }
 {

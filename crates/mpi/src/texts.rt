@@ -1,6 +1,6 @@
 // Texts that are made.
 ghost use Rattle.std.specs.Prelude.{◌≡◌, ◌≤◌, None, IfOk, length};
-ghost use Rattle.muck_model.specs.Bytes.{text_fault};
+ghost use Rattle.muck_model.specs.Bytes.{text_fault, text_most};
 ghost use Rattle.mpi.specs.Made.{Inside, IsGrown, text_or_long};
 ghost use Rattle.mpi.specs.Hosting.{Means};
 ghost use Rattle.std.specs.Fmt.{signed_decimal};
@@ -26,8 +26,8 @@ pub(crate) fn line_of(bytes: Vec<u8>) -> Result<Line, MpiFault>
 /// Puts bytes behind a text that grows; `TooLong` exactly where it would have too many, and then nothing is put there.
 #[tactic(auto, unfolding(crate::specs::Made::is_long))]
 pub(crate) fn grow(out: &mut Vec<u8>, more: &[u8]) -> Result<(), MpiFault>
-    requires out { length out.old.items ≤ 4096 }
-    requires more { length more.now ≤ 4096 }
+    requires out { length out.old.items ≤ text_most }
+    requires more { length more.now ≤ text_most }
     ensures { IsGrown out.old.items more.now out.new.items result }
 {
     if out.len() + more.len() > TEXT_MOST {

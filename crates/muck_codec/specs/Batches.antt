@@ -2,6 +2,7 @@
 use Rattle.std.specs.Prelude.{◌≡◌, ℕ, suc, ◌-◌, ◌≤◌, All, Bool, true, ◌==◌, List, ◌++◌, length, Option, Some, None, Result, Ok, Err, int_lt, if◌then◌else◌}
 use Rattle.std.specs.List.{flat_map}
 use Rattle.std.specs.Int.{w32, to_be_bytes}
+use Rattle.muck_model.specs.Bytes.{lines_most}
 use Rattle.muck_model.specs.declared.dbref.Dbref.{Dbref}
 use Rattle.muck_model.specs.declared.tune.Tune.{Tune}
 use Rattle.muck_codec.specs.declared.stored.Stored.{Stored}
@@ -71,4 +72,4 @@ batch_bytes records tune = to_be_bytes w32 (length records) ++ (flat_map spellin
 
 -- each record has at most 4,096 source lines
 abbrev pub HasFewLines : List Stored → Type 0
-HasFewLines records = All (λ o. length o.lines ≤ 4096) records
+HasFewLines records = All (λ o. length o.lines ≤ lines_most) records

@@ -2,6 +2,7 @@
 use Rattle.std.specs.Prelude.{◌≡◌, ◌-◌, ℕ, zero, suc, Bool, true, ◌&&◌, ◌==◌, List, [], ◌∷◌, length, Option, Some, None, is_none, Result, Ok, Err, nat_lt, bytes_eq, pos, if◌then◌else◌}
 use Rattle.std.specs.Int.{w16, w32, w64, cast_signed}
 use Rattle.std.specs.Ordering.{is_lt, int_eq}
+use Rattle.muck_model.specs.Bytes.{text_most, lines_most}
 use Rattle.muck_model.specs.declared.dbref.Dbref.{Dbref}
 use Rattle.muck_model.specs.declared.dbref.Flags.{Flags}
 use Rattle.muck_model.specs.declared.dbref.Kind.{Kind}
@@ -89,7 +90,7 @@ unfoldable pub integer_at : List ℕ → Result (PropValue × List ℕ) ℕ
 integer_at bytes = number_at w32 bytes >>= λ n. if int_eq (cast_signed w32 n.0) (pos 0) then Err (suc (length n.1)) else Ok (Number (cast_signed w32 n.0), n.1)
 
 abbrev pub tagged : ℕ → List ℕ → Result (PropValue × List ℕ) ℕ
-tagged zero rest = text_at 1 4096 rest >>= λ text. Ok (Text text.0, text.1)
+tagged zero rest = text_at 1 text_most rest >>= λ text. Ok (Text text.0, text.1)
 tagged (suc zero) rest = integer_at rest
 tagged (suc (suc tag)) rest = Err (suc (length rest))
 
@@ -109,7 +110,7 @@ abbrev pub properties_at : ℕ → ℕ → List ℕ → Result (List Property ×
 properties_at version n bytes = several (λ p. p.path) (property_at version) None n bytes
 
 abbrev pub line_at : Option (List ℕ) → List ℕ → Result (List ℕ × List ℕ) ℕ
-line_at before bytes = text_at 0 4096 bytes
+line_at before bytes = text_at 0 text_most bytes
 
 -- so many source lines
 abbrev pub lines_at : ℕ → List ℕ → Result (List (List ℕ) × List ℕ) ℕ
@@ -121,7 +122,7 @@ abbrev pub texts_of : List ℕ × (List Property × (List (List ℕ) × List ℕ
 texts_of x = record { name = x.0; props = x.1.0; lines = x.1.1.0; digest = x.1.1.1 }
 
 unfoldable pub texts_at : ℕ → List ℕ → Result (Texts × List ℕ) ℕ
-texts_at version bytes = mapped texts_of (both (text_at 0 4096) (both (counted (number_at w64) (properties_at version)) (both (counted (short_at 0 4096) lines_at) (text_at 0 4096)))) bytes
+texts_at version bytes = mapped texts_of (both (text_at 0 text_most) (both (counted (number_at w64) (properties_at version)) (both (counted (short_at 0 lines_most) lines_at) (text_at 0 text_most)))) bytes
 
 abbrev pub stored_of : Head × (Ties × (Lists × Texts)) → Stored
 stored_of x = record {

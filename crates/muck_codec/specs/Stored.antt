@@ -2,7 +2,7 @@
 use Rattle.std.specs.Prelude.{◌≡◌, ℕ, ◌<◌, ◌≤◌, ◌^◌, true, false, pos, List, [], ◌∷◌, ◌++◌, length, Option, Some, None, Result, Ok, Err, FitsSigned}
 use Rattle.std.specs.Int.{w32}
 use Rattle.std.specs.Ordering.{int_eq}
-use Rattle.muck_model.specs.Bytes.{text_fault}
+use Rattle.muck_model.specs.Bytes.{text_fault, text_most, lines_most}
 use Rattle.muck_model.specs.declared.dbref.Dbref.{Dbref}
 use Rattle.muck_prop.specs.Paths.{IsPath}
 use Rattle.muck_prop.specs.declared.value.PropValue.{PropValue}
@@ -23,7 +23,7 @@ abbrev pub IsText : ℕ → ℕ → List ℕ → Type 0
 IsText least most text = ((least ≤ length text) × (length text ≤ most)) × (text_fault text ≡ None)
 
 abbrev pub IsValue : PropValue → Type 0
-IsValue (Text text) = IsText 1 4096 text
+IsValue (Text text) = IsText 1 text_most text
 IsValue (Number n) = FitsSigned w32 n × (int_eq n (pos 0) ≡ false)
 
 -- a path behind the one before, and a value that isn't nothing
@@ -39,10 +39,10 @@ abbrev pub AreProperties : List Property → Type 0
 AreProperties ps = (length ps < 2 ^ 64) × Run (λ p. p.path) IsProperty None ps
 
 abbrev pub IsLine : Option (List ℕ) → List ℕ → Type 0
-IsLine before line = IsText 0 4096 line
+IsLine before line = IsText 0 text_most line
 
 abbrev pub AreLines : List (List ℕ) → Type 0
-AreLines lines = ((0 ≤ length lines) × (length lines ≤ 4096)) × Run (λ line. line) IsLine None lines
+AreLines lines = ((0 ≤ length lines) × (length lines ≤ lines_most)) × Run (λ line. line) IsLine None lines
 
 -- the record of an object
 pub record IsStored (o : Stored) : Type 0 where
@@ -51,10 +51,10 @@ pub record IsStored (o : Stored) : Type 0 where
   pub level : o.level < 2 ^ 8
   pub ties : IsDbref o.owner × (IsDbref o.place × (IsDbref o.link × IsDbref o.home))
   pub lists : IsDbref o.first_content × (IsDbref o.first_exit × IsDbref o.next)
-  pub name : IsText 0 4096 o.name
+  pub name : IsText 0 text_most o.name
   pub props : AreProperties o.props
   pub lines : AreLines o.lines
-  pub digest : IsText 0 4096 o.digest
+  pub digest : IsText 0 text_most o.digest
 
 -- what was read is spelled so, and as many bytes were taken
 pub record IsSpelled (o : Stored) (n : ℕ) (bytes : List ℕ) : Type 0 where

@@ -1,6 +1,7 @@
 // Records and batches, as they are written.
 ghost use Rattle.std.specs.Prelude.{◌≡◌, ◌≤◌, ◌<◌, ◌^◌, ◌++◌, length, OnOk, IfOk};
 ghost use Rattle.std.specs.List.{flat_map};
+ghost use Rattle.muck_model.specs.Bytes.{lines_most};
 ghost use Rattle.muck_codec.specs.Spelling.{dbref_bytes, kind_byte, text_bytes, value_bytes, property_bytes, head_bytes, ties_bytes, lists_bytes, properties_bytes, lines_bytes, texts_bytes, spelling};
 ghost use Rattle.muck_codec.specs.Batches.{four_bytes, tune_bytes};
 
@@ -125,7 +126,7 @@ fn put_each_line(lines: &[Line], out: &mut Vec<u8>) -> Result<(), NoMemory>
 
 #[tactic(auto, unfolding(crate::specs::Spelling::lines_bytes))]
 fn put_lines(out: &mut Vec<u8>, lines: &[Line]) -> Result<(), NoMemory>
-    requires { length lines.now ≤ 4096 }
+    requires { length lines.now ≤ lines_most }
     ensures { OnOk result (out.new.items ≡ out.old.items ++ lines_bytes lines.now) }
 {
     out.extend_from_slice(&(lines.len() as u16).to_be_bytes())?;
@@ -135,7 +136,7 @@ fn put_lines(out: &mut Vec<u8>, lines: &[Line]) -> Result<(), NoMemory>
 
 #[tactic(auto, unfolding(crate::specs::Spelling::texts_bytes))]
 fn put_texts(alloc: Global, out: &mut Vec<u8>, object: &Stored) -> Result<(), NoMemory>
-    requires { length object.now.lines ≤ 4096 }
+    requires { length object.now.lines ≤ lines_most }
     ensures { OnOk result (out.new.items ≡ out.old.items ++ texts_bytes object.now) }
 {
     put_text(out, &object.name)?;
@@ -148,7 +149,7 @@ fn put_texts(alloc: Global, out: &mut Vec<u8>, object: &Stored) -> Result<(), No
 /// Writes the record of an object behind the bytes, in its one spelling. After `NoMemory` a part of it may stand there.
 #[tactic(auto, unfolding(crate::specs::Spelling::spelling))]
 pub fn put_record(alloc: Global, object: &Stored, out: &mut Vec<u8>) -> Result<(), NoMemory>
-    requires lines { length object.now.lines ≤ 4096 }
+    requires lines { length object.now.lines ≤ lines_most }
     ensures { OnOk result (out.new.items ≡ out.old.items ++ spelling object.now) }
 {
     put_head(out, object)?;

@@ -2,6 +2,7 @@
 use Rattle.std.specs.Prelude.{◌≡◌, ℕ, Bool, true, not, ◌&&◌, ◌||◌, ◌==◌, nat_le, nat_lt, List, [], ◌∷◌, ◌++◌, length, codes, Option, Some, None, slice_get, slice_set, bytes_eq, if◌then◌else◌, option_and_then, Result, Ok, Err}
 use Rattle.std.specs.Option.{option_map_or}
 use Rattle.std.specs.List.{filter, list_all}
+use Rattle.muck_model.specs.Bytes.{lines_most}
 use Rattle.muck_model.specs.declared.dbref.Kind.TheVariants.{Room, Player}
 use Rattle.muck_model.specs.declared.tune.Tune.{Tune}
 use Rattle.spec_live.specs.Objects.{dbref_of, index_of, nothing}
@@ -135,7 +136,7 @@ kept_of objects o = option_and_then (slice_get objects) (index_of o.dbref)
 
 -- what is kept of an object isn't this record
 unfoldable pub differs : List Stored → Stored → Bool
-differs objects o = option_map_or (λ kept. nat_lt 4096 (length kept.lines) || not (bytes_eq (spelling kept) (spelling o))) (kept_of objects o) true
+differs objects o = option_map_or (λ kept. nat_lt lines_most (length kept.lines) || not (bytes_eq (spelling kept) (spelling o))) (kept_of objects o) true
 
 -- the records that are written over these objects: those that differ from them
 unfoldable pub written : List Stored → List Stored → List Stored

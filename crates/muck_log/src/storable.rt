@@ -2,6 +2,7 @@
 ghost use Rattle.std.specs.Prelude.{◌≡◌, ◌<◌, ◌^◌, true, false, None, All, IfOk, OnOk};
 ghost use Rattle.std.specs.Bool.{Decides};
 ghost use Rattle.std.specs.Option.{option_copied};
+ghost use Rattle.muck_model.specs.Bytes.{text_most};
 ghost use Rattle.muck_prop.specs.Paths.{IsPath};
 ghost use Rattle.muck_codec.specs.Records.{rises};
 ghost use Rattle.muck_codec.specs.Stored.{IsDbref, IsText, IsValue, IsProperty, Run, AreProperties, AreLines, IsStored};
@@ -44,14 +45,14 @@ fn see_lists(record: &Stored)
 
 // A text is one, and has room.
 fn see_text(text: &Line)
-    ensures { IsText 0 4096 text.now }
+    ensures { IsText 0 text_most text.now }
 {
     let bytes = text.as_slice();
 }
 
 #[tactic(auto, using(crate::proofs::Spelled::all_left, crate::proofs::Spelled::all_next, crate::proofs::Spelled::all_ends))]
 fn see_lines(lines: &[Line])
-    ensures { All (IsText 0 4096) lines.now }
+    ensures { All (IsText 0 text_most) lines.now }
 {
     for line in lines {
         see_text(line);
@@ -79,7 +80,7 @@ fn are_lines(lines: &[Line]) -> bool
 // Whether a text may be a property's.
 #[tactic(auto, using(crate::proofs::Spelled::filled_by))]
 fn is_filled(text: &Line) -> bool
-    ensures { Decides result (IsText 1 4096 text.now) }
+    ensures { Decides result (IsText 1 text_most text.now) }
 {
     see_text(text);
     text.as_slice().len() >= 1

@@ -1,6 +1,7 @@
 -- The limits of the values of a record.
 use Rattle.std.specs.Prelude.{ℕ, Bool, ◌&&◌, ◌||◌, ◌==◌, nat_le, nat_lt, List, length}
 use Rattle.std.specs.List.{list_all}
+use Rattle.muck_model.specs.Bytes.{lines_most}
 use Rattle.muck_codec.specs.declared.stored.Stored.{Stored}
 
 -- a hex digit in lower case
@@ -12,4 +13,4 @@ unfoldable pub is_digest : List ℕ → Bool
 is_digest digest = length digest == 0 || (length digest == 80 && list_all is_digit digest)
 
 unfoldable pub fits : Stored → Bool
-fits o = nat_le 1 (length o.name) && (nat_le (length o.name) 80 && (nat_le o.level 3 && (nat_lt o.flags.0 16384 && (nat_le (length o.lines) 4096 && is_digest o.digest))))
+fits o = nat_le 1 (length o.name) && (nat_le (length o.name) 80 && (nat_le o.level 3 && (nat_lt o.flags.0 16384 && (nat_le (length o.lines) lines_most && is_digest o.digest))))
