@@ -13,7 +13,7 @@ use Rattle.spec_commands.specs.Replies.{cant_be_done}
 use Rattle.spec_admin.specs.Players.{is_password, password_drawn, password_changed}
 use Rattle.spec_admin.specs.Replies.{password_reply}
 use Rattle.muck_perm.specs.declared.guard.Guard.{Guard}
-use Rattle.muck_perm.specs.Guards.{Did, objects_of, world_of}
+use Rattle.muck_perm.specs.inner.Guards.{Did, objects_of, world_of}
 
 abbrev changes : ℕ → Dbref → List ℕ → Change
 changes d x word = done_where d (λ w. allowed (password_check x w.objects)) (password_drawn x word) password_reply

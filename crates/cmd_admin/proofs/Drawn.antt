@@ -12,7 +12,7 @@ use Rattle.spec_commands.specs.Building.{allowed}
 use Rattle.spec_admin.specs.Players.{salt_of, password_drawn}
 use Rattle.muck_perm.specs.declared.guard.Guard.{Guard}
 use Rattle.muck_perm.specs.declared.rules.Pass.{Pass}
-use Rattle.muck_perm.specs.Guards.{Did, Done, IsLeave, objects_of, world_of}
+use Rattle.muck_perm.specs.inner.Guards.{Did, Done, IsLeave, objects_of, world_of}
 use Rattle.muck_perm.proofs.Worlds.{kept_after, same_after}
 
 -- the objects stay where a word is drawn

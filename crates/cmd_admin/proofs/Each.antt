@@ -10,9 +10,9 @@ use Rattle.spec_admin.specs.declared.word.Parameter.{Parameter}
 use Rattle.spec_admin.specs.Parameters.{parameters}
 use Rattle.spec_admin.specs.Lines.{parameter_shown, parameters_shown}
 use Rattle.muck_perm.specs.declared.guard.Guard.{Guard}
-use Rattle.muck_perm.specs.Guards.{Did, Done, world_of}
+use Rattle.muck_perm.specs.inner.Guards.{Did, Done, world_of}
 use Rattle.muck_perm.proofs.Worlds.{did_both}
-use Rattle.cmd_common.specs.Takes.{word_row}
+use Rattle.cmd_common.specs.inner.Takes.{word_row}
 use Rattle.cmd_common.proofs.Doing.{did_nothing}
 
 -- one of them, and those behind it

@@ -19,8 +19,8 @@ use Rattle.spec_admin.specs.declared.word.AdminWord.TheVariants.{Kill}
 use Rattle.spec_admin.specs.Processes.{killed}
 use Rattle.spec_admin.specs.Lines.{admin_shape, ended_by}
 use Rattle.muck_perm.specs.declared.guard.Guard.{Guard}
-use Rattle.muck_perm.specs.Guards.{world_of}
-use Rattle.cmd_common.specs.Takes.{Takes}
+use Rattle.muck_perm.specs.inner.Guards.{world_of}
+use Rattle.cmd_common.specs.inner.Takes.{Takes}
 
 -- a line that hands its text on, and one that is nobody's
 abbrev hands : Arguments → Play

@@ -9,7 +9,7 @@ use Rattle.muck_queue.specs.Queues.{Queue}
 use Rattle.spec_admin.specs.Replies.{killed_reply}
 use Rattle.spec_admin.specs.Processes.{ending, process_meant, end_told, kill_told}
 use Rattle.muck_perm.specs.declared.guard.Guard.{Guard}
-use Rattle.muck_perm.specs.Guards.{Done, objects_of, world_of}
+use Rattle.muck_perm.specs.inner.Guards.{Done, objects_of, world_of}
 
 -- where the process may be ended
 pub ends_told : (d : ℕ) (a : Actor) (text : List ℕ) (q : Queue) (p : Process) (old new : Guard) → process_meant text q ≡ Some p → verdict (objects_of old) a (ending p) ≡ None →

@@ -11,9 +11,9 @@ use Rattle.muck_queue.specs.Queues.{Queue}
 use Rattle.spec_admin.specs.Replies.{processes_count}
 use Rattle.spec_admin.specs.Processes.{may_end, process_shown, processes_shown}
 use Rattle.muck_perm.specs.declared.guard.Guard.{Guard}
-use Rattle.muck_perm.specs.Guards.{Did, Done, objects_of, world_of}
+use Rattle.muck_perm.specs.inner.Guards.{Did, Done, objects_of, world_of}
 use Rattle.muck_perm.proofs.Worlds.{did_both}
-use Rattle.cmd_admin.specs.Shown.{IsShown}
+use Rattle.cmd_admin.specs.inner.Shown.{IsShown}
 use Rattle.cmd_admin.proofs.Each.{split_here}
 
 -- these are shown, and how many they and those before them are

@@ -21,9 +21,9 @@ use Rattle.spec_commands.specs.Building.{allowed, made_at, created_shown}
 use Rattle.spec_commands.specs.Replies.{cant_be_done}
 use Rattle.spec_admin.specs.Players.{password_drawn, player_put}
 use Rattle.muck_perm.specs.declared.guard.Guard.{Guard}
-use Rattle.muck_perm.specs.Guards.{Did, Done, Founds, objects_of}
+use Rattle.muck_perm.specs.inner.Guards.{Did, Done, Founds, objects_of}
 use Rattle.muck_perm.proofs.Worlds.{same_as, did_both}
-use Rattle.cmd_admin.specs.Refused.{IsRefused}
+use Rattle.cmd_admin.specs.inner.Refused.{IsRefused}
 use Rattle.cmd_admin.proofs.Checked.{made_checked}
 
 -- who does what is a wizard's alone may give passwords

@@ -9,8 +9,8 @@ use Rattle.muck_queue.specs.Queues.{Queue}
 use Rattle.spec_admin.specs.Lines.{admin_line}
 use Rattle.spec_admin.proofs.Permitted.{admin_open}
 use Rattle.muck_perm.specs.declared.guard.Guard.{Guard}
-use Rattle.muck_perm.specs.Guards.{world_of}
-use Rattle.cmd_common.specs.Plays.{Plays}
+use Rattle.muck_perm.specs.inner.Guards.{world_of}
+use Rattle.cmd_common.specs.inner.Plays.{Plays}
 
 pub plays_open : (q : Queue) (d : ℕ) (line : List ℕ) (old new : Guard) (result : Result Outcome NoMemory) → Plays (admin_line q d old.actor line) old new result →
     OnOk result (Licensed old.actor nobody (world_of old) (world_of new))

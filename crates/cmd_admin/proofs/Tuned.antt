@@ -9,8 +9,8 @@ use Rattle.spec_commands.specs.Going.{Play, ended}
 use Rattle.spec_commands.specs.Reading.{is_empty, has_full, left_part, right_part, incomplete}
 use Rattle.spec_admin.specs.Lines.{by_wizard, parameters_shown, parameter_set, tune_done}
 use Rattle.muck_perm.specs.declared.guard.Guard.{Guard}
-use Rattle.muck_perm.specs.Guards.{world_of}
-use Rattle.cmd_common.specs.Plays.{Plays}
+use Rattle.muck_perm.specs.inner.Guards.{world_of}
+use Rattle.cmd_common.specs.inner.Plays.{Plays}
 use Rattle.cmd_common.proofs.Taking.{plays_same}
 
 -- by whether the text is empty, and whether it is whole

@@ -3,8 +3,8 @@ ghost use Rattle.std.specs.Prelude.{◌≡◌};
 ghost use Rattle.spec_rights.specs.declared.act.Act.{Act};
 ghost use Rattle.spec_rights.specs.Verdict.{verdict};
 ghost use Rattle.spec_commands.specs.Programming.{over_denied};
-ghost use Rattle.muck_perm.specs.Guards.{objects_of};
-ghost use Rattle.cmd_common.specs.Plays.{Plays};
+ghost use Rattle.muck_perm.specs.inner.Guards.{objects_of};
+ghost use Rattle.cmd_common.specs.inner.Plays.{Plays};
 
 use cmd_common::refuse;
 use muck_model::{Denial, NoMemory};

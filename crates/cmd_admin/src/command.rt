@@ -5,9 +5,9 @@ ghost use Rattle.spec_rights.specs.Licence.{Licensed, nobody};
 ghost use Rattle.spec_commands.specs.Reading.{with_arguments};
 ghost use Rattle.muck_queue.specs.Queues.{without};
 ghost use Rattle.spec_admin.specs.Lines.{admin_words, admin_shape, admin_done, admin_line, ended_by, after_line};
-ghost use Rattle.muck_perm.specs.Guards.{world_of};
-ghost use Rattle.cmd_common.specs.Plays.{Plays};
-ghost use Rattle.cmd_common.specs.Takes.{word_row, AreJudged};
+ghost use Rattle.muck_perm.specs.inner.Guards.{world_of};
+ghost use Rattle.cmd_common.specs.inner.Plays.{Plays};
+ghost use Rattle.cmd_common.specs.inner.Takes.{word_row, AreJudged};
 
 use crate::parameters::tune;
 use crate::players::{change_password, make_player};

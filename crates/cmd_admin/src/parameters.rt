@@ -7,9 +7,9 @@ ghost use Rattle.spec_commands.specs.declared.outcome.Outcome.{Outcome};
 ghost use Rattle.spec_admin.specs.Replies.{parameter_line};
 ghost use Rattle.spec_admin.specs.Parameters.{parameters, parameter_most, parameter_of, with_parameter, parameter_named, value_for, retuned};
 ghost use Rattle.spec_admin.specs.Lines.{by_wizard, parameter_shown, parameters_shown, retune_told, parameter_set, tune_done};
-ghost use Rattle.muck_perm.specs.Guards.{Did, world_of};
-ghost use Rattle.cmd_common.specs.Plays.{Plays};
-ghost use Rattle.cmd_common.specs.Takes.{word_row};
+ghost use Rattle.muck_perm.specs.inner.Guards.{Did, world_of};
+ghost use Rattle.cmd_common.specs.inner.Plays.{Plays};
+ghost use Rattle.cmd_common.specs.inner.Takes.{word_row};
 
 use crate::asking::{deny, wizard_denial};
 use cmd_common::{incomplete, parts_in};

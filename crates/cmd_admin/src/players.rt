@@ -9,8 +9,8 @@ ghost use Rattle.spec_rights.specs.Verdict.{verdict};
 ghost use Rattle.spec_commands.specs.Building.{allowed, created_shown, done_where};
 ghost use Rattle.spec_admin.specs.Players.{is_password, salt_of, password_drawn, player_put, player_made, password_changed};
 ghost use Rattle.spec_admin.specs.Replies.{password_reply};
-ghost use Rattle.muck_perm.specs.Guards.{Did, IsLeave, objects_of, world_of};
-ghost use Rattle.cmd_admin.specs.Refused.{IsRefused};
+ghost use Rattle.muck_perm.specs.inner.Guards.{Did, IsLeave, objects_of, world_of};
+ghost use Rattle.cmd_admin.specs.inner.Refused.{IsRefused};
 
 use cmd_common::{bad_name, cant_be_done, is_player_name, number_of, refuse, show_created};
 use muck_model::{Dbref, Kind, Line, NoMemory};

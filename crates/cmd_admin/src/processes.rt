@@ -6,8 +6,8 @@ ghost use Rattle.spec_rights.specs.Verdict.{verdict};
 ghost use Rattle.muck_queue.specs.Queues.{without};
 ghost use Rattle.spec_admin.specs.Replies.{process_line, processes_count};
 ghost use Rattle.spec_admin.specs.Processes.{ending, process_shown, processes_shown, process_meant, kill_told, killed};
-ghost use Rattle.muck_perm.specs.Guards.{Did, objects_of, world_of};
-ghost use Rattle.cmd_admin.specs.Shown.{IsShown};
+ghost use Rattle.muck_perm.specs.inner.Guards.{Did, objects_of, world_of};
+ghost use Rattle.cmd_admin.specs.inner.Shown.{IsShown};
 
 use cmd_common::{name_and, refuse};
 use muck_model::{Denial, Line, NoMemory, decimal};

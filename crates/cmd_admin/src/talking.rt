@@ -6,8 +6,8 @@ ghost use Rattle.spec_commands.specs.Going.{ended};
 ghost use Rattle.spec_live.specs.Lives.{tell};
 ghost use Rattle.spec_admin.specs.Replies.{shouts, dumping, going_down};
 ghost use Rattle.spec_admin.specs.Lines.{by_wizard, player_booted, shouted};
-ghost use Rattle.muck_perm.specs.Guards.{Did, world_of};
-ghost use Rattle.cmd_common.specs.Plays.{Plays};
+ghost use Rattle.muck_perm.specs.inner.Guards.{Did, world_of};
+ghost use Rattle.cmd_common.specs.inner.Plays.{Plays};
 
 use crate::asking::{deny, wizard_denial};
 use cmd_common::name_and;

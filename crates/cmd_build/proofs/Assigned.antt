@@ -7,7 +7,7 @@ use Rattle.spec_live.specs.Lives.{Change}
 use Rattle.spec_rights.specs.declared.act.Actor.{Actor}
 use Rattle.spec_commands.specs.Settings.{has_colon, path_part, value_part, setting_asked, word_set, property_set, assigned}
 use Rattle.muck_perm.specs.declared.guard.Guard.{Guard}
-use Rattle.muck_perm.specs.Guards.{Did}
+use Rattle.muck_perm.specs.inner.Guards.{Did}
 
 -- the property of these parts
 abbrev parts_set : ℕ → Actor → Dbref → List ℕ → List ℕ → Change

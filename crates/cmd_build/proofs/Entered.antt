@@ -19,10 +19,10 @@ use Rattle.spec_commands.specs.Going.{Play, ended}
 use Rattle.spec_commands.specs.Building.{created_shown}
 use Rattle.spec_commands.specs.Programming.{over, first_level, program_put, program_at, program_new}
 use Rattle.muck_perm.specs.declared.guard.Guard.{Guard}
-use Rattle.muck_perm.specs.Guards.{Done, Founds, objects_of, world_of}
+use Rattle.muck_perm.specs.inner.Guards.{Done, Founds, objects_of, world_of}
 use Rattle.muck_perm.proofs.Worlds.{same_as, same_after, done_both}
-use Rattle.cmd_common.specs.Plays.{Plays}
-use Rattle.cmd_build.specs.Entering.{IsEntered}
+use Rattle.cmd_common.specs.inner.Plays.{Plays}
+use Rattle.cmd_build.specs.inner.Entering.{IsEntered}
 
 -- where memory was wanted
 wanted : (p : Play) (old mid new : Guard) (result : Result Outcome NoMemory) → mid ≡ old → (new ≡ mid) × OnOk result ⊥ → Plays p old new result

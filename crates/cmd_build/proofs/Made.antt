@@ -15,9 +15,9 @@ use Rattle.spec_rights.specs.Changing.{created_so}
 use Rattle.spec_commands.specs.Replies.{cant_be_done}
 use Rattle.spec_commands.specs.Building.{made_at, created_shown, making}
 use Rattle.muck_perm.specs.declared.guard.Guard.{Guard}
-use Rattle.muck_perm.specs.Guards.{Did, Founds, objects_of}
+use Rattle.muck_perm.specs.inner.Guards.{Did, Founds, objects_of}
 use Rattle.muck_perm.proofs.Worlds.{same_as, did_both}
-use Rattle.cmd_build.specs.Told.{IsTold}
+use Rattle.cmd_build.specs.inner.Told.{IsTold}
 
 -- where memory was wanted
 wanted : (f : Change) (old mid new : Guard) (result : Result (Unit {0}) NoMemory) → mid ≡ old → (new ≡ mid) × OnOk result ⊥ → Did f old new result

@@ -17,8 +17,8 @@ use Rattle.spec_commands.proofs.Gone.{world_of as left, whole_ended}
 use Rattle.spec_commands.proofs.Lawful.{lawful_with}
 use Rattle.spec_commands.proofs.Permitted.{build_lawful}
 use Rattle.muck_perm.specs.declared.guard.Guard.{Guard}
-use Rattle.muck_perm.specs.Guards.{world_of}
-use Rattle.cmd_common.specs.Plays.{Plays}
+use Rattle.muck_perm.specs.inner.Guards.{world_of}
+use Rattle.cmd_common.specs.inner.Plays.{Plays}
 
 -- whatever the table has for its first word
 word_open : (a : Actor) (d : ℕ) (line word text : List ℕ) (found : Option BuildWord) → Whole left a None (λ es. clearing (clears_word found) nobody) Always (by_command build_shape (build_done d a line) d a word text found)

@@ -12,7 +12,7 @@ use Rattle.spec_live.specs.declared.object.Object.{Object}
 use Rattle.spec_live.specs.Objects.{Entry, dbref_of, is_garbage, kind_in, object_in, number_in, object_at}
 use Rattle.spec_live.proofs.Lists.{some_at}
 use Rattle.spec_commands.specs.Building.{owned_named}
-use Rattle.cmd_build.specs.Owned.{is_wanted, wanted_at}
+use Rattle.cmd_build.specs.inner.Owned.{is_wanted, wanted_at}
 
 -- what isn't garbage
 abbrev there : Object → Option Object

@@ -1,3 +1,1 @@
-pub mod Entering
-pub mod Owned
-pub mod Told
+pub mod inner

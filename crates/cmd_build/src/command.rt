@@ -4,9 +4,9 @@ ghost use Rattle.spec_rights.specs.Licence.{Licensed, clearing, nobody};
 ghost use Rattle.spec_commands.specs.Free.{clears};
 ghost use Rattle.spec_commands.specs.Reading.{shaped, with_arguments};
 ghost use Rattle.spec_commands.specs.Commands.{build_words, build_shape, build_done, build_line};
-ghost use Rattle.muck_perm.specs.Guards.{world_of};
-ghost use Rattle.cmd_common.specs.Plays.{Plays};
-ghost use Rattle.cmd_common.specs.Takes.{word_row, AreJudged};
+ghost use Rattle.muck_perm.specs.inner.Guards.{world_of};
+ghost use Rattle.cmd_common.specs.inner.Plays.{Plays};
+ghost use Rattle.cmd_common.specs.inner.Takes.{word_row, AreJudged};
 
 use crate::locks::{lock, unlock};
 use crate::making::{make, make_thing, open};

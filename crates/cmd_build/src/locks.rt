@@ -4,7 +4,7 @@ ghost use Rattle.spec_live.specs.Lives.{reading};
 ghost use Rattle.spec_rights.specs.declared.act.Act.{Act};
 ghost use Rattle.spec_commands.specs.Replies.{unlocked_reply};
 ghost use Rattle.spec_commands.specs.Building.{key_read, lock_kept, lock_set, kept};
-ghost use Rattle.muck_perm.specs.Guards.{Did, IsLeave, world_of};
+ghost use Rattle.muck_perm.specs.inner.Guards.{Did, IsLeave, world_of};
 
 use crate::messages::keep;
 use cmd_common::{Write, print_key, read_key, refuse, write_by_leave};

@@ -3,8 +3,8 @@ ghost use Rattle.std.specs.Prelude.{◌≡◌, ◌≤◌, true, length};
 ghost use Rattle.spec_live.specs.Lives.{tell};
 ghost use Rattle.spec_commands.specs.Replies.{cant_be_done};
 ghost use Rattle.spec_commands.specs.Building.{making, kind_of, as_new, may_be, act_in, made, thing_made, exit_opened};
-ghost use Rattle.muck_perm.specs.Guards.{Did, IsLeave, world_of};
-ghost use Rattle.cmd_build.specs.Told.{IsTold};
+ghost use Rattle.muck_perm.specs.inner.Guards.{Did, IsLeave, world_of};
+ghost use Rattle.cmd_build.specs.inner.Told.{IsTold};
 
 use cmd_common::{
     act_in, cant_be_done, create, home_at, may_be, number_of, place_at, refuse, show_created,

@@ -8,7 +8,7 @@ ghost use Rattle.spec_rights.specs.Changing.{stored};
 ghost use Rattle.spec_commands.specs.Building.{is_there, written, kept};
 ghost use Rattle.spec_commands.specs.Commands.{message_name};
 ghost use Rattle.spec_commands.specs.Replies.{set_reply};
-ghost use Rattle.muck_perm.specs.Guards.{Did};
+ghost use Rattle.muck_perm.specs.inner.Guards.{Did};
 
 use cmd_common::{Write, message_path, try_write};
 use muck_model::{Dbref, Line, NoMemory};

@@ -4,9 +4,9 @@ ghost use Rattle.spec_live.specs.Lives.{tell};
 ghost use Rattle.spec_rights.specs.declared.act.Act.{Act};
 ghost use Rattle.spec_commands.specs.Replies.{entering_editor};
 ghost use Rattle.spec_commands.specs.Programming.{source_of, program_new, program_made, program_edited, program_listed, program_run};
-ghost use Rattle.muck_perm.specs.Guards.{Did, IsLeave, world_of};
-ghost use Rattle.cmd_common.specs.Plays.{Plays};
-ghost use Rattle.cmd_build.specs.Entering.{IsEntered};
+ghost use Rattle.muck_perm.specs.inner.Guards.{Did, IsLeave, world_of};
+ghost use Rattle.cmd_common.specs.inner.Plays.{Plays};
+ghost use Rattle.cmd_build.specs.inner.Entering.{IsEntered};
 
 use cmd_common::{cant_be_done, copy_lines, number_of, refuse, show_created, show_lines};
 use muck_model::{Dbref, Line, LineList, NoMemory};

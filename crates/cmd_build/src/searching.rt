@@ -5,8 +5,8 @@ ghost use Rattle.spec_live.specs.Objects.{same};
 ghost use Rattle.spec_live.specs.Lives.{tell};
 ghost use Rattle.spec_commands.specs.Building.{begins, holds_name, owned_named, find_shown};
 ghost use Rattle.spec_commands.specs.Replies.{found_count};
-ghost use Rattle.muck_perm.specs.Guards.{Did};
-ghost use Rattle.cmd_build.specs.Owned.{is_wanted, wanted_at};
+ghost use Rattle.muck_perm.specs.inner.Guards.{Did};
+ghost use Rattle.cmd_build.specs.inner.Owned.{is_wanted, wanted_at};
 
 use cmd_common::list;
 use muck_db::Db;

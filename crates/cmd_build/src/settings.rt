@@ -8,7 +8,7 @@ ghost use Rattle.spec_rights.specs.Changing.{stored};
 ghost use Rattle.spec_commands.specs.Replies.{property_reply};
 ghost use Rattle.spec_commands.specs.Building.{is_there, done_where, written};
 ghost use Rattle.spec_commands.specs.Settings.{setting_asked, has_colon, word_set, property_set, assigned};
-ghost use Rattle.muck_perm.specs.Guards.{Did, IsLeave};
+ghost use Rattle.muck_perm.specs.inner.Guards.{Did, IsLeave};
 
 use cmd_common::{Write, cant_be_done, refuse, try_write};
 use muck_model::{Dbref, Line, NoMemory};

@@ -1,7 +1,7 @@
 // Links and names.
 ghost use Rattle.std.specs.Prelude.{◌≡◌, ◌≤◌, length};
 ghost use Rattle.spec_commands.specs.Building.{is_linkable, link_set, link_cleared, name_set};
-ghost use Rattle.muck_perm.specs.Guards.{Did, world_of};
+ghost use Rattle.muck_perm.specs.inner.Guards.{Did, world_of};
 
 use cmd_common::{Write, bad_name, cant_be_done, may_be_called, try_write};
 use muck_model::{Dbref, Kind, Line, NoMemory};

@@ -10,9 +10,9 @@ use Rattle.spec_commands.specs.declared.outcome.Outcome.{Outcome}
 use Rattle.spec_commands.specs.declared.outcome.Outcome.TheVariants.{Done as Finished}
 use Rattle.spec_commands.specs.Going.{ended}
 use Rattle.muck_perm.specs.declared.guard.Guard.{Guard}
-use Rattle.muck_perm.specs.Guards.{Did, Done}
+use Rattle.muck_perm.specs.inner.Guards.{Did, Done}
 use Rattle.muck_perm.proofs.Worlds.{kept_itself, did_both}
-use Rattle.cmd_common.specs.Plays.{Plays}
+use Rattle.cmd_common.specs.inner.Plays.{Plays}
 
 pub did_nothing : (a : Guard) → Done unchanged a a
 unfolding unchanged

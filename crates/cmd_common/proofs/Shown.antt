@@ -5,7 +5,7 @@ use Rattle.muck_model.specs.declared.memory.NoMemory.{NoMemory}
 use Rattle.spec_live.specs.Lives.{tell}
 use Rattle.spec_commands.specs.Programming.{lines_shown}
 use Rattle.muck_perm.specs.declared.guard.Guard.{Guard}
-use Rattle.muck_perm.specs.Guards.{Did, Done}
+use Rattle.muck_perm.specs.inner.Guards.{Did, Done}
 use Rattle.muck_perm.proofs.Worlds.{did_both}
 use Rattle.cmd_common.proofs.Doing.{did_nothing}
 

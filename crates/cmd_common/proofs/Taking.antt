@@ -11,10 +11,10 @@ use Rattle.spec_commands.specs.declared.shape.Shape.{Shape}
 use Rattle.spec_commands.specs.Going.{Play, ended}
 use Rattle.spec_commands.specs.Reading.{incomplete, left_in, right_in, with_parts, with_arguments}
 use Rattle.muck_perm.specs.declared.guard.Guard.{Guard}
-use Rattle.muck_perm.specs.Guards.{world_of}
+use Rattle.muck_perm.specs.inner.Guards.{world_of}
 use Rattle.cmd_common.specs.declared.parts.Parts.{Parts}
-use Rattle.cmd_common.specs.Plays.{Plays, FindsFor}
-use Rattle.cmd_common.specs.Takes.{IsCut, Takes}
+use Rattle.cmd_common.specs.inner.Plays.{Plays, FindsFor}
+use Rattle.cmd_common.specs.inner.Takes.{IsCut, Takes}
 
 -- two lines that do the same there
 pub plays_same : (f g : Play) (old new : Guard) (result : Result Outcome NoMemory) → f (world_of old) ≡ g (world_of old) → Plays f old new result → Plays g old new result

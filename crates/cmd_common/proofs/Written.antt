@@ -5,8 +5,8 @@ use Rattle.spec_live.specs.declared.fault.DbFault.TheVariants.{NoSuchObject, Wou
 use Rattle.spec_live.specs.Lives.{Change}
 use Rattle.spec_commands.specs.Building.{allowed}
 use Rattle.muck_perm.specs.declared.guard.Guard.{Guard}
-use Rattle.muck_perm.specs.Guards.{Makes, Tries}
-use Rattle.cmd_common.specs.Writes.{IsDone}
+use Rattle.muck_perm.specs.inner.Guards.{Makes, Tries}
+use Rattle.cmd_common.specs.inner.Writes.{IsDone}
 
 refused : (f : Change) (old new : Guard) (fault : DbFault) → new ≡ old → IsDone false f old new (Err fault)
 refused f old new NoSuchObject e = (refl, e)

@@ -1,3 +1,1 @@
-pub mod Plays
-pub mod Takes
-pub mod Writes
+pub mod inner

@@ -6,8 +6,8 @@ ghost use Rattle.muck_match.specs.Naming.{found, player_named};
 ghost use Rattle.spec_commands.specs.Replies.{not_understood, not_known};
 ghost use Rattle.spec_commands.specs.Finding.{finding, finding_player, finding_object, is_object};
 ghost use Rattle.spec_commands.specs.Going.{is_program_at};
-ghost use Rattle.muck_perm.specs.Guards.{Did, world_of};
-ghost use Rattle.cmd_common.specs.Plays.{Finds};
+ghost use Rattle.muck_perm.specs.inner.Guards.{Did, world_of};
+ghost use Rattle.cmd_common.specs.inner.Plays.{Finds};
 
 use crate::replies::cant_be_done;
 use muck_match::{Found, find, player};

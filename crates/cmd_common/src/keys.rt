@@ -3,7 +3,7 @@ ghost use Rattle.std.specs.Prelude.{◌≡◌, IfOk};
 ghost use Rattle.muck_lock.specs.Grammar.{lock_of};
 ghost use Rattle.muck_lock.specs.inner.Waiting.{IsRead};
 ghost use Rattle.spec_commands.specs.Building.{key_kept, keys_in};
-ghost use Rattle.muck_perm.specs.Guards.{objects_of};
+ghost use Rattle.muck_perm.specs.inner.Guards.{objects_of};
 
 use muck_db::Db;
 use muck_lock::{Finder, LockFault, print, read};

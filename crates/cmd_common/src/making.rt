@@ -4,7 +4,7 @@ ghost use Rattle.spec_live.specs.Making.{create_check};
 ghost use Rattle.spec_rights.specs.Changing.{created_so};
 ghost use Rattle.spec_commands.specs.Going.{home_at};
 ghost use Rattle.spec_commands.specs.Building.{may_house, may_lead, kind_of, as_new, may_be, act_in};
-ghost use Rattle.muck_perm.specs.Guards.{Founds, IsLeave, objects_of, world_of};
+ghost use Rattle.muck_perm.specs.inner.Guards.{Founds, IsLeave, objects_of, world_of};
 
 use muck_model::{Dbref, Kind, Line};
 use muck_perm::{Guard, Pass};

@@ -4,7 +4,7 @@ ghost use Rattle.std.specs.List.{list_any};
 ghost use Rattle.spec_live.specs.Objects.{is_player};
 ghost use Rattle.spec_commands.specs.Finding.{is_so};
 ghost use Rattle.spec_commands.specs.Building.{is_reserved, bad_start, is_name, is_player_name, may_be_called};
-ghost use Rattle.muck_perm.specs.Guards.{world_of};
+ghost use Rattle.muck_perm.specs.inner.Guards.{world_of};
 
 use muck_db::Db;
 use muck_match::player_named;

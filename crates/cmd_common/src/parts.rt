@@ -3,7 +3,7 @@ ghost use Rattle.std.specs.Prelude.{◌≡◌, ◌≤◌, IfOk, length, drop};
 ghost use Rattle.std.specs.List.{position, position_or_len, before_first, after_first, list_any};
 ghost use Rattle.spec_commands.specs.Texts.{first_word, other_words, trimmed};
 ghost use Rattle.spec_commands.specs.Reading.{is_equals, has_equals, is_whole, left_in, right_in};
-ghost use Rattle.cmd_common.specs.Takes.{IsCut};
+ghost use Rattle.cmd_common.specs.inner.Takes.{IsCut};
 
 use muck_model::{Line, NoMemory};
 use spec_commands::{Form, cut_word, trim};

@@ -3,9 +3,9 @@ ghost use Rattle.std.specs.Prelude.{◌≡◌, ◌&&◌, ◌||◌, map, IfOk, If
 ghost use Rattle.spec_commands.specs.Reading.{looked_up, sought, meant, is_fit, are_fit, with_fit, with_parts, with_arguments};
 ghost use Rattle.spec_commands.specs.Programming.{over};
 ghost use Rattle.spec_commands.specs.Finding.{finding, finding_player};
-ghost use Rattle.muck_perm.specs.Guards.{world_of};
-ghost use Rattle.cmd_common.specs.Plays.{FindsFor};
-ghost use Rattle.cmd_common.specs.Takes.{word_row, Takes, IsJudged, AreJudged};
+ghost use Rattle.muck_perm.specs.inner.Guards.{world_of};
+ghost use Rattle.cmd_common.specs.inner.Plays.{FindsFor};
+ghost use Rattle.cmd_common.specs.inner.Takes.{word_row, Takes, IsJudged, AreJudged};
 
 use crate::finding::{is_object, is_program, tell_not_known, tell_not_understood};
 use crate::names::is_name;

@@ -5,7 +5,7 @@ ghost use Rattle.spec_live.specs.Lives.{tell};
 ghost use Rattle.spec_rights.specs.Asking.{refused, denied_text};
 ghost use Rattle.spec_commands.specs.Replies.{cant_be_done, bad_name, usage};
 ghost use Rattle.spec_commands.specs.Reading.{incomplete};
-ghost use Rattle.muck_perm.specs.Guards.{Did};
+ghost use Rattle.muck_perm.specs.inner.Guards.{Did};
 
 use muck_model::{Denial, NoMemory};
 use muck_perm::Guard;

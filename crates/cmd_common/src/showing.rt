@@ -8,7 +8,7 @@ ghost use Rattle.spec_rights.specs.Levels.{name_shown, number_of};
 ghost use Rattle.spec_commands.specs.Finding.{shown_others, listed};
 ghost use Rattle.spec_commands.specs.Building.{created_shown};
 ghost use Rattle.spec_commands.specs.Programming.{lines_shown};
-ghost use Rattle.muck_perm.specs.Guards.{Did, objects_of, world_of};
+ghost use Rattle.muck_perm.specs.inner.Guards.{Did, objects_of, world_of};
 
 use muck_model::{Dbref, Line, NoMemory};
 use muck_perm::{Guard, long_form, name_shown};

@@ -3,8 +3,8 @@ ghost use Rattle.std.specs.Prelude.{◌≡◌, ◌||◌, true};
 ghost use Rattle.spec_live.specs.Objects.{nothing, is_thing, is_player};
 ghost use Rattle.spec_commands.specs.Building.{has_home, done_where, written};
 ghost use Rattle.spec_commands.specs.Settings.{setting_act, is_setting};
-ghost use Rattle.muck_perm.specs.Guards.{Did, IsLeave, world_of};
-ghost use Rattle.cmd_common.specs.Writes.{act_of, may, change_of, IsFit, IsDone};
+ghost use Rattle.muck_perm.specs.inner.Guards.{Did, IsLeave, world_of};
+ghost use Rattle.cmd_common.specs.inner.Writes.{act_of, may, change_of, IsFit, IsDone};
 
 use crate::replies::{cant_be_done, refuse};
 use muck_model::{Dbref, Kind, Line, NoMemory};

@@ -15,8 +15,8 @@ use Rattle.spec_commands.proofs.Gone.{walked_open}
 use Rattle.spec_commands.proofs.Gone as gone
 use Rattle.spec_commands.proofs.Permitted.{self_free, play_leading}
 use Rattle.muck_perm.specs.declared.guard.Guard.{Guard}
-use Rattle.muck_perm.specs.Guards.{objects_of, world_of}
-use Rattle.cmd_common.specs.Plays.{Plays}
+use Rattle.muck_perm.specs.inner.Guards.{objects_of, world_of}
+use Rattle.cmd_common.specs.inner.Plays.{Plays}
 
 -- what keeps to the licence is licensed where a guard plays it
 plays_licensed : (p : Play) (a : Actor) (free : List Entry → Freedom) (old new : Guard) (r : Result Outcome NoMemory) →

@@ -25,8 +25,8 @@ use Rattle.spec_commands.proofs.Noted.{notes_both_shown, place_same}
 use Rattle.spec_commands.proofs.Gone.{item_kind}
 use Rattle.muck_perm.specs.declared.rules.Pass.{Pass}
 use Rattle.muck_perm.specs.declared.guard.Guard.{Guard}
-use Rattle.muck_perm.specs.Verdicts.{IsVerdict}
-use Rattle.muck_perm.specs.Guards.{Makes, Done, Did, IsLeave, IsGiven, is_here, objects_of, world_of}
+use Rattle.muck_perm.specs.inner.Verdicts.{IsVerdict}
+use Rattle.muck_perm.specs.inner.Guards.{Makes, Done, Did, IsLeave, IsGiven, is_here, objects_of, world_of}
 
 -- Moves.
 

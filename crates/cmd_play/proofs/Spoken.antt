@@ -11,9 +11,9 @@ use Rattle.std.proofs.Common.{◌≡◌, ap}
 use Rattle.spec_mpi.specs.Messages.{spoken as said_of}
 use Rattle.spec_commands.specs.Messages.{spoken, with_message}
 use Rattle.muck_perm.specs.declared.guard.Guard.{Guard}
-use Rattle.muck_perm.specs.Guards.{Same, Did, Done, world_of}
+use Rattle.muck_perm.specs.inner.Guards.{Same, Did, Done, world_of}
 use Rattle.muck_perm.proofs.Worlds.{kept_after, same_after}
-use Rattle.cmd_play.specs.Speaking.{Speaks, Says}
+use Rattle.cmd_play.specs.inner.Speaking.{Speaks, Says}
 
 pub was_said : (a : Actor) (x : Dbref) (how : List ℕ) (typed : Typed) (text : List ℕ) (old new : Guard) (r : Result (List ℕ) NoMemory) →
     IfOk r (λ line. line ≡ (said_of a x how typed.word typed.rest text (world_of old)).0) → Did (λ w. (said_of a x how typed.word typed.rest text w).1) old new r → Speaks (spoken a x how typed text) old new r

@@ -8,9 +8,9 @@ ghost use Rattle.spec_commands.specs.Finding.{looked, look_shown};
 ghost use Rattle.spec_commands.specs.Reading.{is_empty, by_table};
 ghost use Rattle.spec_commands.specs.Free.{free_play};
 ghost use Rattle.spec_commands.specs.Commands.{play_words, play_shape, line_typed, play_done, signed, play_line};
-ghost use Rattle.muck_perm.specs.Guards.{Did, objects_of, world_of};
-ghost use Rattle.cmd_common.specs.Plays.{Plays};
-ghost use Rattle.cmd_common.specs.Takes.{word_row};
+ghost use Rattle.muck_perm.specs.inner.Guards.{Did, objects_of, world_of};
+ghost use Rattle.cmd_common.specs.inner.Plays.{Plays};
+ghost use Rattle.cmd_common.specs.inner.Takes.{word_row};
 
 use crate::going::{go, go_home};
 use crate::looking::{examine, inventory, look, look_at};

@@ -9,8 +9,8 @@ ghost use Rattle.spec_rights.specs.Licence.{Licensed, oneself};
 ghost use Rattle.spec_commands.specs.Replies.{cant_go, has_left, has_arrived};
 ghost use Rattle.spec_commands.specs.Finding.{shown_others, looked};
 ghost use Rattle.spec_commands.specs.Going.{home_at, link_at, movable, gone, gone_home, failed, drop_shown, led_place, led, tried, walked, went};
-ghost use Rattle.muck_perm.specs.Guards.{Did, Done, IsGiven, objects_of, world_of};
-ghost use Rattle.cmd_common.specs.Plays.{Plays};
+ghost use Rattle.muck_perm.specs.inner.Guards.{Did, Done, IsGiven, objects_of, world_of};
+ghost use Rattle.cmd_common.specs.inner.Plays.{Plays};
 
 use crate::looking::look;
 use crate::messages::{message_or, message_to_others, show_both};

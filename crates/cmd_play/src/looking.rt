@@ -8,7 +8,7 @@ ghost use Rattle.spec_live.specs.Worth.{lock_text};
 ghost use Rattle.spec_commands.specs.Messages.{look_typed};
 ghost use Rattle.spec_commands.specs.Finding.{listed_under, is_seen, seen_in, room_shown, looked, is_room_at, look_shown, owner_shown, examined};
 ghost use Rattle.spec_commands.specs.Going.{inventory_shown};
-ghost use Rattle.muck_perm.specs.Guards.{Did, objects_of, world_of};
+ghost use Rattle.muck_perm.specs.inner.Guards.{Did, objects_of, world_of};
 
 use crate::messages::{message_or, show_message};
 use crate::typed::word_typed;

@@ -4,8 +4,8 @@ ghost use Rattle.muck_model.specs.Bytes.{text_fault};
 ghost use Rattle.spec_commands.specs.Messages.{message_how, spoken, with_message};
 ghost use Rattle.spec_commands.specs.Finding.{shown_others, message_or, message_shown, message_to_others};
 ghost use Rattle.spec_commands.specs.Going.{both_shown};
-ghost use Rattle.muck_perm.specs.Guards.{Did};
-ghost use Rattle.cmd_play.specs.Speaking.{Speaks, Says};
+ghost use Rattle.muck_perm.specs.inner.Guards.{Did};
+ghost use Rattle.cmd_play.specs.inner.Speaking.{Speaks, Says};
 
 use crate::texts::joined;
 use cmd_common::{message_path, show_others};

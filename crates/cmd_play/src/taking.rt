@@ -6,7 +6,7 @@ ghost use Rattle.spec_rights.specs.declared.act.Act.TheVariants.{Take as TakeIt}
 ghost use Rattle.spec_rights.specs.Asking.{asked, refused};
 ghost use Rattle.spec_commands.specs.Replies.{taken_reply, dropped_reply};
 ghost use Rattle.spec_commands.specs.Going.{moving, succeeded, drop_shown, is_item, not_taken, taken, is_carried, drop_place, dropped};
-ghost use Rattle.muck_perm.specs.Guards.{Did, IsGiven, is_here, world_of};
+ghost use Rattle.muck_perm.specs.inner.Guards.{Did, IsGiven, is_here, world_of};
 
 use crate::going::{fail, link_at};
 use crate::looking::is_room;

@@ -4,7 +4,7 @@ ghost use Rattle.spec_live.specs.Lives.{tell, name_at};
 ghost use Rattle.spec_commands.specs.Replies.{you_say_to, says_to, connected_count};
 ghost use Rattle.spec_commands.specs.Finding.{each};
 ghost use Rattle.spec_commands.specs.Talking.{said, pose_tail, posed, said_to, paged, is_company, whispered, presence, presences, presence_shown, who_shown};
-ghost use Rattle.muck_perm.specs.Guards.{Did, world_of};
+ghost use Rattle.muck_perm.specs.inner.Guards.{Did, world_of};
 
 use crate::texts::{around, joined};
 use crate::typed::name_of;

@@ -3,7 +3,7 @@ ghost use Rattle.std.specs.Prelude.{◌≡◌, [], IfOk, None, drop, take};
 ghost use Rattle.muck_model.specs.Bytes.{text_fault};
 ghost use Rattle.spec_live.specs.Lives.{name_at};
 ghost use Rattle.spec_commands.specs.Going.{exit_typed};
-ghost use Rattle.muck_perm.specs.Guards.{world_of};
+ghost use Rattle.muck_perm.specs.inner.Guards.{world_of};
 
 use muck_match::ExitHit;
 use muck_model::{Dbref, Line, NoMemory};

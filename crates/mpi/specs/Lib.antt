@@ -1,3 +1,4 @@
+pub mod inner
 pub mod Variables
 pub mod Brackets
 pub mod Functions
@@ -7,5 +8,3 @@ pub mod Thoughts
 pub mod Values
 pub mod Gathering
 pub mod Meaning
-pub mod Memory
-pub mod Worked

@@ -2,8 +2,8 @@
 ghost use Rattle.std.specs.Prelude.{◌≡◌, [], IfOk, Ok};
 ghost use Rattle.std.specs.Option.{option_copied, unwrap_or};
 ghost use Rattle.mpi.specs.Hosting.{Means, Meant};
-ghost use Rattle.mpi.specs.Worked.{Worked};
-ghost use Rattle.mpi.specs.Memory.{name_in, prop_in, stored_in, told_in};
+ghost use Rattle.mpi.specs.inner.Worked.{Worked};
+ghost use Rattle.mpi.specs.inner.Memory.{name_in, prop_in, stored_in, told_in};
 
 use crate::fault::MpiFault;
 use crate::host::{Ask, Deed, Host};
@@ -67,7 +67,7 @@ impl MemHost {
     }
 
     // The property that was stored last.
-    #[tactic(auto, unfolding(crate::specs::Memory::prop_in))]
+    #[tactic(auto, unfolding(crate::specs::inner::Memory::prop_in))]
     fn prop(&self, path: &Line, d: Dbref) -> Option<&Line>
         ensures { option_copied result ≡ prop_in path.now d self.now }
     {
@@ -112,8 +112,8 @@ fn text_or_empty(alloc: Global, text: Option<&Line>) -> Result<Line, MpiFault>
 
 impl Host for MemHost {
     ghost use Rattle.std.specs.Prelude.{◌≡◌};
-    ghost use Rattle.mpi.specs.Worked.{Worked};
-    ghost use Rattle.mpi.specs.Memory.{memory};
+    ghost use Rattle.mpi.specs.inner.Worked.{Worked};
+    ghost use Rattle.mpi.specs.inner.Memory.{memory};
 
     type Seen = MemHost;
 
@@ -140,7 +140,7 @@ impl Host for MemHost {
         self.most
     }
 
-    #[tactic(auto, unfolding(crate::specs::Memory::named_in))]
+    #[tactic(auto, unfolding(crate::specs::inner::Memory::named_in))]
     fn find(&self, text: &Line) -> Option<Dbref> {
         let bytes = text.as_slice();
         if bytes == b"me".as_slice() {

@@ -14,7 +14,7 @@ use Rattle.muck_codec.specs.Reading.{◌>>=◌, both, counted, number_at}
 use Rattle.muck_codec.specs.Records.{record_at}
 use Rattle.muck_codec.specs.Batches.{is_above, next_at, records_at, tune_of, four_at, tune_at, batch_of, batch_at, whole_batch, four_bytes, tune_bytes, batch_bytes}
 use Rattle.muck_codec.specs.Spelling.{spelling}
-use Rattle.muck_codec.specs.Stored.{IsStored, Run}
+use Rattle.muck_codec.specs.inner.Stored.{IsStored, Run}
 use Rattle.muck_codec.proofs.Codes.{IsBytes, bind_ok, test_ok, ok_is, Takes, Codes, both_codes, mapped_codes, counted_codes}
 use Rattle.muck_codec.proofs.Fields.{codes32}
 use Rattle.muck_codec.proofs.Records.{record_codes}

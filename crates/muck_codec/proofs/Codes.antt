@@ -5,7 +5,7 @@ use Rattle.std.proofs.lemmas.Bool.{cases_lt}
 use Rattle.std.proofs.lemmas.List.{length-take, get_or-drop, get_or-take, get_or_past}
 use Rattle.std.proofs.lemmas.List.Concat.{flat_map-cons}
 use Rattle.muck_codec.specs.Reading.{◌>>=◌, both, counted, mapped, several}
-use Rattle.muck_codec.specs.Stored.{Run}
+use Rattle.muck_codec.specs.inner.Stored.{Run}
 
 abbrev pub IsBytes : List ℕ → Type 0
 IsBytes bytes = (i : ℕ) → get_or bytes i 0 < 256

@@ -14,7 +14,7 @@ use Rattle.muck_model.specs.declared.dbref.Kind.TheVariants.{Room, Thing, Exit, 
 use Rattle.muck_codec.specs.Reading.{◌>>=◌, byte_at, number_at, dbref_at, short_at, text_if, text_of, text_at}
 use Rattle.muck_codec.specs.Records.{kind_of, kind_if, kind_at, flags_at}
 use Rattle.muck_codec.specs.Spelling.{dbref_bytes, kind_byte, text_bytes}
-use Rattle.muck_codec.specs.Stored.{IsDbref, IsText}
+use Rattle.muck_codec.specs.inner.Stored.{IsDbref, IsText}
 use Rattle.muck_codec.proofs.Codes.{IsBytes, bytes_drop, bytes_take, bytes_rest, bind_ok, guard_ok, skip_ok, ok_is, Takes, takes_then, Codes, mapped_codes}
 
 pub byte_codes : Codes byte_at (λ b. b ∷ []) (λ b. b < 2 ^ 8)

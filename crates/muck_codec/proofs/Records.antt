@@ -23,8 +23,8 @@ use Rattle.muck_codec.specs.Records.{kind_at, flags_at, head_of, head_at, ties_o
 use Rattle.muck_codec.specs.Spelling.{dbref_bytes, kind_byte, text_bytes, value_bytes, property_bytes, head_bytes, ties_bytes, lists_bytes, properties_bytes, lines_bytes, texts_bytes, spelling}
 use Rattle.muck_codec.specs.declared.fault.CodecFault.{CodecFault}
 use Rattle.muck_codec.specs.declared.fault.CodecFault.TheVariants.{BadRecord, NoMemory}
-use Rattle.muck_codec.specs.Stored.{IsSpelled, Takes as IsIt}
-use Rattle.muck_codec.specs.Stored.{IsDbref, IsText, IsValue, IsProperty, AreProperties, IsLine, AreLines, IsStored}
+use Rattle.muck_codec.specs.inner.Stored.{IsSpelled, Takes as IsIt}
+use Rattle.muck_codec.specs.inner.Stored.{IsDbref, IsText, IsValue, IsProperty, AreProperties, IsLine, AreLines, IsStored}
 use Rattle.muck_codec.proofs.Codes.{IsBytes, bytes_rest, bind_ok, guard_ok, test_ok, ok_is, Takes, Codes, both_codes, mapped_codes, counted_codes}
 use Rattle.muck_codec.proofs.Fields.{dbref_with, byte_codes, codes64, dbref_codes, flags_codes, kind_codes, short_codes, text_codes}
 

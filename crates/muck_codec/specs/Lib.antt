@@ -1,5 +1,5 @@
+pub mod inner
 pub mod Reading
 pub mod Records
 pub mod Spelling
-pub mod Stored
 pub mod Batches

@@ -1,6 +1,6 @@
 // Batches, as they are read.
 ghost use Rattle.std.specs.Prelude.{◌≡◌, ◌≤◌, ◌<◌, length, Ok, Err, Some, None, All, IfOk};
-ghost use Rattle.muck_codec.specs.Stored.{IsStored};
+ghost use Rattle.muck_codec.specs.inner.Stored.{IsStored};
 ghost use Rattle.muck_codec.specs.Reading.{Gives, last_key};
 ghost use Rattle.muck_codec.specs.Batches.{is_above, next_at, records_at, four_at, tune_at, batch_at, whole_batch, IsBatch};
 

@@ -3,7 +3,7 @@ ghost use Rattle.std.specs.Prelude.{◌≡◌, ◌≤◌, ◌<◌, ◌++◌, dro
 ghost use Rattle.std.specs.Option.{option_copied};
 ghost use Rattle.muck_codec.specs.declared.stored.Stored.{Stored};
 ghost use Rattle.muck_codec.specs.Spelling.{spelling};
-ghost use Rattle.muck_codec.specs.Stored.{IsStored, IsSpelled, Takes};
+ghost use Rattle.muck_codec.specs.inner.Stored.{IsStored, IsSpelled, Takes};
 ghost use Rattle.muck_codec.specs.Reading.{Gives, last_key, text_at};
 ghost use Rattle.muck_codec.specs.Records.{kind_of, kind_at, flags_at, head_at, ties_at, lists_at, spells, path_at, rises, spelled, stored_of, tags_in, integer_at, tagged, value_at, property_at, properties_at, lines_at, texts_at, record_at, IsTaken};
 

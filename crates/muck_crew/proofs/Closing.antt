@@ -23,12 +23,12 @@ use Rattle.spec_events.specs.Logged.{logged, loose_notes, loose_count, logged_by
 use Rattle.spec_events.proofs.Logging.{entries_logged}
 use Rattle.spec_talks.specs.Parties.{party_of}
 use Rattle.muck_machine.specs.declared.beginning.Beginning.{Beginning}
-use Rattle.muck_machine.specs.Beginnings.{beginning, begun}
-use Rattle.muck_machine.specs.Seats.{Sight, Chair, Rests, AllOrderly}
+use Rattle.muck_machine.specs.inner.Beginnings.{beginning, begun}
+use Rattle.muck_machine.specs.inner.Seats.{Sight, Chair, Rests, AllOrderly}
 use Rattle.muck_machine.proofs.Seating.{begun_settled}
 use Rattle.muck_dumping.specs.inner.Between.{IsReady as HasLog}
-use Rattle.muck_dumper.specs.Dumping.{history_from, history_seen}
-use Rattle.muck_porter.specs.Porter.{PorterReady}
+use Rattle.muck_dumper.specs.inner.Dumping.{history_from, history_seen}
+use Rattle.muck_porter.specs.inner.Porter.{PorterReady}
 use Rattle.muck_crew.specs.declared.seats.Part.{Part}
 use Rattle.muck_crew.specs.Shared.{done_by}
 use Rattle.muck_crew.specs.inner.Parts.{IsAble, given_to, IsDealt, AreDealt, all_in, IsReady, IsDone, AreDone}

@@ -15,7 +15,7 @@ use Rattle.muck_model.specs.declared.event.Entry.{Entry}
 use Rattle.muck_model.specs.declared.event.Event.{Event}
 use Rattle.muck_model.specs.declared.event.Event.TheVariants.{StopSeen, Died}
 use Rattle.muck_model.specs.declared.note.Note.{Note}
-use Rattle.spec_dumps.specs.Holding.{Quietly}
+use Rattle.spec_dumps.specs.inner.Holding.{Quietly}
 use Rattle.spec_dumps.proofs.Quiet.{safe_quiet, keeps_quiet}
 use Rattle.spec_dumps.proofs.Idle.{idle_quiet}
 use Rattle.spec_events.specs.declared.logged.Logged.{Logged}
@@ -28,20 +28,20 @@ use Rattle.spec_talks.specs.Parties.{party_of}
 use Rattle.spec_talks.specs.Talks.{talks}
 use Rattle.spec_serve.specs.Promises.{PromisedOf, OpenWorkedOff}
 use Rattle.muck_machine.specs.declared.beginning.Beginning.{Beginning}
-use Rattle.muck_machine.specs.Beginnings.{beginning, begun}
-use Rattle.muck_machine.specs.Seats.{Sight, Chair, AllOrderly, SameLists}
+use Rattle.muck_machine.specs.inner.Beginnings.{beginning, begun}
+use Rattle.muck_machine.specs.inner.Seats.{Sight, Chair, AllOrderly, SameLists}
 use Rattle.muck_machine.proofs.Seating.{settled_begun, others_none, others_quiet, orderly_back}
 use Rattle.muck_dumping.specs.inner.Between.{IsReady as HasLog}
-use Rattle.muck_dumper.specs.Dumping.{history_from, history_seen, DumperDone}
+use Rattle.muck_dumper.specs.inner.Dumping.{history_from, history_seen, DumperDone}
 use Rattle.muck_dumper.specs.declared.dumping.Why.{Why as DumperWhy}
 use Rattle.muck_dumper.specs.declared.dumping.Why.TheVariants as dumper
-use Rattle.muck_worker.specs.Working.{WorkerDone}
+use Rattle.muck_worker.specs.inner.Working.{WorkerDone}
 use Rattle.muck_worker.specs.declared.working.Why.TheVariants as worker
-use Rattle.muck_porter.specs.Notes.{note_in}
-use Rattle.muck_porter.specs.Kept.{Account}
+use Rattle.muck_porter.specs.inner.Notes.{note_in}
+use Rattle.muck_porter.specs.inner.Kept.{Account}
 use Rattle.muck_porter.specs.Times.{Timely}
 use Rattle.muck_porter.proofs.Whole.{kept_whole, timed_whole}
-use Rattle.muck_porter.specs.Porter.{PorterDone, HasStopped as PorterStopped}
+use Rattle.muck_porter.specs.inner.Porter.{PorterDone, HasStopped as PorterStopped}
 use Rattle.muck_porter.specs.declared.porting.Why.{Why as PorterWhy}
 use Rattle.muck_porter.specs.declared.porting.Why.TheVariants as porter
 use Rattle.muck_crew.specs.declared.seats.Part.{Part}

@@ -7,7 +7,7 @@ use lib.ListN.{get_elem?}
 use Rattle.atomic_table.specs.Seated.{TableId}
 use Rattle.turn_lock.specs.Histories.{Has}
 use Rattle.turn_lock.specs.inner.Turns.{left_after, newcomer, taken_in}
-use Rattle.muck_machine.specs.Seats.{Sight}
+use Rattle.muck_machine.specs.inner.Seats.{Sight}
 use Rattle.muck_crew.specs.declared.seats.Part.{Part}
 use Rattle.muck_crew.specs.inner.Parts.{given_to, IsDealt, AreDealt, IsOver, AreOver, all_in}
 

@@ -1,8 +1,8 @@
 // The parts of a server beside each other.
 ghost use Rattle.std.specs.Prelude.{◌≡◌, All, true};
-ghost use Rattle.muck_dumper.specs.Dumping.{DumperDone};
-ghost use Rattle.muck_porter.specs.Kept.{account};
-ghost use Rattle.muck_porter.specs.Porter.{PorterReady, PorterDone};
+ghost use Rattle.muck_dumper.specs.inner.Dumping.{DumperDone};
+ghost use Rattle.muck_porter.specs.inner.Kept.{account};
+ghost use Rattle.muck_porter.specs.inner.Porter.{PorterReady, PorterDone};
 ghost use Rattle.muck_crew.specs.inner.Parts.{IsAble, IsReady, IsDone, AreDone};
 
 use crate::seats::{Part, Parts};

@@ -1,9 +1,9 @@
 // The end of a run: the last dump.
 ghost use Rattle.std.specs.Prelude.{◌≡◌, ℕ, true, false, None};
-ghost use Rattle.spec_dumps.specs.Holding.{Keeps};
+ghost use Rattle.spec_dumps.specs.inner.Holding.{Keeps};
 ghost use Rattle.spec_events.specs.Histories.{now};
 ghost use Rattle.muck_crew.specs.inner.Runs.{HasStopped};
-ghost use Rattle.muck_crew.specs.Finished.{why_of, why_by, HasDump, IsFinish};
+ghost use Rattle.muck_crew.specs.inner.Finished.{why_of, why_by, HasDump, IsFinish};
 
 use crate::serving::Way;
 use crate::why::Why;

@@ -2,7 +2,7 @@
 ghost use Rattle.std.specs.Prelude.{◌≡◌, ◌<◌, ◌≤◌, ℕ, [], true, Some, IfSome, IfNone, vec_capacity};
 ghost use Rattle.muck_dumping.specs.inner.Between.{IsReady as HasLog};
 ghost use Rattle.muck_model.specs.declared.note.Note.{Note};
-ghost use Rattle.muck_porter.specs.Kept.{account};
+ghost use Rattle.muck_porter.specs.inner.Kept.{account};
 ghost use Rattle.muck_crew.specs.inner.Runs.{IsFresh};
 ghost use Rattle.muck_crew.specs.inner.Wholes.{HasServed};
 

@@ -11,7 +11,7 @@ use Rattle.spec_live.specs.declared.object.Object.{Object}
 use Rattle.spec_live.specs.Objects.{Entry, index_of, list_in, object_in}
 use Rattle.muck_codec.specs.declared.stored.Stored.{Stored}
 use Rattle.muck_codec.specs.declared.stored.Property.{Property}
-use Rattle.muck_store.specs.Changes.{IsKept, LeavesOut, none, takes, leaves}
+use Rattle.muck_store.specs.inner.Changes.{IsKept, LeavesOut, none, takes, leaves}
 use Rattle.muck_store.specs.Forms.{property_of, properties_of, first_of, link_of, next_in, stored_of, stored_from, persist}
 use Rattle.muck_db.specs.inner.Kept.{stored_at, HasFields, HasLinks, HasTexts}
 use Rattle.muck_db.proofs.Cutting.{stored_with, record_is}

@@ -9,7 +9,7 @@ use Rattle.std.proofs.lemmas.List.Sums.{AllPass-from_list_all}
 use Rattle.std.proofs.lemmas.Option.{slice_get-map}
 use Rattle.muck_codec.specs.declared.stored.Stored.{Stored}
 use Rattle.muck_store.specs.Forms.{next_at as record_next, entry_of as record_entry, object_of, loaded}
-use Rattle.muck_store.specs.Hung.{IsHung}
+use Rattle.muck_store.specs.inner.Hung.{IsHung}
 use Rattle.muck_store.specs.Limits.{is_digit, is_digest, fits}
 use Rattle.muck_store.specs.Whole.{first_at as record_first}
 use Rattle.spec_live.specs.declared.object.Object.{Object}

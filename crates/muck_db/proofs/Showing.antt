@@ -5,7 +5,7 @@ use Rattle.std.specs.Prelude.{IfSome}
 use Rattle.std.specs.Option.{option_map}
 use Rattle.muck_model.specs.declared.dbref.Dbref.{Dbref}
 use Rattle.muck_match.specs.Scenery.{chain, upward, is_there}
-use Rattle.muck_lock.specs.Chain as lock
+use Rattle.muck_lock.specs.inner.Chain as lock
 use Rattle.spec_live.specs.Chain.{walk, IsChain, Ends, Member}
 use Rattle.spec_live.specs.Objects.{Entry, dbref_of, index_of, nothing, is_exit, is_garbage, object_in, kind_in, place_in, list_in, number_in, object_at, fits_in, is_vehicle_in}
 use Rattle.spec_live.specs.declared.object.Object.{Object}

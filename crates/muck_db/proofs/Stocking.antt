@@ -16,7 +16,7 @@ use Rattle.muck_prop.specs.Order.{path_cmp, path_cmp_total}
 use Rattle.muck_prop.specs.Store.{PropMap, is_nothing, stored}
 use Rattle.muck_prop.proofs.Maps.{path_cmp_same}
 use Rattle.muck_codec.specs.declared.stored.Property.{Property}
-use Rattle.muck_codec.specs.Stored.{IsValue, IsProperty, Run, AreProperties}
+use Rattle.muck_codec.specs.inner.Stored.{IsValue, IsProperty, Run, AreProperties}
 use Rattle.muck_store.specs.Forms.{entry_at}
 
 -- The order of the paths.

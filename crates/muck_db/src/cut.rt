@@ -1,7 +1,7 @@
 // What a dump hands to the log: the stored form of each object that isn't kept so.
 ghost use Rattle.std.specs.Prelude.{◌≡◌, ◌<◌, length, map, IfOk, Some};
 ghost use Rattle.spec_live.specs.Objects.{garbage, list_in, object_in};
-ghost use Rattle.muck_store.specs.Changes.{LeavesOut};
+ghost use Rattle.muck_store.specs.inner.Changes.{LeavesOut};
 ghost use Rattle.muck_store.specs.Forms.{first_of, link_of, next_in, persist, properties_of};
 ghost use Rattle.muck_db.specs.inner.Kept.{stored_at};
 ghost use Rattle.muck_db.specs.inner.Slots.{entries_of, HasOrder};

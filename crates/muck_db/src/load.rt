@@ -1,7 +1,7 @@
 // The table that stored records stand for.
 ghost use Rattle.std.specs.Prelude.{◌≡◌, IfOk, All, map};
 ghost use Rattle.std.specs.FinMap.{from_entries};
-ghost use Rattle.muck_codec.specs.Stored.{AreProperties};
+ghost use Rattle.muck_codec.specs.inner.Stored.{AreProperties};
 ghost use Rattle.muck_store.specs.Forms.{entry_at, object_of};
 ghost use Rattle.muck_db.specs.inner.Loading.{object_kept, slot_of, slots_of};
 

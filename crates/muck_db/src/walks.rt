@@ -1,7 +1,7 @@
 // The lists as matching and locks walk them.
 ghost use Rattle.std.specs.Prelude.{◌≡◌, ◌<◌, ◌^◌, IfSome, false};
 ghost use Rattle.muck_match.specs.Scenery.{chain};
-ghost use Rattle.muck_lock.specs.Chain.{IsChain};
+ghost use Rattle.muck_lock.specs.inner.Chain.{IsChain};
 ghost use Rattle.spec_live.specs.Seen.{listed_in};
 ghost use Rattle.muck_db.specs.inner.Slots.{entries_of, HasOrder};
 ghost use Rattle.muck_db.specs.inner.Shown.{after_in, first_in, next_in, dbref_at};

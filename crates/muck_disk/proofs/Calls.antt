@@ -2,7 +2,7 @@
 use Rattle.std.proofs.Common.{◌≡◌, ℕ, ◌+◌, List, [], ◌∷◌, ◌++◌, length, reverse, true, sym, ◌∙◌, ap, subst, arith, length-append}
 use Rattle.std.proofs.lemmas.List.{take_all, take-append-le, reverse-append}
 use Rattle.muck_disk.specs.Images.{Elapses}
-use Rattle.muck_disk.specs.Replay.{seen_after, left_after, left_by, left_at}
+use Rattle.muck_disk.specs.inner.Replay.{seen_after, left_after, left_by, left_at}
 use Rattle.muck_disk.specs.declared.memory.Call.{Call}
 use Rattle.muck_disk.specs.declared.memory.Call.TheVariants.{Synced}
 

@@ -3,8 +3,8 @@ use Rattle.std.proofs.Common.{◌≡◌, ℕ, ◌+◌, ◌<◌, ◌≤◌, max, 
 use Rattle.std.proofs.lemmas.Bool.{and_parts}
 use Rattle.std.proofs.lemmas.List.{take_at, take_more, take-append-drop, drop_all, reverse-append}
 use Rattle.muck_disk.specs.Images.{Torn, written}
-use Rattle.muck_disk.specs.Memory.{Torn-written, Torn-none}
-use Rattle.muck_disk.specs.Replay.{seen_after, seen_at, seen_by, left_after, left_at, left_by, all_within, is_within}
+use Rattle.muck_disk.specs.inner.Memory.{Torn-written, Torn-none}
+use Rattle.muck_disk.specs.inner.Replay.{seen_after, seen_at, seen_by, left_after, left_at, left_by, all_within, is_within}
 use Rattle.muck_disk.specs.declared.memory.Call.{Call}
 
 pub torn_short : (at n : ℕ) (old fill v : List ℕ) → at ≤ length old → length old ≤ at + n → length old ≤ at + length fill → at + length fill ≤ max (length old) (at + n)

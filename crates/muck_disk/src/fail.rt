@@ -50,8 +50,8 @@ impl FailDisk {
 
 impl Disk for FailDisk {
     ghost use Rattle.std.specs.Prelude.{length, true, option_map};
-    ghost use Rattle.muck_disk.specs.Replay.{left_at};
-    ghost use Rattle.muck_disk.specs.Memory.{mem_seen_left};
+    ghost use Rattle.muck_disk.specs.inner.Replay.{left_at};
+    ghost use Rattle.muck_disk.specs.inner.Memory.{mem_seen_left};
 
     ghost tells = { true };
 

@@ -3,7 +3,7 @@ ghost use Rattle.std.specs.Prelude.{◌≡◌, ◌≤◌, ◌+◌, ◌-◌, ◌<
 ghost use Rattle.muck_io.specs.Faults.{Rose};
 ghost use Rattle.muck_disk.specs.Images.{Elapses, Torn, written};
 ghost use Rattle.muck_disk.specs.declared.memory.Call.TheVariants.{Wrote};
-ghost use Rattle.muck_disk.specs.Replay.{left_at, seen_at, seen_after, seen_by, all_within, is_within};
+ghost use Rattle.muck_disk.specs.inner.Replay.{left_at, seen_at, seen_after, seen_by, all_within, is_within};
 
 use crate::{Disk, DiskFault};
 use muck_model::{ByteList, NoMemory};
@@ -239,8 +239,8 @@ impl MemDisk {
 
 impl Disk for MemDisk {
     ghost use Rattle.std.specs.Prelude.{length, true, Option, option_map, List, ℕ};
-    ghost use Rattle.muck_disk.specs.Replay.{left_at};
-    ghost use Rattle.muck_disk.specs.Memory.{mem_seen_left};
+    ghost use Rattle.muck_disk.specs.inner.Replay.{left_at};
+    ghost use Rattle.muck_disk.specs.inner.Memory.{mem_seen_left};
 
     ghost tells = { true };
 

@@ -7,13 +7,13 @@ use Rattle.spec_events.specs.World.{World}
 use Rattle.spec_events.specs.Histories.{History, Grew}
 use Rattle.spec_events.specs.Logged.{logged, logged_by, entries_of, notes_of, history_of, IsSettled, IsPlaced}
 use Rattle.spec_events.proofs.Logging.{rebuilt, entries_append, notes_append}
-use Rattle.spec_dumps.specs.Holding.{Quietly}
+use Rattle.spec_dumps.specs.inner.Holding.{Quietly}
 use Rattle.spec_dumps.proofs.Quiet.{quiet_grew}
 use Rattle.muck_machine.specs.declared.beginning.Beginning.{Beginning}
-use Rattle.muck_machine.specs.Beginnings.{beginning, begun, IsBegun}
-use Rattle.muck_machine.specs.Seats.{Sight, Chair, AllOrderly, Rests, Waited}
+use Rattle.muck_machine.specs.inner.Beginnings.{beginning, begun, IsBegun}
+use Rattle.muck_machine.specs.inner.Seats.{Sight, Chair, AllOrderly, Rests, Waited}
 use Rattle.muck_machine.proofs.Seating.{orderly_back, others_none, others_quiet, settled_begun}
-use Rattle.muck_dumper.specs.Dumping.{history_from, history_seen, IsKnown}
+use Rattle.muck_dumper.specs.inner.Dumping.{history_from, history_seen, IsKnown}
 
 -- a history that goes on with others' items
 grown : (w : World) (m : Note) (a rest : List Logged) → notes_of rest ≡ [] → Grew (history_of w m a) (history_of w m (a ++ rest)) (entries_of rest)

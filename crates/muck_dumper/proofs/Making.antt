@@ -5,11 +5,11 @@ use Rattle.muck_log.specs.declared.fault.LogFault.{LogFault}
 use Rattle.muck_log.specs.declared.fault.LogFault.TheVariants.{NoMemory, DiskFault, Damaged, StoreFull, Stale}
 use Rattle.spec_events.specs.Histories.{History}
 use Rattle.spec_events.specs.Own.{Stage}
-use Rattle.spec_dumps.specs.Holding.{Keeps}
-use Rattle.muck_machine.specs.Seats.{Chair}
+use Rattle.spec_dumps.specs.inner.Holding.{Keeps}
+use Rattle.muck_machine.specs.inner.Seats.{Chair}
 use Rattle.muck_dumping.specs.inner.Between.{IsReady, IsWritten, EndsAs}
 use Rattle.muck_dumper.specs.declared.holds.Fault.{Fault}
-use Rattle.muck_dumper.specs.Dumping.{history_seen}
+use Rattle.muck_dumper.specs.inner.Dumping.{history_seen}
 use Rattle.muck_dumper.specs.inner.Steps.{Stops, Settles, Watches}
 use Rattle.muck_dumper.proofs.Ways.{stops_behind, watches_mounted}
 

@@ -11,11 +11,11 @@ use Rattle.spec_events.specs.Logged.{logged, logged_by, bare_item, noted_item, e
 use Rattle.spec_events.specs.Own.{Stage, next, stage_of}
 use Rattle.spec_events.proofs.Logging.{placed_entered, placed_noted, events_append, no_counts_one, orderly_noted, orderly_bare}
 use Rattle.spec_events.proofs.Owning.{stage_more}
-use Rattle.muck_machine.specs.Beginnings.{beginning}
-use Rattle.muck_machine.specs.Seats.{Sight, Chair, OneMore, AllOrderly, Rests, Waited}
+use Rattle.muck_machine.specs.inner.Beginnings.{beginning}
+use Rattle.muck_machine.specs.inner.Seats.{Sight, Chair, OneMore, AllOrderly, Rests, Waited}
 use Rattle.muck_machine.proofs.Seating.{held_settled, one_bare, one_noted, given_seen, given_root, rests_turned}
 use Rattle.muck_dumping.specs.inner.Dumps.{by}
-use Rattle.muck_dumper.specs.Dumping.{history_seen}
+use Rattle.muck_dumper.specs.inner.Dumping.{history_seen}
 use Rattle.muck_dumper.specs.inner.Steps.{MadeBy, bare, with_note, Step, Moves}
 use Rattle.muck_dumper.proofs.Knowing.{held_quiet, given_known}
 

@@ -10,12 +10,12 @@ use Rattle.spec_events.specs.Logged.{is_dump, events_of, NoCounts}
 use Rattle.spec_events.specs.Own.{Stage, next, stage_of, died_next}
 use Rattle.spec_events.proofs.Owning.{well_formed}
 use Rattle.spec_dumps.specs.Survival.{IsSafe}
-use Rattle.spec_dumps.specs.Holding.{Quietly, Keeps, Rests as HasRests}
+use Rattle.spec_dumps.specs.inner.Holding.{Quietly, Keeps, Rests as HasRests}
 use Rattle.spec_dumps.proofs.Quiet.{quiet_one, safe_quiet, keeps_quiet}
 use Rattle.spec_dumps.proofs.Idle.{idle_quiet}
 use Rattle.muck_machine.specs.declared.beginning.Beginning.{Beginning}
 use Rattle.muck_dumping.specs.declared.parts.Pending.{Pending}
-use Rattle.muck_machine.specs.Seats.{Chair, Rests, Left, Waited}
+use Rattle.muck_machine.specs.inner.Seats.{Chair, Rests, Left, Waited}
 use Rattle.muck_machine.proofs.Seating.{left_rests}
 use Rattle.muck_dumping.specs.inner.Dumps.{by, ending_event}
 use Rattle.muck_dumping.specs.inner.Between.{IsReady, IsPending}
@@ -25,7 +25,7 @@ use Rattle.muck_dumper.specs.declared.dumping.Why.{Why}
 use Rattle.muck_dumper.specs.declared.dumping.Why.TheVariants.{Fine, NoMemory, Spent}
 use Rattle.muck_dumper.specs.declared.holds.Fault.{Fault}
 use Rattle.muck_dumper.specs.declared.holds.Fault.TheVariants.{NoMemory as Wanted, Spent as AllHad}
-use Rattle.muck_dumper.specs.Dumping.{history_from, history_seen, IsKnown, DumperReady, DumperDone}
+use Rattle.muck_dumper.specs.inner.Dumping.{history_from, history_seen, IsKnown, DumperReady, DumperDone}
 use Rattle.muck_dumper.specs.declared.deeds.Did.TheVariants.{Began}
 use Rattle.muck_dumper.specs.inner.Steps.{KeptBy, Step, Moves, Stops, Settles, Watches}
 use Rattle.muck_dumper.proofs.Knowing.{rests_known}

@@ -3,7 +3,7 @@ ghost use Rattle.std.specs.Prelude.{◌≡◌, ℕ, true, false, None, Option, R
 ghost use Rattle.muck_log.specs.Store.{LogState};
 ghost use Rattle.muck_log.specs.declared.fault.LogFault.{LogFault};
 ghost use Rattle.muck_model.specs.declared.event.Event.TheVariants.{Died};
-ghost use Rattle.spec_dumps.specs.Holding.{Rests};
+ghost use Rattle.spec_dumps.specs.inner.Holding.{Rests};
 ghost use Rattle.spec_dumps.specs.Survival.{IsSafe};
 ghost use Rattle.spec_events.specs.Histories.{now};
 ghost use Rattle.spec_events.specs.World.{runs_dump};

@@ -1,7 +1,7 @@
 // The dumper.
 ghost use Rattle.std.specs.Prelude.{◌≡◌, ℕ, true};
 ghost use Rattle.muck_dumping.specs.inner.Between.{IsReady};
-ghost use Rattle.muck_dumper.specs.Dumping.{history_seen, DumperReady, DumperDone};
+ghost use Rattle.muck_dumper.specs.inner.Dumping.{history_seen, DumperReady, DumperDone};
 
 use crate::deeds::Did;
 use crate::holds::{Fault, makes, watch_turn};

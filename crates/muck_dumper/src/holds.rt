@@ -5,15 +5,15 @@ ghost use Rattle.muck_log.specs.declared.fault.LogFault.{LogFault as Answer};
 ghost use Rattle.muck_model.specs.declared.event.Event.TheVariants.{Died};
 ghost use Rattle.muck_model.specs.declared.tune.Tune.{Tune};
 ghost use Rattle.spec_live.specs.Objects.{Entry as Object};
-ghost use Rattle.spec_dumps.specs.Holding.{Keeps, Rests as HasRests};
+ghost use Rattle.spec_dumps.specs.inner.Holding.{Keeps, Rests as HasRests};
 ghost use Rattle.spec_dumps.specs.Survival.{IsSafe};
 ghost use Rattle.spec_events.specs.Histories.{History, now, entered};
 ghost use Rattle.spec_events.specs.Own.{Stage, died_next};
 ghost use Rattle.spec_events.specs.World.{runs_dump};
-ghost use Rattle.muck_machine.specs.Seats.{Rests, Left, Waited};
+ghost use Rattle.muck_machine.specs.inner.Seats.{Rests, Left, Waited};
 ghost use Rattle.muck_dumping.specs.inner.Dumps.{by, ending_event};
 ghost use Rattle.muck_dumping.specs.inner.Between.{IsReady, IsBatchOf, base_in, IsPending, IsWritten, EndsAs};
-ghost use Rattle.muck_dumper.specs.Dumping.{history_seen};
+ghost use Rattle.muck_dumper.specs.inner.Dumping.{history_seen};
 ghost use Rattle.muck_dumper.specs.inner.Steps.{Step, Stops, Settles, Watches, Watched};
 
 use crate::deeds::{DUMPER, Did, finishes, watches};

@@ -9,7 +9,7 @@ use Rattle.muck_log.specs.declared.fault.LogFault.TheVariants.{NoMemory, DiskFau
 use Rattle.spec_events.specs.World.{World}
 use Rattle.spec_events.specs.Steps.{makes_dumps, may_cut, is_dump_due}
 use Rattle.spec_events.specs.Histories.{History, entered, noted}
-use Rattle.spec_dumps.specs.Holding.{Keeps}
+use Rattle.spec_dumps.specs.inner.Holding.{Keeps}
 use Rattle.muck_dumping.specs.declared.parts.Pending.{Pending}
 use Rattle.muck_dumping.specs.inner.Dumps.{by, ending_event, Dies, HasDumped, Dumps}
 use Rattle.muck_dumping.specs.inner.Between.{IsPending, IsWritten, EndsAs}

@@ -10,7 +10,7 @@ use Rattle.spec_events.specs.World.{World}
 use Rattle.spec_events.specs.Histories.{History, now, entered, noted}
 use Rattle.spec_dumps.specs.Fronts.{at_cut, last_cut, number_at}
 use Rattle.spec_dumps.specs.Survival.{IsSafe}
-use Rattle.spec_dumps.specs.Holding.{IsCounted, Quietly, Keeps, Rests, Fails}
+use Rattle.spec_dumps.specs.inner.Holding.{IsCounted, Quietly, Keeps, Rests, Fails}
 use Rattle.spec_dumps.proofs.Lists.{got_on, got_last, length_last}
 use Rattle.spec_dumps.proofs.Quiet.{quiet_one, safe_quiet, keeps_quiet, rests_quiet, same_cut, same_number, fails_quiet}
 use Rattle.spec_dumps.proofs.Cutting.{rests_on, cut_noted, number_end}

@@ -13,7 +13,7 @@ use Rattle.spec_events.specs.Histories.{History, now, after, entered, noted}
 use Rattle.spec_events.proofs.Runs.{longer_noted, now-longer}
 use Rattle.spec_dumps.specs.Fronts.{IsFront, Overflows, at_cut, dump_payload, file_most, log_of, persisted}
 use Rattle.spec_dumps.specs.Survival.{IsSafe, StandsWhole}
-use Rattle.spec_dumps.specs.Holding.{Keeps, Rests, Fails}
+use Rattle.spec_dumps.specs.inner.Holding.{Keeps, Rests, Fails}
 use Rattle.spec_dumps.proofs.Lists.{length_last}
 use Rattle.spec_dumps.proofs.Noting.{front_noted}
 use Rattle.spec_dumps.proofs.Storing.{stored_rests, stored_whole}

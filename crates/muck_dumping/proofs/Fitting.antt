@@ -10,12 +10,12 @@ use Rattle.spec_live.specs.Objects.{Entry, object_in}
 use Rattle.muck_db.specs.inner.Limits.{IsDigest, FitsLimits, IsWithinLimits}
 use Rattle.muck_codec.specs.declared.stored.Stored.{Stored}
 use Rattle.muck_codec.specs.Batches.{HasFewLines}
-use Rattle.muck_codec.specs.Stored.{IsStored}
+use Rattle.muck_codec.specs.inner.Stored.{IsStored}
 use Rattle.muck_log.specs.Store.{LogState}
 use Rattle.muck_log.specs.Append.{MakesWorld, base_of}
 use Rattle.muck_log.proofs.Deltas.{fit_makes, fine_world}
 use Rattle.muck_store.proofs.StoredForms.{object_at_entry}
-use Rattle.muck_store.specs.Changes.{LeavesOut}
+use Rattle.muck_store.specs.inner.Changes.{LeavesOut}
 use Rattle.muck_store.specs.Forms.{stored_of, stored_from, persist}
 use Rattle.muck_store.specs.Limits.{is_digit, is_digest, fits}
 use Rattle.muck_dumping.specs.declared.parts.Pending.{Pending}

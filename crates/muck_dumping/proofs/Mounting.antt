@@ -3,12 +3,12 @@ use Rattle.std.proofs.Common.{◌≡◌, ◌⊎◌, inl, inr, ℕ, suc, ◌+◌,
 use Rattle.std.specs.Prelude.{is_some, false, slice_get}
 use Rattle.muck_io.specs.Faults.{Rose}
 use Rattle.muck_model.specs.declared.note.Note.{Note}
-use Rattle.muck_log.specs.Mount.{IsMountedAs, IsMountFault}
+use Rattle.muck_log.specs.inner.Mount.{IsMountedAs, IsMountFault}
 use Rattle.muck_log.specs.Store.{LogState, LeavesOnly, IsMounted, stored}
 use Rattle.muck_log.specs.declared.fault.LogFault.{LogFault}
 use Rattle.muck_log.specs.declared.fault.LogFault.TheVariants.{NoMemory, DiskFault, Damaged, StoreFull, Stale}
 use Rattle.spec_dumps.specs.Fronts.{Loads, file_most}
-use Rattle.spec_dumps.specs.Holding.{Keeps}
+use Rattle.spec_dumps.specs.inner.Holding.{Keeps}
 use Rattle.spec_dumps.proofs.Remounting.{mounting_moves, mounted_again, shown_loads}
 use Rattle.spec_events.specs.Histories.{History}
 use Rattle.muck_dumping.specs.inner.Dumps.{HasRisen, IsMountingFault}

@@ -5,7 +5,7 @@ use Rattle.muck_codec.specs.declared.stored.Stored.{Stored}
 use Rattle.muck_codec.specs.Batches.{HasFewLines}
 use Rattle.muck_db.specs.inner.Limits.{IsWithinLimits}
 use Rattle.muck_store.proofs.Changing.{left_all, left_fewer}
-use Rattle.muck_store.specs.Changes.{LeavesOut}
+use Rattle.muck_store.specs.inner.Changes.{LeavesOut}
 use Rattle.muck_store.specs.Forms.{stored_of, stored_from, persist}
 use Rattle.spec_live.specs.Objects.{Entry, object_in}
 use Rattle.spec_live.specs.Consistent.{IsConsistent}

@@ -8,7 +8,7 @@ ghost use Rattle.muck_model.specs.declared.event.Event.TheVariants.{Cut, Died};
 ghost use Rattle.muck_model.specs.declared.tune.Tune.{Tune};
 ghost use Rattle.spec_live.specs.Objects.{Entry as Object};
 ghost use Rattle.spec_dumps.specs.Fronts.{at_cut, persisted};
-ghost use Rattle.spec_dumps.specs.Holding.{Keeps, Rests};
+ghost use Rattle.spec_dumps.specs.inner.Holding.{Keeps, Rests};
 ghost use Rattle.spec_dumps.specs.Survival.{IsSafe, StandsWhole};
 ghost use Rattle.spec_events.specs.World.{runs_dump};
 ghost use Rattle.spec_events.specs.Steps.{makes_dumps, may_cut};

@@ -1,15 +1,15 @@
 // The log of a store, and the number that its next dump has.
 ghost use Rattle.std.specs.Prelude.{◌≡◌, ◌⊎◌, ◌≤◌, ℕ, true, false, length, List, Option, Some, None, All, OnOk, OnErr, IfErr, IsErrOf, IsSome};
-ghost use Rattle.muck_codec.specs.Stored.{IsStored};
+ghost use Rattle.muck_codec.specs.inner.Stored.{IsStored};
 ghost use Rattle.muck_io.specs.Faults.{Rose};
 ghost use Rattle.muck_log.specs.File.{after_number};
 ghost use Rattle.muck_log.specs.Store.{LogState, IsMounted};
 ghost use Rattle.muck_model.specs.declared.tune.Tune.{Tune};
 ghost use Rattle.muck_log.specs.World.{tune_fits};
 ghost use Rattle.muck_log.specs.Append.{base_of, payload_of};
-ghost use Rattle.muck_store.specs.Changes.{LeavesOut};
+ghost use Rattle.muck_store.specs.inner.Changes.{LeavesOut};
 ghost use Rattle.muck_store.specs.Forms.{persist, world_batch};
-ghost use Rattle.spec_dumps.specs.Holding.{Keeps};
+ghost use Rattle.spec_dumps.specs.inner.Holding.{Keeps};
 ghost use Rattle.spec_events.specs.Histories.{History};
 ghost use Rattle.spec_live.specs.Objects.{Entry};
 ghost use Rattle.muck_dumping.specs.inner.Dumps.{HasRisen, IsMountingFault, Appended};

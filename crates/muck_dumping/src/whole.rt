@@ -1,7 +1,7 @@
 // A dump that is made at once.
 ghost use Rattle.std.specs.Prelude.{◌≡◌, ◌⊎◌, ◌≤◌, ℕ, true, false, Option, Some, None, IfOk, OnOk, IsSome};
 ghost use Rattle.muck_io.specs.Faults.{Rose};
-ghost use Rattle.spec_dumps.specs.Holding.{Keeps};
+ghost use Rattle.spec_dumps.specs.inner.Holding.{Keeps};
 ghost use Rattle.spec_events.specs.Histories.{now};
 ghost use Rattle.spec_events.specs.Steps.{may_cut};
 ghost use Rattle.muck_dumping.specs.inner.Dumps.{Dumps, HasDumped};

@@ -35,8 +35,8 @@ use Rattle.spec_commands.specs.Editing.{entering, exiting, deleted_reply, editor
 use Rattle.spec_commands.proofs.Programmed.{quiet_lines_shown}
 use Rattle.spec_commands.proofs.Edited.{edited_proper}
 use Rattle.muck_perm.specs.declared.guard.Guard.{Guard}
-use Rattle.muck_perm.specs.Guards.{world_of}
-use Rattle.muck_edit.specs.Edits.{Edits, IsWithin}
+use Rattle.muck_perm.specs.inner.Guards.{world_of}
+use Rattle.muck_edit.specs.inner.Edits.{Edits, IsWithin}
 
 -- The program stays there.
 

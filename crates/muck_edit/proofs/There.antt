@@ -13,7 +13,7 @@ use Rattle.spec_rights.specs.Changing.{lines_kept}
 use Rattle.spec_commands.specs.Finding.{is_so}
 use Rattle.spec_commands.specs.Going.{is_program_at}
 use Rattle.muck_perm.specs.declared.guard.Guard.{Guard}
-use Rattle.muck_perm.specs.Guards.{Done, Makes, objects_of, world_of}
+use Rattle.muck_perm.specs.inner.Guards.{Done, Makes, objects_of, world_of}
 
 -- the number of what is there
 abbrev index : Dbref → List Entry → ℕ

@@ -1,6 +1,6 @@
 // Whether an editor is open.
 ghost use Rattle.std.specs.Prelude.{◌≡◌};
-ghost use Rattle.muck_perm.specs.Guards.{world_of};
+ghost use Rattle.muck_perm.specs.inner.Guards.{world_of};
 ghost use Rattle.spec_commands.specs.Editing.{is_between, is_open};
 
 use cmd_common::is_program;

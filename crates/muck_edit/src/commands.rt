@@ -1,7 +1,7 @@
 // The commands of the editor.
 ghost use Rattle.std.specs.Prelude.{◌≡◌, ◌≤◌, IfSome};
 ghost use Rattle.spec_commands.specs.Editing.{line_number, plain_command, line_command, lines_command, edit_command};
-ghost use Rattle.muck_edit.specs.Edits.{IsWithin};
+ghost use Rattle.muck_edit.specs.inner.Edits.{IsWithin};
 
 use muck_model::decimal;
 use spec_commands::{EditCommand, alike, cut_word, trim};

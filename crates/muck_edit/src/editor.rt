@@ -2,8 +2,8 @@
 ghost use Rattle.std.specs.Prelude.{◌≡◌, ◌≤◌, length, slice_range, OnOk};
 ghost use Rattle.spec_rights.specs.Licence.{Licensed, editing};
 ghost use Rattle.spec_commands.specs.Editing.{IsOpen, line_inserted, edit_done, edited};
-ghost use Rattle.muck_perm.specs.Guards.{world_of};
-ghost use Rattle.muck_edit.specs.Edits.{Edits, IsWithin};
+ghost use Rattle.muck_perm.specs.inner.Guards.{world_of};
+ghost use Rattle.muck_edit.specs.inner.Edits.{Edits, IsWithin};
 
 use crate::commands::edit_command;
 use crate::keeping::{compile, quit};

@@ -5,8 +5,8 @@ ghost use Rattle.spec_rights.specs.Changing.{lines_kept};
 ghost use Rattle.spec_commands.specs.declared.edit.EditCommand.{EditCommand};
 ghost use Rattle.spec_commands.specs.Programming.{source_of};
 ghost use Rattle.spec_commands.specs.Editing.{IsOpen, same_lines, source_kept, edit_done};
-ghost use Rattle.muck_perm.specs.Guards.{Did, IsLeave, world_of};
-ghost use Rattle.muck_edit.specs.Edits.{Edits};
+ghost use Rattle.muck_perm.specs.inner.Guards.{Did, IsLeave, world_of};
+ghost use Rattle.muck_edit.specs.inner.Edits.{Edits};
 
 use crate::showing::tell_exited;
 use cmd_common::{copy_lines, refuse, same_lines};

@@ -1,7 +1,7 @@
 // What the editor shows.
 ghost use Rattle.spec_live.specs.Lives.{tell};
 ghost use Rattle.spec_commands.specs.Editing.{illegal, editor_exited};
-ghost use Rattle.muck_perm.specs.Guards.{Did};
+ghost use Rattle.muck_perm.specs.inner.Guards.{Did};
 
 use muck_model::NoMemory;
 use muck_perm::Guard;

@@ -2,4 +2,3 @@ pub mod Faults
 pub mod Source
 pub mod Sink
 pub mod inner
-pub mod Rows

@@ -4,8 +4,8 @@ use Rattle.muck_model.specs.declared.dbref.Dbref.{Dbref}
 use Rattle.spec_live.specs.Objects.{Entry}
 use Rattle.muf_model.specs.declared.code.Code.{Code}
 use Rattle.muf_model.specs.Tree.{Tree}
-use Rattle.muf_model.specs.Stands.{TreeStands}
-use Rattle.muf_model.specs.Decode as decode
+use Rattle.muf_model.specs.inner.Stands.{TreeStands}
+use Rattle.muf_model.specs.inner.Decode as decode
 use Rattle.muf_model.proofs.Unique.{tree_read}
 use Rattle.muf_token.specs.declared.token.Token.{Token}
 use Rattle.muf_token.specs.declared.fault.TokenFault.{TokenFault}

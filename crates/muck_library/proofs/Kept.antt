@@ -5,7 +5,7 @@ use Rattle.std.specs.Option.{option_map, option_and_then, option_map_or}
 use Rattle.std.specs.List.{FoldsTo, AppendsResults}
 use Rattle.spec_live.specs.Objects.{changed_at}
 use Rattle.muf_model.specs.declared.code.Code.{Code}
-use Rattle.muf_model.specs.Decode.{tree_of}
+use Rattle.muf_model.specs.inner.Decode.{tree_of}
 use Rattle.muck_library.specs.Library.{itself, with_form}
 use Rattle.muck_library.specs.inner.Forms.{trees_of}
 

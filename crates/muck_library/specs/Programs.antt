@@ -10,14 +10,14 @@ use Rattle.spec_live.specs.Objects.{Entry, object_at}
 use Rattle.spec_live.specs.Worth.{value_text}
 use Rattle.muf_model.specs.declared.code.Code.{Code}
 use Rattle.muf_model.specs.Tree.{Tree}
-use Rattle.muf_model.specs.Stands.{TreeStands}
-use Rattle.muf_model.specs.Decode as decode
+use Rattle.muf_model.specs.inner.Stands.{TreeStands}
+use Rattle.muf_model.specs.inner.Decode as decode
 use Rattle.muf_token.specs.declared.token.Token.{Token}
 use Rattle.muf_token.specs.declared.fault.Refusal.{Refusal as ReadRefusal}
 use Rattle.muf_token.specs.declared.includes.Definition.{Definition}
 use Rattle.muf_token.specs.Source.{words}
 use Rattle.muf_compile.specs.declared.fault.Refusal.{Refusal as CompileRefusal}
-use Rattle.muf_compile.specs.Grammar.{IsProgram}
+use Rattle.muf_compile.specs.inner.Grammar.{IsProgram}
 use Rattle.muf_compile.specs.Growth.{tree_of}
 use Rattle.muck_library.specs.declared.flaw.Flaw.{Flaw}
 use Rattle.muck_library.specs.declared.flaw.BuildFault.{BuildFault}

@@ -1,6 +1,6 @@
 // From the source of a program to its code.
 ghost use Rattle.std.specs.Prelude.{◌≡◌, ◌<◌, List, IfOk, length};
-ghost use Rattle.muf_model.specs.Decode.{tree_of};
+ghost use Rattle.muf_model.specs.inner.Decode.{tree_of};
 ghost use Rattle.muf_token.specs.declared.token.Token.{Token};
 ghost use Rattle.muf_token.specs.Source.{words};
 ghost use Rattle.muf_token.specs.inner.Spots.{IsAnswer};

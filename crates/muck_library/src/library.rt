@@ -3,8 +3,8 @@ ghost use Rattle.std.specs.Prelude.{◌≡◌, ◌<◌, ◌+◌, ◌-◌, ◌^�
 ghost use Rattle.std.specs.List.{All};
 ghost use Rattle.std.specs.Option.{option_copied, option_map};
 ghost use Rattle.spec_live.specs.Objects.{index_of};
-ghost use Rattle.muf_model.specs.Decode.{tree_of};
-ghost use Rattle.muf_model.specs.Stands.{TreeStands};
+ghost use Rattle.muf_model.specs.inner.Decode.{tree_of};
+ghost use Rattle.muf_model.specs.inner.Stands.{TreeStands};
 ghost use Rattle.muck_library.specs.Programs.{built_tree};
 ghost use Rattle.muck_library.specs.Library.{form_at, form_kept, form_dropped, form_made, formed};
 ghost use Rattle.muck_library.specs.inner.Rebuilt.{IsRebuilt};
@@ -28,7 +28,7 @@ impl Model for Library {
     ghost use Rattle.std.specs.Coded.{codes};
     ghost use Rattle.std.specs.List.{All};
     ghost use Rattle.muf_model.specs.Tree.{Tree};
-    ghost use Rattle.muf_model.specs.Codes.{block_code};
+    ghost use Rattle.muf_model.specs.inner.Codes.{block_code};
     ghost use Rattle.muck_library.specs.inner.Forms.{trees_of, FormStands};
 
     ghost Value = { List (Option Tree) };

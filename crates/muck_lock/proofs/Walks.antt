@@ -4,7 +4,7 @@ use Rattle.std.proofs.lemmas.Bool.{false≢true}
 use Rattle.std.specs.Prelude.{not, if◌then◌else◌}
 use Rattle.std.specs.List.{list_any}
 use Rattle.muck_model.specs.declared.dbref.Dbref.{Dbref}
-use Rattle.muck_lock.specs.Chain.{IsChain, same, nothing}
+use Rattle.muck_lock.specs.inner.Chain.{IsChain, same, nothing}
 
 -- what is met in at most so many steps
 unfoldable pub walk : (Dbref → Dbref) → ℕ → Dbref → List Dbref

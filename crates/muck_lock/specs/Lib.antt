@@ -1,9 +1,7 @@
 pub mod Naming
 pub mod Paths
 pub mod Grammar
-pub mod Chain
 pub mod Opens
 pub mod Printed
 pub mod Answers
 pub mod inner
-pub mod Rows

@@ -3,7 +3,7 @@ use Rattle.std.specs.Prelude.{ℕ, Bool, true, false, not, ◌&&◌, ◌||◌, L
 use Rattle.std.specs.List.{list_any}
 use Rattle.muck_model.specs.declared.dbref.Dbref.{Dbref}
 use Rattle.muck_model.specs.declared.lock.Lock.{Lock, Lock-F, fold-Lock}
-use Rattle.muck_lock.specs.Chain.{same}
+use Rattle.muck_lock.specs.inner.Chain.{same}
 
 -- what keys are tried on: owners, places, contents, and which object has a property with a value
 pub record Holdings : Type 0 where

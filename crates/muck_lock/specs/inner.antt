@@ -4,3 +4,5 @@ pub mod Law
 pub mod Memory
 pub mod Standing
 pub mod Answers
+pub mod Chain
+pub mod Rows

@@ -2,7 +2,7 @@
 ghost use Rattle.std.specs.Prelude.{◌≡◌, ℕ, Bool, List, Option};
 ghost use Rattle.std.specs.List.{list_any};
 ghost use Rattle.muck_model.specs.declared.dbref.Dbref.{Dbref};
-ghost use Rattle.muck_lock.specs.Chain.{IsChain, same};
+ghost use Rattle.muck_lock.specs.inner.Chain.{IsChain, same};
 ghost use Rattle.muck_lock.specs.Opens.{holdings, object_opens, property_opens, opens_for};
 
 use muck_model::{Dbref, Line, Lock};

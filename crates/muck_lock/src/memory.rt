@@ -2,7 +2,7 @@
 ghost use Rattle.std.specs.Prelude.{◌≡◌, ◌<◌, ◌≤◌, ◌^◌, ◌&&◌, length, drop, slice_get, bytes_eq, IfSome, IfNone};
 ghost use Rattle.std.specs.Option.{option_copied};
 ghost use Rattle.std.specs.List.{find, list_any};
-ghost use Rattle.muck_lock.specs.Chain.{same};
+ghost use Rattle.muck_lock.specs.inner.Chain.{same};
 ghost use Rattle.muck_lock.specs.inner.Memory.{index_at, object_at, first_in, next_at, is_prop};
 
 use crate::key::Finder;
@@ -197,7 +197,7 @@ fn is_program_in(names: &[MemName], d: Dbref) -> bool
 impl Finder for MemNames {
     ghost use Rattle.std.specs.Prelude.{◌&&◌};
     ghost use Rattle.std.specs.List.{list_any};
-    ghost use Rattle.muck_lock.specs.Chain.{same};
+    ghost use Rattle.muck_lock.specs.inner.Chain.{same};
     ghost use Rattle.muck_lock.specs.inner.Memory.{object_named};
 
     ghost found = { object_named };

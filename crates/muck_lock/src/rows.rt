@@ -1,8 +1,8 @@
 // The worked rows.
-ghost use Rattle.muck_lock.specs.Rows.{Rows};
+ghost use Rattle.muck_lock.specs.inner.Rows.{Rows};
 
 /// The worked rows of this crate hold. It does nothing: its clause is the rows.
-#[tactic(auto, using(crate::specs::Rows::rows))]
+#[tactic(auto, using(crate::specs::inner::Rows::rows))]
 pub fn rows_hold()
     ensures rows { Rows }
 {}

@@ -15,12 +15,12 @@ use Rattle.spec_live.specs.Objects.{Entry, dbref_of, index_of}
 use Rattle.muck_codec.specs.declared.stored.Stored.{Stored}
 use Rattle.muck_codec.specs.declared.stored.Batch.{Batch}
 use Rattle.muck_codec.specs.Batches.{is_above, whole_batch, batch_bytes}
-use Rattle.muck_codec.specs.Stored.{IsStored, Run}
+use Rattle.muck_codec.specs.inner.Stored.{IsStored, Run}
 use Rattle.muck_codec.proofs.Batches.{IsNextRecord, dbref_key, IsTune, whole_reads}
 use Rattle.muck_store.proofs.Changing.{left_filter, left_whole}
 use Rattle.muck_store.proofs.Stored.{consistent_whole}
 use Rattle.muck_store.proofs.StoredForms.{length_persist}
-use Rattle.muck_store.specs.Changes.{IsKept, LeavesOut}
+use Rattle.muck_store.specs.inner.Changes.{IsKept, LeavesOut}
 use Rattle.muck_store.specs.Forms.{stored_of, stored_from, persist, world_batch}
 use Rattle.muck_store.specs.Limits.{fits}
 use Rattle.muck_store.specs.Whole.{is_whole}

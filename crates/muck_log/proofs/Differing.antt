@@ -10,9 +10,9 @@ use Rattle.std.proofs.lemmas.Slice.Eq.{bytes_eq-Decides}
 use Rattle.spec_live.specs.Objects.{index_of}
 use Rattle.muck_codec.specs.declared.stored.Stored.{Stored}
 use Rattle.muck_codec.specs.Spelling.{spelling}
-use Rattle.muck_codec.specs.Stored.{IsStored}
+use Rattle.muck_codec.specs.inner.Stored.{IsStored}
 use Rattle.muck_codec.proofs.Batches.{same_record}
-use Rattle.muck_store.specs.Changes.{IsKept}
+use Rattle.muck_store.specs.inner.Changes.{IsKept}
 use Rattle.muck_log.specs.World.{kept_of, differs}
 
 abbrev pub differs_from : Stored → Stored → Bool

@@ -9,7 +9,7 @@ use Rattle.muck_log.specs.File.{Held, Reading, End, gate_at, begin, step, run, j
 use Rattle.muck_log.specs.declared.reader.Mode.{Mode}
 use Rattle.muck_log.specs.declared.reader.Mode.TheVariants.{Gate, Size, Body as InBody, Shut, Broken}
 use Rattle.muck_log.specs.Store.{must_close}
-use Rattle.muck_log.specs.Head.{is_shut}
+use Rattle.muck_log.specs.inner.Head.{is_shut}
 use Rattle.muck_log.proofs.Runs.{run-append}
 
 pub cond_some : {A : Type 0} (t : Bool) (o : Option A) (v : A) → cond t o None ≡ Some v → (t ≡ true) × (o ≡ Some v)

@@ -4,10 +4,10 @@ use Rattle.std.proofs.lemmas.List.{take_all, take-take, drop-take}
 use Rattle.std.proofs.lemmas.Bool.{cases_lt, cond-true, cond-false, lt-leb, cond_both}
 use Rattle.muck_log.specs.File.{Opened, Reading, begin, gate_at, run, ending, is_open, header, file_of, reached}
 use Rattle.muck_log.specs.Store.{stored, picked, loaded, must_close, pick, LeavesOnly, LogState}
-use Rattle.muck_log.specs.Mount.{IsFirst, IsLook, IsChoice, IsLoaded, IsLoadFault, IsMountFault, IsMountedAs, choice}
+use Rattle.muck_log.specs.inner.Mount.{IsFirst, IsLook, IsChoice, IsLoaded, IsLoadFault, IsMountFault, IsMountedAs, choice}
 use Rattle.muck_log.specs.declared.fault.LogFault.{LogFault}
 use Rattle.muck_log.specs.declared.fault.LogFault.TheVariants.{NoMemory, DiskFault, Damaged as DamagedAt, StoreFull, Stale}
-use Rattle.muck_log.specs.Head.{is_shut, is_over}
+use Rattle.muck_log.specs.inner.Head.{is_shut, is_over}
 use Rattle.muck_log.specs.declared.mount.First.{First}
 use Rattle.muck_log.specs.declared.mount.First.TheVariants.{Shut, Bad, Open}
 use Rattle.muck_log.specs.declared.mount.Look.{Look}

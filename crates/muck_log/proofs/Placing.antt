@@ -1,9 +1,9 @@
 -- Records put in their places, one after the other.
-use Rattle.muck_log.specs.Head.{IsPlaced}
+use Rattle.muck_log.specs.inner.Head.{IsPlaced}
 use Rattle.std.proofs.Common.{◌≡◌, Bool, true, false, List, [], ◌∷◌, ◌++◌, reverse, Option, Some, None, option_and_then, sym, ◌∙◌, ap, subst}
 use Rattle.std.specs.Prelude.{All}
 use Rattle.std.proofs.lemmas.List.Elements.{All-head, All-tail}
-use Rattle.muck_codec.specs.Stored.{IsStored}
+use Rattle.muck_codec.specs.inner.Stored.{IsStored}
 use Rattle.std.proofs.lemmas.List.{reverse-append}
 use Rattle.muck_codec.specs.declared.stored.Stored.{Stored}
 use Rattle.muck_log.specs.World.{placed, all_placed}

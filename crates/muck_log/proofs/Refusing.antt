@@ -3,7 +3,7 @@ use Rattle.std.specs.Prelude.{◌≡◌, ◌≤◌, List, length, Some, true, Er
 use Rattle.muck_model.specs.declared.tune.Tune.{Tune}
 use Rattle.spec_live.specs.Objects.{Entry}
 use Rattle.muck_codec.specs.declared.stored.Batch.{Batch}
-use Rattle.muck_store.specs.Changes.{LeavesOut}
+use Rattle.muck_store.specs.inner.Changes.{LeavesOut}
 use Rattle.muck_store.specs.Forms.{persist}
 use Rattle.muck_log.specs.World.{laid, tune_fits}
 use Rattle.muck_log.specs.Store.{LogState, target}

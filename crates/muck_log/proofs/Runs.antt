@@ -6,7 +6,7 @@ use Rattle.std.proofs.lemmas.Nat.{from_be_bytes-to_be_bytes_8}
 use Rattle.std.specs.Int.{w64, to_be_bytes, from_be_bytes}
 use Rattle.muck_log.specs.File.{Held, Reading, gate_at, step, stepped, run, sized, judged, join}
 use Rattle.muck_log.specs.Store.{framed}
-use Rattle.muck_log.specs.Head.{is_over}
+use Rattle.muck_log.specs.inner.Head.{is_over}
 use Rattle.muck_log.specs.declared.reader.Mode.{Mode}
 use Rattle.muck_log.specs.declared.reader.Mode.TheVariants.{Gate, Size, Body as InBody, Shut, Broken}
 

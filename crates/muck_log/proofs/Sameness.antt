@@ -11,7 +11,7 @@ use Rattle.muck_codec.specs.declared.record.Lists.{Lists}
 use Rattle.muck_codec.specs.declared.record.Texts.{Texts}
 use Rattle.muck_codec.specs.declared.stored.Stored.{Stored}
 use Rattle.muck_codec.specs.Records.{stored_of}
-use Rattle.muck_log.specs.Same.{HasSameHead, HasSameTies, HasSameLists, HasSameTexts}
+use Rattle.muck_log.specs.inner.Same.{HasSameHead, HasSameTies, HasSameLists, HasSameTexts}
 
 abbrev parts_of : Stored → Head × (Ties × (Lists × Texts))
 parts_of o = (

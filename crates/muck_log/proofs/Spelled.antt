@@ -12,7 +12,7 @@ use Rattle.muck_prop.proofs.Reading.{read_is_path}
 use Rattle.muck_codec.specs.declared.stored.Stored.{Stored}
 use Rattle.muck_codec.specs.declared.stored.Property.{Property}
 use Rattle.muck_codec.specs.Records.{rises}
-use Rattle.muck_codec.specs.Stored.{Run, IsDbref, IsText, IsLine, IsValue, IsProperty, AreProperties, AreLines, IsStored}
+use Rattle.muck_codec.specs.inner.Stored.{Run, IsDbref, IsText, IsLine, IsValue, IsProperty, AreProperties, AreLines, IsStored}
 
 pub path_by : (path : List (List ℕ)) (text : List ℕ) → text ≡ path_text path → IsText 0 4096 text → IsReadAs (path_text path) path → IsPath path
 path_by path text is one reads = read_is_path (path_text path) path (sym reads.holds) (subst (λ t. text_fault t ≡ None) is one.1) (subst (λ q. fault_of (path_text path) q ≡ None) reads.holds reads.fine)

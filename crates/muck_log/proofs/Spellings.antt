@@ -3,7 +3,7 @@ use Rattle.std.proofs.Common.{◌≡◌, List, [], ◌∷◌, ◌++◌, length, 
 use Rattle.std.specs.Prelude.{All}
 use Rattle.std.proofs.lemmas.List.Elements.{All-nil, All-cons}
 use Rattle.muck_codec.specs.declared.stored.Stored.{Stored}
-use Rattle.muck_codec.specs.Stored.{IsStored}
+use Rattle.muck_codec.specs.inner.Stored.{IsStored}
 use Rattle.muck_log.specs.World.{start, room_zero, player_one, first_digest}
 
 room_stored : IsStored room_zero

@@ -3,7 +3,7 @@ use Rattle.std.proofs.Common.{◌≡◌, ◌≢◌, ◌⊎◌, inl, inr, ℕ, �
 use Rattle.std.proofs.lemmas.List.{drop_at, drop_more, take-take, get_or-take, get_or_at}
 use Rattle.std.proofs.lemmas.Bool.{cases_eq, cases_lt, leb-true, leb-false, eqb-true, eqb-false, or_cases, or_parts, or_from, lt-leb, ne_eqb}
 use Rattle.muck_disk.specs.Images.{Torn, written}
-use Rattle.muck_disk.specs.Memory.{Torn-written}
+use Rattle.muck_disk.specs.inner.Memory.{Torn-written}
 use Rattle.muck_log.specs.Store.{IsKept, IsDone, MayBe, must_close}
 
 -- the byte at a place is that of a longer equal front

@@ -1,7 +1,7 @@
 // Bodies.
 ghost use Rattle.std.specs.Prelude.{◌≡◌, ◌≤◌, ◌<◌, ◌+◌, List, ℕ, length, take, drop, Some, None, option_map, if◌then◌else◌, IfOk, OnOk, OnErr, Option};
 ghost use Rattle.std.specs.Int.{w64, from_be_bytes};
-ghost use Rattle.muck_log.specs.Head.{head_in};
+ghost use Rattle.muck_log.specs.inner.Head.{head_in};
 
 // Generation and number of a body.
 #[derive(Clone, Copy, Drop)]

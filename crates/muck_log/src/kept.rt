@@ -4,11 +4,11 @@ ghost use Rattle.std.specs.Bool.{Decides};
 ghost use Rattle.std.specs.List.{flat_map, list_all};
 ghost use Rattle.muck_model.specs.Bytes.{text_fault};
 ghost use Rattle.muck_codec.specs.Spelling.{spelling};
-ghost use Rattle.muck_codec.specs.Stored.{IsStored};
+ghost use Rattle.muck_codec.specs.inner.Stored.{IsStored};
 ghost use Rattle.muck_codec.specs.Batches.{batch_bytes, HasFewLines};
 ghost use Rattle.muck_log.specs.World.{World, room_zero, first_digest, player_one, first_tune, start, lost, is_between, tune_fits, is_fine, IsFine, placed, all_placed, laid, kept_of, differs, written};
 ghost use Rattle.muck_store.specs.Limits.{fits};
-ghost use Rattle.muck_log.specs.Head.{IsLaid, IsPut, IsPlaced, ArePlaced};
+ghost use Rattle.muck_log.specs.inner.Head.{IsLaid, IsPut, IsPlaced, ArePlaced};
 
 use crate::same::is_same;
 use muck_codec::{Batch, CodecFault, Stored, put_record, put_tune, take_batch};
@@ -29,7 +29,7 @@ pub struct Kept {
 
 impl Model for Kept {
     ghost use Rattle.std.specs.Prelude.{All};
-    ghost use Rattle.muck_codec.specs.Stored.{IsStored};
+    ghost use Rattle.muck_codec.specs.inner.Stored.{IsStored};
     ghost use Rattle.muck_log.specs.World.{World};
 
     ghost Value = { World };

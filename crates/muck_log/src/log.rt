@@ -6,14 +6,14 @@ ghost use Rattle.muck_log.specs.Body.{body_bytes};
 ghost use Rattle.muck_log.specs.World.{World, IsFine, laid, tune_fits};
 ghost use Rattle.muck_model.specs.declared.tune.Tune.{Tune};
 ghost use Rattle.spec_live.specs.Objects.{Entry as WorldEntry};
-ghost use Rattle.muck_store.specs.Changes.{LeavesOut};
+ghost use Rattle.muck_store.specs.inner.Changes.{LeavesOut};
 ghost use Rattle.muck_store.specs.Forms.{persist};
 ghost use Rattle.muck_log.specs.File.{after_number, begin};
-ghost use Rattle.muck_log.specs.Mount.{IsLoaded, IsLoadFault};
+ghost use Rattle.muck_log.specs.inner.Mount.{IsLoaded, IsLoadFault};
 ghost use Rattle.muck_log.specs.Store.{LeavesBoth, MayBeAt, IsMounted, LogState, target, opens_new, next_body, after_batch, stored, framed, pick, IsDone};
 ghost use Rattle.muck_log.specs.Append.{IsEither, IsAppended, IsLaidNext, IsTarget, IsReady, IsRefused, IsFinished, IsNext, IsTouching, LoadsEither, MakesWorld, base_of, payload_of};
 ghost use Rattle.muck_codec.specs.Batches.{HasFewLines};
-ghost use Rattle.muck_codec.specs.Stored.{IsStored};
+ghost use Rattle.muck_codec.specs.inner.Stored.{IsStored};
 ghost use Rattle.std.specs.Bool.{Decides};
 
 use crate::reader::Reader;

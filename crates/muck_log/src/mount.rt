@@ -5,7 +5,7 @@ ghost use Rattle.muck_io.specs.Faults.{Rose};
 ghost use Rattle.muck_log.specs.File.{gate_at, begin, run, reached, is_open};
 ghost use Rattle.muck_log.specs.Store.{LeavesOnly, LeavesBoth, must_close, pick};
 ghost use Rattle.muck_log.specs.World.{IsFine, is_fine};
-ghost use Rattle.muck_log.specs.Mount.{IsLook, IsFirst, choice, IsMountedAs, IsMountFault};
+ghost use Rattle.muck_log.specs.inner.Mount.{IsLook, IsFirst, choice, IsMountedAs, IsMountFault};
 
 use crate::body::{head_of, word_at};
 use crate::reader::Reader;

@@ -2,7 +2,7 @@
 ghost use Rattle.std.specs.Prelude.{◌≡◌, ◌≤◌, ◌<◌, ◌+◌, ◌-◌, ◌^◌, List, ℕ, length, take, true, OnOk, IfOk, IfErr};
 ghost use Rattle.muck_log.specs.File.{gate_at, begin, step, run, reached, sized, judged, forgotten, join, follows};
 ghost use Rattle.muck_log.specs.declared.reader.Mode.TheVariants.{Broken};
-ghost use Rattle.muck_log.specs.Head.{IsJoined, IsParts, is_over};
+ghost use Rattle.muck_log.specs.inner.Head.{IsJoined, IsParts, is_over};
 ghost use Rattle.muck_log.specs.World.{IsFine};
 ghost use Rattle.std.specs.Int.{w64, from_be_bytes};
 
@@ -38,7 +38,7 @@ pub struct Reader {
 impl Model for Reader {
     ghost use Rattle.std.specs.Prelude.{◌≤◌};
     ghost use Rattle.muck_log.specs.File.{Reading};
-    ghost use Rattle.muck_log.specs.Head.{IsFineIn};
+    ghost use Rattle.muck_log.specs.inner.Head.{IsFineIn};
 
     ghost Value = { Reading };
 

@@ -1,7 +1,7 @@
 // Whether two records are the same, field by field and without memory.
 ghost use Rattle.std.specs.Prelude.{◌≡◌, List, ℕ};
 ghost use Rattle.std.specs.Bool.{Decides};
-ghost use Rattle.muck_log.specs.Same.{HasSameHead, HasSameTies, HasSameLists, HasSameTexts};
+ghost use Rattle.muck_log.specs.inner.Same.{HasSameHead, HasSameTies, HasSameLists, HasSameTexts};
 
 use muck_codec::{Property, Stored};
 use muck_model::Line;

@@ -5,7 +5,7 @@ ghost use Rattle.std.specs.Option.{option_copied};
 ghost use Rattle.muck_model.specs.Bytes.{text_most};
 ghost use Rattle.muck_prop.specs.Paths.{IsPath};
 ghost use Rattle.muck_codec.specs.Records.{rises};
-ghost use Rattle.muck_codec.specs.Stored.{IsDbref, IsText, IsValue, IsProperty, Run, AreProperties, AreLines, IsStored};
+ghost use Rattle.muck_codec.specs.inner.Stored.{IsDbref, IsText, IsValue, IsProperty, Run, AreProperties, AreLines, IsStored};
 
 use muck_codec::{Property, Stored};
 use muck_model::{Line, NoMemory};

@@ -15,13 +15,13 @@ use Rattle.spec_events.specs.World.{World}
 use Rattle.spec_events.specs.Steps.{is_free, happened, effect, is_died, is_lawful, is_allowed, next_ready, next_process}
 use Rattle.spec_events.specs.Histories.{History, after, now, AllLawful}
 use Rattle.spec_events.specs.Logged.{ArePlaced, IsCountPlaced, IsPlaced}
-use Rattle.spec_events.specs.Sound.{IsSound}
+use Rattle.spec_events.specs.inner.Sound.{IsSound}
 use Rattle.spec_events.proofs.Living.{dead-happened}
 use Rattle.spec_events.proofs.Reached.{sound-effect, died_lawful}
 use Rattle.spec_events.proofs.Runs.{after-append, lawful-append}
 use Rattle.spec_events.proofs.Logging.{placed_entered, placed_noted, placed_linked}
 use Rattle.muck_machine.specs.declared.past.Past.{Past}
-use Rattle.muck_machine.specs.Keeping.{Keeps, history, told, remarked, counted_at_end, lost, Concludes}
+use Rattle.muck_machine.specs.inner.Keeping.{Keeps, history, told, remarked, counted_at_end, lost, Concludes}
 
 one_more : (start : World) (entries : List Entry) (e : Entry) → after start (entries ++ e ∷ []) ≡ happened (after start entries) e.party e.event
 unfolding effect

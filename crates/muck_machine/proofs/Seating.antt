@@ -16,8 +16,8 @@ use Rattle.spec_events.specs.Histories.{History, entered, noted, links_noted}
 use Rattle.spec_events.specs.Logged.{is_dump, logged, loose_count, IsSettled, bare_item, noted_item, counted_item, logged_by, entries_of, notes_of, NoCounts, IsPlaced, IsOrderly}
 use Rattle.spec_events.proofs.Logging.{logged_bare, logged_with_note, logged_with_counts, settled_bare, settled_with_note, settled_with_counts, rebuilt, no_count}
 use Rattle.muck_machine.specs.declared.beginning.Beginning.{Beginning}
-use Rattle.muck_machine.specs.Beginnings.{beginning, begun, IsBegun}
-use Rattle.muck_machine.specs.Seats.{Sight, Chair, OneMore, AllOrderly, Rests, Left, Waited, SameLists, Turned}
+use Rattle.muck_machine.specs.inner.Beginnings.{beginning, begun, IsBegun}
+use Rattle.muck_machine.specs.inner.Seats.{Sight, Chair, OneMore, AllOrderly, Rests, Left, Waited, SameLists, Turned}
 
 -- Histories that are shared.
 

@@ -1,4 +1,1 @@
-pub mod Keeping
-pub mod Claims
-pub mod Beginnings
-pub mod Seats
+pub mod inner

@@ -40,7 +40,7 @@ struct Notes<N> {
 }
 
 impl<N: Counted> Play<u64, Option<(u64, LinkedList<Count>)>> for Notes<N> {
-    ghost use Rattle.muck_machine.specs.Keeping.{Counts};
+    ghost use Rattle.muck_machine.specs.inner.Keeping.{Counts};
 
     ghost then = { Counts N.counted };
 }

@@ -1,6 +1,6 @@
 // What has happened in a world.
 ghost use Rattle.std.specs.Prelude.{◌≡◌, true, length};
-ghost use Rattle.muck_machine.specs.Keeping.{told, remarked, counted_at_end, lost, Concludes};
+ghost use Rattle.muck_machine.specs.inner.Keeping.{told, remarked, counted_at_end, lost, Concludes};
 ghost use Rattle.spec_talks.specs.Counts.{counts};
 
 use crate::counting::{Counted, Counting};

@@ -9,7 +9,7 @@ ghost use Rattle.spec_events.specs.Steps.{is_lawful, has_claim, is_there, next_r
 ghost use Rattle.spec_events.specs.Histories.{now, entered, by_porter, AllLawful};
 ghost use Rattle.spec_events.specs.Logged.{IsPlaced};
 ghost use Rattle.muck_machine.specs.declared.world.Sliced.TheVariants.{Ran, Lost};
-ghost use Rattle.muck_machine.specs.Claims.{slice_event};
+ghost use Rattle.muck_machine.specs.inner.Claims.{slice_event};
 
 mod dumping;
 mod sharing;
@@ -51,14 +51,14 @@ pub struct World {
 
 impl Model for World {
     ghost use Rattle.spec_events.specs.Histories.{History};
-    ghost use Rattle.muck_machine.specs.Keeping.{history, Keeps};
+    ghost use Rattle.muck_machine.specs.inner.Keeping.{history, Keeps};
 
     ghost Value = { History };
 
     ghost use Rattle.std.specs.Coded.{codes};
     ghost use Rattle.muck_prop.specs.contracts.props.Props as props;
     ghost use Rattle.muck_model.specs.contracts.lock.Lock as lock;
-    ghost use Rattle.muf_model.specs.Codes.{datum_code, block_code, end_code};
+    ghost use Rattle.muf_model.specs.inner.Codes.{datum_code, block_code, end_code};
 
     ghost coded = { Prim.hlevel (codes, props.the_row.coded, lock.the_row.coded, datum_code, block_code, end_code) };
 

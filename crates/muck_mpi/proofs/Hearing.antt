@@ -11,15 +11,15 @@ use Rattle.mpi.specs.Hosting.{Means, IfMemory}
 use Rattle.mpi.specs.Variables.{Variables}
 use Rattle.mpi.specs.Meaning.{evaluated, scene_of, Evaluates}
 use Rattle.muck_perm.specs.declared.guard.Guard.{Guard}
-use Rattle.muck_perm.specs.Guards.{world_of, Same, Did}
+use Rattle.muck_perm.specs.inner.Guards.{world_of, Same, Did}
 use Rattle.spec_mpi.specs.Stages.{Stage}
 use Rattle.spec_mpi.specs.Doing.{powers}
 use Rattle.spec_mpi.specs.Telling.{Answer}
 use Rattle.spec_mpi.specs.Messages.{heard, shown, spoken, variables_of}
 use Rattle.spec_mpi.specs.Touching.{TouchesNotes}
 use Rattle.spec_mpi.proofs.Leave.{heard_open, heard_touches, same_actor}
-use Rattle.muck_mpi.specs.Seeing.{stage_of}
-use Rattle.muck_mpi.specs.Showing.{IsShown}
+use Rattle.muck_mpi.specs.inner.Seeing.{stage_of}
+use Rattle.muck_mpi.specs.inner.Showing.{IsShown}
 
 pub memory_then : {A : Type 0} (r : Result A MpiFault) (P Q : Type 0) → (P → Q) → IfMemory r P → IfMemory r Q
 memory_then (Ok x) P Q f h = f h

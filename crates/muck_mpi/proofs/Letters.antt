@@ -10,7 +10,7 @@ use Rattle.mpi.specs.declared.fault.MpiFault.TheVariants.{TooLong}
 use Rattle.mpi.specs.Hosting.{Means}
 use Rattle.spec_live.specs.Objects.{Entry}
 use Rattle.spec_mpi.specs.Telling.{sign_in, signs_in}
-use Rattle.muck_mpi.specs.Signing.{signs_behind}
+use Rattle.muck_mpi.specs.inner.Signing.{signs_behind}
 use Rattle.muck_model.specs.Bytes.{text_fault}
 use Rattle.muck_model.specs.declared.dbref.Flags.{Flags}
 use Rattle.spec_live.specs.Flags.{has_flag, flag_of}

@@ -18,12 +18,12 @@ use Rattle.mpi.specs.declared.fault.MpiFault.{MpiFault}
 use Rattle.mpi.specs.declared.fault.MpiFault.TheVariants.{Unclosed, UnknownFunction, BadCount, BadValue, TooManyCommands, TooLong, Denied, NoMemory}
 use Rattle.mpi.specs.Thoughts.{found_or_bad}
 use Rattle.muck_perm.specs.declared.guard.Guard.{Guard}
-use Rattle.muck_perm.specs.Guards.{Same, Kept, Makes, Tries, objects_of, world_of}
+use Rattle.muck_perm.specs.inner.Guards.{Same, Kept, Makes, Tries, objects_of, world_of}
 use Rattle.muck_perm.proofs.Worlds.{same_as}
 use Rattle.spec_mpi.specs.Stages.{Stage}
 use Rattle.spec_mpi.specs.Telling.{path_in, at_path, by_leave}
 use Rattle.spec_mpi.specs.Doing.{Done, refused, changed, written}
-use Rattle.muck_mpi.specs.Seeing.{stage_of, Did, IsWritten}
+use Rattle.muck_mpi.specs.inner.Seeing.{stage_of, Did, IsWritten}
 
 -- the guard itself
 pub same_self : (g : Guard) → Same g g

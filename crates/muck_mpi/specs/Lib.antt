@@ -1,5 +1,1 @@
-pub mod Seeing
-pub mod Hosts
-pub mod Upward
-pub mod Showing
-pub mod Signing
+pub mod inner

@@ -1,6 +1,6 @@
 // What formulas are told.
 ghost use Rattle.mpi.specs.Hosting.{Means};
-ghost use Rattle.muck_perm.specs.Guards.{objects_of};
+ghost use Rattle.muck_perm.specs.inner.Guards.{objects_of};
 ghost use Rattle.spec_mpi.specs.Telling.{told_by};
 
 use crate::objects::{contents, controls, exits, flags, holds, kind, name, owner, place};

@@ -4,9 +4,9 @@ ghost use Rattle.mpi.specs.Hosting.{Meant};
 ghost use Rattle.muck_prop.specs.declared.value.PropValue.TheVariants.{Text};
 ghost use Rattle.spec_live.specs.Lives.{tell_player, tell_others};
 ghost use Rattle.spec_rights.specs.Changing.{stored, unstored};
-ghost use Rattle.muck_perm.specs.Guards.{Same};
+ghost use Rattle.muck_perm.specs.inner.Guards.{Same};
 ghost use Rattle.spec_mpi.specs.Doing.{changed, written, does_in};
-ghost use Rattle.muck_mpi.specs.Seeing.{stage_of, IsWritten, Did};
+ghost use Rattle.muck_mpi.specs.inner.Seeing.{stage_of, IsWritten, Did};
 
 use crate::properties::path_of;
 use mpi::{Deed, MpiFault};

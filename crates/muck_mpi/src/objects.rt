@@ -8,7 +8,7 @@ ghost use Rattle.mpi.specs.Values.{truth};
 ghost use Rattle.spec_live.specs.Objects.{same};
 ghost use Rattle.spec_live.specs.Seen.{listed_in, flag_letters};
 ghost use Rattle.spec_rights.specs.Verdict.{controls};
-ghost use Rattle.muck_perm.specs.Guards.{objects_of};
+ghost use Rattle.muck_perm.specs.inner.Guards.{objects_of};
 ghost use Rattle.spec_mpi.specs.Telling.{of_object, sign_in, signs_in, kind_name};
 
 use crate::signs::{sign, signs};

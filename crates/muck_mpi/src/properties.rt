@@ -6,7 +6,7 @@ ghost use Rattle.mpi.specs.Thoughts.{found_or_bad};
 ghost use Rattle.muck_prop.specs.Store.{is_dir};
 ghost use Rattle.spec_live.specs.Seen.{places_of};
 ghost use Rattle.spec_live.specs.Worth.{value_text};
-ghost use Rattle.muck_perm.specs.Guards.{objects_of};
+ghost use Rattle.muck_perm.specs.inner.Guards.{objects_of};
 ghost use Rattle.spec_mpi.specs.Telling.{fault, path_in, at_path, of_object, value_of, text_at, first_text, below_at};
 
 use crate::texts::truth;

@@ -3,8 +3,8 @@ ghost use Rattle.std.specs.Prelude.{◌≡◌, IfOk, None, Err};
 ghost use Rattle.muck_model.specs.Bytes.{text_fault};
 ghost use Rattle.mpi.specs.Hosting.{Means, IfMemory};
 ghost use Rattle.spec_rights.specs.Licence.{Licensed, nobody};
-ghost use Rattle.muck_perm.specs.Guards.{world_of, Same, Did};
-ghost use Rattle.muck_mpi.specs.Showing.{IsShown};
+ghost use Rattle.muck_perm.specs.inner.Guards.{world_of, Same, Did};
+ghost use Rattle.muck_mpi.specs.inner.Showing.{IsShown};
 ghost use Rattle.spec_mpi.specs.Messages.{heard, variables_of, spoken};
 ghost use Rattle.spec_mpi.specs.Touching.{TouchesNotes};
 
@@ -28,8 +28,8 @@ struct Speaker<'g, 'a> {
 impl<'g, 'a> Host for Speaker<'g, 'a> {
     ghost use Rattle.std.proofs.Common.{refl, ◌∙◌};
     ghost use Rattle.spec_mpi.specs.Doing.{powers};
-    ghost use Rattle.muck_mpi.specs.Seeing.{stage_of};
-    ghost use Rattle.muck_mpi.specs.Hosts.{SameHost};
+    ghost use Rattle.muck_mpi.specs.inner.Seeing.{stage_of};
+    ghost use Rattle.muck_mpi.specs.inner.Hosts.{SameHost};
 
     type Seen = Seen;
 

@@ -13,7 +13,7 @@ use Rattle.spec_live.specs.Moving.{Does}
 use Rattle.spec_live.specs.Setting.{set_at, with_flags, flags_check}
 use Rattle.spec_rights.specs.Changing.{flag_values, is_flag, set_object, flag_set, flag_cleared}
 use Rattle.muck_perm.specs.declared.guard.Guard.{Guard}
-use Rattle.muck_perm.specs.Guards.{objects_of, Makes, flags_at}
+use Rattle.muck_perm.specs.inner.Guards.{objects_of, Makes, flags_at}
 use Rattle.muck_perm.proofs.Guarding.{with_objects, written, checked_number, at_found}
 
 -- The value of a flag.

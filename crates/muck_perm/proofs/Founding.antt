@@ -22,7 +22,7 @@ use Rattle.muck_db.proofs.Writes.{set_back}
 use Rattle.spec_live.specs.Lives.{Change}
 use Rattle.spec_rights.specs.Changing.{created_so}
 use Rattle.muck_perm.specs.declared.guard.Guard.{Guard}
-use Rattle.muck_perm.specs.Guards.{objects_of, Founds, is_kind_at, may_lead, may_house}
+use Rattle.muck_perm.specs.inner.Guards.{objects_of, Founds, is_kind_at, may_lead, may_house}
 use Rattle.muck_perm.proofs.Guarding.{with_objects, written}
 
 -- The kinds after a creation.

@@ -14,7 +14,7 @@ use Rattle.spec_live.specs.Recycling.{recycled, recycle_check}
 use Rattle.spec_live.specs.Lives.{on_objects}
 use Rattle.spec_rights.specs.Changing.{at_number, moved_at, moved_to, named, owned_by, linked, homed, leveled, lines_kept, stored, unstored, recycled_now, password_kept}
 use Rattle.muck_perm.specs.declared.guard.Guard.{Guard}
-use Rattle.muck_perm.specs.Guards.{objects_of, world_of, Kept, Makes, Tries}
+use Rattle.muck_perm.specs.inner.Guards.{objects_of, world_of, Kept, Makes, Tries}
 
 -- The number of what passed a check.
 

@@ -3,7 +3,7 @@ use Rattle.std.proofs.Common.{◌≡◌, refl, ◌∙◌, ap, Result, Ok, Err}
 use Rattle.muck_model.specs.declared.memory.NoMemory.{NoMemory}
 use Rattle.spec_live.specs.Lives.{Change, followed}
 use Rattle.muck_perm.specs.declared.guard.Guard.{Guard}
-use Rattle.muck_perm.specs.Guards.{Same, Kept, Done, Did}
+use Rattle.muck_perm.specs.inner.Guards.{Same, Kept, Done, Did}
 
 pub kept_itself : (a : Guard) → Kept a a
 kept_itself a = (refl, (refl, refl))

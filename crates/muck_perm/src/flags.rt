@@ -2,7 +2,7 @@
 ghost use Rattle.std.specs.Prelude.{◌≡◌, ◌<◌, ◌^◌, true};
 ghost use Rattle.spec_live.specs.Flags.{with_flag, without_flag};
 ghost use Rattle.spec_rights.specs.Changing.{is_flag};
-ghost use Rattle.muck_perm.specs.Guards.{flags_at};
+ghost use Rattle.muck_perm.specs.inner.Guards.{flags_at};
 
 use muck_db::Db;
 use muck_model::{Dbref, Flags};

@@ -17,7 +17,7 @@ ghost use Rattle.spec_rights.specs.Verdict.{is_guarded};
 ghost use Rattle.spec_live.specs.Worth.{message_at, lock_text};
 ghost use Rattle.spec_rights.specs.Changing.{named, owned_by, linked, homed, leveled, lines_kept, stored, unstored, moved_to, recycled_now, created_so, is_flag, flag_set, flag_cleared, password_kept, booted, tuned};
 ghost use Rattle.spec_rights.specs.Licence.{at_hand};
-ghost use Rattle.muck_perm.specs.Guards.{objects_of, world_of, Did, Done, IsLeave, IsGiven, is_here, Makes, Tries, Founds, flags_at, home_in, may_lead, may_house};
+ghost use Rattle.muck_perm.specs.inner.Guards.{objects_of, world_of, Did, Done, IsLeave, IsGiven, is_here, Makes, Tries, Founds, flags_at, home_in, may_lead, may_house};
 
 use crate::flags::{flags_at, with_flag, without_flag};
 use crate::levels::level_at;

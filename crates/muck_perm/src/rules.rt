@@ -5,7 +5,7 @@ ghost use Rattle.muck_prop.specs.Paths.{class_of};
 ghost use Rattle.spec_rights.specs.declared.act.Act.{Act};
 ghost use Rattle.spec_rights.specs.Verdict.{verdict, when, controls, controls_or, is_near, open_place, open_target, may_build, may_take_over, is_program_at, place_of, below, is_hidden, is_kept, is_private, is_guarded, is_plain};
 ghost use Rattle.spec_rights.specs.inner.Numbers.{denial};
-ghost use Rattle.muck_perm.specs.Verdicts.{IsVerdict};
+ghost use Rattle.muck_perm.specs.inner.Verdicts.{IsVerdict};
 
 use crate::levels::{controls_as, effective, flag_at, is_player_at, level_at, owner_at};
 use crate::locks::opens_at;

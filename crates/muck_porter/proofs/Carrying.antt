@@ -32,13 +32,13 @@ use Rattle.spec_serve.proofs.Pairs.{all2_map}
 use Rattle.spec_serve.proofs.Promising.{books_promised}
 use Rattle.spec_serve.proofs.Connecting.{nobody_there}
 use Rattle.spec_serve.proofs.Turning.{turn_others, turn_quiet, turn_heard, turn_taken, turn_opened, turn_closed, turn_halted}
-use Rattle.muck_machine.specs.Beginnings.{begun}
-use Rattle.muck_machine.specs.Seats.{Sight, Waited}
+use Rattle.muck_machine.specs.inner.Beginnings.{begun}
+use Rattle.muck_machine.specs.inner.Seats.{Sight, Waited}
 use Rattle.muck_peer.specs.Moves.{PeerStep, HasCause}
-use Rattle.muck_porter.specs.Notes.{first_note, note_in}
-use Rattle.muck_porter.specs.Kept.{tally, BooksAt, PromisedIn, KeptBy}
-use Rattle.muck_porter.specs.Turns.{Marked, PorterTurn}
-use Rattle.muck_porter.specs.Moves.{MayHalt, LastEntry}
+use Rattle.muck_porter.specs.inner.Notes.{first_note, note_in}
+use Rattle.muck_porter.specs.inner.Kept.{tally, BooksAt, PromisedIn, KeptBy}
+use Rattle.muck_porter.specs.inner.Turns.{Marked, PorterTurn}
+use Rattle.muck_porter.specs.inner.Moves.{MayHalt, LastEntry}
 use Rattle.muck_porter.proofs.Items.{same_world, note_append, some_is, entries_own}
 
 pub set_again : {A : Type 0} (xs : List A) (i : ℕ) (a : A) → get_elem? xs i ≡ some a → set xs i a ≡ xs

@@ -23,19 +23,19 @@ use Rattle.spec_serve.specs.inner.Keeping.{Peer}
 use Rattle.spec_serve.specs.inner.Books.{BooksOf}
 use Rattle.spec_serve.proofs.Booking.{books_linked}
 use Rattle.spec_serve.proofs.Promising.{books_lost}
-use Rattle.muck_machine.specs.Seats.{Sight, Chair, Rests, Left, Waited}
+use Rattle.muck_machine.specs.inner.Seats.{Sight, Chair, Rests, Left, Waited}
 use Rattle.muck_machine.proofs.Seating.{left_rests}
 use Rattle.muck_peer.specs.Moves.{LinkStep, LinkLoss}
 use Rattle.muck_porter.specs.declared.deeds.Deed.{Deed}
 use Rattle.muck_porter.specs.declared.deeds.Deed.TheVariants.{Open, Slice, Time, Stop, Leave, Die}
 use Rattle.muck_porter.specs.declared.deeds.Did.{Did}
 use Rattle.muck_porter.specs.declared.deeds.Did.TheVariants.{Done, Timed, Dead}
-use Rattle.muck_porter.specs.Notes.{note_in}
-use Rattle.muck_porter.specs.Kept.{tally, BooksAt, PromisedIn, IsAt, IsFree, Resting, Ready, ReadyTimed, Over}
-use Rattle.muck_porter.specs.Deeds.{IsMoment, DidAs}
-use Rattle.muck_porter.specs.Turns.{PorterTurn}
-use Rattle.muck_porter.specs.Moves.{Carries, CarriesOn, Ends, EndsAll, TendsPeer, LosesPeer, Tends, Loses, LastEntry}
-use Rattle.muck_porter.specs.Rounds.{WroteAt, ClosedAt}
+use Rattle.muck_porter.specs.inner.Notes.{note_in}
+use Rattle.muck_porter.specs.inner.Kept.{tally, BooksAt, PromisedIn, IsAt, IsFree, Resting, Ready, ReadyTimed, Over}
+use Rattle.muck_porter.specs.inner.Deeds.{IsMoment, DidAs}
+use Rattle.muck_porter.specs.inner.Turns.{PorterTurn}
+use Rattle.muck_porter.specs.inner.Moves.{Carries, CarriesOn, Ends, EndsAll, TendsPeer, LosesPeer, Tends, Loses, LastEntry}
+use Rattle.muck_porter.specs.inner.Rounds.{WroteAt, ClosedAt}
 use Rattle.muck_porter.proofs.Stages.{stage_moment, stage_died, formed_at, formed_free}
 use Rattle.muck_porter.proofs.Carrying.{IsQuiet, quiet_moment, quiet_died, turn_noted, carries_quiet, last_entry, promised_in, kept_waited}
 

@@ -21,28 +21,28 @@ use Rattle.spec_serve.proofs.Booking.{books_begin, books_still, books_came}
 use Rattle.spec_serve.proofs.Promising.{books_worked_off}
 use Rattle.muck_machine.specs.declared.world.Sliced.{Sliced}
 use Rattle.muck_machine.specs.declared.world.Sliced.TheVariants.{Ran, Lost as WasLost}
-use Rattle.muck_machine.specs.Claims.{slice_event}
-use Rattle.muck_machine.specs.Beginnings.{begun}
+use Rattle.muck_machine.specs.inner.Claims.{slice_event}
+use Rattle.muck_machine.specs.inner.Beginnings.{begun}
 use Rattle.muck_peer.specs.Moves.{IsUntimed}
-use Rattle.muck_machine.specs.Seats.{Sight, Chair, Rests}
+use Rattle.muck_machine.specs.inner.Seats.{Sight, Chair, Rests}
 use Rattle.muck_porter.specs.declared.deeds.Deed.{Deed}
 use Rattle.muck_porter.specs.declared.deeds.Deed.TheVariants.{Open, Slice, Time, Stop, Leave, Die}
 use Rattle.muck_porter.specs.declared.deeds.Did.{Did}
 use Rattle.muck_porter.specs.declared.deeds.Did.TheVariants.{Done, Timed, Dead}
 use Rattle.muck_porter.specs.declared.deeds.Worked.{Worked}
 use Rattle.muck_porter.specs.declared.deeds.Worked.TheVariants.{Done as WorkedDone, Claimed, Idle, Ready as WorkedReady, Dead as WorkedDead}
-use Rattle.muck_porter.specs.Notes.{note_in}
+use Rattle.muck_porter.specs.inner.Notes.{note_in}
 use Rattle.muck_porter.specs.Times.{TimedBy}
-use Rattle.muck_porter.specs.Kept.{tally, BooksAt, PromisedIn, KeptBy, Stopped, EndsWithStop, IsAt, IsFree, Resting, Ready, ReadyTimed, Over}
-use Rattle.muck_porter.specs.Deeds.{AllOff, IsMoment, WorkedAs, DidAs}
-use Rattle.muck_porter.specs.Turns.{PorterTurn}
-use Rattle.muck_porter.specs.Moves.{Carries, CarriesOn, Ends, EndsAll, LastEntry, Halts, Tends, Loses, HasClaimed, number_in}
+use Rattle.muck_porter.specs.inner.Kept.{tally, BooksAt, PromisedIn, KeptBy, Stopped, EndsWithStop, IsAt, IsFree, Resting, Ready, ReadyTimed, Over}
+use Rattle.muck_porter.specs.inner.Deeds.{AllOff, IsMoment, WorkedAs, DidAs}
+use Rattle.muck_porter.specs.inner.Turns.{PorterTurn}
+use Rattle.muck_porter.specs.inner.Moves.{Carries, CarriesOn, Ends, EndsAll, LastEntry, Halts, Tends, Loses, HasClaimed, number_in}
 use Rattle.muck_porter.specs.declared.rounds.Round.{Round}
 use Rattle.muck_porter.specs.declared.rounds.Round.TheVariants.{Busy, Idle as WentIdle, Left}
-use Rattle.muck_porter.specs.Rounds.{HasLeft, IsRound, RoundCarries, Went, is_left}
+use Rattle.muck_porter.specs.inner.Rounds.{HasLeft, IsRound, RoundCarries, Went, is_left}
 use Rattle.muck_porter.specs.declared.porting.Why.{Why}
 use Rattle.muck_porter.specs.declared.porting.Why.TheVariants.{Fine, ListenFault, NoMemory as WhyNoMemory, Spent as WhySpent}
-use Rattle.muck_porter.specs.Porter.{PorterReady, HasStopped}
+use Rattle.muck_porter.specs.inner.Porter.{PorterReady, HasStopped}
 use Rattle.muck_porter.proofs.Items.{same_world}
 use Rattle.muck_porter.proofs.Timing.{timed_fresh}
 use Rattle.muck_porter.proofs.Stages.{stage_item, stage_free, same_claim}

@@ -12,8 +12,8 @@ use Rattle.spec_events.specs.Logged.{logged_by, entries_of, NoCounts, placed_cou
 use Rattle.spec_talks.specs.Parties.{party_of}
 use Rattle.spec_serve.specs.Marks.{LinksNote}
 use Rattle.muck_machine.specs.declared.beginning.Beginning.{Beginning}
-use Rattle.muck_machine.specs.Beginnings.{begun}
-use Rattle.muck_porter.specs.Notes.{first_note, note_in}
+use Rattle.muck_machine.specs.inner.Beginnings.{begun}
+use Rattle.muck_porter.specs.inner.Notes.{first_note, note_in}
 
 -- the world of the beginning
 pub same_world : (u w : World) (m m' : Note) → ◌≡◌ {A = List Beginning} (begun u m ∷ []) (begun w m' ∷ []) → u ≡ w

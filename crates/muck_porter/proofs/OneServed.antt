@@ -11,16 +11,16 @@ use Rattle.spec_events.specs.World.{World}
 use Rattle.spec_events.specs.Histories.{by_porter}
 use Rattle.spec_events.specs.Own.{Stage}
 use Rattle.spec_serve.specs.inner.Keeping.{Peer}
-use Rattle.muck_machine.specs.Seats.{Chair, Rests}
+use Rattle.muck_machine.specs.inner.Seats.{Chair, Rests}
 use Rattle.muck_peer.specs.Moves.{PeerStep}
 use Rattle.muck_porter.specs.declared.deeds.Served.{Served}
 use Rattle.muck_porter.specs.declared.deeds.Served.TheVariants.{Went as ServedOne, Closed as ClosedOne, Nobody, Dead as ServedDead}
-use Rattle.muck_porter.specs.Notes.{note_in}
-use Rattle.muck_porter.specs.Kept.{tally, BooksAt, IsFree, Ready, ReadyTimed, Over}
-use Rattle.muck_porter.specs.Deeds.{ServedAs, ServedFrom}
-use Rattle.muck_porter.specs.Turns.{PorterTurn}
-use Rattle.muck_porter.specs.Moves.{CarriesOn, EndsAll}
-use Rattle.muck_porter.specs.Rounds.{WroteAt, ClosedAt, Nearer}
+use Rattle.muck_porter.specs.inner.Notes.{note_in}
+use Rattle.muck_porter.specs.inner.Kept.{tally, BooksAt, IsFree, Ready, ReadyTimed, Over}
+use Rattle.muck_porter.specs.inner.Deeds.{ServedAs, ServedFrom}
+use Rattle.muck_porter.specs.inner.Turns.{PorterTurn}
+use Rattle.muck_porter.specs.inner.Moves.{CarriesOn, EndsAll}
+use Rattle.muck_porter.specs.inner.Rounds.{WroteAt, ClosedAt, Nearer}
 use Rattle.muck_porter.proofs.Stages.{stage_free}
 use Rattle.muck_porter.proofs.Carrying.{turn_noted, carries_peer, carries_closed, set_again}
 use Rattle.muck_porter.proofs.Doing.{set_there, set_length, remove_length, at_below, linked_books, turn_resting, moment_ready, moment_carries, died_ends, died_over, over_free}

@@ -13,7 +13,7 @@ use Rattle.muck_porter.specs.declared.deeds.Served.{Served}
 use Rattle.muck_porter.specs.declared.deeds.Served.TheVariants.{Went as ServedOne, Closed as ClosedOne, Nobody, Dead as ServedDead}
 use Rattle.muck_porter.specs.declared.deeds.Worked.{Worked}
 use Rattle.muck_porter.specs.declared.deeds.Worked.TheVariants.{Done as WorkedDone, Claimed, Idle, Ready, Dead as WorkedDead}
-use Rattle.muck_porter.specs.Deeds.{IsMoment, ServedAs, WorkedAs, DidAs}
+use Rattle.muck_porter.specs.inner.Deeds.{IsMoment, ServedAs, WorkedAs, DidAs}
 
 moment_quiet : (event : Event) → IsMoment event → is_dump event ≡ false
 moment_quiet event is = ap is_dump is.1

@@ -11,7 +11,7 @@ use Rattle.spec_events.specs.Logged.{events_of}
 use Rattle.spec_events.specs.Own.{Stage, next, stage_of, IsWellFormed}
 use Rattle.spec_events.proofs.Logging.{events_append}
 use Rattle.spec_events.proofs.Owning.{stage_more, well_formed}
-use Rattle.muck_porter.specs.Kept.{IsAt, IsFree}
+use Rattle.muck_porter.specs.inner.Kept.{IsAt, IsFree}
 
 -- one item more
 pub stage_item : (own own' : List Logged) (item : Logged) (event : Event) (stage later : Stage) → own' ≡ own ++ item ∷ [] → item.entry ≡ by_porter event → IsAt stage own → next 0 stage event ≡ Some later → IsAt later own'

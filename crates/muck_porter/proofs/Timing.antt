@@ -16,10 +16,10 @@ use Rattle.spec_events.specs.Logged.{entries_of}
 use Rattle.spec_events.proofs.Logging.{entries_append}
 use Rattle.spec_talks.specs.Parties.{party_of}
 use Rattle.spec_talks.proofs.Histories.{lawful_back, both_ways, allowed_one, not_first, others_own}
-use Rattle.muck_machine.specs.Beginnings.{begun}
-use Rattle.muck_machine.specs.Seats.{Sight, Chair, Rests, Waited}
+use Rattle.muck_machine.specs.inner.Beginnings.{begun}
+use Rattle.muck_machine.specs.inner.Seats.{Sight, Chair, Rests, Waited}
 use Rattle.muck_peer.specs.Moves.{Clocked}
-use Rattle.muck_porter.specs.Turns.{PorterTurn}
+use Rattle.muck_porter.specs.inner.Turns.{PorterTurn}
 use Rattle.muck_porter.specs.Times.{Timely, TimedBy, ByClock}
 use Rattle.muck_porter.proofs.Items.{same_world, entries_own}
 

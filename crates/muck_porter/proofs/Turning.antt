@@ -14,18 +14,18 @@ use Rattle.spec_events.specs.Histories.{History, now, after, AllLawful, entered,
 use Rattle.spec_events.specs.Logged.{NoCounts, is_dump, logged, logged_by, entries_of, bare_item, counted_item, IsSettled, IsPlaced, IsOrderly}
 use Rattle.spec_events.proofs.Logging.{entries_logged, entries_append, orderly_bare, orderly_counted}
 use Rattle.spec_events.specs.Steps.{has_claim}
-use Rattle.spec_claims.specs.Claims.{AreOthers}
+use Rattle.spec_claims.specs.inner.Claims.{AreOthers}
 use Rattle.spec_claims.proofs.Staying.{claim_stays}
 use Rattle.spec_talks.specs.Counts.{counts}
-use Rattle.muck_machine.specs.Beginnings.{beginning}
-use Rattle.muck_machine.specs.Seats.{Sight, Chair, OneMore, AllOrderly, Rests, Waited}
+use Rattle.muck_machine.specs.inner.Beginnings.{beginning}
+use Rattle.muck_machine.specs.inner.Seats.{Sight, Chair, OneMore, AllOrderly, Rests, Waited}
 use Rattle.muck_machine.proofs.Seating.{one_bare, one_counted, held_settled, held_start, given_seen, given_root, rests_turned, others_none, not_counted}
 use Rattle.muck_porter.specs.declared.deeds.Deed.{Deed}
 use Rattle.muck_porter.specs.declared.deeds.Deed.TheVariants.{Open, Slice, Time, Stop, Leave, Die}
-use Rattle.muck_porter.specs.Kept.{Resting}
-use Rattle.muck_porter.specs.Deeds.{ClaimOf}
-use Rattle.muck_porter.specs.Moves.{HasClaimed, ClaimAt}
-use Rattle.muck_porter.specs.Turns.{Marked, MarkedIn, Given, PorterTurn}
+use Rattle.muck_porter.specs.inner.Kept.{Resting}
+use Rattle.muck_porter.specs.inner.Deeds.{ClaimOf}
+use Rattle.muck_porter.specs.inner.Moves.{HasClaimed, ClaimAt}
+use Rattle.muck_porter.specs.inner.Turns.{Marked, MarkedIn, Given, PorterTurn}
 use Rattle.muck_porter.proofs.Items.{note_none, some_is}
 
 -- The note of the links is made where there is none yet.

@@ -16,10 +16,10 @@ use Rattle.spec_talks.proofs.Talking.{talks_same}
 use Rattle.spec_serve.specs.Marks.{LinksNote}
 use Rattle.spec_serve.specs.Promises.{Tally, PromisedOf, OpenWorkedOff}
 use Rattle.spec_serve.proofs.Promising.{promised_whole}
-use Rattle.muck_machine.specs.Beginnings.{begun}
-use Rattle.muck_machine.specs.Seats.{Sight, AllOrderly}
-use Rattle.muck_porter.specs.Notes.{first_note, note_in}
-use Rattle.muck_porter.specs.Kept.{KeptBy, Stopped}
+use Rattle.muck_machine.specs.inner.Beginnings.{begun}
+use Rattle.muck_machine.specs.inner.Seats.{Sight, AllOrderly}
+use Rattle.muck_porter.specs.inner.Notes.{first_note, note_in}
+use Rattle.muck_porter.specs.inner.Kept.{KeptBy, Stopped}
 use Rattle.muck_porter.specs.Times.{Timely, TimedBy}
 use Rattle.muck_porter.proofs.Timing.{timely_same}
 use Rattle.muck_porter.proofs.Items.{note_count, entries_own}

@@ -1,8 +1,2 @@
-pub mod Notes
+pub mod inner
 pub mod Times
-pub mod Kept
-pub mod Deeds
-pub mod Turns
-pub mod Moves
-pub mod Rounds
-pub mod Porter

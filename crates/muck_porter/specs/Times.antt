@@ -7,8 +7,8 @@ use Rattle.spec_events.specs.declared.logged.Logged.{Logged}
 use Rattle.spec_events.specs.World.{World}
 use Rattle.spec_events.specs.Steps.{effect}
 use Rattle.spec_events.specs.Logged.{logged_by, entries_of}
-use Rattle.muck_machine.specs.Beginnings.{begun}
-use Rattle.muck_machine.specs.Seats.{Sight}
+use Rattle.muck_machine.specs.inner.Beginnings.{begun}
+use Rattle.muck_machine.specs.inner.Seats.{Sight}
 use Rattle.muck_peer.specs.Moves.{Clocked}
 
 -- Each moment of these entries is the greater of the clock's next answer and the second of the world in which it was entered; so the clock goes from

@@ -4,7 +4,7 @@ ghost use Rattle.muck_model.specs.declared.event.Event.{Event};
 ghost use Rattle.spec_events.specs.Histories.{now, entered, by_porter};
 ghost use Rattle.spec_events.specs.Steps.{has_claim};
 ghost use Rattle.muck_peer.specs.Moves.{Clocked, IsUntimed};
-ghost use Rattle.muck_porter.specs.Deeds.{AllOff, ServedAs, ServedFrom, WorkedAs, DidAs, ClaimOf};
+ghost use Rattle.muck_porter.specs.inner.Deeds.{AllOff, ServedAs, ServedFrom, WorkedAs, DidAs, ClaimOf};
 
 use muck_io::Clock;
 use muck_machine::World;

@@ -4,11 +4,11 @@ ghost use Rattle.muck_model.specs.declared.event.Event.{Event};
 ghost use Rattle.spec_events.specs.World.{World as Value};
 ghost use Rattle.spec_events.specs.Histories.{now, AllLawful};
 ghost use Rattle.spec_events.specs.Logged.{IsPlaced};
-ghost use Rattle.muck_machine.specs.Seats.{Rests, Left, SameLists, Waited};
-ghost use Rattle.muck_porter.specs.Kept.{Resting};
-ghost use Rattle.muck_porter.specs.Turns.{MarkedIn, Given, PorterTurn};
-ghost use Rattle.muck_porter.specs.Deeds.{ServedAs, ServedFrom, WorkedAs, DidAs};
-ghost use Rattle.muck_porter.specs.Moves.{ClaimAt};
+ghost use Rattle.muck_machine.specs.inner.Seats.{Rests, Left, SameLists, Waited};
+ghost use Rattle.muck_porter.specs.inner.Kept.{Resting};
+ghost use Rattle.muck_porter.specs.inner.Turns.{MarkedIn, Given, PorterTurn};
+ghost use Rattle.muck_porter.specs.inner.Deeds.{ServedAs, ServedFrom, WorkedAs, DidAs};
+ghost use Rattle.muck_porter.specs.inner.Moves.{ClaimAt};
 ghost use Rattle.muck_porter.specs.Times.{ByClock};
 
 use crate::deeds::{Deed, Did, Served, Worked, does, serves, works};

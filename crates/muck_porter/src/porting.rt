@@ -1,11 +1,11 @@
 // The porter.
 ghost use Rattle.std.specs.Prelude.{◌≡◌, ◌≤◌, ◌||◌, IfOk, IfErr, OnErr, true};
 ghost use Rattle.muck_io.specs.Faults.{Rose};
-ghost use Rattle.muck_machine.specs.Seats.{SameLists};
-ghost use Rattle.muck_porter.specs.Kept.{tally, account, Ready, Over};
-ghost use Rattle.muck_porter.specs.Moves.{Ends, number_in, IsNew};
-ghost use Rattle.muck_porter.specs.Rounds.{IsSpent, IsRound, Went, is_left};
-ghost use Rattle.muck_porter.specs.Porter.{PorterReady, PorterDone};
+ghost use Rattle.muck_machine.specs.inner.Seats.{SameLists};
+ghost use Rattle.muck_porter.specs.inner.Kept.{tally, account, Ready, Over};
+ghost use Rattle.muck_porter.specs.inner.Moves.{Ends, number_in, IsNew};
+ghost use Rattle.muck_porter.specs.inner.Rounds.{IsSpent, IsRound, Went, is_left};
+ghost use Rattle.muck_porter.specs.inner.Porter.{PorterReady, PorterDone};
 ghost use Rattle.muck_porter.specs.Times.{ByClock};
 
 use crate::rounds::{Round, attends, welcomes};

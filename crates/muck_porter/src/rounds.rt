@@ -1,11 +1,11 @@
 // The parts of a round.
 ghost use Rattle.std.specs.Prelude.{◌≡◌, ◌≤◌, ℕ, IfOk, OnOk, OnErr, IfErr, true, false};
 ghost use Rattle.muck_io.specs.Faults.{Rose};
-ghost use Rattle.muck_machine.specs.Seats.{SameLists};
+ghost use Rattle.muck_machine.specs.inner.Seats.{SameLists};
 ghost use Rattle.spec_events.specs.Own.{Stage};
-ghost use Rattle.muck_porter.specs.Kept.{tally, IsAt, Resting, Ready, ReadyTimed, Over, EndsWithStop};
-ghost use Rattle.muck_porter.specs.Moves.{Carries, CarriesOn, Ends, EndsAll, Halts, number_in, IsNew, HasClaimed};
-ghost use Rattle.muck_porter.specs.Rounds.{IsSpent, HasLeft, IsRound, RoundCarries};
+ghost use Rattle.muck_porter.specs.inner.Kept.{tally, IsAt, Resting, Ready, ReadyTimed, Over, EndsWithStop};
+ghost use Rattle.muck_porter.specs.inner.Moves.{Carries, CarriesOn, Ends, EndsAll, Halts, number_in, IsNew, HasClaimed};
+ghost use Rattle.muck_porter.specs.inner.Rounds.{IsSpent, HasLeft, IsRound, RoundCarries};
 ghost use Rattle.muck_porter.specs.Times.{ByClock};
 
 use crate::deeds::{Deed, Did, Worked};

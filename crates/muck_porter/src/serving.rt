@@ -1,10 +1,10 @@
 // Links are served: each whose connection wants something gets one hold a round.
 ghost use Rattle.std.specs.Prelude.{◌≡◌, ◌<◌, ◌+◌, ℕ, IfOk, OnOk, OnErr, IfErr, length, true};
 ghost use Rattle.std.specs.List.{remove};
-ghost use Rattle.muck_machine.specs.Seats.{SameLists};
-ghost use Rattle.muck_porter.specs.Kept.{tally, Ready, ReadyTimed, Over};
-ghost use Rattle.muck_porter.specs.Moves.{CarriesOn, EndsAll, LastEntry};
-ghost use Rattle.muck_porter.specs.Rounds.{IsServed, Nearer, IsSpent, WroteAt, ClosedAt};
+ghost use Rattle.muck_machine.specs.inner.Seats.{SameLists};
+ghost use Rattle.muck_porter.specs.inner.Kept.{tally, Ready, ReadyTimed, Over};
+ghost use Rattle.muck_porter.specs.inner.Moves.{CarriesOn, EndsAll, LastEntry};
+ghost use Rattle.muck_porter.specs.inner.Rounds.{IsServed, Nearer, IsSpent, WroteAt, ClosedAt};
 ghost use Rattle.muck_porter.specs.Times.{ByClock};
 
 use crate::deeds::{Deed, Did, Served};

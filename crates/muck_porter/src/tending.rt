@@ -1,6 +1,6 @@
 // The links are tended, without the world: what is kept is written, and what came is read.
 ghost use Rattle.std.specs.Prelude.{◌≡◌, OnOk, OnErr, true};
-ghost use Rattle.muck_porter.specs.Moves.{TendsPeer, LosesPeer, Tends, Loses};
+ghost use Rattle.muck_porter.specs.inner.Moves.{TendsPeer, LosesPeer, Tends, Loses};
 
 use muck_links::Links;
 use muck_model::NoMemory;

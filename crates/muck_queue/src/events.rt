@@ -25,7 +25,7 @@ pub struct Events {
 impl Model for Events {
     ghost use Rattle.std.specs.Prelude.{List, ℕ, map};
     ghost use Rattle.std.specs.Coded.{codes};
-    ghost use Rattle.muf_model.specs.Codes.{datum_code};
+    ghost use Rattle.muf_model.specs.inner.Codes.{datum_code};
     ghost use Rattle.muf_model.specs.Datum.{Datum};
     ghost use Rattle.muck_queue.specs.inner.Events.{shown};
 

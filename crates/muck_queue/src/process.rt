@@ -2,7 +2,7 @@
 ghost use Rattle.std.specs.Prelude.{◌≡◌, ◌&&◌, ◌||◌, OnOk, OnErr, if◌then◌else◌, length, min, slice_get};
 ghost use Rattle.std.specs.Option.{option_map};
 ghost use Rattle.muf_model.specs.Datum.{text as text_item};
-ghost use Rattle.muf_model.specs.View.{view};
+ghost use Rattle.muf_model.specs.inner.View.{view};
 ghost use Rattle.muck_queue.specs.Queues.{has_pid, is_of, is_due, is_before, is_tied_to, is_reading, is_awaiting, reads_from, keeps_busy, runs, has_trigger, without_trigger, more, counted, resting, sleeping, in_mode, with_item, going_on, told_line, told_event, without_event, given_event, woken};
 ghost use Rattle.muck_queue.specs.inner.Events.{shown};
 ghost use Rattle.muck_queue.specs.inner.Known.{has_connection, is_timed};

@@ -1,7 +1,7 @@
 // The processes of a world.
 ghost use Rattle.std.specs.Prelude.{◌≡◌, ◌≢◌, length, is_some, IfOk, OnOk, OnErr, Some, None};
 ghost use Rattle.std.specs.Option.{option_copied, option_map, option_map_or};
-ghost use Rattle.muf_model.specs.View.{view};
+ghost use Rattle.muf_model.specs.inner.View.{view};
 ghost use Rattle.muck_queue.specs.Queues.{empty_queue, process, next_due, claimed, released, on_process, standing, state_of, without, is_full, added, is_tied, is_busy, reader, oldest_event, ended_tied, ended_running, trigger_cleared, number_most, counted, resting, sleeping, in_mode, told_line, without_event, woken};
 ghost use Rattle.muck_queue.specs.inner.Adding.{Adds, Sends};
 ghost use Rattle.muck_queue.specs.inner.Events.{shown};
@@ -42,7 +42,7 @@ pub struct Queue {
 impl Model for Queue {
     ghost use Rattle.std.specs.Coded.{codes};
     ghost use Rattle.muf_running.specs.contracts.running.Running as running;
-    ghost use Rattle.muf_model.specs.Codes.{datum_code};
+    ghost use Rattle.muf_model.specs.inner.Codes.{datum_code};
     ghost use Rattle.muck_queue.specs.Queues.{Queue as Table};
     ghost use Rattle.std.specs.Prelude.{vec_capacity};
     ghost use Rattle.muck_queue.specs.inner.Room.{Stands};

@@ -5,7 +5,7 @@ use Rattle.std.proofs.lemmas.Bool.{le-leb, cond-true, cond-false}
 use Rattle.muck_model.specs.declared.event.Event.{Event}
 use Rattle.muck_model.specs.declared.event.Event.TheVariants.{Closed, Moment}
 use Rattle.spec_events.specs.Logged.{is_dump}
-use Rattle.spec_dumps.specs.Holding.{Quietly}
+use Rattle.spec_dumps.specs.inner.Holding.{Quietly}
 use Rattle.spec_dumps.proofs.Quiet.{quiet_nothing, quiet_one}
 use Rattle.spec_events.specs.World.{World, connection, is_leaving}
 use Rattle.spec_events.specs.Steps.{is_lawful}

@@ -6,7 +6,7 @@ use Rattle.muck_model.specs.declared.event.Entry.{Entry}
 use Rattle.muck_model.specs.declared.note.Note.{Note}
 use Rattle.muck_log.specs.Store.{Chosen, Damage, LogState, stored}
 use Rattle.muck_log.specs.World.{IsFine}
-use Rattle.muck_log.specs.Mount.{IsMountedAs, IsMountFault}
+use Rattle.muck_log.specs.inner.Mount.{IsMountedAs, IsMountFault}
 use Rattle.muck_log.specs.declared.fault.LogFault.{LogFault}
 use Rattle.muck_log.specs.declared.fault.LogFault.TheVariants.{NoMemory as LogMemory, DiskFault as LogDisk, Damaged as LogDamaged, StoreFull as LogFull, Stale}
 use Rattle.spec_dumps.specs.Fronts.{file_most}

@@ -4,7 +4,7 @@ use Rattle.std.proofs.lemmas.Bool.{cond-true, cond-false}
 use Rattle.muck_log.specs.Store.{LogState}
 use Rattle.muck_log.specs.declared.fault.LogFault.{LogFault}
 use Rattle.muck_model.specs.declared.event.Entry.{Entry}
-use Rattle.spec_dumps.specs.Holding.{Quietly, Rests}
+use Rattle.spec_dumps.specs.inner.Holding.{Quietly, Rests}
 use Rattle.spec_dumps.proofs.Quiet.{rests_quiet}
 use Rattle.spec_events.specs.World.{World}
 use Rattle.spec_events.specs.Histories.{History, now}

@@ -8,21 +8,21 @@ use Rattle.std.specs.Option.{option_map, option_and_then}
 use Rattle.muck_model.specs.declared.note.Note.{Note}
 use Rattle.muck_model.specs.declared.tune.Tune.{Tune}
 use Rattle.muck_codec.specs.declared.stored.Stored.{Stored}
-use Rattle.muck_codec.specs.Stored.{AreProperties, IsStored}
+use Rattle.muck_codec.specs.inner.Stored.{AreProperties, IsStored}
 use Rattle.muck_store.specs.Forms.{entry_of, loaded}
 use Rattle.muck_store.specs.Limits.{fits}
 use Rattle.muck_store.specs.Whole.{is_whole}
 use Rattle.muck_store.proofs.Loaded.{get_loaded}
 use Rattle.muck_store.proofs.Round.{persist_loaded}
 use Rattle.muck_store.proofs.Sound.{whole_hangs}
-use Rattle.muck_log.specs.Mount.{IsMountedAs}
+use Rattle.muck_log.specs.inner.Mount.{IsMountedAs}
 use Rattle.muck_log.specs.Store.{LogState}
 use Rattle.muck_log.specs.World.{World as Kept, is_between, tune_fits, is_fine}
 use Rattle.spec_admin.specs.Parameters.{parameter_of, parameter_most, IsInRange}
 use Rattle.spec_admin.specs.declared.word.Parameter.{Parameter}
 use Rattle.spec_admin.specs.declared.word.Parameter.TheVariants.{InstrSlice, PreemptUnits, M1Units, M2Units, ProcessLimit, PlayerProcesses, MpiCommands, DumpInterval}
 use Rattle.spec_dumps.specs.Fronts.{persisted, file_most}
-use Rattle.spec_dumps.specs.Holding.{Rests}
+use Rattle.spec_dumps.specs.inner.Holding.{Rests}
 use Rattle.spec_dumps.proofs.Begun.{rests_begun}
 use Rattle.spec_events.specs.World.{booted}
 use Rattle.spec_events.specs.Histories.{History, now, AllLawful, AllLicensed}

@@ -1,7 +1,7 @@
 // The dumps of a run.
 ghost use Rattle.std.specs.Prelude.{◌≡◌, ◌⊎◌, ◌≤◌, ℕ, true, false, List, Option, Some, None, IfOk, OnOk, OnErr};
 ghost use Rattle.muck_io.specs.Faults.{Rose};
-ghost use Rattle.spec_dumps.specs.Holding.{Rests};
+ghost use Rattle.spec_dumps.specs.inner.Holding.{Rests};
 ghost use Rattle.spec_events.specs.Histories.{now};
 ghost use Rattle.muck_script.specs.Story.{dumping};
 ghost use Rattle.muck_run.specs.inner.Dumps.{Dumps, DumpsLast, ComesOut, IsNotedOn};

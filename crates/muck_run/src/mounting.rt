@@ -1,9 +1,9 @@
 // The store of a world is opened, and the world that it holds is made.
 ghost use Rattle.std.specs.Prelude.{◌≡◌, ◌⊎◌, ◌++◌, ◌≤◌, true, IfOk, IfErr, OnOk, IsErrOf, All, string_bytes, [], Some, None, codes};
-ghost use Rattle.muck_codec.specs.Stored.{AreProperties, IsStored};
+ghost use Rattle.muck_codec.specs.inner.Stored.{AreProperties, IsStored};
 ghost use Rattle.muck_io.specs.Faults.{Rose};
 ghost use Rattle.muck_log.specs.World.{IsFine};
-ghost use Rattle.muck_log.specs.Mount.{IsMountedAs};
+ghost use Rattle.muck_log.specs.inner.Mount.{IsMountedAs};
 ghost use Rattle.spec_dumps.specs.Fronts.{file_most};
 ghost use Rattle.muck_run.specs.inner.Dumps.{note_of};
 ghost use Rattle.muck_run.specs.inner.Ends.{refusal_of, MayNotOpen, IsMountWhy, MayRefuse, IsBootable, booted_at, unbegun_at, begun_at};

@@ -4,7 +4,7 @@ ghost use Rattle.muck_io.specs.Faults.{Rose};
 ghost use Rattle.spec_events.specs.Histories.{now};
 ghost use Rattle.spec_live.specs.Connections.{connections_most};
 ghost use Rattle.muck_script.specs.Story.{acted, turns, turns_most, taken, parted, plain, both, served, asks_dump, asked_dump, line_story, lines_story};
-ghost use Rattle.spec_dumps.specs.Holding.{Quietly, Rests};
+ghost use Rattle.spec_dumps.specs.inner.Holding.{Quietly, Rests};
 ghost use Rattle.spec_events.specs.World.{connection};
 ghost use Rattle.muck_run.specs.inner.Dumps.{Held, IsNotedOn};
 ghost use Rattle.muck_run.specs.inner.Opens.{asks_within, Opens};

@@ -1,13 +1,13 @@
 // A script is read, and run on the world of a store.
 ghost use Rattle.std.specs.Prelude.{◌≡◌, ◌⊎◌, ◌≤◌, ℕ, Bool, true, false, IfOk, IfErr, OnOk, IsErrOf, All, vec_len, List, Option, None, Ok, Err};
-ghost use Rattle.muck_codec.specs.Stored.{AreProperties};
+ghost use Rattle.muck_codec.specs.inner.Stored.{AreProperties};
 ghost use Rattle.muck_io.specs.Faults.{Rose};
 ghost use Rattle.muck_log.specs.Store.{Chosen, stored};
 ghost use Rattle.muck_log.specs.World.{IsFine};
 ghost use Rattle.spec_events.specs.Histories.{now, Longer};
-ghost use Rattle.muck_log.specs.Mount.{IsMountedAs};
+ghost use Rattle.muck_log.specs.inner.Mount.{IsMountedAs};
 ghost use Rattle.spec_dumps.specs.Fronts.{file_most};
-ghost use Rattle.spec_dumps.specs.Holding.{Quietly, Rests};
+ghost use Rattle.spec_dumps.specs.inner.Holding.{Quietly, Rests};
 ghost use Rattle.muck_run.specs.inner.Dumps.{note_of, DumpsLast, IsNotedOn};
 ghost use Rattle.muck_run.specs.inner.Ends.{why_of, MayEnd, MayEndDump, IsScriptWhy, IsBootable, unbegun_at, begun_at, EndsPlay, ComesOutAs, LastKept, HasPlayed, NeverPlayed};
 ghost use Rattle.muck_run.specs.Outcome.{halted, HasRead, HasBegun, EndsAs, IsUnbegun, IsFirstOutside};

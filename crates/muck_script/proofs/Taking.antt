@@ -8,7 +8,7 @@ use Rattle.spec_events.specs.Steps.{has_claim, is_there, is_lawful, next_ready, 
 use Rattle.spec_events.specs.Histories.{History, now, entered, Grew, by_porter}
 use Rattle.spec_events.proofs.Runs.{grew_nothing, grew_one, grew_on, grew_as, now-grew}
 use Rattle.spec_events.proofs.Claims.{chosen_lawful}
-use Rattle.muck_machine.specs.Claims.{slice_event}
+use Rattle.muck_machine.specs.inner.Claims.{slice_event}
 use Rattle.muck_machine.specs.declared.world.Sliced.{Sliced}
 use Rattle.muck_machine.specs.declared.world.Sliced.TheVariants.{Ran, Lost}
 use Rattle.muck_script.specs.Story.{Turn, of_line, chosen, next_turn}

@@ -16,7 +16,7 @@ use Rattle.spec_talks.proofs.Talking.{talks_one}
 use Rattle.spec_serve.specs.Marks.{LinksNote}
 use Rattle.spec_serve.specs.Promises.{Tally, HaltCause, Promised, PromisedOf}
 use Rattle.muck_peer.specs.Moves.{IsUntimed}
-use Rattle.muck_porter.specs.Kept.{Account}
+use Rattle.muck_porter.specs.inner.Kept.{Account}
 use Rattle.muck_porter.specs.Times.{Timely}
 use Rattle.muck_crew.specs.Shared.{LeavesWorkedOff}
 

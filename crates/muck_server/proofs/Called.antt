@@ -9,13 +9,13 @@ use Rattle.muck_model.specs.declared.event.Entry.{Entry}
 use Rattle.muck_model.specs.declared.event.Event.TheVariants.{Halt, StopSeen}
 use Rattle.muck_model.specs.declared.memory.NoMemory.{NoMemory as Wanting}
 use Rattle.muck_model.specs.declared.note.Note.{Note}
-use Rattle.spec_dumps.specs.Holding.{Keeps}
+use Rattle.spec_dumps.specs.inner.Holding.{Keeps}
 use Rattle.spec_events.specs.Steps.{is_lawful, may_cut}
 use Rattle.spec_events.specs.Histories.{History, now, entered, by_porter, AllLawful}
 use Rattle.muck_dumping.specs.inner.Between.{IsReady as HasLog}
 use Rattle.muck_dumping.specs.inner.Dumps.{HasDumped, Dumps}
-use Rattle.muck_porter.specs.Kept.{Account}
-use Rattle.muck_crew.specs.Finished.{HasDump}
+use Rattle.muck_porter.specs.inner.Kept.{Account}
+use Rattle.muck_crew.specs.inner.Finished.{HasDump}
 use Rattle.muck_crew.specs.declared.why.Why.{Why}
 use Rattle.muck_crew.specs.declared.why.Why.TheVariants.{ListenFault}
 use Rattle.muck_crew.specs.inner.Runs.{IsFresh}

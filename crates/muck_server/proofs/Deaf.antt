@@ -9,7 +9,7 @@ use Rattle.muck_log.specs.Store.{LogState}
 use Rattle.muck_model.specs.declared.event.Entry.{Entry}
 use Rattle.muck_model.specs.declared.event.Event.TheVariants.{Halt, StopSeen}
 use Rattle.muck_model.specs.declared.note.Note.{Note}
-use Rattle.spec_dumps.specs.Holding.{Quietly, Keeps}
+use Rattle.spec_dumps.specs.inner.Holding.{Quietly, Keeps}
 use Rattle.spec_dumps.proofs.Quiet.{quiet_one, quiet_on, keeps_quiet}
 use Rattle.spec_dumps.proofs.Idle.{idle_quiet}
 use Rattle.spec_events.specs.World.{World}
@@ -20,10 +20,10 @@ use Rattle.spec_events.proofs.Runs.{after-append}
 use Rattle.spec_talks.specs.Talks.{talks}
 use Rattle.spec_serve.specs.Promises.{PromisedOf}
 use Rattle.muck_dumping.specs.inner.Between.{IsReady as HasLog}
-use Rattle.muck_porter.specs.Kept.{Account}
+use Rattle.muck_porter.specs.inner.Kept.{Account}
 use Rattle.muck_porter.specs.Times.{Timely}
 use Rattle.muck_crew.specs.Shared.{IsShared, EndsStopped, LeavesWorkedOff}
-use Rattle.muck_crew.specs.Finished.{HasDump}
+use Rattle.muck_crew.specs.inner.Finished.{HasDump}
 use Rattle.muck_crew.specs.declared.why.Why.TheVariants.{ListenFault}
 use Rattle.muck_crew.specs.inner.Runs.{IsFresh}
 use Rattle.muck_server.specs.inner.{halted}

@@ -6,11 +6,11 @@ use Rattle.muck_log.specs.Store.{LogState}
 use Rattle.muck_log.specs.declared.fault.LogFault.{LogFault}
 use Rattle.muck_log.specs.declared.fault.LogFault.TheVariants as fault
 use Rattle.muck_model.specs.declared.memory.NoMemory.{NoMemory as Wanting}
-use Rattle.spec_dumps.specs.Holding.{Keeps}
+use Rattle.spec_dumps.specs.inner.Holding.{Keeps}
 use Rattle.spec_dumps.specs.Survival.{IsSafe, StandsWhole}
 use Rattle.spec_events.specs.Histories.{History}
 use Rattle.muck_dumping.specs.inner.Dumps.{Dumps, IsFull, IsDumpFault}
-use Rattle.muck_crew.specs.Finished.{why_by, HasDump}
+use Rattle.muck_crew.specs.inner.Finished.{why_by, HasDump}
 use Rattle.muck_crew.specs.declared.why.Why.{Why}
 use Rattle.muck_crew.specs.declared.why.Why.TheVariants.{Fine, NoMemory, DiskFault, Damaged, StoreFull, Spent}
 use Rattle.muck_server.proofs.Behind.{rose_since}

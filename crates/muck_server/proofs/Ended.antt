@@ -9,7 +9,7 @@ use Rattle.muck_model.specs.declared.memory.NoMemory.{NoMemory as Wanting}
 use Rattle.spec_events.specs.World.{World}
 use Rattle.spec_events.specs.Histories.{after, by_porter}
 use Rattle.muck_crew.specs.Shared.{IsParty, EndsStopped}
-use Rattle.muck_crew.specs.Finished.{why_of, why_from}
+use Rattle.muck_crew.specs.inner.Finished.{why_of, why_from}
 use Rattle.muck_server.specs.Served.{last_dump, Closes, HasEnded}
 use Rattle.muck_server.proofs.Dumped.{LastBy, dead_behind}
 

@@ -5,7 +5,7 @@ use Rattle.muck_log.specs.Store.{LogState}
 use Rattle.muck_model.specs.declared.event.Entry.{Entry}
 use Rattle.muck_model.specs.declared.event.Event.TheVariants.{Died}
 use Rattle.muck_model.specs.declared.note.Note.{Note}
-use Rattle.spec_dumps.specs.Holding.{Keeps}
+use Rattle.spec_dumps.specs.inner.Holding.{Keeps}
 use Rattle.spec_dumps.specs.Survival.{IsSafe}
 use Rattle.spec_dumps.proofs.Quiet.{quiet_one, safe_quiet}
 use Rattle.spec_events.specs.World.{World}
@@ -15,10 +15,10 @@ use Rattle.spec_talks.proofs.Histories.{both_ways}
 use Rattle.spec_serve.specs.Marks.{LinksNote}
 use Rattle.muck_dumping.specs.inner.Between.{IsReady as HasLog}
 use Rattle.muck_dumping.specs.inner.Dumps.{by}
-use Rattle.muck_porter.specs.Kept.{Account}
+use Rattle.muck_porter.specs.inner.Kept.{Account}
 use Rattle.muck_porter.specs.Times.{Timely}
 use Rattle.muck_crew.specs.Shared.{IsParty, IsShared, EndsStopped}
-use Rattle.muck_crew.specs.Finished.{why_by, HasDump, IsFinish}
+use Rattle.muck_crew.specs.inner.Finished.{why_by, HasDump, IsFinish}
 use Rattle.muck_crew.specs.declared.serving.Way.{Way}
 use Rattle.muck_crew.specs.declared.serving.Way.TheVariants as ends
 use Rattle.muck_crew.specs.declared.why.Why.{Why}

@@ -13,7 +13,7 @@ use Rattle.spec_talks.specs.Talks.{Talk, talks, talks_with, sent}
 use Rattle.spec_serve.specs.Marks.{LinksNote}
 use Rattle.spec_serve.specs.Accounts.{Agrees}
 use Rattle.spec_serve.specs.Promises.{Tally, PromisedOf, sessions_with}
-use Rattle.muck_porter.specs.Kept.{Account}
+use Rattle.muck_porter.specs.inner.Kept.{Account}
 use Rattle.muck_porter.specs.Times.{Timely}
 use Rattle.muck_dumping.specs.inner.Dumps.{IsFull}
 use Rattle.muck_crew.specs.Shared.{IsParty, IsShared, EndsStopped, LeavesWorkedOff}

@@ -2,9 +2,9 @@
 ghost use Rattle.std.specs.Prelude.{◌≡◌, ◌⊎◌, ◌<◌, ℕ, true, false, Some};
 ghost use Rattle.muck_dumping.specs.inner.Between.{IsReady as HasLog};
 ghost use Rattle.muck_model.specs.declared.note.Note.{Note};
-ghost use Rattle.muck_porter.specs.Kept.{account};
+ghost use Rattle.muck_porter.specs.inner.Kept.{account};
 ghost use Rattle.spec_events.specs.Histories.{now};
-ghost use Rattle.muck_crew.specs.Finished.{HasDump};
+ghost use Rattle.muck_crew.specs.inner.Finished.{HasDump};
 ghost use Rattle.muck_crew.specs.inner.Runs.{IsFresh};
 ghost use Rattle.muck_server.specs.inner.{halted};
 ghost use Rattle.muck_server.specs.Served.{IsUnserved, IsServed};

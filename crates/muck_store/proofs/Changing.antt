@@ -3,7 +3,7 @@ use Rattle.std.proofs.Common.{◌≡◌, ◌≤◌, List, [], ◌∷◌, refl, a
 use Rattle.std.proofs.lemmas.List.Elements.{All-cons, All-head, All-tail}
 use Rattle.std.specs.List.{All, filter}
 use Rattle.muck_codec.specs.declared.stored.Stored.{Stored}
-use Rattle.muck_store.specs.Changes.{IsKept, LeavesOut, none, takes, leaves}
+use Rattle.muck_store.specs.inner.Changes.{IsKept, LeavesOut, none, takes, leaves}
 
 -- nothing may be left out
 pub left_none : (base all : List Stored) → LeavesOut base all all

@@ -7,7 +7,7 @@ use Rattle.std.proofs.lemmas.List.Folds.{list_any-append, sum_by-replicate}
 use Rattle.std.proofs.lemmas.List.Sums.{sum_by-set, count_by-le-length}
 use Rattle.std.specs.List.{count_by}
 use Rattle.spec_live.specs.Chain.{has}
-use Rattle.muck_store.specs.Marks.{IsMarked}
+use Rattle.muck_store.specs.inner.Marks.{IsMarked}
 
 pub most_marked : (marks : List Bool) (met : List ℕ) → IsMarked marks met → length met ≤ length marks
 most_marked marks met m = subst (λ (n : ℕ). n ≤ length marks) m.count (count_by-le-length (λ mark. mark) marks)

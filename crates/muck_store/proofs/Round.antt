@@ -14,7 +14,7 @@ use Rattle.muck_model.proofs.Dbrefs.{eq_same}
 use Rattle.muck_prop.specs.Order.{path_cmp, path_cmp_total}
 use Rattle.muck_prop.proofs.Maps.{entries_are}
 use Rattle.muck_prop.proofs.Sequence.{is_less}
-use Rattle.muck_codec.specs.Stored.{Run, IsProperty, AreProperties}
+use Rattle.muck_codec.specs.inner.Stored.{Run, IsProperty, AreProperties}
 use Rattle.muck_codec.specs.declared.stored.Property.{Property}
 use Rattle.muck_codec.specs.declared.stored.Stored.{Stored}
 use Rattle.spec_live.specs.Chain.{walk, IsChain, Member, follower}

@@ -13,7 +13,7 @@ use Rattle.spec_live.proofs.Chains.{chain_frame, chain_apart, ends_from, walk_is
 use Rattle.spec_live.proofs.KindLaws.{only_garbage}
 use Rattle.spec_live.proofs.Ties.{garbage_tied}
 use Rattle.muck_store.specs.Forms.{next_at, loaded}
-use Rattle.muck_store.specs.Hung.{IsHung}
+use Rattle.muck_store.specs.inner.Hung.{IsHung}
 use Rattle.muck_store.specs.Whole.{kind_of, seats_in, first_at, is_whole}
 use Rattle.muck_store.proofs.Everyone.{zero_alive, all_reached, everyone, every_list}
 use Rattle.muck_store.proofs.Loaded.{IsOf, length_loaded, object_from, kind_loaded, place_loaded, seats_loaded, list_loaded}

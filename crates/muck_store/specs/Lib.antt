@@ -1,6 +1,4 @@
-pub mod Changes
+pub mod inner
 pub mod Forms
-pub mod Hung
 pub mod Limits
-pub mod Marks
 pub mod Whole

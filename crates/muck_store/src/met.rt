@@ -1,7 +1,7 @@
 // The numbers that were met, with marks to find them by.
 ghost use Rattle.std.specs.Prelude.{◌≡◌, ◌<◌, ◌≤◌, ◌++◌, ◌∷◌, [], length, false, IfOk, OnOk, slice_index};
 ghost use Rattle.spec_live.specs.Chain.{has};
-ghost use Rattle.muck_store.specs.Marks.{IsMarked};
+ghost use Rattle.muck_store.specs.inner.Marks.{IsMarked};
 
 use muck_model::NoMemory;
 use std::alloc::Global;

@@ -8,15 +8,15 @@ use Rattle.std.proofs.lemmas.Iterator.Adapters.{position_from-zero}
 use Rattle.muck_model.specs.declared.dbref.Dbref.{Dbref}
 use Rattle.muf_model.specs.declared.prims.Primitive.{Primitive as Name}
 use Rattle.muf_model.specs.Prims.{family_of}
-use Rattle.muf_model.specs.View.{view}
+use Rattle.muf_model.specs.inner.View.{view}
 use Rattle.muf_model.specs.Datum.{Datum}
 use Rattle.muf_model.specs.declared.fault.MufFault.{MufFault}
-use Rattle.muf_model.specs.Flat.{Flat}
+use Rattle.muf_model.specs.inner.Flat.{Flat}
 use Rattle.muf_model.specs.Source.{Owned, Program, Source, last_word, locked_of, passed}
 use Rattle.muf_model.specs.Chains.{callers_of}
 use Rattle.muf_model.specs.declared.code.Code.{Code}
 use Rattle.muf_model.specs.declared.code.CodeWord.{CodeWord}
-use Rattle.muf_model.specs.Decode.{definition_at, tree_of}
+use Rattle.muf_model.specs.inner.Decode.{definition_at, tree_of}
 use Rattle.muf_model.specs.Tree.{Definition}
 use Rattle.std.specs.Str.{bytes_eq}
 use Rattle.std.specs.Char.{to_ascii_lowercase}
@@ -32,14 +32,14 @@ use Rattle.muf_model.specs.declared.prims.Family.TheVariants.{Object as ObjectFa
 use Rattle.muf_model.specs.declared.fault.MufFault.TheVariants.{NotCompiled}
 use Rattle.muf_frame.specs.declared.fault.PrimFault.{PrimFault}
 use Rattle.muf_frame.specs.declared.fault.PrimFault.TheVariants.{Fault as FrameFault}
-use Rattle.muf_frame.specs.Shown.{Shown, flat, locked_by}
+use Rattle.muf_frame.specs.inner.Shown.{Shown, flat, locked_by}
 use Rattle.muf_frame.proofs.Data.{map_drop}
 use Rattle.muf_running.specs.declared.entered.Entered.{Entered}
-use Rattle.muf_running.specs.Fitting.{IsAtPrimitive}
-use Rattle.muf_running.specs.Lending.{Shows, Apart, Differs, Rejoins, with_frame}
+use Rattle.muf_running.specs.inner.Fitting.{IsAtPrimitive}
+use Rattle.muf_running.specs.inner.Lending.{Shows, Apart, Differs, Rejoins, with_frame}
 use Rattle.spec_events.specs.Slices.{does, fails, callers, lifted, row_done, called_word, is_offered, behind, acting}
 use Rattle.muck_turns.specs.declared.state.deeds.Done.TheVariants.{Fails as DoneFails}
-use Rattle.muck_turns.specs.Deeds.{AppliedTo, DoneAs, IsWord, PassesOn}
+use Rattle.muck_turns.specs.inner.Deeds.{AppliedTo, DoneAs, IsWord, PassesOn}
 
 -- programs of these numbers
 numbered_so : (ds : List Dbref) (ps : List Program) → map (λ d. d.0) ds ≡ map (λ p. p.number) ps → ds ≡ map (λ p. numbered p.number) ps

@@ -14,7 +14,7 @@ use Rattle.spec_events.specs.World.{World}
 use Rattle.spec_events.specs.Starting.{joined}
 use Rattle.muck_turns.specs.declared.state.deeds.DeedFault.{DeedFault}
 use Rattle.muck_turns.specs.declared.state.deeds.DeedFault.TheVariants.{Fault, NoMemory}
-use Rattle.muck_turns.specs.Deeds.{Begins, IsAdding, StartsAs}
+use Rattle.muck_turns.specs.inner.Deeds.{Begins, IsAdding, StartsAs}
 
 -- no process is added for too many events
 pub is_adding : (p : Process) (tune : Tune) (old new : Queue) (r : Result ℤ QueueFault) → Adds p tune old new r → IsAdding r

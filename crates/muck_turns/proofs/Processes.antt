@@ -8,23 +8,23 @@ use Rattle.muf_model.specs.declared.fault.MufFault.{MufFault}
 use Rattle.muf_model.specs.declared.prims.Primitive.{Primitive as Name}
 use Rattle.muf_model.specs.Answer.{stack_most}
 use Rattle.muf_model.specs.Datum.{Datum, int}
-use Rattle.muf_model.specs.View.{view}
-use Rattle.muf_model.specs.Flat.{Flat}
+use Rattle.muf_model.specs.inner.View.{view}
+use Rattle.muf_model.specs.inner.Flat.{Flat}
 use Rattle.muf_model.specs.Source.{Source, handed, locked_of, passed, passed_at}
 use Rattle.muf_model.specs.Tree.{Block, word}
 use Rattle.muf_frame.specs.declared.fault.PrimFault.{PrimFault}
 use Rattle.muf_frame.specs.declared.fault.PrimFault.TheVariants.{Fault as FrameFault}
-use Rattle.muf_frame.specs.Shown.{Shown, flat, locked_by}
+use Rattle.muf_frame.specs.inner.Shown.{Shown, flat, locked_by}
 use Rattle.muf_running.specs.declared.entered.Entered.{Entered}
-use Rattle.muf_running.specs.Fitting.{IsAtPrimitive}
-use Rattle.muf_running.specs.Lending.{Shows, Apart, Differs, Rejoins, with_frame}
+use Rattle.muf_running.specs.inner.Fitting.{IsAtPrimitive}
+use Rattle.muf_running.specs.inner.Lending.{Shows, Apart, Differs, Rejoins, with_frame}
 use Rattle.spec_live.specs.Lives.{Live}
 use Rattle.spec_rights.specs.declared.act.Actor.{Actor}
 use Rattle.muck_queue.specs.declared.process.Process.{Process}
 use Rattle.muck_queue.specs.Queues.{Queue as Table, process}
 use Rattle.spec_processes.specs.declared.place.Place.{Place}
 use Rattle.spec_processes.specs.ProcessRows.{Effect, gives, waits, forks, enters, starts, refuses, processed, Doing, process_row, done_in}
-use Rattle.prim_proc.specs.Applied.{HasStack, IsLeft, called_items}
+use Rattle.prim_proc.specs.inner.Applied.{HasStack, IsLeft, called_items}
 use Rattle.prim_proc.specs.declared.after.After.{After}
 use Rattle.prim_proc.specs.declared.after.After.TheVariants.{Go, Wait, Fork, Call, Queue}
 use Rattle.spec_events.specs.declared.starting.Agent.{Agent}
@@ -37,7 +37,7 @@ use Rattle.muck_turns.specs.declared.state.deeds.Done.TheVariants.{Does as DoneD
 use Rattle.muck_turns.specs.declared.state.deeds.DeedFault.{DeedFault}
 use Rattle.muck_library.specs.Library.{formed}
 use Rattle.muck_turns.specs.declared.state.calls.Entrance.{Entrance}
-use Rattle.muck_turns.specs.Deeds.{Bears, Enters, ProcessAppliedTo, DoneAs, queued_call, child_number}
+use Rattle.muck_turns.specs.inner.Deeds.{Bears, Enters, ProcessAppliedTo, DoneAs, queued_call, child_number}
 use Rattle.muck_turns.proofs.Deeds.{stack_differs, stack_behind, same_stack, same_differs}
 
 -- with an item more, where there is room

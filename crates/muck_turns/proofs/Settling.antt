@@ -13,7 +13,7 @@ use Rattle.spec_live.specs.Lives.{on_objects}
 use Rattle.spec_events.specs.World.{World, on_live}
 use Rattle.spec_events.specs.Following.{followed, swept, settled}
 use Rattle.spec_events.proofs.Quietly.{quietly_swept}
-use Rattle.muck_turns.specs.Followed.{followed_change}
+use Rattle.muck_turns.specs.inner.Followed.{followed_change}
 
 -- how many objects are marked
 abbrev pub mark_count : Option Mark → ℕ

@@ -13,7 +13,7 @@ use Rattle.muf_model.specs.Chains.{count, taken}
 use Rattle.muf_model.proofs.Chains.{taken_most, taken_some}
 use Rattle.muf_running.specs.declared.stint.Ran.{Ran}
 use Rattle.muf_running.specs.declared.stint.Ran.TheVariants.{Going, Asking, Ended, Faulted}
-use Rattle.muf_running.specs.Stints.{RanAlike, Raised}
+use Rattle.muf_running.specs.inner.Stints.{RanAlike, Raised}
 use Rattle.muck_queue.specs.declared.process.Process.{Process}
 use Rattle.muck_queue.specs.Queues.{Queue, process, counted, released}
 use Rattle.muck_queue.proofs.Standing.{none_standing}
@@ -26,13 +26,13 @@ use Rattle.spec_rights.specs.declared.act.Actor.{Actor}
 use Rattle.spec_events.specs.Slices.{Deed, acting, deed, program_error, stands_at, ended_one, broken, out, went, after_deed, Turn, on, rest, over, agent_of, seat_of, seat, is_through, limit_fault, slice_most, run_of, last_world, awake, sliced}
 use Rattle.spec_events.specs.Steps.{happened}
 use Rattle.muck_model.specs.declared.event.Event.TheVariants.{Slice}
-use Rattle.spec_events.specs.Stints.{many_counted, unbroken, unspent, allowed}
+use Rattle.spec_events.specs.inner.Stints.{many_counted, unbroken, unspent, allowed}
 use Rattle.spec_events.proofs.Units.{finish, after_turn, finish_none, finish_zero, finish_through, finish_limit, stands_same, stands_moved, broken_moved, counted_moved, resumed, resumed_moved, run_law}
 use Rattle.muck_turns.specs.declared.state.deeds.Done.TheVariants.{Does as DoneDoes, Rests as DoneRests, Fails as DoneFails}
 use Rattle.muck_turns.specs.declared.state.limits.Allowance.{Allowance}
 use Rattle.muck_turns.specs.declared.state.limits.Allowance.TheVariants.{Through, Spent, Units}
-use Rattle.muck_turns.specs.Deeds.{DoneAs}
-use Rattle.muck_turns.specs.Limits.{LeadsTo, Allows, ran, ran_units, Runs, Stops}
+use Rattle.muck_turns.specs.inner.Deeds.{DoneAs}
+use Rattle.muck_turns.specs.inner.Limits.{LeadsTo, Allows, ran, ran_units, Runs, Stops}
 
 -- How many units a run takes.
 

@@ -1,3 +1,1 @@
-pub mod Followed
-pub mod Deeds
-pub mod Limits
+pub mod inner

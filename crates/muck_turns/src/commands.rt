@@ -4,8 +4,8 @@ ghost use Rattle.spec_commands.specs.Finding.{actor_of};
 ghost use Rattle.spec_commands.specs.Commands.{commanded, begins_with_sign, played};
 ghost use Rattle.spec_admin.specs.Lines.{after_line};
 ghost use Rattle.spec_events.specs.Lines.{by_keeper, typed, left_by};
-ghost use Rattle.muck_perm.specs.Guards.{world_of};
-ghost use Rattle.cmd_common.specs.Plays.{Plays};
+ghost use Rattle.muck_perm.specs.inner.Guards.{world_of};
+ghost use Rattle.cmd_common.specs.inner.Plays.{Plays};
 
 use muck_db::Db;
 use muck_match::exit_for;

@@ -52,7 +52,7 @@ impl Model for State {
     ghost use Rattle.std.specs.Coded.{codes};
     ghost use Rattle.muck_prop.specs.contracts.props.Props as props;
     ghost use Rattle.muck_model.specs.contracts.lock.Lock as lock;
-    ghost use Rattle.muf_model.specs.Codes.{datum_code, block_code, end_code};
+    ghost use Rattle.muf_model.specs.inner.Codes.{datum_code, block_code, end_code};
 
     ghost coded = { Prim.hlevel (codes, props.the_row.coded, lock.the_row.coded, datum_code, block_code, end_code) };
 

@@ -13,16 +13,16 @@ use Rattle.spec_events.specs.Logged.{is_dump, logged, logged_by, bare_item, entr
 use Rattle.spec_events.specs.Own.{Stage, next, stage_of, IsWellFormed}
 use Rattle.spec_events.proofs.Logging.{entries_logged, entries_append, events_append, no_notes_one, no_counts_one, orderly_bare}
 use Rattle.spec_events.proofs.Owning.{stage_more, well_formed}
-use Rattle.spec_claims.specs.Claims.{AreOthers}
+use Rattle.spec_claims.specs.inner.Claims.{AreOthers}
 use Rattle.spec_claims.proofs.Staying.{claim_stays}
-use Rattle.muck_machine.specs.Seats.{Sight, Chair, Rests, Left, Waited, SameLists, Turned}
+use Rattle.muck_machine.specs.inner.Seats.{Sight, Chair, Rests, Left, Waited, SameLists, Turned}
 use Rattle.muck_machine.proofs.Seating.{others_none, left_rests, waited_lists}
 use Rattle.muck_worker.specs.declared.working.Why.TheVariants.{Fine, NoMemory, Spent}
 use Rattle.muck_worker.specs.declared.deeds.Task.{Task}
 use Rattle.muck_worker.specs.declared.deeds.Task.TheVariants.{Work, Slice, End}
 use Rattle.muck_worker.specs.declared.deeds.Did.{Did}
 use Rattle.muck_worker.specs.declared.deeds.Did.TheVariants.{Over, Failed}
-use Rattle.muck_worker.specs.Working.{WorkerReady, WorkerDone}
+use Rattle.muck_worker.specs.inner.Working.{WorkerReady, WorkerDone}
 use Rattle.muck_worker.specs.inner.Deeds.{by, stage_for, stage_after, IsClaimed, DidAs, IsOpen, IsHeld, Works}
 
 -- A claim that is held.

@@ -7,7 +7,7 @@ use Rattle.spec_events.specs.Own.{Stage, next, party_next, worker_next}
 use Rattle.spec_events.proofs.Owning.{worker_is}
 use Rattle.muck_machine.specs.declared.world.Sliced.{Sliced}
 use Rattle.muck_machine.specs.declared.world.Sliced.TheVariants.{Ran, Lost as Gone}
-use Rattle.muck_machine.specs.Claims.{slice_event}
+use Rattle.muck_machine.specs.inner.Claims.{slice_event}
 use Rattle.muck_worker.specs.declared.deeds.Task.TheVariants.{Work, Slice, End}
 use Rattle.muck_worker.specs.declared.deeds.Did.TheVariants.{Went, Idled, Claimed, Stops, Over, Failed}
 use Rattle.muck_worker.specs.declared.deeds.Task.{Task}

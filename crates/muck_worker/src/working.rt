@@ -2,8 +2,8 @@
 ghost use Rattle.std.specs.Prelude.{◌≡◌, ◌<◌, ◌≤◌, ◌^◌, ℕ, IfOk, OnErr, length};
 ghost use Rattle.muck_model.specs.declared.event.Event.{Event};
 ghost use Rattle.spec_events.specs.Logged.{bare_item};
-ghost use Rattle.muck_machine.specs.Seats.{Rests, Left, Waited, Turned};
-ghost use Rattle.muck_worker.specs.Working.{WorkerReady, WorkerDone};
+ghost use Rattle.muck_machine.specs.inner.Seats.{Rests, Left, Waited, Turned};
+ghost use Rattle.muck_worker.specs.inner.Working.{WorkerReady, WorkerDone};
 ghost use Rattle.muck_worker.specs.inner.Deeds.{by, DidAs, IsHeld};
 
 use crate::deeds::{Did, Task, works};

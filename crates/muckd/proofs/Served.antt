@@ -1,7 +1,7 @@
 -- What a call for `serve` comes to, from what the server says.
 use Rattle.std.proofs.Common.{◌≡◌, ◌⊎◌, inl, inr, ℕ, ◌≤◌, Bool, true, false, List, refl, sym, ap, subst, ◌∙◌, Option, Some, None, Ok}
 use Rattle.std.specs.Prelude.{codes, All, ◌++◌}
-use Rattle.muck_codec.specs.Stored.{AreProperties}
+use Rattle.muck_codec.specs.inner.Stored.{AreProperties}
 use Rattle.muck_io.specs.Faults.{Rose}
 use Rattle.muck_io.specs.inner.Clock.{Answers}
 use Rattle.muck_links.specs.Sessions.{Told}
@@ -9,13 +9,13 @@ use Rattle.muck_model.specs.declared.event.Entry.{Entry}
 use Rattle.muck_model.specs.declared.note.Note.{Note}
 use Rattle.muck_log.specs.Store.{LogState}
 use Rattle.muck_log.specs.World.{IsFine}
-use Rattle.muck_log.specs.Mount.{IsMountedAs}
+use Rattle.muck_log.specs.inner.Mount.{IsMountedAs}
 use Rattle.spec_dumps.specs.Fronts.{file_most}
 use Rattle.spec_events.specs.World.{World, booted}
 use Rattle.spec_events.specs.Histories.{History}
 use Rattle.spec_live.specs.Boards.{early_board}
 use Rattle.muck_dumping.specs.inner.Between.{IsReady as HasLog}
-use Rattle.muck_porter.specs.Kept.{Account, account}
+use Rattle.muck_porter.specs.inner.Kept.{Account, account}
 use Rattle.muck_crew.specs.inner.Runs.{IsFresh}
 use Rattle.muck_server.specs.Served.{IsServed, IsUnserved as Never, HasEnded}
 use Rattle.muck_crew.specs.declared.why.Why.{Why as Ended}

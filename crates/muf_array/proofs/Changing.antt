@@ -15,7 +15,7 @@ use Rattle.muf_model.specs.ArrayRows.{valued, appended_to, gone_from}
 use Rattle.muf_model.proofs.Sized.{entries_again, at_end}
 use Rattle.muf_array.specs.declared.changes.Change.{Change}
 use Rattle.muf_array.specs.declared.changes.Change.TheVariants.{Set, Insert}
-use Rattle.muf_array.specs.Shapes.{changed, placed_in, place_in, index_in, by_place, gone_by, fault_of, refusal}
+use Rattle.muf_array.specs.inner.Shapes.{changed, placed_in, place_in, index_in, by_place, gone_by, fault_of, refusal}
 use Rattle.muf_array.proofs.Reading.{list_again}
 
 -- ---- places of a list

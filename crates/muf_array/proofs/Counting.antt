@@ -16,9 +16,9 @@ use Rattle.muf_model.specs.Needs.{counts, any, an_int, a_key}
 use Rattle.muf_model.specs.Ladder.{times, walk, unfit, absent, all_there, short}
 use Rattle.muf_model.specs.Rows.{used}
 use Rattle.muf_model.specs.ArrayRows.{key_of, valued, paired, list_made, dict_made}
-use Rattle.muf_frame.specs.Answers.{int_at}
-use Rattle.muf_array.specs.Shapes.{pair_before, pairs_in, pairs_before}
-use Rattle.muf_array.specs.Taken.{list_read, pairs_read, dict_read, by_top}
+use Rattle.muf_frame.specs.inner.Answers.{int_at}
+use Rattle.muf_array.specs.inner.Shapes.{pair_before, pairs_in, pairs_before}
+use Rattle.muf_array.specs.inner.Taken.{list_read, pairs_read, dict_read, by_top}
 
 -- ---- the tests
 

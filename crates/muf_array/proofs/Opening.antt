@@ -12,16 +12,16 @@ use Rattle.muf_model.specs.Answer.{Answer, gives, refuses, Scope, Made, makes, r
 use Rattle.muf_model.specs.Needs.{takes, any, a_key, a_list, a_collection}
 use Rattle.muf_model.specs.ArrayRows.{valued, appended, appended_to, gone_from, held_and_key, item_held_and_key}
 use Rattle.muf_model.specs.Rows.{used, primitive}
-use Rattle.muf_model.specs.Flat.{Flat}
-use Rattle.muf_frame.specs.Shown.{locked_by}
+use Rattle.muf_model.specs.inner.Flat.{Flat}
+use Rattle.muf_frame.specs.inner.Shown.{locked_by}
 use Rattle.muf_array.specs.declared.changes.Change.{Change}
 use Rattle.muf_array.specs.declared.changes.Change.TheVariants.{Set, Insert}
-use Rattle.muf_frame.specs.Moves.{scope_of}
+use Rattle.muf_frame.specs.inner.Moves.{scope_of}
 use Rattle.muf_array.specs.declared.changers.Changer.{Changer}
 use Rattle.muf_array.specs.declared.changers.Changer.TheVariants.{SetItem, InsertItem, AppendItem, DelItem}
-use Rattle.muf_array.specs.Shapes.{at_held, changed, refusal, key_in}
-use Rattle.muf_array.specs.Taken.{held_read, item_read, append_read, held_refused, item_refused, append_refused}
-use Rattle.muf_array.specs.Open.{prim_of, taken_by, IsOpen, CanChange, CanAppend, CanDelete}
+use Rattle.muf_array.specs.inner.Shapes.{at_held, changed, refusal, key_in}
+use Rattle.muf_array.specs.inner.Taken.{held_read, item_read, append_read, held_refused, item_refused, append_refused}
+use Rattle.muf_array.specs.inner.Open.{prim_of, taken_by, IsOpen, CanChange, CanAppend, CanDelete}
 use Rattle.muf_array.proofs.Taking.{item_used, held_used, append_used, enough}
 
 -- one item is made, or none

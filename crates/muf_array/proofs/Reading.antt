@@ -11,12 +11,12 @@ use Rattle.muf_model.specs.declared.value.MapKey.{MapKey}
 use Rattle.muf_model.specs.declared.value.MapKey.TheVariants.{Number, Name}
 use Rattle.muf_model.specs.declared.value.Pair.{Pair}
 use Rattle.muf_model.specs.Datum.{Datum, int, data_of, pairs_of, entries_of, list_of}
-use Rattle.muf_model.specs.View.{view, pair_view, value_view}
+use Rattle.muf_model.specs.inner.View.{view, pair_view, value_view}
 use Rattle.muf_model.specs.Entries.{key_datum, key_same, entry_of, above}
 use Rattle.muf_model.specs.ArrayRows.{placed, spread, first_key}
 use Rattle.muf_model.specs.Answer.{makes}
 use Rattle.muf_model.proofs.Sized.{entries_again}
-use Rattle.muf_array.specs.Shapes.{listed, index_in}
+use Rattle.muf_array.specs.inner.Shapes.{listed, index_in}
 
 pub placed_length : (n : ℕ) (ds : List Datum) → length (placed n (data_of ds)) ≡ length ds
 placed_length n [] = refl

@@ -11,10 +11,10 @@ use Rattle.muf_model.specs.Answer.{Answer, refuses, Scope, Made, makes, rejects,
 use Rattle.muf_model.specs.Needs.{takes, any, a_text, a_key, a_list, a_collection}
 use Rattle.muf_model.specs.Rows.{used}
 use Rattle.muf_model.specs.ArrayRows.{key_of, one_held, held_and_key, item_held_and_key, appended, joins}
-use Rattle.muf_frame.specs.Answers.{text_at}
+use Rattle.muf_frame.specs.inner.Answers.{text_at}
 use Rattle.muf_frame.proofs.Ladders.{kinds, used_plain}
-use Rattle.muf_array.specs.Shapes.{at_held, refusal, key_in}
-use Rattle.muf_array.specs.Taken.{one_read, held_read, item_read, append_read, joins_read, held_refused, item_refused, append_refused}
+use Rattle.muf_array.specs.inner.Shapes.{at_held, refusal, key_in}
+use Rattle.muf_array.specs.inner.Taken.{one_read, held_read, item_read, append_read, joins_read, held_refused, item_refused, append_refused}
 
 one_reads : (f : Datum → Made) (stack : List Datum) → unless (kinds (a_collection ∷ []) stack) (put 1 (one_held f (take 1 stack)) (drop 1 stack)) ≡ one_read f (slice_get stack 0) (drop 1 stack)
 one_reads f (items ds ∷ rest) = refl

@@ -9,7 +9,7 @@ use Rattle.muf_model.specs.Texts.{joined}
 use Rattle.muf_model.specs.ArrayRows.{word_of, words_of, onto}
 use Rattle.muf_model.proofs.FaultTexts.{inside-append}
 use Rattle.prim_text.proofs.Texts.{to_inside, inside_number}
-use Rattle.muf_array.specs.Shapes.{text_in, led, lead}
+use Rattle.muf_array.specs.inner.Shapes.{text_in, led, lead}
 
 -- texts from a place on, behind those before it
 abbrev pub left_of : List ℕ → ℕ → List (List ℕ) → List ℕ

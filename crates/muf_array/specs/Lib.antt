@@ -1,3 +1,1 @@
-pub mod Shapes
-pub mod Taken
-pub mod Open
+pub mod inner

@@ -1,10 +1,10 @@
 // The primitives that change a list or dictionary: whether one would be done, before it is.
 ghost use Rattle.std.specs.Prelude.{◌≡◌, ℕ, IfOk, IfSome, OnOk, IsTrue};
 ghost use Rattle.muf_model.specs.Rows.{primitive};
-ghost use Rattle.muf_frame.specs.Shown.{Shown, flat};
-ghost use Rattle.muf_frame.specs.Moves.{scope_of};
-ghost use Rattle.muf_frame.specs.Answers.{AppliedOr, Became};
-ghost use Rattle.muf_array.specs.Open.{prim_of, IsOpen, CanChange, CanAppend, CanDelete};
+ghost use Rattle.muf_frame.specs.inner.Shown.{Shown, flat};
+ghost use Rattle.muf_frame.specs.inner.Moves.{scope_of};
+ghost use Rattle.muf_frame.specs.inner.Answers.{AppliedOr, Became};
+ghost use Rattle.muf_array.specs.inner.Open.{prim_of, IsOpen, CanChange, CanAppend, CanDelete};
 
 use crate::changes::Change;
 use crate::shapes::{append_top_fault, gone_top_fault, top_fault};

@@ -5,10 +5,10 @@ ghost use Rattle.muf_model.specs.Answer.{makes};
 ghost use Rattle.muf_model.specs.ArrayRows.{appended_to, gone_from};
 ghost use Rattle.muf_model.specs.Datum.{items, dict as dictionary, data_of, pairs_of};
 ghost use Rattle.muf_model.specs.Entries.{with_entry};
-ghost use Rattle.muf_model.specs.View.{view};
+ghost use Rattle.muf_model.specs.inner.View.{view};
 ghost use Rattle.muf_model.specs.Values.{fits};
 ghost use Rattle.muf_model.specs.declared.value.MapKey.TheVariants.{Number};
-ghost use Rattle.muf_array.specs.Shapes.{at_held, changed, placed_in, fault_of, refusal};
+ghost use Rattle.muf_array.specs.inner.Shapes.{at_held, changed, placed_in, fault_of, refusal};
 
 use crate::entries::{list_index, list_place};
 use muck_model::NoMemory;

@@ -2,9 +2,9 @@
 ghost use Rattle.std.specs.Prelude.{◌≡◌, ◌≤◌, ◌<◌, Some, length, map, drop, slice_get, IfOk, IfSome, IfNone, option_map, option_copied};
 ghost use Rattle.muf_model.specs.ArrayRows.{entries_in};
 ghost use Rattle.muf_model.specs.Entries.{above};
-ghost use Rattle.muf_model.specs.View.{view};
+ghost use Rattle.muf_model.specs.inner.View.{view};
 ghost use Rattle.muf_array.specs.declared.entries.Part.TheVariants as part;
-ghost use Rattle.muf_array.specs.Shapes.{part_of, values_in, is_held, listed, place_in, index_in};
+ghost use Rattle.muf_array.specs.inner.Shapes.{part_of, values_in, is_held, listed, place_in, index_in};
 
 use muck_model::NoMemory;
 use muf_model::{MapKey, Pair, Value, ValueList};

@@ -4,11 +4,11 @@ ghost use Rattle.muck_model.specs.Bytes.{text_fault};
 ghost use Rattle.muf_model.specs.ArrayRows.{word_of, words_of, entries_in, joined_held};
 ghost use Rattle.muf_model.specs.Texts.{joined};
 ghost use Rattle.muf_model.specs.TextRows.{sized};
-ghost use Rattle.muf_model.specs.View.{view};
+ghost use Rattle.muf_model.specs.inner.View.{view};
 ghost use Rattle.muf_model.proofs.FaultTexts.{IsInside};
 ghost use Rattle.std.specs.Fmt.{signed_decimal};
-ghost use Rattle.muf_array.specs.Shapes.{of_held, text_in, values_in, lead};
-ghost use Rattle.prim_text.specs.Made.{Makes};
+ghost use Rattle.muf_array.specs.inner.Shapes.{of_held, text_in, values_in, lead};
+ghost use Rattle.prim_text.specs.inner.Made.{Makes};
 
 use crate::entries::{count, is_held, value_there};
 use muck_model::{NoMemory, TEXT_MOST};

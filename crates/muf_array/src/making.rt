@@ -4,12 +4,12 @@ ghost use Rattle.muf_model.specs.Answer.{Answer, refuses, needing};
 ghost use Rattle.muf_model.specs.Needs.{counts, any, an_int, a_key};
 ghost use Rattle.muf_model.specs.ArrayRows as row;
 ghost use Rattle.muf_model.specs.Datum.{Datum};
-ghost use Rattle.muf_model.specs.View.{view, pair_view};
+ghost use Rattle.muf_model.specs.inner.View.{view, pair_view};
 ghost use Rattle.muf_model.specs.declared.prims.Primitive.TheVariants.{ArrayMake, ArrayMakeDict};
-ghost use Rattle.muf_frame.specs.Shown.{Shown, flat, locked_by};
-ghost use Rattle.muf_frame.specs.Answers.{UsedOr, AppliedOr, int_at};
-ghost use Rattle.muf_array.specs.Shapes.{pairs_in};
-ghost use Rattle.muf_array.specs.Taken.{list_read, dict_read, by_top};
+ghost use Rattle.muf_frame.specs.inner.Shown.{Shown, flat, locked_by};
+ghost use Rattle.muf_frame.specs.inner.Answers.{UsedOr, AppliedOr, int_at};
+ghost use Rattle.muf_array.specs.inner.Shapes.{pairs_in};
+ghost use Rattle.muf_array.specs.inner.Taken.{list_read, dict_read, by_top};
 
 use crate::changes::{dict_value, list_value};
 use crate::tops::{copy_at, key_at};

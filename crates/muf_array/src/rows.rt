@@ -4,10 +4,10 @@ ghost use Rattle.muf_model.specs.Answer.{makes};
 ghost use Rattle.muf_model.specs.ArrayRows as row;
 ghost use Rattle.muf_model.specs.ArrayRows.{entries_in};
 ghost use Rattle.muf_model.specs.Entries.{entry_of};
-ghost use Rattle.muf_model.specs.View.{view};
+ghost use Rattle.muf_model.specs.inner.View.{view};
 ghost use Rattle.muf_model.specs.declared.value.MapKey.TheVariants.{Number};
-ghost use Rattle.muf_array.specs.Shapes.{part_of, listed, of_held, at_held, may_have, row_of_held};
-ghost use Rattle.prim_text.specs.Made.{Makes, made_of};
+ghost use Rattle.muf_array.specs.inner.Shapes.{part_of, listed, of_held, at_held, may_have, row_of_held};
+ghost use Rattle.prim_text.specs.inner.Made.{Makes, made_of};
 
 use crate::entries::{Part, count, is_held, list_index, part_at, place_above};
 use muck_model::NoMemory;
@@ -127,7 +127,7 @@ pub(crate) fn next(alloc: Global, held: &Value, key: &MapKey) -> Result<Made, Pr
 }
 
 /// The primitives of a list or dictionary alone.
-#[tactic(auto, using(crate::proofs::Reading::row_steps), unfolding(crate::specs::Shapes::row_of_held))]
+#[tactic(auto, using(crate::proofs::Reading::row_steps), unfolding(crate::specs::inner::Shapes::row_of_held))]
 pub(crate) fn of_held(alloc: Global, prim: Prim, held: &Value) -> Result<Made, PrimFault>
     ensures { Makes (of_held (row_of_held prim) (view held.now)) result }
 {

@@ -3,10 +3,10 @@ ghost use Rattle.std.specs.Prelude.{◌≡◌, ◌∷◌, [], ◌≤◌, Some, N
 ghost use Rattle.muf_model.specs.Needs.{takes, any, a_text, a_key, a_list, a_collection};
 ghost use Rattle.muf_model.specs.ArrayRows as row;
 ghost use Rattle.muf_model.specs.declared.prims.Primitive.TheVariants.{ArrayGetItem, ArrayAppendItem, ArrayDelItem, ArrayNext, ArrayJoin};
-ghost use Rattle.muf_frame.specs.Shown.{Shown, flat};
-ghost use Rattle.muf_frame.specs.Answers.{UsedOr, AppliedOr};
-ghost use Rattle.muf_array.specs.Shapes.{changed, row_of_held};
-ghost use Rattle.muf_array.specs.Taken.{held_read, held_refused, item_read, item_refused, append_read, append_refused};
+ghost use Rattle.muf_frame.specs.inner.Shown.{Shown, flat};
+ghost use Rattle.muf_frame.specs.inner.Answers.{UsedOr, AppliedOr};
+ghost use Rattle.muf_array.specs.inner.Shapes.{changed, row_of_held};
+ghost use Rattle.muf_array.specs.inner.Taken.{held_read, held_refused, item_read, item_refused, append_read, append_refused};
 
 use crate::changes::{Change, append_fault, appended, change_fault, changed, gone, gone_fault};
 use crate::joining::joined;

@@ -3,9 +3,9 @@ ghost use Rattle.std.specs.Prelude.{◌≡◌, ℕ};
 ghost use Rattle.muf_model.specs.declared.prims.Family.TheVariants.{Array};
 ghost use Rattle.muf_model.specs.Prims.{family_of};
 ghost use Rattle.muf_model.specs.Rows.{primitive};
-ghost use Rattle.muf_frame.specs.Shown.{Shown, flat};
-ghost use Rattle.muf_frame.specs.Moves.{scope_of};
-ghost use Rattle.muf_frame.specs.Answers.{AppliedOr};
+ghost use Rattle.muf_frame.specs.inner.Shown.{Shown, flat};
+ghost use Rattle.muf_frame.specs.inner.Moves.{scope_of};
+ghost use Rattle.muf_frame.specs.inner.Answers.{AppliedOr};
 
 use crate::changes::Change;
 use crate::{making, shapes};
@@ -15,7 +15,7 @@ use std::alloc::Global;
 
 /// Uses a primitive of lists and dictionaries: the frame is as its row says, or unchanged and the fault is that of the row. A list or
 /// dictionary that nobody else shares is changed where it is. After `NoMemory` nothing is said of the frame.
-#[tactic(auto, unfolding(crate::specs::Shapes::row_of_held))]
+#[tactic(auto, unfolding(crate::specs::inner::Shapes::row_of_held))]
 pub fn apply(alloc: Global, prim: Prim, frame: &mut Frame) -> Result<(), PrimFault>
     requires { family_of prim ≡ Array }
     ensures { (words : ℕ) → AppliedOr (primitive prim (scope_of words (flat frame.old)) (flat frame.old).stack) frame.old frame.new result }

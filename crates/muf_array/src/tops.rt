@@ -1,8 +1,8 @@
 // What stands at the top of the stack.
 ghost use Rattle.std.specs.Prelude.{◌≡◌, ◌<◌, ◌≤◌, Some, length, slice_get, option_map, option_copied, IfOk};
-ghost use Rattle.muf_model.specs.View.{view};
-ghost use Rattle.muf_frame.specs.Shown.{Shown, flat};
-ghost use Rattle.muf_array.specs.Shapes.{key_in};
+ghost use Rattle.muf_model.specs.inner.View.{view};
+ghost use Rattle.muf_frame.specs.inner.Shown.{Shown, flat};
+ghost use Rattle.muf_array.specs.inner.Shapes.{key_in};
 
 use muck_model::NoMemory;
 use muf_frame::Frame;

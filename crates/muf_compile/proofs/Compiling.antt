@@ -6,10 +6,10 @@ use Rattle.muf_model.specs.declared.code.Placed.{Placed}
 use Rattle.muf_model.specs.declared.code.CodeWord.{CodeWord}
 use Rattle.muf_model.specs.declared.code.Code.{Code}
 use Rattle.muf_model.specs.Tree.{if_word, begin_word, stop, Definition, Tree}
-use Rattle.muf_model.specs.Decode as decode
-use Rattle.muf_model.specs.Nesting.{NestedWords}
+use Rattle.muf_model.specs.inner.Decode as decode
+use Rattle.muf_model.specs.inner.Nesting.{NestedWords}
 use Rattle.muf_model.proofs.Unique.{tree_read}
-use Rattle.muf_model.specs.Stands.{WordsStand, InRow, TreeStands}
+use Rattle.muf_model.specs.inner.Stands.{WordsStand, InRow, TreeStands}
 use Rattle.muf_token.specs.declared.token.Token.{Token}
 use Rattle.muf_compile.specs.declared.names.Mode.{Mode}
 use Rattle.muf_compile.specs.declared.names.Mode.TheVariants as mode
@@ -23,7 +23,7 @@ use Rattle.muf_compile.specs.Faults.{and_then, Leads, Answers}
 use Rattle.muf_compile.specs.Reading.{Known, Read}
 use Rattle.muf_compile.specs.Growth as growth
 use Rattle.muf_compile.specs.Growth.{Unfinished, first, Growth, Grown, grow, counted, units_most, Draft, step, tree_from, finished, finished_in, empty_draft, tree_of}
-use Rattle.muf_compile.specs.Grammar.{IsProgram}
+use Rattle.muf_compile.specs.inner.Grammar.{IsProgram}
 use Rattle.muf_compile.specs.inner.Built.{Built}
 use Rattle.muf_compile.specs.inner.Build as building
 use Rattle.muf_compile.specs.inner.Build.{Made, build}

@@ -5,7 +5,7 @@ use Rattle.muf_model.specs.declared.code.Instr.TheVariants.{Close}
 use Rattle.muf_model.specs.declared.code.Placed.{Placed}
 use Rattle.muf_model.specs.declared.code.CodeWord.{CodeWord}
 use Rattle.muf_model.specs.Tree.{Definition}
-use Rattle.muf_model.specs.Stands.{Stands, WordsStand, WordStands, InRow}
+use Rattle.muf_model.specs.inner.Stands.{Stands, WordsStand, WordStands, InRow}
 use Rattle.muf_model.proofs.Standing.{Extends, stands_map, stands_kept, words_kept, row_kept}
 use Rattle.muf_compile.specs.Growth as growth
 use Rattle.muf_compile.specs.Growth.{Growth}

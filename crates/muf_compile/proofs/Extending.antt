@@ -4,7 +4,7 @@ use Rattle.std.specs.Prelude.{slice_get, slice_set}
 use Rattle.muf_model.specs.declared.code.Instr.{Instr}
 use Rattle.muf_model.specs.declared.code.Instr.TheVariants.{Unset}
 use Rattle.muf_model.specs.declared.code.Placed.{Placed}
-use Rattle.muf_model.specs.Stands.{IsAt}
+use Rattle.muf_model.specs.inner.Stands.{IsAt}
 use Rattle.muf_model.proofs.Standing.{Extends}
 
 pub get_append : (xs ys : List Placed) (i : ℕ) (x : Placed) → slice_get xs i ≡ Some x → slice_get (xs ++ ys) i ≡ Some x

@@ -11,7 +11,7 @@ use Rattle.muf_model.specs.declared.code.Instr.TheVariants.{Plain, Unset, Close,
 use Rattle.muf_model.specs.declared.code.Placed.{Placed}
 use Rattle.muf_model.specs.declared.code.CodeWord.{CodeWord}
 use Rattle.muf_model.specs.Tree.{Fork, if_word, try_word, Ring, begin_word, for_word, each_word, Block, stop, word, when, fork, ring, Definition}
-use Rattle.muf_model.specs.Stands.{Stands, IsAt, fork_instr, ring_instr, hop_instr, WordsStand, InRow}
+use Rattle.muf_model.specs.inner.Stands.{Stands, IsAt, fork_instr, ring_instr, hop_instr, WordsStand, InRow}
 use Rattle.muf_model.proofs.Standing.{joins, Extends, stands_map, stands_kept, fork_kept, words_kept, row_kept}
 use Rattle.muf_compile.specs.declared.act.Opening.{Opening}
 use Rattle.muf_compile.specs.declared.act.Opening.TheVariants as opening

@@ -4,15 +4,15 @@ use Rattle.std.specs.Prelude.{Some, slice_get}
 use Rattle.muf_model.specs.declared.code.Offer.{Offer}
 use Rattle.muf_model.specs.declared.code.Word.{Word}
 use Rattle.muf_model.specs.Tree.{Block, Definition}
-use Rattle.muf_model.specs.Nesting.{Place, outside, inside, behind, IsFree, MayStand, NestedBlock, NestedWords}
+use Rattle.muf_model.specs.inner.Nesting.{Place, outside, inside, behind, IsFree, MayStand, NestedBlock, NestedWords}
 use Rattle.muf_token.specs.declared.token.Token.{Token}
 use Rattle.muf_token.specs.declared.token.TokenKind.{TokenKind}
 use Rattle.muf_compile.specs.declared.act.Act.{Act}
 use Rattle.muf_compile.specs.declared.act.Act.TheVariants.{Item, Jump}
 use Rattle.muf_compile.specs.declared.act.Reading.{Reading}
 use Rattle.muf_compile.specs.Growth.{offered_in}
-use Rattle.muf_compile.specs.Spells.{Spells, nothing, item, jump, if_then, if_else, try_catch, begin_repeat, begin_until, for_repeat, each_repeat}
-use Rattle.muf_compile.specs.Grammar.{Scope, Names, of_word, structure, Says, structural, named, bindings, Header, bare, with_arguments, with_results, Opened, begun, says, own_variable, stored_variable, Declares, nothing_declared, shared_variable, local_variable, offered_to_all, offered_to_wizards, word_defined}
+use Rattle.muf_compile.specs.inner.Spells.{Spells, nothing, item, jump, if_then, if_else, try_catch, begin_repeat, begin_until, for_repeat, each_repeat}
+use Rattle.muf_compile.specs.inner.Grammar.{Scope, Names, of_word, structure, Says, structural, named, bindings, Header, bare, with_arguments, with_results, Opened, begun, says, own_variable, stored_variable, Declares, nothing_declared, shared_variable, local_variable, offered_to_all, offered_to_wizards, word_defined}
 
 -- what is said stands anywhere in a word, or in loops
 abbrev IsPlain : Act → Type 0

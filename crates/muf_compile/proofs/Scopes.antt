@@ -18,7 +18,7 @@ use Rattle.muf_compile.specs.declared.names.Meaning.{Meaning}
 use Rattle.muf_compile.specs.declared.names.Meaning.TheVariants as meaning
 use Rattle.muf_compile.specs.Names.{control_words, control_of, standing_of}
 use Rattle.muf_compile.specs.Reading.{Known, item_of, word_of, number_in, number_of, is_unfit, name_fault}
-use Rattle.muf_compile.specs.Grammar.{Scope, IsNth, process_names, Names, of_word, of_process, of_program, of_local, of_primitive, IsFree}
+use Rattle.muf_compile.specs.inner.Grammar.{Scope, IsNth, process_names, Names, of_word, of_process, of_program, of_local, of_primitive, IsFree}
 
 -- ---- lists and tables
 

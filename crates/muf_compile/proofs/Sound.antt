@@ -12,7 +12,7 @@ use Rattle.muf_compile.specs.declared.fault.CompileKind.TheVariants.{StrayBreak}
 use Rattle.muf_compile.specs.Faults.{refuse}
 use Rattle.muf_compile.specs.Growth as growth
 use Rattle.muf_compile.specs.Growth.{Unfinished, first, second, turning, Growth, Grown, grow, with_item, in_loop}
-use Rattle.muf_compile.specs.Spells.{at_line, Spells, nothing, item, jump, if_then, if_else, try_catch, begin_repeat, begin_until, for_repeat, each_repeat}
+use Rattle.muf_compile.specs.inner.Spells.{at_line, Spells, nothing, item, jump, if_then, if_else, try_catch, begin_repeat, begin_until, for_repeat, each_repeat}
 
 spells_then : (l : Bool) (a b : Block) (xs ys : List Reading) → Spells l a xs → Spells l b ys → Spells l (then_block a b) (xs ++ ys)
 spells_then l a b xs ys nothing k = k

@@ -34,8 +34,8 @@ use Rattle.muf_compile.specs.Names.{control_of}
 use Rattle.muf_compile.specs.Reading as reading
 use Rattle.muf_compile.specs.Reading.{Known, Read, read, read_in, in_mode, unless, name_fault, word_of, number_of, usable, may_use, before_bracket, variables_most, is_unfit}
 use Rattle.muf_compile.specs.Growth.{Unfinished, Growth, Grown, grow, counted, units_most, end_part, offered_in, Draft, step, tree_of, tree_from, whole_tree, finished_in, empty_draft}
-use Rattle.muf_compile.specs.Spells.{at_line, nothing}
-use Rattle.muf_compile.specs.Grammar.{IsNth, IsFree, structure, Says, text, integer, object, address, structural, named, at, Arguments, no_arguments, one_argument, Passed, none_passed, one_passed, bindings, Header, bare, with_arguments, with_results, Opened, begun, says, own_variable, stored_variable, names_of, outside, Declares, nothing_declared, shared_variable, local_variable, offered_to_all, offered_to_wizards, word_defined, IsProgram}
+use Rattle.muf_compile.specs.inner.Spells.{at_line, nothing}
+use Rattle.muf_compile.specs.inner.Grammar.{IsNth, IsFree, structure, Says, text, integer, object, address, structural, named, at, Arguments, no_arguments, one_argument, Passed, none_passed, one_passed, bindings, Header, bare, with_arguments, with_results, Opened, begun, says, own_variable, stored_variable, names_of, outside, Declares, nothing_declared, shared_variable, local_variable, offered_to_all, offered_to_wizards, word_defined, IsProgram}
 use Rattle.muf_compile.proofs.Scopes.{Entered, no_names, word_more, variable_more, Owned, no_locals, local_more, as_many_owned, named_by, free, entered_last, owned_last, numbered_by, control_written, written_as}
 use Rattle.muf_compile.proofs.Sound.{Written, at_top, GrownWritten, IsInside, grow_written}
 use Rattle.muf_compile.proofs.Titles.{bracket_yes, bracket_found}

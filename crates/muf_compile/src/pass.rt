@@ -2,8 +2,8 @@
 ghost use Rattle.std.specs.Prelude.{◌≡◌, ◌+◌, ◌≤◌, length, IfOk};
 ghost use Rattle.muf_compile.specs.Acts.{cost_of};
 ghost use Rattle.muf_compile.specs.Faults.{Leads, Answers};
-ghost use Rattle.muf_model.specs.Decode as decode;
-ghost use Rattle.muf_compile.specs.Grammar.{IsProgram};
+ghost use Rattle.muf_model.specs.inner.Decode as decode;
+ghost use Rattle.muf_compile.specs.inner.Grammar.{IsProgram};
 ghost use Rattle.muf_compile.specs.Growth.{counted, tree_of};
 ghost use Rattle.muf_compile.specs.inner.Compiled.{compiled_of, compiled_step, compiled_end, nothing_compiled};
 ghost use Rattle.muf_compile.specs.inner.Fits.{IsCode};

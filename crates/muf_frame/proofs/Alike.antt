@@ -2,7 +2,7 @@
 use Rattle.std.proofs.Common.{◌≡◌, List, [], ◌∷◌, ◌++◌, map, reverse, drop, refl, ap, sym, ◌∙◌, rules}
 use Rattle.std.proofs.lemmas.List.{reverse-append, map-append}
 use Rattle.muf_frame.specs.declared.mark.Mark.{Mark}
-use Rattle.muf_frame.specs.Shown.{flat_mark, outer_of, GuardsFit}
+use Rattle.muf_frame.specs.inner.Shown.{flat_mark, outer_of, GuardsFit}
 
 pub map_reverse : {A B : Type 0} → (f : A → B) (xs : List A) → map f (reverse xs) ≡ reverse (map f xs)
 map_reverse f [] = refl

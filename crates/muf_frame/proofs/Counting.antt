@@ -4,8 +4,8 @@ use Rattle.std.proofs.lemmas.List.{reverse-append, take-append-drop, take-set, d
 use Rattle.muf_frame.specs.declared.mark.Mark.{Mark}
 use Rattle.muf_frame.specs.declared.mark.Mark.TheVariants.{Loop, Guard, Back, Leave}
 use Rattle.muf_frame.specs.declared.mark.Turns.TheVariants.{Plain, Indices, Values, Pairs}
-use Rattle.muf_frame.specs.Shown.{flat_mark, locked_by, calls_by, opened_by, GuardsFit}
-use Rattle.muf_frame.specs.Counting.{counting, with_next}
+use Rattle.muf_frame.specs.inner.Shown.{flat_mark, locked_by, calls_by, opened_by, GuardsFit}
+use Rattle.muf_frame.specs.inner.Counting.{counting, with_next}
 
 -- the last item of a list is the first one of the reversed list
 reversed_last : {A : Type 0} → (k : ℕ) (xs : List A) (x : A) → drop k xs ≡ x ∷ [] → reverse xs ≡ x ∷ reverse (take k xs)

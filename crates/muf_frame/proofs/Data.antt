@@ -7,12 +7,12 @@ use Rattle.std.specs.Prelude.{pos}
 use Rattle.muf_model.specs.declared.value.Value.{Value}
 use Rattle.muf_model.specs.Datum.{Datum, int}
 use Rattle.muf_model.specs.Source.{zeros, fitted}
-use Rattle.muf_model.specs.View.{view}
+use Rattle.muf_model.specs.inner.View.{view}
 use Rattle.muf_model.specs.Unit.{lowest}
 use Rattle.muf_frame.specs.declared.mark.Mark.{Mark}
 use Rattle.muf_frame.specs.declared.mark.Mark.TheVariants.{Loop, Guard, Back, Leave}
-use Rattle.muf_frame.specs.Shown.{Shown, flat, flat_mark, left}
-use Rattle.muf_frame.specs.Moves.{behind}
+use Rattle.muf_frame.specs.inner.Shown.{Shown, flat, flat_mark, left}
+use Rattle.muf_frame.specs.inner.Moves.{behind}
 
 pub map_take : {A B : Type 0} → (f : A → B) (n : ℕ) (xs : List A) → map f (take n xs) ≡ take n (map f xs)
 map_take f zero xs = refl

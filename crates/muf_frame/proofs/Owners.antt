@@ -7,11 +7,11 @@ use Rattle.std.proofs.lemmas.Option.{slice_get-map, slice_get_within}
 use Rattle.std.proofs.lemmas.List.{map-set}
 use Rattle.std.proofs.lemmas.Bool.Decides.{Decides-int_eq}
 use Rattle.muf_model.specs.Datum.{Datum}
-use Rattle.muf_model.specs.View.{view}
+use Rattle.muf_model.specs.inner.View.{view}
 use Rattle.muf_model.specs.Source.{Owned, owned_by, with_owned}
 use Rattle.muf_frame.specs.declared.frame.Owned.{Owned as Kept}
-use Rattle.muf_frame.specs.Shown.{flat_owned}
-use Rattle.muf_frame.specs.Owners.{owner_place, owned_values}
+use Rattle.muf_frame.specs.inner.Shown.{flat_owned}
+use Rattle.muf_frame.specs.inner.Owners.{owner_place, owned_values}
 
 abbrev values_at : Option Owned → List Datum
 values_at (Some o) = o.values

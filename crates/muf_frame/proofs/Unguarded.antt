@@ -1,9 +1,9 @@
 -- Without a TRY no fault is caught.
 use Rattle.std.proofs.Common.{◌≡◌, ℕ, suc, List, [], ◌∷◌, None, refl, false, rules}
-use Rattle.muf_model.specs.Flat.{FlatMark, loop, guard, back, leave, Flat}
+use Rattle.muf_model.specs.inner.Flat.{FlatMark, loop, guard, back, leave, Flat}
 use Rattle.muf_model.specs.declared.fault.MufFault.{MufFault}
 use Rattle.muf_model.specs.Faults.{text_of}
-use Rattle.muf_frame.specs.Moves.{behind, unwound, caught, has_guard}
+use Rattle.muf_frame.specs.inner.Moves.{behind, unwound, caught, has_guard}
 
 pub unguarded : (bytes : List ℕ) (k : ℕ) (s : Flat) (ms : List FlatMark) → has_guard ms ≡ false → unwound bytes k s ms ≡ None
 unguarded bytes k s [] h = refl

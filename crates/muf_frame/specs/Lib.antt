@@ -1,5 +1,1 @@
-pub mod Shown
-pub mod Moves
-pub mod Owners
-pub mod Answers
-pub mod Counting
+pub mod inner

@@ -1,7 +1,7 @@
 // The arguments of a header.
 ghost use Rattle.std.specs.Prelude.{◌≡◌, ◌+◌, ◌≤◌, ◌++◌, length, take, drop, vec_len, IfOk, OnOk};
-ghost use Rattle.muf_frame.specs.Shown.{Shown, flat};
-ghost use Rattle.muf_frame.specs.Moves.{bound};
+ghost use Rattle.muf_frame.specs.inner.Shown.{Shown, flat};
+ghost use Rattle.muf_frame.specs.inner.Moves.{bound};
 
 use crate::Frame;
 use muck_model::NoMemory;

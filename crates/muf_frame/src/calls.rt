@@ -1,8 +1,8 @@
 // What encloses the place.
 ghost use Rattle.std.specs.Prelude.{◌≡◌, ◌+◌, ◌<◌, ◌≤◌, ◌++◌, [], ◌∷◌, length, map, drop, vec_len, vec_capacity, IfSome, MatchOption, option_copied, slice_get};
 ghost use Rattle.muf_frame.specs.declared.mark.Mark.TheVariants.{Loop, Guard};
-ghost use Rattle.muf_frame.specs.Shown.{Shown, flat, locked_by, calls_by, opened_by, HeightFits, RoomAfter, left};
-ghost use Rattle.muf_frame.specs.Counting.{counting, with_next};
+ghost use Rattle.muf_frame.specs.inner.Shown.{Shown, flat, locked_by, calls_by, opened_by, HeightFits, RoomAfter, left};
+ghost use Rattle.muf_frame.specs.inner.Counting.{counting, with_next};
 
 use crate::{Frame, Mark, Turns};
 

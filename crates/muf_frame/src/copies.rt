@@ -1,7 +1,7 @@
 // Copies of a frame.
 ghost use Rattle.std.specs.Prelude.{◌≡◌, ◌≤◌, length, map, vec_len, vec_capacity, IfOk};
-ghost use Rattle.muf_model.specs.View.{view};
-ghost use Rattle.muf_frame.specs.Shown.{Shown, flat, flat_turns, flat_mark, flat_owned, outer_of};
+ghost use Rattle.muf_model.specs.inner.View.{view};
+ghost use Rattle.muf_frame.specs.inner.Shown.{Shown, flat, flat_turns, flat_mark, flat_owned, outer_of};
 
 use crate::frame::MARKS_MOST;
 use crate::{Frame, Mark, Owned, Turns};

@@ -1,8 +1,8 @@
 // Faults, and the way back to a TRY.
 ghost use Rattle.std.specs.Prelude.{◌≡◌, true, Some, IfOk, OnErr, is_some, reverse, map};
 ghost use Rattle.std.specs.Option.{option_map_or};
-ghost use Rattle.muf_frame.specs.Shown.{Shown, flat, flat_mark};
-ghost use Rattle.muf_frame.specs.Moves.{has_guard, unwound, caught, Unwinds};
+ghost use Rattle.muf_frame.specs.inner.Shown.{Shown, flat, flat_mark};
+ghost use Rattle.muf_frame.specs.inner.Moves.{has_guard, unwound, caught, Unwinds};
 
 use crate::{Frame, Mark};
 use muck_model::NoMemory;

@@ -1,6 +1,6 @@
 // The frame and what it is seen as.
 ghost use Rattle.std.specs.Prelude.{◌≡◌, ◌≤◌, IfOk, length};
-ghost use Rattle.muf_frame.specs.Shown.{Shown, flat};
+ghost use Rattle.muf_frame.specs.inner.Shown.{Shown, flat};
 
 use crate::Mark;
 use muck_model::{Dbref, Line, NoMemory};
@@ -39,7 +39,7 @@ pub struct Frame {
 
 impl Model for Frame {
     ghost use Rattle.std.specs.Prelude.{◌≡◌, ◌≤◌, ◌<◌, ◌+◌, vec_len, vec_capacity, reverse, map};
-    ghost use Rattle.muf_frame.specs.Shown.{Shown, flat_mark, locked_by, calls_by, opened_by, GuardsFit};
+    ghost use Rattle.muf_frame.specs.inner.Shown.{Shown, flat_mark, locked_by, calls_by, opened_by, GuardsFit};
     ghost use Rattle.std.specs.Coded.{codes};
     ghost use Rattle.muf_model.specs.contracts.value.Value as e;
     ghost use Rattle.muf_model.specs.contracts.value.ValueList as list;

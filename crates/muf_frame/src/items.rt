@@ -1,8 +1,8 @@
 // Items of a kind.
 ghost use Rattle.std.specs.Prelude.{◌≡◌, option_map, option_copied};
-ghost use Rattle.muf_model.specs.View.{view};
-ghost use Rattle.muf_frame.specs.Shown.{Shown, flat};
-ghost use Rattle.muf_frame.specs.Answers.{as_int, as_object, as_text, int_at, object_at, text_at};
+ghost use Rattle.muf_model.specs.inner.View.{view};
+ghost use Rattle.muf_frame.specs.inner.Shown.{Shown, flat};
+ghost use Rattle.muf_frame.specs.inner.Answers.{as_int, as_object, as_text, int_at, object_at, text_at};
 
 use crate::Frame;
 use muck_model::Dbref;

@@ -2,9 +2,9 @@
 ghost use Rattle.std.specs.Prelude.{◌↔◌, IsTrue, ◌≡◌, ◌+◌, ◌-◌, ◌<◌, ◌≤◌, [], ◌∷◌, ◌++◌, length, take, drop, reverse, map, Some, IfNone, MatchResult, MatchOption, slice_get, slice_set, option_copied, option_to_list};
 ghost use Rattle.muf_model.specs.declared.fault.MufFault.TheVariants.{StackFull};
 ghost use Rattle.muf_model.specs.Answer.{too_few, put, makes};
-ghost use Rattle.muf_model.specs.View.{view};
-ghost use Rattle.muf_frame.specs.Answers.{Answered};
-ghost use Rattle.muf_frame.specs.Shown.{Shown, flat, locked_by};
+ghost use Rattle.muf_model.specs.inner.View.{view};
+ghost use Rattle.muf_frame.specs.inner.Answers.{Answered};
+ghost use Rattle.muf_frame.specs.inner.Shown.{Shown, flat, locked_by};
 
 use crate::Frame;
 use muf_model::{MufFault, STACK_MOST, Value};

@@ -3,10 +3,10 @@ ghost use Rattle.std.specs.Prelude.{◌≡◌, ℕ, ◌+◌, ◌≤◌, [], leng
 ghost use Rattle.std.specs.Option.{option_map};
 ghost use Rattle.muf_model.specs.Answer.{variable_at};
 ghost use Rattle.muf_model.specs.Source.{owned_by, with_owned};
-ghost use Rattle.muf_model.specs.View.{view};
-ghost use Rattle.muf_frame.specs.Shown.{Shown, flat, flat_owned};
-ghost use Rattle.muf_frame.specs.Moves.{scope_of, with_variable};
-ghost use Rattle.muf_frame.specs.Owners.{owner_place, owned_values};
+ghost use Rattle.muf_model.specs.inner.View.{view};
+ghost use Rattle.muf_frame.specs.inner.Shown.{Shown, flat, flat_owned};
+ghost use Rattle.muf_frame.specs.inner.Moves.{scope_of, with_variable};
+ghost use Rattle.muf_frame.specs.inner.Owners.{owner_place, owned_values};
 
 use crate::{Frame, Owned};
 use muck_model::Dbref;

@@ -1,10 +1,10 @@
 // The beginning of a process, and calls of words.
 ghost use Rattle.std.specs.Prelude.{◌≡◌, ◌+◌, ◌<◌, ◌++◌, ◌∷◌, ◌≤◌, [], length, vec_len, vec_capacity, map, reverse, IfOk, OnOk};
 ghost use Rattle.muf_model.specs.Datum.{text};
-ghost use Rattle.muf_model.specs.View.{view};
+ghost use Rattle.muf_model.specs.inner.View.{view};
 ghost use Rattle.muf_model.specs.Source.{owned_by, with_owned, zeros, fitted};
-ghost use Rattle.muf_frame.specs.Shown.{Shown, flat, flat_owned, calls_by};
-ghost use Rattle.muf_frame.specs.Moves.{fresh, owning, begun, called, entered};
+ghost use Rattle.muf_frame.specs.inner.Shown.{Shown, flat, flat_owned, calls_by};
+ghost use Rattle.muf_frame.specs.inner.Moves.{fresh, owning, begun, called, entered};
 
 use crate::calls::push_mark;
 use crate::frame::MARKS_MOST;

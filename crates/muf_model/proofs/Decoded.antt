@@ -5,9 +5,9 @@ use Rattle.muf_model.specs.declared.code.Code.{Code}
 use Rattle.muf_model.specs.Datum.{Datum}
 use Rattle.muf_model.specs.Tree.{closes}
 use Rattle.muf_model.specs.Source.{Mark, looping, trying, calling, entering, Source}
-use Rattle.muf_model.specs.Nested.{Nested}
-use Rattle.muf_model.specs.Flat.{FlatMark, Flat, marks_of, decode}
-use Rattle.muf_model.specs.Fits.{MarksFit, none, loops, tries, calls, enters, FitsState, fit, Fits}
+use Rattle.muf_model.specs.inner.Nested.{Nested}
+use Rattle.muf_model.specs.inner.Flat.{FlatMark, Flat, marks_of, decode}
+use Rattle.muf_model.specs.inner.Fits.{MarksFit, none, loops, tries, calls, enters, FitsState, fit, Fits}
 use Rattle.muf_model.proofs.Unique.{remains_read, tree_read}
 
 pub marks_read : {codes : List Code} {ms : List Mark} {ns : List FlatMark} {below : List Datum} → MarksFit codes ms ns below → marks_of codes ns below ≡ ms

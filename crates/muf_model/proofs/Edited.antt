@@ -13,7 +13,7 @@ use Rattle.std.proofs.lemmas.Cmp.{nat_list_cmp_total}
 use Rattle.muf_model.specs.declared.size.Size.{Size}
 use Rattle.muf_model.specs.declared.value.MapKey.{MapKey}
 use Rattle.muf_model.specs.declared.value.Pair.{Pair}
-use Rattle.muf_model.specs.View.{view, pair_view, value_view}
+use Rattle.muf_model.specs.inner.View.{view, pair_view, value_view}
 use Rattle.muf_model.specs.declared.value.MapKey.TheVariants.{Number, Name}
 use Rattle.muf_model.specs.Datum.{Datum, items, dict, data_of, pairs_of}
 use Rattle.muf_model.specs.Measures.{weight, data_weight, pairs_weight, nesting, data_nesting, pairs_nesting, key_below}

@@ -15,7 +15,7 @@ use Rattle.muf_model.specs.declared.value.MapKey.TheVariants.{Number, Name}
 use Rattle.muf_model.specs.declared.value.Pair.{Pair}
 use Rattle.muf_model.specs.declared.value.Value.{Value}
 use Rattle.muf_model.specs.Datum.{Datum}
-use Rattle.muf_model.specs.View.{view, pair_view}
+use Rattle.muf_model.specs.inner.View.{view, pair_view}
 use Rattle.muf_model.specs.Measures.{key_below, text_below}
 use Rattle.muf_model.specs.Entries.{key_same, entry_of, with_entry, entry_place, has_key, IsAhead, Rising}
 

@@ -14,8 +14,8 @@ use Rattle.muf_model.specs.Datum.{Datum, int, text, object, variable, address, l
 use Rattle.muf_model.specs.Answer.{Answer, gives, stores, calls, refuses, owned_first, call_first, too_few, needing, fitting}
 use Rattle.muf_model.specs.Rows.{primitive}
 use Rattle.muf_model.specs.Tree.{Fork, if_word, try_word, Ring, begin_word, for_word, each_word, Block, stop, word, when, fork, ring, End, closes, hops, then_block, Definition}
-use Rattle.muf_model.specs.Nesting.{Place, outside, inside, counting, keying, turn_of, behind, IsFree, MayStand, EndsTurn, NestedBlock, NestedWords, NestedTree}
-use Rattle.muf_model.specs.Nested.{ring_of, place_in, turn_in, NestedItems, NestedEnd, NestedMarks, Nested, StaysNested}
+use Rattle.muf_model.specs.inner.Nesting.{Place, outside, inside, counting, keying, turn_of, behind, IsFree, MayStand, EndsTurn, NestedBlock, NestedWords, NestedTree}
+use Rattle.muf_model.specs.inner.Nested.{ring_of, place_in, turn_in, NestedItems, NestedEnd, NestedMarks, Nested, StaysNested}
 use Rattle.muf_model.specs.Source.{Turns, plain, indices, pairs, Program, Mark, looping, trying, calling, entering, Source, locked_of, calls_of, with_variable, with_owned, owned_by, scope_of, open_of, called, entered, started, passed, passed_at}
 use Rattle.muf_model.specs.Unit as step
 use Rattle.muf_model.specs.Unit.{Outcome, goes, ended, faulted, asks, stuck, unit, units, and_then, Settled, ready, crowded}

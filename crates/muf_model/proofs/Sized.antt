@@ -8,7 +8,7 @@ use Rattle.muf_model.specs.declared.size.Size.{Size}
 use Rattle.muf_model.specs.declared.value.MapKey.{MapKey}
 use Rattle.muf_model.specs.declared.value.Pair.{Pair}
 use Rattle.muf_model.specs.Datum.{Datum, int, text, object, variable, address, lock, items, dict, mark, data_of, pairs_of, entries_of}
-use Rattle.muf_model.specs.View.{view, pair_view, value_view}
+use Rattle.muf_model.specs.inner.View.{view, pair_view, value_view}
 use Rattle.muf_model.specs.Measures.{weight, data_weight, pairs_weight, nesting, data_nesting, pairs_nesting, key_below}
 use Rattle.muf_model.specs.Entries.{key_same, with_entry, entry_place, has_key, Rising}
 use Rattle.muf_model.proofs.Entries.{rising, replaced, inserted, map_insert}

@@ -6,7 +6,7 @@ use Rattle.muf_model.specs.declared.code.Instr.TheVariants.{Unset}
 use Rattle.muf_model.specs.declared.code.Placed.{Placed}
 use Rattle.muf_model.specs.declared.code.CodeWord.{CodeWord}
 use Rattle.muf_model.specs.Tree.{Fork, if_word, try_word, Ring, begin_word, for_word, each_word, Block, stop, word, when, fork, ring, End, closes, hops, then_block, Definition}
-use Rattle.muf_model.specs.Stands.{Stands, EndStands, Remains, IsAt, fork_instr, ring_instr, hop_instr, WordsStand, InRow}
+use Rattle.muf_model.specs.inner.Stands.{Stands, EndStands, Remains, IsAt, fork_instr, ring_instr, hop_instr, WordsStand, InRow}
 
 module _ (code : List Placed) where
   -- what follows may be weakened

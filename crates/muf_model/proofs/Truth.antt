@@ -6,7 +6,7 @@ use Rattle.muf_model.specs.declared.value.Value.{Value}
 use Rattle.muf_model.specs.declared.value.Pair.{Pair}
 use Rattle.muf_model.specs.declared.value.MapKey.{MapKey}
 use Rattle.muf_model.specs.Datum.{Datum, items, dict, data_of, pairs_of}
-use Rattle.muf_model.specs.View.{view, pair_view}
+use Rattle.muf_model.specs.inner.View.{view, pair_view}
 use Rattle.muf_model.specs.Measures.{is_true}
 
 pub list_true : (xs : List Value) (ds : List Datum) → map view xs ≡ ds → not (length xs == 0) ≡ is_true (items (data_of ds))

@@ -10,8 +10,8 @@ use Rattle.muf_model.specs.declared.code.Placed.{Placed}
 use Rattle.muf_model.specs.declared.code.CodeWord.{CodeWord}
 use Rattle.muf_model.specs.declared.code.Code.{Code}
 use Rattle.muf_model.specs.Tree.{Fork, if_word, try_word, Ring, begin_word, for_word, each_word, Block, stop, word, when, fork, ring, End, closes, hops, Definition, Tree}
-use Rattle.muf_model.specs.Stands.{Stands, EndStands, Remains, IsAt, fork_instr, hop_instr, ring_instr, WordStands, WordsStand, TreeStands}
-use Rattle.muf_model.specs.Decode.{block, item, rest, rest_at, before, ending, target_of, placed_at, Rest, remains_at, definition_at, tree_of}
+use Rattle.muf_model.specs.inner.Stands.{Stands, EndStands, Remains, IsAt, fork_instr, hop_instr, ring_instr, WordStands, WordsStand, TreeStands}
+use Rattle.muf_model.specs.inner.Decode.{block, item, rest, rest_at, before, ending, target_of, placed_at, Rest, remains_at, definition_at, tree_of}
 
 module _ (code : List Placed) where
   -- a block stops somewhere

@@ -2,7 +2,7 @@
 ghost use Rattle.std.specs.Prelude.{◌≡◌, ◌≤◌, ◌<◌, ℕ, map, length, drop, slice_set, IfOk, OnOk, OnErr};
 ghost use Rattle.std.specs.List.{insert, remove};
 ghost use Rattle.muf_model.specs.Datum.{items as list, dict, data_of, pairs_of};
-ghost use Rattle.muf_model.specs.View.{view, pair_view};
+ghost use Rattle.muf_model.specs.inner.View.{view, pair_view};
 ghost use Rattle.muf_model.specs.Measures.{data_weight, data_nesting};
 ghost use Rattle.muf_model.specs.Entries.{key_datum, with_entry, without, above, gathered, Rising};
 ghost use Rattle.muf_model.specs.ArrayRows.{key_of};

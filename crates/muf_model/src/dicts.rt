@@ -4,7 +4,7 @@ ghost use Rattle.std.specs.Option.{option_map, option_copied};
 ghost use Rattle.std.specs.Arc.{arc_value};
 ghost use Rattle.muf_model.specs.declared.value.MapKey.{MapKey as Key};
 ghost use Rattle.muf_model.specs.Datum.{dict as whole, pairs_of};
-ghost use Rattle.muf_model.specs.View.{view, pair_view};
+ghost use Rattle.muf_model.specs.inner.View.{view, pair_view};
 ghost use Rattle.muf_model.specs.Measures.{pairs_weight, pairs_nesting};
 ghost use Rattle.muf_model.specs.Entries.{key_same, entry_of, with_entry, entry_place, has_key, Rising};
 ghost use Rattle.muf_model.specs.Values.{IsValue, IsSized, Becomes};

@@ -1,7 +1,7 @@
 // The size of values, where one is put in place of another.
 ghost use Rattle.std.specs.Prelude.{◌≡◌, ◌≤◌, ◌<◌, map, length, slice_set, get_or};
 ghost use Rattle.muf_model.specs.Datum.{Datum, data_of};
-ghost use Rattle.muf_model.specs.View.{view, value_view};
+ghost use Rattle.muf_model.specs.inner.View.{view, value_view};
 ghost use Rattle.muf_model.specs.Measures.{data_weight, data_nesting};
 ghost use Rattle.muf_model.specs.Values.{IsValue};
 

@@ -1,6 +1,6 @@
 // The kinds of values.
 ghost use Rattle.std.specs.Prelude.{◌≡◌};
-ghost use Rattle.muf_model.specs.View.{view};
+ghost use Rattle.muf_model.specs.inner.View.{view};
 ghost use Rattle.muf_model.specs.Kinds.{kind_of};
 
 use crate::Value;

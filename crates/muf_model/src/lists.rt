@@ -4,7 +4,7 @@ ghost use Rattle.std.specs.Option.{option_copied};
 ghost use Rattle.std.specs.Arc.{arc_value};
 ghost use Rattle.muf_model.specs.declared.size.ValueFault.TheVariants as refused;
 ghost use Rattle.muf_model.specs.Datum.{items as whole, data_of};
-ghost use Rattle.muf_model.specs.View.{view};
+ghost use Rattle.muf_model.specs.inner.View.{view};
 ghost use Rattle.muf_model.specs.Measures.{data_weight, data_nesting};
 ghost use Rattle.muf_model.specs.Values.{IsValue, IsSized, HasSize, Makes, Becomes};
 

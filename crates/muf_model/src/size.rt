@@ -1,6 +1,6 @@
 // Weight and nesting of values.
 ghost use Rattle.std.specs.Prelude.{◌≡◌, ◌≤◌, ◌+◌, max};
-ghost use Rattle.muf_model.specs.View.{view};
+ghost use Rattle.muf_model.specs.inner.View.{view};
 ghost use Rattle.muf_model.specs.Measures.{weight, nesting};
 ghost use Rattle.muf_model.specs.Values.{IsValue, size_fits};
 

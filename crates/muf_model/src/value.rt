@@ -1,6 +1,6 @@
 // The values of a program.
 ghost use Rattle.std.specs.Prelude.{◌≡◌, IfOk};
-ghost use Rattle.muf_model.specs.View.{view};
+ghost use Rattle.muf_model.specs.inner.View.{view};
 ghost use Rattle.muf_model.specs.Measures.{is_true, key_below};
 ghost use Rattle.muf_model.specs.StackRows.{truth};
 
@@ -36,13 +36,13 @@ pub struct ValueList {
 impl Model for ValueList {
     ghost use Rattle.std.specs.Prelude.{List, map};
     ghost use Rattle.muf_model.specs.Datum.{Datum, items as list, data_of};
-    ghost use Rattle.muf_model.specs.Codes.{values_code};
+    ghost use Rattle.muf_model.specs.inner.Codes.{values_code};
 
     ghost Value = { List Datum };
 
     ghost coded = { values_code };
 
-    ghost use Rattle.muf_model.specs.View.{view as seen};
+    ghost use Rattle.muf_model.specs.inner.View.{view as seen};
     ghost use Rattle.muf_model.specs.Measures.{data_weight};
     ghost use Rattle.muf_model.specs.Values.{IsSized};
 
@@ -53,7 +53,7 @@ impl Model for ValueList {
     ghost size = { λ ds. data_weight (data_of ds) };
 
     ghost use Rattle.std.proofs.Common.{arith};
-    ghost use Rattle.muf_model.specs.Sizes.{values_deep};
+    ghost use Rattle.muf_model.specs.inner.Sizes.{values_deep};
 
     ghost size_decreases = { λ l h. omega (arith, values_deep l.items.items) };
 }
@@ -71,13 +71,13 @@ impl Model for ValueMap {
     ghost use Rattle.std.specs.Prelude.{List, map};
     ghost use Rattle.muf_model.specs.declared.value.MapKey.{MapKey};
     ghost use Rattle.muf_model.specs.Datum.{Datum, dict, pairs_of};
-    ghost use Rattle.muf_model.specs.Codes.{entries_code};
+    ghost use Rattle.muf_model.specs.inner.Codes.{entries_code};
 
     ghost Value = { List (MapKey × Datum) };
 
     ghost coded = { entries_code };
 
-    ghost use Rattle.muf_model.specs.View.{pair_view};
+    ghost use Rattle.muf_model.specs.inner.View.{pair_view};
     ghost use Rattle.muf_model.specs.Measures.{pairs_weight};
     ghost use Rattle.muf_model.specs.Values.{IsSized};
 
@@ -88,7 +88,7 @@ impl Model for ValueMap {
     ghost size = { λ es. pairs_weight (pairs_of es) };
 
     ghost use Rattle.std.proofs.Common.{arith};
-    ghost use Rattle.muf_model.specs.Sizes.{pairs_deep};
+    ghost use Rattle.muf_model.specs.inner.Sizes.{pairs_deep};
 
     ghost size_decreases = { λ m h. omega (arith, pairs_deep m.pairs.items) };
 }

@@ -6,16 +6,16 @@ use Rattle.muf_model.specs.declared.code.Placed.{Placed}
 use Rattle.muf_model.specs.declared.code.Code.{Code}
 use Rattle.muf_model.specs.Source.{Source}
 use Rattle.muf_model.specs.Unit.{unit}
-use Rattle.muf_model.specs.Flat.{Flat}
-use Rattle.muf_model.specs.Fits.{FitsState}
-use Rattle.muf_run.specs.Alike.{EndsAlike}
+use Rattle.muf_model.specs.inner.Flat.{Flat}
+use Rattle.muf_model.specs.inner.Fits.{FitsState}
+use Rattle.muf_run.specs.inner.Alike.{EndsAlike}
 use Rattle.muf_run.specs.declared.ran.Step.{Step}
 use Rattle.muf_run.specs.declared.ran.Step.TheVariants.{Went, Over}
-use Rattle.muf_run.specs.Ends.{UnitEnds, StepEnds}
-use Rattle.muf_run.specs.Machine as machine
+use Rattle.muf_run.specs.inner.Ends.{UnitEnds, StepEnds}
+use Rattle.muf_run.specs.inner.Machine as machine
 use Rattle.muf_run.specs.declared.ran.Ran.{Ran}
 use Rattle.muf_run.specs.declared.ran.Ran.TheVariants.{Going}
-use Rattle.muf_run.specs.Machine.{Next, going, next_of}
+use Rattle.muf_run.specs.inner.Machine.{Next, going, next_of}
 use Rattle.muf_run.proofs.Lockstep.{instr_fits}
 
 -- an instruction that goes on is a unit of the source

@@ -23,21 +23,21 @@ use Rattle.muf_model.specs.Answer.{Answer, gives, stores, calls as calling_answe
 use Rattle.muf_model.specs.StackRows.{stored}
 use Rattle.muf_model.specs.Rows.{primitive}
 use Rattle.muf_model.specs.Tree.{Fork, if_word, try_word, begin_word, for_word, each_word, Block, stop, word, when, fork, ring, End, closes, hops, then_block, Definition}
-use Rattle.muf_model.specs.Stands.{Stands, Remains, IsAt, hop_instr, fork_instr, ring_instr, WordsStand, TreeStands}
-use Rattle.muf_model.specs.Decode.{placed_or}
+use Rattle.muf_model.specs.inner.Stands.{Stands, Remains, IsAt, hop_instr, fork_instr, ring_instr, WordsStand, TreeStands}
+use Rattle.muf_model.specs.inner.Decode.{placed_or}
 use Rattle.muf_model.specs.Source as source
 use Rattle.muf_model.specs.Source.{Turns, plain, indices, pairs, Program, Mark, looping, trying, calling, entering, Owned, Source, zeros, locked_of, calls_of, open_of, owned_by, with_owned}
 use Rattle.muf_model.specs.Unit as source_unit
 use Rattle.muf_model.specs.Unit.{Outcome, goes, ended, faulted, asks, calls_most, open_most, constant, has_turn, next_index, numbered, keyed, unit}
-use Rattle.muf_model.specs.Flat.{FlatMark, loop, Flat}
-use Rattle.muf_model.specs.Fits.{MarksFit, none, loops, tries, calls, enters, FitsState, fit}
+use Rattle.muf_model.specs.inner.Flat.{FlatMark, loop, Flat}
+use Rattle.muf_model.specs.inner.Fits.{MarksFit, none, loops, tries, calls, enters, FitsState, fit}
 use Rattle.muf_model.proofs.Standing.{stands_map, joins}
-use Rattle.muf_frame.specs.Shown.{locked_by, calls_by, opened_by}
-use Rattle.muf_frame.specs.Moves.{unwound, scope_of}
-use Rattle.muf_frame.specs.Answers.{int_at}
-use Rattle.muf_run.specs.Machine as machine
-use Rattle.muf_run.specs.Machine.{Next, going, at_end, broken, asking, stuck, after_fault}
-use Rattle.muf_run.specs.Alike.{EndsAlike}
+use Rattle.muf_frame.specs.inner.Shown.{locked_by, calls_by, opened_by}
+use Rattle.muf_frame.specs.inner.Moves.{unwound, scope_of}
+use Rattle.muf_frame.specs.inner.Answers.{int_at}
+use Rattle.muf_run.specs.inner.Machine as machine
+use Rattle.muf_run.specs.inner.Machine.{Next, going, at_end, broken, asking, stuck, after_fault}
+use Rattle.muf_run.specs.inner.Alike.{EndsAlike}
 
 -- a frame and the state that it stands for, where the variables of the calls below the innermost one stand apart
 abbrev flat_at : List Datum → List Datum → List Owned → List Datum → List Datum → Program → ℕ → List FlatMark → Flat

@@ -17,20 +17,20 @@ use Rattle.muf_model.specs.Needs.{a_variable, any}
 use Rattle.muf_model.specs.StackRows.{stored, storing}
 use Rattle.muf_model.specs.Rows.{primitive}
 use Rattle.muf_model.specs.Source.{Owned, owned_by, with_owned}
-use Rattle.muf_model.specs.Flat.{Flat}
-use Rattle.muf_frame.specs.Shown.{locked_by}
-use Rattle.muf_frame.specs.Moves.{scope_of, with_variable}
-use Rattle.muf_frame.specs.Answers.{Became}
+use Rattle.muf_model.specs.inner.Flat.{Flat}
+use Rattle.muf_frame.specs.inner.Shown.{locked_by}
+use Rattle.muf_frame.specs.inner.Moves.{scope_of, with_variable}
+use Rattle.muf_frame.specs.inner.Answers.{Became}
 use Rattle.muf_frame.proofs.Data.{get_drop}
 use Rattle.muf_frame.proofs.Ladders.{used_whole}
 use Rattle.muf_array.specs.declared.changers.Changer.{Changer}
 use Rattle.muf_array.specs.declared.changers.Changer.TheVariants.{SetItem, InsertItem, AppendItem, DelItem}
 use Rattle.muf_array.proofs.Taking.{enough}
-use Rattle.muf_array.specs.Open.{prim_of, taken_by, IsOpen}
-use Rattle.muf_run.specs.Machine as machine
-use Rattle.muf_run.specs.Machine.{going}
-use Rattle.muf_run.specs.Ends.{UnitEnds, Leads}
-use Rattle.muf_run.specs.Storing.{HasWord, Stores, Stored}
+use Rattle.muf_array.specs.inner.Open.{prim_of, taken_by, IsOpen}
+use Rattle.muf_run.specs.inner.Machine as machine
+use Rattle.muf_run.specs.inner.Machine.{going}
+use Rattle.muf_run.specs.inner.Ends.{UnitEnds, Leads}
+use Rattle.muf_run.specs.inner.Storing.{HasWord, Stores, Stored}
 use Rattle.muf_run.proofs.GoesOn.{quick_fits}
 
 -- ---- the variables of a program

@@ -4,17 +4,17 @@ use Rattle.std.specs.Prelude.{Result, Ok, Err, IfOk}
 use Rattle.muf_model.specs.declared.code.Code.{Code}
 use Rattle.muf_model.specs.Source.{Source}
 use Rattle.muf_model.specs.Unit.{Outcome, goes, ended, faulted, asks, stuck, unit, units, and_then}
-use Rattle.muf_model.specs.Nested.{Nested, StaysNested}
-use Rattle.muf_model.specs.Flat.{Flat, decode}
-use Rattle.muf_model.specs.Fits.{FitsState, Fits}
+use Rattle.muf_model.specs.inner.Nested.{Nested, StaysNested}
+use Rattle.muf_model.specs.inner.Flat.{Flat, decode}
+use Rattle.muf_model.specs.inner.Fits.{FitsState, Fits}
 use Rattle.muf_model.proofs.Decoded.{decoded, fits}
 use Rattle.muf_model.proofs.Nesting.{unit_nested}
 use Rattle.muf_run.specs.declared.ran.Ran.{Ran}
 use Rattle.muf_run.specs.declared.ran.Ran.TheVariants.{Going, Ended, Faulted, Shared, Stuck}
-use Rattle.muf_run.specs.Machine.{next_of, going}
-use Rattle.muf_run.specs.Alike.{EndsAlike}
-use Rattle.muf_run.specs.Ends.{Leads}
-use Rattle.muf_run.specs.Runs.{RunsAlike, count, taken, local_of, last_of}
+use Rattle.muf_run.specs.inner.Machine.{next_of, going}
+use Rattle.muf_run.specs.inner.Alike.{EndsAlike}
+use Rattle.muf_run.specs.inner.Ends.{Leads}
+use Rattle.muf_run.specs.inner.Runs.{RunsAlike, count, taken, local_of, last_of}
 
 -- a unit that goes on leaves a nested state for which the frame stands
 pub going_on : (codes : List Code) (f : Flat) (o : Outcome) → StaysNested o → EndsAlike codes (going 0 f) o → (t : Source) × FitsState codes f t × Nested t × (o ≡ goes 0 t)

@@ -5,20 +5,20 @@ use Rattle.std.proofs.lemmas.Bool.{lt-ltb, le-ltb}
 use Rattle.std.specs.Option.{option_map}
 use Rattle.std.proofs.lemmas.List.{length-map}
 use Rattle.muf_model.specs.declared.value.Value.{Value}
-use Rattle.muf_model.specs.View.{view}
+use Rattle.muf_model.specs.inner.View.{view}
 use Rattle.muf_model.specs.declared.fault.MufFault.TheVariants.{CallsFull, BadType, BadArgument}
 use Rattle.muf_model.specs.Datum.{Datum}
 use Rattle.muf_model.specs.declared.code.Code.{Code}
 use Rattle.muf_model.specs.Answer.{Answer, gives, stores, calls, refuses, variable_at}
 use Rattle.muf_model.specs.Source.{Turns}
-use Rattle.muf_model.specs.Flat.{loop, Flat}
-use Rattle.muf_frame.specs.Shown.{locked_by, opened_by}
-use Rattle.muf_frame.specs.Answers.{Became}
-use Rattle.muf_frame.specs.Moves.{scope_of, with_variable}
+use Rattle.muf_model.specs.inner.Flat.{loop, Flat}
+use Rattle.muf_frame.specs.inner.Shown.{locked_by, opened_by}
+use Rattle.muf_frame.specs.inner.Answers.{Became}
+use Rattle.muf_frame.specs.inner.Moves.{scope_of, with_variable}
 use Rattle.muf_frame.proofs.Data.{lowest_data, left_data}
 use Rattle.muf_frame.proofs.Ladders.{used_plain}
-use Rattle.muf_run.specs.Machine as machine
-use Rattle.muf_run.specs.Machine.{Next, going}
+use Rattle.muf_run.specs.inner.Machine as machine
+use Rattle.muf_run.specs.inner.Machine.{Next, going}
 
 pub ruleset count_steps = (length-drop)
 

@@ -5,13 +5,13 @@ use Rattle.muf_model.specs.declared.value.Value.{Value}
 use Rattle.muf_model.specs.declared.value.Pair.{Pair}
 use Rattle.muf_model.specs.declared.value.MapKey.{MapKey}
 use Rattle.muf_model.specs.Datum.{Datum, int, data_of, pairs_of}
-use Rattle.muf_model.specs.View.{view, pair_view}
+use Rattle.muf_model.specs.inner.View.{view, pair_view}
 use Rattle.muf_model.specs.Source.{pairs}
 use Rattle.muf_model.specs.Entries.{key_datum}
 use Rattle.muf_model.specs.Unit.{numbered, keyed}
-use Rattle.muf_model.specs.Flat.{FlatMark, loop, Flat}
-use Rattle.muf_run.specs.Machine as machine
-use Rattle.muf_run.specs.Keys.{pull, turn_with}
+use Rattle.muf_model.specs.inner.Flat.{FlatMark, loop, Flat}
+use Rattle.muf_run.specs.inner.Machine as machine
+use Rattle.muf_run.specs.inner.Keys.{pull, turn_with}
 
 pub values_end : (xs : List Value) (n at : ℕ) → slice_get xs at ≡ None → drop at (numbered n (data_of (map view xs))) ≡ []
 values_end [] n zero e = refl

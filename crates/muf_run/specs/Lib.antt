@@ -1,6 +1,1 @@
-pub mod Machine
-pub mod Alike
-pub mod Keys
-pub mod Runs
-pub mod Ends
-pub mod Storing
+pub mod inner

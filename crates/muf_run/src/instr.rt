@@ -3,13 +3,13 @@ ghost use Rattle.std.specs.Prelude.{◌≡◌, true, IfOk, slice_get, length};
 ghost use Rattle.muf_model.specs.declared.prims.Family.TheVariants as family;
 ghost use Rattle.muf_model.specs.Prims.{family_of, is_local};
 ghost use Rattle.muf_model.specs.Rows.{primitive};
-ghost use Rattle.muf_model.specs.View.{view};
+ghost use Rattle.muf_model.specs.inner.View.{view};
 ghost use Rattle.muf_model.specs.Unit.{constant};
 ghost use Rattle.muf_model.specs.Datum.{address};
-ghost use Rattle.muf_frame.specs.Shown.{flat};
-ghost use Rattle.muf_frame.specs.Moves.{scope_of};
-ghost use Rattle.muf_run.specs.Machine as machine;
-ghost use Rattle.muf_run.specs.Machine.{next_of};
+ghost use Rattle.muf_frame.specs.inner.Shown.{flat};
+ghost use Rattle.muf_frame.specs.inner.Moves.{scope_of};
+ghost use Rattle.muf_run.specs.inner.Machine as machine;
+ghost use Rattle.muf_run.specs.inner.Machine.{next_of};
 
 use crate::items::{bind, call, keep, push, test};
 use crate::keys::{open_each, pair_test};

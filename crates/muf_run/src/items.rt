@@ -1,10 +1,10 @@
 // Words that take or push items.
 ghost use Rattle.std.specs.Prelude.{◌≡◌, ℕ, IfOk, slice_get, length, map};
-ghost use Rattle.muf_model.specs.View.{view};
-ghost use Rattle.muf_model.specs.Flat.{Flat};
-ghost use Rattle.muf_frame.specs.Shown.{flat};
-ghost use Rattle.muf_run.specs.Machine as machine;
-ghost use Rattle.muf_run.specs.Machine.{Next, next_of, tested_as};
+ghost use Rattle.muf_model.specs.inner.View.{view};
+ghost use Rattle.muf_model.specs.inner.Flat.{Flat};
+ghost use Rattle.muf_frame.specs.inner.Shown.{flat};
+ghost use Rattle.muf_run.specs.inner.Machine as machine;
+ghost use Rattle.muf_run.specs.inner.Machine.{Next, next_of, tested_as};
 
 use crate::marks::fault;
 use crate::ran::Ran;

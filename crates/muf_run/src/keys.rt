@@ -2,13 +2,13 @@
 ghost use Rattle.std.specs.Prelude.{◌≡◌, ◌<◌, ◌+◌, ℕ, IfOk, slice_get, length, map, is_some, drop, option_map, option_copied, IfSome, pos};
 ghost use Rattle.std.specs.Arc.{arc_value};
 ghost use Rattle.muf_model.specs.Datum.{int, data_of, pairs_of};
-ghost use Rattle.muf_model.specs.View.{view};
+ghost use Rattle.muf_model.specs.inner.View.{view};
 ghost use Rattle.muf_model.specs.Unit.{numbered, keyed};
-ghost use Rattle.muf_model.specs.Flat.{Flat};
-ghost use Rattle.muf_frame.specs.Shown.{flat, flat_turns, opened_by};
-ghost use Rattle.muf_run.specs.Keys.{pull, pulled_data, turn_with};
-ghost use Rattle.muf_run.specs.Machine as machine;
-ghost use Rattle.muf_run.specs.Machine.{next_of};
+ghost use Rattle.muf_model.specs.inner.Flat.{Flat};
+ghost use Rattle.muf_frame.specs.inner.Shown.{flat, flat_turns, opened_by};
+ghost use Rattle.muf_run.specs.inner.Keys.{pull, pulled_data, turn_with};
+ghost use Rattle.muf_run.specs.inner.Machine as machine;
+ghost use Rattle.muf_run.specs.inner.Machine.{next_of};
 
 use crate::marks::fault;
 use crate::ran::Ran;

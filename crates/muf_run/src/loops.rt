@@ -1,11 +1,11 @@
 // Loops and TRYs.
 ghost use Rattle.std.specs.Prelude.{◌≡◌, ◌<◌, ◌^◌, ℕ, IfOk, slice_get, length, map, Some, pos};
-ghost use Rattle.muf_model.specs.View.{view};
+ghost use Rattle.muf_model.specs.inner.View.{view};
 ghost use Rattle.muf_model.specs.Unit.{has_turn, next_index};
-ghost use Rattle.muf_model.specs.Flat.{Flat};
-ghost use Rattle.muf_frame.specs.Shown.{flat};
-ghost use Rattle.muf_run.specs.Machine as machine;
-ghost use Rattle.muf_run.specs.Machine.{next_of};
+ghost use Rattle.muf_model.specs.inner.Flat.{Flat};
+ghost use Rattle.muf_frame.specs.inner.Shown.{flat};
+ghost use Rattle.muf_run.specs.inner.Machine as machine;
+ghost use Rattle.muf_run.specs.inner.Machine.{next_of};
 
 use crate::items::push;
 use crate::marks::{fault, leave_loop};

@@ -1,8 +1,8 @@
 // Faults, and words that leave what encloses them.
 ghost use Rattle.std.specs.Prelude.{◌≡◌, IfOk};
-ghost use Rattle.muf_frame.specs.Shown.{flat};
-ghost use Rattle.muf_run.specs.Machine as machine;
-ghost use Rattle.muf_run.specs.Machine.{next_of};
+ghost use Rattle.muf_frame.specs.inner.Shown.{flat};
+ghost use Rattle.muf_run.specs.inner.Machine as machine;
+ghost use Rattle.muf_run.specs.inner.Machine.{next_of};
 
 use crate::ran::Ran;
 use muck_model::NoMemory;

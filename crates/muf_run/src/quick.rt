@@ -2,15 +2,15 @@
 ghost use Rattle.std.specs.Prelude.{◌≡◌, IsTrue, IsFalse, length};
 ghost use Rattle.muf_model.specs.declared.code.Code.{Code as Codes};
 ghost use Rattle.muf_model.specs.declared.code.Word.TheVariants.{Primitive};
-ghost use Rattle.muf_model.specs.Flat.{Flat};
+ghost use Rattle.muf_model.specs.inner.Flat.{Flat};
 ghost use Rattle.muf_model.specs.Datum.{int};
 ghost use Rattle.muf_model.specs.Rows.{primitive};
 ghost use Rattle.muf_model.specs.declared.prims.Primitive.TheVariants.{Pop, Dup, Swap, Add};
-ghost use Rattle.muf_frame.specs.Shown.{flat};
-ghost use Rattle.muf_frame.specs.Moves.{scope_of};
-ghost use Rattle.muf_run.specs.Ends.{UnitEnds};
-ghost use Rattle.muf_run.specs.Machine as machine;
-ghost use Rattle.muf_run.specs.Machine.{going};
+ghost use Rattle.muf_frame.specs.inner.Shown.{flat};
+ghost use Rattle.muf_frame.specs.inner.Moves.{scope_of};
+ghost use Rattle.muf_run.specs.inner.Ends.{UnitEnds};
+ghost use Rattle.muf_run.specs.inner.Machine as machine;
+ghost use Rattle.muf_run.specs.inner.Machine.{going};
 
 use crate::loops::{has_turn, next_index};
 use crate::run::fetch;

@@ -3,15 +3,15 @@ ghost use Rattle.std.specs.Prelude.{◌≡◌, ◌<◌, ◌+◌, ℕ, List, ◌�
 ghost use Rattle.muf_model.specs.declared.code.Code.{Code};
 ghost use Rattle.muf_model.specs.Source.{Source};
 ghost use Rattle.muf_model.specs.Unit.{unit, units};
-ghost use Rattle.muf_model.specs.Flat.{decode};
-ghost use Rattle.muf_model.specs.Fits.{FitsState, Fits};
-ghost use Rattle.muf_frame.specs.Shown.{flat};
+ghost use Rattle.muf_model.specs.inner.Flat.{decode};
+ghost use Rattle.muf_model.specs.inner.Fits.{FitsState, Fits};
+ghost use Rattle.muf_frame.specs.inner.Shown.{flat};
 ghost use Rattle.muf_run.specs.declared.ran.Ran.TheVariants.{Going};
-ghost use Rattle.muf_run.specs.Alike.{EndsAlike};
-ghost use Rattle.muf_run.specs.Ends.{StepEnds};
-ghost use Rattle.muf_run.specs.Runs.{Passed, RunsAlike, taken, local_of, last_of};
-ghost use Rattle.muf_run.specs.Machine as machine;
-ghost use Rattle.muf_run.specs.Machine.{next_of, going};
+ghost use Rattle.muf_run.specs.inner.Alike.{EndsAlike};
+ghost use Rattle.muf_run.specs.inner.Ends.{StepEnds};
+ghost use Rattle.muf_run.specs.inner.Runs.{Passed, RunsAlike, taken, local_of, last_of};
+ghost use Rattle.muf_run.specs.inner.Machine as machine;
+ghost use Rattle.muf_run.specs.inner.Machine.{next_of, going};
 
 use crate::instr::instr;
 use crate::marks::fault;

@@ -2,13 +2,13 @@
 // while it is changed.
 ghost use Rattle.std.specs.Prelude.{◌≡◌, ◌<◌, true, IfOk, IfSome, IsTrue, IsFalse, OnOk, is_some, length};
 ghost use Rattle.muf_model.specs.Answer.{variable_at as value_of};
-ghost use Rattle.muf_frame.specs.Shown.{flat};
-ghost use Rattle.muf_frame.specs.Moves.{scope_of};
+ghost use Rattle.muf_frame.specs.inner.Shown.{flat};
+ghost use Rattle.muf_frame.specs.inner.Moves.{scope_of};
 ghost use Rattle.muf_model.specs.declared.code.Word.TheVariants.{Primitive, Variable};
 ghost use Rattle.muf_model.specs.declared.prims.Primitive.TheVariants.{Store};
-ghost use Rattle.muf_array.specs.Open.{prim_of, IsOpen};
-ghost use Rattle.muf_run.specs.Ends.{Leads};
-ghost use Rattle.muf_run.specs.Storing.{HasWord, Stores, Stored};
+ghost use Rattle.muf_array.specs.inner.Open.{prim_of, IsOpen};
+ghost use Rattle.muf_run.specs.inner.Ends.{Leads};
+ghost use Rattle.muf_run.specs.inner.Storing.{HasWord, Stores, Stored};
 
 use muck_model::NoMemory;
 use muf_array::Changer;

@@ -2,8 +2,8 @@
 use Rattle.std.proofs.Common.{subst, sym}
 use Rattle.std.specs.Prelude.{Result, Ok, Err}
 use Rattle.muf_model.specs.declared.code.Code.{Code}
-use Rattle.muf_model.specs.Decode.{tree_of}
-use Rattle.muf_model.specs.Stands.{TreeStands}
+use Rattle.muf_model.specs.inner.Decode.{tree_of}
+use Rattle.muf_model.specs.inner.Stands.{TreeStands}
 use Rattle.muf_model.specs.Tree.{Tree}
 use Rattle.muf_model.proofs.Unique.{tree_read}
 use Rattle.muf_compile.specs.declared.fault.Refusal.{Refusal}

@@ -16,37 +16,37 @@ use Rattle.muf_model.specs.declared.fault.MufFault.{MufFault}
 use Rattle.muf_model.specs.Answer.{stack_most, too_few, variable_at}
 use Rattle.muf_model.specs.Chains.{programs_of, Keeps}
 use Rattle.muf_model.specs.Datum.{Datum, mark}
-use Rattle.muf_model.specs.Decode.{tree_of, definition_at}
-use Rattle.muf_model.specs.Fits.{MarksFit, none, enters, FitsState, fit}
-use Rattle.muf_model.specs.Flat.{FlatMark, Flat, decode, first_code}
+use Rattle.muf_model.specs.inner.Decode.{tree_of, definition_at}
+use Rattle.muf_model.specs.inner.Fits.{MarksFit, none, enters, FitsState, fit}
+use Rattle.muf_model.specs.inner.Flat.{FlatMark, Flat, decode, first_code}
 use Rattle.muf_model.specs.Source.{Program, Mark, Owned, Source, locked_of, handed, passed, passed_at, entered, started, last_word}
-use Rattle.muf_model.specs.Stands.{Remains, TreeStands, WordStands, WordsStand}
+use Rattle.muf_model.specs.inner.Stands.{Remains, TreeStands, WordStands, WordsStand}
 use Rattle.muf_model.specs.Tree.{Block, stop, word, when, fork, ring, End}
-use Rattle.muf_model.specs.Nesting.{outside, NestedBlock, NestedWords}
-use Rattle.muf_model.specs.Nested.{Nested, StaysNested}
+use Rattle.muf_model.specs.inner.Nesting.{outside, NestedBlock, NestedWords}
+use Rattle.muf_model.specs.inner.Nested.{Nested, StaysNested}
 use Rattle.muf_model.specs.Unit.{Outcome, goes, ended, faulted, asks, stuck, units, fault}
 use Rattle.muf_model.proofs.Chains.{units_keep, fault_keeps}
 use Rattle.muf_model.proofs.Nesting.{fault_nested, entered_nested, started_nested, passed_nested, units_nested}
 use Rattle.muf_model.proofs.Decoded.{decoded, fits}
-use Rattle.muf_model.specs.View.{view}
-use Rattle.muf_frame.specs.Shown.{Shown, flat, locked_by}
-use Rattle.muf_frame.specs.Moves as moves
-use Rattle.muf_frame.specs.Moves.{caught}
+use Rattle.muf_model.specs.inner.View.{view}
+use Rattle.muf_frame.specs.inner.Shown.{Shown, flat, locked_by}
+use Rattle.muf_frame.specs.inner.Moves as moves
+use Rattle.muf_frame.specs.inner.Moves.{caught}
 use Rattle.muf_frame.proofs.Tops.{above_height}
-use Rattle.muf_run.specs.Alike.{EndsAlike}
-use Rattle.muf_run.specs.Machine.{after_fault}
-use Rattle.muf_run.specs.Runs.{RunsAlike}
+use Rattle.muf_run.specs.inner.Alike.{EndsAlike}
+use Rattle.muf_run.specs.inner.Machine.{after_fault}
+use Rattle.muf_run.specs.inner.Runs.{RunsAlike}
 use Rattle.muf_run.specs.declared.run.Local.{Local}
 use Rattle.muf_run.specs.declared.run.Local.TheVariants as local
 use Rattle.muf_run.proofs.Lockstep.{fault_fits, locked_fits, calls_fits}
 use Rattle.muf_running.specs.declared.entered.Entered.{Entered}
 use Rattle.muf_running.specs.declared.begin.Start.{Start}
 use Rattle.muf_running.specs.Begins.{StartsIn, StartsAt}
-use Rattle.muf_running.specs.Fitting.{codes_of, numbers_of, numbers_in, number_among, program_with, ProgramsFit, IsAtPrimitive}
+use Rattle.muf_running.specs.inner.Fitting.{codes_of, numbers_of, numbers_in, number_among, program_with, ProgramsFit, IsAtPrimitive}
 use Rattle.muf_running.specs.declared.stint.Ran.{Ran}
 use Rattle.muf_running.specs.declared.stint.Ran.TheVariants.{Going, Asking, Ended, Faulted}
-use Rattle.muf_running.specs.Stints.{RanAlike, AskedAt, LeftAt, LocalFits}
-use Rattle.muf_running.specs.Lending.{Shows, Apart, Differs, with_frame}
+use Rattle.muf_running.specs.inner.Stints.{RanAlike, AskedAt, LeftAt, LocalFits}
+use Rattle.muf_running.specs.inner.Lending.{Shows, Apart, Differs, with_frame}
 
 -- there is a running program
 pub first_there : {cs : List Code} {f : Flat} {s : Source} → FitsState cs f s → cs ≡ first_code cs ∷ drop 1 cs

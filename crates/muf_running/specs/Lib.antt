@@ -1,4 +1,2 @@
-pub mod Fitting
+pub mod inner
 pub mod Begins
-pub mod Stints
-pub mod Lending

@@ -1,13 +1,13 @@
 // The beginning of a process.
 ghost use Rattle.std.specs.Prelude.{◌≡◌, ◌<◌, IfOk, length, slice_set};
 ghost use Rattle.std.specs.Option.{option_map};
-ghost use Rattle.muf_model.specs.Decode.{tree_of};
+ghost use Rattle.muf_model.specs.inner.Decode.{tree_of};
 ghost use Rattle.muf_model.specs.Source.{started, last_word};
-ghost use Rattle.muf_model.specs.Stands.{TreeStands};
-ghost use Rattle.muf_model.specs.View.{view};
-ghost use Rattle.muf_frame.specs.Shown.{flat};
-ghost use Rattle.muf_frame.specs.Moves.{fresh};
-ghost use Rattle.muf_running.specs.Fitting.{program_with};
+ghost use Rattle.muf_model.specs.inner.Stands.{TreeStands};
+ghost use Rattle.muf_model.specs.inner.View.{view};
+ghost use Rattle.muf_frame.specs.inner.Shown.{flat};
+ghost use Rattle.muf_frame.specs.inner.Moves.{fresh};
+ghost use Rattle.muf_running.specs.inner.Fitting.{program_with};
 ghost use Rattle.muf_running.specs.Begins.{common_of, StartsAt};
 
 use crate::Running;

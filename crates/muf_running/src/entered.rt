@@ -2,7 +2,7 @@
 ghost use Rattle.std.specs.Prelude.{◌≡◌, IfOk, map, reverse, drop};
 ghost use Rattle.std.specs.List.{list_any};
 ghost use Rattle.std.specs.Ordering.{int_eq};
-ghost use Rattle.muf_running.specs.Fitting.{numbers_of};
+ghost use Rattle.muf_running.specs.inner.Fitting.{numbers_of};
 
 use muck_model::{Dbref, NoMemory, Row};
 use muf_model::{Code, Shared};

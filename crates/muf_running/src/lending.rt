@@ -1,9 +1,9 @@
 // The frame of a program that runs, lent.
 ghost use Rattle.std.specs.Prelude.{◌≡◌};
-ghost use Rattle.muf_model.specs.Flat.{Flat};
+ghost use Rattle.muf_model.specs.inner.Flat.{Flat};
 ghost use Rattle.muf_model.specs.Source.{Source};
-ghost use Rattle.muf_frame.specs.Shown.{flat};
-ghost use Rattle.muf_running.specs.Lending.{Shows, Apart, Differs, Rejoins, with_frame};
+ghost use Rattle.muf_frame.specs.inner.Shown.{flat};
+ghost use Rattle.muf_running.specs.inner.Lending.{Shows, Apart, Differs, Rejoins, with_frame};
 
 use crate::Running;
 use crate::entered::Entered;

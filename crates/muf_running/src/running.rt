@@ -1,14 +1,14 @@
 // A program that runs, and what it shows.
 ghost use Rattle.std.specs.Prelude.{◌≡◌, ◌<◌, ◌≤◌, IfOk, drop, length, map, reverse, slice_get, Some};
 ghost use Rattle.std.specs.Option.{option_map};
-ghost use Rattle.muf_model.specs.Decode.{tree_of};
-ghost use Rattle.muf_model.specs.Flat.{decode, first_code};
+ghost use Rattle.muf_model.specs.inner.Decode.{tree_of};
+ghost use Rattle.muf_model.specs.inner.Flat.{decode, first_code};
 ghost use Rattle.muf_model.specs.Source.{calls_of, handed, passed, entered};
-ghost use Rattle.muf_model.specs.View.{view};
-ghost use Rattle.muf_model.specs.Stands.{TreeStands};
+ghost use Rattle.muf_model.specs.inner.View.{view};
+ghost use Rattle.muf_model.specs.inner.Stands.{TreeStands};
 ghost use Rattle.muf_model.specs.Chains.{callers_of};
-ghost use Rattle.muf_frame.specs.Shown.{flat};
-ghost use Rattle.muf_running.specs.Fitting.{codes_of, ProgramsFit, program_with, numbers_in, number_among, IsAtPrimitive};
+ghost use Rattle.muf_frame.specs.inner.Shown.{flat};
+ghost use Rattle.muf_running.specs.inner.Fitting.{codes_of, ProgramsFit, program_with, numbers_in, number_among, IsAtPrimitive};
 
 use crate::begin::start_of;
 use crate::entered::{Entered, copy_entered, has_program, numbers_below};
@@ -31,15 +31,15 @@ impl Model for Running {
     ghost use Rattle.std.specs.Prelude.{reverse};
     ghost use Rattle.std.specs.Coded.{codes};
     ghost use Rattle.muf_model.specs.Source.{Source};
-    ghost use Rattle.muf_model.specs.Codes.{datum_code, block_code, end_code};
-    ghost use Rattle.muf_model.specs.Flat.{decode};
-    ghost use Rattle.muf_frame.specs.Shown.{flat};
+    ghost use Rattle.muf_model.specs.inner.Codes.{datum_code, block_code, end_code};
+    ghost use Rattle.muf_model.specs.inner.Flat.{decode};
+    ghost use Rattle.muf_frame.specs.inner.Shown.{flat};
 
     ghost Value = { Source };
 
     ghost coded = { Prim.hlevel (codes, datum_code, block_code, end_code) };
 
-    ghost use Rattle.muf_running.specs.Fitting.{codes_of, ProgramsFit};
+    ghost use Rattle.muf_running.specs.inner.Fitting.{codes_of, ProgramsFit};
 
     ghost view = { λ r. decode (codes_of (reverse r.programs.items)) (flat r.frame) };
 

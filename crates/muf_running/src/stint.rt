@@ -1,12 +1,12 @@
 // Many units of a program that runs, and faults.
 ghost use Rattle.std.specs.Prelude.{◌≡◌, IfOk, List, ◌∷◌, reverse, length, ◌<◌, drop};
 ghost use Rattle.muf_model.specs.Chains.{taken};
-ghost use Rattle.muf_model.specs.Flat.{decode, Flat};
-ghost use Rattle.muf_model.specs.Nested.{StaysNested};
+ghost use Rattle.muf_model.specs.inner.Flat.{decode, Flat};
+ghost use Rattle.muf_model.specs.inner.Nested.{StaysNested};
 ghost use Rattle.muf_model.specs.Unit.{Outcome, units, fault};
-ghost use Rattle.muf_frame.specs.Shown.{flat};
-ghost use Rattle.muf_running.specs.Fitting.{codes_of, ProgramsFit};
-ghost use Rattle.muf_running.specs.Stints.{RanAlike, AskedAt, Raised, LocalFits};
+ghost use Rattle.muf_frame.specs.inner.Shown.{flat};
+ghost use Rattle.muf_running.specs.inner.Fitting.{codes_of, ProgramsFit};
+ghost use Rattle.muf_running.specs.inner.Stints.{RanAlike, AskedAt, Raised, LocalFits};
 
 use crate::Running;
 use crate::entered::Entered;

@@ -15,16 +15,16 @@ use Rattle.muf_model.specs.Needs.{Needs}
 use Rattle.muf_model.specs.Prims.{needs_of, is_there}
 use Rattle.muf_frame.specs.declared.fault.PrimFault.{PrimFault}
 use Rattle.muf_frame.specs.declared.fault.PrimFault.TheVariants.{Fault, NoMemory}
-use Rattle.muf_frame.specs.Shown.{Shown, flat}
+use Rattle.muf_frame.specs.inner.Shown.{Shown, flat}
 use Rattle.muck_perm.specs.declared.guard.Guard.{Guard}
-use Rattle.muck_perm.specs.Guards.{Same, world_of}
+use Rattle.muck_perm.specs.inner.Guards.{Same, world_of}
 use Rattle.muck_perm.proofs.Worlds.{kept_itself, same_as}
 use Rattle.spec_prims.specs.Row.{Row, gives, refuses, breaks, Doing, unless, given_upon}
 use Rattle.spec_prims.specs.Shared.{taken, first_fault, done_by}
 use Rattle.spec_prims.proofs.Fits.{Fits, IsFit}
-use Rattle.prim_common.specs.Applied.{Untouched, Applied, Makes, Given, items_of, argued_of, does_of}
+use Rattle.prim_common.specs.inner.Applied.{Untouched, Applied, Makes, Given, items_of, argued_of, does_of}
 use Rattle.prim_common.specs.declared.made.Made.{Made}
-use Rattle.prim_common.specs.Tests.{Passes}
+use Rattle.prim_common.specs.inner.Tests.{Passes}
 use Rattle.prim_common.proofs.First.{first_none}
 
 -- A row behind the tests.

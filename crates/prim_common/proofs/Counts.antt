@@ -16,8 +16,8 @@ use Rattle.muf_model.specs.Datum.{Datum, int}
 use Rattle.muf_model.specs.Needs.{Many, Needs}
 use Rattle.muf_model.specs.Prims.{needs_of}
 use Rattle.muf_model.specs.Ladder.{short, times, counted, wanted, miscounted, too_short}
-use Rattle.muf_frame.specs.Answers.{int_at}
-use Rattle.prim_common.specs.Tests.{count_of, uncounted, AreFew, FewCounted}
+use Rattle.muf_frame.specs.inner.Answers.{int_at}
+use Rattle.prim_common.specs.inner.Tests.{count_of, uncounted, AreFew, FewCounted}
 use Rattle.prim_common.proofs.Faults.{or_assoc}
 
 -- the item that counts

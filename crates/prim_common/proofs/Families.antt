@@ -7,15 +7,15 @@ use Rattle.muf_model.specs.Datum.{Datum}
 use Rattle.muf_model.specs.Prims.{is_there}
 use Rattle.muf_frame.specs.declared.fault.PrimFault.{PrimFault}
 use Rattle.muf_frame.specs.declared.fault.PrimFault.TheVariants.{Fault}
-use Rattle.muf_frame.specs.Shown.{Shown, flat, locked_by}
+use Rattle.muf_frame.specs.inner.Shown.{Shown, flat, locked_by}
 use Rattle.muck_perm.specs.declared.guard.Guard.{Guard}
-use Rattle.muck_perm.specs.Guards.{world_of}
+use Rattle.muck_perm.specs.inner.Guards.{world_of}
 use Rattle.spec_prims.specs.Row.{Row, Doing, given_upon}
 use Rattle.spec_prims.specs.Shared.{taken, first_fault, done_by, shared}
 use Rattle.spec_prims.proofs.Fits.{Fits, IsFit}
-use Rattle.prim_common.specs.Applied.{Applied, Makes, Given, items_of, argued_of, does_of}
+use Rattle.prim_common.specs.inner.Applied.{Applied, Makes, Given, items_of, argued_of, does_of}
 use Rattle.prim_common.specs.declared.made.Made.{Made}
-use Rattle.prim_common.specs.Tests.{Passes}
+use Rattle.prim_common.specs.inner.Tests.{Passes}
 use Rattle.prim_common.proofs.Applying.{fails_first, gives_first, refused_so, made_fault, applied_given, applied_full, fits_of}
 
 -- what a primitive makes of a frame and of the world that a guard lends

@@ -2,7 +2,7 @@
 use Rattle.std.proofs.Common.{◌≡◌, Option, Some, None, Ok, Err, refl}
 use Rattle.std.specs.Option.{option_or}
 use Rattle.muf_model.specs.declared.fault.MufFault.{MufFault}
-use Rattle.prim_common.specs.Tests.{Passes}
+use Rattle.prim_common.specs.inner.Tests.{Passes}
 
 pub fails : (X Y : Type 0) (o r : Option MufFault) (e : MufFault) → Passes {X = X} o (Err e) → Passes {X = Y} (option_or o r) (Err e)
 fails X Y None r e h = absurd h

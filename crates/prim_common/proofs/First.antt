@@ -9,7 +9,7 @@ use Rattle.muf_model.specs.Datum.{Datum}
 use Rattle.muf_model.specs.Needs.{Needs}
 use Rattle.muf_model.specs.Prims.{needs_of, level_of}
 use Rattle.spec_prims.specs.Shared.{fault_by, first_fault}
-use Rattle.prim_common.specs.Tests.{Passes}
+use Rattle.prim_common.specs.inner.Tests.{Passes}
 
 pub first_some : (p : Primitive) (needs : Needs) (argued : Option MufFault) (a : Actor) (locked : ℕ) (stack : List Datum) (w : Live) → needs_of p ≡ Some needs → fault_by (Some needs) (level_of p) argued a locked stack w ≡ first_fault p argued a locked stack w
 unfolding first_fault

@@ -9,8 +9,8 @@ use Rattle.muf_model.specs.declared.needs.Need.{Need}
 use Rattle.muf_model.specs.declared.value.Value.{Value}
 use Rattle.muf_model.specs.Datum.{Datum}
 use Rattle.muf_model.specs.Ladder.{times, walk}
-use Rattle.muf_model.specs.View.{view}
-use Rattle.prim_common.specs.Tests.{Passes}
+use Rattle.muf_model.specs.inner.View.{view}
+use Rattle.prim_common.specs.inner.Tests.{Passes}
 use Rattle.prim_common.proofs.Faults.{fails, passes, or_assoc}
 
 -- the item at a place and those behind it

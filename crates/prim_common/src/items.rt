@@ -1,12 +1,12 @@
 // The tests of items.
 ghost use Rattle.std.specs.Prelude.{◌≡◌, ◌≤◌, ◌+◌, drop, length};
 ghost use Rattle.spec_rights.specs.Verdict.{verdict};
-ghost use Rattle.muf_model.specs.View.{view};
+ghost use Rattle.muf_model.specs.inner.View.{view};
 ghost use Rattle.muf_model.specs.Ladder.{walk, times, unfit, absent, distant};
-ghost use Rattle.muf_frame.specs.Shown.{Shown, flat};
-ghost use Rattle.muck_perm.specs.Guards.{objects_of};
+ghost use Rattle.muf_frame.specs.inner.Shown.{Shown, flat};
+ghost use Rattle.muck_perm.specs.inner.Guards.{objects_of};
 ghost use Rattle.spec_prims.specs.Asking.{fault_of, is_there, level_fault, near_fault};
-ghost use Rattle.prim_common.specs.Tests.{Passes, AreShort, item_fault, all_needs};
+ghost use Rattle.prim_common.specs.inner.Tests.{Passes, AreShort, item_fault, all_needs};
 
 use crate::parts::{Parts, counted_len};
 use muck_model::Dbref;

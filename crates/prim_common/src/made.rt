@@ -1,8 +1,8 @@
 // What a primitive makes, and how that takes the place of what it took.
 ghost use Rattle.std.specs.Prelude.{◌≡◌, ◌≤◌, ◌+◌, [], ◌∷◌, ◌++◌, length, map};
-ghost use Rattle.muf_model.specs.View.{view};
-ghost use Rattle.muf_frame.specs.Shown.{Shown, flat};
-ghost use Rattle.prim_common.specs.Applied.{Given, items_of};
+ghost use Rattle.muf_model.specs.inner.View.{view};
+ghost use Rattle.muf_frame.specs.inner.Shown.{Shown, flat};
+ghost use Rattle.prim_common.specs.inner.Applied.{Given, items_of};
 
 use muf_frame::Frame;
 use muf_model::{MufFault, STACK_MOST, Value};

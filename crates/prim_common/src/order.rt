@@ -2,10 +2,10 @@
 ghost use Rattle.std.specs.Prelude.{◌≡◌, ◌≤◌, IfOk, Some, length};
 ghost use Rattle.muf_model.specs.Ladder.{wanted};
 ghost use Rattle.muf_model.specs.Needs.{shown_needs, takes};
-ghost use Rattle.muf_frame.specs.Shown.{Shown, flat, locked_by};
-ghost use Rattle.muck_perm.specs.Guards.{world_of};
+ghost use Rattle.muf_frame.specs.inner.Shown.{Shown, flat, locked_by};
+ghost use Rattle.muck_perm.specs.inner.Guards.{world_of};
 ghost use Rattle.spec_prims.specs.Shared.{fault_by, first_fault, taken};
-ghost use Rattle.prim_common.specs.Tests.{Passes, AreFew};
+ghost use Rattle.prim_common.specs.inner.Tests.{Passes, AreFew};
 
 use crate::items::{Asked, reach_level, test_items, test_parts};
 use crate::parts::{test_count, test_short, wanted_parts};

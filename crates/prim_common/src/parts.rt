@@ -3,9 +3,9 @@ ghost use Rattle.std.specs.Prelude.{◌≡◌, ◌≤◌, drop, length, Some, If
 ghost use Rattle.std.specs.Option.{option_map};
 ghost use Rattle.muf_model.specs.Ladder.{short, miscounted, times, too_short, wanted};
 ghost use Rattle.muf_model.specs.Needs.{shown_many, shown_needs};
-ghost use Rattle.muf_frame.specs.Answers.{int_at};
-ghost use Rattle.muf_frame.specs.Shown.{Shown, flat, locked_by};
-ghost use Rattle.prim_common.specs.Tests.{Passes, AreFew, AreShort, all_needs, count_of, uncounted};
+ghost use Rattle.muf_frame.specs.inner.Answers.{int_at};
+ghost use Rattle.muf_frame.specs.inner.Shown.{Shown, flat, locked_by};
+ghost use Rattle.prim_common.specs.inner.Tests.{Passes, AreFew, AreShort, all_needs, count_of, uncounted};
 
 use muf_frame::Frame;
 use muf_model::{Many, MufFault, Need, Needs};

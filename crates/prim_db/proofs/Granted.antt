@@ -21,19 +21,19 @@ use Rattle.muf_model.specs.declared.fault.MufFault.TheVariants.{BadArgument, Wor
 use Rattle.muf_model.specs.declared.value.Value.{Value}
 use Rattle.muf_model.specs.declared.value.Value.TheVariants.{Ref}
 use Rattle.muf_model.specs.StackRows.{truth}
-use Rattle.muf_model.specs.View.{view}
+use Rattle.muf_model.specs.inner.View.{view}
 use Rattle.muf_frame.specs.declared.fault.PrimFault.{PrimFault}
 use Rattle.muf_frame.specs.declared.fault.PrimFault.TheVariants.{Fault, NoMemory}
 use Rattle.muck_perm.specs.declared.guard.Guard.{Guard}
-use Rattle.muck_perm.specs.Guards.{Same, Done, Founds, objects_of, world_of}
+use Rattle.muck_perm.specs.inner.Guards.{Same, Done, Founds, objects_of, world_of}
 use Rattle.muck_perm.proofs.Worlds.{same_as}
 use Rattle.spec_prims.specs.Asking.{fault_of}
 use Rattle.spec_prims.specs.Row.{Row, gives, refuses, breaks, unless}
 use Rattle.spec_prims.specs.ObjectWrites.{changed, given_made, key_kept_of, lock_kept, locked_by, made_so, new_made}
-use Rattle.prim_common.specs.Applied.{Makes}
+use Rattle.prim_common.specs.inner.Applied.{Makes}
 use Rattle.prim_common.specs.declared.made.Made.{Made}
 use Rattle.prim_common.specs.declared.made.Made.TheVariants.{Nothing, One}
-use Rattle.prim_db.specs.Changed.{IsMade, Leaves}
+use Rattle.prim_db.specs.inner.Changed.{IsMade, Leaves}
 
 -- after want of memory nothing is said of a row
 wants_in : (row : Row) (old new : Guard) → Same old new → Makes row old new (Err NoMemory)

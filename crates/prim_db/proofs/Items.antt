@@ -19,13 +19,13 @@ use Rattle.muf_model.specs.declared.fault.MufFault.TheVariants.{BadType, BadArgu
 use Rattle.muf_model.specs.declared.value.Value.{Value}
 use Rattle.muf_model.specs.Datum.{Datum, text, object, lock}
 use Rattle.muf_model.specs.StackRows.{truth}
-use Rattle.muf_model.specs.View.{view}
+use Rattle.muf_model.specs.inner.View.{view}
 use Rattle.muf_frame.specs.declared.fault.PrimFault.{PrimFault}
 use Rattle.muf_frame.specs.declared.fault.PrimFault.TheVariants.{Fault}
-use Rattle.muf_frame.specs.Answers.{object_at, text_at}
+use Rattle.muf_frame.specs.inner.Answers.{object_at, text_at}
 use Rattle.spec_prims.specs.Asking.{numbered}
 use Rattle.spec_prims.specs.ObjectRows.{seen, lock_read, parsed, one_object, one_item, is_such, one_text, controlled, unparsed, tested, flag_asked, flag_found, flagged, misflagged}
-use Rattle.prim_db.specs.Found.{Finds, as_lock, lock_at_top}
+use Rattle.prim_db.specs.inner.Found.{Finds, as_lock, lock_at_top}
 
 pub object_found : (find : Dbref → List Entry → Result Datum MufFault) (a : Actor) (es : List Entry) (stack : List Datum) (d : Dbref) (r : Result Value PrimFault) → object_at 0 stack ≡ Some d.0 → Finds (find d es) r → Finds (one_object find a es (take 1 stack)) r
 object_found find a es [] d r e h = absurd cc

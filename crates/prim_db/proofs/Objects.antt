@@ -14,9 +14,9 @@ use Rattle.muf_model.specs.Datum.{Datum}
 use Rattle.muf_model.specs.Prims.{family_of, is_there}
 use Rattle.muf_frame.specs.declared.fault.PrimFault.{PrimFault}
 use Rattle.muf_frame.specs.declared.fault.PrimFault.TheVariants.{Fault, NoMemory}
-use Rattle.muf_frame.specs.Shown.{Shown, flat, locked_by}
+use Rattle.muf_frame.specs.inner.Shown.{Shown, flat, locked_by}
 use Rattle.muck_perm.specs.declared.guard.Guard.{Guard}
-use Rattle.muck_perm.specs.Guards.{objects_of, world_of}
+use Rattle.muck_perm.specs.inner.Guards.{objects_of, world_of}
 use Rattle.muck_perm.proofs.Worlds.{kept_itself}
 use Rattle.spec_prims.specs.Row.{Row, Doing}
 use Rattle.spec_prims.specs.ObjectRows.{Finding, finding_of, finds, given as given_row, object_row, is_object_family}
@@ -24,12 +24,12 @@ use Rattle.spec_prims.specs.Shared.{first_fault, row_in, done_by, shared}
 use Rattle.spec_prims.specs.ObjectWrites.{writing_row}
 use Rattle.spec_prims.proofs.Fits.{fits_object}
 use Rattle.spec_prims.proofs.There.{object_there}
-use Rattle.prim_common.specs.Applied.{Makes, argued_of, does_of}
+use Rattle.prim_common.specs.inner.Applied.{Makes, argued_of, does_of}
 use Rattle.prim_common.specs.declared.made.Made.TheVariants.{One}
-use Rattle.prim_common.specs.Tests.{Passes}
+use Rattle.prim_common.specs.inner.Tests.{Passes}
 use Rattle.prim_common.proofs.Families.{Begun, taken_of}
 use Rattle.prim_db.proofs.Rules.{no_writing}
-use Rattle.prim_db.specs.Found.{Finds, found_in, found_with}
+use Rattle.prim_db.specs.inner.Found.{Finds, found_in, found_with}
 
 shared_object : (p : Primitive) (a : Actor) (descr : Option ℕ) (locked : ℕ) (stack : List Datum) (w : Live) → family_of p ≡ Object → shared p a descr locked stack w ≡ done_by (object_row p) p a locked stack w
 unfolding shared

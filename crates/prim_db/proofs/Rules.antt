@@ -11,7 +11,7 @@ use Rattle.muf_model.specs.Datum.{Datum}
 use Rattle.spec_prims.specs.Row.{Doing}
 use Rattle.spec_prims.specs.ObjectRows.{Finding, finding_of, finds, misasked, object_row}
 use Rattle.spec_prims.specs.ObjectWrites.{writing_row}
-use Rattle.prim_common.specs.Applied.{argued_of}
+use Rattle.prim_common.specs.inner.Applied.{argued_of}
 
 -- MOVETO alone of those that change objects has a rule for its arguments, and FLAG? alone of the others
 no_rule : (p : Primitive) (a : Actor) (items : List Datum) (w : Live) → (p ≡ MoveTo → ⊥) → is_some (finding_of p) ≡ false → misasked p items ≡ argued_of (writing_row p) a items w

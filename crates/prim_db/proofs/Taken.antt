@@ -6,7 +6,7 @@ use Rattle.spec_rights.specs.declared.act.Actor.{Actor}
 use Rattle.muf_model.specs.declared.fault.MufFault.{MufFault}
 use Rattle.muf_model.specs.declared.fault.MufFault.TheVariants.{BadType}
 use Rattle.muf_model.specs.Datum.{Datum, text, object}
-use Rattle.muf_frame.specs.Answers.{object_at, text_at}
+use Rattle.muf_frame.specs.inner.Answers.{object_at, text_at}
 use Rattle.spec_prims.specs.Asking.{numbered}
 use Rattle.spec_prims.specs.Row.{Row, refuses}
 use Rattle.spec_prims.specs.ObjectWrites.{misplaced, one_done, place_missing, text_done, two_done}

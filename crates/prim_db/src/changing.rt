@@ -1,13 +1,13 @@
 // Changing objects by leave, as the rows have it.
 ghost use Rattle.std.specs.Prelude.{◌≡◌, ◌≤◌, length, true};
 ghost use Rattle.spec_live.specs.Making.{create_check};
-ghost use Rattle.muck_perm.specs.Guards.{IsLeave, objects_of, world_of};
+ghost use Rattle.muck_perm.specs.inner.Guards.{IsLeave, objects_of, world_of};
 ghost use Rattle.spec_commands.specs.Building.{act_in, kind_of, may_be};
 ghost use Rattle.spec_commands.specs.Settings.{setting_asked};
-ghost use Rattle.cmd_common.specs.Writes.{IsFit, act_of, change_of, may};
+ghost use Rattle.cmd_common.specs.inner.Writes.{IsFit, act_of, change_of, may};
 ghost use Rattle.spec_prims.specs.ObjectWrites as row;
-ghost use Rattle.prim_common.specs.Applied.{Makes};
-ghost use Rattle.prim_db.specs.Changed.{IsMade, Leaves};
+ghost use Rattle.prim_common.specs.inner.Applied.{Makes};
+ghost use Rattle.prim_db.specs.inner.Changed.{IsMade, Leaves};
 
 use cmd_common::{Write, act_in, act_of, create, is_name, may_be, may_be_called, put};
 use muck_model::{Dbref, Line};

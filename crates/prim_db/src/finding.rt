@@ -4,12 +4,12 @@ ghost use Rattle.std.specs.Option.{option_copied, option_map_or};
 ghost use Rattle.muck_lock.specs.Opens.{opens_for};
 ghost use Rattle.spec_live.specs.Objects.{dbref_of, object_at};
 ghost use Rattle.spec_live.specs.Worth.{holdings_of};
-ghost use Rattle.muck_perm.specs.Guards.{objects_of};
-ghost use Rattle.muf_model.specs.View.{view};
-ghost use Rattle.muf_frame.specs.Shown.{Shown, flat};
+ghost use Rattle.muck_perm.specs.inner.Guards.{objects_of};
+ghost use Rattle.muf_model.specs.inner.View.{view};
+ghost use Rattle.muf_frame.specs.inner.Shown.{Shown, flat};
 ghost use Rattle.spec_prims.specs.Shared.{taken};
 ghost use Rattle.spec_prims.specs.ObjectRows as row;
-ghost use Rattle.prim_db.specs.Found.{Finds, as_lock, found_in, lock_at_top};
+ghost use Rattle.prim_db.specs.inner.Found.{Finds, as_lock, found_in, lock_at_top};
 
 use crate::flags::flag_asked;
 use crate::looking::{look, text_item};

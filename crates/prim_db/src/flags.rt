@@ -1,7 +1,7 @@
 // The flag that a text asks for.
 ghost use Rattle.std.specs.Prelude.{◌≡◌, ◌<◌, ◌==◌, IfSome, take};
 ghost use Rattle.std.specs.List.{list_any};
-ghost use Rattle.muf_frame.specs.Shown.{Shown, flat};
+ghost use Rattle.muf_frame.specs.inner.Shown.{Shown, flat};
 ghost use Rattle.muf_model.specs.declared.prims.Primitive.TheVariants.{HasFlag};
 ghost use Rattle.spec_prims.specs.ObjectRows.{flag_asked, flag_lettered, misasked};
 ghost use Rattle.spec_prims.specs.Shared.{taken};

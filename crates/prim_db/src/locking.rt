@@ -3,9 +3,9 @@ ghost use Rattle.std.specs.Prelude.{◌≡◌};
 ghost use Rattle.muck_lock.specs.Grammar.{lock_of};
 ghost use Rattle.spec_rights.specs.declared.act.Act.{Act};
 ghost use Rattle.spec_commands.specs.Building.{key_kept, key_names};
-ghost use Rattle.muck_perm.specs.Guards.{IsLeave, world_of};
+ghost use Rattle.muck_perm.specs.inner.Guards.{IsLeave, world_of};
 ghost use Rattle.spec_prims.specs.ObjectWrites as row;
-ghost use Rattle.prim_common.specs.Applied.{Makes};
+ghost use Rattle.prim_common.specs.inner.Applied.{Makes};
 
 use crate::changing::leave;
 use cmd_common::{Write, print_key, put, read_key};

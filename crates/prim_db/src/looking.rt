@@ -7,11 +7,11 @@ ghost use Rattle.spec_live.specs.Seen.{listed_in, long_form};
 ghost use Rattle.spec_live.specs.Worth.{lock_text};
 ghost use Rattle.spec_rights.specs.Levels.{number_of};
 ghost use Rattle.spec_rights.specs.Verdict.{place_of};
-ghost use Rattle.muck_perm.specs.Guards.{objects_of};
+ghost use Rattle.muck_perm.specs.inner.Guards.{objects_of};
 ghost use Rattle.muf_model.specs.Datum.{text};
-ghost use Rattle.muf_model.specs.View.{view};
+ghost use Rattle.muf_model.specs.inner.View.{view};
 ghost use Rattle.spec_prims.specs.ObjectRows.{first_of, found_of, next_of, shown, tie_by};
-ghost use Rattle.prim_db.specs.Found.{Finds};
+ghost use Rattle.prim_db.specs.inner.Found.{Finds};
 
 use muck_db::Db;
 use muck_lock::Keys;

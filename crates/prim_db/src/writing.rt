@@ -1,10 +1,10 @@
 // The rows of the primitives that change objects.
 ghost use Rattle.std.specs.Prelude.{◌≡◌, take};
-ghost use Rattle.muf_frame.specs.Shown.{Shown, flat};
-ghost use Rattle.muck_perm.specs.Guards.{objects_of, world_of};
+ghost use Rattle.muf_frame.specs.inner.Shown.{Shown, flat};
+ghost use Rattle.muck_perm.specs.inner.Guards.{objects_of, world_of};
 ghost use Rattle.muf_model.specs.declared.prims.Primitive.TheVariants.{MoveTo, SetLink, SetOwn};
 ghost use Rattle.spec_prims.specs.ObjectWrites as row;
-ghost use Rattle.prim_common.specs.Applied.{Makes};
+ghost use Rattle.prim_common.specs.inner.Applied.{Makes};
 
 use crate::changing::{make_named, missing, rename, set, write};
 use crate::locking::set_lock;

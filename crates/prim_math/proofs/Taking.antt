@@ -11,10 +11,10 @@ use Rattle.muf_model.specs.Needs.{takes, an_int, an_object, int_or_object, numbe
 use Rattle.muf_model.specs.Rows.{used}
 use Rattle.muf_model.specs.NumberRows.{one_int, two_ints, compared, number_of, object_of, objects_equal}
 use Rattle.muf_model.specs.StackRows.{truth}
-use Rattle.muf_frame.specs.Answers.{int_at, object_at}
+use Rattle.muf_frame.specs.inner.Answers.{int_at, object_at}
 use Rattle.muf_frame.proofs.Data.{map_drop}
 use Rattle.muf_frame.proofs.Ladders.{kinds, used_plain}
-use Rattle.prim_math.specs.Alike.{alike, as_number}
+use Rattle.prim_math.specs.inner.Alike.{alike, as_number}
 
 abbrev one_read : (ℤ → ℤ) → Option ℤ → List Datum → Answer
 one_read f (Some i) rest = put 1 (makes (int (f i) ∷ [])) rest

@@ -1,7 +1,7 @@
 // What the primitives of numbers answer.
 ghost use Rattle.std.specs.Prelude.{◌≡◌, Bool};
 ghost use Rattle.muf_model.specs.NumberRows.{quotient, remainder, magnitude, shifted};
-ghost use Rattle.prim_math.specs.Tables.{int_of, int_of_two, compares, joined};
+ghost use Rattle.prim_math.specs.inner.Tables.{int_of, int_of_two, compares, joined};
 
 use muf_model::Prim;
 

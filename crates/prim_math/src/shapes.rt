@@ -4,13 +4,13 @@ ghost use Rattle.std.specs.Option.{option_and_then};
 ghost use Rattle.muf_model.specs.Measures.{is_true};
 ghost use Rattle.muf_model.specs.NumberRows.{one_int, two_ints, compared, two_truths, number_of, object_of, objects_equal};
 ghost use Rattle.muf_model.specs.StackRows.{judged};
-ghost use Rattle.muf_model.specs.View.{view};
-ghost use Rattle.muf_frame.specs.Shown.{Shown, flat};
-ghost use Rattle.muf_frame.specs.Answers.{Used};
+ghost use Rattle.muf_model.specs.inner.View.{view};
+ghost use Rattle.muf_frame.specs.inner.Shown.{Shown, flat};
+ghost use Rattle.muf_frame.specs.inner.Answers.{Used};
 ghost use Rattle.muf_model.specs.Needs.{takes, any, an_int, an_object, int_or_object, numbered};
 ghost use Rattle.muf_model.specs.declared.prims.Primitive.TheVariants.{Not, ToInt, ToDbref, DbCmp};
-ghost use Rattle.prim_math.specs.Alike.{alike, as_number};
-ghost use Rattle.prim_math.specs.Tables.{int_of, int_of_two, compares, joined};
+ghost use Rattle.prim_math.specs.inner.Alike.{alike, as_number};
+ghost use Rattle.prim_math.specs.inner.Tables.{int_of, int_of_two, compares, joined};
 
 use crate::rows::{compares, int_of, int_of_two, joined};
 use muck_model::Dbref;

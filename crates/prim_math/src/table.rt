@@ -3,9 +3,9 @@ ghost use Rattle.std.specs.Prelude.{◌≡◌, ℕ};
 ghost use Rattle.muf_model.specs.declared.prims.Family.TheVariants.{Number};
 ghost use Rattle.muf_model.specs.Rows.{primitive};
 ghost use Rattle.muf_model.specs.Prims.{family_of};
-ghost use Rattle.muf_frame.specs.Shown.{Shown, flat};
-ghost use Rattle.muf_frame.specs.Moves.{scope_of};
-ghost use Rattle.muf_frame.specs.Answers.{Answered, Applied};
+ghost use Rattle.muf_frame.specs.inner.Shown.{Shown, flat};
+ghost use Rattle.muf_frame.specs.inner.Moves.{scope_of};
+ghost use Rattle.muf_frame.specs.inner.Answers.{Answered, Applied};
 
 use crate::shapes;
 use muf_frame::{Frame, PrimFault};

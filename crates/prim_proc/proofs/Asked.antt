@@ -20,7 +20,7 @@ use Rattle.muck_queue.specs.declared.process.Process.{Process}
 use Rattle.muck_queue.specs.Queues.{Queue, process, on_process, without, resting, in_mode, told_event, events_most, is_background}
 use Rattle.spec_processes.specs.declared.place.Place.{Place}
 use Rattle.spec_processes.specs.ProcessRows.{Effect, gives, waits, enters, starts, refuses, unless, is_pid, mode_numbered, mode_set, set_mode, sleep, killed, kill, event_name, event_data, sent, event_send, oldest, program_fault, call_fault, call, starting, queue, process_row, taken_at}
-use Rattle.prim_proc.specs.Applied.{called_items}
+use Rattle.prim_proc.specs.inner.Applied.{called_items}
 use Rattle.prim_proc.specs.inner.Plans.{TakesAll, effect_of, does_of}
 use Rattle.prim_proc.specs.declared.plan.Plan.{Plan}
 use Rattle.prim_proc.specs.declared.plan.Plan.TheVariants.{Enter, Start}

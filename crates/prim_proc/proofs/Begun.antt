@@ -13,12 +13,12 @@ use Rattle.muf_model.specs.Datum.{Datum}
 use Rattle.muf_model.specs.Prims.{family_of, is_there, level_of}
 use Rattle.muf_frame.specs.declared.fault.PrimFault.{PrimFault}
 use Rattle.muf_frame.specs.declared.fault.PrimFault.TheVariants.{Fault, NoMemory}
-use Rattle.muf_frame.specs.Shown.{Shown, flat, locked_by}
+use Rattle.muf_frame.specs.inner.Shown.{Shown, flat, locked_by}
 use Rattle.muck_perm.specs.declared.guard.Guard.{Guard}
-use Rattle.muck_perm.specs.Guards.{Same, world_of}
+use Rattle.muck_perm.specs.inner.Guards.{Same, world_of}
 use Rattle.muck_perm.proofs.Worlds.{kept_itself, same_as}
 use Rattle.spec_prims.specs.Shared.{fault_by}
-use Rattle.prim_common.specs.Tests.{Passes}
+use Rattle.prim_common.specs.inner.Tests.{Passes}
 use Rattle.muck_queue.specs.declared.process.Process.{Process}
 use Rattle.muck_queue.specs.Queues.{Queue, process}
 use Rattle.spec_processes.specs.declared.place.Place.{Place}
@@ -26,7 +26,7 @@ use Rattle.spec_processes.specs.ProcessRows.{Effect, gives, waits, forks, enters
 use Rattle.spec_processes.proofs.There.{process_there}
 use Rattle.prim_proc.specs.declared.after.After.{After}
 use Rattle.prim_proc.specs.declared.plan.Plan.{Plan}
-use Rattle.prim_proc.specs.Applied.{Applied}
+use Rattle.prim_proc.specs.inner.Applied.{Applied}
 use Rattle.prim_proc.specs.inner.Plans.{Plans, TakesAll, effect_of, does_of, items_of, stacked}
 use Rattle.prim_proc.proofs.Asked.{takes_all}
 use Rattle.prim_proc.proofs.Roomed.{upon_roomed, upon_full}

@@ -5,7 +5,7 @@ use Rattle.muf_model.specs.declared.prims.Primitive.TheVariants.{Call}
 use Rattle.muf_model.specs.Datum.{Datum, text}
 use Rattle.muf_model.specs.Needs.{takes, a_text, one_there}
 use Rattle.muf_model.specs.Prims.{needs_of}
-use Rattle.muf_frame.specs.Answers.{text_at}
+use Rattle.muf_frame.specs.inner.Answers.{text_at}
 use Rattle.spec_processes.specs.ProcessRows.{needs_at}
 
 pub named_needs : (stack : List Datum) (t : List ℕ) → text_at 0 stack ≡ Some t → needs_at Call stack ≡ takes (a_text ∷ one_there ∷ [])

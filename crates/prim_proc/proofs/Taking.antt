@@ -8,8 +8,8 @@ use Rattle.spec_rights.specs.declared.act.Actor.{Actor}
 use Rattle.muf_model.specs.declared.prims.Primitive.TheVariants.{Call}
 use Rattle.muf_model.specs.declared.value.Value.{Value}
 use Rattle.muf_model.specs.Datum.{Datum, int, text, object}
-use Rattle.muf_model.specs.View.{view}
-use Rattle.muf_frame.specs.Answers.{int_at, text_at, object_at}
+use Rattle.muf_model.specs.inner.View.{view}
+use Rattle.muf_frame.specs.inner.Answers.{int_at, text_at, object_at}
 use Rattle.muck_queue.specs.declared.process.Process.{Process}
 use Rattle.muck_queue.specs.Queues.{Queue, process}
 use Rattle.spec_processes.specs.declared.place.Place.{Place}

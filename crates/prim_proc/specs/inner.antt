@@ -1,3 +1,4 @@
 pub mod Plans
 pub mod Sending
 pub mod Taken
+pub mod Applied

@@ -4,11 +4,11 @@ ghost use Rattle.spec_rights.specs.Verdict.{verdict};
 ghost use Rattle.muf_model.specs.declared.fault.MufFault.TheVariants.{StackFull};
 ghost use Rattle.muf_model.specs.Answer.{stack_most};
 ghost use Rattle.muf_model.specs.Prims.{level_of};
-ghost use Rattle.muf_frame.specs.Shown.{Shown, flat, locked_by};
-ghost use Rattle.muck_perm.specs.Guards.{objects_of, world_of};
+ghost use Rattle.muf_frame.specs.inner.Shown.{Shown, flat, locked_by};
+ghost use Rattle.muck_perm.specs.inner.Guards.{objects_of, world_of};
 ghost use Rattle.spec_prims.specs.Asking.{fault_of};
 ghost use Rattle.spec_prims.specs.Shared.{fault_by};
-ghost use Rattle.prim_common.specs.Tests.{Passes};
+ghost use Rattle.prim_common.specs.inner.Tests.{Passes};
 ghost use Rattle.spec_processes.specs.ProcessRows.{needs_at, program_fault, taken_at};
 
 use muck_model::{Dbref, Kind};

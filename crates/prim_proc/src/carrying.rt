@@ -1,11 +1,11 @@
 // What a primitive is to do is done.
 ghost use Rattle.std.specs.Prelude.{◌≡◌, ◌≤◌, ◌+◌, ◌∷◌, length, drop};
 ghost use Rattle.muf_model.specs.Answer.{stack_most};
-ghost use Rattle.muf_model.specs.View.{view};
-ghost use Rattle.muf_frame.specs.Shown.{Shown, flat};
-ghost use Rattle.muck_perm.specs.Guards.{world_of};
+ghost use Rattle.muf_model.specs.inner.View.{view};
+ghost use Rattle.muf_frame.specs.inner.Shown.{Shown, flat};
+ghost use Rattle.muck_perm.specs.inner.Guards.{world_of};
 ghost use Rattle.prim_proc.specs.declared.after.After.TheVariants.{Go};
-ghost use Rattle.prim_proc.specs.Applied.{Applied, HasStack};
+ghost use Rattle.prim_proc.specs.inner.Applied.{Applied, HasStack};
 ghost use Rattle.prim_proc.specs.inner.Plans.{Received, Sent, TakesAll, effect_of, items_of, stacked};
 
 use crate::after::After;

@@ -7,9 +7,9 @@ ghost use Rattle.muf_model.specs.declared.value.MapKey.TheVariants.{Name as Name
 ghost use Rattle.muf_model.specs.Datum.{dict as whole, pairs_of};
 ghost use Rattle.muf_model.specs.Entries.{with_entry};
 ghost use Rattle.muf_model.specs.Values.{fits};
-ghost use Rattle.muf_model.specs.View.{view};
-ghost use Rattle.muf_frame.specs.Shown.{Shown, flat};
-ghost use Rattle.muck_perm.specs.Guards.{world_of};
+ghost use Rattle.muf_model.specs.inner.View.{view};
+ghost use Rattle.muf_frame.specs.inner.Shown.{Shown, flat};
+ghost use Rattle.muck_perm.specs.inner.Guards.{world_of};
 ghost use Rattle.spec_processes.specs.ProcessRows.{event_name, event_send};
 ghost use Rattle.prim_proc.specs.inner.Plans.{Plans};
 ghost use Rattle.prim_proc.specs.inner.Sending.{DataMade, NameMade, descr_item, sender_entries};

@@ -6,10 +6,10 @@ ghost use Rattle.muck_queue.specs.Queues.{Queue as Table, process};
 ghost use Rattle.muf_model.specs.declared.prims.Family.TheVariants as kind;
 ghost use Rattle.muf_model.specs.Datum.{Datum};
 ghost use Rattle.muf_model.specs.Prims.{family_of, is_there};
-ghost use Rattle.muf_frame.specs.Shown.{Shown, flat, locked_by};
-ghost use Rattle.muck_perm.specs.Guards.{world_of};
+ghost use Rattle.muf_frame.specs.inner.Shown.{Shown, flat, locked_by};
+ghost use Rattle.muck_perm.specs.inner.Guards.{world_of};
 ghost use Rattle.spec_processes.specs.ProcessRows.{process_row, processed, taken_at};
-ghost use Rattle.prim_proc.specs.Applied.{Applied};
+ghost use Rattle.prim_proc.specs.inner.Applied.{Applied};
 ghost use Rattle.prim_proc.specs.inner.Plans.{Plans, does_of, fact_row};
 
 use crate::after::After;

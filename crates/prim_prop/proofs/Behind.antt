@@ -14,8 +14,8 @@ use Rattle.spec_prims.specs.Shared.{taken, first_fault, row_in, done_by, shared}
 use Rattle.spec_prims.specs.PropRows.{property_row, is_property_family}
 use Rattle.spec_prims.proofs.Fits.{Fits, fits_property}
 use Rattle.spec_prims.proofs.There.{properties_there}
-use Rattle.prim_common.specs.Applied.{does_of}
-use Rattle.prim_common.specs.Tests.{Passes}
+use Rattle.prim_common.specs.inner.Applied.{does_of}
+use Rattle.prim_common.specs.inner.Tests.{Passes}
 use Rattle.prim_common.proofs.Applying.{fails_first, gives_first, fits_of}
 use Rattle.prim_prop.proofs.Missing.{no_rule}
 

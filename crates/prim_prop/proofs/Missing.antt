@@ -6,7 +6,7 @@ use Rattle.muf_model.specs.declared.prims.Primitive.{Primitive}
 use Rattle.muf_model.specs.declared.prims.Primitive.TheVariants.{GetProp, GetPropStr, GetPropVal, SetProp, AddProp, RemoveProp, NextProp, IsPropDir, EnvProp, EnvPropStr, ParseMpi}
 use Rattle.muf_model.specs.Datum.{Datum}
 use Rattle.spec_prims.specs.PropRows.{property_row}
-use Rattle.prim_common.specs.Applied.{argued_of}
+use Rattle.prim_common.specs.inner.Applied.{argued_of}
 
 pub no_row : (p : Primitive) → (p ≡ GetProp → ⊥) → (p ≡ GetPropStr → ⊥) → (p ≡ GetPropVal → ⊥) → (p ≡ IsPropDir → ⊥) → (p ≡ EnvProp → ⊥) → (p ≡ EnvPropStr → ⊥) → (p ≡ NextProp → ⊥) → (p ≡ SetProp → ⊥) → (p ≡ AddProp → ⊥) → (p ≡ RemoveProp → ⊥) → (p ≡ ParseMpi → ⊥) → property_row p ≡ None
 no_row GetProp a b c d e f g h i j k = absurd (a refl)

@@ -15,13 +15,13 @@ use Rattle.muf_model.specs.Datum.{Datum, int, text, object}
 use Rattle.muf_frame.specs.declared.fault.PrimFault.{PrimFault}
 use Rattle.muf_frame.specs.declared.fault.PrimFault.TheVariants.{Fault, NoMemory}
 use Rattle.muck_perm.specs.declared.guard.Guard.{Guard}
-use Rattle.muck_perm.specs.Guards.{Same, objects_of, world_of}
+use Rattle.muck_perm.specs.inner.Guards.{Same, objects_of, world_of}
 use Rattle.spec_prims.specs.Row.{Row, gives, refuses, breaks}
 use Rattle.spec_prims.specs.Formulas.{answered, parsed, parse_done}
-use Rattle.prim_common.specs.Applied.{Makes}
+use Rattle.prim_common.specs.inner.Applied.{Makes}
 use Rattle.prim_common.specs.declared.made.Made.{Made}
-use Rattle.prim_prop.specs.Asked.{named_in, added_by}
-use Rattle.prim_prop.specs.Parsed.{IsAnswered}
+use Rattle.prim_prop.specs.inner.Asked.{named_in, added_by}
+use Rattle.prim_prop.specs.inner.Parsed.{IsAnswered}
 use Rattle.prim_prop.proofs.Steps.{wants}
 
 -- what was meant is made, and its world is there

@@ -22,17 +22,17 @@ use Rattle.muf_model.specs.Datum.{Datum, text}
 use Rattle.muf_frame.specs.declared.fault.PrimFault.{PrimFault}
 use Rattle.muf_frame.specs.declared.fault.PrimFault.TheVariants.{Fault, NoMemory}
 use Rattle.muck_perm.specs.declared.guard.Guard.{Guard}
-use Rattle.muck_perm.specs.Guards.{Same, Done, Tries, Makes as Changes, objects_of, world_of}
+use Rattle.muck_perm.specs.inner.Guards.{Same, Done, Tries, Makes as Changes, objects_of, world_of}
 use Rattle.muck_perm.proofs.Worlds.{kept_itself, same_as}
 use Rattle.spec_prims.specs.Asking.{numbered, fault_of}
 use Rattle.spec_prims.specs.Row.{Row, gives, refuses, breaks, unless}
 use Rattle.spec_prims.specs.PropRows.{at_path, looked, sought, begins, next_read, walked, removed, first_holder, put_at}
 use Rattle.prim_common.specs.declared.made.Made.{Made}
 use Rattle.prim_common.specs.declared.made.Made.TheVariants.{Nothing}
-use Rattle.prim_common.specs.Applied.{Makes, items_of}
-use Rattle.prim_prop.specs.Asked.{IsWritten, named_in}
+use Rattle.prim_common.specs.inner.Applied.{Makes, items_of}
+use Rattle.prim_prop.specs.inner.Asked.{IsWritten, named_in}
 use Rattle.prim_prop.specs.declared.walking.Start.{Start}
-use Rattle.prim_prop.specs.Walks.{Starts, begun}
+use Rattle.prim_prop.specs.inner.Walks.{Starts, begun}
 use Rattle.prim_prop.proofs.Taken.{looked_at, sought_at, walked_at, removed_at}
 
 -- refused, wanting memory, and made

@@ -11,11 +11,11 @@ use Rattle.spec_live.specs.Seen.{places_of}
 use Rattle.spec_rights.specs.declared.act.Actor.{Actor}
 use Rattle.spec_rights.specs.Changing.{unstored}
 use Rattle.muf_model.specs.Datum.{Datum, int, text, object}
-use Rattle.muf_frame.specs.Answers.{int_at, text_at, object_at}
+use Rattle.muf_frame.specs.inner.Answers.{int_at, text_at, object_at}
 use Rattle.spec_prims.specs.Asking.{numbered}
 use Rattle.spec_prims.specs.Row.{gives}
 use Rattle.spec_prims.specs.PropRows.{at_path, seen_at, looked, first_holder, sought, next_read, begins, name_fault, walked, written_at, put_at, put, text_or, added, removed}
-use Rattle.prim_prop.specs.Asked.{named_in, stored_by, added_by}
+use Rattle.prim_prop.specs.inner.Asked.{named_in, stored_by, added_by}
 
 some_is : {A : Type 0} (a b : A) → Some a ≡ Some b → a ≡ b
 some_is a b e = cc

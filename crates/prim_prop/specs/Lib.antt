@@ -1,5 +1,1 @@
-pub mod Asked
-pub mod Looks
-pub mod Parsed
-pub mod Upward
-pub mod Walks
+pub mod inner

@@ -3,10 +3,10 @@ ghost use Rattle.std.specs.Prelude.{◌≡◌, ◌≤◌, drop};
 ghost use Rattle.std.specs.Option.{option_map};
 ghost use Rattle.spec_rights.specs.Verdict.{verdict};
 ghost use Rattle.spec_rights.specs.declared.act.Act.TheVariants.{Read};
-ghost use Rattle.muf_frame.specs.Shown.{Shown, flat};
-ghost use Rattle.muck_perm.specs.Guards.{objects_of};
+ghost use Rattle.muf_frame.specs.inner.Shown.{Shown, flat};
+ghost use Rattle.muck_perm.specs.inner.Guards.{objects_of};
 ghost use Rattle.spec_prims.specs.Asking.{fault_of};
-ghost use Rattle.prim_prop.specs.Asked.{IsPathed, MayPass, named_in};
+ghost use Rattle.prim_prop.specs.inner.Asked.{IsPathed, MayPass, named_in};
 
 use muck_model::Dbref;
 use muck_perm::{Guard, verdict};

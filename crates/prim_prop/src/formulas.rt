@@ -1,11 +1,11 @@
 // PARSEMPI: a formula in a program.
 ghost use Rattle.std.specs.Prelude.{◌≡◌, take};
 ghost use Rattle.spec_commands.specs.Finding.{actor_of};
-ghost use Rattle.muf_frame.specs.Shown.{Shown, flat};
-ghost use Rattle.muck_perm.specs.Guards.{objects_of, world_of};
+ghost use Rattle.muf_frame.specs.inner.Shown.{Shown, flat};
+ghost use Rattle.muck_perm.specs.inner.Guards.{objects_of, world_of};
 ghost use Rattle.spec_prims.specs.Formulas.{parse_done, parsed};
-ghost use Rattle.prim_common.specs.Applied.{Makes};
-ghost use Rattle.prim_prop.specs.Parsed.{IsAnswered};
+ghost use Rattle.prim_common.specs.inner.Applied.{Makes};
+ghost use Rattle.prim_prop.specs.inner.Parsed.{IsAnswered};
 
 use crate::asked::named;
 use crate::looking::text_item;

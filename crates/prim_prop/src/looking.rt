@@ -3,12 +3,12 @@ ghost use Rattle.std.specs.Prelude.{◌≡◌, IfOk, take, false};
 ghost use Rattle.std.specs.Option.{option_copied, option_map_or};
 ghost use Rattle.muck_prop.specs.Store.{is_dir};
 ghost use Rattle.muf_model.specs.Datum.{text};
-ghost use Rattle.muf_model.specs.View.{view};
-ghost use Rattle.muf_frame.specs.Shown.{Shown, flat};
-ghost use Rattle.muck_perm.specs.Guards.{world_of};
+ghost use Rattle.muf_model.specs.inner.View.{view};
+ghost use Rattle.muf_frame.specs.inner.Shown.{Shown, flat};
+ghost use Rattle.muck_perm.specs.inner.Guards.{world_of};
 ghost use Rattle.spec_prims.specs.PropRows.{value_of, as_item, as_text, as_number, looked};
-ghost use Rattle.prim_common.specs.Applied.{Makes};
-ghost use Rattle.prim_prop.specs.Looks.{form_of, look_of};
+ghost use Rattle.prim_common.specs.inner.Applied.{Makes};
+ghost use Rattle.prim_prop.specs.inner.Looks.{form_of, look_of};
 
 use crate::asked::{named, path_of, permit_reading};
 use muck_model::{Line, NoMemory};

@@ -1,13 +1,13 @@
 // ENVPROP and ENVPROPSTR: the first of an object and its places upward that has a value.
 ghost use Rattle.std.specs.Prelude.{◌≡◌, [], ◌∷◌, IfOk, MatchOption, take};
 ghost use Rattle.spec_live.specs.Seen.{places_of};
-ghost use Rattle.muf_frame.specs.Shown.{Shown, flat};
-ghost use Rattle.muck_perm.specs.Guards.{objects_of, world_of};
+ghost use Rattle.muf_frame.specs.inner.Shown.{Shown, flat};
+ghost use Rattle.muck_perm.specs.inner.Guards.{objects_of, world_of};
 ghost use Rattle.spec_prims.specs.PropRows.{first_holder, sought};
-ghost use Rattle.prim_common.specs.Applied.{Makes, items_of};
+ghost use Rattle.prim_common.specs.inner.Applied.{Makes, items_of};
 ghost use Rattle.muf_model.specs.Datum.{object};
-ghost use Rattle.muf_model.specs.View.{view};
-ghost use Rattle.prim_prop.specs.Looks.{form_of};
+ghost use Rattle.muf_model.specs.inner.View.{view};
+ghost use Rattle.prim_prop.specs.inner.Looks.{form_of};
 
 use crate::asked::{named, path_of, permit_reading};
 use crate::looking::{Form, shown, value_of};

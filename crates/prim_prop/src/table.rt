@@ -2,11 +2,11 @@
 ghost use Rattle.std.specs.Prelude.{◌≡◌, ℕ, Option, is_some, take};
 ghost use Rattle.muf_model.specs.declared.prims.Family.TheVariants.{Property};
 ghost use Rattle.muf_model.specs.Prims.{family_of, is_there};
-ghost use Rattle.muf_frame.specs.Shown.{Shown, flat, locked_by};
-ghost use Rattle.muck_perm.specs.Guards.{world_of};
+ghost use Rattle.muf_frame.specs.inner.Shown.{Shown, flat, locked_by};
+ghost use Rattle.muck_perm.specs.inner.Guards.{world_of};
 ghost use Rattle.spec_prims.specs.PropRows.{property_row};
 ghost use Rattle.spec_prims.specs.Shared.{shared, taken};
-ghost use Rattle.prim_common.specs.Applied.{Applied, Makes, does_of};
+ghost use Rattle.prim_common.specs.inner.Applied.{Applied, Makes, does_of};
 
 use crate::formulas::parse;
 use crate::looking::{Form, Look, look_at};

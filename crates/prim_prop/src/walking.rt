@@ -6,12 +6,12 @@ ghost use Rattle.muck_model.specs.Bytes.{text_fault};
 ghost use Rattle.muck_prop.specs.Paths.{is_slash, path_text};
 ghost use Rattle.muck_prop.specs.Store.{path_or_top as path_or_root};
 ghost use Rattle.muf_model.specs.Datum.{text};
-ghost use Rattle.muf_model.specs.View.{view};
-ghost use Rattle.muf_frame.specs.Shown.{Shown, flat};
-ghost use Rattle.muck_perm.specs.Guards.{world_of};
+ghost use Rattle.muf_model.specs.inner.View.{view};
+ghost use Rattle.muf_frame.specs.inner.Shown.{Shown, flat};
+ghost use Rattle.muck_perm.specs.inner.Guards.{world_of};
 ghost use Rattle.spec_prims.specs.PropRows.{front, may_read, next_read, path_or_top, walked};
-ghost use Rattle.prim_common.specs.Applied.{Makes};
-ghost use Rattle.prim_prop.specs.Walks.{Starts, begun};
+ghost use Rattle.prim_common.specs.inner.Applied.{Makes};
+ghost use Rattle.prim_prop.specs.inner.Walks.{Starts, begun};
 
 use crate::asked::{named, path_of};
 use crate::looking::text_item;

@@ -1,11 +1,11 @@
 // SETPROP, ADDPROP and REMOVE_PROP.
 ghost use Rattle.std.specs.Prelude.{◌≡◌, IfOk, take};
 ghost use Rattle.std.specs.Option.{option_map};
-ghost use Rattle.muf_frame.specs.Shown.{Shown, flat};
-ghost use Rattle.muck_perm.specs.Guards.{world_of};
+ghost use Rattle.muf_frame.specs.inner.Shown.{Shown, flat};
+ghost use Rattle.muck_perm.specs.inner.Guards.{world_of};
 ghost use Rattle.spec_prims.specs.PropRows.{added, put, put_at, removed, text_or};
-ghost use Rattle.prim_common.specs.Applied.{Makes};
-ghost use Rattle.prim_prop.specs.Asked.{IsWritten, added_by, stored_by};
+ghost use Rattle.prim_common.specs.inner.Applied.{Makes};
+ghost use Rattle.prim_prop.specs.inner.Asked.{IsWritten, added_by, stored_by};
 
 use crate::asked::{named, path_of};
 use muck_model::{Dbref, NoMemory};

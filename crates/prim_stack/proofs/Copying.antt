@@ -9,14 +9,14 @@ use Rattle.muf_model.specs.declared.prims.Primitive.TheVariants.{Dup, DupTrue, O
 use Rattle.muf_model.specs.Needs.{any}
 use Rattle.muf_model.specs.Rows.{primitive}
 use Rattle.muf_frame.proofs.Ladders.{kinds, used_plain}
-use Rattle.muf_model.specs.View.{view}
+use Rattle.muf_model.specs.inner.View.{view}
 use Rattle.muf_model.specs.StackRows.{doubled, doubled_true, overed, tucked, picked, doubled_list}
 use Rattle.muf_model.specs.declared.value.Value.{Value}
-use Rattle.muf_frame.specs.Answers.{int_at}
+use Rattle.muf_frame.specs.inner.Answers.{int_at}
 use Rattle.muf_frame.proofs.Data.{map_take, map_drop, get_drop}
 use Rattle.std.proofs.Math.Seq.{drop-append_seam}
 use Rattle.prim_stack.proofs.Tops.{first_one}
-use Rattle.prim_stack.specs.Does.{true_in}
+use Rattle.prim_stack.specs.inner.Does.{true_in}
 
 abbrev or_else : {A : Type 0} → A → Option A → A
 or_else d (Some x) = x

@@ -1,5 +1,5 @@
 -- The tests of a primitive whose top item counts others, which may be anything.
-use Rattle.muf_frame.specs.Answers.{int_at}
+use Rattle.muf_frame.specs.inner.Answers.{int_at}
 use Rattle.std.proofs.Common.{◌≡◌, ◌∙◌, ap, refl, ℕ, zero, suc, ◌+◌, ◌-◌, ◌<◌, ◌≤◌, Bool, true, false, cond, List, [], ◌∷◌, ◌++◌, length, drop, arith}
 use Rattle.std.specs.Prelude.{ℤ, pos, negsuc, nat_lt, Option, Some, None}
 use Rattle.std.specs.Option.{option_or}

@@ -16,11 +16,11 @@ use Rattle.muf_frame.proofs.Ladders.{kinds, used_plain, used_whole}
 use Rattle.muf_model.specs.StackRows.{stored, storing, fetched, fetching, executed, aborted}
 use Rattle.muf_model.specs.declared.prims.Primitive.{Primitive}
 use Rattle.muf_model.specs.declared.prims.Primitive.TheVariants.{Fetch, Store, Execute, Abort}
-use Rattle.muf_model.specs.Flat.{Flat}
-use Rattle.muf_frame.specs.Moves.{scope_of}
-use Rattle.muf_frame.specs.Answers.{text_at}
+use Rattle.muf_model.specs.inner.Flat.{Flat}
+use Rattle.muf_frame.specs.inner.Moves.{scope_of}
+use Rattle.muf_frame.specs.inner.Answers.{text_at}
 use Rattle.muf_frame.proofs.Data.{map_drop}
-use Rattle.prim_stack.specs.Does.{as_variable, as_address}
+use Rattle.prim_stack.specs.inner.Does.{as_variable, as_address}
 
 abbrev fetch_read : Scope → Option ℕ → List Datum → Answer
 fetch_read s (Some v) rest = fetched (variable_at v s) rest

@@ -5,13 +5,13 @@ use Rattle.std.proofs.lemmas.List.{length-map, map-append, map-set}
 use Rattle.std.specs.List.{position, position_or_len}
 use Rattle.std.proofs.lemmas.Option.{slice_get-map}
 use Rattle.muf_model.specs.declared.value.Value.{Value}
-use Rattle.muf_model.specs.View.{view}
+use Rattle.muf_model.specs.inner.View.{view}
 use Rattle.muf_model.specs.StackRows.{is_mark, above, rotated, rotated_up, rotated_down, put_at}
 use Rattle.muf_model.specs.declared.fault.MufFault.TheVariants.{BadType}
 use Rattle.muf_model.specs.Datum.{Datum, int}
 use Rattle.muf_model.specs.Answer.{Answer, gives, refuses, needing, Scope, unless}
-use Rattle.muf_frame.specs.Answers.{int_at}
-use Rattle.prim_stack.specs.Does.{mark_in}
+use Rattle.muf_frame.specs.inner.Answers.{int_at}
+use Rattle.prim_stack.specs.inner.Does.{mark_in}
 use Rattle.muf_frame.proofs.Data.{map_take, map_drop}
 use Rattle.muf_frame.proofs.Alike.{map_reverse}
 use Rattle.muf_frame.proofs.Ladders.{kinds, used_plain, used_whole}

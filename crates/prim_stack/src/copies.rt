@@ -1,10 +1,10 @@
 // The primitives that copy items, and so may want memory.
 ghost use Rattle.std.specs.Prelude.{◌≡◌, ◌+◌, ◌<◌, ◌≤◌, ◌++◌, ℕ, Some, length, take, slice_get, IfOk, OnOk};
 ghost use Rattle.muf_model.specs.declared.prims.Primitive.TheVariants.{Dup, DupTrue, Over, Tuck, Pick, DupN, LDup};
-ghost use Rattle.muf_model.specs.View.{view};
-ghost use Rattle.muf_frame.specs.Shown.{Shown, flat};
-ghost use Rattle.muf_frame.specs.Answers.{IsRowOr};
-ghost use Rattle.prim_stack.specs.Does.{true_in};
+ghost use Rattle.muf_model.specs.inner.View.{view};
+ghost use Rattle.muf_frame.specs.inner.Shown.{Shown, flat};
+ghost use Rattle.muf_frame.specs.inner.Answers.{IsRowOr};
+ghost use Rattle.prim_stack.specs.inner.Does.{true_in};
 
 use crate::moves::count;
 use muck_model::NoMemory;

@@ -3,8 +3,8 @@ ghost use Rattle.std.specs.Prelude.{◌≡◌, ◌∷◌, []};
 ghost use Rattle.muf_model.specs.Needs.{takes, any};
 ghost use Rattle.muf_model.specs.Kinds.{is_kind, is_so};
 ghost use Rattle.muf_model.specs.StackRows.{judged};
-ghost use Rattle.muf_frame.specs.Shown.{Shown, flat};
-ghost use Rattle.muf_frame.specs.Answers.{Used};
+ghost use Rattle.muf_frame.specs.inner.Shown.{Shown, flat};
+ghost use Rattle.muf_frame.specs.inner.Answers.{Used};
 
 use muf_frame::Frame;
 use muf_model::{ItemKind, MufFault, Prim, Value};

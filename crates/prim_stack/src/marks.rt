@@ -4,10 +4,10 @@ ghost use Rattle.std.specs.List.{position};
 ghost use Rattle.muf_model.specs.Datum.{int};
 ghost use Rattle.muf_model.specs.declared.prims.Primitive.TheVariants.{CloseMark};
 ghost use Rattle.muf_model.specs.StackRows.{is_mark, above};
-ghost use Rattle.muf_model.specs.View.{view};
-ghost use Rattle.muf_frame.specs.Shown.{Shown, flat, locked_by};
-ghost use Rattle.muf_frame.specs.Answers.{IsRow};
-ghost use Rattle.prim_stack.specs.Does.{mark_in};
+ghost use Rattle.muf_model.specs.inner.View.{view};
+ghost use Rattle.muf_frame.specs.inner.Shown.{Shown, flat, locked_by};
+ghost use Rattle.muf_frame.specs.inner.Answers.{IsRow};
+ghost use Rattle.prim_stack.specs.inner.Does.{mark_in};
 
 use muf_frame::Frame;
 use muf_model::{MufFault, Value};

@@ -4,9 +4,9 @@ ghost use Rattle.muf_model.specs.declared.prims.Primitive.TheVariants.{Pop, Swap
 ghost use Rattle.muf_model.specs.Answer.{Answer, refuses};
 ghost use Rattle.muf_model.specs.Datum.{Datum};
 ghost use Rattle.muf_model.specs.StackRows.{rotated_up, rotated_down};
-ghost use Rattle.muf_frame.specs.Shown.{Shown, flat, locked_by};
-ghost use Rattle.muf_frame.specs.Answers.{IsRow, int_at};
-ghost use Rattle.prim_stack.specs.Does.{counting};
+ghost use Rattle.muf_frame.specs.inner.Shown.{Shown, flat, locked_by};
+ghost use Rattle.muf_frame.specs.inner.Answers.{IsRow, int_at};
+ghost use Rattle.prim_stack.specs.inner.Does.{counting};
 
 use muf_frame::Frame;
 use muf_model::{MufFault, STACK_MOST, Value};

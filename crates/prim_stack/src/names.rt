@@ -4,11 +4,11 @@ ghost use Rattle.std.specs.Option.{option_and_then};
 ghost use Rattle.muf_model.specs.declared.prims.Primitive.TheVariants.{Fetch, Store, Execute, Abort};
 ghost use Rattle.muf_model.specs.Rows.{primitive};
 ghost use Rattle.muf_model.specs.Answer.{variable_at};
-ghost use Rattle.muf_model.specs.View.{view};
-ghost use Rattle.muf_frame.specs.Shown.{Shown, flat};
-ghost use Rattle.muf_frame.specs.Moves.{scope_of, with_variable};
-ghost use Rattle.muf_frame.specs.Answers.{IsRow, IsRowOr, text_at};
-ghost use Rattle.prim_stack.specs.Does.{as_variable, as_address, Does, HasMemory};
+ghost use Rattle.muf_model.specs.inner.View.{view};
+ghost use Rattle.muf_frame.specs.inner.Shown.{Shown, flat};
+ghost use Rattle.muf_frame.specs.inner.Moves.{scope_of, with_variable};
+ghost use Rattle.muf_frame.specs.inner.Answers.{IsRow, IsRowOr, text_at};
+ghost use Rattle.prim_stack.specs.inner.Does.{as_variable, as_address, Does, HasMemory};
 
 use crate::Done;
 use muck_model::{Dbref, NoMemory};

@@ -3,10 +3,10 @@ ghost use Rattle.std.specs.Prelude.{◌≡◌, true, false};
 ghost use Rattle.muf_model.specs.declared.prims.Family.TheVariants.{Stack};
 ghost use Rattle.muf_model.specs.Rows.{primitive};
 ghost use Rattle.muf_model.specs.Prims.{family_of};
-ghost use Rattle.muf_frame.specs.Shown.{Shown, flat};
-ghost use Rattle.muf_frame.specs.Moves.{scope_of};
-ghost use Rattle.muf_frame.specs.Answers.{IsRow, IsRowOr};
-ghost use Rattle.prim_stack.specs.Does.{Does, HasMemory, moves, copies};
+ghost use Rattle.muf_frame.specs.inner.Shown.{Shown, flat};
+ghost use Rattle.muf_frame.specs.inner.Moves.{scope_of};
+ghost use Rattle.muf_frame.specs.inner.Answers.{IsRow, IsRowOr};
+ghost use Rattle.prim_stack.specs.inner.Does.{Does, HasMemory, moves, copies};
 
 use crate::{copies, kinds, marks, moves, names};
 use muf_frame::{Frame, PrimFault};

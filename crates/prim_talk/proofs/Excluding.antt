@@ -12,13 +12,13 @@ use Rattle.muf_model.specs.declared.prims.Primitive.TheVariants.{NotifyExclude}
 use Rattle.muf_model.specs.Datum.{Datum, int, text, object}
 use Rattle.muf_model.specs.Needs.{one_there, a_near_one}
 use Rattle.muf_model.specs.Ladder.{times}
-use Rattle.muf_frame.specs.Answers.{object_at, as_object}
+use Rattle.muf_frame.specs.inner.Answers.{object_at, as_object}
 use Rattle.muf_frame.proofs.Data.{get_drop}
 use Rattle.spec_prims.specs.Asking.{numbered}
 use Rattle.spec_prims.specs.Row.{Row, gives, refuses}
 use Rattle.spec_prims.specs.Shared.{taken}
 use Rattle.spec_prims.specs.Talk.{object_in, told_but, notified_but}
-use Rattle.prim_talk.specs.Told.{counted_in}
+use Rattle.prim_talk.specs.inner.Told.{counted_in}
 
 -- so many objects, gathered one by one
 

@@ -13,10 +13,10 @@ use Rattle.muf_model.specs.declared.value.Value.{Value}
 use Rattle.muf_model.specs.declared.value.Value.TheVariants.{Int, Ref}
 use Rattle.spec_rights.specs.declared.act.Actor.{Actor}
 use Rattle.muf_model.specs.Datum.{Datum, object}
-use Rattle.muf_frame.specs.Answers.{object_at}
+use Rattle.muf_frame.specs.inner.Answers.{object_at}
 use Rattle.spec_prims.specs.Asking.{numbered}
 use Rattle.spec_prims.specs.Row.{gives}
-use Rattle.muf_model.specs.View.{view}
+use Rattle.muf_model.specs.inner.View.{view}
 use Rattle.spec_prims.specs.Talk.{counted, player_item, number_item, with_count, players, player_numbered, player_at, seats, seat_numbered, seat_at, is_place, descriptors}
 
 -- the players of connections

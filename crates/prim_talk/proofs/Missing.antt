@@ -6,7 +6,7 @@ use Rattle.muf_model.specs.declared.prims.Primitive.{Primitive}
 use Rattle.muf_model.specs.declared.prims.Primitive.TheVariants.{Notify, NotifyExclude, IsAwake, Online, ConCount, ConDbref, Descriptors, Descr, ConBoot}
 use Rattle.muf_model.specs.Datum.{Datum}
 use Rattle.spec_prims.specs.Talk.{talk_row}
-use Rattle.prim_common.specs.Applied.{argued_of}
+use Rattle.prim_common.specs.inner.Applied.{argued_of}
 
 pub no_row : (descr : Option ℕ) (p : Primitive) → (p ≡ Notify → ⊥) → (p ≡ NotifyExclude → ⊥) → (p ≡ IsAwake → ⊥) → (p ≡ Online → ⊥) → (p ≡ ConCount → ⊥) → (p ≡ ConDbref → ⊥) → (p ≡ Descriptors → ⊥) → (p ≡ Descr → ⊥) → (p ≡ ConBoot → ⊥) → talk_row descr p ≡ None
 no_row descr Notify a b c d e f g h i = absurd (a refl)

@@ -14,8 +14,8 @@ use Rattle.spec_prims.specs.Shared.{taken, first_fault, row_in, done_by, shared}
 use Rattle.spec_prims.specs.Talk.{talk_row, is_talk_family}
 use Rattle.spec_prims.proofs.Fits.{Fits, fits_talk}
 use Rattle.spec_prims.proofs.There.{talk_there}
-use Rattle.prim_common.specs.Applied.{argued_of, does_of}
-use Rattle.prim_common.specs.Tests.{Passes}
+use Rattle.prim_common.specs.inner.Applied.{argued_of, does_of}
+use Rattle.prim_common.specs.inner.Tests.{Passes}
 use Rattle.prim_common.proofs.Applying.{fails_first, gives_first, fits_of}
 
 shared_talk : (p : Primitive) (a : Actor) (descr : Option ℕ) (locked : ℕ) (stack : List Datum) (w : Live) → family_of p ≡ Talk → shared p a descr locked stack w ≡ done_by (talk_row descr p) p a locked stack w

@@ -3,12 +3,12 @@ ghost use Rattle.std.specs.Prelude.{◌≡◌, ◌≤◌, IfOk, map, filter, fil
 ghost use Rattle.std.specs.Int.{w32, cast_signed};
 ghost use Rattle.std.specs.Option.{option_map};
 ghost use Rattle.muf_model.specs.declared.value.Value.TheVariants.{Int, Ref};
-ghost use Rattle.muf_model.specs.View.{view};
-ghost use Rattle.muf_frame.specs.Shown.{Shown, flat};
-ghost use Rattle.muck_perm.specs.Guards.{world_of};
+ghost use Rattle.muf_model.specs.inner.View.{view};
+ghost use Rattle.muf_frame.specs.inner.Shown.{Shown, flat};
+ghost use Rattle.muck_perm.specs.inner.Guards.{world_of};
 ghost use Rattle.spec_live.specs.Connections.{is_of, has_player};
 ghost use Rattle.spec_prims.specs.Talk.{counted, with_count, player_at, player_numbered, is_place, player_item, number_item, players, object_in, seated, seat_numbered, seat_at};
-ghost use Rattle.prim_common.specs.Applied.{items_of};
+ghost use Rattle.prim_common.specs.inner.Applied.{items_of};
 
 use muck_board::Connection;
 use muck_model::{Dbref, NoMemory};

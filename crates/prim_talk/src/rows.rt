@@ -4,16 +4,16 @@ ghost use Rattle.std.specs.Int.{w32, cast_signed};
 ghost use Rattle.std.specs.Option.{option_map, option_map_or};
 ghost use Rattle.muf_model.specs.declared.prims.Primitive.TheVariants.{NotifyExclude};
 ghost use Rattle.muf_model.specs.Datum.{int};
-ghost use Rattle.muf_frame.specs.Shown.{Shown, flat};
+ghost use Rattle.muf_frame.specs.inner.Shown.{Shown, flat};
 ghost use Rattle.spec_rights.specs.declared.act.Act.TheVariants.{Shared};
 ghost use Rattle.spec_rights.specs.Verdict.{verdict};
-ghost use Rattle.muck_perm.specs.Guards.{world_of, objects_of};
+ghost use Rattle.muck_perm.specs.inner.Guards.{world_of, objects_of};
 ghost use Rattle.spec_prims.specs.Asking.{fault_of};
 ghost use Rattle.spec_prims.specs.Row.{unless};
 ghost use Rattle.spec_prims.specs.Shared.{taken};
 ghost use Rattle.spec_prims.specs.Talk.{notified, notified_but, booted, booted_seat, awake, online, connected, connected_at, outside, descriptors};
-ghost use Rattle.prim_common.specs.Applied.{Makes, items_of};
-ghost use Rattle.prim_talk.specs.Told.{told_in, counted_in};
+ghost use Rattle.prim_common.specs.inner.Applied.{Makes, items_of};
+ghost use Rattle.prim_talk.specs.inner.Told.{told_in, counted_in};
 
 use crate::items::{
     count_connected, counted, excluded, is_place, numbers_counted, player_at, players_counted,

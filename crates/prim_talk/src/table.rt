@@ -2,11 +2,11 @@
 ghost use Rattle.std.specs.Prelude.{◌≡◌, is_some, take, ℕ, Option};
 ghost use Rattle.muf_model.specs.declared.prims.Family.TheVariants.{Talk};
 ghost use Rattle.muf_model.specs.Prims.{family_of, is_there};
-ghost use Rattle.muf_frame.specs.Shown.{Shown, flat, locked_by};
-ghost use Rattle.muck_perm.specs.Guards.{world_of};
+ghost use Rattle.muf_frame.specs.inner.Shown.{Shown, flat, locked_by};
+ghost use Rattle.muck_perm.specs.inner.Guards.{world_of};
 ghost use Rattle.spec_prims.specs.Shared.{shared, taken};
 ghost use Rattle.spec_prims.specs.Talk.{talk_row};
-ghost use Rattle.prim_common.specs.Applied.{Applied, Makes, argued_of, does_of};
+ghost use Rattle.prim_common.specs.inner.Applied.{Applied, Makes, argued_of, does_of};
 
 use crate::rows;
 use muck_perm::Guard;

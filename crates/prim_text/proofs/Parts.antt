@@ -7,7 +7,7 @@ use Rattle.std.specs.Prelude.{pos}
 use Rattle.std.proofs.lemmas.List.{length-map}
 use Rattle.muf_model.specs.declared.value.Value.{Value}
 use Rattle.muf_model.specs.Answer.{makes}
-use Rattle.muf_model.specs.View.{view}
+use Rattle.muf_model.specs.inner.View.{view}
 use Rattle.muck_model.specs.Bytes.{text_fault}
 use Rattle.muf_model.specs.Texts.{first_place, pieces, joined}
 use Rattle.muf_model.specs.TextRows.{sized, counted_texts}

@@ -8,9 +8,9 @@ use Rattle.muf_model.specs.Answer.{Answer, refuses, Scope, Made, plain, put, unl
 use Rattle.muf_model.specs.Needs.{takes, a_text, an_int, int_or_object}
 use Rattle.muf_model.specs.Rows.{used}
 use Rattle.muf_model.specs.TextRows.{one_text, two_texts, three_texts, text_and_int, texts_and_int, text_and_ints, one_integer, one_number}
-use Rattle.muf_frame.specs.Answers.{int_at, object_at, text_at}
+use Rattle.muf_frame.specs.inner.Answers.{int_at, object_at, text_at}
 use Rattle.muf_frame.proofs.Ladders.{kinds, used_plain}
-use Rattle.prim_text.specs.Made.{number_at_top}
+use Rattle.prim_text.specs.inner.Made.{number_at_top}
 
 abbrev one_text_read : (List ℕ → Made) → Option (List ℕ) → List Datum → Answer
 one_text_read f (Some s) rest = put 1 (f s) rest

@@ -3,12 +3,12 @@ ghost use Rattle.std.specs.Prelude.{◌≡◌, ◌≤◌, ◌+◌, ◌++◌, Non
 ghost use Rattle.muck_model.specs.Bytes.{text_fault};
 ghost use Rattle.muf_model.specs.Answer.{put, makes};
 ghost use Rattle.muf_model.specs.TextRows.{sized, number, two_parts};
-ghost use Rattle.muf_model.specs.View.{view};
+ghost use Rattle.muf_model.specs.inner.View.{view};
 ghost use Rattle.muf_model.specs.Datum.{text};
-ghost use Rattle.muf_frame.specs.Shown.{Shown, flat};
-ghost use Rattle.muf_frame.specs.Answers.{Answered, AppliedOr};
+ghost use Rattle.muf_frame.specs.inner.Shown.{Shown, flat};
+ghost use Rattle.muf_frame.specs.inner.Answers.{Answered, AppliedOr};
 ghost use Rattle.muf_model.proofs.FaultTexts.{IsInside};
-ghost use Rattle.prim_text.specs.Made.{Makes, made_of};
+ghost use Rattle.prim_text.specs.inner.Made.{Makes, made_of};
 
 use muck_model::{Line, NoMemory, TEXT_MOST};
 use muf_frame::{Frame, PrimFault};

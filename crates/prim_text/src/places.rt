@@ -4,7 +4,7 @@ ghost use Rattle.muck_model.specs.Bytes.{text_fault};
 ghost use Rattle.muf_model.specs.Texts.{first_place, last_place, pieces, joined};
 ghost use Rattle.muf_model.specs.Datum.{text};
 ghost use Rattle.muf_model.specs.TextRows.{sized};
-ghost use Rattle.muf_model.specs.View.{view};
+ghost use Rattle.muf_model.specs.inner.View.{view};
 ghost use Rattle.muf_model.proofs.FaultTexts.{IsInside};
 
 use crate::made::text_of;

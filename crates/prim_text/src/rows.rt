@@ -6,7 +6,7 @@ ghost use Rattle.muck_model.specs.Bytes.{text_fault};
 ghost use Rattle.muf_model.proofs.FaultTexts.{IsInside};
 ghost use Rattle.muf_model.specs.Texts.{pieces, one_byte};
 ghost use Rattle.muf_model.specs.TextRows as row;
-ghost use Rattle.prim_text.specs.Made.{Makes, made_of, sought_in};
+ghost use Rattle.prim_text.specs.inner.Made.{Makes, made_of, sought_in};
 
 use crate::made::{Made, number, sized, two_parts};
 use crate::numbers::{difference, first_byte, lead_stripped, number_in, tail_stripped};
@@ -116,7 +116,7 @@ fn of_sought(alloc: Global, prim: Prim, bytes: &[u8], sought: &[u8]) -> Result<M
 }
 
 /// The primitives that seek a text in another one.
-#[tactic(auto, unfolding(crate::specs::Made::sought_in))]
+#[tactic(auto, unfolding(crate::specs::inner::Made::sought_in))]
 pub(crate) fn seeking(
     alloc: Global,
     prim: Prim,

@@ -3,9 +3,9 @@ ghost use Rattle.std.specs.Prelude.{◌≡◌, ◌∷◌, []};
 ghost use Rattle.muf_model.specs.Needs.{takes, a_text, an_int, int_or_object};
 ghost use Rattle.muf_model.specs.TextRows as row;
 ghost use Rattle.muf_model.specs.declared.prims.Primitive.TheVariants.{StrNCmp, StrCut, MidStr, Subst, IntToStr, IntToChar};
-ghost use Rattle.muf_frame.specs.Shown.{Shown, flat};
-ghost use Rattle.muf_frame.specs.Answers.{UsedOr};
-ghost use Rattle.prim_text.specs.Made.{number_at_top, sought_in};
+ghost use Rattle.muf_frame.specs.inner.Shown.{Shown, flat};
+ghost use Rattle.muf_frame.specs.inner.Answers.{UsedOr};
+ghost use Rattle.prim_text.specs.inner.Made.{number_at_top, sought_in};
 
 use crate::made::give;
 use crate::rows;

@@ -3,9 +3,9 @@ ghost use Rattle.std.specs.Prelude.{◌≡◌, ℕ};
 ghost use Rattle.muf_model.specs.declared.prims.Family.TheVariants.{Text};
 ghost use Rattle.muf_model.specs.Prims.{family_of};
 ghost use Rattle.muf_model.specs.Rows.{primitive};
-ghost use Rattle.muf_frame.specs.Shown.{Shown, flat};
-ghost use Rattle.muf_frame.specs.Moves.{scope_of};
-ghost use Rattle.muf_frame.specs.Answers.{AppliedOr};
+ghost use Rattle.muf_frame.specs.inner.Shown.{Shown, flat};
+ghost use Rattle.muf_frame.specs.inner.Moves.{scope_of};
+ghost use Rattle.muf_frame.specs.inner.Answers.{AppliedOr};
 
 use crate::shapes;
 use muf_frame::{Frame, PrimFault};
@@ -14,7 +14,7 @@ use std::alloc::Global;
 
 /// Uses a primitive of texts: the frame is as its row says, or unchanged and the fault is that of the row. After
 /// `NoMemory` nothing is said of the frame.
-#[tactic(auto, unfolding(crate::specs::Made::sought_in))]
+#[tactic(auto, unfolding(crate::specs::inner::Made::sought_in))]
 pub fn apply(alloc: Global, prim: Prim, frame: &mut Frame) -> Result<(), PrimFault>
     requires { family_of prim ≡ Text }
     ensures { (words : ℕ) → AppliedOr (primitive prim (scope_of words (flat frame.old)) (flat frame.old).stack) frame.old frame.new result }

@@ -25,7 +25,7 @@ use Rattle.spec_admin.specs.declared.word.AdminWord.{AdminWord}
 use Rattle.spec_admin.specs.declared.word.AdminWord.TheVariants.{Processes, Kill, Tune as TuneWord, Boot, Wall, NewPlayer, NewPassword, Dump, Shutdown}
 use Rattle.spec_admin.specs.Parameters.{retuned}
 use Rattle.spec_admin.specs.Lines.{by_wizard, parameters_shown, retune_told, parameter_set, tune_done, player_booted, shouted, admin_words, admin_shape, admin_done, admin_line}
-use Rattle.spec_admin.specs.Following.{MayFollow}
+use Rattle.spec_admin.specs.inner.Following.{MayFollow}
 use Rattle.spec_admin.proofs.Tuned.{retuned_in_range}
 
 -- What is so of whatever a command is over with, and of the command, is so of it with its arguments.

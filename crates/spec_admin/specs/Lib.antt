@@ -1,7 +1,6 @@
+pub mod inner
 pub mod Parameters
 pub mod Replies
 pub mod Processes
 pub mod Players
 pub mod Lines
-pub mod Following
-pub mod Worked

@@ -15,7 +15,7 @@ use Rattle.spec_events.specs.World.{World, connection}
 use Rattle.spec_events.specs.Steps.{has_claim, is_lawful, is_allowed, is_died, happened, effect}
 use Rattle.spec_events.specs.Slices.{sliced}
 use Rattle.spec_events.specs.Histories.{after, AllLawful}
-use Rattle.spec_claims.specs.Claims.{IsSole, AreOthers}
+use Rattle.spec_claims.specs.inner.Claims.{IsSole, AreOthers}
 use Rattle.spec_claims.proofs.Kept.{same_done, same_sliced}
 
 -- Lists.

@@ -11,7 +11,7 @@ use Rattle.spec_live.specs.Lives.{Live, Change, on_board, leave, enter}
 use Rattle.spec_rights.specs.declared.act.Actor.{Actor}
 use Rattle.spec_rights.specs.Licence.{Open, SameTies, LeaversLicensed}
 use Rattle.spec_rights.proofs.Licences.{Quiet, open_both, tie, ties}
-use Rattle.spec_commands.specs.Rising.{IsAbove, IsRising}
+use Rattle.spec_commands.specs.inner.Rising.{IsAbove, IsRising}
 
 unfoldable pub numbers : List Connection → List ℕ
 numbers cs = map (λ c. c.number) cs

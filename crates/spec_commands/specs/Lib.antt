@@ -1,3 +1,4 @@
+pub mod inner
 pub mod Texts
 pub mod Replies
 pub mod Messages
@@ -11,8 +12,4 @@ pub mod Reading
 pub mod Commands
 pub mod Free
 pub mod Talk
-pub mod Rising
-pub mod Company
 pub mod Editing
-pub mod EditRows
-pub mod ProgramRows

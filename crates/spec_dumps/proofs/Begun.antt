@@ -9,7 +9,7 @@ use Rattle.spec_events.specs.Histories.{History}
 use Rattle.spec_events.specs.Logged.{is_dump, is_stored, is_failed}
 use Rattle.spec_dumps.specs.Fronts.{persisted, last_cut, place_of_note, stands_at, IsFront, Loads, file_most}
 use Rattle.spec_dumps.specs.Survival.{until}
-use Rattle.spec_dumps.specs.Holding.{IsAt, IsCounted, Rests}
+use Rattle.spec_dumps.specs.inner.Holding.{IsAt, IsCounted, Rests}
 
 module _ {D : Type 0} (seen : D → List ℕ) (moment : D → ℕ) (images : D → ℕ → List ℕ → Type 0) (faults : D → ℕ) (log : LogState) (f s : D) (w : World) (note : Note)
     (is : IsMounted seen moment images log f s) (limit : log.most ≡ file_most) (holds : log.chosen.held.world ≡ persisted w) (consistent : IsConsistent w.live.objects)

@@ -12,7 +12,7 @@ use Rattle.spec_events.specs.Histories.{History, after, entered, noted}
 use Rattle.spec_events.specs.Logged.{is_cut, is_stored, is_failed}
 use Rattle.spec_dumps.specs.Fronts.{cut_behind, last_cut, at_cut, number_of_cut, number_at, IsFront}
 use Rattle.spec_dumps.specs.Survival.{HasCause, IsSafe}
-use Rattle.spec_dumps.specs.Holding.{IsAt, IsCounted, IsUsable, Keeps, Rests}
+use Rattle.spec_dumps.specs.inner.Holding.{IsAt, IsCounted, IsUsable, Keeps, Rests}
 use Rattle.spec_dumps.proofs.Lists.{got_last, length_last}
 use Rattle.spec_dumps.proofs.Fronts.{loads_by}
 use Rattle.spec_dumps.proofs.Moving.{loads_now}

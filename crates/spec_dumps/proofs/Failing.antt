@@ -7,7 +7,7 @@ use Rattle.muck_model.specs.declared.note.Note.{Note}
 use Rattle.muck_log.specs.Store.{LogState}
 use Rattle.spec_events.specs.Histories.{History, entered, noted}
 use Rattle.spec_dumps.specs.Fronts.{at_cut, Overflows}
-use Rattle.spec_dumps.specs.Holding.{IsAt, IsCounted, Keeps, Rests, Fails}
+use Rattle.spec_dumps.specs.inner.Holding.{IsAt, IsCounted, Keeps, Rests, Fails}
 use Rattle.spec_dumps.proofs.Noting.{front_noted}
 use Rattle.spec_dumps.proofs.Cutting.{FailsBy, rests_next}
 

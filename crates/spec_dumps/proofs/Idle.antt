@@ -13,7 +13,7 @@ use Rattle.spec_events.proofs.Done.{done_going}
 use Rattle.spec_events.proofs.Taken.{sliced_going}
 use Rattle.spec_events.proofs.Runs.{now-grew}
 use Rattle.spec_events.specs.Logged.{is_dump}
-use Rattle.spec_dumps.specs.Holding.{Quietly}
+use Rattle.spec_dumps.specs.inner.Holding.{Quietly}
 
 -- its number
 abbrev number_of : Option (ℕ × List ℕ) → Option ℕ

@@ -10,7 +10,7 @@ use Rattle.muck_log.specs.Store.{LeavesOnly, LeavesBoth, stored}
 use Rattle.spec_events.specs.World.{World}
 use Rattle.spec_dumps.specs.Fronts.{Loads}
 use Rattle.spec_dumps.specs.Survival.{until, Survives, IsSafe}
-use Rattle.spec_dumps.specs.Holding.{IsAt}
+use Rattle.spec_dumps.specs.inner.Holding.{IsAt}
 
 -- the stretch of a note that isn't the last one doesn't last until now
 until_then : (clock : Note → ℕ) (notes : List Note) (n now now' : ℕ) → suc n < length notes → until clock notes n now ≡ until clock notes n now'

@@ -13,7 +13,7 @@ use Rattle.spec_events.specs.World.{World}
 use Rattle.spec_events.specs.Logged.{is_dump, is_stored, is_failed}
 use Rattle.spec_dumps.specs.Fronts.{stands_at, at_cut, place_of_note, IsFront, Loads, Overflows, dumped_on}
 use Rattle.spec_dumps.specs.Survival.{until, AllNoted, Survives, HasCause, AllCaused, AllDeltas}
-use Rattle.spec_dumps.specs.Holding.{IsAt}
+use Rattle.spec_dumps.specs.inner.Holding.{IsAt}
 use Rattle.spec_dumps.proofs.Lists.{got_on, got_last, got_past, length_last}
 use Rattle.spec_dumps.proofs.Fronts.{ArePlaced, stands_on, place_on, note_within, front_on, front_later, front_beside, loads_by}
 

@@ -17,7 +17,7 @@ use Rattle.spec_events.proofs.Runs.{grew_nothing, grew_one, grew_on}
 use Rattle.spec_events.specs.Logged.{is_dump, is_stored, is_failed}
 use Rattle.spec_dumps.specs.Fronts.{stands_at, at_cut, last_cut, number_at, IsFront, Overflows, dumped_on}
 use Rattle.spec_dumps.specs.Survival.{Survives, AllCaused, AllDeltas, IsSafe}
-use Rattle.spec_dumps.specs.Holding.{Quietly, IsUsable, Keeps, Rests, IsDumped, Fails}
+use Rattle.spec_dumps.specs.inner.Holding.{Quietly, IsUsable, Keeps, Rests, IsDumped, Fails}
 use Rattle.spec_dumps.proofs.Fronts.{ArePlaced, stands_on, front_on, loads_by, last_cut_quiet, last_cut_short, at_cut_quiet, number_on}
 
 any_append : (es fs : List Entry) → list_any (λ (e : Entry). is_dump e.event) es ≡ false → list_any (λ (e : Entry). is_dump e.event) fs ≡ false → list_any (λ (e : Entry). is_dump e.event) (es ++ fs) ≡ false

@@ -1,10 +1,10 @@
 -- The log is mounted again, behind a dump that failed.
 use Rattle.std.proofs.Common.{◌≡◌, ℕ, ◌≤◌, List, subst, arith, Option, Some, None, Result, Ok, Err}
 use Rattle.muck_log.specs.Store.{Chosen, Damage, LogState, LeavesOnly, stored}
-use Rattle.muck_log.specs.Mount.{IsMountedAs}
+use Rattle.muck_log.specs.inner.Mount.{IsMountedAs}
 use Rattle.spec_events.specs.Histories.{History}
 use Rattle.spec_dumps.specs.Fronts.{IsFront, Loads, file_most}
-use Rattle.spec_dumps.specs.Holding.{Keeps}
+use Rattle.spec_dumps.specs.inner.Holding.{Keeps}
 use Rattle.spec_dumps.proofs.Moving.{safe_kept, loads_now}
 
 module _ {D : Type 0} (seen : D → List ℕ) (moment : D → ℕ) (images : D → ℕ → List ℕ → Type 0) (faults : D → ℕ) (log : Option LogState) (f s : D) (mounted : ℕ) (h : History) (v : Keeps seen moment images faults log f s mounted h) where

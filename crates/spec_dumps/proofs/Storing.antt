@@ -14,7 +14,7 @@ use Rattle.spec_events.specs.Histories.{History, after, entered, noted}
 use Rattle.spec_events.specs.Logged.{is_cut, is_stored, is_failed}
 use Rattle.spec_dumps.specs.Fronts.{persisted, last_cut, at_cut, number_at, IsNotedBy, IsFront, Loads, dumped_on, file_most}
 use Rattle.spec_dumps.specs.Survival.{AllNoted, StandsWhole}
-use Rattle.spec_dumps.specs.Holding.{IsAt, IsCounted, Keeps, Rests, IsDumped}
+use Rattle.spec_dumps.specs.inner.Holding.{IsAt, IsCounted, Keeps, Rests, IsDumped}
 use Rattle.spec_dumps.proofs.Lists.{got_last, length_last}
 use Rattle.spec_dumps.proofs.Fronts.{note_within, noted_on, number_on, last_cut_short, last_cut_taken, last_cut_front, last_cut_stands}
 use Rattle.spec_dumps.proofs.Moving.{safe_moved}

@@ -1,3 +1,3 @@
+pub mod inner
 pub mod Fronts
 pub mod Survival
-pub mod Holding

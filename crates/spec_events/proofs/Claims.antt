@@ -13,7 +13,7 @@ use Rattle.muck_queue.specs.declared.process.Process.{Process}
 use Rattle.muck_queue.specs.Queues.{Queue, has_pid, is_due, is_on, is_before, earlier, earliest, next_due, claimed}
 use Rattle.spec_events.specs.World.{World, on_queue}
 use Rattle.spec_events.specs.Steps.{has_claim, is_there, is_lawful, effect, next_process}
-use Rattle.spec_events.specs.Sound.{IsSound}
+use Rattle.spec_events.specs.inner.Sound.{IsSound}
 
 -- p is one of them
 data Among (p : Process) : List Process → Type 0 where

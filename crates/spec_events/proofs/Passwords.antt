@@ -23,7 +23,7 @@ use Rattle.spec_commands.specs.Replies.{goodbye}
 use Rattle.spec_commands.specs.Finding.{actor_of}
 use Rattle.spec_commands.specs.Talking.{who_shown}
 use Rattle.spec_commands.specs.Talk.{welcome, refused_login, proved, let_in, logged_in, connecting, quit, at_login, waits, parted, gone_away}
-use Rattle.spec_commands.specs.Rising.{IsAbove, IsRising}
+use Rattle.spec_commands.specs.inner.Rising.{IsAbove, IsRising}
 use Rattle.spec_commands.proofs.Showing.{quiet_who_shown, quiet_waits}
 use Rattle.spec_commands.proofs.Lines.{quiet_parted}
 use Rattle.muck_queue.specs.Queues.{reader, without as process_without, on_process, told_line}

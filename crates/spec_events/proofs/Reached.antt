@@ -17,14 +17,14 @@ use Rattle.spec_live.specs.Lives.{Live, Change, followed, reading, on_board}
 use Rattle.spec_admin.specs.declared.word.Parameter.TheVariants.{InstrSlice, PreemptUnits, M1Units, M2Units, ProcessLimit, PlayerProcesses, MpiCommands, DumpInterval}
 use Rattle.spec_admin.specs.Parameters.{IsInRange}
 use Rattle.spec_commands.specs.Talk.{welcome, parted, gone_away}
-use Rattle.spec_commands.specs.Rising.{IsAbove, IsRising}
+use Rattle.spec_commands.specs.inner.Rising.{IsAbove, IsRising}
 use Rattle.spec_commands.proofs.Numbered.{rising_by, seating_quiet, seating_one}
 use Rattle.spec_commands.proofs.Lines.{quiet_parted}
 use Rattle.spec_events.specs.World.{World, connection, queue_of, is_leaving, askers_of, on_live, booted, starting}
 use Rattle.spec_events.specs.Dumping.{dump_stored, dump_failed, told_each}
 use Rattle.spec_events.specs.Steps.{is_free, may_idle, is_allowed, is_lawful, is_died, happened, effect, next_ready}
 use Rattle.spec_events.specs.Histories.{by_porter}
-use Rattle.spec_events.specs.Sound.{IsSound}
+use Rattle.spec_events.specs.inner.Sound.{IsSound}
 use Rattle.spec_events.proofs.Quietly.{quietly_live, quiet_told_each}
 use Rattle.spec_events.proofs.Done.{Going, in_range_as, going_quietly, going_live, done_going}
 use Rattle.spec_events.proofs.Taken.{sliced_going}

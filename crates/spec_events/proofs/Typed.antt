@@ -34,7 +34,7 @@ use Rattle.spec_commands.proofs.Gone.{world_of, whole_ended}
 use Rattle.spec_commands.proofs.Permitted.{whole_next, played_leading}
 use Rattle.spec_commands.proofs.Showing.{quiet_waits}
 use Rattle.muck_queue.specs.Queues.{Queue}
-use Rattle.spec_admin.specs.Following.{MayFollow}
+use Rattle.spec_admin.specs.inner.Following.{MayFollow}
 use Rattle.spec_admin.specs.Parameters.{IsInRange}
 use Rattle.spec_admin.specs.Lines.{admin_line}
 use Rattle.spec_admin.proofs.Following.{keeps_arguments, admin_follows}

@@ -24,7 +24,7 @@ use Rattle.muck_queue.proofs.Standing.{standing_twice, without_standing, standin
 use Rattle.spec_events.specs.declared.starting.Agent.{Agent}
 use Rattle.spec_events.specs.World.{World, on_live, on_queue}
 use Rattle.spec_events.specs.Slices.{acting, program_error, process_done, row_done, queued, deed, stands_at, ended_one, broken, out, one_counted, Turn, on, rest, over, went, after_deed, unit_done, section_most, limit_fault, are_spent, units_most, within_limit, turn, world_of, agent_of, seat_of, seat, then_more, is_through, next_unit, run_of, last_world}
-use Rattle.spec_events.specs.Stints.{many_counted, counting, unbroken, unspent, allowed}
+use Rattle.spec_events.specs.inner.Stints.{many_counted, counting, unbroken, unspent, allowed}
 
 -- the world after the units of a process that has so many left
 abbrev pub finish : Tune → ℕ → ℤ → World → World

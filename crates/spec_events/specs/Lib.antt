@@ -1,8 +1,8 @@
+pub mod inner
 pub mod World
 pub mod Following
 pub mod Starting
 pub mod Slices
-pub mod Stints
 pub mod Sections
 pub mod Lines
 pub mod Dumping
@@ -12,9 +12,4 @@ pub mod Licences
 pub mod Histories
 pub mod Logged
 pub mod Own
-pub mod OwnRows
-pub mod Sound
 pub mod Passwords
-pub mod Rows
-pub mod LineRows
-pub mod DumpRows

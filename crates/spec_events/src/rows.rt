@@ -1,8 +1,8 @@
 // The worked slices, lines, dumps and own entries.
-ghost use Rattle.spec_events.specs.Rows.{Rows};
-ghost use Rattle.spec_events.specs.LineRows.{LineRows};
-ghost use Rattle.spec_events.specs.DumpRows.{DumpRows};
-ghost use Rattle.spec_events.specs.OwnRows.{OwnRows};
+ghost use Rattle.spec_events.specs.inner.Rows.{Rows};
+ghost use Rattle.spec_events.specs.inner.LineRows.{LineRows};
+ghost use Rattle.spec_events.specs.inner.DumpRows.{DumpRows};
+ghost use Rattle.spec_events.specs.inner.OwnRows.{OwnRows};
 
 /// The worked rows of this crate hold. It does nothing: its clause is the rows.
 #[tactic(auto)]

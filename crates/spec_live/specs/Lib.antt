@@ -1,3 +1,4 @@
+pub mod inner
 pub mod Chain
 pub mod Flags
 pub mod Objects
@@ -15,4 +16,3 @@ pub mod Output
 pub mod Connections
 pub mod Boards
 pub mod Lives
-pub mod Rows

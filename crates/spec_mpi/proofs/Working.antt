@@ -22,7 +22,7 @@ use Rattle.mpi.specs.Meaning.{prepared, nesting_most, object_at as named_at, doi
 use Rattle.spec_mpi.specs.Telling.{finds_in, sign_in, signs_in, path_in, text_at, first_text, below_at, tells_in}
 use Rattle.spec_mpi.specs.Doing.{written}
 use Rattle.spec_mpi.specs.Messages.{heard, variables_of, shown as show, spoken}
-use Rattle.spec_mpi.specs.Worked.{Worked}
+use Rattle.spec_mpi.specs.inner.Worked.{Worked}
 
 pub worked : Worked
 unfolding digits is_same decimal_of dbref_of place_seen is_there if_there found object_at number_in kind_in object_in list_in place_number changed_at first_tune early_board room_zero player_one first_objects listed_in places_of scenery_of flag_letters owner_at owns controls_as controls store unstored given_back balances part_len pieces_up_to arguments_up_to functions is_long followed sized counted keeps variable scoped prepared nesting_most named_at doing acted_by each_value called_ahead called spelled entered evaluated finds_in sign_in signs_in path_in text_at first_text below_at tells_in written heard variables_of show spoken

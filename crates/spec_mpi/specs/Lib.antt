@@ -1,6 +1,6 @@
+pub mod inner
 pub mod Stages
 pub mod Telling
 pub mod Doing
 pub mod Messages
 pub mod Touching
-pub mod Worked

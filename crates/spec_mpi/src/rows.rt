@@ -1,5 +1,5 @@
 // The worked rows.
-ghost use Rattle.spec_mpi.specs.Worked.{Worked};
+ghost use Rattle.spec_mpi.specs.inner.Worked.{Worked};
 
 /// The worked rows of this crate hold. It does nothing: its clause is the rows.
 #[tactic(auto, using(crate::proofs::Working::worked))]

@@ -1,3 +1,4 @@
+pub mod inner
 pub mod Asking
 pub mod Row
 pub mod Formulas
@@ -6,8 +7,3 @@ pub mod ObjectRows
 pub mod Talk
 pub mod PropRows
 pub mod Shared
-pub mod Rows
-pub mod TalkRows
-pub mod ObjectsWorked
-pub mod WritesWorked
-pub mod PropWorked

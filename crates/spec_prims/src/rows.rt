@@ -1,9 +1,9 @@
 // The worked rows.
-ghost use Rattle.spec_prims.specs.PropWorked.{PropWorked};
-ghost use Rattle.spec_prims.specs.Rows.{Rows};
-ghost use Rattle.spec_prims.specs.TalkRows.{TalkRows};
-ghost use Rattle.spec_prims.specs.ObjectsWorked.{ObjectsWorked};
-ghost use Rattle.spec_prims.specs.WritesWorked.{WritesWorked};
+ghost use Rattle.spec_prims.specs.inner.PropWorked.{PropWorked};
+ghost use Rattle.spec_prims.specs.inner.Rows.{Rows};
+ghost use Rattle.spec_prims.specs.inner.TalkRows.{TalkRows};
+ghost use Rattle.spec_prims.specs.inner.ObjectsWorked.{ObjectsWorked};
+ghost use Rattle.spec_prims.specs.inner.WritesWorked.{WritesWorked};
 
 /// The worked rows of this crate hold. It does nothing: its clauses are the rows, of the tests and of each family.
 #[tactic(auto)]

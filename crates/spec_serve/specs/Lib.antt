@@ -3,4 +3,3 @@ pub mod Marks
 pub mod Accounts
 pub mod Promises
 pub mod inner
-pub mod Worked

@@ -1,2 +1,3 @@
 pub mod Keeping
 pub mod Books
+pub mod Worked

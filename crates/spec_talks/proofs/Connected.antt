@@ -11,7 +11,7 @@ use Rattle.spec_live.specs.Connections.{Connection, has_number, placed, without,
 use Rattle.spec_live.specs.Boards.{player_in, opened, closed, line_added, bytes_taken}
 use Rattle.spec_live.specs.Lives.{Live, followed, reading, on_board}
 use Rattle.spec_commands.specs.Talk.{welcome, parted, gone_away}
-use Rattle.spec_commands.specs.Rising.{IsAbove, IsRising}
+use Rattle.spec_commands.specs.inner.Rising.{IsAbove, IsRising}
 use Rattle.spec_commands.proofs.Numbered.{numbers, seating_quiet, seating_one}
 use Rattle.spec_commands.proofs.Lines.{quiet_parted}
 use Rattle.spec_events.specs.World.{World, connection, askers_of}

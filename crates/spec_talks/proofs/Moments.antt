@@ -12,7 +12,7 @@ use Rattle.spec_events.specs.Histories.{after, AllLawful}
 use Rattle.spec_events.proofs.Runs.{after-append}
 use Rattle.spec_events.proofs.Done.{done_going}
 use Rattle.spec_events.proofs.Taken.{sliced_going}
-use Rattle.spec_talks.specs.Moments.{second_behind, second_on}
+use Rattle.spec_talks.specs.inner.Moments.{second_behind, second_on}
 use Rattle.spec_talks.specs.Parties.{party_of}
 use Rattle.spec_talks.proofs.Histories.{lawful_back, both_ways, allowed_one, not_first, others_own}
 

@@ -1,5 +1,4 @@
+pub mod inner
 pub mod Counts
-pub mod Moments
 pub mod Parties
 pub mod Talks
-pub mod Worked

@@ -1,5 +1,5 @@
 // The worked rows.
-ghost use Rattle.spec_talks.specs.Worked.{WorkedRows};
+ghost use Rattle.spec_talks.specs.inner.Worked.{WorkedRows};
 
 /// The worked rows of this crate hold. It does nothing: its clause is the rows.
 pub fn rows_hold()

@@ -1,7 +1,7 @@
 // The processes of a world.
 ghost use Rattle.std.specs.Prelude.{◌≡◌, IfOk};
-ghost use Rattle.muf_model.specs.Stands.{TreeStands};
-ghost use Rattle.muf_model.specs.Decode.{tree_of};
+ghost use Rattle.muf_model.specs.inner.Stands.{TreeStands};
+ghost use Rattle.muf_model.specs.inner.Decode.{tree_of};
 
 use crate::world::TUNE;
 use muck_model::{Dbref, NoMemory, Row};

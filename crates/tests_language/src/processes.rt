@@ -1,7 +1,7 @@
 // Which programs a process runs, while it calls another one and comes back.
 ghost use Rattle.std.specs.Prelude.{◌<◌, IfOk, length};
-ghost use Rattle.muf_model.specs.Decode.{tree_of};
-ghost use Rattle.muf_model.specs.Stands.{TreeStands};
+ghost use Rattle.muf_model.specs.inner.Decode.{tree_of};
+ghost use Rattle.muf_model.specs.inner.Stands.{TreeStands};
 
 use crate::first_wrong;
 use muck_model::{Dbref, Line, LineFault, NoMemory};

@@ -1,6 +1,6 @@
 // Two threads that take turns.
 ghost use Rattle.std.specs.Prelude.{◌≡◌};
-ghost use Rattle.tests_links_rows.specs.Seats.{Rests, Leaves, SameLists};
+ghost use Rattle.tests_links_rows.specs.inner.Seats.{Rests, Leaves, SameLists};
 
 use crate::book::{Book, enter};
 use muck_io::{Rest, YieldRest};

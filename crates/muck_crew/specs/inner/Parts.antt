@@ -4,10 +4,10 @@ use Rattle.atomic_table.specs.Seated.{TableId}
 use Rattle.muck_log.specs.Store.{LogState}
 use Rattle.turn_lock.specs.inner.Turns.{left_after, newcomer, taken_in}
 use Rattle.turn_lock.specs.declared.view.Place.TheVariants.{Idle, Told}
-use Rattle.muck_worker.specs.Working.{WorkerReady, WorkerDone}
+use Rattle.muck_worker.specs.inner.Working.{WorkerReady, WorkerDone}
 use Rattle.muck_dumping.specs.inner.Between.{IsReady as HasLog}
-use Rattle.muck_dumper.specs.Dumping.{history_seen, DumperReady}
-use Rattle.muck_machine.specs.Seats.{Sight, Chair}
+use Rattle.muck_dumper.specs.inner.Dumping.{history_seen, DumperReady}
+use Rattle.muck_machine.specs.inner.Seats.{Sight, Chair}
 use Rattle.muck_crew.specs.declared.seats.Part.{Part}
 
 -- The seat of the dumper may begin, with the store and the disks.

@@ -2,10 +2,10 @@
 use Rattle.std.specs.Prelude.{ℕ, Bool, List, Option}
 use Rattle.muck_log.specs.Store.{LogState}
 use Rattle.spec_events.specs.Histories.{History}
-use Rattle.muck_porter.specs.Kept.{Account}
+use Rattle.muck_porter.specs.inner.Kept.{Account}
 use Rattle.muck_crew.specs.declared.serving.Way.{Way}
 use Rattle.muck_crew.specs.declared.why.Why.{Why}
-use Rattle.muck_crew.specs.Finished.{IsFinish}
+use Rattle.muck_crew.specs.inner.Finished.{IsFinish}
 use Rattle.muck_crew.specs.inner.Runs.{HasRun}
 
 -- All parts made the history h of the world, and then it came to its end: it is k now.

@@ -11,15 +11,15 @@ use Rattle.spec_events.specs.Histories.{History, now, entered, noted}
 use Rattle.spec_events.specs.Logged.{events_of, NoCounts}
 use Rattle.spec_events.specs.Own.{Stage, stage_of}
 use Rattle.spec_dumps.specs.Survival.{IsSafe}
-use Rattle.spec_dumps.specs.Holding.{Quietly, Keeps, Rests as HasRests}
-use Rattle.muck_machine.specs.Seats.{Chair, Rests, Left, SameLists}
+use Rattle.spec_dumps.specs.inner.Holding.{Quietly, Keeps, Rests as HasRests}
+use Rattle.muck_machine.specs.inner.Seats.{Chair, Rests, Left, SameLists}
 use Rattle.muck_dumping.specs.inner.Dumps.{by}
 use Rattle.muck_dumping.specs.inner.Between.{IsReady, IsBatchOfWorld, base_in, IsPending}
 use Rattle.muck_dumper.specs.declared.deeds.Did.{Did}
 use Rattle.muck_dumper.specs.declared.deeds.Did.TheVariants.{Idled, Began, Over, Failed}
 use Rattle.muck_dumper.specs.declared.holds.Fault.{Fault}
 use Rattle.muck_dumper.specs.declared.holds.Fault.TheVariants.{NoMemory, Spent}
-use Rattle.muck_dumper.specs.Dumping.{history_from, history_seen, IsKnown, EndsWith}
+use Rattle.muck_dumper.specs.inner.Dumping.{history_from, history_seen, IsKnown, EndsWith}
 
 -- which entry a deed made
 abbrev pub event_of : Did → Event

@@ -8,7 +8,7 @@ use Rattle.muck_db.specs.inner.Limits.{IsWithinLimits}
 use Rattle.spec_admin.specs.Parameters.{IsInRange}
 use Rattle.spec_live.specs.Objects.{Entry as Object}
 use Rattle.spec_live.specs.Consistent.{IsConsistent}
-use Rattle.muck_store.specs.Changes.{LeavesOut}
+use Rattle.muck_store.specs.inner.Changes.{LeavesOut}
 use Rattle.muck_store.specs.Forms.{persist}
 use Rattle.muck_log.specs.File.{after_number}
 use Rattle.muck_log.specs.Store.{Chosen, LogState, IsMounted, target}
@@ -18,7 +18,7 @@ use Rattle.muck_log.specs.declared.fault.LogFault.TheVariants.{NoMemory, DiskFau
 use Rattle.spec_events.specs.World.{World}
 use Rattle.spec_events.specs.Histories.{History}
 use Rattle.spec_dumps.specs.Fronts.{IsFront, at_cut, last_cut, number_at, dump_payload, log_of, file_most}
-use Rattle.spec_dumps.specs.Holding.{IsCounted, Keeps, Rests, IsDumped, Fails}
+use Rattle.spec_dumps.specs.inner.Holding.{IsCounted, Keeps, Rests, IsDumped, Fails}
 use Rattle.muck_dumping.specs.declared.parts.Pending.{Pending}
 use Rattle.muck_dumping.specs.inner.Dumps.{HasRisen}
 

@@ -12,7 +12,7 @@ use Rattle.muck_log.specs.declared.fault.LogFault.{LogFault}
 use Rattle.muck_log.specs.declared.fault.LogFault.TheVariants.{NoMemory, DiskFault, StoreFull}
 use Rattle.spec_events.specs.Histories.{History, after, entered, noted}
 use Rattle.spec_dumps.specs.Fronts.{IsFront, dump_payload, log_of, file_most}
-use Rattle.spec_dumps.specs.Holding.{Rests}
+use Rattle.spec_dumps.specs.inner.Holding.{Rests}
 use Rattle.spec_dumps.specs.Survival.{IsSafe, StandsWhole}
 
 -- the note of both disks as they are behind the history

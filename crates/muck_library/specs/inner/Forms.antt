@@ -3,8 +3,8 @@ use Rattle.std.specs.Prelude.{List, Option, Some, None, map}
 use Rattle.std.specs.Option.{option_map}
 use Rattle.muf_model.specs.declared.code.Code.{Code}
 use Rattle.muf_model.specs.Tree.{Tree}
-use Rattle.muf_model.specs.Stands.{TreeStands}
-use Rattle.muf_model.specs.Decode.{tree_of}
+use Rattle.muf_model.specs.inner.Stands.{TreeStands}
+use Rattle.muf_model.specs.inner.Decode.{tree_of}
 
 abbrev pub trees_of : List (Option Code) → List (Option Tree)
 trees_of forms = map (option_map tree_of) forms

@@ -3,7 +3,7 @@ use Rattle.std.specs.Prelude.{ℕ, ℤ, pos, negsuc, suc, Bool, false, ◌&&◌,
 use Rattle.std.specs.Option.{option_and_then, option_map, option_map_or}
 use Rattle.std.specs.List.{find, list_any}
 use Rattle.muck_model.specs.declared.dbref.Dbref.{Dbref}
-use Rattle.muck_lock.specs.Chain.{same, nothing}
+use Rattle.muck_lock.specs.inner.Chain.{same, nothing}
 use Rattle.muck_lock.specs.declared.memory.MemObject.{MemObject}
 use Rattle.muck_lock.specs.declared.memory.MemProp.{MemProp}
 use Rattle.muck_lock.specs.declared.memory.MemName.{MemName}

@@ -3,7 +3,7 @@ use Rattle.std.specs.Prelude.{◌≡◌, refl, ℕ, zero, suc, ◌+◌, Bool, tr
 use Rattle.muck_model.proofs.Dbrefs.{eq_same}
 use Rattle.std.proofs.Common.{ap, sym, ◌∙◌, subst, add-one}
 use Rattle.muck_model.specs.declared.dbref.Dbref.{Dbref}
-use Rattle.muck_lock.specs.Chain.{IsChain, same}
+use Rattle.muck_lock.specs.inner.Chain.{IsChain, same}
 use Rattle.muck_lock.specs.inner.Memory.{numbered_at, standing_in, first_in, next_at, next_of}
 use Rattle.muck_lock.specs.declared.memory.MemObject.{MemObject}
 

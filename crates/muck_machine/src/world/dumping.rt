@@ -3,7 +3,7 @@ ghost use Rattle.std.specs.Prelude.{◌≡◌, true, false, is_some, length, IfO
 ghost use Rattle.muck_model.specs.declared.event.Event.{Event};
 ghost use Rattle.spec_live.specs.Consistent.{IsConsistent};
 ghost use Rattle.muck_db.specs.inner.Limits.{IsWithinLimits};
-ghost use Rattle.muck_store.specs.Changes.{LeavesOut};
+ghost use Rattle.muck_store.specs.inner.Changes.{LeavesOut};
 ghost use Rattle.muck_store.specs.Forms.{persist};
 ghost use Rattle.spec_admin.specs.Parameters.{IsInRange};
 ghost use Rattle.spec_events.specs.Steps.{is_lawful};

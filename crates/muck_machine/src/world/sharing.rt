@@ -19,7 +19,7 @@ use turn_lock::Story;
 // The lock sees the world as its items, each an entry with the notes before it; and beside these as what no entry has.
 impl Story for World {
     ghost use Rattle.spec_events.specs.Logged.{logged, logged_by, IsOrderly};
-    ghost use Rattle.muck_machine.specs.Beginnings.{beginning};
+    ghost use Rattle.muck_machine.specs.inner.Beginnings.{beginning};
 
     type Entry = Logged;
 

@@ -5,7 +5,7 @@ use Rattle.muck_model.specs.declared.note.Note.{Note}
 use Rattle.muck_log.specs.Store.{LogState}
 use Rattle.muck_log.specs.declared.fault.LogFault.{LogFault}
 use Rattle.spec_events.specs.Histories.{History, Longer}
-use Rattle.spec_dumps.specs.Holding.{Rests}
+use Rattle.spec_dumps.specs.inner.Holding.{Rests}
 use Rattle.spec_dumps.specs.Survival.{IsSafe}
 use Rattle.muck_script.specs.Story.{stored, failed, dump_entries}
 use Rattle.muck_run.specs.Outcome.{IsLastDump}

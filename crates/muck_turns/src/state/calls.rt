@@ -3,12 +3,12 @@ ghost use Rattle.std.specs.Prelude.{◌≡◌, ◌≤◌, ◌&&◌, drop, length
 ghost use Rattle.std.specs.List.{position};
 ghost use Rattle.std.specs.Option.{option_copied};
 ghost use Rattle.std.specs.Str.{bytes_eq};
-ghost use Rattle.muf_model.specs.Decode.{tree_of};
-ghost use Rattle.muf_running.specs.Fitting.{IsAtPrimitive};
+ghost use Rattle.muf_model.specs.inner.Decode.{tree_of};
+ghost use Rattle.muf_running.specs.inner.Fitting.{IsAtPrimitive};
 ghost use Rattle.spec_events.specs.Slices.{behind, called_word, form_called, is_offered, program_called};
 ghost use Rattle.muck_library.specs.Library.{formed};
-ghost use Rattle.prim_proc.specs.Applied.{called_items};
-ghost use Rattle.muck_turns.specs.Deeds.{target, DoneAs, Enters, IsWord, MayEnter};
+ghost use Rattle.prim_proc.specs.inner.Applied.{called_items};
+ghost use Rattle.muck_turns.specs.inner.Deeds.{target, DoneAs, Enters, IsWord, MayEnter};
 
 use crate::state::State;
 use crate::state::deeds::{DeedFault, Done, behind};

@@ -1,15 +1,15 @@
 // What shared primitives do.
 ghost use Rattle.std.specs.Prelude.{◌≡◌, ◌+◌, ◌≤◌, drop, length, IfOk};
-ghost use Rattle.muf_model.specs.Flat.{Flat};
+ghost use Rattle.muf_model.specs.inner.Flat.{Flat};
 ghost use Rattle.muf_model.specs.Source.{Source, passed};
-ghost use Rattle.muck_perm.specs.Guards.{world_of};
-ghost use Rattle.muf_frame.specs.Shown.{Shown, flat, locked_by};
-ghost use Rattle.muf_running.specs.Fitting.{IsAtPrimitive};
-ghost use Rattle.muf_running.specs.Lending.{Apart, Differs, with_frame};
+ghost use Rattle.muck_perm.specs.inner.Guards.{world_of};
+ghost use Rattle.muf_frame.specs.inner.Shown.{Shown, flat, locked_by};
+ghost use Rattle.muf_running.specs.inner.Fitting.{IsAtPrimitive};
+ghost use Rattle.muf_running.specs.inner.Lending.{Apart, Differs, with_frame};
 ghost use Rattle.spec_prims.specs.Shared.{shared};
-ghost use Rattle.prim_common.specs.Applied.{Applied};
+ghost use Rattle.prim_common.specs.inner.Applied.{Applied};
 ghost use Rattle.spec_events.specs.Slices.{acting, behind, deed, row_done};
-ghost use Rattle.muck_turns.specs.Deeds.{AppliedTo, DoneAs, PassesOn};
+ghost use Rattle.muck_turns.specs.inner.Deeds.{AppliedTo, DoneAs, PassesOn};
 
 use crate::state::State;
 use muck_model::NoMemory;

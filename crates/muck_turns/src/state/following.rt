@@ -1,7 +1,7 @@
 // What follows from a change of objects.
 ghost use Rattle.std.specs.Prelude.{◌≡◌};
 ghost use Rattle.spec_events.specs.Following.{unbuilt, settled};
-ghost use Rattle.muck_turns.specs.Followed.{followed_change};
+ghost use Rattle.muck_turns.specs.inner.Followed.{followed_change};
 
 use crate::state::State;
 use muck_model::Dbref;

@@ -1,8 +1,8 @@
 // How many units a process may take.
 ghost use Rattle.std.specs.Prelude.{◌≡◌, ◌≤◌, ◌<◌, true, false, IfNone, Option};
 ghost use Rattle.spec_events.specs.Slices.{are_spent, is_through, limit_fault, section_most, units_most};
-ghost use Rattle.spec_events.specs.Stints.{allowed, unbroken, unspent};
-ghost use Rattle.muck_turns.specs.Limits.{Allows};
+ghost use Rattle.spec_events.specs.inner.Stints.{allowed, unbroken, unspent};
+ghost use Rattle.muck_turns.specs.inner.Limits.{Allows};
 
 use muck_model::Tune;
 use muf_model::MufFault;

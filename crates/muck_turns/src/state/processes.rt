@@ -6,13 +6,13 @@ ghost use Rattle.muf_model.specs.Datum.{Datum, int};
 ghost use Rattle.muf_model.specs.Source.{Source, handed};
 ghost use Rattle.muck_queue.specs.Queues.{process};
 ghost use Rattle.muck_queue.specs.declared.process.Process.{Process};
-ghost use Rattle.muf_frame.specs.Shown.{flat, locked_by};
-ghost use Rattle.muf_running.specs.Fitting.{IsAtPrimitive};
+ghost use Rattle.muf_frame.specs.inner.Shown.{flat, locked_by};
+ghost use Rattle.muf_running.specs.inner.Fitting.{IsAtPrimitive};
 ghost use Rattle.spec_processes.specs.ProcessRows.{processed};
 ghost use Rattle.spec_events.specs.declared.starting.Agent.{Agent};
 ghost use Rattle.spec_events.specs.Starting.{joined};
 ghost use Rattle.spec_events.specs.Slices.{behind, child_of, forked, place_in, process_done, queued};
-ghost use Rattle.muck_turns.specs.Deeds.{Bears, child_number, queued_call, DoneAs, ProcessAppliedTo};
+ghost use Rattle.muck_turns.specs.inner.Deeds.{Bears, child_number, queued_call, DoneAs, ProcessAppliedTo};
 
 use crate::state::State;
 use crate::state::deeds::{DeedFault, Done, behind, passed};

@@ -5,7 +5,7 @@ ghost use Rattle.muf_model.specs.Chains.{StandsAt};
 ghost use Rattle.muf_model.specs.Unit.{fault};
 ghost use Rattle.spec_events.specs.Slices.{after_deed, broken, deed, last_world, out, run_of, seat, went};
 ghost use Rattle.spec_events.specs.Steps.{happened};
-ghost use Rattle.muck_turns.specs.Limits.{LeadsTo, Runs, Stops};
+ghost use Rattle.muck_turns.specs.inner.Limits.{LeadsTo, Runs, Stops};
 
 use crate::state::State;
 use crate::state::deeds::Done;

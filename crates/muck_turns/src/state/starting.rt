@@ -2,12 +2,12 @@
 ghost use Rattle.std.specs.Prelude.{◌≡◌, OnOk, Some};
 ghost use Rattle.spec_live.specs.Lives.{place_at, tell};
 ghost use Rattle.spec_rights.specs.Asking.{refused};
-ghost use Rattle.muf_model.specs.Decode.{tree_of};
+ghost use Rattle.muf_model.specs.inner.Decode.{tree_of};
 ghost use Rattle.muf_model.specs.Faults.{text_of};
-ghost use Rattle.muf_model.specs.Stands.{TreeStands};
+ghost use Rattle.muf_model.specs.inner.Stands.{TreeStands};
 ghost use Rattle.spec_events.specs.World.{on_live};
 ghost use Rattle.spec_events.specs.Starting.{begun, by_command, first_mode, form_started, joined, launched, start_told};
-ghost use Rattle.muck_turns.specs.Deeds.{Begins, IsAdding, StartsAs};
+ghost use Rattle.muck_turns.specs.inner.Deeds.{Begins, IsAdding, StartsAs};
 
 use crate::state::State;
 use crate::state::deeds::DeedFault;

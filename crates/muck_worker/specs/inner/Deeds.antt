@@ -9,7 +9,7 @@ use Rattle.spec_events.specs.World.{World}
 use Rattle.spec_events.specs.Steps.{has_claim}
 use Rattle.spec_events.specs.Logged.{is_dump, bare_item, events_of, NoNotes, NoCounts}
 use Rattle.spec_events.specs.Own.{Stage, next, stage_of}
-use Rattle.muck_machine.specs.Seats.{Sight, Chair, Rests, SameLists}
+use Rattle.muck_machine.specs.inner.Seats.{Sight, Chair, Rests, SameLists}
 use Rattle.muck_worker.specs.declared.deeds.Task.{Task}
 use Rattle.muck_worker.specs.declared.deeds.Task.TheVariants.{Work, Slice, End}
 use Rattle.muck_worker.specs.declared.deeds.Did.{Did}

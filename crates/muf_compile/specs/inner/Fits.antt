@@ -4,7 +4,7 @@ use Rattle.muf_model.specs.declared.code.Instr.TheVariants.{Unset}
 use Rattle.muf_model.specs.declared.code.Placed.{Placed}
 use Rattle.muf_model.specs.declared.code.Code.{Code}
 use Rattle.muf_model.specs.Tree.{Fork, if_word, try_word, Ring, begin_word, for_word, each_word, Block, Tree}
-use Rattle.muf_model.specs.Stands.{Stands, IsAt, fork_instr, WordsStand, InRow, TreeStands}
+use Rattle.muf_model.specs.inner.Stands.{Stands, IsAt, fork_instr, WordsStand, InRow, TreeStands}
 use Rattle.muf_compile.specs.declared.hole.Hole.{Hole}
 use Rattle.muf_compile.specs.declared.hole.Pending.{Pending}
 use Rattle.muf_compile.specs.declared.hole.Pending.TheVariants as pending

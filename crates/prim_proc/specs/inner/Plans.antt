@@ -6,15 +6,15 @@ use Rattle.muf_model.specs.declared.fault.MufFault.TheVariants.{NotCompiled, Too
 use Rattle.muf_model.specs.declared.prims.Primitive.{Primitive}
 use Rattle.muf_model.specs.declared.prims.Primitive.TheVariants.{Pid, Mode, SysTime, EventCount, Prog, Trig, Caller, Cmd}
 use Rattle.muf_model.specs.Datum.{Datum, int, text}
-use Rattle.muf_model.specs.View.{view}
+use Rattle.muf_model.specs.inner.View.{view}
 use Rattle.muf_frame.specs.declared.fault.PrimFault.{PrimFault}
 use Rattle.muf_frame.specs.declared.fault.PrimFault.TheVariants.{Fault, NoMemory}
-use Rattle.muf_frame.specs.Shown.{Shown}
+use Rattle.muf_frame.specs.inner.Shown.{Shown}
 use Rattle.muck_queue.specs.declared.mode.Wait.TheVariants.{ForLine, ForEvent}
 use Rattle.muck_queue.specs.Queues.{Queue, process, on_process, without, resting, sleeping, in_mode, told_event, without_event, events_of, events_most}
 use Rattle.spec_processes.specs.declared.place.Place.{Place}
 use Rattle.spec_processes.specs.ProcessRows.{Effect, gives, waits, forks, enters, starts, refuses, Doing, oldest, process_row}
-use Rattle.prim_proc.specs.Applied.{HasStack, called_items}
+use Rattle.prim_proc.specs.inner.Applied.{HasStack, called_items}
 use Rattle.prim_proc.specs.declared.after.After.{After}
 use Rattle.prim_proc.specs.declared.after.After.TheVariants.{Go, Wait}
 use Rattle.prim_proc.specs.declared.plan.Plan.{Plan}

@@ -1,7 +1,7 @@
 use Rattle.std.proofs.Common.{rules, ◌≡◌, Some, None, Ok, subst}
 use Rattle.spec_commands.specs.Reading.{with_arguments}
 use Rattle.spec_admin.specs.Lines.{admin_shape, admin_done}
-use Rattle.cmd_common.specs.Takes.{Takes}
+use Rattle.cmd_common.specs.inner.Takes.{Takes}
 use Rattle.cmd_common.proofs.Taking.{plays_untaken}
 use Rattle.cmd_admin.proofs.Ends.{queue_taken, queue_untaken}
 use Rattle.cmd_admin.proofs.command.do_command.Goals as goal

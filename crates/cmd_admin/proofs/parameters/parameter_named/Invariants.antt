@@ -1,5 +1,5 @@
 use Rattle.std.proofs.Common.{◌≡◌, map, drop}
-use Rattle.cmd_common.specs.Takes.{word_row}
+use Rattle.cmd_common.specs.inner.Takes.{word_row}
 use Rattle.cmd_admin.proofs.Named.{named_in}
 use Rattle.cmd_admin.proofs.parameters.parameter_named.Given as goal
 

@@ -1,5 +1,5 @@
 use Rattle.std.proofs.Common.{rules, ◌≡◌}
-use Rattle.muck_perm.specs.Guards.{world_of}
+use Rattle.muck_perm.specs.inner.Guards.{world_of}
 use Rattle.cmd_admin.proofs.Each.{all_shown}
 use Rattle.cmd_admin.proofs.parameters.show_parameters.Goals as goal
 

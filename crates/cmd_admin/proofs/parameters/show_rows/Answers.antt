@@ -1,8 +1,8 @@
 use Rattle.std.proofs.Common.{rules, ◌≡◌, Ok, Err, sym, subst}
 use Rattle.spec_commands.specs.Finding.{each}
 use Rattle.spec_admin.specs.Lines.{parameter_shown}
-use Rattle.muck_perm.specs.Guards.{Did}
-use Rattle.cmd_common.specs.Takes.{word_row}
+use Rattle.muck_perm.specs.inner.Guards.{Did}
+use Rattle.cmd_common.specs.inner.Takes.{word_row}
 use Rattle.cmd_admin.proofs.Each.{each_at, each_none}
 use Rattle.cmd_admin.proofs.parameters.show_rows.Goals as goal
 

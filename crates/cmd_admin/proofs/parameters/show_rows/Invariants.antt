@@ -3,8 +3,8 @@ use Rattle.muck_model.specs.declared.memory.NoMemory.{NoMemory}
 use Rattle.spec_commands.specs.Finding.{each}
 use Rattle.spec_admin.specs.Lines.{parameter_shown}
 use Rattle.muck_perm.specs.declared.guard.Guard.{Guard}
-use Rattle.muck_perm.specs.Guards.{Did}
-use Rattle.cmd_common.specs.Takes.{word_row}
+use Rattle.muck_perm.specs.inner.Guards.{Did}
+use Rattle.cmd_common.specs.inner.Takes.{word_row}
 use Rattle.cmd_admin.proofs.parameters.show_rows.Given as goal
 
 -- what shows the rest from here shows all from the start

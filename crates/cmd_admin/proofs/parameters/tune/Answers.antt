@@ -1,7 +1,7 @@
 use Rattle.std.proofs.Common.{rules, ◌≡◌, true, false, Some, Ok, ◌∙◌, subst}
 use Rattle.spec_commands.specs.declared.shape.Form.TheVariants.{Full}
 use Rattle.spec_commands.specs.Reading.{is_empty}
-use Rattle.cmd_common.specs.Takes.{IsCut}
+use Rattle.cmd_common.specs.inner.Takes.{IsCut}
 use Rattle.cmd_admin.proofs.Tuned.{shows_all, sets_one}
 use Rattle.cmd_admin.proofs.parameters.tune.Goals as goal
 

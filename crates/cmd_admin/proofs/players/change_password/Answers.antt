@@ -2,7 +2,7 @@ use Rattle.std.proofs.Common.{rules, ◌≡◌, true, None}
 use Rattle.spec_rights.specs.declared.act.Act.TheVariants.{Password}
 use Rattle.spec_rights.specs.Verdict.{verdict}
 use Rattle.spec_admin.specs.Players.{is_password}
-use Rattle.muck_perm.specs.Guards.{objects_of}
+use Rattle.muck_perm.specs.inner.Guards.{objects_of}
 use Rattle.cmd_admin.proofs.Changed.{password_by}
 use Rattle.cmd_admin.proofs.players.change_password.Goals as goal
 

@@ -1,5 +1,5 @@
 use Rattle.std.proofs.Common.{rules, ◌≡◌, true, false, sym, ◌∙◌}
-use Rattle.muck_perm.specs.Guards.{objects_of}
+use Rattle.muck_perm.specs.inner.Guards.{objects_of}
 use Rattle.cmd_admin.proofs.Checked.{is_player_at, player_checked}
 use Rattle.cmd_admin.proofs.players.is_player.Goals as goal
 

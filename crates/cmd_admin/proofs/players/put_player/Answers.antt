@@ -1,5 +1,5 @@
 use Rattle.std.proofs.Common.{Ok, Err, subst}
-use Rattle.muck_perm.specs.Guards.{Founds}
+use Rattle.muck_perm.specs.inner.Guards.{Founds}
 use Rattle.cmd_admin.proofs.Made.{maker, player_check, made_ready, player_made, player_refused}
 use Rattle.cmd_admin.proofs.players.put_player.Goals as goal
 

@@ -1,7 +1,7 @@
 use Rattle.std.proofs.Common.{rules, ◌≡◌, Some, None}
 use Rattle.spec_rights.specs.Verdict.{verdict}
 use Rattle.spec_admin.specs.Processes.{ending, process_meant}
-use Rattle.muck_perm.specs.Guards.{objects_of}
+use Rattle.muck_perm.specs.inner.Guards.{objects_of}
 use Rattle.cmd_admin.proofs.Killed.{ends_told}
 use Rattle.cmd_admin.proofs.processes.kill.Goals as goal
 

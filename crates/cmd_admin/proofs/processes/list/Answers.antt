@@ -1,6 +1,6 @@
 use Rattle.std.proofs.Common.{rules, arith, ◌≡◌, Err, refl, sym, ◌∙◌, subst}
 use Rattle.spec_admin.specs.Processes.{processes_shown}
-use Rattle.muck_perm.specs.Guards.{Did, world_of}
+use Rattle.muck_perm.specs.inner.Guards.{Did, world_of}
 use Rattle.cmd_admin.proofs.Listed.{listed_next, stays_shown, listed_all, lists_all}
 use Rattle.cmd_admin.proofs.processes.list.Goals as goal
 

@@ -1,7 +1,7 @@
 use Rattle.std.proofs.Common.{◌≡◌, ◌≤◌, Result}
 use Rattle.muck_model.specs.declared.memory.NoMemory.{NoMemory}
 use Rattle.muck_perm.specs.declared.guard.Guard.{Guard}
-use Rattle.muck_perm.specs.Guards.{Did, objects_of, world_of}
+use Rattle.muck_perm.specs.inner.Guards.{Did, objects_of, world_of}
 use Rattle.cmd_admin.proofs.Listed.{rest_shown}
 use Rattle.cmd_admin.proofs.processes.list.Given as goal
 

@@ -1,7 +1,7 @@
 use Rattle.std.proofs.Common.{rules, ◌≡◌, None, Ok, subst}
 use Rattle.spec_commands.specs.Reading.{with_arguments}
 use Rattle.spec_commands.specs.Commands.{build_shape, build_done}
-use Rattle.cmd_common.specs.Takes.{Takes}
+use Rattle.cmd_common.specs.inner.Takes.{Takes}
 use Rattle.cmd_common.proofs.Taking.{plays_untaken}
 use Rattle.cmd_build.proofs.command.do_command.Goals as goal
 

@@ -2,7 +2,7 @@ use Rattle.std.proofs.Common.{rules, ◌≡◌, None, Ok, subst}
 use Rattle.spec_live.specs.Lives.{tell}
 use Rattle.spec_commands.specs.Replies.{cant_be_done}
 use Rattle.spec_commands.specs.Finding.{finding, finding_object, where_so, is_object}
-use Rattle.cmd_common.specs.Plays.{Finds}
+use Rattle.cmd_common.specs.inner.Plays.{Finds}
 use Rattle.cmd_common.proofs.finding.find_object.Goals as goal
 
 pub returns-in_default-clause-finds : goal.returns-in_default-clause-finds

@@ -1,6 +1,6 @@
 use Rattle.std.proofs.Common.{◌≡◌, map, drop}
 use Rattle.spec_commands.specs.Reading.{looked_up}
-use Rattle.cmd_common.specs.Takes.{word_row}
+use Rattle.cmd_common.specs.inner.Takes.{word_row}
 use Rattle.cmd_common.proofs.reading.looked_up.Given as goal
 
 -- none of the rows before has the word

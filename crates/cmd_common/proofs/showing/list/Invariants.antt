@@ -2,7 +2,7 @@ use Rattle.std.proofs.Common.{drop, Result}
 use Rattle.muck_model.specs.declared.memory.NoMemory.{NoMemory}
 use Rattle.spec_commands.specs.Finding.{listed}
 use Rattle.muck_perm.specs.declared.guard.Guard.{Guard}
-use Rattle.muck_perm.specs.Guards.{Did}
+use Rattle.muck_perm.specs.inner.Guards.{Did}
 use Rattle.cmd_common.proofs.showing.list.Given as goal
 
 -- what lists the rest from here lists all from the start

@@ -1,4 +1,4 @@
-use Rattle.muck_perm.specs.Guards.{world_of}
+use Rattle.muck_perm.specs.inner.Guards.{world_of}
 use Rattle.cmd_play.proofs.Moves.{carried_at_hand}
 use Rattle.cmd_play.proofs.taking.drop_carried.Goals as goal
 

@@ -3,7 +3,7 @@ use Rattle.muck_model.specs.declared.memory.NoMemory.{NoMemory}
 use Rattle.spec_commands.specs.Finding.{each}
 use Rattle.spec_commands.specs.Talking.{presence_shown}
 use Rattle.muck_perm.specs.declared.guard.Guard.{Guard}
-use Rattle.muck_perm.specs.Guards.{Did}
+use Rattle.muck_perm.specs.inner.Guards.{Did}
 use Rattle.cmd_play.proofs.talking.show_presences.Given as goal
 
 -- what shows the rest from here shows all from the start

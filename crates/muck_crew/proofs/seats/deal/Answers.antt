@@ -1,7 +1,7 @@
 use Rattle.std.proofs.Common.{◌≡◌, ℕ, ◌+◌, ◌<◌, List, length, refl, sym, ap, ◌∙◌, subst, arith, []}
 use Rattle.turn_lock.specs.Histories.{Has}
 use Rattle.turn_lock.specs.inner.Turns.{left_after, newcomer}
-use Rattle.muck_machine.specs.Seats.{Sight, Chair}
+use Rattle.muck_machine.specs.inner.Seats.{Sight, Chair}
 use Rattle.muck_crew.specs.inner.Parts.{AreDealt, given_to}
 use Rattle.muck_crew.proofs.Seating.{false_true, given_low, given_count, given_next, given_place, newcomer_given, dealt_none, dealt_next}
 use Rattle.muck_crew.proofs.seats.deal.Goals as goal

@@ -1,6 +1,6 @@
 use Rattle.std.proofs.Common.{◌≡◌, ◌⊎◌, List, refl, sym, ap, ◌∙◌, subst}
 use Rattle.turn_lock.specs.declared.view.Place.TheVariants.{Idle, Told}
-use Rattle.muck_machine.specs.Seats.{Chair}
+use Rattle.muck_machine.specs.inner.Seats.{Chair}
 use Rattle.muck_crew.specs.declared.seats.Part.{Part}
 use Rattle.muck_crew.specs.inner.Parts.{AreOver}
 use Rattle.muck_crew.proofs.Seating.{in_next, over_front}

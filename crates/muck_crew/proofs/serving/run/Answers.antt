@@ -2,8 +2,8 @@ use Rattle.std.proofs.Common.{◌≡◌, ℕ, ◌<◌, List, [], ◌∷◌, leng
 use Rattle.turn_lock.specs.Histories.{Has}
 use Rattle.turn_lock.specs.inner.Turns.{left_after, newcomer}
 use Rattle.spec_events.specs.Histories.{History}
-use Rattle.muck_machine.specs.Seats.{Chair}
-use Rattle.muck_porter.specs.Kept.{account}
+use Rattle.muck_machine.specs.inner.Seats.{Chair}
+use Rattle.muck_porter.specs.inner.Kept.{account}
 use Rattle.muck_crew.specs.declared.seats.Part.{Part}
 use Rattle.muck_crew.specs.inner.Parts.{given_to, all_in}
 use Rattle.muck_crew.specs.inner.Runs.{IsEndOf}
@@ -13,7 +13,7 @@ use Rattle.muck_crew.proofs.Ending.{Shut, over_done, all_taken, last_place, has_
 use Rattle.muck_crew.proofs.serving.run.Goals as goal
 
 -- the first seat, as the lock gives it
-begins : (v : Chair) (world : History) → (v.0.party ≡ 0) → v.0.place ≡ Rattle.turn_lock.specs.declared.view.Place.TheVariants.Idle → v.1 ≡ [] → v.0.seen ≡ [] → v.0.own ≡ [] → v.0.root ≡ Rattle.muck_machine.specs.Beginnings.beginning world ∷ [] → v.0.given ≡ [] → v.0.joined ≡ [] → Begins v world
+begins : (v : Chair) (world : History) → (v.0.party ≡ 0) → v.0.place ≡ Rattle.turn_lock.specs.declared.view.Place.TheVariants.Idle → v.1 ≡ [] → v.0.seen ≡ [] → v.0.own ≡ [] → v.0.root ≡ Rattle.muck_machine.specs.inner.Beginnings.beginning world ∷ [] → v.0.given ≡ [] → v.0.joined ≡ [] → Begins v world
 begins v world party idle free unseen unowned root ungiven unjoined = record { free = free; idle = idle; party = party; unseen = unseen; unowned = unowned; root = root; ungiven = ungiven; unjoined = unjoined }
 
 pub new-requires : goal.new-requires

@@ -1,6 +1,6 @@
 use Rattle.std.proofs.Common.{sym, subst, arith}
 use Rattle.muck_codec.specs.declared.stored.Stored.{Stored}
-use Rattle.muck_codec.specs.Stored.{AreProperties}
+use Rattle.muck_codec.specs.inner.Stored.{AreProperties}
 use Rattle.muck_db.proofs.load.slots_of.Goals as goal
 
 pub slot_of-requires : goal.slot_of-requires

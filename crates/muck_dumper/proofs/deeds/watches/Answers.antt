@@ -1,6 +1,6 @@
 use Rattle.std.proofs.Common.{refl, sym, ◌∙◌, ap, subst}
 use Rattle.muck_model.specs.declared.event.Event.TheVariants.{Idle, Cut, Died}
-use Rattle.spec_dumps.specs.Holding.{Keeps}
+use Rattle.spec_dumps.specs.inner.Holding.{Keeps}
 use Rattle.spec_events.specs.Steps.{is_lawful}
 use Rattle.spec_events.specs.Histories.{History, now}
 use Rattle.muck_dumping.specs.inner.Dumps.{by, note_of}

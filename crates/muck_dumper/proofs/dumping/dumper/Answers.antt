@@ -3,7 +3,7 @@ use Rattle.spec_events.specs.Own.{Stage}
 use Rattle.spec_events.specs.Histories.{now}
 use Rattle.muck_dumping.specs.inner.Between.{IsReady, IsPending}
 use Rattle.muck_dumper.specs.declared.deeds.Did.{Did}
-use Rattle.muck_dumper.specs.Dumping.{history_seen}
+use Rattle.muck_dumper.specs.inner.Dumping.{history_seen}
 use Rattle.muck_dumper.specs.inner.Steps.{Watched}
 use Rattle.muck_dumper.proofs.Ways.{watches_begun, watches_idled, pending_then, moves_begun, watches_made, done_wanted, done_all_had, done_fine, done_dead, done_spent}
 use Rattle.muck_dumper.proofs.dumping.dumper.Goals as goal

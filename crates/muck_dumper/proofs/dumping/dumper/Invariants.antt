@@ -1,7 +1,7 @@
 use Rattle.std.proofs.Common.{◌≡◌, ◌≤◌}
 use Rattle.spec_events.specs.Own.{Stage}
 use Rattle.muck_dumping.specs.inner.Between.{IsReady}
-use Rattle.muck_dumper.specs.Dumping.{history_seen}
+use Rattle.muck_dumper.specs.inner.Dumping.{history_seen}
 use Rattle.muck_dumper.specs.inner.Steps.{Watches}
 use Rattle.muck_dumper.proofs.dumping.dumper.Given as goal
 

@@ -1,5 +1,5 @@
-use Rattle.spec_dumps.specs.Holding.{Keeps}
-use Rattle.muck_dumper.specs.Dumping.{history_seen}
+use Rattle.spec_dumps.specs.inner.Holding.{Keeps}
+use Rattle.muck_dumper.specs.inner.Dumping.{history_seen}
 use Rattle.muck_dumper.proofs.Ways.{stops_dead, stops_spent, dies_safe}
 use Rattle.muck_dumper.proofs.holds.dies.Goals as goal
 

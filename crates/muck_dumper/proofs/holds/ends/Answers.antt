@@ -4,7 +4,7 @@ use Rattle.muck_model.specs.declared.event.Event.TheVariants.{Died}
 use Rattle.muck_dumping.specs.inner.Dumps.{ending_event}
 use Rattle.muck_dumper.specs.inner.Steps.{Step}
 use Rattle.muck_dumping.specs.inner.Between.{IsWritten}
-use Rattle.muck_dumper.specs.Dumping.{history_seen}
+use Rattle.muck_dumper.specs.inner.Dumping.{history_seen}
 use Rattle.muck_dumper.proofs.Ways.{settles_ended, stops_dead, stops_spent}
 use Rattle.muck_dumper.proofs.holds.ends.Goals as goal
 

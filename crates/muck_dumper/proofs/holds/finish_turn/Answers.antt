@@ -3,10 +3,10 @@ use Rattle.muck_model.specs.declared.event.Event.TheVariants.{Died}
 use Rattle.spec_events.specs.Histories.{History, now}
 use Rattle.muck_dumping.specs.inner.Dumps.{ending_event}
 use Rattle.spec_dumps.specs.Survival.{IsSafe}
-use Rattle.spec_dumps.specs.Holding.{Rests}
+use Rattle.spec_dumps.specs.inner.Holding.{Rests}
 use Rattle.spec_dumps.proofs.Idle.{runs_quiet}
 use Rattle.muck_dumping.proofs.Writing.{written_quiet}
-use Rattle.muck_dumper.specs.Dumping.{history_seen}
+use Rattle.muck_dumper.specs.inner.Dumping.{history_seen}
 use Rattle.muck_dumper.proofs.Knowing.{held_quiet}
 use Rattle.muck_dumper.proofs.Turns.{entry_given, start_given, step_made}
 use Rattle.muck_dumper.proofs.holds.finish_turn.Goals as goal

@@ -1,8 +1,8 @@
 use Rattle.std.proofs.Common.{refl, ap, Err}
 use Rattle.spec_events.specs.Own.{Stage}
-use Rattle.spec_dumps.specs.Holding.{Keeps}
+use Rattle.spec_dumps.specs.inner.Holding.{Keeps}
 use Rattle.muck_dumping.proofs.Mounting.{ready_mounted, is_disk}
-use Rattle.muck_dumper.specs.Dumping.{history_seen}
+use Rattle.muck_dumper.specs.inner.Dumping.{history_seen}
 use Rattle.muck_dumper.proofs.Ways.{stops_before}
 use Rattle.muck_dumper.proofs.holds.mounts.Goals as goal
 

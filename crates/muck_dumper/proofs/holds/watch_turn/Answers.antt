@@ -1,7 +1,7 @@
 use Rattle.std.proofs.Common.{sym, subst}
 use Rattle.spec_events.specs.Histories.{History}
 use Rattle.spec_dumps.proofs.Idle.{idle_quiet}
-use Rattle.muck_dumper.specs.Dumping.{history_seen}
+use Rattle.muck_dumper.specs.inner.Dumping.{history_seen}
 use Rattle.muck_dumper.specs.inner.Steps.{event_of, KeptBy}
 use Rattle.muck_dumper.proofs.Knowing.{held_quiet}
 use Rattle.muck_dumper.proofs.Turns.{entry_given, start_given, step_made}

@@ -1,6 +1,6 @@
 use Rattle.std.proofs.Common.{◌≡◌, List, ap, ◌∙◌, sym, subst}
 use Rattle.muck_model.specs.declared.event.Event.TheVariants.{Cut, Died}
-use Rattle.muck_store.specs.Changes.{LeavesOut}
+use Rattle.muck_store.specs.inner.Changes.{LeavesOut}
 use Rattle.muck_store.specs.Forms.{persist}
 use Rattle.spec_admin.specs.Parameters.{IsInRange}
 use Rattle.spec_live.specs.Consistent.{IsConsistent}

@@ -1,6 +1,6 @@
 use Rattle.std.proofs.Common.{◌≡◌, length, reverse}
 use Rattle.std.specs.Prelude.{All}
-use Rattle.muck_codec.specs.Stored.{IsStored}
+use Rattle.muck_codec.specs.inner.Stored.{IsStored}
 use Rattle.muck_log.specs.World.{all_placed}
 use Rattle.muck_log.proofs.kept.place_all.Given as goal
 

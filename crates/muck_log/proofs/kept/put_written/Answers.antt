@@ -1,5 +1,5 @@
 use Rattle.std.proofs.Common.{sym, ◌∙◌, ap, arith}
-use Rattle.muck_codec.specs.Stored.{IsStored}
+use Rattle.muck_codec.specs.inner.Stored.{IsStored}
 use Rattle.muck_log.proofs.Written.{begins, counts, puts, leaves}
 use Rattle.muck_log.proofs.Spelled.{all_at}
 use Rattle.muck_log.proofs.kept.put_written.Goals as goal

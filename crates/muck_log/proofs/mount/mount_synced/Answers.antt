@@ -1,7 +1,7 @@
 use Rattle.std.proofs.Common.{◌≡◌, List, ℕ, Bool, ◌∙◌, ap, subst}
 use Rattle.muck_log.specs.File.{Reading, gate_at, begin, run}
 use Rattle.muck_log.specs.Store.{pick}
-use Rattle.muck_log.specs.Mount.{IsLoaded}
+use Rattle.muck_log.specs.inner.Mount.{IsLoaded}
 use Rattle.muck_log.proofs.Mounting.{found, load_fault, still_only, quiet_too, mounted_load, mounted_empty}
 use Rattle.muck_log.proofs.mount.mount_synced.Goals as goal
 

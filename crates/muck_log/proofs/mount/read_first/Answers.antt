@@ -1,6 +1,6 @@
 use Rattle.std.proofs.Common.{◌≡◌, length, take, min, ◌∙◌, ap, subst, arith}
 use Rattle.std.proofs.lemmas.List.{take_min}
-use Rattle.muck_log.specs.Mount.{IsLook}
+use Rattle.muck_log.specs.inner.Mount.{IsLook}
 use Rattle.muck_log.proofs.Mounting.{look_front}
 use Rattle.muck_log.proofs.mount.read_first.Goals as goal
 

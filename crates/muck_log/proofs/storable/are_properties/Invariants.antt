@@ -1,5 +1,5 @@
 use Rattle.std.specs.Option.{option_copied}
-use Rattle.muck_codec.specs.Stored.{IsProperty}
+use Rattle.muck_codec.specs.inner.Stored.{IsProperty}
 use Rattle.muck_log.proofs.Spelled.{RunLeft}
 use Rattle.muck_log.proofs.storable.are_properties.Given as goal
 

@@ -1,4 +1,4 @@
-use Rattle.muck_codec.specs.Stored.{IsStored}
+use Rattle.muck_codec.specs.inner.Stored.{IsStored}
 use Rattle.muck_log.proofs.Spelled.{AllLeft}
 use Rattle.muck_log.proofs.storable.are_storable.Given as goal
 

@@ -1,4 +1,4 @@
-use Rattle.muck_codec.specs.Stored.{IsText}
+use Rattle.muck_codec.specs.inner.Stored.{IsText}
 use Rattle.muck_log.proofs.Spelled.{AllLeft}
 use Rattle.muck_log.proofs.storable.see_lines.Given as goal
 

@@ -7,9 +7,9 @@ use Rattle.spec_live.specs.Lives.{Change}
 use Rattle.spec_rights.specs.declared.act.Act.TheVariants.{Write}
 use Rattle.spec_rights.specs.Verdict.{verdict}
 use Rattle.spec_rights.specs.Changing.{stored}
-use Rattle.muck_perm.specs.Guards.{objects_of, Tries}
+use Rattle.muck_perm.specs.inner.Guards.{objects_of, Tries}
 use Rattle.spec_mpi.specs.Doing.{written}
-use Rattle.muck_mpi.specs.Seeing.{stage_of}
+use Rattle.muck_mpi.specs.inner.Seeing.{stage_of}
 use Rattle.muck_mpi.proofs.Steps.{same_self, not_there, path_refused, denied_at, allowed_at, copied_none, copied_some, tried_there}
 use Rattle.muck_mpi.proofs.deeds.store.Goals as goal
 

@@ -5,9 +5,9 @@ use Rattle.spec_live.specs.Lives.{Change}
 use Rattle.spec_rights.specs.declared.act.Act.TheVariants.{Write}
 use Rattle.spec_rights.specs.Verdict.{verdict}
 use Rattle.spec_rights.specs.Changing.{unstored}
-use Rattle.muck_perm.specs.Guards.{objects_of}
+use Rattle.muck_perm.specs.inner.Guards.{objects_of}
 use Rattle.spec_mpi.specs.Doing.{written}
-use Rattle.muck_mpi.specs.Seeing.{stage_of}
+use Rattle.muck_mpi.specs.inner.Seeing.{stage_of}
 use Rattle.muck_mpi.proofs.Steps.{same_self, not_there, path_refused, denied_at, allowed_at, copied_none, copied_some, made_there}
 use Rattle.muck_mpi.proofs.deeds.unstore.Goals as goal
 

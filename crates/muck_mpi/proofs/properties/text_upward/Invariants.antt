@@ -1,8 +1,8 @@
 use Rattle.std.proofs.Common.{◌≡◌, ◌∷◌, length}
 use Rattle.spec_live.specs.Seen.{places_of}
-use Rattle.muck_perm.specs.Guards.{objects_of}
+use Rattle.muck_perm.specs.inner.Guards.{objects_of}
 use Rattle.spec_mpi.specs.Telling.{first_text}
-use Rattle.muck_mpi.specs.Upward.{upward_from}
+use Rattle.muck_mpi.specs.inner.Upward.{upward_from}
 use Rattle.muck_mpi.proofs.properties.text_upward.Given as goal
 
 -- those that were looked at have none

@@ -1,6 +1,6 @@
 use Rattle.std.proofs.Common.{◌≡◌, ◌++◌, length}
 use Rattle.mpi.specs.Made.{Inside}
-use Rattle.muck_mpi.specs.Signing.{signs_behind}
+use Rattle.muck_mpi.specs.inner.Signing.{signs_behind}
 use Rattle.muck_mpi.proofs.signs.signs.Given as goal
 
 -- what was written, and behind it what is left

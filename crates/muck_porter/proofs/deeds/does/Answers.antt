@@ -5,7 +5,7 @@ use Rattle.spec_events.specs.Histories.{now}
 use Rattle.muck_porter.specs.declared.deeds.Deed.{Deed}
 use Rattle.muck_porter.specs.declared.deeds.Deed.TheVariants.{Slice}
 use Rattle.muck_porter.specs.declared.deeds.Did.TheVariants.{Timed, Dead}
-use Rattle.muck_porter.specs.Deeds.{DidAs, ClaimOf}
+use Rattle.muck_porter.specs.inner.Deeds.{DidAs, ClaimOf}
 use Rattle.muck_porter.proofs.InRounds.{open_did, slice_did, stop_did, leave_did, died_did}
 use Rattle.muck_porter.proofs.deeds.does.Goals as goal
 

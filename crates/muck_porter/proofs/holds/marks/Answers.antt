@@ -1,5 +1,5 @@
 use Rattle.std.proofs.Common.{true≢false, refl, sym, ◌∙◌}
-use Rattle.muck_porter.specs.Turns.{MarkedIn}
+use Rattle.muck_porter.specs.inner.Turns.{MarkedIn}
 use Rattle.muck_porter.proofs.holds.marks.Goals as goal
 
 pub returns-then-noted : goal.returns-then-noted

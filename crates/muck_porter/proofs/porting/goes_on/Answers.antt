@@ -1,6 +1,6 @@
 use Rattle.std.proofs.Common.{true≢false, refl, sym, ◌∙◌, subst, arith}
 use Rattle.muck_porter.specs.declared.serving.Fault.{Fault}
-use Rattle.muck_porter.specs.Rounds.{IsSpent}
+use Rattle.muck_porter.specs.inner.Rounds.{IsSpent}
 use Rattle.muck_porter.specs.declared.porting.Why.TheVariants.{NoMemory, Spent}
 use Rattle.muck_porter.proofs.InRounds.{stays_ready, stays_carried, left_last, left_kept, broke_on, ready_fresh, books_start, timed_start, not_stopped}
 use Rattle.muck_porter.proofs.porting.goes_on.Goals as goal

@@ -1,8 +1,8 @@
 use Rattle.std.proofs.Common.{◌≡◌, ◌≤◌, true}
 use Rattle.muck_io.specs.Faults.{Rose}
-use Rattle.muck_machine.specs.Seats.{SameLists}
-use Rattle.muck_porter.specs.Kept.{tally, BooksAt, Ready}
-use Rattle.muck_porter.specs.Moves.{number_in, IsNew}
+use Rattle.muck_machine.specs.inner.Seats.{SameLists}
+use Rattle.muck_porter.specs.inner.Kept.{tally, BooksAt, Ready}
+use Rattle.muck_porter.specs.inner.Moves.{number_in, IsNew}
 use Rattle.muck_porter.specs.Times.{TimedBy}
 use Rattle.muck_porter.proofs.porting.goes_on.Given as goal
 

@@ -1,8 +1,8 @@
 use Rattle.std.proofs.Common.{List, ◌++◌, ◌∷◌, [], Some, None, sym, ap, ◌∙◌, subst}
 use Rattle.spec_serve.specs.inner.Keeping.{Peer, new_peer}
-use Rattle.muck_porter.specs.Kept.{tally}
-use Rattle.muck_porter.specs.Deeds.{DidAs}
-use Rattle.muck_porter.specs.Moves.{Carries}
+use Rattle.muck_porter.specs.inner.Kept.{tally}
+use Rattle.muck_porter.specs.inner.Deeds.{DidAs}
+use Rattle.muck_porter.specs.inner.Moves.{Carries}
 use Rattle.muck_porter.proofs.Stages.{formed_free}
 use Rattle.muck_porter.proofs.Doing.{over_waited, ends_waited, ends_last, over_ready, dead_did, died_ends, died_over}
 use Rattle.muck_porter.proofs.InRounds.{open_ready, open_carries, open_late, open_later}

@@ -1,6 +1,6 @@
 use Rattle.std.proofs.Common.{◌≡◌, ℤ, to_z, of_z, w32, rules, sym, subst}
-use Rattle.muck_porter.specs.Deeds.{DidAs}
-use Rattle.muck_porter.specs.Moves.{HasClaimed}
+use Rattle.muck_porter.specs.inner.Deeds.{DidAs}
+use Rattle.muck_porter.specs.inner.Moves.{HasClaimed}
 use Rattle.spec_events.specs.Own.{Stage}
 use Rattle.muck_porter.proofs.Stages.{formed_at}
 use Rattle.muck_porter.proofs.Doing.{over_waited, ends_waited, over_ready, dead_did, died_ends}

@@ -1,7 +1,7 @@
 use Rattle.std.proofs.Common.{◌≡◌, ℤ, to_z, of_z, w32, rules, sym, subst}
 use Rattle.spec_events.specs.Own.{Stage}
-use Rattle.muck_porter.specs.Moves.{HasClaimed}
-use Rattle.muck_porter.specs.Kept.{IsAt, IsFree}
+use Rattle.muck_porter.specs.inner.Moves.{HasClaimed}
+use Rattle.muck_porter.specs.inner.Kept.{IsAt, IsFree}
 use Rattle.muck_porter.proofs.Stages.{formed_free}
 use Rattle.muck_porter.proofs.Doing.{over_waited, ends_waited, over_ready, carried_on, carried_end}
 use Rattle.muck_porter.proofs.InRounds.{exec_ready, exec_carries, claim_resting, claim_stage, claim_made, claim_carries, idle_ready, idle_carries, off_ready, off_carries, work_ends, work_over}

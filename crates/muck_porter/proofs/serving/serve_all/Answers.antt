@@ -1,5 +1,5 @@
 use Rattle.std.proofs.Common.{ℕ, ◌+◌, ◌<◌, length, Option, arith, refl, ◌∙◌, subst}
-use Rattle.muck_porter.specs.Rounds.{IsServed, Nearer}
+use Rattle.muck_porter.specs.inner.Rounds.{IsServed, Nearer}
 use Rattle.muck_porter.proofs.Doing.{carried_on, carried_end}
 use Rattle.muck_porter.proofs.serving.serve_all.Goals as goal
 

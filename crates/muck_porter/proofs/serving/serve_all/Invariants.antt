@@ -1,7 +1,7 @@
 use Rattle.std.proofs.Common.{◌≡◌, ◌-◌, true, vec_len}
-use Rattle.muck_machine.specs.Seats.{SameLists}
-use Rattle.muck_porter.specs.Kept.{tally, Ready}
-use Rattle.muck_porter.specs.Moves.{CarriesOn}
+use Rattle.muck_machine.specs.inner.Seats.{SameLists}
+use Rattle.muck_porter.specs.inner.Kept.{tally, Ready}
+use Rattle.muck_porter.specs.inner.Moves.{CarriesOn}
 use Rattle.muck_porter.specs.Times.{ByClock}
 use Rattle.muck_porter.proofs.serving.serve_all.Given as goal
 

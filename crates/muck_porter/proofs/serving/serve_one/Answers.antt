@@ -1,5 +1,5 @@
 use Rattle.std.proofs.Common.{ℕ, Some, sym, subst}
-use Rattle.muck_porter.specs.Rounds.{Nearer}
+use Rattle.muck_porter.specs.inner.Rounds.{Nearer}
 use Rattle.muck_porter.proofs.Stages.{formed_free}
 use Rattle.muck_porter.proofs.Doing.{over_waited, ends_waited, listened}
 use Rattle.muck_porter.proofs.OneServed.{went_below, closed_below, went_nearer, closed_nearer, went_ready, went_carries, closed_ready, closed_carries, nobody_ready, nobody_carries, dead_ends, dead_over, went_over, closed_over, nobody_over}

@@ -1,5 +1,5 @@
 use Rattle.std.proofs.Common.{◌≡◌, ℕ, ◌≤◌, true, None, drop}
-use Rattle.spec_dumps.specs.Holding.{Rests}
+use Rattle.spec_dumps.specs.inner.Holding.{Rests}
 use Rattle.spec_events.specs.Histories.{now}
 use Rattle.muck_script.specs.Story.{lines_story}
 use Rattle.muck_run.specs.inner.Dumps.{IsNotedOn}

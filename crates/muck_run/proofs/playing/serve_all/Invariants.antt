@@ -1,5 +1,5 @@
 use Rattle.std.proofs.Common.{◌≡◌}
-use Rattle.spec_dumps.specs.Holding.{Quietly}
+use Rattle.spec_dumps.specs.inner.Holding.{Quietly}
 use Rattle.spec_live.specs.Connections.{connections_most}
 use Rattle.muck_script.specs.Story.{served}
 use Rattle.muck_run.specs.inner.Opens.{Opens}

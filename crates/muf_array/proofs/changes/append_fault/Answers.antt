@@ -2,9 +2,9 @@ use Rattle.std.proofs.Common.{◌≡◌, ap, sym, ◌∙◌, length}
 use Rattle.std.specs.Arc.{arc_value}
 use Rattle.std.specs.List.{insert}
 use Rattle.muf_model.specs.Datum.{items, data_of}
-use Rattle.muf_model.specs.View.{view}
+use Rattle.muf_model.specs.inner.View.{view}
 use Rattle.muf_model.specs.Values.{fits}
-use Rattle.muf_array.specs.Shapes.{fault_of, refusal}
+use Rattle.muf_array.specs.inner.Shapes.{fault_of, refusal}
 use Rattle.muf_array.proofs.Changing.{appended_at, refusal_valued}
 use Rattle.muf_array.proofs.changes.append_fault.Goals as goal
 

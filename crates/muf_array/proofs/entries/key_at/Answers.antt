@@ -2,7 +2,7 @@ use Rattle.std.proofs.Common.{rules, ◌≡◌, Some, map, ◌∙◌}
 use Rattle.std.specs.Prelude.{slice_get}
 use Rattle.std.specs.Arc.{arc_value}
 use Rattle.muf_model.specs.Entries.{key_datum}
-use Rattle.muf_model.specs.View.{view}
+use Rattle.muf_model.specs.inner.View.{view}
 use Rattle.muf_model.specs.ArrayRows.{entries_in}
 use Rattle.muf_array.proofs.Reading.{mapped, dict_key_at}
 use Rattle.muf_array.proofs.entries.key_at.Goals as goal

@@ -1,8 +1,8 @@
 use Rattle.std.proofs.Common.{rules, ◌≡◌, None}
 use Rattle.std.specs.Prelude.{slice_get}
-use Rattle.muf_model.specs.View.{view}
+use Rattle.muf_model.specs.inner.View.{view}
 use Rattle.muf_model.specs.ArrayRows.{entries_in}
-use Rattle.muf_array.specs.Shapes.{values_in}
+use Rattle.muf_array.specs.inner.Shapes.{values_in}
 use Rattle.muf_array.proofs.Reading.{is_there}
 use Rattle.muf_array.proofs.entries.value_there.Goals as goal
 

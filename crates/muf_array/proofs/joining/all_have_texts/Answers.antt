@@ -2,9 +2,9 @@ use Rattle.std.proofs.Common.{rules, ◌≡◌, true, false, sym, ◌∙◌, map
 use Rattle.std.specs.Prelude.{is_some}
 use Rattle.std.proofs.lemmas.List.{length-map}
 use Rattle.std.proofs.lemmas.Option.{slice_get_past}
-use Rattle.muf_model.specs.View.{view}
+use Rattle.muf_model.specs.inner.View.{view}
 use Rattle.muf_model.specs.ArrayRows.{entries_in, word_of}
-use Rattle.muf_array.specs.Shapes.{values_in}
+use Rattle.muf_array.specs.inner.Shapes.{values_in}
 use Rattle.muf_array.proofs.Texts.{words_more, words_stop, words_end}
 use Rattle.muf_array.proofs.joining.all_have_texts.Goals as goal
 

@@ -2,11 +2,11 @@ use Rattle.std.proofs.Common.{◌≡◌, map, ap, sym, ◌∙◌, ◌++◌, ◌+
 use Rattle.std.specs.Prelude.{slice_get, option_map}
 use Rattle.std.proofs.lemmas.List.{length-map, append_assoc, append-nil}
 use Rattle.std.proofs.lemmas.Option.{slice_get-map, slice_get_past}
-use Rattle.muf_model.specs.View.{view}
+use Rattle.muf_model.specs.inner.View.{view}
 use Rattle.muf_model.specs.Texts.{joined}
 use Rattle.muf_model.specs.TextRows.{sized}
 use Rattle.muf_model.specs.ArrayRows.{entries_in}
-use Rattle.muf_array.specs.Shapes.{text_in, values_in, lead}
+use Rattle.muf_array.specs.inner.Shapes.{text_in, values_in, lead}
 use Rattle.muf_array.proofs.Texts.{left_of, join_more, join_end}
 use Rattle.prim_text.proofs.Parts.{too_long}
 use Rattle.muf_array.proofs.joining.join_texts.Goals as goal

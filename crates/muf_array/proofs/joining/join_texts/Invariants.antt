@@ -1,8 +1,8 @@
 use Rattle.std.proofs.Common.{◌≡◌, ◌≤◌, ◌-◌, ◌++◌, length, map}
-use Rattle.muf_model.specs.View.{view}
+use Rattle.muf_model.specs.inner.View.{view}
 use Rattle.muf_model.specs.Texts.{joined}
 use Rattle.muf_model.proofs.FaultTexts.{IsInside}
-use Rattle.muf_array.specs.Shapes.{text_in, values_in}
+use Rattle.muf_array.specs.inner.Shapes.{text_in, values_in}
 use Rattle.muf_array.proofs.Texts.{left_of}
 use Rattle.muf_array.proofs.joining.join_texts.Given as goal
 

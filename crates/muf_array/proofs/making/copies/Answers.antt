@@ -1,7 +1,7 @@
 use Rattle.std.proofs.Common.{map, ap, sym, ◌∙◌, ◌∷◌, [], ◌++◌, ◌+◌, ◌-◌, ◌≡◌, take, drop, reverse, arith}
 use Rattle.std.proofs.lemmas.List.{map-append}
-use Rattle.muf_model.specs.View.{view}
-use Rattle.muf_frame.specs.Shown.{flat}
+use Rattle.muf_model.specs.inner.View.{view}
+use Rattle.muf_frame.specs.inner.Shown.{flat}
 use Rattle.muf_array.proofs.Reading.{part_more}
 use Rattle.muf_array.proofs.Counting.{counted_item}
 use Rattle.muf_array.proofs.making.copies.Goals as goal

@@ -1,8 +1,8 @@
 use Rattle.std.proofs.Common.{refl, sym, subst, ◌∙◌}
-use Rattle.muf_frame.specs.Shown.{flat}
-use Rattle.muf_frame.specs.Moves.{scope_of}
-use Rattle.muf_frame.specs.Answers.{AppliedOr}
-use Rattle.muf_array.specs.Taken.{list_read}
+use Rattle.muf_frame.specs.inner.Shown.{flat}
+use Rattle.muf_frame.specs.inner.Moves.{scope_of}
+use Rattle.muf_frame.specs.inner.Answers.{AppliedOr}
+use Rattle.muf_array.specs.inner.Taken.{list_read}
 use Rattle.muf_array.proofs.Counting.{list_used}
 use Rattle.muf_array.proofs.making.list.Goals as goal
 

@@ -3,11 +3,11 @@ use Rattle.std.specs.Prelude.{slice_get}
 use Rattle.std.specs.Option.{option_and_then}
 use Rattle.std.proofs.lemmas.List.{map-append, drop-drop}
 use Rattle.muf_model.specs.Datum.{Datum}
-use Rattle.muf_model.specs.View.{view, pair_view}
+use Rattle.muf_model.specs.inner.View.{view, pair_view}
 use Rattle.muf_model.specs.ArrayRows.{key_of}
-use Rattle.muf_frame.specs.Shown.{flat}
+use Rattle.muf_frame.specs.inner.Shown.{flat}
 use Rattle.muf_frame.proofs.Data.{get_drop}
-use Rattle.muf_array.specs.Shapes.{pairs_in, pairs_before, key_in}
+use Rattle.muf_array.specs.inner.Shapes.{pairs_in, pairs_before, key_in}
 use Rattle.muf_array.proofs.Counting.{pairs_more, pairs_none, none_of}
 use Rattle.muf_array.proofs.making.pairs.Goals as goal
 

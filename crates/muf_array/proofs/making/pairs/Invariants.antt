@@ -1,7 +1,7 @@
 use Rattle.std.proofs.Common.{◌≡◌, ◌≤◌, ◌-◌, ◌+◌, map, drop}
-use Rattle.muf_model.specs.View.{pair_view}
-use Rattle.muf_frame.specs.Shown.{flat}
-use Rattle.muf_array.specs.Shapes.{pairs_in, pairs_before}
+use Rattle.muf_model.specs.inner.View.{pair_view}
+use Rattle.muf_frame.specs.inner.Shown.{flat}
+use Rattle.muf_array.specs.inner.Shapes.{pairs_in, pairs_before}
 use Rattle.muf_array.proofs.making.pairs.Given as goal
 
 abbrev pub invariant-loop-at : goal.invariant-loop-at

@@ -2,7 +2,7 @@ use Rattle.std.proofs.Common.{map, ap, sym, ◌∙◌, ◌∷◌, [], ◌++◌, 
 use Rattle.std.specs.Prelude.{pos}
 use Rattle.std.proofs.lemmas.List.{map-append, append_assoc}
 use Rattle.muf_model.specs.Datum.{int}
-use Rattle.muf_model.specs.View.{view}
+use Rattle.muf_model.specs.inner.View.{view}
 use Rattle.muf_model.specs.ArrayRows.{entries_in, spread}
 use Rattle.muf_array.proofs.Reading.{spread_more}
 use Rattle.muf_array.proofs.rows.exploded.Goals as goal

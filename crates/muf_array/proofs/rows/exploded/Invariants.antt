@@ -1,7 +1,7 @@
 use Rattle.std.proofs.Common.{◌≡◌, ◌≤◌, ◌∷◌, length, map, drop}
 use Rattle.std.specs.Prelude.{pos}
 use Rattle.muf_model.specs.Datum.{int}
-use Rattle.muf_model.specs.View.{view}
+use Rattle.muf_model.specs.inner.View.{view}
 use Rattle.muf_model.specs.ArrayRows.{entries_in, spread}
 use Rattle.muf_array.proofs.rows.exploded.Given as goal
 

@@ -1,7 +1,7 @@
 use Rattle.std.proofs.Common.{◌≡◌, ◌∙◌, drop}
-use Rattle.muf_model.specs.View.{view}
+use Rattle.muf_model.specs.inner.View.{view}
 use Rattle.muf_model.specs.ArrayRows.{entries_in, first_key}
-use Rattle.prim_text.specs.Made.{made_of}
+use Rattle.prim_text.specs.inner.Made.{made_of}
 use Rattle.muf_array.proofs.Reading.{mapped, first_at}
 use Rattle.muf_array.proofs.rows.key_from.Goals as goal
 

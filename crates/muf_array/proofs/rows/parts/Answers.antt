@@ -2,9 +2,9 @@ use Rattle.std.proofs.Common.{map, ap, sym, ◌∙◌, ◌∷◌, [], ◌++◌, 
 use Rattle.std.specs.Prelude.{pos}
 use Rattle.std.proofs.lemmas.List.{map-append}
 use Rattle.muf_model.specs.Datum.{int}
-use Rattle.muf_model.specs.View.{view}
+use Rattle.muf_model.specs.inner.View.{view}
 use Rattle.muf_model.specs.ArrayRows.{entries_in}
-use Rattle.muf_array.specs.Shapes.{part_of}
+use Rattle.muf_array.specs.inner.Shapes.{part_of}
 use Rattle.muf_array.proofs.Reading.{part_more}
 use Rattle.muf_array.proofs.rows.parts.Goals as goal
 

@@ -1,9 +1,9 @@
 use Rattle.std.proofs.Common.{◌≡◌, ◌≤◌, ◌∷◌, length, map, drop, reverse}
 use Rattle.std.specs.Prelude.{pos}
 use Rattle.muf_model.specs.Datum.{int}
-use Rattle.muf_model.specs.View.{view}
+use Rattle.muf_model.specs.inner.View.{view}
 use Rattle.muf_model.specs.ArrayRows.{entries_in}
-use Rattle.muf_array.specs.Shapes.{part_of}
+use Rattle.muf_array.specs.inner.Shapes.{part_of}
 use Rattle.muf_array.proofs.rows.parts.Given as goal
 
 abbrev pub invariant-loop-at : goal.invariant-loop-at

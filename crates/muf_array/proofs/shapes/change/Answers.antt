@@ -1,10 +1,10 @@
 use Rattle.std.proofs.Common.{refl, sym, ◌∙◌, arith}
 use Rattle.std.proofs.lemmas.List.{length-map}
 use Rattle.muf_model.specs.Prims.{level_of}
-use Rattle.muf_model.specs.View.{view}
-use Rattle.muf_frame.specs.Shown.{flat}
-use Rattle.muf_frame.specs.Moves.{scope_of}
-use Rattle.muf_array.specs.Shapes.{changed}
+use Rattle.muf_model.specs.inner.View.{view}
+use Rattle.muf_frame.specs.inner.Shown.{flat}
+use Rattle.muf_frame.specs.inner.Moves.{scope_of}
+use Rattle.muf_array.specs.inner.Shapes.{changed}
 use Rattle.muf_array.proofs.Taking.{item_fault}
 use Rattle.muf_array.proofs.shapes.change.Goals as goal
 

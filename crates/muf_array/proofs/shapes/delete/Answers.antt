@@ -2,10 +2,10 @@ use Rattle.std.proofs.Common.{refl, sym, ◌∙◌, arith}
 use Rattle.std.proofs.lemmas.List.{length-map}
 use Rattle.muf_model.specs.declared.prims.Primitive.TheVariants.{ArrayDelItem}
 use Rattle.muf_model.specs.Prims.{level_of}
-use Rattle.muf_model.specs.View.{view}
+use Rattle.muf_model.specs.inner.View.{view}
 use Rattle.muf_model.specs.ArrayRows.{gone_from}
-use Rattle.muf_frame.specs.Shown.{flat}
-use Rattle.muf_frame.specs.Moves.{scope_of}
+use Rattle.muf_frame.specs.inner.Shown.{flat}
+use Rattle.muf_frame.specs.inner.Moves.{scope_of}
 use Rattle.muf_array.proofs.Taking.{held_fault}
 use Rattle.muf_array.proofs.shapes.delete.Goals as goal
 

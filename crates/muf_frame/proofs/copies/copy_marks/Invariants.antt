@@ -1,5 +1,5 @@
 use Rattle.std.proofs.Common.{◌≡◌, ◌≤◌, ◌-◌, length, map, take, vec_len, vec_capacity}
-use Rattle.muf_frame.specs.Shown.{flat_mark, outer_of}
+use Rattle.muf_frame.specs.inner.Shown.{flat_mark, outer_of}
 use Rattle.muf_frame.proofs.copies.copy_marks.Given as goal
 
 abbrev pub invariant-loop-at : goal.invariant-loop-at

@@ -1,5 +1,5 @@
 use Rattle.std.proofs.Common.{◌≡◌, ◌≤◌, ◌-◌, length, map, take}
-use Rattle.muf_frame.specs.Shown.{flat_owned}
+use Rattle.muf_frame.specs.inner.Shown.{flat_owned}
 use Rattle.muf_frame.proofs.copies.copy_owned.Given as goal
 
 abbrev pub invariant-loop-at : goal.invariant-loop-at

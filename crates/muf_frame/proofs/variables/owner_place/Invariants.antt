@@ -1,6 +1,6 @@
 use Rattle.std.proofs.Common.{◌≡◌, ◌≤◌, ◌+◌, ◌-◌, length, map, drop}
-use Rattle.muf_frame.specs.Shown.{flat_owned}
-use Rattle.muf_frame.specs.Owners.{owner_place}
+use Rattle.muf_frame.specs.inner.Shown.{flat_owned}
+use Rattle.muf_frame.specs.inner.Owners.{owner_place}
 use Rattle.muf_frame.proofs.variables.owner_place.Given as goal
 
 abbrev pub invariant-loop-at : goal.invariant-loop-at

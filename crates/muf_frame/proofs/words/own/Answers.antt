@@ -3,8 +3,8 @@ use Rattle.std.specs.Prelude.{slice_get}
 use Rattle.std.proofs.lemmas.List.{length-map}
 use Rattle.std.proofs.lemmas.Option.{slice_get_read, slice_get_past}
 use Rattle.muf_model.specs.Source.{with_owned, zeros, fitted, owned_by}
-use Rattle.muf_frame.specs.Shown.{flat_owned}
-use Rattle.muf_frame.specs.Owners.{owner_place, owned_values}
+use Rattle.muf_frame.specs.inner.Shown.{flat_owned}
+use Rattle.muf_frame.specs.inner.Owners.{owner_place, owned_values}
 use Rattle.muf_frame.proofs.Data.{fitted_none}
 use Rattle.muf_frame.proofs.Owners.{owned_read, owned_found, owned_kept, add_owner}
 use Rattle.muf_frame.proofs.words.own.Goals as goal

@@ -1,5 +1,5 @@
 use Rattle.std.proofs.Common.{◌≡◌, ◌≤◌, ◌-◌, ◌++◌, map}
-use Rattle.muf_model.specs.View.{view}
+use Rattle.muf_model.specs.inner.View.{view}
 use Rattle.muf_model.specs.Source.{zeros}
 use Rattle.muf_frame.proofs.words.push_zeros.Given as goal
 

@@ -1,6 +1,6 @@
 use Rattle.std.proofs.Common.{map, ap, sym, subst, ◌∙◌, ◌∷◌, []}
 use Rattle.std.proofs.lemmas.List.{map-append}
-use Rattle.muf_model.specs.View.{view, pair_view}
+use Rattle.muf_model.specs.inner.View.{view, pair_view}
 use Rattle.muf_model.specs.Entries.{Rising}
 use Rattle.muf_model.proofs.Entries.{rising}
 use Rattle.muf_model.proofs.Edited.{onto, onto_none, onto_last}

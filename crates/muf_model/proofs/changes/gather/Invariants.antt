@@ -1,5 +1,5 @@
 use Rattle.std.proofs.Common.{◌≡◌, length, map}
-use Rattle.muf_model.specs.View.{pair_view}
+use Rattle.muf_model.specs.inner.View.{pair_view}
 use Rattle.muf_model.specs.Entries.{gathered, Rising}
 use Rattle.muf_model.proofs.Edited.{onto}
 use Rattle.muf_model.proofs.changes.gather.Given as goal

@@ -1,6 +1,6 @@
 use Rattle.std.proofs.Common.{rules, ◌≡◌, true, false, map}
 use Rattle.std.specs.Prelude.{slice_get}
-use Rattle.muf_model.specs.View.{pair_view}
+use Rattle.muf_model.specs.inner.View.{pair_view}
 use Rattle.muf_model.specs.Entries.{has_key}
 use Rattle.muf_model.proofs.Edited.{above_behind, above_at}
 use Rattle.muf_model.proofs.changes.place_above.Goals as goal

@@ -1,5 +1,5 @@
 use Rattle.std.proofs.Common.{map}
-use Rattle.muf_model.specs.View.{view}
+use Rattle.muf_model.specs.inner.View.{view}
 use Rattle.muf_model.proofs.Edited.{inserted_weight, inserted_nesting}
 use Rattle.muf_model.proofs.changes.size_inserted.Goals as goal
 

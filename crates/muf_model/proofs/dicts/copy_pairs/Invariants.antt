@@ -1,5 +1,5 @@
 use Rattle.std.proofs.Common.{◌≡◌, ◌≤◌, ◌-◌, length, map, take}
-use Rattle.muf_model.specs.View.{pair_view}
+use Rattle.muf_model.specs.inner.View.{pair_view}
 use Rattle.muf_model.proofs.dicts.copy_pairs.Given as goal
 
 abbrev pub invariant-loop-at : goal.invariant-loop-at

@@ -1,6 +1,6 @@
 use Rattle.std.proofs.Common.{◌≡◌, ◌<◌, ◌≤◌, ◌+◌, ◌-◌, ◌/◌, true, false, length, map, get_or, arith, rules}
 use Rattle.std.proofs.lemmas.List.{length-map}
-use Rattle.muf_model.specs.View.{pair_view}
+use Rattle.muf_model.specs.inner.View.{pair_view}
 use Rattle.muf_model.specs.Measures.{key_below}
 use Rattle.muf_model.specs.Entries.{entry_place}
 use Rattle.muf_model.proofs.Entries.{place_within}

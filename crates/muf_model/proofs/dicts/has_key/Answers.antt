@@ -1,7 +1,7 @@
 use Rattle.std.proofs.Common.{rules, ◌≡◌, ap, sym, ◌∙◌, Some, None, option_map}
 use Rattle.std.specs.Prelude.{slice_get}
 use Rattle.std.proofs.lemmas.Option.{slice_get-map}
-use Rattle.muf_model.specs.View.{pair_view}
+use Rattle.muf_model.specs.inner.View.{pair_view}
 use Rattle.muf_model.specs.Entries.{has_key}
 use Rattle.muf_model.proofs.dicts.has_key.Goals as goal
 

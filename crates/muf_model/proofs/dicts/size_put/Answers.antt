@@ -1,6 +1,6 @@
 use Rattle.std.proofs.Common.{rules, ◌≡◌, ◌∙◌, sym, arith, true, false, map}
 use Rattle.std.specs.Prelude.{slice_get}
-use Rattle.muf_model.specs.View.{view, pair_view}
+use Rattle.muf_model.specs.inner.View.{view, pair_view}
 use Rattle.muf_model.specs.Entries.{has_key}
 use Rattle.muf_model.proofs.Sized.{within, dict_weight, dict_nesting, weight_there, nesting_there, weight_new, nesting_new}
 use Rattle.muf_model.proofs.dicts.size_put.Goals as goal

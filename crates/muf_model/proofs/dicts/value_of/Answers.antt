@@ -1,6 +1,6 @@
 use Rattle.std.proofs.Common.{rules, ◌≡◌, true, false, map, sym}
 use Rattle.std.specs.Prelude.{slice_get}
-use Rattle.muf_model.specs.View.{pair_view}
+use Rattle.muf_model.specs.inner.View.{pair_view}
 use Rattle.muf_model.specs.Entries.{has_key}
 use Rattle.muf_model.proofs.Edited.{value_at, none_at}
 use Rattle.muf_model.proofs.dicts.value_of.Goals as goal

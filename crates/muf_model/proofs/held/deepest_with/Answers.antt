@@ -1,5 +1,5 @@
 use Rattle.std.proofs.Common.{rules, arith, ap, ◌∙◌}
-use Rattle.muf_model.specs.View.{view}
+use Rattle.muf_model.specs.inner.View.{view}
 use Rattle.muf_model.specs.Measures.{nesting}
 use Rattle.muf_model.proofs.Sized.{deepest_new, deepest_kept}
 use Rattle.muf_model.proofs.held.deepest_with.Goals as goal

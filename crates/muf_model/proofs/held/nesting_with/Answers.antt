@@ -1,5 +1,5 @@
 use Rattle.std.proofs.Common.{arith}
-use Rattle.muf_model.specs.View.{view}
+use Rattle.muf_model.specs.inner.View.{view}
 use Rattle.muf_model.proofs.Sized.{nesting_step}
 use Rattle.muf_model.proofs.held.nesting_with.Goals as goal
 

@@ -1,7 +1,7 @@
 use Rattle.std.proofs.Common.{◌≡◌, ◌≤◌, ◌-◌, length, map, take, set}
 use Rattle.muf_model.specs.Datum.{data_of}
 use Rattle.muf_model.specs.Measures.{data_nesting}
-use Rattle.muf_model.specs.View.{view}
+use Rattle.muf_model.specs.inner.View.{view}
 use Rattle.muf_model.proofs.held.nesting_with.Given as goal
 
 abbrev pub invariant-loop-i : goal.invariant-loop-i

@@ -1,5 +1,5 @@
 use Rattle.std.proofs.Common.{rules, ap, ◌∙◌}
-use Rattle.muf_model.specs.View.{view}
+use Rattle.muf_model.specs.inner.View.{view}
 use Rattle.muf_model.specs.Measures.{weight}
 use Rattle.muf_model.proofs.Sized.{weight_within, weight_with}
 use Rattle.muf_model.proofs.held.size_with.Goals as goal

@@ -1,5 +1,5 @@
 use Rattle.std.proofs.Common.{arith, map}
-use Rattle.muf_model.specs.View.{view}
+use Rattle.muf_model.specs.inner.View.{view}
 use Rattle.muf_model.proofs.Sized.{weight_pushed, nesting_pushed}
 use Rattle.muf_model.proofs.lists.size_pushed.Goals as goal
 

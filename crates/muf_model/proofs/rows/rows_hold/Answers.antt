@@ -1,4 +1,4 @@
-use Rattle.muf_model.specs.Worked.{rows}
+use Rattle.muf_model.specs.inner.Worked.{rows}
 use Rattle.muf_model.proofs.rows.rows_hold.Goals as goal
 
 pub returns : goal.returns

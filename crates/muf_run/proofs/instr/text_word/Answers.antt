@@ -1,9 +1,9 @@
 use Rattle.std.proofs.Common.{◌≡◌, length, sym, subst, Err}
 use Rattle.muf_model.specs.Answer.{refuses}
 use Rattle.muf_model.specs.Rows.{primitive}
-use Rattle.muf_frame.specs.Shown.{flat}
-use Rattle.muf_frame.specs.Moves.{scope_of}
-use Rattle.muf_frame.specs.Answers.{AppliedOr}
+use Rattle.muf_frame.specs.inner.Shown.{flat}
+use Rattle.muf_frame.specs.inner.Moves.{scope_of}
+use Rattle.muf_frame.specs.inner.Answers.{AppliedOr}
 use Rattle.muf_run.proofs.instr.text_word.Goals as goal
 
 pub returns-in-Err-Fault : goal.returns-in-Err-Fault

@@ -1,4 +1,4 @@
-use Rattle.muf_run.specs.Machine as machine
+use Rattle.muf_run.specs.inner.Machine as machine
 use Rattle.muf_run.proofs.instr.until_word.Goals as goal
 
 pub returns-in-Err : goal.returns-in-Err

@@ -1,9 +1,9 @@
 use Rattle.std.proofs.Common.{rules, ◌≡◌, ◌+◌, ◌≤◌, length, sym, ap, ◌∙◌, false, true}
 use Rattle.std.specs.Prelude.{is_some}
-use Rattle.muf_model.specs.View.{view}
+use Rattle.muf_model.specs.inner.View.{view}
 use Rattle.muf_model.specs.Answer.{variable_at}
-use Rattle.muf_frame.specs.Shown.{flat, locked_by}
-use Rattle.muf_frame.specs.Moves.{scope_of}
+use Rattle.muf_frame.specs.inner.Shown.{flat, locked_by}
+use Rattle.muf_frame.specs.inner.Moves.{scope_of}
 use Rattle.muf_run.proofs.Stacks.{keep_none, keep_done, some_mapped, height_alike}
 use Rattle.muf_run.proofs.items.keep.Goals as goal
 

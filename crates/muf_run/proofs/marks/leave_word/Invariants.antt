@@ -1,6 +1,6 @@
 use Rattle.std.proofs.Common.{◌≡◌, length}
-use Rattle.muf_frame.specs.Shown.{flat}
-use Rattle.muf_run.specs.Machine as machine
+use Rattle.muf_frame.specs.inner.Shown.{flat}
+use Rattle.muf_run.specs.inner.Machine as machine
 use Rattle.muf_run.proofs.marks.leave_word.Given as goal
 
 abbrev pub invariant-loop-mark : goal.invariant-loop-mark

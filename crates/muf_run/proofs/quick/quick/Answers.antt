@@ -2,8 +2,8 @@ use Rattle.std.proofs.Common.{rules, ◌≡◌, ◌+◌, Some, sym, ap, ◌∙�
 use Rattle.std.specs.Prelude.{slice_get}
 use Rattle.muf_model.specs.declared.code.Instr.TheVariants.{Plain, Close, When, IfElse, Begin}
 use Rattle.muf_model.specs.declared.code.Closer.TheVariants.{Repeat}
-use Rattle.muf_frame.specs.Shown.{flat}
-use Rattle.muf_run.specs.Machine as machine
+use Rattle.muf_frame.specs.inner.Shown.{flat}
+use Rattle.muf_run.specs.inner.Machine as machine
 use Rattle.muf_run.proofs.GoesOn.{quick_fits}
 use Rattle.muf_run.proofs.quick.quick.Goals as goal
 

@@ -1,6 +1,6 @@
 use Rattle.std.proofs.Common.{ap, sym, ◌∙◌}
-use Rattle.muf_frame.specs.Shown.{flat}
-use Rattle.muf_run.specs.Machine as machine
+use Rattle.muf_frame.specs.inner.Shown.{flat}
+use Rattle.muf_run.specs.inner.Machine as machine
 use Rattle.muf_run.proofs.quick.quick_word.Goals as goal
 
 pub returns-then-quick_at-clause-yes : goal.returns-then-quick_at-clause-yes

@@ -1,6 +1,6 @@
 use Rattle.std.proofs.Common.{arith, subst}
-use Rattle.muf_frame.specs.Shown.{flat}
-use Rattle.muf_run.specs.Ends.{StepEnds}
+use Rattle.muf_frame.specs.inner.Shown.{flat}
+use Rattle.muf_run.specs.inner.Ends.{StepEnds}
 use Rattle.muf_run.proofs.GoesOn.{step_more}
 use Rattle.muf_run.proofs.run.changing_step.Goals as goal
 

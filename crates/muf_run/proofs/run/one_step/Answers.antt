@@ -1,5 +1,5 @@
 use Rattle.std.proofs.Common.{refl, arith}
-use Rattle.muf_frame.specs.Shown.{flat}
+use Rattle.muf_frame.specs.inner.Shown.{flat}
 use Rattle.muf_run.proofs.GoesOn.{unit_goes_on, unit_over}
 use Rattle.muf_run.proofs.run.one_step.Goals as goal
 

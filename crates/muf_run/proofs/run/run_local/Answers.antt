@@ -1,12 +1,12 @@
 use Rattle.std.proofs.Common.{◌≡◌, ◌<◌, ◌-◌, ◌∷◌, sym, subst, arith}
 use Rattle.muf_model.specs.Unit.{units}
-use Rattle.muf_model.specs.Flat.{decode}
-use Rattle.muf_frame.specs.Shown.{flat}
+use Rattle.muf_model.specs.inner.Flat.{decode}
+use Rattle.muf_frame.specs.inner.Shown.{flat}
 use Rattle.muf_run.specs.declared.ran.Ran.TheVariants.{Going}
 use Rattle.muf_run.specs.declared.run.Local.TheVariants.{Spent}
-use Rattle.muf_run.specs.Runs.{RunsAlike}
-use Rattle.muf_run.specs.Machine.{next_of}
-use Rattle.muf_run.specs.Ends.{UnitEnds, StepEnds}
+use Rattle.muf_run.specs.inner.Runs.{RunsAlike}
+use Rattle.muf_run.specs.inner.Machine.{next_of}
+use Rattle.muf_run.specs.inner.Ends.{UnitEnds, StepEnds}
 use Rattle.muf_run.specs.declared.ran.Step.TheVariants.{Went}
 use Rattle.muf_run.proofs.Running.{going_far, over_by, units_over, taken_over, spent}
 use Rattle.muf_run.proofs.run.run_local.Goals as goal

@@ -2,10 +2,10 @@ use Rattle.std.proofs.Common.{◌≡◌, ◌+◌, ◌-◌, ◌≤◌, List, ◌�
 use Rattle.muf_model.specs.declared.code.Code.{Code}
 use Rattle.muf_model.specs.Source.{Source}
 use Rattle.muf_model.specs.Unit.{units}
-use Rattle.muf_model.specs.Nested.{Nested}
-use Rattle.muf_model.specs.Fits.{FitsState}
-use Rattle.muf_frame.specs.Shown.{flat}
-use Rattle.muf_run.specs.Runs.{taken}
+use Rattle.muf_model.specs.inner.Nested.{Nested}
+use Rattle.muf_model.specs.inner.Fits.{FitsState}
+use Rattle.muf_frame.specs.inner.Shown.{flat}
+use Rattle.muf_run.specs.inner.Runs.{taken}
 use Rattle.muf_run.proofs.run.run_local.Given as goal
 
 abbrev pub invariant-loop-taken : goal.invariant-loop-taken

@@ -1,7 +1,7 @@
 use Rattle.std.proofs.Common.{rules, ◌≡◌, Some, ap, ◌∙◌, arith}
 use Rattle.std.specs.Prelude.{slice_get}
 use Rattle.muf_model.specs.declared.code.Instr.TheVariants.{Begin}
-use Rattle.muf_model.specs.Stands.{IsAt}
+use Rattle.muf_model.specs.inner.Stands.{IsAt}
 use Rattle.muf_run.proofs.Lockstep.{room_fits, full_fits}
 use Rattle.muf_run.proofs.run.settle.Goals as goal
 

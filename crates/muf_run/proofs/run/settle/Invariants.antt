@@ -2,8 +2,8 @@ use Rattle.std.proofs.Common.{◌≡◌, ◌-◌, List, ◌∷◌, length}
 use Rattle.muf_model.specs.declared.code.Code.{Code}
 use Rattle.muf_model.specs.Source.{Source}
 use Rattle.muf_model.specs.Unit.{unit}
-use Rattle.muf_model.specs.Fits.{FitsState}
-use Rattle.muf_frame.specs.Shown.{flat}
+use Rattle.muf_model.specs.inner.Fits.{FitsState}
+use Rattle.muf_frame.specs.inner.Shown.{flat}
 use Rattle.muf_run.proofs.run.settle.Given as goal
 
 abbrev pub invariant-loop-placed : goal.invariant-loop-placed

@@ -3,11 +3,11 @@ use Rattle.std.specs.Prelude.{slice_get}
 use Rattle.muf_model.specs.declared.code.Code.{Code}
 use Rattle.muf_model.specs.Source.{Source}
 use Rattle.muf_model.specs.Unit.{unit}
-use Rattle.muf_model.specs.Fits.{FitsState}
-use Rattle.muf_frame.specs.Shown.{flat}
-use Rattle.muf_run.specs.Alike.{EndsAlike}
-use Rattle.muf_run.specs.Machine as machine
-use Rattle.muf_run.specs.Machine.{next_of}
+use Rattle.muf_model.specs.inner.Fits.{FitsState}
+use Rattle.muf_frame.specs.inner.Shown.{flat}
+use Rattle.muf_run.specs.inner.Alike.{EndsAlike}
+use Rattle.muf_run.specs.inner.Machine as machine
+use Rattle.muf_run.specs.inner.Machine.{next_of}
 use Rattle.muf_run.proofs.Lockstep.{instr_fits, place_fits}
 use Rattle.muf_run.proofs.Running.{mapped}
 use Rattle.muf_run.proofs.run.settled_unit.Goals as goal

@@ -1,7 +1,7 @@
 use Rattle.std.proofs.Common.{◌≡◌, subst}
 use Rattle.muf_model.specs.declared.code.Word.TheVariants.{Primitive}
-use Rattle.muf_array.specs.Open.{prim_of}
-use Rattle.muf_run.specs.Storing.{HasWord}
+use Rattle.muf_array.specs.inner.Open.{prim_of}
+use Rattle.muf_run.specs.inner.Storing.{HasWord}
 use Rattle.muf_run.proofs.Overwritten.{some_mapped}
 use Rattle.muf_run.proofs.storing.changer_at.Goals as goal
 

@@ -1,6 +1,6 @@
 use Rattle.std.proofs.Common.{◌≡◌, ap, sym, ◌∙◌}
 use Rattle.muf_model.specs.declared.code.Word.TheVariants.{Primitive}
-use Rattle.muf_array.specs.Open.{prim_of}
+use Rattle.muf_array.specs.inner.Open.{prim_of}
 use Rattle.muf_run.proofs.Overwritten.{some_mapped}
 use Rattle.muf_run.proofs.storing.changer_of.Goals as goal
 

@@ -1,9 +1,9 @@
 use Rattle.std.proofs.Common.{◌≡◌, true, ap, sym, ◌∙◌, subst, map}
 use Rattle.std.specs.Prelude.{pos}
-use Rattle.muf_model.specs.View.{view}
+use Rattle.muf_model.specs.inner.View.{view}
 use Rattle.muf_model.specs.Datum.{int}
-use Rattle.muf_frame.specs.Shown.{flat}
-use Rattle.muf_run.specs.Storing.{Stored}
+use Rattle.muf_frame.specs.inner.Shown.{flat}
+use Rattle.muf_run.specs.inner.Storing.{Stored}
 use Rattle.muf_run.proofs.Overwritten.{still_fine, never_bare, there_still, stores_made}
 use Rattle.muf_run.proofs.storing.store.Goals as goal
 

@@ -1,8 +1,8 @@
 use Rattle.std.proofs.Common.{◌+◌, ◌≤◌, length, map, subst, arith}
 use Rattle.std.proofs.lemmas.List.{length-map}
-use Rattle.muf_model.specs.View.{view}
-use Rattle.muf_frame.specs.Shown.{flat}
-use Rattle.muf_run.specs.Storing.{Stores, Stored}
+use Rattle.muf_model.specs.inner.View.{view}
+use Rattle.muf_frame.specs.inner.Shown.{flat}
+use Rattle.muf_run.specs.inner.Storing.{Stores, Stored}
 use Rattle.muf_run.proofs.Overwritten.{stored_leads}
 use Rattle.muf_run.proofs.storing.store_changed.Goals as goal
 

@@ -1,5 +1,5 @@
 use Rattle.std.proofs.Common.{subst}
-use Rattle.muf_run.specs.Storing.{HasWord}
+use Rattle.muf_run.specs.inner.Storing.{HasWord}
 use Rattle.muf_run.proofs.storing.stores_at.Goals as goal
 
 pub returns-in-Some : goal.returns-in-Some

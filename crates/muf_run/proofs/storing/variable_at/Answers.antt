@@ -1,6 +1,6 @@
 use Rattle.std.proofs.Common.{◌≡◌, subst}
 use Rattle.muf_model.specs.declared.code.Word.TheVariants.{Variable}
-use Rattle.muf_run.specs.Storing.{HasWord}
+use Rattle.muf_run.specs.inner.Storing.{HasWord}
 use Rattle.muf_run.proofs.Overwritten.{some_mapped}
 use Rattle.muf_run.proofs.storing.variable_at.Goals as goal
 

@@ -1,6 +1,6 @@
 use Rattle.std.proofs.Common.{◌∙◌}
-use Rattle.muf_model.specs.View.{view}
-use Rattle.muf_frame.specs.Shown.{flat}
+use Rattle.muf_model.specs.inner.View.{view}
+use Rattle.muf_frame.specs.inner.Shown.{flat}
 use Rattle.muf_running.proofs.Process.{common_there, common_set}
 use Rattle.muf_running.proofs.begin.set_common.Goals as goal
 

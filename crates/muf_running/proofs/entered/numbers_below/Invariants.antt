@@ -1,5 +1,5 @@
 use Rattle.std.proofs.Common.{◌≡◌, ◌≤◌, ◌++◌, length, map, take, drop, reverse}
-use Rattle.muf_running.specs.Fitting.{numbers_of}
+use Rattle.muf_running.specs.inner.Fitting.{numbers_of}
 use Rattle.muf_running.proofs.entered.numbers_below.Given as goal
 
 abbrev pub invariant-loop-at : goal.invariant-loop-at

@@ -1,7 +1,7 @@
 use Rattle.std.proofs.Common.{◌≡◌, ◌-◌, length, take, drop, reverse, sym, ap, subst, ◌∙◌, arith}
-use Rattle.muf_model.specs.Flat.{decode}
-use Rattle.muf_frame.specs.Shown.{flat}
-use Rattle.muf_running.specs.Fitting.{codes_of, ProgramsFit}
+use Rattle.muf_model.specs.inner.Flat.{decode}
+use Rattle.muf_frame.specs.inner.Shown.{flat}
+use Rattle.muf_running.specs.inner.Fitting.{codes_of, ProgramsFit}
 use Rattle.muf_running.proofs.Process.{kept_programs}
 use Rattle.muf_running.proofs.running.left.Goals as goal
 

@@ -1,12 +1,12 @@
 use Rattle.std.proofs.Common.{◌≡◌, List, ◌∷◌, drop, reverse, sym, ap, subst, ◌∙◌}
 use Rattle.muf_model.specs.declared.code.Code.{Code}
-use Rattle.muf_model.specs.Fits.{Fits}
-use Rattle.muf_model.specs.Flat.{decode}
+use Rattle.muf_model.specs.inner.Fits.{Fits}
+use Rattle.muf_model.specs.inner.Flat.{decode}
 use Rattle.muf_model.specs.Unit.{units}
-use Rattle.muf_frame.specs.Shown.{flat}
-use Rattle.muf_run.specs.Runs.{RunsAlike}
+use Rattle.muf_frame.specs.inner.Shown.{flat}
+use Rattle.muf_run.specs.inner.Runs.{RunsAlike}
 use Rattle.muf_run.proofs.Running.{mapped}
-use Rattle.muf_running.specs.Fitting.{codes_of}
+use Rattle.muf_running.specs.inner.Fitting.{codes_of}
 use Rattle.muf_running.proofs.Process.{first_there, run_at}
 use Rattle.muf_running.proofs.stint.run_current.Goals as goal
 

@@ -1,8 +1,8 @@
 use Rattle.std.proofs.Common.{rules, ◌≡◌, ◌+◌, ◌-◌, ◌≤◌, ◌<◌, length, drop, Ok, Err, arith}
-use Rattle.muf_frame.specs.Shown.{flat}
+use Rattle.muf_frame.specs.inner.Shown.{flat}
 use Rattle.muf_model.specs.Ladder.{times, walk}
-use Rattle.muck_perm.specs.Guards.{objects_of}
-use Rattle.prim_common.specs.Tests.{item_fault}
+use Rattle.muck_perm.specs.inner.Guards.{objects_of}
+use Rattle.prim_common.specs.inner.Tests.{item_fault}
 use Rattle.prim_common.proofs.Walks.{failed_round, passed_round, times_left}
 use Rattle.prim_common.proofs.items.test_counted.Goals as goal
 

@@ -1,8 +1,8 @@
 use Rattle.std.proofs.Common.{◌≡◌, ◌≤◌, ◌+◌, length, drop}
-use Rattle.muf_frame.specs.Shown.{flat}
+use Rattle.muf_frame.specs.inner.Shown.{flat}
 use Rattle.muf_model.specs.Ladder.{times, walk}
-use Rattle.muck_perm.specs.Guards.{objects_of}
-use Rattle.prim_common.specs.Tests.{item_fault}
+use Rattle.muck_perm.specs.inner.Guards.{objects_of}
+use Rattle.prim_common.specs.inner.Tests.{item_fault}
 use Rattle.prim_common.proofs.items.test_counted.Given as goal
 
 -- the rounds so far pass

@@ -1,9 +1,9 @@
 use Rattle.std.proofs.Common.{rules, ◌≡◌, ◌+◌, ◌≤◌, ◌<◌, length, drop, Some, None, Ok, Err, arith}
 use Rattle.std.specs.Prelude.{slice_get}
-use Rattle.muf_frame.specs.Shown.{flat}
+use Rattle.muf_frame.specs.inner.Shown.{flat}
 use Rattle.muf_model.specs.Ladder.{walk}
-use Rattle.muck_perm.specs.Guards.{objects_of}
-use Rattle.prim_common.specs.Tests.{item_fault}
+use Rattle.muck_perm.specs.inner.Guards.{objects_of}
+use Rattle.prim_common.specs.inner.Tests.{item_fault}
 use Rattle.prim_common.proofs.Walks.{passed_all, failed_at, passed_at}
 use Rattle.prim_common.proofs.items.test_items.Goals as goal
 

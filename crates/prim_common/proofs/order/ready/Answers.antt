@@ -3,9 +3,9 @@ use Rattle.std.specs.Option.{option_map, option_map_or}
 use Rattle.muf_model.specs.Ladder.{wanted}
 use Rattle.muf_model.specs.Prims.{needs_of, level_of}
 use Rattle.muf_model.specs.Needs.{shown_needs}
-use Rattle.muf_frame.specs.Shown.{flat, locked_by}
-use Rattle.muck_perm.specs.Guards.{world_of}
-use Rattle.prim_common.specs.Tests.{Passes}
+use Rattle.muf_frame.specs.inner.Shown.{flat, locked_by}
+use Rattle.muck_perm.specs.inner.Guards.{world_of}
+use Rattle.prim_common.specs.inner.Tests.{Passes}
 use Rattle.prim_common.proofs.Counts.{needs_few}
 use Rattle.prim_common.proofs.First.{first_some, first_none}
 use Rattle.prim_common.proofs.order.ready.Goals as goal

@@ -2,8 +2,8 @@ use Rattle.std.proofs.Common.{rules, ◌≡◌, ℕ, IfOk, length, ap, sym, ◌�
 use Rattle.std.specs.Option.{option_map}
 use Rattle.muf_model.specs.Ladder.{short, wanted}
 use Rattle.muf_model.specs.Needs.{shown_many, shown_needs}
-use Rattle.muf_frame.specs.Shown.{flat, locked_by}
-use Rattle.prim_common.specs.Tests.{Passes, uncounted}
+use Rattle.muf_frame.specs.inner.Shown.{flat, locked_by}
+use Rattle.prim_common.specs.inner.Tests.{Passes, uncounted}
 use Rattle.prim_common.proofs.Counts.{short_by}
 use Rattle.prim_common.proofs.Faults.{fails, passes}
 use Rattle.prim_common.proofs.parts.test_count.Goals as goal

@@ -1,8 +1,8 @@
 use Rattle.std.proofs.Common.{◌≡◌, ap, sym, subst, Ok}
 use Rattle.std.specs.Option.{option_map}
 use Rattle.muf_model.specs.Needs.{shown_many}
-use Rattle.muf_frame.specs.Shown.{flat, locked_by}
-use Rattle.prim_common.specs.Tests.{Passes, FewCounted, uncounted}
+use Rattle.muf_frame.specs.inner.Shown.{flat, locked_by}
+use Rattle.prim_common.specs.inner.Tests.{Passes, FewCounted, uncounted}
 use Rattle.prim_common.proofs.parts.test_uncounted.Goals as goal
 
 pub test_many-requires-clause-under : goal.test_many-requires-clause-under

@@ -2,8 +2,8 @@ use Rattle.std.proofs.Common.{◌≡◌, ◌++◌, ap, sym, ◌∙◌, subst}
 use Rattle.std.specs.Option.{option_map}
 use Rattle.muf_model.specs.Ladder.{times, wanted}
 use Rattle.muf_model.specs.Needs.{shown_many}
-use Rattle.muf_frame.specs.Shown.{flat}
-use Rattle.prim_common.specs.Tests.{FewCounted}
+use Rattle.muf_frame.specs.inner.Shown.{flat}
+use Rattle.prim_common.specs.inner.Tests.{FewCounted}
 use Rattle.prim_common.proofs.Counts.{made_of, counted_at, none_counted}
 use Rattle.prim_common.proofs.parts.wanted_parts.Goals as goal
 

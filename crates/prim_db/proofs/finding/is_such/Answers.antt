@@ -1,6 +1,6 @@
 use Rattle.std.proofs.Common.{sym, ap, ◌∙◌}
-use Rattle.muf_model.specs.View.{view}
-use Rattle.muck_perm.specs.Guards.{objects_of}
+use Rattle.muf_model.specs.inner.View.{view}
+use Rattle.muck_perm.specs.inner.Guards.{objects_of}
 use Rattle.spec_prims.specs.ObjectRows as row
 use Rattle.prim_db.proofs.finding.is_such.Goals as goal
 

@@ -1,6 +1,6 @@
 use Rattle.std.proofs.Common.{rules, ◌≡◌, Some, None, ap, ◌∙◌}
 use Rattle.std.specs.Prelude.{slice_get}
-use Rattle.muck_perm.specs.Guards.{objects_of}
+use Rattle.muck_perm.specs.inner.Guards.{objects_of}
 use Rattle.muf_model.specs.StackRows.{truth}
 use Rattle.spec_prims.specs.ObjectRows as row
 use Rattle.prim_db.proofs.Items.{item_found, item_missing}

@@ -1,7 +1,7 @@
 use Rattle.std.proofs.Common.{rules, ◌≡◌, Some, None}
-use Rattle.muck_perm.specs.Guards.{objects_of}
-use Rattle.muf_frame.specs.Answers.{object_at}
-use Rattle.muf_frame.specs.Shown.{flat}
+use Rattle.muck_perm.specs.inner.Guards.{objects_of}
+use Rattle.muf_frame.specs.inner.Answers.{object_at}
+use Rattle.muf_frame.specs.inner.Shown.{flat}
 use Rattle.spec_prims.specs.ObjectRows as row
 use Rattle.prim_db.proofs.Items.{object_found, object_missing}
 use Rattle.prim_db.proofs.finding.of_object.Goals as goal

@@ -1,11 +1,11 @@
 use Rattle.std.proofs.Common.{rules, ◌≡◌, ◌∷◌, drop, Some, None, sym, ap, ◌∙◌, subst}
 use Rattle.muf_model.specs.Datum.{text}
-use Rattle.muf_frame.specs.Shown.{flat}
+use Rattle.muf_frame.specs.inner.Shown.{flat}
 use Rattle.muck_queue.specs.declared.mode.Wait.TheVariants.{ForEvent}
 use Rattle.muck_queue.specs.Queues.{oldest_event, on_process, resting, without_event}
 use Rattle.muck_queue.specs.inner.Events.{shown}
 use Rattle.prim_proc.specs.declared.after.After.TheVariants.{Go, Wait}
-use Rattle.prim_proc.specs.Applied.{HasStack}
+use Rattle.prim_proc.specs.inner.Applied.{HasStack}
 use Rattle.prim_proc.specs.inner.Plans.{GivenOf}
 use Rattle.prim_proc.proofs.Planned.{first_event, no_event, none_taken}
 use Rattle.prim_proc.proofs.Room.{room_steps}

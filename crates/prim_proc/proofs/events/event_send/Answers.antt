@@ -2,8 +2,8 @@ use Rattle.std.proofs.Common.{rules, ◌≡◌, [], length, Some, Ok, Err, false
 use Rattle.std.specs.Prelude.{nat_le, nat_lt}
 use Rattle.muck_model.specs.Bytes.{text_most}
 use Rattle.muf_model.specs.declared.fault.MufFault.TheVariants.{TooHeavy}
-use Rattle.muf_model.specs.View.{view}
-use Rattle.muf_frame.specs.Shown.{flat}
+use Rattle.muf_model.specs.inner.View.{view}
+use Rattle.muf_frame.specs.inner.Shown.{flat}
 use Rattle.muck_queue.specs.Queues.{process, on_process, told_event, events_most}
 use Rattle.spec_processes.specs.ProcessRows.{gives, refuses, event_name, event_data}
 use Rattle.prim_proc.specs.inner.Sending.{DataMade}

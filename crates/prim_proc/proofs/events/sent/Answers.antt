@@ -1,7 +1,7 @@
 use Rattle.std.proofs.Common.{rules, ◌≡◌, Some, w32, to_z, of_z, sym}
 use Rattle.std.specs.Prelude.{slice_get}
-use Rattle.muf_frame.specs.Answers.{int_at, text_at}
-use Rattle.muf_frame.specs.Shown.{flat}
+use Rattle.muf_frame.specs.inner.Answers.{int_at, text_at}
+use Rattle.muf_frame.specs.inner.Shown.{flat}
 use Rattle.prim_proc.proofs.Taking.{sent_at}
 use Rattle.prim_proc.proofs.events.sent.Goals as goal
 

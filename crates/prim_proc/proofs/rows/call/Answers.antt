@@ -1,7 +1,7 @@
 use Rattle.std.proofs.Common.{rules, ◌≡◌, Some, None, sym, ap, ◌∙◌, subst}
-use Rattle.muf_frame.specs.Answers.{text_at}
-use Rattle.muf_frame.specs.Shown.{flat}
-use Rattle.muck_perm.specs.Guards.{world_of}
+use Rattle.muf_frame.specs.inner.Answers.{text_at}
+use Rattle.muf_frame.specs.inner.Shown.{flat}
+use Rattle.muck_perm.specs.inner.Guards.{world_of}
 use Rattle.prim_proc.specs.inner.Plans.{Plans}
 use Rattle.prim_proc.specs.inner.Taken.{entering_at}
 use Rattle.prim_proc.proofs.Taking.{call_bare, call_named}

@@ -1,6 +1,6 @@
 use Rattle.std.proofs.Common.{rules, ◌≡◌, Some, w32, to_z, of_z, sym, ap, ◌∙◌, subst}
-use Rattle.muf_frame.specs.Shown.{flat}
-use Rattle.muck_perm.specs.Guards.{world_of}
+use Rattle.muf_frame.specs.inner.Shown.{flat}
+use Rattle.muck_perm.specs.inner.Guards.{world_of}
 use Rattle.spec_processes.specs.ProcessRows.{starting}
 use Rattle.prim_proc.specs.inner.Plans.{Plans}
 use Rattle.prim_proc.specs.inner.Taken.{started_in}

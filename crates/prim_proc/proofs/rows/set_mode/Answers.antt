@@ -1,6 +1,6 @@
 use Rattle.std.proofs.Common.{rules, ◌≡◌, Some, w32, to_z, of_z, sym, ap, ◌∙◌, subst}
-use Rattle.muf_frame.specs.Answers.{int_at}
-use Rattle.muf_frame.specs.Shown.{flat}
+use Rattle.muf_frame.specs.inner.Answers.{int_at}
+use Rattle.muf_frame.specs.inner.Shown.{flat}
 use Rattle.spec_processes.specs.ProcessRows.{mode_set}
 use Rattle.prim_proc.specs.inner.Plans.{Plans}
 use Rattle.prim_proc.proofs.Taking.{set_mode_at}

@@ -2,8 +2,8 @@ use Rattle.std.proofs.Common.{rules, ◌≡◌, ◌≤◌, ◌<◌, ◌+◌, len
 use Rattle.muf_model.specs.declared.fault.MufFault.TheVariants.{NotCompiled, StackFull}
 use Rattle.muf_model.specs.Answer.{stack_most}
 use Rattle.muf_frame.specs.declared.fault.PrimFault.TheVariants.{Fault}
-use Rattle.muf_frame.specs.Shown.{flat, locked_by}
-use Rattle.muck_perm.specs.Guards.{world_of}
+use Rattle.muf_frame.specs.inner.Shown.{flat, locked_by}
+use Rattle.muck_perm.specs.inner.Guards.{world_of}
 use Rattle.muck_queue.specs.Queues.{process}
 use Rattle.prim_proc.specs.inner.Plans.{items_of}
 use Rattle.prim_proc.proofs.Begun.{Started, alone, refused_so, untested_so, unplanned_so, unroomed_so, carried_so, all_taken, there_so}

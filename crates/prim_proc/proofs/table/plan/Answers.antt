@@ -1,7 +1,7 @@
 use Rattle.std.proofs.Common.{◌≡◌, Ok}
 use Rattle.muf_model.specs.declared.prims.Primitive.TheVariants as prim
-use Rattle.muf_frame.specs.Shown.{flat}
-use Rattle.muck_perm.specs.Guards.{world_of}
+use Rattle.muf_frame.specs.inner.Shown.{flat}
+use Rattle.muck_perm.specs.inner.Guards.{world_of}
 use Rattle.spec_processes.specs.ProcessRows.{process_row}
 use Rattle.prim_proc.specs.inner.Plans.{fact_row}
 use Rattle.prim_proc.specs.declared.plan.Plan.TheVariants.{Receive}

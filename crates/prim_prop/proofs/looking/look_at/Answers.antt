@@ -1,10 +1,10 @@
 use Rattle.std.proofs.Common.{◌≡◌, [], ◌∷◌, Some, ap, rules}
 use Rattle.spec_live.specs.Objects.{object_at}
-use Rattle.muf_model.specs.View.{view}
-use Rattle.muf_frame.specs.Shown.{flat}
-use Rattle.muck_perm.specs.Guards.{objects_of, world_of}
-use Rattle.prim_prop.specs.Asked.{named_in}
-use Rattle.prim_prop.specs.Looks.{look_of}
+use Rattle.muf_model.specs.inner.View.{view}
+use Rattle.muf_frame.specs.inner.Shown.{flat}
+use Rattle.muck_perm.specs.inner.Guards.{objects_of, world_of}
+use Rattle.prim_prop.specs.inner.Asked.{named_in}
+use Rattle.prim_prop.specs.inner.Looks.{look_of}
 use Rattle.prim_prop.proofs.Steps.{look_row, past_leave, made_items}
 use Rattle.prim_prop.proofs.looking.look_at.Goals as goal
 

@@ -1,9 +1,9 @@
 use Rattle.std.proofs.Common.{◌≡◌, Some, sym, subst, rules}
-use Rattle.muf_frame.specs.Shown.{flat}
-use Rattle.muck_perm.specs.Guards.{world_of}
-use Rattle.prim_common.specs.Applied.{Makes}
-use Rattle.prim_prop.specs.Asked.{named_in}
-use Rattle.prim_prop.specs.Looks.{form_of}
+use Rattle.muf_frame.specs.inner.Shown.{flat}
+use Rattle.muck_perm.specs.inner.Guards.{world_of}
+use Rattle.prim_common.specs.inner.Applied.{Makes}
+use Rattle.prim_prop.specs.inner.Asked.{named_in}
+use Rattle.prim_prop.specs.inner.Looks.{form_of}
 use Rattle.prim_prop.proofs.Steps.{seek_row}
 use Rattle.prim_prop.proofs.seeking.seek.Goals as goal
 

@@ -1,9 +1,9 @@
 use Rattle.std.proofs.Common.{◌≡◌, ◌∷◌, length}
 use Rattle.spec_live.specs.Seen.{places_of}
-use Rattle.muck_perm.specs.Guards.{objects_of, world_of}
+use Rattle.muck_perm.specs.inner.Guards.{objects_of, world_of}
 use Rattle.spec_prims.specs.PropRows.{first_holder}
-use Rattle.prim_prop.specs.Looks.{form_of}
-use Rattle.prim_prop.specs.Upward.{upward_from}
+use Rattle.prim_prop.specs.inner.Looks.{form_of}
+use Rattle.prim_prop.specs.inner.Upward.{upward_from}
 use Rattle.prim_prop.proofs.seeking.seek_from.Given as goal
 
 -- those that were looked at have no value

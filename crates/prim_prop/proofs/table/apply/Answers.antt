@@ -1,7 +1,7 @@
 use Rattle.std.proofs.Common.{rules, ◌≡◌, Ok, Err}
 use Rattle.muf_frame.specs.declared.fault.PrimFault.TheVariants.{Fault}
-use Rattle.muf_frame.specs.Shown.{flat, locked_by}
-use Rattle.muck_perm.specs.Guards.{world_of}
+use Rattle.muf_frame.specs.inner.Shown.{flat, locked_by}
+use Rattle.muck_perm.specs.inner.Guards.{world_of}
 use Rattle.prim_common.proofs.Applying.{refused_so, made_fault, applied_given, applied_full}
 use Rattle.prim_prop.proofs.Behind.{refused_first, row_first, row_fits}
 use Rattle.prim_prop.proofs.table.apply.Goals as goal

@@ -1,8 +1,8 @@
 use Rattle.std.proofs.Common.{◌≡◌}
 use Rattle.muck_prop.specs.Store.{path_or_top as path_or_root}
-use Rattle.muck_perm.specs.Guards.{world_of}
+use Rattle.muck_perm.specs.inner.Guards.{world_of}
 use Rattle.spec_prims.specs.PropRows.{may_read, next_read}
-use Rattle.prim_prop.specs.Walks.{begun}
+use Rattle.prim_prop.specs.inner.Walks.{begun}
 use Rattle.prim_prop.proofs.Walks.{left, next_kept}
 use Rattle.prim_prop.proofs.walking.next_read.Given as goal
 

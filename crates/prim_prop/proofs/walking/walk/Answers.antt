@@ -2,12 +2,12 @@ use Rattle.std.proofs.Common.{◌≡◌, [], ◌∷◌, Some, ap, rules}
 use Rattle.std.specs.Option.{option_map_or}
 use Rattle.muck_prop.specs.Paths.{path_text}
 use Rattle.muf_model.specs.Datum.{text}
-use Rattle.muf_model.specs.View.{view}
-use Rattle.muf_frame.specs.Shown.{flat}
-use Rattle.muck_perm.specs.Guards.{world_of}
+use Rattle.muf_model.specs.inner.View.{view}
+use Rattle.muf_frame.specs.inner.Shown.{flat}
+use Rattle.muck_perm.specs.inner.Guards.{world_of}
 use Rattle.spec_prims.specs.PropRows.{next_read}
-use Rattle.prim_prop.specs.Asked.{named_in}
-use Rattle.prim_prop.specs.Walks.{begun}
+use Rattle.prim_prop.specs.inner.Asked.{named_in}
+use Rattle.prim_prop.specs.inner.Walks.{begun}
 use Rattle.prim_prop.proofs.Steps.{walk_row, made_items}
 use Rattle.prim_prop.proofs.walking.walk.Goals as goal
 

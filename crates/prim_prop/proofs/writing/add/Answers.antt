@@ -1,9 +1,9 @@
 use Rattle.std.proofs.Common.{◌≡◌, ◌∙◌, drop, Some, ap, sym, subst, rules}
-use Rattle.muf_frame.specs.Shown.{flat}
-use Rattle.muck_perm.specs.Guards.{world_of}
+use Rattle.muf_frame.specs.inner.Shown.{flat}
+use Rattle.muck_perm.specs.inner.Guards.{world_of}
 use Rattle.spec_prims.specs.PropRows.{put_at, text_or}
-use Rattle.prim_common.specs.Applied.{Makes}
-use Rattle.prim_prop.specs.Asked.{named_in, added_by}
+use Rattle.prim_common.specs.inner.Applied.{Makes}
+use Rattle.prim_prop.specs.inner.Asked.{named_in, added_by}
 use Rattle.prim_prop.proofs.Taken.{added_so}
 use Rattle.prim_prop.proofs.writing.add.Goals as goal
 

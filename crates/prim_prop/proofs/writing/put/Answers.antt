@@ -1,8 +1,8 @@
 use Rattle.std.proofs.Common.{◌≡◌, drop, Some, sym, subst, rules}
-use Rattle.muf_frame.specs.Shown.{flat}
-use Rattle.muck_perm.specs.Guards.{world_of}
-use Rattle.prim_common.specs.Applied.{Makes}
-use Rattle.prim_prop.specs.Asked.{named_in, stored_by}
+use Rattle.muf_frame.specs.inner.Shown.{flat}
+use Rattle.muck_perm.specs.inner.Guards.{world_of}
+use Rattle.prim_common.specs.inner.Applied.{Makes}
+use Rattle.prim_prop.specs.inner.Asked.{named_in, stored_by}
 use Rattle.prim_prop.proofs.Taken.{put_so}
 use Rattle.prim_prop.proofs.writing.put.Goals as goal
 

@@ -2,7 +2,7 @@ use Rattle.std.proofs.Common.{◌≡◌, [], None, Some, ap, ◌∙◌, rules}
 use Rattle.spec_rights.specs.declared.act.Act.TheVariants.{Write}
 use Rattle.spec_rights.specs.Verdict.{verdict}
 use Rattle.spec_rights.specs.Changing.{stored}
-use Rattle.muck_perm.specs.Guards.{objects_of, world_of}
+use Rattle.muck_perm.specs.inner.Guards.{objects_of, world_of}
 use Rattle.spec_prims.specs.Asking.{fault_of}
 use Rattle.spec_prims.specs.Row.{gives, unless}
 use Rattle.prim_prop.proofs.Steps.{put_row, past_leave, refused, stored_so}

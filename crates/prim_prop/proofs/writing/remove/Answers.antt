@@ -2,11 +2,11 @@ use Rattle.std.proofs.Common.{◌≡◌, [], None, Some, ap, ◌∙◌, rules}
 use Rattle.spec_rights.specs.declared.act.Act.TheVariants.{Write}
 use Rattle.spec_rights.specs.Verdict.{verdict}
 use Rattle.spec_rights.specs.Changing.{unstored}
-use Rattle.muf_frame.specs.Shown.{flat}
-use Rattle.muck_perm.specs.Guards.{objects_of, world_of}
+use Rattle.muf_frame.specs.inner.Shown.{flat}
+use Rattle.muck_perm.specs.inner.Guards.{objects_of, world_of}
 use Rattle.spec_prims.specs.Asking.{fault_of}
 use Rattle.spec_prims.specs.Row.{gives, unless}
-use Rattle.prim_prop.specs.Asked.{named_in}
+use Rattle.prim_prop.specs.inner.Asked.{named_in}
 use Rattle.prim_prop.proofs.Steps.{remove_row, past_leave, refused, unstored_so}
 use Rattle.prim_prop.proofs.writing.remove.Goals as goal
 

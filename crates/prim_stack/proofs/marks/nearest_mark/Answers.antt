@@ -1,9 +1,9 @@
 use Rattle.std.proofs.Common.{◌≡◌, ◌<◌, ◌-◌, length, map, true, false, sym, ◌∙◌, arith, rules}
 use Rattle.std.specs.Prelude.{slice_get}
 use Rattle.std.proofs.lemmas.List.{length-map}
-use Rattle.muf_model.specs.View.{view}
-use Rattle.muf_frame.specs.Shown.{flat_mark, locked_by}
-use Rattle.prim_stack.specs.Does.{mark_in}
+use Rattle.muf_model.specs.inner.View.{view}
+use Rattle.muf_frame.specs.inner.Shown.{flat_mark, locked_by}
+use Rattle.prim_stack.specs.inner.Does.{mark_in}
 use Rattle.prim_stack.proofs.Tops.{nearest_here, nearest_further}
 use Rattle.prim_stack.proofs.marks.nearest_mark.Goals as goal
 

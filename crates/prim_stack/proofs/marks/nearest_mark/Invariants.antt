@@ -1,7 +1,7 @@
 use Rattle.std.proofs.Common.{◌≡◌, ◌≤◌, ◌+◌, ◌-◌, drop}
 use Rattle.std.specs.List.{position_or_len}
 use Rattle.muf_model.specs.StackRows.{is_mark, above}
-use Rattle.muf_frame.specs.Shown.{flat, locked_by}
+use Rattle.muf_frame.specs.inner.Shown.{flat, locked_by}
 use Rattle.prim_stack.proofs.marks.nearest_mark.Given as goal
 
 abbrev pub invariant-loop-at : goal.invariant-loop-at

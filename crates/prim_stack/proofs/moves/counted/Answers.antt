@@ -1,9 +1,9 @@
 use Rattle.std.proofs.Common.{◌+◌, ◌<◌, ◌≤◌, length, ap, sym, ◌∙◌}
 use Rattle.std.proofs.lemmas.List.{length-map}
-use Rattle.muf_model.specs.View.{view}
+use Rattle.muf_model.specs.inner.View.{view}
 use Rattle.muf_model.specs.Answer.{refuses}
-use Rattle.muf_frame.specs.Shown.{flat, locked_by}
-use Rattle.muf_frame.specs.Moves.{scope_of}
+use Rattle.muf_frame.specs.inner.Shown.{flat, locked_by}
+use Rattle.muf_frame.specs.inner.Moves.{scope_of}
 use Rattle.prim_stack.proofs.Counts.{count_few, count_fits}
 use Rattle.prim_stack.proofs.moves.counted.Goals as goal
 

@@ -1,6 +1,6 @@
 use Rattle.std.proofs.Common.{rules, ◌≡◌, ◌+◌, ◌++◌, [], ◌∷◌, Some, None, ap, ◌∙◌, arith}
-use Rattle.muf_frame.specs.Answers.{object_at}
-use Rattle.muf_frame.specs.Shown.{flat}
+use Rattle.muf_frame.specs.inner.Answers.{object_at}
+use Rattle.muf_frame.specs.inner.Shown.{flat}
 use Rattle.prim_talk.proofs.Excluding.{gathered, passed_by}
 use Rattle.prim_talk.proofs.items.excluded.Goals.{in-Some+in_ok-push, in_default}
 use Rattle.prim_talk.proofs.items.excluded.Goals as goal

@@ -1,5 +1,5 @@
 use Rattle.std.proofs.Common.{◌≡◌, ◌≤◌, ◌-◌, take, drop, filter_map}
-use Rattle.muf_frame.specs.Shown.{flat}
+use Rattle.muf_frame.specs.inner.Shown.{flat}
 use Rattle.spec_prims.specs.Talk.{object_in}
 use Rattle.prim_talk.proofs.items.excluded.Given as goal
 

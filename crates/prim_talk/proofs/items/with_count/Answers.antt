@@ -1,5 +1,5 @@
 use Rattle.std.proofs.Common.{rules, ◌≡◌, [], ◌∷◌, ◌++◌, length, map, reverse, ap, ◌∙◌}
-use Rattle.muf_model.specs.View.{view}
+use Rattle.muf_model.specs.inner.View.{view}
 use Rattle.spec_prims.specs.Talk.{counted}
 use Rattle.prim_talk.proofs.Giving.{shown_count}
 use Rattle.prim_talk.proofs.items.with_count.Goals as goal

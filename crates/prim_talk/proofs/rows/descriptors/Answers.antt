@@ -1,11 +1,11 @@
 use Rattle.std.proofs.Common.{rules, ◌≡◌, map, filter, Some, Ok, refl, sym, subst}
 use Rattle.spec_live.specs.Connections.{is_of}
-use Rattle.muf_frame.specs.Answers.{object_at}
-use Rattle.muf_frame.specs.Shown.{flat}
-use Rattle.muck_perm.specs.Guards.{world_of}
+use Rattle.muf_frame.specs.inner.Answers.{object_at}
+use Rattle.muf_frame.specs.inner.Shown.{flat}
+use Rattle.muck_perm.specs.inner.Guards.{world_of}
 use Rattle.spec_prims.specs.Talk.{with_count, number_item}
 use Rattle.muck_perm.proofs.Worlds.{kept_itself}
-use Rattle.prim_common.specs.Applied.{Makes, items_of}
+use Rattle.prim_common.specs.inner.Applied.{Makes, items_of}
 use Rattle.prim_talk.proofs.Giving.{descriptors_of}
 use Rattle.prim_talk.proofs.rows.descriptors.Goals as goal
 

@@ -3,13 +3,13 @@ use Rattle.muck_model.specs.declared.dbref.Dbref.{Dbref}
 use Rattle.spec_live.specs.Lives.{tell_but}
 use Rattle.muf_model.specs.declared.fault.MufFault.TheVariants.{BadType}
 use Rattle.muf_frame.specs.declared.fault.PrimFault.TheVariants.{Fault}
-use Rattle.muf_frame.specs.Answers.{object_at}
-use Rattle.muf_frame.specs.Shown.{flat}
-use Rattle.muck_perm.specs.Guards.{Done, world_of}
+use Rattle.muf_frame.specs.inner.Answers.{object_at}
+use Rattle.muf_frame.specs.inner.Shown.{flat}
+use Rattle.muck_perm.specs.inner.Guards.{Done, world_of}
 use Rattle.spec_prims.specs.Talk.{object_in}
-use Rattle.prim_common.specs.Applied.{Makes}
+use Rattle.prim_common.specs.inner.Applied.{Makes}
 use Rattle.prim_common.specs.declared.made.Made.TheVariants.{Nothing}
-use Rattle.prim_talk.specs.Told.{counted_in}
+use Rattle.prim_talk.specs.inner.Told.{counted_in}
 use Rattle.prim_talk.proofs.Excluding.{row_told, row_nowhere}
 use Rattle.prim_talk.proofs.rows.notify_but.Goals as goal
 

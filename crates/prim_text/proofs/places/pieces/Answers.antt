@@ -1,7 +1,7 @@
 use Rattle.std.proofs.Common.{◌≡◌, ◌≤◌, [], ◌∷◌, ◌+◌, ◌-◌, ◌++◌, length, length-drop, arith, map, ap, sym, ◌∙◌}
 use Rattle.muf_model.specs.Datum.{text}
 use Rattle.muf_model.specs.Texts.{pieces}
-use Rattle.muf_model.specs.View.{view}
+use Rattle.muf_model.specs.inner.View.{view}
 use Rattle.prim_text.proofs.Texts.{text-drop}
 use Rattle.prim_text.proofs.Parts.{next_piece, last_piece}
 use Rattle.prim_text.proofs.places.pieces.Goals as goal

@@ -2,7 +2,7 @@ use Rattle.std.proofs.Common.{◌≡◌, ◌≤◌, ◌+◌, ◌++◌, None, len
 use Rattle.muck_model.specs.Bytes.{text_fault}
 use Rattle.muf_model.specs.Datum.{text}
 use Rattle.muf_model.specs.Texts.{pieces}
-use Rattle.muf_model.specs.View.{view}
+use Rattle.muf_model.specs.inner.View.{view}
 use Rattle.prim_text.proofs.places.pieces.Given as goal
 
 abbrev pub invariant-loop-at : goal.invariant-loop-at

@@ -1,4 +1,4 @@
-use Rattle.spec_admin.specs.Worked.{worked_rows}
+use Rattle.spec_admin.specs.inner.Worked.{worked_rows}
 use Rattle.spec_admin.proofs.rows.rows_hold.Goals as goal
 
 pub returns : goal.returns

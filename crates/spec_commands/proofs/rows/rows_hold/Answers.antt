@@ -1,5 +1,5 @@
-use Rattle.spec_commands.specs.EditRows.{rows as edit_rows}
-use Rattle.spec_commands.specs.ProgramRows.{rows as program_rows}
+use Rattle.spec_commands.specs.inner.EditRows.{rows as edit_rows}
+use Rattle.spec_commands.specs.inner.ProgramRows.{rows as program_rows}
 use Rattle.spec_commands.proofs.rows.rows_hold.Goals as goal
 
 pub returns : goal.returns

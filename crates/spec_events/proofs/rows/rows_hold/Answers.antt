@@ -1,7 +1,7 @@
-use Rattle.spec_events.specs.Rows.{rows}
-use Rattle.spec_events.specs.LineRows.{line_rows}
-use Rattle.spec_events.specs.DumpRows.{dump_rows}
-use Rattle.spec_events.specs.OwnRows.{own_rows}
+use Rattle.spec_events.specs.inner.Rows.{rows}
+use Rattle.spec_events.specs.inner.LineRows.{line_rows}
+use Rattle.spec_events.specs.inner.DumpRows.{dump_rows}
+use Rattle.spec_events.specs.inner.OwnRows.{own_rows}
 use Rattle.spec_events.proofs.rows.rows_hold.Goals as goal
 
 pub returns : goal.returns

@@ -1,4 +1,4 @@
-use Rattle.spec_live.specs.Rows.{rows}
+use Rattle.spec_live.specs.inner.Rows.{rows}
 use Rattle.spec_live.proofs.rows.rows_hold.Goals as goal
 
 pub returns : goal.returns

@@ -1,8 +1,8 @@
-use Rattle.spec_prims.specs.PropWorked.{prop_worked}
-use Rattle.spec_prims.specs.Rows.{rows}
-use Rattle.spec_prims.specs.TalkRows.{talk_rows}
-use Rattle.spec_prims.specs.ObjectsWorked.{objects_worked}
-use Rattle.spec_prims.specs.WritesWorked.{writes_worked}
+use Rattle.spec_prims.specs.inner.PropWorked.{prop_worked}
+use Rattle.spec_prims.specs.inner.Rows.{rows}
+use Rattle.spec_prims.specs.inner.TalkRows.{talk_rows}
+use Rattle.spec_prims.specs.inner.ObjectsWorked.{objects_worked}
+use Rattle.spec_prims.specs.inner.WritesWorked.{writes_worked}
 use Rattle.spec_prims.proofs.rows.rows_hold.Goals as goal
 
 pub returns : goal.returns

@@ -1,4 +1,4 @@
-use Rattle.spec_processes.specs.Worked.{worked_rows}
+use Rattle.spec_processes.specs.inner.Worked.{worked_rows}
 use Rattle.spec_processes.proofs.rows.rows_hold.Goals as goal
 
 pub returns : goal.returns

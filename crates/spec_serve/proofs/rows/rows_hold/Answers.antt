@@ -1,4 +1,4 @@
-use Rattle.spec_serve.specs.Worked.{worked_rows}
+use Rattle.spec_serve.specs.inner.Worked.{worked_rows}
 use Rattle.spec_serve.proofs.rows.rows_hold.Goals as goal
 
 pub returns : goal.returns

@@ -1,4 +1,4 @@
-use Rattle.spec_talks.specs.Worked.{worked_rows}
+use Rattle.spec_talks.specs.inner.Worked.{worked_rows}
 use Rattle.spec_talks.proofs.rows.rows_hold.Goals as goal
 
 pub returns : goal.returns

@@ -1,6 +1,6 @@
 use Rattle.std.proofs.Common.{subst, sym}
-use Rattle.muf_model.specs.Decode.{tree_of}
-use Rattle.muf_model.specs.Stands.{TreeStands}
+use Rattle.muf_model.specs.inner.Decode.{tree_of}
+use Rattle.muf_model.specs.inner.Stands.{TreeStands}
 use Rattle.muf_run.proofs.Running.{mapped}
 use Rattle.muf_running.proofs.Compiled.{compiled_stands}
 use Rattle.tests_language.proofs.processes.code_of.Goals as goal

@@ -1,5 +1,5 @@
 use Rattle.std.proofs.Common.{◌≡◌}
-use Rattle.tests_links_rows.specs.Seats.{Rests, SameLists}
+use Rattle.tests_links_rows.specs.inner.Seats.{Rests, SameLists}
 use Rattle.tests_links_rows.proofs.turns.enter_all.Given as goal
 
 abbrev pub invariant-loop : goal.invariant-loop

@@ -1,6 +1,6 @@
 use Rattle.std.proofs.Common.{subst, List}
 use Rattle.spec_live.specs.Objects.{Entry}
-use Rattle.muck_store.specs.Changes.{LeavesOut}
+use Rattle.muck_store.specs.inner.Changes.{LeavesOut}
 use Rattle.muck_store.specs.Forms.{persist}
 use Rattle.muck_db.proofs.Bridge.{sound_order}
 use Rattle.muck_db.proofs.db.Db.cut.Goals as goal

@@ -1,7 +1,7 @@
 use Rattle.std.proofs.Common.{ap, true, reverse}
 use Rattle.muck_disk.specs.Images.{Same}
-use Rattle.muck_disk.specs.Replay.{seen_after}
-use Rattle.muck_disk.specs.Memory.{seen_in}
+use Rattle.muck_disk.specs.inner.Replay.{seen_after}
+use Rattle.muck_disk.specs.inner.Memory.{seen_in}
 use Rattle.muck_disk.specs.declared.memory.Call.TheVariants.{Synced}
 use Rattle.muck_disk.proofs.Calls.{goes_to}
 use Rattle.muck_disk.proofs.memory.MemDiskDisk.sync.Goals as goal

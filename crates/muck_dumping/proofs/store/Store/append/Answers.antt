@@ -4,7 +4,7 @@ use Rattle.muck_log.specs.Store.{LogState}
 use Rattle.muck_log.specs.Append.{base_of, payload_of}
 use Rattle.muck_log.specs.declared.fault.LogFault.TheVariants.{NoMemory}
 use Rattle.muck_log.proofs.Deltas.{left_payload}
-use Rattle.muck_store.specs.Changes.{LeavesOut}
+use Rattle.muck_store.specs.inner.Changes.{LeavesOut}
 use Rattle.muck_store.specs.Forms.{persist, world_batch}
 use Rattle.muck_dumping.specs.inner.Dumps.{Appended}
 use Rattle.muck_dumping.proofs.Appending.{appended_ok, appended_err, refused_before}

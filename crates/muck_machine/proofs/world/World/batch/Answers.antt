@@ -1,7 +1,7 @@
 use Rattle.std.proofs.Common.{◌≡◌, subst, IfOk}
 use Rattle.spec_live.specs.Consistent.{IsConsistent}
 use Rattle.muck_db.specs.inner.Limits.{IsWithinLimits}
-use Rattle.muck_store.specs.Changes.{LeavesOut}
+use Rattle.muck_store.specs.inner.Changes.{LeavesOut}
 use Rattle.muck_store.specs.Forms.{persist}
 use Rattle.spec_events.specs.World.{World}
 use Rattle.muck_machine.proofs.Keepings.{holds, sound_seen}

@@ -1,5 +1,5 @@
 use Rattle.std.proofs.Common.{refl, sym, subst, ◌∙◌}
-use Rattle.spec_events.specs.Sound.{IsSound}
+use Rattle.spec_events.specs.inner.Sound.{IsSound}
 use Rattle.spec_events.proofs.Reached.{sound-booted}
 use Rattle.muck_machine.proofs.Keepings.{keeps_begun}
 use Rattle.muck_machine.proofs.Taken.{booted_so}

@@ -2,7 +2,7 @@ use Rattle.std.proofs.Common.{rules, ◌≡◌, Ok, Err, sym, subst, drop, true,
 use Rattle.std.specs.Prelude.{is_some}
 use Rattle.muck_queue.specs.Queues.{process}
 use Rattle.spec_events.specs.Slices.{place_in, queued}
-use Rattle.muck_turns.specs.Deeds.{DoneAs}
+use Rattle.muck_turns.specs.inner.Deeds.{DoneAs}
 use Rattle.muf_frame.specs.declared.fault.PrimFault.TheVariants.{Fault}
 use Rattle.prim_proc.specs.declared.after.After.TheVariants.{Go, Wait, Fork, Call, Queue}
 use Rattle.muck_turns.proofs.Processes.{go_done, wait_done, fork_there, fork_done, call_at, call_items, call_done, queue_rejoins, queue_at, queue_items, queue_done, refused_done, if_done, moved}

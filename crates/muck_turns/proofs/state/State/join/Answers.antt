@@ -1,7 +1,7 @@
 use Rattle.std.proofs.Common.{subst}
 use Rattle.spec_events.specs.World.{World}
 use Rattle.spec_events.specs.Starting.{joined}
-use Rattle.muck_turns.specs.Deeds.{Begins}
+use Rattle.muck_turns.specs.inner.Deeds.{Begins}
 use Rattle.muck_turns.specs.contracts.state.State as state
 use Rattle.muck_turns.proofs.Joining.{is_adding, joins}
 use Rattle.muck_turns.proofs.state.State.join.Goals as goal

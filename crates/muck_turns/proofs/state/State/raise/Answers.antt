@@ -1,6 +1,6 @@
 use Rattle.std.proofs.Common.{rules, ◌≡◌, ap, ◌∙◌, subst}
 use Rattle.std.proofs.lemmas.Int.{to_z-of_z}
-use Rattle.muf_running.specs.Stints.{Raised}
+use Rattle.muf_running.specs.inner.Stints.{Raised}
 use Rattle.spec_events.specs.Slices.{stands_at, broken}
 use Rattle.muck_turns.proofs.Slices.{caught_so, uncaught_so}
 use Rattle.muck_turns.proofs.state.State.raise.Goals as goal

@@ -1,7 +1,7 @@
 use Rattle.std.proofs.Common.{◌+◌, true, false, Some, arith, ap, ◌∙◌}
 use Rattle.std.proofs.lemmas.Int.{to_z-of_z}
 use Rattle.muck_queue.specs.Queues.{standing}
-use Rattle.spec_events.specs.Stints.{many_counted}
+use Rattle.spec_events.specs.inner.Stints.{many_counted}
 use Rattle.spec_events.specs.Slices.{stands_at, ended_one}
 use Rattle.muck_turns.specs.contracts.state.State as state
 use Rattle.muck_turns.proofs.Slices.{fewer_so, going_so, asking_so, asked_so, ended_so, faulted_so}

@@ -3,7 +3,7 @@ use Rattle.spec_live.specs.Objects.{Entry}
 use Rattle.spec_live.specs.Lives.{on_objects}
 use Rattle.spec_events.specs.World.{World, on_live}
 use Rattle.spec_events.specs.Following.{settled}
-use Rattle.muck_turns.specs.Followed.{followed_change}
+use Rattle.muck_turns.specs.inner.Followed.{followed_change}
 use Rattle.muck_turns.specs.contracts.state.State as state
 use Rattle.muck_turns.proofs.Settling.{marks, tells, told_none, settled_none, objects_followed}
 use Rattle.muck_turns.proofs.state.State.settle.Goals as goal

@@ -1,7 +1,7 @@
 use Rattle.std.proofs.Common.{ap, ◌∙◌, sym, subst}
 use Rattle.std.proofs.lemmas.Int.{to_z-of_z}
 use Rattle.spec_events.specs.Slices.{stands_at, broken}
-use Rattle.muck_turns.specs.Limits.{Runs}
+use Rattle.muck_turns.specs.inner.Limits.{Runs}
 use Rattle.muck_turns.specs.contracts.state.State as state
 use Rattle.muck_turns.proofs.Slices.{none_so, allows_as, through_so, spent_so, goes_so, stops_so, left_by}
 use Rattle.muck_turns.proofs.state.State.stint.Goals as goal

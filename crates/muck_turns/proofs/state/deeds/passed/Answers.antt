@@ -1,6 +1,6 @@
 use Rattle.std.proofs.Common.{ap, subst, sym, ◌∙◌}
 use Rattle.muf_model.specs.Source.{passed}
-use Rattle.muf_running.specs.Fitting.{IsAtPrimitive}
+use Rattle.muf_running.specs.inner.Fitting.{IsAtPrimitive}
 use Rattle.muck_turns.proofs.state.deeds.passed.Goals as goal
 
 pub rejoin-next-requires : goal.rejoin-next-requires

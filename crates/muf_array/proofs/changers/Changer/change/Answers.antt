@@ -1,10 +1,10 @@
 use Rattle.std.proofs.Common.{◌≡◌, ap, ◌∙◌, subst, Err}
 use Rattle.muf_model.specs.Answer.{refuses}
 use Rattle.muf_model.specs.Rows.{primitive}
-use Rattle.muf_frame.specs.Shown.{flat}
-use Rattle.muf_frame.specs.Moves.{scope_of}
-use Rattle.muf_frame.specs.Answers.{AppliedOr}
-use Rattle.muf_array.specs.Open.{prim_of}
+use Rattle.muf_frame.specs.inner.Shown.{flat}
+use Rattle.muf_frame.specs.inner.Moves.{scope_of}
+use Rattle.muf_frame.specs.inner.Answers.{AppliedOr}
+use Rattle.muf_array.specs.inner.Open.{prim_of}
 use Rattle.muf_array.proofs.Opening.{never_refused}
 use Rattle.muf_array.proofs.changers.Changer.change.Goals as goal
 

@@ -1,9 +1,9 @@
 use Rattle.std.proofs.Common.{ℕ, sym, subst}
 use Rattle.muf_model.specs.Rows.{primitive}
-use Rattle.muf_frame.specs.Shown.{flat}
-use Rattle.muf_frame.specs.Moves.{scope_of}
-use Rattle.muf_frame.specs.Answers.{AppliedOr}
-use Rattle.muf_array.specs.Open.{prim_of}
+use Rattle.muf_frame.specs.inner.Shown.{flat}
+use Rattle.muf_frame.specs.inner.Moves.{scope_of}
+use Rattle.muf_frame.specs.inner.Answers.{AppliedOr}
+use Rattle.muf_array.specs.inner.Open.{prim_of}
 use Rattle.muf_array.proofs.changers.Changer.used.Goals as goal
 
 pub returns-in-SetItem : goal.returns-in-SetItem

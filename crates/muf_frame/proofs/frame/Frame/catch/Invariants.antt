@@ -1,6 +1,6 @@
 use Rattle.std.proofs.Common.{◌≡◌, ◌≤◌, ◌+◌, true, length}
-use Rattle.muf_frame.specs.Shown.{flat, calls_by}
-use Rattle.muf_frame.specs.Moves.{has_guard, unwound}
+use Rattle.muf_frame.specs.inner.Shown.{flat, calls_by}
+use Rattle.muf_frame.specs.inner.Moves.{has_guard, unwound}
 use Rattle.muf_frame.proofs.frame.Frame.catch.Given as goal
 
 abbrev pub invariant-loop-mark : goal.invariant-loop-mark

@@ -1,6 +1,6 @@
 use Rattle.std.proofs.Common.{◌≡◌, ap, sym, refl, ◌∙◌, map, reverse, arith}
-use Rattle.muf_model.specs.View.{view}
-use Rattle.muf_frame.specs.Shown.{flat_mark, outer_of, locked_by, calls_by, opened_by}
+use Rattle.muf_model.specs.inner.View.{view}
+use Rattle.muf_frame.specs.inner.Shown.{flat_mark, outer_of, locked_by, calls_by, opened_by}
 use Rattle.muf_frame.proofs.Alike.{map_reversed, guards_fit}
 use Rattle.muf_frame.proofs.frame.Frame.copy.Goals as goal
 

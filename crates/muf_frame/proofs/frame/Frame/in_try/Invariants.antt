@@ -1,6 +1,6 @@
 use Rattle.std.proofs.Common.{◌≡◌, ◌≤◌, take, length, reverse, map}
-use Rattle.muf_frame.specs.Shown.{flat_mark}
-use Rattle.muf_frame.specs.Moves.{has_guard}
+use Rattle.muf_frame.specs.inner.Shown.{flat_mark}
+use Rattle.muf_frame.specs.inner.Moves.{has_guard}
 use Rattle.muf_frame.proofs.frame.Frame.in_try.Given as goal
 
 abbrev pub invariant-loop-at : goal.invariant-loop-at

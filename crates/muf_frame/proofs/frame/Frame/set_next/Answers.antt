@@ -1,5 +1,5 @@
 use Rattle.std.proofs.Common.{rules, ◌≡◌, ◌<◌, ◌-◌, ◌∙◌, refl, reverse, slice_set, length}
-use Rattle.muf_frame.specs.Counting.{with_next}
+use Rattle.muf_frame.specs.inner.Counting.{with_next}
 use Rattle.muf_frame.proofs.Counting.{counted_in_place, counted_fits}
 use Rattle.muf_frame.proofs.frame.Frame.set_next.Goals as goal
 

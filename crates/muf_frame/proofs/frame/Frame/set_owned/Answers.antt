@@ -1,8 +1,8 @@
 use Rattle.std.proofs.Common.{◌≡◌, ◌<◌, ap, sym, refl, ◌∙◌, length, map, Some, None, rules, is_some}
 use Rattle.std.specs.Prelude.{slice_get}
 use Rattle.std.proofs.lemmas.Option.{slice_get_read, slice_get_past}
-use Rattle.muf_frame.specs.Shown.{flat_owned}
-use Rattle.muf_frame.specs.Owners.{owner_place}
+use Rattle.muf_frame.specs.inner.Shown.{flat_owned}
+use Rattle.muf_frame.specs.inner.Owners.{owner_place}
 use Rattle.muf_frame.proofs.Owners.{owned_read, owned_found, owned_kept}
 use Rattle.muf_frame.proofs.frame.Frame.set_owned.Goals as goal
 

@@ -1,6 +1,6 @@
 use Rattle.std.proofs.Common.{◌≡◌, refl, false, rules}
-use Rattle.muf_frame.specs.Shown.{flat}
-use Rattle.muf_frame.specs.Moves.{has_guard}
+use Rattle.muf_frame.specs.inner.Shown.{flat}
+use Rattle.muf_frame.specs.inner.Moves.{has_guard}
 use Rattle.muf_frame.proofs.Unguarded.{uncaught}
 use Rattle.muf_frame.proofs.frame.Frame.unwind.Goals as goal
 

@@ -1,5 +1,5 @@
 use Rattle.std.proofs.Common.{◌∙◌}
-use Rattle.muf_model.specs.View.{view}
+use Rattle.muf_model.specs.inner.View.{view}
 use Rattle.muf_model.proofs.Edited.{room}
 use Rattle.muf_model.proofs.value.ValueList.has_room.Goals as goal
 

@@ -1,6 +1,6 @@
 use Rattle.std.proofs.Common.{rules, map, ap, ◌∙◌, ◌++◌, ◌∷◌, []}
 use Rattle.muf_model.specs.Datum.{data_of}
-use Rattle.muf_model.specs.View.{view}
+use Rattle.muf_model.specs.inner.View.{view}
 use Rattle.muf_model.specs.Measures.{data_weight, data_nesting}
 use Rattle.muf_model.proofs.Sized.{pushed_fits}
 use Rattle.muf_model.proofs.value.ValueList.push.Goals as goal

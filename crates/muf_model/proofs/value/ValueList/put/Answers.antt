@@ -1,7 +1,7 @@
 use Rattle.std.proofs.Common.{rules, arith, map, set, ap, ◌∙◌}
 use Rattle.muf_model.specs.Datum.{data_of}
 use Rattle.muf_model.specs.Measures.{data_weight, data_nesting}
-use Rattle.muf_model.specs.View.{view}
+use Rattle.muf_model.specs.inner.View.{view}
 use Rattle.muf_model.proofs.Sized.{within, set_fits}
 use Rattle.muf_model.proofs.value.ValueList.put.Goals as goal
 

@@ -1,7 +1,7 @@
 use Rattle.std.proofs.Common.{map, ap, ◌∙◌, length, arith}
 use Rattle.std.specs.List.{remove}
 use Rattle.muf_model.specs.Datum.{data_of}
-use Rattle.muf_model.specs.View.{view}
+use Rattle.muf_model.specs.inner.View.{view}
 use Rattle.muf_model.specs.Measures.{data_weight, data_nesting}
 use Rattle.muf_model.proofs.Edited.{less_fits}
 use Rattle.muf_model.proofs.value.ValueList.remove.Goals as goal

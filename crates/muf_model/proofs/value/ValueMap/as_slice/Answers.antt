@@ -1,6 +1,6 @@
 use Rattle.std.proofs.Common.{ap, arith, map, length}
 use Rattle.std.proofs.lemmas.List.{length-map}
-use Rattle.muf_model.specs.View.{pair_view}
+use Rattle.muf_model.specs.inner.View.{pair_view}
 use Rattle.muf_model.proofs.Sized.{most_pairs}
 use Rattle.muf_model.proofs.value.ValueMap.as_slice.Goals as goal
 

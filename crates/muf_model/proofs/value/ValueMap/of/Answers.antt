@@ -1,7 +1,7 @@
 use Rattle.std.proofs.Common.{◌≡◌, true, List, map, subst, ap, sym, ◌∙◌}
 use Rattle.muf_model.specs.declared.value.Pair.{Pair}
 use Rattle.muf_model.specs.Datum.{items, dict, data_of, pairs_of}
-use Rattle.muf_model.specs.View.{pair_view, value_view}
+use Rattle.muf_model.specs.inner.View.{pair_view, value_view}
 use Rattle.muf_model.specs.Values.{fits, IsSized}
 use Rattle.muf_model.proofs.Edited.{gathered_fits, gathered_unfit}
 use Rattle.muf_model.proofs.value.ValueMap.of.Goals as goal

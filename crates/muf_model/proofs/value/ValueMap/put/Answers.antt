@@ -1,6 +1,6 @@
 use Rattle.std.proofs.Common.{rules, ap, ◌∙◌, map}
 use Rattle.muf_model.specs.Datum.{pairs_of}
-use Rattle.muf_model.specs.View.{view, pair_view}
+use Rattle.muf_model.specs.inner.View.{view, pair_view}
 use Rattle.muf_model.specs.Measures.{pairs_weight, pairs_nesting}
 use Rattle.muf_model.specs.Entries.{entry_of, with_entry}
 use Rattle.muf_model.proofs.Entries.{found, others}

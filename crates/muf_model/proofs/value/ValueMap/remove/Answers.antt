@@ -2,7 +2,7 @@ use Rattle.std.proofs.Common.{rules, ◌≡◌, true, false, map, ap, sym, refl,
 use Rattle.std.specs.Prelude.{slice_get}
 use Rattle.std.specs.List.{remove}
 use Rattle.muf_model.specs.Datum.{data_of}
-use Rattle.muf_model.specs.View.{pair_view, value_view}
+use Rattle.muf_model.specs.inner.View.{pair_view, value_view}
 use Rattle.muf_model.specs.Measures.{data_weight, data_nesting}
 use Rattle.muf_model.specs.Entries.{has_key, entry_place, without, Rising}
 use Rattle.muf_model.proofs.Sized.{within, dict_weight, dict_nesting}

@@ -1,9 +1,9 @@
 use Rattle.std.proofs.Common.{◌≡◌, ◌-◌, [], ◌∷◌, ◌++◌, length, reverse, Some, sym, ap, subst, ◌∙◌, arith}
 use Rattle.std.proofs.Common.{suc}
-use Rattle.muf_model.specs.Flat.{decode}
-use Rattle.muf_frame.specs.Shown.{flat}
+use Rattle.muf_model.specs.inner.Flat.{decode}
+use Rattle.muf_frame.specs.inner.Shown.{flat}
 use Rattle.muf_running.specs.Begins.{common_of, StartsAt}
-use Rattle.muf_running.specs.Fitting.{codes_of, ProgramsFit}
+use Rattle.muf_running.specs.inner.Fitting.{codes_of, ProgramsFit}
 use Rattle.muf_running.proofs.Process.{begin_at}
 use Rattle.muf_running.proofs.running.Running.begin.Goals as goal
 

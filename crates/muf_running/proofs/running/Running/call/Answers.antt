@@ -2,13 +2,13 @@ use Rattle.std.proofs.Common.{◌≡◌, ◌<◌, ◌∷◌, reverse, Some, sym,
 use Rattle.std.specs.Prelude.{slice_get}
 use Rattle.std.specs.Option.{option_map}
 use Rattle.std.proofs.lemmas.List.{reverse-append}
-use Rattle.muf_model.specs.Decode.{tree_of}
-use Rattle.muf_model.specs.Flat.{decode}
+use Rattle.muf_model.specs.inner.Decode.{tree_of}
+use Rattle.muf_model.specs.inner.Flat.{decode}
 use Rattle.muf_model.specs.Source.{calls_of, entered}
-use Rattle.muf_frame.specs.Shown.{flat}
+use Rattle.muf_frame.specs.inner.Shown.{flat}
 use Rattle.muf_run.proofs.Lockstep.{calls_fits}
 use Rattle.muf_running.specs.Begins.{StartsAt}
-use Rattle.muf_running.specs.Fitting.{codes_of, program_with, ProgramsFit}
+use Rattle.muf_running.specs.inner.Fitting.{codes_of, program_with, ProgramsFit}
 use Rattle.muf_running.proofs.Process.{call_at}
 use Rattle.muf_running.proofs.running.Running.call.Goals as goal
 

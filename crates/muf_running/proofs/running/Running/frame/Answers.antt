@@ -1,5 +1,5 @@
 use Rattle.std.proofs.Common.{reverse}
-use Rattle.muf_frame.specs.Shown.{flat}
+use Rattle.muf_frame.specs.inner.Shown.{flat}
 use Rattle.muf_running.proofs.Process.{shows_at}
 use Rattle.muf_running.proofs.running.Running.frame.Goals as goal
 

@@ -1,8 +1,8 @@
 use Rattle.std.proofs.Common.{◌≡◌, ◌<◌, length, map, reverse, ap, ◌∙◌, arith}
 use Rattle.std.proofs.lemmas.List.{length-map}
 use Rattle.muf_model.specs.Answer.{stack_most}
-use Rattle.muf_model.specs.View.{view}
-use Rattle.muf_frame.specs.Shown.{Shown, flat}
+use Rattle.muf_model.specs.inner.View.{view}
+use Rattle.muf_frame.specs.inner.Shown.{Shown, flat}
 use Rattle.muf_running.proofs.Process.{handed_at}
 use Rattle.muf_running.proofs.running.Running.hand.Goals as goal
 

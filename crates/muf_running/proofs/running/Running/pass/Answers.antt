@@ -1,8 +1,8 @@
 use Rattle.std.proofs.Common.{◌≡◌, ◌+◌, ◌<◌, length, reverse, sym, ap, subst, ◌∙◌, arith}
-use Rattle.muf_model.specs.Flat.{first_code}
+use Rattle.muf_model.specs.inner.Flat.{first_code}
 use Rattle.muf_model.specs.Source.{passed}
-use Rattle.muf_frame.specs.Shown.{Shown}
-use Rattle.muf_running.specs.Fitting.{codes_of, IsAtPrimitive}
+use Rattle.muf_frame.specs.inner.Shown.{Shown}
+use Rattle.muf_running.specs.inner.Fitting.{codes_of, IsAtPrimitive}
 use Rattle.muf_running.proofs.Process.{passed_place, passed_at_end}
 use Rattle.muf_running.proofs.running.Running.pass.Goals as goal
 

@@ -1,7 +1,7 @@
 use Rattle.std.proofs.Common.{◌≡◌, reverse, Some, sym, ap, subst, ◌∙◌}
 use Rattle.muf_model.specs.Unit.{goes, fault}
-use Rattle.muf_frame.specs.Shown.{flat}
-use Rattle.muf_frame.specs.Moves.{Unwinds, caught}
+use Rattle.muf_frame.specs.inner.Shown.{flat}
+use Rattle.muf_frame.specs.inner.Moves.{Unwinds, caught}
 use Rattle.muf_running.proofs.Process.{raised_some, raised_none}
 use Rattle.muf_running.proofs.running.Running.raise.Goals as goal
 

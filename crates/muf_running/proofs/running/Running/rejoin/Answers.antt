@@ -1,8 +1,8 @@
 use Rattle.std.proofs.Common.{List, sym, subst, ◌∙◌, ap}
-use Rattle.muf_model.specs.Flat.{decode}
-use Rattle.muf_frame.specs.Shown.{flat}
+use Rattle.muf_model.specs.inner.Flat.{decode}
+use Rattle.muf_frame.specs.inner.Shown.{flat}
 use Rattle.muf_running.specs.declared.entered.Entered.{Entered}
-use Rattle.muf_running.specs.Fitting.{codes_of, ProgramsFit}
+use Rattle.muf_running.specs.inner.Fitting.{codes_of, ProgramsFit}
 use Rattle.muf_running.proofs.Process.{lent_at}
 use Rattle.muf_running.proofs.running.Running.rejoin.Goals as goal
 

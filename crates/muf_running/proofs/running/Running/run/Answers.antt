@@ -1,12 +1,12 @@
 use Rattle.std.proofs.Common.{List, reverse, subst}
-use Rattle.muf_model.specs.Flat.{decode}
+use Rattle.muf_model.specs.inner.Flat.{decode}
 use Rattle.muf_model.specs.Unit.{units}
-use Rattle.muf_frame.specs.Shown.{flat}
+use Rattle.muf_frame.specs.inner.Shown.{flat}
 use Rattle.muf_running.specs.declared.entered.Entered.{Entered}
-use Rattle.muf_running.specs.Fitting.{codes_of}
-use Rattle.muf_running.specs.Stints.{LocalFits}
+use Rattle.muf_running.specs.inner.Fitting.{codes_of}
+use Rattle.muf_running.specs.inner.Stints.{LocalFits}
 use Rattle.muf_running.proofs.Process.{ran_asked}
-use Rattle.muf_model.specs.Nested.{StaysNested}
+use Rattle.muf_model.specs.inner.Nested.{StaysNested}
 use Rattle.muf_model.proofs.Nesting.{units_nested}
 use Rattle.muf_running.proofs.running.Running.run.Goals as goal
 

@@ -1,7 +1,7 @@
 use Rattle.std.proofs.Common.{ap, ◌∙◌}
 use Rattle.std.specs.Ordering.{int_eq}
 use Rattle.std.specs.List.{list_any}
-use Rattle.muf_running.specs.Fitting.{numbers_in, number_among}
+use Rattle.muf_running.specs.inner.Fitting.{numbers_in, number_among}
 use Rattle.muf_running.proofs.Process.{runs_at}
 use Rattle.muf_running.proofs.running.Running.runs.Goals as goal
 

@@ -1,0 +1,4 @@
+pub mod Keeping
+pub mod Claims
+pub mod Beginnings
+pub mod Seats

@@ -1,0 +1,5 @@
+pub mod Seeing
+pub mod Hosts
+pub mod Upward
+pub mod Showing
+pub mod Signing

@@ -1,0 +1,3 @@
+pub mod Followed
+pub mod Deeds
+pub mod Limits

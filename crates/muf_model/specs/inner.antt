@@ -1,0 +1,10 @@
+pub mod Nesting
+pub mod Stands
+pub mod Decode
+pub mod View
+pub mod Sizes
+pub mod Nested
+pub mod Flat
+pub mod Fits
+pub mod Codes
+pub mod Worked

@@ -1,0 +1,6 @@
+pub mod Machine
+pub mod Alike
+pub mod Keys
+pub mod Runs
+pub mod Ends
+pub mod Storing

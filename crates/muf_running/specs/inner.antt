@@ -1,0 +1,3 @@
+pub mod Fitting
+pub mod Stints
+pub mod Lending

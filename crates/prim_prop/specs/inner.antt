@@ -1,0 +1,5 @@
+pub mod Asked
+pub mod Looks
+pub mod Parsed
+pub mod Upward
+pub mod Walks

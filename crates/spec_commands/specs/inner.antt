@@ -1,0 +1,4 @@
+pub mod Rising
+pub mod Company
+pub mod EditRows
+pub mod ProgramRows

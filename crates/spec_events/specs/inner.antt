@@ -1,0 +1,6 @@
+pub mod Stints
+pub mod OwnRows
+pub mod Sound
+pub mod Rows
+pub mod LineRows
+pub mod DumpRows

@@ -1,0 +1,5 @@
+pub mod Rows
+pub mod TalkRows
+pub mod ObjectsWorked
+pub mod WritesWorked
+pub mod PropWorked
