@@ -16,7 +16,7 @@ use Rattle.spec_rights.specs.Changing.{booted}
 use Rattle.spec_rights.specs.Licence.{Freedom, Open, SameTies, leave_open}
 use Rattle.spec_rights.proofs.Lookups.{row_same}
 use Rattle.spec_rights.proofs.Listing.{lists_itself}
-use Rattle.spec_rights.proofs.Licences.{judge, marks_itself, kept_same, differs_kept, Stays, Whole, itself, ties_itself, stays_by, whole_by}
+use Rattle.spec_rights.proofs.Licences.{judge, marks_itself, kept_same, differs_kept, Stays, Whole, itself, ties_itself, as_many, stays_by, whole_by}
 use Rattle.spec_rights.proofs.Allowed.{wizard_allowed, master_allowed}
 
 own_open : (a : Actor) (c : Connection) → c.player ≡ Some a.player → leave_open a c ≡ true
@@ -39,6 +39,7 @@ whole_leave a d free given = whole_by _ (λ w c h. record {
     recycled = λ x e. absurd (cc);
     vanished = λ x e. absurd (cc);
     objects = λ n. differs_kept (judge a (free w.objects) w.objects) (dbref_of n) _ _ (row_same _ (kept_same (judge a (free w.objects) w.objects) (dbref_of n)) (object_at (dbref_of n) w.objects));
+    no_fewer = as_many w.objects w.objects refl;
     lists = lists_itself (judge a (free w.objects) w.objects) w.objects;
     connections = ties_left a d w.board.connections c;
     tune = inl refl;
@@ -62,6 +63,7 @@ stays_left a free d = stays_by _ (λ start w s g. record {
   rows = λ n. row_same _ (kept_same (judge a free start) (dbref_of n)) (object_at (dbref_of n) w.objects);
   lists = lists_itself (judge a free start) w.objects;
   marks = λ n. inl refl;
+  no_fewer = as_many w.objects w.objects refl;
   ties = ties_master a d w.board.connections (master_allowed w.objects a g);
   tune = refl;
 })
@@ -88,6 +90,7 @@ stays_booted a free player = stays_by _ (λ start w s g. record {
   rows = λ n. row_same _ (kept_same (judge a free start) (dbref_of n)) (object_at (dbref_of n) w.objects);
   lists = lists_itself (judge a free start) w.objects;
   marks = λ n. inl refl;
+  no_fewer = as_many w.objects w.objects refl;
   ties = ties_booted a player w.board.connections (wizard_allowed w.objects a g);
   tune = refl;
 })

@@ -1,6 +1,6 @@
 -- What keeps to the licence: one lemma for each way to put changes together.
-use Rattle.std.proofs.Common.{◌≡◌, ℕ, Bool, true, false, List, [], ◌∷◌, refl, sym, ◌∙◌, ap, subst, Option, Some, None, inl, inr, cond}
-use Rattle.std.specs.Prelude.{map, find, ◌||◌, ◌&&◌, ◌==◌}
+use Rattle.std.proofs.Common.{◌≡◌, ℕ, Bool, true, false, List, [], ◌∷◌, refl, sym, ◌∙◌, ap, subst, Option, Some, None, inl, inr, cond, arith}
+use Rattle.std.specs.Prelude.{◌≤◌, length, map, find, ◌||◌, ◌&&◌, ◌==◌}
 use Rattle.std.specs.FinMap.{get}
 use Rattle.std.specs.Option.{option_map, option_and_then, option_map_or}
 use Rattle.muck_model.specs.declared.dbref.Dbref.{Dbref}
@@ -155,6 +155,17 @@ player_kept d (x ∷ xs) (y ∷ ys) e =
     let P : ℕ → Type 0 = λ n. option_and_then (λ (c : Connection). c.player) (cond (n == d) (Some y) (find (has_number d) ys)) ≡ option_and_then (λ (c : Connection). c.player) (cond (x.number == d) (Some x) (find (has_number d) xs)) in
     subst P (sym number) (elim (x.number == d) as (λ b. option_and_then (λ (c : Connection). c.player) (cond b (Some y) (find (has_number d) ys)) ≡ option_and_then (λ (c : Connection). c.player) (cond b (Some x) (find (has_number d) xs))) [ true ↦ player | false ↦ next ])
 
+-- Numbers of objects.
+
+pub as_many : (es fs : List Entry) → length fs ≡ length es → length es ≤ length fs
+as_many es fs e = omega (arith, e)
+
+pub no_fewer_both : (es fs gs : List Entry) → length es ≤ length fs → length fs ≤ length gs → length es ≤ length gs
+no_fewer_both es fs gs p q = omega (arith, p, q)
+
+pub no_fewer_as : (es fs gs : List Entry) → gs ≡ fs → length es ≤ length fs → length es ≤ length gs
+no_fewer_as es fs gs e p = omega (arith, p, ap (λ (os : List Entry). length os) e)
+
 -- Worlds that differ only in what is shown.
 pub record Shows (w v : Live) : Type 0 where
   pub objects : v.objects ≡ w.objects
@@ -179,6 +190,7 @@ pub record Stay (j : Judge) (w v : Live) : Type 0 where
   pub rows : (n : ℕ) → Row (Kept j (dbref_of n)) (object_at (dbref_of n) w.objects) (object_at (dbref_of n) v.objects)
   pub lists : SameLists j w.objects v.objects
   pub marks : TellsLines j w.objects v.objects
+  pub no_fewer : length w.objects ≤ length v.objects
   pub ties : SameTies j.actor w.board.connections v.board.connections
   pub tune : v.board.tune ≡ w.board.tune
 
@@ -187,6 +199,7 @@ pub record End (j : Judge) (w v : Live) : Type 0 where
   pub rows : (n : ℕ) → Differs j (dbref_of n) (object_at (dbref_of n) w.objects) (object_at (dbref_of n) v.objects)
   pub lists : SameLists j w.objects v.objects
   pub marks : SameMarks j w.objects v.objects
+  pub no_fewer : length w.objects ≤ length v.objects
   pub ties : SameTies j.actor w.board.connections v.board.connections
   pub tune : v.board.tune ≡ w.board.tune
 
@@ -195,6 +208,7 @@ stay_itself j w = record {
   rows = λ n. row_same _ (kept_same j (dbref_of n)) (object_at (dbref_of n) w.objects);
   lists = lists_itself j w.objects;
   marks = λ n. inl refl;
+  no_fewer = as_many w.objects w.objects refl;
   ties = ties_itself j.actor w.board.connections;
   tune = refl;
 }
@@ -204,6 +218,7 @@ stay_both j u v w s t = record {
   rows = λ n. row_both _ _ _ (kept_both j (dbref_of n)) _ _ _ (s.rows n) (t.rows n);
   lists = lists_both j (λ n. Kept j (dbref_of n)) u.objects v.objects w.objects s.rows s.lists t.lists;
   marks = λ n. open_both (λ mark. lines_open j (dbref_of n)) _ _ _ (s.marks n) (t.marks n);
+  no_fewer = no_fewer_both u.objects v.objects w.objects s.no_fewer t.no_fewer;
   ties = ties_both j.actor _ _ _ s.ties t.ties;
   tune = t.tune ∙ s.tune;
 }
@@ -214,6 +229,7 @@ stay_quietly j u v w t q = record {
   rows = λ n. let P : List Entry → Type 0 = λ os. Row (Kept j (dbref_of n)) (object_at (dbref_of n) u.objects) (object_at (dbref_of n) os) in subst P (sym q.objects) (t.rows n);
   lists = subst (SameLists j u.objects) (sym q.objects) t.lists;
   marks = subst (TellsLines j u.objects) (sym q.objects) t.marks;
+  no_fewer = no_fewer_as u.objects v.objects w.objects q.objects t.no_fewer;
   ties = ties_both j.actor _ _ _ t.ties (ties_same j.actor v.board.connections w.board.connections q.ties);
   tune = q.tune ∙ t.tune;
 }
@@ -223,6 +239,7 @@ end_quietly j u v w t q = record {
   rows = λ n. let P : List Entry → Type 0 = λ os. Differs j (dbref_of n) (object_at (dbref_of n) u.objects) (object_at (dbref_of n) os) in subst P (sym q.objects) (t.rows n);
   lists = subst (SameLists j u.objects) (sym q.objects) t.lists;
   marks = subst (SameMarks j u.objects) (sym q.objects) t.marks;
+  no_fewer = no_fewer_as u.objects v.objects w.objects q.objects t.no_fewer;
   ties = ties_both j.actor _ _ _ t.ties (ties_same j.actor v.board.connections w.board.connections q.ties);
   tune = q.tune ∙ t.tune;
 }
@@ -359,7 +376,7 @@ stays_freely a free given f p = keeps_more f (λ w v s. record { law = λ start 
 
 pub ends_stays : (a : Actor) (free : Freedom) (given : Option Act) (f : Change) → Stays a free given f → Ends itself a free given f
 ends_stays a free given f p = keeps_more f (λ w v s. record {
-  law = λ start r h. let t = s.law start r h in record { rows = λ n. differs_kept _ (dbref_of n) _ _ (t.rows n); lists = t.lists; marks = marks_open (judge a free start) w.objects v.objects t.marks; ties = t.ties; tune = t.tune };
+  law = λ start r h. let t = s.law start r h in record { rows = λ n. differs_kept _ (dbref_of n) _ _ (t.rows n); lists = t.lists; marks = marks_open (judge a free start) w.objects v.objects t.marks; no_fewer = t.no_fewer; ties = t.ties; tune = t.tune };
 }) p
 
 pub ends_quiet : (a : Actor) (free : Freedom) (given : Option Act) (f : Change) → Quiet f → Ends itself a free given f
@@ -374,6 +391,7 @@ ends_followed out a free given f g p q = keeps_after f g (λ w v y s t. record {
         rows = λ n. kept_differs a free start (dbref_of n) _ _ _ (first.rows n) (next.rows n);
         lists = lists_both (judge a free start) (λ n. Kept (judge a free start) (dbref_of n)) _ _ _ first.rows first.lists next.lists;
         marks = marks_both (judge a free start) _ _ _ first.marks next.marks;
+        no_fewer = no_fewer_both _ _ _ first.no_fewer next.no_fewer;
         ties = ties_both a _ _ _ first.ties next.ties;
         tune = next.tune ∙ first.tune;
       };
@@ -396,7 +414,7 @@ own_kept (Some d) w v a e c = player_kept d w.board.connections v.board.connecti
 pub whole_ends : {Y : Type 0} (out : Y → Live) (a : Actor) (own : Option ℕ) (free : List Entry → Freedom) (given : Live → Type 0) (f : Live → Y) → ((w : Live) → given w → Ends out a (free w.objects) None f) → Whole out a own free given f
 whole_ends out a own free given f p = whole_by f (λ w c h.
     let t = ((p w h).law w).law w.objects (same_itself w.objects) tt in
-    record { licensed = record { gone = None; recycled = λ x e. absurd (cc); vanished = λ x e. absurd (cc); objects = t.rows; lists = t.lists; connections = t.ties; tune = inl t.tune }; marks = t.marks; tune = t.tune })
+    record { licensed = record { gone = None; recycled = λ x e. absurd (cc); vanished = λ x e. absurd (cc); objects = t.rows; no_fewer = t.no_fewer; lists = t.lists; connections = t.ties; tune = inl t.tune }; marks = t.marks; tune = t.tune })
 
 pub whole_quiet : (a : Actor) (own : Option ℕ) (free : List Entry → Freedom) (given : Live → Type 0) (f : Change) → Quiet f → Whole itself a own free given f
 whole_quiet a own free given f q = whole_ends itself a own free given f (λ w h. ends_quiet a (free w.objects) None f q)
@@ -418,6 +436,7 @@ whole_followed out a own free given f g q p = keeps_after f g (λ w v y s t. rec
             recycled = subst R s.objects l.recycled;
             vanished = l.vanished;
             objects = subst O s.objects l.objects;
+            no_fewer = no_fewer_both w.objects v.objects u.objects (as_many w.objects v.objects (ap (λ (os : List Entry). length os) s.objects)) l.no_fewer;
             lists = subst L s.objects l.lists;
             connections = ties_both a _ _ _ (ties_same a w.board.connections v.board.connections s.ties) l.connections;
             tune = open_both (λ tune. is_master a) _ _ _ (inl s.tune) l.tune;
@@ -440,6 +459,7 @@ whole_quietly a own free given f g p q = keeps_after f g (λ w v u s t. record {
           recycled = l.recycled;
           vanished = λ x e. ap (object_at x) t.objects ∙ l.vanished x e;
           objects = subst O (sym t.objects) l.objects;
+          no_fewer = no_fewer_as w.objects v.objects u.objects t.objects l.no_fewer;
           lists = subst (SameLists j w.objects) (sym t.objects) l.lists;
           connections = ties_both a _ _ _ l.connections (ties_same a v.board.connections u.board.connections t.ties);
           tune = open_both (λ tune. is_master a) _ _ _ l.tune (inl t.tune);

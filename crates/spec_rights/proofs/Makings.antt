@@ -1,7 +1,7 @@
 -- What is made keeps to the licence.
-use Rattle.std.proofs.Common.{◌≡◌, ℕ, ◌==◌, suc, Bool, true, false, cond, List, [], ◌∷◌, ◌++◌, length, refl, sym, ◌∙◌, ap, subst, Option, Some, None, inl, inr, arith}
+use Rattle.std.proofs.Common.{◌≡◌, ℕ, ◌==◌, suc, Bool, true, false, cond, List, [], ◌∷◌, ◌++◌, length, length-append, refl, sym, ◌∙◌, ap, subst, Option, Some, None, inl, inr, arith}
 use Rattle.muck_model.proofs.Dbrefs.{same_eq}
-use Rattle.std.specs.Prelude.{Ok, Err, nat_lt, slice_get, min, nat_le, ◌||◌, ◌&&◌}
+use Rattle.std.specs.Prelude.{◌≤◌, Ok, Err, nat_lt, slice_get, min, nat_le, ◌||◌, ◌&&◌}
 use Rattle.std.specs.Option.{option_map, option_and_then, option_map_or}
 use Rattle.std.proofs.lemmas.Bool.{cases_eq, or_right}
 use Rattle.std.proofs.lemmas.Bool.Decides.{nat_tests}
@@ -10,14 +10,14 @@ use Rattle.muck_model.specs.declared.dbref.Kind.{Kind}
 use Rattle.muck_model.specs.declared.dbref.Kind.TheVariants.{Room, Thing, Exit, Player, Program}
 use Rattle.spec_live.specs.declared.object.Object.{Object}
 use Rattle.spec_live.specs.Flags.{builder, jump, link}
-use Rattle.spec_live.specs.Objects.{Entry, dbref_of, nothing, home, same, is_garbage, object_in, list_in, mark_in, number_in, object_at, changed_at, with_object, garbage}
+use Rattle.spec_live.specs.Objects.{Entry, dbref_of, nothing, home, same, is_garbage, object_in, list_in, mark_in, number_in, object_at, changed_at, on_object, with_object, garbage}
 use Rattle.spec_live.specs.Moving.{moved, with_place}
 use Rattle.spec_live.specs.Making.{free_in, blank_entry, grown, new_object, created, may_make, make_judged, objects_most, owner_judged, create_check}
 use Rattle.spec_live.specs.declared.fault.DbFault.TheVariants.{NoSuchObject, WrongKind, WorldFull}
 use Rattle.spec_live.specs.Setting.{set_at, with_home, with_link, with_level}
 use Rattle.spec_live.specs.Lives.{Live}
-use Rattle.spec_live.proofs.Lists.{get_changed_same, read_more}
-use Rattle.spec_live.proofs.Readers.{object_changed, object_unchanged, object_elsewhere, object_moved, object_unmoved, list_changed, list_named, mark_changed, mark_named, mark_moved}
+use Rattle.spec_live.proofs.Lists.{get_changed_same, read_more, length_changed}
+use Rattle.spec_live.proofs.Readers.{object_changed, object_unchanged, object_elsewhere, object_moved, object_unmoved, list_changed, list_named, mark_changed, mark_named, mark_moved, length_moved}
 use Rattle.spec_live.proofs.CreationLaws.{list_more}
 use Rattle.spec_rights.specs.declared.act.Actor.{Actor}
 use Rattle.spec_rights.specs.declared.act.Act.TheVariants.{NewRoom, NewThing, NewExit, NewProgram, Wizard}
@@ -152,6 +152,23 @@ mark_made m kind name owner finished to es n =
     ∙ mark_named m n (new_object m kind name owner) (grown m es)
     ∙ mark_grown m n es
 
+-- there are as many numbers, or one more
+many_grown : (k : ℕ) (es : List Entry) → length es ≤ length (grown k es)
+unfolding grown
+many_grown k es = at (k == length es)
+  where
+    at : (b : Bool) → length es ≤ length (cond b (es ++ blank_entry ∷ []) es)
+    at true = omega (arith, length-append es (blank_entry ∷ []))
+    at false = omega (arith)
+
+many_made : (k : ℕ) (kind : Kind) (name : List ℕ) (owner : Dbref) (finished : Object → Object) (to : ℕ) (es : List Entry) → length es ≤ length (set_at finished k (created k kind name owner to es))
+unfolding created
+many_made k kind name owner finished to es =
+    let g : List Entry = grown k es in
+    let one : List Entry = changed_at k (with_object (new_object k kind name owner)) g in
+    let same : length (set_at finished k (moved k to one)) ≡ length g = length_changed (moved k to one) k (on_object finished) ∙ length_moved one k to ∙ length_changed g k (with_object (new_object k kind name owner)) in
+    omega (arith, same, many_grown k es)
+
 -- what a check that passes says
 made_by : (kind : Kind) (owned : Bool) (to : ℕ) (es : List Entry) (p : ℕ × ℕ) → make_judged kind owned to es ≡ Ok p → (p.0 ≡ free_in es) × (p.1 ≡ to)
 unfolding make_judged
@@ -181,7 +198,7 @@ end_created j kind name owner place finished w p e h =
     let L : ℕ → Type 0 = λ m. SameLists j w.objects (set_at finished m (created m kind name owner p.1 w.objects)) in
     let new = h (free_in w.objects) p.1 (number_is w.objects place p.1 k.1) in
     end_objects j w (created_so p.0 kind name owner p.1 finished w) refl (subst D (sym k.0) (differs_made j kind name owner finished p.1 w.objects new)) (subst L (sym k.0) (lists_made j kind name owner finished p.1 w.objects))
-    (λ n. mark_open j (dbref_of n) _ _ _ (inl (mark_made p.0 kind name owner finished p.1 w.objects n)))
+    (λ n. mark_open j (dbref_of n) _ _ _ (inl (mark_made p.0 kind name owner finished p.1 w.objects n))) (many_made p.0 kind name owner finished p.1 w.objects)
 
 -- The kinds.
 

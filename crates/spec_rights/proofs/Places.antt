@@ -1,5 +1,5 @@
 -- Moves and homes keep to the licence.
-use Rattle.std.proofs.Common.{◌≡◌, ℕ, true, false, List, refl, sym, ◌∙◌, ap, subst, Option, Some, None, inl, inr}
+use Rattle.std.proofs.Common.{◌≡◌, ℕ, true, false, List, length, refl, sym, ◌∙◌, ap, subst, Option, Some, None, inl, inr}
 use Rattle.std.proofs.lemmas.Bool.{or_left}
 use Rattle.std.specs.Option.{option_map_or}
 use Rattle.muck_model.specs.declared.dbref.Dbref.{Dbref}
@@ -8,7 +8,7 @@ use Rattle.spec_live.specs.Objects.{Entry, dbref_of, nothing, home, same, mark_i
 use Rattle.spec_live.specs.Setting.{with_home}
 use Rattle.spec_live.specs.Moving.{moved, with_place}
 use Rattle.spec_live.specs.Lives.{Live}
-use Rattle.spec_live.proofs.Readers.{object_moved, object_unmoved, mark_moved}
+use Rattle.spec_live.proofs.Readers.{object_moved, object_unmoved, mark_moved, length_moved}
 use Rattle.spec_rights.specs.declared.act.Actor.{Actor}
 use Rattle.spec_rights.specs.declared.act.Act.{Act}
 use Rattle.spec_rights.specs.declared.act.Act.TheVariants.{Move, Link}
@@ -18,7 +18,7 @@ use Rattle.spec_rights.specs.Verdict.{verdict}
 use Rattle.spec_rights.proofs.Rights.{SameRights}
 use Rattle.spec_rights.proofs.Lookups.{Row, row_same, number_is}
 use Rattle.spec_rights.proofs.Listing.{lists_itself, lists_moved}
-use Rattle.spec_rights.proofs.Licences.{judge, Kept, kept_same, Stay, End, Stays, Ends, itself, ends_by, stays_by}
+use Rattle.spec_rights.proofs.Licences.{judge, Kept, kept_same, Stay, End, Stays, Ends, itself, as_many, ends_by, stays_by}
 use Rattle.spec_rights.proofs.Allowed.{move_allowed, home_allowed, live_allowed, unlink_allowed}
 use Rattle.spec_rights.proofs.Changes.{rows_number, stay_objects, end_found}
 
@@ -55,11 +55,17 @@ marks_came n es None q = refl
 marks_came n es (Some m) None = refl
 marks_came n es (Some m) (Some t) = mark_moved es m t n
 
+many_moved : (es : List Entry) (p q : Option ℕ) → length (moved_at p q es) ≡ length es
+many_moved es None q = refl
+many_moved es (Some m) None = refl
+many_moved es (Some m) (Some t) = length_moved es m t
+
 -- to a place that is there
 stay_moved : (j : Judge) (x to : Dbref) (w : Live) → ((t : ℕ) → number_in w.objects to ≡ Some t → place_open j x to ≡ true) → Stay j w (moved_to x to w)
 unfolding moved_to
 stay_moved j x to w h = stay_objects j w (moved_to x to w) refl (λ n. rows_moved j x to w.objects h n (number_in w.objects x) (number_in w.objects to) refl refl) (lists_came j x to w.objects h (number_in w.objects x) (number_in w.objects to) refl refl)
     (λ n. inl (marks_came n w.objects (number_in w.objects x) (number_in w.objects to)))
+    (as_many w.objects (moved_at (number_in w.objects x) (number_in w.objects to) w.objects) (many_moved w.objects (number_in w.objects x) (number_in w.objects to)))
 
 -- what may be moved freely
 pub stays_free : (a : Actor) (free : Freedom) (given : Option Act) (x to : Dbref) → free.moves x ≡ true → Stays a free given (moved_to x to)

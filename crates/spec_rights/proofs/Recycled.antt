@@ -1,7 +1,7 @@
 -- Recycling keeps to the licence, with all that it brings with it.
 use Rattle.std.proofs.Common.{◌≡◌, ℕ, ◌==◌, Bool, true, false, cond, List, [], ◌∷◌, refl, sym, ◌∙◌, ap, subst, Option, Some, None, inl, inr, arith}
 use Rattle.muck_model.proofs.Dbrefs.{same_eq, eq_same}
-use Rattle.std.specs.Prelude.{Result, Ok, Err, map, ◌⊎◌, ◌||◌, not, slice_get}
+use Rattle.std.specs.Prelude.{length, Result, Ok, Err, map, ◌⊎◌, ◌||◌, not, slice_get}
 use Rattle.std.specs.Option.{option_map, option_and_then, option_map_or}
 use Rattle.std.specs.List.{list_any}
 use Rattle.std.proofs.lemmas.Bool.{cases_eq, and_parts, or_parts, not-true, or_left, or_right, and_from}
@@ -30,10 +30,11 @@ use Rattle.spec_rights.specs.Levels.{is_player_at}
 use Rattle.spec_rights.specs.Verdict.{verdict, controls}
 use Rattle.spec_rights.specs.Changing.{recycled_now}
 use Rattle.spec_rights.specs.Licence.{Freedom, Open, Judge, Changed, Differs, Reordered, as_before, empties, front_open, SameLists, is_emptied, is_way_home, place_open, link_open, home_open, gone_open, may_recycle}
-use Rattle.spec_live.proofs.HomeLaws.{list_untied, mark_untied}
+use Rattle.spec_live.proofs.HomeLaws.{list_untied, mark_untied, length_untied, length_sent_home}
+use Rattle.spec_live.proofs.RecyclingLaws.{length_exits_gone, length_vanished}
 use Rattle.spec_rights.proofs.Listing.{lists_itself, reordered_all, reordered_one, reordered_left, reordered_moved}
 use Rattle.spec_rights.proofs.Lookups.{Row, alive, seen_at, number_is}
-use Rattle.spec_rights.proofs.Licences.{judge, changed_same, MarkOpen, SameMarks, marks_itself, ties_itself, Proper}
+use Rattle.spec_rights.proofs.Licences.{judge, changed_same, MarkOpen, SameMarks, marks_itself, ties_itself, as_many, Proper}
 use Rattle.spec_rights.proofs.Allowed.{recycle_allowed}
 
 -- one object is recycled, of that number
@@ -410,6 +411,13 @@ marks_recycled j d es n = at (object_at (dbref_of n) (recycled d es)) refl
     at None e = tt
     at (Some o) e = inl (mark_kept d n es o e)
 
+-- There are as many numbers as there were.
+many_recycled : (d : ℕ) (es : List Entry) → length (recycled d es) ≡ length es
+unfolding recycled
+many_recycled d es =
+    let home : List Entry = sent_home (list_in false es d) (untied d es) in
+    length_vanished (exits_gone d home) d ∙ length_exits_gone d home ∙ length_sent_home (untied d es) (list_in false es d) ∙ length_untied d es
+
 -- The whole change.
 
 -- what isn't there or stays because it is a player or `#0`
@@ -420,6 +428,7 @@ nothing_recycled a free w = record {
     recycled = λ x e. absurd (cc);
     vanished = λ x e. absurd (cc);
     objects = λ n. same_differs n (object_at (dbref_of n) w.objects);
+    no_fewer = as_many w.objects w.objects refl;
     lists = lists_itself (judge a free w.objects) w.objects;
     connections = ties_itself a w.board.connections;
     tune = inl refl;
@@ -464,6 +473,7 @@ there a free x w h d e t =
         recycled = λ y f. let same : x ≡ y = known ∙ cc in ap (may_recycle w.objects a) (sym same) ∙ may a w.objects x d known k.0 k.1 h;
         vanished = λ y f. let same : y ≡ dbref_of d = cc in ap (λ z. object_at z (recycled d w.objects)) same ∙ lost_at d w.objects;
         objects = differs_recycled a free d w.objects (ap (number_in w.objects) (sym known) ∙ e) k.0;
+        no_fewer = as_many w.objects (recycled d w.objects) (many_recycled d w.objects);
         lists = lists_recycled a free d w.objects (ap (number_in w.objects) (sym known) ∙ e);
         connections = ties_itself a w.board.connections;
         tune = inl refl;

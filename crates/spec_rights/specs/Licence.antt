@@ -1,5 +1,5 @@
 -- What an actor may change: the differences between two worlds, field by field.
-use Rattle.std.specs.Prelude.{◌≡◌, ◌⊎◌, ℕ, Bool, true, false, not, ◌&&◌, ◌||◌, ◌==◌, nat_le, if◌then◌else◌, List, [], ◌∷◌, Option, Some, None}
+use Rattle.std.specs.Prelude.{◌≡◌, ◌⊎◌, ◌≤◌, length, ℕ, Bool, true, false, not, ◌&&◌, ◌||◌, ◌==◌, nat_le, if◌then◌else◌, List, [], ◌∷◌, Option, Some, None}
 use Rattle.std.specs.Option.{option_map_or}
 use Rattle.std.specs.List.{list_any}
 use Rattle.std.specs.FinMap.{get}
@@ -182,12 +182,14 @@ LeaversLicensed may [] [] = Unit {0}
 LeaversLicensed may (c ∷ cs) (d ∷ ds) = (d.number ≡ c.number) × Open (λ leaving. may c) c.leaving d.leaving × LeaversLicensed may cs ds
 LeaversLicensed may cs ds = ⊥
 
--- every difference is open to the actor, or a consequence of one recycling: of what it may recycle, and what is gone
+-- every difference is open to the actor, or a consequence of one recycling: of what it may recycle, and what is gone;
+-- and no number goes away, since what is recycled stays there as garbage
 pub record Licensed (a : Actor) (free : Freedom) (w v : Live) : Type 0 where
   pub gone : Option Dbref
   pub recycled : (x : Dbref) → gone ≡ Some x → may_recycle w.objects a x ≡ true
   pub vanished : (x : Dbref) → gone ≡ Some x → object_at x v.objects ≡ None
   pub objects : (n : ℕ) → Differs (record { actor = a; free = free; gone = gone; objects = w.objects }) (dbref_of n) (object_at (dbref_of n) w.objects) (object_at (dbref_of n) v.objects)
+  pub no_fewer : length w.objects ≤ length v.objects
   pub lists : SameLists (record { actor = a; free = free; gone = gone; objects = w.objects }) w.objects v.objects
   pub connections : SameTies a w.board.connections v.board.connections
   pub tune : Open (λ tune. is_master a) w.board.tune v.board.tune
