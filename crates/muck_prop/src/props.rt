@@ -198,9 +198,10 @@ impl Props {
         Ok(list)
     }
 
-    /// All properties, each copied, in the order of their paths.
+    /// All properties, each copied, in the order of their paths. Each path is one, and no value is an empty text or 0.
     pub fn all(&self, alloc: Global) -> Result<Row<Listed>, NoMemory>
-        ensures { IfOk result (λ list. list ≡ mapped (behind 0) (map.entries self.now)) }
+        ensures list { IfOk result (λ list. list ≡ mapped (behind 0) (map.entries self.now)) }
+        ensures kept { OnOk result (AllByRecursion IsKept (map.entries self.now)) }
     {
         let top = Segments::new(alloc);
         let list = all_below(alloc, &self.values, &top)?;
