@@ -15,6 +15,7 @@ pub mod Showing
 pub mod Counting
 pub mod Settings
 pub mod Cutting
+pub mod Spelled
 pub mod Keeping
 pub mod Stocking
 pub mod Loading

@@ -1,15 +1,22 @@
 // What a dump hands to the log: the stored form of each object that isn't kept so.
-ghost use Rattle.std.specs.Prelude.{◌≡◌, ◌<◌, length, map, IfOk, Some};
+ghost use Rattle.std.specs.Prelude.{◌≡◌, ◌<◌, ◌≤◌, length, map, All, IfOk, OnOk, Some};
+ghost use Rattle.std.specs.FinMap.{entries};
+ghost use Rattle.std.specs.List.{AllByRecursion};
+ghost use Rattle.muck_model.specs.Bytes.{lines_most};
+ghost use Rattle.muck_prop.specs.Store.{IsKept};
+ghost use Rattle.muck_codec.specs.inner.Stored.{AreLines, AreProperties, IsStored};
 ghost use Rattle.spec_live.specs.Objects.{garbage, list_in, object_in};
 ghost use Rattle.muck_store.specs.inner.Changes.{LeavesOut};
 ghost use Rattle.muck_store.specs.Forms.{first_of, link_of, next_in, persist, properties_of};
-ghost use Rattle.muck_db.specs.inner.Kept.{stored_at};
+ghost use Rattle.muck_db.specs.inner.Kept.{MayHold, stored_at};
+ghost use Rattle.muck_db.specs.inner.Limits.{IsWithinLimits};
 ghost use Rattle.muck_db.specs.inner.Slots.{entries_of, HasOrder};
 
 use crate::kept::is_kept;
 use crate::links::{dbref_of, first_of, next_of, place_of};
 use crate::moves::object_of;
 use crate::slot::Slot;
+use crate::typed::{see_count, see_lists, see_numbers, see_text, see_ties, see_value};
 use crate::walks::dbref_at;
 use muck_codec::{Property, Stored};
 use muck_model::{Dbref, Flags, Kind, Line, LineList, NoMemory, Row};
@@ -18,25 +25,41 @@ use spec_live::Object;
 use std::alloc::Global;
 
 fn copy_lines(alloc: Global, lines: &LineList) -> Result<LineList, NoMemory>
-    ensures { IfOk result (λ copy. copy ≡ lines.now) }
+    requires few { length lines.now ≤ lines_most }
+    ensures copy { IfOk result (λ copy. copy ≡ lines.now) }
+    ensures storable { IfOk result (λ copy. AreLines copy) }
 {
     let mut copy = Vec::new(alloc);
     for line in lines.as_slice() {
+        see_text(line);
         copy.push(line.copy(alloc)?)?;
     }
     Ok(LineList::of(copy))
 }
 
-// The properties, by rising path.
-fn properties_of(alloc: Global, props: &Props) -> Result<Row<Property>, NoMemory>
-    ensures { IfOk result (λ list. list ≡ properties_of props.now) }
+// The properties, by rising path, each with what its type and its map say of it.
+fn copy_properties(alloc: Global, props: &Props) -> Result<Row<Property>, NoMemory>
+    ensures list { IfOk result (λ list. list ≡ properties_of props.now) }
+    ensures held { IfOk result (λ list. All MayHold list) }
+    ensures kept { OnOk result (AllByRecursion IsKept (entries props.now)) }
 {
     let all = props.all(alloc)?;
     let mut list = Row::new(alloc)?;
     for listed in all.into_vec() {
         let Listed { rest, value } = listed;
+        see_value(&value);
         list.push(Property { path: rest, value })?;
     }
+    Ok(list)
+}
+
+// The properties, by rising path. They have a spelling.
+fn properties_of(alloc: Global, props: &Props) -> Result<Row<Property>, NoMemory>
+    ensures list { IfOk result (λ list. list ≡ properties_of props.now) }
+    ensures storable { IfOk result (λ list. AreProperties list) }
+{
+    let list = copy_properties(alloc, props)?;
+    see_count(&list);
     Ok(list)
 }
 
@@ -66,13 +89,15 @@ fn record_of(alloc: Global, slots: &Vec<Slot>, k: u32, object: &Object) -> Resul
     requires order { HasOrder slots.now.items }
     requires known { k < length slots.now.items }
     requires object { object_in (entries_of slots.now.items) k ≡ Some object.now }
-    ensures { IfOk result (λ stored. Some stored ≡ stored_at (entries_of slots.now.items) k) }
+    requires few { length object.now.lines ≤ lines_most }
+    ensures stored { IfOk result (λ stored. Some stored ≡ stored_at (entries_of slots.now.items) k) }
+    ensures storable { IfOk result (λ stored. IsStored stored) }
 {
     let name = object.name.copy(alloc)?;
     let props = properties_of(alloc, &object.props)?;
     let lines = copy_lines(alloc, &object.lines)?;
     let digest = object.digest.copy(alloc)?;
-    Ok(Stored {
+    let stored = Stored {
         dbref: dbref_of(k),
         kind: object.kind,
         flags: object.flags,
@@ -88,7 +113,13 @@ fn record_of(alloc: Global, slots: &Vec<Slot>, k: u32, object: &Object) -> Resul
         props,
         lines,
         digest,
-    })
+    };
+    see_numbers(&stored);
+    see_ties(&stored);
+    see_lists(&stored);
+    see_text(&stored.name);
+    see_text(&stored.digest);
+    Ok(stored)
 }
 
 // What is kept of an object that was recycled.
@@ -131,8 +162,10 @@ pub fn records_of(
     base: &[Stored],
     slots: &Vec<Slot>,
 ) -> Result<Row<Stored>, NoMemory>
-    requires { HasOrder slots.now.items }
-    ensures { IfOk result (λ records. LeavesOut base.now (persist (entries_of slots.now.items)) records) }
+    requires order { HasOrder slots.now.items }
+    requires limits { IsWithinLimits (entries_of slots.now.items) }
+    ensures records { IfOk result (λ records. LeavesOut base.now (persist (entries_of slots.now.items)) records) }
+    ensures storable { IfOk result (λ records. All IsStored records) }
 {
     let blank = garbage(alloc)?;
     let n = slots.len() as u32;

@@ -13,7 +13,7 @@ ghost use Rattle.spec_live.specs.Consistent.{IsConsistent};
 ghost use Rattle.spec_live.specs.Seen.{listed_in, places_of, scenery_of};
 ghost use Rattle.muck_match.specs.Scenery.{chain, upward};
 ghost use Rattle.muck_lock.specs.inner.Chain.{IsChain};
-ghost use Rattle.muck_codec.specs.inner.Stored.{AreProperties};
+ghost use Rattle.muck_codec.specs.inner.Stored.{AreProperties, IsStored};
 ghost use Rattle.muck_store.specs.inner.Changes.{LeavesOut};
 ghost use Rattle.muck_store.specs.Forms.{loaded, persist};
 ghost use Rattle.muck_store.specs.Limits.{fits};
@@ -178,9 +178,11 @@ impl Db {
     }
 
     /// What a dump hands to the log, over what is kept already: the stored form of each object that isn't kept so, and
-    /// what is tuned. It compares every object with what is kept, and copies only those that differ.
+    /// what is tuned. Each record has a spelling. It compares every object with what is kept, and copies only those that
+    /// differ.
     pub fn cut(&self, alloc: Global, base: &[Stored], tune: &Tune) -> Result<Batch, NoMemory>
         ensures records { IfOk result (λ batch. LeavesOut base.now (persist self.now) batch.records) }
+        ensures storable { IfOk result (λ batch. All IsStored batch.records) }
         ensures tune { IfOk result (λ batch. batch.tune ≡ tune.now) }
     {
         let records = records_of(alloc, base, &self.slots)?;

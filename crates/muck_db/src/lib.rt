@@ -19,6 +19,7 @@ mod setting;
 mod slot;
 mod start;
 mod telling;
+mod typed;
 mod walks;
 
 pub use chain::Chain;

@@ -1,5 +1,6 @@
 // Dumps of the world.
-ghost use Rattle.std.specs.Prelude.{◌≡◌, true, false, is_some, length, IfOk, OnOk, OnErr};
+ghost use Rattle.std.specs.Prelude.{◌≡◌, true, false, is_some, length, All, IfOk, OnOk, OnErr};
+ghost use Rattle.muck_codec.specs.inner.Stored.{IsStored};
 ghost use Rattle.muck_model.specs.declared.event.Event.{Event};
 ghost use Rattle.spec_live.specs.Consistent.{IsConsistent};
 ghost use Rattle.muck_db.specs.inner.Limits.{IsWithinLimits};
@@ -39,12 +40,13 @@ impl World {
         state.db.count()
     }
 
-    /// A dump of this number begins: what it hands to the log, over what is kept already. The records leave out what is kept so.
-    /// The world is consistent then, every object within the limits, and what is tuned in its range. It compares every object with
-    /// what is kept, and copies only those that differ. After `NoMemory` the world is dead.
+    /// A dump of this number begins: what it hands to the log, over what is kept already. The records leave out what is kept so,
+    /// and each has a spelling. The world is consistent then, every object within the limits, and what is tuned in its range. It
+    /// compares every object with what is kept, and copies only those that differ. After `NoMemory` the world is dead.
     pub fn cut(&mut self, party: u8, k: u64, base: &[Stored]) -> Result<Batch, NoMemory>
         requires { is_lawful (now self.old) (record { party = party; event = Event.Cut k }) ≡ true }
         ensures records { IfOk result (λ batch. LeavesOut base.now (persist (now self.old).live.objects) batch.records) }
+        ensures storable { IfOk result (λ batch. All IsStored batch.records) }
         ensures tune { IfOk result (λ batch. batch.tune ≡ (now self.old).live.board.tune) }
         ensures consistent { OnOk result (IsConsistent (now self.old).live.objects) }
         ensures limits { OnOk result (IsWithinLimits (now self.old).live.objects) }
@@ -68,6 +70,7 @@ impl World {
     // The stored form of what of the world isn't kept so. On a dead world nothing is said of it.
     fn batch(&self, base: &[Stored]) -> Result<Batch, NoMemory>
         ensures records { (now self.now).dead ≡ false → IfOk result (λ batch. LeavesOut base.now (persist (now self.now).live.objects) batch.records) }
+        ensures storable { IfOk result (λ batch. All IsStored batch.records) }
         ensures tune { (now self.now).dead ≡ false → IfOk result (λ batch. batch.tune ≡ (now self.now).live.board.tune) }
         ensures consistent { (now self.now).dead ≡ false → IsConsistent (now self.now).live.objects }
         ensures limits { (now self.now).dead ≡ false → IsWithinLimits (now self.now).live.objects }

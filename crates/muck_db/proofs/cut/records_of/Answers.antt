@@ -1,4 +1,6 @@
 use Rattle.std.proofs.Common.{◌+◌, sym, ◌∙◌, subst, arith}
+use Rattle.std.proofs.lemmas.List.Elements.{All-nil, All-push, All-same}
+use Rattle.muck_codec.specs.inner.Stored.{IsStored}
 use Rattle.muck_db.specs.inner.Slots.{entries_of}
 use Rattle.muck_db.proofs.Readers.{length-entries_of}
 use Rattle.muck_db.proofs.Keeping.{LeftOut, left_begins, left_taken, left_over, left_ends}
@@ -6,22 +8,34 @@ use Rattle.muck_db.proofs.cut.records_of.Goals.{then-not-is_kept+in_ok-record_of
 use Rattle.muck_db.proofs.cut.records_of.Goals as goal
 
 pub overflow_cast-n : goal.overflow_cast-n
-overflow_cast-n c = omega (arith, c.len-n.ensures, length-entries_of c.args.slots.now.items, c.requires.ordered.few)
+overflow_cast-n c = omega (arith, c.len-n.ensures, length-entries_of c.args.slots.now.items, c.requires.order.ordered.few)
+
+pub record_of-requires-clause-few : goal.record_of-requires-clause-few
+record_of-requires-clause-few c = (c.requires.limits c.loop-k.k c.object_at-object.result.now c.object_at-object.ensures).lines
 
 pub loop-k-init : goal.loop-k-init
-loop-k-init c = left_begins c.args.base.now (entries_of c.args.slots.now.items) c.in_ok-records.records c.in_ok-records.ensures
+loop-k-init c = record {
+  left = left_begins c.args.base.now (entries_of c.args.slots.now.items) c.in_ok-records.records c.in_ok-records.ensures;
+  stored = All-same IsStored _ _ c.in_ok-records.ensures (All-nil IsStored);
+}
 
 pub loop-k-preserved : goal.loop-k-preserved
 loop-k-preserved c =
     let es = entries_of c.args.slots.now.items in
     elim c.if-not-is_kept.branch [
-      | then-not-is_kept+in_ok-record_of+in_ok-push w ↦
-          subst (LeftOut c.args.base.now es (c.loop-k.k + 1)) (sym (w.records-is ∙ w.in_ok-push.ensures.ok))
-          (left_taken c.args.base.now es c.loop-k.k c.loop-k.records w.in_ok-record_of.field-0 w.in_ok-record_of.ensures c.loop-k.invariant)
-      | else-not-is_kept w ↦
-          subst (LeftOut c.args.base.now es (c.loop-k.k + 1)) (sym w.records-is)
-          (left_over c.args.base.now es c.loop-k.k c.loop-k.records (omega (arith, c.loop-k-test.true, c.len-n.ensures, length-entries_of c.args.slots.now.items)) (c.is_kept.ensures w.if-not-is_kept.false) c.loop-k.invariant)
+      | then-not-is_kept+in_ok-record_of+in_ok-push w ↦ record {
+        left =
+            subst (LeftOut c.args.base.now es (c.loop-k.k + 1)) (sym (w.records-is ∙ w.in_ok-push.ensures.ok))
+            (left_taken c.args.base.now es c.loop-k.k c.loop-k.records w.in_ok-record_of.field-0 w.in_ok-record_of.ensures.stored c.loop-k.invariant.left);
+        stored = All-same IsStored _ _ (w.records-is ∙ w.in_ok-push.ensures.ok) (All-push IsStored c.loop-k.records w.in_ok-record_of.field-0 c.loop-k.invariant.stored w.in_ok-record_of.ensures.storable);
+      }
+      | else-not-is_kept w ↦ record {
+        left =
+            subst (LeftOut c.args.base.now es (c.loop-k.k + 1)) (sym w.records-is)
+            (left_over c.args.base.now es c.loop-k.k c.loop-k.records (omega (arith, c.loop-k-test.true, c.len-n.ensures, length-entries_of c.args.slots.now.items)) (c.is_kept.ensures w.if-not-is_kept.false) c.loop-k.invariant.left);
+        stored = All-same IsStored _ _ w.records-is c.loop-k.invariant.stored;
+      }
     ]
 
-pub returns : goal.returns
-returns c = left_ends c.args.base.now (entries_of c.args.slots.now.items) c.loop-k.k c.loop-k.records (omega (arith, c.loop-k-test.false, c.len-n.ensures, length-entries_of c.args.slots.now.items)) c.loop-k.invariant
+pub returns-clause-records : goal.returns-clause-records
+returns-clause-records c = left_ends c.args.base.now (entries_of c.args.slots.now.items) c.loop-k.k c.loop-k.records (omega (arith, c.loop-k-test.false, c.len-n.ensures, length-entries_of c.args.slots.now.items)) c.loop-k.invariant.left

@@ -5,8 +5,11 @@ use Rattle.muck_store.specs.Forms.{persist}
 use Rattle.muck_db.proofs.Bridge.{sound_order}
 use Rattle.muck_db.proofs.db.Db.cut.Goals as goal
 
-pub records_of-requires : goal.records_of-requires
-records_of-requires c = sound_order _ c.self.invariant.sound
+pub records_of-requires-clause-order : goal.records_of-requires-clause-order
+records_of-requires-clause-order c = sound_order _ c.self.invariant.sound
+
+pub records_of-requires-clause-limits : goal.records_of-requires-clause-limits
+records_of-requires-clause-limits c = c.self.invariant.sound.limits
 
 pub returns-clause-records : goal.returns-clause-records
-returns-clause-records c = subst (λ (es : List Entry). LeavesOut c.args.base.now (persist es) c.in_ok-records.records) c.self.view_is c.in_ok-records.ensures
+returns-clause-records c = subst (λ (es : List Entry). LeavesOut c.args.base.now (persist es) c.in_ok-records.records) c.self.view_is c.in_ok-records.ensures.records
