@@ -1,9 +1,10 @@
 -- What is kept between the parts of a dump. Each of it stays where the history goes on with entries that are none of a dump.
-use Rattle.std.specs.Prelude.{◌≡◌, ℕ, suc, ◌+◌, ◌<◌, ◌≤◌, List, [], length, slice_get, Option, Some, None, Result, Ok, Err, Bool, true, false}
+use Rattle.std.specs.Prelude.{◌≡◌, ℕ, suc, ◌+◌, ◌<◌, ◌≤◌, List, [], All, length, slice_get, Option, Some, None, Result, Ok, Err, Bool, true, false}
 use Rattle.std.specs.Option.{option_map_or}
 use Rattle.muck_model.specs.declared.note.Note.{Note}
 use Rattle.muck_model.specs.declared.tune.Tune.{Tune}
 use Rattle.muck_codec.specs.declared.stored.Stored.{Stored}
+use Rattle.muck_codec.specs.inner.Stored.{IsStored}
 use Rattle.muck_db.specs.inner.Limits.{IsWithinLimits}
 use Rattle.spec_admin.specs.Parameters.{IsInRange}
 use Rattle.spec_live.specs.Objects.{Entry as Object}
@@ -31,9 +32,10 @@ pub record IsReady {D : Type 0} (seen : D → List ℕ) (moment : D → ℕ) (im
 abbrev pub base_in : Option LogState → List Stored
 base_in log = option_map_or base_of log []
 
--- the batch is that of a world of these objects and parameters, which can be stored
+-- the batch is that of a world of these objects and parameters, which can be stored, and each of its records has a spelling
 pub record IsBatchOf (base : List Stored) (objects : List Object) (tune : Tune) (p : Pending) : Type 0 where
   pub records : LeavesOut base (persist objects) p.batch.records
+  pub storable : All IsStored p.batch.records
   pub tuning : p.batch.tune ≡ tune
   pub size : p.size ≡ length objects
   pub consistent : IsConsistent objects

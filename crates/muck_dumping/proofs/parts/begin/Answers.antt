@@ -27,6 +27,7 @@ pub returns-clause-batch : goal.returns-clause-batch
 returns-clause-batch g c = record {
   records = subst (λ (base : List Stored). LeavesOut base (persist (now c.args.world.now).live.objects) c.in-Ok.batch.records) c.base.ensures
       (at_note (λ (w : World). LeavesOut c.base.result.now (persist w.live.objects) c.in-Ok.batch.records) _ _ _ c.note.ensures c.in-Ok.ensures.records);
+  storable = c.in-Ok.ensures.storable;
   tuning = at_note (λ (w : World). c.in-Ok.batch.tune ≡ w.live.board.tune) _ _ _ c.note.ensures c.in-Ok.ensures.tune;
   size = c.size-size.ensures c.requires.alive;
   consistent = at_note (λ (w : World). IsConsistent w.live.objects) _ _ _ c.note.ensures c.in-Ok.ensures.consistent;
@@ -39,6 +40,7 @@ returns-clause-pending g c = λ mounted tells ready.
     pending_as g.D.Disk.seen g.D.Disk.moment g.D.Disk.images g.D.Disk.faults c.args.store.now.log c.args.first.now c.args.second.now mounted c.args.world.now c.args.party c.next-number.result _ ready (record {
       records = subst (λ (base : List Stored). LeavesOut base (persist (now c.args.world.now).live.objects) c.in-Ok.batch.records) c.base.ensures
           (at_note (λ (w : World). LeavesOut c.base.result.now (persist w.live.objects) c.in-Ok.batch.records) _ _ _ c.note.ensures c.in-Ok.ensures.records);
+      storable = c.in-Ok.ensures.storable;
       tuning = at_note (λ (w : World). c.in-Ok.batch.tune ≡ w.live.board.tune) _ _ _ c.note.ensures c.in-Ok.ensures.tune;
       size = c.size-size.ensures c.requires.alive;
       consistent = at_note (λ (w : World). IsConsistent w.live.objects) _ _ _ c.note.ensures c.in-Ok.ensures.consistent;
