@@ -18,6 +18,7 @@ use Rattle.spec_dumps.specs.Fronts.{at_cut, dumped_on, dump_payload, log_of, fil
 use Rattle.spec_dumps.specs.inner.Holding.{Quietly, Keeps, Fails}
 use Rattle.spec_dumps.proofs.Quiet.{keeps_quiet, same_cut, front_quiet, dumped_quiet, fails_quiet}
 use Rattle.spec_dumps.proofs.Storing.{append_moves, dumped_it}
+use Rattle.spec_dumps.proofs.Covering.{front_covered}
 use Rattle.muck_dumping.specs.declared.parts.Pending.{Pending}
 use Rattle.muck_dumping.specs.inner.Dumps.{Appended, IsAnswer}
 use Rattle.muck_dumping.specs.inner.Between.{IsPending, IsLeft, IsWritten, IsFullAtCut}
@@ -105,8 +106,12 @@ module _ {D : Type 0} (seen : D → List ℕ) (moment : D → ℕ) (images : D �
 -- What the store answers to it, whether a log is mounted or not.
 module _ {D : Type 0} (seen : D → List ℕ) (moment : D → ℕ) (images : D → ℕ → List ℕ → Type 0) (faults : D → ℕ) (mounted : ℕ) (h : History) (p : Pending) (f s f' s' : D) (left : Option LogState) (r : Result (Unit {0}) LogFault) where
   abbrev Wrote : Option LogState → Type 0
-  Wrote o = (log : LogState) (es : List Object) (tune : Tune) → o ≡ Some log → LeavesOut (base_of log) (persist es) p.batch.records → p.batch.tune ≡ tune → p.size ≡ length es → tune_fits tune ≡ true → 2 ≤ length es →
+  Wrote o = (log : LogState) (es : List Object) (tune : Tune) → o ≡ Some log → LeavesOut (base_of log) (persist es) p.batch.records → p.batch.tune ≡ tune → p.size ≡ length es → tune_fits tune ≡ true → 2 ≤ length es → length log.chosen.held.world.objects ≤ length es →
       Appended seen moment images (payload_of log (world_batch es tune)) (record { objects = persist es; tune = tune }) log left f s f' s' r
+
+  -- it keeps no more objects than the world had at its Cut
+  covered : (log : LogState) → IsPending seen moment images faults (Some log) f s mounted h p → length log.chosen.held.world.objects ≤ length (at_cut h.start h.entries).live.objects
+  covered log v = front_covered h.start mounted h.entries h.notes v.rests.keeps.last log.chosen v.rests.keeps.usable.2
 
   none_left : (x : Result (Unit {0}) LogFault) → x ≡ Err Stale → OnErr x (left ≡ None) → left ≡ None
   none_left (Ok y) e n = cc
@@ -125,14 +130,14 @@ module _ {D : Type 0} (seen : D → List ℕ) (moment : D → ℕ) (images : D �
   written_by (Some log) v wrote stale none first_later second_later cause =
       let w : World = at_cut h.start h.entries in
       written seen moment images faults mounted h p log f s f' s' v left r
-      (wrote log w.live.objects w.live.board.tune refl v.batch.records v.batch.tuning v.batch.size (tune_of w.live.board.tune v.batch.tuned) (two_there w.live.objects v.batch.consistent)) first_later second_later cause
+      (wrote log w.live.objects w.live.board.tune refl v.batch.records v.batch.tuning v.batch.size (tune_of w.live.board.tune v.batch.tuned) (two_there w.live.objects v.batch.consistent) (covered log v)) first_later second_later cause
 
   -- `Stale` says that no log was mounted
   pub stale_unmounted : (o : Option LogState) → IsPending seen moment images faults o f s mounted h p → Wrote o → r ≡ Err Stale → o ≡ None
   stale_unmounted None v wrote is = refl
   stale_unmounted (Some log) v wrote is =
       let w : World = at_cut h.start h.entries in
-      let a = wrote log w.live.objects w.live.board.tune refl v.batch.records v.batch.tuning v.batch.size (tune_of w.live.board.tune v.batch.tuned) (two_there w.live.objects v.batch.consistent) in
+      let a = wrote log w.live.objects w.live.board.tune refl v.batch.records v.batch.tuning v.batch.size (tune_of w.live.board.tune v.batch.tuned) (two_there w.live.objects v.batch.consistent) (covered log v) in
       absurd (stale_never r is a.answer)
     where
       stale_never : (x : Result (Unit {0}) LogFault) → x ≡ Err Stale → IsAnswer seen moment images (payload_of log (world_batch (at_cut h.start h.entries).live.objects (at_cut h.start h.entries).live.board.tune)) (persisted (at_cut h.start h.entries)) log left f' s' x → ⊥

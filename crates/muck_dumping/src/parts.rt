@@ -66,8 +66,8 @@ pub fn begin<D: Disk>(
     })
 }
 
-/// Its batch is written, without the world. Where that fails the log has to be mounted again; `Stale` says that it had to be before, and then
-/// nothing was done.
+/// Its batch is written, without the world. Where that fails the log has to be mounted again; `Stale` says that it had to be before, since none was or
+/// since what it keeps isn't of this world, and then nothing was done.
 pub fn write<D: Disk>(
     store: &mut Store,
     first: &mut D,

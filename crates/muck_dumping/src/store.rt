@@ -1,5 +1,5 @@
 // The log of a store, and the number that its next dump has.
-ghost use Rattle.std.specs.Prelude.{◌≡◌, ◌⊎◌, ◌≤◌, ℕ, true, false, length, List, Option, Some, None, All, OnOk, OnErr, IfErr, IsErrOf, IsSome};
+ghost use Rattle.std.specs.Prelude.{◌≡◌, ◌⊎◌, ◌<◌, ◌≤◌, ℕ, true, false, length, List, Option, Some, None, All, OnOk, OnErr, IfErr, IsErrOf, IsSome};
 ghost use Rattle.muck_codec.specs.inner.Stored.{IsStored};
 ghost use Rattle.muck_io.specs.Faults.{Rose};
 ghost use Rattle.muck_log.specs.File.{after_number};
@@ -31,17 +31,21 @@ pub struct Store {
     pub number: u64,
 }
 
-// Whether the log may be handed the batch. No world has fewer objects than are kept, and each of its records has a spelling; so it may, unless
-// memory is wanted to see that.
-fn may_take(log: &Log, pending: &Pending) -> bool
+// Whether the log keeps no more objects than the world has of which the batch is. No world has fewer than it had, so what keeps more isn't of this
+// one: that never comes from disks that tell their bytes.
+fn is_of_world(log: &Log, pending: &Pending) -> bool
     ensures covers { result ≡ true → length log.now.chosen.held.world.objects ≤ pending.now.size }
-    ensures storable { result ≡ true → All IsStored pending.now.batch.records }
+    ensures more { result ≡ false → pending.now.size < length log.now.chosen.held.world.objects }
     ensures kept { All IsStored log.now.chosen.held.world.objects }
 {
     let kept = log.kept().objects();
-    if kept.len() > pending.size as usize {
-        return false;
-    }
+    kept.len() <= pending.size as usize
+}
+
+// Whether each record of the batch has a spelling, as far as there is memory to see that.
+fn is_storable(log: &Log, pending: &Pending) -> bool
+    ensures { result ≡ true → All IsStored pending.now.batch.records }
+{
     matches!(log.is_storable(&pending.batch), Ok(true))
 }
 
@@ -114,7 +118,7 @@ impl Store {
     }
 
     // Writes the batch of a dump that began, which leaves out what the log keeps. Where that fails the log has to be mounted
-    // again.
+    // again; so it has to be where it keeps more objects than the world has.
     pub(crate) fn append<D: Disk>(
         &mut self,
         first: &mut D,
@@ -126,7 +130,8 @@ impl Store {
         ensures some { OnOk result (IsSome self.new.log) }
         ensures none { OnErr result (self.new.log ≡ None) }
         ensures wrote { (log : LogState) (es : List Entry) (tune : Tune) → D.tells ≡ true → self.old.log ≡ Some log → LeavesOut (base_of log) (persist es) pending.now.batch.records → pending.now.batch.tune ≡ tune → pending.now.size ≡ length es
-            → tune_fits tune ≡ true → 2 ≤ length es → Appended D.seen D.moment D.images (payload_of log (world_batch es tune)) (record { objects = persist es; tune = tune }) log self.new.log first.old second.old first.new second.new result }
+            → tune_fits tune ≡ true → 2 ≤ length es → length log.chosen.held.world.objects ≤ length es
+            → Appended D.seen D.moment D.images (payload_of log (world_batch es tune)) (record { objects = persist es; tune = tune }) log self.new.log first.old second.old first.new second.new result }
         ensures stale { self.old.log ≡ None → (result ≡ Err LogFault.Stale) × ((first.new ≡ first.old) × (second.new ≡ second.old)) }
         ensures first_later { D.faults first.old ≤ D.faults first.new }
         ensures second_later { D.faults second.old ≤ D.faults second.new }
@@ -136,7 +141,11 @@ impl Store {
             return Err(LogFault::Stale);
         };
         let number = log.next();
-        if !may_take(log, pending) {
+        if !is_of_world(log, pending) {
+            self.close(number);
+            return Err(LogFault::Stale);
+        }
+        if !is_storable(log, pending) {
             self.close(number);
             return Err(LogFault::NoMemory);
         }

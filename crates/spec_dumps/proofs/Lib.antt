@@ -9,3 +9,4 @@ pub mod Failing
 pub mod Remounting
 pub mod Begun
 pub mod Idle
+pub mod Covering

@@ -20,6 +20,7 @@ mod Judged
 mod Chained
 pub mod Living
 pub mod Reached
+pub mod Growing
 pub mod Runs
 pub mod Logging
 pub mod Owning

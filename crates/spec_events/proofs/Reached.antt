@@ -94,7 +94,7 @@ no_connection : (d : ℕ) (w : World) (first stop few : Bool) → (first && is_n
 no_connection d w first stop few e = none_of (connection d w) (and_parts first _ (and_parts _ _ (and_parts _ _ e).0).0).1
 
 -- What is told of a dump keeps the world as it was before.
-told-going : (ds : List ℕ) (text : List ℕ) (w : World) → Going w (on_live (told_each ds text) w)
+pub told-going : (ds : List ℕ) (text : List ℕ) (w : World) → Going w (on_live (told_each ds text) w)
 told-going ds text w = going_quietly w _ (quietly_live (told_each ds text) (quiet_told_each ds text) w)
 
 going-rises : (w v : World) → Going w v → IsRising w.live.board.connections → IsRising v.live.board.connections

@@ -1,4 +1,4 @@
-use Rattle.std.proofs.Common.{◌≡◌, ◌≤◌, ℕ, List, length, Some, Ok, Err, refl, ap, subst, arith}
+use Rattle.std.proofs.Common.{◌≡◌, ◌<◌, ◌≤◌, ℕ, List, length, Some, Ok, Err, refl, ap, subst, arith}
 use Rattle.muck_log.specs.World.{World}
 use Rattle.muck_log.specs.Store.{LogState}
 use Rattle.muck_log.specs.Append.{base_of, payload_of}
@@ -12,8 +12,8 @@ use Rattle.muck_dumping.proofs.Fitting.{makes_world, has_few, has_lines}
 use Rattle.muck_dumping.proofs.Mounting.{one_log}
 use Rattle.muck_dumping.proofs.store.Store.append.Goals as goal
 
-covered : (n size count : ℕ) → size ≡ count → n ≤ size → n ≤ count
-covered n size count is le = omega (arith, is, le)
+too_many : (n size count : ℕ) → size ≡ count → size < n → n ≤ count → ⊥
+too_many n size count is more le = absurd (omega (arith, is, more, le))
 
 -- what the log asks of its caller
 
@@ -24,19 +24,27 @@ pub append-requires-clause-lines : goal.append-requires-clause-lines
 append-requires-clause-lines g c = has_lines _ _ c.requires.batch
 
 pub append-requires-clause-storable : goal.append-requires-clause-storable
-append-requires-clause-storable g c = c.may_take.ensures.storable c.if-not-may_take.false
+append-requires-clause-storable g c = c.is_storable.ensures c.if-not-is_storable.false
 
 pub append-requires-clause-makes : goal.append-requires-clause-makes
 append-requires-clause-makes g c = λ fresh.
-    makes_world c.args.self.now.log c.in-Some.log c.args.pending.now c.in-Some.is c.requires.batch c.may_take.ensures.kept (c.may_take.ensures.storable c.if-not-may_take.false) (c.may_take.ensures.covers c.if-not-may_take.false)
+    makes_world c.args.self.now.log c.in-Some.log c.args.pending.now c.in-Some.is c.requires.batch c.is_of_world.ensures.kept (c.is_storable.ensures c.if-not-is_storable.false) (c.is_of_world.ensures.covers c.if-not-is_of_world.false)
 
 pub append-requires-clause-mounted : goal.append-requires-clause-mounted
 append-requires-clause-mounted g c = λ tells fresh. c.requires.mounted c.in-Some.log tells c.in-Some.is
 
--- memory was wanted to see that it may be handed the batch
+-- a log that was mounted from the disks is of this world
 
-pub returns-then-not-may_take-clause-wrote : goal.returns-then-not-may_take-clause-wrote
-returns-then-not-may_take-clause-wrote g c = λ log es tune tells is left tuned count fit two.
+pub returns-then-not-is_of_world-clause-wrote : goal.returns-then-not-is_of_world-clause-wrote
+returns-then-not-is_of_world-clause-wrote g c = λ log es tune tells is left tuned count fit two covers.
+    let n : ℕ = length c.in-Some.log.chosen.held.world.objects in
+    let same : n ≡ length log.chosen.held.world.objects = ap (λ (l : LogState). length l.chosen.held.world.objects) (one_log c.args.self.now.log c.in-Some.log log c.in-Some.is is) in
+    absurd (too_many n c.args.pending.now.size (length es) count (c.is_of_world.ensures.more c.if-not-is_of_world.true) (omega (arith, same, covers)))
+
+-- memory was wanted to see that the batch can be stored
+
+pub returns-then-not-is_storable-clause-wrote : goal.returns-then-not-is_storable-clause-wrote
+returns-then-not-is_storable-clause-wrote g c = λ log es tune tells is left tuned count fit two covers.
     let made : World = record { objects = persist es; tune = tune } in
     let P : LogState → Type 0 = λ l. Appended g.D.Disk.seen g.D.Disk.moment g.D.Disk.images (payload_of log (world_batch es tune)) made l c.close.new.self.log c.args.first.now c.args.second.now c.args.first.now c.args.second.now (Err NoMemory) in
     subst P (one_log c.args.self.now.log c.in-Some.log log c.in-Some.is is)
@@ -45,26 +53,26 @@ returns-then-not-may_take-clause-wrote g c = λ log es tune tells is left tuned 
 -- it was asked
 
 pub returns-in-Ok-clause-wrote : goal.returns-in-Ok-clause-wrote
-returns-in-Ok-clause-wrote g c = λ log es tune tells is left_out tuned count fit two.
+returns-in-Ok-clause-wrote g c = λ log es tune tells is left_out tuned count fit two covers.
     let m = c.requires.mounted c.in-Some.log tells c.in-Some.is in
     let made : World = record { objects = persist es; tune = tune } in
-    let P : LogState → Type 0 = λ l. LeavesOut (base_of l) (persist es) c.args.pending.now.batch.records → Appended g.D.Disk.seen g.D.Disk.moment g.D.Disk.images (payload_of l (world_batch es tune)) made l (Some c.append.new.self) c.args.first.now c.args.second.now c.append.new.first c.append.new.second (Ok tt) in
+    let P : LogState → Type 0 = λ l. LeavesOut (base_of l) (persist es) c.args.pending.now.batch.records → length l.chosen.held.world.objects ≤ length es → Appended g.D.Disk.seen g.D.Disk.moment g.D.Disk.images (payload_of l (world_batch es tune)) made l (Some c.append.new.self) c.args.first.now c.args.second.now c.append.new.first c.append.new.second (Ok tt) in
     subst P (one_log c.args.self.now.log c.in-Some.log log c.in-Some.is is)
-    (λ left. appended_ok g.D.Disk.seen g.D.Disk.moment g.D.Disk.images c.in-Some.log c.append.new.self c.args.first.now c.args.second.now c.append.new.first c.append.new.second c.args.pending.now.batch made m
-    (c.in-Ok.ensures.any tells m.fresh) (payload_of c.in-Some.log (world_batch es tune)) (left_payload c.in-Some.log c.args.pending.now.batch es tune c.may_take.ensures.kept left tuned)
+    (λ left fewer. appended_ok g.D.Disk.seen g.D.Disk.moment g.D.Disk.images c.in-Some.log c.append.new.self c.args.first.now c.args.second.now c.append.new.first c.append.new.second c.args.pending.now.batch made m
+    (c.in-Ok.ensures.any tells m.fresh) (payload_of c.in-Some.log (world_batch es tune)) (left_payload c.in-Some.log c.args.pending.now.batch es tune c.is_of_world.ensures.kept left tuned)
     (Some c.append.new.self) refl
-    (c.in-Ok.ensures.whole tt es tune left tuned fit two (covered (length c.in-Some.log.chosen.held.world.objects) c.args.pending.now.size (length es) count (c.may_take.ensures.covers c.if-not-may_take.false)))
+    (c.in-Ok.ensures.whole tt es tune left tuned fit two fewer)
     c.in-Ok.ensures.chosen (c.in-Ok.ensures.mounted tells))
-    left_out
+    left_out covers
 
 pub returns-in-Err-clause-wrote : goal.returns-in-Err-clause-wrote
-returns-in-Err-clause-wrote g c = λ log es tune tells is left_out tuned count fit two.
+returns-in-Err-clause-wrote g c = λ log es tune tells is left_out tuned count fit two covers.
     let m = c.requires.mounted c.in-Some.log tells c.in-Some.is in
     let made : World = record { objects = persist es; tune = tune } in
-    let P : LogState → Type 0 = λ l. LeavesOut (base_of l) (persist es) c.args.pending.now.batch.records → Appended g.D.Disk.seen g.D.Disk.moment g.D.Disk.images (payload_of l (world_batch es tune)) made l (c.close-in-Err.new.self.log) c.args.first.now c.args.second.now c.append.new.first c.append.new.second (Err c.in-Err.fault) in
+    let P : LogState → Type 0 = λ l. LeavesOut (base_of l) (persist es) c.args.pending.now.batch.records → length l.chosen.held.world.objects ≤ length es → Appended g.D.Disk.seen g.D.Disk.moment g.D.Disk.images (payload_of l (world_batch es tune)) made l (c.close-in-Err.new.self.log) c.args.first.now c.args.second.now c.append.new.first c.append.new.second (Err c.in-Err.fault) in
     subst P (one_log c.args.self.now.log c.in-Some.log log c.in-Some.is is)
-    (λ left. appended_err g.D.Disk.seen g.D.Disk.moment g.D.Disk.images c.in-Some.log c.append.new.self c.args.first.now c.args.second.now c.append.new.first c.append.new.second c.args.pending.now.batch made m
-    (c.in-Err.ensures.any tells m.fresh) (payload_of c.in-Some.log (world_batch es tune)) (left_payload c.in-Some.log c.args.pending.now.batch es tune c.may_take.ensures.kept left tuned)
+    (λ left fewer. appended_err g.D.Disk.seen g.D.Disk.moment g.D.Disk.images c.in-Some.log c.append.new.self c.args.first.now c.args.second.now c.append.new.first c.append.new.second c.args.pending.now.batch made m
+    (c.in-Err.ensures.any tells m.fresh) (payload_of c.in-Some.log (world_batch es tune)) (left_payload c.in-Some.log c.args.pending.now.batch es tune c.is_of_world.ensures.kept left tuned)
     c.in-Err.fault c.close-in-Err.new.self.log c.close-in-Err.ensures c.in-Err.ensures.answer c.in-Err.ensures.untouched
-    (λ t. c.in-Err.ensures.whole t es tune left tuned fit two (covered (length c.in-Some.log.chosen.held.world.objects) c.args.pending.now.size (length es) count (c.may_take.ensures.covers c.if-not-may_take.false))))
-    left_out
+    (λ t. c.in-Err.ensures.whole t es tune left tuned fit two fewer))
+    left_out covers
