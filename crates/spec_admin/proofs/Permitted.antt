@@ -1,5 +1,5 @@
 -- What a line of a keeper does is open to who types it.
-use Rattle.std.proofs.Common.{◌≡◌, ℕ, true, List, refl, Option, Some, None}
+use Rattle.std.proofs.Common.{◌≡◌, ℕ, true, List, refl, subst, Option, Some, None}
 use Rattle.muck_model.specs.declared.dbref.Dbref.{Dbref}
 use Rattle.muck_model.specs.declared.dbref.Denial.{Denial}
 use Rattle.muck_model.specs.declared.tune.Tune.{Tune}
@@ -7,10 +7,9 @@ use Rattle.spec_live.specs.Objects.{Entry, dbref_of}
 use Rattle.spec_live.specs.Lives.{Live, Change, ◌▸◌, draw, tell, unchanged}
 use Rattle.spec_live.proofs.Keeping.{keeps_followed, keeps_reading, keeps_either, keeps_where}
 use Rattle.spec_rights.specs.declared.act.Actor.{Actor}
-use Rattle.spec_rights.specs.declared.act.Act.{Act}
 use Rattle.spec_rights.specs.declared.act.Act.TheVariants.{Wizard, Password}
 use Rattle.spec_rights.specs.Verdict.{is_master}
-use Rattle.spec_rights.specs.Asking.{asked, refused}
+use Rattle.spec_rights.specs.Asking.{refused}
 use Rattle.spec_rights.specs.Changing.{booted}
 use Rattle.spec_rights.specs.Licence.{Freedom, Judge, nobody}
 use Rattle.spec_rights.proofs.Licences.{Quiet, Stays, Ends, Whole, Always, itself, judge, quiet_order, stays_behind, ends_quiet, ends_stays, ends_quietly, ends_asked, whole_quiet, keeps_asked}
@@ -19,7 +18,7 @@ use Rattle.spec_rights.proofs.Changes.{stays_password}
 use Rattle.spec_rights.proofs.Leaving.{stays_booted}
 use Rattle.spec_rights.proofs.Behind.{Trailing, trailing_order, trailing_quiet, trailing_password}
 use Rattle.spec_commands.specs.declared.outcome.Outcome.{Outcome}
-use Rattle.spec_commands.specs.declared.outcome.Outcome.TheVariants.{Done, NotMine, Dump as DumpAsked, Stop, Retune}
+use Rattle.spec_commands.specs.declared.outcome.Outcome.TheVariants.{Done, NotMine}
 use Rattle.spec_commands.specs.declared.shape.Arguments.{Arguments}
 use Rattle.spec_commands.specs.Texts.{first_word, other_words, trimmed}
 use Rattle.spec_commands.specs.Building.{created_shown, written, done_where}
@@ -28,19 +27,20 @@ use Rattle.spec_commands.specs.Programming.{over_denied}
 use Rattle.spec_commands.specs.Reading.{looked_up, incomplete, by_command, by_table}
 use Rattle.spec_commands.proofs.Showing.{quiet_each}
 use Rattle.spec_commands.proofs.Built.{quiet_created_shown, player_founded}
-use Rattle.spec_commands.proofs.Gone.{world_of, ends_ended, whole_ended}
-use Rattle.spec_commands.proofs.Mine.{Mine, mine_done, mine_ended, mine_asked}
-use Rattle.spec_commands.proofs.Lawful.{Lawful, lawful_quiet, lawful_ends, lawful_play, lawful_either, lawful_reading, lawful_over, lawful_with}
+use Rattle.spec_commands.proofs.Gone.{world_of, ends_ended}
+use Rattle.spec_commands.proofs.Plain.{After}
+use Rattle.spec_commands.proofs.Lawful.{Lawful, lawful_with, open_quiet, open_ends, open_play}
 use Rattle.spec_commands.proofs.Permitted.{Leading, leading_found}
 use Rattle.muck_queue.specs.declared.process.Process.{Process}
 use Rattle.muck_queue.specs.Queues.{Queue}
 use Rattle.spec_admin.specs.declared.word.Parameter.{Parameter}
 use Rattle.spec_admin.specs.declared.word.AdminWord.{AdminWord}
-use Rattle.spec_admin.specs.declared.word.AdminWord.TheVariants.{Processes, Kill, Tune as TuneWord, Boot, Wall, NewPlayer, NewPassword, Dump, Shutdown}
+use Rattle.spec_admin.specs.declared.word.AdminWord.TheVariants.{Processes, Kill, Tune as TuneWord, Boot, NewPlayer, NewPassword}
 use Rattle.spec_admin.specs.Replies.{killed_reply, booted_reply, password_reply}
 use Rattle.spec_admin.specs.Processes.{process_shown, processes_shown, process_meant, end_told, kill_told}
 use Rattle.spec_admin.specs.Players.{password_drawn, player_put, player_made, password_changed}
 use Rattle.spec_admin.specs.Lines.{by_wizard, parameter_shown, parameters_shown, retune_told, parameter_set, tune_done, player_booted, shouted, admin_words, admin_shape, admin_done, admin_line}
+use Rattle.spec_admin.proofs.Following.{AsFollows, follows_command}
 
 -- Listing and ending processes only shows.
 
@@ -71,26 +71,19 @@ unfolding parameters_shown
 quiet_parameters_shown d = keeps_reading _ _ (λ tune. quiet_each (parameter_shown d tune) _ (quiet_parameter_shown d tune))
 
 module _ (a : Actor) (own : Option ℕ) (free : List Entry → Freedom) where
-  quiet_outcome : (outcome : Outcome) (f : Change) → (outcome ≡ NotMine → ⊥) → Quiet f → Lawful a own free (ended outcome f)
-  quiet_outcome outcome f h q = record { licence = whole_ended a own free Always outcome f (whole_quiet a own free Always f q); mine = mine_ended outcome f h }
+  wizard_open : (d : ℕ) (go : Play) → Whole world_of a own free Always go → Whole world_of a own free Always (by_wizard d a go)
+  wizard_open d go p = keeps_asked a Wizard (over_denied d) go (λ denial. open_quiet a own free _ _ (quiet_refused d denial)) p
 
-  lawful_asked : (act : Act) (refuse : Denial → Play) (go : Play) → ((denial : Denial) → Lawful a own free (refuse denial)) → Lawful a own free go → Lawful a own free (asked a act refuse go)
-  lawful_asked act refuse go p q = record { licence = keeps_asked a act refuse go (λ denial. (p denial).licence) q.licence; mine = mine_asked a act refuse go (λ denial. (p denial).mine) q.mine }
+  retune_open : (d : ℕ) (next : Option Tune) → Whole world_of a own free Always (retune_told d next)
+  retune_open d None = open_quiet a own free _ _ (quiet_tell d _)
+  retune_open d (Some tune) = open_quiet a own free _ _ (quiet_tell d _)
 
-  lawful_wizard : (d : ℕ) (go : Play) → Lawful a own free go → Lawful a own free (by_wizard d a go)
-  lawful_wizard d go p = lawful_asked Wizard (over_denied d) go (λ denial. lawful_quiet a own free _ (quiet_refused d denial)) p
-
-  lawful_retune : (d : ℕ) (next : Option Tune) → Lawful a own free (retune_told d next)
-  lawful_retune d None = lawful_over a own free d _
-  lawful_retune d (Some tune) = quiet_outcome (Retune tune) _ (λ e. cc) (quiet_tell d _)
-
-  lawful_tune : (d : ℕ) (text : List ℕ) → Lawful a own free (tune_done d a text)
+  tune_open : (d : ℕ) (text : List ℕ) → Whole world_of a own free Always (tune_done d a text)
   unfolding tune_done parameter_set incomplete
-  lawful_tune d text =
-      lawful_either a own free _ _ _
-      (lawful_wizard d _
-      (lawful_either a own free _ _ _ (lawful_quiet a own free _ (quiet_parameters_shown d)) (lawful_reading a own free _ (retune_told d) (lawful_retune d))))
-      (lawful_quiet a own free _ (quiet_tell d _))
+  tune_open d text =
+      keeps_either _ _ _
+      (wizard_open d _ (keeps_either _ _ _ (open_quiet a own free _ _ (quiet_parameters_shown d)) (keeps_reading _ (retune_told d) (retune_open d))))
+      (open_quiet a own free _ _ (quiet_tell d _))
 
 -- Connections.
 
@@ -100,10 +93,6 @@ booted_open a free d x =
     ends_asked world_of a free None Wizard (over_denied d) _
     (λ denial. ends_ended a free None Done _ (ends_quiet a free None _ (quiet_refused d denial)))
     (ends_ended a free (Some Wizard) Done _ (ends_quietly a free (Some Wizard) (booted x) (tell d booted_reply) (ends_stays a free (Some Wizard) (booted x) (stays_booted a free x)) (quiet_tell d booted_reply)))
-
-mine_booted : (a : Actor) (d : ℕ) (x : Dbref) → Mine (player_booted d a x)
-unfolding player_booted
-mine_booted a d x = mine_asked a Wizard (over_denied d) _ (λ denial. mine_done _) (mine_done _)
 
 -- Players.
 
@@ -146,21 +135,22 @@ password_changed_open a free d x word =
 
 -- A whole line.
 
-admin_lawful : (a : Actor) (own : Option ℕ) (free : List Entry → Freedom) (q : Queue) (d : ℕ) (command : AdminWord) (args : Arguments) → Lawful a own free (admin_done q d a command args)
+word_open : (a : Actor) (own : Option ℕ) (free : List Entry → Freedom) (q : Queue) (d : ℕ) (command : AdminWord) (args : Arguments) → Whole world_of a own free Always (admin_done q d a command args)
 unfolding admin_done shouted
-admin_lawful a own free q d Processes args = lawful_quiet a own free _ (quiet_processes_shown d a q)
-admin_lawful a own free q d Kill args = lawful_quiet a own free _ (quiet_kill_told d a q args.first.text)
-admin_lawful a own free q d TuneWord args = lawful_tune a own free d args.first.text
-admin_lawful a own free q d Boot args = lawful_play a own free _ (λ now. booted_open a now d args.first.object) (mine_booted a d args.first.object)
-admin_lawful a own free q d Wall args = lawful_wizard a own free d _ (lawful_quiet a own free _ (search shown))
-admin_lawful a own free q d NewPlayer args = lawful_ends a own free _ (λ now. player_made_open a now d args.first.text args.second.text)
-admin_lawful a own free q d NewPassword args = lawful_ends a own free _ (λ now. password_changed_open a now d args.first.object args.second.text)
-admin_lawful a own free q d Dump args = lawful_wizard a own free d _ (quiet_outcome a own free DumpAsked _ (λ e. cc) (quiet_tell d _))
-admin_lawful a own free q d Shutdown args = lawful_wizard a own free d _ (quiet_outcome a own free Stop _ (λ e. cc) (quiet_tell d _))
+word_open a own free q d Processes args = open_quiet a own free _ _ (quiet_processes_shown d a q)
+word_open a own free q d Kill args = open_quiet a own free _ _ (quiet_kill_told d a q args.first.text)
+word_open a own free q d TuneWord args = tune_open a own free d args.first.text
+word_open a own free q d Boot args = open_play a own free _ (λ now. booted_open a now d args.first.object)
+word_open a own free q d NewPlayer args = open_ends a own free _ (λ now. player_made_open a now d args.first.text args.second.text)
+word_open a own free q d NewPassword args = open_ends a own free _ (λ now. password_changed_open a now d args.first.object args.second.text)
+word_open a own free q d command args = wizard_open a own free d _ (open_quiet a own free _ _ (search shown))
 
-pub admin_leading : (a : Actor) (own : Option ℕ) (free : List Entry → Freedom) (q : Queue) (d : ℕ) (line : List ℕ) → Leading a own free (admin_line q d a line)
+admin_lawful : (a : Actor) (own : Option ℕ) (free : List Entry → Freedom) (q : Queue) (d : ℕ) (command : AdminWord) (args : Arguments) → Lawful (AsFollows a) a own free (admin_done q d a command args)
+admin_lawful a own free q d command args = record { licence = word_open a own free q d command args; follows = follows_command q d a command args }
+
+pub admin_leading : (a : Actor) (own : Option ℕ) (free : List Entry → Freedom) (q : Queue) (d : ℕ) (line : List ℕ) → Leading (AsFollows a) a own free (admin_line q d a line)
 unfolding admin_line by_table
-admin_leading a own free q d line = leading_found a own (λ command. free) admin_shape (admin_done q d a) d _ _ (looked_up admin_words (first_word (trimmed line))) (admin_lawful a own free q d)
+admin_leading a own free q d line = leading_found (AsFollows a) a own (λ command. free) admin_shape (admin_done q d a) d _ _ (looked_up admin_words (first_word (trimmed line))) (admin_lawful a own free q d)
 
 -- every change by a line is open to who types it
 pub admin_open : (a : Actor) (own : Option ℕ) (free : List Entry → Freedom) (q : Queue) (d : ℕ) (line : List ℕ) → Whole world_of a own free Always (admin_line q d a line)
@@ -182,4 +172,5 @@ admin_mine q d a line w = at (looked_up admin_words (first_word (trimmed line)))
   where
     at : (command : Option AdminWord) → (by_command admin_shape (admin_done q d a) d a (first_word (trimmed line)) (trimmed (other_words (trimmed line))) command w).1 ≡ NotMine → command ≡ None
     at None e = refl
-    at (Some command) e = absurd ((lawful_with a None (λ es. nobody) d _ (admin_shape command) _ (admin_done q d a command) (admin_lawful a None (λ es. nobody) q d command)).mine.law w e)
+    at (Some command) e = absurd (subst (λ (outcome : Outcome). After (AsFollows a w) outcome) e
+        ((lawful_with a None (λ es. nobody) d _ (admin_shape command) _ (admin_done q d a command) (admin_lawful a None (λ es. nobody) q d command)).follows.law w))

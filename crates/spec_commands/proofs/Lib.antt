@@ -5,7 +5,7 @@ pub mod Noted
 pub mod Built
 pub mod Gone
 pub mod Programmed
-pub mod Mine
+pub mod Plain
 pub mod Lawful
 pub mod Permitted
 pub mod Numbered
