@@ -29,3 +29,6 @@ returns-clause-limits c = λ alive.
 
 pub returns-clause-tuned : goal.returns-clause-tuned
 returns-clause-tuned c = λ alive. (sound_seen c.self.inside.past _ _ c.self.invariant c.self.view_is alive).tuned
+
+pub returns-clause-storable : goal.returns-clause-storable
+returns-clause-storable c = c.cut.ensures.storable

@@ -24,3 +24,6 @@ returns-clause-limits c = c.in-Ok.ensures.limits (alive_now (now c.args.self.now
 
 pub returns-clause-tuned : goal.returns-clause-tuned
 returns-clause-tuned c = c.in-Ok.ensures.tuned (alive_now (now c.args.self.now) _ c.requires refl)
+
+pub returns-clause-storable : goal.returns-clause-storable
+returns-clause-storable c = c.in-Ok.ensures.storable
