@@ -1,7 +1,6 @@
 -- A change for each of a list, one after another.
-use Rattle.std.proofs.Common.{◌≡◌, ℕ, ◌+◌, ◌<◌, ◌≤◌, List, [], ◌∷◌, length, map, drop, get_or, refl, sym, ◌∙◌, ap, subst, add-one, drop-cons, Result, Ok, Err}
+use Rattle.std.proofs.Common.{◌≡◌, ℕ, ◌+◌, ◌<◌, List, [], ◌∷◌, length, map, drop, get_or, refl, sym, ◌∙◌, ap, add-one, drop-cons, Result, Ok, Err}
 use Rattle.std.specs.Borrow.{Bor}
-use Rattle.std.proofs.lemmas.List.{drop_all}
 use Rattle.muck_model.specs.declared.memory.NoMemory.{NoMemory}
 use Rattle.muck_model.specs.declared.tune.Tune.{Tune}
 use Rattle.spec_live.specs.Lives.{Change, ◌▸◌, reading}
@@ -10,30 +9,14 @@ use Rattle.spec_admin.specs.declared.word.Parameter.{Parameter}
 use Rattle.spec_admin.specs.Parameters.{parameters}
 use Rattle.spec_admin.specs.Lines.{parameter_shown, parameters_shown}
 use Rattle.muck_perm.specs.declared.guard.Guard.{Guard}
-use Rattle.muck_perm.specs.inner.Guards.{Did, Done, world_of}
-use Rattle.muck_perm.proofs.Worlds.{did_both}
+use Rattle.muck_perm.specs.inner.Guards.{Did, world_of}
 use Rattle.cmd_common.specs.inner.Takes.{word_row}
-use Rattle.cmd_common.proofs.Doing.{did_nothing}
 
 -- one of them, and those behind it
 pub split_here : {A : Type 0} (xs : List A) (i : ℕ) (e : A) → i < length xs → e ≡ get_or xs i e → drop i xs ≡ e ∷ drop (i + 1) xs
 split_here xs i e h is =
     let more : drop i xs ≡ get_or xs i e ∷ drop (i + 1) xs = rw (add-one, drop-cons xs i e) refl in
     more ∙ ap (λ x. x ∷ drop (i + 1) xs) (sym is)
-
-pub each_at : {A : Type 0} {X : Type 0} (go : A → Change) (xs : List A) (i : ℕ) (e : A) (a b new : Guard) (r : Result X NoMemory) → i < length xs →
-    Done (go (get_or xs i e)) a b → Did (each go (drop (i + 1) xs)) b new r → Did (each go (drop i xs)) a new r
-unfolding each
-each_at {A = A} go xs i e a b new r h s t =
-    let P : List A → Type 0 = λ rest. Did (each go rest) a new r in
-    let more : drop i xs ≡ get_or xs i e ∷ drop (i + 1) xs = rw (add-one, drop-cons xs i e) refl in
-    subst P (sym more) (did_both _ _ a b new r s t)
-
-pub each_none : {A : Type 0} (go : A → Change) (xs : List A) (i : ℕ) (a : Guard) → length xs ≤ i → Done (each go (drop i xs)) a a
-unfolding each
-each_none {A = A} go xs i a h =
-    let P : List A → Type 0 = λ rest. Done (each go rest) a a in
-    subst P (sym (drop_all i xs h)) (did_nothing a)
 
 -- those that are made of others
 pub each_mapped : {A B : Type 0} (f : A → B) (go : B → Change) (xs : List A) → each go (map f xs) ≡ each (λ x. go (f x)) xs

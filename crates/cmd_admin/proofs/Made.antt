@@ -1,6 +1,6 @@
 -- A player that is made, and what is told of it.
 use Rattle.std.proofs.Common.{◌≡◌, ℕ, nat_le, true, false, List, None, Result, Ok, Err, refl, sym, ◌∙◌, ap, subst, arith}
-use Rattle.std.specs.Prelude.{OnOk, nat_lt}
+use Rattle.std.specs.Prelude.{nat_lt}
 use Rattle.std.proofs.lemmas.Bool.Decides.{nat_tests}
 use Rattle.muck_model.specs.declared.dbref.Dbref.{Dbref}
 use Rattle.muck_model.specs.declared.dbref.Kind.TheVariants.{Player}
@@ -22,9 +22,10 @@ use Rattle.spec_commands.specs.Replies.{cant_be_done}
 use Rattle.spec_admin.specs.Players.{password_drawn, player_put}
 use Rattle.muck_perm.specs.declared.guard.Guard.{Guard}
 use Rattle.muck_perm.specs.inner.Guards.{Did, Done, Founds, objects_of}
-use Rattle.muck_perm.proofs.Worlds.{same_as, did_both}
+use Rattle.muck_perm.proofs.Worlds.{did_both}
 use Rattle.cmd_admin.specs.inner.Refused.{IsRefused}
 use Rattle.cmd_admin.proofs.Checked.{made_checked}
+use Rattle.cmd_common.proofs.Doing.{wanted}
 
 -- who does what is a wizard's alone may give passwords
 pub wizard_gives : (es fs : List Entry) (a : Actor) (x : Dbref) → verdict es a Wizard ≡ None → verdict fs a (Password x) ≡ None
@@ -76,11 +77,6 @@ player_made d a name word old mid new x result f t =
     let Q : Result (ℕ × ℕ) DbFault → Type 0 = λ check. Did (made_at check (puts d a name word) (tell d cant_be_done)) old new result in
     let both : Did (puts d a name word s.at.0 s.at.1) old new result = did_both (maker name a s.at.0 s.at.1) _ old mid new result s.done (subst P s.is t) in
     put_read d a name word old new result (subst Q (sym s.found) both)
-
--- where memory was wanted
-wanted : (f : Change) (old mid new : Guard) (result : Result (Unit {0}) NoMemory) → mid ≡ old → (new ≡ mid) × OnOk result ⊥ → Did f old new result
-wanted f old mid new (Ok u) e t = absurd t.1
-wanted f old mid new (Err x) e t = same_as old new (t.0 ∙ e)
 
 -- that the world refused it
 refused : (d : ℕ) (old mid new : Guard) (fault : DbFault) (result : Result (Unit {0}) NoMemory) → mid ≡ old → IsRefused d fault mid new result → Did (tell d cant_be_done) old new result

@@ -1,6 +1,5 @@
 -- What a maker does, and what is told of it.
-use Rattle.std.proofs.Common.{◌≡◌, ℕ, List, Result, Ok, Err, ◌∙◌, subst}
-use Rattle.std.specs.Prelude.{OnOk}
+use Rattle.std.proofs.Common.{◌≡◌, ℕ, List, Result, Ok, Err, subst}
 use Rattle.muck_model.specs.declared.dbref.Dbref.{Dbref}
 use Rattle.muck_model.specs.declared.dbref.Kind.{Kind}
 use Rattle.muck_model.specs.declared.memory.NoMemory.{NoMemory}
@@ -16,13 +15,9 @@ use Rattle.spec_commands.specs.Replies.{cant_be_done}
 use Rattle.spec_commands.specs.Building.{made_at, created_shown, making}
 use Rattle.muck_perm.specs.declared.guard.Guard.{Guard}
 use Rattle.muck_perm.specs.inner.Guards.{Did, Founds, objects_of}
-use Rattle.muck_perm.proofs.Worlds.{same_as, did_both}
+use Rattle.muck_perm.proofs.Worlds.{did_both}
 use Rattle.cmd_build.specs.inner.Told.{IsTold}
-
--- where memory was wanted
-wanted : (f : Change) (old mid new : Guard) (result : Result (Unit {0}) NoMemory) → mid ≡ old → (new ≡ mid) × OnOk result ⊥ → Did f old new result
-wanted f old mid new (Ok u) e t = absurd t.1
-wanted f old mid new (Err x) e t = same_as old new (t.0 ∙ e)
+use Rattle.cmd_common.proofs.Doing.{wanted}
 
 -- that the world refused it
 refused : (d : ℕ) (old mid new : Guard) (fault : DbFault) (result : Result (Unit {0}) NoMemory) → mid ≡ old → IsTold d (Err fault) mid new result → Did (tell d cant_be_done) old new result

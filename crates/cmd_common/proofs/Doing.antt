@@ -1,6 +1,7 @@
 -- Changes one after another.
-use Rattle.std.proofs.Common.{◌≡◌, ℕ, ◌+◌, ◌<◌, ◌≤◌, List, [], ◌∷◌, length, drop, get_or, refl, sym, subst, add-one, drop-cons, Result, Ok, Err, MatchResult}
+use Rattle.std.proofs.Common.{◌≡◌, ℕ, ◌+◌, ◌<◌, ◌≤◌, List, [], ◌∷◌, length, drop, get_or, refl, sym, subst, add-one, drop-cons, Result, Ok, Err, MatchResult, ◌∙◌}
 use Rattle.std.proofs.lemmas.List.{drop_all}
+use Rattle.std.specs.Prelude.{OnOk}
 use Rattle.muck_model.specs.declared.dbref.Dbref.{Dbref}
 use Rattle.muck_model.specs.declared.memory.NoMemory.{NoMemory}
 use Rattle.spec_live.specs.Lives.{Change, unchanged, reading, tell}
@@ -11,7 +12,7 @@ use Rattle.spec_commands.specs.declared.outcome.Outcome.TheVariants.{Done as Fin
 use Rattle.spec_commands.specs.Going.{ended}
 use Rattle.muck_perm.specs.declared.guard.Guard.{Guard}
 use Rattle.muck_perm.specs.inner.Guards.{Did, Done}
-use Rattle.muck_perm.proofs.Worlds.{kept_itself, did_both}
+use Rattle.muck_perm.proofs.Worlds.{kept_itself, did_both, same_as}
 use Rattle.cmd_common.specs.inner.Plays.{Plays}
 
 pub did_nothing : (a : Guard) → Done unchanged a a
@@ -38,3 +39,8 @@ pub plays_done : (f : Change) (old new : Guard) (shown : Result (Unit {0}) NoMem
 unfolding ended
 plays_done f old new (Ok x) result d is = subst (λ r. Plays (ended Finished f) old new r) (sym is) (d, refl)
 plays_done f old new (Err e) result d is = subst (λ r. Plays (ended Finished f) old new r) (sym is) d
+
+-- where memory was wanted behind a change that left all as it was
+pub wanted : (f : Change) (old mid new : Guard) (result : Result (Unit {0}) NoMemory) → mid ≡ old → (new ≡ mid) × OnOk result ⊥ → Did f old new result
+wanted f old mid new (Ok u) e t = absurd t.1
+wanted f old mid new (Err x) e t = same_as old new (t.0 ∙ e)

@@ -1,5 +1,4 @@
 pub mod Spoken
-pub mod Present
 pub mod Moves
 pub mod Licences
 pub mod Parts

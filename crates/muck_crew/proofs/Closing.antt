@@ -1,7 +1,8 @@
 -- What the whole history says, once all seats are taken in and the lock is closed.
-use Rattle.std.proofs.Common.{◌≡◌, ◌⊎◌, inl, inr, ℕ, zero, suc, ◌+◌, ◌<◌, ◌≤◌, ◌^◌, ◌==◌, Bool, true, false, List, [], ◌∷◌, ◌++◌, length, map, refl, sym, ap, ◌∙◌, subst, arith, append_assoc, length-append, Option, Some, None}
+use Rattle.std.proofs.Common.{◌≡◌, ℕ, zero, suc, ◌+◌, ◌<◌, ◌≤◌, ◌==◌, Bool, true, false, List, [], ◌∷◌, ◌++◌, length, map, refl, sym, ap, ◌∙◌, subst, arith, length-append, Option, Some, None}
 use Rattle.std.specs.Prelude.{slice_get, slice_index_or, All, take, drop}
-use Rattle.std.proofs.lemmas.Option.{same_Some}
+use Rattle.std.proofs.lemmas.Option.{same_Some, none-some, slice_get_within}
+use Rattle.std.proofs.lemmas.Bool.{both_ways}
 use mathlib.Core.Option.{some, some-ne-none, some-injective}
 use lib.ListN.{get_elem?}
 use Rattle.atomic_table.specs.Seated.{TableId}
@@ -22,6 +23,7 @@ use Rattle.spec_events.specs.Histories.{History, now, after, AllLawful}
 use Rattle.spec_events.specs.Logged.{logged, loose_notes, loose_count, logged_by, entry_of, entries_of, events_of, notes_from, counted_from, items_from}
 use Rattle.spec_events.proofs.Logging.{entries_logged}
 use Rattle.spec_talks.specs.Parties.{party_of}
+use Rattle.spec_talks.proofs.Items.{own_entries_of}
 use Rattle.muck_machine.specs.declared.beginning.Beginning.{Beginning}
 use Rattle.muck_machine.specs.inner.Beginnings.{beginning, begun}
 use Rattle.muck_machine.specs.inner.Seats.{Sight, Chair, Rests, AllOrderly}
@@ -34,18 +36,7 @@ use Rattle.muck_crew.specs.Shared.{done_by}
 use Rattle.muck_crew.specs.inner.Parts.{IsAble, given_to, IsDealt, AreDealt, all_in, IsReady, IsDone, AreDone}
 use Rattle.muck_crew.specs.inner.Runs.{IsFresh}
 
-none_some : {X : Type 0} (x : X) → None ≡ Some x → ⊥
-none_some x e = cc
-
 -- Items and entries.
-
-pub own_entries_of : (p : ℕ) (ls : List Logged) → own_of party_of p (entries_of ls) ≡ entries_of (own_of logged_by p ls)
-own_entries_of p [] = refl
-own_entries_of p (l ∷ ls) = from (l.entry.party == p) (own_entries_of p ls)
-  where
-    from : (b : Bool) → own_of party_of p (entries_of ls) ≡ entries_of (own_of logged_by p ls) → kept b l.entry (own_of party_of p (entries_of ls)) ≡ entries_of (kept b l (own_of logged_by p ls))
-    from true ih = ap (λ (es : List Entry). l.entry ∷ es) ih
-    from false ih = ih
 
 events_entries : (ls : List Logged) → map (λ (e : Entry). e.event) (entries_of ls) ≡ events_of ls
 events_entries [] = refl
@@ -55,7 +46,7 @@ events_entries (l ∷ ls) = ap (λ (es : List Event). l.entry.event ∷ es) (eve
 pub done_own : (p : ℕ) (h : History) → done_by p h.entries ≡ events_of (own_of logged_by p (logged h))
 done_own p h =
     ap (λ (es : List Entry). map (λ (e : Entry). e.event) (own_of party_of p es)) (sym (entries_logged h))
-    ∙ ap (λ (es : List Entry). map (λ (e : Entry). e.event) es) (own_entries_of p (logged h))
+    ∙ ap (λ (es : List Entry). map (λ (e : Entry). e.event) es) (sym (own_entries_of p (logged h)))
     ∙ events_entries (own_of logged_by p (logged h))
 
 pub own_has : (p : ℕ) (ls : List Logged) (l : Logged) → Has (own_of logged_by p ls) l → Has ls l
@@ -77,7 +68,7 @@ has_entry (x ∷ xs) l (zero, at) = (0, ap some (ap entry_of (some-injective x l
 has_entry (x ∷ xs) l (suc i, at) = let h = has_entry xs l (i, at) in (suc h.0, h.1)
 
 pub entry_at : (ls : List Logged) (i : ℕ) (e : Entry) → slice_get (entries_of ls) i ≡ Some e → (l : Logged) × (get_elem? ls i ≡ some l) × (l.entry ≡ e)
-entry_at [] i e at = absurd (none_some e at)
+entry_at [] i e at = absurd (none-some e at)
 entry_at (l ∷ ls) zero e at = (l, refl, same_Some l.entry e at)
 entry_at (l ∷ ls) (suc i) e at = entry_at ls i e at
 
@@ -86,12 +77,9 @@ longer_than xs ys (rest, is) = let l = length-append ys rest in let s = ap lengt
 
 -- Want of memory.
 
-both_ways : (t : Bool) → t ≡ true → t ≡ false → ⊥
-both_ways t a b = cc
-
 died_dead : (w : World) (p : ℕ) (event : Event) → is_died event ≡ true → (happened w p event).dead ≡ true
 died_dead w p Died is = refl
-died_dead w p event is = absurd (both_ways false is refl)
+died_dead w p event is = absurd (both_ways false refl is)
 
 dead_stays : (w : World) (es : List Entry) → w.dead ≡ true → AllLawful w es → (after w es).dead ≡ true
 unfolding is_lawful effect
@@ -111,16 +99,6 @@ got_index [] i d lt = absurd (omega (arith, lt))
 got_index (x ∷ xs) zero d lt = refl
 got_index (x ∷ xs) (suc i) d lt = got_index xs i d (omega (arith, lt))
 
-pub got_there : {X : Type 0} (xs : List X) (i : ℕ) → i < length xs → (x : X) × (slice_get xs i ≡ Some x)
-got_there [] i lt = absurd (omega (arith, lt))
-got_there (x ∷ xs) zero lt = (x, refl)
-got_there (x ∷ xs) (suc i) lt = got_there xs i (omega (arith, lt))
-
-got_within : {X : Type 0} (xs : List X) (i : ℕ) (x : X) → slice_get xs i ≡ Some x → i < length xs
-got_within [] i x at = absurd (none_some x at)
-got_within (y ∷ ys) zero x at = omega arith
-got_within (y ∷ ys) (suc i) x at = let lt = got_within ys i x at in omega (arith, lt)
-
 -- the part of a party as it was given out and as it returned
 pub record WasDone (table : TableId) (v : Sight) (i : ℕ) (p' : Part) : Type 0 where
   pub part : Part
@@ -129,9 +107,9 @@ pub record WasDone (table : TableId) (v : Sight) (i : ℕ) (p' : Part) : Type 0 
 
 pub done_at : (table : TableId) (n : ℕ) (v : Sight) (parts parts' : List Part) → AreDealt table n v parts → AreDone parts parts' → (i : ℕ) (p' : Part) → slice_get parts' i ≡ Some p' → WasDone table v i p'
 done_at table n v parts parts' dealt done i p' at =
-    let within : i < length parts = (let lt = got_within parts' i p' at in let s = done.same in omega (arith, lt, s)) in
+    let within : i < length parts = (let lt = slice_get_within parts' i p' at in let s = done.same in omega (arith, lt, s)) in
     let p = slice_index_or parts i p' in
-    let is : slice_index_or parts' i p' ≡ p' = same_Some (slice_index_or parts' i p') p' (sym (got_index parts' i p' (got_within parts' i p' at)) ∙ at) in
+    let is : slice_index_or parts' i p' ≡ p' = same_Some (slice_index_or parts' i p') p' (sym (got_index parts' i p' (slice_get_within parts' i p' at)) ∙ at) in
     record { part = p; dealt = dealt.each i p (got_index parts i p' within); done = subst (λ (q : Part). IsDone p q) is (done.each i p' within) }
 
 -- The first seat, with others taken in.
@@ -157,7 +135,7 @@ in_has [] v x h = h
 in_has (p ∷ ps) v x h = has_more (all_in ps v).joined (kept_of p.seat.me.0 ∷ []) x (in_has ps v x h)
 
 pub in_kept : (ps : List Part) (v : Sight) (i : ℕ) (p : Part) → slice_get ps i ≡ Some p → Has (all_in ps v).joined (kept_of p.seat.me.0)
-in_kept [] v i p at = absurd (none_some p at)
+in_kept [] v i p at = absurd (none-some p at)
 in_kept (q ∷ qs) v zero p at = subst (λ (r : Part). Has (all_in (q ∷ qs) v).joined (kept_of r.seat.me.0)) (same_Some q p at) (has_end (all_in qs v).joined (kept_of q.seat.me.0))
 in_kept (q ∷ qs) v (suc i) p at = has_more (all_in qs v).joined (kept_of q.seat.me.0 ∷ []) (kept_of p.seat.me.0) (in_kept qs v i p at)
 

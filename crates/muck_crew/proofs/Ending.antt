@@ -24,7 +24,6 @@ use Rattle.spec_events.specs.Histories.{History, now, after, AllLawful, by_porte
 use Rattle.spec_events.specs.Logged.{logged, logged_by, entries_of, events_of, notes_of, IsSettled, IsPlaced, IsOrderly, bare_item}
 use Rattle.spec_events.specs.Own.{IsWellFormed}
 use Rattle.spec_events.proofs.Logging.{entries_logged, entries_append, events_append, notes_append, rebuilt}
-use Rattle.spec_talks.specs.Parties.{party_of}
 use Rattle.spec_talks.specs.Talks.{talks}
 use Rattle.spec_serve.specs.Promises.{PromisedOf, OpenWorkedOff}
 use Rattle.muck_machine.specs.declared.beginning.Beginning.{Beginning}
@@ -51,7 +50,8 @@ use Rattle.muck_crew.specs.Shared.{IsParty, done_by, EndsStopped, LeavesWorkedOf
 use Rattle.muck_crew.specs.inner.Parts.{given_to, AreDealt, AreOver, all_in, AreDone}
 use Rattle.muck_crew.specs.inner.Runs.{IsFresh, SomeWorker, AllFine, IsEndOf, HasStopped, HasRun}
 use Rattle.muck_crew.proofs.Seating.{given_low, given_count}
-use Rattle.muck_crew.proofs.Closing.{own_entries_of, done_own, own_has, has_end, has_entry, entry_at, longer_than, died_at, got_there, done_at, SameButJoined, in_same, in_count, in_has, in_kept, Begins, given_same, fresh_begun, fresh_history}
+use Rattle.muck_crew.proofs.Closing.{done_own, own_has, has_end, has_entry, entry_at, longer_than, died_at, done_at, SameButJoined, in_same, in_count, in_has, in_kept, Begins, given_same, fresh_begun, fresh_history}
+use Rattle.spec_live.proofs.Lists.{some_at}
 
 -- What the lock says of a world that is closed, and of the first seat.
 pub record Shut (v : Sight) (h : History) : Type 0 where
@@ -175,7 +175,7 @@ module _ {D : Type 0} (tells : Bool) (seen : D → List ℕ) (moment : D → ℕ
 
   -- a party of the workers has its part
   part_of : (i : ℕ) → suc i ≤ workers → (p' : Part) × (slice_get parts' i ≡ Some p')
-  part_of i low = let count = dealt.count in let long = wd.same in got_there parts' i (omega (arith, low, count, long))
+  part_of i low = let count = dealt.count in let long = wd.same in some_at parts' i (omega (arith, low, count, long))
 
   owns : (party : ℕ) → IsParty workers party → IsWellFormed party (done_by party h.entries)
   owns zero is = formed_of 0 h sp.0.own own0 pd.over.formed

@@ -1,6 +1,6 @@
 -- A turn of the dumper at its seat.
 use Rattle.std.proofs.Common.{◌≡◌, List, [], ◌∷◌, ◌++◌, length, refl, sym, ◌∙◌, ap, subst, append_assoc, Some, None}
-use Rattle.turn_lock.specs.Histories.{StartsWith, own_of}
+use Rattle.turn_lock.specs.Histories.{own_of}
 use Rattle.turn_lock.specs.declared.view.Place.TheVariants.{Idle as AtRest}
 use Rattle.muck_model.specs.declared.event.Entry.{Entry}
 use Rattle.muck_model.specs.declared.event.Event.{Event}
@@ -13,7 +13,7 @@ use Rattle.spec_events.proofs.Logging.{placed_entered, placed_noted, events_appe
 use Rattle.spec_events.proofs.Owning.{stage_more}
 use Rattle.muck_machine.specs.inner.Beginnings.{beginning}
 use Rattle.muck_machine.specs.inner.Seats.{Sight, Chair, OneMore, AllOrderly, Rests, Waited}
-use Rattle.muck_machine.proofs.Seating.{held_settled, one_bare, one_noted, given_seen, given_root, rests_turned}
+use Rattle.muck_machine.proofs.Seating.{held_settled, one_bare, one_noted, given_seen, given_root, rests_turned, seen_later}
 use Rattle.muck_dumping.specs.inner.Dumps.{by}
 use Rattle.muck_dumper.specs.inner.Dumping.{history_seen}
 use Rattle.muck_dumper.specs.inner.Steps.{MadeBy, bare, with_note, Step, Moves}
@@ -88,9 +88,6 @@ module _ (me : Chair) (v : Sight) (h k : History) (event : Event) (r : Rests 9 m
       (s, refl, known)
 
 -- From stage to stage.
-
-seen_later : (a b c : List Logged) → StartsWith b a → StartsWith c b → StartsWith c a
-seen_later a b c p q = (p.0 ++ q.0, q.1 ∙ ap (λ (ls : List Logged). ls ++ q.0) p.1 ∙ append_assoc a p.0 q.0)
 
 pub moves_step : (from to : Stage) (event : Event) (me me' : Chair) → Step event me me' → next 9 from event ≡ Some to → Moves from to me me'
 moves_step from to event me me' s may = record {

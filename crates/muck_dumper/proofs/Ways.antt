@@ -1,6 +1,6 @@
 -- What is kept of dumps from turn to turn.
-use Rattle.std.proofs.Common.{◌≡◌, ℕ, ◌≤◌, ◌^◌, Bool, true, false, ◌==◌, cond, List, [], length, refl, sym, ◌∙◌, ap, subst, arith, append-nil, Option, Some, None, IsSome}
-use Rattle.std.proofs.lemmas.Bool.Decides.{nat_tests}
+use Rattle.std.proofs.Common.{◌≡◌, ℕ, ◌≤◌, ◌^◌, Bool, true, false, cond, List, [], length, refl, sym, ◌∙◌, ap, subst, append-nil, Option, Some, None, IsSome}
+use Rattle.std.proofs.lemmas.Bool.{eq-eqb}
 use Rattle.muck_model.specs.declared.event.Event.{Event}
 use Rattle.muck_model.specs.declared.event.Event.TheVariants.{Idle, Cut, StopSeen, Died}
 use Rattle.muck_log.specs.Store.{LogState}
@@ -308,13 +308,10 @@ stops_before tells moment images f s fault from P Q y z leads t = record {
   safe = λ mounted on p. t.safe mounted on (leads mounted on p);
 }
 
-eq_self : (n : ℕ) → (n == n) ≡ true
-eq_self n = grind (arith, nat_tests)
-
 -- how a dump that runs may end
 ends_next : (n : ℕ) (b : Bool) → next 9 (Stage.dumping n) (ending_event n b) ≡ Some Stage.unbound
-ends_next n true = ap (λ b. cond {A = Option Stage} b (Some Stage.unbound) None) (eq_self n)
-ends_next n false = ap (λ b. cond {A = Option Stage} b (Some Stage.unbound) None) (eq_self n)
+ends_next n true = ap (λ b. cond {A = Option Stage} b (Some Stage.unbound) None) (eq-eqb n n refl)
+ends_next n false = ap (λ b. cond {A = Option Stage} b (Some Stage.unbound) None) (eq-eqb n n refl)
 
 -- a dump has ended
 pub settles_ended : {D : Type 0} (tells : Bool) (seen : D → List ℕ) (moment : D → ℕ) (images : D → ℕ → List ℕ → Type 0) (faults : D → ℕ) (log : Option LogState) (f s : D) (n : ℕ) (stored : Bool) (P : ℕ → Type 0) (me me' : Chair) →

@@ -1,10 +1,10 @@
 -- Turns of a party at a seat.
-use Rattle.std.proofs.Common.{◌≡◌, ℕ, ◌+◌, inl, inr, suc, zero, Bool, true, false, ◌||◌, ◌==◌, List, [], ◌∷◌, ◌++◌, length, refl, sym, ap, ◌∙◌, subst, arith, Option, None}
+use Rattle.std.proofs.Common.{◌≡◌, ℕ, inl, inr, suc, zero, Bool, true, false, ◌||◌, ◌==◌, List, [], ◌∷◌, ◌++◌, length, refl, sym, ap, ◌∙◌, subst, arith, Option, None, append_assoc}
 use Rattle.std.specs.List.{list_any}
 use Rattle.std.proofs.lemmas.Bool.Decides.{nat_tests}
 use mathlib.Core.Option.{some}
 use lib.ListN.{get_elem?}
-use Rattle.turn_lock.specs.Histories.{kept, own_of}
+use Rattle.turn_lock.specs.Histories.{kept, own_of, StartsWith}
 use Rattle.turn_lock.specs.declared.view.Place.TheVariants.{Idle, Told}
 use Rattle.turn_lock.proofs.Parts.{own_append, own_mine}
 use Rattle.muck_model.specs.declared.event.Entry.{Entry}
@@ -17,7 +17,7 @@ use Rattle.spec_events.specs.Logged.{is_dump, logged, loose_count, IsSettled, ba
 use Rattle.spec_events.proofs.Logging.{logged_bare, logged_with_note, logged_with_counts, settled_bare, settled_with_note, settled_with_counts, rebuilt, no_count}
 use Rattle.muck_machine.specs.declared.beginning.Beginning.{Beginning}
 use Rattle.muck_machine.specs.inner.Beginnings.{beginning, begun, IsBegun}
-use Rattle.muck_machine.specs.inner.Seats.{Sight, Chair, OneMore, AllOrderly, Rests, Left, Waited, SameLists, Turned}
+use Rattle.muck_machine.specs.inner.Seats.{Sight, Chair, OneMore, AllOrderly, Rests, Left, Waited, Turned}
 
 -- Histories that are shared.
 
@@ -50,18 +50,14 @@ one_counted m h k cs e s none is = subst (λ (y : History). OneMore h y (counted
 
 -- Lists of items.
 
-none_or_more : (l : Logged) (ls : List Logged) → ◌≡◌ {A = List Logged} (l ∷ ls) [] → ⊥
+pub none_or_more : (l : Logged) (ls : List Logged) → ◌≡◌ {A = List Logged} (l ∷ ls) [] → ⊥
 none_or_more l ls e = cc
 
--- each item of the front, and of the rest
-pub orderly_front : (a b : List Logged) → AllOrderly (a ++ b) → AllOrderly a
-orderly_front [] b all i l at = absurd (none_some l at)
-  where
-    none_some : (x : Logged) → get_elem? {A = Logged} [] i ≡ some x → ⊥
-    none_some x e = cc
-orderly_front (x ∷ xs) b all zero l at = all 0 l at
-orderly_front (x ∷ xs) b all (suc i) l at = orderly_front xs b (λ j y there. all (suc j) y there) i l at
+-- what was seen later begins with what was seen before
+pub seen_later : (a b c : List Logged) → StartsWith b a → StartsWith c b → StartsWith c a
+seen_later a b c p q = (p.0 ++ q.0, q.1 ∙ ap (λ (ls : List Logged). ls ++ q.0) p.1 ∙ append_assoc a p.0 q.0)
 
+-- each item of the rest
 pub orderly_back : (a b : List Logged) → AllOrderly (a ++ b) → AllOrderly b
 orderly_back [] b all = all
 orderly_back (x ∷ xs) b all = orderly_back xs b (λ j y there. all (suc j) y there)
@@ -203,6 +199,3 @@ left_rests whose me r = record { free = r.free; over = inl r.idle; party = r.par
 
 pub left_told : (whose : ℕ) (me me' : Chair) → Rests whose me → Waited me.0 me'.0 → me'.0.place ≡ Told → me'.1 ≡ [] → Left whose me'
 left_told whose me me' r waited told free = record { free = free; over = inr told; party = waited.2 ∙ r.party; begun = subst IsBegun (sym waited.5) r.begun }
-
-pub waited_lists : (v v' : Sight) → Waited v v' → SameLists v v'
-waited_lists v v' waited = (waited.5, waited.3, waited.4)

@@ -44,10 +44,6 @@ world_met this text vars old new e = ap (λ (s : Stage). s.live) (sym e)
 actor_met : (this : Dbref) (text : List ℕ) (vars : Variables) (old new : Guard) → Met this text vars old new → new.actor ≡ old.actor
 actor_met this text vars old new e = ap (λ (s : Stage). s.actor) (sym e) ∙ same_actor this text vars (stage_of old)
 
-pub means_heard : (this : Dbref) (text : List ℕ) (vars after : Variables) (old new : Guard) (r : Result (List ℕ) MpiFault) → Evaluates (scene_of powers this) text vars (stage_of old) after (stage_of new) r → Means (heard old.actor this text vars (world_of old)).0 r
-unfolding heard
-means_heard this text vars after old new r h = h.0
-
 pub world_heard : (this : Dbref) (text : List ℕ) (vars after : Variables) (old new : Guard) (r : Result (List ℕ) MpiFault) → Evaluates (scene_of powers this) text vars (stage_of old) after (stage_of new) r → IfMemory r (world_of new ≡ (heard old.actor this text vars (world_of old)).1)
 world_heard this text vars after old new r h = memory_then r _ _ (world_met this text vars old new) h.1.1
 

@@ -129,7 +129,3 @@ made_there d o meant f old new r made e is h m =
     let c = checked_there d (objects_of old) o e in
     let k : Makes f (Ok c.0) old new r = subst (λ c. Makes f c old new r) c.1 h in
     did_done meant f old new made is k.1.0 k.1.1 (subst (λ x. IsWritten x made) k.0 m)
-
--- what is told
-pub did_told : (f : Change) (old new : Guard) → world_of new ≡ f (world_of old) → Kept old new → Did (changed f (stage_of old)) old new (Ok tt)
-did_told f old new w k = did_done _ f old new (Ok tt) refl w k refl

@@ -1,6 +1,6 @@
 -- The steps of one link.
 use Rattle.std.proofs.Common.{◌≡◌, ℕ, ◌≤◌, Bool, true, false, List, [], ◌∷◌, take, drop, length, refl, sym, ap, ◌∙◌, subst, arith}
-use Rattle.std.specs.Prelude.{nat_lt, min, ◌<◌, if◌then◌else◌, not, ◌&&◌, is_some, Result, Ok, Err, OnErr}
+use Rattle.std.specs.Prelude.{nat_lt, min, ◌<◌, if◌then◌else◌, not, ◌&&◌, is_some}
 use Rattle.std.proofs.lemmas.Bool.{ltb-true, ltb-false, lt-ltb}
 use Rattle.std.proofs.lemmas.List.{length-drop, length-take, length-take-le}
 use Rattle.muck_links.specs.inner.Cutting.{Cut, Rest, fed}
@@ -89,16 +89,6 @@ pub stable : {A : Type 0} (xs : List A) → ((xs ≡ [] → ⊥) → ⊥) → xs
 stable [] h = refl
 stable (x ∷ xs) h = absurd (h (λ e. cc))
 
-pub was_false : (b : Bool) → b ≡ false → b ≡ true → ⊥
-was_false b e t = both b e t
-  where
-    both : (x : Bool) → x ≡ false → x ≡ true → ⊥
-    both x p q = cc
-
-pub on_err : {A E : Type 0} (r : Result A E) (P : Type 0) → P → OnErr r P
-on_err (Ok x) P h = tt
-on_err (Err e) P h = h
-
 -- What is worked off.
 
 pub off_stopping : (p : Peer) (w : World) → w.stopping ≡ true → length (queue_of p.number w) ≤ 0 → p.unsent ≡ [] → IsWorkedOff p w
@@ -110,10 +100,6 @@ off_stopping p w stopping queue none_kept counted = worked_done counted p w (fro
 
 pub off_idle : (p : Peer) (w : World) → passes is_ready p.number w ≡ false → length (queue_of p.number w) ≤ 0 → p.unsent ≡ [] → IsWorkedOff p w
 off_idle p w idle queue none_kept counted = worked_done counted p w (ap (λ (b : Bool). b && not w.stopping) idle) queue none_kept
-
-pub was_not : (b : Bool) → not b ≡ true → b ≡ false
-was_not true e = absurd cc
-was_not false e = refl
 
 -- bytes were taken where some waited and there was room
 pub took_count : (dead : Bool) (n a b : ℕ) → dead ≡ false → n ≡ (if dead then 0 else min a b) → 0 < a → 0 < b → 0 < n

@@ -22,6 +22,7 @@ use Rattle.spec_talks.specs.Talks.{Talk, talked, talks}
 use Rattle.spec_talks.specs.Counts.{counts}
 use Rattle.spec_talks.proofs.Talking.{talks_turned}
 use Rattle.spec_talks.proofs.Halting.{halts_turned}
+use Rattle.spec_talks.proofs.Items.{own_entries_of}
 use Rattle.spec_serve.specs.Marks.{LinksNote}
 use Rattle.spec_serve.specs.Accounts.{Cause, Agrees}
 use Rattle.spec_serve.specs.Promises.{Tally, HaltCause, Promised, PromisedOf}
@@ -39,7 +40,7 @@ use Rattle.muck_porter.specs.inner.Notes.{first_note, note_in}
 use Rattle.muck_porter.specs.inner.Kept.{tally, BooksAt, PromisedIn, KeptBy}
 use Rattle.muck_porter.specs.inner.Turns.{Marked, PorterTurn}
 use Rattle.muck_porter.specs.inner.Moves.{MayHalt, LastEntry}
-use Rattle.muck_porter.proofs.Items.{same_world, note_append, some_is, entries_own}
+use Rattle.muck_porter.proofs.Items.{same_world, note_append, some_is}
 
 pub set_again : {A : Type 0} (xs : List A) (i : ℕ) (a : A) → get_elem? xs i ≡ some a → set xs i a ≡ xs
 set_again [] i a e = refl
@@ -130,7 +131,7 @@ module _ (noted noted' : Bool) (k : Told) (v v' : Sight) (w : World) (event : Ev
         record {
           lawful = subst (λ (x : World). AllLawful x h) same turn.lawful;
           more = (entries_of turn.others, entries_append v.seen turn.others);
-          own = entries_own 0 (v.seen ++ turn.others) ∙ ap entries_of turn.still ∙ sym (entries_own 0 v.seen);
+          own = sym (own_entries_of 0 (v.seen ++ turn.others)) ∙ ap entries_of turn.still ∙ own_entries_of 0 v.seen;
           world = turn.world ∙ ap (λ (x : World). after x h) same;
           nobody = nobody;
         }
@@ -238,7 +239,7 @@ module _ (noted noted' : Bool) (k : Told) (v v' : Sight) (w : World) (event : Ev
         placed_only u m root = (
           subst (λ (x : World). AllLawful x (entries_of (v.seen ++ turn.others))) (same_world turn.start u turn.mounting m (sym turn.root ∙ root_before u m root)) turn.lawful,
           (entries_of turn.others, entries_append v.seen turn.others),
-          entries_own 0 (v.seen ++ turn.others) ∙ ap entries_of turn.still ∙ sym (entries_own 0 v.seen),
+          sym (own_entries_of 0 (v.seen ++ turn.others)) ∙ ap entries_of turn.still ∙ own_entries_of 0 v.seen,
         )
 
         no_more : (u : World) (h : List Entry)

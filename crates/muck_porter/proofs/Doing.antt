@@ -1,7 +1,6 @@
 -- What the porter does, against its books.
 use Rattle.std.proofs.Common.{◌≡◌, ℕ, zero, suc, ◌+◌, ◌<◌, ◌≤◌, Bool, true, false, List, [], ◌∷◌, length, set, refl, sym, ap, ◌∙◌, subst, ⊎_elim, arith, Option, Some, None}
 use Rattle.std.specs.Prelude.{is_some, if◌then◌else◌}
-use Rattle.std.specs.List.{remove}
 use Rattle.std.proofs.lemmas.Bool.{cases_lt}
 use mathlib.Core.Option.{some, some-ne-none, some-injective}
 use mathlib.Core.Logic.{dite}
@@ -21,7 +20,7 @@ use Rattle.spec_serve.specs.Marks.{LinksNote}
 use Rattle.spec_serve.specs.Promises.{Tally, PromisedOf}
 use Rattle.spec_serve.specs.inner.Keeping.{Peer}
 use Rattle.spec_serve.specs.inner.Books.{BooksOf}
-use Rattle.spec_serve.proofs.Booking.{books_linked}
+use Rattle.spec_serve.proofs.Booking.{books_linked, set_there}
 use Rattle.spec_serve.proofs.Promising.{books_lost}
 use Rattle.muck_machine.specs.inner.Seats.{Sight, Chair, Rests, Left, Waited}
 use Rattle.muck_machine.proofs.Seating.{left_rests}
@@ -41,25 +40,10 @@ use Rattle.muck_porter.proofs.Carrying.{IsQuiet, quiet_moment, quiet_died, turn_
 
 -- Places in a list.
 
-pub set_there : {A : Type 0} (xs : List A) (i : ℕ) (v w : A) → get_elem? xs i ≡ some v → get_elem? (set xs i w) i ≡ some w
-set_there [] i v w at = absurd (some-ne-none v (sym at))
-set_there (x ∷ xs) zero v w at = refl
-set_there (x ∷ xs) (suc i) v w at = set_there xs i v w at
-
 pub set_set : {A : Type 0} (xs : List A) (i : ℕ) (v w : A) → set (set xs i v) i w ≡ set xs i w
 set_set [] i v w = refl
 set_set (x ∷ xs) zero v w = refl
 set_set (x ∷ xs) (suc i) v w = ap (λ l. x ∷ l) (set_set xs i v w)
-
-pub remove_set : {A : Type 0} (xs : List A) (i : ℕ) (v : A) → remove (set xs i v) i ≡ remove xs i
-remove_set [] i v = refl
-remove_set (x ∷ xs) zero v = refl
-remove_set (x ∷ xs) (suc i) v = ap (λ l. x ∷ l) (remove_set xs i v)
-
-pub set_length : {A : Type 0} (xs : List A) (i : ℕ) (v : A) → length (set xs i v) ≡ length xs
-set_length [] i v = refl
-set_length (x ∷ xs) zero v = refl
-set_length (x ∷ xs) (suc i) v = ap suc (set_length xs i v)
 
 pub at_below : {A : Type 0} (xs : List A) (i : ℕ) (a : A) → get_elem? xs i ≡ some a → i < length xs
 at_below [] i a e = absurd (some-ne-none a (sym e))
@@ -159,10 +143,6 @@ module _ (noted noted' : Bool) (k : Told) (me me' : Chair) (w : World) (event : 
   pub quiet_carries : (n : ℕ) (peers : List Peer) (coming : Option ℕ) → IsQuiet event → Carries me.0 me'.0 (tally k n) (tally k n) peers peers coming coming
   quiet_carries n peers coming q b bk = carries_quiet noted noted' k me.0 me'.0 w event turn known b n peers coming q bk
 
-  -- an entry after which nothing binds the porter
-  pub free_ready : (e : Event) → event ≡ e → IsAt Stage.unbound me'.0.own → Ready noted' me'
-  free_ready e is at = record { resting = turn_resting; free = IsFree.unbound at }
-
 pub timed_ready : (noted : Bool) (me : Chair) → ReadyTimed noted me → Ready noted me
 timed_ready noted me t = record { resting = t.resting; free = IsFree.timed t.timed }
 
@@ -176,11 +156,6 @@ one_more P xs n x there here below i a lt at = dite (ℕ_discrete i n)
   where
     less : (i n : ℕ) → ¬ (i ≡ n) → i < n + 1 → i < n
     less i n ne lt = ⊎_elim (λ (h : i < n). h) (λ (h : n ≤ i). absurd (ne (omega arith))) (cases_lt i n)
-
-pub remove_length : {A : Type 0} (xs : List A) (i : ℕ) → i < length xs → length (remove xs i) + 1 ≡ length xs
-remove_length [] i lt = absurd (omega arith)
-remove_length (x ∷ xs) zero lt = omega arith
-remove_length (x ∷ xs) (suc i) lt = let h = remove_length xs i (omega arith) in omega arith
 
 pub peer_closed : (ps : List Peer) (i : ℕ) (p p' : Peer) → p' ≡ p → set ps i p' ≡ set ps i p
 peer_closed ps i p p' same = ap (set ps i) same
@@ -233,9 +208,6 @@ carried_end v v1 v2 K K1 K2 ps ps1 first second coming b bk = second coming b (f
 -- the count of faults in listening by another name
 pub listened : (v v' : Sight) (k k' : Told) (n n' : ℕ) (ps ps' : List Peer) → n' ≡ n → CarriesOn v v' (tally k n) (tally k' n) ps ps' → CarriesOn v v' (tally k n) (tally k' n') ps ps'
 listened v v' k k' n n' ps ps' same carries coming b bk = subst (λ (m : ℕ). BooksAt b v' (tally k' m) ps' coming) (sym same) (carries coming b bk)
-
-pub did_so : {A : Type 0} (answer : Bool) (old new : A) → answer ≡ true → (if answer then new else old) ≡ new
-did_so answer old new is = ap (λ (b : Bool). if b then new else old) is
 
 pub did_not : {A : Type 0} (answer : Bool) (old new : A) → answer ≡ false → (if answer then new else old) ≡ old
 did_not answer old new is = ap (λ (b : Bool). if b then new else old) is

@@ -288,13 +288,13 @@ halts_over v v' k k' n n' peers coming is more none halts b bk =
 
 -- Listening failed.
 
-risen : (a n m : ℕ) → a ≤ n → Rose n m → Rose a m
-risen a n m le rose = omega arith
+pub rose_since : (a n m : ℕ) → a ≤ n → Rose n m → Rose a m
+rose_since a n m le rose = omega arith
 
 pub halts_broke : (v v' : Sight) (k k' : Told) (n n' : ℕ) (peers : List Peer) (coming : Option ℕ) → v'.root ≡ v.root → k' ≡ k → n ≤ n' → Rose n n' → Halts v v' (tally k' n') (tally k' n') peers → Carries v v' (tally k n) (tally k' n') peers peers coming coming
 halts_broke v v' k k' n n' peers coming begun_so same more rose halts b bk u m root =
     let l = (bk u m (sym begun_so ∙ root)).later in
-    halts b coming (λ x. inl (risen b.listening n n' l rose)) (told_same_on v k k' n n' peers coming same more b bk) u m root
+    halts b coming (λ x. inl (rose_since b.listening n n' l rose)) (told_same_on v k k' n n' peers coming same more b bk) u m root
 
 -- an empty list, as it is tested
 pub empty_of : {A : Type 0} (xs : List A) (b : Bool) → b ≡ true → b ≡ (length xs == 0) → xs ≡ []

@@ -1,15 +1,12 @@
 -- Items of a history.
-use Rattle.std.proofs.Common.{◌≡◌, ℕ, suc, Bool, true, false, List, [], ◌∷◌, ◌++◌, refl, ap, Some, None}
-use Rattle.std.specs.Prelude.{is_some, ◌==◌}
+use Rattle.std.proofs.Common.{◌≡◌, ℕ, suc, false, List, [], ◌∷◌, ◌++◌, refl, ap, Some, None}
+use Rattle.std.specs.Prelude.{is_some}
 use Rattle.std.specs.Option.{option_map}
-use Rattle.turn_lock.specs.Histories.{kept, own_of}
-use Rattle.muck_model.specs.declared.event.Entry.{Entry}
 use Rattle.muck_model.specs.declared.note.Note.{Note}
 use Rattle.spec_events.specs.declared.logged.Count.{Count}
 use Rattle.spec_events.specs.declared.logged.Logged.{Logged}
 use Rattle.spec_events.specs.World.{World}
-use Rattle.spec_events.specs.Logged.{logged_by, entries_of, NoCounts, placed_count, count_from}
-use Rattle.spec_talks.specs.Parties.{party_of}
+use Rattle.spec_events.specs.Logged.{NoCounts, placed_count, count_from}
 use Rattle.spec_serve.specs.Marks.{LinksNote}
 use Rattle.muck_machine.specs.declared.beginning.Beginning.{Beginning}
 use Rattle.muck_machine.specs.inner.Beginnings.{begun}
@@ -57,14 +54,3 @@ note_count n (l ∷ ls) = from l.counted (note_count (suc n) ls)
     from : (o : LinksNote) → option_map (λ c. c.1) (count_from (suc n) ls) ≡ note_in ls → option_map (λ c. c.1) (placed_count n o (count_from (suc n) ls)) ≡ first_note o (note_in ls)
     from None e = e
     from (Some cs) e = refl
-
--- Entries.
-
--- the entries of a party are those of its items
-pub entries_own : (p : ℕ) (ls : List Logged) → own_of party_of p (entries_of ls) ≡ entries_of (own_of logged_by p ls)
-entries_own p [] = refl
-entries_own p (l ∷ ls) = from (l.entry.party == p) (entries_own p ls)
-  where
-    from : (t : Bool) → own_of party_of p (entries_of ls) ≡ entries_of (own_of logged_by p ls) → kept t l.entry (own_of party_of p (entries_of ls)) ≡ entries_of (kept t l (own_of logged_by p ls))
-    from true e = ap (λ (es : List Entry). l.entry ∷ es) e
-    from false e = e

@@ -1,6 +1,8 @@
 -- One link is served.
 use Rattle.std.proofs.Common.{◌≡◌, ℕ, ◌+◌, ◌<◌, ◌≤◌, Bool, List, [], ◌∷◌, ◌++◌, length, refl, sym, ap, ◌∙◌, subst, arith, Some}
 use Rattle.std.specs.List.{remove}
+use Rattle.std.proofs.lemmas.List.{length-set}
+use Rattle.std.proofs.lemmas.List.Edits.{length-remove}
 use mathlib.Core.Option.{some}
 use lib.ListN.{get_elem?}
 use Rattle.muck_links.specs.Sessions.{Told}
@@ -11,6 +13,7 @@ use Rattle.spec_events.specs.World.{World}
 use Rattle.spec_events.specs.Histories.{by_porter}
 use Rattle.spec_events.specs.Own.{Stage}
 use Rattle.spec_serve.specs.inner.Keeping.{Peer}
+use Rattle.spec_serve.proofs.Booking.{set_there}
 use Rattle.muck_machine.specs.inner.Seats.{Chair, Rests}
 use Rattle.muck_peer.specs.Moves.{PeerStep}
 use Rattle.muck_porter.specs.declared.deeds.Served.{Served}
@@ -23,7 +26,7 @@ use Rattle.muck_porter.specs.inner.Moves.{CarriesOn, EndsAll}
 use Rattle.muck_porter.specs.inner.Rounds.{WroteAt, ClosedAt, Nearer}
 use Rattle.muck_porter.proofs.Stages.{stage_free}
 use Rattle.muck_porter.proofs.Carrying.{turn_noted, carries_peer, carries_closed, set_again}
-use Rattle.muck_porter.proofs.Doing.{set_there, set_length, remove_length, at_below, linked_books, turn_resting, moment_ready, moment_carries, died_ends, died_over, over_free}
+use Rattle.muck_porter.proofs.Doing.{at_below, linked_books, turn_resting, moment_ready, moment_carries, died_ends, died_over, over_free}
 
 peer_free : (own own' : List Logged) (item : Logged) (p p' : Peer) (w : World) (event : Event) → own' ≡ own ++ item ∷ [] → item.entry ≡ by_porter event → IsFree own → PeerStep p p' w event → IsFree own'
 peer_free own own' item p p' w event is entry free (PeerStep.heard line more e ready same) = IsFree.unbound (stage_free own own' item is (Input p.number line) Stage.unbound (entry ∙ ap by_porter e) free refl refl)
@@ -35,29 +38,29 @@ pub went_below : (served : Served) (i : ℕ) (ps ps1 : List Peer) (w : World) (e
 went_below served i ps ps1 w event is s =
     let x : ServedAs (ServedOne i) ps ps1 w event = subst (λ (y : Served). ServedAs y ps ps1 w event) is s in
     let lt = at_below ps i x.0 x.2 in
-    let n = ap length x.3 ∙ set_length ps i x.1 in
+    let n = ap length x.3 ∙ length-set ps i x.1 in
     omega arith
 
 pub closed_below : (served : Served) (i : ℕ) (ps ps1 : List Peer) (w : World) (event : Event) → served ≡ ClosedOne i → ServedAs served ps ps1 w event → i < length ps1
 closed_below served i ps ps1 w event is s =
     let x : ServedAs (ClosedOne i) ps ps1 w event = subst (λ (y : Served). ServedAs y ps ps1 w event) is s in
     let lt = at_below ps i x.0 x.1 in
-    let n = ap length x.2 ∙ set_length ps i x.0 in
+    let n = ap length x.2 ∙ length-set ps i x.0 in
     omega arith
 
 pub went_nearer : (served : Served) (i from : ℕ) (ps ps1 ps2 : List Peer) (w : World) (event : Event) → served ≡ ServedOne i → ServedAs served ps ps1 w event → ServedFrom from served → length ps2 ≡ length ps1 → Nearer (Some (i + 1)) from ps ps2
 went_nearer served i from ps ps1 ps2 w event is s place count =
     let x : ServedAs (ServedOne i) ps ps1 w event = subst (λ (y : Served). ServedAs y ps ps1 w event) is s in
-    let n = ap length x.3 ∙ set_length ps i x.1 in
+    let n = ap length x.3 ∙ length-set ps i x.1 in
     let f : from ≤ i = subst (ServedFrom from) is place in
     omega arith
 
 pub closed_nearer : (served : Served) (i from : ℕ) (ps ps1 ps2 : List Peer) (w : World) (event : Event) → served ≡ ClosedOne i → ServedAs served ps ps1 w event → ServedFrom from served → ps2 ≡ remove ps1 i → Nearer (Some i) from ps ps2
 closed_nearer served i from ps ps1 ps2 w event is s place gone =
     let x : ServedAs (ClosedOne i) ps ps1 w event = subst (λ (y : Served). ServedAs y ps ps1 w event) is s in
-    let n = ap length x.2 ∙ set_length ps i x.0 in
+    let n = ap length x.2 ∙ length-set ps i x.0 in
     let lt = closed_below served i ps ps1 w event is s in
-    let r = remove_length ps1 i lt in
+    let r = length-remove ps1 i lt in
     let g = ap length gone in
     let f : from ≤ i = subst (ServedFrom from) is place in
     omega arith

@@ -16,12 +16,13 @@ use Rattle.spec_events.specs.Logged.{entries_of}
 use Rattle.spec_events.proofs.Logging.{entries_append}
 use Rattle.spec_talks.specs.Parties.{party_of}
 use Rattle.spec_talks.proofs.Histories.{lawful_back, both_ways, allowed_one, not_first, others_own}
+use Rattle.spec_talks.proofs.Items.{own_entries_of}
 use Rattle.muck_machine.specs.inner.Beginnings.{begun}
 use Rattle.muck_machine.specs.inner.Seats.{Sight, Chair, Rests, Waited}
 use Rattle.muck_peer.specs.Moves.{Clocked}
 use Rattle.muck_porter.specs.inner.Turns.{PorterTurn}
 use Rattle.muck_porter.specs.Times.{Timely, TimedBy, ByClock}
-use Rattle.muck_porter.proofs.Items.{same_world, entries_own}
+use Rattle.muck_porter.proofs.Items.{same_world}
 
 timely_append : (a a1 a2 : Option (List ℕ)) (w : World) (xs ys : List Entry) → Timely a a1 w xs → Timely a1 a2 (after w xs) ys → Timely a a2 w (xs ++ ys)
 timely_append a a1 a2 w [] ys t u = subst (λ (x : Option (List ℕ)). Timely x a2 w ys) t u
@@ -81,7 +82,7 @@ timed_turned noted noted' k a a' me me' w event r r' turn clocked before t = rec
       (timely_turned before a a' u (entries_of t.front) (entries_of h) event
       (subst (λ (x : World). AllLawful x (entries_of h)) same turn.lawful)
       (entries_of more.0, ap entries_of more.1 ∙ entries_append t.front more.0)
-      (entries_own 0 h ∙ ap entries_of (turn.still ∙ sym r.own ∙ t.own) ∙ sym (entries_own 0 t.front))
+      (sym (own_entries_of 0 h) ∙ ap entries_of (turn.still ∙ sym r.own ∙ t.own) ∙ own_entries_of 0 t.front)
       (subst (λ (x : World). Clocked a a' x event) (turn.world ∙ ap (λ (x : World). after x (entries_of h)) same) clocked)
       (t.timely u m root_before));
 }

@@ -13,6 +13,7 @@ use Rattle.spec_events.proofs.Logging.{entries_append}
 use Rattle.spec_talks.specs.Parties.{party_of}
 use Rattle.spec_talks.specs.Talks.{Talk, talks}
 use Rattle.spec_talks.proofs.Talking.{talks_same}
+use Rattle.spec_talks.proofs.Items.{own_entries_of}
 use Rattle.spec_serve.specs.Marks.{LinksNote}
 use Rattle.spec_serve.specs.Promises.{Tally, PromisedOf, OpenWorkedOff}
 use Rattle.spec_serve.proofs.Promising.{promised_whole}
@@ -22,7 +23,7 @@ use Rattle.muck_porter.specs.inner.Notes.{first_note, note_in}
 use Rattle.muck_porter.specs.inner.Kept.{KeptBy, Stopped}
 use Rattle.muck_porter.specs.Times.{Timely, TimedBy}
 use Rattle.muck_porter.proofs.Timing.{timely_same}
-use Rattle.muck_porter.proofs.Items.{note_count, entries_own}
+use Rattle.muck_porter.proofs.Items.{note_count}
 
 -- the note of the links of a history in order is that of the porter's own items
 pub note_own : (ls : List Logged) → AllOrderly ls → note_in ls ≡ note_in (own_of logged_by 0 ls)
@@ -44,7 +45,7 @@ entries_start : (ls seen : List Logged) → StartsWith ls seen → StartsWith (e
 entries_start ls seen more = (entries_of more.0, ap entries_of more.1 ∙ entries_append seen more.0)
 
 same_own : (ls front : List Logged) → own_of logged_by 0 ls ≡ own_of logged_by 0 front → own_of party_of 0 (entries_of ls) ≡ own_of party_of 0 (entries_of front)
-same_own ls front is = entries_own 0 ls ∙ ap entries_of is ∙ sym (entries_own 0 front)
+same_own ls front is = sym (own_entries_of 0 ls) ∙ ap entries_of is ∙ own_entries_of 0 front
 
 -- The front that the porter vouches for, as a front of the whole, in which it did nothing more.
 record Fronted (front ls : List Logged) : Type 0 where

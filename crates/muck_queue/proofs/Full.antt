@@ -1,9 +1,9 @@
 -- A queue that isn't full has a number left.
-use Rattle.std.proofs.Common.{◌≡◌, ◌≢◌, ℤ, Bool, true, false, length, arith}
+use Rattle.std.proofs.Common.{◌≡◌, ◌≢◌, ℤ, Bool, true, false, length}
 use Rattle.std.specs.Prelude.{nat_le, ◌||◌}
 use Rattle.std.specs.List.{count_by}
 use Rattle.std.specs.Ordering.{int_eq}
-use Rattle.std.proofs.lemmas.Int.{ints}
+use Rattle.std.proofs.lemmas.Cmp.{int_eq_equiv}
 use Rattle.muck_model.specs.declared.dbref.Dbref.{Dbref}
 use Rattle.muck_model.specs.declared.tune.Tune.{Tune}
 use Rattle.muck_queue.specs.Queues.{Queue, is_full, is_of, number_most}
@@ -13,11 +13,8 @@ last_of true b c h e = cc
 last_of false true c h e = cc
 last_of false false c h e = cc
 
-int_same : (a : ℤ) → int_eq a a ≡ true
-int_same a = grind (arith, ints)
-
 same_number : (a b : ℤ) → a ≡ b → int_eq a b ≡ true
-same_number a b e = rw e (int_same b)
+same_number a b e = rw e (int_eq_equiv.refl b)
 
 pub number_left : (player : Dbref) (tune : Tune) (q : Queue) → is_full player tune q ≡ false → q.last ≢ number_most
 unfolding is_full

@@ -1,9 +1,10 @@
 -- Each change of a queue keeps what a queue keeps.
-use Rattle.std.proofs.Common.{◌≡◌, ℕ, suc, ℤ, pos, ◌+◌, ◌+ℤ◌, ◌≤◌, ◌<◌, Bool, true, false, not, List, [], ◌∷◌, ◌++◌, length, ap, refl, sym, ◌∙◌, arith, if◌then◌else◌}
+use Rattle.std.proofs.Common.{◌≡◌, ℕ, suc, ℤ, pos, ◌+◌, ◌+ℤ◌, ◌≤◌, ◌<◌, Bool, true, false, not, List, [], ◌∷◌, ◌++◌, length, refl, sym, ◌∙◌, arith, if◌then◌else◌}
 use Rattle.std.specs.Prelude.{map, nat_le}
 use Rattle.std.specs.List.{filter}
-use Rattle.std.proofs.lemmas.Bool.{and_parts}
+use Rattle.std.proofs.lemmas.Bool.{and_parts, not-true}
 use Rattle.std.proofs.lemmas.Int.{ints}
+use Rattle.std.proofs.lemmas.List.{length_push}
 use Rattle.muck_model.specs.declared.dbref.Dbref.{Dbref}
 use Rattle.muck_queue.specs.declared.claim.Claim.{Claim}
 use Rattle.muck_queue.specs.declared.process.Process.{Process}
@@ -14,10 +15,6 @@ use Rattle.muck_queue.specs.inner.Room.{Stands, unclaimed}
 use Rattle.muck_queue.proofs.Changed.{KeepsNumber}
 use Rattle.muck_queue.proofs.Numbered.{rises_added, rises_kept, rises_without, rises_changed, rises_cleared}
 use Rattle.muck_queue.proofs.Room.{unclaimed_added, unclaimed_kept, unclaimed_without, unclaimed_changed, unclaimed_cleared, unclaimed_claimed, room_left}
-
-length_more : {X : Type 0} (xs : List X) (x : X) → length (xs ++ x ∷ []) ≡ suc (length xs)
-length_more [] x = refl
-length_more (y ∷ xs) x = ap (λ n. suc n) (length_more xs x)
 
 pub stands_none : (room : ℕ) (cs : List Claim) (ps : List Process) → cs ≡ [] → ps ≡ [] → Stands room (pos 0) cs ps
 stands_none room cs ps e f = rw (e, f) (record { numbered = omega (arith, ints); room = omega arith })
@@ -56,14 +53,10 @@ stands_cleared trigger room last cs ps new h e =
 
 -- Claims.
 
-not_so : (b : Bool) → not b ≡ true → b ≡ false
-not_so true e = cc
-not_so false e = refl
-
 -- a process that is due is claimed by nobody
 unclaimed_due : (moment : ℕ) (cs : List Claim) (p : Process) → is_due moment cs p ≡ true → is_claimed p.number cs ≡ false
 unclaimed_due moment cs p e =
-    not_so _ (and_parts (not (is_awaiting p)) _ (and_parts (not (is_reading p)) _ (and_parts (nat_le p.due moment) _ e).1).1).1
+    not-true _ (and_parts (not (is_awaiting p)) _ (and_parts (not (is_reading p)) _ (and_parts (nat_le p.due moment) _ e).1).1).1
 
 -- a claim on the process that is to go on next takes its room
 fewer_left : (moment : ℕ) (c : Claim) (cs : List Claim) (ps : List Process) (pid : ℤ) → c.number ≡ pid → Leads moment cs ps pid → suc (unclaimed (cs ++ c ∷ []) ps) ≤ unclaimed cs ps
@@ -79,7 +72,7 @@ room_for moment room last cs ps pid h l =
 pub stands_claimed : (moment room : ℕ) (c : Claim) (last : ℤ) (cs new : List Claim) (ps : List Process) (pid : ℤ) → Stands room last cs ps → Leads moment cs ps pid → c.number ≡ pid → new ≡ cs ++ c ∷ [] → Stands room last new ps
 stands_claimed moment room c last cs new ps pid h l n e =
     let fewer = fewer_left moment c cs ps pid n l in
-    let one = length_more cs c in
+    let one = length_push cs c in
     let most = h.room in
     rw e (record { numbered = h.numbered; room = omega arith })
 

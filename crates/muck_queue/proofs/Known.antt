@@ -1,11 +1,12 @@
 -- Each change of a queue keeps what the queue knows of its processes.
 use Rattle.std.proofs.Common.{◌≡◌, ℕ, ℤ, ◌<◌, ◌≤◌, ◌+◌, Bool, true, false, not, List, [], ◌∷◌, ◌++◌, length, take, get_or, refl, sym, ◌∙◌, ap, subst, arith, Option, Some, None, if◌then◌else◌}
 use Rattle.std.specs.Prelude.{◌&&◌, ◌||◌, ◌==◌, nat_le, is_some, drop, map, find}
-use Rattle.std.specs.List.{filter, list_all, list_any, reduce}
+use Rattle.std.specs.List.{list_all, list_any, reduce}
 use Rattle.std.specs.Option.{option_map, option_map_or}
-use Rattle.std.proofs.lemmas.Bool.{cond_both}
+use Rattle.std.proofs.lemmas.Bool.{cond_both, and_right, le-leb}
 use Rattle.std.proofs.lemmas.Bool.Decides.{nat_tests}
 use Rattle.std.proofs.lemmas.List.{take_more}
+use Rattle.std.proofs.Math.Bool.{or-true}
 use Rattle.muck_model.specs.declared.dbref.Dbref.{Dbref}
 use Rattle.muf_model.specs.Datum.{Datum}
 use Rattle.muck_queue.specs.declared.claim.Claim.{Claim}
@@ -13,23 +14,12 @@ use Rattle.muck_queue.specs.declared.mode.Mode.{Mode}
 use Rattle.muck_queue.specs.declared.mode.Wait.{Wait}
 use Rattle.muck_queue.specs.declared.mode.Wait.TheVariants.{Nothing, ForLine, ForEvent}
 use Rattle.muck_queue.specs.declared.process.Process.{Process}
-use Rattle.muck_queue.specs.Queues.{Queue, changed_first, earlier, earliest, has_pid, has_trigger, in_mode, is_awaiting, is_background, is_claimed, is_due, is_for_event, is_reading, is_tied_to, keeps_busy, next_due, numbered, reads_from, told_event, woken, without_all, without_event, without_first, without_trigger}
+use Rattle.muck_queue.specs.Queues.{Queue, changed_first, earlier, earliest, has_pid, has_trigger, in_mode, is_awaiting, is_claimed, is_due, is_for_event, is_reading, is_tied_to, keeps_busy, next_due, numbered, reads_from, told_event, woken, without_all, without_event, without_first, without_trigger}
 use Rattle.muck_queue.specs.inner.Known.{Knows, fits_second, fits_ties, has_connection, is_timed}
 use Rattle.muck_queue.proofs.Woken.{woken_due, woken_descr}
-use Rattle.muck_queue.proofs.Tested.{Gives, Bars, all_given, all_changed, all_without, all_kept, all_mapped, all_added, none_any, none_found, none_filtered, none_taken}
-
-or_true : (b : Bool) → (b || true) ≡ true
-or_true true = refl
-or_true false = refl
-
-and_false : (b : Bool) → (b && false) ≡ false
-and_false true = refl
-and_false false = refl
+use Rattle.muck_queue.proofs.Tested.{Gives, Bars, all_changed, all_without, all_kept, all_mapped, all_added, none_any, none_found, none_filtered, none_taken}
 
 -- Seconds.
-
-at_least : (s d : ℕ) → s ≤ d → nat_le s d ≡ true
-at_least s d h = grind (arith, nat_tests)
 
 lower : (less s d : ℕ) → less ≤ s → nat_le s d ≡ true → nat_le less d ≡ true
 lower less s d l h = grind (arith, nat_tests)
@@ -44,7 +34,7 @@ or_last false false c e = e
 
 -- a process that is due in this second or later
 pub second_due : (s : ℕ) (p : Process) → s ≤ p.due → fits_second s p ≡ true
-second_due s p h = or_last (is_reading p) (is_awaiting p) (nat_le s p.due) (at_least s p.due h)
+second_due s p h = or_last (is_reading p) (is_awaiting p) (nat_le s p.due) (le-leb s p.due h)
 
 lower_of : (a b : Bool) (less s d : ℕ) → less ≤ s → (a || (b || nat_le s d)) ≡ true → (a || (b || nat_le less d)) ≡ true
 lower_of true b less s d l h = refl
@@ -65,8 +55,8 @@ pub second_waiting : (s : ℕ) (p : Process) → is_timed p ≡ false → fits_s
 second_waiting s p h = waiting_of (is_reading p) (is_awaiting p) (nat_le s p.due) h
 
 not_due : (a b c : Bool) (s m d : ℕ) → m < s → (a || (b || nat_le s d)) ≡ true → (nat_le d m && (not a && (not b && c))) ≡ false
-not_due true b c s m d l h = and_false (nat_le d m)
-not_due false true c s m d l h = and_false (nat_le d m)
+not_due true b c s m d l h = and_right (nat_le d m) false refl
+not_due false true c s m d l h = and_right (nat_le d m) false refl
 not_due false false c s m d l h = ap (λ x. x && c) (late s m d l h)
 
 -- before that second none goes on
@@ -156,7 +146,7 @@ module _ (tied : Bool) (s : ℕ) where
         own_ties : (a b c : Bool) → c ≡ (a || b) → (c || not b) ≡ true
         own_ties true b c e = ap (λ x. x || not b) e
         own_ties false true c e = ap (λ x. x || false) e
-        own_ties false false c e = or_true c
+        own_ties false false c e = or-true c
 
   -- with connections found anew
   module _ (now : Bool) where
@@ -176,7 +166,7 @@ module _ (tied : Bool) (s : ℕ) where
 
 event_of : (a b : Bool) (s due moment : ℕ) (r : Bool) → (a || (b || nat_le s due)) ≡ true → s ≤ moment → (a || (r || nat_le s (if b then moment else due))) ≡ true
 event_of true b s due moment r h l = refl
-event_of false true s due moment r h l = or_last false r (nat_le s moment) (at_least s moment l)
+event_of false true s due moment r h l = or_last false r (nat_le s moment) (le-leb s moment l)
 event_of false false s due moment r h l = or_last false r (nat_le s due) h
 
 pub second_event : (s moment : ℕ) (event : List ℕ × Datum) → s ≤ moment → (p : Process) → fits_second s p ≡ true → fits_second s (told_event moment event p) ≡ true

@@ -3,7 +3,7 @@ use Rattle.std.proofs.Common.{◌≡◌, ◌⊎◌, ℕ, ℤ, Bool, true, false,
 use Rattle.std.specs.Prelude.{nat_lt, ◌||◌, ◌&&◌, ◌==◌, int_lt}
 use Rattle.std.specs.Option.{option_map}
 use Rattle.std.specs.List.{filter, fold, reduce}
-use Rattle.std.proofs.lemmas.Bool.{cond_both, cond-true, cond-false}
+use Rattle.std.proofs.lemmas.Bool.{cond_both, cond-true, cond-false, both_ways}
 use Rattle.std.proofs.lemmas.Bool.Decides.{nat_tests}
 use Rattle.std.proofs.lemmas.Int.{ints}
 use Rattle.muck_queue.specs.declared.claim.Claim.{Claim}
@@ -62,15 +62,12 @@ among_all test r (p ∷ ps) i = decide (test p) refl (among_all test r ps) where
   decide true e rest = here e rest (subst (IsAmong r) (cond-true _ _ _ e) i)
   decide false e rest = let a = rest (subst (IsAmong r) (cond-false _ _ _ e) i) in (inr a.0, a.1)
 
-not_both : {b : Bool} → b ≡ false → b ≡ true → ⊥
-not_both f t = cc
-
 none_due_before : (moment : ℕ) (cs : List Claim) (r : Process) (ps : List Process) → NoneBefore r (filter (is_due moment cs) ps) → NoneDueBefore moment cs r ps
 none_due_before moment cs r [] n = tt
 none_due_before moment cs r (p ∷ ps) n = decide (is_due moment cs p) refl (none_due_before moment cs r ps) where
   decide : (b : Bool) → is_due moment cs p ≡ b → (NoneBefore r (filter (is_due moment cs) ps) → NoneDueBefore moment cs r ps) → NoneDueBefore moment cs r (p ∷ ps)
   decide true e rest = let m : NoneBefore r (p ∷ filter (is_due moment cs) ps) = subst (NoneBefore r) (cond-true _ _ _ e) n in (λ _. m.0, rest m.1)
-  decide false e rest = (λ d. absurd (not_both e d), rest (subst (NoneBefore r) (cond-false _ _ _ e) n))
+  decide false e rest = (λ d. absurd (both_ways _ e d), rest (subst (NoneBefore r) (cond-false _ _ _ e) n))
 
 none_due : (moment : ℕ) (cs : List Claim) (ps : List Process) → earliest (is_due moment cs) ps ≡ None → NoneDue moment cs ps
 none_due moment cs [] e = tt

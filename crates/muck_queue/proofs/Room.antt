@@ -5,6 +5,8 @@ use Rattle.std.specs.List.{filter}
 use Rattle.std.specs.Ordering.{int_eq}
 use Rattle.std.proofs.lemmas.Bool.{cond_both}
 use Rattle.std.proofs.lemmas.Int.{ints}
+use Rattle.std.proofs.Math.Bool.{or-false}
+use Rattle.std.proofs.lemmas.Cmp.{int_eq_equiv}
 use Rattle.muck_model.specs.declared.dbref.Dbref.{Dbref}
 use Rattle.muck_queue.specs.declared.claim.Claim.{Claim}
 use Rattle.muck_queue.specs.declared.process.Process.{Process}
@@ -62,16 +64,12 @@ unclaimed_cleared cs trigger (p ∷ ps) =
 
 -- A claim more.
 
-or_none : (b : Bool) → (b || false) ≡ b
-or_none true = refl
-or_none false = refl
-
 or_assoc : (a b c : Bool) → (a || (b || c)) ≡ ((a || b) || c)
 or_assoc true b c = refl
 or_assoc false b c = refl
 
 claimed_more : (n : ℤ) (c : Claim) (cs : List Claim) → is_claimed n (cs ++ c ∷ []) ≡ (is_claimed n cs || is_on n c)
-claimed_more n c [] = or_none (is_on n c)
+claimed_more n c [] = or-false (is_on n c)
 claimed_more n c (x ∷ cs) = ap (λ b. is_on n x || b) (claimed_more n c cs) ∙ or_assoc (is_on n x) (is_claimed n cs) (is_on n c)
 
 fewer_one : (a b : Bool) (m k : ℕ) → m ≤ k → cond (a || b) m (suc m) ≤ cond a k (suc k)
@@ -95,14 +93,11 @@ taken_later true b m k h = h
 taken_later false true m k h = omega arith
 taken_later false false m k h = omega arith
 
-itself : (n : ℤ) → int_eq n n ≡ true
-itself n = grind (arith, ints)
-
 -- on a process that nobody has claimed: one fewer is left
 pub unclaimed_claimed : (c : Claim) (cs : List Claim) (r : Process) (ps : List Process) → c.number ≡ r.number → is_claimed r.number cs ≡ false → IsAmong r ps → suc (unclaimed (cs ++ c ∷ []) ps) ≤ unclaimed cs ps
 unclaimed_claimed c cs r [] n e a = absurd a
 unclaimed_claimed c cs r (p ∷ ps) n e (inl is) =
-    let on : is_on p.number c ≡ true = ap (λ (q : Process). int_eq c.number q.number) (sym is) ∙ ap (λ k. int_eq c.number k) (sym n) ∙ itself c.number in
+    let on : is_on p.number c ≡ true = ap (λ (q : Process). int_eq c.number q.number) (sym is) ∙ ap (λ k. int_eq c.number k) (sym n) ∙ int_eq_equiv.refl c.number in
     let free : is_claimed p.number cs ≡ false = ap (λ (q : Process). is_claimed q.number cs) (sym is) ∙ e in
     let m = unclaimed (cs ++ c ∷ []) ps in
     subst (λ b. suc (cond b m (suc m)) ≤ unclaimed cs (p ∷ ps)) (sym (claimed_more p.number c cs)) (taken_here (is_claimed p.number cs) (is_on p.number c) m (unclaimed cs ps) free on (fewer c cs ps))

@@ -1,11 +1,11 @@
 -- A process that stands at another state.
-use Rattle.std.proofs.Common.{◌≡◌, ℤ, true, false, cond, List, [], ◌∷◌, refl, sym, ◌∙◌, ap, Option, Some, None}
+use Rattle.std.proofs.Common.{◌≡◌, ℤ, true, false, cond, List, [], ◌∷◌, refl, sym, ap, Option, Some, None}
 use Rattle.std.specs.Prelude.{find}
-use Rattle.std.specs.Option.{option_map, option_and_then}
+use Rattle.std.specs.Option.{option_and_then}
 use Rattle.muf_model.specs.Source.{Source}
 use Rattle.muck_queue.specs.declared.process.Process.{Process}
 use Rattle.muck_queue.specs.Queues.{Queue, has_pid, at_state, changed_first, with_processes, on_process, process, standing, state_of, without}
-use Rattle.muck_queue.proofs.Changed.{process_changed, changed_twice, without_changed, changed_same}
+use Rattle.muck_queue.proofs.Changed.{changed_twice, without_changed, changed_same}
 
 module _ (pid : ℤ) (r : Option Source) where
   -- the last of several states is that at which it stands
@@ -14,10 +14,6 @@ module _ (pid : ℤ) (r : Option Source) where
 
   pub without_standing : (q : Queue) → without pid (standing pid r q) ≡ without pid q
   without_standing q = without_changed pid (at_state r) (λ p. refl) q
-
-  -- and nothing else of it changes
-  pub process_standing : (q : Queue) → process pid (standing pid r q) ≡ option_map (at_state r) (process pid q)
-  process_standing q = process_changed pid (at_state r) (λ p. refl) q
 
   -- it stands there already
   pub standing_same : (q : Queue) (p : Process) → process pid q ≡ Some p → p.running ≡ r → standing pid r q ≡ q

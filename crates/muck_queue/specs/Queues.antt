@@ -1,5 +1,5 @@
 -- The processes of a world, by rising number.
-use Rattle.std.specs.Prelude.{ℕ, ◌+◌, min, ℤ, pos, ◌+ℤ◌, Bool, true, false, not, ◌&&◌, ◌||◌, ◌==◌, nat_lt, nat_le, int_lt, if◌then◌else◌, List, [], ◌∷◌, ◌++◌, length, map, find, drop, slice_get, Option, Some, None}
+use Rattle.std.specs.Prelude.{ℕ, ◌+◌, min, ℤ, pos, ◌+ℤ◌, Bool, true, false, not, ◌&&◌, ◌||◌, ◌==◌, nat_lt, nat_le, int_lt, if◌then◌else◌, List, [], ◌∷◌, ◌++◌, length, map, find, drop, slice_get, Option, None}
 use Rattle.std.specs.List.{filter, reduce, count_by, list_any}
 use Rattle.std.specs.Option.{option_map, option_map_or, option_and_then}
 use Rattle.std.specs.Ordering.{int_eq}
@@ -10,7 +10,7 @@ use Rattle.muf_model.specs.Datum.{Datum, text}
 use Rattle.muf_model.specs.Source.{Source, handed}
 use Rattle.muf_model.specs.Chains.{programs_of}
 use Rattle.muck_queue.specs.declared.mode.Mode.{Mode}
-use Rattle.muck_queue.specs.declared.mode.Mode.TheVariants.{Preempt, Foreground, Background}
+use Rattle.muck_queue.specs.declared.mode.Mode.TheVariants.{Preempt, Background}
 use Rattle.muck_queue.specs.declared.mode.Wait.{Wait}
 use Rattle.muck_queue.specs.declared.mode.Wait.TheVariants.{Nothing, ForLine, ForEvent}
 use Rattle.muck_queue.specs.declared.process.Process.{Process}

@@ -1,7 +1,7 @@
 -- Lines of a script that close a connection, or let time pass; and that no line does what a dump does.
-use Rattle.std.proofs.Common.{◌≡◌, ℕ, ◌≤◌, Bool, true, false, cond, List, [], refl, sym, ◌∙◌, ap, Option, Result}
+use Rattle.std.proofs.Common.{◌≡◌, ℕ, Bool, true, false, cond, List, [], refl, sym, ◌∙◌, ap, Option, Result}
 use Rattle.std.specs.Prelude.{is_some}
-use Rattle.std.proofs.lemmas.Bool.{le-leb, cond-true, cond-false}
+use Rattle.std.proofs.lemmas.Bool.{cond-true, cond-false}
 use Rattle.muck_model.specs.declared.event.Event.{Event}
 use Rattle.muck_model.specs.declared.event.Event.TheVariants.{Closed, Moment}
 use Rattle.spec_events.specs.Logged.{is_dump}
@@ -29,11 +29,6 @@ moment_silent t w = refl
 pub closed_where : (w : World) (d : ℕ) → w.dead ≡ false → is_lawful w (by_porter (Closed d)) ≡ is_some (connection d w)
 unfolding is_lawful
 closed_where w d alive = cond-false _ _ _ alive
-
--- time may pass
-pub moment_lawful : (w : World) (t : ℕ) → w.dead ≡ false → w.moment ≤ t → is_lawful w (by_porter (Moment t)) ≡ true
-unfolding is_lawful
-moment_lawful w t alive e = cond-false _ _ _ alive ∙ le-leb w.moment t e
 
 pub plays_wait : (h k : History) (o : Option (List ℕ)) (seconds t : ℕ) → t ≡ later seconds (now h) → (now h).dead ≡ false → is_lawful (now h) (by_porter (Moment t)) ≡ true →
     k ≡ entered h (by_porter (Moment t)) → Plays (plain (acted (Wait seconds))) h k o o

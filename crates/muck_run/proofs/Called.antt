@@ -37,21 +37,6 @@ mount_told a b (LogDamaged second at) told = told
 mount_told a b (LogFull end more) told = absurd told
 mount_told a b Stale told = absurd told
 
-pub mount_may : (fault : LogFault) → MayRefuse (refusal_of fault)
-mount_may LogMemory = tt
-mount_may LogDisk = tt
-mount_may (LogDamaged second at) = tt
-mount_may (LogFull end more) = tt
-mount_may Stale = tt
-
--- only a disk that failed is answered so
-pub disk_refused : (fault : LogFault) → refusal_of fault ≡ DiskFault → fault ≡ LogDisk
-disk_refused LogMemory e = cc
-disk_refused LogDisk e = refl
-disk_refused (LogDamaged second at) e = cc
-disk_refused (LogFull end more) e = cc
-disk_refused Stale e = cc
-
 -- How a call ends: it wasn't begun where no store was mounted and where no script was read.
 
 pub refused_ends : (why : Why) (U B : Type 0) → MayRefuse why → U → EndsAs why U B

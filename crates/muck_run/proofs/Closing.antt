@@ -38,9 +38,6 @@ comes_by h k Stale came = came
 pub comes_failed : (h k : History) (o : Option LogFault) (fault : LogFault) → o ≡ Some fault → ComesOut h k o → ComesOutAs h k (why_of fault)
 comes_failed h k o fault is came = comes_by h k fault (subst (λ (x : Option LogFault). ComesOut h k x) is came)
 
-pub comes_stored : (h k : History) (o : Option LogFault) → o ≡ None → ComesOut h k o → ComesOut h k None
-comes_stored h k o is came = subst (λ (x : Option LogFault). ComesOut h k x) is came
-
 -- a dump that failed was played, but for want of memory
 pub ends_by : (h k : History) (o : Option (List ℕ)) (fault : LogFault) → (fault ≡ LogMemory → ⊥) → Plays dumping h k o o → EndsPlay h k o (why_of fault)
 ends_by h k o LogMemory apart p = absurd (apart refl)

@@ -3,21 +3,17 @@ use Rattle.std.proofs.Common.{◌≡◌, ℕ, false, ◌+◌, ◌≤◌, List, [
 use Rattle.std.specs.Prelude.{codes}
 use Rattle.std.specs.Fmt.{decimal}
 use Rattle.std.specs.List.{filter}
-use Rattle.muck_io.specs.Sink.{Appends, AppendsFront}
-use Rattle.muck_io.specs.Faults.{Rose}
-use Rattle.muck_model.specs.declared.event.Entry.{Entry}
 use Rattle.spec_events.specs.World.{World, starting, booted}
-use Rattle.spec_events.specs.Histories.{History, after, now, AllLawful}
+use Rattle.spec_events.specs.Histories.{History, after, now}
 use Rattle.muck_script.specs.declared.act.Act.{Act}
 use Rattle.muck_script.specs.declared.act.Act.TheVariants.{Send}
 use Rattle.muck_script.specs.Lines.{is_line_feed}
 use Rattle.muck_script.specs.Story.{Dumped, stored, failed, next_outcome, dump_entries, outcomes_of, told, text_of, lines_story, transcript}
-use Rattle.muck_run.specs.Drill.{describing, round, rounds, summary, objects_in, drill_script, drill_text, IsDrilled, HasDrilled}
+use Rattle.muck_run.specs.Drill.{describing, round, rounds, summary, objects_in, drill_script}
 use Rattle.muck_run.specs.inner.Drills.{fresh, IsPlayedAs, IsDrilledAs}
 use Rattle.spec_live.specs.Boards.{early_board}
 use Rattle.muck_run.specs.inner.Opens.{all_within, Opens}
 use Rattle.muck_run.specs.inner.Plays.{Plays}
-use Rattle.muck_run.specs.declared.why.Why.TheVariants.{Fine, WriteFault}
 use Rattle.muck_run.proofs.Parts.{text_of-append}
 
 -- The script, round by round.
@@ -142,22 +138,3 @@ drilled_as n size h bytes text p counts is = record {
       is ∙ ap (λ x. summary n x bytes) (counts ∙ ap (λ (w : World). objects_in (after w h.entries)) p.start)
       ∙ ap (λ x. summary n (objects_in (after starting h.entries)) x) p.told;
 }
-
--- Its tale, and what was written.
-
-module _ (n : ℕ) (h : History) (text : List ℕ) (tale : List Entry) (d : IsDrilledAs n h text) (ends : tale ≡ h.entries) (lawful : AllLawful h.start tale) where
-  pub is_drilled : IsDrilled n tale
-  is_drilled = record {
-    lawful = subst (λ (w : World). AllLawful w tale) d.start lawful;
-    story = ends ∙ d.story ∙ ap (λ es. lines_story (drill_script n) (outcomes_of es) starting) (sym ends);
-  }
-
-  pub text_is : text ≡ drill_text n tale
-  text_is = d.written ∙ ap (drill_text n) (sym ends)
-
-  module _ {K : Type 0} (written : K → Option (List ℕ)) (faults : K → ℕ) (before now : K) where
-    pub drilled_fine : Appends (written before) (written now) text → faults now ≡ faults before → HasDrilled written faults n Fine before now tale
-    drilled_fine appends same = (is_drilled, subst (λ (x : List ℕ). Appends (written before) (written now) x) text_is appends, same)
-
-    pub drilled_broken : AppendsFront (written before) (written now) text → Rose (faults before) (faults now) → HasDrilled written faults n WriteFault before now tale
-    drilled_broken front rose = (is_drilled, subst (λ (x : List ℕ). AppendsFront (written before) (written now) x) text_is front, rose)

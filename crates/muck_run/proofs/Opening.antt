@@ -5,6 +5,7 @@ use Rattle.std.specs.List.{list_all}
 use Rattle.std.specs.Option.{option_map_or}
 use Rattle.std.proofs.lemmas.List.Folds.{list_all-append}
 use Rattle.std.proofs.lemmas.Bool.Decides.{nat_tests}
+use Rattle.std.proofs.lemmas.Bool.{and_parts}
 use Rattle.muck_links.specs.Keyed.{altered, latest}
 use Rattle.muck_model.specs.declared.event.Entry.{Entry}
 use Rattle.muck_model.specs.declared.event.Event.{Event}
@@ -22,10 +23,6 @@ use Rattle.muck_script.specs.Story.{Dumped, stored, failed, Part, Turn, of_line,
 use Rattle.muck_run.specs.inner.Opens.{opens_within, all_within, asks_within, Opens}
 use Rattle.muck_run.specs.declared.playing.RunFault.{RunFault}
 use Rattle.muck_run.specs.inner.Plays.{Plays, PlaysOrBreaks}
-
-both_true : (a b : Bool) → (a && b) ≡ true → (a ≡ true) × (b ≡ true)
-both_true true b e = (refl, e)
-both_true false b e = absurd cc
 
 within_append : (most : ℕ) (a b : List Entry) → all_within most a ≡ true → all_within most b ≡ true → all_within most (a ++ b) ≡ true
 within_append most a b e f =
@@ -124,7 +121,7 @@ event_more least most event le e = refl
 entries_more : (least most : ℕ) (es : List Entry) → least ≤ most → all_within least es ≡ true → all_within most es ≡ true
 entries_more least most [] le e = refl
 entries_more least most (x ∷ es) le e =
-    let both = both_true (opens_within least x.event) (all_within least es) e in
+    let both = and_parts (opens_within least x.event) (all_within least es) e in
     ap (λ (t : Bool). t && all_within most es) (event_more least most x.event le both.0) ∙ entries_more least most es le both.1
 
 pub opens_more : (least most : ℕ) (h : History) → least ≤ most → Opens least h → Opens most h
@@ -153,7 +150,7 @@ known_talked most w event ts e k = k
 known_on : (most : ℕ) (w : World) (ts : List Talk) (es : List Entry) → all_within most es ≡ true → known most ts ≡ true → known most (talks_on w ts es) ≡ true
 known_on most w ts [] e k = k
 known_on most w ts (x ∷ es) e k =
-    let both = both_true (opens_within most x.event) (all_within most es) e in
+    let both = and_parts (opens_within most x.event) (all_within most es) e in
     known_on most (effect w x) (talked w x.event ts) es both.1 (known_talked most w x.event ts both.0 k)
 
 apart : (n d most : ℕ) → most < d → nat_le n most ≡ true → (n == d) ≡ false
@@ -162,7 +159,7 @@ apart n d most less e = grind (arith, nat_tests)
 not_talking : (most d : ℕ) (ts : List Talk) → most < d → known most ts ≡ true → is_talking d ts ≡ false
 not_talking most d [] less k = refl
 not_talking most d (t ∷ ts) less k =
-    let both = both_true (nat_le t.number most) (known most ts) k in
+    let both = and_parts (nat_le t.number most) (known most ts) k in
     ap (λ (b : Bool). is_open (cond b (Some t) (latest talk_of d ts))) (apart t.number d most less both.0) ∙ not_talking most d ts less both.1
 
 pub nobody_above : (most d : ℕ) (h : History) → Opens most h → AllLawful h.start h.entries → most < d → is_some (connection d (now h)) ≡ false

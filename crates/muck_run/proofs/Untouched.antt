@@ -1,9 +1,7 @@
 -- Disks that nothing was written to.
 use Rattle.std.proofs.Common.{◌≡◌, ℕ, List, refl, sym, subst, ◌∙◌}
-use Rattle.muck_disk.specs.Images.{Elapses, Same}
-use Rattle.muck_log.specs.Store.{LeavesOnly}
 use Rattle.muck_log.proofs.Moments.{started}
-use Rattle.muck_log.proofs.Mounting.{quiet, quiet_too}
+use Rattle.muck_log.proofs.Mounting.{quiet_too}
 use Rattle.muck_run.specs.Outcome.{IsUntouched}
 
 module _ {D : Type 0} (seen : D → List ℕ) (moment : D → ℕ) (images : D → ℕ → List ℕ → Type 0) where
@@ -12,13 +10,6 @@ module _ {D : Type 0} (seen : D → List ℕ) (moment : D → ℕ) (images : D �
   untouched_still old new is =
       subst (λ (d : D). IsUntouched seen moment images old d) (sym is)
       (record { gives = refl; leaves = started moment images old (images old (moment old)) (λ c left. left) })
-
-  -- a call that writes nothing
-  pub untouched_call : (old new : D) → seen new ≡ seen old → Elapses (moment old) (moment new) (images old) (images new) Same → IsUntouched seen moment images old new
-  untouched_call old new same time = record { gives = same; leaves = quiet seen moment images old new time }
-
-  pub untouched_part : (old new : D) → seen new ≡ seen old → LeavesOnly moment images old new (images old (moment old)) → IsUntouched seen moment images old new
-  untouched_part old new same leaves = record { gives = same; leaves = leaves }
 
   pub untouched_on : (old mid new : D) → IsUntouched seen moment images old mid → IsUntouched seen moment images mid new → IsUntouched seen moment images old new
   untouched_on old mid new a b = record { gives = b.gives ∙ a.gives; leaves = quiet_too seen moment images old mid new a.leaves b.leaves }

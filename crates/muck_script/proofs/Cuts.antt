@@ -1,9 +1,9 @@
 -- Lemmas on lines and on reading them.
-use Rattle.std.proofs.Common.{◌≡◌, ℕ, ◌+◌, ◌<◌, ◌≤◌, true, false, not, cond, List, [], ◌∷◌, ◌++◌, length, take, drop, refl, sym, ◌∙◌, ap, arith, suc, append_assoc, Option, Some, None, Result, Ok, Err}
+use Rattle.std.proofs.Common.{◌≡◌, ℕ, ◌+◌, ◌<◌, true, false, not, cond, List, [], ◌∷◌, ◌++◌, length, take, drop, refl, sym, ◌∙◌, ap, arith, suc, append_assoc, Option, Some, None, Result, Ok, Err}
 use Rattle.std.proofs.lemmas.List.{drop-drop}
 use Rattle.std.specs.List.{position_or_len, onto_first}
 use Rattle.muck_script.specs.Lines.{is_line_feed, lines_of}
-use Rattle.std.proofs.lemmas.Bool.{cond-true, cond-false, lt-ltb, le-ltb}
+use Rattle.std.proofs.lemmas.Bool.{cond-true, lt-ltb}
 use Rattle.muck_script.specs.Script.{act_of, with_first, acts_from, acts_of, refused_at, script_most, read_part, script_of}
 use Rattle.muck_script.specs.declared.act.Act.{Act}
 
@@ -85,9 +85,6 @@ length-acts n (line ∷ lines) acts e = first_ok (act_of line) n (acts_from (n +
 
 -- Scripts that are too long, and those that aren't.
 
-pub script_short : (bytes : List ℕ) → length bytes ≤ script_most → script_of bytes ≡ acts_of bytes
-script_short bytes h = cond-false _ _ _ (le-ltb _ _ h)
-
 pub script_long : (bytes : List ℕ) → script_most < length bytes → script_of bytes ≡ refused_at (length (lines_of (read_part bytes))) (acts_of (read_part bytes))
 script_long bytes h = cond-true _ _ _ (lt-ltb _ _ h)
 
@@ -97,7 +94,3 @@ long_last bytes part acts h p e =
     let read : acts_of (read_part bytes) ≡ Ok acts = sym (ap acts_of p) ∙ e in
     let count : length acts ≡ length (lines_of (read_part bytes)) = length-acts 1 (lines_of (read_part bytes)) acts read in
     script_long bytes h ∙ ap (refused_at (length (lines_of (read_part bytes)))) read ∙ ap Err (sym count)
-
--- this line is outside
-pub long_line : (bytes part : List ℕ) (n : ℕ) → script_most < length bytes → part ≡ read_part bytes → acts_of part ≡ Err n → script_of bytes ≡ Err n
-long_line bytes part n h p e = script_long bytes h ∙ ap (refused_at (length (lines_of (read_part bytes)))) (sym (ap acts_of p) ∙ e)

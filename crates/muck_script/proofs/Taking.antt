@@ -1,8 +1,8 @@
 -- A turn, as it is taken.
 use Rattle.std.proofs.Common.{◌≡◌, ℕ, ℤ, Bool, true, false, ◌&&◌, cond, [], ◌∷◌, refl, sym, ◌∙◌, ap, Option, Some, None, Result, Ok, Err}
-use Rattle.std.proofs.lemmas.Bool.{cond-true}
+use Rattle.std.proofs.lemmas.Bool.{cond-true, and_parts}
 use Rattle.std.specs.Prelude.{is_some, OnErr}
-use Rattle.muck_model.specs.declared.event.Event.TheVariants.{Exec, Claim, Slice, Died}
+use Rattle.muck_model.specs.declared.event.Event.TheVariants.{Exec, Claim, Slice}
 use Rattle.spec_events.specs.World.{World}
 use Rattle.spec_events.specs.Steps.{has_claim, is_there, is_lawful, next_ready, next_process}
 use Rattle.spec_events.specs.Histories.{History, now, entered, Grew, by_porter}
@@ -12,7 +12,7 @@ use Rattle.muck_machine.specs.inner.Claims.{slice_event}
 use Rattle.muck_machine.specs.declared.world.Sliced.{Sliced}
 use Rattle.muck_machine.specs.declared.world.Sliced.TheVariants.{Ran, Lost}
 use Rattle.muck_script.specs.Story.{Turn, of_line, chosen, next_turn}
-use Rattle.muck_script.specs.inner.Settling.{entries_of, slice_of, DiedDuring}
+use Rattle.muck_script.specs.inner.Settling.{entries_of, slice_of}
 
 -- no process is to go on
 pub no_slice : (h k : History) → next_process (now h) ≡ None → k ≡ h → Grew h k (entries_of (slice_of (next_process (now h))))
@@ -24,16 +24,12 @@ pub record MayRun (party : ℕ) (w : World) (pid : ℤ) : Type 0 where
   pub claim : has_claim party pid w ≡ true
   pub there : is_there pid w ≡ true
 
-both_true : (a b : Bool) → (a && b) ≡ true → (a ≡ true) × (b ≡ true)
-both_true true b e = (refl, e)
-both_true false b e = cc
-
 pub lawful_runs : (party : ℕ) (w : World) (pid : ℤ) → is_lawful w (record { party = party; event = Slice pid }) ≡ true → MayRun party w pid
 unfolding is_lawful
 lawful_runs party w pid = at w.dead refl where
   at : (dead : Bool) → w.dead ≡ dead → cond dead false (has_claim party pid w && is_there pid w) ≡ true → MayRun party w pid
   at true e l = cc
-  at false e l = let all = both_true (has_claim party pid w) (is_there pid w) l in record { alive = e; claim = all.0; there = all.1 }
+  at false e l = let all = and_parts (has_claim party pid w) (is_there pid w) l in record { alive = e; claim = all.0; there = all.1 }
 
 -- what was claimed may be sliced
 pub may_slice : (h k : History) (pid : ℤ) → next_process (now h) ≡ Some pid → k ≡ entered h (by_porter (Claim pid)) → MayRun 0 (now k) pid
@@ -50,16 +46,6 @@ sliced h k next pid how e claimed ran is =
     grew_as h next (by_porter (Claim pid) ∷ by_porter (Slice pid) ∷ []) _ (ap (λ (o : Option ℤ). entries_of (slice_of o)) (sym e))
     (grew_on h k next _ _ (grew_one h k (by_porter (Claim pid)) claimed) (grew_one k next (by_porter (Slice pid)) (is ∙ ap (λ s. entered k (by_porter (slice_event pid s))) there)))
 
--- memory was wanted in the slice
-pub slice_dies : (h k next : History) (pid : ℤ) → next_process (now h) ≡ Some pid → k ≡ entered h (by_porter (Claim pid)) → next ≡ entered k (by_porter Died) →
-    DiedDuring (entries_of (slice_of (next_process (now h)))) h next
-slice_dies h k next pid e claimed is = record {
-  front = by_porter (Claim pid) ∷ [];
-  rest = by_porter (Slice pid) ∷ [];
-  whole = ap (λ (o : Option ℤ). entries_of (slice_of o)) (sym e);
-  died = grew_on h k next _ _ (grew_one h k (by_porter (Claim pid)) claimed) (grew_one k next (by_porter Died) is);
-}
-
 -- a line is first
 pub line_first : (w : World) (d : ℕ) → next_ready w ≡ Some d → next_turn w ≡ Some (of_line d)
 unfolding next_turn
@@ -67,10 +53,6 @@ line_first w d e = ap (λ (o : Option ℕ). chosen o (next_process w)) e
 
 pub line_taken : (h k : History) (d : ℕ) → next_ready (now h) ≡ Some d → k ≡ entered h (by_porter (Exec d)) → Grew h k (entries_of (next_turn (now h)))
 line_taken h k d e is = grew_as h k (by_porter (Exec d) ∷ []) _ (ap (λ (o : Option Turn). entries_of o) (sym (line_first (now h) d e))) (grew_one h k (by_porter (Exec d)) is)
-
--- memory was wanted in the line
-pub line_dies : (h k : History) → k ≡ entered h (by_porter Died) → DiedDuring (entries_of (next_turn (now h))) h k
-line_dies h k is = record { front = []; rest = entries_of (next_turn (now h)); whole = refl; died = grew_one h k (by_porter Died) is }
 
 chosen_none : (p : Option ℤ) → slice_of p ≡ chosen None p
 chosen_none None = refl

@@ -1,8 +1,7 @@
 -- Entries behind a history that tell nothing of a connection, stop no run, and for which the clock isn't asked: what links and clock told stays true.
-use Rattle.std.proofs.Common.{◌≡◌, inl, inr, ℕ, ◌≤◌, Bool, true, false, List, [], ◌∷◌, ◌++◌, sym, ap, ◌∙◌, subst, arith, append_assoc, Option}
+use Rattle.std.proofs.Common.{◌≡◌, inl, inr, ℕ, ◌≤◌, Bool, true, false, List, [], ◌∷◌, ◌++◌, sym, ap, ◌∙◌, subst, append_assoc, Option}
 use Rattle.std.specs.Prelude.{if◌then◌else◌}
 use Rattle.std.proofs.lemmas.List.{append-nil}
-use Rattle.muck_io.specs.Faults.{Rose}
 use Rattle.muck_links.specs.Sessions.{Session}
 use Rattle.muck_model.specs.declared.event.Entry.{Entry}
 use Rattle.spec_events.specs.World.{World}
@@ -18,6 +17,7 @@ use Rattle.spec_serve.specs.Promises.{Tally, HaltCause, Promised, PromisedOf}
 use Rattle.muck_peer.specs.Moves.{IsUntimed}
 use Rattle.muck_porter.specs.inner.Kept.{Account}
 use Rattle.muck_porter.specs.Times.{Timely}
+use Rattle.muck_porter.proofs.InRounds.{rose_since}
 use Rattle.muck_crew.specs.Shared.{LeavesWorkedOff}
 
 pub record TellsNothing (e : Entry) : Type 0 where
@@ -70,9 +70,6 @@ module _ (shows : Bool) (before now : Account) (stopped : Type 0) (counted : Lin
   }
 
 -- What was told since listening began is so since before it.
-
-pub rose_since : (a b c : ℕ) → a ≤ b → Rose b c → Rose a c
-rose_since a b c le rose = omega (arith, le, rose)
 
 halt_since : (b b' k : Tally) (w : World) → b.listening ≤ b'.listening → HaltCause b' k w → HaltCause b k w
 halt_since b b' k w later (inl rose) = inl (rose_since b.listening b'.listening k.listening later rose)

@@ -1,6 +1,7 @@
 -- Where listening fails at once: the world is halted, the first party sees that, and makes the last dump.
-use Rattle.std.proofs.Common.{◌≡◌, inl, ℕ, Bool, true, false, cond, ◌&&◌, List, [], ◌∷◌, ◌++◌, refl, sym, ap, ◌∙◌, subst, arith, Option, Some, None}
+use Rattle.std.proofs.Common.{◌≡◌, inl, ℕ, Bool, true, false, cond, ◌&&◌, List, [], ◌∷◌, ◌++◌, refl, sym, ap, ◌∙◌, subst, arith, Option, None}
 use Rattle.std.specs.Prelude.{is_none}
+use Rattle.std.proofs.lemmas.Option.{none-some}
 use Rattle.muck_io.specs.Faults.{Rose}
 use Rattle.muck_links.specs.Sessions.{Told, ListenAs}
 use Rattle.muck_links.specs.declared.links.Listened.{Listened}
@@ -105,12 +106,9 @@ module _ (before later : Account) (w : World) (same : later.links.told.sessions 
   unfolding talks
   promised = record { mine = []; extra = []; whole = same; single = inl refl; agree = tt; halts = λ i v at. inl rose }
 
-  none_some : {X : Type 0} (x : X) → None ≡ Some x → ⊥
-  none_some x e = cc
-
   worked_off : LeavesWorkedOff None w tale later.links
   unfolding talks
-  worked_off = (by_porter Halt ∷ [], [], refl, λ d t there still. absurd (none_some t there))
+  worked_off = (by_porter Halt ∷ [], [], refl, λ d t there still. absurd (none-some t there))
 
 timely : (a : Option (List ℕ)) (w : World) → Timely a a w tale
 timely a w = (a, refl, (a, refl, refl))

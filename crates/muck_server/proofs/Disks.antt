@@ -13,7 +13,7 @@ use Rattle.muck_dumping.specs.inner.Dumps.{Dumps, IsFull, IsDumpFault}
 use Rattle.muck_crew.specs.inner.Finished.{why_by, HasDump}
 use Rattle.muck_crew.specs.declared.why.Why.{Why}
 use Rattle.muck_crew.specs.declared.why.Why.TheVariants.{Fine, NoMemory, DiskFault, Damaged, StoreFull, Spent}
-use Rattle.muck_server.proofs.Behind.{rose_since}
+use Rattle.muck_porter.proofs.InRounds.{rose_since}
 
 -- Which answers come of which last dump.
 

@@ -10,7 +10,7 @@ use Rattle.muck_model.specs.declared.note.Note.{Note}
 use Rattle.spec_events.specs.World.{World}
 use Rattle.spec_events.specs.Steps.{effect}
 use Rattle.spec_events.specs.Histories.{History, after, entered, noted, Longer, by_porter}
-use Rattle.spec_events.proofs.Runs.{after-append, longer_one, longer_noted, longer_on, longer_nothing}
+use Rattle.spec_events.proofs.Runs.{after-append, longer_one, longer_noted, longer_on}
 use Rattle.muck_dumping.specs.inner.Dumps.{by, HasDumped, Dies, first as died_first, begun as died_begun, cut as died_cut, ending as died_ending}
 use Rattle.muck_server.specs.Served.{last_dump, IsLast}
 use Rattle.muck_server.proofs.Behind.{TellsNothing, AllTellNothing}
@@ -20,9 +20,6 @@ pub record Behind (h k : History) (es : List Entry) : Type 0 where
   pub longer : Longer h k es
   pub since : List Note
   pub noted : k.notes ≡ h.notes ++ since
-
-pub behind_nothing : (h k : History) → k ≡ h → Behind h k []
-behind_nothing h k is = record { longer = longer_nothing h k is; since = []; noted = ap (λ (x : History). x.notes) is ∙ sym (append-nil h.notes) }
 
 pub behind_one : (h k : History) (e : Entry) → k ≡ entered h e → Behind h k (e ∷ [])
 behind_one h k e is = record { longer = longer_one h k e is; since = []; noted = ap (λ (x : History). x.notes) is ∙ sym (append-nil h.notes) }

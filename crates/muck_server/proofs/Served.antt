@@ -17,6 +17,7 @@ use Rattle.muck_dumping.specs.inner.Between.{IsReady as HasLog}
 use Rattle.muck_dumping.specs.inner.Dumps.{by}
 use Rattle.muck_porter.specs.inner.Kept.{Account}
 use Rattle.muck_porter.specs.Times.{Timely}
+use Rattle.muck_porter.proofs.InRounds.{rose_since}
 use Rattle.muck_crew.specs.Shared.{IsParty, IsShared, EndsStopped}
 use Rattle.muck_crew.specs.inner.Finished.{why_by, HasDump, IsFinish}
 use Rattle.muck_crew.specs.declared.serving.Way.{Way}
@@ -27,7 +28,7 @@ use Rattle.muck_crew.specs.inner.Runs.{IsFresh, HasRun, HasStopped as AllStopped
 use Rattle.muck_crew.specs.inner.Wholes.{HasServed}
 use Rattle.muck_server.specs.Served.{IsServed, HasEnded, HasStopped}
 use Rattle.spec_serve.proofs.Promising.{promised_by_number}
-use Rattle.muck_server.proofs.Behind.{Heard, heard_behind, rose_since, promised_since}
+use Rattle.muck_server.proofs.Behind.{Heard, heard_behind, promised_since}
 use Rattle.muck_server.proofs.Sharing.{at_more, first_is, dumper_is, porter_stopped, dumper_stopped, last_shared}
 use Rattle.muck_server.proofs.Dumped.{Made, made_of, is_last, last_tells_nothing, tells_died, dead_behind}
 use Rattle.muck_server.proofs.Ended.{ended_by}

@@ -3,6 +3,7 @@ use Rattle.std.proofs.Common.{◌≡◌, inl, inr, ℕ, zero, suc, Bool, true, f
 use Rattle.std.specs.Prelude.{◌==◌, if◌then◌else◌, slice_get, is_some}
 use Rattle.std.specs.Option.{option_and_then}
 use Rattle.std.proofs.lemmas.List.{append-nil}
+use Rattle.std.proofs.lemmas.Option.{none-some, same_Some}
 use Rattle.turn_lock.specs.Histories.{kept, own_of}
 use Rattle.turn_lock.proofs.Parts.{own_append}
 use Rattle.muck_model.specs.declared.event.Entry.{Entry}
@@ -35,16 +36,10 @@ done_other : (q p : ℕ) (tale : List Entry) (event : Event) → (p == q) ≡ fa
 done_other q p tale event other =
     done_one q p tale event ∙ ap (λ (b : Bool). done_by q tale ++ map (λ (e : Entry). e.event) (kept b (by p event) [])) other ∙ append-nil (done_by q tale)
 
-none_some : {X : Type 0} (x : X) → None ≡ Some x → ⊥
-none_some x e = cc
-
-same_entry : (a b : Entry) → Some a ≡ Some b → a ≡ b
-same_entry a b e = cc
-
 known_one : (workers : ℕ) (tale : List Entry) (e : Entry) → IsParty workers e.party → ((i : ℕ) (x : Entry) → slice_get tale i ≡ Some x → IsParty workers x.party)
     → (i : ℕ) (x : Entry) → slice_get (tale ++ e ∷ []) i ≡ Some x → IsParty workers x.party
-known_one workers [] e is all zero x at = subst (λ (y : Entry). IsParty workers y.party) (same_entry e x at) is
-known_one workers [] e is all (suc i) x at = absurd (none_some x at)
+known_one workers [] e is all zero x at = subst (λ (y : Entry). IsParty workers y.party) (same_Some e x at) is
+known_one workers [] e is all (suc i) x at = absurd (none-some x at)
 known_one workers (t ∷ tale) e is all zero x at = all 0 x at
 known_one workers (t ∷ tale) e is all (suc i) x at = known_one workers tale e is (λ j y there. all (suc j) y there) i x at
 
@@ -73,7 +68,7 @@ at_more workers p tale event stage later is may a =
 -- nothing was done yet
 pub at_first : (workers p : ℕ) → At workers p Stage.unbound []
 unfolding stage_of
-at_first workers p = record { shared = record { known = λ i x at. absurd (none_some x at); own = λ q q_is. refl }; stage_is = refl }
+at_first workers p = record { shared = record { known = λ i x at. absurd (none-some x at); own = λ q q_is. refl }; stage_is = refl }
 
 -- The stop.
 

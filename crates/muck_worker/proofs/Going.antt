@@ -1,34 +1,29 @@
 -- From turn to turn.
-use Rattle.std.proofs.Common.{◌≡◌, ℕ, ℤ, ◌<◌, ◌≤◌, ◌^◌, Bool, true, false, ◌==◌, List, [], ◌∷◌, ◌++◌, map, length, refl, sym, ◌∙◌, ap, subst, arith, append-nil, append_assoc, Option, Some, None}
+use Rattle.std.proofs.Common.{◌≡◌, ℕ, ℤ, Bool, true, false, ◌==◌, List, [], ◌∷◌, ◌++◌, refl, sym, ◌∙◌, ap, subst, arith, append-nil, append_assoc, Some}
 use Rattle.std.proofs.lemmas.Bool.Decides.{nat_tests}
 use Rattle.turn_lock.specs.Histories.{StartsWith, kept, own_of}
 use Rattle.muck_model.specs.declared.event.Entry.{Entry}
 use Rattle.muck_model.specs.declared.event.Event.{Event}
-use Rattle.muck_model.specs.declared.event.Event.TheVariants.{Claim, StopSeen, Died}
+use Rattle.muck_model.specs.declared.event.Event.TheVariants.{Claim}
 use Rattle.spec_events.specs.declared.logged.Logged.{Logged}
-use Rattle.spec_events.specs.World.{World}
 use Rattle.spec_events.specs.Histories.{History, now, after, AllLawful}
 use Rattle.spec_events.specs.Steps.{has_claim}
 use Rattle.spec_events.specs.Logged.{is_dump, logged, logged_by, bare_item, entries_of, events_of, NoNotes, NoCounts, IsOrderly}
-use Rattle.spec_events.specs.Own.{Stage, next, stage_of, IsWellFormed}
+use Rattle.spec_events.specs.Own.{Stage, next, stage_of}
 use Rattle.spec_events.proofs.Logging.{entries_logged, entries_append, events_append, no_notes_one, no_counts_one, orderly_bare}
 use Rattle.spec_events.proofs.Owning.{stage_more, well_formed}
 use Rattle.spec_claims.specs.inner.Claims.{AreOthers}
 use Rattle.spec_claims.proofs.Staying.{claim_stays}
-use Rattle.muck_machine.specs.inner.Seats.{Sight, Chair, Rests, Left, Waited, SameLists, Turned}
-use Rattle.muck_machine.proofs.Seating.{others_none, left_rests, waited_lists}
-use Rattle.muck_worker.specs.declared.working.Why.TheVariants.{Fine, NoMemory, Spent}
+use Rattle.muck_machine.specs.inner.Seats.{Sight, Chair, Rests, Waited, SameLists, Turned}
+use Rattle.muck_machine.proofs.Seating.{others_none, left_rests, none_or_more, seen_later}
+use Rattle.muck_worker.specs.declared.working.Why.TheVariants.{Fine, NoMemory}
 use Rattle.muck_worker.specs.declared.deeds.Task.{Task}
 use Rattle.muck_worker.specs.declared.deeds.Task.TheVariants.{Work, Slice, End}
-use Rattle.muck_worker.specs.declared.deeds.Did.{Did}
 use Rattle.muck_worker.specs.declared.deeds.Did.TheVariants.{Over, Failed}
 use Rattle.muck_worker.specs.inner.Working.{WorkerReady, WorkerDone}
-use Rattle.muck_worker.specs.inner.Deeds.{by, stage_for, stage_after, IsClaimed, DidAs, IsOpen, IsHeld, Works}
+use Rattle.muck_worker.specs.inner.Deeds.{by, stage_for, IsClaimed, DidAs, IsOpen, IsHeld, Works}
 
 -- A claim that is held.
-
-none_or_more : (l : Logged) (ls : List Logged) → ◌≡◌ {A = List Logged} (l ∷ ls) [] → ⊥
-none_or_more l ls e = cc
 
 others_are : (p : ℕ) (ls : List Logged) → own_of logged_by p ls ≡ [] → AreOthers p (entries_of ls)
 others_are p [] none = tt
@@ -72,9 +67,6 @@ pub bare_orderly : (party : ℕ) (event : Event) → is_dump event ≡ false →
 bare_orderly party event other = orderly_bare (by party event) (λ dump. absurd (let both : ◌≡◌ {A = Bool} true false = sym dump ∙ other in cc))
 
 -- The list of a seat grows.
-
-seen_later : (a b c : List Logged) → StartsWith b a → StartsWith c b → StartsWith c a
-seen_later a b c p q = (p.0 ++ q.0, q.1 ∙ ap (λ (ls : List Logged). ls ++ q.0) p.1 ∙ append_assoc a p.0 q.0)
 
 seen_turned : (v v' : Sight) (l : Logged) → Turned v v' l → StartsWith v'.seen v.seen
 seen_turned v v' l t = (t.others ++ l ∷ [], t.seen ∙ append_assoc v.seen t.others (l ∷ []))
@@ -154,19 +146,6 @@ module _ (party : ℕ) (me : Chair) where
         dead = λ e. (now_me.0.own, t.own ∙ ap (λ (x : Event). now_me.0.own ++ bare_item (by party x) ∷ []) did.1);
         spent = λ e. cc;
       }
-
-    pub done_spent : Left party later_me → Waited now_me.0 later_me.0 → 2 ^ 62 ≤ length later_me.0.seen → WorkerDone Spent party me later_me
-    done_spent left waited many = record {
-      left = left;
-      lists = same_later me.0 now_me.0 later_me.0 w.lists (waited_lists now_me.0 later_me.0 waited);
-      seen = seen_later me.0.seen now_me.0.seen later_me.0.seen w.seen waited.0;
-      formed = subst (λ (ls : List Logged). IsWellFormed party (events_of ls)) (sym waited.1) (well_formed party (events_of now_me.0.own) (stage_for task) w.stage);
-      notes = subst NoNotes (sym waited.1) w.notes;
-      counts = subst NoCounts (sym waited.1) w.counts;
-      fine = λ e. cc;
-      dead = λ e. cc;
-      spent = λ e. many;
-    }
 
 -- a claim is the last thing that the seat has seen
 held_claim : (party : ℕ) (pid : ℤ) (v v' : Sight) (event : Event) → event ≡ Claim pid → Turned v v' (bare_item (by party event)) → IsHeld party (Slice pid) v'

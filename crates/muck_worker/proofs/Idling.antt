@@ -1,15 +1,15 @@
 -- A party idles where there is nothing for it to do.
-use Rattle.std.proofs.Common.{◌≡◌, ℕ, ℤ, ◌<◌, Bool, true, false, not, ◌&&◌, ◌||◌, ◌==◌, cond, nat_lt, List, [], ◌∷◌, refl, sym, ◌∙◌, ap, arith, Option, Some, None}
-use Rattle.std.specs.Prelude.{find, fold}
+use Rattle.std.proofs.Common.{◌≡◌, ℕ, ◌<◌, Bool, true, false, not, ◌&&◌, ◌||◌, ◌==◌, cond, List, [], ◌∷◌, refl, sym, ◌∙◌, ap, Option, Some, None}
+use Rattle.std.specs.Prelude.{find}
 use Rattle.std.specs.List.{filter, reduce, list_any}
 use Rattle.std.specs.Option.{option_map}
-use Rattle.std.proofs.lemmas.Bool.{cond-false, cond-true, lt-ltb}
+use Rattle.std.proofs.lemmas.Bool.{cond-false, lt-ltb}
 use Rattle.muck_model.specs.declared.event.Event.TheVariants.{Idle}
 use Rattle.spec_live.specs.Connections.{Connection}
 use Rattle.muck_queue.specs.declared.process.Process.{Process}
-use Rattle.muck_queue.specs.Queues.{Queue, is_due, earlier, earliest, next_due}
+use Rattle.muck_queue.specs.Queues.{is_due, earlier, earliest, next_due}
 use Rattle.spec_events.specs.World.{World}
-use Rattle.spec_events.specs.Steps.{is_free, has_line, has_due, is_dump_due, may_idle, is_lawful, next_ready, next_process}
+use Rattle.spec_events.specs.Steps.{is_free, has_line, has_due, is_dump_due, is_lawful, next_ready, next_process}
 use Rattle.muck_worker.specs.inner.Deeds.{by}
 
 found_none : {X : Type 0} (test : X → Bool) (xs : List X) → find test xs ≡ None → list_any test xs ≡ false

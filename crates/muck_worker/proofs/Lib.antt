@@ -1,3 +1,2 @@
 pub mod Idling
-pub mod Staging
 pub mod Going

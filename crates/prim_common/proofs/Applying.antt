@@ -1,5 +1,5 @@
 -- How the tests of a primitive, its row and what it makes come together.
-use Rattle.std.proofs.Common.{◌≡◌, ◌≤◌, ◌<◌, ◌+◌, ℕ, Bool, true, false, List, ◌++◌, length, take, drop, Option, Some, None, Result, Ok, Err, refl, sym, ap, ◌∙◌, subst, arith, inl, inr}
+use Rattle.std.proofs.Common.{◌≡◌, ◌≤◌, ◌<◌, ℕ, false, List, ◌++◌, length, take, drop, Option, Some, None, Result, Ok, Err, refl, sym, ap, ◌∙◌, subst, arith, inl, inr}
 use Rattle.std.specs.Prelude.{is_some}
 use Rattle.std.proofs.lemmas.Bool.{cond-true, cond-false, lt-ltb, le-ltb}
 use Rattle.std.proofs.lemmas.List.{length-take}
@@ -26,6 +26,13 @@ use Rattle.prim_common.specs.inner.Applied.{Untouched, Applied, Makes, Given, it
 use Rattle.prim_common.specs.declared.made.Made.{Made}
 use Rattle.prim_common.specs.inner.Tests.{Passes}
 use Rattle.prim_common.proofs.First.{first_none}
+
+-- After want of memory nothing is said of a row.
+
+pub wants : (row : Row) (old new : Guard) → Same old new → Makes row old new (Err NoMemory)
+wants (gives items w) old new h = h
+wants (refuses f) old new h = h
+wants (breaks f w) old new h = h
 
 -- A row behind the tests.
 

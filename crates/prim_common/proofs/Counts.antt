@@ -1,8 +1,8 @@
 -- How many items needs name.
-use Rattle.std.proofs.Common.{◌≡◌, ℕ, zero, suc, ◌+◌, ◌*◌, ◌<◌, ◌≤◌, List, [], ◌∷◌, ◌++◌, length, drop, cond, Bool, true, false, Option, Some, None, refl, sym, ap, ◌∙◌, arith}
+use Rattle.std.proofs.Common.{◌≡◌, ℕ, zero, suc, ◌+◌, ◌*◌, ◌<◌, ◌≤◌, List, [], ◌∷◌, ◌++◌, length, drop, cond, Bool, true, Option, Some, None, refl, sym, ap, ◌∙◌, arith}
 use Rattle.std.specs.Prelude.{ℤ, pos, negsuc, nat_lt, ◌&&◌}
 use Rattle.std.proofs.lemmas.List.{length-append, length-map, append-nil}
-use Rattle.std.proofs.lemmas.Bool.{ltb-true}
+use Rattle.std.proofs.lemmas.Bool.{ltb-true, and_parts}
 use Rattle.std.proofs.lemmas.Nat.{mul-le}
 use Rattle.std.proofs.Math.Nat.{zero-mul, suc-mul}
 use Rattle.std.specs.Option.{option_or}
@@ -103,19 +103,15 @@ table_few : (p : Primitive) → is_few (needs_of p) ≡ true
 table_few Pop = refl
 table_few _ = refl
 
-both : (a b : Bool) → a && b ≡ true → (a ≡ true) × (b ≡ true)
-both true b h = (refl, h)
-both false b h = absurd cc
-
 short_list : (needs : List Need) → is_short needs ≡ true → length needs ≤ 64
 short_list needs h = omega (arith, ltb-true (length needs) 65 h)
 
 counted_few : (many : Option Many) → is_counted_short many ≡ true → FewCounted many
 counted_few None h = tt
-counted_few (Some m) h = (let e = both (is_short m.each) (is_short m.under) h in (short_list m.each e.0, short_list m.under e.1))
+counted_few (Some m) h = (let e = and_parts (is_short m.each) (is_short m.under) h in (short_list m.each e.0, short_list m.under e.1))
 
 few : (needs : Needs) → is_few (Some needs) ≡ true → AreFew needs
-few needs h = (let e = both (is_short needs.fixed) (is_counted_short needs.many) h in (short_list needs.fixed e.0, counted_few needs.many e.1))
+few needs h = (let e = and_parts (is_short needs.fixed) (is_counted_short needs.many) h in (short_list needs.fixed e.0, counted_few needs.many e.1))
 
 pub needs_few : (p : Primitive) (needs : Needs) → needs_of p ≡ Some needs → AreFew needs
 needs_few p needs e = few needs (sym (ap is_few e) ∙ table_few p)

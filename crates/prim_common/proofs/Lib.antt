@@ -5,3 +5,4 @@ mod Faults
 mod First
 mod Giving
 mod Walks
+pub mod Inside

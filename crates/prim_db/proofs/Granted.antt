@@ -7,7 +7,6 @@ use Rattle.muck_lock.specs.Grammar.{lock_of}
 use Rattle.spec_live.specs.declared.fault.DbFault.{DbFault}
 use Rattle.spec_live.specs.declared.fault.DbFault.TheVariants.{NoMemory as WantsMemory, WorldFull as NoRoom}
 use Rattle.spec_live.specs.Making.{create_check}
-use Rattle.spec_live.specs.Objects.{dbref_of}
 use Rattle.spec_live.specs.Lives.{Change}
 use Rattle.spec_rights.specs.declared.act.Act.{Act}
 use Rattle.spec_rights.specs.declared.act.Act.TheVariants.{Change as ChangeAct}
@@ -25,24 +24,19 @@ use Rattle.muf_model.specs.inner.View.{view}
 use Rattle.muf_frame.specs.declared.fault.PrimFault.{PrimFault}
 use Rattle.muf_frame.specs.declared.fault.PrimFault.TheVariants.{Fault, NoMemory}
 use Rattle.muck_perm.specs.declared.guard.Guard.{Guard}
-use Rattle.muck_perm.specs.inner.Guards.{Same, Done, Founds, objects_of, world_of}
+use Rattle.muck_perm.specs.inner.Guards.{Done, Founds, objects_of, world_of}
 use Rattle.muck_perm.proofs.Worlds.{same_as}
 use Rattle.spec_prims.specs.Asking.{fault_of}
-use Rattle.spec_prims.specs.Row.{Row, gives, refuses, breaks, unless}
+use Rattle.spec_prims.specs.Row.{Row, gives, refuses, unless}
 use Rattle.spec_prims.specs.ObjectWrites.{changed, given_made, key_kept_of, lock_kept, locked_by, made_so, new_made}
 use Rattle.prim_common.specs.inner.Applied.{Makes}
 use Rattle.prim_common.specs.declared.made.Made.{Made}
 use Rattle.prim_common.specs.declared.made.Made.TheVariants.{Nothing, One}
+use Rattle.prim_common.proofs.Applying.{wants}
 use Rattle.prim_db.specs.inner.Changed.{IsMade, Leaves}
 
--- after want of memory nothing is said of a row
-wants_in : (row : Row) (old new : Guard) → Same old new → Makes row old new (Err NoMemory)
-wants_in (gives items w) old new h = h
-wants_in (refuses e) old new h = h
-wants_in (breaks e w) old new h = h
-
 pub wants_made : (row : Row) (old new : Guard) → new ≡ old → Makes row old new (Err NoMemory)
-wants_made row old new e = wants_in row old new (same_as old new e)
+wants_made row old new e = wants row old new (same_as old new e)
 
 -- a test before a row
 

@@ -1,14 +1,12 @@
 -- The rows of the family, by whether they find something or change objects.
-use Rattle.std.proofs.Common.{◌≡◌, List, Bool, true, false, Option, Some, None, refl, ap}
+use Rattle.std.proofs.Common.{◌≡◌, List, false, Option, Some, None, refl, ap}
 use Rattle.std.specs.Prelude.{is_some, option_map}
 use Rattle.std.specs.Option.{option_or}
 use Rattle.spec_live.specs.Lives.{Live}
 use Rattle.spec_rights.specs.declared.act.Actor.{Actor}
-use Rattle.muf_model.specs.declared.fault.MufFault.{MufFault}
 use Rattle.muf_model.specs.declared.prims.Primitive.{Primitive}
 use Rattle.muf_model.specs.declared.prims.Primitive.TheVariants.{HasFlag, MoveTo, SetLink, SetOwn, Recycle, SetName, Set, SetLockStr, NewRoom, NewObject, NewExit}
 use Rattle.muf_model.specs.Datum.{Datum}
-use Rattle.spec_prims.specs.Row.{Doing}
 use Rattle.spec_prims.specs.ObjectRows.{Finding, finding_of, finds, misasked, object_row}
 use Rattle.spec_prims.specs.ObjectWrites.{writing_row}
 use Rattle.prim_common.specs.inner.Applied.{argued_of}

@@ -1,11 +1,11 @@
 -- What evaluating a formula makes.
-use Rattle.std.proofs.Common.{◌≡◌, ℕ, ℤ, List, [], ◌∷◌, take, drop, Some, None, refl, sym, ap, ◌∙◌, subst}
+use Rattle.std.proofs.Common.{◌≡◌, ℕ, ℤ, List, [], ◌∷◌, take, drop, Some, refl, sym, ap, ◌∙◌, subst}
 use Rattle.std.specs.Prelude.{Result, Ok, Err}
+use Rattle.std.proofs.lemmas.Option.{same_Some}
 use Rattle.muck_model.specs.declared.dbref.Dbref.{Dbref}
 use Rattle.spec_live.specs.Lives.{Live}
 use Rattle.spec_rights.specs.declared.act.Actor.{Actor}
 use Rattle.spec_commands.specs.Finding.{actor_of}
-use Rattle.mpi.specs.declared.fault.MpiFault.{MpiFault}
 use Rattle.mpi.specs.declared.fault.MpiFault.TheVariants.{Unclosed, UnknownFunction, BadCount, BadValue, TooManyCommands, TooLong, Denied, NoMemory as WantsMemory}
 use Rattle.mpi.specs.Hosting.{Means, IfMemory}
 use Rattle.mpi.specs.Variables.{Variables}
@@ -16,13 +16,12 @@ use Rattle.muf_frame.specs.declared.fault.PrimFault.{PrimFault}
 use Rattle.muf_frame.specs.declared.fault.PrimFault.TheVariants.{Fault, NoMemory}
 use Rattle.muck_perm.specs.declared.guard.Guard.{Guard}
 use Rattle.muck_perm.specs.inner.Guards.{Same, objects_of, world_of}
-use Rattle.spec_prims.specs.Row.{Row, gives, refuses, breaks}
 use Rattle.spec_prims.specs.Formulas.{answered, parsed, parse_done}
 use Rattle.prim_common.specs.inner.Applied.{Makes}
 use Rattle.prim_common.specs.declared.made.Made.{Made}
+use Rattle.prim_common.proofs.Applying.{wants}
 use Rattle.prim_prop.specs.inner.Asked.{named_in, added_by}
 use Rattle.prim_prop.specs.inner.Parsed.{IsAnswered}
-use Rattle.prim_prop.proofs.Steps.{wants}
 
 -- what was meant is made, and its world is there
 answered_so : (meant answer : Answer) (v : Live) (old new : Guard) (result : Result Made PrimFault) → Means meant answer → IfMemory answer (world_of new ≡ v) → new.actor ≡ old.actor → Same old new → IsAnswered answer result →
@@ -61,13 +60,9 @@ evaluated_so old after new this how formula vars answer result v m w same is s =
     subst (λ (g : Guard). Makes (answered (heard a this formula (variables_of how [] []) (world_of old)).0 (heard a this formula (variables_of how [] []) (world_of old)).1) old g result) (sym is)
     (subst (λ (vs : Variables). Makes (answered (heard a this formula vs (world_of old)).0 (heard a this formula vs (world_of old)).1) old fresh result) v there)
 
--- what it takes
-some_is : {A : Type 0} (a b : A) → Some a ≡ Some b → a ≡ b
-some_is a b e = cc
-
 pub parsed_so : (a : Actor) (stack : List Datum) (w : Live) (n : ℤ) (how : List ℕ) (d : ℤ) (formula : List ℕ) → added_by stack ≡ Some (n, how) → named_in (drop 2 stack) ≡ Some (d, formula) → parse_done a (take 4 stack) w ≡ parsed a how formula d w
 parsed_so a (int m ∷ text u ∷ text s ∷ object o ∷ rest) w n how d formula f e =
-    ap (λ (q : ℤ × List ℕ). parsed a u q.1 q.0 w) (some_is (o, s) (d, formula) e) ∙ ap (λ (q : ℤ × List ℕ). parsed a q.1 formula d w) (some_is (m, u) (n, how) f)
+    ap (λ (q : ℤ × List ℕ). parsed a u q.1 q.0 w) (same_Some (o, s) (d, formula) e) ∙ ap (λ (q : ℤ × List ℕ). parsed a q.1 formula d w) (same_Some (m, u) (n, how) f)
 parsed_so a stack w n how d formula f e = absurd (cc)
 
 pub ruleset parsing_steps = (evaluated_so, parsed_so)

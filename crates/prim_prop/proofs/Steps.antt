@@ -22,14 +22,15 @@ use Rattle.muf_model.specs.Datum.{Datum, text}
 use Rattle.muf_frame.specs.declared.fault.PrimFault.{PrimFault}
 use Rattle.muf_frame.specs.declared.fault.PrimFault.TheVariants.{Fault, NoMemory}
 use Rattle.muck_perm.specs.declared.guard.Guard.{Guard}
-use Rattle.muck_perm.specs.inner.Guards.{Same, Done, Tries, Makes as Changes, objects_of, world_of}
+use Rattle.muck_perm.specs.inner.Guards.{Done, Tries, Makes as Changes, objects_of, world_of}
 use Rattle.muck_perm.proofs.Worlds.{kept_itself, same_as}
 use Rattle.spec_prims.specs.Asking.{numbered, fault_of}
-use Rattle.spec_prims.specs.Row.{Row, gives, refuses, breaks, unless}
+use Rattle.spec_prims.specs.Row.{Row, gives, refuses, unless}
 use Rattle.spec_prims.specs.PropRows.{at_path, looked, sought, begins, next_read, walked, removed, first_holder, put_at}
 use Rattle.prim_common.specs.declared.made.Made.{Made}
 use Rattle.prim_common.specs.declared.made.Made.TheVariants.{Nothing}
 use Rattle.prim_common.specs.inner.Applied.{Makes, items_of}
+use Rattle.prim_common.proofs.Applying.{wants}
 use Rattle.prim_prop.specs.inner.Asked.{IsWritten, named_in}
 use Rattle.prim_prop.specs.declared.walking.Start.{Start}
 use Rattle.prim_prop.specs.inner.Walks.{Starts, begun}
@@ -39,11 +40,6 @@ use Rattle.prim_prop.proofs.Taken.{looked_at, sought_at, walked_at, removed_at}
 
 pub refused : (row : Row) (g : Guard) (f : MufFault) → row ≡ refuses f → Makes row g g (Err (Fault f))
 refused row g f e = subst (λ r. Makes r g g (Err (Fault f))) (sym e) (refl, refl)
-
-pub wants : (row : Row) (old new : Guard) → Same old new → Makes row old new (Err NoMemory)
-wants (gives items w) old new h = h
-wants (refuses f) old new h = h
-wants (breaks f w) old new h = h
 
 pub made_items : (row : Row) (g : Guard) (items : List Datum) (made : Made) → row ≡ gives items (world_of g) → items_of made ≡ items → Makes row g g (Ok made)
 made_items row g items made e is = subst (λ r. Makes r g g (Ok made)) (sym e) (is, refl, kept_itself g)

@@ -2,6 +2,7 @@
 use Rattle.std.proofs.Common.{◌≡◌, ℕ, zero, suc, ◌+◌, List, [], ◌∷◌, take, drop, Option, Some, None, refl, ap, sym, ◌∙◌, add-one}
 use Rattle.std.specs.Prelude.{ℤ}
 use Rattle.std.specs.Option.{option_map_or}
+use Rattle.std.proofs.lemmas.Option.{same_Some}
 use Rattle.muck_prop.specs.declared.value.PropValue.{PropValue}
 use Rattle.muck_prop.specs.declared.value.PropValue.TheVariants.{Text, Number}
 use Rattle.muck_prop.specs.Paths.{path_fault, path_text, segments_of}
@@ -16,9 +17,6 @@ use Rattle.spec_prims.specs.Asking.{numbered}
 use Rattle.spec_prims.specs.Row.{gives}
 use Rattle.spec_prims.specs.PropRows.{at_path, seen_at, looked, first_holder, sought, next_read, begins, name_fault, walked, written_at, put_at, put, text_or, added, removed}
 use Rattle.prim_prop.specs.inner.Asked.{named_in, stored_by, added_by}
-
-some_is : {A : Type 0} (a b : A) → Some a ≡ Some b → a ≡ b
-some_is a b e = cc
 
 -- what stands there, by its parts
 
@@ -60,35 +58,35 @@ pub ruleset named_steps = (named_none, named_alone, named_both)
 
 pub looked_at : (look : Option Object → List (List ℕ) → Datum) (a : Actor) (stack : List Datum) (w : Live) (d : ℤ) (t : List ℕ) → named_in stack ≡ Some (d, t) → looked look a (take 2 stack) w ≡ at_path (path_fault t) (seen_at look a (segments_of t) (numbered d) w)
 looked_at look a (text u ∷ object o ∷ rest) w d t e =
-    ap (λ (q : ℤ × List ℕ). at_path (path_fault q.1) (seen_at look a (segments_of q.1) (numbered q.0) w)) (some_is (o, u) (d, t) e)
+    ap (λ (q : ℤ × List ℕ). at_path (path_fault q.1) (seen_at look a (segments_of q.1) (numbered q.0) w)) (same_Some (o, u) (d, t) e)
 looked_at look a stack w d t e = absurd (cc)
 
 pub sought_at : (shown : Option PropValue → Datum) (a : Actor) (stack : List Datum) (w : Live) (d : ℤ) (t : List ℕ) → named_in stack ≡ Some (d, t) →
     sought shown a (take 2 stack) w ≡ at_path (path_fault t) (first_holder shown a (segments_of t) (numbered d ∷ places_of w.objects (numbered d)) w)
 sought_at shown a (text u ∷ object o ∷ rest) w d t e =
-    ap (λ (q : ℤ × List ℕ). at_path (path_fault q.1) (first_holder shown a (segments_of q.1) (numbered q.0 ∷ places_of w.objects (numbered q.0)) w)) (some_is (o, u) (d, t) e)
+    ap (λ (q : ℤ × List ℕ). at_path (path_fault q.1) (first_holder shown a (segments_of q.1) (numbered q.0 ∷ places_of w.objects (numbered q.0)) w)) (same_Some (o, u) (d, t) e)
 sought_at shown a stack w d t e = absurd (cc)
 
 pub walked_at : (a : Actor) (stack : List Datum) (w : Live) (d : ℤ) (t : List ℕ) → named_in stack ≡ Some (d, t) →
     walked a (take 2 stack) w ≡ at_path (name_fault t) (gives (text (option_map_or path_text (next_read a (numbered d) (begins t) w) []) ∷ []) w)
 walked_at a (text u ∷ object o ∷ rest) w d t e =
-    ap (λ (q : ℤ × List ℕ). at_path (name_fault q.1) (gives (text (option_map_or path_text (next_read a (numbered q.0) (begins q.1) w) []) ∷ []) w)) (some_is (o, u) (d, t) e)
+    ap (λ (q : ℤ × List ℕ). at_path (name_fault q.1) (gives (text (option_map_or path_text (next_read a (numbered q.0) (begins q.1) w) []) ∷ []) w)) (same_Some (o, u) (d, t) e)
 walked_at a stack w d t e = absurd (cc)
 
 pub removed_at : (a : Actor) (stack : List Datum) (w : Live) (d : ℤ) (t : List ℕ) → named_in stack ≡ Some (d, t) →
     removed a (take 2 stack) w ≡ at_path (path_fault t) (written_at a (segments_of t) (numbered d) (unstored (numbered d) (segments_of t)) w)
 removed_at a (text u ∷ object o ∷ rest) w d t e =
-    ap (λ (q : ℤ × List ℕ). at_path (path_fault q.1) (written_at a (segments_of q.1) (numbered q.0) (unstored (numbered q.0) (segments_of q.1)) w)) (some_is (o, u) (d, t) e)
+    ap (λ (q : ℤ × List ℕ). at_path (path_fault q.1) (written_at a (segments_of q.1) (numbered q.0) (unstored (numbered q.0) (segments_of q.1)) w)) (same_Some (o, u) (d, t) e)
 removed_at a stack w d t e = absurd (cc)
 
 -- what is stored upon these
 
 pub stored_int : (stack : List Datum) (n : ℤ) → int_at 0 stack ≡ Some n → stored_by stack ≡ Some (Number n)
-stored_int (int m ∷ rest) n e = ap (λ k. Some (Number k)) (some_is m n e)
+stored_int (int m ∷ rest) n e = ap (λ k. Some (Number k)) (same_Some m n e)
 stored_int stack n e = absurd (cc)
 
 pub stored_text : (stack : List Datum) (t : List ℕ) → text_at 0 stack ≡ Some t → stored_by stack ≡ Some (Text t)
-stored_text (text u ∷ rest) t e = ap (λ k. Some (Text k)) (some_is u t e)
+stored_text (text u ∷ rest) t e = ap (λ k. Some (Text k)) (same_Some u t e)
 stored_text stack t e = absurd (cc)
 
 pub stored_none : (stack : List Datum) → int_at 0 stack ≡ None → text_at 0 stack ≡ None → stored_by stack ≡ None
@@ -101,14 +99,14 @@ pub ruleset stored_steps = (stored_int, stored_text, stored_none)
 
 pub put_so : (a : Actor) (stack : List Datum) (w : Live) (v : PropValue) (d : ℤ) (t : List ℕ) → stored_by stack ≡ Some v → named_in (drop 1 stack) ≡ Some (d, t) → put a (take 3 stack) w ≡ put_at a t d v w
 put_so a (int n ∷ text u ∷ object o ∷ rest) w v d t f e =
-    ap (λ (q : ℤ × List ℕ). put_at a q.1 q.0 (Number n) w) (some_is (o, u) (d, t) e) ∙ ap (λ x. put_at a t d x w) (some_is (Number n) v f)
+    ap (λ (q : ℤ × List ℕ). put_at a q.1 q.0 (Number n) w) (same_Some (o, u) (d, t) e) ∙ ap (λ x. put_at a t d x w) (same_Some (Number n) v f)
 put_so a (text y ∷ text u ∷ object o ∷ rest) w v d t f e =
-    ap (λ (q : ℤ × List ℕ). put_at a q.1 q.0 (Text y) w) (some_is (o, u) (d, t) e) ∙ ap (λ x. put_at a t d x w) (some_is (Text y) v f)
+    ap (λ (q : ℤ × List ℕ). put_at a q.1 q.0 (Text y) w) (same_Some (o, u) (d, t) e) ∙ ap (λ x. put_at a t d x w) (same_Some (Text y) v f)
 put_so a stack w v d t f e = absurd (cc)
 
 -- an integer and a text upon them
 
 pub added_so : (a : Actor) (stack : List Datum) (w : Live) (n : ℤ) (u : List ℕ) (d : ℤ) (t : List ℕ) → added_by stack ≡ Some (n, u) → named_in (drop 2 stack) ≡ Some (d, t) → added a (take 4 stack) w ≡ put_at a t d (text_or u n) w
 added_so a (int m ∷ text v ∷ text s ∷ object o ∷ rest) w n u d t f e =
-    ap (λ (q : ℤ × List ℕ). put_at a q.1 q.0 (text_or v m) w) (some_is (o, s) (d, t) e) ∙ ap (λ (q : ℤ × List ℕ). put_at a t d (text_or q.1 q.0) w) (some_is (m, v) (n, u) f)
+    ap (λ (q : ℤ × List ℕ). put_at a q.1 q.0 (text_or v m) w) (same_Some (o, s) (d, t) e) ∙ ap (λ (q : ℤ × List ℕ). put_at a t d (text_or q.1 q.0) w) (same_Some (m, v) (n, u) f)
 added_so a stack w n u d t f e = absurd (cc)

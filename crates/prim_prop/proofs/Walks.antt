@@ -5,14 +5,13 @@ use Rattle.std.specs.Option.{option_and_then}
 use Rattle.std.specs.List.{AllByRecursion, filter}
 use Rattle.std.specs.Ordering.{is_lt, ordering_then, ordering_reverse}
 use Rattle.std.specs.Cmp.{tied_itself}
-use Rattle.std.specs.declared.cmp.Ordering.{Ordering}
-use Rattle.std.specs.declared.cmp.Ordering.TheVariants.{Less, Equal, Greater}
+use Rattle.std.specs.declared.cmp.Ordering.TheVariants.{Less}
 use Rattle.std.specs.FinMap.{keys, entries, entries_sorted, is_sorted, nat_cmp-IsAntisymmetric, slice_cmp-IsAntisymmetric}
 use Rattle.std.specs.FinMap.Entries.{below_all}
 use Rattle.muck_prop.specs.declared.value.PropValue.{PropValue}
 use Rattle.muck_prop.specs.Order.{segment_cmp, path_cmp, path_cmp_total, is_below, child}
 use Rattle.muck_prop.specs.Store.{PropMap, is_after, next_among, next_child}
-use Rattle.muck_prop.proofs.Sequence.{then_less}
+use Rattle.muck_prop.proofs.Sequence.{then_less, is_less}
 use Rattle.muck_model.specs.declared.dbref.Dbref.{Dbref}
 use Rattle.spec_live.specs.declared.object.Object.{Object}
 use Rattle.spec_live.specs.Objects.{object_at}
@@ -60,11 +59,6 @@ abbrev Rising : List Path → Type 0
 Rising [] = Unit {0}
 Rising (x ∷ xs) = AllByRecursion (Upto x) xs × Rising xs
 
-less_of : (r : Ordering) → is_lt r ≡ true → r ≡ Less
-less_of Less h = refl
-less_of Equal h = absurd (cc)
-less_of Greater h = absurd (cc)
-
 take_upto : (n : ℕ) (xs ys : Path) → path_cmp xs ys ≡ Less → Upto (take n xs) (take n ys)
 take_upto zero xs ys h = inr refl
 take_upto (suc n) [] [] h = absurd (cc)
@@ -95,7 +89,7 @@ above dir q [] h = tt
 above dir q (e ∷ es) h =
     let parts = both_of (is_lt (path_cmp q e.0)) (below_all path_cmp q es) h in
     elim (is_below dir e.0) as (λ b. AllByRecursion (Upto (child dir q)) (map (child dir) (cond b (e.0 ∷ filter (is_below dir) (map first es)) (filter (is_below dir) (map first es))))) [
-      | true ↦ (take_upto (suc (length dir)) q e.0 (less_of (path_cmp q e.0) (is_true _ parts.0)), above dir q es parts.1)
+      | true ↦ (take_upto (suc (length dir)) q e.0 (is_less (path_cmp q e.0) (is_true _ parts.0)), above dir q es parts.1)
       | false ↦ above dir q es parts.1
     ]
 
@@ -113,7 +107,7 @@ children_rise dir m = rise dir (entries m) (entries_sorted m)
 
 later : (after : Option Path) (c y : Path) → is_after after c ≡ true → path_cmp c y ≡ Less → is_after after y ≡ true
 later None c y a l = refl
-later (Some p) c y a l = ap is_lt (path_cmp_total.trans p c y (less_of (path_cmp p c) a) l)
+later (Some p) c y a l = ap is_lt (path_cmp_total.trans p c y (is_less (path_cmp p c) a) l)
 
 not_before : (x c : Path) → Upto x c → is_lt (path_cmp c x) ≡ false
 not_before x c (inl l) = ap is_lt (path_cmp_total.antisymm c x ∙ ap ordering_reverse l)
@@ -201,7 +195,7 @@ fewer_or after c [] a = omega arith
 fewer_or after c (x ∷ xs) a =
     let ih : length (filter (is_after (Some c)) xs) ≤ length (filter (is_after after) xs) = fewer_or after c xs a in
     elim (is_lt (path_cmp c x)) as (λ b. is_lt (path_cmp c x) ≡ b → length (cond b (x ∷ filter (is_after (Some c)) xs) (filter (is_after (Some c)) xs)) ≤ length (filter (is_after after) (x ∷ xs))) [
-      | true ↦ λ e. subst (λ b. suc (length (filter (is_after (Some c)) xs)) ≤ length (cond b (x ∷ filter (is_after after) xs) (filter (is_after after) xs))) (sym (later after c x a (less_of (path_cmp c x) e))) (omega (arith, ih))
+      | true ↦ λ e. subst (λ b. suc (length (filter (is_after (Some c)) xs)) ≤ length (cond b (x ∷ filter (is_after after) xs) (filter (is_after after) xs))) (sym (later after c x a (is_less (path_cmp c x) e))) (omega (arith, ih))
       | false ↦ λ e. elim (is_after after x) as (λ k. length (filter (is_after (Some c)) xs) ≤ length (cond k (x ∷ filter (is_after after) xs) (filter (is_after after) xs))) [
         | true ↦ omega (arith, ih)
         | false ↦ ih
@@ -220,7 +214,7 @@ fewer after c (x ∷ xs) e =
       | false ↦ λ a s.
           let ih : length (filter (is_after (Some c)) xs) < length (filter (is_after after) xs) = fewer after c xs s in
           elim (is_lt (path_cmp c x)) as (λ b. is_lt (path_cmp c x) ≡ b → length (cond b (x ∷ filter (is_after (Some c)) xs) (filter (is_after (Some c)) xs)) < length (filter (is_after after) xs)) [
-            | true ↦ λ l. absurd (let up : is_after after x ≡ true = later after c x (found_after (is_after after) c xs s) (less_of (path_cmp c x) l) in cc)
+            | true ↦ λ l. absurd (let up : is_after after x ≡ true = later after c x (found_after (is_after after) c xs s) (is_less (path_cmp c x) l) in cc)
             | false ↦ λ l. ih
           ] refl
     ] refl e

@@ -1,5 +1,5 @@
 -- What NOTIFY_EXCLUDE takes: a text, a count, so many objects and a place.
-use Rattle.std.proofs.Common.{◌≡◌, ◌+◌, ℕ, zero, suc, pos, negsuc, List, [], ◌∷◌, ◌++◌, length, take, drop, filter_map, slice_get, Option, Some, None, refl, sym, ap, ◌∙◌, subst, arith}
+use Rattle.std.proofs.Common.{◌≡◌, ◌+◌, ℕ, zero, suc, pos, List, [], ◌∷◌, ◌++◌, length, take, drop, filter_map, slice_get, Option, Some, None, refl, sym, ap, ◌∙◌, arith}
 use Rattle.std.specs.Prelude.{ℤ}
 use Rattle.std.specs.List.{cons_option}
 use Rattle.std.specs.Option.{option_and_then, option_map_or}
@@ -7,7 +7,6 @@ use Rattle.muck_model.specs.declared.dbref.Dbref.{Dbref}
 use Rattle.spec_live.specs.Lives.{Live, tell_but}
 use Rattle.spec_rights.specs.declared.act.Actor.{Actor}
 use Rattle.muf_model.specs.declared.fault.MufFault.TheVariants.{BadType}
-use Rattle.muf_model.specs.declared.needs.Need.{Need}
 use Rattle.muf_model.specs.declared.prims.Primitive.TheVariants.{NotifyExclude}
 use Rattle.muf_model.specs.Datum.{Datum, int, text, object}
 use Rattle.muf_model.specs.Needs.{one_there, a_near_one}
@@ -15,7 +14,7 @@ use Rattle.muf_model.specs.Ladder.{times}
 use Rattle.muf_frame.specs.inner.Answers.{object_at, as_object}
 use Rattle.muf_frame.proofs.Data.{get_drop}
 use Rattle.spec_prims.specs.Asking.{numbered}
-use Rattle.spec_prims.specs.Row.{Row, gives, refuses}
+use Rattle.spec_prims.specs.Row.{gives, refuses}
 use Rattle.spec_prims.specs.Shared.{taken}
 use Rattle.spec_prims.specs.Talk.{object_in, told_but, notified_but}
 use Rattle.prim_talk.specs.inner.Told.{counted_in}
@@ -112,7 +111,3 @@ row_nowhere a (text u ∷ int (pos m) ∷ rest) t n w e o =
     ∙ ap (λ k. told_but u (filter_map object_in (take k rest)) (take 1 (drop k rest)) w) same_count
     ∙ told_nowhere u (filter_map object_in (take n rest)) (drop n rest) w (at_place n rest _ (below n (text u ∷ int (pos m) ∷ rest) _ o))
 row_nowhere a _ t n w e o = absurd cc
-
-pub row_uncounted : (a : Actor) (stack : List Datum) (w : Live) → counted_in stack ≡ None → notified_but a (take (taken NotifyExclude stack) stack) w ≡ refuses BadType
-row_uncounted a (text u ∷ int (pos m) ∷ rest) w e = absurd cc
-row_uncounted a _ w e = refl

@@ -1,10 +1,9 @@
 -- A claim stays until its party has taken the slice, or has learned that the process ended.
-use Rattle.std.proofs.Common.{◌≡◌, ℕ, ℤ, Bool, true, false, not, ◌&&◌, ◌||◌, ◌==◌, cond, nat_le, List, [], ◌∷◌, ◌++◌, refl, sym, ◌∙◌, ap, subst, arith}
+use Rattle.std.proofs.Common.{◌≡◌, ℕ, ℤ, Bool, true, false, not, ◌&&◌, ◌||◌, ◌==◌, cond, nat_le, List, [], ◌∷◌, ◌++◌, refl, sym, ◌∙◌, ap, subst}
 use Rattle.std.specs.List.{filter, list_any}
 use Rattle.std.specs.Ordering.{int_eq}
-use Rattle.std.proofs.lemmas.Bool.Decides.{nat_tests}
-use Rattle.std.proofs.lemmas.Int.{ints}
 use Rattle.std.proofs.lemmas.Cmp.{int_eq_equiv}
+use Rattle.std.proofs.lemmas.Bool.{eq-eqb, and_parts, eqb-true}
 use Rattle.muck_model.specs.declared.event.Entry.{Entry}
 use Rattle.muck_model.specs.declared.event.Event.{Event}
 use Rattle.muck_model.specs.declared.event.Event.TheVariants.{Opened, Input, Closed, Moment, Exec, Planned, Claim, Slice, Commit, Lost, Idle, Take, Cut, Stored, DumpFailed, Halt, StopSeen, Died}
@@ -15,6 +14,7 @@ use Rattle.spec_events.specs.World.{World, connection}
 use Rattle.spec_events.specs.Steps.{has_claim, is_lawful, is_allowed, is_died, happened, effect}
 use Rattle.spec_events.specs.Slices.{sliced}
 use Rattle.spec_events.specs.Histories.{after, AllLawful}
+use Rattle.spec_events.proofs.Modes.{same_pid}
 use Rattle.spec_claims.specs.inner.Claims.{IsSole, AreOthers}
 use Rattle.spec_claims.proofs.Kept.{same_done, same_sliced}
 
@@ -62,17 +62,6 @@ filter_both u t (c ∷ cs) only = at (t c) refl (u c) refl (filter_both u t cs o
     at false is true known rest = let must = only c known in cc
     at false is false known rest = ap (λ b. filter u (cond b (c ∷ filter t cs) (filter t cs))) is ∙ rest ∙ ap (λ b. cond b (c ∷ filter u cs) (filter u cs)) (sym known)
 
--- Numbers.
-
-same_number : (n m : ℤ) → int_eq n m ≡ true → n ≡ m
-same_number n m e = grind (arith, ints)
-
-equal : (n m : ℕ) → (n == m) ≡ true → n ≡ m
-equal n m e = grind (arith, nat_tests)
-
-same : (n : ℕ) → (n == n) ≡ true
-same n = grind (arith, nat_tests)
-
 -- Whose claim it is.
 
 claim_of : (party other : ℕ) (pid : ℤ) (w : World) → IsSole party pid w → has_claim other pid w ≡ ((party == other) || false)
@@ -80,14 +69,14 @@ claim_of party other pid w sole = any_filter (is_on pid) (λ (c : Claimed). c.pa
 
 -- it is this party's
 pub sole_claim : (party : ℕ) (pid : ℤ) (w : World) → IsSole party pid w → has_claim party pid w ≡ true
-sole_claim party pid w sole = claim_of party party pid w sole ∙ ap (λ b. b || false) (same party)
+sole_claim party pid w sole = claim_of party party pid w sole ∙ ap (λ b. b || false) (eq-eqb party party refl)
 
 -- and no other party's
 sole_other : (party other : ℕ) (pid : ℤ) (w : World) → IsSole party pid w → ¬ (other ≡ party) → has_claim other pid w ≡ true → ⊥
 sole_other party other pid w sole apart has = at (party == other) refl (sym (claim_of party other pid w sole) ∙ has)
   where
     at : (b : Bool) → (party == other) ≡ b → (b || false) ≡ true → ⊥
-    at true is e = apart (sym (equal party other is))
+    at true is e = apart (sym (eqb-true party other is))
     at false is e = cc
 
 -- who may claim a process finds it claimed by nobody
@@ -104,7 +93,7 @@ unclaimed moment cs pid (p ∷ ps) e = at (has_pid pid p) refl (is_due moment cs
 
     at : (a : Bool) → has_pid pid p ≡ a → (b : Bool) → is_due moment cs p ≡ b → ((a && b) || list_any (λ p. has_pid pid p && is_due moment cs p) ps) ≡ true →
         (list_any (λ p. has_pid pid p && is_due moment cs p) ps ≡ true → is_claimed pid cs ≡ false) → is_claimed pid cs ≡ false
-    at true has true due e f = ap (λ n. is_claimed n cs) (sym (same_number p.number pid has)) ∙ free (nat_le p.due moment) (not (is_reading p)) (not (is_awaiting p)) (is_claimed p.number cs) due
+    at true has true due e f = ap (λ n. is_claimed n cs) (sym (same_pid p.number pid has)) ∙ free (nat_le p.due moment) (not (is_reading p)) (not (is_awaiting p)) (is_claimed p.number cs) due
     at true has false due e f = f e
     at false has b due e f = f e
 
@@ -116,12 +105,8 @@ allowed w party event lawful other = at w.dead lawful
     at true e = cc
     at false e = e
 
-first_true : (a b : Bool) → (a && b) ≡ true → a ≡ true
-first_true true b e = refl
-first_true false b e = cc
-
 may_claim : (w : World) (party : ℕ) (pid : ℤ) → is_lawful w (record { party = party; event = Claim pid }) ≡ true → is_claimed pid w.queue.claims ≡ false
-may_claim w party pid lawful = unclaimed w.moment w.queue.claims pid w.queue.processes (first_true _ _ (allowed w party (Claim pid) lawful refl))
+may_claim w party pid lawful = unclaimed w.moment w.queue.claims pid w.queue.processes (and_parts _ _ (allowed w party (Claim pid) lawful refl)).0
 
 -- It begins.
 
@@ -146,7 +131,7 @@ module _ (party : ℕ) (pid : ℤ) (w : World) (sole : IsSole party pid w) (othe
       at : (b : Bool) → int_eq n pid ≡ b → filter (is_on pid) (w.queue.claims ++ c ∷ []) ≡ record { number = pid; party = party } ∷ []
       at true is =
           let there = some_kept (is_on pid) w.queue.claims _ _ sole in
-          let gone = ap (λ k. is_claimed k w.queue.claims) (sym (same_number n pid is)) ∙ may_claim w other n lawful in
+          let gone = ap (λ k. is_claimed k w.queue.claims) (sym (same_pid n pid is)) ∙ may_claim w other n lawful in
           absurd (let both : ◌≡◌ {A = Bool} true false = sym there ∙ gone in cc)
       at false is = filter_last (is_on pid) w.queue.claims c ∙ ap (λ b. filter (is_on pid) w.queue.claims ++ cond b (c ∷ []) []) is ∙ ap (λ ys. ys ++ []) sole
 
@@ -158,8 +143,8 @@ module _ (party : ℕ) (pid : ℤ) (w : World) (sole : IsSole party pid w) (othe
         where
           at : (b : Bool) → is_on n c ≡ b → not b ≡ true
           at true is_n =
-              let same_pid : n ≡ pid = sym (same_number c.number n is_n) ∙ same_number c.number pid on in
-              absurd (sole_other party other pid w sole apart (subst (λ k. has_claim other k w ≡ true) same_pid has))
+              let one_pid : n ≡ pid = sym (same_pid c.number n is_n) ∙ same_pid c.number pid on in
+              absurd (sole_other party other pid w sole apart (subst (λ k. has_claim other k w ≡ true) one_pid has))
           at false is_n = refl
 
   stays_event : (event : Event) → is_lawful w (record { party = other; event = event }) ≡ true → IsSole party pid (happened w other event)
@@ -171,9 +156,9 @@ module _ (party : ℕ) (pid : ℤ) (w : World) (sole : IsSole party pid w) (othe
   stays_event (Exec d) lawful = ap (filter (is_on pid)) (same_done d (connection d w) w) ∙ sole
   stays_event (Planned d) lawful = sole
   stays_event (Claim n) lawful = stays_claim n lawful
-  stays_event (Slice n) lawful = stays_released n (sliced n w).queue.claims (first_true _ _ (allowed w other (Slice n) lawful refl)) (same_sliced n w)
+  stays_event (Slice n) lawful = stays_released n (sliced n w).queue.claims (and_parts _ _ (allowed w other (Slice n) lawful refl)).0 (same_sliced n w)
   stays_event (Commit n) lawful = sole
-  stays_event (Lost n) lawful = stays_released n w.queue.claims (first_true _ _ (allowed w other (Lost n) lawful refl)) refl
+  stays_event (Lost n) lawful = stays_released n w.queue.claims (and_parts _ _ (allowed w other (Lost n) lawful refl)).0 refl
   stays_event Idle lawful = sole
   stays_event (Take d n) lawful = sole
   stays_event (Cut k) lawful = sole

@@ -1,11 +1,10 @@
 -- The process that is to go on may be claimed, and then sliced.
-use Rattle.std.proofs.Common.{◌≡◌, ℕ, ℤ, Bool, true, false, not, ◌&&◌, ◌||◌, ◌==◌, cond, List, [], ◌∷◌, ◌++◌, refl, sym, ◌∙◌, ap, subst, arith, Option, Some, None}
+use Rattle.std.proofs.Common.{◌≡◌, ℕ, ℤ, Bool, true, false, not, ◌&&◌, ◌||◌, ◌==◌, cond, List, [], ◌∷◌, ◌++◌, refl, sym, ◌∙◌, ap, subst, Option, Some, None}
 use Rattle.std.specs.Prelude.{fold, find, is_some}
 use Rattle.std.specs.List.{filter, reduce, list_any}
 use Rattle.std.specs.Option.{option_map}
 use Rattle.std.specs.Ordering.{int_eq}
-use Rattle.std.proofs.lemmas.Bool.{cond-false, or_right}
-use Rattle.std.proofs.lemmas.Bool.Decides.{nat_tests}
+use Rattle.std.proofs.lemmas.Bool.{cond-false, or_right, eq-eqb}
 use Rattle.std.proofs.lemmas.Cmp.{int_eq_equiv}
 use Rattle.muck_model.specs.declared.event.Event.TheVariants.{Claim, Slice, Lost}
 use Rattle.muck_queue.specs.declared.claim.Claim.{Claim as Claimed}
@@ -71,9 +70,6 @@ claim_lawful w party pid h e = claim_may w.dead w.stopping w.moment w.queue pid 
 
 -- Then it is claimed.
 
-same_party : (n : ℕ) → (n == n) ≡ true
-same_party n = grind (arith, nat_tests)
-
 last_any : (test : Claimed → Bool) (c : Claimed) (cs : List Claimed) → test c ≡ true → list_any test (cs ++ c ∷ []) ≡ true
 last_any test c [] e = ap (λ b. b || false) e
 last_any test c (x ∷ cs) e = or_right (test x) (list_any test (cs ++ c ∷ [])) (last_any test c cs e)
@@ -89,7 +85,7 @@ there_any test pid (p ∷ ps) =
 slice_may : (w : World) (party : ℕ) (pid : ℤ) → w.dead ≡ false → list_any (λ p. has_pid pid p && is_due w.moment w.queue.claims p) w.queue.processes ≡ true → cond w.dead false (has_claim party pid (on_queue (claimed pid party) w) && is_there pid (on_queue (claimed pid party) w)) ≡ true
 unfolding claimed
 slice_may w party pid a e =
-    let on : (int_eq pid pid && (party == party)) ≡ true = ap (λ b. b && (party == party)) (int_eq_equiv.refl pid) ∙ same_party party in
+    let on : (int_eq pid pid && (party == party)) ≡ true = ap (λ b. b && (party == party)) (int_eq_equiv.refl pid) ∙ eq-eqb party party refl in
     let mine = last_any (λ c. is_on pid c && (c.party == party)) (record { number = pid; party = party }) w.queue.claims on in
     cond-false _ _ _ a ∙ ap (λ b. b && is_some (find (has_pid pid) w.queue.processes)) mine ∙ there_any (is_due w.moment w.queue.claims) pid w.queue.processes e
 

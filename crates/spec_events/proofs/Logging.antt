@@ -455,7 +455,3 @@ no_counts_one (x ∷ xs) l none last = (none.0, no_counts_one xs l none.1 last)
 pub no_notes_one : (ls : List Logged) (l : Logged) → NoNotes ls → l.notes ≡ [] → NoNotes (ls ++ l ∷ [])
 no_notes_one [] l none last = (last, tt)
 no_notes_one (x ∷ xs) l none last = (none.0, no_notes_one xs l none.1 last)
-
-pub no_notes : (ls : List Logged) → NoNotes ls → notes_of ls ≡ []
-no_notes [] none = refl
-no_notes (l ∷ ls) none = ap (λ (ns : List Note). ns ++ notes_of ls) none.0 ∙ no_notes ls none.1

@@ -78,7 +78,7 @@ numbered_added p q h = rises_added (pos 0) q.last q.processes p h
 
 -- Queues.
 
-same_pid : (m n : ℤ) → int_eq m n ≡ true → m ≡ n
+pub same_pid : (m n : ℤ) → int_eq m n ≡ true → m ≡ n
 same_pid m n e = grind (arith, ints)
 
 above_not : (pid low m : ℤ) → pid ≤ℤ low → low <ℤ m → int_eq m pid ≡ false

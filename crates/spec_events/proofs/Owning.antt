@@ -1,10 +1,9 @@
 -- A party's own entries, one more at a time.
-use Rattle.std.proofs.Common.{◌≡◌, ℕ, ◌<◌, Bool, true, false, ◌==◌, List, [], ◌∷◌, ◌++◌, refl, sym, ap, ◌∙◌, arith, Option, Some, None}
-use Rattle.std.specs.Prelude.{is_some, nat_lt, if◌then◌else◌}
+use Rattle.std.proofs.Common.{◌≡◌, ℕ, true, List, [], ◌∷◌, ◌++◌, refl, sym, ap, ◌∙◌, Option, Some, None}
+use Rattle.std.specs.Prelude.{is_some}
 use Rattle.std.specs.Option.{option_and_then}
-use Rattle.std.proofs.lemmas.Bool.Decides.{nat_tests}
 use Rattle.muck_model.specs.declared.event.Event.{Event}
-use Rattle.spec_events.specs.Own.{Stage, porter_next, worker_next, dumper_next, party_next, next, stage_from, stage_of, IsWellFormed}
+use Rattle.spec_events.specs.Own.{Stage, next, stage_from, stage_of, IsWellFormed}
 
 stage_append : (party : ℕ) (stage : Option Stage) (a b : List Event) → stage_from party stage (a ++ b) ≡ stage_from party (stage_from party stage a) b
 stage_append party stage [] b = refl
@@ -35,11 +34,3 @@ front_formed party a b h = from (stage_from party (Some Stage.unbound) a) (sym (
     from : (stage : Option Stage) → is_some (stage_from party stage b) ≡ true → is_some stage ≡ true
     from None h = sym (ap is_some (none_stays party b)) ∙ h
     from (Some s) h = refl
-
--- a worker's number
-pub worker_is : (party : ℕ) (stage : Stage) (event : Event) → 0 < party → party < 9 → party_next party stage event ≡ worker_next stage event
-worker_is party stage event some few =
-    let first : (party == 0) ≡ false = grind (arith, nat_tests) in
-    let below : nat_lt party 9 ≡ true = grind (arith, nat_tests) in
-    ap (λ (b : Bool). if b then porter_next stage event else if nat_lt party 9 then worker_next stage event else if party == 9 then dumper_next stage event else None) first
-    ∙ ap (λ (b : Bool). if b then worker_next stage event else if party == 9 then dumper_next stage event else None) below

@@ -38,7 +38,7 @@ use Rattle.spec_events.specs.Passwords.{credentials, Proves, Stays, IsKnown, All
 use Rattle.spec_events.proofs.Quietly.{quiet_told_each}
 use Rattle.spec_events.proofs.Login.{greeted, greeted_open}
 use Rattle.spec_events.proofs.Done.{player-same_ties}
-use Rattle.spec_events.proofs.Reached.{rising-happened}
+use Rattle.spec_events.proofs.Reached.{rising-happened, apart}
 use Rattle.spec_events.proofs.Turns.{all_licensed_booted, all_licensed_starting}
 
 abbrev player_found : ℕ → List Connection → Option Dbref
@@ -127,9 +127,6 @@ above_found n e p (c ∷ cs) a h = at (c.number == e) refl (above_found n e p cs
         above m e less s = grind (arith, nat_tests)
     at false s next k = next k
 
-not_itself : (m n : ℕ) → m < n → (m == n) ≡ false
-not_itself m n h = grind (arith, nat_tests)
-
 less_apart : (n d e : ℕ) → (n == d) ≡ true → n < e → d ≢ e
 less_apart n d e s h x = grind (arith, nat_tests)
 
@@ -143,7 +140,7 @@ without_found e d p (c ∷ cs) r h = at (c.number == d) refl (without_found e d 
     gone : (c.number == d) ≡ true → player_found e cs ≡ Some p → (player_found e (c ∷ cs) ≡ Some p) × (d ≢ e)
     gone s k =
         let less : c.number < e = above_found c.number e p cs r.0 k in
-        (ap (λ b. option_and_then (λ (c : Connection). c.player) (cond b (Some c) (find (has_number e) cs))) (not_itself c.number e less) ∙ k, less_apart c.number d e s less)
+        (ap (λ b. option_and_then (λ (c : Connection). c.player) (cond b (Some c) (find (has_number e) cs))) (apart c.number e less) ∙ k, less_apart c.number d e s less)
 
     there : (q : Bool) → (c.number == e) ≡ q → (c.number == d) ≡ false → (player_found e (without d cs) ≡ Some p → (player_found e cs ≡ Some p) × (d ≢ e)) →
         option_and_then (λ (c : Connection). c.player) (cond q (Some c) (find (has_number e) (without d cs))) ≡ Some p →
@@ -301,7 +298,7 @@ rising_event Died party w dead a r = r
 rising_event event party w true a r = absurd cc
 rising_event event party w false a r = rising-happened event party w a r
 
-rising_effect : (w : World) (entry : Entry) → is_lawful w entry ≡ true → IsRising w.live.board.connections → IsRising (effect w entry).live.board.connections
+pub rising_effect : (w : World) (entry : Entry) → is_lawful w entry ≡ true → IsRising w.live.board.connections → IsRising (effect w entry).live.board.connections
 unfolding effect is_lawful
 rising_effect w entry l r = rising_event entry.event entry.party w w.dead l r
 

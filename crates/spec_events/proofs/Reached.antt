@@ -1,7 +1,7 @@
 -- Lawful entries lead from sound worlds to sound worlds.
 use Rattle.std.proofs.Common.{◌≡◌, ℕ, ◌<◌, ◌≤◌, lit≤, Bool, true, false, not, ◌&&◌, ◌||◌, cond, List, [], ◌∷◌, length, refl, sym, ◌∙◌, ap, arith, Option, Some, None, ltb, ◌==◌, ◌≢◌}
 use Rattle.std.proofs.lemmas.Bool.Decides.{nat_tests}
-use Rattle.std.proofs.lemmas.Bool.{cond-true, cond-false, ltb-true, ltb-false, and_parts}
+use Rattle.std.proofs.lemmas.Bool.{cond-true, cond-false, ltb-true, ltb-false, and_parts, eq-eqb}
 use Rattle.std.specs.Prelude.{find, is_none, is_some, nat_lt, nat_le}
 use Rattle.std.specs.Option.{option_map, option_map_or}
 use Rattle.muck_model.specs.declared.event.Entry.{Entry}
@@ -154,10 +154,7 @@ found_above p n (x ∷ xs) c = λ h.
       | false ↦ λ e. found_above p n xs c h.1 e
     ]
 
-itself : (n : ℕ) → (n == n) ≡ true
-itself n = grind (arith, nat_tests)
-
-apart : (m n : ℕ) → m < n → (m == n) ≡ false
+pub apart : (m n : ℕ) → m < n → (m == n) ≡ false
 apart m n h = grind (arith, nat_tests)
 
 -- where a connection is found to be free, it is the one of its number
@@ -167,7 +164,7 @@ free_found p (x ∷ xs) c = λ h.
     (elim (p x) as (λ b. p x ≡ b → cond b (Some x) (find p xs) ≡ Some c → (find (has_number c.number) (x ∷ xs) ≡ Some c) × (p c ≡ true)) [
       | true ↦ λ r e.
           let one : x ≡ c = cc in
-          let same : has_number c.number x ≡ true = ap (λ (k : Connection). k.number == c.number) one ∙ itself c.number in
+          let same : has_number c.number x ≡ true = ap (λ (k : Connection). k.number == c.number) one ∙ eq-eqb c.number c.number refl in
           (cond-true _ _ _ same ∙ ap Some one, ap p (sym one) ∙ r)
       | false ↦ λ r e.
           let above : x.number < c.number = found_above p x.number xs c h.0 e in

@@ -1,6 +1,6 @@
 -- A row that changes the world gives no more items than it takes, so that there is room for them.
 pub use Rattle.spec_prims.proofs.Fit.{Fits, IsFit}
-use Rattle.std.proofs.Common.{◌≡◌, ◌≤◌, ◌⊎◌, inl, inr, ℕ, List, [], ◌∷◌, length, Option, Some, None, refl, arith}
+use Rattle.std.proofs.Common.{◌≡◌, inl, inr, ℕ, List, [], ◌∷◌, length, Option, Some, None, refl, arith}
 use Rattle.spec_live.specs.Lives.{Live, Change}
 use Rattle.spec_rights.specs.declared.act.Actor.{Actor}
 use Rattle.muf_model.specs.declared.prims.Primitive.{Primitive}
@@ -22,7 +22,7 @@ use Rattle.spec_rights.specs.Verdict.{verdict}
 use Rattle.spec_rights.specs.Changing.{stored, unstored}
 use Rattle.muf_model.specs.declared.fault.MufFault.{MufFault}
 use Rattle.spec_prims.specs.Asking.{numbered, fault_of}
-use Rattle.spec_prims.specs.Row.{Row, gives, refuses, Doing, unless}
+use Rattle.spec_prims.specs.Row.{Row, gives, Doing}
 use Rattle.spec_prims.specs.PropRows.{at_path, value_of, as_item, as_text, as_number, has_below, seen_at, looked, first_holder, sought, name_fault, begins, next_read, walked, written_at, put_at, put, text_or, added, removed, property_row}
 use Rattle.spec_commands.specs.Finding.{actor_of}
 use Rattle.spec_mpi.specs.Telling.{Answer}

@@ -57,7 +57,7 @@ opens_unless : (o : Option MufFault) (a : Actor) (w : Live) (row : Row) → (o �
 opens_unless None a w row h = h refl
 opens_unless (Some f) a w row h = tt
 
-no_denial : (d : Option Denial) → fault_of d ≡ None → d ≡ None
+pub no_denial : (d : Option Denial) → fault_of d ≡ None → d ≡ None
 no_denial None e = refl
 no_denial (Some d) e = absurd cc
 

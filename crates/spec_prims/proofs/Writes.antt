@@ -1,5 +1,5 @@
 -- The rows that change objects: what each changes is open to who acts, and there is room for what it gives.
-use Rattle.std.proofs.Common.{◌≡◌, ◌≤◌, ◌⊎◌, inl, ℕ, Bool, true, false, cond, List, [], ◌∷◌, length, codes, Option, Some, None, IfSome, refl, arith}
+use Rattle.std.proofs.Common.{◌≡◌, inl, ℕ, Bool, true, false, cond, List, [], ◌∷◌, codes, Option, Some, None, IfSome, refl, arith}
 use Rattle.std.specs.Prelude.{Result, Ok, Err}
 use Rattle.muck_model.specs.declared.dbref.Dbref.{Dbref}
 use Rattle.muck_model.specs.declared.dbref.Denial.{Denial}
@@ -39,8 +39,8 @@ use Rattle.muf_model.specs.declared.prims.Primitive.{Primitive}
 use Rattle.muf_model.specs.declared.prims.Primitive.TheVariants.{MoveTo, SetLink, SetOwn, Recycle, SetName, Set, SetLockStr, NewRoom, NewObject, NewExit}
 use Rattle.muf_model.specs.Datum.{Datum, text, object}
 use Rattle.spec_prims.specs.Asking.{fault_of, numbered}
-use Rattle.spec_prims.specs.Row.{Row, gives, refuses, unless, Doing}
-use Rattle.spec_prims.specs.ObjectWrites.{badly, changed, done_by_text, done_to_two, given_made, key_kept_of, lock_kept, locked_by, made_named, made_so, mislinked, misowned, new_made, one_done, place_far, renamed, set_by, text_done, thrown_away, two_done, writing_row}
+use Rattle.spec_prims.specs.Row.{Row, gives, refuses, unless}
+use Rattle.spec_prims.specs.ObjectWrites.{badly, changed, done_by_text, done_to_two, given_made, key_kept_of, lock_kept, locked_by, made_named, made_so, mislinked, misowned, new_made, one_done, place_far, set_by, text_done, thrown_away, two_done, writing_row}
 use Rattle.spec_prims.proofs.Fit.{Fits, IsFit}
 use Rattle.spec_prims.proofs.Open.{RowOpen, IsOpen, ended_open, same_open}
 

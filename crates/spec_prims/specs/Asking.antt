@@ -5,7 +5,6 @@ use Rattle.muck_model.specs.declared.dbref.Dbref.{Dbref}
 use Rattle.muck_model.specs.declared.dbref.Denial.{Denial}
 use Rattle.spec_live.specs.Objects.{Entry, object_at}
 use Rattle.spec_rights.specs.declared.act.Actor.{Actor}
-use Rattle.spec_rights.specs.declared.act.Act.{Act}
 use Rattle.spec_rights.specs.declared.act.Act.TheVariants.{Shared, Near}
 use Rattle.spec_rights.specs.Verdict.{verdict}
 use Rattle.muf_model.specs.declared.fault.MufFault.{MufFault}

@@ -1,5 +1,5 @@
 -- What a primitive that reaches the world does.
-use Rattle.std.specs.Prelude.{ℕ, List, ◌++◌, length, nat_lt, if◌then◌else◌, Option, Some, None}
+use Rattle.std.specs.Prelude.{List, ◌++◌, length, nat_lt, if◌then◌else◌, Option, Some, None}
 use Rattle.spec_live.specs.Lives.{Live}
 use Rattle.spec_rights.specs.declared.act.Actor.{Actor}
 use Rattle.muf_model.specs.declared.fault.MufFault.{MufFault}

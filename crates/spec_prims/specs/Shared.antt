@@ -13,7 +13,7 @@ use Rattle.muf_model.specs.Needs.{Needs}
 use Rattle.muf_model.specs.Prims.{family_of, level_of, needs_of}
 use Rattle.muf_model.specs.Ladder.{wanted, ladder, nearby}
 use Rattle.spec_prims.specs.Asking.{level_fault, is_there, near_fault}
-use Rattle.spec_prims.specs.Row.{Row, gives, refuses, Doing, unless, given_upon}
+use Rattle.spec_prims.specs.Row.{Row, refuses, Doing, unless, given_upon}
 use Rattle.spec_prims.specs.ObjectRows.{object_row}
 use Rattle.spec_prims.specs.PropRows.{property_row}
 use Rattle.spec_prims.specs.Talk.{talk_row}

@@ -2,7 +2,6 @@
 use Rattle.std.proofs.Common.{◌≡◌, ℕ, ◌+◌, ℤ, pos, negsuc, Bool, true, false, cond, List, [], ◌∷◌, ◌++◌, length, take, drop, refl, arith, Option, Some, None}
 use Rattle.std.specs.Prelude.{◌||◌, nat_lt, nat_le, is_none}
 use Rattle.muck_model.specs.Bytes.{text_most}
-use Rattle.muck_model.specs.declared.dbref.Denial.{Denial}
 use Rattle.muck_model.specs.declared.dbref.Dbref.{Dbref}
 use Rattle.spec_live.specs.Objects.{Entry, same}
 use Rattle.spec_live.specs.Lives.{Live, draw, unchanged}
@@ -20,8 +19,8 @@ use Rattle.muf_model.specs.Answer.{stack_most}
 use Rattle.muf_model.specs.Datum.{Datum, int, text, object}
 use Rattle.muf_model.specs.Values.{fits}
 use Rattle.muf_model.specs.Prims.{level_of}
-use Rattle.spec_prims.specs.Asking.{fault_of}
 use Rattle.spec_prims.specs.Shared.{fault_by}
+use Rattle.spec_prims.proofs.Opens.{no_denial}
 use Rattle.muck_queue.specs.declared.mode.Mode.{Mode}
 use Rattle.muck_queue.specs.declared.mode.Mode.TheVariants.{Preempt, Foreground, Background}
 use Rattle.muck_queue.specs.declared.mode.Wait.TheVariants.{ForLine, ForEvent}
@@ -48,10 +47,6 @@ Leaves a w q (waits n stack queue) = Lawful a w q w queue
 Leaves a w q effect = Unit {0}
 
 -- What is tested before.
-
-no_denial : (d : Option Denial) → fault_of d ≡ None → d ≡ None
-no_denial None e = refl
-no_denial (Some d) e = absurd cc
 
 module _ (a : Actor) (w : Live) (q : Queue) where
   leaves_unless : (o : Option MufFault) (effect : Effect) → (o ≡ None → Leaves a w q effect) → Leaves a w q (unless o effect)

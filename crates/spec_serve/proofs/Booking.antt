@@ -22,7 +22,7 @@ use Rattle.spec_serve.proofs.Keys.{latest_altered, latest_else, altered_front, l
 use Rattle.spec_serve.proofs.Pairs.{all2_altered}
 use Rattle.spec_serve.proofs.Accounting.{keeps_agrees, keeps_new, keeps_closed}
 
-set_there : {A : Type 0} (xs : List A) (i : ℕ) (v w : A) → get_elem? xs i ≡ some v → get_elem? (set xs i w) i ≡ some w
+pub set_there : {A : Type 0} (xs : List A) (i : ℕ) (v w : A) → get_elem? xs i ≡ some v → get_elem? (set xs i w) i ≡ some w
 set_there [] i v w at = absurd (some-ne-none v (sym at))
 set_there (x ∷ xs) zero v w at = refl
 set_there (x ∷ xs) (suc i) v w at = set_there xs i v w at

@@ -74,7 +74,3 @@ pub cause_ended : (counted : LinksNote) (p : Peer) (w : World) → p.ended ≡ t
 cause_ended counted p w is heard worked t s k =
     let h = marked p.ended p.refused s.ended s.refused is k.ended in
     Cause.ended h.0 h.1 (heard t s k) (worked t s k)
-
-pub cause_stopped : (counted : LinksNote) (p : Peer) (w : World) → w.stopping ≡ true → ((t : Talk) (s : Session) → Keeps counted p t s → WorkedOff counted w t s)
-    → (t : Talk) (s : Session) → Keeps counted p t s → Cause counted w t s
-cause_stopped counted p w is worked t s k = Cause.stopped is (worked t s k)

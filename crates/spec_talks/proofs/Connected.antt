@@ -6,7 +6,7 @@ use Rattle.std.proofs.lemmas.Bool.Decides.{nat_tests}
 use Rattle.muck_links.specs.Keyed.{altered, latest}
 use Rattle.muck_model.specs.declared.event.Entry.{Entry}
 use Rattle.muck_model.specs.declared.event.Event.{Event}
-use Rattle.muck_model.specs.declared.event.Event.TheVariants.{Opened, Input, Closed, Exec, Slice, Take, Stored, DumpFailed, Died}
+use Rattle.muck_model.specs.declared.event.Event.TheVariants.{Opened, Input, Closed, Exec, Slice, Take, Stored, DumpFailed}
 use Rattle.spec_live.specs.Connections.{Connection, has_number, placed, without, newcomer, lined}
 use Rattle.spec_live.specs.Boards.{player_in, opened, closed, line_added, bytes_taken}
 use Rattle.spec_live.specs.Lives.{Live, followed, reading, on_board}
@@ -16,12 +16,12 @@ use Rattle.spec_commands.proofs.Numbered.{numbers, seating_quiet, seating_one}
 use Rattle.spec_commands.proofs.Lines.{quiet_parted}
 use Rattle.spec_events.specs.World.{World, connection, askers_of}
 use Rattle.spec_events.specs.Dumping.{dump_stored, dump_failed, told_each}
-use Rattle.spec_events.specs.Steps.{is_allowed, is_lawful, is_died, happened, effect}
+use Rattle.spec_events.specs.Steps.{happened, effect}
 use Rattle.spec_events.specs.Histories.{after, AllLawful}
 use Rattle.spec_events.proofs.Quietly.{quietly_live, quiet_told_each}
 use Rattle.spec_events.proofs.Done.{going_quietly, going_live, done_going}
 use Rattle.spec_events.proofs.Taken.{sliced_going}
-use Rattle.spec_events.proofs.Reached.{rising-happened}
+use Rattle.spec_events.proofs.Passwords.{rising_effect}
 use Rattle.spec_talks.specs.Talks.{Talk, begun, talk_of, heard, given_out, ended_in, talked, talks_on, talks, is_open, is_talking}
 
 -- Numbers of connections.
@@ -195,15 +195,6 @@ match_happened (Take d n) party w ts h m =
 match_happened (Stored k) party w ts h m = match_same _ _ ts (told_numbers (askers_of w.dumps) (dump_stored k) w) m
 match_happened (DumpFailed k) party w ts h m = match_same _ _ ts (told_numbers (askers_of w.dumps) dump_failed w) m
 match_happened event party w ts h m = m
-
-rising_event : (event : Event) (party : ℕ) (w : World) (dead : Bool) → cond dead (is_died event) (is_allowed w party event) ≡ true → IsRising w.live.board.connections → IsRising (happened w party event).live.board.connections
-rising_event Died party w dead l h = h
-rising_event event party w true l h = absurd cc
-rising_event event party w false l h = rising-happened event party w l h
-
-rising_effect : (w : World) (e : Entry) → is_lawful w e ≡ true → IsRising w.live.board.connections → IsRising (effect w e).live.board.connections
-unfolding effect is_lawful
-rising_effect w e l h = rising_event e.event e.party w w.dead l h
 
 match_effect : (w : World) (e : Entry) (ts : List Talk) → IsRising w.live.board.connections → Matches w.live.board.connections ts → Matches (effect w e).live.board.connections (talked w e.event ts)
 unfolding effect

@@ -1,5 +1,5 @@
 -- Worked rows of the primitives of objects.
-use Rattle.std.specs.Prelude.{◌≡◌, ℕ, true, false, pos, negsuc, List, [], ◌∷◌, codes, None, refl}
+use Rattle.std.specs.Prelude.{◌≡◌, true, false, pos, negsuc, List, [], ◌∷◌, codes, None, refl}
 use Rattle.muck_model.specs.declared.lock.Lock.TheVariants.{Free, Object as IsObject, Not, Both}
 use Rattle.muck_model.specs.Decimal.{decimal_of}
 use Rattle.muck_model.specs.Numbers.{dbref_of as dbref_in}

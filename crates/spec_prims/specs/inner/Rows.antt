@@ -1,5 +1,5 @@
 -- Worked rows, which the checker computes.
-use Rattle.std.specs.Prelude.{◌≡◌, ℕ, ℤ, pos, negsuc, List, [], ◌∷◌, Option, Some, None, codes, refl}
+use Rattle.std.specs.Prelude.{◌≡◌, ℕ, pos, negsuc, List, [], ◌∷◌, Option, Some, None, codes, refl}
 use Rattle.spec_live.specs.Objects.{dbref_of, object_at, number_in, kind_in, object_in}
 use Rattle.spec_live.specs.Boards.{first_tune, early_board, told_player}
 use Rattle.spec_live.specs.Lives.{Live, tell_player}

@@ -1,5 +1,5 @@
 -- Worked rows of the primitives that change objects.
-use Rattle.std.specs.Prelude.{◌≡◌, ℕ, pos, negsuc, true, false, List, [], ◌∷◌, codes, None, refl}
+use Rattle.std.specs.Prelude.{◌≡◌, ℕ, pos, negsuc, false, List, [], ◌∷◌, codes, None, refl}
 use Rattle.muck_match.specs.Words.{is_same}
 use Rattle.muck_lock.specs.Grammar.{part_of}
 use Rattle.spec_live.specs.Objects.{dbref_of, object_at, number_in, kind_in, object_in, place_in, home, is_vehicle_in, fits_in, path_in}

@@ -3,14 +3,14 @@ use Rattle.spec_commands.specs.Finding.{each}
 use Rattle.spec_admin.specs.Lines.{parameter_shown}
 use Rattle.muck_perm.specs.inner.Guards.{Did}
 use Rattle.cmd_common.specs.inner.Takes.{word_row}
-use Rattle.cmd_admin.proofs.Each.{each_at, each_none}
+use Rattle.cmd_common.proofs.Each.{each_more, each_none}
 use Rattle.cmd_admin.proofs.parameters.show_rows.Goals as goal
 
 pub loop-row-init : goal.loop-row-init
 loop-row-init c = λ new r t. t
 
 pub loop-row-preserved : goal.loop-row-preserved
-loop-row-preserved c = λ new r t. c.loop-row.invariant new r (each_at _ _ _ _ c.loop-row.guard c.show_parameter.new.guard new r c.loop-row-test.true c.in_ok-show_parameter.ensures t)
+loop-row-preserved c = λ new r t. c.loop-row.invariant new r (each_more _ _ _ _ c.loop-row.guard c.show_parameter.new.guard new r c.loop-row-test.true c.in_ok-show_parameter.ensures t)
 
 pub returns-in_err-show_parameter : goal.returns-in_err-show_parameter
 returns-in_err-show_parameter c =

@@ -1,5 +1,5 @@
 use Rattle.std.proofs.Common.{Ok}
-use Rattle.cmd_play.proofs.Present.{each_more, each_none}
+use Rattle.cmd_common.proofs.Each.{each_more, each_none}
 use Rattle.cmd_play.proofs.talking.show_presences.Goals as goal
 
 pub loop-presence-init : goal.loop-presence-init

@@ -1,9 +1,10 @@
 use Rattle.std.proofs.Common.{◌≡◌, ℕ, ◌+◌, ◌<◌, List, length, refl, sym, ap, ◌∙◌, subst, arith, []}
+use Rattle.std.proofs.lemmas.Bool.{false≢true}
 use Rattle.turn_lock.specs.Histories.{Has}
 use Rattle.turn_lock.specs.inner.Turns.{left_after, newcomer}
 use Rattle.muck_machine.specs.inner.Seats.{Sight, Chair}
 use Rattle.muck_crew.specs.inner.Parts.{AreDealt, given_to}
-use Rattle.muck_crew.proofs.Seating.{false_true, given_low, given_count, given_next, given_place, newcomer_given, dealt_none, dealt_next}
+use Rattle.muck_crew.proofs.Seating.{given_low, given_count, given_next, given_place, newcomer_given, dealt_none, dealt_next}
 use Rattle.muck_crew.proofs.seats.deal.Goals as goal
 
 pub loop-number-init : goal.loop-number-init
@@ -30,7 +31,7 @@ split-requires-clause-fresh c =
     )
 
 pub unreachable-requires : goal.unreachable-requires
-unreachable-requires c = false_true (c.in_default.ensures.succeeds (omega (arith, c.loop-number.invariant.dealt.count, c.loop-number.invariant.room, c.loop-number-test.true)))
+unreachable-requires c = false≢true (c.in_default.ensures.succeeds (omega (arith, c.loop-number.invariant.dealt.count, c.loop-number.invariant.room, c.loop-number-test.true)))
 
 pub loop-number-preserved : goal.loop-number-preserved
 loop-number-preserved c =

@@ -5,7 +5,7 @@ use Rattle.spec_events.specs.Histories.{History}
 use Rattle.muck_machine.specs.inner.Seats.{Chair}
 use Rattle.muck_porter.specs.inner.Kept.{account}
 use Rattle.muck_crew.specs.declared.seats.Part.{Part}
-use Rattle.muck_crew.specs.inner.Parts.{given_to, all_in}
+use Rattle.muck_crew.specs.inner.Parts.{all_in}
 use Rattle.muck_crew.specs.inner.Runs.{IsEndOf}
 use Rattle.muck_crew.proofs.Seating.{given_low, given_count, given_place}
 use Rattle.muck_crew.proofs.Closing.{Begins, fresh_logged, ready_porter, ready_dumper, ready_parts}

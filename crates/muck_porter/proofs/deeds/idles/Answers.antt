@@ -2,7 +2,8 @@ use Rattle.std.proofs.Common.{inl, inr, refl, ap, ◌∙◌, subst}
 use Rattle.muck_model.specs.declared.event.Event.TheVariants.{Moment, Idle}
 use Rattle.spec_events.specs.Histories.{History, now, entered, by_porter}
 use Rattle.muck_peer.specs.Moves.{Clocked}
-use Rattle.muck_porter.proofs.Doing.{did_so, did_not}
+use Rattle.muck_peer.proofs.Stepping.{did_so}
+use Rattle.muck_porter.proofs.Doing.{did_not}
 use Rattle.muck_porter.proofs.deeds.idles.Goals as goal
 
 pub returns-then-idle : goal.returns-then-idle

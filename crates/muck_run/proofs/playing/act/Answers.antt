@@ -3,8 +3,9 @@ use Rattle.spec_events.proofs.Runs.{longer_one}
 use Rattle.muck_run.proofs.Parts.{plays_if_lawful, breaks_at_once, opened_silent, input_silent}
 use Rattle.spec_dumps.proofs.Quiet.{quiet_one}
 use Rattle.spec_events.specs.Histories.{now}
+use Rattle.spec_events.proofs.Reached.{moment_lawful}
 use Rattle.muck_script.specs.Story.{later}
-use Rattle.muck_run.proofs.Acts.{moment_lawful, plays_wait, quiet_if}
+use Rattle.muck_run.proofs.Acts.{plays_wait, quiet_if}
 use Rattle.muck_run.proofs.playing.act.Goals as goal
 
 pub returns-in-Ok-clause-plays : goal.returns-in-Ok-clause-plays

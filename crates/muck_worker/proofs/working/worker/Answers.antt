@@ -1,7 +1,6 @@
 use Rattle.std.proofs.Common.{refl, ◌∙◌, subst}
 use Rattle.muck_worker.specs.declared.deeds.Did.{Did}
-use Rattle.muck_worker.specs.declared.deeds.Did.TheVariants.{Went, Idled, Claimed, Stops, Over, Failed}
-use Rattle.muck_worker.specs.declared.deeds.Task.TheVariants.{Work, Slice, End}
+use Rattle.muck_worker.specs.declared.deeds.Task.TheVariants.{Work, End}
 use Rattle.muck_worker.specs.inner.Deeds.{DidAs}
 use Rattle.muck_worker.proofs.Going.{works_begun, works_on, done_fine, done_dead, held_next}
 use Rattle.muck_worker.proofs.working.worker.Goals as goal

@@ -1,4 +1,4 @@
-use Rattle.std.proofs.Common.{rules, ◌≡◌, ◌+◌, ◌-◌, ◌≤◌, ◌<◌, length, drop, Ok, Err, arith}
+use Rattle.std.proofs.Common.{rules, ◌≡◌, drop, Ok, Err, arith}
 use Rattle.muf_frame.specs.inner.Shown.{flat}
 use Rattle.muf_model.specs.Ladder.{times, walk}
 use Rattle.muck_perm.specs.inner.Guards.{objects_of}

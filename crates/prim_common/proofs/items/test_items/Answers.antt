@@ -1,4 +1,4 @@
-use Rattle.std.proofs.Common.{rules, ◌≡◌, ◌+◌, ◌≤◌, ◌<◌, length, drop, Some, None, Ok, Err, arith}
+use Rattle.std.proofs.Common.{rules, ◌≡◌, ◌+◌, drop, Some, None, Ok, Err, arith}
 use Rattle.std.specs.Prelude.{slice_get}
 use Rattle.muf_frame.specs.inner.Shown.{flat}
 use Rattle.muf_model.specs.Ladder.{walk}

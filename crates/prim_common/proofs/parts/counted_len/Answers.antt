@@ -1,4 +1,4 @@
-use Rattle.std.proofs.Common.{◌≤◌, length, arith}
+use Rattle.std.proofs.Common.{length, arith}
 use Rattle.prim_common.proofs.Counts.{product_most}
 use Rattle.prim_common.proofs.parts.counted_len.Goals as goal
 

@@ -1,4 +1,4 @@
-use Rattle.std.proofs.Common.{◌≡◌, ap, sym, subst, Ok}
+use Rattle.std.proofs.Common.{ap, sym, subst, Ok}
 use Rattle.std.specs.Option.{option_map}
 use Rattle.muf_model.specs.Needs.{shown_many}
 use Rattle.muf_frame.specs.inner.Shown.{flat, locked_by}

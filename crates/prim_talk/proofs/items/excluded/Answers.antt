@@ -1,4 +1,4 @@
-use Rattle.std.proofs.Common.{rules, ◌≡◌, ◌+◌, ◌++◌, [], ◌∷◌, Some, None, ap, ◌∙◌, arith}
+use Rattle.std.proofs.Common.{rules, ◌≡◌, ◌+◌, ◌++◌, [], ◌∷◌, Some, None, ◌∙◌, arith}
 use Rattle.muf_frame.specs.inner.Answers.{object_at}
 use Rattle.muf_frame.specs.inner.Shown.{flat}
 use Rattle.prim_talk.proofs.Excluding.{gathered, passed_by}

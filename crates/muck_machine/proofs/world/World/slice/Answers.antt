@@ -3,8 +3,8 @@ use Rattle.std.proofs.lemmas.Bool.{cond-true, cond-false}
 use Rattle.muck_model.specs.declared.event.Event.TheVariants.{Slice, Lost}
 use Rattle.spec_events.specs.Steps.{is_lawful, is_there}
 use Rattle.spec_events.specs.Histories.{now}
+use Rattle.spec_events.proofs.Claims.{slice_lawful, lost_lawful}
 use Rattle.muck_turns.specs.contracts.state.State as state
-use Rattle.muck_machine.proofs.Choosing.{runs_lawful, lost_lawful}
 use Rattle.muck_machine.proofs.Keepings.{keeps_entered, keeps_concluded}
 use Rattle.muck_machine.proofs.Taken.{lost_so}
 use Rattle.muck_machine.proofs.world.World.slice.Goals as goal
@@ -27,14 +27,14 @@ pub invariant_of-self-2 : goal.invariant_of-self-2
 invariant_of-self-2 c =
     let back : to_z w32 (of_z w32 c.args.pid) ≡ c.args.pid = search rules in
     let there : is_there c.args.pid (now c.args.self.now) ≡ true = ap (λ n. is_there n (now c.args.self.now)) (sym back) ∙ sym (c.has_process.ensures c.requires.alive) ∙ c.if-not-has_process.false in
-    let may = ap (λ pid. is_lawful (now c.args.self.now) (record { party = c.args.party; event = Slice pid })) back ∙ runs_lawful (now c.args.self.now) c.args.party c.args.pid c.requires.alive c.requires.claim there in
+    let may = ap (λ pid. is_lawful (now c.args.self.now) (record { party = c.args.party; event = Slice pid })) back ∙ slice_lawful (now c.args.self.now) c.args.party c.args.pid c.requires.alive c.requires.claim there in
     keeps_concluded c.self.inside.past _ _ _ _ _ c.slice-done.result c.conclude.result c.self.invariant c.self.view_is may refl c.slice-done.ensures c.conclude.ensures.same c.conclude.ensures.past
 
 pub invariant_of-self-in_err-conclude : goal.invariant_of-self-in_err-conclude
 invariant_of-self-in_err-conclude c =
     let back : to_z w32 (of_z w32 c.args.pid) ≡ c.args.pid = search rules in
     let there : is_there c.args.pid (now c.args.self.now) ≡ true = ap (λ n. is_there n (now c.args.self.now)) (sym back) ∙ sym (c.has_process.ensures c.requires.alive) ∙ c.if-not-has_process.false in
-    let may = ap (λ pid. is_lawful (now c.args.self.now) (record { party = c.args.party; event = Slice pid })) back ∙ runs_lawful (now c.args.self.now) c.args.party c.args.pid c.requires.alive c.requires.claim there in
+    let may = ap (λ pid. is_lawful (now c.args.self.now) (record { party = c.args.party; event = Slice pid })) back ∙ slice_lawful (now c.args.self.now) c.args.party c.args.pid c.requires.alive c.requires.claim there in
     keeps_concluded c.self.inside.past _ _ _ _ _ c.slice-done.result c.conclude.result c.self.invariant c.self.view_is may refl c.slice-done.ensures c.conclude.ensures.same c.conclude.ensures.past
 
 pub returns-clause-ran : goal.returns-clause-ran

@@ -4,8 +4,9 @@ use Rattle.muck_links.specs.Sessions.{on_session}
 use Rattle.spec_serve.specs.Marks.{LinksNote}
 use Rattle.spec_serve.specs.inner.Keeping.{Peer}
 use Rattle.muck_peer.specs.Moves.{LinkLoss}
-use Rattle.muck_peer.proofs.Stepping.{on_err, link_same, link_read, link_end, link_fault, link_lost}
+use Rattle.muck_peer.proofs.Stepping.{link_same, link_read, link_end, link_fault, link_lost}
 use Rattle.muck_peer.proofs.peer.Peer.hears.Goals as goal
+use Rattle.muck_io.proofs.Taken.{on_err}
 
 pub returns-in_ok-feed-in-Got-clause-ok : goal.returns-in_ok-feed-in-Got-clause-ok
 returns-in_ok-feed-in-Got-clause-ok g c t counted =
