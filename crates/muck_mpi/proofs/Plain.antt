@@ -79,8 +79,16 @@ heard_plain a this text vars w t h =
     λ i. ((done i).0, (done i).1.1.live)
 
 -- it is shown as it is, and the world is as before
-pub spoken_plain : (a : Actor) (this : Dbref) (how cmd arg text : List ℕ) (w : Live) → text_fault text ≡ None → is_plain text ≡ true → spoken a this how cmd arg text w ≡ (text, w)
+spoken_plain : (a : Actor) (this : Dbref) (how cmd arg text : List ℕ) (w : Live) → text_fault text ≡ None → is_plain text ≡ true → spoken a this how cmd arg text w ≡ (text, w)
 unfolding spoken shown
 spoken_plain a this how cmd arg text w t h =
     let same : heard a this text (variables_of how cmd arg) w ≡ (Ok text, w) = heard_plain a this text (variables_of how cmd arg) w t h in
     λ i. (shown (same i).0, (same i).1)
+
+pub plain_shown : (a : Actor) (this : Dbref) (how cmd arg text : List ℕ) (w : Live) → text_fault text ≡ None → is_plain text ≡ true → text ≡ (spoken a this how cmd arg text w).0
+plain_shown a this how cmd arg text w t h = λ i. (sym (spoken_plain a this how cmd arg text w t h) i).0
+
+pub plain_did : (this : Dbref) (how cmd arg text : List ℕ) (g : Guard) → text_fault text ≡ None → is_plain text ≡ true → Did {X = List ℕ} (λ w. (spoken g.actor this how cmd arg text w).1) g g (Ok text)
+plain_did this how cmd arg text g t h = (λ i. (sym (spoken_plain g.actor this how cmd arg text (world_of g) t h) i).1, (refl, (refl, refl)))
+
+pub ruleset plain_texts = (plain_shown, plain_did)

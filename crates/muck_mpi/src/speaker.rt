@@ -155,7 +155,7 @@ fn is_plain(text: &[u8]) -> bool
 
 /// Evaluates a message of an object, called so where it is spoken, behind what was typed: what is shown of it, which is `MPI error N.`
 /// where it has a fault, and the world after it. A text without brackets and `\` means itself, so no variable is made for it.
-#[tactic(auto, using(crate::proofs::Plain::spoken_plain))]
+#[tactic(auto, using(crate::proofs::Plain::plain_texts))]
 pub fn speak(
     guard: &mut Guard,
     this: Dbref,
