@@ -24,14 +24,23 @@ pub fn place_at(guard: &Guard, x: Dbref) -> Dbref
     }
 }
 
+// The name of an object; what isn't there has none.
+fn name_of<'a>(guard: &'a Guard<'_>, x: Dbref) -> &'a [u8]
+    ensures { result.now ≡ name_at x (world_of guard.now) }
+{
+    match guard.db().get(x) {
+        Some(object) => object.name().as_slice(),
+        None => b"",
+    }
+}
+
 /// The name of an object, with a text behind it; what isn't there has none.
 pub fn name_and(guard: &Guard, x: Dbref, tail: &[u8]) -> Result<Vec<u8>, NoMemory>
     ensures { IfOk result (λ text. text.items ≡ name_at x (world_of guard.now) ++ tail.now) }
 {
-    let mut text = Vec::new(guard.alloc());
-    if let Some(object) = guard.db().get(x) {
-        text.extend_from_slice(object.name().as_slice())?;
-    }
+    let name = name_of(guard, x);
+    let mut text = Vec::with_capacity(guard.alloc(), name.len() + tail.len())?;
+    text.extend_from_slice(name)?;
     text.extend_from_slice(tail)?;
     Ok(text)
 }

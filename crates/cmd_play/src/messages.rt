@@ -41,7 +41,7 @@ fn spoken(
     requires { text_fault how.now ≡ None }
     ensures { Speaks (spoken guard.old.actor x how.now typed.now text) guard.old guard.new result }
 {
-    muck_mpi::speak(guard, x, how, &typed.word, &typed.rest, &text)
+    muck_mpi::speak(guard, x, how, &typed.word, &typed.rest, text)
 }
 
 // A message of an object is spoken once, where it has one.

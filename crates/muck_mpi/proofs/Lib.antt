@@ -2,3 +2,4 @@ pub mod Letters
 pub mod Paths
 pub mod Steps
 pub mod Hearing
+pub mod Plain

@@ -3,3 +3,4 @@ pub mod Hosts
 pub mod Upward
 pub mod Showing
 pub mod Signing
+pub mod Plain

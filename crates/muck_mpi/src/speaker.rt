@@ -7,6 +7,7 @@ ghost use Rattle.muck_perm.specs.inner.Guards.{world_of, Same, Did};
 ghost use Rattle.muck_mpi.specs.inner.Showing.{IsShown};
 ghost use Rattle.spec_mpi.specs.Messages.{heard, variables_of, spoken};
 ghost use Rattle.spec_mpi.specs.Touching.{TouchesNotes};
+ghost use Rattle.muck_mpi.specs.inner.Plain.{is_plain};
 
 use crate::answers::answer;
 use crate::deeds::does;
@@ -144,22 +145,34 @@ pub fn variables(alloc: Global, how: &[u8], cmd: &Line, arg: &Line) -> Result<Va
     Ok(vars)
 }
 
+// Whether a text has neither a bracket nor a `\`, and so means itself.
+fn is_plain(text: &[u8]) -> bool
+    ensures { result ≡ is_plain text.now }
+{
+    text.iter()
+        .all(|b| *b != b'\\' && (*b != b'{' && *b != b'}'))
+}
+
 /// Evaluates a message of an object, called so where it is spoken, behind what was typed: what is shown of it, which is `MPI error N.`
-/// where it has a fault, and the world after it.
+/// where it has a fault, and the world after it. A text without brackets and `\` means itself, so no variable is made for it.
+#[tactic(auto, using(crate::proofs::Plain::plain_texts))]
 pub fn speak(
     guard: &mut Guard,
     this: Dbref,
     how: &[u8],
     cmd: &Line,
     arg: &Line,
-    text: &Line,
+    text: Line,
 ) -> Result<Line, NoMemory>
     requires { text_fault how.now ≡ None }
-    ensures shown { IfOk result (λ line. line ≡ (spoken guard.old.actor this how.now cmd.now arg.now text.now (world_of guard.old)).0) }
-    ensures did { Did (λ w. (spoken guard.old.actor this how.now cmd.now arg.now text.now w).1) guard.old guard.new result }
+    ensures shown { IfOk result (λ line. line ≡ (spoken guard.old.actor this how.now cmd.now arg.now text (world_of guard.old)).0) }
+    ensures did { Did (λ w. (spoken guard.old.actor this how.now cmd.now arg.now text w).1) guard.old guard.new result }
 {
+    if is_plain(text.as_slice()) {
+        return Ok(text);
+    }
     let alloc = guard.alloc();
     let mut vars = variables(alloc, how, cmd, arg)?;
-    let answer = hear(guard, this, text, &mut vars);
+    let answer = hear(guard, this, &text, &mut vars);
     shown_line(alloc, answer)
 }

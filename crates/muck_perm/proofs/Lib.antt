@@ -2,3 +2,4 @@ pub mod Worlds
 pub mod Guarding
 pub mod Founding
 pub mod Flagging
+pub mod Letters

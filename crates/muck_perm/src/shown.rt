@@ -8,10 +8,14 @@ ghost use Rattle.spec_live.specs.Seen.{kind_letter, flag_letters, level_letters,
 ghost use Rattle.spec_rights.specs.Levels.{number_of, shown_as, name_shown};
 
 use crate::levels::{command_level, controls_as};
+use itoa::Buffer;
 use muck_db::Db;
 use muck_model::{Dbref, Flags, Kind, NoMemory};
 use spec_live::{Object, flag_of, has_flag};
 use std::alloc::Global;
+
+/// About how many bytes stand behind a name in a long form.
+const TAIL: usize = 32;
 
 /// The letters of all flags, in their order.
 const LETTERS: &[u8] = b"ABCDHJKLQSVWXZ";
@@ -30,10 +34,13 @@ fn kind_letter(kind: Kind) -> &'static [u8]
 }
 
 // The letters of the flags that are set.
-#[tactic(auto, unfolding(spec_live::specs::Seen::flag_letters))]
+#[tactic(auto, using(crate::proofs::Letters::no_letters), unfolding(spec_live::specs::Seen::flag_letters))]
 fn add_flags(text: &mut Vec<u8>, flags: Flags) -> Result<(), NoMemory>
     ensures { OnOk result (text.new.items ≡ text.old.items ++ flag_letters flags) }
 {
+    if flags.0 == 0 {
+        return Ok(());
+    }
     add_letters(text, LETTERS, flags)
 }
 
@@ -52,14 +59,15 @@ fn add_letters(text: &mut Vec<u8>, letters: &[u8], flags: Flags) -> Result<(), N
 }
 
 // `M` and the level, where it isn't 0.
-fn add_level(alloc: Global, text: &mut Vec<u8>, level: u8) -> Result<(), NoMemory>
+fn add_level(text: &mut Vec<u8>, level: u8) -> Result<(), NoMemory>
     ensures { OnOk result (text.new.items ≡ text.old.items ++ level_letters level) }
 {
     if level == 0 {
         return Ok(());
     }
-    let letters = format!(in alloc; "M{level}")?;
-    text.extend_from_slice(letters.as_bytes())?;
+    let mut buffer = Buffer::new();
+    text.push(b'M')?;
+    text.extend_from_slice(buffer.format(level).as_bytes())?;
     Ok(())
 }
 
@@ -69,13 +77,15 @@ fn add_level(alloc: Global, text: &mut Vec<u8>, level: u8) -> Result<(), NoMemor
 pub fn long_form(alloc: Global, n: u32, object: &Object) -> Result<Vec<u8>, NoMemory>
     ensures { IfOk result (λ text. text.items ≡ long_form n object.now) }
 {
-    let mut text = Vec::new(alloc);
-    text.extend_from_slice(object.name().as_slice())?;
-    let number = format!(in alloc; "(#{n}")?;
-    text.extend_from_slice(number.as_bytes())?;
+    let name = object.name().as_slice();
+    let mut buffer = Buffer::new();
+    let mut text = Vec::with_capacity(alloc, name.len() + TAIL)?;
+    text.extend_from_slice(name)?;
+    text.extend_from_slice(b"(#")?;
+    text.extend_from_slice(buffer.format(n).as_bytes())?;
     text.extend_from_slice(kind_letter(object.kind()))?;
     add_flags(&mut text, object.flags())?;
-    add_level(alloc, &mut text, object.level())?;
+    add_level(&mut text, object.level())?;
     text.push(b')')?;
     Ok(text)
 }

@@ -9,6 +9,9 @@ use itoa::Buffer;
 use muck_model::NoMemory;
 use std::alloc::Global;
 
+/// About how many bytes more than a queue the text of its lines takes.
+const ROOM: usize = 64;
+
 fn push_shown(text: &mut Vec<u8>, d: u32, line: &[u8]) -> Result<(), NoMemory>
     ensures { OnOk result (text.new.items ≡ text.old.items ++ shown d line.now) }
 {
@@ -24,7 +27,7 @@ fn push_shown(text: &mut Vec<u8>, d: u32, line: &[u8]) -> Result<(), NoMemory>
 pub fn lines_text(alloc: Global, d: u32, bytes: &[u8]) -> Result<Vec<u8>, NoMemory>
     ensures { IfOk result (λ text. text.items ≡ flat_map (shown d) (lines_of bytes.now)) }
 {
-    let mut text = Vec::new(alloc);
+    let mut text = Vec::with_capacity(alloc, bytes.len().saturating_add(ROOM))?;
     let mut rest = bytes;
     while !rest.is_empty() {
         let (line, others) = cut_line(rest);

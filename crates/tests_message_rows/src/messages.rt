@@ -92,7 +92,7 @@ impl Messages {
         let word = line(alloc, b"look")?;
         let rest = line(alloc, b"at")?;
         let mut guard = Guard::new(alloc, &mut self.db, &mut self.board, self.actor);
-        let shown = speak(&mut guard, Dbref(0), b"(@desc)", &word, &rest, &text)?;
+        let shown = speak(&mut guard, Dbref(0), b"(@desc)", &word, &rest, text)?;
         add(out, shown.as_slice())
     }
 
