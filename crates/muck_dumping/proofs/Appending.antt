@@ -62,10 +62,6 @@ module _ {D : Type 0} (seen : D → List ℕ) (moment : D → ℕ) (images : D �
       subst (λ (a : D). LeavesBoth moment images f s a s' (LoadsEither log.chosen x)) (sym e)
       (subst (λ (b : D). LeavesBoth moment images f s f b (LoadsEither log.chosen x)) (sym g) (stays log f s x m))
 
-  -- it wasn't even asked
-  pub refused_before : (log : LogState) (f s : D) (payload : List ℕ) (made : Kept) (left : Option LogState) → IsMounted seen moment images log f s → left ≡ None → Appended seen moment images payload made log left f s f s (Err NoMemory)
-  refused_before log f s payload made left m is = record { any = stays log f s _ m; answer = is }
-
   module _ (log new : LogState) (f s f' s' : D) (batch : Batch) (made : Kept) (m : IsMounted seen moment images log f s)
       (any : (w : Kept) → laid (payload_of log batch) (target log.chosen).held.world ≡ Some w → LeavesBoth moment images f s f' s' (LoadsEither log.chosen (after_batch log.chosen (payload_of log batch) w)))
       (payload : List ℕ) (same : payload_of log batch ≡ payload) where

@@ -50,14 +50,14 @@ persist_fits es within = all_fit es 0 es (λ k e is. within k e.object (object_a
 
 -- the batch of a dump that began makes the world of which it is
 pub makes_world : (o : Option LogState) (log : LogState) (p : Pending) → o ≡ Some log → (objects : List Entry) × (tune : Tune) × IsBatchOf (base_in o) objects tune p
-    → All IsStored log.chosen.held.world.objects → All IsStored p.batch.records → length log.chosen.held.world.objects ≤ p.size → MakesWorld log p.batch
-makes_world o log p is has kept stored covers =
+    → All IsStored log.chosen.held.world.objects → length log.chosen.held.world.objects ≤ p.size → MakesWorld log p.batch
+makes_world o log p is has kept covers =
     let objects = has.0 in
     let tune = has.1 in
     let b = has.2 in
     let left : LeavesOut (base_of log) (persist objects) p.batch.records = subst (λ (x : Option LogState). LeavesOut (base_in x) (persist objects) p.batch.records) is b.records in (
       record { objects = persist objects; tune = tune },
-      fit_makes log p.batch objects tune kept stored (batch_few objects left b.consistent) left b.tuning (fine_world objects tune b.consistent (persist_fits objects b.limits) (tune_of tune b.tuned)) (two_there objects b.consistent)
+      fit_makes log p.batch objects tune kept b.storable (batch_few objects left b.consistent) left b.tuning (fine_world objects tune b.consistent (persist_fits objects b.limits) (tune_of tune b.tuned)) (two_there objects b.consistent)
           (omega (arith, covers, b.size)),
     )
 

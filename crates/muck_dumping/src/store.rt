@@ -42,13 +42,6 @@ fn is_of_world(log: &Log, pending: &Pending) -> bool
     kept.len() <= pending.size as usize
 }
 
-// Whether each record of the batch has a spelling, as far as there is memory to see that.
-fn is_storable(log: &Log, pending: &Pending) -> bool
-    ensures { result ≡ true → All IsStored pending.now.batch.records }
-{
-    matches!(log.is_storable(&pending.batch), Ok(true))
-}
-
 impl Store {
     /// The store of a log that was mounted.
     pub fn new(log: Log) -> Store
@@ -144,10 +137,6 @@ impl Store {
         if !is_of_world(log, pending) {
             self.close(number);
             return Err(LogFault::Stale);
-        }
-        if !is_storable(log, pending) {
-            self.close(number);
-            return Err(LogFault::NoMemory);
         }
         match log.append(first, second, &pending.batch) {
             Ok(_) => Ok(()),

@@ -1,5 +1,5 @@
 -- A store keeps no more objects than the world has since, of which it is a front.
-use Rattle.std.proofs.Common.{ℕ, ◌≤◌, List, length, take, ap, arith}
+use Rattle.std.proofs.Common.{◌≡◌, ℕ, ◌≤◌, List, length, take, ap, ◌∙◌, arith}
 use Rattle.muck_model.specs.declared.event.Entry.{Entry}
 use Rattle.muck_model.specs.declared.note.Note.{Note}
 use Rattle.muck_store.proofs.StoredForms.{length_persist}
@@ -13,9 +13,8 @@ use Rattle.spec_dumps.proofs.Fronts.{last_cut_front}
 
 pub front_covered : (w : World) (mounted : ℕ) (h : List Entry) (notes : List Note) (n : ℕ) (s : Chosen) → IsFront w mounted h notes n s → length s.held.world.objects ≤ length (at_cut w h).live.objects
 front_covered w mounted h notes n s f =
-    omega (
-      arith,
-      ap (λ (k : Kept). length k.objects) f.world,
-      length_persist (after w (take f.count h)).live.objects,
-      no_fewer_front w h f.count (last_cut h) (omega (arith, f.cut, last_cut_front h f.count)),
-    )
+    let front : World = after w (take f.count h) in
+    let kept : length s.held.world.objects ≡ length front.live.objects = ap (λ (k : Kept). length k.objects) f.world ∙ length_persist front.live.objects in
+    let later : f.count ≤ last_cut h = omega (arith, f.cut, last_cut_front h f.count) in
+    let grown : length front.live.objects ≤ length (at_cut w h).live.objects = no_fewer_front w h f.count (last_cut h) later in
+    omega (arith, kept, grown)

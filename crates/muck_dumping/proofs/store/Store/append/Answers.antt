@@ -2,12 +2,11 @@ use Rattle.std.proofs.Common.{◌≡◌, ◌<◌, ◌≤◌, ℕ, List, length, 
 use Rattle.muck_log.specs.World.{World}
 use Rattle.muck_log.specs.Store.{LogState}
 use Rattle.muck_log.specs.Append.{base_of, payload_of}
-use Rattle.muck_log.specs.declared.fault.LogFault.TheVariants.{NoMemory}
 use Rattle.muck_log.proofs.Deltas.{left_payload}
 use Rattle.muck_store.specs.inner.Changes.{LeavesOut}
 use Rattle.muck_store.specs.Forms.{persist, world_batch}
 use Rattle.muck_dumping.specs.inner.Dumps.{Appended}
-use Rattle.muck_dumping.proofs.Appending.{appended_ok, appended_err, refused_before}
+use Rattle.muck_dumping.proofs.Appending.{appended_ok, appended_err}
 use Rattle.muck_dumping.proofs.Fitting.{makes_world, has_few, has_lines}
 use Rattle.muck_dumping.proofs.Mounting.{one_log}
 use Rattle.muck_dumping.proofs.store.Store.append.Goals as goal
@@ -24,11 +23,11 @@ pub append-requires-clause-lines : goal.append-requires-clause-lines
 append-requires-clause-lines g c = has_lines _ _ c.requires.batch
 
 pub append-requires-clause-storable : goal.append-requires-clause-storable
-append-requires-clause-storable g c = c.is_storable.ensures c.if-not-is_storable.false
+append-requires-clause-storable g c = c.requires.batch.2.storable
 
 pub append-requires-clause-makes : goal.append-requires-clause-makes
 append-requires-clause-makes g c = λ fresh.
-    makes_world c.args.self.now.log c.in-Some.log c.args.pending.now c.in-Some.is c.requires.batch c.is_of_world.ensures.kept (c.is_storable.ensures c.if-not-is_storable.false) (c.is_of_world.ensures.covers c.if-not-is_of_world.false)
+    makes_world c.args.self.now.log c.in-Some.log c.args.pending.now c.in-Some.is c.requires.batch c.is_of_world.ensures.kept (c.is_of_world.ensures.covers c.if-not-is_of_world.false)
 
 pub append-requires-clause-mounted : goal.append-requires-clause-mounted
 append-requires-clause-mounted g c = λ tells fresh. c.requires.mounted c.in-Some.log tells c.in-Some.is
@@ -40,15 +39,6 @@ returns-then-not-is_of_world-clause-wrote g c = λ log es tune tells is left tun
     let n : ℕ = length c.in-Some.log.chosen.held.world.objects in
     let same : n ≡ length log.chosen.held.world.objects = ap (λ (l : LogState). length l.chosen.held.world.objects) (one_log c.args.self.now.log c.in-Some.log log c.in-Some.is is) in
     absurd (too_many n c.args.pending.now.size (length es) count (c.is_of_world.ensures.more c.if-not-is_of_world.true) (omega (arith, same, covers)))
-
--- memory was wanted to see that the batch can be stored
-
-pub returns-then-not-is_storable-clause-wrote : goal.returns-then-not-is_storable-clause-wrote
-returns-then-not-is_storable-clause-wrote g c = λ log es tune tells is left tuned count fit two covers.
-    let made : World = record { objects = persist es; tune = tune } in
-    let P : LogState → Type 0 = λ l. Appended g.D.Disk.seen g.D.Disk.moment g.D.Disk.images (payload_of log (world_batch es tune)) made l c.close.new.self.log c.args.first.now c.args.second.now c.args.first.now c.args.second.now (Err NoMemory) in
-    subst P (one_log c.args.self.now.log c.in-Some.log log c.in-Some.is is)
-    (refused_before g.D.Disk.seen g.D.Disk.moment g.D.Disk.images c.in-Some.log c.args.first.now c.args.second.now (payload_of log (world_batch es tune)) made c.close.new.self.log (c.requires.mounted c.in-Some.log tells c.in-Some.is) c.close.ensures)
 
 -- it was asked
 
