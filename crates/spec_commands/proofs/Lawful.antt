@@ -1,12 +1,12 @@
 -- What is read by a table is lawful, where each command of the table is.
-use Rattle.std.proofs.Common.{ℕ, List, Option}
+use Rattle.std.proofs.Common.{ℕ, List, Option, None}
 use Rattle.muck_model.specs.declared.dbref.Dbref.{Dbref}
 use Rattle.spec_live.specs.Objects.{Entry}
-use Rattle.spec_live.specs.Lives.{Live, Change, tell}
+use Rattle.spec_live.specs.Lives.{Live, Change}
 use Rattle.spec_live.proofs.Keeping.{Keeps, keeps_either, keeps_where}
 use Rattle.spec_rights.specs.declared.act.Actor.{Actor}
 use Rattle.spec_rights.specs.Licence.{Freedom}
-use Rattle.spec_rights.proofs.Licences.{Quiet, Stays, Ends, Whole, Always, itself, whole_ends, whole_quiet, ends_stays}
+use Rattle.spec_rights.proofs.Licences.{Quiet, Ends, Whole, Always, itself, whole_ends, whole_quiet}
 use Rattle.spec_rights.proofs.Shown.{quiet_tell}
 use Rattle.spec_commands.specs.declared.outcome.Outcome.{Outcome}
 use Rattle.spec_commands.specs.declared.outcome.Outcome.TheVariants.{Done}

@@ -7,12 +7,11 @@ use Rattle.muck_match.specs.declared.exits.ExitHit.{ExitHit}
 use Rattle.muck_match.specs.Exits.{exit_for}
 use Rattle.spec_live.specs.Seen.{scenery_of}
 use Rattle.spec_live.specs.Objects.{Entry}
-use Rattle.spec_live.specs.Lives.{Live, ◌▸◌, reading, unchanged}
+use Rattle.spec_live.specs.Lives.{Live, reading, unchanged}
 use Rattle.spec_rights.specs.declared.act.Actor.{Actor}
 use Rattle.spec_rights.specs.Verdict.{is_guarded}
 use Rattle.spec_rights.specs.Licence.{Freedom, moving, clearing, oneself}
 use Rattle.spec_rights.proofs.Licences.{Own, Proper, Whole, Always, itself, whole_ends, whole_quiet, ends_stays, quiet_unchanged, whole_by}
-use Rattle.spec_rights.proofs.Shown.{shown}
 use Rattle.spec_commands.specs.declared.outcome.Outcome.{Outcome}
 use Rattle.spec_commands.specs.declared.outcome.Outcome.TheVariants.{Done, NotMine}
 use Rattle.spec_commands.specs.declared.word.PlayWord.{PlayWord}

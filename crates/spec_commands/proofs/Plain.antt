@@ -1,6 +1,5 @@
 -- What is to follow a command: its line isn't left to another, and players and builders retune nothing.
 use Rattle.std.proofs.Common.{ℕ, List, Option, Some, None, Result, Ok, Err}
-use Rattle.muck_model.specs.declared.dbref.Dbref.{Dbref}
 use Rattle.muck_match.specs.declared.exits.ExitHit.{ExitHit}
 use Rattle.spec_live.specs.declared.fault.DbFault.{DbFault}
 use Rattle.spec_live.specs.Lives.{Live, Change, followed}
