@@ -12,7 +12,6 @@ pub mod Stores
 pub mod Writing
 pub mod Written
 pub mod Placing
-pub mod Spelled
 pub mod Refusing
 pub mod Fine
 pub mod Spellings

@@ -9,7 +9,6 @@ mod log;
 mod mount;
 mod reader;
 mod same;
-mod storable;
 mod write;
 
 pub use fault::LogFault;

@@ -14,10 +14,8 @@ ghost use Rattle.muck_log.specs.Store.{LeavesBoth, MayBeAt, IsMounted, LogState,
 ghost use Rattle.muck_log.specs.Append.{IsEither, IsAppended, IsLaidNext, IsTarget, IsReady, IsRefused, IsFinished, IsNext, IsTouching, LoadsEither, MakesWorld, base_of, payload_of};
 ghost use Rattle.muck_codec.specs.Batches.{HasFewLines};
 ghost use Rattle.muck_codec.specs.inner.Stored.{IsStored};
-ghost use Rattle.std.specs.Bool.{Decides};
 
 use crate::reader::Reader;
-use crate::storable::are_storable;
 use crate::write::put_target;
 use crate::{Kept, LogFault};
 use muck_codec::{Batch, Stored};
@@ -245,13 +243,6 @@ impl Log {
         self.world.objects()
     }
 
-    /// Whether each record of a batch has a spelling, so that `append` may be called with it.
-    pub fn is_storable(&self, batch: &Batch) -> Result<bool, NoMemory>
-        ensures { IfOk result (λ yes. Decides yes (All IsStored batch.now.records)) }
-    {
-        are_storable(self.alloc, batch.records.as_slice())
-    }
-
     // The bytes of a batch over the world that it is laid over, of which each object has a spelling.
     #[tactic(auto, unfolding(crate::specs::Append::payload_of, crate::specs::Store::target, crate::specs::File::begin))]
     fn payload(&self, batch: &Batch) -> Result<Vec<u8>, NoMemory>
@@ -328,9 +319,9 @@ impl Log {
     /// what is kept, or the starting world where a new generation is opened. So it makes the whole world, where that has no
     /// fewer objects than are kept. All memory is taken before the first write.
     ///
-    /// The caller has seen that each record of the batch has a spelling (`is_storable` tells), and that the batch, laid
-    /// over that world, makes one that hangs together with every value within its limits. It isn't judged again here: the
-    /// batch of a consistent world makes one (`fit_makes`).
+    /// Each record of the batch has a spelling, and the batch, laid over that world, makes one that hangs together with
+    /// every value within its limits. It isn't judged here: what a world cuts has a spelling, and the batch of a consistent
+    /// world makes one (`fit_makes`).
     ///
     /// `StoreFull` comes exactly where such a batch would pass the limit, before any write; the log stays as it was then.
     /// `DiskFault` comes only where a disk's count of faults rose, and leaves the log stale, as memory that ran out while

@@ -1,7 +1,7 @@
-use Rattle.std.proofs.Common.{sym, ◌∙◌, ap, arith}
+use Rattle.std.proofs.Common.{sym, ◌∙◌, ap, subst, arith}
+use Rattle.std.proofs.lemmas.List.Elements.{All-get_or}
 use Rattle.muck_codec.specs.inner.Stored.{IsStored}
 use Rattle.muck_log.proofs.Written.{begins, counts, puts, leaves}
-use Rattle.muck_log.proofs.Spelled.{all_at}
 use Rattle.muck_log.proofs.kept.put_written.Goals as goal
 use Rattle.muck_log.proofs.kept.put_written.Goals.{then-is_written+in_ok-put_record, else-is_written}
 
@@ -9,7 +9,7 @@ pub loop-object-init : goal.loop-object-init
 loop-object-init c = begins c.args.objects.now c.args.out.now.items
 
 pub is_written-requires-clause-storable : goal.is_written-requires-clause-storable
-is_written-requires-clause-storable c = all_at IsStored c.args.records.now c.loop-object.object-index c.object-item.result c.loop-object-test.true c.object-item.is c.requires.storable
+is_written-requires-clause-storable c = subst IsStored (sym c.object-item.is) (All-get_or IsStored c.args.records.now c.loop-object.object-index c.object-item.result c.loop-object-test.true c.requires.storable)
 
 pub overflow_add-count : goal.overflow_add-count
 overflow_add-count c =
