@@ -148,8 +148,9 @@ impl Running {
             mut frame,
         } = self;
         let start = start_of(code.get(), word);
-        let lent = frame.get_mut();
-        lent.enter(alloc, program, start.owned, start.place, start.variables)?;
+        frame
+            .get_mut()
+            .enter(alloc, program, start.owned, start.place, start.variables)?;
         programs.push(Entered { program, code })?;
         Ok(Running { programs, frame })
     }
