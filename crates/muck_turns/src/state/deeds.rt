@@ -16,7 +16,7 @@ use muck_model::NoMemory;
 use muck_perm::{Guard, level, user};
 use muf_frame::{Frame, PrimFault};
 use muf_model::{Family, MufFault, Prim};
-use muf_running::{FrameBox, Programs, Running};
+use muf_running::{Programs, Running};
 use spec_events::Agent;
 use spec_rights::Actor;
 
@@ -61,41 +61,33 @@ impl From<NoMemory> for DeedFault {
 }
 
 impl State {
-    /// Does the shared primitive that comes next in a process, for who acts there.
+    /// Does the shared primitive that comes next in a process.
     #[tactic(auto, unfolding(spec_events::specs::Slices::deed))]
     pub(crate) fn do_deed(
         &mut self,
         pid: i32,
         agent: Agent,
-        actor: Actor,
         prim: Prim,
         running: Running,
     ) -> Result<Done, NoMemory>
-        requires at { IsAtPrimitive running.now }
-        requires actor { actor ≡ acting agent running self.old.live.objects }
+        requires { IsAtPrimitive running.now }
         ensures { IfOk result (λ done. DoneAs (deed pid agent prim running self.old) running self.new done) }
     {
         match prim.family() {
-            Family::Process => self.do_process(pid, agent, actor, prim, running),
-            _ => self.do_row(agent, actor, prim, running),
+            Family::Process => self.do_process(pid, agent, prim, running),
+            _ => self.do_row(agent, prim, running),
         }
     }
 
     // A primitive that has a row: the world and the frame of the process are lent to it.
     #[tactic(auto, unfolding(spec_events::specs::Slices::row_done))]
-    fn do_row(
-        &mut self,
-        agent: Agent,
-        actor: Actor,
-        prim: Prim,
-        running: Running,
-    ) -> Result<Done, NoMemory>
-        requires at { IsAtPrimitive running.now }
-        requires actor { actor ≡ acting agent running self.old.live.objects }
+    fn do_row(&mut self, agent: Agent, prim: Prim, running: Running) -> Result<Done, NoMemory>
+        requires { IsAtPrimitive running.now }
         ensures { IfOk result (λ done. DoneAs (row_done agent prim running self.old) running self.new done) }
     {
+        let actor = self.actor(agent, &running)?;
         let (programs, mut frame) = running.take_apart();
-        match self.apply(prim, actor, agent.descr, frame.get_mut()) {
+        match self.apply(prim, actor, agent.descr, &mut frame) {
             Ok(()) => Ok(Done::Does(passed(programs, frame))),
             Err(PrimFault::Fault(fault)) => {
                 Ok(Done::Fails(Running::rejoin(programs, frame), fault))
@@ -157,7 +149,7 @@ fn apply_by_family(
 }
 
 /// The process behind the primitive at which it stands.
-pub fn passed(programs: Programs, frame: FrameBox) -> Running
+pub fn passed(programs: Programs, frame: Frame) -> Running
     requires { PassesOn programs (flat frame) }
     ensures { (f : Flat) (s : Source) → Apart programs f s → Differs f (flat frame) → result ≡ passed (with_frame (flat frame) s) }
 {
@@ -174,6 +166,6 @@ pub fn behind(running: Running, items: usize) -> Running
     ensures most { length (drop items running.stack) + items ≤ 1024 }
 {
     let (programs, mut frame) = running.take_apart();
-    frame.get_mut().drop_items(items);
+    frame.drop_items(items);
     passed(programs, frame)
 }
