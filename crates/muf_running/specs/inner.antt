@@ -1,4 +1,3 @@
 pub mod Fitting
 pub mod Stints
 pub mod Lending
-pub mod Boxing

@@ -7,7 +7,6 @@ ghost use Rattle.muf_running.specs.inner.Lending.{Shows, Apart, Differs, Rejoins
 
 use crate::Running;
 use crate::entered::Entered;
-use crate::frame_box::FrameBox;
 use muf_frame::Frame;
 use std::marker::Model;
 
@@ -35,11 +34,11 @@ impl Running {
     pub fn frame(&self) -> &Frame
         ensures { Shows (flat result.now) self.now }
     {
-        self.frame.get()
+        &self.frame
     }
 
     /// The programs and the frame of a process, which is put together again of both.
-    pub fn take_apart(self) -> (Programs, FrameBox)
+    pub fn take_apart(self) -> (Programs, Frame)
         ensures apart { Apart result.0 (flat result.1) self }
         ensures shows { Shows (flat result.1) self }
     {
@@ -49,7 +48,7 @@ impl Running {
 
     /// Puts a process together again, whose frame may have got another stack and other variables of the process and of
     /// its programs: it stands where it stood, with these.
-    pub fn rejoin(programs: Programs, frame: FrameBox) -> Running
+    pub fn rejoin(programs: Programs, frame: Frame) -> Running
         requires { Rejoins programs (flat frame) }
         ensures { (f : Flat) (s : Source) → Apart programs f s → Differs f (flat frame) → result ≡ with_frame (flat frame) s }
     {
