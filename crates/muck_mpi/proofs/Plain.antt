@@ -9,7 +9,6 @@ use Rattle.mpi.specs.Brackets.{byte, begun, balances, escaped, call_ahead, first
 use Rattle.mpi.specs.Made.{is_long}
 use Rattle.mpi.specs.Thoughts.{State, Thought}
 use Rattle.mpi.specs.Meaning.{Scene, spelled, entered, evaluated, nesting_most, meaning}
-use Rattle.mpi.specs.declared.mind.Mind.{Mind}
 use Rattle.mpi.proofs.Inside.{all_head, all_tail, text_short}
 use Rattle.mpi.proofs.Spelling.{spelled_end, spelled_byte}
 use Rattle.muck_model.specs.declared.dbref.Dbref.{Dbref}
