@@ -1,4 +1,4 @@
-use Rattle.std.proofs.Common.{Bool, true, false, sym, ◌∙◌}
+use Rattle.std.proofs.Common.{◌≡◌, Bool, true, false, sym, ◌∙◌}
 use Rattle.spec_events.specs.Histories.{now}
 use Rattle.muck_worker.proofs.Idling.{idle_lawful}
 use Rattle.muck_worker.proofs.deeds.idles.Goals as goal
