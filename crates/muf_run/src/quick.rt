@@ -3,7 +3,7 @@ ghost use Rattle.std.specs.Prelude.{◌≡◌, IsTrue, IsFalse, length};
 ghost use Rattle.muf_model.specs.declared.code.Code.{Code as Codes};
 ghost use Rattle.muf_model.specs.declared.code.Word.TheVariants.{Primitive};
 ghost use Rattle.muf_model.specs.inner.Flat.{Flat};
-ghost use Rattle.muf_model.specs.Datum.{int};
+ghost use Rattle.muf_model.specs.Datum.{int, text as text_item, variable};
 ghost use Rattle.muf_model.specs.Rows.{primitive};
 ghost use Rattle.muf_model.specs.declared.prims.Primitive.TheVariants.{Pop, Dup, Swap, Add};
 ghost use Rattle.muf_frame.specs.inner.Shown.{flat};
@@ -15,7 +15,7 @@ ghost use Rattle.muf_run.specs.inner.Machine.{going};
 use crate::loops::{has_turn, next_index};
 use crate::run::fetch;
 use muf_frame::{Frame, Mark, Turns};
-use muf_model::{Closer, Code, Instr, Literal, Prim, STACK_MOST, Value, Word};
+use muf_model::{Closer, Code, Instr, Literal, Prim, STACK_MOST, Text, Value, VarId, Word};
 
 // An integer that stands in the source.
 #[inline(always)]
@@ -28,6 +28,39 @@ fn quick_number(frame: &mut Frame, number: i32) -> bool
         return false;
     }
     frame.push_item(Value::Int(number));
+    true
+}
+
+// A text that stands in the source: its bytes are shared.
+#[inline(always)]
+#[tactic(auto, using(muf_frame::proofs::Data::data_steps))]
+fn quick_text(frame: &mut Frame, text: &Text) -> bool
+    ensures yes { IsTrue result → machine.pushed (text_item text.now) (flat frame.old) ≡ going 0 (flat frame.new) }
+    ensures no { IsFalse result → frame.new ≡ frame.old }
+{
+    if frame.len() >= STACK_MOST {
+        return false;
+    }
+    match text.share() {
+        Ok(shared) => {
+            frame.push_item(Value::Str(shared));
+            true
+        }
+        Err(_) => false,
+    }
+}
+
+// A variable.
+#[inline(always)]
+#[tactic(auto, using(muf_frame::proofs::Data::data_steps))]
+fn quick_variable(frame: &mut Frame, number: VarId) -> bool
+    ensures yes { IsTrue result → machine.pushed (variable number.0) (flat frame.old) ≡ going 0 (flat frame.new) }
+    ensures no { IsFalse result → frame.new ≡ frame.old }
+{
+    if frame.len() >= STACK_MOST {
+        return false;
+    }
+    frame.push_item(Value::Var(number));
     true
 }
 
@@ -209,6 +242,8 @@ fn quick_at(frame: &mut Frame, word: &Word) -> bool
 {
     match word {
         Word::Literal(Literal::Int(number)) => quick_number(frame, *number),
+        Word::Literal(Literal::Text(text)) => quick_text(frame, text),
+        Word::Variable(number) => quick_variable(frame, *number),
         Word::Primitive(prim) => quick_primitive(frame, *prim),
         Word::NextIndex => quick_index(frame),
         _ => false,
