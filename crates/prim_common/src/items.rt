@@ -13,7 +13,7 @@ use muck_model::Dbref;
 use muck_perm::{Guard, verdict};
 use muf_frame::Frame;
 use muf_model::{MufFault, Need, Value};
-use spec_rights::Act;
+use spec_rights::{Act, Rule};
 
 /// What is asked of an item.
 #[derive(Clone, Copy)]
@@ -34,21 +34,28 @@ fn permit(guard: &Guard, act: &Act) -> Result<(), MufFault>
     }
 }
 
-/// Whether the actor has the level of a primitive.
+/// Whether the actor has the level of a primitive: the first rule of permission, which alone speaks of that.
 #[tactic(auto, unfolding(spec_prims::specs::Asking::level_fault))]
 #[inline(always)]
 pub(crate) fn reach_level(guard: &Guard, level: u8) -> Result<(), MufFault>
     ensures { Passes (level_fault guard.now.actor (objects_of guard.now) level) result }
 {
-    permit(guard, &Act::Shared { level })
+    if guard.actor().level < level {
+        let denial = Rule::P1.denies(guard.actor().player);
+        return Err(MufFault::Denied(denial.rule));
+    }
+    Ok(())
 }
 
-// Whether the actor may name an object.
+// Whether the actor may name an object: only at the lowest level it has to be near.
 #[tactic(auto, unfolding(spec_prims::specs::Asking::near_fault))]
 #[inline(always)]
 fn reach_object(guard: &Guard, object: Dbref) -> Result<(), MufFault>
     ensures { Passes (near_fault guard.now.actor (objects_of guard.now) object.0) result }
 {
+    if guard.actor().level != 1 {
+        return Ok(());
+    }
     permit(guard, &Act::Near { object })
 }
 
