@@ -95,7 +95,7 @@ impl State {
         ensures { IfOk result (λ done. DoneAs (row_done agent prim running self.old) running self.new done) }
     {
         let (programs, mut frame) = running.take_apart();
-        match self.apply(prim, actor, agent.descr, frame.get_mut()) {
+        match self.apply(prim, actor, agent.descr, &mut frame) {
             Ok(()) => Ok(Done::Does(passed(programs, frame))),
             Err(PrimFault::Fault(fault)) => {
                 Ok(Done::Fails(Running::rejoin(programs, frame), fault))
@@ -110,12 +110,12 @@ impl State {
         prim: Prim,
         actor: Actor,
         descr: Option<u32>,
-        frame: &mut Frame,
+        frame: &mut FrameBox,
     ) -> Result<(), PrimFault>
         ensures { AppliedTo (shared prim actor descr (locked_by (flat frame.old).marks) (flat frame.old).stack self.old.live) frame.old frame.new self.old self.new result }
     {
         let mut guard = Guard::new(self.alloc, &mut self.db, &mut self.board, actor);
-        apply_by_family(prim, &mut guard, frame, descr)
+        apply_by_family(prim, &mut guard, frame.get_mut(), descr)
     }
 
     /// The running program acts by its level and its user, for the player of the process.
@@ -174,6 +174,6 @@ pub fn behind(running: Running, items: usize) -> Running
     ensures most { length (drop items running.stack) + items ≤ 1024 }
 {
     let (programs, mut frame) = running.take_apart();
-    frame.get_mut().drop_items(items);
+    frame.drop_items(items);
     passed(programs, frame)
 }
