@@ -61,31 +61,39 @@ impl From<NoMemory> for DeedFault {
 }
 
 impl State {
-    /// Does the shared primitive that comes next in a process.
+    /// Does the shared primitive that comes next in a process, for who acts there.
     #[tactic(auto, unfolding(spec_events::specs::Slices::deed))]
     pub(crate) fn do_deed(
         &mut self,
         pid: i32,
         agent: Agent,
+        actor: Actor,
         prim: Prim,
         running: Running,
     ) -> Result<Done, NoMemory>
-        requires { IsAtPrimitive running.now }
+        requires at { IsAtPrimitive running.now }
+        requires actor { actor ≡ acting agent running self.old.live.objects }
         ensures { IfOk result (λ done. DoneAs (deed pid agent prim running self.old) running self.new done) }
     {
         match prim.family() {
-            Family::Process => self.do_process(pid, agent, prim, running),
-            _ => self.do_row(agent, prim, running),
+            Family::Process => self.do_process(pid, agent, actor, prim, running),
+            _ => self.do_row(agent, actor, prim, running),
         }
     }
 
     // A primitive that has a row: the world and the frame of the process are lent to it.
     #[tactic(auto, unfolding(spec_events::specs::Slices::row_done))]
-    fn do_row(&mut self, agent: Agent, prim: Prim, running: Running) -> Result<Done, NoMemory>
-        requires { IsAtPrimitive running.now }
+    fn do_row(
+        &mut self,
+        agent: Agent,
+        actor: Actor,
+        prim: Prim,
+        running: Running,
+    ) -> Result<Done, NoMemory>
+        requires at { IsAtPrimitive running.now }
+        requires actor { actor ≡ acting agent running self.old.live.objects }
         ensures { IfOk result (λ done. DoneAs (row_done agent prim running self.old) running self.new done) }
     {
-        let actor = self.actor(agent, &running)?;
         let (programs, mut frame) = running.take_apart();
         match self.apply(prim, actor, agent.descr, &mut frame) {
             Ok(()) => Ok(Done::Does(passed(programs, frame))),
