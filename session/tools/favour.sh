@@ -1,0 +1,20 @@
+#!/bin/bash
+# priorities: the base and gate first, helpers' checks behind
+while sleep 4; do
+  for p in $(pgrep -f "bin/rt (ci|must-fail)"); do renice -n -18 -p $p >/dev/null 2>&1; done
+  for p in $(pgrep -x rattle; pgrep antt-kern; pgrep -f "bin/rt (check|lib|try|tidy)"; pgrep -x rattle-try; pgrep -x clang; pgrep -x valgrind; pgrep -f callgrind); do
+    c=$(readlink /proc/$p/cwd 2>/dev/null)
+    case "$c" in
+      /tmp/rattle-native*) n=-9;;
+      /tmp/rt-edit*) n=-2;;
+      /tmp/rt-copy*/tests_*|/tmp/rt-copy*/bench*) n=-3;;
+      /tmp/rt-copy*) n=-12;;
+      /work/lead*) n=-13;;
+      /work/hB*) n=-3;;
+      /work/hA*) n=-3;;
+      /work/unproved*) n=1;;
+      *) n=0;;
+    esac
+    for t in /proc/$p/task/*; do renice -n $n -p ${t##*/} >/dev/null 2>&1; done
+  done
+done
