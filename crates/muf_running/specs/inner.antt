@@ -1,3 +1,4 @@
 pub mod Fitting
 pub mod Stints
 pub mod Lending
+pub mod Boxing

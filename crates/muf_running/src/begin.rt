@@ -12,6 +12,7 @@ ghost use Rattle.muf_running.specs.Begins.{common_of, StartsAt};
 
 use crate::Running;
 use crate::entered::Entered;
+use crate::frame_box::FrameBox;
 use muck_model::{Dbref, Line, NoMemory};
 use muf_frame::Frame;
 use muf_model::{Code, Shared, Text, Value, VarId};
@@ -97,6 +98,7 @@ impl Running {
         let start = start_of(code.get(), count - 1);
         let mut frame = first_frame(alloc, occasion, arg)?;
         frame.begin(alloc, program, start.owned, start.place, start.variables)?;
+        let frame = FrameBox::new(alloc, frame)?;
         let mut programs = Vec::new(alloc);
         programs.push(Entered { program, code })?;
         Ok(Some(Running { programs, frame }))

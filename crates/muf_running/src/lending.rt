@@ -7,6 +7,7 @@ ghost use Rattle.muf_running.specs.inner.Lending.{Shows, Apart, Differs, Rejoins
 
 use crate::Running;
 use crate::entered::Entered;
+use crate::frame_box::FrameBox;
 use muf_frame::Frame;
 use std::marker::Model;
 
@@ -34,11 +35,11 @@ impl Running {
     pub fn frame(&self) -> &Frame
         ensures { Shows (flat result.now) self.now }
     {
-        &self.frame
+        self.frame.get()
     }
 
     /// The programs and the frame of a process, which is put together again of both.
-    pub fn take_apart(self) -> (Programs, Frame)
+    pub fn take_apart(self) -> (Programs, FrameBox)
         ensures apart { Apart result.0 (flat result.1) self }
         ensures shows { Shows (flat result.1) self }
     {
@@ -48,7 +49,7 @@ impl Running {
 
     /// Puts a process together again, whose frame may have got another stack and other variables of the process and of
     /// its programs: it stands where it stood, with these.
-    pub fn rejoin(programs: Programs, frame: Frame) -> Running
+    pub fn rejoin(programs: Programs, frame: FrameBox) -> Running
         requires { Rejoins programs (flat frame) }
         ensures { (f : Flat) (s : Source) → Apart programs f s → Differs f (flat frame) → result ≡ with_frame (flat frame) s }
     {

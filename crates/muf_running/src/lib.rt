@@ -3,11 +3,13 @@
 
 mod begin;
 mod entered;
+mod frame_box;
 mod lending;
 mod running;
 mod stint;
 
 pub use begin::Occasion;
+pub use frame_box::FrameBox;
 pub use lending::Programs;
 pub use running::Running;
 pub use stint::{Ran, Stint};

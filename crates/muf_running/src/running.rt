@@ -12,8 +12,8 @@ ghost use Rattle.muf_running.specs.inner.Fitting.{codes_of, ProgramsFit, program
 
 use crate::begin::start_of;
 use crate::entered::{Entered, copy_entered, has_program, numbers_below};
+use crate::frame_box::FrameBox;
 use muck_model::{Dbref, NoMemory, Row};
-use muf_frame::Frame;
 use muf_model::{Code, STACK_MOST, Shared, Value};
 use std::alloc::Global;
 use std::marker::Model;
@@ -24,7 +24,7 @@ use std::marker::Model;
 pub struct Running {
     // the running program last
     pub(crate) programs: Vec<Entered>,
-    pub(crate) frame: Frame,
+    pub(crate) frame: FrameBox,
 }
 
 impl Model for Running {
@@ -55,7 +55,7 @@ pub(crate) fn running_code(programs: &[Entered]) -> &Code
 }
 
 // A process that has left so many programs.
-pub(crate) fn left(programs: Vec<Entered>, frame: Frame, count: usize) -> Running
+pub(crate) fn left(programs: Vec<Entered>, frame: FrameBox, count: usize) -> Running
     requires { ProgramsFit (drop count (reverse programs.items)) (flat frame) }
     ensures { result ≡ decode (codes_of (drop count (reverse programs.items))) (flat frame) }
 {
@@ -73,7 +73,7 @@ impl Running {
     pub fn program(&self) -> Dbref
         ensures { result.0 ≡ self.now.program.number }
     {
-        self.frame.program()
+        self.frame.get().program()
     }
 
     /// The numbers of the programs that were entered before the running one, the nearest first.
@@ -95,15 +95,15 @@ impl Running {
         ensures value { result ≡ calls_of self.now.marks }
         ensures most { result ≤ 511 }
     {
-        self.frame.calls()
+        self.frame.get().calls()
     }
 
     /// An item more, where there is room.
     pub fn hand(&mut self, item: Value)
         ensures { self.new ≡ handed (view item) self.old }
     {
-        if self.frame.len() < STACK_MOST {
-            self.frame.push_item(item);
+        if self.frame.get().len() < STACK_MOST {
+            self.frame.get_mut().push_item(item);
         }
     }
 
@@ -112,7 +112,8 @@ impl Running {
         ensures { IfOk result (λ r. r ≡ self.now) }
     {
         let programs = copy_entered(alloc, &self.programs)?;
-        let frame = self.frame.copy(alloc)?;
+        let frame = self.frame.get().copy(alloc)?;
+        let frame = FrameBox::new(alloc, frame)?;
         Ok(Running { programs, frame })
     }
 
@@ -121,10 +122,10 @@ impl Running {
         requires { IsAtPrimitive self.old.now }
         ensures { self.new ≡ passed self.old }
     {
-        let place = self.frame.place();
+        let place = self.frame.get().place();
         let length = running_code(&self.programs).placed.len();
         if place < length {
-            self.frame.go_to(place + 1);
+            self.frame.get_mut().go_to(place + 1);
         }
     }
 
@@ -147,7 +148,9 @@ impl Running {
             mut frame,
         } = self;
         let start = start_of(code.get(), word);
-        frame.enter(alloc, program, start.owned, start.place, start.variables)?;
+        frame
+            .get_mut()
+            .enter(alloc, program, start.owned, start.place, start.variables)?;
         programs.push(Entered { program, code })?;
         Ok(Running { programs, frame })
     }

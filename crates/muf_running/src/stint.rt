@@ -10,6 +10,7 @@ ghost use Rattle.muf_running.specs.inner.Stints.{RanAlike, AskedAt, Raised, Loca
 
 use crate::Running;
 use crate::entered::Entered;
+use crate::frame_box::FrameBox;
 use crate::running::{left, running_code};
 use muck_model::NoMemory;
 use muf_frame::Frame;
@@ -53,7 +54,7 @@ fn run_current(
 }
 
 // The process as a run left it.
-fn stopped(programs: Vec<Entered>, frame: Frame, local: Local) -> Ran
+fn stopped(programs: Vec<Entered>, frame: FrameBox, local: Local) -> Ran
     requires { (o : Outcome) × LocalFits (reverse programs.items) local (flat frame) o }
     ensures { (o : Outcome) → LocalFits (reverse programs.items) local (flat frame) o → RanAlike result o }
 {
@@ -79,8 +80,8 @@ impl Running {
             programs,
             mut frame,
         } = self;
-        let local = run_current(alloc, &programs, &mut frame, most)?;
-        let units = frame.units();
+        let local = run_current(alloc, &programs, frame.get_mut(), most)?;
+        let units = frame.get().units();
         let ran = stopped(programs, frame, local);
         Ok(Stint { ran, units })
     }
@@ -94,7 +95,7 @@ impl Running {
             programs,
             mut frame,
         } = self;
-        match frame.unwind(alloc, fault)? {
+        match frame.get_mut().unwind(alloc, fault)? {
             Some(count) => Ok(Some(left(programs, frame, count))),
             None => Ok(None),
         }
