@@ -148,9 +148,8 @@ impl Running {
             mut frame,
         } = self;
         let start = start_of(code.get(), word);
-        frame
-            .get_mut()
-            .enter(alloc, program, start.owned, start.place, start.variables)?;
+        let lent = frame.get_mut();
+        lent.enter(alloc, program, start.owned, start.place, start.variables)?;
         programs.push(Entered { program, code })?;
         Ok(Running { programs, frame })
     }
