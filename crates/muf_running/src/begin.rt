@@ -37,7 +37,7 @@ fn set_common(frame: &mut Frame, number: u32, value: Value)
 }
 
 // The frame of a process that has run nothing.
-fn first_frame(alloc: Global, occasion: Occasion, arg: Line) -> Result<Frame, NoMemory>
+fn first_frame(alloc: Global, occasion: Occasion, arg: Line) -> Result<FrameBox, NoMemory>
     ensures { IfOk result (λ f. flat f ≡ record (fresh arg) { common = common_of occasion }) }
 {
     let Occasion {
@@ -52,7 +52,7 @@ fn first_frame(alloc: Global, occasion: Occasion, arg: Line) -> Result<Frame, No
     set_common(&mut frame, 1, Value::Ref(place));
     set_common(&mut frame, 2, Value::Ref(trigger));
     set_common(&mut frame, 3, Value::Str(command));
-    Ok(frame)
+    FrameBox::new(alloc, frame)
 }
 
 // Where a word of a program begins, how many variables it has, and how many its program has.
@@ -97,8 +97,8 @@ impl Running {
         }
         let start = start_of(code.get(), count - 1);
         let mut frame = first_frame(alloc, occasion, arg)?;
-        frame.begin(alloc, program, start.owned, start.place, start.variables)?;
-        let frame = FrameBox::new(alloc, frame)?;
+        let lent = frame.get_mut();
+        lent.begin(alloc, program, start.owned, start.place, start.variables)?;
         let mut programs = Vec::new(alloc);
         programs.push(Entered { program, code })?;
         Ok(Some(Running { programs, frame }))
