@@ -1,5 +1,5 @@
 // A frame on the heap.
-ghost use Rattle.std.specs.Prelude.{◌≡◌, IfOk};
+ghost use Rattle.std.specs.Prelude.{◌≡◌, ◌≤◌, ◌+◌, IfOk, drop, length};
 ghost use Rattle.std.specs.Borrow.{sem};
 ghost use Rattle.muf_frame.specs.inner.Shown.{Shown};
 ghost use Rattle.muf_running.specs.inner.Boxing.{LendsFrame};
@@ -52,5 +52,14 @@ impl FrameBox {
         ensures* writes_back { sem 𝓛 (LendsFrame self.entry result) }
     {
         self.inner.as_mut()
+    }
+
+    /// Drops so many items from the top of the stack.
+    pub fn drop_items(&mut self, count: usize)
+        requires { count ≤ length self.old.stack }
+        ensures value { self.new ≡ record self.old { stack = drop count self.old.stack } }
+        ensures most { length self.new.stack + count ≤ 1024 }
+    {
+        self.get_mut().drop_items(count);
     }
 }

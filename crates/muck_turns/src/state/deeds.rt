@@ -102,12 +102,12 @@ impl State {
         prim: Prim,
         actor: Actor,
         descr: Option<u32>,
-        frame: &mut Frame,
+        frame: &mut FrameBox,
     ) -> Result<(), PrimFault>
         ensures { AppliedTo (shared prim actor descr (locked_by (flat frame.old).marks) (flat frame.old).stack self.old.live) frame.old frame.new self.old self.new result }
     {
         let mut guard = Guard::new(self.alloc, &mut self.db, &mut self.board, actor);
-        apply_by_family(prim, &mut guard, frame, descr)
+        apply_by_family(prim, &mut guard, frame.get_mut(), descr)
     }
 
     /// The running program acts by its level and its user, for the player of the process.

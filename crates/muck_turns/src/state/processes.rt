@@ -19,9 +19,9 @@ use crate::state::deeds::{DeedFault, Done, behind, passed};
 use muck_model::{Dbref, Line, NoMemory};
 use muck_perm::Guard;
 use muck_queue::{Events, Mode, Process, Wait};
-use muf_frame::{Frame, PrimFault};
+use muf_frame::PrimFault;
 use muf_model::{Prim, Text, Value};
-use muf_running::Running;
+use muf_running::{FrameBox, Running};
 use prim_proc::{After, apply};
 use spec_events::{Agent, Call, Manner};
 use spec_processes::Place;
@@ -92,13 +92,13 @@ impl State {
         prim: Prim,
         place: Place,
         actor: Actor,
-        frame: &mut Frame,
+        frame: &mut FrameBox,
     ) -> Result<After, PrimFault>
         requires { family_of prim ≡ ProcessFamily }
         ensures { ProcessAppliedTo (processed prim place actor (locked_by (flat frame.old).marks) (flat frame.old).stack self.old.live self.old.queue) frame.old frame.new self.old self.new result }
     {
         let mut guard = Guard::new(self.alloc, &mut self.db, &mut self.board, actor);
-        apply(prim, place, &mut self.queue, &mut guard, frame)
+        apply(prim, place, &mut self.queue, &mut guard, frame.get_mut())
     }
 
     // FORK, from the state behind it: a child joins the processes, and the parent gets its number.
