@@ -1,10 +1,10 @@
 -- What a frame and the codes of its programs stand for after each step.
-use Rattle.std.proofs.Common.{◌≡◌, ℕ, zero, suc, ◌+◌, ◌-◌, ◌<◌, ◌≤◌, List, [], ◌∷◌, ◌++◌, length, take, drop, map, reverse, Option, Some, None, cond, refl, sym, ap, subst, ◌∙◌, arith}
-use Rattle.std.specs.Prelude.{ℤ, slice_get, slice_set, Result, Ok, Err, MatchResult, is_some, true, ◌||◌}
+use Rattle.std.proofs.Common.{◌≡◌, ℕ, zero, suc, ◌+◌, ◌-◌, ◌<◌, List, [], ◌∷◌, ◌++◌, length, take, drop, map, reverse, Option, Some, None, cond, refl, sym, ap, subst, ◌∙◌, arith}
+use Rattle.std.specs.Prelude.{ℤ, slice_get, slice_set, is_some, true, ◌||◌}
 use Rattle.std.specs.Ordering.{int_eq}
 use Rattle.std.specs.List.{list_any}
 use Rattle.std.specs.Option.{option_map}
-use Rattle.std.proofs.lemmas.List.{drop-map, reverse-reverse, length-reverse, length-map}
+use Rattle.std.proofs.lemmas.List.{drop-map, reverse-reverse, length-reverse}
 use Rattle.std.proofs.lemmas.List.Sorted.{IsPermutation-reverse, list_any-IsPermutation}
 use Rattle.std.proofs.lemmas.Bool.{lt-ltb}
 use Rattle.std.proofs.lemmas.Option.{slice_get-map, slice_get_within, slice_get-get_or}
@@ -13,23 +13,22 @@ use Rattle.muf_model.specs.declared.code.Code.{Code}
 use Rattle.muf_model.specs.declared.code.CodeWord.{CodeWord}
 use Rattle.muf_model.specs.declared.code.Placed.{Placed}
 use Rattle.muf_model.specs.declared.fault.MufFault.{MufFault}
-use Rattle.muf_model.specs.Answer.{stack_most, too_few, variable_at}
+use Rattle.muf_model.specs.Answer.{stack_most, variable_at}
 use Rattle.muf_model.specs.Chains.{programs_of, Keeps}
 use Rattle.muf_model.specs.Datum.{Datum, mark}
 use Rattle.muf_model.specs.inner.Decode.{tree_of, definition_at}
 use Rattle.muf_model.specs.inner.Fits.{MarksFit, none, enters, FitsState, fit}
 use Rattle.muf_model.specs.inner.Flat.{FlatMark, Flat, decode, first_code}
-use Rattle.muf_model.specs.Source.{Program, Mark, Owned, Source, locked_of, handed, passed, passed_at, entered, started, last_word}
+use Rattle.muf_model.specs.Source.{Program, Mark, Owned, Source, handed, passed, passed_at, entered, started, last_word}
 use Rattle.muf_model.specs.inner.Stands.{Remains, TreeStands, WordStands, WordsStand}
 use Rattle.muf_model.specs.Tree.{Block, stop, word, when, fork, ring, End}
 use Rattle.muf_model.specs.inner.Nesting.{outside, NestedBlock, NestedWords}
 use Rattle.muf_model.specs.inner.Nested.{Nested, StaysNested}
 use Rattle.muf_model.specs.Unit.{Outcome, goes, ended, faulted, asks, stuck, units, fault}
 use Rattle.muf_model.proofs.Chains.{units_keep, fault_keeps}
-use Rattle.muf_model.proofs.Nesting.{fault_nested, entered_nested, started_nested, passed_nested, units_nested}
+use Rattle.muf_model.proofs.Nesting.{fault_nested, entered_nested, started_nested, passed_nested}
 use Rattle.muf_model.proofs.Decoded.{decoded, fits}
-use Rattle.muf_model.specs.inner.View.{view}
-use Rattle.muf_frame.specs.inner.Shown.{Shown, flat, locked_by}
+use Rattle.muf_frame.specs.inner.Shown.{Shown, flat}
 use Rattle.muf_frame.specs.inner.Moves as moves
 use Rattle.muf_frame.specs.inner.Moves.{caught}
 use Rattle.muf_frame.proofs.Tops.{above_height}

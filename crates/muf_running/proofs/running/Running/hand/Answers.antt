@@ -1,6 +1,5 @@
-use Rattle.std.proofs.Common.{◌≡◌, ◌<◌, length, map, reverse, ap, ◌∙◌, ◌∷◌, arith}
+use Rattle.std.proofs.Common.{◌≡◌, length, map, reverse, ap, ◌∙◌, ◌∷◌, arith}
 use Rattle.std.proofs.lemmas.List.{length-map}
-use Rattle.muf_model.specs.Answer.{stack_most}
 use Rattle.muf_model.specs.inner.View.{view}
 use Rattle.muf_frame.specs.inner.Shown.{Shown, flat}
 use Rattle.muf_running.proofs.Process.{handed_at}
