@@ -1,5 +1,5 @@
 -- The units of a slice, many at once.
-use Rattle.std.proofs.Common.{◌≡◌, ℕ, zero, suc, ◌-◌, ◌<◌, ◌≤◌, min, Bool, true, false, Option, Some, None, refl, sym, ap, ◌∙◌, subst, arith, inl, inr, Result, Ok, Err, IfOk}
+use Rattle.std.proofs.Common.{◌≡◌, ℕ, zero, suc, ◌-◌, ◌<◌, ◌≤◌, min, List, Bool, true, false, Option, Some, None, refl, sym, ap, ◌∙◌, subst, arith, inl, inr, Result, Ok, Err, IfOk}
 use Rattle.std.specs.Prelude.{ℤ}
 use Rattle.std.specs.Option.{option_map, option_and_then}
 use Rattle.std.proofs.Math.Nat.{min-le_left}
@@ -9,8 +9,8 @@ use Rattle.muf_model.specs.declared.fault.MufFault.{MufFault}
 use Rattle.muf_model.specs.declared.prims.Primitive.{Primitive as Name}
 use Rattle.muf_model.specs.Source.{Source}
 use Rattle.muf_model.specs.Unit.{Outcome, goes, ended, faulted, asks, stuck, unit, units, and_then, fault}
-use Rattle.muf_model.specs.Chains.{count, taken}
-use Rattle.muf_model.proofs.Chains.{taken_most, taken_some}
+use Rattle.muf_model.specs.Chains.{count, taken, programs_of, Keeps}
+use Rattle.muf_model.proofs.Chains.{taken_most, taken_some, units_keep}
 use Rattle.muf_running.specs.declared.stint.Ran.{Ran}
 use Rattle.muf_running.specs.declared.stint.Ran.TheVariants.{Going, Asking, Ended, Faulted}
 use Rattle.muf_running.specs.inner.Stints.{RanAlike, Raised}
@@ -27,6 +27,7 @@ use Rattle.spec_events.specs.Slices.{Deed, acting, deed, program_error, stands_a
 use Rattle.spec_events.specs.Steps.{happened}
 use Rattle.muck_model.specs.declared.event.Event.TheVariants.{Slice}
 use Rattle.spec_events.specs.inner.Stints.{many_counted, unbroken, unspent, allowed}
+use Rattle.spec_events.proofs.Taken.{same_actor}
 use Rattle.spec_events.proofs.Units.{finish, after_turn, finish_none, finish_zero, finish_through, finish_limit, stands_same, stands_moved, broken_moved, counted_moved, resumed, resumed_moved, run_law}
 use Rattle.muck_turns.specs.declared.state.deeds.Done.TheVariants.{Does as DoneDoes, Rests as DoneRests, Fails as DoneFails}
 use Rattle.muck_turns.specs.declared.state.limits.Allowance.{Allowance}
@@ -132,6 +133,14 @@ module _ (pid : ℤ) (x : Agent) (m u : ℕ) (s : Source) (w v : World) (ran : R
 
   pub asked_so : (p : Name) (t : Source) (b : Bool) (n : ℕ) (z : World) → ran ≡ Asking p t → n ≡ suc u → z ≡ many_counted n pid w → b ≡ false → LeadsTo b v (after_deed pid x.player t (deed pid x p t z)) → Runs pid x m s w v None
   asked_so p t b n z e c is off_it h = (asking_known p t false n z e c is (subst (λ y. LeadsTo y v (after_deed pid x.player t (deed pid x p t z))) off_it h)).0
+
+  asked_programs : (p : Name) (t : Source) (o : Outcome) → RanAlike (Asking p t) o → Keeps (programs_of s) o → programs_of t ≡ programs_of s
+  asked_programs p t (asks q u) h k = ap programs_of h.1 ∙ k.0
+  asked_programs p t _ h k = absurd h
+
+  -- who acts as they begin acts at the primitive that is asked for
+  pub acts_so : (p : Name) (t : Source) (a : Actor) (es : List Entry) → ran ≡ Asking p t → a ≡ acting x s es → a ≡ acting x t es
+  acts_so p t a es e is = is ∙ sym (same_actor x s t es (asked_programs p t (units m s) (alike_as (Asking p t) e) (units_keep m s)))
 
   pub ended_so : ran ≡ Ended → v ≡ ended_one pid w → Runs pid x m s w v None
   ended_so e is = subst (λ y. LeadsTo false y (left_so pid x s.program.number (taken m s) (units m s) w)) (sym is) (ended_by pid x s.program.number (taken m s) w (units m s) (alike_as Ended e))

@@ -16,7 +16,7 @@ use muck_model::NoMemory;
 use muck_perm::{Guard, level, user};
 use muf_frame::{Frame, PrimFault};
 use muf_model::{Family, MufFault, Prim};
-use muf_running::{Programs, Running};
+use muf_running::{FrameBox, Programs, Running};
 use spec_events::Agent;
 use spec_rights::Actor;
 
@@ -61,33 +61,41 @@ impl From<NoMemory> for DeedFault {
 }
 
 impl State {
-    /// Does the shared primitive that comes next in a process.
+    /// Does the shared primitive that comes next in a process, for who acts there.
     #[tactic(auto, unfolding(spec_events::specs::Slices::deed))]
     pub(crate) fn do_deed(
         &mut self,
         pid: i32,
         agent: Agent,
+        actor: Actor,
         prim: Prim,
         running: Running,
     ) -> Result<Done, NoMemory>
-        requires { IsAtPrimitive running.now }
+        requires at { IsAtPrimitive running.now }
+        requires actor { actor ≡ acting agent running self.old.live.objects }
         ensures { IfOk result (λ done. DoneAs (deed pid agent prim running self.old) running self.new done) }
     {
         match prim.family() {
-            Family::Process => self.do_process(pid, agent, prim, running),
-            _ => self.do_row(agent, prim, running),
+            Family::Process => self.do_process(pid, agent, actor, prim, running),
+            _ => self.do_row(agent, actor, prim, running),
         }
     }
 
     // A primitive that has a row: the world and the frame of the process are lent to it.
     #[tactic(auto, unfolding(spec_events::specs::Slices::row_done))]
-    fn do_row(&mut self, agent: Agent, prim: Prim, running: Running) -> Result<Done, NoMemory>
-        requires { IsAtPrimitive running.now }
+    fn do_row(
+        &mut self,
+        agent: Agent,
+        actor: Actor,
+        prim: Prim,
+        running: Running,
+    ) -> Result<Done, NoMemory>
+        requires at { IsAtPrimitive running.now }
+        requires actor { actor ≡ acting agent running self.old.live.objects }
         ensures { IfOk result (λ done. DoneAs (row_done agent prim running self.old) running self.new done) }
     {
-        let actor = self.actor(agent, &running)?;
         let (programs, mut frame) = running.take_apart();
-        match self.apply(prim, actor, agent.descr, &mut frame) {
+        match self.apply(prim, actor, agent.descr, frame.get_mut()) {
             Ok(()) => Ok(Done::Does(passed(programs, frame))),
             Err(PrimFault::Fault(fault)) => {
                 Ok(Done::Fails(Running::rejoin(programs, frame), fault))
@@ -149,7 +157,7 @@ fn apply_by_family(
 }
 
 /// The process behind the primitive at which it stands.
-pub fn passed(programs: Programs, frame: Frame) -> Running
+pub fn passed(programs: Programs, frame: FrameBox) -> Running
     requires { PassesOn programs (flat frame) }
     ensures { (f : Flat) (s : Source) → Apart programs f s → Differs f (flat frame) → result ≡ passed (with_frame (flat frame) s) }
 {
@@ -166,6 +174,6 @@ pub fn behind(running: Running, items: usize) -> Running
     ensures most { length (drop items running.stack) + items ≤ 1024 }
 {
     let (programs, mut frame) = running.take_apart();
-    frame.drop_items(items);
+    frame.get_mut().drop_items(items);
     passed(programs, frame)
 }

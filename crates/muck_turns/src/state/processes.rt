@@ -11,7 +11,7 @@ ghost use Rattle.muf_running.specs.inner.Fitting.{IsAtPrimitive};
 ghost use Rattle.spec_processes.specs.ProcessRows.{processed};
 ghost use Rattle.spec_events.specs.declared.starting.Agent.{Agent};
 ghost use Rattle.spec_events.specs.Starting.{joined};
-ghost use Rattle.spec_events.specs.Slices.{behind, child_of, forked, place_in, process_done, queued};
+ghost use Rattle.spec_events.specs.Slices.{acting, behind, child_of, forked, place_in, process_done, queued};
 ghost use Rattle.muck_turns.specs.inner.Deeds.{Bears, child_number, queued_call, DoneAs, ProcessAppliedTo};
 
 use crate::state::State;
@@ -36,17 +36,18 @@ impl State {
         &mut self,
         pid: i32,
         agent: Agent,
+        actor: Actor,
         prim: Prim,
         running: Running,
     ) -> Result<Done, NoMemory>
         requires at { IsAtPrimitive running.now }
+        requires actor { actor ≡ acting agent running self.old.live.objects }
         requires family { family_of prim ≡ ProcessFamily }
         ensures { IfOk result (λ done. DoneAs (process_done pid agent prim running self.old) running self.new done) }
     {
-        let actor = self.actor(agent, &running)?;
         let place = self.place_in(pid, &running)?;
         let (programs, mut frame) = running.take_apart();
-        match self.apply_process(prim, place, actor, &mut frame) {
+        match self.apply_process(prim, place, actor, frame.get_mut()) {
             Ok(After::Go) => Ok(Done::Does(passed(programs, frame))),
             Ok(After::Wait) => Ok(Done::Rests(passed(programs, frame))),
             Ok(After::Fork) => {

@@ -3,7 +3,7 @@ ghost use Rattle.std.specs.Prelude.{◌≡◌, OnOk, IfOk};
 ghost use Rattle.muck_model.specs.declared.event.Event.{Event};
 ghost use Rattle.muf_model.specs.Chains.{StandsAt};
 ghost use Rattle.muf_model.specs.Unit.{fault};
-ghost use Rattle.spec_events.specs.Slices.{after_deed, broken, deed, last_world, out, run_of, seat, went};
+ghost use Rattle.spec_events.specs.Slices.{acting, after_deed, broken, deed, last_world, out, run_of, seat, went};
 ghost use Rattle.spec_events.specs.Steps.{happened};
 ghost use Rattle.muck_turns.specs.inner.Limits.{LeadsTo, Runs, Stops};
 
@@ -14,6 +14,7 @@ use muck_model::{Dbref, NoMemory, Tune};
 use muf_model::{MufFault, Prim};
 use muf_running::{Ran, Running, Stint};
 use spec_events::{Agent, error_text};
+use spec_rights::Actor;
 
 impl State {
     /// A slice of a process, which wakes, and then nobody claims it any more. It takes its units until it is over or waits, or the
@@ -61,7 +62,7 @@ impl State {
                 Ok(None)
             }
             Allowance::Units(most) => {
-                let Some(units) = self.run(pid, agent, running, most)? else {
+                let Some(units) = self.run(pid, agent, actor, running, most)? else {
                     return Ok(None);
                 };
                 Ok(Some(left - units))
@@ -69,14 +70,17 @@ impl State {
         }
     }
 
-    // Many units at once, and a shared primitive where one is asked for; answers how many they were, where it goes on.
+    // Many units at once, and a shared primitive where one is asked for; answers how many they were, where it goes on. Who acts as
+    // they begin acts still at that primitive: the programs of the process are the same.
     fn run(
         &mut self,
         pid: i32,
         agent: Agent,
+        actor: Actor,
         running: Running,
         most: u32,
     ) -> Result<Option<u64>, NoMemory>
+        requires { actor ≡ acting agent running self.old.live.objects }
         ensures { IfOk result (λ next. Runs pid agent most running self.old self.new next) }
     {
         let program = running.program();
@@ -89,7 +93,7 @@ impl State {
             }
             Ran::Asking(prim, at) => {
                 self.queue.count(pid, units + 1);
-                let goes_on = self.ask(pid, agent, prim, at)?;
+                let goes_on = self.ask(pid, agent, actor, prim, at)?;
                 Ok(if goes_on {
                     Some(u64::from(units) + 1)
                 } else {
@@ -122,13 +126,15 @@ impl State {
         &mut self,
         pid: i32,
         agent: Agent,
+        actor: Actor,
         prim: Prim,
         running: Running,
     ) -> Result<bool, NoMemory>
-        requires { StandsAt prim running }
+        requires at { StandsAt prim running }
+        requires actor { actor ≡ acting agent running self.old.live.objects }
         ensures { IfOk result (λ goes_on. LeadsTo goes_on self.new (after_deed pid agent.player running (deed pid agent prim running self.old))) }
     {
-        match self.do_deed(pid, agent, prim, running)? {
+        match self.do_deed(pid, agent, actor, prim, running)? {
             Done::Does(next) => {
                 self.queue.put_back(pid, next);
                 self.settle();

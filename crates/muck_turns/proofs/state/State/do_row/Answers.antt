@@ -6,12 +6,12 @@ use Rattle.muck_turns.proofs.state.State.do_row.Goals as goal
 pub passed-requires : goal.passed-requires
 passed-requires c =
     let is : c.apply.result ≡ Ok c.in-Ok.field-0 = search rules in
-    passes_so _ c.take_apart-programs.result.0 c.take_apart-programs.result.1 c.apply.new.frame c.args.self.now c.apply.new.self c.args.running c.apply.result c.in-Ok.field-0 c.take_apart-programs.ensures.apart c.apply.ensures is c.requires
+    passes_so _ c.take_apart-programs.result.0 c.take_apart-programs.result.1 c.apply.new.frame c.args.self.now c.apply.new.self c.args.running c.apply.result c.in-Ok.field-0 c.take_apart-programs.ensures.apart c.apply.ensures is c.requires.at
 
 pub returns-in-Ok : goal.returns-in-Ok
 returns-in-Ok c =
     let is : c.apply.result ≡ Ok c.in-Ok.field-0 = search rules in
-    done_so c.args.agent c.args.prim c.in_ok-actor.actor c.take_apart-programs.result.0 c.take_apart-programs.result.1 c.apply.new.frame c.args.self.now c.apply.new.self c.args.running c.passed.result c.apply.result c.in-Ok.field-0 c.in_ok-actor.ensures c.take_apart-programs.ensures.apart c.take_apart-programs.ensures.shows c.apply.ensures is c.passed.ensures
+    done_so c.args.agent c.args.prim c.args.actor c.take_apart-programs.result.0 c.take_apart-programs.result.1 c.apply.new.frame c.args.self.now c.apply.new.self c.args.running c.passed.result c.apply.result c.in-Ok.field-0 c.requires.actor c.take_apart-programs.ensures.apart c.take_apart-programs.ensures.shows c.apply.ensures is c.passed.ensures
 
 pub rejoin-requires : goal.rejoin-requires
 rejoin-requires c =
@@ -21,4 +21,4 @@ rejoin-requires c =
 pub returns-in-Err-Fault : goal.returns-in-Err-Fault
 returns-in-Err-Fault c =
     let is : c.apply.result ≡ Err (Fault c.in-Err-Fault.fault) = search rules in
-    fails_so c.args.agent c.args.prim c.in_ok-actor.actor c.take_apart-programs.result.0 c.take_apart-programs.result.1 c.apply.new.frame c.args.self.now c.apply.new.self c.args.running c.rejoin.result c.apply.result c.in-Err-Fault.fault c.in_ok-actor.ensures c.take_apart-programs.ensures.apart c.take_apart-programs.ensures.shows c.apply.ensures is c.rejoin.ensures
+    fails_so c.args.agent c.args.prim c.args.actor c.take_apart-programs.result.0 c.take_apart-programs.result.1 c.apply.new.frame c.args.self.now c.apply.new.self c.args.running c.rejoin.result c.apply.result c.in-Err-Fault.fault c.requires.actor c.take_apart-programs.ensures.apart c.take_apart-programs.ensures.shows c.apply.ensures is c.rejoin.ensures
