@@ -22,6 +22,7 @@ use Rattle.spec_events.specs.declared.starting.Agent.{Agent}
 use Rattle.spec_events.specs.World.{World, on_live, on_queue}
 use Rattle.spec_events.specs.Following.{settled}
 use Rattle.spec_live.specs.Lives.{tell_player}
+use Rattle.spec_live.specs.Objects.{Entry}
 use Rattle.spec_rights.specs.declared.act.Actor.{Actor}
 use Rattle.spec_events.specs.Slices.{Deed, acting, deed, program_error, stands_at, ended_one, broken, out, went, after_deed, Turn, on, rest, over, agent_of, seat_of, seat, is_through, limit_fault, slice_most, run_of, last_world, awake, sliced}
 use Rattle.spec_events.specs.Steps.{happened}

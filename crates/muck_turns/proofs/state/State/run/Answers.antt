@@ -1,10 +1,11 @@
-use Rattle.std.proofs.Common.{◌+◌, true, false, Some, arith, ap, ◌∙◌}
+use Rattle.std.proofs.Common.{◌+◌, true, false, Some, arith, sym, ap, ◌∙◌}
 use Rattle.std.proofs.lemmas.Int.{to_z-of_z}
 use Rattle.muck_queue.specs.Queues.{standing}
 use Rattle.spec_events.specs.inner.Stints.{many_counted}
-use Rattle.spec_events.specs.Slices.{stands_at, ended_one}
+use Rattle.spec_events.specs.World.{World}
+use Rattle.spec_events.specs.Slices.{acting, stands_at, ended_one}
 use Rattle.muck_turns.specs.contracts.state.State as state
-use Rattle.muck_turns.proofs.Slices.{fewer_so, going_so, asking_so, asked_so, ended_so, faulted_so}
+use Rattle.muck_turns.proofs.Slices.{fewer_so, going_so, acts_so, asking_so, asked_so, ended_so, faulted_so}
 use Rattle.muck_turns.proofs.state.State.run.Goals as goal
 
 pub overflow_add-units : goal.overflow_add-units
@@ -27,6 +28,11 @@ returns-in-Going c =
     (ap (λ q. state.the_view (record c.self.inside { queue = q })) ((simp to_z-of_z at c.put_back.ensures) ∙ ap (standing c.args.pid (Some c.in-Going.next)) (simp to_z-of_z at c.count.ensures))
     ∙ ap (λ y. stands_at c.args.pid c.in-Going.next (many_counted c.in_ok-ran.field-0.units c.args.pid y)) c.self.view_is)
     c.from.ensures
+
+pub ask-requires-clause-actor : goal.ask-requires-clause-actor
+ask-requires-clause-actor c =
+    acts_so c.args.pid c.args.agent c.args.most c.in_ok-ran.field-0.units c.args.running c.args.self.now c.args.self.now c.in_ok-ran.field-0.ran c.in_ok-ran.ensures.ran c.in_ok-ran.ensures.units c.in-Asking.prim c.in-Asking.at c.args.actor c.self.inside.db c.in-Asking.is
+    (c.requires ∙ ap (λ (y : World). acting c.args.agent c.args.running y.live.objects) (sym c.self.view_is))
 
 pub returns-then-goes_on : goal.returns-then-goes_on
 returns-then-goes_on c =
