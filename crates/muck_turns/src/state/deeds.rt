@@ -95,7 +95,7 @@ impl State {
         ensures { IfOk result (λ done. DoneAs (row_done agent prim running self.old) running self.new done) }
     {
         let (programs, mut frame) = running.take_apart();
-        match self.apply(prim, actor, agent.descr, frame.get_mut()) {
+        match self.apply(prim, actor, agent.descr, &mut frame) {
             Ok(()) => Ok(Done::Does(passed(programs, frame))),
             Err(PrimFault::Fault(fault)) => {
                 Ok(Done::Fails(Running::rejoin(programs, frame), fault))
@@ -174,6 +174,6 @@ pub fn behind(running: Running, items: usize) -> Running
     ensures most { length (drop items running.stack) + items ≤ 1024 }
 {
     let (programs, mut frame) = running.take_apart();
-    frame.get_mut().drop_items(items);
+    frame.drop_items(items);
     passed(programs, frame)
 }

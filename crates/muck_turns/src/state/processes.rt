@@ -47,7 +47,7 @@ impl State {
     {
         let place = self.place_in(pid, &running)?;
         let (programs, mut frame) = running.take_apart();
-        match self.apply_process(prim, place, actor, frame.get_mut()) {
+        match self.apply_process(prim, place, actor, &mut frame) {
             Ok(After::Go) => Ok(Done::Does(passed(programs, frame))),
             Ok(After::Wait) => Ok(Done::Rests(passed(programs, frame))),
             Ok(After::Fork) => {
