@@ -7,8 +7,10 @@ use Rattle.muck_model.specs.declared.tune.Tune.{Tune}
 use Rattle.muck_prop.specs.Store.{PropMap}
 use Rattle.muck_prop.specs.declared.value.PropValue.{PropValue}
 use Rattle.spec_live.specs.declared.object.Object.{Object}
-use Rattle.spec_live.specs.Chain.{walk, follower}
-use Rattle.spec_live.specs.Objects.{Entry, dbref_of, index_of, nothing, is_exit, kind_in, place_in, list_in}
+use Rattle.spec_live.specs.declared.saving.Saving.TheVariants.{Due}
+use Rattle.spec_live.specs.Chain.{walk}
+use Rattle.spec_live.specs.Objects.{Entry, dbref_of, index_of, nothing}
+pub use Rattle.spec_live.specs.Saving.{next_in}
 use Rattle.muck_codec.specs.declared.stored.Stored.{Stored}
 use Rattle.muck_codec.specs.declared.stored.Property.{Property}
 use Rattle.muck_codec.specs.declared.stored.Batch.{Batch}
@@ -28,10 +30,6 @@ link_of at = option_map_or dbref_of at nothing
 abbrev pub first_of : List ℕ → Dbref
 first_of [] = nothing
 first_of (x ∷ xs) = dbref_of x
-
--- what stands behind an object in the list that it is in
-unfoldable pub next_in : List Entry → ℕ → Option ℕ
-next_in es k = option_and_then (λ p. follower k (list_in (is_exit (kind_in es k)) es p)) (place_in es k)
 
 -- the stored form of the object of number k: its fields, and where its lists begin and go on
 unfoldable pub stored_of : List Entry → ℕ → Entry → Stored
@@ -90,13 +88,14 @@ object_of s = record {
 unfoldable pub next_at : List Stored → ℕ → Option ℕ
 next_at os k = option_and_then (λ s. index_of s.next) (slice_get os k)
 
--- an object with its lists, which are the chains that its record begins
+-- an object with its lists, which are the chains that its record begins; it is due, until a dump was stored
 unfoldable pub entry_of : List Stored → Stored → Entry
 entry_of os s = record {
   object = object_of s;
   contents = walk (length os) (next_at os) (index_of s.first_content);
   exits = walk (length os) (next_at os) (index_of s.first_exit);
   mark = None;
+  saving = Due;
 }
 
 -- the objects that records stand for

@@ -2,6 +2,7 @@ pub mod inner
 pub mod Chain
 pub mod Flags
 pub mod Objects
+pub mod Saving
 pub mod Password
 pub mod Moving
 pub mod Making

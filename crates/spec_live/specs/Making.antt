@@ -4,6 +4,7 @@ use Rattle.std.specs.Option.{option_map_or}
 use Rattle.muck_model.specs.declared.dbref.Dbref.{Dbref}
 use Rattle.muck_model.specs.declared.dbref.Kind.{Kind}
 use Rattle.spec_live.specs.declared.object.Object.{Object}
+use Rattle.spec_live.specs.declared.saving.Saving.TheVariants.{Due}
 use Rattle.spec_live.specs.declared.fault.DbFault.{DbFault}
 use Rattle.spec_live.specs.declared.fault.DbFault.TheVariants.{NoSuchObject, WrongKind, WorldFull, NoMemory}
 use Rattle.spec_live.specs.Objects.{Entry, dbref_of, nothing, is_thing, is_player, is_garbage, may_stand, kind_in, is_vehicle_in, number_in, changed_at, with_object, plain, garbage}
@@ -19,7 +20,7 @@ free_in [] = 0
 free_in (e ∷ es) = if is_garbage e.object.kind then 0 else suc (free_in es)
 
 unfoldable pub blank_entry : Entry
-blank_entry = record { object = garbage; contents = []; exits = []; mark = None }
+blank_entry = record { object = garbage; contents = []; exits = []; mark = None; saving = Due }
 
 -- one more of garbage, where the number is the next
 unfoldable pub grown : ℕ → List Entry → List Entry

@@ -5,22 +5,27 @@ use Rattle.muck_model.specs.declared.dbref.Dbref.{Dbref}
 use Rattle.spec_live.specs.declared.object.Object.{Object}
 use Rattle.spec_live.specs.declared.fault.DbFault.{DbFault}
 use Rattle.spec_live.specs.declared.fault.DbFault.TheVariants.{NoSuchObject, WouldLoop, WrongKind}
+use Rattle.spec_live.specs.declared.saving.Saving.TheVariants.{Due}
 use Rattle.spec_live.specs.Chain.{has, without}
 use Rattle.spec_live.specs.Objects.{Entry, dbref_of, is_exit, kind_in, fits_in, path_in, number_in, changed_at, on_object}
+use Rattle.spec_live.specs.Saving.{relinked}
 
 -- d is in no list
 abbrev pub left_out : ℕ → Entry → Entry
 left_out d e = record e { contents = without d e.contents; exits = without d e.exits }
 
 abbrev pub put_first : Bool → ℕ → Entry → Entry
-put_first exits d e = if exits then record e { exits = d ∷ e.exits } else record e { contents = d ∷ e.contents }
+put_first exits d e = if exits then record e { exits = d ∷ e.exits; saving = Due } else record e { contents = d ∷ e.contents; saving = Due }
 
 abbrev pub with_place : ℕ → Object → Object
 with_place to o = record o { place = dbref_of to }
 
 -- d is taken out of its list and put in front of that of `to`, which becomes its place
+unfoldable pub set_down : ℕ → ℕ → List Entry → List Entry
+set_down d to es = changed_at d (on_object (with_place to)) (changed_at to (put_first (is_exit (kind_in es d)) d) (map (left_out d) es))
+
 unfoldable pub moved : ℕ → ℕ → List Entry → List Entry
-moved d to es = changed_at d (on_object (with_place to)) (changed_at to (put_first (is_exit (kind_in es d)) d) (map (left_out d) es))
+moved d to es = relinked es (set_down d to es)
 
 -- the numbers of an allowed move, or the first refusal: Room Zero stays, the kinds have to fit, and nothing goes into
 -- itself or into what lies inside it

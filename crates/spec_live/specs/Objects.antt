@@ -10,15 +10,18 @@ pub use Rattle.muck_model.specs.Dbrefs.{dbref_of, nothing, home, same, index_at,
 pub use Rattle.muck_model.specs.Kinds.{is_room, is_thing, is_exit, is_player, is_program, is_garbage}
 use Rattle.spec_live.specs.declared.object.Object.{Object}
 use Rattle.spec_live.specs.declared.mark.Mark.{Mark}
+use Rattle.spec_live.specs.declared.saving.Saving.{Saving}
+use Rattle.spec_live.specs.declared.saving.Saving.TheVariants.{Due}
 use Rattle.spec_live.specs.Flags.{has_flag, no_flags, vehicle}
 use Rattle.spec_live.specs.Chain.{walk}
 
--- An object with its contents and its exits, the newest first, and what is to be told of it.
+-- An object with its contents and its exits, the newest first, what is to be told of it, and how it stands to the dumps.
 pub record Entry : Type 0 where
   pub object : Object
   pub contents : List ℕ
   pub exits : List ℕ
   pub mark : Option Mark
+  pub saving : Saving
 
 -- what may be in a room; in a thing, on which players may sit where it is a vehicle; and in a player
 abbrev pub may_stand : Kind → Kind → Bool → Bool
@@ -86,18 +89,21 @@ number_in es d = option_and_then (λ n. if is_garbage (kind_in es n) then None e
 unfoldable pub object_at : Dbref → List Entry → Option Object
 object_at d es = option_and_then (object_in es) (number_in es d)
 
--- Changes.
+-- Changes. An object whose fields change is due for the next dump.
 
 -- the list with f done at one place of it
 unfoldable pub changed_at : {X : Type 0} → ℕ → (X → X) → List X → List X
 changed_at n f xs = option_map_or (λ x. slice_set xs n (f x)) (slice_get xs n) xs
 
+abbrev pub due : Entry → Entry
+due e = record e { saving = Due }
+
 abbrev pub with_object : Object → Entry → Entry
-with_object o e = record e { object = o }
+with_object o e = record e { object = o; saving = Due }
 
 -- with the object changed by f
 abbrev pub on_object : (Object → Object) → Entry → Entry
-on_object f e = record e { object = f e.object }
+on_object f e = record e { object = f e.object; saving = Due }
 
 -- an object that has a kind, a name and an owner, and nothing else
 abbrev pub plain : Kind → List ℕ → Dbref → Object

@@ -6,10 +6,12 @@ use Rattle.muck_model.specs.declared.dbref.Kind.{Kind}
 use Rattle.muck_model.specs.declared.dbref.Kind.TheVariants.{Thing, Player, Program}
 use Rattle.spec_live.specs.declared.object.Object.{Object}
 use Rattle.spec_live.specs.declared.mark.Mark.TheVariants.{Gone}
+use Rattle.spec_live.specs.declared.saving.Saving.TheVariants.{Due}
 use Rattle.spec_live.specs.declared.fault.DbFault.{DbFault}
 use Rattle.spec_live.specs.Chain.{has}
-use Rattle.spec_live.specs.Objects.{Entry, dbref_of, nothing, same, is_exit, is_player, kind_in, owner_in, home_in, fits_in, path_in, list_in, changed_at, on_object, garbage}
+use Rattle.spec_live.specs.Objects.{Entry, dbref_of, nothing, same, is_exit, is_player, kind_in, owner_in, home_in, fits_in, path_in, list_in, changed_at, garbage}
 use Rattle.spec_live.specs.Moving.{left_out, moved}
+use Rattle.spec_live.specs.Saving.{relinked}
 use Rattle.spec_live.specs.Setting.{checked}
 
 -- a home in d becomes `#0`, and a link to d nothing
@@ -19,9 +21,15 @@ without_ties d o = record o {
   link = if same o.link (dbref_of d) then nothing else o.link;
 }
 
+abbrev pub is_tied : ℕ → Object → Bool
+is_tied d o = same o.home (dbref_of d) || same o.link (dbref_of d)
+
+abbrev pub untie : ℕ → Entry → Entry
+untie d e = record e { object = without_ties d e.object; saving = if is_tied d e.object then Due else e.saving }
+
 -- no object has its home in d or a link to it
 unfoldable pub untied : ℕ → List Entry → List Entry
-untied d es = map (on_object (without_ties d)) es
+untied d es = map (untie d) es
 
 -- where an object goes that is sent home, if it may: a program to its owner's home, a thing or a player to its own
 unfoldable pub wished_home : ℕ → List Entry → Kind → Option ℕ
@@ -45,7 +53,7 @@ sent_home (x ∷ xs) es = sent_home xs (moved x (way_home x es) es)
 
 -- what is left of an object, of which is to be told
 unfoldable pub gone_entry : Entry
-gone_entry = record { object = garbage; contents = []; exits = []; mark = Some Gone }
+gone_entry = record { object = garbage; contents = []; exits = []; mark = Some Gone; saving = Due }
 
 -- an exit of d
 abbrev pub is_exit_of : ℕ → Object → Bool
@@ -65,10 +73,13 @@ exits_gone d es = changed_at d without_exits (map (exit_gone d) es)
 unfoldable pub vanished : ℕ → List Entry → List Entry
 vanished d es = changed_at d (λ e. gone_entry) (map (left_out d) es)
 
+unfoldable pub taken_away : ℕ → List Entry → List Entry
+taken_away d es = relinked es (vanished d (exits_gone d es))
+
 -- Homes in d become `#0` and links to it nothing; its contents go home in the order of their list; its exits become
 -- garbage; and then so does it.
 unfoldable pub recycled : ℕ → List Entry → List Entry
-recycled d es = vanished d (exits_gone d (sent_home (list_in false es d) (untied d es)))
+recycled d es = taken_away d (sent_home (list_in false es d) (untied d es))
 
 -- Room Zero and players stay
 unfoldable pub recycle_check : Dbref → List Entry → Result ℕ DbFault

@@ -11,6 +11,7 @@ use Rattle.muck_prop.specs.declared.value.PropValue.{PropValue}
 use Rattle.muck_prop.specs.Store.{stored}
 use Rattle.spec_live.specs.declared.object.Object.{Object}
 use Rattle.spec_live.specs.declared.mark.Mark.{Mark}
+use Rattle.spec_live.specs.declared.saving.Saving.TheVariants.{Due}
 use Rattle.spec_live.specs.declared.mark.Mark.TheVariants.{Lines, Gone}
 use Rattle.spec_live.specs.declared.fault.DbFault.{DbFault}
 use Rattle.spec_live.specs.declared.fault.DbFault.TheVariants.{NoSuchObject, WrongKind, NoMemory}
@@ -119,7 +120,7 @@ lines_marked (Some Gone) = Some Gone
 lines_marked mark = Some Lines
 
 abbrev pub with_lines : List (List ℕ) → Entry → Entry
-with_lines lines e = record e { object = record e.object { lines = lines }; mark = lines_marked e.mark }
+with_lines lines e = record e { object = record e.object { lines = lines }; mark = lines_marked e.mark; saving = Due }
 
 abbrev pub lines_set : List (List ℕ) → ℕ → List Entry → List Entry
 lines_set lines n es = changed_at n (with_lines lines) es

@@ -10,6 +10,7 @@ mod mark;
 mod object;
 mod paths;
 mod rows;
+mod saving;
 
 pub use fault::DbFault;
 pub use flag::{
@@ -19,3 +20,4 @@ pub use mark::{Changed, Mark};
 pub use object::Object;
 pub use paths::paths_agree;
 pub use rows::rows_hold;
+pub use saving::Saving;
