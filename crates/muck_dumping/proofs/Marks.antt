@@ -29,7 +29,7 @@ use Rattle.spec_dumps.proofs.Fronts.{last_cut_short, at_cut_quiet}
 use Rattle.spec_dumps.proofs.Undue.{undue_as_cut}
 use Rattle.muck_dumping.specs.declared.parts.Pending.{Pending}
 use Rattle.muck_dumping.specs.inner.Dumps.{by, ending_event}
-use Rattle.muck_dumping.specs.inner.Between.{IsBatchOf, IsBatchOfWorld, HoldsThese, GoesByMarks, base_in}
+use Rattle.muck_dumping.specs.inner.Between.{IsBatchOf, IsBatchOfWorld, IsBatchAtCut, HoldsThese, GoesByMarks, base_in}
 use Rattle.muck_dumping.proofs.Appending.{tune_of, two_there}
 use Rattle.muck_dumping.proofs.Mounting.{one_log}
 use Rattle.muck_dumping.proofs.Steps.{cut_live}
@@ -80,7 +80,7 @@ batch_resaved f base es tune p b = record {
   tuned = b.tuned;
 }
 
-pub batch_at_cut : (base : List Stored) (h k : History) (note : Note) (party n : ℕ) (p : Pending) → k ≡ entered (noted h note) (by party (Cut n)) → IsBatchOfWorld base (now h) p → IsBatchOfWorld base (at_cut k.start k.entries) p
+pub batch_at_cut : (base : List Stored) (h k : History) (note : Note) (party n : ℕ) (p : Pending) → k ≡ entered (noted h note) (by party (Cut n)) → IsBatchOfWorld base (now h) p → IsBatchAtCut base k p
 batch_at_cut base h k note party n p is b =
     subst (λ (l : Live). IsBatchOf base l.objects l.board.tune p) (sym (cut_live h k note party n is)) (batch_resaved pending base (now h).live.objects (now h).live.board.tune p b)
 

@@ -20,7 +20,7 @@ ghost use Rattle.spec_events.specs.World.{runs_dump};
 ghost use Rattle.spec_events.specs.Steps.{is_lawful, makes_dumps, may_cut};
 ghost use Rattle.spec_events.specs.Histories.{History, now, after, entered, noted};
 ghost use Rattle.muck_dumping.specs.inner.Dumps.{note_of, by, ending_event};
-ghost use Rattle.muck_dumping.specs.inner.Between.{IsReady, IsBatchOf, IsBatchOfWorld, HoldsThese, GoesByMarks, base_in, IsPending, IsWritten, EndsAs};
+ghost use Rattle.muck_dumping.specs.inner.Between.{IsReady, IsBatchOf, IsBatchAtCut, HoldsThese, GoesByMarks, base_in, IsPending, IsWritten, EndsAs};
 
 use crate::store::Store;
 use muck_codec::Batch;
@@ -74,7 +74,7 @@ pub fn begin<D: Disk>(
     requires marks { GoesByMarks store.now.marks store.now.log world.old }
     ensures step { IfOk result (λ p. world.new ≡ entered (noted world.old (note_of D.moment D.faults first.now second.now world.old)) (by party (Cut p.number))) }
     ensures died { OnErr result (world.new ≡ entered (noted world.old (note_of D.moment D.faults first.now second.now world.old)) (by party Died)) }
-    ensures batch { IfOk result (λ p. IsBatchOfWorld (base_in store.now.log) (at_cut world.new.start world.new.entries) p) }
+    ensures batch { IfOk result (λ p. IsBatchAtCut (base_in store.now.log) world.new p) }
 
     // Then a dump of the world at its Cut is pending.
     ensures pending { (mounted : ℕ) → D.tells ≡ true → IsReady D.seen D.moment D.images D.faults store.now.log first.now second.now mounted world.old
