@@ -17,12 +17,7 @@ use spec_events::dump_stored;
 impl State {
     /// The dump of this number begins, for the connections that ask now: what it hands to the log, over what is kept already. It goes by
     /// the marks of the objects, where what isn't due is kept; else it looks at each object. Where memory is wanted nothing happened.
-    pub fn begin_dump(
-        &mut self,
-        k: u64,
-        base: &[Stored],
-        by_marks: bool,
-    ) -> Result<Batch, NoMemory>
+    pub fn begin_dump(&mut self, k: u64, base: &[Stored], by_marks: bool) -> Result<Batch, NoMemory>
         requires { by_marks ≡ true → KeepsUndue base.now self.old.live.objects }
         ensures records { IfOk result (λ batch. LeavesOut base.now (persist self.old.live.objects) batch.records) }
         ensures storable { IfOk result (λ batch. All IsStored batch.records) }
